@@ -8,11 +8,11 @@ use Rattle.nfa_engines.specs.MatchKind.TheVariants.{LeftmostFirst}
 use Rattle.nfa_engines.specs.Search.{Search, whole}
 
 -- whether the engine finds a match in the line, as a text of its own
-abbrev pub pike_matches : Pike → List ℕ → Bool
-pike_matches vm line = finds vm.nfa (kind_of vm) false (whole line)
+abbrev pub pikevm_finds : Pike → List ℕ → Bool
+pikevm_finds vm line = finds vm.nfa (kind_of vm) false (whole line)
 
-abbrev pub backtrack_matches : Backtracker → List ℕ → Bool
-backtrack_matches engine line = finds engine.nfa LeftmostFirst false (whole line)
+abbrev pub backtracker_finds : Backtracker → List ℕ → Bool
+backtracker_finds engine line = finds engine.nfa LeftmostFirst false (whole line)
 
 -- a search of the text for a match that starts at this offset
 abbrev pub starting_at : List ℕ → ℕ → Search
@@ -24,10 +24,10 @@ both_start vm engine text at = finds vm.nfa (kind_of vm) false (starting_at text
     && finds engine.nfa LeftmostFirst false (starting_at text at)
 
 -- no such offset is before the end
-abbrev pub NoneBefore : Pike → Backtracker → List ℕ → ℕ → Type 0
-NoneBefore vm engine text end = (k : ℕ) → k < end → both_start vm engine text k ≡ false
+abbrev pub NoCommonStartBefore : Pike → Backtracker → List ℕ → ℕ → Type 0
+NoCommonStartBefore vm engine text end = (k : ℕ) → k < end → both_start vm engine text k ≡ false
 
 -- the first offset at which a match of each engine starts, if there is one
 abbrev pub IsFirstCommonStart : Pike → Backtracker → List ℕ → Option ℕ → Type 0
-IsFirstCommonStart vm engine text first = MatchOption first (NoneBefore vm engine text (length text))
-    (λ at. (at < length text) × (both_start vm engine text at ≡ true) × NoneBefore vm engine text at)
+IsFirstCommonStart vm engine text first = MatchOption first (NoCommonStartBefore vm engine text (length text))
+    (λ at. (at < length text) × (both_start vm engine text at ≡ true) × NoCommonStartBefore vm engine text at)

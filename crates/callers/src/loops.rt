@@ -6,7 +6,7 @@ ghost use Rattle.nfa_engines.specs.Backtrack.{HoldsNoMore, IsTooLong};
 ghost use Rattle.nfa_engines.specs.Engines.{Fits, SameCapacities};
 ghost use Rattle.nfa_engines.specs.Search.{whole};
 ghost use Rattle.nfa_choice.specs.ChoiceState.{finds_in, KeepsEngines};
-ghost use Rattle.callers.specs.Loops.{IsFirstCommonStart, backtrack_matches, pike_matches, starting_at};
+ghost use Rattle.callers.specs.Loops.{IsFirstCommonStart, backtracker_finds, pikevm_finds, starting_at};
 
 use nfa_choice::Choice;
 use nfa_engines::backtrack::{self, BoundedBacktracker};
@@ -40,7 +40,7 @@ pub fn ask_after_lines(choice: &mut Choice, lines: &[&[u8]], text: &[u8]) -> boo
 /// Returns the number of lines in which a search finds a match. The cache fits the same engines as before.
 pub fn count_by_pikevm(vm: &PikeVM, cache: &mut pikevm::Cache, lines: &[&[u8]]) -> usize
     requires { Fits cache.old vm.now.nfa }
-    ensures count { result ≡ count_by (λ line. pike_matches vm.now line.now) lines.now }
+    ensures count { result ≡ count_by (λ line. pikevm_finds vm.now line.now) lines.now }
     ensures capacities { SameCapacities cache.old cache.new }
 {
     let mut count = 0;
@@ -60,8 +60,8 @@ pub fn count_in_two(
     others: &[&[u8]],
 ) -> (usize, usize)
     requires { Fits cache.old vm.now.nfa }
-    ensures first { result.0 ≡ count_by (λ line. pike_matches vm.now line.now) lines.now }
-    ensures second { result.1 ≡ count_by (λ line. pike_matches vm.now line.now) others.now }
+    ensures first { result.0 ≡ count_by (λ line. pikevm_finds vm.now line.now) lines.now }
+    ensures second { result.1 ≡ count_by (λ line. pikevm_finds vm.now line.now) others.now }
     ensures fits { Fits cache.new vm.now.nfa }
 {
     let first = count_by_pikevm(vm, cache, lines);
@@ -75,7 +75,7 @@ pub fn count_by_backtracker(
     cache: &mut backtrack::Cache,
     lines: &[&[u8]],
 ) -> Result<usize, SearchError>
-    ensures count { IfOk result (λ count. count ≡ count_by (λ line. backtrack_matches engine.now line.now) lines.now) }
+    ensures count { IfOk result (λ count. count ≡ count_by (λ line. backtracker_finds engine.now line.now) lines.now) }
     ensures short { OnOk result (All (λ line. ¬ (IsTooLong engine.now (whole line.now))) lines.now) }
     ensures errors { IfErr result (λ e. (e ≡ SearchError.Memory)
         ⊎ Any (λ line. IsTooLong engine.now (whole line.now)) lines.now) }

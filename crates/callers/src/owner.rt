@@ -25,7 +25,7 @@ impl Model for LineSearch {
 impl LineSearch {
     ghost use Rattle.std.specs.Prelude.{◌≡◌, IfOk};
     ghost use Rattle.std.specs.List.{count_by};
-    ghost use Rattle.callers.specs.Loops.{pike_matches};
+    ghost use Rattle.callers.specs.Loops.{pikevm_finds};
 
     /// Makes a cache for the engine. Fails only if allocation fails.
     pub fn new(alloc: Global, vm: PikeVM) -> Result<LineSearch, SearchError>
@@ -37,7 +37,7 @@ impl LineSearch {
 
     /// Returns whether a search finds a match in the line.
     pub fn is_match(&mut self, line: &[u8]) -> bool
-        ensures finds { result ≡ pike_matches self.old line.now }
+        ensures finds { result ≡ pikevm_finds self.old line.now }
         ensures keeps { self.new ≡ self.old }
     {
         self.vm.is_match(&mut self.cache, Input::new(line))
@@ -45,7 +45,7 @@ impl LineSearch {
 
     /// Returns the number of lines in which a search finds a match.
     pub fn count(&mut self, lines: &[&[u8]]) -> usize
-        ensures count { result ≡ count_by (λ line. pike_matches self.old line.now) lines.now }
+        ensures count { result ≡ count_by (λ line. pikevm_finds self.old line.now) lines.now }
         ensures keeps { self.new ≡ self.old }
     {
         let mut count = 0;

@@ -1,18 +1,14 @@
 //! The program with arguments: goes over all matches in its input, over and over, with one of our engines or with the
 //! crate regex; or prints the number of states.
 ghost use Rattle.std.specs.Prelude.{◌≤◌, IfOk};
-ghost use Rattle.nfa_pikevm.specs.Engines.{Fits};
 
+use named_engine::{Engine, Failure, read_haystack};
 use nfa_compiler::{CompileError, Compiler};
-use nfa_engines::backtrack::{self, BoundedBacktracker};
-use nfa_engines::error::SearchError;
-use nfa_engines::pikevm::{self, PikeVM};
 use regex::bytes::{Matcher, Regex};
-use regex_search_core::Input;
 use std::alloc::{AllocError, Global};
 use std::io::{Read, Write};
 use std::{fmt, io};
-use thompson_nfa::{BuildError, NFA};
+use thompson_nfa::NFA;
 
 /// The pattern or the search was refused, or reading or writing failed.
 const FAILED: u8 = 1;
@@ -36,7 +32,7 @@ pub fn run<R: Read, W: Write>(alloc: Global, words: &[&str], text: &mut R, out: 
 pub fn refuse<W: Write>(out: &mut W) -> u8
     ensures { result ≤ 2 }
 {
-    print(Err(Stop::Memory), out).unwrap_or(FAILED)
+    print(Err(Stop::Failed(Failure::Memory)), out).unwrap_or(FAILED)
 }
 
 fn print<W: Write>(counted: Result<u64, Stop>, out: &mut W) -> io::Result<u8>
@@ -66,14 +62,15 @@ fn count<R: Read>(alloc: Global, words: &[&str], text: &mut R) -> Result<u64, St
     let [engine, pattern, rounds] = words else {
         return Err(Stop::Usage);
     };
-    let engine = Engine::from_word(engine).ok_or(Stop::Usage)?;
+    let finder = Finder::from_word(engine).ok_or(Stop::Usage)?;
     let rounds = rounds.parse::<u64>().ok().ok_or(Stop::Usage)?;
-    let mut bytes = Vec::new(alloc);
-    text.read_to_end(&mut bytes)?;
-    match engine {
-        Engine::Backtracker => backtrack_rounds(alloc, pattern, &bytes, rounds),
-        Engine::PikeVM => pike_rounds(alloc, pattern, &bytes, rounds),
-        Engine::Regex => regex_rounds(alloc, pattern, &bytes, rounds),
+    let bytes = read_haystack(alloc, text)?;
+    match finder {
+        Finder::Regex => regex_rounds(alloc, pattern, &bytes, rounds),
+        Finder::Ours(engine) => {
+            let count = engine.count_matches(alloc, compiled(alloc, pattern)?, &bytes, rounds)?;
+            Ok(count)
+        }
     }
 }
 
@@ -85,63 +82,6 @@ fn count_states(alloc: Global, pattern: &str) -> Result<u64, Stop> {
 fn compiled(alloc: Global, pattern: &str) -> Result<NFA, Stop> {
     let nfa = Compiler::new().build(alloc, pattern)?;
     Ok(nfa)
-}
-
-/// The matches of the last round, with one cache for all rounds.
-fn backtrack_rounds(alloc: Global, pattern: &str, text: &[u8], rounds: u64) -> Result<u64, Stop> {
-    let engine = BoundedBacktracker::new_from_nfa(compiled(alloc, pattern)?)?;
-    let mut cache = engine.create_cache(alloc);
-    let mut count = 0;
-    for _ in 0..rounds {
-        count = count_backtracked(&engine, &mut cache, Input::new(text))?;
-    }
-    Ok(count)
-}
-
-fn count_backtracked(
-    engine: &BoundedBacktracker,
-    cache: &mut backtrack::Cache,
-    input: Input<'_>,
-) -> Result<u64, Stop> {
-    let mut count = 0u64;
-    for found in engine.try_find_iter(cache, input) {
-        found?;
-        count = count.wrapping_add(1);
-    }
-    Ok(count)
-}
-
-/// The matches of the last round, with one cache for all rounds.
-fn pike_rounds(alloc: Global, pattern: &str, text: &[u8], rounds: u64) -> Result<u64, Stop> {
-    let engine = PikeVM::new_from_nfa(compiled(alloc, pattern)?)?;
-    let mut cache = engine.create_cache(alloc)?;
-    Ok(count_last_piked(&engine, &mut cache, Input::new(text), rounds))
-}
-
-fn count_last_piked(
-    engine: &PikeVM,
-    cache: &mut pikevm::Cache,
-    input: Input<'_>,
-    rounds: u64,
-) -> u64
-    requires { Fits cache.old engine.now.nfa }
-{
-    let mut count = 0;
-    for _ in 0..rounds {
-        count = count_piked(engine, cache, input);
-    }
-    count
-}
-
-fn count_piked(engine: &PikeVM, cache: &mut pikevm::Cache, input: Input<'_>) -> u64
-    requires { Fits cache.old engine.now.nfa }
-    ensures { Fits cache.new engine.now.nfa }
-{
-    let mut count = 0u64;
-    for _ in engine.find_iter(cache, input) {
-        count = count.wrapping_add(1);
-    }
-    count
 }
 
 /// The matches of the last round, with one matcher for all rounds.
@@ -165,20 +105,18 @@ fn count_matched(matcher: &mut Matcher<'_>, text: &[u8]) -> u64 {
 
 /// What searches.
 #[derive(Clone, Copy, Debug)]
-enum Engine {
-    Backtracker,
-    PikeVM,
+enum Finder {
+    Ours(Engine),
     Regex,
 }
 
-impl Engine {
-    fn from_word(word: &str) -> Option<Engine> {
-        match word {
-            "back" => Some(Engine::Backtracker),
-            "pike" => Some(Engine::PikeVM),
-            "regex" => Some(Engine::Regex),
-            _ => None,
+impl Finder {
+    fn from_word(word: &str) -> Option<Finder> {
+        if word == "regex" {
+            return Some(Finder::Regex);
         }
+        let engine = Engine::from_word(word)?;
+        Some(Finder::Ours(engine))
     }
 }
 
@@ -188,9 +126,7 @@ enum Stop {
     Usage,
     Pattern(CompileError),
     OtherPattern(regex::Error),
-    TooLong { len: usize },
-    Memory,
-    Read(io::Error),
+    Failed(Failure),
 }
 
 impl Stop {
@@ -199,8 +135,7 @@ impl Stop {
     {
         match self {
             Stop::Usage => MISUSED,
-            Stop::Pattern(_) | Stop::OtherPattern(_) => FAILED,
-            Stop::TooLong { .. } | Stop::Memory | Stop::Read(_) => FAILED,
+            Stop::Pattern(_) | Stop::OtherPattern(_) | Stop::Failed(_) => FAILED,
         }
     }
 }
@@ -215,12 +150,7 @@ impl fmt::Display for Stop {
             }
             Stop::Pattern(error) => write!(f, "{error}"),
             Stop::OtherPattern(error) => write!(f, "{error}"),
-            Stop::TooLong { len } => write!(
-                f,
-                "the haystack of {len} bytes is too long for the backtracker"
-            ),
-            Stop::Memory => f.write_str("out of memory"),
-            Stop::Read(error) => write!(f, "cannot read the haystack: {error}"),
+            Stop::Failed(failure) => write!(f, "{failure}"),
         }
     }
 }
@@ -228,7 +158,7 @@ impl fmt::Display for Stop {
 impl From<CompileError> for Stop {
     fn from(error: CompileError) -> Stop {
         match error {
-            CompileError::Memory => Stop::Memory,
+            CompileError::Memory => Stop::Failed(Failure::Memory),
             error => Stop::Pattern(error),
         }
     }
@@ -237,40 +167,20 @@ impl From<CompileError> for Stop {
 impl From<regex::Error> for Stop {
     fn from(error: regex::Error) -> Stop {
         match error {
-            regex::Error::OutOfMemory => Stop::Memory,
+            regex::Error::OutOfMemory => Stop::Failed(Failure::Memory),
             error => Stop::OtherPattern(error),
         }
     }
 }
 
 impl From<AllocError> for Stop {
-    fn from(_: AllocError) -> Stop {
-        Stop::Memory
+    fn from(error: AllocError) -> Stop {
+        Stop::Failed(Failure::from(error))
     }
 }
 
-impl From<BuildError> for Stop {
-    // A compiled NFA is well formed, so the only error is that of memory.
-    fn from(_: BuildError) -> Stop {
-        Stop::Memory
-    }
-}
-
-impl From<SearchError> for Stop {
-    fn from(error: SearchError) -> Stop {
-        match error {
-            SearchError::HaystackTooLong { len } => Stop::TooLong { len },
-            // A search calls no finder but the engine, so no finder fails.
-            SearchError::Memory | SearchError::Finder(_) => Stop::Memory,
-        }
-    }
-}
-
-impl From<io::Error> for Stop {
-    fn from(error: io::Error) -> Stop {
-        if error.kind() == io::ErrorKind::OutOfMemory {
-            return Stop::Memory;
-        }
-        Stop::Read(error)
+impl From<Failure> for Stop {
+    fn from(failure: Failure) -> Stop {
+        Stop::Failed(failure)
     }
 }

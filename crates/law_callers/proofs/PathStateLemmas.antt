@@ -11,6 +11,7 @@ use Rattle.nfa_engines.specs.MatchKind.{MatchKind}
 use Rattle.nfa_engines.specs.Automaton.{Automaton}
 use Rattle.nfa_engines.specs.Paths.{byte_at, IsAnswer, IsFindAnswer}
 use Rattle.nfa_engines.specs.SpanLaws.{cut_out}
+use Rattle.law_callers.specs.Lines.{line_of}
 
 pub answer_of : (nfa : Automaton) (kind : MatchKind) (x y : Search) (pattern : Option ℕ) (slots : List (Option ℕ))
     → y ≡ x → IsAnswer nfa kind y.earliest y pattern slots → IsAnswer nfa kind x.earliest x pattern slots
@@ -27,10 +28,6 @@ pub read-inside : (x : Search) (at : ℕ) → at < x.end → x.end ≤ length x.
 read-inside x at less fits =
     let inside : at < length x.haystack = omega arith in
     rw (lt-ltb at x.end less) (slice_get-get_or x.haystack at 0 inside)
-
--- the search of a line within its text
-abbrev pub line_of : List ℕ → ℕ → ℕ → Search
-line_of text start end = record { haystack = text; start = start; end = end; anchored = No; earliest = false }
 
 -- what is found in the line alone is found in what is cut out
 pub of_cut : (nfa : Automaton) (kind : MatchKind) (text : List ℕ) (start end : ℕ) (found : Option Found) → start ≤ end

@@ -11,7 +11,7 @@ ghost use Rattle.nfa_engines.specs.Engines.{Fits, kind_of};
 ghost use Rattle.nfa_engines.specs.GapLaws.{PathsWriteTheirEnds};
 ghost use Rattle.nfa_engines.specs.Graphs.{Pair};
 ghost use Rattle.nfa_engines.specs.Overlaps.{HoldsPattern};
-ghost use Rattle.nfa_engines.specs.Paths.{IsSearchAnswer, is_utf8_empty, raised};
+ghost use Rattle.nfa_engines.specs.Paths.{IsFindAnswer, IsSearchAnswer, is_utf8_empty, raised};
 ghost use Rattle.nfa_match_spans.specs.Matches.{AreOneMatch};
 ghost use Rattle.nfa_compiler.specs.Blocks.{look_of};
 ghost use Rattle.nfa_compiler.specs.Compiled.{IsCompiled, IsNfaOf, res_of};
@@ -99,26 +99,23 @@ pub fn named_groups(alloc: Global, compiler: &Compiler, patterns: &[&str]) -> Re
     Ok(nfa)
 }
 
-// The match at the start of the span, by an NFA that was compiled from the text.
-fn match_at_start(
+// The match of an anchored search starts where the span starts, if the NFA was compiled from the text.
+fn starts_the_span(
     compiler: &Compiler,
     pattern: &str,
     vm: &PikeVM,
-    cache: &mut Cache,
     input: Input<'_>,
-) -> Option<Match>
-    requires fits { Fits cache.old vm.now.nfa }
+    found: Option<Match>,
+)
     requires compiled { IsCompiled (syntax_of compiler.now) (pattern.now ∷ []) vm.now.nfa }
     requires anchored { is_anchored (search_of input).anchored ≡ true }
-    ensures { IfSome result (λ m. (found_of m).start ≡ (search_of input.entry).start) }
+    requires answer { IsFindAnswer vm.now.nfa (kind_of vm.now) (search_of input).earliest (search_of input)
+        (option_map found_of found) }
+    ensures { IfSome found (λ m. (found_of m).start ≡ (search_of input.entry).start) }
 {
     laws::compiled_nfas_record_bounds();
     anchored_matches_start_the_span();
     pikevm_nfa_is_valid(vm);
-    match vm.find(cache, input) {
-        Some(found) => Some(found),
-        None => None,
-    }
 }
 
 /// Returns the match of the pattern at the start of the span. A compiled NFA records where a match starts, so the match
@@ -136,7 +133,9 @@ pub fn find_at_start(
 {
     let vm = PikeVM::new_from_nfa(compiler.build(alloc, pattern)?)?;
     let mut cache = vm.create_cache(alloc)?;
-    Ok(match_at_start(compiler, pattern, &vm, &mut cache, input))
+    let found = vm.find(&mut cache, input);
+    starts_the_span(compiler, pattern, &vm, input, found);
+    Ok(found)
 }
 
 // Whether there is no match, by an NFA that was compiled from the text.

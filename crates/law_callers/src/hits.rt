@@ -14,7 +14,7 @@ ghost use Rattle.nfa_compiler.specs.AllHits.{all_hits, row_of_hit};
 ghost use Rattle.nfa_compiler.specs.BoundaryHits.{all_boundary_hits, boundary_hit};
 ghost use Rattle.nfa_compiler.specs.Compiled.{AreMeant, IsCompiled, IsMeant, IsNfaOf, res_of};
 ghost use Rattle.nfa_compiler.specs.Laws.{hit};
-ghost use Rattle.nfa_compiler.specs.Patterns.{found_at, found_in, hit_by};
+ghost use Rattle.nfa_compiler.specs.Patterns.{found_at, found_of_hit, hit_by};
 ghost use Rattle.nfa_compiler.specs.Settings.{syntax_of};
 ghost use Rattle.nfa_compiler.specs.StrHits.{StartsOnBoundary, all_str_hits, str_hit};
 
@@ -35,7 +35,7 @@ pub fn find_hit(
     requires anywhere { is_utf8_empty engine.now.nfa ≡ false }
     requires whole { (search_of input).end ≡ length (search_of input).haystack }
     ensures { IfOk result (λ found. option_map found_of found
-        ≡ found_in (hit (res_of trees.now) engine.now.nfa (search_of input.entry))) }
+        ≡ found_of_hit (hit (res_of trees.now) engine.now.nfa (search_of input.entry))) }
 {
     laws::searches_find_hits();
     let found = engine.try_find(cache, input)?;
@@ -55,7 +55,7 @@ pub fn find_one(
     requires unanchored { (search_of input).anchored ≡ No }
     requires whole { (search_of input).end ≡ length (search_of input).haystack }
     ensures { let x = search_of input.entry in IfOk result (λ found. option_map found_of found
-        ≡ found_in (option_map (hit_by 0) (find (meaning tree.now.hir) x.haystack x.start))) }
+        ≡ found_of_hit (option_map (hit_by 0) (find (meaning tree.now.hir) x.haystack x.start))) }
 {
     laws::searches_find_hits();
     laws::one_hit_is_find();
@@ -121,7 +121,7 @@ pub fn find_hit_in_str(
     requires whole { (search_of input).end ≡ length (search_of input).haystack }
     ensures { IfOk result (λ found. (res : List Re)
         → AreMeant (syntax_of compiler.now) (map (λ text. text.now) patterns.now) res
-        → option_map found_of found ≡ found_in (str_hit res engine.now.nfa (search_of input.entry))) }
+        → option_map found_of found ≡ found_of_hit (str_hit res engine.now.nfa (search_of input.entry))) }
 {
     laws::searches_of_strs_find_texts();
     let found = engine.try_find(cache, input)?;
@@ -164,7 +164,7 @@ pub fn find_boundary_hit(
     requires empty { is_utf8_empty engine.now.nfa ≡ true }
     requires whole { (search_of input).end ≡ length (search_of input).haystack }
     ensures { IfOk result (λ found. option_map found_of found
-        ≡ found_in (boundary_hit (res_of trees.now) engine.now.nfa (search_of input.entry))) }
+        ≡ found_of_hit (boundary_hit (res_of trees.now) engine.now.nfa (search_of input.entry))) }
 {
     laws::searches_find_boundary_hits();
     let found = engine.try_find(cache, input)?;
@@ -202,7 +202,7 @@ pub fn find_hit_of_texts(
     requires anywhere { is_utf8_empty engine.now.nfa ≡ false }
     ensures { IfOk result (λ found. (res : List Re)
         → AreMeant (syntax_of compiler.now) (map (λ text. text.now) patterns.now) res
-        → option_map found_of found ≡ found_in (hit res engine.now.nfa (whole line.now))) }
+        → option_map found_of found ≡ found_of_hit (hit res engine.now.nfa (whole line.now))) }
 {
     laws::searches_find_texts();
     let found = engine.try_find(cache, Input::new(line))?;
@@ -266,7 +266,7 @@ pub fn find_one_in_str(
     requires whole { (search_of input).end ≡ length (search_of input).haystack }
     ensures { let x = search_of input.entry in IfOk result (λ found. (re : Re)
         → IsMeant (syntax_of compiler.now) pattern.now re
-        → option_map found_of found ≡ found_in (option_map (hit_by 0) (find_str re x.haystack x.start))) }
+        → option_map found_of found ≡ found_of_hit (option_map (hit_by 0) (find_str re x.haystack x.start))) }
 {
     laws::searches_of_strs_find_texts();
     laws::str_hits_are_find_str();
@@ -290,7 +290,7 @@ pub fn find_tree_in_str(
     requires start { StartsOnBoundary engine.now.nfa (search_of input) }
     requires whole { (search_of input).end ≡ length (search_of input).haystack }
     ensures { IfOk result (λ found. option_map found_of found
-        ≡ found_in (str_hit (meaning tree.now.hir ∷ []) engine.now.nfa (search_of input.entry))) }
+        ≡ found_of_hit (str_hit (meaning tree.now.hir ∷ []) engine.now.nfa (search_of input.entry))) }
 {
     laws::searches_find_boundary_hits();
     laws::trees_match_characters();

@@ -39,11 +39,13 @@ pub fn matches_in_ascii(vm: &PikeVM, cache: &mut Cache, trees: &[Parsed], input:
     vm.is_match(cache, input)
 }
 
-/// Puts patterns into the set that match in the haystack, which is a `str`: each that matches whole characters from a
-/// boundary and for which the set has room. It gains no pattern that does not match.
+/// Puts patterns into the set that match in the haystack, and no other.
+///
+/// - In a `str`: each that matches whole characters from a boundary and for which the set has room.
+/// - In ASCII: each that matches and for which the set has room.
 ///
 /// Requires a PikeVM that searches under `All`, and is not `earliest`.
-pub fn patterns_in_str(
+pub fn patterns_in_text(
     vm: &PikeVM,
     cache: &mut Cache,
     trees: &[Parsed],
@@ -54,37 +56,18 @@ pub fn patterns_in_str(
     requires made { IsNfaOf (res_of trees.now) vm.now.nfa }
     requires kind { kind_of vm.now ≡ All }
     requires off { (search_of input.now).earliest ≡ false }
-    requires text { IsUtf8 (search_of input.now).haystack }
     requires whole { (search_of input.now).end ≡ length (search_of input.now).haystack }
     ensures only { (k : ℕ) → HoldsPattern patterns.new k → HoldsPattern patterns.old k ⊎ ((k < length patterns.old)
         × PatternMatches (res_of trees.now) (vm.now.nfa.anchored == vm.now.nfa.unanchored) (search_of input.now) k) }
-    ensures each { (k : ℕ) → k < length patterns.old → MatchesCharacters (slice_index_or (res_of trees.now) k empty)
+    ensures each { IsUtf8 (search_of input.now).haystack
+        → (k : ℕ) → k < length patterns.old → MatchesCharacters (slice_index_or (res_of trees.now) k empty)
         → (m : PatternMatches (res_of trees.now) (vm.now.nfa.anchored == vm.now.nfa.unanchored) (search_of input.now) k)
         → IsBoundary (search_of input.now).haystack m.start → HoldsPattern patterns.new k }
-{
-    laws::searches_find_only_matches();
-    vm.which_overlapping_matches(cache, input, patterns);
-}
-
-/// Puts the patterns into the set that match in the haystack, which is ASCII, and no other.
-///
-/// Requires a PikeVM that searches under `All`, and is not `earliest`.
-pub fn patterns_in_ascii(
-    vm: &PikeVM,
-    cache: &mut Cache,
-    trees: &[Parsed],
-    input: &Input<'_>,
-    patterns: &mut PatternSet,
-)
-    requires fits { Fits cache.old vm.now.nfa }
-    requires made { IsNfaOf (res_of trees.now) vm.now.nfa }
-    requires kind { kind_of vm.now ≡ All }
-    requires off { (search_of input.now).earliest ≡ false }
-    requires ascii { EachIn (λ b. b < 128) (search_of input.now).haystack }
-    requires whole { (search_of input.now).end ≡ length (search_of input.now).haystack }
-    ensures { (k : ℕ) → HoldsPattern patterns.new k ↔ (HoldsPattern patterns.old k ⊎ ((k < length patterns.old)
+    ensures ascii { EachIn (λ b. b < 128) (search_of input.now).haystack
+        → (k : ℕ) → HoldsPattern patterns.new k ↔ (HoldsPattern patterns.old k ⊎ ((k < length patterns.old)
         × PatternMatches (res_of trees.now) (vm.now.nfa.anchored == vm.now.nfa.unanchored) (search_of input.now) k)) }
 {
+    laws::searches_find_only_matches();
     laws::ascii_searches_find_if_patterns_match();
     vm.which_overlapping_matches(cache, input, patterns);
 }

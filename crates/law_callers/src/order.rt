@@ -1,47 +1,34 @@
 //! Callers of the laws on the order of the patterns of a compiled NFA.
-ghost use Rattle.std.specs.Prelude.{◌≡◌, ◌↔◌, false, map, option_map, IfOk, IfSome, Some, ℕ};
+ghost use Rattle.std.specs.Prelude.{◌≡◌, ◌↔◌, false, map, option_map, IfOk, Some, ℕ};
 ghost use Rattle.nfa_engines.specs.Found.{Found, found_of};
-ghost use Rattle.nfa_engines.specs.Patterns.{number_of};
 ghost use Rattle.nfa_engines.specs.Search.{search_of};
 ghost use Rattle.nfa_engines.specs.Anchored.TheVariants.{Yes};
 ghost use Rattle.nfa_engines.specs.MatchKind.TheVariants.{LeftmostFirst};
 ghost use Rattle.nfa_engines.specs.Engines.{Fits, kind_of};
 ghost use Rattle.nfa_engines.specs.Paths.{is_utf8_empty};
-ghost use Rattle.nfa_engines.specs.PatternLaws.{IsFirstThatMatches, IsOfPattern};
+ghost use Rattle.nfa_engines.specs.PatternLaws.{IsFirstThatMatches, TriesPatternsInOrder};
 ghost use Rattle.nfa_compiler.specs.Compiled.{IsCompiled};
 ghost use Rattle.nfa_compiler.specs.Settings.{syntax_of};
 
-use crate::places::first_of_patterns;
 use anyhow::Result;
 use nfa_compiler::{Compiler, laws};
 use nfa_engines::laws::first_pattern_is_found;
 use nfa_engines::pikevm::{Cache, PikeVM};
-use nfa_engines::{Anchored, Input, Match, NonMaxUsize, PatternID};
+use nfa_engines::{Anchored, Input, Match};
 use nfa_match_spans::laws::{match_spans_are_written, pikevm_nfa_is_valid};
 use std::alloc::Global;
 
-/// Returns the pattern of an anchored search, and fills the slots. They are the answer of the first pattern, in their
-/// order, that has one by itself.
-///
-/// Requires a PikeVM whose NFA was compiled from these texts.
-pub fn first_of_texts(
+/// An NFA that was compiled from texts tries their patterns in order: a premise of `places::first_of_patterns`.
+pub fn texts_are_tried_in_order(
     compiler: &Compiler,
     patterns: &[&str],
     vm: &PikeVM,
-    cache: &mut Cache,
-    input: Input<'_>,
-    slots: &mut [Option<NonMaxUsize>],
-) -> Option<PatternID>
-    requires fits { Fits cache.old vm.now.nfa }
-    requires kind { kind_of vm.now ≡ LeftmostFirst }
-    requires off { (search_of input).earliest ≡ false }
-    requires compiled { IsCompiled (syntax_of compiler.now) (map (λ text. text.now) patterns.now) vm.now.nfa }
-    requires anywhere { is_utf8_empty vm.now.nfa ≡ false }
-    ensures { IfSome result (λ p. IsOfPattern vm.now.nfa LeftmostFirst false
-        (record (search_of input.entry) { anchored = Yes }) (number_of p) slots.new) }
+    input: &Input<'_>,
+)
+    requires { IsCompiled (syntax_of compiler.now) (map (λ text. text.now) patterns.now) vm.now.nfa }
+    ensures { TriesPatternsInOrder vm.now.nfa (record (search_of input.now) { anchored = Yes }) }
 {
     laws::compiled_nfas_try_patterns_in_order();
-    first_of_patterns(vm, cache, input, slots)
 }
 
 /// Returns the match of an anchored search. It is of the first pattern, in their order, that matches by itself.

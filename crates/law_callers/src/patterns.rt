@@ -1,11 +1,12 @@
 //! Calls that are given the text of a pattern: their contracts say what the text means.
-ghost use Rattle.std.specs.Prelude.{◌≡◌, ◌∷◌, [], IfOk, List, Option, Some, drop, false, true, map};
+ghost use Rattle.std.specs.Prelude.{◌≡◌, ◌==◌, ◌∷◌, [], IfOk, List, Option, Some, drop, false, true, map};
 ghost use Rattle.std.specs.Prelude.{option_and_then, option_map, ℕ};
 ghost use Rattle.regex_hir.specs.Find.{find, find_all, find_all_str, find_str};
 ghost use Rattle.regex_hir.specs.Re.{Re};
 ghost use Rattle.nfa_engines.specs.Found.{found_of};
 ghost use Rattle.nfa_engines.specs.Groups.{group_named};
-ghost use Rattle.nfa_compiler.specs.Compiled.{IsMeant};
+ghost use Rattle.nfa_engines.specs.Paths.{is_utf8_empty};
+ghost use Rattle.nfa_compiler.specs.Compiled.{IsCompiled, IsMeant};
 ghost use Rattle.nfa_compiler.specs.NameLaws.{IsNamed, written_span};
 ghost use Rattle.nfa_compiler.specs.Patterns.{found_by};
 ghost use Rattle.nfa_compiler.specs.Settings.{syntax_of};
@@ -15,7 +16,8 @@ use nfa_compiler::Compiler;
 use nfa_compiler::calls::{
     match_in_str, match_of_text, matches_in_str, matches_of_text, named_group_in_str,
 };
-use nfa_engines::backtrack::BoundedBacktracker;
+use nfa_engines::backtrack::{self, BoundedBacktracker};
+use nfa_engines::error::SearchError;
 use nfa_engines::pikevm::PikeVM;
 use nfa_engines::{Input, Match, Span};
 use std::alloc::Global;
@@ -42,21 +44,22 @@ pub fn find_text(
     Ok(found)
 }
 
-/// The same by a bounded backtracker. Fails if the line is too long for it.
-pub fn try_find_text(
-    alloc: Global,
+/// Returns the same match by a bounded backtracker that was made of the pattern before, once for many lines. Fails if
+/// the line is too long for it.
+pub fn try_find_compiled(
     compiler: &Compiler,
     pattern: &str,
+    engine: &BoundedBacktracker,
+    cache: &mut backtrack::Cache,
     line: &[u8],
-) -> Result<Option<Match>>
-    requires bytes { compiler.now.config.utf8 ≡ false }
-    requires free { compiler.now.config.anchored ≡ false }
+) -> Result<Option<Match>, SearchError>
+    requires compiled { IsCompiled (syntax_of compiler.now) (pattern.now ∷ []) engine.now.nfa }
+    requires anywhere { is_utf8_empty engine.now.nfa ≡ false }
+    requires free { (engine.now.nfa.anchored == engine.now.nfa.unanchored) ≡ false }
     ensures { IfOk result (λ found. (re : Re) → IsMeant (syntax_of compiler.now) pattern.now re
         → option_map found_of found ≡ option_map found_by (find re line.now 0)) }
 {
-    let engine = BoundedBacktracker::new_from_nfa(compiler.build(alloc, pattern)?)?;
-    let mut cache = engine.create_cache(alloc);
-    let found = engine.try_find(&mut cache, Input::new(line))?;
+    let found = engine.try_find(cache, Input::new(line))?;
     match_of_text(compiler, pattern, engine.get_nfa(), line, found);
     Ok(found)
 }

@@ -10,8 +10,9 @@ ghost use Rattle.nfa_engines.specs.AlikeLaws.{ReadsBytes};
 ghost use Rattle.nfa_engines.specs.Engines.{Fits, kind_of};
 ghost use Rattle.nfa_engines.specs.Paths.{is_utf8_empty, IsAnswer, IsFindAnswer};
 ghost use Rattle.nfa_engines.specs.PatternLaws.{IsMatchOfPattern, IsOfPattern, TriesPatternsInOrder};
-ghost use Rattle.nfa_engines.specs.SpanLaws.{moved_match, HasNoLook, IsSameSpan};
+ghost use Rattle.nfa_engines.specs.SpanLaws.{cut_out, moved_match, HasNoLook, IsSameSpan};
 ghost use Rattle.nfa_engines.specs.StartLaws.{IsFirstStart, IsUnbound};
+ghost use Rattle.law_callers.specs.Lines.{line_of};
 
 use nfa_engines::pikevm::{Cache, PikeVM};
 use nfa_engines::{Anchored, Input, Match, NonMaxUsize, PatternID, laws};
@@ -147,6 +148,30 @@ pub fn first_match_of_patterns(vm: &PikeVM, cache: &mut Cache, input: Input<'_>)
     }
 }
 
+// The match in a line of a text, and the match in the line cut out.
+fn find_inside_and_alone(
+    vm: &PikeVM,
+    cache: &mut Cache,
+    text: &[u8],
+    start: usize,
+    end: usize,
+) -> (Option<Match>, Option<Match>)
+    requires fits { Fits cache.old vm.now.nfa }
+    requires ordered { start ≤ end }
+    requires within { end ≤ length text.now }
+    ensures inside { IsFindAnswer vm.now.nfa (kind_of vm.now) false (line_of text.now start end)
+        (option_map found_of result.0) }
+    ensures alone { IsFindAnswer vm.now.nfa (kind_of vm.now) false (cut_out (line_of text.now start end))
+        (option_map found_of result.1) }
+{
+    let all = Input::new(text);
+    let line = all.range(start..end);
+    let inside = vm.find(cache, line);
+    let cut = Input::new(&text[start..end]);
+    let alone = vm.find(cache, cut);
+    (inside, alone)
+}
+
 /// Returns the match in a line of a text, and the match in the line cut out. They differ by the start of the line.
 pub fn line_in_text(
     vm: &PikeVM,
@@ -164,12 +189,7 @@ pub fn line_in_text(
 {
     laws::answers_read_the_span();
     laws::one_match();
-    let all = Input::new(text);
-    let line = all.range(start..end);
-    let inside = vm.find(cache, line);
-    let cut = Input::new(&text[start..end]);
-    let alone = vm.find(cache, cut);
-    (inside, alone)
+    find_inside_and_alone(vm, cache, text, start, end)
 }
 
 /// Returns the match in a line of a text, and the match in the line cut out. They differ by the start of the line: all
@@ -193,12 +213,7 @@ pub fn whole_line_in_text(
     laws::answers_read_span_and_assertions();
     laws::assertions_hold_alike();
     laws::one_match();
-    let all = Input::new(text);
-    let line = all.range(start..end);
-    let inside = vm.find(cache, line);
-    let cut = Input::new(&text[start..end]);
-    let alone = vm.find(cache, cut);
-    (inside, alone)
+    find_inside_and_alone(vm, cache, text, start, end)
 }
 
 /// Returns the matches of two searches with the same span in two texts, which have the same bytes there and next to it.

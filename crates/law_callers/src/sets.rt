@@ -11,7 +11,7 @@ ghost use Rattle.nfa_engines.specs.Paths.{edges, starts};
 use nfa_engines::pikevm::{Cache, PikeVM};
 use nfa_engines::{Input, PatternSet, laws};
 
-/// Two caches make one set of a set.
+/// Two caches make one set of a set, under either match kind.
 pub fn sets_are_one(
     vm: &PikeVM,
     cache: &mut Cache,
@@ -22,7 +22,6 @@ pub fn sets_are_one(
 )
     requires first { Fits cache.old vm.now.nfa }
     requires second { Fits other.old vm.now.nfa }
-    requires kind { kind_of vm.now ≡ LeftmostFirst }
     requires same { others.old ≡ patterns.old }
     ensures { patterns.new ≡ others.new }
 {
@@ -66,26 +65,6 @@ pub fn all_patterns(vm: &PikeVM, cache: &mut Cache, input: &Input<'_>, patterns:
 {
     laws::overlap_is_complete();
     vm.which_overlapping_matches(cache, input, patterns);
-}
-
-/// Two caches make one set of a set under `All`.
-pub fn sets_of_all_are_one(
-    vm: &PikeVM,
-    cache: &mut Cache,
-    other: &mut Cache,
-    input: &Input<'_>,
-    patterns: &mut PatternSet,
-    others: &mut PatternSet,
-)
-    requires first { Fits cache.old vm.now.nfa }
-    requires second { Fits other.old vm.now.nfa }
-    requires kind { kind_of vm.now ≡ All }
-    requires same { others.old ≡ patterns.old }
-    ensures { patterns.new ≡ others.new }
-{
-    laws::one_match();
-    vm.which_overlapping_matches(cache, input, patterns);
-    vm.which_overlapping_matches(other, input, others);
 }
 
 /// With room for each pattern the first path that counts is the first of all that may end where they do.

@@ -10,7 +10,7 @@ use Rattle.nfa_engines.specs.Paths.{IsFindAnswer, is_utf8_empty}
 use Rattle.nfa_match_spans.specs.Matches.{HasNoByteAt}
 use Rattle.nfa_compiler.specs.Compiled.{AreMeant}
 use Rattle.nfa_compiler.specs.Laws.{TextsAreMatched}
-use Rattle.nfa_compiler.specs.Patterns.{Hit, expected, found_at, found_in, pick}
+use Rattle.nfa_compiler.specs.Patterns.{PatternHit, expected, found_at, found_of_hit, pick}
 use Rattle.nfa_compiler.proofs.BoundLemmas.{of-pick}
 use Rattle.lexer.specs.Lexed.{AreLexed, IsLexerOf, end_after, hit_there, lexed, stuck_in, token_there, tokens_from, with_bytes}
 use Rattle.lexer.specs.Tokens.{AreTokens, IsStuck, IsToken, TokensEndAt, end_of_tokens, rule_syntax, search_at, token_found}
@@ -19,11 +19,11 @@ use Rattle.lexer.specs.declared.lexer.Token.{Token}
 
 module _ (res : List Re) (text : List ℕ) where
   -- a hit without a byte is no token
-  none-there : (at : ℕ) → at ≤ length text → ((h : Hit) → pick text res 0 at ≡ Some h → h.trace.end ≤ at)
+  none-there : (at : ℕ) → at ≤ length text → ((h : PatternHit) → pick text res 0 at ≡ Some h → h.trace.end ≤ at)
       → token_there res text at ≡ None
   none-there at within short = of (pick text res 0 at) refl
     where
-      of : (o : Option Hit) → pick text res 0 at ≡ o → with_bytes (found_in o) ≡ None
+      of : (o : Option PatternHit) → pick text res 0 at ≡ o → with_bytes (found_of_hit o) ≡ None
       of None is = refl
       of (Some h) is =
           let lies = of-pick text res 0 at h within is in
@@ -99,7 +99,7 @@ module _ (law : TextsAreMatched) (patterns : List (List ℕ)) (vm : Pike) (of : 
   hit-is at within found answer =
       law rule_syntax patterns res vm.nfa (kind_of vm) false (search_at text at) found of.compiled meant anywhere
       (record { leftmost = of.leftmost; latest = refl; whole = refl }) bytes answer
-      ∙ ap found_in (picked at within (vm.nfa.anchored == vm.nfa.unanchored))
+      ∙ ap found_of_hit (picked at within (vm.nfa.anchored == vm.nfa.unanchored))
 
   token-is : (token : Token) → IsToken vm text token → token.span.end ≤ length text
       → token_there res text token.span.start ≡ Some (token_found token)
@@ -115,7 +115,7 @@ module _ (law : TextsAreMatched) (patterns : List (List ℕ)) (vm : Pike) (of : 
       none-there res text stuck.at (omega (arith, is.before_end))
       (λ h at. of-hit stuck.at h (omega (arith, is.before_end)) at short)
     where
-      of-hit : (at : ℕ) (h : Hit) → at ≤ length text → pick text res 0 at ≡ Some h
+      of-hit : (at : ℕ) (h : PatternHit) → at ≤ length text → pick text res 0 at ≡ Some h
           → HasNoByteAt at (hit_there res text at) → h.trace.end ≤ at
       of-hit at h within is short =
           let lies = of-pick text res 0 at h within is in

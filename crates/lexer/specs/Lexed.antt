@@ -5,7 +5,7 @@ use Rattle.regex_search_core.specs.Found.{Found, found_of}
 use Rattle.regex_search_core.specs.declared.search.MatchKind.TheVariants.{LeftmostFirst}
 use Rattle.nfa_engines.specs.Engines.{Pike, kind_of}
 use Rattle.nfa_compiler.specs.Compiled.{IsCompiled}
-use Rattle.nfa_compiler.specs.Patterns.{found_in, pick}
+use Rattle.nfa_compiler.specs.Patterns.{found_of_hit, pick}
 use Rattle.lexer.specs.Tokens.{rule_syntax, token_found}
 use Rattle.lexer.specs.declared.lexer.Stuck.{Stuck}
 use Rattle.lexer.specs.declared.lexer.Token.{Token}
@@ -41,7 +41,7 @@ module _ (res : List Re) (text : List ℕ) where
   -- The hit at this place: of the first rule that matches there, and as long as that rule prefers. Its match may have
   -- no byte, also if a later rule matches some.
   abbrev pub hit_there : ℕ → Option Found
-  hit_there at = found_in (pick text res 0 at)
+  hit_there at = found_of_hit (pick text res 0 at)
 
   -- the token at this place: the hit, if it has a byte at least
   abbrev pub token_there : ℕ → Option Found

@@ -153,6 +153,7 @@ impl<'r, 'c, 't> Iterator for Lexer<'r, 'c, 't> {
 /// (`meant`): each is the hit of the first pattern that matches at its start, as long as that pattern prefers. The
 /// lexer is stuck where no pattern matches, or where the first one that matches prefers the empty string, even if a
 /// later one matches more.
+#[tactic(auto, using(std::proofs::lemmas::Grind::common_steps, std::proofs::lemmas::List::Folds::drop_split))]
 pub fn tokens(
     alloc: Global,
     vm: &PikeVM,
@@ -171,7 +172,25 @@ pub fn tokens(
         IfSome lexed.stuck (λ stuck. StartsNoToken vm.now text.now stuck.at)) }
     ensures capacities { SameCapacities cache.old cache.new }
 {
-    let lexed = searched_tokens(alloc, vm, cache, text)?;
+    let mut tokens = Vec::new(alloc);
+    for item in Lexer::new(vm, cache, text) {
+        match item {
+            Ok(token) => tokens.push(token)?,
+            Err(stuck) => {
+                starts_no_token(vm, text, stuck);
+                let lexed = Lexed {
+                    tokens,
+                    stuck: Some(stuck),
+                };
+                are_meant(vm, text, &lexed);
+                return Ok(lexed);
+            }
+        }
+    }
+    let lexed = Lexed {
+        tokens,
+        stuck: None,
+    };
     are_meant(vm, text, &lexed);
     Ok(lexed)
 }
@@ -185,41 +204,4 @@ fn are_meant(vm: &PikeVM, text: &[u8], lexed: &Lexed)
         → AreMeant rule_syntax patterns res → AreLexed res text.now lexed.now.tokens.items lexed.now.stuck }
 {
     laws::searches_find_texts();
-}
-
-/// Returns the tokens that the searches give.
-#[tactic(auto, using(std::proofs::lemmas::Grind::common_steps, std::proofs::lemmas::List::Folds::drop_split))]
-fn searched_tokens(
-    alloc: Global,
-    vm: &PikeVM,
-    cache: &mut Cache,
-    text: &[u8],
-) -> Result<Lexed, AllocError>
-    requires { Fits cache.old vm.now.nfa }
-    ensures tokens { IfOk result (λ lexed. AreTokens vm.now text.now lexed.tokens.items
-        (end_of_tokens lexed.stuck (length text.now))) }
-    ensures joined { IfOk result (λ lexed. flat_map (text_of text.now) lexed.tokens.items
-        ++ drop (end_of_tokens lexed.stuck (length text.now)) text.now ≡ text.now) }
-    ensures stuck { IfOk result (λ lexed. IfSome lexed.stuck (IsStuck vm.now text.now)) }
-    ensures starts_none { RecordsMatchSpans vm.now.nfa → IfOk result (λ lexed.
-        IfSome lexed.stuck (λ stuck. StartsNoToken vm.now text.now stuck.at)) }
-    ensures capacities { SameCapacities cache.old cache.new }
-{
-    let mut tokens = Vec::new(alloc);
-    for item in Lexer::new(vm, cache, text) {
-        match item {
-            Ok(token) => tokens.push(token)?,
-            Err(stuck) => {
-                starts_no_token(vm, text, stuck);
-                return Ok(Lexed {
-                    tokens,
-                    stuck: Some(stuck),
-                });
-            }
-        }
-    }
-    Ok(Lexed {
-        tokens,
-        stuck: None,
-    })
 }

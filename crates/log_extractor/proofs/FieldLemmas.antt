@@ -12,7 +12,7 @@ use Rattle.regex_search_core.specs.Slots.{Captured, group_span}
 use Rattle.thompson_nfa.specs.Automaton.{Automaton}
 use Rattle.nfa_compiler.specs.Laws.{hit}
 use Rattle.nfa_compiler.specs.NameLaws.{GroupsAreWritten, captures_of, written_span}
-use Rattle.nfa_compiler.specs.Patterns.{Hit, expected, hit_by, hit_of, slots_of}
+use Rattle.nfa_compiler.specs.Patterns.{PatternHit, expected, hit_by, hit_of, slots_of}
 use Rattle.log_extractor.specs.declared.pattern.Column.{Column}
 use Rattle.log_extractor.specs.Fields.{LinePattern, NamedGroup, columns_of, cut, fields_of, group_of, match_at_start, named_groups, row}
 
@@ -28,7 +28,7 @@ bound-hit-at re nfa x bound mode inside =
     rw (le-ltb x.end x.start inside, mode, eq-eqb nfa.anchored nfa.unanchored bound)
     (same (hit_of 0 x.start (attempt x.haystack re accept x.start)))
   where
-    same : (o : Option Hit) → option_or (option_or o None) None ≡ o
+    same : (o : Option PatternHit) → option_or (option_or o None) None ≡ o
     same None = refl
     same (Some h) = refl
 
@@ -59,18 +59,19 @@ between (Some name ∷ names) n f g same =
 module _ (p : LinePattern) (nfa : Automaton) (line : List ℕ) (captures : Captured)
     (bound : nfa.anchored ≡ nfa.unanchored) (groups : nfa.groups ≡ drop 1 p.names ∷ [])
     (same : captures.groups ≡ nfa.groups)
-    (pattern : captures.pattern ≡ option_map (λ (h : Hit). h.pattern) (hit (p.tree ∷ []) nfa (whole line)))
+    (pattern : captures.pattern ≡ option_map (λ (h : PatternHit). h.pattern) (hit (p.tree ∷ []) nfa (whole line)))
     (slots : captures.slots ≡ slots_of nfa.groups (slot_count nfa.groups) (hit (p.tree ∷ []) nfa (whole line)))
   where
     -- there is no row if no pattern was captured
     pub row-none : captures.pattern ≡ None → row p line ≡ None
     row-none none = of (match_at_start p line) (sym pattern ∙ none) (bound-hit p nfa line bound)
       where
-        of : (o : Option Match) → option_map (λ (h : Hit). h.pattern) (hit (p.tree ∷ []) nfa (whole line)) ≡ None
+        of : (o : Option Match) → option_map (λ (h : PatternHit). h.pattern) (hit (p.tree ∷ []) nfa (whole line)) ≡ None
             → hit (p.tree ∷ []) nfa (whole line) ≡ option_map (hit_by 0) o
             → option_map (fields_of p line) o ≡ None
         of None e h = refl
-        of (Some m) e h = let bad : Some 0 ≡ None = ap (option_map (λ (one : Hit). one.pattern)) (sym h) ∙ e in cc
+        of (Some m) e h =
+            let bad : Some 0 ≡ None = ap (option_map (λ (one : PatternHit). one.pattern)) (sym h) ∙ e in cc
 
     -- what the captures give for the columns is the row
     pub row-some : IsSome captures.pattern → GroupsAreWritten hit
@@ -82,9 +83,9 @@ module _ (p : LinePattern) (nfa : Automaton) (line : List ℕ) (captures : Captu
             ≡ option_map (fields_of p line) o
         of None h =
             absurd (no (subst (λ (o : Option ℕ). IsSome o)
-            (pattern ∙ ap (option_map (λ (one : Hit). one.pattern)) h) some))
+            (pattern ∙ ap (option_map (λ (one : PatternHit). one.pattern)) h) some))
         of (Some m) h =
-            let is : captures.pattern ≡ Some 0 = pattern ∙ ap (option_map (λ (one : Hit). one.pattern)) h in
+            let is : captures.pattern ≡ Some 0 = pattern ∙ ap (option_map (λ (one : PatternHit). one.pattern)) h in
             let are : captures.slots ≡ slots_of nfa.groups (slot_count nfa.groups) (Some (hit_by 0 m)) =
             slots ∙ ap (slots_of nfa.groups (slot_count nfa.groups)) h in
             let all : captures ≡ captures_of nfa (hit_by 0 m) =

@@ -14,8 +14,9 @@ use Rattle.regex_syntax.specs.Grammar.{Names, group_count, read}
 use Rattle.regex_syntax.specs.Verdict.{Reads}
 use Rattle.regex_search_core.specs.Groups.{groups_at}
 use Rattle.thompson_nfa.specs.Automaton.{Automaton}
-use Rattle.nfa_compiler.specs.Compiled.{IsCompiled, IsRead, groups_of}
+use Rattle.nfa_compiler.specs.Compiled.{IsCompiled, IsTreeOf, groups_of}
 use Rattle.nfa_compiler.specs.NameLaws.{IsNamed}
+use Rattle.nfa_compiler.proofs.NameLemmas.{names-one}
 use Rattle.log_extractor.specs.declared.pattern.Column.{Column}
 use Rattle.log_extractor.specs.Fields.{NamedGroup, columns_in, group_of, line_syntax, named_groups}
 
@@ -48,13 +49,6 @@ first-none [] h = cc
 first-none (None ∷ own) h = refl
 first-none (Some name ∷ own) h = cc
 
-names-of : (own names : Names) (hir : Hir) (limit : ℕ) (o : Option (Nested Re × Names))
-    → IsSomeAnd o (λ (re, found). (re.depth ≤ limit) × SameCaptures (meaning hir) re.value × (own ≡ found)
-    × (group_count (meaning hir) ≤ length own))
-    → IsSomeAnd o (λ (_, found). found ≡ names) → own ≡ names
-names-of own names hir limit None read is = absurd read
-names-of own names hir limit (Some found) read is = read.2 ∙ is
-
 -- the named groups of a tree, from group 0 on, are the columns
 pub columns-read : (text : List ℕ) (tree : Parsed) (names : Names)
     → Reads line_syntax text tree.hir (map bytes_of tree.names.items)
@@ -64,7 +58,7 @@ unfolding Reads
 columns-read text tree names reads zero named =
     first-none tree.names.items zero
     ∙ ap (λ (ns : Names). named_groups 1 (drop 1 ns))
-    (names-of (map bytes_of tree.names.items) names tree.hir line_syntax.nest_limit (read line_syntax (chars text))
+    (names-one (map bytes_of tree.names.items) names tree.hir line_syntax.nest_limit (read line_syntax (chars text))
     reads named)
 
 named-one : (own : Names) (hir : Hir) (limit : ℕ) (o : Option (Nested Re × Names))
@@ -74,7 +68,7 @@ named-one : (own : Names) (hir : Hir) (limit : ℕ) (o : Option (Nested Re × Na
 named-one own hir limit None is = absurd is
 named-one own hir limit (Some found) is = sym is.2
 
-tree-named : (text : List ℕ) (tree : Parsed) → IsRead line_syntax text tree
+tree-named : (text : List ℕ) (tree : Parsed) → IsTreeOf line_syntax text tree
     → IsNamed line_syntax text (map bytes_of tree.names.items)
 unfolding Reads
 tree-named text tree is =
@@ -87,7 +81,7 @@ pub compiled-columns : (text : List ℕ) (nfa : Automaton) (columns : List Named
     → columns ≡ named_groups 1 (groups_at nfa.groups 0)
 compiled-columns text nfa columns compiled each = of compiled.trees compiled.read compiled.groups
   where
-    of : (trees : List Parsed) → AllZip (IsRead line_syntax) (text ∷ []) trees → nfa.groups ≡ groups_of trees
+    of : (trees : List Parsed) → AllZip (IsTreeOf line_syntax) (text ∷ []) trees → nfa.groups ≡ groups_of trees
         → columns ≡ named_groups 1 (groups_at nfa.groups 0)
     of [] are groups = absurd are
     of (tree ∷ trees) are groups =

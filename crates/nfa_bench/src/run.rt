@@ -4,6 +4,7 @@ ghost use Rattle.nfa_bench.specs.Stops.{ending};
 ghost use Rattle.nfa_bench.specs.declared.run.Stop.TheVariants.{UnknownName};
 ghost use Rattle.nfa_samples.specs.Names.{IsNoneOf, sample_names};
 
+use named_engine::Engine;
 use nfa_engines::backtrack::BoundedBacktracker;
 use nfa_engines::error::SearchError;
 use nfa_engines::pikevm::PikeVM;
@@ -128,23 +129,6 @@ fn print_match<W: Write>(out: &mut W, found: Match) -> io::Result<()> {
         out.write_all(after.as_bytes())?;
     }
     Ok(())
-}
-
-/// What searches.
-#[derive(Clone, Copy, Debug)]
-enum Engine {
-    Backtracker,
-    PikeVM,
-}
-
-impl Engine {
-    fn from_word(word: &str) -> Option<Engine> {
-        match word {
-            "back" => Some(Engine::Backtracker),
-            "pike" => Some(Engine::PikeVM),
-            _ => None,
-        }
-    }
 }
 
 /// Why the program stops before it is done.

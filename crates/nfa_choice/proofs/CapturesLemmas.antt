@@ -4,7 +4,7 @@ use Rattle.std.proofs.Common.{◌≡◌, Bool, true, false, MatchBool, List, [],
 use Rattle.std.proofs.Common.{Result, Ok, Err, ◌⊎◌, inl, inr, refl, subst}
 use Rattle.std.specs.Prelude.{All, IfErr, IfOk}
 use Rattle.std.proofs.iter.runs.Made.{run_of_exit, run_of_turn}
-use Rattle.std.proofs.lemmas.List.Elements.{All-cons, All-head, All-nil, All-tail}
+use Rattle.std.proofs.lemmas.List.Elements.{All-cons, All-head, All-nil, All-pop, All-tail}
 use Rattle.regex_search_core.specs.Search.{Search}
 use Rattle.regex_search_core.specs.Slots.{Captured}
 use Rattle.regex_search_core.specs.declared.search.MatchKind.{MatchKind}
@@ -287,11 +287,6 @@ all_ok {X} {E} P (x ∷ xs) h =
     let each : Result X E → Type 0 = λ item. IfOk item P in
     All-cons P x xs (All-head each (Ok x) (map Ok xs) h) (all_ok P xs (All-tail each (Ok x) (map Ok xs) h))
 
--- what is true of all is true of the last one
-all-last : {X : Type 0} (P : X → Type 0) (xs : List X) (x : X) → All P (xs ++ x ∷ []) → P x
-all-last P [] x h = All-head P x [] h
-all-last P (y ∷ ys) x h = all-last P ys x (All-tail P y (ys ++ x ∷ []) h)
-
 -- These captures are those of x, by a choice that answers as c does, and they led from c to d.
 pub record AreAllOf (c : ChoiceState) (x : Search) (cs : List Captured) (d : ChoiceState) : Type 0 where
   pub rows : AreRows c.nfa (kind_in c) x.earliest x (map row_of cs)
@@ -335,4 +330,5 @@ module _ (x : Search) (s : Steps State) (may : MayCatchByRule s.backend) (walk :
       let all = stored_captures-memory RuleSteps (λ q. q) (λ p r q st. st) s.backend.cache x s begun walk going
       run.0 run.0.seen
       run.1 in
-      all-last (λ item. IfErr item (λ q. q ≡ Memory)) (map Ok ends.items) (Err error) (rw run.2.0 at all)
+      (All-pop (λ item. IfErr item (λ q. q ≡ Memory)) (map Ok ends.items ++ Err error ∷ []) (map Ok ends.items)
+      (Some (Err error)) refl (rw run.2.0 at all)).1

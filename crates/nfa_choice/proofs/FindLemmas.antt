@@ -21,6 +21,7 @@ use Rattle.nfa_search_base.proofs.AskingLemmas.{same_start-self, same_start-then
 use Rattle.nfa_search_base.proofs.EngineLemmas.{calls-kept, find-lies}
 use Rattle.nfa_search_base.proofs.LeavingLemmas.{all-leave, calls-in, calls-leave}
 use Rattle.nfa_search_base.proofs.RunLemmas.{Says, item-says}
+use Rattle.nfa_engines.proofs.LoopLemmas.{sizes-none, sizes-two}
 use Rattle.nfa_choice.specs.ChoiceState.{ChoiceState, KeepsEngines, kind_in}
 use Rattle.nfa_choice.specs.Matches.{AsksByRule, ChoiceFindsBySearches, ChoiceGivesKept, ChoiceTells, FindsByRule}
 use Rattle.nfa_choice.specs.Matches.{choice_matches, choice_matches_next, may_ask}
@@ -60,24 +61,14 @@ choice-acts c x s t a s' same is asked = (
 -- ---- what stays
 
 pub keeps-self : (c : ChoiceState) → KeepsEngines c c
-keeps-self c = record {
-  nfa = refl;
-  visited_capacity = refl;
-  match_kind = refl;
-  capacities = record { states = refl; slots = refl; patterns = refl; frames = refl };
-}
+keeps-self c = record { nfa = refl; visited_capacity = refl; match_kind = refl; capacities = sizes-none c.pike }
 
 pub keeps-then : (a b c : ChoiceState) → KeepsEngines a b → KeepsEngines b c → KeepsEngines a c
 keeps-then a b c f g = record {
   nfa = g.nfa ∙ f.nfa;
   visited_capacity = g.visited_capacity ∙ f.visited_capacity;
   match_kind = g.match_kind ∙ f.match_kind;
-  capacities = record {
-    states = g.capacities.states ∙ f.capacities.states;
-    slots = g.capacities.slots ∙ f.capacities.slots;
-    patterns = g.capacities.patterns ∙ f.capacities.patterns;
-    frames = g.capacities.frames ∙ f.capacities.frames;
-  };
+  capacities = sizes-two a.pike b.pike c.pike f.capacities g.capacities;
 }
 
 -- all calls keep the choice

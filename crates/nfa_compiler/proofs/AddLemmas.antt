@@ -32,9 +32,6 @@ append-none : (ns : List Node) → ns ≡ ns ++ []
 append-none [] = refl
 append-none (n ∷ ns) = ap (λ ms. n ∷ ms) (append-none ns)
 
-pub adds-refl : (nodes : List Node) → Adds nodes nodes
-adds-refl nodes = ([], append-none nodes)
-
 pub adds-one : (old new : List Node) (n : Node) → new ≡ old ++ n ∷ [] → Adds old new
 adds-one old new n e = (n ∷ [], e)
 

@@ -13,7 +13,7 @@ use Rattle.nfa_search_base.specs.Lists.{AreMatches}
 use Rattle.nfa_compiler.specs.AllHits.{row_of_hit}
 use Rattle.nfa_compiler.specs.BoundaryHits.{all_boundary_hits, boundary_hit}
 use Rattle.nfa_compiler.specs.Compiled.{IsNfaOf}
-use Rattle.nfa_compiler.specs.Patterns.{Hit, found_at}
+use Rattle.nfa_compiler.specs.Patterns.{PatternHit, found_at}
 use Rattle.nfa_compiler.proofs.AllSearchLemmas.{matches-of, rows-of}
 use Rattle.nfa_compiler.proofs.BoundLemmas.{LiesFrom}
 use Rattle.nfa_compiler.proofs.BoundarySearchLemmas.{boundary-answer, boundary-match}
@@ -21,10 +21,10 @@ use Rattle.nfa_compiler.proofs.LiesLemmas.{boundary-lies}
 
 module _ (res : List Re) (nfa : Automaton) (made : IsNfaOf res nfa) (mode : is_utf8_empty nfa ≡ true) (x : Search)
     (whole : x.end ≡ length x.haystack) where
-  abbrev hit_at : ℕ → Option Hit
+  abbrev hit_at : ℕ → Option PatternHit
   hit_at i = boundary_hit res nfa (record x { start = i })
 
-  lies : (i : ℕ) (h : Hit) → hit_at i ≡ Some h → LiesFrom x.haystack i (length x.haystack + 1) h
+  lies : (i : ℕ) (h : PatternHit) → hit_at i ≡ Some h → LiesFrom x.haystack i (length x.haystack + 1) h
   lies i h = boundary-lies res (nfa.anchored == nfa.unanchored) (record x { start = i }) h whole
 
   pub all-boundary-matches : (ms : List Found) → AreMatches nfa LeftmostFirst false x ms

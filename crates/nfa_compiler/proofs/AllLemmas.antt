@@ -9,16 +9,21 @@ use Rattle.regex_search_core.specs.declared.search.Span.{Span}
 use Rattle.nfa_search_base.specs.Lists.{Fails, IsStep, ItemsLast}
 use Rattle.nfa_search_base.specs.IterStates.{Answer, IterState, fresh, answer_span, repeats, shifted}
 use Rattle.nfa_compiler.specs.AllHits.{hit_after, hits_from}
-use Rattle.nfa_compiler.specs.Patterns.{Hit, hit_by}
+use Rattle.nfa_compiler.specs.Patterns.{PatternHit, hit_by}
 use Rattle.nfa_compiler.proofs.BoundLemmas.{LiesFrom}
 
 -- the span of a hit
-abbrev pub span_of_hit : Hit → Span
+abbrev pub span_of_hit : PatternHit → Span
 span_of_hit h = record { start = h.start; end = h.trace.end }
 
-module _ {X : Type 0} (span : X → Span) (give : Hit → X) where
+-- nothing is both this and false
+never : (b : Bool) → b && false ≡ false
+never true = refl
+never false = refl
+
+module _ {X : Type 0} (span : X → Span) (give : PatternHit → X) where
   -- the answer is that of the hit, if there is one
-  abbrev pub Meets : Answer X → Option Hit → Type 0
+  abbrev pub Meets : Answer X → Option PatternHit → Type 0
   Meets (Ok None) None = ⊤
   Meets (Ok None) (Some h) = ⊥
   Meets (Ok (Some y)) None = ⊥
@@ -26,9 +31,9 @@ module _ {X : Type 0} (span : X → Span) (give : Hit → X) where
   Meets (Err error) h = ⊥
 
   -- a search from each position meets the hit there, and no hit ends after `last`
-  module _ (x : Search) (tells : Search → Answer X → Type 0) (hit_from : ℕ → Option Hit) (haystack : List ℕ)
+  module _ (x : Search) (tells : Search → Answer X → Type 0) (hit_from : ℕ → Option PatternHit) (haystack : List ℕ)
       (meets : (i : ℕ) (a : Answer X) → tells (record x { start = i }) a → Meets a (hit_from i))
-      (lies : (i : ℕ) (h : Hit) → hit_from i ≡ Some h → LiesFrom haystack i (length haystack + 1) h) where
+      (lies : (i : ℕ) (h : PatternHit) → hit_from i ≡ Some h → LiesFrom haystack i (length haystack + 1) h) where
     -- the iteration after a match that ended at i
     abbrev walk_at : ℕ → IterState
     walk_at i = record { at = record x { start = i }; last = Some i }
@@ -37,11 +42,11 @@ module _ {X : Type 0} (span : X → Span) (give : Hit → X) where
     step-meets : (i : ℕ) (a : Answer X) → IsStep span tells (walk_at i) a → Meets a (hit_after hit_from i)
     step-meets i a s = of s.first (hit_from i) refl (meets i s.first s.is_first) s.rest
       where
-        repeated : (h : Hit) (p : Span) → p ≡ span_of_hit h → (b : Bool)
+        repeated : (h : PatternHit) (p : Span) → p ≡ span_of_hit h → (b : Bool)
             → (h.start == h.trace.end) && (i == h.trace.end) ≡ b → repeats (walk_at i) (Some p) ≡ b
         repeated h p is b e = subst (λ q. repeats (walk_at i) (Some q) ≡ b) (sym is) e
 
-        of-hit : (y : X) (h : Hit) → LiesFrom haystack i (length haystack + 1) h → Meets (Ok (Some y)) (Some h)
+        of-hit : (y : X) (h : PatternHit) → LiesFrom haystack i (length haystack + 1) h → Meets (Ok (Some y)) (Some h)
             → MatchBool (repeats (walk_at i) (Some (span y))) (tells (record x { start = i + 1 }) a) (a ≡ Ok (Some y))
             → Meets a (if h.trace.end == i then hit_from (i + 1) else Some h)
         of-hit y h l m rest = elim (eqb_tells h.trace.end i) [
@@ -63,12 +68,8 @@ module _ {X : Type 0} (span : X → Span) (give : Hit → X) where
               (repeated h (span y) m.1 false more) rest in
               rw other.0 (subst (λ c. Meets c (Some h)) (sym is) m)
         ]
-          where
-            never : (b : Bool) → b && false ≡ false
-            never true = refl
-            never false = refl
 
-        of : (first : Answer X) (o : Option Hit) → hit_from i ≡ o → Meets first o
+        of : (first : Answer X) (o : Option PatternHit) → hit_from i ≡ o → Meets first o
             → MatchBool (repeats (walk_at i) (answer_span span first)) (tells (record x { start = i + 1 }) a)
             (a ≡ first)
             → Meets a (if is_some_and o (λ h. h.trace.end == i) then hit_from (i + 1) else o)
@@ -82,10 +83,6 @@ module _ {X : Type 0} (span : X → Span) (give : Hit → X) where
     first-meets : (a : Answer X) → IsStep span tells (fresh x) a → Meets a (hit_from x.start)
     first-meets a s = of s.first (meets x.start s.first s.is_first) s.rest
       where
-        never : (b : Bool) → b && false ≡ false
-        never true = refl
-        never false = refl
-
         of : (first : Answer X) → Meets first (hit_from x.start)
             → MatchBool (repeats (fresh x) (answer_span span first)) (tells (shifted (fresh x)).at a) (a ≡ first)
             → Meets a (hit_from x.start)
@@ -98,11 +95,11 @@ module _ {X : Type 0} (span : X → Span) (give : Hit → X) where
             subst (λ c. Meets c (hit_from x.start)) (sym is) m
 
     -- a hit after one that ended at i ends after i
-    after-lies : (i : ℕ) (h : Hit) → hit_after hit_from i ≡ Some h
+    after-lies : (i : ℕ) (h : PatternHit) → hit_after hit_from i ≡ Some h
         → (i < h.trace.end) × (h.trace.end ≤ length haystack)
     after-lies i h e = of (hit_from i) refl e
       where
-        of : (o : Option Hit) → hit_from i ≡ o
+        of : (o : Option PatternHit) → hit_from i ≡ o
             → (if is_some_and o (λ g. g.trace.end == i) then hit_from (i + 1) else o) ≡ Some h
             → (i < h.trace.end) × (h.trace.end ≤ length haystack)
         of None at never = absurd (cc)
@@ -126,7 +123,7 @@ module _ {X : Type 0} (span : X → Span) (give : Hit → X) where
     unfolding hits_from
     next-items [] i n room last = of n (hit_after hit_from i) (step-meets i (Ok None) last)
       where
-        of : (n : ℕ) (o : Option Hit) → Meets (Ok None) o → [] ≡ map give (hits_from hit_from n o)
+        of : (n : ℕ) (o : Option PatternHit) → Meets (Ok None) o → [] ≡ map give (hits_from hit_from n o)
         of zero o m = refl
         of (suc n) None m = refl
         of (suc n) (Some h) m = absurd m
@@ -136,7 +133,8 @@ module _ {X : Type 0} (span : X → Span) (give : Hit → X) where
         of : ((e m : ℕ) → length haystack ≤ m + e
             → ItemsLast span tells (Fails span tells) (walk_at e) (map (λ z. Ok z) items)
             → items ≡ map give (hits_from hit_from m (hit_after hit_from e)))
-            → (n : ℕ) (o : Option Hit) → hit_after hit_from i ≡ o → length haystack ≤ n + i → Meets (Ok (Some y)) o
+            → (n : ℕ) (o : Option PatternHit) → hit_after hit_from i ≡ o → length haystack ≤ n + i
+            → Meets (Ok (Some y)) o
             → y ∷ items ≡ map give (hits_from hit_from n o)
         of more zero None e room m = absurd m
         of more (suc n) None e room m = absurd m
@@ -147,6 +145,9 @@ module _ {X : Type 0} (span : X → Span) (give : Hit → X) where
             (map (λ z. Ok z) items)) m.1 last.1 in
             ap₂ (λ z zs. z ∷ zs) m.0 (more h.trace.end n (omega (arith, l.0)) rest)
 
+    one-more : length haystack + 1 ≡ suc (length haystack)
+    one-more = omega arith
+
     -- all items
     pub all-items : (items : List X)
         → ItemsLast span tells (Fails span tells) (fresh x) (map (λ y. Ok y) items)
@@ -154,21 +155,16 @@ module _ {X : Type 0} (span : X → Span) (give : Hit → X) where
     unfolding hits_from
     all-items [] last = of (hit_from x.start) (first-meets (Ok None) last)
       where
-        of : (o : Option Hit) → Meets (Ok None) o → [] ≡ map give (hits_from hit_from (length haystack + 1) o)
+        of : (o : Option PatternHit) → Meets (Ok None) o → [] ≡ map give (hits_from hit_from (length haystack + 1) o)
         of o m = rw one-more (none o m)
           where
-            one-more : length haystack + 1 ≡ suc (length haystack)
-            one-more = omega arith
-
-            none : (o : Option Hit) → Meets (Ok None) o → [] ≡ map give (hits_from hit_from (suc (length haystack)) o)
+            none : (o : Option PatternHit) → Meets (Ok None) o → []
+                ≡ map give (hits_from hit_from (suc (length haystack)) o)
             none None m = refl
             none (Some h) m = absurd m
     all-items (y ∷ items) last = rw one-more (of (hit_from x.start) (first-meets (Ok (Some y)) last.0))
       where
-        one-more : length haystack + 1 ≡ suc (length haystack)
-        one-more = omega arith
-
-        of : (o : Option Hit) → Meets (Ok (Some y)) o
+        of : (o : Option PatternHit) → Meets (Ok (Some y)) o
             → y ∷ items ≡ map give (hits_from hit_from (suc (length haystack)) o)
         of None m = absurd m
         of (Some h) m =
@@ -179,7 +175,7 @@ module _ {X : Type 0} (span : X → Span) (give : Hit → X) where
 -- one pattern
 
 -- the hits of one pattern are its matches
-pub hits-are-matches : (hit_from : ℕ → Option Hit) (search_from : ℕ → Option Match)
+pub hits-are-matches : (hit_from : ℕ → Option PatternHit) (search_from : ℕ → Option Match)
     → ((i : ℕ) → hit_from i ≡ option_map (hit_by 0) (search_from i)) → (n : ℕ) (m : Option Match)
     → hits_from hit_from n (option_map (hit_by 0) m) ≡ map (hit_by 0) (matches_from search_from n m)
 unfolding hits_from matches_from

@@ -18,32 +18,33 @@ use Rattle.nfa_search_base.specs.Lists.{AreMatches, AnswersMatch}
 use Rattle.nfa_search_base.specs.IterStates.{Answer, span_of}
 use Rattle.nfa_compiler.specs.AllHits.{all_hits, hit_at, hits_from, row_of_hit}
 use Rattle.nfa_compiler.specs.Compiled.{AreMeant, IsCompiled, IsNfaOf}
-use Rattle.nfa_compiler.specs.Patterns.{Hit, found_at, found_in, hit_by, slots_of}
+use Rattle.nfa_compiler.specs.Patterns.{PatternHit, found_at, found_of_hit, hit_by, slots_of}
 use Rattle.nfa_compiler.proofs.AllLemmas.{Meets, all-items, hits-are-matches}
 use Rattle.nfa_compiler.proofs.BoundLemmas.{LiesFrom, hit-lies}
 use Rattle.nfa_compiler.proofs.SearchLemmas.{answer-is, match-is}
 use Rattle.nfa_compiler.proofs.TextLemmas.{one-hit, text-answer, text-match}
 
 -- a match is that of the hit
-found-meets : (found : Option Found) (o : Option Hit) → found ≡ found_in o → Meets span_of found_at (Ok found) o
+found-meets : (found : Option Found) (o : Option PatternHit) → found ≡ found_of_hit o
+    → Meets span_of found_at (Ok found) o
 found-meets None None e = tt
 found-meets None (Some h) e = absurd (cc)
 found-meets (Some y) None e = absurd (cc)
 found-meets (Some y) (Some h) e = let same : y ≡ found_at h = (cc) in (same, ap span_of same)
 
 -- a search has the hit that `hit_from` gives for its start
-module _ (nfa : Automaton) (x : Search) (hit_from : ℕ → Option Hit)
-    (lies : (i : ℕ) (h : Hit) → hit_from i ≡ Some h → LiesFrom x.haystack i (length x.haystack + 1) h) where
+module _ (nfa : Automaton) (x : Search) (hit_from : ℕ → Option PatternHit)
+    (lies : (i : ℕ) (h : PatternHit) → hit_from i ≡ Some h → LiesFrom x.haystack i (length x.haystack + 1) h) where
   -- each search has the match of the hit
   abbrev pub HasMatches : Type 0
   HasMatches = (i : ℕ) (found : Option Found) → IsFindAnswer nfa LeftmostFirst false (record x { start = i }) found
-      → found ≡ found_in (hit_from i)
+      → found ≡ found_of_hit (hit_from i)
 
   -- and its pattern and slots
   abbrev pub HasAnswers : Type 0
   HasAnswers = (i : ℕ) (pattern : Option ℕ) (slots : List (Option ℕ))
       → IsAnswer nfa LeftmostFirst false (record x { start = i }) pattern slots
-      → (pattern ≡ option_map (λ (h : Hit). h.pattern) (hit_from i))
+      → (pattern ≡ option_map (λ (h : PatternHit). h.pattern) (hit_from i))
       × (slots ≡ slots_of nfa.groups (length slots) (hit_from i))
 
   pub matches-of : HasMatches → (ms : List Found) → AreMatches nfa LeftmostFirst false x ms
@@ -62,8 +63,8 @@ module _ (nfa : Automaton) (x : Search) (hit_from : ℕ → Option Hit)
       all-items row_span (row_of_hit nfa) x (AnswersRow nfa LeftmostFirst false) hit_from x.haystack meets lies rows
       are.come
     where
-      row-meets : (row : Row) (o : Option Hit) → Some (row_found row) ≡ found_in o
-          → row.pattern ≡ option_map (λ (h : Hit). h.pattern) o
+      row-meets : (row : Row) (o : Option PatternHit) → Some (row_found row) ≡ found_of_hit o
+          → row.pattern ≡ option_map (λ (h : PatternHit). h.pattern) o
           → row.slots ≡ slots_of nfa.groups (slot_count nfa.groups) o
           → Meets row_span (row_of_hit nfa) (Ok (Some row)) o
       row-meets row None found pattern slots = absurd (cc)
@@ -76,7 +77,7 @@ module _ (nfa : Automaton) (x : Search) (hit_from : ℕ → Option Hit)
       meets i (Err error) never = absurd never
       meets i (Ok None) answer = of (hit_from i) (has i None answer)
         where
-          of : (o : Option Hit) → None ≡ found_in o → Meets row_span (row_of_hit nfa) (Ok None) o
+          of : (o : Option PatternHit) → None ≡ found_of_hit o → Meets row_span (row_of_hit nfa) (Ok None) o
           of None e = tt
           of (Some h) e = absurd (cc)
       meets i (Ok (Some row)) r =
@@ -95,7 +96,7 @@ module _ (nfa : Automaton) (x : Search) (hit_from : ℕ → Option Hit)
           told.0 (told.1 ∙ ap (λ n. slots_of nfa.groups n (hit_from i)) r.count)
 
 -- so does a hit of each search
-lies-at : (res : List Re) (nfa : Automaton) (x : Search) → x.end ≡ length x.haystack → (i : ℕ) (h : Hit)
+lies-at : (res : List Re) (nfa : Automaton) (x : Search) → x.end ≡ length x.haystack → (i : ℕ) (h : PatternHit)
     → hit_at res nfa x i ≡ Some h → LiesFrom x.haystack i (length x.haystack + 1) h
 lies-at res nfa x whole i h = hit-lies res nfa (record x { start = i }) h whole
 

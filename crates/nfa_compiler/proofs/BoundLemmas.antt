@@ -12,10 +12,10 @@ use Rattle.regex_hir.proofs.MatchesLemmas.{Matches-IsSpan}
 use Rattle.regex_hir.proofs.OptionLemmas.{option_or_cases}
 use Rattle.thompson_nfa.specs.Automaton.{Automaton}
 use Rattle.nfa_compiler.specs.Laws.{hit}
-use Rattle.nfa_compiler.specs.Patterns.{Hit, expected, first_hit, hit_at_start, hit_of, pick, pick_one}
+use Rattle.nfa_compiler.specs.Patterns.{PatternHit, expected, first_hit, hit_at_start, hit_of, pick, pick_one}
 
 -- the hit starts at a position from `from` to `to`, and ends from there on within the haystack
-pub record LiesFrom (haystack : List ℕ) (from to : ℕ) (h : Hit) : Type 0 where
+pub record LiesFrom (haystack : List ℕ) (from to : ℕ) (h : PatternHit) : Type 0 where
   pub after : from ≤ h.start
   pub before : h.start ≤ to
   pub onward : h.start ≤ h.trace.end
@@ -23,7 +23,7 @@ pub record LiesFrom (haystack : List ℕ) (from to : ℕ) (h : Hit) : Type 0 whe
 
 module _ (haystack : List ℕ) where
   -- of one pattern, at i
-  of-one : (re : Re) (k i : ℕ) (h : Hit) → i ≤ length haystack
+  of-one : (re : Re) (k i : ℕ) (h : PatternHit) → i ≤ length haystack
       → hit_of k i (attempt haystack re accept i) ≡ Some h → LiesFrom haystack i i h
   of-one re k i h within e = of (attempt haystack re accept i) refl e
     where
@@ -45,7 +45,7 @@ module _ (haystack : List ℕ) where
           }
 
   -- of several, at i
-  pub of-pick : (res : List Re) (k i : ℕ) (h : Hit) → i ≤ length haystack → pick haystack res k i ≡ Some h
+  pub of-pick : (res : List Re) (k i : ℕ) (h : PatternHit) → i ≤ length haystack → pick haystack res k i ≡ Some h
       → LiesFrom haystack i i h
   of-pick [] k i h within never = absurd (cc)
   of-pick (re ∷ res) k i h within e =
@@ -54,7 +54,8 @@ module _ (haystack : List ℕ) where
         | inr later ↦ of-pick res (k + 1) i h within later.1
       ]
 
-  pub of-pick-one : (res : List Re) (k i : ℕ) (h : Hit) → i ≤ length haystack → pick_one haystack res k i ≡ Some h
+  pub of-pick-one : (res : List Re) (k i : ℕ) (h : PatternHit) → i ≤ length haystack → pick_one haystack res k i
+      ≡ Some h
       → LiesFrom haystack i i h
   of-pick-one res k i h within e = of (slice_get res k) e
     where
@@ -64,9 +65,10 @@ module _ (haystack : List ℕ) where
       of (Some re) is = of-one re k i h within is
 
   -- at the first of n positions from i on, if each hit starts at its own
-  pub first-lies : (at : ℕ → Option Hit)
-      → ((i : ℕ) (h : Hit) → i ≤ length haystack → at i ≡ Some h → LiesFrom haystack i i h)
-      → (n i : ℕ) (h : Hit) → i + n ≤ length haystack + 1 → first_hit at n i ≡ Some h → LiesFrom haystack i (i + n) h
+  pub first-lies : (at : ℕ → Option PatternHit)
+      → ((i : ℕ) (h : PatternHit) → i ≤ length haystack → at i ≡ Some h → LiesFrom haystack i i h)
+      → (n i : ℕ) (h : PatternHit) → i + n ≤ length haystack + 1 → first_hit at n i ≡ Some h
+      → LiesFrom haystack i (i + n) h
   first-lies at each zero i h within never = absurd (cc)
   first-lies at each (suc n) i h within e =
       elim (option_or_cases (at i) (first_hit at n (i + 1)) h e) [
@@ -86,12 +88,12 @@ module _ (haystack : List ℕ) where
             }
       ]
 
-  of-first : (res : List Re) (n i : ℕ) (h : Hit) → i + n ≤ length haystack + 1
+  of-first : (res : List Re) (n i : ℕ) (h : PatternHit) → i + n ≤ length haystack + 1
       → first_hit (pick haystack res 0) n i ≡ Some h → LiesFrom haystack i (i + n) h
   of-first res = first-lies (pick haystack res 0) (of-pick res 0)
 
 -- the hit of a search starts at or after the search's start
-pub hit-lies : (res : List Re) (nfa : Automaton) (x : Search) (h : Hit) → x.end ≡ length x.haystack
+pub hit-lies : (res : List Re) (nfa : Automaton) (x : Search) (h : PatternHit) → x.end ≡ length x.haystack
     → hit res nfa x ≡ Some h → LiesFrom x.haystack x.start (length x.haystack + 1) h
 unfolding expected
 hit-lies res nfa x h whole e = elim (cases_lt x.end x.start) [

@@ -15,7 +15,7 @@ use Rattle.regex_search_core.specs.declared.search.Anchored.{Anchored}
 use Rattle.regex_search_core.specs.declared.search.Anchored.TheVariants.{No, Yes, Pattern}
 use Rattle.nfa_paths.specs.Paths.{raised}
 use Rattle.nfa_compiler.specs.BoundaryHits.{boundary_hit_at_start, ends_on_boundary, expected_on_boundary, on_boundary, restarted_hit}
-use Rattle.nfa_compiler.specs.Patterns.{Hit, expected, first_hit, hit_at_start, pick}
+use Rattle.nfa_compiler.specs.Patterns.{PatternHit, expected, first_hit, hit_at_start, pick}
 
 -- the two definitions of a boundary agree within the haystack
 
@@ -47,7 +47,7 @@ boundary-is haystack i within e = elim (cases_lt i (length haystack)) [
       ]
     ]
 
-module _ (haystack : List ℕ) (at : ℕ → Option Hit) where
+module _ (haystack : List ℕ) (at : ℕ → Option PatternHit) where
   -- the first hit ends on a boundary, or there is none
   first-kept : (n i : ℕ) → is_none_or (first_hit at n i) (ends_on_boundary haystack) ≡ true
       → first_hit (λ j. on_boundary haystack (at j)) n i ≡ first_hit at n i
@@ -56,18 +56,19 @@ module _ (haystack : List ℕ) (at : ℕ → Option Hit) where
     where
       of : (is_none_or (first_hit at n (i + 1)) (ends_on_boundary haystack) ≡ true
           → first_hit (λ j. on_boundary haystack (at j)) n (i + 1) ≡ first_hit at n (i + 1))
-          → (o : Option Hit) → is_none_or (option_or o (first_hit at n (i + 1))) (ends_on_boundary haystack) ≡ true
+          → (o : Option PatternHit) → is_none_or (option_or o (first_hit at n (i + 1))) (ends_on_boundary haystack)
+          ≡ true
           → option_or (on_boundary haystack o) (first_hit (λ j. on_boundary haystack (at j)) n (i + 1))
           ≡ option_or o (first_hit at n (i + 1))
       of rest None e = rest e
       of rest (Some h) e = rw e refl
 
   -- it does not: none that starts there ends on one
-  first-split : (n i : ℕ) (h : Hit) → first_hit at (suc n) i ≡ Some h → ends_on_boundary haystack h ≡ false
+  first-split : (n i : ℕ) (h : PatternHit) → first_hit at (suc n) i ≡ Some h → ends_on_boundary haystack h ≡ false
       → first_hit (λ j. on_boundary haystack (at j)) (suc n) i ≡ first_hit (λ j. on_boundary haystack (at j)) n (i + 1)
   first-split n i h e off = of (at i) e
     where
-      of : (o : Option Hit) → option_or o (first_hit at n (i + 1)) ≡ Some h
+      of : (o : Option PatternHit) → option_or o (first_hit at n (i + 1)) ≡ Some h
           → option_or (on_boundary haystack o) (first_hit (λ j. on_boundary haystack (at j)) n (i + 1))
           ≡ first_hit (λ j. on_boundary haystack (at j)) n (i + 1)
       of None e = refl
@@ -93,10 +94,10 @@ module _ (res : List Re) (bound : Bool) (x : Search) where
       of (Pattern pattern) a = refl
 
   -- what a scan of n positions from i on finds, and what the search does
-  abbrev scanned : Bool → ℕ → ℕ → Option Hit
+  abbrev scanned : Bool → ℕ → ℕ → Option PatternHit
   scanned b n i = first_hit (pick x.haystack res 0) (if b then 1 else n) i
 
-  abbrev searched : Bool → ℕ → ℕ → Option Hit
+  abbrev searched : Bool → ℕ → ℕ → Option PatternHit
   searched b n i =
       if b then restarted_hit x.haystack (pick x.haystack res 0) n i
       else first_hit (λ j. on_boundary x.haystack (pick x.haystack res 0 j)) n i
@@ -106,19 +107,19 @@ module _ (res : List Re) (bound : Bool) (x : Search) where
   searched-kept false n i e = first-kept x.haystack (pick x.haystack res 0) (suc n) i e
   searched-kept true n i e = here (pick x.haystack res 0 i) e
     where
-      here : (o : Option Hit) → is_none_or (option_or o None) (ends_on_boundary x.haystack) ≡ true
+      here : (o : Option PatternHit) → is_none_or (option_or o None) (ends_on_boundary x.haystack) ≡ true
           → (if is_none_or o (ends_on_boundary x.haystack) then o
           else restarted_hit x.haystack (pick x.haystack res 0) n (i + 1))
           ≡ option_or o None
       here None e = refl
       here (Some h) e = rw e refl
 
-  searched-split : (b : Bool) (n i : ℕ) (h : Hit) → scanned b (suc n) i ≡ Some h
+  searched-split : (b : Bool) (n i : ℕ) (h : PatternHit) → scanned b (suc n) i ≡ Some h
       → ends_on_boundary x.haystack h ≡ false → searched b (suc n) i ≡ searched b n (i + 1)
   searched-split false n i h e off = first-split x.haystack (pick x.haystack res 0) n i h e off
   searched-split true n i h e off = here (pick x.haystack res 0 i) e
     where
-      here : (o : Option Hit) → option_or o None ≡ Some h
+      here : (o : Option PatternHit) → option_or o None ≡ Some h
           → (if is_none_or o (ends_on_boundary x.haystack) then o
           else restarted_hit x.haystack (pick x.haystack res 0) n (i + 1))
           ≡ restarted_hit x.haystack (pick x.haystack res 0) n (i + 1)
@@ -147,7 +148,7 @@ module _ (res : List Re) (bound : Bool) (x : Search) where
     ]
 
     -- it does not: the search is to find what it is to find from one byte further on
-    pub free-split : (h : Hit) → expected res bound x ≡ Some h → ends_on_boundary x.haystack h ≡ false
+    pub free-split : (h : PatternHit) → expected res bound x ≡ Some h → ends_on_boundary x.haystack h ≡ false
         → expected_on_boundary res bound x ≡ expected_on_boundary res bound (raised x 1)
     unfolding expected expected_on_boundary
     free-split h e off = elim (cases_lt x.end x.start) [

@@ -17,7 +17,7 @@ use Rattle.nfa_paths.proofs.AnswerLemmas.{ends_on_boundary as ends_where, scan_a
 use Rattle.nfa_paths.proofs.PathToLemmas.{EndsWith-last}
 use Rattle.nfa_compiler.specs.BoundaryHits.{ends_on_boundary, expected_on_boundary, on_boundary}
 use Rattle.nfa_compiler.specs.Compiled.{IsNfaOf}
-use Rattle.nfa_compiler.specs.Patterns.{Hit, expected, found_in, slots_of}
+use Rattle.nfa_compiler.specs.Patterns.{PatternHit, expected, found_of_hit, slots_of}
 use Rattle.nfa_compiler.proofs.BoundLemmas.{hit-lies}
 use Rattle.nfa_compiler.proofs.BoundaryLemmas.{anchored-kept, boundary-is, boundary-true, free-kept, free-split}
 use Rattle.nfa_compiler.proofs.SearchLemmas.{is_bound, scan, told-found, told-match, told-pattern, told-slots}
@@ -39,10 +39,10 @@ raised-more x i =
 
 module _ (res : List Re) (a : Automaton) (made : IsNfaOf res a) (mode : is_utf8_empty a ≡ true) where
   -- what a search is to find, in one scan and in all
-  abbrev scanned : Search → Option Hit
+  abbrev scanned : Search → Option PatternHit
   scanned x = expected res (is_bound res a made) x
 
-  abbrev searched : Search → Option Hit
+  abbrev searched : Search → Option PatternHit
   searched x = expected_on_boundary res (is_bound res a made) x
 
   module _ (x : Search) (whole : x.end ≡ length x.haystack) where
@@ -53,7 +53,7 @@ module _ (res : List Re) (a : Automaton) (made : IsNfaOf res a) (mode : is_utf8_
         subst (TellsHit a (scanned x)) (scan_answer-unique a x LeftmostFirst false s.0 path s.2 answers) s.1
 
     -- the path ends on a boundary exactly if the hit does
-    told-end : (h : Hit) (p : List Pair) → ToldHit a h p
+    told-end : (h : PatternHit) (p : List Pair) → ToldHit a h p
         → (EndsOnBoundary x p → IsBoundary x.haystack h.trace.end)
         × (IsBoundary x.haystack h.trace.end → EndsOnBoundary x p)
     told-end h p t =
@@ -61,10 +61,11 @@ module _ (res : List Re) (a : Automaton) (made : IsNfaOf res a) (mode : is_utf8_
         (λ on. subst (IsBoundary x.haystack) t.at (b.0 on), λ on. b.1 (subst (IsBoundary x.haystack) (sym t.at) on))
 
     -- the same, as the test of the hit
-    on-true : (h : Hit) (p : List Pair) → ToldHit a h p → EndsOnBoundary x p → ends_on_boundary x.haystack h ≡ true
+    on-true : (h : PatternHit) (p : List Pair) → ToldHit a h p → EndsOnBoundary x p → ends_on_boundary x.haystack h
+        ≡ true
     on-true h p t on = boundary-true x.haystack h.trace.end ((told-end h p t).0 on)
 
-    on-false : (h : Hit) (p : List Pair) → scanned x ≡ Some h → ToldHit a h p → (EndsOnBoundary x p → ⊥)
+    on-false : (h : PatternHit) (p : List Pair) → scanned x ≡ Some h → ToldHit a h p → (EndsOnBoundary x p → ⊥)
         → ends_on_boundary x.haystack h ≡ false
     on-false h p is t off =
         let within = (hit-lies res a x h whole is).inside in
@@ -76,7 +77,7 @@ module _ (res : List Re) (a : Automaton) (made : IsNfaOf res a) (mode : is_utf8_
         → is_none_or (scanned x) (ends_on_boundary x.haystack) ≡ true
     kept path answers on = of (scanned x) path (told-scan path answers) on
       where
-        of : (o : Option Hit) (path : Option (List Pair)) → TellsHit a o path → IsWhole x path
+        of : (o : Option PatternHit) (path : Option (List Pair)) → TellsHit a o path → IsWhole x path
             → is_none_or o (ends_on_boundary x.haystack) ≡ true
         of None path t on = refl
         of (Some h) None t on = absurd t
@@ -84,11 +85,11 @@ module _ (res : List Re) (a : Automaton) (made : IsNfaOf res a) (mode : is_utf8_
 
     -- it does not
     split : SplitsCharacter a LeftmostFirst false x
-        → (h : Hit) × (scanned x ≡ Some h) × (ends_on_boundary x.haystack h ≡ false)
+        → (h : PatternHit) × (scanned x ≡ Some h) × (ends_on_boundary x.haystack h ≡ false)
     split s = of (scanned x) refl (told-scan (Some s.path) s.answers)
       where
-        of : (o : Option Hit) → scanned x ≡ o → TellsHit a o (Some s.path)
-            → (h : Hit) × (scanned x ≡ Some h) × (ends_on_boundary x.haystack h ≡ false)
+        of : (o : Option PatternHit) → scanned x ≡ o → TellsHit a o (Some s.path)
+            → (h : PatternHit) × (scanned x ≡ Some h) × (ends_on_boundary x.haystack h ≡ false)
         of None is t = absurd t
         of (Some h) is t = (h, is, on-false h s.path is t s.splits)
 
@@ -98,7 +99,7 @@ module _ (res : List Re) (a : Automaton) (made : IsNfaOf res a) (mode : is_utf8_
     told-kept anchored path answer =
         rw (anchored-kept res (is_bound res a made) x anchored) (of path answer)
       where
-        on : (o : Option Hit) (path : Option (List Pair)) → TellsHit a o path
+        on : (o : Option PatternHit) (path : Option (List Pair)) → TellsHit a o path
             → is_none_or o (ends_on_boundary x.haystack) ≡ true → TellsHit a (on_boundary x.haystack o) path
         on None path t e = t
         on (Some h) path t e = rw e t
@@ -144,7 +145,7 @@ module _ (res : List Re) (a : Automaton) (made : IsNfaOf res a) (mode : is_utf8_
 
     -- the pattern of its hit is one of the patterns
     pub boundary-known : (restarts : ℕ) (path : Option (List Pair))
-        → IsSearchAnswer a LeftmostFirst false x restarts path → (h : Hit) → searched x ≡ Some h
+        → IsSearchAnswer a LeftmostFirst false x restarts path → (h : PatternHit) → searched x ≡ Some h
         → h.pattern < length a.groups
     boundary-known restarts path answers h is =
         of path (subst (λ o. TellsHit a o path) is (told-search restarts path answers))
@@ -155,7 +156,7 @@ module _ (res : List Re) (a : Automaton) (made : IsNfaOf res a) (mode : is_utf8_
 
     pub boundary-answer : (pattern : Option ℕ) (slots : List (Option ℕ))
         → IsAnswer a LeftmostFirst false x pattern slots
-        → (pattern ≡ option_map (λ (h : Hit). h.pattern) (searched x))
+        → (pattern ≡ option_map (λ (h : PatternHit). h.pattern) (searched x))
         × (slots ≡ slots_of a.groups (length slots) (searched x))
     boundary-answer pattern slots answer =
         let t = told-search answer.restarts answer.path answer.answers in (
@@ -164,7 +165,7 @@ module _ (res : List Re) (a : Automaton) (made : IsNfaOf res a) (mode : is_utf8_
         )
 
     pub boundary-match : (found : Option Found) → IsFindAnswer a LeftmostFirst false x found
-        → found ≡ found_in (searched x)
+        → found ≡ found_of_hit (searched x)
     boundary-match found answer =
         answer.found_is ∙ told-match res a made x whole (searched x) answer.path
         (told-search answer.restarts answer.path answer.answers)

@@ -11,7 +11,7 @@ use Rattle.thompson_nfa.specs.Automaton.{Automaton}
 use Rattle.nfa_paths.specs.Paths.{is_utf8_empty, IsFindAnswer}
 use Rattle.nfa_search_base.specs.Lists.{AreMatches}
 use Rattle.nfa_compiler.specs.Compiled.{IsCompiled, IsMeant}
-use Rattle.nfa_compiler.specs.Patterns.{found_at, found_by, found_in, hit_by}
+use Rattle.nfa_compiler.specs.Patterns.{found_at, found_by, found_of_hit, hit_by}
 use Rattle.nfa_compiler.proofs.AllSearchLemmas.{all-of-one, all-text-matches}
 use Rattle.nfa_compiler.proofs.TextLemmas.{one-hit, text-match}
 
@@ -24,6 +24,15 @@ default-same (x ∷ xs) (suc k) d less = default-same xs k d (omega arith)
 pub bytes-of : (haystack : List ℕ) → ((k : ℕ) → slice_index_or haystack k 0 < 256) → All (λ b. b < 256) haystack
 bytes-of haystack each = λ k d less. omega (arith, each k, default-same haystack k d less)
 
+-- the match of the hit of pattern 0
+pub hit-found : (o : Option Match) → found_of_hit (option_map (hit_by 0) o) ≡ option_map found_by o
+hit-found None = refl
+hit-found (Some m) = refl
+
+pub hits-found : (ms : List Match) → map found_at (map (hit_by 0) ms) ≡ map found_by ms
+hits-found [] = refl
+hits-found (m ∷ ms) = ap (λ fs. found_by m ∷ fs) (hits-found ms)
+
 module _ (syntax : Config) (text : List ℕ) (nfa : Automaton) (haystack : List ℕ)
     (compiled : IsCompiled syntax (text ∷ []) nfa) (anywhere : is_utf8_empty nfa ≡ false)
     (free : (nfa.anchored == nfa.unanchored) ≡ false) (bytes : All (λ b. b < 256) haystack) (re : Re)
@@ -32,20 +41,12 @@ module _ (syntax : Config) (text : List ℕ) (nfa : Automaton) (haystack : List 
       → found ≡ option_map found_by (find re haystack 0)
   call-match found answer =
       text-match syntax (text ∷ []) (re ∷ []) nfa (whole haystack) compiled (meant, tt) anywhere refl bytes found answer
-      ∙ ap found_in (one-hit re nfa (whole haystack) free refl refl)
-      ∙ both (find re haystack 0)
-    where
-      both : (o : Option Match) → found_in (option_map (hit_by 0) o) ≡ option_map found_by o
-      both None = refl
-      both (Some m) = refl
+      ∙ ap found_of_hit (one-hit re nfa (whole haystack) free refl refl)
+      ∙ hit-found (find re haystack 0)
 
   pub call-matches : (ms : List Found) → AreMatches nfa LeftmostFirst false (whole haystack) ms
       → ms ≡ map found_by (find_all re haystack)
   call-matches ms are =
       all-text-matches syntax (text ∷ []) (re ∷ []) nfa (whole haystack) compiled (meant, tt) anywhere refl bytes ms are
       ∙ ap (map found_at) (all-of-one re nfa (whole haystack) free refl refl refl)
-      ∙ both (find_all re haystack)
-    where
-      both : (ms : List Match) → map found_at (map (hit_by 0) ms) ≡ map found_by ms
-      both [] = refl
-      both (m ∷ ms) = ap (λ fs. found_by m ∷ fs) (both ms)
+      ∙ hits-found (find_all re haystack)

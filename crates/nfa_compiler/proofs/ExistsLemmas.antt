@@ -28,6 +28,7 @@ use Rattle.nfa_match_spans.proofs.StatePathLemmas.{In-map}
 use Rattle.nfa_compiler.specs.Compiled.{IsNfaOf}
 use Rattle.nfa_compiler.specs.KindLaws.{IsTried, MatchesSomewhere, PatternMatches}
 use Rattle.nfa_compiler.specs.Patterns.{hit_of}
+use Rattle.nfa_engines.proofs.FirstPatternLemmas.{put-linked}
 use Rattle.nfa_compiler.proofs.SearchLemmas.{is_bound, told-found}
 use Rattle.nfa_compiler.proofs.BlockLemmas.{ends-cons}
 use Rattle.nfa_compiler.proofs.StartPairLemmas.{starts-sound, starts-complete, within-end}
@@ -58,11 +59,6 @@ index-in : (xs : List ℕ) (k : ℕ) → k < length xs → In (slice_index xs k)
 index-in [] k less = absurd (omega arith)
 index-in (y ∷ xs) zero less = inl refl
 index-in (y ∷ xs) (suc k) less = inr (index-in xs k (omega arith))
-
-linked-cons : (edges : Pair → List Pair) (v w : Pair) (p : List Pair) → In w (edges v) → HeadIs w p → Linked edges p
-    → Linked edges (v ∷ p)
-linked-cons edges v w [] edge head linked = tt
-linked-cons edges v w (y ∷ p) edge head linked = (subst (λ z. In z (edges v)) (sym head) edge, linked)
 
 -- a path from one pair begins with it
 begins : (edges : Pair → List Pair) (v m : Pair) (p : List Pair) → PathTo edges (v ∷ []) m p → HeadIs v p
@@ -229,7 +225,7 @@ module _ (res : List Re) (a : Automaton) (made : IsNfaOf res a) (x : Search) (wh
               among = inl refl;
               head = refl;
               once = (λ member. p.1 (a.anchored, i) member (inl refl), path.once);
-              linked = linked-cons (edges a x) (a.anchored, i) (start_of k, i) p.0.along
+              linked = put-linked (edges a x) (a.anchored, i) (start_of k, i) p.0.along
                   (subst (λ es. In (start_of k, i) es) (sym (ap (λ n. edges_of x n i) h.0))
                   (In-map (λ next. (next, i)) (start_of k) a.patterns (index-in a.patterns k less)))
                   (begins (edges a x) (start_of k, i) p.0.end p.0.along path) path.linked;

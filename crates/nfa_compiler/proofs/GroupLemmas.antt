@@ -11,11 +11,12 @@ use Rattle.regex_search_core.specs.Groups.{group_named, groups_at, is_named, slo
 use Rattle.regex_search_core.specs.Slots.{group_span, named_span, offset_at, span_at}
 use Rattle.regex_hir.specs.Find.{last_write}
 use Rattle.thompson_nfa.specs.Automaton.{Automaton}
+use Rattle.nfa_engines.proofs.FirstPatternLemmas.{same_some}
 use Rattle.nfa_compiler.specs.NameLaws.{captures_of, span_between}
-use Rattle.nfa_compiler.specs.Patterns.{Hit, place_of, slots_of, writes_of}
+use Rattle.nfa_compiler.specs.Patterns.{PatternHit, place_of, slots_of, writes_of}
 use Rattle.nfa_compiler.proofs.MeantLemmas.{place-high, written-at}
 
-module _ (groups : List (List (Option (List ℕ)))) (h : Hit) (known : h.pattern < length groups) where
+module _ (groups : List (List (Option (List ℕ)))) (h : PatternHit) (known : h.pattern < length groups) where
   abbrev behind : ℕ
   behind = 2 * length groups + 2 * sum_by length (take h.pattern groups)
 
@@ -70,7 +71,7 @@ module _ (groups : List (List (Option (List ℕ)))) (h : Hit) (known : h.pattern
         lt-ltb (group - 1) (length (groups_at groups h.pattern)) less,
       ) refl
 
-pub group-written : (nfa : Automaton) (h : Hit) (group : ℕ) → h.pattern < length nfa.groups → 1 ≤ group
+pub group-written : (nfa : Automaton) (h : PatternHit) (group : ℕ) → h.pattern < length nfa.groups → 1 ≤ group
     → group ≤ length (groups_at nfa.groups h.pattern)
     → group_span (captures_of nfa h) group
     ≡ span_between (last_write h.trace.writes (2 * group)) (last_write h.trace.writes (2 * group + 1))
@@ -87,40 +88,31 @@ group-written nfa h group known low high =
 
 -- names
 
+none : (i : ℕ) → None ≡ Some i → ⊥
+none i n = cc
+
 position-known : {X : Type 0} (test : X → Bool) (xs : List X) (k : ℕ) → position test xs ≡ Some k → k < length xs
 position-known test xs k e = elim (cases_lt (position_or_len test xs) (length xs)) [
   | inl less ↦
       let at = rw (lt-ltb (position_or_len test xs) (length xs) less) at e in
-      let same : position_or_len test xs ≡ k = only (position_or_len test xs) k at in
+      let same : position_or_len test xs ≡ k = same_some (position_or_len test xs) k at in
       omega arith
   | inr past ↦ absurd (none k (rw (le-ltb (position_or_len test xs) (length xs) past) at e))
 ]
-  where
-    only : (a b : ℕ) → Some a ≡ Some b → a ≡ b
-    only a b n = cc
-
-    none : (i : ℕ) → None ≡ Some i → ⊥
-    none i n = cc
 
 group-known : (groups : List (List (Option (List ℕ)))) (pattern : ℕ) (name : List ℕ) (group : ℕ)
     → group_named groups pattern name ≡ Some group → (1 ≤ group) × (group ≤ length (groups_at groups pattern))
 group-known groups pattern name group e = of (position (is_named name) (groups_at groups pattern)) refl e
   where
-    only : (a b : ℕ) → Some a ≡ Some b → a ≡ b
-    only a b n = cc
-
-    none : (i : ℕ) → None ≡ Some i → ⊥
-    none i n = cc
-
     of : (o : Option ℕ) → position (is_named name) (groups_at groups pattern) ≡ o
         → option_map (λ place. place + 1) o ≡ Some group → (1 ≤ group) × (group ≤ length (groups_at groups pattern))
     of None at is = absurd (none group is)
     of (Some k) at is =
-        let same : k + 1 ≡ group = only (k + 1) group is in
+        let same : k + 1 ≡ group = same_some (k + 1) group is in
         let less = position-known (is_named name) (groups_at groups pattern) k at in
         (omega arith, omega arith)
 
-pub name-written : (nfa : Automaton) (h : Hit) (name : List ℕ) (group : ℕ) → h.pattern < length nfa.groups
+pub name-written : (nfa : Automaton) (h : PatternHit) (name : List ℕ) (group : ℕ) → h.pattern < length nfa.groups
     → group_named nfa.groups h.pattern name ≡ Some group
     → named_span (captures_of nfa h) name
     ≡ span_between (last_write h.trace.writes (2 * group)) (last_write h.trace.writes (2 * group + 1))

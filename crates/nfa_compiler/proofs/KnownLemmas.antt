@@ -11,15 +11,15 @@ use Rattle.regex_search_core.specs.Search.{Search}
 use Rattle.regex_search_core.specs.declared.search.Anchored.{Anchored}
 use Rattle.regex_search_core.specs.declared.search.Anchored.TheVariants.{No, Yes, Pattern}
 use Rattle.nfa_compiler.specs.BoundaryHits.{boundary_hit_at_start, ends_on_boundary, expected_on_boundary, on_boundary, restarted_hit}
-use Rattle.nfa_compiler.specs.Patterns.{Hit, expected, first_hit, hit_at_start, hit_of, pick, pick_one}
+use Rattle.nfa_compiler.specs.Patterns.{PatternHit, expected, first_hit, hit_at_start, hit_of, pick, pick_one}
 use Rattle.nfa_compiler.specs.StrHits.{at_boundary, expected_in_str, str_hit_at_start}
 use Rattle.nfa_compiler.proofs.LiesLemmas.{at-is, kept-is}
 
-numbered : (k i : ℕ) (o : Option Trace) (h : Hit) → hit_of k i o ≡ Some h → h.pattern ≡ k
+numbered : (k i : ℕ) (o : Option Trace) (h : PatternHit) → hit_of k i o ≡ Some h → h.pattern ≡ k
 numbered k i None h never = absurd (cc)
 numbered k i (Some t) h e = cc
 
-pick-known : (haystack : List ℕ) (res : List Re) (k i : ℕ) (h : Hit) → pick haystack res k i ≡ Some h
+pick-known : (haystack : List ℕ) (res : List Re) (k i : ℕ) (h : PatternHit) → pick haystack res k i ≡ Some h
     → h.pattern < k + length res
 pick-known haystack [] k i h never = absurd (cc)
 pick-known haystack (re ∷ res) k i h e =
@@ -28,7 +28,7 @@ pick-known haystack (re ∷ res) k i h e =
       | inr later ↦ omega (arith, pick-known haystack res (k + 1) i h later.1)
     ]
 
-one-known : (haystack : List ℕ) (res : List Re) (k i : ℕ) (h : Hit) → pick_one haystack res k i ≡ Some h
+one-known : (haystack : List ℕ) (res : List Re) (k i : ℕ) (h : PatternHit) → pick_one haystack res k i ≡ Some h
     → h.pattern < length res
 one-known haystack res k i h e = of (slice_get res k) (slice_get_within res k) e
   where
@@ -38,16 +38,16 @@ one-known haystack res k i h e = of (slice_get res k) (slice_get_within res k) e
     of (Some re) below is = omega (arith, below re refl, numbered k i (attempt haystack re accept i) h is)
 
 -- at the first of n positions
-module _ (haystack : List ℕ) (count : ℕ) (at : ℕ → Option Hit)
-    (each : (i : ℕ) (h : Hit) → at i ≡ Some h → h.pattern < count) where
-  first-known : (n i : ℕ) (h : Hit) → first_hit at n i ≡ Some h → h.pattern < count
+module _ (haystack : List ℕ) (count : ℕ) (at : ℕ → Option PatternHit)
+    (each : (i : ℕ) (h : PatternHit) → at i ≡ Some h → h.pattern < count) where
+  first-known : (n i : ℕ) (h : PatternHit) → first_hit at n i ≡ Some h → h.pattern < count
   first-known zero i h never = absurd (cc)
   first-known (suc n) i h e = elim (option_or_cases (at i) (first_hit at n (i + 1)) h e) [
     | inl here ↦ each i h here
     | inr later ↦ first-known n (i + 1) h later.1
   ]
 
-  restarted-known : (n i : ℕ) (h : Hit) → restarted_hit haystack at n i ≡ Some h → h.pattern < count
+  restarted-known : (n i : ℕ) (h : PatternHit) → restarted_hit haystack at n i ≡ Some h → h.pattern < count
   restarted-known zero i h never = absurd (cc)
   restarted-known (suc n) i h e =
       of (restarted-known n (i + 1) h) (is_none_or (at i) (ends_on_boundary haystack)) e
@@ -57,11 +57,11 @@ module _ (haystack : List ℕ) (count : ℕ) (at : ℕ → Option Hit)
       of rest true here = each i h here
       of rest false later = rest later
 
-module _ (res : List Re) (bound : Bool) (x : Search) (h : Hit) where
+module _ (res : List Re) (bound : Bool) (x : Search) (h : PatternHit) where
   abbrev Known : Type 0
   Known = h.pattern < length res
 
-  at-start : (i : ℕ) (g : Hit) → pick x.haystack res 0 i ≡ Some g → g.pattern < length res
+  at-start : (i : ℕ) (g : PatternHit) → pick x.haystack res 0 i ≡ Some g → g.pattern < length res
   at-start i g e = omega (arith, pick-known x.haystack res 0 i g e)
 
   pub hit-pattern : expected res bound x ≡ Some h → Known

@@ -9,13 +9,14 @@ use Rattle.regex_search_core.specs.Search.{Search}
 use Rattle.regex_search_core.specs.declared.search.Anchored.{Anchored}
 use Rattle.regex_search_core.specs.declared.search.Anchored.TheVariants.{No, Yes, Pattern}
 use Rattle.nfa_compiler.specs.BoundaryHits.{boundary_hit_at_start, ends_on_boundary, expected_on_boundary, on_boundary, restarted_hit}
-use Rattle.nfa_compiler.specs.Patterns.{Hit, first_hit, pick, pick_one}
+use Rattle.nfa_compiler.specs.Patterns.{PatternHit, first_hit, pick, pick_one}
 use Rattle.nfa_compiler.specs.StrHits.{at_boundary, expected_in_str, str_hit_at_start}
 use Rattle.nfa_compiler.proofs.BoundLemmas.{LiesFrom, first-lies, of-pick, of-pick-one}
 
 -- what is left of a hit is the hit
 
-pub kept-is : (haystack : List ℕ) (o : Option Hit) (h : Hit) → on_boundary haystack o ≡ Some h → o ≡ Some h
+pub kept-is : (haystack : List ℕ) (o : Option PatternHit) (h : PatternHit) → on_boundary haystack o ≡ Some h → o
+    ≡ Some h
 kept-is haystack None h e = e
 kept-is haystack (Some g) h e = of (ends_on_boundary haystack g) e
   where
@@ -23,7 +24,8 @@ kept-is haystack (Some g) h e = of (ends_on_boundary haystack g) e
     of true e = e
     of false never = absurd (cc)
 
-pub at-is : (haystack : List ℕ) (at : ℕ → Option Hit) (i : ℕ) (h : Hit) → at_boundary haystack at i ≡ Some h
+pub at-is : (haystack : List ℕ) (at : ℕ → Option PatternHit) (i : ℕ) (h : PatternHit) → at_boundary haystack at i
+    ≡ Some h
     → at i ≡ Some h
 at-is haystack at i h e = of (is_boundary haystack i) e
   where
@@ -31,10 +33,10 @@ at-is haystack at i h e = of (is_boundary haystack i) e
     of true e = e
     of false never = absurd (cc)
 
-module _ (haystack : List ℕ) (at : ℕ → Option Hit)
-    (each : (i : ℕ) (h : Hit) → i ≤ length haystack → at i ≡ Some h → LiesFrom haystack i i h) where
+module _ (haystack : List ℕ) (at : ℕ → Option PatternHit)
+    (each : (i : ℕ) (h : PatternHit) → i ≤ length haystack → at i ≡ Some h → LiesFrom haystack i i h) where
   -- after restarts
-  restarted-lies : (n i : ℕ) (h : Hit) → i + n ≤ length haystack + 1 → restarted_hit haystack at n i ≡ Some h
+  restarted-lies : (n i : ℕ) (h : PatternHit) → i + n ≤ length haystack + 1 → restarted_hit haystack at n i ≡ Some h
       → LiesFrom haystack i (i + n) h
   restarted-lies zero i h within never = absurd (cc)
   restarted-lies (suc n) i h within e =
@@ -56,7 +58,7 @@ module _ (haystack : List ℕ) (at : ℕ → Option Hit)
         inside = l.inside;
       }
 
-module _ (res : List Re) (bound : Bool) (x : Search) (h : Hit) (whole : x.end ≡ length x.haystack) where
+module _ (res : List Re) (bound : Bool) (x : Search) (h : PatternHit) (whole : x.end ≡ length x.haystack) where
   abbrev Lies : Type 0
   Lies = LiesFrom x.haystack x.start (length x.haystack + 1) h
 

@@ -21,6 +21,7 @@ use Rattle.regex_syntax.proofs.Written.{grammar}
 pub use Rattle.regex_class.specs.Ranges.{Range, in_ranges}
 pub use Rattle.regex_syntax.proofs.Written.{alone, class_is, same_group, same_plus}
 pub use Rattle.regex_syntax.proofs.TreeLaws.{same_refl, same_sym, ◌then◌, cat_cong, alt_cong, cat-empty, alt-fail, literal-append, byte_in_ascii}
+use Rattle.nfa_engines.proofs.OneLemmas.{same-test}
 use Rattle.nfa_compiler.specs.Written.{MatchesIn, MatchesInStr}
 
 -- what an answer unfolds to compute what the grammar reads in a literal
@@ -110,13 +111,8 @@ module _ (haystack : List ℕ) where
     -- only a class: a byte of the haystack passes
     pub class-anywhere : (found : Bool) → (found ≡ true) ↔ MatchesIn haystack (byte_in rs)
         → found ≡ list_any test haystack
-    class-anywhere found either = both found (list_any test haystack) to from
+    class-anywhere found either = same-test found (list_any test haystack) to from
       where
-        both : (a b : Bool) → (a ≡ true → b ≡ true) → (b ≡ true → a ≡ true) → a ≡ b
-        both true b ahead back = sym (ahead refl)
-        both false true ahead back = back refl
-        both false false ahead back = refl
-
         to : found ≡ true → list_any test haystack ≡ true
         to e =
             let m = either.0 e in

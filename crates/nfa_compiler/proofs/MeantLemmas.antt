@@ -20,39 +20,36 @@ use Rattle.regex_syntax.specs.Grammar.{read as read_text}
 use Rattle.regex_syntax.specs.Verdict.{Reads}
 use Rattle.regex_syntax.specs.declared.Config.{Config}
 use Rattle.regex_syntax.specs.declared.Parsed.{Parsed}
-use Rattle.nfa_compiler.specs.Compiled.{IsRead, IsMeant, res_of}
-use Rattle.nfa_compiler.specs.Patterns.{Hit, hit_of, pick, first_hit, hit_at_start, expected, place_of, writes_of, slots_of, found_in}
+use Rattle.nfa_compiler.specs.Compiled.{IsTreeOf, IsMeant, res_of}
+use Rattle.nfa_compiler.specs.Patterns.{PatternHit, hit_of, pick, first_hit, hit_at_start, expected, place_of, writes_of, slots_of, found_of_hit}
 
 -- hits that a caller cannot tell apart
-pub record Alike (h g : Hit) : Type 0 where
+pub record Alike (h g : PatternHit) : Type 0 where
   pub pattern : h.pattern ≡ g.pattern
   pub start : h.start ≡ g.start
   pub end : h.trace.end ≡ g.trace.end
   pub writes : (slot : ℕ) → last_write h.trace.writes slot ≡ last_write g.trace.writes slot
 
-abbrev pub AreAlike : Option Hit → Option Hit → Type 0
+abbrev pub AreAlike : Option PatternHit → Option PatternHit → Type 0
 AreAlike None None = Unit {0}
 AreAlike None (Some g) = ⊥
 AreAlike (Some h) None = ⊥
 AreAlike (Some h) (Some g) = Alike h g
 
-alike-or : (o u r q : Option Hit) → AreAlike o r → AreAlike u q → AreAlike (option_or o u) (option_or r q)
+alike-or : (o u r q : Option PatternHit) → AreAlike o r → AreAlike u q → AreAlike (option_or o u) (option_or r q)
 alike-or None u None q h k = k
 alike-or None u (Some p) q h k = absurd h
 alike-or (Some t) u None q h k = absurd h
 alike-or (Some t) u (Some p) q h k = h
 
+never : {A : Type 0} (x : A) → None ≡ Some x → ⊥
+never x e = cc
+
 alike-hit : (k i : ℕ) (o u : Option Trace) → outcome o ≡ outcome u → AreAlike (hit_of k i o) (hit_of k i u)
 unfolding outcome
 alike-hit k i None None e = tt
 alike-hit k i None (Some u) e = absurd (never _ e)
-  where
-    never : {A : Type 0} (x : A) → None ≡ Some x → ⊥
-    never x e = cc
 alike-hit k i (Some t) None e = absurd (never _ (sym e))
-  where
-    never : {A : Type 0} (x : A) → None ≡ Some x → ⊥
-    never x e = cc
 alike-hit k i (Some t) (Some u) e =
     let same : (t.end, last_write t.writes) ≡ (u.end, last_write u.writes) = of _ _ e in
     record {
@@ -77,7 +74,7 @@ module _ (hay : List ℕ) (bytes : All (λ b. b < 256) hay) where
       (alike-hit k i (attempt hay a accept i) (attempt hay b accept i) (same.0.at hay bytes accept i))
       (pick-alike res others (k + 1) i same.1)
 
-  pub first-alike : (at other : ℕ → Option Hit) → ((i : ℕ) → AreAlike (at i) (other i)) → (n i : ℕ)
+  pub first-alike : (at other : ℕ → Option PatternHit) → ((i : ℕ) → AreAlike (at i) (other i)) → (n i : ℕ)
       → AreAlike (first_hit at n i) (first_hit other n i)
   first-alike at other alike zero i = tt
   first-alike at other alike (suc n) i =
@@ -115,15 +112,15 @@ module _ (x : Search) (bytes : All (λ b. b < 256) x.haystack) (res others : Lis
 
 -- what a caller sees of alike hits
 
-pub found-alike : (h g : Option Hit) → AreAlike h g → found_in h ≡ found_in g
+pub found-alike : (h g : Option PatternHit) → AreAlike h g → found_of_hit h ≡ found_of_hit g
 found-alike None None a = refl
 found-alike None (Some g) a = absurd a
 found-alike (Some h) None a = absurd a
 found-alike (Some h) (Some g) a =
     λ i. Some (record { pattern = a.pattern i; start = a.start i; end = a.end i })
 
-pub pattern-alike : (h g : Option Hit) → AreAlike h g
-    → option_map (λ (x : Hit). x.pattern) h ≡ option_map (λ (x : Hit). x.pattern) g
+pub pattern-alike : (h g : Option PatternHit) → AreAlike h g
+    → option_map (λ (x : PatternHit). x.pattern) h ≡ option_map (λ (x : PatternHit). x.pattern) g
 pattern-alike None None a = refl
 pattern-alike None (Some g) a = absurd a
 pattern-alike (Some h) None a = absurd a
@@ -225,11 +222,8 @@ module _ (groups : List (List (Option (List ℕ)))) (p : ℕ) (known : p < lengt
       (if 2 * p == k then Some start else None))
       (placed-alike ws vs same k)
 
-same-map : (f g : ℕ → Option ℕ) → ((k : ℕ) → f k ≡ g k) → (ks : List ℕ) → map f ks ≡ map g ks
-same-map f g same [] = refl
-same-map f g same (k ∷ ks) = ap₂ (λ y ys. y ∷ ys) (same k) (same-map f g same ks)
-
-hit-writes : (groups : List (List (Option (List ℕ)))) (h g : Hit) → h.pattern < length groups → Alike h g → (k : ℕ)
+hit-writes : (groups : List (List (Option (List ℕ)))) (h g : PatternHit) → h.pattern < length groups → Alike h g
+    → (k : ℕ)
     → last_write (writes_of groups h) k ≡ last_write (writes_of groups g) k
 hit-writes groups h g known a k =
     writes-alike groups h.pattern known h.start h.trace.end h.trace.writes g.trace.writes a.writes k
@@ -237,16 +231,17 @@ hit-writes groups h g known a k =
     ∷ map {B = ℕ × ℕ} (λ w. (place_of groups (a.pattern i) w.0, w.1)) g.trace.writes) k)
 
 -- the slots of alike hits are the same
-pub slots-alike : (groups : List (List (Option (List ℕ)))) (count : ℕ) (h g : Option Hit)
-    → ((x : Hit) → h ≡ Some x → x.pattern < length groups) → AreAlike h g
+pub slots-alike : (groups : List (List (Option (List ℕ)))) (count : ℕ) (h g : Option PatternHit)
+    → ((x : PatternHit) → h ≡ Some x → x.pattern < length groups) → AreAlike h g
     → slots_of groups count h ≡ slots_of groups count g
 unfolding slots_of
 slots-alike groups count None None known a = refl
 slots-alike groups count None (Some g) known a = absurd a
 slots-alike groups count (Some h) None known a = absurd a
 slots-alike groups count (Some h) (Some g) known a =
-    same-map (last_write (writes_of groups h)) (last_write (writes_of groups g))
-    (hit-writes groups h g (known h refl) a) (range_with_len 0 count)
+    let same : last_write (writes_of groups h) ≡ last_write (writes_of groups g) =
+    λ i k. hit-writes groups h g (known h refl) a k i in
+    ap (λ f. map f (range_with_len 0 count)) same
 
 -- what texts mean
 
@@ -257,7 +252,7 @@ meant-one : (b : Re) (hir : Hir) (limit : ℕ) (names : Names) (o : Option (Nest
 meant-one b hir limit names None read is = absurd read
 meant-one b hir limit names (Some found) read is = subst (SameCaptures (meaning hir)) is read.1
 
-meant : (syntax : Config) (text : List ℕ) (tree : Parsed) (re : Re) → IsRead syntax text tree → IsMeant syntax text re
+meant : (syntax : Config) (text : List ℕ) (tree : Parsed) (re : Re) → IsTreeOf syntax text tree → IsMeant syntax text re
     → SameCaptures (meaning tree.hir) re
 unfolding Reads
 meant syntax text tree re read is =
@@ -266,7 +261,7 @@ meant syntax text tree re read is =
 
 -- the trees that are read from texts, and what the texts mean
 pub all-meant : (syntax : Config) (texts : List (List ℕ)) (trees : List Parsed) (res : List Re)
-    → AllZip (IsRead syntax) texts trees → AllZip (IsMeant syntax) texts res → AllZip SameCaptures (res_of trees) res
+    → AllZip (IsTreeOf syntax) texts trees → AllZip (IsMeant syntax) texts res → AllZip SameCaptures (res_of trees) res
 all-meant syntax [] [] [] read is = tt
 all-meant syntax [] [] (re ∷ res) read is = absurd is
 all-meant syntax [] (tree ∷ trees) res read is = absurd read

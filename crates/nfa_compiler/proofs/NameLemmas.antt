@@ -12,11 +12,11 @@ use Rattle.regex_syntax.specs.declared.Parsed.{Parsed}
 use Rattle.regex_syntax.specs.Grammar.{Names, group_count}
 use Rattle.regex_syntax.specs.Grammar.{read as read_text}
 use Rattle.regex_syntax.specs.Verdict.{Reads}
-use Rattle.nfa_compiler.specs.Compiled.{IsRead, explicit_names, groups_of}
+use Rattle.nfa_compiler.specs.Compiled.{IsTreeOf, explicit_names, groups_of}
 use Rattle.nfa_compiler.specs.NameLaws.{AreNamed, IsNamed}
 
 -- of one text
-names-one : (own names : Names) (hir : Hir) (limit : ℕ) (o : Option (Nested Re × Names))
+pub names-one : (own names : Names) (hir : Hir) (limit : ℕ) (o : Option (Nested Re × Names))
     → IsSomeAnd o (λ (re, found). (re.depth ≤ limit) × SameCaptures (meaning hir) re.value × (own ≡ found)
     × (group_count (meaning hir) ≤ length own))
     → IsSomeAnd o (λ (_, found). found ≡ names) → own ≡ names
@@ -24,7 +24,7 @@ names-one own names hir limit None read is = absurd read
 names-one own names hir limit (Some found) read is = read.2 ∙ is
 
 names-read : (syntax : Config) (text : List ℕ) (tree : Parsed) (names : List (Option (List ℕ)))
-    → IsRead syntax text tree → IsNamed syntax text names → explicit_names tree ≡ drop 1 names
+    → IsTreeOf syntax text tree → IsNamed syntax text names → explicit_names tree ≡ drop 1 names
 unfolding Reads
 names-read syntax text tree names is named =
     ap (drop 1)
@@ -33,7 +33,7 @@ names-read syntax text tree names is named =
 
 -- of all texts
 pub groups-named : (syntax : Config) (texts : List (List ℕ)) (trees : List Parsed)
-    (names : List (List (Option (List ℕ)))) → AllZip (IsRead syntax) texts trees → AreNamed syntax texts names
+    (names : List (List (Option (List ℕ)))) → AllZip (IsTreeOf syntax) texts trees → AreNamed syntax texts names
     → groups_of trees ≡ map (drop 1) names
 groups-named syntax [] [] [] read is = refl
 groups-named syntax [] [] (n ∷ names) read is = absurd is
@@ -45,7 +45,7 @@ groups-named syntax (text ∷ texts) (tree ∷ trees) (n ∷ names) read is =
 
 -- as many lists of groups as texts
 pub groups-counted : (syntax : Config) (texts : List (List ℕ)) (trees : List Parsed)
-    → AllZip (IsRead syntax) texts trees → length (groups_of trees) ≡ length texts
+    → AllZip (IsTreeOf syntax) texts trees → length (groups_of trees) ≡ length texts
 groups-counted syntax [] [] read = refl
 groups-counted syntax [] (tree ∷ trees) read = absurd read
 groups-counted syntax (text ∷ texts) [] read = absurd read

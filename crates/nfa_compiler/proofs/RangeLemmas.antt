@@ -50,10 +50,6 @@ node-wider n m slots more patterns all (Capture next slot) long wide many h =
 node-wider n m slots more patterns all Fail long wide many h = (tt, tt, tt)
 node-wider n m slots more patterns all (Match pattern) long wide many h = (tt, tt, omega (arith, h.2))
 
--- at first there are none
-pub none-in-range : (nodes : List Node) (slots patterns : ℕ) → length nodes ≡ 0 → AreInRange slots patterns nodes
-none-in-range nodes slots patterns none = λ i d inside. absurd (omega arith)
-
 -- more of them, after the old ones
 pub more-in-range : (old new : List Node) (slots more patterns all : ℕ) → Adds old new → slots ≤ more → patterns ≤ all
     → ((i : ℕ) → length old ≤ i → i < length new → IsInRange (length new) more all (slice_index_or new i Fail))
@@ -137,43 +133,6 @@ pattern-in-range old new nfa s slots k p block adds base long is slots_are count
     more-in-range old new slots more k (k + 1) adds (omega arith) (omega arith)
     (λ i from to. subst (λ n. IsInRange (length new) more (n + 1) (slice_index_or new i Fail)) is
     (block-fits new nfa s block more long (omega arith) (omega arith) i (omega arith) to)) h
-
--- the choice between starts
-pub choice-in-range : (old new : List Node) (starts : List ℕ) → new ≡ old ++ Union starts ∷ []
-    → All (λ s. s < length old) starts → KeepsInRange old new
-choice-in-range old new starts e inside =
-    let long : length new ≡ length old + 1 = ap length e ∙ length-append old (Union starts ∷ []) in
-    one-in-range old new (Union starts) e (λ slots patterns. (λ i d h. omega (arith, inside i d h), tt, tt))
-
--- the two states of the prefix
-pub prefix-in-range : (old one new : List Node) (start skip : ℕ) (t : Transition)
-    → one ≡ old ++ BinaryUnion start skip ∷ [] → new ≡ one ++ ByteRange t ∷ [] → start < length old
-    → skip ≡ length old + 1 → t.next ≡ length old → KeepsInRange old new
-prefix-in-range old one new start skip t e f inside skips back = λ slots patterns h.
-    let fewer : length one ≡ length old + 1 = ap length e ∙ length-append old (BinaryUnion start skip ∷ []) in
-    let long : length new ≡ length one + 1 = ap length f ∙ length-append one (ByteRange t ∷ []) in
-    let first = adds-one old one (BinaryUnion start skip) e in
-    let second = adds-one one new (ByteRange t) f in
-    more-in-range old new slots slots patterns patterns (adds-trans old one new first second) (omega arith)
-    (omega arith)
-    (λ i after to. elim (cases_lt i (length one)) [
-      | inl before ↦
-          subst (IsInRange (length new) slots patterns)
-          (sym (kept-at one new second i before ∙ ap (λ ns. slice_index_or ns i Fail) e
-          ∙ last-at old (BinaryUnion start skip) i (omega arith)))
-          ((omega arith, omega arith), tt, tt)
-      | inr behind ↦
-          subst (IsInRange (length new) slots patterns)
-          (sym (ap (λ ns. slice_index_or ns i Fail) f ∙ last-at one (ByteRange t) i (omega arith)))
-          (omega arith, tt, tt)
-    ]) h
-
--- the slots of all patterns
-pub slots-all : (patterns : List Parsed) (i : ℕ) → i ≡ length patterns
-    → first_slot (groups_of patterns) i ≡ slot_count (groups_of patterns)
-slots-all patterns i all =
-    ap (λ gs. 2 * length (groups_of patterns) + 2 * sum_by length gs)
-    (take_all i (groups_of patterns) (omega (arith, length-map patterns explicit_names)))
 
 -- no flaw
 

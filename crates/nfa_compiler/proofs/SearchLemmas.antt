@@ -24,7 +24,7 @@ use Rattle.nfa_paths.proofs.PathLemmas.{IsFirst-step, IsFirstOfAll-from_among, I
 use Rattle.nfa_paths.proofs.PathToLemmas.{EndsWith-last, IsLeast-none, IsLeast-first, IsFirstPath-unique}
 use Rattle.nfa_paths.proofs.StartLemmas.{IsMatch-edges, starts-increase}
 use Rattle.nfa_compiler.specs.Compiled.{IsPattern, IsNfaOf}
-use Rattle.nfa_compiler.specs.Patterns.{Hit, pick, pick_one, first_hit, hit_at_start, expected, writes_of, slots_of, found_in}
+use Rattle.nfa_compiler.specs.Patterns.{PatternHit, pick, pick_one, first_hit, hit_at_start, expected, writes_of, slots_of, found_of_hit}
 use Rattle.nfa_compiler.proofs.BlockLemmas.{among-one, among-cons}
 use Rattle.nfa_compiler.proofs.StartLemmas.{TellsHit, TellsHit-or, TellsHit-cons, EndsBy, pattern-first, patterns-among}
 
@@ -102,7 +102,7 @@ module _ (res : List Re) (a : Automaton) (made : IsNfaOf res a) where
         )
 
     -- the first path of the search is the expected hit
-    abbrev Finds : Option Hit → List Pair → Type 0
+    abbrev Finds : Option PatternHit → List Pair → Type 0
     Finds h es = (r : Option (List Pair)) × TellsHit a h r × FirstAmong (edges a x) (is_match a) [] es r
 
     one-position : x.start ≤ x.end → Finds (pick x.haystack res 0 x.start) (pairs_from a.anchored x.start 1)
@@ -179,7 +179,7 @@ module _ (res : List Re) (a : Automaton) (made : IsNfaOf res a) where
         of (Some p) least = IsLeast-first (edges a x) (starts a x) (is_match a) (IsMatch-edges a x) p least
 
     -- the pattern of a hit is one of the patterns
-    pub expected-known : (h : Hit) → expected res is_bound x ≡ Some h → h.pattern < length a.groups
+    pub expected-known : (h : PatternHit) → expected res is_bound x ≡ Some h → h.pattern < length a.groups
     expected-known h e = let f = finds in of f.0 (subst (λ o. TellsHit a o f.0) e f.1)
       where
         of : (r : Option (List Pair)) → TellsHit a (Some h) r → h.pattern < length a.groups
@@ -187,8 +187,8 @@ module _ (res : List Re) (a : Automaton) (made : IsNfaOf res a) where
         of (Some p) t = t.known
 
     -- a path of the hit has its pattern, its slots and its match, and exists exactly if there is a hit
-    pub told-pattern : (h : Option Hit) (path : Option (List Pair)) → TellsHit a h path
-        → option_and_then (path_pattern a) path ≡ option_map (λ (g : Hit). g.pattern) h
+    pub told-pattern : (h : Option PatternHit) (path : Option (List Pair)) → TellsHit a h path
+        → option_and_then (path_pattern a) path ≡ option_map (λ (g : PatternHit). g.pattern) h
     told-pattern None None t = refl
     told-pattern None (Some p) t = absurd t
     told-pattern (Some h) None t = absurd t
@@ -196,18 +196,15 @@ module _ (res : List Re) (a : Automaton) (made : IsNfaOf res a) where
         ap (option_and_then (λ (v : Pair). pattern_of (node_at a v.0))) (EndsWith-last None t.end p t.ends)
         ∙ t.pattern_is
 
-    same-map : (f g : ℕ → Option ℕ) → ((k : ℕ) → f k ≡ g k) → (ks : List ℕ) → map f ks ≡ map g ks
-    same-map f g same [] = refl
-    same-map f g same (k ∷ ks) = ap₂ (λ y ys. y ∷ ys) (same k) (same-map f g same ks)
-
-    pub told-slots : (count : ℕ) (h : Option Hit) (path : Option (List Pair)) → TellsHit a h path
+    pub told-slots : (count : ℕ) (h : Option PatternHit) (path : Option (List Pair)) → TellsHit a h path
         → slot_row a count path ≡ slots_of a.groups count h
     unfolding slot_row slots_of
     told-slots count None None t = refl
     told-slots count None (Some p) t = absurd t
     told-slots count (Some h) None t = absurd t
     told-slots count (Some h) (Some p) t =
-        same-map (slot_among a p) (last_write (writes_of a.groups h)) t.slots (range_with_len 0 count)
+        let same : slot_among a p ≡ last_write (writes_of a.groups h) = λ i k. t.slots k i in
+        ap (λ f. map f (range_with_len 0 count)) same
 
     -- a row of slots at one of them
     row-at : (count slot : ℕ) (p : List Pair) → slot < count
@@ -219,8 +216,8 @@ module _ (res : List Re) (a : Automaton) (made : IsNfaOf res a) where
         rw (slice_get-get_or (map (slot_among a p) (range_with_len 0 count)) slot None long)
         (get_or-map-range_with_len (slot_among a p) 0 count slot slot None less (omega arith))
 
-    pub told-match : (h : Option Hit) (path : Option (List Pair)) → TellsHit a h path
-        → match_of (option_and_then (path_pattern a) path) (slot_row a (slot_count a.groups) path) ≡ found_in h
+    pub told-match : (h : Option PatternHit) (path : Option (List Pair)) → TellsHit a h path
+        → match_of (option_and_then (path_pattern a) path) (slot_row a (slot_count a.groups) path) ≡ found_of_hit h
     told-match None None t = refl
     told-match None (Some p) t = absurd t
     told-match (Some h) None t = absurd t
@@ -233,7 +230,7 @@ module _ (res : List Re) (a : Automaton) (made : IsNfaOf res a) where
           le-leb h.start h.trace.end t.onward,
         ) refl
 
-    pub told-found : (h : Option Hit) (path : Option (List Pair)) → TellsHit a h path → is_some path ≡ is_some h
+    pub told-found : (h : Option PatternHit) (path : Option (List Pair)) → TellsHit a h path → is_some path ≡ is_some h
     told-found None None t = refl
     told-found None (Some p) t = absurd t
     told-found (Some h) None t = absurd t
@@ -250,7 +247,7 @@ module _ (res : List Re) (a : Automaton) (made : IsNfaOf res a) where
           (IsFirstPath-unique (edges a x) (starts a x) (IsMatch a) s.0 path s.2 own.1) s.1
 
       pub answer-is : (pattern : Option ℕ) (slots : List (Option ℕ)) → IsAnswer a LeftmostFirst false x pattern slots
-          → (pattern ≡ option_map (λ (h : Hit). h.pattern) (expected res is_bound x))
+          → (pattern ≡ option_map (λ (h : PatternHit). h.pattern) (expected res is_bound x))
           × (slots ≡ slots_of a.groups (length slots) (expected res is_bound x))
       answer-is pattern slots answer =
           let t = told answer.restarts answer.path answer.answers in (
@@ -259,7 +256,7 @@ module _ (res : List Re) (a : Automaton) (made : IsNfaOf res a) where
           )
 
       pub match-is : (found : Option Found) → IsFindAnswer a LeftmostFirst false x found
-          → found ≡ found_in (expected res is_bound x)
+          → found ≡ found_of_hit (expected res is_bound x)
       match-is found answer =
           answer.found_is ∙ told-match (expected res is_bound x) answer.path
           (told answer.restarts answer.path answer.answers)

@@ -18,8 +18,8 @@ use Rattle.nfa_paths.proofs.PathLemmas.{IsFirst-step}
 use Rattle.nfa_compiler.specs.declared.block.Site.{Site}
 use Rattle.nfa_compiler.specs.Blocks.{match_at, slot_in}
 use Rattle.nfa_compiler.specs.Compiled.{IsPattern, first_slot}
-use Rattle.nfa_compiler.specs.Patterns.{Hit, hit_of, pick, place_of, writes_of}
-use Rattle.nfa_compiler.proofs.WriteLemmas.{write_of, writes_along, slot_among-writes, last_write-append}
+use Rattle.nfa_compiler.specs.Patterns.{PatternHit, hit_of, pick, place_of, writes_of}
+use Rattle.nfa_compiler.proofs.WriteLemmas.{write_of, writes_along, option_or-None, slot_among-writes, last_write-append}
 use Rattle.nfa_compiler.proofs.BlockLemmas.{AreExplicit, Tells, Told, IsClear, ends-cons, among-one, among-cons, walks}
 
 -- writes
@@ -39,12 +39,8 @@ write-early : (ws : List (ℕ × ℕ)) (b e slot : ℕ) → NoneWrites b ws
 write-early ws b e slot none =
     last_write-append ws ((b, e) ∷ []) slot ∙ elim (eqb_tells b slot) [
       | inl h ↦ rw (h.0, unwritten ws slot (subst (λ k. NoneWrites k ws) h.1 none)) refl
-      | inr h ↦ rw h.0 (sym (none-after (last_write ws slot)))
+      | inr h ↦ rw h.0 (sym (option_or-None (last_write ws slot)))
     ]
-  where
-    none-after : (o : Option ℕ) → option_or o None ≡ o
-    none-after None = refl
-    none-after (Some k) = refl
 
 -- the slots of explicit groups come after those of the whole matches
 explicit-behind : (groups : List (List (Option (List ℕ)))) (k slot : ℕ) (ws : List (ℕ × ℕ)) → AreExplicit ws
@@ -62,7 +58,7 @@ explicit-behind groups k slot (w ∷ ws) all less = (apart, explicit-behind grou
 
 module _ (a : Automaton) where
   -- the path ends with a Match of the hit's pattern at the end of the hit, and its slots are those of the hit
-  pub record ToldHit (h : Hit) (p : List Pair) : Type 0 where
+  pub record ToldHit (h : PatternHit) (p : List Pair) : Type 0 where
     pub end : Pair
     pub ends : EndsWith end p
     pub at : end.1 ≡ h.trace.end
@@ -73,14 +69,14 @@ module _ (a : Automaton) where
     pub end_slot : slot_among a p (2 * h.pattern + 1) ≡ Some h.trace.end
     pub onward : h.start ≤ h.trace.end
 
-  abbrev pub TellsHit : Option Hit → Option (List Pair) → Type 0
+  abbrev pub TellsHit : Option PatternHit → Option (List Pair) → Type 0
   TellsHit None None = Unit {0}
   TellsHit None (Some p) = ⊥
   TellsHit (Some h) None = ⊥
   TellsHit (Some h) (Some p) = ToldHit h p
 
   -- the first of two
-  pub TellsHit-or : (o u : Option Hit) (r q : Option (List Pair)) → TellsHit o r → TellsHit u q
+  pub TellsHit-or : (o u : Option PatternHit) (r q : Option (List Pair)) → TellsHit o r → TellsHit u q
       → TellsHit (option_or o u) (option_or r q)
   TellsHit-or None u None q h k = k
   TellsHit-or None u (Some p) q h k = absurd h
@@ -88,7 +84,7 @@ module _ (a : Automaton) where
   TellsHit-or (Some t) u (Some p) q h k = h
 
   -- one more pair in front, which writes nothing
-  pub TellsHit-cons : (v : Pair) (o : Option Hit) (r : Option (List Pair)) → capture a v ≡ None → TellsHit o r
+  pub TellsHit-cons : (v : Pair) (o : Option PatternHit) (r : Option (List Pair)) → capture a v ≡ None → TellsHit o r
       → TellsHit o (option_map (λ p. v ∷ p) r)
   TellsHit-cons v None None none h = tt
   TellsHit-cons v None (Some p) none h = absurd h
@@ -105,12 +101,8 @@ module _ (a : Automaton) where
     onward = h.onward;
   }
     where
-      none-after : (o : Option ℕ) → option_or o None ≡ o
-      none-after None = refl
-      none-after (Some k) = refl
-
       same : (slot : ℕ) → slot_among a (v ∷ p) slot ≡ slot_among a p slot
-      same slot = rw none (none-after (slot_among a p slot))
+      same slot = rw none (option_or-None (slot_among a p slot))
 
 module _ (a : Automaton) (x : Search) (whole : x.end ≡ length x.haystack) where
   -- every pair of the list has a state after this one

@@ -13,10 +13,11 @@ use Rattle.thompson_nfa.specs.Automaton.{Automaton}
 use Rattle.nfa_paths.specs.Paths.{IsAnswer, IsFindAnswer}
 use Rattle.nfa_search_base.specs.Lists.{AreMatches}
 use Rattle.nfa_compiler.specs.Compiled.{IsCompiled, IsMeant}
-use Rattle.nfa_compiler.specs.Patterns.{Hit, found_at, found_by, found_in, hit_by, slots_of}
+use Rattle.nfa_compiler.specs.Patterns.{PatternHit, found_at, found_by, found_of_hit, hit_by, slots_of}
 use Rattle.nfa_compiler.specs.NameLaws.{IsNamed, captures_of, written_span}
 use Rattle.nfa_compiler.specs.StrHits.{str_hit}
 use Rattle.nfa_compiler.proofs.GroupLemmas.{name-written}
+use Rattle.nfa_compiler.proofs.CallLemmas.{hit-found, hits-found}
 use Rattle.nfa_compiler.proofs.NameLemmas.{groups-named}
 use Rattle.nfa_compiler.proofs.StrSearchLemmas.{all-str-matches, all-str-of-one, one-str-hit, starts-free, str-answer, str-match}
 
@@ -30,23 +31,15 @@ module _ (syntax : Config) (text : List ℕ) (nfa : Automaton) (haystack : List 
       str-match syntax (text ∷ []) (re ∷ []) nfa compiled (meant, tt) mode (whole haystack) refl valid
       (starts-free syntax (text ∷ []) (re ∷ []) nfa compiled (meant, tt) mode (whole haystack) refl valid free 0)
       found answer
-      ∙ ap found_in (one-str-hit re nfa (whole haystack) free refl refl)
-      ∙ both (find_str re haystack 0)
-    where
-      both : (o : Option Match) → found_in (option_map (hit_by 0) o) ≡ option_map found_by o
-      both None = refl
-      both (Some m) = refl
+      ∙ ap found_of_hit (one-str-hit re nfa (whole haystack) free refl refl)
+      ∙ hit-found (find_str re haystack 0)
 
   pub call-matches-in-str : (ms : List Found) → AreMatches nfa LeftmostFirst false (whole haystack) ms
       → ms ≡ map found_by (find_all_str re haystack)
   call-matches-in-str ms are =
       all-str-matches syntax (text ∷ []) (re ∷ []) nfa compiled (meant, tt) mode (whole haystack) refl valid free ms are
       ∙ ap (map found_at) (all-str-of-one re nfa (whole haystack) free refl refl refl)
-      ∙ both (find_all_str re haystack)
-    where
-      both : (ms : List Match) → map found_at (map (hit_by 0) ms) ≡ map found_by ms
-      both [] = refl
-      both (m ∷ ms) = ap (λ fs. found_by m ∷ fs) (both ms)
+      ∙ hits-found (find_all_str re haystack)
 
   -- the captures of a search of the whole `str`, at a name
   pub call-name-in-str : (captures : Captured) (name : List ℕ) (names : List (Option (List ℕ))) (group : ℕ)
@@ -57,7 +50,7 @@ module _ (syntax : Config) (text : List ℕ) (nfa : Automaton) (haystack : List 
   call-name-in-str captures name names group answer same room named is =
       of (find_str re haystack 0) (one-str-hit re nfa (whole haystack) free refl refl)
     where
-      hits : (captures.pattern ≡ option_map (λ (h : Hit). h.pattern) (str_hit (re ∷ []) nfa (whole haystack)))
+      hits : (captures.pattern ≡ option_map (λ (h : PatternHit). h.pattern) (str_hit (re ∷ []) nfa (whole haystack)))
           × (captures.slots ≡ slots_of nfa.groups (length captures.slots) (str_hit (re ∷ []) nfa (whole haystack)))
       hits =
           str-answer syntax (text ∷ []) (re ∷ []) nfa compiled (meant, tt) mode (whole haystack) refl valid
@@ -75,11 +68,11 @@ module _ (syntax : Config) (text : List ℕ) (nfa : Automaton) (haystack : List 
           → named_span captures name ≡ option_and_then (written_span group) o
       of None none =
           let gone : captures.pattern ≡ None =
-          hits.0 ∙ ap (option_map (λ (h : Hit). h.pattern)) none in
+          hits.0 ∙ ap (option_map (λ (h : PatternHit). h.pattern)) none in
           ap (option_and_then (λ pattern. option_and_then (λ g. group_span captures g)
           (group_named captures.groups pattern name))) gone
       of (Some m) some =
-          let pattern : captures.pattern ≡ Some 0 = hits.0 ∙ ap (option_map (λ (h : Hit). h.pattern)) some in
+          let pattern : captures.pattern ≡ Some 0 = hits.0 ∙ ap (option_map (λ (h : PatternHit). h.pattern)) some in
           let slots : captures.slots ≡ slots_of nfa.groups (slot_count nfa.groups) (Some (hit_by 0 m)) =
           hits.1 ∙ ap (λ n. slots_of nfa.groups n (str_hit (re ∷ []) nfa (whole haystack))) room
           ∙ ap (slots_of nfa.groups (slot_count nfa.groups)) some in

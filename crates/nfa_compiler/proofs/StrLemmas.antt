@@ -21,7 +21,7 @@ use Rattle.regex_search_core.specs.Search.{Search}
 use Rattle.regex_search_core.specs.declared.search.Anchored.{Anchored}
 use Rattle.regex_search_core.specs.declared.search.Anchored.TheVariants.{No, Yes, Pattern}
 use Rattle.nfa_compiler.specs.BoundaryHits.{boundary_hit_at_start, ends_on_boundary, expected_on_boundary, on_boundary, restarted_hit}
-use Rattle.nfa_compiler.specs.Patterns.{Hit, expected, first_hit, hit_at_start, hit_of, pick, pick_one}
+use Rattle.nfa_compiler.specs.Patterns.{PatternHit, expected, first_hit, hit_at_start, hit_of, pick, pick_one}
 use Rattle.nfa_compiler.specs.StrHits.{MatchesCharacters, at_boundary, expected_in_str, str_hit_at_start}
 use Rattle.nfa_compiler.proofs.BoundaryLemmas.{boundary-true}
 use Rattle.nfa_compiler.proofs.CharacterLemmas.{reads-on}
@@ -79,14 +79,14 @@ text-bytes haystack text = subst (All (λ b. b < 256)) text.1.1 (of text.0 text.
 -- hits of one start
 
 -- one of two that are the same
-either : (o : Option Hit) (b : Bool) → o ≡ (if b then o else o)
+either : (o : Option PatternHit) (b : Bool) → o ≡ (if b then o else o)
 either o true = refl
 either o false = refl
 
 module _ (haystack : List ℕ) (text : IsUtf8 haystack) where
   -- the hit ends on a boundary exactly if the position is one
-  abbrev EndsAs : ℕ → Option Hit → Type 0
-  EndsAs i o = (h : Hit) → o ≡ Some h → ends_on_boundary haystack h ≡ is_boundary haystack i
+  abbrev EndsAs : ℕ → Option PatternHit → Type 0
+  EndsAs i o = (h : PatternHit) → o ≡ Some h → ends_on_boundary haystack h ≡ is_boundary haystack i
 
   same-boundary : (re : Re) → MatchesCharacters re → (i j : ℕ) → Matches haystack re i j
       → is_boundary haystack j ≡ is_boundary haystack i
@@ -126,10 +126,11 @@ module _ (haystack : List ℕ) (text : IsUtf8 haystack) where
       pick_one-ends res (All-tail MatchesCharacters re res all) place k i h e
 
   -- a hit that ends on a boundary is one at a boundary
-  kept-at : (at : ℕ → Option Hit) (i : ℕ) → EndsAs i (at i) → on_boundary haystack (at i) ≡ at_boundary haystack at i
+  kept-at : (at : ℕ → Option PatternHit) (i : ℕ) → EndsAs i (at i) → on_boundary haystack (at i)
+      ≡ at_boundary haystack at i
   kept-at at i ends = of (at i) ends
     where
-      of : (o : Option Hit) → EndsAs i o → on_boundary haystack o ≡ (if is_boundary haystack i then o else None)
+      of : (o : Option PatternHit) → EndsAs i o → on_boundary haystack o ≡ (if is_boundary haystack i then o else None)
       of None ends = either None (is_boundary haystack i)
       of (Some h) ends = rw (ends h refl) refl
 
@@ -171,7 +172,7 @@ module _ (haystack : List ℕ) (text : IsUtf8 haystack) where
       pick_one-none res (All-tail MatchesCharacters re res all)
       (All-tail (λ r. IsTrue (always_reads r)) re res reads) place k i off
 
-  every-at : (at : ℕ → Option Hit) (i : ℕ) → (is_boundary haystack i ≡ false → at i ≡ None)
+  every-at : (at : ℕ → Option PatternHit) (i : ℕ) → (is_boundary haystack i ≡ false → at i ≡ None)
       → at i ≡ at_boundary haystack at i
   every-at at i none = of (is_boundary haystack i) refl
     where
@@ -179,7 +180,7 @@ module _ (haystack : List ℕ) (text : IsUtf8 haystack) where
       of true on = rw on refl
       of false off = rw off (none off)
 
-first-same : (f g : ℕ → Option Hit) → ((i : ℕ) → f i ≡ g i) → (n i : ℕ) → first_hit f n i ≡ first_hit g n i
+first-same : (f g : ℕ → Option PatternHit) → ((i : ℕ) → f i ≡ g i) → (n i : ℕ) → first_hit f n i ≡ first_hit g n i
 first-same f g same zero i = refl
 first-same f g same (suc n) i = ap₂ option_or (same i) (first-same f g same n (i + 1))
 
@@ -208,7 +209,7 @@ module _ (res : List Re) (all : All MatchesCharacters res) (bound : Bool) (x : S
           ≡ option_or (at_boundary x.haystack (pick x.haystack res 0) x.start) None
       here on = rw (count, on) (one (pick x.haystack res 0 x.start) (pick-ends x.haystack text res all 0 x.start))
         where
-          one : (o : Option Hit) → EndsAs x.haystack text x.start o
+          one : (o : Option PatternHit) → EndsAs x.haystack text x.start o
               → (if is_none_or o (ends_on_boundary x.haystack) then o
               else restarted_hit x.haystack (pick x.haystack res 0) (x.end - x.start) (x.start + 1))
               ≡ option_or o None

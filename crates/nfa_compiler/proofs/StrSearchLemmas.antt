@@ -27,10 +27,11 @@ use Rattle.nfa_search_base.specs.CapturesLists.{AreRows}
 use Rattle.nfa_search_base.specs.Lists.{AreMatches}
 use Rattle.nfa_compiler.specs.AllHits.{hits_from, row_of_hit}
 use Rattle.nfa_compiler.specs.BoundaryHits.{boundary_hit}
-use Rattle.nfa_compiler.specs.Compiled.{AreMeant, IsCompiled, IsRead, res_of}
+use Rattle.nfa_compiler.specs.Compiled.{AreMeant, IsCompiled, IsTreeOf, res_of}
 use Rattle.nfa_compiler.specs.Laws.{hit}
-use Rattle.nfa_compiler.specs.Patterns.{Hit, first_hit, found_at, found_in, hit_by, hit_of, pick, pick_one, slots_of}
+use Rattle.nfa_compiler.specs.Patterns.{PatternHit, first_hit, found_at, found_of_hit, hit_by, hit_of, pick, pick_one, slots_of}
 use Rattle.nfa_compiler.specs.StrHits.{MatchesCharacters, all_str_hits, at_boundary, expected_in_str, str_hit, str_hit_at_start}
+use Rattle.nfa_paths.proofs.TestLemmas.{is_plain}
 use Rattle.nfa_compiler.proofs.AllLemmas.{hits-are-matches}
 use Rattle.nfa_compiler.proofs.AllSearchLemmas.{matches-of, rows-of}
 use Rattle.nfa_compiler.proofs.BoundLemmas.{LiesFrom}
@@ -45,7 +46,7 @@ use Rattle.nfa_compiler.proofs.StrLemmas.{boundary-is-str, hit-is-str, text-byte
 
 module _ (x : Search) (bytes : All (λ b. b < 256) x.haystack) (res others : List Re) (bound : Bool)
     (same : AllZip SameCaptures res others) where
-  at-alike : (at other : ℕ → Option Hit) → ((i : ℕ) → AreAlike (at i) (other i)) → (i : ℕ)
+  at-alike : (at other : ℕ → Option PatternHit) → ((i : ℕ) → AreAlike (at i) (other i)) → (i : ℕ)
       → AreAlike (at_boundary x.haystack at i) (at_boundary x.haystack other i)
   at-alike at other alike i = of (is_boundary x.haystack i)
     where
@@ -80,7 +81,7 @@ module _ (x : Search) (bytes : All (λ b. b < 256) x.haystack) (res others : Lis
 
 -- the trees that are read under `utf8`
 pub trees-match : (syntax : Config) → syntax.utf8 ≡ true → (texts : List (List ℕ)) (trees : List Parsed)
-    → AllZip (IsRead syntax) texts trees → All MatchesCharacters (res_of trees)
+    → AllZip (IsTreeOf syntax) texts trees → All MatchesCharacters (res_of trees)
 trees-match syntax mode [] [] read = All-nil MatchesCharacters
 trees-match syntax mode [] (tree ∷ trees) read = absurd read
 trees-match syntax mode (text ∷ texts) [] read = absurd read
@@ -88,6 +89,17 @@ trees-match syntax mode (text ∷ texts) (tree ∷ trees) read =
     All-cons MatchesCharacters (meaning tree.hir) (res_of trees)
     (tree-matches-characters tree.hir (rw mode at read.0.formed))
     (trees-match syntax mode texts trees read.1)
+
+-- if the NFA does not match the empty string, each tree always reads a byte
+pub trees-read : (syntax : Config) (texts : List (List ℕ)) (nfa : Automaton) (compiled : IsCompiled syntax texts nfa)
+    → nfa.utf8 ≡ true → is_utf8_empty nfa ≡ false → All (λ re. IsTrue (always_reads re)) (res_of compiled.trees)
+trees-read syntax texts nfa compiled mode anywhere =
+    All-map (λ re. IsTrue (always_reads re)) (λ (t : Parsed). meaning t.hir) compiled.trees
+    (compiled.always_read (of nfa.has_empty (rw mode at anywhere)))
+  where
+    of : (b : Bool) → b && true ≡ false → b ≡ false
+    of true never = never
+    of false e = refl
 
 module _ (syntax : Config) (texts : List (List ℕ)) (res : List Re) (nfa : Automaton)
     (compiled : IsCompiled syntax texts nfa) (meant : AreMeant syntax texts res) (mode : nfa.utf8 ≡ true) where
@@ -100,15 +112,6 @@ module _ (syntax : Config) (texts : List (List ℕ)) (res : List Re) (nfa : Auto
   own-match : All MatchesCharacters own
   own-match = trees-match syntax (sym compiled.mode ∙ mode) texts compiled.trees compiled.read
 
-  -- the NFA does not match the empty string: each tree always reads a byte
-  own-read : is_utf8_empty nfa ≡ false → All (λ re. IsTrue (always_reads re)) own
-  own-read anywhere = All-map (λ re. IsTrue (always_reads re)) (λ (t : Parsed). meaning t.hir) compiled.trees
-      (compiled.always_read (of nfa.has_empty (rw mode at anywhere)))
-    where
-      of : (b : Bool) → b && true ≡ false → b ≡ false
-      of true never = never
-      of false e = refl
-
   module _ (x : Search) (whole : x.end ≡ length x.haystack) (text : IsUtf8 x.haystack)
       (starts : bound ≡ true → x.anchored ≡ No → IsBoundary x.haystack x.start) where
     own-alike : AreAlike (str_hit own nfa x) (str_hit res nfa x)
@@ -116,26 +119,27 @@ module _ (syntax : Config) (texts : List (List ℕ)) (res : List Re) (nfa : Auto
         (all-meant syntax texts compiled.trees res compiled.read meant)
 
     pub str-match : (found : Option Found) → IsFindAnswer nfa LeftmostFirst false x found
-        → found ≡ found_in (str_hit res nfa x)
+        → found ≡ found_of_hit (str_hit res nfa x)
     str-match found answer =
         of (is_utf8_empty nfa) refl ∙ found-alike (str_hit own nfa x) (str_hit res nfa x) own-alike
       where
-        of : (b : Bool) → is_utf8_empty nfa ≡ b → found ≡ found_in (str_hit own nfa x)
+        of : (b : Bool) → is_utf8_empty nfa ≡ b → found ≡ found_of_hit (str_hit own nfa x)
         of true is =
             boundary-match own nfa compiled.made is x whole found answer
-            ∙ ap found_in (boundary-is-str own own-match bound x text starts)
+            ∙ ap found_of_hit (boundary-is-str own own-match bound x text starts)
         of false is =
             match-is own nfa compiled.made x whole is found answer
-            ∙ ap found_in (hit-is-str own own-match bound x text (own-read is))
+            ∙ ap found_of_hit (hit-is-str own own-match bound x text (trees-read syntax texts nfa compiled mode is))
 
     pub str-answer : (pattern : Option ℕ) (slots : List (Option ℕ)) → IsAnswer nfa LeftmostFirst false x pattern slots
-        → (pattern ≡ option_map (λ (h : Hit). h.pattern) (str_hit res nfa x))
+        → (pattern ≡ option_map (λ (h : PatternHit). h.pattern) (str_hit res nfa x))
         × (slots ≡ slots_of nfa.groups (length slots) (str_hit res nfa x))
     str-answer pattern slots answer = of (is_utf8_empty nfa) refl
       where
-        alike : (o : Option Hit) → o ≡ str_hit own nfa x → ((h : Hit) → o ≡ Some h → h.pattern < length nfa.groups)
-            → (pattern ≡ option_map (λ (h : Hit). h.pattern) o) × (slots ≡ slots_of nfa.groups (length slots) o)
-            → (pattern ≡ option_map (λ (h : Hit). h.pattern) (str_hit res nfa x))
+        alike : (o : Option PatternHit) → o ≡ str_hit own nfa x
+            → ((h : PatternHit) → o ≡ Some h → h.pattern < length nfa.groups)
+            → (pattern ≡ option_map (λ (h : PatternHit). h.pattern) o) × (slots ≡ slots_of nfa.groups (length slots) o)
+            → (pattern ≡ option_map (λ (h : PatternHit). h.pattern) (str_hit res nfa x))
             × (slots ≡ slots_of nfa.groups (length slots) (str_hit res nfa x))
         alike o is known a =
             let like : AreAlike o (str_hit res nfa x) =
@@ -145,29 +149,26 @@ module _ (syntax : Config) (texts : List (List ℕ)) (res : List Re) (nfa : Auto
             )
 
         of : (b : Bool) → is_utf8_empty nfa ≡ b
-            → (pattern ≡ option_map (λ (h : Hit). h.pattern) (str_hit res nfa x))
+            → (pattern ≡ option_map (λ (h : PatternHit). h.pattern) (str_hit res nfa x))
             × (slots ≡ slots_of nfa.groups (length slots) (str_hit res nfa x))
         of true is =
             alike (boundary_hit own nfa x) (boundary-is-str own own-match bound x text starts)
             (boundary-known own nfa compiled.made is x whole answer.restarts answer.path answer.answers)
             (boundary-answer own nfa compiled.made is x whole pattern slots answer)
         of false is =
-            alike (hit own nfa x) (hit-is-str own own-match bound x text (own-read is))
+            alike (hit own nfa x) (hit-is-str own own-match bound x text (trees-read syntax texts nfa compiled mode is))
             (expected-known own nfa compiled.made x whole)
             (answer-is own nfa compiled.made x whole is pattern slots answer)
 
   -- all of them
 
   module _ (x : Search) (whole : x.end ≡ length x.haystack) (text : IsUtf8 x.haystack) (free : bound ≡ false) where
-    lies : (i : ℕ) (h : Hit) → str_hit res nfa (record x { start = i }) ≡ Some h
+    lies : (i : ℕ) (h : PatternHit) → str_hit res nfa (record x { start = i }) ≡ Some h
         → LiesFrom x.haystack i (length x.haystack + 1) h
     lies i h = str-lies res bound (record x { start = i }) h whole
 
     pub starts-free : (i : ℕ) → bound ≡ true → x.anchored ≡ No → IsBoundary x.haystack i
-    starts-free i is = absurd (never bound free is)
-      where
-        never : (b : Bool) → b ≡ false → b ≡ true → ⊥
-        never b off on = cc
+    starts-free i is = absurd (is_plain bound free is)
 
     pub all-str-matches : (ms : List Found) → AreMatches nfa LeftmostFirst false x ms
         → ms ≡ map found_at (all_str_hits res nfa x)

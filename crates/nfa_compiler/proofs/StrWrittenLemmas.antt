@@ -22,14 +22,15 @@ use Rattle.regex_syntax.specs.declared.Parsed.{Parsed}
 use Rattle.regex_syntax.proofs.CapturesLemmas.{alike_sym}
 use Rattle.thompson_nfa.specs.Automaton.{Automaton}
 use Rattle.nfa_paths.specs.Paths.{is_utf8_empty, IsBoolAnswer}
-use Rattle.nfa_compiler.specs.Compiled.{IsCompiled, IsRead, res_of}
+use Rattle.nfa_compiler.specs.Compiled.{IsCompiled, IsTreeOf, res_of}
 use Rattle.nfa_compiler.specs.Patterns.{hit_by}
 use Rattle.nfa_compiler.specs.StrHits.{MatchesCharacters, str_hit}
 use Rattle.nfa_compiler.specs.Written.{IsReadAs, MatchesInStr}
+use Rattle.nfa_paths.proofs.TestLemmas.{is_plain}
 use Rattle.nfa_compiler.proofs.BoundarySearchLemmas.{boundary-found}
 use Rattle.nfa_compiler.proofs.SearchLemmas.{found-is}
 use Rattle.nfa_compiler.proofs.StrLemmas.{boundary-is-str, hit-is-str, text-bytes}
-use Rattle.nfa_compiler.proofs.StrSearchLemmas.{one-str-hit, trees-match}
+use Rattle.nfa_compiler.proofs.StrSearchLemmas.{one-str-hit, trees-match, trees-read}
 use Rattle.nfa_compiler.proofs.WrittenLemmas.{match-alike, read-as}
 
 -- `find_str` gives a match exactly if there is one from a boundary
@@ -76,19 +77,8 @@ module _ (syntax : Config) (text : List ℕ) (nfa : Automaton) (haystack : List 
   own-match : All MatchesCharacters trees-mean
   own-match = trees-match syntax (sym compiled.mode ∙ mode) (text ∷ []) compiled.trees compiled.read
 
-  own-read : is_utf8_empty nfa ≡ false → All (λ re. IsTrue (always_reads re)) trees-mean
-  own-read anywhere = All-map (λ re. IsTrue (always_reads re)) (λ (t : Parsed). meaning t.hir) compiled.trees
-      (compiled.always_read (of nfa.has_empty (rw mode at anywhere)))
-    where
-      of : (b : Bool) → b && true ≡ false → b ≡ false
-      of true never = never
-      of false e = refl
-
   never-bound : bound ≡ true → (whole haystack).anchored ≡ No → IsBoundary haystack 0
-  never-bound is = absurd (of bound free is)
-    where
-      of : (b : Bool) → b ≡ false → b ≡ true → ⊥
-      of b off on = cc
+  never-bound is = absurd (is_plain bound free is)
 
   str-found : (found : Bool) → IsBoolAnswer nfa LeftmostFirst false (whole haystack) found
       → found ≡ is_some (str_hit trees-mean nfa (whole haystack))
@@ -100,10 +90,11 @@ module _ (syntax : Config) (text : List ℕ) (nfa : Automaton) (haystack : List 
           ∙ ap is_some (boundary-is-str trees-mean own-match bound (whole haystack) valid never-bound)
       of false is =
           found-is trees-mean nfa compiled.made (whole haystack) refl is found answer
-          ∙ ap is_some (hit-is-str trees-mean own-match bound (whole haystack) valid (own-read is))
+          ∙ ap is_some (hit-is-str trees-mean own-match bound (whole haystack) valid
+          (trees-read syntax (text ∷ []) nfa compiled mode is))
 
   module _ (re : Re) (is : IsReadAs syntax text re) (found : Bool) where
-    of-tree : (trees : List Parsed) → AllZip (IsRead syntax) (text ∷ []) trees
+    of-tree : (trees : List Parsed) → AllZip (IsTreeOf syntax) (text ∷ []) trees
         → found ≡ is_some (str_hit (res_of trees) nfa (whole haystack))
         → (found ≡ true) ↔ MatchesInStr haystack re
     of-tree [] read e = absurd read

@@ -14,7 +14,7 @@ use Rattle.thompson_nfa.specs.Automaton.{Automaton}
 use Rattle.nfa_paths.specs.Paths.{is_utf8_empty, IsAnswer, IsFindAnswer}
 use Rattle.nfa_compiler.specs.Compiled.{AreMeant, IsCompiled, res_of}
 use Rattle.nfa_compiler.specs.Laws.{hit}
-use Rattle.nfa_compiler.specs.Patterns.{Hit, expected, first_hit, found_in, hit_by, hit_of, pick, slots_of}
+use Rattle.nfa_compiler.specs.Patterns.{PatternHit, expected, first_hit, found_of_hit, hit_by, hit_of, pick, slots_of}
 use Rattle.nfa_compiler.proofs.MeantLemmas.{AreAlike, all-meant, expected-alike, found-alike, pattern-alike, slots-alike}
 use Rattle.nfa_compiler.proofs.SearchLemmas.{answer-is, match-is, expected-known}
 
@@ -26,7 +26,7 @@ module _ (syntax : Config) (texts : List (List ℕ)) (res : List Re) (nfa : Auto
       (all-meant syntax texts compiled.trees res compiled.read meant)
 
   pub text-answer : (pattern : Option ℕ) (slots : List (Option ℕ)) → IsAnswer nfa LeftmostFirst false x pattern slots
-      → (pattern ≡ option_map (λ (h : Hit). h.pattern) (hit res nfa x))
+      → (pattern ≡ option_map (λ (h : PatternHit). h.pattern) (hit res nfa x))
       × (slots ≡ slots_of nfa.groups (length slots) (hit res nfa x))
   text-answer pattern slots answer =
       let a = answer-is (res_of compiled.trees) nfa compiled.made x whole anywhere pattern slots answer in (
@@ -36,7 +36,7 @@ module _ (syntax : Config) (texts : List (List ℕ)) (res : List Re) (nfa : Auto
       )
 
   pub text-match : (found : Option Found) → IsFindAnswer nfa LeftmostFirst false x found
-      → found ≡ found_in (hit res nfa x)
+      → found ≡ found_of_hit (hit res nfa x)
   text-match found answer =
       match-is (res_of compiled.trees) nfa compiled.made x whole anywhere found answer
       ∙ found-alike (hit (res_of compiled.trees) nfa x) (hit res nfa x) alike

@@ -18,7 +18,7 @@ writes_along a [] = []
 writes_along a (v ∷ p) = write_of (capture a v) v.1 ++ writes_along a p
 
 -- nothing more to fall back on
-option_or-None : (o : Option ℕ) → option_or o None ≡ o
+pub option_or-None : (o : Option ℕ) → option_or o None ≡ o
 option_or-None None = refl
 option_or-None (Some k) = refl
 

@@ -22,7 +22,7 @@ use Rattle.regex_syntax.specs.declared.Parsed.{Parsed}
 use Rattle.regex_syntax.proofs.CapturesLemmas.{◌also◌, alike_of_same, alike_sym}
 use Rattle.thompson_nfa.specs.Automaton.{Automaton}
 use Rattle.nfa_paths.specs.Paths.{is_utf8_empty, IsBoolAnswer, IsScanAnswer}
-use Rattle.nfa_compiler.specs.Compiled.{IsCompiled, IsRead, res_of}
+use Rattle.nfa_compiler.specs.Compiled.{IsCompiled, IsTreeOf, res_of}
 use Rattle.nfa_compiler.specs.KindLaws.{MatchesSomewhere}
 use Rattle.nfa_compiler.specs.Written.{IsReadAs, MatchesIn}
 use Rattle.nfa_compiler.proofs.ExistsLemmas.{anywhere-ends, path-iff}
@@ -36,7 +36,7 @@ read-one : (b : Re) (hir : Hir) (limit : ℕ) (names : Names) (o : Option (Neste
 read-one b hir limit names None read is = absurd read
 read-one b hir limit names (Some found) read is = read.1 also alike_of_same is.matches
 
-pub read-as : (syntax : Config) (text : List ℕ) (tree : Parsed) (re : Re) → IsRead syntax text tree
+pub read-as : (syntax : Config) (text : List ℕ) (tree : Parsed) (re : Re) → IsTreeOf syntax text tree
     → IsReadAs syntax text re → SameCaptures (meaning tree.hir) re
 unfolding Reads
 read-as syntax text tree re read is =
@@ -72,7 +72,7 @@ module _ (syntax : Config) (text : List ℕ) (nfa : Automaton) (haystack : List 
     (free : (nfa.anchored == nfa.unanchored) ≡ false) (bytes : All (λ b. b < 256) haystack) (re : Re)
     (is : IsReadAs syntax text re) where
   -- the one tree matches somewhere exactly if the pattern does
-  somewhere : (trees : List Parsed) → AllZip (IsRead syntax) (text ∷ []) trees
+  somewhere : (trees : List Parsed) → AllZip (IsTreeOf syntax) (text ∷ []) trees
       → MatchesSomewhere (res_of trees) (nfa.anchored == nfa.unanchored) (whole haystack) ↔ MatchesIn haystack re
   somewhere [] read = absurd read
   somewhere (tree ∷ (other ∷ trees)) read = absurd read.1

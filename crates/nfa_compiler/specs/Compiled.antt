@@ -65,7 +65,7 @@ pub record IsNfaOf (res : List Re) (nfa : Automaton) : Type 0 where
   pub chooses : Chooses nfa.states nfa.anchored nfa.patterns
 
 -- The tree and the names are what the grammar reads in the text. Under `utf8` the tree matches only UTF-8.
-pub record IsRead (syntax : Config) (text : List ℕ) (tree : Parsed) : Type 0 where
+pub record IsTreeOf (syntax : Config) (text : List ℕ) (tree : Parsed) : Type 0 where
   pub reads : Reads syntax text tree.hir (map (option_map string_bytes) tree.names.items)
   pub formed : IsWellFormed syntax.utf8 tree.hir
 
@@ -76,7 +76,7 @@ AlwaysReads tree = IsTrue (always_reads (meaning tree.hir))
 -- the NFA is made of trees that are read from these texts
 pub record IsCompiled (syntax : Config) (texts : List (List ℕ)) (nfa : Automaton) : Type 0 where
   pub trees : List Parsed
-  pub read : AllZip (IsRead syntax) texts trees
+  pub read : AllZip (IsTreeOf syntax) texts trees
   pub made : IsNfaOf (res_of trees) nfa
   pub groups : nfa.groups ≡ groups_of trees
   pub mode : nfa.utf8 ≡ syntax.utf8

@@ -15,14 +15,14 @@ use Rattle.nfa_compiler.specs.Compiled.{AreMeant, IsCompiled, IsNfaOf}
 use Rattle.regex_hir.specs.Find.{find}
 use Rattle.regex_search_core.specs.declared.search.Anchored.TheVariants.{No}
 use Rattle.regex_syntax.specs.declared.Config.{Config}
-use Rattle.nfa_compiler.specs.Patterns.{Hit, expected, slots_of, found_in, hit_by}
+use Rattle.nfa_compiler.specs.Patterns.{PatternHit, expected, slots_of, found_of_hit, hit_by}
 
 -- each assertion holds exactly if its counterpart does
 abbrev pub LooksAgree : Type 0
 LooksAgree = (l : theirs.Look) (hay : List ℕ) (i : ℕ) → i ≤ length hay → look_holds (look_of l) hay i ≡ holds l hay i
 
 -- the hit that a search has to find in the rest of a haystack
-abbrev pub hit : List Re → Automaton → Search → Option Hit
+abbrev pub hit : List Re → Automaton → Search → Option PatternHit
 hit res nfa x = expected res (nfa.anchored == nfa.unanchored) x
 
 -- a leftmost first search that goes on to the end of the haystack, without `earliest`
@@ -37,7 +37,7 @@ AnswersAreHits =
     (res : List Re) (nfa : Automaton) (kind : MatchKind) (earliest : Bool) (x : Search) (pattern : Option ℕ)
     (slots : List (Option ℕ)) → IsNfaOf res nfa → is_utf8_empty nfa ≡ false → IsLeftmostToTheEnd kind earliest x
     → IsAnswer nfa kind earliest x pattern slots
-    → (pattern ≡ option_map (λ (h : Hit). h.pattern) (hit res nfa x))
+    → (pattern ≡ option_map (λ (h : PatternHit). h.pattern) (hit res nfa x))
     × (slots ≡ slots_of nfa.groups (length slots) (hit res nfa x))
 
 -- its match is that of the hit
@@ -45,7 +45,7 @@ abbrev pub MatchesAreHits : Type 0
 MatchesAreHits =
     (res : List Re) (nfa : Automaton) (kind : MatchKind) (earliest : Bool) (x : Search) (found : Option Found)
     → IsNfaOf res nfa → is_utf8_empty nfa ≡ false → IsLeftmostToTheEnd kind earliest x
-    → IsFindAnswer nfa kind earliest x found → found ≡ found_in (hit res nfa x)
+    → IsFindAnswer nfa kind earliest x found → found ≡ found_of_hit (hit res nfa x)
 
 -- it finds something exactly if there is a hit
 abbrev pub FindsHits : Type 0
@@ -62,7 +62,7 @@ TextsAreAnswered =
     → AreMeant syntax texts res → is_utf8_empty nfa ≡ false → IsLeftmostToTheEnd kind earliest x
     → All (λ b. b < 256) x.haystack
     → IsAnswer nfa kind earliest x pattern slots
-    → (pattern ≡ option_map (λ (h : Hit). h.pattern) (hit res nfa x))
+    → (pattern ≡ option_map (λ (h : PatternHit). h.pattern) (hit res nfa x))
     × (slots ≡ slots_of nfa.groups (length slots) (hit res nfa x))
 
 abbrev pub TextsAreMatched : Type 0
@@ -70,7 +70,7 @@ TextsAreMatched =
     (syntax : Config) (texts : List (List ℕ)) (res : List Re) (nfa : Automaton) (kind : MatchKind) (earliest : Bool)
     (x : Search) (found : Option Found) → IsCompiled syntax texts nfa → AreMeant syntax texts res
     → is_utf8_empty nfa ≡ false → IsLeftmostToTheEnd kind earliest x → All (λ b. b < 256) x.haystack
-    → IsFindAnswer nfa kind earliest x found → found ≡ found_in (hit res nfa x)
+    → IsFindAnswer nfa kind earliest x found → found ≡ found_of_hit (hit res nfa x)
 
 -- The hit of one pattern in a search that is not bound to its start is what `find` of `regex_hir` gives.
 abbrev pub OneHitIsFind : Type 0

@@ -11,7 +11,7 @@ use Rattle.regex_syntax.specs.declared.Config.{Config}
 use Rattle.regex_syntax.specs.Grammar.{read}
 use Rattle.thompson_nfa.specs.Automaton.{Automaton}
 use Rattle.nfa_compiler.specs.Compiled.{IsCompiled}
-use Rattle.nfa_compiler.specs.Patterns.{Hit, slots_of}
+use Rattle.nfa_compiler.specs.Patterns.{PatternHit, slots_of}
 
 -- the grammar reads these names in the text, from group 0 on
 abbrev pub IsNamed : Config → List ℕ → List (Option (List ℕ)) → Type 0
@@ -34,7 +34,7 @@ span_between start end =
     (λ e. if nat_le s e then Some (record { start = s; end = e }) else None) end) start
 
 -- the captures of a hit, with all slots of the NFA
-abbrev pub captures_of : Automaton → Hit → Captured
+abbrev pub captures_of : Automaton → PatternHit → Captured
 captures_of nfa h =
     record {
       groups = nfa.groups;
@@ -55,12 +55,12 @@ written_span group m =
 
 -- the hit of a search
 abbrev pub HitOf : Type 0
-HitOf = List Re → Automaton → Search → Option Hit
+HitOf = List Re → Automaton → Search → Option PatternHit
 
 -- For an explicit group, captures of a hit give the positions that the match last wrote for it.
 abbrev pub GroupsAreWritten : HitOf → Type 0
 GroupsAreWritten hit_of_search =
-    (res : List Re) (nfa : Automaton) (x : Search) (h : Hit) (group : ℕ) → length nfa.groups ≡ length res
+    (res : List Re) (nfa : Automaton) (x : Search) (h : PatternHit) (group : ℕ) → length nfa.groups ≡ length res
     → hit_of_search res nfa x ≡ Some h
     → 1 ≤ group → group ≤ length (groups_at nfa.groups h.pattern)
     → group_span (captures_of nfa h) group
@@ -69,7 +69,7 @@ GroupsAreWritten hit_of_search =
 -- The same for a name: for the first group with this name.
 abbrev pub NamesAreWritten : HitOf → Type 0
 NamesAreWritten hit_of_search =
-    (res : List Re) (nfa : Automaton) (x : Search) (h : Hit) (name : List ℕ) (group : ℕ)
+    (res : List Re) (nfa : Automaton) (x : Search) (h : PatternHit) (name : List ℕ) (group : ℕ)
     → length nfa.groups ≡ length res → hit_of_search res nfa x ≡ Some h
     → group_named nfa.groups h.pattern name ≡ Some group
     → named_span (captures_of nfa h) name

@@ -11,38 +11,38 @@ use Rattle.regex_search_core.specs.declared.search.Anchored.{Anchored}
 use Rattle.regex_search_core.specs.declared.search.Anchored.TheVariants.{No, Yes, Pattern}
 
 -- a match: its pattern, its start, and its trace
-pub record Hit : Type 0 where
+pub record PatternHit : Type 0 where
   pub pattern : ℕ
   pub start : ℕ
   pub trace : Trace
 
 -- the hit of this pattern at this start, if there is one
-abbrev pub hit_of : ℕ → ℕ → Option Trace → Option Hit
+abbrev pub hit_of : ℕ → ℕ → Option Trace → Option PatternHit
 hit_of pattern start trace = option_map (λ t. record { pattern = pattern; start = start; trace = t }) trace
 
 -- The hit of the first pattern that matches at i. The patterns are numbered from k on.
-abbrev pub pick : List ℕ → List Re → ℕ → ℕ → Option Hit
+abbrev pub pick : List ℕ → List Re → ℕ → ℕ → Option PatternHit
 pick haystack [] k i = None
 pick haystack (re ∷ res) k i = option_or (hit_of k i (attempt haystack re accept i)) (pick haystack res (k + 1) i)
 
 -- the first hit at any of the n positions from i on
-abbrev pub first_hit : (ℕ → Option Hit) → ℕ → ℕ → Option Hit
+abbrev pub first_hit : (ℕ → Option PatternHit) → ℕ → ℕ → Option PatternHit
 first_hit at zero i = None
 first_hit at (suc n) i = option_or (at i) (first_hit at n (i + 1))
 
 -- the hit of only this pattern at i; none for an unknown pattern
-abbrev pub pick_one : List ℕ → List Re → ℕ → ℕ → Option Hit
+abbrev pub pick_one : List ℕ → List Re → ℕ → ℕ → Option PatternHit
 pick_one haystack res k i = option_and_then (λ re. hit_of k i (attempt haystack re accept i)) (slice_get res k)
 
 -- The hit that a search for the patterns has to find. `bound` says that each search is bound to its start.
-abbrev pub hit_at_start : List Re → Bool → Search → Anchored → Option Hit
+abbrev pub hit_at_start : List Re → Bool → Search → Anchored → Option PatternHit
 hit_at_start res bound x No =
     first_hit (pick x.haystack res 0) (if bound then 1 else (x.end - x.start + 1)) x.start
 hit_at_start res bound x Yes = pick x.haystack res 0 x.start
 hit_at_start res bound x (Pattern pattern) = pick_one x.haystack res (number_of pattern) x.start
 
 -- the same; none if the span starts after its end
-unfoldable pub expected : List Re → Bool → Search → Option Hit
+unfoldable pub expected : List Re → Bool → Search → Option PatternHit
 expected res bound x = if nat_lt x.end x.start then None else hit_at_start res bound x x.anchored
 
 -- the number of the pattern's slot among those of all: group n of a pattern has the slots 2n and 2n + 1
@@ -52,26 +52,26 @@ place_of groups pattern slot =
     else (2 * length groups + 2 * sum_by length (take pattern groups) + (slot - 2))
 
 -- each slot and position that the hit writes, the bounds of the whole match first
-abbrev pub writes_of : List (List (Option (List ℕ))) → Hit → List (ℕ × ℕ)
+abbrev pub writes_of : List (List (Option (List ℕ))) → PatternHit → List (ℕ × ℕ)
 writes_of groups h =
     (2 * h.pattern, h.start) ∷ (2 * h.pattern + 1, h.trace.end)
     ∷ map (λ w. (place_of groups h.pattern w.0, w.1)) h.trace.writes
 
 -- the first `count` slots of the hit: each has the position last written there
-unfoldable pub slots_of : List (List (Option (List ℕ))) → ℕ → Option Hit → List (Option ℕ)
+unfoldable pub slots_of : List (List (Option (List ℕ))) → ℕ → Option PatternHit → List (Option ℕ)
 slots_of groups count None = replicate count None
 slots_of groups count (Some h) = map (last_write (writes_of groups h)) (range_with_len 0 count)
 
 -- the pattern and the span of the hit
-abbrev pub found_at : Hit → Found
+abbrev pub found_at : PatternHit → Found
 found_at h = record { pattern = h.pattern; start = h.start; end = h.trace.end }
 
 -- the same, if there is a hit
-abbrev pub found_in : Option Hit → Option Found
-found_in h = option_map found_at h
+abbrev pub found_of_hit : Option PatternHit → Option Found
+found_of_hit h = option_map found_at h
 
 -- a match of `regex_hir` as the hit of this pattern
-abbrev pub hit_by : ℕ → Match → Hit
+abbrev pub hit_by : ℕ → Match → PatternHit
 hit_by pattern m = record { pattern = pattern; start = m.start; trace = m.trace }
 
 -- a match of `regex_hir` as a match of pattern 0

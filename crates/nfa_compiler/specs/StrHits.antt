@@ -10,7 +10,7 @@ use Rattle.regex_search_core.specs.declared.search.Anchored.{Anchored}
 use Rattle.regex_search_core.specs.declared.search.Anchored.TheVariants.{No, Yes, Pattern}
 use Rattle.thompson_nfa.specs.Automaton.{Automaton}
 use Rattle.nfa_compiler.specs.AllHits.{hits_from}
-use Rattle.nfa_compiler.specs.Patterns.{Hit, first_hit, pick, pick_one}
+use Rattle.nfa_compiler.specs.Patterns.{PatternHit, first_hit, pick, pick_one}
 
 -- In a `str` the pattern matches whole characters: a match that starts on a boundary ends on one, and one that starts
 -- inside a codepoint is empty.
@@ -25,11 +25,11 @@ abbrev pub StartsOnBoundary : Automaton → Search → Type 0
 StartsOnBoundary nfa x = (nfa.anchored == nfa.unanchored) ≡ true → x.anchored ≡ No → IsBoundary x.haystack x.start
 
 -- the hit at i, if i is a boundary of the haystack
-abbrev pub at_boundary : List ℕ → (ℕ → Option Hit) → ℕ → Option Hit
+abbrev pub at_boundary : List ℕ → (ℕ → Option PatternHit) → ℕ → Option PatternHit
 at_boundary haystack at i = if is_boundary haystack i then at i else None
 
 -- What a search for the patterns finds. `bound` says that each search is bound to its start.
-abbrev pub str_hit_at_start : List Re → Bool → Search → Anchored → Option Hit
+abbrev pub str_hit_at_start : List Re → Bool → Search → Anchored → Option PatternHit
 str_hit_at_start res bound x No =
     first_hit (at_boundary x.haystack (pick x.haystack res 0)) (if bound then 1 else (x.end - x.start + 1)) x.start
 str_hit_at_start res bound x Yes = at_boundary x.haystack (pick x.haystack res 0) x.start
@@ -37,14 +37,14 @@ str_hit_at_start res bound x (Pattern pattern) =
     at_boundary x.haystack (pick_one x.haystack res (number_of pattern)) x.start
 
 -- the same; none if the span starts after its end
-unfoldable pub expected_in_str : List Re → Bool → Search → Option Hit
+unfoldable pub expected_in_str : List Re → Bool → Search → Option PatternHit
 expected_in_str res bound x = if nat_lt x.end x.start then None else str_hit_at_start res bound x x.anchored
 
 -- what a search of the NFA finds in a `str`
-abbrev pub str_hit : List Re → Automaton → Search → Option Hit
+abbrev pub str_hit : List Re → Automaton → Search → Option PatternHit
 str_hit res nfa x = expected_in_str res (nfa.anchored == nfa.unanchored) x
 
 -- all hits of a search of a `str`, from left to right
-abbrev pub all_str_hits : List Re → Automaton → Search → List Hit
+abbrev pub all_str_hits : List Re → Automaton → Search → List PatternHit
 all_str_hits res nfa x =
     hits_from (λ i. str_hit res nfa (record x { start = i })) (length x.haystack + 1) (str_hit res nfa x)

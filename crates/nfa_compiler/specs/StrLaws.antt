@@ -16,7 +16,7 @@ use Rattle.nfa_search_base.specs.Lists.{AreMatches}
 use Rattle.nfa_compiler.specs.AllHits.{row_of_hit}
 use Rattle.nfa_compiler.specs.Compiled.{AreMeant, IsCompiled}
 use Rattle.nfa_compiler.specs.Laws.{IsLeftmostToTheEnd}
-use Rattle.nfa_compiler.specs.Patterns.{Hit, found_at, found_in, hit_by, slots_of}
+use Rattle.nfa_compiler.specs.Patterns.{PatternHit, found_at, found_of_hit, hit_by, slots_of}
 use Rattle.nfa_compiler.specs.StrHits.{StartsOnBoundary, all_str_hits, str_hit}
 
 -- the pattern and the slots of a search are those of the hit
@@ -26,7 +26,7 @@ StrsAreAnswered =
     (x : Search) (pattern : Option ℕ) (slots : List (Option ℕ)) → IsCompiled syntax texts nfa
     → AreMeant syntax texts res → nfa.utf8 ≡ true → IsLeftmostToTheEnd kind earliest x → IsUtf8 x.haystack
     → StartsOnBoundary nfa x → IsAnswer nfa kind earliest x pattern slots
-    → (pattern ≡ option_map (λ (h : Hit). h.pattern) (str_hit res nfa x))
+    → (pattern ≡ option_map (λ (h : PatternHit). h.pattern) (str_hit res nfa x))
     × (slots ≡ slots_of nfa.groups (length slots) (str_hit res nfa x))
 
 -- its match is that of the hit
@@ -35,7 +35,7 @@ StrsAreMatched =
     (syntax : Config) (texts : List (List ℕ)) (res : List Re) (nfa : Automaton) (kind : MatchKind) (earliest : Bool)
     (x : Search) (found : Option Found) → IsCompiled syntax texts nfa → AreMeant syntax texts res → nfa.utf8 ≡ true
     → IsLeftmostToTheEnd kind earliest x → IsUtf8 x.haystack → StartsOnBoundary nfa x
-    → IsFindAnswer nfa kind earliest x found → found ≡ found_in (str_hit res nfa x)
+    → IsFindAnswer nfa kind earliest x found → found ≡ found_of_hit (str_hit res nfa x)
 
 -- The hit of one pattern in a search that is not bound to its start is what `find_str` of `regex_hir` gives.
 abbrev pub OneHitIsFindStr : Type 0

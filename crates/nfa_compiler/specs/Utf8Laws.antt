@@ -16,7 +16,7 @@ use Rattle.nfa_compiler.specs.AllHits.{row_of_hit}
 use Rattle.nfa_compiler.specs.BoundaryHits.{all_boundary_hits, boundary_hit}
 use Rattle.nfa_compiler.specs.Compiled.{IsNfaOf}
 use Rattle.nfa_compiler.specs.Laws.{IsLeftmostToTheEnd}
-use Rattle.nfa_compiler.specs.Patterns.{Hit, slots_of, found_at, found_in}
+use Rattle.nfa_compiler.specs.Patterns.{PatternHit, slots_of, found_at, found_of_hit}
 use Rattle.nfa_compiler.specs.StrHits.{MatchesCharacters, StartsOnBoundary, str_hit}
 
 -- In any haystack, for patterns that may match the empty string: the pattern and the slots of a search are those of the
@@ -26,7 +26,7 @@ AnswersAreBoundaryHits =
     (res : List Re) (nfa : Automaton) (kind : MatchKind) (earliest : Bool) (x : Search) (pattern : Option ℕ)
     (slots : List (Option ℕ)) → IsNfaOf res nfa → is_utf8_empty nfa ≡ true → IsLeftmostToTheEnd kind earliest x
     → IsAnswer nfa kind earliest x pattern slots
-    → (pattern ≡ option_map (λ (h : Hit). h.pattern) (boundary_hit res nfa x))
+    → (pattern ≡ option_map (λ (h : PatternHit). h.pattern) (boundary_hit res nfa x))
     × (slots ≡ slots_of nfa.groups (length slots) (boundary_hit res nfa x))
 
 -- its match is that of the hit
@@ -34,7 +34,7 @@ abbrev pub MatchesAreBoundaryHits : Type 0
 MatchesAreBoundaryHits =
     (res : List Re) (nfa : Automaton) (kind : MatchKind) (earliest : Bool) (x : Search) (found : Option Found)
     → IsNfaOf res nfa → is_utf8_empty nfa ≡ true → IsLeftmostToTheEnd kind earliest x
-    → IsFindAnswer nfa kind earliest x found → found ≡ found_in (boundary_hit res nfa x)
+    → IsFindAnswer nfa kind earliest x found → found ≡ found_of_hit (boundary_hit res nfa x)
 
 -- it finds something exactly if there is a hit
 abbrev pub FindsBoundaryHits : Type 0

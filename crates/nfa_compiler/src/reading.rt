@@ -2,7 +2,7 @@
 ghost use Rattle.std.specs.Prelude.{◌≡◌, ◌≤◌, IfErr, IfOk, IsCharBoundary, map, string_bytes};
 ghost use Rattle.std.specs.List.{AllZip};
 ghost use Rattle.regex_syntax.specs.Verdict.{Refuses};
-ghost use Rattle.nfa_compiler.specs.Compiled.{IsRead};
+ghost use Rattle.nfa_compiler.specs.Compiled.{IsTreeOf};
 ghost use Rattle.nfa_compiler.specs.Rejected.{IsMemoryOr, IsOfOneText, IsRejection};
 
 use crate::error::CompileError;
@@ -16,7 +16,8 @@ pub(crate) fn read_all(
     patterns: &[&str],
     syntax: &Config,
 ) -> Result<Vec<Parsed>, CompileError>
-    ensures read { IfOk result (λ trees. AllZip (IsRead syntax.now) (map (λ text. text.now) patterns.now) trees.items) }
+    ensures read { IfOk result (λ trees. AllZip (IsTreeOf syntax.now) (map (λ text. text.now) patterns.now)
+        trees.items) }
     ensures rejected { IfErr result (IsOfOneText syntax.now (map (λ text. text.now) patterns.now)) }
 {
     let mut trees = Vec::with_capacity(alloc, patterns.len())?;
@@ -28,7 +29,7 @@ pub(crate) fn read_all(
 
 /// Reads the text of the pattern with this number as a tree.
 fn read(alloc: Global, index: usize, pattern: &str, syntax: &Config) -> Result<Parsed, CompileError>
-    ensures read { IfOk result (IsRead syntax.now pattern.now) }
+    ensures read { IfOk result (IsTreeOf syntax.now pattern.now) }
     ensures rejected { IfErr result (IsMemoryOr (IsRejection syntax.now index pattern.now)) }
 {
     match regex_syntax::parse(alloc, pattern, syntax) {

@@ -3,7 +3,7 @@ use Rattle.std.proofs.Common.{◌≡◌, ℕ, zero, suc, ◌+◌, ◌-◌, ◌<�
 use Rattle.std.specs.Prelude.{Some, cond, All, sum}
 use Rattle.std.specs.List.{slice_get}
 use Rattle.std.proofs.lemmas.List.{length-append, length-replicate, length-reverse, reverse-append, reverse-reverse}
-use Rattle.std.proofs.lemmas.List.Elements.{All-append, All-cons, All-head, All-nil, All-push, All-tail}
+use Rattle.std.proofs.lemmas.List.Elements.{All-append, All-cons, All-head, All-nil, All-pop, All-push, All-tail}
 use Rattle.std.proofs.lemmas.Option.{get_or_from_slice_get, slice_get-map}
 use Rattle.thompson_nfa.specs.Automaton.{Automaton, Node, LeadsBelow}
 use Rattle.thompson_nfa.specs.Automaton.Node.{ByteRange, Sparse, Dense, Look, Union, BinaryUnion, Capture, Fail, Match}
@@ -24,13 +24,6 @@ AreBelow-reverse n (s ∷ states) below =
     subst (AreBelow n) (sym (reverse-append (s ∷ []) states))
     (All-push (λ s. s < n) (reverse states) s (AreBelow-reverse n states (All-tail (λ s. s < n) s states below))
     (All-head (λ s. s < n) s states below))
-
--- all but the last, and the last
-pub AreBelow-last : (n : ℕ) (states : List ℕ) (s : ℕ) → AreBelow n (states ++ s ∷ []) → AreBelow n states × (s < n)
-AreBelow-last n [] s below = (All-nil (λ s. s < n), All-head (λ s. s < n) s [] below)
-AreBelow-last n (t ∷ states) s below =
-    let h = AreBelow-last n states s (All-tail (λ s. s < n) t (states ++ s ∷ []) below) in
-    (All-cons (λ s. s < n) t states (All-head (λ s. s < n) t (states ++ s ∷ []) below) h.0, h.1)
 
 -- a state's number names its node
 pub node_at-get : (nfa : Automaton) (s : ℕ) (node : Node) → slice_get nfa.states s ≡ Some node → node_at nfa s ≡ node
@@ -122,32 +115,36 @@ module _ (nfa : Automaton) (holding : Holding) where
   unfolding explore
   explore-left seen s states clear r = rw (unseen-set seen s clear) (rw (clear, r) refl)
 
-  module _ {goal : List ℕ} {seen : List Bool} (waiting : List ℕ) (s : ℕ) {kept : List ℕ}
-      (h : IsUnderWay goal seen (waiting ++ s ∷ []) kept) where
+  -- s was the last of the stack
+  module _ {goal : List ℕ} {seen : List Bool} {stack kept : List ℕ} (waiting : List ℕ) (s : ℕ)
+      (popped : stack ≡ waiting ++ s ∷ []) (h : IsUnderWay goal seen stack kept) where
+    last : AreBelow (length nfa.states) waiting × (s < length nfa.states)
+    last = All-pop (λ s. s < length nfa.states) stack waiting (Some s) popped h.states
+
     -- the goal, with the state that was taken first
     leads-top : kept ++ explore nfa holding (unseen seen) seen (s ∷ reverse waiting) ≡ goal
-    leads-top = ap (λ states. kept ++ explore nfa holding (unseen seen) seen states) (sym (top waiting s)) ∙ h.leads
+    leads-top =
+        ap (λ states. kept ++ explore nfa holding (unseen seen) seen states) (sym (ap reverse popped ∙ top waiting s))
+        ∙ h.leads
 
     pub IsUnderWay-seen : get_or seen s true ≡ true → IsUnderWay goal seen waiting kept
     IsUnderWay-seen t = record {
       size = h.size;
-      states = (AreBelow-last (length nfa.states) waiting s h.states).0;
+      states = last.0;
       below = h.below;
       leads = ap (λ out. kept ++ out) (sym (explore-seen (unseen seen) seen s (reverse waiting) t)) ∙ leads-top;
     }
 
     pub IsUnderWay-kept : get_or seen s true ≡ false → rests (node_at nfa s) ≡ true
         → IsUnderWay goal (set seen s true) waiting (kept ++ s ∷ [])
-    IsUnderWay-kept clear r =
-        let last = AreBelow-last (length nfa.states) waiting s h.states in
-        record {
-          size = length-set seen s true ∙ h.size;
-          states = last.0;
-          below = All-push (λ s. s < length nfa.states) kept s h.below last.1;
-          leads = append_assoc kept (s ∷ [])
-              (explore nfa holding (unseen (set seen s true)) (set seen s true) (reverse waiting))
-              ∙ ap (λ out. kept ++ out) (sym (explore-kept seen s (reverse waiting) clear r)) ∙ leads-top;
-        }
+    IsUnderWay-kept clear r = record {
+      size = length-set seen s true ∙ h.size;
+      states = last.0;
+      below = All-push (λ s. s < length nfa.states) kept s h.below last.1;
+      leads = append_assoc kept (s ∷ [])
+          (explore nfa holding (unseen (set seen s true)) (set seen s true) (reverse waiting))
+          ∙ ap (λ out. kept ++ out) (sym (explore-kept seen s (reverse waiting) clear r)) ∙ leads-top;
+    }
 
     pub IsUnderWay-left : (node : Node) → node_at nfa s ≡ node → LeadsBelow (length nfa.states) node
         → get_or seen s true ≡ false → rests node ≡ false
@@ -155,7 +152,6 @@ module _ (nfa : Automaton) (holding : Holding) where
     IsUnderWay-left node is leads clear r =
         let n = length nfa.states in
         let next = epsilon_states holding node in
-        let last = AreBelow-last n waiting s h.states in
         let stack : reverse (waiting ++ reverse next) ≡ next ++ reverse waiting =
         reverse-append waiting (reverse next) ∙ ap (λ ts. ts ++ reverse waiting) (reverse-reverse next) in
         record {
@@ -172,18 +168,20 @@ module _ (nfa : Automaton) (holding : Holding) where
 
   -- the stack ends
 
-  module _ (seen : List Bool) (waiting : List ℕ) (s : ℕ) where
-    pub takes-seen : takes_left nfa seen waiting < takes_left nfa seen (waiting ++ s ∷ [])
-    takes-seen = omega (arith, length-append waiting (s ∷ []))
+  module _ (seen : List Bool) {stack : List ℕ} (waiting : List ℕ) (s : ℕ) (popped : stack ≡ waiting ++ s ∷ []) where
+    long : length stack ≡ length waiting + 1
+    long = ap (λ (ts : List ℕ). length ts) popped ∙ length-append waiting (s ∷ [])
+
+    pub takes-seen : takes_left nfa seen waiting < takes_left nfa seen stack
+    takes-seen = omega (arith, long)
 
     pub takes-kept : get_or seen s true ≡ false
-        → takes_left nfa (set seen s true) waiting < takes_left nfa seen (waiting ++ s ∷ [])
-    takes-kept clear =
-        omega (arith, length-append waiting (s ∷ []), marked_sum-set (map degree nfa.states) seen s clear)
+        → takes_left nfa (set seen s true) waiting < takes_left nfa seen stack
+    takes-kept clear = omega (arith, long, marked_sum-set (map degree nfa.states) seen s clear)
 
     pub takes-left : (node : Node) → slice_get nfa.states s ≡ Some node → get_or seen s true ≡ false
         → takes_left nfa (set seen s true) (waiting ++ reverse (epsilon_states holding node))
-        < takes_left nfa seen (waiting ++ s ∷ [])
+        < takes_left nfa seen stack
     takes-left node is clear =
         let ws = map degree nfa.states in
         let one : get_or ws s 0 ≡ degree node =
@@ -191,7 +189,7 @@ module _ (nfa : Automaton) (holding : Holding) where
         omega (
           arith,
           one,
-          length-append waiting (s ∷ []),
+          long,
           length-append waiting (reverse (epsilon_states holding node)),
           length-reverse (epsilon_states holding node),
           epsilon-few holding node,

@@ -58,7 +58,7 @@ begins edges s v (a ∷ (b ∷ p)) head once linked (inr i) =
       within = λ z j. elim j [ inl same ↦ inl same | inr later ↦ inr (r.within z later) ];
     }
 
-pub same_some : (m n : ℕ) → Some m ≡ Some n → m ≡ n
+pub same_some : {A : Type 0} (m n : A) → Some m ≡ Some n → m ≡ n
 same_some m n e = cc
 
 -- the first place of a state among the starts of patterns

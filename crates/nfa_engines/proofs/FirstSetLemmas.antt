@@ -16,15 +16,13 @@ use Rattle.nfa_paths.proofs.PathToLemmas.{IsEarliestPath-unique, IsFirstTo-along
 use Rattle.nfa_paths.proofs.PatternLemmas.{node-pattern, some-pattern}
 use Rattle.nfa_paths.proofs.SetLemmas.{size-none}
 use Rattle.nfa_engines.specs.SetLaws.{IsPatternOfEarliest}
+use Rattle.nfa_engines.proofs.FirstPatternLemmas.{same_some}
 use Rattle.nfa_engines.proofs.OneLemmas.{same-test}
 
 module _ (nfa : Automaton) (x : Search) where
   -- the pattern of a path that ends with the pair
   ends-pattern : (p : List Pair) (v : Pair) → last_of p ≡ Some v → path_pattern nfa p ≡ pattern_at nfa v
   ends-pattern p v last = ap (λ o. option_and_then (λ (w : Pair). pattern_of (node_at nfa w.0)) o) last
-
-  same-number : (m n : ℕ) → Some m ≡ Some n → m ≡ n
-  same-number m n e = cc
 
   -- an empty set gains the patterns of the first paths before some limit
   meant-firsts : (capacity : ℕ) (set : List Bool) → length set ≡ capacity → HoldsSelected nfa x false capacity set
@@ -48,9 +46,6 @@ module _ (nfa : Automaton) (x : Search) where
           → IsEarliestInsertable nfa x capacity s → r ≡ s
       one = IsEarliestPath-unique (edges nfa x) (starts nfa x) (IsInsertable nfa x capacity)
 
-      same-path : (p q : List Pair) → Some p ≡ Some q → p ≡ q
-      same-path p q e = cc
-
       of : (path : Option (List Pair)) → IsSelectedPath nfa x true capacity path → HoldsPath nfa x true path set
           → HoldsPattern set k ↔ IsPatternOfEarliest nfa x capacity k
       of None none empty = (
@@ -64,10 +59,10 @@ module _ (nfa : Automaton) (x : Search) where
           ends-pattern p holds.end holds.ends ∙ holds.pattern_is ∙ ap Some (sym ((holds.holds k).0 held)),
         ),
         λ e.
-            let same : p ≡ e.0 = same-path p e.0 (one (Some p) (Some e.0) first e.1) in
+            let same : p ≡ e.0 = same_some p e.0 (one (Some p) (Some e.0) first e.1) in
             let both : Some k ≡ Some holds.pattern =
             sym e.2 ∙ ap (path_pattern nfa) (sym same) ∙ ends-pattern p holds.end holds.ends ∙ holds.pattern_is in
-            (holds.holds k).1 (same-number k holds.pattern both),
+            (holds.holds k).1 (same_some k holds.pattern both),
       )
 
   pub set-firsts : (old new : List Bool) → size_of_set old ≡ 0 → IsOverlapResult nfa x LeftmostFirst false old new

@@ -5,9 +5,7 @@ use Rattle.std.specs.Prelude.{Option, None, Some}
 use Rattle.regex_search_core.specs.Search.{Search}
 use Rattle.regex_search_core.specs.declared.search.Span.{Span}
 use Rattle.nfa_paths.specs.Paths.{span_len}
-use Rattle.nfa_search_base.specs.IterStates.{Advances, Answer, ComesAfter, LeavesFewer, IterState, fresh, ends_left, answer_span}
-use Rattle.nfa_search_base.specs.IterStates.{repeats}
-use Rattle.nfa_search_base.proofs.StepLemmas.{chosen}
+use Rattle.nfa_search_base.specs.IterStates.{IterState, fresh, ends_left}
 use Rattle.nfa_engines.specs.IterationLaws.{IsCall, AreCalls, places_of, EndsRise}
 
 -- a call that gave a match leaves its end as the last one
@@ -52,16 +50,3 @@ few-matches w ((None, w') ∷ calls) are =
 -- before the first call there are as many as the span has bytes, and one more
 pub first-ends : (x : Search) → ends_left (fresh x) ≤ span_len x + 1
 first-ends x = omega arith
-
--- a step of a `Searcher` is a call
-pub step-call : {X S : Type 0} (span : X → Span) (asks : S → Search → Answer X → S → Type 0) (s : S) (w : IterState)
-    (r : Answer X) (s' : S) (w' : IterState) → Advances span asks s w r s' w' → ComesAfter w (answer_span span r)
-    → LeavesFewer w (answer_span span r) w' → IsCall w (answer_span span r) w'
-step-call span asks s w r s' w' step rises fewer = record {
-  rises = rises;
-  fewer = fewer;
-  moves = elim (chosen (repeats w (answer_span span step.answer)) step.rest) [
-    | inl again ↦ inr again.1.1
-    | inr first ↦ inl first.1.2
-  ];
-}

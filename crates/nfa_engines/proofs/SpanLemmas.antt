@@ -181,15 +181,15 @@ module _ (nfa : Automaton) (k : ℕ) (x y : Search) (alike : HoldAlike nfa k x y
         subst (λ (z : Search). IsFindAnswer nfa kind earliest z (option_map (moved_match k) found)) (sym is_there)
         (match_answer-moved nfa k x there span-paths anywhere kind earliest found h)
 
--- the same span
+-- the same span is moved by nothing
 
-same-moved : (x y : Search) → IsSameSpan x y → IsSpanMoved 0 x y
+pub same-moved : (x y : Search) → IsSameSpan x y → IsSpanMoved 0 x y
 same-moved x y h =
     let start : y.start ≡ x.start = h.start in
     let end : y.end ≡ x.end = h.end in
     record { start = omega arith; end = omega arith; anchored = h.anchored }
 
-same-bytes : (x y : Search) → IsSameSpan x y → AreBytesMoved 0 x y
+pub same-bytes : (x y : Search) → IsSameSpan x y → AreBytesMoved 0 x y
 same-bytes x y h = λ i past below.
     let at : i + 0 ≡ i = omega arith in
     ap (slice_get y.haystack) at ∙ h.bytes i past below

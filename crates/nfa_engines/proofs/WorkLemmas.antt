@@ -17,6 +17,7 @@ use Rattle.nfa_search_base.proofs.AskingLemmas.{same_start-self, same_start-then
 use Rattle.nfa_search_base.proofs.StepLemmas.{Advances-fewer, chosen, same_start-after, same_start-shifted}
 use Rattle.nfa_search_base.proofs.IterStateLemmas.{IsOrdered}
 use Rattle.nfa_engines.specs.WorkLaws.{AddsAtMost, Totals, list_scan_limit}
+use Rattle.nfa_engines.proofs.FirstPatternLemmas.{same_some}
 use Rattle.nfa_engines.proofs.ReachLemmas.{Reaches, restarts_in, starts_left}
 
 -- the turns of a scan of the span of x, or of a part of it, at most
@@ -90,11 +91,8 @@ module _ (x : Search) where
   is_of-after w p h on = record {
     like = same_start-then x w.at (after w (Some p)).at h.like (same_start-after w (Some p));
     from = let from = h.from in omega (arith, from, on);
-    behind = λ e is. let same : p.end ≡ e = some-same p.end e is in omega (arith, same);
+    behind = λ e is. let same : p.end ≡ e = same_some p.end e is in omega (arith, same);
   }
-    where
-      some-same : (a b : ℕ) → Some a ≡ Some b → a ≡ b
-      some-same a b e = cc
 
   -- What a step from w to v with a match at `place` leaves, by so many scans.
   abbrev Onward : IterState → IterState → Option Span → ℕ → Type 0

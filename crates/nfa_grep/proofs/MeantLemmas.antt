@@ -11,18 +11,18 @@ use Rattle.regex_search_core.specs.Search.{whole}
 use Rattle.thompson_nfa.specs.Automaton.{Automaton}
 use Rattle.nfa_compiler.specs.AllHits.{all_hits, hits_from}
 use Rattle.nfa_compiler.specs.Laws.{hit}
-use Rattle.nfa_compiler.specs.Patterns.{Hit, expected, found_at}
+use Rattle.nfa_compiler.specs.Patterns.{PatternHit, expected, found_at}
 use Rattle.nfa_grep.specs.Meant.{all_found, hit_from, is_found}
 
 -- something is found exactly if there are hits
 
-no-hits : (from : ℕ → Option Hit) (n : ℕ) (o : Option Hit) → is_some o ≡ false
+no-hits : (from : ℕ → Option PatternHit) (n : ℕ) (o : Option PatternHit) → is_some o ≡ false
     → map found_at (hits_from from (suc n) o) ≡ []
 unfolding hits_from
 no-hits from n None none = refl
 no-hits from n (Some h) never = absurd cc
 
-is-hit : (from : ℕ → Option Hit) (n : ℕ) (o : Option Hit)
+is-hit : (from : ℕ → Option PatternHit) (n : ℕ) (o : Option PatternHit)
     → is_some o ≡ nat_lt 0 (length (map found_at (hits_from from (suc n) o)))
 unfolding hits_from
 is-hit from n None = refl
@@ -48,7 +48,7 @@ same-is_some f (Some x) = refl
 module _ (res : List Re) (nfa : Automaton) (text : List ℕ) (free : (nfa.anchored == nfa.unanchored) ≡ false) where
   -- a search that answers the hit's pattern finds something exactly if there is a hit
   pub found-of-answer : {A : Type 0} (number : A → ℕ) (o : Option A)
-      → option_map number o ≡ option_map (λ (h : Hit). h.pattern) (hit res nfa (whole text))
+      → option_map number o ≡ option_map (λ (h : PatternHit). h.pattern) (hit res nfa (whole text))
       → is_some o ≡ is_found res text
   found-of-answer number o e =
       sym (same-is_some number o) ∙ ap is_some e ∙ same-is_some _ (hit res nfa (whole text))

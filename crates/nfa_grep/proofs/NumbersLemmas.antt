@@ -14,26 +14,27 @@ use Rattle.regex_hir.proofs.AttemptLemmas.{attempt_complete, attempt_sound}
 use Rattle.regex_hir.proofs.OptionLemmas.{value_of_IsSome}
 use Rattle.regex_search_core.specs.Search.{whole}
 use Rattle.nfa_compiler.specs.KindLaws.{PatternMatches}
-use Rattle.nfa_compiler.specs.Patterns.{Hit, expected, first_hit, hit_of, pick}
+use Rattle.nfa_compiler.specs.Patterns.{PatternHit, expected, first_hit, hit_of, pick}
 use Rattle.nfa_compiler.specs.Written.{MatchesIn}
+use Rattle.nfa_engines.proofs.OneLemmas.{same-test}
 use Rattle.nfa_compiler.proofs.MeantLemmas.{AreAlike, expected-alike}
 use Rattle.nfa_paths.specs.Overlaps.{HoldsPattern}
 use Rattle.nfa_grep.specs.Meant.{is_found, which_found}
 
 -- the first hit is at one of the positions
 
-first-sound : (at : ℕ → Option Hit) (n i : ℕ) → is_some (first_hit at n i) ≡ true
+first-sound : (at : ℕ → Option PatternHit) (n i : ℕ) → is_some (first_hit at n i) ≡ true
     → (j : ℕ) × (j < i + n) × (is_some (at j) ≡ true)
 first-sound at zero i never = absurd cc
 first-sound at (suc n) i some = of (at i) refl some (first-sound at n (i + 1))
   where
-    of : (o : Option Hit) → at i ≡ o → is_some (option_or o (first_hit at n (i + 1))) ≡ true
+    of : (o : Option PatternHit) → at i ≡ o → is_some (option_or o (first_hit at n (i + 1))) ≡ true
         → (is_some (first_hit at n (i + 1)) ≡ true → (j : ℕ) × (j < i + 1 + n) × (is_some (at j) ≡ true))
         → (j : ℕ) × (j < i + suc n) × (is_some (at j) ≡ true)
     of None is later rest = let found = rest later in (found.0, omega (arith, found.1), found.2)
     of (Some h) is here rest = (i, omega arith, ap is_some is)
 
-first-complete : (at : ℕ → Option Hit) (n i j : ℕ) → i ≤ j → j < i + n → is_some (at j) ≡ true
+first-complete : (at : ℕ → Option PatternHit) (n i j : ℕ) → i ≤ j → j < i + n → is_some (at j) ≡ true
     → is_some (first_hit at n i) ≡ true
 first-complete at zero i j from to some = absurd (omega arith)
 first-complete at (suc n) i j from to some =
@@ -42,7 +43,7 @@ first-complete at (suc n) i j from to some =
     never : false ≡ true → ⊥
     never e = cc
 
-    of : (o : Option Hit) → at i ≡ o → (i < j → is_some (first_hit at n (i + 1)) ≡ true)
+    of : (o : Option PatternHit) → at i ≡ o → (i < j → is_some (first_hit at n (i + 1)) ≡ true)
         → is_some (option_or o (first_hit at n (i + 1))) ≡ true
     of None is rest =
         let past : (i ≡ j → ⊥) = λ same. never (sym (ap is_some is) ∙ ap (λ k. is_some (at k)) same ∙ some) in
@@ -51,7 +52,7 @@ first-complete at (suc n) i j from to some =
 
 module _ (text : List ℕ) (re : Re) where
   -- the hit of one pattern at a position
-  abbrev at : ℕ → Option Hit
+  abbrev at : ℕ → Option PatternHit
   at i = pick text (re ∷ []) 0 i
 
   matched-from : (i : ℕ) → is_some (hit_of 0 i (attempt text re accept i)) ≡ true → (j : ℕ) × Matches text re i j
@@ -67,7 +68,7 @@ module _ (text : List ℕ) (re : Re) where
       let v = value_of_IsSome (attempt text re accept i) (attempt_complete text re accept i j m refl) in
       ap (λ o. is_some (hit_of 0 i o)) v.1
 
-  only : (o : Option Hit) → is_some (option_or o None) ≡ is_some o
+  only : (o : Option PatternHit) → is_some (option_or o None) ≡ is_some o
   only None = refl
   only (Some h) = refl
 
@@ -88,16 +89,11 @@ module _ (text : List ℕ) (re : Re) where
       found-is ∙ first-complete at (length text - 0 + 1) 0 m.start (omega arith) (omega (arith, m.within))
       (only (hit_of 0 m.start (attempt text re accept m.start)) ∙ here)
 
-alike-some : (a b : Option Hit) → AreAlike a b → is_some a ≡ is_some b
+alike-some : (a b : Option PatternHit) → AreAlike a b → is_some a ≡ is_some b
 alike-some None None same = refl
 alike-some None (Some h) same = absurd same
 alike-some (Some h) None same = absurd same
 alike-some (Some h) (Some g) same = refl
-
-same-truth : (a b : Bool) → (a ≡ true → b ≡ true) → (b ≡ true → a ≡ true) → a ≡ b
-same-truth true b to from = sym (to refl)
-same-truth false true to from = from refl
-same-truth false false to from = refl
 
 module _ (text : List ℕ) (bytes : All (λ b. b < 256) text) where
   -- patterns with the same captures are found in the same texts
@@ -123,7 +119,7 @@ which-is text trees set room holds =
   where
     each : (k : ℕ) → k < length trees → get_or set k false ≡ get_or (which_found trees text) k false
     each k less =
-        same-truth (get_or set k false) (is_found (slice_index_or trees k empty ∷ []) text)
+        same-test (get_or set k false) (is_found (slice_index_or trees k empty ∷ []) text)
         (λ held. let m = (holds k).0 held in matches-found text (slice_index_or trees k empty)
         (record { start = m.start; end = m.end; within = m.to; matches = m.matches }))
         (λ found. let m = found-matches text (slice_index_or trees k empty) found in (holds k).1 (record {

@@ -6,7 +6,7 @@ use Rattle.regex_search_core.specs.PatternSets.{patterns_of}
 use Rattle.regex_search_core.specs.Search.{whole}
 use Rattle.nfa_compiler.specs.AllHits.{hits_from}
 use Rattle.nfa_compiler.specs.Compiled.{AreMeant}
-use Rattle.nfa_compiler.specs.Patterns.{Hit, expected, found_at}
+use Rattle.nfa_compiler.specs.Patterns.{PatternHit, expected, found_at}
 use Rattle.nfa_compiler.specs.Written.{byte_syntax}
 use Rattle.nfa_grep.specs.declared.options.Options.{Options}
 
@@ -15,7 +15,7 @@ abbrev pub Mean : List (List ℕ) → List Re → Type 0
 Mean texts res = AreMeant byte_syntax texts res
 
 -- the first hit that starts at an offset or after it: of the first of the patterns that matches there
-abbrev pub hit_from : List Re → List ℕ → ℕ → Option Hit
+abbrev pub hit_from : List Re → List ℕ → ℕ → Option PatternHit
 hit_from res text i = expected res false (record (whole text) { start = i })
 
 -- whether some pattern matches somewhere in the text

@@ -12,12 +12,11 @@ use Rattle.thompson_nfa.specs.Automaton.{Automaton, Node, LeadsBelow}
 use Rattle.thompson_nfa.specs.Automaton.Node.{ByteRange, Sparse, Dense, Look, Union, BinaryUnion, Capture, Fail, Match}
 use Rattle.nfa_paths.specs.Graphs.{In}
 use Rattle.nfa_paths.specs.Paths.{node_at, pattern_of}
-use Rattle.nfa_paths.proofs.MemberLemmas.{In-append_left}
+use Rattle.nfa_paths.proofs.MemberLemmas.{In-append, In-append_left}
 use Rattle.nfa_match_spans.specs.StatePaths.{targets, IsStart}
 use Rattle.nfa_match_spans.specs.PathStates.{fresh_path_state, at_state, after_node, next_places, is_recorded}
 use Rattle.nfa_match_spans.specs.PathStates.{IsFresh, GainsPathStates, IsFine}
 use Rattle.nfa_match_spans.specs.PathStates.{IsClosed, IsUnderWay, IsLedTo}
-use Rattle.nfa_match_spans.proofs.TableLemmas.{In-append}
 use Rattle.nfa_match_spans.proofs.StatePathLemmas.{In-mapped, IsLedTo-fresh, IsLedTo-next}
 use Rattle.nfa_match_spans.specs.declared.path_state.PathState.{PathState}
 

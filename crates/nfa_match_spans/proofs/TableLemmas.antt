@@ -7,17 +7,9 @@ use Rattle.std.proofs.Math.Decide.{ℕ_discrete}
 use Rattle.std.proofs.lemmas.List.{append_assoc, length-append}
 use Rattle.std.proofs.lemmas.List.Sums.{sum_by-set}
 use Rattle.nfa_paths.specs.Graphs.{In}
-use Rattle.nfa_paths.proofs.MemberLemmas.{In-append_left, In-append_right}
+use Rattle.nfa_paths.proofs.MemberLemmas.{In-append, In-append_left, In-append_right}
 use Rattle.nfa_match_spans.specs.PathStates.{bit, path_state_number, unmarked_place, IsTable, GainsPathStates}
 use Rattle.nfa_match_spans.specs.declared.path_state.PathState.{PathState}
-
--- an element of two concatenated lists is in one of them
-pub In-append : {A : Type 0} (x : A) (xs ys : List A) → In x (xs ++ ys) → In x xs ⊎ In x ys
-In-append x [] ys i = inr i
-In-append x (y ∷ xs) ys i = elim i [
-  | inl e ↦ inl (inl e)
-  | inr j ↦ elim (In-append x xs ys j) [ inl k ↦ inl (inr k) | inr k ↦ inr k ]
-]
 
 -- a bit determines its value
 bit-tells : (a b : Bool) → bit a ≡ bit b → a ≡ b

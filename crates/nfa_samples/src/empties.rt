@@ -4,7 +4,7 @@ ghost use Rattle.nfa_samples.specs.Names.{IsNoneOf, empty_names};
 
 use crate::some;
 use crate::state_table::StateRow::{Assert, Byte, Capture, Either, Match};
-use crate::state_table::StateTable;
+use crate::state_table::{ONE_PATTERN, StateRow, StateTable};
 use std::alloc::Global;
 use thompson_nfa::{BuildError, Look, NFA};
 
@@ -40,10 +40,8 @@ fn a_or_empty(alloc: Global) -> Result<NFA, BuildError>
             Capture(1, 4),
             Match(0),
         ],
-        starts: &[0],
-        groups: &[&[]],
         has_empty: true,
-        utf8: true,
+        ..ONE_PATTERN
     }
     .with_prefix(alloc)
 }
@@ -60,10 +58,8 @@ fn empty_or_a(alloc: Global) -> Result<NFA, BuildError>
             Capture(1, 4),
             Match(0),
         ],
-        starts: &[0],
-        groups: &[&[]],
         has_empty: true,
-        utf8: true,
+        ..ONE_PATTERN
     }
     .with_prefix(alloc)
 }
@@ -74,10 +70,8 @@ fn empty(alloc: Global) -> Result<NFA, BuildError>
 {
     StateTable {
         rows: &[Capture(0, 1), Capture(1, 2), Match(0)],
-        starts: &[0],
-        groups: &[&[]],
         has_empty: true,
-        utf8: true,
+        ..ONE_PATTERN
     }
     .with_prefix(alloc)
 }
@@ -88,10 +82,9 @@ fn empty_bytes(alloc: Global) -> Result<NFA, BuildError>
 {
     StateTable {
         rows: &[Capture(0, 1), Capture(1, 2), Match(0)],
-        starts: &[0],
-        groups: &[&[]],
         has_empty: true,
         utf8: false,
+        ..ONE_PATTERN
     }
     .with_prefix(alloc)
 }
@@ -102,30 +95,29 @@ fn empty_anchored(alloc: Global) -> Result<NFA, BuildError>
 {
     StateTable {
         rows: &[Capture(0, 1), Capture(1, 2), Match(0)],
-        starts: &[0],
-        groups: &[&[]],
         has_empty: true,
-        utf8: true,
+        ..ONE_PATTERN
     }
     .anchored(alloc)
 }
+
+// The states of `a*`.
+const A_STAR: &[StateRow<'static>] = &[
+    Capture(0, 1),
+    Either(2, 3),
+    Byte(b'a', 1),
+    Capture(1, 4),
+    Match(0),
+];
 
 /// `a*`.
 fn a_star(alloc: Global) -> Result<NFA, BuildError>
     ensures { IsOkUnless result BuildError.Memory }
 {
     StateTable {
-        rows: &[
-            Capture(0, 1),
-            Either(2, 3),
-            Byte(b'a', 1),
-            Capture(1, 4),
-            Match(0),
-        ],
-        starts: &[0],
-        groups: &[&[]],
+        rows: A_STAR,
         has_empty: true,
-        utf8: true,
+        ..ONE_PATTERN
     }
     .with_prefix(alloc)
 }
@@ -135,17 +127,10 @@ fn a_star_bytes(alloc: Global) -> Result<NFA, BuildError>
     ensures { IsOkUnless result BuildError.Memory }
 {
     StateTable {
-        rows: &[
-            Capture(0, 1),
-            Either(2, 3),
-            Byte(b'a', 1),
-            Capture(1, 4),
-            Match(0),
-        ],
-        starts: &[0],
-        groups: &[&[]],
+        rows: A_STAR,
         has_empty: true,
         utf8: false,
+        ..ONE_PATTERN
     }
     .with_prefix(alloc)
 }
@@ -162,10 +147,9 @@ fn empty_loop(alloc: Global) -> Result<NFA, BuildError>
             Capture(1, 4),
             Match(0),
         ],
-        starts: &[0],
         groups: &[&[None]],
         has_empty: true,
-        utf8: true,
+        ..ONE_PATTERN
     }
     .with_prefix(alloc)
 }
@@ -185,10 +169,8 @@ fn snowman(alloc: Global) -> Result<NFA, BuildError>
             Capture(1, 7),
             Match(0),
         ],
-        starts: &[0],
-        groups: &[&[]],
         has_empty: true,
-        utf8: true,
+        ..ONE_PATTERN
     }
     .with_prefix(alloc)
 }

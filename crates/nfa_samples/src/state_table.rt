@@ -185,6 +185,16 @@ pub struct StateTable<'a> {
     pub utf8: bool,
 }
 
+/// A table without states, to be filled: of one pattern without explicit groups, in UTF-8 mode, that cannot match the
+/// empty string.
+pub const ONE_PATTERN: StateTable<'static> = StateTable {
+    rows: &[],
+    starts: &[0],
+    groups: &[&[]],
+    has_empty: false,
+    utf8: true,
+};
+
 impl StateTable<'_> {
     /// Makes an NFA whose matches start at the start of the search.
     pub fn anchored(&self, alloc: Global) -> Result<NFA, BuildError>

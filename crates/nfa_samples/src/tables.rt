@@ -6,7 +6,7 @@ ghost use Rattle.nfa_samples.specs.StateTables.{is_row};
 
 use crate::some;
 use crate::state_table::StateRow::{self, Assert, Byte, Capture, Either, Match, Range, Ranges};
-use crate::state_table::StateTable;
+use crate::state_table::{ONE_PATTERN, StateTable};
 use std::alloc::{AllocError, Global};
 use thompson_nfa::{BuildError, Look, NFA};
 
@@ -50,10 +50,8 @@ fn groups(alloc: Global) -> Result<NFA, BuildError>
             Capture(1, 11),
             Match(0),
         ],
-        starts: &[0],
         groups: &[&[None, None]],
-        has_empty: false,
-        utf8: true,
+        ..ONE_PATTERN
     }
     .with_prefix(alloc)
 }
@@ -64,10 +62,8 @@ fn a_bare(alloc: Global) -> Result<NFA, BuildError>
 {
     StateTable {
         rows: &[Byte(b'a', 1), Match(0)],
-        starts: &[0],
         groups: &[],
-        has_empty: false,
-        utf8: true,
+        ..ONE_PATTERN
     }
     .with_prefix(alloc)
 }
@@ -78,10 +74,8 @@ fn a_pair(alloc: Global) -> Result<NFA, BuildError>
 {
     StateTable {
         rows: &[Byte(b'a', 1), Match(0)],
-        starts: &[0],
         groups: &[],
-        has_empty: false,
-        utf8: true,
+        ..ONE_PATTERN
     }
     .anchored(alloc)
 }
@@ -92,10 +86,7 @@ fn backwards(alloc: Global) -> Result<NFA, BuildError>
 {
     StateTable {
         rows: &[Capture(1, 1), Byte(b'a', 2), Capture(0, 3), Match(0)],
-        starts: &[0],
-        groups: &[&[]],
-        has_empty: false,
-        utf8: true,
+        ..ONE_PATTERN
     }
     .with_prefix(alloc)
 }
@@ -115,10 +106,7 @@ fn three_digits(alloc: Global) -> Result<NFA, BuildError>
             Capture(1, 7),
             Match(0),
         ],
-        starts: &[0],
-        groups: &[&[]],
-        has_empty: false,
-        utf8: true,
+        ..ONE_PATTERN
     }
     .with_prefix(alloc)
 }
@@ -197,10 +185,8 @@ fn foo_num(alloc: Global) -> Result<NFA, BuildError>
             Capture(1, 9),
             Match(0),
         ],
-        starts: &[0],
         groups: &[&[Some("numbers")]],
-        has_empty: false,
-        utf8: true,
+        ..ONE_PATTERN
     }
     .with_prefix(alloc)
 }
@@ -233,10 +219,8 @@ fn date(alloc: Global) -> Result<NFA, BuildError>
             Capture(1, 20),
             Match(0),
         ],
-        starts: &[0],
         groups: &[&[None, None, None]],
-        has_empty: false,
-        utf8: true,
+        ..ONE_PATTERN
     }
     .anchored(alloc)
 }

@@ -4,7 +4,7 @@ ghost use Rattle.nfa_samples.specs.Names.{IsNoneOf, word_names};
 
 use crate::some;
 use crate::state_table::StateRow::{Byte, Capture, Either, Match, Union};
-use crate::state_table::StateTable;
+use crate::state_table::{ONE_PATTERN, StateTable};
 use std::alloc::Global;
 use thompson_nfa::{BuildError, NFA};
 
@@ -41,10 +41,7 @@ fn abc(alloc: Global) -> Result<NFA, BuildError>
             Capture(1, 5),
             Match(0),
         ],
-        starts: &[0],
-        groups: &[&[]],
-        has_empty: false,
-        utf8: true,
+        ..ONE_PATTERN
     }
     .with_prefix(alloc)
 }
@@ -240,10 +237,7 @@ fn abc_a(alloc: Global) -> Result<NFA, BuildError>
             Byte(b'b', 7),
             Byte(b'c', 1),
         ],
-        starts: &[0],
-        groups: &[&[]],
-        has_empty: false,
-        utf8: true,
+        ..ONE_PATTERN
     }
     .with_prefix(alloc)
 }
@@ -264,10 +258,7 @@ fn abcd_b(alloc: Global) -> Result<NFA, BuildError>
             Capture(1, 8),
             Match(0),
         ],
-        starts: &[0],
-        groups: &[&[]],
-        has_empty: false,
-        utf8: true,
+        ..ONE_PATTERN
     }
     .with_prefix(alloc)
 }

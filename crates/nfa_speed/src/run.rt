@@ -1,16 +1,12 @@
-//! The program: its arguments, the rounds over the haystack, and the line that it prints.
+//! The program: its arguments, the searches of the haystack, and the line that it prints.
 ghost use Rattle.std.specs.Prelude.{◌≤◌, IfOk};
-ghost use Rattle.nfa_pikevm.specs.Engines.{Fits};
 
-use nfa_engines::backtrack::{self, BoundedBacktracker};
-use nfa_engines::error::SearchError;
-use nfa_engines::pikevm::{self, PikeVM};
+use named_engine::{Engine, Failure, read_haystack};
 use nfa_samples::sample;
-use regex_search_core::Input;
 use std::alloc::Global;
 use std::io::{Read, Write};
 use std::{fmt, io};
-use thompson_nfa::{BuildError, NFA};
+use thompson_nfa::BuildError;
 
 /// The search returned an error, or its answer was not written.
 const FAILED: u8 = 1;
@@ -61,87 +57,9 @@ fn matches_of_words<R: Read>(alloc: Global, words: &[&str], haystack: &mut R) ->
     let engine = Engine::from_word(engine).ok_or(Stop::Usage)?;
     let rounds = rounds.parse::<u64>().ok().ok_or(Stop::Usage)?;
     let nfa = sample(alloc, name)?.ok_or(Stop::UnknownName)?;
-    let mut bytes = Vec::new(alloc);
-    haystack.read_to_end(&mut bytes)?;
-    let input = Input::new(bytes.as_slice());
-    match engine {
-        Engine::Backtracker => backtrack_rounds(alloc, nfa, input, rounds),
-        Engine::PikeVM => pike_rounds(alloc, nfa, input, rounds),
-    }
-}
-
-/// The matches of the last round, with one cache for all. No round has none.
-fn backtrack_rounds(alloc: Global, nfa: NFA, input: Input<'_>, rounds: u64) -> Result<u64, Stop> {
-    let engine = BoundedBacktracker::new_from_nfa(nfa)?;
-    let mut cache = engine.create_cache(alloc);
-    let mut count = 0;
-    for _ in 0..rounds {
-        count = count_backtracked(&engine, &mut cache, input)?;
-    }
+    let bytes = read_haystack(alloc, haystack)?;
+    let count = engine.count_matches(alloc, nfa, &bytes, rounds)?;
     Ok(count)
-}
-
-fn count_backtracked(
-    engine: &BoundedBacktracker,
-    cache: &mut backtrack::Cache,
-    input: Input<'_>,
-) -> Result<u64, Stop> {
-    let mut count = 0u64;
-    for found in engine.try_find_iter(cache, input) {
-        found?;
-        count = count.wrapping_add(1);
-    }
-    Ok(count)
-}
-
-/// The matches of the last round, with one cache for all. No round has none.
-fn pike_rounds(alloc: Global, nfa: NFA, input: Input<'_>, rounds: u64) -> Result<u64, Stop> {
-    let engine = PikeVM::new_from_nfa(nfa)?;
-    let mut cache = engine.create_cache(alloc)?;
-    Ok(count_last_piked(&engine, &mut cache, input, rounds))
-}
-
-fn count_last_piked(
-    engine: &PikeVM,
-    cache: &mut pikevm::Cache,
-    input: Input<'_>,
-    rounds: u64,
-) -> u64
-    requires { Fits cache.old engine.now.nfa }
-{
-    let mut count = 0;
-    for _ in 0..rounds {
-        count = count_piked(engine, cache, input);
-    }
-    count
-}
-
-fn count_piked(engine: &PikeVM, cache: &mut pikevm::Cache, input: Input<'_>) -> u64
-    requires { Fits cache.old engine.now.nfa }
-    ensures { Fits cache.new engine.now.nfa }
-{
-    let mut count = 0u64;
-    for _ in engine.find_iter(cache, input) {
-        count = count.wrapping_add(1);
-    }
-    count
-}
-
-/// What searches.
-#[derive(Clone, Copy, Debug)]
-enum Engine {
-    Backtracker,
-    PikeVM,
-}
-
-impl Engine {
-    fn from_word(word: &str) -> Option<Engine> {
-        match word {
-            "back" => Some(Engine::Backtracker),
-            "pike" => Some(Engine::PikeVM),
-            _ => None,
-        }
-    }
 }
 
 /// Why the program stops before it is done.
@@ -149,9 +67,7 @@ impl Engine {
 enum Stop {
     Usage,
     UnknownName,
-    TooLong { len: usize },
-    Memory,
-    Read(io::Error),
+    Failed(Failure),
 }
 
 impl Stop {
@@ -160,7 +76,7 @@ impl Stop {
     {
         match self {
             Stop::Usage | Stop::UnknownName => MISUSED,
-            Stop::TooLong { .. } | Stop::Memory | Stop::Read(_) => FAILED,
+            Stop::Failed(_) => FAILED,
         }
     }
 }
@@ -172,38 +88,19 @@ impl fmt::Display for Stop {
             Stop::UnknownName => {
                 f.write_str("no sample NFA has this name: docs/NFAS.md lists the names")
             }
-            Stop::TooLong { len } => write!(
-                f,
-                "the haystack of {len} bytes is too long for the backtracker"
-            ),
-            Stop::Memory => f.write_str("out of memory"),
-            Stop::Read(error) => write!(f, "cannot read the haystack: {error}"),
+            Stop::Failed(failure) => write!(f, "{failure}"),
         }
     }
 }
 
 impl From<BuildError> for Stop {
-    // The samples are well formed, so only an allocation can have failed.
-    fn from(_: BuildError) -> Stop {
-        Stop::Memory
+    fn from(error: BuildError) -> Stop {
+        Stop::Failed(Failure::from(error))
     }
 }
 
-impl From<SearchError> for Stop {
-    fn from(error: SearchError) -> Stop {
-        match error {
-            SearchError::HaystackTooLong { len } => Stop::TooLong { len },
-            // A search calls no finder but the engine, so no finder fails.
-            SearchError::Memory | SearchError::Finder(_) => Stop::Memory,
-        }
-    }
-}
-
-impl From<io::Error> for Stop {
-    fn from(error: io::Error) -> Stop {
-        if error.kind() == io::ErrorKind::OutOfMemory {
-            return Stop::Memory;
-        }
-        Stop::Read(error)
+impl From<Failure> for Stop {
+    fn from(failure: Failure) -> Stop {
+        Stop::Failed(failure)
     }
 }

@@ -23,7 +23,7 @@ use Rattle.nfa_compiler.specs.AllLaws.{MatchesAreAllOfTexts, RowsAreAllOfTexts}
 use Rattle.nfa_compiler.specs.BoundaryHits.{boundary_hit, expected_on_boundary, on_boundary}
 use Rattle.nfa_compiler.specs.Compiled.{res_of}
 use Rattle.nfa_compiler.specs.Laws.{IsLeftmostToTheEnd}
-use Rattle.nfa_compiler.specs.Patterns.{Hit, expected, found_at, found_in, pick, slots_of}
+use Rattle.nfa_compiler.specs.Patterns.{PatternHit, expected, found_at, found_of_hit, pick, slots_of}
 use Rattle.nfa_compiler.specs.StrLaws.{AllHitsAreFindAllStr, MatchesAreAllOfStrs, RowsAreAllOfStrs}
 use Rattle.nfa_compiler.proofs.AllSearchLemmas.{matches-of, rows-of}
 use Rattle.nfa_compiler.proofs.BoundLemmas.{LiesFrom}
@@ -33,7 +33,8 @@ use Rattle.nfa_compiler.proofs.MeantLemmas.{AreAlike, all-meant, first-alike, fo
 use Rattle.replacer.specs.Hits.{AreAllHits, SearchesFor, captured_by, hits_in, next_hit, pattern_syntax}
 
 -- alike hits end on a boundary alike
-kept-alike : (text : List ℕ) (h g : Option Hit) → AreAlike h g → AreAlike (on_boundary text h) (on_boundary text g)
+kept-alike : (text : List ℕ) (h g : Option PatternHit) → AreAlike h g
+    → AreAlike (on_boundary text h) (on_boundary text g)
 kept-alike text None None a = tt
 kept-alike text None (Some g) a = absurd a
 kept-alike text (Some h) None a = absurd a
@@ -47,7 +48,7 @@ kept-alike text (Some h) (Some g) a =
     of false true e = absurd (cc)
 
 -- captures with these groups are known by their rows
-captures-are : (nfa : Automaton) (cs : List Captured) (hits : List Hit) → AllByRecursion (HasGroups nfa) cs
+captures-are : (nfa : Automaton) (cs : List Captured) (hits : List PatternHit) → AllByRecursion (HasGroups nfa) cs
     → map row_of cs ≡ map (row_of_hit nfa) hits → cs ≡ map (captured_by nfa.groups) hits
 captures-are nfa [] [] groups rows = refl
 captures-are nfa [] (h ∷ hits) groups rows = absurd (cc)
@@ -86,14 +87,14 @@ module _ (pattern : List ℕ) (re : Re) (vm : Pike) (text : List ℕ) (bytes : A
         ])
 
     has-matches : (i : ℕ) (found : Option Found) → IsFindAnswer vm.nfa LeftmostFirst false (at_place i) found
-        → found ≡ found_in (next_hit re true text i)
+        → found ≡ found_of_hit (next_hit re true text i)
     has-matches i found answer =
         boundary-match trees vm.nfa of.search.compiled.made mode (at_place i) refl found answer
         ∙ found-alike (boundary_hit trees vm.nfa (at_place i)) (next_hit re true text i) (next-alike i)
 
     has-answers : (i : ℕ) (found : Option ℕ) (slots : List (Option ℕ))
         → IsAnswer vm.nfa LeftmostFirst false (at_place i) found slots
-        → (found ≡ option_map (λ (h : Hit). h.pattern) (next_hit re true text i))
+        → (found ≡ option_map (λ (h : PatternHit). h.pattern) (next_hit re true text i))
         × (slots ≡ slots_of vm.nfa.groups (length slots) (next_hit re true text i))
     has-answers i found slots answer =
         let a = boundary-answer trees vm.nfa of.search.compiled.made mode (at_place i) refl found slots answer in
@@ -105,7 +106,7 @@ module _ (pattern : List ℕ) (re : Re) (vm : Pike) (text : List ℕ) (bytes : A
           a.1 ∙ slots-alike vm.nfa.groups (length slots) hit (next_hit re true text i) known (next-alike i),
         )
 
-    lies : (i : ℕ) (h : Hit) → next_hit re true text i ≡ Some h → LiesFrom text i (length text + 1) h
+    lies : (i : ℕ) (h : PatternHit) → next_hit re true text i ≡ Some h → LiesFrom text i (length text + 1) h
     lies i h is = boundary-lies (re ∷ []) false (at_place i) h refl is
 
     empty-matches : (ms : List Found) → AreMatches vm.nfa LeftmostFirst false (whole text) ms
@@ -125,7 +126,8 @@ module _ (pattern : List ℕ) (re : Re) (vm : Pike) (text : List ℕ) (bytes : A
       (expected (re ∷ []) b (whole text))) of.search.free
 
   module _ (texts : MatchesAreAllOfTexts) (strs : MatchesAreAllOfStrs) (found : AllHitsAreFindAllStr) where
-    pub matches-are : (ms : List Found) → AreMatches vm.nfa (kind_of vm) false (whole text) ms → (hits : List Hit)
+    pub matches-are : (ms : List Found) → AreMatches vm.nfa (kind_of vm) false (whole text) ms
+        → (hits : List PatternHit)
         → AreAllHits re (is_utf8_empty vm.nfa) text hits → ms ≡ map found_at hits
     matches-are ms are hits (inl e) = by-mode (is_utf8_empty vm.nfa) refl ∙ ap (map found_at) (sym e)
       where
@@ -142,7 +144,8 @@ module _ (pattern : List ℕ) (re : Re) (vm : Pike) (text : List ℕ) (bytes : A
 
     pub first-are : (ms : List Found) (count : ℕ) → AreFirstMatches vm.nfa (kind_of vm) false (whole text) ms
         → (length ms ≡ count) ⊎ AreMatches vm.nfa (kind_of vm) false (whole text) ms → length ms ≤ count
-        → (hits : List Hit) → AreAllHits re (is_utf8_empty vm.nfa) text hits → ms ≡ take count (map found_at hits)
+        → (hits : List PatternHit) → AreAllHits re (is_utf8_empty vm.nfa) text hits → ms
+        ≡ take count (map found_at hits)
     first-are ms count first (inl same) few hits h =
         let all = matches-exist vm.nfa (kind_of vm) false (whole text) in
         let rest = matches-rest vm.nfa (kind_of vm) false (whole text) ms all.0 first all.1 in
@@ -154,7 +157,7 @@ module _ (pattern : List ℕ) (re : Re) (vm : Pike) (text : List ℕ) (bytes : A
         is ∙ sym (take_all count (map found_at hits) (subst (λ (l : List Found). length l ≤ count) is few))
 
   module _ (texts : RowsAreAllOfTexts) (strs : RowsAreAllOfStrs) (found : AllHitsAreFindAllStr) where
-    rows-are : (rows : List Row) → AreRows vm.nfa (kind_of vm) false (whole text) rows → (hits : List Hit)
+    rows-are : (rows : List Row) → AreRows vm.nfa (kind_of vm) false (whole text) rows → (hits : List PatternHit)
         → AreAllHits re (is_utf8_empty vm.nfa) text hits → rows ≡ map (row_of_hit vm.nfa) hits
     rows-are rows are hits (inl e) = by-mode (is_utf8_empty vm.nfa) refl ∙ ap (map (row_of_hit vm.nfa)) (sym e)
       where
@@ -170,7 +173,7 @@ module _ (pattern : List ℕ) (re : Re) (vm : Pike) (text : List ℕ) (bytes : A
         ∙ ap (map (row_of_hit vm.nfa)) (found re vm.nfa (whole text) of.search.free refl refl refl ∙ sym e)
 
     pub caught-are : (cs : List Captured) → AreRows vm.nfa (kind_of vm) false (whole text) (map row_of cs)
-        → All (HasGroups vm.nfa) cs → (hits : List Hit) → AreAllHits re (is_utf8_empty vm.nfa) text hits
+        → All (HasGroups vm.nfa) cs → (hits : List PatternHit) → AreAllHits re (is_utf8_empty vm.nfa) text hits
         → cs ≡ map (captured_by vm.nfa.groups) hits
     caught-are cs are groups hits h =
         captures-are vm.nfa cs hits (recursion_from_All (HasGroups vm.nfa) cs groups)

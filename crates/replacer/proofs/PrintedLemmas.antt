@@ -3,7 +3,7 @@ use Rattle.std.proofs.Common.{◌≡◌, ◌∙◌, ℕ, ◌-◌, ◌<◌, Bool,
 use Rattle.std.specs.Prelude.{Option, None, Some, IfNone, IfSome}
 use Rattle.regex_hir.specs.Re.{Re}
 use Rattle.nfa_compiler.specs.NameLaws.{IsNamed}
-use Rattle.nfa_compiler.specs.Patterns.{Hit, found_at}
+use Rattle.nfa_compiler.specs.Patterns.{PatternHit, found_at}
 use Rattle.replacer.specs.Hits.{AreAllHits, groups_named_by, pattern_syntax}
 use Rattle.replacer.specs.Printed.{IsMisused, IsPrinted, IsTemplateMistake}
 use Rattle.replacer.specs.Separated.{first_fields_by, gaps}
@@ -19,7 +19,7 @@ at-read None read text P same is p = tt
 at-read (Some bytes) read text P same is p = subst P (same ∙ is) p
 
 -- the first fields, if there may be one
-pub first-by : (limit : ℕ) (text : List ℕ) (hits : List Hit) → 0 < limit
+pub first-by : (limit : ℕ) (text : List ℕ) (hits : List PatternHit) → 0 < limit
     → gaps text 0 (take (limit - 1) (map found_at hits)) ≡ first_fields_by limit text hits
 first-by limit text hits some = rw (ne_eqb limit 0 (λ e. absurd (omega (arith, e, some)))) refl
 
@@ -32,14 +32,14 @@ module _ (pattern : List ℕ) (groups : Groups) (command : Command)
     -- what is printed for the groups of the NFA is printed for those of the pattern
     pub printed-by : (all old new : Option (List ℕ)) (re : Re) (empty : Bool) (names : List (Option (List ℕ)))
         → IsNamed pattern_syntax pattern names
-        → IfSome all (λ text. (hits : List Hit) → AreAllHits re empty text hits
+        → IfSome all (λ text. (hits : List PatternHit) → AreAllHits re empty text hits
         → IsPrinted old new groups text hits command)
-        → IfSome all (λ text. (may : Bool) × ((hits : List Hit) → AreAllHits re may text hits
+        → IfSome all (λ text. (may : Bool) × ((hits : List PatternHit) → AreAllHits re may text hits
         → IsPrinted old new (groups_named_by names) text hits command))
     printed-by None old new re empty names named h = tt
     printed-by (Some text) old new re empty names named h =
         let P : Groups → Type 0 =
-        λ gs. (hits : List Hit) → AreAllHits re empty text hits → IsPrinted old new gs text hits command in
+        λ gs. (hits : List PatternHit) → AreAllHits re empty text hits → IsPrinted old new gs text hits command in
         (empty, subst P (known names named) h)
 
     -- so is a mistake

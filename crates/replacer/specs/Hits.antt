@@ -12,7 +12,7 @@ use Rattle.nfa_engines.specs.Engines.{Pike, kind_of}
 use Rattle.nfa_compiler.specs.AllHits.{hits_from}
 use Rattle.nfa_compiler.specs.BoundaryHits.{expected_on_boundary}
 use Rattle.nfa_compiler.specs.Compiled.{IsCompiled, IsMeant}
-use Rattle.nfa_compiler.specs.Patterns.{Hit, expected, hit_by, slots_of}
+use Rattle.nfa_compiler.specs.Patterns.{PatternHit, expected, hit_by, slots_of}
 
 -- The syntax of the pattern: the default one, in which a pattern matches characters of a text only.
 abbrev pub pattern_syntax : Config
@@ -32,17 +32,17 @@ pub record SearchesFor (pattern : List ℕ) (re : Re) (vm : Pike) : Type 0 where
 module _ (re : Re) (empty : Bool) (text : List ℕ) where
   -- The first hit from this place on. `empty` says that the pattern may match the empty string. Then a match that
   -- splits a codepoint does not count.
-  abbrev pub next_hit : ℕ → Option Hit
+  abbrev pub next_hit : ℕ → Option PatternHit
   next_hit i =
       if empty then expected_on_boundary (re ∷ []) false (record (whole text) { start = i })
       else expected (re ∷ []) false (record (whole text) { start = i })
 
   -- all hits, from left to right
-  abbrev pub hits_in : List Hit
+  abbrev pub hits_in : List PatternHit
   hits_in = hits_from next_hit (length text + 1) (next_hit 0)
 
   -- These are all hits in the text. If it is UTF-8, they are those that `find_all_str` of `regex_hir` gives, too.
-  abbrev pub AreAllHits : List Hit → Type 0
+  abbrev pub AreAllHits : List PatternHit → Type 0
   AreAllHits hits = (hits ≡ hits_in) ⊎ (IsUtf8 text × (hits ≡ map (hit_by 0) (find_all_str re text)))
 
 -- the explicit groups of a pattern whose groups have these names, from group 0 on
@@ -50,6 +50,6 @@ abbrev pub groups_named_by : List (Option (List ℕ)) → List (List (Option (Li
 groups_named_by names = drop 1 names ∷ []
 
 -- the captures of a hit
-abbrev pub captured_by : List (List (Option (List ℕ))) → Hit → Captured
+abbrev pub captured_by : List (List (Option (List ℕ))) → PatternHit → Captured
 captured_by groups h =
     record { groups = groups; pattern = Some h.pattern; slots = slots_of groups (slot_count groups) (Some h) }

@@ -2,7 +2,7 @@
 use Rattle.std.specs.Prelude.{ℕ, ◌≡◌, List, [], ◌∷◌, ◌++◌, Option, flat_map, length}
 use Rattle.std.specs.Io.KnownBytes.{Appends}
 use Rattle.nfa_compiler.specs.NameLaws.{IsNamed}
-use Rattle.nfa_compiler.specs.Patterns.{Hit}
+use Rattle.nfa_compiler.specs.Patterns.{PatternHit}
 use Rattle.nfa_compiler.specs.Rejected.{IsOfOneText}
 use Rattle.replacer.specs.Hits.{groups_named_by, pattern_syntax}
 use Rattle.replacer.specs.Replaced.{replaced_by}
@@ -20,7 +20,8 @@ field_lines fields = flat_map (λ field. field ++ (10 ∷ [])) fields
 
 -- A writer that held the bytes `old` has taken what the command prints of the text, and nothing else. The pattern has
 -- these groups and hits.
-module _ (old new : Option (List ℕ)) (groups : List (List (Option (List ℕ)))) (text : List ℕ) (hits : List Hit) where
+module _ (old new : Option (List ℕ)) (groups : List (List (Option (List ℕ)))) (text : List ℕ)
+    (hits : List PatternHit) where
   -- the template says some parts, and they replace each hit
   pub record IsReplacedBy (template : List ℕ) : Type 0 where
     pub parts : List Part

@@ -9,7 +9,7 @@ use Rattle.nfa_engines.specs.CapturesLists.{AreRows, HasGroups}
 use Rattle.nfa_engines.specs.CapturesRuns.{CapturesInside, match_in}
 use Rattle.nfa_engines.specs.Engines.{Pike, kind_of}
 use Rattle.nfa_engines.specs.Lists.{AreDisjoint}
-use Rattle.nfa_compiler.specs.Patterns.{Hit}
+use Rattle.nfa_compiler.specs.Patterns.{PatternHit}
 use Rattle.replacer.specs.Hits.{captured_by}
 use Rattle.replacer.specs.Separated.{last_end}
 use Rattle.replacer.specs.Templates.{filled}
@@ -27,7 +27,7 @@ replaced haystack parts from (c ∷ cs) =
     replaced_one haystack parts from c ++ replaced haystack parts (match_in c).end cs
 
 -- the text with these parts in place of each of its hits, for a pattern with these groups
-abbrev pub replaced_by : List (List (Option (List ℕ))) → List Part → List ℕ → List Hit → List ℕ
+abbrev pub replaced_by : List (List (Option (List ℕ))) → List Part → List ℕ → List PatternHit → List ℕ
 replaced_by groups parts text hits = replaced text parts 0 (map (captured_by groups) hits)
 
 -- these are the captures of all matches of the haystack, which lie in it one behind the other

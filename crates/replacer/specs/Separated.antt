@@ -7,7 +7,7 @@ use Rattle.regex_search_core.specs.Search.{whole}
 use Rattle.regex_search_core.specs.declared.search.Match.{Match}
 use Rattle.nfa_engines.specs.Engines.{Pike, kind_of}
 use Rattle.nfa_engines.specs.Lists.{AreDisjoint, AreFirstMatches, AreMatches}
-use Rattle.nfa_compiler.specs.Patterns.{Hit, found_at}
+use Rattle.nfa_compiler.specs.Patterns.{PatternHit, found_at}
 
 -- where the last one ended of the first i matches: at this offset, if there is one
 abbrev pub last_end : ℕ → ℕ → Option ℕ
@@ -23,11 +23,11 @@ gaps haystack from [] = drop from haystack ∷ []
 gaps haystack from (m ∷ ms) = slice_range haystack from m.start ∷ gaps haystack m.end ms
 
 -- the fields of the text, if these are its hits
-abbrev pub fields_by : List ℕ → List Hit → List (List ℕ)
+abbrev pub fields_by : List ℕ → List PatternHit → List (List ℕ)
 fields_by text hits = gaps text 0 (map found_at hits)
 
 -- its first fields, at most as many as the limit, with the rest of the text as the last one
-abbrev pub first_fields_by : ℕ → List ℕ → List Hit → List (List ℕ)
+abbrev pub first_fields_by : ℕ → List ℕ → List PatternHit → List (List ℕ)
 first_fields_by limit text hits =
     if limit == 0 then [] else gaps text 0 (take (limit - 1) (map found_at hits))
 

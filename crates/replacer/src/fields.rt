@@ -6,7 +6,7 @@ ghost use Rattle.regex_search_core.specs.Search.{whole};
 ghost use Rattle.nfa_engines.specs.Engines.{Fits, SameCapacities};
 ghost use Rattle.nfa_engines.specs.Lists.{AreDisjoint};
 ghost use Rattle.nfa_engines.specs.Paths.{is_utf8_empty};
-ghost use Rattle.nfa_compiler.specs.Patterns.{Hit};
+ghost use Rattle.nfa_compiler.specs.Patterns.{PatternHit};
 ghost use Rattle.replacer.specs.Hits.{AreAllHits, SearchesFor};
 ghost use Rattle.replacer.specs.Separated.{AreAround, IsSplit, IsSplitUpTo, fields_by, first_fields_by, texts};
 
@@ -27,7 +27,7 @@ pub fn split<'h>(
     haystack: &'h [u8],
 ) -> Result<Vec<&'h [u8]>, AllocError>
     requires { Fits cache.old vm.now.nfa }
-    ensures meant { IfOk result (λ fields. (pattern : List ℕ) (re : Re) (hits : List Hit)
+    ensures meant { IfOk result (λ fields. (pattern : List ℕ) (re : Re) (hits : List PatternHit)
         → SearchesFor pattern re vm.now → AreAllHits re (is_utf8_empty vm.now.nfa) haystack.now hits
         → texts fields.items ≡ fields_by haystack.now hits) }
     ensures fields { IfOk result (λ fields. IsSplit haystack.now vm.now (texts fields.items)) }
@@ -51,7 +51,7 @@ pub fn splitn<'h>(
     limit: usize,
 ) -> Result<Vec<&'h [u8]>, AllocError>
     requires { Fits cache.old vm.now.nfa }
-    ensures meant { IfOk result (λ fields. (pattern : List ℕ) (re : Re) (hits : List Hit)
+    ensures meant { IfOk result (λ fields. (pattern : List ℕ) (re : Re) (hits : List PatternHit)
         → SearchesFor pattern re vm.now → AreAllHits re (is_utf8_empty vm.now.nfa) haystack.now hits
         → texts fields.items ≡ first_fields_by limit haystack.now hits) }
     ensures none { limit ≡ 0 → IfOk result (λ fields. fields.items ≡ []) }

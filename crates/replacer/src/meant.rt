@@ -8,7 +8,7 @@ ghost use Rattle.nfa_engines.specs.CapturesLists.{AreRows, HasGroups};
 ghost use Rattle.nfa_engines.specs.Engines.{kind_of};
 ghost use Rattle.nfa_engines.specs.Lists.{AreFirstMatches, AreMatches};
 ghost use Rattle.nfa_engines.specs.Paths.{is_utf8_empty};
-ghost use Rattle.nfa_compiler.specs.Patterns.{Hit, found_at};
+ghost use Rattle.nfa_compiler.specs.Patterns.{PatternHit, found_at};
 ghost use Rattle.replacer.specs.Hits.{AreAllHits, SearchesFor, captured_by};
 
 use nfa_compiler::laws;
@@ -18,7 +18,7 @@ use regex_search_core::{Captures, Match};
 /// All matches of a text are its hits.
 pub fn all_are_meant(vm: &PikeVM, text: &[u8], matches: &[Match])
     requires { AreMatches vm.now.nfa (kind_of vm.now) false (whole text.now) (map found_of matches.now) }
-    ensures { (pattern : List ℕ) (re : Re) (hits : List Hit) → SearchesFor pattern re vm.now
+    ensures { (pattern : List ℕ) (re : Re) (hits : List PatternHit) → SearchesFor pattern re vm.now
         → AreAllHits re (is_utf8_empty vm.now.nfa) text.now hits → map found_of matches.now ≡ map found_at hits }
 {
     laws::iterations_find_texts();
@@ -32,7 +32,7 @@ pub fn first_are_meant(vm: &PikeVM, text: &[u8], matches: &[Match], count: usize
     requires as_many { (length matches.now ≡ count)
         ⊎ AreMatches vm.now.nfa (kind_of vm.now) false (whole text.now) (map found_of matches.now) }
     requires few { length matches.now ≤ count }
-    ensures { (pattern : List ℕ) (re : Re) (hits : List Hit) → SearchesFor pattern re vm.now
+    ensures { (pattern : List ℕ) (re : Re) (hits : List PatternHit) → SearchesFor pattern re vm.now
         → AreAllHits re (is_utf8_empty vm.now.nfa) text.now hits
         → map found_of matches.now ≡ take count (map found_at hits) }
 {
@@ -45,7 +45,7 @@ pub fn first_are_meant(vm: &PikeVM, text: &[u8], matches: &[Match], count: usize
 pub fn caught_are_meant(vm: &PikeVM, text: &[u8], caught: &[Captures])
     requires rows { AreRows vm.now.nfa (kind_of vm.now) false (whole text.now) (map row_of caught.now) }
     requires groups { All (HasGroups vm.now.nfa) caught.now }
-    ensures { (pattern : List ℕ) (re : Re) (hits : List Hit) → SearchesFor pattern re vm.now
+    ensures { (pattern : List ℕ) (re : Re) (hits : List PatternHit) → SearchesFor pattern re vm.now
         → AreAllHits re (is_utf8_empty vm.now.nfa) text.now hits
         → caught.now ≡ map (captured_by vm.now.nfa.groups) hits }
 {

@@ -6,7 +6,7 @@ ghost use Rattle.nfa_engines.specs.CapturesRuns.{CapturesInside, match_in};
 ghost use Rattle.nfa_engines.specs.Engines.{Fits, SameCapacities};
 ghost use Rattle.nfa_engines.specs.Lists.{AreDisjoint};
 ghost use Rattle.nfa_engines.specs.Paths.{is_utf8_empty};
-ghost use Rattle.nfa_compiler.specs.Patterns.{Hit};
+ghost use Rattle.nfa_compiler.specs.Patterns.{PatternHit};
 ghost use Rattle.replacer.specs.Hits.{AreAllHits, SearchesFor};
 ghost use Rattle.replacer.specs.Replaced.{IsReplaced, replaced, replaced_by, replaced_one};
 
@@ -31,7 +31,7 @@ pub fn replace_all(
     template: &Template<'_>,
 ) -> Result<Vec<u8>, AllocError>
     requires { Fits cache.old vm.now.nfa }
-    ensures meant { IfOk result (λ output. (pattern : List ℕ) (re : Re) (hits : List Hit)
+    ensures meant { IfOk result (λ output. (pattern : List ℕ) (re : Re) (hits : List PatternHit)
         → SearchesFor pattern re vm.now → AreAllHits re (is_utf8_empty vm.now.nfa) haystack.now hits
         → output.items ≡ replaced_by vm.now.nfa.groups template.now.parts.items haystack.now hits) }
     ensures replaced { IfOk result (λ output. IsReplaced vm.now haystack.now template.now.parts.items output.items) }

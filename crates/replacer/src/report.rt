@@ -5,7 +5,7 @@ ghost use Rattle.regex_hir.specs.Re.{Re};
 ghost use Rattle.nfa_engines.specs.Paths.{is_utf8_empty};
 ghost use Rattle.nfa_compiler.specs.Compiled.{IsMeant};
 ghost use Rattle.nfa_compiler.specs.NameLaws.{IsNamed};
-ghost use Rattle.nfa_compiler.specs.Patterns.{Hit};
+ghost use Rattle.nfa_compiler.specs.Patterns.{PatternHit};
 ghost use Rattle.nfa_compiler.specs.Rejected.{IsOfOneText};
 ghost use Rattle.replacer.specs.Hits.{AreAllHits, IsSearchOf, SearchesFor, groups_named_by, pattern_syntax};
 ghost use Rattle.replacer.specs.Printed.{IsMistakeIn, IsMisused, IsPrinted, IsReplacedBy, IsTemplateMistake};
@@ -53,7 +53,7 @@ pub fn run<R: Read + Drop, W: Write>(
 ) -> Result<Option<Mistake>>
     ensures printed { IfOk result (λ mistake. IfNone mistake ((re : Re) (names : List (Option (List ℕ)))
         → IsMeant pattern_syntax pattern.now re → IsNamed pattern_syntax pattern.now names
-        → IfSome (R.remaining input) (λ text. (empty : Bool) × ((hits : List Hit) → AreAllHits re empty text hits
+        → IfSome (R.remaining input) (λ text. (empty : Bool) × ((hits : List PatternHit) → AreAllHits re empty text hits
         → IsPrinted (W.contents out.old) (W.contents out.new) (groups_named_by names) text hits command.entry)))) }
     ensures mistake { IfOk result (λ mistake. IfSome mistake (IsMisused pattern.now command.entry)) }
     ensures kept { IfOk result (λ mistake. IfSome mistake (λ _. W.contents out.new ≡ W.contents out.old)) }
@@ -89,7 +89,7 @@ fn print<R: Read + Drop, W: Write>(
     out: &mut W,
 ) -> Result<Option<Mistake>>
     ensures printed { IfOk result (λ mistake. IfNone mistake ((pattern : List ℕ) (re : Re)
-        → SearchesFor pattern re vm.now → IfSome (R.remaining input) (λ text. (hits : List Hit)
+        → SearchesFor pattern re vm.now → IfSome (R.remaining input) (λ text. (hits : List PatternHit)
         → AreAllHits re (is_utf8_empty vm.now.nfa) text hits
         → IsPrinted (W.contents out.old) (W.contents out.new) vm.now.nfa.groups text hits command.entry))) }
     ensures mistake { IfOk result (λ mistake. IfSome mistake (IsTemplateMistake vm.now.nfa.groups command.entry)) }
@@ -119,7 +119,8 @@ fn print_all_fields<R: Read + Drop, W: Write>(
     out: &mut W,
 ) -> Result<()>
     ensures { OnOk result ((pattern : List ℕ) (re : Re) → SearchesFor pattern re vm.now
-        → IfSome (R.remaining input) (λ text. (hits : List Hit) → AreAllHits re (is_utf8_empty vm.now.nfa) text hits
+        → IfSome (R.remaining input) (λ text. (hits : List PatternHit)
+        → AreAllHits re (is_utf8_empty vm.now.nfa) text hits
         → Appends (W.contents out.old) (W.contents out.new) (field_lines (fields_by text hits)))) }
 {
     let text = whole_text(alloc, input)?;
@@ -138,7 +139,8 @@ fn print_first_fields<R: Read + Drop, W: Write>(
     out: &mut W,
 ) -> Result<()>
     ensures { OnOk result ((pattern : List ℕ) (re : Re) → SearchesFor pattern re vm.now
-        → IfSome (R.remaining input) (λ text. (hits : List Hit) → AreAllHits re (is_utf8_empty vm.now.nfa) text hits
+        → IfSome (R.remaining input) (λ text. (hits : List PatternHit)
+        → AreAllHits re (is_utf8_empty vm.now.nfa) text hits
         → Appends (W.contents out.old) (W.contents out.new) (field_lines (first_fields_by limit text hits)))) }
 {
     let text = whole_text(alloc, input)?;
@@ -157,7 +159,7 @@ fn replace<R: Read + Drop, W: Write>(
     out: &mut W,
 ) -> Result<Option<Mistake>>
     ensures printed { IfOk result (λ mistake. IfNone mistake ((pattern : List ℕ) (re : Re)
-        → SearchesFor pattern re vm.now → IfSome (R.remaining input) (λ text. (hits : List Hit)
+        → SearchesFor pattern re vm.now → IfSome (R.remaining input) (λ text. (hits : List PatternHit)
         → AreAllHits re (is_utf8_empty vm.now.nfa) text hits
         → IsReplacedBy (W.contents out.old) (W.contents out.new) vm.now.nfa.groups text hits template.now))) }
     ensures mistake { IfOk result (λ mistake. IfSome mistake (IsMistakeIn vm.now.nfa.groups template.now)) }
@@ -182,7 +184,7 @@ fn write_replaced<W: Write>(
     template: &Template<'_>,
     out: &mut W,
 ) -> Result<()>
-    ensures { OnOk result ((pattern : List ℕ) (re : Re) (hits : List Hit) → SearchesFor pattern re vm.now
+    ensures { OnOk result ((pattern : List ℕ) (re : Re) (hits : List PatternHit) → SearchesFor pattern re vm.now
         → AreAllHits re (is_utf8_empty vm.now.nfa) text.now hits → Appends (W.contents out.old) (W.contents out.new)
         (replaced_by vm.now.nfa.groups template.now.parts.items text.now hits)) }
 {

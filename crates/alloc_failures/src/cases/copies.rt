@@ -1,5 +1,5 @@
-//! Copies of a backtracker and of its cache, and a list of captures without a match: each makes a number of requests that
-//! is known, so that nothing is copied twice.
+//! Copies of a backtracker and of its cache, and a list of captures without a match: each makes a number of requests
+//! that is known, so that nothing is copied twice.
 
 use super::searches::found;
 use super::{Seen, Wrong, engines, expect};

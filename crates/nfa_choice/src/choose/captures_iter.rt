@@ -39,7 +39,6 @@ impl Model for CapturesFinder {
 impl Choice {
     ghost use Rattle.std.specs.Prelude.{◌≡◌, false, All, IfOk, IsOkUnless, None, map};
     ghost use Rattle.regex_search_core.specs.Search.{search_of};
-    ghost use Rattle.nfa_search_base.specs.CapturesGiven.{CapturesGiven};
     ghost use Rattle.nfa_search_base.specs.WithCaptures.{row_of};
     ghost use Rattle.nfa_search_base.specs.CapturesLists.{AreRows, AnswersRow};
     ghost use Rattle.nfa_search_base.specs.CapturesRuns.{CapturesDisjoint, CapturesFirst, CapturesGroups};
@@ -173,7 +172,7 @@ impl Choice {
         ensures searches { ChoiceCatchesBySearches (search_of input.entry) result }
         ensures keeps { ChoiceCatchesGiveKept result }
     {
-        self.fill_from(input, captures)
+        ChoiceCaptures::over(self, input, captures)
     }
 
     /// Returns the captures of all matches that do not overlap, from left to right, each with all groups of the NFA, as
@@ -213,28 +212,37 @@ impl Choice {
         };
         Steps::new(input, catcher).all_with(alloc, self)
     }
+}
 
-    // Returns the iterator that searches with these captures.
+impl<'c, 'h> ChoiceCaptures<'c, 'h> {
+    ghost use Rattle.std.specs.Prelude.{◌≡◌, false};
+    ghost use Rattle.regex_search_core.specs.Search.{search_of};
+    ghost use Rattle.nfa_search_base.specs.CapturesGiven.{CapturesGiven};
+    ghost use Rattle.nfa_search_base.specs.CapturesLists.{AnswersRow};
+    ghost use Rattle.nfa_search_base.specs.CapturesRuns.{CapturesMemory};
+    ghost use Rattle.nfa_search_base.specs.IterStates.{fresh};
+    ghost use Rattle.nfa_choice.specs.CapturesMatches.{ChoiceCatchesBySearches, ChoiceCatchesGiveKept};
+    ghost use Rattle.nfa_choice.specs.CapturesMatches.{choice_catches_choice, choice_catches_done};
+    ghost use Rattle.nfa_choice.specs.CapturesMatches.{choice_catches_next, choice_catches_walk};
+    ghost use Rattle.nfa_choice.specs.ChoiceState.{kind_in};
+
+    // An iterator that searches with these captures.
     #[inline]
-    fn fill_from<'c, 'h>(
-        &'c mut self,
-        input: Input<'h>,
-        captures: Captures,
-    ) -> ChoiceCaptures<'c, 'h>
-        requires { HasGroups self.old.nfa captures }
-        ensures same_reference { (choice_catches_choice result).ghost_name ≡ self.entry.ghost_name }
-        ensures same_choice { (choice_catches_choice result).now ≡ self.entry.now }
+    fn over(choice: &'c mut Choice, input: Input<'h>, captures: Captures) -> ChoiceCaptures<'c, 'h>
+        requires { HasGroups choice.old.nfa captures }
+        ensures same_reference { (choice_catches_choice result).ghost_name ≡ choice.entry.ghost_name }
+        ensures same_choice { (choice_catches_choice result).now ≡ choice.entry.now }
         ensures walk { choice_catches_walk result ≡ fresh (search_of input.entry) }
         ensures going { choice_catches_done result ≡ false }
-        ensures given { CapturesGiven choice_catches_next self.entry.now.nfa (kind_in self.entry.now)
-            (search_of input.entry).earliest (AnswersRow self.entry.now.nfa (kind_in self.entry.now)
+        ensures given { CapturesGiven choice_catches_next choice.entry.now.nfa (kind_in choice.entry.now)
+            (search_of input.entry).earliest (AnswersRow choice.entry.now.nfa (kind_in choice.entry.now)
             (search_of input.entry).earliest) (search_of input.entry) result }
         ensures errors { CapturesMemory choice_catches_next result }
         ensures searches { ChoiceCatchesBySearches (search_of input.entry) result }
         ensures keeps { ChoiceCatchesGiveKept result }
     {
         ChoiceCaptures {
-            choice: self,
+            choice,
             steps: Steps {
                 searcher: Searcher::new(input),
                 backend: CapturesFinder { captures },

@@ -2,11 +2,11 @@
 use Rattle.std.proofs.Common.{◌≡◌, take}
 use Rattle.std.specs.List.{count_by}
 use Rattle.nfa_engines.specs.Engines.{SameCapacities}
-use Rattle.callers.specs.Loops.{pike_matches}
+use Rattle.callers.specs.Loops.{pikevm_finds}
 use Rattle.callers.proofs.loops.count_by_pikevm.Given as goal
 
 abbrev pub invariant-loop-line : goal.invariant-loop-line
 invariant-loop-line l = record {
-  count : l.count ≡ count_by (λ line. pike_matches l.vm line.now) (take l.line-index l.lines);
+  count : l.count ≡ count_by (λ line. pikevm_finds l.vm line.now) (take l.line-index l.lines);
   capacities : SameCapacities l.fn.cache l.cache;
 }

@@ -3,7 +3,7 @@ use Rattle.std.proofs.Common.{◌∙◌, ℕ, ◌<◌, zero, suc, [], ◌∷◌,
 use Rattle.regex_hir.specs.Meaning.{meaning}
 use Rattle.regex_hir.specs.Re.{Re}
 use Rattle.nfa_engines.specs.Search.{search_of}
-use Rattle.nfa_compiler.specs.Patterns.{Hit, found_in}
+use Rattle.nfa_compiler.specs.Patterns.{PatternHit, found_of_hit}
 use Rattle.nfa_compiler.specs.StrHits.{MatchesCharacters}
 use Rattle.law_callers.proofs.hits.find_tree_in_str.Goals as goal
 
@@ -20,6 +20,6 @@ returns c =
     c.searches_find_boundary_hits.ensures.matches (re ∷ []) c.args.engine.now.nfa _ _ x _
     c.requires.made c.requires.empty (record { leftmost = refl; latest = refl; whole = c.requires.whole })
     c.in_ok-found.ensures.answer
-    ∙ ap (λ (h : Option Hit). found_in h)
+    ∙ ap (λ (h : Option PatternHit). found_of_hit h)
     (c.boundary_hits_are_str_hits.ensures (re ∷ []) c.args.engine.now.nfa x
     (one-of re (c.trees_match_characters.ensures c.args.tree.now c.requires.formed)) c.requires.text c.requires.start)

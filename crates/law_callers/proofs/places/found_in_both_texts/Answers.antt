@@ -1,24 +1,11 @@
 -- Both laws, of the two matches.
-use Rattle.std.proofs.Common.{◌≡◌, ◌∙◌, ◌+◌, Bool, option_map, ap, subst, arith}
-use Rattle.std.specs.Prelude.{slice_get}
+use Rattle.std.proofs.Common.{Bool, option_map, subst}
 use Rattle.nfa_engines.specs.Found.{found_of}
-use Rattle.nfa_engines.specs.Search.{Search, search_of}
+use Rattle.nfa_engines.specs.Search.{search_of}
 use Rattle.nfa_engines.specs.Engines.{kind_of}
 use Rattle.nfa_engines.specs.Paths.{IsFindAnswer}
-use Rattle.nfa_engines.specs.SpanLaws.{AreBytesMoved, IsSameSpan, IsSpanMoved}
+use Rattle.nfa_engines.proofs.SpanLemmas.{same-moved, same-bytes}
 use Rattle.law_callers.proofs.places.found_in_both_texts.Goals as goal
-
--- the same span is moved by nothing
-same-moved : (x y : Search) → IsSameSpan x y → IsSpanMoved 0 x y
-same-moved x y h =
-    let start : y.start ≡ x.start = h.start in
-    let end : y.end ≡ x.end = h.end in
-    record { start = omega arith; end = omega arith; anchored = h.anchored }
-
-same-bytes : (x y : Search) → IsSameSpan x y → AreBytesMoved 0 x y
-same-bytes x y h = λ i past below.
-    let at : i + 0 ≡ i = omega arith in
-    ap (slice_get y.haystack) at ∙ h.bytes i past below
 
 pub returns : goal.returns
 returns c =

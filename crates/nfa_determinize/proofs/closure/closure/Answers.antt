@@ -1,5 +1,5 @@
 -- Each state that is taken from the stack is passed over, kept, or gives way to the states that it leads to.
-use Rattle.std.proofs.Common.{◌≡◌, ◌∙◌, ◌<◌, ◌++◌, ◌-◌, List, [], ◌∷◌, ℕ, Bool, true, ap, sym, subst, arith, reverse, take}
+use Rattle.std.proofs.Common.{◌≡◌, ◌∙◌, ◌<◌, ◌++◌, ◌-◌, List, [], ℕ, Bool, true, ap, sym, subst, arith, reverse, take}
 use Rattle.std.specs.Prelude.{Option, option_to_list}
 use Rattle.thompson_nfa.specs.Automaton.{node_of}
 use Rattle.nfa_paths.specs.Kinds.{rests}
@@ -22,29 +22,21 @@ loop-sid-smaller-in-Continue-branch-3 c =
     let nfa = c.args.nfa.now in
     let old = c.loop-sid.seen.items in
     let rest = c.pop.new.self.items in
-    let popped : c.loop-sid.waiting.items ≡ rest ++ c.in-Some.sid ∷ [] = c.in-Some.ensures.items in
-    subst (λ (w : List ℕ). takes_left nfa c.see.new.seen.items rest < takes_left nfa old w) (sym popped)
-    (subst (λ (b : List Bool). takes_left nfa b rest < takes_left nfa old (rest ++ c.in-Some.sid ∷ []))
+    subst (λ (b : List Bool). takes_left nfa b rest < takes_left nfa old c.loop-sid.waiting.items)
     (sym (c.see.ensures.marked c.if-see.true))
-    (takes-kept nfa (holding_at c.args.haystack.now c.args.at) old rest c.in-Some.sid
-    (c.see.ensures.fresh c.if-see.true)))
+    (takes-kept nfa (holding_at c.args.haystack.now c.args.at) old rest c.in-Some.sid c.in-Some.ensures.items
+    (c.see.ensures.fresh c.if-see.true))
 
 pub loop-sid-preserved-in-Continue-branch-3 : goal.loop-sid-preserved-in-Continue-branch-3
 loop-sid-preserved-in-Continue-branch-3 c =
     let nfa = c.args.nfa.now in
-    let holding = holding_at c.args.haystack.now c.args.at in
-    let goal_states = closure nfa holding c.args.states.now in
     let s = c.in-Some.sid in
-    let rest = c.pop.new.self.items in
-    let popped : c.loop-sid.waiting.items ≡ rest ++ s ∷ [] = c.in-Some.ensures.items in
-    let before : IsUnderWay nfa holding goal_states c.loop-sid.seen.items (rest ++ s ∷ []) c.loop-sid.kept.items =
-    subst (λ (w : List ℕ). IsUnderWay nfa holding goal_states c.loop-sid.seen.items w c.loop-sid.kept.items) popped
-    c.loop-sid.invariant in
     let r : rests (node_at nfa s) ≡ true =
     ap rests (node_at-get nfa s (node_of c.state-state.result.now) c.state-state.ensures.node)
     ∙ sym c.rests.ensures ∙ c.if-rests.true in
     rw (c.see.ensures.marked c.if-see.true, c.in_ok-push.ensures.items)
-    (IsUnderWay-kept nfa holding rest s before (c.see.ensures.fresh c.if-see.true) r)
+    (IsUnderWay-kept nfa (holding_at c.args.haystack.now c.args.at) c.pop.new.self.items s c.in-Some.ensures.items
+    c.loop-sid.invariant (c.see.ensures.fresh c.if-see.true) r)
 
 pub loop-sid-smaller-in-Continue-branch-4 : goal.loop-sid-smaller-in-Continue-branch-4
 loop-sid-smaller-in-Continue-branch-4 c =
@@ -52,59 +44,40 @@ loop-sid-smaller-in-Continue-branch-4 c =
     let holding = holding_at c.args.haystack.now c.args.at in
     let node = node_of c.state-state.result.now in
     let old = c.loop-sid.seen.items in
+    let waiting = c.loop-sid.waiting.items in
     let rest = c.pop.new.self.items in
-    let s = c.in-Some.sid in
     let stack = rest ++ reverse (epsilon_states holding node) in
-    let popped : c.loop-sid.waiting.items ≡ rest ++ s ∷ [] = c.in-Some.ensures.items in
     let pushed : c.push_epsilon_states.new.waiting.items ≡ stack = c.in_ok-push_epsilon_states.ensures in
-    subst (λ (w : List ℕ). takes_left nfa c.see.new.seen.items c.push_epsilon_states.new.waiting.items
-    < takes_left nfa old w) (sym popped)
-    (subst (λ (w : List ℕ). takes_left nfa c.see.new.seen.items w < takes_left nfa old (rest ++ s ∷ [])) (sym pushed)
-    (subst (λ (b : List Bool). takes_left nfa b stack < takes_left nfa old (rest ++ s ∷ []))
+    subst (λ (w : List ℕ). takes_left nfa c.see.new.seen.items w < takes_left nfa old waiting) (sym pushed)
+    (subst (λ (b : List Bool). takes_left nfa b stack < takes_left nfa old waiting)
     (sym (c.see.ensures.marked c.if-see.true))
-    (takes-left nfa holding old rest s node c.state-state.ensures.node (c.see.ensures.fresh c.if-see.true))))
+    (takes-left nfa holding old rest c.in-Some.sid c.in-Some.ensures.items node c.state-state.ensures.node
+    (c.see.ensures.fresh c.if-see.true)))
 
 pub loop-sid-preserved-in-Continue-branch-4 : goal.loop-sid-preserved-in-Continue-branch-4
 loop-sid-preserved-in-Continue-branch-4 c =
     let nfa = c.args.nfa.now in
-    let holding = holding_at c.args.haystack.now c.args.at in
-    let goal_states = closure nfa holding c.args.states.now in
     let node = node_of c.state-state.result.now in
     let s = c.in-Some.sid in
-    let rest = c.pop.new.self.items in
-    let popped : c.loop-sid.waiting.items ≡ rest ++ s ∷ [] = c.in-Some.ensures.items in
-    let before : IsUnderWay nfa holding goal_states c.loop-sid.seen.items (rest ++ s ∷ []) c.loop-sid.kept.items =
-    subst (λ (w : List ℕ). IsUnderWay nfa holding goal_states c.loop-sid.seen.items w c.loop-sid.kept.items) popped
-    c.loop-sid.invariant in
     rw (c.see.ensures.marked c.if-see.true, c.in_ok-push_epsilon_states.ensures)
-    (IsUnderWay-left nfa holding rest s before node (node_at-get nfa s node c.state-state.ensures.node)
-    c.state-state.ensures.leads (c.see.ensures.fresh c.if-see.true) (sym c.rests.ensures ∙ c.if-rests.false))
+    (IsUnderWay-left nfa (holding_at c.args.haystack.now c.args.at) c.pop.new.self.items s c.in-Some.ensures.items
+    c.loop-sid.invariant node (node_at-get nfa s node c.state-state.ensures.node) c.state-state.ensures.leads
+    (c.see.ensures.fresh c.if-see.true) (sym c.rests.ensures ∙ c.if-rests.false))
 
 pub loop-sid-smaller : goal.loop-sid-smaller
 loop-sid-smaller c =
     let nfa = c.args.nfa.now in
     let old = c.loop-sid.seen.items in
     let rest = c.pop.new.self.items in
-    let s = c.in-Some.sid in
-    let popped : c.loop-sid.waiting.items ≡ rest ++ s ∷ [] = c.in-Some.ensures.items in
-    subst (λ (w : List ℕ). takes_left nfa c.see.new.seen.items rest < takes_left nfa old w) (sym popped)
-    (subst (λ (b : List Bool). takes_left nfa b rest < takes_left nfa old (rest ++ s ∷ []))
+    subst (λ (b : List Bool). takes_left nfa b rest < takes_left nfa old c.loop-sid.waiting.items)
     (sym (c.see.ensures.same c.if-see.false))
-    (takes-seen nfa (holding_at c.args.haystack.now c.args.at) old rest s))
+    (takes-seen nfa (holding_at c.args.haystack.now c.args.at) old rest c.in-Some.sid c.in-Some.ensures.items)
 
 pub loop-sid-preserved : goal.loop-sid-preserved
 loop-sid-preserved c =
-    let nfa = c.args.nfa.now in
-    let holding = holding_at c.args.haystack.now c.args.at in
-    let goal_states = closure nfa holding c.args.states.now in
-    let s = c.in-Some.sid in
-    let rest = c.pop.new.self.items in
-    let popped : c.loop-sid.waiting.items ≡ rest ++ s ∷ [] = c.in-Some.ensures.items in
-    let before : IsUnderWay nfa holding goal_states c.loop-sid.seen.items (rest ++ s ∷ []) c.loop-sid.kept.items =
-    subst (λ (w : List ℕ). IsUnderWay nfa holding goal_states c.loop-sid.seen.items w c.loop-sid.kept.items) popped
-    c.loop-sid.invariant in
     rw (c.see.ensures.same c.if-see.false)
-    (IsUnderWay-seen nfa holding rest s before (c.see.ensures.again c.if-see.false))
+    (IsUnderWay-seen c.args.nfa.now (holding_at c.args.haystack.now c.args.at) c.pop.new.self.items c.in-Some.sid
+    c.in-Some.ensures.items c.loop-sid.invariant (c.see.ensures.again c.if-see.false))
 
 pub returns-clause-closure : goal.returns-clause-closure
 returns-clause-closure c =

@@ -2,7 +2,7 @@
 use Rattle.std.proofs.Common.{ℕ, List, rules}
 use Rattle.regex_hir.specs.Re.{Re}
 use Rattle.nfa_engines.specs.Paths.{is_utf8_empty}
-use Rattle.nfa_compiler.specs.Patterns.{Hit}
+use Rattle.nfa_compiler.specs.Patterns.{PatternHit}
 use Rattle.replacer.specs.Hits.{AreAllHits}
 use Rattle.replacer.specs.Printed.{IsReplacedBy}
 use Rattle.replacer.proofs.PrintedLemmas.{at-read}
@@ -12,7 +12,7 @@ pub returns-clause-printed : goal.returns-clause-printed
 returns-clause-printed g c = λ pattern re of.
     let nfa = c.args.vm.now.nfa in
     let P : List ℕ → Type 0 =
-    λ text. (hits : List Hit) → AreAllHits re (is_utf8_empty nfa) text hits
+    λ text. (hits : List PatternHit) → AreAllHits re (is_utf8_empty nfa) text hits
     → IsReplacedBy (g.W.Write.contents c.args.out.now) (g.W.Write.contents c.write_replaced.new.out)
     nfa.groups text hits
     c.args.template.now in

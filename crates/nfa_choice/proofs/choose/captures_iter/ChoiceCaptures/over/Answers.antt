@@ -2,7 +2,7 @@
 use Rattle.std.proofs.Common.{refl}
 use Rattle.regex_search_core.specs.Search.{search_of}
 use Rattle.nfa_choice.proofs.CapturesLemmas.{catches-choice, catches-given, catches-memory, catches-searches}
-use Rattle.nfa_choice.proofs.choose.Choice.fill_from.Goals as goal
+use Rattle.nfa_choice.proofs.choose.captures_iter.ChoiceCaptures.over.Goals as goal
 
 pub returns-clause-given : goal.returns-clause-given
 returns-clause-given c = catches-given (search_of c.args.input) _ c.new.ensures refl
