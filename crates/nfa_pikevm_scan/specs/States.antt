@@ -1,6 +1,6 @@
 -- What a PikeVM keeps at a position, in the words of its proof: its marks as pairs that were seen, its stack as work
 -- that is left, the states that it keeps for the next position as a front.
-use Rattle.std.specs.Prelude.{◌≡◌, ◌⊎◌, ℕ, ◌+◌, ◌<◌, ◌≤◌, Bool, true, false, List, [], ◌∷◌, ◌++◌, Option, None, Some, cond, length, map, replicate, All, slice_index_or, slice_set}
+use Rattle.std.specs.Prelude.{◌≡◌, ◌⊎◌, ℕ, ◌+◌, ◌<◌, ◌≤◌, Bool, true, false, List, [], ◌∷◌, ◌++◌, Option, None, Some, cond, length, map, replicate, All, slice_get, slice_index_or, slice_set}
 use Rattle.std.specs.List.{sum_by}
 use Rattle.regex_search_core.specs.Search.{Search, search_of}
 use Rattle.regex_search_core.specs.Patterns.{number_of}
@@ -100,6 +100,37 @@ HasSlot count (Restore slot old) = slot < count
 abbrev pub IsBelow : ℕ → Option ℕ → Type 0
 IsBelow states None = Unit {0}
 IsBelow states (Some s) = s < states
+
+-- the state that a byte leads to, if there is one, with its slots
+abbrev pub move_to : Option ℕ → Slots → List (ℕ × Slots)
+move_to None slots = []
+move_to (Some sid) slots = (sid, slots) ∷ []
+
+-- the frame is pushed, unless the stack is empty
+abbrev pub IsPut : List FollowEpsilon → FollowEpsilon → List FollowEpsilon → Type 0
+IsPut stack f above = ((stack ≡ []) × (above ≡ [])) ⊎ (above ≡ stack ++ f ∷ [])
+
+-- the stack and the slots after a Capture: its slot holds the position, if there is such a slot, and a frame restores it
+abbrev pub IsSaved : ℕ → ℕ → List FollowEpsilon → Slots → List FollowEpsilon → Slots → Type 0
+IsSaved at slot stack slots above written =
+    ((slot < length slots) × IsPut stack (Restore slot (slice_index_or slots slot None)) above
+    × (written ≡ slice_set slots slot (Some at)))
+    ⊎ ((length slots ≤ slot) × (above ≡ stack) × (written ≡ slots))
+
+-- The turn found its state marked.
+pub record WasMarked (s : ℕ) (met after : Marks) : Type 0 where
+  pub seen : slice_index_or met.bits s false ≡ true
+  pub same : after.bits ≡ met.bits
+  pub counted : after.turns ≡ met.turns + 1
+
+-- The turn marked the state of this number.
+pub record Entered (nfa : Automaton) (s : ℕ) (node : Node) (met after : Marks) : Type 0 where
+  pub is : slice_get nfa.states s ≡ Some node
+  pub inside : s < length met.bits
+  pub below : s < length nfa.states
+  pub clear : slice_index_or met.bits s true ≡ false
+  pub marked : after.bits ≡ slice_set met.bits s true
+  pub counted : after.turns ≡ met.turns + 1
 
 -- each pair of the set is a Match
 abbrev pub AreMatchPairs : Automaton → (Pair → Bool) → Type 0
@@ -201,6 +232,7 @@ module _ (nfa : Automaton) (x : Search) where
     pub follows : (before : Frontier) (old : Slots) (work : List Task)
         → Follows at met before (ToExplore (s, at) ∷ work_onto at stack (ToLoad old ∷ work)) slots
         after (before ++ front) (with_state at (state_on turn) (work_onto at above (ToLoad old ∷ work))) written
+    pub paid : Paid nfa met (length items) stack 1 after (length kept) above (tries_of (state_on turn))
 
   -- The result of turns from a state on up to the next match, if there is one: the front that they add, which ends with
   -- the match, and what is left on the stack.

@@ -37,7 +37,7 @@ pub loop-on-smaller-in-On : goal.loop-on-smaller-in-On
 loop-on-smaller-in-On c =
     omega (
       arith,
-      c.in-On.ensures.paid.tried,
+      c.in-On.ensures.enters.paid.tried,
       c.in-On.ensures.turns,
       marked_sum-le (map degree c.args.here.now.nfa.now.states) c.loop-on.reached.seen.bits,
       marked_sum-le (map degree c.args.here.now.nfa.now.states) c.visit_state.new.reached.seen.bits,
@@ -51,7 +51,7 @@ loop-on-preserved-in-On c =
       keeps = KeepsRoom-then c.loop-on.invariant.keeps c.in-On.ensures.keeps;
       grows = omega (arith, c.in-On.ensures.turns);
       within = rw c.visit_state.auto.row c.in-On.ensures.within;
-      paid = Paid-then c.loop-on.invariant.paid c.in-On.ensures.paid;
+      paid = Paid-then c.loop-on.invariant.paid c.in-On.ensures.enters.paid;
       passed = Passed-plain c.loop-on.invariant.passed c.in-On.ensures.enters c.in-On.ensures.enters.is_met;
     }
 
@@ -62,7 +62,7 @@ pub returns-in-Matched-clause-keeps : goal.returns-in-Matched-clause-keeps
 returns-in-Matched-clause-keeps c = KeepsRoom-then c.loop-on.invariant.keeps c.in-Matched.ensures.keeps
 
 pub returns-in-Matched-clause-paid : goal.returns-in-Matched-clause-paid
-returns-in-Matched-clause-paid c = Paid-then c.loop-on.invariant.paid c.in-Matched.ensures.paid
+returns-in-Matched-clause-paid c = Paid-then c.loop-on.invariant.paid c.in-Matched.ensures.enters.paid
 
 pub returns-in-Matched-clause-finds : goal.returns-in-Matched-clause-finds
 returns-in-Matched-clause-finds c = Finds-match c.loop-on.invariant.passed c.in-Matched.ensures.enters
@@ -71,7 +71,7 @@ pub loop-on-smaller : goal.loop-on-smaller
 loop-on-smaller c =
     omega (
       arith,
-      c.in-DeadEnd.ensures.paid.tried,
+      c.in-DeadEnd.ensures.enters.paid.tried,
       c.visit_state.ensures.turns,
       c.in-Some.ensures.tried,
       marked_sum-le (map degree c.args.here.now.nfa.now.states) c.loop-on.reached.seen.bits,
@@ -93,7 +93,7 @@ loop-on-preserved c =
           (within-lower _ _ _ _ _ c.in-Some.ensures.top c.visit_state.ensures.within);
       paid = Paid-resumed c.visit_state.new.top c.resume.new.top c.visit_state.new.frames 1 c.in-Some.ensures.top
           (omega (arith, c.visit_state.ensures.top, stack)) c.in-Some.ensures.tried
-          (Paid-then c.loop-on.invariant.paid c.in-DeadEnd.ensures.paid);
+          (Paid-then c.loop-on.invariant.paid c.in-DeadEnd.ensures.enters.paid);
       passed = Passed-resumed _ _ _ (λ front work. c.in-Some.ensures.follows c.args.here.now.nfa.now
           (search_of c.args.here.now.input.now) c.args.here.now.at c.visit_state.new.reached.seen front work) turned;
     }
@@ -109,7 +109,7 @@ returns-in-None-clause-paid c =
     let stack = c.requires.room.stack in
     Paid-resumed c.visit_state.new.top c.resume.new.top c.visit_state.new.frames 0 c.in-None.ensures.top
     (omega (arith, c.visit_state.ensures.top, stack)) c.in-None.ensures.tried
-    (Paid-then c.loop-on.invariant.paid c.in-DeadEnd.ensures.paid)
+    (Paid-then c.loop-on.invariant.paid c.in-DeadEnd.ensures.enters.paid)
 
 pub returns-in-None-clause-finds : goal.returns-in-None-clause-finds
 returns-in-None-clause-finds c =
