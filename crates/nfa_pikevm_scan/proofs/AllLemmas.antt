@@ -112,9 +112,6 @@ module _ (nfa : Automaton) (x : Search) (at width state limit : ℕ) where
         c.front at
     nexts-front = all-front (is_match nfa) (λ v t. t) (search-crossed width state limit c) s
 
-    pub ScansAll-cross : GoesOn past hit → ScansAll nfa x (is_match nfa) (at + 1) width state limit after kept
-    ScansAll-cross = ScansAll-next (is_match nfa) (λ v t. t) (search-crossed width state limit c) s
-
     -- no path ended before the position, and none ends at it
     pub NoneBefore-cross : hit ≡ None → NoneBefore (space nfa x) (is_match nfa) at
         → NoneBefore (space nfa x) (is_match nfa) (at + 1)

@@ -13,6 +13,7 @@ pub mod FrontierLemmas
 pub mod ScanLemmas
 pub mod AllLemmas
 pub mod EndLemmas
+pub mod StandsLemmas
 pub mod RoomLemmas
 pub mod SizeLemmas
 pub mod OverlapFirstLemmas

@@ -56,8 +56,8 @@ impl MatchSink for PatternSink<'_> {
     }
 }
 
-/// Follows the states at the position, and keeps the states that its byte leads to for the next one. Returns whether
-/// there was a match that counts. Requires a set that is not full, since a full one gains nothing.
+/// Follows the states at the position, and goes on to those that its byte leads to. Returns whether there was a match
+/// that counts. Requires a set that is not full, since a full one gains nothing.
 fn nexts_overlapping(
     nfa: &NFA,
     input: &Input<'_>,
@@ -72,12 +72,13 @@ fn nexts_overlapping(
     requires some { 0 < length threads.old.curr.items }
     requires empty { threads.old.reached.next.items ≡ [] }
     requires not_full { size_of_set patterns.old < length patterns.old }
+    ensures next { threads.new.reached.next.items ≡ [] }
     ensures width { threads.new.curr.width ≡ threads.old.curr.width }
     ensures sizes { SameSizes threads.old threads.new }
     ensures scans { threads.new.scans ≡ threads.old.scans }
     ensures crosses { NextsOverlappingGive nfa.now (search_of input.now) at past_match (length patterns.old)
         threads.old.reached.seen threads.old.curr.items patterns.old result threads.new.reached.seen
-        threads.new.reached.next.items patterns.new }
+        threads.new.curr.items patterns.new }
 {
     let mut gatherer = PatternSink {
         patterns,
@@ -86,6 +87,7 @@ fn nexts_overlapping(
         met: false,
     };
     nexts_with(nfa, input, at, threads, &mut gatherer);
+    swap_state_sets(threads);
     gatherer.met
 }
 
@@ -114,7 +116,6 @@ fn overlap_all(
             return;
         }
         nexts_overlapping(nfa, input, at, true, threads, patterns);
-        swap_state_sets(threads);
     }
 }
 
@@ -144,7 +145,6 @@ fn overlap_earliest(
             return;
         }
         let met = nexts_overlapping(nfa, input, at, past_match, threads, patterns);
-        swap_state_sets(threads);
         if met {
             return;
         }
@@ -186,7 +186,6 @@ fn overlap_first(
             return;
         }
         let met = nexts_overlapping(nfa, input, at, false, threads, patterns);
-        swap_state_sets(threads);
         if is_over(met, patterns) {
             return;
         }

@@ -40,16 +40,15 @@ loop-at-preserved c =
     let crosses = crosses-joined (length c.args.patterns.now) c.loop-at.threads.reached.seen _
     c.loop-at.invariant.so_far.gains.capacity c.add_start.ensures.seen items c.nexts_overlapping.ensures.crosses in
     record {
-      counted = c.swap_state_sets.ensures.scans ∙ c.nexts_overlapping.ensures.scans ∙ c.add_start.ensures.scans
+      counted = c.nexts_overlapping.ensures.scans ∙ c.add_start.ensures.scans
           ∙ c.loop-at.invariant.counted;
       low = omega arith;
-      sizes = c.swap_state_sets.ensures.sizes ∙ c.nexts_overlapping.ensures.sizes ∙ c.add_start.ensures.sizes
+      sizes = c.nexts_overlapping.ensures.sizes ∙ c.add_start.ensures.sizes
           ∙ c.loop-at.invariant.sizes;
-      width = c.swap_state_sets.ensures.width ∙ c.nexts_overlapping.ensures.width ∙ c.add_start.ensures.width
+      width = c.nexts_overlapping.ensures.width ∙ c.add_start.ensures.width
           ∙ c.loop-at.invariant.width;
-      next = c.swap_state_sets.ensures.next;
-      so_far = rw (c.swap_state_sets.ensures.seen, c.swap_state_sets.ensures.curr)
-          (All-next c.args.nfa.now (search_of c.args.input.now) c.args.patterns.now c.requires.valid
+      next = c.nexts_overlapping.ensures.next;
+      so_far = (All-next c.args.nfa.now (search_of c.args.input.now) c.args.patterns.now c.requires.valid
           c.loop-at.invariant.low c.loop-at.invariant.so_far crosses);
     }
 

@@ -5,7 +5,9 @@ use Rattle.nfa_paths.proofs.ScanAnswerLemmas.{EndsBefore-span}
 use Rattle.nfa_pikevm_scan.specs.Overlapping.{wants}
 use Rattle.nfa_pikevm_scan.proofs.EndLemmas.{ScansAll-over}
 use Rattle.nfa_pikevm_scan.proofs.OverlapSetLemmas.{wants-match}
-use Rattle.nfa_pikevm_scan.proofs.OverlapLoopLemmas.{crosses-joined, Stands-turns, Earliest-start, Earliest-next, Earliest-found, Earliest-end}
+use Rattle.nfa_pikevm_scan.proofs.OverlapLoopLemmas.{crosses-joined, Earliest-start, Earliest-next, Earliest-found, Earliest-end}
+use Rattle.nfa_pikevm_scan.proofs.ScanLemmas.{set-crossed}
+use Rattle.nfa_pikevm_scan.proofs.StandsLemmas.{Stands-turns}
 use Rattle.nfa_pikevm_scan.proofs.RoomLemmas.{none_of, below-joined}
 use Rattle.nfa_pikevm_scan.proofs.overlap.overlap_earliest.Goals as goal
 
@@ -44,9 +46,8 @@ returns-then-met-clause-turns c =
     let crosses = crosses-joined (length c.args.patterns.now) c.loop-at.threads.reached.seen _
     (ap (λ (l : List Bool). length l) c.loop-at.invariant.so_far.still) c.add_start.ensures.seen items
     c.nexts_overlapping-met.ensures.crosses in
-    rw c.swap_state_sets.ensures.seen
-    (Stands-turns c.args.nfa.now (search_of c.args.input.now) c.args.patterns.now c.loop-at.invariant.low
-    (omega (arith, c.end-at-end.ensures.value, c.loop-at-test.true)) c.loop-at.invariant.so_far.stands crosses)
+    Stands-turns c.loop-at.invariant.so_far.stands (set-crossed _ _ crosses) c.loop-at.invariant.low
+    (omega (arith, c.end-at-end.ensures.value, c.loop-at-test.true))
 
 pub returns-then-met-clause-gains : goal.returns-then-met-clause-gains
 returns-then-met-clause-gains c =
@@ -64,16 +65,15 @@ loop-at-preserved c =
     (ap (λ (l : List Bool). length l) c.loop-at.invariant.so_far.still) c.add_start.ensures.seen items
     c.nexts_overlapping-met.ensures.crosses in
     record {
-      counted = c.swap_state_sets.ensures.scans ∙ c.nexts_overlapping-met.ensures.scans ∙ c.add_start.ensures.scans
+      counted = c.nexts_overlapping-met.ensures.scans ∙ c.add_start.ensures.scans
           ∙ c.loop-at.invariant.counted;
       low = omega arith;
-      sizes = c.swap_state_sets.ensures.sizes ∙ c.nexts_overlapping-met.ensures.sizes ∙ c.add_start.ensures.sizes
+      sizes = c.nexts_overlapping-met.ensures.sizes ∙ c.add_start.ensures.sizes
           ∙ c.loop-at.invariant.sizes;
-      width = c.swap_state_sets.ensures.width ∙ c.nexts_overlapping-met.ensures.width ∙ c.add_start.ensures.width
+      width = c.nexts_overlapping-met.ensures.width ∙ c.add_start.ensures.width
           ∙ c.loop-at.invariant.width;
-      next = c.swap_state_sets.ensures.next;
-      so_far = rw (c.swap_state_sets.ensures.seen, c.swap_state_sets.ensures.curr)
-          (Earliest-next c.args.nfa.now (search_of c.args.input.now) c.args.patterns.now c.args.past_match
+      next = c.nexts_overlapping-met.ensures.next;
+      so_far = (Earliest-next c.args.nfa.now (search_of c.args.input.now) c.args.patterns.now c.args.past_match
           c.requires.valid c.loop-at.invariant.low c.loop-at.invariant.so_far crosses c.if-met.false);
     }
 

@@ -46,7 +46,6 @@ returns-then-is_over-clause-turns c =
     let crosses = crosses-joined (length c.args.patterns.now) c.loop-at.threads.reached.seen _
     (FirstWay-capacity c.args.nfa.now (search_of c.args.input.now) c.args.patterns.now c.loop-at.invariant.so_far)
     c.add_start.ensures.seen items c.nexts_overlapping-met.ensures.crosses in
-    rw c.swap_state_sets.ensures.seen
     (FirstWay-turns c.args.nfa.now (search_of c.args.input.now) c.args.patterns.now (omega arith)
     (omega (arith, c.end-at-end.ensures.value, c.loop-at-test.true))
     (FirstWay-cut c.args.nfa.now (search_of c.args.input.now) c.args.patterns.now c.requires.valid
@@ -77,7 +76,7 @@ loop-at-preserved c =
             rw (set-stays c.args.nfa.now (search_of c.args.input.now) c.args.patterns.now c.requires.valid
             c.loop-at.invariant.low c.loop-at.invariant.so_far crosses w.if-met.false) c.loop-at.invariant.not_full
       ];
-      counted = c.swap_state_sets.ensures.scans ∙ c.nexts_overlapping-met.ensures.scans ∙ c.add_start.ensures.scans
+      counted = c.nexts_overlapping-met.ensures.scans ∙ c.add_start.ensures.scans
           ∙ c.loop-at.invariant.counted;
       low = omega arith;
       state = elim c.if-met.branch [
@@ -92,15 +91,13 @@ loop-at-preserved c =
         | then-met w ↦ rw w.joining-is (omega arith)
         | else-met w ↦ rw w.joining-is c.loop-at.invariant.limit
       ];
-      last = λ past. rw c.swap_state_sets.ensures.curr
-          (over-cross (set-crossed c.loop-at.joining.state c.loop-at.joining.limit crosses) (omega arith));
-      sizes = c.swap_state_sets.ensures.sizes ∙ c.nexts_overlapping-met.ensures.sizes ∙ c.add_start.ensures.sizes
+      last = λ past. (over-cross (set-crossed c.loop-at.joining.state c.loop-at.joining.limit crosses) (omega arith));
+      sizes = c.nexts_overlapping-met.ensures.sizes ∙ c.add_start.ensures.sizes
           ∙ c.loop-at.invariant.sizes;
-      width = c.swap_state_sets.ensures.width ∙ c.nexts_overlapping-met.ensures.width ∙ c.add_start.ensures.width
+      width = c.nexts_overlapping-met.ensures.width ∙ c.add_start.ensures.width
           ∙ c.loop-at.invariant.width;
-      next = c.swap_state_sets.ensures.next;
-      so_far = rw (c.swap_state_sets.ensures.seen, c.swap_state_sets.ensures.curr)
-          (elim c.if-met.branch [
+      next = c.nexts_overlapping-met.ensures.next;
+      so_far = (elim c.if-met.branch [
             | then-met w ↦
                 rw w.joining-is
                 (FirstWay-cut c.args.nfa.now (search_of c.args.input.now) c.args.patterns.now c.requires.valid

@@ -69,17 +69,15 @@ loop-at-preserved c =
     c.requires.ready.starts c.loop-at.limit width c.loop-at.at to low joins c.loop-at.invariant.searches) in
     let crosses = c.nexts.ensures.crosses in
     let few = few-joins joins in
-    let kept = c.swap_state_sets.ensures.curr in
     record {
-      counted = c.swap_state_sets.ensures.scans ∙ c.nexts.ensures.scans ∙ c.add_start_or_skip-at.ensures.scans
+      counted = c.nexts.ensures.scans ∙ c.add_start_or_skip-at.ensures.scans
           ∙ c.loop-at.invariant.counted;
-      sizes = c.swap_state_sets.ensures.sizes ∙ c.nexts.ensures.sizes ∙ c.add_start_or_skip-at.ensures.sizes
+      sizes = c.nexts.ensures.sizes ∙ c.add_start_or_skip-at.ensures.sizes
           ∙ c.loop-at.invariant.sizes;
-      width = c.swap_state_sets.ensures.width ∙ c.nexts.ensures.width ∙ c.add_start_or_skip-at.ensures.width
+      width = c.nexts.ensures.width ∙ c.add_start_or_skip-at.ensures.width
           ∙ c.loop-at.invariant.width;
-      next = c.swap_state_sets.ensures.next;
-      items = rw kept (AreAt-cross (search-crossed width state c.loop-at.limit crosses)
-          c.requires.ready.starts.leads);
+      next = c.nexts.ensures.next;
+      items = AreAt-cross (search-crossed width state c.loop-at.limit crosses) c.requires.ready.starts.leads;
       low = omega arith;
       high = omega arith;
       limits = elim c.if-is_some.branch [
@@ -89,16 +87,15 @@ loop-at-preserved c =
           | inr e ↦ inr (w.limit-is ∙ e)
         ]
       ];
-      over = λ past. kept ∙ over-cross (search-crossed width state c.loop-at.limit crosses)
+      over = λ past. over-cross (search-crossed width state c.loop-at.limit crosses)
           (let h : x.end ≤ to = omega arith in h);
-      paid = rw (c.swap_state_sets.ensures.seen, kept)
-          (IsPaidAt-crossed (search-crossed width state c.loop-at.limit crosses) from
+      paid = IsPaidAt-crossed (search-crossed width state c.loop-at.limit crosses) from
           (rw c.add_start_or_skip-at.ensures.seen
           (IsPaidAt-later c.args.nfa.now x c.loop-at.at to c.args.threads.now.reached.seen.turns
           c.loop-at.threads.reached.seen.turns
-          (length c.loop-at.threads.curr.items) ahead c.loop-at.invariant.paid)) few);
-      searches = rw (c.swap_state_sets.ensures.seen, kept)
-          (elim c.if-is_some.branch [
+          (length c.loop-at.threads.curr.items) ahead c.loop-at.invariant.paid)) few;
+      searches =
+          elim c.if-is_some.branch [
             | then-is_some w ↦
                 rw (w.limit-is, w.found-is)
                 (SearchesFirst-some c.args.nfa.now x to width state c.loop-at.limit crosses s c.half_at-hit.result
@@ -109,7 +106,7 @@ loop-at-preserved c =
                 c.loop-at.invariant.searches.is_so_far
                 (EndsAt-none to c.nexts.result c.half_at-hit.result c.half_at-hit.ensures
                 (sym c.is_some.ensures ∙ w.if-is_some.false)))
-          ]);
+          ];
     }
 
 pub returns-clause-answer : goal.returns-clause-answer
