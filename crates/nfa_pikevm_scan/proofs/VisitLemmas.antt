@@ -143,11 +143,13 @@ module _ {nfa : Automaton} {x : Search} {at s : ℕ} {m n : Marks} {items : List
       → VisitsState nfa x at s m items stack slots turn n items above written
   VisitsState-bare met formed follows paid = record {
     front = [];
-    added = sym (append-nil items);
+    gives = record {
+      added = sym (append-nil items);
+      formed = λ before f. rw (append-nil before) (formed before f);
+      follows = λ before old work. rw (append-nil before) (follows before old work);
+      paid = paid;
+    };
     is_met = met;
-    formed = λ before f. rw (append-nil before) (formed before f);
-    follows = λ before old work. rw (append-nil before) (follows before old work);
-    paid = paid;
   }
 
 module _ {nfa : Automaton} {x : Search} {at s : ℕ} {m n : Marks} {items : List (ℕ × Slots)} {stack : List FollowEpsilon}
@@ -399,14 +401,16 @@ module _ {nfa : Automaton} {s : ℕ} {node : Node} {m n : Marks} (e : Entered nf
       let count = ap length added ∙ length-append items more in
       record {
         front = ((s, at), slots) ∷ [];
-        added = added ∙ ap (λ l. items ++ l) (sym moved);
+        gives = record {
+          added = added ∙ ap (λ l. items ++ l) (sym moved);
+          formed = λ before f. Formed-kept e at before f slots r;
+          follows = λ before old work. rw over
+              (Follows-keep nfa x at m before (work_onto at stack (Load old ∷ work)) slots s n e.counted e.inside
+              e.clear e.marked (edges-onward nfa x) (λ w. edges-rise nfa x (s, at) w (rw is r)));
+          paid = rw over (Paid-entered e (length items) (length kept) stack stack 0 (omega arith) (omega arith)
+              (omega arith));
+        };
         is_met = met;
-        formed = λ before f. Formed-kept e at before f slots r;
-        follows = λ before old work. rw over
-            (Follows-keep nfa x at m before (work_onto at stack (Load old ∷ work)) slots s n e.counted e.inside e.clear
-            e.marked (edges-onward nfa x) (λ w. edges-rise nfa x (s, at) w (rw is r)));
-        paid = rw over (Paid-entered e (length items) (length kept) stack stack 0 (omega arith) (omega arith)
-            (omega arith));
       }
 
   -- the state that the byte leads to is kept

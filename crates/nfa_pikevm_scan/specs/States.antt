@@ -219,33 +219,34 @@ module _ (nfa : Automaton) (x : Search) where
       × (pattern_of (node_at nfa v.0) ≡ Some (number_of pattern))
   IsMet v slots DeadEnd front = NoMatch (is_match nfa) front
 
-  -- The result of a turn that tries to enter the state: it adds a front, whose moves are in memory, and leaves its
-  -- work. What is left below the stack begins by loading slots.
+  -- The result of turns from a state on, which are paid for: they add a front, whose moves are in memory, and leave a
+  -- state to follow, or none, and a stack. What is left below the stack begins by loading slots.
+  pub record TurnsGive (at s : ℕ) (met : Marks) (items : List (ℕ × Slots)) (stack : List FollowEpsilon) (slots : Slots)
+      (front : Frontier) (after : Marks) (kept : List (ℕ × Slots)) (state : Option ℕ) (above : List FollowEpsilon)
+      (written : Slots) : Type 0 where
+    pub added : kept ≡ items ++ moves (edges nfa x) front
+    pub formed : (before : Frontier) → Formed nfa at met.bits before → Formed nfa at after.bits (before ++ front)
+    pub follows : (before : Frontier) (old : Slots) (work : List Task)
+        → Follows at met before (ToExplore (s, at) ∷ work_onto at stack (ToLoad old ∷ work)) slots
+        after (before ++ front) (with_state at state (work_onto at above (ToLoad old ∷ work))) written
+    pub paid : Paid nfa met (length items) stack 1 after (length kept) above (tries_of state)
+
+  -- The result of a turn that tries to enter the state.
   pub record VisitsState (at s : ℕ) (met : Marks) (items : List (ℕ × Slots)) (stack : List FollowEpsilon)
       (slots : Slots)
       (turn : Move) (after : Marks) (kept : List (ℕ × Slots)) (above : List FollowEpsilon)
       (written : Slots) : Type 0 where
     pub front : Frontier
-    pub added : kept ≡ items ++ moves (edges nfa x) front
+    pub gives : TurnsGive at s met items stack slots front after kept (state_on turn) above written
     pub is_met : IsMet (s, at) written turn front
-    pub formed : (before : Frontier) → Formed nfa at met.bits before → Formed nfa at after.bits (before ++ front)
-    pub follows : (before : Frontier) (old : Slots) (work : List Task)
-        → Follows at met before (ToExplore (s, at) ∷ work_onto at stack (ToLoad old ∷ work)) slots
-        after (before ++ front) (with_state at (state_on turn) (work_onto at above (ToLoad old ∷ work))) written
-    pub paid : Paid nfa met (length items) stack 1 after (length kept) above (tries_of (state_on turn))
 
-  -- The result of turns from a state on up to the next match, if there is one: the front that they add, which ends with
-  -- the match, and what is left on the stack.
+  -- The result of turns from a state on up to the next match, if there is one: the front ends with the match.
   pub record FindsMatch (at s : ℕ) (met : Marks) (items : List (ℕ × Slots)) (stack : List FollowEpsilon) (slots : Slots)
       (hit : Option PatternID) (after : Marks) (kept : List (ℕ × Slots)) (above : List FollowEpsilon)
       (written : Slots) : Type 0 where
     pub front : Frontier
-    pub added : kept ≡ items ++ moves (edges nfa x) front
+    pub gives : TurnsGive at s met items stack slots front after kept None above written
     pub ends : EndsInMatch nfa at written hit front
-    pub formed : (before : Frontier) → Formed nfa at met.bits before → Formed nfa at after.bits (before ++ front)
-    pub follows : (before : Frontier) (old : Slots) (work : List Task)
-        → Follows at met before (ToExplore (s, at) ∷ work_onto at stack (ToLoad old ∷ work)) slots
-        after (before ++ front) (work_onto at above (ToLoad old ∷ work)) written
 
   -- The search goes on to a front and some work. The work is `rest` if the search `goes_on` to the end of its work.
   pub record Leads (at : ℕ) (met : Marks) (before : Frontier) (work : List Task) (slots : Slots) (goes_on : Type 0)
@@ -279,11 +280,6 @@ pub record ClosureHasRoom (here : ClosureContext) (old : ClosureOutput) (top fra
 
 abbrev pub ClosureFramesWithin : ClosureContext → ℕ → List FollowEpsilon → Type 0
 ClosureFramesWithin here count stack = All (IsWithin (length here.nfa.now.states) count) stack
-
-abbrev pub ClosurePaid : ClosureContext → ClosureOutput → List FollowEpsilon → ClosureOutput → List FollowEpsilon
-    → ℕ → Type 0
-ClosurePaid here old stack new above left =
-    Paid here.nfa.now old.seen (length old.next.items) stack 1 new.seen (length new.next.items) above left
 
 abbrev pub ClosureVisits : ClosureContext → ℕ → ClosureOutput → List FollowEpsilon → Slots → Move → ClosureOutput
     → List FollowEpsilon → Slots

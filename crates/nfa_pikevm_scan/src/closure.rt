@@ -9,7 +9,7 @@ ghost use Rattle.nfa_scan_core.specs.Marks.{Marks};
 ghost use Rattle.nfa_pikevm_scan.specs.Needs.{stack_frames};
 ghost use Rattle.nfa_pikevm_scan.specs.States.{Frontier, work_onto, with_state, tries, tries_of, state_on, undone};
 ghost use Rattle.nfa_pikevm_scan.specs.States.{state_of, HasSlot, IsBelow, IsWithin, Follows, IsClosureContext};
-ghost use Rattle.nfa_pikevm_scan.specs.States.{KeepsRoom, ClosureHasRoom, ClosureFramesWithin, ClosurePaid};
+ghost use Rattle.nfa_pikevm_scan.specs.States.{KeepsRoom, ClosureHasRoom, ClosureFramesWithin};
 ghost use Rattle.nfa_pikevm_scan.specs.States.{ClosureVisits, ClosureFindsMatch};
 ghost use Rattle.nfa_pikevm_scan.specs.States.{Entered, WasMarked, IsSaved, move_to};
 ghost use Rattle.nfa_pikevm_scan.specs.Sinks.{ClosureGives};
@@ -279,7 +279,6 @@ pub fn next_match(
     ensures top { top.new ≤ stack_frames here.now.nfa.now }
     ensures over { result ≡ None → top.new ≡ 0 }
     ensures within { ClosureFramesWithin here.now (length row.old) (take top.new frames.new) }
-    ensures paid { ClosurePaid here.now reached.old (take top.old frames.old) reached.new (take top.new frames.new) 0 }
     ensures finds { ClosureFindsMatch here.now from reached.old (take top.old frames.old) row.old result reached.new
         (take top.new frames.new) row.new }
 {

@@ -40,16 +40,13 @@ loop-at-preserved c =
     let crosses = crosses-joined (length c.args.patterns.now) c.loop-at.threads.reached.seen _
     c.loop-at.invariant.so_far.gains.capacity c.add_start.ensures.seen items c.nexts_overlapping.ensures.crosses in
     record {
-      counted = c.nexts_overlapping.ensures.scans ∙ c.add_start.ensures.scans
-          ∙ c.loop-at.invariant.counted;
+      counted = c.nexts_overlapping.ensures.scans ∙ c.add_start.ensures.scans ∙ c.loop-at.invariant.counted;
       low = omega arith;
-      sizes = c.nexts_overlapping.ensures.sizes ∙ c.add_start.ensures.sizes
-          ∙ c.loop-at.invariant.sizes;
-      width = c.nexts_overlapping.ensures.width ∙ c.add_start.ensures.width
-          ∙ c.loop-at.invariant.width;
+      sizes = c.nexts_overlapping.ensures.sizes ∙ c.add_start.ensures.sizes ∙ c.loop-at.invariant.sizes;
+      width = c.nexts_overlapping.ensures.width ∙ c.add_start.ensures.width ∙ c.loop-at.invariant.width;
       next = c.nexts_overlapping.ensures.next;
-      so_far = (All-next c.args.nfa.now (search_of c.args.input.now) c.args.patterns.now c.requires.valid
-          c.loop-at.invariant.low c.loop-at.invariant.so_far crosses);
+      so_far = All-next c.args.nfa.now (search_of c.args.input.now) c.args.patterns.now c.requires.valid
+          c.loop-at.invariant.low c.loop-at.invariant.so_far crosses;
     }
 
 pub returns-clause-gains : goal.returns-clause-gains

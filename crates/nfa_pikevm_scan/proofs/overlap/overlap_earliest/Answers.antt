@@ -65,16 +65,13 @@ loop-at-preserved c =
     (ap (λ (l : List Bool). length l) c.loop-at.invariant.so_far.still) c.add_start.ensures.seen items
     c.nexts_overlapping-met.ensures.crosses in
     record {
-      counted = c.nexts_overlapping-met.ensures.scans ∙ c.add_start.ensures.scans
-          ∙ c.loop-at.invariant.counted;
+      counted = c.nexts_overlapping-met.ensures.scans ∙ c.add_start.ensures.scans ∙ c.loop-at.invariant.counted;
       low = omega arith;
-      sizes = c.nexts_overlapping-met.ensures.sizes ∙ c.add_start.ensures.sizes
-          ∙ c.loop-at.invariant.sizes;
-      width = c.nexts_overlapping-met.ensures.width ∙ c.add_start.ensures.width
-          ∙ c.loop-at.invariant.width;
+      sizes = c.nexts_overlapping-met.ensures.sizes ∙ c.add_start.ensures.sizes ∙ c.loop-at.invariant.sizes;
+      width = c.nexts_overlapping-met.ensures.width ∙ c.add_start.ensures.width ∙ c.loop-at.invariant.width;
       next = c.nexts_overlapping-met.ensures.next;
-      so_far = (Earliest-next c.args.nfa.now (search_of c.args.input.now) c.args.patterns.now c.args.past_match
-          c.requires.valid c.loop-at.invariant.low c.loop-at.invariant.so_far crosses c.if-met.false);
+      so_far = Earliest-next c.args.nfa.now (search_of c.args.input.now) c.args.patterns.now c.args.past_match
+          c.requires.valid c.loop-at.invariant.low c.loop-at.invariant.so_far crosses c.if-met.false;
     }
 
 pub returns-clause-gains : goal.returns-clause-gains

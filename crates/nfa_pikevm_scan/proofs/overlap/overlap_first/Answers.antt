@@ -46,10 +46,10 @@ returns-then-is_over-clause-turns c =
     let crosses = crosses-joined (length c.args.patterns.now) c.loop-at.threads.reached.seen _
     (FirstWay-capacity c.args.nfa.now (search_of c.args.input.now) c.args.patterns.now c.loop-at.invariant.so_far)
     c.add_start.ensures.seen items c.nexts_overlapping-met.ensures.crosses in
-    (FirstWay-turns c.args.nfa.now (search_of c.args.input.now) c.args.patterns.now (omega arith)
+    FirstWay-turns c.args.nfa.now (search_of c.args.input.now) c.args.patterns.now (omega arith)
     (omega (arith, c.end-at-end.ensures.value, c.loop-at-test.true))
     (FirstWay-cut c.args.nfa.now (search_of c.args.input.now) c.args.patterns.now c.requires.valid
-    c.loop-at.invariant.low c.loop-at.invariant.so_far crosses c.requires.empty over.0))
+    c.loop-at.invariant.low c.loop-at.invariant.so_far crosses c.requires.empty over.0)
 
 pub returns-then-is_over-clause-gains : goal.returns-then-is_over-clause-gains
 returns-then-is_over-clause-gains c =
@@ -76,8 +76,7 @@ loop-at-preserved c =
             rw (set-stays c.args.nfa.now (search_of c.args.input.now) c.args.patterns.now c.requires.valid
             c.loop-at.invariant.low c.loop-at.invariant.so_far crosses w.if-met.false) c.loop-at.invariant.not_full
       ];
-      counted = c.nexts_overlapping-met.ensures.scans ∙ c.add_start.ensures.scans
-          ∙ c.loop-at.invariant.counted;
+      counted = c.nexts_overlapping-met.ensures.scans ∙ c.add_start.ensures.scans ∙ c.loop-at.invariant.counted;
       low = omega arith;
       state = elim c.if-met.branch [
         | then-met w ↦ rw w.joining-is c.loop-at.invariant.state
@@ -91,22 +90,20 @@ loop-at-preserved c =
         | then-met w ↦ rw w.joining-is (omega arith)
         | else-met w ↦ rw w.joining-is c.loop-at.invariant.limit
       ];
-      last = λ past. (over-cross (set-crossed c.loop-at.joining.state c.loop-at.joining.limit crosses) (omega arith));
-      sizes = c.nexts_overlapping-met.ensures.sizes ∙ c.add_start.ensures.sizes
-          ∙ c.loop-at.invariant.sizes;
-      width = c.nexts_overlapping-met.ensures.width ∙ c.add_start.ensures.width
-          ∙ c.loop-at.invariant.width;
+      last = λ past. over-cross (set-crossed c.loop-at.joining.state c.loop-at.joining.limit crosses) (omega arith);
+      sizes = c.nexts_overlapping-met.ensures.sizes ∙ c.add_start.ensures.sizes ∙ c.loop-at.invariant.sizes;
+      width = c.nexts_overlapping-met.ensures.width ∙ c.add_start.ensures.width ∙ c.loop-at.invariant.width;
       next = c.nexts_overlapping-met.ensures.next;
-      so_far = (elim c.if-met.branch [
-            | then-met w ↦
-                rw w.joining-is
-                (FirstWay-cut c.args.nfa.now (search_of c.args.input.now) c.args.patterns.now c.requires.valid
-                c.loop-at.invariant.low c.loop-at.invariant.so_far crosses c.requires.empty w.if-met.true)
-            | else-met w ↦
-                rw w.joining-is
-                (FirstWay-next c.args.nfa.now (search_of c.args.input.now) c.args.patterns.now c.requires.valid
-                c.loop-at.invariant.low c.loop-at.invariant.so_far crosses w.if-met.false)
-          ]);
+      so_far = elim c.if-met.branch [
+        | then-met w ↦
+            rw w.joining-is
+            (FirstWay-cut c.args.nfa.now (search_of c.args.input.now) c.args.patterns.now c.requires.valid
+            c.loop-at.invariant.low c.loop-at.invariant.so_far crosses c.requires.empty w.if-met.true)
+        | else-met w ↦
+            rw w.joining-is
+            (FirstWay-next c.args.nfa.now (search_of c.args.input.now) c.args.patterns.now c.requires.valid
+            c.loop-at.invariant.low c.loop-at.invariant.so_far crosses w.if-met.false)
+      ];
     }
 
 pub returns-clause-gains : goal.returns-clause-gains

@@ -70,12 +70,9 @@ loop-at-preserved c =
     let crosses = c.nexts.ensures.crosses in
     let few = few-joins joins in
     record {
-      counted = c.nexts.ensures.scans ∙ c.add_start_or_skip-at.ensures.scans
-          ∙ c.loop-at.invariant.counted;
-      sizes = c.nexts.ensures.sizes ∙ c.add_start_or_skip-at.ensures.sizes
-          ∙ c.loop-at.invariant.sizes;
-      width = c.nexts.ensures.width ∙ c.add_start_or_skip-at.ensures.width
-          ∙ c.loop-at.invariant.width;
+      counted = c.nexts.ensures.scans ∙ c.add_start_or_skip-at.ensures.scans ∙ c.loop-at.invariant.counted;
+      sizes = c.nexts.ensures.sizes ∙ c.add_start_or_skip-at.ensures.sizes ∙ c.loop-at.invariant.sizes;
+      width = c.nexts.ensures.width ∙ c.add_start_or_skip-at.ensures.width ∙ c.loop-at.invariant.width;
       next = c.nexts.ensures.next;
       items = AreAt-cross (search-crossed width state c.loop-at.limit crosses) c.requires.ready.starts.leads;
       low = omega arith;
