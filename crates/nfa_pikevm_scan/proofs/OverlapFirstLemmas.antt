@@ -32,7 +32,7 @@ use Rattle.nfa_pikevm_scan.specs.declared.scan.Starts.{Starts}
 use Rattle.nfa_pikevm_scan.proofs.RoomLemmas.{AreAt-none, few-joined, over-joined}
 use Rattle.nfa_pikevm_scan.proofs.TaskLemmas.{starts_from-end, tasks-joined, Searching-begin}
 use Rattle.nfa_pikevm_scan.proofs.FrontierLemmas.{Formed-resting, Formed-next, SeenAt-none, IsPaidAt-end}
-use Rattle.nfa_pikevm_scan.proofs.ScanLemmas.{Crossed, set-crossed, AreAt-cross, IsPaidAt-crossed, first-miss, first-hit}
+use Rattle.nfa_pikevm_scan.proofs.ScanLemmas.{Crossed, Crossed-given, AreAt-cross, IsPaidAt-crossed, first-miss, first-hit}
 use Rattle.nfa_pikevm_scan.proofs.EndLemmas.{SearchingAt-begin}
 use Rattle.nfa_pikevm_scan.proofs.OverlapSetLemmas.{wants-tells, wants-match}
 
@@ -248,7 +248,7 @@ module _ (nfa : Automaton) (x : Search) (old : List Bool) where
       kept new) where
     crossed : Crossed nfa x at 0 from.state from.limit met (with_start from 0 at items) (GoesPast false hit) after kept
         c.front
-    crossed = set-crossed from.state from.limit c
+    crossed = Crossed-given 0 from.state from.limit c.gives
 
     -- the search for any wanted pairs from the states at the position
     front-searched : Searched nfa x old wanted tells at
@@ -279,7 +279,7 @@ module _ (nfa : Automaton) (x : Search) (old : List Bool) where
     }
 
     rests : (a : Pair × Slots) → In a c.front → (is_resting nfa a.0 ≡ true) × (a.0.1 ≡ at)
-    rests = Formed-resting nfa x at after.bits c.front c.formed
+    rests = Formed-resting nfa x at after.bits c.front c.gives.formed
 
     -- a search for what is wanted before the next position, or for more, wants the same here
     agree : (target : Pair → Bool) → Between wanted (at + 1) target → (a : Pair × Slots) → In a c.front
@@ -344,11 +344,11 @@ module _ (nfa : Automaton) (x : Search) (old : List Bool) where
                 paid = IsPaidAt-crossed crossed low w.paid (few-joined from 0 at items);
                 so_far = w.so_far;
                 searching = next-searching off lacks.0;
-                sound = rw c.added
+                sound = rw c.gives.added
                     (subst (λ ps. Sound nfa x old wanted tells (at + 1) ps)
                     (heads-round (edges nfa x) at c.front [] (starts_from 0 from.state (at + 1) from.limit)
                     (pairs_from from.state (at + 1) (from.limit - (at + 1)))
-                    (Formed-next nfa x at after.bits c.front c.formed)
+                    (Formed-next nfa x at after.bits c.front c.gives.formed)
                     (heads-seeds [] (pairs_from from.state (at + 1) (from.limit - (at + 1)))))
                     (Sound-round nfa x old wanted tells w.sound searched rests
                     (λ k i. seeds-later [] from.state at (from.limit - (at + 1)) k i)));
@@ -379,7 +379,7 @@ module _ (nfa : Automaton) (x : Search) (old : List Bool) where
               let put : AddsFirstPattern nfa (Some has.0) mid true new =
               rw has.1 at (subst (λ h. AddsPatterns nfa false wanted c.front mid h new) on c.gathers)
               in
-              let moved : kept ≡ moves (edges nfa x) (before_match wanted c.front) = c.added
+              let moved : kept ≡ moves (edges nfa x) (before_match wanted c.front) = c.gives.added
               ∙ sym (c.cut refl) in
               let none : pairs_from from.state (at + 1) (0 - (at + 1)) ≡ [] = pairs_from-end from.state (omega arith) in
               record {
@@ -390,7 +390,7 @@ module _ (nfa : Automaton) (x : Search) (old : List Bool) where
                 sound = rw (moved, none)
                     (subst (λ ps. Sound nfa x old wanted tells (at + 1) ps)
                     (heads-round (edges nfa x) at (before_match wanted c.front) [] [] []
-                    (λ a i. Formed-next nfa x at after.bits c.front c.formed a
+                    (λ a i. Formed-next nfa x at after.bits c.front c.gives.formed a
                     (before_match-among wanted c.front a i)) (heads-seeds [] []))
                     (Sound-cut nfa x old wanted tells [] w.sound front-searched rests));
                 holds = UpTo-match nfa x old wanted tells at w.so_far has.0 mid new empty w.holds

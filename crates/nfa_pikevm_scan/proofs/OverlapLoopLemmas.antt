@@ -24,7 +24,7 @@ use Rattle.nfa_pikevm_scan.specs.Scans.{with_start, AreStarts}
 use Rattle.nfa_pikevm_scan.specs.Overlapping.{wants, AddsPatterns, AddsAllPatterns, AddsFirstPattern, GoesPast, NextsOverlappingGive}
 use Rattle.nfa_pikevm_scan.specs.declared.scan.Starts.{Starts}
 use Rattle.nfa_pikevm_scan.proofs.FrontierLemmas.{Formed-resting}
-use Rattle.nfa_pikevm_scan.proofs.ScanLemmas.{set-crossed}
+use Rattle.nfa_pikevm_scan.proofs.ScanLemmas.{Crossed-given}
 use Rattle.nfa_pikevm_scan.proofs.AllLemmas.{all-left}
 use Rattle.nfa_pikevm_scan.proofs.EndLemmas.{ScansAll-joined, ScansAll-over}
 use Rattle.nfa_pikevm_scan.proofs.StandsLemmas.{Stands, Stands-start, Stands-next, Stands-front}
@@ -63,10 +63,10 @@ module _ (nfa : Automaton) (x : Search) (old : List Bool) where
       → NextsOverlappingGive nfa x at true (length old) met (with_start from 0 at items) mid hit after kept new
       → AllAt from (at + 1) before after kept new
   All-next good low a c = record {
-    stands = Stands-next a.stands (set-crossed _ _ c) (wants-match nfa x (length old)) good.numbered.targets_in low
+    stands = Stands-next a.stands (Crossed-given _ _ _ c.gives) (wants-match nfa x (length old)) good.numbered.targets_in low
         (inl refl);
     gains = GainsBefore-step nfa x old wanted tells
-        (Stands-front a.stands (set-crossed _ _ c) (wants-match nfa x (length old)) (inl refl)) a.gains
+        (Stands-front a.stands (Crossed-given _ _ _ c.gives) (wants-match nfa x (length old)) (inl refl)) a.gains
         c.gathers.capacity c.gathers.gained;
   }
 
@@ -147,13 +147,13 @@ module _ (nfa : Automaton) (x : Search) (old : List Bool) where
       → hit ≡ false
       → EarliestAt past from (at + 1) before after kept new
   Earliest-next past {at = at} {mid = mid} {hit = hit} {new = new} good low a c off =
-      let f = Stands-front a.stands (set-crossed _ _ c) (wants-match nfa x (length old)) (inr off) in
+      let f = Stands-front a.stands (Crossed-given _ _ _ c.gives) (wants-match nfa x (length old)) (inr off) in
       let g : AddsPatterns nfa past wanted c.front old false new =
       subst (λ s. AddsPatterns nfa past wanted c.front s false new) a.still
       (subst (λ h. AddsPatterns nfa past wanted c.front mid h new) off c.gathers) in
       let u = unmet past new a.none f g in
       record {
-        stands = Stands-next a.stands (set-crossed _ _ c) (wants-match nfa x (length old)) good.numbered.targets_in low
+        stands = Stands-next a.stands (Crossed-given _ _ _ c.gives) (wants-match nfa x (length old)) good.numbered.targets_in low
             (inr off);
         still = u.0;
         none = u.1;
@@ -167,7 +167,7 @@ module _ (nfa : Automaton) (x : Search) (old : List Bool) where
       → hit ≡ true
       → IsOverlapResult nfa x (cond past AllMatches LeftmostFirst) true old new
   Earliest-found true {mid = mid} {new = new} good empty a c on =
-      let f = Stands-front a.stands (set-crossed _ _ c) (wants-match nfa x (length old)) (inl refl) in
+      let f = Stands-front a.stands (Crossed-given _ _ _ c.gives) (wants-match nfa x (length old)) (inl refl) in
       let g : AddsAllPatterns nfa wanted c.front old true new =
       subst (λ s. AddsAllPatterns nfa wanted c.front s true new) a.still
       (subst (λ h. AddsAllPatterns nfa wanted c.front mid h new) on c.gathers) in
@@ -183,9 +183,9 @@ module _ (nfa : Automaton) (x : Search) (old : List Bool) where
         | inr has ↦
             let put : AddsFirstPattern nfa (Some has.0) old true new = rw has.1 at g in
             let s = all-left wanted (wants-match nfa x (length old))
-            (set-crossed from.state from.limit c) (ScansAll-joined nfa x from at 0 a.stands.scans) in
+            (Crossed-given 0 from.state from.limit c.gives) (ScansAll-joined nfa x from at 0 a.stands.scans) in
             let first = FirstAt-front nfa x old wanted tells s
-            (Formed-resting nfa x at after.bits c.front c.formed) has.0 has.1 in
+            (Formed-resting nfa x at after.bits c.front c.gives.formed) has.0 has.1 in
             FirstAt-found nfa x old wanted tells a.none first put.1.1 (empty refl) put.1.2
       ]
 

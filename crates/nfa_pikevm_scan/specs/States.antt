@@ -256,19 +256,24 @@ module _ (nfa : Automaton) (x : Search) where
     pub follows : Follows at met before work slots after front left written
     pub whole : goes_on → left ≡ rest
 
-  -- The result of all states at a position, with no marks before: a front, whose moves are in memory, and the match of
-  -- it that is meant. Without `past` nothing after the first match is kept.
-  pub record NextsGive (at : ℕ) (past : Bool) (met : Marks) (items : List (ℕ × Slots)) (slots : Slots)
-      (hit : Option PatternID) (after : Marks) (kept : List (ℕ × Slots)) (written : Slots) : Type 0 where
-    pub front : Frontier
+  -- The result of following the states at a position, with no marks before: a front, whose moves are in memory. All that
+  -- is left is followed if the position `goes_on`.
+  pub record PositionGives (at : ℕ) (met : Marks) (items : List (ℕ × Slots)) (goes_on : Type 0) (front : Frontier)
+      (after : Marks) (kept : List (ℕ × Slots)) : Type 0 where
     pub added : kept ≡ moves (edges nfa x) front
-    pub is_hit : IsHit nfa (meant past (is_match nfa) front) slots hit written
-    pub cut : past ≡ false → moves (edges nfa x) (before_match (is_match nfa) front) ≡ moves (edges nfa x) front
     pub formed : Formed nfa at after.bits front
     pub paid : Paid nfa (unmarked met) 0 [] (length items) after (length kept) [] 0
     pub leads : (current old : Slots) (waiting : List Task)
-        → Leads at (unmarked met) [] (tasks at items (ToLoad old ∷ waiting)) current (GoesOn past hit) after front
+        → Leads at (unmarked met) [] (tasks at items (ToLoad old ∷ waiting)) current goes_on after front
         (ToLoad old ∷ waiting)
+
+  -- The same with the match of the front that is meant. Without `past` nothing after the first match is kept.
+  pub record NextsGive (at : ℕ) (past : Bool) (met : Marks) (items : List (ℕ × Slots)) (slots : Slots)
+      (hit : Option PatternID) (after : Marks) (kept : List (ℕ × Slots)) (written : Slots) : Type 0 where
+    pub front : Frontier
+    pub gives : PositionGives at met items (GoesOn past hit) front after kept
+    pub is_hit : IsHit nfa (meant past (is_match nfa) front) slots hit written
+    pub cut : past ≡ false → moves (edges nfa x) (before_match (is_match nfa) front) ≡ moves (edges nfa x) front
 
 -- The same, for what is reached from the place of a scan.
 

@@ -6,7 +6,7 @@ use Rattle.nfa_pikevm_scan.specs.Overlapping.{wants}
 use Rattle.nfa_pikevm_scan.proofs.EndLemmas.{ScansAll-over}
 use Rattle.nfa_pikevm_scan.proofs.OverlapSetLemmas.{wants-match}
 use Rattle.nfa_pikevm_scan.proofs.OverlapLoopLemmas.{crosses-joined, Earliest-start, Earliest-next, Earliest-found, Earliest-end}
-use Rattle.nfa_pikevm_scan.proofs.ScanLemmas.{set-crossed}
+use Rattle.nfa_pikevm_scan.proofs.ScanLemmas.{Crossed-given}
 use Rattle.nfa_pikevm_scan.proofs.StandsLemmas.{Stands-turns}
 use Rattle.nfa_pikevm_scan.proofs.RoomLemmas.{none_of, below-joined}
 use Rattle.nfa_pikevm_scan.proofs.overlap.overlap_earliest.Goals as goal
@@ -46,7 +46,7 @@ returns-then-met-clause-turns c =
     let crosses = crosses-joined (length c.args.patterns.now) c.loop-at.threads.reached.seen _
     (ap (λ (l : List Bool). length l) c.loop-at.invariant.so_far.still) c.add_start.ensures.seen items
     c.nexts_overlapping-met.ensures.crosses in
-    Stands-turns c.loop-at.invariant.so_far.stands (set-crossed _ _ crosses) c.loop-at.invariant.low
+    Stands-turns c.loop-at.invariant.so_far.stands (Crossed-given _ _ _ crosses.gives) c.loop-at.invariant.low
     (omega (arith, c.end-at-end.ensures.value, c.loop-at-test.true))
 
 pub returns-then-met-clause-gains : goal.returns-then-met-clause-gains

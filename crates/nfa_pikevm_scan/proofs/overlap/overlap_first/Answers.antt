@@ -1,7 +1,7 @@
 -- The set gains the pattern of the first match, and those that were met on the way to its end.
 use Rattle.std.proofs.Common.{◌∙◌, sym, arith, length, refl}
 use Rattle.regex_search_core.specs.Search.{search_of}
-use Rattle.nfa_pikevm_scan.proofs.ScanLemmas.{set-crossed, over-cross}
+use Rattle.nfa_pikevm_scan.proofs.ScanLemmas.{Crossed-given, over-cross}
 use Rattle.nfa_pikevm_scan.proofs.OverlapLoopLemmas.{crosses-joined}
 use Rattle.nfa_pikevm_scan.proofs.OverlapFirstLemmas.{FirstWay-capacity, FirstWay-start, FirstWay-next, FirstWay-cut, FirstWay-over, FirstWay-end, FirstWay-full, FirstWay-turns, set-stays}
 use Rattle.nfa_pikevm_scan.proofs.RoomLemmas.{none_of, below-joined}
@@ -90,7 +90,7 @@ loop-at-preserved c =
         | then-met w ↦ rw w.joining-is (omega arith)
         | else-met w ↦ rw w.joining-is c.loop-at.invariant.limit
       ];
-      last = λ past. over-cross (set-crossed c.loop-at.joining.state c.loop-at.joining.limit crosses) (omega arith);
+      last = λ past. over-cross (Crossed-given 0 c.loop-at.joining.state c.loop-at.joining.limit crosses.gives) (omega arith);
       sizes = c.nexts_overlapping-met.ensures.sizes ∙ c.add_start.ensures.sizes ∙ c.loop-at.invariant.sizes;
       width = c.nexts_overlapping-met.ensures.width ∙ c.add_start.ensures.width ∙ c.loop-at.invariant.width;
       next = c.nexts_overlapping-met.ensures.next;

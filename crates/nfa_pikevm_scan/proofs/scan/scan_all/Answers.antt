@@ -6,7 +6,7 @@ use Rattle.nfa_pikevm_scan.proofs.AllLemmas.{HasLast-cross}
 use Rattle.nfa_pikevm_scan.proofs.EndLemmas.{HasLast-begin, ScansAll-joined, ScansAll-over, last-over, ends-at}
 use Rattle.nfa_pikevm_scan.proofs.StandsLemmas.{Stands-start, Stands-next}
 use Rattle.nfa_pikevm_scan.proofs.RoomLemmas.{none_of, below-joined}
-use Rattle.nfa_pikevm_scan.proofs.ScanLemmas.{search-crossed}
+use Rattle.nfa_pikevm_scan.proofs.ScanLemmas.{Crossed-given}
 use Rattle.nfa_pikevm_scan.proofs.scan.scan_all.Goals as goal
 
 pub loop-at-init : goal.loop-at-init
@@ -52,7 +52,7 @@ loop-at-preserved c =
       sizes = c.nexts.ensures.sizes ∙ c.add_start.ensures.sizes ∙ c.loop-at.invariant.sizes;
       width = c.nexts.ensures.width ∙ c.add_start.ensures.width ∙ c.loop-at.invariant.width;
       next = c.nexts.ensures.next;
-      stands = Stands-next c.loop-at.invariant.stands (search-crossed _ _ _ crosses) (λ v t. t)
+      stands = Stands-next c.loop-at.invariant.stands (Crossed-given _ _ _ crosses.gives) (λ v t. t)
           c.requires.ready.starts.leads low (inl refl);
       last = rw c.or-found.ensures
           (HasLast-cross c.args.nfa.now x c.loop-at.at (length c.args.slots.now) c.args.starts.now.state

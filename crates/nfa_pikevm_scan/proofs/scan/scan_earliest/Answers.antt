@@ -8,7 +8,7 @@ use Rattle.nfa_pikevm_scan.proofs.AllLemmas.{NoneBefore-cross, EndsAt-none}
 use Rattle.nfa_pikevm_scan.proofs.EndLemmas.{NoneBefore-begin, ScansAll-joined, ScansAll-over, earliest-over, ends-at}
 use Rattle.nfa_pikevm_scan.proofs.StandsLemmas.{Stands-start, Stands-next, Stands-turns}
 use Rattle.nfa_pikevm_scan.proofs.RoomLemmas.{none_of, below-joined}
-use Rattle.nfa_pikevm_scan.proofs.ScanLemmas.{search-crossed}
+use Rattle.nfa_pikevm_scan.proofs.ScanLemmas.{Crossed-given}
 use Rattle.nfa_pikevm_scan.proofs.scan.scan_earliest.Goals as goal
 
 pub loop-at-init : goal.loop-at-init
@@ -48,7 +48,7 @@ returns-then-is_some-clause-turns c =
     let items = rw c.loop-at.invariant.width at c.add_start.ensures.curr in
     let crosses = rw (c.add_start.ensures.seen, items) at c.nexts.ensures.crosses in
     let low : x.start ≤ c.loop-at.at = omega (arith, c.start-at.ensures, c.loop-at.auto.at) in
-    Stands-turns c.loop-at.invariant.stands (search-crossed _ _ _ crosses) low
+    Stands-turns c.loop-at.invariant.stands (Crossed-given _ _ _ crosses.gives) low
     (omega (arith, c.end-at-end.ensures.value, c.loop-at-test.true))
 
 pub returns-then-is_some-clause-answer : goal.returns-then-is_some-clause-answer
@@ -78,7 +78,7 @@ loop-at-preserved c =
       sizes = c.nexts.ensures.sizes ∙ c.add_start.ensures.sizes ∙ c.loop-at.invariant.sizes;
       width = c.nexts.ensures.width ∙ c.add_start.ensures.width ∙ c.loop-at.invariant.width;
       next = c.nexts.ensures.next;
-      stands = Stands-next c.loop-at.invariant.stands (search-crossed _ _ _ crosses) (λ v t. t)
+      stands = Stands-next c.loop-at.invariant.stands (Crossed-given _ _ _ crosses.gives) (λ v t. t)
           c.requires.ready.starts.leads low (inr no_hit);
       none = NoneBefore-cross c.args.nfa.now x c.loop-at.at (length c.args.slots.now) c.args.starts.now.state
           c.args.starts.now.limit crosses s no_hit c.loop-at.invariant.none;

@@ -5,7 +5,7 @@ use Rattle.nfa_pikevm_scan.proofs.AllLemmas.{EndsAt-none}
 use Rattle.nfa_pikevm_scan.proofs.EndLemmas.{SearchesFirst-begin, SearchesFirst-joins, SearchesFirst-some, first-over}
 use Rattle.nfa_pikevm_scan.proofs.FrontierLemmas.{IsPaidAt-later}
 use Rattle.nfa_pikevm_scan.proofs.RoomLemmas.{AreAt-none, none_of, below-joins, few-joins, over-joins}
-use Rattle.nfa_pikevm_scan.proofs.ScanLemmas.{search-crossed, AreAt-cross, IsPaidAt-crossed, over-cross, SearchesFirst-miss}
+use Rattle.nfa_pikevm_scan.proofs.ScanLemmas.{Crossed-given, AreAt-cross, IsPaidAt-crossed, over-cross, SearchesFirst-miss}
 use Rattle.nfa_pikevm_scan.proofs.scan.scan_first.Goals as goal
 use Rattle.nfa_pikevm_scan.proofs.scan.scan_first.Goals.{then-is_some, else-is_some}
 
@@ -74,7 +74,7 @@ loop-at-preserved c =
       sizes = c.nexts.ensures.sizes ∙ c.add_start_or_skip-at.ensures.sizes ∙ c.loop-at.invariant.sizes;
       width = c.nexts.ensures.width ∙ c.add_start_or_skip-at.ensures.width ∙ c.loop-at.invariant.width;
       next = c.nexts.ensures.next;
-      items = AreAt-cross (search-crossed width state c.loop-at.limit crosses) c.requires.ready.starts.leads;
+      items = AreAt-cross (Crossed-given width state c.loop-at.limit crosses.gives) c.requires.ready.starts.leads;
       low = omega arith;
       high = omega arith;
       limits = elim c.if-is_some.branch [
@@ -84,9 +84,9 @@ loop-at-preserved c =
           | inr e ↦ inr (w.limit-is ∙ e)
         ]
       ];
-      over = λ past. over-cross (search-crossed width state c.loop-at.limit crosses)
+      over = λ past. over-cross (Crossed-given width state c.loop-at.limit crosses.gives)
           (let h : x.end ≤ to = omega arith in h);
-      paid = IsPaidAt-crossed (search-crossed width state c.loop-at.limit crosses) from
+      paid = IsPaidAt-crossed (Crossed-given width state c.loop-at.limit crosses.gives) from
           (rw c.add_start_or_skip-at.ensures.seen
           (IsPaidAt-later c.args.nfa.now x c.loop-at.at to c.args.threads.now.reached.seen.turns
           c.loop-at.threads.reached.seen.turns
