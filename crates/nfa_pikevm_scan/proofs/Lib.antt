@@ -19,4 +19,5 @@ pub mod SizeLemmas
 pub mod OverlapFirstLemmas
 pub mod OverlapLoopLemmas
 pub mod OverlapSetLemmas
+pub mod SoFarLemmas
 pub mod PatternSinkLemmas

@@ -215,14 +215,6 @@ module _ (nfa : Automaton) (x : Search) (old : List Bool) where
           rw (none, starts_from-end 0 from.state past) at (joined-search w target b) in
           Searching-done (space nfa x) target (Searching-load (space nfa x) target left)
 
-  -- after the last position nothing is left
-  pub FirstWay-end : IsAutomaton nfa → {from : Starts} {at before : ℕ} {met : Marks} {items : List (ℕ × Slots)}
-      {new : List Bool} → size_of_set old ≡ 0
-      → FirstWay from at before met items new → items ≡ [] → from.limit ≤ at
-      → IsOverlapResult nfa x LeftmostFirst false old new
-  FirstWay-end good {from} {at} {items = items} empty w none past =
-      FirstWay-over good empty w (rw (none, le-ltb at from.limit past) refl)
-
   -- a full set gains no more
   pub FirstWay-full : {from : Starts} {at before : ℕ} {met : Marks} {items : List (ℕ × Slots)} {new : List Bool}
       → size_of_set old ≡ 0 → FirstWay from at before met items new → size_of_set new ≡ length new
@@ -233,13 +225,6 @@ module _ (nfa : Automaton) (x : Search) (old : List Bool) where
           → IsOverlapResult nfa x LeftmostFirst false old new
       of None same exact = rw same (first-gains nfa x false old (rw same at full) empty)
       of (Some a) u exact = UpTo-full nfa x old wanted tells empty u exact full
-
-  -- the turns after a position of the span
-  pub FirstWay-turns : {from : Starts} {at before : ℕ} {met : Marks} {items : List (ℕ × Slots)} {new : List Bool}
-      → x.start ≤ x.end → at ≤ x.end + 1 → FirstWay from at before met items new
-      → met.turns ≤ before + max_scan_turns nfa x
-  FirstWay-turns {at = at} {before} {met} {items} span within w =
-      IsPaidAt-end nfa x at before met.turns (length items) within span w.paid
 
   module _ {from : Starts} {at before : ℕ} {met : Marks} {items : List (ℕ × Slots)} {mid : List Bool} {hit : Bool}
       {after : Marks} {kept : List (ℕ × Slots)} {new : List Bool}
@@ -316,15 +301,6 @@ module _ (nfa : Automaton) (x : Search) (old : List Bool) where
         let below : held.pattern < length old = held.below in
         let size : length mid ≡ length old = FirstWay-capacity w in
         omega arith
-
-    -- no match: the set stays
-    pub set-stays : hit ≡ false → new ≡ mid
-    set-stays off =
-        of (first_match wanted c.front) (subst (λ h. AddsPatterns nfa false wanted c.front mid h new) off c.gathers)
-      where
-        of : (g : Hit) → AddsFirstPattern nfa g mid false new → new ≡ mid
-        of None still = still.1
-        of (Some a) put = let never : false ≡ true = put.0 in cc
 
     -- no match: the next position
     pub FirstWay-next : hit ≡ false → FirstWay from (at + 1) before after kept new

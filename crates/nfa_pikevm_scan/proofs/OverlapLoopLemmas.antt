@@ -9,8 +9,8 @@ use Rattle.regex_search_core.specs.declared.search.MatchKind.TheVariants.{All as
 use Rattle.thompson_nfa.specs.Automaton.{Automaton, IsAutomaton}
 use Rattle.nfa_paths.specs.Graphs.{Pair}
 use Rattle.nfa_paths.specs.Paths.{space}
-use Rattle.nfa_paths.specs.Exploring.{Slots}
-use Rattle.nfa_paths.specs.Kinds.{is_resting, NoneBefore, EndsBefore, IsFrontier}
+use Rattle.nfa_paths.specs.Exploring.{Slots, Hit}
+use Rattle.nfa_paths.specs.Kinds.{is_resting, NoneBefore, EndsBefore, IsFrontier, first_match}
 use Rattle.nfa_paths.specs.Overlaps.{HoldsPattern, IsInsertable, IsOverlapResult}
 use Rattle.nfa_paths.proofs.ScanAnswerLemmas.{EndsBefore-span, starts-from}
 use Rattle.nfa_paths.proofs.FrontierMatchLemmas.{first_match-is}
@@ -40,6 +40,25 @@ sets-same old new size same = ext_get_or false new old size
     of true c f g = sym (f refl)
     of false true f g = g refl
     of false false f g = refl
+
+-- without a match that counts the set stays as it is
+pub set-stays : {nfa : Automaton} {x : Search} {at n : ℕ} (past : Bool) {met : Marks} {items : List (ℕ × Slots)}
+    {set : List Bool} {hit : Bool} {after : Marks} {kept : List (ℕ × Slots)} {new : List Bool}
+    → NextsOverlappingGive nfa x at past n met items set hit after kept new → hit ≡ false → new ≡ set
+set-stays true {set = set} {new = new} c off = sets-same set new c.gathers.capacity (λ k. (
+  λ h. elim ((c.gathers.gained k).0 h) [
+    | inl o ↦ o
+    | inr w ↦ absurd (c.gathers.none off k w.0 w.1)
+  ],
+  λ o. (c.gathers.gained k).1 (inl o),
+))
+set-stays {nfa} {x} {n = n} false {set = set} {new = new} c off =
+    of (first_match (wants nfa x n) c.front)
+    (subst (λ h. AddsPatterns nfa false (wants nfa x n) c.front set h new) off c.gathers)
+  where
+    of : (g : Hit) → AddsFirstPattern nfa g set false new → new ≡ set
+    of None still = still.1
+    of (Some a) put = let never : false ≡ true = put.0 in cc
 
 -- Of a scan, `old` is the set as it began.
 module _ (nfa : Automaton) (x : Search) (old : List Bool) where
@@ -76,11 +95,6 @@ module _ (nfa : Automaton) (x : Search) (old : List Bool) where
   All-over {from} {at} a none =
       GainsBefore-end nfa x old wanted tells a.gains
       (ScansAll-over nfa x from at 0 a.stands.scans none (wants-match nfa x (length old)))
-
-  pub All-end : {from : Starts} {at before : ℕ} {met : Marks} {items : List (ℕ × Slots)} {new : List Bool}
-      → AllAt from at before met items new → at ≡ x.end + 1 → IsOverlapResult nfa x AllMatches false old new
-  All-end {at = at} a last =
-      GainsBefore-end nfa x old wanted tells a.gains (rw last (EndsBefore-span nfa x wanted))
 
   -- a full set gains no more
   pub All-full : {from : Starts} {at before : ℕ} {met : Marks} {items : List (ℕ × Slots)} {new : List Bool}
