@@ -13,7 +13,7 @@ use Rattle.nfa_paths.specs.Exploring.Task.{Explore as ToExplore, Load as ToLoad}
 use Rattle.nfa_paths.specs.Kinds.{NoMatch}
 use Rattle.nfa_scan_core.specs.Marks.{Marks}
 use Rattle.nfa_pikevm_scan.specs.Rows.{Active}
-use Rattle.nfa_pikevm_scan.specs.States.{Frontier, moves, work_onto, with_state, state_on, tries, tries_of, Follows, Formed, Paid, HasRoom, KeepsRoom, TurnsGive, VisitsState, FindsMatch}
+use Rattle.nfa_pikevm_scan.specs.States.{Frontier, moves, work_onto, with_state, state_on, tries, tries_of, Follows, Paid, HasRoom, KeepsRoom, TurnsGive, VisitsState, FindsMatch}
 use Rattle.nfa_pikevm_scan.specs.Sinks.{Takes, ClosureGives}
 use Rattle.nfa_pikevm_scan.specs.Sinks.Takes.{none}
 use Rattle.nfa_pikevm_scan.specs.declared.closure.Move.{Move}
@@ -125,8 +125,8 @@ module _ {nfa : Automaton} {x : Search} {at s : ℕ} {met : Marks} {items : List
   -- the frames above the first `u` are applied
   TurnsGive-resumed : (t u : ℕ) (frames : List FollowEpsilon) (state : Option ℕ) (then : Slots) → u ≤ t
       → t ≤ length frames → sum_by tries (take u frames) + tries_of state ≡ sum_by tries (take t frames)
-      → ((front : Frontier) (work : List Task) → Follows nfa x at m front (work_onto at (take t frames) work) now m front
-      (with_state at state (work_onto at (take u frames) work)) then)
+      → ((front : Frontier) (work : List Task) → Follows nfa x at m front (work_onto at (take t frames) work) now m
+      front (with_state at state (work_onto at (take u frames) work)) then)
       → TurnsGive nfa x at s met items below row front m i None (take t frames) now
       → TurnsGive nfa x at s met items below row front m i state (take u frames) then
   TurnsGive-resumed t u frames state then less inside tried resumes f =
@@ -166,8 +166,8 @@ module _ {nfa : Automaton} {x : Search} {at s : ℕ} {met : Marks} {items : List
   -- frames are applied
   pub Passed-resumed : (t u : ℕ) (frames : List FollowEpsilon) (state : Option ℕ) (then : Slots) → u ≤ t
       → t ≤ length frames → sum_by tries (take u frames) + tries_of state ≡ sum_by tries (take t frames)
-      → ((front : Frontier) (work : List Task) → Follows nfa x at m front (work_onto at (take t frames) work) now m front
-      (with_state at state (work_onto at (take u frames) work)) then)
+      → ((front : Frontier) (work : List Task) → Follows nfa x at m front (work_onto at (take t frames) work) now m
+      front (with_state at state (work_onto at (take u frames) work)) then)
       → Passed nfa x at s met items below row m i None (take t frames) now
       → Passed nfa x at s met items below row m i state (take u frames) then
   Passed-resumed t u frames state then less inside tried resumes f = record {
@@ -225,8 +225,8 @@ module _ {V : Type 0} {nfa : Automaton} {x : Search} {takes : V → PatternID �
   -- frames are applied
   pub Followed-resumed : (t u : ℕ) (frames : List FollowEpsilon) (state : Option ℕ) (then : Slots) → u ≤ t
       → t ≤ length frames → sum_by tries (take u frames) + tries_of state ≡ sum_by tries (take t frames)
-      → ((front : Frontier) (work : List Task) → Follows nfa x at m front (work_onto at (take t frames) work) now m front
-      (with_state at state (work_onto at (take u frames) work)) then)
+      → ((front : Frontier) (work : List Task) → Follows nfa x at m front (work_onto at (take t frames) work) now m
+      front (with_state at state (work_onto at (take u frames) work)) then)
       → Followed nfa x takes at s met items row old m i None (take t frames) now v
       → Followed nfa x takes at s met items row old m i state (take u frames) then v
   Followed-resumed t u frames state then less inside tried resumes f = record {

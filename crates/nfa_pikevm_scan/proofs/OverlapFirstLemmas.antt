@@ -25,13 +25,13 @@ use Rattle.nfa_paths.proofs.SetLemmas.{first-gains}
 use Rattle.nfa_paths.proofs.ScanAnswerLemmas.{edges-onward, seeds-later}
 use Rattle.nfa_paths.proofs.SearchingLemmas.{Searching-load, Searching-done}
 use Rattle.nfa_scan_core.specs.Marks.{Marks}
-use Rattle.nfa_pikevm_scan.specs.Scans.{starts_from, with_start, AreStarts, AreAt, IsPaidAt, max_scan_turns}
+use Rattle.nfa_pikevm_scan.specs.Scans.{starts_from, with_start, AreStarts, AreAt, IsPaidAt}
 use Rattle.nfa_pikevm_scan.specs.States.{Frontier, moves, tasks, unmarked, SeenAt, SearchingAt}
 use Rattle.nfa_pikevm_scan.specs.Overlapping.{wants, AddsPatterns, AddsFirstPattern, GoesPast, NextsOverlappingGive}
 use Rattle.nfa_pikevm_scan.specs.declared.scan.Starts.{Starts}
 use Rattle.nfa_pikevm_scan.proofs.RoomLemmas.{AreAt-none, few-joined, over-joined}
 use Rattle.nfa_pikevm_scan.proofs.TaskLemmas.{starts_from-end, tasks-joined, Searching-begin}
-use Rattle.nfa_pikevm_scan.proofs.FrontierLemmas.{Formed-resting, Formed-next, SeenAt-none, IsPaidAt-end}
+use Rattle.nfa_pikevm_scan.proofs.FrontierLemmas.{Formed-resting, Formed-next, SeenAt-none}
 use Rattle.nfa_pikevm_scan.proofs.ScanLemmas.{Crossed, Crossed-given, AreAt-cross, IsPaidAt-crossed, first-miss, first-hit}
 use Rattle.nfa_pikevm_scan.proofs.EndLemmas.{SearchingAt-begin}
 use Rattle.nfa_pikevm_scan.proofs.OverlapSetLemmas.{wants-tells, wants-match}

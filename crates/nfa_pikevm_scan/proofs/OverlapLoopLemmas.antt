@@ -1,5 +1,5 @@
 -- What the loops over the positions keep.
-use Rattle.std.proofs.Common.{◌≡◌, ℕ, ◌+◌, ◌≤◌, ◌↔◌, inl, inr, Bool, true, false, List, [], length, refl, sym, subst, arith, get_or}
+use Rattle.std.proofs.Common.{◌≡◌, ℕ, ◌+◌, ◌≤◌, ◌↔◌, inl, inr, Bool, true, false, List, [], length, refl, sym, subst, get_or}
 use Rattle.std.specs.Prelude.{None, Some, cond}
 use Rattle.std.proofs.lemmas.List.{ext_get_or}
 use Rattle.regex_search_core.specs.PatternSets.{size_of_set}
@@ -12,7 +12,7 @@ use Rattle.nfa_paths.specs.Paths.{space}
 use Rattle.nfa_paths.specs.Exploring.{Slots, Hit}
 use Rattle.nfa_paths.specs.Kinds.{is_resting, NoneBefore, EndsBefore, IsFrontier, first_match}
 use Rattle.nfa_paths.specs.Overlaps.{HoldsPattern, IsInsertable, IsOverlapResult}
-use Rattle.nfa_paths.proofs.ScanAnswerLemmas.{EndsBefore-span, starts-from}
+use Rattle.nfa_paths.proofs.ScanAnswerLemmas.{starts-from}
 use Rattle.nfa_paths.proofs.FrontierMatchLemmas.{first_match-is}
 use Rattle.nfa_paths.proofs.ScanLemmas.{NoneBefore-start, NoneBefore-step, NoneBefore-end}
 use Rattle.nfa_paths.proofs.SetLemmas.{full-gains, first-gains}
@@ -21,7 +21,7 @@ use Rattle.nfa_paths.proofs.SoundLemmas.{FirstAt-front}
 use Rattle.nfa_paths.proofs.UpToLemmas.{FirstAt-found, First-none}
 use Rattle.nfa_scan_core.specs.Marks.{Marks}
 use Rattle.nfa_pikevm_scan.specs.Scans.{with_start, AreStarts}
-use Rattle.nfa_pikevm_scan.specs.Overlapping.{wants, AddsPatterns, AddsAllPatterns, AddsFirstPattern, GoesPast, NextsOverlappingGive}
+use Rattle.nfa_pikevm_scan.specs.Overlapping.{wants, AddsPatterns, AddsAllPatterns, AddsFirstPattern, NextsOverlappingGive}
 use Rattle.nfa_pikevm_scan.specs.declared.scan.Starts.{Starts}
 use Rattle.nfa_pikevm_scan.proofs.FrontierLemmas.{Formed-resting}
 use Rattle.nfa_pikevm_scan.proofs.ScanLemmas.{Crossed-given}
@@ -82,8 +82,8 @@ module _ (nfa : Automaton) (x : Search) (old : List Bool) where
       → NextsOverlappingGive nfa x at true (length old) met (with_start from 0 at items) mid hit after kept new
       → AllAt from (at + 1) before after kept new
   All-next good low a c = record {
-    stands = Stands-next a.stands (Crossed-given _ _ _ c.gives) (wants-match nfa x (length old)) good.numbered.targets_in low
-        (inl refl);
+    stands = Stands-next a.stands (Crossed-given _ _ _ c.gives) (wants-match nfa x (length old))
+        good.numbered.targets_in low (inl refl);
     gains = GainsBefore-step nfa x old wanted tells
         (Stands-front a.stands (Crossed-given _ _ _ c.gives) (wants-match nfa x (length old)) (inl refl)) a.gains
         c.gathers.capacity c.gathers.gained;
@@ -167,8 +167,8 @@ module _ (nfa : Automaton) (x : Search) (old : List Bool) where
       (subst (λ h. AddsPatterns nfa past wanted c.front mid h new) off c.gathers) in
       let u = unmet past new a.none f g in
       record {
-        stands = Stands-next a.stands (Crossed-given _ _ _ c.gives) (wants-match nfa x (length old)) good.numbered.targets_in low
-            (inr off);
+        stands = Stands-next a.stands (Crossed-given _ _ _ c.gives) (wants-match nfa x (length old))
+            good.numbered.targets_in low (inr off);
         still = u.0;
         none = u.1;
       }

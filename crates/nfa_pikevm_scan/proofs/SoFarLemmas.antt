@@ -75,8 +75,8 @@ module _ (nfa : Automaton) (x : Search) (old : List Bool) where
       {at before : ℕ} (low : x.start ≤ at) {met : Marks} {items : List (ℕ × Slots)} {mid : List Bool}
       (s : SoFar past earliest from at before met items mid) {hit : Bool} {after : Marks} {kept : List (ℕ × Slots)}
       {new : List Bool}
-      (c : NextsOverlappingGive nfa x at past (length old) met (with_start from 0 at items) mid hit after kept new)
-      where
+      (c : NextsOverlappingGive nfa x at past (length old) met (with_start from 0 at items) mid hit after
+      kept new) where
     -- the turns, if the scan ends at the position
     pub SoFar-turns : at ≤ x.end → after.turns ≤ before + max_scan_turns nfa x
     SoFar-turns high =
@@ -85,7 +85,8 @@ module _ (nfa : Automaton) (x : Search) (old : List Bool) where
 
     -- the next position
     pub SoFar-next : (hit ≡ true → earliest ≡ false)
-        → SoFar past earliest (record from { limit = cond (hit && not past) 0 from.limit }) (at + 1) before after kept new
+        → SoFar past earliest (record from { limit = cond (hit && not past) 0 from.limit }) (at + 1) before after kept
+        new
     SoFar-next on =
         let k = of past earliest hit empty on s.known c in
         record {

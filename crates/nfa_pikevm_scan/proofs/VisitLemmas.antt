@@ -223,7 +223,8 @@ abbrev pub onto : Option ℕ → Move
 onto None = DeadEnd
 onto (Some s) = On s
 
-onto-plain : (nfa : Automaton) (x : Search) (v : Pair) (slots : Slots) (to : Option ℕ) → IsMet nfa x v slots (onto to) []
+onto-plain : (nfa : Automaton) (x : Search) (v : Pair) (slots : Slots) (to : Option ℕ)
+    → IsMet nfa x v slots (onto to) []
 onto-plain nfa x v slots None = λ b i. absurd i
 onto-plain nfa x v slots (Some s) = λ b i. absurd i
 
@@ -267,8 +268,8 @@ module _ {nfa : Automaton} {x : Search} {at s : ℕ} {m n : Marks} {items : List
       → look_holds look x.haystack at ≡ false
       → VisitsState nfa x at s m items stack slots DeadEnd n items stack slots
   unfolding edges_of
-  VisitsState-no_look e fails = VisitsState-edges e refl refl [] (rw fails refl) (omega arith) (omega arith) DeadEnd refl
-      stack (sym (append-nil stack))
+  VisitsState-no_look e fails = VisitsState-edges e refl refl [] (rw fails refl) (omega arith) (omega arith) DeadEnd
+      refl stack (sym (append-nil stack))
 
   pub VisitsState-no_union : {alternates : List ℕ} → Entered nfa s (Union alternates) m n
       → slice_get alternates 0 ≡ None
@@ -419,8 +420,8 @@ module _ {nfa : Automaton} {s : ℕ} {node : Node} {m n : Marks} (e : Entered nf
       → VisitsState nfa x at s m items stack slots DeadEnd n kept stack slots
   VisitsState-byte plain {byte} reads added =
       let few = few-target node slots byte in
-      VisitsState-resting (move_to (option_and_then (target_on node) byte) slots) (rw reads (edges-move x at slots node r))
-      few.0 few.1 added refl (no_match e x at slots plain)
+      VisitsState-resting (move_to (option_and_then (target_on node) byte) slots)
+      (rw reads (edges-move x at slots node r)) few.0 few.1 added refl (no_match e x at slots plain)
 
 module _ {nfa : Automaton} {s : ℕ} {m n : Marks} {x : Search} {at : ℕ} {items : List (ℕ × Slots)}
     {stack : List FollowEpsilon} {slots : Slots} where

@@ -1,5 +1,5 @@
 -- What a PikeVM adds to a set of patterns, at each position and in all.
-use Rattle.std.specs.Prelude.{◌≡◌, ◌↔◌, ◌⊎◌, ℕ, ◌<◌, ◌==◌, ◌&&◌, ◌||◌, not, Bool, true, false, List, [], ◌∷◌, Option, None, Some, length, All, slice_index, nat_lt, nat_le}
+use Rattle.std.specs.Prelude.{◌≡◌, ◌↔◌, ◌⊎◌, ℕ, ◌<◌, ◌==◌, ◌&&◌, ◌||◌, not, Bool, true, false, List, [], Option, None, Some, length, All, slice_index, nat_lt, nat_le}
 use Rattle.regex_search_core.specs.PatternSets.{with_pattern}
 use Rattle.regex_search_core.specs.Search.{Search}
 use Rattle.thompson_nfa.specs.Automaton.{Automaton}

@@ -110,7 +110,7 @@ move_to (Some sid) slots = (sid, slots) ∷ []
 abbrev pub IsPut : List FollowEpsilon → FollowEpsilon → List FollowEpsilon → Type 0
 IsPut stack f above = ((stack ≡ []) × (above ≡ [])) ⊎ (above ≡ stack ++ f ∷ [])
 
--- the stack and the slots after a Capture: its slot holds the position, if there is such a slot, and a frame restores it
+-- the stack and the slots after a Capture: if the row has its slot, the slot holds the position and a frame restores it
 abbrev pub IsSaved : ℕ → ℕ → List FollowEpsilon → Slots → List FollowEpsilon → Slots → Type 0
 IsSaved at slot stack slots above written =
     ((slot < length slots) × IsPut stack (Restore slot (slice_index_or slots slot None)) above
@@ -256,8 +256,8 @@ module _ (nfa : Automaton) (x : Search) where
     pub follows : Follows at met before work slots after front left written
     pub whole : goes_on → left ≡ rest
 
-  -- The result of following the states at a position, with no marks before: a front, whose moves are in memory. All that
-  -- is left is followed if the position `goes_on`.
+  -- The result of following the states at a position, with no marks before: a front, whose moves are in memory. All
+  -- that is left is followed if the position `goes_on`.
   pub record PositionGives (at : ℕ) (met : Marks) (items : List (ℕ × Slots)) (goes_on : Type 0) (front : Frontier)
       (after : Marks) (kept : List (ℕ × Slots)) : Type 0 where
     pub added : kept ≡ moves (edges nfa x) front

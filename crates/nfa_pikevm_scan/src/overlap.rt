@@ -103,7 +103,7 @@ fn is_over(met: bool, earliest: bool, patterns: &PatternSet) -> bool
     met && (earliest || patterns.is_full())
 }
 
-/// Returns the limit of later starts: none comes before a first match.
+/// Returns the limit of the starts after a position. After a first match no start is left: it would come later.
 #[inline(always)]
 fn later_limit(limit: usize, met: bool, past_match: bool) -> usize
     ensures { result ≡ cond (met && not past_match) 0 limit }
@@ -114,7 +114,7 @@ fn later_limit(limit: usize, met: bool, past_match: bool) -> usize
 /// Adds the patterns that a scan from these starts means. With `past_match` these are the patterns of all matches,
 /// otherwise that of the first match and those that are met up to its end. If the scan stops at the earliest match,
 /// only matches with the least end count.
-fn overlap_positions(
+fn overlap_from(
     nfa: &NFA,
     input: &Input<'_>,
     starts: &Starts,
@@ -148,30 +148,6 @@ fn overlap_positions(
     }
 }
 
-/// Adds what a scan from these starts finds to the set.
-fn overlap_from(
-    nfa: &NFA,
-    kind: MatchKind,
-    input: &Input<'_>,
-    starts: &Starts,
-    threads: &mut Threads,
-    patterns: &mut PatternSet,
-)
-    requires valid { IsAutomaton nfa.now }
-    requires ready { MayScan nfa.now (search_of input.now) starts.now 0 threads.old }
-    requires stop { starts.now.stop ≤ (search_of input.now).start }
-    requires empty { kind ≡ LeftmostFirst → size_of_set patterns.old ≡ 0 }
-    requires not_full { size_of_set patterns.old < length patterns.old }
-    ensures sizes { SameSizes threads.old threads.new }
-    ensures scans { threads.new.scans ≡ threads.old.scans }
-    ensures turns { IsWithinTurns nfa.now (search_of input.now) threads.old threads.new }
-    ensures gains { IsOverlapResult nfa.now (search_of input.now) kind (search_of input.now).earliest patterns.old
-        patterns.new }
-{
-    let past_match = kind.continue_past_first_match();
-    overlap_positions(nfa, input, starts, past_match, threads, patterns);
-}
-
 /// Adds the patterns of the matches that the kind means to the set, including matches that overlap, in one scan. Makes
 /// no scan under leftmost first if the set holds a pattern.
 pub fn overlap(
@@ -190,7 +166,8 @@ pub fn overlap(
         ≤ threads.old.reached.seen.turns + overlap_scans kind patterns.old * max_scan_turns nfa.now
         (search_of input.now) }
 {
-    if !kind.continue_past_first_match() && !patterns.is_empty() {
+    let past_match = kind.continue_past_first_match();
+    if !past_match && !patterns.is_empty() {
         return;
     }
     threads.scans.tick();
@@ -211,5 +188,5 @@ pub fn overlap(
         stop: input.start(),
     };
     set_up(threads, 0);
-    overlap_from(nfa, kind, input, &starts, threads, patterns);
+    overlap_from(nfa, input, &starts, past_match, threads, patterns);
 }

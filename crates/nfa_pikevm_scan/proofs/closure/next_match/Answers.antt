@@ -27,8 +27,8 @@ visit_state-requires-clause-room c =
     let frames = c.loop-on.auto.frames in
     record {
       room = rw i.keeps.same
-          (HasRoom-paid c.args.top.now c.loop-on.top c.args.frames.now c.loop-on.frames c.requires.room.room i.passed.gives.paid
-          i.keeps.size (omega (arith, c.requires.top)) (omega (arith, i.inside)));
+          (HasRoom-paid c.args.top.now c.loop-on.top c.args.frames.now c.loop-on.frames c.requires.room.room
+          i.passed.gives.paid i.keeps.size (omega (arith, c.requires.top)) (omega (arith, i.inside)));
       stack = omega arith;
     }
 
@@ -105,5 +105,6 @@ returns-in-None-clause-finds c =
     c.in-DeadEnd.ensures.enters.is_met in
     Finds-none
     (Passed-resumed c.visit_state.new.top c.resume.new.top c.visit_state.new.frames None _ c.in-None.ensures.top
-    (omega (arith, c.visit_state.ensures.top, stack)) c.in-None.ensures.tried (λ front work. c.in-None.ensures.follows c.args.here.now.nfa.now
-    (search_of c.args.here.now.input.now) c.args.here.now.at c.visit_state.new.reached.seen front work) turned)
+    (omega (arith, c.visit_state.ensures.top, stack)) c.in-None.ensures.tried
+    (λ front work. c.in-None.ensures.follows c.args.here.now.nfa.now (search_of c.args.here.now.input.now)
+    c.args.here.now.at c.visit_state.new.reached.seen front work) turned)

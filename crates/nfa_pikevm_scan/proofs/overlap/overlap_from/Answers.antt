@@ -7,7 +7,7 @@ use Rattle.nfa_pikevm_scan.proofs.ScanLemmas.{Crossed-given, over-cross}
 use Rattle.nfa_pikevm_scan.proofs.OverlapLoopLemmas.{crosses-joined, set-stays}
 use Rattle.nfa_pikevm_scan.proofs.SoFarLemmas.{SoFar-start, SoFar-over, SoFar-turns, SoFar-next, SoFar-found}
 use Rattle.nfa_pikevm_scan.proofs.RoomLemmas.{none_of, below-joined}
-use Rattle.nfa_pikevm_scan.proofs.overlap.overlap_positions.Goals as goal
+use Rattle.nfa_pikevm_scan.proofs.overlap.overlap_from.Goals as goal
 
 -- a limit that falls to 0 or stays
 limit-within : (b : Bool) (limit end : ℕ) → limit ≤ end + 1 → cond b 0 limit ≤ end + 1
@@ -96,5 +96,8 @@ returns-clause-gains c =
     omega (arith, c.end-at-end.ensures.value, c.loop-at-test.false) in
     SoFar-over c.args.nfa.now (search_of c.args.input.now) c.args.patterns.now c.requires.valid c.args.past_match _
     c.requires.empty c.loop-at.invariant.so_far
-    (rw (c.loop-at.invariant.last (omega arith), le-ltb c.loop-at.at c.loop-at.joining.limit (omega
-    (arith, c.loop-at.invariant.limit))) refl)
+    (rw (
+      c.loop-at.invariant.last (omega arith),
+      le-ltb c.loop-at.at c.loop-at.joining.limit (omega
+          (arith, c.loop-at.invariant.limit)),
+    ) refl)

@@ -4,7 +4,7 @@ use Rattle.regex_search_core.specs.Search.{search_of}
 use Rattle.regex_search_core.specs.PatternSets.{size_of_set}
 use Rattle.nfa_pikevm_scan.specs.Scans.{SameSizes}
 use Rattle.nfa_pikevm_scan.proofs.SoFarLemmas.{SoFar}
-use Rattle.nfa_pikevm_scan.proofs.overlap.overlap_positions.Given as goal
+use Rattle.nfa_pikevm_scan.proofs.overlap.overlap_from.Given as goal
 
 abbrev pub invariant-loop-at : goal.invariant-loop-at
 invariant-loop-at l = record {
