@@ -109,11 +109,10 @@ fn save(frames: &mut [FollowEpsilon], top: &mut usize, row: &mut [Slot], slot: u
     ensures top { top.new ≤ top.old + 1 }
     ensures saved { IsSaved at slot (take top.old frames.old) row.old (take top.new frames.new) row.new }
 {
-    if slot >= row.len() {
-        return;
+    if slot < row.len() {
+        push_restore(frames, top, row, slot);
+        row[slot] = Slot::new(at);
     }
-    push_restore(frames, top, row, slot);
-    row[slot] = Slot::new(at);
 }
 
 /// Keeps the state that a byte leads to, if there is one.
