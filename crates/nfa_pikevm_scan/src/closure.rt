@@ -11,7 +11,7 @@ ghost use Rattle.nfa_pikevm_scan.specs.States.{Frontier, work_onto, with_state, 
 ghost use Rattle.nfa_pikevm_scan.specs.States.{state_of, HasSlot, IsBelow, IsWithin, Follows, IsClosureContext};
 ghost use Rattle.nfa_pikevm_scan.specs.States.{KeepsRoom, ClosureHasRoom, ClosureFramesWithin};
 ghost use Rattle.nfa_pikevm_scan.specs.States.{ClosureVisits, ClosureFindsMatch};
-ghost use Rattle.nfa_pikevm_scan.specs.States.{Entered, WasMarked, IsSaved, move_to};
+ghost use Rattle.nfa_pikevm_scan.specs.States.{Entered, WasMarked, move_to};
 ghost use Rattle.nfa_pikevm_scan.specs.Sinks.{ClosureGives};
 ghost use Rattle.nfa_pikevm_scan.specs.declared.frame.FollowEpsilon.TheVariants.{Explore, Restore};
 
@@ -97,21 +97,6 @@ fn push_restore(frames: &mut [FollowEpsilon], top: &mut usize, slots: &[Slot], s
     if *top > 0 {
         let old = slots[slot];
         push(frames, top, FollowEpsilon::Restore { slot, old });
-    }
-}
-
-/// Writes the position to the slot, if the row has it, and pushes a frame that restores what the slot holds
-/// ([`push_restore`]).
-#[inline(always)]
-fn save(frames: &mut [FollowEpsilon], top: &mut usize, row: &mut [Slot], slot: usize, at: usize)
-    requires room { top.old < length frames.old }
-    requires at { at < usize.MAX }
-    ensures top { top.new ≤ top.old + 1 }
-    ensures saved { IsSaved at slot (take top.old frames.old) row.old (take top.new frames.new) row.new }
-{
-    if slot < row.len() {
-        push_restore(frames, top, row, slot);
-        row[slot] = Slot::new(at);
     }
 }
 
@@ -209,7 +194,10 @@ pub fn visit_state(
             Move::On(*alt1)
         }
         State::Capture { next, slot } => {
-            save(frames, top, row, *slot, here.at);
+            if *slot < row.len() {
+                push_restore(frames, top, row, *slot);
+                row[*slot] = Slot::new(here.at);
+            }
             Move::On(*next)
         }
         State::Fail => Move::DeadEnd,

@@ -1,11 +1,14 @@
 -- A turn enters a state: it marks it, and keeps the state that its byte leads to, or gives the state to go on with.
-use Rattle.std.proofs.Common.{◌∙◌, arith, sym, refl}
+use Rattle.std.proofs.Common.{◌≡◌, ◌∙◌, take, slice_set, arith, rules, sym, ap, refl, inl, inr}
 use Rattle.std.proofs.lemmas.List.{length-drop}
 use Rattle.nfa_pikevm_scan.proofs.VisitLemmas.{frames-entered, states-entered, within-union, within-saved}
+use Rattle.nfa_pikevm_scan.proofs.VisitLemmas.{IsPut-made, offset-some, top-put}
 use Rattle.nfa_pikevm_scan.proofs.VisitLemmas.{VisitsState-marked, VisitsState-byte, VisitsState-look, VisitsState-no_look}
 use Rattle.nfa_pikevm_scan.proofs.VisitLemmas.{VisitsState-no_union, VisitsState-union, VisitsState-both}
 use Rattle.nfa_pikevm_scan.proofs.VisitLemmas.{VisitsState-capture, VisitsState-fail, VisitsState-match}
+use Rattle.nfa_pikevm_scan.specs.States.{IsSaved}
 use Rattle.nfa_pikevm_scan.proofs.closure.visit_state.Goals as goal
+use Rattle.nfa_pikevm_scan.proofs.closure.visit_state.Goals.{then-slot-row, else-slot-row}
 
 pub returns-in_default-clause-enters : goal.returns-in_default-clause-enters
 returns-in_default-clause-enters c = VisitsState-marked (c.in_default.ensures.marked refl)
@@ -94,20 +97,43 @@ pub returns-in-BinaryUnion-clause-enters : goal.returns-in-BinaryUnion-clause-en
 returns-in-BinaryUnion-clause-enters c =
     VisitsState-both (rw c.in-BinaryUnion.is at c.in-Some.ensures.entered) c.push.ensures.stack
 
-pub save-requires-clause-room : goal.save-requires-clause-room
-save-requires-clause-room c =
+pub push_restore-requires-clause-room : goal.push_restore-requires-clause-room
+push_restore-requires-clause-room c =
     let room = frames-entered (rw c.in-Capture.is at c.in-Some.ensures.entered) c.requires.room.room in
     omega (arith, room, c.requires.room.stack)
 
-pub returns-in-Capture-clause-top : goal.returns-in-Capture-clause-top
-returns-in-Capture-clause-top c =
+pub returns-after-slot-row-clause-top : goal.returns-after-slot-row-clause-top
+returns-after-slot-row-clause-top c =
     let room = frames-entered (rw c.in-Capture.is at c.in-Some.ensures.entered) c.requires.room.room in
-    omega (arith, room, c.save.ensures.top)
+    let same = c.if-slot-row.auto.frames in
+    elim c.if-slot-row.branch [
+      | then-slot-row w ↦ let put = top-put c.args.top.now w.push_restore.new.top w.push_restore.ensures.empty
+          w.push_restore.ensures.top in omega (arith, room, same, w.top-is)
+      | else-slot-row w ↦ omega (arith, same, w.top-is)
+    ]
 
-pub returns-in-Capture-clause-within : goal.returns-in-Capture-clause-within
-returns-in-Capture-clause-within c =
-    within-saved _ c.args.here.now.at c.in-Capture.slot _ _ _ _ c.save.ensures.saved c.requires.within
+-- what was written and pushed
+saved : (c : goal.After-result-in-Capture-1)
+    → IsSaved c.args.here.now.at c.in-Capture.slot (take c.args.top.now c.args.frames.now) c.args.row.now
+    (take c.if-slot-row.top c.if-slot-row.frames) c.if-slot-row.row
+saved c = elim c.if-slot-row.branch [
+  | then-slot-row w ↦
+      let some = offset-some w.new.result _ c.args.here.now.at w.new.ensures (omega arith) in
+      inl (
+        w.if-slot-row.true,
+        rw (w.top-is, w.frames-is) (IsPut-made c.args.top.now w.push_restore.new.top c.args.frames.now
+            w.push_restore.new.frames
+            _ w.push_restore.ensures.empty w.push_restore.ensures.stack),
+        w.row-is ∙ ap (λ o. slice_set c.args.row.now c.in-Capture.slot o) some,
+      )
+  | else-slot-row w ↦ inr (w.if-slot-row.false, rw (w.top-is, w.frames-is) refl, w.row-is)
+]
 
-pub returns-in-Capture-clause-enters : goal.returns-in-Capture-clause-enters
-returns-in-Capture-clause-enters c =
-    VisitsState-capture (rw c.in-Capture.is at c.in-Some.ensures.entered) c.args.here.now.at c.save.ensures.saved
+pub returns-after-slot-row-clause-within : goal.returns-after-slot-row-clause-within
+returns-after-slot-row-clause-within c =
+    within-saved _ c.args.here.now.at c.in-Capture.slot (take c.args.top.now c.args.frames.now) c.args.row.now _ _
+    (saved c) c.requires.within
+
+pub returns-after-slot-row-clause-enters : goal.returns-after-slot-row-clause-enters
+returns-after-slot-row-clause-enters c =
+    VisitsState-capture (rw c.in-Capture.is at c.in-Some.ensures.entered) c.args.here.now.at (saved c)
