@@ -23,7 +23,7 @@ use Rattle.nfa_pikevm_scan.specs.States.{Frontier, tasks, unmarked, meant, AreMa
 use Rattle.nfa_pikevm_scan.specs.Scans.{blank, starts_from, half_found, IsSoFar, ScansAll}
 use Rattle.nfa_pikevm_scan.proofs.TaskLemmas.{AnswersFor-round, Searching-for}
 use Rattle.nfa_pikevm_scan.proofs.FrontierLemmas.{Formed-rests, Formed-resting, Formed-next, last_match-or, SeenAt-none}
-use Rattle.nfa_pikevm_scan.proofs.ScanLemmas.{Crossed, search-crossed}
+use Rattle.nfa_pikevm_scan.proofs.ScanLemmas.{Crossed, Crossed-given}
 
 -- the match that is found last is in the front, or was found before
 last_match-among : (is : Pair → Bool) (g : Hit) (front : Frontier) (a : Pair × Slots) → last_match is g front ≡ Some a
@@ -110,10 +110,7 @@ module _ (nfa : Automaton) (x : Search) (at width state limit : ℕ) where
     -- the same for a search, if each match is wanted
     nexts-front : GoesOn past hit → IsFrontier (space nfa x) (is_resting nfa) (is_match nfa) (blank width) after.turns
         c.front at
-    nexts-front = all-front (is_match nfa) (λ v t. t) (search-crossed width state limit c) s
-
-    pub ScansAll-cross : GoesOn past hit → ScansAll nfa x (is_match nfa) (at + 1) width state limit after kept
-    ScansAll-cross = ScansAll-next (is_match nfa) (λ v t. t) (search-crossed width state limit c) s
+    nexts-front = all-front (is_match nfa) (λ v t. t) (Crossed-given width state limit c.gives) s
 
     -- no path ended before the position, and none ends at it
     pub NoneBefore-cross : hit ≡ None → NoneBefore (space nfa x) (is_match nfa) at
@@ -148,8 +145,8 @@ module _ (nfa : Automaton) (x : Search) (at width state limit : ℕ) where
       → IsFoundBy (capture nfa) (blank width) (IsScanAnswer nfa x LeftmostFirst true) after.turns (Some a)
   earliest-first {after = after} c s none a first =
       scan_earliest-cut nfa x (blank width) none
-      (all-left (is_match nfa) (λ v t. t) (search-crossed width state limit c) s)
-      (Formed-resting nfa x at after.bits c.front c.formed) first
+      (all-left (is_match nfa) (λ v t. t) (Crossed-given width state limit c.gives) s)
+      (Formed-resting nfa x at after.bits c.front c.gives.formed) first
 
   -- and if it went on, the last match is the earliest last path's
   pub earliest-last : {met : Marks} {items : List (ℕ × Slots)} {slots : Slots} {hit : Option PatternID} {after : Marks}
@@ -170,7 +167,7 @@ module _ (nfa : Automaton) (x : Search) (at width state limit : ℕ) where
       → half_found_of half ≡ half_found (number_of pattern) at
       → IsSoFar nfa x (Some half) written (Some (v, written))
   half-so_far {past} {after = after} {written = written} c v is pattern of_pattern half half_is =
-      let r = Formed-resting nfa x at after.bits c.front c.formed (v, written) (among past is) in
+      let r = Formed-resting nfa x at after.bits c.front c.gives.formed (v, written) (among past is) in
       let here : v.1 ≡ at = r.1 in
       let offset : (half_found_of half).offset ≡ at = ap (λ (m : HalfFound). m.offset) half_is in
       let number : (half_found_of half).pattern ≡ number_of pattern = ap (λ (m : HalfFound). m.pattern) half_is in

@@ -13,7 +13,7 @@ use Rattle.nfa_paths.specs.Exploring.Task.{Explore as ToExplore, Load as ToLoad}
 use Rattle.nfa_paths.specs.Kinds.{NoMatch}
 use Rattle.nfa_scan_core.specs.Marks.{Marks}
 use Rattle.nfa_pikevm_scan.specs.Rows.{Active}
-use Rattle.nfa_pikevm_scan.specs.States.{Frontier, moves, work_onto, with_state, state_on, tries, Follows, Formed, Paid, HasRoom, KeepsRoom, VisitsState, FindsMatch}
+use Rattle.nfa_pikevm_scan.specs.States.{Frontier, moves, work_onto, with_state, state_on, tries, tries_of, Follows, Paid, HasRoom, KeepsRoom, TurnsGive, VisitsState, FindsMatch}
 use Rattle.nfa_pikevm_scan.specs.Sinks.{Takes, ClosureGives}
 use Rattle.nfa_pikevm_scan.specs.Sinks.Takes.{none}
 use Rattle.nfa_pikevm_scan.specs.declared.closure.Move.{Move}
@@ -56,7 +56,7 @@ KeepsRoom-then {a} {b} {c} k l = record {
 }
 
 -- what was paid for, one after the other
-pub Paid-then : {nfa : Automaton} {m n o : Marks} {i j k : ℕ} {stack above top : List FollowEpsilon}
+Paid-then : {nfa : Automaton} {m n o : Marks} {i j k : ℕ} {stack above top : List FollowEpsilon}
     {hand middle left : ℕ}
     → Paid nfa m i stack hand n j above middle → Paid nfa n j above middle o k top left
     → Paid nfa m i stack hand o k top left
@@ -67,20 +67,10 @@ Paid-then a b = record {
       omega (arith, a.entered, b.entered);
 }
 
-pub Paid-begin : (nfa : Automaton) (m : Marks) (i : ℕ) (stack : List FollowEpsilon) (hand : ℕ)
-    → Paid nfa m i stack hand m i stack hand
-Paid-begin nfa m i stack hand = record { tried = omega arith; framed = omega arith; entered = omega arith }
-
--- frames that are applied
-pub Paid-resumed : {nfa : Automaton} {m n : Marks} {i j : ℕ} {stack : List FollowEpsilon} {hand : ℕ} (t u : ℕ)
-    (frames : List FollowEpsilon) (left : ℕ)
-    → u ≤ t → t ≤ length frames → sum_by tries (take u frames) + left ≡ sum_by tries (take t frames)
-    → Paid nfa m i stack hand n j (take t frames) 0 → Paid nfa m i stack hand n j (take u frames) left
-Paid-resumed t u frames left less inside e p = record {
-  tried = omega (arith, p.tried);
-  framed = omega (arith, p.framed, length-take-le t frames inside, length-take-le u frames (omega arith));
-  entered = p.entered;
-}
+-- what is left on the stack at a match is dropped
+Paid-dropped : {nfa : Automaton} {m n : Marks} {i j : ℕ} {stack above : List FollowEpsilon} {hand left : ℕ}
+    → Paid nfa m i stack hand n j above left → Paid nfa m i stack hand n j [] 0
+Paid-dropped p = record { tried = omega (arith, p.tried); framed = omega (arith, p.framed); entered = p.entered }
 
 -- there is still room
 pub HasRoom-paid : {nfa : Automaton} {m n : Marks} {size kept capacity more : ℕ} {hand left : ℕ} (top now : ℕ)
@@ -100,218 +90,197 @@ HasRoom-paid top now frames after room paid same inside within = record {
   states_fit = omega (arith, room.states_fit, paid.entered);
 }
 
--- The result of the state s up to the next match, with a current state and a stack that are still to be followed.
+-- nothing was followed yet
+TurnsGive-begin : (nfa : Automaton) (x : Search) (at s : ℕ) (met : Marks) (items : List (ℕ × Slots))
+    (stack : List FollowEpsilon) (slots : Slots)
+    → TurnsGive nfa x at s met items stack slots [] met items (Some s) stack slots
+TurnsGive-begin nfa x at s met items stack slots = record {
+  added = sym (append-nil items);
+  formed = λ before f. rw (append-nil before) f;
+  follows = λ before old work. rw (append-nil before)
+      (Follows-none nfa x at met before (ToExplore (s, at) ∷ work_onto at stack (ToLoad old ∷ work)) slots);
+  paid = record { tried = omega arith; framed = omega arith; entered = omega arith };
+}
+
+module _ {nfa : Automaton} {x : Search} {at s : ℕ} {met : Marks} {items : List (ℕ × Slots)}
+    {below : List FollowEpsilon} {row : Slots} {front : Frontier} {m : Marks} {i : List (ℕ × Slots)}
+    {now : Slots} where
+  -- more turns
+  TurnsGive-then : {stack : List FollowEpsilon} {sid : ℕ} {more : Frontier} {n : Marks} {j : List (ℕ × Slots)}
+      {state : Option ℕ} {above : List FollowEpsilon} {then : Slots}
+      → TurnsGive nfa x at s met items below row front m i (Some sid) stack now
+      → TurnsGive nfa x at sid m i stack now more n j state above then
+      → TurnsGive nfa x at s met items below row (front ++ more) n j state above then
+  TurnsGive-then {more = more} f h = record {
+    added =
+        h.added ∙ ap (λ l. l ++ moves (edges nfa x) more) f.added
+        ∙ append_assoc items (moves (edges nfa x) front) (moves (edges nfa x) more)
+        ∙ ap (λ l. items ++ l) (sym (moves-append (edges nfa x) front more));
+    formed = λ before k. rw (← append_assoc before front more) (h.formed (before ++ front) (f.formed before k));
+    follows = λ before old work. rw (← append_assoc before front more)
+        (Follows-then nfa x at (f.follows before old work) (h.follows (before ++ front) old work));
+    paid = Paid-then f.paid h.paid;
+  }
+
+  -- the frames above the first `u` are applied
+  TurnsGive-resumed : (t u : ℕ) (frames : List FollowEpsilon) (state : Option ℕ) (then : Slots) → u ≤ t
+      → t ≤ length frames → sum_by tries (take u frames) + tries_of state ≡ sum_by tries (take t frames)
+      → ((front : Frontier) (work : List Task) → Follows nfa x at m front (work_onto at (take t frames) work) now m
+      front (with_state at state (work_onto at (take u frames) work)) then)
+      → TurnsGive nfa x at s met items below row front m i None (take t frames) now
+      → TurnsGive nfa x at s met items below row front m i state (take u frames) then
+  TurnsGive-resumed t u frames state then less inside tried resumes f =
+      let p = f.paid in
+      record {
+        added = f.added;
+        formed = f.formed;
+        follows = λ before old work. Follows-then nfa x at (f.follows before old work)
+            (resumes (before ++ front) (ToLoad old ∷ work));
+        paid = record {
+          tried = omega (arith, p.tried);
+          framed = omega (arith, p.framed, length-take-le t frames inside, length-take-le u frames (omega arith));
+          entered = p.entered;
+        };
+      }
+
+-- Turns that led to no match so far, with what is still to be followed.
 pub record Passed (nfa : Automaton) (x : Search) (at s : ℕ) (met : Marks) (items : List (ℕ × Slots))
     (below : List FollowEpsilon) (row : Slots)
     (after : Marks) (kept : List (ℕ × Slots)) (state : Option ℕ) (stack : List FollowEpsilon) (now : Slots)
     : Type 0 where
   pub front : Frontier
-  pub added : kept ≡ items ++ moves (edges nfa x) front
+  pub gives : TurnsGive nfa x at s met items below row front after kept state stack now
   pub plain : NoMatch (is_match nfa) front
-  pub formed : (before : Frontier) → Formed nfa at met.bits before → Formed nfa at after.bits (before ++ front)
-  pub follows : (before : Frontier) (old : Slots) (work : List Task)
-      → Follows nfa x at met before (ToExplore (s, at) ∷ work_onto at below (ToLoad old ∷ work)) row
-      after (before ++ front) (with_state at state (work_onto at stack (ToLoad old ∷ work))) now
 
--- nothing was followed yet
 pub Passed-begin : (nfa : Automaton) (x : Search) (at s : ℕ) (met : Marks) (items : List (ℕ × Slots))
     (below : List FollowEpsilon) (row : Slots)
     → Passed nfa x at s met items below row met items (Some s) below row
 Passed-begin nfa x at s met items below row = record {
   front = [];
-  added = sym (append-nil items);
+  gives = TurnsGive-begin nfa x at s met items below row;
   plain = λ b i. absurd i;
-  formed = λ before f. rw (append-nil before) f;
-  follows = λ before old work. rw (append-nil before)
-      (Follows-none nfa x at met before (ToExplore (s, at) ∷ work_onto at below (ToLoad old ∷ work)) row);
 }
 
 module _ {nfa : Automaton} {x : Search} {at s : ℕ} {met : Marks} {items : List (ℕ × Slots)}
-    {below : List FollowEpsilon} {row : Slots}
-    {m : Marks} {i : List (ℕ × Slots)} {stack : List FollowEpsilon} {now : Slots} where
+    {below : List FollowEpsilon} {row : Slots} {m : Marks} {i : List (ℕ × Slots)} {now : Slots} where
   -- frames are applied
-  pub Passed-resumed : (state : Option ℕ) (above : List FollowEpsilon) (then : Slots)
-      → ((front : Frontier) (work : List Task) → Follows nfa x at m front (work_onto at stack work) now m front
-      (with_state at state (work_onto at above work)) then)
-      → Passed nfa x at s met items below row m i None stack now
-      → Passed nfa x at s met items below row m i state above then
-  Passed-resumed state above then takes f = record {
+  pub Passed-resumed : (t u : ℕ) (frames : List FollowEpsilon) (state : Option ℕ) (then : Slots) → u ≤ t
+      → t ≤ length frames → sum_by tries (take u frames) + tries_of state ≡ sum_by tries (take t frames)
+      → ((front : Frontier) (work : List Task) → Follows nfa x at m front (work_onto at (take t frames) work) now m
+      front (with_state at state (work_onto at (take u frames) work)) then)
+      → Passed nfa x at s met items below row m i None (take t frames) now
+      → Passed nfa x at s met items below row m i state (take u frames) then
+  Passed-resumed t u frames state then less inside tried resumes f = record {
     front = f.front;
-    added = f.added;
+    gives = TurnsGive-resumed t u frames state then less inside tried resumes f.gives;
     plain = f.plain;
-    formed = f.formed;
-    follows = λ before old work. Follows-then nfa x at (f.follows before old work)
-        (takes (before ++ f.front) (ToLoad old ∷ work));
   }
 
   -- no match came
-  pub Finds-none : (f : Passed nfa x at s met items below row m i None stack now)
+  pub Finds-none : {stack : List FollowEpsilon} → Passed nfa x at s met items below row m i None stack now
       → FindsMatch nfa x at s met items below row None m i stack now
-  Finds-none f = record {
-    front = f.front;
-    added = f.added;
-    ends = f.plain;
-    formed = f.formed;
-    follows = f.follows;
-  }
+  Finds-none f = record { front = f.front; gives = f.gives; ends = f.plain }
 
-  -- A turn adds its front.
-  module _ {sid : ℕ} {n : Marks} {j : List (ℕ × Slots)} {above : List FollowEpsilon} {then : Slots} {turn : Move}
-      (f : Passed nfa x at s met items below row m i (Some sid) stack now)
-      (h : VisitsState nfa x at sid m i stack now turn n j above then) where
-    passed_added : j ≡ items ++ moves (edges nfa x) (f.front ++ h.front)
-    passed_added =
-        h.added ∙ ap (λ l. l ++ moves (edges nfa x) h.front) f.added
-        ∙ append_assoc items (moves (edges nfa x) f.front) (moves (edges nfa x) h.front)
-        ∙ ap (λ l. items ++ l) (sym (moves-append (edges nfa x) f.front h.front))
-
-    passed_formed : (before : Frontier) → Formed nfa at met.bits before
-        → Formed nfa at n.bits (before ++ (f.front ++ h.front))
-    passed_formed before k = rw (← append_assoc before f.front h.front) (h.formed (before ++ f.front)
-        (f.formed before k))
-
-    passed_follows : (before : Frontier) (old : Slots) (work : List Task)
-        → Follows nfa x at met before (ToExplore (s, at) ∷ work_onto at below (ToLoad old ∷ work)) row
-        n (before ++ (f.front ++ h.front)) (with_state at (state_on turn) (work_onto at above (ToLoad old ∷ work)))
-        then
-    passed_follows before old work = rw (← append_assoc before f.front h.front)
-        (Follows-then nfa x at (f.follows before old work) (h.follows (before ++ f.front) old work))
-
+  module _ {stack : List FollowEpsilon} {sid : ℕ} {n : Marks} {j : List (ℕ × Slots)} {above : List FollowEpsilon}
+      {then : Slots} (f : Passed nfa x at s met items below row m i (Some sid) stack now) where
     -- a turn that leads to no match
-    pub Passed-plain : NoMatch (is_match nfa) h.front
+    pub Passed-plain : {turn : Move} (h : VisitsState nfa x at sid m i stack now turn n j above then)
+        → NoMatch (is_match nfa) h.front
         → Passed nfa x at s met items below row n j (state_on turn) above then
-    Passed-plain plain = record {
+    Passed-plain h plain = record {
       front = f.front ++ h.front;
-      added = passed_added;
+      gives = TurnsGive-then f.gives h.gives;
       plain = NoMatch-append (is_match nfa) f.front h.front f.plain plain;
-      formed = passed_formed;
-      follows = passed_follows;
     }
 
-  -- a turn that leads to a match
-  pub Finds-match : {sid : ℕ} {n : Marks} {j : List (ℕ × Slots)} {above : List FollowEpsilon} {then : Slots}
-      {pattern : PatternID}
-      → (f : Passed nfa x at s met items below row m i (Some sid) stack now)
-      → (h : VisitsState nfa x at sid m i stack now (Matched pattern) n j above then)
-      → FindsMatch nfa x at s met items below row (Some pattern) n j above then
-  Finds-match {sid} {then = then} f h = record {
-    front = f.front ++ h.front;
-    added = passed_added f h;
-    ends = (f.front, sid, f.plain, ap (λ l. f.front ++ l) h.is_met.0, h.is_met.1);
-    formed = passed_formed f h;
-    follows = passed_follows f h;
-  }
+    -- a turn that leads to a match
+    pub Finds-match : {pattern : PatternID} → VisitsState nfa x at sid m i stack now (Matched pattern) n j above then
+        → FindsMatch nfa x at s met items below row (Some pattern) n j above then
+    Finds-match h = record {
+      front = f.front ++ h.front;
+      gives = TurnsGive-then f.gives h.gives;
+      ends = (f.front, sid, f.plain, ap (λ l. f.front ++ l) h.is_met.0, h.is_met.1);
+    }
 
 module _ {V : Type 0} (nfa : Automaton) (x : Search) (takes : V → PatternID → Slots → Bool → V → Type 0) where
-  -- The result of the state s from its row, with a current state and a stack that are still to be followed.
+  -- Turns from the state s and its row, with what is still to be followed, whose matches were taken.
   pub record Followed (at s : ℕ) (met : Marks) (items : List (ℕ × Slots)) (row : Slots) (old : V)
       (after : Marks) (kept : List (ℕ × Slots)) (state : Option ℕ) (stack : List FollowEpsilon) (now : Slots) (new : V)
       : Type 0 where
     pub front : Frontier
-    pub added : kept ≡ items ++ moves (edges nfa x) front
+    pub gives : TurnsGive nfa x at s met items [] row front after kept state stack now
     pub takes_all : Takes nfa takes front old false new
-    pub formed : (before : Frontier) → Formed nfa at met.bits before → Formed nfa at after.bits (before ++ front)
-    pub follows : (before : Frontier) (old : Slots) (work : List Task)
-        → Follows nfa x at met before (ToExplore (s, at) ∷ ToLoad old ∷ work) row
-        after (before ++ front) (with_state at state (work_onto at stack (ToLoad old ∷ work))) now
 
-  -- nothing was followed yet
   pub Followed-begin : (at s : ℕ) (met : Marks) (items : List (ℕ × Slots)) (row : Slots) (old : V)
       → Followed at s met items row old met items (Some s) [] row old
   Followed-begin at s met items row old = record {
     front = [];
-    added = sym (append-nil items);
+    gives = TurnsGive-begin nfa x at s met items [] row;
     takes_all = none;
-    formed = λ before f. rw (append-nil before) f;
-    follows = λ before old work. rw (append-nil before)
-        (Follows-none nfa x at met before (ToExplore (s, at) ∷ ToLoad old ∷ work) row);
   }
 
 module _ {V : Type 0} {nfa : Automaton} {x : Search} {takes : V → PatternID → Slots → Bool → V → Type 0} {at s : ℕ}
     {met : Marks} {items : List (ℕ × Slots)} {row : Slots} {old : V}
-    {m : Marks} {i : List (ℕ × Slots)} {stack : List FollowEpsilon} {now : Slots} {v : V} where
+    {m : Marks} {i : List (ℕ × Slots)} {now : Slots} {v : V} where
   -- frames are applied
-  pub Followed-resumed : (state : Option ℕ) (above : List FollowEpsilon) (then : Slots)
-      → ((front : Frontier) (work : List Task) → Follows nfa x at m front (work_onto at stack work) now m front
-      (with_state at state (work_onto at above work)) then)
-      → Followed nfa x takes at s met items row old m i None stack now v
-      → Followed nfa x takes at s met items row old m i state above then v
-  Followed-resumed state above then resumes f = record {
+  pub Followed-resumed : (t u : ℕ) (frames : List FollowEpsilon) (state : Option ℕ) (then : Slots) → u ≤ t
+      → t ≤ length frames → sum_by tries (take u frames) + tries_of state ≡ sum_by tries (take t frames)
+      → ((front : Frontier) (work : List Task) → Follows nfa x at m front (work_onto at (take t frames) work) now m
+      front (with_state at state (work_onto at (take u frames) work)) then)
+      → Followed nfa x takes at s met items row old m i None (take t frames) now v
+      → Followed nfa x takes at s met items row old m i state (take u frames) then v
+  Followed-resumed t u frames state then less inside tried resumes f = record {
     front = f.front;
-    added = f.added;
+    gives = TurnsGive-resumed t u frames state then less inside tried resumes f.gives;
     takes_all = f.takes_all;
-    formed = f.formed;
-    follows = λ before old work. Follows-then nfa x at (f.follows before old work)
-        (resumes (before ++ f.front) (ToLoad old ∷ work));
   }
 
   -- all was followed
-  pub ClosureGives-whole : stack ≡ [] → Followed nfa x takes at s met items row old m i None stack now v
-      → Paid nfa met (length items) [] 1 m (length i) [] 0
+  pub ClosureGives-whole : {stack : List FollowEpsilon} → stack ≡ []
+      → Followed nfa x takes at s met items row old m i None stack now v
       → ClosureGives nfa x takes at s met items row old false m i v
-  ClosureGives-whole empty f paid = record {
+  ClosureGives-whole empty f = record {
     front = f.front;
-    added = f.added;
+    added = f.gives.added;
     takes_all = f.takes_all;
-    formed = f.formed;
-    paid = paid;
+    formed = f.gives.formed;
+    paid = Paid-dropped f.gives.paid;
     leads = λ before old work. record {
       left = ToLoad old ∷ work;
       written = now;
-      follows = rw empty at (f.follows before old work);
+      follows = rw empty at (f.gives.follows before old work);
       whole = λ g. refl;
     };
   }
 
   -- What comes up to a match, or with no match, adds its front.
-  module _ {sid : ℕ} {n : Marks} {j : List (ℕ × Slots)} {above : List FollowEpsilon} {then : Slots} {w : V}
-      {one : Option PatternID} {ended : Bool}
+  module _ {stack : List FollowEpsilon} {sid : ℕ} {n : Marks} {j : List (ℕ × Slots)} {above : List FollowEpsilon}
+      {then : Slots} {w : V} {one : Option PatternID} {ended : Bool}
       (f : Followed nfa x takes at s met items row old m i (Some sid) stack now v)
       (h : FindsMatch nfa x at sid m i stack now one n j above then)
       (t : Takes nfa takes h.front v ended w) where
-    added : j ≡ items ++ moves (edges nfa x) (f.front ++ h.front)
-    added =
-        h.added ∙ ap (λ l. l ++ moves (edges nfa x) h.front) f.added
-        ∙ append_assoc items (moves (edges nfa x) f.front) (moves (edges nfa x) h.front)
-        ∙ ap (λ l. items ++ l) (sym (moves-append (edges nfa x) f.front h.front))
-
-    formed : (before : Frontier) → Formed nfa at met.bits before → Formed nfa at n.bits (before ++ (f.front ++ h.front))
-    formed before k = rw (← append_assoc before f.front h.front) (h.formed (before ++ f.front) (f.formed before k))
-
-    follows : (before : Frontier) (old : Slots) (work : List Task)
-        → Follows nfa x at met before (ToExplore (s, at) ∷ ToLoad old ∷ work) row
-        n (before ++ (f.front ++ h.front)) (work_onto at above (ToLoad old ∷ work)) then
-    follows before old work = rw (← append_assoc before f.front h.front)
-        (Follows-then nfa x at (f.follows before old work) (h.follows (before ++ f.front) old work))
-
     -- the position goes on
     pub Followed-more : ended ≡ false → Followed nfa x takes at s met items row old n j None above then w
     Followed-more goes = record {
       front = f.front ++ h.front;
-      added = added;
+      gives = TurnsGive-then f.gives h.gives;
       takes_all = Takes-then f.takes_all (rw goes at t);
-      formed = formed;
-      follows = follows;
     }
 
     -- it ends with the match
-    pub ClosureGives-ended : ended ≡ true → Paid nfa met (length items) [] 1 n (length j) [] 0
-        → ClosureGives nfa x takes at s met items row old true n j w
-    ClosureGives-ended stops paid = record {
-      front = f.front ++ h.front;
-      added = added;
-      takes_all = Takes-then f.takes_all (rw stops at t);
-      formed = formed;
-      paid = paid;
-      leads = λ before old work. record {
-        left = work_onto at above (ToLoad old ∷ work);
-        written = then;
-        follows = follows before old work;
-        whole = λ e. absurd (cc e);
-      };
-    }
-
--- what is left on the stack at a match is dropped
-pub Paid-dropped : {nfa : Automaton} {m n : Marks} {i j : ℕ} {stack above : List FollowEpsilon} {hand left : ℕ}
-    → Paid nfa m i stack hand n j above left → Paid nfa m i stack hand n j [] 0
-Paid-dropped p = record { tried = omega (arith, p.tried); framed = omega (arith, p.framed); entered = p.entered }
+    pub ClosureGives-ended : ended ≡ true → ClosureGives nfa x takes at s met items row old true n j w
+    ClosureGives-ended stops =
+        let r = TurnsGive-then f.gives h.gives in
+        record {
+          front = f.front ++ h.front;
+          added = r.added;
+          takes_all = Takes-then f.takes_all (rw stops at t);
+          formed = r.formed;
+          paid = Paid-dropped r.paid;
+          leads = λ before old work. record {
+            left = work_onto at above (ToLoad old ∷ work);
+            written = then;
+            follows = r.follows before old work;
+            whole = λ e. absurd (cc e);
+          };
+        }

@@ -90,14 +90,6 @@ module _ (nfa : Automaton) (x : Search) where
       subst (λ (w : List Task). Scanning (space nfa x) wanted (blank width) at
       (SeenAt at (unmarked met).bits) met.turns [] w (blank width)) (tasks-joined begins width at items) s.scanning
 
-  -- the same by what the join gives
-  pub ScansAll-join : (begins : Starts) (at width : ℕ) {wanted : Pair → Bool} (met now : Marks) → now ≡ met
-      → (items kept : List (ℕ × Slots)) → kept ≡ with_start begins width at items
-      → ScansAll nfa x wanted at width begins.state begins.limit met items
-      → Scanning (space nfa x) wanted (blank width) at (SeenAt at (unmarked now).bits) now.turns []
-      (tasks at kept (Load (blank width) ∷ starts_from width begins.state (at + 1) begins.limit)) (blank width)
-  ScansAll-join begins at width met now same items kept e s = rw (same, e) (ScansAll-joined begins at width s)
-
   module _ (table : List Bool) (first : IsFirstBytes nfa table) (begins : Starts) (are : AreStarts nfa x begins)
       (limit width : ℕ) where
     -- a start that may be passed over

@@ -13,9 +13,11 @@ pub mod FrontierLemmas
 pub mod ScanLemmas
 pub mod AllLemmas
 pub mod EndLemmas
+pub mod StandsLemmas
 pub mod RoomLemmas
 pub mod SizeLemmas
 pub mod OverlapFirstLemmas
 pub mod OverlapLoopLemmas
 pub mod OverlapSetLemmas
+pub mod SoFarLemmas
 pub mod PatternSinkLemmas

@@ -229,18 +229,20 @@ module _ {V : Type 0} (nfa : Automaton) (x : Search) (takes : V → PatternID �
     NextsLeadTo-ended stops = record {
       front = c.front ++ a.front;
       ended = ended;
-      added = added;
+      gives = record {
+        added = added;
+        formed = a.formed c.front c.formed;
+        paid = record { tried = omega (arith, paid.tried); framed = paid.framed; entered = paid.entered };
+        leads = λ current old waiting.
+            let l = leads old waiting in
+            record {
+              left = l.left;
+              written = l.written;
+              follows = Follows-then nfa x at (reaches current old waiting) l.follows;
+              whole = λ on. absurd (cc (on, stops));
+            };
+      };
       takes_all = Takes-then c.takes_all a.takes_all;
-      formed = a.formed c.front c.formed;
-      paid = record { tried = omega (arith, paid.tried); framed = paid.framed; entered = paid.entered };
-      leads = λ current old waiting.
-          let l = leads old waiting in
-          record {
-            left = l.left;
-            written = l.written;
-            follows = Follows-then nfa x at (reaches current old waiting) l.follows;
-            whole = λ on. absurd (cc (on, stops));
-          };
     }
 
   -- all were followed
@@ -249,17 +251,19 @@ module _ {V : Type 0} (nfa : Automaton) (x : Search) (takes : V → PatternID �
   NextsLeadTo-over left after kept new over c = record {
     front = c.front;
     ended = false;
-    added = c.added;
-    takes_all = c.takes_all;
-    formed = c.formed;
-    paid = record { tried = omega (arith, c.paid.tried); framed = c.paid.framed; entered = c.paid.entered };
-    leads = λ current old waiting. record {
-      left = Load old ∷ waiting;
-      written = current;
-      follows =
-          subst (λ l. Follows nfa x at (unmarked met) [] (tasks at items (Load old ∷ waiting)) current after c.front
-          (tasks at l (Load old ∷ waiting)) current) over
-          (c.follows current old waiting current);
-      whole = λ _. refl;
+    gives = record {
+      added = c.added;
+      formed = c.formed;
+      paid = record { tried = omega (arith, c.paid.tried); framed = c.paid.framed; entered = c.paid.entered };
+      leads = λ current old waiting. record {
+        left = Load old ∷ waiting;
+        written = current;
+        follows =
+            subst (λ l. Follows nfa x at (unmarked met) [] (tasks at items (Load old ∷ waiting)) current after c.front
+            (tasks at l (Load old ∷ waiting)) current) over
+            (c.follows current old waiting current);
+        whole = λ _. refl;
+      };
     };
+    takes_all = c.takes_all;
   }

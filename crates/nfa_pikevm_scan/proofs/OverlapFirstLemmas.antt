@@ -25,14 +25,14 @@ use Rattle.nfa_paths.proofs.SetLemmas.{first-gains}
 use Rattle.nfa_paths.proofs.ScanAnswerLemmas.{edges-onward, seeds-later}
 use Rattle.nfa_paths.proofs.SearchingLemmas.{Searching-load, Searching-done}
 use Rattle.nfa_scan_core.specs.Marks.{Marks}
-use Rattle.nfa_pikevm_scan.specs.Scans.{starts_from, with_start, AreStarts, AreAt, IsPaidAt, max_scan_turns}
+use Rattle.nfa_pikevm_scan.specs.Scans.{starts_from, with_start, AreStarts, AreAt, IsPaidAt}
 use Rattle.nfa_pikevm_scan.specs.States.{Frontier, moves, tasks, unmarked, SeenAt, SearchingAt}
 use Rattle.nfa_pikevm_scan.specs.Overlapping.{wants, AddsPatterns, AddsFirstPattern, GoesPast, NextsOverlappingGive}
 use Rattle.nfa_pikevm_scan.specs.declared.scan.Starts.{Starts}
 use Rattle.nfa_pikevm_scan.proofs.RoomLemmas.{AreAt-none, few-joined, over-joined}
 use Rattle.nfa_pikevm_scan.proofs.TaskLemmas.{starts_from-end, tasks-joined, Searching-begin}
-use Rattle.nfa_pikevm_scan.proofs.FrontierLemmas.{Formed-resting, Formed-next, SeenAt-none, IsPaidAt-end}
-use Rattle.nfa_pikevm_scan.proofs.ScanLemmas.{Crossed, set-crossed, AreAt-cross, IsPaidAt-crossed, first-miss, first-hit}
+use Rattle.nfa_pikevm_scan.proofs.FrontierLemmas.{Formed-resting, Formed-next, SeenAt-none}
+use Rattle.nfa_pikevm_scan.proofs.ScanLemmas.{Crossed, Crossed-given, AreAt-cross, IsPaidAt-crossed, first-miss, first-hit}
 use Rattle.nfa_pikevm_scan.proofs.EndLemmas.{SearchingAt-begin}
 use Rattle.nfa_pikevm_scan.proofs.OverlapSetLemmas.{wants-tells, wants-match}
 
@@ -215,14 +215,6 @@ module _ (nfa : Automaton) (x : Search) (old : List Bool) where
           rw (none, starts_from-end 0 from.state past) at (joined-search w target b) in
           Searching-done (space nfa x) target (Searching-load (space nfa x) target left)
 
-  -- after the last position nothing is left
-  pub FirstWay-end : IsAutomaton nfa → {from : Starts} {at before : ℕ} {met : Marks} {items : List (ℕ × Slots)}
-      {new : List Bool} → size_of_set old ≡ 0
-      → FirstWay from at before met items new → items ≡ [] → from.limit ≤ at
-      → IsOverlapResult nfa x LeftmostFirst false old new
-  FirstWay-end good {from} {at} {items = items} empty w none past =
-      FirstWay-over good empty w (rw (none, le-ltb at from.limit past) refl)
-
   -- a full set gains no more
   pub FirstWay-full : {from : Starts} {at before : ℕ} {met : Marks} {items : List (ℕ × Slots)} {new : List Bool}
       → size_of_set old ≡ 0 → FirstWay from at before met items new → size_of_set new ≡ length new
@@ -234,13 +226,6 @@ module _ (nfa : Automaton) (x : Search) (old : List Bool) where
       of None same exact = rw same (first-gains nfa x false old (rw same at full) empty)
       of (Some a) u exact = UpTo-full nfa x old wanted tells empty u exact full
 
-  -- the turns after a position of the span
-  pub FirstWay-turns : {from : Starts} {at before : ℕ} {met : Marks} {items : List (ℕ × Slots)} {new : List Bool}
-      → x.start ≤ x.end → at ≤ x.end + 1 → FirstWay from at before met items new
-      → met.turns ≤ before + max_scan_turns nfa x
-  FirstWay-turns {at = at} {before} {met} {items} span within w =
-      IsPaidAt-end nfa x at before met.turns (length items) within span w.paid
-
   module _ {from : Starts} {at before : ℕ} {met : Marks} {items : List (ℕ × Slots)} {mid : List Bool} {hit : Bool}
       {after : Marks} {kept : List (ℕ × Slots)} {new : List Bool}
       (good : IsAutomaton nfa) (low : x.start ≤ at) (w : FirstWay from at before met items mid)
@@ -248,7 +233,7 @@ module _ (nfa : Automaton) (x : Search) (old : List Bool) where
       kept new) where
     crossed : Crossed nfa x at 0 from.state from.limit met (with_start from 0 at items) (GoesPast false hit) after kept
         c.front
-    crossed = set-crossed from.state from.limit c
+    crossed = Crossed-given 0 from.state from.limit c.gives
 
     -- the search for any wanted pairs from the states at the position
     front-searched : Searched nfa x old wanted tells at
@@ -279,7 +264,7 @@ module _ (nfa : Automaton) (x : Search) (old : List Bool) where
     }
 
     rests : (a : Pair × Slots) → In a c.front → (is_resting nfa a.0 ≡ true) × (a.0.1 ≡ at)
-    rests = Formed-resting nfa x at after.bits c.front c.formed
+    rests = Formed-resting nfa x at after.bits c.front c.gives.formed
 
     -- a search for what is wanted before the next position, or for more, wants the same here
     agree : (target : Pair → Bool) → Between wanted (at + 1) target → (a : Pair × Slots) → In a c.front
@@ -317,15 +302,6 @@ module _ (nfa : Automaton) (x : Search) (old : List Bool) where
         let size : length mid ≡ length old = FirstWay-capacity w in
         omega arith
 
-    -- no match: the set stays
-    pub set-stays : hit ≡ false → new ≡ mid
-    set-stays off =
-        of (first_match wanted c.front) (subst (λ h. AddsPatterns nfa false wanted c.front mid h new) off c.gathers)
-      where
-        of : (g : Hit) → AddsFirstPattern nfa g mid false new → new ≡ mid
-        of None still = still.1
-        of (Some a) put = let never : false ≡ true = put.0 in cc
-
     -- no match: the next position
     pub FirstWay-next : hit ≡ false → FirstWay from (at + 1) before after kept new
     FirstWay-next off =
@@ -344,11 +320,11 @@ module _ (nfa : Automaton) (x : Search) (old : List Bool) where
                 paid = IsPaidAt-crossed crossed low w.paid (few-joined from 0 at items);
                 so_far = w.so_far;
                 searching = next-searching off lacks.0;
-                sound = rw c.added
+                sound = rw c.gives.added
                     (subst (λ ps. Sound nfa x old wanted tells (at + 1) ps)
                     (heads-round (edges nfa x) at c.front [] (starts_from 0 from.state (at + 1) from.limit)
                     (pairs_from from.state (at + 1) (from.limit - (at + 1)))
-                    (Formed-next nfa x at after.bits c.front c.formed)
+                    (Formed-next nfa x at after.bits c.front c.gives.formed)
                     (heads-seeds [] (pairs_from from.state (at + 1) (from.limit - (at + 1)))))
                     (Sound-round nfa x old wanted tells w.sound searched rests
                     (λ k i. seeds-later [] from.state at (from.limit - (at + 1)) k i)));
@@ -379,7 +355,7 @@ module _ (nfa : Automaton) (x : Search) (old : List Bool) where
               let put : AddsFirstPattern nfa (Some has.0) mid true new =
               rw has.1 at (subst (λ h. AddsPatterns nfa false wanted c.front mid h new) on c.gathers)
               in
-              let moved : kept ≡ moves (edges nfa x) (before_match wanted c.front) = c.added
+              let moved : kept ≡ moves (edges nfa x) (before_match wanted c.front) = c.gives.added
               ∙ sym (c.cut refl) in
               let none : pairs_from from.state (at + 1) (0 - (at + 1)) ≡ [] = pairs_from-end from.state (omega arith) in
               record {
@@ -390,7 +366,7 @@ module _ (nfa : Automaton) (x : Search) (old : List Bool) where
                 sound = rw (moved, none)
                     (subst (λ ps. Sound nfa x old wanted tells (at + 1) ps)
                     (heads-round (edges nfa x) at (before_match wanted c.front) [] [] []
-                    (λ a i. Formed-next nfa x at after.bits c.front c.formed a
+                    (λ a i. Formed-next nfa x at after.bits c.front c.gives.formed a
                     (before_match-among wanted c.front a i)) (heads-seeds [] []))
                     (Sound-cut nfa x old wanted tells [] w.sound front-searched rests));
                 holds = UpTo-match nfa x old wanted tells at w.so_far has.0 mid new empty w.holds

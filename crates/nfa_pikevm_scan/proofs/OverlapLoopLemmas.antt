@@ -1,5 +1,5 @@
 -- What the loops over the positions keep.
-use Rattle.std.proofs.Common.{◌≡◌, ℕ, ◌+◌, ◌≤◌, ◌↔◌, inl, inr, Bool, true, false, List, [], length, refl, sym, subst, arith, get_or}
+use Rattle.std.proofs.Common.{◌≡◌, ℕ, ◌+◌, ◌≤◌, ◌↔◌, inl, inr, Bool, true, false, List, [], length, refl, sym, subst, get_or}
 use Rattle.std.specs.Prelude.{None, Some, cond}
 use Rattle.std.proofs.lemmas.List.{ext_get_or}
 use Rattle.regex_search_core.specs.PatternSets.{size_of_set}
@@ -9,10 +9,10 @@ use Rattle.regex_search_core.specs.declared.search.MatchKind.TheVariants.{All as
 use Rattle.thompson_nfa.specs.Automaton.{Automaton, IsAutomaton}
 use Rattle.nfa_paths.specs.Graphs.{Pair}
 use Rattle.nfa_paths.specs.Paths.{space}
-use Rattle.nfa_paths.specs.Exploring.{Slots}
-use Rattle.nfa_paths.specs.Kinds.{is_resting, NoneBefore, EndsBefore, IsFrontier}
+use Rattle.nfa_paths.specs.Exploring.{Slots, Hit}
+use Rattle.nfa_paths.specs.Kinds.{is_resting, NoneBefore, EndsBefore, IsFrontier, first_match}
 use Rattle.nfa_paths.specs.Overlaps.{HoldsPattern, IsInsertable, IsOverlapResult}
-use Rattle.nfa_paths.proofs.ScanAnswerLemmas.{EndsBefore-span, starts-from}
+use Rattle.nfa_paths.proofs.ScanAnswerLemmas.{starts-from}
 use Rattle.nfa_paths.proofs.FrontierMatchLemmas.{first_match-is}
 use Rattle.nfa_paths.proofs.ScanLemmas.{NoneBefore-start, NoneBefore-step, NoneBefore-end}
 use Rattle.nfa_paths.proofs.SetLemmas.{full-gains, first-gains}
@@ -20,14 +20,14 @@ use Rattle.nfa_paths.proofs.GainLemmas.{wanted-shape, GainsBefore, GainsBefore-s
 use Rattle.nfa_paths.proofs.SoundLemmas.{FirstAt-front}
 use Rattle.nfa_paths.proofs.UpToLemmas.{FirstAt-found, First-none}
 use Rattle.nfa_scan_core.specs.Marks.{Marks}
-use Rattle.nfa_pikevm_scan.specs.Scans.{with_start, AreStarts, AreAt, IsPaidAt, ScansAll, max_scan_turns}
-use Rattle.nfa_pikevm_scan.specs.Overlapping.{wants, AddsPatterns, AddsAllPatterns, AddsFirstPattern, GoesPast, NextsOverlappingGive}
+use Rattle.nfa_pikevm_scan.specs.Scans.{with_start, AreStarts}
+use Rattle.nfa_pikevm_scan.specs.Overlapping.{wants, AddsPatterns, AddsAllPatterns, AddsFirstPattern, NextsOverlappingGive}
 use Rattle.nfa_pikevm_scan.specs.declared.scan.Starts.{Starts}
-use Rattle.nfa_pikevm_scan.proofs.RoomLemmas.{AreAt-none, few-joined}
-use Rattle.nfa_pikevm_scan.proofs.FrontierLemmas.{Formed-resting, IsPaidAt-end}
-use Rattle.nfa_pikevm_scan.proofs.ScanLemmas.{set-crossed, AreAt-cross, IsPaidAt-crossed}
-use Rattle.nfa_pikevm_scan.proofs.AllLemmas.{all-left, all-front, ScansAll-next}
-use Rattle.nfa_pikevm_scan.proofs.EndLemmas.{ScansAll-begin, ScansAll-joined, ScansAll-over}
+use Rattle.nfa_pikevm_scan.proofs.FrontierLemmas.{Formed-resting}
+use Rattle.nfa_pikevm_scan.proofs.ScanLemmas.{Crossed-given}
+use Rattle.nfa_pikevm_scan.proofs.AllLemmas.{all-left}
+use Rattle.nfa_pikevm_scan.proofs.EndLemmas.{ScansAll-joined, ScansAll-over}
+use Rattle.nfa_pikevm_scan.proofs.StandsLemmas.{Stands, Stands-start, Stands-next, Stands-front}
 use Rattle.nfa_pikevm_scan.proofs.OverlapSetLemmas.{wants-tells, wants-match}
 
 -- sets that hold the same patterns are one
@@ -41,6 +41,25 @@ sets-same old new size same = ext_get_or false new old size
     of false true f g = g refl
     of false false f g = refl
 
+-- without a match that counts the set stays as it is
+pub set-stays : {nfa : Automaton} {x : Search} {at n : ℕ} (past : Bool) {met : Marks} {items : List (ℕ × Slots)}
+    {set : List Bool} {hit : Bool} {after : Marks} {kept : List (ℕ × Slots)} {new : List Bool}
+    → NextsOverlappingGive nfa x at past n met items set hit after kept new → hit ≡ false → new ≡ set
+set-stays true {set = set} {new = new} c off = sets-same set new c.gathers.capacity (λ k. (
+  λ h. elim ((c.gathers.gained k).0 h) [
+    | inl o ↦ o
+    | inr w ↦ absurd (c.gathers.none off k w.0 w.1)
+  ],
+  λ o. (c.gathers.gained k).1 (inl o),
+))
+set-stays {nfa} {x} {n = n} false {set = set} {new = new} c off =
+    of (first_match (wants nfa x n) c.front)
+    (subst (λ h. AddsPatterns nfa false (wants nfa x n) c.front set h new) off c.gathers)
+  where
+    of : (g : Hit) → AddsFirstPattern nfa g set false new → new ≡ set
+    of None still = still.1
+    of (Some a) put = let never : false ≡ true = put.0 in cc
+
 -- Of a scan, `old` is the set as it began.
 module _ (nfa : Automaton) (x : Search) (old : List Bool) where
   -- the pairs that the set has room for
@@ -50,61 +69,11 @@ module _ (nfa : Automaton) (x : Search) (old : List Bool) where
   abbrev pub tells : (v : Pair) → (wanted v ≡ true) ↔ IsInsertable nfa x (length old) v
   tells = wants-tells nfa x (length old)
 
-  -- the states and the turns at a position
-  pub record Stands (from : Starts) (at before : ℕ) (met : Marks) (items : List (ℕ × Slots)) : Type 0 where
-    pub states : AreAt nfa items
-    pub paid : IsPaidAt nfa x at before met.turns (length items)
-    pub scans : ScansAll nfa x wanted at 0 from.state from.limit met items
-
-  pub Stands-start : (from : Starts) → AreStarts nfa x from → (met : Marks) (items : List (ℕ × Slots)) → items ≡ []
-      → Stands from x.start met.turns met items
-  Stands-start from are met items none =
-      rw none (record {
-        states = AreAt-none nfa;
-        paid = record { bound = omega arith };
-        scans = ScansAll-begin nfa x from are [] met wanted;
-      })
-
-  pub Stands-next : {from : Starts} {at before : ℕ} {past : Bool} {met : Marks} {items : List (ℕ × Slots)}
-      {set : List Bool} {hit : Bool} {after : Marks} {kept : List (ℕ × Slots)} {new : List Bool}
-      → IsAutomaton nfa → x.start ≤ at → Stands from at before met items
-      → NextsOverlappingGive nfa x at past (length old) met (with_start from 0 at items) set hit after kept new
-      → GoesPast past hit
-      → Stands from (at + 1) before after kept
-  Stands-next {from} {at} {items = items} good low s c goes =
-      let k = set-crossed from.state from.limit c in
-      record {
-        states = AreAt-cross k good.numbered.targets_in;
-        paid = IsPaidAt-crossed k low s.paid (few-joined from 0 at items);
-        scans = ScansAll-next wanted (wants-match nfa x (length old)) k (ScansAll-joined nfa x from at 0 s.scans) goes;
-      }
-
-  -- the turns and the states after the last position
-  pub Stands-turns : {from : Starts} {at before : ℕ} {past : Bool} {met : Marks} {items : List (ℕ × Slots)}
-      {set : List Bool} {hit : Bool} {after : Marks} {kept : List (ℕ × Slots)} {new : List Bool}
-      → x.start ≤ at → at ≤ x.end → Stands from at before met items
-      → NextsOverlappingGive nfa x at past (length old) met (with_start from 0 at items) set hit after kept new
-      → after.turns ≤ before + max_scan_turns nfa x
-  Stands-turns {from} {at} {before} {items = items} {after = after} {kept} low high s c =
-      IsPaidAt-end nfa x (at + 1) before after.turns (length kept) (omega arith) (omega arith)
-      (IsPaidAt-crossed (set-crossed from.state from.limit c) low s.paid (few-joined from 0 at items))
-
-  -- the front of a position that was followed whole
-  stands-front : {from : Starts} {at before : ℕ} {past : Bool} {met : Marks} {items : List (ℕ × Slots)}
-      {set : List Bool} {hit : Bool} {after : Marks} {kept : List (ℕ × Slots)} {new : List Bool}
-      → Stands from at before met items → (c : NextsOverlappingGive nfa x at past (length old) met
-      (with_start from 0 at items)
-      set hit after kept new) → GoesPast past hit
-      → IsFrontier (space nfa x) (is_resting nfa) wanted [] after.turns c.front at
-  stands-front {from} {at} s c goes =
-      all-front wanted (wants-match nfa x (length old)) (set-crossed from.state from.limit c)
-      (ScansAll-joined nfa x from at 0 s.scans) goes
-
   -- all patterns
 
   pub record AllAt (from : Starts) (at before : ℕ) (met : Marks) (items : List (ℕ × Slots))
       (new : List Bool) : Type 0 where
-    pub stands : Stands from at before met items
+    pub stands : Stands nfa x wanted 0 from at before met items
     pub gains : GainsBefore nfa x old wanted tells at new
 
   pub All-next : {from : Starts} {at before : ℕ} {met : Marks} {items : List (ℕ × Slots)} {mid : List Bool} {hit : Bool}
@@ -113,9 +82,11 @@ module _ (nfa : Automaton) (x : Search) (old : List Bool) where
       → NextsOverlappingGive nfa x at true (length old) met (with_start from 0 at items) mid hit after kept new
       → AllAt from (at + 1) before after kept new
   All-next good low a c = record {
-    stands = Stands-next good low a.stands c (inl refl);
+    stands = Stands-next a.stands (Crossed-given _ _ _ c.gives) (wants-match nfa x (length old))
+        good.numbered.targets_in low (inl refl);
     gains = GainsBefore-step nfa x old wanted tells
-        (stands-front a.stands c (inl refl)) a.gains c.gathers.capacity c.gathers.gained;
+        (Stands-front a.stands (Crossed-given _ _ _ c.gives) (wants-match nfa x (length old)) (inl refl)) a.gains
+        c.gathers.capacity c.gathers.gained;
   }
 
   pub All-over : {from : Starts} {at before : ℕ} {met : Marks} {items : List (ℕ × Slots)} {new : List Bool}
@@ -124,11 +95,6 @@ module _ (nfa : Automaton) (x : Search) (old : List Bool) where
   All-over {from} {at} a none =
       GainsBefore-end nfa x old wanted tells a.gains
       (ScansAll-over nfa x from at 0 a.stands.scans none (wants-match nfa x (length old)))
-
-  pub All-end : {from : Starts} {at before : ℕ} {met : Marks} {items : List (ℕ × Slots)} {new : List Bool}
-      → AllAt from at before met items new → at ≡ x.end + 1 → IsOverlapResult nfa x AllMatches false old new
-  All-end {at = at} a last =
-      GainsBefore-end nfa x old wanted tells a.gains (rw last (EndsBefore-span nfa x wanted))
 
   -- a full set gains no more
   pub All-full : {from : Starts} {at before : ℕ} {met : Marks} {items : List (ℕ × Slots)} {new : List Bool}
@@ -145,7 +111,7 @@ module _ (nfa : Automaton) (x : Search) (old : List Bool) where
 
   pub record EarliestAt (past : Bool) (from : Starts) (at before : ℕ) (met : Marks) (items : List (ℕ × Slots))
       (new : List Bool) : Type 0 where
-    pub stands : Stands from at before met items
+    pub stands : Stands nfa x wanted 0 from at before met items
     pub still : new ≡ old
     pub none : NoneMet past at
 
@@ -153,7 +119,7 @@ module _ (nfa : Automaton) (x : Search) (old : List Bool) where
       → (met : Marks) (items : List (ℕ × Slots)) → items ≡ []
       → EarliestAt past from x.start met.turns met items old
   Earliest-start past from are met items none =
-      record { stands = Stands-start from are met items none; still = refl; none = of past }
+      record { stands = Stands-start nfa x wanted from are [] met none; still = refl; none = of past }
     where
       of : (past : Bool) → NoneMet past x.start
       of true = NoneHeld-start nfa x old wanted tells
@@ -195,12 +161,17 @@ module _ (nfa : Automaton) (x : Search) (old : List Bool) where
       → hit ≡ false
       → EarliestAt past from (at + 1) before after kept new
   Earliest-next past {at = at} {mid = mid} {hit = hit} {new = new} good low a c off =
-      let f = stands-front a.stands c (inr off) in
+      let f = Stands-front a.stands (Crossed-given _ _ _ c.gives) (wants-match nfa x (length old)) (inr off) in
       let g : AddsPatterns nfa past wanted c.front old false new =
       subst (λ s. AddsPatterns nfa past wanted c.front s false new) a.still
       (subst (λ h. AddsPatterns nfa past wanted c.front mid h new) off c.gathers) in
       let u = unmet past new a.none f g in
-      record { stands = Stands-next good low a.stands c (inr off); still = u.0; none = u.1 }
+      record {
+        stands = Stands-next a.stands (Crossed-given _ _ _ c.gives) (wants-match nfa x (length old))
+            good.numbered.targets_in low (inr off);
+        still = u.0;
+        none = u.1;
+      }
 
   pub Earliest-found : (past : Bool) {from : Starts} {at before : ℕ} {met : Marks} {items : List (ℕ × Slots)}
       {mid : List Bool} {hit : Bool} {after : Marks}
@@ -210,7 +181,7 @@ module _ (nfa : Automaton) (x : Search) (old : List Bool) where
       → hit ≡ true
       → IsOverlapResult nfa x (cond past AllMatches LeftmostFirst) true old new
   Earliest-found true {mid = mid} {new = new} good empty a c on =
-      let f = stands-front a.stands c (inl refl) in
+      let f = Stands-front a.stands (Crossed-given _ _ _ c.gives) (wants-match nfa x (length old)) (inl refl) in
       let g : AddsAllPatterns nfa wanted c.front old true new =
       subst (λ s. AddsAllPatterns nfa wanted c.front s true new) a.still
       (subst (λ h. AddsAllPatterns nfa wanted c.front mid h new) on c.gathers) in
@@ -226,9 +197,9 @@ module _ (nfa : Automaton) (x : Search) (old : List Bool) where
         | inr has ↦
             let put : AddsFirstPattern nfa (Some has.0) old true new = rw has.1 at g in
             let s = all-left wanted (wants-match nfa x (length old))
-            (set-crossed from.state from.limit c) (ScansAll-joined nfa x from at 0 a.stands.scans) in
+            (Crossed-given 0 from.state from.limit c.gives) (ScansAll-joined nfa x from at 0 a.stands.scans) in
             let first = FirstAt-front nfa x old wanted tells s
-            (Formed-resting nfa x at after.bits c.front c.formed) has.0 has.1 in
+            (Formed-resting nfa x at after.bits c.front c.gives.formed) has.0 has.1 in
             FirstAt-found nfa x old wanted tells a.none first put.1.1 (empty refl) put.1.2
       ]
 
@@ -260,7 +231,7 @@ pub All-start : (nfa : Automaton) (x : Search) (from : Starts) → AreStarts nfa
     → (met : Marks) (items : List (ℕ × Slots)) (set : List Bool) → items ≡ []
     → AllAt nfa x set from x.start met.turns met items set
 All-start nfa x from are met items set none = record {
-  stands = Stands-start nfa x set from are met items none;
+  stands = Stands-start nfa x (wants nfa x (length set)) from are [] met none;
   gains = GainsBefore-start nfa x set (wants nfa x (length set)) (wants-tells nfa x (length set));
 }
 

@@ -20,6 +20,7 @@ use Rattle.nfa_pikevm_scan.specs.Sinks.{counts, PatternSinkTakes, Takes, Closure
 use Rattle.nfa_pikevm_scan.specs.Sinks.Takes.{none, plain, taken, ends}
 use Rattle.nfa_pikevm_scan.specs.declared.overlap.PatternSink.{PatternSink}
 use Rattle.nfa_pikevm_scan.proofs.EdgeLemmas.{moves-one}
+use Rattle.nfa_pikevm_scan.proofs.SinkLemmas.{PositionGives-if}
 use Rattle.nfa_pikevm_scan.proofs.OverlapSetLemmas.{wants-match, wants-here, AddsPatterns-none, AddsPatterns-one, AddsPatterns-then}
 
 -- rows of no slots
@@ -187,22 +188,14 @@ pub NextsOverlappingGive-taken : {nfa : Automaton} {x : Search} {at : ℕ} {met 
     new.patterns.now
 NextsOverlappingGive-taken {nfa} {x} {at} {items = items} {old} {new} fresh may rows a =
     let n : ℕ = length old.patterns.now in
-    let g = all-gathered nfa x at n a.takes_all (record { passes = refl; may = may; size = refl }) a.formed.here in
+    let g = all-gathered nfa x at n a.takes_all (record { passes = refl; may = may; size = refl })
+    a.gives.formed.here in
     let same : new.met ≡ g.0 = g.1 ∙ ap (λ b. g.0 || b) fresh ∙ or-false g.0 in
     record {
       front = a.front;
+      gives = PositionGives-if (λ on. on-gathered nfa x at n a.takes_all on) a.gives;
       rows = no-rows items rows;
-      added = a.added;
       gathers = rw same g.2;
-      cut = λ off. cut-gathered nfa x at n a.takes_all (record { passes = off; may = may; size = refl }) a.formed.here;
-      formed = a.formed;
-      paid = a.paid;
-      leads = λ back waiting.
-          let l = a.leads [] back waiting in
-          record {
-            left = l.left;
-            written = l.written;
-            follows = l.follows;
-            whole = λ on. l.whole (on-gathered nfa x at n a.takes_all on);
-          };
+      cut = λ off. cut-gathered nfa x at n a.takes_all (record { passes = off; may = may; size = refl })
+          a.gives.formed.here;
     }

@@ -17,8 +17,7 @@ use Rattle.nfa_paths.proofs.StartLemmas.{IsMatch-capture}
 use Rattle.nfa_paths.proofs.ScanAnswerLemmas.{edges-onward, seeds-later}
 use Rattle.nfa_paths.proofs.ScanningLemmas.{Searching-cut, Searching-wait, Searching-before_round}
 use Rattle.nfa_scan_core.specs.Marks.{Marks}
-use Rattle.nfa_pikevm_scan.specs.States.{Frontier, moves, tasks, unmarked, AreMatchPairs, GoesOn, Formed, Paid, SeenAt, SearchingAt, Leads, NextsGive}
-use Rattle.nfa_pikevm_scan.specs.Overlapping.{GoesPast, NextsOverlappingGive}
+use Rattle.nfa_pikevm_scan.specs.States.{Frontier, moves, tasks, unmarked, AreMatchPairs, Formed, Paid, SeenAt, SearchingAt, Leads, PositionGives, NextsGive}
 use Rattle.nfa_pikevm_scan.specs.Scans.{blank, starts_from, half_found, AreAt, IsSoFar, IsPaidAt, SearchesFirst}
 use Rattle.nfa_pikevm_scan.proofs.TaskLemmas.{starts_from-end, AnswersFor, AnswersFor-round, Searching-for}
 use Rattle.nfa_pikevm_scan.proofs.FrontierLemmas.{Formed-rests, Formed-next, Formed-below, Formed-over, SeenAt-none, Paid-few, Paid-next, IsPaidAt-cross}
@@ -34,27 +33,15 @@ pub record Crossed (nfa : Automaton) (x : Search) (at width state limit : ℕ) (
       (tasks at items (Load (blank width) ∷ starts_from width state (at + 1) limit)) (blank width) goes after front
       (Load (blank width) ∷ starts_from width state (at + 1) limit)
 
-pub search-crossed : {nfa : Automaton} {x : Search} {at : ℕ} (width state limit : ℕ) {past : Bool} {met : Marks}
-    {items : List (ℕ × Slots)} {slots : Slots} {hit : Option PatternID} {after : Marks} {kept : List (ℕ × Slots)}
-    {written : Slots} (c : NextsGive nfa x at past met items slots hit after kept written)
-    → Crossed nfa x at width state limit met items (GoesOn past hit) after kept c.front
-search-crossed {at = at} width state limit c = record {
+pub Crossed-given : {nfa : Automaton} {x : Search} {at : ℕ} (width state limit : ℕ) {met : Marks}
+    {items : List (ℕ × Slots)} {goes : Type 0} {front : Frontier} {after : Marks} {kept : List (ℕ × Slots)}
+    → PositionGives nfa x at met items goes front after kept
+    → Crossed nfa x at width state limit met items goes after kept front
+Crossed-given {at = at} width state limit c = record {
   added = c.added;
   formed = c.formed;
   paid = c.paid;
   leads = c.leads (blank width) (blank width) (starts_from width state (at + 1) limit);
-}
-
-pub set-crossed : {nfa : Automaton} {x : Search} {at n : ℕ} (state limit : ℕ) {past : Bool} {met : Marks}
-    {items : List (ℕ × Slots)} {set : List Bool} {hit : Bool} {after : Marks} {kept : List (ℕ × Slots)}
-    {new : List Bool}
-    (c : NextsOverlappingGive nfa x at past n met items set hit after kept new)
-    → Crossed nfa x at 0 state limit met items (GoesPast past hit) after kept c.front
-set-crossed {at = at} state limit c = record {
-  added = c.added;
-  formed = c.formed;
-  paid = c.paid;
-  leads = c.leads [] (starts_from 0 state (at + 1) limit);
 }
 
 module _ {nfa : Automaton} {x : Search} {at width state limit : ℕ} {met after : Marks} {items kept : List (ℕ × Slots)}
@@ -150,7 +137,7 @@ module _ (nfa : Automaton) (x : Search) (at width state limit : ℕ) where
       record {
         so_far = so_far;
         is_so_far = subst (λ (k : Slots). IsSoFar nfa x found k so_far) (sym h.1) is_so_far;
-        searching = first-miss (is_match nfa) (λ v t. t) (search-crossed width state limit c) (c.cut refl) s h.0
+        searching = first-miss (is_match nfa) (λ v t. t) (Crossed-given width state limit c.gives) (c.cut refl) s h.0
             (inr none);
       }
 
@@ -167,7 +154,7 @@ module _ (nfa : Automaton) (x : Search) (at width state limit : ℕ) where
       let h = rw some at c.is_hit in
       let v : Pair = h.0 in
       let cut = first_match-cut (is_match nfa) c.front (v, written) h.1 in
-      let r = Formed-rests nfa x at _ c.front c.formed (v, written) cut.among in
+      let r = Formed-rests nfa x at _ c.front c.gives.formed (v, written) cut.among in
       let here : v.1 ≡ at = r.1 in
       let offset : (half_found_of half).offset ≡ at = ap (λ (m : HalfFound). m.offset) is in
       let number : (half_found_of half).pattern ≡ number_of pattern = ap (λ (m : HalfFound). m.pattern) is in
@@ -176,5 +163,5 @@ module _ (nfa : Automaton) (x : Search) (at width state limit : ℕ) where
         so_far = Some (v, written);
         is_so_far = (v.0, ap (λ (n : ℕ). Some ((v.0, n), written)) (here ∙ sym offset), h.2 ∙ ap Some (sym number));
         searching = rw (starts_from-end width state later) (first-hit (is_match nfa) (λ v t. t)
-            (search-crossed width state limit c) (c.cut refl) s (v, written) h.1);
+            (Crossed-given width state limit c.gives) (c.cut refl) s (v, written) h.1);
       }

@@ -1,6 +1,7 @@
 -- The matches of a front, taken in order.
-use Rattle.std.proofs.Common.{◌≡◌, ℕ, inl, inr, Bool, true, false, [], ◌∷◌, ◌++◌, refl, sym, subst}
+use Rattle.std.proofs.Common.{◌≡◌, ℕ, inl, inr, Bool, true, false, List, [], ◌∷◌, ◌++◌, refl, sym, subst}
 use Rattle.std.specs.Prelude.{Some}
+use Rattle.regex_search_core.specs.Search.{Search}
 use Rattle.regex_search_core.specs.Patterns.{number_of}
 use Rattle.regex_search_core.specs.declared.primitives.PatternID.{PatternID}
 use Rattle.thompson_nfa.specs.Automaton.{Automaton}
@@ -8,7 +9,8 @@ use Rattle.nfa_paths.specs.Graphs.{Pair}
 use Rattle.nfa_paths.specs.Paths.{node_at, pattern_of, is_match}
 use Rattle.nfa_paths.specs.Exploring.{Slots}
 use Rattle.nfa_paths.specs.Kinds.{NoMatch}
-use Rattle.nfa_pikevm_scan.specs.States.{Frontier, EndsInMatch}
+use Rattle.nfa_scan_core.specs.Marks.{Marks}
+use Rattle.nfa_pikevm_scan.specs.States.{Frontier, EndsInMatch, PositionGives}
 use Rattle.nfa_pikevm_scan.specs.Sinks.{Takes}
 use Rattle.nfa_pikevm_scan.specs.Sinks.Takes.{none, plain, taken, ends}
 
@@ -45,3 +47,16 @@ module _ {V : Type 0} {nfa : Automaton} {takes : V → PatternID → Slots → B
   Takes-match {v = v} {w} pattern ended same e t =
       subst (λ f. Takes nfa takes f v ended w) (sym e.3)
       (Takes-then (Takes-none e.0 v e.2) (takes-one ended pattern e.4 (rw same at t)))
+
+-- a position that goes on in fewer cases
+pub PositionGives-if : {nfa : Automaton} {x : Search} {at : ℕ} {met : Marks} {items : List (ℕ × Slots)}
+    {goes fewer : Type 0} {front : Frontier} {after : Marks} {kept : List (ℕ × Slots)} → (fewer → goes)
+    → PositionGives nfa x at met items goes front after kept → PositionGives nfa x at met items fewer front after kept
+PositionGives-if goes_on g = record {
+  added = g.added;
+  formed = g.formed;
+  paid = g.paid;
+  leads = λ current old waiting.
+      let l = g.leads current old waiting in
+      record { left = l.left; written = l.written; follows = l.follows; whole = λ on. l.whole (goes_on on) };
+}

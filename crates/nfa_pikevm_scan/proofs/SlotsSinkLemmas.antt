@@ -13,6 +13,7 @@ use Rattle.nfa_pikevm_scan.specs.Sinks.{SlotsSinkTakes, Takes, ClosuresGive}
 use Rattle.nfa_pikevm_scan.specs.Sinks.Takes.{none, plain, taken, ends}
 use Rattle.nfa_pikevm_scan.specs.declared.sink.SlotsSink.{SlotsSink}
 use Rattle.nfa_pikevm_scan.proofs.EdgeLemmas.{moves-one}
+use Rattle.nfa_pikevm_scan.proofs.SinkLemmas.{PositionGives-if}
 
 -- whether a match ends the position
 goes : {b past : Bool} → b ≡ not past → past ≡ true → b ≡ false
@@ -88,17 +89,7 @@ pub NextsGive-taken : {nfa : Automaton} {x : Search} {at : ℕ} {met : Marks} {i
     → NextsGive nfa x at old.past_match met items old.slots.now new.hit after kept new.slots.now
 NextsGive-taken {nfa} {x} {old = old} fresh a = record {
   front = a.front;
-  added = a.added;
+  gives = PositionGives-if (λ on. on-taken nfa a.takes_all on) a.gives;
   is_hit = meant-taken nfa old.past_match a.takes_all refl fresh;
   cut = cut-taken nfa x a.takes_all;
-  formed = a.formed;
-  paid = a.paid;
-  leads = λ current back waiting.
-      let l = a.leads current back waiting in
-      record {
-        left = l.left;
-        written = l.written;
-        follows = l.follows;
-        whole = λ on. l.whole (on-taken nfa a.takes_all on);
-      };
 }

@@ -1,20 +1,19 @@
 -- The result of a turn that enters a state, for each kind of state.
-use Rattle.std.proofs.Common.{◌≡◌, ◌⊎◌, ℕ, suc, zero, ◌+◌, ◌<◌, ◌≤◌, List, [], ◌∷◌, ◌++◌, length, get_or, set, map, reverse, drop, take, refl, ap, sym, ◌∙◌, arith, append_assoc, append-nil, Bool, true, false, inl, inr, get_or-set_same}
+use Rattle.std.proofs.Common.{◌≡◌, ℕ, suc, zero, ◌+◌, ◌<◌, ◌≤◌, List, [], ◌∷◌, ◌++◌, length, get_or, set, map, reverse, drop, take, refl, ap, sym, ◌∙◌, arith, append_assoc, append-nil, Bool, true, false, inl, inr, get_or-set_same}
 use Rattle.std.specs.Prelude.{Option, Some, None, SomeIff, All, option_and_then}
 use Rattle.std.specs.List.{slice_get, sum_by}
 use Rattle.std.proofs.lemmas.Option.{slice_get-map, get_or_from_slice_get}
-use Rattle.std.proofs.lemmas.List.{length-append, map_push, get_or_default}
+use Rattle.std.proofs.lemmas.List.{length-append, length-drop, map_push, get_or_default}
 use Rattle.std.proofs.lemmas.List.Elements.{All-push, All-head, All-tail, All-weaker}
 use Rattle.std.proofs.lemmas.List.Sums.{sum_by_push, sum-map}
 use Rattle.std.proofs.lemmas.Grind.{reverse_onto}
 use Rattle.regex_search_core.specs.Search.{Search}
 use Rattle.regex_search_core.specs.Patterns.{number_of}
 use Rattle.regex_search_core.specs.declared.primitives.PatternID.{PatternID}
-use Rattle.thompson_nfa.specs.Automaton.{Automaton, Node, node_of}
+use Rattle.thompson_nfa.specs.Automaton.{Automaton, Node}
 use Rattle.thompson_nfa.specs.Automaton.Node.{Look, Union, BinaryUnion, Capture, Fail, Match}
 use Rattle.thompson_nfa.specs.Looks.{look_holds}
 use Rattle.thompson_nfa.specs.declared.look.Look as looks
-use Rattle.thompson_nfa.specs.declared.state.State.{State}
 use Rattle.nfa_paths.specs.Graphs.{Pair, In}
 use Rattle.nfa_paths.specs.Paths.{degree, node_at, pattern_of, slot_of, edges, edges_of, byte_at, target_on, is_match}
 use Rattle.nfa_paths.specs.Exploring.{Task, Slots}
@@ -26,61 +25,16 @@ use Rattle.nfa_paths.proofs.ScanningLemmas.{once-keep}
 use Rattle.nfa_paths.proofs.ScanAnswerLemmas.{edges-onward, edges-rise}
 use Rattle.nfa_scan_core.proofs.TargetLemmas.{target-degree}
 use Rattle.nfa_scan_core.specs.Marks.{Marks}
-use Rattle.nfa_pikevm_scan.specs.Rows.{Active}
 use Rattle.nfa_pikevm_scan.specs.Needs.{room_of}
-use Rattle.nfa_pikevm_scan.specs.States.{Frontier, moves, work_onto, with_state, tries, state_on, one_of, IsWithin, Follows, Formed, Paid, HasRoom, VisitsState, IsMet}
+use Rattle.nfa_pikevm_scan.specs.States.{Frontier, work_onto, with_state, tries, tries_of, state_on, one_of, move_to, IsWithin, IsPut, IsSaved, WasMarked, Entered, Follows, Formed, Paid, HasRoom, VisitsState, IsMet}
 use Rattle.nfa_pikevm_scan.specs.declared.closure.Move.{Move}
 use Rattle.nfa_pikevm_scan.specs.declared.closure.Move.TheVariants.{On, Matched, DeadEnd}
 use Rattle.nfa_pikevm_scan.specs.declared.frame.FollowEpsilon.{FollowEpsilon}
 use Rattle.nfa_pikevm_scan.specs.declared.frame.FollowEpsilon.TheVariants.{Explore as ToExplore, Restore}
-use Rattle.nfa_pikevm_scan.proofs.EdgeLemmas.{node_at-get, edges-some, edges-none, moves-one}
+use Rattle.nfa_pikevm_scan.proofs.EdgeLemmas.{node_at-get, edges-move, moves-one}
 use Rattle.nfa_pikevm_scan.proofs.EpsilonClosureLemmas.{Follows-then, Follows-marked, Follows-plain, Follows-write, Follows-unkept, Follows-keep, Follows-unrestored}
 use Rattle.nfa_pikevm_scan.proofs.ApplyFrameLemmas.{work_onto-push}
 use Rattle.nfa_pikevm_scan.proofs.FrontierLemmas.{sum-ones}
-
--- the turn marked the state
-pub record Entered (nfa : Automaton) (s : ℕ) (node : Node) (m n : Marks) : Type 0 where
-  pub is : slice_get nfa.states s ≡ Some node
-  pub inside : s < length m.bits
-  pub below : s < length nfa.states
-  pub clear : get_or m.bits s true ≡ false
-  pub marked : n.bits ≡ set m.bits s true
-  pub counted : n.turns ≡ m.turns + 1
-
-pub Entered-made : {nfa : Automaton} {s k : ℕ} {v w : State} (m n : Marks) {top frames kept capacity : ℕ} → k ≡ s
-    → slice_get nfa.states s ≡ Some (node_of v) → v ≡ w
-    → s < length nfa.states → HasRoom nfa m.bits top frames kept capacity → n.turns ≡ m.turns + 1
-    → (get_or m.bits k true ≡ false) × (n.bits ≡ set m.bits k true) → Entered nfa s (node_of w) m n
-Entered-made m n same is node state room counted fresh =
-    let marks = room.marks in record {
-      is = is ∙ ap (λ v. Some (node_of v)) node;
-      inside = omega arith;
-      below = state;
-      clear = rw same at fresh.0;
-      marked = rw same at fresh.1;
-      counted = counted;
-    }
-
--- each state counts once
-
--- the set of kept states after a byte leads to this target
-abbrev pub IsKept : Option ℕ → Slots → Active → Active → Type 0
-IsKept target slots next after = ((target ≡ None) × (after ≡ next))
-    ⊎ ((sid : ℕ) × (target ≡ Some sid) × (after ≡ record next { items = next.items ++ (sid, slots) ∷ [] }))
-
-pub IsKept-made : (o target : Option ℕ) (slots : Slots) (next after : Active) → target ≡ o
-    → (target ≡ None → after ≡ next)
-    → ((sid : ℕ) → target ≡ Some sid → after ≡ record next { items = next.items ++ (sid, slots) ∷ [] })
-    → IsKept o slots next after
-IsKept-made o None slots next after e none some = inl (sym e, none refl)
-IsKept-made o (Some sid) slots next after e none some = inr (sid, sym e, some sid refl)
-
-pub IsKept-same : (o : Option ℕ) (slots : Slots) (next after : Active) → IsKept o slots next after
-    → after ≡ record next { items = after.items }
-IsKept-same o slots next after h = elim h [
-  | inl k ↦ k.1 ∙ ap (λ (a : Active). record next { items = a.items }) (sym k.1)
-  | inr k ↦ k.2 ∙ ap (λ (a : Active). record next { items = a.items }) (sym k.2)
-]
 
 module _ {nfa : Automaton} {s : ℕ} {node : Node} {m n : Marks} (e : Entered nfa s node m n) where
   -- the state's weight is added
@@ -125,36 +79,10 @@ module _ {nfa : Automaton} {s : ℕ} {node : Node} {m n : Marks} (e : Entered nf
     entered = omega (arith, entered, weight-entered one_of);
   }
 
-  pub Paid-same : (items : ℕ) (stack : List FollowEpsilon) (in_hand : ℕ) → in_hand ≤ degree node
+  Paid-same : (items : ℕ) (stack : List FollowEpsilon) (in_hand : ℕ) → in_hand ≤ degree node
       → Paid nfa m items stack 1 n items stack in_hand
   Paid-same items stack in_hand few = Paid-entered items items stack stack in_hand (omega arith)
       (omega arith) (omega arith)
-
-  pub Paid-push : (items : ℕ) (stack : List FollowEpsilon) (f : FollowEpsilon)
-      (above : List FollowEpsilon) (in_hand : ℕ)
-      → above ≡ stack ++ f ∷ [] → tries f + in_hand ≤ degree node → 1 ≤ room_of node
-      → Paid nfa m items stack 1 n items above in_hand
-  Paid-push items stack f above in_hand is few fits =
-      rw is (Paid-entered items items stack (stack ++ f ∷ []) in_hand (omega (arith, sum_by_push tries stack f))
-      (omega (arith, length-append stack (f ∷ []))) (omega arith))
-
-  -- a state that reads a byte
-  pub Paid-kept : (byte : Option ℕ) (slots : Slots) (next after : Active) (stack : List FollowEpsilon)
-      → IsKept (option_and_then (target_on node) byte) slots next after
-      → Paid nfa m (length next.items) stack 1 n (length after.items) stack 0
-  Paid-kept byte slots next after stack h = elim h [
-    | inl k ↦ rw k.1 (Paid-same (length next.items) stack 0 (omega arith))
-    | inr k ↦
-        let some : 1 ≤ degree node = of byte k.0 k.1 in
-        let one : ℕ × Slots = (k.0, slots) in
-        rw k.2 (Paid-entered (length next.items) (length (next.items ++ one ∷ [])) stack stack 0
-        (omega (arith, length-append next.items (one ∷ []))) (omega arith)
-        (omega (arith, length-append next.items (one ∷ []))))
-  ]
-    where
-      of : (byte : Option ℕ) (t : ℕ) → option_and_then (target_on node) byte ≡ Some t → 1 ≤ degree node
-      of None t e = cc
-      of (Some b) t e = target-degree node b t e
 
   -- a mark that is set stays when another is set
   still : (bits : List Bool) (s k : ℕ) → get_or bits k false ≡ true → get_or (set bits s true) k false ≡ true
@@ -204,31 +132,36 @@ module _ {nfa : Automaton} {s : ℕ} {node : Node} {m n : Marks} (e : Entered nf
         ]
 
 -- The result of a turn that adds no pair to the front.
-module _ {nfa : Automaton} (x : Search) (at s : ℕ) {m n : Marks} (items : List (ℕ × Slots)) (stack : List FollowEpsilon)
-    (slots : Slots) (turn : Move) (above : List FollowEpsilon) (written : Slots) where
+module _ {nfa : Automaton} {x : Search} {at s : ℕ} {m n : Marks} {items : List (ℕ × Slots)} {stack : List FollowEpsilon}
+    {slots : Slots} {turn : Move} {above : List FollowEpsilon} {written : Slots} where
   VisitsState-bare : IsMet nfa x (s, at) written turn []
       → ((before : Frontier) → Formed nfa at m.bits before → Formed nfa at n.bits before)
       → ((before : Frontier) (old : Slots) (work : List Task)
       → Follows nfa x at m before (Explore (s, at) ∷ work_onto at stack (Load old ∷ work)) slots
       n before (with_state at (state_on turn) (work_onto at above (Load old ∷ work))) written)
+      → Paid nfa m (length items) stack 1 n (length items) above (tries_of (state_on turn))
       → VisitsState nfa x at s m items stack slots turn n items above written
-  VisitsState-bare met formed follows = record {
+  VisitsState-bare met formed follows paid = record {
     front = [];
-    added = sym (append-nil items);
+    gives = record {
+      added = sym (append-nil items);
+      formed = λ before f. rw (append-nil before) (formed before f);
+      follows = λ before old work. rw (append-nil before) (follows before old work);
+      paid = paid;
+    };
     is_met = met;
-    formed = λ before f. rw (append-nil before) (formed before f);
-    follows = λ before old work. rw (append-nil before) (follows before old work);
   }
 
--- a turn that finds its state marked
-pub VisitsState-marked : {nfa : Automaton} (x : Search) (at s k : ℕ) {m n : Marks} (items : List (ℕ × Slots))
-    (stack : List FollowEpsilon) (slots : Slots)
-    → n.turns ≡ m.turns + 1 → k ≡ s → (get_or m.bits k false ≡ true) × (n.bits ≡ m.bits)
-    → VisitsState nfa x at s m items stack slots DeadEnd n items stack slots
-VisitsState-marked {nfa} x at s k {m} {n} items stack slots counted same seen =
-    VisitsState-bare x at s items stack slots DeadEnd stack slots (λ b i. absurd i) (λ before f. rw seen.1 f)
-    (λ before old work. Follows-marked nfa x at m before (work_onto at stack (Load old ∷ work)) slots s n counted
-    (rw same at seen.0) seen.1)
+module _ {nfa : Automaton} {x : Search} {at s : ℕ} {m n : Marks} {items : List (ℕ × Slots)} {stack : List FollowEpsilon}
+    {slots : Slots} where
+  -- a turn that finds its state marked
+  pub VisitsState-marked : WasMarked s m n → VisitsState nfa x at s m items stack slots DeadEnd n items stack slots
+  VisitsState-marked w =
+      VisitsState-bare (λ b i. absurd i) (λ before f. rw w.same f)
+      (λ before old work. Follows-marked nfa x at m before (work_onto at stack (Load old ∷ work)) slots s n w.counted
+      w.seen w.same)
+      (let same = w.same in let counted = w.counted in
+      record { tried = rw same (omega arith); framed = rw same (omega arith); entered = rw same (omega arith) })
 
 -- the alternatives that are pushed, with the earliest on top
 abbrev pub put : List ℕ → List FollowEpsilon
@@ -269,7 +202,7 @@ within-put states count stack (e ∷ es) fits below =
     (within-put states count stack es fits rest) here)
 
 -- the first of a list that is not empty
-pub first-drop : (xs : List ℕ) (f : ℕ) → slice_get xs 0 ≡ Some f → xs ≡ f ∷ drop 1 xs
+first-drop : (xs : List ℕ) (f : ℕ) → slice_get xs 0 ≡ Some f → xs ≡ f ∷ drop 1 xs
 first-drop [] f e = cc
 first-drop (x ∷ xs) f e = cc
 
@@ -285,76 +218,80 @@ within-union states count alternates f stack above first is within below =
     λ k d h. (rw (first-drop alternates f first) at below) (suc k) d (omega arith) in
     rw is (within-put states count stack (drop 1 alternates) within rest)
 
--- The result of a turn that marks its state.
-module _ {nfa : Automaton} {s : ℕ} {m n : Marks} (x : Search) (at : ℕ) (items : List (ℕ × Slots))
-    (stack : List FollowEpsilon) (slots : Slots) where
-  -- on to the edges, with all but the first pushed
-  VisitsState-edges : {node : Node} → Entered nfa s node m n → pattern_of node ≡ None → slot_of node ≡ None
-      → (es : List Pair) → edges_of x node at ≡ es
-      → (turn : Move) (above : List FollowEpsilon) → IsMet nfa x (s, at) slots turn []
-      → ((work : List Task) → with_state at (state_on turn) (work_onto at above work) ≡ map Explore es
-      ++ work_onto at stack work)
-      → VisitsState nfa x at s m items stack slots turn n items above slots
-  VisitsState-edges {node} e plain writes es leads turn above met puts =
-      let is = node_at-get nfa s node e.is in
-      VisitsState-bare x at s items stack slots turn above slots met (λ before f. Formed-marked e at before f)
-      (λ before old work. rw (puts (Load old ∷ work))
-      (Follows-plain nfa x at m before (work_onto at stack (Load old ∷ work)) slots s n e.counted e.inside e.clear
-      e.marked (rw (is, plain) refl) es (rw is leads) (rw (is, writes) refl)))
+-- where a turn goes on that leads to this state
+abbrev pub onto : Option ℕ → Move
+onto None = DeadEnd
+onto (Some s) = On s
 
-  pub VisitsState-look : (look : looks.Look) (next : ℕ) → Entered nfa s (Look look next) m n
+onto-plain : (nfa : Automaton) (x : Search) (v : Pair) (slots : Slots) (to : Option ℕ)
+    → IsMet nfa x v slots (onto to) []
+onto-plain nfa x v slots None = λ b i. absurd i
+onto-plain nfa x v slots (Some s) = λ b i. absurd i
+
+onto-work : (at : ℕ) (stack : List FollowEpsilon) (es : List ℕ) (work : List Task)
+    → with_state at (state_on (onto (slice_get es 0))) (work_onto at (stack ++ put (drop 1 es)) work)
+    ≡ map Explore (map (λ n. (n, at)) es) ++ work_onto at stack work
+onto-work at stack [] work = rw append-nil refl
+onto-work at stack (e ∷ es) work = ap (λ t. Explore (e, at) ∷ t) (work_onto-put at stack es work)
+
+onto-tries : (es : List ℕ) → length (drop 1 es) + tries_of (state_on (onto (slice_get es 0))) ≡ length es
+onto-tries [] = refl
+onto-tries (e ∷ es) = omega arith
+
+-- The result of a turn that marks its state and goes on to its edges, with all but the first pushed.
+module _ {nfa : Automaton} {x : Search} {at s : ℕ} {m n : Marks} {items : List (ℕ × Slots)} {stack : List FollowEpsilon}
+    {slots : Slots} where
+  VisitsState-edges : {node : Node} → Entered nfa s node m n → pattern_of node ≡ None → slot_of node ≡ None
+      → (es : List ℕ) → edges_of x node at ≡ map (λ q. (q, at)) es → length es ≤ degree node
+      → length es ≤ room_of node + 1 → (turn : Move) → turn ≡ onto (slice_get es 0)
+      → (above : List FollowEpsilon) → above ≡ stack ++ put (drop 1 es)
+      → VisitsState nfa x at s m items stack slots turn n items above slots
+  VisitsState-edges {node} e plain writes es leads few room turn goes above puts =
+      let is = node_at-get nfa s node e.is in
+      rw (goes, puts) (VisitsState-bare (onto-plain nfa x (s, at) slots (slice_get es 0))
+      (λ before f. Formed-marked e at before f)
+      (λ before old work. rw (onto-work at stack es (Load old ∷ work))
+      (Follows-plain nfa x at m before (work_onto at stack (Load old ∷ work)) slots s n e.counted e.inside e.clear
+      e.marked (rw (is, plain) refl) (map (λ q. (q, at)) es) (rw is leads) (rw (is, writes) refl)))
+      (Paid-entered e (length items) (length items) stack (stack ++ put (drop 1 es))
+      (tries_of (state_on (onto (slice_get es 0)))) (omega (arith, tries-put stack (drop 1 es), onto-tries es))
+      (omega (arith, length-put stack (drop 1 es), length-drop 1 es)) (omega arith)))
+
+  pub VisitsState-look : {look : looks.Look} {next : ℕ} → Entered nfa s (Look look next) m n
       → look_holds look x.haystack at ≡ true
       → VisitsState nfa x at s m items stack slots (On next) n items stack slots
   unfolding edges_of
-  VisitsState-look look next e holds = VisitsState-edges e refl refl ((next, at) ∷ []) (rw holds refl) (On next) stack
-      (λ b i. absurd i) (λ work. refl)
+  VisitsState-look {next = next} e holds = VisitsState-edges e refl refl (next ∷ []) (rw holds refl) (omega arith)
+      (omega arith) (On next) refl stack (sym (append-nil stack))
 
-  pub VisitsState-no_look : (look : looks.Look) (next : ℕ) → Entered nfa s (Look look next) m n
+  pub VisitsState-no_look : {look : looks.Look} {next : ℕ} → Entered nfa s (Look look next) m n
       → look_holds look x.haystack at ≡ false
       → VisitsState nfa x at s m items stack slots DeadEnd n items stack slots
   unfolding edges_of
-  VisitsState-no_look look next e fails = VisitsState-edges e refl refl [] (rw fails refl) DeadEnd stack
-      (λ b i. absurd i) (λ work. refl)
+  VisitsState-no_look e fails = VisitsState-edges e refl refl [] (rw fails refl) (omega arith) (omega arith) DeadEnd
+      refl stack (sym (append-nil stack))
 
-  pub VisitsState-no_union : (alternates : List ℕ) → Entered nfa s (Union alternates) m n
+  pub VisitsState-no_union : {alternates : List ℕ} → Entered nfa s (Union alternates) m n
       → slice_get alternates 0 ≡ None
       → VisitsState nfa x at s m items stack slots DeadEnd n items stack slots
   unfolding edges_of
-  VisitsState-no_union alternates e none =
-      VisitsState-edges e refl refl [] (ap (map (λ q. (q, at))) (none-nil alternates none)) DeadEnd stack
-      (λ b i. absurd i) (λ work. refl)
+  VisitsState-no_union {alternates} e none =
+      VisitsState-edges e refl refl [] (ap (map (λ q. (q, at))) (none-nil alternates none)) (omega arith) (omega arith)
+      DeadEnd refl stack (sym (append-nil stack))
 
-  pub VisitsState-both : (alt1 alt2 : ℕ) → Entered nfa s (BinaryUnion alt1 alt2) m n → (above : List FollowEpsilon)
+  pub VisitsState-union : {alternates : List ℕ} → Entered nfa s (Union alternates) m n → {f : ℕ}
+      → slice_get alternates 0 ≡ Some f → {above : List FollowEpsilon} → above ≡ stack ++ put (drop 1 alternates)
+      → VisitsState nfa x at s m items stack slots (On f) n items above slots
+  unfolding edges_of
+  VisitsState-union {alternates} e {f} first {above} is = VisitsState-edges e refl refl alternates refl (omega arith)
+      (omega arith) (On f) (ap onto (sym first)) above is
+
+  pub VisitsState-both : {alt1 alt2 : ℕ} → Entered nfa s (BinaryUnion alt1 alt2) m n → {above : List FollowEpsilon}
       → above ≡ stack ++ ToExplore alt2 ∷ []
       → VisitsState nfa x at s m items stack slots (On alt1) n items above slots
   unfolding edges_of
-  VisitsState-both alt1 alt2 e above is =
-      VisitsState-edges e refl refl ((alt1, at) ∷ (alt2, at) ∷ []) refl (On alt1) above (λ b i. absurd i)
-      (λ work. ap (λ t. Explore (alt1, at) ∷ t)
-      (ap (λ t. work_onto at t work) is ∙ work_onto-push at stack (ToExplore alt2) work))
-
-  module _ (alternates : List ℕ) (e : Entered nfa s (Union alternates) m n) (f : ℕ)
-      (first : slice_get alternates 0 ≡ Some f)
-      (above : List FollowEpsilon) (is : above ≡ stack ++ put (drop 1 alternates)) where
-    pub Paid-union : (kept : ℕ) → Paid nfa m kept stack 1 n kept above 1
-    Paid-union kept =
-        let split = ap length (first-drop alternates f first) in
-        rw is
-        (Paid-entered e kept kept stack (stack ++ put (drop 1 alternates)) 1
-        (omega (arith, tries-put stack (drop 1 alternates), split))
-        (omega (arith, length-put stack (drop 1 alternates), split)) (omega arith))
-
-    pub VisitsState-union : VisitsState nfa x at s m items stack slots (On f) n items above slots
-    unfolding edges_of
-    VisitsState-union =
-        VisitsState-edges e refl refl ((f, at) ∷ map (λ q. (q, at)) (drop 1 alternates))
-        (ap (map (λ q. (q, at))) (first-drop alternates f first)) (On f) above (λ b i. absurd i)
-        (λ work. ap (λ t. Explore (f, at) ∷ t) (ap (λ t. work_onto at t work) is
-        ∙ work_onto-put at stack (drop 1 alternates) work))
-
--- the frame is pushed, unless the stack is empty
-abbrev pub IsPut : List FollowEpsilon → FollowEpsilon → List FollowEpsilon → Type 0
-IsPut stack f above = ((stack ≡ []) × (above ≡ [])) ⊎ (above ≡ stack ++ f ∷ [])
+  VisitsState-both {alt1} {alt2} e {above} is =
+      VisitsState-edges e refl refl (alt1 ∷ alt2 ∷ []) refl (omega arith) (omega arith) (On alt1) refl above is
 
 pub IsPut-made : (top after : ℕ) (frames new : List FollowEpsilon) (f : FollowEpsilon) → (top ≡ 0 → after ≡ 0)
     → (0 < top → take after new ≡ take top frames ++ f ∷ [])
@@ -371,17 +308,10 @@ pub offset-some : (o : Option ℕ) (fits : Type 0) (at : ℕ) → SomeIff o fits
 offset-some None fits at h f = absurd (h f)
 offset-some (Some k) fits at h f = ap Some h.1
 
--- the stack and the slots after a Capture
-abbrev pub IsWritten : ℕ → ℕ → List FollowEpsilon → Slots → List FollowEpsilon → Slots → Type 0
-IsWritten at slot stack slots above written =
-    ((slot < length slots) × IsPut stack (Restore slot (get_or slots slot None)) above
-    × (written ≡ set slots slot (Some at)))
-    ⊎ ((length slots ≤ slot) × (above ≡ stack) × (written ≡ slots))
-
-pub within-capture : (states at slot : ℕ) (stack : List FollowEpsilon) (slots : Slots) (above : List FollowEpsilon)
-    (written : Slots) → IsWritten at slot stack slots above written
+pub within-saved : (states at slot : ℕ) (stack : List FollowEpsilon) (slots : Slots) (above : List FollowEpsilon)
+    (written : Slots) → IsSaved at slot stack slots above written
     → All (IsWithin states (length slots)) stack → All (IsWithin states (length slots)) above
-within-capture states at slot stack slots above written h within = elim h [
+within-saved states at slot stack slots above written h within = elim h [
   | inl k ↦ elim k.1 [
     | inl none ↦ rw (none.1 ∙ sym none.0) within
     | inr more ↦ rw more (All-push (IsWithin states (length slots)) stack
@@ -391,14 +321,16 @@ within-capture states at slot stack slots above written h within = elim h [
 ]
 
 module _ {nfa : Automaton} {s next slot : ℕ} {m n : Marks} (e : Entered nfa s (Capture next slot) m n) (at : ℕ)
-    (stack : List FollowEpsilon) (slots : Slots) (above : List FollowEpsilon) (written : Slots)
-    (h : IsWritten at slot stack slots above written) where
-  pub Paid-capture : (kept : ℕ) → Paid nfa m kept stack 1 n kept above 1
-  Paid-capture kept = elim h [
+    {stack : List FollowEpsilon} {slots : Slots} {above : List FollowEpsilon} {written : Slots}
+    (h : IsSaved at slot stack slots above written) where
+  Paid-saved : (kept : ℕ) → Paid nfa m kept stack 1 n kept above 1
+  Paid-saved kept = elim h [
     | inl k ↦ elim k.1 [
       | inl none ↦ rw (none.1 ∙ sym none.0) (Paid-same e kept stack 1 (omega arith))
-      | inr more ↦ Paid-push e kept stack (Restore slot (get_or slots slot None)) above 1 more
-          (omega arith) (omega arith)
+      | inr more ↦
+          let back : FollowEpsilon = Restore slot (get_or slots slot None) in
+          rw more (Paid-entered e kept kept stack (stack ++ back ∷ []) 1
+          (omega (arith, sum_by_push tries stack back)) (omega (arith, length-append stack (back ∷ []))) (omega arith))
     ]
     | inr k ↦ rw k.1 (Paid-same e kept stack 1 (omega arith))
   ]
@@ -427,79 +359,80 @@ module _ {nfa : Automaton} {s next slot : ℕ} {m n : Marks} (e : Entered nfa s 
             e.clear e.marked (rw node refl) ((next, at) ∷ []) (rw node refl) slot (rw node refl) k.0)
       ]
 
-  pub VisitsState-capture : (x : Search) (items : List (ℕ × Slots))
+  pub VisitsState-capture : {x : Search} {items : List (ℕ × Slots)}
       → VisitsState nfa x at s m items stack slots (On next) n items above written
-  VisitsState-capture x items =
-      VisitsState-bare x at s items stack slots (On next) above written (λ b i. absurd i)
-      (λ before f. Formed-marked e at before f) (λ before old work. Follows-capture x before old work)
+  VisitsState-capture {x} {items} =
+      VisitsState-bare (λ b i. absurd i) (λ before f. Formed-marked e at before f)
+      (λ before old work. Follows-capture x before old work) (Paid-saved (length items))
 
--- The result of a turn that enters a resting state.
-module _ {nfa : Automaton} {s : ℕ} {node : Node} {m n : Marks} (e : Entered nfa s node m n) (x : Search) (at : ℕ)
-    (items : List (ℕ × Slots)) (stack : List FollowEpsilon) (slots : Slots) (r : rests node ≡ true) where
-  VisitsState-resting : (kept : List (ℕ × Slots)) → kept ≡ items ++ moves (edges nfa x) (((s, at), slots) ∷ [])
-      → (turn : Move) → state_on turn ≡ None
-      → IsMet nfa x (s, at) slots turn (((s, at), slots) ∷ [])
+-- a byte leads to one of the state's edges, or to none
+few-target : (node : Node) (slots : Slots) (byte : Option ℕ)
+    → (length (move_to (option_and_then (target_on node) byte) slots) ≤ 1)
+    × (length (move_to (option_and_then (target_on node) byte) slots) ≤ degree node)
+few-target node slots None = (omega arith, omega arith)
+few-target node slots (Some b) = of (target_on node b) (λ t e. target-degree node b t e)
+  where
+    of : (target : Option ℕ) → ((t : ℕ) → target ≡ Some t → 1 ≤ degree node)
+        → (length (move_to target slots) ≤ 1) × (length (move_to target slots) ≤ degree node)
+    of None some = (omega arith, omega arith)
+    of (Some t) some = (omega arith, some t refl)
+
+-- a resting state that is not a match
+no_match : {nfa : Automaton} {s : ℕ} {node : Node} {m n : Marks} → Entered nfa s node m n → (x : Search) (at : ℕ)
+    (slots : Slots) → pattern_of node ≡ None → IsMet nfa x (s, at) slots DeadEnd (((s, at), slots) ∷ [])
+no_match {nfa} {s} {node} e x at slots plain = λ b i t.
+    let is = node_at-get nfa s node e.is in
+    let here : is_match nfa (s, at) ≡ false = rw (is, plain) refl in
+    elim i [
+      | inl same ↦ (let there : is_match nfa (s, at) ≡ true = rw same at t in absurd (cc (here, there)))
+      | inr more ↦ absurd more
+    ]
+
+-- The result of a turn that enters a resting state: it keeps the states that the state leads to.
+module _ {nfa : Automaton} {s : ℕ} {node : Node} {m n : Marks} (e : Entered nfa s node m n) {x : Search} {at : ℕ}
+    {items : List (ℕ × Slots)} {stack : List FollowEpsilon} {slots : Slots} (r : rests node ≡ true) where
+  VisitsState-resting : (more : List (ℕ × Slots)) → map (λ v. (v.0, slots)) (edges_of x node at) ≡ more
+      → length more ≤ 1 → length more ≤ degree node
+      → {kept : List (ℕ × Slots)} → kept ≡ items ++ more
+      → {turn : Move} → state_on turn ≡ None → IsMet nfa x (s, at) slots turn (((s, at), slots) ∷ [])
       → VisitsState nfa x at s m items stack slots turn n kept stack slots
-  VisitsState-resting kept added turn over met =
+  VisitsState-resting more leads one few {kept} added {turn} over met =
       let is = node_at-get nfa s node e.is in
+      let moved = moves-one (edges nfa x) (s, at) slots (edges_of x node at) (rw is refl) ∙ leads in
+      let count = ap length added ∙ length-append items more in
       record {
         front = ((s, at), slots) ∷ [];
-        added = added;
+        gives = record {
+          added = added ∙ ap (λ l. items ++ l) (sym moved);
+          formed = λ before f. Formed-kept e at before f slots r;
+          follows = λ before old work. rw over
+              (Follows-keep nfa x at m before (work_onto at stack (Load old ∷ work)) slots s n e.counted e.inside
+              e.clear e.marked (edges-onward nfa x) (λ w. edges-rise nfa x (s, at) w (rw is r)));
+          paid = rw over (Paid-entered e (length items) (length kept) stack stack 0 (omega arith) (omega arith)
+              (omega arith));
+        };
         is_met = met;
-        formed = λ before f. Formed-kept e at before f slots r;
-        follows = λ before old work. rw over
-            (Follows-keep nfa x at m before (work_onto at stack (Load old ∷ work)) slots s n e.counted e.inside e.clear
-            e.marked (edges-onward nfa x) (λ w. edges-rise nfa x (s, at) w (rw is r)));
       }
 
-  -- it is not a match
-  no_match : pattern_of node ≡ None → IsMet nfa x (s, at) slots DeadEnd (((s, at), slots) ∷ [])
-  no_match plain b i t =
-      let is = node_at-get nfa s node e.is in
-      let here : is_match nfa (s, at) ≡ false = rw (is, plain) refl in
-      elim i [
-        | inl same ↦ (let there : is_match nfa (s, at) ≡ true = rw same at t in absurd (cc (here, there)))
-        | inr more ↦ absurd more
-      ]
-
   -- the state that the byte leads to is kept
-  pub VisitsState-kept : (byte : Option ℕ) (next after : Active) → pattern_of node ≡ None → byte ≡ byte_at x at
-      → IsKept (option_and_then (target_on node) byte) slots next after → next.items ≡ items
-      → VisitsState nfa x at s m items stack slots DeadEnd n after.items stack slots
-  VisitsState-kept byte next after plain reads h same =
-      let is = node_at-get nfa s node e.is in
-      let one = moves-one (edges nfa x) (s, at) slots in
-      elim h [
-        | inl k ↦
-            let none : edges nfa x (s, at) ≡ [] = rw is (edges-none x at node r (rw reads at k.0)) in
-            VisitsState-resting after.items (ap (λ (a : Active). a.items) k.1 ∙ same ∙ sym (append-nil items)
-            ∙ ap (λ l. items ++ l) (sym (one [] none))) DeadEnd refl (no_match plain)
-        | inr k ↦
-            let some : edges nfa x (s, at) ≡ (k.0, at + 1) ∷ [] = rw is (edges-some x at node k.0 (rw reads at k.1)) in
-            VisitsState-resting after.items (ap (λ (a : Active). a.items) k.2 ∙ ap (λ l. l ++ (k.0, slots) ∷ []) same
-            ∙ ap (λ l. items ++ l) (sym (one ((k.0, at + 1) ∷ []) some))) DeadEnd refl (no_match plain)
-      ]
+  pub VisitsState-byte : pattern_of node ≡ None → {byte : Option ℕ} → byte ≡ byte_at x at → {kept : List (ℕ × Slots)}
+      → kept ≡ items ++ move_to (option_and_then (target_on node) byte) slots
+      → VisitsState nfa x at s m items stack slots DeadEnd n kept stack slots
+  VisitsState-byte plain {byte} reads added =
+      let few = few-target node slots byte in
+      VisitsState-resting (move_to (option_and_then (target_on node) byte) slots)
+      (rw reads (edges-move x at slots node r)) few.0 few.1 added refl (no_match e x at slots plain)
 
-  -- it leads nowhere
-  VisitsState-nowhere : edges_of x node at ≡ [] → (turn : Move) → state_on turn ≡ None
-      → IsMet nfa x (s, at) slots turn (((s, at), slots) ∷ [])
-      → VisitsState nfa x at s m items stack slots turn n items stack slots
-  VisitsState-nowhere nowhere turn over met =
-      let is = node_at-get nfa s node e.is in
-      let none : edges nfa x (s, at) ≡ [] = rw is nowhere in
-      VisitsState-resting items (sym (append-nil items)
-      ∙ ap (λ l. items ++ l) (sym (moves-one (edges nfa x) (s, at) slots [] none))) turn over met
-
-module _ {nfa : Automaton} {s : ℕ} {m n : Marks} (x : Search) (at : ℕ) (items : List (ℕ × Slots))
-    (stack : List FollowEpsilon) (slots : Slots) where
+module _ {nfa : Automaton} {s : ℕ} {m n : Marks} {x : Search} {at : ℕ} {items : List (ℕ × Slots)}
+    {stack : List FollowEpsilon} {slots : Slots} where
   pub VisitsState-fail : Entered nfa s Fail m n → VisitsState nfa x at s m items stack slots DeadEnd n items stack slots
   unfolding edges_of
-  VisitsState-fail e = VisitsState-nowhere e x at items stack slots refl refl DeadEnd refl
-      (no_match e x at items stack slots refl refl)
+  VisitsState-fail e = VisitsState-resting e refl [] refl (omega arith) (omega arith) (sym (append-nil items)) refl
+      (no_match e x at slots refl)
 
-  pub VisitsState-match : (pattern : PatternID) → Entered nfa s (Match (number_of pattern)) m n
+  pub VisitsState-match : {pattern : PatternID} → Entered nfa s (Match (number_of pattern)) m n
       → VisitsState nfa x at s m items stack slots (Matched pattern) n items stack slots
   unfolding edges_of
-  VisitsState-match pattern e =
+  VisitsState-match {pattern} e =
       let is = node_at-get nfa s (Match (number_of pattern)) e.is in
-      VisitsState-nowhere e x at items stack slots refl refl (Matched pattern) refl (refl, rw is refl)
+      VisitsState-resting e refl [] refl (omega arith) (omega arith) (sym (append-nil items)) refl (refl, rw is refl)

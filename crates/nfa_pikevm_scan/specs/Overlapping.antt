@@ -1,16 +1,15 @@
 -- What a PikeVM adds to a set of patterns, at each position and in all.
-use Rattle.std.specs.Prelude.{◌≡◌, ◌↔◌, ◌⊎◌, ℕ, ◌<◌, ◌==◌, ◌&&◌, ◌||◌, not, Bool, true, false, List, [], ◌∷◌, Option, None, Some, length, All, slice_index, nat_lt, nat_le}
+use Rattle.std.specs.Prelude.{◌≡◌, ◌↔◌, ◌⊎◌, ℕ, ◌<◌, ◌==◌, ◌&&◌, ◌||◌, not, Bool, true, false, List, [], Option, None, Some, length, All, slice_index, nat_lt, nat_le}
 use Rattle.regex_search_core.specs.PatternSets.{with_pattern}
 use Rattle.regex_search_core.specs.Search.{Search}
 use Rattle.thompson_nfa.specs.Automaton.{Automaton}
 use Rattle.nfa_paths.specs.Graphs.{Pair}
 use Rattle.nfa_paths.specs.Paths.{edges, is_utf8_empty}
-use Rattle.nfa_paths.specs.Exploring.{Slots, Hit, Task}
-use Rattle.nfa_paths.specs.Exploring.Task.{Load as ToLoad}
+use Rattle.nfa_paths.specs.Exploring.{Slots, Hit}
 use Rattle.nfa_paths.specs.Kinds.{HoldsMatch, first_match, before_match}
 use Rattle.nfa_paths.specs.Overlaps.{HoldsPattern, pattern_at}
 use Rattle.nfa_scan_core.specs.Marks.{Marks}
-use Rattle.nfa_pikevm_scan.specs.States.{Frontier, moves, tasks, unmarked, Formed, Paid, Leads}
+use Rattle.nfa_pikevm_scan.specs.States.{Frontier, moves, PositionGives}
 
 -- whether the position does not split a codepoint
 abbrev pub is_boundary : List ℕ → ℕ → Bool
@@ -56,18 +55,13 @@ abbrev pub GoesPast : Bool → Bool → Type 0
 GoesPast past met = (past ≡ true) ⊎ (met ≡ false)
 
 module _ (nfa : Automaton) (x : Search) where
-  -- For a set of capacity n: the result of following all states at a position, with no marks before and rows of no
-  -- slots. It is a front whose moves are in memory, and what the set gains from it.
+  -- For a set of capacity n: the result of following all states at a position, with rows of no slots, and what the set
+  -- gains from the front.
   pub record NextsOverlappingGive (at : ℕ) (past : Bool) (n : ℕ) (met : Marks) (items : List (ℕ × Slots))
       (set : List Bool)
       (hit : Bool) (after : Marks) (kept : List (ℕ × Slots)) (gathered : List Bool) : Type 0 where
     pub front : Frontier
+    pub gives : PositionGives nfa x at met items (GoesPast past hit) front after kept
     pub rows : All (λ i. i.1 ≡ []) items
-    pub added : kept ≡ moves (edges nfa x) front
     pub gathers : AddsPatterns nfa past (wants nfa x n) front set hit gathered
     pub cut : past ≡ false → moves (edges nfa x) (before_match (wants nfa x n) front) ≡ moves (edges nfa x) front
-    pub formed : Formed nfa at after.bits front
-    pub paid : Paid nfa (unmarked met) 0 [] (length items) after (length kept) [] 0
-    pub leads : (old : Slots) (waiting : List Task)
-        → Leads nfa x at (unmarked met) [] (tasks at items (ToLoad old ∷ waiting)) [] (GoesPast past hit) after front
-        (ToLoad old ∷ waiting)

@@ -10,7 +10,7 @@ use Rattle.nfa_paths.specs.Paths.{node_at, pattern_of, edges, is_match}
 use Rattle.nfa_paths.specs.Exploring.{Slots, Task}
 use Rattle.nfa_paths.specs.Exploring.Task.{Explore as ToExplore, Load as ToLoad}
 use Rattle.nfa_scan_core.specs.Marks.{Marks}
-use Rattle.nfa_pikevm_scan.specs.States.{Frontier, moves, tasks, unmarked, Formed, Paid, Leads}
+use Rattle.nfa_pikevm_scan.specs.States.{Frontier, moves, Formed, Paid, Leads, PositionGives}
 use Rattle.nfa_pikevm_scan.specs.declared.sink.SlotsSink.{SlotsSink}
 use Rattle.nfa_pikevm_scan.specs.declared.overlap.PatternSink.{PatternSink}
 
@@ -69,10 +69,5 @@ module _ (nfa : Automaton) (x : Search) {V : Type 0} (takes : V → PatternID �
       (after : Marks) (kept : List (ℕ × Slots)) (new : V) : Type 0 where
     pub front : Frontier
     pub ended : Bool
-    pub added : kept ≡ moves (edges nfa x) front
+    pub gives : PositionGives nfa x at met items (ended ≡ false) front after kept
     pub takes_all : Takes nfa takes front old ended new
-    pub formed : Formed nfa at after.bits front
-    pub paid : Paid nfa (unmarked met) 0 [] (length items) after (length kept) [] 0
-    pub leads : (current old : Slots) (waiting : List Task)
-        → Leads nfa x at (unmarked met) [] (tasks at items (ToLoad old ∷ waiting)) current (ended ≡ false) after front
-        (ToLoad old ∷ waiting)

@@ -1,6 +1,6 @@
 -- What a PikeVM keeps at a position, in the words of its proof: its marks as pairs that were seen, its stack as work
 -- that is left, the states that it keeps for the next position as a front.
-use Rattle.std.specs.Prelude.{◌≡◌, ◌⊎◌, ℕ, ◌+◌, ◌<◌, ◌≤◌, Bool, true, false, List, [], ◌∷◌, ◌++◌, Option, None, Some, cond, length, map, replicate, All, slice_index_or, slice_set}
+use Rattle.std.specs.Prelude.{◌≡◌, ◌⊎◌, ℕ, ◌+◌, ◌<◌, ◌≤◌, Bool, true, false, List, [], ◌∷◌, ◌++◌, Option, None, Some, cond, length, map, replicate, All, slice_get, slice_index_or, slice_set}
 use Rattle.std.specs.List.{sum_by}
 use Rattle.regex_search_core.specs.Search.{Search, search_of}
 use Rattle.regex_search_core.specs.Patterns.{number_of}
@@ -101,6 +101,37 @@ abbrev pub IsBelow : ℕ → Option ℕ → Type 0
 IsBelow states None = Unit {0}
 IsBelow states (Some s) = s < states
 
+-- the state that a byte leads to, if there is one, with its slots
+abbrev pub move_to : Option ℕ → Slots → List (ℕ × Slots)
+move_to None slots = []
+move_to (Some sid) slots = (sid, slots) ∷ []
+
+-- the frame is pushed, unless the stack is empty
+abbrev pub IsPut : List FollowEpsilon → FollowEpsilon → List FollowEpsilon → Type 0
+IsPut stack f above = ((stack ≡ []) × (above ≡ [])) ⊎ (above ≡ stack ++ f ∷ [])
+
+-- the stack and the slots after a Capture: if the row has its slot, the slot holds the position and a frame restores it
+abbrev pub IsSaved : ℕ → ℕ → List FollowEpsilon → Slots → List FollowEpsilon → Slots → Type 0
+IsSaved at slot stack slots above written =
+    ((slot < length slots) × IsPut stack (Restore slot (slice_index_or slots slot None)) above
+    × (written ≡ slice_set slots slot (Some at)))
+    ⊎ ((length slots ≤ slot) × (above ≡ stack) × (written ≡ slots))
+
+-- The turn found its state marked.
+pub record WasMarked (s : ℕ) (met after : Marks) : Type 0 where
+  pub seen : slice_index_or met.bits s false ≡ true
+  pub same : after.bits ≡ met.bits
+  pub counted : after.turns ≡ met.turns + 1
+
+-- The turn marked the state of this number.
+pub record Entered (nfa : Automaton) (s : ℕ) (node : Node) (met after : Marks) : Type 0 where
+  pub is : slice_get nfa.states s ≡ Some node
+  pub inside : s < length met.bits
+  pub below : s < length nfa.states
+  pub clear : slice_index_or met.bits s true ≡ false
+  pub marked : after.bits ≡ slice_set met.bits s true
+  pub counted : after.turns ≡ met.turns + 1
+
 -- each pair of the set is a Match
 abbrev pub AreMatchPairs : Automaton → (Pair → Bool) → Type 0
 AreMatchPairs nfa target = (v : Pair) → target v ≡ true → is_match nfa v ≡ true
@@ -188,32 +219,34 @@ module _ (nfa : Automaton) (x : Search) where
       × (pattern_of (node_at nfa v.0) ≡ Some (number_of pattern))
   IsMet v slots DeadEnd front = NoMatch (is_match nfa) front
 
-  -- The result of a turn that tries to enter the state: it adds a front, whose moves are in memory, and leaves its
-  -- work. What is left below the stack begins by loading slots.
+  -- The result of turns from a state on, which are paid for: they add a front, whose moves are in memory, and leave a
+  -- state to follow, or none, and a stack. What is left below the stack begins by loading slots.
+  pub record TurnsGive (at s : ℕ) (met : Marks) (items : List (ℕ × Slots)) (stack : List FollowEpsilon) (slots : Slots)
+      (front : Frontier) (after : Marks) (kept : List (ℕ × Slots)) (state : Option ℕ) (above : List FollowEpsilon)
+      (written : Slots) : Type 0 where
+    pub added : kept ≡ items ++ moves (edges nfa x) front
+    pub formed : (before : Frontier) → Formed nfa at met.bits before → Formed nfa at after.bits (before ++ front)
+    pub follows : (before : Frontier) (old : Slots) (work : List Task)
+        → Follows at met before (ToExplore (s, at) ∷ work_onto at stack (ToLoad old ∷ work)) slots
+        after (before ++ front) (with_state at state (work_onto at above (ToLoad old ∷ work))) written
+    pub paid : Paid nfa met (length items) stack 1 after (length kept) above (tries_of state)
+
+  -- The result of a turn that tries to enter the state.
   pub record VisitsState (at s : ℕ) (met : Marks) (items : List (ℕ × Slots)) (stack : List FollowEpsilon)
       (slots : Slots)
       (turn : Move) (after : Marks) (kept : List (ℕ × Slots)) (above : List FollowEpsilon)
       (written : Slots) : Type 0 where
     pub front : Frontier
-    pub added : kept ≡ items ++ moves (edges nfa x) front
+    pub gives : TurnsGive at s met items stack slots front after kept (state_on turn) above written
     pub is_met : IsMet (s, at) written turn front
-    pub formed : (before : Frontier) → Formed nfa at met.bits before → Formed nfa at after.bits (before ++ front)
-    pub follows : (before : Frontier) (old : Slots) (work : List Task)
-        → Follows at met before (ToExplore (s, at) ∷ work_onto at stack (ToLoad old ∷ work)) slots
-        after (before ++ front) (with_state at (state_on turn) (work_onto at above (ToLoad old ∷ work))) written
 
-  -- The result of turns from a state on up to the next match, if there is one: the front that they add, which ends with
-  -- the match, and what is left on the stack.
+  -- The result of turns from a state on up to the next match, if there is one: the front ends with the match.
   pub record FindsMatch (at s : ℕ) (met : Marks) (items : List (ℕ × Slots)) (stack : List FollowEpsilon) (slots : Slots)
       (hit : Option PatternID) (after : Marks) (kept : List (ℕ × Slots)) (above : List FollowEpsilon)
       (written : Slots) : Type 0 where
     pub front : Frontier
-    pub added : kept ≡ items ++ moves (edges nfa x) front
+    pub gives : TurnsGive at s met items stack slots front after kept None above written
     pub ends : EndsInMatch nfa at written hit front
-    pub formed : (before : Frontier) → Formed nfa at met.bits before → Formed nfa at after.bits (before ++ front)
-    pub follows : (before : Frontier) (old : Slots) (work : List Task)
-        → Follows at met before (ToExplore (s, at) ∷ work_onto at stack (ToLoad old ∷ work)) slots
-        after (before ++ front) (work_onto at above (ToLoad old ∷ work)) written
 
   -- The search goes on to a front and some work. The work is `rest` if the search `goes_on` to the end of its work.
   pub record Leads (at : ℕ) (met : Marks) (before : Frontier) (work : List Task) (slots : Slots) (goes_on : Type 0)
@@ -223,19 +256,24 @@ module _ (nfa : Automaton) (x : Search) where
     pub follows : Follows at met before work slots after front left written
     pub whole : goes_on → left ≡ rest
 
-  -- The result of all states at a position, with no marks before: a front, whose moves are in memory, and the match of
-  -- it that is meant. Without `past` nothing after the first match is kept.
-  pub record NextsGive (at : ℕ) (past : Bool) (met : Marks) (items : List (ℕ × Slots)) (slots : Slots)
-      (hit : Option PatternID) (after : Marks) (kept : List (ℕ × Slots)) (written : Slots) : Type 0 where
-    pub front : Frontier
+  -- The result of following the states at a position, with no marks before: a front, whose moves are in memory. All
+  -- that is left is followed if the position `goes_on`.
+  pub record PositionGives (at : ℕ) (met : Marks) (items : List (ℕ × Slots)) (goes_on : Type 0) (front : Frontier)
+      (after : Marks) (kept : List (ℕ × Slots)) : Type 0 where
     pub added : kept ≡ moves (edges nfa x) front
-    pub is_hit : IsHit nfa (meant past (is_match nfa) front) slots hit written
-    pub cut : past ≡ false → moves (edges nfa x) (before_match (is_match nfa) front) ≡ moves (edges nfa x) front
     pub formed : Formed nfa at after.bits front
     pub paid : Paid nfa (unmarked met) 0 [] (length items) after (length kept) [] 0
     pub leads : (current old : Slots) (waiting : List Task)
-        → Leads at (unmarked met) [] (tasks at items (ToLoad old ∷ waiting)) current (GoesOn past hit) after front
+        → Leads at (unmarked met) [] (tasks at items (ToLoad old ∷ waiting)) current goes_on after front
         (ToLoad old ∷ waiting)
+
+  -- The same with the match of the front that is meant. Without `past` nothing after the first match is kept.
+  pub record NextsGive (at : ℕ) (past : Bool) (met : Marks) (items : List (ℕ × Slots)) (slots : Slots)
+      (hit : Option PatternID) (after : Marks) (kept : List (ℕ × Slots)) (written : Slots) : Type 0 where
+    pub front : Frontier
+    pub gives : PositionGives at met items (GoesOn past hit) front after kept
+    pub is_hit : IsHit nfa (meant past (is_match nfa) front) slots hit written
+    pub cut : past ≡ false → moves (edges nfa x) (before_match (is_match nfa) front) ≡ moves (edges nfa x) front
 
 -- The same, for what is reached from the place of a scan.
 
@@ -247,11 +285,6 @@ pub record ClosureHasRoom (here : ClosureContext) (old : ClosureOutput) (top fra
 
 abbrev pub ClosureFramesWithin : ClosureContext → ℕ → List FollowEpsilon → Type 0
 ClosureFramesWithin here count stack = All (IsWithin (length here.nfa.now.states) count) stack
-
-abbrev pub ClosurePaid : ClosureContext → ClosureOutput → List FollowEpsilon → ClosureOutput → List FollowEpsilon
-    → ℕ → Type 0
-ClosurePaid here old stack new above left =
-    Paid here.nfa.now old.seen (length old.next.items) stack 1 new.seen (length new.next.items) above left
 
 abbrev pub ClosureVisits : ClosureContext → ℕ → ClosureOutput → List FollowEpsilon → Slots → Move → ClosureOutput
     → List FollowEpsilon → Slots

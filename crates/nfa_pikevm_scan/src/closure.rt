@@ -1,16 +1,17 @@
 //! The states that a state leads to without reading a byte.
 ghost use Rattle.std.specs.Prelude.{◌≡◌, ℕ, ◌+◌, ◌<◌, ◌≤◌, [], ◌∷◌, ◌++◌, None, Some, List, length, map, reverse, drop};
-ghost use Rattle.std.specs.Prelude.{take, slice_index_or, All};
+ghost use Rattle.std.specs.Prelude.{take, slice_index_or, All, IfSome};
 ghost use Rattle.std.specs.List.{sum_by};
 ghost use Rattle.regex_search_core.specs.Search.{Search, search_of};
-ghost use Rattle.thompson_nfa.specs.Automaton.{Automaton};
+ghost use Rattle.thompson_nfa.specs.Automaton.{Automaton, LeadsBelow, node_of};
 ghost use Rattle.nfa_paths.specs.Exploring.{Task};
 ghost use Rattle.nfa_scan_core.specs.Marks.{Marks};
 ghost use Rattle.nfa_pikevm_scan.specs.Needs.{stack_frames};
 ghost use Rattle.nfa_pikevm_scan.specs.States.{Frontier, work_onto, with_state, tries, tries_of, state_on, undone};
 ghost use Rattle.nfa_pikevm_scan.specs.States.{state_of, HasSlot, IsBelow, IsWithin, Follows, IsClosureContext};
-ghost use Rattle.nfa_pikevm_scan.specs.States.{KeepsRoom, ClosureHasRoom, ClosureFramesWithin, ClosurePaid};
+ghost use Rattle.nfa_pikevm_scan.specs.States.{KeepsRoom, ClosureHasRoom, ClosureFramesWithin};
 ghost use Rattle.nfa_pikevm_scan.specs.States.{ClosureVisits, ClosureFindsMatch};
+ghost use Rattle.nfa_pikevm_scan.specs.States.{Entered, WasMarked, move_to};
 ghost use Rattle.nfa_pikevm_scan.specs.Sinks.{ClosureGives};
 ghost use Rattle.nfa_pikevm_scan.specs.declared.frame.FollowEpsilon.TheVariants.{Explore, Restore};
 
@@ -104,13 +105,29 @@ fn push_restore(frames: &mut [FollowEpsilon], top: &mut usize, slots: &[Slot], s
 fn push_target(target: Option<StateID>, next: &mut ActiveStates, slots: &[Slot])
     requires room { length next.old.items < next.old.capacity }
     requires width { length slots.now ≡ next.old.width }
-    ensures none { target ≡ None → next.new ≡ next.old }
-    ensures some { (sid : ℕ) → target ≡ Some sid
-        → next.new ≡ record next.old { items = next.old.items ++ (sid, slots.now) ∷ [] } }
+    ensures kept { next.new.items ≡ next.old.items ++ move_to target slots.now }
+    ensures same { next.new ≡ record next.old { items = next.new.items } }
 {
     if let Some(sid) = target {
         next.push(sid, slots);
     }
+}
+
+/// Tries to mark the state, and returns it if it was unmarked. This is one turn.
+#[inline(always)]
+fn enter<'n>(nfa: &'n NFA, sid: StateID, seen: &mut Seen) -> Option<&'n State>
+    requires state { sid < length nfa.now.states }
+    requires marks { length nfa.now.states ≤ length seen.old.bits }
+    ensures turns { seen.new.turns ≡ seen.old.turns + 1 }
+    ensures size { length seen.new.bits ≡ length seen.old.bits }
+    ensures marked { result ≡ None → WasMarked sid seen.old seen.new }
+    ensures entered { IfSome result (λ state. Entered nfa.now sid (node_of state.now) seen.old seen.new) }
+    ensures leads { IfSome result (λ state. LeadsBelow (length nfa.now.states) (node_of state.now)) }
+{
+    if !seen.insert(sid.as_usize()) {
+        return None;
+    }
+    Some(nfa.state(sid))
 }
 
 /// Takes one turn: tries to enter the state, and returns where it leads. If the state matches the byte, the state that
@@ -135,15 +152,13 @@ pub fn visit_state(
     ensures top { top.new ≤ stack_frames here.now.nfa.now }
     ensures state { IsBelow (length here.now.nfa.now.states) (state_on result) }
     ensures within { ClosureFramesWithin here.now (length row.old) (take top.new frames.new) }
-    ensures paid { ClosurePaid here.now reached.old (take top.old frames.old) reached.new (take top.new frames.new)
-        (tries_of (state_on result)) }
     ensures enters { ClosureVisits here.now sid reached.old (take top.old frames.old) row.old result reached.new
         (take top.new frames.new) row.new }
 {
-    if !reached.seen.insert(sid.as_usize()) {
+    let Some(state) = enter(here.nfa, sid, &mut reached.seen) else {
         return Move::DeadEnd;
-    }
-    match here.nfa.state(sid) {
+    };
+    match state {
         State::ByteRange { trans } => {
             push_target(range_target(trans, here.byte), &mut reached.next, row);
             Move::DeadEnd
@@ -251,7 +266,6 @@ pub fn next_match(
     ensures top { top.new ≤ stack_frames here.now.nfa.now }
     ensures over { result ≡ None → top.new ≡ 0 }
     ensures within { ClosureFramesWithin here.now (length row.old) (take top.new frames.new) }
-    ensures paid { ClosurePaid here.now reached.old (take top.old frames.old) reached.new (take top.new frames.new) 0 }
     ensures finds { ClosureFindsMatch here.now from reached.old (take top.old frames.old) row.old result reached.new
         (take top.new frames.new) row.new }
 {

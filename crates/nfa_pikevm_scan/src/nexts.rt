@@ -145,8 +145,8 @@ pub fn nexts_with<T: MatchSink>(
     }
 }
 
-/// Follows the states at the position, and keeps the states that its byte leads to for the next one. Returns the last
-/// match, and writes its slots. Without `past_match` it stops at the first match.
+/// Follows the states at the position, and goes on to those that its byte leads to. Returns the last match, and writes
+/// its slots. Without `past_match` it stops at the first match.
 #[inline(always)]
 pub fn nexts(
     nfa: &NFA,
@@ -161,12 +161,13 @@ pub fn nexts(
     requires room { HaveRows nfa.now (length slots.old) threads.old }
     requires some { 0 < length threads.old.curr.items }
     requires empty { threads.old.reached.next.items ≡ [] }
+    ensures next { threads.new.reached.next.items ≡ [] }
     ensures width { threads.new.curr.width ≡ threads.old.curr.width }
     ensures sizes { SameSizes threads.old threads.new }
     ensures grows { threads.old.reached.seen.turns ≤ threads.new.reached.seen.turns }
     ensures scans { threads.new.scans ≡ threads.old.scans }
     ensures crosses { NextsGive nfa.now (search_of input.now) at past_match threads.old.reached.seen
-        threads.old.curr.items slots.old result threads.new.reached.seen threads.new.reached.next.items slots.new }
+        threads.old.curr.items slots.old result threads.new.reached.seen threads.new.curr.items slots.new }
 {
     let mut last = SlotsSink {
         slots,
@@ -174,5 +175,6 @@ pub fn nexts(
         past_match,
     };
     nexts_with(nfa, input, at, threads, &mut last);
+    swap_state_sets(threads);
     last.hit
 }

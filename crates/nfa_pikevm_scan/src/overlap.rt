@@ -1,5 +1,5 @@
 //! The set of all patterns that match, in one scan.
-ghost use Rattle.std.specs.Prelude.{◌≡◌, ◌+◌, ◌*◌, ◌<◌, ◌≤◌, [], true, false, length, take, All, not, ◌&&◌, cond};
+ghost use Rattle.std.specs.Prelude.{◌≡◌, ◌+◌, ◌*◌, ◌<◌, ◌≤◌, [], true, false, length, take, All, not, ◌&&◌, ◌⊎◌, cond};
 ghost use Rattle.regex_search_core.specs.PatternSets.{size_of_set};
 ghost use Rattle.regex_search_core.specs.Search.{search_of};
 ghost use Rattle.regex_search_core.specs.declared.search.MatchKind.TheVariants.{All as AllMatches, LeftmostFirst};
@@ -56,8 +56,8 @@ impl MatchSink for PatternSink<'_> {
     }
 }
 
-/// Follows the states at the position, and keeps the states that its byte leads to for the next one. Returns whether
-/// there was a match that counts. Requires a set that is not full, since a full one gains nothing.
+/// Follows the states at the position, and goes on to those that its byte leads to. Returns whether there was a match
+/// that counts. Requires a set that is not full, since a full one gains nothing.
 fn nexts_overlapping(
     nfa: &NFA,
     input: &Input<'_>,
@@ -72,12 +72,13 @@ fn nexts_overlapping(
     requires some { 0 < length threads.old.curr.items }
     requires empty { threads.old.reached.next.items ≡ [] }
     requires not_full { size_of_set patterns.old < length patterns.old }
+    ensures next { threads.new.reached.next.items ≡ [] }
     ensures width { threads.new.curr.width ≡ threads.old.curr.width }
     ensures sizes { SameSizes threads.old threads.new }
     ensures scans { threads.new.scans ≡ threads.old.scans }
     ensures crosses { NextsOverlappingGive nfa.now (search_of input.now) at past_match (length patterns.old)
         threads.old.reached.seen threads.old.curr.items patterns.old result threads.new.reached.seen
-        threads.new.reached.next.items patterns.new }
+        threads.new.curr.items patterns.new }
 {
     let mut gatherer = PatternSink {
         patterns,
@@ -86,40 +87,34 @@ fn nexts_overlapping(
         met: false,
     };
     nexts_with(nfa, input, at, threads, &mut gatherer);
+    swap_state_sets(threads);
     gatherer.met
 }
 
-/// Adds the patterns of all matches.
-fn overlap_all(
-    nfa: &NFA,
-    input: &Input<'_>,
-    starts: &Starts,
-    threads: &mut Threads,
-    patterns: &mut PatternSet,
-)
-    requires valid { IsAutomaton nfa.now }
-    requires ready { MayScan nfa.now (search_of input.now) starts.now 0 threads.old }
-    requires stop { starts.now.stop ≤ (search_of input.now).start }
-    ensures sizes { SameSizes threads.old threads.new }
-    ensures scans { threads.new.scans ≡ threads.old.scans }
-    ensures turns { IsWithinTurns nfa.now (search_of input.now) threads.old threads.new }
-    ensures gains { IsOverlapResult nfa.now (search_of input.now) AllMatches false patterns.old patterns.new }
+/// Returns whether a scan is over after a position: there was a match that counts, and the scan stops at the earliest
+/// one, or the set is full, so that it gains nothing more.
+#[inline(always)]
+fn is_over(met: bool, earliest: bool, patterns: &PatternSet) -> bool
+    ensures over { result ≡ true → (met ≡ true)
+        × ((earliest ≡ true) ⊎ (size_of_set patterns.now ≡ length patterns.now)) }
+    ensures goes_on { result ≡ false → met ≡ true
+        → (earliest ≡ false) × (size_of_set patterns.now < length patterns.now) }
 {
-    for at in input.start()..input.end() + 1 {
-        if patterns.is_full() {
-            return;
-        }
-        add_start(starts, at, threads);
-        if threads.curr.is_empty() {
-            return;
-        }
-        nexts_overlapping(nfa, input, at, true, threads, patterns);
-        swap_state_sets(threads);
-    }
+    met && (earliest || patterns.is_full())
 }
 
-/// Adds the patterns of the matches that count and have the least end: of the first one, or with `past_match` of all.
-fn overlap_earliest(
+/// Returns the limit of the starts after a position. After a first match no start is left: it would come later.
+#[inline(always)]
+fn later_limit(limit: usize, met: bool, past_match: bool) -> usize
+    ensures { result ≡ cond (met && not past_match) 0 limit }
+{
+    if met && !past_match { 0 } else { limit }
+}
+
+/// Adds the patterns that a scan from these starts means. With `past_match` these are the patterns of all matches,
+/// otherwise that of the first match and those that are met up to its end. If the scan stops at the earliest match,
+/// only matches with the least end count.
+fn overlap_from(
     nfa: &NFA,
     input: &Input<'_>,
     starts: &Starts,
@@ -135,95 +130,21 @@ fn overlap_earliest(
     ensures sizes { SameSizes threads.old threads.new }
     ensures scans { threads.new.scans ≡ threads.old.scans }
     ensures turns { IsWithinTurns nfa.now (search_of input.now) threads.old threads.new }
-    ensures gains { IsOverlapResult nfa.now (search_of input.now) (cond past_match AllMatches LeftmostFirst) true
-        patterns.old patterns.new }
+    ensures gains { IsOverlapResult nfa.now (search_of input.now) (cond past_match AllMatches LeftmostFirst)
+        (search_of input.now).earliest patterns.old patterns.new }
 {
-    for at in input.start()..input.end() + 1 {
-        add_start(starts, at, threads);
-        if threads.curr.is_empty() {
-            return;
-        }
-        let met = nexts_overlapping(nfa, input, at, past_match, threads, patterns);
-        swap_state_sets(threads);
-        if met {
-            return;
-        }
-    }
-}
-
-/// Returns whether a scan for the first match is over: there was a match, and the set is full, so it gains nothing
-/// more.
-#[inline(always)]
-fn is_over(met: bool, patterns: &PatternSet) -> bool
-    ensures over { result ≡ true → (met ≡ true) × (size_of_set patterns.now ≡ length patterns.now) }
-    ensures goes_on { result ≡ false → met ≡ true → size_of_set patterns.now < length patterns.now }
-{
-    met && patterns.is_full()
-}
-
-/// Adds the pattern of the first match, and those that are met up to its end.
-fn overlap_first(
-    nfa: &NFA,
-    input: &Input<'_>,
-    starts: &Starts,
-    threads: &mut Threads,
-    patterns: &mut PatternSet,
-)
-    requires valid { IsAutomaton nfa.now }
-    requires ready { MayScan nfa.now (search_of input.now) starts.now 0 threads.old }
-    requires stop { starts.now.stop ≤ (search_of input.now).start }
-    requires empty { size_of_set patterns.old ≡ 0 }
-    requires not_full { size_of_set patterns.old < length patterns.old }
-    ensures sizes { SameSizes threads.old threads.new }
-    ensures scans { threads.new.scans ≡ threads.old.scans }
-    ensures turns { IsWithinTurns nfa.now (search_of input.now) threads.old threads.new }
-    ensures gains { IsOverlapResult nfa.now (search_of input.now) LeftmostFirst false patterns.old patterns.new }
-{
+    let earliest = input.get_earliest();
     let mut joining = *starts;
     for at in input.start()..input.end() + 1 {
         add_start(&joining, at, threads);
         if threads.curr.is_empty() {
             return;
         }
-        let met = nexts_overlapping(nfa, input, at, false, threads, patterns);
-        swap_state_sets(threads);
-        if is_over(met, patterns) {
+        let met = nexts_overlapping(nfa, input, at, past_match, threads, patterns);
+        if is_over(met, earliest, patterns) {
             return;
         }
-        if met {
-            // A later start comes after this match.
-            joining.limit = 0;
-        }
-    }
-}
-
-/// Adds what a scan from these starts finds to the set.
-fn overlap_from(
-    nfa: &NFA,
-    kind: MatchKind,
-    input: &Input<'_>,
-    starts: &Starts,
-    threads: &mut Threads,
-    patterns: &mut PatternSet,
-)
-    requires valid { IsAutomaton nfa.now }
-    requires ready { MayScan nfa.now (search_of input.now) starts.now 0 threads.old }
-    requires stop { starts.now.stop ≤ (search_of input.now).start }
-    requires empty { kind ≡ LeftmostFirst → size_of_set patterns.old ≡ 0 }
-    requires not_full { size_of_set patterns.old < length patterns.old }
-    ensures sizes { SameSizes threads.old threads.new }
-    ensures scans { threads.new.scans ≡ threads.old.scans }
-    ensures turns { IsWithinTurns nfa.now (search_of input.now) threads.old threads.new }
-    ensures gains { IsOverlapResult nfa.now (search_of input.now) kind (search_of input.now).earliest patterns.old
-        patterns.new }
-{
-    let past_match = kind.continue_past_first_match();
-    if input.get_earliest() {
-        overlap_earliest(nfa, input, starts, past_match, threads, patterns);
-    } else if past_match {
-        overlap_all(nfa, input, starts, threads, patterns);
-    } else {
-        overlap_first(nfa, input, starts, threads, patterns);
+        joining.limit = later_limit(joining.limit, met, past_match);
     }
 }
 
@@ -245,7 +166,8 @@ pub fn overlap(
         ≤ threads.old.reached.seen.turns + overlap_scans kind patterns.old * max_scan_turns nfa.now
         (search_of input.now) }
 {
-    if !kind.continue_past_first_match() && !patterns.is_empty() {
+    let past_match = kind.continue_past_first_match();
+    if !past_match && !patterns.is_empty() {
         return;
     }
     threads.scans.tick();
@@ -266,5 +188,5 @@ pub fn overlap(
         stop: input.start(),
     };
     set_up(threads, 0);
-    overlap_from(nfa, kind, input, &starts, threads, patterns);
+    overlap_from(nfa, input, &starts, past_match, threads, patterns);
 }

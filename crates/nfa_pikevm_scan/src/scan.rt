@@ -9,7 +9,7 @@ ghost use Rattle.nfa_scan_core.specs.FirstBytes.{IsFirstBytes, IsRefused};
 ghost use Rattle.nfa_pikevm_scan.specs.Scans.{blank, HaveRoom, SameSizes, MayScan, AddsStart, with_start};
 ghost use Rattle.nfa_pikevm_scan.specs.Scans.{half_found, IsWithinTurns};
 
-use crate::nexts::{nexts, set_up, swap_state_sets};
+use crate::nexts::{nexts, set_up};
 use crate::slot::{Slot, unset_row};
 use crate::threads::Threads;
 use nfa_scan_core::first_bytes::FirstBytes;
@@ -145,7 +145,6 @@ fn scan_first(
             return found;
         }
         let hit = half_at(nexts(nfa, input, at, false, threads, slots), at);
-        swap_state_sets(threads);
         if hit.is_some() {
             // A later start comes after this match.
             found = hit;
@@ -180,7 +179,6 @@ fn scan_all(
             return found;
         }
         let hit = half_at(nexts(nfa, input, at, true, threads, slots), at);
-        swap_state_sets(threads);
         found = hit.or(found);
     }
     found
@@ -210,7 +208,6 @@ fn scan_earliest(
             return None;
         }
         let hit = half_at(nexts(nfa, input, at, past_match, threads, slots), at);
-        swap_state_sets(threads);
         if hit.is_some() {
             return hit;
         }

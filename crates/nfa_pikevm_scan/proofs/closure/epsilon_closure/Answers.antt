@@ -6,7 +6,7 @@ use Rattle.nfa_paths.specs.Paths.{degree}
 use Rattle.nfa_paths.proofs.TurnLemmas.{marked_sum-le}
 use Rattle.nfa_pikevm_scan.proofs.ApplyFrameLemmas.{within-lower}
 use Rattle.nfa_pikevm_scan.proofs.SinkLemmas.{Takes-none, Takes-match}
-use Rattle.nfa_pikevm_scan.proofs.ClosureLemmas.{Followed-begin, Followed-more, Followed-resumed, ClosureGives-whole, ClosureGives-ended, Paid-begin, Paid-then, Paid-resumed, Paid-dropped, KeepsRoom-none, KeepsRoom-then}
+use Rattle.nfa_pikevm_scan.proofs.ClosureLemmas.{Followed-begin, Followed-more, Followed-resumed, ClosureGives-whole, ClosureGives-ended, KeepsRoom-none, KeepsRoom-then}
 use Rattle.nfa_pikevm_scan.proofs.closure.epsilon_closure.Goals as goal
 
 pub loop-pattern-init : goal.loop-pattern-init
@@ -17,7 +17,6 @@ loop-pattern-init g c =
       keeps = KeepsRoom-none c.args.reached.now;
       grows = omega arith;
       within = λ k d h. absurd (omega arith);
-      paid = Paid-begin c.args.here.now.nfa.now c.args.reached.now.seen (length c.args.reached.now.next.items) [] 1;
       width = refl;
       same_reference = refl;
       followed = Followed-begin c.args.here.now.nfa.now (search_of c.args.here.now.input.now) g.T.MatchSink.takes
@@ -29,24 +28,24 @@ pub returns-then-take-clause-arrives : goal.returns-then-take-clause-arrives
 returns-then-take-clause-arrives g c =
     ClosureGives-ended c.loop-pattern.invariant.followed c.in-Some.ensures.finds
     (Takes-match _ true c.if-take.true c.in-Some.ensures.finds.ends c.take.ensures.takes) refl
-    (Paid-dropped (Paid-then c.loop-pattern.invariant.paid c.in-Some.ensures.paid))
 
 pub returns-in_default-resume-clause-arrives : goal.returns-in_default-resume-clause-arrives
 returns-in_default-resume-clause-arrives g c =
     let none : c.resume.new.top ≡ 0 = c.in_default-resume.ensures.over refl in
     let empty : take c.resume.new.top c.next_match.new.frames ≡ [] = rw none refl in
     ClosureGives-whole empty
-    (Followed-resumed None _ _ (λ front work. c.in_default-resume.ensures.follows c.args.here.now.nfa.now
+    (Followed-resumed c.next_match.new.top c.resume.new.top c.next_match.new.frames None _
+    c.in_default-resume.ensures.top (omega (arith, c.in-Some.ensures.top, c.requires.room.stack))
+    c.in_default-resume.ensures.tried (λ front work. c.in_default-resume.ensures.follows c.args.here.now.nfa.now
     (search_of c.args.here.now.input.now) c.args.here.now.at c.next_match.new.reached.seen front work)
     (Followed-more c.loop-pattern.invariant.followed c.in-Some.ensures.finds
     (Takes-match _ false c.if-take.false c.in-Some.ensures.finds.ends c.take.ensures.takes) refl))
-    (Paid-dropped (Paid-then c.loop-pattern.invariant.paid c.in-Some.ensures.paid))
 
 pub loop-pattern-smaller : goal.loop-pattern-smaller
 loop-pattern-smaller g c =
     omega (
       arith,
-      c.in-Some.ensures.paid.tried,
+      c.in-Some.ensures.finds.gives.paid.tried,
       c.in-Some.ensures.turns,
       c.in-Some-resume.ensures.tried,
       marked_sum-le (map degree c.args.here.now.nfa.now.states) c.loop-pattern.reached.seen.bits,
@@ -63,12 +62,11 @@ loop-pattern-preserved g c =
       grows = omega (arith, c.loop-pattern.invariant.grows, c.in-Some.ensures.turns);
       within = rw (c.resume.auto.row, c.next_match.auto.row)
           (within-lower _ _ _ _ _ c.in-Some-resume.ensures.top c.in-Some.ensures.within);
-      paid = Paid-resumed c.next_match.new.top c.resume.new.top c.next_match.new.frames 1 c.in-Some-resume.ensures.top
-          (omega (arith, c.in-Some.ensures.top, c.requires.room.stack)) c.in-Some-resume.ensures.tried
-          (Paid-then c.loop-pattern.invariant.paid c.in-Some.ensures.paid);
       width = c.take.ensures.width ∙ c.loop-pattern.invariant.width;
       same_reference = c.take.ensures.same_reference ∙ c.loop-pattern.invariant.same_reference;
-      followed = Followed-resumed _ _ _ (λ front work. c.in-Some-resume.ensures.follows c.args.here.now.nfa.now
+      followed = Followed-resumed c.next_match.new.top c.resume.new.top c.next_match.new.frames _ _
+          c.in-Some-resume.ensures.top (omega (arith, c.in-Some.ensures.top, c.requires.room.stack))
+          c.in-Some-resume.ensures.tried (λ front work. c.in-Some-resume.ensures.follows c.args.here.now.nfa.now
           (search_of c.args.here.now.input.now) c.args.here.now.at c.next_match.new.reached.seen front work)
           (Followed-more c.loop-pattern.invariant.followed c.in-Some.ensures.finds
           (Takes-match _ false c.if-take.false c.in-Some.ensures.finds.ends c.take.ensures.takes) refl);
@@ -81,4 +79,3 @@ returns-clause-arrives g c =
     ClosureGives-whole empty
     (Followed-more c.loop-pattern.invariant.followed c.in_default.ensures.finds
     (Takes-none c.in_default.ensures.finds.front c.loop-pattern.sink c.in_default.ensures.finds.ends) refl)
-    (Paid-dropped (Paid-then c.loop-pattern.invariant.paid c.in_default.ensures.paid))

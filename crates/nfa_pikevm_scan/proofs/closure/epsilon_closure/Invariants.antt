@@ -1,12 +1,12 @@
 -- All that a root leads to without reading a byte is followed from match to match, until the position ends.
-use Rattle.std.proofs.Common.{◌≡◌, ◌≤◌, ◌<◌, ◌+◌, ◌-◌, [], length, map, take}
+use Rattle.std.proofs.Common.{◌≡◌, ◌≤◌, ◌<◌, ◌+◌, ◌-◌, length, map, take}
 use Rattle.std.specs.Prelude.{All, Some, sum}
 use Rattle.std.specs.List.{sum_by}
 use Rattle.regex_search_core.specs.Search.{search_of}
 use Rattle.nfa_paths.specs.Paths.{degree}
 use Rattle.nfa_paths.specs.Turns.{marked_sum}
 use Rattle.nfa_pikevm_scan.specs.Needs.{stack_frames}
-use Rattle.nfa_pikevm_scan.specs.States.{tries, IsWithin, KeepsRoom, Paid}
+use Rattle.nfa_pikevm_scan.specs.States.{tries, IsWithin, KeepsRoom}
 use Rattle.nfa_pikevm_scan.proofs.ClosureLemmas.{Followed}
 use Rattle.nfa_pikevm_scan.proofs.closure.epsilon_closure.Given as goal
 
@@ -17,8 +17,6 @@ invariant-loop-pattern g l = record {
   keeps : KeepsRoom l.fn.reached l.reached;
   grows : l.fn.reached.seen.turns ≤ l.reached.seen.turns;
   within : All (IsWithin (length l.here.nfa.now.states) (length l.row)) (take l.top l.frames);
-  paid : Paid l.here.nfa.now l.fn.reached.seen (length l.fn.reached.next.items) [] 1
-      l.reached.seen (length l.reached.next.items) (take l.top l.frames) 1;
   width : g.T.MatchSink.row_width l.sink ≡ g.T.MatchSink.row_width l.fn.sink;
   same_reference : g.T.MatchSink.reference l.sink ≡ g.T.MatchSink.reference l.fn.sink;
   followed : Followed l.here.nfa.now (search_of l.here.input.now) g.T.MatchSink.takes l.here.at l.fn.root

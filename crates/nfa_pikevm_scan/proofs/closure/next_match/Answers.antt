@@ -5,7 +5,7 @@ use Rattle.regex_search_core.specs.Search.{search_of}
 use Rattle.nfa_paths.specs.Paths.{degree}
 use Rattle.nfa_paths.proofs.TurnLemmas.{marked_sum-le}
 use Rattle.nfa_pikevm_scan.proofs.ApplyFrameLemmas.{within-lower}
-use Rattle.nfa_pikevm_scan.proofs.ClosureLemmas.{Passed-begin, Passed-plain, Passed-resumed, Finds-none, Finds-match, Paid-begin, Paid-then, Paid-resumed, HasRoom-paid, KeepsRoom-none, KeepsRoom-then}
+use Rattle.nfa_pikevm_scan.proofs.ClosureLemmas.{Passed-begin, Passed-plain, Passed-resumed, Finds-none, Finds-match, HasRoom-paid, KeepsRoom-none, KeepsRoom-then}
 use Rattle.nfa_pikevm_scan.proofs.closure.next_match.Goals as goal
 
 pub loop-on-init : goal.loop-on-init
@@ -16,7 +16,6 @@ loop-on-init c =
       keeps = KeepsRoom-none c.args.reached.now;
       grows = omega arith;
       within = c.requires.within;
-      paid = Paid-begin c.args.here.now.nfa.now c.args.reached.now.seen (length c.args.reached.now.next.items) _ 1;
       passed = Passed-begin c.args.here.now.nfa.now (search_of c.args.here.now.input.now) c.args.here.now.at c.args.from
           c.args.reached.now.seen c.args.reached.now.next.items _ c.args.row.now;
     }
@@ -28,8 +27,8 @@ visit_state-requires-clause-room c =
     let frames = c.loop-on.auto.frames in
     record {
       room = rw i.keeps.same
-          (HasRoom-paid c.args.top.now c.loop-on.top c.args.frames.now c.loop-on.frames c.requires.room.room i.paid
-          i.keeps.size (omega (arith, c.requires.top)) (omega (arith, i.inside)));
+          (HasRoom-paid c.args.top.now c.loop-on.top c.args.frames.now c.loop-on.frames c.requires.room.room
+          i.passed.gives.paid i.keeps.size (omega (arith, c.requires.top)) (omega (arith, i.inside)));
       stack = omega arith;
     }
 
@@ -37,7 +36,7 @@ pub loop-on-smaller-in-On : goal.loop-on-smaller-in-On
 loop-on-smaller-in-On c =
     omega (
       arith,
-      c.in-On.ensures.paid.tried,
+      c.in-On.ensures.enters.gives.paid.tried,
       c.in-On.ensures.turns,
       marked_sum-le (map degree c.args.here.now.nfa.now.states) c.loop-on.reached.seen.bits,
       marked_sum-le (map degree c.args.here.now.nfa.now.states) c.visit_state.new.reached.seen.bits,
@@ -51,7 +50,6 @@ loop-on-preserved-in-On c =
       keeps = KeepsRoom-then c.loop-on.invariant.keeps c.in-On.ensures.keeps;
       grows = omega (arith, c.in-On.ensures.turns);
       within = rw c.visit_state.auto.row c.in-On.ensures.within;
-      paid = Paid-then c.loop-on.invariant.paid c.in-On.ensures.paid;
       passed = Passed-plain c.loop-on.invariant.passed c.in-On.ensures.enters c.in-On.ensures.enters.is_met;
     }
 
@@ -61,9 +59,6 @@ returns-in-Matched-clause-turns c = omega (arith, c.loop-on.invariant.grows, c.i
 pub returns-in-Matched-clause-keeps : goal.returns-in-Matched-clause-keeps
 returns-in-Matched-clause-keeps c = KeepsRoom-then c.loop-on.invariant.keeps c.in-Matched.ensures.keeps
 
-pub returns-in-Matched-clause-paid : goal.returns-in-Matched-clause-paid
-returns-in-Matched-clause-paid c = Paid-then c.loop-on.invariant.paid c.in-Matched.ensures.paid
-
 pub returns-in-Matched-clause-finds : goal.returns-in-Matched-clause-finds
 returns-in-Matched-clause-finds c = Finds-match c.loop-on.invariant.passed c.in-Matched.ensures.enters
 
@@ -71,7 +66,7 @@ pub loop-on-smaller : goal.loop-on-smaller
 loop-on-smaller c =
     omega (
       arith,
-      c.in-DeadEnd.ensures.paid.tried,
+      c.in-DeadEnd.ensures.enters.gives.paid.tried,
       c.visit_state.ensures.turns,
       c.in-Some.ensures.tried,
       marked_sum-le (map degree c.args.here.now.nfa.now.states) c.loop-on.reached.seen.bits,
@@ -91,10 +86,9 @@ loop-on-preserved c =
       grows = omega (arith, c.visit_state.ensures.turns);
       within = rw (c.resume.auto.row, c.visit_state.auto.row)
           (within-lower _ _ _ _ _ c.in-Some.ensures.top c.visit_state.ensures.within);
-      paid = Paid-resumed c.visit_state.new.top c.resume.new.top c.visit_state.new.frames 1 c.in-Some.ensures.top
-          (omega (arith, c.visit_state.ensures.top, stack)) c.in-Some.ensures.tried
-          (Paid-then c.loop-on.invariant.paid c.in-DeadEnd.ensures.paid);
-      passed = Passed-resumed _ _ _ (λ front work. c.in-Some.ensures.follows c.args.here.now.nfa.now
+      passed = Passed-resumed c.visit_state.new.top c.resume.new.top c.visit_state.new.frames _ _
+          c.in-Some.ensures.top (omega (arith, c.visit_state.ensures.top, stack)) c.in-Some.ensures.tried
+          (λ front work. c.in-Some.ensures.follows c.args.here.now.nfa.now
           (search_of c.args.here.now.input.now) c.args.here.now.at c.visit_state.new.reached.seen front work) turned;
     }
 
@@ -104,17 +98,13 @@ returns-in-None-clause-turns c = omega (arith, c.loop-on.invariant.grows, c.visi
 pub returns-in-None-clause-keeps : goal.returns-in-None-clause-keeps
 returns-in-None-clause-keeps c = KeepsRoom-then c.loop-on.invariant.keeps c.visit_state.ensures.keeps
 
-pub returns-in-None-clause-paid : goal.returns-in-None-clause-paid
-returns-in-None-clause-paid c =
-    let stack = c.requires.room.stack in
-    Paid-resumed c.visit_state.new.top c.resume.new.top c.visit_state.new.frames 0 c.in-None.ensures.top
-    (omega (arith, c.visit_state.ensures.top, stack)) c.in-None.ensures.tried
-    (Paid-then c.loop-on.invariant.paid c.in-DeadEnd.ensures.paid)
-
 pub returns-in-None-clause-finds : goal.returns-in-None-clause-finds
 returns-in-None-clause-finds c =
+    let stack = c.requires.room.stack in
     let turned = Passed-plain c.loop-on.invariant.passed c.in-DeadEnd.ensures.enters
     c.in-DeadEnd.ensures.enters.is_met in
     Finds-none
-    (Passed-resumed None _ _ (λ front work. c.in-None.ensures.follows c.args.here.now.nfa.now
-    (search_of c.args.here.now.input.now) c.args.here.now.at c.visit_state.new.reached.seen front work) turned)
+    (Passed-resumed c.visit_state.new.top c.resume.new.top c.visit_state.new.frames None _ c.in-None.ensures.top
+    (omega (arith, c.visit_state.ensures.top, stack)) c.in-None.ensures.tried
+    (λ front work. c.in-None.ensures.follows c.args.here.now.nfa.now (search_of c.args.here.now.input.now)
+    c.args.here.now.at c.visit_state.new.reached.seen front work) turned)

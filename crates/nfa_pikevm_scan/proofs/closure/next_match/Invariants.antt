@@ -6,7 +6,7 @@ use Rattle.regex_search_core.specs.Search.{search_of}
 use Rattle.nfa_paths.specs.Paths.{degree}
 use Rattle.nfa_paths.specs.Turns.{marked_sum}
 use Rattle.nfa_pikevm_scan.specs.Needs.{stack_frames}
-use Rattle.nfa_pikevm_scan.specs.States.{tries, IsWithin, KeepsRoom, Paid}
+use Rattle.nfa_pikevm_scan.specs.States.{tries, IsWithin, KeepsRoom}
 use Rattle.nfa_pikevm_scan.proofs.ClosureLemmas.{Passed}
 use Rattle.nfa_pikevm_scan.proofs.closure.next_match.Given as goal
 
@@ -17,8 +17,6 @@ invariant-loop-on l = record {
   keeps : KeepsRoom l.fn.reached l.reached;
   grows : l.fn.reached.seen.turns ≤ l.reached.seen.turns;
   within : All (IsWithin (length l.here.nfa.now.states) (length l.row)) (take l.top l.frames);
-  paid : Paid l.here.nfa.now l.fn.reached.seen (length l.fn.reached.next.items) (take l.fn.top l.fn.frames) 1
-      l.reached.seen (length l.reached.next.items) (take l.top l.frames) 1;
   passed : Passed l.here.nfa.now (search_of l.here.input.now) l.here.at l.fn.from l.fn.reached.seen
       l.fn.reached.next.items
       (take l.fn.top l.fn.frames) l.fn.row

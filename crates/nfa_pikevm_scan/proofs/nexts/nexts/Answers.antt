@@ -6,4 +6,4 @@ use Rattle.nfa_pikevm_scan.proofs.nexts.nexts.Goals as goal
 pub returns-clause-crosses : goal.returns-clause-crosses
 returns-clause-crosses c =
     let h = NextsGive-taken refl c.nexts_with.ensures.arrive in
-    search (rules, h)
+    rw (c.swap_state_sets.ensures.seen, c.swap_state_sets.ensures.curr) (search (rules, h))

@@ -11,4 +11,4 @@ returns-clause-crosses c =
     (permits-is c.args.nfa.now (search_of c.args.input.now) c.args.at c.may_end_at.result
     c.may_end_at.ensures.counts c.may_end_at.ensures.splits c.may_end_at.ensures.inside)
     c.nexts_with.ensures.rows c.nexts_with.ensures.arrive in
-    search (rules, h)
+    rw (c.swap_state_sets.ensures.seen, c.swap_state_sets.ensures.curr) (search (rules, h))

@@ -5,7 +5,7 @@ use Rattle.nfa_pikevm_scan.proofs.AllLemmas.{EndsAt-none}
 use Rattle.nfa_pikevm_scan.proofs.EndLemmas.{SearchesFirst-begin, SearchesFirst-joins, SearchesFirst-some, first-over}
 use Rattle.nfa_pikevm_scan.proofs.FrontierLemmas.{IsPaidAt-later}
 use Rattle.nfa_pikevm_scan.proofs.RoomLemmas.{AreAt-none, none_of, below-joins, few-joins, over-joins}
-use Rattle.nfa_pikevm_scan.proofs.ScanLemmas.{search-crossed, AreAt-cross, IsPaidAt-crossed, over-cross, SearchesFirst-miss}
+use Rattle.nfa_pikevm_scan.proofs.ScanLemmas.{Crossed-given, AreAt-cross, IsPaidAt-crossed, over-cross, SearchesFirst-miss}
 use Rattle.nfa_pikevm_scan.proofs.scan.scan_first.Goals as goal
 use Rattle.nfa_pikevm_scan.proofs.scan.scan_first.Goals.{then-is_some, else-is_some}
 
@@ -69,17 +69,12 @@ loop-at-preserved c =
     c.requires.ready.starts c.loop-at.limit width c.loop-at.at to low joins c.loop-at.invariant.searches) in
     let crosses = c.nexts.ensures.crosses in
     let few = few-joins joins in
-    let kept = c.swap_state_sets.ensures.curr in
     record {
-      counted = c.swap_state_sets.ensures.scans ∙ c.nexts.ensures.scans ∙ c.add_start_or_skip-at.ensures.scans
-          ∙ c.loop-at.invariant.counted;
-      sizes = c.swap_state_sets.ensures.sizes ∙ c.nexts.ensures.sizes ∙ c.add_start_or_skip-at.ensures.sizes
-          ∙ c.loop-at.invariant.sizes;
-      width = c.swap_state_sets.ensures.width ∙ c.nexts.ensures.width ∙ c.add_start_or_skip-at.ensures.width
-          ∙ c.loop-at.invariant.width;
-      next = c.swap_state_sets.ensures.next;
-      items = rw kept (AreAt-cross (search-crossed width state c.loop-at.limit crosses)
-          c.requires.ready.starts.leads);
+      counted = c.nexts.ensures.scans ∙ c.add_start_or_skip-at.ensures.scans ∙ c.loop-at.invariant.counted;
+      sizes = c.nexts.ensures.sizes ∙ c.add_start_or_skip-at.ensures.sizes ∙ c.loop-at.invariant.sizes;
+      width = c.nexts.ensures.width ∙ c.add_start_or_skip-at.ensures.width ∙ c.loop-at.invariant.width;
+      next = c.nexts.ensures.next;
+      items = AreAt-cross (Crossed-given width state c.loop-at.limit crosses.gives) c.requires.ready.starts.leads;
       low = omega arith;
       high = omega arith;
       limits = elim c.if-is_some.branch [
@@ -89,16 +84,15 @@ loop-at-preserved c =
           | inr e ↦ inr (w.limit-is ∙ e)
         ]
       ];
-      over = λ past. kept ∙ over-cross (search-crossed width state c.loop-at.limit crosses)
+      over = λ past. over-cross (Crossed-given width state c.loop-at.limit crosses.gives)
           (let h : x.end ≤ to = omega arith in h);
-      paid = rw (c.swap_state_sets.ensures.seen, kept)
-          (IsPaidAt-crossed (search-crossed width state c.loop-at.limit crosses) from
+      paid = IsPaidAt-crossed (Crossed-given width state c.loop-at.limit crosses.gives) from
           (rw c.add_start_or_skip-at.ensures.seen
           (IsPaidAt-later c.args.nfa.now x c.loop-at.at to c.args.threads.now.reached.seen.turns
           c.loop-at.threads.reached.seen.turns
-          (length c.loop-at.threads.curr.items) ahead c.loop-at.invariant.paid)) few);
-      searches = rw (c.swap_state_sets.ensures.seen, kept)
-          (elim c.if-is_some.branch [
+          (length c.loop-at.threads.curr.items) ahead c.loop-at.invariant.paid)) few;
+      searches =
+          elim c.if-is_some.branch [
             | then-is_some w ↦
                 rw (w.limit-is, w.found-is)
                 (SearchesFirst-some c.args.nfa.now x to width state c.loop-at.limit crosses s c.half_at-hit.result
@@ -109,7 +103,7 @@ loop-at-preserved c =
                 c.loop-at.invariant.searches.is_so_far
                 (EndsAt-none to c.nexts.result c.half_at-hit.result c.half_at-hit.ensures
                 (sym c.is_some.ensures ∙ w.if-is_some.false)))
-          ]);
+          ];
     }
 
 pub returns-clause-answer : goal.returns-clause-answer

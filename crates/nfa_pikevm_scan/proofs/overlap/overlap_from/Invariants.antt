@@ -1,10 +1,10 @@
--- The set gains the pattern of the first match, and those that were met on the way to its end.
+-- The set has gained what the positions before this one mean.
 use Rattle.std.proofs.Common.{◌≡◌, ◌≤◌, ◌<◌, ◌+◌, [], length}
 use Rattle.regex_search_core.specs.Search.{search_of}
 use Rattle.regex_search_core.specs.PatternSets.{size_of_set}
-use Rattle.nfa_pikevm_scan.proofs.OverlapFirstLemmas.{FirstWay}
 use Rattle.nfa_pikevm_scan.specs.Scans.{SameSizes}
-use Rattle.nfa_pikevm_scan.proofs.overlap.overlap_first.Given as goal
+use Rattle.nfa_pikevm_scan.proofs.SoFarLemmas.{SoFar}
+use Rattle.nfa_pikevm_scan.proofs.overlap.overlap_from.Given as goal
 
 abbrev pub invariant-loop-at : goal.invariant-loop-at
 invariant-loop-at l = record {
@@ -16,9 +16,8 @@ invariant-loop-at l = record {
   sizes : SameSizes l.fn.threads l.threads;
   width : l.threads.curr.width ≡ 0;
   next : l.threads.reached.next.items ≡ [];
-  so_far : FirstWay l.nfa (search_of l.input) l.fn.patterns l.joining l.at l.fn.threads.reached.seen.turns
-      l.threads.reached.seen
-      l.threads.curr.items l.patterns;
+  so_far : SoFar l.nfa (search_of l.input) l.fn.patterns l.past_match (search_of l.input).earliest l.joining l.at
+      l.fn.threads.reached.seen.turns l.threads.reached.seen l.threads.curr.items l.patterns;
   not_full : size_of_set l.patterns < length l.patterns;
   counted : l.threads.scans ≡ l.fn.threads.scans;
 }

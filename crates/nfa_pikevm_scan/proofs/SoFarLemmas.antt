@@ -1,0 +1,132 @@
+-- What a scan for a set keeps at a position, for all matches or the first one, with the least end or with any.
+use Rattle.std.proofs.Common.{◌≡◌, ◌⊎◌, ℕ, ◌+◌, ◌≤◌, inl, inr, Bool, true, false, List, [], length, refl, ap, arith}
+use Rattle.std.specs.Prelude.{cond, not, ◌&&◌}
+use Rattle.regex_search_core.specs.PatternSets.{size_of_set}
+use Rattle.regex_search_core.specs.Search.{Search}
+use Rattle.regex_search_core.specs.declared.search.MatchKind.TheVariants.{All as AllMatches, LeftmostFirst}
+use Rattle.thompson_nfa.specs.Automaton.{Automaton, IsAutomaton}
+use Rattle.nfa_paths.specs.Exploring.{Slots}
+use Rattle.nfa_paths.specs.Overlaps.{IsOverlapResult}
+use Rattle.nfa_scan_core.specs.Marks.{Marks}
+use Rattle.nfa_pikevm_scan.specs.Scans.{with_start, AreStarts, AreAt, IsPaidAt, max_scan_turns}
+use Rattle.nfa_pikevm_scan.specs.Overlapping.{NextsOverlappingGive}
+use Rattle.nfa_pikevm_scan.specs.declared.scan.Starts.{Starts}
+use Rattle.nfa_pikevm_scan.proofs.RoomLemmas.{AreAt-none, few-joined}
+use Rattle.nfa_pikevm_scan.proofs.FrontierLemmas.{IsPaidAt-end}
+use Rattle.nfa_pikevm_scan.proofs.ScanLemmas.{Crossed-given, AreAt-cross, IsPaidAt-crossed}
+use Rattle.nfa_pikevm_scan.proofs.EndLemmas.{ScansAll-over}
+use Rattle.nfa_pikevm_scan.proofs.OverlapSetLemmas.{wants-match}
+use Rattle.nfa_pikevm_scan.proofs.OverlapLoopLemmas.{AllAt, All-start, All-next, All-full, All-over, EarliestAt, Earliest-start, Earliest-next, Earliest-found, Earliest-end}
+use Rattle.nfa_pikevm_scan.proofs.OverlapFirstLemmas.{FirstWay, FirstWay-capacity, FirstWay-start, FirstWay-next, FirstWay-cut, FirstWay-over, FirstWay-full}
+
+module _ (nfa : Automaton) (x : Search) (old : List Bool) where
+  -- what is known of the matches before the position
+  abbrev pub Known : Bool → Bool → Starts → ℕ → ℕ → Marks → List (ℕ × Slots) → List Bool → Type 0
+  Known past true from at before met items new = EarliestAt nfa x old past from at before met items new
+  Known true false from at before met items new = AllAt nfa x old from at before met items new
+  Known false false from at before met items new = FirstWay nfa x old from at before met items new
+
+  pub record SoFar (past earliest : Bool) (from : Starts) (at before : ℕ) (met : Marks) (items : List (ℕ × Slots))
+      (new : List Bool) : Type 0 where
+    pub states : AreAt nfa items
+    pub paid : IsPaidAt nfa x at before met.turns (length items)
+    pub known : Known past earliest from at before met items new
+    pub size : length new ≡ length old
+
+  capacity : (past earliest : Bool) (from : Starts) (at before : ℕ) (met : Marks) (items : List (ℕ × Slots))
+      (new : List Bool) → Known past earliest from at before met items new → length new ≡ length old
+  capacity past true from at before met items new k = ap (λ (l : List Bool). length l) k.still
+  capacity true false from at before met items new k = k.gains.capacity
+  capacity false false from at before met items new k = FirstWay-capacity nfa x old k
+
+  pub SoFar-start : (past earliest : Bool) → (past ≡ false → size_of_set old ≡ 0) → (from : Starts)
+      → AreStarts nfa x from → (met : Marks) (items : List (ℕ × Slots)) → items ≡ []
+      → SoFar past earliest from x.start met.turns met items old
+  SoFar-start past earliest empty from are met items none = record {
+    states = rw none (AreAt-none nfa);
+    paid = rw none (record { bound = omega arith });
+    known = of past earliest empty;
+    size = refl;
+  }
+    where
+      of : (past earliest : Bool) → (past ≡ false → size_of_set old ≡ 0)
+          → Known past earliest from x.start met.turns met items old
+      of past true empty = Earliest-start nfa x old past from are met items none
+      of true false empty = All-start nfa x from are met items old none
+      of false false empty = FirstWay-start nfa x old from are (empty refl) met items none
+
+  -- no state and no start is left
+  pub SoFar-over : IsAutomaton nfa → (past earliest : Bool) → (past ≡ false → size_of_set old ≡ 0) → {from : Starts}
+      {at before : ℕ} {met : Marks} {items : List (ℕ × Slots)} {new : List Bool}
+      → SoFar past earliest from at before met items new → with_start from 0 at items ≡ []
+      → IsOverlapResult nfa x (cond past AllMatches LeftmostFirst) earliest old new
+  SoFar-over good past earliest empty {from} {at} {before} {met} {items} {new} s none =
+      of past earliest empty s.known
+    where
+      of : (past earliest : Bool) → (past ≡ false → size_of_set old ≡ 0)
+          → Known past earliest from at before met items new
+          → IsOverlapResult nfa x (cond past AllMatches LeftmostFirst) earliest old new
+      of past true empty k = Earliest-end nfa x old past empty k
+          (ScansAll-over nfa x from at 0 k.stands.scans none (wants-match nfa x (length old)))
+      of true false empty k = All-over nfa x old k none
+      of false false empty k = FirstWay-over nfa x old good (empty refl) k none
+
+  module _ (good : IsAutomaton nfa) {past earliest : Bool} (empty : past ≡ false → size_of_set old ≡ 0) {from : Starts}
+      {at before : ℕ} (low : x.start ≤ at) {met : Marks} {items : List (ℕ × Slots)} {mid : List Bool}
+      (s : SoFar past earliest from at before met items mid) {hit : Bool} {after : Marks} {kept : List (ℕ × Slots)}
+      {new : List Bool}
+      (c : NextsOverlappingGive nfa x at past (length old) met (with_start from 0 at items) mid hit after
+      kept new) where
+    -- the turns, if the scan ends at the position
+    pub SoFar-turns : at ≤ x.end → after.turns ≤ before + max_scan_turns nfa x
+    SoFar-turns high =
+        IsPaidAt-end nfa x (at + 1) before after.turns (length kept) (omega arith) (omega arith)
+        (IsPaidAt-crossed (Crossed-given 0 from.state from.limit c.gives) low s.paid (few-joined from 0 at items))
+
+    -- the next position
+    pub SoFar-next : (hit ≡ true → earliest ≡ false)
+        → SoFar past earliest (record from { limit = cond (hit && not past) 0 from.limit }) (at + 1) before after kept
+        new
+    SoFar-next on =
+        let k = of past earliest hit empty on s.known c in
+        record {
+          states = AreAt-cross (Crossed-given 0 from.state from.limit c.gives) good.numbered.targets_in;
+          paid = IsPaidAt-crossed (Crossed-given 0 from.state from.limit c.gives) low s.paid
+              (few-joined from 0 at items);
+          known = k;
+          size = capacity past earliest (record from { limit = cond (hit && not past) 0 from.limit }) (at + 1) before
+              after kept new k;
+        }
+      where
+        of : (past earliest hit : Bool) → (past ≡ false → size_of_set old ≡ 0) → (hit ≡ true → earliest ≡ false)
+            → Known past earliest from at before met items mid
+            → NextsOverlappingGive nfa x at past (length old) met (with_start from 0 at items) mid hit after kept new
+            → Known past earliest (record from { limit = cond (hit && not past) 0 from.limit }) (at + 1) before after
+            kept new
+        of past true true empty on k c = let never : true ≡ false = on refl in absurd (cc never)
+        of past true false empty on k c = Earliest-next nfa x old past good low k c refl
+        of true false true empty on k c = All-next nfa x old good low k c
+        of true false false empty on k c = All-next nfa x old good low k c
+        of false false true empty on k c = FirstWay-cut nfa x old good low k c (empty refl) refl
+        of false false false empty on k c = FirstWay-next nfa x old good low k c refl
+
+    -- a match that ends the scan
+    pub SoFar-found : hit ≡ true → (earliest ≡ true) ⊎ (size_of_set new ≡ length new)
+        → IsOverlapResult nfa x (cond past AllMatches LeftmostFirst) earliest old new
+    SoFar-found on over = of past earliest empty over s.known c
+      where
+        of : (past earliest : Bool) → (past ≡ false → size_of_set old ≡ 0)
+            → (earliest ≡ true) ⊎ (size_of_set new ≡ length new)
+            → Known past earliest from at before met items mid
+            → NextsOverlappingGive nfa x at past (length old) met (with_start from 0 at items) mid hit after kept new
+            → IsOverlapResult nfa x (cond past AllMatches LeftmostFirst) earliest old new
+        of past true empty over k c = Earliest-found nfa x old past good empty k c on
+        of true false empty over k c = elim over [
+          | inl never ↦ absurd (cc never)
+          | inr full ↦ All-full nfa x old (All-next nfa x old good low k c) full
+        ]
+        of false false empty over k c = elim over [
+          | inl never ↦ absurd (cc never)
+          | inr full ↦ FirstWay-full nfa x old (empty refl)
+              (FirstWay-cut nfa x old good low k c (empty refl) on) full
+        ]

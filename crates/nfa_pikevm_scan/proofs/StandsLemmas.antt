@@ -1,0 +1,59 @@
+-- What a scan for all wanted pairs keeps at a position where it has followed no state yet.
+use Rattle.std.proofs.Common.{◌≡◌, ℕ, ◌+◌, ◌≤◌, Bool, List, [], length, arith}
+use Rattle.std.specs.Prelude.{All}
+use Rattle.regex_search_core.specs.Search.{Search}
+use Rattle.thompson_nfa.specs.Automaton.{Automaton, LeadsBelow}
+use Rattle.nfa_paths.specs.Graphs.{Pair}
+use Rattle.nfa_paths.specs.Paths.{space}
+use Rattle.nfa_paths.specs.Exploring.{Slots}
+use Rattle.nfa_paths.specs.Kinds.{is_resting, IsFrontier}
+use Rattle.nfa_scan_core.specs.Marks.{Marks}
+use Rattle.nfa_pikevm_scan.specs.States.{Frontier, AreMatchPairs}
+use Rattle.nfa_pikevm_scan.specs.Scans.{blank, with_start, AreStarts, AreAt, IsPaidAt, ScansAll, max_scan_turns}
+use Rattle.nfa_pikevm_scan.specs.declared.scan.Starts.{Starts}
+use Rattle.nfa_pikevm_scan.proofs.RoomLemmas.{AreAt-none, few-joined}
+use Rattle.nfa_pikevm_scan.proofs.FrontierLemmas.{IsPaidAt-end}
+use Rattle.nfa_pikevm_scan.proofs.ScanLemmas.{Crossed, AreAt-cross, IsPaidAt-crossed}
+use Rattle.nfa_pikevm_scan.proofs.AllLemmas.{all-front, ScansAll-next}
+use Rattle.nfa_pikevm_scan.proofs.EndLemmas.{ScansAll-begin, ScansAll-joined}
+
+-- the states, the turns and the work at a position
+pub record Stands (nfa : Automaton) (x : Search) (wanted : Pair → Bool) (width : ℕ) (from : Starts) (at before : ℕ)
+    (met : Marks) (items : List (ℕ × Slots)) : Type 0 where
+  pub states : AreAt nfa items
+  pub paid : IsPaidAt nfa x at before met.turns (length items)
+  pub scans : ScansAll nfa x wanted at width from.state from.limit met items
+
+pub Stands-start : (nfa : Automaton) (x : Search) (wanted : Pair → Bool) (from : Starts) → AreStarts nfa x from
+    → (slots : Slots) (met : Marks) {items : List (ℕ × Slots)} → items ≡ []
+    → Stands nfa x wanted (length slots) from x.start met.turns met items
+Stands-start nfa x wanted from are slots met none =
+    rw none (record {
+      states = AreAt-none nfa;
+      paid = record { bound = omega arith };
+      scans = ScansAll-begin nfa x from are slots met wanted;
+    })
+
+module _ {nfa : Automaton} {x : Search} {wanted : Pair → Bool} {width : ℕ} {from : Starts} {at before : ℕ}
+    {met after : Marks} {items kept : List (ℕ × Slots)} {front : Frontier} {goes : Type 0}
+    (s : Stands nfa x wanted width from at before met items)
+    (c : Crossed nfa x at width from.state from.limit met (with_start from width at items) goes after kept front) where
+  -- the next position, if the whole position was followed
+  pub Stands-next : AreMatchPairs nfa wanted → All (LeadsBelow (length nfa.states)) nfa.states → x.start ≤ at → goes
+      → Stands nfa x wanted width from (at + 1) before after kept
+  Stands-next sub leads low goes_on = record {
+    states = AreAt-cross c leads;
+    paid = IsPaidAt-crossed c low s.paid (few-joined from width at items);
+    scans = ScansAll-next wanted sub c (ScansAll-joined nfa x from at width s.scans) goes_on;
+  }
+
+  -- the turns, if the scan ends at the position
+  pub Stands-turns : x.start ≤ at → at ≤ x.end → after.turns ≤ before + max_scan_turns nfa x
+  Stands-turns low high =
+      IsPaidAt-end nfa x (at + 1) before after.turns (length kept) (omega arith) (omega arith)
+      (IsPaidAt-crossed c low s.paid (few-joined from width at items))
+
+  -- the front of a position that was followed whole
+  pub Stands-front : AreMatchPairs nfa wanted → goes
+      → IsFrontier (space nfa x) (is_resting nfa) wanted (blank width) after.turns front at
+  Stands-front sub goes_on = all-front wanted sub c (ScansAll-joined nfa x from at width s.scans) goes_on
