@@ -1,6 +1,6 @@
 -- The first turn of a walk, and the starts after a walk that failed.
-use Rattle.std.proofs.Common.{◌≡◌, ◌∙◌, ℕ, suc, zero, ◌+◌, ◌<◌, ◌≤◌, inl, inr, List, [], ◌∷◌, length, get_or, set, set-set}
-use Rattle.std.proofs.Common.{map, ap, arith, refl}
+use Rattle.std.proofs.Common.{◌≡◌, ◌∙◌, ℕ, suc, zero, ◌+◌, ◌<◌, ◌≤◌, inl, inr, List, length, get_or, set}
+use Rattle.std.proofs.Common.{set-set, ap, arith, refl}
 use Rattle.std.specs.Prelude.{Option, Some, None}
 use Rattle.std.specs.List.{slice_get}
 use Rattle.std.specs.Option.{ForSome}
@@ -17,8 +17,8 @@ use Rattle.nfa_scan_core.specs.Marks.{Marks}
 use Rattle.nfa_backtrack_scan.specs.Begin.{kept_onto, starts_from, BeginsAt}
 use Rattle.nfa_backtrack_scan.specs.Walk.{pair_of, weights, IsStatePos, Carries, Taken, WalkAnswer}
 use Rattle.nfa_backtrack_scan.specs.declared.frame.StatePos.{StatePos}
-use Rattle.nfa_backtrack_scan.proofs.WalkLemmas.{node_at-get, Carries-none, Carries-restore, Carries-then, Carries-write}
-use Rattle.nfa_backtrack_scan.proofs.WalkLemmas.{Carries-unkept, marked_sum-weights}
+use Rattle.nfa_backtrack_scan.proofs.WalkLemmas.{node_at-get, marked_sum-weights, Carries-none, Carries-restore}
+use Rattle.nfa_backtrack_scan.proofs.WalkLemmas.{Carries-then, Carries-unkept, Carries-write}
 
 module _ (nfa : Automaton) (x : Search) where
   -- a path from a pair that writes the slot finds the same slots, whatever the slot held

@@ -22,6 +22,7 @@ ghost use Rattle.nfa_backtrack_scan.specs.Walk.{weights};
 ghost use Rattle.nfa_backtrack_scan.specs.Walk.{IsAfforded};
 ghost use Rattle.nfa_backtrack_scan.specs.declared.frame.Frame.TheVariants.{Step};
 
+use crate::alternates::push_alternates;
 use crate::byte_loop::{byte_loop_at, run_loop};
 use crate::frame::{Frame, StatePos};
 use crate::scratch::Scratch;
@@ -71,23 +72,6 @@ fn assertion_holds(look: Look, haystack: &[u8], at: usize) -> bool
     ensures { result ≡ look_holds look haystack.now at }
 {
     look_matches(look, haystack, at)
-}
-
-/// Pushes all alternatives but the first, with the earliest on top.
-fn push_alternates(
-    stack: &mut Vec<Frame>,
-    alternates: &[StateID],
-    place: StatePos,
-) -> Result<(), Refused>
-    ensures { OnOk result (stack.new.items
-        ≡ stack.old.items ++ map (λ sid. Step sid place.at place.row) (reverse (drop 1 alternates.now))) }
-{
-    let mut left = alternates.len();
-    while left > 1 {
-        left -= 1;
-        stack.push(place.later(alternates[left]))?;
-    }
-    Ok(())
 }
 
 /// Writes the position to the slot, and pushes a frame that restores what the slot holds.
@@ -190,7 +174,8 @@ fn step(
             let Some(first) = alternates.first() else {
                 return Ok(Move::DeadEnd);
             };
-            push_alternates(&mut scratch.stack, alternates, place)?;
+            let byte = byte_at(input, at);
+            push_alternates(nfa, &mut scratch.stack, alternates, place, byte)?;
             Ok(Move::On(place.to(*first)))
         }
         State::BinaryUnion { alt1, alt2 } => {
