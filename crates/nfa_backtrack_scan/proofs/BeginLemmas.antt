@@ -1,41 +1,106 @@
--- The first turn of a walk, and putting back what it wrote.
-use Rattle.std.proofs.Common.{◌≡◌, ℕ, ◌<◌, List, length, get_or, set, ap, arith, length-set}
+-- The first turn of a walk, and the starts after a walk that failed.
+use Rattle.std.proofs.Common.{◌≡◌, ◌∙◌, ℕ, suc, zero, ◌+◌, ◌<◌, ◌≤◌, inl, inr, List, length, get_or, set}
+use Rattle.std.proofs.Common.{set-set, ap, arith, refl}
 use Rattle.std.specs.Prelude.{Option, Some, None}
 use Rattle.std.specs.List.{slice_get}
+use Rattle.std.specs.Option.{ForSome}
 use Rattle.regex_search_core.specs.Search.{Search}
 use Rattle.thompson_nfa.specs.Automaton.{Automaton}
 use Rattle.thompson_nfa.specs.Automaton.Node.{Capture}
-use Rattle.nfa_paths.specs.Exploring.{Task, Slots}
+use Rattle.nfa_paths.specs.FirstPaths.{Path}
+use Rattle.nfa_paths.specs.FirstPaths.Path.{stop, go}
+use Rattle.nfa_paths.specs.Graphs.{Pair}
+use Rattle.nfa_paths.specs.Paths.{capture, edges, is_match, node_at, slot_of, space}
+use Rattle.nfa_paths.specs.Exploring.{Hit, Slots, ExploresTo, found}
 use Rattle.nfa_paths.specs.Turns.{marked_sum}
-use Rattle.nfa_backtrack_scan.specs.Begin.{kept_onto, IsPutBack, BeginsAt}
 use Rattle.nfa_scan_core.specs.Marks.{Marks}
-use Rattle.nfa_backtrack_scan.specs.Walk.{pair_of, weights, IsStatePos, Carries, Taken}
+use Rattle.nfa_backtrack_scan.specs.Begin.{kept_onto, starts_from, BeginsAt}
+use Rattle.nfa_backtrack_scan.specs.Walk.{pair_of, weights, IsStatePos, Carries, Taken, WalkAnswer}
 use Rattle.nfa_backtrack_scan.specs.declared.frame.StatePos.{StatePos}
-use Rattle.nfa_backtrack_scan.proofs.WalkLemmas.{Carries-none, Carries-restore, Carries-write, marked_sum-weights}
+use Rattle.nfa_backtrack_scan.proofs.WalkLemmas.{node_at-get, marked_sum-weights, Carries-none, Carries-restore}
+use Rattle.nfa_backtrack_scan.proofs.WalkLemmas.{Carries-then, Carries-unkept, Carries-write}
 
 module _ (nfa : Automaton) (x : Search) where
-  pub Carries-put_back : (m : Marks) (work : List Task) (slot : Option ℕ) (slots after : Slots)
-      → IsPutBack slot slots after
-      → Carries nfa x m (kept_onto slot work) slots m work after
-  Carries-put_back m work None slots after h = rw h (Carries-none nfa x m work slots)
-  Carries-put_back m work (Some k) slots after h = rw h (Carries-restore nfa x m work slots k None)
+  -- a path from a pair that writes the slot finds the same slots, whatever the slot held
+  found-over : (v : Pair) (k : ℕ) → slot_of (node_at nfa v.0) ≡ Some k → {p : List Pair}
+      → Path (edges nfa x) (is_match nfa) v p → (slots : Slots) (old : Option ℕ)
+      → found (capture nfa) p slots ≡ found (capture nfa) p (set slots k old)
+  found-over v k writes (stop t) slots old = rw (writes, set-set) refl
+  found-over v k writes (go f i n q) slots old = rw (writes, set-set) refl
 
-  -- a Capture that writes a slot without an offset
-  pub BeginsAt-write : {place : StatePos} {m n : Marks} → Taken nfa x (pair_of place) m n → IsStatePos nfa x place
-      → (next slot : ℕ)
-      → slice_get nfa.states place.sid ≡ Some (Capture next slot) → next < length nfa.states
-      → (slots : Slots) → slot < length slots → get_or slots slot None ≡ None
-      → BeginsAt nfa x (pair_of place) (record { place = record place { sid = next }; slot = Some slot }) m slots n
-      (set slots slot (Some place.at))
-  BeginsAt-write {place} {m} {n} t p next slot is below slots within unset =
-      let put = ap (marked_sum (weights nfa x)) t.set in
-      let more = marked_sum-weights nfa x m.bits place.sid place.at (Capture next slot) t.state t.from t.to is
-      t.clear in
-      record {
-        place = record { state = below; from = p.from; to = p.to; row = p.row };
-        slot = λ k same. let e : slot ≡ k = cc in rw (← e, length-set) within;
-        follows = λ work.
-            rw unset at (Carries-write nfa x m place.sid place.at work slots n t.counted t.state t.from t.inside t.clear
-            t.set next slot is);
-        spent = omega (arith, t.counted, put, more);
-      }
+  -- so do all starts of its state
+  Answer-over : (left : ℕ) (pairs : List Pair) (s at count k : ℕ) → slot_of (node_at nfa s) ≡ Some k
+      → (slots : Slots) (old : Option ℕ) (g : Hit)
+      → ExploresTo (space nfa x) (is_match nfa) left None pairs (starts_from s at count) slots g
+      → ExploresTo (space nfa x) (is_match nfa) left None pairs (starts_from s at count) (set slots k old) g
+  unfolding ExploresTo
+  Answer-over left pairs s at zero k writes slots old g h = h
+  Answer-over left pairs s at (suc count) k writes slots old g h =
+      elim h [
+        | inl hit ↦
+            inl (hit.0, hit.1, hit.2 ∙ found-over (s, at) k writes hit.1.0.path slots old, hit.3)
+        | inr later ↦ inr (later.0, Answer-over left pairs s (at + 1) count k writes slots old g later.1)
+      ]
+
+  -- a slot that later starts write need not be restored
+  pub Carries-kept : (m : Marks) (s at count : ℕ) (slot old : Option ℕ) (slots : Slots)
+      → ForSome slot (λ k. slot_of (node_at nfa s) ≡ Some k)
+      → Carries nfa x m (kept_onto slot old (starts_from s at count)) slots m (starts_from s at count) slots
+  unfolding WalkAnswer
+  Carries-kept m s at count None old slots own = Carries-none nfa x m (starts_from s at count) slots
+  Carries-kept m s at count (Some k) old slots own =
+      Carries-then nfa x (Carries-restore nfa x m (starts_from s at count) slots k old) (record {
+        grows = omega arith;
+        back = λ left more g e h pairs agrees.
+            let same : more ≡ left = omega arith in
+            rw same (Answer-over left pairs s at count k (own k refl) slots old g (h pairs agrees));
+      })
+
+  module _ {place : StatePos} {m n : Marks} (t : Taken nfa x (pair_of place) m n) (p : IsStatePos nfa x place)
+      (next slot : ℕ) (is : slice_get nfa.states place.sid ≡ Some (Capture next slot))
+      (below : next < length nfa.states) (slots : Slots) where
+    spent : n.turns + marked_sum (weights nfa x) m.bits ≤ m.turns + marked_sum (weights nfa x) n.bits
+    spent =
+        let put = ap (marked_sum (weights nfa x)) t.set in
+        let more = marked_sum-weights nfa x m.bits place.sid place.at (Capture next slot) t.state t.from t.to is
+        t.clear in omega (arith, t.counted, put, more)
+
+    -- a Capture writes its slot
+    pub BeginsAt-write : BeginsAt nfa x (pair_of place) (record place { sid = next }) m slots n
+        (set slots slot (Some place.at))
+    BeginsAt-write = record {
+      is_place = record { state = below; from = p.from; to = p.to; row = p.row };
+      slot = Some slot;
+      old = get_or slots slot None;
+      own = λ k same. let e : slot ≡ k = cc in rw (node_at-get nfa x place.sid (Capture next slot) is, e) refl;
+      follows = λ work.
+          Carries-write nfa x m place.sid place.at work slots n t.counted t.state t.from t.inside t.clear t.set next
+          slot is;
+      spent = spent;
+    }
+
+    -- or has no slot
+    pub BeginsAt-unkept : length slots ≤ slot
+        → BeginsAt nfa x (pair_of place) (record place { sid = next }) m slots n slots
+    BeginsAt-unkept past = record {
+      is_place = record { state = below; from = p.from; to = p.to; row = p.row };
+      slot = None;
+      old = None;
+      own = λ k same. cc;
+      follows = λ work.
+          Carries-unkept nfa x m place.sid place.at work slots n t.counted t.state t.from t.inside t.clear t.set next
+          slot is past;
+      spent = spent;
+    }
+
+  -- no turn is taken at other states
+  pub BeginsAt-none : (place : StatePos) (m : Marks) (slots : Slots) → IsStatePos nfa x place
+      → BeginsAt nfa x (pair_of place) place m slots m slots
+  BeginsAt-none place m slots p = record {
+    is_place = p;
+    slot = None;
+    old = None;
+    own = λ k same. cc;
+    follows = λ work. Carries-none nfa x m _ slots;
+    spent = omega arith;
+  }

@@ -6,3 +6,4 @@ pub mod BeginLemmas
 pub mod ApplyFrameLemmas
 pub mod ScanLemmas
 pub mod ByteLoopLemmas
+pub mod AlternateLemmas

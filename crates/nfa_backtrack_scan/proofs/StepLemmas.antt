@@ -1,11 +1,10 @@
 -- What each kind of state leads to, after the turn that marked its place.
 use Rattle.std.proofs.Common.{◌≡◌, ℕ, suc, ◌+◌, ◌-◌, ◌*◌, ◌^◌, ◌<◌, ◌≤◌, List, [], ◌∷◌, ◌++◌, length, get_or, set, map}
-use Rattle.std.proofs.Common.{reverse, drop, refl, ap, sym, ◌∙◌, arith, append_assoc, append-nil}
+use Rattle.std.proofs.Common.{drop, refl, ap, sym, ◌∙◌, arith}
 use Rattle.std.specs.Prelude.{Option, Some, None, true, false, Bool, All, option_map, option_and_then, option_to_list}
 use Rattle.std.specs.List.{slice_get, sum_by}
 use Rattle.std.proofs.lemmas.Nat.{mul-add-lt}
-use Rattle.std.proofs.lemmas.List.{length-map, map_push}
-use Rattle.std.proofs.lemmas.Grind.{reverse_onto}
+use Rattle.std.proofs.lemmas.List.{length-map}
 use Rattle.std.proofs.lemmas.List.Elements.{All-push}
 use Rattle.std.proofs.lemmas.List.Sums.{sum_by_push}
 use Rattle.regex_search_core.specs.Search.{Search}
@@ -20,9 +19,9 @@ use Rattle.nfa_paths.specs.Exploring.{Task, Slots}
 use Rattle.nfa_paths.specs.Exploring.Task.{Explore, Restore}
 use Rattle.nfa_scan_core.proofs.TargetLemmas.{byte_at-within, target-below}
 use Rattle.nfa_scan_core.specs.Marks.{Marks}
-use Rattle.nfa_backtrack_scan.specs.Walk.{pair_of, work_item, stacked, restoring, move_to, frame_tries, tries_of_move, bit_of}
-use Rattle.nfa_backtrack_scan.specs.Walk.{HasBits, IsStatePos, IsFrame, IsByteStep, PaidFor, ReadsByte, Carries, Ends, Goes, Taken, TurnsLead}
-use Rattle.nfa_backtrack_scan.specs.Walk.{WasMarked}
+use Rattle.nfa_backtrack_scan.specs.Walk.{pair_of, work_item, stacked, restoring, move_to, frame_tries, tries_of_move}
+use Rattle.nfa_backtrack_scan.specs.Walk.{bit_of, HasBits, IsStatePos, IsFrame, IsByteStep, PaidFor, ReadsByte}
+use Rattle.nfa_backtrack_scan.specs.Walk.{Carries, Ends, Goes, Taken, TurnsLead, WasMarked}
 use Rattle.nfa_backtrack_scan.specs.declared.frame.StatePos.{StatePos}
 use Rattle.nfa_backtrack_scan.specs.declared.frame.Frame.{Frame}
 use Rattle.nfa_backtrack_scan.specs.declared.frame.Frame.TheVariants.{Step}
@@ -113,47 +112,6 @@ pub stacked-push : (fs : List Frame) (f : Frame) (work : List Task) → stacked 
     ≡ work_item f ∷ stacked fs work
 stacked-push [] f work = refl
 stacked-push (g ∷ fs) f work = stacked-push fs f (work_item g ∷ work)
-
--- the alternatives that are pushed, with the earliest on top
-abbrev pub put : ℕ → ℕ → List ℕ → List Frame
-put at row es = map (λ s. Step s at row) (reverse es)
-
-pub put-cons : (stack : List Frame) (at row e : ℕ) (es : List ℕ) → stack ++ put at row (e ∷ es)
-    ≡ (stack ++ put at row es) ++ Step e at row ∷ []
-put-cons stack at row e es =
-    ap (λ t. stack ++ map (λ s. Step s at row) t) (reverse_onto es e []) ∙ ap (λ t. stack ++ t)
-    (map_push (λ s. Step s at row) (reverse es) e)
-    ∙ sym (append_assoc stack (put at row es) (Step e at row ∷ []))
-
-pub stacked-put : (stack : List Frame) (at row : ℕ) (es : List ℕ) (work : List Task)
-    → stacked (stack ++ put at row es) work ≡ map Explore (map (λ n. (n, at)) es) ++ stacked stack work
-stacked-put stack at row [] work = rw append-nil refl
-stacked-put stack at row (e ∷ es) work =
-    ap (λ t. stacked t work) (put-cons stack at row e es) ∙ stacked-push (stack ++ put at row es) (Step e at row)
-    work
-    ∙ ap (λ t. Explore (e, at) ∷ t) (stacked-put stack at row es work)
-
-pub tries-put : (stack : List Frame) (at row : ℕ) (es : List ℕ) → sum_by frame_tries (stack ++ put at row es)
-    ≡ sum_by frame_tries stack + length es
-tries-put stack at row [] = rw append-nil (omega arith)
-tries-put stack at row (e ∷ es) =
-    ap (sum_by frame_tries) (put-cons stack at row e es)
-    ∙ sum_by_push frame_tries (stack ++ put at row es) (Step e at row)
-    ∙ (let k = tries-put stack at row es in omega arith)
-
-module _ (nfa : Automaton) (x : Search) (count : ℕ) where
-  pub within-put : (stack : List Frame) (at row : ℕ) → x.start ≤ at → at ≤ x.end → row
-      ≡ (at - x.start) * length nfa.states → (es : List ℕ)
-      → All (IsFrame nfa x count) stack → All (λ s. s < length nfa.states) es
-      → All (IsFrame nfa x count) (stack ++ put at row es)
-  within-put stack at row from to is [] fits below = rw append-nil fits
-  within-put stack at row from to is (e ∷ es) fits below =
-      let here : e < length nfa.states = below 0 e (omega arith) in
-      let rest : All (λ s. s < length nfa.states) es = λ k d h. below (suc k) d (omega arith) in
-      rw (put-cons stack at row e es)
-      (All-push (IsFrame nfa x count) (stack ++ put at row es) (Step e at row)
-      (within-put stack at row from to is es fits rest)
-      (record { state = here; from = from; to = to; row = is }))
 
 -- a frame that puts a slot back
 pub work_item-restoring : (slot : ℕ) (old : Option ℕ) → work_item (restoring slot old) ≡ Restore slot old
@@ -266,19 +224,6 @@ module _ {nfa : Automaton} {x : Search} {s at : ℕ} {m n : Marks} (t : Taken nf
       PaidFor-step node is count stack (stack ++ f ∷ []) in_hand (All-push (IsFrame nfa x count) stack f within fits)
       (omega (arith, sum_by_push frame_tries stack f))
 
-  pub PaidFor-put : (alternates : List ℕ) → slice_get nfa.states s ≡ Some (Union alternates)
-      → (count : ℕ) (stack : List Frame) (f : ℕ)
-      → slice_get alternates 0 ≡ Some f → (row : ℕ) → row ≡ (at - x.start) * length nfa.states
-      → All (IsFrame nfa x count) stack → All (λ q. q < length nfa.states) alternates
-      → PaidFor nfa x count stack m (stack ++ put at row (drop 1 alternates)) n 1
-  PaidFor-put alternates is count stack f first row placed within below =
-      let split = first-drop alternates f first in
-      let rest : All (λ q. q < length nfa.states) (drop 1 alternates) = λ k d h. (rw split at below) (suc k) d
-      (omega arith) in
-      PaidFor-step (Union alternates) is count stack (stack ++ put at row (drop 1 alternates)) 1
-      (within-put nfa x count stack at row t.from t.to placed (drop 1 alternates) within rest)
-      (omega (arith, tries-put stack at row (drop 1 alternates), ap length split))
-
   -- on to the edges
   pub Goes-edges : (node : Node) → slice_get nfa.states s ≡ Some node → pattern_of node ≡ None → slot_of node ≡ None
       → (es : List Pair) → edges_of x node at ≡ es → (rest : List Task) (slots : Slots)
@@ -325,16 +270,6 @@ module _ {nfa : Automaton} {x : Search} {s at : ℕ} {m n : Marks} (t : Taken nf
 
   -- alternatives
   module _ (alternates : List ℕ) (is : slice_get nfa.states s ≡ Some (Union alternates)) (slots : Slots) where
-    pub Goes-union : (f : ℕ) → slice_get alternates 0 ≡ Some f → (stack : List Frame) (work : List Task)
-        → (row : ℕ) → Carries nfa x m (Explore (s, at) ∷ stacked stack work) slots n
-        (Explore (f, at) ∷ stacked (stack ++ put at row (drop 1 alternates)) work) slots
-    unfolding edges_of
-    Goes-union f first stack work row =
-        let split = first-drop alternates f first in
-        rw (stacked-put stack at row (drop 1 alternates) work)
-        (Goes-edges (Union alternates) is refl refl ((f, at) ∷ map (λ q. (q, at)) (drop 1 alternates))
-        (ap (map (λ q. (q, at))) split) (stacked stack work) slots)
-
     pub Goes-no_union : slice_get alternates 0 ≡ None → (rest : List Task)
         → Carries nfa x m (Explore (s, at) ∷ rest) slots n rest slots
     unfolding edges_of

@@ -28,7 +28,7 @@ use Rattle.regex_search_core.specs.declared.search.HalfMatch.{HalfMatch}
 use Rattle.nfa_backtrack_scan.specs.Walk.{bit_of, HasBits, IsMarked, Agrees, weights, WalkAnswer, Carries, Ends, EndsAt}
 
 -- no path leads on from a pair without edges
-no_path : (edges : Pair → List Pair) (target : Pair → Bool) {v : Pair} {p : List Pair} → target v ≡ false
+pub no_path : (edges : Pair → List Pair) (target : Pair → Bool) {v : Pair} {p : List Pair} → target v ≡ false
     → edges v ≡ [] → Path edges target v p → ⊥
 no_path edges target plain none (stop t) = cc (t, plain)
 no_path edges target plain none (go f i n q) = rw none at i

@@ -1,40 +1,60 @@
--- The first turn of a walk, which pushes no frame for its slot.
-use Rattle.std.specs.Prelude.{◌≡◌, ℕ, ◌+◌, ◌<◌, ◌≤◌, List, [], ◌∷◌, Option, None, Some, length, slice_set}
+-- The first turn of a walk, which pushes no frame for its slot, and a walk that keeps what that turn wrote.
+use Rattle.std.specs.Prelude.{◌≡◌, ℕ, ◌+◌, ◌≤◌, List, [], ◌∷◌, Option, None, Some, map}
 use Rattle.std.specs.Option.{ForSome}
 use Rattle.regex_search_core.specs.Search.{Search}
+use Rattle.regex_search_core.specs.declared.search.HalfMatch.{HalfMatch}
 use Rattle.thompson_nfa.specs.Automaton.{Automaton}
 use Rattle.nfa_paths.specs.Graphs.{Pair}
+use Rattle.nfa_paths.specs.Paths.{node_at, slot_of, pairs_from}
 use Rattle.nfa_paths.specs.Exploring.{Slots, Task}
 use Rattle.nfa_paths.specs.Exploring.Task.{Explore as ToExplore, Restore as ToRestore}
 use Rattle.nfa_paths.specs.Turns.{marked_sum}
 use Rattle.nfa_scan_core.specs.Marks.{Marks}
-use Rattle.nfa_backtrack_scan.specs.Walk.{pair_of, weights, IsStatePos, Carries, WalkFails}
-use Rattle.nfa_backtrack_scan.specs.declared.walk.Begun.{Begun}
+use Rattle.nfa_backtrack_scan.specs.Walk.{pair_of, weights, IsStatePos, Carries, EndsAt}
+use Rattle.nfa_backtrack_scan.specs.declared.frame.StatePos.{StatePos}
+use Rattle.nfa_backtrack_scan.specs.declared.frame.Frame.{Frame}
 
--- some work, with the slot that was written to be unset after it
-abbrev pub kept_onto : Option ℕ → List Task → List Task
-kept_onto None work = work
-kept_onto (Some slot) work = ToRestore slot None ∷ work
+-- some work, with the slot that was written restored before it
+abbrev pub kept_onto : Option ℕ → Option ℕ → List Task → List Task
+kept_onto None old work = work
+kept_onto (Some slot) old work = ToRestore slot old ∷ work
 
--- the slots once the slot is unset again
-abbrev pub IsPutBack : Option ℕ → Slots → Slots → Type 0
-IsPutBack None slots after = after ≡ slots
-IsPutBack (Some slot) slots after = after ≡ slice_set slots slot None
+-- starts of this state at `count` positions as work
+abbrev pub starts_from : ℕ → ℕ → ℕ → List Task
+starts_from state at count = map ToExplore (pairs_from state at count)
 
 module _ (nfa : Automaton) (x : Search) where
-  -- a walk from v goes on there, and the marks pay for the tries
-  pub record BeginsAt (v : Pair) (begun : Begun) (marks : Marks) (slots : Slots) (marked : Marks)
-      (written : Slots) : Type
-      0 where
-    pub place : IsStatePos nfa x begun.place
-    pub slot : ForSome begun.slot (λ k. k < length written)
+  -- A walk from v goes on at the place, and the marks pay for the tries. The slot that was written, if any, is the one
+  -- that v's state writes.
+  pub record BeginsAt (v : Pair) (place : StatePos) (marks : Marks) (slots : Slots) (marked : Marks) (written : Slots)
+      : Type 0 where
+    pub is_place : IsStatePos nfa x place
+    pub slot : Option ℕ
+    pub old : Option ℕ
+    pub own : ForSome slot (λ k. slot_of (node_at nfa v.0) ≡ Some k)
     pub follows : (work : List Task)
         → Carries nfa x marks (ToExplore v ∷ work) slots marked
-        (ToExplore (pair_of begun.place) ∷ kept_onto begun.slot work) written
+        (ToExplore (pair_of place) ∷ kept_onto slot old work) written
     pub spent : marked.turns + marked_sum (weights nfa x) marks.bits
         ≤ marks.turns + marked_sum (weights nfa x) marked.bits
 
+  -- Nothing was found at v, and the marks pay for the tries. The slots are as later starts of this state may find them:
+  -- each writes what the first turn at v wrote.
+  pub record StartFails (v : Pair) (marks : Marks) (slots : Slots) (after : List Frame) (marked : Marks)
+      (written : Slots) : Type 0 where
+    pub empty : after ≡ []
+    pub follows : (at count : ℕ)
+        → Carries nfa x marks (ToExplore v ∷ starts_from v.0 at count) slots marked (starts_from v.0 at count) written
+    pub spent : marked.turns + marked_sum (weights nfa x) marks.bits
+        ≤ marks.turns + 1 + marked_sum (weights nfa x) marked.bits
+
   -- the result of the first turn, if one was taken
-  abbrev pub Begins : Pair → Option Begun → Marks → Slots → Marks → Slots → Type 0
-  Begins v None marks slots marked written = WalkFails nfa x v marks slots [] marked written
-  Begins v (Some begun) marks slots marked written = BeginsAt v begun marks slots marked written
+  abbrev pub Begins : Pair → Option StatePos → Marks → Slots → Marks → Slots → Type 0
+  Begins v None marks slots marked written = StartFails v marks slots [] marked written
+  Begins v (Some place) marks slots marked written = BeginsAt v place marks slots marked written
+
+  -- the result of a walk from a start v
+  abbrev pub StartGives : Pair → Option HalfMatch → Marks → Slots → List Frame → Marks → Slots → Type 0
+  StartGives v None marks slots after marked written = StartFails v marks slots after marked written
+  StartGives v (Some half) marks slots after marked written =
+      (work : List Task) → EndsAt nfa x half marks (ToExplore v ∷ work) slots written marked.turns

@@ -1,3 +1,4 @@
+pub mod Alternates
 pub mod Begin
 pub mod Bits
 pub mod Walk

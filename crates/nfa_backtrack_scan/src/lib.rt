@@ -5,6 +5,7 @@
 //! crate of its own and is proved in parallel with them.
 #![tactic(auto)]
 
+pub mod alternates;
 pub mod byte_loop;
 pub mod frame;
 pub mod scan;

@@ -12,7 +12,7 @@ ghost use Rattle.regex_search_core.specs.Search.{Search};
 ghost use Rattle.nfa_paths.specs.Paths.{byte_at};
 ghost use Rattle.nfa_paths.specs.Exploring.{Task};
 ghost use Rattle.nfa_paths.specs.Turns.{marked_sum};
-ghost use Rattle.nfa_backtrack_scan.specs.Begin.{Begins, IsPutBack};
+ghost use Rattle.nfa_backtrack_scan.specs.Begin.{Begins, StartGives};
 ghost use Rattle.nfa_scan_core.specs.Marks.{Marks};
 ghost use Rattle.nfa_backtrack_scan.specs.Walk.{pair_of, stacked, restoring, move_to, frame_tries, tries_of_move};
 ghost use Rattle.nfa_backtrack_scan.specs.Walk.{tries_of_state_pos, tries_of_outcome, with_state_pos, WritesSlot};
@@ -22,6 +22,7 @@ ghost use Rattle.nfa_backtrack_scan.specs.Walk.{weights};
 ghost use Rattle.nfa_backtrack_scan.specs.Walk.{IsAfforded};
 ghost use Rattle.nfa_backtrack_scan.specs.declared.frame.Frame.TheVariants.{Step};
 
+use crate::alternates::push_alternates;
 use crate::byte_loop::{byte_loop_at, run_loop};
 use crate::frame::{Frame, StatePos};
 use crate::scratch::Scratch;
@@ -73,23 +74,6 @@ fn assertion_holds(look: Look, haystack: &[u8], at: usize) -> bool
     look_matches(look, haystack, at)
 }
 
-/// Pushes all alternatives but the first, with the earliest on top.
-fn push_alternates(
-    stack: &mut Vec<Frame>,
-    alternates: &[StateID],
-    place: StatePos,
-) -> Result<(), Refused>
-    ensures { OnOk result (stack.new.items
-        ≡ stack.old.items ++ map (λ sid. Step sid place.at place.row) (reverse (drop 1 alternates.now))) }
-{
-    let mut left = alternates.len();
-    while left > 1 {
-        left -= 1;
-        stack.push(place.later(alternates[left]))?;
-    }
-    Ok(())
-}
-
 /// Writes the position to the slot, and pushes a frame that restores what the slot holds.
 #[inline(always)]
 fn save(
@@ -128,13 +112,6 @@ fn push_restore(
             Ok(())
         }
     }
-}
-
-/// The place at which a walk goes on after its first turn, and the slot that this turn wrote, if any.
-#[derive(Clone, Copy)]
-pub struct Begun {
-    place: StatePos,
-    slot: Option<usize>,
 }
 
 /// Takes one turn, or the turns of a loop over one byte: tries to mark the place, and returns where it leads.
@@ -197,7 +174,8 @@ fn step(
             let Some(first) = alternates.first() else {
                 return Ok(Move::DeadEnd);
             };
-            push_alternates(&mut scratch.stack, alternates, place)?;
+            let byte = byte_at(input, at);
+            push_alternates(nfa, &mut scratch.stack, alternates, place, byte)?;
             Ok(Move::On(place.to(*first)))
         }
         State::BinaryUnion { alt1, alt2 } => {
@@ -312,14 +290,6 @@ fn advance(
     }
 }
 
-/// Returns whether the slot is in the row and unset.
-#[inline(always)]
-fn is_unset(slots: &[Option<NonMaxUsize>], slot: usize) -> bool
-    ensures { result ≡ true → (slot < length slots.now) × (slice_index_or slots.now slot None ≡ None) }
-{
-    slot < slots.len() && slots[slot].is_none()
-}
-
 /// Writes the position to the slot.
 #[inline(always)]
 fn write(slots: &mut [Option<NonMaxUsize>], slot: usize, at: usize)
@@ -334,7 +304,10 @@ fn write(slots: &mut [Option<NonMaxUsize>], slot: usize, at: usize)
     slots[slot] = Some(offset);
 }
 
-/// Takes the first turn of a walk, if that writes a slot that is unset. Returns `None` if the place is already marked.
+/// Takes the first turn of a walk, if its state is a `Capture`, and returns the place that it leads to. Returns `None`
+/// if the place is already marked.
+///
+/// No frame restores the slot: a later start has the same state, and writes it again.
 #[inline(always)]
 fn begin(
     nfa: &NFA,
@@ -342,7 +315,7 @@ fn begin(
     place: StatePos,
     visited: &mut Visited,
     slots: &mut [Option<NonMaxUsize>],
-) -> Option<Begun>
+) -> Option<StatePos>
     requires place { IsStatePos nfa.now (search_of input.now) place }
     requires room { HasBits nfa.now (search_of input.now) visited.old.bits }
     ensures size { length visited.new.bits ≡ length visited.old.bits }
@@ -351,36 +324,20 @@ fn begin(
 {
     match state_at(nfa, nfa.states(), place.sid) {
         State::Capture { next, slot } => {
-            if !is_unset(slots, *slot) {
-                return Some(Begun { place, slot: None });
-            }
             if !mark(nfa, input, place, visited) {
                 return None;
             }
-            write(slots, *slot, place.at);
-            Some(Begun {
-                place: place.to(*next),
-                slot: Some(*slot),
-            })
+            if *slot < slots.len() {
+                write(slots, *slot, place.at);
+            }
+            Some(place.to(*next))
         }
-        _ => Some(Begun { place, slot: None }),
+        _ => Some(place),
     }
 }
 
-/// Unsets the slot again, if one was written.
-#[inline(always)]
-fn put_back(slot: Option<usize>, slots: &mut [Option<NonMaxUsize>])
-    requires { ForSome slot (λ k. k < length slots.old) }
-    ensures { IsPutBack slot slots.old slots.new }
-{
-    match slot {
-        Some(written) => slots[written] = None,
-        None => {}
-    }
-}
-
-/// Searches from a place to the first match, skips marked pairs, and leaves the stack empty. A slot that its first turn
-/// writes needs no frame on the stack.
+/// Searches from a start to the first match, skips marked pairs, and leaves the stack empty. If there is no match, the
+/// slot that the first turn wrote stays written.
 pub fn walk(
     nfa: &NFA,
     input: &Input<'_>,
@@ -395,21 +352,18 @@ pub fn walk(
     ensures size { length scratch.new.visited.bits ≡ length scratch.old.visited.bits }
     ensures bounded { scratch.new.visited.turns + marked_sum (weights nfa.now (search_of input.now))
         scratch.old.visited.bits ≤ scratch.old.visited.turns + 1 + sum (weights nfa.now (search_of input.now)) }
-    ensures walks { IfOk result (λ half. Walks nfa.now (search_of input.now) (pair_of start) half scratch.old.visited
-        slots.old scratch.new.stack.items scratch.new.visited slots.new) }
+    ensures walks { IfOk result (λ half. StartGives nfa.now (search_of input.now) (pair_of start) half
+        scratch.old.visited slots.old scratch.new.stack.items scratch.new.visited slots.new) }
     ensures over { OnOk result (scratch.new.stack.items ≡ []) }
 {
     match begin(nfa, input, start, &mut scratch.visited, slots) {
         None => Ok(None),
-        Some(begun) => match walk_on(nfa, input, begun.place, scratch, slots)? {
+        Some(place) => match walk_on(nfa, input, place, scratch, slots)? {
             Some(half) => {
                 scratch.stack.clear();
                 Ok(Some(half))
             }
-            None => {
-                put_back(begun.slot, slots);
-                Ok(None)
-            }
+            None => Ok(None),
         },
     }
 }

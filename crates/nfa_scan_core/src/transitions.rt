@@ -66,23 +66,42 @@ fn first_target_of_two(first: &Transition, second: &Transition, byte: u8) -> Opt
     }
 }
 
+/// The target of the first transition whose range has the byte. It is a function of its own and marked cold, so that
+/// its loop takes no registers from the walk.
+#[cold]
+#[inline(never)]
+fn first_target_of_many(transitions: &[Transition], byte: u8) -> Option<StateID>
+    ensures { result ≡ first_target transitions.now byte }
+{
+    // Four ranges are tested before the loop: this takes less than the call costs.
+    let [first, second, third, fourth, rest @ ..] = transitions else {
+        return first_target(transitions, byte);
+    };
+    if let Some(sid) = first_target_of_two(first, second, byte) {
+        return Some(sid);
+    }
+    if let Some(sid) = first_target_of_two(third, fourth, byte) {
+        return Some(sid);
+    }
+    first_target(rest, byte)
+}
+
 /// Returns the target of a `Sparse` on the byte: that of the first transition whose range has the byte.
 pub fn sparse_target(transitions: &[Transition], byte: Option<u8>) -> Option<StateID>
     ensures { result ≡ option_and_then (target_on (Sparse transitions.now)) byte }
 {
     let byte = byte?;
-    // Most classes have two or three ranges. These are tested without a loop.
-    match transitions {
-        [first, second, third] => {
-            if holds(first, byte) {
-                Some(first.next)
-            } else {
-                first_target_of_two(second, third, byte)
-            }
+    // Most classes have two or three ranges. These are tested without a loop and without a call.
+    if let [first, second, third] = transitions {
+        if holds(first, byte) {
+            return Some(first.next);
         }
-        [first, second] => first_target_of_two(first, second, byte),
-        _ => first_target(transitions, byte),
+        return first_target_of_two(second, third, byte);
     }
+    if let [first, second] = transitions {
+        return first_target_of_two(first, second, byte);
+    }
+    first_target_of_many(transitions, byte)
 }
 
 /// Returns the target of a `Dense` on the byte.

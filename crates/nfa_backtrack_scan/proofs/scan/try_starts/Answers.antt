@@ -63,9 +63,8 @@ loop-at-preserved c =
     let here : c.loop-at.at < c.start_limit-limit.result = c.loop-at-test.true in
     let follows = rw (pairs_from-step c.in-Some.sid here) at c.loop-at.invariant.follows in
     let fails = rw (c.in_default-2.is, c.state_pos_at-place.ensures.pair) at c.in_ok-half.ensures.walks in
-    let rest = map Explore (pairs_from c.in-Some.sid (c.loop-at.at + 1)
-    (c.start_limit-limit.result - (c.loop-at.at + 1))) in
-    let walked = Carries-then c.args.nfa.now (search_of c.args.input.now) follows (fails.follows rest) in
+    let walked = Carries-then c.args.nfa.now (search_of c.args.input.now) follows
+    (fails.follows (c.loop-at.at + 1) (c.start_limit-limit.result - (c.loop-at.at + 1))) in
     let next = c.next_start-at-in-loop-at.ensures in
     record {
       follows = Carries-then c.args.nfa.now (search_of c.args.input.now) walked

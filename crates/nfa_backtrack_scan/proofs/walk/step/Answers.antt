@@ -1,5 +1,5 @@
 -- Where a turn leads, for each kind of state; its mark pays for what it pushes.
-use Rattle.std.proofs.Common.{[], ◌<◌, ◌∙◌, length, arith, refl, sym}
+use Rattle.std.proofs.Common.{[], ◌<◌, ◌∙◌, length, drop, arith, refl, sym}
 use Rattle.std.specs.Prelude.{None}
 use Rattle.regex_search_core.specs.Search.{search_of}
 use Rattle.nfa_backtrack_scan.specs.Walk.{pair_of, TurnsLead}
@@ -7,11 +7,13 @@ use Rattle.nfa_backtrack_scan.specs.declared.frame.Frame.TheVariants.{Step}
 use Rattle.thompson_nfa.specs.Automaton.Node.{ByteRange, Sparse, Dense, Look, Union, BinaryUnion, Capture}
 use Rattle.nfa_backtrack_scan.proofs.WalkLemmas.{Fails-at}
 use Rattle.nfa_backtrack_scan.proofs.StepLemmas.{same_size, first-drop, PaidFor-leads, PaidFor-same, PaidFor-push}
-use Rattle.nfa_backtrack_scan.proofs.StepLemmas.{PaidFor-put, Goes-leads, Goes-look, Goes-no_look}
-use Rattle.nfa_backtrack_scan.proofs.StepLemmas.{Goes-union, Goes-no_union, Goes-both, Goes-write, Goes-unkept}
+use Rattle.nfa_backtrack_scan.proofs.StepLemmas.{Goes-leads, Goes-look, Goes-no_look}
+use Rattle.nfa_backtrack_scan.proofs.StepLemmas.{Goes-no_union, Goes-both, Goes-write, Goes-unkept}
 use Rattle.nfa_backtrack_scan.proofs.StepLemmas.{Goes-match, IsFrame-restoring, tries-restoring}
-use Rattle.nfa_backtrack_scan.proofs.ByteLoopLemmas.{OnErr-always, IsAfforded-turn, IsAfforded-then, TurnsLead-marked, TurnsLead-then}
-use Rattle.nfa_backtrack_scan.proofs.ByteLoopLemmas.{TurnsLead-union}
+use Rattle.nfa_backtrack_scan.proofs.ByteLoopLemmas.{OnErr-always, IsAfforded-turn, IsAfforded-then}
+use Rattle.nfa_backtrack_scan.proofs.ByteLoopLemmas.{TurnsLead-marked, TurnsLead-then, TurnsLead-union}
+use Rattle.nfa_backtrack_scan.proofs.AlternateLemmas.{PaidFor-live, Goes-live}
+use Rattle.nfa_backtrack_scan.specs.Alternates.{PushesLive}
 use Rattle.nfa_backtrack_scan.proofs.walk.step.Goals as goal
 use Rattle.nfa_backtrack_scan.proofs.walk.step.Goals.{then-slot-slots+in_ok-save-in-Capture, else-slot-slots}
 
@@ -166,14 +168,26 @@ returns-in_default-clause-goes c =
     let none = sym (rw c.deref-in-Union.ensures.value at c.in_default.ensures.value) in
     λ work. Goes-no_union t c.in-Union.alternates.items is _ none _
 
+pub push_alternates-requires : goal.push_alternates-requires
+push_alternates-requires c =
+    let below = rw c.in-Union.is at c.state_at.ensures.leads in
+    rw c.deref-in-Union-2.ensures.value below
+
+-- the alternatives that were pushed
+pushes : (c : goal.After-to-in-Union)
+    → PushesLive c.args.nfa.now (search_of c.args.input.now) c.args.place (drop 1 c.in-Union.alternates.items)
+    c.args.scratch.now.stack.items c.push_alternates.new.stack.items
+pushes c =
+    rw c.deref-in-Union-2.ensures.value at
+    (c.in_ok-push_alternates-in-Union.ensures (search_of c.args.input.now) c.requires.place c.byte_at-byte.ensures)
+
 pub returns-in_ok-push_alternates-in-Union-clause-paid : goal.returns-in_ok-push_alternates-in-Union-clause-paid
 returns-in_ok-push_alternates-in-Union-clause-paid c =
     let t = c.mark-in-Union.ensures.taken c.if-not-mark-2.false in
     let is = rw c.in-Union.is at c.state_at.ensures.node in
-    let below = rw c.in-Union.is at c.state_at.ensures.leads in
     let first = sym (rw c.deref-in-Union.ensures.value at c.in-Some.ensures.value) in
-    rw (c.in_ok-push_alternates-in-Union.ensures, c.deref-in-Union-2.ensures.value)
-    (PaidFor-put t c.in-Union.alternates.items is _ _ _ first _ c.requires.place.row c.requires.within below)
+    PaidFor-live c.args.nfa.now (search_of c.args.input.now) t c.in-Union.alternates.items is _ first (pushes c) _
+    c.requires.within
 
 pub returns-in_ok-push_alternates-in-Union-clause-goes : goal.returns-in_ok-push_alternates-in-Union-clause-goes
 returns-in_ok-push_alternates-in-Union-clause-goes c =
@@ -185,8 +199,8 @@ returns-in_ok-push_alternates-in-Union-clause-goes c =
     let state : c.in-Some.first.now < length c.args.nfa.now.states = (rw split at below) 0 0 (omega arith) in
     rw c.to-in-Union.ensures (
       record { state = state; from = c.requires.place.from; to = c.requires.place.to; row = c.requires.place.row },
-      λ work. rw (c.in_ok-push_alternates-in-Union.ensures, c.deref-in-Union-2.ensures.value)
-          (Goes-union t c.in-Union.alternates.items is c.args.slots.now _ first c.args.scratch.now.stack.items work _),
+      λ work. Goes-live c.args.nfa.now (search_of c.args.input.now) t c.in-Union.alternates.items is _ first (pushes c)
+          c.args.slots.now work,
     )
 
 pub returns-in_err-push_alternates-in-Union-clause-refused : goal.returns-in_err-push_alternates-in-Union-clause-refused

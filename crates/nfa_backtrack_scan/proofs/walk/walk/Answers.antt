@@ -1,10 +1,10 @@
--- A walk is its first turn and the rest. If the rest finds nothing, the slot of the first turn is unset again.
+-- A walk is its first turn and the rest.
 use Rattle.std.proofs.Common.{arith}
 use Rattle.regex_search_core.specs.Search.{search_of}
 use Rattle.nfa_paths.proofs.TurnLemmas.{marked_sum-le}
-use Rattle.nfa_backtrack_scan.specs.Begin.{kept_onto}
+use Rattle.nfa_backtrack_scan.specs.Begin.{kept_onto, starts_from}
 use Rattle.nfa_backtrack_scan.specs.Walk.{weights}
-use Rattle.nfa_backtrack_scan.proofs.BeginLemmas.{Carries-put_back}
+use Rattle.nfa_backtrack_scan.proofs.BeginLemmas.{Carries-kept}
 use Rattle.nfa_backtrack_scan.proofs.WalkLemmas.{Carries-then, EndsAt-along}
 use Rattle.nfa_backtrack_scan.proofs.walk.walk.Goals as goal
 
@@ -23,7 +23,7 @@ returns-in-Some-2-clause-walks c = λ work.
     let goes = rw c.in-Some.is at c.begin.ensures.begins in
     let walks = rw c.in-Some-2.is at c.in_ok-half-in-Some.ensures.walks in
     EndsAt-along c.args.nfa.now (search_of c.args.input.now) (goes.follows work)
-    (walks (kept_onto c.in-Some.begun.slot work))
+    (walks (kept_onto goes.slot goes.old work))
 
 pub returns-in-None-2-clause-walks : goal.returns-in-None-2-clause-walks
 returns-in-None-2-clause-walks c =
@@ -31,11 +31,12 @@ returns-in-None-2-clause-walks c =
     let fails = rw c.in-None-2.is at c.in_ok-half-in-Some.ensures.walks in
     record {
       empty = fails.empty;
-      follows = λ work.
+      follows = λ at count.
+          let rest = starts_from c.args.start.sid at count in
           Carries-then c.args.nfa.now (search_of c.args.input.now)
-          (Carries-then c.args.nfa.now (search_of c.args.input.now) (goes.follows work)
-          (fails.follows (kept_onto c.in-Some.begun.slot work)))
-          (Carries-put_back c.args.nfa.now (search_of c.args.input.now) c.walk_on.new.scratch.visited work
-          c.in-Some.begun.slot c.walk_on.new.slots c.put_back.new.slots c.put_back.ensures);
+          (Carries-then c.args.nfa.now (search_of c.args.input.now) (goes.follows rest)
+          (fails.follows (kept_onto goes.slot goes.old rest)))
+          (Carries-kept c.args.nfa.now (search_of c.args.input.now) c.walk_on.new.scratch.visited c.args.start.sid at
+          count goes.slot goes.old c.walk_on.new.slots goes.own);
       spent = omega (arith, goes.spent, fails.spent);
     }

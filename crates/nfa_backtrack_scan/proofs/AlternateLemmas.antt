@@ -1,0 +1,117 @@
+-- Alternatives that are pushed, and those that lead nowhere.
+use Rattle.std.proofs.Common.{◌≡◌, ℕ, ◌+◌, ◌<◌, inl, inr, List, [], ◌∷◌, ◌++◌, length, map, drop, refl, ap, arith}
+use Rattle.std.specs.Prelude.{Some, None, false, Bool, All}
+use Rattle.std.specs.List.{slice_get, sum_by}
+use Rattle.std.proofs.lemmas.List.Elements.{All-push}
+use Rattle.std.proofs.lemmas.List.Sums.{sum_by_push}
+use Rattle.regex_search_core.specs.Search.{Search}
+use Rattle.thompson_nfa.specs.Automaton.{Automaton}
+use Rattle.thompson_nfa.specs.Automaton.Node.{Capture, Union}
+use Rattle.nfa_paths.specs.FirstPaths.{Path}
+use Rattle.nfa_paths.specs.FirstPaths.Path.{stop, go}
+use Rattle.nfa_paths.specs.Graphs.{Pair}
+use Rattle.nfa_paths.specs.Paths.{edges_of}
+use Rattle.nfa_paths.specs.Exploring.{Slots, Task, ExploresTo}
+use Rattle.nfa_paths.specs.Exploring.Task.{Explore}
+use Rattle.nfa_scan_core.specs.Marks.{Marks}
+use Rattle.nfa_backtrack_scan.specs.Walk.{frame_tries, stacked, IsFrame, IsByteStep, IsStatePos, PaidFor, Carries}
+use Rattle.nfa_backtrack_scan.specs.Walk.{Taken, WalkAnswer}
+use Rattle.nfa_backtrack_scan.specs.Alternates.{IsDeadEnd, Stands, PushesLive}
+use Rattle.nfa_backtrack_scan.specs.declared.frame.StatePos.{StatePos}
+use Rattle.nfa_backtrack_scan.specs.declared.frame.Frame.{Frame}
+use Rattle.nfa_backtrack_scan.specs.declared.frame.Frame.TheVariants.{Step}
+use Rattle.nfa_backtrack_scan.proofs.StepLemmas.{first-drop, reads-plain, stacked-push, step-edges, Goes-edges}
+use Rattle.nfa_backtrack_scan.proofs.StepLemmas.{PaidFor-step}
+use Rattle.nfa_backtrack_scan.proofs.WalkLemmas.{node_at-get, no_path, Carries-then}
+
+-- no path leads on from a pair whose only edge leads nowhere
+no_path-along : (edges : Pair → List Pair) (target : Pair → Bool) {v w : Pair} {p : List Pair} → target v ≡ false
+    → edges v ≡ w ∷ [] → ((q : List Pair) → Path edges target w q → ⊥) → Path edges target v p → ⊥
+no_path-along edges target plain one dead (stop t) = cc (t, plain)
+no_path-along edges target plain one dead (go {p = r} f i n q) =
+    elim (rw one at i) [ inl e ↦ dead r (rw e at q) | inr none ↦ absurd none ]
+
+module _ (nfa : Automaton) (x : Search) where
+  -- a byte state that refuses the byte
+  pub IsDeadEnd-byte : (s at : ℕ) → IsByteStep nfa x (s, at) None → IsDeadEnd nfa x (s, at)
+  IsDeadEnd-byte s at b p =
+      let node = node_at-get nfa x s b.node b.is in
+      no_path _ _ (rw (node, reads-plain b.node b.reads) refl) (rw node (step-edges nfa x s at None b))
+
+  -- a Capture before one
+  pub IsDeadEnd-capture : (s at next slot : ℕ) → slice_get nfa.states s ≡ Some (Capture next slot)
+      → IsDeadEnd nfa x (next, at) → IsDeadEnd nfa x (s, at)
+  unfolding edges_of
+  IsDeadEnd-capture s at next slot is dead p =
+      let node = node_at-get nfa x s (Capture next slot) is in
+      no_path-along _ _ (rw node refl) (rw node refl) dead
+
+  -- work with the same first pair
+  Stands-after : (v : Pair) (work shorter : List Task) → Stands nfa x work shorter
+      → Stands nfa x (Explore v ∷ work) (Explore v ∷ shorter)
+  unfolding ExploresTo
+  Stands-after v work shorter stands left pairs slots g h =
+      elim h [ inl hit ↦ inl hit | inr later ↦ inr (later.0, stands left pairs slots g later.1) ]
+
+  -- a dead end as the first pair
+  Stands-dead : (v : Pair) (work shorter : List Task) → IsDeadEnd nfa x v → Stands nfa x work shorter
+      → Stands nfa x (Explore v ∷ work) shorter
+  unfolding ExploresTo
+  Stands-dead v work shorter dead stands left pairs slots g h = inr (λ p way. dead p way.path, stands left pairs slots g h)
+
+  pub PushesLive-none : (place : StatePos) (stack : List Frame) → PushesLive nfa x place [] stack stack
+  PushesLive-none place stack = record {
+    within = λ count all. all;
+    tried = omega arith;
+    follows = λ work left pairs slots g h. h;
+  }
+
+  module _ {place : StatePos} {rest : List ℕ} {stack after : List Frame} (l : PushesLive nfa x place rest stack after)
+      (s : ℕ) where
+    pub PushesLive-dead : IsDeadEnd nfa x (s, place.at) → PushesLive nfa x place (s ∷ rest) stack after
+    PushesLive-dead dead = record {
+      within = l.within;
+      tried = omega (arith, l.tried);
+      follows = λ work. Stands-dead (s, place.at) _ _ dead (l.follows work);
+    }
+
+    pub PushesLive-push : s < length nfa.states → IsStatePos nfa x place
+        → PushesLive nfa x place (s ∷ rest) stack (after ++ Step s place.at place.row ∷ [])
+    PushesLive-push below p = record {
+      within = λ count all.
+          All-push (IsFrame nfa x count) after (Step s place.at place.row) (l.within count all)
+          (record { state = below; from = p.from; to = p.to; row = p.row });
+      tried = omega (arith, l.tried, sum_by_push frame_tries after (Step s place.at place.row));
+      follows = λ work.
+          rw (stacked-push after (Step s place.at place.row) work) (Stands-after (s, place.at) _ _ (l.follows work));
+    }
+
+  -- the same marks and slots, with less work
+  Carries-stands : (m : Marks) (work shorter : List Task) (slots : Slots) → Stands nfa x work shorter
+      → Carries nfa x m work slots m shorter slots
+  unfolding WalkAnswer
+  Carries-stands m work shorter slots stands = record {
+    grows = omega arith;
+    back = λ left more g e h pairs agrees.
+        let same : more ≡ left = omega arith in rw same (stands left pairs slots g (h pairs agrees));
+  }
+
+  -- the turn at a union
+  module _ {place : StatePos} {m n : Marks} (t : Taken nfa x (place.sid, place.at) m n) (alternates : List ℕ)
+      (is : slice_get nfa.states place.sid ≡ Some (Union alternates)) (f : ℕ) (first : slice_get alternates 0 ≡ Some f)
+      {stack after : List Frame} (l : PushesLive nfa x place (drop 1 alternates) stack after) where
+    pub PaidFor-live : (count : ℕ) → All (IsFrame nfa x count) stack → PaidFor nfa x count stack m after n 1
+    PaidFor-live count within =
+        PaidFor-step t (Union alternates) is count stack after 1 (l.within count within)
+        (omega (arith, l.tried, ap length (first-drop alternates f first)))
+
+    pub Goes-live : (slots : Slots) (work : List Task)
+        → Carries nfa x m (Explore (place.sid, place.at) ∷ stacked stack work) slots n
+        (Explore (f, place.at) ∷ stacked after work) slots
+    unfolding edges_of
+    Goes-live slots work =
+        Carries-then nfa x
+        (Goes-edges t (Union alternates) is refl refl
+        ((f, place.at) ∷ map (λ q. (q, place.at)) (drop 1 alternates))
+        (ap (map (λ q. (q, place.at))) (first-drop alternates f first)) (stacked stack work) slots)
+        (Carries-stands n _ _ slots (Stands-after (f, place.at) _ _ (l.follows work)))
