@@ -10,9 +10,10 @@ ghost use Rattle.nfa_search_base.specs.declared.error.SearchError.{SearchError};
 use crate::asking::{ask, ask_with};
 use crate::error::SearchError;
 use crate::iter::captures_items::{captures_item, captures_span};
-use crate::iter::place::{half_match_span, match_span};
-use regex_search_core::{Captures, HalfMatch, Input, Match, Span};
-use std::marker::Model;
+use crate::iter::place::answer_span;
+use crate::iter::spanned::Spanned;
+use regex_search_core::{Captures, Input, Span};
+use std::marker::{Model, PhantomData};
 
 /// A finder that an iteration owns, which answers its searches. The iterators over a stored finder are built on it.
 /// Callers of these iterators do not need it.
@@ -55,110 +56,52 @@ pub trait Find: Drop {
         ensures found { ComesOfMatch (shows self.now reply) result };
 }
 
-// A finder of matches.
+// A finder of matches or half matches.
 #[derive(Drop)]
-pub(crate) struct OnMatches<F> {
+pub(crate) struct OnFound<F, M> {
     pub(crate) finder: F,
+    pub(crate) found: PhantomData<M>,
 }
 
-impl<F> Model for OnMatches<F> {
+impl<F, M> Model for OnFound<F, M> {
     ghost Value = { F };
 
     ghost view = { λ a. a.finder };
 }
 
-impl<F> Find for OnMatches<F>
+impl<F, M: Spanned> Find for OnFound<F, M>
 where
-    F: FnMut(&Input<'_>) -> Result<Option<Match>, SearchError>,
+    F: FnMut(&Input<'_>) -> Result<Option<M>, SearchError>,
 {
-    ghost use Rattle.regex_search_core.specs.Found.{Found, found_of};
     ghost use Rattle.nfa_search_base.specs.Asking.{IsCallableOn};
     ghost use Rattle.nfa_search_base.specs.Finders.{Finds, answer_by};
     ghost use Rattle.nfa_search_base.specs.Steps.{GivesItem};
-    ghost use Rattle.nfa_search_base.specs.IterStates.{span_of};
 
-    type Reply = Result<Option<Match>, SearchError>;
+    type Reply = Result<Option<M>, SearchError>;
 
-    ghost Value = { Found };
+    ghost Value = { M.Value };
 
-    ghost shows = { λ _ reply. answer_by found_of reply };
+    ghost shows = { λ _ reply. answer_by M.value reply };
 
-    ghost span = { span_of };
-
-    ghost accepts = { IsCallableOn F.FnMut };
-
-    ghost asks = { Finds found_of F.FnMut };
-
-    type Item = Match;
-
-    ghost gives = { λ _. GivesItem found_of };
-
-    fn answer(&mut self, input: &Input<'_>) -> Result<Option<Match>, SearchError> {
-        ask(&mut self.finder, input)
-    }
-
-    fn place(&self, reply: Result<Option<Match>, SearchError>) -> Option<Span> {
-        match_span(reply)
-    }
-
-    fn item(
-        &self,
-        reply: Result<Option<Match>, SearchError>,
-    ) -> Option<Result<Match, SearchError>> {
-        reply.transpose()
-    }
-}
-
-// A finder of half matches.
-#[derive(Drop)]
-pub(crate) struct OnHalfMatches<F> {
-    pub(crate) finder: F,
-}
-
-impl<F> Model for OnHalfMatches<F> {
-    ghost Value = { F };
-
-    ghost view = { λ a. a.finder };
-}
-
-impl<F> Find for OnHalfMatches<F>
-where
-    F: FnMut(&Input<'_>) -> Result<Option<HalfMatch>, SearchError>,
-{
-    ghost use Rattle.regex_search_core.specs.Found.{HalfFound, half_found_of};
-    ghost use Rattle.nfa_search_base.specs.Asking.{IsCallableOn};
-    ghost use Rattle.nfa_search_base.specs.Finders.{Finds, answer_by};
-    ghost use Rattle.nfa_search_base.specs.Steps.{GivesItem};
-    ghost use Rattle.nfa_search_base.specs.IterStates.{half_span_of};
-
-    type Reply = Result<Option<HalfMatch>, SearchError>;
-
-    ghost Value = { HalfFound };
-
-    ghost shows = { λ _ reply. answer_by half_found_of reply };
-
-    ghost span = { half_span_of };
+    ghost span = { M.span };
 
     ghost accepts = { IsCallableOn F.FnMut };
 
-    ghost asks = { Finds half_found_of F.FnMut };
+    ghost asks = { Finds M.value F.FnMut };
 
-    type Item = HalfMatch;
+    type Item = M;
 
-    ghost gives = { λ _. GivesItem half_found_of };
+    ghost gives = { λ _. GivesItem M.value };
 
-    fn answer(&mut self, input: &Input<'_>) -> Result<Option<HalfMatch>, SearchError> {
+    fn answer(&mut self, input: &Input<'_>) -> Result<Option<M>, SearchError> {
         ask(&mut self.finder, input)
     }
 
-    fn place(&self, reply: Result<Option<HalfMatch>, SearchError>) -> Option<Span> {
-        half_match_span(reply)
+    fn place(&self, reply: Result<Option<M>, SearchError>) -> Option<Span> {
+        answer_span(reply)
     }
 
-    fn item(
-        &self,
-        reply: Result<Option<HalfMatch>, SearchError>,
-    ) -> Option<Result<HalfMatch, SearchError>> {
+    fn item(&self, reply: Result<Option<M>, SearchError>) -> Option<Result<M, SearchError>> {
         reply.transpose()
     }
 }

@@ -2,9 +2,9 @@
 ghost use Rattle.nfa_search_base.specs.LastEnd.{EndsBy};
 
 use crate::error::SearchError;
-use crate::iter::by_ref::{ByRefHalfMatches, ByRefMatches};
+use crate::iter::by_ref::ByRef;
 use crate::iter::finder::Find;
-use crate::iter::place::match_span;
+use crate::iter::place::answer_span;
 use crate::iter::searches::FindWith;
 use regex_search_core::{HalfMatch, Input, Match, Span};
 use std::alloc::AllocError;
@@ -110,7 +110,7 @@ impl<'h> Searcher<'h> {
         ensures fewer { LeavesFewer (iter_state_of self.old) (offered_span result) (iter_state_of self.new) }
         ensures same { SameButStart (iter_state_of self.old).at (iter_state_of self.new).at }
     {
-        let place = match_span(Ok(answer));
+        let place = answer_span(Ok(answer));
         if self.moves_on(place) {
             return Offered::Again;
         }
@@ -170,7 +170,7 @@ impl<'h> Searcher<'h> {
         ensures fewer { LeavesFewer (iter_state_of self.old) (match_span result) (iter_state_of self.new) }
         ensures same { SameButStart (iter_state_of self.old).at (iter_state_of self.new).at }
     {
-        self.step_with(&mut ByRefMatches::new(), finder)
+        self.step_with(&mut ByRef::new(), finder)
     }
 
     /// Returns the next match of a finder that never fails, by the step of [`Searcher::try_advance`]. Requires also
@@ -277,7 +277,7 @@ impl<'h> Searcher<'h> {
         ensures fewer { LeavesFewer (iter_state_of self.old) (half_match_span result) (iter_state_of self.new) }
         ensures same { SameButStart (iter_state_of self.old).at (iter_state_of self.new).at }
     {
-        self.step_with(&mut ByRefHalfMatches::new(), finder)
+        self.step_with(&mut ByRef::new(), finder)
     }
 
     /// Returns the next half match of a finder that never fails, by the step of [`Searcher::try_advance_half`].
