@@ -18,7 +18,6 @@
 mod by_ref;
 pub mod captures_items;
 mod captures_matches;
-mod finder;
 mod found_iter;
 pub mod laws;
 pub mod match_items;

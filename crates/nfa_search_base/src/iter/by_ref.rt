@@ -1,12 +1,13 @@
 //! Finders that an iteration borrows for each call.
 
-use crate::asking::ask;
+use crate::asking::{ask, ask_with};
 use crate::error::SearchError;
+use crate::iter::captures_items::{captures_item, captures_span};
 use crate::iter::place::answer_span;
 use crate::iter::searches::FindWith;
 use crate::iter::spanned::Spanned;
-use regex_search_core::{Input, Span};
-use std::marker::PhantomData;
+use regex_search_core::{Captures, Input, Span};
+use std::marker::{Model, PhantomData};
 
 // A finder of matches or half matches that is borrowed for each call.
 #[derive(Drop)]
@@ -30,7 +31,7 @@ where
 {
     ghost use Rattle.nfa_search_base.specs.Asking.{IsCallableOn};
     ghost use Rattle.nfa_search_base.specs.Finders.{Finds, answer_by};
-    ghost use Rattle.nfa_search_base.specs.WithCache.{accepts_by_ref, asks_by_ref};
+    ghost use Rattle.nfa_search_base.specs.WithCache.{accepts_whole, asks_whole, only_cache};
     ghost use Rattle.nfa_search_base.specs.Steps.{GivesItem};
 
     type Cache = F;
@@ -43,13 +44,13 @@ where
 
     ghost span = { M.span };
 
-    ghost accepts = { accepts_by_ref (IsCallableOn F.FnMut) };
+    ghost accepts = { accepts_whole only_cache (IsCallableOn F.FnMut) };
 
     type Item = M;
 
     ghost gives = { λ _. GivesItem M.value };
 
-    ghost asks = { asks_by_ref (Finds M.value F.FnMut) };
+    ghost asks = { asks_whole only_cache (Finds M.value F.FnMut) };
 
     fn answer(&mut self, finder: &mut F, input: &Input<'_>) -> Result<Option<M>, SearchError> {
         ask(finder, input)
@@ -61,5 +62,72 @@ where
 
     fn item(&self, reply: Result<Option<M>, SearchError>) -> Option<Result<M, SearchError>> {
         reply.transpose()
+    }
+}
+
+// A finder of captures that is borrowed for each call, and the captures that it fills.
+#[derive(Drop)]
+pub(crate) struct FillByRef<F> {
+    pub(crate) captures: Captures,
+    finder: PhantomData<F>,
+}
+
+impl<F> FillByRef<F> {
+    ghost use Rattle.std.specs.Prelude.{◌≡◌};
+
+    pub(crate) fn new(captures: Captures) -> FillByRef<F>
+        ensures { result ≡ captures }
+    {
+        FillByRef {
+            captures,
+            finder: PhantomData,
+        }
+    }
+}
+
+impl<F> Model for FillByRef<F> {
+    ghost use Rattle.regex_search_core.specs.Slots.{Captured};
+
+    ghost Value = { Captured };
+
+    ghost view = { λ a. a.captures };
+}
+
+impl<F> FindWith for FillByRef<F>
+where
+    F: FnMut(&Input<'_>, &mut Captures) -> Result<(), SearchError>,
+{
+    ghost use Rattle.nfa_search_base.specs.WithCache.{accepts_whole, asks_whole};
+    ghost use Rattle.nfa_search_base.specs.WithCaptures.{Row, CanFill, Fills, filled_answer, row_span, GivesCopy};
+    ghost use Rattle.nfa_search_base.specs.WithCaptures.{with_finder};
+
+    type Cache = F;
+
+    type Reply = Result<(), SearchError>;
+
+    ghost Value = { Row };
+
+    ghost shows = { filled_answer };
+
+    ghost span = { row_span };
+
+    ghost accepts = { accepts_whole with_finder (CanFill F.FnMut) };
+
+    type Item = Captures;
+
+    ghost gives = { GivesCopy };
+
+    ghost asks = { asks_whole with_finder (Fills F.FnMut) };
+
+    fn answer(&mut self, finder: &mut F, input: &Input<'_>) -> Result<(), SearchError> {
+        ask_with(finder, input, &mut self.captures)
+    }
+
+    fn place(&self, reply: Result<(), SearchError>) -> Option<Span> {
+        captures_span(&self.captures, reply)
+    }
+
+    fn item(&self, reply: Result<(), SearchError>) -> Option<Result<Captures, SearchError>> {
+        captures_item(&self.captures, reply)
     }
 }

@@ -1,12 +1,12 @@
 //! Iterators over the matches or half matches of a stored finder.
 use crate::error::SearchError;
-use crate::iter::finder::OnFound;
+use crate::iter::by_ref::ByRef;
 use crate::iter::searcher::Searcher;
 use crate::iter::spanned::Spanned;
 use crate::iter::steps::Steps;
 use regex_search_core::{HalfMatch, Input, Match};
 use std::fmt;
-use std::marker::{Model, PhantomData};
+use std::marker::Model;
 
 /// An iterator over the matches of a finder, from left to right, by the steps of [`Searcher::try_advance`].
 ///
@@ -29,7 +29,8 @@ pub type HalfMatchesIter<'h, F> = FoundIter<'h, HalfMatch, F>;
 /// An iterator over what a finder finds: [`TryMatchesIter`] or [`TryHalfMatchesIter`].
 #[derive(Drop)]
 pub struct TryFoundIter<'h, M, F> {
-    steps: Steps<'h, OnFound<F, M>>,
+    steps: Steps<'h, ByRef<F, M>>,
+    finder: F,
 }
 
 impl<'h, M, F> Model for TryFoundIter<'h, M, F> {
@@ -37,7 +38,7 @@ impl<'h, M, F> Model for TryFoundIter<'h, M, F> {
 
     ghost Value = { Steps F };
 
-    ghost view = { λ i. i.steps };
+    ghost view = { λ i. record { searcher = i.steps.searcher; backend = i.finder; done = i.steps.done } };
 }
 
 impl<'h> Searcher<'h> {
@@ -154,12 +155,10 @@ impl<'h, M, F> TryFoundIter<'h, M, F> {
         TryFoundIter {
             steps: Steps {
                 searcher,
-                backend: OnFound {
-                    finder,
-                    found: PhantomData,
-                },
+                backend: ByRef::new(),
                 done: false,
             },
+            finder,
         }
     }
 
@@ -219,7 +218,7 @@ where
     ghost remaining = { steps_left };
 
     fn next(&mut self) -> Option<Result<M, SearchError>> {
-        self.steps.next()
+        self.steps.next_with(&mut self.finder)
     }
 }
 

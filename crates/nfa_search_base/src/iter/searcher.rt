@@ -3,7 +3,6 @@ ghost use Rattle.nfa_search_base.specs.LastEnd.{EndsBy};
 
 use crate::error::SearchError;
 use crate::iter::by_ref::ByRef;
-use crate::iter::finder::Find;
 use crate::iter::place::answer_span;
 use crate::iter::searches::FindWith;
 use regex_search_core::{HalfMatch, Input, Match, Span};
@@ -331,26 +330,7 @@ impl<'h> Searcher<'h> {
         }
     }
 
-    // Takes a step with a finder of the iteration.
-    pub(crate) fn step_by<A: Find>(&mut self, backend: &mut A) -> A::Reply
-        requires { ServesAdvance A.accepts A.asks A.span (AnswerIsInside A.span) backend.old (iter_state_of self.old) }
-        ensures { StepDone A.accepts A.asks A.span backend.old (iter_state_of self.old) (A.shows backend.new result)
-            backend.new
-            (iter_state_of self.new) }
-    {
-        let first = backend.answer(&self.input);
-        let place = backend.place(first);
-        if !self.moves_on(place) {
-            self.take(place);
-            return first;
-        }
-        let second = backend.answer(&self.input);
-        let place = backend.place(second);
-        self.take(place);
-        second
-    }
-
-    // Takes the same step, with a cache that is borrowed for each search.
+    // Takes a step by an engine, with a cache that is borrowed for each search.
     #[inline]
     pub(crate) fn step_with<A: FindWith>(
         &mut self,

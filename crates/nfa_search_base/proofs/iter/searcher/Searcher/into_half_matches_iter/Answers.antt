@@ -6,7 +6,7 @@ use Rattle.nfa_search_base.specs.Finders.{Finds}
 use Rattle.nfa_search_base.specs.IterStates.{half_span_of}
 use Rattle.nfa_search_base.specs.Stored.{steps_from}
 use Rattle.nfa_search_base.proofs.StoredLemmas.{try-yields}
-use Rattle.nfa_search_base.proofs.MayAnswerLemmas.{found-run, found-first, found-all, found-apart, found-next}
+use Rattle.nfa_search_base.proofs.MayAnswerLemmas.{found, found-apart}
 use Rattle.nfa_search_base.proofs.iter.searcher.Searcher.into_half_matches_iter.Goals as goal
 
 pub returns-clause-list : goal.returns-clause-list
@@ -16,15 +16,15 @@ returns-clause-list g c = λ h computes.
 
 pub returns-clause-runs : goal.returns-clause-runs
 returns-clause-runs g c =
-    rw c.new.ensures (found-run half_found_of half_span_of g.F.FnMut (steps_from c.args.self c.args.finder) refl)
+    rw c.new.ensures (found half_found_of half_span_of g.F.FnMut (steps_from c.args.self c.args.finder) refl).run
 
 pub returns-clause-first : goal.returns-clause-first
 returns-clause-first g c =
-    rw c.new.ensures (found-first half_found_of half_span_of g.F.FnMut (steps_from c.args.self c.args.finder) refl)
+    rw c.new.ensures (found half_found_of half_span_of g.F.FnMut (steps_from c.args.self c.args.finder) refl).first
 
 pub returns-clause-all : goal.returns-clause-all
 returns-clause-all g c =
-    rw c.new.ensures (found-all half_found_of half_span_of g.F.FnMut (steps_from c.args.self c.args.finder) refl)
+    rw c.new.ensures (found half_found_of half_span_of g.F.FnMut (steps_from c.args.self c.args.finder) refl).all
 
 pub returns-clause-apart : goal.returns-clause-apart
 returns-clause-apart g c =
@@ -33,4 +33,4 @@ returns-clause-apart g c =
 
 pub returns-clause-next : goal.returns-clause-next
 returns-clause-next g c =
-    rw c.new.ensures (found-next half_found_of half_span_of g.F.FnMut (steps_from c.args.self c.args.finder) refl)
+    rw c.new.ensures (found half_found_of half_span_of g.F.FnMut (steps_from c.args.self c.args.finder) refl).next
