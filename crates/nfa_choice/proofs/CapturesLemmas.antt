@@ -128,8 +128,8 @@ module _ {T : Type 0} (calls : T → Option (Result Captured SearchError) → T 
   -- all that its calls give
   stored_captures-given : CapturesGiven calls c.nfa (kind_in c) x.earliest Rows x s
   stored_captures-given =
-      captures-given c.nfa (kind_in c) x.earliest Rows (λ t o h. h) x AsksRowByRule Good (row-told c x) calls inner steps
-      s walk going holds.is
+      captures-given c.nfa (kind_in c) x.earliest Rows (λ t o h. h) x AsksRowByRule Good (row-told c x) calls inner
+      steps s walk going holds.is
       (groups-hold c.nfa AsksRowByRule (Holds c) (holds-after c) (holds-groups c) calls inner steps s holds)
 
   -- and no error but `Memory`

@@ -84,7 +84,8 @@ module _ {X : Type 0} (span : X → Span) where
 
     -- what the answer of a step gives first, if the items after a match are `rest`
     by_answer : (a : Answer X) (s : T) (rest : List (Item X))
-        → ((r : Option R) (t : T) → steps s r t → (option_map value r ≡ item_of a) × (done t ≡ ends_at (item_of a)) × Good t)
+        → ((r : Option R) (t : T) → steps s r t → (option_map value r ≡ item_of a)
+        × (done t ≡ ends_at (item_of a)) × Good t)
         → ((y : X) (x : R) (t : T) → a ≡ Ok (Some y) → steps s (Some x) t → AlwaysYields steps value t rest)
         → AlwaysYields steps value s (items_from span a rest)
     by_answer (Ok (Some y)) s rest now onward = (

@@ -50,12 +50,12 @@ module _ {A X F : Type 0} (view : A → X) (span : X → Span)
     pub found : Given (stored_match_steps view span g) First Whole s
     found = given (stored_match_steps view span g) First Whole s
         (λ xs t ran. record {
-          come = may-first (IsCallableOn g) (Finds view g) span (λ _. GivesItem view) view (Fails span) says s going xs t
-              ran;
+          come = may-first (IsCallableOn g) (Finds view g) span (λ _. GivesItem view) view (Fails span) says s going xs
+              t ran;
         })
         (λ xs t u ran st. record {
-          come = may-all (IsCallableOn g) (Finds view g) span (λ _. GivesItem view) view (Fails span) says s going xs t u
-              ran st;
+          come = may-all (IsCallableOn g) (Finds view g) span (λ _. GivesItem view) view (Fails span) says s going xs t
+              u ran st;
         })
 
     -- and so do those of the iterator whose finder never errs

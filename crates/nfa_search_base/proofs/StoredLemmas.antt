@@ -103,15 +103,15 @@ module _ {S C T X Y : Type 0} (whole : WithCache S C → T) (accepts : T → Sea
     takes-whole = of s.done st
       where
         of : (b : Bool)
-            → MatchBool b ((r ≡ None) × (t ≡ s)) (TakesStep span (asks_whole whole asks) (λ q. gives (whole q)) s.backend
-            (steps_iter_state s) r t.backend (steps_iter_state t) t.done)
+            → MatchBool b ((r ≡ None) × (t ≡ s)) (TakesStep span (asks_whole whole asks) (λ q. gives (whole q))
+            s.backend (steps_iter_state s) r t.backend (steps_iter_state t) t.done)
             → MatchBool b ((r ≡ None) × (steps_whole whole t ≡ steps_whole whole s)) (TakesStep span asks gives
             (whole s.backend) (steps_iter_state s) r (whole t.backend) (steps_iter_state t) t.done)
         of true k = (k.0, ap (steps_whole whole) k.1)
         of false k = record {
           answer = k.answer;
-          step = step-whole whole accepts asks span s.backend (steps_iter_state s) k.answer t.backend (steps_iter_state t)
-              k.step;
+          step = step-whole whole accepts asks span s.backend (steps_iter_state s) k.answer t.backend
+              (steps_iter_state t) k.step;
           item = k.item;
           ends = k.ends;
           rises = k.rises;

@@ -15,5 +15,5 @@ step_with-requires g c =
 
 pub returns-clause-step : goal.returns-clause-step
 returns-clause-step g c =
-    step-whole only_cache (IsCallableOn g.F.FnMut) (Finds found_of g.F.FnMut) span_of _ (iter_state_of c.args.self.now) _ _ _
-    c.step_with.ensures.step
+    step-whole only_cache (IsCallableOn g.F.FnMut) (Finds found_of g.F.FnMut) span_of _
+    (iter_state_of c.args.self.now) _ _ _ c.step_with.ensures.step

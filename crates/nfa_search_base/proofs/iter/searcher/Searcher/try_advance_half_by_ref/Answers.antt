@@ -10,11 +10,10 @@ use Rattle.nfa_search_base.proofs.iter.searcher.Searcher.try_advance_half_by_ref
 
 pub step_with-requires : goal.step_with-requires
 step_with-requires g c =
-    serves-whole only_cache (IsCallableOn g.F.FnMut) (Finds half_found_of g.F.FnMut) half_span_of (AnswerIsInside half_span_of) _
-    (iter_state_of c.args.self.now) c.requires
+    serves-whole only_cache (IsCallableOn g.F.FnMut) (Finds half_found_of g.F.FnMut) half_span_of
+    (AnswerIsInside half_span_of) _ (iter_state_of c.args.self.now) c.requires
 
 pub returns-clause-step : goal.returns-clause-step
 returns-clause-step g c =
     step-whole only_cache (IsCallableOn g.F.FnMut) (Finds half_found_of g.F.FnMut) half_span_of _
-    (iter_state_of c.args.self.now) _ _ _
-    c.step_with.ensures.step
+    (iter_state_of c.args.self.now) _ _ _ c.step_with.ensures.step
