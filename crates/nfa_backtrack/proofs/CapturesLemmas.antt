@@ -10,21 +10,21 @@ use Rattle.regex_search_core.specs.declared.search.MatchKind.TheVariants.{Leftmo
 use Rattle.nfa_paths.specs.Paths.{IsAnswer, IsWithinScans, IsWork, span_len}
 use Rattle.nfa_search_base.specs.CapturesGiven.{CapturesGiven}
 use Rattle.nfa_search_base.specs.WithCaptures.{WithCaptures, GivesCaptures, Row, filled_answer, row_of, row_span}
-use Rattle.nfa_search_base.specs.CapturesLists.{AreRows, HasGroups}
+use Rattle.nfa_search_base.specs.CapturesLists.{AnswersRow, AreRows, HasGroups}
 use Rattle.nfa_search_base.specs.CapturesRuns.{CapturesInside, match_in}
 use Rattle.nfa_search_base.specs.Drained.{CallsLead, DrainsAll, DrainsToError}
 use Rattle.nfa_search_base.specs.WithCache.{WithCache}
 use Rattle.nfa_search_base.specs.StepsWith.{steps_with_state, steps_with_iter_state}
-use Rattle.nfa_search_base.specs.Lists.{AreDisjoint, AreMatches}
+use Rattle.nfa_search_base.specs.Lists.{AreDisjoint, AreMatches, FailsOrIsRefused}
 use Rattle.nfa_search_base.specs.Stored.{can_step, steps_iter_state, takes_steps}
 use Rattle.nfa_search_base.specs.IterStates.{Answer, fresh, AnswerIsInside}
 use Rattle.nfa_search_base.specs.declared.error.SearchError.{SearchError}
 use Rattle.nfa_search_base.specs.declared.error.SearchError.TheVariants.{HaystackTooLong, Memory}
 use Rattle.nfa_search_base.specs.declared.iter.steps.Steps.{Steps}
 use Rattle.nfa_search_base.proofs.CapturesLemmas.{stored_captures-tells, row-lies}
-use Rattle.nfa_search_base.proofs.CapturesRunLemmas.{captures-memory, only-item}
+use Rattle.nfa_search_base.proofs.OkItemLemmas.{only-item}
 use Rattle.nfa_search_base.proofs.DrainedLemmas.{all-drained, error-drained}
-use Rattle.nfa_search_base.proofs.EngineLemmas.{captures-given, catcher-acts, catcher-goes, catcher-serves}
+use Rattle.nfa_search_base.proofs.EngineLemmas.{catcher-given, catcher-goes, catcher-memory, catcher-serves}
 use Rattle.nfa_search_base.proofs.LeavingLemmas.{all-to_end, calls-lead, catches-leave}
 use Rattle.nfa_backtrack.specs.Backtrack.{Backtracker, CountsAnswer, CountsRefusal, IsTooLong, BacktrackCache}
 use Rattle.nfa_backtrack.specs.CapturesMatches.{AsksBacktrackerRow, CatchesBySearches}
@@ -127,27 +127,23 @@ module _ (e : Backtracker) (x : Search) (s : TryCapturesMatches)
   -- the calls give the captures of the NFA
   pub catches-given : CapturesGiven backtrack_captures_next e.nfa LeftmostFirst false (IsTryCapturesAnswer e) x s
   catches-given =
-      captures-given (λ e. e.nfa) fits_always IsTryCapturesAnswer (λ e x a. SearchesOnce e x a)
-      (λ e x a old new work fits. tt)
-      backtrack_captures_next (λ q. steps_with_state (backtrack_captures q)) (λ a r b st. st.takes.step)
-      (λ q. q.holds) e
-      LeftmostFirst false (IsTryCapturesAnswer e) (λ t o h. h.1) x (λ t a same h. h) s engine walk going
+      catcher-given (λ e. e.nfa) fits_always IsTryCapturesAnswer (λ e x a. SearchesOnce e x a)
+      (λ e x a old new work fits. tt) backtrack_captures_next (λ q. steps_with_state (backtrack_captures q))
+      (λ a r b st. st.takes.step) e LeftmostFirst false (IsTryCapturesAnswer e) (λ t o h. h.1) x (λ t a same h. h) s
+      engine walk going (record { fits = tt; holds = s.holds })
 
   -- and errors by the rule of refusals
   pub catches-refused : CatchesRefused e x s
   catches-refused = λ p seen from.
       record {
-        long = λ long whole. only-item e.nfa LeftmostFirst false (IsTryCapturesAnswer e) (λ t o h. h.1) x
+        long = λ long whole. only-item row_span row_of (IsTryCapturesAnswer e) (AnswersRow e.nfa LeftmostFirst false)
+            (FailsOrIsRefused row_span (IsTryCapturesAnswer e)) (λ w r k. k) (λ t o h. h.1) x
             (HaystackTooLong (span_len x)) (only-refused long) p.items ((catches-given.runs p seen from).1 whole).come;
-        memory = λ fits. captures-memory e.nfa LeftmostFirst false (IsTryCapturesAnswer e) (λ t o h. h.1) x
-            AsksBacktrackerRow
-            (λ q. q.backend.finder ≡ e)
-            (λ q t a q' same is asked. catcher-acts (λ e. e.nfa) fits_always IsTryCapturesAnswer
-            (λ e x a. SearchesOnce e x a)
-            (λ e x a old new work fits. tt) e q t a q' is asked)
-            backtrack_captures_next (λ q. steps_with_state (backtrack_captures q)) (λ a r b st. st.takes.step)
-            s walk going
-            engine (memory-alone e x fits) p seen from;
+        memory = λ fits.
+            catcher-memory (λ e. e.nfa) fits_always IsTryCapturesAnswer (λ e x a. SearchesOnce e x a)
+            (λ e x a old new work fits. tt) backtrack_captures_next (λ q. steps_with_state (backtrack_captures q))
+            (λ a r b st. st.takes.step) e LeftmostFirst false (IsTryCapturesAnswer e) (λ t o h. h.1) x
+            (λ t a same h. h) s engine walk going (memory-alone e x fits) p seen from;
       }
     where
       only-refused : IsTooLong e x → (a : Answer Row) → IsTryCapturesAnswer e x a
@@ -199,9 +195,10 @@ module _ (e : Backtracker) (x : Search) (s : Steps (WithCache (WithCaptures Back
       × IfOk r (λ v. All (HasGroups e.nfa) (items v)) × IfOk r (λ v. All (CapturesInside x) (items v))
       × IfOk r (λ v. AreDisjoint x None (map match_in (items v)))
   all-captures =
-      all-drained (λ e. e.nfa) fits_always IsTryCapturesAnswer (λ e x a. SearchesOnce e x a)
-      (λ e x a old new work fits. tt) e
-      LeftmostFirst false (IsTryCapturesAnswer e) (λ t o h. h.1) x (λ t a same h. h) s may engine walk going
+      all-drained BacktrackerSteps x s e.nfa LeftmostFirst false (IsTryCapturesAnswer e)
+      (catcher-given (λ e. e.nfa) fits_always IsTryCapturesAnswer (λ e x a. SearchesOnce e x a)
+      (λ e x a old new work fits. tt) BacktrackerSteps (λ q. q) (λ p r q st. st) e LeftmostFirst false
+      (IsTryCapturesAnswer e) (λ t o h. h.1) x (λ t a same h. h) s engine walk going may)
 
   -- and the only error is `Memory` if the span is not too long
   pub stored_captures-by_length : {V : Type 0} (r : Result V SearchError)
@@ -211,8 +208,9 @@ module _ (e : Backtracker) (x : Search) (s : Steps (WithCache (WithCaptures Back
   stored_captures-by_length (Ok v) t fits errors = fits
   stored_captures-by_length (Err error) t fits errors = inr (
     fits,
-    error-drained (λ e. e.nfa) fits_always IsTryCapturesAnswer (λ e x a. SearchesOnce e x a)
-        (λ e x a old new work fits. tt) e
-        LeftmostFirst false (IsTryCapturesAnswer e) (λ t o h. h.1) x (λ t a same h. h) s may engine walk going
-        (memory-alone e x fits) error t errors,
+    error-drained BacktrackerSteps x s
+        (catcher-memory (λ e. e.nfa) fits_always IsTryCapturesAnswer (λ e x a. SearchesOnce e x a)
+        (λ e x a old new work fits. tt) BacktrackerSteps (λ q. q) (λ p r q st. st) e LeftmostFirst false
+        (IsTryCapturesAnswer e) (λ t o h. h.1) x (λ t a same h. h) s engine walk going (memory-alone e x fits)) error t
+        errors,
   )

@@ -1,10 +1,8 @@
 -- The answers of searches in an iteration over captures by a choice, and when its iterator may search and what it
 -- gives.
-use Rattle.std.proofs.Common.{◌≡◌, Bool, true, false, MatchBool, List, [], ◌∷◌, ◌++◌, map, None, Option, Some}
-use Rattle.std.proofs.Common.{Result, Ok, Err, ◌⊎◌, inl, inr, refl, subst}
-use Rattle.std.specs.Prelude.{All, IfErr, IfOk}
-use Rattle.std.proofs.iter.runs.Made.{run_of_exit, run_of_turn}
-use Rattle.std.proofs.lemmas.List.Elements.{All-cons, All-head, All-nil, All-pop, All-tail}
+use Rattle.std.proofs.Common.{◌≡◌, Bool, false, List, ◌∷◌, map, None, Option, Some}
+use Rattle.std.proofs.Common.{Result, Ok, Err, ◌⊎◌, refl, subst}
+use Rattle.std.specs.Prelude.{All}
 use Rattle.regex_search_core.specs.Search.{Search}
 use Rattle.regex_search_core.specs.Slots.{Captured}
 use Rattle.regex_search_core.specs.declared.search.MatchKind.{MatchKind}
@@ -19,7 +17,6 @@ use Rattle.nfa_search_base.specs.Leaving.{DoesSearch}
 use Rattle.nfa_search_base.specs.WithCache.{WithCache}
 use Rattle.nfa_search_base.specs.StepsWith.{steps_with_state, steps_with_iter_state}
 use Rattle.nfa_search_base.specs.Lists.{AreDisjoint, AreMatches}
-use Rattle.nfa_search_base.specs.Steps.{TakesStep}
 use Rattle.nfa_search_base.specs.Stored.{can_step, steps_iter_state, takes_steps}
 use Rattle.nfa_search_base.specs.IterStates.{Answer, AnswerIsInside, fresh}
 use Rattle.nfa_search_base.specs.declared.error.SearchError.{SearchError}
@@ -27,13 +24,10 @@ use Rattle.nfa_search_base.specs.declared.error.SearchError.TheVariants.{Memory}
 use Rattle.nfa_search_base.specs.declared.iter.steps.Steps.{Steps}
 use Rattle.nfa_search_base.proofs.AskingLemmas.{same_start-self, same_start-then, ServesOnAlong-by}
 use Rattle.nfa_search_base.proofs.CapturesLemmas.{row-lies}
-use Rattle.nfa_search_base.proofs.CapturesRunLemmas.{captures-apart, captures-first, captures-memory, captures-next}
-use Rattle.nfa_search_base.proofs.CapturesRunLemmas.{captures-run, captures-within, copy-of, copy-says, matches_in-all}
-use Rattle.nfa_search_base.proofs.CapturesRunLemmas.{matches_in-first, matches_in-next, matches_in-run, rows-all}
-use Rattle.nfa_search_base.proofs.CapturesRunLemmas.{rows-first, rows-next, rows-run, runs-hold}
+use Rattle.nfa_search_base.proofs.CapturesRunLemmas.{captures-given, captures-memory, copy-says, groups-hold}
+use Rattle.nfa_search_base.proofs.DrainedLemmas.{drained as all-of, error-drained as error-of}
 use Rattle.nfa_search_base.proofs.EngineLemmas.{calls-kept}
 use Rattle.nfa_search_base.proofs.LeavingLemmas.{all-leave, calls-lead, calls-leave}
-use Rattle.nfa_search_base.proofs.ListLemmas.{matches-apart}
 use Rattle.nfa_search_base.proofs.RunLemmas.{Says, calls-keep, step-keeps}
 use Rattle.nfa_choice.specs.CapturesMatches.{AsksRowByRule, CatchesByRule, ChoiceCatchesBySearches, ChoiceCatchesGiveKept}
 use Rattle.nfa_choice.specs.CapturesMatches.{ChoiceCatchesOn, ChoiceCatchesToEnd, ChoiceTellsRow, MayCatchByRule}
@@ -100,38 +94,21 @@ step-engines s r t st =
     (λ p. keeps-self p.cache) (λ p q u f g. keeps-then p.cache q.cache u.cache f g) (λ p x a q asked. asked.work.keeps)
     s r t st
 
-copied : (s : Steps State) (d : Captured) (t : Steps State) (b : Bool)
-    → (let r : Option (Result Captured SearchError) = Some (Ok d) in
-    MatchBool b ((r ≡ None) × (t ≡ s))
-    (TakesStep row_span AsksRowByRule (λ q. GivesCaptures q.backend) s.backend (steps_iter_state s) r t.backend
-    (steps_iter_state t)
-    t.done))
-    → d ≡ t.backend.backend.captures
-copied s d t true h = let k : (let r : Option (Result Captured SearchError) = Some (Ok d) in r ≡ None) = h.0 in cc
-copied s d t false h = copy-of t.backend.backend h.answer d h.item
-
 -- The state of an iteration by a choice that answers as c does.
 record Holds (c : ChoiceState) (s : State) : Type 0 where
   may : MayCatchByRule s
   is : IsOf c s.cache
 
--- each item has the groups of the NFA
-call-groups : (c : ChoiceState) (p : Steps State) (r : Result Captured SearchError) (q : Steps State)
-    → Holds c p.backend
-    → RuleSteps p (Some r) q → IfOk r (HasGroups c.nfa) × Holds c q.backend
-call-groups c p r q holds st = (of r st, left)
-  where
-    left : Holds c q.backend
-    left = record {
-      may = step-may p (Some r) q st holds.may;
-      is = is-kept c p.backend.cache q.backend.cache holds.is (step-engines p (Some r) q st);
-    }
+-- it stays so, and its captures have the groups of the NFA
+holds-after : (c : ChoiceState) (s : State) (t : Search) (a : Answer Row) (s' : State) → Holds c s
+    → AsksRowByRule s t a s' → Holds c s'
+holds-after c s t a s' h asked = record {
+  may = may-after s t a s' h.may asked;
+  is = is-kept c s.cache s'.cache h.is asked.work.keeps;
+}
 
-    of : (r : Result Captured SearchError) → RuleSteps p (Some r) q → IfOk r (HasGroups c.nfa)
-    of (Err error) step = tt
-    of (Ok d) step =
-        subst (λ (n : Automaton). HasGroups n d) left.is.nfa
-        (rw (copied p d q p.done step) left.may)
+holds-groups : (c : ChoiceState) (s : State) → Holds c s → HasGroups c.nfa s.backend.captures
+holds-groups c s h = subst (λ (n : Automaton). HasGroups n s.backend.captures) h.is.nfa h.may
 
 -- ---- what an iterator gives
 
@@ -150,36 +127,10 @@ module _ {T : Type 0} (calls : T → Option (Result Captured SearchError) → T 
 
   -- all that its calls give
   stored_captures-given : CapturesGiven calls c.nfa (kind_in c) x.earliest Rows x s
-  stored_captures-given = record {
-    runs = captures-run c.nfa (kind_in c) x.earliest Rows (λ t o h. h) x AsksRowByRule Good (row-told c x) calls inner
-        steps s walk going holds.is;
-    first = captures-first c.nfa (kind_in c) x.earliest Rows (λ t o h. h) x AsksRowByRule Good (row-told c x) calls
-        inner steps s walk going holds.is;
-    next = captures-next c.nfa (kind_in c) x.earliest Rows (λ t o h. h) x AsksRowByRule Good (row-told c x) calls inner
-        steps s walk going holds.is;
-    rows = rows-run c.nfa (kind_in c) x.earliest Rows (λ t o h. h) x AsksRowByRule Good (row-told c x) calls inner
-        steps s walk going holds.is;
-    first_rows = rows-first c.nfa (kind_in c) x.earliest Rows (λ t o h. h) x AsksRowByRule Good (row-told c x) calls
-        inner steps s walk going holds.is;
-    next_row = rows-next c.nfa (kind_in c) x.earliest Rows (λ t o h. h) x AsksRowByRule Good (row-told c x) calls inner
-        steps s walk going holds.is;
-    all_rows = rows-all c.nfa (kind_in c) x.earliest Rows (λ t o h. h) x AsksRowByRule Good (row-told c x) calls inner
-        steps s walk going holds.is;
-    matches = matches_in-run c.nfa (kind_in c) x.earliest Rows (λ t o h. h) x AsksRowByRule Good (row-told c x) calls
-        inner steps s walk going holds.is;
-    first_matches = matches_in-first c.nfa (kind_in c) x.earliest Rows (λ t o h. h) x AsksRowByRule Good (row-told c x)
-        calls inner steps s walk going holds.is;
-    next_match = matches_in-next c.nfa (kind_in c) x.earliest Rows (λ t o h. h) x AsksRowByRule Good (row-told c x)
-        calls inner steps s walk going holds.is;
-    all_matches = matches_in-all c.nfa (kind_in c) x.earliest Rows (λ t o h. h) x AsksRowByRule Good (row-told c x)
-        calls inner steps s walk going holds.is;
-    groups = runs-hold calls (λ q. Holds c (inner q).backend) (λ item. IfOk item (HasGroups c.nfa))
-        (λ p r q h st. call-groups c (inner p) r (inner q) h (steps p (Some r) q st)) s holds;
-    inside = captures-within c.nfa (kind_in c) x.earliest Rows (λ t o h. h) x AsksRowByRule Good (row-told c x) calls
-        inner steps s walk going holds.is;
-    apart = captures-apart c.nfa (kind_in c) x.earliest Rows (λ t o h. h) x AsksRowByRule Good (row-told c x) calls
-        inner steps s walk going holds.is;
-  }
+  stored_captures-given =
+      captures-given c.nfa (kind_in c) x.earliest Rows (λ t o h. h) x AsksRowByRule Good (row-told c x) calls inner
+      steps s walk going holds.is
+      (groups-hold c.nfa AsksRowByRule (Holds c) (holds-after c) (holds-groups c) calls inner steps s holds)
 
   -- and no error but `Memory`
   stored_captures-memory : CapturesMemory calls s
@@ -280,13 +231,6 @@ catches-choice s = λ xs t r u ran st.
 
 -- ---- all captures
 
--- what is true of each `Ok` is true of each value
-all_ok : {X E : Type 0} (P : X → Type 0) (xs : List X) → All (λ (item : Result X E). IfOk item P) (map Ok xs) → All P xs
-all_ok P [] h = All-nil P
-all_ok {X} {E} P (x ∷ xs) h =
-    let each : Result X E → Type 0 = λ item. IfOk item P in
-    All-cons P x xs (All-head each (Ok x) (map Ok xs) h) (all_ok P xs (All-tail each (Ok x) (map Ok xs) h))
-
 -- These captures are those of x, by a choice that answers as c does, and they led from c to d.
 pub record AreAllOf (c : ChoiceState) (x : Search) (cs : List Captured) (d : ChoiceState) : Type 0 where
   pub rows : AreRows c.nfa (kind_in c) x.earliest x (map row_of cs)
@@ -309,26 +253,19 @@ module _ (x : Search) (s : Steps State) (may : MayCatchByRule s.backend) (walk :
   pub drained : (cs : List Captured) (t : Steps State) → DrainsAll RuleSteps s cs t
       → AreAllOf s.backend.cache x cs t.backend.cache
   drained cs t all =
-      let run = run_of_exit RuleSteps s (map Ok cs) all.last all.ran t all.over in
-      let items = run.3.0 in
+      let k = all-of RuleSteps x s s.backend.cache.nfa (kind_in s.backend.cache) x.earliest
+      (AnswersRow s.backend.cache.nfa (kind_in s.backend.cache) x.earliest) all-given cs t all in
       record {
-        rows = all-given.all_rows (map Ok cs) all.last t cs all.ran all.over refl;
-        matches = all-given.all_matches (map Ok cs) all.last t cs all.ran all.over refl;
-        groups = all_ok (HasGroups s.backend.cache.nfa) cs (rw items at (all-given.groups run.0 run.0.seen run.1));
-        inside = all_ok (CapturesInside x) cs (rw items at (all-given.inside run.0 run.0.seen run.1));
-        apart = matches-apart s.backend.cache.nfa (kind_in s.backend.cache) x.earliest x (map match_in cs)
-            (all-given.first_matches (map Ok cs) all.last cs all.ran refl);
+        rows = k.0;
+        matches = k.1;
+        groups = k.2;
+        inside = k.3;
+        apart = k.4;
         to_end = drained-to_end x s walk going cs t all;
       }
 
   -- and the only error is `Memory`
   pub error-drained : (error : SearchError) (t : Steps State)
       → (error ≡ Memory) ⊎ DrainsToError RuleSteps s error t → error ≡ Memory
-  error-drained error t (inl is) = is
-  error-drained error t (inr ends) =
-      let run = run_of_turn RuleSteps s (map Ok ends.items) ends.last ends.ran (Err error) t ends.over in
-      let all = stored_captures-memory RuleSteps (λ q. q) (λ p r q st. st) s.backend.cache x s begun walk going
-      run.0 run.0.seen
-      run.1 in
-      (All-pop (λ item. IfErr item (λ q. q ≡ Memory)) (map Ok ends.items ++ Err error ∷ []) (map Ok ends.items)
-      (Some (Err error)) refl (rw run.2.0 at all)).1
+  error-drained = error-of RuleSteps x s
+      (stored_captures-memory RuleSteps (λ q. q) (λ p r q st. st) s.backend.cache x s begun walk going)

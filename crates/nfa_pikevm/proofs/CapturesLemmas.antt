@@ -19,9 +19,8 @@ use Rattle.nfa_search_base.specs.declared.error.SearchError.{SearchError}
 use Rattle.nfa_search_base.specs.declared.error.SearchError.TheVariants.{Memory}
 use Rattle.nfa_search_base.specs.declared.iter.steps.Steps.{Steps}
 use Rattle.nfa_search_base.proofs.CapturesLemmas.{row-lies}
-use Rattle.nfa_search_base.proofs.CapturesRunLemmas.{captures-memory}
 use Rattle.nfa_search_base.proofs.DrainedLemmas.{all-drained, calls-cache, error-drained}
-use Rattle.nfa_search_base.proofs.EngineLemmas.{calls-kept, captures-given, catcher-acts, catcher-goes, catcher-serves}
+use Rattle.nfa_search_base.proofs.EngineLemmas.{calls-kept, catcher-given, catcher-goes, catcher-memory, catcher-serves}
 use Rattle.nfa_search_base.proofs.LeavingLemmas.{all-to_end, calls-lead, catches-leave}
 use Rattle.nfa_pikevm.specs.CapturesMatches.{AsksPikeRow, CatchesBySearches, CatchesGiveCache, MayCatchByPike}
 use Rattle.nfa_pikevm.specs.CapturesMatches.{pike_captures, pike_captures_next}
@@ -71,22 +70,18 @@ module _ (vm : Pike) (x : Search) (s : CapturesMatches) (engine : (pike_captures
   pub catches-given : CapturesGiven pike_captures_next vm.nfa (kind_of vm) x.earliest
       (AnswersRow vm.nfa (kind_of vm) x.earliest) x s
   catches-given =
-      captures-given (λ vm. vm.nfa) fits_pike PikeAnswersRow (λ vm x a. PikeSearches vm x)
+      catcher-given (λ vm. vm.nfa) fits_pike PikeAnswersRow (λ vm x a. PikeSearches vm x)
       (λ vm x a. searched-fits vm x) pike_captures_next (λ q. steps_with_state (pike_captures q))
-      (λ a r b st. st.takes.step)
-      (λ q. q.holds) vm (kind_of vm) x.earliest (AnswersRow vm.nfa (kind_of vm) x.earliest) (λ t o h. h) x
-      (tells-now vm x) s engine walk going
+      (λ a r b st. st.takes.step) vm (kind_of vm) x.earliest (AnswersRow vm.nfa (kind_of vm) x.earliest) (λ t o h. h) x
+      (tells-now vm x) s engine walk going (may-now s)
 
   -- and no error but `Memory`
   pub catches-memory : CapturesMemory pike_captures_next s
   catches-memory =
-      captures-memory vm.nfa (kind_of vm) x.earliest (AnswersRow vm.nfa (kind_of vm) x.earliest) (λ t o h. h) x
-      AsksPikeRow (λ q. q.backend.finder ≡ vm)
-      (λ q t a q' same is asked.
-      let k = catcher-acts (λ vm. vm.nfa) fits_pike PikeAnswersRow (λ vm x a. PikeSearches vm x)
-      (λ vm x a. searched-fits vm x) vm q t a q' is asked in
-      (tells-now vm x t a same k.0, k.1))
-      pike_captures_next (λ q. steps_with_state (pike_captures q)) (λ a r b st. st.takes.step) s walk going engine
+      catcher-memory (λ vm. vm.nfa) fits_pike PikeAnswersRow (λ vm x a. PikeSearches vm x)
+      (λ vm x a. searched-fits vm x) pike_captures_next (λ q. steps_with_state (pike_captures q))
+      (λ a r b st. st.takes.step) vm (kind_of vm) x.earliest (AnswersRow vm.nfa (kind_of vm) x.earliest) (λ t o h. h) x
+      (tells-now vm x) s engine walk going
       (λ t e from to never. absurd never)
 
   -- they change the cache only by their searches
@@ -133,22 +128,25 @@ module _ (vm : Pike) (x : Search) (s : Steps (WithCache (WithCaptures Pike) Pike
       × IfOk r (λ v. All (HasGroups vm.nfa) (items v)) × IfOk r (λ v. All (CapturesInside x) (items v))
       × IfOk r (λ v. AreDisjoint x None (map match_in (items v)))
   all-captures =
-      all-drained (λ vm. vm.nfa) fits_pike PikeAnswersRow (λ vm x a. PikeSearches vm x)
-      (λ vm x a. searched-fits vm x) vm
-      (kind_of vm) x.earliest (AnswersRow vm.nfa (kind_of vm) x.earliest) (λ t o h. h) x (tells-now vm x) s may engine
-      walk going
+      all-drained PikeSteps x s vm.nfa (kind_of vm) x.earliest (AnswersRow vm.nfa (kind_of vm) x.earliest)
+      (catcher-given (λ vm. vm.nfa) fits_pike PikeAnswersRow (λ vm x a. PikeSearches vm x)
+      (λ vm x a. searched-fits vm x) PikeSteps (λ q. q) (λ p r q st. st)
+      vm (kind_of vm) x.earliest (AnswersRow vm.nfa (kind_of vm) x.earliest) (λ t o h. h) x
+      (tells-now vm x) s engine walk going may)
 
   -- and the only error is `Memory`
   pub stored_captures-memory : (error : SearchError) (t : Steps (WithCache (WithCaptures Pike) PikeCache))
       → (error ≡ Memory) ⊎ DrainsToError PikeSteps s error t → error ≡ Memory
   stored_captures-memory =
-      error-drained (λ vm. vm.nfa) fits_pike PikeAnswersRow (λ vm x a. PikeSearches vm x)
-      (λ vm x a. searched-fits vm x) vm (kind_of vm) x.earliest (AnswersRow vm.nfa (kind_of vm) x.earliest)
-      (λ t o h. h) x (tells-now vm x) s may engine walk going (λ t error from to never. absurd never)
+      error-drained PikeSteps x s
+      (catcher-memory (λ vm. vm.nfa) fits_pike PikeAnswersRow (λ vm x a. PikeSearches vm x)
+      (λ vm x a. searched-fits vm x) PikeSteps (λ q. q) (λ p r q st. st)
+      vm (kind_of vm) x.earliest (AnswersRow vm.nfa (kind_of vm) x.earliest) (λ t o h. h) x
+      (tells-now vm x) s engine walk going (λ t error from to never. absurd never))
 
 -- and keep the numbers of the cache
 pub stored_captures-capacities : (s t : Steps (WithCache (WithCaptures Pike) PikeCache)) → CallsLead PikeSteps s t
     → SameCapacities s.backend.cache t.backend.cache
 stored_captures-capacities =
-    calls-cache (λ vm. vm.nfa) fits_pike PikeAnswersRow (λ vm x a. PikeSearches vm x) (λ vm x a. searched-fits vm x)
+    calls-cache (λ vm. vm.nfa) PikeAnswersRow (λ vm x a. PikeSearches vm x)
     SameCapacities same_capacities same_capacities-then (λ vm x a old new work. work.capacities)

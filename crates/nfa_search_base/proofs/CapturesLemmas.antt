@@ -1,5 +1,5 @@
 -- The captures of a search of an NFA: there is one list of them, and their matches are those of the search.
-use Rattle.std.proofs.Common.{◌≡◌, ◌∙◌, ℕ, inl, inr, Bool, true, false, MatchBool}
+use Rattle.std.proofs.Common.{◌≡◌, ◌∙◌, ℕ, inl, inr, Bool}
 use Rattle.std.proofs.Common.{List, [], ◌∷◌, map, length}
 use Rattle.std.proofs.Common.{Option, None, Some, Ok, Err, refl, sym, ap, subst}
 use Rattle.std.specs.Option.{option_and_then, option_map}
@@ -22,11 +22,10 @@ use Rattle.nfa_search_base.specs.Items.{Item, matches_in, greedy}
 use Rattle.nfa_search_base.specs.Lists.{IsStep, Fails, FailsOrIsRefused, ItemsNext, ItemsLast}
 use Rattle.nfa_search_base.specs.Lists.{AnswersMatch, ComeNext, ComeLast, AreFirstMatches, AreMatches}
 use Rattle.nfa_search_base.specs.IterStates.{IterState, Answer, AnswerIsInside}
-use Rattle.nfa_search_base.specs.IterStates.{fresh, repeats, shifted, after, answer_span, span_of}
+use Rattle.nfa_search_base.specs.IterStates.{fresh, after, answer_span, span_of}
 use Rattle.nfa_search_base.specs.declared.error.SearchError.{SearchError}
-use Rattle.nfa_search_base.proofs.ListLemmas.{as_items, last-unique, match-lies, match-same, matches_in-as_items}
-use Rattle.nfa_search_base.proofs.ListLemmas.{matches-unique, step-unique, items-greedy}
-use Rattle.nfa_search_base.proofs.StepLemmas.{chosen}
+use Rattle.nfa_search_base.proofs.ListLemmas.{as_items, last-matches, last-unique, match-lies, match-same, matches_in-as_items, never-fails}
+use Rattle.nfa_search_base.proofs.ListLemmas.{matches-unique, step-as, step-unique, items-greedy}
 use Rattle.nfa_search_base.proofs.IterStateLemmas.{IsOrdered}
 
 length-slot_row : (nfa : Automaton) (count : ℕ) (path : Option (List Pair)) → length (slot_row nfa count path) ≡ count
@@ -126,23 +125,11 @@ module _ (nfa : Automaton) (kind : MatchKind) (earliest : Bool) where
             count;
       }
 
-  -- a step that has no error is one of the matches of the NFA
+  -- a step over rows is one over matches
   ok-match : (w : IterState) (o : Option Row) → IsStep row_span tells w (Ok o)
       → IsStep span_of (AnswersMatch nfa kind earliest) w (as_match (Ok o))
-  ok-match w o h = record {
-    first = as_match h.first;
-    is_first = row-tells w.at h.first h.is_first;
-    rest = of (repeats w (answer_span row_span h.first)) (repeats w (answer_span span_of (as_match h.first)))
-        (ap (repeats w) (place-as_match h.first)) h.rest;
-  }
-    where
-      of : (b c : Bool) → b ≡ c → MatchBool b (tells (shifted w).at (Ok o)) (Ok o ≡ h.first)
-          → MatchBool c (AnswersMatch nfa kind earliest (shifted w).at (as_match (Ok o)))
-          (as_match (Ok o) ≡ as_match h.first)
-      of true true e k = row-tells (shifted w).at (Ok o) k
-      of true false e k = cc
-      of false true e k = cc
-      of false false e k = ap as_match k
+  ok-match w o h = step-as row_span span_of tells (AnswersMatch nfa kind earliest) as_match place-as_match row-tells w
+      (Ok o) h
 
   -- so rows are matches
   come-next : (rows : List Row) (w : IterState) → ItemsNext row_span tells (Fails row_span tells) w (as_items rows)
@@ -179,13 +166,6 @@ module _ (nfa : Automaton) (kind : MatchKind) (earliest : Bool) where
   rows-list x rows ms h k =
       matches-unique nfa kind earliest x (map row_found rows) ms (rows-matches x rows h) k
 
-  -- no step errs
-  never-fails : (w : IterState) (e : SearchError) → IsStep row_span tells w (Err e) → ⊥
-  never-fails w e h = elim (chosen (repeats w (answer_span row_span h.first)) h.rest) [
-    | inl p ↦ p.1
-    | inr p ↦ subst (λ (a : Answer Row). tells w.at a) (sym p.1) h.is_first
-  ]
-
   -- if copies could not be allocated, the items are those of the list up to that point
   up-to : (w : IterState) (rows : List Row) (items : List (Item Row))
       → ItemsLast row_span tells (Fails row_span tells) w (as_items rows)
@@ -194,7 +174,7 @@ module _ (nfa : Automaton) (kind : MatchKind) (earliest : Bool) where
   up-to w [] (Ok y ∷ items) h k =
       let e : Ok None ≡ Ok (Some y) = step-unique row_span tells one-row w (Ok None) (Ok (Some y)) h k.0 in cc
   up-to w [] (Err q ∷ items) h k = elim k.0 [
-    | inl fails ↦ absurd (never-fails w q fails)
+    | inl fails ↦ absurd (never-fails row_span tells (λ t e k. k) w q fails)
     | inr refused ↦
         let e : Ok None ≡ Ok (Some refused.1) =
         step-unique row_span tells one-row w (Ok None) (Ok (Some refused.1)) h refused.2 in cc
@@ -212,7 +192,7 @@ module _ (nfa : Automaton) (kind : MatchKind) (earliest : Bool) where
         up-to (after w (Some (row_span r))) rows items h.1 there,
       )
   up-to w (r ∷ rows) (Err q ∷ items) h k = elim k.0 [
-    | inl fails ↦ absurd (never-fails w q fails)
+    | inl fails ↦ absurd (never-fails row_span tells (λ t e k. k) w q fails)
     | inr refused ↦ inr (ap (λ (z : SearchError). let a : Item Row = Err z in a) refused.0, k.1)
   ]
 
@@ -248,12 +228,5 @@ module _ (nfa : Automaton) (kind : MatchKind) (earliest : Bool) where
   rows-exist x =
       let h : Search → Answer Row = λ t. filled_answer (answer_of t) (Ok tt) in
       let all = items-greedy row_span tells row-lies h x (λ t alike. answer_of-told t) in
-      let rows = rows_of (greedy row_span h (fresh x)) (fresh x) all in
+      let rows = last-matches row_span tells (λ t e k. k) (fresh x) (greedy row_span h (fresh x)) all in
       (rows.0, record { come = rows.1 })
-    where
-      rows_of : (items : List (Item Row)) (w : IterState) → ItemsLast row_span tells (Fails row_span tells) w items
-          → (rows : List Row) × ItemsLast row_span tells (Fails row_span tells) w (as_items rows)
-      rows_of [] w come = ([], come)
-      rows_of (Ok r ∷ items) w come =
-          let rest = rows_of items (after w (Some (row_span r))) come.1 in (r ∷ rest.0, (come.0, rest.1))
-      rows_of (Err e ∷ items) w come = absurd (never-fails w e come.0)

@@ -1,6 +1,6 @@
 -- What the searches of an iteration by an engine leave, which calls its iterators may make, and what these calls keep.
 use Rattle.std.proofs.Common.{◌≡◌, ◌∙◌, ℕ, Bool, true, false, Option, None, Some, Result, Ok, Err, refl, sym, ap, subst}
-use Rattle.std.proofs.Common.{◌⊎◌, inl, inr, List, MatchBool}
+use Rattle.std.proofs.Common.{◌⊎◌, ◌≤◌, inl, inr, List}
 use Rattle.std.specs.Prelude.{IfErr, IfOk, IsTrue, is_some}
 use Rattle.std.specs.Option.{ForSome, option_map}
 use Rattle.regex_search_core.specs.Found.{Found, found_of}
@@ -16,6 +16,7 @@ use Rattle.nfa_search_base.specs.Asking.{SameButStart}
 use Rattle.nfa_search_base.specs.CapturesGiven.{CapturesGiven}
 use Rattle.nfa_search_base.specs.WithCaptures.{WithCaptures, GivesCaptures, Row, row_span}
 use Rattle.nfa_search_base.specs.CapturesLists.{HasGroups, AnswersRow}
+use Rattle.nfa_search_base.specs.CapturesRuns.{CapturesMemory}
 use Rattle.nfa_search_base.specs.EngineSearches.{AnswersBy, AsksEngine, AsksEngineRow, IsKnownFrom, Keeping, Knowing}
 use Rattle.nfa_search_base.specs.EngineSearches.{MayFill, MayFind, SearchesUnlessKnown, found_in, if_ends_at}
 use Rattle.nfa_search_base.specs.Finders.{answer_by}
@@ -23,18 +24,16 @@ use Rattle.nfa_search_base.specs.WithCache.{WithCache}
 use Rattle.nfa_search_base.specs.StepsWith.{GivesStepsWith, KeepsStepsWith, StepsWith, TakesStepWith, steps_with_state}
 use Rattle.nfa_search_base.specs.Lists.{AnswersMatch}
 use Rattle.nfa_search_base.specs.Serving.{ServesOnAlong}
-use Rattle.nfa_search_base.specs.Steps.{TakesStep}
 use Rattle.nfa_search_base.specs.Stored.{steps_iter_state, takes_steps}
 use Rattle.nfa_search_base.specs.IterStates.{Answer, AnswerIsInside, IsInfalliblyInside, fresh, span_of}
 use Rattle.nfa_search_base.specs.declared.error.SearchError.{SearchError}
+use Rattle.nfa_search_base.specs.declared.error.SearchError.TheVariants.{Memory}
 use Rattle.nfa_search_base.specs.declared.iter.steps.Steps.{Steps}
 use Rattle.nfa_search_base.proofs.AskingLemmas.{same_start-self, same_start-then, ServesOnAlong-by}
-use Rattle.nfa_search_base.proofs.CapturesRunLemmas.{captures-apart, captures-first, captures-next, captures-run}
-use Rattle.nfa_search_base.proofs.CapturesRunLemmas.{captures-within, copy-of, matches_in-all, matches_in-first}
-use Rattle.nfa_search_base.proofs.CapturesRunLemmas.{matches_in-next, matches_in-run, rows-all, rows-first, rows-next}
-use Rattle.nfa_search_base.proofs.CapturesRunLemmas.{rows-run, runs-hold}
+use Rattle.nfa_search_base.proofs.CapturesRunLemmas.{captures-given, captures-memory, groups-hold}
 use Rattle.nfa_search_base.proofs.ListLemmas.{match-lies}
 use Rattle.nfa_search_base.proofs.RunLemmas.{calls-keep, step-holds, step-keeps}
+use Rattle.nfa_search_base.proofs.StepLemmas.{chosen}
 
 -- ---- searches that differ in their start
 
@@ -203,26 +202,18 @@ module _ {E : Type 0} (Sure : E → Search → Found → Type 0) where
         → (s : Steps (WithCache A C)) (r : Option (Result Y SearchError)) (t : Steps (WithCache A C))
         → takes_steps span_of Asks (λ q. gives q.backend) s r t → May s.backend (steps_iter_state s).at
         → May t.backend (steps_iter_state t).at
-    finder-goes {Y} gives s r t st may = of s.done st
-      where
-        x : Search
-        x = (steps_iter_state s).at
-
-        of : (b : Bool) → MatchBool b ((r ≡ None) × (t ≡ s))
-            (TakesStep span_of Asks (λ q. gives q.backend) s.backend (steps_iter_state s) r t.backend
-            (steps_iter_state t) t.done)
-            → May t.backend (steps_iter_state t).at
-        of true h = subst (λ (q : Steps (WithCache A C)). May q.backend (steps_iter_state q).at) (sym h.1) may
-        of false h =
-            let on : May t.backend x = step-holds span_of Asks (λ (q : WithCache A C). May q x) s.backend
-            (steps_iter_state s)
-            h.answer t.backend (steps_iter_state t) (may-after x) may h.step in
-            record {
-              fits = on.fits;
-              knows = known-like (shown t.backend.backend).engine x (steps_iter_state t).at
-                  (shown t.backend.backend).known h.same
-                  on.knows;
-            }
+    finder-goes {Y} gives s r t st may = elim (chosen s.done st) [
+      | inl p ↦ subst (λ (q : Steps (WithCache A C)). May q.backend (steps_iter_state q).at) (sym p.1.1) may
+      | inr p ↦
+          let x = (steps_iter_state s).at in
+          let on : May t.backend x = step-holds span_of Asks (λ (q : WithCache A C). May q x) s.backend
+          (steps_iter_state s) p.1.answer t.backend (steps_iter_state t) (may-after x) may p.1.step in
+          record {
+            fits = on.fits;
+            knows = known-like (shown t.backend.backend).engine x (steps_iter_state t).at
+                (shown t.backend.backend).known p.1.same on.knows;
+          }
+    ]
 
     -- the engine gives the answers of its searches, and stays the same
     pub finder-acts : (e : E) (s : WithCache A C) (t : Search) (a : Answer Found) (s' : WithCache A C)
@@ -278,82 +269,38 @@ module _ {E C : Type 0} (nfa : E → Automaton) (Fits : C → E → Type 0) (Tel
       → s.backend.finder ≡ e → AsksRow s t a s' → Tells e t a × (s'.backend.finder ≡ e)
   catcher-acts e s t a s' is asked = (subst (λ (b : E). Tells b t a) is asked.tells, asked.engine ∙ is)
 
-  -- a call keeps the engine, and its copy is of the captures that are left
-  call-engine : (s : Steps (WithCache (WithCaptures E) C)) (r : Option (Result Captured SearchError))
-      (t : Steps (WithCache (WithCaptures E) C)) → Calls s r t → t.backend.backend.finder ≡ s.backend.backend.finder
-  call-engine =
-      step-keeps row_span AsksRow (λ q. GivesCaptures q.backend)
-      (λ (p q : WithCache (WithCaptures E) C). q.backend.finder ≡ p.backend.finder)
-      (λ q. refl) (λ p q u f g. g ∙ f) (λ p x a q asked. asked.engine)
-
-  copied : (s : Steps (WithCache (WithCaptures E) C)) (d : Captured)
-      (t : Steps (WithCache (WithCaptures E) C)) (b : Bool)
-      → (let r : Option (Result Captured SearchError) = Some (Ok d) in
-      MatchBool b ((r ≡ None) × (t ≡ s))
-      (TakesStep row_span AsksRow (λ q. GivesCaptures q.backend) s.backend (steps_iter_state s) r t.backend
-      (steps_iter_state t) t.done))
-      → d ≡ t.backend.backend.captures
-  copied s d t true h = let k : (let r : Option (Result Captured SearchError) = Some (Ok d) in r ≡ None) = h.0 in cc
-  copied s d t false h = copy-of t.backend.backend h.answer d h.item
-
-  -- An iterator around such steps, which knows that its captures have the groups of the NFA.
+  -- An iterator around such steps. The engine gives answers as in `Told` on searches like x. Without an error, that is
+  -- the row of its NFA.
   module _ {T : Type 0} (calls : T → Option (Result Captured SearchError) → T → Type 0)
       (inner : T → Steps (WithCache (WithCaptures E) C))
       (is : (s : T) (r : Option (Result Captured SearchError)) (t : T) → calls s r t → Calls (inner s) r (inner t))
-      (holds : (s : T) → HasGroups (nfa (inner s).backend.backend.finder) (inner s).backend.backend.captures) where
-    call-groups : (e : E) (s : T) (r : Result Captured SearchError) (t : T) → (inner s).backend.backend.finder ≡ e
-        → calls s (Some r) t
-        → IfOk r (HasGroups (nfa e)) × ((inner t).backend.backend.finder ≡ e)
-    call-groups e s r t same st = (of r (is s (Some r) t st), there)
-      where
-        there : (inner t).backend.backend.finder ≡ e
-        there = call-engine (inner s) (Some r) (inner t) (is s (Some r) t st) ∙ same
+      (e : E) (kind : MatchKind) (earliest : Bool) (Told : Search → Answer Row → Type 0)
+      (row : (t : Search) (o : Option Row) → Told t (Ok o) → AnswersRow (nfa e) kind earliest t (Ok o)) (x : Search)
+      (tells : (t : Search) (a : Answer Row) → SameButStart x t → Tells e t a → Told t a) (s : T)
+      (engine : (inner s).backend.backend.finder ≡ e) (walk : steps_iter_state (inner s) ≡ fresh x)
+      (going : (inner s).done ≡ false) where
+    abbrev Good : WithCache (WithCaptures E) C → Type 0
+    Good q = q.backend.finder ≡ e
 
-        of : (r : Result Captured SearchError) → Calls (inner s) (Some r) (inner t) → IfOk r (HasGroups (nfa e))
-        of (Ok d) step =
-            subst (λ (c : Captured). HasGroups (nfa e) c) (sym (copied (inner s) d (inner t) (inner s).done step))
-            (subst (λ (b : E). HasGroups (nfa b) (inner t).backend.backend.captures) there (holds t))
-        of (Err q) step = tt
+    told-acts : (q : WithCache (WithCaptures E) C) (t : Search) (a : Answer Row) (q' : WithCache (WithCaptures E) C)
+        → SameButStart x t → Good q → AsksRow q t a q' → Told t a × Good q'
+    told-acts q t a q' same good asked =
+        let k = catcher-acts e q t a q' good asked in (tells t a same k.0, k.1)
 
-    -- The engine gives answers as in `Told` on searches like x. Without an error, that is the row of its NFA.
-    module _ (e : E) (kind : MatchKind) (earliest : Bool) (Told : Search → Answer Row → Type 0)
-        (row : (t : Search) (o : Option Row) → Told t (Ok o) → AnswersRow (nfa e) kind earliest t (Ok o)) (x : Search)
-        (tells : (t : Search) (a : Answer Row) → SameButStart x t → Tells e t a → Told t a) where
-      abbrev Good : WithCache (WithCaptures E) C → Type 0
-      Good q = q.backend.finder ≡ e
+    -- all that its calls give
+    pub catcher-given : MayRow (inner s).backend → CapturesGiven calls (nfa e) kind earliest Told x s
+    catcher-given may =
+        captures-given (nfa e) kind earliest Told row x AsksRow Good told-acts calls inner is s walk going engine
+        (groups-hold (nfa e) AsksRow (λ q. MayRow q × Good q)
+        (λ q t a q' h asked. (may_row-after q t a q' h.0 asked, asked.engine ∙ h.1))
+        (λ q h. subst (λ (b : E). HasGroups (nfa b) q.backend.captures) h.1 h.0.holds) calls inner is s (may, engine))
 
-      pub told-acts : (q : WithCache (WithCaptures E) C) (t : Search) (a : Answer Row)
-          (q' : WithCache (WithCaptures E) C)
-          → SameButStart x t → Good q → AsksRow q t a q' → Told t a × Good q'
-      told-acts q t a q' same good asked =
-          let k = catcher-acts e q t a q' good asked in (tells t a same k.0, k.1)
-
-      -- all that its calls give
-      pub captures-given : (s : T) → (inner s).backend.backend.finder ≡ e → steps_iter_state (inner s) ≡ fresh x
-          → (inner s).done ≡ false → CapturesGiven calls (nfa e) kind earliest Told x s
-      captures-given s good walk going = record {
-        runs = captures-run (nfa e) kind earliest Told row x AsksRow Good told-acts calls inner is s walk going good;
-        first = captures-first (nfa e) kind earliest Told row x AsksRow Good told-acts calls inner is s walk going good;
-        next = captures-next (nfa e) kind earliest Told row x AsksRow Good told-acts calls inner is s walk going good;
-        rows = rows-run (nfa e) kind earliest Told row x AsksRow Good told-acts calls inner is s walk going good;
-        first_rows = rows-first (nfa e) kind earliest Told row x AsksRow Good told-acts calls inner is s walk going
-            good;
-        next_row = rows-next (nfa e) kind earliest Told row x AsksRow Good told-acts calls inner is s walk going good;
-        all_rows = rows-all (nfa e) kind earliest Told row x AsksRow Good told-acts calls inner is s walk going good;
-        matches = matches_in-run (nfa e) kind earliest Told row x AsksRow Good told-acts calls inner is s walk going
-            good;
-        first_matches = matches_in-first (nfa e) kind earliest Told row x AsksRow Good told-acts calls inner is s walk
-            going good;
-        next_match = matches_in-next (nfa e) kind earliest Told row x AsksRow Good told-acts calls inner is s walk going
-            good;
-        all_matches = matches_in-all (nfa e) kind earliest Told row x AsksRow Good told-acts calls inner is s walk going
-            good;
-        groups = runs-hold calls (λ q. (inner q).backend.backend.finder ≡ e) (λ item. IfOk item (HasGroups (nfa e)))
-            (λ p r q. call-groups e p r q) s good;
-        inside = captures-within (nfa e) kind earliest Told row x AsksRow Good told-acts calls inner is s walk going
-            good;
-        apart = captures-apart (nfa e) kind earliest Told row x AsksRow Good told-acts calls inner is s walk going good;
-      }
+    -- the only error is `Memory`, if no search has another
+    pub catcher-memory : ((t : Search) (error : SearchError) → x.start ≤ t.start → t.end ≡ x.end → Told t (Err error)
+        → error ≡ Memory)
+        → CapturesMemory calls s
+    catcher-memory =
+        captures-memory (nfa e) kind earliest Told row x AsksRow Good told-acts calls inner is s walk going engine
 
 -- ---- the cache
 

@@ -6,7 +6,8 @@ use Rattle.regex_search_core.specs.Search.{Search}
 use Rattle.regex_search_core.specs.declared.search.Span.{Span}
 use Rattle.nfa_search_base.specs.Asking.{SameButStart}
 use Rattle.nfa_search_base.specs.IterStates.{IterState, Answer, answer_span, Advances, repeats, shifted, after, ends_left}
-use Rattle.nfa_search_base.specs.Items.{Item, item_of, ends_with, items_left, TakesAdvance, step_answer, step_iter_state, items_from, items_within, greedy, greedy_unless}
+use Rattle.nfa_search_base.specs.Items.{Item, item_of, items_left, step_answer, step_iter_state, items_from, items_within, greedy, greedy_unless}
+use Rattle.nfa_search_base.specs.Steps.{ends_at}
 use Rattle.nfa_search_base.proofs.StepLemmas.{chosen, same_start-shifted}
 
 if-true : {A : Type 0} (b : Bool) (x y : A) → b ≡ true → (if b then x else y) ≡ x
@@ -21,7 +22,7 @@ module _ {X : Type 0} (span : X → Span) where
       (done' : Bool) : Type 0 where
     pub gives : item ≡ item_of (step_answer span h w)
     pub walk : w' ≡ step_iter_state span h w
-    pub ends : done' ≡ ends_with (step_answer span h w)
+    pub ends : done' ≡ ends_at (item_of (step_answer span h w))
     pub fewer : (x : Item X) → item ≡ Some x → items_left done' w' < items_left false w
 
   -- `Good s t`: from the state s on, a search like t is answered as h answers it
@@ -63,22 +64,6 @@ module _ {X : Type 0} (span : X → Span) where
               )
         ]
 
-    -- and a turn is one of the function
-    pub turn-computes : (s : S) (w : IterState) (item : Option (Item X)) (s' : S) (w' : IterState) (d : Bool)
-        → Good s w.at
-        → TakesAdvance span asks s w item s' w' d
-        → IsTurnOf h w item w' d × Good s' w'.at
-    turn-computes s w item s' w' d good turn =
-        let e = step-computes s w turn.answer s' w' good turn.step in (
-          record {
-            gives = turn.gives ∙ ap item_of e.0;
-            walk = e.1;
-            ends = turn.ends ∙ ap ends_with e.0;
-            fewer = λ x is. let some = turn.fewer in rw is at some;
-          },
-          moves s' w.at w'.at turn.same e.2,
-        )
-
   -- an iterator in a `Good` state takes the steps of h
   module _ {T R : Type 0} (steps : T → Option R → T → Type 0) (value : R → Item X) (walk : T → IterState)
       (done : T → Bool)
@@ -99,7 +84,8 @@ module _ {X : Type 0} (span : X → Span) where
 
     -- what the answer of a step gives first, if the items after a match are `rest`
     by_answer : (a : Answer X) (s : T) (rest : List (Item X))
-        → ((r : Option R) (t : T) → steps s r t → (option_map value r ≡ item_of a) × (done t ≡ ends_with a) × Good t)
+        → ((r : Option R) (t : T) → steps s r t → (option_map value r ≡ item_of a)
+        × (done t ≡ ends_at (item_of a)) × Good t)
         → ((y : X) (x : R) (t : T) → a ≡ Ok (Some y) → steps s (Some x) t → AlwaysYields steps value t rest)
         → AlwaysYields steps value s (items_from span a rest)
     by_answer (Ok (Some y)) s rest now onward = (
@@ -125,7 +111,7 @@ module _ {X : Type 0} (span : X → Span) where
         (λ r t st. let k = turn-at s r t good d st in (k.0.gives, k.0.ends, k.1))
         (λ y x t e st.
         let k = turn-at s (Some x) t good d st in
-        let going : done t ≡ false = k.0.ends ∙ ap ends_with e in
+        let going : done t ≡ false = k.0.ends ∙ ap (λ (a : Answer X). ends_at (item_of a)) e in
         let less : items_left (done t) (walk t) < items_left false (walk s) = k.0.fewer (value x) refl in
         let fewer : ends_left (walk t) + 1 < ends_left (walk s) + 1 = rw going at less in
         subst (λ (w : IterState). AlwaysYields steps value t (items_within span h n w)) k.0.walk

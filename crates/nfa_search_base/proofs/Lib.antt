@@ -17,5 +17,7 @@ pub mod RunLemmas
 pub mod MatchRunLemmas
 pub mod CapturesLemmas
 pub mod CapturesRunLemmas
+pub mod MayReplyLemmas
+pub mod OkItemLemmas
 pub mod MayAnswerLemmas
 pub mod MayAnswerRowLemmas

@@ -4,7 +4,7 @@
 use Rattle.std.proofs.Common.{◌≡◌, ◌∙◌, ℕ, zero, suc, ◌+◌, ◌-◌, ◌≤◌, ◌<◌, inl, inr, Bool, true, false}
 use Rattle.std.proofs.Common.{if◌then◌else◌, MatchBool}
 use Rattle.std.proofs.Common.{Option, None, Some, Ok, Err, List, [], ◌∷◌, ◌++◌, map, length, refl, sym, ap, subst}
-use Rattle.std.proofs.Common.{arith}
+use Rattle.std.proofs.Common.{arith, append-nil, length-append}
 use Rattle.std.specs.Option.{ForSome}
 use Rattle.regex_search_core.specs.Found.{Found}
 use Rattle.regex_search_core.specs.Search.{Search}
@@ -22,7 +22,7 @@ use Rattle.nfa_search_base.specs.Asking.{SameButStart}
 use Rattle.nfa_search_base.specs.LastEnd.{EndsBy}
 use Rattle.nfa_search_base.specs.Items.{Item, matches_in, items_from, items_within, greedy}
 use Rattle.nfa_search_base.specs.Lists.{IsStep, Fails, ItemsNext, ItemsLast, AreDisjoint, AreSpansDisjoint}
-use Rattle.nfa_search_base.specs.Lists.{AnswersMatch, ComeLast, AreFirstMatches, AreMatches}
+use Rattle.nfa_search_base.specs.Lists.{AnswersMatch, AreFirstMatches, AreMatches}
 use Rattle.nfa_search_base.specs.IterStates.{IterState, Answer, Advances, AnswerIsInside}
 use Rattle.nfa_search_base.specs.IterStates.{fresh, repeats, shifted, after, answer_span, span_of, ends_left}
 use Rattle.nfa_search_base.specs.declared.error.SearchError.{SearchError}
@@ -48,6 +48,36 @@ behind-none n = λ e is. let never : None ≡ Some e = is in cc
 behind-after : (end : ℕ) → EndsBy (Some end) end
 behind-after end = λ e is. let same : end ≡ e = some-injective end e is in omega (arith, same)
 
+-- a list of matches as items
+abbrev pub as_items : {X : Type 0} → List X → List (Item X)
+as_items xs = map (λ x. Ok x) xs
+
+-- If answers of `under` are answers of `tells` as f shows them, so are the steps.
+module _ {X Y : Type 0} (span : X → Span) (span' : Y → Span) (under : Search → Answer X → Type 0)
+    (tells : Search → Answer Y → Type 0) (f : Answer X → Answer Y)
+    (same : (a : Answer X) → answer_span span a ≡ answer_span span' (f a))
+    (so : (t : Search) (a : Answer X) → under t a → tells t (f a)) where
+  pub step-as : (w : IterState) (a : Answer X) → IsStep span under w a → IsStep span' tells w (f a)
+  step-as w a h = record {
+    first = f h.first;
+    is_first = so w.at h.first h.is_first;
+    rest = of (repeats w (answer_span span h.first)) (repeats w (answer_span span' (f h.first)))
+        (ap (repeats w) (same h.first)) h.rest;
+  }
+    where
+      of : (b c : Bool) → b ≡ c → MatchBool b (under (shifted w).at a) (a ≡ h.first)
+          → MatchBool c (tells (shifted w).at (f a)) (f a ≡ f h.first)
+      of true true e k = so (shifted w).at a k
+      of true false e k = cc
+      of false true e k = cc
+      of false false e k = ap f k
+
+-- lists that go on as each other are equal
+none-left : {A : Type 0} (xs ys more less : List A) → ys ≡ xs ++ more → xs ≡ ys ++ less → xs ≡ ys
+none-left xs ys [] less a b = sym (a ∙ append-nil xs)
+none-left xs ys (m ∷ more) less a b =
+    absurd (omega (arith, ap length a, ap length b, length-append xs (m ∷ more), length-append ys less))
+
 module _ {X : Type 0} (span : X → Span) (tells : Search → Answer X → Type 0) where
   -- the iteration after a match
   abbrev past : IterState → X → IterState
@@ -62,6 +92,29 @@ module _ {X : Type 0} (span : X → Span) (tells : Search → Answer X → Type 
 
   abbrev Last : IterState → List (Item X) → Type 0
   Last = ItemsLast span tells (Fails span tells)
+
+  -- all items are first items
+  pub last-next : (ends : IterState → SearchError → Type 0) (w : IterState) (items : List (Item X))
+      → ItemsLast span tells ends w items → ItemsNext span tells ends w items
+  last-next ends w [] h = tt
+  last-next ends w (Ok x ∷ items) h = (h.0, last-next ends (past w x) items h.1)
+  last-next ends w (Err e ∷ items) h = h
+
+  -- if no search errs, no step errs
+  pub never-fails : ((t : Search) (e : SearchError) → tells t (Err e) → ⊥) → (w : IterState) (e : SearchError)
+      → Step w (Err e) → ⊥
+  never-fails never w e h = elim (chosen (repeats w (answer_span span h.first)) h.rest) [
+    | inl p ↦ never (shifted w).at e p.1
+    | inr p ↦ never w.at e (subst (λ (a : Answer X). tells w.at a) (sym p.1) h.is_first)
+  ]
+
+  -- so all items are matches
+  pub last-matches : ((t : Search) (e : SearchError) → tells t (Err e) → ⊥) → (w : IterState) (items : List (Item X))
+      → Last w items → (xs : List X) × Last w (as_items xs)
+  last-matches never w [] come = ([], come)
+  last-matches never w (Ok x ∷ items) come =
+      let rest = last-matches never (past w x) items come.1 in (x ∷ rest.0, (come.0, rest.1))
+  last-matches never w (Err e ∷ items) come = absurd (never-fails never w e come.0)
 
   -- if a search gives at most one answer
   module _ (one : (t : Search) (a b : Answer X) → tells t a → tells t b → a ≡ b) where
@@ -99,29 +152,10 @@ module _ {X : Type 0} (span : X → Span) (tells : Search → Answer X → Type 
 
     -- there is one list
     pub last-unique : (w : IterState) (xs ys : List (Item X)) → Last w xs → Last w ys → xs ≡ ys
-    last-unique w [] [] h k = refl
-    last-unique w [] (Ok y ∷ ys) h k = let e : Ok None ≡ Ok (Some y) = step-unique w (Ok None) (Ok (Some y)) h k.0 in cc
-    last-unique w [] (Err q ∷ ys) h k = let e : Ok None ≡ Err q = step-unique w (Ok None) (Err q) h k.0 in cc
-    last-unique w (Ok x ∷ xs) [] h k = let e : Ok (Some x) ≡ Ok None = step-unique w (Ok (Some x)) (Ok None) h.0 k in cc
-    last-unique w (Ok x ∷ xs) (Ok y ∷ ys) h k =
-        let same : x ≡ y = match-same x y (step-unique w (Ok (Some x)) (Ok (Some y)) h.0 k.0) in
-        let there = subst (λ (m : X). Last (past w m) ys) (sym same) k.1 in
-        rw (same, last-unique (past w x) xs ys h.1 there) refl
-    last-unique w (Ok x ∷ xs) (Err q ∷ ys) h k = let e : Ok (Some x) ≡ Err q =
-        step-unique w (Ok (Some x)) (Err q) h.0 k.0 in cc
-    last-unique w (Err e ∷ xs) [] h k = let is : Err e ≡ Ok None = step-unique w (Err e) (Ok None) h.0 k in cc
-    last-unique w (Err e ∷ xs) (Ok y ∷ ys) h k = let is : Err e ≡ Ok (Some y) =
-        step-unique w (Err e) (Ok (Some y)) h.0 k.0 in cc
-    last-unique w (Err e ∷ xs) (Err q ∷ ys) h k =
-        let same : e ≡ q = error-same e q (step-unique w (Err e) (Err q) h.0 k.0) in
-        rw (h.1, k.1, same) refl
-
-  -- all items are first items
-  pub last-next : (ends : IterState → SearchError → Type 0) (w : IterState) (items : List (Item X))
-      → ItemsLast span tells ends w items → ItemsNext span tells ends w items
-  last-next ends w [] h = tt
-  last-next ends w (Ok x ∷ items) h = (h.0, last-next ends (past w x) items h.1)
-  last-next ends w (Err e ∷ items) h = h
+    last-unique w xs ys h k =
+        let more = next-rest w xs ys (last-next (Fails span tells) w xs h) k in
+        let less = next-rest w ys xs (last-next (Fails span tells) w ys k) h in
+        none-left xs ys more.0 less.0 more.1 less.1
 
   -- if the answer of a search is in its span
   module _ (lies : (t : Search) (a : Answer X) → tells t a
@@ -256,10 +290,6 @@ module _ {X : Type 0} (span : X → Span) (tells : Search → Answer X → Type 
       unfolding greedy
       items-greedy x gives = come-greedy (suc (ends_left (fresh x))) (fresh x) (omega arith) (behind-none x.start) gives
 
--- a list of matches as items
-abbrev pub as_items : {X : Type 0} → List X → List (Item X)
-as_items xs = map (λ x. Ok x) xs
-
 pub matches_in-as_items : {X : Type 0} (xs : List X) → matches_in (as_items xs) ≡ xs
 matches_in-as_items [] = refl
 matches_in-as_items (x ∷ xs) = ap (λ l. x ∷ l) (matches_in-as_items xs)
@@ -276,26 +306,23 @@ as_items-rest {X} (x ∷ xs) (y ∷ ys) more e =
     let rest = as_items-rest xs ys more tail in
     (rest.0, ap (λ (z : X). z ∷ ys) same ∙ ap (λ (l : List X). x ∷ l) rest.1)
 
+-- spans that do not overlap are those of matches that do not
+spans-disjoint : (x : Search) (last : Option ℕ) (ms : List Found) → AreSpansDisjoint x last (map span_of ms)
+    → AreDisjoint x last ms
+spans-disjoint x last [] h = tt
+spans-disjoint x last (m ∷ ms) h =
+    (record { from = h.0.0; ordered = h.0.1; to = h.0.2 }, h.1, spans-disjoint x (Some m.end) ms h.2)
+
 -- The matches of a search are in its span, so the matches of an iteration do not overlap.
 module _ (tells : Search → Answer Found → Type 0)
     (lies : (t : Search) (a : Answer Found) → tells t a → AnswerIsInside span_of t a
     × IsOrdered (answer_span span_of a))
     (ends : IterState → SearchError → Type 0) where
-  come-apart : (x : Search) (w : IterState) (items : List (Item Found)) → x.start ≤ w.at.start → w.at.end ≡ x.end
-      → EndsBy w.last w.at.start → ItemsNext span_of tells ends w items → AreDisjoint x w.last (matches_in items)
-  come-apart x w [] from to behind h = tt
-  come-apart x w (Err e ∷ items) from to behind h = rw h.1 tt
-  come-apart x w (Ok m ∷ items) from to behind h =
-      let k = step-lies span_of tells lies w m h.0 in (
-        record { from = omega (arith, k.0); ordered = k.1; to = omega (arith, k.2) },
-        step-behind span_of tells lies w m behind h.0,
-        come-apart x (after w (Some (span_of m))) items (omega (arith, k.0, k.1)) to (behind-after m.end) h.1,
-      )
-
   -- the matches among the first items of a search are in its span, in order and without overlap
   pub items-apart : (x : Search) (items : List (Item Found)) → ItemsNext span_of tells ends (fresh x) items
       → AreDisjoint x None (matches_in items)
-  items-apart x items h = come-apart x (fresh x) items (omega arith) refl (behind-none x.start) h
+  items-apart x items h = spans-disjoint x None (matches_in items)
+      (spans-apart span_of tells lies ends x (fresh x) items (omega arith) refl (behind-none x.start) h)
 
 module _ (nfa : Automaton) (kind : MatchKind) (earliest : Bool) where
   abbrev tells : Search → Answer Found → Type 0
@@ -317,13 +344,6 @@ module _ (nfa : Automaton) (kind : MatchKind) (earliest : Bool) where
   match-lies t (Ok None) h = (tt, λ p is. let never : None ≡ Some p = is in cc)
   match-lies t (Err e) h = absurd h
 
-  -- and no step errs
-  never-fails : (w : IterState) (e : SearchError) → IsStep span_of tells w (Err e) → ⊥
-  never-fails w e h = elim (chosen (repeats w (answer_span span_of h.first)) h.rest) [
-    | inl p ↦ p.1
-    | inr p ↦ subst (λ (a : Answer Found). tells w.at a) (sym p.1) h.is_first
-  ]
-
   -- each search has an answer
   abbrev answer_of : Search → Option Found
   answer_of t =
@@ -340,15 +360,8 @@ module _ (nfa : Automaton) (kind : MatchKind) (earliest : Bool) where
   matches-exist x =
       let h : Search → Answer Found = λ t. Ok (answer_of t) in
       let all = items-greedy span_of tells match-lies h x (λ t alike. answer_of-told t) in
-      let ms = matches_of (greedy span_of h (fresh x)) (fresh x) all in
+      let ms = last-matches span_of tells (λ t e k. k) (fresh x) (greedy span_of h (fresh x)) all in
       (ms.0, record { come = ms.1 })
-    where
-      matches_of : (items : List (Item Found)) (w : IterState) → ItemsLast span_of tells (Fails span_of tells) w items
-          → (ms : List Found) × ComeLast nfa kind earliest w ms
-      matches_of [] w come = ([], come)
-      matches_of (Ok m ∷ items) w come =
-          let rest = matches_of items (after w (Some (span_of m))) come.1 in (m ∷ rest.0, (come.0, rest.1))
-      matches_of (Err e ∷ items) w come = absurd (never-fails w e come.0)
 
   -- and one at most
   pub matches-unique : (x : Search) (xs ys : List Found) → AreMatches nfa kind earliest x xs

@@ -20,8 +20,7 @@ use Rattle.nfa_search_base.specs.IterStates.{IterState, Answer, fresh, span_of}
 use Rattle.nfa_search_base.specs.declared.error.SearchError.{SearchError}
 use Rattle.nfa_search_base.specs.declared.iter.steps.Steps.{Steps}
 use Rattle.nfa_search_base.proofs.ListLemmas.{matches-apart, matches-rest, matches-unique}
-use Rattle.nfa_search_base.proofs.RunLemmas.{Says, item-says, gives-first_matches, gives-all_matches, runs-give}
-use Rattle.nfa_search_base.proofs.RunLemmas.{gives-next}
+use Rattle.nfa_search_base.proofs.RunLemmas.{Given, Says, given, item-says, gives-first_matches, gives-all_matches}
 
 -- the calls of a shell are those of the iterator in it
 pub yields-inner : {T U R : Type 0} (outer : T → Option R → T → Type 0) (steps : U → Option R → U → Type 0)
@@ -41,6 +40,15 @@ pub all-inside : (x : Search) (last : Option ℕ) (ms : List Match) → AreDisjo
 all-inside x last [] h = All-nil (λ m. IsInside x (found_of m))
 all-inside x last (m ∷ ms) h = All-cons (λ m. IsInside x (found_of m)) m ms h.0
     (all-inside x (Some (found_of m).end) ms h.2)
+
+-- all that the calls of an iterator over the matches of x give
+pub record MatchesGiven (nfa : Automaton) (kind : MatchKind) (x : Search) {T : Type 0}
+    (steps : T → Option Match → T → Type 0) (s : T) : Type 0 where
+  pub runs : MatchesRun nfa kind x steps s
+  pub first : MatchesFirst nfa kind x steps s
+  pub next : MatchesNext nfa kind x steps s
+  pub apart : MatchesDisjoint nfa kind x steps s
+  pub are : MatchesAre nfa kind x steps s
 
 module _ (nfa : Automaton) (kind : MatchKind) (x : Search) where
   abbrev tells : Search → Answer Found → Type 0
@@ -64,36 +72,33 @@ module _ (nfa : Automaton) (kind : MatchKind) (x : Search) where
     abbrev core : Steps S → Option Match → Steps S → Type 0
     core = takes_infallible_steps span_of asks (λ q. GivesItem found_of)
 
-    pub matches-first_given : MatchesFirst nfa kind x steps s
-    matches-first_given = λ xs t ran. record {
-      come = gives-first_matches span_of asks (λ q. GivesItem found_of) found_of tells (Fails span_of tells) x Good acts
-          says (inner s) walk going good
-          xs (inner t) (yields-inner steps core inner is xs s t ran);
+    -- its items are those of x
+    found : Given steps (AreFirst nfa kind x) (AreAll nfa kind x) s
+    found = given steps (AreFirst nfa kind x) (AreAll nfa kind x) s
+        (λ xs t ran. record {
+          come = gives-first_matches span_of asks (λ q. GivesItem found_of) found_of tells (Fails span_of tells) x Good
+              acts says (inner s) walk going good xs (inner t) (yields-inner steps core inner is xs s t ran);
+        })
+        (λ xs t u ran st. record {
+          come = gives-all_matches span_of asks (λ q. GivesItem found_of) found_of tells (Fails span_of tells) x Good
+              acts says (inner s) walk going good xs (inner t) (inner u) (yields-inner steps core inner is xs s t ran)
+              (is t None u st);
+        })
+
+    -- all that its calls give
+    pub matches-given : MatchesGiven nfa kind x steps s
+    matches-given = record {
+      runs = found.run;
+      first = found.first;
+      next = found.next;
+      apart = λ p seen from.
+          let k = matches-apart nfa kind x.earliest x (map found_of p.items) (found.run p seen from).0 in
+          (k, all-inside x None p.items k);
+      are = λ p seen from all them.
+          let k = found.run p seen from in
+          let rest = matches-rest nfa kind x.earliest x (map found_of p.items) all k.0 them in
+          lists p found_of all rest.0 (λ whole.
+          let same : map found_of p.items ≡ all = matches-unique nfa kind x.earliest x (map found_of p.items) all
+          (k.1 whole) them in
+          no-more (map found_of p.items) rest.0 (same ∙ rest.1)) rest.1;
     }
-
-    matches-all_given : (xs : List Match) (t u : T) → Yields steps s xs t → steps t None u → AreAll nfa kind x xs
-    matches-all_given = λ xs t u ran st. record {
-      come = gives-all_matches span_of asks (λ q. GivesItem found_of) found_of tells (Fails span_of tells) x Good acts
-          says (inner s) walk going good
-          xs (inner t) (inner u) (yields-inner steps core inner is xs s t ran) (is t None u st);
-    }
-
-    pub matches-run : MatchesRun nfa kind x steps s
-    matches-run = runs-give steps (AreFirst nfa kind x) (AreAll nfa kind x) s matches-first_given matches-all_given
-
-    pub matches-next : MatchesNext nfa kind x steps s
-    matches-next = gives-next steps (AreFirst nfa kind x) (AreAll nfa kind x) s matches-first_given matches-all_given
-
-    pub matches-apart_run : MatchesDisjoint nfa kind x steps s
-    matches-apart_run = λ p seen from.
-        let k = matches-apart nfa kind x.earliest x (map found_of p.items) (matches-run p seen from).0 in
-        (k, all-inside x None p.items k)
-
-    pub matches-are : MatchesAre nfa kind x steps s
-    matches-are = λ p seen from all them.
-        let k = matches-run p seen from in
-        let rest = matches-rest nfa kind x.earliest x (map found_of p.items) all k.0 them in
-        lists p found_of all rest.0 (λ whole.
-        let same : map found_of p.items ≡ all = matches-unique nfa kind x.earliest x (map found_of p.items) all
-        (k.1 whole) them in
-        no-more (map found_of p.items) rest.0 (same ∙ rest.1)) rest.1

@@ -1,14 +1,15 @@
 -- The calls of an iterator that keeps its finder or engine give the items of its list.
-use Rattle.std.proofs.Common.{◌≡◌, ◌∙◌, ◌⊎◌, inl, inr, Bool, true, false, MatchBool, refl, sym, ap, subst}
+use Rattle.std.proofs.Common.{◌≡◌, ◌∙◌, ◌⊎◌, inl, inr, true, false, refl, sym, ap, subst}
 use Rattle.std.proofs.Common.{Option, None, Some, Result, Ok, Err, List, [], ◌∷◌, ◌++◌, map}
 use Rattle.std.specs.Iterator.{Yields}
+use Rattle.std.specs.Option.{option_map}
 use Rattle.std.specs.Iterator.Runs.{YieldsRun}
 use Rattle.regex_search_core.specs.Search.{Search}
 use Rattle.regex_search_core.specs.declared.search.Span.{Span}
 use Rattle.nfa_search_base.specs.Asking.{SameButStart}
 use Rattle.nfa_search_base.specs.Items.{Item, item_by}
 use Rattle.nfa_search_base.specs.Lists.{IsStep, ItemsNext, ItemsLast}
-use Rattle.nfa_search_base.specs.Runs.{RunsGive, GivesFirst, GivesNext}
+use Rattle.nfa_search_base.specs.Runs.{RunsGive, GivesAll, GivesFirst, GivesNext}
 use Rattle.nfa_search_base.specs.Steps.{TakesStep, GivesItem, ends_at}
 use Rattle.nfa_search_base.specs.Stored.{steps_iter_state, takes_steps, takes_infallible_steps}
 use Rattle.nfa_search_base.specs.IterStates.{IterState, Answer, Advances, fresh, repeats, shifted, after, answer_span}
@@ -16,7 +17,7 @@ use Rattle.nfa_search_base.specs.declared.error.SearchError.{SearchError}
 use Rattle.nfa_search_base.specs.declared.iter.steps.Steps.{Steps}
 use Rattle.nfa_search_base.proofs.ListLemmas.{as_items}
 use Rattle.nfa_search_base.proofs.AskingLemmas.{same_start-self, same_start-then}
-use Rattle.nfa_search_base.proofs.StepLemmas.{chosen, same_start-shifted, same_start-after}
+use Rattle.nfa_search_base.proofs.StepLemmas.{chosen, chosen-false, chosen-true, same_start-shifted, same_start-after}
 
 -- What is shown of the items of calls, as clauses.
 module _ {T R : Type 0} (steps : T → Option R → T → Type 0) where
@@ -25,6 +26,13 @@ module _ {T R : Type 0} (steps : T → Option R → T → Type 0) where
       → Yields steps s (xs ++ r ∷ []) u
   yields-more [] s t u r ran st = (u, subst (λ (q : T). steps q (Some r) u) (sym ran) st, refl)
   yields-more (x ∷ xs) s t u r ran st = (ran.0, ran.1, yields-more xs ran.0 t u r ran.2 st)
+
+  -- all that is shown
+  pub record Given (First Whole : List R → Type 0) (s : T) : Type 0 where
+    pub run : RunsGive steps First Whole s
+    pub first : GivesFirst steps First s
+    pub next : GivesNext steps First s
+    pub all : GivesAll steps First Whole s
 
   module _ (First Whole : List R → Type 0) (s : T) (first : GivesFirst steps First s)
       (all : (xs : List R) (t u : T) → Yields steps s xs t → steps t None u → Whole xs) where
@@ -38,6 +46,9 @@ module _ {T R : Type 0} (steps : T → Option R → T → Type 0) where
     pub gives-next : GivesNext steps First s
     gives-next = λ xs t r u ran st. first (xs ++ r ∷ []) u (yields-more xs s t u r ran st)
 
+    pub given : Given First Whole s
+    given = record { run = runs-give; first = first; next = gives-next; all = all }
+
   -- what each call keeps, all calls keep
   module _ (Keeps : T → T → Type 0) (self : (s : T) → Keeps s s) (then : (s t u : T) → Keeps s t
       → Keeps t u → Keeps s u)
@@ -49,6 +60,12 @@ module _ {T R : Type 0} (steps : T → Option R → T → Type 0) where
     pub calls-keep : (s : T) (xs : List R) (t : T) (r : Option R) (u : T) → Yields steps s xs t → steps t r u
         → Keeps s u
     calls-keep s xs t r u ran st = then s t u (run-keeps s xs t ran) (step t r u st)
+
+-- calls that give only values give items that are all `Ok`
+pub yields-oked : {T Y E : Type 0} (steps : T → Option (Result Y E) → T → Type 0) (xs : List Y) (q t : T)
+    → Yields (λ p r u. steps p (option_map (λ y. Ok y) r) u) q xs t → Yields steps q (map (λ y. Ok y) xs) t
+yields-oked steps [] q t ran = ran
+yields-oked steps (y ∷ ys) q t ran = (ran.0, ran.1, yields-oked steps ys ran.0 t ran.2)
 
 -- What an item says about the answer of its step, if an error `ends` it.
 module _ {X Y : Type 0} (view : Y → X) (a : Answer X) (ends : SearchError → Type 0) where
@@ -121,14 +138,7 @@ module _ {S X Y : Type 0} (span : X → Span) (asks : S → Search → Answer X 
 
   turn-at : (w : IterState) (s : Steps S) (r : Option (Result Y SearchError)) (t : Steps S) → IsAt w s → steps s r t
       → TakesStep span asks gives s.backend w r t.backend (steps_iter_state t) t.done
-  turn-at w s r t at st = of s.done at.going st
-    where
-      of : (b : Bool) → b ≡ false
-          → MatchBool b ((r ≡ None) × (t ≡ s)) (TakesStep span asks gives s.backend (steps_iter_state s) r t.backend
-          (steps_iter_state t) t.done)
-          → TakesStep span asks gives s.backend w r t.backend (steps_iter_state t) t.done
-      of true e h = cc
-      of false e h = rw at.walk at h
+  turn-at w s r t at st = rw at.walk at (chosen-false s.done at.going (chosen s.done st))
 
   -- a call leads to the state that its item says
   leads : (w : IterState) (s : Steps S) (r : Option (Result Y SearchError)) (t : Steps S) → IsAt w s → steps s r t
@@ -161,15 +171,7 @@ module _ {S X Y : Type 0} (span : X → Span) (asks : S → Search → Answer X 
   -- an iterator that has ended gives nothing
   ended : (s t : Steps S) (xs : List (Result Y SearchError)) → s.done ≡ true → Yields steps s xs t → xs ≡ []
   ended s t [] d h = refl
-  ended s t (y ∷ ys) d h = of s.done d h.1
-    where
-      of : (b : Bool) → b ≡ true
-          → MatchBool b ((Some y ≡ None) × (h.0 ≡ s))
-          (TakesStep span asks gives s.backend (steps_iter_state s) (Some y) (h.0).backend (steps_iter_state h.0)
-          (h.0).done)
-          → y ∷ ys ≡ []
-      of true e k = let never : Some y ≡ None = k.0 in cc
-      of false e k = cc
+  ended s t (y ∷ ys) d h = let never : Some y ≡ None = (chosen-true s.done d (chosen s.done h.1)).0 in cc
 
   abbrev items : List (Result Y SearchError) → List (Item X)
   items = map (item_by view)
@@ -224,10 +226,6 @@ module _ {S X Y : Type 0} (span : X → Span) (asks : S → Search → Answer X 
     abbrev sure_steps : Steps S → Option Y → Steps S → Type 0
     sure_steps = takes_infallible_steps span asks gives
 
-    oked : (xs : List Y) (q t : Steps S) → Yields sure_steps q xs t → Yields steps q (map (λ y. Ok y) xs) t
-    oked [] q t ran = ran
-    oked (y ∷ ys) q t ran = (ran.0, ran.1, oked ys ran.0 t ran.2)
-
     as_items-view : (xs : List Y) → items (map (λ y. Ok y) xs) ≡ as_items (map view xs)
     as_items-view [] = refl
     as_items-view (y ∷ ys) = ap (λ (l : List (Item X)). Ok (view y) ∷ l) (as_items-view ys)
@@ -236,13 +234,13 @@ module _ {S X Y : Type 0} (span : X → Span) (asks : S → Search → Answer X 
         (λ xs. ItemsNext span tells ends (fresh x) (as_items (map view xs))) s
     gives-first_matches = λ xs t ran.
         subst (λ (l : List (Item X)). ItemsNext span tells ends (fresh x) l) (as_items-view xs)
-        (gives-first (map (λ y. Ok y) xs) t (oked xs s t ran))
+        (gives-first (map (λ y. Ok y) xs) t (yields-oked steps xs s t ran))
 
     pub gives-all_matches : (xs : List Y) (t u : Steps S) → Yields sure_steps s xs t → sure_steps t None u
         → ItemsLast span tells ends (fresh x) (as_items (map view xs))
     gives-all_matches = λ xs t u ran st.
         subst (λ (l : List (Item X)). ItemsLast span tells ends (fresh x) l) (as_items-view xs)
-        (gives-all (map (λ y. Ok y) xs) t u (oked xs s t ran) st)
+        (gives-all (map (λ y. Ok y) xs) t u (yields-oked steps xs s t ran) st)
 
 -- What each call to the asker keeps, each call of the iterator keeps.
 module _ {S X Y : Type 0} (span : X → Span) (asks : S → Search → Answer X → S → Type 0)
@@ -252,21 +250,17 @@ module _ {S X Y : Type 0} (span : X → Span) (asks : S → Search → Answer X 
     → asks s t a s' → Keeps s s') where
   pub step-keeps : (s : Steps S) (r : Option (Result Y SearchError)) (t : Steps S) → takes_steps span asks gives s r t
       → Keeps s.backend t.backend
-  step-keeps s r t st = of s.done st
-    where
-      of : (b : Bool)
-          → MatchBool b ((r ≡ None) × (t ≡ s)) (TakesStep span asks gives s.backend (steps_iter_state s) r t.backend
-          (steps_iter_state t) t.done)
-          → Keeps s.backend t.backend
-      of true h = subst (λ (q : Steps S). Keeps s.backend q.backend) (sym h.1) (self s.backend)
-      of false h =
-          let step = h.step in
-          let one = asked s.backend (steps_iter_state s).at step.answer step.between step.first in
-          elim (chosen (repeats (steps_iter_state s) (answer_span span step.answer)) step.rest) [
-            | inl p ↦ then s.backend step.between t.backend one
-                (asked step.between (shifted (steps_iter_state s)).at h.answer t.backend p.1.0)
-            | inr p ↦ subst (λ (q : S). Keeps s.backend q) (sym p.1.1) one
-          ]
+  step-keeps s r t st = elim (chosen s.done st) [
+    | inl p ↦ subst (λ (q : Steps S). Keeps s.backend q.backend) (sym p.1.1) (self s.backend)
+    | inr p ↦
+        let step = p.1.step in
+        let one = asked s.backend (steps_iter_state s).at step.answer step.between step.first in
+        elim (chosen (repeats (steps_iter_state s) (answer_span span step.answer)) step.rest) [
+          | inl q ↦ then s.backend step.between t.backend one
+              (asked step.between (shifted (steps_iter_state s)).at p.1.answer t.backend q.1.0)
+          | inr q ↦ subst (λ (k : S). Keeps s.backend k) (sym q.1.1) one
+        ]
+  ]
 
 -- What each search like that of the iteration leaves, a step leaves.
 module _ {S X : Type 0} (span : X → Span) (asks : S → Search → Answer X → S → Type 0) (Holds : S → Type 0) where

@@ -1,5 +1,5 @@
 -- a step of an iteration by a finder
-use Rattle.std.proofs.Common.{◌≡◌, ◌∙◌, true, false, Bool, Option, None, Some, Result, IsOk, refl, sym, ap, subst, ◌⊎◌, inl, inr, MatchBool, arith}
+use Rattle.std.proofs.Common.{◌≡◌, ◌∙◌, true, false, Bool, Option, None, Some, Result, IsOk, refl, sym, ap, subst, ◌⊎◌, inl, inr, MatchBool, List, [], ◌∷◌, arith}
 use Rattle.std.specs.Fn.{Called, Mut}
 use Rattle.std.specs.Borrow.{Bor}
 use Rattle.regex_search_core.specs.Search.{Search, search_of}
@@ -9,8 +9,8 @@ use Rattle.nfa_search_base.specs.Asking.{IsCallableOn, SameButStart}
 use Rattle.nfa_search_base.specs.LastEnd.{EndsBy}
 use Rattle.nfa_search_base.specs.IterStates.{IterState, Answer, answer_span, AnswerIsInside, IsInfalliblyInside, LiesIn, repeats, after, shifted, Advances, ComesAfter, LeavesFewer}
 use Rattle.nfa_search_base.specs.Finders.{answer_by, Finds, AnswersAlong}
-use Rattle.nfa_search_base.specs.WithCache.{WithCache, accepts_by_ref, asks_by_ref}
-use Rattle.nfa_search_base.specs.Serving.{ServesOnAlong, ServesAdvance, StepDone}
+use Rattle.nfa_search_base.specs.WithCache.{WithCache, accepts_whole, asks_whole}
+use Rattle.nfa_search_base.specs.Serving.{LeadsOn, ServesOnAlong, ServesAdvance, StepDone}
 use Rattle.nfa_search_base.specs.declared.error.SearchError.{SearchError}
 use Rattle.nfa_search_base.proofs.AskingLemmas.{same_start-self, same_start-then, ServesOn-now, ServesOnAlong-same, ServesOnAlong-call, ServesOnAlong-weaker, ServesOnAlong-by}
 use Rattle.nfa_search_base.proofs.IterStateLemmas.{IsOrdered, ComesAfter-first, LeavesFewer-first, ComesAfter-second, LeavesFewer-second}
@@ -19,6 +19,14 @@ use Rattle.nfa_search_base.proofs.IterStateLemmas.{IsOrdered, ComesAfter-first, 
 pub chosen : {A B : Type 0} (b : Bool) → MatchBool b A B → ((b ≡ true) × A) ⊎ ((b ≡ false) × B)
 chosen true h = inl (refl, h)
 chosen false h = inr (refl, h)
+
+pub chosen-true : {A B : Type 0} (b : Bool) → b ≡ true → ((b ≡ true) × A) ⊎ ((b ≡ false) × B) → A
+chosen-true b e (inl h) = h.1
+chosen-true b e (inr h) = let never : true ≡ false = sym e ∙ h.0 in cc
+
+pub chosen-false : {A B : Type 0} (b : Bool) → b ≡ false → ((b ≡ true) × A) ⊎ ((b ≡ false) × B) → B
+chosen-false b e (inl h) = let never : true ≡ false = sym h.0 ∙ e in cc
+chosen-false b e (inr h) = h.1
 
 -- after a match or none, the search is the same but for its start
 pub same_start-after : (w : IterState) (place : Option Span) → SameButStart w.at (after w place).at
@@ -255,34 +263,49 @@ module _ {X S : Type 0} (span : X → Span) (asks : S → Search → Answer X �
     | inr p ↦ subst (λ (v : IterState). SameButStart w.at v.at) (sym p.1.2) (same_start-after w (answer_span span r))
   ]
 
--- If the whole state is borrowed, a step is one of what is borrowed.
-module _ {S C X : Type 0} (accepts : C → Search → Type 0) (asks : C → Search → Answer X → C → Type 0)
-    (span : X → Span) where
-  pub serves-lent : (P : Search → Answer X → Type 0) (s : WithCache S C) (w : IterState)
-      → ServesAdvance accepts asks span P s.cache w
-      → ServesAdvance (accepts_by_ref accepts) (asks_by_ref asks) span P s w
-  serves-lent P s w h = record {
-    first = record { callable = h.first.callable; replies = λ a t asked. h.first.replies a t.cache asked };
+-- If a part of the state is borrowed, a step is one of the whole state.
+module _ {S C T X : Type 0} (whole : WithCache S C → T) (accepts : T → Search → Type 0)
+    (asks : T → Search → Answer X → T → Type 0) (span : X → Span) where
+  pub serves-whole : (P : Search → Answer X → Type 0) (s : WithCache S C) (w : IterState)
+      → ServesAdvance accepts asks span P (whole s) w
+      → ServesAdvance (accepts_whole whole accepts) (asks_whole whole asks) span P s w
+  serves-whole P s w h = record {
+    first = record { callable = h.first.callable; replies = λ a t asked. h.first.replies a (whole t) asked };
     second = λ a t asked again.
-        let now = h.second a t.cache asked again in
-        record { callable = now.callable; replies = λ b u asked'. now.replies b u.cache asked' };
+        let now = h.second a (whole t) asked again in
+        record { callable = now.callable; replies = λ b u asked'. now.replies b (whole u) asked' };
   }
 
-  pub step-lent : (s : WithCache S C) (w : IterState) (r : Answer X) (t : WithCache S C) (v : IterState)
-      → Advances span (asks_by_ref asks) s w r t v → Advances span asks s.cache w r t.cache v
-  step-lent s w r t v h = record {
+  leads-whole : (x : Search) (calls : List (Search × Answer X)) (s t : WithCache S C)
+      → LeadsOn (accepts_whole whole accepts) (asks_whole whole asks) SameButStart x s calls t
+      → LeadsOn accepts asks SameButStart x (whole s) calls (whole t)
+  leads-whole x [] s t leads = ap whole leads
+  leads-whole x (c ∷ calls) s t leads = (whole leads.0, leads.1, leads-whole x calls leads.0 t leads.2)
+
+  pub Along-whole : (P : Search → Answer X → Type 0) (s : WithCache S C) (x : Search)
+      → ServesOnAlong accepts asks SameButStart P (whole s) x
+      → ServesOnAlong (accepts_whole whole accepts) (asks_whole whole asks) SameButStart P s x
+  Along-whole P s x h = record {
+    at = λ calls t u leads same.
+        let now = h.at calls (whole t) u (leads-whole x calls s t leads) same in
+        record { callable = now.callable; replies = λ a q asked. now.replies a (whole q) asked };
+  }
+
+  pub step-whole : (s : WithCache S C) (w : IterState) (r : Answer X) (t : WithCache S C) (v : IterState)
+      → Advances span (asks_whole whole asks) s w r t v → Advances span asks (whole s) w r (whole t) v
+  step-whole s w r t v h = record {
     answer = h.answer;
-    between = h.between.cache;
+    between = whole h.between;
     first = h.first;
     rest = of (repeats w (answer_span span h.answer)) h.rest;
   }
     where
       of : (again : Bool)
-          → MatchBool again (asks h.between.cache (shifted w).at r t.cache
+          → MatchBool again (asks (whole h.between) (shifted w).at r (whole t)
           × (v ≡ after (shifted w) (answer_span span r)))
           ((r ≡ h.answer) × (t ≡ h.between) × (v ≡ after w (answer_span span r)))
-          → MatchBool again (asks h.between.cache (shifted w).at r t.cache
+          → MatchBool again (asks (whole h.between) (shifted w).at r (whole t)
           × (v ≡ after (shifted w) (answer_span span r)))
-          ((r ≡ h.answer) × (t.cache ≡ h.between.cache) × (v ≡ after w (answer_span span r)))
+          ((r ≡ h.answer) × (whole t ≡ whole h.between) × (v ≡ after w (answer_span span r)))
       of true k = k
-      of false k = (k.0, ap (λ (u : WithCache S C). u.cache) k.1, k.2)
+      of false k = (k.0, ap whole k.1, k.2)

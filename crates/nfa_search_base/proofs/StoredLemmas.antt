@@ -1,5 +1,5 @@
 -- the iterators that keep their finder or engine
-use Rattle.std.proofs.Common.{◌≡◌, ◌+◌, ◌<◌, true, false, Bool, Option, None, Some, Result, Ok, Err, IsOk, OnSome, MatchBool, List, [], ◌∷◌, refl, sym, ◌∙◌, ap, subst, arith}
+use Rattle.std.proofs.Common.{◌≡◌, ◌+◌, ◌<◌, true, false, Bool, Option, None, Some, Result, Ok, Err, IsOk, OnSome, MatchBool, List, [], ◌∷◌, refl, sym, ◌∙◌, ap, subst, inl, inr, arith}
 use Rattle.std.specs.Option.{option_map, IfSome, IfNone}
 use Rattle.std.specs.Iterator.{AlwaysYields, MakesProgress, IsFinite, size}
 use Rattle.std.proofs.lemmas.Iterator.{YieldsList}
@@ -7,14 +7,15 @@ use Rattle.regex_search_core.specs.Search.{Search}
 use Rattle.regex_search_core.specs.declared.search.Span.{Span}
 use Rattle.nfa_search_base.specs.Asking.{SameButStart}
 use Rattle.nfa_search_base.specs.IterStates.{IterState, Answer, answer_span, AnswerIsInside, IsInfalliblyInside, LeavesFewer, ends_left}
-use Rattle.nfa_search_base.specs.Items.{Item, item_by, item_of, ends_with, items_left, matches_left, matches_in, greedy_unless}
+use Rattle.nfa_search_base.specs.Items.{Item, item_by, item_of, items_left, matches_left, matches_in, greedy_unless}
 use Rattle.nfa_search_base.specs.Serving.{ServesOnAlong, StepDone}
+use Rattle.nfa_search_base.specs.WithCache.{WithCache, asks_whole, steps_whole}
 use Rattle.nfa_search_base.specs.Steps.{TakesStep, GivesItem, ends_at, ComesOfMatch}
 use Rattle.nfa_search_base.specs.Stored.{steps_iter_state, can_step, can_step_infallibly, takes_steps, takes_infallible_steps, steps_left, infallible_left}
 use Rattle.nfa_search_base.specs.declared.error.SearchError.{SearchError}
 use Rattle.nfa_search_base.specs.declared.iter.steps.Steps.{Steps}
 use Rattle.nfa_search_base.proofs.AskingLemmas.{same_start-self}
-use Rattle.nfa_search_base.proofs.StepLemmas.{Along-same, Along-call, Along-now, Along-turn, Along-answer, Along-weaker}
+use Rattle.nfa_search_base.proofs.StepLemmas.{chosen, Along-same, Along-call, Along-now, Along-turn, Along-answer, Along-weaker, step-whole}
 use Rattle.nfa_search_base.proofs.GreedyLemmas.{IsTurnOf, step-computes, yields-greedy}
 
 -- after a match fewer ends are left, and after an error nothing is
@@ -43,17 +44,11 @@ takes-step accepts asks span gives s w a s' w' r d done item comes ends = record
   fewer = rw ends (step-fewer span w w' a r comes done.fewer);
 }
 
-ends-as : {X Y : Type 0} (view : Y → X) (a : Answer X) (r : Option (Result Y SearchError)) → GivesItem view a r
-    → ends_at r ≡ ends_with a
-ends-as view (Ok (Some x)) (Some (Ok y)) h = refl
-ends-as view (Ok (Some x)) (Some (Err e)) h = let k : Some (Err e) ≡ Some (Ok x) = h in cc
-ends-as view (Ok (Some x)) None h = let k : None ≡ Some (Ok x) = h in cc
-ends-as view (Ok None) (Some (Ok y)) h = let k : Some (Ok (view y)) ≡ None = h in cc
-ends-as view (Ok None) (Some (Err e)) h = refl
-ends-as view (Ok None) None h = refl
-ends-as view (Err e) (Some (Ok y)) h = let k : Some (Ok (view y)) ≡ Some (Err e) = h in cc
-ends-as view (Err e) (Some (Err x)) h = refl
-ends-as view (Err e) None h = refl
+ends-by : {X Y : Type 0} (view : Y → X) (r : Option (Result Y SearchError))
+    → ends_at r ≡ ends_at (option_map (item_by view) r)
+ends-by view (Some (Ok y)) = refl
+ends-by view (Some (Err e)) = refl
+ends-by view None = refl
 
 no_err : {X : Type 0} (a : Answer X) (e : SearchError) → IsOk a → Some (Err e) ≡ item_of a → ⊥
 no_err (Ok (Some x)) e ok is = let k : Some (Err e) ≡ Some (Ok x) = is in cc
@@ -92,14 +87,42 @@ module _ {S X Y : Type 0} (accepts : S → Search → Type 0) (asks : S → Sear
 
   -- also if the iterator may have ended
   pub takes-progress : can s → takes_steps span asks gives s r t → MakesProgress can steps_left s r t
-  takes-progress may st = at_done s.done refl st
-    where
-      at_done : (b : Bool) → s.done ≡ b → MatchBool b ((r ≡ None) × (t ≡ s))
-          (TakesStep span asks gives s.backend (steps_iter_state s) r t.backend (steps_iter_state t) t.done)
-          → MakesProgress can steps_left s r t
-      at_done true d x = subst (λ (q : Option (Result Y SearchError)). MakesProgress can steps_left s q t) (sym x.0)
-          (record { on = λ f. tt; keeps = tt; rests = λ f. tt })
-      at_done false d x = steps-progress may d x
+  takes-progress may st = elim (chosen s.done st) [
+    | inl p ↦ subst (λ (q : Option (Result Y SearchError)). MakesProgress can steps_left s q t) (sym p.1.0)
+        (record { on = λ f. tt; keeps = tt; rests = λ f. tt })
+    | inr p ↦ steps-progress may p.0 p.1
+  ]
+
+-- If a part of the state is borrowed, a step is one of the iterator that keeps the whole state.
+module _ {S C T X Y : Type 0} (whole : WithCache S C → T) (accepts : T → Search → Type 0)
+    (asks : T → Search → Answer X → T → Type 0) (span : X → Span)
+    (gives : T → Answer X → Option (Result Y SearchError) → Type 0) (s t : Steps (WithCache S C))
+    (r : Option (Result Y SearchError)) (st : takes_steps span (asks_whole whole asks) (λ q. gives (whole q)) s r t)
+  where
+    pub takes-whole : takes_steps span asks gives (steps_whole whole s) r (steps_whole whole t)
+    takes-whole = of s.done st
+      where
+        of : (b : Bool)
+            → MatchBool b ((r ≡ None) × (t ≡ s)) (TakesStep span (asks_whole whole asks) (λ q. gives (whole q))
+            s.backend (steps_iter_state s) r t.backend (steps_iter_state t) t.done)
+            → MatchBool b ((r ≡ None) × (steps_whole whole t ≡ steps_whole whole s)) (TakesStep span asks gives
+            (whole s.backend) (steps_iter_state s) r (whole t.backend) (steps_iter_state t) t.done)
+        of true k = (k.0, ap (steps_whole whole) k.1)
+        of false k = record {
+          answer = k.answer;
+          step = step-whole whole accepts asks span s.backend (steps_iter_state s) k.answer t.backend
+              (steps_iter_state t) k.step;
+          item = k.item;
+          ends = k.ends;
+          rises = k.rises;
+          same = k.same;
+          fewer = k.fewer;
+        }
+
+    pub progress-whole : can_step accepts asks span (steps_whole whole s)
+        → MakesProgress (can_step accepts asks span) steps_left (steps_whole whole s) r (steps_whole whole t)
+    progress-whole may = takes-progress accepts asks span gives (AnswerIsInside span) (steps_whole whole s)
+        (steps_whole whole t) r may takes-whole
 
 module _ {S X Y : Type 0} (accepts : S → Search → Type 0) (asks : S → Search → Answer X → S → Type 0) (span : X → Span)
     (view : Y → X) where
@@ -155,7 +178,7 @@ module _ {S X Y : Type 0} (accepts : S → Search → Type 0) (asks : S → Sear
               record {
                 gives = x.item ∙ ap item_of e.0;
                 walk = e.1;
-                ends = x.ends ∙ ends-as view x.answer r x.item ∙ ap ends_with e.0;
+                ends = x.ends ∙ ends-by view r ∙ ap ends_at (x.item ∙ ap item_of e.0);
                 fewer = some_fewer r x.fewer;
               },
               moves t.backend (steps_iter_state s).at (steps_iter_state t).at x.same e.2,
@@ -179,37 +202,33 @@ module _ {S X Y : Type 0} (accepts : S → Search → Type 0) (asks : S → Sear
       (st : steps s r t) where
     -- and no error comes
     pub never-err : (e : SearchError) → r ≡ Some (Err e) → ⊥
-    never-err e is = at_done s.done st
-      where
-        at_done : (b : Bool) → MatchBool b ((r ≡ None) × (t ≡ s)) (turn s r t) → ⊥
-        at_done true x = let k : None ≡ Some (Err e) = sym x.0 ∙ is in cc
-        at_done false x =
-            let gives = x.item in
-            no_err x.answer e (Along-answer accepts asks span (IsInfalliblyInside span) s.backend
-            (steps_iter_state s) x.answer
-            t.backend (steps_iter_state t) x.step h).1.1 (rw is at gives)
+    never-err e is = elim (chosen s.done st) [
+      | inl p ↦ let k : None ≡ Some (Err e) = sym p.1.0 ∙ is in cc
+      | inr p ↦
+          let gives = p.1.item in
+          no_err p.1.answer e (Along-answer accepts asks span (IsInfalliblyInside span) s.backend (steps_iter_state s)
+          p.1.answer t.backend (steps_iter_state t) p.1.step h).1.1 (rw is at gives)
+    ]
 
     -- after a match the iterator may go on, and fewer ends are left
     pub after-match : (m : Y) → r ≡ Some (Ok m)
         → (s.done ≡ false) × (t.done ≡ false) × (ends_left (steps_iter_state t) < ends_left (steps_iter_state s))
         × can_step_infallibly accepts asks span t
-    after-match m is = at_done s.done refl st
-      where
-        at_done : (b : Bool) → s.done ≡ b → MatchBool b ((r ≡ None) × (t ≡ s)) (turn s r t)
-            → (s.done ≡ false) × (t.done ≡ false) × (ends_left (steps_iter_state t) < ends_left (steps_iter_state s))
-            × can_step_infallibly accepts asks span t
-        at_done true d x = let k : None ≡ Some (Ok m) = sym x.0 ∙ is in cc
-        at_done false d x =
-            let some = x.fewer in
-            let going : t.done ≡ false = x.ends ∙ ap ends_at is in
-            let less : items_left t.done (steps_iter_state t) < items_left false (steps_iter_state s) = rw is at some in
-            let fewer : ends_left (steps_iter_state t) + 1 < ends_left (steps_iter_state s) + 1 = rw going at less in (
-              d,
-              going,
-              omega arith,
-              Along-turn accepts asks span (IsInfalliblyInside span) s.backend (steps_iter_state s) x.answer
-                  t.backend (steps_iter_state t) x.step x.same h,
-            )
+    after-match m is = elim (chosen s.done st) [
+      | inl p ↦ let k : None ≡ Some (Ok m) = sym p.1.0 ∙ is in cc
+      | inr p ↦
+          let x = p.1 in
+          let some = x.fewer in
+          let going : t.done ≡ false = x.ends ∙ ap ends_at is in
+          let less : items_left t.done (steps_iter_state t) < items_left false (steps_iter_state s) = rw is at some in
+          let fewer : ends_left (steps_iter_state t) + 1 < ends_left (steps_iter_state s) + 1 = rw going at less in (
+            p.0,
+            going,
+            omega arith,
+            Along-turn accepts asks span (IsInfalliblyInside span) s.backend (steps_iter_state s) x.answer t.backend
+                (steps_iter_state t) x.step x.same h,
+          )
+    ]
 
     -- so a match is progress
     pub sure-some : (m : Y) (r' : Option Y) → r ≡ Some (Ok m) → r' ≡ Some m

@@ -1,5 +1,5 @@
 -- the iterators over captures
-use Rattle.std.proofs.Common.{◌≡◌, ℕ, zero, suc, ◌+◌, ◌<◌, true, false, Bool, Option, None, Some, Result, Ok, Err, IsOk, IfOk, MatchBool, List, [], ◌∷◌, map, refl, sym, ◌∙◌, ap, subst, ◌⊎◌, inl, inr, arith}
+use Rattle.std.proofs.Common.{◌≡◌, ℕ, zero, suc, ◌+◌, ◌<◌, true, false, Bool, Option, None, Some, Result, Ok, Err, IsOk, IfOk, List, [], ◌∷◌, map, refl, sym, ◌∙◌, ap, subst, ◌⊎◌, inl, inr, arith}
 use Rattle.std.specs.Fn.{Called, Mut}
 use Rattle.std.specs.Borrow.{Bor, MutBor}
 use Rattle.std.specs.Iterator.{Yields}
@@ -20,7 +20,7 @@ use Rattle.nfa_search_base.specs.declared.error.SearchError.{SearchError}
 use Rattle.nfa_search_base.specs.declared.error.SearchError.TheVariants.{Memory}
 use Rattle.nfa_search_base.specs.declared.iter.steps.Steps.{Steps}
 use Rattle.nfa_search_base.proofs.AskingLemmas.{same_start-self, same_start-then, ServesOnAlong-by}
-use Rattle.nfa_search_base.proofs.StepLemmas.{Along-same, Along-call, Along-now, Along-answer}
+use Rattle.nfa_search_base.proofs.StepLemmas.{chosen, chosen-false, chosen-true, Along-same, Along-call, Along-now, Along-answer}
 use Rattle.nfa_search_base.proofs.GreedyLemmas.{step-computes}
 
 abbrev Caught : Type 0
@@ -84,32 +84,25 @@ module _ {F : Type 0} (g : Mut F (Bor Input × (MutBor Captured × Unit {0}))
 
   -- the turn of a state that goes on
   turn_of : (s t : Steps (WithCaptures F)) (r : Option Caught) → s.done ≡ false → steps s r t → turn s r t
-  turn_of s t r d st = of s.done d st
-    where
-      of : (b : Bool) → b ≡ false → MatchBool b ((r ≡ None) × (t ≡ s)) (turn s r t) → turn s r t
-      of true e m = cc
-      of false e m = m
+  turn_of s t r d st = chosen-false s.done d (chosen s.done st)
 
   -- and of one that has ended
   none_of : (s t : Steps (WithCaptures F)) (r : Option Caught) → s.done ≡ true → steps s r t → r ≡ None
-  none_of s t r d st = of s.done d st
-    where
-      of : (b : Bool) → b ≡ true → MatchBool b ((r ≡ None) × (t ≡ s)) (turn s r t) → r ≡ None
-      of true e m = m.0
-      of false e m = cc
+  none_of s t r d st = (chosen-true s.done d (chosen s.done st)).0
 
   -- if the finder never fails, the only error of a step is `Memory`
   pub sure-step : (s t : Steps (WithCaptures F)) (r : Option Caught)
       → can_step_infallibly (CanFill g) (Fills g) row_span s
       → steps s r t → takes_infallible_captures g s r t
-  sure-step s t r can st = (st, at_done s.done st)
-    where
-      at_done : (b : Bool) → MatchBool b ((r ≡ None) × (t ≡ s)) (turn s r t) → IsAtMostMemory r
-      at_done true x = subst (λ (q : Option Caught). IsAtMostMemory q) (sym x.0) tt
-      at_done false x = at_most t.backend x.answer r
-          (Along-answer (CanFill g) (Fills g) row_span (IsInfalliblyInside row_span) s.backend
-          (steps_iter_state s) x.answer
-          t.backend (steps_iter_state t) x.step can).1.1 x.item
+  sure-step s t r can st = (
+    st,
+    elim (chosen s.done st) [
+      | inl p ↦ subst (λ (q : Option Caught). IsAtMostMemory q) (sym p.1.0) tt
+      | inr p ↦ at_most t.backend p.1.answer r
+          (Along-answer (CanFill g) (Fills g) row_span (IsInfalliblyInside row_span) s.backend (steps_iter_state s)
+          p.1.answer t.backend (steps_iter_state t) p.1.step can).1.1 p.1.item
+    ],
+  )
 
   module _ (h : Search → Answer Row) where
     acts : (f : WithCaptures F) (s : Search) (a : Answer Row) (f' : WithCaptures F) → FillsBy g h f s → Fills g f s a f'

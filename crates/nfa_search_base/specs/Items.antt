@@ -1,9 +1,9 @@
 -- the items of an iterator over the matches of a haystack
-use Rattle.std.specs.Prelude.{◌≡◌, ℕ, zero, suc, ◌+◌, ◌<◌, Bool, true, false, if◌then◌else◌, List, [], ◌∷◌, Option, None, Some, Result, Ok, Err, OnSome}
+use Rattle.std.specs.Prelude.{ℕ, zero, suc, ◌+◌, Bool, true, false, if◌then◌else◌, List, [], ◌∷◌, Option, None, Some}
+use Rattle.std.specs.Prelude.{Result, Ok, Err}
 use Rattle.regex_search_core.specs.Search.{Search}
 use Rattle.regex_search_core.specs.declared.search.Span.{Span}
-use Rattle.nfa_search_base.specs.Asking.{SameButStart}
-use Rattle.nfa_search_base.specs.IterStates.{Answer, IterState, answer_span, repeats, after, shifted, ends_left, ComesAfter, Advances}
+use Rattle.nfa_search_base.specs.IterStates.{Answer, IterState, answer_span, repeats, after, shifted, ends_left}
 use Rattle.nfa_search_base.specs.declared.error.SearchError.{SearchError}
 
 -- a match, or the error that ends the iterator
@@ -20,12 +20,6 @@ abbrev pub item_of : {X : Type 0} → Answer X → Option (Item X)
 item_of (Ok (Some x)) = Some (Ok x)
 item_of (Ok None) = None
 item_of (Err e) = Some (Err e)
-
--- the iterator ends with this answer: no match, or an error
-abbrev pub ends_with : {X : Type 0} → Answer X → Bool
-ends_with (Ok (Some x)) = false
-ends_with (Ok None) = true
-ends_with (Err e) = true
 
 -- the matches among the items
 abbrev pub matches_in : {X : Type 0} → List (Item X) → List X
@@ -46,18 +40,6 @@ matches_left false w = ends_left w
 
 -- A match is an X. `span` gives its span.
 module _ {X : Type 0} (span : X → Span) where
-  -- a step of an iterator that has not ended gives the item of a step of the iteration, and says whether the iterator
-  -- ends
-  pub record TakesAdvance {S : Type 0} (asks : S → Search → Answer X → S → Type 0) (s : S) (w : IterState)
-      (item : Option (Item X)) (s' : S) (w' : IterState) (done' : Bool) : Type 0 where
-    pub answer : Answer X
-    pub step : Advances span asks s w answer s' w'
-    pub gives : item ≡ item_of answer
-    pub ends : done' ≡ ends_with answer
-    pub rises : ComesAfter w (answer_span span answer)
-    pub same : SameButStart w.at w'.at
-    pub fewer : OnSome item (items_left done' w' < items_left false w)
-
   -- the answer of a step, if the search is the function h
   abbrev pub step_answer : (Search → Answer X) → IterState → Answer X
   step_answer h w = if repeats w (answer_span span (h w.at)) then h (shifted w).at else h w.at

@@ -1,5 +1,5 @@
 -- the iterators that keep their finder or engine
-use Rattle.std.specs.Prelude.{◌≡◌, Option, None, Result, Ok, MatchBool, option_map}
+use Rattle.std.specs.Prelude.{◌≡◌, false, Option, None, Result, Ok, MatchBool, option_map}
 use Rattle.std.specs.Iterator.{Count, at_most}
 use Rattle.regex_search_core.specs.Search.{Search}
 use Rattle.regex_search_core.specs.declared.search.Span.{Span}
@@ -10,11 +10,16 @@ use Rattle.nfa_search_base.specs.Searchers.{iter_state_of}
 use Rattle.nfa_search_base.specs.Serving.{ServesOnAlong}
 use Rattle.nfa_search_base.specs.Steps.{TakesStep}
 use Rattle.nfa_search_base.specs.declared.error.SearchError.{SearchError}
+use Rattle.nfa_search_base.specs.declared.iter.searcher.Searcher.{Searcher}
 use Rattle.nfa_search_base.specs.declared.iter.steps.Steps.{Steps}
 
 -- the iteration of the iterator
 abbrev pub steps_iter_state : {S : Type 0} → Steps S → IterState
 steps_iter_state s = iter_state_of s.searcher
+
+-- the iterator that begins with this searcher
+abbrev pub steps_from : {S : Type 0} → Searcher → S → Steps S
+steps_from searcher backend = record { searcher = searcher; backend = backend; done = false }
 
 -- the maximum number of items still to come
 abbrev pub steps_left : {S : Type 0} → Steps S → Count

@@ -13,6 +13,7 @@ use Rattle.nfa_search_base.specs.SameBut.{SameButStart}
 use Rattle.nfa_search_base.specs.IterStates.{Answer, span_of}
 use Rattle.nfa_search_base.specs.Items.{Item}
 use Rattle.nfa_search_base.specs.Serving.{ServesOnAlong}
+use Rattle.nfa_search_base.specs.WithCache.{WithCache}
 use Rattle.nfa_search_base.specs.declared.error.SearchError.{SearchError}
 use Rattle.nfa_search_base.specs.declared.error.SearchError.TheVariants.{Memory}
 
@@ -45,6 +46,10 @@ filled_answer c (Err e) = Err e
 pub record WithCaptures (F : Type 0) : Type 0 where
   pub finder : F
   pub captures : Captured
+
+-- the captures that an iteration keeps, with a finder that it borrows
+abbrev pub with_finder : {F : Type 0} → WithCache Captured F → WithCaptures F
+with_finder s = record { finder = s.cache; captures = s.backend }
 
 -- the item is a copy of these captures, which hold the row, or the copy could not be allocated
 abbrev pub GivesCopy : Captured → Answer Row → Option (Result Captured SearchError) → Type 0

@@ -18,19 +18,19 @@
 mod by_ref;
 pub mod captures_items;
 mod captures_matches;
-mod finder;
-mod half_matches;
+mod found_iter;
 pub mod laws;
 pub mod match_items;
-mod matches;
 mod place;
 mod searcher;
 mod searches;
+mod spanned;
 mod steps;
 
 pub use captures_matches::{CapturesIter, TryCapturesIter};
-pub use half_matches::{HalfMatchesIter, TryHalfMatchesIter};
-pub use matches::{MatchesIter, TryMatchesIter};
+pub use found_iter::{
+    FoundIter, HalfMatchesIter, MatchesIter, TryFoundIter, TryHalfMatchesIter, TryMatchesIter,
+};
 pub use searcher::{Offered, Searcher};
 pub use searches::FindWith;
 pub use steps::Steps;

@@ -1,130 +1,133 @@
 //! Finders that an iteration borrows for each call.
 
-use crate::asking::ask;
+use crate::asking::{ask, ask_with};
 use crate::error::SearchError;
-use crate::iter::place::{half_match_span, match_span};
+use crate::iter::captures_items::{captures_item, captures_span};
+use crate::iter::place::answer_span;
 use crate::iter::searches::FindWith;
-use regex_search_core::{HalfMatch, Input, Match, Span};
-use std::marker::PhantomData;
+use crate::iter::spanned::Spanned;
+use regex_search_core::{Captures, Input, Span};
+use std::marker::{Model, PhantomData};
 
-// A finder of matches that is borrowed for each call.
+// A finder of matches or half matches that is borrowed for each call.
 #[derive(Drop)]
-pub(crate) struct ByRefMatches<F> {
+pub(crate) struct ByRef<F, M> {
+    finder: PhantomData<F>,
+    found: PhantomData<M>,
+}
+
+impl<F, M> ByRef<F, M> {
+    pub(crate) fn new() -> ByRef<F, M> {
+        ByRef {
+            finder: PhantomData,
+            found: PhantomData,
+        }
+    }
+}
+
+impl<F, M: Spanned> FindWith for ByRef<F, M>
+where
+    F: FnMut(&Input<'_>) -> Result<Option<M>, SearchError>,
+{
+    ghost use Rattle.nfa_search_base.specs.Asking.{IsCallableOn};
+    ghost use Rattle.nfa_search_base.specs.Finders.{Finds, answer_by};
+    ghost use Rattle.nfa_search_base.specs.WithCache.{accepts_whole, asks_whole, only_cache};
+    ghost use Rattle.nfa_search_base.specs.Steps.{GivesItem};
+
+    type Cache = F;
+
+    type Reply = Result<Option<M>, SearchError>;
+
+    ghost Value = { M.Value };
+
+    ghost shows = { λ _ reply. answer_by M.value reply };
+
+    ghost span = { M.span };
+
+    ghost accepts = { accepts_whole only_cache (IsCallableOn F.FnMut) };
+
+    type Item = M;
+
+    ghost gives = { λ _. GivesItem M.value };
+
+    ghost asks = { asks_whole only_cache (Finds M.value F.FnMut) };
+
+    fn answer(&mut self, finder: &mut F, input: &Input<'_>) -> Result<Option<M>, SearchError> {
+        ask(finder, input)
+    }
+
+    fn place(&self, reply: Result<Option<M>, SearchError>) -> Option<Span> {
+        answer_span(reply)
+    }
+
+    fn item(&self, reply: Result<Option<M>, SearchError>) -> Option<Result<M, SearchError>> {
+        reply.transpose()
+    }
+}
+
+// A finder of captures that is borrowed for each call, and the captures that it fills.
+#[derive(Drop)]
+pub(crate) struct FillByRef<F> {
+    pub(crate) captures: Captures,
     finder: PhantomData<F>,
 }
 
-impl<F> ByRefMatches<F> {
-    pub(crate) fn new() -> ByRefMatches<F> {
-        ByRefMatches {
+impl<F> FillByRef<F> {
+    ghost use Rattle.std.specs.Prelude.{◌≡◌};
+
+    pub(crate) fn new(captures: Captures) -> FillByRef<F>
+        ensures { result ≡ captures }
+    {
+        FillByRef {
+            captures,
             finder: PhantomData,
         }
     }
 }
 
-impl<F> FindWith for ByRefMatches<F>
+impl<F> Model for FillByRef<F> {
+    ghost use Rattle.regex_search_core.specs.Slots.{Captured};
+
+    ghost Value = { Captured };
+
+    ghost view = { λ a. a.captures };
+}
+
+impl<F> FindWith for FillByRef<F>
 where
-    F: FnMut(&Input<'_>) -> Result<Option<Match>, SearchError>,
+    F: FnMut(&Input<'_>, &mut Captures) -> Result<(), SearchError>,
 {
-    ghost use Rattle.regex_search_core.specs.Found.{Found, found_of};
-    ghost use Rattle.nfa_search_base.specs.Asking.{IsCallableOn};
-    ghost use Rattle.nfa_search_base.specs.Finders.{Finds, answer_by};
-    ghost use Rattle.nfa_search_base.specs.WithCache.{accepts_by_ref, asks_by_ref};
-    ghost use Rattle.nfa_search_base.specs.Steps.{GivesItem};
-    ghost use Rattle.nfa_search_base.specs.IterStates.{span_of};
+    ghost use Rattle.nfa_search_base.specs.WithCache.{accepts_whole, asks_whole};
+    ghost use Rattle.nfa_search_base.specs.WithCaptures.{Row, CanFill, Fills, filled_answer, row_span, GivesCopy};
+    ghost use Rattle.nfa_search_base.specs.WithCaptures.{with_finder};
 
     type Cache = F;
 
-    type Reply = Result<Option<Match>, SearchError>;
+    type Reply = Result<(), SearchError>;
 
-    ghost Value = { Found };
+    ghost Value = { Row };
 
-    ghost shows = { λ _ reply. answer_by found_of reply };
+    ghost shows = { filled_answer };
 
-    ghost span = { span_of };
+    ghost span = { row_span };
 
-    ghost accepts = { accepts_by_ref (IsCallableOn F.FnMut) };
+    ghost accepts = { accepts_whole with_finder (CanFill F.FnMut) };
 
-    type Item = Match;
+    type Item = Captures;
 
-    ghost gives = { λ _. GivesItem found_of };
+    ghost gives = { GivesCopy };
 
-    ghost asks = { asks_by_ref (Finds found_of F.FnMut) };
+    ghost asks = { asks_whole with_finder (Fills F.FnMut) };
 
-    fn answer(&mut self, finder: &mut F, input: &Input<'_>) -> Result<Option<Match>, SearchError> {
-        ask(finder, input)
+    fn answer(&mut self, finder: &mut F, input: &Input<'_>) -> Result<(), SearchError> {
+        ask_with(finder, input, &mut self.captures)
     }
 
-    fn place(&self, reply: Result<Option<Match>, SearchError>) -> Option<Span> {
-        match_span(reply)
+    fn place(&self, reply: Result<(), SearchError>) -> Option<Span> {
+        captures_span(&self.captures, reply)
     }
 
-    fn item(
-        &self,
-        reply: Result<Option<Match>, SearchError>,
-    ) -> Option<Result<Match, SearchError>> {
-        reply.transpose()
-    }
-}
-
-// A finder of half matches that is borrowed for each call.
-#[derive(Drop)]
-pub(crate) struct ByRefHalfMatches<F> {
-    finder: PhantomData<F>,
-}
-
-impl<F> ByRefHalfMatches<F> {
-    pub(crate) fn new() -> ByRefHalfMatches<F> {
-        ByRefHalfMatches {
-            finder: PhantomData,
-        }
-    }
-}
-
-impl<F> FindWith for ByRefHalfMatches<F>
-where
-    F: FnMut(&Input<'_>) -> Result<Option<HalfMatch>, SearchError>,
-{
-    ghost use Rattle.regex_search_core.specs.Found.{HalfFound, half_found_of};
-    ghost use Rattle.nfa_search_base.specs.Asking.{IsCallableOn};
-    ghost use Rattle.nfa_search_base.specs.Finders.{Finds, answer_by};
-    ghost use Rattle.nfa_search_base.specs.WithCache.{accepts_by_ref, asks_by_ref};
-    ghost use Rattle.nfa_search_base.specs.Steps.{GivesItem};
-    ghost use Rattle.nfa_search_base.specs.IterStates.{half_span_of};
-
-    type Cache = F;
-
-    type Reply = Result<Option<HalfMatch>, SearchError>;
-
-    ghost Value = { HalfFound };
-
-    ghost shows = { λ _ reply. answer_by half_found_of reply };
-
-    ghost span = { half_span_of };
-
-    ghost accepts = { accepts_by_ref (IsCallableOn F.FnMut) };
-
-    type Item = HalfMatch;
-
-    ghost gives = { λ _. GivesItem half_found_of };
-
-    ghost asks = { asks_by_ref (Finds half_found_of F.FnMut) };
-
-    fn answer(
-        &mut self,
-        finder: &mut F,
-        input: &Input<'_>,
-    ) -> Result<Option<HalfMatch>, SearchError> {
-        ask(finder, input)
-    }
-
-    fn place(&self, reply: Result<Option<HalfMatch>, SearchError>) -> Option<Span> {
-        half_match_span(reply)
-    }
-
-    fn item(
-        &self,
-        reply: Result<Option<HalfMatch>, SearchError>,
-    ) -> Option<Result<HalfMatch, SearchError>> {
-        reply.transpose()
+    fn item(&self, reply: Result<(), SearchError>) -> Option<Result<Captures, SearchError>> {
+        captures_item(&self.captures, reply)
     }
 }

@@ -1,6 +1,6 @@
 //! Iterators over the captures of a stored finder.
 use crate::error::SearchError;
-use crate::iter::finder::OnCaptures;
+use crate::iter::by_ref::FillByRef;
 use crate::iter::searcher::Searcher;
 use crate::iter::steps::Steps;
 use regex_search_core::{Captures, Input};
@@ -15,7 +15,8 @@ use std::marker::Model;
 /// allocation of a copy failed. It is fused: it ends permanently after the first `None` and after the error.
 #[derive(Drop)]
 pub struct TryCapturesIter<'h, F> {
-    steps: Steps<'h, OnCaptures<F>>,
+    steps: Steps<'h, FillByRef<F>>,
+    finder: F,
 }
 
 impl<'h, F> Model for TryCapturesIter<'h, F> {
@@ -24,7 +25,11 @@ impl<'h, F> Model for TryCapturesIter<'h, F> {
 
     ghost Value = { Steps (WithCaptures F) };
 
-    ghost view = { λ i. i.steps };
+    ghost view = { λ i. record {
+      searcher = i.steps.searcher;
+      backend = record { finder = i.finder; captures = i.steps.backend };
+      done = i.steps.done;
+    } };
 }
 
 impl<'h> Searcher<'h> {
@@ -85,9 +90,10 @@ impl<'h> Searcher<'h> {
         TryCapturesIter {
             steps: Steps {
                 searcher: self,
-                backend: OnCaptures { finder, captures },
+                backend: FillByRef::new(captures),
                 done: false,
             },
+            finder,
         }
     }
 }
@@ -157,7 +163,7 @@ where
     ghost remaining = { steps_left };
 
     fn next(&mut self) -> Option<Result<Captures, SearchError>> {
-        self.steps.next()
+        self.steps.next_with(&mut self.finder)
     }
 }
 

@@ -2,9 +2,8 @@
 ghost use Rattle.nfa_search_base.specs.LastEnd.{EndsBy};
 
 use crate::error::SearchError;
-use crate::iter::by_ref::{ByRefHalfMatches, ByRefMatches};
-use crate::iter::finder::Find;
-use crate::iter::place::match_span;
+use crate::iter::by_ref::ByRef;
+use crate::iter::place::answer_span;
 use crate::iter::searches::FindWith;
 use regex_search_core::{HalfMatch, Input, Match, Span};
 use std::alloc::AllocError;
@@ -110,7 +109,7 @@ impl<'h> Searcher<'h> {
         ensures fewer { LeavesFewer (iter_state_of self.old) (offered_span result) (iter_state_of self.new) }
         ensures same { SameButStart (iter_state_of self.old).at (iter_state_of self.new).at }
     {
-        let place = match_span(Ok(answer));
+        let place = answer_span(Ok(answer));
         if self.moves_on(place) {
             return Offered::Again;
         }
@@ -170,7 +169,7 @@ impl<'h> Searcher<'h> {
         ensures fewer { LeavesFewer (iter_state_of self.old) (match_span result) (iter_state_of self.new) }
         ensures same { SameButStart (iter_state_of self.old).at (iter_state_of self.new).at }
     {
-        self.step_with(&mut ByRefMatches::new(), finder)
+        self.step_with(&mut ByRef::new(), finder)
     }
 
     /// Returns the next match of a finder that never fails, by the step of [`Searcher::try_advance`]. Requires also
@@ -277,7 +276,7 @@ impl<'h> Searcher<'h> {
         ensures fewer { LeavesFewer (iter_state_of self.old) (half_match_span result) (iter_state_of self.new) }
         ensures same { SameButStart (iter_state_of self.old).at (iter_state_of self.new).at }
     {
-        self.step_with(&mut ByRefHalfMatches::new(), finder)
+        self.step_with(&mut ByRef::new(), finder)
     }
 
     /// Returns the next half match of a finder that never fails, by the step of [`Searcher::try_advance_half`].
@@ -331,26 +330,7 @@ impl<'h> Searcher<'h> {
         }
     }
 
-    // Takes a step with a finder of the iteration.
-    pub(crate) fn step_by<A: Find>(&mut self, backend: &mut A) -> A::Reply
-        requires { ServesAdvance A.accepts A.asks A.span (AnswerIsInside A.span) backend.old (iter_state_of self.old) }
-        ensures { StepDone A.accepts A.asks A.span backend.old (iter_state_of self.old) (A.shows backend.new result)
-            backend.new
-            (iter_state_of self.new) }
-    {
-        let first = backend.answer(&self.input);
-        let place = backend.place(first);
-        if !self.moves_on(place) {
-            self.take(place);
-            return first;
-        }
-        let second = backend.answer(&self.input);
-        let place = backend.place(second);
-        self.take(place);
-        second
-    }
-
-    // Takes the same step, with a cache that is borrowed for each search.
+    // Takes a step by an engine, with a cache that is borrowed for each search.
     #[inline]
     pub(crate) fn step_with<A: FindWith>(
         &mut self,

@@ -1,22 +1,21 @@
-//! The steps of every iterator that owns its finder or engine.
+//! The steps of every iterator.
 ghost use Rattle.std.specs.Prelude.{◌≡◌};
 ghost use Rattle.nfa_search_base.specs.Steps.{ends_at};
 
 use crate::error::SearchError;
-use crate::iter::finder::Find;
 use crate::iter::searcher::Searcher;
 use crate::iter::searches::FindWith;
 use regex_search_core::Input;
 use std::alloc::Global;
 
-/// An iteration that owns its finder or engine: the core of each iterator, including those of engines.
+/// An iteration that borrows its finder or cache for each step: the core of each iterator, including those of engines.
 ///
 /// Its items are those of the steps of a [`Searcher`]. It ends permanently after the first `None` and after an error.
 #[derive(Debug, Drop)]
 pub struct Steps<'h, A> {
     /// The state of the iteration.
     pub searcher: Searcher<'h>,
-    /// The finder or engine that answers its searches.
+    /// The engine that answers its searches, with what each step borrows.
     pub backend: A,
     /// Whether it has ended.
     pub done: bool,
@@ -95,27 +94,5 @@ fn is_last<T>(item: &Option<Result<T, SearchError>>) -> bool
         Some(Ok(_)) => false,
         Some(Err(_)) => true,
         None => true,
-    }
-}
-
-impl<'h, A: Find> Iterator for Steps<'h, A> {
-    ghost use Rattle.nfa_search_base.specs.Stored.{steps_left, can_step, takes_steps};
-
-    type Item = Result<A::Item, SearchError>;
-
-    ghost can_next = { can_step A.accepts A.asks A.span };
-
-    ghost next_gives = { takes_steps A.span A.asks A.gives };
-
-    ghost remaining = { steps_left };
-
-    fn next(&mut self) -> Option<Result<A::Item, SearchError>> {
-        if self.done {
-            return None;
-        }
-        let reply = self.searcher.step_by(&mut self.backend);
-        let item = self.backend.item(reply);
-        self.done = is_last(&item);
-        item
     }
 }

@@ -1,44 +1,31 @@
 -- What the iterator gives, clause by clause.
 use Rattle.nfa_pikevm.proofs.engine.PikeVM.captures_iter_with.Goals as goal
 
-pub returns-clause-runs : goal.returns-clause-runs
-returns-clause-runs c = c.fill_from.ensures.given.runs
-
-pub returns-clause-first : goal.returns-clause-first
-returns-clause-first c = c.fill_from.ensures.given.first
-
-pub returns-clause-next : goal.returns-clause-next
-returns-clause-next c = c.fill_from.ensures.given.next
-
-pub returns-clause-rows : goal.returns-clause-rows
-returns-clause-rows c = c.fill_from.ensures.given.rows
-
-pub returns-clause-first_rows : goal.returns-clause-first_rows
-returns-clause-first_rows c = c.fill_from.ensures.given.first_rows
-
-pub returns-clause-next_row : goal.returns-clause-next_row
-returns-clause-next_row c = c.fill_from.ensures.given.next_row
-
-pub returns-clause-all_rows : goal.returns-clause-all_rows
-returns-clause-all_rows c = c.fill_from.ensures.given.all_rows
-
-pub returns-clause-matches : goal.returns-clause-matches
-returns-clause-matches c = c.fill_from.ensures.given.matches
-
-pub returns-clause-first_matches : goal.returns-clause-first_matches
-returns-clause-first_matches c = c.fill_from.ensures.given.first_matches
-
-pub returns-clause-next_match : goal.returns-clause-next_match
-returns-clause-next_match c = c.fill_from.ensures.given.next_match
-
-pub returns-clause-all_matches : goal.returns-clause-all_matches
-returns-clause-all_matches c = c.fill_from.ensures.given.all_matches
-
-pub returns-clause-groups : goal.returns-clause-groups
-returns-clause-groups c = c.fill_from.ensures.given.groups
-
-pub returns-clause-inside : goal.returns-clause-inside
-returns-clause-inside c = c.fill_from.ensures.given.inside
-
-pub returns-clause-apart : goal.returns-clause-apart
-returns-clause-apart c = c.fill_from.ensures.given.apart
+pub returns : goal.returns
+returns c =
+    let made = c.fill_from.ensures in
+    let given = made.given in
+    record {
+      same_reference = made.same_reference;
+      same_cache = made.same_cache;
+      engine = made.engine;
+      walk = made.walk;
+      going = made.going;
+      runs = given.runs;
+      first = given.first;
+      next = given.next;
+      rows = given.rows;
+      first_rows = given.first_rows;
+      next_row = given.next_row;
+      all_rows = given.all_rows;
+      matches = given.matches;
+      first_matches = given.first_matches;
+      next_match = given.next_match;
+      all_matches = given.all_matches;
+      groups = given.groups;
+      inside = given.inside;
+      apart = given.apart;
+      errors = made.errors;
+      searches = made.searches;
+      keeps = made.keeps;
+    }

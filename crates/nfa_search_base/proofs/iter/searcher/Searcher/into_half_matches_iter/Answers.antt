@@ -1,40 +1,36 @@
 -- The items are the list of the finder.
-use Rattle.std.proofs.Common.{refl, false, arith}
+use Rattle.std.proofs.Common.{refl, arith}
 use Rattle.regex_search_core.specs.Found.{half_found_of}
 use Rattle.nfa_search_base.specs.Asking.{IsCallableOn}
 use Rattle.nfa_search_base.specs.Finders.{Finds}
 use Rattle.nfa_search_base.specs.IterStates.{half_span_of}
-use Rattle.nfa_search_base.specs.declared.iter.steps.Steps.{Steps}
+use Rattle.nfa_search_base.specs.Stored.{steps_from}
 use Rattle.nfa_search_base.proofs.StoredLemmas.{try-yields}
-use Rattle.nfa_search_base.proofs.MayAnswerLemmas.{found-run, found-first, found-all, found-apart, found-next}
+use Rattle.nfa_search_base.proofs.MayAnswerLemmas.{found, found-apart}
 use Rattle.nfa_search_base.proofs.iter.searcher.Searcher.into_half_matches_iter.Goals as goal
 
 pub returns-clause-list : goal.returns-clause-list
 returns-clause-list g c = λ h computes.
-    let made : Steps g.row.F.Denot = record { searcher = c.args.self; backend = c.args.finder; done = false } in
-    try-yields (IsCallableOn g.F.FnMut) (Finds half_found_of g.F.FnMut) half_span_of half_found_of h made computes
+    rw c.new.ensures (try-yields (IsCallableOn g.F.FnMut) (Finds half_found_of g.F.FnMut) half_span_of half_found_of h
+    (steps_from c.args.self c.args.finder) computes)
 
 pub returns-clause-runs : goal.returns-clause-runs
 returns-clause-runs g c =
-    let made : Steps g.row.F.Denot = record { searcher = c.args.self; backend = c.args.finder; done = false } in
-    found-run half_found_of half_span_of g.F.FnMut made refl
+    rw c.new.ensures (found half_found_of half_span_of g.F.FnMut (steps_from c.args.self c.args.finder) refl).run
 
 pub returns-clause-first : goal.returns-clause-first
 returns-clause-first g c =
-    let made : Steps g.row.F.Denot = record { searcher = c.args.self; backend = c.args.finder; done = false } in
-    found-first half_found_of half_span_of g.F.FnMut made refl
+    rw c.new.ensures (found half_found_of half_span_of g.F.FnMut (steps_from c.args.self c.args.finder) refl).first
 
 pub returns-clause-all : goal.returns-clause-all
 returns-clause-all g c =
-    let made : Steps g.row.F.Denot = record { searcher = c.args.self; backend = c.args.finder; done = false } in
-    found-all half_found_of half_span_of g.F.FnMut made refl
+    rw c.new.ensures (found half_found_of half_span_of g.F.FnMut (steps_from c.args.self c.args.finder) refl).all
 
 pub returns-clause-apart : goal.returns-clause-apart
 returns-clause-apart g c =
-    let made : Steps g.row.F.Denot = record { searcher = c.args.self; backend = c.args.finder; done = false } in
-    found-apart half_found_of half_span_of g.F.FnMut (λ m. omega arith) made refl c.requires
+    rw c.new.ensures (found-apart half_found_of half_span_of g.F.FnMut (λ m. omega arith)
+    (steps_from c.args.self c.args.finder) refl c.requires)
 
 pub returns-clause-next : goal.returns-clause-next
 returns-clause-next g c =
-    let made : Steps g.row.F.Denot = record { searcher = c.args.self; backend = c.args.finder; done = false } in
-    found-next half_found_of half_span_of g.F.FnMut made refl
+    rw c.new.ensures (found half_found_of half_span_of g.F.FnMut (steps_from c.args.self c.args.finder) refl).next

@@ -1,6 +1,6 @@
 -- An answer is what the finder replied.
 use Rattle.std.proofs.Common.{rules, refl}
-use Rattle.nfa_search_base.proofs.iter.finder.OnMatchesFind.answer.Goals as goal
+use Rattle.nfa_search_base.proofs.iter.by_ref.ByRefFindWith.answer.Goals as goal
 
 pub returns : goal.returns
 returns g c = record {

@@ -1,9 +1,10 @@
-//! Iterators over the matches of a stored finder.
+//! Iterators over the matches or half matches of a stored finder.
 use crate::error::SearchError;
-use crate::iter::finder::OnMatches;
+use crate::iter::by_ref::ByRef;
 use crate::iter::searcher::Searcher;
+use crate::iter::spanned::Spanned;
 use crate::iter::steps::Steps;
-use regex_search_core::{Input, Match};
+use regex_search_core::{HalfMatch, Input, Match};
 use std::fmt;
 use std::marker::Model;
 
@@ -11,25 +12,41 @@ use std::marker::Model;
 ///
 /// It owns the finder. Its items are `Ok` matches, at most as many as the span has bytes plus one, and at most one
 /// error, that of the finder. It is fused: it ends permanently after the first `None` and after the error.
+pub type TryMatchesIter<'h, F> = TryFoundIter<'h, Match, F>;
+
+/// An iterator over the half matches of a finder, from left to right, by the steps of
+/// [`Searcher::try_advance_half`]. Otherwise the same as [`TryMatchesIter`].
+pub type TryHalfMatchesIter<'h, F> = TryFoundIter<'h, HalfMatch, F>;
+
+/// An iterator over the matches of a finder that never fails, from left to right.
+///
+/// There are at most as many as the span has bytes, plus one. It ends permanently after the first `None`.
+pub type MatchesIter<'h, F> = FoundIter<'h, Match, F>;
+
+/// An iterator over the half matches of a finder that never fails. Otherwise the same as [`MatchesIter`].
+pub type HalfMatchesIter<'h, F> = FoundIter<'h, HalfMatch, F>;
+
+/// An iterator over what a finder finds: [`TryMatchesIter`] or [`TryHalfMatchesIter`].
 #[derive(Drop)]
-pub struct TryMatchesIter<'h, F> {
-    steps: Steps<'h, OnMatches<F>>,
+pub struct TryFoundIter<'h, M, F> {
+    steps: Steps<'h, ByRef<F, M>>,
+    finder: F,
 }
 
-impl<'h, F> Model for TryMatchesIter<'h, F> {
+impl<'h, M, F> Model for TryFoundIter<'h, M, F> {
     ghost use Rattle.nfa_search_base.specs.declared.iter.steps.Steps.{Steps};
 
     ghost Value = { Steps F };
 
-    ghost view = { λ i. i.steps };
+    ghost view = { λ i. record { searcher = i.steps.searcher; backend = i.finder; done = i.steps.done } };
 }
 
 impl<'h> Searcher<'h> {
     ghost use Rattle.std.specs.Prelude.{◌≡◌, false};
     ghost use Rattle.std.proofs.lemmas.Iterator.{YieldsList};
-    ghost use Rattle.regex_search_core.specs.Found.{Found, found_of};
+    ghost use Rattle.regex_search_core.specs.Found.{Found, HalfFound, found_of, half_found_of};
     ghost use Rattle.regex_search_core.specs.Search.{Search};
-    ghost use Rattle.nfa_search_base.specs.IterStates.{Answer, span_of, AnswerIsInside};
+    ghost use Rattle.nfa_search_base.specs.IterStates.{Answer, AnswerIsInside, span_of, half_span_of};
     ghost use Rattle.nfa_search_base.specs.Finders.{Finds, AnswersAlong, Computes};
     ghost use Rattle.nfa_search_base.specs.Items.{item_by, greedy};
     ghost use Rattle.nfa_search_base.specs.Searchers.{iter_state_of};
@@ -74,30 +91,76 @@ impl<'h> Searcher<'h> {
             → YieldsList (takes_steps span_of (Finds found_of F.FnMut) (λ _. GivesItem found_of)) (item_by found_of)
             result (greedy span_of h (iter_state_of self.entry)) }
     {
-        TryMatchesIter {
-            steps: Steps {
-                searcher: self,
-                backend: OnMatches { finder },
-                done: false,
-            },
-        }
+        TryFoundIter::new(self, finder)
+    }
+
+    /// Returns an iterator over the half matches that the finder gives from here on.
+    ///
+    /// Requires that the finder, after any earlier calls, may be called on each input with this haystack, anchoring,
+    /// `earliest` flag and span end, and returns an offset in that input's span.
+    ///
+    /// ```
+    /// // backtracker of "foo(?<n>[0-9]+)"
+    /// let searcher = Searcher::new(Input::new(b"foo1 foo12 foo123"));
+    /// let finder = |input: &Input<'_>| backtracker.try_find_half(cache, *input);
+    /// let mut ends = Vec::new(alloc);
+    /// for half in searcher.into_half_matches_iter(finder) {
+    ///     ends.push(half?.offset())?;
+    /// }
+    /// assert_eq!(rt; ends.as_slice(), [4, 10, 17].as_slice());
+    /// ```
+    pub fn into_half_matches_iter<F>(self, finder: F) -> TryHalfMatchesIter<'h, F>
+    where
+        F: FnMut(&Input<'_>) -> Result<Option<HalfMatch>, SearchError>,
+        requires { AnswersAlong half_found_of F.FnMut (AnswerIsInside half_span_of) finder (iter_state_of self).at }
+        ensures can { can_step (IsCallableOn F.FnMut) (Finds half_found_of F.FnMut) half_span_of result }
+        ensures walk { steps_iter_state result ≡ iter_state_of self.entry }
+        ensures finder { result.backend ≡ finder }
+        ensures going { result.done ≡ false }
+        // The items of each run of calls are the first items, and all of them if the run reaches `None`.
+        ensures runs { StoredMatchesRun half_found_of half_span_of F.FnMut finder (iter_state_of self.entry) result }
+        ensures first { StoredMatchesFirst half_found_of half_span_of F.FnMut finder (iter_state_of self.entry) result }
+        ensures next { StoredMatchesNext half_found_of half_span_of F.FnMut finder (iter_state_of self.entry) result }
+        ensures all { StoredMatchesAll half_found_of half_span_of F.FnMut finder (iter_state_of self.entry) result }
+        // They are in the span, in order and without overlap.
+        ensures apart { StoredMatchesDisjoint half_found_of half_span_of F.FnMut (iter_state_of self.entry) result }
+        // If the finder computes h, the items are the greedy list of h.
+        ensures list { (h : Search → Answer HalfFound)
+            → Computes half_found_of F.FnMut h finder (iter_state_of self.entry).at
+            → YieldsList (takes_steps half_span_of (Finds half_found_of F.FnMut) (λ _. GivesItem half_found_of))
+            (item_by half_found_of) result (greedy half_span_of h (iter_state_of self.entry)) }
+    {
+        TryFoundIter::new(self, finder)
     }
 }
 
-impl<'h, F> TryMatchesIter<'h, F> {
+impl<'h, M, F> TryFoundIter<'h, M, F> {
     ghost use Rattle.std.specs.Prelude.{◌≡◌, false};
     ghost use Rattle.std.proofs.lemmas.Iterator.{YieldsList};
-    ghost use Rattle.regex_search_core.specs.Found.{Found, found_of};
     ghost use Rattle.regex_search_core.specs.Search.{Search, search_of};
-    ghost use Rattle.nfa_search_base.specs.IterStates.{Answer, span_of, IsInfalliblyInside};
+    ghost use Rattle.nfa_search_base.specs.IterStates.{Answer, IsInfalliblyInside};
     ghost use Rattle.nfa_search_base.specs.Finders.{Finds, AnswersAlong, Computes};
     ghost use Rattle.nfa_search_base.specs.Items.{matches_in, greedy_unless};
     ghost use Rattle.nfa_search_base.specs.Asking.{IsCallableOn};
     ghost use Rattle.nfa_search_base.specs.Steps.{GivesItem};
-    ghost use Rattle.nfa_search_base.specs.Stored.{steps_iter_state, can_step_infallibly, takes_infallible_steps};
+    ghost use Rattle.nfa_search_base.specs.Stored.{steps_iter_state, steps_from, can_step_infallibly};
+    ghost use Rattle.nfa_search_base.specs.Stored.{takes_infallible_steps};
     ghost use Rattle.nfa_search_base.specs.StoredRuns.{InfallibleMatchesAll, InfallibleMatchesDisjoint};
     ghost use Rattle.nfa_search_base.specs.StoredRuns.{InfallibleMatchesFirst, InfallibleMatchesNext};
     ghost use Rattle.nfa_search_base.specs.StoredRuns.{InfallibleMatchesRun};
+
+    fn new(searcher: Searcher<'h>, finder: F) -> TryFoundIter<'h, M, F>
+        ensures { result ≡ steps_from searcher.entry finder }
+    {
+        TryFoundIter {
+            steps: Steps {
+                searcher,
+                backend: ByRef::new(),
+                done: false,
+            },
+            finder,
+        }
+    }
 
     /// Returns the input of the next search.
     pub fn input(&self) -> &Input<'h>
@@ -108,77 +171,74 @@ impl<'h, F> TryMatchesIter<'h, F> {
 
     /// Returns an iterator over the same matches, without `Result`. Requires that the finder never fails, after any
     /// calls.
-    pub fn infallible(self) -> MatchesIter<'h, F>
+    pub fn infallible(self) -> FoundIter<'h, M, F>
     where
-        F: FnMut(&Input<'_>) -> Result<Option<Match>, SearchError>,
-        requires { AnswersAlong found_of F.FnMut (IsInfalliblyInside span_of) self.backend (steps_iter_state self).at }
-        ensures can { can_step_infallibly (IsCallableOn F.FnMut) (Finds found_of F.FnMut) span_of result }
+        M: Spanned,
+        F: FnMut(&Input<'_>) -> Result<Option<M>, SearchError>,
+        requires { AnswersAlong M.value F.FnMut (IsInfalliblyInside M.span) self.backend (steps_iter_state self).at }
+        ensures can { can_step_infallibly (IsCallableOn F.FnMut) (Finds M.value F.FnMut) M.span result }
         ensures same { result ≡ self.entry }
         // The items of each run of calls are the first matches, and all of them if the run reaches `None`.
         ensures runs { self.entry.done ≡ false
-            → InfallibleMatchesRun found_of span_of F.FnMut self.entry.backend (steps_iter_state self.entry) result }
+            → InfallibleMatchesRun M.value M.span F.FnMut self.entry.backend (steps_iter_state self.entry) result }
         ensures first { self.entry.done ≡ false
-            → InfallibleMatchesFirst found_of span_of F.FnMut self.entry.backend (steps_iter_state self.entry) result }
+            → InfallibleMatchesFirst M.value M.span F.FnMut self.entry.backend (steps_iter_state self.entry) result }
         ensures next { self.entry.done ≡ false
-            → InfallibleMatchesNext found_of span_of F.FnMut self.entry.backend (steps_iter_state self.entry) result }
+            → InfallibleMatchesNext M.value M.span F.FnMut self.entry.backend (steps_iter_state self.entry) result }
         ensures all { self.entry.done ≡ false
-            → InfallibleMatchesAll found_of span_of F.FnMut self.entry.backend (steps_iter_state self.entry) result }
+            → InfallibleMatchesAll M.value M.span F.FnMut self.entry.backend (steps_iter_state self.entry) result }
         // They are in the span, in order and without overlap.
         ensures apart { self.entry.done ≡ false
-            → InfallibleMatchesDisjoint found_of span_of F.FnMut (steps_iter_state self.entry) result }
+            → InfallibleMatchesDisjoint M.value M.span F.FnMut (steps_iter_state self.entry) result }
         // If the finder computes h, the matches are those of the greedy list of h.
-        ensures list { (h : Search → Answer Found)
-            → Computes found_of F.FnMut h self.entry.backend (steps_iter_state self.entry).at
-            → YieldsList (takes_infallible_steps span_of (Finds found_of F.FnMut) (λ _. GivesItem found_of)) found_of
-            result (matches_in (greedy_unless span_of self.entry.done h (steps_iter_state self.entry))) }
+        ensures list { (h : Search → Answer M.Value)
+            → Computes M.value F.FnMut h self.entry.backend (steps_iter_state self.entry).at
+            → YieldsList (takes_infallible_steps M.span (Finds M.value F.FnMut) (λ _. GivesItem M.value)) M.value
+            result (matches_in (greedy_unless M.span self.entry.done h (steps_iter_state self.entry))) }
     {
-        MatchesIter { tries: self }
+        FoundIter { tries: self }
     }
 }
 
-impl<'h, F> Iterator for TryMatchesIter<'h, F>
+impl<'h, M: Spanned, F> Iterator for TryFoundIter<'h, M, F>
 where
-    F: FnMut(&Input<'_>) -> Result<Option<Match>, SearchError>,
+    F: FnMut(&Input<'_>) -> Result<Option<M>, SearchError>,
 {
-    ghost use Rattle.regex_search_core.specs.Found.{found_of};
     ghost use Rattle.nfa_search_base.specs.Asking.{IsCallableOn};
     ghost use Rattle.nfa_search_base.specs.Finders.{Finds};
     ghost use Rattle.nfa_search_base.specs.Steps.{GivesItem};
     ghost use Rattle.nfa_search_base.specs.Stored.{can_step, takes_steps, steps_left};
-    ghost use Rattle.nfa_search_base.specs.IterStates.{span_of};
 
-    type Item = Result<Match, SearchError>;
+    type Item = Result<M, SearchError>;
 
-    ghost can_next = { can_step (IsCallableOn F.FnMut) (Finds found_of F.FnMut) span_of };
+    ghost can_next = { can_step (IsCallableOn F.FnMut) (Finds M.value F.FnMut) M.span };
 
-    ghost next_gives = { takes_steps span_of (Finds found_of F.FnMut) (λ _. GivesItem found_of) };
+    ghost next_gives = { takes_steps M.span (Finds M.value F.FnMut) (λ _. GivesItem M.value) };
 
     ghost remaining = { steps_left };
 
-    fn next(&mut self) -> Option<Result<Match, SearchError>> {
-        self.steps.next()
+    fn next(&mut self) -> Option<Result<M, SearchError>> {
+        self.steps.next_with(&mut self.finder)
     }
 }
 
 /// Formats the iterator without the finder.
-impl<'h, F> fmt::Debug for TryMatchesIter<'h, F> {
+impl<'h, M: Spanned, F> fmt::Debug for TryFoundIter<'h, M, F> {
     fn fmt<W: fmt::Write>(&self, f: &mut fmt::Formatter<W>) -> fmt::Result {
-        f.debug_struct("TryMatchesIter")
+        f.debug_struct(M::TRY_ITER)
             .field("searcher", &self.steps.searcher)
             .field("done", &self.steps.done)
             .finish_non_exhaustive()
     }
 }
 
-/// An iterator over the matches of a finder that never fails, from left to right.
-///
-/// There are at most as many as the span has bytes, plus one. It ends permanently after the first `None`.
+/// An iterator over what a finder finds if it never fails: [`MatchesIter`] or [`HalfMatchesIter`].
 #[derive(Drop)]
-pub struct MatchesIter<'h, F> {
-    tries: TryMatchesIter<'h, F>,
+pub struct FoundIter<'h, M, F> {
+    tries: TryFoundIter<'h, M, F>,
 }
 
-impl<'h, F> Model for MatchesIter<'h, F> {
+impl<'h, M, F> Model for FoundIter<'h, M, F> {
     ghost use Rattle.nfa_search_base.specs.declared.iter.steps.Steps.{Steps};
 
     ghost Value = { Steps F };
@@ -186,7 +246,7 @@ impl<'h, F> Model for MatchesIter<'h, F> {
     ghost view = { λ i. i.tries };
 }
 
-impl<'h, F> MatchesIter<'h, F> {
+impl<'h, M, F> FoundIter<'h, M, F> {
     ghost use Rattle.std.specs.Prelude.{◌≡◌};
     ghost use Rattle.regex_search_core.specs.Search.{search_of};
     ghost use Rattle.nfa_search_base.specs.Stored.{steps_iter_state};
@@ -199,26 +259,24 @@ impl<'h, F> MatchesIter<'h, F> {
     }
 }
 
-impl<'h, F> Iterator for MatchesIter<'h, F>
+impl<'h, M: Spanned, F> Iterator for FoundIter<'h, M, F>
 where
-    F: FnMut(&Input<'_>) -> Result<Option<Match>, SearchError>,
+    F: FnMut(&Input<'_>) -> Result<Option<M>, SearchError>,
 {
-    ghost use Rattle.regex_search_core.specs.Found.{found_of};
     ghost use Rattle.nfa_search_base.specs.Asking.{IsCallableOn};
     ghost use Rattle.nfa_search_base.specs.Finders.{Finds};
     ghost use Rattle.nfa_search_base.specs.Steps.{GivesItem};
     ghost use Rattle.nfa_search_base.specs.Stored.{can_step_infallibly, takes_infallible_steps, infallible_left};
-    ghost use Rattle.nfa_search_base.specs.IterStates.{span_of};
 
-    type Item = Match;
+    type Item = M;
 
-    ghost can_next = { can_step_infallibly (IsCallableOn F.FnMut) (Finds found_of F.FnMut) span_of };
+    ghost can_next = { can_step_infallibly (IsCallableOn F.FnMut) (Finds M.value F.FnMut) M.span };
 
-    ghost next_gives = { takes_infallible_steps span_of (Finds found_of F.FnMut) (λ _. GivesItem found_of) };
+    ghost next_gives = { takes_infallible_steps M.span (Finds M.value F.FnMut) (λ _. GivesItem M.value) };
 
     ghost remaining = { infallible_left };
 
-    fn next(&mut self) -> Option<Match> {
+    fn next(&mut self) -> Option<M> {
         match self.tries.next() {
             Some(Ok(found)) => Some(found),
             None => None,
@@ -228,10 +286,8 @@ where
 }
 
 /// Formats the iterator without the finder.
-impl<'h, F> fmt::Debug for MatchesIter<'h, F> {
+impl<'h, M: Spanned, F> fmt::Debug for FoundIter<'h, M, F> {
     fn fmt<W: fmt::Write>(&self, f: &mut fmt::Formatter<W>) -> fmt::Result {
-        f.debug_struct("MatchesIter")
-            .field("tries", &self.tries)
-            .finish()
+        f.debug_struct(M::ITER).field("tries", &self.tries).finish()
     }
 }

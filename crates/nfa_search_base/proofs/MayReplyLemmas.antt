@@ -1,0 +1,110 @@
+-- What may be answered along the calls of an iterator that keeps its finder, the iterator gives.
+use Rattle.std.proofs.Common.{◌≡◌, false, List, [], ◌∷◌, ◌++◌, map, refl, sym, subst, arith}
+use Rattle.std.proofs.Common.{Option, None, Some, Result, Ok, Err, IfOk}
+use Rattle.std.specs.Iterator.{Yields}
+use Rattle.std.specs.Vec.{vec_items}
+use Rattle.std.specs.declared.vec.Vec.{Vec}
+use Rattle.std.proofs.lemmas.Fn.{FoldsTo-push}
+use Rattle.std.proofs.lemmas.Iterator.{IsCollectResult}
+use Rattle.regex_search_core.specs.Search.{Search}
+use Rattle.regex_search_core.specs.declared.search.Span.{Span}
+use Rattle.nfa_search_base.specs.Asking.{SameButStart}
+use Rattle.nfa_search_base.specs.Items.{Item, item_by, matches_in}
+use Rattle.nfa_search_base.specs.Lists.{IsStep, ItemsLast, ItemsNext, AreSpansDisjoint}
+use Rattle.nfa_search_base.specs.Serving.{LeadsOn, MayReply, ServesOnAlong}
+use Rattle.nfa_search_base.specs.Stored.{steps_iter_state, takes_steps}
+use Rattle.nfa_search_base.specs.IterStates.{Answer, IterState, AnswerIsInside, after, answer_span}
+use Rattle.nfa_search_base.specs.declared.error.SearchError.{SearchError}
+use Rattle.nfa_search_base.specs.declared.iter.steps.Steps.{Steps}
+use Rattle.nfa_search_base.proofs.AskingLemmas.{same_start-self}
+use Rattle.nfa_search_base.proofs.IterStateLemmas.{IsOrdered}
+use Rattle.nfa_search_base.proofs.ListLemmas.{spans-apart, step-as}
+use Rattle.nfa_search_base.proofs.RunLemmas.{Says, first-from, all-from}
+
+-- `ends tells` says which error may end a list of answers that `tells` gives.
+module _ {S X Y : Type 0} (accepts : S → Search → Type 0) (asks : S → Search → Answer X → S → Type 0)
+    (span : X → Span) (gives : S → Answer X → Option (Result Y SearchError) → Type 0) (view : Y → X)
+    (ends : (Search → Answer X → Type 0) → IterState → SearchError → Type 0)
+    (says : (tells : Search → Answer X → Type 0) (w : IterState) (q : S) (a : Answer X)
+    (r : Option (Result Y SearchError)) → gives q a r → IsStep span tells w a → Says view a (ends tells w) r) where
+  abbrev steps : Steps S → Option (Result Y SearchError) → Steps S → Type 0
+  steps = takes_steps span asks gives
+
+  -- calls on searches like x led from f to q
+  Reached : S → Search → S → Type 0
+  Reached f x q = (calls : List (Search × Answer X)) × LeadsOn accepts asks SameButStart x f calls q
+
+  acts : (f : S) (x : Search) (q : S) (t : Search) (a : Answer X) (q' : S) → SameButStart x t
+      → Reached f x q → asks q t a q' → MayReply accepts asks SameButStart f x t a × Reached f x q'
+  unfolding Reached
+  acts f x q t a q' same reached found = (
+    record { calls = reached.0; between = q; left = q'; leads = reached.1; same = same; asked = found },
+    (
+      reached.0 ++ (t, a) ∷ [],
+      FoldsTo-push (λ p c r. SameButStart x c.0 × asks p c.0 c.1 r) f reached.0 q (t, a) q' reached.1 (same, found),
+    ),
+  )
+
+  -- what the finder of an iterator may answer
+  abbrev May : Steps S → Search → Answer X → Type 0
+  May s = MayReply accepts asks SameButStart s.backend (steps_iter_state s).at
+
+  -- the first items
+  pub may-first : (s : Steps S) → s.done ≡ false → (xs : List (Result Y SearchError)) (t : Steps S)
+      → Yields steps s xs t → ItemsNext span (May s) (ends (May s)) (steps_iter_state s) (map (item_by view) xs)
+  unfolding Reached
+  may-first s going xs t ran =
+      first-from span asks gives view (May s) (ends (May s)) (steps_iter_state s).at
+      (Reached s.backend (steps_iter_state s).at)
+      (λ q t a q' same good found. acts s.backend (steps_iter_state s).at q t a q' same good found) (says (May s))
+      (steps_iter_state s) s refl going (same_start-self (steps_iter_state s).at) ([], refl) xs t ran
+
+  -- and at `None` all
+  pub may-all : (s : Steps S) → s.done ≡ false → (xs : List (Result Y SearchError)) (t u : Steps S)
+      → Yields steps s xs t → steps t None u
+      → ItemsLast span (May s) (ends (May s)) (steps_iter_state s) (map (item_by view) xs)
+  unfolding Reached
+  may-all s going xs t u ran st =
+      all-from span asks gives view (May s) (ends (May s)) (steps_iter_state s).at
+      (Reached s.backend (steps_iter_state s).at)
+      (λ q t a q' same good found. acts s.backend (steps_iter_state s).at q t a q' same good found) (says (May s))
+      (steps_iter_state s) s refl going (same_start-self (steps_iter_state s).at) ([], refl) xs t u ran st
+
+  -- Their matches do not overlap if those of the finder are in the spans of its searches.
+  pub may-apart : (P : Search → Answer X → Type 0)
+      → ((t : Search) (a : Answer X) → P t a → AnswerIsInside span t a)
+      → ((q : S) (t : Search) (a : Answer X) (q' : S) → asks q t a q' → IsOrdered (answer_span span a))
+      → (s : Steps S) → ServesOnAlong accepts asks SameButStart P s.backend (steps_iter_state s).at
+      → (items : List (Item X)) → ItemsNext span (May s) (ends (May s)) (steps_iter_state s) items
+      → AreSpansDisjoint (steps_iter_state s).at (steps_iter_state s).last (map span (matches_in items))
+  may-apart P lies ordered s serves items come =
+      spans-apart span (May s)
+      (λ t a k. (
+        lies t a ((serves.at k.calls k.between t k.leads k.same).replies a k.left k.asked),
+        ordered k.between t a k.left k.asked,
+      ))
+      (ends (May s)) (steps_iter_state s).at (steps_iter_state s) items (omega arith) refl s.searcher.behind come
+
+-- If each answer of `under` is one of `tells`, the items are the same.
+module _ {X : Type 0} (span : X → Span) (under tells : Search → Answer X → Type 0)
+    (so : (t : Search) (a : Answer X) → under t a → tells t a) where
+  pub step-told : (w : IterState) (a : Answer X) → IsStep span under w a → IsStep span tells w a
+  step-told w a h = step-as span span under tells (λ b. b) (λ b. refl) so w a h
+
+  pub last-told : (ends ends' : IterState → SearchError → Type 0)
+      → ((w : IterState) (e : SearchError) → ends w e → ends' w e) → (w : IterState) (items : List (Item X))
+      → ItemsLast span under ends w items → ItemsLast span tells ends' w items
+  last-told ends ends' end w [] h = step-told w (Ok None) h
+  last-told ends ends' end w (Ok x ∷ items) h =
+      (step-told w (Ok (Some x)) h.0, last-told ends ends' end (after w (Some (span x))) items h.1)
+  last-told ends ends' end w (Err e ∷ items) h = (end w e h.0, h.1)
+
+-- What `collect` makes of an iterator that gives a whole list at its end: that list.
+pub collected_all : {S A Z E : Type 0} (steps : S → Option A → S → Type 0) (Whole : List A → Type 0) (s : S)
+    (r : Result (Vec A Z) E) → IsCollectResult steps s r
+    → ((xs : List A) (t u : S) → Yields steps s xs t → steps t None u → Whole xs)
+    → IfOk r (λ all. Whole (vec_items all))
+collected_all steps Whole s (Ok all) ran gives =
+    let end = ran.1.2 tt in
+    subst Whole (sym ran.2.0) (gives ran.0 ran.1.0 end.0 ran.1.1 end.1)
+collected_all steps Whole s (Err e) ran gives = tt
