@@ -16,7 +16,7 @@ use Rattle.nfa_paths.specs.Exploring.Task.{Explore}
 use Rattle.nfa_scan_core.specs.Marks.{Marks}
 use Rattle.nfa_backtrack_scan.specs.Walk.{frame_tries, stacked, IsFrame, IsByteStep, IsStatePos, PaidFor, Carries}
 use Rattle.nfa_backtrack_scan.specs.Walk.{Taken, WalkAnswer}
-use Rattle.nfa_backtrack_scan.specs.Alternates.{IsDeadEnd, Stands, PushesLive}
+use Rattle.nfa_backtrack_scan.specs.Alternates.{IsDeadEnd, HasAnswersOf, PushesLive}
 use Rattle.nfa_backtrack_scan.specs.declared.frame.StatePos.{StatePos}
 use Rattle.nfa_backtrack_scan.specs.declared.frame.Frame.{Frame}
 use Rattle.nfa_backtrack_scan.specs.declared.frame.Frame.TheVariants.{Step}
@@ -47,17 +47,18 @@ module _ (nfa : Automaton) (x : Search) where
       no_path-along _ _ (rw node refl) (rw node refl) dead
 
   -- work with the same first pair
-  Stands-after : (v : Pair) (work shorter : List Task) → Stands nfa x work shorter
-      → Stands nfa x (Explore v ∷ work) (Explore v ∷ shorter)
+  HasAnswersOf-after : (v : Pair) (work shorter : List Task) → HasAnswersOf nfa x work shorter
+      → HasAnswersOf nfa x (Explore v ∷ work) (Explore v ∷ shorter)
   unfolding ExploresTo
-  Stands-after v work shorter stands left pairs slots g h =
+  HasAnswersOf-after v work shorter stands left pairs slots g h =
       elim h [ inl hit ↦ inl hit | inr later ↦ inr (later.0, stands left pairs slots g later.1) ]
 
   -- a dead end as the first pair
-  Stands-dead : (v : Pair) (work shorter : List Task) → IsDeadEnd nfa x v → Stands nfa x work shorter
-      → Stands nfa x (Explore v ∷ work) shorter
+  HasAnswersOf-dead : (v : Pair) (work shorter : List Task) → IsDeadEnd nfa x v → HasAnswersOf nfa x work shorter
+      → HasAnswersOf nfa x (Explore v ∷ work) shorter
   unfolding ExploresTo
-  Stands-dead v work shorter dead stands left pairs slots g h = inr (λ p way. dead p way.path, stands left pairs slots g h)
+  HasAnswersOf-dead v work shorter dead stands left pairs slots g h =
+      inr (λ p way. dead p way.path, stands left pairs slots g h)
 
   pub PushesLive-none : (place : StatePos) (stack : List Frame) → PushesLive nfa x place [] stack stack
   PushesLive-none place stack = record {
@@ -72,7 +73,7 @@ module _ (nfa : Automaton) (x : Search) where
     PushesLive-dead dead = record {
       within = l.within;
       tried = omega (arith, l.tried);
-      follows = λ work. Stands-dead (s, place.at) _ _ dead (l.follows work);
+      follows = λ work. HasAnswersOf-dead (s, place.at) _ _ dead (l.follows work);
     }
 
     pub PushesLive-push : s < length nfa.states → IsStatePos nfa x place
@@ -83,11 +84,12 @@ module _ (nfa : Automaton) (x : Search) where
           (record { state = below; from = p.from; to = p.to; row = p.row });
       tried = omega (arith, l.tried, sum_by_push frame_tries after (Step s place.at place.row));
       follows = λ work.
-          rw (stacked-push after (Step s place.at place.row) work) (Stands-after (s, place.at) _ _ (l.follows work));
+          rw (stacked-push after (Step s place.at place.row) work)
+          (HasAnswersOf-after (s, place.at) _ _ (l.follows work));
     }
 
   -- the same marks and slots, with less work
-  Carries-stands : (m : Marks) (work shorter : List Task) (slots : Slots) → Stands nfa x work shorter
+  Carries-stands : (m : Marks) (work shorter : List Task) (slots : Slots) → HasAnswersOf nfa x work shorter
       → Carries nfa x m work slots m shorter slots
   unfolding WalkAnswer
   Carries-stands m work shorter slots stands = record {
@@ -114,4 +116,4 @@ module _ (nfa : Automaton) (x : Search) where
         (Goes-edges t (Union alternates) is refl refl
         ((f, place.at) ∷ map (λ q. (q, place.at)) (drop 1 alternates))
         (ap (map (λ q. (q, place.at))) (first-drop alternates f first)) (stacked stack work) slots)
-        (Carries-stands n _ _ slots (Stands-after (f, place.at) _ _ (l.follows work)))
+        (Carries-stands n _ _ slots (HasAnswersOf-after (f, place.at) _ _ (l.follows work)))

@@ -14,7 +14,7 @@ use Rattle.nfa_paths.specs.Paths.{capture, edges, is_match, node_at, slot_of, sp
 use Rattle.nfa_paths.specs.Exploring.{Hit, Slots, ExploresTo, found}
 use Rattle.nfa_paths.specs.Turns.{marked_sum}
 use Rattle.nfa_scan_core.specs.Marks.{Marks}
-use Rattle.nfa_backtrack_scan.specs.Begin.{kept_onto, starts_from, BeginsAt}
+use Rattle.nfa_backtrack_scan.specs.Begin.{kept_onto, start_tasks, BeginsAt}
 use Rattle.nfa_backtrack_scan.specs.Walk.{pair_of, weights, IsStatePos, Carries, Taken, WalkAnswer}
 use Rattle.nfa_backtrack_scan.specs.declared.frame.StatePos.{StatePos}
 use Rattle.nfa_backtrack_scan.proofs.WalkLemmas.{node_at-get, marked_sum-weights, Carries-none, Carries-restore}
@@ -31,8 +31,8 @@ module _ (nfa : Automaton) (x : Search) where
   -- so do all starts of its state
   Answer-over : (left : ℕ) (pairs : List Pair) (s at count k : ℕ) → slot_of (node_at nfa s) ≡ Some k
       → (slots : Slots) (old : Option ℕ) (g : Hit)
-      → ExploresTo (space nfa x) (is_match nfa) left None pairs (starts_from s at count) slots g
-      → ExploresTo (space nfa x) (is_match nfa) left None pairs (starts_from s at count) (set slots k old) g
+      → ExploresTo (space nfa x) (is_match nfa) left None pairs (start_tasks s at count) slots g
+      → ExploresTo (space nfa x) (is_match nfa) left None pairs (start_tasks s at count) (set slots k old) g
   unfolding ExploresTo
   Answer-over left pairs s at zero k writes slots old g h = h
   Answer-over left pairs s at (suc count) k writes slots old g h =
@@ -45,11 +45,11 @@ module _ (nfa : Automaton) (x : Search) where
   -- a slot that later starts write need not be restored
   pub Carries-kept : (m : Marks) (s at count : ℕ) (slot old : Option ℕ) (slots : Slots)
       → ForSome slot (λ k. slot_of (node_at nfa s) ≡ Some k)
-      → Carries nfa x m (kept_onto slot old (starts_from s at count)) slots m (starts_from s at count) slots
+      → Carries nfa x m (kept_onto slot old (start_tasks s at count)) slots m (start_tasks s at count) slots
   unfolding WalkAnswer
-  Carries-kept m s at count None old slots own = Carries-none nfa x m (starts_from s at count) slots
+  Carries-kept m s at count None old slots own = Carries-none nfa x m (start_tasks s at count) slots
   Carries-kept m s at count (Some k) old slots own =
-      Carries-then nfa x (Carries-restore nfa x m (starts_from s at count) slots k old) (record {
+      Carries-then nfa x (Carries-restore nfa x m (start_tasks s at count) slots k old) (record {
         grows = omega arith;
         back = λ left more g e h pairs agrees.
             let same : more ≡ left = omega arith in

@@ -18,8 +18,8 @@ module _ (nfa : Automaton) (x : Search) where
   IsDeadEnd v = (p : List Pair) → Path (edges nfa x) (is_match nfa) v p → ⊥
 
   -- The answer with the second work is one with the first.
-  abbrev pub Stands : List Task → List Task → Type 0
-  Stands work shorter =
+  abbrev pub HasAnswersOf : List Task → List Task → Type 0
+  HasAnswersOf work shorter =
       (left : ℕ) (pairs : List Pair) (slots : Slots) (g : Hit)
       → ExploresTo (space nfa x) (is_match nfa) left None pairs shorter slots g
       → ExploresTo (space nfa x) (is_match nfa) left None pairs work slots g
@@ -29,4 +29,4 @@ module _ (nfa : Automaton) (x : Search) where
     pub within : (count : ℕ) → All (IsFrame nfa x count) stack → All (IsFrame nfa x count) after
     pub tried : sum_by frame_tries after ≤ sum_by frame_tries stack + length alternates
     pub follows : (work : List Task)
-        → Stands (map ToExplore (map (λ s. (s, place.at)) alternates) ++ stacked stack work) (stacked after work)
+        → HasAnswersOf (map ToExplore (map (λ s. (s, place.at)) alternates) ++ stacked stack work) (stacked after work)

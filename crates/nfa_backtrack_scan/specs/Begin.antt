@@ -20,8 +20,8 @@ kept_onto None old work = work
 kept_onto (Some slot) old work = ToRestore slot old ∷ work
 
 -- starts of this state at `count` positions as work
-abbrev pub starts_from : ℕ → ℕ → ℕ → List Task
-starts_from state at count = map ToExplore (pairs_from state at count)
+abbrev pub start_tasks : ℕ → ℕ → ℕ → List Task
+start_tasks state at count = map ToExplore (pairs_from state at count)
 
 module _ (nfa : Automaton) (x : Search) where
   -- A walk from v goes on at the place, and the marks pay for the tries. The slot that was written, if any, is the one
@@ -44,7 +44,7 @@ module _ (nfa : Automaton) (x : Search) where
       (written : Slots) : Type 0 where
     pub empty : after ≡ []
     pub follows : (at count : ℕ)
-        → Carries nfa x marks (ToExplore v ∷ starts_from v.0 at count) slots marked (starts_from v.0 at count) written
+        → Carries nfa x marks (ToExplore v ∷ start_tasks v.0 at count) slots marked (start_tasks v.0 at count) written
     pub spent : marked.turns + marked_sum (weights nfa x) marks.bits
         ≤ marks.turns + 1 + marked_sum (weights nfa x) marked.bits
 

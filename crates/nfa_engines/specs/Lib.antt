@@ -33,6 +33,7 @@ pub use Rattle.nfa_search_base.specs.Agreement
 pub use Rattle.nfa_search_base.specs.Asking
 pub use Rattle.nfa_search_base.specs.Beginnings
 pub use Rattle.nfa_search_base.specs.LastEnd
+pub use Rattle.nfa_search_base.specs.CapturesGiven
 pub use Rattle.nfa_search_base.specs.WithCaptures
 pub use Rattle.nfa_search_base.specs.CapturesLists
 pub use Rattle.nfa_search_base.specs.CapturesRuns

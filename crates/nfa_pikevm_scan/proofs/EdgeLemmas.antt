@@ -10,7 +10,7 @@ use Rattle.nfa_paths.specs.Graphs.{Pair}
 use Rattle.nfa_paths.specs.Paths.{node_at, edges, edges_of, byte_at, target_on}
 use Rattle.nfa_paths.specs.Exploring.{Slots}
 use Rattle.nfa_paths.specs.Kinds.{rests}
-use Rattle.nfa_pikevm_scan.specs.States.{moves, move_to}
+use Rattle.nfa_pikevm_scan.specs.States.{moves, kept_target}
 
 -- what a state's number names
 pub node_at-get : (nfa : Automaton) (s : ℕ) (node : Node) → slice_get nfa.states s ≡ Some node → node_at nfa s ≡ node
@@ -22,23 +22,24 @@ module _ (x : Search) (at : ℕ) (slots : Slots) where
   moves-target : (node : Node) (byte : Option ℕ)
       → map (λ v. (v.0, slots)) (option_to_list (option_and_then
       (λ b. option_map (λ next. (let v : Pair = (next, at + 1) in v)) (target_on node b)) byte))
-      ≡ move_to (option_and_then (target_on node) byte) slots
+      ≡ kept_target (option_and_then (target_on node) byte) slots
   moves-target node None = refl
   moves-target node (Some b) = of (target_on node b)
     where
       of : (target : Option ℕ) → map (λ v. (v.0, slots)) (option_to_list (option_map
-          (λ next. (let v : Pair = (next, at + 1) in v)) target)) ≡ move_to target slots
+          (λ next. (let v : Pair = (next, at + 1) in v)) target)) ≡ kept_target target slots
       of None = refl
       of (Some t) = refl
 
   nowhere : (node : Node) → ((b : ℕ) → target_on node b ≡ None) → (byte : Option ℕ)
-      → [] ≡ move_to (option_and_then (target_on node) byte) slots
+      → [] ≡ kept_target (option_and_then (target_on node) byte) slots
   nowhere node none None = refl
   nowhere node none (Some b) = rw (none b) refl
 
   -- a resting state leads to where its byte leads
   pub edges-move : (node : Node) → rests node ≡ true
-      → map (λ v. (v.0, slots)) (edges_of x node at) ≡ move_to (option_and_then (target_on node) (byte_at x at)) slots
+      → map (λ v. (v.0, slots)) (edges_of x node at)
+      ≡ kept_target (option_and_then (target_on node) (byte_at x at)) slots
   unfolding edges_of
   edges-move (ByteRange trans) r = moves-target (ByteRange trans) (byte_at x at)
   edges-move (Sparse ts) r = moves-target (Sparse ts) (byte_at x at)

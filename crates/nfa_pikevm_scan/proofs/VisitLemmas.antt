@@ -26,7 +26,7 @@ use Rattle.nfa_paths.proofs.ScanAnswerLemmas.{edges-onward, edges-rise}
 use Rattle.nfa_scan_core.proofs.TargetLemmas.{target-degree}
 use Rattle.nfa_scan_core.specs.Marks.{Marks}
 use Rattle.nfa_pikevm_scan.specs.Needs.{room_of}
-use Rattle.nfa_pikevm_scan.specs.States.{Frontier, work_onto, with_state, tries, tries_of, state_on, one_of, move_to, IsWithin, IsPut, IsSaved, WasMarked, Entered, Follows, Formed, Paid, HasRoom, VisitsState, IsMet}
+use Rattle.nfa_pikevm_scan.specs.States.{Frontier, work_onto, with_state, tries, tries_of, state_on, one_of, kept_target, IsWithin, IsPut, IsSaved, WasSeen, Entered, Follows, Formed, Paid, HasRoom, VisitsState, IsMet}
 use Rattle.nfa_pikevm_scan.specs.declared.closure.Move.{Move}
 use Rattle.nfa_pikevm_scan.specs.declared.closure.Move.TheVariants.{On, Matched, DeadEnd}
 use Rattle.nfa_pikevm_scan.specs.declared.frame.FollowEpsilon.{FollowEpsilon}
@@ -155,7 +155,7 @@ module _ {nfa : Automaton} {x : Search} {at s : ℕ} {m n : Marks} {items : List
 module _ {nfa : Automaton} {x : Search} {at s : ℕ} {m n : Marks} {items : List (ℕ × Slots)} {stack : List FollowEpsilon}
     {slots : Slots} where
   -- a turn that finds its state marked
-  pub VisitsState-marked : WasMarked s m n → VisitsState nfa x at s m items stack slots DeadEnd n items stack slots
+  pub VisitsState-marked : WasSeen s m n → VisitsState nfa x at s m items stack slots DeadEnd n items stack slots
   VisitsState-marked w =
       VisitsState-bare (λ b i. absurd i) (λ before f. rw w.same f)
       (λ before old work. Follows-marked nfa x at m before (work_onto at stack (Load old ∷ work)) slots s n w.counted
@@ -367,13 +367,13 @@ module _ {nfa : Automaton} {s next slot : ℕ} {m n : Marks} (e : Entered nfa s 
 
 -- a byte leads to one of the state's edges, or to none
 few-target : (node : Node) (slots : Slots) (byte : Option ℕ)
-    → (length (move_to (option_and_then (target_on node) byte) slots) ≤ 1)
-    × (length (move_to (option_and_then (target_on node) byte) slots) ≤ degree node)
+    → (length (kept_target (option_and_then (target_on node) byte) slots) ≤ 1)
+    × (length (kept_target (option_and_then (target_on node) byte) slots) ≤ degree node)
 few-target node slots None = (omega arith, omega arith)
 few-target node slots (Some b) = of (target_on node b) (λ t e. target-degree node b t e)
   where
     of : (target : Option ℕ) → ((t : ℕ) → target ≡ Some t → 1 ≤ degree node)
-        → (length (move_to target slots) ≤ 1) × (length (move_to target slots) ≤ degree node)
+        → (length (kept_target target slots) ≤ 1) × (length (kept_target target slots) ≤ degree node)
     of None some = (omega arith, omega arith)
     of (Some t) some = (omega arith, some t refl)
 
@@ -416,11 +416,11 @@ module _ {nfa : Automaton} {s : ℕ} {node : Node} {m n : Marks} (e : Entered nf
 
   -- the state that the byte leads to is kept
   pub VisitsState-byte : pattern_of node ≡ None → {byte : Option ℕ} → byte ≡ byte_at x at → {kept : List (ℕ × Slots)}
-      → kept ≡ items ++ move_to (option_and_then (target_on node) byte) slots
+      → kept ≡ items ++ kept_target (option_and_then (target_on node) byte) slots
       → VisitsState nfa x at s m items stack slots DeadEnd n kept stack slots
   VisitsState-byte plain {byte} reads added =
       let few = few-target node slots byte in
-      VisitsState-resting (move_to (option_and_then (target_on node) byte) slots)
+      VisitsState-resting (kept_target (option_and_then (target_on node) byte) slots)
       (rw reads (edges-move x at slots node r)) few.0 few.1 added refl (no_match e x at slots plain)
 
 module _ {nfa : Automaton} {s : ℕ} {m n : Marks} {x : Search} {at : ℕ} {items : List (ℕ × Slots)}

@@ -102,9 +102,9 @@ IsBelow states None = Unit {0}
 IsBelow states (Some s) = s < states
 
 -- the state that a byte leads to, if there is one, with its slots
-abbrev pub move_to : Option ℕ → Slots → List (ℕ × Slots)
-move_to None slots = []
-move_to (Some sid) slots = (sid, slots) ∷ []
+abbrev pub kept_target : Option ℕ → Slots → List (ℕ × Slots)
+kept_target None slots = []
+kept_target (Some sid) slots = (sid, slots) ∷ []
 
 -- the frame is pushed, unless the stack is empty
 abbrev pub IsPut : List FollowEpsilon → FollowEpsilon → List FollowEpsilon → Type 0
@@ -118,7 +118,7 @@ IsSaved at slot stack slots above written =
     ⊎ ((length slots ≤ slot) × (above ≡ stack) × (written ≡ slots))
 
 -- The turn found its state marked.
-pub record WasMarked (s : ℕ) (met after : Marks) : Type 0 where
+pub record WasSeen (s : ℕ) (met after : Marks) : Type 0 where
   pub seen : slice_index_or met.bits s false ≡ true
   pub same : after.bits ≡ met.bits
   pub counted : after.turns ≡ met.turns + 1

@@ -11,7 +11,7 @@ ghost use Rattle.nfa_pikevm_scan.specs.States.{Frontier, work_onto, with_state, 
 ghost use Rattle.nfa_pikevm_scan.specs.States.{state_of, HasSlot, IsBelow, IsWithin, Follows, IsClosureContext};
 ghost use Rattle.nfa_pikevm_scan.specs.States.{KeepsRoom, ClosureHasRoom, ClosureFramesWithin};
 ghost use Rattle.nfa_pikevm_scan.specs.States.{ClosureVisits, ClosureFindsMatch};
-ghost use Rattle.nfa_pikevm_scan.specs.States.{Entered, WasMarked, move_to};
+ghost use Rattle.nfa_pikevm_scan.specs.States.{Entered, WasSeen, kept_target};
 ghost use Rattle.nfa_pikevm_scan.specs.Sinks.{ClosureGives};
 ghost use Rattle.nfa_pikevm_scan.specs.declared.frame.FollowEpsilon.TheVariants.{Explore, Restore};
 
@@ -105,7 +105,7 @@ fn push_restore(frames: &mut [FollowEpsilon], top: &mut usize, slots: &[Slot], s
 fn push_target(target: Option<StateID>, next: &mut ActiveStates, slots: &[Slot])
     requires room { length next.old.items < next.old.capacity }
     requires width { length slots.now ≡ next.old.width }
-    ensures kept { next.new.items ≡ next.old.items ++ move_to target slots.now }
+    ensures kept { next.new.items ≡ next.old.items ++ kept_target target slots.now }
     ensures same { next.new ≡ record next.old { items = next.new.items } }
 {
     if let Some(sid) = target {
@@ -120,7 +120,7 @@ fn enter<'n>(nfa: &'n NFA, sid: StateID, seen: &mut Seen) -> Option<&'n State>
     requires marks { length nfa.now.states ≤ length seen.old.bits }
     ensures turns { seen.new.turns ≡ seen.old.turns + 1 }
     ensures size { length seen.new.bits ≡ length seen.old.bits }
-    ensures marked { result ≡ None → WasMarked sid seen.old seen.new }
+    ensures marked { result ≡ None → WasSeen sid seen.old seen.new }
     ensures entered { IfSome result (λ state. Entered nfa.now sid (node_of state.now) seen.old seen.new) }
     ensures leads { IfSome result (λ state. LeadsBelow (length nfa.now.states) (node_of state.now)) }
 {

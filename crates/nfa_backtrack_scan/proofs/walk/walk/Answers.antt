@@ -2,7 +2,7 @@
 use Rattle.std.proofs.Common.{arith}
 use Rattle.regex_search_core.specs.Search.{search_of}
 use Rattle.nfa_paths.proofs.TurnLemmas.{marked_sum-le}
-use Rattle.nfa_backtrack_scan.specs.Begin.{kept_onto, starts_from}
+use Rattle.nfa_backtrack_scan.specs.Begin.{kept_onto, start_tasks}
 use Rattle.nfa_backtrack_scan.specs.Walk.{weights}
 use Rattle.nfa_backtrack_scan.proofs.BeginLemmas.{Carries-kept}
 use Rattle.nfa_backtrack_scan.proofs.WalkLemmas.{Carries-then, EndsAt-along}
@@ -32,7 +32,7 @@ returns-in-None-2-clause-walks c =
     record {
       empty = fails.empty;
       follows = λ at count.
-          let rest = starts_from c.args.start.sid at count in
+          let rest = start_tasks c.args.start.sid at count in
           Carries-then c.args.nfa.now (search_of c.args.input.now)
           (Carries-then c.args.nfa.now (search_of c.args.input.now) (goes.follows rest)
           (fails.follows (kept_onto goes.slot goes.old rest)))
