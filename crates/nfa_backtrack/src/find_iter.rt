@@ -1,8 +1,9 @@
 //! Iteration over the matches of an input.
-ghost use Rattle.std.specs.Prelude.{◌≡◌, Ok, Some, option_map};
+ghost use Rattle.std.specs.Prelude.{◌≡◌, ◌-◌, Ok, Some, option_map};
 ghost use Rattle.std.specs.Option.{ForSome};
 ghost use Rattle.regex_search_core.specs.Found.{found_of};
 ghost use Rattle.regex_search_core.specs.Search.{search_of};
+ghost use Rattle.nfa_paths.specs.Paths.{raised};
 ghost use Rattle.nfa_search_base.specs.EngineSearches.{IsKnownFrom, found_in};
 ghost use Rattle.nfa_search_base.specs.Finders.{answer_by};
 ghost use Rattle.nfa_search_base.specs.Stored.{steps_iter_state};
@@ -33,8 +34,8 @@ pub struct TryFindMatches<'r, 'c, 'h> {
 #[derive(Debug, Drop)]
 struct Finder<'r> {
     engine: &'r BoundedBacktracker,
-    // The match that the last search found, if it is empty and at the start of that search. It also answers a search
-    // from there.
+    // The match that the last search found, if it ends where the last scan of that search started. It also answers a
+    // search from there.
     known: Option<Match>,
 }
 
@@ -154,13 +155,14 @@ impl BoundedBacktracker {
         Ok(found)
     }
 
-    // Returns the match of one search, and states its work.
+    // Returns the match of one search, and states its work. At the end the input starts where the last scan started.
     #[inline]
-    fn find_at(&self, cache: &mut Cache, input: &Input<'_>) -> Result<Option<Match>, SearchError>
-        ensures finds { IsTryFindAnswer self.now (search_of input.now) (answer_by found_of result) }
-        ensures once { SearchesOnce self.now (search_of input.now) (answer_by found_of result) cache.old cache.new }
+    fn find_at(&self, cache: &mut Cache, input: &mut Input<'_>) -> Result<Option<Match>, SearchError>
+        ensures finds { IsTryFindAnswer self.now (search_of input.old) (answer_by found_of result) }
+        ensures once { SearchesOnce self.now (search_of input.old) (answer_by found_of result) cache.old cache.new }
+        ensures last { search_of input.new ≡ raised (search_of input.old) (cache.new.scans - 1) }
     {
-        self.try_find(cache, *input)
+        self.find_last(cache, input)
     }
 }
 
@@ -199,8 +201,9 @@ impl<'r> FindWith for Finder<'r> {
         if known.is_some() {
             return Ok(known);
         }
-        let reply = self.engine.find_at(cache, input);
-        self.known = ending_at(input.start(), found_in(reply));
+        let mut last = *input;
+        let reply = self.engine.find_at(cache, &mut last);
+        self.known = ending_at(last.start(), found_in(reply));
         reply
     }
 
