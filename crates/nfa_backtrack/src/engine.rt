@@ -385,7 +385,7 @@ impl BoundedBacktracker {
         self.find_last(cache, &mut last)
     }
 
-    /// Returns the match that a search of the input finds. At the end the input starts where the last scan started.
+    /// Returns the match that a search of the input finds. The input then starts where the last scan started.
     pub(super) fn find_last(
         &self,
         cache: &mut Cache,
@@ -442,7 +442,7 @@ impl BoundedBacktracker {
         Ok(found)
     }
 
-    /// Returns the match of a search that is not too long, from slots of the cache. At the end the input starts
+    /// Returns the match of a search that is not too long, from slots of the cache. The input then starts
     /// where the last scan started.
     fn find_with(
         &self,

@@ -155,7 +155,7 @@ impl BoundedBacktracker {
         Ok(found)
     }
 
-    // Returns the match of one search, and states its work. At the end the input starts where the last scan started.
+    // Returns the match of one search, and states its work. The input then starts where the last scan started.
     #[inline]
     fn find_at(&self, cache: &mut Cache, input: &mut Input<'_>) -> Result<Option<Match>, SearchError>
         ensures finds { IsTryFindAnswer self.now (search_of input.old) (answer_by found_of result) }

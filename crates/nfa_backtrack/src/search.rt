@@ -43,8 +43,8 @@ impl BoundedBacktracker {
     }
 
     /// Scans, and scans again from one byte further on while the answer ends inside a codepoint. Only an NFA that can
-    /// match the empty string and is in UTF-8 mode has such answers. An anchored search ends at the first one. At the
-    /// end the input starts where the last scan started.
+    /// match the empty string and is in UTF-8 mode has such answers. An anchored search ends at the first one. The
+    /// input then starts where the last scan started.
     fn search_from(
         &self,
         input: &mut Input<'_>,
@@ -81,7 +81,7 @@ impl BoundedBacktracker {
         }
     }
 
-    /// Answers a search that is not too long. At the end the input starts where the last scan started.
+    /// Answers a search that is not too long. The input then starts where the last scan started.
     pub(super) fn search(
         &self,
         input: &mut Input<'_>,

@@ -12,8 +12,8 @@ use Rattle.nfa_paths.specs.Paths.{EndsOnBoundary, IsKeptAnswer, IsFindAnswer, Is
 use Rattle.nfa_paths.specs.Paths.{IsSearchAnswer, IsWhole, SplitsCharacter, is_utf8_empty, raised, max_scans}
 use Rattle.nfa_paths.proofs.AnswerLemmas.{scan_answer-within, search_answer-unique}
 use Rattle.nfa_paths.proofs.InsideLemmas.{match-within}
-use Rattle.nfa_paths.proofs.KnownLemmas.{from-scan}
 use Rattle.nfa_search_base.specs.IterStates.{span_of}
+use Rattle.nfa_search_base.proofs.LastScanLemmas.{from-scan}
 
 -- how many starts a search has at most
 abbrev pub starts_left : Search → ℕ

@@ -302,7 +302,7 @@ impl PikeVM {
     }
 
     /// Returns the match that a search answers, from the row of the cache that it fills. It is a function of its own so
-    /// that an iteration that knows an answer saves no registers for a search. At its end the input starts where the
+    /// that an iteration that knows an answer saves no registers for a search. The input then starts where the
     /// last scan started.
     #[inline(never)]
     fn find_with(
@@ -371,7 +371,7 @@ impl PikeVM {
         self.find_last(cache, &mut last)
     }
 
-    /// Returns the match that a search of the input finds. At the end the input starts where the last scan started.
+    /// Returns the match that a search of the input finds. The input then starts where the last scan started.
     pub(super) fn find_last(&self, cache: &mut Cache, input: &mut Input<'_>) -> Option<Match>
         requires { Fits cache.old self.now.nfa }
         ensures answer { IsFindAnswer self.now.nfa (kind_of self.now) (search_of input.old).earliest

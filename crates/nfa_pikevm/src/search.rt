@@ -15,7 +15,7 @@ use regex_search_core::{HalfMatch, Input, MatchKind};
 use thompson_nfa::NFA;
 
 /// Scans, and scans again from one byte further on while the answer ends inside a codepoint. Only an NFA that can match
-/// the empty string and is in UTF-8 mode has such answers. An anchored search ends at the first one. At the end the input
+/// the empty string and is in UTF-8 mode has such answers. An anchored search ends at the first one. The input then
 /// starts where the last scan started.
 pub fn search(
     nfa: &NFA,

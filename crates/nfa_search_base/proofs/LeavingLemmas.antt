@@ -207,7 +207,8 @@ module _ {E A C : Type 0} (Sure : E → Search → Found → Type 0) (shown : A 
   looks s t a s' is asked = (
     record {
       tells = subst (λ (b : E). Tells b t a) is asked.finds;
-      work = subst (λ (b : E). SearchesUnlessKnown (Work b) scans t a (keeping shown s) (keeping shown s')) is asked.work;
+      work = subst (λ (b : E). SearchesUnlessKnown (Work b) scans t a (keeping shown s) (keeping shown s')) is
+          asked.work;
     },
     asked.engine ∙ is,
   )

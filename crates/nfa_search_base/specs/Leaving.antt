@@ -38,8 +38,8 @@ module _ {S X : Type 0} (span : X → Span) (asks : S → Search → Answer X �
   pub record LeavesAtEnd (x : Search) (ms : List X) (s t : S) : Type 0 where
     pub steps : StepsLead (fresh x) s (answers_to_end ms) t
 
--- An iteration over matches, by searches that do `Work` with a cache, which counts the `scans` of the last one. At first
--- no match is known.
+-- An iteration over matches, by searches that do `Work` with a cache, which counts their `scans`. At first no match is
+-- known.
 module _ {C : Type 0} (Tells : Search → Answer Found → Type 0) (Work : Search → Answer Found → C → C → Type 0)
     (scans : C → ℕ) where
   abbrev pub asks_keeping : Keeping C → Search → Answer Found → Keeping C → Type 0
