@@ -1,8 +1,8 @@
 -- The answers of searches in an iteration by a backtracker, and when its iterator may search.
-use Rattle.std.proofs.Common.{◌≡◌, ◌∙◌, ◌+◌, ◌-◌, ◌*◌, ◌≤◌, refl, false, Option, None, Some, Result, Ok, Err, arith, length}
+use Rattle.std.proofs.Common.{◌≡◌, ◌∙◌, ℕ, ◌+◌, ◌-◌, ◌*◌, ◌≤◌, refl, false, Option, None, Some, Result, Ok, Err, arith, length}
 use Rattle.std.proofs.Common.{List, ◌∷◌, MatchBool, ap, subst, sym}
 use Rattle.std.specs.Option.{option_map}
-use Rattle.std.specs.Prelude.{OnOk, OnErr}
+use Rattle.std.specs.Prelude.{IfOk, IfSome, OnOk, OnErr}
 use Rattle.std.proofs.Math.Nat.{mul-le-mul_left}
 use Rattle.regex_search_core.specs.Found.{Found, found_of}
 use Rattle.regex_search_core.specs.Search.{Search}
@@ -11,7 +11,7 @@ use Rattle.regex_search_core.specs.declared.search.MatchKind.TheVariants.{Leftmo
 use Rattle.nfa_paths.specs.Paths.{IsWithinScans, IsWork, raised, span_len}
 use Rattle.nfa_paths.proofs.KnownLemmas.{match-sure, sure-match}
 use Rattle.nfa_search_base.specs.Asking.{SameButStart}
-use Rattle.nfa_search_base.specs.EngineSearches.{AnswersBy, Keeping}
+use Rattle.nfa_search_base.specs.EngineSearches.{AnswersBy, Keeping, found_in, if_ends_at}
 use Rattle.nfa_search_base.specs.Finders.{answer_by}
 use Rattle.nfa_search_base.specs.Leaving.{StepsLead, asks_keeping}
 use Rattle.nfa_search_base.specs.WithCache.{WithCache}
@@ -64,6 +64,14 @@ found-sure e t r old new m is finds once =
       match-sure e.nfa LeftmostFirst false last (found_of m)
           (match-from-scan e.nfa LeftmostFirst false t (Some (found_of m)) _ _ found.1 work),
     )
+
+-- and what is known after it is the match that ends where that scan started
+pub known-last : (r : Result (Option Match) SearchError) (start last : ℕ)
+    → IfOk r (λ found. IfSome found (λ m. start ≡ last))
+    → if_ends_at start (found_in (answer_by found_of r)) ≡ if_ends_at last (found_in (answer_by found_of r))
+known-last (Ok (Some m)) start last same = ap (λ (n : ℕ). if_ends_at n (Some (found_of m))) same
+known-last (Ok None) start last same = refl
+known-last (Err error) start last same = refl
 
 -- a reply is counted as what it is
 pub counts-by : (r : Result (Option Match) SearchError) (old new : BacktrackCache) → OnOk r (CountsAnswer old new)

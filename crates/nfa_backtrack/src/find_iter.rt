@@ -1,10 +1,9 @@
 //! Iteration over the matches of an input.
-ghost use Rattle.std.specs.Prelude.{◌≡◌, ◌-◌, Ok, Some, option_map};
+ghost use Rattle.std.specs.Prelude.{◌≡◌, Ok, Some, option_map};
 ghost use Rattle.std.specs.Option.{ForSome};
 ghost use Rattle.regex_search_core.specs.Found.{found_of};
 ghost use Rattle.regex_search_core.specs.Search.{search_of};
-ghost use Rattle.nfa_paths.specs.Paths.{raised};
-ghost use Rattle.nfa_search_base.specs.EngineSearches.{IsKnownFrom, found_in};
+ghost use Rattle.nfa_search_base.specs.EngineSearches.{IsKnownFrom, found_in, last_start};
 ghost use Rattle.nfa_search_base.specs.Finders.{answer_by};
 ghost use Rattle.nfa_search_base.specs.Stored.{steps_iter_state};
 ghost use Rattle.nfa_backtrack.specs.Finding.{IsSureAt};
@@ -40,7 +39,7 @@ struct Finder<'r> {
 }
 
 impl BoundedBacktracker {
-    ghost use Rattle.std.specs.Prelude.{false, All, IfOk, None, map};
+    ghost use Rattle.std.specs.Prelude.{false, All, IfOk, IfSome, None, map};
     ghost use Rattle.regex_search_core.specs.Found.{found_of};
     ghost use Rattle.regex_search_core.specs.declared.search.MatchKind.TheVariants.{LeftmostFirst};
     ghost use Rattle.nfa_search_base.specs.Finders.{answer_by};
@@ -155,14 +154,20 @@ impl BoundedBacktracker {
         Ok(found)
     }
 
-    // Returns the match of one search, and states its work. The input then starts where the last scan started.
+    // Returns the match of one search, and states its work. If there is one, `start` becomes the start of the last scan.
     #[inline]
-    fn find_at(&self, cache: &mut Cache, input: &mut Input<'_>) -> Result<Option<Match>, SearchError>
-        ensures finds { IsTryFindAnswer self.now (search_of input.old) (answer_by found_of result) }
-        ensures once { SearchesOnce self.now (search_of input.old) (answer_by found_of result) cache.old cache.new }
-        ensures last { search_of input.new ≡ raised (search_of input.old) (cache.new.scans - 1) }
+    fn find_at(
+        &self,
+        cache: &mut Cache,
+        input: &Input<'_>,
+        start: &mut usize,
+    ) -> Result<Option<Match>, SearchError>
+        ensures finds { IsTryFindAnswer self.now (search_of input.now) (answer_by found_of result) }
+        ensures once { SearchesOnce self.now (search_of input.now) (answer_by found_of result) cache.old cache.new }
+        ensures last { IfOk result (λ found. IfSome found (λ m.
+            start.new ≡ last_start (search_of input.now) cache.new.scans)) }
     {
-        self.find_last(cache, input)
+        self.find_last(cache, input, start)
     }
 }
 
@@ -201,9 +206,9 @@ impl<'r> FindWith for Finder<'r> {
         if known.is_some() {
             return Ok(known);
         }
-        let mut last = *input;
-        let reply = self.engine.find_at(cache, &mut last);
-        self.known = ending_at(last.start(), found_in(reply));
+        let mut start = input.start();
+        let reply = self.engine.find_at(cache, input, &mut start);
+        self.known = ending_at(start, found_in(reply));
         reply
     }
 

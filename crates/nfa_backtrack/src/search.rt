@@ -5,12 +5,13 @@ ghost use Rattle.std.specs.Prelude.{◌↔◌, ◌⊎◌, IfErr, IfOk, IfSome, I
 ghost use Rattle.regex_search_core.specs.Found.{half_found_of};
 ghost use Rattle.regex_search_core.specs.Search.{search_of};
 ghost use Rattle.regex_search_core.specs.declared.search.MatchKind.TheVariants.{LeftmostFirst};
-ghost use Rattle.nfa_paths.specs.Paths.{span_len, starts, max_scans, raised, IsWork, IsWithinScans};
+ghost use Rattle.nfa_paths.specs.Paths.{span_len, starts, max_scans, IsWork, IsWithinScans};
 ghost use Rattle.nfa_paths.specs.Restarts.{max_scan_turns, ScanGives, SearchGives};
 ghost use Rattle.nfa_backtrack.specs.Backtrack.{AddsBacktrackWork, CountsAnswer, CountsRefusal, GrowsBlocks};
 ghost use Rattle.nfa_backtrack.specs.Backtrack.{HoldsNoMore};
 ghost use Rattle.nfa_backtrack.specs.Backtrack.{IsTooLong, refused_early};
 ghost use Rattle.nfa_backtrack_scan.specs.Walk.{HasBits};
+ghost use Rattle.nfa_search_base.specs.EngineSearches.{last_start};
 
 use crate::cache::Cache;
 use crate::engine::BoundedBacktracker;
@@ -43,74 +44,80 @@ impl BoundedBacktracker {
     }
 
     /// Scans, and scans again from one byte further on while the answer ends inside a codepoint. Only an NFA that can
-    /// match the empty string and is in UTF-8 mode has such answers. An anchored search ends at the first one. The
-    /// input then starts where the last scan started.
+    /// match the empty string and is in UTF-8 mode has such answers. An anchored search ends at the first one. If
+    /// there is a match, `start` becomes the start of the last scan.
     fn search_from(
         &self,
-        input: &mut Input<'_>,
+        input: &Input<'_>,
+        start: &mut usize,
         scratch: &mut Scratch,
         slots: &mut [Option<NonMaxUsize>],
     ) -> Result<Option<HalfMatch>, Refused>
-        requires room { HasBits self.now.nfa (search_of input.old) scratch.old.visited.bits }
+        requires room { HasBits self.now.nfa (search_of input.now) scratch.old.visited.bits }
         requires counted { scratch.old.scans ≡ 0 }
         requires turned { scratch.old.visited.turns ≡ 0 }
-        ensures answer { IfOk result (λ half. SearchGives self.now.nfa LeftmostFirst false (search_of input.old) half
+        ensures answer { IfOk result (λ half. SearchGives self.now.nfa LeftmostFirst false (search_of input.now) half
             slots.new scratch.new.scans scratch.new.visited.turns) }
         ensures refused { OnErr result (slots.new ≡ replicate (length slots.old) None) }
         ensures stack { scratch.new.stack.items ≡ [] }
-        ensures within { IsWithinScans self.now.nfa LeftmostFirst false (search_of input.old) scratch.new.scans }
+        ensures within { IsWithinScans self.now.nfa LeftmostFirst false (search_of input.now) scratch.new.scans }
         ensures size { length scratch.new.visited.bits ≡ length scratch.old.visited.bits }
-        ensures last { search_of input.new ≡ raised (search_of input.old) (scratch.new.scans - 1) }
-        ensures scans { scratch.new.scans ≤ max_scans self.now.nfa (search_of input.old) }
+        ensures last { IfOk result (λ half. IfSome half (λ h.
+            start.new ≡ last_start (search_of input.now) scratch.new.scans)) }
+        ensures scans { scratch.new.scans ≤ max_scans self.now.nfa (search_of input.now) }
         ensures turns { scratch.new.visited.turns
-            ≤ scratch.new.scans * max_scan_turns self.now.nfa (search_of input.old) }
+            ≤ scratch.new.scans * max_scan_turns self.now.nfa (search_of input.now) }
     {
+        let mut search = *input;
         loop {
-            let Some(half) = self.scan(input, scratch, slots)? else {
+            let Some(half) = self.scan(&search, scratch, slots)? else {
                 return Ok(None);
             };
             if may_end_at(self.get_nfa(), input, half.offset()) {
+                *start = search.start();
                 return Ok(Some(half));
             }
             if input.get_anchored().is_anchored() {
                 unset(slots);
                 return Ok(None);
             }
-            let start = input.start() + 1;
-            input.set_start(start);
+            let next = search.start() + 1;
+            search.set_start(next);
         }
     }
 
-    /// Answers a search that is not too long. The input then starts where the last scan started.
+    /// Answers a search that is not too long. If there is a match, `start` becomes the start of the last scan.
     pub(super) fn search(
         &self,
-        input: &mut Input<'_>,
+        input: &Input<'_>,
+        start: &mut usize,
         scratch: &mut Scratch,
         slots: &mut [Option<NonMaxUsize>],
     ) -> Result<Option<HalfMatch>, Refused>
-        requires fits { length self.now.nfa.states * (span_len (search_of input.old) + 1) < 2 ^ 64 }
+        requires fits { length self.now.nfa.states * (span_len (search_of input.now) + 1) < 2 ^ 64 }
         requires counted { scratch.old.scans ≡ 0 }
         requires turned { scratch.old.visited.turns ≡ 0 }
-        ensures answer { IfOk result (λ half. SearchGives self.now.nfa LeftmostFirst false (search_of input.old) half
+        ensures answer { IfOk result (λ half. SearchGives self.now.nfa LeftmostFirst false (search_of input.now) half
             slots.new scratch.new.scans scratch.new.visited.turns) }
         ensures refused { OnErr result (slots.new ≡ replicate (length slots.old) None) }
         ensures pattern { IfOk result (λ half. IfSome half (λ h.
             (half_found_of h).pattern < length self.now.nfa.patterns)) }
         ensures stack { length scratch.new.stack.items ≤ length scratch.old.stack.items }
-        ensures within { IsWithinScans self.now.nfa LeftmostFirst false (search_of input.old) scratch.new.scans }
-        ensures blocks { GrowsBlocks self.now.nfa (search_of input.old) (length scratch.old.visited.bits / 64)
+        ensures within { IsWithinScans self.now.nfa LeftmostFirst false (search_of input.now) scratch.new.scans }
+        ensures blocks { GrowsBlocks self.now.nfa (search_of input.now) (length scratch.old.visited.bits / 64)
             (length scratch.new.visited.bits / 64) }
-        ensures last { search_of input.new ≡ raised (search_of input.old) (scratch.new.scans - 1) }
-        ensures scans { scratch.new.scans ≤ max_scans self.now.nfa (search_of input.old) }
+        ensures last { IfOk result (λ half. IfSome half (λ h.
+            start.new ≡ last_start (search_of input.now) scratch.new.scans)) }
+        ensures scans { scratch.new.scans ≤ max_scans self.now.nfa (search_of input.now) }
         ensures turns { scratch.new.visited.turns
-            ≤ scratch.new.scans * max_scan_turns self.now.nfa (search_of input.old) }
+            ≤ scratch.new.scans * max_scan_turns self.now.nfa (search_of input.now) }
     {
         let pairs = self.nfa.states().len() * (input.get_span().len() + 1);
         if let Err(refused) = scratch.visited.reserve(pairs) {
             unset(slots);
             return Err(refused);
         }
-        self.search_from(input, scratch, slots)
+        self.search_from(input, start, scratch, slots)
     }
 
     /// Answers a search, or says why it is refused. The cache counts the search and its work.
@@ -160,8 +167,8 @@ impl BoundedBacktracker {
                 len: input.get_span().len(),
             });
         }
-        let mut last = *input;
-        let Ok(half) = self.search(&mut last, scratch, slots) else {
+        let mut start = input.start();
+        let Ok(half) = self.search(input, &mut start, scratch, slots) else {
             refused.tick();
             return Err(SearchError::Memory);
         };

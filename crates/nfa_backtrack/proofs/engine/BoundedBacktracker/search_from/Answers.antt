@@ -1,127 +1,103 @@
 -- A search that scans again while its answer ends inside a codepoint: what holds at each scan, and the result.
-use Rattle.std.proofs.Common.{◌≡◌, ◌∙◌, ℕ, ◌+◌, ◌≤◌, ap, arith, refl, replicate, subst, sym, true, List}
+use Rattle.std.proofs.Common.{◌∙◌, ◌+◌, ◌≤◌, ap, arith, refl, replicate, sym}
 use Rattle.std.specs.Prelude.{None, false}
-use Rattle.regex_search_core.specs.Boundary.{IsBoundary}
-use Rattle.regex_search_core.specs.Search.{Search, is_anchored, search_of}
-use Rattle.regex_search_core.specs.declared.search.Anchored.{Anchored}
+use Rattle.regex_search_core.specs.Search.{Search, search_of}
 use Rattle.regex_search_core.specs.declared.search.MatchKind.TheVariants.{LeftmostFirst}
-use Rattle.nfa_paths.specs.Paths.{is_utf8_empty, raised}
 use Rattle.nfa_paths.proofs.RestartLemmas.{restarts-begin, settled-none, settled-some, discarded, restarted, start-left}
 use Rattle.nfa_paths.proofs.RestartLemmas.{turns-after, scans-within, scans-bound}
 use Rattle.nfa_search_base.proofs.LastScanLemmas.{last-scan}
 use Rattle.nfa_backtrack_scan.proofs.ScanLemmas.{room-after}
 use Rattle.nfa_backtrack.proofs.engine.BoundedBacktracker.search_from.Goals as goal
 
--- what holds of the text and the anchoring of each scan holds of the search
-of-search : (x y : Search) (n : ℕ) (P : List ℕ → Anchored → Type 0) → y ≡ raised x n → P y.haystack y.anchored
-    → P x.haystack x.anchored
-of-search x y n P is = subst (λ (z : Search). P z.haystack z.anchored) is
-
-pub returns-in_err-half-clause-last : goal.returns-in_err-half-clause-last
-returns-in_err-half-clause-last c =
-    last-scan (search_of c.args.input.now) (search_of c.loop-half.input) _ _ c.loop-half.invariant.restarts.is
-    c.scan.ensures.scans
-
 pub returns-in_err-half-clause-within : goal.returns-in_err-half-clause-within
 returns-in_err-half-clause-within c =
     rw c.scan.ensures.scans (scans-within c.args.self.now.nfa LeftmostFirst false (search_of c.args.input.now)
-    (search_of c.loop-half.input) _ _
+    (search_of c.loop-half.search) _ _
     c.loop-half.invariant.restarts)
 
 pub returns-in_err-half-clause-scans : goal.returns-in_err-half-clause-scans
 returns-in_err-half-clause-scans c =
     rw c.scan.ensures.scans (scans-bound c.args.self.now.nfa LeftmostFirst false (search_of c.args.input.now)
-    (search_of c.loop-half.input) _ _
+    (search_of c.loop-half.search) _ _
     c.loop-half.invariant.restarts)
 
 pub returns-in_err-half-clause-turns : goal.returns-in_err-half-clause-turns
 returns-in_err-half-clause-turns c =
     rw c.scan.ensures.scans (turns-after c.args.self.now.nfa LeftmostFirst false (search_of c.args.input.now)
-    (search_of c.loop-half.input) _ _
+    (search_of c.loop-half.search) _ _
     c.loop-half.invariant.restarts _ c.scan.ensures.turns)
-
-pub returns-in_default-clause-last : goal.returns-in_default-clause-last
-returns-in_default-clause-last c =
-    last-scan (search_of c.args.input.now) (search_of c.loop-half.input) _ _ c.loop-half.invariant.restarts.is
-    c.scan.ensures.scans
 
 pub returns-in_default-clause-within : goal.returns-in_default-clause-within
 returns-in_default-clause-within c =
     rw c.scan.ensures.scans (scans-within c.args.self.now.nfa LeftmostFirst false (search_of c.args.input.now)
-    (search_of c.loop-half.input) _ _
+    (search_of c.loop-half.search) _ _
     c.loop-half.invariant.restarts)
 
 pub returns-in_default-clause-scans : goal.returns-in_default-clause-scans
 returns-in_default-clause-scans c =
     rw c.scan.ensures.scans (scans-bound c.args.self.now.nfa LeftmostFirst false (search_of c.args.input.now)
-    (search_of c.loop-half.input) _ _
+    (search_of c.loop-half.search) _ _
     c.loop-half.invariant.restarts)
 
 pub returns-in_default-clause-turns : goal.returns-in_default-clause-turns
 returns-in_default-clause-turns c =
     rw c.scan.ensures.scans (turns-after c.args.self.now.nfa LeftmostFirst false (search_of c.args.input.now)
-    (search_of c.loop-half.input) _ _
+    (search_of c.loop-half.search) _ _
     c.loop-half.invariant.restarts _ c.scan.ensures.turns)
 
 pub returns-then-may_end_at-clause-last : goal.returns-then-may_end_at-clause-last
 returns-then-may_end_at-clause-last c =
-    last-scan (search_of c.args.input.now) (search_of c.loop-half.input) _ _ c.loop-half.invariant.restarts.is
-    c.scan.ensures.scans
+    c.start.ensures ∙ ap (λ (z : Search). z.start)
+    (last-scan (search_of c.args.input.now) (search_of c.loop-half.search) _ _ c.loop-half.invariant.restarts.is
+    c.scan.ensures.scans)
 
 pub returns-then-may_end_at-clause-within : goal.returns-then-may_end_at-clause-within
 returns-then-may_end_at-clause-within c =
     rw c.scan.ensures.scans (scans-within c.args.self.now.nfa LeftmostFirst false (search_of c.args.input.now)
-    (search_of c.loop-half.input) _ _
+    (search_of c.loop-half.search) _ _
     c.loop-half.invariant.restarts)
 
 pub returns-then-may_end_at-clause-scans : goal.returns-then-may_end_at-clause-scans
 returns-then-may_end_at-clause-scans c =
     rw c.scan.ensures.scans (scans-bound c.args.self.now.nfa LeftmostFirst false (search_of c.args.input.now)
-    (search_of c.loop-half.input) _ _
+    (search_of c.loop-half.search) _ _
     c.loop-half.invariant.restarts)
 
 pub returns-then-may_end_at-clause-turns : goal.returns-then-may_end_at-clause-turns
 returns-then-may_end_at-clause-turns c =
     rw c.scan.ensures.scans (turns-after c.args.self.now.nfa LeftmostFirst false (search_of c.args.input.now)
-    (search_of c.loop-half.input) _ _
+    (search_of c.loop-half.search) _ _
     c.loop-half.invariant.restarts _ c.scan.ensures.turns)
-
-pub returns-then-is_anchored-clause-last : goal.returns-then-is_anchored-clause-last
-returns-then-is_anchored-clause-last c =
-    last-scan (search_of c.args.input.now) (search_of c.loop-half.input) _ _ c.loop-half.invariant.restarts.is
-    c.scan.ensures.scans
 
 pub returns-then-is_anchored-clause-within : goal.returns-then-is_anchored-clause-within
 returns-then-is_anchored-clause-within c =
     rw c.scan.ensures.scans (scans-within c.args.self.now.nfa LeftmostFirst false (search_of c.args.input.now)
-    (search_of c.loop-half.input) _ _
+    (search_of c.loop-half.search) _ _
     c.loop-half.invariant.restarts)
 
 pub returns-then-is_anchored-clause-scans : goal.returns-then-is_anchored-clause-scans
 returns-then-is_anchored-clause-scans c =
     rw c.scan.ensures.scans (scans-bound c.args.self.now.nfa LeftmostFirst false (search_of c.args.input.now)
-    (search_of c.loop-half.input) _ _
+    (search_of c.loop-half.search) _ _
     c.loop-half.invariant.restarts)
 
 pub returns-then-is_anchored-clause-turns : goal.returns-then-is_anchored-clause-turns
 returns-then-is_anchored-clause-turns c =
     rw c.scan.ensures.scans (turns-after c.args.self.now.nfa LeftmostFirst false (search_of c.args.input.now)
-    (search_of c.loop-half.input) _ _
+    (search_of c.loop-half.search) _ _
     c.loop-half.invariant.restarts _ c.scan.ensures.turns)
 
 pub returns-in_default-clause-answer : goal.returns-in_default-clause-answer
 returns-in_default-clause-answer c =
-    settled-none c.args.self.now.nfa LeftmostFirst false (search_of c.args.input.now) (search_of c.loop-half.input) _ _
+    settled-none c.args.self.now.nfa LeftmostFirst false (search_of c.args.input.now) (search_of c.loop-half.search) _ _
     c.loop-half.invariant.restarts
     c.scan.new.slots _ 0 _ (rw c.in_default.is at c.in_ok-half.ensures.answer) c.scan.ensures.scans
 
 pub returns-then-may_end_at-clause-answer : goal.returns-then-may_end_at-clause-answer
 returns-then-may_end_at-clause-answer c =
     let finds = rw c.in-Some.is at c.in_ok-half.ensures.answer in
-    let ends = rw (c.get_nfa.ensures, c.offset.ensures) at (of-search (search_of c.args.input.now) (search_of c.loop-half.input) _
-    (λ h a. is_utf8_empty c.get_nfa.result.now ≡ true → IsBoundary h c.offset.result)
-    c.loop-half.invariant.restarts.is (c.may_end_at.ensures.counts c.if-may_end_at.true)) in
-    settled-some c.args.self.now.nfa LeftmostFirst false (search_of c.args.input.now) (search_of c.loop-half.input) _ _
+    let ends = rw (c.get_nfa.ensures, c.offset.ensures) at (c.may_end_at.ensures.counts c.if-may_end_at.true) in
+    settled-some c.args.self.now.nfa LeftmostFirst false (search_of c.args.input.now) (search_of c.loop-half.search) _ _
     c.loop-half.invariant.restarts
     c.in-Some.half c.scan.new.slots _ _ _ finds ends c.scan.ensures.scans (omega arith)
 
@@ -129,13 +105,9 @@ pub returns-then-is_anchored-clause-answer : goal.returns-then-is_anchored-claus
 returns-then-is_anchored-clause-answer c =
     let finds = rw c.in-Some.is at c.in_ok-half.ensures.answer in
     let mode = rw c.get_nfa.ensures at (c.may_end_at.ensures.splits c.if-may_end_at.false) in
-    let off = rw c.offset.ensures at (of-search (search_of c.args.input.now) (search_of c.loop-half.input) _
-    (λ h a. ¬ (IsBoundary h c.offset.result)) c.loop-half.invariant.restarts.is
-    (c.may_end_at.ensures.inside c.if-may_end_at.false)) in
-    let anchored = of-search (search_of c.args.input.now) (search_of c.loop-half.input) _
-    (λ h a. is_anchored a ≡ true) c.loop-half.invariant.restarts.is
-    (rw (c.is_anchored.ensures, c.get_anchored.ensures) at c.if-is_anchored.true) in
-    discarded c.args.self.now.nfa LeftmostFirst false (search_of c.args.input.now) (search_of c.loop-half.input) _ _
+    let off = rw c.offset.ensures at (c.may_end_at.ensures.inside c.if-may_end_at.false) in
+    let anchored = rw (c.is_anchored.ensures, c.get_anchored.ensures) at c.if-is_anchored.true in
+    discarded c.args.self.now.nfa LeftmostFirst false (search_of c.args.input.now) (search_of c.loop-half.search) _ _
     c.loop-half.invariant.restarts
     c.in-Some.half _ c.unset.new.slots _ _ _ finds mode anchored off c.scan.ensures.scans
     (c.unset.ensures ∙ ap (λ n. replicate n None) (sym c.unset.auto.slots))
@@ -143,11 +115,11 @@ returns-then-is_anchored-clause-answer c =
 pub set_start-requires : goal.set_start-requires
 set_start-requires c =
     let finds = rw c.in-Some.is at c.in_ok-half.ensures.answer in
-    let left : (search_of c.loop-half.input).start ≤ (search_of c.loop-half.input).end =
-    start-left c.args.self.now.nfa LeftmostFirst false (search_of c.args.input.now) (search_of c.loop-half.input) _ _
+    let left : (search_of c.loop-half.search).start ≤ (search_of c.loop-half.search).end =
+    start-left c.args.self.now.nfa LeftmostFirst false (search_of c.args.input.now) (search_of c.loop-half.search) _ _
     c.loop-half.invariant.restarts
     c.in-Some.half _ _ finds in
-    omega (arith, c.start-start.ensures)
+    omega (arith, c.start-next.ensures)
 
 pub loop-half-init : goal.loop-half-init
 loop-half-init c =
@@ -161,18 +133,14 @@ pub loop-half-preserved : goal.loop-half-preserved
 loop-half-preserved c =
     let finds = rw c.in-Some.is at c.in_ok-half.ensures.answer in
     let mode = rw c.get_nfa.ensures at (c.may_end_at.ensures.splits c.if-may_end_at.false) in
-    let off = rw c.offset.ensures at (of-search (search_of c.args.input.now) (search_of c.loop-half.input) _
-    (λ h a. ¬ (IsBoundary h c.offset.result)) c.loop-half.invariant.restarts.is
-    (c.may_end_at.ensures.inside c.if-may_end_at.false)) in
-    let free = of-search (search_of c.args.input.now) (search_of c.loop-half.input) _
-    (λ h a. is_anchored a ≡ false) c.loop-half.invariant.restarts.is
-    (rw (c.is_anchored.ensures, c.get_anchored.ensures) at c.if-is_anchored.false) in
+    let off = rw c.offset.ensures at (c.may_end_at.ensures.inside c.if-may_end_at.false) in
+    let free = rw (c.is_anchored.ensures, c.get_anchored.ensures) at c.if-is_anchored.false in
     record {
       restarts = rw c.scan.ensures.scans
-          (restarted c.args.self.now.nfa LeftmostFirst false (search_of c.args.input.now) (search_of c.loop-half.input)
+          (restarted c.args.self.now.nfa LeftmostFirst false (search_of c.args.input.now) (search_of c.loop-half.search)
           _ _
           c.loop-half.invariant.restarts
-          c.in-Some.half _ _ _ _ _ finds mode free off c.scan.ensures.turns (ap (λ n. n + 1) c.start-start.ensures)
+          c.in-Some.half _ _ _ _ _ finds mode free off c.scan.ensures.turns (ap (λ n. n + 1) c.start-next.ensures)
           c.set_start.ensures);
       size = c.scan.ensures.size ∙ c.loop-half.invariant.size;
     }

@@ -7,11 +7,11 @@ use Rattle.nfa_backtrack.proofs.engine.BoundedBacktracker.search_from.Given as g
 
 abbrev pub invariant-loop-half : goal.invariant-loop-half
 invariant-loop-half l = record {
-  restarts : Restarts l.self.nfa LeftmostFirst false (search_of l.fn.input) (search_of l.input) l.scratch.scans
+  restarts : Restarts l.self.nfa LeftmostFirst false (search_of l.input) (search_of l.search) l.scratch.scans
       l.scratch.visited.turns;
   size : length l.scratch.visited.bits ≡ length l.fn.scratch.visited.bits;
 }
 
 -- the positions that are left to start at
 abbrev pub decreases-loop-half : goal.decreases-loop-half
-decreases-loop-half l = (search_of l.input).end + 1 - (search_of l.input).start
+decreases-loop-half l = (search_of l.search).end + 1 - (search_of l.search).start
