@@ -23,7 +23,7 @@ use Rattle.nfa_search_base.specs.IterStates.{repeats, shifted, span_of}
 use Rattle.nfa_search_base.specs.declared.error.SearchError.{SearchError}
 use Rattle.nfa_search_base.specs.declared.iter.steps.Steps.{Steps}
 use Rattle.nfa_search_base.proofs.EngineLemmas.{calls-kept, finder-acts, finder-goes, finder-serves}
-use Rattle.nfa_search_base.proofs.LastScanLemmas.{match-from-scan}
+use Rattle.nfa_search_base.proofs.LastStartLemmas.{match-from-scan}
 use Rattle.nfa_search_base.proofs.LeavingLemmas.{finds-leave, finds-to_end, first-leaves, same-item, same-items}
 use Rattle.nfa_search_base.proofs.ListLemmas.{match-lies}
 use Rattle.nfa_search_base.proofs.IterStateLemmas.{IsOrdered}
@@ -58,8 +58,7 @@ pub found-sure : (e : Backtracker) (t : Search) (r : Result (Option Match) Searc
 found-sure e t r old new m is finds once =
     let found = subst (λ (q : Result (Option Match) SearchError). IsTryFindAnswer e t (answer_by found_of q)) is finds in
     let work = subst (λ (q : Result (Option Match) SearchError). DoesWork e t (answer_by found_of q) new) is once.exact in
-    let last = raised t (new.scans - 1) in
-    (
+    let last = raised t (new.scans - 1) in (
       still-fits e t last refl (omega arith) found.0,
       match-sure e.nfa LeftmostFirst false last (found_of m)
           (match-from-scan e.nfa LeftmostFirst false t (Some (found_of m)) _ _ found.1 work),

@@ -383,11 +383,11 @@ impl BoundedBacktracker {
         ensures early { IsTooLong self.now (search_of input.entry) → cache.new ≡ refused_early cache.old }
     {
         let mut start = input.start();
-        self.find_last(cache, &input, &mut start)
+        self.find_with_start(cache, &input, &mut start)
     }
 
     /// Returns the match that a search of the input finds. If there is one, `start` becomes the start of the last scan.
-    pub(super) fn find_last(
+    pub(super) fn find_with_start(
         &self,
         cache: &mut Cache,
         input: &Input<'_>,

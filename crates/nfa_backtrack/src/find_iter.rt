@@ -167,7 +167,7 @@ impl BoundedBacktracker {
         ensures last { IfOk result (λ found. IfSome found (λ m.
             start.new ≡ last_start (search_of input.now) cache.new.scans)) }
     {
-        self.find_last(cache, input, start)
+        self.find_with_start(cache, input, start)
     }
 }
 

@@ -13,7 +13,7 @@ use Rattle.nfa_paths.specs.Paths.{IsSearchAnswer, IsWhole, SplitsCharacter, is_u
 use Rattle.nfa_paths.proofs.AnswerLemmas.{scan_answer-within, search_answer-unique}
 use Rattle.nfa_paths.proofs.InsideLemmas.{match-within}
 use Rattle.nfa_search_base.specs.IterStates.{span_of}
-use Rattle.nfa_search_base.proofs.LastScanLemmas.{from-scan}
+use Rattle.nfa_search_base.proofs.LastStartLemmas.{from-scan}
 
 -- how many starts a search has at most
 abbrev pub starts_left : Search → ℕ

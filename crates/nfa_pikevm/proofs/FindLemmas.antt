@@ -106,9 +106,9 @@ asked-capacities : (s : WithCache Finder PikeCache) (x : Search) (a : Answer Fou
     → AsksPike s x a t → SameCapacities s.cache t.cache
 asked-capacities s x a t asked = elim (same-or-made (λ y b. PikeSearches s.backend.engine.now y) pike_scans x a _ _
     asked.work) [
-  | inl same ↦ subst (λ (c : PikeCache). SameCapacities s.cache c) (sym same) (same_capacities s.cache)
-  | inr work ↦ work.capacities
-]
+      | inl same ↦ subst (λ (c : PikeCache). SameCapacities s.cache c) (sym same) (same_capacities s.cache)
+      | inr work ↦ work.capacities
+    ]
 
 -- the calls keep the cache, and its numbers
 pub gives-cache : (s : FindMatches) → GivesCache s

@@ -288,12 +288,12 @@ impl PikeVM {
     {
         let width = slots.len().min(self.nfa.group_info().slot_len());
         let row = &mut found[..width];
-        let mut last = *input;
+        let mut moved = *input;
         let half = search(
             &self.nfa,
             &self.first,
             self.config.get_match_kind(),
-            &mut last,
+            &mut moved,
             threads,
             row,
         );
@@ -301,9 +301,9 @@ impl PikeVM {
         Some(half?.pattern())
     }
 
-    /// Returns the match that a search answers, from the row of the cache that it fills. It is a function of its own so
-    /// that an iteration that knows an answer saves no registers for a search. The input then starts where the
-    /// last scan started.
+    /// Returns the match that a search answers, from the row of the cache that it fills. The input then starts where the
+    /// last scan started. It is a function of its own so that an iteration that knows an answer saves no registers for a
+    /// search.
     #[inline(never)]
     fn find_with(
         &self,
@@ -367,12 +367,12 @@ impl PikeVM {
         ensures turns { cache.new.turns ≤ cache.new.scans * ((1 + total_degree self.now.nfa)
             * (span_len (search_of input.entry) + 1)) }
     {
-        let mut last = input;
-        self.find_last(cache, &mut last)
+        let mut moved = input;
+        self.find_with_start(cache, &mut moved)
     }
 
     /// Returns the match that a search of the input finds. The input then starts where the last scan started.
-    pub(super) fn find_last(&self, cache: &mut Cache, input: &mut Input<'_>) -> Option<Match>
+    pub(super) fn find_with_start(&self, cache: &mut Cache, input: &mut Input<'_>) -> Option<Match>
         requires { Fits cache.old self.now.nfa }
         ensures answer { IsFindAnswer self.now.nfa (kind_of self.now) (search_of input.old).earliest
             (search_of input.old) (option_map found_of result) }
@@ -432,8 +432,15 @@ impl PikeVM {
         // An NFA that can be read is valid, so the pattern of each Match state exists.
         self.nfa.states();
         let match_kind = self.config.get_match_kind();
-        let mut last = input;
-        search(&self.nfa, &self.first, match_kind, &mut last, threads, &mut [])
+        let mut moved = input;
+        search(
+            &self.nfa,
+            &self.first,
+            match_kind,
+            &mut moved,
+            threads,
+            &mut [],
+        )
     }
 
     /// Returns whether a search of the input finds a match.

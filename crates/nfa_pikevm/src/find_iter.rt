@@ -168,9 +168,9 @@ impl<'r> FindWith for Finder<'r> {
         if known.is_some() {
             return known;
         }
-        let mut last = *input;
-        let found = self.engine.find_last(cache, &mut last);
-        self.known = ending_at(last.start(), found);
+        let mut moved = *input;
+        let found = self.engine.find_with_start(cache, &mut moved);
+        self.known = ending_at(moved.start(), found);
         found
     }
 

@@ -12,7 +12,7 @@ use Rattle.nfa_paths.specs.Paths.{is_utf8_empty, raised}
 use Rattle.nfa_paths.specs.Restarts.{ScanGives}
 use Rattle.nfa_paths.proofs.RestartLemmas.{restarts-begin, settled-none, settled-some, discarded, restarted, start-left}
 use Rattle.nfa_paths.proofs.RestartLemmas.{turns-after, scans-bound}
-use Rattle.nfa_search_base.proofs.LastScanLemmas.{last-scan}
+use Rattle.nfa_search_base.proofs.LastStartLemmas.{last-scan}
 use Rattle.nfa_pikevm.proofs.search.search.Goals as goal
 
 -- the premises of each scan are those of the search

@@ -5,7 +5,7 @@ use Rattle.regex_search_core.specs.Search.{Search, search_of}
 use Rattle.regex_search_core.specs.declared.search.MatchKind.TheVariants.{LeftmostFirst}
 use Rattle.nfa_paths.proofs.RestartLemmas.{restarts-begin, settled-none, settled-some, discarded, restarted, start-left}
 use Rattle.nfa_paths.proofs.RestartLemmas.{turns-after, scans-within, scans-bound}
-use Rattle.nfa_search_base.proofs.LastScanLemmas.{last-scan}
+use Rattle.nfa_search_base.proofs.LastStartLemmas.{last-scan}
 use Rattle.nfa_backtrack_scan.proofs.ScanLemmas.{room-after}
 use Rattle.nfa_backtrack.proofs.engine.BoundedBacktracker.search_from.Goals as goal
 

@@ -39,7 +39,7 @@ returns c =
           let k = c.ending_at-self.ensures.kept m is in
           let some = c.found_in.ensures.found m k.0 in
           let same = subst (λ (r : Result (Option Match) SearchError). IfOk r
-              (λ o. IfSome o (λ n. c.find_at-reply.new.start ≡ last))) some found.last in
+          (λ o. IfSome o (λ n. c.find_at-reply.new.start ≡ last))) some found.last in
           (found-sure e x reply _ _ m some found.finds found.once, k.1 ∙ same));
       work = search-made (λ y a. SearchesOnce e y a) backtracker_scans x c.ending_at-known.result _ _ _
           (rw (← c.start.ensures) c.ending_at-known.ensures.exactly) (search rules) found.once

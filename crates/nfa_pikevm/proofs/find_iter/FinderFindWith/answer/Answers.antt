@@ -6,7 +6,7 @@ use Rattle.regex_search_core.specs.declared.search.Match.{Match}
 use Rattle.nfa_paths.specs.Paths.{IsFindAnswer, raised}
 use Rattle.nfa_search_base.specs.EngineSearches.{if_ends_at, last_start}
 use Rattle.nfa_search_base.proofs.EngineLemmas.{find-answered, found-by, known-answer, known-is, known-kept, search-made}
-use Rattle.nfa_search_base.proofs.LastScanLemmas.{match-from-scan}
+use Rattle.nfa_search_base.proofs.LastStartLemmas.{match-from-scan}
 use Rattle.nfa_pikevm.specs.Engines.{kind_of}
 use Rattle.nfa_pikevm.specs.Finding.{IsSureOf, PikeSearches, PikeAnswersMatch, pike_scans}
 use Rattle.nfa_pikevm.proofs.FindLemmas.{finds-sure, sure-finds}
@@ -30,12 +30,12 @@ pub returns : goal.returns
 returns c =
     let vm = c.args.self.now.engine.now in
     let x = search_of c.args.input.now in
-    let e = c.find_last-found.ensures in
-    let cache = c.find_last-found.new.cache in
+    let e = c.find_with_start-found.ensures in
+    let cache = c.find_with_start-found.new.cache in
     let start : c.start-2.result ≡ last_start x cache.scans = c.start-2.ensures ∙ ap (λ (z : Search). z.start) e.last in
     let last = match-from-scan vm.nfa (kind_of vm) x.earliest x _ _ _ e.answer e.searches.work in
     record {
-      finds = find-answered vm.nfa (kind_of vm) x.earliest x c.find_last-found.result e.answer;
+      finds = find-answered vm.nfa (kind_of vm) x.earliest x c.find_with_start-found.result e.answer;
       engine = refl;
       knows = known-kept IsSureOf vm x (last_start x cache.scans) c.ending_at-self.result (λ m is.
           let k = c.ending_at-self.ensures.kept m is in (
@@ -48,5 +48,5 @@ returns c =
           (rw (← c.start.ensures) c.ending_at-known.ensures.exactly) (search rules) e.searches
           (rw (← start) c.ending_at-self.ensures.exactly
           ∙ ap (λ o. if_ends_at (last_start x cache.scans) o)
-          (found-by (Ok c.find_last-found.result) c.find_last-found.result refl tt));
+          (found-by (Ok c.find_with_start-found.result) c.find_with_start-found.result refl tt));
     }
