@@ -1,17 +1,17 @@
 -- The answers of searches in an iteration by a backtracker, and when its iterator may search.
-use Rattle.std.proofs.Common.{◌≡◌, ◌∙◌, ◌+◌, ◌*◌, ◌≤◌, false, Option, None, Some, Result, Ok, Err, arith, length}
+use Rattle.std.proofs.Common.{◌≡◌, ◌∙◌, ℕ, ◌+◌, ◌-◌, ◌*◌, ◌≤◌, refl, false, Option, None, Some, Result, Ok, Err, arith, length}
 use Rattle.std.proofs.Common.{List, ◌∷◌, MatchBool, ap, subst, sym}
 use Rattle.std.specs.Option.{option_map}
-use Rattle.std.specs.Prelude.{OnOk, OnErr}
+use Rattle.std.specs.Prelude.{IfOk, IfSome, OnOk, OnErr}
 use Rattle.std.proofs.Math.Nat.{mul-le-mul_left}
 use Rattle.regex_search_core.specs.Found.{Found, found_of}
 use Rattle.regex_search_core.specs.Search.{Search}
 use Rattle.regex_search_core.specs.declared.search.Match.{Match}
 use Rattle.regex_search_core.specs.declared.search.MatchKind.TheVariants.{LeftmostFirst}
-use Rattle.nfa_paths.specs.Paths.{IsWithinScans, IsWork, span_len}
+use Rattle.nfa_paths.specs.Paths.{IsWithinScans, IsWork, raised, span_len}
 use Rattle.nfa_paths.proofs.KnownLemmas.{match-sure, sure-match}
 use Rattle.nfa_search_base.specs.Asking.{SameButStart}
-use Rattle.nfa_search_base.specs.EngineSearches.{AnswersBy, Keeping}
+use Rattle.nfa_search_base.specs.EngineSearches.{AnswersBy, Keeping, found_in, if_ends_at}
 use Rattle.nfa_search_base.specs.Finders.{answer_by}
 use Rattle.nfa_search_base.specs.Leaving.{StepsLead, asks_keeping}
 use Rattle.nfa_search_base.specs.WithCache.{WithCache}
@@ -23,6 +23,7 @@ use Rattle.nfa_search_base.specs.IterStates.{repeats, shifted, span_of}
 use Rattle.nfa_search_base.specs.declared.error.SearchError.{SearchError}
 use Rattle.nfa_search_base.specs.declared.iter.steps.Steps.{Steps}
 use Rattle.nfa_search_base.proofs.EngineLemmas.{calls-kept, finder-acts, finder-goes, finder-serves}
+use Rattle.nfa_search_base.proofs.LastStartLemmas.{match-from-scan}
 use Rattle.nfa_search_base.proofs.LeavingLemmas.{finds-leave, finds-to_end, first-leaves, same-item, same-items}
 use Rattle.nfa_search_base.proofs.ListLemmas.{match-lies}
 use Rattle.nfa_search_base.proofs.IterStateLemmas.{IsOrdered}
@@ -32,6 +33,7 @@ use Rattle.nfa_backtrack.specs.FindMatches.{AsksBacktracker, FindsBySearches}
 use Rattle.nfa_backtrack.specs.FindMatches.{MayFindByBacktracker, backtrack_matches, backtrack_matches_next}
 use Rattle.nfa_backtrack.specs.FindMatches.{backtracker_knowing, fits_always}
 use Rattle.nfa_backtrack.specs.Finding.{Counts, DoesWork, IsTryFindAnswer, IsSureAt, SearchesOnce}
+use Rattle.nfa_backtrack.specs.Finding.{backtracker_scans}
 use Rattle.nfa_backtrack.specs.declared.find_iter.Finder.{Finder}
 use Rattle.nfa_backtrack.specs.declared.find_iter.TryFindMatches.{TryFindMatches}
 
@@ -44,12 +46,31 @@ still-fits e x y end on fits long =
     mul-le-mul_left (length e.nfa.states) shorter in
     fits (omega (arith, long, more))
 
--- a match that is sure to be found is the answer, and the other way round
+-- a match that is sure to be found is the answer
 pub sure-finds : (e : Backtracker) (t : Search) (m : Found) → IsSureAt e t m → IsTryFindAnswer e t (Ok (Some m))
 sure-finds e t m sure = (sure.0, sure-match e.nfa LeftmostFirst false t m sure.1)
 
-pub finds-sure : (e : Backtracker) (t : Search) (m : Found) → IsTryFindAnswer e t (Ok (Some m)) → IsSureAt e t m
-finds-sure e t m finds = (finds.0, match-sure e.nfa LeftmostFirst false t m finds.1)
+-- a match that is found is sure for the search from where the last scan started
+pub found-sure : (e : Backtracker) (t : Search) (r : Result (Option Match) SearchError) (old new : BacktrackCache)
+    (m : Match) → r ≡ Ok (Some m) → IsTryFindAnswer e t (answer_by found_of r)
+    → SearchesOnce e t (answer_by found_of r) old new
+    → IsSureAt e (raised t (new.scans - 1)) (found_of m)
+found-sure e t r old new m is finds once =
+    let found = subst (λ (q : Result (Option Match) SearchError). IsTryFindAnswer e t (answer_by found_of q)) is finds in
+    let work = subst (λ (q : Result (Option Match) SearchError). DoesWork e t (answer_by found_of q) new) is once.exact in
+    let last = raised t (new.scans - 1) in (
+      still-fits e t last refl (omega arith) found.0,
+      match-sure e.nfa LeftmostFirst false last (found_of m)
+          (match-from-scan e.nfa LeftmostFirst false t (Some (found_of m)) _ _ found.1 work),
+    )
+
+-- and what is known after it is the match that ends where that scan started
+pub known-last : (r : Result (Option Match) SearchError) (start last : ℕ)
+    → IfOk r (λ found. IfSome found (λ m. start ≡ last))
+    → if_ends_at start (found_in (answer_by found_of r)) ≡ if_ends_at last (found_in (answer_by found_of r))
+known-last (Ok (Some m)) start last same = ap (λ (n : ℕ). if_ends_at n (Some (found_of m))) same
+known-last (Ok None) start last same = refl
+known-last (Err error) start last same = refl
 
 -- a reply is counted as what it is
 pub counts-by : (r : Result (Option Match) SearchError) (old new : BacktrackCache) → OnOk r (CountsAnswer old new)
@@ -77,7 +98,7 @@ pub find-serves : (s : TryFindMatches)
     → can_step MayFindByBacktracker AsksBacktracker span_of (steps_with_state (backtrack_matches s))
 find-serves s =
     finder-serves IsSureAt backtracker_knowing fits_always IsTryFindAnswer (λ e x a. SearchesOnce e x a)
-    (λ e x a old new work fits. tt) (AnswerIsInside span_of) (λ e t a h. (find-lies e t a h).0)
+    backtracker_scans (λ e x a old new work fits. tt) (AnswerIsInside span_of) (λ e t a h. (find-lies e t a h).0)
     (steps_with_state (backtrack_matches s)).backend (steps_with_iter_state (backtrack_matches s)).at
     (record { fits = tt; knows = s.knows })
 
@@ -88,7 +109,7 @@ pub step-goes : (s : TryFindMatches) (r : Option (Result Match SearchError))
     → MayFindByBacktracker t.backend (steps_iter_state t).at
 step-goes s r t st =
     finder-goes IsSureAt backtracker_knowing fits_always IsTryFindAnswer (λ e x a. SearchesOnce e x a)
-    (λ e x a old new work fits. tt) (λ _. GivesItem found_of) (steps_with_state (backtrack_matches s)) r t st
+    backtracker_scans (λ e x a old new work fits. tt) (λ _. GivesItem found_of) (steps_with_state (backtrack_matches s)) r t st
     (record { fits = tt; knows = s.knows })
 
 -- the backtracker gives the answers of its searches, and does not change
@@ -97,13 +118,13 @@ pub back-acts : (e : Backtracker) (x : Search) (s : WithCache Finder BacktrackCa
     → s.backend.engine.now ≡ e → AsksBacktracker s t a s' → IsTryFindAnswer e t a × (s'.backend.engine.now ≡ e)
 back-acts e x s t a s' same is asked =
     finder-acts IsSureAt backtracker_knowing fits_always IsTryFindAnswer (λ e x a. SearchesOnce e x a)
-    (λ e x a old new work fits. tt) e s t a s' is asked
+    backtracker_scans (λ e x a old new work fits. tt) e s t a s' is asked
 
 -- ---- the cache
 
 -- the searches of an iteration, seen with the cache and what is known
 abbrev Looks : Backtracker → Keeping BacktrackCache → Search → Answer Found → Keeping BacktrackCache → Type 0
-Looks e = asks_keeping (IsTryFindAnswer e) (λ y a. SearchesOnce e y a)
+Looks e = asks_keeping (IsTryFindAnswer e) (λ y a. SearchesOnce e y a) backtracker_scans
 
 -- a first search that is too long is refused early, and is the only one
 module _ (e : Backtracker) (x : Search) (long : IsTooLong e x) (old : BacktrackCache) where
@@ -116,7 +137,7 @@ module _ (e : Backtracker) (x : Search) (long : IsTooLong e x) (old : BacktrackC
   step-early a q v step = of step.answer step.first.tells step.first.work.by_known step.rest
     where
       of : (f : Answer Found) → IsTryFindAnswer e x f
-          → AnswersBy (λ y b. SearchesOnce e y b) x f None begun step.between
+          → AnswersBy (λ y b. SearchesOnce e y b) backtracker_scans x f None begun step.between
           → MatchBool (repeats (fresh x) (answer_span span_of f))
           (Looks e step.between (shifted (fresh x)).at a q × (v ≡ after (shifted (fresh x)) (answer_span span_of a)))
           ((a ≡ f) × (q ≡ step.between) × (v ≡ after (fresh x) (answer_span span_of a)))
@@ -151,14 +172,14 @@ module _ (e : Backtracker) (x : Search) (s : TryFindMatches) (engine : s.steps.b
           (λ a b c f g. tt) (λ q y a p asked. tt) backtrack_matches_next backtrack_matches (λ i. i)
           (λ p i q h. h.takes) s xs t r u ran st).cache;
     };
-    on = λ xs t r u ran st. finds-leave IsSureAt backtracker_knowing IsTryFindAnswer (λ b y a. SearchesOnce b y a) e
-        backtrack_matches_next backtrack_matches (λ i. i) step-is x s engine known walk going xs t r u ran st;
+    on = λ xs t r u ran st. finds-leave IsSureAt backtracker_knowing IsTryFindAnswer (λ b y a. SearchesOnce b y a)
+        backtracker_scans e backtrack_matches_next backtrack_matches (λ i. i) step-is x s engine known walk going xs t r u ran st;
     early = λ xs t r u ran st long.
-        let first = first-leaves IsSureAt backtracker_knowing IsTryFindAnswer (λ b y a. SearchesOnce b y a) e
-        backtrack_matches_next backtrack_matches (λ i. i) step-is x s engine known walk going xs t r u ran st in
+        let first = first-leaves IsSureAt backtracker_knowing IsTryFindAnswer (λ b y a. SearchesOnce b y a)
+        backtracker_scans e backtrack_matches_next backtrack_matches (λ i. i) step-is x s engine known walk going xs t r u ran st in
         steps-early e x long s.cache.now first.0 first.1 _ first.2;
     to_end = λ xs t u ms ran st is. finds-to_end IsSureAt backtracker_knowing IsTryFindAnswer
-        (λ b y a. SearchesOnce b y a) e
+        (λ b y a. SearchesOnce b y a) backtracker_scans e
         backtrack_matches_next backtrack_matches (λ i. i) step-is x s engine known walk going xs ms t u
         (same-items xs ∙ is) ran st;
   }

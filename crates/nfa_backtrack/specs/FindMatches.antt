@@ -14,7 +14,8 @@ use Rattle.nfa_search_base.specs.Searchers.{iter_state_of}
 use Rattle.nfa_search_base.specs.IterStates.{Answer, IterState, span_of}
 use Rattle.nfa_search_base.specs.declared.error.SearchError.{SearchError}
 use Rattle.nfa_backtrack.specs.Backtrack.{Backtracker, IsTooLong, BacktrackCache, refused_early}
-use Rattle.nfa_backtrack.specs.Finding.{BacktrackerFindsOn, BacktrackerFindsToEnd, IsTryFindAnswer, IsSureAt, SearchesOnce}
+use Rattle.nfa_backtrack.specs.Finding.{BacktrackerFindsOn, BacktrackerFindsToEnd, IsTryFindAnswer, IsSureAt}
+use Rattle.nfa_backtrack.specs.Finding.{SearchesOnce, backtracker_scans}
 use Rattle.nfa_backtrack.specs.declared.find_iter.Finder.{Finder}
 use Rattle.nfa_backtrack.specs.declared.find_iter.TryFindMatches.{TryFindMatches}
 
@@ -52,7 +53,8 @@ MayFindByBacktracker = MayFind IsSureAt backtracker_knowing fits_always
 -- a search by the backtracker may answer this
 abbrev pub AsksBacktracker : WithCache Finder BacktrackCache → Search → Answer Found
     → WithCache Finder BacktrackCache → Type 0
-AsksBacktracker = AsksEngine IsSureAt backtracker_knowing IsTryFindAnswer (λ e x a. SearchesOnce e x a)
+AsksBacktracker =
+    AsksEngine IsSureAt backtracker_knowing IsTryFindAnswer (λ e x a. SearchesOnce e x a) backtracker_scans
 
 -- a call
 pub record BacktrackerFindsNext (s : TryFindMatches) (r : Option (Result Match SearchError))

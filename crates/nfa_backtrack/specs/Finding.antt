@@ -1,5 +1,5 @@
 -- The answers of a backtracker to searches for a match or for captures.
-use Rattle.std.specs.Prelude.{◌≡◌, ◌≤◌, ◌*◌, ◌+◌, ◌⊎◌, false, length, List, Result, Ok, Err}
+use Rattle.std.specs.Prelude.{◌≡◌, ◌≤◌, ◌*◌, ◌+◌, ℕ, ◌⊎◌, false, length, List, Result, Ok, Err}
 use Rattle.regex_search_core.specs.Found.{Found}
 use Rattle.regex_search_core.specs.Search.{Search}
 use Rattle.regex_search_core.specs.declared.search.MatchKind.TheVariants.{LeftmostFirst}
@@ -60,13 +60,19 @@ pub record SearchesOnce {X : Type 0} (e : Backtracker) (x : Search) (a : Answer 
   pub holds : HoldsNoMore (2 * length e.nfa.groups) old new
   pub early : IsTooLong e x → new ≡ refused_early old
 
+-- the scans of the last search with the cache
+abbrev pub backtracker_scans : BacktrackCache → ℕ
+backtracker_scans cache = cache.scans
+
 -- an iteration over the matches of x led from one cache to the other only by its searches, as far as it went
 abbrev pub BacktrackerFindsOn : Backtracker → Search → BacktrackCache → BacktrackCache → Type 0
-BacktrackerFindsOn e x old new = FindsLeave (IsTryFindAnswer e) (λ y a. SearchesOnce e y a) x old new
+BacktrackerFindsOn e x old new =
+    FindsLeave (IsTryFindAnswer e) (λ y a. SearchesOnce e y a) backtracker_scans x old new
 
 -- the same, and the iteration went to its end, past these matches
 abbrev pub BacktrackerFindsToEnd : Backtracker → Search → List Found → BacktrackCache → BacktrackCache → Type 0
-BacktrackerFindsToEnd e x ms old new = FindsLeaveAtEnd (IsTryFindAnswer e) (λ y a. SearchesOnce e y a) x ms old new
+BacktrackerFindsToEnd e x ms old new =
+    FindsLeaveAtEnd (IsTryFindAnswer e) (λ y a. SearchesOnce e y a) backtracker_scans x ms old new
 
 -- the same for an iteration over captures
 abbrev pub BacktrackerCatchesOn : Backtracker → Search → BacktrackCache → BacktrackCache → Type 0

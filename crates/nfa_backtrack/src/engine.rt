@@ -17,6 +17,7 @@ ghost use Rattle.nfa_backtrack.specs.Backtrack.{HoldsNoMore};
 ghost use Rattle.nfa_backtrack.specs.Backtrack.{refused_early, empty_cache, capacity_of, rounded_bits};
 ghost use Rattle.nfa_backtrack.specs.Backtrack.{max_haystack_len_of};
 ghost use Rattle.nfa_backtrack.specs.Backtrack.{min_capacity_of};
+ghost use Rattle.nfa_search_base.specs.EngineSearches.{last_start};
 ghost use Rattle.nfa_search_base.specs.Finds.{finds};
 ghost use Rattle.nfa_search_base.specs.Lists.{IsInside, IsSlotInside};
 
@@ -381,6 +382,45 @@ impl BoundedBacktracker {
         ensures holds { HoldsNoMore (2 * length self.now.nfa.groups) cache.old cache.new }
         ensures early { IsTooLong self.now (search_of input.entry) → cache.new ≡ refused_early cache.old }
     {
+        let mut start = input.start();
+        self.find_with_start(cache, &input, &mut start)
+    }
+
+    /// Returns the match that a search of the input finds. If there is one, `start` becomes the start of the last scan.
+    pub(super) fn find_with_start(
+        &self,
+        cache: &mut Cache,
+        input: &Input<'_>,
+        start: &mut usize,
+    ) -> Result<Option<Match>, SearchError>
+        ensures answer { IfOk result (λ found. IsFindAnswer self.now.nfa LeftmostFirst false (search_of input.now)
+            (option_map found_of found)) }
+        ensures inside { IfOk result (λ found. IfSome found (λ m. IsInside (search_of input.now) (found_of m))) }
+        ensures pattern { IfOk result (λ found. IfSome found
+            (λ m. (found_of m).pattern < length self.now.nfa.patterns)) }
+
+        ensures too_long { IsErrOf result (SearchError.HaystackTooLong (span_len (search_of input.now)))
+            ↔ IsTooLong self.now (search_of input.now) }
+        ensures errors { IfErr result (λ e. (e ≡ SearchError.Memory)
+            ⊎ (e ≡ SearchError.HaystackTooLong (span_len (search_of input.now)))) }
+
+        ensures work { OnOk result (IsWork self.now.nfa LeftmostFirst false (search_of input.now) cache.new.scans
+            cache.new.turns) }
+        ensures within { OnErr result (IsWithinScans self.now.nfa LeftmostFirst false (search_of input.now)
+            cache.new.scans) }
+        ensures scans { cache.new.scans ≤ max_scans self.now.nfa (search_of input.now) }
+        ensures turns { cache.new.turns
+            ≤ cache.new.scans * ((1 + total_degree self.now.nfa) * (span_len (search_of input.now) + 1)) }
+        // The search is counted once.
+        ensures answered { OnOk result (CountsAnswer cache.old cache.new) }
+        ensures refused { OnErr result (CountsRefusal cache.old cache.new) }
+        ensures total { AddsBacktrackWork cache.old cache.new }
+        ensures blocks { GrowsBlocks self.now.nfa (search_of input.now) cache.old.blocks cache.new.blocks }
+        ensures holds { HoldsNoMore (2 * length self.now.nfa.groups) cache.old cache.new }
+        ensures early { IsTooLong self.now (search_of input.now) → cache.new ≡ refused_early cache.old }
+        ensures last { IfOk result (λ found. IfSome found (λ m.
+            start.new ≡ last_start (search_of input.now) cache.new.scans)) }
+    {
         let Cache {
             scratch,
             slots,
@@ -391,13 +431,13 @@ impl BoundedBacktracker {
         } = cache;
         past_scans.absorb(&mut scratch.scans);
         scratch.visited.restart_turns(past_turns);
-        if self.is_too_long(&input) {
+        if self.is_too_long(input) {
             refused.tick();
             return Err(SearchError::HaystackTooLong {
                 len: input.get_span().len(),
             });
         }
-        let Ok(found) = self.find_with(scratch, slots, &input) else {
+        let Ok(found) = self.find_with(scratch, slots, input, start) else {
             refused.tick();
             return Err(SearchError::Memory);
         };
@@ -405,12 +445,14 @@ impl BoundedBacktracker {
         Ok(found)
     }
 
-    /// Returns the match of a search that is not too long, from slots of the cache.
+    /// Returns the match of a search that is not too long, from slots of the cache. If there is one, `start` becomes
+    /// the start of the last scan.
     fn find_with(
         &self,
         scratch: &mut Scratch,
         slots: &mut Vec<Option<NonMaxUsize>>,
         input: &Input<'_>,
+        start: &mut usize,
     ) -> Result<Option<Match>, Refused>
         requires fits { length self.now.nfa.states * (span_len (search_of input.now) + 1) < 2 ^ 64 }
         requires counted { scratch.old.scans ≡ 0 }
@@ -429,6 +471,8 @@ impl BoundedBacktracker {
         // Two slots for each pattern are enough.
         ensures slots { vec_len slots.old ≤ vec_len slots.new }
         ensures few { vec_len slots.new ≤ max (vec_len slots.old) (2 * length self.now.nfa.groups) }
+        ensures last { IfOk result (λ found. IfSome found (λ m.
+            start.new ≡ last_start (search_of input.now) scratch.new.scans)) }
         ensures scans { scratch.new.scans ≤ max_scans self.now.nfa (search_of input.now) }
         ensures turns { scratch.new.visited.turns ≤ scratch.new.scans * max_scan_turns self.now.nfa
             (search_of input.now) }
@@ -436,7 +480,7 @@ impl BoundedBacktracker {
         let slot_len = self.nfa.group_info().implicit_slot_len();
         grow(slots, slot_len)?;
         let slots = &mut slots.as_mut_slice()[..slot_len];
-        let Some(half) = self.search(input, scratch, slots)? else {
+        let Some(half) = self.search(input, start, scratch, slots)? else {
             return Ok(None);
         };
         Ok(Match::from_slots(half.pattern(), slots))

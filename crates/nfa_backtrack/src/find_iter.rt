@@ -3,7 +3,7 @@ ghost use Rattle.std.specs.Prelude.{◌≡◌, Ok, Some, option_map};
 ghost use Rattle.std.specs.Option.{ForSome};
 ghost use Rattle.regex_search_core.specs.Found.{found_of};
 ghost use Rattle.regex_search_core.specs.Search.{search_of};
-ghost use Rattle.nfa_search_base.specs.EngineSearches.{IsKnownFrom, found_in};
+ghost use Rattle.nfa_search_base.specs.EngineSearches.{IsKnownFrom, found_in, last_start};
 ghost use Rattle.nfa_search_base.specs.Finders.{answer_by};
 ghost use Rattle.nfa_search_base.specs.Stored.{steps_iter_state};
 ghost use Rattle.nfa_backtrack.specs.Finding.{IsSureAt};
@@ -33,13 +33,13 @@ pub struct TryFindMatches<'r, 'c, 'h> {
 #[derive(Debug, Drop)]
 struct Finder<'r> {
     engine: &'r BoundedBacktracker,
-    // The match that the last search found, if it is empty and at the start of that search. It also answers a search
-    // from there.
+    // The match that the last search found, if it ends where the last scan of that search started. It also answers a
+    // search from there.
     known: Option<Match>,
 }
 
 impl BoundedBacktracker {
-    ghost use Rattle.std.specs.Prelude.{false, All, IfOk, None, map};
+    ghost use Rattle.std.specs.Prelude.{false, All, IfOk, IfSome, None, map};
     ghost use Rattle.regex_search_core.specs.Found.{found_of};
     ghost use Rattle.regex_search_core.specs.declared.search.MatchKind.TheVariants.{LeftmostFirst};
     ghost use Rattle.nfa_search_base.specs.Finders.{answer_by};
@@ -154,13 +154,20 @@ impl BoundedBacktracker {
         Ok(found)
     }
 
-    // Returns the match of one search, and states its work.
+    // Returns the match of one search, and states its work. If there is one, `start` becomes the start of the last scan.
     #[inline]
-    fn find_at(&self, cache: &mut Cache, input: &Input<'_>) -> Result<Option<Match>, SearchError>
+    fn find_at(
+        &self,
+        cache: &mut Cache,
+        input: &Input<'_>,
+        start: &mut usize,
+    ) -> Result<Option<Match>, SearchError>
         ensures finds { IsTryFindAnswer self.now (search_of input.now) (answer_by found_of result) }
         ensures once { SearchesOnce self.now (search_of input.now) (answer_by found_of result) cache.old cache.new }
+        ensures last { IfOk result (λ found. IfSome found (λ m.
+            start.new ≡ last_start (search_of input.now) cache.new.scans)) }
     {
-        self.try_find(cache, *input)
+        self.find_with_start(cache, input, start)
     }
 }
 
@@ -199,8 +206,9 @@ impl<'r> FindWith for Finder<'r> {
         if known.is_some() {
             return Ok(known);
         }
-        let reply = self.engine.find_at(cache, input);
-        self.known = ending_at(input.start(), found_in(reply));
+        let mut start = input.start();
+        let reply = self.engine.find_at(cache, input, &mut start);
+        self.known = ending_at(start, found_in(reply));
         reply
     }
 

@@ -11,6 +11,7 @@ ghost use Rattle.nfa_backtrack.specs.Backtrack.{AddsBacktrackWork, CountsAnswer,
 ghost use Rattle.nfa_backtrack.specs.Backtrack.{HoldsNoMore};
 ghost use Rattle.nfa_backtrack.specs.Backtrack.{IsTooLong, refused_early};
 ghost use Rattle.nfa_backtrack_scan.specs.Walk.{HasBits};
+ghost use Rattle.nfa_search_base.specs.EngineSearches.{last_start};
 
 use crate::cache::Cache;
 use crate::engine::BoundedBacktracker;
@@ -43,10 +44,12 @@ impl BoundedBacktracker {
     }
 
     /// Scans, and scans again from one byte further on while the answer ends inside a codepoint. Only an NFA that can
-    /// match the empty string and is in UTF-8 mode has such answers. An anchored search ends at the first one.
+    /// match the empty string and is in UTF-8 mode has such answers. An anchored search ends at the first one. If
+    /// there is a match, `start` becomes the start of the last scan.
     fn search_from(
         &self,
         input: &Input<'_>,
+        start: &mut usize,
         scratch: &mut Scratch,
         slots: &mut [Option<NonMaxUsize>],
     ) -> Result<Option<HalfMatch>, Refused>
@@ -59,6 +62,8 @@ impl BoundedBacktracker {
         ensures stack { scratch.new.stack.items ≡ [] }
         ensures within { IsWithinScans self.now.nfa LeftmostFirst false (search_of input.now) scratch.new.scans }
         ensures size { length scratch.new.visited.bits ≡ length scratch.old.visited.bits }
+        ensures last { IfOk result (λ half. IfSome half (λ h.
+            start.new ≡ last_start (search_of input.now) scratch.new.scans)) }
         ensures scans { scratch.new.scans ≤ max_scans self.now.nfa (search_of input.now) }
         ensures turns { scratch.new.visited.turns
             ≤ scratch.new.scans * max_scan_turns self.now.nfa (search_of input.now) }
@@ -69,21 +74,23 @@ impl BoundedBacktracker {
                 return Ok(None);
             };
             if may_end_at(self.get_nfa(), input, half.offset()) {
+                *start = search.start();
                 return Ok(Some(half));
             }
             if input.get_anchored().is_anchored() {
                 unset(slots);
                 return Ok(None);
             }
-            let start = search.start() + 1;
-            search.set_start(start);
+            let next = search.start() + 1;
+            search.set_start(next);
         }
     }
 
-    /// Answers a search that is not too long.
+    /// Answers a search that is not too long. If there is a match, `start` becomes the start of the last scan.
     pub(super) fn search(
         &self,
         input: &Input<'_>,
+        start: &mut usize,
         scratch: &mut Scratch,
         slots: &mut [Option<NonMaxUsize>],
     ) -> Result<Option<HalfMatch>, Refused>
@@ -99,6 +106,8 @@ impl BoundedBacktracker {
         ensures within { IsWithinScans self.now.nfa LeftmostFirst false (search_of input.now) scratch.new.scans }
         ensures blocks { GrowsBlocks self.now.nfa (search_of input.now) (length scratch.old.visited.bits / 64)
             (length scratch.new.visited.bits / 64) }
+        ensures last { IfOk result (λ half. IfSome half (λ h.
+            start.new ≡ last_start (search_of input.now) scratch.new.scans)) }
         ensures scans { scratch.new.scans ≤ max_scans self.now.nfa (search_of input.now) }
         ensures turns { scratch.new.visited.turns
             ≤ scratch.new.scans * max_scan_turns self.now.nfa (search_of input.now) }
@@ -108,7 +117,7 @@ impl BoundedBacktracker {
             unset(slots);
             return Err(refused);
         }
-        self.search_from(input, scratch, slots)
+        self.search_from(input, start, scratch, slots)
     }
 
     /// Answers a search, or says why it is refused. The cache counts the search and its work.
@@ -158,7 +167,8 @@ impl BoundedBacktracker {
                 len: input.get_span().len(),
             });
         }
-        let Ok(half) = self.search(input, scratch, slots) else {
+        let mut start = input.start();
+        let Ok(half) = self.search(input, &mut start, scratch, slots) else {
             refused.tick();
             return Err(SearchError::Memory);
         };

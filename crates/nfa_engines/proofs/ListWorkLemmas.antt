@@ -1,5 +1,5 @@
 -- What the lists of both engines add to the totals of their caches.
-use Rattle.std.proofs.Common.{◌≡◌, ◌+◌, ◌*◌, ◌⊎◌, false, List, length, ap, inl, inr}
+use Rattle.std.proofs.Common.{◌≡◌, ℕ, ◌+◌, ◌*◌, ◌⊎◌, false, List, length, ap, inl, inr}
 use Rattle.std.proofs.Common.{Option, None, Some, Ok, Err}
 use Rattle.regex_search_core.specs.Found.{Found}
 use Rattle.regex_search_core.specs.Search.{Search}
@@ -12,19 +12,20 @@ use Rattle.nfa_search_base.specs.IterStates.{Answer, answer_span, span_of}
 use Rattle.nfa_backtrack.specs.Backtrack.{Backtracker, BacktrackCache}
 use Rattle.nfa_backtrack.specs.Finding.{BacktrackerCatchesOn, BacktrackerCatchesToEnd, BacktrackerFindsOn}
 use Rattle.nfa_backtrack.specs.Finding.{BacktrackerFindsToEnd, IsTryCapturesAnswer, IsTryFindAnswer, SearchesOnce}
+use Rattle.nfa_backtrack.specs.Finding.{backtracker_scans}
 use Rattle.nfa_pikevm.specs.Engines.{Pike, PikeCache, kind_of}
 use Rattle.nfa_pikevm.specs.Finding.{PikeCatchesOn, PikeCatchesToEnd, PikeFindsOn, PikeFindsToEnd}
-use Rattle.nfa_pikevm.specs.Finding.{PikeSearches, PikeAnswersMatch, PikeAnswersRow}
+use Rattle.nfa_pikevm.specs.Finding.{PikeSearches, PikeAnswersMatch, PikeAnswersRow, pike_scans}
 use Rattle.nfa_engines.specs.WorkLaws.{AddsAtMost, Totals, backtracker_totals, list_scan_limit, pike_totals}
 use Rattle.nfa_engines.proofs.EngineWorkLemmas.{Hit, Worked, calls-add, list-adds, match-hit, row-hit, worked}
 use Rattle.nfa_engines.proofs.EngineWorkLemmas.{worked-within}
 
 -- Where a match may be known, a search does its work, or none. `T` holds of each search that did work.
-works-unless-known : {C : Type 0} (Work : Search → Answer Found → C → C → Type 0) (totals : C → Totals) (T : Type 0)
-    (x : Search) (a : Answer Found) (known : Option Found) (s t : Keeping C)
-    → (Work x a s.cache t.cache → T) → AnswersBy Work x a known s t → T ⊎ (totals t.cache ≡ totals s.cache)
-works-unless-known {C} Work totals T x a (Some m) s t worked h = inr (ap (λ (k : Keeping C). totals k.cache) h.1)
-works-unless-known Work totals T x a None s t worked h = inl (worked h.0)
+works-unless-known : {C : Type 0} (Work : Search → Answer Found → C → C → Type 0) (scans : C → ℕ)
+    (totals : C → Totals) (T : Type 0) (x : Search) (a : Answer Found) (known : Option Found) (s t : Keeping C)
+    → (Work x a s.cache t.cache → T) → AnswersBy Work scans x a known s t → T ⊎ (totals t.cache ≡ totals s.cache)
+works-unless-known {C} Work scans totals T x a (Some m) s t worked h = inr (ap (λ (k : Keeping C). totals k.cache) h.1)
+works-unless-known Work scans totals T x a None s t worked h = inl (worked h.0)
 
 -- ---- the PikeVM
 
@@ -35,7 +36,7 @@ module _ (vm : Pike) (x : Search) where
       new.turns h.work h.scans h.turns h.total.scans h.total.turns
 
   abbrev Finds : Keeping PikeCache → Search → Answer Found → Keeping PikeCache → Type 0
-  Finds = asks_keeping (PikeAnswersMatch vm) (λ y a. PikeSearches vm y)
+  Finds = asks_keeping (PikeAnswersMatch vm) (λ y a. PikeSearches vm y) pike_scans
 
   finds-hit : (s : Keeping PikeCache) (y : Search) (a : Answer Found) (t : Keeping PikeCache) → Finds s y a t
       → Hit vm.nfa (kind_of vm) y.earliest y (answer_span span_of a)
@@ -46,7 +47,7 @@ module _ (vm : Pike) (x : Search) where
       → (Worked vm.nfa (kind_of vm) y.earliest y (pike_totals s.cache) (pike_totals t.cache)
       ⊎ (pike_totals t.cache ≡ pike_totals s.cache)) × Unit {0}
   finds-work s y a t good asked = (
-    works-unless-known (λ y a. PikeSearches vm y) pike_totals
+    works-unless-known (λ y a. PikeSearches vm y) pike_scans pike_totals
         (Worked vm.nfa (kind_of vm) y.earliest y (pike_totals s.cache) (pike_totals t.cache)) y a
         (if_ends_at y.start s.known) s t (pike-worked y s.cache t.cache) asked.work.by_known,
     tt,
@@ -104,7 +105,7 @@ module _ (e : Backtracker) (x : Search) where
       (backtracker_totals new) new.scans new.turns h.exact h.scans h.turns h.total.scans h.total.turns
 
   abbrev FindsOnce : Keeping BacktrackCache → Search → Answer Found → Keeping BacktrackCache → Type 0
-  FindsOnce = asks_keeping (IsTryFindAnswer e) (λ y a. SearchesOnce e y a)
+  FindsOnce = asks_keeping (IsTryFindAnswer e) (λ y a. SearchesOnce e y a) backtracker_scans
 
   find-hit : (y : Search) (a : Answer Found) → IsTryFindAnswer e y a
       → Hit e.nfa LeftmostFirst false y (answer_span span_of a)
@@ -115,7 +116,7 @@ module _ (e : Backtracker) (x : Search) where
       → FindsOnce s y a t
       → (Done y s.cache t.cache ⊎ (backtracker_totals t.cache ≡ backtracker_totals s.cache)) × Unit {0}
   finds-once-work s y a t good asked = (
-    works-unless-known (λ y a. SearchesOnce e y a) backtracker_totals (Done y s.cache t.cache) y a
+    works-unless-known (λ y a. SearchesOnce e y a) backtracker_scans backtracker_totals (Done y s.cache t.cache) y a
         (if_ends_at y.start s.known) s t (backtracker-worked y a s.cache t.cache) asked.work.by_known,
     tt,
   )

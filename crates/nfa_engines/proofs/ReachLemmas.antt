@@ -13,20 +13,7 @@ use Rattle.nfa_paths.specs.Paths.{IsSearchAnswer, IsWhole, SplitsCharacter, is_u
 use Rattle.nfa_paths.proofs.AnswerLemmas.{scan_answer-within, search_answer-unique}
 use Rattle.nfa_paths.proofs.InsideLemmas.{match-within}
 use Rattle.nfa_search_base.specs.IterStates.{span_of}
-
--- no restart
-unmoved : (x : Search) (i : ℕ) → i ≡ 0 → x ≡ raised x i
-unmoved x i none = let same : x.start ≡ x.start + i = omega (arith, none) in ap (λ n. record x { start = n }) same
-
--- a path ends on a boundary, wherever the search starts
-boundary-raised : (x : Search) (i : ℕ) (p : List Pair) → EndsOnBoundary x p → EndsOnBoundary (raised x i) p
-boundary-raised x i [] h = h
-boundary-raised x i (v ∷ []) h = h
-boundary-raised x i (v ∷ (w ∷ p)) h = boundary-raised x i (w ∷ p) h
-
-whole-raised : (x : Search) (i : ℕ) (r : Option (List Pair)) → IsWhole x r → IsWhole (raised x i) r
-whole-raised x i None h = h
-whole-raised x i (Some p) h = boundary-raised x i p h
+use Rattle.nfa_search_base.proofs.LastStartLemmas.{from-scan}
 
 -- how many starts a search has at most
 abbrev pub starts_left : Search → ℕ
@@ -47,20 +34,6 @@ module _ (nfa : Automaton) (kind : MatchKind) (earliest : Bool) where
   AnswersBy b c x restarts path = MatchBool b (MatchBool c ((restarts ≡ 0) × IsKeptAnswer nfa kind earliest x path)
       (IsRestartedAnswer nfa kind earliest x restarts path))
       ((restarts ≡ 0) × IsScanAnswer nfa x kind earliest path)
-
-  -- a search has the answer of the one that starts where its last scan does
-  from-scan : (x : Search) (restarts : ℕ) (path : Option (List Pair))
-      → IsSearchAnswer nfa kind earliest x restarts path → IsSearchAnswer nfa kind earliest (raised x restarts) 0 path
-  from-scan x restarts path = of (is_utf8_empty nfa) (is_anchored x.anchored)
-    where
-      of : (b c : Bool) → AnswersBy b c x restarts path → AnswersBy b c (raised x restarts) 0 path
-      of true true h = (refl, subst (λ y. IsKeptAnswer nfa kind earliest y path) (unmoved x restarts h.0) h.1)
-      of true false h = record {
-        skipped = λ i below. absurd (omega arith);
-        answers = subst (λ y. IsScanAnswer nfa y kind earliest path) (unmoved (raised x restarts) 0 refl) h.answers;
-        whole = whole-raised x restarts path h.whole;
-      }
-      of false c h = (refl, subst (λ y. IsScanAnswer nfa y kind earliest path) (unmoved x restarts h.0) h.1)
 
   -- as many restarts as starts are left, at most
   passed : (x : Search) (n : ℕ) → ((i : ℕ) → i < n → SplitsCharacter nfa kind earliest (raised x i))
@@ -94,7 +67,7 @@ module _ (nfa : Automaton) (kind : MatchKind) (earliest : Bool) where
         let k = match-within nfa kind earliest (raised x a.restarts) f (record {
           restarts = 0;
           path = a.path;
-          answers = from-scan x a.restarts a.path a.answers;
+          answers = from-scan nfa kind earliest x a.restarts a.path a.answers;
           found_is = a.found_is;
         }) in
         (omega (arith, k.0, k.1), k.2, omega (arith, few, k.0, k.1, same))

@@ -25,7 +25,7 @@ use Rattle.nfa_search_base.proofs.ListLemmas.{matches-rest}
 use Rattle.nfa_pikevm.specs.Engines.{Fits, Pike, PikeCache, SameCapacities, kind_of}
 use Rattle.nfa_pikevm.specs.FindMatches.{AsksPike, FindsBySearches, GivesCache, MayFindByPike, fits_pike, pike_matches}
 use Rattle.nfa_pikevm.specs.FindMatches.{pike_matches_next, pike_knowing}
-use Rattle.nfa_pikevm.specs.Finding.{IsSureOf, PikeSearches, PikeAnswersMatch}
+use Rattle.nfa_pikevm.specs.Finding.{IsSureOf, PikeSearches, PikeAnswersMatch, pike_scans}
 use Rattle.nfa_pikevm.specs.declared.find_iter.FindMatches.{FindMatches}
 use Rattle.nfa_pikevm.specs.declared.find_iter.Finder.{Finder}
 
@@ -58,7 +58,7 @@ may-now s = record { fits = s.fits; knows = s.knows }
 pub find-serves : (s : FindMatches) → can_step_infallibly MayFindByPike AsksPike span_of
     (steps_with_state (pike_matches s))
 find-serves s =
-    finder-serves IsSureOf pike_knowing fits_pike PikeAnswersMatch (λ vm x a. PikeSearches vm x)
+    finder-serves IsSureOf pike_knowing fits_pike PikeAnswersMatch (λ vm x a. PikeSearches vm x) pike_scans
     (λ vm x a. searched-fits vm x)
     (IsInfalliblyInside span_of) (λ vm t a h. find-lies vm.nfa (kind_of vm) t.earliest t a h)
     (steps_with_state (pike_matches s)).backend (steps_with_iter_state (pike_matches s)).at (may-now s)
@@ -68,7 +68,7 @@ pub step-goes : (s : FindMatches) (r : Option (Result Match SearchError)) (t : S
     → takes_steps span_of AsksPike (λ q. GivesItem found_of) (steps_with_state (pike_matches s)) r t
     → MayFindByPike t.backend (steps_iter_state t).at
 step-goes s r t st =
-    finder-goes IsSureOf pike_knowing fits_pike PikeAnswersMatch (λ vm x a. PikeSearches vm x)
+    finder-goes IsSureOf pike_knowing fits_pike PikeAnswersMatch (λ vm x a. PikeSearches vm x) pike_scans
     (λ vm x a. searched-fits vm x)
     (λ _. GivesItem found_of) (steps_with_state (pike_matches s)) r t st (may-now s)
 
@@ -78,7 +78,7 @@ pub pike-acts : (vm : Pike) (x : Search) (s : WithCache Finder PikeCache) (t : S
     → s.backend.engine.now ≡ vm → AsksPike s t a s'
     → AnswersMatch vm.nfa (kind_of vm) x.earliest t a × (s'.backend.engine.now ≡ vm)
 pike-acts vm x s t a s' same is asked =
-    let k = finder-acts IsSureOf pike_knowing fits_pike PikeAnswersMatch (λ vm x a. PikeSearches vm x)
+    let k = finder-acts IsSureOf pike_knowing fits_pike PikeAnswersMatch (λ vm x a. PikeSearches vm x) pike_scans
     (λ vm x a. searched-fits vm x) vm s t a s' is asked in
     (subst (λ (b : Bool). AnswersMatch vm.nfa (kind_of vm) b t a) same.earliest k.0, k.1)
 
@@ -104,10 +104,11 @@ same_capacities-then a b c f g = record {
 
 asked-capacities : (s : WithCache Finder PikeCache) (x : Search) (a : Answer Found) (t : WithCache Finder PikeCache)
     → AsksPike s x a t → SameCapacities s.cache t.cache
-asked-capacities s x a t asked = elim (same-or-made (λ y b. PikeSearches s.backend.engine.now y) x a _ _ asked.work) [
-  | inl same ↦ subst (λ (c : PikeCache). SameCapacities s.cache c) (sym same) (same_capacities s.cache)
-  | inr work ↦ work.capacities
-]
+asked-capacities s x a t asked = elim (same-or-made (λ y b. PikeSearches s.backend.engine.now y) pike_scans x a _ _
+    asked.work) [
+      | inl same ↦ subst (λ (c : PikeCache). SameCapacities s.cache c) (sym same) (same_capacities s.cache)
+      | inr work ↦ work.capacities
+    ]
 
 -- the calls keep the cache, and its numbers
 pub gives-cache : (s : FindMatches) → GivesCache s
@@ -123,10 +124,11 @@ module _ (vm : Pike) (x : Search) (s : FindMatches) (engine : s.steps.backend.en
   -- the calls change the cache only by their searches
   pub finds-searches : FindsBySearches vm x s
   finds-searches = record {
-    on = λ xs t r u ran st. finds-leave IsSureOf pike_knowing PikeAnswersMatch (λ e y a. PikeSearches e y) vm
+    on = λ xs t r u ran st. finds-leave IsSureOf pike_knowing PikeAnswersMatch (λ e y a. PikeSearches e y) pike_scans vm
         pike_matches_next
         pike_matches (λ m. Ok m) (λ p i q h. h.takes) x s engine known walk going xs t r u ran st;
-    to_end = λ xs t u ran st. finds-to_end IsSureOf pike_knowing PikeAnswersMatch (λ e y a. PikeSearches e y) vm
+    to_end = λ xs t u ran st. finds-to_end IsSureOf pike_knowing PikeAnswersMatch (λ e y a. PikeSearches e y)
+        pike_scans vm
         pike_matches_next pike_matches (λ m. Ok m) (λ p i q h. h.takes) x s engine known walk going xs xs t u
         refl ran st;
   }

@@ -13,7 +13,7 @@ use Rattle.nfa_search_base.specs.Steps.{GivesItem}
 use Rattle.nfa_search_base.specs.Searchers.{iter_state_of}
 use Rattle.nfa_search_base.specs.IterStates.{Answer, IterState, span_of}
 use Rattle.nfa_pikevm.specs.Engines.{Fits, Pike, PikeCache, SameCapacities}
-use Rattle.nfa_pikevm.specs.Finding.{IsSureOf, PikeFindsOn, PikeFindsToEnd, PikeSearches, PikeAnswersMatch}
+use Rattle.nfa_pikevm.specs.Finding.{IsSureOf, PikeFindsOn, PikeFindsToEnd, PikeSearches, PikeAnswersMatch, pike_scans}
 use Rattle.nfa_pikevm.specs.declared.find_iter.FindMatches.{FindMatches}
 use Rattle.nfa_pikevm.specs.declared.find_iter.Finder.{Finder}
 
@@ -50,7 +50,7 @@ MayFindByPike = MayFind IsSureOf pike_knowing fits_pike
 
 -- a search by the PikeVM may answer this
 abbrev pub AsksPike : WithCache Finder PikeCache → Search → Answer Found → WithCache Finder PikeCache → Type 0
-AsksPike = AsksEngine IsSureOf pike_knowing PikeAnswersMatch (λ vm x a. PikeSearches vm x)
+AsksPike = AsksEngine IsSureOf pike_knowing PikeAnswersMatch (λ vm x a. PikeSearches vm x) pike_scans
 
 -- a call
 pub record PikeFindsNext (s : FindMatches) (r : Option Match) (t : FindMatches) : Type 0 where

@@ -1,5 +1,5 @@
 -- The answers of a PikeVM to searches for a match or for captures.
-use Rattle.std.specs.Prelude.{◌≤◌, ◌*◌, ◌+◌, List, Option, Ok}
+use Rattle.std.specs.Prelude.{◌≤◌, ◌*◌, ◌+◌, ℕ, List, Option, Ok}
 use Rattle.regex_search_core.specs.Found.{Found, found_of}
 use Rattle.regex_search_core.specs.Search.{Search}
 use Rattle.regex_search_core.specs.declared.search.Match.{Match}
@@ -37,13 +37,18 @@ pub record PikeSearches (vm : Pike) (x : Search) (old new : PikeCache) : Type 0 
   pub turns : new.turns ≤ new.scans * ((1 + total_degree vm.nfa) * (span_len x + 1))
   pub capacities : SameCapacities old new
 
+-- the scans of the last search with the cache
+abbrev pub pike_scans : PikeCache → ℕ
+pike_scans cache = cache.scans
+
 -- an iteration over the matches of x led from one cache to the other only by its searches, as far as it went
 abbrev pub PikeFindsOn : Pike → Search → PikeCache → PikeCache → Type 0
-PikeFindsOn vm x old new = FindsLeave (PikeAnswersMatch vm) (λ y a. PikeSearches vm y) x old new
+PikeFindsOn vm x old new = FindsLeave (PikeAnswersMatch vm) (λ y a. PikeSearches vm y) pike_scans x old new
 
 -- the same, and the iteration went to its end, past these matches
 abbrev pub PikeFindsToEnd : Pike → Search → List Found → PikeCache → PikeCache → Type 0
-PikeFindsToEnd vm x ms old new = FindsLeaveAtEnd (PikeAnswersMatch vm) (λ y a. PikeSearches vm y) x ms old new
+PikeFindsToEnd vm x ms old new =
+    FindsLeaveAtEnd (PikeAnswersMatch vm) (λ y a. PikeSearches vm y) pike_scans x ms old new
 
 -- the same for an iteration over captures
 abbrev pub PikeCatchesOn : Pike → Search → PikeCache → PikeCache → Type 0

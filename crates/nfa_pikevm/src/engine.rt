@@ -1,5 +1,5 @@
 //! The PikeVM and its searches.
-ghost use Rattle.std.specs.Prelude.{◌≡◌, ◌+◌, ◌*◌, ◌≤◌, None, Ok, false, not, length, min, replicate, option_map, IfOk};
+ghost use Rattle.std.specs.Prelude.{◌≡◌, ◌+◌, ◌-◌, ◌*◌, ◌≤◌, None, Ok, false, not, length, min, replicate, option_map, IfOk};
 ghost use Rattle.std.specs.Prelude.{IfNone, IfSome, All, ◌<◌, IsOk, OnOk, OnErr, IsOkUnless};
 ghost use Rattle.regex_search_core.specs.Search.{search_of};
 ghost use Rattle.regex_search_core.specs.Groups.{slot_count};
@@ -8,8 +8,9 @@ ghost use Rattle.regex_search_core.specs.Found.{found_of, half_found_of};
 ghost use Rattle.thompson_nfa.specs.Simple.{always, never};
 ghost use Rattle.nfa_paths.specs.Overlaps.{IsOverlapResult};
 ghost use Rattle.nfa_paths.specs.Paths.{span_len, total_degree, max_scans, is_utf8_empty, IsAnswer, IsBoolAnswer};
-ghost use Rattle.nfa_paths.specs.Paths.{IsHalfAnswer, IsFindAnswer, IsWork};
+ghost use Rattle.nfa_paths.specs.Paths.{IsHalfAnswer, IsFindAnswer, IsWork, raised};
 ghost use Rattle.nfa_pikevm.specs.Engines.{AddsPikeWork, Fits, SameCapacities, kind_of, cache_for, reset_for};
+ghost use Rattle.nfa_pikevm.specs.Finding.{PikeSearches};
 ghost use Rattle.nfa_pikevm_scan.specs.Needs.{overlap_scans};
 ghost use Rattle.nfa_pikevm_scan.specs.Scans.{HaveRoom, SameSizes, max_scan_turns};
 ghost use Rattle.nfa_search_base.specs.Finds.{finds};
@@ -287,11 +288,12 @@ impl PikeVM {
     {
         let width = slots.len().min(self.nfa.group_info().slot_len());
         let row = &mut found[..width];
+        let mut moved = *input;
         let half = search(
             &self.nfa,
             &self.first,
             self.config.get_match_kind(),
-            input,
+            &mut moved,
             threads,
             row,
         );
@@ -299,28 +301,30 @@ impl PikeVM {
         Some(half?.pattern())
     }
 
-    /// Returns the match that a search answers, from the row of the cache that it fills. It is a function of its own so
-    /// that an iteration that knows an answer saves no registers for a search.
+    /// Returns the match that a search answers, from the row of the cache that it fills. The input then starts where the
+    /// last scan started. It is a function of its own so that an iteration that knows an answer saves no registers for a
+    /// search.
     #[inline(never)]
     fn find_with(
         &self,
         threads: &mut Threads,
-        input: &Input<'_>,
+        input: &mut Input<'_>,
         found: &mut [Slot],
     ) -> Option<Match>
         requires row { 2 * length self.now.nfa.groups ≤ length found.old }
         requires serves { HaveRoom self.now.nfa (2 * length self.now.nfa.groups) threads.old }
         requires counted { threads.old.scans ≡ 0 }
         requires turned { threads.old.reached.seen.turns ≡ 0 }
-        ensures answer { IsFindAnswer self.now.nfa (kind_of self.now) (search_of input.now).earliest
-            (search_of input.now) (option_map found_of result) }
+        ensures answer { IsFindAnswer self.now.nfa (kind_of self.now) (search_of input.old).earliest
+            (search_of input.old) (option_map found_of result) }
         ensures pattern { IfSome result (λ m. (found_of m).pattern < length self.now.nfa.patterns) }
-        ensures work { IsWork self.now.nfa (kind_of self.now) (search_of input.now).earliest (search_of input.now)
+        ensures work { IsWork self.now.nfa (kind_of self.now) (search_of input.old).earliest (search_of input.old)
             threads.new.scans threads.new.reached.seen.turns }
+        ensures last { search_of input.new ≡ raised (search_of input.old) (threads.new.scans - 1) }
         ensures sizes { SameSizes threads.old threads.new }
-        ensures scans { threads.new.scans ≤ max_scans self.now.nfa (search_of input.now) }
+        ensures scans { threads.new.scans ≤ max_scans self.now.nfa (search_of input.old) }
         ensures turns { threads.new.reached.seen.turns
-            ≤ threads.new.scans * max_scan_turns self.now.nfa (search_of input.now) }
+            ≤ threads.new.scans * max_scan_turns self.now.nfa (search_of input.old) }
     {
         let slot_len = self.nfa.group_info().implicit_slot_len();
         let slots = &mut found[..slot_len];
@@ -363,6 +367,19 @@ impl PikeVM {
         ensures turns { cache.new.turns ≤ cache.new.scans * ((1 + total_degree self.now.nfa)
             * (span_len (search_of input.entry) + 1)) }
     {
+        let mut moved = input;
+        self.find_with_start(cache, &mut moved)
+    }
+
+    /// Returns the match that a search of the input finds. The input then starts where the last scan started.
+    pub(super) fn find_with_start(&self, cache: &mut Cache, input: &mut Input<'_>) -> Option<Match>
+        requires { Fits cache.old self.now.nfa }
+        ensures answer { IsFindAnswer self.now.nfa (kind_of self.now) (search_of input.old).earliest
+            (search_of input.old) (option_map found_of result) }
+        ensures pattern { IfSome result (λ m. (found_of m).pattern < length self.now.nfa.patterns) }
+        ensures searches { PikeSearches self.now (search_of input.old) cache.old cache.new }
+        ensures last { search_of input.new ≡ raised (search_of input.old) (cache.new.scans - 1) }
+    {
         let Cache {
             threads,
             found,
@@ -372,7 +389,7 @@ impl PikeVM {
         } = cache;
         past_scans.absorb(&mut threads.scans);
         threads.reached.seen.restart_turns(past_turns);
-        self.find_with(threads, &input, found.as_mut_slice())
+        self.find_with(threads, input, found.as_mut_slice())
     }
 
     /// Returns the pattern of the match that a search of the input finds, and the offset of its end. It writes no
@@ -415,7 +432,15 @@ impl PikeVM {
         // An NFA that can be read is valid, so the pattern of each Match state exists.
         self.nfa.states();
         let match_kind = self.config.get_match_kind();
-        search(&self.nfa, &self.first, match_kind, &input, threads, &mut [])
+        let mut moved = input;
+        search(
+            &self.nfa,
+            &self.first,
+            match_kind,
+            &mut moved,
+            threads,
+            &mut [],
+        )
     }
 
     /// Returns whether a search of the input finds a match.

@@ -30,8 +30,8 @@ pub struct FindMatches<'r, 'c, 'h> {
 #[derive(Debug, Drop)]
 struct Finder<'r> {
     engine: &'r PikeVM,
-    // The match that the last search found, if it is empty and at the start of that search. It also answers a search
-    // from there.
+    // The match that the last search found, if it ends where the last scan of that search started. It also answers a
+    // search from there.
     known: Option<Match>,
 }
 
@@ -168,8 +168,9 @@ impl<'r> FindWith for Finder<'r> {
         if known.is_some() {
             return known;
         }
-        let found = self.engine.find(cache, *input);
-        self.known = ending_at(input.start(), found);
+        let mut moved = *input;
+        let found = self.engine.find_with_start(cache, &mut moved);
+        self.known = ending_at(moved.start(), found);
         found
     }
 

@@ -1,7 +1,7 @@
 //! A search: a scan, and further scans while the answer ends inside a codepoint.
-ghost use Rattle.std.specs.Prelude.{◌≡◌, ◌*◌, ◌≤◌, length};
+ghost use Rattle.std.specs.Prelude.{◌≡◌, ◌-◌, ◌*◌, ◌≤◌, length};
 ghost use Rattle.regex_search_core.specs.Search.{search_of};
-ghost use Rattle.nfa_paths.specs.Paths.{max_scans};
+ghost use Rattle.nfa_paths.specs.Paths.{max_scans, raised};
 ghost use Rattle.nfa_paths.specs.Restarts.{max_scan_turns, SearchGives};
 ghost use Rattle.nfa_scan_core.specs.FirstBytes.{IsFirstBytes};
 ghost use Rattle.nfa_pikevm_scan.specs.Scans.{HaveRoom, SameSizes};
@@ -15,12 +15,13 @@ use regex_search_core::{HalfMatch, Input, MatchKind};
 use thompson_nfa::NFA;
 
 /// Scans, and scans again from one byte further on while the answer ends inside a codepoint. Only an NFA that can match
-/// the empty string and is in UTF-8 mode has such answers. An anchored search ends at the first one.
+/// the empty string and is in UTF-8 mode has such answers. An anchored search ends at the first one. The input then
+/// starts where the last scan started.
 pub fn search(
     nfa: &NFA,
     first: &FirstBytes,
     kind: MatchKind,
-    input: &Input<'_>,
+    input: &mut Input<'_>,
     threads: &mut Threads,
     slots: &mut [Slot],
 ) -> Option<HalfMatch>
@@ -28,15 +29,15 @@ pub fn search(
     requires serves { HaveRoom nfa.now (length slots.old) threads.old }
     requires counted { threads.old.scans ≡ 0 }
     requires turned { threads.old.reached.seen.turns ≡ 0 }
-    ensures answer { SearchGives nfa.now kind (search_of input.now).earliest (search_of input.now) result slots.new
+    ensures answer { SearchGives nfa.now kind (search_of input.old).earliest (search_of input.old) result slots.new
         threads.new.scans threads.new.reached.seen.turns }
+    ensures last { search_of input.new ≡ raised (search_of input.old) (threads.new.scans - 1) }
     ensures sizes { SameSizes threads.old threads.new }
-    ensures scans { threads.new.scans ≤ max_scans nfa.now (search_of input.now) }
-    ensures turns { threads.new.reached.seen.turns ≤ threads.new.scans * max_scan_turns nfa.now (search_of input.now) }
+    ensures scans { threads.new.scans ≤ max_scans nfa.now (search_of input.old) }
+    ensures turns { threads.new.reached.seen.turns ≤ threads.new.scans * max_scan_turns nfa.now (search_of input.old) }
 {
-    let mut search = *input;
     loop {
-        let half = scan(nfa, first, kind, &search, threads, slots)?;
+        let half = scan(nfa, first, kind, input, threads, slots)?;
         if may_end_at(nfa, input, half.offset()) {
             return Some(half);
         }
@@ -44,7 +45,7 @@ pub fn search(
             unset_row(slots);
             return None;
         }
-        let start = search.start() + 1;
-        search.set_start(start);
+        let start = input.start() + 1;
+        input.set_start(start);
     }
 }

@@ -18,7 +18,7 @@ use Rattle.nfa_search_base.specs.WithCaptures.{WithCaptures, GivesCaptures, Row,
 use Rattle.nfa_search_base.specs.CapturesLists.{HasGroups, AnswersRow}
 use Rattle.nfa_search_base.specs.CapturesRuns.{CapturesMemory}
 use Rattle.nfa_search_base.specs.EngineSearches.{AnswersBy, AsksEngine, AsksEngineRow, IsKnownFrom, Keeping, Knowing}
-use Rattle.nfa_search_base.specs.EngineSearches.{MayFill, MayFind, SearchesUnlessKnown, found_in, if_ends_at}
+use Rattle.nfa_search_base.specs.EngineSearches.{MayFill, MayFind, SearchesUnlessKnown, found_in, if_ends_at, last_start}
 use Rattle.nfa_search_base.specs.Finders.{answer_by}
 use Rattle.nfa_search_base.specs.WithCache.{WithCache}
 use Rattle.nfa_search_base.specs.StepsWith.{GivesStepsWith, KeepsStepsWith, StepsWith, TakesStepWith, steps_with_state}
@@ -105,27 +105,27 @@ found-by (Ok (Some m)) found ok err = ap (λ (o : Option Match). option_map foun
 found-by (Ok None) found ok err = ap (λ (o : Option Match). option_map found_of o) ok
 found-by (Err e) found ok err = ap (λ (o : Option Match). option_map found_of o) err
 
--- A search does `Work` with the cache.
-module _ {C : Type 0} (Work : Search → Answer Found → C → C → Type 0) (x : Search) where
+-- A search does `Work` with the cache, which counts its `scans`.
+module _ {C : Type 0} (Work : Search → Answer Found → C → C → Type 0) (scans : C → ℕ) (x : Search) where
   -- what is known is the answer
   pub known-is : (kept : Option Match) (s : Keeping C) → option_map found_of kept ≡ if_ends_at x.start s.known
-      → IsTrue (is_some kept) → SearchesUnlessKnown Work x (answer_by found_of (Ok kept)) s s
+      → IsTrue (is_some kept) → SearchesUnlessKnown Work scans x (answer_by found_of (Ok kept)) s s
   known-is None s is some = let k : false ≡ true = some in cc
   known-is (Some m) s is some = record { by_known = rw (← is) (refl, refl) }
 
   -- else a search is made
   pub search-made : (kept : Option Match) (a : Answer Found) (s t : Keeping C)
       → option_map found_of kept ≡ if_ends_at x.start s.known → is_some kept ≡ false → Work x a s.cache t.cache
-      → t.known ≡ if_ends_at x.start (found_in a) → SearchesUnlessKnown Work x a s t
+      → t.known ≡ if_ends_at (last_start x (scans t.cache)) (found_in a) → SearchesUnlessKnown Work scans x a s t
   search-made None a s t is none work known = record { by_known = rw (← is) (work, known) }
   search-made (Some m) a s t is none work known = let k : true ≡ false = none in cc
 
   -- so the cache is the same, or was searched with
-  pub same-or-made : (a : Answer Found) (s t : Keeping C) → SearchesUnlessKnown Work x a s t
+  pub same-or-made : (a : Answer Found) (s t : Keeping C) → SearchesUnlessKnown Work scans x a s t
       → (t.cache ≡ s.cache) ⊎ Work x a s.cache t.cache
   same-or-made a s t by = of (if_ends_at x.start s.known) by.by_known
     where
-      of : (k : Option Found) → AnswersBy Work x a k s t → (t.cache ≡ s.cache) ⊎ Work x a s.cache t.cache
+      of : (k : Option Found) → AnswersBy Work scans x a k s t → (t.cache ≡ s.cache) ⊎ Work x a s.cache t.cache
       of (Some m) h = inl (ap (λ q. q.cache) h.1)
       of None h = inr h.0
 
@@ -147,21 +147,20 @@ module _ {E : Type 0} (Sure : E → Search → Found → Type 0) where
       let here : record t { start = m.span.end } ≡ t = ap (λ (n : ℕ). record t { start = n }) k.1 in
       tells (found_of m) (subst (λ (y : Search). Sure e y (found_of m)) here (knows m k.0))
 
-  -- a match that ends at the start of its search is known for the searches from there
-  pub known-kept : (e : E) (t : Search) (kept : Option Match)
-      → ForSome kept (λ m. Sure e t (found_of m) × (m.span.end ≡ t.start)) → IsKnownFrom Sure e t kept
-  known-kept e t kept ends = λ m is.
-      let k = ends m is in
-      let here : record t { start = m.span.end } ≡ t = ap (λ (n : ℕ). record t { start = n }) k.1 in
-      subst (λ (y : Search). Sure e y (found_of m)) (sym here) k.0
+  -- a match is known for the searches from where it ends if it is sure there
+  pub known-kept : (e : E) (t : Search) (start : ℕ) (kept : Option Match)
+      → ForSome kept (λ m. Sure e (record t { start = start }) (found_of m) × (m.span.end ≡ start))
+      → IsKnownFrom Sure e t kept
+  known-kept e t start kept ends = λ m is.
+      let k = ends m is in subst (λ (n : ℕ). Sure e (record t { start = n }) (found_of m)) (sym k.1) k.0
 
   -- An engine whose cache still fits after a search.
   module _ {A C : Type 0} (shown : A → Knowing E) (Fits : C → E → Type 0) (Tells : E → Search → Answer Found → Type 0)
-      (Work : E → Search → Answer Found → C → C → Type 0)
+      (Work : E → Search → Answer Found → C → C → Type 0) (scans : C → ℕ)
       (stays : (e : E) (x : Search) (a : Answer Found) (old new : C) → Work e x a old new → Fits old e
       → Fits new e) where
     abbrev Asks : WithCache A C → Search → Answer Found → WithCache A C → Type 0
-    Asks = AsksEngine Sure shown Tells Work
+    Asks = AsksEngine Sure shown Tells Work scans
 
     abbrev May : WithCache A C → Search → Type 0
     May = MayFind Sure shown Fits
@@ -175,7 +174,7 @@ module _ {E : Type 0} (Sure : E → Search → Found → Type 0) where
     }
       where
         fits : Fits s'.cache (shown s.backend).engine
-        fits = elim (same-or-made (Work (shown s.backend).engine) t a _ _ asked.work) [
+        fits = elim (same-or-made (Work (shown s.backend).engine) scans t a _ _ asked.work) [
           | inl same ↦ subst (λ (c : C). Fits c (shown s.backend).engine) (sym same) may.fits
           | inr work ↦ stays (shown s.backend).engine t a s.cache s'.cache work may.fits
         ]

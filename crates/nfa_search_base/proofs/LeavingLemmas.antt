@@ -1,5 +1,5 @@
 -- What the calls of an iterator leave of what answers its searches, seen as less than the iterator keeps.
-use Rattle.std.proofs.Common.{◌≡◌, ◌∙◌, ◌⊎◌, true, false, refl, sym, ap, subst, inl, inr}
+use Rattle.std.proofs.Common.{◌≡◌, ◌∙◌, ℕ, ◌⊎◌, true, false, refl, sym, ap, subst, inl, inr}
 use Rattle.std.proofs.Common.{Option, None, Some, Result, Ok, Err, List, [], ◌∷◌, map}
 use Rattle.std.specs.Iterator.{Yields}
 use Rattle.std.specs.Option.{option_map}
@@ -191,22 +191,24 @@ calls-lead outer steps inner is xs s t r u ran st = record {
 
 -- The iterator of an engine e over matches, around steps and a cache.
 module _ {E A C : Type 0} (Sure : E → Search → Found → Type 0) (shown : A → Knowing E)
-    (Tells : E → Search → Answer Found → Type 0) (Work : E → Search → Answer Found → C → C → Type 0) (e : E) where
+    (Tells : E → Search → Answer Found → Type 0) (Work : E → Search → Answer Found → C → C → Type 0) (scans : C → ℕ)
+    (e : E) where
   abbrev Asks : WithCache A C → Search → Answer Found → WithCache A C → Type 0
-  Asks = AsksEngine Sure shown Tells Work
+  Asks = AsksEngine Sure shown Tells Work scans
 
   abbrev Is : WithCache A C → Type 0
   Is q = (shown q.backend).engine ≡ e
 
   abbrev Looks : Keeping C → Search → Answer Found → Keeping C → Type 0
-  Looks = asks_keeping (Tells e) (Work e)
+  Looks = asks_keeping (Tells e) (Work e) scans
 
   looks : (s : WithCache A C) (t : Search) (a : Answer Found) (s' : WithCache A C) → Is s → Asks s t a s'
       → Looks (keeping shown s) t a (keeping shown s') × Is s'
   looks s t a s' is asked = (
     record {
       tells = subst (λ (b : E). Tells b t a) is asked.finds;
-      work = subst (λ (b : E). SearchesUnlessKnown (Work b) t a (keeping shown s) (keeping shown s')) is asked.work;
+      work = subst (λ (b : E). SearchesUnlessKnown (Work b) scans t a (keeping shown s) (keeping shown s')) is
+          asked.work;
     },
     asked.engine ∙ is,
   )
@@ -242,7 +244,7 @@ module _ {E A C : Type 0} (Sure : E → Search → Found → Type 0) (shown : A 
         rw (known, walk) at k
 
     pub finds-leave : (xs : List R) (t : T) (r : Option R) (u : T) → Yields calls s xs t → calls t r u
-        → FindsLeave (Tells e) (Work e) x (inner s).cache.now (inner u).cache.now
+        → FindsLeave (Tells e) (Work e) scans x (inner s).cache.now (inner u).cache.now
     finds-leave xs t r u ran st =
         let k = first-leaves xs t r u ran st in
         record {
@@ -253,7 +255,7 @@ module _ {E A C : Type 0} (Sure : E → Search → Found → Type 0) (shown : A 
     -- and past all matches if they go on to none
     pub finds-to_end : (xs : List R) (ms : List Match) (t u : T) → map item xs ≡ map (λ m. Ok m) ms
         → Yields calls s xs t → calls t None u
-        → FindsLeaveAtEnd (Tells e) (Work e) x (map found_of ms) (inner s).cache.now (inner u).cache.now
+        → FindsLeaveAtEnd (Tells e) (Work e) scans x (map found_of ms) (inner s).cache.now (inner u).cache.now
     finds-to_end xs ms t u same ran st =
         let k = all-leave span_of Asks (λ q. GivesItem found_of) found_of says (λ q. keeping shown q) Looks Is looks ms
         (steps_with_state (inner s)) (steps_with_state (inner t)) (steps_with_state (inner u)) going engine

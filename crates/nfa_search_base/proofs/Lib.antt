@@ -6,6 +6,7 @@ pub mod DrainedLemmas
 pub mod EngineLemmas
 pub mod FindsLemmas
 pub mod GreedyLemmas
+pub mod LastStartLemmas
 pub mod LeavingLemmas
 pub mod SkipLemmas
 pub mod SpanLemmas

@@ -1,5 +1,5 @@
 -- The searches of an iteration by an engine: what they need, answer and leave.
-use Rattle.std.specs.Prelude.{◌≡◌, ◌==◌, ℕ, Option, None, Some, Ok, Err, if◌then◌else◌, option_map}
+use Rattle.std.specs.Prelude.{◌≡◌, ◌==◌, ◌+◌, ◌-◌, ℕ, Option, None, Some, Ok, Err, if◌then◌else◌, option_map}
 use Rattle.std.specs.Option.{ForSome}
 use Rattle.regex_search_core.specs.Found.{Found, found_of}
 use Rattle.regex_search_core.specs.Search.{Search}
@@ -30,13 +30,18 @@ abbrev pub found_in : Answer Found → Option Found
 found_in (Ok found) = found
 found_in (Err e) = None
 
--- A search does `Work` with the cache.
-module _ {C : Type 0} (Work : Search → Answer Found → C → C → Type 0) (x : Search) (a : Answer Found) where
+-- where the last scan started, of a search that made this many
+abbrev pub last_start : Search → ℕ → ℕ
+last_start x scans = x.start + (scans - 1)
+
+-- A search does `Work` with the cache, which counts its `scans`.
+module _ {C : Type 0} (Work : Search → Answer Found → C → C → Type 0) (scans : C → ℕ) (x : Search)
+    (a : Answer Found) where
   -- If a match is known, it is the answer, and nothing changes. Otherwise one search is made, and its match becomes
-  -- known for the next search if it ends where this search starts.
+  -- known for the next search if it ends where the last scan started.
   abbrev pub AnswersBy : Option Found → Keeping C → Keeping C → Type 0
   AnswersBy (Some m) s t = (a ≡ Ok (Some m)) × (t ≡ s)
-  AnswersBy None s t = Work x a s.cache t.cache × (t.known ≡ if_ends_at x.start (found_in a))
+  AnswersBy None s t = Work x a s.cache t.cache × (t.known ≡ if_ends_at (last_start x (scans t.cache)) (found_in a))
 
   -- The known match is the answer exactly if it ends at the start of x.
   pub record SearchesUnlessKnown (s t : Keeping C) : Type 0 where
@@ -62,12 +67,12 @@ module _ {E : Type 0} (Sure : E → Search → Found → Type 0) where
     -- A search by the engine may give an answer that it `Tells`. Exactly if that answer was known, no search is made.
     -- Otherwise the search does `Work` with the cache, once.
     pub record AsksEngine (Tells : E → Search → Answer Found → Type 0)
-        (Work : E → Search → Answer Found → C → C → Type 0) (s : WithCache A C) (x : Search) (a : Answer Found)
-        (t : WithCache A C) : Type 0 where
+        (Work : E → Search → Answer Found → C → C → Type 0) (scans : C → ℕ) (s : WithCache A C) (x : Search)
+        (a : Answer Found) (t : WithCache A C) : Type 0 where
       pub finds : Tells (shown s.backend).engine x a
       pub engine : (shown t.backend).engine ≡ (shown s.backend).engine
       pub knows : IsKnownFrom (shown t.backend).engine x (shown t.backend).known
-      pub work : SearchesUnlessKnown (Work (shown s.backend).engine) x a (keeping shown s) (keeping shown t)
+      pub work : SearchesUnlessKnown (Work (shown s.backend).engine) scans x a (keeping shown s) (keeping shown t)
 
 -- An engine that fills captures, with its NFA.
 module _ {E C : Type 0} (nfa : E → Automaton) where

@@ -1,5 +1,5 @@
 -- The state that an iteration leaves, such as a cache, whatever else its iterator keeps.
-use Rattle.std.specs.Prelude.{◌≡◌, List, [], ◌∷◌, ◌++◌, map, Option, None, Some, Result, Ok, Err}
+use Rattle.std.specs.Prelude.{◌≡◌, ℕ, List, [], ◌∷◌, ◌++◌, map, Option, None, Some, Result, Ok, Err}
 use Rattle.std.specs.Iterator.{Yields}
 use Rattle.regex_search_core.specs.Found.{Found}
 use Rattle.regex_search_core.specs.Search.{Search}
@@ -38,10 +38,12 @@ module _ {S X : Type 0} (span : X → Span) (asks : S → Search → Answer X �
   pub record LeavesAtEnd (x : Search) (ms : List X) (s t : S) : Type 0 where
     pub steps : StepsLead (fresh x) s (answers_to_end ms) t
 
--- An iteration over matches, by searches that do `Work` with a cache. At first no match is known.
-module _ {C : Type 0} (Tells : Search → Answer Found → Type 0) (Work : Search → Answer Found → C → C → Type 0) where
+-- An iteration over matches, by searches that do `Work` with a cache, which counts their `scans`. At first no match is
+-- known.
+module _ {C : Type 0} (Tells : Search → Answer Found → Type 0) (Work : Search → Answer Found → C → C → Type 0)
+    (scans : C → ℕ) where
   abbrev pub asks_keeping : Keeping C → Search → Answer Found → Keeping C → Type 0
-  asks_keeping = DoesSearch Tells (SearchesUnlessKnown Work)
+  asks_keeping = DoesSearch Tells (SearchesUnlessKnown Work scans)
 
   -- the iteration led from the old cache to the new one, as far as it went
   pub record FindsLeave (x : Search) (old new : C) : Type 0 where

@@ -1,14 +1,18 @@
 -- A search that scans again while its answer ends inside a codepoint: what holds at each scan, and the result.
-use Rattle.std.proofs.Common.{◌≡◌, ◌∙◌, ℕ, ◌+◌, ◌≤◌, ap, arith, refl, replicate, subst, sym}
+use Rattle.std.proofs.Common.{◌≡◌, ◌∙◌, ℕ, ◌+◌, ◌≤◌, ap, arith, refl, replicate, subst, sym, true, false, List}
 use Rattle.std.specs.Prelude.{Option, None, Some}
-use Rattle.regex_search_core.specs.Search.{Search, search_of}
+use Rattle.regex_search_core.specs.Boundary.{IsBoundary}
+use Rattle.regex_search_core.specs.Search.{Search, is_anchored, search_of}
+use Rattle.regex_search_core.specs.declared.search.Anchored.{Anchored}
 use Rattle.regex_search_core.specs.declared.search.HalfMatch.{HalfMatch}
 use Rattle.regex_search_core.specs.declared.search.MatchKind.{MatchKind}
 use Rattle.thompson_nfa.specs.Automaton.{Automaton}
 use Rattle.nfa_paths.specs.Exploring.{Slots}
+use Rattle.nfa_paths.specs.Paths.{is_utf8_empty, raised}
 use Rattle.nfa_paths.specs.Restarts.{ScanGives}
 use Rattle.nfa_paths.proofs.RestartLemmas.{restarts-begin, settled-none, settled-some, discarded, restarted, start-left}
 use Rattle.nfa_paths.proofs.RestartLemmas.{turns-after, scans-bound}
+use Rattle.nfa_search_base.proofs.LastStartLemmas.{last-scan}
 use Rattle.nfa_pikevm.proofs.search.search.Goals as goal
 
 -- the premises of each scan are those of the search
@@ -17,76 +21,102 @@ asked : (nfa : Automaton) (kind : MatchKind) (x y : Search) (half : Option HalfM
     → ScanGives nfa kind x.earliest y half slots turns
 asked nfa kind x y half slots turns same = subst (λ e. ScanGives nfa kind e y half slots turns) same
 
+-- what holds of the text and the anchoring of each scan holds of the search
+of-search : (x y : Search) (n : ℕ) (P : List ℕ → Anchored → Type 0) → y ≡ raised x n → P y.haystack y.anchored
+    → P x.haystack x.anchored
+of-search x y n P is = subst (λ (z : Search). P z.haystack z.anchored) is
+
+pub returns-in_err-half-clause-last : goal.returns-in_err-half-clause-last
+returns-in_err-half-clause-last c =
+    let x = search_of c.args.input.now in
+    last-scan x (search_of c.loop-half.input) _ _ c.loop-half.invariant.restarts.is c.scan.ensures.scans
+
 pub returns-in_err-half-clause-scans : goal.returns-in_err-half-clause-scans
 returns-in_err-half-clause-scans c =
     let x = search_of c.args.input.now in
     rw c.scan.ensures.scans
-    (scans-bound c.args.nfa.now c.args.kind x.earliest x (search_of c.loop-half.search) _ _
+    (scans-bound c.args.nfa.now c.args.kind x.earliest x (search_of c.loop-half.input) _ _
     c.loop-half.invariant.restarts)
 
 pub returns-in_err-half-clause-turns : goal.returns-in_err-half-clause-turns
 returns-in_err-half-clause-turns c =
     let x = search_of c.args.input.now in
     rw c.scan.ensures.scans
-    (turns-after c.args.nfa.now c.args.kind x.earliest x (search_of c.loop-half.search) _ _
+    (turns-after c.args.nfa.now c.args.kind x.earliest x (search_of c.loop-half.input) _ _
     c.loop-half.invariant.restarts _ c.scan.ensures.turns)
 
 pub returns-in_err-half-clause-answer : goal.returns-in_err-half-clause-answer
 returns-in_err-half-clause-answer c =
     let x = search_of c.args.input.now in
     rw c.from_residual.ensures
-    (settled-none c.args.nfa.now c.args.kind x.earliest x (search_of c.loop-half.search) _ _
+    (settled-none c.args.nfa.now c.args.kind x.earliest x (search_of c.loop-half.input) _ _
     c.loop-half.invariant.restarts c.scan.new.slots _ 0 _
-    (asked c.args.nfa.now c.args.kind x (search_of c.loop-half.search) None c.scan.new.slots 0
+    (asked c.args.nfa.now c.args.kind x (search_of c.loop-half.input) None c.scan.new.slots 0
     c.loop-half.invariant.asks c.in_err-half.ensures.answer)
     c.scan.ensures.scans)
+
+pub returns-then-may_end_at-clause-last : goal.returns-then-may_end_at-clause-last
+returns-then-may_end_at-clause-last c =
+    let x = search_of c.args.input.now in
+    last-scan x (search_of c.loop-half.input) _ _ c.loop-half.invariant.restarts.is c.scan.ensures.scans
 
 pub returns-then-may_end_at-clause-scans : goal.returns-then-may_end_at-clause-scans
 returns-then-may_end_at-clause-scans c =
     let x = search_of c.args.input.now in
     rw c.scan.ensures.scans
-    (scans-bound c.args.nfa.now c.args.kind x.earliest x (search_of c.loop-half.search) _ _
+    (scans-bound c.args.nfa.now c.args.kind x.earliest x (search_of c.loop-half.input) _ _
     c.loop-half.invariant.restarts)
 
 pub returns-then-may_end_at-clause-turns : goal.returns-then-may_end_at-clause-turns
 returns-then-may_end_at-clause-turns c =
     let x = search_of c.args.input.now in
     rw c.scan.ensures.scans
-    (turns-after c.args.nfa.now c.args.kind x.earliest x (search_of c.loop-half.search) _ _
+    (turns-after c.args.nfa.now c.args.kind x.earliest x (search_of c.loop-half.input) _ _
     c.loop-half.invariant.restarts _ c.scan.ensures.turns)
 
 pub returns-then-may_end_at-clause-answer : goal.returns-then-may_end_at-clause-answer
 returns-then-may_end_at-clause-answer c =
     let x = search_of c.args.input.now in
-    let finds = asked c.args.nfa.now c.args.kind x (search_of c.loop-half.search) (Some c.in_ok-half.half) _ _
+    let finds = asked c.args.nfa.now c.args.kind x (search_of c.loop-half.input) (Some c.in_ok-half.half) _ _
     c.loop-half.invariant.asks c.in_ok-half.ensures.answer in
-    let ends = rw c.offset.ensures at (c.may_end_at.ensures.counts c.if-may_end_at.true) in
-    settled-some c.args.nfa.now c.args.kind x.earliest x (search_of c.loop-half.search) _ _
+    let ends = rw c.offset.ensures at (of-search x (search_of c.loop-half.input) _
+    (λ h a. is_utf8_empty c.args.nfa.now ≡ true → IsBoundary h c.offset.result) c.loop-half.invariant.restarts.is
+    (c.may_end_at.ensures.counts c.if-may_end_at.true)) in
+    settled-some c.args.nfa.now c.args.kind x.earliest x (search_of c.loop-half.input) _ _
     c.loop-half.invariant.restarts c.in_ok-half.half c.scan.new.slots _ _ _ finds ends c.scan.ensures.scans
     (omega arith)
+
+pub returns-then-is_anchored-clause-last : goal.returns-then-is_anchored-clause-last
+returns-then-is_anchored-clause-last c =
+    let x = search_of c.args.input.now in
+    last-scan x (search_of c.loop-half.input) _ _ c.loop-half.invariant.restarts.is c.scan.ensures.scans
 
 pub returns-then-is_anchored-clause-scans : goal.returns-then-is_anchored-clause-scans
 returns-then-is_anchored-clause-scans c =
     let x = search_of c.args.input.now in
     rw c.scan.ensures.scans
-    (scans-bound c.args.nfa.now c.args.kind x.earliest x (search_of c.loop-half.search) _ _
+    (scans-bound c.args.nfa.now c.args.kind x.earliest x (search_of c.loop-half.input) _ _
     c.loop-half.invariant.restarts)
 
 pub returns-then-is_anchored-clause-turns : goal.returns-then-is_anchored-clause-turns
 returns-then-is_anchored-clause-turns c =
     let x = search_of c.args.input.now in
     rw c.scan.ensures.scans
-    (turns-after c.args.nfa.now c.args.kind x.earliest x (search_of c.loop-half.search) _ _
+    (turns-after c.args.nfa.now c.args.kind x.earliest x (search_of c.loop-half.input) _ _
     c.loop-half.invariant.restarts _ c.scan.ensures.turns)
 
 pub returns-then-is_anchored-clause-answer : goal.returns-then-is_anchored-clause-answer
 returns-then-is_anchored-clause-answer c =
     let x = search_of c.args.input.now in
-    let finds = asked c.args.nfa.now c.args.kind x (search_of c.loop-half.search) (Some c.in_ok-half.half) _ _
+    let finds = asked c.args.nfa.now c.args.kind x (search_of c.loop-half.input) (Some c.in_ok-half.half) _ _
     c.loop-half.invariant.asks c.in_ok-half.ensures.answer in
-    let off = rw c.offset.ensures at (c.may_end_at.ensures.inside c.if-may_end_at.false) in
-    let anchored = rw (c.is_anchored.ensures, c.get_anchored.ensures) at c.if-is_anchored.true in
-    discarded c.args.nfa.now c.args.kind x.earliest x (search_of c.loop-half.search) _ _
+    let off = rw c.offset.ensures at (of-search x (search_of c.loop-half.input) _
+    (λ h a. ¬ (IsBoundary h c.offset.result)) c.loop-half.invariant.restarts.is
+    (c.may_end_at.ensures.inside c.if-may_end_at.false)) in
+    let anchored = of-search x (search_of c.loop-half.input) _ (λ h a. is_anchored a ≡ true)
+    c.loop-half.invariant.restarts.is
+    (rw (c.is_anchored.ensures, c.get_anchored.ensures) at c.if-is_anchored.true) in
+    discarded c.args.nfa.now c.args.kind x.earliest x (search_of c.loop-half.input) _ _
     c.loop-half.invariant.restarts c.in_ok-half.half _ c.unset_row.new.row _ _ _ finds
     (c.may_end_at.ensures.splits c.if-may_end_at.false) anchored off c.scan.ensures.scans
     (c.unset_row.ensures ∙ ap (λ n. replicate n None) (sym c.unset_row.auto.row))
@@ -94,8 +124,8 @@ returns-then-is_anchored-clause-answer c =
 pub set_start-requires : goal.set_start-requires
 set_start-requires c =
     let x = search_of c.args.input.now in
-    let y = search_of c.loop-half.search in
-    let finds = asked c.args.nfa.now c.args.kind x (search_of c.loop-half.search) (Some c.in_ok-half.half) _ _
+    let y = search_of c.loop-half.input in
+    let finds = asked c.args.nfa.now c.args.kind x (search_of c.loop-half.input) (Some c.in_ok-half.half) _ _
     c.loop-half.invariant.asks c.in_ok-half.ensures.answer in
     let left : y.start ≤ y.end =
     start-left c.args.nfa.now c.args.kind x.earliest x y _ _ c.loop-half.invariant.restarts c.in_ok-half.half _ _
@@ -115,14 +145,18 @@ loop-half-init c =
 pub loop-half-preserved : goal.loop-half-preserved
 loop-half-preserved c =
     let x = search_of c.args.input.now in
-    let finds = asked c.args.nfa.now c.args.kind x (search_of c.loop-half.search) (Some c.in_ok-half.half) _ _
+    let finds = asked c.args.nfa.now c.args.kind x (search_of c.loop-half.input) (Some c.in_ok-half.half) _ _
     c.loop-half.invariant.asks c.in_ok-half.ensures.answer in
     let mode = c.may_end_at.ensures.splits c.if-may_end_at.false in
-    let off = rw c.offset.ensures at (c.may_end_at.ensures.inside c.if-may_end_at.false) in
-    let free = rw (c.is_anchored.ensures, c.get_anchored.ensures) at c.if-is_anchored.false in
+    let off = rw c.offset.ensures at (of-search x (search_of c.loop-half.input) _
+    (λ h a. ¬ (IsBoundary h c.offset.result)) c.loop-half.invariant.restarts.is
+    (c.may_end_at.ensures.inside c.if-may_end_at.false)) in
+    let free = of-search x (search_of c.loop-half.input) _ (λ h a. is_anchored a ≡ false)
+    c.loop-half.invariant.restarts.is
+    (rw (c.is_anchored.ensures, c.get_anchored.ensures) at c.if-is_anchored.false) in
     record {
       restarts = rw c.scan.ensures.scans
-          (restarted c.args.nfa.now c.args.kind x.earliest x (search_of c.loop-half.search) _ _
+          (restarted c.args.nfa.now c.args.kind x.earliest x (search_of c.loop-half.input) _ _
           c.loop-half.invariant.restarts c.in_ok-half.half _ _ _ _ _ finds mode free off c.scan.ensures.turns
           (ap (λ n. n + 1) c.start-start.ensures) c.set_start.ensures);
       asks = ap (λ (z : Search). z.earliest) c.set_start.ensures ∙ c.loop-half.invariant.asks;

@@ -5,11 +5,11 @@ use Rattle.nfa_backtrack.proofs.engine.BoundedBacktracker.find_at.Goals as goal
 
 pub returns-clause-once : goal.returns-clause-once
 returns-clause-once c =
-    let e = c.try_find.ensures in
+    let e = c.find_with_start.ensures in
     record {
       total = e.total;
-      counts = counts-by c.try_find.result _ _ e.answered e.refused;
-      exact = work-by c.args.self.now (search_of c.args.input.now) c.try_find.result c.try_find.new.cache e.work
+      counts = counts-by c.find_with_start.result _ _ e.answered e.refused;
+      exact = work-by c.args.self.now (search_of c.args.input.now) c.find_with_start.result c.find_with_start.new.cache e.work
           e.within;
       scans = e.scans;
       turns = e.turns;

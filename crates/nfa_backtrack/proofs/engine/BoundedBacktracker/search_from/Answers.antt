@@ -1,10 +1,11 @@
 -- A search that scans again while its answer ends inside a codepoint: what holds at each scan, and the result.
 use Rattle.std.proofs.Common.{◌∙◌, ◌+◌, ◌≤◌, ap, arith, refl, replicate, sym}
 use Rattle.std.specs.Prelude.{None, false}
-use Rattle.regex_search_core.specs.Search.{search_of}
+use Rattle.regex_search_core.specs.Search.{Search, search_of}
 use Rattle.regex_search_core.specs.declared.search.MatchKind.TheVariants.{LeftmostFirst}
 use Rattle.nfa_paths.proofs.RestartLemmas.{restarts-begin, settled-none, settled-some, discarded, restarted, start-left}
 use Rattle.nfa_paths.proofs.RestartLemmas.{turns-after, scans-within, scans-bound}
+use Rattle.nfa_search_base.proofs.LastStartLemmas.{last-scan}
 use Rattle.nfa_backtrack_scan.proofs.ScanLemmas.{room-after}
 use Rattle.nfa_backtrack.proofs.engine.BoundedBacktracker.search_from.Goals as goal
 
@@ -43,6 +44,12 @@ returns-in_default-clause-turns c =
     rw c.scan.ensures.scans (turns-after c.args.self.now.nfa LeftmostFirst false (search_of c.args.input.now)
     (search_of c.loop-half.search) _ _
     c.loop-half.invariant.restarts _ c.scan.ensures.turns)
+
+pub returns-then-may_end_at-clause-last : goal.returns-then-may_end_at-clause-last
+returns-then-may_end_at-clause-last c =
+    c.start.ensures ∙ ap (λ (z : Search). z.start)
+    (last-scan (search_of c.args.input.now) (search_of c.loop-half.search) _ _ c.loop-half.invariant.restarts.is
+    c.scan.ensures.scans)
 
 pub returns-then-may_end_at-clause-within : goal.returns-then-may_end_at-clause-within
 returns-then-may_end_at-clause-within c =
@@ -112,7 +119,7 @@ set_start-requires c =
     start-left c.args.self.now.nfa LeftmostFirst false (search_of c.args.input.now) (search_of c.loop-half.search) _ _
     c.loop-half.invariant.restarts
     c.in-Some.half _ _ finds in
-    omega (arith, c.start-start.ensures)
+    omega (arith, c.start-next.ensures)
 
 pub loop-half-init : goal.loop-half-init
 loop-half-init c =
@@ -133,7 +140,7 @@ loop-half-preserved c =
           (restarted c.args.self.now.nfa LeftmostFirst false (search_of c.args.input.now) (search_of c.loop-half.search)
           _ _
           c.loop-half.invariant.restarts
-          c.in-Some.half _ _ _ _ _ finds mode free off c.scan.ensures.turns (ap (λ n. n + 1) c.start-start.ensures)
+          c.in-Some.half _ _ _ _ _ finds mode free off c.scan.ensures.turns (ap (λ n. n + 1) c.start-next.ensures)
           c.set_start.ensures);
       size = c.scan.ensures.size ∙ c.loop-half.invariant.size;
     }

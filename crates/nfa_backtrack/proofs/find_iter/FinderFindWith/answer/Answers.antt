@@ -1,14 +1,13 @@
 -- A known match is the answer. Otherwise it is the search's, which gives the match that is known then.
-use Rattle.std.proofs.Common.{rules, ◌∙◌, refl, ap, subst, Option, Result}
-use Rattle.regex_search_core.specs.Found.{found_of}
+use Rattle.std.proofs.Common.{rules, ◌≡◌, ◌∙◌, refl, ap, subst, Option, Result}
+use Rattle.std.specs.Prelude.{IfOk, IfSome}
 use Rattle.regex_search_core.specs.Search.{search_of}
 use Rattle.regex_search_core.specs.declared.search.Match.{Match}
-use Rattle.nfa_search_base.specs.Finders.{answer_by}
 use Rattle.nfa_search_base.specs.declared.error.SearchError.{SearchError}
-use Rattle.nfa_search_base.specs.EngineSearches.{if_ends_at}
+use Rattle.nfa_search_base.specs.EngineSearches.{if_ends_at, last_start}
 use Rattle.nfa_search_base.proofs.EngineLemmas.{known-answer, known-is, known-kept, search-made}
-use Rattle.nfa_backtrack.specs.Finding.{IsTryFindAnswer, IsSureAt, SearchesOnce}
-use Rattle.nfa_backtrack.proofs.FindLemmas.{finds-sure, sure-finds}
+use Rattle.nfa_backtrack.specs.Finding.{IsTryFindAnswer, IsSureAt, SearchesOnce, backtracker_scans}
+use Rattle.nfa_backtrack.proofs.FindLemmas.{found-sure, known-last, sure-finds}
 use Rattle.nfa_backtrack.proofs.find_iter.FinderFindWith.answer.Goals as goal
 
 pub returns-then-is_some : goal.returns-then-is_some
@@ -22,7 +21,7 @@ returns-then-is_some c =
           (λ m is. let k = c.ending_at-known.ensures.kept m is in (k.0, k.1 ∙ c.start.ensures)) (search rules);
       engine = refl;
       knows = c.requires.knows;
-      work = known-is (λ y a. SearchesOnce e y a) x c.ending_at-known.result _
+      work = known-is (λ y a. SearchesOnce e y a) backtracker_scans x c.ending_at-known.result _
           (rw (← c.start.ensures) c.ending_at-known.ensures.exactly) (search rules);
     }
 
@@ -30,17 +29,21 @@ pub returns : goal.returns
 returns c =
     let e = c.args.self.now.engine.now in
     let x = search_of c.args.input.now in
+    let reply = c.find_at-reply.result in
+    let found = c.find_at-reply.ensures in
+    let last = last_start x c.find_at-reply.new.cache.scans in
     record {
-      finds = c.find_at-reply.ensures.finds;
+      finds = found.finds;
       engine = refl;
-      knows = known-kept IsSureAt e x c.ending_at-self.result (λ m is.
-          let k = c.ending_at-self.ensures.kept m is in (
-            finds-sure e x (found_of m) (subst (λ (r : Result (Option Match) SearchError). IsTryFindAnswer e x
-                (answer_by found_of r)) (c.found_in.ensures.found m k.0) c.find_at-reply.ensures.finds),
-            k.1 ∙ c.start-2.ensures,
-          ));
-      work = search-made (λ y a. SearchesOnce e y a) x c.ending_at-known.result _ _ _
-          (rw (← c.start.ensures) c.ending_at-known.ensures.exactly) (search rules) c.find_at-reply.ensures.once
-          (rw (← c.start-2.ensures) c.ending_at-self.ensures.exactly
-          ∙ ap (λ o. if_ends_at x.start o) c.found_in.ensures.exactly);
+      knows = known-kept IsSureAt e x last c.ending_at-self.result (λ m is.
+          let k = c.ending_at-self.ensures.kept m is in
+          let some = c.found_in.ensures.found m k.0 in
+          let same = subst (λ (r : Result (Option Match) SearchError). IfOk r
+          (λ o. IfSome o (λ n. c.find_at-reply.new.start ≡ last))) some found.last in
+          (found-sure e x reply _ _ m some found.finds found.once, k.1 ∙ same));
+      work = search-made (λ y a. SearchesOnce e y a) backtracker_scans x c.ending_at-known.result _ _ _
+          (rw (← c.start.ensures) c.ending_at-known.ensures.exactly) (search rules) found.once
+          (c.ending_at-self.ensures.exactly
+          ∙ ap (λ o. if_ends_at c.find_at-reply.new.start o) c.found_in.ensures.exactly
+          ∙ known-last reply c.find_at-reply.new.start last found.last);
     }

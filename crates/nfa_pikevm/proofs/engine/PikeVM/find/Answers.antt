@@ -6,4 +6,4 @@ use Rattle.nfa_pikevm.proofs.engine.PikeVM.find.Goals as goal
 
 pub returns-clause-inside : goal.returns-clause-inside
 returns-clause-inside c = inside-of c.args.self.now.nfa (kind_of c.args.self.now) _ (search_of c.args.input)
-    c.find_with.result c.find_with.ensures.answer
+    c.find_with_start.result c.find_with_start.ensures.answer

@@ -1,12 +1,14 @@
 -- A known match is the answer. Otherwise it is the search's, which gives the match that is known then.
-use Rattle.std.proofs.Common.{rules, ◌≡◌, ◌∙◌, refl, ap, subst, Option, Ok, option_map}
+use Rattle.std.proofs.Common.{rules, ◌≡◌, ◌∙◌, ◌-◌, refl, ap, subst, Option, Ok, option_map}
 use Rattle.regex_search_core.specs.Found.{found_of}
-use Rattle.regex_search_core.specs.Search.{search_of}
+use Rattle.regex_search_core.specs.Search.{Search, search_of}
 use Rattle.regex_search_core.specs.declared.search.Match.{Match}
-use Rattle.nfa_search_base.specs.EngineSearches.{if_ends_at}
+use Rattle.nfa_paths.specs.Paths.{IsFindAnswer, raised}
+use Rattle.nfa_search_base.specs.EngineSearches.{if_ends_at, last_start}
 use Rattle.nfa_search_base.proofs.EngineLemmas.{find-answered, found-by, known-answer, known-is, known-kept, search-made}
+use Rattle.nfa_search_base.proofs.LastStartLemmas.{match-from-scan}
 use Rattle.nfa_pikevm.specs.Engines.{kind_of}
-use Rattle.nfa_pikevm.specs.Finding.{IsSureOf, PikeSearches, PikeAnswersMatch, answer_of}
+use Rattle.nfa_pikevm.specs.Finding.{IsSureOf, PikeSearches, PikeAnswersMatch, pike_scans}
 use Rattle.nfa_pikevm.proofs.FindLemmas.{finds-sure, sure-finds}
 use Rattle.nfa_pikevm.proofs.find_iter.FinderFindWith.answer.Goals as goal
 
@@ -20,7 +22,7 @@ returns-then-is_some c =
           (λ m is. let k = c.ending_at-known.ensures.kept m is in (k.0, k.1 ∙ c.start.ensures)) (search rules);
       engine = refl;
       knows = c.requires.knows;
-      work = known-is (λ y a. PikeSearches vm y) x c.ending_at-known.result _
+      work = known-is (λ y a. PikeSearches vm y) pike_scans x c.ending_at-known.result _
           (rw (← c.start.ensures) c.ending_at-known.ensures.exactly) (search rules);
     }
 
@@ -28,19 +30,23 @@ pub returns : goal.returns
 returns c =
     let vm = c.args.self.now.engine.now in
     let x = search_of c.args.input.now in
-    let e = c.find-found.ensures in
-    let finds = find-answered vm.nfa (kind_of vm) x.earliest x c.find-found.result e.answer in
+    let e = c.find_with_start-found.ensures in
+    let cache = c.find_with_start-found.new.cache in
+    let start : c.start-2.result ≡ last_start x cache.scans = c.start-2.ensures ∙ ap (λ (z : Search). z.start) e.last in
+    let last = match-from-scan vm.nfa (kind_of vm) x.earliest x _ _ _ e.answer e.searches.work in
     record {
-      finds = finds;
+      finds = find-answered vm.nfa (kind_of vm) x.earliest x c.find_with_start-found.result e.answer;
       engine = refl;
-      knows = known-kept IsSureOf vm x c.ending_at-self.result (λ m is.
+      knows = known-kept IsSureOf vm x (last_start x cache.scans) c.ending_at-self.result (λ m is.
           let k = c.ending_at-self.ensures.kept m is in (
-            finds-sure vm x (found_of m) (subst (λ (o : Option Match). PikeAnswersMatch vm x (answer_of o)) k.0 finds),
-            k.1 ∙ c.start-2.ensures,
+            finds-sure vm (raised x (cache.scans - 1)) (found_of m)
+                (subst (λ (o : Option Match). IsFindAnswer vm.nfa (kind_of vm) x.earliest
+                (raised x (cache.scans - 1)) (option_map found_of o)) k.0 last),
+            k.1 ∙ start,
           ));
-      work = search-made (λ y a. PikeSearches vm y) x c.ending_at-known.result _ _ _
-          (rw (← c.start.ensures) c.ending_at-known.ensures.exactly) (search rules)
-          (record { total = e.total; work = e.work; scans = e.scans; turns = e.turns; capacities = e.capacities })
-          (rw (← c.start-2.ensures) c.ending_at-self.ensures.exactly
-          ∙ ap (λ o. if_ends_at x.start o) (found-by (Ok c.find-found.result) c.find-found.result refl tt));
+      work = search-made (λ y a. PikeSearches vm y) pike_scans x c.ending_at-known.result _ _ _
+          (rw (← c.start.ensures) c.ending_at-known.ensures.exactly) (search rules) e.searches
+          (rw (← start) c.ending_at-self.ensures.exactly
+          ∙ ap (λ o. if_ends_at (last_start x cache.scans) o)
+          (found-by (Ok c.find_with_start-found.result) c.find_with_start-found.result refl tt));
     }
