@@ -56,8 +56,10 @@ pub found-sure : (e : Backtracker) (t : Search) (r : Result (Option Match) Searc
     → SearchesOnce e t (answer_by found_of r) old new
     → IsSureAt e (raised t (new.scans - 1)) (found_of m)
 found-sure e t r old new m is finds once =
-    let found = subst (λ (q : Result (Option Match) SearchError). IsTryFindAnswer e t (answer_by found_of q)) is finds in
-    let work = subst (λ (q : Result (Option Match) SearchError). DoesWork e t (answer_by found_of q) new) is once.exact in
+    let found = subst (λ (q : Result (Option Match) SearchError). IsTryFindAnswer e t (answer_by found_of q)) is
+    finds in
+    let work = subst (λ (q : Result (Option Match) SearchError). DoesWork e t (answer_by found_of q) new) is
+    once.exact in
     let last = raised t (new.scans - 1) in (
       still-fits e t last refl (omega arith) found.0,
       match-sure e.nfa LeftmostFirst false last (found_of m)
@@ -109,8 +111,8 @@ pub step-goes : (s : TryFindMatches) (r : Option (Result Match SearchError))
     → MayFindByBacktracker t.backend (steps_iter_state t).at
 step-goes s r t st =
     finder-goes IsSureAt backtracker_knowing fits_always IsTryFindAnswer (λ e x a. SearchesOnce e x a)
-    backtracker_scans (λ e x a old new work fits. tt) (λ _. GivesItem found_of) (steps_with_state (backtrack_matches s)) r t st
-    (record { fits = tt; knows = s.knows })
+    backtracker_scans (λ e x a old new work fits. tt) (λ _. GivesItem found_of)
+    (steps_with_state (backtrack_matches s)) r t st (record { fits = tt; knows = s.knows })
 
 -- the backtracker gives the answers of its searches, and does not change
 pub back-acts : (e : Backtracker) (x : Search) (s : WithCache Finder BacktrackCache) (t : Search) (a : Answer Found)
@@ -173,10 +175,12 @@ module _ (e : Backtracker) (x : Search) (s : TryFindMatches) (engine : s.steps.b
           (λ p i q h. h.takes) s xs t r u ran st).cache;
     };
     on = λ xs t r u ran st. finds-leave IsSureAt backtracker_knowing IsTryFindAnswer (λ b y a. SearchesOnce b y a)
-        backtracker_scans e backtrack_matches_next backtrack_matches (λ i. i) step-is x s engine known walk going xs t r u ran st;
+        backtracker_scans e backtrack_matches_next backtrack_matches (λ i. i) step-is x s engine known walk going
+        xs t r u ran st;
     early = λ xs t r u ran st long.
         let first = first-leaves IsSureAt backtracker_knowing IsTryFindAnswer (λ b y a. SearchesOnce b y a)
-        backtracker_scans e backtrack_matches_next backtrack_matches (λ i. i) step-is x s engine known walk going xs t r u ran st in
+        backtracker_scans e backtrack_matches_next backtrack_matches (λ i. i) step-is x s engine known walk going
+        xs t r u ran st in
         steps-early e x long s.cache.now first.0 first.1 _ first.2;
     to_end = λ xs t u ms ran st is. finds-to_end IsSureAt backtracker_knowing IsTryFindAnswer
         (λ b y a. SearchesOnce b y a) backtracker_scans e

@@ -154,7 +154,8 @@ impl BoundedBacktracker {
         Ok(found)
     }
 
-    // Returns the match of one search, and states its work. If there is one, `start` becomes the start of the last scan.
+    // Returns the match of one search, and states its work. If there is one, `start` becomes the start of the last
+    // scan.
     #[inline]
     fn find_at(
         &self,

@@ -301,9 +301,9 @@ impl PikeVM {
         Some(half?.pattern())
     }
 
-    /// Returns the match that a search answers, from the row of the cache that it fills. The input then starts where the
-    /// last scan started. It is a function of its own so that an iteration that knows an answer saves no registers for a
-    /// search.
+    /// Returns the match that a search answers, from the row of the cache that it fills. The input then starts where
+    /// the last scan started. It is a function of its own so that an iteration that knows an answer saves no registers
+    /// for a search.
     #[inline(never)]
     fn find_with(
         &self,

@@ -9,8 +9,8 @@ returns-clause-once c =
     record {
       total = e.total;
       counts = counts-by c.find_with_start.result _ _ e.answered e.refused;
-      exact = work-by c.args.self.now (search_of c.args.input.now) c.find_with_start.result c.find_with_start.new.cache e.work
-          e.within;
+      exact = work-by c.args.self.now (search_of c.args.input.now) c.find_with_start.result
+          c.find_with_start.new.cache e.work e.within;
       scans = e.scans;
       turns = e.turns;
       blocks = e.blocks;
