@@ -18,7 +18,8 @@ use Rattle.nfa_pikevm_scan.proofs.TaskLemmas.{tasks-alone}
 
 -- the first start, after those that are passed over
 pub AddsStart-first : (table : List Bool) (x : Search) (begins : Starts) (width to : ℕ)
-    → begins.stop ≤ x.end → begins.stop < begins.limit → x.start < begins.limit → x.start ≤ to → (x.start ≤ begins.stop → to ≤ begins.stop) → (begins.stop ≤ x.start → to ≡ x.start)
+    → begins.stop ≤ x.end → begins.stop < begins.limit → x.start < begins.limit → x.start ≤ to
+    → (x.start ≤ begins.stop → to ≤ begins.stop) → (begins.stop ≤ x.start → to ≡ x.start)
     → ((k : ℕ) → x.start ≤ k → k < to → IsRefused table x k) → (to < begins.stop → IsRefused table x to → ⊥)
     → AddsStart table x begins begins.limit width x.start [] to ((begins.state, blank width) ∷ [])
 AddsStart-first table x begins width to inside before some low near stays passed least = record {

@@ -19,7 +19,7 @@ use Rattle.nfa_pikevm_scan.specs.declared.frame.FollowEpsilon.{FollowEpsilon}
 use Rattle.nfa_pikevm_scan.proofs.EpsilonClosureLemmas.{Follows-then, Follows-load}
 use Rattle.nfa_pikevm_scan.proofs.ClosureLemmas.{moves-append, Paid-dropped}
 use Rattle.nfa_pikevm_scan.proofs.EdgeLemmas.{moves-one}
-use Rattle.nfa_pikevm_scan.proofs.NextsLemmas.{NextsLeadTo-begin, NextsLeadTo-next, NextsLeadTo-ended, NextsLeadTo-over}
+use Rattle.nfa_pikevm_scan.proofs.NextsLemmas.{NextsLeadTo, NextsLeadTo-begin, NextsLeadTo-next, NextsLeadTo-ended, NextsLeadTo-over}
 
 -- whether there is a match
 pub none-is : (hit : Option PatternID) (none : Bool) → is_some hit ≡ not none → none ≡ false → hit ≡ None → ⊥
@@ -48,15 +48,15 @@ pub ClosuresGive-one : {V : Type 0} (nfa : Automaton) (x : Search) (takes : V �
     → ClosureGives nfa x takes at k met kept row old ended then more new
     → ClosuresGive nfa x takes at met items old then more new
 ClosuresGive-one nfa x takes at met items old kept k row ended then more new empty clear one a =
-    let c = NextsLeadTo-begin nfa x takes at met items old kept empty clear in
     of ended refl
   where
+    begun : NextsLeadTo nfa x takes at met items old items met kept old
+    begun = NextsLeadTo-begin nfa x takes at met items old kept empty clear
     of : (b : Bool) → ended ≡ b → ClosuresGive nfa x takes at met items old then more new
-    of true is = NextsLeadTo-ended nfa x takes at met items old items [] met kept old k row one
-        (NextsLeadTo-begin nfa x takes at met items old kept empty clear) ended then more new a is
+    of true is = NextsLeadTo-ended nfa x takes at met items old items [] met kept old k row one begun ended then more
+        new a is
     of false is = NextsLeadTo-over nfa x takes at met items old [] then more new refl
-        (NextsLeadTo-next nfa x takes at met items old items [] met kept old k row one
-        (NextsLeadTo-begin nfa x takes at met items old kept empty clear) ended then more new a is)
+        (NextsLeadTo-next nfa x takes at met items old items [] met kept old k row one begun ended then more new a is)
 
 -- a front that ends with its only match, or has none
 module _ (test : Pair → Bool) where

@@ -98,7 +98,6 @@ fn add_start_or_skip(
     ensures scans { threads.new.scans ≡ threads.old.scans }
     ensures none { result ≡ None → limit ≤ at }
     ensures over { result ≡ None → threads.old.curr.items ≡ [] }
-    ensures same { result ≡ None → threads.new.curr.items ≡ threads.old.curr.items }
     ensures some { IfSome result (λ to. 0 < length threads.new.curr.items) }
     ensures joins { IfSome result (λ to. AddsStart first.now.may_begin (search_of input.now) starts.now limit
         threads.old.curr.width at threads.old.curr.items to threads.new.curr.items) }
@@ -135,7 +134,8 @@ struct Progress {
     found: Option<HalfMatch>,
 }
 
-/// Follows the states of the next positions, as long as there is one state. Requires that no start is left.
+/// Follows the states of the next positions, as long as there is one state. Requires that no start is left. Only the
+/// contract reads the starts.
 #[inline(always)]
 fn run_lone(
     nfa: &NFA,
