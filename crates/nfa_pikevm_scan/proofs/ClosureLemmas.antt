@@ -68,7 +68,7 @@ Paid-then a b = record {
 }
 
 -- what is left on the stack at a match is dropped
-Paid-dropped : {nfa : Automaton} {m n : Marks} {i j : ℕ} {stack above : List FollowEpsilon} {hand left : ℕ}
+pub Paid-dropped : {nfa : Automaton} {m n : Marks} {i j : ℕ} {stack above : List FollowEpsilon} {hand left : ℕ}
     → Paid nfa m i stack hand n j above left → Paid nfa m i stack hand n j [] 0
 Paid-dropped p = record { tried = omega (arith, p.tried); framed = omega (arith, p.framed); entered = p.entered }
 

@@ -8,6 +8,7 @@ pub mod SinkLemmas
 pub mod ClosureLemmas
 pub mod NextsLemmas
 pub mod SlotsSinkLemmas
+pub mod OneLemmas
 pub mod TaskLemmas
 pub mod FrontierLemmas
 pub mod ScanLemmas
@@ -15,6 +16,7 @@ pub mod AllLemmas
 pub mod EndLemmas
 pub mod StandsLemmas
 pub mod RoomLemmas
+pub mod LoneLemmas
 pub mod SizeLemmas
 pub mod OverlapFirstLemmas
 pub mod OverlapLoopLemmas

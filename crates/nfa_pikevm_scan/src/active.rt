@@ -124,6 +124,14 @@ impl ActiveStates {
         self.parts.len == 0
     }
 
+    /// Returns whether one state is kept.
+    #[inline(always)]
+    pub fn is_lone(&self) -> bool
+        ensures { IsTrue result ↔ (length self.now.items ≡ 1) }
+    {
+        self.parts.len == 1
+    }
+
     /// Adds a state with its row.
     #[inline(always)]
     pub fn push(&mut self, sid: StateID, row: &[Slot])

@@ -1,17 +1,17 @@
 //! All states side by side, from one position to the next.
-ghost use Rattle.std.specs.Prelude.{◌≡◌, ◌*◌, ◌<◌, ◌≤◌, [], false, length, replicate, All};
+ghost use Rattle.std.specs.Prelude.{◌≡◌, ◌*◌, ◌<◌, ◌≤◌, [], ◌∷◌, false, length, replicate, All};
 ghost use Rattle.regex_search_core.specs.Search.{search_of};
 ghost use Rattle.nfa_pikevm_scan.specs.Needs.{stack_frames};
 ghost use Rattle.nfa_pikevm_scan.specs.Rows.{items_of};
 ghost use Rattle.nfa_pikevm_scan.specs.States.{HasRoom, IsClosureContext, KeepsRoom, NextsGive};
 ghost use Rattle.nfa_pikevm_scan.specs.Sinks.{ClosuresGive};
-ghost use Rattle.nfa_pikevm_scan.specs.Scans.{HaveRows, SameSizes};
+ghost use Rattle.nfa_pikevm_scan.specs.Scans.{blank, HaveRows, SameSizes};
 
 use crate::active::Parts;
-use crate::closure::{ClosureContext, ClosureOutput, epsilon_closure};
+use crate::closure::{ClosureContext, ClosureOutput, epsilon_closure, next_match};
 use crate::frame::FollowEpsilon;
 use crate::sink::{MatchSink, SlotsSink};
-use crate::slot::Slot;
+use crate::slot::{Slot, unset_row};
 use crate::threads::Threads;
 use nfa_scan_core::transitions::byte_at;
 use regex_search_core::{Input, PatternID, StateID};
@@ -177,4 +177,168 @@ pub fn nexts(
     nexts_with(nfa, input, at, threads, &mut last);
     swap_state_sets(threads);
     last.hit
+}
+
+/// [`nexts_of_states`] for one state, without a loop.
+#[inline(always)]
+fn nexts_of_one<T: MatchSink>(
+    here: &ClosureContext<'_, '_>,
+    kept: &[StateID],
+    rows: &mut [Slot],
+    frames: &mut [FollowEpsilon],
+    reached: &mut ClosureOutput,
+    sink: &mut T,
+)
+    requires here { IsClosureContext here.now }
+    requires one { length kept.now ≡ 1 }
+    requires states { All (λ s. s < length here.now.nfa.now.states) kept.now }
+    requires room { HasRoom here.now.nfa.now reached.old.seen.bits 0 (stack_frames here.now.nfa.now) 0
+        reached.old.next.capacity }
+    requires stack { stack_frames here.now.nfa.now ≤ length frames.old }
+    requires clear { reached.old.seen.bits ≡ replicate (length reached.old.seen.bits) false }
+    requires empty { reached.old.next.items ≡ [] }
+    requires width { T.row_width sink.old ≡ reached.old.next.width }
+    requires rows { T.row_width sink.old ≤ length rows.old }
+    ensures keeps { KeepsRoom reached.old reached.new }
+    ensures grows { reached.old.seen.turns ≤ reached.new.seen.turns }
+    ensures same_reference { T.reference sink.new ≡ T.reference sink.old }
+    ensures arrive { ClosuresGive here.now.nfa.now (search_of here.now.input.now) T.takes here.now.at reached.old.seen
+        (items_of (T.row_width sink.old) kept.now rows.old) sink.old reached.new.seen reached.new.next.items
+        sink.new }
+{
+    let width = sink.width();
+    let row = &mut rows[0..width];
+    let _ = epsilon_closure(here, kept[0], frames, reached, row, sink);
+}
+
+/// [`nexts_with`] for one state, without a loop.
+#[inline(always)]
+fn nexts_of_one_with<T: MatchSink>(
+    nfa: &NFA,
+    input: &Input<'_>,
+    at: usize,
+    threads: &mut Threads,
+    sink: &mut T,
+)
+    requires place { at ≤ (search_of input.now).end }
+    requires states { All (λ i. i.0 < length nfa.now.states) threads.old.curr.items }
+    requires room { HaveRows nfa.now (T.row_width sink.old) threads.old }
+    requires one { length threads.old.curr.items ≡ 1 }
+    requires empty { threads.old.reached.next.items ≡ [] }
+    ensures width { threads.new.curr.width ≡ threads.old.curr.width }
+    ensures sizes { SameSizes threads.old threads.new }
+    ensures grows { threads.old.reached.seen.turns ≤ threads.new.reached.seen.turns }
+    ensures scans { threads.new.scans ≡ threads.old.scans }
+    ensures same_reference { T.reference sink.new ≡ T.reference sink.old }
+    ensures arrive { ClosuresGive nfa.now (search_of input.now) T.takes at threads.old.reached.seen
+        threads.old.curr.items sink.old threads.new.reached.seen threads.new.reached.next.items sink.new }
+{
+    let Threads {
+        frames,
+        curr,
+        reached,
+        ..
+    } = threads;
+    reached.seen.clear();
+    let Parts {
+        kept,
+        rows,
+        len,
+        ..
+    } = &mut *curr.parts;
+    let kept = &kept.as_slice()[..*len];
+    let here = ClosureContext {
+        nfa,
+        input,
+        at,
+        byte: byte_at(input, at),
+    };
+    nexts_of_one(
+        &here,
+        kept,
+        rows.as_mut_slice(),
+        frames.as_mut_slice(),
+        reached,
+        sink,
+    );
+}
+
+/// [`nexts`] for one state and without `past_match`. It has no loop over states, so it keeps more values in registers.
+#[inline(always)]
+pub fn nexts_of_lone(
+    nfa: &NFA,
+    input: &Input<'_>,
+    at: usize,
+    threads: &mut Threads,
+    slots: &mut [Slot],
+) -> Option<PatternID>
+    requires place { at ≤ (search_of input.now).end }
+    requires states { All (λ i. i.0 < length nfa.now.states) threads.old.curr.items }
+    requires room { HaveRows nfa.now (length slots.old) threads.old }
+    requires one { length threads.old.curr.items ≡ 1 }
+    requires empty { threads.old.reached.next.items ≡ [] }
+    ensures next { threads.new.reached.next.items ≡ [] }
+    ensures width { threads.new.curr.width ≡ threads.old.curr.width }
+    ensures sizes { SameSizes threads.old threads.new }
+    ensures grows { threads.old.reached.seen.turns ≤ threads.new.reached.seen.turns }
+    ensures scans { threads.new.scans ≡ threads.old.scans }
+    ensures crosses { NextsGive nfa.now (search_of input.now) at false threads.old.reached.seen
+        threads.old.curr.items slots.old result threads.new.reached.seen threads.new.curr.items slots.new }
+{
+    let mut last = SlotsSink {
+        slots,
+        hit: None,
+        past_match: false,
+    };
+    nexts_of_one_with(nfa, input, at, threads, &mut last);
+    swap_state_sets(threads);
+    last.hit
+}
+
+/// Follows the start state at a position where no other state is kept, and goes on to those that its byte leads to. It
+/// writes to the slots as to the state's row, so it copies no row. Returns the first match, and leaves its slots. If
+/// there is none, it unsets them.
+#[inline(always)]
+pub fn nexts_of_start(
+    nfa: &NFA,
+    input: &Input<'_>,
+    at: usize,
+    state: StateID,
+    threads: &mut Threads,
+    slots: &mut [Slot],
+) -> Option<PatternID>
+    requires place { at ≤ (search_of input.now).end }
+    requires state { state < length nfa.now.states }
+    requires room { HaveRows nfa.now (length slots.old) threads.old }
+    requires unset { slots.old ≡ blank (length slots.old) }
+    requires empty { threads.old.reached.next.items ≡ [] }
+    ensures next { threads.new.reached.next.items ≡ [] }
+    ensures width { threads.new.curr.width ≡ threads.old.curr.width }
+    ensures sizes { SameSizes threads.old threads.new }
+    ensures grows { threads.old.reached.seen.turns ≤ threads.new.reached.seen.turns }
+    ensures scans { threads.new.scans ≡ threads.old.scans }
+    ensures crosses { NextsGive nfa.now (search_of input.now) at false threads.old.reached.seen
+        ((state, blank (length slots.old)) ∷ []) slots.old result threads.new.reached.seen threads.new.curr.items
+        slots.new }
+{
+    let Threads {
+        frames,
+        reached,
+        ..
+    } = threads;
+    reached.seen.clear();
+    let here = ClosureContext {
+        nfa,
+        input,
+        at,
+        byte: byte_at(input, at),
+    };
+    let mut top = 0;
+    let frames = frames.as_mut_slice();
+    let hit = next_match(&here, state, frames, &mut top, reached, slots);
+    if hit.is_none() {
+        unset_row(slots);
+    }
+    swap_state_sets(threads);
+    hit
 }

@@ -1,15 +1,16 @@
 //! One scan of the span, for each match kind.
-ghost use Rattle.std.specs.Prelude.{◌≡◌, ℕ, ◌+◌, ◌<◌, ◌≤◌, true, false, length, cond, option_map};
+ghost use Rattle.std.specs.Prelude.{◌≡◌, ℕ, ◌+◌, ◌<◌, ◌≤◌, [], None, true, false, length, cond, option_map};
+ghost use Rattle.std.specs.Prelude.{IfSome};
 ghost use Rattle.regex_search_core.specs.Search.{search_of};
 ghost use Rattle.regex_search_core.specs.Found.{half_found_of};
 ghost use Rattle.regex_search_core.specs.Patterns.{number_of};
 ghost use Rattle.regex_search_core.specs.declared.search.MatchKind.TheVariants.{All, LeftmostFirst};
 ghost use Rattle.nfa_paths.specs.Restarts.{ScanGives};
 ghost use Rattle.nfa_scan_core.specs.FirstBytes.{IsFirstBytes, IsRefused};
-ghost use Rattle.nfa_pikevm_scan.specs.Scans.{blank, HaveRoom, SameSizes, MayScan, AddsStart, with_start};
-ghost use Rattle.nfa_pikevm_scan.specs.Scans.{half_found, IsWithinTurns};
+ghost use Rattle.nfa_pikevm_scan.specs.Scans.{blank, HaveRoom, HaveRows, SameSizes, MayScan, AddsStart, with_start};
+ghost use Rattle.nfa_pikevm_scan.specs.Scans.{half_found, AreAt, AreStarts, IsPaidAt, IsWithinTurns, SearchesFirst};
 
-use crate::nexts::{nexts, set_up};
+use crate::nexts::{nexts, nexts_of_lone, nexts_of_start, set_up};
 use crate::slot::{Slot, unset_row};
 use crate::threads::Threads;
 use nfa_scan_core::first_bytes::FirstBytes;
@@ -75,7 +76,9 @@ fn pass_over(first: &FirstBytes, input: &Input<'_>, from: usize, stop: usize) ->
 }
 
 /// Adds the start state to the states at the position or, if there is none, at the next position where a match may
-/// begin. If no match may begin here, or at the limit, it adds nothing. Returns the position.
+/// begin. If there are others and no match may begin here, or at the limit, it adds nothing. Returns the position, or
+/// `None` if no state is there.
+#[inline(always)]
 fn add_start_or_skip(
     first: &FirstBytes,
     input: &Input<'_>,
@@ -83,9 +86,9 @@ fn add_start_or_skip(
     limit: usize,
     at: usize,
     threads: &mut Threads,
-) -> usize
+) -> Option<usize>
     requires room { length threads.old.curr.items < threads.old.curr.capacity }
-    requires place { at ≤ (search_of input.now).end }
+    requires place { at < limit → at ≤ (search_of input.now).end }
     requires stop { starts.now.stop ≤ (search_of input.now).end }
     requires order { at < limit → starts.now.stop < limit }
     ensures next { threads.new.reached.next.items ≡ threads.old.reached.next.items }
@@ -93,21 +96,27 @@ fn add_start_or_skip(
     ensures sizes { SameSizes threads.old threads.new }
     ensures seen { threads.new.reached.seen ≡ threads.old.reached.seen }
     ensures scans { threads.new.scans ≡ threads.old.scans }
-    ensures joins { AddsStart first.now.may_begin (search_of input.now) starts.now limit threads.old.curr.width at
-        threads.old.curr.items result threads.new.curr.items }
+    ensures none { result ≡ None → limit ≤ at }
+    ensures over { result ≡ None → threads.old.curr.items ≡ [] }
+    ensures some { IfSome result (λ to. 0 < length threads.new.curr.items) }
+    ensures joins { IfSome result (λ to. AddsStart first.now.may_begin (search_of input.now) starts.now limit
+        threads.old.curr.width at threads.old.curr.items to threads.new.curr.items) }
 {
     if at >= limit {
-        return at;
+        if threads.curr.is_empty() {
+            return None;
+        }
+        return Some(at);
     }
     if threads.curr.is_empty() {
         let next = pass_over(first, input, at, starts.stop);
         threads.curr.push_blank(starts.state);
-        return next;
+        return Some(next);
     }
     if at >= starts.stop || !first.refuses(input.haystack()[at]) {
         threads.curr.push_blank(starts.state);
     }
-    at
+    Some(at)
 }
 
 /// Returns the match at the position, if there is one.
@@ -118,7 +127,62 @@ fn half_at(hit: Option<PatternID>, at: usize) -> Option<HalfMatch>
     Some(HalfMatch::new(hit?, at))
 }
 
-/// Finds the first accepting path: at each position, the states after a match are dropped.
+/// A position of a scan whose states were followed, and the match that was found so far.
+#[derive(Clone, Copy)]
+struct Progress {
+    at: usize,
+    found: Option<HalfMatch>,
+}
+
+/// Follows the states of the next positions, as long as there is one state. Requires that no start is left. Only the
+/// contract reads the starts.
+#[inline(always)]
+fn run_lone(
+    nfa: &NFA,
+    input: &Input<'_>,
+    starts: &Starts,
+    last: Progress,
+    threads: &mut Threads,
+    slots: &mut [Slot],
+) -> Progress
+    requires starts { AreStarts nfa.now (search_of input.now) starts.now }
+    requires room { HaveRows nfa.now (length slots.old) threads.old }
+    requires next { threads.old.reached.next.items ≡ [] }
+    requires items { AreAt nfa.now threads.old.curr.items }
+    requires low { (search_of input.now).start ≤ last.at }
+    requires high { last.at ≤ (search_of input.now).end }
+    requires over { (search_of input.now).end ≤ last.at → threads.old.curr.items ≡ [] }
+    requires searches { SearchesFirst nfa.now (search_of input.now) (last.at + 1) (length slots.old) starts.now.state 0
+        last.found slots.old threads.old.reached.seen threads.old.curr.items }
+    ensures sizes { SameSizes threads.old threads.new }
+    ensures scans { threads.new.scans ≡ threads.old.scans }
+    ensures width { threads.new.curr.width ≡ threads.old.curr.width }
+    ensures next { threads.new.reached.next.items ≡ [] }
+    ensures items { AreAt nfa.now threads.new.curr.items }
+    ensures low { last.at ≤ result.at }
+    ensures high { result.at ≤ (search_of input.now).end }
+    ensures over { (search_of input.now).end ≤ result.at → threads.new.curr.items ≡ [] }
+    ensures paid { (before : ℕ) → IsPaidAt nfa.now (search_of input.now) (last.at + 1) before
+        threads.old.reached.seen.turns (length threads.old.curr.items)
+        → IsPaidAt nfa.now (search_of input.now) (result.at + 1) before
+        threads.new.reached.seen.turns (length threads.new.curr.items) }
+    ensures searches { SearchesFirst nfa.now (search_of input.now) (result.at + 1) (length slots.old) starts.now.state
+        0 result.found slots.new threads.new.reached.seen threads.new.curr.items }
+{
+    let mut at = last.at;
+    let mut found = last.found;
+    while threads.curr.is_lone() {
+        at += 1;
+        let hit = half_at(nexts_of_lone(nfa, input, at, threads, slots), at);
+        if hit.is_some() {
+            found = hit;
+        }
+    }
+    Progress { at, found }
+}
+
+/// Finds the first accepting path: at each position, the states after a match are dropped. The first start, and a lone
+/// state after a match, are followed without a loop over states.
 fn scan_first(
     nfa: &NFA,
     first: &FirstBytes,
@@ -129,6 +193,7 @@ fn scan_first(
 ) -> Option<HalfMatch>
     requires first { IsFirstBytes nfa.now first.now.may_begin }
     requires ready { MayScan nfa.now (search_of input.now) starts.now (length slots.old) threads.old }
+    requires some { (search_of input.now).start < starts.now.limit }
     requires unset { slots.old ≡ blank (length slots.old) }
     ensures sizes { SameSizes threads.old threads.new }
     ensures scans { threads.new.scans ≡ threads.old.scans }
@@ -137,22 +202,40 @@ fn scan_first(
         threads.new.reached.seen.turns }
 {
     let mut limit = starts.limit;
-    let mut found = None;
-    let mut at = input.start();
-    while at <= input.end() {
-        at = add_start_or_skip(first, input, starts, limit, at, threads);
+    let mut at = pass_over(first, input, input.start(), starts.stop);
+    let mut found = half_at(
+        nexts_of_start(nfa, input, at, starts.state, threads, slots),
+        at,
+    );
+    if found.is_some() {
         if threads.curr.is_empty() {
             return found;
         }
+        limit = 0;
+    }
+    at += 1;
+    loop {
+        let Some(to) = add_start_or_skip(first, input, starts, limit, at, threads) else {
+            return found;
+        };
+        at = to;
         let hit = half_at(nexts(nfa, input, at, false, threads, slots), at);
         if hit.is_some() {
             // A later start comes after this match.
-            found = hit;
             limit = 0;
+            let last = run_lone(
+                nfa,
+                input,
+                starts,
+                Progress { at, found: hit },
+                threads,
+                slots,
+            );
+            at = last.at;
+            found = last.found;
         }
         at += 1;
     }
-    found
 }
 
 /// Finds the paths with the greatest end, and returns the last of them.

@@ -8,9 +8,9 @@ use Rattle.nfa_pikevm_scan.specs.Scans.{blank}
 use Rattle.nfa_pikevm_scan.proofs.RoomLemmas.{skip-within, skip-early, skip-less, some-push, some_of}
 use Rattle.nfa_pikevm_scan.proofs.scan.add_start_or_skip.Goals as goal
 
-pub returns-then-is_empty-clause-joins : goal.returns-then-is_empty-clause-joins
-returns-then-is_empty-clause-joins c =
-    let none : length c.args.threads.now.curr.items ≡ 0 = c.is_empty.ensures.0 c.if-is_empty.true in
+pub returns-then-is_empty-2-clause-joins : goal.returns-then-is_empty-2-clause-joins
+returns-then-is_empty-2-clause-joins c =
+    let none : length c.args.threads.now.curr.items ≡ 0 = c.is_empty-2.ensures.0 c.if-is_empty-2.true in
     let next = c.pass_over-next.ensures in
     let order : c.args.starts.now.stop < c.args.limit = c.requires.order c.if-at-limit.false in
     let same = ap (λ (a : Active). a.items) c.push_blank.ensures in
@@ -49,7 +49,7 @@ returns-else-not-refuses-clause-joins c =
       stays = λ some. refl;
       passed = λ k h l. absurd (omega arith);
       some = λ less. some_of c.args.threads.now.curr.items
-          (λ none. absurd (cc (c.if-is_empty.false, c.is_empty.ensures.1 none)));
+          (λ none. absurd (cc (c.if-is_empty-2.false, c.is_empty-2.ensures.1 none)));
       passes = λ p. refl;
       last = inr (refl, inr (c.if-at-starts.false, here));
     }

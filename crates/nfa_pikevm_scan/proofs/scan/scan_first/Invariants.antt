@@ -4,8 +4,8 @@ use Rattle.regex_search_core.specs.Search.{search_of}
 use Rattle.nfa_pikevm_scan.specs.Scans.{SameSizes, AreAt, IsPaidAt, SearchesFirst}
 use Rattle.nfa_pikevm_scan.proofs.scan.scan_first.Given as goal
 
-abbrev pub invariant-loop-at : goal.invariant-loop-at
-invariant-loop-at l = record {
+abbrev pub invariant-loop-to : goal.invariant-loop-to
+invariant-loop-to l = record {
   sizes : SameSizes l.fn.threads l.threads;
   width : l.threads.curr.width ≡ length l.fn.slots;
   next : l.threads.reached.next.items ≡ [];
@@ -21,5 +21,5 @@ invariant-loop-at l = record {
   counted : l.threads.scans ≡ l.fn.threads.scans;
 }
 
-abbrev pub decreases-loop-at : goal.decreases-loop-at
-decreases-loop-at l = (search_of l.input).end + 1 - l.at
+abbrev pub decreases-loop-to : goal.decreases-loop-to
+decreases-loop-to l = (search_of l.input).end + 1 - l.at
