@@ -1,5 +1,5 @@
 -- A turn enters a state: it marks it, and keeps the state that its byte leads to, or gives the state to go on with.
-use Rattle.std.proofs.Common.{◌≡◌, ◌∙◌, take, slice_set, arith, rules, sym, ap, refl, inl, inr}
+use Rattle.std.proofs.Common.{◌∙◌, take, slice_set, arith, sym, ap, refl, inl, inr}
 use Rattle.std.proofs.lemmas.List.{length-drop}
 use Rattle.nfa_pikevm_scan.proofs.VisitLemmas.{frames-entered, states-entered, within-union, within-saved}
 use Rattle.nfa_pikevm_scan.proofs.VisitLemmas.{IsPut-made, offset-some, top-put}

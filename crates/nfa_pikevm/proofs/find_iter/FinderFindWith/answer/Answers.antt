@@ -1,5 +1,5 @@
 -- A known match is the answer. Otherwise it is the search's, which gives the match that is known then.
-use Rattle.std.proofs.Common.{rules, ◌≡◌, ◌∙◌, refl, ap, subst, Option, Ok, option_map}
+use Rattle.std.proofs.Common.{rules, ◌∙◌, refl, ap, subst, Option, Ok}
 use Rattle.regex_search_core.specs.Found.{found_of}
 use Rattle.regex_search_core.specs.Search.{search_of}
 use Rattle.regex_search_core.specs.declared.search.Match.{Match}
