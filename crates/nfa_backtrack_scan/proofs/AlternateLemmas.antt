@@ -1,7 +1,7 @@
 -- Alternatives that are pushed, and those that lead nowhere.
-use Rattle.std.proofs.Common.{◌≡◌, ℕ, ◌+◌, ◌<◌, inl, inr, List, [], ◌∷◌, ◌++◌, length, map, drop, refl, ap, arith}
+use Rattle.std.proofs.Common.{◌≡◌, ℕ, ◌<◌, inl, inr, List, [], ◌∷◌, ◌++◌, length, map, drop, refl, ap, arith}
 use Rattle.std.specs.Prelude.{Some, None, false, Bool, All}
-use Rattle.std.specs.List.{slice_get, sum_by}
+use Rattle.std.specs.List.{slice_get}
 use Rattle.std.proofs.lemmas.List.Elements.{All-push}
 use Rattle.std.proofs.lemmas.List.Sums.{sum_by_push}
 use Rattle.regex_search_core.specs.Search.{Search}
@@ -20,9 +20,11 @@ use Rattle.nfa_backtrack_scan.specs.Alternates.{IsDeadEnd, HasAnswersOf, PushesL
 use Rattle.nfa_backtrack_scan.specs.declared.frame.StatePos.{StatePos}
 use Rattle.nfa_backtrack_scan.specs.declared.frame.Frame.{Frame}
 use Rattle.nfa_backtrack_scan.specs.declared.frame.Frame.TheVariants.{Step}
-use Rattle.nfa_backtrack_scan.proofs.StepLemmas.{first-drop, reads-plain, stacked-push, step-edges, Goes-edges}
+use Rattle.nfa_backtrack_scan.proofs.StepLemmas.{reads-plain, stacked-push, step-edges, Goes-edges}
 use Rattle.nfa_backtrack_scan.proofs.StepLemmas.{PaidFor-step}
-use Rattle.nfa_backtrack_scan.proofs.WalkLemmas.{node_at-get, no_path, Carries-then}
+use Rattle.nfa_backtrack_scan.proofs.WalkLemmas.{no_path, Carries-then}
+use Rattle.nfa_scan_core.proofs.AlternateLemmas.{first-drop}
+use Rattle.nfa_paths.proofs.StartLemmas.{node_at-get}
 
 -- no path leads on from a pair whose only edge leads nowhere
 no_path-along : (edges : Pair → List Pair) (target : Pair → Bool) {v w : Pair} {p : List Pair} → target v ≡ false
@@ -35,7 +37,7 @@ module _ (nfa : Automaton) (x : Search) where
   -- a byte state that refuses the byte
   pub IsDeadEnd-byte : (s at : ℕ) → IsByteStep nfa x (s, at) None → IsDeadEnd nfa x (s, at)
   IsDeadEnd-byte s at b p =
-      let node = node_at-get nfa x s b.node b.is in
+      let node = node_at-get nfa s b.node b.is in
       no_path _ _ (rw (node, reads-plain b.node b.reads) refl) (rw node (step-edges nfa x s at None b))
 
   -- a Capture before one
@@ -43,7 +45,7 @@ module _ (nfa : Automaton) (x : Search) where
       → IsDeadEnd nfa x (next, at) → IsDeadEnd nfa x (s, at)
   unfolding edges_of
   IsDeadEnd-capture s at next slot is dead p =
-      let node = node_at-get nfa x s (Capture next slot) is in
+      let node = node_at-get nfa s (Capture next slot) is in
       no_path-along _ _ (rw node refl) (rw node refl) dead
 
   -- work with the same first pair

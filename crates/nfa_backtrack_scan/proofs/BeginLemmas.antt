@@ -17,8 +17,9 @@ use Rattle.nfa_scan_core.specs.Marks.{Marks}
 use Rattle.nfa_backtrack_scan.specs.Begin.{kept_onto, start_tasks, BeginsAt}
 use Rattle.nfa_backtrack_scan.specs.Walk.{pair_of, weights, IsStatePos, Carries, Taken, WalkAnswer}
 use Rattle.nfa_backtrack_scan.specs.declared.frame.StatePos.{StatePos}
-use Rattle.nfa_backtrack_scan.proofs.WalkLemmas.{node_at-get, marked_sum-weights, Carries-none, Carries-restore}
+use Rattle.nfa_backtrack_scan.proofs.WalkLemmas.{marked_sum-weights, Carries-none, Carries-restore}
 use Rattle.nfa_backtrack_scan.proofs.WalkLemmas.{Carries-then, Carries-unkept, Carries-write}
+use Rattle.nfa_paths.proofs.StartLemmas.{node_at-get}
 
 module _ (nfa : Automaton) (x : Search) where
   -- a path from a pair that writes the slot finds the same slots, whatever the slot held
@@ -72,7 +73,7 @@ module _ (nfa : Automaton) (x : Search) where
       is_place = record { state = below; from = p.from; to = p.to; row = p.row };
       slot = Some slot;
       old = get_or slots slot None;
-      own = λ k same. let e : slot ≡ k = cc in rw (node_at-get nfa x place.sid (Capture next slot) is, e) refl;
+      own = λ k same. let e : slot ≡ k = cc in rw (node_at-get nfa place.sid (Capture next slot) is, e) refl;
       follows = λ work.
           Carries-write nfa x m place.sid place.at work slots n t.counted t.state t.from t.inside t.clear t.set next
           slot is;

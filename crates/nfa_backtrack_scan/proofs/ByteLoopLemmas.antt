@@ -11,12 +11,12 @@ use Rattle.nfa_paths.specs.Graphs.{Pair}
 use Rattle.nfa_paths.specs.Paths.{byte_at, target_on}
 use Rattle.nfa_paths.proofs.TurnLemmas.{marked_sum-le}
 use Rattle.nfa_scan_core.specs.Marks.{Marks}
-use Rattle.nfa_backtrack_scan.specs.Walk.{pair_of, stacked, frame_tries, weights, IsStatePos, IsFrame, IsAfforded, IsByteStep, TurnsLead}
+use Rattle.nfa_backtrack_scan.specs.Walk.{pair_of, stacked, frame_tries, weights, IsFrame, IsAfforded, IsByteStep, TurnsLead}
 use Rattle.nfa_backtrack_scan.specs.Walk.{Taken, WasMarked}
 use Rattle.nfa_backtrack_scan.specs.declared.frame.StatePos.{StatePos}
 use Rattle.nfa_backtrack_scan.specs.declared.frame.Frame.{Frame}
 use Rattle.nfa_backtrack_scan.specs.declared.frame.Frame.TheVariants.{Step}
-use Rattle.nfa_backtrack_scan.proofs.WalkLemmas.{Carries-then, Carries-none, Carries-marked, Carries-dead, marked_sum-weights}
+use Rattle.nfa_backtrack_scan.proofs.WalkLemmas.{Carries-then, Carries-marked, Carries-dead, marked_sum-weights}
 use Rattle.nfa_scan_core.proofs.TargetLemmas.{target-degree}
 use Rattle.nfa_backtrack_scan.proofs.StepLemmas.{Goes-both, Goes-byte, Goes-stuck, IsStatePos-byte, reads-plain, read-byte}
 use Rattle.nfa_backtrack_scan.proofs.StepLemmas.{step-edges}
@@ -36,16 +36,6 @@ module _ (nfa : Automaton) (x : Search) where
     within = λ count fits. g.within count (f.within count fits);
     tried = omega arith;
     follows = λ work slots. Carries-then nfa x (f.follows work slots) (g.follows work slots);
-  }
-
-  -- no turn yet
-  pub TurnsLead-none : (p : StatePos) (stack : List Frame) (m : Marks) → IsStatePos nfa x p
-      → TurnsLead nfa x (pair_of p) (Some p) stack m stack m
-  TurnsLead-none p stack m is = record {
-    goes = is;
-    within = λ count fits. fits;
-    tried = omega arith;
-    follows = λ work slots. Carries-none nfa x m _ slots;
   }
 
   -- turns that end because allocation failed

@@ -1,6 +1,6 @@
 -- What each kind of state leads to, after the turn that marked its place.
-use Rattle.std.proofs.Common.{◌≡◌, ℕ, suc, ◌+◌, ◌-◌, ◌*◌, ◌^◌, ◌<◌, ◌≤◌, List, [], ◌∷◌, ◌++◌, length, get_or, set, map}
-use Rattle.std.proofs.Common.{drop, refl, ap, sym, ◌∙◌, arith}
+use Rattle.std.proofs.Common.{◌≡◌, ℕ, suc, ◌+◌, ◌-◌, ◌*◌, ◌<◌, ◌≤◌, List, [], ◌∷◌, ◌++◌, length, get_or, set, map}
+use Rattle.std.proofs.Common.{refl, ap, sym, ◌∙◌, arith}
 use Rattle.std.specs.Prelude.{Option, Some, None, true, false, Bool, All, option_map, option_and_then, option_to_list}
 use Rattle.std.specs.List.{slice_get, sum_by}
 use Rattle.std.proofs.lemmas.Nat.{mul-add-lt}
@@ -9,7 +9,7 @@ use Rattle.std.proofs.lemmas.List.Elements.{All-push}
 use Rattle.std.proofs.lemmas.List.Sums.{sum_by_push}
 use Rattle.regex_search_core.specs.Search.{Search}
 use Rattle.thompson_nfa.specs.Automaton.{Automaton, Node, node_of}
-use Rattle.thompson_nfa.specs.Automaton.Node.{ByteRange, Sparse, Dense, Look, Union, BinaryUnion, Capture, Fail, Match}
+use Rattle.thompson_nfa.specs.Automaton.Node.{ByteRange, Sparse, Dense, Look, Union, BinaryUnion, Capture, Match}
 use Rattle.thompson_nfa.specs.Looks.{look_holds}
 use Rattle.thompson_nfa.specs.declared.look.Look as looks
 use Rattle.thompson_nfa.specs.declared.state.State.{State}
@@ -17,7 +17,7 @@ use Rattle.nfa_paths.specs.Graphs.{Pair}
 use Rattle.nfa_paths.specs.Paths.{span_len, degree, node_at, pattern_of, slot_of, edges_of, byte_at, target_on}
 use Rattle.nfa_paths.specs.Exploring.{Task, Slots}
 use Rattle.nfa_paths.specs.Exploring.Task.{Explore, Restore}
-use Rattle.nfa_scan_core.proofs.TargetLemmas.{byte_at-within, target-below}
+use Rattle.nfa_scan_core.proofs.TargetLemmas.{target-below}
 use Rattle.nfa_scan_core.specs.Marks.{Marks}
 use Rattle.nfa_backtrack_scan.specs.Walk.{pair_of, work_item, stacked, restoring, move_to, frame_tries, tries_of_move}
 use Rattle.nfa_backtrack_scan.specs.Walk.{bit_of, HasBits, IsStatePos, IsFrame, IsByteStep, PaidFor, ReadsByte}
@@ -25,8 +25,10 @@ use Rattle.nfa_backtrack_scan.specs.Walk.{Carries, Ends, Goes, Taken, TurnsLead,
 use Rattle.nfa_backtrack_scan.specs.declared.frame.StatePos.{StatePos}
 use Rattle.nfa_backtrack_scan.specs.declared.frame.Frame.{Frame}
 use Rattle.nfa_backtrack_scan.specs.declared.frame.Frame.TheVariants.{Step}
-use Rattle.nfa_backtrack_scan.proofs.WalkLemmas.{node_at-get, bit_of-within, marked_sum-weights, Carries-plain}
+use Rattle.nfa_backtrack_scan.proofs.WalkLemmas.{bit_of-within, marked_sum-weights, Carries-plain}
 use Rattle.nfa_backtrack_scan.proofs.WalkLemmas.{Carries-write, Carries-unkept, Ends-match}
+use Rattle.nfa_scan_core.proofs.AlternateLemmas.{none-nil}
+use Rattle.nfa_paths.proofs.StartLemmas.{byte_at-within, node_at-get}
 
 -- the states that the code holds are those of the NFA
 pub same_size : (nfa : Automaton) (states : List State) → map node_of states ≡ nfa.states → length states
@@ -56,20 +58,6 @@ row-next nfa x at row states from is wide =
     one-more : (k n : ℕ) → k * n + n ≡ suc k * n
     one-more k n = grind arith
 
--- a row ends in the table
-pub Fits-row : (nfa : Automaton) (x : Search) (place : StatePos) (bits : List Bool) → IsStatePos nfa x place
-    → HasBits nfa x bits
-    → (states : ℕ) → states ≡ length nfa.states → place.row + states ≤ 2 ^ 64 - 1
-Fits-row nfa x place bits p room states wide =
-    let f = p.from in let t = p.to in
-    let ends = row-next nfa x place.at place.row states p.from p.row wide in
-    let more : place.at + 1 - x.start ≤ span_len x + 1 = omega arith in
-    let k = row-le (place.at + 1 - x.start) (span_len x + 1) (length nfa.states) more in
-    let g = room.fits in omega arith
-  where
-    row-le : (k m n : ℕ) → k ≤ m → k * n ≤ n * m
-    row-le k m n le = grind arith
-
 -- the turn at a place marked it
 pub Taken-place : (nfa : Automaton) (x : Search) (place : StatePos) (marks marked : Marks) (bit : ℕ) → bit
     ≡ bit_of nfa x (pair_of place)
@@ -98,15 +86,6 @@ WasMarked-place nfa x place marks marked bit is p counted seen = record {
   counted = counted;
 }
 
--- the first of a list that is not empty
-pub first-drop : (xs : List ℕ) (f : ℕ) → slice_get xs 0 ≡ Some f → xs ≡ f ∷ drop 1 xs
-first-drop [] f e = cc
-first-drop (x ∷ xs) f e = cc
-
-pub none-nil : (xs : List ℕ) → slice_get xs 0 ≡ None → xs ≡ []
-none-nil [] e = refl
-none-nil (x ∷ xs) e = cc
-
 -- frames as work
 pub stacked-push : (fs : List Frame) (f : Frame) (work : List Task) → stacked (fs ++ f ∷ []) work
     ≡ work_item f ∷ stacked fs work
@@ -129,26 +108,12 @@ tries-restoring slot (Some offset) = refl
 
 -- a state that reads a byte is no match, and writes no slot
 pub reads-plain : (node : Node) → ReadsByte node → pattern_of node ≡ None
-reads-plain (ByteRange trans) r = refl
-reads-plain (Sparse transitions) r = refl
-reads-plain (Dense targets) r = refl
-reads-plain (Look look next) r = absurd r
-reads-plain (Union alternates) r = absurd r
-reads-plain (BinaryUnion alt1 alt2) r = absurd r
-reads-plain (Capture next slot) r = absurd r
 reads-plain (Match pattern) r = absurd r
-reads-plain Fail r = absurd r
+reads-plain _ r = refl
 
 pub reads-unwritten : (node : Node) → ReadsByte node → slot_of node ≡ None
-reads-unwritten (ByteRange trans) r = refl
-reads-unwritten (Sparse transitions) r = refl
-reads-unwritten (Dense targets) r = refl
-reads-unwritten (Look look next) r = absurd r
-reads-unwritten (Union alternates) r = absurd r
-reads-unwritten (BinaryUnion alt1 alt2) r = absurd r
 reads-unwritten (Capture next slot) r = absurd r
-reads-unwritten (Match pattern) r = absurd r
-reads-unwritten Fail r = absurd r
+reads-unwritten _ r = refl
 
 -- a state at the next position
 abbrev next_pair : ℕ → ℕ → Pair
@@ -161,12 +126,7 @@ unfolding edges_of
 reads-edges x (ByteRange trans) at r = refl
 reads-edges x (Sparse transitions) at r = refl
 reads-edges x (Dense targets) at r = refl
-reads-edges x (Look look next) at r = absurd r
-reads-edges x (Union alternates) at r = absurd r
-reads-edges x (BinaryUnion alt1 alt2) at r = absurd r
-reads-edges x (Capture next slot) at r = absurd r
-reads-edges x (Match pattern) at r = absurd r
-reads-edges x Fail at r = absurd r
+reads-edges x _ at r = absurd r
 
 pub step-edges : (nfa : Automaton) (x : Search) (s at : ℕ) (target : Option ℕ)
     → (b : IsByteStep nfa x (s, at) target)
@@ -311,7 +271,7 @@ module _ {nfa : Automaton} {x : Search} {s at : ℕ} {m n : Marks} (t : Taken nf
       → (pattern_of (node_at nfa s) ≡ Some pattern)
       × Ends nfa x m (Explore (s, at) ∷ rest) slots (Some ((s, at), slots)) n.turns
   Goes-match pattern is rest slots = (
-    rw (node_at-get nfa x s (Match pattern) is) refl,
+    rw (node_at-get nfa s (Match pattern) is) refl,
     Ends-match nfa x m s at rest slots n t.counted t.state t.from
         t.inside t.clear t.set pattern is,
   )

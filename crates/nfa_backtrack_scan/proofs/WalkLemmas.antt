@@ -1,5 +1,5 @@
 -- The steps of a walk, one for each kind of state.
-use Rattle.std.proofs.Common.{◌≡◌, ℕ, suc, zero, ◌+◌, ◌-◌, ◌*◌, ◌<◌, ◌≤◌, ◌⊎◌, inl, inr, List, [], ◌∷◌, ◌++◌, length}
+use Rattle.std.proofs.Common.{◌≡◌, ℕ, suc, ◌+◌, ◌-◌, ◌*◌, ◌<◌, ◌≤◌, ◌⊎◌, inl, inr, List, [], ◌∷◌, ◌++◌, length}
 use Rattle.std.proofs.Common.{get_or, set, map, replicate, refl, ap, ◌∙◌, arith}
 use Rattle.std.specs.Prelude.{Option, Some, None, true, false, Bool, sum}
 use Rattle.std.specs.List.{slice_get}
@@ -15,7 +15,7 @@ use Rattle.thompson_nfa.specs.Automaton.Node.{Capture, Fail, Match}
 use Rattle.nfa_paths.specs.FirstPaths.{Path}
 use Rattle.nfa_paths.specs.FirstPaths.Path.{stop, go}
 use Rattle.nfa_paths.specs.Graphs.{Pair, In, Space}
-use Rattle.nfa_paths.specs.Paths.{span_len, degree, node_at, pattern_of, slot_of, edges_of, is_match, space}
+use Rattle.nfa_paths.specs.Paths.{span_len, degree, pattern_of, slot_of, edges_of, is_match, space}
 use Rattle.nfa_paths.specs.Paths.{total_degree}
 use Rattle.nfa_paths.specs.Exploring.{Task, Slots, Hit, ExploresTo}
 use Rattle.nfa_paths.specs.Exploring.Task.{Explore, Restore}
@@ -26,6 +26,8 @@ use Rattle.nfa_paths.proofs.TurnLemmas.{marked_sum-set, sum-repeated, get_or-rep
 use Rattle.nfa_scan_core.specs.Marks.{Marks}
 use Rattle.regex_search_core.specs.declared.search.HalfMatch.{HalfMatch}
 use Rattle.nfa_backtrack_scan.specs.Walk.{bit_of, HasBits, IsMarked, Agrees, weights, WalkAnswer, Carries, Ends, EndsAt}
+use Rattle.nfa_paths.proofs.StartLemmas.{node_at-get}
+use Rattle.nfa_scan_core.proofs.SeenLemmas.{none-set}
 
 -- no path leads on from a pair without edges
 pub no_path : (edges : Pair → List Pair) (target : Pair → Bool) {v : Pair} {p : List Pair} → target v ≡ false
@@ -45,11 +47,6 @@ Answer-dead space target left otherwise marks v rest slots g plain none h = inr 
 )
 
 module _ (nfa : Automaton) (x : Search) where
-  -- what a state's number names
-  pub node_at-get : (s : ℕ) (node : Node) → slice_get nfa.states s ≡ Some node → node_at nfa s ≡ node
-  unfolding node_at
-  node_at-get s node is = get_or_from_slice_get nfa.states s node Fail is
-
   -- the bit of a place is in the table
   pub bit_of-within : (bits : List Bool) (s at : ℕ) → HasBits nfa x bits → s < length nfa.states → x.start
       ≤ at → at ≤ x.end
@@ -86,12 +83,7 @@ module _ (nfa : Automaton) (x : Search) where
 
   -- no pair is marked in a table of clear bits
   pub IsMarked-clear : (n : ℕ) (v : Pair) → IsMarked nfa x (replicate n false) v → ⊥
-  IsMarked-clear n v s = never n (bit_of nfa x v) s.set
-    where
-      never : (n k : ℕ) → get_or (replicate n false) k false ≡ true → ⊥
-      never zero k e = cc
-      never (suc n) zero e = cc
-      never (suc n) (suc k) e = never n k e
+  IsMarked-clear n v s = none-set n (bit_of nfa x v) s.set
 
   -- setting a pair's bit marks it and no other
   pub IsMarked-set : (bits : List Bool) (s at : ℕ) → s < length nfa.states → x.start
@@ -160,7 +152,7 @@ module _ (nfa : Automaton) (x : Search) where
       grows = omega arith;
       back = λ left more g e a pairs agrees.
           let one : more ≡ suc left = omega arith in
-          let n = node_at-get s node is in
+          let n = node_at-get nfa s node is in
           rw one
           (Answer-dead (space nfa x) (is_match nfa) left None pairs (s, at) rest slots g (rw (n, plain) refl)
           (rw n leads) (rw same at a pairs agrees));
@@ -211,7 +203,7 @@ module _ (nfa : Automaton) (x : Search) where
         grows = omega arith;
         answer = λ left e pairs agrees.
             let one : left ≡ suc 0 = omega arith in
-            let node = node_at-get s (Match pattern) is in
+            let node = node_at-get nfa s (Match pattern) is in
             rw one
             (Answer-target (space nfa x) (is_match nfa) 0 None pairs (s, at) rest slots _
             (free pairs agrees) (rw node refl) (rw node refl));
@@ -223,7 +215,7 @@ module _ (nfa : Automaton) (x : Search) where
           → (es : List Pair) → edges_of x node at ≡ es
           → Carries nfa x marks (Explore (s, at) ∷ rest) slots after (map Explore es ++ rest) slots
       Carries-plain node is plain writes es leads =
-          let n = node_at-get s node is in
+          let n = node_at-get nfa s node is in
           Carries-taken (map Explore es ++ rest) slots
           (λ left pairs g f. Answer-plain (space nfa x) (is_match nfa) left None pairs (s, at) rest slots
           g f (rw (n, plain) refl) es (rw n leads) (rw (n, writes) refl))
@@ -234,7 +226,7 @@ module _ (nfa : Automaton) (x : Search) where
           (Explore (next, at) ∷ Restore slot (get_or slots slot None) ∷ rest) (set slots slot (Some at))
       unfolding edges_of
       Carries-write next slot is =
-          let n = node_at-get s (Capture next slot) is in
+          let n = node_at-get nfa s (Capture next slot) is in
           Carries-taken (Explore (next, at) ∷ Restore slot (get_or slots slot None) ∷ rest) (set slots slot (Some at))
           (λ left pairs g f. Answer-write (space nfa x) (is_match nfa) left None pairs (s, at) rest slots
           g f (rw n refl) ((next, at) ∷ []) (rw n refl) slot (rw n refl))
@@ -244,7 +236,7 @@ module _ (nfa : Automaton) (x : Search) where
           → Carries nfa x marks (Explore (s, at) ∷ rest) slots after (Explore (next, at) ∷ rest) slots
       unfolding edges_of
       Carries-unkept next slot is past =
-          let n = node_at-get s (Capture next slot) is in
+          let n = node_at-get nfa s (Capture next slot) is in
           Carries-taken (Explore (next, at) ∷ rest) slots
           (λ left pairs g f. Answer-unkept (space nfa x) (is_match nfa) left None pairs (s, at) rest slots
           g f (rw n refl) ((next, at) ∷ []) (rw n refl) slot (rw n refl) past)

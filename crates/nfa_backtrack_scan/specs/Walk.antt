@@ -1,15 +1,16 @@
 -- The walk of a backtracker in the words of its proof: its stack as work that is left, its marks as pairs that were
 -- seen.
 use Rattle.std.specs.Prelude.{◌≡◌, ◌↔◌, ℕ, ◌+◌, ◌-◌, ◌*◌, ◌^◌, ◌<◌, ◌≤◌, Bool, true, false, List, [], ◌∷◌, Option, None}
-use Rattle.std.specs.Prelude.{is_some, option_and_then, Some, length, map, sum, All, slice_get, slice_index_or, slice_set}
+use Rattle.std.specs.Prelude.{is_some, option_and_then, replicate, Some, length, map, sum, All, slice_get, slice_index_or, slice_set}
 use Rattle.std.specs.List.{sum_by}
 use Rattle.regex_search_core.specs.Search.{Search}
 use Rattle.regex_search_core.specs.Patterns.{number_of}
 use Rattle.regex_search_core.specs.Found.{half_found_of}
 use Rattle.regex_search_core.specs.declared.search.HalfMatch.{HalfMatch}
 use Rattle.regex_search_core.specs.declared.search.MatchKind.TheVariants.{LeftmostFirst}
-use Rattle.thompson_nfa.specs.Automaton.{Automaton, LeadsBelow, Node}
+use Rattle.thompson_nfa.specs.Automaton.{Automaton, IsAutomaton, LeadsBelow, Node, node_of}
 use Rattle.thompson_nfa.specs.Automaton.Node.{ByteRange, Sparse, Dense, BinaryUnion}
+use Rattle.thompson_nfa.specs.declared.state.State.{State}
 use Rattle.thompson_nfa.specs.declared.state.Transition.{Transition}
 use Rattle.nfa_paths.specs.Graphs.{Pair, In}
 use Rattle.nfa_paths.specs.Paths.{span_len, degree, node_at, pattern_of, is_match, byte_at, target_on, IsScanAnswer, space}
@@ -17,6 +18,7 @@ use Rattle.nfa_paths.specs.Restarts.{GivesPath}
 use Rattle.nfa_paths.specs.Exploring.{Slots, Hit, Task, ExploresTo}
 use Rattle.nfa_paths.specs.Exploring.Task.{Explore as ToExplore, Restore as ToRestore}
 use Rattle.nfa_paths.specs.Turns.{marked_sum, repeated}
+use Rattle.nfa_scan_core.specs.FirstBytes.{IsFirstBytes}
 use Rattle.nfa_scan_core.specs.Marks.{Marks}
 use Rattle.nfa_backtrack_scan.specs.declared.frame.StatePos.{StatePos}
 use Rattle.nfa_backtrack_scan.specs.declared.frame.Frame.{Frame}
@@ -272,3 +274,36 @@ module _ (nfa : Automaton) (x : Search) where
   abbrev pub StartsGive : Option HalfMatch → Slots → ℕ → Type 0
   StartsGive None slots turns = IsScanAnswer nfa x LeftmostFirst false None
   StartsGive (Some half) slots turns = GivesPath nfa LeftmostFirst false x half slots turns
+
+-- A loop over one byte may run: the place is that of its byte state, and there is room for the marks.
+pub record MayLoop (nfa : Automaton) (x : Search) (body : StatePos) (exit : ℕ) (trans : Transition) (bits : List Bool)
+    : Type 0 where
+  pub state : IsByteLoop nfa body.sid exit trans
+  pub is_place : IsStatePos nfa x body
+  pub room : HasBits nfa x bits
+
+-- A turn may be taken at the place: the states are those of the NFA, and the frames are of this search.
+pub record MayStep (nfa : Automaton) (states : List State) (x : Search) (place : StatePos) (count : ℕ)
+    (stack : List Frame) (bits : List Bool) : Type 0 where
+  pub states_are : map node_of states ≡ nfa.states
+  pub valid : IsAutomaton nfa
+  pub is_place : IsStatePos nfa x place
+  pub room : HasBits nfa x bits
+  pub within : All (IsFrame nfa x count) stack
+
+-- A walk may go on from the place: there is room for the marks, and no frame waits.
+pub record MayWalk (nfa : Automaton) (x : Search) (place : StatePos) (stack : List Frame) (bits : List Bool) : Type 0
+  where
+    pub is_place : IsStatePos nfa x place
+    pub room : HasBits nfa x bits
+    pub empty : stack ≡ []
+
+-- The starts of a search may be tried: the table of first bytes is that of the NFA, no pair is marked, no frame waits
+-- and no slot is set.
+pub record MayTryStarts (nfa : Automaton) (table : List Bool) (x : Search) (stack : List Frame) (bits : List Bool)
+    (slots : Slots) : Type 0 where
+  pub first : IsFirstBytes nfa table
+  pub room : HasBits nfa x bits
+  pub clear : bits ≡ replicate (length bits) false
+  pub empty : stack ≡ []
+  pub unset : slots ≡ replicate (length slots) None

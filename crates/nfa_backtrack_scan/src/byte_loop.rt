@@ -7,7 +7,7 @@ ghost use Rattle.thompson_nfa.specs.Automaton.{IsAutomaton, node_of};
 ghost use Rattle.thompson_nfa.specs.Automaton.Node.{ByteRange, BinaryUnion};
 ghost use Rattle.thompson_nfa.specs.declared.state.Transition.{Transition};
 ghost use Rattle.nfa_backtrack_scan.specs.Walk.{pair_of, loops_on_byte, IsStatePos, HasBits, IsAfforded, IsByteLoop};
-ghost use Rattle.nfa_backtrack_scan.specs.Walk.{LoopsTwice, TurnsLead};
+ghost use Rattle.nfa_backtrack_scan.specs.Walk.{LoopsTwice, MayLoop, TurnsLead};
 ghost use Rattle.nfa_backtrack_scan.specs.declared.frame.Frame.{Frame};
 
 use crate::frame::StatePos;
@@ -150,9 +150,7 @@ fn run_byte_loop(
     exit: StateID,
     scratch: &mut Scratch,
 ) -> Result<(), Refused>
-    requires state { IsByteLoop nfa.now body.sid exit trans.now }
-    requires place { IsStatePos nfa.now (search_of input.now) body }
-    requires room { HasBits nfa.now (search_of input.now) scratch.old.visited.bits }
+    requires ready { MayLoop nfa.now (search_of input.now) body exit trans.now scratch.old.visited.bits }
     ensures turns { scratch.old.visited.turns ≤ scratch.new.visited.turns }
     ensures scans { scratch.new.scans ≡ scratch.old.scans }
     ensures size { length scratch.new.visited.bits ≡ length scratch.old.visited.bits }
@@ -198,6 +196,6 @@ pub fn run_loop(
 {
     // A value that is borrowed by a call is in memory, and the walk keeps its values in registers. The copy is made
     // here, so that a turn without a loop does not write its memory.
-    let own_input = *input;
-    run_byte_loop(nfa, &own_input, body, trans, exit, scratch)
+    let copied = *input;
+    run_byte_loop(nfa, &copied, body, trans, exit, scratch)
 }

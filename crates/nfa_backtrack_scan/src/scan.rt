@@ -6,7 +6,7 @@ ghost use Rattle.regex_search_core.specs.declared.search.MatchKind.TheVariants.{
 ghost use Rattle.nfa_paths.specs.Paths.{span_len, start_count};
 ghost use Rattle.nfa_paths.specs.Restarts.{max_scan_turns, ScanGives};
 ghost use Rattle.nfa_scan_core.specs.FirstBytes.{IsFirstBytes, IsRefused};
-ghost use Rattle.nfa_backtrack_scan.specs.Walk.{pair_of, HasBits, IsStatePos, StartsGive};
+ghost use Rattle.nfa_backtrack_scan.specs.Walk.{pair_of, HasBits, IsStatePos, MayTryStarts, StartsGive};
 
 use crate::frame::StatePos;
 use crate::scratch::Scratch;
@@ -54,11 +54,8 @@ fn try_starts(
     scratch: &mut Scratch,
     slots: &mut [Option<NonMaxUsize>],
 ) -> Result<Option<HalfMatch>, Refused>
-    requires first { IsFirstBytes nfa.now first.now.may_begin }
-    requires room { HasBits nfa.now (search_of input.now) scratch.old.visited.bits }
-    requires clear { scratch.old.visited.bits ≡ replicate (length scratch.old.visited.bits) false }
-    requires empty { scratch.old.stack.items ≡ [] }
-    requires unset { slots.old ≡ replicate (length slots.old) None }
+    requires ready { MayTryStarts nfa.now first.now.may_begin (search_of input.now) scratch.old.stack.items
+        scratch.old.visited.bits slots.old }
     ensures scans { scratch.new.scans ≡ scratch.old.scans }
     ensures size { length scratch.new.visited.bits ≡ length scratch.old.visited.bits }
     ensures turns { scratch.new.visited.turns ≤ scratch.old.visited.turns + max_scan_turns nfa.now

@@ -19,7 +19,7 @@ ghost use Rattle.nfa_backtrack_scan.specs.Walk.{tries_of_state_pos, tries_of_out
 ghost use Rattle.nfa_backtrack_scan.specs.Walk.{AppliesFrame, IsStatePos};
 ghost use Rattle.nfa_backtrack_scan.specs.Walk.{IsStatePosOr, IsFrame, HasBits, PaidFor, Carries, Goes, ComesTo, Walks};
 ghost use Rattle.nfa_backtrack_scan.specs.Walk.{weights};
-ghost use Rattle.nfa_backtrack_scan.specs.Walk.{IsAfforded};
+ghost use Rattle.nfa_backtrack_scan.specs.Walk.{IsAfforded, MayStep, MayWalk};
 ghost use Rattle.nfa_backtrack_scan.specs.declared.frame.Frame.TheVariants.{Step};
 
 use crate::alternates::push_alternates;
@@ -124,11 +124,8 @@ fn step(
     scratch: &mut Scratch,
     slots: &mut [Option<NonMaxUsize>],
 ) -> Result<Move, Refused>
-    requires states { map node_of states.now ≡ nfa.now.states }
-    requires valid { IsAutomaton nfa.now }
-    requires place { IsStatePos nfa.now (search_of input.now) place }
-    requires room { HasBits nfa.now (search_of input.now) scratch.old.visited.bits }
-    requires within { All (IsFrame nfa.now (search_of input.now) (length slots.old)) scratch.old.stack.items }
+    requires ready { MayStep nfa.now states.now (search_of input.now) place (length slots.old) scratch.old.stack.items
+        scratch.old.visited.bits }
     ensures turns { scratch.old.visited.turns + 1 ≤ scratch.new.visited.turns }
     ensures scans { scratch.new.scans ≡ scratch.old.scans }
     ensures size { length scratch.new.visited.bits ≡ length scratch.old.visited.bits }
@@ -263,11 +260,8 @@ fn advance(
     scratch: &mut Scratch,
     slots: &mut [Option<NonMaxUsize>],
 ) -> Result<Outcome, Refused>
-    requires states { map node_of states.now ≡ nfa.now.states }
-    requires valid { IsAutomaton nfa.now }
-    requires place { IsStatePos nfa.now (search_of input.now) place }
-    requires room { HasBits nfa.now (search_of input.now) scratch.old.visited.bits }
-    requires within { All (IsFrame nfa.now (search_of input.now) (length slots.old)) scratch.old.stack.items }
+    requires ready { MayStep nfa.now states.now (search_of input.now) place (length slots.old) scratch.old.stack.items
+        scratch.old.visited.bits }
     ensures turns { scratch.old.visited.turns + 1 ≤ scratch.new.visited.turns }
     ensures scans { scratch.new.scans ≡ scratch.old.scans }
     ensures size { length scratch.new.visited.bits ≡ length scratch.old.visited.bits }
@@ -377,9 +371,7 @@ fn walk_on(
     scratch: &mut Scratch,
     slots: &mut [Option<NonMaxUsize>],
 ) -> Result<Option<HalfMatch>, Refused>
-    requires place { IsStatePos nfa.now (search_of input.now) start }
-    requires room { HasBits nfa.now (search_of input.now) scratch.old.visited.bits }
-    requires empty { scratch.old.stack.items ≡ [] }
+    requires ready { MayWalk nfa.now (search_of input.now) start scratch.old.stack.items scratch.old.visited.bits }
     ensures scans { scratch.new.scans ≡ scratch.old.scans }
     ensures size { length scratch.new.visited.bits ≡ length scratch.old.visited.bits }
     ensures bounded { scratch.new.visited.turns + marked_sum (weights nfa.now (search_of input.now))

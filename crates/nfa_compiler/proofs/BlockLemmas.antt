@@ -25,6 +25,7 @@ use Rattle.nfa_compiler.specs.declared.block.Site.{Site}
 use Rattle.nfa_compiler.specs.Blocks.{look_of, match_at, slot_in, moved, Stands, IsBlock}
 use Rattle.nfa_compiler.proofs.WriteLemmas.{write_of, writes_along}
 use Rattle.nfa_compiler.proofs.LookLemmas.{look-same}
+use Rattle.nfa_paths.proofs.PathToLemmas.{EndsWith-cons}
 
 -- trying in turn
 
@@ -66,11 +67,6 @@ first-within n (t ∷ ts) b r all e =
 
 -- what a path tells of a trace
 
--- one more pair in front
-pub ends-cons : (v m : Pair) (p : List Pair) → EndsWith m p → EndsWith m (v ∷ p)
-ends-cons v m [] h = absurd h
-ends-cons v m (x ∷ p) h = h
-
 -- all of these are to slots of explicit groups
 abbrev pub AreExplicit : List (ℕ × ℕ) → Type 0
 AreExplicit [] = Unit {0}
@@ -105,7 +101,7 @@ module _ (a : Automaton) (s : Site) where
   Tells-cons v None (Some p) none h = absurd h
   Tells-cons v (Some t) None none h = absurd h
   Tells-cons v (Some t) (Some p) none h = record {
-    ends = ends-cons v (match_at s, t.end) p h.ends;
+    ends = EndsWith-cons v (match_at s, t.end) p h.ends;
     writes = ap (λ c. write_of c v.1 ++ writes_along a p) none ∙ h.writes;
     explicit = h.explicit;
   }
@@ -118,7 +114,7 @@ module _ (a : Automaton) (s : Site) where
   Tells-write v slot i None (Some p) is at two h = absurd h
   Tells-write v slot i (Some t) None is at two h = absurd h
   Tells-write v slot i (Some t) (Some p) is at two h = record {
-    ends = ends-cons v (match_at s, t.end) p h.ends;
+    ends = EndsWith-cons v (match_at s, t.end) p h.ends;
     writes = ap (λ c. write_of c v.1 ++ writes_along a p) is ∙ ap (λ j. (slot_in s slot, j) ∷ writes_along a p) at
         ∙ ap (λ ws. (slot_in s slot, i) ∷ ws) h.writes;
     explicit = (two, h.explicit);

@@ -13,27 +13,26 @@ use Rattle.regex_hir.specs.Matches.{Matches}
 use Rattle.regex_hir.proofs.AttemptLemmas.{attempt_complete, attempt_sound}
 use Rattle.regex_hir.proofs.OptionLemmas.{value_of_IsSome}
 use Rattle.thompson_nfa.specs.Automaton.{Automaton, Union, Fail}
-use Rattle.nfa_paths.specs.Graphs.{Pair, In, HeadIs, Linked, PathTo}
+use Rattle.nfa_paths.specs.Graphs.{Pair, In, HeadIs, PathTo}
 use Rattle.nfa_paths.specs.FirstPaths.{Accepts, IsFirst}
 use Rattle.nfa_paths.specs.Overlaps.{IsPermitted, IsPermittedEnd, IsPatternOf}
 use Rattle.nfa_paths.specs.Paths.{IsScanAnswer, path_pattern, pattern_of, node_at, is_match, IsMatch, edges_of, edges, start_state, starts, is_utf8_empty}
 use Rattle.nfa_paths.proofs.PathLemmas.{Path-plain}
-use Rattle.nfa_paths.proofs.PathToLemmas.{EndsWith-last, PathTo-accepts}
+use Rattle.nfa_paths.proofs.PathToLemmas.{EndsWith-last, PathTo-accepts, EndsWith-cons}
 use Rattle.nfa_paths.proofs.PatternLemmas.{some-pattern}
 use Rattle.nfa_paths.proofs.AnswerLemmas.{scan_answer-leads}
 use Rattle.nfa_paths.proofs.ExistenceLemmas.{scan_answer-none}
 use Rattle.nfa_paths.proofs.StartLemmas.{IsMatch-edges}
 use Rattle.nfa_match_spans.proofs.LawLemmas.{linked-open}
-use Rattle.nfa_match_spans.proofs.StatePathLemmas.{In-map}
 use Rattle.nfa_compiler.specs.Compiled.{IsNfaOf}
 use Rattle.nfa_compiler.specs.KindLaws.{IsTried, MatchesSomewhere, PatternMatches}
 use Rattle.nfa_compiler.specs.Patterns.{hit_of}
 use Rattle.nfa_engines.proofs.FirstPatternLemmas.{put-linked}
 use Rattle.nfa_compiler.proofs.SearchLemmas.{is_bound, told-found}
-use Rattle.nfa_compiler.proofs.BlockLemmas.{ends-cons}
 use Rattle.nfa_compiler.proofs.StartPairLemmas.{starts-sound, starts-complete, within-end}
 use Rattle.nfa_compiler.proofs.StartLemmas.{EndsBy, TellsHit, pattern-first}
 use Rattle.nfa_compiler.proofs.WayLemmas.{from-pattern, start-among}
+use Rattle.nfa_paths.proofs.MemberLemmas.{In-map}
 
 module _ (haystack : List ℕ) where
   -- there is a hit of one pattern exactly if it matches
@@ -229,7 +228,7 @@ module _ (res : List Re) (a : Automaton) (made : IsNfaOf res a) (x : Search) (wh
                   (subst (λ es. In (start_of k, i) es) (sym (ap (λ n. edges_of x n i) h.0))
                   (In-map (λ next. (next, i)) (start_of k) a.patterns (index-in a.patterns k less)))
                   (begins (edges a x) (start_of k, i) p.0.end p.0.along path) path.linked;
-              ends = ends-cons (a.anchored, i) p.0.end p.0.along path.ends;
+              ends = EndsWith-cons (a.anchored, i) p.0.end p.0.along path.ends;
             };
             pattern_is = p.0.pattern_is;
             matched = p.0.matched;

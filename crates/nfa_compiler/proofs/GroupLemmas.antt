@@ -11,10 +11,10 @@ use Rattle.regex_search_core.specs.Groups.{group_named, groups_at, is_named, slo
 use Rattle.regex_search_core.specs.Slots.{group_span, named_span, offset_at, span_at}
 use Rattle.regex_hir.specs.Find.{last_write}
 use Rattle.thompson_nfa.specs.Automaton.{Automaton}
-use Rattle.nfa_engines.proofs.FirstPatternLemmas.{same_some}
 use Rattle.nfa_compiler.specs.NameLaws.{captures_of, span_between}
 use Rattle.nfa_compiler.specs.Patterns.{PatternHit, place_of, slots_of, writes_of}
 use Rattle.nfa_compiler.proofs.MeantLemmas.{place-high, written-at}
+use Rattle.nfa_paths.proofs.OptionLemmas.{same_some}
 
 module _ (groups : List (List (Option (List ℕ)))) (h : PatternHit) (known : h.pattern < length groups) where
   abbrev behind : ℕ

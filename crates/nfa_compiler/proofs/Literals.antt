@@ -1,6 +1,6 @@
 -- For callers with a pattern that is written out: the computation of the grammar on a literal, and where parts of
 -- patterns match.
-use Rattle.std.proofs.Common.{◌≡◌, ℕ, zero, suc, ◌+◌, ◌≤◌, ◌<◌, Bool, true, false, List, [], ◌∷◌, refl, sym, ap, ◌∙◌, subst, arith}
+use Rattle.std.proofs.Common.{◌≡◌, ℕ, zero, suc, ◌+◌, ◌≤◌, ◌<◌, Bool, true, List, [], ◌∷◌, refl, sym, ap, ◌∙◌, subst, arith}
 use Rattle.std.specs.Prelude.{Option, None, Some, IsSomeAnd, slice_get, ◌↔◌, ⊤}
 use Rattle.std.specs.List.{list_any}
 use Rattle.std.proofs.lemmas.Bool.Decides.{nat_tests}
@@ -21,8 +21,8 @@ use Rattle.regex_syntax.proofs.Written.{grammar}
 pub use Rattle.regex_class.specs.Ranges.{Range, in_ranges}
 pub use Rattle.regex_syntax.proofs.Written.{alone, class_is, same_group, same_plus}
 pub use Rattle.regex_syntax.proofs.TreeLaws.{same_refl, same_sym, ◌then◌, cat_cong, alt_cong, cat-empty, alt-fail, literal-append, byte_in_ascii}
-use Rattle.nfa_engines.proofs.OneLemmas.{same-test}
 use Rattle.nfa_compiler.specs.Written.{MatchesIn, MatchesInStr}
+use Rattle.nfa_paths.proofs.TestLemmas.{same_test}
 
 -- what an answer unfolds to compute what the grammar reads in a literal
 unfoldable pub on_literals : ⊤
@@ -111,7 +111,7 @@ module _ (haystack : List ℕ) where
     -- only a class: a byte of the haystack passes
     pub class-anywhere : (found : Bool) → (found ≡ true) ↔ MatchesIn haystack (byte_in rs)
         → found ≡ list_any test haystack
-    class-anywhere found either = same-test found (list_any test haystack) to from
+    class-anywhere found either = same_test found (list_any test haystack) to from
       where
         to : found ≡ true → list_any test haystack ≡ true
         to e =

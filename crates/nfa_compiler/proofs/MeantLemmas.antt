@@ -1,5 +1,5 @@
 -- Patterns that a caller cannot tell apart have hits that a caller cannot tell apart.
-use Rattle.std.proofs.Common.{◌≡◌, ℕ, zero, suc, ◌+◌, ◌*◌, ◌-◌, ◌≤◌, ◌<◌, ◌⊎◌, inl, inr, Bool, List, [], ◌∷◌, map, take, length, refl, sym, ap, ap₂, ◌∙◌, subst, arith, eq-eqb, ne_eqb}
+use Rattle.std.proofs.Common.{◌≡◌, ℕ, zero, suc, ◌+◌, ◌*◌, ◌-◌, ◌≤◌, ◌<◌, ◌⊎◌, inl, inr, Bool, List, [], ◌∷◌, map, take, length, refl, sym, ap, ◌∙◌, subst, arith, eq-eqb, ne_eqb}
 use Rattle.std.specs.Prelude.{Option, None, Some, IsSomeAnd, All, string_bytes, option_map, option_and_then, slice_get, if◌then◌else◌, ◌==◌, chars}
 use Rattle.std.specs.List.{AllZip, sum_by, range_with_len}
 use Rattle.std.specs.Option.{option_or}

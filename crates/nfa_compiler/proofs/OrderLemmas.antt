@@ -1,5 +1,5 @@
 -- A path from the start of a pattern stays among the states of the pattern, which are before the choice between all.
-use Rattle.std.proofs.Common.{◌≡◌, ◌∙◌, ℕ, ◌+◌, ◌*◌, ◌-◌, ◌≤◌, ◌<◌, ◌⊎◌, inl, inr, List, [], ◌∷◌, length}
+use Rattle.std.proofs.Common.{◌≡◌, ◌∙◌, ℕ, ◌+◌, ◌*◌, ◌-◌, ◌≤◌, ◌<◌, inl, inr, List, [], ◌∷◌, length}
 use Rattle.std.proofs.Common.{refl, sym, ap, subst, arith, slice_get}
 use Rattle.std.specs.Prelude.{Option, None, Some, All, option_and_then, slice_index}
 use Rattle.std.specs.Option.{option_map_or}
@@ -12,7 +12,7 @@ use Rattle.regex_search_core.specs.declared.search.Anchored.TheVariants.{No, Yes
 use Rattle.regex_hir.specs.Re.{Re}
 use Rattle.regex_nfa.specs.States.{state_at}
 use Rattle.regex_nfa.specs.declared.nfa.Nfa.{Nfa}
-use Rattle.thompson_nfa.specs.Automaton.{Automaton, Node}
+use Rattle.thompson_nfa.specs.Automaton.{Automaton}
 use Rattle.thompson_nfa.specs.Automaton.Node.{Capture, Match}
 use Rattle.nfa_paths.specs.Graphs.{Pair, In, HeadIs, Linked, EndsWith, PathTo}
 use Rattle.nfa_paths.specs.Paths.{edges, node_at, pairs_from, path_pattern, pattern_of, start_count, start_state}
@@ -20,7 +20,7 @@ use Rattle.nfa_paths.specs.Paths.{starts}
 use Rattle.nfa_paths.proofs.PathToLemmas.{EndsWith-last}
 use Rattle.nfa_engines.specs.PatternLaws.{alternates_of, started_at, StartsMatchTheirPatterns, TriesPatternsInOrder}
 use Rattle.nfa_engines.proofs.AloneLemmas.{pattern-alone}
-use Rattle.nfa_engines.proofs.FirstPatternLemmas.{same_some, start-there}
+use Rattle.nfa_engines.proofs.FirstPatternLemmas.{start-there}
 use Rattle.nfa_engines.proofs.FirstStartLemmas.{pairs_from-in}
 use Rattle.nfa_match_spans.specs.StatePaths.{targets, open_edges}
 use Rattle.nfa_match_spans.proofs.LawLemmas.{linked-open}
@@ -28,6 +28,7 @@ use Rattle.nfa_compiler.specs.declared.block.Site.{Site}
 use Rattle.nfa_compiler.specs.Blocks.{match_at, Stands, IsBlock}
 use Rattle.nfa_compiler.specs.Compiled.{IsNfaOf, first_slot}
 use Rattle.nfa_compiler.proofs.WayLemmas.{after, follows, from-pattern, match_here, stands_here, start_here}
+use Rattle.nfa_paths.proofs.OptionLemmas.{same_some}
 
 -- the states of one pattern
 

@@ -1,9 +1,8 @@
 -- Each number in the states of an NFA of patterns is in range, so `NFA::from_states` finds no flaw in them.
-use Rattle.std.proofs.Common.{◌≡◌, ℕ, ◌+◌, ◌*◌, ◌-◌, ◌≤◌, ◌<◌, inl, inr, Bool, List, [], ◌∷◌, ◌++◌, map, length, refl, sym, ap, ◌∙◌, subst, arith, length-append}
+use Rattle.std.proofs.Common.{◌≡◌, ℕ, ◌+◌, ◌*◌, ◌-◌, ◌≤◌, ◌<◌, inl, inr, Bool, List, map, length, refl, sym, ap, ◌∙◌, subst, arith}
 use Rattle.std.specs.Prelude.{Option, None, Some, All, IfSome, option_map, slice_index_or, slice_range, string_bytes}
-use Rattle.std.specs.List.{sum_by}
 use Rattle.std.proofs.lemmas.Bool.{cases_lt, le-ltb, cond-false}
-use Rattle.std.proofs.lemmas.List.{get_or_default, get_or_past, length-drop, length-map, take_all}
+use Rattle.std.proofs.lemmas.List.{get_or_default, get_or_past, length-drop, length-map}
 use Rattle.std.proofs.lemmas.List.Elements.{All-map}
 use Rattle.regex_search_core.specs.Groups.{slot_count}
 use Rattle.regex_search_core.specs.Patterns.{number_of}
@@ -16,7 +15,6 @@ use Rattle.regex_nfa.specs.declared.nfa.Nfa.{Nfa}
 use Rattle.thompson_nfa.specs.Automaton.{Automaton, IsAutomaton, Node, LeadsBelow, SlotBelow, PatternBelow}
 use Rattle.thompson_nfa.specs.Automaton.Node.{ByteRange, Sparse, Dense, Look, Union, BinaryUnion, Capture, Fail, Match}
 use Rattle.regex_syntax.specs.declared.Parsed.{Parsed}
-use Rattle.thompson_nfa.specs.declared.state.Transition.{Transition}
 use Rattle.thompson_nfa.specs.Flaws.{IsFirstFlaw}
 use Rattle.thompson_nfa.specs.declared.flaw.Flaw.{Flaw}
 use Rattle.thompson_nfa.specs.declared.flaw.Flaw.TheVariants as flaw
@@ -24,8 +22,8 @@ use Rattle.thompson_nfa.specs.declared.flaw.Referrer.TheVariants as holder
 use Rattle.nfa_compiler.specs.declared.block.Site.{Site}
 use Rattle.nfa_compiler.specs.Blocks.{Stands, IsBlock, match_at, moved, slot_in}
 use Rattle.nfa_compiler.specs.Added.{Adds, IsInRange, AreInRange, KeepsInRange}
-use Rattle.nfa_compiler.specs.Compiled.{explicit_names, first_slot, groups_of}
-use Rattle.nfa_compiler.proofs.AddLemmas.{kept-at, last-at, adds-length, adds-one, adds-trans}
+use Rattle.nfa_compiler.specs.Compiled.{explicit_names, groups_of}
+use Rattle.nfa_compiler.proofs.AddLemmas.{kept-at, adds-length}
 
 -- with more room
 
@@ -62,15 +60,6 @@ more-in-range old new slots more patterns all adds wide many behind h = λ i d i
           (adds-length old new adds) wide many (h i Fail before))
       | inr after ↦ behind i after inside
     ])
-
--- one more
-pub one-in-range : (old new : List Node) (n : Node) → new ≡ old ++ n ∷ []
-    → ((slots patterns : ℕ) → IsInRange (length new) slots patterns n) → KeepsInRange old new
-one-in-range old new n e here = λ slots patterns h.
-    let long : length new ≡ length old + 1 = ap length e ∙ length-append old (n ∷ []) in
-    more-in-range old new slots slots patterns patterns (adds-one old new n e) (omega arith) (omega arith)
-    (λ i after inside. subst (IsInRange (length new) slots patterns)
-    (sym (ap (λ ns. slice_index_or ns i Fail) e ∙ last-at old n i (omega arith))) (here slots patterns)) h
 
 -- the states of one pattern
 

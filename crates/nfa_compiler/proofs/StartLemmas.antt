@@ -19,8 +19,10 @@ use Rattle.nfa_compiler.specs.declared.block.Site.{Site}
 use Rattle.nfa_compiler.specs.Blocks.{match_at, slot_in}
 use Rattle.nfa_compiler.specs.Compiled.{IsPattern, first_slot}
 use Rattle.nfa_compiler.specs.Patterns.{PatternHit, hit_of, pick, place_of, writes_of}
-use Rattle.nfa_compiler.proofs.WriteLemmas.{write_of, writes_along, option_or-None, slot_among-writes, last_write-append}
-use Rattle.nfa_compiler.proofs.BlockLemmas.{AreExplicit, Tells, Told, IsClear, ends-cons, among-one, among-cons, walks}
+use Rattle.nfa_compiler.proofs.WriteLemmas.{write_of, writes_along, slot_among-writes, last_write-append}
+use Rattle.nfa_compiler.proofs.BlockLemmas.{AreExplicit, Tells, Told, IsClear, among-one, among-cons, walks}
+use Rattle.nfa_paths.proofs.OptionLemmas.{option_or-None}
+use Rattle.nfa_paths.proofs.PathToLemmas.{EndsWith-cons}
 
 -- writes
 
@@ -91,7 +93,7 @@ module _ (a : Automaton) where
   TellsHit-cons v (Some t) None none h = absurd h
   TellsHit-cons v (Some t) (Some p) none h = record {
     end = h.end;
-    ends = ends-cons v h.end p h.ends;
+    ends = EndsWith-cons v h.end p h.ends;
     at = h.at;
     pattern_is = h.pattern_is;
     known = h.known;
@@ -144,7 +146,7 @@ module _ (a : Automaton) (x : Search) (whole : x.end ≡ length x.haystack) wher
         → ToldHit a (record { pattern = k; start = i; trace = t }) (v ∷ p)
     tell-some t p on told = record {
       end = (match_at s, t.end);
-      ends = ends-cons v (match_at s, t.end) p told.ends;
+      ends = EndsWith-cons v (match_at s, t.end) p told.ends;
       at = refl;
       pattern_is = ap pattern_of match_here ∙ ap Some made.pattern_is;
       known = known;

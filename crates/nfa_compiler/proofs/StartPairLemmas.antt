@@ -7,6 +7,7 @@ use Rattle.regex_search_core.specs.Search.{Search, is_anchored}
 use Rattle.thompson_nfa.specs.Automaton.{Automaton}
 use Rattle.nfa_paths.specs.Graphs.{Pair, In}
 use Rattle.nfa_paths.specs.Paths.{pairs_from, start_state, start_count, starts}
+use Rattle.nfa_paths.proofs.StartLemmas.{pairs_from-has}
 
 -- the pairs of a state at n positions from one on
 
@@ -18,13 +19,6 @@ pairs-sound state at (suc n) v i = elim i [
   | inr later ↦
       let rest = pairs-sound state (at + 1) n v later in
       (rest.0, omega (arith, rest.1), omega (arith, rest.2))
-]
-
-pairs-complete : (state at n i : ℕ) → at ≤ i → i < at + n → In (state, i) (pairs_from state at n)
-pairs-complete state at zero i from below = absurd (omega arith)
-pairs-complete state at (suc n) i from below = elim (cases_lt at i) [
-  | inl later ↦ inr (pairs-complete state (at + 1) n i (omega arith) (omega arith))
-  | inr here ↦ inl (let same : i ≡ at = omega arith in ap (λ j. (state, j)) same)
 ]
 
 module _ (a : Automaton) (x : Search) where
@@ -73,4 +67,4 @@ module _ (a : Automaton) (x : Search) where
       → In (state, i) (starts a x)
   starts-complete state i is from inside to =
       subst (λ o. In (state, i) (option_map_or (λ s. pairs_from s x.start (start_count a x)) o [])) (sym is)
-      (pairs-complete state x.start (start_count a x) i from ((counted i from).1 (inside, to)))
+      (pairs_from-has state x.start (start_count a x) i from ((counted i from).1 (inside, to)))

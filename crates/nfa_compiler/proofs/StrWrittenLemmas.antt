@@ -1,13 +1,11 @@
 -- A search of a `str` in UTF-8 mode finds something exactly if a pattern matches from a boundary as which its text is
 -- read.
 use Rattle.std.proofs.Common.{◌≡◌, ℕ, Bool, true, false, List, [], ◌∷◌, length, refl, sym, ap, ◌∙◌, arith, IsUtf8}
-use Rattle.std.specs.Prelude.{Option, None, Some, All, IsTrue, is_some, option_map, if◌then◌else◌, ◌==◌, ◌&&◌, ◌↔◌}
+use Rattle.std.specs.Prelude.{Option, None, Some, All, is_some, option_map, if◌then◌else◌, ◌==◌, ◌↔◌}
 use Rattle.std.specs.List.{AllZip}
-use Rattle.std.proofs.lemmas.List.Elements.{All-map}
 use Rattle.regex_hir.specs.Find.{Match, find_str}
 use Rattle.regex_hir.specs.Meaning.{meaning}
 use Rattle.regex_hir.specs.Re.{Re, Rest, accept, attempt}
-use Rattle.regex_hir.specs.Reads.{always_reads}
 use Rattle.regex_hir.specs.Text.{is_boundary}
 use Rattle.regex_hir.proofs.AttemptLemmas.{attempt_complete, attempt_sound, cond_some}
 use Rattle.regex_hir.proofs.FindLemmas.{IsFirst-of_first_between, none_of_first_between}

@@ -6,6 +6,7 @@ use Rattle.regex_hir.specs.Find.{last_write}
 use Rattle.thompson_nfa.specs.Automaton.{Automaton}
 use Rattle.nfa_paths.specs.Graphs.{Pair}
 use Rattle.nfa_paths.specs.Paths.{capture, slot_among}
+use Rattle.nfa_paths.proofs.OptionLemmas.{option_or-None, option_or-assoc}
 
 -- what a pair writes
 abbrev pub write_of : Option ℕ → ℕ → List (ℕ × ℕ)
@@ -16,15 +17,6 @@ write_of (Some slot) i = (slot, i) ∷ []
 abbrev pub writes_along : Automaton → List Pair → List (ℕ × ℕ)
 writes_along a [] = []
 writes_along a (v ∷ p) = write_of (capture a v) v.1 ++ writes_along a p
-
--- nothing more to fall back on
-pub option_or-None : (o : Option ℕ) → option_or o None ≡ o
-option_or-None None = refl
-option_or-None (Some k) = refl
-
-option_or-assoc : (o p q : Option ℕ) → option_or (option_or o p) q ≡ option_or o (option_or p q)
-option_or-assoc None p q = refl
-option_or-assoc (Some k) p q = refl
 
 -- a pair's write, and those after it
 write-last : (o : Option ℕ) (i slot : ℕ) (ws : List (ℕ × ℕ))

@@ -1,8 +1,6 @@
 -- What is found at the end of the span is the scan's answer.
 use Rattle.std.proofs.Common.{◌≡◌, ℕ, ◌+◌, ◌-◌, ◌<◌, arith, inl, inr, Bool, true, false, List, [], ◌++◌, refl, ap, sym, ◌∙◌, subst}
-use Rattle.std.specs.Prelude.{Option, None, Some, option_map, option_and_then}
-use Rattle.std.specs.Option.{option_or}
-use Rattle.regex_search_core.specs.Found.{HalfFound}
+use Rattle.std.specs.Prelude.{Option, None, option_map, option_and_then}
 use Rattle.regex_search_core.specs.Search.{Search}
 use Rattle.regex_search_core.specs.declared.search.MatchKind.{MatchKind}
 use Rattle.regex_search_core.specs.declared.search.MatchKind.TheVariants.{All, LeftmostFirst}
@@ -19,6 +17,7 @@ use Rattle.nfa_determinize.proofs.FollowLemmas.{pairs, bare, Finding}
 use Rattle.nfa_determinize.proofs.PositionLemmas.{waiting, waiting-none, Fresh, shape, states-end, starts-end, past-end, ends-there}
 use Rattle.nfa_determinize.proofs.FirstScanLemmas.{FirstScan, FirstScan-scanned}
 use Rattle.nfa_determinize.proofs.LastScanLemmas.{Answered, Answered-found, LastScan, LastScan-scanned, EarliestScan, EarliestScan-scanned}
+use Rattle.nfa_paths.proofs.OptionLemmas.{option_or-None}
 
 module _ (nfa : Automaton) (x : Search) where
   -- no state and no start is left of the search for the first path
@@ -90,10 +89,6 @@ module _ (nfa : Automaton) (x : Search) where
   dead-stays kind earliest at c d =
       ap (λ (here : List ℕ). next_configuration nfa x kind earliest at here c) (closure-none at c d) ∙ of kind earliest
     where
-      keeps : (o : Option HalfFound) → option_or o None ≡ o
-      keeps None = refl
-      keeps (Some h) = refl
-
       same : (k : MatchKind) (e : Bool) → step nfa (byte_at x at) (kept nfa k []) ≡ []
           → starts_after k (pattern_by_kind nfa k []) c.starts ≡ c.starts
           → found_after e c.found (option_map (half_at at) (pattern_by_kind nfa k [])) ≡ c.found
@@ -105,7 +100,7 @@ module _ (nfa : Automaton) (x : Search) where
       less = omega arith
 
       of : (k : MatchKind) (e : Bool) → next_configuration nfa x k e at [] c ≡ c
-      of LeftmostFirst true = same LeftmostFirst true refl (rw d.starts less) (keeps c.found)
+      of LeftmostFirst true = same LeftmostFirst true refl (rw d.starts less) (option_or-None c.found)
       of LeftmostFirst false = same LeftmostFirst false refl (rw d.starts less) refl
-      of All true = same All true refl (rw d.starts less) (keeps c.found)
+      of All true = same All true refl (rw d.starts less) (option_or-None c.found)
       of All false = same All false refl (rw d.starts less) refl

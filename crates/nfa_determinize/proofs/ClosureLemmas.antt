@@ -6,7 +6,7 @@ use Rattle.std.proofs.lemmas.List.{length-append, length-replicate, length-rever
 use Rattle.std.proofs.lemmas.List.Elements.{All-append, All-cons, All-head, All-nil, All-pop, All-push, All-tail}
 use Rattle.std.proofs.lemmas.Option.{get_or_from_slice_get, slice_get-map}
 use Rattle.thompson_nfa.specs.Automaton.{Automaton, Node, LeadsBelow}
-use Rattle.thompson_nfa.specs.Automaton.Node.{ByteRange, Sparse, Dense, Look, Union, BinaryUnion, Capture, Fail, Match}
+use Rattle.thompson_nfa.specs.Automaton.Node.{Look, Union, BinaryUnion, Capture}
 use Rattle.nfa_paths.specs.Kinds.{rests}
 use Rattle.nfa_paths.specs.Paths.{degree, node_at}
 use Rattle.nfa_paths.specs.Turns.{marked_sum}
@@ -25,17 +25,9 @@ AreBelow-reverse n (s ∷ states) below =
     (All-push (λ s. s < n) (reverse states) s (AreBelow-reverse n states (All-tail (λ s. s < n) s states below))
     (All-head (λ s. s < n) s states below))
 
--- a state's number names its node
-pub node_at-get : (nfa : Automaton) (s : ℕ) (node : Node) → slice_get nfa.states s ≡ Some node → node_at nfa s ≡ node
-unfolding node_at
-node_at-get nfa s node is = get_or_from_slice_get nfa.states s node Fail is
-
 -- the states that a state leads to without a byte
 epsilon-below : (holding : Holding) (n : ℕ) (node : Node) → LeadsBelow n node
     → AreBelow n (epsilon_states holding node)
-epsilon-below holding n (ByteRange t) leads = All-nil (λ s. s < n)
-epsilon-below holding n (Sparse ts) leads = All-nil (λ s. s < n)
-epsilon-below holding n (Dense targets) leads = All-nil (λ s. s < n)
 epsilon-below holding n (Look look next) leads = of (holding look)
   where
     of : (b : Bool) → AreBelow n (cond b (next ∷ []) [])
@@ -45,23 +37,15 @@ epsilon-below holding n (Union alternates) leads = leads
 epsilon-below holding n (BinaryUnion a b) leads =
     All-cons (λ s. s < n) a (b ∷ []) leads.0 (All-cons (λ s. s < n) b [] leads.1 (All-nil (λ s. s < n)))
 epsilon-below holding n (Capture next slot) leads = All-cons (λ s. s < n) next [] leads (All-nil (λ s. s < n))
-epsilon-below holding n Fail leads = All-nil (λ s. s < n)
-epsilon-below holding n (Match pattern) leads = All-nil (λ s. s < n)
+epsilon-below holding n _ leads = All-nil (λ s. s < n)
 
 epsilon-few : (holding : Holding) (node : Node) → length (epsilon_states holding node) ≤ degree node
-epsilon-few holding (ByteRange t) = omega arith
-epsilon-few holding (Sparse ts) = omega arith
-epsilon-few holding (Dense targets) = omega arith
 epsilon-few holding (Look look next) = of (holding look)
   where
     of : (b : Bool) → length (cond b (next ∷ []) []) ≤ 1
     of true = omega arith
     of false = omega arith
-epsilon-few holding (Union alternates) = omega arith
-epsilon-few holding (BinaryUnion a b) = omega arith
-epsilon-few holding (Capture next slot) = omega arith
-epsilon-few holding Fail = omega arith
-epsilon-few holding (Match pattern) = omega arith
+epsilon-few holding _ = omega arith
 
 -- how many states may still be taken from the stack
 abbrev pub takes_left : Automaton → List Bool → List ℕ → ℕ

@@ -14,10 +14,11 @@ use Rattle.nfa_paths.proofs.PathToLemmas.{is_false}
 use Rattle.nfa_paths.proofs.ScanningLemmas.{Searching-cut}
 use Rattle.nfa_determinize.specs.Closures.{before_first_match, step}
 use Rattle.nfa_determinize.specs.Configurations.{Configuration, begin, closure_at, next_configuration, advance, scanned}
-use Rattle.nfa_determinize.proofs.FollowLemmas.{pairs, place, SeenAt, bare, Finding}
+use Rattle.nfa_determinize.proofs.FollowLemmas.{pairs, place, bare, Finding}
 use Rattle.nfa_determinize.proofs.NextLemmas.{Finding-next}
 use Rattle.nfa_determinize.proofs.MatchLemmas.{half_of, FirstIn, NoneIn, first-is}
 use Rattle.nfa_determinize.proofs.PositionLemmas.{waiting, waiting-none, waiting-later, Fresh, closed, closed-rests, follow-here, Finding-begin}
+use Rattle.nfa_scan_core.specs.Marks.{SeenAt}
 
 module _ (nfa : Automaton) (x : Search) where
   -- before a position, with what was found so far

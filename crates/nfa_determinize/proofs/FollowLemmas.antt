@@ -1,12 +1,11 @@
 -- The search for paths, without slots, goes through the closure of the states at a position, and on to the next one.
-use Rattle.std.proofs.Common.{◌≡◌, ℕ, zero, suc, ◌+◌, ◌<◌, ◌≤◌, ◌⊎◌, ◌↔◌, inl, inr, Bool, true, false, List, [], ◌∷◌, ◌++◌, length, replicate, get_or, set, length-set, map, refl, ap, sym, ◌∙◌, subst, arith, append_assoc, append-nil, get_or-set_same, get_or-set_other}
+use Rattle.std.proofs.Common.{◌≡◌, ℕ, zero, suc, ◌+◌, ◌<◌, ◌≤◌, inl, inr, Bool, true, false, List, [], ◌∷◌, ◌++◌, length, get_or, set, length-set, map, refl, ap, sym, ◌∙◌, subst, arith, append_assoc, append-nil}
 use Rattle.std.specs.Prelude.{Option, None, Some, cond, is_some, option_and_then, option_map, option_to_list}
-use Rattle.std.proofs.Math.Decide.{ℕ_discrete}
 use Rattle.std.proofs.lemmas.Bool.{cases_Bool}
-use Rattle.std.proofs.lemmas.List.{get_or_default, get_or_past}
+use Rattle.std.proofs.lemmas.List.{get_or_past}
 use Rattle.regex_search_core.specs.Search.{Search}
 use Rattle.thompson_nfa.specs.Automaton.{Automaton, Node}
-use Rattle.thompson_nfa.specs.Automaton.Node.{ByteRange, Sparse, Dense, Look, Union, BinaryUnion, Capture, Fail, Match}
+use Rattle.thompson_nfa.specs.Automaton.Node.{Look, Union, BinaryUnion, Capture, Fail, Match}
 use Rattle.thompson_nfa.specs.Looks.{look_holds}
 use Rattle.nfa_paths.specs.Graphs.{Pair, Space, In}
 use Rattle.nfa_paths.specs.FirstPaths.{Path}
@@ -21,6 +20,9 @@ use Rattle.nfa_paths.proofs.SearchingLemmas.{Searching-marked, Searching-plain, 
 use Rattle.nfa_paths.proofs.ScanAnswerLemmas.{edges-onward, edges-rise}
 use Rattle.nfa_determinize.specs.Closures.{holding_at, epsilon_states, explore}
 use Rattle.nfa_determinize.proofs.ExploreLemmas.{unseen, unseen-set, unseen-none, unseen-inside, seen-past, explore-none}
+use Rattle.nfa_scan_core.proofs.SeenLemmas.{SeenAt-set, SeenAt-clear}
+use Rattle.nfa_scan_core.specs.Marks.{SeenAt}
+use Rattle.nfa_paths.proofs.StartLemmas.{resting-edges}
 
 -- the states at a position
 abbrev pub pairs : ℕ → List ℕ → List Pair
@@ -29,11 +31,6 @@ pairs at states = map (λ s. (s, at)) states
 -- a state that was put aside, with no slots
 abbrev pub place : ℕ → ℕ → Pair × Slots
 place at s = ((s, at), [])
-
--- the pair is at the position, and its state was seen
-pub record SeenAt (at : ℕ) (seen : List Bool) (v : Pair) : Type 0 where
-  pub here : v.1 ≡ at
-  pub set : get_or seen v.0 false ≡ true
 
 -- each pair of the set is a Match
 abbrev pub AreMatches : Automaton → (Pair → Bool) → Type 0
@@ -51,44 +48,6 @@ Finding nfa x target Seen spent front otherwise work =
     (λ g total. ExploresTo (bare nfa x) target total None [] (map Explore (starts nfa x)) [] g) Seen spent front
     otherwise (map Explore work) []
 
--- what is seen
-
--- to see a state adds its pair and no other
-SeenAt-set : (at s : ℕ) (seen : List Bool) → s < length seen → (v : Pair)
-    → SeenAt at (set seen s true) v ↔ ((v ≡ (s, at)) ⊎ SeenAt at seen v)
-SeenAt-set at s seen inside v = (
-  λ m.
-      elim (ℕ_discrete v.0 s) [
-        | yes e ↦ inl (λ i. (e i, m.here i))
-        | no n ↦ inr (record { here = m.here; set = sym (get_or-set_other seen s v.0 true false n) ∙ m.set })
-      ],
-  λ m.
-      elim m [
-        | inl e ↦ rw e (record { here = refl; set = get_or-set_same seen s true false inside })
-        | inr old ↦
-            elim (ℕ_discrete v.0 s) [
-              | yes e ↦ record { here = old.here; set = rw e (get_or-set_same seen s true false inside) }
-              | no n ↦ record { here = old.here; set = get_or-set_other seen s v.0 true false n ∙ old.set }
-            ]
-      ],
-)
-
--- a state that was not seen
-SeenAt-clear : (at s : ℕ) (seen : List Bool) → s < length seen → get_or seen s true ≡ false
-    → ¬ (SeenAt at seen (s, at))
-SeenAt-clear at s seen inside clear m =
-    let e : get_or seen s false ≡ false = get_or_default seen s false true inside ∙ clear in
-    absurd (cc (m.set, e))
-
--- at first no pair was seen
-pub SeenAt-none : (at n : ℕ) (v : Pair) → SeenAt at (replicate n false) v → ⊥
-SeenAt-none at n v s = never n v.0 s.set
-  where
-    never : (n k : ℕ) → get_or (replicate n false) k false ≡ true → ⊥
-    never zero k e = cc
-    never (suc n) zero e = cc
-    never (suc n) (suc k) e = never n k e
-
 -- the work of several states
 
 pub pairs-append : (at : ℕ) (states more : List ℕ) (rest : List Pair)
@@ -104,9 +63,6 @@ work-append (v ∷ states) more = ap (λ (w : List Task). Explore v ∷ w) (work
 epsilon-edges : (x : Search) (at : ℕ) (node : Node) → rests node ≡ false
     → edges_of x node at ≡ pairs at (epsilon_states (holding_at x.haystack at) node)
 unfolding edges_of
-epsilon-edges x at (ByteRange t) r = cc
-epsilon-edges x at (Sparse ts) r = cc
-epsilon-edges x at (Dense targets) r = cc
 epsilon-edges x at (Look look next) r = of (look_holds look x.haystack at)
   where
     of : (b : Bool) → cond b ((next, at) ∷ []) [] ≡ pairs at (cond b (next ∷ []) [])
@@ -115,8 +71,7 @@ epsilon-edges x at (Look look next) r = of (look_holds look x.haystack at)
 epsilon-edges x at (Union alternates) r = refl
 epsilon-edges x at (BinaryUnion a b) r = refl
 epsilon-edges x at (Capture next slot) r = refl
-epsilon-edges x at Fail r = cc
-epsilon-edges x at (Match pattern) r = cc
+epsilon-edges x at _ r = cc
 
 -- a state that rests leads to its target
 byte-edges : (at : ℕ) (on : ℕ → Option ℕ) (byte : Option ℕ)
@@ -130,34 +85,14 @@ byte-edges at on (Some b) = of (on b)
     of None = refl
     of (Some t) = refl
 
-no-edges : (at : ℕ) (byte : Option ℕ) → [] ≡ pairs (at + 1) (option_to_list (option_and_then (λ b. None) byte))
-no-edges at None = refl
-no-edges at (Some b) = refl
-
-pub resting-edges : (x : Search) (at : ℕ) (node : Node) → rests node ≡ true
+pub rests-edges : (x : Search) (at : ℕ) (node : Node) → rests node ≡ true
     → edges_of x node at ≡ pairs (at + 1) (option_to_list (option_and_then (target_on node) (byte_at x at)))
-unfolding edges_of
-resting-edges x at (ByteRange t) r = byte-edges at (target_on (ByteRange t)) (byte_at x at)
-resting-edges x at (Sparse ts) r = byte-edges at (target_on (Sparse ts)) (byte_at x at)
-resting-edges x at (Dense targets) r = byte-edges at (target_on (Dense targets)) (byte_at x at)
-resting-edges x at (Look look next) r = cc
-resting-edges x at (Union alternates) r = cc
-resting-edges x at (BinaryUnion a b) r = cc
-resting-edges x at (Capture next slot) r = cc
-resting-edges x at Fail r = no-edges at (byte_at x at)
-resting-edges x at (Match pattern) r = no-edges at (byte_at x at)
+rests-edges x at node r = resting-edges x node at r ∙ byte-edges at (target_on node) (byte_at x at)
 
 -- a match rests
 match-rests : (node : Node) → is_some (pattern_of node) ≡ true → rests node ≡ true
-match-rests (ByteRange t) m = refl
-match-rests (Sparse ts) m = refl
-match-rests (Dense targets) m = refl
-match-rests (Look look next) m = cc
-match-rests (Union alternates) m = cc
-match-rests (BinaryUnion a b) m = cc
-match-rests (Capture next slot) m = cc
-match-rests Fail m = refl
 match-rests (Match pattern) m = refl
+match-rests _ m = cc
 
 module _ (nfa : Automaton) (x : Search) (at : ℕ) where
   -- What the search for any set of matches comes to by the waiting states: some states are put aside, and some pairs

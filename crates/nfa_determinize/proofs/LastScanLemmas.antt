@@ -22,6 +22,7 @@ use Rattle.nfa_determinize.proofs.FollowLemmas.{place, bare}
 use Rattle.nfa_determinize.proofs.NextLemmas.{place-among}
 use Rattle.nfa_determinize.proofs.MatchLemmas.{half_of, FirstIn, NoneIn, first-is, half-last, half-found}
 use Rattle.nfa_determinize.proofs.PositionLemmas.{AllScan, shape, turns_here, front, AllScan-next, Finding-begin}
+use Rattle.nfa_paths.proofs.OptionLemmas.{option_or-None}
 
 module _ (nfa : Automaton) (x : Search) where
   -- the pattern and the end of the answer of a scan
@@ -189,13 +190,9 @@ module _ (nfa : Automaton) (x : Search) where
               })
         ]
       where
-        or-none : (o : Option HalfFound) → option_or o None ≡ o
-        or-none None = refl
-        or-none (Some k) = refl
-
         hit_is : half_of nfa (last_match (is_match nfa) None (map (place at) (closure_at nfa x at c)))
             ≡ option_map (half_at at) (last_pattern nfa (closure_at nfa x at c))
-        hit_is = half-last nfa at (closure_at nfa x at c) None ∙ or-none _
+        hit_is = half-last nfa at (closure_at nfa x at c) None ∙ option_or-None _
 
         is_half : (end : ℕ) (o : Option ℕ) → is_some o ≡ true → is_some (option_map (half_at end) o) ≡ true
         is_half end None e = cc

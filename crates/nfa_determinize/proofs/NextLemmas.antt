@@ -12,7 +12,9 @@ use Rattle.nfa_paths.proofs.SearchLemmas.{AnswerBehind-along}
 use Rattle.nfa_paths.proofs.SearchingLemmas.{Searching-round}
 use Rattle.nfa_paths.proofs.ScanAnswerLemmas.{edges-onward, edges-rise}
 use Rattle.nfa_determinize.specs.Closures.{step}
-use Rattle.nfa_determinize.proofs.FollowLemmas.{pairs, place, SeenAt, SeenAt-none, bare, Finding, pairs-append, work-append, resting-edges}
+use Rattle.nfa_determinize.proofs.FollowLemmas.{pairs, place, bare, Finding, pairs-append, work-append, rests-edges}
+use Rattle.nfa_scan_core.specs.Marks.{SeenAt}
+use Rattle.nfa_scan_core.proofs.SeenLemmas.{SeenAt-none}
 
 module _ (nfa : Automaton) (x : Search) (at : ℕ) where
   -- more work before it does not matter
@@ -44,7 +46,7 @@ module _ (nfa : Automaton) (x : Search) (at : ℕ) where
       ≡ map Explore (pairs (at + 1) next) ++ map Explore (pairs (at + 1) more ++ rest) =
       ap (map Explore) (pairs-append (at + 1) next more rest)
       ∙ sym (work-append (pairs (at + 1) next) (pairs (at + 1) more ++ rest)) in
-      rw (resting-edges x at (node_at nfa s) (r s (inl refl)))
+      rw (rests-edges x at (node_at nfa s) (r s (inl refl)))
       (work-after target (pairs (at + 1) next) (map Explore (pairs (at + 1) more ++ rest))
       (next_tasks (edges nfa x) (map (place at) states) (Load [] ∷ map Explore rest)) left otherwise marks g
       (round-work target states (λ t i. r t (inr i)) rest left otherwise marks g)

@@ -21,8 +21,10 @@ use Rattle.nfa_paths.proofs.StartLemmas.{pairs_from-ahead, starts-none}
 use Rattle.nfa_determinize.specs.Closures.{EachOnce, holding_at, step, pattern_by_kind, kept}
 use Rattle.nfa_determinize.specs.Configurations.{Configuration, start_here, closure_at, starts_after, position_count, scanned}
 use Rattle.nfa_determinize.proofs.ExploreLemmas.{unseen, unseen-all, explore-keeps, explore-once}
-use Rattle.nfa_determinize.proofs.FollowLemmas.{pairs, place, SeenAt, SeenAt-none, bare, Finding, pairs-append, Followed, follow}
+use Rattle.nfa_determinize.proofs.FollowLemmas.{pairs, place, bare, Finding, pairs-append, Followed, follow}
 use Rattle.nfa_determinize.proofs.NextLemmas.{place-among, Explore-among, Finding-next}
+use Rattle.nfa_scan_core.specs.Marks.{SeenAt}
+use Rattle.nfa_scan_core.proofs.SeenLemmas.{SeenAt-none}
 
 -- the list has as many pairs
 pub length-pairs_from : (state at count : ℕ) → length (pairs_from state at count) ≡ count

@@ -14,15 +14,13 @@ use Rattle.nfa_paths.proofs.AnswerLemmas.{ends_on_boundary, scan_answer-leads}
 use Rattle.nfa_determinize.specs.Configurations.{scan_half}
 use Rattle.nfa_determinize.specs.Searches.{IsWholeHalf, FindsSplit, IsKeptHalf, IsRestartedHalf, IsStepsHalf}
 use Rattle.nfa_determinize.proofs.AnswerLemmas.{scan-answered, steps-find}
+use Rattle.nfa_paths.proofs.OptionLemmas.{same_some}
 
 never-none : {A : Type 0} (a : A) → None ≡ Some a → ⊥
 never-none a e = cc
 
 never-some : {A : Type 0} (a : A) → Some a ≡ None → ⊥
 never-some a e = cc
-
-same-half : (h k : HalfFound) → Some h ≡ Some k → h ≡ k
-same-half h k e = cc
 
 -- only the haystack has boundaries
 boundary-moves : (x y : Search) (p : List Pair) → y.haystack ≡ x.haystack → EndsOnBoundary x p → EndsOnBoundary y p
@@ -69,7 +67,7 @@ module _ (nfa : Automaton) (kind : MatchKind) (earliest : Bool) where
       of None answers is = absurd (never-none half is)
       of (Some p) answers is =
           let k = ends x p answers in
-          let same : k.half ≡ half = same-half k.half half (sym k.is ∙ is) in
+          let same : k.half ≡ half = same_some k.half half (sym k.is ∙ is) in
           record {
             path = p;
             answers = answers;

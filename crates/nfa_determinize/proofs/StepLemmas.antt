@@ -1,8 +1,8 @@
 -- Steps and matches of a list, a state at a time.
-use Rattle.std.proofs.Common.{◌≡◌, ℕ, ◌+◌, ◌<◌, List, [], ◌∷◌, ◌++◌, length, get_or, take, drop, reverse, refl, ap, sym, ◌∙◌, append_assoc}
+use Rattle.std.proofs.Common.{◌≡◌, ℕ, ◌+◌, ◌<◌, List, [], ◌∷◌, ◌++◌, length, get_or, take, drop, refl, ap, sym, ◌∙◌, append_assoc}
 use Rattle.std.specs.Prelude.{Option, None, Some, is_some, true, false, option_and_then, option_map, option_to_list}
 use Rattle.std.specs.Option.{option_or}
-use Rattle.std.proofs.lemmas.List.{drop_more, reverse-append, take_more}
+use Rattle.std.proofs.lemmas.List.{drop_more, take_more}
 use Rattle.regex_search_core.specs.Patterns.{number_of}
 use Rattle.regex_search_core.specs.declared.primitives.PatternID.{PatternID}
 use Rattle.thompson_nfa.specs.Automaton.{Automaton, Node, LeadsBelow}
@@ -73,10 +73,3 @@ module _ (nfa : Automaton) (xs : List ℕ) (i : ℕ) (s : ℕ) (inside : i < len
   step-more byte next o e =
       rw (drop-here, e) (append_assoc next (option_to_list (option_and_then (target_on (node_at nfa s)) byte))
       (step nfa byte (drop (i + 1) xs)))
-
-  -- the states from the last to the first
-  pub pushed-more : (stack : List ℕ)
-      → (stack ++ s ∷ []) ++ reverse (take i xs) ≡ stack ++ reverse (take (i + 1) xs)
-  pushed-more stack =
-      rw take-here (append_assoc stack (s ∷ []) (reverse (take i xs))
-      ∙ ap (λ ts. stack ++ ts) (sym (reverse-append (take i xs) (s ∷ []))))

@@ -77,8 +77,7 @@ fn rests(state: &State) -> bool
     match state {
         State::ByteRange { .. } | State::Sparse(_) | State::Dense(_) => true,
         State::Fail | State::Match { .. } => true,
-        State::Look { .. } | State::Union { .. } => false,
-        State::BinaryUnion { .. } | State::Capture { .. } => false,
+        _ => false,
     }
 }
 

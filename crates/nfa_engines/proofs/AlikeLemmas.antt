@@ -8,7 +8,7 @@ use Rattle.std.proofs.lemmas.List.{length-take-le}
 use Rattle.std.proofs.lemmas.Option.{slice_get-get_or, slice_get_past}
 use Rattle.regex_search_core.specs.Search.{Search}
 use Rattle.thompson_nfa.specs.Automaton.{Automaton, Node}
-use Rattle.thompson_nfa.specs.Automaton.Node.{ByteRange, Sparse, Dense, Look, Union, BinaryUnion, Capture, Fail, Match}
+use Rattle.thompson_nfa.specs.Automaton.Node.{Look}
 use Rattle.thompson_nfa.specs.Looks.{differ, is_byte_at, is_byte_before, is_word_after, is_word_before, is_word_byte}
 use Rattle.thompson_nfa.specs.Looks.{look_holds}
 use Rattle.thompson_nfa.specs.declared.look.Look as looks
@@ -138,15 +138,8 @@ alike-from : (P : looks.Look → Type 0) (nfa : Automaton) (k : ℕ) (x y : Sear
 alike-from P nfa k x y holds each = λ i d inside. of (get_or nfa.states i d) (each i d inside)
   where
     of : (node : Node) → IfLook P node → HoldsAlike k x y node
-    of (ByteRange t) h = tt
-    of (Sparse ts) h = tt
-    of (Dense targets) h = tt
     of (Look look next) h = holds look h
-    of (Union alternates) h = tt
-    of (BinaryUnion a b) h = tt
-    of (Capture next slot) h = tt
-    of Fail h = tt
-    of (Match pattern) h = tt
+    of _ h = tt
 
 module _ (k : ℕ) (x y : Search) (span : IsSpanMoved k x y) (bytes : AreBytesMoved k x y) where
   -- the byte before a position after the start of the span

@@ -6,13 +6,15 @@ use Rattle.std.proofs.lemmas.Bool.{cases_eq, cases_lt}
 use Rattle.regex_search_core.specs.Search.{Search}
 use Rattle.regex_search_core.specs.declared.search.Anchored.TheVariants.{Yes}
 use Rattle.thompson_nfa.specs.Automaton.{Automaton, Node}
-use Rattle.thompson_nfa.specs.Automaton.Node.{ByteRange, Sparse, Dense, Look, Union, BinaryUnion, Capture, Fail, Match}
+use Rattle.thompson_nfa.specs.Automaton.Node.{Union, BinaryUnion, Capture, Match}
 use Rattle.nfa_paths.specs.Graphs.{Pair, In, Earlier, HeadIs, NoRepeats, Linked, EndsWith, ComesBefore}
 use Rattle.nfa_paths.specs.Graphs.{PathTo}
 use Rattle.nfa_paths.specs.Paths.{capture, edges, edges_of, node_at, pattern_of, slot_of}
 use Rattle.nfa_paths.specs.Paths.{starts, is_match, IsMatch}
 use Rattle.nfa_paths.proofs.StartLemmas.{starts-none}
 use Rattle.nfa_engines.specs.PatternLaws.{alternates_of, started_at, IsUnionOfPatterns}
+use Rattle.nfa_paths.proofs.OptionLemmas.{same_some}
+use Rattle.nfa_paths.proofs.PathToLemmas.{EndsWith-cons}
 
 -- lists
 
@@ -21,10 +23,6 @@ pub put-linked : (edges : Pair → List Pair) (v w : Pair) (p : List Pair) → I
     → Linked edges (v ∷ p)
 put-linked edges v w [] edge head linked = tt
 put-linked edges v w (a ∷ p) edge head linked = (subst (λ z. In z (edges v)) (sym head) edge, linked)
-
-put-ends : (a m : Pair) (p : List Pair) → EndsWith m p → EndsWith m (a ∷ p)
-put-ends a m [] h = absurd h
-put-ends a m (b ∷ p) h = h
 
 -- what is in a path has a path of its own
 record Begins (edges : Pair → List Pair) (s v : Pair) (p : List Pair) : Type 0 where
@@ -54,12 +52,9 @@ begins edges s v (a ∷ (b ∷ p)) head once linked (inr i) =
       head = head;
       once = (λ j. once.0 (r.within a j), r.once);
       linked = put-linked edges a b r.along linked.0 r.head r.linked;
-      ends = put-ends a v r.along r.ends;
+      ends = EndsWith-cons a v r.along r.ends;
       within = λ z j. elim j [ inl same ↦ inl same | inr later ↦ inr (r.within z later) ];
     }
-
-pub same_some : {A : Type 0} (m n : A) → Some m ≡ Some n → m ≡ n
-same_some m n e = cc
 
 -- the first place of a state among the starts of patterns
 module _ (b : ℕ) where
@@ -144,51 +139,23 @@ module _ (b : ℕ) where
 never-none : (ps : List ℕ) → None ≡ Some ps → ⊥
 never-none ps e = cc
 
-same-list : (ss ps : List ℕ) → Some ss ≡ Some ps → ss ≡ ps
-same-list ss ps e = cc
-
 -- the edges of a union
 union-edges : (x : Search) (b : ℕ) (n : Node) (ps : List ℕ) → alternates_of n ≡ Some ps
     → edges_of x n b ≡ at_position b ps
 unfolding edges_of
-union-edges x b (Union ss) ps e = ap (at_position b) (same-list ss ps e)
-union-edges x b (BinaryUnion c d) ps e = ap (at_position b) (same-list (c ∷ d ∷ []) ps e)
-union-edges x b (ByteRange t) ps e = absurd (never-none ps e)
-union-edges x b (Sparse ts) ps e = absurd (never-none ps e)
-union-edges x b (Dense targets) ps e = absurd (never-none ps e)
-union-edges x b (Look look next) ps e = absurd (never-none ps e)
-union-edges x b (Capture next slot) ps e = absurd (never-none ps e)
-union-edges x b Fail ps e = absurd (never-none ps e)
-union-edges x b (Match pattern) ps e = absurd (never-none ps e)
+union-edges x b (Union ss) ps e = ap (at_position b) (same_some ss ps e)
+union-edges x b (BinaryUnion c d) ps e = ap (at_position b) (same_some (c ∷ d ∷ []) ps e)
+union-edges x b _ ps e = absurd (never-none ps e)
 
 -- it is not a Match
 union-plain : (n : Node) (ps : List ℕ) → alternates_of n ≡ Some ps → is_some (pattern_of n) ≡ false
 union-plain (Match pattern) ps e = absurd (never-none ps e)
-union-plain (Union ss) ps e = refl
-union-plain (BinaryUnion c d) ps e = refl
-union-plain (ByteRange t) ps e = refl
-union-plain (Sparse ts) ps e = refl
-union-plain (Dense targets) ps e = refl
-union-plain (Look look next) ps e = refl
-union-plain (Capture next slot) ps e = refl
-union-plain Fail ps e = refl
+union-plain _ ps e = refl
 
 -- and writes nothing
 union-writes : (n : Node) (ps : List ℕ) → alternates_of n ≡ Some ps → slot_of n ≡ None
 union-writes (Capture next slot) ps e = absurd (never-none ps e)
-union-writes (Union ss) ps e = refl
-union-writes (BinaryUnion c d) ps e = refl
-union-writes (ByteRange t) ps e = refl
-union-writes (Sparse ts) ps e = refl
-union-writes (Dense targets) ps e = refl
-union-writes (Look look next) ps e = refl
-union-writes Fail ps e = refl
-union-writes (Match pattern) ps e = refl
-
--- a pair is not before itself
-pub not-before-itself : (es : List Pair) (a : Pair) → Earlier es a a → ⊥
-not-before-itself [] a h = h
-not-before-itself (e ∷ es) a h = elim h.1 [ inl here ↦ h.0 here | inr later ↦ not-before-itself es a later ]
+union-writes _ ps e = refl
 
 module _ (nfa : Automaton) (x : Search) (bound : x.anchored ≡ Yes) where
   -- the one start of an anchored search of an NFA
@@ -301,7 +268,7 @@ module _ (nfa : Automaton) (x : Search) (bound : x.anchored ≡ Yes) where
               (subst (λ z. In z (edges nfa x top)) (sym from.is)
               (subst (In (state, x.start)) (sym top-edges) (among x.start nfa.patterns k state at)))
               w.head w.linked;
-          ends = put-ends top m q w.ends;
+          ends = EndsWith-cons top m q w.ends;
         }
 
     -- the head of a pattern's path

@@ -1,7 +1,7 @@
 -- What a leftmost first search makes of a set is one, and with room for each pattern all permitted paths count.
-use Rattle.std.proofs.Common.{◌≡◌, ℕ, ◌∙◌, ◌↔◌, ◌<◌, ◌≤◌, inl, inr, Bool, true, false, List, length, refl, sym, ap, subst}
+use Rattle.std.proofs.Common.{◌≡◌, ℕ, ◌∙◌, ◌↔◌, ◌<◌, ◌≤◌, inl, inr, Bool, true, false, List, length, sym, ap, subst}
 use Rattle.std.proofs.Common.{arith}
-use Rattle.std.specs.Prelude.{Option, None, Some, option_and_then, slice_index_or}
+use Rattle.std.specs.Prelude.{Option, None, Some, slice_index_or}
 use Rattle.std.proofs.lemmas.Bool.{cases_lt}
 use Rattle.std.proofs.lemmas.List.{ext_get_or}
 use Rattle.regex_search_core.specs.PatternSets.{size_of_set}
@@ -10,20 +10,16 @@ use Rattle.regex_search_core.specs.declared.search.MatchKind.TheVariants.{Leftmo
 use Rattle.thompson_nfa.specs.Automaton.{Automaton, IsAutomaton}
 use Rattle.nfa_paths.specs.Graphs.{Pair, WantedAt, IsFirstPath, IsEarliestPath, IsLeastEnd}
 use Rattle.nfa_paths.specs.Overlaps.{HoldsPattern, HoldsSelected, HoldsPath, IsFirstBefore, IsFirstInsertable, IsEarliestInsertable}
-use Rattle.nfa_paths.specs.Overlaps.{IsInsertable, IsSelectedPath, IsOverlapResult, IsPermitted, pattern_at}
-use Rattle.nfa_paths.specs.Paths.{edges, starts, last_of, node_at, path_pattern, pattern_of}
+use Rattle.nfa_paths.specs.Overlaps.{IsInsertable, IsSelectedPath, IsOverlapResult, IsPermitted}
+use Rattle.nfa_paths.specs.Paths.{edges, starts, node_at, path_pattern}
 use Rattle.nfa_paths.proofs.PathToLemmas.{IsEarliestPath-unique, IsFirstTo-along}
-use Rattle.nfa_paths.proofs.PatternLemmas.{node-pattern, some-pattern}
+use Rattle.nfa_paths.proofs.PatternLemmas.{node-pattern, some-pattern, ends-pattern}
 use Rattle.nfa_paths.proofs.SetLemmas.{size-none}
 use Rattle.nfa_engines.specs.SetLaws.{IsPatternOfEarliest}
-use Rattle.nfa_engines.proofs.FirstPatternLemmas.{same_some}
-use Rattle.nfa_engines.proofs.OneLemmas.{same-test}
+use Rattle.nfa_paths.proofs.OptionLemmas.{same_some}
+use Rattle.nfa_paths.proofs.TestLemmas.{same_test}
 
 module _ (nfa : Automaton) (x : Search) where
-  -- the pattern of a path that ends with the pair
-  ends-pattern : (p : List Pair) (v : Pair) → last_of p ≡ Some v → path_pattern nfa p ≡ pattern_at nfa v
-  ends-pattern p v last = ap (λ o. option_and_then (λ (w : Pair). pattern_of (node_at nfa w.0)) o) last
-
   -- an empty set gains the patterns of the first paths before some limit
   meant-firsts : (capacity : ℕ) (set : List Bool) → length set ≡ capacity → HoldsSelected nfa x false capacity set
       → (k : ℕ) → HoldsPattern set k ↔ IsFirstBefore nfa x capacity k
@@ -56,12 +52,12 @@ module _ (nfa : Automaton) (x : Search) where
         λ held. (
           p,
           first,
-          ends-pattern p holds.end holds.ends ∙ holds.pattern_is ∙ ap Some (sym ((holds.holds k).0 held)),
+          ends-pattern nfa p holds.end holds.ends ∙ holds.pattern_is ∙ ap Some (sym ((holds.holds k).0 held)),
         ),
         λ e.
             let same : p ≡ e.0 = same_some p e.0 (one (Some p) (Some e.0) first e.1) in
             let both : Some k ≡ Some holds.pattern =
-            sym e.2 ∙ ap (path_pattern nfa) (sym same) ∙ ends-pattern p holds.end holds.ends ∙ holds.pattern_is in
+            sym e.2 ∙ ap (path_pattern nfa) (sym same) ∙ ends-pattern nfa p holds.end holds.ends ∙ holds.pattern_is in
             (holds.holds k).1 (same_some k holds.pattern both),
       )
 
@@ -88,7 +84,7 @@ module _ (nfa : Automaton) (x : Search) where
     where
       both : {P : Type 0} (i : ℕ) → HoldsPattern new i ↔ P → HoldsPattern other i ↔ P
           → slice_index_or new i false ≡ slice_index_or other i false
-      both i one two = same-test _ _ (λ t. two.1 (one.0 t)) (λ t. one.1 (two.0 t))
+      both i one two = same_test _ _ (λ t. two.1 (one.0 t)) (λ t. one.1 (two.0 t))
 
       of : (e : Bool) → IsOverlapResult nfa x LeftmostFirst e old new → IsOverlapResult nfa x LeftmostFirst e old other
           → size_of_set old ≡ 0 → (i : ℕ) → slice_index_or new i false ≡ slice_index_or other i false

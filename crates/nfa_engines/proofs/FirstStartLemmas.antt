@@ -4,11 +4,10 @@ use Rattle.std.proofs.Common.{refl, sym, ap, subst, arith, le-ltb}
 use Rattle.std.proofs.lemmas.Bool.{cases_lt}
 use Rattle.regex_search_core.specs.Search.{Search}
 use Rattle.regex_search_core.specs.declared.search.Anchored.{Anchored}
-use Rattle.thompson_nfa.specs.Automaton.{Automaton, Node}
-use Rattle.thompson_nfa.specs.Automaton.Node.{ByteRange, Sparse, Dense, Look, Union, BinaryUnion, Capture, Fail, Match}
+use Rattle.thompson_nfa.specs.Automaton.{Automaton}
 use Rattle.nfa_paths.specs.Graphs.{Pair, In, HeadIs, ComesBefore, PathTo}
-use Rattle.nfa_paths.specs.Paths.{edges, edges_of, node_at, pairs_from, starts}
-use Rattle.nfa_paths.proofs.StartLemmas.{starts-none}
+use Rattle.nfa_paths.specs.Paths.{edges, pairs_from, starts}
+use Rattle.nfa_paths.proofs.StartLemmas.{starts-none, edges-alike, pairs_from-has}
 use Rattle.nfa_engines.specs.StartLaws.{anchored_at, from_start, IsUnbound}
 
 -- the search from another start, anchored or not
@@ -16,25 +15,9 @@ abbrev pub begun : Search → ℕ → Anchored → Search
 begun x s anchored = record x { start = s; anchored = anchored }
 
 -- it has the same edges
-edges-begun : (nfa : Automaton) (x : Search) (s : ℕ) (anchored : Anchored) (v : Pair)
-    → edges nfa (begun x s anchored) v ≡ edges nfa x v
-unfolding edges_of
-edges-begun nfa x s anchored v = of (node_at nfa v.0)
-  where
-    of : (n : Node) → edges_of (begun x s anchored) n v.1 ≡ edges_of x n v.1
-    of (ByteRange t) = refl
-    of (Sparse ts) = refl
-    of (Dense targets) = refl
-    of (Look look next) = refl
-    of (Union alternates) = refl
-    of (BinaryUnion a b) = refl
-    of (Capture next slot) = refl
-    of Fail = refl
-    of (Match pattern) = refl
-
 pub same_edges : (nfa : Automaton) (x : Search) (s : ℕ) (anchored : Anchored)
     → edges nfa (begun x s anchored) ≡ edges nfa x
-same_edges nfa x s anchored = λ i v. edges-begun nfa x s anchored v i
+same_edges nfa x s anchored = edges-alike nfa (begun x s anchored) x refl refl
 
 -- the pairs of a state from a position on
 pub record IsPairFrom (state at count : ℕ) (v : Pair) : Type 0 where
@@ -52,14 +35,6 @@ pairs_from-in state at (suc count) v (inr later) =
     let low : at + 1 ≤ v.1 = r.from in
     let high : v.1 < at + 1 + count = r.before in
     record { state_is = r.state_is; from = omega arith; before = omega arith }
-
-pub pairs_from-has : (state at count i : ℕ) → at ≤ i → i < at + count → In (state, i) (pairs_from state at count)
-pairs_from-has state at zero i low high = absurd (omega arith)
-pairs_from-has state at (suc count) i low high =
-    elim (cases_lt at i) [
-      | inl less ↦ inr (pairs_from-has state (at + 1) count i (omega arith) (omega arith))
-      | inr same ↦ let e : i ≡ at = omega arith in inl (ap (λ (z : ℕ). (state, z)) e)
-    ]
 
 -- of two lists that begin with these pairs, the first that comes first starts not after the other
 pub heads-order : (edges : Pair → List Pair) (start other : Pair) (p q : List Pair) → HeadIs start p → HeadIs other q

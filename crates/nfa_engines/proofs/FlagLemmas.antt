@@ -12,7 +12,7 @@ use Rattle.nfa_paths.specs.Paths.{IsAnswer, IsBoolAnswer, IsFindAnswer}
 use Rattle.nfa_paths.proofs.EarliestLemmas.{asked, search_answer-asked}
 use Rattle.nfa_paths.proofs.KnownLemmas.{match-unique}
 use Rattle.nfa_search_base.specs.WithCaptures.{Row, row_span}
-use Rattle.nfa_search_base.specs.CapturesLists.{AreRows, IsRow, AnswersRow}
+use Rattle.nfa_search_base.specs.CapturesLists.{AreRows, AnswersRow}
 use Rattle.nfa_search_base.specs.Items.{Item}
 use Rattle.nfa_search_base.specs.Lists.{AreMatches, Fails, IsStep, ItemsLast, AnswersMatch}
 use Rattle.nfa_search_base.specs.IterStates.{Answer, IterState, after, fresh, answer_span, repeats, shifted, span_of}

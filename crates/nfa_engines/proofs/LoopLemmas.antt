@@ -1,7 +1,7 @@
 -- A loop keeps what each of its searches keeps.
-use Rattle.std.proofs.Common.{ℕ, ◌≡◌, ◌+◌, ◌<◌, ◌∙◌, zero, suc, arith, refl, subst}
-use Rattle.nfa_backtrack.specs.Backtrack.{HoldsNoMore, BacktrackCache}
-use Rattle.nfa_pikevm.specs.Engines.{PikeCache, SameCapacities}
+use Rattle.std.proofs.Common.{ℕ, ◌≡◌, ◌+◌, ◌∙◌, zero, suc, arith, refl, subst}
+use Rattle.nfa_backtrack.specs.Backtrack.{HoldsNoMore}
+use Rattle.nfa_pikevm.specs.Engines.{SameCapacities}
 use Rattle.nfa_engines.specs.LoopLaws.{IsKeptByLoop, IsKeptByNone, IsKeptByTwo}
 
 module _ {C : Type 0} (Keeps : C → C → Type 0) (none : IsKeptByNone Keeps) (two : IsKeptByTwo Keeps) where

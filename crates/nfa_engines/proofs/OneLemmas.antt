@@ -1,5 +1,5 @@
 -- What a search finds, and the set that it makes of a set, is one.
-use Rattle.std.proofs.Common.{◌≡◌, ℕ, ◌∙◌, ◌↔◌, ◌⊎◌, ◌≤◌, inl, inr, Bool, true, false, List, length, refl, sym, ap}
+use Rattle.std.proofs.Common.{◌≡◌, ℕ, ◌∙◌, ◌↔◌, ◌⊎◌, ◌≤◌, inl, inr, Bool, false, List, length, sym, ap}
 use Rattle.std.proofs.Common.{arith}
 use Rattle.std.specs.Prelude.{Option, is_some}
 use Rattle.std.proofs.lemmas.List.{ext_get_or}
@@ -11,12 +11,7 @@ use Rattle.nfa_paths.specs.Overlaps.{HoldsPattern, IsPermitted, IsPatternOf, IsO
 use Rattle.nfa_paths.specs.Paths.{IsAnswer, IsBoolAnswer}
 use Rattle.nfa_paths.proofs.AnswerLemmas.{search_answer-unique}
 use Rattle.nfa_paths.proofs.PatternLemmas.{node-pattern, found-of}
-
--- two tests that imply each other are equal
-pub same-test : (a b : Bool) → (a ≡ true → b ≡ true) → (b ≡ true → a ≡ true) → a ≡ b
-same-test true b f g = sym (f refl)
-same-test false true f g = g refl
-same-test false false f g = refl
+use Rattle.nfa_paths.proofs.TestLemmas.{same_test}
 
 module _ (nfa : Automaton) (x : Search) where
   -- whether a search finds something has one answer
@@ -41,7 +36,7 @@ module _ (nfa : Automaton) (x : Search) where
       (λ i within.
       let one = h.gains.gained i in
       let two = k.gains.gained i in
-      same-test _ _ (λ t. two.1 (one.0 t)) (λ t. one.1 (two.0 t)))
+      same_test _ _ (λ t. two.1 (one.0 t)) (λ t. one.1 (two.0 t)))
 
   -- if the set has room for each pattern, its capacity leaves none out
   pub set-complete : (old new : List Bool) → IsAutomaton nfa → length nfa.patterns ≤ length old

@@ -17,17 +17,15 @@ use Rattle.nfa_engines.specs.Accepting.{MatchesNothing}
 use Rattle.nfa_engines.specs.PatternLaws.{started_at, IsFirstPattern, IsOfPattern, IsUnionOfPatterns}
 use Rattle.nfa_engines.specs.PatternLaws.{TriesPatternsInOrder}
 use Rattle.nfa_engines.proofs.AloneLemmas.{edges-alone, pattern-alone, row-alone}
-use Rattle.nfa_engines.proofs.FirstPatternLemmas.{comes, earlier, goes, head-of, not-before-itself, not-earlier}
-use Rattle.nfa_engines.proofs.FirstPatternLemmas.{order-apart, order-back, order-same, same_some, top, top-edges}
+use Rattle.nfa_engines.proofs.FirstPatternLemmas.{comes, earlier, goes, head-of, not-earlier}
+use Rattle.nfa_engines.proofs.FirstPatternLemmas.{order-apart, order-back, order-same, top, top-edges}
 use Rattle.nfa_engines.proofs.FirstPatternLemmas.{top-writes, GoesOn}
+use Rattle.nfa_paths.proofs.OptionLemmas.{same_some, option_or-None}
+use Rattle.nfa_paths.proofs.PathLemmas.{Earlier-irreflexive}
 
 heads-same : (s t : Pair) (q r : List Pair) → HeadIs s q → HeadIs t r → r ≡ q → s ≡ t
 heads-same s t [] r hq hr e = absurd hq
 heads-same s t (a ∷ q) r hq hr e = sym hq ∙ subst (HeadIs t) e hr
-
-or-none : (o : Option ℕ) → option_or o None ≡ o
-or-none None = refl
-or-none (Some a) = refl
 
 -- only the anchored start differs
 module _ (nfa : Automaton) (x : Search) (state : ℕ) where
@@ -81,7 +79,7 @@ module _ (nfa : Automaton) (x : Search) (bound : x.anchored ≡ Yes) (h : IsUnio
   slot-rest q slot =
       ap (λ (o : Option ℕ). option_or (slot_among nfa q slot)
       (if option_map_or (λ k. k == slot) o false then Some x.start else None)) (top-writes nfa x bound h)
-      ∙ or-none (slot_among nfa q slot)
+      ∙ option_or-None (slot_among nfa q slot)
 
   row-rest : (n : ℕ) (q : List Pair) → slot_row nfa n (Some (top nfa x bound h ∷ q)) ≡ slot_row nfa n (Some q)
   unfolding slot_row
@@ -187,7 +185,7 @@ module _ (nfa : Automaton) (x : Search) (bound : x.anchored ≡ Yes) (h : IsUnio
           elim (order-of g.k g.state g.at m r w t) [
             | inl same ↦ inl same
             | inr order ↦ elim order [
-              | inl sooner ↦ absurd (not-before-itself _ _ sooner)
+              | inl sooner ↦ absurd (Earlier-irreflexive _ _ sooner)
               | inr after ↦ inr after.1
             ]
           ];

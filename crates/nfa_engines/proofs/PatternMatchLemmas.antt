@@ -1,10 +1,8 @@
 -- The match of a search that tries patterns in order is that of the first pattern that has one.
-use Rattle.std.proofs.Common.{◌≡◌, ◌∙◌, ℕ, ◌<◌, ◌⊎◌, ◌↔◌, inl, inr, Bool, false, List, ◌∷◌, length}
-use Rattle.std.proofs.Common.{refl, sym, ap, subst, arith, slice_get}
+use Rattle.std.proofs.Common.{◌≡◌, ◌∙◌, ℕ, ◌↔◌, inl, inr, Bool, false, List, length}
+use Rattle.std.proofs.Common.{refl, sym, ap, subst, arith}
 use Rattle.std.specs.Prelude.{Option, None, Some, option_map, option_and_then}
 use Rattle.std.proofs.lemmas.Bool.{cases_eq, cases_lt}
-use Rattle.std.proofs.lemmas.List.{length-replicate}
-use Rattle.std.proofs.lemmas.List.FromFn.{length-map-range_with_len}
 use Rattle.regex_search_core.specs.Found.{Found}
 use Rattle.regex_search_core.specs.Groups.{slot_count}
 use Rattle.regex_search_core.specs.Search.{Search}
@@ -14,22 +12,18 @@ use Rattle.regex_search_core.specs.declared.search.MatchKind.{MatchKind}
 use Rattle.regex_search_core.specs.declared.search.MatchKind.TheVariants.{LeftmostFirst}
 use Rattle.thompson_nfa.specs.Automaton.{Automaton, IsAutomaton}
 use Rattle.nfa_paths.specs.Graphs.{Pair}
-use Rattle.nfa_paths.specs.Paths.{is_utf8_empty, path_pattern, slot_among, slot_row}
+use Rattle.nfa_paths.specs.Paths.{is_utf8_empty, path_pattern, slot_row}
 use Rattle.nfa_paths.specs.Paths.{IsAnswer, IsFindAnswer, IsScanAnswer, IsSearchAnswer}
 use Rattle.nfa_paths.proofs.AnswerLemmas.{scan_answer-leads, never_none}
 use Rattle.nfa_engines.specs.Accepting.{MatchesNothing, MatchesPattern, MatchesSomething}
 use Rattle.nfa_engines.specs.GapLaws.{PathsWriteTheirEnds}
 use Rattle.nfa_engines.specs.PatternLaws.{started_at, IsFirstPattern, IsFirstThatMatches, IsMatchOfPattern}
-use Rattle.nfa_engines.specs.PatternLaws.{IsOfPattern, StartsMatchTheirPatterns, TriesPatternsInOrder}
-use Rattle.nfa_engines.proofs.FirstPatternLemmas.{same_some}
+use Rattle.nfa_engines.specs.PatternLaws.{StartsMatchTheirPatterns, TriesPatternsInOrder}
 use Rattle.nfa_engines.proofs.GapLemmas.{path-match}
 use Rattle.nfa_engines.proofs.MatchLemmas.{no_pattern-nothing, pattern-matched}
 use Rattle.nfa_engines.proofs.PatternAnswerLemmas.{answers-pattern, pattern-answers, pattern-nothing}
-
-row-length : (nfa : Automaton) (count : ℕ) (path : Option (List Pair)) → length (slot_row nfa count path) ≡ count
-unfolding slot_row
-row-length nfa count None = length-replicate count None
-row-length nfa count (Some p) = length-map-range_with_len (slot_among nfa p) 0 count
+use Rattle.nfa_paths.proofs.OptionLemmas.{same_some}
+use Rattle.nfa_paths.proofs.PatternLemmas.{length-slot_row}
 
 no_match : (m : Found) (slots : List (Option ℕ)) → Some m ≡ match_of None slots → ⊥
 no_match m slots e = cc
@@ -46,7 +40,7 @@ module _ (nfa : Automaton) (kind : MatchKind) (earliest : Bool) (x : Search) whe
   gives : (found : Option Found) → IsFindAnswer nfa kind earliest x found → GivesMatch found
   gives found a =
       let n = slot_count nfa.groups in
-      let long = row-length nfa n a.path in
+      let long = length-slot_row nfa n a.path in
       record {
         pattern = option_and_then (path_pattern nfa) a.path;
         slots = slot_row nfa n a.path;

@@ -10,7 +10,7 @@ use Rattle.regex_search_core.specs.Found.{Found}
 use Rattle.regex_search_core.specs.Search.{Search, is_anchored}
 use Rattle.regex_search_core.specs.declared.search.MatchKind.{MatchKind}
 use Rattle.thompson_nfa.specs.Automaton.{Automaton, Node}
-use Rattle.thompson_nfa.specs.Automaton.Node.{ByteRange, Sparse, Dense, Look, Union, BinaryUnion, Capture, Fail, Match}
+use Rattle.thompson_nfa.specs.Automaton.Node.{Look, Union, BinaryUnion, Capture, Fail}
 use Rattle.thompson_nfa.specs.Looks.{look_holds}
 use Rattle.nfa_paths.specs.Graphs.{Pair, In}
 use Rattle.nfa_paths.specs.Paths.{byte_at, edges, edges_of, is_utf8_empty, node_at, pairs_from, start_count}
@@ -21,6 +21,7 @@ use Rattle.nfa_engines.specs.SpanLaws.{HoldAlike, HoldsAlike, IsSameSpan, IsSpan
 use Rattle.nfa_engines.proofs.MovedLemmas.{moved_path, ArePathsMoved}
 use Rattle.nfa_engines.proofs.MovedAnswerLemmas.{answer-moved, match_answer-moved, moved_match-none, moved_slots-none}
 use Rattle.nfa_engines.proofs.MovedGraphLemmas.{paths-moved}
+use Rattle.nfa_paths.proofs.StartLemmas.{resting-edges}
 
 -- what holds of each state of the NFA holds at each number
 all-at : (nfa : Automaton) (P : Node → Type 0) → P Fail → All P nfa.states → (state : ℕ) → P (node_at nfa state)
@@ -36,15 +37,8 @@ pub no-look-alike : (nfa : Automaton) (k : ℕ) (x y : Search) → HasNoLook nfa
 no-look-alike nfa k x y plain = λ i d inside. of (get_or nfa.states i d) (plain i d inside)
   where
     of : (node : Node) → AssertsNothing node → HoldsAlike k x y node
-    of (ByteRange t) h = tt
-    of (Sparse ts) h = tt
-    of (Dense targets) h = tt
     of (Look look next) h = absurd h
-    of (Union alternates) h = tt
-    of (BinaryUnion a b) h = tt
-    of (Capture next slot) h = tt
-    of Fail h = tt
-    of (Match pattern) h = tt
+    of _ h = tt
 
 pairs-moved : (k state at count : ℕ) → pairs_from state (at + k) count ≡ moved_path k (pairs_from state at count)
 pairs-moved k state at zero = refl
@@ -113,17 +107,15 @@ module _ (nfa : Automaton) (k : ℕ) (x y : Search) (alike : HoldAlike nfa k x y
   edges-at : (node : Node) → HoldsAlike k x y node → (p : ℕ) → x.start ≤ p → p ≤ x.end
       → edges_of there node (p + k) ≡ moved_path k (edges_of x node p)
   unfolding edges_of
-  edges-at (ByteRange t) h p past within = byte_edges-moved (ByteRange t) p past
-  edges-at (Sparse ts) h p past within = byte_edges-moved (Sparse ts) p past
-  edges-at (Dense targets) h p past within = byte_edges-moved (Dense targets) p past
   edges-at (Look look next) h p past within =
       ap (λ (b : Bool). if b then (next, p + k) ∷ [] else []) (h p past within)
       ∙ look-moved k p next (look_holds look x.haystack p)
   edges-at (Union alternates) h p past within = union-moved k p alternates
   edges-at (BinaryUnion a b) h p past within = refl
   edges-at (Capture next slot) h p past within = refl
-  edges-at Fail h p past within = refl
-  edges-at (Match pattern) h p past within = refl
+  edges-at node h p past within =
+      resting-edges there node (p + k) refl ∙ byte_edges-moved node p past
+      ∙ sym (ap (moved_path k) (resting-edges x node p refl))
 
   count-moved : start_count nfa there ≡ start_count nfa x
   count-moved =

@@ -17,8 +17,8 @@ use Rattle.nfa_search_base.proofs.AskingLemmas.{same_start-self, same_start-then
 use Rattle.nfa_search_base.proofs.StepLemmas.{Advances-fewer, chosen, same_start-after, same_start-shifted}
 use Rattle.nfa_search_base.proofs.IterStateLemmas.{IsOrdered}
 use Rattle.nfa_engines.specs.WorkLaws.{AddsAtMost, Totals, list_scan_limit}
-use Rattle.nfa_engines.proofs.FirstPatternLemmas.{same_some}
 use Rattle.nfa_engines.proofs.ReachLemmas.{Reaches, restarts_in, starts_left}
+use Rattle.nfa_paths.proofs.OptionLemmas.{same_some}
 
 -- the turns of a scan of the span of x, or of a part of it, at most
 abbrev pub turns_in : Automaton → Search → ℕ

@@ -26,12 +26,12 @@ pub use Rattle.nfa_pikevm.specs.FindMatches as PikeVMFindMatches
 pub use Rattle.nfa_pikevm.specs.Finding as PikeVMFinding
 pub use Rattle.nfa_pikevm.specs.FirstBytes
 pub use Rattle.nfa_pikevm.specs.Needs
+pub use Rattle.nfa_paths.specs.Beginnings
 pub use Rattle.nfa_paths.specs.Graphs
 pub use Rattle.nfa_paths.specs.Overlaps
 pub use Rattle.nfa_paths.specs.Paths
 pub use Rattle.nfa_search_base.specs.Agreement
 pub use Rattle.nfa_search_base.specs.Asking
-pub use Rattle.nfa_search_base.specs.Beginnings
 pub use Rattle.nfa_search_base.specs.LastEnd
 pub use Rattle.nfa_search_base.specs.CapturesGiven
 pub use Rattle.nfa_search_base.specs.WithCaptures

@@ -16,10 +16,10 @@ use Rattle.regex_search_core.specs.Search.{whole}
 use Rattle.nfa_compiler.specs.KindLaws.{PatternMatches}
 use Rattle.nfa_compiler.specs.Patterns.{PatternHit, expected, first_hit, hit_of, pick}
 use Rattle.nfa_compiler.specs.Written.{MatchesIn}
-use Rattle.nfa_engines.proofs.OneLemmas.{same-test}
 use Rattle.nfa_compiler.proofs.MeantLemmas.{AreAlike, expected-alike}
 use Rattle.nfa_paths.specs.Overlaps.{HoldsPattern}
 use Rattle.nfa_grep.specs.Meant.{is_found, which_found}
+use Rattle.nfa_paths.proofs.TestLemmas.{same_test}
 
 -- the first hit is at one of the positions
 
@@ -119,7 +119,7 @@ which-is text trees set room holds =
   where
     each : (k : ℕ) → k < length trees → get_or set k false ≡ get_or (which_found trees text) k false
     each k less =
-        same-test (get_or set k false) (is_found (slice_index_or trees k empty ∷ []) text)
+        same_test (get_or set k false) (is_found (slice_index_or trees k empty ∷ []) text)
         (λ held. let m = (holds k).0 held in matches-found text (slice_index_or trees k empty)
         (record { start = m.start; end = m.end; within = m.to; matches = m.matches }))
         (λ found. let m = found-matches text (slice_index_or trees k empty) found in (holds k).1 (record {

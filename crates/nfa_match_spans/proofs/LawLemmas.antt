@@ -7,14 +7,14 @@ use Rattle.std.specs.Option.{option_map_or}
 use Rattle.regex_search_core.specs.Search.{Search, is_anchored}
 use Rattle.thompson_nfa.specs.declared.state.Transition.{Transition}
 use Rattle.thompson_nfa.specs.Automaton.{Automaton, Node}
-use Rattle.thompson_nfa.specs.Automaton.Node.{ByteRange, Sparse, Dense, Look, Union, BinaryUnion, Capture, Fail, Match}
+use Rattle.thompson_nfa.specs.Automaton.Node.{ByteRange, Sparse, Dense, Look}
 use Rattle.thompson_nfa.specs.Looks.{look_holds}
 use Rattle.nfa_paths.specs.Graphs.{Pair, In, Linked, PathTo}
 use Rattle.nfa_paths.specs.Paths.{node_at, start_state, start_count, starts, pairs_from, edges, edges_of, byte_at}
 use Rattle.nfa_paths.specs.Paths.{target_on, first_target, holds_byte}
 use Rattle.nfa_engines.specs.GapLaws.{PathsWriteTheirEnds}
 use Rattle.nfa_match_spans.specs.StatePaths.{targets, reads, position_after, open_edges, IsStart, IsStatePath, RecordsMatchSpans}
-use Rattle.nfa_match_spans.proofs.StatePathLemmas.{In-map}
+use Rattle.nfa_paths.proofs.MemberLemmas.{In-map}
 
 -- the target on a byte is a target of the state
 
@@ -75,11 +75,7 @@ open-edge x (Sparse ts) p w i = byte-edge x (Sparse ts) (map (λ u. u.next) ts) 
 open-edge x (Dense places) p w i =
     byte-edge x (Dense places) (filter_map (λ target. target) places) p w (present-in places) i
 open-edge x (Look look next) p w i = look-edge (look_holds look x.haystack p) next p w i
-open-edge x (Union alternates) p w i = i
-open-edge x (BinaryUnion alt1 alt2) p w i = i
-open-edge x (Capture next slot) p w i = i
-open-edge x Fail p w i = i
-open-edge x (Match pattern) p w i = i
+open-edge x _ p w i = i
 
 pairs_from-state : (state p count : ℕ) (v : Pair) → In v (pairs_from state p count) → v.0 ≡ state
 pairs_from-state state p zero v i = absurd i

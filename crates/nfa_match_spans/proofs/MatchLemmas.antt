@@ -1,5 +1,5 @@
 -- Where each way writes its bounds, a match is that of the path which its search answers.
-use Rattle.std.proofs.Common.{◌≡◌, ℕ, ◌<◌, ◌≤◌, List, [], ◌∷◌, refl, sym, ap, ◌∙◌, subst, arith}
+use Rattle.std.proofs.Common.{◌≡◌, ℕ, ◌<◌, ◌≤◌, List, refl, sym, ap, ◌∙◌, subst, arith}
 use Rattle.std.specs.Prelude.{Option, Some, None, IfSome, true, false, Bool, MatchBool, option_and_then, option_map}
 use Rattle.regex_search_core.specs.Found.{Found, HalfFound}
 use Rattle.regex_search_core.specs.Groups.{slot_count}
@@ -7,7 +7,7 @@ use Rattle.regex_search_core.specs.Search.{Search, is_anchored}
 use Rattle.regex_search_core.specs.Slots.{match_of}
 use Rattle.regex_search_core.specs.declared.search.MatchKind.{MatchKind}
 use Rattle.thompson_nfa.specs.Automaton.{Automaton, IsAutomaton}
-use Rattle.nfa_paths.specs.Graphs.{Pair, HeadIs, EndsWith}
+use Rattle.nfa_paths.specs.Graphs.{Pair, EndsWith}
 use Rattle.nfa_paths.specs.Paths.{raised, is_utf8_empty, node_at, path_half, path_pattern, pattern_of, slot_row}
 use Rattle.nfa_paths.specs.Paths.{IsScanAnswer, IsKeptAnswer, IsRestartedAnswer, IsSearchAnswer, IsFindAnswer}
 use Rattle.nfa_paths.specs.Paths.{IsHalfAnswer}
@@ -21,10 +21,7 @@ use Rattle.nfa_match_spans.specs.Matches.{AnswersBytes, AnswersNoBytes, AreOneMa
 use Rattle.nfa_match_spans.specs.Matches.{PathsReadBytes}
 use Rattle.nfa_match_spans.specs.StatePaths.{RecordsMatchSpans}
 use Rattle.nfa_match_spans.proofs.LawLemmas.{paths-recorded, start-anchored}
-
-heads : (a b : Pair) (p : List Pair) → HeadIs a p → HeadIs b p → a ≡ b
-heads a b [] h k = absurd h
-heads a b (v ∷ p) h k = sym h ∙ k
+use Rattle.nfa_match_spans.proofs.StatePathLemmas.{HeadIs-one}
 
 ends : (a b : Pair) (p : List Pair) → EndsWith a p → EndsWith b p → a ≡ b
 ends a b p h k = let same : Some a ≡ Some b = sym (EndsWith-last None a p h) ∙ EndsWith-last None b p k in cc
@@ -81,7 +78,7 @@ module _ (nfa : Automaton) (kind : MatchKind) (earliest : Bool) (x : Search) whe
           accepts = to.matches;
           pattern_is = writes.pattern_is ∙ ap (λ (g : Found). Some g.pattern) (sym same);
           start_is = ap (λ (g : Found). g.start) same
-              ∙ ap (λ (z : Pair). z.1) (heads writes.start to.path.start p writes.head to.path.head);
+              ∙ ap (λ (z : Pair). z.1) (HeadIs-one writes.start to.path.start p writes.head to.path.head);
           end_is = ap (λ (g : Found). g.end) same;
         }
 

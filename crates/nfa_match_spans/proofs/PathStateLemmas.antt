@@ -3,45 +3,31 @@ use Rattle.std.proofs.Common.{◌≡◌, ℕ, ◌+◌, ◌*◌, ◌<◌, ◌≤�
 use Rattle.std.specs.Prelude.{Option, Some, None, true, false, Bool, ◌↔◌, not, if◌then◌else◌}
 use Rattle.std.specs.Option.{option_or, option_map_or}
 use Rattle.thompson_nfa.specs.Automaton.{Automaton, Node}
-use Rattle.thompson_nfa.specs.Automaton.Node.{ByteRange, Sparse, Dense, Look, Union, BinaryUnion, Capture, Fail, Match}
+use Rattle.thompson_nfa.specs.Automaton.Node.{ByteRange, Sparse, Dense, Capture, Match}
 use Rattle.nfa_paths.specs.Graphs.{Pair}
 use Rattle.nfa_paths.specs.Paths.{pattern_of, slot_of, slot_among}
 use Rattle.nfa_match_spans.specs.StatePaths.{reads, position_after}
 use Rattle.nfa_match_spans.specs.PathStates.{fresh_path_state, at_state, after_node, Describes}
 use Rattle.nfa_match_spans.specs.declared.path_state.PathState.{PathState}
+use Rattle.nfa_paths.proofs.OptionLemmas.{option_or-None, option_or-assoc}
 
 -- the value of the slot after the state, which is at this position
 abbrev pub written : Node → ℕ → ℕ → Option ℕ → Option ℕ
 written node slot position held =
     option_or (if option_map_or (λ k. k == slot) (slot_of node) false then Some position else None) held
 
-pub option_or-none : (o : Option ℕ) → option_or o None ≡ o
-option_or-none None = refl
-option_or-none (Some k) = refl
-
-pub option_or_assoc : (a b c : Option ℕ) → option_or (option_or a b) c ≡ option_or a (option_or b c)
-option_or_assoc None b c = refl
-option_or_assoc (Some k) b c = refl
-
 -- the slots of two rows
 pub slot_among-append : (nfa : Automaton) (p q : List Pair) (slot : ℕ)
     → slot_among nfa (p ++ q) slot ≡ option_or (slot_among nfa q slot) (slot_among nfa p slot)
-slot_among-append nfa [] q slot = sym (option_or-none (slot_among nfa q slot))
+slot_among-append nfa [] q slot = sym (option_or-None (slot_among nfa q slot))
 slot_among-append nfa (v ∷ p) q slot =
-    rw (slot_among-append nfa p q slot) (option_or_assoc (slot_among nfa q slot) (slot_among nfa p slot) _)
+    rw (slot_among-append nfa p q slot) (option_or-assoc (slot_among nfa q slot) (slot_among nfa p slot) _)
 
 -- a Match writes no slot
 pub written-match : (node : Node) (pattern slot position : ℕ) (held : Option ℕ) → pattern_of node ≡ Some pattern
     → written node slot position held ≡ held
 written-match (Match k) pattern slot position held e = refl
-written-match (ByteRange trans) pattern slot position held e = cc
-written-match (Sparse ts) pattern slot position held e = cc
-written-match (Dense targets) pattern slot position held e = cc
-written-match (Look look next) pattern slot position held e = cc
-written-match (Union alternates) pattern slot position held e = cc
-written-match (BinaryUnion alt1 alt2) pattern slot position held e = cc
-written-match (Capture next k) pattern slot position held e = cc
-written-match Fail pattern slot position held e = cc
+written-match _ pattern slot position held e = cc
 
 -- at the start of a way
 pub Describes-fresh : (s position : ℕ) → Describes position position None None (fresh_path_state s)
@@ -132,9 +118,5 @@ module _ {start position : ℕ} {start_slot end_slot : Option ℕ} {v : PathStat
   Describes-after pattern (ByteRange trans) s h = Describes-read s h
   Describes-after pattern (Sparse ts) s h = Describes-read s h
   Describes-after pattern (Dense targets) s h = Describes-read s h
-  Describes-after pattern (Look look next) s h = Describes-at s h
-  Describes-after pattern (Union alternates) s h = Describes-at s h
-  Describes-after pattern (BinaryUnion alt1 alt2) s h = Describes-at s h
   Describes-after pattern (Capture next slot) s h = Describes-captured pattern next slot s h
-  Describes-after pattern Fail s h = Describes-at s h
-  Describes-after pattern (Match k) s h = Describes-at s h
+  Describes-after pattern _ s h = Describes-at s h

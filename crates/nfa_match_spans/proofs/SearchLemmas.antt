@@ -9,10 +9,10 @@ use Rattle.regex_search_core.specs.Patterns.{number_of}
 use Rattle.regex_search_core.specs.declared.primitives.PatternID.{PatternID}
 use Rattle.thompson_nfa.specs.declared.state.Transition.{Transition}
 use Rattle.thompson_nfa.specs.Automaton.{Automaton, Node, LeadsBelow}
-use Rattle.thompson_nfa.specs.Automaton.Node.{ByteRange, Sparse, Dense, Look, Union, BinaryUnion, Capture, Fail, Match}
+use Rattle.thompson_nfa.specs.Automaton.Node.{Sparse, Dense, Union, BinaryUnion, Fail, Match}
 use Rattle.nfa_paths.specs.Graphs.{In}
 use Rattle.nfa_paths.specs.Paths.{node_at, pattern_of}
-use Rattle.nfa_paths.proofs.MemberLemmas.{In-append, In-append_left}
+use Rattle.nfa_paths.proofs.MemberLemmas.{In-append, In-append_left, All-In}
 use Rattle.nfa_match_spans.specs.StatePaths.{targets, IsStart}
 use Rattle.nfa_match_spans.specs.PathStates.{fresh_path_state, at_state, after_node, next_places, is_recorded}
 use Rattle.nfa_match_spans.specs.PathStates.{IsFresh, GainsPathStates, IsFine}
@@ -37,12 +37,6 @@ slice_get-in [] k x e = cc
 slice_get-in (y ∷ xs) zero x e = let same : y ≡ x = cc in inl (sym same)
 slice_get-in (y ∷ xs) (suc k) x e = inr (slice_get-in xs k x e)
 
--- what holds of each element by its place
-All-in : {A : Type 0} (P : A → Type 0) (xs : List A) (x : A) → All P xs → In x xs → P x
-All-in P [] x all i = absurd i
-All-in P (y ∷ xs) x all (inl e) = subst P (sym e) (all 0 y (omega arith))
-All-in P (y ∷ xs) x all (inr i) = All-in P xs x (λ k d h. all (suc k) d (omega arith)) i
-
 -- targets
 
 present-below : (n s : ℕ) (places : List (Option ℕ)) → All (λ o. IfSome o (λ t. t < n)) places
@@ -56,20 +50,18 @@ present-below n s (Some t ∷ places) all (inr i) =
 
 pub targets-below : (n s : ℕ) (node : Node) → LeadsBelow n node → In s (targets node) → s < n
 unfolding targets
-targets-below n s (ByteRange trans) leads i = elim i [ inl e ↦ rw e leads | inr never ↦ absurd never ]
 targets-below n s (Sparse ts) leads i =
     let of = In-mapped (λ (t : Transition). t.next) s ts i in
-    rw of.2 (All-in (λ (t : Transition). t.next < n) ts of.0 leads of.1)
+    rw of.2 (All-In (λ (t : Transition). t.next < n) ts leads of.0 of.1)
 targets-below n s (Dense places) leads i = present-below n s places leads i
-targets-below n s (Look look next) leads i = elim i [ inl e ↦ rw e leads | inr never ↦ absurd never ]
-targets-below n s (Union alternates) leads i = All-in (λ t. t < n) alternates s leads i
+targets-below n s (Union alternates) leads i = All-In (λ t. t < n) alternates leads s i
 targets-below n s (BinaryUnion alt1 alt2) leads i = elim i [
   | inl e ↦ rw e leads.0
   | inr j ↦ elim j [ inl e ↦ rw e leads.1 | inr never ↦ absurd never ]
 ]
-targets-below n s (Capture next slot) leads i = elim i [ inl e ↦ rw e leads | inr never ↦ absurd never ]
 targets-below n s Fail leads i = absurd i
 targets-below n s (Match pattern) leads i = absurd i
+targets-below n s _ leads i = elim i [ inl e ↦ rw e leads | inr never ↦ absurd never ]
 
 -- starts
 
@@ -141,11 +133,6 @@ patterns-same nfa places index found before here none =
     → In (fresh_path_state s) places) index
     (λ k h s small e. before k s h small e)
     (λ s small e. let never : None ≡ Some s = sym none ∙ here small ∙ e in absurd (cc never))
-
--- a state's node
-pub node_at-is : (nfa : Automaton) (s : ℕ) (node : Node) → slice_get nfa.states s ≡ Some node → node_at nfa s ≡ node
-unfolding node_at
-node_at-is nfa s node is = get_or_from_slice_get nfa.states s node Fail is
 
 module _ (nfa : Automaton) (pattern : ℕ) where
   pub IsUnderWay-begin : (places : List PathState) → ((s : ℕ) → IsStart nfa s → In (fresh_path_state s) places)

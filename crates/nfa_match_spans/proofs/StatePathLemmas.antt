@@ -12,16 +12,13 @@ use Rattle.nfa_match_spans.specs.StatePaths.{targets, position_after, open_edges
 use Rattle.nfa_match_spans.specs.PathStates.{fresh_path_state, at_state, after_node, next_places, is_recorded}
 use Rattle.nfa_match_spans.specs.PathStates.{IsFresh, Describes, IsLedTo}
 use Rattle.nfa_match_spans.specs.PathStates.{IsClosed}
-use Rattle.nfa_match_spans.proofs.PathStateLemmas.{written, option_or-none, option_or_assoc, slot_among-append}
+use Rattle.nfa_match_spans.proofs.PathStateLemmas.{written, slot_among-append}
 use Rattle.nfa_match_spans.proofs.PathStateLemmas.{written-match, Describes-fresh, Describes-after}
 use Rattle.nfa_match_spans.specs.declared.path_state.PathState.{PathState}
+use Rattle.nfa_paths.proofs.OptionLemmas.{option_or-None, option_or-assoc}
+use Rattle.nfa_paths.proofs.MemberLemmas.{In-map}
 
--- what an element gives is among what the list gives
-pub In-map : {A B : Type 0} (f : A → B) (x : A) (xs : List A) → In x xs → In (f x) (map f xs)
-In-map f x [] i = absurd i
-In-map f x (y ∷ xs) i = elim i [ inl e ↦ inl (ap f e) | inr j ↦ inr (In-map f x xs j) ]
-
--- and each of those is given by an element
+-- each element of what a list gives is given by an element
 pub In-mapped : {A B : Type 0} (f : A → B) (y : B) (xs : List A) → In y (map f xs) → (x : A) × In x xs × (y ≡ f x)
 In-mapped f y [] i = absurd i
 In-mapped f y (x ∷ xs) i = elim i [
@@ -33,7 +30,7 @@ HeadIs-append : (s : Pair) (p q : List Pair) → HeadIs s p → HeadIs s (p ++ q
 HeadIs-append s [] q h = absurd h
 HeadIs-append s (x ∷ p) q h = h
 
-HeadIs-one : (s t : Pair) (p : List Pair) → HeadIs s p → HeadIs t p → s ≡ t
+pub HeadIs-one : (s t : Pair) (p : List Pair) → HeadIs s p → HeadIs t p → s ≡ t
 HeadIs-one s t [] h k = absurd h
 HeadIs-one s t (x ∷ p) h k = sym h ∙ k
 
@@ -158,10 +155,10 @@ module _ (nfa : Automaton) (pattern : ℕ) where
         let later = onward-writes rest w start (position_after node position)
         (written node (2 * pattern) position start_slot) (written node (2 * pattern + 1) position end_slot) m there
         (Describes-after pattern node s h) on to matches in (
-          option_or_assoc (slot_among nfa (y ∷ rest) (2 * pattern)) _ start_slot
+          option_or-assoc (slot_among nfa (y ∷ rest) (2 * pattern)) _ start_slot
               ∙ ap (λ (z : Pair). option_or (slot_among nfa (z ∷ rest) (2 * pattern))
               (written node (2 * pattern) position start_slot)) of.2 ∙ later.0,
-          option_or_assoc (slot_among nfa (y ∷ rest) (2 * pattern + 1)) _ end_slot
+          option_or-assoc (slot_among nfa (y ∷ rest) (2 * pattern + 1)) _ end_slot
               ∙ ap (λ (z : Pair). option_or (slot_among nfa (z ∷ rest) (2 * pattern + 1))
               (written node (2 * pattern + 1) position end_slot)) of.2 ∙ later.1,
         )
@@ -184,9 +181,9 @@ module _ (nfa : Automaton) (pattern : ℕ) where
           pattern_is = ap (option_and_then (λ (z : Pair). pattern_of (node_at nfa z.0)))
               (EndsWith-last None end (x ∷ rest) way.ends) ∙ matches;
           start_slot = ap (λ (z : Pair). slot_among nfa (z ∷ rest) (2 * pattern)) way.head
-              ∙ sym (option_or-none (slot_among nfa ((s.0, s.1) ∷ rest) (2 * pattern))) ∙ both.0;
+              ∙ sym (option_or-None (slot_among nfa ((s.0, s.1) ∷ rest) (2 * pattern))) ∙ both.0;
           end_slot = ap (λ (z : Pair). slot_among nfa (z ∷ rest) (2 * pattern + 1)) way.head
-              ∙ sym (option_or-none (slot_among nfa ((s.0, s.1) ∷ rest) (2 * pattern + 1))) ∙ both.1;
+              ∙ sym (option_or-None (slot_among nfa ((s.0, s.1) ∷ rest) (2 * pattern + 1))) ∙ both.1;
         }
 
 -- what holds of all patterns holds of all ways

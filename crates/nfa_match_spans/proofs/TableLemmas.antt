@@ -1,12 +1,10 @@
 -- The table of the places that were reached.
 use Rattle.std.proofs.Common.{◌≡◌, ℕ, ◌<◌, ◌≤◌, inl, inr, List, [], ◌∷◌, ◌++◌, length, get_or, set}
 use Rattle.std.proofs.Common.{refl, ap, sym, ◌∙◌, arith, get_or-set_other, length-set}
-use Rattle.std.specs.Prelude.{true, false, Bool, ◌⊎◌}
-use Rattle.std.specs.List.{sum_by}
+use Rattle.std.specs.Prelude.{true, false, Bool}
 use Rattle.std.proofs.Math.Decide.{ℕ_discrete}
 use Rattle.std.proofs.lemmas.List.{append_assoc, length-append}
 use Rattle.std.proofs.lemmas.List.Sums.{sum_by-set}
-use Rattle.nfa_paths.specs.Graphs.{In}
 use Rattle.nfa_paths.proofs.MemberLemmas.{In-append, In-append_left, In-append_right}
 use Rattle.nfa_match_spans.specs.PathStates.{bit, path_state_number, unmarked_place, IsTable, GainsPathStates}
 use Rattle.nfa_match_spans.specs.declared.path_state.PathState.{PathState}

@@ -72,11 +72,7 @@ impl PathState {
                 end_written: self.end_written || is_end_slot(*slot, pattern),
                 ..*self
             },
-            State::Look { .. }
-            | State::Union { .. }
-            | State::BinaryUnion { .. }
-            | State::Fail
-            | State::Match { .. } => *self,
+            _ => *self,
         }
     }
 

@@ -20,6 +20,7 @@ use Rattle.nfa_paths.proofs.PathLemmas.{IsLeast-from_first}
 use Rattle.nfa_paths.proofs.SearchLemmas.{Answer-starts, found-Some}
 use Rattle.nfa_paths.proofs.PathToLemmas.{EndsWith-last, PathTo-along, found-end, ComesBefore-asymmetric, PathTo-order, IsLeast-none, IsLeast-first, IsFirstPath-unique, IsEarliestPath-unique, IsLastPath-unique, IsEarliestLastPath-unique}
 use Rattle.nfa_paths.proofs.StartLemmas.{IsMatch-edges, starts-increase, starts-none}
+use Rattle.nfa_paths.proofs.OptionLemmas.{option_or-None, option_or-assoc, same_some}
 
 -- of two accepting paths, one comes before the other
 pub accepting_order : (nfa : Automaton) (x : Search) {m n : Pair} {p q : List Pair}
@@ -54,16 +55,6 @@ get_or-write (Some k) at slots slot within =
       | inl h ↦ rw (h.0, h.1) (get_or-set_same slots slot (Some at) None within)
       | inr h ↦ rw h.0 (get_or-set_other slots k slot (Some at) None (λ e. h.1 (sym e)))
     ]
-
--- of three values the first that is there, however they are paired
-option_or-assoc : (a b c : Option ℕ) → option_or (option_or a b) c ≡ option_or a (option_or b c)
-option_or-assoc None b c = refl
-option_or-assoc (Some a) b c = refl
-
--- nothing to fall back on
-option_or-None : (a : Option ℕ) → option_or a None ≡ a
-option_or-None None = refl
-option_or-None (Some a) = refl
 
 -- equal finds have equal parts
 pub same_parts : (f g : Pair × Slots) → Some f ≡ Some g → (f.0 ≡ g.0) × (f.1 ≡ g.1)
@@ -233,9 +224,6 @@ module _ (nfa : Automaton) where
     SplitsCharacter-whole x (Some p) h answers whole =
         h.splits (subst (EndsOnBoundary x) (same_some p h.path
         (scan_answer-unique x kind earliest (Some p) (Some h.path) answers h.answers)) whole)
-      where
-        same_some : (p q : List Pair) → Some p ≡ Some q → p ≡ q
-        same_some p q e = cc
 
     -- an anchored search has one answer
     IsKeptAnswer-unique : (x : Search) (r s : Option (List Pair)) → IsKeptAnswer nfa kind earliest x r

@@ -5,32 +5,19 @@ use Rattle.std.proofs.lemmas.Bool.{cases_Bool}
 use Rattle.regex_search_core.specs.Search.{Search, is_anchored}
 use Rattle.regex_search_core.specs.declared.search.MatchKind.{MatchKind}
 use Rattle.regex_search_core.specs.declared.search.MatchKind.TheVariants.{All, LeftmostFirst}
-use Rattle.thompson_nfa.specs.Automaton.{Automaton, Node}
-use Rattle.thompson_nfa.specs.Automaton.Node.{ByteRange, Sparse, Dense, Look, Union, BinaryUnion, Capture, Fail, Match}
+use Rattle.thompson_nfa.specs.Automaton.{Automaton}
 use Rattle.nfa_paths.specs.Graphs.{Pair, IsFirstPath, IsEarliestPath, IsLastPath, IsEarliestLastPath}
-use Rattle.nfa_paths.specs.Paths.{raised, node_at, IsMatch, is_utf8_empty, edges_of, edges, starts, IsScanAnswer, EndsOnBoundary, IsWhole, SplitsCharacter, IsKeptAnswer, IsRestartedAnswer, IsSearchAnswer, IsBoolAnswer}
+use Rattle.nfa_paths.specs.Paths.{raised, IsMatch, is_utf8_empty, edges, starts, IsScanAnswer, EndsOnBoundary, IsWhole, SplitsCharacter, IsKeptAnswer, IsRestartedAnswer, IsSearchAnswer, IsBoolAnswer}
 use Rattle.nfa_paths.proofs.ExistenceLemmas.{is_match-agrees}
+use Rattle.nfa_paths.proofs.StartLemmas.{edges-alike}
 
 -- the search with this `earliest` flag
 abbrev pub asked : Search → Bool → Search
 asked x sooner = record x { earliest = sooner }
 
 -- the edges are the same
-pub edges-asked : (nfa : Automaton) (x : Search) (sooner : Bool) (v : Pair)
-    → edges nfa (asked x sooner) v ≡ edges nfa x v
-unfolding edges_of
-edges-asked nfa x sooner v = of (node_at nfa v.0)
-  where
-    of : (n : Node) → edges_of (asked x sooner) n v.1 ≡ edges_of x n v.1
-    of (ByteRange t) = refl
-    of (Sparse ts) = refl
-    of (Dense targets) = refl
-    of (Look look next) = refl
-    of (Union alternates) = refl
-    of (BinaryUnion a b) = refl
-    of (Capture next slot) = refl
-    of Fail = refl
-    of (Match pattern) = refl
+pub edges-asked : (nfa : Automaton) (x : Search) (sooner : Bool) → edges nfa (asked x sooner) ≡ edges nfa x
+edges-asked nfa x sooner = edges-alike nfa (asked x sooner) x refl refl
 
 module _ (nfa : Automaton) where
   -- so is a scan's answer
@@ -39,7 +26,7 @@ module _ (nfa : Automaton) where
   scan_answer-asked x sooner kind earliest r = of kind earliest
     where
       all : edges nfa (asked x sooner) ≡ edges nfa x
-      all = λ i v. edges-asked nfa x sooner v i
+      all = edges-asked nfa x sooner
 
       of : (kind : MatchKind) (earliest : Bool) → IsScanAnswer nfa (asked x sooner) kind earliest r
           → IsScanAnswer nfa x kind earliest r

@@ -1,7 +1,6 @@
 -- Nor does what an overlapping search makes of a set read the flag `earliest` of its input.
-use Rattle.std.proofs.Common.{◌≡◌, ℕ, ◌≤◌, inl, inr, Bool, true, false, List, length, subst}
+use Rattle.std.proofs.Common.{◌≡◌, ℕ, inl, inr, Bool, true, false, List, length, subst}
 use Rattle.std.specs.Prelude.{Option, None, Some}
-use Rattle.regex_search_core.specs.PatternSets.{size_of_set}
 use Rattle.regex_search_core.specs.Search.{Search}
 use Rattle.regex_search_core.specs.declared.search.MatchKind.{MatchKind}
 use Rattle.regex_search_core.specs.declared.search.MatchKind.TheVariants.{All, LeftmostFirst}
@@ -18,7 +17,7 @@ use Rattle.nfa_paths.proofs.ReachedLemmas.{IsReached-along}
 module _ (nfa : Automaton) where
   module _ (x : Search) (flag : Bool) where
     all : edges nfa (asked x flag) ≡ edges nfa x
-    all = λ i v. edges-asked nfa x flag v i
+    all = edges-asked nfa x flag
 
     permitted-asked : (v : Pair) → IsPermitted nfa (asked x flag) v → IsPermitted nfa x v
     permitted-asked v h = record { matches = h.matches; ends = h.ends }

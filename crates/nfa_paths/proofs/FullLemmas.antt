@@ -1,5 +1,5 @@
 -- What a set of patterns is under LeftmostFirst once it is full: what is left of the scan changes nothing.
-use Rattle.std.proofs.Common.{◌≡◌, ℕ, ◌<◌, ◌≤◌, ◌⊎◌, ◌↔◌, inl, inr, Bool, true, false, List, length, sym, ap, ◌∙◌, arith}
+use Rattle.std.proofs.Common.{◌≡◌, ℕ, ◌<◌, ◌≤◌, ◌↔◌, inl, inr, Bool, true, false, List, length, sym, ap, ◌∙◌, arith}
 use Rattle.std.specs.Prelude.{Option, None, Some, option_and_then}
 use Rattle.std.proofs.lemmas.Bool.{cases_lt}
 use Rattle.regex_search_core.specs.PatternSets.{size_of_set}
@@ -17,12 +17,7 @@ use Rattle.nfa_paths.proofs.ReachedLemmas.{IsReached-along}
 use Rattle.nfa_paths.proofs.SetLemmas.{full-holds, holds-below, size-none}
 use Rattle.nfa_paths.proofs.MetLemmas.{Exact}
 use Rattle.nfa_paths.proofs.UpToLemmas.{UpToMatch}
-
-same_number : (m n : ℕ) → Some m ≡ Some n → m ≡ n
-same_number m n e = cc
-
-same_pair : (v w : Pair) → Some v ≡ Some w → v ≡ w
-same_pair v w e = cc
+use Rattle.nfa_paths.proofs.OptionLemmas.{same_some}
 
 -- The set before is `old`: wanted is what it has room for. At position e the match `a` is the best one so far.
 module _ (nfa : Automaton) (x : Search) (old : List Bool) (wants : Pair → Bool)
@@ -37,7 +32,7 @@ module _ (nfa : Automaton) (x : Search) (old : List Bool) (wants : Pair → Bool
       let last = EndsWith-last None met.first.end met.along met.first.path.ends in
       let is : path_pattern nfa met.along ≡ pattern_at nfa met.first.end =
       ap (λ o. option_and_then (λ (w : Pair). pattern_of (node_at nfa w.0)) o) last in
-      let same : held.pattern ≡ k = same_number held.pattern k (sym held.pattern_is ∙ sym is ∙ met.pattern_is) in
+      let same : held.pattern ≡ k = same_some held.pattern k (sym held.pattern_is ∙ sym is ∙ met.pattern_is) in
       let less : held.pattern < length new = held.below in
       omega arith
 
@@ -80,7 +75,7 @@ module _ (nfa : Automaton) (x : Search) (old : List Bool) (wants : Pair → Bool
               wanted = record { wanted = first.wanted; before = before };
               first = λ m q w t. first.first m q w t.wanted;
             }) in
-            let here : first.end ≡ a.0 = same_pair first.end a.0 (sym last ∙ ap last_of (sym same) ∙ h.best.2) in
+            let here : first.end ≡ a.0 = same_some first.end a.0 (sym last ∙ ap last_of (sym same) ∙ h.best.2) in
             record {
               end = first.end;
               ends = last;
@@ -89,7 +84,7 @@ module _ (nfa : Automaton) (x : Search) (old : List Bool) (wants : Pair → Bool
               holds = full-holds new full held.pattern (omega arith);
               others = λ k held_too.
                   let is : u.pattern ≡ held.pattern =
-                  same_number u.pattern held.pattern (sym u.pattern_is ∙ sym (ap (pattern_at nfa) here)
+                  same_some u.pattern held.pattern (sym u.pattern_is ∙ sym (ap (pattern_at nfa) here)
                   ∙ held.pattern_is) in
                   rw (← is, here) (u.others k held_too);
               exact = exactly;

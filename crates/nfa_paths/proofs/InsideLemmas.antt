@@ -18,7 +18,7 @@ use Rattle.nfa_paths.specs.Paths.{path_half, IsHalfAnswer}
 use Rattle.nfa_paths.proofs.AnswerLemmas.{scan_answer-leads, never_none}
 use Rattle.std.proofs.lemmas.List.Elements.{All-map, All-replicate}
 use Rattle.nfa_paths.proofs.PathToLemmas.{EndsWith-last}
-use Rattle.nfa_paths.proofs.PatternLemmas.{node-pattern}
+use Rattle.nfa_paths.proofs.PatternLemmas.{pattern-within as path-pattern}
 use Rattle.nfa_paths.proofs.ScanAnswerLemmas.{edges-onward, edges-within, starts-from, starts-within}
 
 -- the position is in the span
@@ -232,18 +232,10 @@ module _ (nfa : Automaton) where
             (range_with_len 0 (length slots))
             (λ i d below. if-some (slot_among nfa p _) (λ k. (x.start ≤ k) × (k ≤ x.end)) (λ k e. some p s _ k e))
 
-    path-pattern : IsAutomaton nfa → (p : List Pair) (q : ℕ) → path_pattern nfa p ≡ Some q → q < length nfa.patterns
-    path-pattern valid p q e = of (last_of p) e
-      where
-        of : (last : Option Pair) → option_and_then (λ (v : Pair). pattern_of (node_at nfa v.0)) last ≡ Some q
-            → q < length nfa.patterns
-        of None e = cc
-        of (Some v) e = node-pattern nfa valid v.0 q e
-
     among : IsAutomaton nfa → (path : Option (List Pair)) (q : ℕ) → option_and_then (path_pattern nfa) path ≡ Some q
         → q < length nfa.patterns
     among valid None q e = cc
-    among valid (Some p) q e = path-pattern valid p q e
+    among valid (Some p) q e = path-pattern nfa valid p q e
 
     -- the pattern of an answer is one of the NFA's
     pub pattern-within : IsAutomaton nfa → (x : Search) (pattern : Option ℕ) (slots : List (Option ℕ))

@@ -10,7 +10,7 @@ use Rattle.nfa_paths.specs.Kinds.{Passes, MatchesAt, NoMatch, Scanned, IsFrontie
 use Rattle.nfa_paths.proofs.PathLemmas.{same, IsFirst-target, IsLeast-from_first}
 use Rattle.nfa_paths.proofs.SearchLemmas.{Answer-starts, found-Some}
 use Rattle.nfa_paths.proofs.PathToLemmas.{found-end, IsFirstTo-along, IsFirstTo-unique, IsLeast-none, IsLeast-first}
-use Rattle.nfa_paths.proofs.MemberLemmas.{In-append_left, In-append_right, In-append}
+use Rattle.nfa_paths.proofs.MemberLemmas.{In-append_left, In-append_right, In-append, In-map}
 use Rattle.nfa_paths.proofs.TestLemmas.{Tested, tell_at, test, test-true, true-test}
 use Rattle.nfa_paths.proofs.FrontierMatchLemmas.{FirstMatch, LastMatch}
 
@@ -81,11 +81,6 @@ module _ (space : Space) (target : Pair → Bool) where
 
 -- the items of a front
 
--- an item's pair is among the pairs
-In-map : (a : Pair × Slots) (xs : List (Pair × Slots)) → In a xs → In a.0 (map (λ b. b.0) xs)
-In-map a [] i = i
-In-map a (x ∷ xs) i = elim i [ inl e ↦ inl (ap (λ b. b.0) e) | inr j ↦ inr (In-map a xs j) ]
-
 -- no pair occurs twice: the items before an item are other pairs
 apart : (before : List (Pair × Slots)) (a : Pair × Slots) (after : List (Pair × Slots))
     → NoRepeats (map (λ b. b.0) (before ++ a ∷ after))
@@ -95,7 +90,7 @@ apart (c ∷ before) a after n b i e =
     elim i [
       | inl here ↦
           let same_pair : c.0 ≡ a.0 = ap (λ x. x.0) (sym here) ∙ e in
-          n.0 (rw same_pair (In-map a (before ++ a ∷ after) (In-append_right a before (a ∷ after) (inl refl))))
+          n.0 (rw same_pair (In-map (λ (b : Pair × Slots). b.0) a (before ++ a ∷ after) (In-append_right a before (a ∷ after) (inl refl))))
       | inr later ↦ apart before a after n.1 b later e
     ]
 

@@ -3,6 +3,7 @@ pub mod PathToLemmas
 pub mod SearchLemmas
 pub mod SearchingLemmas
 pub mod MemberLemmas
+pub mod OptionLemmas
 pub mod TestLemmas
 pub mod FlagSetLemmas
 pub mod FrontierMatchLemmas

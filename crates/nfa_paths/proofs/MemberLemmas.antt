@@ -1,5 +1,6 @@
 -- Elements of lists.
-use Rattle.std.proofs.Common.{◌⊎◌, inl, inr, List, [], ◌∷◌, ◌++◌, refl}
+use Rattle.std.proofs.Common.{◌⊎◌, inl, inr, suc, List, [], ◌∷◌, ◌++◌, map, refl, sym, ap, subst, arith}
+use Rattle.std.specs.Prelude.{All}
 use Rattle.nfa_paths.specs.Graphs.{In}
 
 -- the elements of the first of two lists
@@ -23,3 +24,16 @@ In-append x (y ∷ xs) ys i = elim i [
 -- an item in the middle
 pub In-middle : {A : Type 0} (xs : List A) (x : A) (ys : List A) → In x (xs ++ x ∷ ys)
 In-middle xs x ys = In-append_right x xs (x ∷ ys) (inl refl)
+
+-- what an element gives is among what the list gives
+pub In-map : {A B : Type 0} (f : A → B) (x : A) (xs : List A) → In x xs → In (f x) (map f xs)
+In-map f x [] i = absurd i
+In-map f x (y ∷ xs) i = elim i [ inl e ↦ inl (ap f e) | inr j ↦ inr (In-map f x xs j) ]
+
+-- what holds of all elements holds of each
+pub All-In : {A : Type 0} (P : A → Type 0) (xs : List A) → All P xs → (x : A) → In x xs → P x
+All-In P [] all x i = absurd i
+All-In P (y ∷ xs) all x i = elim i [
+  | inl e ↦ subst P (sym e) (all 0 y (omega arith))
+  | inr j ↦ All-In P xs (λ k d h. all (suc k) d (omega arith)) x j
+]

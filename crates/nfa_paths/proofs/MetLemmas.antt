@@ -1,26 +1,28 @@
 -- The first path that ends before a limit, as a search that drops what is after a match finds it, and the set of the
 -- patterns of such paths.
-use Rattle.std.proofs.Common.{◌≡◌, ℕ, ◌+◌, ◌<◌, ◌≤◌, ◌⊎◌, ◌↔◌, ◌∙◌, inl, inr, Bool, true, false, List, [], ◌∷◌, map, length, refl, sym, ap, subst, arith}
-use Rattle.std.specs.Prelude.{Option, None, Some, cond, option_and_then}
+use Rattle.std.proofs.Common.{◌≡◌, ℕ, ◌+◌, ◌<◌, ◌≤◌, ◌↔◌, ◌∙◌, inl, inr, Bool, true, List, [], ◌∷◌, map, length, refl, sym, ap, subst, arith}
+use Rattle.std.specs.Prelude.{Option, None, Some}
 use Rattle.std.proofs.lemmas.Bool.{cases_Bool, cases_lt}
 use Rattle.regex_search_core.specs.PatternSets.{with_pattern, size_of_set}
 use Rattle.regex_search_core.specs.Search.{Search}
 use Rattle.thompson_nfa.specs.Automaton.{Automaton}
 use Rattle.nfa_paths.specs.Graphs.{Pair, In, Space, NoPath, IsFirstTo, IsFirstPath}
-use Rattle.nfa_paths.specs.FirstPaths.{Path, IsFirst}
+use Rattle.nfa_paths.specs.FirstPaths.{Path}
 use Rattle.nfa_paths.specs.FirstPaths.Path.{stop, go}
 use Rattle.nfa_paths.specs.Exploring.{Slots, Hit, Task, apply, ExploresTo}
 use Rattle.nfa_paths.specs.Exploring.Task.{Explore, Restore, Load}
 use Rattle.nfa_paths.specs.Kinds.{Passes, WantedBefore, found_along, first_match, before_match, is_resting}
-use Rattle.nfa_paths.specs.Paths.{space, capture, edges, starts, last_of, node_at, path_pattern, pattern_of}
+use Rattle.nfa_paths.specs.Paths.{space, capture, edges, starts, last_of, path_pattern}
 use Rattle.nfa_paths.specs.Overlaps.{HoldsPattern, IsFirstBefore, IsInsertable, pattern_at}
 use Rattle.nfa_paths.proofs.AnswerLemmas.{same_parts}
 use Rattle.nfa_paths.proofs.GainLemmas.{wanted-shape}
 use Rattle.nfa_paths.proofs.PathToLemmas.{EndsWith-last, found-end, IsFirstTo-along, IsFirstTo-unique}
-use Rattle.nfa_paths.proofs.ScanAnswerLemmas.{edges-onward, Scanned-matches, starts-from}
+use Rattle.nfa_paths.proofs.ScanAnswerLemmas.{Scanned-matches, starts-from}
 use Rattle.nfa_paths.proofs.ScanLemmas.{IsFirstPath-found, NoneBefore-start}
 use Rattle.nfa_paths.proofs.SetLemmas.{holds-with, size-none}
-use Rattle.nfa_paths.proofs.TestLemmas.{Tested, is_plain, test, test-true, true-test}
+use Rattle.nfa_paths.proofs.TestLemmas.{Tested, is_plain, test, test-true, true-test, same_test}
+use Rattle.nfa_paths.proofs.OptionLemmas.{same_some}
+use Rattle.nfa_paths.proofs.PatternLemmas.{ends-pattern}
 
 -- work ahead of all targets finds nothing
 module _ (space : Space) (target : Pair → Bool) (e : ℕ)
@@ -44,11 +46,6 @@ module _ (space : Space) (target : Pair → Bool) (e : ℕ)
       Answer-ahead left otherwise marks rest old (λ k i. ahead k (inr i))
 
 -- tests that say the same of a front
-
-same_bits : (a b : Bool) → (a ≡ true → b ≡ true) → (b ≡ true → a ≡ true) → a ≡ b
-same_bits true b f g = sym (f refl)
-same_bits false true f g = g refl
-same_bits false false f g = refl
 
 pub first_match-same : (t u : Pair → Bool) (front : List (Pair × Slots))
     → ((a : Pair × Slots) → In a front → t a.0 ≡ u a.0) → first_match t front ≡ first_match u front
@@ -75,7 +72,7 @@ Between-less {wants} {target} {e} b = record { sub = b.sub; all = λ v t l. b.al
 
 pub Between-same : {wants target : Pair → Bool} {e : ℕ} → Between wants (e + 1) target → (v : Pair) → v.1 ≡ e
     → target v ≡ wants v
-Between-same {wants} {target} {e} b v at = same_bits (target v) (wants v) (b.sub v) (λ t. b.all v t (omega arith))
+Between-same {wants} {target} {e} b v at = same_test (target v) (wants v) (b.sub v) (λ t. b.all v t (omega arith))
 
 -- what is wanted before e, as a test
 module _ (wants : Pair → Bool) (e : ℕ) where
@@ -161,17 +158,13 @@ module _ (nfa : Automaton) (x : Search) (old : List Bool) (wants : Pair → Bool
   Best-start = NoneBefore-start (space nfa x) (is_resting nfa) wants [] (wanted-shape nfa x old wants tells) x.start
       (starts-from nfa x)
 
-  -- the pattern of a path that ends with the pair
-  ends-pattern : (p : List Pair) (v : Pair) → last_of p ≡ Some v → path_pattern nfa p ≡ pattern_at nfa v
-  ends-pattern p v last = ap (λ o. option_and_then (λ (w : Pair). pattern_of (node_at nfa w.0)) o) last
-
   -- so the first path before the limit has the pattern of what was found
   Best-pattern : (limit : ℕ) (a : Pair × Slots) → Best limit (Some a) → (p : List Pair) → First limit p
       → path_pattern nfa p ≡ pattern_at nfa a.0
   Best-pattern limit a best p first =
       let same : best.0 ≡ p = IsFirstTo-unique (edges nfa x) (starts nfa x) (WantedBefore (Passes wants) limit) best.0 p
       best.1 first in
-      ap (path_pattern nfa) (sym same) ∙ ends-pattern best.0 a.0 best.2
+      ap (path_pattern nfa) (sym same) ∙ ends-pattern nfa best.0 a.0 best.2
 
   -- The set holds the patterns of the first paths before each limit up to e. The last of these is what was found.
   pub record Exact (e : ℕ) (g : Hit) (new : List Bool) : Type 0 where
@@ -238,13 +231,10 @@ module _ (nfa : Automaton) (x : Search) (old : List Bool) (wants : Pair → Bool
               let at : limit ≡ e + 1 = omega arith in
               let both : Some k ≡ Some j =
               sym pattern_is ∙ sym (Best-pattern (e + 1) a best p (subst (λ n. First n p) at first)) ∙ is in
-              let same : k ≡ j = same_number k j both in
+              let same : k ≡ j = same_some k j both in
               inr (subst (λ n. n < length mid) same below, same)
         ]));
   }
-    where
-      same_number : (m n : ℕ) → Some m ≡ Some n → m ≡ n
-      same_number m n both = cc
 
   -- in the end
   pub Exact-end : {e : ℕ} {g : Hit} {new : List Bool} → Exact e g new → length new ≡ length old

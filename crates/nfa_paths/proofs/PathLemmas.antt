@@ -21,7 +21,7 @@ same a b =
 -- the order
 
 -- no pair comes before itself
-Earlier-irreflexive : (es : List Pair) (a : Pair) → Earlier es a a → ⊥
+pub Earlier-irreflexive : (es : List Pair) (a : Pair) → Earlier es a a → ⊥
 Earlier-irreflexive [] a h = h
 Earlier-irreflexive (e ∷ es) a h = elim h.1 [ inl here ↦ h.0 here | inr later ↦ Earlier-irreflexive es a later ]
 
@@ -329,18 +329,6 @@ module _ (edges : Pair → List Pair) (target : Pair → Bool) where
 
         none : (p : List Pair) → Accepts edges target marks v p → Accepts edges target [] v p
         none p a = record { path = a.path; clear = λ x i m. absurd m }
-
-  -- there is one first path
-  pub IsFirst-unique : (marks : List Pair) (v : Pair) (r s : Option (List Pair))
-      → IsFirst edges target marks v r → IsFirst edges target marks v s → r ≡ s
-  IsFirst-unique marks v None None f g = refl
-  IsFirst-unique marks v None (Some q) f g = absurd (f q g.0)
-  IsFirst-unique marks v (Some p) None f g = absurd (g p f.0)
-  IsFirst-unique marks v (Some p) (Some q) f g =
-      elim (g.1 p f.0) [
-        | inl e ↦ ap Some e
-        | inr k ↦ elim (f.1 q g.0) [ inl e ↦ ap Some (sym e) | inr l ↦ absurd (Before-asymmetric edges p q l k) ]
-      ]
 
   -- if the starts ascend, the first start is that at the smallest position
   pub IsLeast-from_first : (starts : List Pair) → Increasing starts → (r : Option (List Pair))

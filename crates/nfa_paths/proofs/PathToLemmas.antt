@@ -14,6 +14,11 @@ is_false false h = refl
 
 -- the end of a path
 
+-- a pair in front changes no end
+pub EndsWith-cons : (v m : Pair) (p : List Pair) → EndsWith m p → EndsWith m (v ∷ p)
+EndsWith-cons v m [] e = absurd e
+EndsWith-cons v m (w ∷ p) e = e
+
 -- the pair that a list ends with is its last
 pub EndsWith-last : (o : Option Pair) (m : Pair) (p : List Pair) → EndsWith m p → last_or o p ≡ Some m
 EndsWith-last o m [] e = absurd e
@@ -94,12 +99,6 @@ module _ (edges : Pair → List Pair) where
     linked : Linked edges along
     ends : EndsWith w along
     within : (z : Pair) → In z along → In z p
-
-module _ (edges : Pair → List Pair) (starts : List Pair) where
-  -- some path leads to the pair
-  pub record IsReachable (m : Pair) : Type 0 where
-    pub along : List Pair
-    pub path : PathTo edges starts m along
 
 module _ (edges : Pair → List Pair) (starts : List Pair) where
   -- a path to the same pair, under another name

@@ -7,54 +7,46 @@ use Rattle.std.proofs.lemmas.Bool.{cases_lt}
 use Rattle.std.proofs.lemmas.Bool.Decides.{eqb_tells}
 use Rattle.std.proofs.lemmas.List.FromFn.{length-map-range_with_len, get_or-map-range_with_len, map-range_with_len_more, take-map-range_with_len}
 use Rattle.std.proofs.lemmas.Option.{slice_get-get_or}
-use Rattle.std.proofs.lemmas.List.{get_or_past, replicate-append-replicate, append_assoc, append-nil, take-replicate}
+use Rattle.std.proofs.lemmas.List.{get_or_past, replicate-append-replicate, append_assoc, append-nil, take-replicate, length-replicate}
 use Rattle.regex_search_core.specs.Groups.{slot_count}
 use Rattle.regex_search_core.specs.Search.{Search, is_anchored}
 use Rattle.regex_search_core.specs.Slots.{offset_at, match_of}
 use Rattle.regex_search_core.specs.declared.search.MatchKind.{MatchKind}
 use Rattle.thompson_nfa.specs.Automaton.{Automaton, Node, IsAutomaton, PatternBelow, SlotBelow}
-use Rattle.thompson_nfa.specs.Automaton.Node.{ByteRange, Sparse, Dense, Look, Union, BinaryUnion, Capture, Fail, Match}
+use Rattle.thompson_nfa.specs.Automaton.Node.{Capture, Fail, Match}
 use Rattle.nfa_paths.specs.Graphs.{Pair}
 use Rattle.nfa_paths.specs.Paths.{raised, pattern_of, slot_of, node_at, capture, is_utf8_empty, path_pattern, last_of, slot_among, slot_row, IsScanAnswer, IsKeptAnswer, IsRestartedAnswer, IsSearchAnswer, IsAnswer, IsBoolAnswer}
 use Rattle.nfa_paths.specs.Exploring.{Slots}
 use Rattle.nfa_paths.proofs.AnswerLemmas.{scan_answer-leads}
 use Rattle.nfa_paths.proofs.PathToLemmas.{EndsWith-last}
+use Rattle.nfa_paths.specs.Overlaps.{pattern_at}
 
 -- a Match has a pattern
 pub some-pattern : (node : Node) → is_some (pattern_of node) ≡ true → (k : ℕ) × (pattern_of node ≡ Some k)
 some-pattern (Match pattern) e = (pattern, refl)
-some-pattern (ByteRange trans) e = cc
-some-pattern (Sparse ts) e = cc
-some-pattern (Dense targets) e = cc
-some-pattern (Look look next) e = cc
-some-pattern (Union alternates) e = cc
-some-pattern (BinaryUnion alt1 alt2) e = cc
-some-pattern (Capture next slot) e = cc
-some-pattern Fail e = cc
+some-pattern _ e = cc
 
 -- and one that is in range
 below-pattern : (n k : ℕ) (node : Node) → pattern_of node ≡ Some k → PatternBelow n node → k < n
 below-pattern n k (Match pattern) e below = let same : pattern ≡ k = cc in rw (← same) below
-below-pattern n k (ByteRange trans) e below = cc
-below-pattern n k (Sparse ts) e below = cc
-below-pattern n k (Dense targets) e below = cc
-below-pattern n k (Look look next) e below = cc
-below-pattern n k (Union alternates) e below = cc
-below-pattern n k (BinaryUnion alt1 alt2) e below = cc
-below-pattern n k (Capture next slot) e below = cc
-below-pattern n k Fail e below = cc
+below-pattern n k _ e below = cc
 
 -- a Capture's slot is in range
 below-slot : (n k : ℕ) (node : Node) → slot_of node ≡ Some k → SlotBelow n node → k < n
 below-slot n k (Capture next slot) e below = let same : slot ≡ k = cc in rw (← same) below
-below-slot n k (ByteRange trans) e below = cc
-below-slot n k (Sparse ts) e below = cc
-below-slot n k (Dense targets) e below = cc
-below-slot n k (Look look next) e below = cc
-below-slot n k (Union alternates) e below = cc
-below-slot n k (BinaryUnion alt1 alt2) e below = cc
-below-slot n k (Match pattern) e below = cc
-below-slot n k Fail e below = cc
+below-slot n k _ e below = cc
+
+-- the pattern of a path that ends with the pair
+pub ends-pattern : (nfa : Automaton) (p : List Pair) (v : Pair) → last_of p ≡ Some v
+    → path_pattern nfa p ≡ pattern_at nfa v
+ends-pattern nfa p v last = ap (λ o. option_and_then (λ (w : Pair). pattern_of (node_at nfa w.0)) o) last
+
+-- the length of a row
+pub length-slot_row : (nfa : Automaton) (count : ℕ) (path : Option (List Pair))
+    → length (slot_row nfa count path) ≡ count
+unfolding slot_row
+length-slot_row nfa count None = length-replicate count None
+length-slot_row nfa count (Some p) = length-map-range_with_len (slot_among nfa p) 0 count
 
 -- if nothing is written, the value stays
 unwritten : (o : Option ℕ) (i at : ℕ) → ((k : ℕ) → o ≡ Some k → k < i)

@@ -1,13 +1,13 @@
 -- An NFA's pairs as what a scan goes over, and what a scan finds as the answer that its contract means.
-use Rattle.std.proofs.Common.{◌≡◌, ℕ, zero, suc, ◌+◌, ◌-◌, ◌≤◌, ◌<◌, ◌⊎◌, inl, inr, Bool, true, false, List, [], ◌∷◌, map, length, replicate, refl, sym, ap, ◌∙◌, arith}
-use Rattle.std.specs.Prelude.{Option, None, Some, cond, nat_lt, option_and_then, option_map, option_to_list}
+use Rattle.std.proofs.Common.{◌≡◌, ℕ, zero, suc, ◌+◌, ◌-◌, ◌≤◌, ◌<◌, ◌⊎◌, inl, inr, Bool, true, false, List, [], ◌∷◌, map, length, replicate, refl, sym, ap, subst, ◌∙◌, arith}
+use Rattle.std.specs.Prelude.{Option, None, Some, cond, option_and_then, option_map, option_to_list}
 use Rattle.std.specs.Option.{option_map_or}
-use Rattle.std.proofs.lemmas.Bool.{cases_Bool, cases_lt, ltb-true}
+use Rattle.std.proofs.lemmas.Bool.{cases_lt}
 use Rattle.regex_search_core.specs.Search.{Search}
 use Rattle.regex_search_core.specs.declared.search.MatchKind.{MatchKind}
 use Rattle.regex_search_core.specs.declared.search.MatchKind.TheVariants.{All, LeftmostFirst}
 use Rattle.thompson_nfa.specs.Automaton.{Automaton, Node}
-use Rattle.thompson_nfa.specs.Automaton.Node.{ByteRange, Sparse, Dense, Look, Union, BinaryUnion, Capture, Fail, Match}
+use Rattle.thompson_nfa.specs.Automaton.Node.{Look, Union, BinaryUnion, Capture}
 use Rattle.thompson_nfa.specs.Looks.{look_holds}
 use Rattle.nfa_paths.specs.Graphs.{Pair, In, NoPath}
 use Rattle.nfa_paths.specs.Exploring.{Task, Slots, Hit, apply, ExploresTo, seeds}
@@ -15,7 +15,7 @@ use Rattle.nfa_paths.specs.Exploring.Task.{Explore, Load}
 use Rattle.nfa_paths.specs.Kinds.{Scanning, IsFoundBy, found_along, NoneBefore, LastBefore, EndsBefore, first_match, last_match, Scanned, IsFrontier, rests, is_resting}
 use Rattle.nfa_paths.specs.Paths.{space, target_on, pairs_from, node_at, is_match, IsMatch, capture, start_state, byte_at, edges_of, edges, start_count, starts, IsScanAnswer, last_of, slot_row}
 use Rattle.nfa_paths.proofs.PathToLemmas.{EndsWith-last, found-end}
-use Rattle.nfa_paths.proofs.StartLemmas.{pairs_from-ahead, starts-increase, starts-none, IsMatch-edges, IsMatch-capture}
+use Rattle.nfa_paths.proofs.StartLemmas.{pairs_from-ahead, starts-increase, starts-none, IsMatch-edges, IsMatch-capture, resting-edges, byte_at-within}
 use Rattle.nfa_paths.proofs.AnswerLemmas.{apply-slot_row, scan_answer-leads, never_none, same_parts}
 use Rattle.nfa_paths.proofs.CutLemmas.{first_match-cut}
 use Rattle.nfa_paths.proofs.ScanLemmas.{EndsBefore-within, IsEarliestPath-found, IsEarliestLastPath-found, LastBefore-end, IsFirstPath-found}
@@ -23,19 +23,11 @@ use Rattle.nfa_paths.proofs.ScanLemmas.{EndsBefore-within, IsEarliestPath-found,
 -- the edges
 
 module _ (nfa : Automaton) (x : Search) where
-  -- a byte that is read is before the end of the span
-  byte_at-within : (p b : ℕ) → byte_at x p ≡ Some b → p < x.end
-  byte_at-within p b e =
-      elim (cases_Bool (nat_lt p x.end)) [
-        | inl t ↦ ltb-true p x.end t
-        | inr f ↦ absurd (never_none _ (sym (rw f at e)))
-      ]
-
   -- an edge over a byte leads to the next position, within the span
   byte_edge : (p : ℕ) (on : ℕ → Option ℕ) (y : Pair)
       → In y (option_to_list (option_and_then (λ b. option_map (λ next. (next, p + 1)) (on b)) (byte_at x p)))
       → (y.1 ≡ p + 1) × (p < x.end)
-  byte_edge p on y = of (byte_at x p) (λ b. byte_at-within p b)
+  byte_edge p on y = of (byte_at x p) (λ b. byte_at-within x p b)
     where
       over : (o : Option ℕ) → In y (option_to_list (option_map (λ next. (next, p + 1)) o)) → y.1 ≡ p + 1
       over None i = absurd i
@@ -56,9 +48,6 @@ module _ (nfa : Automaton) (x : Search) where
   pub edges_of-next : (n : Node) (p : ℕ) (y : Pair) → In y (edges_of x n p)
       → ((rests n ≡ false) × (y.1 ≡ p)) ⊎ ((y.1 ≡ p + 1) × (p < x.end))
   unfolding edges_of
-  edges_of-next (ByteRange t) p y i = inr (byte_edge p (target_on (ByteRange t)) y i)
-  edges_of-next (Sparse ts) p y i = inr (byte_edge p (target_on (Sparse ts)) y i)
-  edges_of-next (Dense targets) p y i = inr (byte_edge p (target_on (Dense targets)) y i)
   edges_of-next (Look look next) p y i = inl (refl, of (look_holds look x.haystack p) i)
     where
       of : (b : Bool) → In y (cond b ((next, p) ∷ []) []) → y.1 ≡ p
@@ -67,8 +56,8 @@ module _ (nfa : Automaton) (x : Search) where
   edges_of-next (Union alternates) p y i = inl (refl, stays p alternates y i)
   edges_of-next (BinaryUnion a b) p y i = inl (refl, stays p (a ∷ b ∷ []) y i)
   edges_of-next (Capture next slot) p y i = inl (refl, stays p (next ∷ []) y i)
-  edges_of-next Fail p y i = absurd i
-  edges_of-next (Match pattern) p y i = absurd i
+  edges_of-next node p y i =
+      inr (byte_edge p (target_on node) y (subst (In y) (resting-edges x node p refl) i))
 
   -- positions never fall along an edge
   pub edges-onward : (v y : Pair) → In y (edges nfa x v) → v.1 ≤ y.1

@@ -158,15 +158,6 @@ module _ (space : Space) (target : Pair → Bool) where
           → ExploresTo space target (suc left) otherwise marks (Explore v ∷ rest) slots g
       Answer-unkept k e past = Answer-step rest slots (rw e (set_past slots k _ past)) (λ a. a)
 
-    -- a pair with no edge is dropped, whether it writes or not
-    pub Answer-end : ¬ (In v marks) → target v ≡ false → space.edges v ≡ []
-        → ExploresTo space target left otherwise (v ∷ marks) rest slots g
-        → ExploresTo space target (suc left) otherwise marks (Explore v ∷ rest) slots g
-    unfolding ExploresTo
-    Answer-end free plain leads h =
-        let none = IsFirst-dead space.edges target marks v plain leads in
-        inr (none, Answer-mark left otherwise marks v none rest slots g h)
-
   -- a path finds something
   pub found-Some : {v : Pair} {p : List Pair} (slots : Slots) → Path space.edges target v p
       → None ≡ found space.capture p slots → ⊥

@@ -2,9 +2,9 @@
 use Rattle.std.proofs.Common.{◌≡◌, ℕ, suc, ◌+◌, ◌≤◌, arith, ◌⊎◌, ◌↔◌, inl, inr, Bool, false, List, [], ◌∷◌, ◌++◌, map, length, get_or, set, refl}
 use Rattle.std.specs.Prelude.{Option, None, Some}
 use Rattle.nfa_paths.specs.Graphs.{Pair, Space, In}
-use Rattle.nfa_paths.specs.Exploring.{Slots, Hit, Task, ExploresTo, ExploresAfter, next_tasks, seeds, Searching}
+use Rattle.nfa_paths.specs.Exploring.{Slots, Hit, Task, ExploresTo, ExploresAfter, next_tasks, Searching}
 use Rattle.nfa_paths.specs.Exploring.Task.{Explore, Restore, Load}
-use Rattle.nfa_paths.proofs.SearchLemmas.{Answer-more, Answer-seeds, Answer-restore, Answer-load, Answer-marked, Answer-plain, Answer-write, Answer-unkept, Answer-end, AnswerBehind-along, AnswerBehind-keep, AnswerBehind-round}
+use Rattle.nfa_paths.proofs.SearchLemmas.{Answer-more, Answer-restore, Answer-load, Answer-marked, Answer-plain, Answer-write, Answer-unkept, AnswerBehind-along, AnswerBehind-keep, AnswerBehind-round}
 
 module _ (space : Space) (target : Pair → Bool) where
   -- nothing is seen yet
@@ -17,20 +17,6 @@ module _ (space : Space) (target : Pair → Bool) where
     marks = [];
     agrees = λ x. (λ i. absurd i, λ s. absurd (fresh x s));
     leads = λ g left total e. Answer-more space target left total (omega arith) otherwise [] work slots g;
-  }
-
-  -- nothing is seen yet, and each start has its slots loaded
-  pub Searching-seeds : (Seen : Pair → Type 0) (otherwise : Hit) (starts : List Pair) (slots current : Slots)
-      → ((x : Pair) → Seen x → ⊥)
-      → Searching space target (λ g total. ExploresTo space target total otherwise [] (map Explore starts)
-      slots g) Seen 0 [] otherwise (Load slots ∷ seeds slots starts) current
-  unfolding ExploresTo ExploresAfter
-  Searching-seeds Seen otherwise starts slots current fresh = record {
-    marks = [];
-    agrees = λ x. (λ i. absurd i, λ s. absurd (fresh x s));
-    leads = λ g left total e h.
-        Answer-more space target left total (omega arith) otherwise [] (map Explore starts) slots g
-        (Answer-seeds space target left otherwise [] starts slots g h);
   }
 
   -- nothing is left to do, and nothing was put aside
@@ -135,13 +121,6 @@ module _ (space : Space) (target : Pair → Bool) where
           Searching-next (map Explore es ++ rest) slots
           (λ left g. Answer-unkept space target left otherwise s.marks v rest slots g free plain es
           leads k e past)
-
-      -- a pair with no edge is dropped
-      pub Searching-end : target v ≡ false → space.edges v ≡ []
-          → Searching space target goal After (spent + 1) front otherwise rest slots
-      Searching-end plain leads =
-          Searching-next rest slots (λ left g. Answer-end space target left otherwise s.marks v rest slots g
-          free plain leads)
 
       -- a pair whose edges lead ahead of all that is seen is put aside
       pub Searching-keep : (ahead : Pair → Type 0) → ((x y : Pair) → ahead x → In y (space.edges x) → ahead y)

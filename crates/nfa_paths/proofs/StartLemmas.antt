@@ -1,15 +1,16 @@
 -- The starts of the paths of an NFA, and the edges of its pairs.
-use Rattle.std.proofs.Common.{◌≡◌, ℕ, zero, suc, ◌+◌, ◌-◌, ◌≤◌, ◌<◌, inl, inr, true, [], ◌∷◌, refl, ap, arith}
-use Rattle.std.specs.Prelude.{Option, None, Some, is_some}
+use Rattle.std.proofs.Common.{◌≡◌, ℕ, zero, suc, ◌+◌, ◌-◌, ◌≤◌, ◌<◌, inl, inr, true, List, [], ◌∷◌, refl, ap, arith}
+use Rattle.std.specs.Prelude.{Option, None, Some, is_some, option_and_then, option_map, option_to_list, slice_get, nat_lt}
 use Rattle.std.specs.Option.{option_map_or}
-use Rattle.std.proofs.lemmas.Bool.{lt-ltb}
+use Rattle.std.proofs.lemmas.Bool.{lt-ltb, cases_lt, cases_Bool, ltb-true}
+use Rattle.std.proofs.lemmas.Option.{get_or_from_slice_get}
 use Rattle.regex_search_core.specs.Search.{Search}
 use Rattle.thompson_nfa.specs.Automaton.{Automaton, Node}
-use Rattle.thompson_nfa.specs.Automaton.Node.{ByteRange, Sparse, Dense, Look, Union, BinaryUnion, Capture, Fail, Match}
+use Rattle.thompson_nfa.specs.Automaton.Node.{ByteRange, Sparse, Dense, Capture, Fail, Match}
 use Rattle.nfa_paths.specs.Graphs.{Pair, In}
 use Rattle.nfa_paths.specs.FirstPaths.{Increasing}
 use Rattle.nfa_paths.specs.Kinds.{rests, is_resting}
-use Rattle.nfa_paths.specs.Paths.{pattern_of, slot_of, pairs_from, raised, node_at, is_match, capture, start_state, edges_of, edges, start_count, starts}
+use Rattle.nfa_paths.specs.Paths.{pattern_of, slot_of, target_on, byte_at, pairs_from, raised, node_at, is_match, capture, start_state, edges_of, edges, start_count, starts}
 
 -- the pairs from a position on are at it or after it
 pub pairs_from-ahead : (state at count : ℕ) (d : Pair) → In d (pairs_from state at count) → at ≤ d.1
@@ -18,6 +19,15 @@ pairs_from-ahead state at (suc count) d i =
     elim i [
       | inl e ↦ let k : d.1 ≡ at = ap (λ x. x.1) e in omega arith
       | inr later ↦ let k : at + 1 ≤ d.1 = pairs_from-ahead state (at + 1) count d later in omega arith
+    ]
+
+-- and are all that are
+pub pairs_from-has : (state at count i : ℕ) → at ≤ i → i < at + count → In (state, i) (pairs_from state at count)
+pairs_from-has state at zero i low high = absurd (omega arith)
+pairs_from-has state at (suc count) i low high =
+    elim (cases_lt at i) [
+      | inl less ↦ inr (pairs_from-has state (at + 1) count i (omega arith) (omega arith))
+      | inr same ↦ let e : i ≡ at = omega arith in inl (ap (λ (z : ℕ). (state, z)) e)
     ]
 
 -- the pairs from a position on rise
@@ -60,27 +70,13 @@ module _ (nfa : Automaton) (x : Search) where
 -- a Match has no edges
 Match-edges : (nfa : Automaton) (x : Search) (n : Node) (p : ℕ) → is_some (pattern_of n) ≡ true → edges_of x n p ≡ []
 unfolding edges_of
-Match-edges nfa x (ByteRange t) p m = cc
-Match-edges nfa x (Sparse ts) p m = cc
-Match-edges nfa x (Dense targets) p m = cc
-Match-edges nfa x (Look look next) p m = cc
-Match-edges nfa x (Union alternates) p m = cc
-Match-edges nfa x (BinaryUnion a b) p m = cc
-Match-edges nfa x (Capture next slot) p m = cc
-Match-edges nfa x Fail p m = refl
 Match-edges nfa x (Match pattern) p m = refl
+Match-edges nfa x _ p m = cc
 
 -- and writes nothing
 Match-slot : (n : Node) → is_some (pattern_of n) ≡ true → slot_of n ≡ None
-Match-slot (ByteRange t) m = refl
-Match-slot (Sparse ts) m = refl
-Match-slot (Dense targets) m = refl
-Match-slot (Look look next) m = refl
-Match-slot (Union alternates) m = refl
-Match-slot (BinaryUnion a b) m = refl
 Match-slot (Capture next slot) m = cc
-Match-slot Fail m = refl
-Match-slot (Match pattern) m = refl
+Match-slot _ m = refl
 
 -- a match leads nowhere
 pub IsMatch-edges : (nfa : Automaton) (x : Search) (v : Pair) → is_match nfa v ≡ true → edges nfa x v ≡ []
@@ -95,15 +91,51 @@ pub resting-capture : (nfa : Automaton) (v : Pair) → is_resting nfa v ≡ true
 resting-capture nfa v = of (node_at nfa v.0)
   where
     of : (n : Node) → rests n ≡ true → slot_of n ≡ None
-    of (ByteRange t) r = refl
-    of (Sparse ts) r = refl
-    of (Dense targets) r = refl
-    of (Look look next) r = refl
-    of (Union alternates) r = refl
-    of (BinaryUnion a b) r = refl
     of (Capture next slot) r = cc
-    of Fail r = refl
-    of (Match pattern) r = refl
+    of _ r = refl
+
+-- a byte that is read is before the end of the span
+pub byte_at-within : (x : Search) (p b : ℕ) → byte_at x p ≡ Some b → p < x.end
+byte_at-within x p b e =
+    elim (cases_Bool (nat_lt p x.end)) [
+      | inl t ↦ ltb-true p x.end t
+      | inr f ↦ absurd (let never : None ≡ Some b = rw f at e in cc)
+    ]
+
+-- the pair that a state leads to on the byte, if it reads the byte
+abbrev pub byte_pairs : Node → ℕ → Option ℕ → List Pair
+byte_pairs node p byte = option_to_list (option_and_then (λ b. option_map (λ next. (next, p + 1)) (target_on node b))
+    byte)
+
+-- a state that rests leads to that pair
+pub resting-edges : (x : Search) (node : Node) (p : ℕ) → rests node ≡ true
+    → edges_of x node p ≡ byte_pairs node p (byte_at x p)
+unfolding edges_of
+resting-edges x (ByteRange t) p r = refl
+resting-edges x (Sparse ts) p r = refl
+resting-edges x (Dense targets) p r = refl
+resting-edges x Fail p r = nowhere p (byte_at x p)
+  where
+    nowhere : (p : ℕ) (byte : Option ℕ) → [] ≡ byte_pairs Fail p byte
+    nowhere p None = refl
+    nowhere p (Some b) = refl
+resting-edges x (Match pattern) p r = nowhere p (byte_at x p)
+  where
+    nowhere : (p : ℕ) (byte : Option ℕ) → [] ≡ byte_pairs (Match pattern) p byte
+    nowhere p None = refl
+    nowhere p (Some b) = refl
+resting-edges x _ p r = cc
+
+-- the edges depend on the haystack and on the end of the span only
+pub edges-alike : (nfa : Automaton) (x y : Search) → x.haystack ≡ y.haystack → x.end ≡ y.end
+    → edges nfa x ≡ edges nfa y
+unfolding edges_of
+edges-alike nfa x y haystack end = λ i. edges nfa (record x { haystack = haystack i; end = end i })
+
+-- what a state's number names
+pub node_at-get : (nfa : Automaton) (s : ℕ) (node : Node) → slice_get nfa.states s ≡ Some node → node_at nfa s ≡ node
+unfolding node_at
+node_at-get nfa s node is = get_or_from_slice_get nfa.states s node Fail is
 
 -- raised starts
 

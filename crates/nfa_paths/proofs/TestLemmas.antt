@@ -1,5 +1,5 @@
 -- Sets of pairs as tests.
-use Rattle.std.proofs.Common.{◌≡◌, ℕ, ◌⊎◌, inl, inr, Bool, true, false, refl}
+use Rattle.std.proofs.Common.{◌≡◌, ℕ, ◌⊎◌, inl, inr, Bool, true, false, refl, sym}
 use Rattle.std.proofs.Math.Decide.{ℕ_discrete}
 use Rattle.std.proofs.lemmas.Bool.{cases_Bool}
 use Rattle.nfa_paths.specs.Graphs.{Pair, WantedAt}
@@ -29,6 +29,12 @@ true-test (inr n) h = absurd (n h)
 -- a test does not both fail and succeed
 pub is_plain : (b : Bool) → b ≡ false → b ≡ true → ⊥
 is_plain b f t = cc
+
+-- tests that imply one another are one
+pub same_test : (a b : Bool) → (a ≡ true → b ≡ true) → (b ≡ true → a ≡ true) → a ≡ b
+same_test true b f g = sym (f refl)
+same_test false true f g = g refl
+same_test false false f g = refl
 
 -- it is decidable whether a pair is at e and passes a test
 pub tell_at : (wanted : Pair → Bool) (e : ℕ) → Tested (WantedAt (Passes wanted) e)

@@ -19,10 +19,7 @@ use Rattle.nfa_paths.proofs.SetLemmas.{holds-below, holds-with, length-with, siz
 use Rattle.nfa_paths.proofs.GainLemmas.{wanted-shape}
 use Rattle.nfa_paths.proofs.SoundLemmas.{FirstAt}
 use Rattle.nfa_paths.proofs.PathToLemmas.{EndsWith-last, found-end, IsFirstTo-along}
-
--- two numbers that an option holds are one
-same_number : (m n : ℕ) → Some m ≡ Some n → m ≡ n
-same_number m n e = cc
+use Rattle.nfa_paths.proofs.OptionLemmas.{same_some}
 
 -- The set before is `old`: wanted is what it has room for.
 module _ (nfa : Automaton) (x : Search) (old : List Bool) (wants : Pair → Bool)
@@ -116,7 +113,7 @@ module _ (nfa : Automaton) (x : Search) (old : List Bool) (wants : Pair → Bool
                 λ h. sym (only j h).1,
                 λ same_pattern.
                     let below : k < length old = subst (λ n. n < length old)
-                    (same_number w.wanted.pattern k (sym w.wanted.pattern_is ∙ at_end)) w.wanted.below in
+                    (same_some w.wanted.pattern k (sym w.wanted.pattern_is ∙ at_end)) w.wanted.below in
                     rw put ((holds-with old k j).1 (inr (let l : j < length old = omega arith in l, sym same_pattern))),
               );
             };
@@ -228,7 +225,7 @@ module _ (nfa : Automaton) (x : Search) (old : List Bool) (wants : Pair → Bool
           let here : first.end ≡ a.0 = (same_parts (first.end, apply (capture nfa) p slots) a (sym end ∙ is)).0 in
           let held : IsInsertable nfa x (length old) a.0 = (tells a.0).0 u.wanted in
           let below : u.pattern < length old = subst (λ n. n < length old)
-          (same_number held.pattern u.pattern (sym held.pattern_is ∙ u.pattern_is)) held.below in
+          (same_some held.pattern u.pattern (sym held.pattern_is ∙ u.pattern_is)) held.below in
           let at : pattern_at nfa first.end ≡ Some u.pattern = rw here u.pattern_is in
           record {
             capacity = u.capacity;

@@ -2,7 +2,7 @@
 use Rattle.std.specs.Prelude.{◌≡◌, ℕ, ◌≤◌, ◌<◌, Bool, true, false, cond, List, [], ◌∷◌, map, length, Option, None, Some}
 use Rattle.std.specs.Option.{option_map_or}
 use Rattle.thompson_nfa.specs.Automaton.{Automaton, Node}
-use Rattle.thompson_nfa.specs.Automaton.Node.{ByteRange, Sparse, Dense, Look, Union, BinaryUnion, Capture, Fail, Match}
+use Rattle.thompson_nfa.specs.Automaton.Node.{ByteRange, Sparse, Dense, Fail, Match}
 use Rattle.nfa_paths.specs.Graphs.{Pair, In, Space, NoRepeats, WantedAt, PathTo, NoPath, IsLastOfFirsts, IsLastPath}
 use Rattle.nfa_paths.specs.FirstPaths.{Increasing}
 use Rattle.nfa_paths.specs.Exploring.{Slots, Hit, Task, found, ExploresTo, ExploresAfter, Searching}
@@ -145,12 +145,9 @@ abbrev pub rests : Node → Bool
 rests (ByteRange trans) = true
 rests (Sparse transitions) = true
 rests (Dense targets) = true
-rests (Look look next) = false
-rests (Union alternates) = false
-rests (BinaryUnion alt1 alt2) = false
-rests (Capture next slot) = false
 rests Fail = true
 rests (Match pattern) = true
+rests _ = false
 
 -- the pair's state rests
 abbrev pub is_resting : Automaton → Pair → Bool

@@ -1,5 +1,6 @@
 pub mod Graphs
 pub mod Paths
+pub mod Beginnings
 pub mod Overlaps
 pub mod Known
 pub mod Restarts

@@ -1,8 +1,8 @@
 -- From the results of a search to the answers that its callers get.
-use Rattle.std.proofs.Common.{◌≡◌, ℕ, ◌+◌, ◌≤◌, min, inl, inr, List, [], ◌∷◌, ◌++◌, length, refl, ap, sym, ◌∙◌, arith, length-append}
+use Rattle.std.proofs.Common.{◌≡◌, ℕ, ◌+◌, ◌-◌, ◌≤◌, min, take, inl, inr, List, [], ◌∷◌, ◌++◌, length, refl, ap, sym, ◌∙◌, arith, length-append}
 use Rattle.std.specs.Prelude.{Option, Some, None, Bool, option_map, IfSome, IfNone, All, ◌<◌}
 use Rattle.std.proofs.lemmas.Bool.{cases_lt}
-use Rattle.std.proofs.lemmas.List.{append-nil}
+use Rattle.std.proofs.lemmas.List.{append-nil, length-take}
 use Rattle.regex_search_core.specs.Found.{found_of, half_found_of}
 use Rattle.regex_search_core.specs.Patterns.{number_of}
 use Rattle.regex_search_core.specs.declared.search.HalfMatch.{HalfMatch}
@@ -18,6 +18,7 @@ use Rattle.nfa_paths.specs.Exploring.{Slots}
 use Rattle.nfa_paths.proofs.PatternLemmas.{slot_row-more, slots-unset}
 use Rattle.nfa_paths.proofs.InsideLemmas.{half-within, match-within, match-pattern, slots-within, pattern-within}
 use Rattle.nfa_pikevm_scan.specs.Scans.{blank}
+use Rattle.nfa_pikevm_scan.proofs.RowLemmas.{length-blank}
 use Rattle.nfa_search_base.specs.Lists.{IsInside, IsSlotInside}
 
 module _ (nfa : Automaton) where
@@ -43,6 +44,18 @@ module _ (nfa : Automaton) where
       nil_of : (l : Slots) → length l ≡ 0 → l ≡ []
       nil_of [] e = refl
       nil_of (o ∷ l) e = absurd (omega arith)
+
+  -- so is what a search filled of a row of the cache, with no slot set after it
+  pub row-found : IsAutomaton nfa → (row found : Slots) (len : ℕ) {width slots : ℕ} → width ≡ min len slots
+      → slots ≡ slot_count nfa.groups → slot_count nfa.groups ≤ length found
+      → length row ≡ length (take width found) → (path : Option (List Pair)) → row ≡ slot_row nfa (length row) path
+      → row ++ blank (len - length row) ≡ slot_row nfa (length (row ++ blank (len - length row))) path
+  row-found valid row found len {width} cut all long filled =
+      let least : width ≡ min len (slot_count nfa.groups) = cut ∙ ap (min len) all in
+      let size : length row ≡ width = omega (arith, filled, length-take width found, least) in
+      let rest : Slots = blank (len - length row) in
+      let left : length rest + width ≡ len = omega (arith, length-blank (len - length row), size, least) in
+      row-whole valid row rest len width least size left (ap blank (sym (length-blank (len - length row))))
 
 -- what callers learn of the numbers in an answer
 module _ (nfa : Automaton) (kind : MatchKind) (earliest : Bool) (x : Search) where

@@ -22,8 +22,9 @@ use Rattle.nfa_scan_core.specs.Marks.{Marks}
 use Rattle.nfa_pikevm_scan.specs.States.{Frontier, tasks, unmarked, meant, AreMatchPairs, GoesOn, SeenAt, NextsGive}
 use Rattle.nfa_pikevm_scan.specs.Scans.{blank, starts_from, half_found, IsSoFar, ScansAll}
 use Rattle.nfa_pikevm_scan.proofs.TaskLemmas.{AnswersFor-round, Searching-for}
-use Rattle.nfa_pikevm_scan.proofs.FrontierLemmas.{Formed-rests, Formed-resting, Formed-next, last_match-or, SeenAt-none}
+use Rattle.nfa_pikevm_scan.proofs.FrontierLemmas.{Formed-rests, Formed-resting, Formed-next, last_match-or}
 use Rattle.nfa_pikevm_scan.proofs.ScanLemmas.{Crossed, Crossed-given}
+use Rattle.nfa_scan_core.proofs.SeenLemmas.{SeenAt-none}
 
 -- the match that is found last is in the front, or was found before
 last_match-among : (is : Pair → Bool) (g : Hit) (front : Frontier) (a : Pair × Slots) → last_match is g front ≡ Some a

@@ -26,10 +26,10 @@ use Rattle.nfa_pikevm_scan.specs.States.{tasks, unmarked, AreMatchPairs, SeenAt,
 use Rattle.nfa_pikevm_scan.specs.Scans.{blank, starts_from, with_start, half_found, IsPassed, AddsStart, AreStarts, IsSoFar, SearchesFirst, ScansAll}
 use Rattle.nfa_pikevm_scan.specs.declared.scan.Starts.{Starts}
 use Rattle.nfa_pikevm_scan.proofs.TaskLemmas.{tasks-joins, tasks-alone, tasks-joined, starts_from-end, AnswersFor, AnswersFor-same, AnswersFor-then, AnswersFor-tasks, AnswersFor-pass, AnswersFor-skip, Searching-for, Searching-seen, Searching-begin}
-use Rattle.nfa_pikevm_scan.proofs.FrontierLemmas.{SeenAt-none}
 use Rattle.nfa_pikevm_scan.proofs.RoomLemmas.{over-joined}
 use Rattle.nfa_pikevm_scan.proofs.ScanLemmas.{SearchesFirst-hit}
 use Rattle.nfa_pikevm_scan.proofs.AllLemmas.{HasLast, EndsAt, half-so_far, earliest-first, earliest-last}
+use Rattle.nfa_scan_core.proofs.SeenLemmas.{SeenAt-none}
 
 -- a half match is of a match
 EndsAt-some : (at : ℕ) (hit : Option PatternID) (half : Option HalfMatch) → EndsAt at hit half → is_some half ≡ true

@@ -1,8 +1,6 @@
 -- The steps of a closure, each for the searches of all sets of match pairs at once.
-use Rattle.std.proofs.Common.{◌≡◌, ℕ, ◌+◌, ◌<◌, ◌≤◌, ◌⊎◌, ◌↔◌, inl, inr, List, [], ◌∷◌, ◌++◌, length, get_or, set, map, refl, sym, ◌∙◌, arith, Bool, true, false, get_or-set_same, get_or-set_other}
+use Rattle.std.proofs.Common.{◌≡◌, ℕ, ◌+◌, ◌<◌, ◌≤◌, List, [], ◌∷◌, ◌++◌, length, get_or, set, map, refl, sym, ◌∙◌, arith, Bool, true, false}
 use Rattle.std.specs.Prelude.{Option, Some, None}
-use Rattle.std.proofs.Math.Decide.{ℕ_discrete}
-use Rattle.std.proofs.lemmas.List.{get_or_default}
 use Rattle.regex_search_core.specs.Search.{Search}
 use Rattle.thompson_nfa.specs.Automaton.{Automaton}
 use Rattle.nfa_paths.specs.Graphs.{Pair, In, Space}
@@ -12,7 +10,8 @@ use Rattle.nfa_paths.specs.Exploring.Task.{Explore, Restore, Load}
 use Rattle.nfa_paths.proofs.SearchLemmas.{Answer-load, AnswerBehind-along}
 use Rattle.nfa_paths.proofs.SearchingLemmas.{Searching-restore, Searching-load, Searching-marked, Searching-plain, Searching-write, Searching-unkept, Searching-keep}
 use Rattle.nfa_scan_core.specs.Marks.{Marks}
-use Rattle.nfa_pikevm_scan.specs.States.{Frontier, SeenAt, AreMatchPairs, Follows}
+use Rattle.nfa_pikevm_scan.specs.States.{Frontier, AreMatchPairs, Follows}
+use Rattle.nfa_scan_core.proofs.SeenLemmas.{SeenAt-set, SeenAt-clear}
 
 -- a pair that is not a match is in no set of matches
 plain-target : (nfa : Automaton) (target : Pair → Bool) (v : Pair) → AreMatchPairs nfa target → is_match nfa v ≡ false
@@ -22,33 +21,6 @@ plain-target nfa target v ok plain = of (target v) (ok v)
     of : (b : Bool) → (b ≡ true → is_match nfa v ≡ true) → b ≡ false
     of true h = sym (h refl) ∙ plain
     of false h = refl
-
--- marking a state marks its pair and no other
-pub SeenAt-set : (at s : ℕ) (bits : List Bool) → s < length bits → (v : Pair)
-    → SeenAt at (set bits s true) v ↔ ((v ≡ (s, at)) ⊎ SeenAt at bits v)
-SeenAt-set at s bits inside v = (
-  λ m.
-      elim (ℕ_discrete v.0 s) [
-        | yes e ↦ inl (λ i. (e i, m.here i))
-        | no n ↦ inr (record { here = m.here; set = sym (get_or-set_other bits s v.0 true false n) ∙ m.set })
-      ],
-  λ m.
-      elim m [
-        | inl e ↦ rw e (record { here = refl; set = get_or-set_same bits s true false inside })
-        | inr old ↦
-            elim (ℕ_discrete v.0 s) [
-              | yes e ↦ record { here = old.here; set = rw e (get_or-set_same bits s true false inside) }
-              | no n ↦ record { here = old.here; set = get_or-set_other bits s v.0 true false n ∙ old.set }
-            ]
-      ],
-)
-
--- what is not marked was not seen
-pub SeenAt-clear : (at s : ℕ) (bits : List Bool) → s < length bits → get_or bits s true ≡ false
-    → ¬ (SeenAt at bits (s, at))
-SeenAt-clear at s bits inside clear m =
-    let e : get_or bits s false ≡ false = get_or_default bits s false true inside ∙ clear in
-    absurd (cc (m.set, e))
 
 -- After a pair a slot need not be restored if slots are loaded next.
 Searching-unrestored : (space : Space) (target : Pair → Bool)

@@ -1,38 +1,26 @@
 -- What the front of a position leads on to, and what it costs.
-use Rattle.std.proofs.Common.{◌≡◌, ℕ, suc, zero, ◌+◌, ◌-◌, ◌*◌, ◌<◌, ◌≤◌, ◌⊎◌, inl, inr, List, [], ◌∷◌, length, get_or, map, replicate, refl, ap, sym, ◌∙◌, arith, subst, Bool, true, false}
-use Rattle.std.specs.Prelude.{Option, Some, None, All, cond, option_map, option_and_then, option_to_list}
+use Rattle.std.proofs.Common.{◌≡◌, ℕ, ◌+◌, ◌-◌, ◌*◌, ◌<◌, ◌≤◌, ◌⊎◌, inl, inr, List, [], ◌∷◌, length, map, refl, ap, sym, ◌∙◌, arith, subst, Bool, true, false}
+use Rattle.std.specs.Prelude.{Option, Some, None, All, cond, option_map, option_to_list}
 use Rattle.std.specs.List.{sum_by}
 use Rattle.std.specs.Option.{option_or}
 use Rattle.std.proofs.Math.Nat.{mul-le-mul_right}
-use Rattle.std.proofs.lemmas.List.Elements.{All-head, All-tail, All-cons, All-nil}
+use Rattle.std.proofs.lemmas.List.Elements.{All-cons, All-nil}
 use Rattle.std.proofs.lemmas.List.Sums.{sum-map, sum_by-cons}
 use Rattle.regex_search_core.specs.Search.{Search}
 use Rattle.thompson_nfa.specs.Automaton.{Automaton, Node, LeadsBelow}
-use Rattle.thompson_nfa.specs.Automaton.Node.{ByteRange, Sparse, Dense, Look, Union, BinaryUnion, Capture, Fail, Match}
+use Rattle.thompson_nfa.specs.Automaton.Node.{Fail}
 use Rattle.nfa_paths.specs.Graphs.{Pair, In}
 use Rattle.nfa_paths.specs.Exploring.{Slots, Hit}
 use Rattle.nfa_paths.specs.Kinds.{rests, is_resting, last_match}
 use Rattle.nfa_paths.specs.Paths.{degree, node_at, edges, edges_of, byte_at, target_on, capture, total_degree, span_len}
 use Rattle.nfa_paths.proofs.ScanAnswerLemmas.{edges-rise}
-use Rattle.nfa_paths.proofs.StartLemmas.{resting-capture}
+use Rattle.nfa_paths.proofs.StartLemmas.{resting-capture, resting-edges, byte_pairs, byte_at-within}
 use Rattle.nfa_paths.proofs.TurnLemmas.{marked_sum-le}
-use Rattle.nfa_scan_core.proofs.TargetLemmas.{target-below, byte_at-within}
+use Rattle.nfa_scan_core.proofs.TargetLemmas.{target-below}
 use Rattle.nfa_scan_core.specs.Marks.{Marks}
-use Rattle.nfa_pikevm_scan.specs.States.{Frontier, moves, unmarked, one_of, SeenAt, Formed, Paid}
+use Rattle.nfa_pikevm_scan.specs.States.{Frontier, moves, unmarked, one_of, Formed, Paid}
 use Rattle.nfa_pikevm_scan.specs.Scans.{IsPaidAt, max_scan_turns}
-
--- what holds of all holds of each
-All-In : {A : Type 0} (P : A → Type 0) (xs : List A) → All P xs → (a : A) → In a xs → P a
-All-In P [] h a i = absurd i
-All-In P (x ∷ xs) h a i = elim i [
-  | inl e ↦ subst P (sym e) (All-head P x xs h)
-  | inr j ↦ All-In P xs (All-tail P x xs h) a j
-]
-
--- the pairs that a byte state leads to
-abbrev byte_pairs : Node → ℕ → Option ℕ → List Pair
-byte_pairs node p byte = option_to_list (option_and_then
-    (λ b. option_map (λ next. (next, p + 1)) (target_on node b)) byte)
+use Rattle.nfa_paths.proofs.MemberLemmas.{All-In}
 
 -- none, or one of a state of the NFA at the next position
 abbrev LeadsToOne : Search → Node → ℕ → List Pair → Type 0
@@ -51,16 +39,8 @@ byte-leads x node p (Some b) within = of (target_on node b) refl
 
 -- a state that rests
 rests-leads : (x : Search) (node : Node) (p : ℕ) → rests node ≡ true → LeadsToOne x node p (edges_of x node p)
-unfolding edges_of
-rests-leads x (ByteRange trans) p r = byte-leads x (ByteRange trans) p (byte_at x p) (byte_at-within x p)
-rests-leads x (Sparse ts) p r = byte-leads x (Sparse ts) p (byte_at x p) (byte_at-within x p)
-rests-leads x (Dense targets) p r = byte-leads x (Dense targets) p (byte_at x p) (byte_at-within x p)
-rests-leads x (Look look next) p r = cc
-rests-leads x (Union alternates) p r = cc
-rests-leads x (BinaryUnion alt1 alt2) p r = cc
-rests-leads x (Capture next slot) p r = cc
-rests-leads x Fail p r = inl refl
-rests-leads x (Match pattern) p r = inl refl
+rests-leads x node p r =
+    subst (LeadsToOne x node p) (sym (resting-edges x node p r)) (byte-leads x node p (byte_at x p) (byte_at-within x p))
 
 -- a state of the NFA leads to its states
 node-leads : (nfa : Automaton) (s : ℕ) → s < length nfa.states → All (LeadsBelow (length nfa.states)) nfa.states
@@ -148,17 +128,6 @@ module _ (target : Pair → Bool) where
           → last_match target (cond c (Some a) g) front ≡ option_or (last_match target (cond c (Some a) None) front) g
       of true e f = e ∙ sym (ap (λ (o : Hit). option_or o g) e ∙ some (last_match target None front) g)
       of false e f = f
-
--- marks
-
--- with no mark nothing was seen
-pub SeenAt-none : (at n : ℕ) (v : Pair) → SeenAt at (replicate n false) v → ⊥
-SeenAt-none at n v s = never n v.0 s.set
-  where
-    never : (n k : ℕ) → get_or (replicate n false) k false ≡ true → ⊥
-    never zero k e = cc
-    never (suc n) zero e = cc
-    never (suc n) (suc k) e = never n k e
 
 -- turns
 

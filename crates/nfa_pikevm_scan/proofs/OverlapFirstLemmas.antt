@@ -31,10 +31,12 @@ use Rattle.nfa_pikevm_scan.specs.Overlapping.{wants, AddsPatterns, AddsFirstPatt
 use Rattle.nfa_pikevm_scan.specs.declared.scan.Starts.{Starts}
 use Rattle.nfa_pikevm_scan.proofs.RoomLemmas.{AreAt-none, few-joined, over-joined}
 use Rattle.nfa_pikevm_scan.proofs.TaskLemmas.{starts_from-end, tasks-joined, Searching-begin}
-use Rattle.nfa_pikevm_scan.proofs.FrontierLemmas.{Formed-resting, Formed-next, SeenAt-none}
+use Rattle.nfa_pikevm_scan.proofs.FrontierLemmas.{Formed-resting, Formed-next}
 use Rattle.nfa_pikevm_scan.proofs.ScanLemmas.{Crossed, Crossed-given, AreAt-cross, IsPaidAt-crossed, first-miss, first-hit}
 use Rattle.nfa_pikevm_scan.proofs.EndLemmas.{SearchingAt-begin}
 use Rattle.nfa_pikevm_scan.proofs.OverlapSetLemmas.{wants-tells, wants-match}
+use Rattle.nfa_scan_core.proofs.SeenLemmas.{SeenAt-none}
+use Rattle.nfa_paths.proofs.OptionLemmas.{same_some}
 
 -- the pairs of the states at a position, and of the starts that wait
 pub pairs_at : ℕ → List (ℕ × Slots) → List Pair → List Pair
@@ -118,9 +120,6 @@ tasks-ahead at (a ∷ items) waiting later k i =
   where
     explore-same : (v w : Pair) → ToExplore v ≡ ToExplore w → v ≡ w
     explore-same v w e = cc
-
-same_number : (m n : ℕ) → Some m ≡ Some n → m ≡ n
-same_number m n e = cc
 
 -- `old` is the set as the scan began.
 module _ (nfa : Automaton) (x : Search) (old : List Bool) where
@@ -297,7 +296,7 @@ module _ (nfa : Automaton) (x : Search) (old : List Bool) where
     has_room : (a : Pair × Slots) (k : ℕ) → wanted a.0 ≡ true → pattern_at nfa a.0 ≡ Some k → k < length mid
     has_room a k wants_it is =
         let held : IsInsertable nfa x (length old) a.0 = (tells a.0).0 wants_it in
-        let same : held.pattern ≡ k = same_number held.pattern k (sym held.pattern_is ∙ is) in
+        let same : held.pattern ≡ k = same_some held.pattern k (sym held.pattern_is ∙ is) in
         let below : held.pattern < length old = held.below in
         let size : length mid ≡ length old = FirstWay-capacity w in
         omega arith

@@ -20,7 +20,8 @@ use Rattle.nfa_scan_core.specs.Marks.{Marks}
 use Rattle.nfa_pikevm_scan.specs.States.{Frontier, moves, tasks, unmarked, AreMatchPairs, Formed, Paid, SeenAt, SearchingAt, Leads, PositionGives, NextsGive}
 use Rattle.nfa_pikevm_scan.specs.Scans.{blank, starts_from, half_found, AreAt, IsSoFar, IsPaidAt, SearchesFirst}
 use Rattle.nfa_pikevm_scan.proofs.TaskLemmas.{starts_from-end, AnswersFor, AnswersFor-round, Searching-for}
-use Rattle.nfa_pikevm_scan.proofs.FrontierLemmas.{Formed-rests, Formed-next, Formed-below, Formed-over, SeenAt-none, Paid-few, Paid-next, IsPaidAt-cross}
+use Rattle.nfa_pikevm_scan.proofs.FrontierLemmas.{Formed-rests, Formed-next, Formed-below, Formed-over, Paid-few, Paid-next, IsPaidAt-cross}
+use Rattle.nfa_scan_core.proofs.SeenLemmas.{SeenAt-none}
 
 -- The result of the states at a position, with the start that joined, for a search or for a scan for a set: a front,
 -- whose moves are in memory. All that is left is followed if it `goes` on.

@@ -4,18 +4,19 @@ use Rattle.std.specs.Prelude.{All}
 use Rattle.regex_search_core.specs.Search.{Search}
 use Rattle.thompson_nfa.specs.Automaton.{Automaton, LeadsBelow}
 use Rattle.nfa_paths.specs.Graphs.{Pair}
-use Rattle.nfa_paths.specs.Paths.{space}
+use Rattle.nfa_paths.specs.Paths.{space, is_match}
 use Rattle.nfa_paths.specs.Exploring.{Slots}
 use Rattle.nfa_paths.specs.Kinds.{is_resting, IsFrontier}
 use Rattle.nfa_scan_core.specs.Marks.{Marks}
 use Rattle.nfa_pikevm_scan.specs.States.{Frontier, AreMatchPairs}
-use Rattle.nfa_pikevm_scan.specs.Scans.{blank, with_start, AreStarts, AreAt, IsPaidAt, ScansAll, max_scan_turns}
+use Rattle.nfa_pikevm_scan.specs.Scans.{blank, with_start, AreStarts, AreAt, IsPaidAt, ScansAll, max_scan_turns, MayScan}
 use Rattle.nfa_pikevm_scan.specs.declared.scan.Starts.{Starts}
 use Rattle.nfa_pikevm_scan.proofs.RoomLemmas.{AreAt-none, few-joined}
 use Rattle.nfa_pikevm_scan.proofs.FrontierLemmas.{IsPaidAt-end}
 use Rattle.nfa_pikevm_scan.proofs.ScanLemmas.{Crossed, AreAt-cross, IsPaidAt-crossed}
 use Rattle.nfa_pikevm_scan.proofs.AllLemmas.{all-front, ScansAll-next}
 use Rattle.nfa_pikevm_scan.proofs.EndLemmas.{ScansAll-begin, ScansAll-joined}
+use Rattle.nfa_pikevm_scan.specs.declared.threads.Threads.{Threads}
 
 -- the states, the turns and the work at a position
 pub record Stands (nfa : Automaton) (x : Search) (wanted : Pair → Bool) (width : ℕ) (from : Starts) (at before : ℕ)
@@ -33,6 +34,13 @@ Stands-start nfa x wanted from are slots met none =
       paid = record { bound = omega arith };
       scans = ScansAll-begin nfa x from are slots met wanted;
     })
+
+-- at the start of a scan for all matches
+pub Stands-ready : {nfa : Automaton} {x : Search} {from : Starts} {t : Threads} {at : ℕ} (slots : Slots) → at ≡ x.start
+    → MayScan nfa x from (length slots) t
+    → Stands nfa x (is_match nfa) (length slots) from at t.reached.seen.turns t.reached.seen t.curr.items
+Stands-ready {nfa} {x} {from} {t} slots start ready =
+    rw start (Stands-start nfa x (is_match nfa) from ready.starts slots t.reached.seen ready.curr)
 
 module _ {nfa : Automaton} {x : Search} {wanted : Pair → Bool} {width : ℕ} {from : Starts} {at before : ℕ}
     {met after : Marks} {items kept : List (ℕ × Slots)} {front : Frontier} {goes : Type 0}

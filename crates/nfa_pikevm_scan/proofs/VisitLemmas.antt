@@ -31,10 +31,12 @@ use Rattle.nfa_pikevm_scan.specs.declared.closure.Move.{Move}
 use Rattle.nfa_pikevm_scan.specs.declared.closure.Move.TheVariants.{On, Matched, DeadEnd}
 use Rattle.nfa_pikevm_scan.specs.declared.frame.FollowEpsilon.{FollowEpsilon}
 use Rattle.nfa_pikevm_scan.specs.declared.frame.FollowEpsilon.TheVariants.{Explore as ToExplore, Restore}
-use Rattle.nfa_pikevm_scan.proofs.EdgeLemmas.{node_at-get, edges-move, moves-one}
+use Rattle.nfa_pikevm_scan.proofs.EdgeLemmas.{edges-move, moves-one}
 use Rattle.nfa_pikevm_scan.proofs.EpsilonClosureLemmas.{Follows-then, Follows-marked, Follows-plain, Follows-write, Follows-unkept, Follows-keep, Follows-unrestored}
 use Rattle.nfa_pikevm_scan.proofs.ApplyFrameLemmas.{work_onto-push}
 use Rattle.nfa_pikevm_scan.proofs.FrontierLemmas.{sum-ones}
+use Rattle.nfa_scan_core.proofs.AlternateLemmas.{first-drop, none-nil}
+use Rattle.nfa_paths.proofs.StartLemmas.{node_at-get}
 
 module _ {nfa : Automaton} {s : ℕ} {node : Node} {m n : Marks} (e : Entered nfa s node m n) where
   -- the state's weight is added
@@ -200,15 +202,6 @@ within-put states count stack (e ∷ es) fits below =
     let rest : All (λ s. s < states) es = λ k d h. below (suc k) d (omega arith) in
     rw (put-cons stack e es) (All-push (IsWithin states count) (stack ++ put es) (ToExplore e)
     (within-put states count stack es fits rest) here)
-
--- the first of a list that is not empty
-first-drop : (xs : List ℕ) (f : ℕ) → slice_get xs 0 ≡ Some f → xs ≡ f ∷ drop 1 xs
-first-drop [] f e = cc
-first-drop (x ∷ xs) f e = cc
-
-none-nil : (xs : List ℕ) → slice_get xs 0 ≡ None → xs ≡ []
-none-nil [] e = refl
-none-nil (x ∷ xs) e = cc
 
 pub within-union : (states count : ℕ) (alternates : List ℕ) (f : ℕ) (stack above : List FollowEpsilon)
     → slice_get alternates 0 ≡ Some f → above ≡ stack ++ put (drop 1 alternates)

@@ -5,19 +5,14 @@ use Rattle.regex_search_core.specs.PatternSets.{size_of_set}
 use Rattle.regex_search_core.specs.declared.search.MatchKind.{MatchKind}
 use Rattle.regex_search_core.specs.declared.search.MatchKind.TheVariants.{All as AllMatches, LeftmostFirst}
 use Rattle.thompson_nfa.specs.Automaton.{Automaton, Node}
-use Rattle.thompson_nfa.specs.Automaton.Node.{ByteRange, Sparse, Dense, Look, Union, BinaryUnion, Capture, Fail, Match}
+use Rattle.thompson_nfa.specs.Automaton.Node.{Union, BinaryUnion, Capture}
 
 -- the most frames that a state pushes, besides the state that it goes on with
 abbrev pub room_of : Node → ℕ
-room_of (ByteRange trans) = 0
-room_of (Sparse transitions) = 0
-room_of (Dense targets) = 0
-room_of (Look look next) = 0
 room_of (Union alternates) = length alternates - 1
 room_of (BinaryUnion alt1 alt2) = 1
 room_of (Capture next slot) = 1
-room_of Fail = 0
-room_of (Match pattern) = 0
+room_of _ = 0
 
 -- the frames that the stack of a search needs: those of all states together, and at least one
 abbrev pub stack_frames : Automaton → ℕ

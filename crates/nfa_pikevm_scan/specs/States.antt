@@ -13,6 +13,7 @@ use Rattle.nfa_paths.specs.Exploring.Task.{Explore as ToExplore, Restore as ToRe
 use Rattle.nfa_paths.specs.Kinds.{rests, first_match, before_match, last_match, NoMatch}
 use Rattle.nfa_paths.specs.Turns.{marked_sum}
 use Rattle.nfa_scan_core.specs.Marks.{Marks}
+pub use Rattle.nfa_scan_core.specs.Marks.{SeenAt}
 use Rattle.nfa_pikevm_scan.specs.Needs.{room_of, stack_frames}
 use Rattle.nfa_pikevm_scan.specs.declared.closure.ClosureContext.{ClosureContext}
 use Rattle.nfa_pikevm_scan.specs.declared.closure.Move.{Move}
@@ -35,11 +36,6 @@ moves edges (a ∷ front) = map (λ v. (v.0, a.1)) (edges a.0) ++ moves edges fr
 abbrev pub tasks : ℕ → List (ℕ × Slots) → List Task → List Task
 tasks at [] waiting = waiting
 tasks at (i ∷ items) waiting = ToLoad i.1 ∷ ToExplore (i.0, at) ∷ tasks at items waiting
-
--- the pair's position is `at`, and its state is marked
-pub record SeenAt (at : ℕ) (bits : List Bool) (v : Pair) : Type 0 where
-  pub here : v.1 ≡ at
-  pub set : slice_index_or bits v.0 false ≡ true
 
 -- the same number of marks, with none set
 abbrev pub unmarked : Marks → Marks

@@ -146,14 +146,7 @@ module _ (r : ReachedStates) (table : List Bool) (x : Search) (at : ℕ) (f : Is
 no-match : (r : ReachedStates) (table : List Bool) (node : Node) → Covers r table node
     → is_some (pattern_of node) ≡ true → ⊥
 no-match r table (Match pattern) c e = c
-no-match r table (ByteRange trans) c e = cc
-no-match r table (Sparse ts) c e = cc
-no-match r table (Dense targets) c e = cc
-no-match r table (Look look next) c e = cc
-no-match r table (Union alternates) c e = cc
-no-match r table (BinaryUnion alt1 alt2) c e = cc
-no-match r table (Capture next slot) c e = cc
-no-match r table Fail c e = cc
+no-match r table _ c e = cc
 
 module _ (nfa : Automaton) (table : List Bool) where
   -- if all states that were reached are covered, no path from them on a refused byte ends at a match

@@ -1,26 +1,17 @@
 -- The targets of byte states.
 use Rattle.std.proofs.Common.{◌≡◌, ℕ, suc, zero, ◌<◌, ◌≤◌, List, [], ◌∷◌, length, refl, arith}
-use Rattle.std.specs.Prelude.{Option, Some, None, true, false, Bool, All, IfSome, option_and_then, is_some, count_by, cond, nat_lt, if◌then◌else◌}
+use Rattle.std.specs.Prelude.{Option, Some, None, true, false, Bool, All, IfSome, option_and_then, is_some, count_by, cond, if◌then◌else◌}
 use Rattle.std.specs.List.{slice_get}
-use borrow.Author.Tests.{ltb-true}
 use Rattle.std.proofs.lemmas.List.Sums.{sum_by-cons}
-use Rattle.regex_search_core.specs.Search.{Search}
 use Rattle.thompson_nfa.specs.Automaton.{Node, LeadsBelow}
-use Rattle.thompson_nfa.specs.Automaton.Node.{ByteRange, Sparse, Dense, Look, Union, BinaryUnion, Capture, Fail, Match}
+use Rattle.thompson_nfa.specs.Automaton.Node.{ByteRange, Sparse, Dense}
 use Rattle.thompson_nfa.specs.declared.state.Transition.{Transition}
-use Rattle.nfa_paths.specs.Paths.{degree, byte_at, target_on, first_target, holds_byte}
+use Rattle.nfa_paths.specs.Paths.{degree, target_on, first_target, holds_byte}
 
 -- the properties of an optional value that is chosen by a condition
 then-some : {A : Type 0} (c : Bool) (a u : A) → (if c then Some a else None) ≡ Some u → (c ≡ true) × (a ≡ u)
 then-some true a u e = (refl, cc)
 then-some false a u e = cc
-
-then-true : {A : Type 0} (c : Bool) (o : Option A) (u : A) → (if c then o else None) ≡ Some u → c ≡ true
-then-true true o u e = refl
-then-true false o u e = cc
-
-pub byte_at-within : (x : Search) (p b : ℕ) → byte_at x p ≡ Some b → p < x.end
-byte_at-within x p b e = ltb-true p x.end (then-true (nat_lt p x.end) (slice_get x.haystack p) b e)
 
 first_target-below : (n b u : ℕ) (ts : List Transition) → All (λ t. t.next < n) ts → first_target ts b ≡ Some u → u < n
 first_target-below n b u [] below e = cc
@@ -58,21 +49,11 @@ pub target-below : (n : ℕ) (node : Node) (b t : ℕ) → LeadsBelow n node →
 target-below n (ByteRange trans) b t leads e = rw (← (then-some (holds_byte trans b) trans.next t e).1) leads
 target-below n (Sparse ts) b t leads e = first_target-below n b t ts leads e
 target-below n (Dense targets) b t leads e = dense-below n t targets b leads e
-target-below n (Look look next) b t leads e = cc
-target-below n (Union alternates) b t leads e = cc
-target-below n (BinaryUnion alt1 alt2) b t leads e = cc
-target-below n (Capture next slot) b t leads e = cc
-target-below n Fail b t leads e = cc
-target-below n (Match pattern) b t leads e = cc
+target-below n _ b t leads e = cc
 
 -- and one of the state's edges
 pub target-degree : (node : Node) (b t : ℕ) → target_on node b ≡ Some t → 1 ≤ degree node
 target-degree (ByteRange trans) b t e = omega arith
 target-degree (Sparse ts) b t e = first_target-some b t ts e
 target-degree (Dense targets) b t e = dense-some t targets b e
-target-degree (Look look next) b t e = cc
-target-degree (Union alternates) b t e = cc
-target-degree (BinaryUnion alt1 alt2) b t e = cc
-target-degree (Capture next slot) b t e = cc
-target-degree Fail b t e = cc
-target-degree (Match pattern) b t e = cc
+target-degree _ b t e = cc

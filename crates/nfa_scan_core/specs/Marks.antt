@@ -1,7 +1,13 @@
 -- The marks of a search, which both engines keep.
-use Rattle.std.specs.Prelude.{ℕ, Bool, List}
+use Rattle.std.specs.Prelude.{◌≡◌, ℕ, Bool, true, false, List, slice_index_or}
+use Rattle.nfa_paths.specs.Graphs.{Pair}
 
 -- whether each pair, or each state at a position, is marked, and the number of tries to mark one
 pub record Marks : Type 0 where
   pub bits : List Bool
   pub turns : ℕ
+
+-- the pair's position is `at`, and its state is marked
+pub record SeenAt (at : ℕ) (bits : List Bool) (v : Pair) : Type 0 where
+  pub here : v.1 ≡ at
+  pub set : slice_index_or bits v.0 false ≡ true

@@ -1,10 +1,7 @@
 -- what holds along the calls of a finder
 use Rattle.std.proofs.Common.{List, [], ◌∷◌, refl, ◌∙◌, subst}
-use Rattle.std.specs.Fn.{Called, Mut}
-use Rattle.std.specs.Borrow.{Bor}
-use Rattle.regex_search_core.specs.Search.{Search, search_of}
-use Rattle.regex_search_core.specs.declared.search.Input.{Input}
-use Rattle.nfa_search_base.specs.Asking.{SameButStart, SameButEnd, Asks, IsCallableOn, ServesAlong}
+use Rattle.regex_search_core.specs.Search.{Search}
+use Rattle.nfa_search_base.specs.Asking.{SameButStart, SameButEnd}
 use Rattle.nfa_search_base.specs.Serving.{ServesOn, LeadsOn, ServesOnAlong}
 
 -- each search is the same as itself
@@ -24,16 +21,6 @@ same_start-then s t u a b = record {
 -- each search is the same as itself
 pub same_end-self : (s : Search) → SameButEnd s s
 same_end-self s = record { haystack = refl; start = refl; anchored = refl; earliest = refl }
-
--- and the same as one that is the same as its like
-pub same_end-then : (s t u : Search) → SameButEnd s t → SameButEnd t u → SameButEnd s u
-same_end-then s t u a b = record {
-  haystack = b.haystack ∙ a.haystack;
-  start = b.start ∙ a.start;
-  anchored = b.anchored
-      ∙ a.anchored;
-  earliest = b.earliest ∙ a.earliest;
-}
 
 module _ {S R : Type 0} (accepts : S → Search → Type 0) (asks : S → Search → R → S → Type 0)
     (Same : Search → Search → Type 0)
@@ -94,28 +81,3 @@ module _ {S R : Type 0} (accepts : S → Search → Type 0) (asks : S → Search
         let now : ServesOn accepts asks P f' t = serves.at calls f' t leads same in
         record { callable = now.callable; replies = λ reply q asked. weaker t reply (now.replies reply q asked) };
   }
-
-module _ {F R : Type 0} (g : Mut F (Bor Input × Unit {0}) R) (Same : Search → Search → Type 0)
-    (same-self : (s : Search) → Same s s) (same-then : (s t u : Search) → Same s t → Same t u → Same s u)
-    (P : Search → R → Type 0) where
-  -- if an invariant of the finder holds now and after each call, what it implies holds along the calls
-  pub ServesAlong-by : (Inv : F → Type 0) (f : F) (s : Search) → Inv f
-      → ((q : F) (p : Bor Input) → Same s (search_of p.now) → Inv q → g.pre q (p, tt))
-      → ((q : F) (p : Bor Input) (reply : R) (q' : F) → Same s (search_of p.now) → Inv q → Called g q (p, tt) reply q'
-      → P (search_of p.now) reply × Inv q')
-      → ServesAlong g Same P f s
-  ServesAlong-by Inv f s now may says = ServesOnAlong-by (IsCallableOn g) (Asks g) Same same-self
-      same-then P Inv f s now
-      (λ q t same inv p e. may q p (rw e same) inv)
-      (λ q t reply q' same inv asked.
-      let k = says q asked.shown reply q' (rw asked.shows same) inv asked.called in
-      (subst (λ (u : Search). P u reply) asked.shows k.0, k.1))
-
-  -- what holds of each call in any state of the finder holds along the calls
-  pub ServesAlong-always : (f : F) (s : Search)
-      → ((q : F) (p : Bor Input) → Same s (search_of p.now) → g.pre q (p, tt))
-      → ((q : F) (p : Bor Input) (reply : R) (q' : F) → Same s (search_of p.now) → Called g q (p, tt) reply q'
-      → P (search_of p.now) reply)
-      → ServesAlong g Same P f s
-  ServesAlong-always f s may says = ServesAlong-by (λ (q : F). Unit {0}) f s tt (λ q p same u. may q p same)
-      (λ q p reply q' same u called. (says q p reply q' same called, tt))

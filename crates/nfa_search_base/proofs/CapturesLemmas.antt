@@ -3,8 +3,6 @@ use Rattle.std.proofs.Common.{◌≡◌, ◌∙◌, ℕ, inl, inr, Bool}
 use Rattle.std.proofs.Common.{List, [], ◌∷◌, map, length}
 use Rattle.std.proofs.Common.{Option, None, Some, Ok, Err, refl, sym, ap, subst}
 use Rattle.std.specs.Option.{option_and_then, option_map}
-use Rattle.std.proofs.lemmas.List.{length-replicate}
-use Rattle.std.proofs.lemmas.List.FromFn.{length-map-range_with_len}
 use Rattle.regex_search_core.specs.Found.{Found}
 use Rattle.regex_search_core.specs.Groups.{slot_count}
 use Rattle.regex_search_core.specs.Search.{Search}
@@ -12,7 +10,7 @@ use Rattle.regex_search_core.specs.Slots.{Captured, match_of}
 use Rattle.regex_search_core.specs.declared.search.MatchKind.{MatchKind}
 use Rattle.thompson_nfa.specs.Automaton.{Automaton}
 use Rattle.nfa_paths.specs.Graphs.{Pair}
-use Rattle.nfa_paths.specs.Paths.{path_pattern, slot_among, slot_row, IsAnswer, IsFindAnswer}
+use Rattle.nfa_paths.specs.Paths.{path_pattern, slot_row, IsAnswer, IsFindAnswer}
 use Rattle.nfa_paths.proofs.AnswerLemmas.{search_answer-unique}
 use Rattle.nfa_paths.proofs.ExistenceLemmas.{search_answer-exists}
 use Rattle.nfa_paths.proofs.KnownLemmas.{match-unique}
@@ -27,11 +25,7 @@ use Rattle.nfa_search_base.specs.declared.error.SearchError.{SearchError}
 use Rattle.nfa_search_base.proofs.ListLemmas.{as_items, last-matches, last-unique, match-lies, match-same, matches_in-as_items, never-fails}
 use Rattle.nfa_search_base.proofs.ListLemmas.{matches-unique, step-as, step-unique, items-greedy}
 use Rattle.nfa_search_base.proofs.IterStateLemmas.{IsOrdered}
-
-length-slot_row : (nfa : Automaton) (count : ℕ) (path : Option (List Pair)) → length (slot_row nfa count path) ≡ count
-unfolding slot_row
-length-slot_row nfa count None = length-replicate count None
-length-slot_row nfa count (Some p) = length-map-range_with_len (slot_among nfa p) 0 count
+use Rattle.nfa_paths.proofs.PatternLemmas.{length-slot_row}
 
 module _ (nfa : Automaton) (kind : MatchKind) (earliest : Bool) where
   abbrev tells : Search → Answer Row → Type 0

@@ -1,6 +1,5 @@
 pub mod AgreementLemmas
 pub mod AskingLemmas
-pub mod BeginningLemmas
 pub mod WithCapturesLemmas
 pub mod DrainedLemmas
 pub mod EngineLemmas

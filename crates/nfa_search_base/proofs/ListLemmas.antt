@@ -1,7 +1,7 @@
 -- The list of an iteration's items. There is at most one, and exactly one if each search has an answer. Its matches do
 -- not overlap, are in the span, and are at most one more than the span has bytes. The same for the list of the matches
 -- of an NFA.
-use Rattle.std.proofs.Common.{◌≡◌, ◌∙◌, ℕ, zero, suc, ◌+◌, ◌-◌, ◌≤◌, ◌<◌, inl, inr, Bool, true, false}
+use Rattle.std.proofs.Common.{◌≡◌, ◌∙◌, ℕ, zero, suc, ◌≤◌, ◌<◌, inl, inr, Bool, true, false}
 use Rattle.std.proofs.Common.{if◌then◌else◌, MatchBool}
 use Rattle.std.proofs.Common.{Option, None, Some, Ok, Err, List, [], ◌∷◌, ◌++◌, map, length, refl, sym, ap, subst}
 use Rattle.std.proofs.Common.{arith, append-nil, length-append}
@@ -30,9 +30,7 @@ use Rattle.nfa_search_base.proofs.AskingLemmas.{same_start-self, same_start-then
 use Rattle.nfa_search_base.proofs.StepLemmas.{chosen, same_start-after, same_start-shifted, Advances-rises}
 use Rattle.nfa_search_base.proofs.StepLemmas.{Advances-fewer}
 use Rattle.nfa_search_base.proofs.IterStateLemmas.{IsOrdered}
-
-some-injective : {A : Type 0} (a b : A) → Some a ≡ Some b → a ≡ b
-some-injective a b e = cc
+use Rattle.nfa_paths.proofs.OptionLemmas.{same_some}
 
 pub match-same : {X : Type 0} (x y : X) → (let a : Answer X = Ok (Some x) in let b : Answer X = Ok (Some y) in a ≡ b)
     → x ≡ y
@@ -46,7 +44,7 @@ behind-none : (n : ℕ) → EndsBy None n
 behind-none n = λ e is. let never : None ≡ Some e = is in cc
 
 behind-after : (end : ℕ) → EndsBy (Some end) end
-behind-after end = λ e is. let same : end ≡ e = some-injective end e is in omega (arith, same)
+behind-after end = λ e is. let same : end ≡ e = same_some end e is in omega (arith, same)
 
 -- a list of matches as items
 abbrev pub as_items : {X : Type 0} → List X → List (Item X)
@@ -340,7 +338,7 @@ module _ (nfa : Automaton) (kind : MatchKind) (earliest : Bool) where
       → AnswerIsInside span_of t a × IsOrdered (answer_span span_of a)
   match-lies t (Ok (Some m)) h =
       let k = match-within nfa kind earliest t m h in
-      ((k.0, k.2), λ p is. subst (λ (q : Span). q.start ≤ q.end) (some-injective (span_of m) p is) k.1)
+      ((k.0, k.2), λ p is. subst (λ (q : Span). q.start ≤ q.end) (same_some (span_of m) p is) k.1)
   match-lies t (Ok None) h = (tt, λ p is. let never : None ≡ Some p = is in cc)
   match-lies t (Err e) h = absurd h
 
@@ -380,20 +378,8 @@ module _ (nfa : Automaton) (kind : MatchKind) (earliest : Bool) where
       let rest = next-rest span_of tells one-answer (fresh x) (as_items xs) (as_items ys) h.come k.come in
       as_items-rest xs ys rest.0 rest.1
 
-  -- all matches are first matches
-  pub matches-first : (x : Search) (xs : List Found) → AreMatches nfa kind earliest x xs
-      → AreFirstMatches nfa kind earliest x xs
-  matches-first x xs h = record { come = last-next span_of tells (Fails span_of tells) (fresh x) (as_items xs) h.come }
-
   -- the first matches of a search are in its span, in order and without overlap
   pub matches-apart : (x : Search) (ms : List Found) → AreFirstMatches nfa kind earliest x ms → AreDisjoint x None ms
   matches-apart x ms h =
       subst (λ (l : List Found). AreDisjoint x None l) (matches_in-as_items ms)
       (items-apart tells match-lies (Fails span_of tells) x (as_items ms) h.come)
-
-  -- there are at most as many as the span has bytes, and one more
-  pub matches-few : (x : Search) (ms : List Found) → AreFirstMatches nfa kind earliest x ms
-      → length ms ≤ x.end + 1 - x.start
-  matches-few x ms h =
-      subst (λ (l : List Found). length l ≤ x.end + 1 - x.start) (matches_in-as_items ms)
-      (next-few span_of tells match-lies (Fails span_of tells) (fresh x) (as_items ms) (behind-none x.start) h.come)

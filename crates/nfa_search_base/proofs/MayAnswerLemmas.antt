@@ -25,9 +25,7 @@ use Rattle.nfa_search_base.proofs.IterStateLemmas.{IsOrdered}
 use Rattle.nfa_search_base.proofs.MayReplyLemmas.{may-first, may-all, may-apart, step-told, last-told}
 pub use Rattle.nfa_search_base.proofs.MayReplyLemmas.{collected_all}
 use Rattle.nfa_search_base.proofs.RunLemmas.{Given, Says, given, item-says, yields-oked}
-
-some-span : {p q : Span} → Some p ≡ Some q → p ≡ q
-some-span e = cc
+use Rattle.nfa_paths.proofs.OptionLemmas.{same_some}
 
 module _ {A X F : Type 0} (view : A → X) (span : X → Span)
     (g : Mut F (Bor Input × Unit {0}) (Result (Option A) SearchError)) where
@@ -77,7 +75,7 @@ module _ {A X F : Type 0} (view : A → X) (span : X → Span)
     view-ordered : (reply : Result (Option A) SearchError) (a : Answer X) → a ≡ answer_by view reply
         → IsOrdered (answer_span span a)
     view-ordered (Ok (Some m)) a is = subst (λ (b : Answer X). IsOrdered (answer_span span b)) (sym is)
-        (λ p same. subst (λ (q : Span). q.start ≤ q.end) (some-span same) (ordered m))
+        (λ p same. subst (λ (q : Span). q.start ≤ q.end) (same_some _ _ same) (ordered m))
     view-ordered (Ok None) a is = subst (λ (b : Answer X). IsOrdered (answer_span span b)) (sym is)
         (λ p same. let never : None ≡ Some p = same in cc)
     view-ordered (Err e) a is = subst (λ (b : Answer X). IsOrdered (answer_span span b)) (sym is)

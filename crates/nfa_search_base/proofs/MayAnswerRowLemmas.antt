@@ -31,15 +31,13 @@ use Rattle.nfa_search_base.proofs.CapturesRunLemmas.{copy-says}
 use Rattle.nfa_search_base.proofs.IterStateLemmas.{IsOrdered}
 use Rattle.nfa_search_base.proofs.MayReplyLemmas.{may-first, may-all, may-apart, step-told, last-told, collected_all}
 use Rattle.nfa_search_base.proofs.RunLemmas.{Given, Says, given}
+use Rattle.nfa_paths.proofs.OptionLemmas.{same_some}
 
 -- a match of captures starts at or before its end
 match-ordered : (pattern : Option ℕ) (slots : List (Option ℕ)) (m : Found) → match_of pattern slots ≡ Some m
     → m.start ≤ m.end
 match-ordered None slots m is = cc
 match-ordered (Some p) slots m is = (offsets slots p m is).2
-
-some-span : {p q : Span} → Some p ≡ Some q → p ≡ q
-some-span e = cc
 
 nowhere : IsOrdered None
 nowhere = λ p is. let never : None ≡ Some p = is in cc
@@ -59,7 +57,7 @@ row-ordered c (Ok u) a is = subst (λ (b : Answer Row). IsOrdered (answer_span r
     of (Some m) e = λ p same.
         let found : row_found (row_of c) ≡ m = ap (λ (o : Option Found). unwrap_or o none) e in
         let ordered = match-ordered c.pattern c.slots m e in
-        subst (λ (q : Span). q.start ≤ q.end) (some-span same)
+        subst (λ (q : Span). q.start ≤ q.end) (same_some _ _ same)
         (subst (λ (f : Found). f.start ≤ f.end) (sym found) ordered)
 
 module _ {F : Type 0} (g : Mut F (Bor Input × (MutBor Captured × Unit {0}))

@@ -7,7 +7,7 @@ use Rattle.std.specs.Fn.{Mut}
 use Rattle.std.specs.Borrow.{Bor}
 use Rattle.regex_search_core.specs.Search.{Search, search_of}
 use Rattle.regex_search_core.specs.declared.search.Input.{Input}
-use Rattle.nfa_search_base.specs.Asking.{Asks, IsCallableOn, SameButStart, SameButEnd, ServesAlong}
+use Rattle.nfa_search_base.specs.Asking.{Asks, IsCallableOn, SameButStart, SameButEnd}
 use Rattle.nfa_search_base.specs.Serving.{LeadsOn}
 use Rattle.nfa_search_base.specs.declared.error.SearchError.{SearchError}
 use Rattle.nfa_search_base.specs.Skipping.{WithOffset, value_of, HasOffsetIn, IsInCharacter, IsWholeReply}
@@ -161,15 +161,6 @@ module _ {T F : Type 0} (g : Mut F (Bor Input × Unit {0}) (WithOffset T))
       of None same answered rest =
           absurd (none-ends (n + 1) a reaches.1.0 answers last left answered.0 reaches.1.2 split)
       of (Some u) same answered rest = ((u, a) ∷ rest.0, (reaches.1.0, (same u refl, answered), rest.1))
-
-  -- a finder that may be called on each search like s may be called for each call that is made
-  pub ServesSkips-along : (r : WithOffset T) (f : F) → ServesAlong g Same HasOffsetIn f s
-      → ServesSkips g haystack moved r f
-  ServesSkips-along r f serves = record {
-    at = λ answers last left u reaches split at.
-        let made = calls-like 0 r f answers last left reaches split in
-        serves.at made.0 left u made.1 (like (length answers + 1) u at);
-  }
 
 -- the search one further up
 pub start_raised-next : (s t u : Search) (n : ℕ) → start_raised s n ≡ Some t

@@ -1,7 +1,6 @@
 -- If all slots are in a span, so is each span that they give.
-use Rattle.std.proofs.Common.{ℕ, ◌+◌, ◌*◌, ◌≤◌, inl, inr, List, Option, None, Some, arith, sym, subst}
+use Rattle.std.proofs.Common.{ℕ, ◌+◌, ◌*◌, inl, inr, List, Option, None, Some, sym, subst}
 use Rattle.std.specs.Prelude.{All, IfSome, cond, nat_le, option_and_then, option_map}
-use Rattle.std.specs.List.{slice_get}
 use Rattle.std.proofs.lemmas.Bool.{cases_lt, le-leb, lt-leb}
 use Rattle.std.proofs.lemmas.List.Elements.{All-get_or}
 use Rattle.std.proofs.lemmas.Option.{slice_get_cases}

@@ -255,14 +255,6 @@ module _ {X S : Type 0} (span : X → Span) (asks : S → Search → Answer X �
         subst (λ (v : IterState). LeavesFewer w (answer_span span r) v) (sym p.1.2) there
   ]
 
-  -- and moves only the search's start
-  pub Advances-same : SameButStart w.at w'.at
-  Advances-same = elim (chosen (repeats w (answer_span span step.answer)) step.rest) [
-    | inl p ↦ subst (λ (v : IterState). SameButStart w.at v.at) (sym p.1.1)
-        (same_start-after_shifted w (answer_span span r))
-    | inr p ↦ subst (λ (v : IterState). SameButStart w.at v.at) (sym p.1.2) (same_start-after w (answer_span span r))
-  ]
-
 -- If a part of the state is borrowed, a step is one of the whole state.
 module _ {S C T X : Type 0} (whole : WithCache S C → T) (accepts : T → Search → Type 0)
     (asks : T → Search → Answer X → T → Type 0) (span : X → Span) where

@@ -8,7 +8,7 @@ use Rattle.regex_search_core.specs.declared.search.Span.{Span}
 use Rattle.nfa_search_base.specs.Asking.{SameButStart}
 use Rattle.nfa_search_base.specs.IterStates.{IterState, Answer, answer_span, AnswerIsInside, IsInfalliblyInside, LeavesFewer, ends_left}
 use Rattle.nfa_search_base.specs.Items.{Item, item_by, item_of, items_left, matches_left, matches_in, greedy_unless}
-use Rattle.nfa_search_base.specs.Serving.{ServesOnAlong, StepDone}
+use Rattle.nfa_search_base.specs.Serving.{ServesOnAlong}
 use Rattle.nfa_search_base.specs.WithCache.{WithCache, asks_whole, steps_whole}
 use Rattle.nfa_search_base.specs.Steps.{TakesStep, GivesItem, ends_at, ComesOfMatch}
 use Rattle.nfa_search_base.specs.Stored.{steps_iter_state, can_step, can_step_infallibly, takes_steps, takes_infallible_steps, steps_left, infallible_left}
@@ -27,22 +27,6 @@ step-fewer span w w' (Ok (Some x)) (Some (Ok y)) comes less = omega (arith, less
 step-fewer span w w' (Ok None) (Some (Ok y)) comes less = absurd comes
 step-fewer span w w' (Err e) (Some (Ok y)) comes less = absurd comes
 step-fewer span w w' a (Some (Err e)) comes less = omega arith
-
--- a step of the iteration is one of the iterator
-pub takes-step : {S X Y : Type 0} (accepts : S → Search → Type 0) (asks : S → Search → Answer X → S → Type 0)
-    (span : X → Span) (gives : S → Answer X → Option (Result Y SearchError) → Type 0)
-    (s : S) (w : IterState) (a : Answer X) (s' : S) (w' : IterState) (r : Option (Result Y SearchError)) (d : Bool)
-    → StepDone accepts asks span s w a s' w' → gives s' a r → ComesOfMatch a r → d ≡ ends_at r
-    → TakesStep span asks gives s w r s' w' d
-takes-step accepts asks span gives s w a s' w' r d done item comes ends = record {
-  answer = a;
-  step = done.step;
-  item = item;
-  ends = ends;
-  rises = done.rises;
-  same = done.same;
-  fewer = rw ends (step-fewer span w w' a r comes done.fewer);
-}
 
 ends-by : {X Y : Type 0} (view : Y → X) (r : Option (Result Y SearchError))
     → ends_at r ≡ ends_at (option_map (item_by view) r)

@@ -1,6 +1,5 @@
 pub mod Agreement
 pub mod Asking
-pub mod Beginnings
 pub mod LastEnd
 pub mod WithCaptures
 pub mod CapturesLists
@@ -27,6 +26,7 @@ pub mod Steps
 pub mod Stored
 pub mod StoredRuns
 pub mod IterStates
+pub use Rattle.nfa_paths.specs.Beginnings
 pub use Rattle.nfa_paths.specs.Graphs
 pub use Rattle.nfa_paths.specs.Paths
 pub use Rattle.nfa_paths.specs.Overlaps

@@ -1,16 +1,9 @@
 -- All alternatives but the first are pushed, or lead nowhere.
-use Rattle.std.proofs.Common.{◌≡◌, ◌≤◌, ◌<◌, ℕ, suc, zero, List, [], ◌∷◌, length, drop, drop-cons, get_or}
+use Rattle.std.proofs.Common.{◌≡◌, ◌<◌, ℕ, suc, List, [], ◌∷◌, length, drop, drop-cons, get_or}
 use Rattle.std.proofs.Common.{arith, refl}
-use Rattle.nfa_backtrack_scan.specs.Alternates.{PushesLive}
 use Rattle.nfa_backtrack_scan.proofs.AlternateLemmas.{PushesLive-none}
 use Rattle.nfa_backtrack_scan.proofs.alternates.push_alternates.Goals as goal
-
--- if at most one is left
-drop-low : (xs : List ℕ) (left : ℕ) → left ≤ 1 → (left ≡ 0 → length xs ≡ 0) → drop left xs ≡ drop 1 xs
-drop-low [] zero low none = refl
-drop-low (x ∷ xs) zero low none = absurd (let e = none refl in omega arith)
-drop-low xs (suc zero) low none = refl
-drop-low xs (suc (suc left)) low none = absurd (omega arith)
+use Rattle.nfa_scan_core.proofs.AlternateLemmas.{drop-low}
 
 -- all are left
 drop-length : (xs : List ℕ) → drop (length xs) xs ≡ []

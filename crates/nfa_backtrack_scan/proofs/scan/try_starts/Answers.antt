@@ -30,9 +30,9 @@ returns-in-Some-2-clause-answer c =
     let rest = map Explore (pairs_from c.in-Some.sid (c.loop-at.at + 1)
     (c.start_limit-limit.result - (c.loop-at.at + 1))) in
     let size : length c.walk.new.slots ≡ length c.args.slots.now = c.walk.auto.slots ∙ c.loop-at.auto.slots in
-    let unset : c.args.slots.now ≡ replicate (length c.walk.new.slots) None = c.requires.unset ∙ ap
+    let unset : c.args.slots.now ≡ replicate (length c.walk.new.slots) None = c.requires.ready.unset ∙ ap
     (λ n. replicate n None) (sym size) in
-    starts-some c.args.nfa.now (search_of c.args.input.now) c.args.scratch.now.visited c.requires.clear c.args.slots.now
+    starts-some c.args.nfa.now (search_of c.args.input.now) c.args.scratch.now.visited c.requires.ready.clear c.args.slots.now
     _ c.in-Some-2.half c.walk.new.slots unset
     (EndsAt-along c.args.nfa.now (search_of c.args.input.now) follows (walks rest))
 
@@ -43,7 +43,7 @@ loop-at-init c =
     let low : (search_of c.args.input.now).start
     ≤ c.next_start-at.result = omega (arith, c.next_start-at.ensures.low) in
     record {
-      follows = Carries-first c.args.nfa.now (search_of c.args.input.now) c.args.first.now.may_begin c.requires.first
+      follows = Carries-first c.args.nfa.now (search_of c.args.input.now) c.args.first.now.may_begin c.requires.ready.first
           c.args.scratch.now.visited c.args.slots.now
           c.in-Some.sid c.skip_limit-stop.result c.next_start-at.result c.start_limit-limit.result low
           (λ past. c.next_start-at.ensures.stays (omega arith) ∙ start) c.skip_limit-stop.ensures.anchored known
@@ -54,7 +54,7 @@ loop-at-init c =
       due = λ below. c.next_start-at.ensures.least (omega arith);
       scans = refl;
       size = refl;
-      empty = c.requires.empty;
+      empty = c.requires.ready.empty;
       tried = omega arith;
     }
 
@@ -68,7 +68,7 @@ loop-at-preserved c =
     let next = c.next_start-at-in-loop-at.ensures in
     record {
       follows = Carries-then c.args.nfa.now (search_of c.args.input.now) walked
-          (Carries-pass c.args.nfa.now (search_of c.args.input.now) c.args.first.now.may_begin c.requires.first
+          (Carries-pass c.args.nfa.now (search_of c.args.input.now) c.args.first.now.may_begin c.requires.ready.first
           c.walk.new.scratch.visited c.walk.new.slots
           c.in-Some.sid (c.loop-at.at + 1) c.skip_limit-stop.result c.next_start-at-in-loop-at.result
           c.start_limit-limit.result
@@ -93,7 +93,7 @@ pub returns-clause-answer : goal.returns-clause-answer
 returns-clause-answer c =
     let over : c.start_limit-limit.result ≤ c.loop-at.at = c.loop-at-test.false in
     let follows = rw (pairs_from-end c.in-Some.sid over) at c.loop-at.invariant.follows in
-    starts-none c.args.nfa.now (search_of c.args.input.now) c.args.scratch.now.visited c.requires.clear c.args.slots.now
+    starts-none c.args.nfa.now (search_of c.args.input.now) c.args.scratch.now.visited c.requires.ready.clear c.args.slots.now
     c.loop-at.scratch.visited.turns
     (Carries-ends c.args.nfa.now (search_of c.args.input.now) follows
     (Ends-none c.args.nfa.now (search_of c.args.input.now) c.loop-at.scratch.visited c.loop-at.slots))

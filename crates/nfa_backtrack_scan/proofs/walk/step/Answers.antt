@@ -6,7 +6,7 @@ use Rattle.nfa_backtrack_scan.specs.Walk.{pair_of, TurnsLead}
 use Rattle.nfa_backtrack_scan.specs.declared.frame.Frame.TheVariants.{Step}
 use Rattle.thompson_nfa.specs.Automaton.Node.{ByteRange, Sparse, Dense, Look, Union, BinaryUnion, Capture}
 use Rattle.nfa_backtrack_scan.proofs.WalkLemmas.{Fails-at}
-use Rattle.nfa_backtrack_scan.proofs.StepLemmas.{same_size, first-drop, PaidFor-leads, PaidFor-same, PaidFor-push}
+use Rattle.nfa_backtrack_scan.proofs.StepLemmas.{same_size, PaidFor-leads, PaidFor-same, PaidFor-push}
 use Rattle.nfa_backtrack_scan.proofs.StepLemmas.{Goes-leads, Goes-look, Goes-no_look}
 use Rattle.nfa_backtrack_scan.proofs.StepLemmas.{Goes-no_union, Goes-both, Goes-write, Goes-unkept}
 use Rattle.nfa_backtrack_scan.proofs.StepLemmas.{Goes-match, IsFrame-restoring, tries-restoring}
@@ -16,6 +16,7 @@ use Rattle.nfa_backtrack_scan.proofs.AlternateLemmas.{PaidFor-live, Goes-live}
 use Rattle.nfa_backtrack_scan.specs.Alternates.{PushesLive}
 use Rattle.nfa_backtrack_scan.proofs.walk.step.Goals as goal
 use Rattle.nfa_backtrack_scan.proofs.walk.step.Goals.{then-slot-slots+in_ok-save-in-Capture, else-slot-slots}
+use Rattle.nfa_scan_core.proofs.AlternateLemmas.{first-drop}
 
 pub cross-next-requires-clause-step : goal.cross-next-requires-clause-step
 cross-next-requires-clause-step c =
@@ -28,13 +29,13 @@ cross-next-requires-clause-step c =
     }
 
 pub cross-next-requires-clause-states : goal.cross-next-requires-clause-states
-cross-next-requires-clause-states c = same_size c.args.nfa.now c.args.states.now c.requires.states
+cross-next-requires-clause-states c = same_size c.args.nfa.now c.args.states.now c.requires.ready.states_are
 
 pub returns-in-ByteRange-clause-paid : goal.returns-in-ByteRange-clause-paid
 returns-in-ByteRange-clause-paid c =
     rw c.move_to.ensures
     (PaidFor-leads c.args.nfa.now (search_of c.args.input.now) c.cross-next.result
-    (c.cross-next.ensures.leads c.args.scratch.now.stack.items) _ c.requires.within)
+    (c.cross-next.ensures.leads c.args.scratch.now.stack.items) _ c.requires.ready.within)
 
 pub returns-in-ByteRange-clause-goes : goal.returns-in-ByteRange-clause-goes
 returns-in-ByteRange-clause-goes c =
@@ -54,13 +55,13 @@ cross-next-requires-in-Sparse-clause-step c =
     }
 
 pub cross-next-requires-in-Sparse-clause-states : goal.cross-next-requires-in-Sparse-clause-states
-cross-next-requires-in-Sparse-clause-states c = same_size c.args.nfa.now c.args.states.now c.requires.states
+cross-next-requires-in-Sparse-clause-states c = same_size c.args.nfa.now c.args.states.now c.requires.ready.states_are
 
 pub returns-in-Sparse-clause-paid : goal.returns-in-Sparse-clause-paid
 returns-in-Sparse-clause-paid c =
     rw c.move_to-in-Sparse.ensures
     (PaidFor-leads c.args.nfa.now (search_of c.args.input.now) c.cross-next-in-Sparse.result
-    (c.cross-next-in-Sparse.ensures.leads c.args.scratch.now.stack.items) _ c.requires.within)
+    (c.cross-next-in-Sparse.ensures.leads c.args.scratch.now.stack.items) _ c.requires.ready.within)
 
 pub returns-in-Sparse-clause-goes : goal.returns-in-Sparse-clause-goes
 returns-in-Sparse-clause-goes c =
@@ -80,13 +81,13 @@ cross-next-requires-in-Dense-clause-step c =
     }
 
 pub cross-next-requires-in-Dense-clause-states : goal.cross-next-requires-in-Dense-clause-states
-cross-next-requires-in-Dense-clause-states c = same_size c.args.nfa.now c.args.states.now c.requires.states
+cross-next-requires-in-Dense-clause-states c = same_size c.args.nfa.now c.args.states.now c.requires.ready.states_are
 
 pub returns-in-Dense-clause-paid : goal.returns-in-Dense-clause-paid
 returns-in-Dense-clause-paid c =
     rw c.move_to-in-Dense.ensures
     (PaidFor-leads c.args.nfa.now (search_of c.args.input.now) c.cross-next-in-Dense.result
-    (c.cross-next-in-Dense.ensures.leads c.args.scratch.now.stack.items) _ c.requires.within)
+    (c.cross-next-in-Dense.ensures.leads c.args.scratch.now.stack.items) _ c.requires.ready.within)
 
 pub returns-in-Dense-clause-goes : goal.returns-in-Dense-clause-goes
 returns-in-Dense-clause-goes c =
@@ -124,7 +125,7 @@ pub returns-then-assertion_holds-clause-paid : goal.returns-then-assertion_holds
 returns-then-assertion_holds-clause-paid c =
     let t = c.mark.ensures.taken c.if-not-mark.false in
     let is = rw c.in-Look.is at c.state_at.ensures.node in
-    PaidFor-same t (Look c.in-Look.look c.in-Look.next) is _ _ _ c.requires.within (omega arith)
+    PaidFor-same t (Look c.in-Look.look c.in-Look.next) is _ _ _ c.requires.ready.within (omega arith)
 
 pub returns-then-assertion_holds-clause-goes : goal.returns-then-assertion_holds-clause-goes
 returns-then-assertion_holds-clause-goes c =
@@ -135,9 +136,9 @@ returns-then-assertion_holds-clause-goes c =
     rw c.to.ensures (
       record {
         state = below;
-        from = c.requires.place.from;
-        to = c.requires.place.to;
-        row = c.requires.place.row;
+        from = c.requires.ready.is_place.from;
+        to = c.requires.ready.is_place.to;
+        row = c.requires.ready.is_place.row;
       },
       λ work. Goes-look t c.in-Look.look c.in-Look.next is _ _ holds,
     )
@@ -146,7 +147,7 @@ pub returns-else-assertion_holds-clause-paid : goal.returns-else-assertion_holds
 returns-else-assertion_holds-clause-paid c =
     let t = c.mark.ensures.taken c.if-not-mark.false in
     let is = rw c.in-Look.is at c.state_at.ensures.node in
-    PaidFor-same t (Look c.in-Look.look c.in-Look.next) is _ _ _ c.requires.within (omega arith)
+    PaidFor-same t (Look c.in-Look.look c.in-Look.next) is _ _ _ c.requires.ready.within (omega arith)
 
 pub returns-else-assertion_holds-clause-goes : goal.returns-else-assertion_holds-clause-goes
 returns-else-assertion_holds-clause-goes c =
@@ -159,7 +160,7 @@ pub returns-in_default-clause-paid : goal.returns-in_default-clause-paid
 returns-in_default-clause-paid c =
     let t = c.mark-in-Union.ensures.taken c.if-not-mark-2.false in
     let is = rw c.in-Union.is at c.state_at.ensures.node in
-    PaidFor-same t (Union c.in-Union.alternates.items) is _ _ _ c.requires.within (omega arith)
+    PaidFor-same t (Union c.in-Union.alternates.items) is _ _ _ c.requires.ready.within (omega arith)
 
 pub returns-in_default-clause-goes : goal.returns-in_default-clause-goes
 returns-in_default-clause-goes c =
@@ -179,7 +180,7 @@ pushes : (c : goal.After-to-in-Union)
     c.args.scratch.now.stack.items c.push_alternates.new.stack.items
 pushes c =
     rw c.deref-in-Union-2.ensures.value at
-    (c.in_ok-push_alternates-in-Union.ensures (search_of c.args.input.now) c.requires.place c.byte_at-byte.ensures)
+    (c.in_ok-push_alternates-in-Union.ensures (search_of c.args.input.now) c.requires.ready.is_place c.byte_at-byte.ensures)
 
 pub returns-in_ok-push_alternates-in-Union-clause-paid : goal.returns-in_ok-push_alternates-in-Union-clause-paid
 returns-in_ok-push_alternates-in-Union-clause-paid c =
@@ -187,7 +188,7 @@ returns-in_ok-push_alternates-in-Union-clause-paid c =
     let is = rw c.in-Union.is at c.state_at.ensures.node in
     let first = sym (rw c.deref-in-Union.ensures.value at c.in-Some.ensures.value) in
     PaidFor-live c.args.nfa.now (search_of c.args.input.now) t c.in-Union.alternates.items is _ first (pushes c) _
-    c.requires.within
+    c.requires.ready.within
 
 pub returns-in_ok-push_alternates-in-Union-clause-goes : goal.returns-in_ok-push_alternates-in-Union-clause-goes
 returns-in_ok-push_alternates-in-Union-clause-goes c =
@@ -198,7 +199,7 @@ returns-in_ok-push_alternates-in-Union-clause-goes c =
     let split = first-drop c.in-Union.alternates.items c.in-Some.first.now first in
     let state : c.in-Some.first.now < length c.args.nfa.now.states = (rw split at below) 0 0 (omega arith) in
     rw c.to-in-Union.ensures (
-      record { state = state; from = c.requires.place.from; to = c.requires.place.to; row = c.requires.place.row },
+      record { state = state; from = c.requires.ready.is_place.from; to = c.requires.ready.is_place.to; row = c.requires.ready.is_place.row },
       λ work. Goes-live c.args.nfa.now (search_of c.args.input.now) t c.in-Union.alternates.items is _ first (pushes c)
           c.args.slots.now work,
     )
@@ -230,7 +231,7 @@ returns-in_err-run_loop-in-BinaryUnion-clause-refused c =
     let t = c.mark-in-BinaryUnion.ensures.taken c.if-not-mark-3.false in
     let is = rw c.in-BinaryUnion.is at c.state_at.ensures.node in
     let below = rw c.in-BinaryUnion.is at c.state_at.ensures.leads in
-    let union = TurnsLead-union t c.args.place.row c.requires.place.row c.in-BinaryUnion.alt1 c.in-BinaryUnion.alt2 is
+    let union = TurnsLead-union t c.args.place.row c.requires.ready.is_place.row c.in-BinaryUnion.alt1 c.in-BinaryUnion.alt2 is
     below.0 below.1 c.args.scratch.now.stack.items in
     let round = rw (c.in_ok-push-in-BinaryUnion.ensures.items, c.later.ensures) at
     c.in_err-run_loop-in-BinaryUnion.ensures.refused in
@@ -246,7 +247,7 @@ round c =
     let is = rw c.in-BinaryUnion.is at c.state_at.ensures.node in
     let below = rw c.in-BinaryUnion.is at c.state_at.ensures.leads in
     TurnsLead-then c.args.nfa.now (search_of c.args.input.now)
-    (TurnsLead-union t c.args.place.row c.requires.place.row c.in-BinaryUnion.alt1 c.in-BinaryUnion.alt2 is below.0
+    (TurnsLead-union t c.args.place.row c.requires.ready.is_place.row c.in-BinaryUnion.alt1 c.in-BinaryUnion.alt2 is below.0
     below.1 c.args.scratch.now.stack.items)
     (rw (c.in_ok-push-in-BinaryUnion.ensures.items, c.later.ensures, c.to-preferred.ensures) at
     c.in_ok-run_loop-in-BinaryUnion.ensures.leads)
@@ -254,7 +255,7 @@ round c =
 pub returns-in-Some-byte_loop_at-clause-paid : goal.returns-in-Some-byte_loop_at-clause-paid
 returns-in-Some-byte_loop_at-clause-paid c =
     let leads = round c in
-    record { within = leads.within (length c.args.slots.now) c.requires.within; tried = leads.tried }
+    record { within = leads.within (length c.args.slots.now) c.requires.ready.within; tried = leads.tried }
 
 pub returns-in-Some-byte_loop_at-clause-goes : goal.returns-in-Some-byte_loop_at-clause-goes
 returns-in-Some-byte_loop_at-clause-goes c = λ work. (round c).follows work c.args.slots.now
@@ -266,8 +267,8 @@ returns-in_default-byte_loop_at-clause-paid c =
     let below = rw c.in-BinaryUnion.is at c.state_at.ensures.leads in
     rw (c.in_ok-push-in-BinaryUnion.ensures.items, c.later.ensures)
     (PaidFor-push t (BinaryUnion c.in-BinaryUnion.alt1 c.in-BinaryUnion.alt2) is _ _
-    (Step c.in-BinaryUnion.alt2 c.args.place.at c.args.place.row) _ c.requires.within
-    (record { state = below.1; from = c.requires.place.from; to = c.requires.place.to; row = c.requires.place.row })
+    (Step c.in-BinaryUnion.alt2 c.args.place.at c.args.place.row) _ c.requires.ready.within
+    (record { state = below.1; from = c.requires.ready.is_place.from; to = c.requires.ready.is_place.to; row = c.requires.ready.is_place.row })
     (omega arith))
 
 pub returns-in_default-byte_loop_at-clause-goes : goal.returns-in_default-byte_loop_at-clause-goes
@@ -276,7 +277,7 @@ returns-in_default-byte_loop_at-clause-goes c =
     let is = rw c.in-BinaryUnion.is at c.state_at.ensures.node in
     let below = rw c.in-BinaryUnion.is at c.state_at.ensures.leads in
     rw c.to-preferred.ensures (
-      record { state = below.0; from = c.requires.place.from; to = c.requires.place.to; row = c.requires.place.row },
+      record { state = below.0; from = c.requires.ready.is_place.from; to = c.requires.ready.is_place.to; row = c.requires.ready.is_place.row },
       λ work. rw (c.in_ok-push-in-BinaryUnion.ensures.items, c.later.ensures)
           (Goes-both t c.in-BinaryUnion.alt1 c.in-BinaryUnion.alt2 is c.args.slots.now c.args.scratch.now.stack.items
           work _),
@@ -289,11 +290,11 @@ returns-after-slot-slots-clause-paid c =
     elim c.if-slot-slots.branch [
       | then-slot-slots+in_ok-save-in-Capture w ↦
           rw (w.scratch-is, w.in_ok-save-in-Capture.ensures.stack)
-          (PaidFor-push t (Capture c.in-Capture.next c.in-Capture.slot) is _ _ _ _ c.requires.within
+          (PaidFor-push t (Capture c.in-Capture.next c.in-Capture.slot) is _ _ _ _ c.requires.ready.within
           (IsFrame-restoring c.args.nfa.now (search_of c.args.input.now) _ c.in-Capture.slot _ w.if-slot-slots.true)
           (omega (arith, tries-restoring)))
       | else-slot-slots w ↦
-          rw w.scratch-is (PaidFor-same t (Capture c.in-Capture.next c.in-Capture.slot) is _ _ _ c.requires.within
+          rw w.scratch-is (PaidFor-same t (Capture c.in-Capture.next c.in-Capture.slot) is _ _ _ c.requires.ready.within
           (omega arith))
     ]
 
@@ -303,7 +304,7 @@ returns-after-slot-slots-clause-goes c =
     let is = rw c.in-Capture.is at c.state_at.ensures.node in
     let below = rw c.in-Capture.is at c.state_at.ensures.leads in
     rw c.to-in-Capture.ensures (
-      record { state = below; from = c.requires.place.from; to = c.requires.place.to; row = c.requires.place.row },
+      record { state = below; from = c.requires.ready.is_place.from; to = c.requires.ready.is_place.to; row = c.requires.ready.is_place.row },
       λ work.
           elim c.if-slot-slots.branch [
             | then-slot-slots+in_ok-save-in-Capture w ↦
@@ -323,7 +324,7 @@ returns-after-slot-slots-clause-goes c =
 
 pub returns-in-Fail-clause-paid : goal.returns-in-Fail-clause-paid
 returns-in-Fail-clause-paid c =
-    rw c.pass.ensures (record { within = c.requires.within; tried = omega arith })
+    rw c.pass.ensures (record { within = c.requires.ready.within; tried = omega arith })
 
 pub returns-in-Fail-clause-goes : goal.returns-in-Fail-clause-goes
 returns-in-Fail-clause-goes c = λ work.
@@ -335,7 +336,7 @@ pub returns-else-not-mark-5-clause-paid : goal.returns-else-not-mark-5-clause-pa
 returns-else-not-mark-5-clause-paid c =
     let t = c.mark-in-Match.ensures.taken c.if-not-mark-5.false in
     let is = rw c.in-Match.is at c.state_at.ensures.node in
-    PaidFor-same t _ is _ _ _ c.requires.within (omega arith)
+    PaidFor-same t _ is _ _ _ c.requires.ready.within (omega arith)
 
 pub returns-else-not-mark-5-clause-goes : goal.returns-else-not-mark-5-clause-goes
 returns-else-not-mark-5-clause-goes c =

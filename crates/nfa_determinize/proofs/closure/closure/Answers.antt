@@ -5,9 +5,10 @@ use Rattle.thompson_nfa.specs.Automaton.{node_of}
 use Rattle.nfa_paths.specs.Kinds.{rests}
 use Rattle.nfa_paths.specs.Paths.{node_at}
 use Rattle.nfa_determinize.specs.Closures.{closure, holding_at, epsilon_states}
-use Rattle.nfa_determinize.proofs.ClosureLemmas.{node_at-get, takes_left, IsUnderWay, IsUnderWay-begin, IsUnderWay-done}
+use Rattle.nfa_determinize.proofs.ClosureLemmas.{takes_left, IsUnderWay, IsUnderWay-begin, IsUnderWay-done}
 use Rattle.nfa_determinize.proofs.ClosureLemmas.{IsUnderWay-seen, IsUnderWay-kept, IsUnderWay-left, takes-seen, takes-kept, takes-left}
 use Rattle.nfa_determinize.proofs.closure.closure.Goals as goal
+use Rattle.nfa_paths.proofs.StartLemmas.{node_at-get}
 
 pub loop-sid-init : goal.loop-sid-init
 loop-sid-init c =

@@ -5,9 +5,9 @@ use Rattle.regex_search_core.specs.Patterns.{number_of}
 use Rattle.thompson_nfa.specs.Automaton.{node_of}
 use Rattle.nfa_paths.specs.Paths.{pattern_of}
 use Rattle.nfa_determinize.specs.Closures.{state_pattern}
-use Rattle.nfa_determinize.proofs.ClosureLemmas.{node_at-get}
 use Rattle.nfa_determinize.proofs.StepLemmas.{number-some, number-none, before-some, before-none}
 use Rattle.nfa_determinize.proofs.closure.count_before_match.Goals as goal
+use Rattle.nfa_paths.proofs.StartLemmas.{node_at-get}
 
 pub returns-then-is_some-clause-before : goal.returns-then-is_some-clause-before
 returns-then-is_some-clause-before c =

@@ -5,9 +5,9 @@ use Rattle.regex_search_core.specs.Patterns.{number_of}
 use Rattle.thompson_nfa.specs.Automaton.{node_of}
 use Rattle.nfa_paths.specs.Paths.{pattern_of}
 use Rattle.nfa_determinize.specs.Closures.{state_pattern}
-use Rattle.nfa_determinize.proofs.ClosureLemmas.{node_at-get}
 use Rattle.nfa_determinize.proofs.StepLemmas.{number-some, number-none, first-some, first-none}
 use Rattle.nfa_determinize.proofs.closure.first_pattern.Goals as goal
+use Rattle.nfa_paths.proofs.StartLemmas.{node_at-get}
 
 pub returns-then-is_some : goal.returns-then-is_some
 returns-then-is_some c =

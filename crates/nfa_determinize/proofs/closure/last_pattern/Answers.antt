@@ -6,9 +6,9 @@ use Rattle.regex_search_core.specs.Patterns.{number_of}
 use Rattle.thompson_nfa.specs.Automaton.{node_of}
 use Rattle.nfa_paths.specs.Paths.{pattern_of}
 use Rattle.nfa_determinize.specs.Closures.{state_pattern, last_pattern}
-use Rattle.nfa_determinize.proofs.ClosureLemmas.{node_at-get}
 use Rattle.nfa_determinize.proofs.StepLemmas.{number-or, last-more}
 use Rattle.nfa_determinize.proofs.closure.last_pattern.Goals as goal
+use Rattle.nfa_paths.proofs.StartLemmas.{node_at-get}
 
 pub loop-sid-preserved : goal.loop-sid-preserved
 loop-sid-preserved c =

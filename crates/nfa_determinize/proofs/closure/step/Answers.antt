@@ -5,10 +5,10 @@ use Rattle.std.proofs.lemmas.List.Elements.{All-push}
 use Rattle.thompson_nfa.specs.Automaton.{node_of}
 use Rattle.nfa_paths.specs.Paths.{node_at, target_on}
 use Rattle.nfa_determinize.specs.Closures.{step}
-use Rattle.nfa_determinize.proofs.ClosureLemmas.{node_at-get}
 use Rattle.nfa_determinize.proofs.StepLemmas.{step-more, stepped-below}
 use Rattle.nfa_determinize.proofs.closure.step.Goals as goal
 use Rattle.nfa_determinize.proofs.closure.step.Goals.{in-Some+in_ok-push, in_default}
+use Rattle.nfa_paths.proofs.StartLemmas.{node_at-get}
 
 pub loop-sid-preserved : goal.loop-sid-preserved
 loop-sid-preserved c =

@@ -5,10 +5,11 @@ use Rattle.nfa_paths.specs.Graphs.{In}
 use Rattle.nfa_paths.specs.Paths.{node_at, pattern_of}
 use Rattle.nfa_match_spans.specs.StatePaths.{targets}
 use Rattle.nfa_match_spans.specs.PathStates.{at_state, after_node, next_places, GainsPathStates, IsFine}
-use Rattle.nfa_match_spans.proofs.SearchLemmas.{In-get_or, slice_get-in, targets-below, node_at-is, IsFine-of}
+use Rattle.nfa_match_spans.proofs.SearchLemmas.{In-get_or, slice_get-in, targets-below, IsFine-of}
 use Rattle.nfa_match_spans.proofs.SearchLemmas.{IsUnderWay-begin, IsUnderWay-step, IsUnderWay-done}
 use Rattle.nfa_match_spans.proofs.StatePathLemmas.{unrecorded, closed-records}
 use Rattle.nfa_match_spans.proofs.spans.pattern_records_match_spans.Goals as goal
+use Rattle.nfa_paths.proofs.StartLemmas.{node_at-get}
 
 pub loop-done-init : goal.loop-done-init
 loop-done-init c = record {
@@ -26,7 +27,7 @@ pub returns-then-is_unrecorded : goal.returns-then-is_unrecorded
 returns-then-is_unrecorded c =
     let place = c.place-place.result in
     let lacks = c.is_unrecorded.ensures.0 c.if-is_unrecorded.true in
-    let is = node_at-is c.args.nfa.now place.state (node_of c.state-state.result.now) c.state-state.ensures.node in
+    let is = node_at-get c.args.nfa.now place.state (node_of c.state-state.result.now) c.state-state.ensures.node in
     let led = c.loop-done.invariant.under_way.led place
     (slice_get-in c.loop-done.reached.places c.loop-done.done place c.place-place.ensures) in (
       λ t. absurd (cc t),
@@ -50,7 +51,7 @@ loop-done-preserved c =
     let nfa = c.args.nfa.now in
     let place = c.place-place.result in
     let node = node_of c.state-state.result.now in
-    let is : node_at nfa place.state ≡ node = node_at-is nfa place.state node c.state-state.ensures.node in
+    let is : node_at nfa place.state ≡ node = node_at-get nfa place.state node c.state-state.ensures.node in
     let same : c.deref.result.now ≡ targets node = c.deref.ensures.value ∙ c.in_ok-targets.ensures in
     let wanted : map (at_state c.after.result) c.deref.result.now ≡ next_places nfa c.args.pattern place =
     ap (λ v. map (at_state v) c.deref.result.now) c.after.ensures

@@ -1,27 +1,23 @@
 -- A scan of all matches answers the last one that is seen.
 use Rattle.std.proofs.Common.{◌≡◌, ◌∙◌, ◌+◌, ◌≤◌, length, arith, refl, sym, inl}
 use Rattle.regex_search_core.specs.Search.{search_of}
-use Rattle.nfa_paths.specs.Paths.{is_match}
 use Rattle.nfa_pikevm_scan.proofs.AllLemmas.{HasLast-cross}
 use Rattle.nfa_pikevm_scan.proofs.EndLemmas.{HasLast-begin, ScansAll-joined, ScansAll-over, last-over, ends-at}
-use Rattle.nfa_pikevm_scan.proofs.StandsLemmas.{Stands-start, Stands-next}
+use Rattle.nfa_pikevm_scan.proofs.StandsLemmas.{Stands-next, Stands-ready}
 use Rattle.nfa_pikevm_scan.proofs.RoomLemmas.{none_of, below-joined}
 use Rattle.nfa_pikevm_scan.proofs.ScanLemmas.{Crossed-given}
 use Rattle.nfa_pikevm_scan.proofs.scan.scan_all.Goals as goal
 
 pub loop-at-init : goal.loop-at-init
-loop-at-init c =
-    record {
-      counted = refl;
-      sizes = refl;
-      width = c.requires.ready.room.width_is;
-      next = c.requires.ready.next;
-      stands = rw c.start-at.ensures (Stands-start c.args.nfa.now (search_of c.args.input.now)
-          (is_match c.args.nfa.now) c.args.starts.now c.requires.ready.starts c.args.slots.now
-          c.args.threads.now.reached.seen c.requires.ready.curr);
-      last = rw c.start-at.ensures (HasLast-begin c.args.nfa.now (search_of c.args.input.now) c.args.starts.now
-          c.requires.ready.starts c.args.slots.now c.args.threads.now.reached.seen c.requires.unset);
-    }
+loop-at-init c = record {
+  counted = refl;
+  sizes = refl;
+  width = c.requires.ready.room.width_is;
+  next = c.requires.ready.next;
+  stands = Stands-ready c.args.slots.now c.start-at.ensures c.requires.ready;
+  last = rw c.start-at.ensures (HasLast-begin c.args.nfa.now (search_of c.args.input.now) c.args.starts.now
+      c.requires.ready.starts c.args.slots.now c.args.threads.now.reached.seen c.requires.unset);
+}
 
 pub returns-then-is_empty-clause-answer : goal.returns-then-is_empty-clause-answer
 returns-then-is_empty-clause-answer c =
@@ -45,8 +41,6 @@ loop-at-preserved c =
     let items = rw c.loop-at.invariant.width at c.add_start.ensures.curr in
     let crosses = rw (c.add_start.ensures.seen, items) at c.nexts.ensures.crosses in
     let low : x.start ≤ c.loop-at.at = omega (arith, c.start-at.ensures, c.loop-at.auto.at) in
-    let s = ScansAll-joined c.args.nfa.now x c.args.starts.now c.loop-at.at (length c.args.slots.now)
-    c.loop-at.invariant.stands.scans in
     record {
       counted = c.nexts.ensures.scans ∙ c.add_start.ensures.scans ∙ c.loop-at.invariant.counted;
       sizes = c.nexts.ensures.sizes ∙ c.add_start.ensures.sizes ∙ c.loop-at.invariant.sizes;
@@ -56,7 +50,9 @@ loop-at-preserved c =
           c.requires.ready.starts.leads low (inl refl);
       last = rw c.or-found.ensures
           (HasLast-cross c.args.nfa.now x c.loop-at.at (length c.args.slots.now) c.args.starts.now.state
-          c.args.starts.now.limit crosses s (rw c.add_start.ensures.seen at c.nexts.ensures.grows) c.half_at-hit.result
+          c.args.starts.now.limit crosses
+          (ScansAll-joined c.args.nfa.now x c.args.starts.now c.loop-at.at (length c.args.slots.now)
+          c.loop-at.invariant.stands.scans) (rw c.add_start.ensures.seen at c.nexts.ensures.grows) c.half_at-hit.result
           c.half_at-hit.ensures c.loop-at.invariant.last);
     }
 

@@ -1,29 +1,25 @@
 -- A scan that ends at the first match that is seen answers the path with the least end.
 use Rattle.std.proofs.Common.{◌≡◌, ◌∙◌, ◌+◌, ◌≤◌, length, arith, refl, sym, inr, true, cond}
 use Rattle.regex_search_core.specs.Search.{search_of}
-use Rattle.nfa_paths.specs.Paths.{is_match}
 use Rattle.nfa_paths.proofs.ScanAnswerLemmas.{scan_answer-none}
 use Rattle.regex_search_core.specs.declared.search.MatchKind.TheVariants.{All, LeftmostFirst}
 use Rattle.nfa_pikevm_scan.proofs.AllLemmas.{NoneBefore-cross, EndsAt-none}
 use Rattle.nfa_pikevm_scan.proofs.EndLemmas.{NoneBefore-begin, ScansAll-joined, ScansAll-over, earliest-over, ends-at}
-use Rattle.nfa_pikevm_scan.proofs.StandsLemmas.{Stands-start, Stands-next, Stands-turns}
+use Rattle.nfa_pikevm_scan.proofs.StandsLemmas.{Stands-next, Stands-turns, Stands-ready}
 use Rattle.nfa_pikevm_scan.proofs.RoomLemmas.{none_of, below-joined}
 use Rattle.nfa_pikevm_scan.proofs.ScanLemmas.{Crossed-given}
 use Rattle.nfa_pikevm_scan.proofs.scan.scan_earliest.Goals as goal
 
 pub loop-at-init : goal.loop-at-init
-loop-at-init c =
-    record {
-      counted = refl;
-      sizes = refl;
-      width = c.requires.ready.room.width_is;
-      next = c.requires.ready.next;
-      stands = rw c.start-at.ensures (Stands-start c.args.nfa.now (search_of c.args.input.now)
-          (is_match c.args.nfa.now) c.args.starts.now c.requires.ready.starts c.args.slots.now
-          c.args.threads.now.reached.seen c.requires.ready.curr);
-      none = rw c.start-at.ensures (NoneBefore-begin c.args.nfa.now (search_of c.args.input.now));
-      same = refl;
-    }
+loop-at-init c = record {
+  counted = refl;
+  sizes = refl;
+  width = c.requires.ready.room.width_is;
+  next = c.requires.ready.next;
+  stands = Stands-ready c.args.slots.now c.start-at.ensures c.requires.ready;
+  none = rw c.start-at.ensures (NoneBefore-begin c.args.nfa.now (search_of c.args.input.now));
+  same = refl;
+}
 
 pub returns-then-is_empty-clause-answer : goal.returns-then-is_empty-clause-answer
 returns-then-is_empty-clause-answer c =
@@ -56,10 +52,10 @@ returns-then-is_some-clause-answer c =
     let x = search_of c.args.input.now in
     let items = rw c.loop-at.invariant.width at c.add_start.ensures.curr in
     let crosses = rw (c.add_start.ensures.seen, items) at c.nexts.ensures.crosses in
-    let s = ScansAll-joined c.args.nfa.now x c.args.starts.now c.loop-at.at (length c.args.slots.now)
-    c.loop-at.invariant.stands.scans in
     earliest-over c.args.nfa.now x c.loop-at.at (length c.args.slots.now) c.args.starts.now.state
-    c.args.starts.now.limit c.args.past_match crosses s c.loop-at.invariant.none c.half_at-hit.result
+    c.args.starts.now.limit c.args.past_match crosses
+    (ScansAll-joined c.args.nfa.now x c.args.starts.now c.loop-at.at (length c.args.slots.now)
+    c.loop-at.invariant.stands.scans) c.loop-at.invariant.none c.half_at-hit.result
     c.half_at-hit.ensures (sym c.is_some.ensures ∙ c.if-is_some.true) (sym (c.nexts.auto.slots ∙ c.loop-at.auto.slots))
 
 pub loop-at-preserved : goal.loop-at-preserved
@@ -68,8 +64,6 @@ loop-at-preserved c =
     let items = rw c.loop-at.invariant.width at c.add_start.ensures.curr in
     let crosses = rw (c.add_start.ensures.seen, items) at c.nexts.ensures.crosses in
     let low : x.start ≤ c.loop-at.at = omega (arith, c.start-at.ensures, c.loop-at.auto.at) in
-    let s = ScansAll-joined c.args.nfa.now x c.args.starts.now c.loop-at.at (length c.args.slots.now)
-    c.loop-at.invariant.stands.scans in
     let no_hit = EndsAt-none c.loop-at.at c.nexts.result c.half_at-hit.result c.half_at-hit.ensures
     (sym c.is_some.ensures ∙ c.if-is_some.false) in
     let hit = rw no_hit at crosses.is_hit in
@@ -81,7 +75,9 @@ loop-at-preserved c =
       stands = Stands-next c.loop-at.invariant.stands (Crossed-given _ _ _ crosses.gives) (λ v t. t)
           c.requires.ready.starts.leads low (inr no_hit);
       none = NoneBefore-cross c.args.nfa.now x c.loop-at.at (length c.args.slots.now) c.args.starts.now.state
-          c.args.starts.now.limit crosses s no_hit c.loop-at.invariant.none;
+          c.args.starts.now.limit crosses
+          (ScansAll-joined c.args.nfa.now x c.args.starts.now c.loop-at.at (length c.args.slots.now)
+          c.loop-at.invariant.stands.scans) no_hit c.loop-at.invariant.none;
       same = hit.1 ∙ c.loop-at.invariant.same;
     }
 

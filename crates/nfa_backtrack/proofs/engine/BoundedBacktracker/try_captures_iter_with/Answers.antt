@@ -2,29 +2,4 @@
 use Rattle.nfa_backtrack.proofs.engine.BoundedBacktracker.try_captures_iter_with.Goals as goal
 
 pub returns : goal.returns
-returns c =
-    let made = c.fill_from.ensures in
-    let given = made.given in
-    record {
-      same_reference = made.same_reference;
-      same_cache = made.same_cache;
-      engine = made.engine;
-      walk = made.walk;
-      going = made.going;
-      runs = given.runs;
-      first = given.first;
-      next = given.next;
-      rows = given.rows;
-      first_rows = given.first_rows;
-      next_row = given.next_row;
-      all_rows = given.all_rows;
-      matches = given.matches;
-      first_matches = given.first_matches;
-      next_match = given.next_match;
-      all_matches = given.all_matches;
-      groups = given.groups;
-      inside = given.inside;
-      apart = given.apart;
-      refused = made.refused;
-      searches = made.searches;
-    }
+returns c = assumption (c.fill_from.ensures, c.fill_from.ensures.given)

@@ -1,64 +1,33 @@
 -- Pattern and slots are those of the answer, for as many slots as there are.
-use Rattle.std.proofs.Common.{◌≡◌, refl, ◌+◌, ◌-◌, min, arith, length, ap, ◌∙◌, sym}
+use Rattle.std.proofs.Common.{◌≤◌, refl, length, ap, ◌∙◌}
 use Rattle.std.specs.Prelude.{None, Some}
-use Rattle.std.proofs.lemmas.List.{length-take}
 use Rattle.regex_search_core.specs.Search.{search_of}
 use Rattle.regex_search_core.specs.Groups.{slot_count}
 use Rattle.regex_search_core.specs.Patterns.{number_of}
-use Rattle.nfa_paths.specs.Exploring.{Slots}
 use Rattle.nfa_paths.proofs.RestartLemmas.{answer-of}
-use Rattle.nfa_pikevm_scan.specs.Scans.{blank}
 use Rattle.thompson_nfa.specs.Automaton.{IsAutomaton}
 use Rattle.nfa_pikevm.specs.Engines.{kind_of}
-use Rattle.nfa_pikevm.proofs.EngineLemmas.{row-whole, slots-pattern}
-use Rattle.nfa_pikevm_scan.proofs.RowLemmas.{length-blank}
+use Rattle.nfa_pikevm.proofs.EngineLemmas.{row-found, slots-pattern}
 use Rattle.nfa_pikevm.proofs.engine.PikeVM.search_with.Goals as goal
 
 pub returns-in_err-half-clause-answer : goal.returns-in_err-half-clause-answer
 returns-in_err-half-clause-answer c =
-    let row = c.search-half.new.slots in
-    let cut : c.min-width.result ≡ min (length c.args.slots.now) (slot_count c.self.inside.nfa.groups) =
-    c.min-width.ensures ∙ ap (min (length c.args.slots.now))
-    (c.slot_len.ensures.value ∙ ap slot_count c.group_info.ensures.value) in
-    let size : length row ≡ c.min-width.result =
-    omega (
-      arith,
-      c.search-half.auto.slots,
-      length-take c.min-width.result c.args.found.now,
-      cut,
-      rw (← c.self.view_is) at c.requires.row,
-    ) in
-    let k = length c.args.slots.now - length row in
-    let rest : Slots = blank k in
-    let left : length rest + c.min-width.result ≡ length c.args.slots.now = omega (arith, length-blank k, size, cut) in
+    let long : slot_count c.self.inside.nfa.groups ≤ length c.args.found.now = rw (← c.self.view_is) at c.requires.row in
     rw (← c.self.view_is, ← c.get_match_kind.ensures, c.from_residual.ensures, c.copy_out.ensures)
     (answer-of c.self.inside.nfa c.get_match_kind.result _ (search_of c.args.input.now) None None refl
-    c.in_err-half.ensures.answer _
-    (row-whole c.self.inside.nfa c.group_info.ensures.valid row rest _ _ cut size left
-    (ap blank (sym (length-blank k)))))
+    c.in_err-half.ensures.answer _ (row-found c.self.inside.nfa c.group_info.ensures.valid c.search-half.new.slots
+    c.args.found.now (length c.args.slots.now) c.min-width.ensures
+    (c.slot_len.ensures.value ∙ ap slot_count c.group_info.ensures.value) long c.search-half.auto.slots))
 
 pub returns-clause-answer : goal.returns-clause-answer
 returns-clause-answer c =
-    let row = c.search-half.new.slots in
-    let cut : c.min-width.result ≡ min (length c.args.slots.now) (slot_count c.self.inside.nfa.groups) =
-    c.min-width.ensures ∙ ap (min (length c.args.slots.now))
-    (c.slot_len.ensures.value ∙ ap slot_count c.group_info.ensures.value) in
-    let size : length row ≡ c.min-width.result =
-    omega (
-      arith,
-      c.search-half.auto.slots,
-      length-take c.min-width.result c.args.found.now,
-      cut,
-      rw (← c.self.view_is) at c.requires.row,
-    ) in
-    let k = length c.args.slots.now - length row in
-    let rest : Slots = blank k in
-    let left : length rest + c.min-width.result ≡ length c.args.slots.now = omega (arith, length-blank k, size, cut) in
+    let long : slot_count c.self.inside.nfa.groups ≤ length c.args.found.now = rw (← c.self.view_is) at c.requires.row in
     rw (← c.self.view_is, ← c.get_match_kind.ensures, c.copy_out.ensures)
     (answer-of c.self.inside.nfa c.get_match_kind.result _ (search_of c.args.input.now) (Some c.in_ok-half.field-0)
     (Some (number_of c.pattern.result)) (ap Some c.pattern.ensures)
-    c.in_ok-half.ensures.answer _ (row-whole c.self.inside.nfa c.group_info.ensures.valid row rest _ _ cut size left
-    (ap blank (sym (length-blank k)))))
+    c.in_ok-half.ensures.answer _ (row-found c.self.inside.nfa c.group_info.ensures.valid c.search-half.new.slots
+    c.args.found.now (length c.args.slots.now) c.min-width.ensures
+    (c.slot_len.ensures.value ∙ ap slot_count c.group_info.ensures.value) long c.search-half.auto.slots))
 
 pub returns-clause-pattern : goal.returns-clause-pattern
 returns-clause-pattern c =
