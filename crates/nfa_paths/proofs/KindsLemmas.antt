@@ -90,7 +90,8 @@ apart (c ∷ before) a after n b i e =
     elim i [
       | inl here ↦
           let same_pair : c.0 ≡ a.0 = ap (λ x. x.0) (sym here) ∙ e in
-          n.0 (rw same_pair (In-map (λ (b : Pair × Slots). b.0) a (before ++ a ∷ after) (In-append_right a before (a ∷ after) (inl refl))))
+          n.0 (rw same_pair (In-map (λ (b : Pair × Slots). b.0) a (before ++ a ∷ after)
+          (In-append_right a before (a ∷ after) (inl refl))))
       | inr later ↦ apart before a after n.1 b later e
     ]
 

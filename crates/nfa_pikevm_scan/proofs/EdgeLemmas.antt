@@ -28,7 +28,8 @@ module _ (x : Search) (at : ℕ) (slots : Slots) where
   pub edges-move : (node : Node) → rests node ≡ true
       → map (λ v. (v.0, slots)) (edges_of x node at)
       ≡ kept_target (option_and_then (target_on node) (byte_at x at)) slots
-  edges-move node r = ap (map (λ (v : Pair). (v.0, slots))) (resting-edges x node at r) ∙ moves-target node (byte_at x at)
+  edges-move node r =
+      ap (map (λ (v : Pair). (v.0, slots))) (resting-edges x node at r) ∙ moves-target node (byte_at x at)
 
 -- the moves of one pair in memory
 pub moves-one : (edges : Pair → List Pair) (v : Pair) (slots : Slots) (es : List Pair) → edges v ≡ es

@@ -40,7 +40,8 @@ byte-leads x node p (Some b) within = of (target_on node b) refl
 -- a state that rests
 rests-leads : (x : Search) (node : Node) (p : ℕ) → rests node ≡ true → LeadsToOne x node p (edges_of x node p)
 rests-leads x node p r =
-    subst (LeadsToOne x node p) (sym (resting-edges x node p r)) (byte-leads x node p (byte_at x p) (byte_at-within x p))
+    subst (LeadsToOne x node p) (sym (resting-edges x node p r))
+    (byte-leads x node p (byte_at x p) (byte_at-within x p))
 
 -- a state of the NFA leads to its states
 node-leads : (nfa : Automaton) (s : ℕ) → s < length nfa.states → All (LeadsBelow (length nfa.states)) nfa.states

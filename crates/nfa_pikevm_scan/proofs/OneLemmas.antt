@@ -52,6 +52,7 @@ ClosuresGive-one nfa x takes at met items old kept k row ended then more new emp
   where
     begun : NextsLeadTo nfa x takes at met items old items met kept old
     begun = NextsLeadTo-begin nfa x takes at met items old kept empty clear
+
     of : (b : Bool) → ended ≡ b → ClosuresGive nfa x takes at met items old then more new
     of true is = NextsLeadTo-ended nfa x takes at met items old items [] met kept old k row one begun ended then more
         new a is

@@ -32,7 +32,8 @@ returns-in-Some-2-clause-answer c =
     let size : length c.walk.new.slots ≡ length c.args.slots.now = c.walk.auto.slots ∙ c.loop-at.auto.slots in
     let unset : c.args.slots.now ≡ replicate (length c.walk.new.slots) None = c.requires.ready.unset ∙ ap
     (λ n. replicate n None) (sym size) in
-    starts-some c.args.nfa.now (search_of c.args.input.now) c.args.scratch.now.visited c.requires.ready.clear c.args.slots.now
+    starts-some c.args.nfa.now (search_of c.args.input.now) c.args.scratch.now.visited c.requires.ready.clear
+    c.args.slots.now
     _ c.in-Some-2.half c.walk.new.slots unset
     (EndsAt-along c.args.nfa.now (search_of c.args.input.now) follows (walks rest))
 
@@ -43,7 +44,8 @@ loop-at-init c =
     let low : (search_of c.args.input.now).start
     ≤ c.next_start-at.result = omega (arith, c.next_start-at.ensures.low) in
     record {
-      follows = Carries-first c.args.nfa.now (search_of c.args.input.now) c.args.first.now.may_begin c.requires.ready.first
+      follows = Carries-first c.args.nfa.now (search_of c.args.input.now) c.args.first.now.may_begin
+          c.requires.ready.first
           c.args.scratch.now.visited c.args.slots.now
           c.in-Some.sid c.skip_limit-stop.result c.next_start-at.result c.start_limit-limit.result low
           (λ past. c.next_start-at.ensures.stays (omega arith) ∙ start) c.skip_limit-stop.ensures.anchored known
@@ -93,7 +95,8 @@ pub returns-clause-answer : goal.returns-clause-answer
 returns-clause-answer c =
     let over : c.start_limit-limit.result ≤ c.loop-at.at = c.loop-at-test.false in
     let follows = rw (pairs_from-end c.in-Some.sid over) at c.loop-at.invariant.follows in
-    starts-none c.args.nfa.now (search_of c.args.input.now) c.args.scratch.now.visited c.requires.ready.clear c.args.slots.now
+    starts-none c.args.nfa.now (search_of c.args.input.now) c.args.scratch.now.visited c.requires.ready.clear
+    c.args.slots.now
     c.loop-at.scratch.visited.turns
     (Carries-ends c.args.nfa.now (search_of c.args.input.now) follows
     (Ends-none c.args.nfa.now (search_of c.args.input.now) c.loop-at.scratch.visited c.loop-at.slots))

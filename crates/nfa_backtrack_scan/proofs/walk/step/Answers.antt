@@ -180,7 +180,8 @@ pushes : (c : goal.After-to-in-Union)
     c.args.scratch.now.stack.items c.push_alternates.new.stack.items
 pushes c =
     rw c.deref-in-Union-2.ensures.value at
-    (c.in_ok-push_alternates-in-Union.ensures (search_of c.args.input.now) c.requires.ready.is_place c.byte_at-byte.ensures)
+    (c.in_ok-push_alternates-in-Union.ensures (search_of c.args.input.now) c.requires.ready.is_place
+    c.byte_at-byte.ensures)
 
 pub returns-in_ok-push_alternates-in-Union-clause-paid : goal.returns-in_ok-push_alternates-in-Union-clause-paid
 returns-in_ok-push_alternates-in-Union-clause-paid c =
@@ -199,7 +200,12 @@ returns-in_ok-push_alternates-in-Union-clause-goes c =
     let split = first-drop c.in-Union.alternates.items c.in-Some.first.now first in
     let state : c.in-Some.first.now < length c.args.nfa.now.states = (rw split at below) 0 0 (omega arith) in
     rw c.to-in-Union.ensures (
-      record { state = state; from = c.requires.ready.is_place.from; to = c.requires.ready.is_place.to; row = c.requires.ready.is_place.row },
+      record {
+        state = state;
+        from = c.requires.ready.is_place.from;
+        to = c.requires.ready.is_place.to;
+        row = c.requires.ready.is_place.row;
+      },
       λ work. Goes-live c.args.nfa.now (search_of c.args.input.now) t c.in-Union.alternates.items is _ first (pushes c)
           c.args.slots.now work,
     )
@@ -231,7 +237,8 @@ returns-in_err-run_loop-in-BinaryUnion-clause-refused c =
     let t = c.mark-in-BinaryUnion.ensures.taken c.if-not-mark-3.false in
     let is = rw c.in-BinaryUnion.is at c.state_at.ensures.node in
     let below = rw c.in-BinaryUnion.is at c.state_at.ensures.leads in
-    let union = TurnsLead-union t c.args.place.row c.requires.ready.is_place.row c.in-BinaryUnion.alt1 c.in-BinaryUnion.alt2 is
+    let union = TurnsLead-union t c.args.place.row c.requires.ready.is_place.row c.in-BinaryUnion.alt1
+    c.in-BinaryUnion.alt2 is
     below.0 below.1 c.args.scratch.now.stack.items in
     let round = rw (c.in_ok-push-in-BinaryUnion.ensures.items, c.later.ensures) at
     c.in_err-run_loop-in-BinaryUnion.ensures.refused in
@@ -247,7 +254,8 @@ round c =
     let is = rw c.in-BinaryUnion.is at c.state_at.ensures.node in
     let below = rw c.in-BinaryUnion.is at c.state_at.ensures.leads in
     TurnsLead-then c.args.nfa.now (search_of c.args.input.now)
-    (TurnsLead-union t c.args.place.row c.requires.ready.is_place.row c.in-BinaryUnion.alt1 c.in-BinaryUnion.alt2 is below.0
+    (TurnsLead-union t c.args.place.row c.requires.ready.is_place.row c.in-BinaryUnion.alt1 c.in-BinaryUnion.alt2 is
+    below.0
     below.1 c.args.scratch.now.stack.items)
     (rw (c.in_ok-push-in-BinaryUnion.ensures.items, c.later.ensures, c.to-preferred.ensures) at
     c.in_ok-run_loop-in-BinaryUnion.ensures.leads)
@@ -268,7 +276,12 @@ returns-in_default-byte_loop_at-clause-paid c =
     rw (c.in_ok-push-in-BinaryUnion.ensures.items, c.later.ensures)
     (PaidFor-push t (BinaryUnion c.in-BinaryUnion.alt1 c.in-BinaryUnion.alt2) is _ _
     (Step c.in-BinaryUnion.alt2 c.args.place.at c.args.place.row) _ c.requires.ready.within
-    (record { state = below.1; from = c.requires.ready.is_place.from; to = c.requires.ready.is_place.to; row = c.requires.ready.is_place.row })
+    (record {
+      state = below.1;
+      from = c.requires.ready.is_place.from;
+      to = c.requires.ready.is_place.to;
+      row = c.requires.ready.is_place.row;
+    })
     (omega arith))
 
 pub returns-in_default-byte_loop_at-clause-goes : goal.returns-in_default-byte_loop_at-clause-goes
@@ -277,7 +290,12 @@ returns-in_default-byte_loop_at-clause-goes c =
     let is = rw c.in-BinaryUnion.is at c.state_at.ensures.node in
     let below = rw c.in-BinaryUnion.is at c.state_at.ensures.leads in
     rw c.to-preferred.ensures (
-      record { state = below.0; from = c.requires.ready.is_place.from; to = c.requires.ready.is_place.to; row = c.requires.ready.is_place.row },
+      record {
+        state = below.0;
+        from = c.requires.ready.is_place.from;
+        to = c.requires.ready.is_place.to;
+        row = c.requires.ready.is_place.row;
+      },
       λ work. rw (c.in_ok-push-in-BinaryUnion.ensures.items, c.later.ensures)
           (Goes-both t c.in-BinaryUnion.alt1 c.in-BinaryUnion.alt2 is c.args.slots.now c.args.scratch.now.stack.items
           work _),
@@ -304,7 +322,12 @@ returns-after-slot-slots-clause-goes c =
     let is = rw c.in-Capture.is at c.state_at.ensures.node in
     let below = rw c.in-Capture.is at c.state_at.ensures.leads in
     rw c.to-in-Capture.ensures (
-      record { state = below; from = c.requires.ready.is_place.from; to = c.requires.ready.is_place.to; row = c.requires.ready.is_place.row },
+      record {
+        state = below;
+        from = c.requires.ready.is_place.from;
+        to = c.requires.ready.is_place.to;
+        row = c.requires.ready.is_place.row;
+      },
       λ work.
           elim c.if-slot-slots.branch [
             | then-slot-slots+in_ok-save-in-Capture w ↦

@@ -12,7 +12,8 @@ use Rattle.nfa_pikevm.proofs.engine.PikeVM.search_with.Goals as goal
 
 pub returns-in_err-half-clause-answer : goal.returns-in_err-half-clause-answer
 returns-in_err-half-clause-answer c =
-    let long : slot_count c.self.inside.nfa.groups ≤ length c.args.found.now = rw (← c.self.view_is) at c.requires.row in
+    let long : slot_count c.self.inside.nfa.groups ≤ length c.args.found.now =
+    rw (← c.self.view_is) at c.requires.row in
     rw (← c.self.view_is, ← c.get_match_kind.ensures, c.from_residual.ensures, c.copy_out.ensures)
     (answer-of c.self.inside.nfa c.get_match_kind.result _ (search_of c.args.input.now) None None refl
     c.in_err-half.ensures.answer _ (row-found c.self.inside.nfa c.group_info.ensures.valid c.search-half.new.slots
@@ -21,7 +22,8 @@ returns-in_err-half-clause-answer c =
 
 pub returns-clause-answer : goal.returns-clause-answer
 returns-clause-answer c =
-    let long : slot_count c.self.inside.nfa.groups ≤ length c.args.found.now = rw (← c.self.view_is) at c.requires.row in
+    let long : slot_count c.self.inside.nfa.groups ≤ length c.args.found.now =
+    rw (← c.self.view_is) at c.requires.row in
     rw (← c.self.view_is, ← c.get_match_kind.ensures, c.copy_out.ensures)
     (answer-of c.self.inside.nfa c.get_match_kind.result _ (search_of c.args.input.now) (Some c.in_ok-half.field-0)
     (Some (number_of c.pattern.result)) (ap Some c.pattern.ensures)
