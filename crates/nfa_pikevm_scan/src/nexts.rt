@@ -1,6 +1,7 @@
 //! All states side by side, from one position to the next.
 ghost use Rattle.std.specs.Prelude.{◌≡◌, ◌*◌, ◌<◌, ◌≤◌, [], ◌∷◌, false, length, replicate, All};
 ghost use Rattle.regex_search_core.specs.Search.{search_of};
+ghost use Rattle.nfa_scan_core.specs.FirstBytes.{IsRefused};
 ghost use Rattle.nfa_pikevm_scan.specs.Needs.{stack_frames};
 ghost use Rattle.nfa_pikevm_scan.specs.Rows.{items_of};
 ghost use Rattle.nfa_pikevm_scan.specs.States.{HasRoom, IsClosureContext, KeepsRoom, NextsGive};
@@ -13,6 +14,7 @@ use crate::frame::FollowEpsilon;
 use crate::sink::{MatchSink, SlotsSink};
 use crate::slot::{Slot, unset_row};
 use crate::threads::Threads;
+use nfa_scan_core::first_bytes::FirstBytes;
 use nfa_scan_core::transitions::byte_at;
 use regex_search_core::{Input, PatternID, StateID};
 use std::mem;
@@ -298,18 +300,22 @@ pub fn nexts_of_lone(
 /// Follows the start state at a position where no other state is kept, and goes on to those that its byte leads to. It
 /// writes to the slots as to the state's row, so it copies no row. Returns the first match, and leaves its slots. If
 /// there is none, it unsets them.
+///
+/// Requires a position that may not be skipped for its byte. Only that clause uses the table of first bytes.
 #[inline(always)]
 pub fn nexts_of_start(
-    nfa: &NFA,
-    input: &Input<'_>,
-    at: usize,
+    here: &ClosureContext<'_, '_>,
+    first: &FirstBytes,
     state: StateID,
+    stop: usize,
     threads: &mut Threads,
     slots: &mut [Slot],
 ) -> Option<PatternID>
-    requires place { at ≤ (search_of input.now).end }
-    requires state { state < length nfa.now.states }
-    requires room { HaveRows nfa.now (length slots.old) threads.old }
+    requires here { IsClosureContext here.now }
+    requires due { here.now.at < stop
+        → IsRefused first.now.may_begin (search_of here.now.input.now) here.now.at → ⊥ }
+    requires state { state < length here.now.nfa.now.states }
+    requires room { HaveRows here.now.nfa.now (length slots.old) threads.old }
     requires unset { slots.old ≡ blank (length slots.old) }
     requires empty { threads.old.reached.next.items ≡ [] }
     ensures next { threads.new.reached.next.items ≡ [] }
@@ -317,9 +323,9 @@ pub fn nexts_of_start(
     ensures sizes { SameSizes threads.old threads.new }
     ensures grows { threads.old.reached.seen.turns ≤ threads.new.reached.seen.turns }
     ensures scans { threads.new.scans ≡ threads.old.scans }
-    ensures crosses { NextsGive nfa.now (search_of input.now) at false threads.old.reached.seen
-        ((state, blank (length slots.old)) ∷ []) slots.old result threads.new.reached.seen threads.new.curr.items
-        slots.new }
+    ensures crosses { NextsGive here.now.nfa.now (search_of here.now.input.now) here.now.at false
+        threads.old.reached.seen ((state, blank (length slots.old)) ∷ []) slots.old result threads.new.reached.seen
+        threads.new.curr.items slots.new }
 {
     let Threads {
         frames,
@@ -327,15 +333,9 @@ pub fn nexts_of_start(
         ..
     } = threads;
     reached.seen.clear();
-    let here = ClosureContext {
-        nfa,
-        input,
-        at,
-        byte: byte_at(input, at),
-    };
     let mut top = 0;
     let frames = frames.as_mut_slice();
-    let hit = next_match(&here, state, frames, &mut top, reached, slots);
+    let hit = next_match(here, state, frames, &mut top, reached, slots);
     if hit.is_none() {
         unset_row(slots);
     }

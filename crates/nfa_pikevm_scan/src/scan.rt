@@ -10,11 +10,13 @@ ghost use Rattle.nfa_scan_core.specs.FirstBytes.{IsFirstBytes, IsRefused};
 ghost use Rattle.nfa_pikevm_scan.specs.Scans.{blank, HaveRoom, HaveRows, SameSizes, MayScan, AddsStart, with_start};
 ghost use Rattle.nfa_pikevm_scan.specs.Scans.{half_found, AreAt, AreStarts, IsPaidAt, IsWithinTurns, SearchesFirst};
 
+use crate::closure::ClosureContext;
 use crate::nexts::{nexts, nexts_of_lone, nexts_of_start, set_up};
 use crate::slot::{Slot, unset_row};
 use crate::threads::Threads;
 use nfa_scan_core::first_bytes::FirstBytes;
 use nfa_scan_core::starts::{next_start, skip_limit, start_limit, start_state};
+use nfa_scan_core::transitions::byte_at;
 use regex_search_core::{HalfMatch, Input, MatchKind, PatternID, StateID};
 use thompson_nfa::NFA;
 
@@ -203,8 +205,14 @@ fn scan_first(
 {
     let mut limit = starts.limit;
     let mut at = pass_over(first, input, input.start(), starts.stop);
+    let here = ClosureContext {
+        nfa,
+        input,
+        at,
+        byte: byte_at(input, at),
+    };
     let mut found = half_at(
-        nexts_of_start(nfa, input, at, starts.state, threads, slots),
+        nexts_of_start(&here, first, starts.state, starts.stop, threads, slots),
         at,
     );
     if found.is_some() {
