@@ -1,4 +1,4 @@
--- From what the table of first bytes promises to what callers are told.
+-- From what the table of first bytes promises to what a contract says.
 use Rattle.std.proofs.Common.{◌≡◌, ◌<◌, ℕ, inl, inr, Bool, true, false, not, List, [], ◌∷◌, subst}
 use Rattle.std.specs.Prelude.{slice_index_or}
 use Rattle.std.proofs.lemmas.Bool.{not-false, not-true}

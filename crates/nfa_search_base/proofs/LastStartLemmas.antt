@@ -24,7 +24,7 @@ whole-raised : (x : Search) (i : ℕ) (r : Option (List Pair)) → IsWhole x r �
 whole-raised x i None h = h
 whole-raised x i (Some p) h = boundary-raised x i p h
 
--- the scan after so many restarts is the last one
+-- the scan after this number of restarts is the last one
 pub last-scan : (x y : Search) (restarts scans : ℕ) → y ≡ raised x restarts → scans ≡ restarts + 1
     → y ≡ raised x (scans - 1)
 last-scan x y restarts scans is counted =
