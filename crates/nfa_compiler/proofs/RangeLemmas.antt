@@ -13,7 +13,7 @@ use Rattle.regex_nfa.specs.declared.state.State as their_state
 use Rattle.regex_nfa.specs.declared.state.State.TheVariants as their
 use Rattle.regex_nfa.specs.declared.nfa.Nfa.{Nfa}
 use Rattle.thompson_nfa.specs.Automaton.{Automaton, IsAutomaton, Node, LeadsBelow, SlotBelow, PatternBelow}
-use Rattle.thompson_nfa.specs.Automaton.Node.{ByteRange, Sparse, Dense, Look, Union, BinaryUnion, Capture, Fail, Match}
+use Rattle.thompson_nfa.specs.Automaton.Node.{Sparse, Dense, Union, BinaryUnion, Capture, Fail, Match}
 use Rattle.regex_syntax.specs.declared.Parsed.{Parsed}
 use Rattle.thompson_nfa.specs.Flaws.{IsFirstFlaw}
 use Rattle.thompson_nfa.specs.declared.flaw.Flaw.{Flaw}
@@ -33,12 +33,10 @@ some-wider n m (Some s) wide h = omega arith
 
 node-wider : (n m slots more patterns all : ℕ) (node : Node) → n ≤ m → slots ≤ more → patterns ≤ all
     → IsInRange n slots patterns node → IsInRange m more all node
-node-wider n m slots more patterns all (ByteRange t) long wide many h = (omega (arith, h.0), tt, tt)
 node-wider n m slots more patterns all (Sparse ts) long wide many h =
     (λ i d inside. omega (arith, h.0 i d inside), tt, tt)
 node-wider n m slots more patterns all (Dense targets) long wide many h =
     (λ i d inside. some-wider n m (slice_index_or targets i d) long (h.0 i d inside), tt, tt)
-node-wider n m slots more patterns all (Look look next) long wide many h = (omega (arith, h.0), tt, tt)
 node-wider n m slots more patterns all (Union alternates) long wide many h =
     (λ i d inside. omega (arith, h.0 i d inside), tt, tt)
 node-wider n m slots more patterns all (BinaryUnion alt1 alt2) long wide many h =
@@ -47,6 +45,7 @@ node-wider n m slots more patterns all (Capture next slot) long wide many h =
     (omega (arith, h.0), omega (arith, h.1), tt)
 node-wider n m slots more patterns all Fail long wide many h = (tt, tt, tt)
 node-wider n m slots more patterns all (Match pattern) long wide many h = (tt, tt, omega (arith, h.2))
+node-wider n m slots more patterns all _ long wide many h = (omega (arith, h.0), tt, tt)
 
 -- more of them, after the old ones
 pub more-in-range : (old new : List Node) (slots more patterns all : ℕ) → Adds old new → slots ≤ more → patterns ≤ all
@@ -71,7 +70,6 @@ module _ (nodes : List Node) (nfa : Nfa) (s : Site) (block : IsBlock nodes nfa s
 
   state-fits : (q : ℕ) (state : their_state.State) (n : Node) → state_of nfa q ≡ state
       → Stands nfa.transitions.items s state n → Fits n
-  state-fits q (their.ByteRange t) n is stands = subst Fits (sym stands.1) (omega (arith, stands.0), tt, tt)
   state-fits q (their.Sparse from to) n is stands =
       subst Fits (sym stands.1) (
         All-map (λ t. t.next < length nodes) (moved s) (slice_range nfa.transitions.items from to)
@@ -85,9 +83,9 @@ module _ (nodes : List Node) (nfa : Nfa) (s : Site) (block : IsBlock nodes nfa s
       let sound = sound_of nfa q (their.Save slot next) is in
       let place : slot_in s slot ≡ s.slots + (slot - 2) = cond-false _ _ _ (le-ltb slot 2 stands.0) in
       subst Fits (sym stands.2) (omega (arith, stands.1), omega (arith, stands.0, sound.0), tt)
-  state-fits q (their.Look l next) n is stands = subst Fits (sym stands.1) (omega (arith, stands.0), tt, tt)
   state-fits q their.Match n is stands = subst Fits (sym stands) (omega arith, omega arith, tt)
   state-fits q their.Fail n is stands = subst Fits (sym stands) (tt, tt, tt)
+  state-fits q _ n is stands = subst Fits (sym stands.1) (omega (arith, stands.0), tt, tt)
 
   pub block-fits : (i : ℕ) → s.base ≤ i → i < length nodes → Fits (slice_index_or nodes i Fail)
   block-fits i from to = elim (cases_lt i (match_at s)) [

@@ -7,8 +7,7 @@ use Rattle.std.proofs.lemmas.Bool.{cases_lt, eq-eqb, ne_eqb}
 use Rattle.std.proofs.lemmas.List.{length-take-le}
 use Rattle.std.proofs.lemmas.Option.{slice_get-get_or, slice_get_past}
 use Rattle.regex_search_core.specs.Search.{Search}
-use Rattle.thompson_nfa.specs.Automaton.{Automaton, Node}
-use Rattle.thompson_nfa.specs.Automaton.Node.{Look}
+use Rattle.thompson_nfa.specs.Automaton.{Automaton}
 use Rattle.thompson_nfa.specs.Looks.{differ, is_byte_at, is_byte_before, is_word_after, is_word_before, is_word_byte}
 use Rattle.thompson_nfa.specs.Looks.{look_holds}
 use Rattle.thompson_nfa.specs.declared.look.Look as looks
@@ -17,10 +16,10 @@ use Rattle.thompson_nfa.specs.declared.look.Look.TheVariants.{WordAsciiNegate, W
 use Rattle.thompson_nfa.specs.declared.look.Look.TheVariants.{WordStartAscii, WordEndAscii, WordStartUnicode}
 use Rattle.thompson_nfa.specs.declared.look.Look.TheVariants.{WordEndUnicode, WordStartHalfAscii, WordEndHalfAscii}
 use Rattle.thompson_nfa.specs.declared.look.Look.TheVariants.{WordStartHalfUnicode, WordEndHalfUnicode}
-use Rattle.nfa_engines.specs.AlikeLaws.{byte_before, AreSidesSame, EachLook, IfLook, IsLineEdge, IsOfLines}
+use Rattle.nfa_engines.specs.AlikeLaws.{byte_before, AreSidesSame, EachLook, IsLineEdge, IsOfLines}
 use Rattle.nfa_engines.specs.AlikeLaws.{IsOfWholeLines, ReadsBytes}
-use Rattle.nfa_engines.specs.SpanLaws.{cut_out, AreBytesMoved, HoldAlike, HoldsAlike, IsSpanMoved}
-use Rattle.nfa_engines.proofs.SpanLemmas.{cut-bytes, cut-moved}
+use Rattle.nfa_engines.specs.SpanLaws.{cut_out, AreBytesMoved, HoldAlike, IsSpanMoved, LookHoldsAlike}
+use Rattle.nfa_engines.proofs.SpanLemmas.{cut-bytes, cut-moved, each-look}
 
 -- there is such a byte, and it is this one
 abbrev is : ℕ → Option ℕ → Bool
@@ -130,17 +129,6 @@ module _ (h : List ℕ) (at : ℕ) (within : at ≤ length h) where
   holds-between WordStartHalfUnicode r = absurd r
   holds-between WordEndHalfUnicode r = absurd r
 
--- the assertions of an NFA hold alike if each does that the NFA may have
-alike-from : (P : looks.Look → Type 0) (nfa : Automaton) (k : ℕ) (x y : Search)
-    → ((look : looks.Look) → P look → (at : ℕ) → x.start ≤ at → at ≤ x.end
-    → look_holds look y.haystack (at + k) ≡ look_holds look x.haystack at)
-    → EachLook P nfa → HoldAlike nfa k x y
-alike-from P nfa k x y holds each = λ i d inside. of (get_or nfa.states i d) (each i d inside)
-  where
-    of : (node : Node) → IfLook P node → HoldsAlike k x y node
-    of (Look look next) h = holds look h
-    of _ h = tt
-
 module _ (k : ℕ) (x y : Search) (span : IsSpanMoved k x y) (bytes : AreBytesMoved k x y) where
   -- the byte before a position after the start of the span
   before-inside : (at : ℕ) → x.start < at → at ≤ x.end → byte_before y.haystack (at + k) ≡ byte_before x.haystack at
@@ -185,7 +173,7 @@ module _ (k : ℕ) (x y : Search) (span : IsSpanMoved k x y) (bytes : AreBytesMo
 pub same-sides : (nfa : Automaton) (k : ℕ) (x y : Search) → EachLook ReadsBytes nfa → x.end ≤ length x.haystack
     → y.end ≤ length y.haystack → IsSpanMoved k x y → AreBytesMoved k x y → AreSidesSame x y → HoldAlike nfa k x y
 same-sides nfa k x y each x_within y_within span bytes sides =
-    alike-from ReadsBytes nfa k x y (same-holds k x y span bytes sides x_within y_within) each
+    each-look ReadsBytes (LookHoldsAlike k x y) nfa (same-holds k x y span bytes sides x_within y_within) each
 
 -- whole lines
 
@@ -245,7 +233,7 @@ module _ (k : ℕ) (x y : Search) (span : IsSpanMoved k x y) (bytes : AreBytesMo
 pub lines-alike : (nfa : Automaton) (k : ℕ) (x y : Search) → EachLook IsOfLines nfa → IsOfWholeLines x
     → IsOfWholeLines y → IsSpanMoved k x y → AreBytesMoved k x y → HoldAlike nfa k x y
 lines-alike nfa k x y each x_lines y_lines span bytes =
-    alike-from IsOfLines nfa k x y (lines-hold k x y span bytes x_lines y_lines) each
+    each-look IsOfLines (LookHoldsAlike k x y) nfa (lines-hold k x y span bytes x_lines y_lines) each
 
 -- what is cut out is of whole lines
 cut-length : (x : Search) → x.end ≤ length x.haystack → length (cut_out x).haystack ≡ x.end - x.start

@@ -12,12 +12,13 @@ use Rattle.regex_search_core.specs.declared.search.MatchKind.{MatchKind}
 use Rattle.thompson_nfa.specs.Automaton.{Automaton, Node}
 use Rattle.thompson_nfa.specs.Automaton.Node.{Look, Union, BinaryUnion, Capture, Fail}
 use Rattle.thompson_nfa.specs.Looks.{look_holds}
+use Rattle.thompson_nfa.specs.declared.look.Look as looks
 use Rattle.nfa_paths.specs.Graphs.{Pair, In}
 use Rattle.nfa_paths.specs.Paths.{byte_at, edges, edges_of, is_utf8_empty, node_at, pairs_from, start_count}
 use Rattle.nfa_paths.specs.Paths.{start_state, starts, target_on, IsAnswer, IsMatch, IsFindAnswer}
 use Rattle.nfa_paths.proofs.ScanAnswerLemmas.{edges-onward, edges-within, starts-from, starts-within}
-use Rattle.nfa_engines.specs.SpanLaws.{cut_out, moved_match, moved_slots, AreBytesMoved, AssertsNothing, HasNoLook}
-use Rattle.nfa_engines.specs.SpanLaws.{HoldAlike, HoldsAlike, IsSameSpan, IsSpanMoved}
+use Rattle.nfa_engines.specs.SpanLaws.{cut_out, moved_match, moved_slots, AreBytesMoved, HasNoLook, HoldAlike}
+use Rattle.nfa_engines.specs.SpanLaws.{HoldsAlike, IfLook, IsSameSpan, IsSpanMoved, LookHoldsAlike}
 use Rattle.nfa_engines.proofs.MovedLemmas.{moved_path, ArePathsMoved}
 use Rattle.nfa_engines.proofs.MovedAnswerLemmas.{answer-moved, match_answer-moved, moved_match-none, moved_slots-none}
 use Rattle.nfa_engines.proofs.MovedGraphLemmas.{paths-moved}
@@ -32,13 +33,18 @@ all-at nfa P none all state =
       | inr past ↦ subst P (sym (get_or_past nfa.states state Fail past)) none
     ]
 
+-- what follows from what is true of each assertion of the NFA is true of each
+pub each-look : (P Q : looks.Look → Type 0) (nfa : Automaton) → ((look : looks.Look) → P look → Q look)
+    → All (IfLook P) nfa.states → All (IfLook Q) nfa.states
+each-look P Q nfa on all = λ i d inside. of (get_or nfa.states i d) (all i d inside)
+  where
+    of : (node : Node) → IfLook P node → IfLook Q node
+    of (Look look next) h = on look h
+    of _ h = tt
+
 -- the assertions of an NFA without assertions hold alike
 pub no-look-alike : (nfa : Automaton) (k : ℕ) (x y : Search) → HasNoLook nfa → HoldAlike nfa k x y
-no-look-alike nfa k x y plain = λ i d inside. of (get_or nfa.states i d) (plain i d inside)
-  where
-    of : (node : Node) → AssertsNothing node → HoldsAlike k x y node
-    of (Look look next) h = absurd h
-    of _ h = tt
+no-look-alike nfa k x y plain = each-look (λ look. ⊥) (LookHoldsAlike k x y) nfa (λ look h. absurd h) plain
 
 pairs-moved : (k state at count : ℕ) → pairs_from state (at + k) count ≡ moved_path k (pairs_from state at count)
 pairs-moved k state at zero = refl

@@ -2,13 +2,12 @@
 use Rattle.std.specs.Prelude.{◌≡◌, ℕ, ◌-◌, ◌≤◌, ◌⊎◌, All, List, length, Option, None, Some, if◌then◌else◌, nat_lt}
 use Rattle.std.specs.Prelude.{slice_get, ⊤}
 use Rattle.regex_search_core.specs.Search.{Search}
-use Rattle.thompson_nfa.specs.Automaton.{Automaton, Node}
-use Rattle.thompson_nfa.specs.Automaton.Node.{Look}
+use Rattle.thompson_nfa.specs.Automaton.{Automaton}
 use Rattle.thompson_nfa.specs.declared.look.Look as looks
 use Rattle.thompson_nfa.specs.declared.look.Look.TheVariants.{StartLF, EndLF, WordUnicode, WordUnicodeNegate}
 use Rattle.thompson_nfa.specs.declared.look.Look.TheVariants.{WordStartUnicode, WordEndUnicode, WordStartHalfUnicode}
 use Rattle.thompson_nfa.specs.declared.look.Look.TheVariants.{WordEndHalfUnicode}
-use Rattle.nfa_engines.specs.SpanLaws.{cut_out, AreBytesMoved, HoldAlike, IsSpanMoved}
+use Rattle.nfa_engines.specs.SpanLaws.{cut_out, AreBytesMoved, HoldAlike, IfLook, IsSpanMoved}
 
 -- the byte just before the position, if there is one
 abbrev pub byte_before : List ℕ → ℕ → Option ℕ
@@ -29,11 +28,6 @@ abbrev pub IsOfLines : looks.Look → Type 0
 IsOfLines StartLF = ⊤
 IsOfLines EndLF = ⊤
 IsOfLines _ = ⊥
-
--- if the state is an assertion, this is true of it
-abbrev pub IfLook : (looks.Look → Type 0) → Node → Type 0
-IfLook P (Look look next) = P look
-IfLook P _ = ⊤
 
 -- this is true of each assertion of the NFA
 abbrev pub EachLook : (looks.Look → Type 0) → Automaton → Type 0

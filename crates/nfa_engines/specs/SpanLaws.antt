@@ -8,6 +8,7 @@ use Rattle.regex_search_core.specs.declared.search.MatchKind.{MatchKind}
 use Rattle.thompson_nfa.specs.Automaton.{Automaton, Node}
 use Rattle.thompson_nfa.specs.Automaton.Node.{Look}
 use Rattle.thompson_nfa.specs.Looks.{look_holds}
+use Rattle.thompson_nfa.specs.declared.look.Look as looks
 use Rattle.nfa_paths.specs.Paths.{is_utf8_empty, IsAnswer, IsFindAnswer}
 
 -- each slot that is set, this many positions to the right
@@ -18,10 +19,14 @@ moved_slots k slots = map (option_map (λ at. at + k)) slots
 abbrev pub moved_match : ℕ → Found → Found
 moved_match k m = record m { start = m.start + k; end = m.end + k }
 
+-- if the state is an assertion, this is true of it
+abbrev pub IfLook : (looks.Look → Type 0) → Node → Type 0
+IfLook P (Look look next) = P look
+IfLook P _ = ⊤
+
 -- the state asserts nothing of what is around a position
 abbrev pub AssertsNothing : Node → Type 0
-AssertsNothing (Look look next) = ⊥
-AssertsNothing _ = ⊤
+AssertsNothing node = IfLook (λ look. ⊥) node
 
 -- no state of the NFA asserts anything
 abbrev pub HasNoLook : Automaton → Type 0
@@ -102,12 +107,15 @@ CutOutMatches =
     → IsFindAnswer nfa kind earliest (cut_out x) found
     → IsFindAnswer nfa kind earliest x (option_map (moved_match x.start) found)
 
--- If the state is an assertion, it holds at a position of the first span, its end included, exactly if it holds this
--- many positions to the right in the second haystack.
-abbrev pub HoldsAlike : ℕ → Search → Search → Node → Type 0
-HoldsAlike k x y (Look look next) =
+-- The assertion holds at a position of the first span, its end included, exactly if it holds this many positions to the
+-- right in the second haystack.
+abbrev pub LookHoldsAlike : ℕ → Search → Search → looks.Look → Type 0
+LookHoldsAlike k x y look =
     (at : ℕ) → x.start ≤ at → at ≤ x.end → look_holds look y.haystack (at + k) ≡ look_holds look x.haystack at
-HoldsAlike k x y _ = ⊤
+
+-- if the state is an assertion, it holds alike in both spans
+abbrev pub HoldsAlike : ℕ → Search → Search → Node → Type 0
+HoldsAlike k x y node = IfLook (LookHoldsAlike k x y) node
 
 -- Each assertion of the NFA holds alike in both spans. If the NFA has no assertion, this is true.
 abbrev pub HoldAlike : Automaton → ℕ → Search → Search → Type 0
