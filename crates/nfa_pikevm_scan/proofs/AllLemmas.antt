@@ -1,6 +1,5 @@
 -- From one position to the next of a scan for all sets of matches.
-use Rattle.std.proofs.Common.{◌≡◌, ℕ, ◌+◌, ◌-◌, ◌≤◌, ◌⊎◌, inl, inr, List, [], ◌∷◌, length, replicate, refl, ap, sym, ◌∙◌, arith, subst, Bool, true, false}
-use Rattle.std.specs.Prelude.{Option, Some, None, cond, option_map, is_some}
+use Rattle.std.proofs.Common.{◌≡◌, ℕ, ◌+◌, ◌-◌, ◌≤◌, ◌⊎◌, inl, inr, List, [], ◌∷◌, length, replicate, refl, ap, sym, ◌∙◌, arith, subst, Bool, true, false, Option, Some, None, cond, option_map, is_some}
 use Rattle.std.specs.Option.{option_or}
 use Rattle.regex_search_core.specs.Search.{Search}
 use Rattle.regex_search_core.specs.Found.{HalfFound, half_found_of}

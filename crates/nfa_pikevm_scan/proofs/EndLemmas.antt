@@ -1,6 +1,5 @@
 -- How a scan begins, joins its starts, and ends.
-use Rattle.std.proofs.Common.{◌≡◌, ℕ, ◌+◌, ◌-◌, ◌<◌, ◌≤◌, inl, inr, List, [], ◌∷◌, ◌++◌, length, refl, sym, arith, subst, Bool, true, false}
-use Rattle.std.specs.Prelude.{Option, Some, None, cond, is_some}
+use Rattle.std.proofs.Common.{◌≡◌, ℕ, ◌+◌, ◌-◌, ◌<◌, ◌≤◌, inl, inr, List, [], ◌∷◌, ◌++◌, length, refl, sym, arith, subst, Bool, true, false, Option, Some, None, cond, is_some}
 use Rattle.regex_search_core.specs.Search.{Search}
 use Rattle.regex_search_core.specs.Found.{half_found_of}
 use Rattle.regex_search_core.specs.Patterns.{number_of}

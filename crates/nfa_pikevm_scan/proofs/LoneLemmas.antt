@@ -1,7 +1,6 @@
 -- A scan for the first path at its first start, and while one state is followed.
-use Rattle.std.proofs.Common.{◌≡◌, ℕ, ◌+◌, ◌<◌, ◌≤◌, inl, inr, List, [], ◌∷◌, length, refl, arith, subst, ap, ◌∙◌, Bool, false}
+use Rattle.std.proofs.Common.{◌≡◌, ℕ, ◌+◌, ◌<◌, ◌≤◌, inl, inr, List, [], ◌∷◌, length, refl, arith, subst, ap, ◌∙◌, Bool, false, Option, Some, None, is_some}
 use Rattle.std.proofs.lemmas.Bool.{cases_lt}
-use Rattle.std.specs.Prelude.{Option, Some, None, is_some}
 use Rattle.regex_search_core.specs.Search.{Search}
 use Rattle.regex_search_core.specs.declared.search.HalfMatch.{HalfMatch}
 use Rattle.thompson_nfa.specs.Automaton.{Automaton}

@@ -1,6 +1,5 @@
 -- The positions of the scan for the first match: the states after a match are dropped.
-use Rattle.std.proofs.Common.{◌≡◌, ℕ, ◌+◌, ◌-◌, ◌<◌, ◌≤◌, ◌⊎◌, ◌↔◌, inl, inr, Bool, true, false, List, [], ◌∷◌, ◌++◌, length, map, refl, sym, ap, ◌∙◌, subst, arith}
-use Rattle.std.specs.Prelude.{None, Some, All}
+use Rattle.std.proofs.Common.{◌≡◌, ℕ, ◌+◌, ◌-◌, ◌<◌, ◌≤◌, ◌⊎◌, ◌↔◌, inl, inr, Bool, true, false, List, [], ◌∷◌, ◌++◌, length, map, refl, sym, ap, ◌∙◌, subst, arith, None, Some, All}
 use Rattle.std.proofs.lemmas.Bool.{cases_lt, lt-ltb, le-ltb}
 use Rattle.std.proofs.lemmas.List.Elements.{All-head, All-tail}
 use Rattle.regex_search_core.specs.PatternSets.{size_of_set}
@@ -16,9 +15,7 @@ use Rattle.nfa_paths.specs.Overlaps.{IsInsertable, IsOverlapResult, pattern_at}
 use Rattle.nfa_paths.proofs.FrontierMatchLemmas.{first_match-is, before_match-among}
 use Rattle.nfa_paths.proofs.StartLemmas.{pairs_from-step, pairs_from-end}
 use Rattle.nfa_paths.proofs.SoundLemmas.{heads, Sound, Sound-start, Sound-hit, Sound-round, Sound-cut, Searched}
-use Rattle.nfa_paths.proofs.MetLemmas.{Between, Between-all, Between-before, Between-less, Between-same}
-use Rattle.nfa_paths.proofs.MetLemmas.{Best, Best-found, Exact, Exact-start, Exact-next, Exact-match, Exact-end}
-use Rattle.nfa_paths.proofs.MetLemmas.{Answer-ahead, before_target, before_is, before_match-same, first_match-same}
+use Rattle.nfa_paths.proofs.MetLemmas.{Between, Between-all, Between-before, Between-less, Between-same, Best, Best-found, Exact, Exact-start, Exact-next, Exact-match, Exact-end, Answer-ahead, before_target, before_is, before_match-same, first_match-same}
 use Rattle.nfa_paths.proofs.UpToLemmas.{UpTo, UpTo-next, UpTo-match, UpTo-end}
 use Rattle.nfa_paths.proofs.FullLemmas.{UpTo-full}
 use Rattle.nfa_paths.proofs.SetLemmas.{first-gains}

@@ -1,6 +1,5 @@
 -- All that a root leads to without reading a byte is followed from match to match, until the position ends.
-use Rattle.std.proofs.Common.{◌≡◌, ◌∙◌, [], length, map, take, arith, refl, true, false}
-use Rattle.std.specs.Prelude.{None}
+use Rattle.std.proofs.Common.{◌≡◌, ◌∙◌, [], length, map, take, arith, refl, true, false, None}
 use Rattle.regex_search_core.specs.Search.{search_of}
 use Rattle.nfa_paths.specs.Paths.{degree}
 use Rattle.nfa_paths.proofs.TurnLemmas.{marked_sum-le}

@@ -1,7 +1,5 @@
 -- All that a state leads to without reading a byte is entered in order, up to the next match.
-use Rattle.std.proofs.Common.{◌≤◌, ◌<◌, ◌+◌, ◌-◌, length, map, take}
-use Rattle.std.specs.Prelude.{All, Some, sum}
-use Rattle.std.specs.List.{sum_by}
+use Rattle.std.proofs.Common.{◌≤◌, ◌<◌, ◌+◌, ◌-◌, length, map, take, All, Some, sum, sum_by}
 use Rattle.regex_search_core.specs.Search.{search_of}
 use Rattle.nfa_paths.specs.Paths.{degree}
 use Rattle.nfa_paths.specs.Turns.{marked_sum}

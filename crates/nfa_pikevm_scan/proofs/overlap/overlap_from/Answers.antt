@@ -1,6 +1,5 @@
 -- The set gains what the matches mean that are met, from position to position.
-use Rattle.std.proofs.Common.{◌≤◌, ◌+◌, ◌∙◌, ℕ, Bool, true, false, inl, inr, sym, arith, length, refl}
-use Rattle.std.specs.Prelude.{cond}
+use Rattle.std.proofs.Common.{◌≤◌, ◌+◌, ◌∙◌, ℕ, Bool, true, false, inl, inr, sym, arith, length, refl, cond}
 use Rattle.std.proofs.lemmas.Bool.{cases_Bool, le-ltb}
 use Rattle.regex_search_core.specs.Search.{search_of}
 use Rattle.nfa_pikevm_scan.proofs.ScanLemmas.{Crossed-given, over-cross}

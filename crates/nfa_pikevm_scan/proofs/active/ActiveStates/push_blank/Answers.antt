@@ -1,6 +1,5 @@
 -- The state comes after those that are kept, with a row that holds nothing.
-use Rattle.std.proofs.Common.{◌≡◌, length, arith, ap, ◌∙◌, replicate}
-use Rattle.std.specs.Prelude.{None}
+use Rattle.std.proofs.Common.{◌≡◌, length, arith, ap, ◌∙◌, replicate, None}
 use Rattle.std.proofs.lemmas.List.{with_items_is}
 use Rattle.nfa_pikevm_scan.proofs.RowLemmas.{pushed-len, pushed-inside, length-blank, blank-fits, blank-view}
 use Rattle.nfa_pikevm_scan.proofs.active.ActiveStates.push_blank.Goals as goal
