@@ -195,17 +195,15 @@ module _ (nfa : Automaton) (x : Search) where
       }
 
   -- nothing is left of the search for the first path
-  pub first-over : (at next width state limit : ℕ) (found : Option HalfMatch) (slots : Slots) (met : Marks)
-      (so_far : Hit) (items : List (ℕ × Slots)) → IsSoFar nfa x found slots so_far → limit ≤ next → items ≡ []
-      → SearchingAt nfa x at (is_match nfa) (starts nfa x) (blank width) so_far (unmarked met) []
-      (tasks at items (Load (blank width) ∷ starts_from width state next limit)) (blank width)
-      → width ≡ length slots → ScanGives nfa LeftmostFirst false x found slots met.turns
-  first-over at next width state limit found slots met so_far items is past none s size =
-      let alone : SearchingAt nfa x at (is_match nfa) (starts nfa x) (blank width) so_far (unmarked met) []
-      (Load (blank width) ∷ []) (blank width) = rw (none, starts_from-end width state past) at s in
+  pub first-over : {at width state limit : ℕ} {found : Option HalfMatch} {slots : Slots} {met : Marks}
+      {items : List (ℕ × Slots)} → SearchesFirst nfa x at width state limit found slots met items → limit ≤ at
+      → items ≡ [] → width ≡ length slots → ScanGives nfa LeftmostFirst false x found slots met.turns
+  first-over {at} {width} {state} {limit} {found} {slots} {met} s past none size =
+      let alone : SearchingAt nfa x at (is_match nfa) (starts nfa x) (blank width) s.so_far (unmarked met) []
+      (Load (blank width) ∷ []) (blank width) = rw (none, starts_from-end width state past) at s.searching in
       let answer = Searching-done (space nfa x) (is_match nfa) (Searching-load (space nfa x) (is_match nfa) alone) in
-      Scans-so_far LeftmostFirst false width met.turns found slots so_far is
-      (scan_first-found nfa x (blank width) met.turns so_far answer) size
+      Scans-so_far LeftmostFirst false width met.turns found slots s.so_far s.is_so_far
+      (scan_first-found nfa x (blank width) met.turns s.so_far answer) size
 
   -- no state and no start is left: every path has ended
   pub ScansAll-over : (begins : Starts) (at width : ℕ) {wanted : Pair → Bool} {met : Marks} {items : List (ℕ × Slots)}

@@ -46,23 +46,21 @@ Crossed-given {at = at} width state limit c = record {
 
 module _ {nfa : Automaton} {x : Search} {at width state limit : ℕ} {met after : Marks} {items kept : List (ℕ × Slots)}
     {front : Frontier} {goes : Type 0} (c : Crossed nfa x at width state limit met items goes after kept front) where
-  -- what is kept for the next position
-  pub AreAt-cross : All (LeadsBelow (length nfa.states)) nfa.states → AreAt nfa kept
-  AreAt-cross leads = record {
-    states = rw c.added (Formed-below nfa x at after.bits leads front c.formed);
-    few = Paid-few nfa x met (length items) after (length kept) c.paid;
-  }
-
-  -- the turns, if at most one start joined
-  pub IsPaidAt-crossed : {before stood : ℕ} → x.start ≤ at → IsPaidAt nfa x at before met.turns stood
-      → length items ≤ stood + 1 → IsPaidAt nfa x (at + 1) before after.turns (length kept)
-  IsPaidAt-crossed {before} {stood} low paid one =
-      IsPaidAt-cross nfa x at before met.turns stood (length items) after.turns (length kept) low paid one
-      (Paid-next nfa x met (length items) after (length kept) c.paid)
-
-  -- at the end nothing is
+  -- at the end nothing is kept
   pub over-cross : x.end ≤ at → kept ≡ []
   over-cross past = c.added ∙ Formed-over nfa x at after.bits past front c.formed
+
+  -- what is kept for the next position, if at most one start joined
+  pub AreAt-cross : All (LeadsBelow (length nfa.states)) nfa.states → {before stood : ℕ} → x.start ≤ at
+      → IsPaidAt nfa x at before met.turns stood → length items ≤ stood + 1
+      → AreAt nfa x (at + 1) before after.turns kept
+  AreAt-cross leads {before} {stood} low paid one = record {
+    states = rw c.added (Formed-below nfa x at after.bits leads front c.formed);
+    few = Paid-few nfa x met (length items) after (length kept) c.paid;
+    over = λ past. over-cross (omega arith);
+    paid = IsPaidAt-cross nfa x at before met.turns stood (length items) after.turns (length kept) low paid one
+        (Paid-next nfa x met (length items) after (length kept) c.paid);
+  }
 
 -- the first path
 
