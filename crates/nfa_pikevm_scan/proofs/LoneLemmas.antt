@@ -8,20 +8,18 @@ use Rattle.regex_search_core.specs.declared.primitives.PatternID.{PatternID}
 use Rattle.regex_search_core.specs.declared.search.HalfMatch.{HalfMatch}
 use Rattle.thompson_nfa.specs.Automaton.{Automaton}
 use Rattle.nfa_paths.specs.Exploring.{Task, Slots, Hit}
-use Rattle.nfa_paths.specs.Exploring.Task.{Load}
 use Rattle.nfa_paths.specs.Paths.{is_match, starts}
 use Rattle.nfa_scan_core.specs.FirstBytes.{IsFirstBytes}
 use Rattle.nfa_scan_core.specs.Marks.{Marks}
-use Rattle.nfa_pikevm_scan.specs.States.{tasks, unmarked, SearchingAt, NextsGive}
-use Rattle.nfa_pikevm_scan.specs.Scans.{blank, starts_from, AddsStart, AreStarts, HaveRows, KeepsThreads, MayCross, MayScan, PassesOver, ScansFirst, SearchesFirst}
+use Rattle.nfa_pikevm_scan.specs.States.{unmarked, SearchingAt, NextsGive}
+use Rattle.nfa_pikevm_scan.specs.Scans.{blank, AddsStart, AreStarts, HaveRows, KeepsThreads, MayCross, MayScan, PassesOver, ScansFirst, SearchesFirst, SearchingFrom}
 use Rattle.nfa_pikevm_scan.specs.declared.scan.Starts.{Starts}
 use Rattle.nfa_pikevm_scan.specs.declared.threads.Threads.{Threads}
 use Rattle.nfa_pikevm_scan.proofs.RoomLemmas.{AddsStart-passes, AreAt-none, KeepsThreads-none, KeepsThreads-then, few-joins}
 use Rattle.nfa_pikevm_scan.proofs.TaskLemmas.{tasks-alone}
 use Rattle.nfa_pikevm_scan.proofs.FrontierLemmas.{IsPaidAt-later}
-use Rattle.nfa_pikevm_scan.proofs.ScanLemmas.{AreAt-cross, Crossed-given, SearchesFirst-miss}
-use Rattle.nfa_pikevm_scan.proofs.AllLemmas.{EndsAt, EndsAt-none}
-use Rattle.nfa_pikevm_scan.proofs.EndLemmas.{SearchesFirst-begin, SearchesFirst-joins, SearchesFirst-some}
+use Rattle.nfa_pikevm_scan.proofs.ScanLemmas.{AreAt-cross, Crossed-given, EndsAt, EndsAt-none, SearchesFirst-match, SearchesFirst-miss}
+use Rattle.nfa_pikevm_scan.proofs.EndLemmas.{SearchesFirst-begin, SearchesFirst-joins}
 
 -- no match was found
 pub half-none : (half : Option HalfMatch) → is_some half ≡ false → half ≡ None
@@ -35,8 +33,7 @@ pub record Joined (nfa : Automaton) (x : Search) (state limit at to width : ℕ)
   pub few : length items ≤ length before + 1
   pub ahead : at ≤ to
   pub within : to ≤ x.end
-  pub search : SearchingAt nfa x to (is_match nfa) (starts nfa x) (blank width) so_far (unmarked met) []
-      (tasks to items (Load (blank width) ∷ starts_from width state (to + 1) limit)) (blank width)
+  pub search : SearchingFrom nfa x (is_match nfa) to width state (to + 1) limit so_far met items
 
 -- the states there may be followed
 pub MayCross-joined : {nfa : Automaton} {x : Search} {state limit at to width : ℕ} {so_far : Hit} {met : Marks}
@@ -133,7 +130,7 @@ module _ {nfa : Automaton} {x : Search} {from : Starts} {limit at width : ℕ} {
     module _ (half : Option HalfMatch) (is : EndsAt to hit half) where
       -- with a match there: no start is left
       pub ScansFirst-match : is_some half ≡ true → ScansFirst nfa x from 0 (to + 1) width half written base new
-      ScansFirst-match some = after (inr refl) (SearchesFirst-some nfa x to width from.state limit c j.search half is some)
+      ScansFirst-match some = after (inr refl) (SearchesFirst-match nfa x to width from.state limit c j.search half is some)
 
       -- with none
       pub ScansFirst-miss : is_some half ≡ false

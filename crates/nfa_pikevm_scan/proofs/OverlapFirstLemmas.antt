@@ -22,7 +22,7 @@ use Rattle.nfa_paths.proofs.SetLemmas.{first-gains}
 use Rattle.nfa_paths.proofs.ScanAnswerLemmas.{edges-onward, seeds-later}
 use Rattle.nfa_paths.proofs.SearchingLemmas.{Searching-load, Searching-done}
 use Rattle.nfa_scan_core.specs.Marks.{Marks}
-use Rattle.nfa_pikevm_scan.specs.Scans.{starts_from, with_start, AreStarts}
+use Rattle.nfa_pikevm_scan.specs.Scans.{starts_from, with_start, AreStarts, SearchingFrom}
 use Rattle.nfa_pikevm_scan.specs.States.{Frontier, moves, tasks, unmarked, SeenAt, SearchingAt}
 use Rattle.nfa_pikevm_scan.specs.Overlapping.{wants, AddsPatterns, AddsFirstPattern, GoesPast, NextsOverlappingGive}
 use Rattle.nfa_pikevm_scan.specs.declared.scan.Starts.{Starts}
@@ -133,8 +133,7 @@ module _ (nfa : Automaton) (x : Search) (old : List Bool) where
     pub so_far : Hit
     -- the search for all that is wanted, and for what is wanted before a limit that was not passed yet
     pub searching : (target : Pair → Bool) → Between wanted at target
-        → SearchingAt nfa x at target (starts nfa x) [] so_far (unmarked met) []
-        (tasks at items (ToLoad [] ∷ starts_from 0 from.state at from.limit)) []
+        → SearchingFrom nfa x target at 0 from.state at from.limit so_far met items
     pub sound : Sound nfa x old wanted tells at
         (pairs_at at items (pairs_from from.state at (from.limit - at)))
     pub holds : UpTo nfa x old wanted tells at so_far new
@@ -179,8 +178,7 @@ module _ (nfa : Automaton) (x : Search) (old : List Bool) where
 
     -- the search, with the start that joined
     joined-search : (target : Pair → Bool) → Between wanted at target
-        → SearchingAt nfa x at target (starts nfa x) [] w.so_far (unmarked met) []
-        (tasks at (with_start from 0 at items) (ToLoad [] ∷ starts_from 0 from.state (at + 1) from.limit)) []
+        → SearchingFrom nfa x target at 0 from.state (at + 1) from.limit w.so_far met (with_start from 0 at items)
     joined-search target b =
         subst (λ z. SearchingAt nfa x at target (starts nfa x) [] w.so_far (unmarked met) [] z [])
         (tasks-joined from 0 at items) (w.searching target b)
@@ -264,8 +262,7 @@ module _ (nfa : Automaton) (x : Search) (old : List Bool) where
 
     next-searching : hit ≡ false → first_match wanted c.front ≡ None → (target : Pair → Bool)
         → Between wanted (at + 1) target
-        → SearchingAt nfa x (at + 1) target (starts nfa x) [] w.so_far (unmarked after) []
-        (tasks (at + 1) kept (ToLoad [] ∷ starts_from 0 from.state (at + 1) from.limit)) []
+        → SearchingFrom nfa x target (at + 1) 0 from.state (at + 1) from.limit w.so_far after kept
     next-searching off lacks target b =
         first-miss target (λ v t. wants-match nfa x (length old) v (b.sub v t)) crossed (cut-for target b)
         (joined-search w target (Between-less b)) (first_match-same target wanted c.front (agree target b) ∙ lacks)

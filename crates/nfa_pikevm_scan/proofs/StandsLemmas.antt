@@ -1,5 +1,5 @@
 -- What a scan for all wanted pairs keeps at a position where it has followed no state yet.
-use Rattle.std.proofs.Common.{◌≡◌, ℕ, ◌+◌, ◌<◌, ◌≤◌, Bool, List, [], length, ◌∙◌, arith, All}
+use Rattle.std.proofs.Common.{◌≡◌, ℕ, ◌+◌, ◌<◌, ◌≤◌, Bool, List, [], length, ◌∙◌, All}
 use Rattle.regex_search_core.specs.Search.{Search}
 use Rattle.thompson_nfa.specs.Automaton.{Automaton, LeadsBelow}
 use Rattle.nfa_paths.specs.Graphs.{Pair}

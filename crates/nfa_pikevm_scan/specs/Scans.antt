@@ -162,13 +162,25 @@ module _ (nfa : Automaton) (x : Search) where
     pub over : x.end < at → items ≡ []
     pub paid : IsPaidAt at before turns (length items)
 
+  -- The search for a set of match pairs, at a position where it has followed no state yet. The states there are left,
+  -- and the starts from `next` on.
+  abbrev pub SearchingFrom : (Pair → Bool) → ℕ → ℕ → ℕ → ℕ → ℕ → Hit → Marks → List (ℕ × Slots) → Type 0
+  SearchingFrom target at width start next limit so_far met items =
+      SearchingAt nfa x at target (starts nfa x) (blank width) so_far (unmarked met) []
+      (tasks at items (Load (blank width) ∷ starts_from width start next limit)) (blank width)
+
+  -- The same for the scan for each wanted pair.
+  abbrev pub ScanningFrom : (Pair → Bool) → ℕ → ℕ → ℕ → ℕ → ℕ → Marks → List (ℕ × Slots) → Type 0
+  ScanningFrom wanted at width start next limit met items =
+      Scanning (space nfa x) wanted (blank width) at (SeenAt at (unmarked met).bits) met.turns []
+      (tasks at items (Load (blank width) ∷ starts_from width start next limit)) (blank width)
+
   -- The search for the first path, at a position where it has followed no state yet.
   pub record SearchesFirst (at width start limit : ℕ) (found : Option HalfMatch) (slots : Slots) (met : Marks)
       (items : List (ℕ × Slots)) : Type 0 where
     pub so_far : Hit
     pub is_so_far : IsSoFar found slots so_far
-    pub searching : SearchingAt nfa x at (is_match nfa) (starts nfa x) (blank width) so_far (unmarked met) []
-        (tasks at items (Load (blank width) ∷ starts_from width start at limit)) (blank width)
+    pub searching : SearchingFrom (is_match nfa) at width start at limit so_far met items
 
   -- The scan for the first path, from the threads `old` on, at a position where it has followed no state yet. Its
   -- starts are left, or none is.
@@ -185,5 +197,4 @@ module _ (nfa : Automaton) (x : Search) where
   -- The scan for each wanted pair, at a position where it has followed no state yet.
   pub record ScansAll (wanted : Pair → Bool) (at width start limit : ℕ) (met : Marks)
       (items : List (ℕ × Slots)) : Type 0 where
-    pub scanning : Scanning (space nfa x) wanted (blank width) at (SeenAt at (unmarked met).bits) met.turns []
-        (tasks at items (Load (blank width) ∷ starts_from width start at limit)) (blank width)
+    pub scanning : ScanningFrom wanted at width start at limit met items

@@ -1,5 +1,5 @@
 -- All that a root leads to without reading a byte is followed from match to match, until the position ends.
-use Rattle.std.proofs.Common.{◌≡◌, ◌∙◌, [], length, map, take, arith, refl, true, false, None}
+use Rattle.std.proofs.Common.{◌≡◌, ◌∙◌, [], length, map, take, arith, refl, true, false}
 use Rattle.nfa_paths.specs.Paths.{degree}
 use Rattle.nfa_paths.proofs.TurnLemmas.{marked_sum-le}
 use Rattle.nfa_pikevm_scan.specs.Sinks.Takes.{none}

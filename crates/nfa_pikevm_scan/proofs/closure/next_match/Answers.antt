@@ -1,6 +1,5 @@
 -- All that a state leads to without reading a byte is entered in order, up to the next match.
-use Rattle.std.proofs.Common.{length, map, arith, None}
-use Rattle.regex_search_core.specs.Search.{search_of}
+use Rattle.std.proofs.Common.{length, map, arith}
 use Rattle.nfa_paths.specs.Paths.{degree}
 use Rattle.nfa_paths.proofs.TurnLemmas.{marked_sum-le}
 use Rattle.nfa_pikevm_scan.proofs.ApplyFrameLemmas.{within-lower}

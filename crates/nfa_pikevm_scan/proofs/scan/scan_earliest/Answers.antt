@@ -3,12 +3,12 @@ use Rattle.std.proofs.Common.{◌≡◌, ◌∙◌, ◌+◌, ◌≤◌, length, 
 use Rattle.regex_search_core.specs.Search.{search_of}
 use Rattle.nfa_paths.proofs.ScanAnswerLemmas.{scan_answer-none}
 use Rattle.regex_search_core.specs.declared.search.MatchKind.TheVariants.{All, LeftmostFirst}
-use Rattle.nfa_pikevm_scan.proofs.AllLemmas.{NoneBefore-cross, EndsAt-none}
+use Rattle.nfa_pikevm_scan.proofs.AllLemmas.{NoneBefore-cross}
 use Rattle.nfa_pikevm_scan.proofs.EndLemmas.{NoneBefore-begin, ScansAll-joined, ScansAll-over, earliest-over, ends-at}
 use Rattle.nfa_pikevm_scan.proofs.FrontierLemmas.{AreAt-turns}
 use Rattle.nfa_pikevm_scan.proofs.StandsLemmas.{MayCross-joins, Stands-next, Stands-ready, Stands-states}
 use Rattle.nfa_pikevm_scan.proofs.RoomLemmas.{KeepsThreads-none, KeepsThreads-then, none_of}
-use Rattle.nfa_pikevm_scan.proofs.ScanLemmas.{Crossed-given}
+use Rattle.nfa_pikevm_scan.proofs.ScanLemmas.{Crossed-given, EndsAt-none}
 use Rattle.nfa_pikevm_scan.proofs.scan.scan_earliest.Goals as goal
 
 pub loop-at-init : goal.loop-at-init
@@ -52,7 +52,7 @@ returns-then-is_some-clause-answer c =
     let items = rw (c.loop-at.invariant.keeps.width, c.requires.ready.room.width_is) at c.add_start.ensures.curr in
     let crosses = rw (c.add_start.ensures.seen, items) at c.nexts.ensures.crosses in
     earliest-over c.args.nfa.now x c.loop-at.at (length c.args.slots.now) c.args.starts.now.state
-    c.args.starts.now.limit c.args.past_match crosses
+    c.args.starts.now.limit crosses
     (ScansAll-joined c.args.nfa.now x c.args.starts.now c.loop-at.at (length c.args.slots.now)
     c.loop-at.invariant.stands.scans) c.loop-at.invariant.none c.half_at-hit.result
     c.half_at-hit.ensures (sym c.is_some.ensures ∙ c.if-is_some.true) (sym (c.nexts.auto.slots ∙ c.loop-at.auto.slots))

@@ -1,5 +1,5 @@
 -- A scan that is leftmost first answers the first accepting path.
-use Rattle.std.proofs.Common.{◌≡◌, ◌∙◌, ◌+◌, ◌≤◌, length, arith, refl, sym, inl, inr}
+use Rattle.std.proofs.Common.{◌≡◌, ◌∙◌, length, arith, refl, sym}
 use Rattle.regex_search_core.specs.Search.{search_of}
 use Rattle.nfa_pikevm_scan.proofs.EndLemmas.{first-over}
 use Rattle.nfa_pikevm_scan.proofs.FrontierLemmas.{AreAt-turns}
