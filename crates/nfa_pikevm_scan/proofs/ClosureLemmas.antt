@@ -1,7 +1,5 @@
 -- The turns of a closure, one after the other.
-use Rattle.std.proofs.Common.{◌≡◌, ℕ, ◌+◌, ◌≤◌, inl, inr, List, [], ◌∷◌, ◌++◌, length, map, take, refl, ap, sym, ◌∙◌, arith, append_assoc, append-nil, Bool, true, false}
-use Rattle.std.specs.Prelude.{Option, Some, None}
-use Rattle.std.specs.List.{sum_by}
+use Rattle.std.proofs.Common.{◌≡◌, ℕ, ◌+◌, ◌≤◌, inl, inr, List, [], ◌∷◌, ◌++◌, length, map, take, refl, ap, sym, ◌∙◌, arith, append_assoc, append-nil, Bool, true, false, Option, Some, None, sum_by}
 use Rattle.std.proofs.lemmas.List.{length-take-le}
 use Rattle.regex_search_core.specs.Search.{Search}
 use Rattle.regex_search_core.specs.declared.primitives.PatternID.{PatternID}
@@ -15,7 +13,6 @@ use Rattle.nfa_scan_core.specs.Marks.{Marks}
 use Rattle.nfa_pikevm_scan.specs.Rows.{Active}
 use Rattle.nfa_pikevm_scan.specs.States.{Frontier, moves, work_onto, with_state, state_on, tries, tries_of, Follows, Paid, HasRoom, KeepsRoom, TurnsGive, VisitsState, FindsMatch}
 use Rattle.nfa_pikevm_scan.specs.Sinks.{Takes, ClosureGives}
-use Rattle.nfa_pikevm_scan.specs.Sinks.Takes.{none}
 use Rattle.nfa_pikevm_scan.specs.declared.closure.Move.{Move}
 use Rattle.nfa_pikevm_scan.specs.declared.closure.ClosureOutput.{ClosureOutput}
 use Rattle.nfa_pikevm_scan.specs.declared.closure.Move.TheVariants.{Matched}
@@ -90,16 +87,28 @@ HasRoom-paid top now frames after room paid same inside within = record {
   states_fit = omega (arith, room.states_fit, paid.entered);
 }
 
+-- Turns whose front has a property, with what is still to be followed.
+pub record Turned (nfa : Automaton) (x : Search) (at s : ℕ) (met : Marks) (items : List (ℕ × Slots))
+    (below : List FollowEpsilon) (row : Slots) (Holds : Frontier → Type 0) (after : Marks) (kept : List (ℕ × Slots))
+    (state : Option ℕ) (stack : List FollowEpsilon) (now : Slots) : Type 0 where
+  pub front : Frontier
+  pub gives : TurnsGive nfa x at s met items below row front after kept state stack now
+  pub holds : Holds front
+
 -- nothing was followed yet
-TurnsGive-begin : (nfa : Automaton) (x : Search) (at s : ℕ) (met : Marks) (items : List (ℕ × Slots))
-    (stack : List FollowEpsilon) (slots : Slots)
-    → TurnsGive nfa x at s met items stack slots [] met items (Some s) stack slots
-TurnsGive-begin nfa x at s met items stack slots = record {
-  added = sym (append-nil items);
-  formed = λ before f. rw (append-nil before) f;
-  follows = λ before old work. rw (append-nil before)
-      (Follows-none nfa x at met before (ToExplore (s, at) ∷ work_onto at stack (ToLoad old ∷ work)) slots);
-  paid = record { tried = omega arith; framed = omega arith; entered = omega arith };
+pub Turned-begin : {nfa : Automaton} {x : Search} {at s : ℕ} {met : Marks} {items : List (ℕ × Slots)}
+    {below : List FollowEpsilon} {row : Slots} {Holds : Frontier → Type 0} → Holds []
+    → Turned nfa x at s met items below row Holds met items (Some s) below row
+Turned-begin {nfa} {x} {at} {s} {met} {items} {below} {row} holds = record {
+  front = [];
+  gives = record {
+    added = sym (append-nil items);
+    formed = λ before f. rw (append-nil before) f;
+    follows = λ before old work. rw (append-nil before)
+        (Follows-none nfa x at met before (ToExplore (s, at) ∷ work_onto at below (ToLoad old ∷ work)) row);
+    paid = record { tried = omega arith; framed = omega arith; entered = omega arith };
+  };
+  holds = holds;
 }
 
 module _ {nfa : Automaton} {x : Search} {at s : ℕ} {met : Marks} {items : List (ℕ × Slots)}
@@ -122,127 +131,73 @@ module _ {nfa : Automaton} {x : Search} {at s : ℕ} {met : Marks} {items : List
     paid = Paid-then f.paid h.paid;
   }
 
-  -- the frames above the first `u` are applied
-  TurnsGive-resumed : (t u : ℕ) (frames : List FollowEpsilon) (state : Option ℕ) (then : Slots) → u ≤ t
-      → t ≤ length frames → sum_by tries (take u frames) + tries_of state ≡ sum_by tries (take t frames)
-      → ((front : Frontier) (work : List Task) → Follows nfa x at m front (work_onto at (take t frames) work) now m
-      front (with_state at state (work_onto at (take u frames) work)) then)
-      → TurnsGive nfa x at s met items below row front m i None (take t frames) now
-      → TurnsGive nfa x at s met items below row front m i state (take u frames) then
-  TurnsGive-resumed t u frames state then less inside tried resumes f =
-      let p = f.paid in
-      record {
-        added = f.added;
-        formed = f.formed;
-        follows = λ before old work. Follows-then nfa x at (f.follows before old work)
-            (resumes (before ++ front) (ToLoad old ∷ work));
-        paid = record {
-          tried = omega (arith, p.tried);
-          framed = omega (arith, p.framed, length-take-le t frames inside, length-take-le u frames (omega arith));
-          entered = p.entered;
-        };
-      }
-
--- Turns that led to no match so far, with what is still to be followed.
-pub record Passed (nfa : Automaton) (x : Search) (at s : ℕ) (met : Marks) (items : List (ℕ × Slots))
-    (below : List FollowEpsilon) (row : Slots)
-    (after : Marks) (kept : List (ℕ × Slots)) (state : Option ℕ) (stack : List FollowEpsilon) (now : Slots)
-    : Type 0 where
-  pub front : Frontier
-  pub gives : TurnsGive nfa x at s met items below row front after kept state stack now
-  pub plain : NoMatch (is_match nfa) front
-
-pub Passed-begin : (nfa : Automaton) (x : Search) (at s : ℕ) (met : Marks) (items : List (ℕ × Slots))
-    (below : List FollowEpsilon) (row : Slots)
-    → Passed nfa x at s met items below row met items (Some s) below row
-Passed-begin nfa x at s met items below row = record {
-  front = [];
-  gives = TurnsGive-begin nfa x at s met items below row;
-  plain = λ b i. absurd i;
-}
-
 module _ {nfa : Automaton} {x : Search} {at s : ℕ} {met : Marks} {items : List (ℕ × Slots)}
     {below : List FollowEpsilon} {row : Slots} {m : Marks} {i : List (ℕ × Slots)} {now : Slots} where
-  -- frames are applied
-  pub Passed-resumed : (t u : ℕ) (frames : List FollowEpsilon) (state : Option ℕ) (then : Slots) → u ≤ t
-      → t ≤ length frames → sum_by tries (take u frames) + tries_of state ≡ sum_by tries (take t frames)
-      → ((front : Frontier) (work : List Task) → Follows nfa x at m front (work_onto at (take t frames) work) now m
+  -- the frames above the first `u` are applied
+  pub Turned-resumed : {Holds : Frontier → Type 0} (t u : ℕ) (frames : List FollowEpsilon) {state : Option ℕ}
+      {then : Slots} → u ≤ t → t ≤ length frames
+      → sum_by tries (take u frames) + tries_of state ≡ sum_by tries (take t frames)
+      → ((nfa : Automaton) (x : Search) (at : ℕ) (met : Marks) (front : Frontier) (work : List Task)
+      → Follows nfa x at met front (work_onto at (take t frames) work) now met
       front (with_state at state (work_onto at (take u frames) work)) then)
-      → Passed nfa x at s met items below row m i None (take t frames) now
-      → Passed nfa x at s met items below row m i state (take u frames) then
-  Passed-resumed t u frames state then less inside tried resumes f = record {
-    front = f.front;
-    gives = TurnsGive-resumed t u frames state then less inside tried resumes f.gives;
-    plain = f.plain;
-  }
+      → Turned nfa x at s met items below row Holds m i None (take t frames) now
+      → Turned nfa x at s met items below row Holds m i state (take u frames) then
+  Turned-resumed t u frames less inside tried resumes f =
+      let p = f.gives.paid in
+      record {
+        front = f.front;
+        gives = record {
+          added = f.gives.added;
+          formed = f.gives.formed;
+          follows = λ before old work. Follows-then nfa x at (f.gives.follows before old work)
+              (resumes nfa x at m (before ++ f.front) (ToLoad old ∷ work));
+          paid = record {
+            tried = omega (arith, p.tried);
+            framed = omega (arith, p.framed, length-take-le t frames inside, length-take-le u frames (omega arith));
+            entered = p.entered;
+          };
+        };
+        holds = f.holds;
+      }
 
   -- no match came
-  pub Finds-none : {stack : List FollowEpsilon} → Passed nfa x at s met items below row m i None stack now
+  pub Finds-none : {stack : List FollowEpsilon} → Turned nfa x at s met items below row (NoMatch (is_match nfa)) m i None stack now
       → FindsMatch nfa x at s met items below row None m i stack now
-  Finds-none f = record { front = f.front; gives = f.gives; ends = f.plain }
+  Finds-none f = record { front = f.front; gives = f.gives; ends = f.holds }
 
   module _ {stack : List FollowEpsilon} {sid : ℕ} {n : Marks} {j : List (ℕ × Slots)} {above : List FollowEpsilon}
-      {then : Slots} (f : Passed nfa x at s met items below row m i (Some sid) stack now) where
-    -- a turn that leads to no match
-    pub Passed-plain : {turn : Move} (h : VisitsState nfa x at sid m i stack now turn n j above then)
-        → NoMatch (is_match nfa) h.front
-        → Passed nfa x at s met items below row n j (state_on turn) above then
-    Passed-plain h plain = record {
-      front = f.front ++ h.front;
-      gives = TurnsGive-then f.gives h.gives;
-      plain = NoMatch-append (is_match nfa) f.front h.front f.plain plain;
-    }
+      {then : Slots} (f : Turned nfa x at s met items below row (NoMatch (is_match nfa)) m i (Some sid) stack now)
+    where
+      -- a turn that leads to no match
+      pub Passed-plain : {turn : Move} (h : VisitsState nfa x at sid m i stack now turn n j above then)
+          → NoMatch (is_match nfa) h.front
+          → Turned nfa x at s met items below row (NoMatch (is_match nfa)) n j (state_on turn) above then
+      Passed-plain h plain = record {
+        front = f.front ++ h.front;
+        gives = TurnsGive-then f.gives h.gives;
+        holds = NoMatch-append (is_match nfa) f.front h.front f.holds plain;
+      }
 
-    -- a turn that leads to a match
-    pub Finds-match : {pattern : PatternID} → VisitsState nfa x at sid m i stack now (Matched pattern) n j above then
-        → FindsMatch nfa x at s met items below row (Some pattern) n j above then
-    Finds-match h = record {
-      front = f.front ++ h.front;
-      gives = TurnsGive-then f.gives h.gives;
-      ends = (f.front, sid, f.plain, ap (λ l. f.front ++ l) h.is_met.0, h.is_met.1);
-    }
-
-module _ {V : Type 0} (nfa : Automaton) (x : Search) (takes : V → PatternID → Slots → Bool → V → Type 0) where
-  -- Turns from the state s and its row, with what is still to be followed, whose matches were taken.
-  pub record Followed (at s : ℕ) (met : Marks) (items : List (ℕ × Slots)) (row : Slots) (old : V)
-      (after : Marks) (kept : List (ℕ × Slots)) (state : Option ℕ) (stack : List FollowEpsilon) (now : Slots) (new : V)
-      : Type 0 where
-    pub front : Frontier
-    pub gives : TurnsGive nfa x at s met items [] row front after kept state stack now
-    pub takes_all : Takes nfa takes front old false new
-
-  pub Followed-begin : (at s : ℕ) (met : Marks) (items : List (ℕ × Slots)) (row : Slots) (old : V)
-      → Followed at s met items row old met items (Some s) [] row old
-  Followed-begin at s met items row old = record {
-    front = [];
-    gives = TurnsGive-begin nfa x at s met items [] row;
-    takes_all = none;
-  }
+      -- a turn that leads to a match
+      pub Finds-match : {pattern : PatternID} → VisitsState nfa x at sid m i stack now (Matched pattern) n j above then
+          → FindsMatch nfa x at s met items below row (Some pattern) n j above then
+      Finds-match h = record {
+        front = f.front ++ h.front;
+        gives = TurnsGive-then f.gives h.gives;
+        ends = (f.front, sid, f.holds, ap (λ l. f.front ++ l) h.is_met.0, h.is_met.1);
+      }
 
 module _ {V : Type 0} {nfa : Automaton} {x : Search} {takes : V → PatternID → Slots → Bool → V → Type 0} {at s : ℕ}
     {met : Marks} {items : List (ℕ × Slots)} {row : Slots} {old : V}
     {m : Marks} {i : List (ℕ × Slots)} {now : Slots} {v : V} where
-  -- frames are applied
-  pub Followed-resumed : (t u : ℕ) (frames : List FollowEpsilon) (state : Option ℕ) (then : Slots) → u ≤ t
-      → t ≤ length frames → sum_by tries (take u frames) + tries_of state ≡ sum_by tries (take t frames)
-      → ((front : Frontier) (work : List Task) → Follows nfa x at m front (work_onto at (take t frames) work) now m
-      front (with_state at state (work_onto at (take u frames) work)) then)
-      → Followed nfa x takes at s met items row old m i None (take t frames) now v
-      → Followed nfa x takes at s met items row old m i state (take u frames) then v
-  Followed-resumed t u frames state then less inside tried resumes f = record {
-    front = f.front;
-    gives = TurnsGive-resumed t u frames state then less inside tried resumes f.gives;
-    takes_all = f.takes_all;
-  }
-
   -- all was followed
   pub ClosureGives-whole : {stack : List FollowEpsilon} → stack ≡ []
-      → Followed nfa x takes at s met items row old m i None stack now v
+      → Turned nfa x at s met items [] row (λ front. Takes nfa takes front old false v) m i None stack now
       → ClosureGives nfa x takes at s met items row old false m i v
   ClosureGives-whole empty f = record {
     front = f.front;
     added = f.gives.added;
-    takes_all = f.takes_all;
+    takes_all = f.holds;
     formed = f.gives.formed;
     paid = Paid-dropped f.gives.paid;
     leads = λ before old work. record {
@@ -256,15 +211,16 @@ module _ {V : Type 0} {nfa : Automaton} {x : Search} {takes : V → PatternID �
   -- What comes up to a match, or with no match, adds its front.
   module _ {stack : List FollowEpsilon} {sid : ℕ} {n : Marks} {j : List (ℕ × Slots)} {above : List FollowEpsilon}
       {then : Slots} {w : V} {one : Option PatternID} {ended : Bool}
-      (f : Followed nfa x takes at s met items row old m i (Some sid) stack now v)
+      (f : Turned nfa x at s met items [] row (λ front. Takes nfa takes front old false v) m i (Some sid) stack now)
       (h : FindsMatch nfa x at sid m i stack now one n j above then)
       (t : Takes nfa takes h.front v ended w) where
     -- the position goes on
-    pub Followed-more : ended ≡ false → Followed nfa x takes at s met items row old n j None above then w
-    Followed-more goes = record {
+    pub Turned-more : ended ≡ false
+        → Turned nfa x at s met items [] row (λ front. Takes nfa takes front old false w) n j None above then
+    Turned-more goes = record {
       front = f.front ++ h.front;
       gives = TurnsGive-then f.gives h.gives;
-      takes_all = Takes-then f.takes_all (rw goes at t);
+      holds = Takes-then f.holds (rw goes at t);
     }
 
     -- it ends with the match
@@ -274,7 +230,7 @@ module _ {V : Type 0} {nfa : Automaton} {x : Search} {takes : V → PatternID �
         record {
           front = f.front ++ h.front;
           added = r.added;
-          takes_all = Takes-then f.takes_all (rw stops at t);
+          takes_all = Takes-then f.holds (rw stops at t);
           formed = r.formed;
           paid = Paid-dropped r.paid;
           leads = λ before old work. record {

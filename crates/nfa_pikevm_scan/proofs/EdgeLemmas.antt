@@ -1,6 +1,5 @@
 -- The edges of a resting state, by what it reads.
-use Rattle.std.proofs.Common.{◌≡◌, ℕ, ◌+◌, List, [], ◌∷◌, map, refl, ap, ◌∙◌, true, append-nil}
-use Rattle.std.specs.Prelude.{Option, Some, None, option_map, option_and_then, option_to_list}
+use Rattle.std.proofs.Common.{◌≡◌, ℕ, ◌+◌, List, [], ◌∷◌, map, refl, ap, ◌∙◌, true, append-nil, Option, Some, None, option_map, option_and_then, option_to_list}
 use Rattle.regex_search_core.specs.Search.{Search}
 use Rattle.thompson_nfa.specs.Automaton.{Node}
 use Rattle.nfa_paths.specs.Graphs.{Pair}

@@ -1,9 +1,7 @@
 -- How a scan begins, joins its starts, and ends.
-use Rattle.std.proofs.Common.{◌≡◌, ℕ, ◌+◌, ◌-◌, ◌<◌, ◌≤◌, inl, inr, List, [], ◌∷◌, ◌++◌, length, refl, sym, arith, subst, Bool, true, false}
-use Rattle.std.specs.Prelude.{Option, Some, None, cond, is_some}
+use Rattle.std.proofs.Common.{◌≡◌, ℕ, ◌+◌, ◌-◌, ◌<◌, ◌≤◌, inl, inr, List, [], ◌∷◌, ◌++◌, length, refl, sym, arith, subst, Bool, true, false, Option, Some, None, cond, is_some}
 use Rattle.regex_search_core.specs.Search.{Search}
 use Rattle.regex_search_core.specs.Found.{half_found_of}
-use Rattle.regex_search_core.specs.Patterns.{number_of}
 use Rattle.regex_search_core.specs.declared.primitives.PatternID.{PatternID}
 use Rattle.regex_search_core.specs.declared.search.HalfMatch.{HalfMatch}
 use Rattle.regex_search_core.specs.declared.search.MatchKind.{MatchKind}
@@ -23,20 +21,13 @@ use Rattle.nfa_paths.proofs.ScanningLemmas.{Scanning-load, Scanning-over}
 use Rattle.nfa_scan_core.specs.FirstBytes.{IsFirstBytes}
 use Rattle.nfa_scan_core.specs.Marks.{Marks}
 use Rattle.nfa_pikevm_scan.specs.States.{tasks, unmarked, AreMatchPairs, SeenAt, SearchingAt, NextsGive}
-use Rattle.nfa_pikevm_scan.specs.Scans.{blank, starts_from, with_start, half_found, IsPassed, AddsStart, AreStarts, IsSoFar, SearchesFirst, ScansAll}
+use Rattle.nfa_pikevm_scan.specs.Scans.{blank, starts_from, with_start, IsPassed, AddsStart, AreStarts, IsSoFar, SearchesFirst, SearchingFrom, ScansAll, ScanningFrom}
 use Rattle.nfa_pikevm_scan.specs.declared.scan.Starts.{Starts}
 use Rattle.nfa_pikevm_scan.proofs.TaskLemmas.{tasks-joins, tasks-alone, tasks-joined, starts_from-end, AnswersFor, AnswersFor-same, AnswersFor-then, AnswersFor-tasks, AnswersFor-pass, AnswersFor-skip, Searching-for, Searching-seen, Searching-begin}
 use Rattle.nfa_pikevm_scan.proofs.RoomLemmas.{over-joined}
-use Rattle.nfa_pikevm_scan.proofs.ScanLemmas.{SearchesFirst-hit}
-use Rattle.nfa_pikevm_scan.proofs.AllLemmas.{HasLast, EndsAt, half-so_far, earliest-first, earliest-last}
+use Rattle.nfa_pikevm_scan.proofs.ScanLemmas.{EndsAt, match-cross}
+use Rattle.nfa_pikevm_scan.proofs.AllLemmas.{HasLast, earliest-found}
 use Rattle.nfa_scan_core.proofs.SeenLemmas.{SeenAt-none}
-
--- a half match is of a match
-EndsAt-some : (at : ℕ) (hit : Option PatternID) (half : Option HalfMatch) → EndsAt at hit half → is_some half ≡ true
-    → hit ≡ None → ⊥
-EndsAt-some at None None e some none = cc
-EndsAt-some at None (Some m) e some none = cc
-EndsAt-some at (Some p) half e some none = cc
 
 module _ (nfa : Automaton) (x : Search) where
   -- the beginning
@@ -44,9 +35,7 @@ module _ (nfa : Automaton) (x : Search) where
   module _ (begins : Starts) (are : AreStarts nfa x begins) (slots : Slots) (met : Marks) where
     -- the search for a set of match pairs begins
     pub SearchingAt-begin : (target : Pair → Bool)
-        → SearchingAt nfa x x.start target (starts nfa x) (blank (length slots)) None (unmarked met) []
-        (tasks x.start [] (Load (blank (length slots)) ∷ starts_from (length slots) begins.state x.start begins.limit))
-        (blank (length slots))
+        → SearchingFrom nfa x target x.start (length slots) begins.state x.start begins.limit None met []
     SearchingAt-begin target =
         subst (λ (ps : List Pair). SearchingAt nfa x x.start target (starts nfa x) (blank (length slots)) None
         (unmarked met) [] (Load (blank (length slots)) ∷ seeds (blank (length slots)) ps) (blank (length slots)))
@@ -83,9 +72,7 @@ module _ (nfa : Automaton) (x : Search) where
   -- all sets of wanted pairs at once
   pub ScansAll-joined : (begins : Starts) (at width : ℕ) {wanted : Pair → Bool} {met : Marks} {items : List (ℕ × Slots)}
       → ScansAll nfa x wanted at width begins.state begins.limit met items
-      → Scanning (space nfa x) wanted (blank width) at (SeenAt at (unmarked met).bits) met.turns []
-      (tasks at (with_start begins width at items)
-      (Load (blank width) ∷ starts_from width begins.state (at + 1) begins.limit)) (blank width)
+      → ScanningFrom nfa x wanted at width begins.state (at + 1) begins.limit met (with_start begins width at items)
   ScansAll-joined begins at width {wanted} {met} {items} s =
       subst (λ (w : List Task). Scanning (space nfa x) wanted (blank width) at
       (SeenAt at (unmarked met).bits) met.turns [] w (blank width)) (tasks-joined begins width at items) s.scanning
@@ -157,8 +144,7 @@ module _ (nfa : Automaton) (x : Search) where
         {met : Marks} → x.start ≤ at
         → AddsStart table x begins limit width at items to kept
         → (s : SearchesFirst nfa x at width begins.state limit found slots met items)
-        → SearchingAt nfa x to (is_match nfa) (starts nfa x) (blank width) s.so_far (unmarked met) []
-        (tasks to kept (Load (blank width) ∷ starts_from width begins.state (to + 1) limit)) (blank width)
+        → SearchingFrom nfa x (is_match nfa) to width begins.state (to + 1) limit s.so_far met kept
     SearchesFirst-joins at to {items} {kept} {met = met} low j s =
         Searching-seen (space nfa x) (is_match nfa)
         (Searching-for (space nfa x) (is_match nfa) s.searching
@@ -196,17 +182,15 @@ module _ (nfa : Automaton) (x : Search) where
       }
 
   -- nothing is left of the search for the first path
-  pub first-over : (at next width state limit : ℕ) (found : Option HalfMatch) (slots : Slots) (met : Marks)
-      (so_far : Hit) (items : List (ℕ × Slots)) → IsSoFar nfa x found slots so_far → limit ≤ next → items ≡ []
-      → SearchingAt nfa x at (is_match nfa) (starts nfa x) (blank width) so_far (unmarked met) []
-      (tasks at items (Load (blank width) ∷ starts_from width state next limit)) (blank width)
-      → width ≡ length slots → ScanGives nfa LeftmostFirst false x found slots met.turns
-  first-over at next width state limit found slots met so_far items is past none s size =
-      let alone : SearchingAt nfa x at (is_match nfa) (starts nfa x) (blank width) so_far (unmarked met) []
-      (Load (blank width) ∷ []) (blank width) = rw (none, starts_from-end width state past) at s in
+  pub first-over : {at width state limit : ℕ} {found : Option HalfMatch} {slots : Slots} {met : Marks}
+      {items : List (ℕ × Slots)} → SearchesFirst nfa x at width state limit found slots met items → limit ≤ at
+      → items ≡ [] → width ≡ length slots → ScanGives nfa LeftmostFirst false x found slots met.turns
+  first-over {at} {width} {state} {limit} {found} {slots} {met} s past none size =
+      let alone : SearchingAt nfa x at (is_match nfa) (starts nfa x) (blank width) s.so_far (unmarked met) []
+      (Load (blank width) ∷ []) (blank width) = rw (none, starts_from-end width state past) at s.searching in
       let answer = Searching-done (space nfa x) (is_match nfa) (Searching-load (space nfa x) (is_match nfa) alone) in
-      Scans-so_far LeftmostFirst false width met.turns found slots so_far is
-      (scan_first-found nfa x (blank width) met.turns so_far answer) size
+      Scans-so_far LeftmostFirst false width met.turns found slots s.so_far s.is_so_far
+      (scan_first-found nfa x (blank width) met.turns s.so_far answer) size
 
   -- no state and no start is left: every path has ended
   pub ScansAll-over : (begins : Starts) (at width : ℕ) {wanted : Pair → Bool} {met : Marks} {items : List (ℕ × Slots)}
@@ -233,46 +217,15 @@ module _ (nfa : Automaton) (x : Search) where
   pub ends-at : (at : ℕ) → at ≡ x.end + 1 → EndsBefore (space nfa x) (is_match nfa) at
   ends-at at e = rw e (EndsBefore-span nfa x (is_match nfa))
 
-  -- a position with a match, of the search for the first path
-  pub SearchesFirst-some : (at width state limit : ℕ) {met : Marks} {items : List (ℕ × Slots)} {slots : Slots}
-      {hit : Option PatternID} {after : Marks} {kept : List (ℕ × Slots)} {written : Slots} {so_far : Hit}
-      → NextsGive nfa x at false met items slots hit after kept written
-      → SearchingAt nfa x at (is_match nfa) (starts nfa x) (blank width) so_far (unmarked met) []
-      (tasks at items (Load (blank width) ∷ starts_from width state (at + 1) limit)) (blank width)
-      → (half : Option HalfMatch) → EndsAt at hit half → is_some half ≡ true
-      → SearchesFirst nfa x (at + 1) width state 0 half written after kept
-  SearchesFirst-some at width state limit {hit = None} c s half is some = let k = EndsAt-some at None half is some in
-      absurd (k refl)
-  SearchesFirst-some at width state limit {hit = Some p} c s None is some = cc
-  SearchesFirst-some at width state limit {hit = Some p} c s (Some m) is some =
-      let same : half_found_of m ≡ half_found (number_of p) at = cc in
-      SearchesFirst-hit nfa x at width state limit c s p refl m same
-
   -- the first position with a match
-  pub earliest-over : (at width state limit : ℕ) (past : Bool) {met : Marks} {items : List (ℕ × Slots)} {slots : Slots}
+  pub earliest-over : (at width state limit : ℕ) {past : Bool} {met : Marks} {items : List (ℕ × Slots)} {slots : Slots}
       {hit : Option PatternID} {after : Marks} {kept : List (ℕ × Slots)} {written : Slots}
       → NextsGive nfa x at past met items slots hit after kept written
-      → Scanning (space nfa x) (is_match nfa) (blank width) at (SeenAt at (unmarked met).bits) met.turns []
-      (tasks at items (Load (blank width) ∷ starts_from width state (at + 1) limit)) (blank width)
+      → ScanningFrom nfa x (is_match nfa) at width state (at + 1) limit met items
       → NoneBefore (space nfa x) (is_match nfa) at → (half : Option HalfMatch) → EndsAt at hit half
       → is_some half ≡ true → width ≡ length written
       → ScanGives nfa (cond past AllMatches LeftmostFirst) true x half written after.turns
-  earliest-over at width state limit true {hit = None} c s none half is some size = let k =
-      EndsAt-some at None half is some in absurd (k refl)
-  earliest-over at width state limit false {hit = None} c s none half is some size = let k =
-      EndsAt-some at None half is some in absurd (k refl)
-  earliest-over at width state limit past {hit = Some p} c s none None is some size = cc
-  earliest-over at width state limit true {hit = Some p} {after = after} {written = written} c s none
-      (Some m) is some size =
-      let h = c.is_hit in
-      let same : half_found_of m ≡ half_found (number_of p) at = cc in
-      Scans-so_far AllMatches true width after.turns (Some m) written (Some (h.0, written))
-      (half-so_far nfa x at width state limit c h.0 h.1 p h.2 m same)
-      (earliest-last nfa x at width state limit c s none (h.0, written) h.1) size
-  earliest-over at width state limit false {hit = Some p} {after = after} {written = written} c s none
-      (Some m) is some size =
-      let h = c.is_hit in
-      let same : half_found_of m ≡ half_found (number_of p) at = cc in
-      Scans-so_far LeftmostFirst true width after.turns (Some m) written (Some (h.0, written))
-      (half-so_far nfa x at width state limit c h.0 h.1 p h.2 m same)
-      (earliest-first nfa x at width state limit c s none (h.0, written) h.1) size
+  earliest-over at width state limit {past} {after = after} {written = written} c s none half is some size =
+      let k = match-cross c half is some in
+      Scans-so_far (cond past AllMatches LeftmostFirst) true width after.turns half written (Some (k.0, written)) k.2
+      (earliest-found nfa x at width state limit c s none (k.0, written) k.1) size

@@ -1,7 +1,5 @@
 -- What the front of a position leads on to, and what it costs.
-use Rattle.std.proofs.Common.{◌≡◌, ℕ, ◌+◌, ◌-◌, ◌*◌, ◌<◌, ◌≤◌, ◌⊎◌, inl, inr, List, [], ◌∷◌, length, map, refl, ap, sym, ◌∙◌, arith, subst, Bool, true, false}
-use Rattle.std.specs.Prelude.{Option, Some, None, All, cond, option_map, option_to_list}
-use Rattle.std.specs.List.{sum_by}
+use Rattle.std.proofs.Common.{◌≡◌, ℕ, ◌+◌, ◌-◌, ◌*◌, ◌<◌, ◌≤◌, ◌⊎◌, inl, inr, List, [], ◌∷◌, length, map, refl, ap, sym, ◌∙◌, arith, subst, Bool, true, false, Option, Some, None, All, cond, option_map, option_to_list, sum_by}
 use Rattle.std.specs.Option.{option_or}
 use Rattle.std.proofs.Math.Nat.{mul-le-mul_right}
 use Rattle.std.proofs.lemmas.List.Elements.{All-cons, All-nil}
@@ -19,7 +17,7 @@ use Rattle.nfa_paths.proofs.TurnLemmas.{marked_sum-le}
 use Rattle.nfa_scan_core.proofs.TargetLemmas.{target-below}
 use Rattle.nfa_scan_core.specs.Marks.{Marks}
 use Rattle.nfa_pikevm_scan.specs.States.{Frontier, moves, unmarked, one_of, Formed, Paid}
-use Rattle.nfa_pikevm_scan.specs.Scans.{IsPaidAt, max_scan_turns}
+use Rattle.nfa_pikevm_scan.specs.Scans.{AreAt, IsPaidAt, max_scan_turns}
 use Rattle.nfa_paths.proofs.MemberLemmas.{All-In}
 
 -- none, or one of a state of the NFA at the next position
@@ -170,9 +168,9 @@ module _ (nfa : Automaton) (x : Search) where
       step before turns items hand after more n w b one h = omega arith
 
   -- positions that are passed over cost nothing
-  pub IsPaidAt-later : (at to before turns items : ℕ) → at ≤ to → IsPaidAt nfa x at before turns items
+  pub IsPaidAt-later : {at to before turns items : ℕ} → at ≤ to → IsPaidAt nfa x at before turns items
       → IsPaidAt nfa x to before turns items
-  IsPaidAt-later at to before turns items le p =
+  IsPaidAt-later {at} {to} {before} {turns} {items} le p =
       let few : at - x.start ≤ to - x.start = omega arith in
       let b : turns + items ≤ before + (at - x.start) * (1 + total_degree nfa) = p.bound in
       let k : (at - x.start) * (1 + total_degree nfa) ≤ (to - x.start) * (1 + total_degree nfa) =
@@ -180,11 +178,11 @@ module _ (nfa : Automaton) (x : Search) where
       record { bound = omega arith }
 
   -- all positions
-  pub IsPaidAt-end : (at before turns items : ℕ) → at ≤ x.end + 1 → x.start ≤ x.end
-      → IsPaidAt nfa x at before turns items → turns ≤ before + max_scan_turns nfa x
-  IsPaidAt-end at before turns items within span p =
+  pub AreAt-turns : {at before turns : ℕ} {items : List (ℕ × Slots)} → at ≤ x.end + 1 → x.start ≤ x.end
+      → AreAt nfa x at before turns items → turns ≤ before + max_scan_turns nfa x
+  AreAt-turns {at} {before} {turns} {items} within span a =
       let few : at - x.start ≤ span_len x + 1 = omega arith in
-      let b : turns + items ≤ before + (at - x.start) * (1 + total_degree nfa) = p.bound in
+      let b : turns + length items ≤ before + (at - x.start) * (1 + total_degree nfa) = a.paid.bound in
       let k : (at - x.start) * (1 + total_degree nfa) ≤ (span_len x + 1) * (1 + total_degree nfa) =
       mul-le-mul_right (1 + total_degree nfa) few in
       omega arith

@@ -1,61 +1,151 @@
--- A scan for the first path at its first start, and while one state is followed.
-use Rattle.std.proofs.Common.{◌≡◌, ℕ, ◌+◌, ◌<◌, ◌≤◌, inl, inr, List, [], ◌∷◌, length, refl, arith, subst, ap, ◌∙◌, Bool, false}
+-- A scan for the first path, from one position to the next: at its first start, at later ones, and while one state is
+-- followed.
+use Rattle.std.proofs.Common.{◌≡◌, ℕ, ◌+◌, ◌<◌, ◌≤◌, ◌⊎◌, inl, inr, List, [], ◌∷◌, length, refl, arith, subst, ap, ◌∙◌, Bool, true, false, Option, Some, None, is_some, All}
 use Rattle.std.proofs.lemmas.Bool.{cases_lt}
-use Rattle.std.specs.Prelude.{Option, Some, None, is_some}
+use Rattle.std.proofs.lemmas.List.Elements.{All-push}
 use Rattle.regex_search_core.specs.Search.{Search}
+use Rattle.regex_search_core.specs.declared.primitives.PatternID.{PatternID}
 use Rattle.regex_search_core.specs.declared.search.HalfMatch.{HalfMatch}
 use Rattle.thompson_nfa.specs.Automaton.{Automaton}
-use Rattle.nfa_paths.specs.Exploring.{Task, Slots}
-use Rattle.nfa_paths.specs.Exploring.Task.{Load}
+use Rattle.nfa_paths.specs.Exploring.{Task, Slots, Hit}
 use Rattle.nfa_paths.specs.Paths.{is_match, starts}
-use Rattle.nfa_scan_core.specs.FirstBytes.{IsRefused}
+use Rattle.nfa_scan_core.specs.FirstBytes.{IsFirstBytes}
 use Rattle.nfa_scan_core.specs.Marks.{Marks}
-use Rattle.nfa_pikevm_scan.specs.States.{tasks, unmarked, SearchingAt}
-use Rattle.nfa_pikevm_scan.specs.Scans.{blank, starts_from, AddsStart, SearchesFirst}
+use Rattle.nfa_pikevm_scan.specs.States.{unmarked, SearchingAt, NextsGive}
+use Rattle.nfa_pikevm_scan.specs.Scans.{blank, AddsStart, AreStarts, HaveRows, KeepsThreads, MayCross, MayScan, PassesOver, ScansFirst, SearchesFirst, SearchingFrom}
 use Rattle.nfa_pikevm_scan.specs.declared.scan.Starts.{Starts}
-use Rattle.nfa_pikevm_scan.proofs.RoomLemmas.{skip-within, skip-early, skip-less}
+use Rattle.nfa_pikevm_scan.specs.declared.threads.Threads.{Threads}
+use Rattle.nfa_pikevm_scan.proofs.RoomLemmas.{AddsStart-passes, AreAt-none, KeepsThreads-none, KeepsThreads-then, few-joins}
 use Rattle.nfa_pikevm_scan.proofs.TaskLemmas.{tasks-alone}
-
--- the first start, after those that are passed over
-pub AddsStart-first : (table : List Bool) (x : Search) (begins : Starts) (width to : ℕ)
-    → begins.stop ≤ x.end → begins.stop < begins.limit → x.start < begins.limit → x.start ≤ to
-    → (x.start ≤ begins.stop → to ≤ begins.stop) → (begins.stop ≤ x.start → to ≡ x.start)
-    → ((k : ℕ) → x.start ≤ k → k < to → IsRefused table x k) → (to < begins.stop → IsRefused table x to → ⊥)
-    → AddsStart table x begins begins.limit width x.start [] to ((begins.state, blank width) ∷ [])
-AddsStart-first table x begins width to inside before some low near stays passed least = record {
-  ahead = low;
-  within = λ w. skip-within x.start to begins.stop x.end stays near inside w;
-  stays = λ some. absurd (omega arith);
-  passed = λ k h l. (skip-early x.start to begins.stop k stays near h l, passed k h l);
-  some = λ less. omega arith;
-  passes = λ p. absurd (least p.0 p.1);
-  last = inl (skip-less x.start to begins.stop begins.limit stays near before some, refl);
-}
-
--- after the last start the next one changes nothing
-pub SearchesFirst-lone : (nfa : Automaton) (x : Search) (at width state : ℕ) {found : Option HalfMatch} {slots : Slots}
-    {met : Marks} {items : List (ℕ × Slots)}
-    → (s : SearchesFirst nfa x at width state 0 found slots met items)
-    → SearchingAt nfa x at (is_match nfa) (starts nfa x) (blank width) s.so_far (unmarked met) []
-    (tasks at items (Load (blank width) ∷ starts_from width state (at + 1) 0)) (blank width)
-SearchesFirst-lone nfa x at width state {met = met} {items} s =
-    subst (λ (w : List Task). SearchingAt nfa x at (is_match nfa) (starts nfa x) (blank width) s.so_far (unmarked met)
-    [] w (blank width)) (tasks-alone width state at 0 items (omega arith)) s.searching
+use Rattle.nfa_pikevm_scan.proofs.FrontierLemmas.{IsPaidAt-later}
+use Rattle.nfa_pikevm_scan.proofs.ScanLemmas.{AreAt-cross, Crossed-given, EndsAt, EndsAt-none, SearchesFirst-match, SearchesFirst-miss}
+use Rattle.nfa_pikevm_scan.proofs.EndLemmas.{SearchesFirst-begin, SearchesFirst-joins}
 
 -- no match was found
 pub half-none : (half : Option HalfMatch) → is_some half ≡ false → half ≡ None
 half-none None e = refl
 half-none (Some m) e = cc
 
--- a state is there, so the position is in the span or at its end
-pub inside-joins : {table : List Bool} {x : Search} {begins : Starts} {limit width at : ℕ} {items : List (ℕ × Slots)}
-    {to : ℕ} {kept : List (ℕ × Slots)} → AddsStart table x begins limit width at items to kept → limit ≤ x.end + 1
-    → (x.end < at → items ≡ []) → 0 < length kept → at ≤ x.end
-inside-joins {x = x} {limit = limit} {at = at} {items = items} {to = to} {kept = kept} j high over some =
-    elim (cases_lt x.end at) [
-      | inl past ↦ elim j.last [
-        | inl h ↦ let ahead : at ≤ to = j.ahead in let less : to < limit = h.0 in absurd (omega arith)
-        | inr h ↦ absurd (omega (arith, some, ap (λ (is : List (ℕ × Slots)). length is) (h.0 ∙ over past)))
-      ]
-      | inr within ↦ within
-    ]
+-- The position that a scan goes on at, with its states: at most one start has joined those that were there.
+pub record Joined (nfa : Automaton) (x : Search) (state limit at to width : ℕ) (so_far : Hit) (met : Marks)
+    (before items : List (ℕ × Slots)) : Type 0 where
+  pub states : All (λ i. i.0 < length nfa.states) items
+  pub few : length items ≤ length before + 1
+  pub ahead : at ≤ to
+  pub within : to ≤ x.end
+  pub search : SearchingFrom nfa x (is_match nfa) to width state (to + 1) limit so_far met items
+
+-- the states there may be followed
+pub MayCross-joined : {nfa : Automaton} {x : Search} {state limit at to width : ℕ} {so_far : Hit} {met : Marks}
+    {before : List (ℕ × Slots)} {t : Threads}
+    → Joined nfa x state limit at to width so_far met before t.curr.items → HaveRows nfa width t
+    → t.reached.next.items ≡ [] → MayCross nfa x to width t
+MayCross-joined j rows none = record { place = j.within; states = j.states; room = rows; empty = none }
+
+-- the scan begins
+pub ScansFirst-begin : {nfa : Automaton} {x : Search} {from : Starts} {slots : Slots} {t : Threads}
+    → MayScan nfa x from slots t → ScansFirst nfa x from from.limit x.start (length slots) None slots t t
+ScansFirst-begin {nfa} {x} {from} {slots} {t} ready =
+    let span = ready.span in
+    record {
+      limits = inl refl;
+      low = omega arith;
+      high = omega arith;
+      keeps = KeepsThreads-none t;
+      next = ready.next;
+      states = rw ready.curr (AreAt-none nfa x t.reached.seen.turns);
+      searches = rw ready.curr (SearchesFirst-begin nfa x from ready.starts slots t.reached.seen ready.unset);
+    }
+
+module _ {nfa : Automaton} {x : Search} {from : Starts} {limit at width : ℕ} {found : Option HalfMatch} {slots : Slots}
+    {base old : Threads} (s : ScansFirst nfa x from limit at width found slots base old) where
+  -- a state is there, and no start is left
+  pub Joined-lone : limit ≡ 0 → length old.curr.items ≡ 1
+      → Joined nfa x from.state limit at at width s.searches.so_far old.reached.seen old.curr.items old.curr.items
+  Joined-lone none one = record {
+    states = s.states.states;
+    few = omega arith;
+    ahead = omega arith;
+    within =
+        elim (cases_lt x.end at) [
+          | inl past ↦ absurd (omega (arith, ap (λ (is : List (ℕ × Slots)). length is) (s.states.over past)))
+          | inr within ↦ within
+        ];
+    search = subst (λ (w : List Task). SearchingAt nfa x at (is_match nfa) (starts nfa x) (blank width)
+        s.searches.so_far (unmarked old.reached.seen) [] w (blank width))
+        (tasks-alone width from.state at limit old.curr.items (omega arith)) s.searches.searching;
+  }
+
+  -- the start has joined, or is passed over, or none is left; and some state is there
+  pub Joined-start : {table : List Bool} → IsFirstBytes nfa table → AreStarts nfa x from → {to : ℕ}
+      {items : List (ℕ × Slots)} → AddsStart table x from limit width at old.curr.items to items → 0 < length items
+      → Joined nfa x from.state limit at to width s.searches.so_far old.reached.seen old.curr.items items
+  Joined-start {table} first are {to} {items} j some = record {
+    states = elim j.last [
+      | inl h ↦ rw h.1 (All-push (λ (i : ℕ × Slots). i.0 < length nfa.states) old.curr.items
+          (from.state, blank width) s.states.states are.state)
+      | inr h ↦ rw h.0 s.states.states
+    ];
+    few = few-joins j;
+    ahead = j.ahead;
+    within = j.within (
+        elim (cases_lt x.end at) [
+          | inl past ↦ elim j.last [
+            | inl h ↦ elim s.limits [
+              | inl same ↦ absurd (omega (arith, j.ahead, h.0, are.high, same))
+              | inr none ↦ absurd (omega (arith, h.0, none))
+            ]
+            | inr h ↦ absurd (omega
+                (arith, some, ap (λ (is : List (ℕ × Slots)). length is) (h.0 ∙ s.states.over past)))
+          ]
+          | inr within ↦ within
+        ]
+        );
+    search = SearchesFirst-joins nfa x table first from are limit width at to s.low j s.searches;
+  }
+
+  module _ (are : AreStarts nfa x from) {to : ℕ} {items : List (ℕ × Slots)}
+      (j : Joined nfa x from.state limit at to width s.searches.so_far old.reached.seen old.curr.items items)
+      {new : Threads} (keeps : KeepsThreads old new) (next : new.reached.next.items ≡ []) {hit : Option PatternID}
+      {written : Slots}
+      (c : NextsGive nfa x to false old.reached.seen items slots hit new.reached.seen new.curr.items written) where
+    -- the next position, with what was found up to it
+    after : {later : ℕ} {half : Option HalfMatch} → (later ≡ from.limit) ⊎ (later ≡ 0)
+        → SearchesFirst nfa x (to + 1) width from.state later half written new.reached.seen new.curr.items
+        → ScansFirst nfa x from later (to + 1) width half written base new
+    after limits searches =
+        let low : x.start ≤ to = omega (arith, s.low, j.ahead) in
+        let within : to ≤ x.end = j.within in
+        record {
+          limits = limits;
+          low = omega arith;
+          high = omega arith;
+          keeps = KeepsThreads-then s.keeps keeps;
+          next = next;
+          states = AreAt-cross (Crossed-given width from.state limit c.gives) are.leads low
+              (IsPaidAt-later nfa x j.ahead s.states.paid) j.few;
+          searches = searches;
+        }
+
+    module _ (half : Option HalfMatch) (is : EndsAt to hit half) where
+      -- with a match there: no start is left
+      pub ScansFirst-match : is_some half ≡ true → ScansFirst nfa x from 0 (to + 1) width half written base new
+      ScansFirst-match some = after (inr refl) (SearchesFirst-match nfa x to width from.state limit c j.search half is some)
+
+      -- with none
+      pub ScansFirst-miss : is_some half ≡ false
+          → ScansFirst nfa x from limit (to + 1) width found written base new
+      ScansFirst-miss none = after s.limits (SearchesFirst-miss nfa x to width from.state limit c j.search
+          s.searches.is_so_far (EndsAt-none to hit half is none))
+
+-- the first start, after those that are passed over
+pub Joined-first : {nfa : Automaton} {x : Search} {from : Starts} {slots : Slots} {t : Threads}
+    (ready : MayScan nfa x from slots t) {table : List Bool} → IsFirstBytes nfa table → x.start < from.limit → {to : ℕ}
+    → PassesOver table x x.start from.stop to
+    → Joined nfa x from.state from.limit x.start to (length slots) (ScansFirst-begin ready).searches.so_far
+    t.reached.seen t.curr.items
+    ((from.state, blank (length slots)) ∷ [])
+Joined-first {x = x} {from} {slots} {t} ready first some p =
+    let are = ready.starts in
+    Joined-start (ScansFirst-begin ready) first are
+    (rw ready.curr (AddsStart-passes (length slots) p are.stop are.before some)) (omega arith)

@@ -1,12 +1,11 @@
 -- The kept states of a position, followed one after the other.
-use Rattle.std.proofs.Common.{◌≡◌, ℕ, ◌+◌, ◌*◌, ◌<◌, ◌≤◌, List, [], ◌∷◌, ◌++◌, length, get_or, map, take, drop, replicate, refl, ap, sym, ◌∙◌, arith, true, false, Bool, subst}
-use Rattle.std.specs.Prelude.{All}
-use Rattle.std.proofs.lemmas.List.{drop_more, drop-drop, drop_all, length-take, length-take-le, length-drop}
+use Rattle.std.proofs.Common.{◌≡◌, ℕ, ◌+◌, ◌*◌, ◌<◌, ◌≤◌, List, [], ◌∷◌, ◌++◌, length, get_or, map, take, drop, replicate, refl, ap, sym, ◌∙◌, arith, true, false, Bool, subst, All}
+use Rattle.std.proofs.lemmas.List.{drop_more, drop-drop, drop_all, length-take, length-take-le, length-drop, length-replicate}
 use Rattle.std.proofs.lemmas.List.Elements.{All-nil, All-cons, All-head, All-tail}
 use Rattle.std.proofs.lemmas.Slice.{drop-put_mid}
 use Rattle.std.proofs.Math.Nat.{mul-le-mul_right}
 use borrow.Rule.Slice.PartMut.{put_mid}
-use Rattle.regex_search_core.specs.Search.{Search}
+use Rattle.regex_search_core.specs.Search.{Search, search_of}
 use Rattle.regex_search_core.specs.declared.primitives.PatternID.{PatternID}
 use Rattle.thompson_nfa.specs.Automaton.{Automaton}
 use Rattle.nfa_paths.specs.Graphs.{Pair}
@@ -16,9 +15,13 @@ use Rattle.nfa_paths.specs.Exploring.Task.{Explore, Load}
 use Rattle.nfa_paths.specs.Turns.{marked_sum}
 use Rattle.nfa_paths.proofs.TurnLemmas.{marked_sum-clear}
 use Rattle.nfa_scan_core.specs.Marks.{Marks}
-use Rattle.nfa_pikevm_scan.specs.Rows.{items_of}
+use Rattle.nfa_pikevm_scan.specs.Rows.{Active, items_of}
 use Rattle.nfa_pikevm_scan.specs.Needs.{room_of}
-use Rattle.nfa_pikevm_scan.specs.States.{Frontier, moves, tasks, unmarked, one_of, Formed, HasRoom, Paid, Follows, Leads}
+use Rattle.nfa_pikevm_scan.specs.States.{Frontier, moves, tasks, unmarked, one_of, Formed, HasRoom, Paid, Follows, Leads, IsClosureContext, MayFollow}
+use Rattle.nfa_pikevm_scan.specs.Scans.{MayCross}
+use Rattle.nfa_pikevm_scan.specs.declared.closure.ClosureContext.{ClosureContext}
+use Rattle.nfa_pikevm_scan.specs.declared.closure.ClosureOutput.{ClosureOutput}
+use Rattle.nfa_pikevm_scan.specs.declared.threads.Threads.{Threads}
 use Rattle.nfa_pikevm_scan.specs.Sinks.{Takes, ClosureGives, ClosuresGive}
 use Rattle.nfa_pikevm_scan.specs.Sinks.Takes.{none}
 use Rattle.nfa_pikevm_scan.proofs.RowLemmas.{drop-items_of, length-items_of}
@@ -77,6 +80,33 @@ rows-behind width i count n cells rows row h fits long wide whole same =
     (whole ∙ row-long width i count n rows cells h fits long wide ∙ sym wide)
     ∙ ap (λ k. drop k rows) more ∙ sym (drop-drop width (i * width) rows) ∙ ap (drop width) same
     ∙ drop-drop width (i * width) cells ∙ ap (λ k. drop k cells) (sym more)
+
+-- the states of a position may be followed if all marks were cleared
+pub MayFollow-cleared : {here : ClosureContext} {states : List ℕ} {old : ClosureOutput} {frames width : ℕ} {t : Threads}
+    → MayCross here.nfa.now (search_of here.input.now) here.at width t → IsClosureContext here
+    → All (λ s. s < length here.nfa.now.states) states → old.seen ≡ unmarked t.reached.seen → old.next ≡ t.reached.next
+    → frames ≡ length t.frames.items → MayFollow here states old frames width
+MayFollow-cleared {here} {states} {old} {frames} {width} {t} may context below seen next long =
+    let bits : old.seen.bits ≡ replicate (length t.reached.seen.bits) false = ap (λ (m : Marks). m.bits) seen in
+    let none : old.next.items ≡ [] = rw next may.empty in
+    let size : length old.seen.bits ≡ length t.reached.seen.bits =
+    ap length bits ∙ length-replicate (length t.reached.seen.bits) false in
+    let room = may.room.room in
+    record {
+      context = context;
+      below = below;
+      room = record {
+        room = record {
+          marks = omega (arith, room.marks);
+          frames_fit = omega arith;
+          states_fit = omega (arith, room.capacity, t.same_capacity, ap (λ (a : Active). a.capacity) next, ap length none);
+        };
+        stack = omega (arith, room.stack);
+      };
+      clear = bits ∙ ap (λ n. replicate n false) (sym size);
+      empty = none;
+      width_is = sym (ap (λ (a : Active). a.width) next ∙ t.same_width ∙ may.room.width_is);
+    }
 
 -- each item's state is below `count`
 pub states-below : (count width : ℕ) (states : List ℕ) (cells : Slots)

@@ -1,6 +1,5 @@
 -- One state of a position, followed to its first match.
-use Rattle.std.proofs.Common.{◌≡◌, ℕ, inl, inr, List, [], ◌∷◌, ◌++◌, length, get_or, take, refl, ap, sym, ◌∙◌, replicate, arith, append-nil, Bool, true, false}
-use Rattle.std.specs.Prelude.{Option, Some, None, is_some, not}
+use Rattle.std.proofs.Common.{◌≡◌, ℕ, inl, inr, List, [], ◌∷◌, ◌++◌, length, get_or, take, refl, ap, sym, ◌∙◌, replicate, arith, append-nil, Bool, true, false, Option, Some, None, is_some, not}
 use Rattle.nfa_pikevm_scan.specs.Rows.{items_of}
 use Rattle.regex_search_core.specs.Search.{Search}
 use Rattle.regex_search_core.specs.declared.primitives.PatternID.{PatternID}

@@ -1,12 +1,11 @@
 -- The positions of the scan for the first match: the states after a match are dropped.
-use Rattle.std.proofs.Common.{◌≡◌, ℕ, ◌+◌, ◌-◌, ◌<◌, ◌≤◌, ◌⊎◌, ◌↔◌, inl, inr, Bool, true, false, List, [], ◌∷◌, ◌++◌, length, map, refl, sym, ap, ◌∙◌, subst, arith}
-use Rattle.std.specs.Prelude.{None, Some, All}
+use Rattle.std.proofs.Common.{◌≡◌, ℕ, ◌+◌, ◌-◌, ◌<◌, ◌≤◌, ◌⊎◌, ◌↔◌, inl, inr, Bool, true, false, List, [], ◌∷◌, ◌++◌, length, map, refl, sym, ap, ◌∙◌, subst, arith, None, Some, All}
 use Rattle.std.proofs.lemmas.Bool.{cases_lt, lt-ltb, le-ltb}
 use Rattle.std.proofs.lemmas.List.Elements.{All-head, All-tail}
 use Rattle.regex_search_core.specs.PatternSets.{size_of_set}
 use Rattle.regex_search_core.specs.Search.{Search}
 use Rattle.regex_search_core.specs.declared.search.MatchKind.TheVariants.{LeftmostFirst}
-use Rattle.thompson_nfa.specs.Automaton.{Automaton, IsAutomaton}
+use Rattle.thompson_nfa.specs.Automaton.{Automaton}
 use Rattle.nfa_paths.specs.Graphs.{Pair, In}
 use Rattle.nfa_paths.specs.Paths.{edges, starts, pairs_from, space}
 use Rattle.nfa_paths.specs.Exploring.{Slots, Hit, Task, next_tasks, seeds, ExploresTo, ExploresAfter}
@@ -16,23 +15,21 @@ use Rattle.nfa_paths.specs.Overlaps.{IsInsertable, IsOverlapResult, pattern_at}
 use Rattle.nfa_paths.proofs.FrontierMatchLemmas.{first_match-is, before_match-among}
 use Rattle.nfa_paths.proofs.StartLemmas.{pairs_from-step, pairs_from-end}
 use Rattle.nfa_paths.proofs.SoundLemmas.{heads, Sound, Sound-start, Sound-hit, Sound-round, Sound-cut, Searched}
-use Rattle.nfa_paths.proofs.MetLemmas.{Between, Between-all, Between-before, Between-less, Between-same}
-use Rattle.nfa_paths.proofs.MetLemmas.{Best, Best-found, Exact, Exact-start, Exact-next, Exact-match, Exact-end}
-use Rattle.nfa_paths.proofs.MetLemmas.{Answer-ahead, before_target, before_is, before_match-same, first_match-same}
+use Rattle.nfa_paths.proofs.MetLemmas.{Between, Between-all, Between-before, Between-less, Between-same, Best, Best-found, Exact, Exact-start, Exact-next, Exact-match, Exact-end, Answer-ahead, before_target, before_is, before_match-same, first_match-same}
 use Rattle.nfa_paths.proofs.UpToLemmas.{UpTo, UpTo-next, UpTo-match, UpTo-end}
 use Rattle.nfa_paths.proofs.FullLemmas.{UpTo-full}
 use Rattle.nfa_paths.proofs.SetLemmas.{first-gains}
 use Rattle.nfa_paths.proofs.ScanAnswerLemmas.{edges-onward, seeds-later}
 use Rattle.nfa_paths.proofs.SearchingLemmas.{Searching-load, Searching-done}
 use Rattle.nfa_scan_core.specs.Marks.{Marks}
-use Rattle.nfa_pikevm_scan.specs.Scans.{starts_from, with_start, AreStarts, AreAt, IsPaidAt}
+use Rattle.nfa_pikevm_scan.specs.Scans.{starts_from, with_start, AreStarts, SearchingFrom}
 use Rattle.nfa_pikevm_scan.specs.States.{Frontier, moves, tasks, unmarked, SeenAt, SearchingAt}
 use Rattle.nfa_pikevm_scan.specs.Overlapping.{wants, AddsPatterns, AddsFirstPattern, GoesPast, NextsOverlappingGive}
 use Rattle.nfa_pikevm_scan.specs.declared.scan.Starts.{Starts}
-use Rattle.nfa_pikevm_scan.proofs.RoomLemmas.{AreAt-none, few-joined, over-joined}
+use Rattle.nfa_pikevm_scan.proofs.RoomLemmas.{over-joined}
 use Rattle.nfa_pikevm_scan.proofs.TaskLemmas.{starts_from-end, tasks-joined, Searching-begin}
 use Rattle.nfa_pikevm_scan.proofs.FrontierLemmas.{Formed-resting, Formed-next}
-use Rattle.nfa_pikevm_scan.proofs.ScanLemmas.{Crossed, Crossed-given, AreAt-cross, IsPaidAt-crossed, first-miss, first-hit}
+use Rattle.nfa_pikevm_scan.proofs.ScanLemmas.{Crossed, Crossed-given, first-miss, first-hit}
 use Rattle.nfa_pikevm_scan.proofs.EndLemmas.{SearchingAt-begin}
 use Rattle.nfa_pikevm_scan.proofs.OverlapSetLemmas.{wants-tells, wants-match}
 use Rattle.nfa_scan_core.proofs.SeenLemmas.{SeenAt-none}
@@ -131,53 +128,28 @@ module _ (nfa : Automaton) (x : Search) (old : List Bool) where
   tells = wants-tells nfa x (length old)
 
   -- what the scan keeps at a position: the match that was found, what it put into the set, and what is left to do
-  pub record FirstWay (from : Starts) (at before : ℕ) (met : Marks) (items : List (ℕ × Slots))
+  pub record FirstWay (from : Starts) (at : ℕ) (met : Marks) (items : List (ℕ × Slots))
       (new : List Bool) : Type 0 where
-    pub states : AreAt nfa items
-    pub paid : IsPaidAt nfa x at before met.turns (length items)
     pub so_far : Hit
     -- the search for all that is wanted, and for what is wanted before a limit that was not passed yet
     pub searching : (target : Pair → Bool) → Between wanted at target
-        → SearchingAt nfa x at target (starts nfa x) [] so_far (unmarked met) []
-        (tasks at items (ToLoad [] ∷ starts_from 0 from.state at from.limit)) []
+        → SearchingFrom nfa x target at 0 from.state at from.limit so_far met items
     pub sound : Sound nfa x old wanted tells at
         (pairs_at at items (pairs_from from.state at (from.limit - at)))
     pub holds : UpTo nfa x old wanted tells at so_far new
     pub exact : Exact nfa x old wanted tells at so_far new
 
-  -- the set keeps its capacity
-  pub FirstWay-capacity : {from : Starts} {at before : ℕ} {met : Marks} {items : List (ℕ × Slots)} {new : List Bool}
-      → FirstWay from at before met items new → length new ≡ length old
-  FirstWay-capacity {at = at} {new = new} w = of w.so_far w.holds
-    where
-      of : (g : Hit) → UpTo nfa x old wanted tells at g new
-          → length new ≡ length old
-      of None h = ap (λ (l : List Bool). length l) h
-      of (Some a) h = h.capacity
-
   pub FirstWay-start : (from : Starts) → AreStarts nfa x from → size_of_set old ≡ 0 → (met : Marks)
-      (items : List (ℕ × Slots)) → items ≡ []
-      → FirstWay from x.start met.turns met items old
+      (items : List (ℕ × Slots)) → items ≡ [] → FirstWay from x.start met items old
   unfolding pairs_at
   FirstWay-start from are empty met items none =
       rw none (record {
-        states = AreAt-none nfa;
-        paid = record { bound = omega arith };
         so_far = None;
         searching = λ target b. SearchingAt-begin nfa x from are [] met target;
         sound = rw (← are.all) (Sound-start nfa x old wanted tells x.start);
         holds = refl;
         exact = Exact-start nfa x old wanted tells empty;
       })
-
-  -- the search, with the start that joined
-  joined-search : {from : Starts} {at before : ℕ} {met : Marks} {items : List (ℕ × Slots)} {new : List Bool}
-      (w : FirstWay from at before met items new) (target : Pair → Bool) → Between wanted at target
-      → SearchingAt nfa x at target (starts nfa x) [] w.so_far (unmarked met) []
-      (tasks at (with_start from 0 at items) (ToLoad [] ∷ starts_from 0 from.state (at + 1) from.limit)) []
-  joined-search {from} {at} {met = met} {items} w target b =
-      subst (λ z. SearchingAt nfa x at target (starts nfa x) [] w.so_far (unmarked met) [] z [])
-      (tasks-joined from 0 at items) (w.searching target b)
 
   -- what is left is at the position or after it, so the search for an earlier match is complete
   best-ahead : {at : ℕ} {met : Marks} (items : List (ℕ × Slots)) (waiting : List Task) (so_far : Hit)
@@ -194,40 +166,53 @@ module _ (nfa : Automaton) (x : Search) (old : List Bool) where
       (Answer-ahead (space nfa x) before at (edges-onward nfa x) (λ v t. (before_is wanted at v t).before) 0 so_far
       s.marks (tasks at items (ToLoad [] ∷ waiting)) [] (tasks-ahead at items waiting later)))
 
-  -- no state and no start is left
-  pub FirstWay-over : IsAutomaton nfa → {from : Starts} {at before : ℕ} {met : Marks} {items : List (ℕ × Slots)}
-      {new : List Bool} → size_of_set old ≡ 0
-      → FirstWay from at before met items new → with_start from 0 at items ≡ []
-      → IsOverlapResult nfa x LeftmostFirst false old new
-  FirstWay-over good {from} {at} {before} {met} {items} {new} empty w none =
-      let past : from.limit ≤ at + 1 = (let h = over-joined from 0 at items none in omega (arith, h)) in
-      UpTo-end nfa x old wanted tells at met.turns [] w.so_far new empty w.holds
-      (Exact-end nfa x old wanted tells w.exact (FirstWay-capacity w) (λ limit behind.
-      Best-found nfa x old wanted tells limit met.turns [] w.so_far
-      (done past (before_target wanted limit) (Between-before wanted limit at behind))))
-      (done past wanted (Between-all wanted at))
-    where
-      done : from.limit ≤ at + 1 → (target : Pair → Bool) → Between wanted at target
-          → ExploresTo (space nfa x) target met.turns None [] (map ToExplore (starts nfa x)) [] w.so_far
-      done past target b =
-          let left : SearchingAt nfa x at target (starts nfa x) [] w.so_far (unmarked met) [] (ToLoad [] ∷ []) [] =
-          rw (none, starts_from-end 0 from.state past) at (joined-search w target b) in
-          Searching-done (space nfa x) target (Searching-load (space nfa x) target left)
+  module _ {from : Starts} {at : ℕ} {met : Marks} {items : List (ℕ × Slots)} {new : List Bool}
+      (w : FirstWay from at met items new) where
+    -- the set keeps its capacity
+    pub FirstWay-capacity : length new ≡ length old
+    FirstWay-capacity = of w.so_far w.holds
+      where
+        of : (g : Hit) → UpTo nfa x old wanted tells at g new → length new ≡ length old
+        of None h = ap (λ (l : List Bool). length l) h
+        of (Some a) h = h.capacity
 
-  -- a full set gains no more
-  pub FirstWay-full : {from : Starts} {at before : ℕ} {met : Marks} {items : List (ℕ × Slots)} {new : List Bool}
-      → size_of_set old ≡ 0 → FirstWay from at before met items new → size_of_set new ≡ length new
-      → IsOverlapResult nfa x LeftmostFirst false old new
-  FirstWay-full {at = at} {new = new} empty w full = of w.so_far w.holds w.exact
-    where
-      of : (g : Hit) → UpTo nfa x old wanted tells at g new → Exact nfa x old wanted tells at g new
-          → IsOverlapResult nfa x LeftmostFirst false old new
-      of None same exact = rw same (first-gains nfa x false old (rw same at full) empty)
-      of (Some a) u exact = UpTo-full nfa x old wanted tells empty u exact full
+    -- the search, with the start that joined
+    joined-search : (target : Pair → Bool) → Between wanted at target
+        → SearchingFrom nfa x target at 0 from.state (at + 1) from.limit w.so_far met (with_start from 0 at items)
+    joined-search target b =
+        subst (λ z. SearchingAt nfa x at target (starts nfa x) [] w.so_far (unmarked met) [] z [])
+        (tasks-joined from 0 at items) (w.searching target b)
 
-  module _ {from : Starts} {at before : ℕ} {met : Marks} {items : List (ℕ × Slots)} {mid : List Bool} {hit : Bool}
+    module _ (empty : size_of_set old ≡ 0) where
+      -- no state and no start is left
+      pub FirstWay-over : with_start from 0 at items ≡ [] → IsOverlapResult nfa x LeftmostFirst false old new
+      FirstWay-over none =
+          UpTo-end nfa x old wanted tells at met.turns [] w.so_far new empty w.holds
+          (Exact-end nfa x old wanted tells w.exact FirstWay-capacity (λ limit behind.
+          Best-found nfa x old wanted tells limit met.turns [] w.so_far
+          (done (before_target wanted limit) (Between-before wanted limit at behind))))
+          (done wanted (Between-all wanted at))
+        where
+          done : (target : Pair → Bool) → Between wanted at target
+              → ExploresTo (space nfa x) target met.turns None [] (map ToExplore (starts nfa x)) [] w.so_far
+          done target b =
+              let past : from.limit ≤ at + 1 = (let h = over-joined from 0 at items none in omega (arith, h)) in
+              let left : SearchingAt nfa x at target (starts nfa x) [] w.so_far (unmarked met) [] (ToLoad [] ∷ []) [] =
+              rw (none, starts_from-end 0 from.state past) at (joined-search target b) in
+              Searching-done (space nfa x) target (Searching-load (space nfa x) target left)
+
+      -- a full set gains no more
+      pub FirstWay-full : size_of_set new ≡ length new → IsOverlapResult nfa x LeftmostFirst false old new
+      FirstWay-full full = of w.so_far w.holds w.exact
+        where
+          of : (g : Hit) → UpTo nfa x old wanted tells at g new → Exact nfa x old wanted tells at g new
+              → IsOverlapResult nfa x LeftmostFirst false old new
+          of None same exact = rw same (first-gains nfa x false old (rw same at full) empty)
+          of (Some a) u exact = UpTo-full nfa x old wanted tells empty u exact full
+
+  module _ {from : Starts} {at : ℕ} {met : Marks} {items : List (ℕ × Slots)} {mid : List Bool} {hit : Bool}
       {after : Marks} {kept : List (ℕ × Slots)} {new : List Bool}
-      (good : IsAutomaton nfa) (low : x.start ≤ at) (w : FirstWay from at before met items mid)
+      (w : FirstWay from at met items mid)
       (c : NextsOverlappingGive nfa x at false (length old) met (with_start from 0 at items) mid hit after
       kept new) where
     crossed : Crossed nfa x at 0 from.state from.limit met (with_start from 0 at items) (GoesPast false hit) after kept
@@ -277,8 +262,7 @@ module _ (nfa : Automaton) (x : Search) (old : List Bool) where
 
     next-searching : hit ≡ false → first_match wanted c.front ≡ None → (target : Pair → Bool)
         → Between wanted (at + 1) target
-        → SearchingAt nfa x (at + 1) target (starts nfa x) [] w.so_far (unmarked after) []
-        (tasks (at + 1) kept (ToLoad [] ∷ starts_from 0 from.state (at + 1) from.limit)) []
+        → SearchingFrom nfa x target (at + 1) 0 from.state (at + 1) from.limit w.so_far after kept
     next-searching off lacks target b =
         first-miss target (λ v t. wants-match nfa x (length old) v (b.sub v t)) crossed (cut-for target b)
         (joined-search w target (Between-less b)) (first_match-same target wanted c.front (agree target b) ∙ lacks)
@@ -302,7 +286,7 @@ module _ (nfa : Automaton) (x : Search) (old : List Bool) where
         omega arith
 
     -- no match: the next position
-    pub FirstWay-next : hit ≡ false → FirstWay from (at + 1) before after kept new
+    pub FirstWay-next : hit ≡ false → FirstWay from (at + 1) after kept new
     FirstWay-next off =
         let whole : crossed.leads.left ≡ ToLoad [] ∷ starts_from 0 from.state (at + 1) from.limit =
         crossed.leads.whole (inr off) in
@@ -315,8 +299,6 @@ module _ (nfa : Automaton) (x : Search) (old : List Bool) where
               at (pairs_at at items (pairs_from from.state at (from.limit - at))) c.front z crossed.leads.written) whole
               front-searched in
               record {
-                states = AreAt-cross crossed good.numbered.targets_in;
-                paid = IsPaidAt-crossed crossed low w.paid (few-joined from 0 at items);
                 so_far = w.so_far;
                 searching = next-searching off lacks.0;
                 sound = rw c.gives.added
@@ -342,7 +324,7 @@ module _ (nfa : Automaton) (x : Search) (old : List Bool) where
 
     -- a match: the states after it are dropped, and no later start joins
     pub FirstWay-cut : size_of_set old ≡ 0 → hit ≡ true
-        → FirstWay (record from { limit = 0 }) (at + 1) before after kept new
+        → FirstWay (record from { limit = 0 }) (at + 1) after kept new
     unfolding seeds
     FirstWay-cut empty on =
         elim (first_match-is wanted c.front) [
@@ -358,8 +340,6 @@ module _ (nfa : Automaton) (x : Search) (old : List Bool) where
               ∙ sym (c.cut refl) in
               let none : pairs_from from.state (at + 1) (0 - (at + 1)) ≡ [] = pairs_from-end from.state (omega arith) in
               record {
-                states = AreAt-cross crossed good.numbered.targets_in;
-                paid = IsPaidAt-crossed crossed low w.paid (few-joined from 0 at items);
                 so_far = Some has.0;
                 searching = rw none (cut-searching has.0 has.1);
                 sound = rw (moved, none)

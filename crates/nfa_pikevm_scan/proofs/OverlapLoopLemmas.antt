@@ -1,6 +1,5 @@
 -- What the loops over the positions keep.
-use Rattle.std.proofs.Common.{◌≡◌, ℕ, ◌+◌, ◌≤◌, ◌↔◌, inl, inr, Bool, true, false, List, [], length, refl, sym, subst, get_or}
-use Rattle.std.specs.Prelude.{None, Some, cond}
+use Rattle.std.proofs.Common.{◌≡◌, ℕ, ◌+◌, ◌≤◌, ◌↔◌, inl, inr, Bool, true, false, List, [], length, refl, sym, subst, get_or, None, Some, cond}
 use Rattle.std.proofs.lemmas.List.{ext_get_or}
 use Rattle.regex_search_core.specs.PatternSets.{size_of_set}
 use Rattle.regex_search_core.specs.Search.{Search}

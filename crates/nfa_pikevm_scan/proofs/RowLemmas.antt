@@ -1,7 +1,5 @@
 -- Rows and marks in memory.
-use Rattle.std.proofs.Common.{◌≡◌, ℕ, suc, zero, ◌+◌, ◌*◌, ◌<◌, ◌≤◌, ◌==◌, List, [], ◌∷◌, ◌++◌, length, get_or, set, take, drop, replicate, refl, ap, sym, ◌∙◌, arith, Bool, true, false}
-use Rattle.std.proofs.Common.{inl, inr, length-drop, length-set}
-use Rattle.std.specs.Prelude.{All, Option, None}
+use Rattle.std.proofs.Common.{◌≡◌, ℕ, suc, zero, ◌+◌, ◌*◌, ◌<◌, ◌≤◌, ◌==◌, List, [], ◌∷◌, ◌++◌, length, get_or, set, take, drop, replicate, refl, ap, sym, ◌∙◌, arith, Bool, true, false, inl, inr, length-drop, length-set, All, Option, None}
 use Rattle.std.proofs.lemmas.Bool.Decides.{eqb_tells}
 use Rattle.std.proofs.lemmas.List.{take-take, take-append-le, drop-append-le, drop-take, drop-drop, length-take-le, get_or-map, map-set, length-map, take_more_set, length-replicate}
 use Rattle.std.proofs.lemmas.List.Elements.{All-head, All-tail}
@@ -9,6 +7,7 @@ use Rattle.nfa_paths.specs.Exploring.{Slots}
 use Rattle.std.proofs.Math.Nat.{mul-le-mul_right}
 use Rattle.nfa_scan_core.specs.Marks.{Marks}
 use Rattle.nfa_pikevm_scan.specs.Rows.{Active, items_of, marks_of}
+use Rattle.nfa_pikevm_scan.specs.declared.active.Parts.{Parts}
 
 -- one more times the width
 times-suc : (n width : ℕ) → suc n * width ≡ width + n * width
@@ -114,61 +113,44 @@ active_of width kept cells len = record {
   cells = length cells;
 }
 
--- a state that is pushed
-module _ (len width sid : ℕ) (kept : List ℕ) (rows row : Slots)
-    (fits : (len ≤ length kept) × (length kept * width ≤ length rows)) (w : length row ≡ width)
-    (room : length (items_of width (take len kept) rows) < length kept) where
-  pub pushed-len : len < length kept
-  pushed-len =
-      let a = fits.0 in
-      let n : length (items_of width (take len kept) rows) ≡ len = length-items_of width (take len kept) rows
-      ∙ length-take-le len kept a in omega arith
-
-  pub pushed-fits : len * length row + length row ≤ length rows
-  pushed-fits =
-      let l = pushed-len in
-      let more : (len + 1) * width ≤ length kept * width =
-      mul-le-mul_right width (let k : len + 1 ≤ length kept = omega arith in k) in
-      let below = fits.1 in
-      rw w (let e : (len + 1) * width ≡ len * width + width = omega arith in omega arith)
-
-  pub pushed-view : (cells after : Slots) → cells ≡ after → length after ≡ length rows
-      → take (len * length row + length row) after ≡ take (len * length row) rows ++ row
-      → active_of width (set kept len sid) cells (len + 1) ≡ record (active_of width kept rows len)
-      { items = items_of width (take len kept) rows ++ (sid, row) ∷ [] }
-  pushed-view cells after same long e =
-      let l = pushed-len in let a = fits.0 in let p = pushed-fits in
-      let states : take (len + 1) (set kept len sid) ≡ take len kept ++ sid ∷ [] = take_more_set kept len sid l in
-      let n : len * width ≡ length (take len kept) * width = ap (λ k. k * width) (sym (length-take-le len kept a)) in
-      let short : len * width ≤ length rows = let q : len * width + width ≤ length rows = rw w at p in omega arith in
-      let items : items_of width (take (len + 1) (set kept len sid)) cells ≡ items_of width (take len kept) rows
-      ++ (sid, row) ∷ [] =
-      ap (λ s. items_of width s cells) states ∙ ap (items_of width (take len kept ++ sid ∷ [])) same
-      ∙ items_of-push width (take len kept) sid (len * width) rows after row n w short (rw w at e) in
-      cc (items, length-set kept len sid, ap length same, long)
-
-  pub pushed-inside : (cells after : Slots) → cells ≡ after → length after ≡ length rows
-      → (len + 1 ≤ length (set kept len sid)) × (length (set kept len sid) * width ≤ length cells)
-  pushed-inside cells after same long =
-      let l = pushed-len in let b = fits.1 in
-      (rw length-set (omega arith), rw (length-set, same, long) b)
-
 -- a row with no slot set
 pub length-blank : (width : ℕ) → length {A = Option ℕ} (replicate width None) ≡ width
 length-blank width = length-replicate width None
 
--- the same of a state that is pushed with such a row
-module _ (len width sid : ℕ) (kept : List ℕ) (rows : Slots)
-    (fits : (len ≤ length kept) × (length kept * width ≤ length rows))
-    (room : length (items_of width (take len kept) rows) < length kept) where
-  pub blank-fits : len * width + width ≤ length rows
-  blank-fits = rw (length-blank width) at (pushed-fits len width sid kept rows (replicate width None) fits
-      (length-blank width) room)
+-- a state that is pushed onto the parts, which are seen as `a`
+module _ (p : Parts) {a : Active} (view : active_of p.width p.kept.items p.rows.items p.len ≡ a)
+    (fits : (p.len ≤ length p.kept.items) × (length p.kept.items * p.width ≤ length p.rows.items))
+    (room : length a.items < a.capacity) where
+  pub pushed-len : p.len < length p.kept.items
+  pushed-len =
+      let n = length-items_of p.width (take p.len p.kept.items) p.rows.items ∙ length-take-le p.len p.kept.items fits.0 in
+      omega (arith, n, ap (λ (b : Active). length b.items) view, ap (λ (b : Active). b.capacity) view)
 
-  pub blank-view : (cells after : Slots) → cells ≡ after → length after ≡ length rows
-      → take (len * width + width) after ≡ take (len * width) rows ++ replicate width None
-      → active_of width (set kept len sid) cells (len + 1) ≡ record (active_of width kept rows len)
-      { items = items_of width (take len kept) rows ++ (sid, replicate width None) ∷ [] }
-  blank-view cells after same long e =
-      pushed-view len width sid kept rows (replicate width None) fits (length-blank width) room cells after same long
-      (rw (length-blank width) e)
+  pub pushed-fits : p.len * p.width + p.width ≤ length p.rows.items
+  pushed-fits =
+      let l = pushed-len in
+      let below = fits.1 in
+      let more : (p.len + 1) * p.width ≤ length p.kept.items * p.width =
+      mul-le-mul_right p.width (let k : p.len + 1 ≤ length p.kept.items = omega arith in k) in
+      let e : (p.len + 1) * p.width ≡ p.len * p.width + p.width = omega arith in omega arith
+
+  module _ (sid : ℕ) {cells after : Slots} (same : cells ≡ after) (long : length after ≡ length p.rows.items) where
+    pub pushed-view : {row given : Slots} → length row ≡ p.width
+        → take (p.len * p.width + p.width) after ≡ take (p.len * p.width) p.rows.items ++ row → row ≡ given
+        → active_of p.width (set p.kept.items p.len sid) cells (p.len + 1)
+        ≡ record a { items = a.items ++ (sid, given) ∷ [] }
+    pushed-view {row} w e is =
+        let states = take_more_set p.kept.items p.len sid pushed-len in
+        let n : p.len * p.width ≡ length (take p.len p.kept.items) * p.width =
+        ap (λ k. k * p.width) (sym (length-take-le p.len p.kept.items fits.0)) in
+        let short : p.len * p.width ≤ length p.rows.items = (let q = pushed-fits in omega arith) in
+        let items : items_of p.width (take (p.len + 1) (set p.kept.items p.len sid)) cells
+        ≡ items_of p.width (take p.len p.kept.items) p.rows.items ++ (sid, row) ∷ [] =
+        ap (λ s. items_of p.width s cells) states
+        ∙ ap (items_of p.width (take p.len p.kept.items ++ sid ∷ [])) same
+        ∙ items_of-push p.width (take p.len p.kept.items) sid (p.len * p.width) p.rows.items after row n w short e in
+        rw (← view, ← is) (cc (items, length-set p.kept.items p.len sid, ap length same, long))
+
+    pub pushed-inside : (p.len + 1 ≤ length (set p.kept.items p.len sid))
+        × (length (set p.kept.items p.len sid) * p.width ≤ length cells)
+    pushed-inside = let l = pushed-len in (rw length-set (omega arith), rw (length-set, same, long) fits.1)

@@ -1,6 +1,5 @@
 -- From one position of a scan to the next.
-use Rattle.std.proofs.Common.{◌≡◌, ℕ, ◌+◌, ◌-◌, ◌<◌, ◌≤◌, inr, List, [], ◌∷◌, length, replicate, refl, ap, sym, ◌∙◌, arith, subst, Bool, false}
-use Rattle.std.specs.Prelude.{Option, Some, None, All}
+use Rattle.std.proofs.Common.{◌≡◌, ℕ, ◌+◌, ◌-◌, ◌<◌, ◌≤◌, inl, inr, List, [], ◌∷◌, length, replicate, refl, ap, sym, ◌∙◌, arith, subst, Bool, true, false, Option, Some, None, All, is_some, option_map}
 use Rattle.regex_search_core.specs.Search.{Search}
 use Rattle.regex_search_core.specs.Found.{HalfFound, half_found_of}
 use Rattle.regex_search_core.specs.Patterns.{number_of}
@@ -12,15 +11,17 @@ use Rattle.nfa_paths.specs.Exploring.{Task, Slots, Hit, next_tasks}
 use Rattle.nfa_paths.specs.Exploring.Task.{Explore, Load}
 use Rattle.nfa_paths.specs.Kinds.{first_match, before_match}
 use Rattle.nfa_paths.specs.Paths.{edges, is_match, starts, space}
-use Rattle.nfa_paths.proofs.FrontierMatchLemmas.{before_match-among, before_match-all, first_match-cut}
+use Rattle.nfa_paths.proofs.FrontierMatchLemmas.{before_match-among, before_match-all, first_match-cut, last_match-is}
+use Rattle.nfa_paths.proofs.MemberLemmas.{In-middle}
+use Rattle.nfa_paths.proofs.OptionLemmas.{same_some}
 use Rattle.nfa_paths.proofs.StartLemmas.{IsMatch-capture}
 use Rattle.nfa_paths.proofs.ScanAnswerLemmas.{edges-onward, seeds-later}
 use Rattle.nfa_paths.proofs.ScanningLemmas.{Searching-cut, Searching-wait, Searching-before_round}
 use Rattle.nfa_scan_core.specs.Marks.{Marks}
-use Rattle.nfa_pikevm_scan.specs.States.{Frontier, moves, tasks, unmarked, AreMatchPairs, Formed, Paid, SeenAt, SearchingAt, Leads, PositionGives, NextsGive}
-use Rattle.nfa_pikevm_scan.specs.Scans.{blank, starts_from, half_found, AreAt, IsSoFar, IsPaidAt, SearchesFirst}
+use Rattle.nfa_pikevm_scan.specs.States.{Frontier, moves, tasks, unmarked, meant, AreMatchPairs, IsHit, Formed, Paid, SeenAt, SearchingAt, Leads, PositionGives, NextsGive}
+use Rattle.nfa_pikevm_scan.specs.Scans.{blank, starts_from, half_found, AreAt, IsSoFar, IsPaidAt, SearchesFirst, SearchingFrom}
 use Rattle.nfa_pikevm_scan.proofs.TaskLemmas.{starts_from-end, AnswersFor, AnswersFor-round, Searching-for}
-use Rattle.nfa_pikevm_scan.proofs.FrontierLemmas.{Formed-rests, Formed-next, Formed-below, Formed-over, Paid-few, Paid-next, IsPaidAt-cross}
+use Rattle.nfa_pikevm_scan.proofs.FrontierLemmas.{Formed-rests, Formed-resting, Formed-next, Formed-below, Formed-over, Paid-few, Paid-next, IsPaidAt-cross}
 use Rattle.nfa_scan_core.proofs.SeenLemmas.{SeenAt-none}
 
 -- The result of the states at a position, with the start that joined, for a search or for a scan for a set: a front,
@@ -47,23 +48,21 @@ Crossed-given {at = at} width state limit c = record {
 
 module _ {nfa : Automaton} {x : Search} {at width state limit : ℕ} {met after : Marks} {items kept : List (ℕ × Slots)}
     {front : Frontier} {goes : Type 0} (c : Crossed nfa x at width state limit met items goes after kept front) where
-  -- what is kept for the next position
-  pub AreAt-cross : All (LeadsBelow (length nfa.states)) nfa.states → AreAt nfa kept
-  AreAt-cross leads = record {
-    states = rw c.added (Formed-below nfa x at after.bits leads front c.formed);
-    few = Paid-few nfa x met (length items) after (length kept) c.paid;
-  }
-
-  -- the turns, if at most one start joined
-  pub IsPaidAt-crossed : {before stood : ℕ} → x.start ≤ at → IsPaidAt nfa x at before met.turns stood
-      → length items ≤ stood + 1 → IsPaidAt nfa x (at + 1) before after.turns (length kept)
-  IsPaidAt-crossed {before} {stood} low paid one =
-      IsPaidAt-cross nfa x at before met.turns stood (length items) after.turns (length kept) low paid one
-      (Paid-next nfa x met (length items) after (length kept) c.paid)
-
-  -- at the end nothing is
+  -- at the end nothing is kept
   pub over-cross : x.end ≤ at → kept ≡ []
   over-cross past = c.added ∙ Formed-over nfa x at after.bits past front c.formed
+
+  -- what is kept for the next position, if at most one start joined
+  pub AreAt-cross : All (LeadsBelow (length nfa.states)) nfa.states → {before stood : ℕ} → x.start ≤ at
+      → IsPaidAt nfa x at before met.turns stood → length items ≤ stood + 1
+      → AreAt nfa x (at + 1) before after.turns kept
+  AreAt-cross leads {before} {stood} low paid one = record {
+    states = rw c.added (Formed-below nfa x at after.bits leads front c.formed);
+    few = Paid-few nfa x met (length items) after (length kept) c.paid;
+    over = λ past. over-cross (omega arith);
+    paid = IsPaidAt-cross nfa x at before met.turns stood (length items) after.turns (length kept) low paid one
+        (Paid-next nfa x met (length items) after (length kept) c.paid);
+  }
 
 -- the first path
 
@@ -71,8 +70,7 @@ module _ (wanted : Pair → Bool) {nfa : Automaton} (sub : AreMatchPairs nfa wan
     {at width state limit : ℕ} {met after : Marks} {items kept : List (ℕ × Slots)} {front : Frontier} {goes : Type 0}
     {so_far : Hit} (c : Crossed nfa x at width state limit met items goes after kept front)
     (ends : moves (edges nfa x) (before_match wanted front) ≡ moves (edges nfa x) front)
-    (s : SearchingAt nfa x at wanted (starts nfa x) (blank width) so_far (unmarked met) []
-    (tasks at items (Load (blank width) ∷ starts_from width state (at + 1) limit)) (blank width)) where
+    (s : SearchingFrom nfa x wanted at width state (at + 1) limit so_far met items) where
   -- the next position's work is that of what is kept
   kept-work : (waiting : List Task) → AnswersFor (space nfa x) wanted
       (next_tasks (edges nfa x) (before_match wanted front) (Load (blank width) ∷ waiting))
@@ -105,8 +103,7 @@ module _ (wanted : Pair → Bool) {nfa : Automaton} (sub : AreMatchPairs nfa wan
 
   -- no match at the position
   pub first-miss : first_match wanted front ≡ None → goes
-      → SearchingAt nfa x (at + 1) wanted (starts nfa x) (blank width) so_far (unmarked after) []
-      (tasks (at + 1) kept (Load (blank width) ∷ starts_from width state (at + 1) limit)) (blank width)
+      → SearchingFrom nfa x wanted (at + 1) width state (at + 1) limit so_far after kept
   first-miss none goes_on =
       goes-on {slots = c.leads.written} (starts_from width state (at + 1) limit)
       (rw (before_match-all wanted front none) (rw (c.leads.whole goes_on) at front-search))
@@ -124,16 +121,57 @@ module _ (wanted : Pair → Bool) {nfa : Automaton} (sub : AreMatchPairs nfa wan
       h.after split h.matches (IsMatch-capture nfa a.0 (sub a.0 h.matches)) in
       goes-on [] (Searching-wait (space nfa x) wanted (blank width) cut) (λ k i. absurd i)
 
-module _ (nfa : Automaton) (x : Search) (at width state limit : ℕ) where
+-- a match that ends at a position
+abbrev pub EndsAt : ℕ → Option PatternID → Option HalfMatch → Type 0
+EndsAt at hit half = option_map half_found_of half ≡ option_map (λ pattern. half_found (number_of pattern) at) hit
+
+-- no half match, no match
+pub EndsAt-none : (at : ℕ) (hit : Option PatternID) (half : Option HalfMatch) → EndsAt at hit half
+    → is_some half ≡ false → hit ≡ None
+EndsAt-none at None half e none = refl
+EndsAt-none at (Some p) None e none = cc
+EndsAt-none at (Some p) (Some m) e none = cc
+
+-- a half match is the match that is meant
+pub match-cross : {nfa : Automaton} {x : Search} {at : ℕ} {past : Bool} {met : Marks} {items : List (ℕ × Slots)}
+    {slots : Slots} {hit : Option PatternID} {after : Marks} {kept : List (ℕ × Slots)} {written : Slots}
+    (c : NextsGive nfa x at past met items slots hit after kept written) (half : Option HalfMatch) → EndsAt at hit half
+    → is_some half ≡ true → (v : Pair) × (meant past (is_match nfa) c.front ≡ Some (v, written))
+    × IsSoFar nfa x half written (Some (v, written))
+match-cross {nfa} {x} {at} {past} {slots = slots} {hit} {after} {written = written} c half is some =
+    of hit c.is_hit half is some
+  where
+    among : (p : Bool) (v : Pair) → meant p (is_match nfa) c.front ≡ Some (v, written) → In (v, written) c.front
+    among true v e = elim (last_match-is (is_match nfa) None c.front) [
+      | inl h ↦ absurd (cc (h.0, e))
+      | inr h ↦ subst (λ (a : Pair × Slots). In a c.front) (same_some h.0 (v, written) (sym h.1 ∙ e))
+          (rw h.2.split (In-middle h.2.before h.0 h.2.after))
+    ]
+    among false v e = (first_match-cut (is_match nfa) c.front (v, written) e).among
+
+    of : (o : Option PatternID) → IsHit nfa (meant past (is_match nfa) c.front) slots o written
+        → (m : Option HalfMatch) → EndsAt at o m → is_some m ≡ true
+        → (v : Pair) × (meant past (is_match nfa) c.front ≡ Some (v, written))
+        × IsSoFar nfa x m written (Some (v, written))
+    of None h None e some = cc
+    of None h (Some m) e some = cc
+    of (Some p) h None e some = cc
+    of (Some p) h (Some m) e some =
+        let same : half_found_of m ≡ half_found (number_of p) at = cc in
+        let r = Formed-resting nfa x at after.bits c.front c.gives.formed (h.0, written) (among past h.0 h.1) in
+        let offset : (half_found_of m).offset ≡ at = ap (λ (f : HalfFound). f.offset) same in
+        let number : (half_found_of m).pattern ≡ number_of p = ap (λ (f : HalfFound). f.pattern) same in
+        let here : h.0.1 ≡ (half_found_of m).offset = r.1 ∙ sym offset in
+        (h.0, h.1, (h.0.0, ap (λ (n : ℕ). Some ((h.0.0, n), written)) here, h.2 ∙ ap Some (sym number)))
+
+module _ (nfa : Automaton) (x : Search) (at width state limit : ℕ) {met : Marks} {items : List (ℕ × Slots)}
+    {slots : Slots} {hit : Option PatternID} {after : Marks} {kept : List (ℕ × Slots)} {written : Slots} {so_far : Hit}
+    (c : NextsGive nfa x at false met items slots hit after kept written)
+    (s : SearchingFrom nfa x (is_match nfa) at width state (at + 1) limit so_far met items) where
   -- a position with no match
-  pub SearchesFirst-miss : {met : Marks} {items : List (ℕ × Slots)} {slots : Slots} {hit : Option PatternID}
-      {after : Marks} {kept : List (ℕ × Slots)} {written : Slots} {so_far : Hit} {found : Option HalfMatch}
-      → (c : NextsGive nfa x at false met items slots hit after kept written)
-      → SearchingAt nfa x at (is_match nfa) (starts nfa x) (blank width) so_far (unmarked met) []
-      (tasks at items (Load (blank width) ∷ starts_from width state (at + 1) limit)) (blank width)
-      → IsSoFar nfa x found slots so_far → hit ≡ None
+  pub SearchesFirst-miss : {found : Option HalfMatch} → IsSoFar nfa x found slots so_far → hit ≡ None
       → SearchesFirst nfa x (at + 1) width state limit found written after kept
-  SearchesFirst-miss {slots = slots} {written = written} {so_far = so_far} {found} c s is_so_far none =
+  SearchesFirst-miss {found} is_so_far none =
       let h = rw none at c.is_hit in
       record {
         so_far = so_far;
@@ -143,26 +181,14 @@ module _ (nfa : Automaton) (x : Search) (at width state limit : ℕ) where
       }
 
   -- a position with a match: no start is left
-  pub SearchesFirst-hit : {met : Marks} {items : List (ℕ × Slots)} {slots : Slots} {hit : Option PatternID}
-      {after : Marks} {kept : List (ℕ × Slots)} {written : Slots} {so_far : Hit}
-      → (c : NextsGive nfa x at false met items slots hit after kept written)
-      → SearchingAt nfa x at (is_match nfa) (starts nfa x) (blank width) so_far (unmarked met) []
-      (tasks at items (Load (blank width) ∷ starts_from width state (at + 1) limit)) (blank width)
-      → (pattern : PatternID) → hit ≡ Some pattern → (half : HalfMatch)
-      → half_found_of half ≡ half_found (number_of pattern) at
-      → SearchesFirst nfa x (at + 1) width state 0 (Some half) written after kept
-  SearchesFirst-hit {written = written} c s pattern some half is =
-      let h = rw some at c.is_hit in
-      let v : Pair = h.0 in
-      let cut = first_match-cut (is_match nfa) c.front (v, written) h.1 in
-      let r = Formed-rests nfa x at _ c.front c.gives.formed (v, written) cut.among in
-      let here : v.1 ≡ at = r.1 in
-      let offset : (half_found_of half).offset ≡ at = ap (λ (m : HalfFound). m.offset) is in
-      let number : (half_found_of half).pattern ≡ number_of pattern = ap (λ (m : HalfFound). m.pattern) is in
+  pub SearchesFirst-match : (half : Option HalfMatch) → EndsAt at hit half → is_some half ≡ true
+      → SearchesFirst nfa x (at + 1) width state 0 half written after kept
+  SearchesFirst-match half is some =
+      let h = match-cross c half is some in
       let later : 0 ≤ at + 1 = omega arith in
       record {
-        so_far = Some (v, written);
-        is_so_far = (v.0, ap (λ (n : ℕ). Some ((v.0, n), written)) (here ∙ sym offset), h.2 ∙ ap Some (sym number));
+        so_far = Some (h.0, written);
+        is_so_far = h.2;
         searching = rw (starts_from-end width state later) (first-hit (is_match nfa) (λ v t. t)
-            (Crossed-given width state limit c.gives) (c.cut refl) s (v, written) h.1);
+            (Crossed-given width state limit c.gives) (c.cut refl) s (h.0, written) h.1);
       }

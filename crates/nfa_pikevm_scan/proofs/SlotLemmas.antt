@@ -1,6 +1,5 @@
 -- Rows that are copied slot by slot.
-use Rattle.std.proofs.Common.{◌≡◌, ℕ, suc, zero, ◌<◌, [], ◌∷◌, ◌++◌, length, get_or, set, take, replicate, ap, arith}
-use Rattle.std.specs.Prelude.{Option, None}
+use Rattle.std.proofs.Common.{◌≡◌, ℕ, suc, zero, ◌<◌, [], ◌∷◌, ◌++◌, length, get_or, set, take, replicate, ap, arith, Option, None}
 use Rattle.nfa_paths.specs.Exploring.{Slots}
 
 -- two slots are copied at once

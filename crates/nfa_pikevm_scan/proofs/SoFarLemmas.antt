@@ -1,6 +1,5 @@
 -- What a scan for a set keeps at a position, for all matches or the first one, with the least end or with any.
-use Rattle.std.proofs.Common.{◌≡◌, ◌⊎◌, ℕ, ◌+◌, ◌≤◌, inl, inr, Bool, true, false, List, [], length, refl, ap, arith}
-use Rattle.std.specs.Prelude.{cond, not, ◌&&◌}
+use Rattle.std.proofs.Common.{◌≡◌, ◌⊎◌, ℕ, ◌+◌, ◌≤◌, inl, inr, Bool, true, false, List, [], length, refl, ap, arith, cond, not, ◌&&◌}
 use Rattle.regex_search_core.specs.PatternSets.{size_of_set}
 use Rattle.regex_search_core.specs.Search.{Search}
 use Rattle.regex_search_core.specs.declared.search.MatchKind.TheVariants.{All as AllMatches, LeftmostFirst}
@@ -8,12 +7,12 @@ use Rattle.thompson_nfa.specs.Automaton.{Automaton, IsAutomaton}
 use Rattle.nfa_paths.specs.Exploring.{Slots}
 use Rattle.nfa_paths.specs.Overlaps.{IsOverlapResult}
 use Rattle.nfa_scan_core.specs.Marks.{Marks}
-use Rattle.nfa_pikevm_scan.specs.Scans.{with_start, AreStarts, AreAt, IsPaidAt, max_scan_turns}
+use Rattle.nfa_pikevm_scan.specs.Scans.{with_start, AreStarts, AreAt, max_scan_turns}
 use Rattle.nfa_pikevm_scan.specs.Overlapping.{NextsOverlappingGive}
 use Rattle.nfa_pikevm_scan.specs.declared.scan.Starts.{Starts}
 use Rattle.nfa_pikevm_scan.proofs.RoomLemmas.{AreAt-none, few-joined}
-use Rattle.nfa_pikevm_scan.proofs.FrontierLemmas.{IsPaidAt-end}
-use Rattle.nfa_pikevm_scan.proofs.ScanLemmas.{Crossed-given, AreAt-cross, IsPaidAt-crossed}
+use Rattle.nfa_pikevm_scan.proofs.FrontierLemmas.{AreAt-turns}
+use Rattle.nfa_pikevm_scan.proofs.ScanLemmas.{Crossed-given, AreAt-cross}
 use Rattle.nfa_pikevm_scan.proofs.EndLemmas.{ScansAll-over}
 use Rattle.nfa_pikevm_scan.proofs.OverlapSetLemmas.{wants-match}
 use Rattle.nfa_pikevm_scan.proofs.OverlapLoopLemmas.{AllAt, All-start, All-next, All-full, All-over, EarliestAt, Earliest-start, Earliest-next, Earliest-found, Earliest-end}
@@ -24,12 +23,11 @@ module _ (nfa : Automaton) (x : Search) (old : List Bool) where
   abbrev pub Known : Bool → Bool → Starts → ℕ → ℕ → Marks → List (ℕ × Slots) → List Bool → Type 0
   Known past true from at before met items new = EarliestAt nfa x old past from at before met items new
   Known true false from at before met items new = AllAt nfa x old from at before met items new
-  Known false false from at before met items new = FirstWay nfa x old from at before met items new
+  Known false false from at before met items new = FirstWay nfa x old from at met items new
 
   pub record SoFar (past earliest : Bool) (from : Starts) (at before : ℕ) (met : Marks) (items : List (ℕ × Slots))
       (new : List Bool) : Type 0 where
-    pub states : AreAt nfa items
-    pub paid : IsPaidAt nfa x at before met.turns (length items)
+    pub states : AreAt nfa x at before met.turns items
     pub known : Known past earliest from at before met items new
     pub size : length new ≡ length old
 
@@ -43,8 +41,7 @@ module _ (nfa : Automaton) (x : Search) (old : List Bool) where
       → AreStarts nfa x from → (met : Marks) (items : List (ℕ × Slots)) → items ≡ []
       → SoFar past earliest from x.start met.turns met items old
   SoFar-start past earliest empty from are met items none = record {
-    states = rw none (AreAt-none nfa);
-    paid = rw none (record { bound = omega arith });
+    states = rw none (AreAt-none nfa x met.turns);
     known = of past earliest empty;
     size = refl;
   }
@@ -69,7 +66,7 @@ module _ (nfa : Automaton) (x : Search) (old : List Bool) where
       of past true empty k = Earliest-end nfa x old past empty k
           (ScansAll-over nfa x from at 0 k.stands.scans none (wants-match nfa x (length old)))
       of true false empty k = All-over nfa x old k none
-      of false false empty k = FirstWay-over nfa x old good (empty refl) k none
+      of false false empty k = FirstWay-over nfa x old k (empty refl) none
 
   module _ (good : IsAutomaton nfa) {past earliest : Bool} (empty : past ≡ false → size_of_set old ≡ 0) {from : Starts}
       {at before : ℕ} (low : x.start ≤ at) {met : Marks} {items : List (ℕ × Slots)} {mid : List Bool}
@@ -77,11 +74,14 @@ module _ (nfa : Automaton) (x : Search) (old : List Bool) where
       {new : List Bool}
       (c : NextsOverlappingGive nfa x at past (length old) met (with_start from 0 at items) mid hit after
       kept new) where
+    -- the states at the next position
+    states : AreAt nfa x (at + 1) before after.turns kept
+    states = AreAt-cross (Crossed-given 0 from.state from.limit c.gives) good.numbered.targets_in low s.states.paid
+        (few-joined from 0 at items)
+
     -- the turns, if the scan ends at the position
     pub SoFar-turns : at ≤ x.end → after.turns ≤ before + max_scan_turns nfa x
-    SoFar-turns high =
-        IsPaidAt-end nfa x (at + 1) before after.turns (length kept) (omega arith) (omega arith)
-        (IsPaidAt-crossed (Crossed-given 0 from.state from.limit c.gives) low s.paid (few-joined from 0 at items))
+    SoFar-turns high = AreAt-turns nfa x (omega arith) (omega arith) states
 
     -- the next position
     pub SoFar-next : (hit ≡ true → earliest ≡ false)
@@ -90,9 +90,7 @@ module _ (nfa : Automaton) (x : Search) (old : List Bool) where
     SoFar-next on =
         let k = of past earliest hit empty on s.known c in
         record {
-          states = AreAt-cross (Crossed-given 0 from.state from.limit c.gives) good.numbered.targets_in;
-          paid = IsPaidAt-crossed (Crossed-given 0 from.state from.limit c.gives) low s.paid
-              (few-joined from 0 at items);
+          states = states;
           known = k;
           size = capacity past earliest (record from { limit = cond (hit && not past) 0 from.limit }) (at + 1) before
               after kept new k;
@@ -107,8 +105,8 @@ module _ (nfa : Automaton) (x : Search) (old : List Bool) where
         of past true false empty on k c = Earliest-next nfa x old past good low k c refl
         of true false true empty on k c = All-next nfa x old good low k c
         of true false false empty on k c = All-next nfa x old good low k c
-        of false false true empty on k c = FirstWay-cut nfa x old good low k c (empty refl) refl
-        of false false false empty on k c = FirstWay-next nfa x old good low k c refl
+        of false false true empty on k c = FirstWay-cut nfa x old k c (empty refl) refl
+        of false false false empty on k c = FirstWay-next nfa x old k c refl
 
     -- a match that ends the scan
     pub SoFar-found : hit ≡ true → (earliest ≡ true) ⊎ (size_of_set new ≡ length new)
@@ -127,6 +125,6 @@ module _ (nfa : Automaton) (x : Search) (old : List Bool) where
         ]
         of false false empty over k c = elim over [
           | inl never ↦ absurd (cc never)
-          | inr full ↦ FirstWay-full nfa x old (empty refl)
-              (FirstWay-cut nfa x old good low k c (empty refl) on) full
+          | inr full ↦ FirstWay-full nfa x old (FirstWay-cut nfa x old k c (empty refl) on)
+              (empty refl) full
         ]

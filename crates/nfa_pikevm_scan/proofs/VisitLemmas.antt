@@ -1,7 +1,5 @@
 -- The result of a turn that enters a state, for each kind of state.
-use Rattle.std.proofs.Common.{◌≡◌, ℕ, suc, zero, ◌+◌, ◌<◌, ◌≤◌, List, [], ◌∷◌, ◌++◌, length, get_or, set, map, reverse, drop, take, refl, ap, sym, ◌∙◌, arith, append_assoc, append-nil, Bool, true, false, inl, inr, get_or-set_same}
-use Rattle.std.specs.Prelude.{Option, Some, None, SomeIff, All, option_and_then}
-use Rattle.std.specs.List.{slice_get, sum_by}
+use Rattle.std.proofs.Common.{◌≡◌, ℕ, suc, zero, ◌+◌, ◌<◌, ◌≤◌, List, [], ◌∷◌, ◌++◌, length, get_or, set, map, reverse, drop, take, refl, ap, sym, ◌∙◌, arith, append_assoc, append-nil, Bool, true, false, inl, inr, get_or-set_same, Option, Some, None, SomeIff, All, option_and_then, slice_get, sum_by}
 use Rattle.std.proofs.lemmas.Option.{slice_get-map, get_or_from_slice_get}
 use Rattle.std.proofs.lemmas.List.{length-append, length-drop, map_push, get_or_default}
 use Rattle.std.proofs.lemmas.List.Elements.{All-push, All-head, All-tail, All-weaker}

@@ -61,6 +61,20 @@ pub record HaveRows (nfa : Automaton) (width : ℕ) (t : Threads) : Type 0 where
 abbrev pub SameSizes : Threads → Threads → Type 0
 SameSizes old new = sizes_of new ≡ sizes_of old
 
+-- and neither did the width of their rows and the count of scans
+pub record KeepsThreads (old new : Threads) : Type 0 where
+  pub width : new.curr.width ≡ old.curr.width
+  pub sizes : SameSizes old new
+  pub scans : new.scans ≡ old.scans
+
+-- The states at a position may be followed: the position is in the span or at its end, each state is one of the NFA,
+-- there is room for rows of this width, and no state is kept for the next position yet.
+pub record MayCross (nfa : Automaton) (x : Search) (at width : ℕ) (t : Threads) : Type 0 where
+  pub place : at ≤ x.end
+  pub states : All (λ i. i.0 < length nfa.states) t.curr.items
+  pub room : HaveRows nfa width t
+  pub empty : t.reached.next.items ≡ []
+
 -- the starts of the scan, and those that may be skipped; and each state leads to states of the NFA
 pub record AreStarts (nfa : Automaton) (x : Search) (starts_at : Starts) : Type 0 where
   pub state : starts_at.state < length nfa.states
@@ -72,12 +86,13 @@ pub record AreStarts (nfa : Automaton) (x : Search) (starts_at : Starts) : Type 
   pub before : starts_at.stop < starts_at.limit
   pub skips : x.start < starts_at.stop → starts_at.state ≡ nfa.anchored
 
--- A scan may begin: the starts are its own, the span does not start after its end, there is room for rows of this
--- width, and there are no states.
-pub record MayScan (nfa : Automaton) (x : Search) (starts_at : Starts) (width : ℕ) (t : Threads) : Type 0 where
+-- A scan may begin: the starts are its own, the span does not start after its end, no slot is set, there is room for
+-- rows of so many slots, and there are no states.
+pub record MayScan (nfa : Automaton) (x : Search) (starts_at : Starts) (slots : Slots) (t : Threads) : Type 0 where
   pub starts : AreStarts nfa x starts_at
   pub span : x.start ≤ x.end
-  pub room : HaveRows nfa width t
+  pub unset : slots ≡ blank (length slots)
+  pub room : HaveRows nfa (length slots) t
   pub curr : t.curr.items ≡ []
   pub next : t.reached.next.items ≡ []
 
@@ -86,6 +101,13 @@ abbrev pub with_start : Starts → ℕ → ℕ → List (ℕ × Slots) → List 
 with_start starts_at width at items = if nat_lt at starts_at.limit then items ++ (starts_at.state, blank width)
     ∷ [] else items
 
+-- The start has joined the states of the threads, if it may still join. Nothing else changed.
+pub record JoinsStart (starts_at : Starts) (at : ℕ) (old new : Threads) : Type 0 where
+  pub curr : new.curr.items ≡ with_start starts_at old.curr.width at old.curr.items
+  pub next : new.reached.next.items ≡ old.reached.next.items
+  pub keeps : KeepsThreads old new
+  pub seen : new.reached.seen ≡ old.reached.seen
+
 -- a match that ends at the position
 abbrev pub half_found : ℕ → ℕ → HalfFound
 half_found pattern at = record { pattern = pattern; offset = at }
@@ -93,6 +115,14 @@ half_found pattern at = record { pattern = pattern; offset = at }
 -- the position may be skipped: no match begins with its byte
 abbrev pub IsPassed : List Bool → Search → Starts → ℕ → Type 0
 IsPassed table x starts_at k = (k < starts_at.stop) × IsRefused table x k
+
+-- The first position from `from` on that may not be skipped for its byte, or `stop`.
+pub record PassesOver (table : List Bool) (x : Search) (from stop to : ℕ) : Type 0 where
+  pub low : from ≤ to
+  pub near : from ≤ stop → to ≤ stop
+  pub stays : stop ≤ from → to ≡ from
+  pub passed : (k : ℕ) → from ≤ k → k < to → IsRefused table x k
+  pub least : to < stop → IsRefused table x to → ⊥
 
 -- The position that a scan goes on at: the start has joined the states there, or no match begins there. While starts
 -- are left, some state is there. A start that may be skipped does not join.
@@ -107,11 +137,6 @@ pub record AddsStart (table : List Bool) (x : Search) (starts_at : Starts) (limi
   pub passes : IsPassed table x starts_at to → now ≡ items
   pub last : ((to < limit) × (now ≡ items ++ (starts_at.state, blank width) ∷ []))
       ⊎ ((now ≡ items) × ((limit ≤ to) ⊎ IsPassed table x starts_at to))
-
--- The states at a position: each is a state of the NFA, and there are no more than the NFA has.
-pub record AreAt (nfa : Automaton) (items : List (ℕ × Slots)) : Type 0 where
-  pub states : All (λ i. i.0 < length nfa.states) items
-  pub few : length items ≤ length nfa.states
 
 module _ (nfa : Automaton) (x : Search) where
   -- the match that was found so far, and its end: none, and no slot set; or one, and its slots
@@ -129,16 +154,47 @@ module _ (nfa : Automaton) (x : Search) where
   pub record IsPaidAt (at before : ℕ) (turns items : ℕ) : Type 0 where
     pub bound : turns + items ≤ before + (at - x.start) * (1 + total_degree nfa)
 
+  -- The states at a position: each is a state of the NFA, there are no more than the NFA has, and none after the end of
+  -- the span. They and the turns so far are paid for.
+  pub record AreAt (at before turns : ℕ) (items : List (ℕ × Slots)) : Type 0 where
+    pub states : All (λ i. i.0 < length nfa.states) items
+    pub few : length items ≤ length nfa.states
+    pub over : x.end < at → items ≡ []
+    pub paid : IsPaidAt at before turns (length items)
+
+  -- The search for a set of match pairs, at a position where it has followed no state yet. The states there are left,
+  -- and the starts from `next` on.
+  abbrev pub SearchingFrom : (Pair → Bool) → ℕ → ℕ → ℕ → ℕ → ℕ → Hit → Marks → List (ℕ × Slots) → Type 0
+  SearchingFrom target at width start next limit so_far met items =
+      SearchingAt nfa x at target (starts nfa x) (blank width) so_far (unmarked met) []
+      (tasks at items (Load (blank width) ∷ starts_from width start next limit)) (blank width)
+
+  -- The same for the scan for each wanted pair.
+  abbrev pub ScanningFrom : (Pair → Bool) → ℕ → ℕ → ℕ → ℕ → ℕ → Marks → List (ℕ × Slots) → Type 0
+  ScanningFrom wanted at width start next limit met items =
+      Scanning (space nfa x) wanted (blank width) at (SeenAt at (unmarked met).bits) met.turns []
+      (tasks at items (Load (blank width) ∷ starts_from width start next limit)) (blank width)
+
   -- The search for the first path, at a position where it has followed no state yet.
   pub record SearchesFirst (at width start limit : ℕ) (found : Option HalfMatch) (slots : Slots) (met : Marks)
       (items : List (ℕ × Slots)) : Type 0 where
     pub so_far : Hit
     pub is_so_far : IsSoFar found slots so_far
-    pub searching : SearchingAt nfa x at (is_match nfa) (starts nfa x) (blank width) so_far (unmarked met) []
-        (tasks at items (Load (blank width) ∷ starts_from width start at limit)) (blank width)
+    pub searching : SearchingFrom (is_match nfa) at width start at limit so_far met items
+
+  -- The scan for the first path, from the threads `old` on, at a position where it has followed no state yet. Its
+  -- starts are left, or none is.
+  pub record ScansFirst (from : Starts) (limit at width : ℕ) (found : Option HalfMatch) (slots : Slots)
+      (old now : Threads) : Type 0 where
+    pub limits : (limit ≡ from.limit) ⊎ (limit ≡ 0)
+    pub low : x.start ≤ at
+    pub high : at ≤ x.end + 1
+    pub keeps : KeepsThreads old now
+    pub next : now.reached.next.items ≡ []
+    pub states : AreAt at old.reached.seen.turns now.reached.seen.turns now.curr.items
+    pub searches : SearchesFirst at width from.state limit found slots now.reached.seen now.curr.items
 
   -- The scan for each wanted pair, at a position where it has followed no state yet.
   pub record ScansAll (wanted : Pair → Bool) (at width start limit : ℕ) (met : Marks)
       (items : List (ℕ × Slots)) : Type 0 where
-    pub scanning : Scanning (space nfa x) wanted (blank width) at (SeenAt at (unmarked met).bits) met.turns []
-        (tasks at items (Load (blank width) ∷ starts_from width start at limit)) (blank width)
+    pub scanning : ScanningFrom wanted at width start at limit met items

@@ -279,6 +279,16 @@ pub record ClosureHasRoom (here : ClosureContext) (old : ClosureOutput) (top fra
       old.next.capacity
   pub stack : stack_frames here.nfa.now ≤ frames
 
+-- The states may be followed at the position, with rows of this width: each is a state of the NFA, there is room for
+-- what they lead to, no state is marked, and none is kept for the next position yet.
+pub record MayFollow (here : ClosureContext) (states : List ℕ) (old : ClosureOutput) (frames width : ℕ) : Type 0 where
+  pub context : IsClosureContext here
+  pub below : All (λ s. s < length here.nfa.now.states) states
+  pub room : ClosureHasRoom here old 0 frames
+  pub clear : old.seen.bits ≡ replicate (length old.seen.bits) false
+  pub empty : old.next.items ≡ []
+  pub width_is : width ≡ old.next.width
+
 abbrev pub ClosureFramesWithin : ClosureContext → ℕ → List FollowEpsilon → Type 0
 ClosureFramesWithin here count stack = All (IsWithin (length here.nfa.now.states) count) stack
 

@@ -1,12 +1,11 @@
 //! All states side by side, from one position to the next.
-ghost use Rattle.std.specs.Prelude.{◌≡◌, ◌*◌, ◌<◌, ◌≤◌, [], ◌∷◌, false, length, replicate, All};
+ghost use Rattle.std.specs.Prelude.{◌≡◌, ◌*◌, ◌<◌, ◌≤◌, [], ◌∷◌, false, length, All};
 ghost use Rattle.regex_search_core.specs.Search.{search_of};
 ghost use Rattle.nfa_scan_core.specs.FirstBytes.{IsRefused};
-ghost use Rattle.nfa_pikevm_scan.specs.Needs.{stack_frames};
 ghost use Rattle.nfa_pikevm_scan.specs.Rows.{items_of};
-ghost use Rattle.nfa_pikevm_scan.specs.States.{HasRoom, IsClosureContext, KeepsRoom, NextsGive};
+ghost use Rattle.nfa_pikevm_scan.specs.States.{IsClosureContext, KeepsRoom, MayFollow, NextsGive};
 ghost use Rattle.nfa_pikevm_scan.specs.Sinks.{ClosuresGive};
-ghost use Rattle.nfa_pikevm_scan.specs.Scans.{blank, HaveRows, SameSizes};
+ghost use Rattle.nfa_pikevm_scan.specs.Scans.{blank, HaveRows, KeepsThreads, MayCross, SameSizes};
 
 use crate::active::Parts;
 use crate::closure::{ClosureContext, ClosureOutput, epsilon_closure, next_match};
@@ -39,10 +38,8 @@ pub fn set_up(threads: &mut Threads, width: usize)
 pub fn swap_state_sets(threads: &mut Threads)
     ensures curr { threads.new.curr.items ≡ threads.old.reached.next.items }
     ensures next { threads.new.reached.next.items ≡ [] }
-    ensures width { threads.new.curr.width ≡ threads.old.curr.width }
-    ensures sizes { SameSizes threads.old threads.new }
+    ensures keeps { KeepsThreads threads.old threads.new }
     ensures seen { threads.new.reached.seen ≡ threads.old.reached.seen }
-    ensures scans { threads.new.scans ≡ threads.old.scans }
 {
     let Threads { curr, reached, .. } = threads;
     mem::swap(curr, &mut reached.next);
@@ -60,14 +57,7 @@ fn nexts_of_states<T: MatchSink>(
     reached: &mut ClosureOutput,
     sink: &mut T,
 )
-    requires here { IsClosureContext here.now }
-    requires states { All (λ s. s < length here.now.nfa.now.states) kept.now }
-    requires room { HasRoom here.now.nfa.now reached.old.seen.bits 0 (stack_frames here.now.nfa.now) 0
-        reached.old.next.capacity }
-    requires stack { stack_frames here.now.nfa.now ≤ length frames.old }
-    requires clear { reached.old.seen.bits ≡ replicate (length reached.old.seen.bits) false }
-    requires empty { reached.old.next.items ≡ [] }
-    requires width { T.row_width sink.old ≡ reached.old.next.width }
+    requires ready { MayFollow here.now kept.now reached.old (length frames.old) (T.row_width sink.old) }
     requires rows { length kept.now * T.row_width sink.old ≤ length rows.old }
     ensures keeps { KeepsRoom reached.old reached.new }
     ensures grows { reached.old.seen.turns ≤ reached.new.seen.turns }
@@ -98,19 +88,14 @@ pub fn nexts_with<T: MatchSink>(
     threads: &mut Threads,
     sink: &mut T,
 )
-    requires place { at ≤ (search_of input.now).end }
-    requires states { All (λ i. i.0 < length nfa.now.states) threads.old.curr.items }
-    requires room { HaveRows nfa.now (T.row_width sink.old) threads.old }
+    requires ready { MayCross nfa.now (search_of input.now) at (T.row_width sink.old) threads.old }
     requires some { 0 < length threads.old.curr.items }
-    requires empty { threads.old.reached.next.items ≡ [] }
-    ensures width { threads.new.curr.width ≡ threads.old.curr.width }
-    ensures sizes { SameSizes threads.old threads.new }
+    ensures keeps { KeepsThreads threads.old threads.new }
     ensures grows { threads.old.reached.seen.turns ≤ threads.new.reached.seen.turns }
-    ensures scans { threads.new.scans ≡ threads.old.scans }
     ensures same_reference { T.reference sink.new ≡ T.reference sink.old }
-    ensures rows { All (λ i. length i.1 ≤ T.row_width sink.old) threads.old.curr.items }
     ensures arrive { ClosuresGive nfa.now (search_of input.now) T.takes at threads.old.reached.seen
         threads.old.curr.items sink.old threads.new.reached.seen threads.new.reached.next.items sink.new }
+    ensures rows { All (λ i. length i.1 ≤ T.row_width sink.old) threads.old.curr.items }
 {
     let Threads {
         frames,
@@ -158,16 +143,11 @@ pub fn nexts(
     threads: &mut Threads,
     slots: &mut [Slot],
 ) -> Option<PatternID>
-    requires place { at ≤ (search_of input.now).end }
-    requires states { All (λ i. i.0 < length nfa.now.states) threads.old.curr.items }
-    requires room { HaveRows nfa.now (length slots.old) threads.old }
+    requires ready { MayCross nfa.now (search_of input.now) at (length slots.old) threads.old }
     requires some { 0 < length threads.old.curr.items }
-    requires empty { threads.old.reached.next.items ≡ [] }
     ensures next { threads.new.reached.next.items ≡ [] }
-    ensures width { threads.new.curr.width ≡ threads.old.curr.width }
-    ensures sizes { SameSizes threads.old threads.new }
+    ensures keeps { KeepsThreads threads.old threads.new }
     ensures grows { threads.old.reached.seen.turns ≤ threads.new.reached.seen.turns }
-    ensures scans { threads.new.scans ≡ threads.old.scans }
     ensures crosses { NextsGive nfa.now (search_of input.now) at past_match threads.old.reached.seen
         threads.old.curr.items slots.old result threads.new.reached.seen threads.new.curr.items slots.new }
 {
@@ -191,15 +171,8 @@ fn nexts_of_one<T: MatchSink>(
     reached: &mut ClosureOutput,
     sink: &mut T,
 )
-    requires here { IsClosureContext here.now }
+    requires ready { MayFollow here.now kept.now reached.old (length frames.old) (T.row_width sink.old) }
     requires one { length kept.now ≡ 1 }
-    requires states { All (λ s. s < length here.now.nfa.now.states) kept.now }
-    requires room { HasRoom here.now.nfa.now reached.old.seen.bits 0 (stack_frames here.now.nfa.now) 0
-        reached.old.next.capacity }
-    requires stack { stack_frames here.now.nfa.now ≤ length frames.old }
-    requires clear { reached.old.seen.bits ≡ replicate (length reached.old.seen.bits) false }
-    requires empty { reached.old.next.items ≡ [] }
-    requires width { T.row_width sink.old ≡ reached.old.next.width }
     requires rows { T.row_width sink.old ≤ length rows.old }
     ensures keeps { KeepsRoom reached.old reached.new }
     ensures grows { reached.old.seen.turns ≤ reached.new.seen.turns }
@@ -222,15 +195,10 @@ fn nexts_of_one_with<T: MatchSink>(
     threads: &mut Threads,
     sink: &mut T,
 )
-    requires place { at ≤ (search_of input.now).end }
-    requires states { All (λ i. i.0 < length nfa.now.states) threads.old.curr.items }
-    requires room { HaveRows nfa.now (T.row_width sink.old) threads.old }
+    requires ready { MayCross nfa.now (search_of input.now) at (T.row_width sink.old) threads.old }
     requires one { length threads.old.curr.items ≡ 1 }
-    requires empty { threads.old.reached.next.items ≡ [] }
-    ensures width { threads.new.curr.width ≡ threads.old.curr.width }
-    ensures sizes { SameSizes threads.old threads.new }
+    ensures keeps { KeepsThreads threads.old threads.new }
     ensures grows { threads.old.reached.seen.turns ≤ threads.new.reached.seen.turns }
-    ensures scans { threads.new.scans ≡ threads.old.scans }
     ensures same_reference { T.reference sink.new ≡ T.reference sink.old }
     ensures arrive { ClosuresGive nfa.now (search_of input.now) T.takes at threads.old.reached.seen
         threads.old.curr.items sink.old threads.new.reached.seen threads.new.reached.next.items sink.new }
@@ -242,13 +210,7 @@ fn nexts_of_one_with<T: MatchSink>(
         ..
     } = threads;
     reached.seen.clear();
-    let Parts {
-        kept,
-        rows,
-        len,
-        ..
-    } = &mut *curr.parts;
-    let kept = &kept.as_slice()[..*len];
+    let parts = &mut *curr.parts;
     let here = ClosureContext {
         nfa,
         input,
@@ -257,8 +219,8 @@ fn nexts_of_one_with<T: MatchSink>(
     };
     nexts_of_one(
         &here,
-        kept,
-        rows.as_mut_slice(),
+        &parts.kept.as_slice()[..parts.len],
+        parts.rows.as_mut_slice(),
         frames.as_mut_slice(),
         reached,
         sink,
@@ -274,16 +236,11 @@ pub fn nexts_of_lone(
     threads: &mut Threads,
     slots: &mut [Slot],
 ) -> Option<PatternID>
-    requires place { at ≤ (search_of input.now).end }
-    requires states { All (λ i. i.0 < length nfa.now.states) threads.old.curr.items }
-    requires room { HaveRows nfa.now (length slots.old) threads.old }
+    requires ready { MayCross nfa.now (search_of input.now) at (length slots.old) threads.old }
     requires one { length threads.old.curr.items ≡ 1 }
-    requires empty { threads.old.reached.next.items ≡ [] }
     ensures next { threads.new.reached.next.items ≡ [] }
-    ensures width { threads.new.curr.width ≡ threads.old.curr.width }
-    ensures sizes { SameSizes threads.old threads.new }
+    ensures keeps { KeepsThreads threads.old threads.new }
     ensures grows { threads.old.reached.seen.turns ≤ threads.new.reached.seen.turns }
-    ensures scans { threads.new.scans ≡ threads.old.scans }
     ensures crosses { NextsGive nfa.now (search_of input.now) at false threads.old.reached.seen
         threads.old.curr.items slots.old result threads.new.reached.seen threads.new.curr.items slots.new }
 {
@@ -319,10 +276,8 @@ pub fn nexts_of_start(
     requires unset { slots.old ≡ blank (length slots.old) }
     requires empty { threads.old.reached.next.items ≡ [] }
     ensures next { threads.new.reached.next.items ≡ [] }
-    ensures width { threads.new.curr.width ≡ threads.old.curr.width }
-    ensures sizes { SameSizes threads.old threads.new }
+    ensures keeps { KeepsThreads threads.old threads.new }
     ensures grows { threads.old.reached.seen.turns ≤ threads.new.reached.seen.turns }
-    ensures scans { threads.new.scans ≡ threads.old.scans }
     ensures crosses { NextsGive here.now.nfa.now (search_of here.now.input.now) here.now.at false
         threads.old.reached.seen ((state, blank (length slots.old)) ∷ []) slots.old result threads.new.reached.seen
         threads.new.curr.items slots.new }

@@ -5,7 +5,8 @@ ghost use Rattle.regex_search_core.specs.Search.{search_of};
 ghost use Rattle.regex_search_core.specs.declared.search.MatchKind.TheVariants.{All as AllMatches, LeftmostFirst};
 ghost use Rattle.thompson_nfa.specs.Automaton.{IsAutomaton};
 ghost use Rattle.nfa_paths.specs.Overlaps.{IsOverlapResult};
-ghost use Rattle.nfa_pikevm_scan.specs.Scans.{HaveRoom, HaveRows, SameSizes, MayScan, max_scan_turns, IsWithinTurns};
+ghost use Rattle.nfa_pikevm_scan.specs.Scans.{HaveRoom, KeepsThreads, MayCross, MayScan, SameSizes};
+ghost use Rattle.nfa_pikevm_scan.specs.Scans.{max_scan_turns, IsWithinTurns};
 ghost use Rattle.nfa_pikevm_scan.specs.Needs.{overlap_scans};
 ghost use Rattle.nfa_pikevm_scan.specs.Overlapping.{NextsOverlappingGive};
 ghost use Rattle.nfa_pikevm_scan.specs.Sinks.{PatternSinkTakes};
@@ -66,16 +67,11 @@ fn nexts_overlapping(
     threads: &mut Threads,
     patterns: &mut PatternSet,
 ) -> bool
-    requires place { at ≤ (search_of input.now).end }
-    requires states { All (λ i. i.0 < length nfa.now.states) threads.old.curr.items }
-    requires room { HaveRows nfa.now 0 threads.old }
+    requires ready { MayCross nfa.now (search_of input.now) at 0 threads.old }
     requires some { 0 < length threads.old.curr.items }
-    requires empty { threads.old.reached.next.items ≡ [] }
     requires not_full { size_of_set patterns.old < length patterns.old }
     ensures next { threads.new.reached.next.items ≡ [] }
-    ensures width { threads.new.curr.width ≡ threads.old.curr.width }
-    ensures sizes { SameSizes threads.old threads.new }
-    ensures scans { threads.new.scans ≡ threads.old.scans }
+    ensures keeps { KeepsThreads threads.old threads.new }
     ensures crosses { NextsOverlappingGive nfa.now (search_of input.now) at past_match (length patterns.old)
         threads.old.reached.seen threads.old.curr.items patterns.old result threads.new.reached.seen
         threads.new.curr.items patterns.new }
@@ -123,12 +119,11 @@ fn overlap_from(
     patterns: &mut PatternSet,
 )
     requires valid { IsAutomaton nfa.now }
-    requires ready { MayScan nfa.now (search_of input.now) starts.now 0 threads.old }
+    requires ready { MayScan nfa.now (search_of input.now) starts.now [] threads.old }
     requires stop { starts.now.stop ≤ (search_of input.now).start }
     requires empty { past_match ≡ false → size_of_set patterns.old ≡ 0 }
     requires not_full { size_of_set patterns.old < length patterns.old }
-    ensures sizes { SameSizes threads.old threads.new }
-    ensures scans { threads.new.scans ≡ threads.old.scans }
+    ensures keeps { KeepsThreads threads.old threads.new }
     ensures turns { IsWithinTurns nfa.now (search_of input.now) threads.old threads.new }
     ensures gains { IsOverlapResult nfa.now (search_of input.now) (cond past_match AllMatches LeftmostFirst)
         (search_of input.now).earliest patterns.old patterns.new }

@@ -1,14 +1,15 @@
 //! One scan of the span, for each match kind.
-ghost use Rattle.std.specs.Prelude.{◌≡◌, ℕ, ◌+◌, ◌<◌, ◌≤◌, [], None, true, false, length, cond, option_map};
+ghost use Rattle.std.specs.Prelude.{◌≡◌, ◌+◌, ◌<◌, ◌≤◌, [], None, true, false, length, cond, option_map};
 ghost use Rattle.std.specs.Prelude.{IfSome};
 ghost use Rattle.regex_search_core.specs.Search.{search_of};
 ghost use Rattle.regex_search_core.specs.Found.{half_found_of};
 ghost use Rattle.regex_search_core.specs.Patterns.{number_of};
 ghost use Rattle.regex_search_core.specs.declared.search.MatchKind.TheVariants.{All, LeftmostFirst};
 ghost use Rattle.nfa_paths.specs.Restarts.{ScanGives};
-ghost use Rattle.nfa_scan_core.specs.FirstBytes.{IsFirstBytes, IsRefused};
-ghost use Rattle.nfa_pikevm_scan.specs.Scans.{blank, HaveRoom, HaveRows, SameSizes, MayScan, AddsStart, with_start};
-ghost use Rattle.nfa_pikevm_scan.specs.Scans.{half_found, AreAt, AreStarts, IsPaidAt, IsWithinTurns, SearchesFirst};
+ghost use Rattle.nfa_scan_core.specs.FirstBytes.{IsFirstBytes};
+ghost use Rattle.nfa_pikevm_scan.specs.Scans.{half_found, AddsStart, AreStarts, HaveRoom, HaveRows, JoinsStart};
+ghost use Rattle.nfa_pikevm_scan.specs.Scans.{IsWithinTurns, KeepsThreads, MayScan, PassesOver, SameSizes, ScansFirst};
+ghost use Rattle.nfa_pikevm_scan.specs.declared.threads.Threads.{Threads};
 
 use crate::closure::ClosureContext;
 use crate::nexts::{nexts, nexts_of_lone, nexts_of_start, set_up};
@@ -47,12 +48,7 @@ impl Starts {
 pub fn add_start(starts: &Starts, at: usize, threads: &mut Threads)
     requires room { length threads.old.curr.items < threads.old.curr.capacity }
     requires due { starts.now.stop ≤ at }
-    ensures curr { threads.new.curr.items ≡ with_start starts.now threads.old.curr.width at threads.old.curr.items }
-    ensures next { threads.new.reached.next.items ≡ threads.old.reached.next.items }
-    ensures width { threads.new.curr.width ≡ threads.old.curr.width }
-    ensures sizes { SameSizes threads.old threads.new }
-    ensures seen { threads.new.reached.seen ≡ threads.old.reached.seen }
-    ensures scans { threads.new.scans ≡ threads.old.scans }
+    ensures { JoinsStart starts.now at threads.old threads.new }
 {
     if at < starts.limit {
         threads.curr.push_blank(starts.state);
@@ -65,11 +61,7 @@ pub fn add_start(starts: &Starts, at: usize, threads: &mut Threads)
 fn pass_over(first: &FirstBytes, input: &Input<'_>, from: usize, stop: usize) -> usize
     requires from { from ≤ (search_of input.now).end + 1 }
     requires stop { stop ≤ (search_of input.now).end }
-    ensures low { from ≤ result }
-    ensures near { from ≤ stop → result ≤ stop }
-    ensures stays { stop ≤ from → result ≡ from }
-    ensures passed { (k : ℕ) → from ≤ k → k < result → IsRefused first.now.may_begin (search_of input.now) k }
-    ensures least { result < stop → IsRefused first.now.may_begin (search_of input.now) result → ⊥ }
+    ensures { PassesOver first.now.may_begin (search_of input.now) from stop result }
 {
     if from < stop && first.refuses(input.haystack()[from]) {
         return next_start(first, input, from, stop);
@@ -94,10 +86,8 @@ fn add_start_or_skip(
     requires stop { starts.now.stop ≤ (search_of input.now).end }
     requires order { at < limit → starts.now.stop < limit }
     ensures next { threads.new.reached.next.items ≡ threads.old.reached.next.items }
-    ensures width { threads.new.curr.width ≡ threads.old.curr.width }
-    ensures sizes { SameSizes threads.old threads.new }
+    ensures keeps { KeepsThreads threads.old threads.new }
     ensures seen { threads.new.reached.seen ≡ threads.old.reached.seen }
-    ensures scans { threads.new.scans ≡ threads.old.scans }
     ensures none { result ≡ None → limit ≤ at }
     ensures over { result ≡ None → threads.old.curr.items ≡ [] }
     ensures some { IfSome result (λ to. 0 < length threads.new.curr.items) }
@@ -149,27 +139,14 @@ fn run_lone(
 ) -> Progress
     requires starts { AreStarts nfa.now (search_of input.now) starts.now }
     requires room { HaveRows nfa.now (length slots.old) threads.old }
-    requires next { threads.old.reached.next.items ≡ [] }
-    requires items { AreAt nfa.now threads.old.curr.items }
-    requires low { (search_of input.now).start ≤ last.at }
-    requires high { last.at ≤ (search_of input.now).end }
-    requires over { (search_of input.now).end ≤ last.at → threads.old.curr.items ≡ [] }
-    requires searches { SearchesFirst nfa.now (search_of input.now) (last.at + 1) (length slots.old) starts.now.state 0
-        last.found slots.old threads.old.reached.seen threads.old.curr.items }
-    ensures sizes { SameSizes threads.old threads.new }
-    ensures scans { threads.new.scans ≡ threads.old.scans }
-    ensures width { threads.new.curr.width ≡ threads.old.curr.width }
-    ensures next { threads.new.reached.next.items ≡ [] }
-    ensures items { AreAt nfa.now threads.new.curr.items }
+    requires first { (base : Threads) × ScansFirst nfa.now (search_of input.now) starts.now 0 (last.at + 1)
+        (length slots.old) last.found slots.old base threads.old }
     ensures low { last.at ≤ result.at }
     ensures high { result.at ≤ (search_of input.now).end }
-    ensures over { (search_of input.now).end ≤ result.at → threads.new.curr.items ≡ [] }
-    ensures paid { (before : ℕ) → IsPaidAt nfa.now (search_of input.now) (last.at + 1) before
-        threads.old.reached.seen.turns (length threads.old.curr.items)
-        → IsPaidAt nfa.now (search_of input.now) (result.at + 1) before
-        threads.new.reached.seen.turns (length threads.new.curr.items) }
-    ensures searches { SearchesFirst nfa.now (search_of input.now) (result.at + 1) (length slots.old) starts.now.state
-        0 result.found slots.new threads.new.reached.seen threads.new.curr.items }
+    ensures first { (base : Threads) → ScansFirst nfa.now (search_of input.now) starts.now 0 (last.at + 1)
+        (length slots.old) last.found slots.old base threads.old
+        → ScansFirst nfa.now (search_of input.now) starts.now 0 (result.at + 1) (length slots.old) result.found
+        slots.new base threads.new }
 {
     let mut at = last.at;
     let mut found = last.found;
@@ -194,11 +171,9 @@ fn scan_first(
     slots: &mut [Slot],
 ) -> Option<HalfMatch>
     requires first { IsFirstBytes nfa.now first.now.may_begin }
-    requires ready { MayScan nfa.now (search_of input.now) starts.now (length slots.old) threads.old }
+    requires ready { MayScan nfa.now (search_of input.now) starts.now slots.old threads.old }
     requires some { (search_of input.now).start < starts.now.limit }
-    requires unset { slots.old ≡ blank (length slots.old) }
-    ensures sizes { SameSizes threads.old threads.new }
-    ensures scans { threads.new.scans ≡ threads.old.scans }
+    ensures keeps { KeepsThreads threads.old threads.new }
     ensures turns { IsWithinTurns nfa.now (search_of input.now) threads.old threads.new }
     ensures answer { ScanGives nfa.now LeftmostFirst false (search_of input.now) result slots.new
         threads.new.reached.seen.turns }
@@ -254,11 +229,9 @@ fn scan_all(
     threads: &mut Threads,
     slots: &mut [Slot],
 ) -> Option<HalfMatch>
-    requires ready { MayScan nfa.now (search_of input.now) starts.now (length slots.old) threads.old }
+    requires ready { MayScan nfa.now (search_of input.now) starts.now slots.old threads.old }
     requires stop { starts.now.stop ≤ (search_of input.now).start }
-    requires unset { slots.old ≡ blank (length slots.old) }
-    ensures sizes { SameSizes threads.old threads.new }
-    ensures scans { threads.new.scans ≡ threads.old.scans }
+    ensures keeps { KeepsThreads threads.old threads.new }
     ensures turns { IsWithinTurns nfa.now (search_of input.now) threads.old threads.new }
     ensures answer { ScanGives nfa.now All false (search_of input.now) result slots.new
         threads.new.reached.seen.turns }
@@ -284,11 +257,9 @@ fn scan_earliest(
     threads: &mut Threads,
     slots: &mut [Slot],
 ) -> Option<HalfMatch>
-    requires ready { MayScan nfa.now (search_of input.now) starts.now (length slots.old) threads.old }
+    requires ready { MayScan nfa.now (search_of input.now) starts.now slots.old threads.old }
     requires stop { starts.now.stop ≤ (search_of input.now).start }
-    requires unset { slots.old ≡ blank (length slots.old) }
-    ensures sizes { SameSizes threads.old threads.new }
-    ensures scans { threads.new.scans ≡ threads.old.scans }
+    ensures keeps { KeepsThreads threads.old threads.new }
     ensures turns { IsWithinTurns nfa.now (search_of input.now) threads.old threads.new }
     ensures answer { ScanGives nfa.now (cond past_match All LeftmostFirst) true (search_of input.now) result slots.new
         threads.new.reached.seen.turns }

@@ -1,12 +1,11 @@
 -- All that a root leads to without reading a byte is followed from match to match, until the position ends.
 use Rattle.std.proofs.Common.{◌≡◌, ◌∙◌, [], length, map, take, arith, refl, true, false}
-use Rattle.std.specs.Prelude.{None}
-use Rattle.regex_search_core.specs.Search.{search_of}
 use Rattle.nfa_paths.specs.Paths.{degree}
 use Rattle.nfa_paths.proofs.TurnLemmas.{marked_sum-le}
+use Rattle.nfa_pikevm_scan.specs.Sinks.Takes.{none}
 use Rattle.nfa_pikevm_scan.proofs.ApplyFrameLemmas.{within-lower}
 use Rattle.nfa_pikevm_scan.proofs.SinkLemmas.{Takes-none, Takes-match}
-use Rattle.nfa_pikevm_scan.proofs.ClosureLemmas.{Followed-begin, Followed-more, Followed-resumed, ClosureGives-whole, ClosureGives-ended, KeepsRoom-none, KeepsRoom-then}
+use Rattle.nfa_pikevm_scan.proofs.ClosureLemmas.{Turned-begin, Turned-more, Turned-resumed, ClosureGives-whole, ClosureGives-ended, KeepsRoom-none, KeepsRoom-then}
 use Rattle.nfa_pikevm_scan.proofs.closure.epsilon_closure.Goals as goal
 
 pub loop-pattern-init : goal.loop-pattern-init
@@ -19,9 +18,7 @@ loop-pattern-init g c =
       within = λ k d h. absurd (omega arith);
       width = refl;
       same_reference = refl;
-      followed = Followed-begin c.args.here.now.nfa.now (search_of c.args.here.now.input.now) g.T.MatchSink.takes
-          c.args.here.now.at c.args.root c.args.reached.now.seen c.args.reached.now.next.items c.args.row.now
-          c.args.sink.now;
+      followed = Turned-begin none;
     }
 
 pub returns-then-take-clause-arrives : goal.returns-then-take-clause-arrives
@@ -34,11 +31,10 @@ returns-in_default-resume-clause-arrives g c =
     let none : c.resume.new.top ≡ 0 = c.in_default-resume.ensures.over refl in
     let empty : take c.resume.new.top c.next_match.new.frames ≡ [] = rw none refl in
     ClosureGives-whole empty
-    (Followed-resumed c.next_match.new.top c.resume.new.top c.next_match.new.frames None _
+    (Turned-resumed c.next_match.new.top c.resume.new.top c.next_match.new.frames
     c.in_default-resume.ensures.top (omega (arith, c.in-Some.ensures.top, c.requires.room.stack))
-    c.in_default-resume.ensures.tried (λ front work. c.in_default-resume.ensures.follows c.args.here.now.nfa.now
-    (search_of c.args.here.now.input.now) c.args.here.now.at c.next_match.new.reached.seen front work)
-    (Followed-more c.loop-pattern.invariant.followed c.in-Some.ensures.finds
+    c.in_default-resume.ensures.tried c.in_default-resume.ensures.follows
+    (Turned-more c.loop-pattern.invariant.followed c.in-Some.ensures.finds
     (Takes-match _ false c.if-take.false c.in-Some.ensures.finds.ends c.take.ensures.takes) refl))
 
 pub loop-pattern-smaller : goal.loop-pattern-smaller
@@ -64,11 +60,10 @@ loop-pattern-preserved g c =
           (within-lower _ _ _ _ _ c.in-Some-resume.ensures.top c.in-Some.ensures.within);
       width = c.take.ensures.width ∙ c.loop-pattern.invariant.width;
       same_reference = c.take.ensures.same_reference ∙ c.loop-pattern.invariant.same_reference;
-      followed = Followed-resumed c.next_match.new.top c.resume.new.top c.next_match.new.frames _ _
+      followed = Turned-resumed c.next_match.new.top c.resume.new.top c.next_match.new.frames
           c.in-Some-resume.ensures.top (omega (arith, c.in-Some.ensures.top, c.requires.room.stack))
-          c.in-Some-resume.ensures.tried (λ front work. c.in-Some-resume.ensures.follows c.args.here.now.nfa.now
-          (search_of c.args.here.now.input.now) c.args.here.now.at c.next_match.new.reached.seen front work)
-          (Followed-more c.loop-pattern.invariant.followed c.in-Some.ensures.finds
+          c.in-Some-resume.ensures.tried c.in-Some-resume.ensures.follows
+          (Turned-more c.loop-pattern.invariant.followed c.in-Some.ensures.finds
           (Takes-match _ false c.if-take.false c.in-Some.ensures.finds.ends c.take.ensures.takes) refl);
     }
 
@@ -77,5 +72,5 @@ returns-clause-arrives g c =
     let none : c.next_match.new.top ≡ 0 = c.in_default.ensures.over refl in
     let empty : take c.next_match.new.top c.next_match.new.frames ≡ [] = rw none refl in
     ClosureGives-whole empty
-    (Followed-more c.loop-pattern.invariant.followed c.in_default.ensures.finds
+    (Turned-more c.loop-pattern.invariant.followed c.in_default.ensures.finds
     (Takes-none c.in_default.ensures.finds.front c.loop-pattern.sink c.in_default.ensures.finds.ends) refl)

@@ -1,13 +1,12 @@
 -- All that a root leads to without reading a byte is followed from match to match, until the position ends.
-use Rattle.std.proofs.Common.{◌≡◌, ◌≤◌, ◌<◌, ◌+◌, ◌-◌, length, map, take}
-use Rattle.std.specs.Prelude.{All, Some, sum}
-use Rattle.std.specs.List.{sum_by}
+use Rattle.std.proofs.Common.{◌≡◌, ◌≤◌, ◌<◌, ◌+◌, ◌-◌, [], false, length, map, take, All, Some, sum, sum_by}
 use Rattle.regex_search_core.specs.Search.{search_of}
 use Rattle.nfa_paths.specs.Paths.{degree}
 use Rattle.nfa_paths.specs.Turns.{marked_sum}
 use Rattle.nfa_pikevm_scan.specs.Needs.{stack_frames}
 use Rattle.nfa_pikevm_scan.specs.States.{tries, IsWithin, KeepsRoom}
-use Rattle.nfa_pikevm_scan.proofs.ClosureLemmas.{Followed}
+use Rattle.nfa_pikevm_scan.specs.Sinks.{Takes}
+use Rattle.nfa_pikevm_scan.proofs.ClosureLemmas.{Turned}
 use Rattle.nfa_pikevm_scan.proofs.closure.epsilon_closure.Given as goal
 
 abbrev pub invariant-loop-pattern : goal.invariant-loop-pattern
@@ -19,9 +18,10 @@ invariant-loop-pattern g l = record {
   within : All (IsWithin (length l.here.nfa.now.states) (length l.row)) (take l.top l.frames);
   width : g.T.MatchSink.row_width l.sink ≡ g.T.MatchSink.row_width l.fn.sink;
   same_reference : g.T.MatchSink.reference l.sink ≡ g.T.MatchSink.reference l.fn.sink;
-  followed : Followed l.here.nfa.now (search_of l.here.input.now) g.T.MatchSink.takes l.here.at l.fn.root
-      l.fn.reached.seen l.fn.reached.next.items l.fn.row l.fn.sink
-      l.reached.seen l.reached.next.items (Some l.sid) (take l.top l.frames) l.row l.sink;
+  followed : Turned l.here.nfa.now (search_of l.here.input.now) l.here.at l.fn.root l.fn.reached.seen
+      l.fn.reached.next.items [] l.fn.row
+      (λ front. Takes l.here.nfa.now g.T.MatchSink.takes front l.fn.sink false l.sink)
+      l.reached.seen l.reached.next.items (Some l.sid) (take l.top l.frames) l.row;
 }
 
 -- the turns that wait on the stack, and those that the states may still bring that are not marked

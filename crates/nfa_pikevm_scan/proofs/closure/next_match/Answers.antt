@@ -1,11 +1,9 @@
 -- All that a state leads to without reading a byte is entered in order, up to the next match.
 use Rattle.std.proofs.Common.{length, map, arith}
-use Rattle.std.specs.Prelude.{None}
-use Rattle.regex_search_core.specs.Search.{search_of}
 use Rattle.nfa_paths.specs.Paths.{degree}
 use Rattle.nfa_paths.proofs.TurnLemmas.{marked_sum-le}
 use Rattle.nfa_pikevm_scan.proofs.ApplyFrameLemmas.{within-lower}
-use Rattle.nfa_pikevm_scan.proofs.ClosureLemmas.{Passed-begin, Passed-plain, Passed-resumed, Finds-none, Finds-match, HasRoom-paid, KeepsRoom-none, KeepsRoom-then}
+use Rattle.nfa_pikevm_scan.proofs.ClosureLemmas.{Turned-begin, Turned-resumed, Passed-plain, Finds-none, Finds-match, HasRoom-paid, KeepsRoom-none, KeepsRoom-then}
 use Rattle.nfa_pikevm_scan.proofs.closure.next_match.Goals as goal
 
 pub loop-on-init : goal.loop-on-init
@@ -16,8 +14,7 @@ loop-on-init c =
       keeps = KeepsRoom-none c.args.reached.now;
       grows = omega arith;
       within = c.requires.within;
-      passed = Passed-begin c.args.here.now.nfa.now (search_of c.args.here.now.input.now) c.args.here.now.at c.args.from
-          c.args.reached.now.seen c.args.reached.now.next.items _ c.args.row.now;
+      passed = Turned-begin (λ b i. absurd i);
     }
 
 pub visit_state-requires-clause-room : goal.visit_state-requires-clause-room
@@ -86,10 +83,8 @@ loop-on-preserved c =
       grows = omega (arith, c.visit_state.ensures.turns);
       within = rw (c.resume.auto.row, c.visit_state.auto.row)
           (within-lower _ _ _ _ _ c.in-Some.ensures.top c.visit_state.ensures.within);
-      passed = Passed-resumed c.visit_state.new.top c.resume.new.top c.visit_state.new.frames _ _
-          c.in-Some.ensures.top (omega (arith, c.visit_state.ensures.top, stack)) c.in-Some.ensures.tried
-          (λ front work. c.in-Some.ensures.follows c.args.here.now.nfa.now
-          (search_of c.args.here.now.input.now) c.args.here.now.at c.visit_state.new.reached.seen front work) turned;
+      passed = Turned-resumed c.visit_state.new.top c.resume.new.top c.visit_state.new.frames c.in-Some.ensures.top
+          (omega (arith, c.visit_state.ensures.top, stack)) c.in-Some.ensures.tried c.in-Some.ensures.follows turned;
     }
 
 pub returns-in-None-clause-turns : goal.returns-in-None-clause-turns
@@ -104,7 +99,5 @@ returns-in-None-clause-finds c =
     let turned = Passed-plain c.loop-on.invariant.passed c.in-DeadEnd.ensures.enters
     c.in-DeadEnd.ensures.enters.is_met in
     Finds-none
-    (Passed-resumed c.visit_state.new.top c.resume.new.top c.visit_state.new.frames None _ c.in-None.ensures.top
-    (omega (arith, c.visit_state.ensures.top, stack)) c.in-None.ensures.tried
-    (λ front work. c.in-None.ensures.follows c.args.here.now.nfa.now (search_of c.args.here.now.input.now)
-    c.args.here.now.at c.visit_state.new.reached.seen front work) turned)
+    (Turned-resumed c.visit_state.new.top c.resume.new.top c.visit_state.new.frames c.in-None.ensures.top
+    (omega (arith, c.visit_state.ensures.top, stack)) c.in-None.ensures.tried c.in-None.ensures.follows turned)

@@ -1,13 +1,12 @@
 -- All that a state leads to without reading a byte is entered in order, up to the next match.
-use Rattle.std.proofs.Common.{◌≤◌, ◌<◌, ◌+◌, ◌-◌, length, map, take}
-use Rattle.std.specs.Prelude.{All, Some, sum}
-use Rattle.std.specs.List.{sum_by}
+use Rattle.std.proofs.Common.{◌≤◌, ◌<◌, ◌+◌, ◌-◌, length, map, take, All, Some, sum, sum_by}
 use Rattle.regex_search_core.specs.Search.{search_of}
-use Rattle.nfa_paths.specs.Paths.{degree}
+use Rattle.nfa_paths.specs.Paths.{degree, is_match}
+use Rattle.nfa_paths.specs.Kinds.{NoMatch}
 use Rattle.nfa_paths.specs.Turns.{marked_sum}
 use Rattle.nfa_pikevm_scan.specs.Needs.{stack_frames}
 use Rattle.nfa_pikevm_scan.specs.States.{tries, IsWithin, KeepsRoom}
-use Rattle.nfa_pikevm_scan.proofs.ClosureLemmas.{Passed}
+use Rattle.nfa_pikevm_scan.proofs.ClosureLemmas.{Turned}
 use Rattle.nfa_pikevm_scan.proofs.closure.next_match.Given as goal
 
 abbrev pub invariant-loop-on : goal.invariant-loop-on
@@ -17,9 +16,8 @@ invariant-loop-on l = record {
   keeps : KeepsRoom l.fn.reached l.reached;
   grows : l.fn.reached.seen.turns ≤ l.reached.seen.turns;
   within : All (IsWithin (length l.here.nfa.now.states) (length l.row)) (take l.top l.frames);
-  passed : Passed l.here.nfa.now (search_of l.here.input.now) l.here.at l.fn.from l.fn.reached.seen
-      l.fn.reached.next.items
-      (take l.fn.top l.fn.frames) l.fn.row
+  passed : Turned l.here.nfa.now (search_of l.here.input.now) l.here.at l.fn.from l.fn.reached.seen
+      l.fn.reached.next.items (take l.fn.top l.fn.frames) l.fn.row (NoMatch (is_match l.here.nfa.now))
       l.reached.seen l.reached.next.items (Some l.sid) (take l.top l.frames) l.row;
 }
 

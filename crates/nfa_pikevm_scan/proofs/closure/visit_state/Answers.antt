@@ -1,11 +1,7 @@
 -- A turn enters a state: it marks it, and keeps the state that its byte leads to, or gives the state to go on with.
 use Rattle.std.proofs.Common.{◌∙◌, take, slice_set, arith, sym, ap, refl, inl, inr}
 use Rattle.std.proofs.lemmas.List.{length-drop}
-use Rattle.nfa_pikevm_scan.proofs.VisitLemmas.{frames-entered, states-entered, within-union, within-saved}
-use Rattle.nfa_pikevm_scan.proofs.VisitLemmas.{IsPut-made, offset-some, top-put}
-use Rattle.nfa_pikevm_scan.proofs.VisitLemmas.{VisitsState-marked, VisitsState-byte, VisitsState-look, VisitsState-no_look}
-use Rattle.nfa_pikevm_scan.proofs.VisitLemmas.{VisitsState-no_union, VisitsState-union, VisitsState-both}
-use Rattle.nfa_pikevm_scan.proofs.VisitLemmas.{VisitsState-capture, VisitsState-fail, VisitsState-match}
+use Rattle.nfa_pikevm_scan.proofs.VisitLemmas.{frames-entered, states-entered, within-union, within-saved, IsPut-made, offset-some, top-put, VisitsState-marked, VisitsState-byte, VisitsState-look, VisitsState-no_look, VisitsState-no_union, VisitsState-union, VisitsState-both, VisitsState-capture, VisitsState-fail, VisitsState-match}
 use Rattle.nfa_pikevm_scan.specs.States.{IsSaved}
 use Rattle.nfa_pikevm_scan.proofs.closure.visit_state.Goals as goal
 use Rattle.nfa_pikevm_scan.proofs.closure.visit_state.Goals.{then-slot-row, else-slot-row}

@@ -10,6 +10,6 @@ returns-clause-arrive g c =
     rw (← c.width-width.ensures)
     (ClosuresGive-one c.args.here.now.nfa.now (search_of c.args.here.now.input.now) g.T.MatchSink.takes
     c.args.here.now.at c.args.reached.now.seen _ c.args.sink.now c.args.reached.now.next.items c.index-kept-0.result _
-    c.epsilon_closure.result _ _ _ c.requires.empty c.requires.clear
+    c.epsilon_closure.result _ _ _ c.requires.ready.empty c.requires.ready.clear
     (items-one width _ c.args.kept.now c.args.rows.now c.index-kept-0.result c.requires.one c.index-kept-0.is
     (omega arith)) c.epsilon_closure.ensures.arrives)

@@ -1,6 +1,5 @@
 -- The start state is followed with the slots as its row.
-use Rattle.std.proofs.Common.{◌≡◌, ◌∙◌, [], ◌∷◌, take, refl, sym, ap, subst, rules, false}
-use Rattle.std.specs.Prelude.{None, Some, replicate}
+use Rattle.std.proofs.Common.{◌≡◌, ◌∙◌, [], ◌∷◌, take, refl, sym, ap, subst, rules, false, None, Some, replicate}
 use Rattle.regex_search_core.specs.Search.{search_of}
 use Rattle.regex_search_core.specs.declared.primitives.PatternID.{PatternID}
 use Rattle.nfa_paths.specs.Exploring.{Slots}

@@ -15,7 +15,7 @@ loop-sid-init g c = record {
   width = refl;
   same_reference = refl;
   crosses = NextsLeadTo-begin c.args.here.now.nfa.now (search_of c.args.here.now.input.now) g.T.MatchSink.takes
-      c.args.here.now.at c.args.reached.now.seen _ c.args.sink.now _ c.requires.empty c.requires.clear;
+      c.args.here.now.at c.args.reached.now.seen _ c.args.sink.now _ c.requires.ready.empty c.requires.ready.clear;
 }
 
 pub epsilon_closure-requires-clause-room : goal.epsilon_closure-requires-clause-room
@@ -23,9 +23,9 @@ epsilon_closure-requires-clause-room g c = record {
   room = HasRoom-next c.args.here.now.nfa.now (search_of c.args.here.now.input.now) g.T.MatchSink.takes
       c.args.here.now.at
       c.args.reached.now.seen _ c.args.sink.now _ _ _ _ _ _ _ _
-      c.requires.clear c.requires.room c.loop-sid.invariant.keeps.size refl
+      c.requires.ready.clear (rw c.requires.ready.empty at c.requires.ready.room.room) c.loop-sid.invariant.keeps.size refl
       (ap (λ (z : Active). z.capacity) c.loop-sid.invariant.keeps.same) c.loop-sid.invariant.crosses;
-  stack = omega (arith, c.loop-sid.auto.frames, c.requires.stack);
+  stack = omega (arith, c.loop-sid.auto.frames, c.requires.ready.room.stack);
 }
 
 pub epsilon_closure-requires-clause-width : goal.epsilon_closure-requires-clause-width
@@ -34,7 +34,7 @@ epsilon_closure-requires-clause-width g c =
     let wide = c.width-width.ensures in
     rw c.loop-sid.invariant.start (row-long width c.loop-sid.sid-index (length c.args.kept.now) _ c.loop-sid.rows
     c.args.rows.now c.loop-sid-test.true (rw wide c.requires.rows) c.loop-sid.auto.rows (omega arith))
-    ∙ wide ∙ c.requires.width ∙ sym (ap (λ (z : Active). z.width) c.loop-sid.invariant.keeps.same)
+    ∙ wide ∙ c.requires.ready.width_is ∙ sym (ap (λ (z : Active). z.width) c.loop-sid.invariant.keeps.same)
 
 pub epsilon_closure-requires-clause-takes : goal.epsilon_closure-requires-clause-takes
 epsilon_closure-requires-clause-takes g c =

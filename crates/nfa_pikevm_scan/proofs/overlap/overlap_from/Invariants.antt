@@ -2,7 +2,7 @@
 use Rattle.std.proofs.Common.{◌≡◌, ◌≤◌, ◌<◌, ◌+◌, [], length}
 use Rattle.regex_search_core.specs.Search.{search_of}
 use Rattle.regex_search_core.specs.PatternSets.{size_of_set}
-use Rattle.nfa_pikevm_scan.specs.Scans.{SameSizes}
+use Rattle.nfa_pikevm_scan.specs.Scans.{KeepsThreads}
 use Rattle.nfa_pikevm_scan.proofs.SoFarLemmas.{SoFar}
 use Rattle.nfa_pikevm_scan.proofs.overlap.overlap_from.Given as goal
 
@@ -12,12 +12,9 @@ invariant-loop-at l = record {
   state : l.joining.state < length l.nfa.states;
   stop : l.joining.stop ≡ l.starts.stop;
   limit : l.joining.limit ≤ (search_of l.input).end + 1;
-  last : (search_of l.input).end < l.at → l.threads.curr.items ≡ [];
-  sizes : SameSizes l.fn.threads l.threads;
-  width : l.threads.curr.width ≡ 0;
+  keeps : KeepsThreads l.fn.threads l.threads;
   next : l.threads.reached.next.items ≡ [];
   so_far : SoFar l.nfa (search_of l.input) l.fn.patterns l.past_match (search_of l.input).earliest l.joining l.at
       l.fn.threads.reached.seen.turns l.threads.reached.seen l.threads.curr.items l.patterns;
   not_full : size_of_set l.patterns < length l.patterns;
-  counted : l.threads.scans ≡ l.fn.threads.scans;
 }

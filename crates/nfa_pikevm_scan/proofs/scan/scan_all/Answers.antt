@@ -3,48 +3,45 @@ use Rattle.std.proofs.Common.{◌≡◌, ◌∙◌, ◌+◌, ◌≤◌, length, 
 use Rattle.regex_search_core.specs.Search.{search_of}
 use Rattle.nfa_pikevm_scan.proofs.AllLemmas.{HasLast-cross}
 use Rattle.nfa_pikevm_scan.proofs.EndLemmas.{HasLast-begin, ScansAll-joined, ScansAll-over, last-over, ends-at}
-use Rattle.nfa_pikevm_scan.proofs.StandsLemmas.{Stands-next, Stands-ready}
-use Rattle.nfa_pikevm_scan.proofs.RoomLemmas.{none_of, below-joined}
+use Rattle.nfa_pikevm_scan.proofs.StandsLemmas.{MayCross-joins, Stands-next, Stands-ready}
+use Rattle.nfa_pikevm_scan.proofs.RoomLemmas.{KeepsThreads-none, KeepsThreads-then, none_of}
 use Rattle.nfa_pikevm_scan.proofs.ScanLemmas.{Crossed-given}
 use Rattle.nfa_pikevm_scan.proofs.scan.scan_all.Goals as goal
 
 pub loop-at-init : goal.loop-at-init
 loop-at-init c = record {
-  counted = refl;
-  sizes = refl;
-  width = c.requires.ready.room.width_is;
+  keeps = KeepsThreads-none c.args.threads.now;
   next = c.requires.ready.next;
   stands = Stands-ready c.args.slots.now c.start-at.ensures c.requires.ready;
   last = rw c.start-at.ensures (HasLast-begin c.args.nfa.now (search_of c.args.input.now) c.args.starts.now
-      c.requires.ready.starts c.args.slots.now c.args.threads.now.reached.seen c.requires.unset);
+      c.requires.ready.starts c.args.slots.now c.args.threads.now.reached.seen c.requires.ready.unset);
 }
 
 pub returns-then-is_empty-clause-answer : goal.returns-then-is_empty-clause-answer
 returns-then-is_empty-clause-answer c =
     let none = none_of c.add_start.new.threads.curr.items (c.is_empty.ensures.0 c.if-is_empty.true) in
-    let items = rw c.loop-at.invariant.width at c.add_start.ensures.curr in
+    let items = rw (c.loop-at.invariant.keeps.width, c.requires.ready.room.width_is) at c.add_start.ensures.curr in
     rw c.add_start.ensures.seen
     (last-over c.args.nfa.now (search_of c.args.input.now) c.loop-at.at (length c.args.slots.now) c.loop-at.found
     c.loop-at.slots c.loop-at.threads.reached.seen.turns c.loop-at.invariant.last
     (ScansAll-over c.args.nfa.now (search_of c.args.input.now) c.args.starts.now c.loop-at.at (length c.args.slots.now)
     c.loop-at.invariant.stands.scans (sym items ∙ none) (λ v t. t)) (sym c.loop-at.auto.slots))
 
-pub nexts-requires-clause-states : goal.nexts-requires-clause-states
-nexts-requires-clause-states c =
-    rw (rw c.loop-at.invariant.width at c.add_start.ensures.curr)
-    (below-joined c.args.starts.now (length c.args.slots.now) c.loop-at.at c.loop-at.threads.curr.items
-    c.requires.ready.starts.state c.loop-at.invariant.stands.states.states)
+pub nexts-requires-clause-ready : goal.nexts-requires-clause-ready
+nexts-requires-clause-ready c =
+    let i = c.loop-at.invariant in
+    rw c.loop-at.auto.slots (MayCross-joins c.requires.ready i.keeps i.next i.stands.states c.add_start.ensures
+    c.requires.ready.starts.state (omega (arith, c.end-at-end.ensures.value, c.loop-at-test.true)))
 
 pub loop-at-preserved : goal.loop-at-preserved
 loop-at-preserved c =
     let x = search_of c.args.input.now in
-    let items = rw c.loop-at.invariant.width at c.add_start.ensures.curr in
+    let items = rw (c.loop-at.invariant.keeps.width, c.requires.ready.room.width_is) at c.add_start.ensures.curr in
     let crosses = rw (c.add_start.ensures.seen, items) at c.nexts.ensures.crosses in
     let low : x.start ≤ c.loop-at.at = omega (arith, c.start-at.ensures, c.loop-at.auto.at) in
     record {
-      counted = c.nexts.ensures.scans ∙ c.add_start.ensures.scans ∙ c.loop-at.invariant.counted;
-      sizes = c.nexts.ensures.sizes ∙ c.add_start.ensures.sizes ∙ c.loop-at.invariant.sizes;
-      width = c.nexts.ensures.width ∙ c.add_start.ensures.width ∙ c.loop-at.invariant.width;
+      keeps = KeepsThreads-then c.loop-at.invariant.keeps
+          (KeepsThreads-then c.add_start.ensures.keeps c.nexts.ensures.keeps);
       next = c.nexts.ensures.next;
       stands = Stands-next c.loop-at.invariant.stands (Crossed-given _ _ _ crosses.gives) (λ v t. t)
           c.requires.ready.starts.leads low (inl refl);

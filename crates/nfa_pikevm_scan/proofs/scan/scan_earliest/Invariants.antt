@@ -3,18 +3,16 @@ use Rattle.std.proofs.Common.{◌≡◌, [], length}
 use Rattle.regex_search_core.specs.Search.{search_of}
 use Rattle.nfa_paths.specs.Kinds.{NoneBefore}
 use Rattle.nfa_paths.specs.Paths.{is_match, space}
-use Rattle.nfa_pikevm_scan.specs.Scans.{SameSizes}
+use Rattle.nfa_pikevm_scan.specs.Scans.{KeepsThreads}
 use Rattle.nfa_pikevm_scan.proofs.StandsLemmas.{Stands}
 use Rattle.nfa_pikevm_scan.proofs.scan.scan_earliest.Given as goal
 
 abbrev pub invariant-loop-at : goal.invariant-loop-at
 invariant-loop-at l = record {
-  sizes : SameSizes l.fn.threads l.threads;
-  width : l.threads.curr.width ≡ length l.fn.slots;
+  keeps : KeepsThreads l.fn.threads l.threads;
   next : l.threads.reached.next.items ≡ [];
   stands : Stands l.nfa (search_of l.input) (is_match l.nfa) (length l.fn.slots) l.starts l.at
       l.fn.threads.reached.seen.turns l.threads.reached.seen l.threads.curr.items;
   none : NoneBefore (space l.nfa (search_of l.input)) (is_match l.nfa) l.at;
   same : l.slots ≡ l.fn.slots;
-  counted : l.threads.scans ≡ l.fn.threads.scans;
 }

@@ -1,6 +1,5 @@
 -- The slots are those of the row, and unset after it.
-use Rattle.std.proofs.Common.{◌≡◌, ◌∙◌, ◌++◌, ◌+◌, ◌-◌, suc, ap, take, length, replicate, slice_set, arith}
-use Rattle.std.specs.Prelude.{None}
+use Rattle.std.proofs.Common.{◌≡◌, ◌∙◌, ◌++◌, ◌+◌, ◌-◌, suc, ap, take, length, replicate, slice_set, arith, None}
 use Rattle.std.proofs.Math.Seq.{take-length}
 use Rattle.nfa_pikevm_scan.proofs.SlotLemmas.{handed-more}
 use Rattle.nfa_pikevm_scan.proofs.slot.copy_out.Goals as goal

@@ -1,6 +1,5 @@
 -- The slots are those of the row, and unset after it.
-use Rattle.std.proofs.Common.{◌≡◌, ◌++◌, ◌-◌, length, replicate, take}
-use Rattle.std.specs.Prelude.{None}
+use Rattle.std.proofs.Common.{◌≡◌, ◌++◌, ◌-◌, length, replicate, take, None}
 use Rattle.nfa_pikevm_scan.proofs.slot.copy_out.Given as goal
 
 abbrev pub invariant-loop-i : goal.invariant-loop-i
