@@ -1,6 +1,6 @@
 -- Every scan and every search of any NFA has an answer.
-use Rattle.std.proofs.Common.{◌≡◌, ℕ, zero, suc, ◌+◌, ◌≤◌, ◌<◌, ◌⊎◌, inl, inr, Bool, true, false, List, [], ◌∷◌, ◌++◌, length, refl, sym, ap, ◌∙◌, subst, arith}
-use Rattle.std.specs.Prelude.{Option, None, Some, is_some, MatchBool, slice_index}
+use Rattle.std.proofs.Common.{◌≡◌, ℕ, zero, suc, ◌+◌, ◌≤◌, ◌<◌, ◌⊎◌, inl, inr, Bool, true, false, List, [], ◌∷◌, ◌++◌, length, refl, ap, subst, arith}
+use Rattle.std.specs.Prelude.{Option, None, Some, is_some, MatchBool}
 use Rattle.std.proofs.Math.Decide.{ℕ_discrete}
 use Rattle.std.proofs.lemmas.Bool.{cases_lt}
 use Rattle.std.proofs.lemmas.List.{get_or_past}
@@ -12,7 +12,7 @@ use Rattle.thompson_nfa.specs.Automaton.{Automaton, Node}
 use Rattle.thompson_nfa.specs.Automaton.Node.{Fail}
 use Rattle.nfa_paths.specs.Graphs.{Pair, In, NoPath, IsFirstPath}
 use Rattle.nfa_paths.specs.Kinds.{Passes}
-use Rattle.nfa_paths.specs.Paths.{pattern_of, pairs_from, raised, node_at, is_match, IsMatch, is_utf8_empty, edges_of, edges, starts, IsScanAnswer, EndsOnBoundary, IsWhole, SplitsCharacter, IsKeptAnswer, IsRestartedAnswer, IsSearchAnswer}
+use Rattle.nfa_paths.specs.Paths.{pairs_from, raised, node_at, is_match, IsMatch, is_utf8_empty, edges_of, edges, starts, IsScanAnswer, EndsOnBoundary, IsWhole, SplitsCharacter, IsKeptAnswer, IsRestartedAnswer, IsSearchAnswer}
 use Rattle.nfa_paths.proofs.MemberLemmas.{In-append_left, In-append_right}
 use Rattle.nfa_paths.proofs.StartLemmas.{starts-increase, IsMatch-edges}
 use Rattle.nfa_paths.proofs.AnswerLemmas.{scan_answer-leads, scan_answer-within}
@@ -57,10 +57,7 @@ module _ (nfa : Automaton) where
 
   -- and a Fail is not a match
   is_match-past : (v : Pair) → length nfa.states ≤ v.0 → is_match nfa v ≡ true → ⊥
-  is_match-past v past t = none (sym (ap (λ (k : Node). is_some (pattern_of k)) (node_at-past v.0 past)) ∙ t)
-    where
-      none : false ≡ true → ⊥
-      none e = cc
+  is_match-past v past t = grind (arith, node_at-past)
 
   module _ (x : Search) where
     -- a state that is none leads nowhere
@@ -141,29 +138,7 @@ module _ (nfa : Automaton) where
 
   -- a position is a boundary, or not
   IsBoundary-cases : (haystack : List ℕ) (i : ℕ) → IsBoundary haystack i ⊎ ¬ (IsBoundary haystack i)
-  IsBoundary-cases haystack i =
-      elim (ℕ_discrete i (length haystack)) [
-        | yes end ↦ inl (inl end)
-        | no other ↦
-            elim (cases_lt i (length haystack)) [
-              | inl within ↦
-                  elim (cases_lt 0x7F (slice_index haystack i)) [
-                    | inl high ↦
-                        elim (cases_lt (slice_index haystack i) 0xC0) [
-                          | inl low ↦ inr (λ b. elim b [
-                            | inl end ↦ other end
-                            | inr h ↦ elim h.1 [ inl l ↦ omega arith | inr m ↦ omega arith ]
-                          ])
-                          | inr lead ↦ inl (inr (within, inr lead))
-                        ]
-                    | inr ascii ↦ inl (inr (within, inl ascii))
-                  ]
-              | inr past ↦ inr (λ b. elim b [
-                | inl end ↦ other end
-                | inr h ↦ let k : i < length haystack = h.0 in omega arith
-              ])
-            ]
-      ]
+  IsBoundary-cases haystack i = grind arith
 
   -- a path ends on one, or not
   EndsOnBoundary-cases : (x : Search) (p : List Pair) → EndsOnBoundary x p ⊎ ¬ (EndsOnBoundary x p)

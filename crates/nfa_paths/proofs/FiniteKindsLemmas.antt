@@ -15,17 +15,7 @@ use Rattle.nfa_paths.proofs.FinitePathLemmas.{IsFinite, first_to, first_in}
 -- what comes before a pair comes before all that comes after that pair
 Earlier-transitive : (es : List Pair) (a b c : Pair) → Earlier es a b → Earlier es b c → Earlier es a c
 Earlier-transitive [] a b c h k = h
-Earlier-transitive (e ∷ es) a b c h k =
-    elim k.1 [
-      | inl here ↦ absurd (h.0 here)
-      | inr later ↦ (
-        k.0,
-        elim h.1 [
-          | inl first ↦ inl first
-          | inr between ↦ inr (Earlier-transitive es a b c between later)
-        ],
-      )
-    ]
+Earlier-transitive (e ∷ es) a b c h k = grind (arith, Earlier-transitive es a b c)
 
 module _ (edges : Pair → List Pair) where
   -- of lists that follow one pair
@@ -34,23 +24,7 @@ module _ (edges : Pair → List Pair) where
   BeforeAfter-transitive v [] q r h k = h
   BeforeAfter-transitive v (a ∷ p) [] r h k = absurd h
   BeforeAfter-transitive v (a ∷ p) (b ∷ q) [] h k = k
-  BeforeAfter-transitive v (a ∷ p) (b ∷ q) (c ∷ r) h k =
-      elim h [
-        | inl less ↦
-            elim k [
-              | inl more ↦ inl (Earlier-transitive (edges v) a b c less more)
-              | inr e ↦ inl (subst (λ x. Earlier (edges v) a x) e.0 less)
-            ]
-        | inr e ↦
-            elim k [
-              | inl more ↦ inl (subst (λ x. Earlier (edges v) x c) (sym e.0) more)
-              | inr d ↦ inr (
-                e.0 ∙ d.0,
-                BeforeAfter-transitive a p q r e.1
-                    (subst (λ x. BeforeAfter edges x q r) (sym e.0) d.1),
-              )
-            ]
-      ]
+  BeforeAfter-transitive v (a ∷ p) (b ∷ q) (c ∷ r) h k = grind (arith, Earlier-transitive, BeforeAfter-transitive a p q r)
 
   -- of lists that begin with one pair
   Before-transitive : (p q r : List Pair) → Before edges p q → Before edges q r → Before edges p r

@@ -68,15 +68,7 @@ module _ {edges : Pair → List Pair} {starts all : List Pair} {n : ℕ} (finite
     -- one more is marked, and no longer left
     Covers-mark : (left marks : List Pair) (v : Pair) (w : Without v left) → Covers left marks
         → Covers w.rest (v ∷ marks)
-    Covers-mark left marks v w covers x h =
-        elim (covers x h) [
-          | inl m ↦ inl (inr m)
-          | inr c ↦
-              elim c [
-                | inl i ↦ elim (w.covers x i) [ inl e ↦ inl (inl e) | inr j ↦ inr (inl j) ]
-                | inr dead ↦ inr (inr dead)
-              ]
-        ]
+    Covers-mark left marks v w covers x h = grind arith
 
     -- a pair has a first path or none if each pair after it does
     first_step : (left marks : List Pair) → Covers left marks → (v : Pair) → v.1 ≤ n

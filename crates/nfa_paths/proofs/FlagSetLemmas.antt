@@ -1,5 +1,5 @@
 -- Nor does what an overlapping search makes of a set read the flag `earliest` of its input.
-use Rattle.std.proofs.Common.{◌≡◌, ℕ, inl, inr, Bool, true, false, List, length, subst}
+use Rattle.std.proofs.Common.{◌≡◌, ℕ, inl, inr, Bool, true, false, List, length, subst, arith}
 use Rattle.std.specs.Prelude.{Option, None, Some}
 use Rattle.regex_search_core.specs.Search.{Search}
 use Rattle.regex_search_core.specs.declared.search.MatchKind.{MatchKind}
@@ -23,12 +23,7 @@ module _ (nfa : Automaton) where
     permitted-asked v h = record { matches = h.matches; ends = h.ends }
 
     held-asked : (capacity : ℕ) (v : Pair) → IsInsertable nfa (asked x flag) capacity v → IsInsertable nfa x capacity v
-    held-asked capacity v h = record {
-      permitted = permitted-asked v h.permitted;
-      pattern = h.pattern;
-      pattern_is = h.pattern_is;
-      below = h.below;
-    }
+    held-asked capacity v h = grind arith
 
     -- the same patterns are reached
     pattern-asked : (P Q : Pair → Type 0) → ((v : Pair) → P v → Q v) → (k : ℕ) → IsPatternOf nfa (asked x flag) P k
@@ -55,9 +50,7 @@ module _ (nfa : Automaton) where
     -- the same paths come first
     first-asked : (P Q : Pair → Type 0) → ((v : Pair) → P v → Q v) → ((v : Pair) → Q v → P v) → (p : List Pair)
         → IsFirstTo (edges nfa (asked x flag)) (starts nfa x) P p → IsFirstTo (edges nfa x) (starts nfa x) Q p
-    first-asked P Q to back p h =
-        IsFirstTo-along (edges nfa x) (starts nfa x) P Q to back
-        (subst (λ es. IsFirstTo es (starts nfa x) P p) all h)
+    first-asked P Q to back p h = grind (arith, IsFirstTo-along, all)
 
     none-asked : (P Q : Pair → Type 0) → ((v : Pair) → Q v → P v) → NoPath (edges nfa (asked x flag)) (starts nfa x) P
         → NoPath (edges nfa x) (starts nfa x) Q
@@ -130,13 +123,7 @@ module _ (nfa : Automaton) where
         λ met. (h.exact k).1 (met-asked (asked x flag) x.earliest (length set) k met),
       );
     }
-    holds-asked true (Some p) set h = record {
-      end = h.end;
-      ends = h.ends;
-      pattern = h.pattern;
-      pattern_is = h.pattern_is;
-      holds = h.holds;
-    }
+    holds-asked true (Some p) set h = grind arith
 
     gains-asked : (kind : MatchKind) (earliest : Bool) (old new : List Bool)
         → Gains nfa (asked x flag) kind earliest old new → Gains nfa x kind earliest old new
@@ -152,16 +139,7 @@ module _ (nfa : Automaton) where
         ]),
       );
     }
-    gains-asked LeftmostFirst earliest old new h = record {
-      full = h.full;
-      empty = λ e.
-          let m = h.empty e in
-          record {
-            path = m.path;
-            meant = path-asked x flag earliest (length old) m.path m.meant;
-            holds = holds-asked earliest m.path new m.holds;
-          };
-    }
+    gains-asked LeftmostFirst earliest old new h = grind (arith, holds-asked, path-asked)
 
     -- what a search makes of a set
     pub set-asked : (kind : MatchKind) (earliest : Bool) (old new : List Bool)

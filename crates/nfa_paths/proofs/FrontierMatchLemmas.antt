@@ -1,6 +1,6 @@
 -- The first and the last match pair of a front.
-use Rattle.std.proofs.Common.{◌≡◌, ◌⊎◌, inl, inr, Bool, true, false, List, [], ◌∷◌, ◌++◌, refl, ap, sym}
-use Rattle.std.specs.Prelude.{None, Some, cond}
+use Rattle.std.proofs.Common.{◌≡◌, ◌⊎◌, inl, inr, Bool, true, List, [], ◌∷◌, ◌++◌, refl, ap, sym, arith}
+use Rattle.std.specs.Prelude.{None, Some}
 use Rattle.std.proofs.lemmas.Bool.{cases_Bool}
 use Rattle.nfa_paths.specs.Graphs.{Pair, In}
 use Rattle.nfa_paths.specs.Exploring.{Slots, Hit}
@@ -113,26 +113,13 @@ module _ (is_match : Pair → Bool) where
   -- no match pair comes before the first
   pub before_match-plain : (front : List (Pair × Slots)) → NoMatch is_match (before_match is_match front)
   before_match-plain [] = λ b i t. i
-  before_match-plain (a ∷ front) = of (is_match a.0) refl (before_match-plain front)
-    where
-      plain : (c : Bool) → c ≡ false → c ≡ true → ⊥
-      plain c f g = cc
-
-      of : (c : Bool) → is_match a.0 ≡ c → NoMatch is_match (before_match is_match front)
-          → NoMatch is_match (cond c [] (a ∷ before_match is_match front))
-      of true e rest b i t = i
-      of false e rest b i t = elim i [ inl here ↦ plain (is_match a.0) e (rw (← here) t) | inr later ↦ rest b later t ]
+  before_match-plain (a ∷ front) = grind (arith, before_match-plain front)
 
   -- what comes before it is in the front
   pub before_match-among : (front : List (Pair × Slots)) (b : Pair × Slots) → In b (before_match is_match front)
       → In b front
   before_match-among [] b = λ i. i
-  before_match-among (a ∷ front) b = of (is_match a.0) (before_match-among front b)
-    where
-      of : (c : Bool) → (In b (before_match is_match front) → In b front)
-          → In b (cond c [] (a ∷ before_match is_match front)) → In b (a ∷ front)
-      of true rest i = absurd i
-      of false rest i = elim i [ inl here ↦ inl here | inr later ↦ inr (rest later) ]
+  before_match-among (a ∷ front) b = grind (arith, before_match-among front b)
 
   -- the items before the first match pair, that pair, and the items after it
   pub record FirstCut (front : List (Pair × Slots)) (a : Pair × Slots) : Type 0 where
@@ -169,8 +156,4 @@ module _ (is_match : Pair → Bool) where
   pub before_match-all : (front : List (Pair × Slots)) → first_match is_match front ≡ None
       → before_match is_match front ≡ front
   before_match-all [] e = refl
-  before_match-all (a ∷ front) e =
-      elim (cases_Bool (is_match a.0)) [
-        | inl t ↦ let some : Some a ≡ None = rw t at e in cc
-        | inr f ↦ rw f (ap (λ ys. a ∷ ys) (before_match-all front (rw f at e)))
-      ]
+  before_match-all (a ∷ front) e = grind (arith, before_match-all front)

@@ -1,6 +1,6 @@
 -- What a set of patterns is under LeftmostFirst once it is full: what is left of the scan changes nothing.
 use Rattle.std.proofs.Common.{◌≡◌, ℕ, ◌<◌, ◌≤◌, ◌↔◌, inl, inr, Bool, true, false, List, length, sym, ap, ◌∙◌, arith}
-use Rattle.std.specs.Prelude.{Option, None, Some, option_and_then}
+use Rattle.std.specs.Prelude.{Option, None, Some}
 use Rattle.std.proofs.lemmas.Bool.{cases_lt}
 use Rattle.regex_search_core.specs.PatternSets.{size_of_set}
 use Rattle.regex_search_core.specs.Search.{Search}
@@ -9,7 +9,7 @@ use Rattle.thompson_nfa.specs.Automaton.{Automaton}
 use Rattle.nfa_paths.specs.Graphs.{Pair, IsFirstTo, IsFirstPath}
 use Rattle.nfa_paths.specs.Exploring.{Slots}
 use Rattle.nfa_paths.specs.Kinds.{Passes, WantedBefore}
-use Rattle.nfa_paths.specs.Paths.{edges, starts, last_of, node_at, pattern_of, path_pattern}
+use Rattle.nfa_paths.specs.Paths.{edges, starts, last_of}
 use Rattle.nfa_paths.specs.Overlaps.{HoldsPattern, HoldsUpTo, pattern_at, IsPermitted, IsInsertable, IsPatternOf, IsFirstBefore, IsOverlapResult}
 use Rattle.nfa_paths.proofs.ExistenceLemmas.{first_wanted-exists}
 use Rattle.nfa_paths.proofs.PathToLemmas.{EndsWith-last, IsFirstTo-along, IsFirstTo-unique}
@@ -27,14 +27,7 @@ module _ (nfa : Automaton) (x : Search) (old : List Bool) (wants : Pair → Bool
     (h : Exact nfa x old wants tells e (Some a) new) (full : size_of_set new ≡ length new) where
   -- a first path before some limit has a pattern below the capacity
   below : (k : ℕ) → IsFirstBefore nfa x (length new) k → k < length new
-  below k met =
-      let held = met.first.wanted.wanted in
-      let last = EndsWith-last None met.first.end met.along met.first.path.ends in
-      let is : path_pattern nfa met.along ≡ pattern_at nfa met.first.end =
-      ap (λ o. option_and_then (λ (w : Pair). pattern_of (node_at nfa w.0)) o) last in
-      let same : held.pattern ≡ k = same_some held.pattern k (sym held.pattern_is ∙ sym is ∙ met.pattern_is) in
-      let less : held.pattern < length new = held.below in
-      omega arith
+  below k met = grind (arith, EndsWith-last)
 
   exactly : (k : ℕ) → HoldsPattern new k ↔ IsFirstBefore nfa x (length new) k
   exactly k = (λ held. rw u.capacity (h.sound k held), λ met. full-holds new full k (below k met))

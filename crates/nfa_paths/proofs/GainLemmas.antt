@@ -1,5 +1,5 @@
 -- What a set of patterns gains under All, position by position.
-use Rattle.std.proofs.Common.{◌≡◌, ℕ, ◌+◌, ◌<◌, ◌⊎◌, ◌↔◌, inl, inr, Bool, true, false, List, [], length, refl, ◌∙◌, subst}
+use Rattle.std.proofs.Common.{◌≡◌, ℕ, ◌+◌, ◌<◌, ◌⊎◌, ◌↔◌, inl, inr, Bool, true, false, List, [], length, refl, ◌∙◌, subst, arith}
 use Rattle.std.specs.Prelude.{Some}
 use Rattle.std.proofs.lemmas.Bool.{cases_lt}
 use Rattle.regex_search_core.specs.PatternSets.{size_of_set}
@@ -123,17 +123,7 @@ module _ (nfa : Automaton) (x : Search) (old : List Bool) (wants : Pair → Bool
   -- a full set gains nothing
   pub GainsBefore-full : {e : ℕ} {new : List Bool} → GainsBefore e new → size_of_set new ≡ length new
       → IsOverlapResult nfa x All false old new
-  GainsBefore-full {e} {new} g full = record {
-    capacity = g.capacity;
-    keeps = λ k h. (g.gained k).1 (inl h);
-    sound = λ k h. elim ((g.gained k).0 h) [ inl o ↦ inl o | inr w ↦ inr (w.0, reached-sound w.1) ];
-    gains = record {
-      gained = λ k. (
-        λ h. elim ((g.gained k).0 h) [ inl o ↦ inl o | inr w ↦ inr (w.0, reached-sound w.1) ],
-        λ s. elim s [ inl o ↦ (g.gained k).1 (inl o) | inr w ↦ full-holds new full k (rw g.capacity w.0) ],
-      );
-    };
-  }
+  GainsBefore-full {e} {new} g full = grind (arith, full-holds)
 
   -- no pattern below the capacity is reached before e
   pub record NoneHeld (e : ℕ) : Type 0 where

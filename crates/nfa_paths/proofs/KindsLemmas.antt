@@ -237,11 +237,7 @@ module _ (space : Space) (resting is_match : Pair → Bool) (slots : Slots) (tur
 
   -- whether a pair is one of two
   two : (m n : Pair) → Tested (λ x. (x ≡ m) ⊎ (x ≡ n))
-  two m n x =
-      elim (same x m) [
-        | inl h ↦ inl (inl h)
-        | inr h ↦ elim (same x n) [ inl k ↦ inl (inr k) | inr k ↦ inr (λ s. elim s [ inl a ↦ h a | inr b ↦ k b ]) ]
-      ]
+  two m n x = grind arith
 
   -- a pair that is one wanted at e is a match pair at e
   here_at : (m : Pair) → WantedAt (Passes is_match) e m → (x : Pair) → x ≡ m → (is_match x ≡ true) × (x.1 ≡ e)

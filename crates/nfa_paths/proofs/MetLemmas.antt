@@ -1,8 +1,8 @@
 -- The first path that ends before a limit, as a search that drops what is after a match finds it, and the set of the
 -- patterns of such paths.
-use Rattle.std.proofs.Common.{◌≡◌, ℕ, ◌+◌, ◌<◌, ◌≤◌, ◌↔◌, ◌∙◌, inl, inr, Bool, true, List, [], ◌∷◌, map, length, refl, sym, ap, subst, arith}
+use Rattle.std.proofs.Common.{◌≡◌, ℕ, ◌+◌, ◌<◌, ◌≤◌, ◌↔◌, ◌∙◌, inl, inr, Bool, true, List, [], ◌∷◌, map, length, refl, sym, ap, subst, arith, rules}
 use Rattle.std.specs.Prelude.{Option, None, Some}
-use Rattle.std.proofs.lemmas.Bool.{cases_Bool, cases_lt}
+use Rattle.std.proofs.lemmas.Bool.{cases_lt}
 use Rattle.regex_search_core.specs.PatternSets.{with_pattern, size_of_set}
 use Rattle.regex_search_core.specs.Search.{Search}
 use Rattle.thompson_nfa.specs.Automaton.{Automaton}
@@ -20,7 +20,7 @@ use Rattle.nfa_paths.proofs.PathToLemmas.{EndsWith-last, found-end, IsFirstTo-al
 use Rattle.nfa_paths.proofs.ScanAnswerLemmas.{Scanned-matches, starts-from}
 use Rattle.nfa_paths.proofs.ScanLemmas.{IsFirstPath-found, NoneBefore-start}
 use Rattle.nfa_paths.proofs.SetLemmas.{holds-with, size-none}
-use Rattle.nfa_paths.proofs.TestLemmas.{Tested, is_plain, test, test-true, true-test, same_test}
+use Rattle.nfa_paths.proofs.TestLemmas.{Tested, test, test-true, true-test, same_test}
 use Rattle.nfa_paths.proofs.OptionLemmas.{same_some}
 use Rattle.nfa_paths.proofs.PatternLemmas.{ends-pattern}
 
@@ -77,14 +77,7 @@ Between-same {wants} {target} {e} b v at = same_test (target v) (wants v) (b.sub
 -- what is wanted before e, as a test
 module _ (wants : Pair → Bool) (e : ℕ) where
   tell_before : Tested (WantedBefore (Passes wants) e)
-  tell_before v =
-      elim (cases_Bool (wants v)) [
-        | inl t ↦ elim (cases_lt v.1 e) [
-          | inl less ↦ inl (record { wanted = t; before = less })
-          | inr more ↦ inr (λ h. let k : v.1 < e = h.before in omega arith)
-        ]
-        | inr f ↦ inr (λ h. is_plain (wants v) f h.wanted)
-      ]
+  tell_before v = grind arith
 
   pub before_target : Pair → Bool
   before_target v = test (tell_before v)
@@ -98,10 +91,7 @@ module _ (wants : Pair → Bool) (e : ℕ) where
   is_before v = true-test (tell_before v)
 
   pub Between-before : (d : ℕ) → d ≤ e → Between wants d before_target
-  Between-before d less = record {
-    sub = λ v t. (before_is v t).wanted;
-    all = λ v t l. is_before v (record { wanted = t; before = omega arith });
-  }
+  Between-before d less = grind (arith, before_is, is_before)
 
 -- The set before is `old`: wanted is what it has room for.
 module _ (nfa : Automaton) (x : Search) (old : List Bool) (wants : Pair → Bool)
@@ -112,9 +102,7 @@ module _ (nfa : Automaton) (x : Search) (old : List Bool) (wants : Pair → Bool
 
   First-held : (limit : ℕ) (p : List Pair) → First limit p
       → IsFirstTo (edges nfa x) (starts nfa x) (WantedBefore (IsInsertable nfa x (length old)) limit) p
-  First-held limit p = IsFirstTo-along (edges nfa x) (starts nfa x) _ _
-      (λ v w. record { wanted = (tells v).0 w.wanted; before = w.before })
-      (λ v w. record { wanted = (tells v).1 w.wanted; before = w.before })
+  First-held limit p = search (rules, IsFirstTo-along)
 
   held-First : (limit : ℕ) (p : List Pair)
       → IsFirstTo (edges nfa x) (starts nfa x) (WantedBefore (IsInsertable nfa x (length old)) limit) p → First limit p

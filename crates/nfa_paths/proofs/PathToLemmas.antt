@@ -84,11 +84,7 @@ module _ (edges : Pair → List Pair) where
 -- a pair is in a list, or is not
 pub In-cases : (x : Pair) (p : List Pair) → In x p ⊎ ¬ (In x p)
 In-cases x [] = inr (λ i. i)
-In-cases x (y ∷ p) =
-    elim (same x y) [
-      | inl e ↦ inl (inl e)
-      | inr n ↦ elim (In-cases x p) [ inl i ↦ inl (inr i) | inr m ↦ inr (λ i. elim i [ inl e ↦ n e | inr j ↦ m j ]) ]
-    ]
+In-cases x (y ∷ p) = grind (arith, In-cases x p)
 
 module _ (edges : Pair → List Pair) where
   -- a list of a path's shape, from s to w, of pairs of p
@@ -121,11 +117,7 @@ module _ (edges : Pair → List Pair) (starts : List Pair) where
     -- a path to a target, as the search knows it
     pub PathTo-accepts : {m : Pair} {p : List Pair} (w : PathTo edges starts m p) → target m ≡ true
         → Accepts edges target [] w.start p
-    PathTo-accepts {m} {p} w t = record {
-      path = (Path-plain edges target w.start p).1
-          (w.head, w.once, w.linked, EndsWith-stops edges target stops m p w.linked w.ends t);
-      clear = λ x i n. n;
-    }
+    PathTo-accepts {m} {p} w t = grind (arith, EndsWith-stops, Path-plain)
 
     -- of two paths to targets, one comes before the other
     pub PathTo-order : Increasing starts → {m n : Pair} {p q : List Pair}
@@ -156,10 +148,7 @@ module _ (edges : Pair → List Pair) (starts : List Pair) where
     -- an accepting path from one of the starts, in plain words
     Accepts-path_to : (e : Pair) (p : List Pair) → In e starts → Accepts edges target [] e p
         → (m : Pair) × PathTo edges starts m p × (target m ≡ true)
-    Accepts-path_to e p i a =
-        let words = (Path-plain edges target e p).0 a.path in
-        let end = StopsAtTarget-ends target p words.3 in
-        (end.0, record { start = e; among = i; head = words.0; once = words.1; linked = words.2; ends = end.1 }, end.2)
+    Accepts-path_to e p i a = grind (arith, Path-plain, StopsAtTarget-ends)
 
     -- if a search finds none, no path leads to a target
     pub IsLeast-none : ((x : Pair) → target x ≡ true → edges x ≡ []) → IsLeast edges target starts None

@@ -12,13 +12,7 @@ use Rattle.nfa_paths.proofs.ScanLemmas.{NoneBefore-start}
 pub IsReached-along : {edges : Pair → List Pair} {starts : List Pair} {P Q : Pair → Type 0}
     {pattern : Pair → Option ℕ} {k : ℕ}
     → ((v : Pair) → P v → Q v) → IsReached edges starts P pattern k → IsReached edges starts Q pattern k
-IsReached-along to r = record {
-  end = r.end;
-  along = r.along;
-  path = r.path;
-  wanted = to r.end r.wanted;
-  pattern_is = r.pattern_is;
-}
+IsReached-along to r = grind arith
 
 module _ (space : Space) (resting is_match : Pair → Bool) (slots : Slots) (shape : Scanned space resting is_match) where
   module _ (pattern : Pair → Option ℕ) (k : ℕ) where

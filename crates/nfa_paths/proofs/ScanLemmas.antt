@@ -1,8 +1,8 @@
 -- The answers of a scan, position by position.
-use Rattle.std.proofs.Common.{◌≡◌, ℕ, ◌+◌, ◌≤◌, ◌<◌, ◌⊎◌, inl, inr, Bool, true, List, [], ◌∷◌, map, length, refl, sym, ap, ◌∙◌, arith}
+use Rattle.std.proofs.Common.{◌≡◌, ℕ, ◌+◌, ◌≤◌, ◌<◌, ◌⊎◌, inl, inr, Bool, true, List, [], ◌∷◌, map, length, refl, sym, ap, ◌∙◌, arith, rules}
 use Rattle.std.specs.Prelude.{Option, None, Some}
 use Rattle.std.specs.Option.{option_map_or}
-use Rattle.std.proofs.lemmas.Bool.{cases_lt, cases_Bool}
+use Rattle.std.proofs.lemmas.Bool.{cases_lt}
 use Rattle.nfa_paths.specs.Graphs.{Pair, Space, In, HeadIs, Linked, EndsWith, PathTo, NoPath, IsEnd, IsLeastEnd, IsGreatestEnd, WantedAt, IsLastOfFirsts, IsFirstPath, IsEarliestPath, IsLastPath, IsEarliestLastPath}
 use Rattle.nfa_paths.specs.Exploring.{Slots, Hit, ExploresTo}
 use Rattle.nfa_paths.specs.Exploring.Task.{Explore}
@@ -10,7 +10,7 @@ use Rattle.nfa_paths.specs.Kinds.{Passes, found_along, WantedBefore, IsFoundBy, 
 use Rattle.nfa_paths.proofs.PathLemmas.{IsLeast-from_first}
 use Rattle.nfa_paths.proofs.PathToLemmas.{PathTo-along, IsLeast-none, IsLeast-first}
 use Rattle.nfa_paths.proofs.SearchLemmas.{Answer-starts, found-Some}
-use Rattle.nfa_paths.proofs.TestLemmas.{is_plain, test, test-true, true-test}
+use Rattle.nfa_paths.proofs.TestLemmas.{test, test-true, true-test}
 use Rattle.nfa_paths.proofs.FrontierMatchLemmas.{last_match-is}
 use Rattle.nfa_paths.proofs.KindsLemmas.{IsFrontier-no_match, IsFrontier-last_match}
 
@@ -18,13 +18,7 @@ use Rattle.nfa_paths.proofs.KindsLemmas.{IsFrontier-no_match, IsFrontier-last_ma
 pub IsFoundBy-more : {capture : Pair → Option ℕ} {slots : Slots} {Meant : Option (List Pair) → Type 0}
     {turns more : ℕ} {g : Hit}
     → turns ≤ more → IsFoundBy capture slots Meant turns g → IsFoundBy capture slots Meant more g
-IsFoundBy-more {more = more} le h = record {
-  path = h.path;
-  meant = h.meant;
-  leads = h.leads;
-  short =
-      let k : option_map_or length h.path 0 ≤ more = omega (arith, h.short) in k;
-}
+IsFoundBy-more {more = more} le h = grind arith
 
 -- sets that agree on the pairs to which paths lead
 
@@ -37,14 +31,7 @@ module _ (edges : Pair → List Pair) (starts : List Pair) (P Q : Pair → Type 
 
   -- an end of both sets
   IsEnd-agree : {e : ℕ} → IsEnd edges starts P e → IsEnd edges starts Q e
-  IsEnd-agree h = record {
-    end = h.end;
-    along = h.along;
-    path = h.path;
-    wanted =
-        to h.end h.along h.path h.wanted;
-    at = h.at;
-  }
+  IsEnd-agree h = search rules
 
   -- the greatest end of both sets
   IsGreatestEnd-agree : {e : ℕ} → IsGreatestEnd edges starts P e → IsGreatestEnd edges starts Q e
@@ -274,14 +261,7 @@ module _ (space : Space) (resting is_match : Pair → Bool) (slots : Slots) (sha
   module _ (e : ℕ) where
     -- it is decidable whether a pair is a match pair at e or after it
     later : (x : Pair) → ((is_match x ≡ true) × (e ≤ x.1)) ⊎ ¬ ((is_match x ≡ true) × (e ≤ x.1))
-    later x =
-        elim (cases_Bool (is_match x)) [
-          | inl t ↦ elim (cases_lt x.1 e) [
-            | inl less ↦ inr (λ h. let k : e ≤ x.1 = h.1 in omega arith)
-            | inr more ↦ inl (t, more)
-          ]
-          | inr g ↦ inr (λ h. is_plain (is_match x) g h.0)
-        ]
+    later x = grind arith
 
     -- they are a set that a search can be for
     later_target : Pair → Bool

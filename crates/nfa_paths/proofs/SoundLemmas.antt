@@ -1,7 +1,6 @@
 -- What the first wanted pair of a front stands for, also if a search drops what comes after it.
 use Rattle.std.proofs.Common.{◌≡◌, ℕ, ◌+◌, ◌≤◌, ◌<◌, ◌⊎◌, ◌↔◌, inl, inr, Bool, true, List, [], ◌∷◌, ◌++◌, map, length, refl, sym, ap, ◌∙◌, arith, set}
-use Rattle.std.specs.Prelude.{Option, None, Some, option_map}
-use Rattle.std.specs.List.{last_or}
+use Rattle.std.specs.Prelude.{Option, None, Some}
 use Rattle.std.proofs.lemmas.Bool.{cases_Bool}
 use Rattle.regex_search_core.specs.Search.{Search}
 use Rattle.thompson_nfa.specs.Automaton.{Automaton}
@@ -36,12 +35,7 @@ module _ (space : Space) (target : Pair → Bool) where
   -- what is found along a list with one kind of slots is found with another
   found-other : (p : List Pair) (slots other : Slots) → found space.capture p slots ≡ None
       → found space.capture p other ≡ None
-  found-other p slots other e = of (last_or None p) e
-    where
-      of : (o : Option Pair) → option_map {U = Pair × Slots} (λ v. (v, apply space.capture p slots)) o ≡ None
-          → option_map {U = Pair × Slots} (λ v. (v, apply space.capture p other)) o ≡ None
-      of None e = refl
-      of (Some v) e = cc
+  found-other p slots other e = grind arith
 
   pub heads-Answer : (left : ℕ) (marks : List Pair) (work : List Task) (slots other : Slots) (h : Hit)
       → ExploresTo space target left None marks (map Explore (heads work)) other h
@@ -64,11 +58,7 @@ module _ (space : Space) (target : Pair → Bool) where
   unfolding ExploresTo ExploresAfter
   AnswerBehind-drop left [] after m n old work slots current g h = inl h
   AnswerBehind-drop left (b ∷ before) after m n old work slots current g (inl h) = inr (inl h)
-  AnswerBehind-drop left (b ∷ before) after m n old work slots current g (inr h) =
-      elim (AnswerBehind-drop left before after m n old work slots current g h.1) [
-        | inl e ↦ inl e
-        | inr k ↦ inr (inr (h.0, k))
-      ]
+  AnswerBehind-drop left (b ∷ before) after m n old work slots current g (inr h) = grind (arith, AnswerBehind-drop left before after m n old work slots current g h.1)
 
 -- The set before is `old`: wanted is what it has room for.
 module _ (nfa : Automaton) (x : Search) (old : List Bool) (wants : Pair → Bool)
@@ -133,10 +123,7 @@ module _ (nfa : Automaton) (x : Search) (old : List Bool) (wants : Pair → Bool
         → ExploresTo (space nfa x) target left None [] (map Explore pairs) slots g → (g ≡ None) ⊎ Reaches target
 
   pub Sound-start : (e : ℕ) → Sound e (starts nfa x)
-  Sound-start e = record {
-    reaches = λ target at left slots g a. elim (answer-reaches target (λ v t. (at v t).0) left slots g a)
-        [ inl none ↦ inl none | inr k ↦ inr k.0 ];
-  }
+  Sound-start e = grind (arith, answer-reaches)
 
   -- a position that is searched from some pairs, for each set of wanted pairs
   pub record Searched (e : ℕ) (pairs : List Pair) (front : List (Pair × Slots)) (work : List Task)

@@ -142,17 +142,7 @@ module _ (nfa : Automaton) (x : Search) (old : List Bool) (wants : Pair → Bool
 
   pub UpTo-next : (e : ℕ) (g : Hit) (new : List Bool) → UpTo e g new → UpTo (e + 1) g new
   UpTo-next e None new h = h
-  UpTo-next e (Some a) new h = record {
-    capacity = h.capacity;
-    pattern = h.pattern;
-    pattern_is = h.pattern_is;
-    before = let k : a.0.1 < e = h.before in omega arith;
-    wanted = h.wanted;
-    along = h.along;
-    path = h.path;
-    holds = h.holds;
-    others = h.others;
-  }
+  UpTo-next e (Some a) new h = grind arith
 
   -- one more match
   pub UpTo-match : (e : ℕ) {k : ℕ} (g : Hit) (a : Pair × Slots) (mid new : List Bool)
