@@ -16,7 +16,7 @@ use Rattle.nfa_paths.specs.Exploring.Task.{Explore}
 use Rattle.nfa_paths.specs.Paths.{space, raised, span_len, is_match, IsMatch, capture, is_utf8_empty, edges, starts, IsScanAnswer, last_of, slot_among, slot_row, EndsOnBoundary, IsWhole, SplitsCharacter, IsKeptAnswer, IsRestartedAnswer, IsSearchAnswer, IsWithinScans, max_scans}
 use Rattle.nfa_paths.proofs.PathLemmas.{IsLeast-from_first}
 use Rattle.nfa_paths.proofs.SearchLemmas.{Answer-starts, found-Some}
-use Rattle.nfa_paths.proofs.PathToLemmas.{EndsWith-last, found-end, ComesBefore-asymmetric, PathTo-order, IsLeast-none, IsLeast-first, IsFirstPath-unique, IsEarliestPath-unique, IsLastPath-unique, IsEarliestLastPath-unique}
+use Rattle.nfa_paths.proofs.PathToLemmas.{ComesBefore-asymmetric, PathTo-order, IsLeast-none, IsLeast-first, IsFirstPath-unique, IsEarliestPath-unique, IsLastPath-unique, IsEarliestLastPath-unique}
 use Rattle.nfa_paths.proofs.StartLemmas.{IsMatch-edges, starts-increase}
 use Rattle.nfa_paths.proofs.OptionLemmas.{option_or-None}
 
@@ -42,13 +42,6 @@ written o at slot = cond (option_map_or (λ k. k == slot) o false) (Some at) Non
 length-write : (o : Option ℕ) (at : ℕ) (slots : Slots) → length (write o at slots) ≡ length slots
 length-write None at slots = refl
 length-write (Some k) at slots = length-set slots k (Some at)
-
--- a slot after a write: what was written, or else what stood there
-get_or-write : (o : Option ℕ) (at : ℕ) (slots : Slots) (slot : ℕ) → slot < length slots
-    → get_or (write o at slots) slot None ≡ option_or (written o at slot) (get_or slots slot None)
-unfolding written
-get_or-write None at slots slot within = refl
-get_or-write (Some k) at slots slot within = search rules
 
 -- equal finds have equal parts
 pub same_parts : (f g : Pair × Slots) → Some f ≡ Some g → (f.0 ≡ g.0) × (f.1 ≡ g.1)
@@ -81,15 +74,10 @@ module _ (nfa : Automaton) where
       → apply (capture nfa) p (replicate count None) ≡ slot_row nfa count (Some p)
   unfolding slot_row
   apply-slot_row count p =
-      let long : length (apply (capture nfa) p (replicate count None)) ≡ count = length-apply p (replicate count None)
-      ∙ length-replicate count None in
+      let long : length (apply (capture nfa) p (replicate count None)) ≡ count = (grind (arith, length-apply, length-replicate)) in
       ext_get_or None (apply (capture nfa) p (replicate count None)) (map (slot_among nfa p) (range_with_len 0 count))
       (long ∙ sym (length-map-range_with_len (slot_among nfa p) 0 count))
-      (λ slot within.
-      let below : slot < count = omega arith in
-      get_or-apply p (replicate count None) slot (rw length-replicate below)
-      ∙ get_or-empty count slot below (slot_among nfa p slot)
-      ∙ sym (get_or-map-range_with_len (slot_among nfa p) 0 count slot slot None below (omega arith)))
+      (grind (arith, get_or-apply, get_or-empty, get_or-map-range_with_len, length-replicate))
 
   module _ (x : Search) where
     -- if a search finds nothing, there is no accepting path
@@ -123,15 +111,7 @@ module _ (nfa : Automaton) where
           | inl k ↦
               let first = IsLeast-first (edges nfa x) (starts nfa x) (is_match nfa) (IsMatch-edges nfa x) k.0
               (IsLeast-from_first (edges nfa x) (is_match nfa) (starts nfa x) (starts-increase nfa x) (Some k.0) k.1) in
-              let both = same_parts (first.end, apply (capture nfa) k.0 (replicate count None)) (v, row)
-              (sym (found-end (capture nfa) first.end k.0 (replicate count None) first.path.ends) ∙ sym k.2) in
-              record {
-                path = k.0;
-                answers = first;
-                ends = EndsWith-last None first.end k.0 first.path.ends ∙ ap Some both.0;
-                row_is = sym both.1 ∙ apply-slot_row count k.0;
-                short = k.3;
-              }
+              search (rules, apply-slot_row)
           | inr k ↦ absurd (never_none (v, row) k.1)
         ]
 
@@ -145,8 +125,7 @@ ends_on_boundary x (w ∷ p) e = of w p e
   where
     of : (w : Pair) (p : List Pair) {v : Pair} → last_or (Some w) p ≡ Some v
         → EndsOnBoundary x (w ∷ p) ↔ IsBoundary x.haystack v.1
-    of w [] {v} e = let k : w.1 ≡ v.1 = ap (λ (z : Pair). z.1) (let same_pair : w ≡ v = cc in same_pair) in
-        rw k (λ h. h, λ h. h)
+    of w [] {v} e = (grind arith)
     of w (u ∷ p) e = of u p e
 
 module _ (nfa : Automaton) where

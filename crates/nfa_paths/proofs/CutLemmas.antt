@@ -1,5 +1,5 @@
 -- The first match pair of a front, also if a search did not follow the pairs after it.
-use Rattle.std.proofs.Common.{◌≡◌, ℕ, suc, ◌≤◌, inl, inr, Bool, true, List, [], ◌∷◌, length, refl, sym, ◌∙◌, arith}
+use Rattle.std.proofs.Common.{◌≡◌, ℕ, suc, ◌≤◌, inl, inr, Bool, true, List, [], ◌∷◌, length, refl, sym, ◌∙◌, arith, rules}
 use Rattle.std.specs.Prelude.{Option, None, Some}
 use Rattle.std.specs.Option.{option_map_or}
 use Rattle.std.proofs.lemmas.Bool.{cases_Bool}
@@ -98,10 +98,4 @@ module _ (space : Space) (resting is_match : Pair → Bool) (shape : Scanned spa
           → IsFoundBy space.capture slots (IsFirstPath space.edges space.starts (WantedAt (Passes is_match) e)) spent
           (Some a)
       of None none leads short = cc
-      of (Some p) first leads short = record {
-        path = Some p;
-        meant = IsFirstTo-along space.edges space.starts (Passes (here_target e)) (WantedAt (Passes is_match) e)
-            (here_is e) (is_here e) first;
-        leads = leads;
-        short = short;
-      }
+      of (Some p) first leads short = search (rules, IsFirstTo-along, here_is, is_here)

@@ -90,12 +90,7 @@ module _ (nfa : Automaton) where
       → IsSearchAnswer nfa kind (not (is_utf8_empty nfa)) x n p → IsBoolAnswer nfa kind false x (is_some p)
   found_answer-earliest kind x n p h =
       elim (cases_Bool (is_utf8_empty nfa)) [
-        | inl bound ↦ record {
-          restarts = n;
-          path = p;
-          answers = subst (λ b. IsSearchAnswer nfa kind (not b) x n p) bound h;
-          found_is = refl;
-        }
+        | inl bound ↦ grind arith
         | inr anywhere ↦
             let sooner : IsSearchAnswer nfa kind true x n p =
             subst (λ b. IsSearchAnswer nfa kind (not b) x n p) anywhere h in

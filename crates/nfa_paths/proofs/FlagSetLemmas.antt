@@ -1,5 +1,5 @@
 -- Nor does what an overlapping search makes of a set read the flag `earliest` of its input.
-use Rattle.std.proofs.Common.{◌≡◌, ℕ, inl, inr, Bool, true, false, List, length, subst, arith}
+use Rattle.std.proofs.Common.{◌≡◌, ℕ, inl, inr, Bool, true, false, List, length, subst, arith, rules}
 use Rattle.std.specs.Prelude.{Option, None, Some}
 use Rattle.regex_search_core.specs.Search.{Search}
 use Rattle.regex_search_core.specs.declared.search.MatchKind.{MatchKind}
@@ -37,13 +37,7 @@ module _ (nfa : Automaton) where
     least-asked P Q to back e h =
         let k = subst (λ es. IsLeastEnd es (starts nfa x) P e) all h in
         record {
-          is_end = record {
-            end = k.is_end.end;
-            along = k.is_end.along;
-            path = k.is_end.path;
-            wanted = to k.is_end.end k.is_end.wanted;
-            at = k.is_end.at;
-          };
+          is_end = grind arith;
           least = λ m p w q. k.least m p w (back m q);
         }
 
@@ -88,16 +82,14 @@ module _ (nfa : Automaton) where
     path-asked true capacity (Some p) h = (
       h.0,
       least-asked x flag _ _ (held-asked x flag capacity) (held-unasked capacity) h.0 h.1,
-      first-asked x flag _ _ (at-asked _ _ (held-asked x flag capacity) h.0)
-          (at-asked _ _ (held-unasked capacity) h.0) p h.2,
+      search (rules, at-asked, first-asked, held-asked, held-unasked),
     )
 
     met-asked : (capacity k : ℕ) → IsFirstBefore nfa (asked x flag) capacity k → IsFirstBefore nfa x capacity k
     met-asked capacity k h = record {
       limit = h.limit;
       along = h.along;
-      first = first-asked x flag _ _ (before-asked _ _ (held-asked x flag capacity) h.limit)
-          (before-asked _ _ (held-unasked capacity) h.limit) h.along h.first;
+      first = grind (arith, first-asked, held-asked, held-unasked);
       pattern_is = h.pattern_is;
     }
 
@@ -129,10 +121,7 @@ module _ (nfa : Automaton) where
         → Gains nfa (asked x flag) kind earliest old new → Gains nfa x kind earliest old new
     gains-asked All earliest old new h = record {
       gained = λ k. (
-        λ held. elim ((h.gained k).0 held) [
-          | inl had ↦ inl had
-          | inr meant ↦ inr (meant.0, meant-asked x flag earliest (length old) k meant.1)
-        ],
+        grind (arith, meant-asked),
         λ s. (h.gained k).1 (elim s [
           | inl had ↦ inl had
           | inr meant ↦ inr (meant.0, meant-asked (asked x flag) x.earliest earliest (length old) k meant.1)
@@ -144,12 +133,4 @@ module _ (nfa : Automaton) where
     -- what a search makes of a set
     pub set-asked : (kind : MatchKind) (earliest : Bool) (old new : List Bool)
         → IsOverlapResult nfa (asked x flag) kind earliest old new → IsOverlapResult nfa x kind earliest old new
-    set-asked kind earliest old new h = record {
-      capacity = h.capacity;
-      keeps = h.keeps;
-      sound = λ k held. elim (h.sound k held) [
-        | inl had ↦ inl had
-        | inr of ↦ inr (of.0, pattern-asked x flag _ _ (permitted-asked x flag) k of.1)
-      ];
-      gains = gains-asked kind earliest old new h.gains;
-    }
+    set-asked kind earliest old new h = search (rules, gains-asked, pattern-asked)

@@ -5,7 +5,6 @@ use Rattle.std.proofs.lemmas.Bool.{cases_Bool}
 use Rattle.nfa_paths.specs.Graphs.{Pair, In}
 use Rattle.nfa_paths.specs.Exploring.{Slots, Hit}
 use Rattle.nfa_paths.specs.Kinds.{NoMatch, first_match, before_match, last_match}
-use Rattle.nfa_paths.proofs.TestLemmas.{is_plain}
 
 module _ (is_match : Pair → Bool) where
   -- a match pair of the list, with none before it
@@ -45,13 +44,7 @@ module _ (is_match : Pair → Bool) where
         )
         | inr f ↦
             elim (first_match-is front) [
-              | inl none ↦ inl (
-                rw f none.0,
-                λ b i t. elim i [
-                  | inl e ↦ is_plain (is_match a.0) f (rw (← e) t)
-                  | inr j ↦ none.1 b j t
-                ],
-              )
+              | inl none ↦ grind arith
               | inr some ↦
                   let h = some.2 in
                   inr (
@@ -61,10 +54,7 @@ module _ (is_match : Pair → Bool) where
                       before = a ∷ h.before;
                       after = h.after;
                       split = ap (λ x. a ∷ x) h.split;
-                      plain = λ b i t. elim i [
-                        | inl e ↦ is_plain (is_match a.0) f (rw (← e) t)
-                        | inr j ↦ h.plain b j t
-                      ];
+                      plain = grind arith;
                       matches = h.matches;
                     },
                   )
@@ -89,16 +79,7 @@ module _ (is_match : Pair → Bool) where
               | inr some ↦ inr (some.0, rw t some.1, later some.2)
             ]
         | inr f ↦
-            elim (last_match-is g front) [
-              | inl none ↦ inl (
-                rw f none.0,
-                λ b i t. elim i [
-                  | inl e ↦ is_plain (is_match a.0) f (rw (← e) t)
-                  | inr j ↦ none.1 b j t
-                ],
-              )
-              | inr some ↦ inr (some.0, rw f some.1, later some.2)
-            ]
+            grind (arith, later, last_match-is g front)
       ]
     where
       later : {b : Pair × Slots} → LastMatch front b → LastMatch (a ∷ front) b
@@ -143,13 +124,7 @@ module _ (is_match : Pair → Bool) where
               matches = rw (← same) t;
             }
         | inr f ↦
-            let h = first_match-cut front a (rw f at e) in
-            record {
-              after = h.after;
-              split = rw f (ap (λ (ys : List (Pair × Slots)). b ∷ ys) h.split);
-              among = inr h.among;
-              matches = h.matches;
-            }
+            grind (arith, first_match-cut front a (rw f at e))
       ]
 
   -- if there is no match pair, all items come before the first

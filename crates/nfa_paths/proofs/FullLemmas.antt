@@ -10,7 +10,7 @@ use Rattle.nfa_paths.specs.Graphs.{Pair, IsFirstTo, IsFirstPath}
 use Rattle.nfa_paths.specs.Exploring.{Slots}
 use Rattle.nfa_paths.specs.Kinds.{Passes, WantedBefore}
 use Rattle.nfa_paths.specs.Paths.{edges, starts, last_of}
-use Rattle.nfa_paths.specs.Overlaps.{HoldsPattern, HoldsUpTo, pattern_at, IsPermitted, IsInsertable, IsPatternOf, IsFirstBefore, IsOverlapResult}
+use Rattle.nfa_paths.specs.Overlaps.{HoldsPattern, HoldsUpTo, IsPermitted, IsInsertable, IsPatternOf, IsFirstBefore, IsOverlapResult}
 use Rattle.nfa_paths.proofs.ExistenceLemmas.{first_wanted-exists}
 use Rattle.nfa_paths.proofs.PathToLemmas.{EndsWith-last, IsFirstTo-along, IsFirstTo-unique}
 use Rattle.nfa_paths.proofs.ReachedLemmas.{IsReached-along}
@@ -38,17 +38,8 @@ module _ (nfa : Automaton) (x : Search) (old : List Bool) (wants : Pair → Bool
   met_before limit later k held =
       let before : a.0.1 < e = u.before in
       elim (u.others k held) [
-        | inl same ↦ record {
-          end = a.0;
-          along = u.along;
-          path = u.path;
-          wanted = record { wanted = ((tells a.0).0 u.wanted).permitted; before = omega arith };
-          pattern_is = rw same u.pattern_is;
-        }
-        | inr r ↦ IsReached-along (λ v w. record {
-          wanted = w.wanted;
-          before = let l : v.1 < a.0.1 = w.before in omega arith;
-        }) r
+        | inl same ↦ grind arith
+        | inr r ↦ grind arith
       ]
 
   -- the first path of all is that of the best match, or it ends at e or after it
@@ -75,11 +66,7 @@ module _ (nfa : Automaton) (x : Search) (old : List Bool) (wants : Pair → Bool
               pattern = held.pattern;
               pattern_is = held.pattern_is;
               holds = full-holds new full held.pattern (omega arith);
-              others = λ k held_too.
-                  let is : u.pattern ≡ held.pattern =
-                  same_some u.pattern held.pattern (sym u.pattern_is ∙ sym (ap (pattern_at nfa) here)
-                  ∙ held.pattern_is) in
-                  rw (← is, here) (u.others k held_too);
+              others = grind arith;
               exact = exactly;
             }
         | inr behind ↦ record {

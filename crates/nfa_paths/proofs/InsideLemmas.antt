@@ -1,7 +1,7 @@
 -- The match of a search's answer is in its span.
-use Rattle.std.proofs.Common.{◌∙◌, ◌≡◌, ℕ, ◌+◌, ◌*◌, ◌≤◌, inl, inr, Bool, true, false, List, [], ◌∷◌, map, refl, ap, sym, subst, arith, rules}
-use Rattle.std.specs.Prelude.{◌<◌, length, All, IfSome, Option, None, Some, cond, option_and_then, option_map, ◌==◌}
-use Rattle.std.specs.Option.{option_or, option_map_or}
+use Rattle.std.proofs.Common.{◌∙◌, ◌≡◌, ℕ, ◌+◌, ◌*◌, ◌≤◌, inl, inr, Bool, true, false, List, [], ◌∷◌, map, refl, sym, subst, arith, rules}
+use Rattle.std.specs.Prelude.{◌<◌, length, All, IfSome, Option, None, Some, cond, option_and_then}
+use Rattle.std.specs.Option.{option_or}
 use Rattle.std.specs.List.{range_with_len}
 use Rattle.std.proofs.lemmas.Option.{slice_get-map}
 use Rattle.regex_search_core.specs.Found.{Found, HalfFound}
@@ -11,7 +11,7 @@ use Rattle.regex_search_core.specs.Slots.{offset_at, match_of}
 use Rattle.regex_search_core.specs.declared.search.MatchKind.{MatchKind}
 use Rattle.thompson_nfa.specs.Automaton.{Automaton, IsAutomaton}
 use Rattle.nfa_paths.specs.Graphs.{Pair, In, EndsWith, Linked, PathTo}
-use Rattle.nfa_paths.specs.Paths.{edges, starts, capture, path_pattern, pattern_of, node_at, last_of, slot_among, slot_row, IsScanAnswer, IsSearchAnswer, IsAnswer, IsFindAnswer}
+use Rattle.nfa_paths.specs.Paths.{edges, starts, path_pattern, slot_among, slot_row, IsScanAnswer, IsSearchAnswer, IsAnswer, IsFindAnswer}
 use Rattle.nfa_paths.specs.Paths.{path_half, IsHalfAnswer}
 use Rattle.nfa_paths.proofs.AnswerLemmas.{scan_answer-leads}
 use Rattle.std.proofs.lemmas.List.Elements.{All-map, All-replicate}
@@ -59,10 +59,7 @@ module _ (nfa : Automaton) where
         → IsWithin x w.1
     path-within m [] path w i = absurd i
     path-within m (y ∷ p) path w i =
-        let start : IsWithin x path.start.1 = (
-          starts-from nfa x path.start path.among,
-          starts-within nfa x path.start path.among,
-        ) in
+        let start : IsWithin x path.start.1 = (search (rules, starts-from, starts-within)) in
         linked-within y p path.linked (subst (λ (v : Pair). IsWithin x v.1) (sym path.head) start) w i
 
     -- and so does each slot that it writes
@@ -70,8 +67,7 @@ module _ (nfa : Automaton) where
         → slot_among nfa p slot ≡ Some k → IsWithin x k
     slot-within [] inside slot k e = cc
     slot-within (v ∷ p) inside slot k e =
-        of (slot_among nfa p slot) (option_map_or (λ s. s == slot) (capture nfa v) false)
-        (λ j. slot-within p (λ w i. inside w (inr i)) slot j) e
+        (grind (arith, of, slot-within p))
       where
         of : (o : Option ℕ) (b : Bool) → ((j : ℕ) → o ≡ Some j → IsWithin x j)
             → option_or o (cond b (Some v.1) None) ≡ Some k → IsWithin x k
@@ -116,9 +112,7 @@ module _ (nfa : Automaton) where
         some p s (Some q) e =
             let to = scan_answer-leads nfa s.from kind earliest p s.answers in
             let k = row-within s.from to.end p to.path (slot_count nfa.groups) q f (sym e) in
-            let on : x.start ≤ s.from.start = s.on in
-            let end : s.from.end ≡ x.end = s.end in
-            (omega (arith, k.0), k.1, omega (arith, k.2))
+            (grind arith)
 
         of : (path : Option (List Pair)) → IsSearchAnswer nfa kind earliest x a.restarts path
             → Some f ≡ match_of (option_and_then (path_pattern nfa) path) (slot_row nfa (slot_count nfa.groups) path)
@@ -132,19 +126,7 @@ module _ (nfa : Automaton) where
     ends-within x p s h e =
         let to = scan_answer-leads nfa s.from kind earliest p s.answers in
         let lies = path-within s.from to.end p to.path to.end (EndsWith-in to.end p to.path.ends) in
-        let is : to.end.1 ≡ h.offset = of to.end (EndsWith-last None to.end p to.path.ends) in
-        let on : x.start ≤ s.from.start = s.on in
-        let end : s.from.end ≡ x.end = s.end in
-        (omega (arith, lies.0, is), omega (arith, lies.1, is))
-      where
-        known : (k : Option ℕ) (at : ℕ) → Some h ≡ option_map (λ k. record { pattern = k; offset = at }) k
-            → at ≡ h.offset
-        known None at e = cc
-        known (Some k) at e = let same : h ≡ record { pattern = k; offset = at } = cc in
-            sym (ap (λ (h : HalfFound). h.offset) same)
-
-        of : (v : Pair) → last_of p ≡ Some v → v.1 ≡ h.offset
-        of v last = known (pattern_of (node_at nfa v.0)) v.1 (rw last at e)
+        (search (rules, EndsWith-last))
 
     -- the end of a half match is in the span
     pub half-within : (x : Search) (h : HalfFound) → IsHalfAnswer nfa kind earliest x (Some h)
@@ -168,9 +150,7 @@ module _ (nfa : Automaton) where
         some p s j k e =
             let to = scan_answer-leads nfa s.from kind earliest p s.answers in
             let lies = slot-within s.from p (path-within s.from to.end p to.path) j k e in
-            let on : x.start ≤ s.from.start = s.on in
-            let end : s.from.end ≡ x.end = s.end in
-            (omega (arith, lies.0), omega (arith, lies.1))
+            (grind arith)
 
         of : (path : Option (List Pair)) → IsSearchAnswer nfa kind earliest x a.restarts path
             → All (λ o. IfSome o (λ k. (x.start ≤ k) × (k ≤ x.end))) (slot_row nfa (length slots) path)

@@ -1,5 +1,5 @@
 -- The first accepting path, and what marks change of it.
-use Rattle.std.proofs.Common.{◌≡◌, ◌<◌, ◌⊎◌, inl, inr, ◌↔◌, Bool, true, false, List, [], ◌∷◌, refl, sym, ap, subst, arith}
+use Rattle.std.proofs.Common.{◌≡◌, ◌<◌, ◌⊎◌, inl, inr, ◌↔◌, Bool, true, false, List, [], ◌∷◌, refl, sym, subst, arith}
 use Rattle.std.specs.Prelude.{Option, None, Some}
 use Rattle.std.specs.Option.{option_map}
 use Rattle.nfa_paths.specs.Graphs.{Pair, In, Earlier, BeforeAfter, Before}
@@ -104,15 +104,9 @@ module _ (edges : Pair → List Pair) (target : Pair → Bool) where
   Before-total (go {v = v} {w = a} {p = p} t e n k) (go {w = b} {p = q} u f m l) =
       elim (same a b) [
         | inl eq ↦
-            elim (Before-total k (rw (← eq) at l)) [
-              | inl s ↦ inl (ap (λ x. v ∷ x) s)
-              | inr s ↦ inr (elim s [ inl x ↦ inl (Before-cons k l (inr x)) | inr x ↦ inr (Before-cons l k (inr x)) ])
-            ]
+            grind (arith, Before-total k (rw (← eq) at l))
         | inr apart ↦
-            inr (elim (Earlier-total (edges v) a b apart e f) [
-              | inl x ↦ inl (Before-cons k l (inl x))
-              | inr x ↦ inr (Before-cons l k (inl x))
-            ])
+            grind (arith, Before-cons, Earlier-total)
       ]
 
   -- a marked pair has no path
@@ -169,13 +163,7 @@ module _ (edges : Pair → List Pair) (target : Pair → Bool) where
             path = go plain b.1 (λ i. b.2.clear v i (inl refl)) b.2.path;
             clear = λ x i m. elim i [ inl here ↦ free (rw here at m) | inr later ↦ b.2.clear x later (inr m) ];
           },
-          λ q a.
-              let s = Accepts-rest q a in
-              rw s.4
-              (elim (b.3 s.0 s.1 s.2 s.3) [
-                | inl e ↦ inl (ap (λ t. v ∷ t) e)
-                | inr k ↦ inr (Before-cons b.2.path s.3.path k)
-              ]),
+          grind (arith, Accepts-rest, Before-cons),
         )
 
   -- marks with the same paths

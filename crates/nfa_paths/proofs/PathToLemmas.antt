@@ -127,20 +127,11 @@ module _ (edges : Pair → List Pair) (starts : List Pair) where
         elim (same w.start v.start) [
           | inl e ↦
               let a = PathTo-accepts w t in
-              let b = subst (λ x. Accepts edges target [] x q) (sym e) (PathTo-accepts v u) in
-              elim (Before-total edges target a.path b.path) [
-                | inl eq ↦ inl eq
-                | inr s ↦ inr (elim s [
-                  | inl k ↦ inl (ComesBefore-same edges p q k)
-                  | inr k ↦ inr (ComesBefore-same edges q p k)
-                ])
-              ]
+              grind (arith, Before-total, ComesBefore-same, PathTo-accepts)
           | inr apart ↦
               inr (elim (Earlier-total starts w.start v.start apart w.among v.among) [
-                | inl k ↦ inl (ComesBefore-less edges w.start v.start p q w.head v.head
-                    (Earlier-increasing starts w.start v.start rise k v.among))
-                | inr k ↦ inr (ComesBefore-less edges v.start w.start q p v.head w.head
-                    (Earlier-increasing starts v.start w.start rise k w.among))
+                | inl k ↦ grind (arith, Earlier-increasing)
+                | inr k ↦ grind (arith, Earlier-increasing)
               ])
         ]
 
@@ -199,18 +190,14 @@ module _ (edges : Pair → List Pair) (starts : List Pair) where
     IsLeastEnd-unique e d h k =
         let a : e ≤ k.is_end.end.1 = h.least k.is_end.end k.is_end.along k.is_end.path k.is_end.wanted in
         let b : d ≤ h.is_end.end.1 = k.least h.is_end.end h.is_end.along h.is_end.path h.is_end.wanted in
-        let c : h.is_end.end.1 ≡ e = h.is_end.at in
-        let l : k.is_end.end.1 ≡ d = k.is_end.at in
-        omega arith
+        grind arith
 
     -- there is only one greatest end
     pub IsGreatestEnd-unique : (e d : ℕ) → IsGreatestEnd edges starts P e → IsGreatestEnd edges starts P d → e ≡ d
     IsGreatestEnd-unique e d h k =
         let a : k.is_end.end.1 ≤ e = h.greatest k.is_end.end k.is_end.along k.is_end.path k.is_end.wanted in
         let b : h.is_end.end.1 ≤ d = k.greatest h.is_end.end h.is_end.along h.is_end.path h.is_end.wanted in
-        let c : h.is_end.end.1 ≡ e = h.is_end.at in
-        let l : k.is_end.end.1 ≡ d = k.is_end.at in
-        omega arith
+        grind arith
 
     -- if there is an end, there is a path
     IsEnd-some : (e : ℕ) → IsEnd edges starts P e → NoPath edges starts P → ⊥

@@ -1,5 +1,5 @@
 -- What an accepting path says about its pattern and its slots.
-use Rattle.std.proofs.Common.{◌≡◌, ℕ, zero, suc, ◌+◌, ◌*◌, ◌<◌, ◌≤◌, ◌==◌, inl, inr, List, [], ◌∷◌, ◌++◌, length, map, take, replicate, refl, ap, sym, ◌∙◌, arith, rules}
+use Rattle.std.proofs.Common.{◌≡◌, ℕ, zero, suc, ◌+◌, ◌*◌, ◌<◌, ◌≤◌, ◌==◌, List, [], ◌∷◌, ◌++◌, length, map, take, replicate, refl, ap, sym, ◌∙◌, arith, rules}
 use Rattle.std.specs.Prelude.{Option, Some, None, true, false, Bool, option_and_then, is_some, if◌then◌else◌}
 use Rattle.std.specs.List.{range_with_len}
 use Rattle.std.specs.Option.{option_map_or}
@@ -10,8 +10,8 @@ use Rattle.regex_search_core.specs.Groups.{slot_count}
 use Rattle.regex_search_core.specs.Search.{Search}
 use Rattle.regex_search_core.specs.Slots.{offset_at, match_of}
 use Rattle.regex_search_core.specs.declared.search.MatchKind.{MatchKind}
-use Rattle.thompson_nfa.specs.Automaton.{Automaton, Node, IsAutomaton, PatternBelow, SlotBelow}
-use Rattle.thompson_nfa.specs.Automaton.Node.{Capture, Match}
+use Rattle.thompson_nfa.specs.Automaton.{Automaton, Node, IsAutomaton}
+use Rattle.thompson_nfa.specs.Automaton.Node.{Match}
 use Rattle.nfa_paths.specs.Graphs.{Pair}
 use Rattle.nfa_paths.specs.Paths.{pattern_of, slot_of, node_at, path_pattern, last_of, slot_among, slot_row, IsScanAnswer, IsSearchAnswer, IsAnswer, IsBoolAnswer}
 use Rattle.nfa_paths.specs.Exploring.{Slots}
@@ -23,16 +23,6 @@ use Rattle.nfa_paths.specs.Overlaps.{pattern_at}
 pub some-pattern : (node : Node) → is_some (pattern_of node) ≡ true → (k : ℕ) × (pattern_of node ≡ Some k)
 some-pattern (Match pattern) e = (pattern, refl)
 some-pattern _ e = cc
-
--- and one that is in range
-below-pattern : (n k : ℕ) (node : Node) → pattern_of node ≡ Some k → PatternBelow n node → k < n
-below-pattern n k (Match pattern) e below = let same : pattern ≡ k = cc in rw (← same) below
-below-pattern n k _ e below = cc
-
--- a Capture's slot is in range
-below-slot : (n k : ℕ) (node : Node) → slot_of node ≡ Some k → SlotBelow n node → k < n
-below-slot n k (Capture next slot) e below = let same : slot ≡ k = cc in rw (← same) below
-below-slot n k _ e below = cc
 
 -- the pattern of a path that ends with the pair
 pub ends-pattern : (nfa : Automaton) (p : List Pair) (v : Pair) → last_of p ≡ Some v
@@ -113,17 +103,7 @@ module _ (nfa : Automaton) where
       → match_of (Some k) (slot_row nfa (2 * length nfa.groups) (Some p))
       ≡ match_of (Some k) (slot_row nfa (slot_count nfa.groups) (Some p))
   match-row valid p k pattern =
-      let small = pattern-within valid p k pattern in
-      elim valid.groups [
-        | inl all ↦
-            let low : 2 * k < 2 * length nfa.groups = omega arith in
-            let high : 2 * k + 1 < 2 * length nfa.groups = omega arith in
-            let low' : 2 * k < slot_count nfa.groups = omega arith in
-            let high' : 2 * k + 1 < slot_count nfa.groups = omega arith in
-            match-along _ _ k (offset_at-slot_row p _ (2 * k) low ∙ sym (offset_at-slot_row p _ (2 * k) low'))
-            (offset_at-slot_row p _ (2 * k + 1) high ∙ sym (offset_at-slot_row p _ (2 * k + 1) high'))
-        | inr none ↦ ap (λ n. match_of (Some k) (slot_row nfa n (Some p))) (no_groups nfa.groups none)
-      ]
+      (search (rules, no_groups, offset_at-slot_row, pattern-within))
     where
       no_groups : (groups : List (List (Option (List ℕ)))) → length groups ≡ 0 → 2 * length groups ≡ slot_count groups
       no_groups [] e = refl

@@ -2,8 +2,7 @@
 -- what holds at each scan, what the result of the search is, and what its contract says.
 use Rattle.std.proofs.Common.{◌≡◌, ℕ, zero, suc, ◌+◌, ◌*◌, ◌<◌, ◌≤◌, List, length, replicate, refl, ap, sym, ◌∙◌, arith, subst, below_more, rules}
 use Rattle.std.specs.Prelude.{Option, Some, None, true, false, Bool, MatchBool, IfSome, option_map, option_and_then}
-use Rattle.std.proofs.Math.Nat.{mul-le-mul_left}
-use Rattle.std.proofs.Common.{inl, inr}
+use Rattle.std.proofs.Common.{inr}
 use Rattle.regex_search_core.specs.Boundary.{IsBoundary}
 use Rattle.regex_search_core.specs.Found.{Found, HalfFound, half_found_of}
 use Rattle.regex_search_core.specs.Search.{Search, is_anchored}
@@ -13,7 +12,7 @@ use Rattle.regex_search_core.specs.declared.search.MatchKind.{MatchKind}
 use Rattle.thompson_nfa.specs.Automaton.{Automaton, IsAutomaton}
 use Rattle.nfa_paths.specs.Graphs.{Pair}
 use Rattle.nfa_paths.specs.Exploring.{Slots}
-use Rattle.nfa_paths.specs.Paths.{IsAnswer, IsHalfAnswer, IsFindAnswer, span_len, raised, is_utf8_empty, slot_row, total_degree, max_scans}
+use Rattle.nfa_paths.specs.Paths.{IsAnswer, IsHalfAnswer, IsFindAnswer, raised, is_utf8_empty, slot_row, max_scans}
 use Rattle.nfa_paths.specs.Paths.{path_half, path_pattern}
 use Rattle.nfa_paths.specs.Paths.{EndsOnBoundary, SplitsCharacter, IsKeptAnswer, IsRestartedAnswer, IsScanAnswer, IsSearchAnswer, IsWhole, IsWithinScans}
 use Rattle.nfa_paths.specs.Restarts.{max_scan_turns, AreUnset, GivesPath, ScanGives, SearchGives, Restarts}
@@ -25,16 +24,6 @@ use Rattle.nfa_paths.proofs.PatternLemmas.{match-along-path}
 pub slot_row-none : (nfa : Automaton) (count : ℕ) → slot_row nfa count None ≡ replicate count None
 unfolding slot_row
 slot_row-none nfa count = refl
-
--- a scan from further on takes at most as many turns
-max_scan_turns-raised : (nfa : Automaton) (x : Search) (i : ℕ) → max_scan_turns nfa (raised x i) ≤ max_scan_turns nfa x
-max_scan_turns-raised nfa x i =
-    let few : span_len (raised x i) + 1 ≤ span_len x + 1 = omega arith in mul-le-mul_left (1 + total_degree nfa) few
-
--- one more scan, with at most as many turns as each
-turns-more : (limit scans turns extra after : ℕ) → turns ≤ scans * limit → extra ≤ limit → after ≤ turns + extra
-    → after ≤ (scans + 1) * limit
-turns-more limit scans turns extra after h k l = omega arith
 
 -- no restart
 raised-none : (x : Search) → x ≡ raised x 0
@@ -75,24 +64,15 @@ module _ (nfa : Automaton) (kind : MatchKind) (earliest : Bool) where
           first : (scans ≡ 0) → IsScanAnswer nfa x kind earliest path
           first none = subst (λ z. IsScanAnswer nfa z kind earliest path) (sym (raised-none x)) (rw none at here)
 
-          kept : (path : Option (List Pair)) → IsScanAnswer nfa x kind earliest path → IsWhole x path
-              → IsKeptAnswer nfa kind earliest x path
-          kept None answer on = inl answer
-          kept (Some p) answer on = (answer, on)
-
           of : (utf8 anchored : Bool) → is_utf8_empty nfa ≡ utf8 → is_anchored x.anchored ≡ anchored
               → MatchBool utf8 (MatchBool anchored ((scans ≡ 0) × IsKeptAnswer nfa kind earliest x path)
               (IsRestartedAnswer nfa kind earliest x scans path))
               ((scans ≡ 0) × IsScanAnswer nfa x kind earliest path)
           of true true u a =
-              let once : scans ≡ 0 = never-some scans (λ some. let no = (s.free some).1 in let clash : true ≡ false =
-              sym a ∙ no in cc) in
-              (once, kept path (first once) (whole u))
+              (grind (arith, first))
           of true false u a = record { skipped = s.split; answers = here; whole = whole u }
           of false a u b =
-              let once : scans ≡ 0 = never-some scans (λ some. let no = (s.free some).0 in let clash : false ≡ true =
-              sym u ∙ no in cc) in
-              (once, first once)
+              grind (arith, first)
 
       -- the scan found nothing
       pub settled-none : (slots : Slots) (after last total : ℕ) → ScanGives nfa kind earliest y None slots last
@@ -104,8 +84,7 @@ module _ (nfa : Automaton) (kind : MatchKind) (earliest : Bool) where
       whole-found : {half : HalfMatch} {slots : Slots} {last : ℕ} (f : GivesPath nfa kind earliest y half slots last)
           → (IsBoundary x.haystack (half_found_of half).offset → EndsOnBoundary x f.path)
           × (EndsOnBoundary (raised x scans) f.path → IsBoundary x.haystack (half_found_of half).offset)
-      whole-found f = let b = ends_on_boundary x f.path f.ends in let r =
-          ends_on_boundary (raised x scans) f.path f.ends in (b.1, r.0)
+      whole-found f = let b = ends_on_boundary x f.path f.ends in search rules
 
       -- what was found does not split a codepoint, or need not be whole
       pub settled-some : (half : HalfMatch) (slots : Slots) (after last total : ℕ)
@@ -155,8 +134,7 @@ module _ (nfa : Automaton) (kind : MatchKind) (earliest : Bool) where
           }
         where
           once : scans ≡ 0
-          once = never-some scans (λ some. let no = (s.free some).1 in let clash : true ≡ false =
-              sym anchored ∙ no in cc)
+          once = grind arith
 
       -- the turns after one scan more
       pub turns-after : (after : ℕ) → after ≤ turns + max_scan_turns nfa y → after ≤ (scans + 1) * max_scan_turns nfa x

@@ -1,21 +1,20 @@
 -- An NFA's pairs as what a scan goes over, and what a scan finds as the answer that its contract means.
-use Rattle.std.proofs.Common.{◌≡◌, ℕ, zero, suc, ◌+◌, ◌-◌, ◌≤◌, ◌<◌, ◌⊎◌, inl, inr, Bool, true, false, List, [], ◌∷◌, map, length, replicate, refl, sym, ap, subst, ◌∙◌, arith, rules}
-use Rattle.std.specs.Prelude.{Option, None, Some, cond, option_and_then, option_map, option_to_list}
+use Rattle.std.proofs.Common.{◌≡◌, ℕ, zero, suc, ◌+◌, ◌≤◌, ◌<◌, ◌⊎◌, inl, inr, Bool, true, false, List, [], ◌∷◌, map, length, replicate, refl, sym, ap, subst, arith, rules}
+use Rattle.std.specs.Prelude.{Option, None, Some, option_and_then, option_map, option_to_list}
 use Rattle.std.specs.Option.{option_map_or}
-use Rattle.std.proofs.lemmas.Bool.{cases_lt}
 use Rattle.regex_search_core.specs.Search.{Search}
 use Rattle.regex_search_core.specs.declared.search.MatchKind.{MatchKind}
 use Rattle.regex_search_core.specs.declared.search.MatchKind.TheVariants.{All, LeftmostFirst}
 use Rattle.thompson_nfa.specs.Automaton.{Automaton, Node}
 use Rattle.thompson_nfa.specs.Automaton.Node.{Look, Union, BinaryUnion, Capture}
 use Rattle.nfa_paths.specs.Graphs.{Pair, In, NoPath}
-use Rattle.nfa_paths.specs.Exploring.{Task, Slots, Hit, apply, ExploresTo, seeds}
+use Rattle.nfa_paths.specs.Exploring.{Task, Slots, Hit, ExploresTo, seeds}
 use Rattle.nfa_paths.specs.Exploring.Task.{Explore}
 use Rattle.nfa_paths.specs.Kinds.{Scanning, IsFoundBy, found_along, NoneBefore, LastBefore, EndsBefore, first_match, last_match, Scanned, IsFrontier, rests, is_resting}
-use Rattle.nfa_paths.specs.Paths.{space, target_on, pairs_from, is_match, IsMatch, capture, start_state, byte_at, edges_of, edges, start_count, starts, IsScanAnswer, last_of, slot_row}
-use Rattle.nfa_paths.proofs.PathToLemmas.{EndsWith-last, found-end}
-use Rattle.nfa_paths.proofs.StartLemmas.{pairs_from-ahead, starts-increase, starts-none, IsMatch-edges, IsMatch-capture, resting-edges}
-use Rattle.nfa_paths.proofs.AnswerLemmas.{apply-slot_row, scan_answer-leads, never_none, same_parts}
+use Rattle.nfa_paths.specs.Paths.{space, target_on, pairs_from, is_match, IsMatch, capture, byte_at, edges_of, edges, start_count, starts, IsScanAnswer, last_of, slot_row}
+use Rattle.nfa_paths.proofs.PathToLemmas.{found-end}
+use Rattle.nfa_paths.proofs.StartLemmas.{pairs_from-ahead, starts-increase, IsMatch-edges, IsMatch-capture, resting-edges}
+use Rattle.nfa_paths.proofs.AnswerLemmas.{apply-slot_row, never_none}
 use Rattle.nfa_paths.proofs.CutLemmas.{first_match-cut}
 use Rattle.nfa_paths.proofs.ScanLemmas.{EndsBefore-within, IsEarliestPath-found, IsEarliestLastPath-found, LastBefore-end, IsFirstPath-found}
 
@@ -68,10 +67,7 @@ module _ (nfa : Automaton) (x : Search) where
   -- and not after its end
   pub starts-within : (s : Pair) → In s (starts nfa x) → s.1 ≤ x.end
   starts-within s i =
-      elim (cases_lt x.end x.start) [
-        | inl past ↦ absurd (rw (starts-none nfa x past) at i)
-        | inr within ↦ of within (start_state nfa x.anchored) i
-      ]
+      (grind (arith, of))
     where
       below : (state at count : ℕ) → In s (pairs_from state at count) → s.1 < at + count
       below state at zero i = absurd i
@@ -81,18 +77,11 @@ module _ (nfa : Automaton) (x : Search) where
             | inr later ↦ let k : s.1 < at + 1 + count = below state (at + 1) count later in omega arith
           ]
 
-      few : x.start ≤ x.end → (a b : Bool) → x.start + cond a 0 (cond b 1 (x.end - x.start + 1)) ≤ x.end + 1
-      few within true b = omega arith
-      few within false true = omega arith
-      few within false false = omega arith
-
       of : x.start ≤ x.end → (o : Option ℕ) → In s
           (option_map_or (λ state. pairs_from state x.start (start_count nfa x)) o []) → s.1 ≤ x.end
       of within None i = absurd i
       of within (Some state) i =
-          let k : s.1 < x.start + start_count nfa x = below state x.start (start_count nfa x) i in
-          let l : x.start + start_count nfa x ≤ x.end + 1 = few within _ _ in
-          omega arith
+          grind (arith, below)
 
   -- every path ends within the span
   pub EndsBefore-span : (wanted : Pair → Bool) → EndsBefore (space nfa x) wanted (x.end + 1)
@@ -140,16 +129,7 @@ module _ (nfa : Automaton) (x : Search) (kind : MatchKind) (earliest : Bool) whe
           → option_map_or length o 0 ≤ turns → FindsAnswer nfa x kind earliest count turns v row
       of None meant leads short = absurd (never_none (v, row) (sym leads))
       of (Some p) meant leads short =
-          let to = scan_answer-leads nfa x kind earliest p meant in
-          let both = same_parts (to.end, apply (capture nfa) p (replicate count None)) (v, row)
-          (sym (found-end (capture nfa) to.end p (replicate count None) to.path.ends) ∙ leads) in
-          record {
-            path = p;
-            answers = meant;
-            ends = EndsWith-last None to.end p to.path.ends ∙ ap Some both.0;
-            row_is = sym both.1 ∙ apply-slot_row nfa count p;
-            short = short;
-          }
+          search (rules, apply-slot_row)
 
 -- each kind from what the scan knows of its positions
 

@@ -79,16 +79,13 @@ module _ (space : Space) (resting is_match : Pair → Bool) (slots : Slots) (sha
   path_onward s m (x ∷ (y ∷ p)) h l d =
       let k : y.1 ≤ m.1 = path_onward y m (y ∷ p) refl l.1 d in
       let i : x.1 ≤ y.1 = shape.onward x y l.0 in
-      let j : x.1 ≡ s.1 = ap (λ z. z.1) h in
-      omega arith
+      grind arith
 
   -- no path ends before the first start
   pub NoneBefore-start : (e : ℕ) → ((s : Pair) → In s space.starts → e ≤ s.1) → NoneBefore space is_match e
   NoneBefore-start e from m p w h =
       let k : w.start.1 ≤ m.1 = path_onward w.start m p w.head w.linked w.ends in
-      let i : e ≤ w.start.1 = from w.start w.among in
-      let j : m.1 < e = h.before in
-      omega arith
+      search rules
 
   -- no path ends before e, and none at e
   pub NoneBefore-step : {turns e : ℕ} {front : List (Pair × Slots)} → NoneBefore space is_match e
@@ -113,10 +110,7 @@ module _ (space : Space) (resting is_match : Pair → Bool) (slots : Slots) (sha
       → WantedAt (Passes is_match) e m → IsLeastEnd space.edges space.starts (Passes is_match) e
   least_end {e} none m p w h = record {
     is_end = record { end = m; along = p; path = w; wanted = h.wanted; at = h.at };
-    least = λ n q v t. elim (cases_lt n.1 e) [
-      | inl less ↦ absurd (none n q v (record { wanted = t; before = less }))
-      | inr more ↦ more
-    ];
+    least = λ n q v t. grind arith;
   }
 
   -- the first path that ends at e, if none ends before: the earliest
@@ -130,12 +124,7 @@ module _ (space : Space) (resting is_match : Pair → Bool) (slots : Slots) (sha
           → found_along space.capture o slots ≡ Some a → option_map_or length o 0 ≤ turns
           → IsFoundBy space.capture slots (IsEarliestPath space.edges space.starts (Passes is_match)) turns (Some a)
       of None meant leads short = cc
-      of (Some p) meant leads short = record {
-        path = Some p;
-        meant = (e, least_end none meant.end p meant.path meant.wanted, meant);
-        leads = leads;
-        short = short;
-      }
+      of (Some p) meant leads short = search (rules, least_end)
 
   -- the first front with a match pair: its last is the last of the first paths
   pub IsEarliestLastPath-found : {turns e : ℕ} {front : List (Pair × Slots)} → NoneBefore space is_match e
@@ -172,10 +161,7 @@ module _ (space : Space) (resting is_match : Pair → Bool) (slots : Slots) (sha
       elim (last_match-is is_match g front) [
         | inl lacks ↦ record {
           path = so_far.path;
-          meant = IsLastPath-agree space.edges space.starts (WantedBefore (Passes is_match) e)
-              (WantedBefore (Passes is_match) (e + 1)) wider
-              (narrower (IsFrontier-no_match space resting is_match slots turns shape f lacks.1))
-              so_far.path so_far.meant;
+          meant = search (rules, IsFrontier-no_match, IsLastPath-agree, narrower, wider);
           leads = so_far.leads ∙ sym lacks.0;
           short = let k : option_map_or length so_far.path 0 ≤ turns = omega (arith, so_far.short) in k;
         }
@@ -210,10 +196,7 @@ module _ (space : Space) (resting is_match : Pair → Bool) (slots : Slots) (sha
 
       greatest : (m : Pair) (p : List Pair) → PathTo space.edges space.starts m p → WantedAt (Passes is_match) e m
           → IsGreatestEnd space.edges space.starts (WantedBefore (Passes is_match) (e + 1)) e
-      greatest m p w h = record {
-        is_end = record { end = m; along = p; path = w; wanted = here m h; at = h.at };
-        greatest = λ n q v t. let k : n.1 < e + 1 = t.before in omega arith;
-      }
+      greatest m p w h = (grind arith)
 
       last : {p : List Pair} → IsLastOfFirsts space.edges space.starts (Passes is_match) e p
           → IsLastOfFirsts space.edges space.starts (WantedBefore (Passes is_match) (e + 1)) e p

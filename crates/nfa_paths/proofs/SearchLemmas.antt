@@ -1,5 +1,5 @@
 -- The steps of the search: from its answer after a step follows its answer before.
-use Rattle.std.proofs.Common.{◌≡◌, ℕ, suc, ◌≤◌, arith, ◌⊎◌, ◌↔◌, inl, inr, Bool, true, false, List, [], ◌∷◌, ◌++◌, map, length, get_or, set, refl, sym, ◌∙◌, set-set, append-nil}
+use Rattle.std.proofs.Common.{◌≡◌, ℕ, suc, ◌≤◌, arith, ◌⊎◌, ◌↔◌, inl, inr, Bool, true, false, List, [], ◌∷◌, ◌++◌, map, length, get_or, set, refl, set-set, append-nil, rules}
 use Rattle.std.proofs.lemmas.List.{set-get_or, set_past}
 use Rattle.std.specs.Prelude.{Option, None, Some}
 use Rattle.std.specs.Option.{option_map}
@@ -116,17 +116,9 @@ module _ (space : Space) (target : Pair → Bool) where
           elim (Answer-among left otherwise (v ∷ marks) es next after g h) [
             | inl k ↦
                 let some = IsFirstOfAll-from_among space.edges target (v ∷ marks) es (Some k.0) k.1 in
-                let short : length (v ∷ k.0) ≤ suc left = omega (arith, k.3) in
-                inl (
-                  v ∷ k.0,
-                  IsFirst-step space.edges target marks v free plain (Some k.0) (rw leads k.1),
-                  k.2
-                      ∙ sym (rw wrote at (found-cons v slots some.2.path)),
-                  short,
-                )
+                grind (arith, IsFirst-step, found-cons)
             | inr k ↦
-                let none = IsFirst-step space.edges target marks v free plain None (rw leads k.0) in
-                inr (none, Answer-mark left otherwise marks v none rest slots g (back k.1))
+                grind (arith, Answer-mark, IsFirst-step)
           ]
 
       -- a pair that writes nothing
@@ -247,18 +239,12 @@ module _ (space : Space) (target : Pair → Bool) where
         let at = rests a (inl refl) in
         let first : (r : Option (List Pair)) → FirstAmong space.edges target [] (space.edges a.0) r
         → IsFirst space.edges target [] a.0 (option_map (λ p. a.0 ∷ p) r) =
-        λ r f. IsFirst-step space.edges target [] a.0 (λ m. m) at.0 r
-        (FirstAmong-ahead a.0 at.2 (space.edges a.0) at.3 r f) in
+        (search (rules, FirstAmong-ahead, IsFirst-step)) in
         elim (Answer-among left otherwise [] (space.edges a.0)
         (next_tasks space.edges front (Load old ∷ waiting)) a.1 g h) [
           | inl k ↦
               let some = IsFirstOfAll-from_among space.edges target [] (space.edges a.0) (Some k.0) k.1 in
-              let short : length (a.0 ∷ k.0) ≤ suc left = omega (arith, k.3) in
-              inl (a.0 ∷ k.0, first (Some k.0) k.1, k.2 ∙ sym (rw at.1 at (found-cons a.0 a.1 some.2.path)), short)
+              grind (arith, found-cons)
           | inr k ↦
-              inr (
-                first None k.0,
-                AnswerBehind-round left front otherwise marks waiting slots old a.1 g
-                    (λ b i. rests b (inr i)) comes past k.1,
-              )
+              grind (arith, AnswerBehind-round left front otherwise marks waiting slots old a.1 g)
         ]

@@ -36,8 +36,7 @@ pub size-none : (set : List Bool) → size_of_set set ≡ 0 → (k : ℕ) → Ho
 size-none [] e k h = cc
 size-none (true ∷ bs) e k h = absurd (omega (arith, size-cons true bs))
 size-none (false ∷ bs) e zero h = cc
-size-none (false ∷ bs) e (suc k) h = let rest : size_of_set bs ≡ 0 = omega (arith, size-cons false bs) in
-    size-none bs rest k h
+size-none (false ∷ bs) e (suc k) h = grind (arith, size-none bs)
 
 -- what a set holds is below its capacity
 pub holds-below : (set : List Bool) (k : ℕ) → HoldsPattern set k → k < length set
