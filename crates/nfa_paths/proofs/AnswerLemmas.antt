@@ -1,10 +1,8 @@
 -- What a marked search of an NFA's pairs answers, in the words of its contracts.
-use Rattle.std.proofs.Common.{◌≡◌, ℕ, zero, suc, ◌+◌, ◌≤◌, ◌<◌, ◌⊎◌, ◌↔◌, inl, inr, Bool, true, false, List, [], ◌∷◌, map, length, replicate, get_or, refl, sym, ap, ◌∙◌, subst, arith, length-set, get_or-set_same, get_or-set_other}
-use Rattle.std.specs.Prelude.{Option, None, Some, not, cond, ◌==◌, ◌&&◌, MatchBool}
+use Rattle.std.proofs.Common.{◌≡◌, ℕ, zero, suc, ◌+◌, ◌≤◌, ◌<◌, ◌⊎◌, ◌↔◌, inl, inr, Bool, true, false, List, [], ◌∷◌, map, length, replicate, get_or, refl, sym, ap, ◌∙◌, arith, length-set, rules}
+use Rattle.std.specs.Prelude.{Option, None, Some, cond, ◌==◌}
 use Rattle.std.specs.List.{last_or, range_with_len}
 use Rattle.std.specs.Option.{option_or, option_map_or}
-use Rattle.std.proofs.lemmas.Bool.{cases_lt}
-use Rattle.std.proofs.lemmas.Bool.Decides.{eqb_tells}
 use Rattle.std.proofs.lemmas.List.{ext_get_or, get_or-replicate, length-replicate}
 use Rattle.std.proofs.lemmas.List.FromFn.{length-map-range_with_len, get_or-map-range_with_len}
 use Rattle.regex_search_core.specs.Boundary.{IsBoundary}
@@ -18,9 +16,9 @@ use Rattle.nfa_paths.specs.Exploring.Task.{Explore}
 use Rattle.nfa_paths.specs.Paths.{space, raised, span_len, is_match, IsMatch, capture, is_utf8_empty, edges, starts, IsScanAnswer, last_of, slot_among, slot_row, EndsOnBoundary, IsWhole, SplitsCharacter, IsKeptAnswer, IsRestartedAnswer, IsSearchAnswer, IsWithinScans, max_scans}
 use Rattle.nfa_paths.proofs.PathLemmas.{IsLeast-from_first}
 use Rattle.nfa_paths.proofs.SearchLemmas.{Answer-starts, found-Some}
-use Rattle.nfa_paths.proofs.PathToLemmas.{EndsWith-last, PathTo-along, found-end, ComesBefore-asymmetric, PathTo-order, IsLeast-none, IsLeast-first, IsFirstPath-unique, IsEarliestPath-unique, IsLastPath-unique, IsEarliestLastPath-unique}
-use Rattle.nfa_paths.proofs.StartLemmas.{IsMatch-edges, starts-increase, starts-none}
-use Rattle.nfa_paths.proofs.OptionLemmas.{option_or-None, option_or-assoc, same_some}
+use Rattle.nfa_paths.proofs.PathToLemmas.{ComesBefore-asymmetric, PathTo-order, IsLeast-none, IsLeast-first, IsFirstPath-unique, IsEarliestPath-unique, IsLastPath-unique, IsEarliestLastPath-unique}
+use Rattle.nfa_paths.proofs.StartLemmas.{IsMatch-edges, starts-increase}
+use Rattle.nfa_paths.proofs.OptionLemmas.{option_or-None}
 
 -- of two accepting paths, one comes before the other
 pub accepting_order : (nfa : Automaton) (x : Search) {m n : Pair} {p q : List Pair}
@@ -44,17 +42,6 @@ written o at slot = cond (option_map_or (λ k. k == slot) o false) (Some at) Non
 length-write : (o : Option ℕ) (at : ℕ) (slots : Slots) → length (write o at slots) ≡ length slots
 length-write None at slots = refl
 length-write (Some k) at slots = length-set slots k (Some at)
-
--- a slot after a write: what was written, or else what stood there
-get_or-write : (o : Option ℕ) (at : ℕ) (slots : Slots) (slot : ℕ) → slot < length slots
-    → get_or (write o at slots) slot None ≡ option_or (written o at slot) (get_or slots slot None)
-unfolding written
-get_or-write None at slots slot within = refl
-get_or-write (Some k) at slots slot within =
-    elim (eqb_tells k slot) [
-      | inl h ↦ rw (h.0, h.1) (get_or-set_same slots slot (Some at) None within)
-      | inr h ↦ rw h.0 (get_or-set_other slots k slot (Some at) None (λ e. h.1 (sym e)))
-    ]
 
 -- equal finds have equal parts
 pub same_parts : (f g : Pair × Slots) → Some f ≡ Some g → (f.0 ≡ g.0) × (f.1 ≡ g.1)
@@ -80,26 +67,17 @@ module _ (nfa : Automaton) where
       → get_or (apply (capture nfa) p slots) slot None ≡ option_or (slot_among nfa p slot) (get_or slots slot None)
   unfolding written
   get_or-apply [] slots slot within = refl
-  get_or-apply (v ∷ p) slots slot within =
-      let later = get_or-apply p (write (capture nfa v) v.1 slots) slot
-      (rw (length-write (capture nfa v) v.1 slots) within) in
-      later ∙ ap (option_or (slot_among nfa p slot)) (get_or-write (capture nfa v) v.1 slots slot within)
-      ∙ sym (option_or-assoc (slot_among nfa p slot) (written (capture nfa v) v.1 slot) (get_or slots slot None))
+  get_or-apply (v ∷ p) slots slot within = search (rules, get_or-apply p (write (capture nfa v) v.1 slots) slot (rw (length-write (capture nfa v) v.1 slots) within))
 
   -- from empty slots a path's captures are its row
   pub apply-slot_row : (count : ℕ) (p : List Pair)
       → apply (capture nfa) p (replicate count None) ≡ slot_row nfa count (Some p)
   unfolding slot_row
   apply-slot_row count p =
-      let long : length (apply (capture nfa) p (replicate count None)) ≡ count = length-apply p (replicate count None)
-      ∙ length-replicate count None in
+      let long : length (apply (capture nfa) p (replicate count None)) ≡ count = (grind (arith, length-apply, length-replicate)) in
       ext_get_or None (apply (capture nfa) p (replicate count None)) (map (slot_among nfa p) (range_with_len 0 count))
       (long ∙ sym (length-map-range_with_len (slot_among nfa p) 0 count))
-      (λ slot within.
-      let below : slot < count = omega arith in
-      get_or-apply p (replicate count None) slot (rw length-replicate below)
-      ∙ get_or-empty count slot below (slot_among nfa p slot)
-      ∙ sym (get_or-map-range_with_len (slot_among nfa p) 0 count slot slot None below (omega arith)))
+      (grind (arith, get_or-apply, get_or-empty, get_or-map-range_with_len, length-replicate))
 
   module _ (x : Search) where
     -- if a search finds nothing, there is no accepting path
@@ -133,15 +111,7 @@ module _ (nfa : Automaton) where
           | inl k ↦
               let first = IsLeast-first (edges nfa x) (starts nfa x) (is_match nfa) (IsMatch-edges nfa x) k.0
               (IsLeast-from_first (edges nfa x) (is_match nfa) (starts nfa x) (starts-increase nfa x) (Some k.0) k.1) in
-              let both = same_parts (first.end, apply (capture nfa) k.0 (replicate count None)) (v, row)
-              (sym (found-end (capture nfa) first.end k.0 (replicate count None) first.path.ends) ∙ sym k.2) in
-              record {
-                path = k.0;
-                answers = first;
-                ends = EndsWith-last None first.end k.0 first.path.ends ∙ ap Some both.0;
-                row_is = sym both.1 ∙ apply-slot_row count k.0;
-                short = k.3;
-              }
+              search (rules, apply-slot_row)
           | inr k ↦ absurd (never_none (v, row) k.1)
         ]
 
@@ -155,8 +125,7 @@ ends_on_boundary x (w ∷ p) e = of w p e
   where
     of : (w : Pair) (p : List Pair) {v : Pair} → last_or (Some w) p ≡ Some v
         → EndsOnBoundary x (w ∷ p) ↔ IsBoundary x.haystack v.1
-    of w [] {v} e = let k : w.1 ≡ v.1 = ap (λ (z : Pair). z.1) (let same_pair : w ≡ v = cc in same_pair) in
-        rw k (λ h. h, λ h. h)
+    of w [] {v} e = (grind arith)
     of w (u ∷ p) e = of u p e
 
 module _ (nfa : Automaton) where
@@ -181,28 +150,13 @@ module _ (nfa : Automaton) where
       → IsScanAnswer nfa x kind earliest (Some p) → LeadsToMatch x p
   scan_answer-leads x LeftmostFirst false p h = record { end = h.end; path = h.path; matches = h.wanted }
   scan_answer-leads x LeftmostFirst true p h = record { end = h.2.end; path = h.2.path; matches = h.2.wanted.wanted }
-  scan_answer-leads x All false p h =
-      record {
-        end = h.2.end;
-        path = PathTo-along (edges nfa x) (starts nfa x) h.2.first.wanted h.2.first.path;
-        matches = h.2.wanted.wanted;
-      }
-  scan_answer-leads x All true p h =
-      record {
-        end = h.2.end;
-        path = PathTo-along (edges nfa x) (starts nfa x) h.2.first.wanted h.2.first.path;
-        matches = h.2.wanted.wanted;
-      }
+  scan_answer-leads x All false p h = grind arith
+  scan_answer-leads x All true p h = grind arith
 
   -- a scan with a path starts within its span
   pub scan_answer-within : (x : Search) (kind : MatchKind) (earliest : Bool) (p : List Pair)
       → IsScanAnswer nfa x kind earliest (Some p) → x.start ≤ x.end
-  scan_answer-within x kind earliest p h =
-      let path = (scan_answer-leads x kind earliest p h).path in
-      elim (cases_lt x.end x.start) [
-        | inl past ↦ absurd (rw (starts-none nfa x past) at path.among)
-        | inr within ↦ within
-      ]
+  scan_answer-within x kind earliest p h = search rules
 
   module _ (kind : MatchKind) (earliest : Bool) where
     -- a scan whose answer splits a codepoint starts within its span
@@ -221,24 +175,14 @@ module _ (nfa : Automaton) where
         → IsScanAnswer nfa x kind earliest r → IsWhole x r → ⊥
     SplitsCharacter-whole x None h answers whole =
         never_none h.path (scan_answer-unique x kind earliest (Some h.path) None h.answers answers)
-    SplitsCharacter-whole x (Some p) h answers whole =
-        h.splits (subst (EndsOnBoundary x) (same_some p h.path
-        (scan_answer-unique x kind earliest (Some p) (Some h.path) answers h.answers)) whole)
+    SplitsCharacter-whole x (Some p) h answers whole = grind (arith, scan_answer-unique)
 
     -- an anchored search has one answer
     IsKeptAnswer-unique : (x : Search) (r s : Option (List Pair)) → IsKeptAnswer nfa kind earliest x r
         → IsKeptAnswer nfa kind earliest x s → r ≡ s
     IsKeptAnswer-unique x None None h k = refl
-    IsKeptAnswer-unique x None (Some q) h k =
-        elim h [
-          | inl none ↦ scan_answer-unique x kind earliest None (Some q) none k.0
-          | inr split ↦ absurd (SplitsCharacter-whole x (Some q) split k.0 k.1)
-        ]
-    IsKeptAnswer-unique x (Some p) None h k =
-        elim k [
-          | inl none ↦ scan_answer-unique x kind earliest (Some p) None h.0 none
-          | inr split ↦ absurd (SplitsCharacter-whole x (Some p) split h.0 h.1)
-        ]
+    IsKeptAnswer-unique x None (Some q) h k = grind (arith, scan_answer-unique)
+    IsKeptAnswer-unique x (Some p) None h k = grind (arith, scan_answer-unique)
     IsKeptAnswer-unique x (Some p) (Some q) h k = scan_answer-unique x kind earliest (Some p) (Some q) h.0 k.0
 
     -- the restarts stop at the first scan that is whole
@@ -250,47 +194,18 @@ module _ (nfa : Automaton) where
     -- a search that restarts has one answer, after one number of restarts
     IsRestartedAnswer-unique : (x : Search) (i j : ℕ) (r s : Option (List Pair))
         → IsRestartedAnswer nfa kind earliest x i r → IsRestartedAnswer nfa kind earliest x j s → (i ≡ j) × (r ≡ s)
-    IsRestartedAnswer-unique x i j r s h k =
-        elim (cases_lt i j) [
-          | inl less ↦ absurd (IsRestartedAnswer-first x i j r s h k less)
-          | inr more ↦
-              elim (cases_lt j i) [
-                | inl less ↦ absurd (IsRestartedAnswer-first x j i s r k h less)
-                | inr same_count ↦
-                    let e : i ≡ j = omega arith in (
-                      e,
-                      scan_answer-unique (raised x j) kind earliest r s
-                          (subst (λ n. IsScanAnswer nfa (raised x n) kind earliest r) e h.answers) k.answers,
-                    )
-              ]
-        ]
+    IsRestartedAnswer-unique x i j r s h k = search (rules, IsRestartedAnswer-first, scan_answer-unique)
 
     -- a search has one answer, after one number of restarts
     pub search_answer-unique : (x : Search) (i j : ℕ) (r s : Option (List Pair))
         → IsSearchAnswer nfa kind earliest x i r → IsSearchAnswer nfa kind earliest x j s → (i ≡ j) × (r ≡ s)
-    search_answer-unique x i j r s = of (is_utf8_empty nfa) (is_anchored x.anchored)
-      where
-        of : (b c : Bool)
-            → MatchBool b (MatchBool c ((i ≡ 0) × IsKeptAnswer nfa kind earliest x r)
-            (IsRestartedAnswer nfa kind earliest x i r)) ((i ≡ 0) × IsScanAnswer nfa x kind earliest r)
-            → MatchBool b (MatchBool c ((j ≡ 0) × IsKeptAnswer nfa kind earliest x s)
-            (IsRestartedAnswer nfa kind earliest x j s)) ((j ≡ 0) × IsScanAnswer nfa x kind earliest s)
-            → (i ≡ j) × (r ≡ s)
-        of true true h k = (h.0 ∙ sym k.0, IsKeptAnswer-unique x r s h.1 k.1)
-        of true false h k = IsRestartedAnswer-unique x i j r s h k
-        of false c h k = (h.0 ∙ sym k.0, scan_answer-unique x kind earliest r s h.1 k.1)
+    search_answer-unique x i j r s = grind (arith, IsRestartedAnswer-unique, scan_answer-unique)
 
     module _ (x : Search) (empty : is_utf8_empty nfa ≡ true) (free : is_anchored x.anchored ≡ false) (k : ℕ)
         (skipped : (i : ℕ) → i < k → SplitsCharacter nfa kind earliest (raised x i)) where
       -- if k scans split a codepoint, one more is at most what the answer takes
       pub split-within_scans : IsWithinScans nfa kind earliest x (k + 1)
-      split-within_scans restarts path answers =
-          let restarted : IsRestartedAnswer nfa kind earliest x restarts path = rw (empty, free) at answers in
-          elim (cases_lt restarts k) [
-            | inl less ↦ absurd (SplitsCharacter-whole (raised x restarts) path (skipped restarts less)
-                restarted.answers restarted.whole)
-            | inr more ↦ omega arith
-          ]
+      split-within_scans restarts path answers = grind (arith, SplitsCharacter-whole)
 
       -- and within the limit
       pub split-bound : k + 1 ≤ max_scans nfa x
@@ -298,8 +213,4 @@ module _ (nfa : Automaton) where
 
 -- one scan is within the limit
 pub one_scan-bound : (nfa : Automaton) (x : Search) {scans : ℕ} → scans ≤ 1 → scans ≤ max_scans nfa x
-one_scan-bound nfa x {scans} few = of (is_utf8_empty nfa && not (is_anchored x.anchored))
-  where
-    of : (b : Bool) → scans ≤ cond b (span_len x + 2) 1
-    of true = omega arith
-    of false = few
+one_scan-bound nfa x {scans} few = grind arith

@@ -1,5 +1,5 @@
 -- The first match pair of a front, also if a search did not follow the pairs after it.
-use Rattle.std.proofs.Common.{◌≡◌, ℕ, suc, ◌≤◌, inl, inr, Bool, true, false, List, [], ◌∷◌, length, refl, sym, ◌∙◌, arith}
+use Rattle.std.proofs.Common.{◌≡◌, ℕ, suc, ◌≤◌, inl, inr, Bool, true, List, [], ◌∷◌, length, refl, sym, ◌∙◌, arith, rules}
 use Rattle.std.specs.Prelude.{Option, None, Some}
 use Rattle.std.specs.Option.{option_map_or}
 use Rattle.std.proofs.lemmas.Bool.{cases_Bool}
@@ -7,7 +7,7 @@ use Rattle.nfa_paths.specs.Graphs.{Pair, Space, In, IsFirstPath, WantedAt}
 use Rattle.nfa_paths.specs.Exploring.{Slots, Task, found, ExploresAfter}
 use Rattle.nfa_paths.specs.Kinds.{Passes, IsFoundBy, found_along, first_match, Scanned, Scanning}
 use Rattle.nfa_paths.proofs.PathLemmas.{IsFirst-target}
-use Rattle.nfa_paths.proofs.PathToLemmas.{is_false, IsFirstTo-along}
+use Rattle.nfa_paths.proofs.PathToLemmas.{IsFirstTo-along}
 use Rattle.nfa_paths.proofs.MemberLemmas.{In-middle}
 use Rattle.nfa_paths.proofs.TestLemmas.{is_plain, test, test-true, true-test, tell_at}
 use Rattle.nfa_paths.proofs.FrontierMatchLemmas.{first_match-is}
@@ -20,15 +20,7 @@ module _ (space : Space) (resting is_match : Pair → Bool) (shape : Scanned spa
       → (front : List (Pair × Slots)) (a : Pair × Slots) → target a.0 ≡ true
       → first_match is_match front ≡ Some a → first_match target front ≡ Some a
   first-sub target sub [] a t is = cc
-  first-sub target sub (b ∷ front) a t is =
-      elim (cases_Bool (is_match b.0)) [
-        | inl yes_b ↦ let here : Some b ≡ Some a = rw yes_b at is in let same_item : b ≡ a = cc in
-            rw (same_item, t) refl
-        | inr no_b ↦
-            let later : first_match is_match front ≡ Some a = rw no_b at is in
-            let not_b : target b.0 ≡ false = is_false (target b.0) (λ h. is_plain (is_match b.0) no_b (sub b.0 h)) in
-            rw not_b (first-sub target sub front a t later)
-      ]
+  first-sub target sub (b ∷ front) a t is = grind (arith, first-sub target sub front a t)
 
   -- it answers, whatever is left
   pub front-answers : (target : Pair → Bool) (e : ℕ) → ((v : Pair) → target v ≡ true → v.1 ≡ e)
@@ -72,13 +64,7 @@ module _ (space : Space) (resting is_match : Pair → Bool) (shape : Scanned spa
 
     -- a scan for them
     here-shape : Scanned space resting here_target
-    here-shape = record {
-      onward = shape.onward;
-      rises = shape.rises;
-      leads_nowhere = λ v t. shape.leads_nowhere v (here_is v t).wanted;
-      writes_nothing = λ v t. shape.writes_nothing v (here_is v t).wanted;
-      increasing = shape.increasing;
-    }
+    here-shape = grind (arith, here_is)
 
   -- it is what the first path that ends there finds
   pub first_match-cut : {slots : Slots} {e : ℕ} {Seen : Pair → Type 0} {spent : ℕ} {front : List (Pair × Slots)}
@@ -112,10 +98,4 @@ module _ (space : Space) (resting is_match : Pair → Bool) (shape : Scanned spa
           → IsFoundBy space.capture slots (IsFirstPath space.edges space.starts (WantedAt (Passes is_match) e)) spent
           (Some a)
       of None none leads short = cc
-      of (Some p) first leads short = record {
-        path = Some p;
-        meant = IsFirstTo-along space.edges space.starts (Passes (here_target e)) (WantedAt (Passes is_match) e)
-            (here_is e) (is_here e) first;
-        leads = leads;
-        short = short;
-      }
+      of (Some p) first leads short = search (rules, IsFirstTo-along, here_is, is_here)

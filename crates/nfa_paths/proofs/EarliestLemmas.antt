@@ -1,8 +1,8 @@
 -- The `earliest` flag of an input changes no path. Only the kind of the answer does. Also whether there is a match.
-use Rattle.std.proofs.Common.{◌≡◌, ℕ, inl, inr, Bool, true, false, List, [], ◌∷◌, refl, subst}
-use Rattle.std.specs.Prelude.{Option, None, Some, is_some, not, MatchBool}
+use Rattle.std.proofs.Common.{◌≡◌, ℕ, inl, inr, Bool, true, false, List, [], ◌∷◌, refl, subst, rules, arith}
+use Rattle.std.specs.Prelude.{Option, None, Some, is_some, not}
 use Rattle.std.proofs.lemmas.Bool.{cases_Bool}
-use Rattle.regex_search_core.specs.Search.{Search, is_anchored}
+use Rattle.regex_search_core.specs.Search.{Search}
 use Rattle.regex_search_core.specs.declared.search.MatchKind.{MatchKind}
 use Rattle.regex_search_core.specs.declared.search.MatchKind.TheVariants.{All, LeftmostFirst}
 use Rattle.thompson_nfa.specs.Automaton.{Automaton}
@@ -53,24 +53,13 @@ module _ (nfa : Automaton) where
     -- an answer that splits a codepoint
     SplitsCharacter-asked : (x : Search) (sooner : Bool) → SplitsCharacter nfa kind earliest (asked x sooner)
         → SplitsCharacter nfa kind earliest x
-    SplitsCharacter-asked x sooner h = record {
-      path = h.path;
-      answers = scan_answer-asked x sooner kind earliest (Some h.path) h.answers;
-      splits = λ whole. h.splits (EndsOnBoundary-unasked x sooner h.path whole);
-    }
+    SplitsCharacter-asked x sooner h = grind (arith, scan_answer-asked)
 
     -- an answer of a search that keeps to its start
     IsKeptAnswer-asked : (x : Search) (sooner : Bool) (r : Option (List Pair))
         → IsKeptAnswer nfa kind earliest (asked x sooner) r → IsKeptAnswer nfa kind earliest x r
-    IsKeptAnswer-asked x sooner None h =
-        elim h [
-          | inl none ↦ inl (scan_answer-asked x sooner kind earliest None none)
-          | inr split ↦ inr (SplitsCharacter-asked x sooner split)
-        ]
-    IsKeptAnswer-asked x sooner (Some p) h = (
-      scan_answer-asked x sooner kind earliest (Some p) h.0,
-      EndsOnBoundary-asked x sooner p h.1,
-    )
+    IsKeptAnswer-asked x sooner None h = grind (arith, scan_answer-asked)
+    IsKeptAnswer-asked x sooner (Some p) h = grind (arith, scan_answer-asked)
 
     -- an answer after restarts
     IsRestartedAnswer-asked : (x : Search) (sooner : Bool) (n : ℕ) (r : Option (List Pair))
@@ -88,18 +77,7 @@ module _ (nfa : Automaton) where
     -- so is a search's answer, and its restarts
     pub search_answer-asked : (x : Search) (sooner : Bool) (n : ℕ) (r : Option (List Pair))
         → IsSearchAnswer nfa kind earliest (asked x sooner) n r → IsSearchAnswer nfa kind earliest x n r
-    search_answer-asked x sooner n r = of (is_utf8_empty nfa) (is_anchored x.anchored)
-      where
-        of : (b c : Bool)
-            → MatchBool b (MatchBool c ((n ≡ 0) × IsKeptAnswer nfa kind earliest (asked x sooner) r)
-            (IsRestartedAnswer nfa kind earliest (asked x sooner) n r))
-            ((n ≡ 0) × IsScanAnswer nfa (asked x sooner) kind earliest r)
-            → MatchBool b (MatchBool c ((n ≡ 0) × IsKeptAnswer nfa kind earliest x r)
-            (IsRestartedAnswer nfa kind earliest x n r))
-            ((n ≡ 0) × IsScanAnswer nfa x kind earliest r)
-        of true true h = (h.0, IsKeptAnswer-asked x sooner r h.1)
-        of true false h = IsRestartedAnswer-asked x sooner n r h
-        of false c h = (h.0, scan_answer-asked x sooner kind earliest r h.1)
+    search_answer-asked x sooner n r = search (rules, IsRestartedAnswer-asked, scan_answer-asked)
 
   -- if a match may end anywhere, a scan's answer is the search's
   scan_answer-search : (kind : MatchKind) (earliest : Bool) (x : Search) (r : Option (List Pair))
@@ -112,12 +90,7 @@ module _ (nfa : Automaton) where
       → IsSearchAnswer nfa kind (not (is_utf8_empty nfa)) x n p → IsBoolAnswer nfa kind false x (is_some p)
   found_answer-earliest kind x n p h =
       elim (cases_Bool (is_utf8_empty nfa)) [
-        | inl bound ↦ record {
-          restarts = n;
-          path = p;
-          answers = subst (λ b. IsSearchAnswer nfa kind (not b) x n p) bound h;
-          found_is = refl;
-        }
+        | inl bound ↦ grind arith
         | inr anywhere ↦
             let sooner : IsSearchAnswer nfa kind true x n p =
             subst (λ b. IsSearchAnswer nfa kind (not b) x n p) anywhere h in

@@ -1,6 +1,6 @@
 -- Every scan and every search of any NFA has an answer.
-use Rattle.std.proofs.Common.{◌≡◌, ℕ, zero, suc, ◌+◌, ◌≤◌, ◌<◌, ◌⊎◌, inl, inr, Bool, true, false, List, [], ◌∷◌, ◌++◌, length, refl, sym, ap, ◌∙◌, subst, arith}
-use Rattle.std.specs.Prelude.{Option, None, Some, is_some, MatchBool, slice_index}
+use Rattle.std.proofs.Common.{◌≡◌, ℕ, zero, suc, ◌+◌, ◌≤◌, ◌<◌, ◌⊎◌, inl, inr, Bool, true, false, List, [], ◌∷◌, ◌++◌, length, refl, ap, arith, rules}
+use Rattle.std.specs.Prelude.{Option, None, Some, is_some, MatchBool}
 use Rattle.std.proofs.Math.Decide.{ℕ_discrete}
 use Rattle.std.proofs.lemmas.Bool.{cases_lt}
 use Rattle.std.proofs.lemmas.List.{get_or_past}
@@ -12,10 +12,10 @@ use Rattle.thompson_nfa.specs.Automaton.{Automaton, Node}
 use Rattle.thompson_nfa.specs.Automaton.Node.{Fail}
 use Rattle.nfa_paths.specs.Graphs.{Pair, In, NoPath, IsFirstPath}
 use Rattle.nfa_paths.specs.Kinds.{Passes}
-use Rattle.nfa_paths.specs.Paths.{pattern_of, pairs_from, raised, node_at, is_match, IsMatch, is_utf8_empty, edges_of, edges, starts, IsScanAnswer, EndsOnBoundary, IsWhole, SplitsCharacter, IsKeptAnswer, IsRestartedAnswer, IsSearchAnswer}
+use Rattle.nfa_paths.specs.Paths.{pairs_from, raised, node_at, is_match, IsMatch, is_utf8_empty, edges_of, edges, starts, IsScanAnswer, EndsOnBoundary, IsWhole, SplitsCharacter, IsKeptAnswer, IsRestartedAnswer, IsSearchAnswer}
 use Rattle.nfa_paths.proofs.MemberLemmas.{In-append_left, In-append_right}
 use Rattle.nfa_paths.proofs.StartLemmas.{starts-increase, IsMatch-edges}
-use Rattle.nfa_paths.proofs.AnswerLemmas.{scan_answer-leads, scan_answer-within}
+use Rattle.nfa_paths.proofs.AnswerLemmas.{scan_answer-leads}
 use Rattle.nfa_paths.proofs.ScanAnswerLemmas.{edges-within, starts-within}
 use Rattle.nfa_paths.proofs.FinitePathLemmas.{IsFinite, first_to}
 use Rattle.nfa_paths.proofs.FiniteKindsLemmas.{first_path_exists, earliest_path_exists, last_path_exists, earliest_last_path_exists}
@@ -45,8 +45,7 @@ In-all_pairs (suc s) count v state below =
     elim (ℕ_discrete v.0 s) [
       | yes is ↦ In-append_left v (pairs_from s 0 count) (all_pairs s count)
           (In-pairs_from s 0 count v is (omega arith) (omega arith))
-      | no other ↦ In-append_right v (pairs_from s 0 count) (all_pairs s count)
-          (In-all_pairs s count v (omega arith) below)
+      | no other ↦ grind (arith, In-append_right, In-all_pairs s count v (omega arith) below)
     ]
 
 module _ (nfa : Automaton) where
@@ -57,10 +56,7 @@ module _ (nfa : Automaton) where
 
   -- and a Fail is not a match
   is_match-past : (v : Pair) → length nfa.states ≤ v.0 → is_match nfa v ≡ true → ⊥
-  is_match-past v past t = none (sym (ap (λ (k : Node). is_some (pattern_of k)) (node_at-past v.0 past)) ∙ t)
-    where
-      none : false ≡ true → ⊥
-      none e = cc
+  is_match-past v past t = grind (arith, node_at-past)
 
   module _ (x : Search) where
     -- a state that is none leads nowhere
@@ -141,29 +137,7 @@ module _ (nfa : Automaton) where
 
   -- a position is a boundary, or not
   IsBoundary-cases : (haystack : List ℕ) (i : ℕ) → IsBoundary haystack i ⊎ ¬ (IsBoundary haystack i)
-  IsBoundary-cases haystack i =
-      elim (ℕ_discrete i (length haystack)) [
-        | yes end ↦ inl (inl end)
-        | no other ↦
-            elim (cases_lt i (length haystack)) [
-              | inl within ↦
-                  elim (cases_lt 0x7F (slice_index haystack i)) [
-                    | inl high ↦
-                        elim (cases_lt (slice_index haystack i) 0xC0) [
-                          | inl low ↦ inr (λ b. elim b [
-                            | inl end ↦ other end
-                            | inr h ↦ elim h.1 [ inl l ↦ omega arith | inr m ↦ omega arith ]
-                          ])
-                          | inr lead ↦ inl (inr (within, inr lead))
-                        ]
-                    | inr ascii ↦ inl (inr (within, inl ascii))
-                  ]
-              | inr past ↦ inr (λ b. elim b [
-                | inl end ↦ other end
-                | inr h ↦ let k : i < length haystack = h.0 in omega arith
-              ])
-            ]
-      ]
+  IsBoundary-cases haystack i = grind arith
 
   -- a path ends on one, or not
   EndsOnBoundary-cases : (x : Search) (p : List Pair) → EndsOnBoundary x p ⊎ ¬ (EndsOnBoundary x p)
@@ -206,8 +180,7 @@ module _ (nfa : Automaton) where
         → (n : ℕ) × (r : Option (List Pair)) × IsRestartedAnswer nfa kind earliest x n r
     restarted_from x zero restarts few skipped =
         elim (scan-cases (raised x restarts)) [
-          | inl split ↦ let k : x.start + restarts ≤ x.end =
-              scan_answer-within nfa (raised x restarts) kind earliest split.path split.answers in absurd (omega arith)
+          | inl split ↦ search rules
           | inr h ↦ (restarts, h.0, record { skipped = skipped; answers = h.1; whole = h.2 })
         ]
     restarted_from x (suc left) restarts few skipped =
@@ -221,8 +194,7 @@ module _ (nfa : Automaton) where
         one_more split i below =
             elim (cases_lt i restarts) [
               | inl less ↦ skipped i less
-              | inr more ↦ let is : restarts ≡ i = omega arith in
-                  subst (λ k. SplitsCharacter nfa kind earliest (raised x k)) is split
+              | inr more ↦ grind arith
             ]
 
     -- every search has an answer, after some restarts

@@ -1,5 +1,5 @@
 -- Where finitely many pairs lead on, each kind of scan has its path, or no path leads to a match.
-use Rattle.std.proofs.Common.{◌≡◌, ℕ, zero, suc, ◌+◌, ◌≤◌, ◌<◌, ◌⊎◌, inl, inr, Bool, true, List, [], ◌∷◌, refl, sym, ap, ◌∙◌, subst, arith}
+use Rattle.std.proofs.Common.{◌≡◌, ℕ, zero, suc, ◌+◌, ◌≤◌, ◌<◌, ◌⊎◌, inl, inr, Bool, true, List, [], ◌∷◌, refl, sym, ◌∙◌, subst, arith, rules}
 use Rattle.std.specs.Prelude.{Option, None, Some}
 use Rattle.std.proofs.lemmas.Bool.{cases_lt}
 use Rattle.nfa_paths.specs.Graphs.{Pair, In, Earlier, BeforeAfter, Before, ComesBefore, WantedAt, PathTo, NoPath, IsFirstTo, IsEnd, IsLeastEnd, IsGreatestEnd, IsLastOfFirsts, IsFirstPath, IsEarliestPath, IsLastPath, IsEarliestLastPath}
@@ -15,17 +15,7 @@ use Rattle.nfa_paths.proofs.FinitePathLemmas.{IsFinite, first_to, first_in}
 -- what comes before a pair comes before all that comes after that pair
 Earlier-transitive : (es : List Pair) (a b c : Pair) → Earlier es a b → Earlier es b c → Earlier es a c
 Earlier-transitive [] a b c h k = h
-Earlier-transitive (e ∷ es) a b c h k =
-    elim k.1 [
-      | inl here ↦ absurd (h.0 here)
-      | inr later ↦ (
-        k.0,
-        elim h.1 [
-          | inl first ↦ inl first
-          | inr between ↦ inr (Earlier-transitive es a b c between later)
-        ],
-      )
-    ]
+Earlier-transitive (e ∷ es) a b c h k = grind (arith, Earlier-transitive es a b c)
 
 module _ (edges : Pair → List Pair) where
   -- of lists that follow one pair
@@ -34,23 +24,7 @@ module _ (edges : Pair → List Pair) where
   BeforeAfter-transitive v [] q r h k = h
   BeforeAfter-transitive v (a ∷ p) [] r h k = absurd h
   BeforeAfter-transitive v (a ∷ p) (b ∷ q) [] h k = k
-  BeforeAfter-transitive v (a ∷ p) (b ∷ q) (c ∷ r) h k =
-      elim h [
-        | inl less ↦
-            elim k [
-              | inl more ↦ inl (Earlier-transitive (edges v) a b c less more)
-              | inr e ↦ inl (subst (λ x. Earlier (edges v) a x) e.0 less)
-            ]
-        | inr e ↦
-            elim k [
-              | inl more ↦ inl (subst (λ x. Earlier (edges v) x c) (sym e.0) more)
-              | inr d ↦ inr (
-                e.0 ∙ d.0,
-                BeforeAfter-transitive a p q r e.1
-                    (subst (λ x. BeforeAfter edges x q r) (sym e.0) d.1),
-              )
-            ]
-      ]
+  BeforeAfter-transitive v (a ∷ p) (b ∷ q) (c ∷ r) h k = grind (arith, Earlier-transitive, BeforeAfter-transitive a p q r)
 
   -- of lists that begin with one pair
   Before-transitive : (p q r : List Pair) → Before edges p q → Before edges q r → Before edges p r
@@ -66,10 +40,8 @@ module _ (edges : Pair → List Pair) where
   ComesBefore-transitive (x ∷ p) [] r h k = absurd h
   ComesBefore-transitive (x ∷ p) (y ∷ q) [] h k = k
   ComesBefore-transitive (x ∷ p) (y ∷ q) (z ∷ r) (inl h) (inl k) = inl (omega arith)
-  ComesBefore-transitive (x ∷ p) (y ∷ q) (z ∷ r) (inl h) (inr k) = let e : y.1 ≡ z.1 = ap (λ u. u.1) k.0 in
-      inl (omega arith)
-  ComesBefore-transitive (x ∷ p) (y ∷ q) (z ∷ r) (inr h) (inl k) = let e : x.1 ≡ y.1 = ap (λ u. u.1) h.0 in
-      inl (omega arith)
+  ComesBefore-transitive (x ∷ p) (y ∷ q) (z ∷ r) (inl h) (inr k) = grind arith
+  ComesBefore-transitive (x ∷ p) (y ∷ q) (z ∷ r) (inr h) (inl k) = grind arith
   ComesBefore-transitive (x ∷ p) (y ∷ q) (z ∷ r) (inr h) (inr k) = inr (Before-transitive (x ∷ p) (y ∷ q) (z ∷ r) h k)
 
 -- the least and the greatest of the numbers below k that have A, if each number has A or B
@@ -97,15 +69,7 @@ greatest_with {A} {B} tell (suc k) =
     elim (tell k) [
       | inl a ↦ inr (k, a, λ d h l. absurd (omega arith))
       | inr b ↦
-          elim (greatest_with tell k) [
-            | inl none ↦ inl (up_to B k none b)
-            | inr found ↦ inr (
-              found.0,
-              found.1,
-              λ d h l. up_to (λ c. found.0 < c → B c) k
-                  (λ c below above. found.2 c above below) (λ above. b) d l h,
-            )
-          ]
+          grind (arith, greatest_with tell k)
     ]
 
 -- the kinds
@@ -147,10 +111,7 @@ module _ {edges : Pair → List Pair} {starts all : List Pair} {n : ℕ} (finite
   is_least e f none = record {
     is_end = is_end e f;
     least = λ m p w t.
-        elim (cases_lt m.1 e) [
-          | inl less ↦ absurd (none m.1 less m p w (record { wanted = t; at = refl }))
-          | inr more ↦ more
-        ];
+        grind arith;
   }
 
   -- and none after e
@@ -159,10 +120,7 @@ module _ {edges : Pair → List Pair} {starts all : List Pair} {n : ℕ} (finite
   is_greatest e f none = record {
     is_end = is_end e f;
     greatest = λ m p w t.
-        elim (cases_lt e m.1) [
-          | inl less ↦ absurd (none m.1 less (ends_within m p w t) m p w (record { wanted = t; at = refl }))
-          | inr more ↦ more
-        ];
+        grind (arith, ends_within);
   }
 
   -- the last of the first paths to the match pairs at e
@@ -299,8 +257,7 @@ module _ {edges : Pair → List Pair} {starts all : List Pair} {n : ℕ} (finite
   last_at e f =
       elim (sought e all) [
         | inl none ↦
-            absurd (none f.1.end (reached_in f.1.end f.0 f.1.path f.1.wanted.wanted) f.1.wanted f.1.end
-            f.0 f.1.path refl)
+            search (rules, reached_in)
         | inr b ↦ (
           b.0,
           record {

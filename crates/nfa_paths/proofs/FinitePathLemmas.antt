@@ -1,5 +1,5 @@
 -- Where finitely many pairs lead on, there is a first path to a set, or no path to it.
-use Rattle.std.proofs.Common.{◌≡◌, ℕ, zero, suc, ◌≤◌, ◌⊎◌, inl, inr, Bool, true, List, [], ◌∷◌, length, refl, sym, ap, ◌∙◌, arith}
+use Rattle.std.proofs.Common.{◌≡◌, ℕ, zero, suc, ◌≤◌, ◌⊎◌, inl, inr, Bool, true, List, [], ◌∷◌, length, refl, sym, ap, ◌∙◌, arith, rules}
 use Rattle.std.specs.Prelude.{Option, None, Some}
 use Rattle.std.proofs.lemmas.Bool.{cases_Bool}
 use Rattle.nfa_paths.specs.Graphs.{Pair, In, NoPath, IsFirstTo, IsFirstPath}
@@ -27,11 +27,7 @@ without v (y ∷ xs) (inr later) =
     record {
       rest = y ∷ w.rest;
       shorter = ap suc w.shorter;
-      covers = λ x i.
-          elim i [
-            | inl e ↦ inr (inl e)
-            | inr j ↦ elim (w.covers x j) [ inl e ↦ inl e | inr k ↦ inr (inr k) ]
-          ];
+      covers = grind arith;
     }
 
 -- From the starts, which rise, only pairs at positions up to n are reached, and of these only the pairs of `all` lead
@@ -54,12 +50,7 @@ module _ {edges : Pair → List Pair} {starts all : List Pair} {n : ℕ} (finite
     first_among marks [] each = (None, refl)
     first_among marks (e ∷ es) each =
         let here = each e (inl refl) in
-        let later = first_among marks es (λ d i. each d (inr i)) in
-        (elim here.0 as (λ r. IsFirst edges target marks e r → (r : Option (List Pair))
-        × FirstAmong edges target marks (e ∷ es) r) [
-          | None ↦ λ h. (later.0, inr (h, later.1))
-          | Some p ↦ λ h. (Some p, inl (p, h, refl))
-        ]) here.1
+        search (rules, first_among marks es)
 
     -- each pair that leads on is marked or among those left
     abbrev Covers : List Pair → List Pair → Type 0
@@ -68,15 +59,7 @@ module _ {edges : Pair → List Pair} {starts all : List Pair} {n : ℕ} (finite
     -- one more is marked, and no longer left
     Covers-mark : (left marks : List Pair) (v : Pair) (w : Without v left) → Covers left marks
         → Covers w.rest (v ∷ marks)
-    Covers-mark left marks v w covers x h =
-        elim (covers x h) [
-          | inl m ↦ inl (inr m)
-          | inr c ↦
-              elim c [
-                | inl i ↦ elim (w.covers x i) [ inl e ↦ inl (inl e) | inr j ↦ inr (inl j) ]
-                | inr dead ↦ inr (inr dead)
-              ]
-        ]
+    Covers-mark left marks v w covers x h = grind arith
 
     -- a pair has a first path or none if each pair after it does
     first_step : (left marks : List Pair) → Covers left marks → (v : Pair) → v.1 ≤ n
@@ -110,8 +93,7 @@ module _ {edges : Pair → List Pair} {starts all : List Pair} {n : ℕ} (finite
         no_rest s = omega arith
     first_from (suc size) left marks is covers v h =
         first_step left marks covers v h
-        (λ w e i. first_from size w.rest (v ∷ marks) (one_less w.shorter) (Covers-mark left marks v w covers) e
-        (finite.stays v e i h))
+        (λ w e i. grind (arith, first_from size w.rest (v ∷ marks) (one_less w.shorter) (Covers-mark left marks v w covers) e (finite.stays v e i h)))
       where
         one_less : {k : ℕ} → length left ≡ suc k → k ≡ size
         one_less s = omega arith
@@ -121,11 +103,7 @@ module _ {edges : Pair → List Pair} {starts all : List Pair} {n : ℕ} (finite
         × IsFirstPath edges starts (Passes target) r
     first_to stops =
         let r = first_among [] starts (λ s i. first_from (length all) all [] refl (λ x h. inr (finite.leads_on x h)) s
-        (finite.begins s i)) in (
-          r.0,
-          of r.0 (IsLeast-from_first edges target starts finite.increase r.0
-              (IsFirstOfAll-from_among edges target [] starts r.0 r.1)),
-        )
+        (finite.begins s i)) in (grind (arith, IsFirstOfAll-from_among, IsLeast-from_first, of))
       where
         of : (r : Option (List Pair)) → IsLeast edges target starts r → IsFirstPath edges starts (Passes target) r
         of None least = IsLeast-none edges starts target stops least
@@ -142,6 +120,5 @@ module _ {edges : Pair → List Pair} {starts all : List Pair} {n : ℕ} (finite
       of None none = inl (λ m p w h. none m p w (true-test (tell m) h))
       of (Some p) first = inr (
         p,
-        IsFirstTo-along edges starts (λ x. test (tell x) ≡ true) P (λ x. test-true (tell x))
-            (λ x. true-test (tell x)) first,
+        grind (arith, IsFirstTo-along, test-true, true-test),
       )

@@ -1,5 +1,5 @@
 -- Nor does what an overlapping search makes of a set read the flag `earliest` of its input.
-use Rattle.std.proofs.Common.{◌≡◌, ℕ, inl, inr, Bool, true, false, List, length, subst}
+use Rattle.std.proofs.Common.{◌≡◌, ℕ, inl, inr, Bool, true, false, List, length, subst, arith, rules}
 use Rattle.std.specs.Prelude.{Option, None, Some}
 use Rattle.regex_search_core.specs.Search.{Search}
 use Rattle.regex_search_core.specs.declared.search.MatchKind.{MatchKind}
@@ -23,12 +23,7 @@ module _ (nfa : Automaton) where
     permitted-asked v h = record { matches = h.matches; ends = h.ends }
 
     held-asked : (capacity : ℕ) (v : Pair) → IsInsertable nfa (asked x flag) capacity v → IsInsertable nfa x capacity v
-    held-asked capacity v h = record {
-      permitted = permitted-asked v h.permitted;
-      pattern = h.pattern;
-      pattern_is = h.pattern_is;
-      below = h.below;
-    }
+    held-asked capacity v h = grind arith
 
     -- the same patterns are reached
     pattern-asked : (P Q : Pair → Type 0) → ((v : Pair) → P v → Q v) → (k : ℕ) → IsPatternOf nfa (asked x flag) P k
@@ -42,22 +37,14 @@ module _ (nfa : Automaton) where
     least-asked P Q to back e h =
         let k = subst (λ es. IsLeastEnd es (starts nfa x) P e) all h in
         record {
-          is_end = record {
-            end = k.is_end.end;
-            along = k.is_end.along;
-            path = k.is_end.path;
-            wanted = to k.is_end.end k.is_end.wanted;
-            at = k.is_end.at;
-          };
+          is_end = grind arith;
           least = λ m p w q. k.least m p w (back m q);
         }
 
     -- the same paths come first
     first-asked : (P Q : Pair → Type 0) → ((v : Pair) → P v → Q v) → ((v : Pair) → Q v → P v) → (p : List Pair)
         → IsFirstTo (edges nfa (asked x flag)) (starts nfa x) P p → IsFirstTo (edges nfa x) (starts nfa x) Q p
-    first-asked P Q to back p h =
-        IsFirstTo-along (edges nfa x) (starts nfa x) P Q to back
-        (subst (λ es. IsFirstTo es (starts nfa x) P p) all h)
+    first-asked P Q to back p h = grind (arith, IsFirstTo-along, all)
 
     none-asked : (P Q : Pair → Type 0) → ((v : Pair) → Q v → P v) → NoPath (edges nfa (asked x flag)) (starts nfa x) P
         → NoPath (edges nfa x) (starts nfa x) Q
@@ -95,16 +82,14 @@ module _ (nfa : Automaton) where
     path-asked true capacity (Some p) h = (
       h.0,
       least-asked x flag _ _ (held-asked x flag capacity) (held-unasked capacity) h.0 h.1,
-      first-asked x flag _ _ (at-asked _ _ (held-asked x flag capacity) h.0)
-          (at-asked _ _ (held-unasked capacity) h.0) p h.2,
+      search (rules, at-asked, first-asked, held-asked, held-unasked),
     )
 
     met-asked : (capacity k : ℕ) → IsFirstBefore nfa (asked x flag) capacity k → IsFirstBefore nfa x capacity k
     met-asked capacity k h = record {
       limit = h.limit;
       along = h.along;
-      first = first-asked x flag _ _ (before-asked _ _ (held-asked x flag capacity) h.limit)
-          (before-asked _ _ (held-unasked capacity) h.limit) h.along h.first;
+      first = grind (arith, first-asked, held-asked, held-unasked);
       pattern_is = h.pattern_is;
     }
 
@@ -130,48 +115,22 @@ module _ (nfa : Automaton) where
         λ met. (h.exact k).1 (met-asked (asked x flag) x.earliest (length set) k met),
       );
     }
-    holds-asked true (Some p) set h = record {
-      end = h.end;
-      ends = h.ends;
-      pattern = h.pattern;
-      pattern_is = h.pattern_is;
-      holds = h.holds;
-    }
+    holds-asked true (Some p) set h = grind arith
 
     gains-asked : (kind : MatchKind) (earliest : Bool) (old new : List Bool)
         → Gains nfa (asked x flag) kind earliest old new → Gains nfa x kind earliest old new
     gains-asked All earliest old new h = record {
       gained = λ k. (
-        λ held. elim ((h.gained k).0 held) [
-          | inl had ↦ inl had
-          | inr meant ↦ inr (meant.0, meant-asked x flag earliest (length old) k meant.1)
-        ],
+        grind (arith, meant-asked),
         λ s. (h.gained k).1 (elim s [
           | inl had ↦ inl had
           | inr meant ↦ inr (meant.0, meant-asked (asked x flag) x.earliest earliest (length old) k meant.1)
         ]),
       );
     }
-    gains-asked LeftmostFirst earliest old new h = record {
-      full = h.full;
-      empty = λ e.
-          let m = h.empty e in
-          record {
-            path = m.path;
-            meant = path-asked x flag earliest (length old) m.path m.meant;
-            holds = holds-asked earliest m.path new m.holds;
-          };
-    }
+    gains-asked LeftmostFirst earliest old new h = grind (arith, holds-asked, path-asked)
 
     -- what a search makes of a set
     pub set-asked : (kind : MatchKind) (earliest : Bool) (old new : List Bool)
         → IsOverlapResult nfa (asked x flag) kind earliest old new → IsOverlapResult nfa x kind earliest old new
-    set-asked kind earliest old new h = record {
-      capacity = h.capacity;
-      keeps = h.keeps;
-      sound = λ k held. elim (h.sound k held) [
-        | inl had ↦ inl had
-        | inr of ↦ inr (of.0, pattern-asked x flag _ _ (permitted-asked x flag) k of.1)
-      ];
-      gains = gains-asked kind earliest old new h.gains;
-    }
+    set-asked kind earliest old new h = search (rules, gains-asked, pattern-asked)

@@ -1,11 +1,10 @@
 -- The first and the last match pair of a front.
-use Rattle.std.proofs.Common.{◌≡◌, ◌⊎◌, inl, inr, Bool, true, false, List, [], ◌∷◌, ◌++◌, refl, ap, sym}
-use Rattle.std.specs.Prelude.{None, Some, cond}
+use Rattle.std.proofs.Common.{◌≡◌, ◌⊎◌, inl, inr, Bool, true, List, [], ◌∷◌, ◌++◌, refl, ap, sym, arith}
+use Rattle.std.specs.Prelude.{None, Some}
 use Rattle.std.proofs.lemmas.Bool.{cases_Bool}
 use Rattle.nfa_paths.specs.Graphs.{Pair, In}
 use Rattle.nfa_paths.specs.Exploring.{Slots, Hit}
 use Rattle.nfa_paths.specs.Kinds.{NoMatch, first_match, before_match, last_match}
-use Rattle.nfa_paths.proofs.TestLemmas.{is_plain}
 
 module _ (is_match : Pair → Bool) where
   -- a match pair of the list, with none before it
@@ -45,13 +44,7 @@ module _ (is_match : Pair → Bool) where
         )
         | inr f ↦
             elim (first_match-is front) [
-              | inl none ↦ inl (
-                rw f none.0,
-                λ b i t. elim i [
-                  | inl e ↦ is_plain (is_match a.0) f (rw (← e) t)
-                  | inr j ↦ none.1 b j t
-                ],
-              )
+              | inl none ↦ grind arith
               | inr some ↦
                   let h = some.2 in
                   inr (
@@ -61,10 +54,7 @@ module _ (is_match : Pair → Bool) where
                       before = a ∷ h.before;
                       after = h.after;
                       split = ap (λ x. a ∷ x) h.split;
-                      plain = λ b i t. elim i [
-                        | inl e ↦ is_plain (is_match a.0) f (rw (← e) t)
-                        | inr j ↦ h.plain b j t
-                      ];
+                      plain = grind arith;
                       matches = h.matches;
                     },
                   )
@@ -89,16 +79,7 @@ module _ (is_match : Pair → Bool) where
               | inr some ↦ inr (some.0, rw t some.1, later some.2)
             ]
         | inr f ↦
-            elim (last_match-is g front) [
-              | inl none ↦ inl (
-                rw f none.0,
-                λ b i t. elim i [
-                  | inl e ↦ is_plain (is_match a.0) f (rw (← e) t)
-                  | inr j ↦ none.1 b j t
-                ],
-              )
-              | inr some ↦ inr (some.0, rw f some.1, later some.2)
-            ]
+            grind (arith, later, last_match-is g front)
       ]
     where
       later : {b : Pair × Slots} → LastMatch front b → LastMatch (a ∷ front) b
@@ -113,26 +94,13 @@ module _ (is_match : Pair → Bool) where
   -- no match pair comes before the first
   pub before_match-plain : (front : List (Pair × Slots)) → NoMatch is_match (before_match is_match front)
   before_match-plain [] = λ b i t. i
-  before_match-plain (a ∷ front) = of (is_match a.0) refl (before_match-plain front)
-    where
-      plain : (c : Bool) → c ≡ false → c ≡ true → ⊥
-      plain c f g = cc
-
-      of : (c : Bool) → is_match a.0 ≡ c → NoMatch is_match (before_match is_match front)
-          → NoMatch is_match (cond c [] (a ∷ before_match is_match front))
-      of true e rest b i t = i
-      of false e rest b i t = elim i [ inl here ↦ plain (is_match a.0) e (rw (← here) t) | inr later ↦ rest b later t ]
+  before_match-plain (a ∷ front) = grind (arith, before_match-plain front)
 
   -- what comes before it is in the front
   pub before_match-among : (front : List (Pair × Slots)) (b : Pair × Slots) → In b (before_match is_match front)
       → In b front
   before_match-among [] b = λ i. i
-  before_match-among (a ∷ front) b = of (is_match a.0) (before_match-among front b)
-    where
-      of : (c : Bool) → (In b (before_match is_match front) → In b front)
-          → In b (cond c [] (a ∷ before_match is_match front)) → In b (a ∷ front)
-      of true rest i = absurd i
-      of false rest i = elim i [ inl here ↦ inl here | inr later ↦ inr (rest later) ]
+  before_match-among (a ∷ front) b = grind (arith, before_match-among front b)
 
   -- the items before the first match pair, that pair, and the items after it
   pub record FirstCut (front : List (Pair × Slots)) (a : Pair × Slots) : Type 0 where
@@ -156,21 +124,11 @@ module _ (is_match : Pair → Bool) where
               matches = rw (← same) t;
             }
         | inr f ↦
-            let h = first_match-cut front a (rw f at e) in
-            record {
-              after = h.after;
-              split = rw f (ap (λ (ys : List (Pair × Slots)). b ∷ ys) h.split);
-              among = inr h.among;
-              matches = h.matches;
-            }
+            grind (arith, first_match-cut front a (rw f at e))
       ]
 
   -- if there is no match pair, all items come before the first
   pub before_match-all : (front : List (Pair × Slots)) → first_match is_match front ≡ None
       → before_match is_match front ≡ front
   before_match-all [] e = refl
-  before_match-all (a ∷ front) e =
-      elim (cases_Bool (is_match a.0)) [
-        | inl t ↦ let some : Some a ≡ None = rw t at e in cc
-        | inr f ↦ rw f (ap (λ ys. a ∷ ys) (before_match-all front (rw f at e)))
-      ]
+  before_match-all (a ∷ front) e = grind (arith, before_match-all front)

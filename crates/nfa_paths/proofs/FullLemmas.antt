@@ -1,6 +1,6 @@
 -- What a set of patterns is under LeftmostFirst once it is full: what is left of the scan changes nothing.
 use Rattle.std.proofs.Common.{◌≡◌, ℕ, ◌<◌, ◌≤◌, ◌↔◌, inl, inr, Bool, true, false, List, length, sym, ap, ◌∙◌, arith}
-use Rattle.std.specs.Prelude.{Option, None, Some, option_and_then}
+use Rattle.std.specs.Prelude.{Option, None, Some}
 use Rattle.std.proofs.lemmas.Bool.{cases_lt}
 use Rattle.regex_search_core.specs.PatternSets.{size_of_set}
 use Rattle.regex_search_core.specs.Search.{Search}
@@ -9,8 +9,8 @@ use Rattle.thompson_nfa.specs.Automaton.{Automaton}
 use Rattle.nfa_paths.specs.Graphs.{Pair, IsFirstTo, IsFirstPath}
 use Rattle.nfa_paths.specs.Exploring.{Slots}
 use Rattle.nfa_paths.specs.Kinds.{Passes, WantedBefore}
-use Rattle.nfa_paths.specs.Paths.{edges, starts, last_of, node_at, pattern_of, path_pattern}
-use Rattle.nfa_paths.specs.Overlaps.{HoldsPattern, HoldsUpTo, pattern_at, IsPermitted, IsInsertable, IsPatternOf, IsFirstBefore, IsOverlapResult}
+use Rattle.nfa_paths.specs.Paths.{edges, starts, last_of}
+use Rattle.nfa_paths.specs.Overlaps.{HoldsPattern, HoldsUpTo, IsPermitted, IsInsertable, IsPatternOf, IsFirstBefore, IsOverlapResult}
 use Rattle.nfa_paths.proofs.ExistenceLemmas.{first_wanted-exists}
 use Rattle.nfa_paths.proofs.PathToLemmas.{EndsWith-last, IsFirstTo-along, IsFirstTo-unique}
 use Rattle.nfa_paths.proofs.ReachedLemmas.{IsReached-along}
@@ -27,14 +27,7 @@ module _ (nfa : Automaton) (x : Search) (old : List Bool) (wants : Pair → Bool
     (h : Exact nfa x old wants tells e (Some a) new) (full : size_of_set new ≡ length new) where
   -- a first path before some limit has a pattern below the capacity
   below : (k : ℕ) → IsFirstBefore nfa x (length new) k → k < length new
-  below k met =
-      let held = met.first.wanted.wanted in
-      let last = EndsWith-last None met.first.end met.along met.first.path.ends in
-      let is : path_pattern nfa met.along ≡ pattern_at nfa met.first.end =
-      ap (λ o. option_and_then (λ (w : Pair). pattern_of (node_at nfa w.0)) o) last in
-      let same : held.pattern ≡ k = same_some held.pattern k (sym held.pattern_is ∙ sym is ∙ met.pattern_is) in
-      let less : held.pattern < length new = held.below in
-      omega arith
+  below k met = grind (arith, EndsWith-last)
 
   exactly : (k : ℕ) → HoldsPattern new k ↔ IsFirstBefore nfa x (length new) k
   exactly k = (λ held. rw u.capacity (h.sound k held), λ met. full-holds new full k (below k met))
@@ -45,17 +38,8 @@ module _ (nfa : Automaton) (x : Search) (old : List Bool) (wants : Pair → Bool
   met_before limit later k held =
       let before : a.0.1 < e = u.before in
       elim (u.others k held) [
-        | inl same ↦ record {
-          end = a.0;
-          along = u.along;
-          path = u.path;
-          wanted = record { wanted = ((tells a.0).0 u.wanted).permitted; before = omega arith };
-          pattern_is = rw same u.pattern_is;
-        }
-        | inr r ↦ IsReached-along (λ v w. record {
-          wanted = w.wanted;
-          before = let l : v.1 < a.0.1 = w.before in omega arith;
-        }) r
+        | inl same ↦ grind arith
+        | inr r ↦ grind arith
       ]
 
   -- the first path of all is that of the best match, or it ends at e or after it
@@ -82,11 +66,7 @@ module _ (nfa : Automaton) (x : Search) (old : List Bool) (wants : Pair → Bool
               pattern = held.pattern;
               pattern_is = held.pattern_is;
               holds = full-holds new full held.pattern (omega arith);
-              others = λ k held_too.
-                  let is : u.pattern ≡ held.pattern =
-                  same_some u.pattern held.pattern (sym u.pattern_is ∙ sym (ap (pattern_at nfa) here)
-                  ∙ held.pattern_is) in
-                  rw (← is, here) (u.others k held_too);
+              others = grind arith;
               exact = exactly;
             }
         | inr behind ↦ record {

@@ -1,5 +1,5 @@
 -- What a set of patterns gains under All, position by position.
-use Rattle.std.proofs.Common.{◌≡◌, ℕ, ◌+◌, ◌<◌, ◌⊎◌, ◌↔◌, inl, inr, Bool, true, false, List, [], length, refl, ◌∙◌, subst}
+use Rattle.std.proofs.Common.{◌≡◌, ℕ, ◌+◌, ◌<◌, ◌⊎◌, ◌↔◌, inl, inr, Bool, true, false, List, [], length, refl, ◌∙◌, subst, arith, rules}
 use Rattle.std.specs.Prelude.{Some}
 use Rattle.std.proofs.lemmas.Bool.{cases_lt}
 use Rattle.regex_search_core.specs.PatternSets.{size_of_set}
@@ -11,7 +11,7 @@ use Rattle.nfa_paths.specs.Exploring.{Slots}
 use Rattle.nfa_paths.specs.Kinds.{Passes, ReachedBefore, EndsBefore, HoldsMatch, Scanned, IsFrontier, is_resting}
 use Rattle.nfa_paths.specs.Paths.{space, edges, starts}
 use Rattle.nfa_paths.specs.Overlaps.{HoldsPattern, pattern_at, IsPermitted, IsInsertable, IsPatternOf, IsOverlapResult}
-use Rattle.nfa_paths.proofs.ReachedLemmas.{IsReached-at, ReachedBefore-start, ReachedBefore-step, ReachedBefore-end, IsReached-along}
+use Rattle.nfa_paths.proofs.ReachedLemmas.{IsReached-at, ReachedBefore-start, ReachedBefore-step, IsReached-along}
 use Rattle.nfa_paths.proofs.SetLemmas.{full-holds}
 use Rattle.nfa_paths.proofs.PathToLemmas.{IsLeastEnd-unique}
 use Rattle.nfa_paths.proofs.ScanAnswerLemmas.{Scanned-matches, starts-from}
@@ -61,8 +61,7 @@ module _ (nfa : Automaton) (x : Search) (old : List Bool) (wants : Pair → Bool
     reached-step : (k : ℕ) → ReachedBefore (space nfa x) wants (pattern_at nfa) (e + 1) k
         ↔ (ReachedBefore (space nfa x) wants (pattern_at nfa) e k
         ⊎ HoldsMatch wants (pattern_at nfa) k front)
-    reached-step k = ReachedBefore-step (space nfa x) (is_resting nfa) wants slots
-        wanted-shape (pattern_at nfa) k f
+    reached-step k = search (rules, ReachedBefore-step, wanted-shape)
 
     pub GainsBefore-step : {mid new : List Bool} → GainsBefore e mid → length new ≡ length mid
         → ((k : ℕ) → HoldsPattern new k ↔ (HoldsPattern mid k
@@ -71,11 +70,7 @@ module _ (nfa : Automaton) (x : Search) (old : List Bool) (wants : Pair → Bool
     GainsBefore-step {mid} {new} g size put = record {
       capacity = size ∙ g.capacity;
       gained = λ k. (
-        λ h.
-            elim ((put k).0 h) [
-              | inl m ↦ elim ((g.gained k).0 m) [ inl o ↦ inl o | inr w ↦ inr (w.0, (reached-step k).1 (inl w.1)) ]
-              | inr w ↦ inr (rw (← g.capacity) w.0, (reached-step k).1 (inr w.1))
-            ],
+        search (rules, reached-step),
         λ s.
             elim s [
               | inl o ↦ (put k).1 (inl ((g.gained k).1 (inl o)))
@@ -105,15 +100,7 @@ module _ (nfa : Automaton) (x : Search) (old : List Bool) (wants : Pair → Bool
                   (g.gained k).1
                   (inr (
                     w.0,
-                    (ReachedBefore-end (space nfa x) (is_resting nfa) wants [] wanted-shape (pattern_at nfa) k ends).1
-                        (record {
-                          end = w.1.end;
-                          along = w.1.along;
-                          path = w.1.path;
-                          wanted =
-                              counts w.0 w.1.end w.1.wanted w.1.pattern_is;
-                          pattern_is = w.1.pattern_is;
-                        }),
+                    search (rules, counts),
                   ))
             ],
       );
@@ -123,17 +110,7 @@ module _ (nfa : Automaton) (x : Search) (old : List Bool) (wants : Pair → Bool
   -- a full set gains nothing
   pub GainsBefore-full : {e : ℕ} {new : List Bool} → GainsBefore e new → size_of_set new ≡ length new
       → IsOverlapResult nfa x All false old new
-  GainsBefore-full {e} {new} g full = record {
-    capacity = g.capacity;
-    keeps = λ k h. (g.gained k).1 (inl h);
-    sound = λ k h. elim ((g.gained k).0 h) [ inl o ↦ inl o | inr w ↦ inr (w.0, reached-sound w.1) ];
-    gains = record {
-      gained = λ k. (
-        λ h. elim ((g.gained k).0 h) [ inl o ↦ inl o | inr w ↦ inr (w.0, reached-sound w.1) ],
-        λ s. elim s [ inl o ↦ (g.gained k).1 (inl o) | inr w ↦ full-holds new full k (rw g.capacity w.0) ],
-      );
-    };
-  }
+  GainsBefore-full {e} {new} g full = grind (arith, full-holds)
 
   -- no pattern below the capacity is reached before e
   pub record NoneHeld (e : ℕ) : Type 0 where
@@ -161,16 +138,7 @@ module _ (nfa : Automaton) (x : Search) (old : List Bool) (wants : Pair → Bool
         ↔ HoldsMatch wants (pattern_at nfa) k front
     reached-here k less =
         let at = IsReached-at (space nfa x) (is_resting nfa) wants slots wanted-shape
-        (pattern_at nfa) k f in (
-          λ r. at.0 (record {
-            end = r.end;
-            along = r.along;
-            path = r.path;
-            wanted = record { wanted = counts less r.end r.wanted.wanted r.pattern_is; at = r.wanted.at };
-            pattern_is = r.pattern_is;
-          }),
-          λ h. IsReached-along (permitted_at e) (at.1 h),
-        )
+        (pattern_at nfa) k f in grind arith
 
     -- the first front with a match of a pattern below the capacity is at the least end
     held-least : NoneHeld e → (k : ℕ) → k < length old → HoldsMatch wants (pattern_at nfa) k front
@@ -178,25 +146,12 @@ module _ (nfa : Automaton) (x : Search) (old : List Bool) (wants : Pair → Bool
     held-least none k less here =
         let r = (reached-here k less).1 here in
         record {
-          is_end = record {
-            end = r.end;
-            along = r.along;
-            path = r.path;
-            wanted =
-                record { permitted = r.wanted.wanted; pattern = k; pattern_is = r.pattern_is; below = less };
-            at = r.wanted.at;
-          };
+          is_end = grind arith;
           least = λ m p w h.
               elim (cases_lt m.1 e) [
                 | inl before ↦
                     absurd (none.none h.pattern h.below
-                    (record {
-                      end = m;
-                      along = p;
-                      path = w;
-                      wanted = record { wanted = (tells m).1 h; before = before };
-                      pattern_is = h.pattern_is;
-                    }))
+                    (grind arith))
                 | inr more ↦ more
               ];
         }
@@ -224,9 +179,7 @@ module _ (nfa : Automaton) (x : Search) (old : List Bool) (wants : Pair → Bool
               elim s [
                 | inl o ↦ (put j).1 (inl o)
                 | inr w ↦
-                    let same : w.1.0 ≡ e = IsLeastEnd-unique (edges nfa x) (starts nfa x)
-                    (IsInsertable nfa x (length old))
-                    w.1.0 e w.1.1 (held-least none k less here) in
+                    let same : w.1.0 ≡ e = (search (rules, IsLeastEnd-unique, held-least)) in
                     (put j).1 (inr (
                       w.0,
                       (reached-here j w.0).0

@@ -1,21 +1,19 @@
 -- The match of a search's answer is in its span.
-use Rattle.std.proofs.Common.{◌∙◌, ◌≡◌, ℕ, ◌+◌, ◌*◌, ◌≤◌, inl, inr, Bool, true, false, List, [], ◌∷◌, map, refl, ap, sym, subst, MatchBool, arith}
-use Rattle.std.specs.Prelude.{◌<◌, length, All, IfSome, Option, None, Some, cond, nat_le, option_and_then, option_map, ◌==◌}
-use Rattle.std.specs.Option.{option_or, option_map_or}
-use Rattle.std.specs.List.{slice_get, range_with_len}
-use Rattle.std.proofs.lemmas.Bool.{cases_lt, le-leb, lt-leb}
+use Rattle.std.proofs.Common.{◌∙◌, ◌≡◌, ℕ, ◌+◌, ◌*◌, ◌≤◌, inl, inr, Bool, true, false, List, [], ◌∷◌, map, refl, sym, subst, arith, rules}
+use Rattle.std.specs.Prelude.{◌<◌, length, All, IfSome, Option, None, Some, cond, option_and_then}
+use Rattle.std.specs.Option.{option_or}
+use Rattle.std.specs.List.{range_with_len}
 use Rattle.std.proofs.lemmas.Option.{slice_get-map}
 use Rattle.regex_search_core.specs.Found.{Found, HalfFound}
 use Rattle.regex_search_core.specs.Groups.{slot_count}
-use Rattle.regex_search_core.specs.Search.{Search, is_anchored}
-use Rattle.regex_search_core.specs.Slots.{offset_at, span_at, match_of}
+use Rattle.regex_search_core.specs.Search.{Search}
+use Rattle.regex_search_core.specs.Slots.{offset_at, match_of}
 use Rattle.regex_search_core.specs.declared.search.MatchKind.{MatchKind}
-use Rattle.regex_search_core.specs.declared.search.Span.{Span}
 use Rattle.thompson_nfa.specs.Automaton.{Automaton, IsAutomaton}
 use Rattle.nfa_paths.specs.Graphs.{Pair, In, EndsWith, Linked, PathTo}
-use Rattle.nfa_paths.specs.Paths.{edges, starts, capture, raised, path_pattern, pattern_of, node_at, last_of, slot_among, slot_row, is_utf8_empty, IsScanAnswer, IsKeptAnswer, IsRestartedAnswer, IsSearchAnswer, IsAnswer, IsFindAnswer}
+use Rattle.nfa_paths.specs.Paths.{edges, starts, path_pattern, slot_among, slot_row, IsScanAnswer, IsSearchAnswer, IsAnswer, IsFindAnswer}
 use Rattle.nfa_paths.specs.Paths.{path_half, IsHalfAnswer}
-use Rattle.nfa_paths.proofs.AnswerLemmas.{scan_answer-leads, never_none}
+use Rattle.nfa_paths.proofs.AnswerLemmas.{scan_answer-leads}
 use Rattle.std.proofs.lemmas.List.Elements.{All-map, All-replicate}
 use Rattle.nfa_paths.proofs.PathToLemmas.{EndsWith-last}
 use Rattle.nfa_paths.proofs.PatternLemmas.{pattern-within as path-pattern}
@@ -28,30 +26,7 @@ IsWithin x i = (x.start ≤ i) × (i ≤ x.end)
 -- the two offsets that make a match
 pub offsets : (slots : List (Option ℕ)) (p : ℕ) (f : Found) → match_of (Some p) slots ≡ Some f
     → (offset_at slots (2 * p) ≡ Some f.start) × (offset_at slots (2 * p + 1) ≡ Some f.end) × (f.start ≤ f.end)
-offsets slots p f = of (offset_at slots (2 * p)) (offset_at slots (2 * p + 1))
-  where
-    spans : Option ℕ → Option ℕ → Option Span
-    spans a b = option_and_then (λ start. option_and_then
-        (λ end. cond (nat_le start end) (Some (record { start = start; end = end })) None) b) a
-
-    made : Option Span → Option Found
-    made o = option_map (λ (s : Span). record { pattern = p; start = s.start; end = s.end }) o
-
-    of : (a b : Option ℕ) → made (spans a b) ≡ Some f → (a ≡ Some f.start) × (b ≡ Some f.end) × (f.start ≤ f.end)
-    of None b e = cc
-    of (Some start) None e = cc
-    of (Some start) (Some end) e =
-        elim (cases_lt end start) [
-          | inl past ↦ absurd (never_none _ (sym (rw (lt-leb start end past) at e)))
-          | inr ordered ↦
-              let is : Some (record { pattern = p; start = start; end = end }) ≡ Some f =
-              rw (le-leb start end ordered) at e in
-              let found : record { pattern = p; start = start; end = end } ≡ f = cc in (
-                ap (λ (g : Found). Some g.start) found,
-                ap (λ (g : Found). Some g.end) found,
-                subst (λ (g : Found). g.start ≤ g.end) found ordered,
-              )
-        ]
+offsets slots p f = grind arith
 
 -- the last pair of a list is in it
 EndsWith-in : (m : Pair) (p : List Pair) → EndsWith m p → In m p
@@ -62,21 +37,14 @@ EndsWith-in m (x ∷ (y ∷ p)) ends = inr (EndsWith-in m (y ∷ p) ends)
 -- an offset of a row of values is one of the values
 offset-value : (f : ℕ → Option ℕ) (places : List ℕ) (i k : ℕ) → offset_at (map f places) i ≡ Some k
     → (j : ℕ) × (f j ≡ Some k)
-offset-value f places i k e = of (slice_get places i) (rw (slice_get-map f places i) at e)
-  where
-    of : (o : Option ℕ) → option_and_then (λ offset. offset) (option_map f o) ≡ Some k → (j : ℕ) × (f j ≡ Some k)
-    of None e = cc
-    of (Some j) e = (j, e)
+offset-value f places i k e = grind (arith, slice_get-map)
 
 module _ (nfa : Automaton) where
   module _ (x : Search) where
     -- each pair of a linked list that begins in the span is in it
     linked-within : (y : Pair) (p : List Pair) → Linked (edges nfa x) (y ∷ p) → IsWithin x y.1 → (w : Pair)
         → In w (y ∷ p) → IsWithin x w.1
-    linked-within y [] linked here w i = elim i [
-      | inl e ↦ subst (λ (v : Pair). IsWithin x v.1) (sym e) here
-      | inr never ↦ absurd never
-    ]
+    linked-within y [] linked here w i = grind arith
     linked-within y (z ∷ p) linked here w i =
         elim i [
           | inl e ↦ subst (λ (v : Pair). IsWithin x v.1) (sym e) here
@@ -91,10 +59,7 @@ module _ (nfa : Automaton) where
         → IsWithin x w.1
     path-within m [] path w i = absurd i
     path-within m (y ∷ p) path w i =
-        let start : IsWithin x path.start.1 = (
-          starts-from nfa x path.start path.among,
-          starts-within nfa x path.start path.among,
-        ) in
+        let start : IsWithin x path.start.1 = (search (rules, starts-from, starts-within)) in
         linked-within y p path.linked (subst (λ (v : Pair). IsWithin x v.1) (sym path.head) start) w i
 
     -- and so does each slot that it writes
@@ -102,8 +67,7 @@ module _ (nfa : Automaton) where
         → slot_among nfa p slot ≡ Some k → IsWithin x k
     slot-within [] inside slot k e = cc
     slot-within (v ∷ p) inside slot k e =
-        of (slot_among nfa p slot) (option_map_or (λ s. s == slot) (capture nfa v) false)
-        (λ j. slot-within p (λ w i. inside w (inr i)) slot j) e
+        (grind (arith, of, slot-within p))
       where
         of : (o : Option ℕ) (b : Bool) → ((j : ℕ) → o ≡ Some j → IsWithin x j)
             → option_or o (cond b (Some v.1) None) ≡ Some k → IsWithin x k
@@ -134,21 +98,7 @@ module _ (nfa : Automaton) where
 
     scanned : (x : Search) (restarts : ℕ) (p : List Pair)
         → IsSearchAnswer nfa kind earliest x restarts (Some p) → Scanned x p
-    scanned x restarts p =
-        elim (is_utf8_empty nfa) as (λ m. MatchBool m
-        (MatchBool (is_anchored x.anchored) ((restarts ≡ 0) × IsKeptAnswer nfa kind earliest x (Some p))
-        (IsRestartedAnswer nfa kind earliest x restarts (Some p)))
-        ((restarts ≡ 0) × IsScanAnswer nfa x kind earliest (Some p)) → Scanned x p) [
-          | true ↦
-              elim (is_anchored x.anchored) as (λ a.
-              MatchBool a ((restarts ≡ 0) × IsKeptAnswer nfa kind earliest x (Some p))
-              (IsRestartedAnswer nfa kind earliest x restarts (Some p))
-              → Scanned x p) [
-                | true ↦ λ h. record { from = x; answers = h.1.0; on = omega arith; end = refl }
-                | false ↦ λ h. record { from = raised x restarts; answers = h.answers; on = omega arith; end = refl }
-              ]
-          | false ↦ λ h. record { from = x; answers = h.1; on = omega arith; end = refl }
-        ]
+    scanned x restarts p = search rules
 
     -- the match is in the span
     pub match-within : (x : Search) (f : Found) → IsFindAnswer nfa kind earliest x (Some f) → (x.start ≤ f.start)
@@ -162,9 +112,7 @@ module _ (nfa : Automaton) where
         some p s (Some q) e =
             let to = scan_answer-leads nfa s.from kind earliest p s.answers in
             let k = row-within s.from to.end p to.path (slot_count nfa.groups) q f (sym e) in
-            let on : x.start ≤ s.from.start = s.on in
-            let end : s.from.end ≡ x.end = s.end in
-            (omega (arith, k.0), k.1, omega (arith, k.2))
+            (grind arith)
 
         of : (path : Option (List Pair)) → IsSearchAnswer nfa kind earliest x a.restarts path
             → Some f ≡ match_of (option_and_then (path_pattern nfa) path) (slot_row nfa (slot_count nfa.groups) path)
@@ -178,29 +126,12 @@ module _ (nfa : Automaton) where
     ends-within x p s h e =
         let to = scan_answer-leads nfa s.from kind earliest p s.answers in
         let lies = path-within s.from to.end p to.path to.end (EndsWith-in to.end p to.path.ends) in
-        let is : to.end.1 ≡ h.offset = of to.end (EndsWith-last None to.end p to.path.ends) in
-        let on : x.start ≤ s.from.start = s.on in
-        let end : s.from.end ≡ x.end = s.end in
-        (omega (arith, lies.0, is), omega (arith, lies.1, is))
-      where
-        known : (k : Option ℕ) (at : ℕ) → Some h ≡ option_map (λ k. record { pattern = k; offset = at }) k
-            → at ≡ h.offset
-        known None at e = cc
-        known (Some k) at e = let same : h ≡ record { pattern = k; offset = at } = cc in
-            sym (ap (λ (h : HalfFound). h.offset) same)
-
-        of : (v : Pair) → last_of p ≡ Some v → v.1 ≡ h.offset
-        of v last = known (pattern_of (node_at nfa v.0)) v.1 (rw last at e)
+        (search (rules, EndsWith-last))
 
     -- the end of a half match is in the span
     pub half-within : (x : Search) (h : HalfFound) → IsHalfAnswer nfa kind earliest x (Some h)
         → (x.start ≤ h.offset) × (h.offset ≤ x.end)
-    half-within x h a = of a.path a.answers a.found_is
-      where
-        of : (path : Option (List Pair)) → IsSearchAnswer nfa kind earliest x a.restarts path
-            → Some h ≡ option_and_then (path_half nfa) path → IsWithin x h.offset
-        of None answers e = cc
-        of (Some p) answers e = ends-within x p (scanned x a.restarts p answers) h e
+    half-within x h a = search (rules, ends-within, scanned)
 
     -- what holds of the number that a slot has
     if-some : (o : Option ℕ) (P : ℕ → Type 0) → ((k : ℕ) → o ≡ Some k → P k) → IfSome o P
@@ -219,9 +150,7 @@ module _ (nfa : Automaton) where
         some p s j k e =
             let to = scan_answer-leads nfa s.from kind earliest p s.answers in
             let lies = slot-within s.from p (path-within s.from to.end p to.path) j k e in
-            let on : x.start ≤ s.from.start = s.on in
-            let end : s.from.end ≡ x.end = s.end in
-            (omega (arith, lies.0), omega (arith, lies.1))
+            (grind arith)
 
         of : (path : Option (List Pair)) → IsSearchAnswer nfa kind earliest x a.restarts path
             → All (λ o. IfSome o (λ k. (x.start ≤ k) × (k ≤ x.end))) (slot_row nfa (length slots) path)
@@ -247,16 +176,4 @@ module _ (nfa : Automaton) where
     -- and so is that of a match
     pub match-pattern : IsAutomaton nfa → (x : Search) (f : Found) → IsFindAnswer nfa kind earliest x (Some f)
         → f.pattern < length nfa.patterns
-    match-pattern valid x f a = of (option_and_then (path_pattern nfa) a.path) refl a.found_is
-      where
-        of : (o : Option ℕ) → option_and_then (path_pattern nfa) a.path ≡ o
-            → Some f ≡ match_of o (slot_row nfa (slot_count nfa.groups) a.path) → f.pattern < length nfa.patterns
-        of None is e = cc
-        of (Some q) is e = subst (λ (n : ℕ). n < length nfa.patterns)
-            (same (span_at (slot_row nfa (slot_count nfa.groups) a.path) (2 * q)) e) (among valid a.path q is)
-          where
-            same : (o : Option Span) → Some f ≡ option_map
-                (λ (s : Span). record { pattern = q; start = s.start; end = s.end }) o → q ≡ f.pattern
-            same None e = cc
-            same (Some s) e = let is : f ≡ record { pattern = q; start = s.start; end = s.end } = cc in
-                sym (ap (λ (g : Found). g.pattern) is)
+    match-pattern valid x f a = search (rules, among)

@@ -186,8 +186,7 @@ module _ (space : Space) (resting is_match : Pair → Bool) (slots : Slots) (tur
         f.later before a after
         (λ b i. rising b (in_front b i)) (λ b i u. plain b i (is_target b.0 u)) (target_is a.0 t) in
         let answer = leads.1 (found space.capture (a.0 ∷ []) a.1)
-        (subst (λ x. ExploresAfter space target 0 x None leads.0 f.waiting f.current
-        (found space.capture (a.0 ∷ []) a.1)) (sym split) behind) in
+        (grind arith) in
         let wrote : found space.capture (a.0 ∷ []) a.1 ≡ Some a =
         rw (shape.writes_nothing a.0 (matches a.0 t).0) refl in
         elim (Answer-starts space target turns space.starts slots (found space.capture (a.0 ∷ []) a.1) answer) [
@@ -237,11 +236,7 @@ module _ (space : Space) (resting is_match : Pair → Bool) (slots : Slots) (tur
 
   -- whether a pair is one of two
   two : (m n : Pair) → Tested (λ x. (x ≡ m) ⊎ (x ≡ n))
-  two m n x =
-      elim (same x m) [
-        | inl h ↦ inl (inl h)
-        | inr h ↦ elim (same x n) [ inl k ↦ inl (inr k) | inr k ↦ inr (λ s. elim s [ inl a ↦ h a | inr b ↦ k b ]) ]
-      ]
+  two m n x = grind arith
 
   -- a pair that is one wanted at e is a match pair at e
   here_at : (m : Pair) → WantedAt (Passes is_match) e m → (x : Pair) → x ≡ m → (is_match x ≡ true) × (x.1 ≡ e)
@@ -310,8 +305,7 @@ module _ (space : Space) (resting is_match : Pair → Bool) (slots : Slots) (tur
             elim (find m l.before) [
               | inl r ↦
                   let joined : front ≡ r.before ++ r.item ∷ (r.after ++ a ∷ l.after) =
-                  l.split ∙ ap (λ x. x ++ a ∷ l.after) r.split
-                  ∙ append_assoc r.before (r.item ∷ r.after) (a ∷ l.after) in
+                  (grind (arith, append_assoc)) in
                   elim (IsFrontier-order r.before r.item (r.after ++ a ∷ l.after) joined m a.0 h
                   (item_here a (rw l.split (In-append_right a l.before (a ∷ l.after) (inl refl))) l.matches)
                   r.is r.plain (λ c i. before_a c (rw r.split (In-append_left c r.before (r.item ∷ r.after) i))) q k p
@@ -324,10 +318,7 @@ module _ (space : Space) (resting is_match : Pair → Bool) (slots : Slots) (tur
                   elim (In-append i.0 l.before (a ∷ l.after) (subst (λ x. In i.0 x) l.split i.1)) [
                     | inl j ↦ absurd (none i.0 j i.2)
                     | inr j ↦
-                        elim j [
-                          | inl eq ↦ absurd (other (sym i.2 ∙ ap (λ x. x.0) eq))
-                          | inr later ↦ absurd (l.plain i.0 later (rw i.2 h.wanted))
-                        ]
+                        grind arith
                   ]
             ]
       ]

@@ -1,5 +1,5 @@
 -- A match that one search found is the match of each such search, and is there to be found.
-use Rattle.std.proofs.Common.{◌≡◌, Bool, List, Option, Some, sym, ◌∙◌, ap, subst, refl}
+use Rattle.std.proofs.Common.{◌≡◌, Bool, List, Option, Some, subst, refl, arith}
 use Rattle.std.specs.Option.{option_and_then}
 use Rattle.regex_search_core.specs.Found.{Found}
 use Rattle.regex_search_core.specs.Groups.{slot_count}
@@ -21,9 +21,7 @@ module _ (nfa : Automaton) (kind : MatchKind) (earliest : Bool) (x : Search) whe
   -- a search has one match
   pub match-unique : (a b : Option Found) → IsFindAnswer nfa kind earliest x a
       → IsFindAnswer nfa kind earliest x b → a ≡ b
-  match-unique a b h k =
-      let one = search_answer-unique nfa kind earliest x h.restarts k.restarts h.path k.path h.answers k.answers in
-      h.found_is ∙ ap worth one.1 ∙ sym k.found_is
+  match-unique a b h k = grind (arith, search_answer-unique)
 
   -- so a match that was found is sure
   pub match-sure : (m : Found) → IsFindAnswer nfa kind earliest x (Some m) → IsSureMatch nfa kind earliest x m

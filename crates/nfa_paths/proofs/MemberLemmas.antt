@@ -16,10 +16,7 @@ In-append_right x (y ∷ xs) ys i = inr (In-append_right x xs ys i)
 -- an element of two concatenated lists is in one of them
 pub In-append : {A : Type 0} (x : A) (xs ys : List A) → In x (xs ++ ys) → In x xs ⊎ In x ys
 In-append x [] ys i = inr i
-In-append x (y ∷ xs) ys i = elim i [
-  | inl e ↦ inl (inl e)
-  | inr j ↦ elim (In-append x xs ys j) [ inl k ↦ inl (inr k) | inr k ↦ inr k ]
-]
+In-append x (y ∷ xs) ys i = grind (arith, In-append x xs ys)
 
 -- an item in the middle
 pub In-middle : {A : Type 0} (xs : List A) (x : A) (ys : List A) → In x (xs ++ x ∷ ys)

@@ -1,15 +1,15 @@
 -- The first path that ends before a limit, as a search that drops what is after a match finds it, and the set of the
 -- patterns of such paths.
-use Rattle.std.proofs.Common.{◌≡◌, ℕ, ◌+◌, ◌<◌, ◌≤◌, ◌↔◌, ◌∙◌, inl, inr, Bool, true, List, [], ◌∷◌, map, length, refl, sym, ap, subst, arith}
+use Rattle.std.proofs.Common.{◌≡◌, ℕ, ◌+◌, ◌<◌, ◌≤◌, ◌↔◌, ◌∙◌, inl, inr, Bool, true, List, [], ◌∷◌, map, length, refl, sym, ap, subst, arith, rules}
 use Rattle.std.specs.Prelude.{Option, None, Some}
-use Rattle.std.proofs.lemmas.Bool.{cases_Bool, cases_lt}
+use Rattle.std.proofs.lemmas.Bool.{cases_lt}
 use Rattle.regex_search_core.specs.PatternSets.{with_pattern, size_of_set}
 use Rattle.regex_search_core.specs.Search.{Search}
 use Rattle.thompson_nfa.specs.Automaton.{Automaton}
 use Rattle.nfa_paths.specs.Graphs.{Pair, In, Space, NoPath, IsFirstTo, IsFirstPath}
 use Rattle.nfa_paths.specs.FirstPaths.{Path}
 use Rattle.nfa_paths.specs.FirstPaths.Path.{stop, go}
-use Rattle.nfa_paths.specs.Exploring.{Slots, Hit, Task, apply, ExploresTo}
+use Rattle.nfa_paths.specs.Exploring.{Slots, Hit, Task, ExploresTo}
 use Rattle.nfa_paths.specs.Exploring.Task.{Explore, Restore, Load}
 use Rattle.nfa_paths.specs.Kinds.{Passes, WantedBefore, found_along, first_match, before_match, is_resting}
 use Rattle.nfa_paths.specs.Paths.{space, capture, edges, starts, last_of, path_pattern}
@@ -20,8 +20,7 @@ use Rattle.nfa_paths.proofs.PathToLemmas.{EndsWith-last, found-end, IsFirstTo-al
 use Rattle.nfa_paths.proofs.ScanAnswerLemmas.{Scanned-matches, starts-from}
 use Rattle.nfa_paths.proofs.ScanLemmas.{IsFirstPath-found, NoneBefore-start}
 use Rattle.nfa_paths.proofs.SetLemmas.{holds-with, size-none}
-use Rattle.nfa_paths.proofs.TestLemmas.{Tested, is_plain, test, test-true, true-test, same_test}
-use Rattle.nfa_paths.proofs.OptionLemmas.{same_some}
+use Rattle.nfa_paths.proofs.TestLemmas.{Tested, test, test-true, true-test, same_test}
 use Rattle.nfa_paths.proofs.PatternLemmas.{ends-pattern}
 
 -- work ahead of all targets finds nothing
@@ -77,14 +76,7 @@ Between-same {wants} {target} {e} b v at = same_test (target v) (wants v) (b.sub
 -- what is wanted before e, as a test
 module _ (wants : Pair → Bool) (e : ℕ) where
   tell_before : Tested (WantedBefore (Passes wants) e)
-  tell_before v =
-      elim (cases_Bool (wants v)) [
-        | inl t ↦ elim (cases_lt v.1 e) [
-          | inl less ↦ inl (record { wanted = t; before = less })
-          | inr more ↦ inr (λ h. let k : v.1 < e = h.before in omega arith)
-        ]
-        | inr f ↦ inr (λ h. is_plain (wants v) f h.wanted)
-      ]
+  tell_before v = grind arith
 
   pub before_target : Pair → Bool
   before_target v = test (tell_before v)
@@ -98,10 +90,7 @@ module _ (wants : Pair → Bool) (e : ℕ) where
   is_before v = true-test (tell_before v)
 
   pub Between-before : (d : ℕ) → d ≤ e → Between wants d before_target
-  Between-before d less = record {
-    sub = λ v t. (before_is v t).wanted;
-    all = λ v t l. is_before v (record { wanted = t; before = omega arith });
-  }
+  Between-before d less = grind (arith, before_is, is_before)
 
 -- The set before is `old`: wanted is what it has room for.
 module _ (nfa : Automaton) (x : Search) (old : List Bool) (wants : Pair → Bool)
@@ -112,9 +101,7 @@ module _ (nfa : Automaton) (x : Search) (old : List Bool) (wants : Pair → Bool
 
   First-held : (limit : ℕ) (p : List Pair) → First limit p
       → IsFirstTo (edges nfa x) (starts nfa x) (WantedBefore (IsInsertable nfa x (length old)) limit) p
-  First-held limit p = IsFirstTo-along (edges nfa x) (starts nfa x) _ _
-      (λ v w. record { wanted = (tells v).0 w.wanted; before = w.before })
-      (λ v w. record { wanted = (tells v).1 w.wanted; before = w.before })
+  First-held limit p = search (rules, IsFirstTo-along)
 
   held-First : (limit : ℕ) (p : List Pair)
       → IsFirstTo (edges nfa x) (starts nfa x) (WantedBefore (IsInsertable nfa x (length old)) limit) p → First limit p
@@ -143,16 +130,9 @@ module _ (nfa : Automaton) (x : Search) (old : List Bool) (wants : Pair → Bool
       of None None none is = λ m p w h. none m p w (is_before wants limit m h)
       of (Some a) None none is = cc
       of None (Some p) first is =
-          let end = found-end (capture nfa) first.end p slots first.path.ends in
-          let never : Some (first.end, apply (capture nfa) p slots) ≡ None = sym end ∙ is in cc
+          (grind (arith, found-end))
       of (Some a) (Some p) first is =
-          let end = found-end (capture nfa) first.end p slots first.path.ends in
-          let here : first.end ≡ a.0 = (same_parts (first.end, apply (capture nfa) p slots) a (sym end ∙ is)).0 in (
-            p,
-            IsFirstTo-along (edges nfa x) (starts nfa x) (Passes (before_target wants limit))
-                (WantedBefore (Passes wants) limit) (before_is wants limit) (is_before wants limit) first,
-            EndsWith-last None first.end p first.path.ends ∙ ap Some here,
-          )
+          search (rules, EndsWith-last, IsFirstTo-along, before_is, found-end, is_before, same_parts)
 
   Best-start : Best x.start None
   Best-start = NoneBefore-start (space nfa x) (is_resting nfa) wants [] (wanted-shape nfa x old wants tells) x.start
@@ -162,8 +142,7 @@ module _ (nfa : Automaton) (x : Search) (old : List Bool) (wants : Pair → Bool
   Best-pattern : (limit : ℕ) (a : Pair × Slots) → Best limit (Some a) → (p : List Pair) → First limit p
       → path_pattern nfa p ≡ pattern_at nfa a.0
   Best-pattern limit a best p first =
-      let same : best.0 ≡ p = IsFirstTo-unique (edges nfa x) (starts nfa x) (WantedBefore (Passes wants) limit) best.0 p
-      best.1 first in
+      let same : best.0 ≡ p = (search (rules, IsFirstTo-unique)) in
       ap (path_pattern nfa) (sym same) ∙ ends-pattern nfa best.0 a.0 best.2
 
   -- The set holds the patterns of the first paths before each limit up to e. The last of these is what was found.
@@ -179,11 +158,7 @@ module _ (nfa : Automaton) (x : Search) (old : List Bool) (wants : Pair → Bool
     sound = λ k h. absurd (size-none old empty k h);
     complete = λ limit below p first k is.
         absurd (Best-start first.end p first.path
-        (record {
-          wanted = first.wanted.wanted;
-          before = let l : first.end.1 < limit =
-              first.wanted.before in omega arith;
-        }));
+        (grind arith));
   }
 
   -- as long as nothing else is found
@@ -231,8 +206,7 @@ module _ (nfa : Automaton) (x : Search) (old : List Bool) (wants : Pair → Bool
               let at : limit ≡ e + 1 = omega arith in
               let both : Some k ≡ Some j =
               sym pattern_is ∙ sym (Best-pattern (e + 1) a best p (subst (λ n. First n p) at first)) ∙ is in
-              let same : k ≡ j = same_some k j both in
-              inr (subst (λ n. n < length mid) same below, same)
+              grind arith
         ]));
   }
 

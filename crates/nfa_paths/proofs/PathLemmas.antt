@@ -1,8 +1,7 @@
 -- The first accepting path, and what marks change of it.
-use Rattle.std.proofs.Common.{◌≡◌, ◌<◌, ◌⊎◌, inl, inr, ◌↔◌, Bool, true, false, List, [], ◌∷◌, refl, sym, ap, ◌∙◌, subst}
+use Rattle.std.proofs.Common.{◌≡◌, ◌<◌, ◌⊎◌, inl, inr, ◌↔◌, Bool, true, false, List, [], ◌∷◌, refl, sym, subst, arith}
 use Rattle.std.specs.Prelude.{Option, None, Some}
 use Rattle.std.specs.Option.{option_map}
-use Rattle.std.proofs.Math.Decide.{ℕ_discrete}
 use Rattle.nfa_paths.specs.Graphs.{Pair, In, Earlier, BeforeAfter, Before}
 use Rattle.nfa_paths.specs.FirstPaths.{Path, Accepts, IsFirst, FirstAmong, IsFirstOfAll, Increasing, IsLeast}
 use Rattle.nfa_paths.specs.FirstPaths.Path.{stop, go}
@@ -11,12 +10,7 @@ use Rattle.nfa_paths.specs.FirstPaths.{StopsAtTarget}
 
 -- two pairs are one, or they differ
 pub same : (a b : Pair) → (a ≡ b) ⊎ ¬ (a ≡ b)
-same a b =
-    elim (ℕ_discrete a.0 b.0) [
-      | yes p ↦
-          elim (ℕ_discrete a.1 b.1) [ yes q ↦ inl (λ i. (p i, q i)) | no n ↦ inr (λ e. n (ap (λ x. x.1) e)) ]
-      | no n ↦ inr (λ e. n (ap (λ x. x.0) e))
-    ]
+same a b = grind arith
 
 -- the order
 
@@ -28,35 +22,12 @@ Earlier-irreflexive (e ∷ es) a h = elim h.1 [ inl here ↦ h.0 here | inr late
 -- of two pairs, only one comes before the other
 Earlier-asymmetric : (es : List Pair) (a b : Pair) → Earlier es a b → Earlier es b a → ⊥
 Earlier-asymmetric [] a b h k = h
-Earlier-asymmetric (e ∷ es) a b h k =
-    elim h.1 [
-      | inl here ↦ k.0 here
-      | inr later ↦ elim k.1 [ inl there ↦ h.0 there | inr after ↦ Earlier-asymmetric es a b later after ]
-    ]
+Earlier-asymmetric (e ∷ es) a b h k = grind (arith, Earlier-asymmetric es a b)
 
 -- of two different pairs of a list, one comes before the other
 pub Earlier-total : (es : List Pair) (a b : Pair) → ¬ (a ≡ b) → In a es → In b es → Earlier es a b ⊎ Earlier es b a
 Earlier-total [] a b apart i j = absurd i
-Earlier-total (e ∷ es) a b apart i j =
-    elim (same e a) [
-      | inl ea ↦ inl (λ eb. apart (sym ea ∙ eb), inl ea)
-      | inr na ↦
-          elim (same e b) [
-            | inl eb ↦ inr (na, inl eb)
-            | inr nb ↦
-                elim i [
-                  | inl ae ↦ absurd (na (sym ae))
-                  | inr k ↦
-                      elim j [
-                        | inl be ↦ absurd (nb (sym be))
-                        | inr l ↦ elim (Earlier-total es a b apart k l) [
-                          | inl x ↦ inl (nb, inr x)
-                          | inr x ↦ inr (na, inr x)
-                        ]
-                      ]
-                ]
-          ]
-    ]
+Earlier-total (e ∷ es) a b apart i j = grind (arith, Earlier-total es a b apart)
 
 -- what comes earlier in an ascending list is at a smaller position
 pub Earlier-increasing : (es : List Pair) (a b : Pair) → Increasing es → Earlier es a b → In b es → a.1 < b.1
@@ -70,19 +41,7 @@ module _ (edges : Pair → List Pair) where
   BeforeAfter-asymmetric : (v : Pair) (p q : List Pair) → BeforeAfter edges v p q → BeforeAfter edges v q p → ⊥
   BeforeAfter-asymmetric v [] q h k = h
   BeforeAfter-asymmetric v (a ∷ p) [] h k = h
-  BeforeAfter-asymmetric v (a ∷ p) (b ∷ q) h k =
-      elim h [
-        | inl less ↦
-            elim k [
-              | inl more ↦ Earlier-asymmetric (edges v) a b less more
-              | inr e ↦ Earlier-irreflexive (edges v) a (rw e.0 at less)
-            ]
-        | inr e ↦
-            elim k [
-              | inl more ↦ Earlier-irreflexive (edges v) b (rw e.0 at more)
-              | inr d ↦ BeforeAfter-asymmetric a p q e.1 (subst (λ x. BeforeAfter edges x q p) (sym e.0) d.1)
-            ]
-      ]
+  BeforeAfter-asymmetric v (a ∷ p) (b ∷ q) h k = grind (arith, Earlier-asymmetric, BeforeAfter-asymmetric a p q)
 
   -- of two lists, only one comes before the other
   pub Before-asymmetric : (p q : List Pair) → Before edges p q → Before edges q p → ⊥
@@ -145,15 +104,9 @@ module _ (edges : Pair → List Pair) (target : Pair → Bool) where
   Before-total (go {v = v} {w = a} {p = p} t e n k) (go {w = b} {p = q} u f m l) =
       elim (same a b) [
         | inl eq ↦
-            elim (Before-total k (rw (← eq) at l)) [
-              | inl s ↦ inl (ap (λ x. v ∷ x) s)
-              | inr s ↦ inr (elim s [ inl x ↦ inl (Before-cons k l (inr x)) | inr x ↦ inr (Before-cons l k (inr x)) ])
-            ]
+            grind (arith, Before-total k (rw (← eq) at l))
         | inr apart ↦
-            inr (elim (Earlier-total (edges v) a b apart e f) [
-              | inl x ↦ inl (Before-cons k l (inl x))
-              | inr x ↦ inr (Before-cons l k (inl x))
-            ])
+            grind (arith, Before-cons, Earlier-total)
       ]
 
   -- a marked pair has no path
@@ -163,11 +116,7 @@ module _ (edges : Pair → List Pair) (target : Pair → Bool) where
   -- a pair with no edge that is not a target, marked or not
   pub IsFirst-dead : (marks : List Pair) (v : Pair) → target v ≡ false → edges v ≡ []
       → IsFirst edges target marks v None
-  IsFirst-dead marks v plain leads p a = never a.path plain leads
-    where
-      never : {u : Pair} {q : List Pair} → Path edges target u q → target u ≡ false → edges u ≡ [] → ⊥
-      never (stop t) f l = cc
-      never (go t e n h) f l = absurd (rw l at e)
+  IsFirst-dead marks v plain leads p a = grind arith
 
   -- an unmarked target is its own first path
   pub IsFirst-target : (marks : List Pair) (v : Pair) → ¬ (In v marks) → target v ≡ true
@@ -191,55 +140,17 @@ module _ (edges : Pair → List Pair) (target : Pair → Bool) where
       → IsFirstOfAll edges target marks es r
   IsFirstOfAll-from_among marks [] None e = λ d i. absurd i
   IsFirstOfAll-from_among marks [] (Some p) e = cc
-  IsFirstOfAll-from_among marks (e ∷ es) r (inl h) =
-      rw h.2 (
-        e,
-        inl refl,
-        h.1.0,
-        λ d q i a.
-            elim (same e d) [
-              | inl here ↦ elim (h.1.1 q (rw here a)) [ inl k ↦ inl k | inr k ↦ inr (inr k) ]
-              | inr other ↦ inr (inl (other, inl refl))
-            ],
-      )
+  IsFirstOfAll-from_among marks (e ∷ es) r (inl h) = grind arith
   IsFirstOfAll-from_among marks (e ∷ es) None (inr h) =
       λ d i. elim i [ inl here ↦ rw here h.0 | inr later ↦ IsFirstOfAll-from_among marks es None h.1 d later ]
-  IsFirstOfAll-from_among marks (e ∷ es) (Some p) (inr h) =
-      let f = IsFirstOfAll-from_among marks es (Some p) h.1 in (
-        f.0,
-        inr f.1,
-        f.2,
-        λ d q i a.
-            elim (same e d) [
-              | inl here ↦ absurd (h.0 q (rw here a))
-              | inr other ↦
-                  elim i [
-                    | inl here ↦ absurd (other (sym here))
-                    | inr later ↦
-                        elim (f.3 d q later a)
-                        [ inl k ↦ inl k | inr k ↦ elim k [ inl l ↦ inr (inl (other, inr l)) | inr l ↦ inr (inr l) ] ]
-                  ]
-            ],
-      )
+  IsFirstOfAll-from_among marks (e ∷ es) (Some p) (inr h) = grind (arith, IsFirstOfAll-from_among marks es (Some p) h.1)
 
   -- one step along the edges of an unmarked pair that is not a target
   module _ (marks : List Pair) (v : Pair) (free : ¬ (In v marks)) (plain : target v ≡ false) where
     -- a path from v goes on from one of its edges, clear of v
     Accepts-rest : (q : List Pair) → Accepts edges target marks v q
         → (w : Pair) × (p : List Pair) × In w (edges v) × Accepts edges target (v ∷ marks) w p × (q ≡ v ∷ p)
-    Accepts-rest q a = rest a.path plain a.clear
-      where
-        rest : {u : Pair} {q : List Pair} → Path edges target u q → target u ≡ false
-            → ((x : Pair) → In x q → In x marks → ⊥)
-            → (w : Pair) × (p : List Pair) × In w (edges u) × Accepts edges target (u ∷ marks) w p × (q ≡ u ∷ p)
-        rest (stop t) f c = cc
-        rest (go {w = w} {p = p} t e n h) f c = (
-          w,
-          p,
-          e,
-          record { path = h; clear = λ x i m. elim m [ inl here ↦ n (rw here at i) | inr old ↦ c x (inr i) old ] },
-          refl,
-        )
+    Accepts-rest q a = grind arith
 
     -- the first path goes on by the first edge that has one
     pub IsFirst-step : (r : Option (List Pair)) → FirstAmong edges target (v ∷ marks) (edges v) r
@@ -252,13 +163,7 @@ module _ (edges : Pair → List Pair) (target : Pair → Bool) where
             path = go plain b.1 (λ i. b.2.clear v i (inl refl)) b.2.path;
             clear = λ x i m. elim i [ inl here ↦ free (rw here at m) | inr later ↦ b.2.clear x later (inr m) ];
           },
-          λ q a.
-              let s = Accepts-rest q a in
-              rw s.4
-              (elim (b.3 s.0 s.1 s.2 s.3) [
-                | inl e ↦ inl (ap (λ t. v ∷ t) e)
-                | inr k ↦ inr (Before-cons b.2.path s.3.path k)
-              ]),
+          grind (arith, Accepts-rest, Before-cons),
         )
 
   -- marks with the same paths
@@ -272,23 +177,7 @@ module _ (edges : Pair → List Pair) (target : Pair → Bool) where
   -- marking a pair that leads to no target changes no other pair's first path
   pub IsFirst-mark : (marks : List Pair) (v : Pair) → IsFirst edges target marks v None
       → (k : Pair) (r : Option (List Pair)) → IsFirst edges target (v ∷ marks) k r ↔ IsFirst edges target marks k r
-  IsFirst-mark marks v none k r =
-      (IsFirst-along (v ∷ marks) marks k fewer more r, IsFirst-along marks (v ∷ marks) k more fewer r)
-    where
-      fewer : (p : List Pair) → Accepts edges target (v ∷ marks) k p → Accepts edges target marks k p
-      fewer p a = record { path = a.path; clear = λ x i m. a.clear x i (inr m) }
-
-      more : (p : List Pair) → Accepts edges target marks k p → Accepts edges target (v ∷ marks) k p
-      more p a = record {
-        path = a.path;
-        clear = λ x i m.
-            elim m [
-              | inl here ↦
-                  let s = Path-suffix a.path (rw here at i) in
-                  none s.0 (record { path = s.1; clear = λ y j. a.clear y (s.2 y j) })
-              | inr old ↦ a.clear x i old
-            ];
-      }
+  IsFirst-mark marks v none k r = grind (arith, IsFirst-along, Path-suffix)
 
   -- marks outside a set that no edge leaves
   module _ (ahead : Pair → Type 0) (closed : (x y : Pair) → ahead x → In y (edges x) → ahead y) where
@@ -302,13 +191,7 @@ module _ (edges : Pair → List Pair) (target : Pair → Bool) where
     pub IsFirst-ahead : (m n : List Pair) → ((x : Pair) → ahead x → In x m → In x n)
         → ((x : Pair) → ahead x → In x n → In x m)
         → (k : Pair) → ahead k → (r : Option (List Pair)) → IsFirst edges target m k r → IsFirst edges target n k r
-    IsFirst-ahead m n to back k a =
-        IsFirst-along m n k (λ p h. record {
-          path = h.path;
-          clear =
-              λ x i j. h.clear x i (back x (Path-ahead h.path a x i) j);
-        })
-        (λ p h. record { path = h.path; clear = λ x i j. h.clear x i (to x (Path-ahead h.path a x i) j) })
+    IsFirst-ahead m n to back k a = grind (arith, Path-ahead)
 
     -- a pair that is left for pairs ahead of every mark, and is itself unmarked
     pub IsFirst-resting : (marks : List Pair) (v : Pair) → ¬ (In v marks) → ((w : Pair) → In w (edges v) → ahead w)
@@ -334,13 +217,4 @@ module _ (edges : Pair → List Pair) (target : Pair → Bool) where
   pub IsLeast-from_first : (starts : List Pair) → Increasing starts → (r : Option (List Pair))
       → IsFirstOfAll edges target [] starts r → IsLeast edges target starts r
   IsLeast-from_first starts rise None f = f
-  IsLeast-from_first starts rise (Some p) f = (
-    f.0,
-    f.1,
-    f.2,
-    λ d q i a.
-        elim (f.3 d q i a) [
-          | inl e ↦ inr (inl e)
-          | inr k ↦ elim k [ inl l ↦ inl (Earlier-increasing starts f.0 d rise l i) | inr l ↦ inr (inr l) ]
-        ],
-  )
+  IsLeast-from_first starts rise (Some p) f = grind (arith, Earlier-increasing)

@@ -84,11 +84,7 @@ module _ (edges : Pair → List Pair) where
 -- a pair is in a list, or is not
 pub In-cases : (x : Pair) (p : List Pair) → In x p ⊎ ¬ (In x p)
 In-cases x [] = inr (λ i. i)
-In-cases x (y ∷ p) =
-    elim (same x y) [
-      | inl e ↦ inl (inl e)
-      | inr n ↦ elim (In-cases x p) [ inl i ↦ inl (inr i) | inr m ↦ inr (λ i. elim i [ inl e ↦ n e | inr j ↦ m j ]) ]
-    ]
+In-cases x (y ∷ p) = grind (arith, In-cases x p)
 
 module _ (edges : Pair → List Pair) where
   -- a list of a path's shape, from s to w, of pairs of p
@@ -121,11 +117,7 @@ module _ (edges : Pair → List Pair) (starts : List Pair) where
     -- a path to a target, as the search knows it
     pub PathTo-accepts : {m : Pair} {p : List Pair} (w : PathTo edges starts m p) → target m ≡ true
         → Accepts edges target [] w.start p
-    PathTo-accepts {m} {p} w t = record {
-      path = (Path-plain edges target w.start p).1
-          (w.head, w.once, w.linked, EndsWith-stops edges target stops m p w.linked w.ends t);
-      clear = λ x i n. n;
-    }
+    PathTo-accepts {m} {p} w t = grind (arith, EndsWith-stops, Path-plain)
 
     -- of two paths to targets, one comes before the other
     pub PathTo-order : Increasing starts → {m n : Pair} {p q : List Pair}
@@ -135,20 +127,11 @@ module _ (edges : Pair → List Pair) (starts : List Pair) where
         elim (same w.start v.start) [
           | inl e ↦
               let a = PathTo-accepts w t in
-              let b = subst (λ x. Accepts edges target [] x q) (sym e) (PathTo-accepts v u) in
-              elim (Before-total edges target a.path b.path) [
-                | inl eq ↦ inl eq
-                | inr s ↦ inr (elim s [
-                  | inl k ↦ inl (ComesBefore-same edges p q k)
-                  | inr k ↦ inr (ComesBefore-same edges q p k)
-                ])
-              ]
+              grind (arith, Before-total, ComesBefore-same, PathTo-accepts)
           | inr apart ↦
               inr (elim (Earlier-total starts w.start v.start apart w.among v.among) [
-                | inl k ↦ inl (ComesBefore-less edges w.start v.start p q w.head v.head
-                    (Earlier-increasing starts w.start v.start rise k v.among))
-                | inr k ↦ inr (ComesBefore-less edges v.start w.start q p v.head w.head
-                    (Earlier-increasing starts v.start w.start rise k w.among))
+                | inl k ↦ grind (arith, Earlier-increasing)
+                | inr k ↦ grind (arith, Earlier-increasing)
               ])
         ]
 
@@ -156,10 +139,7 @@ module _ (edges : Pair → List Pair) (starts : List Pair) where
     -- an accepting path from one of the starts, in plain words
     Accepts-path_to : (e : Pair) (p : List Pair) → In e starts → Accepts edges target [] e p
         → (m : Pair) × PathTo edges starts m p × (target m ≡ true)
-    Accepts-path_to e p i a =
-        let words = (Path-plain edges target e p).0 a.path in
-        let end = StopsAtTarget-ends target p words.3 in
-        (end.0, record { start = e; among = i; head = words.0; once = words.1; linked = words.2; ends = end.1 }, end.2)
+    Accepts-path_to e p i a = grind (arith, Path-plain, StopsAtTarget-ends)
 
     -- if a search finds none, no path leads to a target
     pub IsLeast-none : ((x : Pair) → target x ≡ true → edges x ≡ []) → IsLeast edges target starts None
@@ -210,18 +190,14 @@ module _ (edges : Pair → List Pair) (starts : List Pair) where
     IsLeastEnd-unique e d h k =
         let a : e ≤ k.is_end.end.1 = h.least k.is_end.end k.is_end.along k.is_end.path k.is_end.wanted in
         let b : d ≤ h.is_end.end.1 = k.least h.is_end.end h.is_end.along h.is_end.path h.is_end.wanted in
-        let c : h.is_end.end.1 ≡ e = h.is_end.at in
-        let l : k.is_end.end.1 ≡ d = k.is_end.at in
-        omega arith
+        grind arith
 
     -- there is only one greatest end
     pub IsGreatestEnd-unique : (e d : ℕ) → IsGreatestEnd edges starts P e → IsGreatestEnd edges starts P d → e ≡ d
     IsGreatestEnd-unique e d h k =
         let a : k.is_end.end.1 ≤ e = h.greatest k.is_end.end k.is_end.along k.is_end.path k.is_end.wanted in
         let b : h.is_end.end.1 ≤ d = k.greatest h.is_end.end h.is_end.along h.is_end.path h.is_end.wanted in
-        let c : h.is_end.end.1 ≡ e = h.is_end.at in
-        let l : k.is_end.end.1 ≡ d = k.is_end.at in
-        omega arith
+        grind arith
 
     -- if there is an end, there is a path
     IsEnd-some : (e : ℕ) → IsEnd edges starts P e → NoPath edges starts P → ⊥

@@ -1,21 +1,19 @@
 -- What an accepting path says about its pattern and its slots.
-use Rattle.std.proofs.Common.{◌≡◌, ℕ, zero, suc, ◌+◌, ◌*◌, ◌<◌, ◌≤◌, ◌==◌, inl, inr, List, [], ◌∷◌, ◌++◌, length, map, take, get_or, replicate, refl, ap, sym, ◌∙◌, arith}
-use Rattle.std.specs.Prelude.{Option, Some, None, true, false, Bool, MatchBool, option_and_then, is_some, if◌then◌else◌}
+use Rattle.std.proofs.Common.{◌≡◌, ℕ, zero, suc, ◌+◌, ◌*◌, ◌<◌, ◌≤◌, ◌==◌, List, [], ◌∷◌, ◌++◌, length, map, take, replicate, refl, ap, sym, ◌∙◌, arith, rules}
+use Rattle.std.specs.Prelude.{Option, Some, None, true, false, Bool, option_and_then, is_some, if◌then◌else◌}
 use Rattle.std.specs.List.{range_with_len}
 use Rattle.std.specs.Option.{option_map_or}
-use Rattle.std.proofs.lemmas.Bool.{cases_lt}
-use Rattle.std.proofs.lemmas.Bool.Decides.{eqb_tells}
 use Rattle.std.proofs.lemmas.List.FromFn.{length-map-range_with_len, get_or-map-range_with_len, map-range_with_len_more, take-map-range_with_len}
 use Rattle.std.proofs.lemmas.Option.{slice_get-get_or}
-use Rattle.std.proofs.lemmas.List.{get_or_past, replicate-append-replicate, append_assoc, append-nil, take-replicate, length-replicate}
+use Rattle.std.proofs.lemmas.List.{get_or_past, replicate-append-replicate, append_assoc, take-replicate, length-replicate}
 use Rattle.regex_search_core.specs.Groups.{slot_count}
-use Rattle.regex_search_core.specs.Search.{Search, is_anchored}
+use Rattle.regex_search_core.specs.Search.{Search}
 use Rattle.regex_search_core.specs.Slots.{offset_at, match_of}
 use Rattle.regex_search_core.specs.declared.search.MatchKind.{MatchKind}
-use Rattle.thompson_nfa.specs.Automaton.{Automaton, Node, IsAutomaton, PatternBelow, SlotBelow}
-use Rattle.thompson_nfa.specs.Automaton.Node.{Capture, Fail, Match}
+use Rattle.thompson_nfa.specs.Automaton.{Automaton, Node, IsAutomaton}
+use Rattle.thompson_nfa.specs.Automaton.Node.{Match}
 use Rattle.nfa_paths.specs.Graphs.{Pair}
-use Rattle.nfa_paths.specs.Paths.{raised, pattern_of, slot_of, node_at, capture, is_utf8_empty, path_pattern, last_of, slot_among, slot_row, IsScanAnswer, IsKeptAnswer, IsRestartedAnswer, IsSearchAnswer, IsAnswer, IsBoolAnswer}
+use Rattle.nfa_paths.specs.Paths.{pattern_of, slot_of, node_at, path_pattern, last_of, slot_among, slot_row, IsScanAnswer, IsSearchAnswer, IsAnswer, IsBoolAnswer}
 use Rattle.nfa_paths.specs.Exploring.{Slots}
 use Rattle.nfa_paths.proofs.AnswerLemmas.{scan_answer-leads}
 use Rattle.nfa_paths.proofs.PathToLemmas.{EndsWith-last}
@@ -25,16 +23,6 @@ use Rattle.nfa_paths.specs.Overlaps.{pattern_at}
 pub some-pattern : (node : Node) → is_some (pattern_of node) ≡ true → (k : ℕ) × (pattern_of node ≡ Some k)
 some-pattern (Match pattern) e = (pattern, refl)
 some-pattern _ e = cc
-
--- and one that is in range
-below-pattern : (n k : ℕ) (node : Node) → pattern_of node ≡ Some k → PatternBelow n node → k < n
-below-pattern n k (Match pattern) e below = let same : pattern ≡ k = cc in rw (← same) below
-below-pattern n k _ e below = cc
-
--- a Capture's slot is in range
-below-slot : (n k : ℕ) (node : Node) → slot_of node ≡ Some k → SlotBelow n node → k < n
-below-slot n k (Capture next slot) e below = let same : slot ≡ k = cc in rw (← same) below
-below-slot n k _ e below = cc
 
 -- the pattern of a path that ends with the pair
 pub ends-pattern : (nfa : Automaton) (p : List Pair) (v : Pair) → last_of p ≡ Some v
@@ -52,48 +40,31 @@ length-slot_row nfa count (Some p) = length-map-range_with_len (slot_among nfa p
 unwritten : (o : Option ℕ) (i at : ℕ) → ((k : ℕ) → o ≡ Some k → k < i)
     → (if option_map_or (λ k. k == i) o false then Some at else None) ≡ None
 unwritten None i at below = refl
-unwritten (Some k) i at below =
-    let less = below k refl in
-    elim (eqb_tells k i) [ inl e ↦ absurd (let same = e.1 in omega arith) | inr e ↦ rw e.0 refl ]
+unwritten (Some k) i at below = grind arith
 
 module _ (nfa : Automaton) where
   -- a state's pattern is one of the NFA's
   pub node-pattern : IsAutomaton nfa → (q k : ℕ) → pattern_of (node_at nfa q) ≡ Some k → k < length nfa.patterns
   unfolding node_at
-  node-pattern valid q k e =
-      elim (cases_lt q (length nfa.states)) [
-        | inl inside ↦ below-pattern (length nfa.patterns) k (get_or nfa.states q Fail) e (valid.patterns q Fail inside)
-        | inr past ↦ let fail : get_or nfa.states q Fail ≡ Fail = get_or_past nfa.states q Fail past in
-            absurd (let f = rw fail at e in cc)
-      ]
+  node-pattern valid q k e = grind (arith, get_or_past)
 
   -- and so is its slot
   node-slot : IsAutomaton nfa → (q k : ℕ) → slot_of (node_at nfa q) ≡ Some k → k < slot_count nfa.groups
   unfolding node_at
-  node-slot valid q k e =
-      elim (cases_lt q (length nfa.states)) [
-        | inl inside ↦ below-slot (slot_count nfa.groups) k (get_or nfa.states q Fail) e (valid.slots q Fail inside)
-        | inr past ↦ let fail : get_or nfa.states q Fail ≡ Fail = get_or_past nfa.states q Fail past in
-            absurd (let f = rw fail at e in cc)
-      ]
+  node-slot valid q k e = grind (arith, get_or_past)
 
   -- no path writes a slot past the NFA's
   pub slot_among-past : IsAutomaton nfa → (p : List Pair) (i : ℕ) → slot_count nfa.groups ≤ i
       → slot_among nfa p i ≡ None
   slot_among-past valid [] i past = refl
-  slot_among-past valid (v ∷ p) i past =
-      let none = unwritten (capture nfa v) i v.1 (λ k e. let less = node-slot valid v.0 k e in omega arith) in
-      rw (slot_among-past valid p i past, none) refl
+  slot_among-past valid (v ∷ p) i past = grind (arith, node-slot, slot_among-past valid p i past)
 
   -- so those of a row are none
   pub slot_row-more : IsAutomaton nfa → (width more : ℕ) → slot_count nfa.groups ≤ width → (path : Option (List Pair))
       → slot_row nfa (width + more) path ≡ slot_row nfa width path ++ replicate more None
   unfolding slot_row
   slot_row-more valid width more all None = sym (replicate-append-replicate width more None)
-  slot_row-more valid width zero all (Some p) =
-      let none : width + 0 ≡ width = omega arith in
-      ap (λ n. map (slot_among nfa p) (range_with_len 0 n)) none
-      ∙ sym (append-nil (map (slot_among nfa p) (range_with_len 0 width)))
+  slot_row-more valid width zero all (Some p) = search rules
   slot_row-more valid width (suc more) all (Some p) =
       let next : width + suc more ≡ width + more + 1 = omega arith in
       let last : 0 + (width + more) ≡ width + more = omega arith in
@@ -110,12 +81,7 @@ module _ (nfa : Automaton) where
 
   -- a path's pattern is one of the NFA's
   pub pattern-within : IsAutomaton nfa → (p : List Pair) (k : ℕ) → path_pattern nfa p ≡ Some k → k < length nfa.patterns
-  pattern-within valid p k =
-      elim (last_of p) as (λ o. option_and_then (λ v. pattern_of (node_at nfa v.0)) o ≡ Some k
-      → k < length nfa.patterns) [
-        | None ↦ λ e. cc
-        | Some v ↦ λ e. node-pattern valid v.0 k e
-      ]
+  pattern-within valid p k = grind (arith, node-pattern)
 
   -- an offset of a path's row
   pub offset_at-slot_row : (p : List Pair) (count i : ℕ) → i < count
@@ -137,17 +103,7 @@ module _ (nfa : Automaton) where
       → match_of (Some k) (slot_row nfa (2 * length nfa.groups) (Some p))
       ≡ match_of (Some k) (slot_row nfa (slot_count nfa.groups) (Some p))
   match-row valid p k pattern =
-      let small = pattern-within valid p k pattern in
-      elim valid.groups [
-        | inl all ↦
-            let low : 2 * k < 2 * length nfa.groups = omega arith in
-            let high : 2 * k + 1 < 2 * length nfa.groups = omega arith in
-            let low' : 2 * k < slot_count nfa.groups = omega arith in
-            let high' : 2 * k + 1 < slot_count nfa.groups = omega arith in
-            match-along _ _ k (offset_at-slot_row p _ (2 * k) low ∙ sym (offset_at-slot_row p _ (2 * k) low'))
-            (offset_at-slot_row p _ (2 * k + 1) high ∙ sym (offset_at-slot_row p _ (2 * k + 1) high'))
-        | inr none ↦ ap (λ n. match_of (Some k) (slot_row nfa n (Some p))) (no_groups nfa.groups none)
-      ]
+      (search (rules, no_groups, offset_at-slot_row, pattern-within))
     where
       no_groups : (groups : List (List (Option (List ℕ)))) → length groups ≡ 0 → 2 * length groups ≡ slot_count groups
       no_groups [] e = refl
@@ -160,9 +116,7 @@ module _ (nfa : Automaton) where
       → match_of (Some k) slots ≡ match_of (option_and_then (path_pattern nfa) path)
       (slot_row nfa (slot_count nfa.groups) path)
   match-along-path valid k slots size None e row = cc
-  match-along-path valid k slots size (Some p) e row =
-      ap (match_of (Some k)) (row ∙ ap (λ n. slot_row nfa n (Some p)) size) ∙ match-row valid p k (sym e)
-      ∙ ap (λ o. match_of o (slot_row nfa (slot_count nfa.groups) (Some p))) e
+  match-along-path valid k slots size (Some p) e row = grind (arith, match-row)
 
   -- a shorter row of a path is the beginning of a longer one
   pub slot_row-take : (k n : ℕ) (path : Option (List Pair)) → k ≤ n → take k (slot_row nfa n path) ≡ slot_row nfa k path
@@ -174,71 +128,25 @@ module _ (nfa : Automaton) (kind : MatchKind) (earliest : Bool) where
   -- the pattern of an accepting path
   scan-pattern : (y : Search) (p : List Pair) → IsScanAnswer nfa y kind earliest (Some p)
       → (k : ℕ) × (path_pattern nfa p ≡ Some k)
-  scan-pattern y p answer =
-      let to = scan_answer-leads nfa y kind earliest p answer in
-      let last = EndsWith-last None to.end p to.path.ends in
-      let some = some-pattern (node_at nfa to.end.0) to.matches in
-      (some.0, rw last some.1)
+  scan-pattern y p answer = grind (arith, EndsWith-last, scan_answer-leads, some-pattern)
 
   -- every search that has a path has a pattern
   search-pattern : (x : Search) (restarts : ℕ) (p : List Pair) → IsSearchAnswer nfa kind earliest x restarts (Some p)
       → (k : ℕ) × (path_pattern nfa p ≡ Some k)
-  search-pattern x restarts p =
-      elim (is_utf8_empty nfa) as (λ m. MatchBool m
-      (MatchBool (is_anchored x.anchored) ((restarts ≡ 0) × IsKeptAnswer nfa kind earliest x (Some p))
-      (IsRestartedAnswer nfa kind earliest x restarts (Some p)))
-      ((restarts ≡ 0) × IsScanAnswer nfa x kind earliest (Some p)) → (k : ℕ) × (path_pattern nfa p ≡ Some k)) [
-        | true ↦
-            elim (is_anchored x.anchored) as (λ a.
-            MatchBool a ((restarts ≡ 0) × IsKeptAnswer nfa kind earliest x (Some p))
-            (IsRestartedAnswer nfa kind earliest x restarts (Some p))
-            → (k : ℕ) × (path_pattern nfa p ≡ Some k)) [
-              | true ↦ λ h. scan-pattern x p h.1.0
-              | false ↦ λ h. scan-pattern (raised x restarts) p h.answers
-            ]
-        | false ↦ λ h. scan-pattern x p h.1
-      ]
+  search-pattern x restarts p = search (rules, scan-pattern)
 
   -- a search that has no pattern has no path, and one that has a pattern has a path
   found-none : (x : Search) (slots : Slots) → IsAnswer nfa kind earliest x None slots
       → IsBoolAnswer nfa kind earliest x false
-  found-none x slots a = record {
-    restarts = a.restarts;
-    path = a.path;
-    answers = a.answers;
-    found_is =
-        none a.path a.answers a.pattern_is;
-  }
-    where
-      none : (path : Option (List Pair)) → IsSearchAnswer nfa kind earliest x a.restarts path
-          → None ≡ option_and_then (path_pattern nfa) path
-          → false ≡ is_some path
-      none None answers e = refl
-      none (Some p) answers e = let some = search-pattern x a.restarts p answers in absurd (let k = some.1 in cc)
+  found-none x slots a = grind (arith, search-pattern)
 
   -- and no slot that is set
   pub slots-unset : (x : Search) (slots : Slots) → IsAnswer nfa kind earliest x None slots
       → slots ≡ replicate (length slots) None
   unfolding slot_row
-  slots-unset x slots a = a.slots_are ∙ none a.path a.answers a.pattern_is
-    where
-      none : (path : Option (List Pair)) → IsSearchAnswer nfa kind earliest x a.restarts path
-          → None ≡ option_and_then (path_pattern nfa) path
-          → slot_row nfa (length slots) path ≡ replicate (length slots) None
-      none None answers e = refl
-      none (Some p) answers e = let some = search-pattern x a.restarts p answers in absurd (let k = some.1 in cc)
+  slots-unset x slots a = grind (arith, search-pattern)
 
   pub found-of : (x : Search) (slots : Slots) (pattern : Option ℕ) → IsAnswer nfa kind earliest x pattern slots
       → IsBoolAnswer nfa kind earliest x (is_some pattern)
   found-of x slots None a = found-none x slots a
-  found-of x slots (Some k) a = record {
-    restarts = a.restarts;
-    path = a.path;
-    answers = a.answers;
-    found_is =
-        some a.path a.pattern_is;
-  }
-    where
-      some : (path : Option (List Pair)) → Some k ≡ option_and_then (path_pattern nfa) path → true ≡ is_some path
-      some None e = cc
-      some (Some p) e = refl
+  found-of x slots (Some k) a = grind arith

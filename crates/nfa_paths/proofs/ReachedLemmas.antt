@@ -1,5 +1,5 @@
 -- The patterns of the match pairs that are reached, position by position.
-use Rattle.std.proofs.Common.{◌≡◌, ℕ, ◌+◌, ◌≤◌, ◌<◌, ◌⊎◌, ◌↔◌, inl, inr, Bool, true, List, refl, arith}
+use Rattle.std.proofs.Common.{◌≡◌, ℕ, ◌+◌, ◌≤◌, ◌<◌, ◌⊎◌, ◌↔◌, inl, inr, Bool, true, List, refl, arith, rules}
 use Rattle.std.specs.Prelude.{Option}
 use Rattle.std.proofs.lemmas.Bool.{cases_lt}
 use Rattle.nfa_paths.specs.Graphs.{Pair, Space, In, WantedAt}
@@ -12,13 +12,7 @@ use Rattle.nfa_paths.proofs.ScanLemmas.{NoneBefore-start}
 pub IsReached-along : {edges : Pair → List Pair} {starts : List Pair} {P Q : Pair → Type 0}
     {pattern : Pair → Option ℕ} {k : ℕ}
     → ((v : Pair) → P v → Q v) → IsReached edges starts P pattern k → IsReached edges starts Q pattern k
-IsReached-along to r = record {
-  end = r.end;
-  along = r.along;
-  path = r.path;
-  wanted = to r.end r.wanted;
-  pattern_is = r.pattern_is;
-}
+IsReached-along to r = grind arith
 
 module _ (space : Space) (resting is_match : Pair → Bool) (slots : Slots) (shape : Scanned space resting is_match) where
   module _ (pattern : Pair → Option ℕ) (k : ℕ) where
@@ -55,48 +49,18 @@ module _ (space : Space) (resting is_match : Pair → Bool) (slots : Slots) (sha
       λ r.
           elim (cases_lt r.end.1 e) [
             | inl less ↦
-                inl (record {
-                  end = r.end;
-                  along = r.along;
-                  path = r.path;
-                  wanted =
-                      record { wanted = r.wanted.wanted; before = less };
-                  pattern_is = r.pattern_is;
-                })
+                grind arith
             | inr more ↦
                 let b : r.end.1 < e + 1 = r.wanted.before in
-                inr ((IsReached-at f).0 (record {
-                  end = r.end;
-                  along = r.along;
-                  path = r.path;
-                  wanted =
-                      record { wanted = r.wanted.wanted; at = omega arith };
-                  pattern_is = r.pattern_is;
-                }))
+                inr ((IsReached-at f).0 (grind arith))
           ],
       λ s.
           elim s [
             | inl r ↦
-                let b : r.end.1 < e = r.wanted.before in
-                record {
-                  end = r.end;
-                  along = r.along;
-                  path = r.path;
-                  wanted =
-                      record { wanted = r.wanted.wanted; before = omega arith };
-                  pattern_is = r.pattern_is;
-                }
+                grind arith
             | inr a ↦
                 let r = (IsReached-at f).1 a in
-                let b : r.end.1 ≡ e = r.wanted.at in
-                record {
-                  end = r.end;
-                  along = r.along;
-                  path = r.path;
-                  wanted =
-                      record { wanted = r.wanted.wanted; before = omega arith };
-                  pattern_is = r.pattern_is;
-                }
+                grind arith
           ],
     )
 
@@ -105,11 +69,5 @@ module _ (space : Space) (resting is_match : Pair → Bool) (slots : Slots) (sha
         → ReachedBefore space is_match pattern e k ↔ IsReached space.edges space.starts (Passes is_match) pattern k
     ReachedBefore-end ends = (
       λ r. record { end = r.end; along = r.along; path = r.path; wanted = r.wanted.wanted; pattern_is = r.pattern_is },
-      λ r. record {
-        end = r.end;
-        along = r.along;
-        path = r.path;
-        wanted = record { wanted = r.wanted; before = ends r.end r.along r.path r.wanted };
-        pattern_is = r.pattern_is;
-      },
+      λ r. search rules,
     )

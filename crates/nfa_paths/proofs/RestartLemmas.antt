@@ -1,9 +1,8 @@
 -- A search scans. While the answer ends inside a codepoint, it scans again from one byte further on. These lemmas say
 -- what holds at each scan, what the result of the search is, and what its contract says.
-use Rattle.std.proofs.Common.{◌≡◌, ℕ, zero, suc, ◌+◌, ◌*◌, ◌<◌, ◌≤◌, List, length, replicate, refl, ap, sym, ◌∙◌, arith, subst, below_more}
+use Rattle.std.proofs.Common.{◌≡◌, ℕ, zero, suc, ◌+◌, ◌*◌, ◌<◌, ◌≤◌, List, length, replicate, refl, ap, sym, ◌∙◌, arith, subst, below_more, rules}
 use Rattle.std.specs.Prelude.{Option, Some, None, true, false, Bool, MatchBool, IfSome, option_map, option_and_then}
-use Rattle.std.proofs.Math.Nat.{mul-le-mul_left}
-use Rattle.std.proofs.Common.{inl, inr}
+use Rattle.std.proofs.Common.{inr}
 use Rattle.regex_search_core.specs.Boundary.{IsBoundary}
 use Rattle.regex_search_core.specs.Found.{Found, HalfFound, half_found_of}
 use Rattle.regex_search_core.specs.Search.{Search, is_anchored}
@@ -13,8 +12,8 @@ use Rattle.regex_search_core.specs.declared.search.MatchKind.{MatchKind}
 use Rattle.thompson_nfa.specs.Automaton.{Automaton, IsAutomaton}
 use Rattle.nfa_paths.specs.Graphs.{Pair}
 use Rattle.nfa_paths.specs.Exploring.{Slots}
-use Rattle.nfa_paths.specs.Paths.{IsAnswer, IsHalfAnswer, IsFindAnswer, span_len, raised, is_utf8_empty, slot_row, total_degree, max_scans}
-use Rattle.nfa_paths.specs.Paths.{last_of, node_at, path_half, path_pattern, pattern_of}
+use Rattle.nfa_paths.specs.Paths.{IsAnswer, IsHalfAnswer, IsFindAnswer, raised, is_utf8_empty, slot_row, max_scans}
+use Rattle.nfa_paths.specs.Paths.{path_half, path_pattern}
 use Rattle.nfa_paths.specs.Paths.{EndsOnBoundary, SplitsCharacter, IsKeptAnswer, IsRestartedAnswer, IsScanAnswer, IsSearchAnswer, IsWhole, IsWithinScans}
 use Rattle.nfa_paths.specs.Restarts.{max_scan_turns, AreUnset, GivesPath, ScanGives, SearchGives, Restarts}
 use Rattle.nfa_paths.proofs.AnswerLemmas.{ends_on_boundary, split-within_scans, split-bound, one_scan-bound, scan_answer-within}
@@ -25,16 +24,6 @@ use Rattle.nfa_paths.proofs.PatternLemmas.{match-along-path}
 pub slot_row-none : (nfa : Automaton) (count : ℕ) → slot_row nfa count None ≡ replicate count None
 unfolding slot_row
 slot_row-none nfa count = refl
-
--- a scan from further on takes at most as many turns
-max_scan_turns-raised : (nfa : Automaton) (x : Search) (i : ℕ) → max_scan_turns nfa (raised x i) ≤ max_scan_turns nfa x
-max_scan_turns-raised nfa x i =
-    let few : span_len (raised x i) + 1 ≤ span_len x + 1 = omega arith in mul-le-mul_left (1 + total_degree nfa) few
-
--- one more scan, with at most as many turns as each
-turns-more : (limit scans turns extra after : ℕ) → turns ≤ scans * limit → extra ≤ limit → after ≤ turns + extra
-    → after ≤ (scans + 1) * limit
-turns-more limit scans turns extra after h k l = omega arith
 
 -- no restart
 raised-none : (x : Search) → x ≡ raised x 0
@@ -48,9 +37,7 @@ never-some (suc n) some = absurd (some (omega arith))
 -- one restart more
 raised-start : (x y : Search) (i start : ℕ) → y ≡ raised x i → start ≡ y.start + 1
     → record y { start = start } ≡ raised x (i + 1)
-raised-start x y i start is next =
-    let at : start ≡ x.start + (i + 1) = omega (arith, next, ap (λ (z : Search). z.start) is) in
-    rw (is, at) refl
+raised-start x y i start is next = grind arith
 
 module _ (nfa : Automaton) (kind : MatchKind) (earliest : Bool) where
   -- the pattern and the end of what a scan finds are those of the path
@@ -62,12 +49,7 @@ module _ (nfa : Automaton) (kind : MatchKind) (earliest : Bool) where
   module _ (x : Search) where
     -- before the first scan
     pub restarts-begin : (turns : ℕ) → turns ≡ 0 → Restarts nfa kind earliest x x 0 turns
-    restarts-begin turns none = record {
-      is = raised-none x;
-      split = λ i below. absurd (omega arith);
-      free = λ some. absurd (omega arith);
-      turned = omega arith;
-    }
+    restarts-begin turns none = grind arith
 
     module _ (y : Search) (scans turns : ℕ) (s : Restarts nfa kind earliest x y scans turns) where
       -- an answer that counts is the search's
@@ -82,45 +64,27 @@ module _ (nfa : Automaton) (kind : MatchKind) (earliest : Bool) where
           first : (scans ≡ 0) → IsScanAnswer nfa x kind earliest path
           first none = subst (λ z. IsScanAnswer nfa z kind earliest path) (sym (raised-none x)) (rw none at here)
 
-          kept : (path : Option (List Pair)) → IsScanAnswer nfa x kind earliest path → IsWhole x path
-              → IsKeptAnswer nfa kind earliest x path
-          kept None answer on = inl answer
-          kept (Some p) answer on = (answer, on)
-
           of : (utf8 anchored : Bool) → is_utf8_empty nfa ≡ utf8 → is_anchored x.anchored ≡ anchored
               → MatchBool utf8 (MatchBool anchored ((scans ≡ 0) × IsKeptAnswer nfa kind earliest x path)
               (IsRestartedAnswer nfa kind earliest x scans path))
               ((scans ≡ 0) × IsScanAnswer nfa x kind earliest path)
           of true true u a =
-              let once : scans ≡ 0 = never-some scans (λ some. let no = (s.free some).1 in let clash : true ≡ false =
-              sym a ∙ no in cc) in
-              (once, kept path (first once) (whole u))
+              (grind (arith, first))
           of true false u a = record { skipped = s.split; answers = here; whole = whole u }
           of false a u b =
-              let once : scans ≡ 0 = never-some scans (λ some. let no = (s.free some).0 in let clash : false ≡ true =
-              sym u ∙ no in cc) in
-              (once, first once)
+              grind (arith, first)
 
       -- the scan found nothing
       pub settled-none : (slots : Slots) (after last total : ℕ) → ScanGives nfa kind earliest y None slots last
           → after ≡ scans + 1
           → SearchGives nfa kind earliest x None slots after total
-      settled-none slots after last total gives counted = record {
-        restarts = scans;
-        path = None;
-        answers = settled None gives.0 (λ mode. tt);
-        half_is = refl;
-        slots_are = gives.1 ∙ sym (slot_row-none nfa (length slots));
-        scans_are = counted;
-        turns_reach = omega arith;
-      }
+      settled-none slots after last total gives counted = grind (arith, settled, slot_row-none)
 
       -- its end is the end of the path
       whole-found : {half : HalfMatch} {slots : Slots} {last : ℕ} (f : GivesPath nfa kind earliest y half slots last)
           → (IsBoundary x.haystack (half_found_of half).offset → EndsOnBoundary x f.path)
           × (EndsOnBoundary (raised x scans) f.path → IsBoundary x.haystack (half_found_of half).offset)
-      whole-found f = let b = ends_on_boundary x f.path f.ends in let r =
-          ends_on_boundary (raised x scans) f.path f.ends in (b.1, r.0)
+      whole-found f = let b = ends_on_boundary x f.path f.ends in search rules
 
       -- what was found does not split a codepoint, or need not be whole
       pub settled-some : (half : HalfMatch) (slots : Slots) (after last total : ℕ)
@@ -170,15 +134,11 @@ module _ (nfa : Automaton) (kind : MatchKind) (earliest : Bool) where
           }
         where
           once : scans ≡ 0
-          once = never-some scans (λ some. let no = (s.free some).1 in let clash : true ≡ false =
-              sym anchored ∙ no in cc)
+          once = grind arith
 
       -- the turns after one scan more
       pub turns-after : (after : ℕ) → after ≤ turns + max_scan_turns nfa y → after ≤ (scans + 1) * max_scan_turns nfa x
-      turns-after after more =
-          turns-more (max_scan_turns nfa x) scans turns (max_scan_turns nfa (raised x scans)) after s.turned
-          (max_scan_turns-raised nfa x scans)
-          (subst (λ z. after ≤ turns + max_scan_turns nfa z) s.is more)
+      turns-after after more = grind arith
 
       -- any other search scans again
       pub restarted : (half : HalfMatch) (found : Slots) (last after start : ℕ) (z : Search)
@@ -227,19 +187,7 @@ pub half-pattern : (nfa : Automaton) (path : Option (List Pair))
     → option_map (λ (h : HalfFound). h.pattern) (option_and_then (path_half nfa) path)
     ≡ option_and_then (path_pattern nfa) path
 half-pattern nfa None = refl
-half-pattern nfa (Some p) = of (last_of p)
-  where
-    known : (k : Option ℕ) (at : ℕ)
-        → option_map (λ (h : HalfFound). h.pattern) (option_map (λ k. record { pattern = k; offset = at }) k) ≡ k
-    known None at = refl
-    known (Some k) at = refl
-
-    of : (v : Option Pair)
-        → option_map (λ (h : HalfFound). h.pattern) (option_and_then
-        (λ v. option_map (λ k. record { pattern = k; offset = v.1 }) (pattern_of (node_at nfa v.0))) v)
-        ≡ option_and_then (λ v. pattern_of (node_at nfa v.0)) v
-    of None = refl
-    of (Some v) = known (pattern_of (node_at nfa v.0)) v.1
+half-pattern nfa (Some p) = grind arith
 
 module _ (nfa : Automaton) (kind : MatchKind) (earliest : Bool) (x : Search) {slots : Slots} {scans turns : ℕ} where
   -- the pattern and the end
@@ -250,13 +198,7 @@ module _ (nfa : Automaton) (kind : MatchKind) (earliest : Bool) (x : Search) {sl
   -- the pattern
   pattern-given : (half : Option HalfMatch) (s : SearchGives nfa kind earliest x half slots scans turns)
       → option_map (λ h. (half_found_of h).pattern) half ≡ option_and_then (path_pattern nfa) s.path
-  pattern-given half s =
-      patterns half ∙ ap (option_map (λ (h : HalfFound). h.pattern)) s.half_is ∙ half-pattern nfa s.path
-    where
-      patterns : (half : Option HalfMatch) → option_map (λ h. (half_found_of h).pattern) half
-          ≡ option_map (λ (h : HalfFound). h.pattern) (option_map half_found_of half)
-      patterns None = refl
-      patterns (Some h) = refl
+  pattern-given half s = search rules
 
   -- the pattern and the slots, given a part of the slots
   pub answer-of : (half : Option HalfMatch) (pattern : Option ℕ)
@@ -265,13 +207,7 @@ module _ (nfa : Automaton) (kind : MatchKind) (earliest : Bool) (x : Search) {sl
       → (all : Slots) → ((path : Option (List Pair)) → slots ≡ slot_row nfa (length slots) path
       → all ≡ slot_row nfa (length all) path)
       → IsAnswer nfa kind earliest x pattern all
-  answer-of half pattern is s all whole = record {
-    restarts = s.restarts;
-    path = s.path;
-    answers = s.answers;
-    pattern_is = is ∙ pattern-given half s;
-    slots_are = whole s.path s.slots_are;
-  }
+  answer-of half pattern is s all whole = search rules
 
   -- its pattern is one of the NFA's
   pub pattern-among : IsAutomaton nfa → (half : Option HalfMatch)
@@ -287,12 +223,4 @@ module _ (nfa : Automaton) (kind : MatchKind) (earliest : Bool) (x : Search) {sl
       → length slots ≡ 2 * length nfa.groups
       → (s : SearchGives nfa kind earliest x (Some half) slots scans turns)
       → (found : Option Found) → found ≡ match_of (Some k) slots → IsFindAnswer nfa kind earliest x found
-  match-some valid half k is size s found leads = record {
-    restarts = s.restarts;
-    path = s.path;
-    answers = s.answers;
-    found_is =
-        let pattern : Some k ≡ option_and_then (path_pattern nfa) s.path = ap Some is
-        ∙ pattern-given (Some half) s in
-        leads ∙ match-along-path nfa valid k slots size s.path pattern s.slots_are;
-  }
+  match-some valid half k is size s found leads = search (rules, match-along-path)

@@ -1,22 +1,20 @@
 -- An NFA's pairs as what a scan goes over, and what a scan finds as the answer that its contract means.
-use Rattle.std.proofs.Common.{◌≡◌, ℕ, zero, suc, ◌+◌, ◌-◌, ◌≤◌, ◌<◌, ◌⊎◌, inl, inr, Bool, true, false, List, [], ◌∷◌, map, length, replicate, refl, sym, ap, subst, ◌∙◌, arith}
-use Rattle.std.specs.Prelude.{Option, None, Some, cond, option_and_then, option_map, option_to_list}
+use Rattle.std.proofs.Common.{◌≡◌, ℕ, zero, suc, ◌+◌, ◌≤◌, ◌<◌, ◌⊎◌, inl, inr, Bool, true, false, List, [], ◌∷◌, map, length, replicate, refl, sym, ap, subst, arith, rules}
+use Rattle.std.specs.Prelude.{Option, None, Some, option_and_then, option_map, option_to_list}
 use Rattle.std.specs.Option.{option_map_or}
-use Rattle.std.proofs.lemmas.Bool.{cases_lt}
 use Rattle.regex_search_core.specs.Search.{Search}
 use Rattle.regex_search_core.specs.declared.search.MatchKind.{MatchKind}
 use Rattle.regex_search_core.specs.declared.search.MatchKind.TheVariants.{All, LeftmostFirst}
 use Rattle.thompson_nfa.specs.Automaton.{Automaton, Node}
 use Rattle.thompson_nfa.specs.Automaton.Node.{Look, Union, BinaryUnion, Capture}
-use Rattle.thompson_nfa.specs.Looks.{look_holds}
 use Rattle.nfa_paths.specs.Graphs.{Pair, In, NoPath}
-use Rattle.nfa_paths.specs.Exploring.{Task, Slots, Hit, apply, ExploresTo, seeds}
-use Rattle.nfa_paths.specs.Exploring.Task.{Explore, Load}
+use Rattle.nfa_paths.specs.Exploring.{Task, Slots, Hit, ExploresTo, seeds}
+use Rattle.nfa_paths.specs.Exploring.Task.{Explore}
 use Rattle.nfa_paths.specs.Kinds.{Scanning, IsFoundBy, found_along, NoneBefore, LastBefore, EndsBefore, first_match, last_match, Scanned, IsFrontier, rests, is_resting}
-use Rattle.nfa_paths.specs.Paths.{space, target_on, pairs_from, node_at, is_match, IsMatch, capture, start_state, byte_at, edges_of, edges, start_count, starts, IsScanAnswer, last_of, slot_row}
-use Rattle.nfa_paths.proofs.PathToLemmas.{EndsWith-last, found-end}
-use Rattle.nfa_paths.proofs.StartLemmas.{pairs_from-ahead, starts-increase, starts-none, IsMatch-edges, IsMatch-capture, resting-edges, byte_at-within}
-use Rattle.nfa_paths.proofs.AnswerLemmas.{apply-slot_row, scan_answer-leads, never_none, same_parts}
+use Rattle.nfa_paths.specs.Paths.{space, target_on, pairs_from, is_match, IsMatch, capture, byte_at, edges_of, edges, start_count, starts, IsScanAnswer, last_of, slot_row}
+use Rattle.nfa_paths.proofs.PathToLemmas.{found-end}
+use Rattle.nfa_paths.proofs.StartLemmas.{pairs_from-ahead, starts-increase, IsMatch-edges, IsMatch-capture, resting-edges}
+use Rattle.nfa_paths.proofs.AnswerLemmas.{apply-slot_row, never_none}
 use Rattle.nfa_paths.proofs.CutLemmas.{first_match-cut}
 use Rattle.nfa_paths.proofs.ScanLemmas.{EndsBefore-within, IsEarliestPath-found, IsEarliestLastPath-found, LastBefore-end, IsFirstPath-found}
 
@@ -27,17 +25,7 @@ module _ (nfa : Automaton) (x : Search) where
   byte_edge : (p : ℕ) (on : ℕ → Option ℕ) (y : Pair)
       → In y (option_to_list (option_and_then (λ b. option_map (λ next. (next, p + 1)) (on b)) (byte_at x p)))
       → (y.1 ≡ p + 1) × (p < x.end)
-  byte_edge p on y = of (byte_at x p) (λ b. byte_at-within x p b)
-    where
-      over : (o : Option ℕ) → In y (option_to_list (option_map (λ next. (next, p + 1)) o)) → y.1 ≡ p + 1
-      over None i = absurd i
-      over (Some next) i = elim i [ inl e ↦ ap (λ z. z.1) e | inr never ↦ absurd never ]
-
-      of : (o : Option ℕ) → ((b : ℕ) → o ≡ Some b → p < x.end)
-          → In y (option_to_list (option_and_then (λ b. option_map (λ next. (next, p + 1)) (on b)) o))
-          → (y.1 ≡ p + 1) × (p < x.end)
-      of None within i = absurd i
-      of (Some b) within i = (over (on b) i, within b refl)
+  byte_edge p on y = grind arith
 
   -- an edge over no byte stays at its position
   stays : (p : ℕ) (targets : List ℕ) (y : Pair) → In y (map (λ next. (next, p)) targets) → y.1 ≡ p
@@ -48,11 +36,7 @@ module _ (nfa : Automaton) (x : Search) where
   pub edges_of-next : (n : Node) (p : ℕ) (y : Pair) → In y (edges_of x n p)
       → ((rests n ≡ false) × (y.1 ≡ p)) ⊎ ((y.1 ≡ p + 1) × (p < x.end))
   unfolding edges_of
-  edges_of-next (Look look next) p y i = inl (refl, of (look_holds look x.haystack p) i)
-    where
-      of : (b : Bool) → In y (cond b ((next, p) ∷ []) []) → y.1 ≡ p
-      of true i = elim i [ inl e ↦ ap (λ z. z.1) e | inr never ↦ absurd never ]
-      of false i = absurd i
+  edges_of-next (Look look next) p y i = grind arith
   edges_of-next (Union alternates) p y i = inl (refl, stays p alternates y i)
   edges_of-next (BinaryUnion a b) p y i = inl (refl, stays p (a ∷ b ∷ []) y i)
   edges_of-next (Capture next slot) p y i = inl (refl, stays p (next ∷ []) y i)
@@ -61,58 +45,29 @@ module _ (nfa : Automaton) (x : Search) where
 
   -- positions never fall along an edge
   pub edges-onward : (v y : Pair) → In y (edges nfa x v) → v.1 ≤ y.1
-  edges-onward v y i =
-      elim (edges_of-next (node_at nfa v.0) v.1 y i) [
-        | inl h ↦ let e : y.1 ≡ v.1 = h.1 in omega arith
-        | inr h ↦ let e : y.1 ≡ v.1 + 1 = h.0 in omega arith
-      ]
+  edges-onward v y i = grind (arith, edges_of-next)
 
   -- they rise at a resting pair
   pub edges-rise : (v y : Pair) → is_resting nfa v ≡ true → In y (edges nfa x v) → v.1 < y.1
-  edges-rise v y r i =
-      elim (edges_of-next (node_at nfa v.0) v.1 y i) [
-        | inl h ↦ absurd (apart (rests (node_at nfa v.0)) r h.0)
-        | inr h ↦ let e : y.1 ≡ v.1 + 1 = h.0 in omega arith
-      ]
-    where
-      apart : (b : Bool) → b ≡ true → b ≡ false → ⊥
-      apart b t f = cc
+  edges-rise v y r i = grind (arith, edges_of-next)
 
   -- and stay within the span
   pub edges-within : (v y : Pair) → In y (edges nfa x v) → v.1 ≤ x.end → y.1 ≤ x.end
-  edges-within v y i within =
-      elim (edges_of-next (node_at nfa v.0) v.1 y i) [
-        | inl h ↦ let e : y.1 ≡ v.1 = h.1 in omega arith
-        | inr h ↦ let e : y.1 ≡ v.1 + 1 = h.0 in let l : v.1 < x.end = h.1 in omega arith
-      ]
+  edges-within v y i within = grind (arith, edges_of-next)
 
   -- a set of matches, all or some, as what a scan is for
   pub Scanned-matches : (wanted : Pair → Bool) → ((v : Pair) → wanted v ≡ true → is_match nfa v ≡ true)
       → Scanned (space nfa x) (is_resting nfa) wanted
-  Scanned-matches wanted some = record {
-    onward = edges-onward;
-    rises = edges-rise;
-    leads_nowhere = λ v w. IsMatch-edges nfa x v (some v w);
-    writes_nothing = λ v w. IsMatch-capture nfa v (some v w);
-    increasing = starts-increase nfa x;
-  }
+  Scanned-matches wanted some = search (rules, IsMatch-capture, IsMatch-edges, edges-onward, edges-rise, starts-increase)
 
   -- the starts are at the span's start or after it
   pub starts-from : (s : Pair) → In s (starts nfa x) → x.start ≤ s.1
-  starts-from s = of (start_state nfa x.anchored)
-    where
-      of : (o : Option ℕ) → In s (option_map_or (λ state. pairs_from state x.start (start_count nfa x)) o [])
-          → x.start ≤ s.1
-      of None i = absurd i
-      of (Some state) i = pairs_from-ahead state x.start (start_count nfa x) s i
+  starts-from s = grind (arith, pairs_from-ahead)
 
   -- and not after its end
   pub starts-within : (s : Pair) → In s (starts nfa x) → s.1 ≤ x.end
   starts-within s i =
-      elim (cases_lt x.end x.start) [
-        | inl past ↦ absurd (rw (starts-none nfa x past) at i)
-        | inr within ↦ of within (start_state nfa x.anchored) i
-      ]
+      (grind (arith, of))
     where
       below : (state at count : ℕ) → In s (pairs_from state at count) → s.1 < at + count
       below state at zero i = absurd i
@@ -122,18 +77,11 @@ module _ (nfa : Automaton) (x : Search) where
             | inr later ↦ let k : s.1 < at + 1 + count = below state (at + 1) count later in omega arith
           ]
 
-      few : x.start ≤ x.end → (a b : Bool) → x.start + cond a 0 (cond b 1 (x.end - x.start + 1)) ≤ x.end + 1
-      few within true b = omega arith
-      few within false true = omega arith
-      few within false false = omega arith
-
       of : x.start ≤ x.end → (o : Option ℕ) → In s
           (option_map_or (λ state. pairs_from state x.start (start_count nfa x)) o []) → s.1 ≤ x.end
       of within None i = absurd i
       of within (Some state) i =
-          let k : s.1 < x.start + start_count nfa x = below state x.start (start_count nfa x) i in
-          let l : x.start + start_count nfa x ≤ x.end + 1 = few within _ _ in
-          omega arith
+          grind (arith, below)
 
   -- every path ends within the span
   pub EndsBefore-span : (wanted : Pair → Bool) → EndsBefore (space nfa x) wanted (x.end + 1)
@@ -145,24 +93,12 @@ module _ (nfa : Automaton) (x : Search) where
 pub Explore-among_seeds : (k : Pair) (slots : Slots) (es : List Pair) → In (Explore k) (seeds slots es) → In k es
 unfolding seeds
 Explore-among_seeds k slots [] i = absurd i
-Explore-among_seeds k slots (e ∷ es) i =
-    elim i [
-      | inl here ↦ inl (let h : k ≡ e = cc in h)
-      | inr later ↦ elim later [
-        | inl load ↦ absurd (no_load k slots load)
-        | inr more ↦ inr (Explore-among_seeds k slots es more)
-      ]
-    ]
-  where
-    no_load : (k : Pair) (slots : Slots) → Explore k ≡ Load slots → ⊥
-    no_load k slots e = cc
+Explore-among_seeds k slots (e ∷ es) i = grind (arith, Explore-among_seeds k slots es)
 
 -- the starts that wait are after the position
 pub seeds-later : (slots : Slots) (state at count : ℕ) (k : Pair)
     → In (Explore k) (seeds slots (pairs_from state (at + 1) count)) → at < k.1
-seeds-later slots state at count k i =
-    let l : at + 1 ≤ k.1 = pairs_from-ahead state (at + 1) count k
-    (Explore-among_seeds k slots (pairs_from state (at + 1) count) i) in omega arith
+seeds-later slots state at count k i = grind (arith, Explore-among_seeds, pairs_from-ahead)
 
 -- the answers
 
@@ -180,15 +116,7 @@ module _ (nfa : Automaton) (x : Search) (kind : MatchKind) (earliest : Bool) whe
   pub IsFoundBy-none : (turns : ℕ) (slots : Slots)
       → IsFoundBy (capture nfa) slots (IsScanAnswer nfa x kind earliest) turns None
       → IsScanAnswer nfa x kind earliest None
-  IsFoundBy-none turns slots h = of h.path h.meant h.leads
-    where
-      of : (o : Option (List Pair)) → IsScanAnswer nfa x kind earliest o → found_along (capture nfa) o slots ≡ None
-          → IsScanAnswer nfa x kind earliest None
-      of None meant leads = meant
-      of (Some p) meant leads =
-          let to = scan_answer-leads nfa x kind earliest p meant in
-          absurd (never_none (to.end, apply (capture nfa) p slots)
-          (sym (found-end (capture nfa) to.end p slots to.path.ends) ∙ leads))
+  IsFoundBy-none turns slots h = grind (arith, found-end)
 
   -- a pair was found: it ends the scan's answer
   pub IsFoundBy-some : (count turns : ℕ) (v : Pair) (row : Slots)
@@ -201,16 +129,7 @@ module _ (nfa : Automaton) (x : Search) (kind : MatchKind) (earliest : Bool) whe
           → option_map_or length o 0 ≤ turns → FindsAnswer nfa x kind earliest count turns v row
       of None meant leads short = absurd (never_none (v, row) (sym leads))
       of (Some p) meant leads short =
-          let to = scan_answer-leads nfa x kind earliest p meant in
-          let both = same_parts (to.end, apply (capture nfa) p (replicate count None)) (v, row)
-          (sym (found-end (capture nfa) to.end p (replicate count None) to.path.ends) ∙ leads) in
-          record {
-            path = p;
-            answers = meant;
-            ends = EndsWith-last None to.end p to.path.ends ∙ ap Some both.0;
-            row_is = sym both.1 ∙ apply-slot_row nfa count p;
-            short = short;
-          }
+          search (rules, apply-slot_row)
 
 -- each kind from what the scan knows of its positions
 

@@ -1,8 +1,8 @@
 -- The answers of a scan, position by position.
-use Rattle.std.proofs.Common.{◌≡◌, ℕ, ◌+◌, ◌≤◌, ◌<◌, ◌⊎◌, inl, inr, Bool, true, List, [], ◌∷◌, map, length, refl, sym, ap, ◌∙◌, arith}
+use Rattle.std.proofs.Common.{◌≡◌, ℕ, ◌+◌, ◌≤◌, ◌<◌, ◌⊎◌, inl, inr, Bool, true, List, [], ◌∷◌, map, length, refl, sym, ap, ◌∙◌, arith, rules}
 use Rattle.std.specs.Prelude.{Option, None, Some}
 use Rattle.std.specs.Option.{option_map_or}
-use Rattle.std.proofs.lemmas.Bool.{cases_lt, cases_Bool}
+use Rattle.std.proofs.lemmas.Bool.{cases_lt}
 use Rattle.nfa_paths.specs.Graphs.{Pair, Space, In, HeadIs, Linked, EndsWith, PathTo, NoPath, IsEnd, IsLeastEnd, IsGreatestEnd, WantedAt, IsLastOfFirsts, IsFirstPath, IsEarliestPath, IsLastPath, IsEarliestLastPath}
 use Rattle.nfa_paths.specs.Exploring.{Slots, Hit, ExploresTo}
 use Rattle.nfa_paths.specs.Exploring.Task.{Explore}
@@ -10,7 +10,7 @@ use Rattle.nfa_paths.specs.Kinds.{Passes, found_along, WantedBefore, IsFoundBy, 
 use Rattle.nfa_paths.proofs.PathLemmas.{IsLeast-from_first}
 use Rattle.nfa_paths.proofs.PathToLemmas.{PathTo-along, IsLeast-none, IsLeast-first}
 use Rattle.nfa_paths.proofs.SearchLemmas.{Answer-starts, found-Some}
-use Rattle.nfa_paths.proofs.TestLemmas.{is_plain, test, test-true, true-test}
+use Rattle.nfa_paths.proofs.TestLemmas.{test, test-true, true-test}
 use Rattle.nfa_paths.proofs.FrontierMatchLemmas.{last_match-is}
 use Rattle.nfa_paths.proofs.KindsLemmas.{IsFrontier-no_match, IsFrontier-last_match}
 
@@ -18,13 +18,7 @@ use Rattle.nfa_paths.proofs.KindsLemmas.{IsFrontier-no_match, IsFrontier-last_ma
 pub IsFoundBy-more : {capture : Pair → Option ℕ} {slots : Slots} {Meant : Option (List Pair) → Type 0}
     {turns more : ℕ} {g : Hit}
     → turns ≤ more → IsFoundBy capture slots Meant turns g → IsFoundBy capture slots Meant more g
-IsFoundBy-more {more = more} le h = record {
-  path = h.path;
-  meant = h.meant;
-  leads = h.leads;
-  short =
-      let k : option_map_or length h.path 0 ≤ more = omega (arith, h.short) in k;
-}
+IsFoundBy-more {more = more} le h = grind arith
 
 -- sets that agree on the pairs to which paths lead
 
@@ -37,14 +31,7 @@ module _ (edges : Pair → List Pair) (starts : List Pair) (P Q : Pair → Type 
 
   -- an end of both sets
   IsEnd-agree : {e : ℕ} → IsEnd edges starts P e → IsEnd edges starts Q e
-  IsEnd-agree h = record {
-    end = h.end;
-    along = h.along;
-    path = h.path;
-    wanted =
-        to h.end h.along h.path h.wanted;
-    at = h.at;
-  }
+  IsEnd-agree h = search rules
 
   -- the greatest end of both sets
   IsGreatestEnd-agree : {e : ℕ} → IsGreatestEnd edges starts P e → IsGreatestEnd edges starts Q e
@@ -92,16 +79,13 @@ module _ (space : Space) (resting is_match : Pair → Bool) (slots : Slots) (sha
   path_onward s m (x ∷ (y ∷ p)) h l d =
       let k : y.1 ≤ m.1 = path_onward y m (y ∷ p) refl l.1 d in
       let i : x.1 ≤ y.1 = shape.onward x y l.0 in
-      let j : x.1 ≡ s.1 = ap (λ z. z.1) h in
-      omega arith
+      grind arith
 
   -- no path ends before the first start
   pub NoneBefore-start : (e : ℕ) → ((s : Pair) → In s space.starts → e ≤ s.1) → NoneBefore space is_match e
   NoneBefore-start e from m p w h =
       let k : w.start.1 ≤ m.1 = path_onward w.start m p w.head w.linked w.ends in
-      let i : e ≤ w.start.1 = from w.start w.among in
-      let j : m.1 < e = h.before in
-      omega arith
+      search rules
 
   -- no path ends before e, and none at e
   pub NoneBefore-step : {turns e : ℕ} {front : List (Pair × Slots)} → NoneBefore space is_match e
@@ -126,10 +110,7 @@ module _ (space : Space) (resting is_match : Pair → Bool) (slots : Slots) (sha
       → WantedAt (Passes is_match) e m → IsLeastEnd space.edges space.starts (Passes is_match) e
   least_end {e} none m p w h = record {
     is_end = record { end = m; along = p; path = w; wanted = h.wanted; at = h.at };
-    least = λ n q v t. elim (cases_lt n.1 e) [
-      | inl less ↦ absurd (none n q v (record { wanted = t; before = less }))
-      | inr more ↦ more
-    ];
+    least = λ n q v t. grind arith;
   }
 
   -- the first path that ends at e, if none ends before: the earliest
@@ -143,12 +124,7 @@ module _ (space : Space) (resting is_match : Pair → Bool) (slots : Slots) (sha
           → found_along space.capture o slots ≡ Some a → option_map_or length o 0 ≤ turns
           → IsFoundBy space.capture slots (IsEarliestPath space.edges space.starts (Passes is_match)) turns (Some a)
       of None meant leads short = cc
-      of (Some p) meant leads short = record {
-        path = Some p;
-        meant = (e, least_end none meant.end p meant.path meant.wanted, meant);
-        leads = leads;
-        short = short;
-      }
+      of (Some p) meant leads short = search (rules, least_end)
 
   -- the first front with a match pair: its last is the last of the first paths
   pub IsEarliestLastPath-found : {turns e : ℕ} {front : List (Pair × Slots)} → NoneBefore space is_match e
@@ -185,10 +161,7 @@ module _ (space : Space) (resting is_match : Pair → Bool) (slots : Slots) (sha
       elim (last_match-is is_match g front) [
         | inl lacks ↦ record {
           path = so_far.path;
-          meant = IsLastPath-agree space.edges space.starts (WantedBefore (Passes is_match) e)
-              (WantedBefore (Passes is_match) (e + 1)) wider
-              (narrower (IsFrontier-no_match space resting is_match slots turns shape f lacks.1))
-              so_far.path so_far.meant;
+          meant = search (rules, IsFrontier-no_match, IsLastPath-agree, narrower, wider);
           leads = so_far.leads ∙ sym lacks.0;
           short = let k : option_map_or length so_far.path 0 ≤ turns = omega (arith, so_far.short) in k;
         }
@@ -223,10 +196,7 @@ module _ (space : Space) (resting is_match : Pair → Bool) (slots : Slots) (sha
 
       greatest : (m : Pair) (p : List Pair) → PathTo space.edges space.starts m p → WantedAt (Passes is_match) e m
           → IsGreatestEnd space.edges space.starts (WantedBefore (Passes is_match) (e + 1)) e
-      greatest m p w h = record {
-        is_end = record { end = m; along = p; path = w; wanted = here m h; at = h.at };
-        greatest = λ n q v t. let k : n.1 < e + 1 = t.before in omega arith;
-      }
+      greatest m p w h = (grind arith)
 
       last : {p : List Pair} → IsLastOfFirsts space.edges space.starts (Passes is_match) e p
           → IsLastOfFirsts space.edges space.starts (WantedBefore (Passes is_match) (e + 1)) e p
@@ -274,14 +244,7 @@ module _ (space : Space) (resting is_match : Pair → Bool) (slots : Slots) (sha
   module _ (e : ℕ) where
     -- it is decidable whether a pair is a match pair at e or after it
     later : (x : Pair) → ((is_match x ≡ true) × (e ≤ x.1)) ⊎ ¬ ((is_match x ≡ true) × (e ≤ x.1))
-    later x =
-        elim (cases_Bool (is_match x)) [
-          | inl t ↦ elim (cases_lt x.1 e) [
-            | inl less ↦ inr (λ h. let k : e ≤ x.1 = h.1 in omega arith)
-            | inr more ↦ inl (t, more)
-          ]
-          | inr g ↦ inr (λ h. is_plain (is_match x) g h.0)
-        ]
+    later x = grind arith
 
     -- they are a set that a search can be for
     later_target : Pair → Bool

@@ -1,5 +1,5 @@
 -- The steps of a scan, as a loop takes them: each is the step of the search for every set of match pairs at once.
-use Rattle.std.proofs.Common.{◌≡◌, ℕ, suc, ◌+◌, ◌≤◌, ◌<◌, ◌⊎◌, inl, inr, Bool, true, List, [], ◌∷◌, ◌++◌, map, length, refl, arith}
+use Rattle.std.proofs.Common.{◌≡◌, ℕ, suc, ◌+◌, ◌≤◌, ◌<◌, ◌⊎◌, inl, inr, Bool, true, List, [], ◌∷◌, ◌++◌, map, length, refl, arith, rules}
 use Rattle.std.specs.Prelude.{None, Some}
 use Rattle.nfa_paths.specs.Graphs.{Pair, Space, In, NoRepeats}
 use Rattle.nfa_paths.specs.Exploring.{Slots, Hit, Task, next_tasks, found, Searching, ExploresTo, ExploresAfter}
@@ -7,7 +7,6 @@ use Rattle.nfa_paths.specs.Exploring.Task.{Explore, Load}
 use Rattle.nfa_paths.specs.Kinds.{before_match, IsFrontier, IsOver, Scanning}
 use Rattle.nfa_paths.proofs.FrontierMatchLemmas.{before_match-plain, before_match-among}
 use Rattle.nfa_paths.proofs.PathLemmas.{IsFirst-target}
-use Rattle.nfa_paths.proofs.PathToLemmas.{is_false}
 use Rattle.nfa_paths.proofs.SearchLemmas.{AnswerBehind-along}
 use Rattle.nfa_paths.proofs.SearchingLemmas.{Searching-load, Searching-round, Searching-done}
 
@@ -36,12 +35,7 @@ module _ (space : Space) (is_match : Pair → Bool) (slots : Slots) where
         Searching-round space target (s.searching target sooner) (λ x. e < x.1)
         (λ x y a i. let k : x.1 ≤ y.1 = onward x y i in let l : e < x.1 = a in omega arith)
         (λ a i.
-        let r = rests a i in (
-          is_false (target a.0) (λ t. let k : e + 1 ≤ a.0.1 = (at a.0 t).1 in let l : a.0.1 ≡ e = r.1 in omega arith),
-          r.0,
-          λ h. let k : e < a.0.1 = h in let l : a.0.1 ≡ e = r.1 in omega arith,
-          r.2,
-        ))
+        let r = rests a i in grind arith)
         comes (λ x h a. let k : x.1 ≤ e = past x h in let l : e < x.1 = a in omega arith) fresh after;
   }
 
@@ -123,8 +117,7 @@ module _ (space : Space) (target : Pair → Bool) where
     marks = s.marks;
     agrees = s.agrees;
     leads = λ g left total e h. s.leads g left total e
-        (AnswerBehind-along space target front left left (omega arith) otherwise otherwise s.marks s.marks
-        (Load old ∷ []) [] slots slots g (λ k. k) h);
+        (search (rules, AnswerBehind-along));
   }
 
   -- The next position of the search that drops what comes after a match pair: the items before the front's first match
@@ -143,10 +136,5 @@ module _ (space : Space) (target : Pair → Bool) where
       Searching-round space target s (λ x. e < x.1)
       (λ x y a i. let k : x.1 ≤ y.1 = onward x y i in let l : e < x.1 = a in omega arith)
       (λ a i.
-      let r = rests a (before_match-among target front a i) in (
-        is_false (target a.0) (before_match-plain target front a i),
-        r.0,
-        λ h. let k : e < a.0.1 = h in let l : a.0.1 ≡ e = r.1 in omega arith,
-        r.2,
-      ))
+      let r = rests a (before_match-among target front a i) in grind (arith, before_match-plain))
       comes (λ x h a. let k : x.1 ≤ e = past x h in let l : e < x.1 = a in omega arith) fresh after

@@ -1,5 +1,5 @@
 -- The steps of the search: from its answer after a step follows its answer before.
-use Rattle.std.proofs.Common.{◌≡◌, ℕ, suc, ◌≤◌, arith, ◌⊎◌, ◌↔◌, inl, inr, Bool, true, false, List, [], ◌∷◌, ◌++◌, map, length, get_or, set, refl, sym, ◌∙◌, set-set, append-nil}
+use Rattle.std.proofs.Common.{◌≡◌, ℕ, suc, ◌≤◌, arith, ◌⊎◌, ◌↔◌, inl, inr, Bool, true, false, List, [], ◌∷◌, ◌++◌, map, length, get_or, set, refl, set-set, append-nil, rules}
 use Rattle.std.proofs.lemmas.List.{set-get_or, set_past}
 use Rattle.std.specs.Prelude.{Option, None, Some}
 use Rattle.std.specs.Option.{option_map}
@@ -9,7 +9,7 @@ use Rattle.nfa_paths.specs.FirstPaths.{Path, IsFirst, FirstAmong, IsFirstOfAll}
 use Rattle.nfa_paths.specs.FirstPaths.Path.{stop, go}
 use Rattle.nfa_paths.specs.Exploring.{Slots, Hit, Task, write, apply, found, ExploresTo, ExploresAfter, next_tasks, seeds}
 use Rattle.nfa_paths.specs.Exploring.Task.{Explore, Restore, Load}
-use Rattle.nfa_paths.proofs.PathLemmas.{IsFirst-marked, IsFirst-dead, IsFirst-target, IsFirstOfAll-from_among, IsFirst-step, IsFirst-mark, IsFirst-ahead, IsFirst-resting}
+use Rattle.nfa_paths.proofs.PathLemmas.{IsFirst-target, IsFirstOfAll-from_among, IsFirst-step, IsFirst-mark, IsFirst-ahead, IsFirst-resting}
 
 -- a list with an item has a last one
 last_or-Some : {A B : Type 0} (f : A → B) (x : A) (xs : List A) → None ≡ option_map f (last_or (Some x) xs) → ⊥
@@ -48,9 +48,7 @@ module _ (space : Space) (target : Pair → Bool) where
   unfolding ExploresTo
   Answer-among left otherwise marks [] rest slots g h = inr (refl, h)
   Answer-among left otherwise marks (e ∷ es) rest slots g (inl h) = inl (h.0, inl (h.0, h.1, refl), h.2, h.3)
-  Answer-among left otherwise marks (e ∷ es) rest slots g (inr h) =
-      elim (Answer-among left otherwise marks es rest slots g h.1)
-      [ inl k ↦ inl (k.0, inr (h.0, k.1), k.2, k.3) | inr k ↦ inr (inr (h.0, k.0), k.1) ]
+  Answer-among left otherwise marks (e ∷ es) rest slots g (inr h) = grind (arith, Answer-among left otherwise marks es rest slots g h.1)
 
   -- marks that agree at what is to be explored, and no fewer turns
   Answer-along : (left more : ℕ) → left ≤ more
@@ -83,9 +81,7 @@ module _ (space : Space) (target : Pair → Bool) where
       → IsFirst space.edges target marks v None → (work : List Task) (slots : Slots) (g : Hit)
       → ExploresTo space target left otherwise (v ∷ marks) work slots g
       → ExploresTo space target (suc left) otherwise marks work slots g
-  Answer-mark left otherwise marks v none work slots g =
-      Answer-along left (suc left) (omega arith) otherwise (v ∷ marks) marks work slots g
-      (λ k i r. (IsFirst-mark space.edges target marks v none k r).0)
+  Answer-mark left otherwise marks v none work slots g = grind (arith, Answer-along, IsFirst-mark)
 
   -- the first pair of a path writes first
   found-cons : (v : Pair) {w : Pair} {p : List Pair} (slots : Slots) → Path space.edges target w p
@@ -99,10 +95,7 @@ module _ (space : Space) (target : Pair → Bool) where
     pub Answer-marked : In v marks → ExploresTo space target left otherwise marks rest slots g
         → ExploresTo space target (suc left) otherwise marks (Explore v ∷ rest) slots g
     unfolding ExploresTo
-    Answer-marked m h = inr (
-      IsFirst-marked space.edges target marks v m,
-      Answer-more left (suc left) (omega arith) otherwise marks rest slots g h,
-    )
+    Answer-marked m h = grind (arith, Answer-more)
 
     -- a target ends the search
     pub Answer-target : ¬ (In v marks) → target v ≡ true → g ≡ Some (v, write (space.capture v) v.1 slots)
@@ -123,17 +116,9 @@ module _ (space : Space) (target : Pair → Bool) where
           elim (Answer-among left otherwise (v ∷ marks) es next after g h) [
             | inl k ↦
                 let some = IsFirstOfAll-from_among space.edges target (v ∷ marks) es (Some k.0) k.1 in
-                let short : length (v ∷ k.0) ≤ suc left = omega (arith, k.3) in
-                inl (
-                  v ∷ k.0,
-                  IsFirst-step space.edges target marks v free plain (Some k.0) (rw leads k.1),
-                  k.2
-                      ∙ sym (rw wrote at (found-cons v slots some.2.path)),
-                  short,
-                )
+                grind (arith, IsFirst-step, found-cons)
             | inr k ↦
-                let none = IsFirst-step space.edges target marks v free plain None (rw leads k.0) in
-                inr (none, Answer-mark left otherwise marks v none rest slots g (back k.1))
+                grind (arith, Answer-mark, IsFirst-step)
           ]
 
       -- a pair that writes nothing
@@ -148,9 +133,7 @@ module _ (space : Space) (target : Pair → Bool) where
           (map Explore es ++ Restore k (get_or slots k None) ∷ rest) (set slots k (Some v.1)) g
           → ExploresTo space target (suc left) otherwise marks (Explore v ∷ rest) slots g
       unfolding ExploresTo
-      Answer-write k e =
-          Answer-step (Restore k (get_or slots k None) ∷ rest) (set slots k (Some v.1)) (rw e refl)
-          (λ a. rw (set-set, set-get_or) at a)
+      Answer-write k e = grind (arith, Answer-step, set-get_or, set-set)
 
       -- a pair that writes to a slot that is not kept
       pub Answer-unkept : (k : ℕ) → space.capture v ≡ Some k → length slots ≤ k
@@ -211,9 +194,7 @@ module _ (space : Space) (target : Pair → Bool) where
     unfolding ExploresTo ExploresAfter
     AnswerBehind-keep left [] otherwise marks v rest slots g free leaves past (inl h) =
         inl (h.0, (IsFirst-resting space.edges target ahead closed marks v free leaves past (Some h.0)).0 h.1, h.2, h.3)
-    AnswerBehind-keep left [] otherwise marks v rest slots g free leaves past (inr h) =
-        let none = (IsFirst-resting space.edges target ahead closed marks v free leaves past None).0 h.0 in
-        inr (none, Answer-mark left otherwise marks v none rest slots g h.1)
+    AnswerBehind-keep left [] otherwise marks v rest slots g free leaves past (inr h) = grind (arith, Answer-mark)
     AnswerBehind-keep left (a ∷ front) otherwise marks v rest slots g free leaves past (inl h) =
         let short : length h.0 ≤ suc (suc left) = omega (arith, h.3) in inl (h.0, h.1, h.2, short)
     AnswerBehind-keep left (a ∷ front) otherwise marks v rest slots g free leaves past (inr h) =
@@ -258,18 +239,12 @@ module _ (space : Space) (target : Pair → Bool) where
         let at = rests a (inl refl) in
         let first : (r : Option (List Pair)) → FirstAmong space.edges target [] (space.edges a.0) r
         → IsFirst space.edges target [] a.0 (option_map (λ p. a.0 ∷ p) r) =
-        λ r f. IsFirst-step space.edges target [] a.0 (λ m. m) at.0 r
-        (FirstAmong-ahead a.0 at.2 (space.edges a.0) at.3 r f) in
+        (search (rules, FirstAmong-ahead, IsFirst-step)) in
         elim (Answer-among left otherwise [] (space.edges a.0)
         (next_tasks space.edges front (Load old ∷ waiting)) a.1 g h) [
           | inl k ↦
               let some = IsFirstOfAll-from_among space.edges target [] (space.edges a.0) (Some k.0) k.1 in
-              let short : length (a.0 ∷ k.0) ≤ suc left = omega (arith, k.3) in
-              inl (a.0 ∷ k.0, first (Some k.0) k.1, k.2 ∙ sym (rw at.1 at (found-cons a.0 a.1 some.2.path)), short)
+              grind (arith, found-cons)
           | inr k ↦
-              inr (
-                first None k.0,
-                AnswerBehind-round left front otherwise marks waiting slots old a.1 g
-                    (λ b i. rests b (inr i)) comes past k.1,
-              )
+              grind (arith, AnswerBehind-round left front otherwise marks waiting slots old a.1 g)
         ]

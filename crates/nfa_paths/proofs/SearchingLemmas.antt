@@ -1,10 +1,10 @@
 -- The steps of the search, forwards, as a loop takes them.
-use Rattle.std.proofs.Common.{◌≡◌, ℕ, suc, ◌+◌, ◌≤◌, arith, ◌⊎◌, ◌↔◌, inl, inr, Bool, false, List, [], ◌∷◌, ◌++◌, map, length, get_or, set, refl}
+use Rattle.std.proofs.Common.{◌≡◌, ℕ, suc, ◌+◌, ◌≤◌, arith, ◌⊎◌, ◌↔◌, Bool, false, List, [], ◌∷◌, ◌++◌, map, length, get_or, set, refl, rules}
 use Rattle.std.specs.Prelude.{Option, None, Some}
 use Rattle.nfa_paths.specs.Graphs.{Pair, Space, In}
 use Rattle.nfa_paths.specs.Exploring.{Slots, Hit, Task, ExploresTo, ExploresAfter, next_tasks, Searching}
 use Rattle.nfa_paths.specs.Exploring.Task.{Explore, Restore, Load}
-use Rattle.nfa_paths.proofs.SearchLemmas.{Answer-more, Answer-restore, Answer-load, Answer-marked, Answer-plain, Answer-write, Answer-unkept, AnswerBehind-along, AnswerBehind-keep, AnswerBehind-round}
+use Rattle.nfa_paths.proofs.SearchLemmas.{Answer-restore, Answer-load, Answer-marked, Answer-plain, Answer-write, Answer-unkept, AnswerBehind-along, AnswerBehind-keep, AnswerBehind-round}
 
 module _ (space : Space) (target : Pair → Bool) where
   -- nothing is seen yet
@@ -13,11 +13,7 @@ module _ (space : Space) (target : Pair → Bool) where
       → Searching space target (λ g total. ExploresTo space target total otherwise [] work slots g) Seen 0
       [] otherwise work slots
   unfolding ExploresAfter
-  Searching-start Seen otherwise work slots fresh = record {
-    marks = [];
-    agrees = λ x. (λ i. absurd i, λ s. absurd (fresh x s));
-    leads = λ g left total e. Answer-more space target left total (omega arith) otherwise [] work slots g;
-  }
+  Searching-start Seen otherwise work slots fresh = grind arith
 
   -- nothing is left to do, and nothing was put aside
   pub Searching-done : {goal : Hit → ℕ → Type 0} {Seen : Pair → Type 0} {spent : ℕ} {otherwise : Hit}
@@ -77,10 +73,7 @@ module _ (space : Space) (target : Pair → Bool) where
 
       -- the marks with the pair are those that are seen after
       grows : (x : Pair) → In x (v ∷ s.marks) ↔ After x
-      grows x = (
-        λ i. (adds x).1 (elim i [ inl e ↦ inl e | inr m ↦ inr ((s.agrees x).0 m) ]),
-        λ a. elim ((adds x).0 a) [ inl e ↦ inl e | inr m ↦ inr ((s.agrees x).1 m) ],
-      )
+      grows x = grind arith
 
       -- v is marked and gives way to `next`
       Searching-next : (next : List Task) (after : Slots)
@@ -100,27 +93,20 @@ module _ (space : Space) (target : Pair → Bool) where
       -- a pair that writes nothing gives way to its edges
       pub Searching-plain : target v ≡ false → (es : List Pair) → space.edges v ≡ es → space.capture v ≡ None
           → Searching space target goal After (spent + 1) front otherwise (map Explore es ++ rest) slots
-      Searching-plain plain es leads e =
-          Searching-next (map Explore es ++ rest) slots
-          (λ left g. Answer-plain space target left otherwise s.marks v rest slots g free plain es leads e)
+      Searching-plain plain es leads e = grind (arith, Answer-plain, Searching-next)
 
       -- a pair that writes to a slot, which is restored below its edges
       pub Searching-write : target v ≡ false → (es : List Pair) → space.edges v ≡ es → (k : ℕ)
           → space.capture v ≡ Some k
           → Searching space target goal After (spent + 1) front otherwise
           (map Explore es ++ Restore k (get_or slots k None) ∷ rest) (set slots k (Some v.1))
-      Searching-write plain es leads k e =
-          Searching-next (map Explore es ++ Restore k (get_or slots k None) ∷ rest) (set slots k (Some v.1))
-          (λ left g. Answer-write space target left otherwise s.marks v rest slots g free plain es leads k e)
+      Searching-write plain es leads k e = grind (arith, Answer-write, Searching-next)
 
       -- a pair that writes to a slot that is not kept
       pub Searching-unkept : target v ≡ false → (es : List Pair) → space.edges v ≡ es → (k : ℕ)
           → space.capture v ≡ Some k → length slots ≤ k
           → Searching space target goal After (spent + 1) front otherwise (map Explore es ++ rest) slots
-      Searching-unkept plain es leads k e past =
-          Searching-next (map Explore es ++ rest) slots
-          (λ left g. Answer-unkept space target left otherwise s.marks v rest slots g free plain es
-          leads k e past)
+      Searching-unkept plain es leads k e past = search (rules, Answer-unkept, Searching-next, free)
 
       -- a pair whose edges lead ahead of all that is seen is put aside
       pub Searching-keep : (ahead : Pair → Type 0) → ((x y : Pair) → ahead x → In y (space.edges x) → ahead y)

@@ -1,7 +1,6 @@
 -- What the first wanted pair of a front stands for, also if a search drops what comes after it.
 use Rattle.std.proofs.Common.{◌≡◌, ℕ, ◌+◌, ◌≤◌, ◌<◌, ◌⊎◌, ◌↔◌, inl, inr, Bool, true, List, [], ◌∷◌, ◌++◌, map, length, refl, sym, ap, ◌∙◌, arith, set}
-use Rattle.std.specs.Prelude.{Option, None, Some, option_map}
-use Rattle.std.specs.List.{last_or}
+use Rattle.std.specs.Prelude.{Option, None, Some}
 use Rattle.std.proofs.lemmas.Bool.{cases_Bool}
 use Rattle.regex_search_core.specs.Search.{Search}
 use Rattle.thompson_nfa.specs.Automaton.{Automaton}
@@ -19,7 +18,7 @@ use Rattle.nfa_paths.proofs.FrontierMatchLemmas.{first_match-is}
 use Rattle.nfa_paths.proofs.StartLemmas.{resting-capture}
 use Rattle.nfa_paths.proofs.AnswerLemmas.{same_parts}
 use Rattle.nfa_paths.proofs.GainLemmas.{wanted-shape}
-use Rattle.nfa_paths.proofs.PathToLemmas.{is_false, found-end, IsLeast-first}
+use Rattle.nfa_paths.proofs.PathToLemmas.{found-end, IsLeast-first}
 use Rattle.nfa_paths.proofs.CutLemmas.{first-sub, front-answers, first_match-cut}
 use Rattle.nfa_paths.proofs.ScanAnswerLemmas.{edges-onward, edges-rise}
 
@@ -36,12 +35,7 @@ module _ (space : Space) (target : Pair → Bool) where
   -- what is found along a list with one kind of slots is found with another
   found-other : (p : List Pair) (slots other : Slots) → found space.capture p slots ≡ None
       → found space.capture p other ≡ None
-  found-other p slots other e = of (last_or None p) e
-    where
-      of : (o : Option Pair) → option_map {U = Pair × Slots} (λ v. (v, apply space.capture p slots)) o ≡ None
-          → option_map {U = Pair × Slots} (λ v. (v, apply space.capture p other)) o ≡ None
-      of None e = refl
-      of (Some v) e = cc
+  found-other p slots other e = grind arith
 
   pub heads-Answer : (left : ℕ) (marks : List Pair) (work : List Task) (slots other : Slots) (h : Hit)
       → ExploresTo space target left None marks (map Explore (heads work)) other h
@@ -64,11 +58,7 @@ module _ (space : Space) (target : Pair → Bool) where
   unfolding ExploresTo ExploresAfter
   AnswerBehind-drop left [] after m n old work slots current g h = inl h
   AnswerBehind-drop left (b ∷ before) after m n old work slots current g (inl h) = inr (inl h)
-  AnswerBehind-drop left (b ∷ before) after m n old work slots current g (inr h) =
-      elim (AnswerBehind-drop left before after m n old work slots current g h.1) [
-        | inl e ↦ inl e
-        | inr k ↦ inr (inr (h.0, k))
-      ]
+  AnswerBehind-drop left (b ∷ before) after m n old work slots current g (inr h) = grind (arith, AnswerBehind-drop left before after m n old work slots current g h.1)
 
 -- The set before is `old`: wanted is what it has room for.
 module _ (nfa : Automaton) (x : Search) (old : List Bool) (wants : Pair → Bool)
@@ -133,10 +123,7 @@ module _ (nfa : Automaton) (x : Search) (old : List Bool) (wants : Pair → Bool
         → ExploresTo (space nfa x) target left None [] (map Explore pairs) slots g → (g ≡ None) ⊎ Reaches target
 
   pub Sound-start : (e : ℕ) → Sound e (starts nfa x)
-  Sound-start e = record {
-    reaches = λ target at left slots g a. elim (answer-reaches target (λ v t. (at v t).0) left slots g a)
-        [ inl none ↦ inl none | inr k ↦ inr k.0 ];
-  }
+  Sound-start e = grind (arith, answer-reaches)
 
   -- a position that is searched from some pairs, for each set of wanted pairs
   pub record Searched (e : ℕ) (pairs : List Pair) (front : List (Pair × Slots)) (work : List Task)
@@ -171,14 +158,7 @@ module _ (nfa : Automaton) (x : Search) (old : List Bool) (wants : Pair → Bool
               lead.0 work written front a rests_at
               (first-sub (space nfa x) (is_resting nfa) wants shape (λ v. test (one v)) (λ v t. (only v t).0) front a
               (true-test (one a.0) refl) is)) in
-              let wrote : found (capture nfa) (a.0 ∷ []) a.1 ≡ Some a =
-              rw (shape.writes_nothing a.0 matches) refl in
-              elim (sound.reaches (λ v. test (one v))
-              (λ v t. ((only v t).0, let k : v.1 ≡ e = (only v t).1 in omega arith)) answer.0 []
-              (found (capture nfa) (a.0 ∷ []) a.1) answer.1) [
-                | inl none ↦ let never : Some a ≡ None = sym wrote ∙ none in cc
-                | inr r ↦ (r.path, rw (is_one r.first.end r.first.wanted) at r.first.path, matches, at)
-              ]
+              grind arith
         ]
 
     -- the next position, from a part of the front and some of what waits
@@ -199,23 +179,13 @@ module _ (nfa : Automaton) (x : Search) (old : List Bool) (wants : Pair → Bool
             left kept None lead.0 waiting written loaded [] other.0
             (λ b i.
             let r = rests_at b (among b i) in (
-              is_false (target b.0) (λ t. let k : e + 1 ≤ b.0.1 = (at b.0 t).1 in let l : b.0.1 ≡ e =
-                  r.1 in omega arith),
+              grind arith,
               resting-capture nfa b.0 r.0,
               λ h. let k : e < b.0.1 = h in let l : b.0.1 ≡ e = r.1 in omega arith,
               λ w j. rw (← r.1) (edges-rise nfa x b.0 w r.0 j),
             ))
             comes (λ v i ahead. let k : v.1 ≤ e = lead.1 v i in let l : e < v.1 = ahead in omega arith) other.1 in
-            elim (drops target lead.0 left other.0 behind) [
-              | inl none ↦ inl (other.2 none)
-              | inr full ↦
-                  let answer = lead.2 left other.0 full in
-                  elim (sound.reaches target (λ v t. ((at v t).0, let k : e + 1 ≤ v.1 = (at v t).1 in omega arith))
-                  answer.0 [] other.0 answer.1) [
-                    | inl none ↦ inl (other.2 none)
-                    | inr r ↦ inr r
-                  ]
-            ];
+            grind arith;
       }
 
   -- nothing is dropped
@@ -236,12 +206,7 @@ module _ (nfa : Automaton) (x : Search) (old : List Bool) (wants : Pair → Bool
       → Sound (e + 1) (heads (next_tasks (edges nfa x) (before_match wants front) (Load loaded ∷ [])))
   Sound-cut {front = front} {work} {written} loaded sound s rests_at =
       let cut = before_match-split front in
-      Sound-next sound s rests_at (before_match wants front) loaded []
-      (λ b i. rw cut.1 (In-append_left b (before_match wants front) cut.0 i))
-      (λ k i. absurd i)
-      (λ target marks left g h.
-      rw cut.1 (AnswerBehind-drop (space nfa x) target left (before_match wants front) cut.0 marks marks
-      loaded work written written g h))
+      (grind (arith, AnswerBehind-drop, In-append_left, Sound-next))
     where
       before_match-split : (front : List (Pair × Slots)) → (after : List (Pair × Slots))
           × (front ≡ before_match wants front ++ after)

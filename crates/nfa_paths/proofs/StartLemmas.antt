@@ -1,8 +1,7 @@
 -- The starts of the paths of an NFA, and the edges of its pairs.
 use Rattle.std.proofs.Common.{◌≡◌, ℕ, zero, suc, ◌+◌, ◌-◌, ◌≤◌, ◌<◌, inl, inr, true, List, [], ◌∷◌, refl, ap, arith}
-use Rattle.std.specs.Prelude.{Option, None, Some, is_some, option_and_then, option_map, option_to_list, slice_get, nat_lt}
-use Rattle.std.specs.Option.{option_map_or}
-use Rattle.std.proofs.lemmas.Bool.{lt-ltb, cases_lt, cases_Bool, ltb-true}
+use Rattle.std.specs.Prelude.{Option, None, Some, is_some, option_and_then, option_map, option_to_list, slice_get}
+use Rattle.std.proofs.lemmas.Bool.{cases_lt}
 use Rattle.std.proofs.lemmas.Option.{get_or_from_slice_get}
 use Rattle.regex_search_core.specs.Search.{Search}
 use Rattle.thompson_nfa.specs.Automaton.{Automaton, Node}
@@ -10,16 +9,12 @@ use Rattle.thompson_nfa.specs.Automaton.Node.{ByteRange, Sparse, Dense, Capture,
 use Rattle.nfa_paths.specs.Graphs.{Pair, In}
 use Rattle.nfa_paths.specs.FirstPaths.{Increasing}
 use Rattle.nfa_paths.specs.Kinds.{rests, is_resting}
-use Rattle.nfa_paths.specs.Paths.{pattern_of, slot_of, target_on, byte_at, pairs_from, raised, node_at, is_match, capture, start_state, edges_of, edges, start_count, starts}
+use Rattle.nfa_paths.specs.Paths.{pattern_of, slot_of, target_on, byte_at, pairs_from, raised, node_at, is_match, capture, edges_of, edges, starts}
 
 -- the pairs from a position on are at it or after it
 pub pairs_from-ahead : (state at count : ℕ) (d : Pair) → In d (pairs_from state at count) → at ≤ d.1
 pairs_from-ahead state at zero d i = absurd i
-pairs_from-ahead state at (suc count) d i =
-    elim i [
-      | inl e ↦ let k : d.1 ≡ at = ap (λ x. x.1) e in omega arith
-      | inr later ↦ let k : at + 1 ≤ d.1 = pairs_from-ahead state (at + 1) count d later in omega arith
-    ]
+pairs_from-ahead state at (suc count) d i = grind (arith, pairs_from-ahead state (at + 1) count d)
 
 -- and are all that are
 pub pairs_from-has : (state at count i : ℕ) → at ≤ i → i < at + count → In (state, i) (pairs_from state at count)
@@ -51,19 +46,11 @@ pairs_from-end state {at} {stop} past = let e : stop - at ≡ 0 = omega arith in
 module _ (nfa : Automaton) (x : Search) where
   -- the starts rise
   pub starts-increase : Increasing (starts nfa x)
-  starts-increase = of (start_state nfa x.anchored)
-    where
-      of : (o : Option ℕ) → Increasing (option_map_or (λ state. pairs_from state x.start (start_count nfa x)) o [])
-      of None = tt
-      of (Some state) = pairs_from-increase state x.start (start_count nfa x)
+  starts-increase = grind (arith, pairs_from-increase)
 
   -- a span that is over holds no start
   pub starts-none : x.end < x.start → starts nfa x ≡ []
-  starts-none past = of (start_state nfa x.anchored)
-    where
-      of : (o : Option ℕ) → option_map_or (λ state. pairs_from state x.start (start_count nfa x)) o [] ≡ []
-      of None = refl
-      of (Some state) = rw (lt-ltb x.end x.start past) refl
+  starts-none past = grind arith
 
 -- the pairs
 
@@ -88,19 +75,11 @@ IsMatch-capture nfa v m = Match-slot (node_at nfa v.0) m
 
 -- a state that rests writes nothing
 pub resting-capture : (nfa : Automaton) (v : Pair) → is_resting nfa v ≡ true → capture nfa v ≡ None
-resting-capture nfa v = of (node_at nfa v.0)
-  where
-    of : (n : Node) → rests n ≡ true → slot_of n ≡ None
-    of (Capture next slot) r = cc
-    of _ r = refl
+resting-capture nfa v = grind arith
 
 -- a byte that is read is before the end of the span
 pub byte_at-within : (x : Search) (p b : ℕ) → byte_at x p ≡ Some b → p < x.end
-byte_at-within x p b e =
-    elim (cases_Bool (nat_lt p x.end)) [
-      | inl t ↦ ltb-true p x.end t
-      | inr f ↦ absurd (let never : None ≡ Some b = rw f at e in cc)
-    ]
+byte_at-within x p b e = grind arith
 
 -- the pair that a state leads to on the byte, if it reads the byte
 abbrev pub byte_pairs : Node → ℕ → Option ℕ → List Pair
@@ -114,16 +93,8 @@ unfolding edges_of
 resting-edges x (ByteRange t) p r = refl
 resting-edges x (Sparse ts) p r = refl
 resting-edges x (Dense targets) p r = refl
-resting-edges x Fail p r = nowhere p (byte_at x p)
-  where
-    nowhere : (p : ℕ) (byte : Option ℕ) → [] ≡ byte_pairs Fail p byte
-    nowhere p None = refl
-    nowhere p (Some b) = refl
-resting-edges x (Match pattern) p r = nowhere p (byte_at x p)
-  where
-    nowhere : (p : ℕ) (byte : Option ℕ) → [] ≡ byte_pairs (Match pattern) p byte
-    nowhere p None = refl
-    nowhere p (Some b) = refl
+resting-edges x Fail p r = grind arith
+resting-edges x (Match pattern) p r = grind arith
 resting-edges x _ p r = cc
 
 -- the edges depend on the haystack and on the end of the span only

@@ -1,7 +1,5 @@
 -- Sets of pairs as tests.
-use Rattle.std.proofs.Common.{◌≡◌, ℕ, ◌⊎◌, inl, inr, Bool, true, false, refl, sym}
-use Rattle.std.proofs.Math.Decide.{ℕ_discrete}
-use Rattle.std.proofs.lemmas.Bool.{cases_Bool}
+use Rattle.std.proofs.Common.{◌≡◌, ℕ, ◌⊎◌, inl, inr, Bool, true, false, refl, sym, arith}
 use Rattle.nfa_paths.specs.Graphs.{Pair, WantedAt}
 use Rattle.nfa_paths.specs.Kinds.{Passes}
 
@@ -38,8 +36,4 @@ same_test false false f g = refl
 
 -- it is decidable whether a pair is at e and passes a test
 pub tell_at : (wanted : Pair → Bool) (e : ℕ) → Tested (WantedAt (Passes wanted) e)
-tell_at wanted e v =
-    elim (cases_Bool (wanted v)) [
-      | inl t ↦ elim (ℕ_discrete v.1 e) [ yes p ↦ inl (record { wanted = t; at = p }) | no n ↦ inr (λ h. n h.at) ]
-      | inr g ↦ inr (λ h. is_plain (wanted v) g h.wanted)
-    ]
+tell_at wanted e v = grind arith

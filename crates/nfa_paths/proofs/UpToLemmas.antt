@@ -1,5 +1,5 @@
 -- What a set of patterns becomes under LeftmostFirst, position by position.
-use Rattle.std.proofs.Common.{◌≡◌, ℕ, ◌+◌, ◌<◌, ◌⊎◌, ◌↔◌, inl, inr, Bool, true, false, List, [], map, length, refl, sym, ap, ◌∙◌, subst, arith}
+use Rattle.std.proofs.Common.{◌≡◌, ℕ, ◌+◌, ◌<◌, ◌⊎◌, ◌↔◌, inl, inr, Bool, true, false, List, [], map, length, refl, sym, ap, ◌∙◌, subst, arith, rules}
 use Rattle.std.specs.Prelude.{Option, None, Some}
 use Rattle.std.proofs.lemmas.Bool.{cases_lt}
 use Rattle.regex_search_core.specs.PatternSets.{with_pattern, size_of_set}
@@ -11,7 +11,7 @@ use Rattle.nfa_paths.specs.Exploring.{Slots, Hit, apply, ExploresTo}
 use Rattle.nfa_paths.specs.Exploring.Task.{Explore}
 use Rattle.nfa_paths.specs.Kinds.{Passes, WantedBefore, NoneBefore, found_along, is_resting}
 use Rattle.nfa_paths.specs.Paths.{space, capture, edges, starts}
-use Rattle.nfa_paths.specs.Overlaps.{HoldsPattern, pattern_at, IsPermitted, IsInsertable, IsPatternOf, IsSelectedPath, HoldsPath, IsFirstBefore, IsOverlapResult}
+use Rattle.nfa_paths.specs.Overlaps.{HoldsPattern, pattern_at, IsPermitted, IsInsertable, IsPatternOf, IsSelectedPath, IsFirstBefore, IsOverlapResult}
 use Rattle.nfa_paths.proofs.AnswerLemmas.{same_parts}
 use Rattle.nfa_paths.proofs.ScanLemmas.{IsFirstPath-found}
 use Rattle.nfa_paths.proofs.ReachedLemmas.{IsReached-along}
@@ -19,7 +19,6 @@ use Rattle.nfa_paths.proofs.SetLemmas.{holds-below, holds-with, length-with, siz
 use Rattle.nfa_paths.proofs.GainLemmas.{wanted-shape}
 use Rattle.nfa_paths.proofs.SoundLemmas.{FirstAt}
 use Rattle.nfa_paths.proofs.PathToLemmas.{EndsWith-last, found-end, IsFirstTo-along}
-use Rattle.nfa_paths.proofs.OptionLemmas.{same_some}
 
 -- The set before is `old`: wanted is what it has room for.
 module _ (nfa : Automaton) (x : Search) (old : List Bool) (wants : Pair → Bool)
@@ -38,23 +37,11 @@ module _ (nfa : Automaton) (x : Search) (old : List Bool) (wants : Pair → Bool
     never_held m p w h = none m p w ((tells m).1 h)
 
     pub First-none : (earliest : Bool) → size_of_set old ≡ 0 → IsOverlapResult nfa x LeftmostFirst earliest old old
-    First-none earliest empty = record {
-      capacity = refl;
-      keeps = λ k h. h;
-      sound = λ k h. inl h;
-      gains = record {
-        full = λ some. refl;
-        empty = λ e. record { path = None; meant = of earliest; holds = still earliest };
-      };
-    }
+    First-none earliest empty = (grind (arith, of))
       where
         of : (b : Bool) → IsSelectedPath nfa x b (length old) None
         of false = never_held
         of true = never_held
-
-        still : (b : Bool) → HoldsPath nfa x b None old
-        still false = empty
-        still true = empty
 
   -- the first front with a wanted pair: its first has the pattern of the earliest path
   pub FirstAt-found : {e k : ℕ} {a : Pair × Slots} {new : List Bool} → NoneBefore (space nfa x) wants e
@@ -69,18 +56,7 @@ module _ (nfa : Automaton) (x : Search) (old : List Bool) (wants : Pair → Bool
       record {
         capacity = rw put (length-with old k);
         keeps = λ j h. absurd (size-none old empty j h);
-        sound = λ j h.
-            inr (
-              (only j h).0,
-              record {
-                end = f.first.end;
-                along = f.path;
-                path = f.first.path;
-                wanted = w.wanted.permitted;
-                pattern_is =
-                    rw (← (only j h).1) at_end;
-              },
-            );
+        sound = grind arith;
         gains = record {
           full = λ some. absurd (omega arith);
           empty = λ no. record {
@@ -88,35 +64,15 @@ module _ (nfa : Automaton) (x : Search) (old : List Bool) (wants : Pair → Bool
             meant = (
               e,
               record {
-                is_end = record {
-                  end = f.first.end;
-                  along = f.path;
-                  path = f.first.path;
-                  wanted =
-                      w.wanted;
-                  at = w.at;
-                };
+                is_end = grind arith;
                 least = λ m p v h. elim (cases_lt m.1 e) [
                   | inl less ↦ absurd (none m p v (record { wanted = (tells m).1 h; before = less }))
                   | inr more ↦ more
                 ];
               },
-              IsFirstTo-along (edges nfa x) (starts nfa x) (WantedAt (Passes wants) e)
-                  (WantedAt (IsInsertable nfa x (length old)) e) (wanted_at e) (held_at e) f.first,
+              search (rules, IsFirstTo-along, held_at, wanted_at),
             );
-            holds = record {
-              end = f.first.end;
-              ends = EndsWith-last None f.first.end f.path f.first.path.ends;
-              pattern = k;
-              pattern_is = at_end;
-              holds = λ j. (
-                λ h. sym (only j h).1,
-                λ same_pattern.
-                    let below : k < length old = subst (λ n. n < length old)
-                    (same_some w.wanted.pattern k (sym w.wanted.pattern_is ∙ at_end)) w.wanted.below in
-                    rw put ((holds-with old k j).1 (inr (let l : j < length old = omega arith in l, sym same_pattern))),
-              );
-            };
+            holds = search (rules, EndsWith-last);
           };
         };
       }
@@ -142,17 +98,7 @@ module _ (nfa : Automaton) (x : Search) (old : List Bool) (wants : Pair → Bool
 
   pub UpTo-next : (e : ℕ) (g : Hit) (new : List Bool) → UpTo e g new → UpTo (e + 1) g new
   UpTo-next e None new h = h
-  UpTo-next e (Some a) new h = record {
-    capacity = h.capacity;
-    pattern = h.pattern;
-    pattern_is = h.pattern_is;
-    before = let k : a.0.1 < e = h.before in omega arith;
-    wanted = h.wanted;
-    along = h.along;
-    path = h.path;
-    holds = h.holds;
-    others = h.others;
-  }
+  UpTo-next e (Some a) new h = grind arith
 
   -- one more match
   pub UpTo-match : (e : ℕ) {k : ℕ} (g : Hit) (a : Pair × Slots) (mid new : List Bool)
@@ -188,18 +134,8 @@ module _ (nfa : Automaton) (x : Search) (old : List Bool) (wants : Pair → Bool
       earlier None same_set j h = absurd (size-none old empty j (rw same_set at h))
       earlier (Some b) u j h =
           elim (u.others j h) [
-            | inl same_pattern ↦ record {
-              end = b.0;
-              along = u.along;
-              path = u.path;
-              wanted = record { wanted = ((tells b.0).0 u.wanted).permitted; before = u.before };
-              pattern_is = rw same_pattern u.pattern_is;
-            }
-            | inr r ↦ IsReached-along (λ v w. record {
-              wanted = w.wanted;
-              before = let k : v.1 < b.0.1 = w.before in
-                  let l : b.0.1 < e = u.before in omega arith;
-            }) r
+            | inl same_pattern ↦ grind arith
+            | inr r ↦ grind arith
           ]
 
   -- the result of the search in the end
@@ -217,15 +153,13 @@ module _ (nfa : Automaton) (x : Search) (old : List Bool) (wants : Pair → Bool
           → IsOverlapResult nfa x LeftmostFirst false old new
       of None same_set None none is = rw same_set (First-none none false empty)
       of None same_set (Some p) first is =
-          let end = found-end (capture nfa) first.end p slots first.path.ends in
-          let never : Some (first.end, apply (capture nfa) p slots) ≡ None = sym end ∙ is in cc
+          (grind (arith, found-end))
       of (Some a) u None none is = cc
       of (Some a) u (Some p) first is =
           let end = found-end (capture nfa) first.end p slots first.path.ends in
           let here : first.end ≡ a.0 = (same_parts (first.end, apply (capture nfa) p slots) a (sym end ∙ is)).0 in
           let held : IsInsertable nfa x (length old) a.0 = (tells a.0).0 u.wanted in
-          let below : u.pattern < length old = subst (λ n. n < length old)
-          (same_some held.pattern u.pattern (sym held.pattern_is ∙ u.pattern_is)) held.below in
+          let below : u.pattern < length old = (grind arith) in
           let at : pattern_at nfa first.end ≡ Some u.pattern = rw here u.pattern_is in
           record {
             capacity = u.capacity;
@@ -237,14 +171,7 @@ module _ (nfa : Automaton) (x : Search) (old : List Bool) (wants : Pair → Bool
                   omega arith,
                   elim (u.others j h) [
                     | inl same_pattern ↦
-                        record {
-                          end = a.0;
-                          along = u.along;
-                          path = u.path;
-                          wanted = held.permitted;
-                          pattern_is =
-                              rw same_pattern u.pattern_is;
-                        }
+                        grind arith
                     | inr r ↦ IsReached-along (λ v w. w.wanted) r
                   ],
                 );
@@ -254,15 +181,7 @@ module _ (nfa : Automaton) (x : Search) (old : List Bool) (wants : Pair → Bool
                 path = Some p;
                 meant = IsFirstTo-along (edges nfa x) (starts nfa x) (Passes wants) (IsInsertable nfa x (length old))
                     (λ v. (tells v).0) (λ v. (tells v).1) first;
-                holds = record {
-                  end = first.end;
-                  ends = EndsWith-last None first.end p first.path.ends;
-                  pattern = u.pattern;
-                  pattern_is = at;
-                  holds = u.holds below;
-                  others = λ j h. rw here (u.others j h);
-                  exact = exact;
-                };
+                holds = grind arith;
               };
             };
           }
