@@ -1,12 +1,11 @@
 -- What the searches of an iteration by an engine leave, which calls its iterators may make, and what these calls keep.
 use Rattle.std.proofs.Common.{◌≡◌, ◌∙◌, ℕ, Bool, true, false, Option, None, Some, Result, Ok, Err, refl, sym, ap, subst}
-use Rattle.std.proofs.Common.{◌⊎◌, ◌≤◌, inl, inr, List}
+use Rattle.std.proofs.Common.{◌⊎◌, ◌≤◌, inl, inr}
 use Rattle.std.specs.Prelude.{IfErr, IfOk, IsTrue, is_some}
 use Rattle.std.specs.Option.{ForSome, option_map}
 use Rattle.regex_search_core.specs.Found.{Found, found_of}
 use Rattle.regex_search_core.specs.Search.{Search}
 use Rattle.regex_search_core.specs.Slots.{Captured}
-use Rattle.regex_search_core.specs.declared.search.Anchored.{Anchored}
 use Rattle.regex_search_core.specs.declared.search.Match.{Match}
 use Rattle.regex_search_core.specs.declared.search.MatchKind.{MatchKind}
 use Rattle.regex_search_core.specs.declared.search.Span.{Span}
@@ -29,7 +28,7 @@ use Rattle.nfa_search_base.specs.IterStates.{Answer, AnswerIsInside, IsInfallibl
 use Rattle.nfa_search_base.specs.declared.error.SearchError.{SearchError}
 use Rattle.nfa_search_base.specs.declared.error.SearchError.TheVariants.{Memory}
 use Rattle.nfa_search_base.specs.declared.iter.steps.Steps.{Steps}
-use Rattle.nfa_search_base.proofs.AskingLemmas.{same_start-self, same_start-then, ServesOnAlong-by}
+use Rattle.nfa_search_base.proofs.AskingLemmas.{ServesOnAlong-by}
 use Rattle.nfa_search_base.proofs.CapturesRunLemmas.{captures-given, captures-memory, groups-hold}
 use Rattle.nfa_search_base.proofs.ListLemmas.{match-lies}
 use Rattle.nfa_search_base.proofs.RunLemmas.{calls-keep, step-holds, step-keeps}
@@ -39,49 +38,15 @@ use Rattle.nfa_search_base.proofs.StepLemmas.{chosen}
 
 -- a search like another is that one with a start of its own
 like-is : (x t : Search) (start : ℕ) → SameButStart x t → record x { start = start } ≡ record t { start = start }
-like-is x t start same =
-    ap (λ (h : List ℕ). record {
-      haystack = h;
-      start = start;
-      end = x.end;
-      anchored = x.anchored;
-      earliest =
-          x.earliest;
-    }) (sym same.haystack)
-    ∙ ap (λ (e : ℕ). record {
-      haystack = t.haystack;
-      start = start;
-      end = e;
-      anchored = x.anchored;
-      earliest =
-          x.earliest;
-    }) (sym same.end)
-    ∙ ap (λ (a : Anchored). record {
-      haystack = t.haystack;
-      start = start;
-      end = t.end;
-      anchored = a;
-      earliest =
-          x.earliest;
-    }) (sym same.anchored)
-    ∙ ap (λ (e : Bool). record {
-      haystack = t.haystack;
-      start = start;
-      end = t.end;
-      anchored = t.anchored;
-      earliest =
-          e;
-    }) (sym same.earliest)
+like-is x t start same = rw (same.haystack, same.end, same.anchored, same.earliest) refl
 
 same_start-back : (x t : Search) → SameButStart x t → SameButStart t x
-same_start-back x t same =
-    record {
-      haystack = sym same.haystack;
-      end = sym same.end;
-      anchored = sym same.anchored;
-      earliest =
-          sym same.earliest;
-    }
+same_start-back x t same = record {
+  haystack = sym same.haystack;
+  end = sym same.end;
+  anchored = sym same.anchored;
+  earliest = sym same.earliest;
+}
 
 -- ---- matches
 
@@ -184,7 +149,7 @@ module _ {E : Type 0} (Sure : E → Search → Found → Type 0) where
         → ((e : E) (t : Search) (a : Answer Found) → Tells e t a → P t a)
         → (s : WithCache A C) (x : Search) → May s x → ServesOnAlong May Asks SameButStart P s x
     finder-serves P lies s x may =
-        ServesOnAlong-by May Asks SameButStart same_start-self same_start-then P (λ (q : WithCache A C). May q x)
+        ServesOnAlong-by May Asks P (λ (q : WithCache A C). May q x)
         s x may
         (λ q t same may. record {
           fits = may.fits;
@@ -250,7 +215,7 @@ module _ {E C : Type 0} (nfa : E → Automaton) (Fits : C → E → Type 0) (Tel
       → (s : WithCache (WithCaptures E) C) (x : Search) → MayRow s
       → ServesOnAlong (λ q t. MayRow q) AsksRow SameButStart (AnswerIsInside row_span) s x
   catcher-serves lies s x may =
-      ServesOnAlong-by (λ q t. MayRow q) AsksRow SameButStart same_start-self same_start-then (AnswerIsInside row_span)
+      ServesOnAlong-by (λ q t. MayRow q) AsksRow (AnswerIsInside row_span)
       (λ (q : WithCache (WithCaptures E) C). MayRow q) s x may (λ q t same may. may)
       (λ q t a q' same may asked. (lies q.backend.finder t a asked.tells, may_row-after q t a q' may asked))
 

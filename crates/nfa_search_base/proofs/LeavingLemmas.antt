@@ -27,7 +27,7 @@ use Rattle.nfa_search_base.specs.declared.iter.steps.Steps.{Steps}
 use Rattle.nfa_search_base.proofs.CapturesRunLemmas.{copy-says}
 use Rattle.nfa_search_base.proofs.MatchRunLemmas.{yields-inner}
 use Rattle.nfa_search_base.proofs.RunLemmas.{Says, item-says}
-use Rattle.nfa_search_base.proofs.StepLemmas.{chosen, chosen-false, chosen-true}
+use Rattle.nfa_search_base.proofs.StepLemmas.{chosen}
 
 -- `seen` is the state as a K, and stays `Good`. An item says what its answer is.
 module _ {S X Y K : Type 0} (span : X → Span) (asks : S → Search → Answer X → S → Type 0)
@@ -71,7 +71,7 @@ module _ {S X Y K : Type 0} (span : X → Span) (asks : S → Search → Answer 
 
   -- a call of an iterator that has ended changes nothing
   still : (s u : Steps S) (r : Option (Result Y SearchError)) → s.done ≡ true → steps s r u → u ≡ s
-  still s u r d st = (chosen-true s.done d (chosen s.done st)).1
+  still s u r d st = let k = rw d at st in rw (← d) at k.1
 
   all-still : (xs : List (Result Y SearchError)) (s t u : Steps S) (r : Option (Result Y SearchError))
       → s.done ≡ true → Yields steps s xs t → steps t r u → u ≡ s
@@ -83,7 +83,7 @@ module _ {S X Y K : Type 0} (span : X → Span) (asks : S → Search → Answer 
   -- any other call is a step
   turn : (s : Steps S) (r : Option (Result Y SearchError)) (u : Steps S) → s.done ≡ false → steps s r u
       → TakesStep span asks gives s.backend (steps_iter_state s) r u.backend (steps_iter_state u) u.done
-  turn s r u going st = chosen-false s.done going (chosen s.done st)
+  turn s r u going st = rw going at st
 
   only : (w : IterState) (a : Answer X) (p q : K) (v : IterState) → Advances span looks p w a q v → Leads w p (a ∷ []) q
   only w (Ok (Some x)) p q v step = (q, v, step, refl)

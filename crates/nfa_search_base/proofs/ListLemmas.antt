@@ -1,6 +1,5 @@
 -- The list of an iteration's items. There is at most one, and exactly one if each search has an answer. Its matches do
--- not overlap, are in the span, and are at most one more than the span has bytes. The same for the list of the matches
--- of an NFA.
+-- not overlap, and are in the span. The same for the list of the matches of an NFA.
 use Rattle.std.proofs.Common.{◌≡◌, ◌∙◌, ℕ, zero, suc, ◌≤◌, ◌<◌, inl, inr, Bool, true, false}
 use Rattle.std.proofs.Common.{if◌then◌else◌, MatchBool}
 use Rattle.std.proofs.Common.{Option, None, Some, Ok, Err, List, [], ◌∷◌, ◌++◌, map, length, refl, sym, ap, subst}
@@ -214,17 +213,6 @@ module _ {X : Type 0} (span : X → Span) (tells : Search → Answer X → Type 
           step-behind w m behind h.0,
           spans-apart ends x (past w m) items (omega (arith, k.0, k.1, from)) to (behind-after (span m).end) h.1,
         )
-
-    -- so there are at most as many matches as ends are left
-    pub next-few : (ends : IterState → SearchError → Type 0) (w : IterState) (items : List (Item X))
-        → EndsBy w.last w.at.start → ItemsNext span tells ends w items
-        → length (matches_in items) ≤ ends_left w
-    next-few ends w [] behind h = omega arith
-    next-few ends w (Ok x ∷ items) behind h =
-        let fewer = step-fewer w x behind h.0 in
-        let rest = next-few ends (past w x) items (behind-after (span x).end) h.1 in
-        omega (arith, fewer, rest)
-    next-few ends w (Err e ∷ items) behind h = rw h.1 (omega arith)
 
     -- If h gives the answers of a search, the greedy walk by h gives the list.
     module _ (h : Search → Answer X) where

@@ -17,7 +17,7 @@ use Rattle.nfa_search_base.specs.declared.error.SearchError.{SearchError}
 use Rattle.nfa_search_base.specs.declared.iter.steps.Steps.{Steps}
 use Rattle.nfa_search_base.proofs.ListLemmas.{as_items}
 use Rattle.nfa_search_base.proofs.AskingLemmas.{same_start-self, same_start-then}
-use Rattle.nfa_search_base.proofs.StepLemmas.{chosen, chosen-false, chosen-true, same_start-shifted, same_start-after}
+use Rattle.nfa_search_base.proofs.StepLemmas.{chosen, same_start-shifted, same_start-after}
 
 -- What is shown of the items of calls, as clauses.
 module _ {T R : Type 0} (steps : T → Option R → T → Type 0) where
@@ -78,18 +78,11 @@ module _ {X Y : Type 0} (view : Y → X) (a : Answer X) (ends : SearchError → 
 pub item-says : {X Y : Type 0} (view : Y → X) (step : Answer X → Type 0) (a : Answer X)
     (r : Option (Result Y SearchError))
     → GivesItem view a r → step a → Says view a (λ e. step (Err e)) r
-item-says view step (Ok (Some x)) None gives is = let k : None ≡ Some (Ok x) = gives in cc
-item-says view step (Ok (Some x)) (Some (Ok y)) gives is = let k : Some (Ok (view y)) ≡ Some (Ok x) = gives in cc
-item-says view step (Ok (Some x)) (Some (Err e)) gives is = let k : Some (Err e) ≡ Some (Ok x) = gives in cc
+item-says view step (Ok (Some x)) (Some (Ok y)) gives is = cc
 item-says view step (Ok None) None gives is = refl
-item-says view step (Ok None) (Some (Ok y)) gives is = let k : Some (Ok (view y)) ≡ None = gives in cc
-item-says view step (Ok None) (Some (Err e)) gives is = let k : Some (Err e) ≡ None = gives in cc
-item-says view step (Err q) None gives is = let k : None ≡ Some (Err q) = gives in cc
-item-says view step (Err q) (Some (Ok y)) gives is = let k : Some (Ok (view y)) ≡ Some (Err q) = gives in cc
 item-says {X} view step (Err q) (Some (Err e)) gives is =
-    let k : Some (Err e) ≡ Some (Err q) = gives in
-    let same : (let a : Answer X = Err q in let b : Answer X = Err e in a ≡ b) = cc in
-    subst (λ (b : Answer X). step b) same is
+    let same : (let a : Answer X = Err q in let b : Answer X = Err e in a ≡ b) = cc in rw (← same) is
+item-says view step a r gives is = cc
 
 -- What answers the searches stays `Good`, and on searches like x gives an answer of a search. An item says what its
 -- answer is.
@@ -138,7 +131,7 @@ module _ {S X Y : Type 0} (span : X → Span) (asks : S → Search → Answer X 
 
   turn-at : (w : IterState) (s : Steps S) (r : Option (Result Y SearchError)) (t : Steps S) → IsAt w s → steps s r t
       → TakesStep span asks gives s.backend w r t.backend (steps_iter_state t) t.done
-  turn-at w s r t at st = rw at.walk at (chosen-false s.done at.going (chosen s.done st))
+  turn-at w s r t at st = rw (at.going, at.walk) at st
 
   -- a call leads to the state that its item says
   leads : (w : IterState) (s : Steps S) (r : Option (Result Y SearchError)) (t : Steps S) → IsAt w s → steps s r t
@@ -171,7 +164,7 @@ module _ {S X Y : Type 0} (span : X → Span) (asks : S → Search → Answer X 
   -- an iterator that has ended gives nothing
   ended : (s t : Steps S) (xs : List (Result Y SearchError)) → s.done ≡ true → Yields steps s xs t → xs ≡ []
   ended s t [] d h = refl
-  ended s t (y ∷ ys) d h = let never : Some y ≡ None = (chosen-true s.done d (chosen s.done h.1)).0 in cc
+  ended s t (y ∷ ys) d h = let k = rw d at h.1 in let never : Some y ≡ None = k.0 in cc
 
   abbrev items : List (Result Y SearchError) → List (Item X)
   items = map (item_by view)
