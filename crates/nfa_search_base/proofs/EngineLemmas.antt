@@ -98,8 +98,7 @@ module _ {E : Type 0} (Sure : E → Search → Found → Type 0) where
   -- what is known of searches is known of the ones like them
   known-like : (e : E) (x t : Search) (known : Option Match) → SameButStart x t → IsKnownFrom Sure e x known
       → IsKnownFrom Sure e t known
-  known-like e x t known same knows = λ m is. subst (λ (y : Search). Sure e y (found_of m))
-      (like-is x t m.span.end same) (knows m is)
+  known-like e x t known same knows = λ m is. rw (← like-is x t m.span.end same) (knows m is)
 
   -- the match that is known answers, if there is one
   pub known-answer : (e : E) (t : Search) (known kept : Option Match) (Tells : Answer Found → Type 0)
@@ -134,13 +133,13 @@ module _ {E : Type 0} (Sure : E → Search → Found → Type 0) where
     may-after : (x : Search) (s : WithCache A C) (t : Search) (a : Answer Found) (s' : WithCache A C)
         → SameButStart x t → May s x → Asks s t a s' → May s' x
     may-after x s t a s' same may asked = record {
-      fits = subst (λ (e : E). Fits s'.cache e) (sym asked.engine) fits;
+      fits = rw asked.engine fits;
       knows = known-like (shown s'.backend).engine t x (shown s'.backend).known (same_start-back x t same) asked.knows;
     }
       where
         fits : Fits s'.cache (shown s.backend).engine
         fits = elim (same-or-made (Work (shown s.backend).engine) scans t a _ _ asked.work) [
-          | inl same ↦ subst (λ (c : C). Fits c (shown s.backend).engine) (sym same) may.fits
+          | inl same ↦ rw same may.fits
           | inr work ↦ stays (shown s.backend).engine t a s.cache s'.cache work may.fits
         ]
 
@@ -167,7 +166,7 @@ module _ {E : Type 0} (Sure : E → Search → Found → Type 0) where
         → takes_steps span_of Asks (λ q. gives q.backend) s r t → May s.backend (steps_iter_state s).at
         → May t.backend (steps_iter_state t).at
     finder-goes {Y} gives s r t st may = elim (chosen s.done st) [
-      | inl p ↦ subst (λ (q : Steps (WithCache A C)). May q.backend (steps_iter_state q).at) (sym p.1.1) may
+      | inl p ↦ rw p.1.1 may
       | inr p ↦
           let x = (steps_iter_state s).at in
           let on : May t.backend x = step-holds span_of Asks (λ (q : WithCache A C). May q x) s.backend
@@ -182,7 +181,7 @@ module _ {E : Type 0} (Sure : E → Search → Found → Type 0) where
     -- the engine gives the answers of its searches, and stays the same
     pub finder-acts : (e : E) (s : WithCache A C) (t : Search) (a : Answer Found) (s' : WithCache A C)
         → (shown s.backend).engine ≡ e → Asks s t a s' → Tells e t a × ((shown s'.backend).engine ≡ e)
-    finder-acts e s t a s' is asked = (subst (λ (b : E). Tells b t a) is asked.finds, asked.engine ∙ is)
+    finder-acts e s t a s' is asked = (rw is at asked.finds, asked.engine ∙ is)
 
 -- ---- captures
 
@@ -205,9 +204,8 @@ module _ {E C : Type 0} (nfa : E → Automaton) (Fits : C → E → Type 0) (Tel
       (t : WithCache (WithCaptures E) C) → MayRow s
       → AsksRow s x a t → MayRow t
   may_row-after s x a t may asked = record {
-    fits = subst (λ (e : E). Fits t.cache e) (sym asked.engine)
-        (stays s.backend.finder x a s.cache t.cache asked.work may.fits);
-    holds = subst (λ (e : E). HasGroups (nfa e) t.backend.captures) (sym asked.engine) asked.holds;
+    fits = rw asked.engine (stays s.backend.finder x a s.cache t.cache asked.work may.fits);
+    holds = rw asked.engine asked.holds;
   }
 
   -- the iterator may search wherever searches lead
@@ -231,7 +229,7 @@ module _ {E C : Type 0} (nfa : E → Automaton) (Fits : C → E → Type 0) (Tel
   pub catcher-acts : (e : E) (s : WithCache (WithCaptures E) C) (t : Search) (a : Answer Row)
       (s' : WithCache (WithCaptures E) C)
       → s.backend.finder ≡ e → AsksRow s t a s' → Tells e t a × (s'.backend.finder ≡ e)
-  catcher-acts e s t a s' is asked = (subst (λ (b : E). Tells b t a) is asked.tells, asked.engine ∙ is)
+  catcher-acts e s t a s' is asked = (rw is at asked.tells, asked.engine ∙ is)
 
   -- An iterator around such steps. The engine gives answers as in `Told` on searches like x. Without an error, that is
   -- the row of its NFA.

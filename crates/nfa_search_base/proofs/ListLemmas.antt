@@ -102,7 +102,7 @@ module _ {X : Type 0} (span : X → Span) (tells : Search → Answer X → Type 
       → Step w (Err e) → ⊥
   never-fails never w e h = elim (chosen (repeats w (answer_span span h.first)) h.rest) [
     | inl p ↦ never (shifted w).at e p.1
-    | inr p ↦ never w.at e (subst (λ (a : Answer X). tells w.at a) (sym p.1) h.is_first)
+    | inr p ↦ never w.at e (rw p.1 h.is_first)
   ]
 
   -- so all items are matches
@@ -119,9 +119,7 @@ module _ {X : Type 0} (span : X → Span) (tells : Search → Answer X → Type 
     pub step-unique : (w : IterState) (a b : Answer X) → Step w a → Step w b → a ≡ b
     step-unique w a b h k =
         let first : h.first ≡ k.first = one w.at h.first k.first h.is_first k.is_first in
-        of (repeats w (answer_span span h.first)) h.rest
-        (subst (λ (o : Answer X). MatchBool (repeats w (answer_span span o)) (tells (shifted w).at b) (b ≡ o))
-        (sym first) k.rest)
+        of (repeats w (answer_span span h.first)) h.rest (rw first k.rest)
       where
         of : (again : Bool) → MatchBool again (tells (shifted w).at a) (a ≡ h.first)
             → MatchBool again (tells (shifted w).at b) (b ≡ h.first) → a ≡ b
@@ -132,17 +130,14 @@ module _ {X : Type 0} (span : X → Span) (tells : Search → Answer X → Type 
     pub next-rest : (w : IterState) (xs ys : List (Item X)) → Next w xs → Last w ys
         → (more : List (Item X)) × (ys ≡ xs ++ more)
     next-rest w [] ys h k = (ys, refl)
-    next-rest w (Ok x ∷ xs) [] h k = let e : Ok (Some x) ≡ Ok None = step-unique w (Ok (Some x)) (Ok None) h.0 k in cc
+    next-rest w (Ok x ∷ xs) [] h k = let e = step-unique w (Ok (Some x)) (Ok None) h.0 k in cc
     next-rest w (Ok x ∷ xs) (Ok y ∷ ys) h k =
         let same : x ≡ y = match-same x y (step-unique w (Ok (Some x)) (Ok (Some y)) h.0 k.0) in
-        let there = subst (λ (m : X). Last (past w m) ys) (sym same) k.1 in
-        let rest = next-rest (past w x) xs ys h.1 there in
+        let rest = next-rest (past w x) xs ys h.1 (rw same k.1) in
         (rest.0, ap (λ (m : X). Ok m ∷ ys) (sym same) ∙ ap (λ (l : List (Item X)). Ok x ∷ l) rest.1)
-    next-rest w (Ok x ∷ xs) (Err q ∷ ys) h k = let e : Ok (Some x) ≡ Err q =
-        step-unique w (Ok (Some x)) (Err q) h.0 k.0 in cc
-    next-rest w (Err e ∷ xs) [] h k = let is : Err e ≡ Ok None = step-unique w (Err e) (Ok None) h.0 k in cc
-    next-rest w (Err e ∷ xs) (Ok y ∷ ys) h k = let is : Err e ≡ Ok (Some y) =
-        step-unique w (Err e) (Ok (Some y)) h.0 k.0 in cc
+    next-rest w (Ok x ∷ xs) (Err q ∷ ys) h k = let e = step-unique w (Ok (Some x)) (Err q) h.0 k.0 in cc
+    next-rest w (Err e ∷ xs) [] h k = let is = step-unique w (Err e) (Ok None) h.0 k in cc
+    next-rest w (Err e ∷ xs) (Ok y ∷ ys) h k = let is = step-unique w (Err e) (Ok (Some y)) h.0 k.0 in cc
     next-rest w (Err e ∷ xs) (Err q ∷ ys) h k =
         let same : e ≡ q = error-same e q (step-unique w (Err e) (Err q) h.0 k.0) in
         ([], rw (h.1, k.1, same) refl)
@@ -166,8 +161,7 @@ module _ {X : Type 0} (span : X → Span) (tells : Search → Answer X → Type 
       answer = h.first;
       between = tt;
       first = h.is_first;
-      rest =
-          of tt (repeats w (answer_span span h.first)) h.rest;
+      rest = of tt (repeats w (answer_span span h.first)) h.rest;
     }
       where
         of : (u : Unit {0}) (again : Bool)
@@ -185,7 +179,7 @@ module _ {X : Type 0} (span : X → Span) (tells : Search → Answer X → Type 
           let k = lies (shifted w).at (Ok (Some x)) p.1 in
           (omega (arith, k.0.0), k.1 (span x) refl, k.0.1)
       | inr p ↦
-          let k = lies w.at (Ok (Some x)) (subst (λ (a : Answer X). tells w.at a) (sym p.1) h.is_first) in
+          let k = lies w.at (Ok (Some x)) (rw p.1 h.is_first) in
           (k.0.0, k.1 (span x) refl, k.0.1)
     ]
 
@@ -241,7 +235,7 @@ module _ {X : Type 0} (span : X → Span) (tells : Search → Answer X → Type 
           onward : Rest → (a : Answer X) → Step w a → (x : X) → a ≡ Ok (Some x)
               → Last (past w x) (items_within span h n (past w x))
           onward rec a step x e =
-              let fewer = step-fewer w x behind (subst (λ (b : Answer X). Step w b) e step) in
+              let fewer = step-fewer w x behind (rw e at step) in
               rec (past w x) (omega (arith, fewer)) (behind-after (span x).end)
               (λ t alike. gives t (same_start-then w.at (past w x).at t (same_start-after w (Some (span x))) alike))
 
@@ -254,8 +248,7 @@ module _ {X : Type 0} (span : X → Span) (tells : Search → Answer X → Type 
               record {
                 first = h w.at;
                 is_first = gives w.at (same_start-self w.at);
-                rest =
-                    rw e (gives (shifted w).at (same_start-shifted w));
+                rest = rw e (gives (shifted w).at (same_start-shifted w));
               } in
               built n w (h (shifted w).at) _ step
               (λ x is. (
