@@ -1,6 +1,6 @@
 -- The answers of searches in an iteration by a backtracker, and when its iterator may search.
 use Rattle.std.proofs.Common.{◌≡◌, ◌∙◌, ℕ, ◌+◌, ◌-◌, ◌*◌, ◌≤◌, refl, false, Option, None, Some, Result, Ok, Err, arith, length}
-use Rattle.std.proofs.Common.{List, ◌∷◌, MatchBool, ap, subst, sym}
+use Rattle.std.proofs.Common.{List, ◌∷◌, MatchBool, ap}
 use Rattle.std.specs.Option.{option_map}
 use Rattle.std.specs.Prelude.{IfOk, IfSome, OnOk, OnErr}
 use Rattle.std.proofs.Math.Nat.{mul-le-mul_left}
@@ -56,10 +56,9 @@ pub found-sure : (e : Backtracker) (t : Search) (r : Result (Option Match) Searc
     → SearchesOnce e t (answer_by found_of r) old new
     → IsSureAt e (raised t (new.scans - 1)) (found_of m)
 found-sure e t r old new m is finds once =
-    let found = subst (λ (q : Result (Option Match) SearchError). IsTryFindAnswer e t (answer_by found_of q)) is
-    finds in
-    let work = subst (λ (q : Result (Option Match) SearchError). DoesWork e t (answer_by found_of q) new) is
-    once.exact in
+    let found = rw is at finds in
+    let exact = once.exact in
+    let work = rw is at exact in
     let last = raised t (new.scans - 1) in (
       still-fits e t last refl (omega arith) found.0,
       match-sure e.nfa LeftmostFirst false last (found_of m)
@@ -163,8 +162,7 @@ module _ (e : Backtracker) (x : Search) (s : TryFindMatches) (engine : s.steps.b
       → backtrack_matches_next p r q
       → TakesStepWith span_of AsksBacktracker (λ _. GivesItem found_of) (backtrack_matches p)
       (option_map (λ i. i) r) (backtrack_matches q)
-  step-is p r q st = subst (λ (o : Option (Result Match SearchError)). TakesStepWith span_of AsksBacktracker
-      (λ _. GivesItem found_of) (backtrack_matches p) o (backtrack_matches q)) (sym (same-item r)) st.takes
+  step-is p r q st = rw (same-item r) st.takes
 
   -- the calls change the cache only by their searches
   pub finds-searches : FindsBySearches e x s

@@ -1,6 +1,6 @@
 -- The calls of an iterator over a backtracker's matches give the items of its search.
 use Rattle.std.proofs.Common.{◌≡◌, ◌≤◌, arith, false, Option, None, Some, Result, Ok, Err}
-use Rattle.std.proofs.Common.{refl, sym, ap, subst}
+use Rattle.std.proofs.Common.{refl, ap}
 use Rattle.std.proofs.Common.{List, [], ◌∷◌, ◌++◌, map, MatchBool, inl, inr}
 use Rattle.std.specs.Iterator.{Yields}
 use Rattle.regex_search_core.specs.Found.{Found, found_of}
@@ -101,7 +101,7 @@ module _ (e : Backtracker) where
       of : (f : Answer Found) → tells w.at f
           → MatchBool (repeats w (answer_span span_of f)) (tells (shifted w).at (Err r)) (Err r ≡ f)
           → IsRefusal e w.at r
-      of (Err q) is rest = subst (λ (error : SearchError). IsRefusal e w.at error) (sym (err-same r q rest)) is
+      of (Err q) is rest = rw (err-same r q rest) is
       of (Ok None) is rest = let k : Err r ≡ Ok None = rest in cc
       of (Ok (Some f)) is rest = elim (chosen (repeats w (Some (span_of f))) rest) [
         | inl p ↦ elim p.1 [
@@ -158,37 +158,32 @@ module _ (e : Backtracker) where
         → Steps (WithCache Finder BacktrackCache) → Type 0
     core = takes_steps span_of AsksBacktracker (λ q. GivesItem found_of)
 
-    first-come : (xs : List (Result Match SearchError)) (t : TryFindMatches) → Yields backtrack_matches_next s xs t
-        → Next (fresh x) xs
-    first-come xs t ran =
-        gives-first span_of AsksBacktracker (λ q. GivesItem found_of) found_of tells (Fails span_of tells) x
-        (λ q. q.backend.engine.now ≡ e) (back-acts e x) says
-        (steps_with_state (backtrack_matches s)) walk going engine xs (steps_with_state (backtrack_matches t))
-        (yields-inner backtrack_matches_next core (λ q. steps_with_state (backtrack_matches q))
-        (λ a r b st. st.takes.step) xs
-        s t ran)
-
-    all-come : (xs : List (Result Match SearchError)) (t u : TryFindMatches) → Yields backtrack_matches_next s xs t
-        → backtrack_matches_next t None u → Last (fresh x) xs
-    all-come xs t u ran st =
-        gives-all span_of AsksBacktracker (λ q. GivesItem found_of) found_of tells (Fails span_of tells) x
-        (λ q. q.backend.engine.now ≡ e) (back-acts e x) says
-        (steps_with_state (backtrack_matches s)) walk going engine xs (steps_with_state (backtrack_matches t))
-        (steps_with_state (backtrack_matches u))
-        (yields-inner backtrack_matches_next core (λ q. steps_with_state (backtrack_matches q))
-        (λ a r b st. st.takes.step) xs
-        s t ran) st.takes.step
-
     abbrev First : List (Result Match SearchError) → Type 0
     First xs = AreFirstItems e x xs
 
     abbrev Whole : List (Result Match SearchError) → Type 0
     Whole xs = AreAllItems e x xs
 
+    -- the calls of the iterator are those of its steps
+    inner : (xs : List (Result Match SearchError)) (t : TryFindMatches) → Yields backtrack_matches_next s xs t
+        → Yields core (steps_with_state (backtrack_matches s)) xs (steps_with_state (backtrack_matches t))
+    inner xs t = yields-inner backtrack_matches_next core (λ q. steps_with_state (backtrack_matches q))
+        (λ a r b st. st.takes.step) xs s t
+
     -- what its calls give
     pub finds-given : Given backtrack_matches_next First Whole s
-    finds-given = given backtrack_matches_next First Whole s (λ xs t ran. record { come = first-come xs t ran })
-        (λ xs t u ran st. record { come = all-come xs t u ran st })
+    finds-given = given backtrack_matches_next First Whole s
+        (λ xs t ran. record {
+          come = gives-first span_of AsksBacktracker (λ q. GivesItem found_of) found_of tells (Fails span_of tells) x
+              (λ q. q.backend.engine.now ≡ e) (back-acts e x) says (steps_with_state (backtrack_matches s)) walk going
+              engine xs (steps_with_state (backtrack_matches t)) (inner xs t ran);
+        })
+        (λ xs t u ran st. record {
+          come = gives-all span_of AsksBacktracker (λ q. GivesItem found_of) found_of tells (Fails span_of tells) x
+              (λ q. q.backend.engine.now ≡ e) (back-acts e x) says (steps_with_state (backtrack_matches s)) walk going
+              engine xs (steps_with_state (backtrack_matches t)) (steps_with_state (backtrack_matches u))
+              (inner xs t ran) st.takes.step;
+        })
 
     -- items that are all `Ok` are matches
     abbrev FirstMatches : List Match → Type 0
@@ -250,4 +245,4 @@ module _ (e : Backtracker) where
 
     pub ends-by-length : EndsByLength e x s
     ends-by-length = λ xs t u ms ran st is.
-        oks-fit x ms (subst (λ (l : List (Result Match SearchError)). Last (fresh x) l) is (all-come xs t u ran st))
+        oks-fit x ms (rw is at (finds-given.all xs t u ran st).come)

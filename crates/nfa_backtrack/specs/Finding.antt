@@ -1,10 +1,12 @@
 -- The answers of a backtracker to searches for a match or for captures.
-use Rattle.std.specs.Prelude.{◌≡◌, ◌≤◌, ◌*◌, ◌+◌, ℕ, ◌⊎◌, false, length, List, Result, Ok, Err}
+use Rattle.std.specs.Prelude.{◌≡◌, ◌≤◌, ◌*◌, ◌+◌, ℕ, ◌⊎◌, ◌↔◌, false, length, List, Result, Ok, Err, IfErr, IsErrOf}
+use Rattle.std.specs.Prelude.{OnErr, OnOk}
 use Rattle.regex_search_core.specs.Found.{Found}
 use Rattle.regex_search_core.specs.Search.{Search}
 use Rattle.regex_search_core.specs.declared.search.MatchKind.TheVariants.{LeftmostFirst}
 use Rattle.nfa_paths.specs.Known.{IsSureMatch}
 use Rattle.nfa_paths.specs.Paths.{IsFindAnswer, IsWithinScans, IsWork, max_scans, span_len, total_degree}
+use Rattle.nfa_paths.specs.Restarts.{max_scan_turns}
 use Rattle.nfa_search_base.specs.WithCaptures.{Row, row_span}
 use Rattle.nfa_search_base.specs.CapturesLists.{AnswersRow}
 use Rattle.nfa_search_base.specs.Leaving.{DoesSearch, FindsLeave, FindsLeaveAtEnd, Leaves, LeavesAtEnd}
@@ -37,6 +39,22 @@ IsTryCapturesAnswer e x (Err error) = IsRefusal e x error
 -- a match that is sure to be found, by a search that is not too long
 abbrev pub IsSureAt : Backtracker → Search → Found → Type 0
 IsSureAt e x m = ¬ (IsTooLong e x) × IsSureMatch e.nfa LeftmostFirst false x m
+
+-- What a search refuses, counts and grows, whatever it answers. It needs at most so many slots.
+pub record IsCounted {Y : Type 0} (e : Backtracker) (x : Search) (needed : ℕ) (r : Result Y SearchError)
+    (old new : BacktrackCache) : Type 0 where
+  pub too_long : IsErrOf r (HaystackTooLong (span_len x)) ↔ IsTooLong e x
+  pub errors : IfErr r (λ error. (error ≡ Memory) ⊎ (error ≡ HaystackTooLong (span_len x)))
+  pub work : OnOk r (IsWork e.nfa LeftmostFirst false x new.scans new.turns)
+  pub within : OnErr r (IsWithinScans e.nfa LeftmostFirst false x new.scans)
+  pub scans : new.scans ≤ max_scans e.nfa x
+  pub turns : new.turns ≤ new.scans * max_scan_turns e.nfa x
+  pub answered : OnOk r (CountsAnswer old new)
+  pub refused : OnErr r (CountsRefusal old new)
+  pub total : AddsBacktrackWork old new
+  pub blocks : GrowsBlocks e.nfa x old.blocks new.blocks
+  pub holds : HoldsNoMore needed old new
+  pub early : IsTooLong e x → new ≡ refused_early old
 
 -- an answer is counted as an answer, and an error as a refusal
 abbrev pub Counts : {X : Type 0} → Answer X → BacktrackCache → BacktrackCache → Type 0

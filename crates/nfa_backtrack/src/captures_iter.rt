@@ -182,7 +182,17 @@ impl BoundedBacktracker {
         // The cache changes only by the searches of the steps.
         ensures searches { CatchesBySearches self.now (search_of input.entry) result }
     {
-        self.fill_from(cache, input, captures)
+        TryCapturesMatches {
+            cache,
+            steps: Steps {
+                searcher: Searcher::new(input),
+                backend: CapturesFinder {
+                    engine: self,
+                    captures,
+                },
+                done: false,
+            },
+        }
     }
 
     /// Returns the captures of all matches of the input that do not overlap, from left to right, each with all groups
@@ -231,39 +241,6 @@ impl BoundedBacktracker {
             captures: self.create_captures(alloc)?,
         };
         Steps::new(input, catcher).all_with(alloc, cache)
-    }
-
-    // Returns the iterator that searches with these captures.
-    #[inline]
-    fn fill_from<'r, 'c, 'h>(
-        &'r self,
-        cache: &'c mut Cache,
-        input: Input<'h>,
-        captures: Captures,
-    ) -> TryCapturesMatches<'r, 'c, 'h>
-        requires { HasGroups self.now.nfa captures }
-        ensures same_reference { (backtrack_captures_cache result).ghost_name ≡ cache.entry.ghost_name }
-        ensures same_cache { (backtrack_captures_cache result).now ≡ cache.entry.now }
-        ensures engine { backtrack_captures_engine result ≡ self.now }
-        ensures walk { backtrack_captures_iter_state result ≡ fresh (search_of input.entry) }
-        ensures going { backtrack_captures_done result ≡ false }
-        ensures given { CapturesGiven backtrack_captures_next self.now.nfa LeftmostFirst false
-            (IsTryCapturesAnswer self.now)
-            (search_of input.entry) result }
-        ensures refused { CatchesRefused self.now (search_of input.entry) result }
-        ensures searches { CatchesBySearches self.now (search_of input.entry) result }
-    {
-        TryCapturesMatches {
-            cache,
-            steps: Steps {
-                searcher: Searcher::new(input),
-                backend: CapturesFinder {
-                    engine: self,
-                    captures,
-                },
-                done: false,
-            },
-        }
     }
 
     // Returns the captures of one search, and states its work.

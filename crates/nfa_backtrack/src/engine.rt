@@ -17,6 +17,7 @@ ghost use Rattle.nfa_backtrack.specs.Backtrack.{HoldsNoMore};
 ghost use Rattle.nfa_backtrack.specs.Backtrack.{refused_early, empty_cache, capacity_of, rounded_bits};
 ghost use Rattle.nfa_backtrack.specs.Backtrack.{max_haystack_len_of};
 ghost use Rattle.nfa_backtrack.specs.Backtrack.{min_capacity_of};
+ghost use Rattle.nfa_backtrack.specs.Finding.{IsCounted};
 ghost use Rattle.nfa_search_base.specs.EngineSearches.{last_start};
 ghost use Rattle.nfa_search_base.specs.Finds.{finds};
 ghost use Rattle.nfa_search_base.specs.Lists.{IsInside, IsSlotInside};
@@ -398,36 +399,18 @@ impl BoundedBacktracker {
         ensures inside { IfOk result (λ found. IfSome found (λ m. IsInside (search_of input.now) (found_of m))) }
         ensures pattern { IfOk result (λ found. IfSome found
             (λ m. (found_of m).pattern < length self.now.nfa.patterns)) }
-
-        ensures too_long { IsErrOf result (SearchError.HaystackTooLong (span_len (search_of input.now)))
-            ↔ IsTooLong self.now (search_of input.now) }
-        ensures errors { IfErr result (λ e. (e ≡ SearchError.Memory)
-            ⊎ (e ≡ SearchError.HaystackTooLong (span_len (search_of input.now)))) }
-
-        ensures work { OnOk result (IsWork self.now.nfa LeftmostFirst false (search_of input.now) cache.new.scans
-            cache.new.turns) }
-        ensures within { OnErr result (IsWithinScans self.now.nfa LeftmostFirst false (search_of input.now)
-            cache.new.scans) }
-        ensures scans { cache.new.scans ≤ max_scans self.now.nfa (search_of input.now) }
-        ensures turns { cache.new.turns
-            ≤ cache.new.scans * ((1 + total_degree self.now.nfa) * (span_len (search_of input.now) + 1)) }
-        // The search is counted once.
-        ensures answered { OnOk result (CountsAnswer cache.old cache.new) }
-        ensures refused { OnErr result (CountsRefusal cache.old cache.new) }
-        ensures total { AddsBacktrackWork cache.old cache.new }
-        ensures blocks { GrowsBlocks self.now.nfa (search_of input.now) cache.old.blocks cache.new.blocks }
-        ensures holds { HoldsNoMore (2 * length self.now.nfa.groups) cache.old cache.new }
-        ensures early { IsTooLong self.now (search_of input.now) → cache.new ≡ refused_early cache.old }
+        ensures counts { IsCounted self.now (search_of input.now) (2 * length self.now.nfa.groups) result cache.old
+            cache.new }
         ensures last { IfOk result (λ found. IfSome found (λ m.
             start.new ≡ last_start (search_of input.now) cache.new.scans)) }
     {
         let Cache {
             scratch,
-            slots,
             answered,
             refused,
             past_scans,
             past_turns,
+            slots,
         } = cache;
         past_scans.absorb(&mut scratch.scans);
         scratch.visited.restart_turns(past_turns);

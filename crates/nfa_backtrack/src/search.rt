@@ -1,15 +1,14 @@
 //! A search: a scan, and further scans while the answer ends inside a codepoint.
 ghost use Rattle.std.specs.Prelude.{◌≡◌, ◌+◌, ◌-◌, ◌*◌, ◌/◌, ◌^◌, ◌<◌, ◌≤◌, [], None, Some, false, length};
 ghost use Rattle.std.specs.Prelude.{replicate};
-ghost use Rattle.std.specs.Prelude.{◌↔◌, ◌⊎◌, IfErr, IfOk, IfSome, IsErrOf, OnErr, OnOk};
+ghost use Rattle.std.specs.Prelude.{IfOk, IfSome, OnErr};
 ghost use Rattle.regex_search_core.specs.Found.{half_found_of};
 ghost use Rattle.regex_search_core.specs.Search.{search_of};
 ghost use Rattle.regex_search_core.specs.declared.search.MatchKind.TheVariants.{LeftmostFirst};
-ghost use Rattle.nfa_paths.specs.Paths.{span_len, starts, max_scans, IsWork, IsWithinScans};
+ghost use Rattle.nfa_paths.specs.Paths.{span_len, starts, max_scans, IsWithinScans};
 ghost use Rattle.nfa_paths.specs.Restarts.{max_scan_turns, ScanGives, SearchGives};
-ghost use Rattle.nfa_backtrack.specs.Backtrack.{AddsBacktrackWork, CountsAnswer, CountsRefusal, GrowsBlocks};
-ghost use Rattle.nfa_backtrack.specs.Backtrack.{HoldsNoMore};
-ghost use Rattle.nfa_backtrack.specs.Backtrack.{IsTooLong, refused_early};
+ghost use Rattle.nfa_backtrack.specs.Backtrack.{GrowsBlocks};
+ghost use Rattle.nfa_backtrack.specs.Finding.{IsCounted};
 ghost use Rattle.nfa_backtrack_scan.specs.Walk.{HasBits};
 ghost use Rattle.nfa_search_base.specs.EngineSearches.{last_start};
 
@@ -133,22 +132,7 @@ impl BoundedBacktracker {
         ensures pattern { IfOk result (λ half. IfSome half (λ h.
             (half_found_of h).pattern < length self.now.nfa.patterns)) }
         ensures cleared { OnErr result (slots.new ≡ replicate (length slots.old) None) }
-        ensures too_long { IsErrOf result (SearchError.HaystackTooLong (span_len (search_of input.now)))
-            ↔ IsTooLong self.now (search_of input.now) }
-        ensures errors { IfErr result (λ e. (e ≡ SearchError.Memory)
-            ⊎ (e ≡ SearchError.HaystackTooLong (span_len (search_of input.now)))) }
-        ensures work { OnOk result (IsWork self.now.nfa LeftmostFirst false (search_of input.now) cache.new.scans
-            cache.new.turns) }
-        ensures within { OnErr result (IsWithinScans self.now.nfa LeftmostFirst false (search_of input.now)
-            cache.new.scans) }
-        ensures scans { cache.new.scans ≤ max_scans self.now.nfa (search_of input.now) }
-        ensures turns { cache.new.turns ≤ cache.new.scans * max_scan_turns self.now.nfa (search_of input.now) }
-        ensures answered { OnOk result (CountsAnswer cache.old cache.new) }
-        ensures refused { OnErr result (CountsRefusal cache.old cache.new) }
-        ensures total { AddsBacktrackWork cache.old cache.new }
-        ensures blocks { GrowsBlocks self.now.nfa (search_of input.now) cache.old.blocks cache.new.blocks }
-        ensures holds { HoldsNoMore 0 cache.old cache.new }
-        ensures early { IsTooLong self.now (search_of input.now) → cache.new ≡ refused_early cache.old }
+        ensures counts { IsCounted self.now (search_of input.now) 0 result cache.old cache.new }
     {
         let Cache {
             scratch,

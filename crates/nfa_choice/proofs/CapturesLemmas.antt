@@ -22,7 +22,7 @@ use Rattle.nfa_search_base.specs.IterStates.{Answer, AnswerIsInside, fresh}
 use Rattle.nfa_search_base.specs.declared.error.SearchError.{SearchError}
 use Rattle.nfa_search_base.specs.declared.error.SearchError.TheVariants.{Memory}
 use Rattle.nfa_search_base.specs.declared.iter.steps.Steps.{Steps}
-use Rattle.nfa_search_base.proofs.AskingLemmas.{same_start-self, same_start-then, ServesOnAlong-by}
+use Rattle.nfa_search_base.proofs.AskingLemmas.{ServesOnAlong-by}
 use Rattle.nfa_search_base.proofs.CapturesLemmas.{row-lies}
 use Rattle.nfa_search_base.proofs.CapturesRunLemmas.{captures-given, captures-memory, copy-says, groups-hold}
 use Rattle.nfa_search_base.proofs.DrainedLemmas.{drained as all-of, error-drained as error-of}
@@ -54,8 +54,8 @@ may-after s x a t may asked = rw asked.work.keeps.nfa asked.holds
 pub steps-serve : (s : Steps State) → MayCatchByRule s.backend
     → can_step (λ q x. MayCatchByRule q) AsksRowByRule row_span s
 steps-serve s may =
-    ServesOnAlong-by (λ (q : State) (t : Search). MayCatchByRule q) AsksRowByRule SameButStart same_start-self
-    same_start-then (AnswerIsInside row_span) (λ (q : State). MayCatchByRule q) s.backend (steps_iter_state s).at may
+    ServesOnAlong-by (λ (q : State) (t : Search). MayCatchByRule q) AsksRowByRule (AnswerIsInside row_span)
+    (λ (q : State). MayCatchByRule q) s.backend (steps_iter_state s).at may
     (λ q t same may. may)
     (λ q t a q' same may asked.
     ((row-lies q.cache.nfa (kind_in q.cache) t.earliest t a asked.tells).0, may-after q t a q' may asked))

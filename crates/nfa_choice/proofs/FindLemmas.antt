@@ -17,7 +17,7 @@ use Rattle.nfa_search_base.specs.Stored.{steps_iter_state, can_step_infallibly, 
 use Rattle.nfa_search_base.specs.IterStates.{Answer, fresh, span_of, IsInfalliblyInside}
 use Rattle.nfa_search_base.specs.declared.error.SearchError.{SearchError}
 use Rattle.nfa_search_base.specs.declared.iter.steps.Steps.{Steps}
-use Rattle.nfa_search_base.proofs.AskingLemmas.{same_start-self, same_start-then, ServesOnAlong-by}
+use Rattle.nfa_search_base.proofs.AskingLemmas.{same_start-self, ServesOnAlong-by}
 use Rattle.nfa_search_base.proofs.EngineLemmas.{calls-kept, find-lies}
 use Rattle.nfa_search_base.proofs.LeavingLemmas.{all-leave, calls-in, calls-leave}
 use Rattle.nfa_search_base.proofs.RunLemmas.{Says, item-says}
@@ -30,8 +30,7 @@ use Rattle.nfa_choice.specs.declared.choose.find_iter.ChoiceMatches.{ChoiceMatch
 
 -- it may always search, and never errs
 pub choice-serves : (s : Steps (WithCache ByRule ChoiceState)) → can_step_infallibly may_ask AsksByRule span_of s
-choice-serves s = ServesOnAlong-by may_ask AsksByRule SameButStart same_start-self same_start-then
-    (IsInfalliblyInside span_of)
+choice-serves s = ServesOnAlong-by may_ask AsksByRule (IsInfalliblyInside span_of)
     (λ (q : WithCache ByRule ChoiceState). Unit {0}) s.backend (steps_iter_state s).at tt (λ q t same u. tt)
     (λ q t a q' same u asked. (find-lies q.cache.nfa (kind_in q.cache) t.earliest t a asked.finds, tt))
 

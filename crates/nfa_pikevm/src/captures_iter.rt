@@ -190,7 +190,17 @@ impl PikeVM {
         ensures searches { CatchesBySearches self.now (search_of input.entry) result }
         ensures keeps { CatchesGiveCache result }
     {
-        self.fill_from(cache, input, captures)
+        CapturesMatches {
+            cache,
+            steps: Steps {
+                searcher: Searcher::new(input),
+                backend: CapturesFinder {
+                    engine: self,
+                    captures,
+                },
+                done: false,
+            },
+        }
     }
 
     /// Returns the captures of all matches of the input that do not overlap, from left to right, each with all groups
@@ -230,42 +240,6 @@ impl PikeVM {
             captures: self.create_captures(alloc)?,
         };
         Steps::new(input, catcher).all_with(alloc, cache)
-    }
-
-    // Returns the iterator that searches with these captures.
-    #[inline]
-    fn fill_from<'r, 'c, 'h>(
-        &'r self,
-        cache: &'c mut Cache,
-        input: Input<'h>,
-        captures: Captures,
-    ) -> CapturesMatches<'r, 'c, 'h>
-        requires fits { Fits cache.old self.now.nfa }
-        requires holds { HasGroups self.now.nfa captures }
-        ensures same_reference { (pike_captures_cache result).ghost_name ≡ cache.entry.ghost_name }
-        ensures same_cache { (pike_captures_cache result).now ≡ cache.entry.now }
-        ensures engine { pike_captures_engine result ≡ self.now }
-        ensures walk { pike_captures_iter_state result ≡ fresh (search_of input.entry) }
-        ensures going { pike_captures_done result ≡ false }
-        ensures given { CapturesGiven pike_captures_next self.now.nfa (kind_of self.now)
-            (search_of input.entry).earliest
-            (AnswersRow self.now.nfa (kind_of self.now) (search_of input.entry).earliest)
-            (search_of input.entry) result }
-        ensures errors { CapturesMemory pike_captures_next result }
-        ensures searches { CatchesBySearches self.now (search_of input.entry) result }
-        ensures keeps { CatchesGiveCache result }
-    {
-        CapturesMatches {
-            cache,
-            steps: Steps {
-                searcher: Searcher::new(input),
-                backend: CapturesFinder {
-                    engine: self,
-                    captures,
-                },
-                done: false,
-            },
-        }
     }
 }
 

@@ -1,7 +1,7 @@
 -- The captures of a search of an NFA: there is one list of them, and their matches are those of the search.
 use Rattle.std.proofs.Common.{◌≡◌, ◌∙◌, ℕ, inl, inr, Bool}
 use Rattle.std.proofs.Common.{List, [], ◌∷◌, map, length}
-use Rattle.std.proofs.Common.{Option, None, Some, Ok, Err, refl, sym, ap, subst}
+use Rattle.std.proofs.Common.{Option, None, Some, Ok, Err, refl, sym, ap}
 use Rattle.std.specs.Option.{option_and_then, option_map}
 use Rattle.regex_search_core.specs.Found.{Found}
 use Rattle.regex_search_core.specs.Groups.{slot_count}
@@ -89,13 +89,9 @@ module _ (nfa : Automaton) (kind : MatchKind) (earliest : Bool) where
   one-row t (Ok (Some p)) (Ok (Some q)) h k =
       ap (λ (r : Row). let a : Answer Row = Ok (Some r) in a) (rows-same t p q h k)
   one-row t (Ok (Some p)) (Ok None) h k =
-      let e : Some (row_found p) ≡ None =
-      match-unique nfa kind earliest t (Some (row_found p)) None (row-match t p h) k in
-      cc
+      let e = match-unique nfa kind earliest t (Some (row_found p)) None (row-match t p h) k in cc
   one-row t (Ok None) (Ok (Some q)) h k =
-      let e : None ≡ Some (row_found q) =
-      match-unique nfa kind earliest t None (Some (row_found q)) h (row-match t q k) in
-      cc
+      let e = match-unique nfa kind earliest t None (Some (row_found q)) h (row-match t q k) in cc
   one-row t (Ok None) (Ok None) h k = refl
   one-row t (Ok o) (Err e) h k = absurd k
   one-row t (Err e) b h k = absurd h
@@ -166,24 +162,19 @@ module _ (nfa : Automaton) (kind : MatchKind) (earliest : Bool) where
       → ItemsLast row_span tells (FailsOrIsRefused row_span tells) w items → UpToRefusal (as_items rows) items
   up-to w [] [] h k = tt
   up-to w [] (Ok y ∷ items) h k =
-      let e : Ok None ≡ Ok (Some y) = step-unique row_span tells one-row w (Ok None) (Ok (Some y)) h k.0 in cc
+      let e = step-unique row_span tells one-row w (Ok None) (Ok (Some y)) h k.0 in cc
   up-to w [] (Err q ∷ items) h k = elim k.0 [
     | inl fails ↦ absurd (never-fails row_span tells (λ t e k. k) w q fails)
-    | inr refused ↦
-        let e : Ok None ≡ Ok (Some refused.1) =
-        step-unique row_span tells one-row w (Ok None) (Ok (Some refused.1)) h refused.2 in cc
+    | inr refused ↦ let e = step-unique row_span tells one-row w (Ok None) (Ok (Some refused.1)) h refused.2 in cc
   ]
   up-to w (r ∷ rows) [] h k =
-      let e : Ok (Some r) ≡ Ok None = step-unique row_span tells one-row w (Ok (Some r)) (Ok None) h.0 k in cc
+      let e = step-unique row_span tells one-row w (Ok (Some r)) (Ok None) h.0 k in cc
   up-to w (r ∷ rows) (Ok y ∷ items) h k =
       let same : y ≡ r = match-same y r
       (step-unique row_span tells one-row w (Ok (Some y)) (Ok (Some r)) k.0 h.0) in
-      let there = subst
-      (λ (z : Row). ItemsLast row_span tells (FailsOrIsRefused row_span tells) (after w (Some (row_span z))) items)
-      same k.1 in
       inl (
         ap (λ (z : Row). let a : Item Row = Ok z in a) same,
-        up-to (after w (Some (row_span r))) rows items h.1 there,
+        up-to (after w (Some (row_span r))) rows items h.1 (rw same at k.1),
       )
   up-to w (r ∷ rows) (Err q ∷ items) h k = elim k.0 [
     | inl fails ↦ absurd (never-fails row_span tells (λ t e k. k) w q fails)

@@ -45,33 +45,24 @@ found-rows (c ∷ cs) = ap (λ (l : List Found). match_in c ∷ l) (found-rows c
 pub copy-says : {F : Type 0} (step : Answer Row → Type 0) (c : WithCaptures F) (a : Answer Row) (r : Option Caught)
     → GivesCaptures c a r → step a
     → Says row_of a (λ e. step (Err e) ⊎ ((e ≡ Memory) × (row : Row) × step (Ok (Some row)))) r
-copy-says step c (Ok (Some row)) None (inl h) is = let k : None ≡ Some (Ok c.captures) = h.0 in cc
-copy-says step c (Ok (Some row)) None (inr h) is = let k : None ≡ Some (Err Memory) = h in cc
 copy-says step c (Ok (Some row)) (Some (Ok d)) (inl h) is =
-    let k : Some (Ok d) ≡ Some (Ok c.captures) = h.0 in
     let same : d ≡ c.captures = cc in
     let row_is : row ≡ row_of d = sym (ap row_of same ∙ h.1) in
     ap (λ (z : Row). let a : Answer Row = Ok (Some z) in a) row_is
-copy-says step c (Ok (Some row)) (Some (Ok d)) (inr h) is = let k : Some (Ok d) ≡ Some (Err Memory) = h in cc
-copy-says step c (Ok (Some row)) (Some (Err e)) (inl h) is = let k : Some (Err e) ≡ Some (Ok c.captures) = h.0 in cc
-copy-says step c (Ok (Some row)) (Some (Err e)) (inr h) is =
-    let k : Some (Err e) ≡ Some (Err Memory) = h in let same : e ≡ Memory = cc in inr (same, row, is)
+copy-says step c (Ok (Some row)) (Some (Err e)) (inr h) is = let same : e ≡ Memory = cc in inr (same, row, is)
 copy-says step c (Ok None) None h is = refl
-copy-says step c (Ok None) (Some x) h is = let k : Some x ≡ None = h in cc
-copy-says step c (Err q) None h is = let k : None ≡ Some (Err q) = h in cc
-copy-says step c (Err q) (Some (Ok d)) h is = let k : Some (Ok d) ≡ Some (Err q) = h in cc
 copy-says step c (Err q) (Some (Err e)) h is =
-    let k : Some (Err e) ≡ Some (Err q) = h in
-    let same : (let a : Answer Row = Err q in let b : Answer Row = Err e in a ≡ b) = cc in
-    inl (subst (λ (b : Answer Row). step b) same is)
+    let same : (let a : Answer Row = Err q in let b : Answer Row = Err e in a ≡ b) = cc in inl (rw (← same) is)
+copy-says step c (Ok (Some row)) r (inl h) is = cc
+copy-says step c (Ok (Some row)) r (inr h) is = cc
+copy-says step c a r h is = cc
 
 -- a copy is of the captures that were left
 pub copy-of : {F : Type 0} (c : WithCaptures F) (a : Answer Row) (d : Captured) → GivesCaptures c a (Some (Ok d))
     → d ≡ c.captures
-copy-of c (Ok (Some row)) d (inl h) = let k : Some (Ok d) ≡ Some (Ok c.captures) = h.0 in cc
-copy-of c (Ok (Some row)) d (inr h) = let k : Some (Ok d) ≡ Some (Err Memory) = h in cc
-copy-of c (Ok None) d h = let k : Some (Ok d) ≡ None = h in cc
-copy-of c (Err e) d h = let k : Some (Ok d) ≡ Some (Err e) = h in cc
+copy-of c (Ok (Some row)) d (inl h) = cc
+copy-of c (Ok (Some row)) d (inr h) = cc
+copy-of c a d h = cc
 
 -- a slot in a span is in a wider one
 wider : (x y : Search) → x.start ≤ y.start → y.end ≡ x.end → (slot : Option ℕ) → IsSlotInside y slot

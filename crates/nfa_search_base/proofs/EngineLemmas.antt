@@ -1,12 +1,11 @@
 -- What the searches of an iteration by an engine leave, which calls its iterators may make, and what these calls keep.
 use Rattle.std.proofs.Common.{◌≡◌, ◌∙◌, ℕ, Bool, true, false, Option, None, Some, Result, Ok, Err, refl, sym, ap, subst}
-use Rattle.std.proofs.Common.{◌⊎◌, ◌≤◌, inl, inr, List}
+use Rattle.std.proofs.Common.{◌⊎◌, ◌≤◌, inl, inr}
 use Rattle.std.specs.Prelude.{IfErr, IfOk, IsTrue, is_some}
 use Rattle.std.specs.Option.{ForSome, option_map}
 use Rattle.regex_search_core.specs.Found.{Found, found_of}
 use Rattle.regex_search_core.specs.Search.{Search}
 use Rattle.regex_search_core.specs.Slots.{Captured}
-use Rattle.regex_search_core.specs.declared.search.Anchored.{Anchored}
 use Rattle.regex_search_core.specs.declared.search.Match.{Match}
 use Rattle.regex_search_core.specs.declared.search.MatchKind.{MatchKind}
 use Rattle.regex_search_core.specs.declared.search.Span.{Span}
@@ -29,7 +28,7 @@ use Rattle.nfa_search_base.specs.IterStates.{Answer, AnswerIsInside, IsInfallibl
 use Rattle.nfa_search_base.specs.declared.error.SearchError.{SearchError}
 use Rattle.nfa_search_base.specs.declared.error.SearchError.TheVariants.{Memory}
 use Rattle.nfa_search_base.specs.declared.iter.steps.Steps.{Steps}
-use Rattle.nfa_search_base.proofs.AskingLemmas.{same_start-self, same_start-then, ServesOnAlong-by}
+use Rattle.nfa_search_base.proofs.AskingLemmas.{ServesOnAlong-by}
 use Rattle.nfa_search_base.proofs.CapturesRunLemmas.{captures-given, captures-memory, groups-hold}
 use Rattle.nfa_search_base.proofs.ListLemmas.{match-lies}
 use Rattle.nfa_search_base.proofs.RunLemmas.{calls-keep, step-holds, step-keeps}
@@ -39,49 +38,15 @@ use Rattle.nfa_search_base.proofs.StepLemmas.{chosen}
 
 -- a search like another is that one with a start of its own
 like-is : (x t : Search) (start : ℕ) → SameButStart x t → record x { start = start } ≡ record t { start = start }
-like-is x t start same =
-    ap (λ (h : List ℕ). record {
-      haystack = h;
-      start = start;
-      end = x.end;
-      anchored = x.anchored;
-      earliest =
-          x.earliest;
-    }) (sym same.haystack)
-    ∙ ap (λ (e : ℕ). record {
-      haystack = t.haystack;
-      start = start;
-      end = e;
-      anchored = x.anchored;
-      earliest =
-          x.earliest;
-    }) (sym same.end)
-    ∙ ap (λ (a : Anchored). record {
-      haystack = t.haystack;
-      start = start;
-      end = t.end;
-      anchored = a;
-      earliest =
-          x.earliest;
-    }) (sym same.anchored)
-    ∙ ap (λ (e : Bool). record {
-      haystack = t.haystack;
-      start = start;
-      end = t.end;
-      anchored = t.anchored;
-      earliest =
-          e;
-    }) (sym same.earliest)
+like-is x t start same = rw (same.haystack, same.end, same.anchored, same.earliest) refl
 
 same_start-back : (x t : Search) → SameButStart x t → SameButStart t x
-same_start-back x t same =
-    record {
-      haystack = sym same.haystack;
-      end = sym same.end;
-      anchored = sym same.anchored;
-      earliest =
-          sym same.earliest;
-    }
+same_start-back x t same = record {
+  haystack = sym same.haystack;
+  end = sym same.end;
+  anchored = sym same.anchored;
+  earliest = sym same.earliest;
+}
 
 -- ---- matches
 
@@ -133,8 +98,7 @@ module _ {E : Type 0} (Sure : E → Search → Found → Type 0) where
   -- what is known of searches is known of the ones like them
   known-like : (e : E) (x t : Search) (known : Option Match) → SameButStart x t → IsKnownFrom Sure e x known
       → IsKnownFrom Sure e t known
-  known-like e x t known same knows = λ m is. subst (λ (y : Search). Sure e y (found_of m))
-      (like-is x t m.span.end same) (knows m is)
+  known-like e x t known same knows = λ m is. rw (← like-is x t m.span.end same) (knows m is)
 
   -- the match that is known answers, if there is one
   pub known-answer : (e : E) (t : Search) (known kept : Option Match) (Tells : Answer Found → Type 0)
@@ -169,13 +133,13 @@ module _ {E : Type 0} (Sure : E → Search → Found → Type 0) where
     may-after : (x : Search) (s : WithCache A C) (t : Search) (a : Answer Found) (s' : WithCache A C)
         → SameButStart x t → May s x → Asks s t a s' → May s' x
     may-after x s t a s' same may asked = record {
-      fits = subst (λ (e : E). Fits s'.cache e) (sym asked.engine) fits;
+      fits = rw asked.engine fits;
       knows = known-like (shown s'.backend).engine t x (shown s'.backend).known (same_start-back x t same) asked.knows;
     }
       where
         fits : Fits s'.cache (shown s.backend).engine
         fits = elim (same-or-made (Work (shown s.backend).engine) scans t a _ _ asked.work) [
-          | inl same ↦ subst (λ (c : C). Fits c (shown s.backend).engine) (sym same) may.fits
+          | inl same ↦ rw same may.fits
           | inr work ↦ stays (shown s.backend).engine t a s.cache s'.cache work may.fits
         ]
 
@@ -184,7 +148,7 @@ module _ {E : Type 0} (Sure : E → Search → Found → Type 0) where
         → ((e : E) (t : Search) (a : Answer Found) → Tells e t a → P t a)
         → (s : WithCache A C) (x : Search) → May s x → ServesOnAlong May Asks SameButStart P s x
     finder-serves P lies s x may =
-        ServesOnAlong-by May Asks SameButStart same_start-self same_start-then P (λ (q : WithCache A C). May q x)
+        ServesOnAlong-by May Asks P (λ (q : WithCache A C). May q x)
         s x may
         (λ q t same may. record {
           fits = may.fits;
@@ -202,7 +166,7 @@ module _ {E : Type 0} (Sure : E → Search → Found → Type 0) where
         → takes_steps span_of Asks (λ q. gives q.backend) s r t → May s.backend (steps_iter_state s).at
         → May t.backend (steps_iter_state t).at
     finder-goes {Y} gives s r t st may = elim (chosen s.done st) [
-      | inl p ↦ subst (λ (q : Steps (WithCache A C)). May q.backend (steps_iter_state q).at) (sym p.1.1) may
+      | inl p ↦ rw p.1.1 may
       | inr p ↦
           let x = (steps_iter_state s).at in
           let on : May t.backend x = step-holds span_of Asks (λ (q : WithCache A C). May q x) s.backend
@@ -217,7 +181,7 @@ module _ {E : Type 0} (Sure : E → Search → Found → Type 0) where
     -- the engine gives the answers of its searches, and stays the same
     pub finder-acts : (e : E) (s : WithCache A C) (t : Search) (a : Answer Found) (s' : WithCache A C)
         → (shown s.backend).engine ≡ e → Asks s t a s' → Tells e t a × ((shown s'.backend).engine ≡ e)
-    finder-acts e s t a s' is asked = (subst (λ (b : E). Tells b t a) is asked.finds, asked.engine ∙ is)
+    finder-acts e s t a s' is asked = (rw is at asked.finds, asked.engine ∙ is)
 
 -- ---- captures
 
@@ -240,9 +204,8 @@ module _ {E C : Type 0} (nfa : E → Automaton) (Fits : C → E → Type 0) (Tel
       (t : WithCache (WithCaptures E) C) → MayRow s
       → AsksRow s x a t → MayRow t
   may_row-after s x a t may asked = record {
-    fits = subst (λ (e : E). Fits t.cache e) (sym asked.engine)
-        (stays s.backend.finder x a s.cache t.cache asked.work may.fits);
-    holds = subst (λ (e : E). HasGroups (nfa e) t.backend.captures) (sym asked.engine) asked.holds;
+    fits = rw asked.engine (stays s.backend.finder x a s.cache t.cache asked.work may.fits);
+    holds = rw asked.engine asked.holds;
   }
 
   -- the iterator may search wherever searches lead
@@ -250,7 +213,7 @@ module _ {E C : Type 0} (nfa : E → Automaton) (Fits : C → E → Type 0) (Tel
       → (s : WithCache (WithCaptures E) C) (x : Search) → MayRow s
       → ServesOnAlong (λ q t. MayRow q) AsksRow SameButStart (AnswerIsInside row_span) s x
   catcher-serves lies s x may =
-      ServesOnAlong-by (λ q t. MayRow q) AsksRow SameButStart same_start-self same_start-then (AnswerIsInside row_span)
+      ServesOnAlong-by (λ q t. MayRow q) AsksRow (AnswerIsInside row_span)
       (λ (q : WithCache (WithCaptures E) C). MayRow q) s x may (λ q t same may. may)
       (λ q t a q' same may asked. (lies q.backend.finder t a asked.tells, may_row-after q t a q' may asked))
 
@@ -266,7 +229,7 @@ module _ {E C : Type 0} (nfa : E → Automaton) (Fits : C → E → Type 0) (Tel
   pub catcher-acts : (e : E) (s : WithCache (WithCaptures E) C) (t : Search) (a : Answer Row)
       (s' : WithCache (WithCaptures E) C)
       → s.backend.finder ≡ e → AsksRow s t a s' → Tells e t a × (s'.backend.finder ≡ e)
-  catcher-acts e s t a s' is asked = (subst (λ (b : E). Tells b t a) is asked.tells, asked.engine ∙ is)
+  catcher-acts e s t a s' is asked = (rw is at asked.tells, asked.engine ∙ is)
 
   -- An iterator around such steps. The engine gives answers as in `Told` on searches like x. Without an error, that is
   -- the row of its NFA.

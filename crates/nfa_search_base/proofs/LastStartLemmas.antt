@@ -1,5 +1,5 @@
 -- A search that restarts has the answer of a search from where its last scan started.
-use Rattle.std.proofs.Common.{◌≡◌, ◌∙◌, ℕ, ◌+◌, ◌-◌, Bool, true, false, MatchBool, List, [], ◌∷◌, ap, arith, refl, subst}
+use Rattle.std.proofs.Common.{◌≡◌, ℕ, ◌+◌, ◌-◌, ◌*◌, ◌≤◌, Bool, true, false, MatchBool, List, [], ◌∷◌, ap, arith, refl, subst}
 use Rattle.std.specs.Prelude.{Option, None, Some}
 use Rattle.regex_search_core.specs.Found.{Found}
 use Rattle.regex_search_core.specs.Search.{Search, is_anchored}
@@ -7,8 +7,10 @@ use Rattle.regex_search_core.specs.declared.search.MatchKind.{MatchKind}
 use Rattle.thompson_nfa.specs.Automaton.{Automaton}
 use Rattle.nfa_paths.specs.Graphs.{Pair}
 use Rattle.nfa_paths.specs.Paths.{EndsOnBoundary, IsFindAnswer, IsKeptAnswer, IsRestartedAnswer, IsScanAnswer}
-use Rattle.nfa_paths.specs.Paths.{IsSearchAnswer, IsWhole, IsWork, is_utf8_empty, raised}
+use Rattle.nfa_paths.specs.Paths.{IsSearchAnswer, IsWhole, IsWithinScans, IsWork, is_utf8_empty, max_scans, raised}
+use Rattle.nfa_paths.specs.Restarts.{Restarts, max_scan_turns}
 use Rattle.nfa_paths.proofs.AnswerLemmas.{search_answer-unique}
+use Rattle.nfa_paths.proofs.RestartLemmas.{scans-bound, scans-within, turns-after}
 
 -- no restart
 unmoved : (x : Search) (i : ℕ) → i ≡ 0 → x ≡ raised x i
@@ -24,11 +26,23 @@ whole-raised : (x : Search) (i : ℕ) (r : Option (List Pair)) → IsWhole x r �
 whole-raised x i None h = h
 whole-raised x i (Some p) h = boundary-raised x i p h
 
--- the scan after this number of restarts is the last one
-pub last-scan : (x y : Search) (restarts scans : ℕ) → y ≡ raised x restarts → scans ≡ restarts + 1
-    → y ≡ raised x (scans - 1)
-last-scan x y restarts scans is counted =
-    let same : restarts ≡ scans - 1 = omega (arith, counted) in is ∙ ap (λ (n : ℕ). raised x n) same
+-- A search x has restarted this often, and makes one scan more, of y. It has then made n scans.
+module _ {nfa : Automaton} {kind : MatchKind} {earliest : Bool} {x y : Search} {restarts turns n : ℕ}
+    (begun : Restarts nfa kind earliest x y restarts turns) (counted : n ≡ restarts + 1) where
+  -- where the scan starts
+  pub scan-start : y ≡ raised x (n - 1)
+  scan-start = let same : restarts ≡ n - 1 = omega (arith, counted) in rw (← same) begun.is
+
+  -- an answer takes no fewer scans
+  pub scans-needed : IsWithinScans nfa kind earliest x n
+  scans-needed = rw counted (scans-within nfa kind earliest x y restarts turns begun)
+
+  -- and the scans and turns are within their bounds
+  pub scans-few : n ≤ max_scans nfa x
+  scans-few = rw counted (scans-bound nfa kind earliest x y restarts turns begun)
+
+  pub turns-few : {m : ℕ} → m ≤ turns + max_scan_turns nfa y → m ≤ n * max_scan_turns nfa x
+  turns-few {m = m} more = rw counted (turns-after nfa kind earliest x y restarts turns begun m more)
 
 module _ (nfa : Automaton) (kind : MatchKind) (earliest : Bool) (x : Search) where
   -- what a search answers, by whether it may end anywhere and whether it is anchored

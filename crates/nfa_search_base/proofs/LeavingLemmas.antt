@@ -1,5 +1,5 @@
 -- What the calls of an iterator leave of what answers its searches, seen as less than the iterator keeps.
-use Rattle.std.proofs.Common.{◌≡◌, ◌∙◌, ℕ, ◌⊎◌, true, false, refl, sym, ap, subst, inl, inr}
+use Rattle.std.proofs.Common.{◌≡◌, ◌∙◌, ℕ, ◌⊎◌, true, false, refl, ap, subst, inl, inr}
 use Rattle.std.proofs.Common.{Option, None, Some, Result, Ok, Err, List, [], ◌∷◌, map}
 use Rattle.std.specs.Iterator.{Yields}
 use Rattle.std.specs.Option.{option_map}
@@ -27,7 +27,7 @@ use Rattle.nfa_search_base.specs.declared.iter.steps.Steps.{Steps}
 use Rattle.nfa_search_base.proofs.CapturesRunLemmas.{copy-says}
 use Rattle.nfa_search_base.proofs.MatchRunLemmas.{yields-inner}
 use Rattle.nfa_search_base.proofs.RunLemmas.{Says, item-says}
-use Rattle.nfa_search_base.proofs.StepLemmas.{chosen, chosen-false, chosen-true}
+use Rattle.nfa_search_base.proofs.StepLemmas.{chosen}
 
 -- `seen` is the state as a K, and stays `Good`. An item says what its answer is.
 module _ {S X Y K : Type 0} (span : X → Span) (asks : S → Search → Answer X → S → Type 0)
@@ -50,12 +50,7 @@ module _ {S X Y K : Type 0} (span : X → Span) (asks : S → Search → Answer 
       elim (chosen (repeats w (answer_span span step.answer)) step.rest) [
         | inl p ↦
             let two = acts step.between (shifted w).at a s' one.1 p.1.0 in (
-              record {
-                answer = step.answer;
-                between = seen step.between;
-                first = one.0;
-                rest = rw p.0 (two.0, p.1.1);
-              },
+              record { answer = step.answer; between = seen step.between; first = one.0; rest = rw p.0 (two.0, p.1.1) },
               two.1,
             )
         | inr p ↦ (
@@ -65,25 +60,25 @@ module _ {S X Y K : Type 0} (span : X → Span) (asks : S → Search → Answer 
             first = one.0;
             rest = rw p.0 (p.1.0, ap seen p.1.1, p.1.2);
           },
-          subst (λ (q : S). Good q) (sym p.1.1) one.1,
+          rw p.1.1 one.1,
         )
       ]
 
   -- a call of an iterator that has ended changes nothing
   still : (s u : Steps S) (r : Option (Result Y SearchError)) → s.done ≡ true → steps s r u → u ≡ s
-  still s u r d st = (chosen-true s.done d (chosen s.done st)).1
+  still s u r d st = let k = rw d at st in rw (← d) at k.1
 
   all-still : (xs : List (Result Y SearchError)) (s t u : Steps S) (r : Option (Result Y SearchError))
       → s.done ≡ true → Yields steps s xs t → steps t r u → u ≡ s
-  all-still [] s t u r d ran st = still s u r d (subst (λ (q : Steps S). steps q r u) (sym ran) st)
+  all-still [] s t u r d ran st = still s u r d (rw ran st)
   all-still (y ∷ ys) s t u r d ran st =
       let same : ran.0 ≡ s = still s ran.0 (Some y) d ran.1 in
-      all-still ys ran.0 t u r (ap (λ (q : Steps S). q.done) same ∙ d) ran.2 st ∙ same
+      all-still ys ran.0 t u r (rw same d) ran.2 st ∙ same
 
   -- any other call is a step
   turn : (s : Steps S) (r : Option (Result Y SearchError)) (u : Steps S) → s.done ≡ false → steps s r u
       → TakesStep span asks gives s.backend (steps_iter_state s) r u.backend (steps_iter_state u) u.done
-  turn s r u going st = chosen-false s.done going (chosen s.done st)
+  turn s r u going st = rw going at st
 
   only : (w : IterState) (a : Answer X) (p q : K) (v : IterState) → Advances span looks p w a q v → Leads w p (a ∷ []) q
   only w (Ok (Some x)) p q v step = (q, v, step, refl)
@@ -96,7 +91,7 @@ module _ {S X Y K : Type 0} (span : X → Span) (asks : S → Search → Answer 
       → (first : Answer X) × (rest : List (Answer X)) × Leads (steps_iter_state s) (seen s.backend) (first ∷ rest)
       (seen u.backend)
   calls-leave [] s t u r going good ran st =
-      let one = turn s r u going (subst (λ (q : Steps S). steps q r u) (sym ran) st) in
+      let one = turn s r u going (rw ran st) in
       let k = advance-seen s.backend (steps_iter_state s) one.answer u.backend (steps_iter_state u) good one.step in
       (one.answer, [], only (steps_iter_state s) one.answer (seen s.backend) (seen u.backend) (steps_iter_state u) k.0)
   calls-leave (Ok y ∷ xs) s t u r going good ran st =
@@ -104,56 +99,31 @@ module _ {S X Y K : Type 0} (span : X → Span) (asks : S → Search → Answer 
       let one = turn s (Some (Ok y)) q going ran.1 in
       let k = advance-seen s.backend (steps_iter_state s) one.answer q.backend (steps_iter_state q) good one.step in
       let rest = calls-leave xs q t u r one.ends k.1 ran.2 st in
-      let is : one.answer ≡ Ok (Some (view y)) = says q.backend one.answer (Some (Ok y)) one.item in (
-        Ok (Some (view y)),
-        rest.0 ∷ rest.1,
-        (
-          seen q.backend,
-          steps_iter_state q,
-          subst (λ (a : Answer X). Advances span looks (seen s.backend) (steps_iter_state s) a (seen q.backend)
-              (steps_iter_state q))
-              is k.0,
-          rest.2,
-        ),
-      )
+      let is : one.answer ≡ Ok (Some (view y)) = says q.backend one.answer (Some (Ok y)) one.item in
+      (Ok (Some (view y)), rest.0 ∷ rest.1, (seen q.backend, steps_iter_state q, rw is at k.0, rest.2))
   calls-leave (Err e ∷ xs) s t u r going good ran st =
       let q = ran.0 in
       let one = turn s (Some (Err e)) q going ran.1 in
       let k = advance-seen s.backend (steps_iter_state s) one.answer q.backend (steps_iter_state q) good one.step in
-      let same : u ≡ q = all-still xs q t u r one.ends ran.2 st in (
-        one.answer,
-        [],
-        subst (λ (v : Steps S). Leads (steps_iter_state s) (seen s.backend) (one.answer ∷ [])
-            (seen v.backend)) (sym same)
-            (only (steps_iter_state s) one.answer (seen s.backend) (seen q.backend) (steps_iter_state q) k.0),
-      )
+      let same : u ≡ q = all-still xs q t u r one.ends ran.2 st in
+      let leads = only (steps_iter_state s) one.answer (seen s.backend) (seen q.backend) (steps_iter_state q) k.0 in
+      (one.answer, [], rw same leads)
 
   -- and what they leave if they go on to none
   pub all-leave : (ys : List Y) (s t u : Steps S) → s.done ≡ false → Good s.backend
       → Yields steps s (map (λ y. Ok y) ys) t → steps t None u
       → Leads (steps_iter_state s) (seen s.backend) (answers_to_end (map view ys)) (seen u.backend)
   all-leave [] s t u going good ran st =
-      let one = turn s None u going (subst (λ (q : Steps S). steps q None u) (sym ran) st) in
+      let one = turn s None u going (rw ran st) in
       let k = advance-seen s.backend (steps_iter_state s) one.answer u.backend (steps_iter_state u) good one.step in
-      let is : one.answer ≡ Ok None = says u.backend one.answer None one.item in (
-        steps_iter_state u,
-        subst (λ (a : Answer X). Advances span looks (seen s.backend) (steps_iter_state s) a (seen u.backend)
-            (steps_iter_state u)) is
-            k.0,
-        refl,
-      )
+      let is : one.answer ≡ Ok None = says u.backend one.answer None one.item in
+      (steps_iter_state u, rw is at k.0, refl)
   all-leave (y ∷ ys) s t u going good ran st =
       let q = ran.0 in
       let one = turn s (Some (Ok y)) q going ran.1 in
       let k = advance-seen s.backend (steps_iter_state s) one.answer q.backend (steps_iter_state q) good one.step in
-      let is : one.answer ≡ Ok (Some (view y)) = says q.backend one.answer (Some (Ok y)) one.item in (
-        seen q.backend,
-        steps_iter_state q,
-        subst (λ (a : Answer X). Advances span looks (seen s.backend) (steps_iter_state s) a (seen q.backend)
-            (steps_iter_state q)) is
-            k.0,
-        all-leave ys q t u one.ends k.1 ran.2 st,
-      )
+      let is : one.answer ≡ Ok (Some (view y)) = says q.backend one.answer (Some (Ok y)) one.item in
+      (seen q.backend, steps_iter_state q, rw is at k.0, all-leave ys q t u one.ends k.1 ran.2 st)
 
   -- the calls of a shell whose items are those of the steps, or the matches among them
   pub calls-in : {T R : Type 0} (calls : T → Option R → T → Type 0) (inner : T → Steps S)

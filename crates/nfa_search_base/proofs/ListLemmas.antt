@@ -1,6 +1,5 @@
 -- The list of an iteration's items. There is at most one, and exactly one if each search has an answer. Its matches do
--- not overlap, are in the span, and are at most one more than the span has bytes. The same for the list of the matches
--- of an NFA.
+-- not overlap, and are in the span. The same for the list of the matches of an NFA.
 use Rattle.std.proofs.Common.{◌≡◌, ◌∙◌, ℕ, zero, suc, ◌≤◌, ◌<◌, inl, inr, Bool, true, false}
 use Rattle.std.proofs.Common.{if◌then◌else◌, MatchBool}
 use Rattle.std.proofs.Common.{Option, None, Some, Ok, Err, List, [], ◌∷◌, ◌++◌, map, length, refl, sym, ap, subst}
@@ -103,7 +102,7 @@ module _ {X : Type 0} (span : X → Span) (tells : Search → Answer X → Type 
       → Step w (Err e) → ⊥
   never-fails never w e h = elim (chosen (repeats w (answer_span span h.first)) h.rest) [
     | inl p ↦ never (shifted w).at e p.1
-    | inr p ↦ never w.at e (subst (λ (a : Answer X). tells w.at a) (sym p.1) h.is_first)
+    | inr p ↦ never w.at e (rw p.1 h.is_first)
   ]
 
   -- so all items are matches
@@ -120,9 +119,7 @@ module _ {X : Type 0} (span : X → Span) (tells : Search → Answer X → Type 
     pub step-unique : (w : IterState) (a b : Answer X) → Step w a → Step w b → a ≡ b
     step-unique w a b h k =
         let first : h.first ≡ k.first = one w.at h.first k.first h.is_first k.is_first in
-        of (repeats w (answer_span span h.first)) h.rest
-        (subst (λ (o : Answer X). MatchBool (repeats w (answer_span span o)) (tells (shifted w).at b) (b ≡ o))
-        (sym first) k.rest)
+        of (repeats w (answer_span span h.first)) h.rest (rw first k.rest)
       where
         of : (again : Bool) → MatchBool again (tells (shifted w).at a) (a ≡ h.first)
             → MatchBool again (tells (shifted w).at b) (b ≡ h.first) → a ≡ b
@@ -133,17 +130,14 @@ module _ {X : Type 0} (span : X → Span) (tells : Search → Answer X → Type 
     pub next-rest : (w : IterState) (xs ys : List (Item X)) → Next w xs → Last w ys
         → (more : List (Item X)) × (ys ≡ xs ++ more)
     next-rest w [] ys h k = (ys, refl)
-    next-rest w (Ok x ∷ xs) [] h k = let e : Ok (Some x) ≡ Ok None = step-unique w (Ok (Some x)) (Ok None) h.0 k in cc
+    next-rest w (Ok x ∷ xs) [] h k = let e = step-unique w (Ok (Some x)) (Ok None) h.0 k in cc
     next-rest w (Ok x ∷ xs) (Ok y ∷ ys) h k =
         let same : x ≡ y = match-same x y (step-unique w (Ok (Some x)) (Ok (Some y)) h.0 k.0) in
-        let there = subst (λ (m : X). Last (past w m) ys) (sym same) k.1 in
-        let rest = next-rest (past w x) xs ys h.1 there in
+        let rest = next-rest (past w x) xs ys h.1 (rw same k.1) in
         (rest.0, ap (λ (m : X). Ok m ∷ ys) (sym same) ∙ ap (λ (l : List (Item X)). Ok x ∷ l) rest.1)
-    next-rest w (Ok x ∷ xs) (Err q ∷ ys) h k = let e : Ok (Some x) ≡ Err q =
-        step-unique w (Ok (Some x)) (Err q) h.0 k.0 in cc
-    next-rest w (Err e ∷ xs) [] h k = let is : Err e ≡ Ok None = step-unique w (Err e) (Ok None) h.0 k in cc
-    next-rest w (Err e ∷ xs) (Ok y ∷ ys) h k = let is : Err e ≡ Ok (Some y) =
-        step-unique w (Err e) (Ok (Some y)) h.0 k.0 in cc
+    next-rest w (Ok x ∷ xs) (Err q ∷ ys) h k = let e = step-unique w (Ok (Some x)) (Err q) h.0 k.0 in cc
+    next-rest w (Err e ∷ xs) [] h k = let is = step-unique w (Err e) (Ok None) h.0 k in cc
+    next-rest w (Err e ∷ xs) (Ok y ∷ ys) h k = let is = step-unique w (Err e) (Ok (Some y)) h.0 k.0 in cc
     next-rest w (Err e ∷ xs) (Err q ∷ ys) h k =
         let same : e ≡ q = error-same e q (step-unique w (Err e) (Err q) h.0 k.0) in
         ([], rw (h.1, k.1, same) refl)
@@ -167,8 +161,7 @@ module _ {X : Type 0} (span : X → Span) (tells : Search → Answer X → Type 
       answer = h.first;
       between = tt;
       first = h.is_first;
-      rest =
-          of tt (repeats w (answer_span span h.first)) h.rest;
+      rest = of tt (repeats w (answer_span span h.first)) h.rest;
     }
       where
         of : (u : Unit {0}) (again : Bool)
@@ -186,7 +179,7 @@ module _ {X : Type 0} (span : X → Span) (tells : Search → Answer X → Type 
           let k = lies (shifted w).at (Ok (Some x)) p.1 in
           (omega (arith, k.0.0), k.1 (span x) refl, k.0.1)
       | inr p ↦
-          let k = lies w.at (Ok (Some x)) (subst (λ (a : Answer X). tells w.at a) (sym p.1) h.is_first) in
+          let k = lies w.at (Ok (Some x)) (rw p.1 h.is_first) in
           (k.0.0, k.1 (span x) refl, k.0.1)
     ]
 
@@ -215,17 +208,6 @@ module _ {X : Type 0} (span : X → Span) (tells : Search → Answer X → Type 
           spans-apart ends x (past w m) items (omega (arith, k.0, k.1, from)) to (behind-after (span m).end) h.1,
         )
 
-    -- so there are at most as many matches as ends are left
-    pub next-few : (ends : IterState → SearchError → Type 0) (w : IterState) (items : List (Item X))
-        → EndsBy w.last w.at.start → ItemsNext span tells ends w items
-        → length (matches_in items) ≤ ends_left w
-    next-few ends w [] behind h = omega arith
-    next-few ends w (Ok x ∷ items) behind h =
-        let fewer = step-fewer w x behind h.0 in
-        let rest = next-few ends (past w x) items (behind-after (span x).end) h.1 in
-        omega (arith, fewer, rest)
-    next-few ends w (Err e ∷ items) behind h = rw h.1 (omega arith)
-
     -- If h gives the answers of a search, the greedy walk by h gives the list.
     module _ (h : Search → Answer X) where
       abbrev Gives : Search → Type 0
@@ -253,7 +235,7 @@ module _ {X : Type 0} (span : X → Span) (tells : Search → Answer X → Type 
           onward : Rest → (a : Answer X) → Step w a → (x : X) → a ≡ Ok (Some x)
               → Last (past w x) (items_within span h n (past w x))
           onward rec a step x e =
-              let fewer = step-fewer w x behind (subst (λ (b : Answer X). Step w b) e step) in
+              let fewer = step-fewer w x behind (rw e at step) in
               rec (past w x) (omega (arith, fewer)) (behind-after (span x).end)
               (λ t alike. gives t (same_start-then w.at (past w x).at t (same_start-after w (Some (span x))) alike))
 
@@ -266,8 +248,7 @@ module _ {X : Type 0} (span : X → Span) (tells : Search → Answer X → Type 
               record {
                 first = h w.at;
                 is_first = gives w.at (same_start-self w.at);
-                rest =
-                    rw e (gives (shifted w).at (same_start-shifted w));
+                rest = rw e (gives (shifted w).at (same_start-shifted w));
               } in
               built n w (h (shifted w).at) _ step
               (λ x is. (

@@ -74,12 +74,10 @@ module _ {A X F : Type 0} (view : A → X) (span : X → Span)
   module _ (ordered : (m : A) → (span (view m)).start ≤ (span (view m)).end) where
     view-ordered : (reply : Result (Option A) SearchError) (a : Answer X) → a ≡ answer_by view reply
         → IsOrdered (answer_span span a)
-    view-ordered (Ok (Some m)) a is = subst (λ (b : Answer X). IsOrdered (answer_span span b)) (sym is)
-        (λ p same. subst (λ (q : Span). q.start ≤ q.end) (same_some _ _ same) (ordered m))
-    view-ordered (Ok None) a is = subst (λ (b : Answer X). IsOrdered (answer_span span b)) (sym is)
-        (λ p same. let never : None ≡ Some p = same in cc)
-    view-ordered (Err e) a is = subst (λ (b : Answer X). IsOrdered (answer_span span b)) (sym is)
-        (λ p same. let never : None ≡ Some p = same in cc)
+    view-ordered (Ok (Some m)) a is = rw is (λ p same.
+        subst (λ (q : Span). q.start ≤ q.end) (same_some _ _ same) (ordered m))
+    view-ordered (Ok None) a is = rw is (λ p same. let never : None ≡ Some p = same in cc)
+    view-ordered (Err e) a is = rw is (λ p same. let never : None ≡ Some p = same in cc)
 
     pub found-apart : (s : Steps F) → s.done ≡ false
         → AnswersAlong view g (AnswerIsInside span) s.backend (steps_iter_state s).at
@@ -106,13 +104,13 @@ module _ {A X F : Type 0} (view : A → X) (span : X → Span)
         → LeadsOn (IsCallableOn g) (Finds view g) SameButStart x q calls q' → q' ≡ f
     kept [] q q' same leads = sym leads ∙ same
     kept (c ∷ calls) q q' same leads =
-        let asked = subst (λ (z : F). Finds view g z c.0 c.1 leads.0) same leads.1.1 in
+        let asked = rw same at leads.1.1 in
         kept calls leads.0 q' (says_so c.0 c.1 leads.0 asked).0 leads.2
 
     may-tells : (t : Search) (a : Answer X) → MayAnswer view span g f x t a → tells t a
     may-tells t a k =
         let same = kept k.calls f k.between refl k.leads in
-        (says_so t a k.left (subst (λ (z : F). Finds view g z t a k.left) same k.asked)).1
+        (says_so t a k.left (rw same at k.asked)).1
 
     all-told : (w : IterState) (items : List (Result A SearchError))
         → AreAllStoredMatches span (MayAnswer view span g f x) view w items

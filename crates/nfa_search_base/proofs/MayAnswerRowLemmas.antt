@@ -44,9 +44,8 @@ nowhere = λ p is. let never : None ≡ Some p = is in cc
 
 row-ordered : (c : Captured) (reply : Result (Unit {0}) SearchError) (a : Answer Row) → a ≡ filled_answer c reply
     → IsOrdered (answer_span row_span a)
-row-ordered c (Err e) a is = subst (λ (b : Answer Row). IsOrdered (answer_span row_span b)) (sym is) nowhere
-row-ordered c (Ok u) a is = subst (λ (b : Answer Row). IsOrdered (answer_span row_span b)) (sym is)
-    (of (match_of c.pattern c.slots) refl)
+row-ordered c (Err e) a is = rw is nowhere
+row-ordered c (Ok u) a is = rw is (of (match_of c.pattern c.slots) refl)
   where
     none : Found
     none = record { pattern = 0; start = 0; end = 0 }

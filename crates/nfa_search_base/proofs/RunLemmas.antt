@@ -1,5 +1,5 @@
 -- The calls of an iterator that keeps its finder or engine give the items of its list.
-use Rattle.std.proofs.Common.{◌≡◌, ◌∙◌, ◌⊎◌, inl, inr, true, false, refl, sym, ap, subst}
+use Rattle.std.proofs.Common.{◌≡◌, ◌⊎◌, inl, inr, true, false, refl, ap, subst}
 use Rattle.std.proofs.Common.{Option, None, Some, Result, Ok, Err, List, [], ◌∷◌, ◌++◌, map}
 use Rattle.std.specs.Iterator.{Yields}
 use Rattle.std.specs.Option.{option_map}
@@ -17,14 +17,14 @@ use Rattle.nfa_search_base.specs.declared.error.SearchError.{SearchError}
 use Rattle.nfa_search_base.specs.declared.iter.steps.Steps.{Steps}
 use Rattle.nfa_search_base.proofs.ListLemmas.{as_items}
 use Rattle.nfa_search_base.proofs.AskingLemmas.{same_start-self, same_start-then}
-use Rattle.nfa_search_base.proofs.StepLemmas.{chosen, chosen-false, chosen-true, same_start-shifted, same_start-after}
+use Rattle.nfa_search_base.proofs.StepLemmas.{chosen, same_start-shifted, same_start-after}
 
 -- What is shown of the items of calls, as clauses.
 module _ {T R : Type 0} (steps : T → Option R → T → Type 0) where
   -- one item more
   pub yields-more : (xs : List R) (s t u : T) (r : R) → Yields steps s xs t → steps t (Some r) u
       → Yields steps s (xs ++ r ∷ []) u
-  yields-more [] s t u r ran st = (u, subst (λ (q : T). steps q (Some r) u) (sym ran) st, refl)
+  yields-more [] s t u r ran st = (u, rw ran st, refl)
   yields-more (x ∷ xs) s t u r ran st = (ran.0, ran.1, yields-more xs ran.0 t u r ran.2 st)
 
   -- all that is shown
@@ -40,7 +40,7 @@ module _ {T R : Type 0} (steps : T → Option R → T → Type 0) where
     unfolding YieldsRun
     runs-give = λ p seen from.
         let ran = p.gave.0 in
-        let begun = subst (λ (q : T). Yields steps q p.items ran.0) from ran.1 in
+        let begun = rw from at ran.1 in
         (first p.items ran.0 begun, λ whole. let over = ran.2 whole in all p.items ran.0 over.0 begun over.1)
 
     pub gives-next : GivesNext steps First s
@@ -54,7 +54,7 @@ module _ {T R : Type 0} (steps : T → Option R → T → Type 0) where
       → Keeps t u → Keeps s u)
       (step : (s : T) (r : Option R) (t : T) → steps s r t → Keeps s t) where
     pub run-keeps : (s : T) (xs : List R) (t : T) → Yields steps s xs t → Keeps s t
-    run-keeps s [] t e = subst (λ (q : T). Keeps s q) e (self s)
+    run-keeps s [] t e = rw (← e) (self s)
     run-keeps s (x ∷ xs) t e = then s e.0 t (step s (Some x) e.0 e.1) (run-keeps e.0 xs t e.2)
 
     pub calls-keep : (s : T) (xs : List R) (t : T) (r : Option R) (u : T) → Yields steps s xs t → steps t r u
@@ -78,18 +78,11 @@ module _ {X Y : Type 0} (view : Y → X) (a : Answer X) (ends : SearchError → 
 pub item-says : {X Y : Type 0} (view : Y → X) (step : Answer X → Type 0) (a : Answer X)
     (r : Option (Result Y SearchError))
     → GivesItem view a r → step a → Says view a (λ e. step (Err e)) r
-item-says view step (Ok (Some x)) None gives is = let k : None ≡ Some (Ok x) = gives in cc
-item-says view step (Ok (Some x)) (Some (Ok y)) gives is = let k : Some (Ok (view y)) ≡ Some (Ok x) = gives in cc
-item-says view step (Ok (Some x)) (Some (Err e)) gives is = let k : Some (Err e) ≡ Some (Ok x) = gives in cc
+item-says view step (Ok (Some x)) (Some (Ok y)) gives is = cc
 item-says view step (Ok None) None gives is = refl
-item-says view step (Ok None) (Some (Ok y)) gives is = let k : Some (Ok (view y)) ≡ None = gives in cc
-item-says view step (Ok None) (Some (Err e)) gives is = let k : Some (Err e) ≡ None = gives in cc
-item-says view step (Err q) None gives is = let k : None ≡ Some (Err q) = gives in cc
-item-says view step (Err q) (Some (Ok y)) gives is = let k : Some (Ok (view y)) ≡ Some (Err q) = gives in cc
 item-says {X} view step (Err q) (Some (Err e)) gives is =
-    let k : Some (Err e) ≡ Some (Err q) = gives in
-    let same : (let a : Answer X = Err q in let b : Answer X = Err e in a ≡ b) = cc in
-    subst (λ (b : Answer X). step b) same is
+    let same : (let a : Answer X = Err q in let b : Answer X = Err e in a ≡ b) = cc in rw (← same) is
+item-says view step a r gives is = cc
 
 -- What answers the searches stays `Good`, and on searches like x gives an answer of a search. An item says what its
 -- answer is.
@@ -125,7 +118,7 @@ module _ {S X Y : Type 0} (span : X → Span) (asks : S → Search → Answer X 
             (record { first = step.answer; is_first = one.0; rest = rw p.0 two.0 }, two.1, inr p.1.1)
         | inr p ↦ (
           record { first = step.answer; is_first = one.0; rest = rw p.0 p.1.0 },
-          subst (λ (q : S). Good q) (sym p.1.1) one.1,
+          rw p.1.1 one.1,
           inl p.1.2,
         )
       ]
@@ -138,7 +131,7 @@ module _ {S X Y : Type 0} (span : X → Span) (asks : S → Search → Answer X 
 
   turn-at : (w : IterState) (s : Steps S) (r : Option (Result Y SearchError)) (t : Steps S) → IsAt w s → steps s r t
       → TakesStep span asks gives s.backend w r t.backend (steps_iter_state t) t.done
-  turn-at w s r t at st = rw at.walk at (chosen-false s.done at.going (chosen s.done st))
+  turn-at w s r t at st = rw (at.going, at.walk) at st
 
   -- a call leads to the state that its item says
   leads : (w : IterState) (s : Steps S) (r : Option (Result Y SearchError)) (t : Steps S) → IsAt w s → steps s r t
@@ -152,14 +145,11 @@ module _ {S X Y : Type 0} (span : X → Span) (asks : S → Search → Answer X 
           → ((steps_iter_state t ≡ after w (answer_span span a))
           ⊎ (steps_iter_state t ≡ after (shifted w) (answer_span span a)))
           → t.done ≡ ends_at r → Says view a (ends w) r → Leads w r t
-      of None a step good moved done is = subst (λ (b : Answer X). IsStep span tells w b) is step
+      of None a step good moved done is = rw is at step
       of (Some (Ok y)) a step good moved done is = (
-        subst (λ (b : Answer X). IsStep span tells w b) is step,
+        rw is at step,
         record {
-          walk = elim moved [
-            | inl one ↦ one ∙ ap (λ (b : Answer X). after w (answer_span span b)) is
-            | inr two ↦ two ∙ ap (λ (b : Answer X). after (shifted w) (answer_span span b)) is
-          ];
+          walk = elim moved [ inl one ↦ rw is at one | inr two ↦ rw is at two ];
           going = done;
           like = same_start-then x w.at (after w (Some (span (view y)))).at at.like
               (same_start-after w (Some (span (view y))));
@@ -171,7 +161,7 @@ module _ {S X Y : Type 0} (span : X → Span) (asks : S → Search → Answer X 
   -- an iterator that has ended gives nothing
   ended : (s t : Steps S) (xs : List (Result Y SearchError)) → s.done ≡ true → Yields steps s xs t → xs ≡ []
   ended s t [] d h = refl
-  ended s t (y ∷ ys) d h = let never : Some y ≡ None = (chosen-true s.done d (chosen s.done h.1)).0 in cc
+  ended s t (y ∷ ys) d h = let k = rw d at h.1 in let never : Some y ≡ None = k.0 in cc
 
   abbrev items : List (Result Y SearchError) → List (Item X)
   items = map (item_by view)
@@ -189,7 +179,7 @@ module _ {S X Y : Type 0} (span : X → Span) (asks : S → Search → Answer X 
   and-last : (xs : List (Result Y SearchError)) (w : IterState) (s t u : Steps S) → IsAt w s → Yields steps s xs t
       → steps t None u
       → ItemsLast span tells ends w (items xs)
-  and-last [] w s t u at ran st = leads w s None u at (subst (λ (q : Steps S). steps q None u) (sym ran) st)
+  and-last [] w s t u at ran st = leads w s None u at (rw ran st)
   and-last (Ok y ∷ xs) w s t u at ran st =
       let k = leads w s (Some (Ok y)) ran.0 at ran.1 in
       (k.0, and-last xs (after w (Some (span (view y)))) ran.0 t u k.1 ran.2 st)
@@ -251,14 +241,14 @@ module _ {S X Y : Type 0} (span : X → Span) (asks : S → Search → Answer X 
   pub step-keeps : (s : Steps S) (r : Option (Result Y SearchError)) (t : Steps S) → takes_steps span asks gives s r t
       → Keeps s.backend t.backend
   step-keeps s r t st = elim (chosen s.done st) [
-    | inl p ↦ subst (λ (q : Steps S). Keeps s.backend q.backend) (sym p.1.1) (self s.backend)
+    | inl p ↦ rw p.1.1 (self s.backend)
     | inr p ↦
         let step = p.1.step in
         let one = asked s.backend (steps_iter_state s).at step.answer step.between step.first in
         elim (chosen (repeats (steps_iter_state s) (answer_span span step.answer)) step.rest) [
           | inl q ↦ then s.backend step.between t.backend one
               (asked step.between (shifted (steps_iter_state s)).at p.1.answer t.backend q.1.0)
-          | inr q ↦ subst (λ (k : S). Keeps s.backend k) (sym q.1.1) one
+          | inr q ↦ rw q.1.1 one
         ]
   ]
 
@@ -271,5 +261,5 @@ module _ {S X : Type 0} (span : X → Span) (asks : S → Search → Answer X �
       let one = leaves s w.at step.answer step.between (same_start-self w.at) holds step.first in
       elim (chosen (repeats w (answer_span span step.answer)) step.rest) [
         | inl p ↦ leaves step.between (shifted w).at a s' (same_start-shifted w) one p.1.0
-        | inr p ↦ subst (λ (q : S). Holds q) (sym p.1.1) one
+        | inr p ↦ rw p.1.1 one
       ]

@@ -1,5 +1,5 @@
 -- a step of an iteration by a finder
-use Rattle.std.proofs.Common.{◌≡◌, ◌∙◌, true, false, Bool, Option, None, Some, Result, IsOk, refl, sym, ap, subst, ◌⊎◌, inl, inr, MatchBool, List, [], ◌∷◌, arith}
+use Rattle.std.proofs.Common.{◌≡◌, true, false, Bool, Option, None, Some, Result, IsOk, refl, ap, ◌⊎◌, inl, inr, MatchBool, List, [], ◌∷◌, arith}
 use Rattle.std.specs.Fn.{Called, Mut}
 use Rattle.std.specs.Borrow.{Bor}
 use Rattle.regex_search_core.specs.Search.{Search, search_of}
@@ -12,21 +12,13 @@ use Rattle.nfa_search_base.specs.Finders.{answer_by, Finds, AnswersAlong}
 use Rattle.nfa_search_base.specs.WithCache.{WithCache, accepts_whole, asks_whole}
 use Rattle.nfa_search_base.specs.Serving.{LeadsOn, ServesOnAlong, ServesAdvance, StepDone}
 use Rattle.nfa_search_base.specs.declared.error.SearchError.{SearchError}
-use Rattle.nfa_search_base.proofs.AskingLemmas.{same_start-self, same_start-then, ServesOn-now, ServesOnAlong-same, ServesOnAlong-call, ServesOnAlong-weaker, ServesOnAlong-by}
+use Rattle.nfa_search_base.proofs.AskingLemmas.{same_start-self, Along-same, Along-now, Along-call, ServesOnAlong-by}
 use Rattle.nfa_search_base.proofs.IterStateLemmas.{IsOrdered, ComesAfter-first, LeavesFewer-first, ComesAfter-second, LeavesFewer-second}
 
 -- which of the two facts a test chose
 pub chosen : {A B : Type 0} (b : Bool) → MatchBool b A B → ((b ≡ true) × A) ⊎ ((b ≡ false) × B)
 chosen true h = inl (refl, h)
 chosen false h = inr (refl, h)
-
-pub chosen-true : {A B : Type 0} (b : Bool) → b ≡ true → ((b ≡ true) × A) ⊎ ((b ≡ false) × B) → A
-chosen-true b e (inl h) = h.1
-chosen-true b e (inr h) = let never : true ≡ false = sym e ∙ h.0 in cc
-
-pub chosen-false : {A B : Type 0} (b : Bool) → b ≡ false → ((b ≡ true) × A) ⊎ ((b ≡ false) × B) → B
-chosen-false b e (inl h) = let never : true ≡ false = sym h.0 ∙ e in cc
-chosen-false b e (inr h) = h.1
 
 -- after a match or none, the search is the same but for its start
 pub same_start-after : (w : IterState) (place : Option Span) → SameButStart w.at (after w place).at
@@ -42,82 +34,44 @@ pub same_start-after_shifted : (w : IterState) (place : Option Span) → SameBut
 same_start-after_shifted w None = record { haystack = refl; end = refl; anchored = refl; earliest = refl }
 same_start-after_shifted w (Some p) = record { haystack = refl; end = refl; anchored = refl; earliest = refl }
 
-module _ {S X : Type 0} (accepts : S → Search → Type 0) (asks : S → Search → Answer X → S → Type 0)
-    (span : X → Span) where
-  -- what holds along the calls
-  module _ (P : Search → Answer X → Type 0) where
-    -- it holds along the calls from s on searches like t
-    abbrev Along : S → Search → Type 0
-    Along s t = ServesOnAlong accepts asks SameButStart P s t
+-- A step from the state f and the iteration w.
+module _ {S X : Type 0} {accepts : S → Search → Type 0} {asks : S → Search → Answer X → S → Type 0} {span : X → Span}
+    {f : S} where
+  -- if something holds along calls, a step may be made
+  pub ServesAdvance-now : {P : Search → Answer X → Type 0} (w : IterState)
+      → ServesOnAlong accepts asks SameButStart P f w.at → ServesAdvance accepts asks span P f w
+  ServesAdvance-now w h = record {
+    first = Along-now h (same_start-self w.at);
+    second = λ a f' asked again. Along-now (Along-call h (same_start-self w.at) asked) (same_start-shifted w);
+  }
 
-    -- the same from a search like it
-    pub Along-same : (f : S) (s t : Search) → SameButStart s t → Along f s → Along f t
-    Along-same f s t same h = ServesOnAlong-same accepts asks SameButStart same_start-self
-        same_start-then P f s t same h
+  module _ {P : Search → Answer X → Type 0} {w : IterState} {r : Answer X} {f' : S} {w' : IterState}
+      (step : Advances span asks f w r f' w') (h : ServesOnAlong accepts asks SameButStart P f w.at) where
+    once : ServesOnAlong accepts asks SameButStart P step.between w.at
+    once = Along-call h (same_start-self w.at) step.first
 
-    -- after a call
-    pub Along-call : (f : S) (s t : Search) (a : Answer X) (f' : S) → SameButStart s t → asks f t a f'
-        → Along f s → Along f' s
-    Along-call f s t a f' same asked h = ServesOnAlong-call accepts asks SameButStart same_start-self same_start-then P
-        f s t a f' same asked h
-
-    -- what it gives of a call
-    pub Along-now : (f : S) (s t : Search) (a : Answer X) (f' : S) → SameButStart s t → asks f t a f'
-        → Along f s → P t a
-    Along-now f s t a f' same asked h = (ServesOn-now accepts asks SameButStart same_start-self same_start-then P f s t
-        same h).replies a f' asked
-
-    -- a step may be made
-    pub ServesAdvance-now : (f : S) (w : IterState) → Along f w.at → ServesAdvance accepts asks span P f w
-    ServesAdvance-now f w h = record {
-      first = ServesOn-now accepts asks SameButStart same_start-self same_start-then P f w.at w.at
-          (same_start-self w.at) h;
-      second = λ a f' asked again. ServesOn-now accepts asks SameButStart same_start-self same_start-then P f' w.at
-          (shifted w).at (same_start-shifted w)
-          (Along-call f w.at w.at a f' (same_start-self w.at) asked h);
-    }
-
-    -- after a step
-    pub Along-step : (f : S) (w : IterState) (r : Answer X) (f' : S) (w' : IterState) → Advances span asks f w r f' w'
-        → Along f w.at → Along f' w.at
-    Along-step f w r f' w' step h =
-        let once : Along step.between w.at = Along-call f w.at w.at step.answer step.between (same_start-self w.at)
-        step.first h in
-        elim (chosen (repeats w (answer_span span step.answer)) step.rest) [
-          | inl p ↦ Along-call step.between w.at (shifted w).at r f' (same_start-shifted w) p.1.0 once
-          | inr p ↦ subst (λ (q : S). Along q w.at) (sym p.1.1) once
-        ]
+    -- it still holds after the step
+    pub Along-step : ServesOnAlong accepts asks SameButStart P f' w.at
+    Along-step = elim (chosen (repeats w (answer_span span step.answer)) step.rest) [
+      | inl p ↦ Along-call once (same_start-shifted w) p.1.0
+      | inr p ↦ rw p.1.1 once
+    ]
 
     -- and from the state of the iteration then
-    pub Along-turn : (f : S) (w : IterState) (r : Answer X) (f' : S) (w' : IterState) → Advances span asks f w r f' w'
-        → SameButStart w.at w'.at → Along f w.at → Along f' w'.at
-    Along-turn f w r f' w' step same h = Along-same f' w.at w'.at same (Along-step f w r f' w' step h)
+    pub Along-turn : SameButStart w.at w'.at → ServesOnAlong accepts asks SameButStart P f' w'.at
+    Along-turn same = Along-same Along-step same
 
-    -- the answer of a step is one of a call
-    pub Along-answer : (f : S) (w : IterState) (r : Answer X) (f' : S) (w' : IterState) → Advances span asks f w r f' w'
-        → Along f w.at → (s : Search) × P s r
-    Along-answer f w r f' w' step h =
-        let once : Along step.between w.at = Along-call f w.at w.at step.answer step.between (same_start-self w.at)
-        step.first h in
-        elim (chosen (repeats w (answer_span span step.answer)) step.rest) [
-          | inl p ↦ ((shifted w).at, Along-now step.between w.at (shifted w).at r f' (same_start-shifted w) p.1.0 once)
-          | inr p ↦ (
-            w.at,
-            subst (λ (b : Answer X). P w.at b) (sym p.1.0)
-                (Along-now f w.at w.at step.answer step.between (same_start-self w.at) step.first h),
-          )
-        ]
+    -- the answer of the step is one of a call
+    pub Along-answer : (s : Search) × P s r
+    Along-answer = elim (chosen (repeats w (answer_span span step.answer)) step.rest) [
+      | inl p ↦ ((shifted w).at, (Along-now once (same_start-shifted w)).replies r f' p.1.0)
+      | inr p ↦ (w.at, rw p.1.0 ((Along-now h (same_start-self w.at)).replies step.answer step.between step.first))
+    ]
 
-  -- what holds of each answer may be weakened
-  pub Along-weaker : (P Q : Search → Answer X → Type 0) (f : S) (s : Search)
-      → ((t : Search) (a : Answer X) → P t a → Q t a) → Along P f s → Along Q f s
-  Along-weaker P Q f s weaker h = ServesOnAlong-weaker accepts asks SameButStart same_start-self same_start-then
-      P Q f s weaker h
-
-  -- and so for the calls of a step
-  pub ServesAdvance-surely : (f : S) (w : IterState) → ServesAdvance accepts asks span (IsInfalliblyInside span) f w
+  -- what holds of the answers of a step may be weakened
+  pub ServesAdvance-surely : {w : IterState} → ServesAdvance accepts asks span (IsInfalliblyInside span) f w
       → ServesAdvance accepts asks span (AnswerIsInside span) f w
-  ServesAdvance-surely f w h = record {
+  ServesAdvance-surely h = record {
     first = record { callable = h.first.callable; replies = λ a f' asked. (h.first.replies a f' asked).0 };
     second = λ a f' asked again.
         let now = h.second a f' asked again in
@@ -125,11 +79,11 @@ module _ {S X : Type 0} (accepts : S → Search → Type 0) (asks : S → Search
   }
 
   -- if no call fails, a step does not fail
-  pub step-surely : (f : S) (w : IterState) (r : Answer X) (f' : S) (w' : IterState)
+  pub step-surely : {w : IterState} {r : Answer X} {f' : S} {w' : IterState}
       → ServesAdvance accepts asks span (IsInfalliblyInside span) f w → Advances span asks f w r f' w' → IsOk r
-  step-surely f w r f' w' h step = elim (chosen (repeats w (answer_span span step.answer)) step.rest) [
+  step-surely {w = w} {r = r} {f' = f'} h step = elim (chosen (repeats w (answer_span span step.answer)) step.rest) [
     | inl p ↦ ((h.second step.answer step.between step.first p.0).replies r f' p.1.0).1
-    | inr p ↦ subst (λ (b : Answer X). IsOk b) (sym p.1.0) (h.first.replies step.answer step.between step.first).1
+    | inr p ↦ rw p.1.0 (h.first.replies step.answer step.between step.first).1
   ]
 
 -- what is in a span that starts one byte further on is in this one
@@ -143,55 +97,44 @@ module _ {S X : Type 0} (accepts : S → Search → Type 0) (asks : S → Search
     (serves : ServesAdvance accepts asks span (AnswerIsInside span) s w) (behind : EndsBy w.last w.at.start) where
   -- a first answer that does not repeat the last match is the step's
   pub step-once : (a : Answer X) (s' : S) (place : Option Span) (w' : IterState) → asks s w.at a s'
-      → place ≡ answer_span span a
-      → IsOrdered place
-      → repeats w place ≡ false → w' ≡ after w place → StepDone accepts asks span s w a s' w'
-  step-once a s' place w' asked is ordered new moved =
-      let lies : LiesIn w.at place = subst (λ (p : Option Span). LiesIn w.at p) (sym is)
-      ((serves.first).replies a s' asked) in
-      let rises : ComesAfter w place = ComesAfter-first w place behind lies ordered new in
-      let here : w' ≡ after w (answer_span span a) = moved ∙ ap (λ (p : Option Span). after w p) is in
-      let not_again : repeats w (answer_span span a) ≡ false = subst
-      (λ (p : Option Span). repeats w p ≡ false) is new in
-      let fewer : LeavesFewer w place w' = subst (λ (v : IterState). LeavesFewer w place v) (sym moved)
-      (LeavesFewer-first w place lies ordered rises) in
-      record {
-        step = record { answer = a; between = s'; first = asked; rest = rw not_again (refl, refl, here) };
-        inside = (serves.first).replies a s' asked;
-        rises = subst (λ (p : Option Span). ComesAfter w p) is rises;
-        fewer = subst (λ (p : Option Span). LeavesFewer w p w') is fewer;
-        same = subst (λ (v : IterState). SameButStart w.at v.at) (sym moved) (same_start-after w place);
-      }
+      → place ≡ answer_span span a → IsOrdered place → repeats w place ≡ false → w' ≡ after w place
+      → StepDone accepts asks span s w a s' w'
+  step-once a s' place w' asked is ordered new moved = rw (moved, is) (of (rw is at ordered) (rw is at new))
+    where
+      of : IsOrdered (answer_span span a) → repeats w (answer_span span a) ≡ false
+          → StepDone accepts asks span s w a s' (after w (answer_span span a))
+      of ordered new =
+          let inside = serves.first.replies a s' asked in
+          let rises = ComesAfter-first w (answer_span span a) behind inside ordered new in
+          record {
+            step = record { answer = a; between = s'; first = asked; rest = rw new (refl, refl, refl) };
+            inside = inside;
+            rises = rises;
+            fewer = LeavesFewer-first w (answer_span span a) inside ordered rises;
+            same = same_start-after w (answer_span span a);
+          }
 
   -- after one that repeats it, the second answer is
   pub step-twice : (b : Answer X) (between : S) (first : Option Span) (w1 : IterState) (a : Answer X) (s' : S)
       (place : Option Span) (w' : IterState)
       → asks s w.at b between → first ≡ answer_span span b → repeats w first ≡ true → w1 ≡ shifted w
-      → asks between w1.at a s'
-      → place ≡ answer_span span a → IsOrdered place → w' ≡ after w1 place → StepDone accepts asks span s w a s' w'
+      → asks between w1.at a s' → place ≡ answer_span span a → IsOrdered place → w' ≡ after w1 place
+      → StepDone accepts asks span s w a s' w'
   step-twice b between first w1 a s' place w' asked was again one asked_again is ordered moved =
-      let repeated : repeats w (answer_span span b) ≡ true = subst (λ (p : Option Span). repeats w p ≡ true)
-      was again in
-      let there : asks between (shifted w).at a s' = subst (λ (v : IterState). asks between v.at a s') one
-      asked_again in
-      let inside : AnswerIsInside span (shifted w).at a = (serves.second b between asked repeated).replies a s' there in
-      let lies : LiesIn (shifted w).at place = subst (λ (p : Option Span). LiesIn (shifted w).at p) (sym is) inside in
-      let rises : ComesAfter w place = ComesAfter-second w place behind lies ordered in
-      let here : w' ≡ after (shifted w) place = moved ∙ ap (λ (v : IterState). after v place) one in
-      let fewer : LeavesFewer w place w' = subst (λ (v : IterState). LeavesFewer w place v) (sym here)
-      (LeavesFewer-second w place lies ordered rises) in
-      record {
-        step = record {
-          answer = b;
-          between = between;
-          first = asked;
-          rest = rw repeated (there, here ∙ ap (λ (p : Option Span). after (shifted w) p) is);
-        };
-        inside = lies-before w (answer_span span a) inside;
-        rises = subst (λ (p : Option Span). ComesAfter w p) is rises;
-        fewer = subst (λ (p : Option Span). LeavesFewer w p w') is fewer;
-        same = subst (λ (v : IterState). SameButStart w.at v.at) (sym here) (same_start-after_shifted w place);
-      }
+      rw (moved, one, is) (of (rw was at again) (rw one at asked_again) (rw is at ordered))
+    where
+      of : repeats w (answer_span span b) ≡ true → asks between (shifted w).at a s' → IsOrdered (answer_span span a)
+          → StepDone accepts asks span s w a s' (after (shifted w) (answer_span span a))
+      of again asked_again ordered =
+          let inside = (serves.second b between asked again).replies a s' asked_again in
+          let rises = ComesAfter-second w (answer_span span a) behind inside ordered in
+          record {
+            step = record { answer = b; between = between; first = asked; rest = rw again (asked_again, refl) };
+            inside = lies-before w (answer_span span a) inside;
+            rises = rises;
+            fewer = LeavesFewer-second w (answer_span span a) inside ordered rises;
+            same = same_start-after_shifted w (answer_span span a);
+          }
 
 -- a finder's answers along its calls are its replies' values
 module _ {A X F : Type 0} (view : A → X) (g : Mut F (Bor Input × Unit {0}) (Result (Option A) SearchError))
@@ -201,16 +144,12 @@ module _ {A X F : Type 0} (view : A → X) (g : Mut F (Bor Input × Unit {0}) (R
       → ((q : F) (p : Bor Input) (reply : Result (Option A) SearchError) (q' : F) → SameButStart s (search_of p.now)
       → Inv q → Called g q (p, tt) reply q' → P (search_of p.now) (answer_by view reply) × Inv q')
       → AnswersAlong view g P f s
-  AnswersAlong-by Inv f s now may says = ServesOnAlong-by (IsCallableOn g) (Finds view g) SameButStart same_start-self
-      same_start-then P Inv f s now
+  AnswersAlong-by Inv f s now may says = ServesOnAlong-by (IsCallableOn g) (Finds view g) P Inv f s now
       (λ q t same inv p e. may q p (rw e same) inv)
       (λ q t a q' same inv found.
       let asked = found.asked in
-      let k = says q asked.shown found.reply q' (rw asked.shows same) inv asked.called in (
-        subst (λ (b : Answer X). P t b) (sym found.shows)
-            (subst (λ (u : Search). P u (answer_by view found.reply)) asked.shows k.0),
-        k.1,
-      ))
+      let k = says q asked.shown found.reply q' (rw asked.shows same) inv asked.called in
+      (rw found.shows (rw asked.shows at k.0), k.1))
 
   pub AnswersAlong-always : (f : F) (s : Search)
       → ((q : F) (p : Bor Input) → SameButStart s (search_of p.now) → g.pre q (p, tt))
@@ -229,12 +168,12 @@ module _ {X S : Type 0} (span : X → Span) (asks : S → Search → Answer X �
   -- its match comes after the last one
   pub Advances-rises : ComesAfter w (answer_span span r)
   Advances-rises = elim (chosen (repeats w (answer_span span step.answer)) step.rest) [
-    | inl p ↦ let second = good step.between (shifted w).at r s' p.1.0 in
+    | inl p ↦
+        let second = good step.between (shifted w).at r s' p.1.0 in
         ComesAfter-second w (answer_span span r) behind second.0 second.1
     | inr p ↦
         let first = good s w.at step.answer step.between step.first in
-        subst (λ (a : Answer X). ComesAfter w (answer_span span a)) (sym p.1.0)
-        (ComesAfter-first w (answer_span span step.answer) behind first.0 first.1 p.0)
+        rw p.1.0 (ComesAfter-first w (answer_span span step.answer) behind first.0 first.1 p.0)
   ]
 
   -- it leaves fewer ends
@@ -242,17 +181,11 @@ module _ {X S : Type 0} (span : X → Span) (asks : S → Search → Answer X �
   Advances-fewer = elim (chosen (repeats w (answer_span span step.answer)) step.rest) [
     | inl p ↦
         let second = good step.between (shifted w).at r s' p.1.0 in
-        subst (λ (v : IterState). LeavesFewer w (answer_span span r) v) (sym p.1.1)
-        (LeavesFewer-second w (answer_span span r) second.0 second.1
-        (ComesAfter-second w (answer_span span r) behind second.0 second.1))
+        rw p.1.1 (LeavesFewer-second w (answer_span span r) second.0 second.1 Advances-rises)
     | inr p ↦
         let first = good s w.at step.answer step.between step.first in
-        let here : LeavesFewer w (answer_span span step.answer) (after w (answer_span span step.answer)) =
-        LeavesFewer-first w (answer_span span step.answer) first.0 first.1
-        (ComesAfter-first w (answer_span span step.answer) behind first.0 first.1 p.0) in
-        let there : LeavesFewer w (answer_span span r) (after w (answer_span span r)) =
-        subst (λ (a : Answer X). LeavesFewer w (answer_span span a) (after w (answer_span span a))) (sym p.1.0) here in
-        subst (λ (v : IterState). LeavesFewer w (answer_span span r) v) (sym p.1.2) there
+        rw (p.1.2, p.1.0) (LeavesFewer-first w (answer_span span step.answer) first.0 first.1
+        (ComesAfter-first w (answer_span span step.answer) behind first.0 first.1 p.0))
   ]
 
 -- If a part of the state is borrowed, a step is one of the whole state.

@@ -1,43 +1,26 @@
 -- the iterators that keep their finder or engine
-use Rattle.std.proofs.Common.{◌≡◌, ◌+◌, ◌<◌, true, false, Bool, Option, None, Some, Result, Ok, Err, IsOk, OnSome, MatchBool, List, [], ◌∷◌, refl, sym, ◌∙◌, ap, subst, inl, inr, arith}
-use Rattle.std.specs.Option.{option_map, IfSome, IfNone}
-use Rattle.std.specs.Iterator.{AlwaysYields, MakesProgress, IsFinite, size}
+use Rattle.std.proofs.Common.{◌≡◌, ◌+◌, ◌<◌, true, false, Bool, Option, None, Some, Result, Ok, Err, IsOk, OnSome, MatchBool, List, [], ◌∷◌, sym, ◌∙◌, ap, inl, inr, arith}
+use Rattle.std.specs.Iterator.{AlwaysYields, MakesProgress}
 use Rattle.std.proofs.lemmas.Iterator.{YieldsList}
 use Rattle.regex_search_core.specs.Search.{Search}
 use Rattle.regex_search_core.specs.declared.search.Span.{Span}
 use Rattle.nfa_search_base.specs.Asking.{SameButStart}
-use Rattle.nfa_search_base.specs.IterStates.{IterState, Answer, answer_span, AnswerIsInside, IsInfalliblyInside, LeavesFewer, ends_left}
+use Rattle.nfa_search_base.specs.IterStates.{Answer, AnswerIsInside, ends_left}
 use Rattle.nfa_search_base.specs.Items.{Item, item_by, item_of, items_left, matches_left, matches_in, greedy_unless}
 use Rattle.nfa_search_base.specs.Serving.{ServesOnAlong}
 use Rattle.nfa_search_base.specs.WithCache.{WithCache, asks_whole, steps_whole}
-use Rattle.nfa_search_base.specs.Steps.{TakesStep, GivesItem, ends_at, ComesOfMatch}
+use Rattle.nfa_search_base.specs.Steps.{TakesStep, GivesItem, ends_at}
 use Rattle.nfa_search_base.specs.Stored.{steps_iter_state, can_step, can_step_infallibly, takes_steps, takes_infallible_steps, steps_left, infallible_left}
 use Rattle.nfa_search_base.specs.declared.error.SearchError.{SearchError}
 use Rattle.nfa_search_base.specs.declared.iter.steps.Steps.{Steps}
-use Rattle.nfa_search_base.proofs.AskingLemmas.{same_start-self}
-use Rattle.nfa_search_base.proofs.StepLemmas.{chosen, Along-same, Along-call, Along-now, Along-turn, Along-answer, Along-weaker, step-whole}
-use Rattle.nfa_search_base.proofs.GreedyLemmas.{IsTurnOf, step-computes, yields-greedy}
-
--- after a match fewer ends are left, and after an error nothing is
-step-fewer : {X Y : Type 0} (span : X → Span) (w w' : IterState) (a : Answer X) (r : Option (Result Y SearchError))
-    → ComesOfMatch a r → LeavesFewer w (answer_span span a) w'
-    → OnSome r (items_left (ends_at r) w' < items_left false w)
-step-fewer span w w' a None comes less = tt
-step-fewer span w w' (Ok (Some x)) (Some (Ok y)) comes less = omega (arith, less)
-step-fewer span w w' (Ok None) (Some (Ok y)) comes less = absurd comes
-step-fewer span w w' (Err e) (Some (Ok y)) comes less = absurd comes
-step-fewer span w w' a (Some (Err e)) comes less = omega arith
-
-ends-by : {X Y : Type 0} (view : Y → X) (r : Option (Result Y SearchError))
-    → ends_at r ≡ ends_at (option_map (item_by view) r)
-ends-by view (Some (Ok y)) = refl
-ends-by view (Some (Err e)) = refl
-ends-by view None = refl
+use Rattle.nfa_search_base.proofs.AskingLemmas.{Along-weaker}
+use Rattle.nfa_search_base.proofs.StepLemmas.{chosen, Along-turn, Along-answer, step-whole}
+use Rattle.nfa_search_base.proofs.GreedyLemmas.{try-yields}
 
 no_err : {X : Type 0} (a : Answer X) (e : SearchError) → IsOk a → Some (Err e) ≡ item_of a → ⊥
-no_err (Ok (Some x)) e ok is = let k : Some (Err e) ≡ Some (Ok x) = is in cc
-no_err (Ok None) e ok is = let k : Some (Err e) ≡ None = is in cc
-no_err (Err x) e ok is = let k : false ≡ true = ok in cc
+no_err (Ok (Some x)) e ok is = cc
+no_err (Ok None) e ok is = cc
+no_err (Err x) e ok is = cc
 
 -- such a step leaves an iterator that may go on, with fewer items to come
 module _ {S X Y : Type 0} (accepts : S → Search → Type 0) (asks : S → Search → Answer X → S → Type 0) (span : X → Span)
@@ -46,36 +29,17 @@ module _ {S X Y : Type 0} (accepts : S → Search → Type 0) (asks : S → Sear
   abbrev can : Steps S → Type 0
   can q = ServesOnAlong accepts asks SameButStart P q.backend (steps_iter_state q).at
 
-  pub steps-progress : can s → s.done ≡ false
-      → TakesStep span asks gives s.backend (steps_iter_state s) r t.backend (steps_iter_state t) t.done
-      → MakesProgress can steps_left s r t
-  steps-progress may going x =
-      let after : can t = Along-turn accepts asks span P s.backend (steps_iter_state s) x.answer t.backend
-      (steps_iter_state t)
-      x.step x.same may in
-      record { on = λ f. on_some r x.fewer after; keeps = keeps_on r after; rests = λ f. rests_on r }
-    where
-      on_some : (q : Option (Result Y SearchError))
-          → OnSome q (items_left t.done (steps_iter_state t) < items_left false (steps_iter_state s)) → can t
-          → OnSome q (can t × IsFinite (steps_left t) × (size (steps_left t) < size (steps_left s)))
-      on_some None less after = tt
-      on_some (Some y) less after = (after, tt, rw going less)
-
-      keeps_on : (q : Option (Result Y SearchError)) → can t → IfSome q (λ z. can t)
-      keeps_on None after = tt
-      keeps_on (Some y) after = after
-
-      rests_on : (q : Option (Result Y SearchError)) → IfNone q (IsFinite (steps_left t))
-      rests_on None = tt
-      rests_on (Some y) = tt
-
-  -- also if the iterator may have ended
   pub takes-progress : can s → takes_steps span asks gives s r t → MakesProgress can steps_left s r t
   takes-progress may st = elim (chosen s.done st) [
-    | inl p ↦ subst (λ (q : Option (Result Y SearchError)). MakesProgress can steps_left s q t) (sym p.1.0)
-        (record { on = λ f. tt; keeps = tt; rests = λ f. tt })
-    | inr p ↦ steps-progress may p.0 p.1
+    | inl p ↦ rw p.1.0 (record { on = λ f. tt; keeps = tt; rests = λ f. tt })
+    | inr p ↦ of r p.0 p.1.fewer (Along-turn p.1.step may p.1.same)
   ]
+    where
+      of : (r : Option (Result Y SearchError)) → s.done ≡ false
+          → OnSome r (items_left t.done (steps_iter_state t) < items_left false (steps_iter_state s)) → can t
+          → MakesProgress can steps_left s r t
+      of None going less after = record { on = λ f. tt; keeps = tt; rests = λ f. tt }
+      of (Some y) going less after = record { on = λ f. (after, tt, rw going less); keeps = after; rests = λ f. tt }
 
 -- If a part of the state is borrowed, a step is one of the iterator that keeps the whole state.
 module _ {S C T X Y : Type 0} (whole : WithCache S C → T) (accepts : T → Search → Type 0)
@@ -116,71 +80,9 @@ module _ {S X Y : Type 0} (accepts : S → Search → Type 0) (asks : S → Sear
   abbrev sure_steps : Steps S → Option Y → Steps S → Type 0
   sure_steps s r t = takes_infallible_steps span asks (λ q. GivesItem view) s r t
 
-  abbrev turn : Steps S → Option (Result Y SearchError) → Steps S → Type 0
-  turn s r t = TakesStep span asks (λ q. GivesItem view) s.backend (steps_iter_state s) r t.backend
-      (steps_iter_state t) t.done
-
-  module _ (h : Search → Answer X) where
-    abbrev Good : S → Search → Type 0
-    Good s t = ServesOnAlong accepts asks SameButStart (λ u a. a ≡ h u) s t
-
-    acts : (f : S) (s : Search) (a : Answer X) (f' : S) → Good f s → asks f s a f' → (a ≡ h s) × Good f' s
-    acts f s a f' computes asked = (
-      Along-now accepts asks span (λ (t : Search) (b : Answer X). b ≡ h t) f s s a f' (same_start-self s)
-          asked computes,
-      Along-call accepts asks span (λ (t : Search) (b : Answer X). b ≡ h t) f s s a f' (same_start-self s)
-          asked computes,
-    )
-
-    moves : (f : S) (s t : Search) → SameButStart s t → Good f s → Good f t
-    moves f s t same computes = Along-same accepts asks span (λ (u : Search) (b : Answer X). b ≡ h u) f s
-        t same computes
-
-    turns : (s : Steps S) (r : Option (Result Y SearchError)) (t : Steps S)
-        → Good s.backend (steps_iter_state s).at → steps s r t
-        → MatchBool s.done (r ≡ None) (IsTurnOf span h (steps_iter_state s) (option_map (item_by view) r)
-        (steps_iter_state t)
-        t.done × Good t.backend (steps_iter_state t).at)
-    turns s r t computes st = at_done s.done st
-      where
-        some_fewer : (r : Option (Result Y SearchError))
-            → OnSome r (items_left t.done (steps_iter_state t) < items_left false (steps_iter_state s))
-            → (x : Item X) → option_map (item_by view) r ≡ Some x
-            → items_left t.done (steps_iter_state t) < items_left false (steps_iter_state s)
-        some_fewer None less x is = let k : None ≡ Some x = is in cc
-        some_fewer (Some y) less x is = less
-
-        at_done : (b : Bool) → MatchBool b ((r ≡ None) × (t ≡ s)) (turn s r t)
-            → MatchBool b (r ≡ None) (IsTurnOf span h (steps_iter_state s) (option_map (item_by view) r)
-            (steps_iter_state t) t.done
-            × Good t.backend (steps_iter_state t).at)
-        at_done true x = x.0
-        at_done false x =
-            let e = step-computes span asks h Good acts moves s.backend (steps_iter_state s) x.answer t.backend
-            (steps_iter_state t)
-            computes x.step in (
-              record {
-                gives = x.item ∙ ap item_of e.0;
-                walk = e.1;
-                ends = x.ends ∙ ends-by view r ∙ ap ends_at (x.item ∙ ap item_of e.0);
-                fewer = some_fewer r x.fewer;
-              },
-              moves t.backend (steps_iter_state s).at (steps_iter_state t).at x.same e.2,
-            )
-
-    -- the items are the greedy list
-    pub try-yields : (s : Steps S) → Good s.backend (steps_iter_state s).at
-        → YieldsList steps (item_by view) s (greedy_unless span s.done h (steps_iter_state s))
-    try-yields s computes = record {
-      runs = yields-greedy span steps (item_by view) (λ (q : Steps S). steps_iter_state q) (λ (q : Steps S). q.done) h
-          (λ (q : Steps S). Good q.backend (steps_iter_state q).at) turns s computes;
-    }
-
   -- if no call fails, the matches stay in the span
   pub surely-inside : (s : Steps S) → can_step_infallibly accepts asks span s → can_step accepts asks span s
-  surely-inside s h =
-      Along-weaker accepts asks span (IsInfalliblyInside span) (AnswerIsInside span) s.backend (steps_iter_state s).at
-      (λ t a p. p.0) h
+  surely-inside s h = Along-weaker (λ t a p. p.0) h
 
   module _ (s t : Steps S) (r : Option (Result Y SearchError)) (h : can_step_infallibly accepts asks span s)
       (st : steps s r t) where
@@ -189,49 +91,29 @@ module _ {S X Y : Type 0} (accepts : S → Search → Type 0) (asks : S → Sear
     never-err e is = elim (chosen s.done st) [
       | inl p ↦ let k : None ≡ Some (Err e) = sym p.1.0 ∙ is in cc
       | inr p ↦
-          let gives = p.1.item in
-          no_err p.1.answer e (Along-answer accepts asks span (IsInfalliblyInside span) s.backend (steps_iter_state s)
-          p.1.answer t.backend (steps_iter_state t) p.1.step h).1.1 (rw is at gives)
+          let gives = p.1.item in no_err p.1.answer e (Along-answer p.1.step h).1.1 (rw is at gives)
     ]
 
-    -- after a match the iterator may go on, and fewer ends are left
-    pub after-match : (m : Y) → r ≡ Some (Ok m)
-        → (s.done ≡ false) × (t.done ≡ false) × (ends_left (steps_iter_state t) < ends_left (steps_iter_state s))
-        × can_step_infallibly accepts asks span t
-    after-match m is = elim (chosen s.done st) [
-      | inl p ↦ let k : None ≡ Some (Ok m) = sym p.1.0 ∙ is in cc
-      | inr p ↦
-          let x = p.1 in
-          let some = x.fewer in
-          let going : t.done ≡ false = x.ends ∙ ap ends_at is in
-          let less : items_left t.done (steps_iter_state t) < items_left false (steps_iter_state s) = rw is at some in
-          let fewer : ends_left (steps_iter_state t) + 1 < ends_left (steps_iter_state s) + 1 = rw going at less in (
-            p.0,
-            going,
-            omega arith,
-            Along-turn accepts asks span (IsInfalliblyInside span) s.backend (steps_iter_state s) x.answer t.backend
-                (steps_iter_state t) x.step x.same h,
-          )
-    ]
-
-    -- so a match is progress
+    -- after a match the iterator may go on, and fewer ends are left: progress
     pub sure-some : (m : Y) (r' : Option Y) → r ≡ Some (Ok m) → r' ≡ Some m
         → MakesProgress (can_step_infallibly accepts asks span) infallible_left s r' t
-    sure-some m r' is is' =
-        let k = after-match m is in
-        let start = k.0 in
-        let going = k.1 in
-        let less : matches_left t.done (steps_iter_state t) < matches_left s.done (steps_iter_state s)
-        = rw (start, going) k.2 in
-        subst (λ (q : Option Y). MakesProgress (can_step_infallibly accepts asks span) infallible_left s q t) (sym is')
-        (record { on = λ f. (k.3, tt, less); keeps = k.3; rests = λ f. tt })
+    sure-some m r' is is' = elim (chosen s.done st) [
+      | inl p ↦ let k : None ≡ Some (Ok m) = sym p.1.0 ∙ is in cc
+      | inr p ↦
+          let some = p.1.fewer in
+          let going : t.done ≡ false = p.1.ends ∙ ap ends_at is in
+          let fewer : items_left t.done (steps_iter_state t) < items_left false (steps_iter_state s) = rw is at some in
+          let ends : ends_left (steps_iter_state t) + 1 < ends_left (steps_iter_state s) + 1 = rw going at fewer in
+          let less : matches_left t.done (steps_iter_state t) < matches_left s.done (steps_iter_state s) =
+          rw (p.0, going) (omega arith) in
+          let can = Along-turn p.1.step h p.1.same in
+          rw is' (record { on = λ f. (can, tt, less); keeps = can; rests = λ f. tt })
+    ]
 
   -- and so is none
   pub sure-none : (s t : Steps S) (r : Option Y) → r ≡ None
       → MakesProgress (can_step_infallibly accepts asks span) infallible_left s r t
-  sure-none s t r is = subst (λ (q : Option Y). MakesProgress (can_step_infallibly accepts asks span)
-      infallible_left s q t)
-      (sym is) (record { on = λ f. tt; keeps = tt; rests = λ f. tt })
+  sure-none s t r is = rw is (record { on = λ f. tt; keeps = tt; rests = λ f. tt })
 
   -- if there is no step, any list is given
   no_steps : (zs : List X) (s : Steps S) → ((j : Steps S) → ¬ (sure_steps s None j))
@@ -251,10 +133,11 @@ module _ {S X Y : Type 0} (accepts : S → Search → Type 0) (asks : S → Sear
   yields (Err e ∷ ys) s h = no_steps (matches_in ys) s (λ j st. h.0 j st)
       (λ x j st. let k : Ok (view x) ≡ Err e = (h.1 (Ok x) j st).0 in cc)
 
-  -- so they are the matches of the greedy list
-  pub sure-yields : (h : Search → Answer X) (s : Steps S) → Good h s.backend (steps_iter_state s).at
+  -- so they are the matches of the greedy list, if calls answer as h does
+  pub sure-yields : (h : Search → Answer X) (s : Steps S)
+      → ServesOnAlong accepts asks SameButStart (λ t a. a ≡ h t) s.backend (steps_iter_state s).at
       → YieldsList sure_steps view s (matches_in (greedy_unless span s.done h (steps_iter_state s)))
   sure-yields h s computes = record {
-    runs =
-        yields (greedy_unless span s.done h (steps_iter_state s)) s (try-yields h s computes).runs;
+    runs = yields (greedy_unless span s.done h (steps_iter_state s)) s
+        (try-yields accepts asks span view h s computes).runs;
   }

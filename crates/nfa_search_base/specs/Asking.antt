@@ -4,7 +4,7 @@ use Rattle.std.specs.Fn.{Called, Mut}
 use Rattle.std.specs.Borrow.{Bor}
 use Rattle.regex_search_core.specs.Search.{Search, search_of}
 use Rattle.regex_search_core.specs.declared.search.Input.{Input}
-pub use Rattle.nfa_search_base.specs.SameBut.{SameButStart, SameButEnd}
+pub use Rattle.nfa_search_base.specs.SameBut.{SameButStart}
 use Rattle.nfa_search_base.specs.Serving.{ServesOnAlong}
 
 module _ {F R : Type 0} (g : Mut F (Bor Input × Unit {0}) R) where

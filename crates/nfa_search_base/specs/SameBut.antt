@@ -1,4 +1,4 @@
--- searches that are the same except for one bound
+-- searches that are the same except for their start
 use Rattle.std.specs.Prelude.{◌≡◌}
 use Rattle.regex_search_core.specs.Search.{Search}
 
@@ -6,12 +6,5 @@ use Rattle.regex_search_core.specs.Search.{Search}
 pub record SameButStart (s t : Search) : Type 0 where
   pub haystack : t.haystack ≡ s.haystack
   pub end : t.end ≡ s.end
-  pub anchored : t.anchored ≡ s.anchored
-  pub earliest : t.earliest ≡ s.earliest
-
--- t is s, except for its end
-pub record SameButEnd (s t : Search) : Type 0 where
-  pub haystack : t.haystack ≡ s.haystack
-  pub start : t.start ≡ s.start
   pub anchored : t.anchored ≡ s.anchored
   pub earliest : t.earliest ≡ s.earliest

@@ -42,20 +42,15 @@ pub fn skip_splits_fwd<T: Drop, F>(
 ) -> Result<Option<T>, SearchError>
 where
     F: FnMut(&Input<'_>) -> Result<Option<(T, usize)>, SearchError>,
+    requires finder { let s = search_of input.now in let moved = start_raised s in is_anchored s.anchored ≡ false
+        → ServesSkips F.FnMut s.haystack moved (Ok (Some (init, offset))) find }
     requires offset { IsInSpan (search_of input.now) offset }
-    requires finder { is_anchored (search_of input.now).anchored ≡ false
-        → ServesSkips F.FnMut (search_of input.now).haystack
-        (start_raised (search_of input.now)) (Ok (Some (init, offset))) find }
-    ensures anchored_whole { is_anchored (search_of input.now).anchored ≡ true
-        → IsBoundary (search_of input.now).haystack offset
-        → result ≡ Ok (Some init) }
-    ensures anchored_split { is_anchored (search_of input.now).anchored ≡ true
-        → ¬ (IsBoundary (search_of input.now).haystack offset)
-        → result ≡ Ok None }
-    ensures skips { is_anchored (search_of input.now).anchored ≡ false
-        → (left : F)
-        × SkipsTo F.FnMut (search_of input.now).haystack
-        (start_raised (search_of input.now)) (Ok (Some (init, offset))) find result left }
+    ensures anchored_whole { let s = search_of input.now in is_anchored s.anchored ≡ true
+        → IsBoundary s.haystack offset → result ≡ Ok (Some init) }
+    ensures anchored_split { let s = search_of input.now in is_anchored s.anchored ≡ true
+        → ¬ (IsBoundary s.haystack offset) → result ≡ Ok None }
+    ensures skips { let s = search_of input.now in let moved = start_raised s in is_anchored s.anchored ≡ false
+        → (left : F) × SkipsTo F.FnMut s.haystack moved (Ok (Some (init, offset))) find result left }
 {
     skip_splits_fwd_by_ref(input, init, offset, &mut find)
 }
@@ -70,20 +65,16 @@ pub fn skip_splits_fwd_by_ref<T: Drop, F>(
 ) -> Result<Option<T>, SearchError>
 where
     F: FnMut(&Input<'_>) -> Result<Option<(T, usize)>, SearchError>,
+    requires finder { let s = search_of input.now in let moved = start_raised s in is_anchored s.anchored ≡ false
+        → ServesSkips F.FnMut s.haystack moved (Ok (Some (init, offset))) find.old }
     requires offset { IsInSpan (search_of input.now) offset }
-    requires finder { is_anchored (search_of input.now).anchored ≡ false
-        → ServesSkips F.FnMut (search_of input.now).haystack
-        (start_raised (search_of input.now)) (Ok (Some (init, offset))) find.old }
-    ensures anchored_whole { is_anchored (search_of input.now).anchored ≡ true
-        → IsBoundary (search_of input.now).haystack offset
-        → result ≡ Ok (Some init) }
-    ensures anchored_split { is_anchored (search_of input.now).anchored ≡ true
-        → ¬ (IsBoundary (search_of input.now).haystack offset)
-        → result ≡ Ok None }
+    ensures anchored_whole { let s = search_of input.now in is_anchored s.anchored ≡ true
+        → IsBoundary s.haystack offset → result ≡ Ok (Some init) }
+    ensures anchored_split { let s = search_of input.now in is_anchored s.anchored ≡ true
+        → ¬ (IsBoundary s.haystack offset) → result ≡ Ok None }
     ensures anchored_kept { is_anchored (search_of input.now).anchored ≡ true → find.new ≡ find.old }
-    ensures skips { is_anchored (search_of input.now).anchored ≡ false
-        → SkipsTo F.FnMut (search_of input.now).haystack
-        (start_raised (search_of input.now)) (Ok (Some (init, offset))) find.old result find.new }
+    ensures skips { let s = search_of input.now in let moved = start_raised s in is_anchored s.anchored ≡ false
+        → SkipsTo F.FnMut s.haystack moved (Ok (Some (init, offset))) find.old result find.new }
 {
     if input.get_anchored().is_anchored() {
         return Ok(keep_whole(input, init, offset));
@@ -107,20 +98,15 @@ pub fn skip_splits_rev<T: Drop, F>(
 ) -> Result<Option<T>, SearchError>
 where
     F: FnMut(&Input<'_>) -> Result<Option<(T, usize)>, SearchError>,
+    requires finder { let s = search_of input.now in let moved = lowered s in is_anchored s.anchored ≡ false
+        → ServesSkips F.FnMut s.haystack moved (Ok (Some (init, offset))) find }
     requires offset { IsInSpan (search_of input.now) offset }
-    requires finder { is_anchored (search_of input.now).anchored ≡ false
-        → ServesSkips F.FnMut (search_of input.now).haystack
-        (lowered (search_of input.now)) (Ok (Some (init, offset))) find }
-    ensures anchored_whole { is_anchored (search_of input.now).anchored ≡ true
-        → IsBoundary (search_of input.now).haystack offset
-        → result ≡ Ok (Some init) }
-    ensures anchored_split { is_anchored (search_of input.now).anchored ≡ true
-        → ¬ (IsBoundary (search_of input.now).haystack offset)
-        → result ≡ Ok None }
-    ensures skips { is_anchored (search_of input.now).anchored ≡ false
-        → (left : F)
-        × SkipsTo F.FnMut (search_of input.now).haystack
-        (lowered (search_of input.now)) (Ok (Some (init, offset))) find result left }
+    ensures anchored_whole { let s = search_of input.now in is_anchored s.anchored ≡ true
+        → IsBoundary s.haystack offset → result ≡ Ok (Some init) }
+    ensures anchored_split { let s = search_of input.now in is_anchored s.anchored ≡ true
+        → ¬ (IsBoundary s.haystack offset) → result ≡ Ok None }
+    ensures skips { let s = search_of input.now in let moved = lowered s in is_anchored s.anchored ≡ false
+        → (left : F) × SkipsTo F.FnMut s.haystack moved (Ok (Some (init, offset))) find result left }
 {
     skip_splits_rev_by_ref(input, init, offset, &mut find)
 }
@@ -135,20 +121,16 @@ pub fn skip_splits_rev_by_ref<T: Drop, F>(
 ) -> Result<Option<T>, SearchError>
 where
     F: FnMut(&Input<'_>) -> Result<Option<(T, usize)>, SearchError>,
+    requires finder { let s = search_of input.now in let moved = lowered s in is_anchored s.anchored ≡ false
+        → ServesSkips F.FnMut s.haystack moved (Ok (Some (init, offset))) find.old }
     requires offset { IsInSpan (search_of input.now) offset }
-    requires finder { is_anchored (search_of input.now).anchored ≡ false
-        → ServesSkips F.FnMut (search_of input.now).haystack
-        (lowered (search_of input.now)) (Ok (Some (init, offset))) find.old }
-    ensures anchored_whole { is_anchored (search_of input.now).anchored ≡ true
-        → IsBoundary (search_of input.now).haystack offset
-        → result ≡ Ok (Some init) }
-    ensures anchored_split { is_anchored (search_of input.now).anchored ≡ true
-        → ¬ (IsBoundary (search_of input.now).haystack offset)
-        → result ≡ Ok None }
+    ensures anchored_whole { let s = search_of input.now in is_anchored s.anchored ≡ true
+        → IsBoundary s.haystack offset → result ≡ Ok (Some init) }
+    ensures anchored_split { let s = search_of input.now in is_anchored s.anchored ≡ true
+        → ¬ (IsBoundary s.haystack offset) → result ≡ Ok None }
     ensures anchored_kept { is_anchored (search_of input.now).anchored ≡ true → find.new ≡ find.old }
-    ensures skips { is_anchored (search_of input.now).anchored ≡ false
-        → SkipsTo F.FnMut (search_of input.now).haystack
-        (lowered (search_of input.now)) (Ok (Some (init, offset))) find.old result find.new }
+    ensures skips { let s = search_of input.now in let moved = lowered s in is_anchored s.anchored ≡ false
+        → SkipsTo F.FnMut s.haystack moved (Ok (Some (init, offset))) find.old result find.new }
 {
     if input.get_anchored().is_anchored() {
         return Ok(keep_whole(input, init, offset));
@@ -177,11 +159,11 @@ fn skip_forward<T: Drop, F>(
 ) -> Result<Option<T>, SearchError>
 where
     F: FnMut(&Input<'_>) -> Result<Option<(T, usize)>, SearchError>,
+    requires finder { let s = search_of input in let moved = start_raised s in
+        ServesSkips F.FnMut s.haystack moved (Ok (Some (init, offset))) find.old }
     requires offset { IsInSpan (search_of input) offset }
-    requires finder { ServesSkips F.FnMut (search_of input).haystack
-        (start_raised (search_of input)) (Ok (Some (init, offset))) find.old }
-    ensures { SkipsTo F.FnMut (search_of input.entry).haystack
-        (start_raised (search_of input.entry)) (Ok (Some (init, offset))) find.old result find.new }
+    ensures { let s = search_of input.entry in let moved = start_raised s in
+        SkipsTo F.FnMut s.haystack moved (Ok (Some (init, offset))) find.old result find.new }
 {
     let mut value = init;
     let mut place = offset;
@@ -209,11 +191,11 @@ fn skip_backward<T: Drop, F>(
 ) -> Result<Option<T>, SearchError>
 where
     F: FnMut(&Input<'_>) -> Result<Option<(T, usize)>, SearchError>,
+    requires finder { let s = search_of input in let moved = lowered s in
+        ServesSkips F.FnMut s.haystack moved (Ok (Some (init, offset))) find.old }
     requires offset { IsInSpan (search_of input) offset }
-    requires finder { ServesSkips F.FnMut (search_of input).haystack
-        (lowered (search_of input)) (Ok (Some (init, offset))) find.old }
-    ensures { SkipsTo F.FnMut (search_of input.entry).haystack
-        (lowered (search_of input.entry)) (Ok (Some (init, offset))) find.old result find.new }
+    ensures { let s = search_of input.entry in let moved = lowered s in
+        SkipsTo F.FnMut s.haystack moved (Ok (Some (init, offset))) find.old result find.new }
 {
     let mut value = init;
     let mut place = offset;

@@ -116,8 +116,7 @@ fn captures_collected(
     ensures { IfOk result (λ v. AreAllStoredCaptures (IsInfalliblyInside row_span)
         (fresh (whole haystack.now)) v.items) }
 {
-    let input = Input::new(haystack);
-    let searcher = Searcher::new(input);
+    let searcher = Searcher::new(Input::new(haystack));
     let items = searcher.into_captures_iter(captures, kept_match);
     items.collect(alloc)
 }
@@ -130,8 +129,7 @@ fn captures_surely_collected(
     ensures { IfOk result (λ v. AreAllStoredCaptures (IsInfalliblyInside row_span)
         (fresh (whole haystack.now)) v.items) }
 {
-    let input = Input::new(haystack);
-    let searcher = Searcher::new(input);
+    let searcher = Searcher::new(Input::new(haystack));
     let items = searcher
         .into_captures_iter(captures, kept_match)
         .infallible();

@@ -11,8 +11,7 @@ use Rattle.nfa_paths.specs.Exploring.{Slots}
 use Rattle.nfa_paths.specs.Paths.{is_utf8_empty, raised}
 use Rattle.nfa_paths.specs.Restarts.{ScanGives}
 use Rattle.nfa_paths.proofs.RestartLemmas.{restarts-begin, settled-none, settled-some, discarded, restarted, start-left}
-use Rattle.nfa_paths.proofs.RestartLemmas.{turns-after, scans-bound}
-use Rattle.nfa_search_base.proofs.LastStartLemmas.{last-scan}
+use Rattle.nfa_search_base.proofs.LastStartLemmas.{scan-start, scans-few, turns-few}
 use Rattle.nfa_pikevm.proofs.search.search.Goals as goal
 
 -- the premises of each scan are those of the search
@@ -27,23 +26,14 @@ of-search : (x y : Search) (n : ℕ) (P : List ℕ → Anchored → Type 0) → 
 of-search x y n P is = subst (λ (z : Search). P z.haystack z.anchored) is
 
 pub returns-in_err-half-clause-last : goal.returns-in_err-half-clause-last
-returns-in_err-half-clause-last c =
-    let x = search_of c.args.input.now in
-    last-scan x (search_of c.loop-half.input) _ _ c.loop-half.invariant.restarts.is c.scan.ensures.scans
+returns-in_err-half-clause-last c = scan-start c.loop-half.invariant.restarts c.scan.ensures.scans
 
 pub returns-in_err-half-clause-scans : goal.returns-in_err-half-clause-scans
-returns-in_err-half-clause-scans c =
-    let x = search_of c.args.input.now in
-    rw c.scan.ensures.scans
-    (scans-bound c.args.nfa.now c.args.kind x.earliest x (search_of c.loop-half.input) _ _
-    c.loop-half.invariant.restarts)
+returns-in_err-half-clause-scans c = scans-few c.loop-half.invariant.restarts c.scan.ensures.scans
 
 pub returns-in_err-half-clause-turns : goal.returns-in_err-half-clause-turns
 returns-in_err-half-clause-turns c =
-    let x = search_of c.args.input.now in
-    rw c.scan.ensures.scans
-    (turns-after c.args.nfa.now c.args.kind x.earliest x (search_of c.loop-half.input) _ _
-    c.loop-half.invariant.restarts _ c.scan.ensures.turns)
+    turns-few c.loop-half.invariant.restarts c.scan.ensures.scans c.scan.ensures.turns
 
 pub returns-in_err-half-clause-answer : goal.returns-in_err-half-clause-answer
 returns-in_err-half-clause-answer c =
@@ -56,23 +46,14 @@ returns-in_err-half-clause-answer c =
     c.scan.ensures.scans)
 
 pub returns-then-may_end_at-clause-last : goal.returns-then-may_end_at-clause-last
-returns-then-may_end_at-clause-last c =
-    let x = search_of c.args.input.now in
-    last-scan x (search_of c.loop-half.input) _ _ c.loop-half.invariant.restarts.is c.scan.ensures.scans
+returns-then-may_end_at-clause-last c = scan-start c.loop-half.invariant.restarts c.scan.ensures.scans
 
 pub returns-then-may_end_at-clause-scans : goal.returns-then-may_end_at-clause-scans
-returns-then-may_end_at-clause-scans c =
-    let x = search_of c.args.input.now in
-    rw c.scan.ensures.scans
-    (scans-bound c.args.nfa.now c.args.kind x.earliest x (search_of c.loop-half.input) _ _
-    c.loop-half.invariant.restarts)
+returns-then-may_end_at-clause-scans c = scans-few c.loop-half.invariant.restarts c.scan.ensures.scans
 
 pub returns-then-may_end_at-clause-turns : goal.returns-then-may_end_at-clause-turns
 returns-then-may_end_at-clause-turns c =
-    let x = search_of c.args.input.now in
-    rw c.scan.ensures.scans
-    (turns-after c.args.nfa.now c.args.kind x.earliest x (search_of c.loop-half.input) _ _
-    c.loop-half.invariant.restarts _ c.scan.ensures.turns)
+    turns-few c.loop-half.invariant.restarts c.scan.ensures.scans c.scan.ensures.turns
 
 pub returns-then-may_end_at-clause-answer : goal.returns-then-may_end_at-clause-answer
 returns-then-may_end_at-clause-answer c =
@@ -87,23 +68,14 @@ returns-then-may_end_at-clause-answer c =
     (omega arith)
 
 pub returns-then-is_anchored-clause-last : goal.returns-then-is_anchored-clause-last
-returns-then-is_anchored-clause-last c =
-    let x = search_of c.args.input.now in
-    last-scan x (search_of c.loop-half.input) _ _ c.loop-half.invariant.restarts.is c.scan.ensures.scans
+returns-then-is_anchored-clause-last c = scan-start c.loop-half.invariant.restarts c.scan.ensures.scans
 
 pub returns-then-is_anchored-clause-scans : goal.returns-then-is_anchored-clause-scans
-returns-then-is_anchored-clause-scans c =
-    let x = search_of c.args.input.now in
-    rw c.scan.ensures.scans
-    (scans-bound c.args.nfa.now c.args.kind x.earliest x (search_of c.loop-half.input) _ _
-    c.loop-half.invariant.restarts)
+returns-then-is_anchored-clause-scans c = scans-few c.loop-half.invariant.restarts c.scan.ensures.scans
 
 pub returns-then-is_anchored-clause-turns : goal.returns-then-is_anchored-clause-turns
 returns-then-is_anchored-clause-turns c =
-    let x = search_of c.args.input.now in
-    rw c.scan.ensures.scans
-    (turns-after c.args.nfa.now c.args.kind x.earliest x (search_of c.loop-half.input) _ _
-    c.loop-half.invariant.restarts _ c.scan.ensures.turns)
+    turns-few c.loop-half.invariant.restarts c.scan.ensures.scans c.scan.ensures.turns
 
 pub returns-then-is_anchored-clause-answer : goal.returns-then-is_anchored-clause-answer
 returns-then-is_anchored-clause-answer c =

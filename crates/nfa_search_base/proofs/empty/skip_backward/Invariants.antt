@@ -1,20 +1,15 @@
 -- A search of ends is repeated, with its end one byte less each time, until the answer counts.
 use Rattle.std.proofs.Common.{Some, Ok}
 use Rattle.regex_search_core.specs.Search.{search_of}
-use Rattle.nfa_search_base.specs.Asking.{SameButEnd}
 use Rattle.nfa_search_base.specs.Skipping.{IsInSpan, lowered}
-use Rattle.nfa_search_base.proofs.AskingLemmas.{same_end-self}
 use Rattle.nfa_search_base.proofs.SkipLemmas.{HasCome}
 use Rattle.nfa_search_base.proofs.empty.skip_backward.Given as goal
 
 abbrev pub invariant-loop-input : goal.invariant-loop-input
 invariant-loop-input g l =
     IsInSpan (search_of l.input) l.place
-    × HasCome g.F.FnMut (search_of l.fn.input).haystack (lowered (search_of l.fn.input)) SameButEnd same_end-self
-    (search_of l.fn.input) (Ok (Some (l.fn.init, l.fn.offset))) l.fn.find (search_of l.input) (Ok (Some (
-      l.value,
-      l.place,
-    ))) l.find
+    × HasCome g.F.FnMut (search_of l.fn.input).haystack (lowered (search_of l.fn.input))
+    (Ok (Some (l.fn.init, l.fn.offset))) l.fn.find (search_of l.input) (Ok (Some (l.value, l.place))) l.find
 
 abbrev pub decreases-loop-input : goal.decreases-loop-input
 decreases-loop-input g l = l.input.span.end

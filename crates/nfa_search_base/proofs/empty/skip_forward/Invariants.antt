@@ -1,18 +1,15 @@
 -- A search is repeated, from one byte further on each time, until the answer counts.
 use Rattle.std.proofs.Common.{Some, Ok, ◌+◌, ◌-◌}
 use Rattle.regex_search_core.specs.Search.{search_of}
-use Rattle.nfa_search_base.specs.Asking.{SameButStart}
 use Rattle.nfa_search_base.specs.Skipping.{IsInSpan, start_raised}
-use Rattle.nfa_search_base.proofs.AskingLemmas.{same_start-self}
 use Rattle.nfa_search_base.proofs.SkipLemmas.{HasCome}
 use Rattle.nfa_search_base.proofs.empty.skip_forward.Given as goal
 
 abbrev pub invariant-loop-input : goal.invariant-loop-input
 invariant-loop-input g l =
     IsInSpan (search_of l.input) l.place
-    × HasCome g.F.FnMut (search_of l.fn.input).haystack (start_raised (search_of l.fn.input)) SameButStart
-    same_start-self (search_of l.fn.input) (Ok (Some (l.fn.init, l.fn.offset))) l.fn.find (search_of l.input)
-    (Ok (Some (l.value, l.place))) l.find
+    × HasCome g.F.FnMut (search_of l.fn.input).haystack (start_raised (search_of l.fn.input))
+    (Ok (Some (l.fn.init, l.fn.offset))) l.fn.find (search_of l.input) (Ok (Some (l.value, l.place))) l.find
 
 abbrev pub decreases-loop-input : goal.decreases-loop-input
 decreases-loop-input g l = l.input.span.end + 1 - l.input.span.start

@@ -5,7 +5,7 @@ ghost use Rattle.regex_search_core.specs.Found.{found_of};
 ghost use Rattle.regex_search_core.specs.Search.{whole};
 ghost use Rattle.regex_search_core.specs.declared.search.MatchKind.TheVariants.{LeftmostFirst};
 ghost use Rattle.nfa_search_base.specs.WithCaptures.{row_of};
-ghost use Rattle.nfa_search_base.specs.CapturesLists.{AreAllCaptures, AreFirstRows, AreRows, AnswersRow};
+ghost use Rattle.nfa_search_base.specs.CapturesLists.{AreAllCaptures, AreFirstRows, AreRows, AnswersRow, HasGroups};
 ghost use Rattle.nfa_search_base.specs.CapturesRuns.{match_in};
 ghost use Rattle.nfa_search_base.specs.Lists.{AreMatches};
 ghost use Rattle.nfa_pikevm.specs.Engines.{Fits, kind_of};
@@ -52,18 +52,19 @@ pub(crate) fn tries_collected(
     items.collect(alloc).expect(rt, "memory")
 }
 
-// All captures of the text, searched with captures that are made here.
+// All captures of the text, searched with captures of the caller.
 pub(crate) fn collected_with(
     rt: &impl Abort,
     vm: &PikeVM,
     alloc: Global,
     cache: &mut pikevm::Cache,
+    captures: Captures,
     text: &[u8],
 ) -> Vec<Result<Captures, SearchError>>
-    requires { Fits cache.old vm.now.nfa }
+    requires fits { Fits cache.old vm.now.nfa }
+    requires holds { HasGroups vm.now.nfa captures }
     ensures { AreAllCaptures (AnswersRow vm.now.nfa (kind_of vm.now) false) (whole text.now) result.items }
 {
-    let captures = vm.create_captures(alloc).expect(rt, "memory");
     vm.captures_iter_with(cache, Input::new(text), captures)
         .collect(alloc)
         .expect(rt, "memory")
@@ -75,11 +76,12 @@ pub(crate) fn tries_collected_with(
     engine: &BoundedBacktracker,
     alloc: Global,
     cache: &mut backtrack::Cache,
+    captures: Captures,
     text: &[u8],
 ) -> Vec<Result<Captures, SearchError>>
+    requires { HasGroups engine.now.nfa captures }
     ensures { AreAllCaptures (IsTryCapturesAnswer engine.now) (whole text.now) result.items }
 {
-    let captures = engine.create_captures(alloc).expect(rt, "memory");
     engine
         .try_captures_iter_with(cache, Input::new(text), captures)
         .collect(alloc)

@@ -187,7 +187,8 @@ fn piked_with(
     text: &[u8],
 ) -> Vec<Result<Captures, SearchError>> {
     let mut cache = threads(rt, alloc, vm);
-    collected_with(rt, vm, alloc, &mut cache, text)
+    let captures = vm.create_captures(alloc).expect(rt, "captures");
+    collected_with(rt, vm, alloc, &mut cache, captures, text)
 }
 
 #[test]
@@ -195,6 +196,7 @@ fn backtracker_gives_them_with_captures_of_the_caller(rt: HostRuntime) {
     let alloc = rt.alloc();
     let engine = backtracker(&rt, alloc, "foo_num");
     let mut cache = engine.create_cache(alloc);
-    let items = tries_collected_with(&rt, &engine, alloc, &mut cache, FOOS);
+    let captures = engine.create_captures(alloc).expect(&rt, "captures");
+    let items = tries_collected_with(&rt, &engine, alloc, &mut cache, captures, FOOS);
     assert_rows(&rt, &items, FOO_ROWS, "foo_num");
 }

@@ -1,10 +1,9 @@
 //! What the callers of the PikeVM answer.
 
 use super::callers::{
-    collected, collected_inside, collected_whole, count_in_all, count_then_find, ends_in_text,
-    find_all_then_find, first_alone, first_two, found_text, how_many, in_order, looped,
-    looped_inside, numbers_kept, pattern_of, slot_in_text, texts, texts_of_collected,
-    texts_of_span,
+    collected, collected_inside, count_in_all, count_then_find, ends_in_text, find_all_then_find,
+    first_alone, first_two, found_text, how_many, in_order, looped, looped_inside, numbers_kept,
+    pattern_of, slot_in_text, texts, texts_of_collected, texts_of_span,
 };
 use super::expect_fits;
 use crate::tests::{expect_list, expect_number};
@@ -28,8 +27,6 @@ fn expect_first_of(rt: &impl Abort, list: Result<Vec<Match>, AllocError>, len: u
 fn expect_lists(rt: &impl Abort, alloc: Global, vm: &PikeVM, cache: &mut Cache) {
     expect_fits(rt, vm, cache);
     expect_first_of(rt, collected(alloc, vm, cache, Input::new(HAYSTACK)), 3);
-    expect_fits(rt, vm, cache);
-    expect_first_of(rt, collected_whole(alloc, vm, cache, HAYSTACK), 3);
     expect_fits(rt, vm, cache);
     expect_first_of(rt, collected_inside(alloc, vm, cache, HAYSTACK), 3);
     expect_fits(rt, vm, cache);

@@ -25,21 +25,7 @@ pub(super) fn collected(
     vm.find_iter(cache, input).collect(alloc)
 }
 
-// All matches in a text.
-pub(super) fn collected_whole(
-    alloc: Global,
-    vm: &PikeVM,
-    cache: &mut Cache,
-    haystack: &[u8],
-) -> Result<Vec<Match>, AllocError>
-    requires { Fits cache.old vm.now.nfa }
-    ensures { IfOk result
-        (λ v. AreMatches vm.now.nfa (kind_of vm.now) false (whole haystack.now) (map found_of v.items)) }
-{
-    vm.find_iter(cache, Input::new(haystack)).collect(alloc)
-}
-
-// The same, by a loop that pushes.
+// All matches in a text, by a loop that pushes.
 pub(super) fn looped(
     alloc: Global,
     vm: &PikeVM,
@@ -167,7 +153,7 @@ pub(super) fn texts_of_span<'t>(
     Ok(texts)
 }
 
-// All matches, which lie in the text, and apart.
+// All matches in a text, which lie in it, and apart.
 pub(super) fn collected_inside(
     alloc: Global,
     vm: &PikeVM,
@@ -175,10 +161,10 @@ pub(super) fn collected_inside(
     text: &[u8],
 ) -> Result<Vec<Match>, AllocError>
     requires { Fits cache.old vm.now.nfa }
-    ensures inside { IfOk result (λ v. All (λ m. IsInside (whole text.now) (found_of m)) v.items) }
-    ensures apart { IfOk result (λ v. AreDisjoint (whole text.now) None (map found_of v.items)) }
     ensures all { IfOk result
         (λ v. AreMatches vm.now.nfa (kind_of vm.now) false (whole text.now) (map found_of v.items)) }
+    ensures inside { IfOk result (λ v. All (λ m. IsInside (whole text.now) (found_of m)) v.items) }
+    ensures apart { IfOk result (λ v. AreDisjoint (whole text.now) None (map found_of v.items)) }
 {
     vm.find_iter(cache, Input::new(text)).collect(alloc)
 }

@@ -5,7 +5,7 @@ use Rattle.nfa_backtrack.proofs.engine.BoundedBacktracker.find_at.Goals as goal
 
 pub returns-clause-once : goal.returns-clause-once
 returns-clause-once c =
-    let e = c.find_with_start.ensures in
+    let e = c.find_with_start.ensures.counts in
     record {
       total = e.total;
       counts = counts-by c.find_with_start.result _ _ e.answered e.refused;

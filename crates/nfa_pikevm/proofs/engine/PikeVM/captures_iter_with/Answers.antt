@@ -1,5 +1,36 @@
--- What the iterator gives, clause by clause.
+-- The iterator gives the captures of its input, and keeps the cache.
+use Rattle.std.proofs.Common.{refl}
+use Rattle.regex_search_core.specs.Search.{search_of}
+use Rattle.nfa_pikevm.proofs.CapturesLemmas.{catches-cache, catches-given, catches-memory, catches-searches}
 use Rattle.nfa_pikevm.proofs.engine.PikeVM.captures_iter_with.Goals as goal
 
 pub returns : goal.returns
-returns c = assumption (c.fill_from.ensures, c.fill_from.ensures.given)
+returns c =
+    let vm = c.args.self.now in
+    let x = search_of c.args.input in
+    let walk = c.new.ensures in
+    let given = catches-given vm x _ refl walk refl in
+    record {
+      same_reference = refl;
+      same_cache = refl;
+      engine = refl;
+      walk = walk;
+      going = refl;
+      runs = given.runs;
+      first = given.first;
+      next = given.next;
+      errors = catches-memory vm x _ refl walk refl;
+      rows = given.rows;
+      first_rows = given.first_rows;
+      next_row = given.next_row;
+      all_rows = given.all_rows;
+      matches = given.matches;
+      first_matches = given.first_matches;
+      next_match = given.next_match;
+      all_matches = given.all_matches;
+      groups = given.groups;
+      inside = given.inside;
+      apart = given.apart;
+      searches = catches-searches vm x _ refl walk refl;
+      keeps = catches-cache _;
+    }

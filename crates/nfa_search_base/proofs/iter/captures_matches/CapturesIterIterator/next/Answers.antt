@@ -1,17 +1,13 @@
 -- A step whose finder never errs gives captures, nothing, or a refusal.
 use Rattle.nfa_search_base.specs.WithCaptures.{row_span, CanFill, Fills, GivesCaptures}
-use Rattle.nfa_search_base.specs.IterStates.{AnswerIsInside, IsInfalliblyInside}
-use Rattle.nfa_search_base.specs.Stored.{steps_iter_state}
-use Rattle.nfa_search_base.proofs.StepLemmas.{Along-weaker}
+use Rattle.nfa_search_base.specs.IterStates.{IsInfalliblyInside}
+use Rattle.nfa_search_base.proofs.AskingLemmas.{Along-weaker}
 use Rattle.nfa_search_base.proofs.StoredLemmas.{takes-progress}
 use Rattle.nfa_search_base.proofs.WithCapturesLemmas.{sure-step}
 use Rattle.nfa_search_base.proofs.iter.captures_matches.CapturesIterIterator.next.Goals as goal
 
 pub next-requires : goal.next-requires
-next-requires g c =
-    Along-weaker (CanFill g.F.FnMut) (Fills g.F.FnMut) row_span (IsInfalliblyInside row_span) (AnswerIsInside row_span)
-    c.self.inside.tries.backend (steps_iter_state c.self.inside.tries).at (λ t a p. p.0)
-    (rw (← c.self.view_is) at c.requires)
+next-requires g c = Along-weaker (λ t a p. p.0) (rw (← c.self.view_is) at c.requires)
 
 pub returns-clause-steps : goal.returns-clause-steps
 returns-clause-steps g c =

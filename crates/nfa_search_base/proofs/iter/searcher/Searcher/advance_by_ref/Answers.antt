@@ -2,24 +2,17 @@
 use Rattle.std.proofs.Common.{◌≡◌, true, false, subst, IsOk, Option, Result}
 use Rattle.regex_search_core.specs.Found.{found_of}
 use Rattle.regex_search_core.specs.declared.search.Match.{Match}
-use Rattle.nfa_search_base.specs.Asking.{IsCallableOn}
-use Rattle.nfa_search_base.specs.IterStates.{span_of}
-use Rattle.nfa_search_base.specs.Finders.{Finds, answer_by}
-use Rattle.nfa_search_base.specs.Searchers.{iter_state_of}
+use Rattle.nfa_search_base.specs.Finders.{answer_by}
 use Rattle.nfa_search_base.specs.declared.error.SearchError.{SearchError}
 use Rattle.nfa_search_base.proofs.StepLemmas.{ServesAdvance-surely, step-surely}
 use Rattle.nfa_search_base.proofs.iter.searcher.Searcher.advance_by_ref.Goals as goal
 
 pub try_advance_by_ref-requires : goal.try_advance_by_ref-requires
-try_advance_by_ref-requires g c =
-    ServesAdvance-surely (IsCallableOn g.F.FnMut) (Finds found_of g.F.FnMut) span_of c.args.finder.now
-    (iter_state_of c.args.self.now) c.requires
+try_advance_by_ref-requires g c = ServesAdvance-surely c.requires
 
 pub unreachable-requires : goal.unreachable-requires
 unreachable-requires g c =
     let no : false ≡ true =
     subst (λ (r : Result (Option Match) SearchError). IsOk (answer_by found_of r)) c.in-Err.is
-    (step-surely (IsCallableOn g.F.FnMut) (Finds found_of g.F.FnMut) span_of c.args.finder.now
-    (iter_state_of c.args.self.now) _ _
-    _ c.requires c.try_advance_by_ref.ensures.step) in
+    (step-surely c.requires c.try_advance_by_ref.ensures.step) in
     cc

@@ -1,18 +1,13 @@
 -- Each call gives one item more. The last one gave none, an error, or the item that could not be kept.
-use Rattle.std.proofs.Common.{◌≡◌, ap, inr, refl, List, [], ◌∷◌, ◌++◌, Ok, Result, Some, map}
+use Rattle.std.proofs.Common.{inr, Ok, Some, map}
 use Rattle.std.proofs.lemmas.Result.{err_from_is_err_and}
 use Rattle.nfa_search_base.specs.WithCache.{with_cache}
 use Rattle.nfa_search_base.specs.Stored.{takes_steps}
 use Rattle.nfa_search_base.specs.IterStates.{AnswerIsInside}
+use Rattle.nfa_search_base.proofs.OkItemLemmas.{oked-more}
 use Rattle.nfa_search_base.proofs.RunLemmas.{yields-more}
 use Rattle.nfa_search_base.proofs.StoredLemmas.{takes-progress}
 use Rattle.nfa_search_base.proofs.iter.steps.Steps.all_with.Goals as goal
-
-oked-more : {Y E : Type 0} (ys : List Y) (y : Y)
-    → (let ok : Y → Result Y E = λ v. Ok v in map ok ys ++ ok y ∷ [] ≡ map ok (ys ++ y ∷ []))
-oked-more [] y = refl
-oked-more {Y} {E} (x ∷ xs) y =
-    let ok : Y → Result Y E = λ v. Ok v in ap (λ (l : List (Result Y E)). ok x ∷ l) (oked-more xs y)
 
 pub loop-item-preserved : goal.loop-item-preserved
 loop-item-preserved g c =
