@@ -1,5 +1,6 @@
 -- The steps of a closure, each for the searches of all sets of match pairs at once.
-use Rattle.std.proofs.Common.{◌≡◌, ℕ, ◌+◌, ◌<◌, ◌≤◌, List, [], ◌∷◌, ◌++◌, length, get_or, set, map, refl, sym, ◌∙◌, arith, Bool, true, false, Option, Some, None}
+use Rattle.std.proofs.Common.{◌≡◌, ℕ, ◌+◌, ◌<◌, ◌≤◌, List, [], ◌∷◌, ◌++◌, length, get_or, set, map, refl, arith, Bool, true, false, Option, Some, None}
+use Rattle.std.proofs.lemmas.Bool.{both_ways, false_from_ne_true}
 use Rattle.regex_search_core.specs.Search.{Search}
 use Rattle.thompson_nfa.specs.Automaton.{Automaton}
 use Rattle.nfa_paths.specs.Graphs.{Pair, In, Space}
@@ -15,11 +16,7 @@ use Rattle.nfa_scan_core.proofs.SeenLemmas.{SeenAt-set, SeenAt-clear}
 -- a pair that is not a match is in no set of matches
 plain-target : (nfa : Automaton) (target : Pair → Bool) (v : Pair) → AreMatchPairs nfa target → is_match nfa v ≡ false
     → target v ≡ false
-plain-target nfa target v ok plain = of (target v) (ok v)
-  where
-    of : (b : Bool) → (b ≡ true → is_match nfa v ≡ true) → b ≡ false
-    of true h = sym (h refl) ∙ plain
-    of false h = refl
+plain-target nfa target v ok plain = false_from_ne_true (target v) (λ t. both_ways (is_match nfa v) plain (ok v t))
 
 -- After a pair a slot need not be restored if slots are loaded next.
 Searching-unrestored : (space : Space) (target : Pair → Bool)

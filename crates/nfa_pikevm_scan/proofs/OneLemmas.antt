@@ -10,7 +10,10 @@ use Rattle.nfa_paths.specs.Exploring.{Slots}
 use Rattle.nfa_paths.specs.Exploring.Task.{Explore, Load}
 use Rattle.nfa_paths.specs.Kinds.{first_match, before_match, NoMatch}
 use Rattle.nfa_paths.proofs.StartLemmas.{IsMatch-edges}
+use Rattle.std.proofs.lemmas.Bool.{false_from_ne_true}
 use Rattle.std.proofs.lemmas.List.Elements.{All-nil}
+use Rattle.nfa_paths.proofs.FrontierMatchLemmas.{before_match-all}
+use Rattle.nfa_pikevm_scan.proofs.SinkLemmas.{first-none}
 use Rattle.nfa_scan_core.specs.Marks.{Marks}
 use Rattle.nfa_pikevm_scan.specs.States.{Frontier, unmarked, moves, work_onto, EndsInMatch, IsHit, FindsMatch, NextsGive}
 use Rattle.nfa_pikevm_scan.specs.Sinks.{ClosureGives, ClosuresGive}
@@ -61,21 +64,7 @@ ClosuresGive-one nfa x takes at met items old kept k row ended then more new emp
 -- a front that ends with its only match, or has none
 module _ (test : Pair → Bool) where
   plain-head : (a : Pair × Slots) (front : Frontier) → NoMatch test (a ∷ front) → test a.0 ≡ false
-  plain-head a front plain = of (test a.0) (λ t. plain a (inl refl) t)
-    where
-      of : (b : Bool) → (b ≡ true → ⊥) → b ≡ false
-      of true h = absurd (h refl)
-      of false h = refl
-
-  first-none : (front : Frontier) → NoMatch test front → first_match test front ≡ None
-  first-none [] plain = refl
-  first-none (a ∷ front) plain =
-      rw (plain-head a front plain) (first-none front (λ b i. plain b (inr i)))
-
-  before-none : (front : Frontier) → NoMatch test front → before_match test front ≡ front
-  before-none [] plain = refl
-  before-none (a ∷ front) plain =
-      rw (plain-head a front plain) (ap (λ l. a ∷ l) (before-none front (λ b i. plain b (inr i))))
+  plain-head a front plain = false_from_ne_true (test a.0) (plain a (inl refl))
 
   first-ends : (front : Frontier) (a : Pair × Slots) → NoMatch test front → test a.0 ≡ true
       → first_match test (front ++ a ∷ []) ≡ Some a
@@ -93,7 +82,7 @@ module _ (nfa : Automaton) (x : Search) (at : ℕ) where
   -- nothing is kept after the match
   cut-ends : (slots : Slots) (hit : Option PatternID) (front : Frontier) → EndsInMatch nfa at slots hit front
       → moves (edges nfa x) (before_match (is_match nfa) front) ≡ moves (edges nfa x) front
-  cut-ends slots None front e = ap (moves (edges nfa x)) (before-none (is_match nfa) front e)
+  cut-ends slots None front e = ap (moves (edges nfa x)) (before_match-all (is_match nfa) front (first-none (is_match nfa) front e))
   cut-ends slots (Some p) front e =
       let v : Pair = (e.1, at) in
       let match : is_match nfa v ≡ true = rw e.4 refl in
