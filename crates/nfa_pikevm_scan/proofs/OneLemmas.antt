@@ -21,7 +21,7 @@ use Rattle.nfa_pikevm_scan.specs.declared.frame.FollowEpsilon.{FollowEpsilon}
 use Rattle.nfa_pikevm_scan.proofs.EpsilonClosureLemmas.{Follows-then, Follows-load}
 use Rattle.nfa_pikevm_scan.proofs.ClosureLemmas.{moves-append, Paid-dropped}
 use Rattle.nfa_pikevm_scan.proofs.EdgeLemmas.{moves-one}
-use Rattle.nfa_pikevm_scan.proofs.NextsLemmas.{NextsLeadTo, NextsLeadTo-begin, NextsLeadTo-next, NextsLeadTo-ended, NextsLeadTo-over}
+use Rattle.nfa_pikevm_scan.proofs.NextsLemmas.{NextsLeadTo-begin, NextsLeadTo-next, NextsLeadTo-ended, NextsLeadTo-over}
 
 -- whether there is a match
 pub none-is : (hit : Option PatternID) (none : Bool) → is_some hit ≡ not none → none ≡ false → hit ≡ None → ⊥
@@ -43,23 +43,15 @@ items-one width n (s ∷ []) cells k one is wide = cc
 items-one width n (s ∷ t ∷ kept) cells k one is wide = absurd (omega (arith, one))
 
 -- the only state of a position gives what the position gives
-pub ClosuresGive-one : {V : Type 0} (nfa : Automaton) (x : Search) (takes : V → PatternID → Slots → Bool → V → Type 0)
-    (at : ℕ) (met : Marks) (items : List (ℕ × Slots)) (old : V) (kept : List (ℕ × Slots)) (k : ℕ) (row : Slots)
-    (ended : Bool) (then : Marks) (more : List (ℕ × Slots)) (new : V)
+pub ClosuresGive-one : {V : Type 0} {nfa : Automaton} {x : Search} {takes : V → PatternID → Slots → Bool → V → Type 0}
+    {at : ℕ} {met : Marks} {items : List (ℕ × Slots)} {old : V} {kept : List (ℕ × Slots)} {k : ℕ} {row : Slots}
+    (ended : Bool) {then : Marks} {more : List (ℕ × Slots)} {new : V}
     → kept ≡ [] → met.bits ≡ replicate (length met.bits) false → items ≡ (k, row) ∷ []
     → ClosureGives nfa x takes at k met kept row old ended then more new
     → ClosuresGive nfa x takes at met items old then more new
-ClosuresGive-one nfa x takes at met items old kept k row ended then more new empty clear one a =
-    of ended refl
-  where
-    begun : NextsLeadTo nfa x takes at met items old items met kept old
-    begun = NextsLeadTo-begin nfa x takes at met items old kept empty clear
-
-    of : (b : Bool) → ended ≡ b → ClosuresGive nfa x takes at met items old then more new
-    of true is = NextsLeadTo-ended nfa x takes at met items old items [] met kept old k row one begun ended then more
-        new a is
-    of false is = NextsLeadTo-over nfa x takes at met items old [] then more new refl
-        (NextsLeadTo-next nfa x takes at met items old items [] met kept old k row one begun ended then more new a is)
+ClosuresGive-one true empty clear one a = NextsLeadTo-ended one (NextsLeadTo-begin empty clear) a refl
+ClosuresGive-one false empty clear one a =
+    NextsLeadTo-over refl (NextsLeadTo-next one (NextsLeadTo-begin empty clear) a refl)
 
 -- a front that ends with its only match, or has none
 module _ (test : Pair → Bool) where
