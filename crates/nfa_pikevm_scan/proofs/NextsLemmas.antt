@@ -38,14 +38,13 @@ pub items-next : (width i n : ℕ) (kept : List ℕ) (cells rows : Slots) (k : �
     ∷ drop (i + 1) (items_of width kept cells)
 items-next width i n kept cells rows k h is wide same =
     let more : (i + 1) * width ≡ i * width + width = omega arith in
-    drop-items_of width i kept cells ∙ ap (λ s. items_of width s (drop (i * width) cells)) (drop_more kept i k h)
-    ∙ ap (λ s. (s, take width (drop (i * width) cells)) ∷ items_of width (drop (i + 1) kept)
-    (drop width (drop (i * width) cells))) (sym is)
-    ∙ ap (λ t. (k, take width (drop (i * width) cells)) ∷ items_of width (drop (i + 1) kept) t)
-    (drop-drop width (i * width) cells ∙ ap (λ n. drop n cells) (sym more))
-    ∙ ap (λ t. (k, take width (drop (i * width) cells)) ∷ t) (sym (drop-items_of width (i + 1) kept cells))
-    ∙ ap (λ t. (k, t) ∷ drop (i + 1) (items_of width kept cells))
-    (ap (take width) (sym same) ∙ ap (λ m. take m (drop (i * width) rows)) (sym wide))
+    rw (
+      drop-items_of width i kept cells,
+      drop_more kept i k h,
+      drop-items_of width (i + 1) kept cells,
+      drop-drop width (i * width) cells,
+      more,
+    ) (cc)
 
 -- no item is after the last
 pub items-over : (width i : ℕ) (kept : List ℕ) (cells : Slots) → length kept ≤ i

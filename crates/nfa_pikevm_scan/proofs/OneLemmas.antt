@@ -20,7 +20,7 @@ use Rattle.nfa_pikevm_scan.specs.Sinks.{ClosureGives, ClosuresGive}
 use Rattle.nfa_pikevm_scan.specs.declared.frame.FollowEpsilon.{FollowEpsilon}
 use Rattle.nfa_pikevm_scan.proofs.EpsilonClosureLemmas.{Follows-then, Follows-load}
 use Rattle.nfa_pikevm_scan.proofs.ClosureLemmas.{moves-append, Paid-dropped}
-use Rattle.nfa_pikevm_scan.proofs.EdgeLemmas.{moves-one}
+use Rattle.nfa_pikevm_scan.proofs.FrontierLemmas.{moves-one}
 use Rattle.nfa_pikevm_scan.proofs.NextsLemmas.{NextsLeadTo-begin, NextsLeadTo-next, NextsLeadTo-ended, NextsLeadTo-over}
 
 -- whether there is a match

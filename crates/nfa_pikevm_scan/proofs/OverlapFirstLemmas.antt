@@ -1,6 +1,5 @@
 -- The positions of the scan for the first match: the states after a match are dropped.
-use Rattle.std.proofs.Common.{◌≡◌, ℕ, ◌+◌, ◌-◌, ◌<◌, ◌≤◌, ◌⊎◌, ◌↔◌, inl, inr, Bool, true, false, List, [], ◌∷◌, ◌++◌, length, map, refl, sym, ap, ◌∙◌, subst, arith, None, Some, All}
-use Rattle.std.proofs.lemmas.Bool.{cases_lt, lt-ltb, le-ltb}
+use Rattle.std.proofs.Common.{◌≡◌, ℕ, ◌+◌, ◌-◌, ◌<◌, ◌≤◌, ◌⊎◌, ◌↔◌, inl, inr, Bool, true, false, List, [], ◌∷◌, length, map, refl, sym, ap, ◌∙◌, subst, arith, None, Some, All}
 use Rattle.std.proofs.lemmas.List.Elements.{All-head, All-tail}
 use Rattle.regex_search_core.specs.PatternSets.{size_of_set}
 use Rattle.regex_search_core.specs.Search.{Search}
@@ -13,7 +12,7 @@ use Rattle.nfa_paths.specs.Exploring.Task.{Explore as ToExplore, Load as ToLoad}
 use Rattle.nfa_paths.specs.Kinds.{before_match, first_match, is_resting}
 use Rattle.nfa_paths.specs.Overlaps.{IsInsertable, IsOverlapResult, pattern_at}
 use Rattle.nfa_paths.proofs.FrontierMatchLemmas.{first_match-cut, before_match-among}
-use Rattle.nfa_paths.proofs.StartLemmas.{pairs_from-step, pairs_from-end}
+use Rattle.nfa_paths.proofs.StartLemmas.{pairs_from-end}
 use Rattle.nfa_paths.proofs.SoundLemmas.{heads, Sound, Sound-start, Sound-hit, Sound-round, Sound-cut, Searched}
 use Rattle.nfa_paths.proofs.MetLemmas.{Between, Between-all, Between-before, Between-less, Between-same, Best, Best-found, Exact, Exact-start, Exact-next, Exact-match, Exact-end, Answer-ahead, before_target, before_is, before_match-same, first_match-same}
 use Rattle.nfa_paths.proofs.UpToLemmas.{UpTo, UpTo-next, UpTo-match, UpTo-end}
@@ -36,48 +35,30 @@ use Rattle.nfa_scan_core.proofs.SeenLemmas.{SeenAt-none}
 use Rattle.nfa_paths.proofs.OptionLemmas.{same_some}
 
 -- the pairs of the states at a position, and of the starts that wait
-pub pairs_at : ℕ → List (ℕ × Slots) → List Pair → List Pair
-pairs_at at [] later = later
-pairs_at at (i ∷ items) later = (i.0, at) ∷ pairs_at at items later
+abbrev pub pairs_at : ℕ → List (ℕ × Slots) → List Pair → List Pair
+pairs_at at items later = heads (tasks at items (ToLoad [] ∷ seeds [] later))
+
+-- the pairs of starts
+heads-seeds : (slots : Slots) (later : List Pair) → heads (seeds slots later) ≡ later
+unfolding heads seeds
+heads-seeds slots [] = refl
+heads-seeds slots (v ∷ later) = ap (λ l. v ∷ l) (heads-seeds slots later)
 
 -- the work of states with rows of no slots
 tasks-seeds : (at : ℕ) (items : List (ℕ × Slots)) (later : List Pair) → All (λ i. i.1 ≡ []) items
     → tasks at items (ToLoad [] ∷ seeds [] later) ≡ ToLoad [] ∷ seeds [] (pairs_at at items later)
-unfolding pairs_at seeds
-tasks-seeds at [] later rows = refl
+unfolding heads seeds
+tasks-seeds at [] later rows = rw (heads-seeds [] later) refl
 tasks-seeds at (i ∷ items) later rows =
     let here : i.1 ≡ [] = All-head (λ (j : ℕ × Slots). j.1 ≡ []) i items rows in
     rw here (ap (λ w. ToLoad [] ∷ ToExplore (i.0, at) ∷ w)
     (tasks-seeds at items later (All-tail (λ (j : ℕ × Slots). j.1 ≡ []) i items rows)))
 
-pairs_at-append : (at : ℕ) (xs ys : List (ℕ × Slots)) (later : List Pair)
-    → pairs_at at (xs ++ ys) later ≡ pairs_at at xs (pairs_at at ys later)
-unfolding pairs_at
-pairs_at-append at [] ys later = refl
-pairs_at-append at (i ∷ xs) ys later = ap (λ l. (i.0, at) ∷ l) (pairs_at-append at xs ys later)
-
 -- with the start that joins, the others wait
 joined-pairs : (from : Starts) (at : ℕ) (items : List (ℕ × Slots))
     → pairs_at at (with_start from 0 at items) (pairs_from from.state (at + 1) (from.limit - (at + 1)))
     ≡ pairs_at at items (pairs_from from.state at (from.limit - at))
-unfolding pairs_at
-joined-pairs from at items =
-    elim (cases_lt at from.limit) [
-      | inl less ↦
-          rw (lt-ltb at from.limit less)
-          (pairs_at-append at items ((from.state, []) ∷ []) (pairs_from from.state (at + 1) (from.limit - (at + 1)))
-          ∙ ap (λ ps. pairs_at at items ps) (sym (pairs_from-step from.state less)))
-      | inr past ↦
-          let later : from.limit ≤ at + 1 = omega arith in
-          rw (le-ltb at from.limit past) (ap (λ ps. pairs_at at items ps)
-          (pairs_from-end from.state later ∙ sym (pairs_from-end from.state past)))
-    ]
-
--- the pairs of work
-heads-seeds : (slots : Slots) (later : List Pair) → heads (seeds slots later) ≡ later
-unfolding heads seeds
-heads-seeds slots [] = refl
-heads-seeds slots (v ∷ later) = ap (λ l. v ∷ l) (heads-seeds slots later)
+joined-pairs from at items = sym (ap heads (tasks-joined from 0 at items))
 
 -- what was put aside, as the states of the next position
 heads-round : (edges : Pair → List Pair) (at : ℕ) (front : Frontier) (old : Slots) (waiting : List Task)
@@ -85,8 +66,8 @@ heads-round : (edges : Pair → List Pair) (at : ℕ) (front : Frontier) (old : 
     → ((a : Pair × Slots) → In a front → (edges a.0 ≡ []) ⊎ ((t : ℕ) × (edges a.0 ≡ (t, at + 1) ∷ [])))
     → heads waiting ≡ later
     → heads (next_tasks edges front (ToLoad old ∷ waiting)) ≡ pairs_at (at + 1) (moves edges front) later
-unfolding heads pairs_at next_tasks
-heads-round edges at [] old waiting later one e = e
+unfolding heads next_tasks
+heads-round edges at [] old waiting later one e = e ∙ sym (heads-seeds [] later)
 heads-round edges at (a ∷ front) old waiting later one e =
     let rest = heads-round edges at front old waiting later (λ b i. one b (inr i)) e in
     elim (one a (inl refl)) [
@@ -141,12 +122,13 @@ module _ (nfa : Automaton) (x : Search) (old : List Bool) where
 
   pub FirstWay-start : (from : Starts) → AreStarts nfa x from → size_of_set old ≡ 0 → (met : Marks)
       (items : List (ℕ × Slots)) → items ≡ [] → FirstWay from x.start met items old
-  unfolding pairs_at
+  unfolding heads
   FirstWay-start from are empty met items none =
       rw none (record {
         so_far = None;
         searching = λ target b. SearchingAt-begin nfa x from are [] met target;
-        sound = rw (← are.all) (Sound-start nfa x old wanted tells x.start);
+        sound = rw (heads-seeds [] (pairs_from from.state x.start (from.limit - x.start)), ← are.all)
+            (Sound-start nfa x old wanted tells x.start);
         holds = refl;
         exact = Exact-start nfa x old wanted tells empty;
       })

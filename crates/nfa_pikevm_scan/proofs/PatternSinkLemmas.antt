@@ -18,7 +18,7 @@ use Rattle.nfa_pikevm_scan.specs.Overlapping.{permits, wants, AddsPatterns, Goes
 use Rattle.nfa_pikevm_scan.specs.Sinks.{counts, PatternSinkTakes, Takes, ClosuresGive}
 use Rattle.nfa_pikevm_scan.specs.Sinks.Takes.{none, plain, taken, ends}
 use Rattle.nfa_pikevm_scan.specs.declared.overlap.PatternSink.{PatternSink}
-use Rattle.nfa_pikevm_scan.proofs.EdgeLemmas.{moves-one}
+use Rattle.nfa_pikevm_scan.proofs.FrontierLemmas.{moves-one}
 use Rattle.nfa_pikevm_scan.proofs.SinkLemmas.{PositionGives-if}
 use Rattle.nfa_pikevm_scan.proofs.OverlapSetLemmas.{wants-match, wants-here, AddsPatterns-none, AddsPatterns-one, AddsPatterns-then}
 

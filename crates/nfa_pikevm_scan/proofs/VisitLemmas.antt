@@ -30,10 +30,9 @@ use Rattle.nfa_pikevm_scan.specs.declared.closure.Move.{Move}
 use Rattle.nfa_pikevm_scan.specs.declared.closure.Move.TheVariants.{On, Matched, DeadEnd}
 use Rattle.nfa_pikevm_scan.specs.declared.frame.FollowEpsilon.{FollowEpsilon}
 use Rattle.nfa_pikevm_scan.specs.declared.frame.FollowEpsilon.TheVariants.{Explore as ToExplore, Restore}
-use Rattle.nfa_pikevm_scan.proofs.EdgeLemmas.{edges-move, moves-one}
 use Rattle.nfa_pikevm_scan.proofs.EpsilonClosureLemmas.{Follows-then, Follows-marked, Follows-plain, Follows-write, Follows-unkept, Follows-keep, Follows-unrestored}
 use Rattle.nfa_pikevm_scan.proofs.ApplyFrameLemmas.{work_onto-push}
-use Rattle.nfa_pikevm_scan.proofs.FrontierLemmas.{sum-ones}
+use Rattle.nfa_pikevm_scan.proofs.FrontierLemmas.{sum-ones, edges-move, moves-one}
 use Rattle.nfa_scan_core.proofs.AlternateLemmas.{first-drop, none-nil}
 use Rattle.nfa_paths.proofs.StartLemmas.{node_at-get}
 
