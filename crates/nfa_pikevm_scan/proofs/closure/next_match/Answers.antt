@@ -41,12 +41,6 @@ loop-on-preserved-in-On c =
       passed = Passed-plain c.loop-on.invariant.passed c.in-On.ensures.enters c.in-On.ensures.enters.is_met;
     }
 
-pub returns-in-Matched-clause-turns : goal.returns-in-Matched-clause-turns
-returns-in-Matched-clause-turns c = omega (arith, c.loop-on.invariant.grows, c.in-Matched.ensures.turns)
-
-pub returns-in-Matched-clause-keeps : goal.returns-in-Matched-clause-keeps
-returns-in-Matched-clause-keeps c = KeepsRoom-then c.loop-on.invariant.keeps c.in-Matched.ensures.keeps
-
 pub returns-in-Matched-clause-finds : goal.returns-in-Matched-clause-finds
 returns-in-Matched-clause-finds c = Finds-match c.loop-on.invariant.passed c.in-Matched.ensures.enters
 
@@ -70,12 +64,6 @@ loop-on-preserved c =
       passed = Turned-resumed c.visit_state.new.top c.resume.new.top c.visit_state.new.frames c.in-Some.ensures.top
           (omega (arith, c.visit_state.ensures.top, stack)) c.in-Some.ensures.tried c.in-Some.ensures.follows turned;
     }
-
-pub returns-in-None-clause-turns : goal.returns-in-None-clause-turns
-returns-in-None-clause-turns c = omega (arith, c.loop-on.invariant.grows, c.visit_state.ensures.turns)
-
-pub returns-in-None-clause-keeps : goal.returns-in-None-clause-keeps
-returns-in-None-clause-keeps c = KeepsRoom-then c.loop-on.invariant.keeps c.visit_state.ensures.keeps
 
 pub returns-in-None-clause-finds : goal.returns-in-None-clause-finds
 returns-in-None-clause-finds c =

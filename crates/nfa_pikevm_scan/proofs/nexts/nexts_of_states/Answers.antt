@@ -62,10 +62,6 @@ loop-sid-preserved g c =
           (rw c.loop-sid.invariant.start at c.epsilon_closure.ensures.arrives) c.if-epsilon_closure.false;
     }
 
-pub returns-then-epsilon_closure-clause-keeps : goal.returns-then-epsilon_closure-clause-keeps
-returns-then-epsilon_closure-clause-keeps g c = KeepsRoom-then c.loop-sid.invariant.keeps
-    c.epsilon_closure.ensures.keeps
-
 pub returns-then-epsilon_closure-clause-arrive : goal.returns-then-epsilon_closure-clause-arrive
 returns-then-epsilon_closure-clause-arrive g c =
     let width = c.width-width.result in
