@@ -1,14 +1,16 @@
 -- The turns of a closure, one after the other.
-use Rattle.std.proofs.Common.{◌≡◌, ℕ, ◌+◌, ◌≤◌, inl, inr, List, [], ◌∷◌, ◌++◌, length, map, take, refl, ap, sym, ◌∙◌, arith, append_assoc, append-nil, Bool, true, false, Option, Some, None, sum_by}
+use Rattle.std.proofs.Common.{◌≡◌, ℕ, ◌+◌, ◌-◌, ◌<◌, ◌≤◌, inl, inr, List, [], ◌∷◌, ◌++◌, length, map, take, refl, ap, sym, ◌∙◌, arith, append_assoc, append-nil, Bool, true, false, Option, Some, None, sum, sum_by}
 use Rattle.std.proofs.lemmas.List.{length-take-le}
 use Rattle.regex_search_core.specs.Search.{Search}
 use Rattle.regex_search_core.specs.declared.primitives.PatternID.{PatternID}
 use Rattle.thompson_nfa.specs.Automaton.{Automaton}
 use Rattle.nfa_paths.specs.Graphs.{Pair}
-use Rattle.nfa_paths.specs.Paths.{edges, is_match}
+use Rattle.nfa_paths.specs.Paths.{degree, edges, is_match}
 use Rattle.nfa_paths.specs.Exploring.{Task, Slots}
 use Rattle.nfa_paths.specs.Exploring.Task.{Explore as ToExplore, Load as ToLoad}
 use Rattle.nfa_paths.specs.Kinds.{NoMatch}
+use Rattle.nfa_paths.specs.Turns.{marked_sum}
+use Rattle.nfa_paths.proofs.TurnLemmas.{marked_sum-le}
 use Rattle.nfa_scan_core.specs.Marks.{Marks}
 use Rattle.nfa_pikevm_scan.specs.Rows.{Active}
 use Rattle.nfa_pikevm_scan.specs.States.{Frontier, moves, work_onto, with_state, state_on, tries, tries_of, Follows, Paid, HasRoom, KeepsRoom, TurnsGive, VisitsState, FindsMatch}
@@ -68,6 +70,18 @@ Paid-then a b = record {
 pub Paid-dropped : {nfa : Automaton} {m n : Marks} {i j : ℕ} {stack above : List FollowEpsilon} {hand left : ℕ}
     → Paid nfa m i stack hand n j above left → Paid nfa m i stack hand n j [] 0
 Paid-dropped p = record { tried = omega (arith, p.tried); framed = omega (arith, p.framed); entered = p.entered }
+
+-- the turns that wait and those that unmarked states may still bring are fewer after a turn
+pub Paid-falls : {nfa : Automaton} {m n : Marks} {i j : ℕ} {stack above : List FollowEpsilon} {hand left waiting : ℕ}
+    → Paid nfa m i stack hand n j above left → m.turns + hand ≤ n.turns → waiting < sum_by tries above + left
+    → waiting + j + (sum (map degree nfa.states) - marked_sum (map degree nfa.states) n.bits)
+    < sum_by tries stack + i + (sum (map degree nfa.states) - marked_sum (map degree nfa.states) m.bits)
+Paid-falls {nfa} {m} {n} p turned less = omega (
+  arith,
+  p.tried,
+  marked_sum-le (map degree nfa.states) m.bits,
+  marked_sum-le (map degree nfa.states) n.bits,
+)
 
 -- there is still room
 pub HasRoom-paid : {nfa : Automaton} {m n : Marks} {size kept capacity more : ℕ} {hand left : ℕ} (top now : ℕ)

@@ -1,5 +1,5 @@
 -- How a scan begins, joins its starts, and ends.
-use Rattle.std.proofs.Common.{◌≡◌, ℕ, ◌+◌, ◌-◌, ◌<◌, ◌≤◌, inl, inr, List, [], ◌∷◌, ◌++◌, length, refl, sym, arith, subst, Bool, true, false, Option, Some, None, cond, is_some}
+use Rattle.std.proofs.Common.{sym, ◌≡◌, ℕ, ◌+◌, ◌-◌, ◌<◌, ◌≤◌, inl, inr, List, [], ◌∷◌, length, refl, arith, subst, Bool, true, false, Option, Some, None, cond, is_some}
 use Rattle.regex_search_core.specs.Search.{Search}
 use Rattle.regex_search_core.specs.Found.{half_found_of}
 use Rattle.regex_search_core.specs.declared.primitives.PatternID.{PatternID}
@@ -117,21 +117,11 @@ module _ (nfa : Automaton) (x : Search) where
         let le : at ≤ to = j.ahead in
         let same = AnswersFor-tasks (space nfa x) (is_match nfa) to items
         (AnswersFor-same (space nfa x) (is_match nfa) (blank width) (starts_from width begins.state to limit)) in
-        let to_work : (w : List Task) → tasks to items (Load (blank width) ∷ starts_from width begins.state to limit)
-        ≡ w
-        → AnswersFor (space nfa x) (is_match nfa)
-        (tasks to items (Load (blank width) ∷ starts_from width begins.state to limit)) w =
-        λ w e. subst (λ (v : List Task). AnswersFor (space nfa x) (is_match nfa)
-        (tasks to items (Load (blank width) ∷ starts_from width begins.state to limit)) v) e same in
         elim j.last [
-          | inl h ↦ rw h.1 (to_work (tasks to (items ++ (begins.state, blank width) ∷ [])
-              (Load (blank width) ∷ starts_from width begins.state (to + 1) limit))
-              (tasks-joins width begins.state to limit items h.0))
+          | inl h ↦ rw (h.1, ← tasks-joins width begins.state to limit items h.0) same
           | inr h ↦
               elim h.1 [
-                | inl over ↦ rw h.0 (to_work (tasks to items
-                    (Load (blank width) ∷ starts_from width begins.state (to + 1) limit))
-                    (tasks-alone width begins.state to limit items over))
+                | inl over ↦ rw (h.0, ← tasks-alone width begins.state to limit items over) same
                 | inr pass ↦
                     rw h.0 (AnswersFor-tasks (space nfa x) (is_match nfa) to items
                     (AnswersFor-pass (space nfa x) (is_match nfa) width begins.state limit to

@@ -1,25 +1,20 @@
 -- The steps of a closure, each for the searches of all sets of match pairs at once.
-use Rattle.std.proofs.Common.{◌≡◌, ℕ, ◌+◌, ◌<◌, ◌≤◌, List, [], ◌∷◌, ◌++◌, length, get_or, set, map, refl, sym, ◌∙◌, arith, Bool, true, false, Option, Some, None}
+use Rattle.std.proofs.Common.{◌≡◌, ℕ, ◌<◌, ◌≤◌, List, [], ◌∷◌, ◌++◌, length, get_or, set, map, refl, arith, Bool, true, false, Option, Some, None}
+use Rattle.std.proofs.lemmas.Bool.{both_ways, false_from_ne_true}
 use Rattle.regex_search_core.specs.Search.{Search}
-use Rattle.thompson_nfa.specs.Automaton.{Automaton}
-use Rattle.nfa_paths.specs.Graphs.{Pair, In, Space}
-use Rattle.nfa_paths.specs.Paths.{edges, is_match, capture, space}
+use Rattle.thompson_nfa.specs.Automaton.{Automaton, Node}
+use Rattle.nfa_paths.specs.Graphs.{Pair, Space}
+use Rattle.nfa_paths.specs.Paths.{edges, edges_of, is_match, pattern_of, slot_of, space}
+use Rattle.nfa_paths.specs.Kinds.{rests}
+use Rattle.nfa_paths.proofs.ScanAnswerLemmas.{edges-onward, edges-rise}
+use Rattle.nfa_paths.proofs.StartLemmas.{node_at-get}
 use Rattle.nfa_paths.specs.Exploring.{Task, Slots, Hit, ExploresTo, Searching}
 use Rattle.nfa_paths.specs.Exploring.Task.{Explore, Restore, Load}
 use Rattle.nfa_paths.proofs.SearchLemmas.{Answer-load, AnswerBehind-along}
 use Rattle.nfa_paths.proofs.SearchingLemmas.{Searching-restore, Searching-load, Searching-marked, Searching-plain, Searching-write, Searching-unkept, Searching-keep}
 use Rattle.nfa_scan_core.specs.Marks.{Marks}
-use Rattle.nfa_pikevm_scan.specs.States.{Frontier, AreMatchPairs, Follows}
+use Rattle.nfa_pikevm_scan.specs.States.{Frontier, AreMatchPairs, Entered, Follows, WasSeen}
 use Rattle.nfa_scan_core.proofs.SeenLemmas.{SeenAt-set, SeenAt-clear}
-
--- a pair that is not a match is in no set of matches
-plain-target : (nfa : Automaton) (target : Pair → Bool) (v : Pair) → AreMatchPairs nfa target → is_match nfa v ≡ false
-    → target v ≡ false
-plain-target nfa target v ok plain = of (target v) (ok v)
-  where
-    of : (b : Bool) → (b ≡ true → is_match nfa v ≡ true) → b ≡ false
-    of true h = sym (h refl) ∙ plain
-    of false h = refl
 
 -- After a pair a slot need not be restored if slots are loaded next.
 Searching-unrestored : (space : Space) (target : Pair → Bool)
@@ -87,58 +82,65 @@ module _ (nfa : Automaton) (x : Search) (at : ℕ) where
           λ target ok starts entry otherwise h. Searching-unrestored (space nfa x) target h;
     }
 
-    module _ (s : ℕ) (n : Marks) (counted : n.turns ≡ m.turns + 1) where
-      -- a turn that finds its state marked
-      pub Follows-marked : get_or m.bits s false ≡ true → n.bits ≡ m.bits
-          → Follows nfa x at m i (Explore (s, at) ∷ rest) slots n i rest slots
-      Follows-marked seen same = record {
-        leads = λ target ok starts entry otherwise h.
-            rw (counted, same) (Searching-marked (space nfa x) target h (record { here = refl; set = seen }));
-      }
+    -- a turn that finds its state marked
+    pub Follows-marked : {s : ℕ} {n : Marks} → WasSeen s m n
+        → Follows nfa x at m i (Explore (s, at) ∷ rest) slots n i rest slots
+    Follows-marked w = record {
+      leads = λ target ok starts entry otherwise h.
+          rw (w.counted, w.same) (Searching-marked (space nfa x) target h (record { here = refl; set = w.seen }));
+    }
 
-      -- a turn that marks its state
-      module _ (inside : s < length m.bits) (clear : get_or m.bits s true ≡ false)
-          (marked : n.bits ≡ set m.bits s true) where
-        pub Follows-plain : is_match nfa (s, at) ≡ false → (es : List Pair) → edges nfa x (s, at) ≡ es
-            → capture nfa (s, at) ≡ None
+    -- a turn that marks its state
+    module _ {s : ℕ} {node : Node} {n : Marks} (e : Entered nfa s node m n) where
+      -- a state that is not a match, with its edges
+      module _ (plain : pattern_of node ≡ None) (es : List Pair) (leads : edges_of x node at ≡ es) where
+        unwanted : (target : Pair → Bool) → AreMatchPairs nfa target → target (s, at) ≡ false
+        unwanted target ok = false_from_ne_true (target (s, at)) (λ t. both_ways (is_match nfa (s, at))
+            (rw (node_at-get nfa s node e.is, plain) refl) (ok (s, at) t))
+
+        edges-are : edges nfa x (s, at) ≡ es
+        edges-are = rw (node_at-get nfa s node e.is) leads
+
+        pub Follows-plain : slot_of node ≡ None
             → Follows nfa x at m i (Explore (s, at) ∷ rest) slots n i (map Explore es ++ rest) slots
-        Follows-plain plain es leads writes = record {
+        Follows-plain writes = record {
           leads = λ target ok starts entry otherwise h.
-              rw (counted, marked)
-              (Searching-plain (space nfa x) target h (SeenAt-clear at s m.bits inside clear)
-              (SeenAt-set at s m.bits inside) (plain-target nfa target (s, at) ok plain) es leads writes);
+              rw (e.counted, e.marked)
+              (Searching-plain (space nfa x) target h (SeenAt-clear at s m.bits e.inside e.clear)
+              (SeenAt-set at s m.bits e.inside) (unwanted target ok) es edges-are
+              (rw (node_at-get nfa s node e.is) writes));
         }
 
-        pub Follows-write : is_match nfa (s, at) ≡ false → (es : List Pair) → edges nfa x (s, at) ≡ es → (k : ℕ)
-            → capture nfa (s, at) ≡ Some k
+        pub Follows-write : (k : ℕ) → slot_of node ≡ Some k
             → Follows nfa x at m i (Explore (s, at) ∷ rest) slots n i
             (map Explore es ++ Restore k (get_or slots k None) ∷ rest) (set slots k (Some at))
-        Follows-write plain es leads k writes = record {
+        Follows-write k writes = record {
           leads = λ target ok starts entry otherwise h.
-              rw (counted, marked)
-              (Searching-write (space nfa x) target h (SeenAt-clear at s m.bits inside clear)
-              (SeenAt-set at s m.bits inside) (plain-target nfa target (s, at) ok plain) es leads k writes);
+              rw (e.counted, e.marked)
+              (Searching-write (space nfa x) target h (SeenAt-clear at s m.bits e.inside e.clear)
+              (SeenAt-set at s m.bits e.inside) (unwanted target ok) es edges-are k
+              (rw (node_at-get nfa s node e.is) writes));
         }
 
-        pub Follows-unkept : is_match nfa (s, at) ≡ false → (es : List Pair) → edges nfa x (s, at) ≡ es → (k : ℕ)
-            → capture nfa (s, at) ≡ Some k → length slots ≤ k
+        pub Follows-unkept : (k : ℕ) → slot_of node ≡ Some k → length slots ≤ k
             → Follows nfa x at m i (Explore (s, at) ∷ rest) slots n i (map Explore es ++ rest) slots
-        Follows-unkept plain es leads k writes past = record {
+        Follows-unkept k writes past = record {
           leads = λ target ok starts entry otherwise h.
-              rw (counted, marked)
-              (Searching-unkept (space nfa x) target h (SeenAt-clear at s m.bits inside clear)
-              (SeenAt-set at s m.bits inside) (plain-target nfa target (s, at) ok plain) es leads k writes past);
+              rw (e.counted, e.marked)
+              (Searching-unkept (space nfa x) target h (SeenAt-clear at s m.bits e.inside e.clear)
+              (SeenAt-set at s m.bits e.inside) (unwanted target ok) es edges-are k
+              (rw (node_at-get nfa s node e.is) writes) past);
         }
 
-        -- a state whose edges lead to later positions is put into the front
-        pub Follows-keep : ((v y : Pair) → In y (edges nfa x v) → v.1 ≤ y.1)
-            → ((w : Pair) → In w (edges nfa x (s, at)) → at < w.1)
-            → Follows nfa x at m i (Explore (s, at) ∷ rest) slots n (i ++ ((s, at), slots) ∷ []) rest slots
-        Follows-keep onward leaves = record {
-          leads = λ target ok starts entry otherwise h.
-              rw (counted, marked)
-              (Searching-keep (space nfa x) target h (SeenAt-clear at s m.bits inside clear)
-              (SeenAt-set at s m.bits inside) (λ v. at < v.1)
-              (λ v y a j. let k : v.1 ≤ y.1 = onward v y j in let l : at < v.1 = a in omega arith) leaves
-              (λ v seen a. let k : v.1 ≡ at = seen.here in let l : at < v.1 = a in omega arith));
-        }
+      -- a resting state, whose edges lead to later positions, is put into the front
+      pub Follows-keep : rests node ≡ true
+          → Follows nfa x at m i (Explore (s, at) ∷ rest) slots n (i ++ ((s, at), slots) ∷ []) rest slots
+      Follows-keep r = record {
+        leads = λ target ok starts entry otherwise h.
+            rw (e.counted, e.marked)
+            (Searching-keep (space nfa x) target h (SeenAt-clear at s m.bits e.inside e.clear)
+            (SeenAt-set at s m.bits e.inside) (λ v. at < v.1)
+            (λ v y a j. let k : v.1 ≤ y.1 = edges-onward nfa x v y j in let l : at < v.1 = a in omega arith)
+            (λ w. edges-rise nfa x (s, at) w (rw (node_at-get nfa s node e.is) r))
+            (λ v seen a. let k : v.1 ≡ at = seen.here in let l : at < v.1 = a in omega arith));
+      }

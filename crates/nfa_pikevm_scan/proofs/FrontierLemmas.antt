@@ -1,5 +1,5 @@
 -- What the front of a position leads on to, and what it costs.
-use Rattle.std.proofs.Common.{◌≡◌, ℕ, ◌+◌, ◌-◌, ◌*◌, ◌<◌, ◌≤◌, ◌⊎◌, inl, inr, List, [], ◌∷◌, length, map, refl, ap, sym, ◌∙◌, arith, subst, Bool, true, false, Option, Some, None, All, cond, option_map, option_to_list, sum_by}
+use Rattle.std.proofs.Common.{append-nil, option_and_then, ◌≡◌, ℕ, ◌+◌, ◌-◌, ◌*◌, ◌<◌, ◌≤◌, ◌⊎◌, inl, inr, List, [], ◌∷◌, length, map, refl, ap, sym, ◌∙◌, arith, subst, Bool, true, false, Option, Some, None, All, cond, option_map, option_to_list, sum_by}
 use Rattle.std.specs.Option.{option_or}
 use Rattle.std.proofs.Math.Nat.{mul-le-mul_right}
 use Rattle.std.proofs.lemmas.List.Elements.{All-cons, All-nil}
@@ -16,9 +16,38 @@ use Rattle.nfa_paths.proofs.StartLemmas.{resting-capture, resting-edges, byte_pa
 use Rattle.nfa_paths.proofs.TurnLemmas.{marked_sum-le}
 use Rattle.nfa_scan_core.proofs.TargetLemmas.{target-below}
 use Rattle.nfa_scan_core.specs.Marks.{Marks}
-use Rattle.nfa_pikevm_scan.specs.States.{Frontier, moves, unmarked, one_of, Formed, Paid}
+use Rattle.nfa_pikevm_scan.specs.States.{Frontier, kept_target, moves, unmarked, one_of, Formed, Paid}
 use Rattle.nfa_pikevm_scan.specs.Scans.{AreAt, IsPaidAt, max_scan_turns}
 use Rattle.nfa_paths.proofs.MemberLemmas.{All-In}
+use Rattle.nfa_paths.proofs.OptionLemmas.{option_or-assoc}
+
+-- the edges of a resting state, by what it reads
+
+module _ (x : Search) (at : ℕ) (slots : Slots) where
+  -- the edges that a byte gives a state, in memory
+  moves-target : (node : Node) (byte : Option ℕ)
+      → map (λ v. (v.0, slots)) (byte_pairs node at byte) ≡ kept_target (option_and_then (target_on node) byte) slots
+  moves-target node None = refl
+  moves-target node (Some b) = of (target_on node b)
+    where
+      of : (target : Option ℕ) → map (λ v. (v.0, slots)) (option_to_list (option_map
+          (λ next. (let v : Pair = (next, at + 1) in v)) target)) ≡ kept_target target slots
+      of None = refl
+      of (Some t) = refl
+
+  -- a resting state leads to where its byte leads
+  pub edges-move : (node : Node) → rests node ≡ true
+      → map (λ v. (v.0, slots)) (edges_of x node at)
+      ≡ kept_target (option_and_then (target_on node) (byte_at x at)) slots
+  edges-move node r =
+      ap (map (λ (v : Pair). (v.0, slots))) (resting-edges x node at r) ∙ moves-target node (byte_at x at)
+
+-- the moves of one pair in memory
+pub moves-one : (edges : Pair → List Pair) (v : Pair) (slots : Slots) (es : List Pair) → edges v ≡ es
+    → moves edges ((v, slots) ∷ []) ≡ map (λ u. (u.0, slots)) es
+moves-one edges v slots es e = append-nil (map (λ u. (u.0, slots)) (edges v)) ∙ ap (map (λ u. (u.0, slots))) e
+
+-- what a front leads on to
 
 -- none, or one of a state of the NFA at the next position
 abbrev LeadsToOne : Search → Node → ℕ → List Pair → Type 0
@@ -118,14 +147,10 @@ module _ (target : Pair → Bool) where
   last_match-or g [] = refl
   last_match-or g (a ∷ front) = of (target a.0) (last_match-or (Some a) front) (last_match-or g front)
     where
-      some : (o : Hit) (h : Hit) → option_or (option_or o (Some a)) h ≡ option_or o (Some a)
-      some None h = refl
-      some (Some b) h = refl
-
       of : (c : Bool) → last_match target (Some a) front ≡ option_or (last_match target None front) (Some a)
           → last_match target g front ≡ option_or (last_match target None front) g
           → last_match target (cond c (Some a) g) front ≡ option_or (last_match target (cond c (Some a) None) front) g
-      of true e f = e ∙ sym (ap (λ (o : Hit). option_or o g) e ∙ some (last_match target None front) g)
+      of true e f = e ∙ sym (ap (λ (o : Hit). option_or o g) e ∙ option_or-assoc (last_match target None front) (Some a) g)
       of false e f = f
 
 -- turns

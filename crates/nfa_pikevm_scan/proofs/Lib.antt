@@ -2,7 +2,6 @@ pub mod RowLemmas
 pub mod SlotLemmas
 pub mod EpsilonClosureLemmas
 pub mod ApplyFrameLemmas
-pub mod EdgeLemmas
 pub mod VisitLemmas
 pub mod SinkLemmas
 pub mod ClosureLemmas
@@ -17,7 +16,6 @@ pub mod EndLemmas
 pub mod StandsLemmas
 pub mod RoomLemmas
 pub mod LoneLemmas
-pub mod SizeLemmas
 pub mod OverlapFirstLemmas
 pub mod OverlapLoopLemmas
 pub mod OverlapSetLemmas

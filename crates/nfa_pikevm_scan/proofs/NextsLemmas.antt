@@ -38,14 +38,13 @@ pub items-next : (width i n : ℕ) (kept : List ℕ) (cells rows : Slots) (k : �
     ∷ drop (i + 1) (items_of width kept cells)
 items-next width i n kept cells rows k h is wide same =
     let more : (i + 1) * width ≡ i * width + width = omega arith in
-    drop-items_of width i kept cells ∙ ap (λ s. items_of width s (drop (i * width) cells)) (drop_more kept i k h)
-    ∙ ap (λ s. (s, take width (drop (i * width) cells)) ∷ items_of width (drop (i + 1) kept)
-    (drop width (drop (i * width) cells))) (sym is)
-    ∙ ap (λ t. (k, take width (drop (i * width) cells)) ∷ items_of width (drop (i + 1) kept) t)
-    (drop-drop width (i * width) cells ∙ ap (λ n. drop n cells) (sym more))
-    ∙ ap (λ t. (k, take width (drop (i * width) cells)) ∷ t) (sym (drop-items_of width (i + 1) kept cells))
-    ∙ ap (λ t. (k, t) ∷ drop (i + 1) (items_of width kept cells))
-    (ap (take width) (sym same) ∙ ap (λ m. take m (drop (i * width) rows)) (sym wide))
+    rw (
+      drop-items_of width i kept cells,
+      drop_more kept i k h,
+      drop-items_of width (i + 1) kept cells,
+      drop-drop width (i * width) cells,
+      more,
+    ) (cc)
 
 -- no item is after the last
 pub items-over : (width i : ℕ) (kept : List ℕ) (cells : Slots) → length kept ≤ i
@@ -161,10 +160,12 @@ module _ {V : Type 0} (nfa : Automaton) (x : Search) (takes : V → PatternID �
         → Follows nfa x at (unmarked met) [] (tasks at items (Load old ∷ waiting)) current after front
         (tasks at left (Load old ∷ waiting)) last
 
+module _ {V : Type 0} {nfa : Automaton} {x : Search} {takes : V → PatternID → Slots → Bool → V → Type 0} {at : ℕ}
+    {met : Marks} {items : List (ℕ × Slots)} {old : V} where
   -- all are left
-  pub NextsLeadTo-begin : (kept : List (ℕ × Slots)) → kept ≡ [] → met.bits ≡ replicate (length met.bits) false
-      → NextsLeadTo items met kept old
-  NextsLeadTo-begin kept empty clear = record {
+  pub NextsLeadTo-begin : {kept : List (ℕ × Slots)} → kept ≡ [] → met.bits ≡ replicate (length met.bits) false
+      → NextsLeadTo nfa x takes at met items old items met kept old
+  NextsLeadTo-begin empty clear = record {
     front = [];
     added = empty;
     takes_all = none;
@@ -188,12 +189,11 @@ module _ {V : Type 0} (nfa : Automaton) (x : Search) (takes : V → PatternID �
   }
 
   -- there is room for what the next state leads to
-  pub HasRoom-next : (left : List (ℕ × Slots)) (after : Marks) (kept : List (ℕ × Slots)) (new : V)
-      (frames capacity f p : ℕ)
-      → met.bits ≡ replicate (length met.bits) false → HasRoom nfa met.bits 0 frames 0 capacity
+  pub HasRoom-next : {left : List (ℕ × Slots)} {after : Marks} {kept : List (ℕ × Slots)} {new : V}
+      {frames capacity f p : ℕ} → met.bits ≡ replicate (length met.bits) false → HasRoom nfa met.bits 0 frames 0 capacity
       → length after.bits ≡ length met.bits → f ≡ frames → p ≡ capacity
-      → NextsLeadTo left after kept new → HasRoom nfa after.bits 0 f (length kept) p
-  HasRoom-next left after kept new frames capacity f p clear room size same_frames same_capacity c =
+      → NextsLeadTo nfa x takes at met items old left after kept new → HasRoom nfa after.bits 0 f (length kept) p
+  HasRoom-next clear room size same_frames same_capacity c =
       let rooms = ap (marked_sum (map room_of nfa.states)) clear in
       let ones = ap (marked_sum (map one_of nfa.states)) clear in
       record {
@@ -202,9 +202,9 @@ module _ {V : Type 0} (nfa : Automaton) (x : Search) (takes : V → PatternID �
         states_fit = omega (arith, room.states_fit, c.paid.entered, ones);
       }
 
-  module _ (left rest : List (ℕ × Slots)) (after : Marks) (kept : List (ℕ × Slots)) (mid : V) (k : ℕ) (row : Slots)
-      (next : left ≡ (k, row) ∷ rest) (c : NextsLeadTo left after kept mid)
-      (ended : Bool) (then : Marks) (more : List (ℕ × Slots)) (new : V)
+  module _ {left rest : List (ℕ × Slots)} {after : Marks} {kept : List (ℕ × Slots)} {mid : V} {k : ℕ} {row : Slots}
+      (next : left ≡ (k, row) ∷ rest) (c : NextsLeadTo nfa x takes at met items old left after kept mid)
+      {ended : Bool} {then : Marks} {more : List (ℕ × Slots)} {new : V}
       (a : ClosureGives nfa x takes at k after kept row mid ended then more new) where
     added : more ≡ moves (edges nfa x) (c.front ++ a.front)
     added =
@@ -238,7 +238,7 @@ module _ {V : Type 0} (nfa : Automaton) (x : Search) (takes : V → PatternID �
         (a.leads c.front)
 
     -- the position goes on
-    pub NextsLeadTo-next : ended ≡ false → NextsLeadTo rest then more new
+    pub NextsLeadTo-next : ended ≡ false → NextsLeadTo nfa x takes at met items old rest then more new
     NextsLeadTo-next on = record {
       front = c.front ++ a.front;
       added = added;
@@ -276,9 +276,9 @@ module _ {V : Type 0} (nfa : Automaton) (x : Search) (takes : V → PatternID �
     }
 
   -- all were followed
-  pub NextsLeadTo-over : (left : List (ℕ × Slots)) (after : Marks) (kept : List (ℕ × Slots)) (new : V) → left ≡ []
-      → NextsLeadTo left after kept new → ClosuresGive nfa x takes at met items old after kept new
-  NextsLeadTo-over left after kept new over c = record {
+  pub NextsLeadTo-over : {left : List (ℕ × Slots)} {after : Marks} {kept : List (ℕ × Slots)} {new : V} → left ≡ []
+      → NextsLeadTo nfa x takes at met items old left after kept new → ClosuresGive nfa x takes at met items old after kept new
+  NextsLeadTo-over {after = after} over c = record {
     front = c.front;
     ended = false;
     gives = record {

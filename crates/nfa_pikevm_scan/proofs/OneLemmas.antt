@@ -10,15 +10,18 @@ use Rattle.nfa_paths.specs.Exploring.{Slots}
 use Rattle.nfa_paths.specs.Exploring.Task.{Explore, Load}
 use Rattle.nfa_paths.specs.Kinds.{first_match, before_match, NoMatch}
 use Rattle.nfa_paths.proofs.StartLemmas.{IsMatch-edges}
+use Rattle.std.proofs.lemmas.Bool.{false_from_ne_true}
 use Rattle.std.proofs.lemmas.List.Elements.{All-nil}
+use Rattle.nfa_paths.proofs.FrontierMatchLemmas.{before_match-all}
+use Rattle.nfa_pikevm_scan.proofs.SinkLemmas.{first-none}
 use Rattle.nfa_scan_core.specs.Marks.{Marks}
 use Rattle.nfa_pikevm_scan.specs.States.{Frontier, unmarked, moves, work_onto, EndsInMatch, IsHit, FindsMatch, NextsGive}
 use Rattle.nfa_pikevm_scan.specs.Sinks.{ClosureGives, ClosuresGive}
 use Rattle.nfa_pikevm_scan.specs.declared.frame.FollowEpsilon.{FollowEpsilon}
 use Rattle.nfa_pikevm_scan.proofs.EpsilonClosureLemmas.{Follows-then, Follows-load}
 use Rattle.nfa_pikevm_scan.proofs.ClosureLemmas.{moves-append, Paid-dropped}
-use Rattle.nfa_pikevm_scan.proofs.EdgeLemmas.{moves-one}
-use Rattle.nfa_pikevm_scan.proofs.NextsLemmas.{NextsLeadTo, NextsLeadTo-begin, NextsLeadTo-next, NextsLeadTo-ended, NextsLeadTo-over}
+use Rattle.nfa_pikevm_scan.proofs.FrontierLemmas.{moves-one}
+use Rattle.nfa_pikevm_scan.proofs.NextsLemmas.{NextsLeadTo-begin, NextsLeadTo-next, NextsLeadTo-ended, NextsLeadTo-over}
 
 -- whether there is a match
 pub none-is : (hit : Option PatternID) (none : Bool) → is_some hit ≡ not none → none ≡ false → hit ≡ None → ⊥
@@ -40,42 +43,20 @@ items-one width n (s ∷ []) cells k one is wide = cc
 items-one width n (s ∷ t ∷ kept) cells k one is wide = absurd (omega (arith, one))
 
 -- the only state of a position gives what the position gives
-pub ClosuresGive-one : {V : Type 0} (nfa : Automaton) (x : Search) (takes : V → PatternID → Slots → Bool → V → Type 0)
-    (at : ℕ) (met : Marks) (items : List (ℕ × Slots)) (old : V) (kept : List (ℕ × Slots)) (k : ℕ) (row : Slots)
-    (ended : Bool) (then : Marks) (more : List (ℕ × Slots)) (new : V)
+pub ClosuresGive-one : {V : Type 0} {nfa : Automaton} {x : Search} {takes : V → PatternID → Slots → Bool → V → Type 0}
+    {at : ℕ} {met : Marks} {items : List (ℕ × Slots)} {old : V} {kept : List (ℕ × Slots)} {k : ℕ} {row : Slots}
+    (ended : Bool) {then : Marks} {more : List (ℕ × Slots)} {new : V}
     → kept ≡ [] → met.bits ≡ replicate (length met.bits) false → items ≡ (k, row) ∷ []
     → ClosureGives nfa x takes at k met kept row old ended then more new
     → ClosuresGive nfa x takes at met items old then more new
-ClosuresGive-one nfa x takes at met items old kept k row ended then more new empty clear one a =
-    of ended refl
-  where
-    begun : NextsLeadTo nfa x takes at met items old items met kept old
-    begun = NextsLeadTo-begin nfa x takes at met items old kept empty clear
-
-    of : (b : Bool) → ended ≡ b → ClosuresGive nfa x takes at met items old then more new
-    of true is = NextsLeadTo-ended nfa x takes at met items old items [] met kept old k row one begun ended then more
-        new a is
-    of false is = NextsLeadTo-over nfa x takes at met items old [] then more new refl
-        (NextsLeadTo-next nfa x takes at met items old items [] met kept old k row one begun ended then more new a is)
+ClosuresGive-one true empty clear one a = NextsLeadTo-ended one (NextsLeadTo-begin empty clear) a refl
+ClosuresGive-one false empty clear one a =
+    NextsLeadTo-over refl (NextsLeadTo-next one (NextsLeadTo-begin empty clear) a refl)
 
 -- a front that ends with its only match, or has none
 module _ (test : Pair → Bool) where
   plain-head : (a : Pair × Slots) (front : Frontier) → NoMatch test (a ∷ front) → test a.0 ≡ false
-  plain-head a front plain = of (test a.0) (λ t. plain a (inl refl) t)
-    where
-      of : (b : Bool) → (b ≡ true → ⊥) → b ≡ false
-      of true h = absurd (h refl)
-      of false h = refl
-
-  first-none : (front : Frontier) → NoMatch test front → first_match test front ≡ None
-  first-none [] plain = refl
-  first-none (a ∷ front) plain =
-      rw (plain-head a front plain) (first-none front (λ b i. plain b (inr i)))
-
-  before-none : (front : Frontier) → NoMatch test front → before_match test front ≡ front
-  before-none [] plain = refl
-  before-none (a ∷ front) plain =
-      rw (plain-head a front plain) (ap (λ l. a ∷ l) (before-none front (λ b i. plain b (inr i))))
+  plain-head a front plain = false_from_ne_true (test a.0) (plain a (inl refl))
 
   first-ends : (front : Frontier) (a : Pair × Slots) → NoMatch test front → test a.0 ≡ true
       → first_match test (front ++ a ∷ []) ≡ Some a
@@ -93,7 +74,7 @@ module _ (nfa : Automaton) (x : Search) (at : ℕ) where
   -- nothing is kept after the match
   cut-ends : (slots : Slots) (hit : Option PatternID) (front : Frontier) → EndsInMatch nfa at slots hit front
       → moves (edges nfa x) (before_match (is_match nfa) front) ≡ moves (edges nfa x) front
-  cut-ends slots None front e = ap (moves (edges nfa x)) (before-none (is_match nfa) front e)
+  cut-ends slots None front e = ap (moves (edges nfa x)) (before_match-all (is_match nfa) front (first-none (is_match nfa) front e))
   cut-ends slots (Some p) front e =
       let v : Pair = (e.1, at) in
       let match : is_match nfa v ≡ true = rw e.4 refl in

@@ -1,6 +1,5 @@
 -- The positions of the scan for the first match: the states after a match are dropped.
-use Rattle.std.proofs.Common.{◌≡◌, ℕ, ◌+◌, ◌-◌, ◌<◌, ◌≤◌, ◌⊎◌, ◌↔◌, inl, inr, Bool, true, false, List, [], ◌∷◌, ◌++◌, length, map, refl, sym, ap, ◌∙◌, subst, arith, None, Some, All}
-use Rattle.std.proofs.lemmas.Bool.{cases_lt, lt-ltb, le-ltb}
+use Rattle.std.proofs.Common.{◌≡◌, ℕ, ◌+◌, ◌-◌, ◌<◌, ◌≤◌, ◌⊎◌, ◌↔◌, inl, inr, Bool, true, false, List, [], ◌∷◌, length, map, refl, sym, ap, ◌∙◌, subst, arith, None, Some, All}
 use Rattle.std.proofs.lemmas.List.Elements.{All-head, All-tail}
 use Rattle.regex_search_core.specs.PatternSets.{size_of_set}
 use Rattle.regex_search_core.specs.Search.{Search}
@@ -12,8 +11,8 @@ use Rattle.nfa_paths.specs.Exploring.{Slots, Hit, Task, next_tasks, seeds, Explo
 use Rattle.nfa_paths.specs.Exploring.Task.{Explore as ToExplore, Load as ToLoad}
 use Rattle.nfa_paths.specs.Kinds.{before_match, first_match, is_resting}
 use Rattle.nfa_paths.specs.Overlaps.{IsInsertable, IsOverlapResult, pattern_at}
-use Rattle.nfa_paths.proofs.FrontierMatchLemmas.{first_match-is, before_match-among}
-use Rattle.nfa_paths.proofs.StartLemmas.{pairs_from-step, pairs_from-end}
+use Rattle.nfa_paths.proofs.FrontierMatchLemmas.{first_match-cut, before_match-among}
+use Rattle.nfa_paths.proofs.StartLemmas.{pairs_from-end}
 use Rattle.nfa_paths.proofs.SoundLemmas.{heads, Sound, Sound-start, Sound-hit, Sound-round, Sound-cut, Searched}
 use Rattle.nfa_paths.proofs.MetLemmas.{Between, Between-all, Between-before, Between-less, Between-same, Best, Best-found, Exact, Exact-start, Exact-next, Exact-match, Exact-end, Answer-ahead, before_target, before_is, before_match-same, first_match-same}
 use Rattle.nfa_paths.proofs.UpToLemmas.{UpTo, UpTo-next, UpTo-match, UpTo-end}
@@ -24,60 +23,42 @@ use Rattle.nfa_paths.proofs.SearchingLemmas.{Searching-load, Searching-done}
 use Rattle.nfa_scan_core.specs.Marks.{Marks}
 use Rattle.nfa_pikevm_scan.specs.Scans.{starts_from, with_start, AreStarts, SearchingFrom}
 use Rattle.nfa_pikevm_scan.specs.States.{Frontier, moves, tasks, unmarked, SeenAt, SearchingAt}
-use Rattle.nfa_pikevm_scan.specs.Overlapping.{wants, AddsPatterns, AddsFirstPattern, GoesPast, NextsOverlappingGive}
+use Rattle.nfa_pikevm_scan.specs.Overlapping.{wants, AddsPatterns, GoesPast, NextsOverlappingGive}
 use Rattle.nfa_pikevm_scan.specs.declared.scan.Starts.{Starts}
 use Rattle.nfa_pikevm_scan.proofs.RoomLemmas.{over-joined}
 use Rattle.nfa_pikevm_scan.proofs.TaskLemmas.{starts_from-end, tasks-joined, Searching-begin}
 use Rattle.nfa_pikevm_scan.proofs.FrontierLemmas.{Formed-resting, Formed-next}
 use Rattle.nfa_pikevm_scan.proofs.ScanLemmas.{Crossed, Crossed-given, first-miss, first-hit}
 use Rattle.nfa_pikevm_scan.proofs.EndLemmas.{SearchingAt-begin}
-use Rattle.nfa_pikevm_scan.proofs.OverlapSetLemmas.{wants-tells, wants-match}
+use Rattle.nfa_pikevm_scan.proofs.OverlapSetLemmas.{AddsFirst-none, AddsFirst-some, wants-tells, wants-match}
 use Rattle.nfa_scan_core.proofs.SeenLemmas.{SeenAt-none}
 use Rattle.nfa_paths.proofs.OptionLemmas.{same_some}
 
 -- the pairs of the states at a position, and of the starts that wait
-pub pairs_at : ℕ → List (ℕ × Slots) → List Pair → List Pair
-pairs_at at [] later = later
-pairs_at at (i ∷ items) later = (i.0, at) ∷ pairs_at at items later
+abbrev pub pairs_at : ℕ → List (ℕ × Slots) → List Pair → List Pair
+pairs_at at items later = heads (tasks at items (ToLoad [] ∷ seeds [] later))
+
+-- the pairs of starts
+heads-seeds : (slots : Slots) (later : List Pair) → heads (seeds slots later) ≡ later
+unfolding heads seeds
+heads-seeds slots [] = refl
+heads-seeds slots (v ∷ later) = ap (λ l. v ∷ l) (heads-seeds slots later)
 
 -- the work of states with rows of no slots
 tasks-seeds : (at : ℕ) (items : List (ℕ × Slots)) (later : List Pair) → All (λ i. i.1 ≡ []) items
     → tasks at items (ToLoad [] ∷ seeds [] later) ≡ ToLoad [] ∷ seeds [] (pairs_at at items later)
-unfolding pairs_at seeds
-tasks-seeds at [] later rows = refl
+unfolding heads seeds
+tasks-seeds at [] later rows = rw (heads-seeds [] later) refl
 tasks-seeds at (i ∷ items) later rows =
     let here : i.1 ≡ [] = All-head (λ (j : ℕ × Slots). j.1 ≡ []) i items rows in
     rw here (ap (λ w. ToLoad [] ∷ ToExplore (i.0, at) ∷ w)
     (tasks-seeds at items later (All-tail (λ (j : ℕ × Slots). j.1 ≡ []) i items rows)))
 
-pairs_at-append : (at : ℕ) (xs ys : List (ℕ × Slots)) (later : List Pair)
-    → pairs_at at (xs ++ ys) later ≡ pairs_at at xs (pairs_at at ys later)
-unfolding pairs_at
-pairs_at-append at [] ys later = refl
-pairs_at-append at (i ∷ xs) ys later = ap (λ l. (i.0, at) ∷ l) (pairs_at-append at xs ys later)
-
 -- with the start that joins, the others wait
 joined-pairs : (from : Starts) (at : ℕ) (items : List (ℕ × Slots))
     → pairs_at at (with_start from 0 at items) (pairs_from from.state (at + 1) (from.limit - (at + 1)))
     ≡ pairs_at at items (pairs_from from.state at (from.limit - at))
-unfolding pairs_at
-joined-pairs from at items =
-    elim (cases_lt at from.limit) [
-      | inl less ↦
-          rw (lt-ltb at from.limit less)
-          (pairs_at-append at items ((from.state, []) ∷ []) (pairs_from from.state (at + 1) (from.limit - (at + 1)))
-          ∙ ap (λ ps. pairs_at at items ps) (sym (pairs_from-step from.state less)))
-      | inr past ↦
-          let later : from.limit ≤ at + 1 = omega arith in
-          rw (le-ltb at from.limit past) (ap (λ ps. pairs_at at items ps)
-          (pairs_from-end from.state later ∙ sym (pairs_from-end from.state past)))
-    ]
-
--- the pairs of work
-heads-seeds : (slots : Slots) (later : List Pair) → heads (seeds slots later) ≡ later
-unfolding heads seeds
-heads-seeds slots [] = refl
-heads-seeds slots (v ∷ later) = ap (λ l. v ∷ l) (heads-seeds slots later)
+joined-pairs from at items = sym (ap heads (tasks-joined from 0 at items))
 
 -- what was put aside, as the states of the next position
 heads-round : (edges : Pair → List Pair) (at : ℕ) (front : Frontier) (old : Slots) (waiting : List Task)
@@ -85,8 +66,8 @@ heads-round : (edges : Pair → List Pair) (at : ℕ) (front : Frontier) (old : 
     → ((a : Pair × Slots) → In a front → (edges a.0 ≡ []) ⊎ ((t : ℕ) × (edges a.0 ≡ (t, at + 1) ∷ [])))
     → heads waiting ≡ later
     → heads (next_tasks edges front (ToLoad old ∷ waiting)) ≡ pairs_at (at + 1) (moves edges front) later
-unfolding heads pairs_at next_tasks
-heads-round edges at [] old waiting later one e = e
+unfolding heads next_tasks
+heads-round edges at [] old waiting later one e = e ∙ sym (heads-seeds [] later)
 heads-round edges at (a ∷ front) old waiting later one e =
     let rest = heads-round edges at front old waiting later (λ b i. one b (inr i)) e in
     elim (one a (inl refl)) [
@@ -141,12 +122,13 @@ module _ (nfa : Automaton) (x : Search) (old : List Bool) where
 
   pub FirstWay-start : (from : Starts) → AreStarts nfa x from → size_of_set old ≡ 0 → (met : Marks)
       (items : List (ℕ × Slots)) → items ≡ [] → FirstWay from x.start met items old
-  unfolding pairs_at
+  unfolding heads
   FirstWay-start from are empty met items none =
       rw none (record {
         so_far = None;
         searching = λ target b. SearchingAt-begin nfa x from are [] met target;
-        sound = rw (← are.all) (Sound-start nfa x old wanted tells x.start);
+        sound = rw (heads-seeds [] (pairs_from from.state x.start (from.limit - x.start)), ← are.all)
+            (Sound-start nfa x old wanted tells x.start);
         holds = refl;
         exact = Exact-start nfa x old wanted tells empty;
       })
@@ -219,30 +201,26 @@ module _ (nfa : Automaton) (x : Search) (old : List Bool) where
         c.front
     crossed = Crossed-given 0 from.state from.limit c.gives
 
+    -- the starts that are left
+    abbrev later : List Pair
+    later = pairs_from from.state (at + 1) (from.limit - (at + 1))
+
     -- the search for any wanted pairs from the states at the position
     front-searched : Searched nfa x old wanted tells at
         (pairs_at at items (pairs_from from.state at (from.limit - at))) c.front crossed.leads.left
         crossed.leads.written
     front-searched = record {
       leads = λ target sub.
-          let pairs = pairs_at at (with_start from 0 at items)
-          (pairs_from from.state (at + 1) (from.limit - (at + 1))) in
-          let begin = subst (λ z. SearchingAt nfa x at target
-          (pairs_at at (with_start from 0 at items) (pairs_from from.state (at + 1) (from.limit - (at + 1)))) []
-          None (unmarked met) [] z [])
-          (sym (tasks-seeds at (with_start from 0 at items)
-          (pairs_from from.state (at + 1) (from.limit - (at + 1))) c.rows))
-          (fresh-search nfa x target at met (pairs_at at (with_start from 0 at items)
-          (pairs_from from.state (at + 1) (from.limit - (at + 1))))) in
+          let begin = subst (λ z. SearchingAt nfa x at target (pairs_at at (with_start from 0 at items) later) [] None
+          (unmarked met) [] z []) (sym (tasks-seeds at (with_start from 0 at items) later c.rows))
+          (fresh-search nfa x target at met (pairs_at at (with_start from 0 at items) later)) in
           let s = crossed.leads.follows.leads target (λ v t. wants-match nfa x (length old) v (sub v t))
-          (pairs_at at (with_start from 0 at items) (pairs_from from.state (at + 1) (from.limit - (at + 1)))) []
-          None begin in (
+          (pairs_at at (with_start from 0 at items) later) [] None begin in (
             s.marks,
             λ v i. let e : v.1 ≡ at = ((s.agrees v).0 i).here in omega arith,
             λ left g h. (
               after.turns + left,
-              rw (← joined-pairs from at items)
-                  (s.leads g left (after.turns + left) refl h),
+              rw (← joined-pairs from at items) (s.leads g left (after.turns + left) refl h),
             ),
           );
     }
@@ -290,68 +268,49 @@ module _ (nfa : Automaton) (x : Search) (old : List Bool) where
     FirstWay-next off =
         let whole : crossed.leads.left ≡ ToLoad [] ∷ starts_from 0 from.state (at + 1) from.limit =
         crossed.leads.whole (inr off) in
-        elim (first_match-is wanted c.front) [
-          | inl lacks ↦
-              let still : AddsFirstPattern nfa None mid false new =
-              rw lacks.0 at (subst (λ h. AddsPatterns nfa false wanted c.front mid h new)
-              off c.gathers) in
-              let searched = subst (λ z. Searched nfa x old wanted tells
-              at (pairs_at at items (pairs_from from.state at (from.limit - at))) c.front z crossed.leads.written) whole
-              front-searched in
-              record {
-                so_far = w.so_far;
-                searching = next-searching off lacks.0;
-                sound = rw c.gives.added
-                    (subst (λ ps. Sound nfa x old wanted tells (at + 1) ps)
-                    (heads-round (edges nfa x) at c.front [] (starts_from 0 from.state (at + 1) from.limit)
-                    (pairs_from from.state (at + 1) (from.limit - (at + 1)))
-                    (Formed-next nfa x at after.bits c.front c.gives.formed)
-                    (heads-seeds [] (pairs_from from.state (at + 1) (from.limit - (at + 1)))))
-                    (Sound-round nfa x old wanted tells w.sound searched rests
-                    (λ k i. seeds-later [] from.state at (from.limit - (at + 1)) k i)));
-                holds = rw still.1 (UpTo-next nfa x old wanted tells at w.so_far mid w.holds);
-                exact = rw still.1 (Exact-next nfa x old wanted tells
-                    (best-ahead kept (starts_from 0 from.state (at + 1) from.limit) w.so_far
-                    (λ k i. let l = seeds-later [] from.state at (from.limit - (at + 1)) k i in omega arith)
-                    (next-searching off lacks.0)) w.exact);
-              }
-          | inr has ↦
-              let put : AddsFirstPattern nfa (Some has.0) mid false new =
-              rw has.1 at (subst (λ h. AddsPatterns nfa false wanted c.front mid h new)
-              off c.gathers) in
-              let never : false ≡ true = put.0 in cc
-        ]
+        let n = AddsFirst-none nfa (first_match wanted c.front) mid new
+        (subst (λ h. AddsPatterns nfa false wanted c.front mid h new) off c.gathers) in
+        let searched = subst (λ z. Searched nfa x old wanted tells at
+        (pairs_at at items (pairs_from from.state at (from.limit - at))) c.front z crossed.leads.written) whole
+        front-searched in
+        record {
+          so_far = w.so_far;
+          searching = next-searching off n.0;
+          sound = rw c.gives.added
+              (subst (λ ps. Sound nfa x old wanted tells (at + 1) ps)
+              (heads-round (edges nfa x) at c.front [] (starts_from 0 from.state (at + 1) from.limit) later
+              (Formed-next nfa x at after.bits c.front c.gives.formed) (heads-seeds [] later))
+              (Sound-round nfa x old wanted tells w.sound searched rests
+              (λ k i. seeds-later [] from.state at (from.limit - (at + 1)) k i)));
+          holds = rw n.1 (UpTo-next nfa x old wanted tells at w.so_far mid w.holds);
+          exact = rw n.1 (Exact-next nfa x old wanted tells
+              (best-ahead kept (starts_from 0 from.state (at + 1) from.limit) w.so_far
+              (λ k i. let l = seeds-later [] from.state at (from.limit - (at + 1)) k i in omega arith)
+              (next-searching off n.0)) w.exact);
+        }
 
     -- a match: the states after it are dropped, and no later start joins
     pub FirstWay-cut : size_of_set old ≡ 0 → hit ≡ true
         → FirstWay (record from { limit = 0 }) (at + 1) after kept new
     unfolding seeds
     FirstWay-cut empty on =
-        elim (first_match-is wanted c.front) [
-          | inl lacks ↦
-              let still : AddsFirstPattern nfa None mid true new =
-              rw lacks.0 at (subst (λ h. AddsPatterns nfa false wanted c.front mid h new) on c.gathers) in
-              let never : true ≡ false = still.0 in cc
-          | inr has ↦
-              let put : AddsFirstPattern nfa (Some has.0) mid true new =
-              rw has.1 at (subst (λ h. AddsPatterns nfa false wanted c.front mid h new) on c.gathers)
-              in
-              let moved : kept ≡ moves (edges nfa x) (before_match wanted c.front) = c.gives.added
-              ∙ sym (c.cut refl) in
-              let none : pairs_from from.state (at + 1) (0 - (at + 1)) ≡ [] = pairs_from-end from.state (omega arith) in
-              record {
-                so_far = Some has.0;
-                searching = rw none (cut-searching has.0 has.1);
-                sound = rw (moved, none)
-                    (subst (λ ps. Sound nfa x old wanted tells (at + 1) ps)
-                    (heads-round (edges nfa x) at (before_match wanted c.front) [] [] []
-                    (λ a i. Formed-next nfa x at after.bits c.front c.gives.formed a
-                    (before_match-among wanted c.front a i)) (heads-seeds [] []))
-                    (Sound-cut nfa x old wanted tells [] w.sound front-searched rests));
-                holds = UpTo-match nfa x old wanted tells at w.so_far has.0 mid new empty w.holds
-                    (Sound-hit nfa x old wanted tells w.sound front-searched rests has.0 has.1) put.1.1 put.1.2;
-                exact = Exact-match nfa x old wanted tells has.0
-                    (best-ahead kept [] (Some has.0) (λ k i. absurd i) (cut-searching has.0 has.1)) w.exact put.1.1
-                    (has_room has.0 put.1.0 has.2.matches put.1.1) put.1.2;
-              }
-        ]
+        let put = AddsFirst-some nfa (first_match wanted c.front) mid new
+        (subst (λ h. AddsPatterns nfa false wanted c.front mid h new) on c.gathers) in
+        let matches = (first_match-cut wanted c.front put.0 put.1).matches in
+        let moved : kept ≡ moves (edges nfa x) (before_match wanted c.front) = c.gives.added ∙ sym (c.cut refl) in
+        let none : pairs_from from.state (at + 1) (0 - (at + 1)) ≡ [] = pairs_from-end from.state (omega arith) in
+        record {
+          so_far = Some put.0;
+          searching = rw none (cut-searching put.0 put.1);
+          sound = rw (moved, none)
+              (subst (λ ps. Sound nfa x old wanted tells (at + 1) ps)
+              (heads-round (edges nfa x) at (before_match wanted c.front) [] [] []
+              (λ a i. Formed-next nfa x at after.bits c.front c.gives.formed a
+              (before_match-among wanted c.front a i)) (heads-seeds [] []))
+              (Sound-cut nfa x old wanted tells [] w.sound front-searched rests));
+          holds = UpTo-match nfa x old wanted tells at w.so_far put.0 mid new empty w.holds
+              (Sound-hit nfa x old wanted tells w.sound front-searched rests put.0 put.1) put.2.1 put.2.2;
+          exact = Exact-match nfa x old wanted tells put.0
+              (best-ahead kept [] (Some put.0) (λ k i. absurd i) (cut-searching put.0 put.1)) w.exact put.2.1
+              (has_room put.0 put.2.0 matches put.2.1) put.2.2;
+        }

@@ -1,6 +1,5 @@
 -- What the loops over the positions keep.
-use Rattle.std.proofs.Common.{◌≡◌, ℕ, ◌+◌, ◌≤◌, ◌↔◌, inl, inr, Bool, true, false, List, [], length, refl, sym, subst, get_or, None, Some, cond}
-use Rattle.std.proofs.lemmas.List.{ext_get_or}
+use Rattle.std.proofs.Common.{◌≡◌, ℕ, ◌+◌, ◌≤◌, ◌↔◌, inl, inr, Bool, true, false, List, [], length, refl, subst, cond}
 use Rattle.regex_search_core.specs.PatternSets.{size_of_set}
 use Rattle.regex_search_core.specs.Search.{Search}
 use Rattle.regex_search_core.specs.declared.search.MatchKind.{MatchKind}
@@ -8,11 +7,11 @@ use Rattle.regex_search_core.specs.declared.search.MatchKind.TheVariants.{All as
 use Rattle.thompson_nfa.specs.Automaton.{Automaton, IsAutomaton}
 use Rattle.nfa_paths.specs.Graphs.{Pair}
 use Rattle.nfa_paths.specs.Paths.{space}
-use Rattle.nfa_paths.specs.Exploring.{Slots, Hit}
+use Rattle.nfa_paths.specs.Exploring.{Slots}
 use Rattle.nfa_paths.specs.Kinds.{is_resting, NoneBefore, EndsBefore, IsFrontier, first_match}
-use Rattle.nfa_paths.specs.Overlaps.{HoldsPattern, IsInsertable, IsOverlapResult}
+use Rattle.nfa_paths.specs.Overlaps.{IsInsertable, IsOverlapResult}
 use Rattle.nfa_paths.proofs.ScanAnswerLemmas.{starts-from}
-use Rattle.nfa_paths.proofs.FrontierMatchLemmas.{first_match-is}
+use Rattle.nfa_paths.proofs.FrontierMatchLemmas.{before_match-all, before_match-plain}
 use Rattle.nfa_paths.proofs.ScanLemmas.{NoneBefore-start, NoneBefore-step, NoneBefore-end}
 use Rattle.nfa_paths.proofs.SetLemmas.{full-gains, first-gains}
 use Rattle.nfa_paths.proofs.GainLemmas.{wanted-shape, GainsBefore, GainsBefore-start, GainsBefore-step, GainsBefore-end, GainsBefore-full, NoneHeld, NoneHeld-start, NoneHeld-step, NoneHeld-found, NoneHeld-end}
@@ -20,44 +19,25 @@ use Rattle.nfa_paths.proofs.SoundLemmas.{FirstAt-front}
 use Rattle.nfa_paths.proofs.UpToLemmas.{FirstAt-found, First-none}
 use Rattle.nfa_scan_core.specs.Marks.{Marks}
 use Rattle.nfa_pikevm_scan.specs.Scans.{with_start, AreStarts}
-use Rattle.nfa_pikevm_scan.specs.Overlapping.{wants, AddsPatterns, AddsAllPatterns, AddsFirstPattern, NextsOverlappingGive}
+use Rattle.nfa_pikevm_scan.specs.Overlapping.{wants, AddsPatterns, AddsAllPatterns, NextsOverlappingGive}
 use Rattle.nfa_pikevm_scan.specs.declared.scan.Starts.{Starts}
 use Rattle.nfa_pikevm_scan.proofs.FrontierLemmas.{Formed-resting}
 use Rattle.nfa_pikevm_scan.proofs.ScanLemmas.{Crossed-given}
 use Rattle.nfa_pikevm_scan.proofs.AllLemmas.{all-left}
 use Rattle.nfa_pikevm_scan.proofs.EndLemmas.{ScansAll-joined, ScansAll-over}
 use Rattle.nfa_pikevm_scan.proofs.StandsLemmas.{Stands, Stands-start, Stands-next, Stands-front}
-use Rattle.nfa_pikevm_scan.proofs.OverlapSetLemmas.{wants-tells, wants-match}
-
--- sets that hold the same patterns are one
-sets-same : (old new : List Bool) → length new ≡ length old
-    → ((k : ℕ) → HoldsPattern new k ↔ HoldsPattern old k) → new ≡ old
-sets-same old new size same = ext_get_or false new old size
-    (λ k less. of (get_or new k false) (get_or old k false) (same k).0 (same k).1)
-  where
-    of : (b c : Bool) → (b ≡ true → c ≡ true) → (c ≡ true → b ≡ true) → b ≡ c
-    of true c f g = sym (f refl)
-    of false true f g = g refl
-    of false false f g = refl
+use Rattle.nfa_pikevm_scan.proofs.OverlapSetLemmas.{AddsAll-none, AddsFirst-none, AddsFirst-some, wants-tells, wants-match}
 
 -- without a match that counts the set stays as it is
 pub set-stays : {nfa : Automaton} {x : Search} {at n : ℕ} (past : Bool) {met : Marks} {items : List (ℕ × Slots)}
     {set : List Bool} {hit : Bool} {after : Marks} {kept : List (ℕ × Slots)} {new : List Bool}
     → NextsOverlappingGive nfa x at past n met items set hit after kept new → hit ≡ false → new ≡ set
-set-stays true {set = set} {new = new} c off = sets-same set new c.gathers.capacity (λ k. (
-  λ h. elim ((c.gathers.gained k).0 h) [
-    | inl o ↦ o
-    | inr w ↦ absurd (c.gathers.none off k w.0 w.1)
-  ],
-  λ o. (c.gathers.gained k).1 (inl o),
-))
-set-stays {nfa} {x} {n = n} false {set = set} {new = new} c off =
-    of (first_match (wants nfa x n) c.front)
-    (subst (λ h. AddsPatterns nfa false (wants nfa x n) c.front set h new) off c.gathers)
+set-stays {nfa} {x} {n = n} past {set = set} {new = new} c off =
+    of past (subst (λ h. AddsPatterns nfa past (wants nfa x n) c.front set h new) off c.gathers)
   where
-    of : (g : Hit) → AddsFirstPattern nfa g set false new → new ≡ set
-    of None still = still.1
-    of (Some a) put = let never : false ≡ true = put.0 in cc
+    of : (past : Bool) → AddsPatterns nfa past (wants nfa x n) c.front set false new → new ≡ set
+    of true g = AddsAll-none nfa (wants nfa x n) g
+    of false g = (AddsFirst-none nfa (first_match (wants nfa x n) c.front) set new g).1
 
 -- Of a scan, `old` is the set as it began.
 module _ (nfa : Automaton) (x : Search) (old : List Bool) where
@@ -130,27 +110,14 @@ module _ (nfa : Automaton) (x : Search) (old : List Bool) where
       → IsFrontier (space nfa x) (is_resting nfa) wanted [] turns front at
       → AddsPatterns nfa past wanted front old false new
       → (new ≡ old) × NoneMet past (at + 1)
-  unmet true new none f g = (
-    sets-same old new g.capacity (λ k. (
-      λ h. elim ((g.gained k).0 h) [
-        | inl o ↦ o
-        | inr w ↦ absurd (g.none refl k w.0 w.1)
-      ],
-      λ o. (g.gained k).1 (inl o),
-    )),
-    NoneHeld-step nfa x old wanted tells f none (λ k less h. g.none refl k less h),
-  )
+  unmet true new none f g =
+      (AddsAll-none nfa wanted g, NoneHeld-step nfa x old wanted tells f none (λ k less h. g.none refl k less h))
   unmet false {at} {front} new none f g =
-      elim (first_match-is wanted front) [
-        | inl lacks ↦
-            let still : AddsFirstPattern nfa None old false new = rw lacks.0 at g in (
-              still.1,
-              NoneBefore-step (space nfa x) (is_resting nfa) wanted []
-                  (wanted-shape nfa x old wanted tells) none f lacks.1,
-            )
-        | inr has ↦ let met : AddsFirstPattern nfa (Some has.0) old false new = rw has.1 at g in
-            let never : false ≡ true = met.0 in cc
-      ]
+      let n = AddsFirst-none nfa (first_match wanted front) old new g in (
+        n.1,
+        NoneBefore-step (space nfa x) (is_resting nfa) wanted [] (wanted-shape nfa x old wanted tells) none f
+            (rw (before_match-all wanted front n.0) at (before_match-plain wanted front)),
+      )
 
   pub Earliest-next : (past : Bool) {from : Starts} {at before : ℕ} {met : Marks} {items : List (ℕ × Slots)}
       {mid : List Bool} {hit : Bool} {after : Marks}
@@ -190,17 +157,12 @@ module _ (nfa : Automaton) (x : Search) (old : List Bool) where
       let g : AddsPatterns nfa false wanted c.front old true new =
       subst (λ s. AddsPatterns nfa false wanted c.front s true new) a.still
       (subst (λ h. AddsPatterns nfa false wanted c.front mid h new) on c.gathers) in
-      elim (first_match-is wanted c.front) [
-        | inl lacks ↦ let still : AddsFirstPattern nfa None old true new = rw lacks.0 at g in
-            let never : true ≡ false = still.0 in cc
-        | inr has ↦
-            let put : AddsFirstPattern nfa (Some has.0) old true new = rw has.1 at g in
-            let s = all-left wanted (wants-match nfa x (length old))
-            (Crossed-given 0 from.state from.limit c.gives) (ScansAll-joined nfa x from at 0 a.stands.scans) in
-            let first = FirstAt-front nfa x old wanted tells s
-            (Formed-resting nfa x at after.bits c.front c.gives.formed) has.0 has.1 in
-            FirstAt-found nfa x old wanted tells a.none first put.1.1 (empty refl) put.1.2
-      ]
+      let put = AddsFirst-some nfa (first_match wanted c.front) old new g in
+      let s = all-left wanted (wants-match nfa x (length old)) (Crossed-given 0 from.state from.limit c.gives)
+      (ScansAll-joined nfa x from at 0 a.stands.scans) in
+      let first = FirstAt-front nfa x old wanted tells s
+      (Formed-resting nfa x at after.bits c.front c.gives.formed) put.0 put.1 in
+      FirstAt-found nfa x old wanted tells a.none first put.2.1 (empty refl) put.2.2
 
   pub Earliest-end : (past : Bool) {from : Starts} {at before : ℕ} {met : Marks} {items : List (ℕ × Slots)}
       {new : List Bool}

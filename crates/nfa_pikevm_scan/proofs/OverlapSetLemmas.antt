@@ -1,6 +1,7 @@
 -- What is put into a set of patterns at a position.
-use Rattle.std.proofs.Common.{◌≡◌, ℕ, ◌<◌, ◌⊎◌, ◌↔◌, inl, inr, Bool, true, false, List, [], ◌∷◌, ◌++◌, length, refl, sym, ◌∙◌, arith, Option, None, Some, not, ◌&&◌, ◌||◌, nat_lt}
-use Rattle.std.proofs.lemmas.Bool.{cases_Bool, cases_lt, lt-ltb, le-ltb}
+use Rattle.std.proofs.Common.{◌≡◌, ℕ, ◌<◌, ◌⊎◌, ◌↔◌, inl, inr, Bool, true, false, List, [], ◌∷◌, ◌++◌, length, get_or, refl, sym, ◌∙◌, arith, Option, None, Some, not, ◌&&◌, ◌||◌, nat_lt}
+use Rattle.std.proofs.lemmas.Bool.{and_parts, cases_Bool, lt-ltb, ltb-true}
+use Rattle.std.proofs.lemmas.List.{ext_get_or}
 use Rattle.std.proofs.lemmas.Bool.Decides.{nat_tests}
 use Rattle.regex_search_core.specs.Boundary.{IsBoundary}
 use Rattle.regex_search_core.specs.PatternSets.{with_pattern}
@@ -13,8 +14,10 @@ use Rattle.nfa_paths.specs.Kinds.{HoldsMatch, NoMatch, first_match}
 use Rattle.nfa_paths.specs.Overlaps.{pattern_at, IsPermittedEnd, IsInsertable}
 use Rattle.nfa_paths.proofs.MemberLemmas.{In-append_left, In-append_right, In-append}
 use Rattle.nfa_paths.proofs.SetLemmas.{holds-with, length-with}
+use Rattle.nfa_paths.proofs.TestLemmas.{same_test}
 use Rattle.nfa_pikevm_scan.specs.States.{Frontier}
-use Rattle.nfa_pikevm_scan.specs.Overlapping.{is_boundary, permits, is_below, wants, AddsFirstPattern, AddsPatterns}
+use Rattle.nfa_pikevm_scan.specs.Overlapping.{is_boundary, permits, is_below, wants, AddsAllPatterns, AddsFirstPattern, AddsPatterns}
+use Rattle.nfa_pikevm_scan.proofs.SinkLemmas.{first-none}
 
 -- whether a position is a boundary
 boundary-to : (haystack : List ℕ) (i : ℕ) → is_boundary haystack i ≡ true → IsBoundary haystack i
@@ -52,7 +55,7 @@ module _ (nfa : Automaton) (x : Search) where
     pub wants-tells : (v : Pair) → (wants nfa x n v ≡ true) ↔ IsInsertable nfa x n v
     unfolding wants
     wants-tells v = (
-      λ t. let both = parts (permits nfa x v.1) (is_below n (pattern_at nfa v)) t in
+      λ t. let both = and_parts (permits nfa x v.1) (is_below n (pattern_at nfa v)) t in
           of (pattern_at nfa v) refl ((permits-tells v.1).0 both.0) both.1,
       λ h.
           let p : permits nfa x v.1 ≡ true = (permits-tells v.1).1 h.permitted.ends in
@@ -61,10 +64,6 @@ module _ (nfa : Automaton) (x : Search) where
           rw (p, is) less,
     )
       where
-        parts : (b c : Bool) → (b && c) ≡ true → (b ≡ true) × (c ≡ true)
-        parts true c t = (refl, t)
-        parts false c t = cc
-
         of : (o : Option ℕ) → pattern_at nfa v ≡ o → IsPermittedEnd nfa x v.1 → is_below n o ≡ true
             → IsInsertable nfa x n v
         of None e ends t = cc
@@ -72,10 +71,7 @@ module _ (nfa : Automaton) (x : Search) where
           permitted = record { matches = rw e refl; ends = ends };
           pattern = k;
           pattern_is = e;
-          below = elim (cases_lt k n) [
-            | inl less ↦ less
-            | inr more ↦ let f : nat_lt k n ≡ false = le-ltb k n more in cc
-          ];
+          below = ltb-true k n t;
         }
 
     pub wants-match : (v : Pair) → wants nfa x n v ≡ true → is_match nfa v ≡ true
@@ -89,6 +85,18 @@ module _ (nfa : Automaton) (x : Search) where
 
 -- what is put into the set
 
+-- with no match that counts there is no wanted pair, and the set stays
+pub AddsFirst-none : (nfa : Automaton) (first : Hit) (set new : List Bool) → AddsFirstPattern nfa first set false new
+    → (first ≡ None) × (new ≡ set)
+AddsFirst-none nfa None set new h = (refl, h.1)
+AddsFirst-none nfa (Some a) set new h = let never : false ≡ true = h.0 in cc
+
+-- with one, the set gains the pattern of the first wanted pair
+pub AddsFirst-some : (nfa : Automaton) (first : Hit) (set new : List Bool) → AddsFirstPattern nfa first set true new
+    → (a : Pair × Slots) × (first ≡ Some a) × ((k : ℕ) × (pattern_at nfa a.0 ≡ Some k) × (new ≡ with_pattern set k))
+AddsFirst-some nfa None set new h = let never : true ≡ false = h.0 in cc
+AddsFirst-some nfa (Some a) set new h = (a, refl, h.1)
+
 module _ (nfa : Automaton) (wanted : Pair → Bool) where
   -- no wanted pair: the set stays
   pub AddsPatterns-none : (past : Bool) (front : Frontier) (set : List Bool) → NoMatch wanted front
@@ -99,15 +107,7 @@ module _ (nfa : Automaton) (wanted : Pair → Bool) where
     some = λ never. cc;
     none = λ off k below h. plain h.item h.among h.matches;
   }
-  AddsPatterns-none false front set plain = of front plain
-    where
-      of : (front : Frontier) → NoMatch wanted front → AddsPatterns nfa false wanted front set false set
-      of [] plain = (refl, refl)
-      of (a ∷ front) plain =
-          elim (cases_Bool (wanted a.0)) [
-            | inl t ↦ absurd (plain a (inl refl) t)
-            | inr f ↦ rw f (of front (λ b i. plain b (inr i)))
-          ]
+  AddsPatterns-none false front set plain = rw (first-none wanted front plain) (refl, refl)
 
   -- one wanted pair, of a pattern that the set has room for
   pub AddsPatterns-one : (past : Bool) (a : Pair × Slots) (k : ℕ) (set : List Bool) → wanted a.0 ≡ true
@@ -144,14 +144,13 @@ module _ (nfa : Automaton) (wanted : Pair → Bool) where
         | inr e ↦ let rest : first_match wanted f ≡ None = rw e at none in rw e (first-append f g rest)
       ]
 
-  -- what was met in no front
-  first-none : (front : Frontier) (set new : List Bool) → AddsPatterns nfa false wanted front set false new
-      → first_match wanted front ≡ None
-  first-none front set new = of (first_match wanted front)
-    where
-      of : (o : Hit) → AddsFirstPattern nfa o set false new → o ≡ None
-      of None h = refl
-      of (Some a) h = let never : false ≡ true = h.0 in cc
+  -- with no match that counts the set stays
+  pub AddsAll-none : {front : Frontier} {set new : List Bool} → AddsAllPatterns nfa wanted front set false new
+      → new ≡ set
+  AddsAll-none {set = set} {new} g = ext_get_or false new set g.capacity (λ k less.
+      same_test (get_or new k false) (get_or set k false)
+      (λ h. elim ((g.gained k).0 h) [ inl o ↦ o | inr w ↦ absurd (g.none refl k w.0 w.1) ])
+      (λ o. (g.gained k).1 (inl o)))
 
   -- one front after another
   pub AddsPatterns-then : (past : Bool) (f g : Frontier) (old mid new : List Bool) (h k : Bool)
@@ -216,9 +215,8 @@ module _ (nfa : Automaton) (wanted : Pair → Bool) where
   AddsPatterns-then false f g old mid new h k on a b =
       let off : h ≡ false = on refl in
       let first : AddsPatterns nfa false wanted f old false mid = rw off at a in
-      let none = first-none f old mid first in
-      let still : mid ≡ old = (let at : AddsFirstPattern nfa None old false mid = rw none at first in at.1) in
-      rw (first-append f g none) (of (first_match wanted g) k off (rw still at b))
+      let n = AddsFirst-none nfa (first_match wanted f) old mid first in
+      rw (first-append f g n.0) (of (first_match wanted g) k off (rw n.1 at b))
     where
       of : (o : Hit) (k : Bool) → h ≡ false → AddsFirstPattern nfa o old k new → AddsFirstPattern nfa o old (k || h) new
       of None true off w = let never : true ≡ false = w.0 in cc

@@ -1,6 +1,6 @@
 -- What a set of patterns is when the matches of a position were taken.
-use Rattle.std.proofs.Common.{◌≡◌, ℕ, ◌<◌, ◌≤◌, inl, inr, Bool, true, false, List, [], ◌∷◌, ◌++◌, length, map, refl, sym, ap, ◌∙◌, arith, Some, not, ◌&&◌, ◌||◌, nat_lt, All}
-use Rattle.std.proofs.lemmas.Bool.{cases_Bool, cases_lt, le-ltb}
+use Rattle.std.proofs.Common.{◌≡◌, ℕ, ◌≤◌, inl, inr, Bool, true, false, List, [], ◌∷◌, ◌++◌, length, map, refl, sym, ap, ◌∙◌, arith, Some, not, ◌&&◌, ◌||◌, nat_lt, All}
+use Rattle.std.proofs.lemmas.Bool.{and_parts, both_ways, cases_Bool, false_from_ne_true, ltb-true, not-true}
 use Rattle.std.proofs.lemmas.List.Elements.{All-head, All-tail}
 use Rattle.regex_search_core.specs.Patterns.{number_of}
 use Rattle.regex_search_core.specs.Search.{Search}
@@ -18,7 +18,7 @@ use Rattle.nfa_pikevm_scan.specs.Overlapping.{permits, wants, AddsPatterns, Goes
 use Rattle.nfa_pikevm_scan.specs.Sinks.{counts, PatternSinkTakes, Takes, ClosuresGive}
 use Rattle.nfa_pikevm_scan.specs.Sinks.Takes.{none, plain, taken, ends}
 use Rattle.nfa_pikevm_scan.specs.declared.overlap.PatternSink.{PatternSink}
-use Rattle.nfa_pikevm_scan.proofs.EdgeLemmas.{moves-one}
+use Rattle.nfa_pikevm_scan.proofs.FrontierLemmas.{moves-one}
 use Rattle.nfa_pikevm_scan.proofs.SinkLemmas.{PositionGives-if}
 use Rattle.nfa_pikevm_scan.proofs.OverlapSetLemmas.{wants-match, wants-here, AddsPatterns-none, AddsPatterns-one, AddsPatterns-then}
 
@@ -41,9 +41,7 @@ or-false false = refl
 
 -- a match that ends the position counts, and is not passed
 both : (c past : Bool) → true ≡ (c && not past) → (c ≡ true) × (past ≡ false)
-both true true e = absurd (cc e)
-both true false e = (refl, refl)
-both false past e = absurd (cc e)
+both c past e = let p = and_parts c (not past) (sym e) in (p.0, not-true past p.1)
 
 -- any other match does not count, if matches are not passed
 other : (c past : Bool) → false ≡ (c && not past) → past ≡ false → c ≡ false
@@ -68,11 +66,8 @@ module _ (nfa : Automaton) (x : Search) (at n : ℕ) where
       ∙ sym (wants-here nfa x n a.0.0 a.0.1 number is)
 
   plain-unwanted : (v : Pair) → is_match nfa v ≡ false → wants nfa x n v ≡ false
-  plain-unwanted v off = of (wants nfa x n v) (wants-match nfa x n v)
-    where
-      of : (b : Bool) → (b ≡ true → is_match nfa v ≡ true) → b ≡ false
-      of true h = sym (h refl) ∙ off
-      of false h = refl
+  plain-unwanted v off = false_from_ne_true (wants nfa x n v)
+      (λ t. both_ways (is_match nfa v) off (wants-match nfa x n v t))
 
   Knows-after : {v w : PatternSink} {past : Bool} {p : PatternID} {row : Slots} {ended : Bool} → Knows past v
       → PatternSinkTakes v p row ended w → Knows past w
@@ -104,18 +99,9 @@ module _ (nfa : Automaton) (x : Search) (at n : ℕ) where
       elim (cases_Bool (counts v p)) [
         | inl c ↦ rw (c, t.put c)
             (AddsPatterns-one nfa (wants nfa x n) past a (number_of p) v.patterns.now (sym wanted ∙ c) is
-            (below v.permitted c))
+            (ltb-true (number_of p) (length v.patterns.now) (and_parts v.permitted _ c).1))
         | inr c ↦ rw (c, t.other c) (gathers-other a past v.patterns.now (sym wanted ∙ c))
       ]
-    where
-      below : (b : Bool) → (b && nat_lt (number_of p) (length v.patterns.now)) ≡ true
-          → number_of p < length v.patterns.now
-      below true e = elim (cases_lt (number_of p) (length v.patterns.now)) [
-        | inl less ↦ less
-        | inr more ↦ let f : nat_lt (number_of p) (length v.patterns.now) ≡ false =
-            le-ltb (number_of p) (length v.patterns.now) more in cc
-      ]
-      below false e = cc
 
   -- the patterns of a front, of pairs at the position
   abbrev Gathered : Bool → Frontier → PatternSink → PatternSink → Type 0

@@ -1,4 +1,4 @@
--- The number of states at a position, if starts join them or are skipped.
+-- The room of the threads, and the states at a position if starts join them or are skipped.
 use Rattle.std.proofs.Common.{◌≡◌, ℕ, ◌+◌, ◌<◌, ◌≤◌, inl, inr, List, [], ◌∷◌, ◌++◌, length, refl, ap, sym, subst, ◌∙◌, arith, Bool, length-append, All}
 use Rattle.std.proofs.lemmas.Bool.{cases_lt, lt-ltb, le-ltb}
 use Rattle.std.proofs.lemmas.List.Elements.{All-push, All-nil}
@@ -18,14 +18,14 @@ AreAt-none nfa x turns = record {
   paid = record { bound = omega arith };
 }
 
--- the threads that are kept
+-- threads that keep their sizes, from one moment to a later one
 pub KeepsThreads-none : (t : Threads) → KeepsThreads t t
 KeepsThreads-none t = record { width = refl; sizes = refl; scans = refl }
 
 pub KeepsThreads-then : {a b c : Threads} → KeepsThreads a b → KeepsThreads b c → KeepsThreads a c
 KeepsThreads-then k l = record { width = l.width ∙ k.width; sizes = l.sizes ∙ k.sizes; scans = l.scans ∙ k.scans }
 
--- and so is their room
+-- they keep their room
 pub HaveRows-kept : {nfa : Automaton} {width : ℕ} {a b : Threads} → HaveRows nfa width a → KeepsThreads a b
     → HaveRows nfa width b
 HaveRows-kept {nfa} {width} r k =
@@ -70,7 +70,7 @@ module _ (begins : Starts) (width at : ℕ) (items : List (ℕ × Slots)) where
         | inr past ↦ past
       ]
 
--- they are no more than one more if starts are skipped, either
+-- if starts are skipped, at most one joins, too
 pub few-joins : {table : List Bool} {x : Search} {begins : Starts} {limit width at : ℕ} {items : List (ℕ × Slots)}
     {to : ℕ} {kept : List (ℕ × Slots)} → AddsStart table x begins limit width at items to kept
     → length kept ≤ length items + 1

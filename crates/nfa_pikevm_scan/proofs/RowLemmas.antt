@@ -1,6 +1,5 @@
 -- Rows and marks in memory.
-use Rattle.std.proofs.Common.{◌≡◌, ℕ, suc, zero, ◌+◌, ◌*◌, ◌<◌, ◌≤◌, ◌==◌, List, [], ◌∷◌, ◌++◌, length, get_or, set, take, drop, replicate, refl, ap, sym, ◌∙◌, arith, Bool, true, false, inl, inr, length-drop, length-set, All, Option, None}
-use Rattle.std.proofs.lemmas.Bool.Decides.{eqb_tells}
+use Rattle.std.proofs.Common.{◌≡◌, ℕ, suc, zero, ◌+◌, ◌*◌, ◌<◌, ◌≤◌, ◌==◌, List, [], ◌∷◌, ◌++◌, length, get_or, set, take, drop, replicate, refl, ap, sym, ◌∙◌, arith, Bool, true, false, eq-eqb, ne_eqb, length-drop, length-set, All, Option, None}
 use Rattle.std.proofs.lemmas.List.{take-take, take-append-le, drop-append-le, drop-take, drop-drop, length-take-le, get_or-map, map-set, length-map, take_more_set, length-replicate}
 use Rattle.std.proofs.lemmas.List.Elements.{All-head, All-tail}
 use Rattle.nfa_paths.specs.Exploring.{Slots}
@@ -54,16 +53,10 @@ drop-items_of width (suc i) (s ∷ states) cells =
     ∙ ap (items_of width (drop i states)) (drop-drop (i * width) width cells
     ∙ ap (λ k. drop k cells) (sym (times-suc i width)))
 
-eq-same : (n : ℕ) → (n == n) ≡ true
-eq-same n = elim (eqb_tells n n) [ inl e ↦ e.0 | inr e ↦ absurd (e.1 refl) ]
-
-eq-differs : (a b : ℕ) → a < b → (a == b) ≡ false
-eq-differs a b less = elim (eqb_tells a b) [ inl e ↦ absurd (let same = e.1 in omega arith) | inr e ↦ e.0 ]
-
 pub marks_of-set : (newest : ℕ) (stamps : List ℕ) (k : ℕ)
     → marks_of newest (set stamps k newest) ≡ set (marks_of newest stamps) k true
 marks_of-set newest stamps k = map-set (λ stamp. stamp == newest) stamps k newest
-    ∙ ap (λ b. set (marks_of newest stamps) k b) (eq-same newest)
+    ∙ ap (λ b. set (marks_of newest stamps) k b) (eq-eqb newest newest refl)
 
 -- a newer stamp marks nothing
 pub marks_of-newer : (newest : ℕ) (stamps : List ℕ) → All (λ stamp. stamp ≤ newest) stamps
@@ -71,7 +64,7 @@ pub marks_of-newer : (newest : ℕ) (stamps : List ℕ) → All (λ stamp. stamp
 marks_of-newer newest [] older = refl
 marks_of-newer newest (s ∷ stamps) older =
     let h : s ≤ newest = All-head (λ stamp. stamp ≤ newest) s stamps older in
-    let differs : (s == newest + 1) ≡ false = eq-differs s (newest + 1) (omega arith) in
+    let differs : (s == newest + 1) ≡ false = ne_eqb s (newest + 1) (λ e. omega arith) in
     ap (λ b. b ∷ marks_of (newest + 1) stamps) differs
     ∙ ap (λ l. false ∷ l) (marks_of-newer newest stamps (All-tail (λ stamp. stamp ≤ newest) s stamps older))
 
@@ -101,7 +94,7 @@ pub marks_of-other : (newest : ℕ) (stamps : List ℕ) (k v : ℕ) (b : Bool) �
     → get_or (marks_of newest stamps) k b ≡ false
 marks_of-other newest stamps k v b h is other =
     get_or-map (λ stamp. stamp == newest) stamps k v b h ∙ ap (λ s. s == newest) (sym is)
-    ∙ elim (eqb_tells v newest) [ inl e ↦ absurd (other e.1) | inr e ↦ e.0 ]
+    ∙ ne_eqb v newest other
 
 -- the fields as a value
 abbrev pub active_of : ℕ → List ℕ → Slots → ℕ → Active

@@ -1,5 +1,6 @@
 -- The matches of a front, taken in order.
-use Rattle.std.proofs.Common.{◌≡◌, ℕ, inl, inr, Bool, true, false, List, [], ◌∷◌, ◌++◌, refl, sym, subst, Some}
+use Rattle.std.proofs.Common.{◌≡◌, ℕ, inl, inr, Bool, true, false, List, [], ◌∷◌, ◌++◌, refl, sym, subst, Some, None}
+use Rattle.std.proofs.lemmas.Bool.{false_from_ne_true}
 use Rattle.regex_search_core.specs.Search.{Search}
 use Rattle.regex_search_core.specs.Patterns.{number_of}
 use Rattle.regex_search_core.specs.declared.primitives.PatternID.{PatternID}
@@ -7,11 +8,19 @@ use Rattle.thompson_nfa.specs.Automaton.{Automaton}
 use Rattle.nfa_paths.specs.Graphs.{Pair}
 use Rattle.nfa_paths.specs.Paths.{node_at, pattern_of, is_match}
 use Rattle.nfa_paths.specs.Exploring.{Slots}
-use Rattle.nfa_paths.specs.Kinds.{NoMatch}
+use Rattle.nfa_paths.specs.Kinds.{NoMatch, first_match}
+use Rattle.nfa_paths.proofs.FrontierMatchLemmas.{first_match-is, first_match-cut}
 use Rattle.nfa_scan_core.specs.Marks.{Marks}
 use Rattle.nfa_pikevm_scan.specs.States.{Frontier, EndsInMatch, PositionGives}
 use Rattle.nfa_pikevm_scan.specs.Sinks.{Takes}
 use Rattle.nfa_pikevm_scan.specs.Sinks.Takes.{none, plain, taken, ends}
+
+-- a front with no match has no first one
+pub first-none : (test : Pair → Bool) (front : Frontier) → NoMatch test front → first_match test front ≡ None
+first-none test front off = elim (first_match-is test front) [
+  | inl h ↦ h.0
+  | inr h ↦ absurd (off h.0 (first_match-cut test front h.0 h.1).among h.2.matches)
+]
 
 module _ {V : Type 0} {nfa : Automaton} {takes : V → PatternID → Slots → Bool → V → Type 0} where
   -- one front after another
@@ -24,12 +33,8 @@ module _ {V : Type 0} {nfa : Automaton} {takes : V → PatternID → Slots → B
   -- a front with no match
   pub Takes-none : (front : Frontier) (v : V) → NoMatch (is_match nfa) front → Takes nfa takes front v false v
   Takes-none [] v off = none
-  Takes-none (a ∷ front) v off = plain (of (is_match nfa a.0) (λ t. off a (inl refl) t))
+  Takes-none (a ∷ front) v off = plain (false_from_ne_true (is_match nfa a.0) (off a (inl refl)))
       (Takes-none front v (λ b i. off b (inr i)))
-    where
-      of : (b : Bool) → (b ≡ true → ⊥) → b ≡ false
-      of true h = absurd (h refl)
-      of false h = refl
 
   -- one match
   takes-one : {a : Pair × Slots} {v w : V} (ended : Bool) (pattern : PatternID)

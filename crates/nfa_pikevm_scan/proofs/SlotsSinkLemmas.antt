@@ -11,7 +11,7 @@ use Rattle.nfa_pikevm_scan.specs.States.{Frontier, moves, meant, IsHit, GoesOn, 
 use Rattle.nfa_pikevm_scan.specs.Sinks.{SlotsSinkTakes, Takes, ClosuresGive}
 use Rattle.nfa_pikevm_scan.specs.Sinks.Takes.{none, plain, taken, ends}
 use Rattle.nfa_pikevm_scan.specs.declared.sink.SlotsSink.{SlotsSink}
-use Rattle.nfa_pikevm_scan.proofs.EdgeLemmas.{moves-one}
+use Rattle.nfa_pikevm_scan.proofs.FrontierLemmas.{moves-one}
 use Rattle.nfa_pikevm_scan.proofs.SinkLemmas.{PositionGives-if}
 
 -- whether a match ends the position

@@ -1,5 +1,5 @@
 -- The work of a position: what may be left out of it, and how the start joins it.
-use Rattle.std.proofs.Common.{◌≡◌, ℕ, suc, zero, ◌+◌, ◌<◌, ◌≤◌, ◌⊎◌, ◌↔◌, inl, inr, List, [], ◌∷◌, ◌++◌, map, refl, ap, sym, ◌∙◌, arith, subst, Bool, None}
+use Rattle.std.proofs.Common.{◌≡◌, ℕ, suc, zero, ◌+◌, ◌<◌, ◌≤◌, ◌⊎◌, ◌↔◌, inl, inr, List, [], ◌∷◌, ◌++◌, map, refl, ap, sym, ◌∙◌, arith, Bool, None}
 use Rattle.std.proofs.lemmas.Bool.{cases_lt, lt-ltb, le-ltb}
 use Rattle.nfa_paths.specs.Graphs.{Pair, In, Space}
 use Rattle.nfa_paths.specs.FirstPaths.{IsFirst}
@@ -178,15 +178,12 @@ module _ (space : Space) (target : Pair → Bool) (width state limit : ℕ) wher
   AnswersFor-pass at dead =
       elim (cases_lt at limit) [
         | inl less ↦
-            subst (λ (w : List Task). AnswersFor space target (Load (blank width) ∷ w)
-            (Load (blank width) ∷ starts_from width state (at + 1) limit)) (sym (starts_from-step width state less))
+            rw (starts_from-step width state less)
             (AnswersFor-dead space target (blank width) (state, at) (starts_from width state (at + 1) limit) dead)
         | inr past ↦
             let later : limit ≤ at + 1 = omega arith in
-            subst (λ (w : List Task). AnswersFor space target (Load (blank width) ∷ w)
-            (Load (blank width) ∷ starts_from width state (at + 1) limit))
-            (starts_from-end width state later ∙ sym (starts_from-end width state past))
-            (AnswersFor-same space target (blank width) (starts_from width state (at + 1) limit))
+            rw (starts_from-end width state later, starts_from-end width state past)
+            (AnswersFor-same space target (blank width) [])
       ]
 
   -- and so all up to a position
@@ -196,9 +193,7 @@ module _ (space : Space) (target : Pair → Bool) (width state limit : ℕ) wher
       (Load (blank width) ∷ starts_from width state to limit)
   AnswersFor-skip zero at to is dead =
       let same : to ≡ at = omega arith in
-      subst (λ (n : ℕ). AnswersFor space target (Load (blank width) ∷ starts_from width state at limit)
-      (Load (blank width) ∷ starts_from width state n limit)) (sym same)
-      (AnswersFor-same space target (blank width) (starts_from width state at limit))
+      rw same (AnswersFor-same space target (blank width) (starts_from width state at limit))
   AnswersFor-skip (suc count) at to is dead =
       let next : to ≡ at + 1 + count = omega arith in
       AnswersFor-then space target (AnswersFor-pass at (dead at (omega arith) (omega arith)))

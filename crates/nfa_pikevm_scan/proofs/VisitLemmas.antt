@@ -1,8 +1,9 @@
 -- The result of a turn that enters a state, for each kind of state.
 use Rattle.std.proofs.Common.{◌≡◌, ℕ, suc, zero, ◌+◌, ◌<◌, ◌≤◌, List, [], ◌∷◌, ◌++◌, length, get_or, set, map, reverse, drop, take, refl, ap, sym, ◌∙◌, arith, append_assoc, append-nil, Bool, true, false, inl, inr, get_or-set_same, Option, Some, None, SomeIff, All, option_and_then, slice_get, sum_by}
 use Rattle.std.proofs.lemmas.Option.{slice_get-map, get_or_from_slice_get}
-use Rattle.std.proofs.lemmas.List.{length-append, length-drop, map_push, get_or_default}
-use Rattle.std.proofs.lemmas.List.Elements.{All-push, All-head, All-tail, All-weaker}
+use Rattle.std.proofs.lemmas.List.{length-append, length-drop, length-map, length-reverse, map_push, get_or_default}
+use Rattle.std.proofs.lemmas.Bool.{both_ways}
+use Rattle.std.proofs.lemmas.List.Elements.{All-push, All-weaker}
 use Rattle.std.proofs.lemmas.List.Sums.{sum_by_push, sum-map}
 use Rattle.std.proofs.lemmas.Grind.{reverse_onto}
 use Rattle.regex_search_core.specs.Search.{Search}
@@ -12,15 +13,15 @@ use Rattle.thompson_nfa.specs.Automaton.{Automaton, Node}
 use Rattle.thompson_nfa.specs.Automaton.Node.{Look, Union, BinaryUnion, Capture, Fail, Match}
 use Rattle.thompson_nfa.specs.Looks.{look_holds}
 use Rattle.thompson_nfa.specs.declared.look.Look as looks
-use Rattle.nfa_paths.specs.Graphs.{Pair, In}
+use Rattle.nfa_paths.specs.Graphs.{Pair}
 use Rattle.nfa_paths.specs.Paths.{degree, node_at, pattern_of, slot_of, edges, edges_of, byte_at, target_on, is_match}
 use Rattle.nfa_paths.specs.Exploring.{Task, Slots}
 use Rattle.nfa_paths.specs.Exploring.Task.{Explore, Load}
 use Rattle.nfa_paths.specs.Kinds.{rests}
 use Rattle.nfa_paths.specs.Turns.{marked_sum}
+use Rattle.nfa_paths.proofs.MemberLemmas.{All-In}
 use Rattle.nfa_paths.proofs.TurnLemmas.{marked_sum-set, marked_sum-le}
 use Rattle.nfa_paths.proofs.ScanningLemmas.{once-keep}
-use Rattle.nfa_paths.proofs.ScanAnswerLemmas.{edges-onward, edges-rise}
 use Rattle.nfa_scan_core.proofs.TargetLemmas.{target-degree}
 use Rattle.nfa_scan_core.specs.Marks.{Marks}
 use Rattle.nfa_pikevm_scan.specs.Needs.{room_of}
@@ -29,10 +30,9 @@ use Rattle.nfa_pikevm_scan.specs.declared.closure.Move.{Move}
 use Rattle.nfa_pikevm_scan.specs.declared.closure.Move.TheVariants.{On, Matched, DeadEnd}
 use Rattle.nfa_pikevm_scan.specs.declared.frame.FollowEpsilon.{FollowEpsilon}
 use Rattle.nfa_pikevm_scan.specs.declared.frame.FollowEpsilon.TheVariants.{Explore as ToExplore, Restore}
-use Rattle.nfa_pikevm_scan.proofs.EdgeLemmas.{edges-move, moves-one}
 use Rattle.nfa_pikevm_scan.proofs.EpsilonClosureLemmas.{Follows-then, Follows-marked, Follows-plain, Follows-write, Follows-unkept, Follows-keep, Follows-unrestored}
 use Rattle.nfa_pikevm_scan.proofs.ApplyFrameLemmas.{work_onto-push}
-use Rattle.nfa_pikevm_scan.proofs.FrontierLemmas.{sum-ones}
+use Rattle.nfa_pikevm_scan.proofs.FrontierLemmas.{sum-ones, edges-move, moves-one}
 use Rattle.nfa_scan_core.proofs.AlternateLemmas.{first-drop, none-nil}
 use Rattle.nfa_paths.proofs.StartLemmas.{node_at-get}
 
@@ -118,18 +118,10 @@ module _ {nfa : Automaton} {s : ℕ} {node : Node} {m n : Marks} (e : Entered nf
               (rw (node_at-get nfa s node e.is) r);
           marked = All-push (λ a. get_or n.bits a.0.0 false ≡ true) before row g.marked (rw e.marked here);
           once = once-keep before (s, at) slots g.once
-              (λ a i v. let k : get_or m.bits a.0.0 false ≡ true = among before f.marked a i in
+              (λ a i v. let k = All-In (λ (b : Pair × Slots). get_or m.bits b.0.0 false ≡ true) before f.marked a i in
               let l : get_or m.bits s false ≡ true = ap (λ w. get_or m.bits w.0 false) (sym v) ∙ k in
               absurd (cc (l, unmarked)));
         }
-      where
-        among : (front : Frontier) → All (λ a. get_or m.bits a.0.0 false ≡ true) front → (a : Pair × Slots) → In a front
-            → get_or m.bits a.0.0 false ≡ true
-        among [] all a i = absurd i
-        among (b ∷ front) all a i = elim i [
-          | inl same ↦ rw same (All-head (λ c. get_or m.bits c.0.0 false ≡ true) b front all)
-          | inr later ↦ among front (All-tail (λ c. get_or m.bits c.0.0 false ≡ true) b front all) a later
-        ]
 
 -- The result of a turn that adds no pair to the front.
 module _ {nfa : Automaton} {x : Search} {at s : ℕ} {m n : Marks} {items : List (ℕ × Slots)} {stack : List FollowEpsilon}
@@ -158,8 +150,7 @@ module _ {nfa : Automaton} {x : Search} {at s : ℕ} {m n : Marks} {items : List
   pub VisitsState-marked : WasSeen s m n → VisitsState nfa x at s m items stack slots DeadEnd n items stack slots
   VisitsState-marked w =
       VisitsState-bare (λ b i. absurd i) (λ before f. rw w.same f)
-      (λ before old work. Follows-marked nfa x at m before (work_onto at stack (Load old ∷ work)) slots s n w.counted
-      w.seen w.same)
+      (λ before old work. Follows-marked nfa x at m before (work_onto at stack (Load old ∷ work)) slots w)
       (let same = w.same in let counted = w.counted in
       record { tried = rw same (omega arith); framed = rw same (omega arith); entered = rw same (omega arith) })
 
@@ -188,9 +179,7 @@ tries-put stack (e ∷ es) =
     ∙ (let k = tries-put stack es in omega arith)
 
 length-put : (stack : List FollowEpsilon) (es : List ℕ) → length (stack ++ put es) ≡ length stack + length es
-length-put stack [] = rw append-nil (omega arith)
-length-put stack (e ∷ es) = ap length (put-cons stack e es) ∙ length-append (stack ++ put es) (ToExplore e ∷ [])
-    ∙ (let k = length-put stack es in omega arith)
+length-put stack es = simp (length-append, length-map, length-reverse)
 
 within-put : (states count : ℕ) (stack : List FollowEpsilon) (es : List ℕ) → All (IsWithin states count) stack
     → All (λ s. s < states) es → All (IsWithin states count) (stack ++ put es)
@@ -238,12 +227,11 @@ module _ {nfa : Automaton} {x : Search} {at s : ℕ} {m n : Marks} {items : List
       → (above : List FollowEpsilon) → above ≡ stack ++ put (drop 1 es)
       → VisitsState nfa x at s m items stack slots turn n items above slots
   VisitsState-edges {node} e plain writes es leads few room turn goes above puts =
-      let is = node_at-get nfa s node e.is in
       rw (goes, puts) (VisitsState-bare (onto-plain nfa x (s, at) slots (slice_get es 0))
       (λ before f. Formed-marked e at before f)
       (λ before old work. rw (onto-work at stack es (Load old ∷ work))
-      (Follows-plain nfa x at m before (work_onto at stack (Load old ∷ work)) slots s n e.counted e.inside e.clear
-      e.marked (rw (is, plain) refl) (map (λ q. (q, at)) es) (rw is leads) (rw (is, writes) refl)))
+      (Follows-plain nfa x at m before (work_onto at stack (Load old ∷ work)) slots e plain (map (λ q. (q, at)) es)
+      leads writes))
       (Paid-entered e (length items) (length items) stack (stack ++ put (drop 1 es))
       (tries_of (state_on (onto (slice_get es 0)))) (omega (arith, tries-put stack (drop 1 es), onto-tries es))
       (omega (arith, length-put stack (drop 1 es), length-drop 1 es)) (omega arith)))
@@ -332,22 +320,20 @@ module _ {nfa : Automaton} {s next slot : ℕ} {m n : Marks} (e : Entered nfa s 
       (Explore (next, at) ∷ work_onto at above (Load old ∷ work)) written
   unfolding edges_of
   Follows-capture x before old work =
-      let node = node_at-get nfa s (Capture next slot) e.is in
       let back : Option ℕ = get_or slots slot None in
       elim h [
         | inl k ↦ elim k.1 [
           | inl none ↦ rw (none.0, none.1, k.2)
               (Follows-then nfa x at
-              (Follows-write nfa x at m before (Load old ∷ work) slots s n e.counted e.inside e.clear e.marked
-              (rw node refl) ((next, at) ∷ []) (rw node refl) slot (rw node refl))
+              (Follows-write nfa x at m before (Load old ∷ work) slots e refl ((next, at) ∷ []) refl slot refl)
               (Follows-unrestored nfa x at n before work (set slots slot (Some at)) (next, at) slot back old))
           | inr more ↦ rw (more, k.2, work_onto-push at stack (Restore slot back) (Load old ∷ work))
-              (Follows-write nfa x at m before (work_onto at stack (Load old ∷ work)) slots s n e.counted e.inside
-              e.clear e.marked (rw node refl) ((next, at) ∷ []) (rw node refl) slot (rw node refl))
+              (Follows-write nfa x at m before (work_onto at stack (Load old ∷ work)) slots e refl ((next, at) ∷ [])
+              refl slot refl)
         ]
         | inr k ↦ rw (k.1, k.2)
-            (Follows-unkept nfa x at m before (work_onto at stack (Load old ∷ work)) slots s n e.counted e.inside
-            e.clear e.marked (rw node refl) ((next, at) ∷ []) (rw node refl) slot (rw node refl) k.0)
+            (Follows-unkept nfa x at m before (work_onto at stack (Load old ∷ work)) slots e refl ((next, at) ∷ [])
+            refl slot refl k.0)
       ]
 
   pub VisitsState-capture : {x : Search} {items : List (ℕ × Slots)}
@@ -372,12 +358,8 @@ few-target node slots (Some b) = of (target_on node b) (λ t e. target-degree no
 no_match : {nfa : Automaton} {s : ℕ} {node : Node} {m n : Marks} → Entered nfa s node m n → (x : Search) (at : ℕ)
     (slots : Slots) → pattern_of node ≡ None → IsMet nfa x (s, at) slots DeadEnd (((s, at), slots) ∷ [])
 no_match {nfa} {s} {node} e x at slots plain = λ b i t.
-    let is = node_at-get nfa s node e.is in
-    let here : is_match nfa (s, at) ≡ false = rw (is, plain) refl in
-    elim i [
-      | inl same ↦ (let there : is_match nfa (s, at) ≡ true = rw same at t in absurd (cc (here, there)))
-      | inr more ↦ absurd more
-    ]
+    let off : is_match nfa (s, at) ≡ false = rw (node_at-get nfa s node e.is, plain) refl in
+    elim i [ inl same ↦ both_ways (is_match nfa (s, at)) off (rw same at t) | inr more ↦ absurd more ]
 
 -- The result of a turn that enters a resting state: it keeps the states that the state leads to.
 module _ {nfa : Automaton} {s : ℕ} {node : Node} {m n : Marks} (e : Entered nfa s node m n) {x : Search} {at : ℕ}
@@ -397,8 +379,7 @@ module _ {nfa : Automaton} {s : ℕ} {node : Node} {m n : Marks} (e : Entered nf
           added = added ∙ ap (λ l. items ++ l) (sym moved);
           formed = λ before f. Formed-kept e at before f slots r;
           follows = λ before old work. rw over
-              (Follows-keep nfa x at m before (work_onto at stack (Load old ∷ work)) slots s n e.counted e.inside
-              e.clear e.marked (edges-onward nfa x) (λ w. edges-rise nfa x (s, at) w (rw is r)));
+              (Follows-keep nfa x at m before (work_onto at stack (Load old ∷ work)) slots e r);
           paid = rw over (Paid-entered e (length items) (length kept) stack stack 0 (omega arith) (omega arith)
               (omega arith));
         };

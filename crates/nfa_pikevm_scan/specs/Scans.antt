@@ -61,14 +61,14 @@ pub record HaveRows (nfa : Automaton) (width : ℕ) (t : Threads) : Type 0 where
 abbrev pub SameSizes : Threads → Threads → Type 0
 SameSizes old new = sizes_of new ≡ sizes_of old
 
--- and neither did the width of their rows and the count of scans
+-- The sizes, the width of rows and the count of scans did not change.
 pub record KeepsThreads (old new : Threads) : Type 0 where
   pub width : new.curr.width ≡ old.curr.width
   pub sizes : SameSizes old new
   pub scans : new.scans ≡ old.scans
 
--- The states at a position may be followed: the position is in the span or at its end, each state is one of the NFA,
--- there is room for rows of this width, and no state is kept for the next position yet.
+-- The threads may cross the position: it is in the span or at its end, each of their states is one of the NFA, there
+-- is room for rows of this width, and no state is kept for the next position yet.
 pub record MayCross (nfa : Automaton) (x : Search) (at width : ℕ) (t : Threads) : Type 0 where
   pub place : at ≤ x.end
   pub states : All (λ i. i.0 < length nfa.states) t.curr.items
@@ -169,7 +169,7 @@ module _ (nfa : Automaton) (x : Search) where
       SearchingAt nfa x at target (starts nfa x) (blank width) so_far (unmarked met) []
       (tasks at items (Load (blank width) ∷ starts_from width start next limit)) (blank width)
 
-  -- The same for the scan for each wanted pair.
+  -- the same for the scan for each wanted pair
   abbrev pub ScanningFrom : (Pair → Bool) → ℕ → ℕ → ℕ → ℕ → ℕ → Marks → List (ℕ × Slots) → Type 0
   ScanningFrom wanted at width start next limit met items =
       Scanning (space nfa x) wanted (blank width) at (SeenAt at (unmarked met).bits) met.turns []
@@ -182,8 +182,8 @@ module _ (nfa : Automaton) (x : Search) where
     pub is_so_far : IsSoFar found slots so_far
     pub searching : SearchingFrom (is_match nfa) at width start at limit so_far met items
 
-  -- The scan for the first path, from the threads `old` on, at a position where it has followed no state yet. Its
-  -- starts are left, or none is.
+  -- The scan for the first path, which began with the threads `old`, at a position where it has followed no state yet.
+  -- The starts up to their own limit are left, or none is.
   pub record ScansFirst (from : Starts) (limit at width : ℕ) (found : Option HalfMatch) (slots : Slots)
       (old now : Threads) : Type 0 where
     pub limits : (limit ≡ from.limit) ⊎ (limit ≡ 0)

@@ -139,6 +139,7 @@ fn run_lone(
 ) -> Progress
     requires starts { AreStarts nfa.now (search_of input.now) starts.now }
     requires room { HaveRows nfa.now (length slots.old) threads.old }
+    // The scan began with the threads `base`.
     requires first { (base : Threads) × ScansFirst nfa.now (search_of input.now) starts.now 0 (last.at + 1)
         (length slots.old) last.found slots.old base threads.old }
     ensures low { last.at ≤ result.at }

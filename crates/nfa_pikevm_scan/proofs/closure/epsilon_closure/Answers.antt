@@ -1,11 +1,9 @@
 -- All that a root leads to without reading a byte is followed from match to match, until the position ends.
-use Rattle.std.proofs.Common.{◌≡◌, ◌∙◌, [], length, map, take, arith, refl, true, false}
-use Rattle.nfa_paths.specs.Paths.{degree}
-use Rattle.nfa_paths.proofs.TurnLemmas.{marked_sum-le}
+use Rattle.std.proofs.Common.{◌≡◌, ◌∙◌, [], length, take, arith, refl, true, false}
 use Rattle.nfa_pikevm_scan.specs.Sinks.Takes.{none}
 use Rattle.nfa_pikevm_scan.proofs.ApplyFrameLemmas.{within-lower}
 use Rattle.nfa_pikevm_scan.proofs.SinkLemmas.{Takes-none, Takes-match}
-use Rattle.nfa_pikevm_scan.proofs.ClosureLemmas.{Turned-begin, Turned-more, Turned-resumed, ClosureGives-whole, ClosureGives-ended, KeepsRoom-none, KeepsRoom-then}
+use Rattle.nfa_pikevm_scan.proofs.ClosureLemmas.{Paid-falls, Turned-begin, Turned-more, Turned-resumed, ClosureGives-whole, ClosureGives-ended, KeepsRoom-none, KeepsRoom-then}
 use Rattle.nfa_pikevm_scan.proofs.closure.epsilon_closure.Goals as goal
 
 pub loop-pattern-init : goal.loop-pattern-init
@@ -38,15 +36,8 @@ returns-in_default-resume-clause-arrives g c =
     (Takes-match _ false c.if-take.false c.in-Some.ensures.finds.ends c.take.ensures.takes) refl))
 
 pub loop-pattern-smaller : goal.loop-pattern-smaller
-loop-pattern-smaller g c =
-    omega (
-      arith,
-      c.in-Some.ensures.finds.gives.paid.tried,
-      c.in-Some.ensures.turns,
-      c.in-Some-resume.ensures.tried,
-      marked_sum-le (map degree c.args.here.now.nfa.now.states) c.loop-pattern.reached.seen.bits,
-      marked_sum-le (map degree c.args.here.now.nfa.now.states) c.next_match.new.reached.seen.bits,
-    )
+loop-pattern-smaller g c = Paid-falls c.in-Some.ensures.finds.gives.paid (omega (arith, c.in-Some.ensures.turns))
+    (omega (arith, c.in-Some-resume.ensures.tried))
 
 pub loop-pattern-preserved : goal.loop-pattern-preserved
 loop-pattern-preserved g c =

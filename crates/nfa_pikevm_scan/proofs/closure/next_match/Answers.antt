@@ -1,9 +1,7 @@
 -- All that a state leads to without reading a byte is entered in order, up to the next match.
-use Rattle.std.proofs.Common.{length, map, arith}
-use Rattle.nfa_paths.specs.Paths.{degree}
-use Rattle.nfa_paths.proofs.TurnLemmas.{marked_sum-le}
+use Rattle.std.proofs.Common.{length, arith}
 use Rattle.nfa_pikevm_scan.proofs.ApplyFrameLemmas.{within-lower}
-use Rattle.nfa_pikevm_scan.proofs.ClosureLemmas.{Turned-begin, Turned-resumed, Passed-plain, Finds-none, Finds-match, HasRoom-paid, KeepsRoom-none, KeepsRoom-then}
+use Rattle.nfa_pikevm_scan.proofs.ClosureLemmas.{Paid-falls, Turned-begin, Turned-resumed, Passed-plain, Finds-none, Finds-match, HasRoom-paid, KeepsRoom-none, KeepsRoom-then}
 use Rattle.nfa_pikevm_scan.proofs.closure.next_match.Goals as goal
 
 pub loop-on-init : goal.loop-on-init
@@ -30,14 +28,7 @@ visit_state-requires-clause-room c =
     }
 
 pub loop-on-smaller-in-On : goal.loop-on-smaller-in-On
-loop-on-smaller-in-On c =
-    omega (
-      arith,
-      c.in-On.ensures.enters.gives.paid.tried,
-      c.in-On.ensures.turns,
-      marked_sum-le (map degree c.args.here.now.nfa.now.states) c.loop-on.reached.seen.bits,
-      marked_sum-le (map degree c.args.here.now.nfa.now.states) c.visit_state.new.reached.seen.bits,
-    )
+loop-on-smaller-in-On c = Paid-falls c.in-On.ensures.enters.gives.paid (omega (arith, c.in-On.ensures.turns)) (omega arith)
 
 pub loop-on-preserved-in-On : goal.loop-on-preserved-in-On
 loop-on-preserved-in-On c =
@@ -50,25 +41,12 @@ loop-on-preserved-in-On c =
       passed = Passed-plain c.loop-on.invariant.passed c.in-On.ensures.enters c.in-On.ensures.enters.is_met;
     }
 
-pub returns-in-Matched-clause-turns : goal.returns-in-Matched-clause-turns
-returns-in-Matched-clause-turns c = omega (arith, c.loop-on.invariant.grows, c.in-Matched.ensures.turns)
-
-pub returns-in-Matched-clause-keeps : goal.returns-in-Matched-clause-keeps
-returns-in-Matched-clause-keeps c = KeepsRoom-then c.loop-on.invariant.keeps c.in-Matched.ensures.keeps
-
 pub returns-in-Matched-clause-finds : goal.returns-in-Matched-clause-finds
 returns-in-Matched-clause-finds c = Finds-match c.loop-on.invariant.passed c.in-Matched.ensures.enters
 
 pub loop-on-smaller : goal.loop-on-smaller
-loop-on-smaller c =
-    omega (
-      arith,
-      c.in-DeadEnd.ensures.enters.gives.paid.tried,
-      c.visit_state.ensures.turns,
-      c.in-Some.ensures.tried,
-      marked_sum-le (map degree c.args.here.now.nfa.now.states) c.loop-on.reached.seen.bits,
-      marked_sum-le (map degree c.args.here.now.nfa.now.states) c.visit_state.new.reached.seen.bits,
-    )
+loop-on-smaller c = Paid-falls c.in-DeadEnd.ensures.enters.gives.paid (omega (arith, c.visit_state.ensures.turns))
+    (omega (arith, c.in-Some.ensures.tried))
 
 pub loop-on-preserved : goal.loop-on-preserved
 loop-on-preserved c =
@@ -86,12 +64,6 @@ loop-on-preserved c =
       passed = Turned-resumed c.visit_state.new.top c.resume.new.top c.visit_state.new.frames c.in-Some.ensures.top
           (omega (arith, c.visit_state.ensures.top, stack)) c.in-Some.ensures.tried c.in-Some.ensures.follows turned;
     }
-
-pub returns-in-None-clause-turns : goal.returns-in-None-clause-turns
-returns-in-None-clause-turns c = omega (arith, c.loop-on.invariant.grows, c.visit_state.ensures.turns)
-
-pub returns-in-None-clause-keeps : goal.returns-in-None-clause-keeps
-returns-in-None-clause-keeps c = KeepsRoom-then c.loop-on.invariant.keeps c.visit_state.ensures.keeps
 
 pub returns-in-None-clause-finds : goal.returns-in-None-clause-finds
 returns-in-None-clause-finds c =

@@ -1,6 +1,5 @@
 -- The states of a position are followed in order, up to the match that ends it.
 use Rattle.std.proofs.Common.{◌≡◌, ◌+◌, ◌-◌, ◌*◌, ◌∙◌, length, refl, ap, sym, arith}
-use Rattle.regex_search_core.specs.Search.{search_of}
 use Rattle.nfa_pikevm_scan.specs.Rows.{Active}
 use Rattle.nfa_pikevm_scan.proofs.ClosureLemmas.{KeepsRoom-none, KeepsRoom-then}
 use Rattle.nfa_pikevm_scan.proofs.NextsLemmas.{NextsLeadTo-begin, NextsLeadTo-next, NextsLeadTo-ended, NextsLeadTo-over, HasRoom-next, items-next, items-over, row-long, rows-behind}
@@ -14,17 +13,14 @@ loop-sid-init g c = record {
   behind = refl;
   width = refl;
   same_reference = refl;
-  crosses = NextsLeadTo-begin c.args.here.now.nfa.now (search_of c.args.here.now.input.now) g.T.MatchSink.takes
-      c.args.here.now.at c.args.reached.now.seen _ c.args.sink.now _ c.requires.ready.empty c.requires.ready.clear;
+  crosses = NextsLeadTo-begin c.requires.ready.empty c.requires.ready.clear;
 }
 
 pub epsilon_closure-requires-clause-room : goal.epsilon_closure-requires-clause-room
 epsilon_closure-requires-clause-room g c = record {
-  room = HasRoom-next c.args.here.now.nfa.now (search_of c.args.here.now.input.now) g.T.MatchSink.takes
-      c.args.here.now.at
-      c.args.reached.now.seen _ c.args.sink.now _ _ _ _ _ _ _ _
-      c.requires.ready.clear (rw c.requires.ready.empty at c.requires.ready.room.room) c.loop-sid.invariant.keeps.size refl
-      (ap (λ (z : Active). z.capacity) c.loop-sid.invariant.keeps.same) c.loop-sid.invariant.crosses;
+  room = HasRoom-next c.requires.ready.clear (rw c.requires.ready.empty at c.requires.ready.room.room)
+      c.loop-sid.invariant.keeps.size refl (ap (λ (z : Active). z.capacity) c.loop-sid.invariant.keeps.same)
+      c.loop-sid.invariant.crosses;
   stack = omega (arith, c.loop-sid.auto.frames, c.requires.ready.room.stack);
 }
 
@@ -62,16 +58,9 @@ loop-sid-preserved g c =
           c.loop-sid.invariant.behind);
       width = c.epsilon_closure.ensures.width ∙ c.loop-sid.invariant.width;
       same_reference = c.epsilon_closure.ensures.same_reference ∙ c.loop-sid.invariant.same_reference;
-      crosses =
-          NextsLeadTo-next c.args.here.now.nfa.now (search_of c.args.here.now.input.now) g.T.MatchSink.takes
-          c.args.here.now.at c.args.reached.now.seen _ c.args.sink.now _ _ _ _ _ _ _ items
-          c.loop-sid.invariant.crosses _ _ _ _ (rw c.loop-sid.invariant.start at c.epsilon_closure.ensures.arrives)
-          c.if-epsilon_closure.false;
+      crosses = NextsLeadTo-next items c.loop-sid.invariant.crosses
+          (rw c.loop-sid.invariant.start at c.epsilon_closure.ensures.arrives) c.if-epsilon_closure.false;
     }
-
-pub returns-then-epsilon_closure-clause-keeps : goal.returns-then-epsilon_closure-clause-keeps
-returns-then-epsilon_closure-clause-keeps g c = KeepsRoom-then c.loop-sid.invariant.keeps
-    c.epsilon_closure.ensures.keeps
 
 pub returns-then-epsilon_closure-clause-arrive : goal.returns-then-epsilon_closure-clause-arrive
 returns-then-epsilon_closure-clause-arrive g c =
@@ -81,17 +70,12 @@ returns-then-epsilon_closure-clause-arrive g c =
     let items = items-next width i _ c.args.kept.now c.args.rows.now c.loop-sid.rows c.sid-item.result
     c.loop-sid-test.true c.sid-item.is wide c.loop-sid.invariant.behind in
     rw (← c.width-width.ensures)
-    (NextsLeadTo-ended c.args.here.now.nfa.now (search_of c.args.here.now.input.now) g.T.MatchSink.takes
-    c.args.here.now.at
-    c.args.reached.now.seen _ c.args.sink.now _ _ _ _ _ _ _ items
-    c.loop-sid.invariant.crosses _ _ _ _ (rw c.loop-sid.invariant.start at c.epsilon_closure.ensures.arrives)
-    c.if-epsilon_closure.true)
+    (NextsLeadTo-ended items c.loop-sid.invariant.crosses
+    (rw c.loop-sid.invariant.start at c.epsilon_closure.ensures.arrives) c.if-epsilon_closure.true)
 
 pub returns-clause-arrive : goal.returns-clause-arrive
 returns-clause-arrive g c =
     rw (← c.width-width.ensures)
-    (NextsLeadTo-over c.args.here.now.nfa.now (search_of c.args.here.now.input.now) g.T.MatchSink.takes
-    c.args.here.now.at
-    c.args.reached.now.seen _ c.args.sink.now _ _ _ _
+    (NextsLeadTo-over
     (items-over c.width-width.result c.loop-sid.sid-index c.args.kept.now c.args.rows.now c.loop-sid-test.false)
     c.loop-sid.invariant.crosses)

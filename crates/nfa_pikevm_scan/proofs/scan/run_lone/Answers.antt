@@ -1,11 +1,8 @@
 -- A lone state is followed from position to position.
 use Rattle.std.proofs.Common.{◌∙◌, refl, sym, arith}
 use Rattle.nfa_pikevm_scan.proofs.LoneLemmas.{Joined-lone, MayCross-joined, ScansFirst-match, ScansFirst-miss}
-use Rattle.nfa_pikevm_scan.proofs.RoomLemmas.{HaveRows-kept, KeepsThreads-none, KeepsThreads-then}
+use Rattle.nfa_pikevm_scan.proofs.RoomLemmas.{HaveRows-kept, KeepsThreads-then}
 use Rattle.nfa_pikevm_scan.proofs.scan.run_lone.Goals as goal
-
-pub loop-at-init : goal.loop-at-init
-loop-at-init c = record { low = omega arith; keeps = KeepsThreads-none c.args.threads.now; first = λ base s. s }
 
 pub nexts_of_lone-requires-clause-ready : goal.nexts_of_lone-requires-clause-ready
 nexts_of_lone-requires-clause-ready c =
@@ -34,8 +31,3 @@ loop-at-preserved c = record {
       c.nexts_of_lone.ensures.keeps c.nexts_of_lone.ensures.next c.nexts_of_lone.ensures.crosses c.half_at-hit.result
       c.half_at-hit.ensures (sym c.is_some.ensures ∙ c.if-is_some.false);
 }
-
-pub returns-clause-high : goal.returns-clause-high
-returns-clause-high c =
-    let s = c.loop-at.invariant.first c.requires.first.0 c.requires.first.1 in
-    omega (arith, s.high)

@@ -1,5 +1,5 @@
 -- A scan of all matches answers the last one that is seen.
-use Rattle.std.proofs.Common.{◌≡◌, ◌∙◌, ◌+◌, ◌≤◌, length, arith, refl, sym, inl}
+use Rattle.std.proofs.Common.{◌∙◌, ◌+◌, ◌≤◌, length, arith, refl, sym, inl}
 use Rattle.regex_search_core.specs.Search.{search_of}
 use Rattle.nfa_pikevm_scan.proofs.AllLemmas.{HasLast-cross}
 use Rattle.nfa_pikevm_scan.proofs.EndLemmas.{HasLast-begin, ScansAll-joined, ScansAll-over, last-over, ends-at}
@@ -56,10 +56,9 @@ loop-at-preserved c =
 pub returns-clause-answer : goal.returns-clause-answer
 returns-clause-answer c =
     let past : c.end-at-end.result + 1 ≤ c.loop-at.at = c.loop-at-test.false in
-    let e : c.end-at-end.result ≡ (search_of c.args.input.now).end = c.end-at-end.ensures.value in
-    let start : c.start-at.result ≡ (search_of c.args.input.now).start = c.start-at.ensures in
-    let span : (search_of c.args.input.now).start ≤ (search_of c.args.input.now).end = c.requires.ready.span in
-    let within : c.loop-at.at ≤ c.end-at-end.result + 1 = c.loop-at.auto.at-end (omega arith) in
+    let within = c.loop-at.auto.at-end
+    (omega (arith, c.start-at.ensures, c.end-at-end.ensures.value, c.requires.ready.span)) in
     last-over c.args.nfa.now (search_of c.args.input.now) c.loop-at.at (length c.args.slots.now) c.loop-at.found
     c.loop-at.slots c.loop-at.threads.reached.seen.turns c.loop-at.invariant.last
-    (ends-at c.args.nfa.now (search_of c.args.input.now) c.loop-at.at (omega arith)) (sym c.loop-at.auto.slots)
+    (ends-at c.args.nfa.now (search_of c.args.input.now) c.loop-at.at
+    (omega (arith, c.end-at-end.ensures.value, within))) (sym c.loop-at.auto.slots)

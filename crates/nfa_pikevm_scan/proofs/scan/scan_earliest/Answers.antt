@@ -1,5 +1,5 @@
 -- A scan that ends at the first match that is seen answers the path with the least end.
-use Rattle.std.proofs.Common.{◌≡◌, ◌∙◌, ◌+◌, ◌≤◌, length, arith, refl, sym, inr, true, cond}
+use Rattle.std.proofs.Common.{◌∙◌, ◌+◌, ◌≤◌, length, arith, refl, sym, inr, true, cond}
 use Rattle.regex_search_core.specs.Search.{search_of}
 use Rattle.nfa_paths.proofs.ScanAnswerLemmas.{scan_answer-none}
 use Rattle.regex_search_core.specs.declared.search.MatchKind.TheVariants.{All, LeftmostFirst}
@@ -82,12 +82,11 @@ loop-at-preserved c =
 pub returns-clause-answer : goal.returns-clause-answer
 returns-clause-answer c =
     let past : c.end-at-end.result + 1 ≤ c.loop-at.at = c.loop-at-test.false in
-    let e : c.end-at-end.result ≡ (search_of c.args.input.now).end = c.end-at-end.ensures.value in
-    let start : c.start-at.result ≡ (search_of c.args.input.now).start = c.start-at.ensures in
-    let span : (search_of c.args.input.now).start ≤ (search_of c.args.input.now).end = c.requires.ready.span in
-    let within : c.loop-at.at ≤ c.end-at-end.result + 1 = c.loop-at.auto.at-end (omega arith) in (
+    let within = c.loop-at.auto.at-end
+    (omega (arith, c.start-at.ensures, c.end-at-end.ensures.value, c.requires.ready.span)) in (
       scan_answer-none c.args.nfa.now (search_of c.args.input.now) (cond c.args.past_match All LeftmostFirst) true
           c.loop-at.invariant.none
-          (ends-at c.args.nfa.now (search_of c.args.input.now) c.loop-at.at (omega arith)),
+          (ends-at c.args.nfa.now (search_of c.args.input.now) c.loop-at.at
+          (omega (arith, c.end-at-end.ensures.value, within))),
       rw c.loop-at.invariant.same c.requires.ready.unset,
     )

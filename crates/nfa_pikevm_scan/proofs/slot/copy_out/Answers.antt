@@ -4,11 +4,6 @@ use Rattle.std.proofs.Math.Seq.{take-length}
 use Rattle.nfa_pikevm_scan.proofs.SlotLemmas.{handed-more}
 use Rattle.nfa_pikevm_scan.proofs.slot.copy_out.Goals as goal
 
-pub loop-i-init : goal.loop-i-init
-loop-i-init c =
-    let all : length c.args.slots.now - 0 ≡ length c.args.slots.now = omega arith in
-    record { handed = rw all c.clear.ensures }
-
 pub loop-i-preserved : goal.loop-i-preserved
 loop-i-preserved c =
     let i = c.loop-i.i in
