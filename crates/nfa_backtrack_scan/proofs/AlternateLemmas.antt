@@ -1,14 +1,12 @@
 -- Alternatives that are pushed, and those that lead nowhere.
 use Rattle.std.proofs.Common.{◌≡◌, ℕ, ◌<◌, inl, inr, List, [], ◌∷◌, ◌++◌, length, map, drop, refl, ap, arith}
-use Rattle.std.specs.Prelude.{Some, None, false, Bool, All}
+use Rattle.std.specs.Prelude.{Some, None, All}
 use Rattle.std.specs.List.{slice_get}
 use Rattle.std.proofs.lemmas.List.Elements.{All-push}
 use Rattle.std.proofs.lemmas.List.Sums.{sum_by_push}
 use Rattle.regex_search_core.specs.Search.{Search}
 use Rattle.thompson_nfa.specs.Automaton.{Automaton}
 use Rattle.thompson_nfa.specs.Automaton.Node.{Capture, Union}
-use Rattle.nfa_paths.specs.FirstPaths.{Path}
-use Rattle.nfa_paths.specs.FirstPaths.Path.{stop, go}
 use Rattle.nfa_paths.specs.Graphs.{Pair}
 use Rattle.nfa_paths.specs.Paths.{edges_of}
 use Rattle.nfa_paths.specs.Exploring.{Slots, Task, ExploresTo}
@@ -26,13 +24,6 @@ use Rattle.nfa_backtrack_scan.proofs.WalkLemmas.{no_path, Carries-then}
 use Rattle.nfa_scan_core.proofs.AlternateLemmas.{first-drop}
 use Rattle.nfa_paths.proofs.StartLemmas.{node_at-get}
 
--- no path leads on from a pair whose only edge leads nowhere
-no_path-along : (edges : Pair → List Pair) (target : Pair → Bool) {v w : Pair} {p : List Pair} → target v ≡ false
-    → edges v ≡ w ∷ [] → ((q : List Pair) → Path edges target w q → ⊥) → Path edges target v p → ⊥
-no_path-along edges target plain one dead (stop t) = cc (t, plain)
-no_path-along edges target plain one dead (go {p = r} f i n q) =
-    elim (rw one at i) [ inl e ↦ dead r (rw e at q) | inr none ↦ absurd none ]
-
 module _ (nfa : Automaton) (x : Search) where
   -- a byte state that refuses the byte
   pub IsDeadEnd-byte : (s at : ℕ) → IsByteStep nfa x (s, at) None → IsDeadEnd nfa x (s, at)
@@ -45,8 +36,7 @@ module _ (nfa : Automaton) (x : Search) where
       → IsDeadEnd nfa x (next, at) → IsDeadEnd nfa x (s, at)
   unfolding edges_of
   IsDeadEnd-capture s at next slot is dead p =
-      let node = node_at-get nfa s (Capture next slot) is in
-      no_path-along _ _ (rw node refl) (rw node refl) dead
+      grind (arith, node_at-get)
 
   -- work with the same first pair
   HasAnswersOf-after : (v : Pair) (work shorter : List Task) → HasAnswersOf nfa x work shorter
@@ -63,20 +53,12 @@ module _ (nfa : Automaton) (x : Search) where
       inr (λ p way. dead p way.path, stands left pairs slots g h)
 
   pub PushesLive-none : (place : StatePos) (stack : List Frame) → PushesLive nfa x place [] stack stack
-  PushesLive-none place stack = record {
-    within = λ count all. all;
-    tried = omega arith;
-    follows = λ work left pairs slots g h. h;
-  }
+  PushesLive-none place stack = grind arith
 
   module _ {place : StatePos} {rest : List ℕ} {stack after : List Frame} (l : PushesLive nfa x place rest stack after)
       (s : ℕ) where
     pub PushesLive-dead : IsDeadEnd nfa x (s, place.at) → PushesLive nfa x place (s ∷ rest) stack after
-    PushesLive-dead dead = record {
-      within = l.within;
-      tried = omega (arith, l.tried);
-      follows = λ work. HasAnswersOf-dead (s, place.at) _ _ dead (l.follows work);
-    }
+    PushesLive-dead dead = grind (arith, HasAnswersOf-dead)
 
     pub PushesLive-push : s < length nfa.states → IsStatePos nfa x place
         → PushesLive nfa x place (s ∷ rest) stack (after ++ Step s place.at place.row ∷ [])
@@ -85,20 +67,14 @@ module _ (nfa : Automaton) (x : Search) where
           All-push (IsFrame nfa x count) after (Step s place.at place.row) (l.within count all)
           (record { state = below; from = p.from; to = p.to; row = p.row });
       tried = omega (arith, l.tried, sum_by_push frame_tries after (Step s place.at place.row));
-      follows = λ work.
-          rw (stacked-push after (Step s place.at place.row) work)
-          (HasAnswersOf-after (s, place.at) _ _ (l.follows work));
+      follows = grind (arith, HasAnswersOf-after, stacked-push);
     }
 
   -- the same marks and slots, with less work
   Carries-stands : (m : Marks) (work shorter : List Task) (slots : Slots) → HasAnswersOf nfa x work shorter
       → Carries nfa x m work slots m shorter slots
   unfolding WalkAnswer
-  Carries-stands m work shorter slots stands = record {
-    grows = omega arith;
-    back = λ left more g e h pairs agrees.
-        let same : more ≡ left = omega arith in rw same (stands left pairs slots g (h pairs agrees));
-  }
+  Carries-stands m work shorter slots stands = grind arith
 
   -- the turn at a union
   module _ {place : StatePos} {m n : Marks} (t : Taken nfa x (place.sid, place.at) m n) (alternates : List ℕ)

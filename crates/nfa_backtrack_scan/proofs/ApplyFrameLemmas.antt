@@ -1,5 +1,5 @@
 -- Applying frames of the stack.
-use Rattle.std.proofs.Common.{◌≡◌, ℕ, ◌+◌, List, [], ◌∷◌, ◌++◌, length, refl, ap, arith, length-set}
+use Rattle.std.proofs.Common.{◌≡◌, ℕ, ◌+◌, List, [], ◌∷◌, ◌++◌, length, refl, arith, length-set}
 use Rattle.std.specs.Prelude.{Option, Some, None, All}
 use Rattle.std.specs.List.{sum_by}
 use Rattle.std.proofs.lemmas.List.Elements.{All-pop}
@@ -13,7 +13,7 @@ use Rattle.nfa_backtrack_scan.specs.Walk.{IsFrame, Carries}
 use Rattle.nfa_backtrack_scan.specs.declared.frame.StatePos.{StatePos}
 use Rattle.nfa_backtrack_scan.specs.declared.frame.Frame.{Frame}
 use Rattle.nfa_backtrack_scan.specs.declared.frame.Frame.TheVariants.{Step, Restore, Clear}
-use Rattle.nfa_backtrack_scan.proofs.WalkLemmas.{Carries-then, Carries-none, Carries-restore}
+use Rattle.nfa_backtrack_scan.proofs.WalkLemmas.{Carries-then, Carries-restore}
 use Rattle.nfa_backtrack_scan.proofs.StepLemmas.{stacked-push}
 
 module _ (nfa : Automaton) (x : Search) where
@@ -22,8 +22,7 @@ module _ (nfa : Automaton) (x : Search) where
       (after : Slots)
       → AppliesFrame frame slots place after
       → Carries nfa x marks (work_item frame ∷ work) slots marks (with_state_pos place work) after
-  Carries-apply_frame marks work (Step sid at row) slots place after u = rw (u.0, u.1)
-      (Carries-none nfa x marks _ slots)
+  Carries-apply_frame marks work (Step sid at row) slots place after u = grind arith
   Carries-apply_frame marks work (Restore slot offset) slots place after u = rw (u.0, u.1)
       (Carries-restore nfa x marks work slots slot (Some offset))
   Carries-apply_frame marks work (Clear slot) slots place after u = rw (u.0, u.1)
@@ -52,25 +51,12 @@ module _ (nfa : Automaton) (x : Search) where
       let both = All-pop (IsFrame nfa x count) stack popped (Some frame) pop fits in
       (both.0, IsFrame-place count frame slots place after u both.1)
 
-tries-apply_frame : (frame : Frame) (slots : Slots) (place : Option StatePos) (after : Slots)
-    → AppliesFrame frame slots place after
-    → frame_tries frame ≡ tries_of_state_pos place
-tries-apply_frame (Step sid at row) slots place after u = rw u.0 refl
-tries-apply_frame (Restore slot offset) slots place after u = rw u.0 refl
-tries-apply_frame (Clear slot) slots place after u = rw u.0 refl
-
 pub tries-unwound : (stack popped : List Frame) (frame : Frame) (slots : Slots) (place : Option StatePos)
     (after : Slots)
     → stack ≡ popped ++ frame ∷ [] → AppliesFrame frame slots place after
     → sum_by frame_tries popped + tries_of_state_pos place ≡ sum_by frame_tries stack
 tries-unwound stack popped frame slots place after pop u =
-    omega (
-      arith,
-      ap (sum_by frame_tries) pop,
-      sum_by_push frame_tries popped frame,
-      tries-apply_frame frame slots place
-          after u,
-    )
+    grind (arith, sum_by_push)
 
 pub slots-unwound : (stack popped : List Frame) (frame : Frame) (slots : Slots) (place : Option StatePos)
     (after : Slots)

@@ -1,6 +1,6 @@
 -- The first turn of a walk, and the starts after a walk that failed.
-use Rattle.std.proofs.Common.{◌≡◌, ◌∙◌, ℕ, suc, zero, ◌+◌, ◌<◌, ◌≤◌, inl, inr, List, length, get_or, set}
-use Rattle.std.proofs.Common.{set-set, ap, arith, refl}
+use Rattle.std.proofs.Common.{◌≡◌, ◌∙◌, ℕ, suc, zero, ◌+◌, ◌<◌, ◌≤◌, inl, inr, List, length, get_or, set, rules}
+use Rattle.std.proofs.Common.{set-set, arith, refl}
 use Rattle.std.specs.Prelude.{Option, Some, None}
 use Rattle.std.specs.List.{slice_get}
 use Rattle.std.specs.Option.{ForSome}
@@ -62,9 +62,7 @@ module _ (nfa : Automaton) (x : Search) where
       (below : next < length nfa.states) (slots : Slots) where
     spent : n.turns + marked_sum (weights nfa x) m.bits ≤ m.turns + marked_sum (weights nfa x) n.bits
     spent =
-        let put = ap (marked_sum (weights nfa x)) t.set in
-        let more = marked_sum-weights nfa x m.bits place.sid place.at (Capture next slot) t.state t.from t.to is
-        t.clear in omega (arith, t.counted, put, more)
+        grind (arith, marked_sum-weights)
 
     -- a Capture writes its slot
     pub BeginsAt-write : BeginsAt nfa x (pair_of place) (record place { sid = next }) m slots n
@@ -74,9 +72,7 @@ module _ (nfa : Automaton) (x : Search) where
       slot = Some slot;
       old = get_or slots slot None;
       own = λ k same. let e : slot ≡ k = cc in rw (node_at-get nfa place.sid (Capture next slot) is, e) refl;
-      follows = λ work.
-          Carries-write nfa x m place.sid place.at work slots n t.counted t.state t.from t.inside t.clear t.set next
-          slot is;
+      follows = search (rules, Carries-write);
       spent = spent;
     }
 
@@ -88,20 +84,11 @@ module _ (nfa : Automaton) (x : Search) where
       slot = None;
       old = None;
       own = λ k same. cc;
-      follows = λ work.
-          Carries-unkept nfa x m place.sid place.at work slots n t.counted t.state t.from t.inside t.clear t.set next
-          slot is past;
+      follows = search (rules, Carries-unkept);
       spent = spent;
     }
 
   -- no turn is taken at other states
   pub BeginsAt-none : (place : StatePos) (m : Marks) (slots : Slots) → IsStatePos nfa x place
       → BeginsAt nfa x (pair_of place) place m slots m slots
-  BeginsAt-none place m slots p = record {
-    is_place = p;
-    slot = None;
-    old = None;
-    own = λ k same. cc;
-    follows = λ work. Carries-none nfa x m _ slots;
-    spent = omega arith;
-  }
+  BeginsAt-none place m slots p = grind arith

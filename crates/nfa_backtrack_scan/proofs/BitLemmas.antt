@@ -1,14 +1,12 @@
 -- Bits in blocks: reading and setting one, and clearing all.
-use Rattle.std.proofs.Common.{◌≡◌, ◌≢◌, ℕ, zero, suc, ◌+◌, ◌-◌, ◌*◌, ◌/◌, ◌%◌, ◌^◌, ◌<◌, ◌≤◌, Bool, true, false, List}
+use Rattle.std.proofs.Common.{◌≡◌, ℕ, zero, suc, ◌+◌, ◌-◌, ◌*◌, ◌/◌, ◌%◌, ◌^◌, ◌<◌, ◌≤◌, Bool, true, false, List, rules}
 use Rattle.std.proofs.Common.{[], ◌∷◌, ◌++◌, length, get_or, set, replicate, refl, ap, sym, ◌∙◌, arith, nat_eq}
-use Rattle.std.proofs.Common.{length-set, length-append}
+use Rattle.std.proofs.Common.{length-set}
 use Rattle.std.specs.Int.{bit_at, w64}
 use Rattle.std.specs.Prelude.{bit_or}
-use Rattle.std.proofs.Common.{inl, inr}
 use Rattle.std.proofs.Math.Decide.{ℕ_discrete}
-use Rattle.std.proofs.lemmas.Bool.{cases_lt}
 use Rattle.std.proofs.lemmas.List.{same_lists, set-append_left, set-append_right, get_or_append_left}
-use Rattle.std.proofs.lemmas.List.{get_or-append_right, replicate-append-replicate, get_or_default}
+use Rattle.std.proofs.lemmas.List.{get_or-append_right, get_or_default}
 use Rattle.std.proofs.Common.{get_or-set_same, get_or-set_other}
 use Rattle.std.proofs.lemmas.List.FromFn.{length-map-range_with_len, get_or-map-range_with_len}
 use Rattle.std.proofs.lemmas.Nat.Bits.{bit_at_set_same, bit_at_set_other, bit_at-lt, same_from_bits}
@@ -23,8 +21,7 @@ length-block_bits block = length-map-range_with_len (is_set block) 0 64
 pub length-bits_of : (blocks : List ℕ) → length (bits_of blocks) ≡ 64 * length blocks
 unfolding bits_of
 length-bits_of [] = refl
-length-bits_of (b ∷ bs) = omega
-    (arith, length-append (block_bits b) (bits_of bs), length-block_bits b, length-bits_of bs)
+length-bits_of (b ∷ bs) = grind (arith, length-bits_of bs)
 
 get_or-block_bits : (block j : ℕ) (d : Bool) → j < 64 → get_or (block_bits block) j d ≡ is_set block j
 get_or-block_bits block j d inside = get_or-map-range_with_len (is_set block) 0 64 j j d inside (omega arith)
@@ -98,11 +95,7 @@ bits_of-clear [] zeros = refl
 bits_of-clear (b ∷ bs) zeros =
     let first : b ≡ 0 = zeros 0 in
     let rest = bits_of-clear bs (λ i. zeros (suc i)) in
-    let block : block_bits b ≡ replicate 64 false = rw first refl in
-    let size : length (block_bits b ++ bits_of bs)
-    ≡ 64 + length (bits_of bs) = rw (length-append, length-block_bits) refl in
-    ap (λ t. t ++ bits_of bs) block ∙ ap (λ t. replicate 64 false ++ t) rest
-    ∙ replicate-append-replicate 64 (length (bits_of bs)) false ∙ ap (λ n. replicate n false) (sym size)
+    grind arith
 
 pub bits_of-nil : bits_of [] ≡ []
 unfolding bits_of
@@ -113,10 +106,7 @@ pub bits_of-zeroed : (used : ℕ) (old new : List ℕ) → length new ≡ length
     → ((i : ℕ) → i < used → get_or new i 0 ≡ 0) → ((i : ℕ) → used ≤ i → get_or new i 0 ≡ get_or old i 0)
     → bits_of new ≡ replicate (length (bits_of old)) false
 bits_of-zeroed used old new same clear below others =
-    let size : length (bits_of old)
-    ≡ length (bits_of new) = rw (length-bits_of, length-bits_of) (ap (λ n. 64 * n) (sym same)) in
-    rw size (bits_of-clear new (λ i. elim (cases_lt i used)
-    [ inl lt ↦ below i lt | inr ge ↦ others i ge ∙ clear.clear i ge ]))
+    grind (arith, bits_of-clear, length-bits_of)
 
 -- a position of the table, in a block and a place
 module _ (blocks : List ℕ) (bit : ℕ) (inside : bit < length (bits_of blocks)) where
@@ -140,10 +130,7 @@ module _ (blocks : List ℕ) (bit : ℕ) (inside : bit < length (bits_of blocks)
     pub bit-clear : (bit_or block (1 * 2 ^ (bit % 64) % 2 ^ 64) ≡ block → ⊥) → (d : Bool)
         → get_or (bits_of blocks) bit d ≡ false
     bit-clear changes d =
-        let low = bit_at-lt block (bit % 64) in
-        let not_one : bit_at block (bit % 64) ≢ 1 = λ one. changes (bit_or-set block (bit % 64) place_low one) in
-        let e : bit_at block (bit % 64) ≡ 0 = omega arith in
-        get_or-bit d ∙ rw e refl
+        grind (arith, bit_at-lt, bit_or-set, get_or-bit)
 
     pub bit-set : bit_or block (1 * 2 ^ (bit % 64) % 2 ^ 64) ≡ block → (d : Bool) → get_or (bits_of blocks) bit d ≡ true
     bit-set stays d =
@@ -158,7 +145,4 @@ module _ (blocks : List ℕ) (bit : ℕ) (inside : bit < length (bits_of blocks)
 -- a block past those in use is written
 pub IsClearFrom-set : (used i value : ℕ) (blocks : List ℕ) → IsClearFrom used blocks → used ≤ i
     → IsClearFrom (i + 1) (set blocks i value)
-IsClearFrom-set used i value blocks clear past = record {
-  clear = λ k h. let other : k ≢ i = omega arith in rw (get_or-set_other blocks i k value 0 other)
-      (clear.clear k (omega arith));
-}
+IsClearFrom-set used i value blocks clear past = search rules

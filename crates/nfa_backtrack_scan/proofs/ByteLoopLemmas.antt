@@ -1,5 +1,5 @@
 -- Turns of a loop over one byte, one after another.
-use Rattle.std.proofs.Common.{◌≡◌, ℕ, ◌+◌, ◌-◌, ◌*◌, ◌<◌, List, [], ◌∷◌, ◌++◌, length, arith}
+use Rattle.std.proofs.Common.{◌≡◌, ℕ, ◌+◌, ◌-◌, ◌*◌, ◌<◌, List, [], ◌∷◌, ◌++◌, length, arith, rules}
 use Rattle.std.specs.Prelude.{Option, Some, None, Result, Ok, Err, OnErr}
 use Rattle.std.specs.List.{slice_get}
 use Rattle.std.proofs.lemmas.List.Elements.{All-push}
@@ -11,7 +11,7 @@ use Rattle.nfa_paths.specs.Graphs.{Pair}
 use Rattle.nfa_paths.specs.Paths.{byte_at, target_on}
 use Rattle.nfa_paths.proofs.TurnLemmas.{marked_sum-le}
 use Rattle.nfa_scan_core.specs.Marks.{Marks}
-use Rattle.nfa_backtrack_scan.specs.Walk.{pair_of, stacked, frame_tries, weights, IsFrame, IsAfforded, IsByteStep, TurnsLead}
+use Rattle.nfa_backtrack_scan.specs.Walk.{pair_of, stacked, weights, IsAfforded, IsByteStep, TurnsLead}
 use Rattle.nfa_backtrack_scan.specs.Walk.{Taken, WasMarked}
 use Rattle.nfa_backtrack_scan.specs.declared.frame.StatePos.{StatePos}
 use Rattle.nfa_backtrack_scan.specs.declared.frame.Frame.{Frame}
@@ -54,8 +54,7 @@ module _ (nfa : Automaton) (x : Search) where
     goes = tt;
     within = λ count fits. fits;
     tried = rw w.same (omega (arith, w.counted));
-    follows = λ work slots. Carries-marked nfa x m s at (stacked stack work) slots n w.counted w.marked_before.state
-        w.marked_before.from w.marked_before.set w.same;
+    follows = search (rules, Carries-marked);
   }
 
   -- a turn at a byte state that leads nowhere, and is not marked
@@ -65,8 +64,7 @@ module _ (nfa : Automaton) (x : Search) where
     goes = tt;
     within = λ count fits. fits;
     tried = rw same (omega (arith, counted));
-    follows = λ work slots. Carries-dead nfa x m s at (stacked stack work) slots n counted b.node b.is
-        (reads-plain b.node b.reads) (step-edges nfa x s at None b) same;
+    follows = search (rules, Carries-dead, reads-plain, step-edges);
   }
 
 module _ {nfa : Automaton} {x : Search} {s at : ℕ} {m n : Marks} (t : Taken nfa x (s, at) m n) (row : ℕ)
@@ -78,8 +76,7 @@ module _ {nfa : Automaton} {x : Search} {s at : ℕ} {m n : Marks} (t : Taken nf
     goes = tt;
     within = λ count fits. fits;
     tried =
-        rw t.set
-        (omega (arith, t.counted, marked_sum-weights nfa x m.bits s at b.node t.state t.from t.to b.is t.clear));
+        grind (arith, marked_sum-weights);
     follows = λ work slots. Goes-stuck t b (stacked stack work) slots;
   }
 
@@ -92,13 +89,7 @@ module _ {nfa : Automaton} {x : Search} {s at : ℕ} {m n : Marks} (t : Taken nf
         goes = IsStatePos-byte t next b row placed states wide;
         within = λ count fits. fits;
         tried =
-            rw t.set
-            (omega (
-              arith,
-              t.counted,
-              target-degree b.node read.0 next read.2,
-              marked_sum-weights nfa x m.bits s at b.node t.state t.from t.to b.is t.clear,
-            ));
+            grind (arith, marked_sum-weights, target-degree);
         follows = λ work slots. Goes-byte t next b (stacked stack work) slots;
       }
 
@@ -109,15 +100,8 @@ module _ {nfa : Automaton} {x : Search} {s at : ℕ} {m n : Marks} (t : Taken nf
       (stack ++ Step exit at row ∷ []) n
   TurnsLead-union body exit is into out stack = record {
     goes = record { state = into; from = t.from; to = t.to; row = placed };
-    within = λ count fits. All-push (IsFrame nfa x count) stack (Step exit at row) fits
-        (record { state = out; from = t.from; to = t.to; row = placed });
+    within = search (rules, All-push);
     tried =
-        rw t.set
-        (omega (
-          arith,
-          t.counted,
-          sum_by_push frame_tries stack (Step exit at row),
-          marked_sum-weights nfa x m.bits s at (BinaryUnion body exit) t.state t.from t.to is t.clear,
-        ));
+        grind (arith, marked_sum-weights, sum_by_push);
     follows = λ work slots. Goes-both t body exit is slots stack work row;
   }

@@ -9,7 +9,7 @@ use Rattle.nfa_paths.specs.FirstPaths.{IsFirst}
 use Rattle.nfa_paths.specs.Paths.{start_state, starts, pairs_from, edges, is_match, space}
 use Rattle.nfa_paths.specs.Exploring.{Task, Slots, ExploresTo}
 use Rattle.nfa_paths.specs.Exploring.Task.{Explore}
-use Rattle.nfa_paths.proofs.StartLemmas.{pairs_from-step, pairs_from-end}
+use Rattle.nfa_paths.proofs.StartLemmas.{pairs_from-step}
 use Rattle.nfa_scan_core.specs.Marks.{Marks}
 use Rattle.nfa_scan_core.specs.FirstBytes.{IsRefused, IsFirstBytes}
 use Rattle.nfa_backtrack_scan.specs.Walk.{WalkAnswer, Carries}
@@ -38,8 +38,7 @@ module _ (nfa : Automaton) (x : Search) where
       → Carries nfa x m (map Explore (pairs_from nfa.anchored at (limit - at))) s m
       (map Explore (pairs_from nfa.anchored to (limit - to))) s
   Carries-skip table first m s zero at to limit is refused =
-      let same : to ≡ at = omega arith in rw same
-      (Carries-none nfa x m (map Explore (pairs_from nfa.anchored at (limit - at))) s)
+      grind arith
   Carries-skip table first m s (suc count) at to limit is refused =
       let next : to ≡ at + 1 + count = omega arith in
       let more = Carries-skip table first m s count (at + 1) to limit next (λ k h l. refused k (omega arith) l) in
@@ -50,8 +49,7 @@ module _ (nfa : Automaton) (x : Search) where
             (Carries-then nfa x (Carries-dead m (nfa.anchored, at)
             (map Explore (pairs_from nfa.anchored (at + 1) (limit - (at + 1)))) s (first.none x at here)) more)
         | inr past ↦
-            let behind : limit ≤ at + 1 = omega arith in
-            rw (pairs_from-end nfa.anchored past) (rw (pairs_from-end nfa.anchored behind) at more)
+            grind arith
       ]
 
   -- the starts that were skipped, or none if they may not be skipped

@@ -1,7 +1,6 @@
 -- From the result of a walk to the result of the search from all starts.
-use Rattle.std.proofs.Common.{◌≡◌, ℕ, ◌+◌, ◌-◌, ◌*◌, ◌^◌, ◌<◌, ◌≤◌, List, [], length, map, replicate, arith, sum}
+use Rattle.std.proofs.Common.{◌≡◌, ℕ, ◌+◌, ◌-◌, ◌≤◌, List, [], length, map, replicate, arith, sum}
 use Rattle.std.specs.Prelude.{None, false, Bool}
-use Rattle.std.proofs.Math.Nat.{mul-le-mul_left}
 use Rattle.regex_search_core.specs.Found.{half_found_of}
 use Rattle.regex_search_core.specs.Search.{Search}
 use Rattle.regex_search_core.specs.declared.search.HalfMatch.{HalfMatch}
@@ -43,15 +42,7 @@ module _ (nfa : Automaton) (x : Search) where
         let found = scan_some nfa x (length written) (turns - marks.turns) (e.state, (half_found_of half).offset)
         written
         (rw unset at (e.ends.answer (turns - marks.turns) (omega arith) [] (fresh marks.bits clear))) in
-        record {
-          path = found.path;
-          state = e.state;
-          answers = found.answers;
-          matches = e.matches;
-          ends = found.ends;
-          row = found.row_is;
-          short = found.short;
-        }
+        grind arith
 
   -- the turns of a scan
 
@@ -69,17 +60,11 @@ module _ (nfa : Automaton) (x : Search) where
   -- a scan from further on has room too
   HasBits-raised : (bits : List Bool) (i : ℕ) → HasBits nfa x bits → HasBits nfa (raised x i) bits
   HasBits-raised bits i room =
-      let few : span_len (raised x i) + 1 ≤ span_len x + 1 = omega arith in
-      let le = mul-le-mul_left (length nfa.states) few in
-      let r = room.room in let f = room.fits in
-      let room' : length nfa.states * (span_len (raised x i) + 1) ≤ length bits = omega arith in
-      let fits' : length nfa.states * (span_len (raised x i) + 1) < 2 ^ 64 = omega arith in
-      record { room = room'; fits = fits' }
+      grind arith
 
 -- the same after some restarts, if there are as many marks as before
 pub room-after : (nfa : Automaton) (x y : Search) (i : ℕ) (bits after : List Bool) → length after ≡ length bits → y
     ≡ raised x i
     → HasBits nfa x bits → HasBits nfa y after
 room-after nfa x y i bits after same is room =
-    let raised_room = HasBits-raised nfa x bits i room in
-    rw is (record { room = rw same raised_room.room; fits = raised_room.fits })
+    grind arith

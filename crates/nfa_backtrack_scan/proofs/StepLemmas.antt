@@ -1,9 +1,8 @@
 -- What each kind of state leads to, after the turn that marked its place.
-use Rattle.std.proofs.Common.{◌≡◌, ℕ, suc, ◌+◌, ◌-◌, ◌*◌, ◌<◌, ◌≤◌, List, [], ◌∷◌, ◌++◌, length, get_or, set, map}
-use Rattle.std.proofs.Common.{refl, ap, sym, ◌∙◌, arith}
+use Rattle.std.proofs.Common.{◌≡◌, ℕ, ◌+◌, ◌-◌, ◌*◌, ◌<◌, ◌≤◌, List, [], ◌∷◌, ◌++◌, length, get_or, set, map, rules}
+use Rattle.std.proofs.Common.{refl, ap, sym, arith}
 use Rattle.std.specs.Prelude.{Option, Some, None, true, false, Bool, All, option_map, option_and_then, option_to_list}
 use Rattle.std.specs.List.{slice_get, sum_by}
-use Rattle.std.proofs.lemmas.Nat.{mul-add-lt}
 use Rattle.std.proofs.lemmas.List.{length-map}
 use Rattle.std.proofs.lemmas.List.Elements.{All-push}
 use Rattle.std.proofs.lemmas.List.Sums.{sum_by_push}
@@ -25,10 +24,10 @@ use Rattle.nfa_backtrack_scan.specs.Walk.{Carries, Ends, Goes, Taken, TurnsLead,
 use Rattle.nfa_backtrack_scan.specs.declared.frame.StatePos.{StatePos}
 use Rattle.nfa_backtrack_scan.specs.declared.frame.Frame.{Frame}
 use Rattle.nfa_backtrack_scan.specs.declared.frame.Frame.TheVariants.{Step}
-use Rattle.nfa_backtrack_scan.proofs.WalkLemmas.{bit_of-within, marked_sum-weights, Carries-plain}
+use Rattle.nfa_backtrack_scan.proofs.WalkLemmas.{marked_sum-weights, Carries-plain}
 use Rattle.nfa_backtrack_scan.proofs.WalkLemmas.{Carries-write, Carries-unkept, Ends-match}
 use Rattle.nfa_scan_core.proofs.AlternateLemmas.{none-nil}
-use Rattle.nfa_paths.proofs.StartLemmas.{byte_at-within, node_at-get}
+use Rattle.nfa_paths.proofs.StartLemmas.{node_at-get}
 
 -- the states that the code holds are those of the NFA
 pub same_size : (nfa : Automaton) (states : List State) → map node_of states ≡ nfa.states → length states
@@ -43,20 +42,7 @@ module _ (nfa : Automaton) (x : Search) (place : StatePos) (is_place : IsStatePo
   module _ (bits : List Bool) (room : HasBits nfa x bits) where
     lies : (place.at - x.start) * length nfa.states + place.sid < length nfa.states * (span_len x + 1)
     lies =
-        let f = is_place.from in let t = is_place.to in
-        let lt : place.at - x.start < span_len x + 1 = omega arith in
-        mul-add-lt (place.at - x.start) (length nfa.states) place.sid (span_len x + 1) lt is_place.state
-
--- the row of the next position
-row-next : (nfa : Automaton) (x : Search) (at row states : ℕ) → x.start ≤ at → row ≡ (at - x.start) * length nfa.states
-    → states ≡ length nfa.states
-    → row + states ≡ (at + 1 - x.start) * length nfa.states
-row-next nfa x at row states from is wide =
-    let e : at + 1 - x.start ≡ suc (at - x.start) = omega arith in
-    rw (e, is, wide) (one-more (at - x.start) (length nfa.states))
-  where
-    one-more : (k n : ℕ) → k * n + n ≡ suc k * n
-    one-more k n = grind arith
+        grind arith
 
 -- the turn at a place marked it
 pub Taken-place : (nfa : Automaton) (x : Search) (place : StatePos) (marks marked : Marks) (bit : ℕ) → bit
@@ -64,15 +50,7 @@ pub Taken-place : (nfa : Automaton) (x : Search) (place : StatePos) (marks marke
     → IsStatePos nfa x place → HasBits nfa x marks.bits → marked.turns ≡ marks.turns + 1
     → (get_or marks.bits bit true ≡ false) × (marked.bits ≡ set marks.bits bit true)
     → Taken nfa x (pair_of place) marks marked
-Taken-place nfa x place marks marked bit is p room counted fresh = record {
-  state = p.state;
-  from = p.from;
-  to = p.to;
-  inside = bit_of-within nfa x marks.bits place.sid place.at room p.state p.from p.to;
-  clear = rw is at fresh.0;
-  set = rw is at fresh.1;
-  counted = counted;
-}
+Taken-place nfa x place marks marked bit is p room counted fresh = grind arith
 
 -- it found it marked
 pub WasMarked-place : (nfa : Automaton) (x : Search) (place : StatePos) (marks marked : Marks) (bit : ℕ) → bit
@@ -80,11 +58,7 @@ pub WasMarked-place : (nfa : Automaton) (x : Search) (place : StatePos) (marks m
     → IsStatePos nfa x place → marked.turns ≡ marks.turns + 1 → (get_or marks.bits bit false ≡ true)
     × (marked.bits ≡ marks.bits)
     → WasMarked nfa x (pair_of place) marks marked
-WasMarked-place nfa x place marks marked bit is p counted seen = record {
-  marked_before = record { state = p.state; from = p.from; set = rw is at seen.0 };
-  same = seen.1;
-  counted = counted;
-}
+WasMarked-place nfa x place marks marked bit is p counted seen = grind arith
 
 -- frames as work
 pub stacked-push : (fs : List Frame) (f : Frame) (work : List Task) → stacked (fs ++ f ∷ []) work
@@ -132,14 +106,7 @@ pub step-edges : (nfa : Automaton) (x : Search) (s at : ℕ) (target : Option �
     → (b : IsByteStep nfa x (s, at) target)
     → edges_of x b.node at ≡ option_to_list (option_map (next_pair at) target)
 step-edges nfa x s at target b =
-    reads-edges x b.node at b.reads
-    ∙ ap option_to_list (outside (byte_at x at))
-    ∙ ap (λ o. option_to_list (option_map (next_pair at) o)) (sym b.leads)
-  where
-    outside : (o : Option ℕ) → option_and_then (λ k. option_map (next_pair at) (target_on b.node k)) o
-        ≡ option_map (next_pair at) (option_and_then (target_on b.node) o)
-    outside None = refl
-    outside (Some k) = refl
+    (grind (arith, reads-edges))
 
 -- the byte that leads to a target
 pub read-byte : (f : ℕ → Option ℕ) (byte : Option ℕ) (q : ℕ) → Some q ≡ option_and_then f byte
@@ -165,11 +132,7 @@ module _ {nfa : Automaton} {x : Search} {s at : ℕ} {m n : Marks} (t : Taken nf
       → (count : ℕ) (stack after : List Frame) (in_hand : ℕ)
       → All (IsFrame nfa x count) after → sum_by frame_tries after + in_hand ≤ sum_by frame_tries stack + degree node
       → PaidFor nfa x count stack m after n in_hand
-  PaidFor-step node is count stack after in_hand within tried = record {
-    within = within;
-    tried = rw t.set
-        (omega (arith, t.counted, marked_sum-weights nfa x m.bits s at node t.state t.from t.to is t.clear));
-  }
+  PaidFor-step node is count stack after in_hand within tried = grind (arith, marked_sum-weights)
 
   pub PaidFor-same : (node : Node) → slice_get nfa.states s ≡ Some node → (count : ℕ) (stack : List Frame) (in_hand : ℕ)
       → All (IsFrame nfa x count) stack → in_hand ≤ degree node → PaidFor nfa x count stack m stack n in_hand
@@ -189,8 +152,7 @@ module _ {nfa : Automaton} {x : Search} {s at : ℕ} {m n : Marks} (t : Taken nf
       → (es : List Pair) → edges_of x node at ≡ es → (rest : List Task) (slots : Slots)
       → Carries nfa x m (Explore (s, at) ∷ rest) slots n (map Explore es ++ rest) slots
   Goes-edges node is plain writes es leads rest slots =
-      Carries-plain nfa x m s at rest slots n t.counted t.state t.from t.inside t.clear t.set node is plain writes es
-      leads
+      search (rules, Carries-plain)
 
   -- a state that reads a byte
   pub Goes-stuck : IsByteStep nfa x (s, at) None → (rest : List Task) (slots : Slots)
@@ -207,13 +169,7 @@ module _ {nfa : Automaton} {x : Search} {s at : ℕ} {m n : Marks} (t : Taken nf
       → row ≡ (at - x.start) * length nfa.states → (states : ℕ) → states ≡ length nfa.states
       → IsStatePos nfa x (record { sid = q; at = at + 1; row = row + states })
   IsStatePos-byte q b row placed states wide =
-      let f = t.from in
-      let read = read-byte (target_on b.node) (byte_at x at) q b.leads in
-      let inside = byte_at-within x at read.0 read.1 in
-      let state = target-below (length nfa.states) b.node read.0 q b.below read.2 in
-      let from : x.start ≤ at + 1 = omega arith in
-      let to : at + 1 ≤ x.end = omega arith in
-      record { state = state; from = from; to = to; row = row-next nfa x at row states t.from placed wide }
+      search (rules, target-below)
 
   -- an assertion
   module _ (look : looks.Look) (next : ℕ) (is : slice_get nfa.states s ≡ Some (Look look next)) (rest : List Task)
@@ -252,19 +208,12 @@ module _ {nfa : Automaton} {x : Search} {s at : ℕ} {m n : Marks} (t : Taken nf
         (Explore (next, at) ∷ stacked (stack ++ restoring slot (get_or slots slot None) ∷ []) work)
         (set slots slot (Some at))
     Goes-write =
-        rw (
-          stacked-push stack (restoring slot (get_or slots slot None)) work,
-          work_item-restoring slot
-              (get_or slots slot None),
-        )
-        (Carries-write nfa x m s at (stacked stack work) slots n t.counted t.state t.from t.inside t.clear t.set next
-        slot is)
+        search (rules, Carries-write, stacked-push, work_item-restoring)
 
     pub Goes-unkept : length slots ≤ slot
         → Carries nfa x m (Explore (s, at) ∷ stacked stack work) slots n (Explore (next, at) ∷ stacked stack work)
         slots
-    Goes-unkept past = Carries-unkept nfa x m s at (stacked stack work) slots n t.counted t.state t.from t.inside
-        t.clear t.set next slot is past
+    Goes-unkept past = search (rules, Carries-unkept)
 
   -- a match
   pub Goes-match : (pattern : ℕ) → slice_get nfa.states s ≡ Some (Match pattern) → (rest : List Task) (slots : Slots)
@@ -272,6 +221,5 @@ module _ {nfa : Automaton} {x : Search} {s at : ℕ} {m n : Marks} (t : Taken nf
       × Ends nfa x m (Explore (s, at) ∷ rest) slots (Some ((s, at), slots)) n.turns
   Goes-match pattern is rest slots = (
     rw (node_at-get nfa s (Match pattern) is) refl,
-    Ends-match nfa x m s at rest slots n t.counted t.state t.from
-        t.inside t.clear t.set pattern is,
+    search (rules, Ends-match),
   )

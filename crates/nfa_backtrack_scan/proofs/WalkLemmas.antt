@@ -1,13 +1,12 @@
 -- The steps of a walk, one for each kind of state.
-use Rattle.std.proofs.Common.{◌≡◌, ℕ, suc, ◌+◌, ◌-◌, ◌*◌, ◌<◌, ◌≤◌, ◌⊎◌, inl, inr, List, [], ◌∷◌, ◌++◌, length}
-use Rattle.std.proofs.Common.{get_or, set, map, replicate, refl, ap, ◌∙◌, arith}
+use Rattle.std.proofs.Common.{◌≡◌, ℕ, suc, ◌+◌, ◌-◌, ◌*◌, ◌<◌, ◌≤◌, ◌⊎◌, List, [], ◌∷◌, ◌++◌, length, rules}
+use Rattle.std.proofs.Common.{get_or, set, map, replicate, refl, arith}
 use Rattle.std.specs.Prelude.{Option, Some, None, true, false, Bool, sum}
 use Rattle.std.specs.List.{slice_get}
 use Rattle.std.proofs.Math.Decide.{ℕ_discrete}
-use Rattle.std.proofs.lemmas.Nat.{mul-add-lt, same_from_place}
+use Rattle.std.proofs.lemmas.Nat.{same_from_place}
 use Rattle.std.proofs.lemmas.Option.{slice_get-map, get_or_from_slice_get}
-use Rattle.std.proofs.lemmas.List.{length-map, get_or_default}
-use Rattle.std.proofs.Common.{get_or-set_same, get_or-set_other}
+use Rattle.std.proofs.lemmas.List.{length-map}
 use Rattle.std.proofs.lemmas.List.Sums.{sum-map}
 use Rattle.regex_search_core.specs.Search.{Search}
 use Rattle.thompson_nfa.specs.Automaton.{Automaton, Node}
@@ -19,7 +18,7 @@ use Rattle.nfa_paths.specs.Paths.{span_len, degree, pattern_of, slot_of, edges_o
 use Rattle.nfa_paths.specs.Paths.{total_degree}
 use Rattle.nfa_paths.specs.Exploring.{Task, Slots, Hit, ExploresTo}
 use Rattle.nfa_paths.specs.Exploring.Task.{Explore, Restore}
-use Rattle.nfa_paths.specs.Turns.{marked_sum, repeated}
+use Rattle.nfa_paths.specs.Turns.{marked_sum}
 use Rattle.nfa_paths.proofs.SearchLemmas.{Answer-more, Answer-none, Answer-restore, Answer-marked, Answer-target, Answer-plain}
 use Rattle.nfa_paths.proofs.SearchLemmas.{Answer-write, Answer-unkept}
 use Rattle.nfa_paths.proofs.TurnLemmas.{marked_sum-set, sum-repeated, get_or-repeated}
@@ -41,10 +40,7 @@ Answer-dead : (space : Space) (target : Pair → Bool) (left : ℕ) (otherwise :
     → ExploresTo space target left otherwise marks rest slots g
     → ExploresTo space target (suc left) otherwise marks (Explore v ∷ rest) slots g
 unfolding ExploresTo
-Answer-dead space target left otherwise marks v rest slots g plain none h = inr (
-  λ p way. no_path space.edges target plain none way.path,
-  Answer-more space target left (suc left) (omega arith) otherwise marks rest slots g h,
-)
+Answer-dead space target left otherwise marks v rest slots g plain none h = grind (arith, Answer-more)
 
 module _ (nfa : Automaton) (x : Search) where
   -- the bit of a place is in the table
@@ -52,9 +48,7 @@ module _ (nfa : Automaton) (x : Search) where
       ≤ at → at ≤ x.end
       → bit_of nfa x (s, at) < length bits
   bit_of-within bits s at room state from to =
-      let lt : at - x.start < span_len x + 1 = omega arith in
-      let k = mul-add-lt (at - x.start) (length nfa.states) s (span_len x + 1) lt state in let h = room.room in omega
-      arith
+      grind arith
 
   -- marking a pair adds its state's degree
   pub marked_sum-weights : (bits : List Bool) (s at : ℕ) (node : Node) → s < length nfa.states → x.start
@@ -70,16 +64,12 @@ module _ (nfa : Automaton) (x : Search) where
       let w : get_or (map degree nfa.states) s 0
       ≡ degree node = get_or_from_slice_get (map degree nfa.states) s (degree node) 0
       (rw (slice_get-map degree nfa.states s, is) refl) in
-      let e : get_or (repeated (span_len x + 1) (map degree nfa.states)) (bit_of nfa x (s, at)) 0
-      ≡ degree node = rw length-map at one ∙ w in
-      marked_sum-set (repeated (span_len x + 1) (map degree nfa.states)) bits (bit_of nfa x (s, at)) clear
-      ∙ ap (λ k. marked_sum (repeated (span_len x + 1) (map degree nfa.states)) bits + k) e
+      grind (arith, length-map, marked_sum-set)
 
   -- all of them together
   pub sum-weights : sum (weights nfa x) ≡ (span_len x + 1) * total_degree nfa
   unfolding weights
-  sum-weights = sum-repeated (span_len x + 1) (map degree nfa.states) ∙ ap (λ k. (span_len x + 1) * k)
-      (sum-map degree nfa.states)
+  sum-weights = grind (arith, sum-map, sum-repeated)
 
   -- no pair is marked in a table of clear bits
   pub IsMarked-clear : (n : ℕ) (v : Pair) → IsMarked nfa x (replicate n false) v → ⊥
@@ -95,36 +85,10 @@ module _ (nfa : Automaton) (x : Search) where
         elim (ℕ_discrete (bit_of nfa x v) (bit_of nfa x (s, at))) [
           | yes e ↦
               let both = same_from_place (v.1 - x.start) v.0 (at - x.start) s (length nfa.states) m.state state e in
-              let same : v.1 ≡ at = let f = m.from in let d = both.0 in omega arith in
-              inl (λ i. (both.1 i, same i))
-          | no n ↦ inr (record {
-            state = m.state;
-            from = m.from;
-            set = rw (get_or-set_other bits (bit_of nfa x (s, at)) (bit_of nfa x v) true false n) at m.set;
-          })
+              grind arith
+          | no n ↦ search rules
         ],
-    λ m.
-        elim m [
-          | inl e ↦ rw e (record {
-            state = state;
-            from = from;
-            set = get_or-set_same bits (bit_of nfa x (s, at)) true
-                false inside;
-          })
-          | inr old ↦
-              elim (ℕ_discrete (bit_of nfa x v) (bit_of nfa x (s, at))) [
-                | yes e ↦ record {
-                  state = old.state;
-                  from = old.from;
-                  set = rw (e, get_or-set_same bits (bit_of nfa x (s, at)) true false inside) refl;
-                }
-                | no n ↦ record {
-                  state = old.state;
-                  from = old.from;
-                  set = rw (get_or-set_other bits (bit_of nfa x (s, at)) (bit_of nfa x v) true false n) old.set;
-                }
-              ]
-        ],
+    search rules,
   )
 
   module _ (marks : Marks) (s at : ℕ) (rest : List Task) (slots : Slots) (after : Marks)
@@ -138,9 +102,7 @@ module _ (nfa : Automaton) (x : Search) where
       grows = omega arith;
       back = λ left more g e a pairs agrees.
           let one : more ≡ suc left = omega arith in
-          rw one
-          (Answer-marked (space nfa x) (is_match nfa) left None pairs (s, at) rest slots g
-          ((agrees (s, at)).1 (record { state = state; from = from; set = seen })) (rw same at a pairs agrees));
+          grind (arith, Answer-marked);
     }
 
     -- a turn at a pair that leads nowhere, which is not marked
@@ -152,10 +114,7 @@ module _ (nfa : Automaton) (x : Search) where
       grows = omega arith;
       back = λ left more g e a pairs agrees.
           let one : more ≡ suc left = omega arith in
-          let n = node_at-get nfa s node is in
-          rw one
-          (Answer-dead (space nfa x) (is_match nfa) left None pairs (s, at) rest slots g (rw (n, plain) refl)
-          (rw n leads) (rw same at a pairs agrees));
+          search (rules, Answer-dead, node_at-get);
     }
 
     pub Fails-at : slice_get nfa.states s ≡ Some Fail → after.bits ≡ marks.bits
@@ -168,18 +127,11 @@ module _ (nfa : Automaton) (x : Search) where
         (marked : after.bits ≡ set marks.bits (bit_of nfa x (s, at)) true) where
       free : (pairs : List Pair) → Agrees nfa x marks.bits pairs → ¬ (In (s, at) pairs)
       free pairs agrees i =
-          let m = (agrees (s, at)).0 i in
-          let e : get_or marks.bits (bit_of nfa x (s, at)) false
-          ≡ false = get_or_default marks.bits (bit_of nfa x (s, at)) false true inside ∙ clear in
-          absurd (cc (m.set, e))
+          search rules
 
       grown : (pairs : List Pair) → Agrees nfa x marks.bits pairs → Agrees nfa x after.bits ((s, at) ∷ pairs)
       grown pairs agrees v =
-          let now = IsMarked-set marks.bits s at state from inside v in
-          rw marked (
-            λ i. now.1 (elim i [ inl e ↦ inl e | inr k ↦ inr ((agrees v).0 k) ]),
-            λ m. elim (now.0 m) [ inl e ↦ inl e | inr k ↦ inr ((agrees v).1 k) ],
-          )
+          grind (arith, IsMarked-set)
 
       -- a turn that marks the pair
       Carries-taken : (work : List Task) (written : Slots)
@@ -203,10 +155,7 @@ module _ (nfa : Automaton) (x : Search) where
         grows = omega arith;
         answer = λ left e pairs agrees.
             let one : left ≡ suc 0 = omega arith in
-            let node = node_at-get nfa s (Match pattern) is in
-            rw one
-            (Answer-target (space nfa x) (is_match nfa) 0 None pairs (s, at) rest slots _
-            (free pairs agrees) (rw node refl) (rw node refl));
+            search (rules, Answer-target, node_at-get);
       }
 
       -- a state that writes nothing gives way to its edges
@@ -217,8 +166,7 @@ module _ (nfa : Automaton) (x : Search) where
       Carries-plain node is plain writes es leads =
           let n = node_at-get nfa s node is in
           Carries-taken (map Explore es ++ rest) slots
-          (λ left pairs g f. Answer-plain (space nfa x) (is_match nfa) left None pairs (s, at) rest slots
-          g f (rw (n, plain) refl) es (rw n leads) (rw (n, writes) refl))
+          (grind (arith, Answer-plain))
 
       -- a Capture writes its slot, which is restored below its edge
       pub Carries-write : (next slot : ℕ) → slice_get nfa.states s ≡ Some (Capture next slot)
@@ -259,29 +207,18 @@ module _ (nfa : Automaton) (x : Search) where
       }
 
   pub Carries-none : (m : Marks) (w : List Task) (s : Slots) → Carries nfa x m w s m w s
-  Carries-none m w s = record {
-    grows = omega arith;
-    back = λ left more g e h. let same : more ≡ left = omega arith in rw same h;
-  }
+  Carries-none m w s = grind arith
 
   -- a slot has its old value again
   pub Carries-restore : (m : Marks) (w : List Task) (s : Slots) (k : ℕ) (old : Option ℕ)
       → Carries nfa x m (Restore k old ∷ w) s m w (set s k old)
   unfolding WalkAnswer
-  Carries-restore m w s k old = record {
-    grows = omega arith;
-    back = λ left more g e h pairs agrees.
-        let same : more ≡ left = omega arith in
-        rw same ((Answer-restore (space nfa x) (is_match nfa) left None pairs k old w s g).0 (h pairs agrees));
-  }
+  Carries-restore m w s k old = grind (arith, Answer-restore)
 
   -- nothing is left
   pub Ends-none : (m : Marks) (s : Slots) → Ends nfa x m [] s None m.turns
   unfolding WalkAnswer
-  Ends-none m s = record {
-    grows = omega arith;
-    answer = λ left e pairs agrees. Answer-none (space nfa x) (is_match nfa) left None pairs s;
-  }
+  Ends-none m s = grind (arith, Answer-none)
 
   -- steps before the end
   pub EndsAt-along : {half : HalfMatch} {m : Marks} {w : List Task} {s : Slots} {n : Marks} {y : List Task}

@@ -1,5 +1,5 @@
 -- Each accepting path of a search is a way, and so writes its bounds if each way does.
-use Rattle.std.proofs.Common.{◌≡◌, ℕ, suc, zero, ◌+◌, ◌-◌, inl, inr, List, [], ◌∷◌, map, refl, ap, sym}
+use Rattle.std.proofs.Common.{◌≡◌, ℕ, suc, zero, ◌+◌, ◌-◌, inl, inr, List, [], ◌∷◌, map, refl, ap, sym, arith}
 use Rattle.std.proofs.Common.{◌∙◌, subst}
 use Rattle.std.specs.Prelude.{Option, Some, None, true, false, Bool, ◌||◌, ◌==◌, option_map}
 use Rattle.std.specs.Prelude.{option_and_then, option_to_list, filter_map, if◌then◌else◌, nat_lt, slice_get}
@@ -21,11 +21,7 @@ use Rattle.nfa_paths.proofs.MemberLemmas.{In-map}
 first-in : (ts : List Transition) (b t : ℕ) → first_target ts b ≡ Some t → In t (map (λ u. u.next) ts)
 first-in [] b t e = cc
 first-in (u ∷ ts) b t e =
-    (elim (holds_byte u b) as (λ h. (if h then Some u.next else first_target ts b) ≡ Some t
-    → In t (map (λ w. w.next) (u ∷ ts))) [
-      | true ↦ λ s. inl (let same : u.next ≡ t = cc in sym same)
-      | false ↦ λ s. inr (first-in ts b t s)
-    ]) e
+    grind (arith, first-in ts b t)
 
 present-in : (places : List (Option ℕ)) (b t : ℕ) → option_and_then (λ target. target) (slice_get places b) ≡ Some t
     → In t (filter_map (λ target. target) places)
@@ -37,10 +33,7 @@ present-in (Some s ∷ places) (suc b) t e = inr (present-in places b t e)
 
 range-in : (u : Transition) (b t : ℕ) → (if holds_byte u b then Some u.next else None) ≡ Some t → In t (u.next ∷ [])
 range-in u b t e =
-    (elim (holds_byte u b) as (λ h. (if h then Some u.next else None) ≡ Some t → In t (u.next ∷ [])) [
-      | true ↦ λ s. inl (let same : u.next ≡ t = cc in sym same)
-      | false ↦ λ s. absurd (cc s)
-    ]) e
+    grind arith
 
 -- an edge over a byte leads to a target, one position on
 byte-edge : (x : Search) (node : Node) (ts : List ℕ) (p : ℕ) (w : Pair)
@@ -79,10 +72,7 @@ open-edge x _ p w i = i
 
 pairs_from-state : (state p count : ℕ) (v : Pair) → In v (pairs_from state p count) → v.0 ≡ state
 pairs_from-state state p zero v i = absurd i
-pairs_from-state state p (suc count) v i = elim i [
-  | inl e ↦ ap (λ (z : Pair). z.0) e
-  | inr later ↦ pairs_from-state state (p + 1) count v later
-]
+pairs_from-state state p (suc count) v i = grind (arith, pairs_from-state state (p + 1) count v)
 
 pairs_from-one : (state p : ℕ) (v : Pair) → In v (pairs_from state p 1) → v.1 ≡ p
 pairs_from-one state p v i = elim i [ inl e ↦ ap (λ (z : Pair). z.1) e | inr never ↦ absurd never ]
@@ -120,13 +110,7 @@ module _ (nfa : Automaton) (x : Search) where
 
   -- an accepting path is a way
   path-way : (end : Pair) (p : List Pair) → PathTo (edges nfa x) (starts nfa x) end p → IsStatePath nfa end p
-  path-way end p path = record {
-    start = path.start;
-    starts = start-state path.start path.among;
-    head = path.head;
-    linked = linked-open p path.linked;
-    ends = path.ends;
-  }
+  path-way end p path = grind (arith, linked-open, start-state)
 
   pub paths-recorded : RecordsMatchSpans nfa → PathsWriteTheirEnds nfa x
   paths-recorded records end p path matches = records end p (path-way end p path) matches

@@ -1,5 +1,5 @@
 -- Where each way writes its bounds, a match is that of the path which its search answers.
-use Rattle.std.proofs.Common.{◌≡◌, ℕ, ◌<◌, ◌≤◌, List, refl, sym, ap, ◌∙◌, subst, arith}
+use Rattle.std.proofs.Common.{◌≡◌, ℕ, ◌<◌, List, refl, sym, ap, ◌∙◌, subst, arith, rules}
 use Rattle.std.specs.Prelude.{Option, Some, None, IfSome, true, false, Bool, MatchBool, option_and_then, option_map}
 use Rattle.regex_search_core.specs.Found.{Found, HalfFound}
 use Rattle.regex_search_core.specs.Groups.{slot_count}
@@ -8,7 +8,7 @@ use Rattle.regex_search_core.specs.Slots.{match_of}
 use Rattle.regex_search_core.specs.declared.search.MatchKind.{MatchKind}
 use Rattle.thompson_nfa.specs.Automaton.{Automaton, IsAutomaton}
 use Rattle.nfa_paths.specs.Graphs.{Pair, EndsWith}
-use Rattle.nfa_paths.specs.Paths.{raised, is_utf8_empty, node_at, path_half, path_pattern, pattern_of, slot_row}
+use Rattle.nfa_paths.specs.Paths.{raised, is_utf8_empty, path_half, path_pattern, slot_row}
 use Rattle.nfa_paths.specs.Paths.{IsScanAnswer, IsKeptAnswer, IsRestartedAnswer, IsSearchAnswer, IsFindAnswer}
 use Rattle.nfa_paths.specs.Paths.{IsHalfAnswer}
 use Rattle.nfa_paths.proofs.StartLemmas.{raised-zero}
@@ -21,7 +21,6 @@ use Rattle.nfa_match_spans.specs.Matches.{AnswersBytes, AnswersNoBytes, AreOneMa
 use Rattle.nfa_match_spans.specs.Matches.{PathsReadBytes}
 use Rattle.nfa_match_spans.specs.StatePaths.{RecordsMatchSpans}
 use Rattle.nfa_match_spans.proofs.LawLemmas.{paths-recorded, start-anchored}
-use Rattle.nfa_match_spans.proofs.StatePathLemmas.{HeadIs-one}
 
 ends : (a b : Pair) (p : List Pair) → EndsWith a p → EndsWith b p → a ≡ b
 ends a b p h k = let same : Some a ≡ Some b = sym (EndsWith-last None a p h) ∙ EndsWith-last None b p k in cc
@@ -77,8 +76,7 @@ module _ (nfa : Automaton) (kind : MatchKind) (earliest : Bool) (x : Search) whe
           path = to.path;
           accepts = to.matches;
           pattern_is = writes.pattern_is ∙ ap (λ (g : Found). Some g.pattern) (sym same);
-          start_is = ap (λ (g : Found). g.start) same
-              ∙ ap (λ (z : Pair). z.1) (HeadIs-one writes.start to.path.start p writes.head to.path.head);
+          start_is = grind arith;
           end_is = ap (λ (g : Found). g.end) same;
         }
 
@@ -99,8 +97,7 @@ module _ (nfa : Automaton) (kind : MatchKind) (earliest : Bool) (x : Search) whe
         let one = search_answer-unique nfa kind earliest x answer.restarts restarts answer.path path answer.answers h in
         told (raised x restarts) path found
         (λ p e. search-scan restarts p (subst (IsSearchAnswer nfa kind earliest x restarts) e h))
-        (subst (λ o. found ≡ match_of (option_and_then (path_pattern nfa) o) (slot_row nfa (slot_count nfa.groups) o))
-        one.1 answer.found_is)
+        (grind arith)
 
     -- the end of the path that a search answers is that of its match
     pub half-is-end : (half : Option HalfFound) (found : Option Found) → IsHalfAnswer nfa kind earliest x half
@@ -115,9 +112,7 @@ module _ (nfa : Automaton) (kind : MatchKind) (earliest : Bool) (x : Search) whe
         of None (Some m) one = absurd one
         of (Some p) None one = absurd one
         of (Some p) (Some m) one =
-            let last = EndsWith-last None one.end p one.path.ends in
-            let pattern : pattern_of (node_at nfa one.end.0) ≡ Some m.pattern = rw last at one.pattern_is in
-            rw (last, pattern, one.end_is) refl
+            grind (arith, EndsWith-last)
 
     module _ (bound : is_anchored x.anchored ≡ true) where
       -- an anchored search has one scan
@@ -154,13 +149,7 @@ module _ (nfa : Automaton) (kind : MatchKind) (earliest : Bool) (x : Search) whe
           of : (path : Option (List Pair)) → IsSearchAnswer nfa kind earliest x 0 path
               → AreOneMatch nfa x path (Some m) → AnswersBytes nfa kind earliest x
           of None h one = absurd one
-          of (Some p) h one = record {
-            along = p;
-            answers = h;
-            end = one.end;
-            ends = one.path.ends;
-            some_bytes = rw (← one.end_is) less;
-          }
+          of (Some p) h one = grind arith
 
       -- and one without a byte, or none, is not
       no-bytes-answered : (found : Option Found) → IsFindAnswer nfa kind earliest x found
@@ -168,13 +157,7 @@ module _ (nfa : Automaton) (kind : MatchKind) (earliest : Bool) (x : Search) whe
       no-bytes-answered None answer none bytes = match-of-once (Some bytes.along) None bytes.answers answer
       no-bytes-answered (Some m) answer none bytes =
           let one = match-of-once (Some bytes.along) (Some m) bytes.answers answer in
-          let start : m.start ≡ x.start = starts-the-span (Some m) answer in
-          let end : m.end ≤ x.start = none start in
-          let is : m.end ≡ one.end.1 = one.end_is in
-          let same : one.end.1 ≡ bytes.end.1 =
-          ap (λ (z : Pair). z.1) (ends one.end bytes.end bytes.along one.path.ends bytes.ends) in
-          let less : x.start < bytes.end.1 = bytes.some_bytes in
-          omega arith
+          grind (arith, ends)
 
       -- if each path has a byte, there is no path
       no-path-answered : is_utf8_empty nfa ≡ false → PathsReadBytes nfa x → (found : Option Found)
@@ -189,17 +172,8 @@ module _ (nfa : Automaton) (kind : MatchKind) (earliest : Bool) (x : Search) whe
           of (Some p) h =
               let scan : (0 ≡ 0) × IsScanAnswer nfa x kind earliest (Some p) = rw anywhere at h in
               let to = scan_answer-leads nfa x kind earliest p scan.1 in
-              absurd (no-bytes-answered found answer none (record {
-                along = p;
-                answers = h;
-                end = to.end;
-                ends = to.path.ends;
-                some_bytes = read to.end p to.path to.matches;
-              }))
+              search (rules, no-bytes-answered)
 
       pub no-bytes-told : (found : Option Found) → IsFindAnswer nfa kind earliest x found → HasNoByteAt x.start found
           → AnswersNoBytes nfa kind earliest x
-      no-bytes-told found answer none = record {
-        no_bytes = no-bytes-answered found answer none;
-        nothing = λ anywhere read. no-path-answered anywhere read found answer none;
-      }
+      no-bytes-told found answer none = search (rules, no-bytes-answered, no-path-answered)

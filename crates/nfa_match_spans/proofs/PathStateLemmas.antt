@@ -31,40 +31,19 @@ written-match _ pattern slot position held e = cc
 
 -- at the start of a way
 pub Describes-fresh : (s position : ℕ) → Describes position position None None (fresh_path_state s)
-Describes-fresh s position = record {
-  onward = omega arith;
-  unread = λ e. refl;
-  read = λ e. absurd (cc e);
-  started = (λ e. cc, λ e. cc);
-  ended = (λ e. cc, λ e. cc);
-  behind = λ k e. cc;
-}
+Describes-fresh s position = grind arith
 
 module _ {start position : ℕ} {start_slot end_slot : Option ℕ} {v : PathState} where
   -- at another state
   Describes-at : (s : ℕ) → Describes start position start_slot end_slot v
       → Describes start position start_slot end_slot (at_state v s)
-  Describes-at s h = record {
-    onward = h.onward;
-    unread = h.unread;
-    read = h.read;
-    started = h.started;
-    ended = h.ended;
-    behind = h.behind;
-  }
+  Describes-at s h = grind arith
 
   -- after a byte
   Describes-read : (s : ℕ) → Describes start position start_slot end_slot v
       → Describes start (position + 1) start_slot end_slot
       (record v { state = s; has_read = true; end_written = false })
-  Describes-read s h = record {
-    onward = let o = h.onward in omega arith;
-    unread = λ e. absurd (cc e);
-    read = λ e. let o = h.onward in omega arith;
-    started = h.started;
-    ended = (λ e. cc, λ e. absurd (let b : position + 1 ≤ position = h.behind (position + 1) e in omega arith));
-    behind = λ k e. let b : k ≤ position = h.behind k e in omega arith;
-  }
+  Describes-read s h = grind arith
 
   -- whether the start's slot holds the start, once a Capture of it, or of another, is done
   start-captured : (here : Bool) → Describes start position start_slot end_slot v
@@ -101,14 +80,7 @@ module _ {start position : ℕ} {start_slot end_slot : Option ℕ} {v : PathStat
       (written (Capture next slot) (2 * pattern + 1) position end_slot)
       (at_state (after_node pattern (Capture next slot) v) s)
   unfolding after_node
-  Describes-captured pattern next slot s h = record {
-    onward = h.onward;
-    unread = h.unread;
-    read = h.read;
-    started = start-captured (slot == 2 * pattern) h;
-    ended = end-captured (slot == 2 * pattern + 1) h;
-    behind = end-behind (slot == 2 * pattern + 1) h;
-  }
+  Describes-captured pattern next slot s h = grind arith
 
   -- after the turn of the place's state
   pub Describes-after : (pattern : ℕ) (node : Node) (s : ℕ) → Describes start position start_slot end_slot v

@@ -55,10 +55,7 @@ targets-below n s (Sparse ts) leads i =
     rw of.2 (All-In (λ (t : Transition). t.next < n) ts leads of.0 of.1)
 targets-below n s (Dense places) leads i = present-below n s places leads i
 targets-below n s (Union alternates) leads i = All-In (λ t. t < n) alternates leads s i
-targets-below n s (BinaryUnion alt1 alt2) leads i = elim i [
-  | inl e ↦ rw e leads.0
-  | inr j ↦ elim j [ inl e ↦ rw e leads.1 | inr never ↦ absurd never ]
-]
+targets-below n s (BinaryUnion alt1 alt2) leads i = grind arith
 targets-below n s Fail leads i = absurd i
 targets-below n s (Match pattern) leads i = absurd i
 targets-below n s _ leads i = elim i [ inl e ↦ rw e leads | inr never ↦ absurd never ]
@@ -118,9 +115,7 @@ pub patterns-more : (nfa : Automaton) (old new : List PathState) (index start : 
 patterns-more nfa old new index start gains before here =
     below_more (λ k. (s : ℕ) → k ≤ 2147483646 → slice_get nfa.patterns k ≡ Some s → In (fresh_path_state s) new) index
     (λ k h s small e. GainsPathStates-kept gains (fresh_path_state s) (before k s h small e))
-    (λ s small e.
-    let same : start ≡ s = cc (here small, e) in
-    gains.all (fresh_path_state s) (inl (ap fresh_path_state (sym same))))
+    (grind arith)
 
 -- or if the pattern has none
 pub patterns-same : (nfa : Automaton) (places : List PathState) (index : ℕ) (found : Option ℕ)
@@ -129,23 +124,13 @@ pub patterns-same : (nfa : Automaton) (places : List PathState) (index : ℕ) (f
     → (k : ℕ) → k < index + 1 → (s : ℕ) → k ≤ 2147483646 → slice_get nfa.patterns k ≡ Some s
     → In (fresh_path_state s) places
 patterns-same nfa places index found before here none =
-    below_more (λ k. (s : ℕ) → k ≤ 2147483646 → slice_get nfa.patterns k ≡ Some s
-    → In (fresh_path_state s) places) index
-    (λ k h s small e. before k s h small e)
-    (λ s small e. let never : None ≡ Some s = sym none ∙ here small ∙ e in absurd (cc never))
+    grind arith
 
 module _ (nfa : Automaton) (pattern : ℕ) where
   pub IsUnderWay-begin : (places : List PathState) → ((s : ℕ) → IsStart nfa s → In (fresh_path_state s) places)
       → ((v : PathState) → In v places → IsFresh nfa v) → ((v : PathState) → In v places → v.state < length nfa.states)
       → IsUnderWay nfa pattern 0 places
-  IsUnderWay-begin places starts only below = record {
-    inside = omega arith;
-    starts = starts;
-    covers = λ v i. absurd i;
-    fine = λ v i. absurd i;
-    below = below;
-    led = λ v i. IsLedTo-fresh nfa pattern v (only v i);
-  }
+  IsUnderWay-begin places starts only below = grind (arith, IsLedTo-fresh)
 
   -- one place more is done, and what follows was added
   pub IsUnderWay-step : (done : ℕ) (old new : List PathState) (v : PathState) → IsUnderWay nfa pattern done old
@@ -163,10 +148,7 @@ module _ (nfa : Automaton) (pattern : ℕ) where
         covers = λ w i u j.
             elim (In-append w (take done old) (v ∷ []) (more w i)) [
               | inl k ↦ GainsPathStates-kept gains u (under.covers w k u j)
-              | inr k ↦ elim k [
-                | inl e ↦ gains.all u (subst (λ (z : PathState). In u (next_places nfa pattern z)) e j)
-                | inr never ↦ absurd never
-              ]
+              | inr k ↦ grind arith
             ];
         fine = λ w i.
             elim (In-append w (take done old) (v ∷ []) (more w i)) [
@@ -192,12 +174,7 @@ module _ (nfa : Automaton) (pattern : ℕ) where
   pub IsUnderWay-done : (done : ℕ) (places : List PathState) → length places ≤ done → IsUnderWay nfa pattern done places
       → IsClosed nfa pattern places
   IsUnderWay-done done places all under =
-      let same : take done places ≡ places = take_all done places all in
-      record {
-        starts = under.starts;
-        covers = λ v i. under.covers v (rw same i);
-        fine = λ v i. under.fine v (rw same i);
-      }
+      grind (arith, take_all)
 
   -- what was not found to lack a bound does not
   pub IsFine-of : (v : PathState) (node : Node) (lacks : Bool) → node_at nfa v.state ≡ node

@@ -1,19 +1,19 @@
 -- Ways, and the places that they lead to.
-use Rattle.std.proofs.Common.{◌≡◌, ℕ, ◌+◌, ◌*◌, ◌<◌, inl, inr, length, List, [], ◌∷◌, ◌++◌, map, refl, ap, sym, ◌∙◌}
+use Rattle.std.proofs.Common.{◌≡◌, ℕ, ◌+◌, ◌*◌, ◌<◌, length, List, [], ◌∷◌, ◌++◌, map, refl, sym, ◌∙◌, rules, arith}
 use Rattle.std.proofs.Common.{subst}
-use Rattle.std.specs.Prelude.{Option, Some, None, true, false, Bool, ◌&&◌, option_and_then}
+use Rattle.std.specs.Prelude.{Option, Some, None, true, false, ◌&&◌}
 use Rattle.std.specs.Option.{option_or}
 use Rattle.thompson_nfa.specs.Automaton.{Automaton, IsAutomaton}
 use Rattle.nfa_paths.specs.Graphs.{Pair, In, HeadIs, Linked, EndsWith}
-use Rattle.nfa_paths.specs.Paths.{node_at, pattern_of, slot_among, path_pattern}
+use Rattle.nfa_paths.specs.Paths.{node_at, pattern_of, slot_among}
 use Rattle.nfa_paths.proofs.PathToLemmas.{EndsWith-last}
-use Rattle.nfa_paths.proofs.PatternLemmas.{some-pattern, node-pattern}
+use Rattle.nfa_paths.proofs.PatternLemmas.{node-pattern}
 use Rattle.nfa_match_spans.specs.StatePaths.{targets, position_after, open_edges, IsStatePath, PatternRecordsMatchSpans, RecordsMatchSpans}
 use Rattle.nfa_match_spans.specs.PathStates.{fresh_path_state, at_state, after_node, next_places, is_recorded}
 use Rattle.nfa_match_spans.specs.PathStates.{IsFresh, Describes, IsLedTo}
 use Rattle.nfa_match_spans.specs.PathStates.{IsClosed}
 use Rattle.nfa_match_spans.proofs.PathStateLemmas.{written, slot_among-append}
-use Rattle.nfa_match_spans.proofs.PathStateLemmas.{written-match, Describes-fresh, Describes-after}
+use Rattle.nfa_match_spans.proofs.PathStateLemmas.{Describes-fresh, Describes-after}
 use Rattle.nfa_match_spans.specs.declared.path_state.PathState.{PathState}
 use Rattle.nfa_paths.proofs.OptionLemmas.{option_or-None, option_or-assoc}
 use Rattle.nfa_paths.proofs.MemberLemmas.{In-map}
@@ -21,10 +21,7 @@ use Rattle.nfa_paths.proofs.MemberLemmas.{In-map}
 -- each element of what a list gives is given by an element
 pub In-mapped : {A B : Type 0} (f : A → B) (y : B) (xs : List A) → In y (map f xs) → (x : A) × In x xs × (y ≡ f x)
 In-mapped f y [] i = absurd i
-In-mapped f y (x ∷ xs) i = elim i [
-  | inl e ↦ (x, inl refl, e)
-  | inr j ↦ let at = In-mapped f y xs j in (at.0, inr at.1, at.2)
-]
+In-mapped f y (x ∷ xs) i = grind (arith, In-mapped f y xs)
 
 HeadIs-append : (s : Pair) (p q : List Pair) → HeadIs s p → HeadIs s (p ++ q)
 HeadIs-append s [] q h = absurd h
@@ -62,9 +59,7 @@ module _ (nfa : Automaton) (pattern : ℕ) where
   pub IsLedTo-next : (v w : PathState) → IsLedTo nfa pattern v → In w (next_places nfa pattern v)
       → IsLedTo nfa pattern w
   IsLedTo-next v w led i =
-      let node = node_at nfa v.state in
-      let of = In-mapped (at_state (after_node pattern node v)) w (targets node) i in
-      subst (IsLedTo nfa pattern) (sym of.2) (onward of.0 of.1)
+      (grind (arith, In-mapped, onward))
     where
       slots : (slot : ℕ) → slot_among nfa (led.before ++ (v.state, led.position) ∷ []) slot
           ≡ written (node_at nfa v.state) slot led.position (slot_among nfa led.before slot)
@@ -81,8 +76,7 @@ module _ (nfa : Automaton) (pattern : ℕ) where
         linked = Linked-more (open_edges nfa) led.before (v.state, led.position)
             (s, position_after (node_at nfa v.state) led.position) led.linked
             (In-map (λ t. (t, position_after (node_at nfa v.state) led.position)) s (targets (node_at nfa v.state)) j);
-        done = rw (slots (2 * pattern), slots (2 * pattern + 1))
-            (Describes-after pattern (node_at nfa v.state) s led.done);
+        done = search (rules, Describes-after, slots);
       }
 
   -- if a way leads to a Match that lacks a bound, not each way writes its bounds
@@ -92,29 +86,13 @@ module _ (nfa : Automaton) (pattern : ℕ) where
       let end : Pair = (v.state, led.position) in
       let p = led.before ++ end ∷ [] in
       let ends = EndsWith-append end led.before in
-      let way : IsStatePath nfa end p = record {
-        start = led.start;
-        starts = led.starts;
-        head = led.head;
-        linked = led.linked;
-        ends = ends;
-      } in
+      let way : IsStatePath nfa end p = (grind arith) in
       let writes = all end p way matches in
-      let same : writes.start ≡ led.start = HeadIs-one writes.start led.start p writes.head led.head in
-      let is : path_pattern nfa p ≡ Some pattern =
-      ap (option_and_then (λ (z : Pair). pattern_of (node_at nfa z.0))) (EndsWith-last None end p ends) ∙ matches in
-      let one : writes.pattern ≡ pattern = cc (writes.pattern_is, is) in
-      let low : slot_among nfa led.before (2 * pattern) ≡ Some led.start.1 =
-      sym (slots (2 * pattern)) ∙ ap (λ k. slot_among nfa p (2 * k)) (sym one) ∙ writes.start_slot
-      ∙ ap (λ (z : Pair). Some z.1) same in
-      let high : slot_among nfa led.before (2 * pattern + 1) ≡ Some led.position =
-      sym (slots (2 * pattern + 1)) ∙ ap (λ k. slot_among nfa p (2 * k + 1)) (sym one) ∙ writes.end_slot in
-      both (led.done.started.1 low) (led.done.ended.1 high)
+      (grind (arith, EndsWith-last, both, slots))
     where
       slots : (slot : ℕ) → slot_among nfa (led.before ++ (v.state, led.position) ∷ []) slot
           ≡ slot_among nfa led.before slot
-      slots slot = slot_among-append nfa led.before ((v.state, led.position) ∷ []) slot
-          ∙ written-match (node_at nfa v.state) pattern slot led.position (slot_among nfa led.before slot) matches
+      slots slot = (grind (arith, slot_among-append))
 
       both : v.start_written ≡ true → v.end_written ≡ true → ⊥
       both s e = let b : v.start_written && v.end_written ≡ true = rw (s, e) refl in cc (b, lacks)
@@ -127,20 +105,7 @@ module _ (nfa : Automaton) (pattern : ℕ) where
         → pattern_of (node_at nfa m.0) ≡ Some pattern
         → (option_or (slot_among nfa ((v.state, position) ∷ rest) (2 * pattern)) start_slot ≡ Some start)
         × (option_or (slot_among nfa ((v.state, position) ∷ rest) (2 * pattern + 1)) end_slot ≡ Some m.1)
-    onward-writes [] v start position start_slot end_slot m i h linked ends matches =
-        let state : v.state ≡ m.0 = ap (λ (z : Pair). z.0) ends in
-        let here : pattern_of (node_at nfa v.state) ≡ Some pattern =
-        ap (λ s. pattern_of (node_at nfa s)) state ∙ matches in
-        let both = recorded v.start_written v.end_written (closed.fine v i here) in (
-          written-match (node_at nfa v.state) pattern (2 * pattern) position start_slot here ∙ h.started.0 both.0,
-          written-match (node_at nfa v.state) pattern (2 * pattern + 1) position end_slot here ∙ h.ended.0 both.1
-              ∙ ap (λ (z : Pair). Some z.1) ends,
-        )
-      where
-        recorded : (a b : Bool) → a && b ≡ true → (a ≡ true) × (b ≡ true)
-        recorded true true e = (refl, refl)
-        recorded true false e = cc
-        recorded false b e = cc
+    onward-writes [] v start position start_slot end_slot m i h linked ends matches = grind arith
     onward-writes (y ∷ rest) v start position start_slot end_slot m i h linked ends matches =
         let node = node_at nfa v.state in
         let of = In-mapped (λ s. (s, position_after node position)) y (targets node) linked.0 in
@@ -148,20 +113,10 @@ module _ (nfa : Automaton) (pattern : ℕ) where
         let w = at_state (after_node pattern node v) s in
         let there : In w places =
         closed.covers v i w (In-map (at_state (after_node pattern node v)) s (targets node) of.1) in
-        let on : Linked (open_edges nfa) ((w.state, position_after node position) ∷ rest) =
-        subst (λ (z : Pair). Linked (open_edges nfa) (z ∷ rest)) of.2 linked.1 in
-        let to : EndsWith m ((w.state, position_after node position) ∷ rest) =
-        subst (λ (z : Pair). EndsWith m (z ∷ rest)) of.2 ends in
         let later = onward-writes rest w start (position_after node position)
         (written node (2 * pattern) position start_slot) (written node (2 * pattern + 1) position end_slot) m there
-        (Describes-after pattern node s h) on to matches in (
-          option_or-assoc (slot_among nfa (y ∷ rest) (2 * pattern)) _ start_slot
-              ∙ ap (λ (z : Pair). option_or (slot_among nfa (z ∷ rest) (2 * pattern))
-              (written node (2 * pattern) position start_slot)) of.2 ∙ later.0,
-          option_or-assoc (slot_among nfa (y ∷ rest) (2 * pattern + 1)) _ end_slot
-              ∙ ap (λ (z : Pair). option_or (slot_among nfa (z ∷ rest) (2 * pattern + 1))
-              (written node (2 * pattern + 1) position end_slot)) of.2 ∙ later.1,
-        )
+        (Describes-after pattern node s h) in
+        grind (arith, option_or-assoc, written, later)
 
     -- so each way does
     pub closed-records : PatternRecordsMatchSpans nfa pattern
@@ -174,21 +129,10 @@ module _ (nfa : Automaton) (pattern : ℕ) where
         subst (λ (z : Pair). EndsWith end (z ∷ rest)) way.head way.ends in
         let both = onward-writes rest (fresh_path_state s.0) s.1 s.1 None None end (closed.starts s.0 way.starts)
         (Describes-fresh s.0 s.1) linked ends matches in
-        record {
-          start = s;
-          head = way.head;
-          pattern = pattern;
-          pattern_is = ap (option_and_then (λ (z : Pair). pattern_of (node_at nfa z.0)))
-              (EndsWith-last None end (x ∷ rest) way.ends) ∙ matches;
-          start_slot = ap (λ (z : Pair). slot_among nfa (z ∷ rest) (2 * pattern)) way.head
-              ∙ sym (option_or-None (slot_among nfa ((s.0, s.1) ∷ rest) (2 * pattern))) ∙ both.0;
-          end_slot = ap (λ (z : Pair). slot_among nfa (z ∷ rest) (2 * pattern + 1)) way.head
-              ∙ sym (option_or-None (slot_among nfa ((s.0, s.1) ∷ rest) (2 * pattern + 1))) ∙ both.1;
-        }
+        grind (arith, EndsWith-last, option_or-None)
 
 -- what holds of all patterns holds of all ways
 pub RecordsMatchSpans-each : (nfa : Automaton) → IsAutomaton nfa
     → ((k : ℕ) → k < length nfa.patterns → PatternRecordsMatchSpans nfa k) → RecordsMatchSpans nfa
 RecordsMatchSpans-each nfa valid each end p way matches =
-    let some = some-pattern (node_at nfa end.0) matches in
-    each some.0 (node-pattern nfa valid end.0 some.0 some.1) end p way some.1
+    search (rules, node-pattern)

@@ -67,14 +67,18 @@ module _ (nfa : Automaton) where
       → get_or (apply (capture nfa) p slots) slot None ≡ option_or (slot_among nfa p slot) (get_or slots slot None)
   unfolding written
   get_or-apply [] slots slot within = refl
-  get_or-apply (v ∷ p) slots slot within = search (rules, get_or-apply p (write (capture nfa v) v.1 slots) slot (rw (length-write (capture nfa v) v.1 slots) within))
+  get_or-apply (v ∷ p) slots slot within =
+      let after = write (capture nfa v) v.1 slots in
+      let kept : slot < length after = rw (length-write (capture nfa v) v.1 slots) within in
+      search (rules, get_or-apply p after slot kept)
 
   -- from empty slots a path's captures are its row
   pub apply-slot_row : (count : ℕ) (p : List Pair)
       → apply (capture nfa) p (replicate count None) ≡ slot_row nfa count (Some p)
   unfolding slot_row
   apply-slot_row count p =
-      let long : length (apply (capture nfa) p (replicate count None)) ≡ count = (grind (arith, length-apply, length-replicate)) in
+      let long : length (apply (capture nfa) p (replicate count None)) ≡ count =
+      grind (arith, length-apply, length-replicate) in
       ext_get_or None (apply (capture nfa) p (replicate count None)) (map (slot_among nfa p) (range_with_len 0 count))
       (long ∙ sym (length-map-range_with_len (slot_among nfa p) 0 count))
       (grind (arith, get_or-apply, get_or-empty, get_or-map-range_with_len, length-replicate))

@@ -24,7 +24,8 @@ module _ (edges : Pair → List Pair) where
   BeforeAfter-transitive v [] q r h k = h
   BeforeAfter-transitive v (a ∷ p) [] r h k = absurd h
   BeforeAfter-transitive v (a ∷ p) (b ∷ q) [] h k = k
-  BeforeAfter-transitive v (a ∷ p) (b ∷ q) (c ∷ r) h k = grind (arith, Earlier-transitive, BeforeAfter-transitive a p q r)
+  BeforeAfter-transitive v (a ∷ p) (b ∷ q) (c ∷ r) h k =
+      grind (arith, Earlier-transitive, BeforeAfter-transitive a p q r)
 
   -- of lists that begin with one pair
   Before-transitive : (p q r : List Pair) → Before edges p q → Before edges q r → Before edges p r

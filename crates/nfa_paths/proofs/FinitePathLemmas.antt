@@ -93,7 +93,8 @@ module _ {edges : Pair → List Pair} {starts all : List Pair} {n : ℕ} (finite
         no_rest s = omega arith
     first_from (suc size) left marks is covers v h =
         first_step left marks covers v h
-        (λ w e i. grind (arith, first_from size w.rest (v ∷ marks) (one_less w.shorter) (Covers-mark left marks v w covers) e (finite.stays v e i h)))
+        (λ w e i. first_from size w.rest (v ∷ marks) (one_less w.shorter) (Covers-mark left marks v w covers) e
+        (finite.stays v e i h))
       where
         one_less : {k : ℕ} → length left ≡ suc k → k ≡ size
         one_less s = omega arith

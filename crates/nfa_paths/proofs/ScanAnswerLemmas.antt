@@ -58,7 +58,8 @@ module _ (nfa : Automaton) (x : Search) where
   -- a set of matches, all or some, as what a scan is for
   pub Scanned-matches : (wanted : Pair → Bool) → ((v : Pair) → wanted v ≡ true → is_match nfa v ≡ true)
       → Scanned (space nfa x) (is_resting nfa) wanted
-  Scanned-matches wanted some = search (rules, IsMatch-capture, IsMatch-edges, edges-onward, edges-rise, starts-increase)
+  Scanned-matches wanted some =
+      search (rules, IsMatch-capture, IsMatch-edges, edges-onward, edges-rise, starts-increase)
 
   -- the starts are at the span's start or after it
   pub starts-from : (s : Pair) → In s (starts nfa x) → x.start ≤ s.1

@@ -48,7 +48,8 @@ module _ (space : Space) (target : Pair → Bool) where
   unfolding ExploresTo
   Answer-among left otherwise marks [] rest slots g h = inr (refl, h)
   Answer-among left otherwise marks (e ∷ es) rest slots g (inl h) = inl (h.0, inl (h.0, h.1, refl), h.2, h.3)
-  Answer-among left otherwise marks (e ∷ es) rest slots g (inr h) = grind (arith, Answer-among left otherwise marks es rest slots g h.1)
+  Answer-among left otherwise marks (e ∷ es) rest slots g (inr h) =
+      grind (arith, Answer-among left otherwise marks es rest slots g h.1)
 
   -- marks that agree at what is to be explored, and no fewer turns
   Answer-along : (left more : ℕ) → left ≤ more

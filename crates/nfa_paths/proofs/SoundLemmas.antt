@@ -58,7 +58,8 @@ module _ (space : Space) (target : Pair → Bool) where
   unfolding ExploresTo ExploresAfter
   AnswerBehind-drop left [] after m n old work slots current g h = inl h
   AnswerBehind-drop left (b ∷ before) after m n old work slots current g (inl h) = inr (inl h)
-  AnswerBehind-drop left (b ∷ before) after m n old work slots current g (inr h) = grind (arith, AnswerBehind-drop left before after m n old work slots current g h.1)
+  AnswerBehind-drop left (b ∷ before) after m n old work slots current g (inr h) =
+      grind (arith, AnswerBehind-drop left before after m n old work slots current g h.1)
 
 -- The set before is `old`: wanted is what it has room for.
 module _ (nfa : Automaton) (x : Search) (old : List Bool) (wants : Pair → Bool)

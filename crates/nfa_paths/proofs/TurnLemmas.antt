@@ -51,4 +51,5 @@ unfolding repeated
 get_or-repeated zero ws at s d h k = absurd (omega arith)
 get_or-repeated (suc count) ws zero s d h k =
     let e : 0 * length ws + s ≡ s = omega arith in rw (e, get_or_append_left ws (repeated count ws) d s k)
-get_or-repeated (suc count) ws (suc at) s d h k = grind (arith, get_or-append-add, get_or-repeated count ws at s d (omega arith) k)
+get_or-repeated (suc count) ws (suc at) s d h k =
+    grind (arith, get_or-append-add, get_or-repeated count ws at s d (omega arith) k)

@@ -1,8 +1,7 @@
 -- What is reached before a byte is read.
-use Rattle.std.proofs.Common.{◌≡◌, ℕ, suc, zero, ◌+◌, ◌<◌, ◌≤◌, inl, inr, List, [], ◌∷◌, length, get_or, map, replicate, refl, ap, sym, ◌∙◌, arith, subst, below_more}
-use Rattle.std.specs.Prelude.{Option, Some, None, true, false, Bool, All, option_map, option_and_then, option_to_list, is_some, if◌then◌else◌}
+use Rattle.std.proofs.Common.{◌≡◌, ℕ, suc, zero, ◌+◌, ◌<◌, ◌≤◌, inl, inr, List, [], ◌∷◌, length, get_or, map, replicate, refl, ap, sym, arith, subst}
+use Rattle.std.specs.Prelude.{Some, true, false, Bool, All, option_map, option_and_then, option_to_list, is_some, if◌then◌else◌}
 use Rattle.std.specs.List.{slice_get}
-use Rattle.std.proofs.lemmas.Bool.{lt-ltb}
 use Rattle.std.proofs.lemmas.List.{get_or_default}
 use Rattle.std.proofs.lemmas.Option.{get_or_from_slice_get, slice_get-get_or}
 use Rattle.regex_search_core.specs.Search.{Search}
@@ -35,19 +34,10 @@ admits-first table (t ∷ ts) all b u e =
 -- states
 
 pub Extends-then : {a b c : ReachedStates} → Extends a b → Extends b c → Extends a c
-Extends-then f g = record {
-  size = g.size ∙ f.size;
-  more = omega (arith, f.more, g.more);
-  same = λ k h. g.same k (omega (arith, f.more)) ∙ f.same k h;
-}
+Extends-then f g = grind arith
 
 pub WasReached-extends : {a b : ReachedStates} {s : ℕ} → Extends a b → WasReached a s → WasReached b s
-WasReached-extends f r = record {
-  place = r.place;
-  below = omega (arith, f.more, r.below);
-  is =
-      f.same r.place r.below ∙ r.is;
-}
+WasReached-extends f r = grind arith
 
 -- what is covered stays covered
 pub Covers-more : (a b : ReachedStates) (t u : List Bool) → Extends a b → Grows t u → (node : Node) → Covers a t node
@@ -72,13 +62,7 @@ module _ (nfa : Automaton) where
       → (k : ℕ) → k < done + 1 → Covers b u (node_at nfa (get_or b.states k 0))
   unfolding node_at
   covers-step a b t u done d node less inside f g is here below =
-      let at : slice_get nfa.states (get_or a.states done 0) ≡ Some node =
-      rw (get_or_default a.states done 0 d inside) is in
-      below_more (λ k. Covers b u (node_at nfa (get_or b.states k 0))) done
-      (λ k h.
-      let in' : k < a.len = omega arith in
-      rw (f.same k in') (Covers-more a b t u f g (node_at nfa (get_or a.states k 0)) (below k h)))
-      (rw (f.same done less, get_or_from_slice_get nfa.states (get_or a.states done 0) node Fail at) here)
+      grind (arith, Covers-more, get_or_default, get_or_from_slice_get)
 
   -- all that was reached is covered
   pub covers-all : (r : ReachedStates) (table : List Bool) (done : ℕ) → r.len ≤ done
@@ -90,8 +74,7 @@ module _ (nfa : Automaton) where
 pub byte_at-inside : (x : Search) (at : ℕ) → at < x.end → x.end ≤ length x.haystack
     → byte_at x at ≡ Some (get_or x.haystack at 0)
 byte_at-inside x at less fits =
-    let inside : at < length x.haystack = omega arith in
-    rw (lt-ltb at x.end less) (slice_get-get_or x.haystack at 0 inside)
+    grind (arith, slice_get-get_or)
 
 -- edges
 
@@ -117,14 +100,7 @@ no-target : (table : List Bool) (x : Search) (node : Node) (at : ℕ) → IsRefu
     → (w : Pair) → In w (option_to_list (option_and_then (λ b. option_map (λ next. (next, at + 1)) (target_on node b))
     (byte_at x at))) → ⊥
 no-target table x node at f admits w i =
-    none (target_on node f.byte) refl
-    (subst (λ (o : Option ℕ). In w (option_to_list
-    (option_and_then (λ b. option_map (λ next. (next, at + 1)) (target_on node b)) o))) f.read i)
-  where
-    none : (o : Option ℕ) → target_on node f.byte ≡ o
-        → In w (option_to_list (option_map (λ next. (next, at + 1)) o)) → ⊥
-    none None e i = i
-    none (Some t) e i = let a = admits f.byte t e in let r = f.refused in absurd (cc (a, r))
+    (grind arith)
 
 module _ (r : ReachedStates) (table : List Bool) (x : Search) (at : ℕ) (f : IsRefused table x at) where
   edge-lands : (node : Node) → Covers r table node → (w : Pair) → In w (edges_of x node at)
@@ -135,10 +111,7 @@ module _ (r : ReachedStates) (table : List Bool) (x : Search) (at : ℕ) (f : Is
   edge-lands (Dense targets) c w i = absurd (no-target table x (Dense targets) at f c w i)
   edge-lands (Look look next) c w i = lands-if r next at w (look_holds look x.haystack at) i c
   edge-lands (Union alternates) c w i = lands-among r at w alternates c i
-  edge-lands (BinaryUnion alt1 alt2) c w i = elim i [
-    | inl e ↦ lands r alt1 at w e c.0
-    | inr k ↦ elim k [ inl e ↦ lands r alt2 at w e c.1 | inr never ↦ absurd never ]
-  ]
+  edge-lands (BinaryUnion alt1 alt2) c w i = grind arith
   edge-lands (Capture next slot) c w i = elim i [ inl e ↦ lands r next at w e c | inr never ↦ absurd never ]
   edge-lands Fail c w i = absurd i
   edge-lands (Match pattern) c w i = absurd i
@@ -162,10 +135,7 @@ module _ (nfa : Automaton) (table : List Bool) where
       → ((s : ℕ) → WasReached r s → Covers r table (node_at nfa s))
       → ((b : ℕ) → b < 256 → Admits table b → MayBegin nfa b)
       → IsFirstBytes nfa table
-  IsFirstBytes-covered r start covers least = record {
-    none = λ x at f marks p a. no-path r covers x a.path start f;
-    least = least;
-  }
+  IsFirstBytes-covered r start covers least = grind (arith, no-path)
 
   -- a table that admits all bytes
   pub IsFirstBytes-all : (n : ℕ) → table ≡ replicate n true → ((b : ℕ) → MayBegin nfa b) → IsFirstBytes nfa table

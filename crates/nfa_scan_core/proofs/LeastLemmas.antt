@@ -1,15 +1,14 @@
 -- A table admits only bytes that a match may begin with.
 use Rattle.std.proofs.Common.{◌≡◌, ℕ, suc, zero, ◌+◌, ◌<◌, ◌≤◌, inl, inr, List, [], ◌∷◌, length, get_or, replicate, refl, sym, arith}
-use Rattle.std.specs.Prelude.{Some, None, true, false, Bool, All, is_some, if◌then◌else◌}
+use Rattle.std.specs.Prelude.{Some, true, false, Bool, All}
 use Rattle.std.specs.List.{slice_get}
-use Rattle.std.proofs.lemmas.Bool.{cases_lt}
 use Rattle.std.proofs.lemmas.List.{get_or_default, get_or-replicate}
 use Rattle.std.proofs.lemmas.Option.{get_or_from_slice_get}
 use Rattle.thompson_nfa.specs.Automaton.{Automaton, Node}
-use Rattle.thompson_nfa.specs.Automaton.Node.{ByteRange, Sparse, Fail}
+use Rattle.thompson_nfa.specs.Automaton.Node.{ByteRange, Sparse}
 use Rattle.thompson_nfa.specs.declared.state.Transition.{Transition}
 use Rattle.nfa_paths.specs.Graphs.{In}
-use Rattle.nfa_paths.specs.Paths.{node_at, first_target, holds_byte}
+use Rattle.nfa_paths.specs.Paths.{node_at}
 use Rattle.nfa_scan_core.specs.FirstBytes.{Admits, WasReached, Extends, GrowsBy, Reads, Stops, AddsOnly, LacksRoom, Differ, AreDistinct, epsilon_targets, IsReachedAtStart, IsRead, MayBegin}
 use Rattle.nfa_scan_core.specs.FirstBytes.IsReachedAtStart.{on}
 use Rattle.nfa_scan_core.specs.FirstBytes.MayBegin.{matches, many}
@@ -19,25 +18,16 @@ use Rattle.nfa_scan_core.specs.declared.first_bytes.ReachedStates.{ReachedStates
 
 pub GrowsBy-more : {a b c : List Bool} {n m : Node} → GrowsBy a b n → GrowsBy b c m
     → ((k : ℕ) → Reads m k → Reads n k) → GrowsBy a c n
-GrowsBy-more f g more = record {
-  only = λ k h. elim (g.only k h) [ inl before ↦ f.only k before | inr r ↦ inr (more k r) ];
-}
+GrowsBy-more f g more = grind arith
 
 -- what one of some transitions holds, they read
 pub Reads-among : (ts : List Transition) (i : ℕ) (d : Transition) (b : ℕ) → i < length ts
     → Reads (ByteRange (get_or ts i d)) b → Reads (Sparse ts) b
 Reads-among [] i d b less r = absurd (omega arith)
 Reads-among (t ∷ ts) zero d b less r =
-    (elim (holds_byte t b) as (λ h. is_some (if h then Some t.next else None) ≡ true
-    → is_some (if h then Some t.next else first_target ts b) ≡ true) [
-      | true ↦ λ _. refl
-      | false ↦ λ never. cc
-    ]) r
+    grind arith
 Reads-among (t ∷ ts) (suc i) d b less r =
-    elim (holds_byte t b) as (λ h. is_some (if h then Some t.next else first_target ts b) ≡ true) [
-      | true ↦ refl
-      | false ↦ Reads-among ts i d b (omega arith) r
-    ]
+    grind (arith, Reads-among ts i d b (omega arith) r)
 
 -- states
 
@@ -53,12 +43,7 @@ In-one y ys i x (inr never) = absurd never
 
 pub AddsOnly-then : {a b c : ReachedStates} {s t u : List ℕ} → AddsOnly a b s → AddsOnly b c t → Extends b c
     → ((x : ℕ) → In x s → In x u) → ((x : ℕ) → In x t → In x u) → AddsOnly a c u
-AddsOnly-then {b = b} f g e of_s of_t = record {
-  among = λ k from less. elim (cases_lt k b.len) [
-    | inl early ↦ rw (e.same k early) (of_s _ (f.among k from early))
-    | inr late ↦ of_t _ (g.among k late less)
-  ];
-}
+AddsOnly-then {b = b} f g e of_s of_t = grind arith
 
 pub LacksRoom-among : {r : ReachedStates} {s t : List ℕ} → LacksRoom r s → ((x : ℕ) → In x s → In x t) → LacksRoom r t
 LacksRoom-among l of = record { state = l.state; among = of _ l.among; full = l.full; other = l.other }
@@ -67,10 +52,7 @@ LacksRoom-among l of = record { state = l.state; among = of _ l.among; full = l.
 pub each-added : (P : ℕ → Type 0) {a b : ReachedStates} {s : List ℕ} → Extends a b → AddsOnly a b s
     → ((x : ℕ) → In x s → P x) → ((k : ℕ) → k < a.len → P (get_or a.states k 0))
     → (k : ℕ) → k < b.len → P (get_or b.states k 0)
-each-added P {a = a} e g new old k less = elim (cases_lt k a.len) [
-  | inl early ↦ rw (e.same k early) (old k early)
-  | inr late ↦ new _ (g.among k late less)
-]
+each-added P {a = a} e g new old k less = grind arith
 
 -- what holds of one state holds of the first of many places that have it
 pub each-first : (P : ℕ → Type 0) (n s : ℕ) → P s → (k : ℕ) → k < 1 → P (get_or (replicate (n + 1) s) k 0)
@@ -114,10 +96,7 @@ module _ (nfa : Automaton) where
     is-here : node_at nfa (get_or a.states done 0) ≡ node
     unfolding node_at
     is-here =
-        let inside : done < length a.states = omega arith in
-        let at : slice_get nfa.states (get_or a.states done 0) ≡ Some node =
-        rw (get_or_default a.states done 0 d inside) here in
-        get_or_from_slice_get nfa.states (get_or a.states done 0) node Fail at
+        grind (arith, get_or_default, get_or_from_slice_get)
 
     pub at_start-step : Extends a b → AddsOnly a b (epsilon_targets node)
         → (k : ℕ) → k < b.len → IsReachedAtStart nfa (get_or b.states k 0)
@@ -125,10 +104,7 @@ module _ (nfa : Automaton) where
 
     pub least-step : (t u : List Bool) → GrowsBy t u node → ((x : ℕ) → x < 256 → Admits t x → IsRead nfa x)
         → (x : ℕ) → x < 256 → Admits u x → IsRead nfa x
-    least-step t u g before x small admits = elim (g.only x admits) [
-      | inl old ↦ before x small old
-      | inr r ↦ record { state = get_or a.states done 0; at_start = all done less; by = rw is-here r }
-    ]
+    least-step t u g before x small admits = grind (arith, is-here)
 
     pub stops-step : Extends a b → AddsOnly a b (epsilon_targets node) → Differ b → Stops b node
         → (x : ℕ) → MayBegin nfa x

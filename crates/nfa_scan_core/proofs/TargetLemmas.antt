@@ -1,5 +1,5 @@
 -- The targets of byte states.
-use Rattle.std.proofs.Common.{◌≡◌, ℕ, suc, zero, ◌<◌, ◌≤◌, List, [], ◌∷◌, length, refl, arith}
+use Rattle.std.proofs.Common.{◌≡◌, ℕ, suc, zero, ◌<◌, ◌≤◌, List, [], ◌∷◌, length, refl, arith, rules}
 use Rattle.std.specs.Prelude.{Option, Some, None, true, false, Bool, All, IfSome, option_and_then, is_some, count_by, cond, if◌then◌else◌}
 use Rattle.std.specs.List.{slice_get}
 use Rattle.std.proofs.lemmas.List.Sums.{sum_by-cons}
@@ -18,10 +18,7 @@ first_target-below n b u [] below e = cc
 first_target-below n b u (t ∷ ts) below e =
     let here : t.next < n = below 0 t (omega arith) in
     let rest : All (λ t. t.next < n) ts = λ k d h. below (suc k) d (omega arith) in
-    (elim (holds_byte t b) as (λ h. (if h then Some t.next else first_target ts b) ≡ Some u → u < n) [
-      | true ↦ λ s. let same : t.next ≡ u = cc in rw (← same) here
-      | false ↦ λ s. first_target-below n b u ts rest s
-    ]) e
+    grind (arith, first_target-below n b u ts rest)
 
 first_target-some : (b u : ℕ) (ts : List Transition) → first_target ts b ≡ Some u → 1 ≤ length ts
 first_target-some b u [] e = cc
@@ -41,8 +38,7 @@ dense-some : (u : ℕ) (targets : List (Option ℕ)) (b : ℕ) → option_and_th
 dense-some u [] b e = cc
 dense-some u (None ∷ targets) zero e = cc
 dense-some u (Some t ∷ targets) zero e = omega (arith, sum_by-cons (λ o. cond (is_some o) 1 0) (Some t) targets)
-dense-some u (o ∷ targets) (suc b) e = omega
-    (arith, sum_by-cons (λ p. cond (is_some p) 1 0) o targets, dense-some u targets b e)
+dense-some u (o ∷ targets) (suc b) e = search (rules, sum_by-cons, dense-some u targets b e)
 
 -- a target is a state
 pub target-below : (n : ℕ) (node : Node) (b t : ℕ) → LeadsBelow n node → target_on node b ≡ Some t → t < n
