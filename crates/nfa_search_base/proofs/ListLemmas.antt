@@ -19,7 +19,7 @@ use Rattle.regex_search_core.specs.Slots.{match_of}
 use Rattle.std.specs.Option.{option_and_then}
 use Rattle.nfa_search_base.specs.Asking.{SameButStart}
 use Rattle.nfa_search_base.specs.LastEnd.{EndsBy}
-use Rattle.nfa_search_base.specs.Items.{Item, matches_in, items_from, items_within, greedy}
+use Rattle.nfa_search_base.specs.Items.{Item, item_by, matches_in, items_from, items_within, greedy}
 use Rattle.nfa_search_base.specs.Lists.{IsStep, Fails, ItemsNext, ItemsLast, AreDisjoint, AreSpansDisjoint}
 use Rattle.nfa_search_base.specs.Lists.{AnswersMatch, AreFirstMatches, AreMatches}
 use Rattle.nfa_search_base.specs.IterStates.{IterState, Answer, Advances, AnswerIsInside}
@@ -41,6 +41,12 @@ behind-after end = λ e is. let same : end ≡ e = same_some end e is in omega (
 -- a list of matches as items
 abbrev pub as_items : {X : Type 0} → List X → List (Item X)
 as_items xs = map (λ x. Ok x) xs
+
+-- what values as items show
+pub items-view : {X Y : Type 0} (view : Y → X) (ys : List Y)
+    → map (item_by view) (map (λ y. Ok y) ys) ≡ as_items (map view ys)
+items-view view [] = refl
+items-view {X} view (y ∷ ys) = ap (λ (l : List (Item X)). Ok (view y) ∷ l) (items-view view ys)
 
 -- If answers of `under` are answers of `tells` as f shows them, so are the steps.
 module _ {X Y : Type 0} (span : X → Span) (span' : Y → Span) (under : Search → Answer X → Type 0)

@@ -7,13 +7,13 @@ use Rattle.std.specs.Iterator.Runs.{EachRunFrom}
 use Rattle.std.proofs.lemmas.List.Elements.{All-nil, All-cons}
 use Rattle.regex_search_core.specs.Search.{Search}
 use Rattle.regex_search_core.specs.declared.search.Span.{Span}
-use Rattle.nfa_search_base.specs.Items.{Item, item_by}
+use Rattle.nfa_search_base.specs.Items.{item_by}
 use Rattle.nfa_search_base.specs.Lists.{IsStep, Fails, FailsOrIsRefused, ItemsNext, ItemsLast}
 use Rattle.nfa_search_base.specs.IterStates.{IterState, Answer, AnswerIsInside, fresh, after, repeats, shifted, answer_span}
 use Rattle.nfa_search_base.specs.declared.error.SearchError.{SearchError}
 use Rattle.nfa_search_base.specs.declared.error.SearchError.TheVariants.{Memory}
 use Rattle.nfa_search_base.proofs.IterStateLemmas.{IsOrdered}
-use Rattle.nfa_search_base.proofs.ListLemmas.{as_items, step-lies}
+use Rattle.nfa_search_base.proofs.ListLemmas.{as_items, items-view, step-lies}
 use Rattle.nfa_search_base.proofs.RunLemmas.{Given}
 use Rattle.nfa_search_base.proofs.StepLemmas.{chosen}
 
@@ -32,11 +32,6 @@ oks xs ys i y is ok = rw (is, ok) (oked-more ys y)
 pub no-items : {X Y : Type 0} (view : Y → X) (xs : List (Result Y SearchError)) → map (item_by view) xs ≡ [] → xs ≡ []
 no-items view [] h = refl
 no-items view (y ∷ ys) h = cc
-
--- what they show
-pub oked-view : {X Y : Type 0} (view : Y → X) (ys : List Y) → map (item_by view) (oked ys) ≡ as_items (map view ys)
-oked-view view [] = refl
-oked-view {X} view (y ∷ ys) = ap (λ (l : List (Item X)). Ok (view y) ∷ l) (oked-view view ys)
 
 -- What the calls of an iterator give, if its items are all `Ok`.
 module _ {T Y : Type 0} (steps : T → Option (Result Y SearchError) → T → Type 0)
@@ -99,11 +94,11 @@ module _ {X Y : Type 0} (span : X → Span) (view : Y → X) (tells clean : Sear
 
   pub next-clean : (w : IterState) (ys : List Y) → Next w (oked ys)
       → ItemsNext span clean (Fails span clean) w (as_items (map view ys))
-  next-clean w ys h = next-values (map view ys) w (rw (oked-view view ys) at h)
+  next-clean w ys h = next-values (map view ys) w (rw (items-view view ys) at h)
 
   pub last-clean : (w : IterState) (ys : List Y) → ItemsLast span tells ends w (map (item_by view) (oked ys))
       → ItemsLast span clean (Fails span clean) w (as_items (map view ys))
-  last-clean w ys h = last-values (map view ys) w (rw (oked-view view ys) at h)
+  last-clean w ys h = last-values (map view ys) w (rw (items-view view ys) at h)
 
   -- if the search can only give one error, so can its first step
   pub only-step : (x : Search) (error : SearchError) → ((a : Answer X) → tells x a → a ≡ Err error) → (a : Answer X)
