@@ -1,6 +1,6 @@
 -- The answers of searches in an iteration over captures by a backtracker, and when its iterator may search and what it
 -- gives.
-use Rattle.std.proofs.Common.{◌≡◌, ◌∙◌, ◌≤◌, false, List, None, Option, Result, Ok, Err, sym, ap, length, map}
+use Rattle.std.proofs.Common.{◌≡◌, ◌≤◌, false, List, None, Option, Result, Ok, Err, ap, length, map}
 use Rattle.std.proofs.Common.{◌↔◌, ◌⊎◌, inl, inr}
 use Rattle.std.specs.Prelude.{All, IfErr, IfOk, IsErrOf, OnErr, OnOk}
 use Rattle.regex_search_core.specs.Groups.{slot_count}
@@ -42,29 +42,15 @@ abbrev pub BacktrackerSteps : Steps (WithCache (WithCaptures Backtracker) Backtr
     → Steps (WithCache (WithCaptures Backtracker) BacktrackCache) → Type 0
 BacktrackerSteps = takes_steps row_span AsksBacktrackerRow (λ q. GivesCaptures q.backend)
 
-err-same : (a b : SearchError)
-    → (let x : Result (Unit {0}) SearchError = Err a in let y : Result (Unit {0}) SearchError = Err b in x ≡ y) → a ≡ b
-err-same a b e = cc
-
 -- what captures with all slots hold after a search is what it answers
 pub stored_captures-answer : (e : Backtracker) (t : Search) (c : Captured) (r : Result (Unit {0}) SearchError)
     → OnOk r (IsAnswer e.nfa LeftmostFirst false t c.pattern c.slots) → length c.slots ≡ slot_count e.nfa.groups
     → (IsErrOf r (HaystackTooLong (span_len t)) ↔ IsTooLong e t)
     → IfErr r (λ q. (q ≡ Memory) ⊎ (q ≡ HaystackTooLong (span_len t))) → IsTryCapturesAnswer e t (filled_answer c r)
-stored_captures-answer e t c (Ok u) answer count long errors = (
-  λ is.
-      let k : (let a : Result (Unit {0}) SearchError = Ok u in
-      let b : Result (Unit {0}) SearchError = Err (HaystackTooLong (span_len t)) in a ≡ b) = long.1 is in cc,
-  stored_captures-tells e.nfa LeftmostFirst false t c answer count,
-)
+stored_captures-answer e t c (Ok u) answer count long errors =
+    (λ is. let k = long.1 is in cc, stored_captures-tells e.nfa LeftmostFirst false t c answer count)
 stored_captures-answer e t c (Err q) answer count long errors = elim errors [
-  | inl memory ↦
-      inr (
-        λ is.
-            let same : q ≡ HaystackTooLong (span_len t) = err-same q (HaystackTooLong (span_len t)) (long.1 is) in
-            let k : Memory ≡ HaystackTooLong (span_len t) = sym memory ∙ same in cc,
-        memory,
-      )
+  | inl memory ↦ inr (λ is. let k = long.1 is in cc, memory)
   | inr refused ↦
       inl (long.0 (ap (λ (z : SearchError). let b : Result (Unit {0}) SearchError = Err z in b) refused), refused)
 ]

@@ -1,25 +1,21 @@
 -- From the results of a search to the answers that its callers get.
 use Rattle.std.proofs.Common.{◌≡◌, ℕ, [], ◌∷◌, arith, length, refl, ap, ◌∙◌}
-use Rattle.std.specs.Prelude.{Option, Some, None, Result, Ok, Err, false, option_map, ◌<◌, replicate, All, IfOk, IfSome}
+use Rattle.std.specs.Prelude.{Option, Some, None, Result, Ok, Err, false, option_map, ◌<◌, replicate, IfOk, IfSome}
 use Rattle.std.specs.Prelude.{◌≤◌, IfNone}
 use Rattle.std.specs.List.{refill}
-use Rattle.regex_search_core.specs.Found.{half_found_of, found_of}
-use Rattle.regex_search_core.specs.Patterns.{number_of}
+use Rattle.regex_search_core.specs.Found.{half_found_of}
 use Rattle.regex_search_core.specs.Search.{Search}
-use Rattle.regex_search_core.specs.declared.primitives.PatternID.{PatternID}
 use Rattle.regex_search_core.specs.declared.refused.Refused.{Refused}
 use Rattle.regex_search_core.specs.declared.search.HalfMatch.{HalfMatch}
-use Rattle.regex_search_core.specs.declared.search.Match.{Match}
 use Rattle.regex_search_core.specs.declared.search.MatchKind.TheVariants.{LeftmostFirst}
 use Rattle.thompson_nfa.specs.Automaton.{Automaton, IsAutomaton}
-use Rattle.nfa_paths.specs.Paths.{IsAnswer, IsHalfAnswer, IsFindAnswer}
+use Rattle.nfa_paths.specs.Paths.{IsAnswer, IsHalfAnswer}
 use Rattle.nfa_paths.specs.Exploring.{Slots}
 use Rattle.nfa_paths.specs.Restarts.{SearchGives}
-use Rattle.nfa_paths.proofs.InsideLemmas.{half-within, match-within, match-pattern, slots-within}
 use Rattle.nfa_paths.proofs.PatternLemmas.{slots-unset}
 use Rattle.nfa_paths.proofs.RestartLemmas.{half-of, pattern-among}
 use Rattle.nfa_search_base.specs.declared.error.SearchError.{SearchError}
-use Rattle.nfa_search_base.specs.Lists.{IsInside, IsSlotInside}
+use Rattle.nfa_search_base.proofs.CallerLemmas.{half-lies}
 
 -- the pattern that a search answers is one of the NFA's
 pub pattern-of-search : (nfa : Automaton) (x : Search) (slots : Slots) (scans turns : ℕ) → IsAutomaton nfa
@@ -53,36 +49,9 @@ pub half-of-search : (nfa : Automaton) (x : Search) (slots : Slots) (scans turns
 half-of-search nfa x slots scans turns (Err e) s = tt
 half-of-search nfa x slots scans turns (Ok half) s = half-of nfa LeftmostFirst false x half s
 
--- what callers learn of the numbers in a match
-module _ (nfa : Automaton) (x : Search) where
-  -- after no match no slot is set
-  pub slots-none : (n : ℕ) (r : Option PatternID) (slots : Slots)
-      → IsAnswer nfa LeftmostFirst false x (option_map number_of r) slots → length slots ≡ n
-      → IfNone r (slots ≡ replicate n None)
-  slots-none n None slots a size =
-      slots-unset nfa LeftmostFirst false x slots a ∙ ap (λ k. replicate k None) size
-  slots-none n (Some p) slots a size = tt
-
-  pub slots-inside : (pattern : Option ℕ) (slots : Slots) → IsAnswer nfa LeftmostFirst false x pattern slots
-      → All (IsSlotInside x) slots
-  slots-inside pattern slots a = slots-within nfa LeftmostFirst false x pattern slots a
-
-  pub inside-of : (r : Option Match) → IsFindAnswer nfa LeftmostFirst false x (option_map found_of r)
-      → IfSome r (λ m. IsInside x (found_of m))
-  inside-of None h = tt
-  inside-of (Some m) h =
-      let k = match-within nfa LeftmostFirst false x (found_of m) h in record { from = k.0; ordered = k.1; to = k.2 }
-
-  pub half-inside : (r : Result (Option HalfMatch) SearchError)
-      → IfOk r (λ half. IsHalfAnswer nfa LeftmostFirst false x (option_map half_found_of half))
-      → IfOk r (λ half. IfSome half
-      (λ m. (x.start ≤ (half_found_of m).offset) × ((half_found_of m).offset ≤ x.end)))
-  half-inside (Err e) h = tt
-  half-inside (Ok None) h = tt
-  half-inside (Ok (Some m)) h = half-within nfa LeftmostFirst false x (half_found_of m) h
-
-  pub pattern-of : IsAutomaton nfa → (r : Option Match)
-      → IsFindAnswer nfa LeftmostFirst false x (option_map found_of r)
-      → IfSome r (λ m. (found_of m).pattern < length nfa.patterns)
-  pattern-of valid None h = tt
-  pattern-of valid (Some m) h = match-pattern nfa LeftmostFirst false valid x (found_of m) h
+-- which is in the span
+pub half-inside : (nfa : Automaton) (x : Search) (r : Result (Option HalfMatch) SearchError)
+    → IfOk r (λ half. IsHalfAnswer nfa LeftmostFirst false x (option_map half_found_of half))
+    → IfOk r (λ half. IfSome half (λ m. (x.start ≤ (half_found_of m).offset) × ((half_found_of m).offset ≤ x.end)))
+half-inside nfa x (Err e) h = tt
+half-inside nfa x (Ok half) h = half-lies nfa LeftmostFirst false x half h

@@ -149,8 +149,7 @@ module _ (e : Backtracker) (x : Search) (long : IsTooLong e x) (old : BacktrackC
   steps-early : (a : Answer Found) (more : List (Answer Found)) (q : Keeping BacktrackCache)
       → StepsLead span_of (Looks e) (fresh x) begun (a ∷ more) q → q.cache ≡ refused_early old
   steps-early (Ok (Some m)) more q h =
-      let k = step-early (Ok (Some m)) h.0 h.1 h.2 in
-      let never : (let b : Answer Found = Ok (Some m) in let c : Answer Found = Err k.0 in b ≡ c) = k.1 in cc
+      let k = step-early (Ok (Some m)) h.0 h.1 h.2 in let never = k.1 in cc
   steps-early (Ok None) more q h = (step-early (Ok None) q h.0 h.1).2
   steps-early (Err error) more q h = (step-early (Err error) q h.0 h.1).2
 

@@ -35,9 +35,6 @@ use Rattle.nfa_backtrack.specs.Runs.{GivesByLength, EndsByLength}
 use Rattle.nfa_backtrack.specs.declared.find_iter.TryFindMatches.{TryFindMatches}
 use Rattle.nfa_backtrack.proofs.FindLemmas.{back-acts, find-lies, still-fits}
 
-err-same : (a b : SearchError) → (let x : Answer Found = Err a in let y : Answer Found = Err b in x ≡ y) → a ≡ b
-err-same a b e = cc
-
 module _ (e : Backtracker) where
   abbrev tells : Search → Answer Found → Type 0
   tells = IsTryFindAnswer e
@@ -101,21 +98,19 @@ module _ (e : Backtracker) where
       of : (f : Answer Found) → tells w.at f
           → MatchBool (repeats w (answer_span span_of f)) (tells (shifted w).at (Err r)) (Err r ≡ f)
           → IsRefusal e w.at r
-      of (Err q) is rest = rw (err-same r q rest) is
-      of (Ok None) is rest = let k : Err r ≡ Ok None = rest in cc
+      of (Err q) is rest = let same : r ≡ q = cc in rw same is
+      of (Ok None) is rest = cc
       of (Ok (Some f)) is rest = elim (chosen (repeats w (Some (span_of f))) rest) [
         | inl p ↦ elim p.1 [
           | inl long ↦ absurd (still-fits e w.at (shifted w).at refl (omega arith) is.0 long.0)
           | inr memory ↦ inr (is.0, memory.1)
         ]
-        | inr p ↦ let k : Err r ≡ Ok (Some f) = p.1 in cc
+        | inr p ↦ cc
       ]
 
   -- a first match comes only of a span that is not too long
   match-fits : (x : Search) (m : Match) → Step (fresh x) (Ok (Some (found_of m))) → ¬ (IsTooLong e x)
-  match-fits x m h = λ long.
-      let k : Ok (Some (found_of m)) ≡ Err (HaystackTooLong (span_len x)) =
-      long-step x (Ok (Some (found_of m))) long h in cc
+  match-fits x m h = λ long. let k = long-step x (Ok (Some (found_of m))) long h in cc
 
   none-after : (xs : List (Result Match SearchError)) (i : Result Match SearchError) → ¬ (xs ++ i ∷ [] ≡ [])
   none-after [] i is = cc
@@ -146,10 +141,8 @@ module _ (e : Backtracker) where
 
   -- a list of only matches is not of a search that is too long
   oks-fit : (x : Search) (ms : List Match) → Last (fresh x) (oked ms) → ¬ (IsTooLong e x)
-  oks-fit x [] h = λ long.
-      let k : oked [] ≡ Err (HaystackTooLong (span_len x)) ∷ [] = long-items x (oked []) long h in cc
-  oks-fit x (m ∷ ms) h = λ long.
-      let k : oked (m ∷ ms) ≡ Err (HaystackTooLong (span_len x)) ∷ [] = long-items x (oked (m ∷ ms)) long h in cc
+  oks-fit x [] h = λ long. let k = long-items x (oked []) long h in cc
+  oks-fit x (m ∷ ms) h = λ long. let k = long-items x (oked (m ∷ ms)) long h in cc
 
   module _ (x : Search) (s : TryFindMatches) (engine : (backtrack_matches s).steps.backend.engine.now ≡ e)
       (walk : steps_with_iter_state (backtrack_matches s) ≡ fresh x)

@@ -1,25 +1,16 @@
--- From the results of a search to the answers that its callers get.
+-- From the row that a search fills to the slots that its callers get.
 use Rattle.std.proofs.Common.{◌≡◌, ℕ, ◌+◌, ◌-◌, ◌≤◌, min, take, inl, inr, List, [], ◌∷◌, ◌++◌, length, refl, ap, sym, ◌∙◌, arith, length-append}
-use Rattle.std.specs.Prelude.{Option, Some, None, Bool, option_map, IfSome, IfNone, All, ◌<◌}
+use Rattle.std.specs.Prelude.{Option}
 use Rattle.std.proofs.lemmas.Bool.{cases_lt}
 use Rattle.std.proofs.lemmas.List.{append-nil, length-take}
-use Rattle.regex_search_core.specs.Found.{found_of, half_found_of}
-use Rattle.regex_search_core.specs.Patterns.{number_of}
-use Rattle.regex_search_core.specs.declared.search.HalfMatch.{HalfMatch}
-use Rattle.regex_search_core.specs.declared.search.Match.{Match}
-use Rattle.regex_search_core.specs.declared.primitives.PatternID.{PatternID}
 use Rattle.regex_search_core.specs.Groups.{slot_count}
-use Rattle.regex_search_core.specs.Search.{Search}
-use Rattle.regex_search_core.specs.declared.search.MatchKind.{MatchKind}
 use Rattle.thompson_nfa.specs.Automaton.{Automaton, IsAutomaton}
 use Rattle.nfa_paths.specs.Graphs.{Pair}
-use Rattle.nfa_paths.specs.Paths.{slot_row, IsAnswer, IsHalfAnswer, IsFindAnswer}
+use Rattle.nfa_paths.specs.Paths.{slot_row}
 use Rattle.nfa_paths.specs.Exploring.{Slots}
-use Rattle.nfa_paths.proofs.PatternLemmas.{slot_row-more, slots-unset}
-use Rattle.nfa_paths.proofs.InsideLemmas.{half-within, match-within, match-pattern, slots-within, pattern-within}
+use Rattle.nfa_paths.proofs.PatternLemmas.{slot_row-more}
 use Rattle.nfa_pikevm_scan.specs.Scans.{blank}
 use Rattle.nfa_pikevm_scan.proofs.RowLemmas.{length-blank}
-use Rattle.nfa_search_base.specs.Lists.{IsInside, IsSlotInside}
 
 module _ (nfa : Automaton) where
   -- A search got as many slots as the NFA has, or fewer, and the rest are `None`: together they are a row of the path.
@@ -56,43 +47,3 @@ module _ (nfa : Automaton) where
       let rest : Slots = blank (len - length row) in
       let left : length rest + width ≡ len = omega (arith, length-blank (len - length row), size, least) in
       row-whole valid row rest len width least size left (ap blank (sym (length-blank (len - length row))))
-
--- what callers learn of the numbers in an answer
-module _ (nfa : Automaton) (kind : MatchKind) (earliest : Bool) (x : Search) where
-  pub inside-of : (r : Option Match) → IsFindAnswer nfa kind earliest x (option_map found_of r)
-      → IfSome r (λ m. IsInside x (found_of m))
-  inside-of None h = tt
-  inside-of (Some m) h = let k = match-within nfa kind earliest x (found_of m) h in
-      record { from = k.0; ordered = k.1; to = k.2 }
-
-  pub half-inside : (r : Option HalfMatch) → IsHalfAnswer nfa kind earliest x (option_map half_found_of r)
-      → IfSome r (λ m. (x.start ≤ (half_found_of m).offset) × ((half_found_of m).offset ≤ x.end))
-  half-inside None h = tt
-  half-inside (Some m) h = half-within nfa kind earliest x (half_found_of m) h
-
-  pub pattern-of : IsAutomaton nfa → (r : Option Match) → IsFindAnswer nfa kind earliest x (option_map found_of r)
-      → IfSome r (λ m. (found_of m).pattern < length nfa.patterns)
-  pattern-of valid None h = tt
-  pattern-of valid (Some m) h = match-pattern nfa kind earliest valid x (found_of m) h
-
-  pub slots-inside : (pattern : Option ℕ) (slots : List (Option ℕ)) → IsAnswer nfa kind earliest x pattern slots
-      → All (IsSlotInside x) slots
-  slots-inside pattern slots a = slots-within nfa kind earliest x pattern slots a
-
-  pub slots-pattern : IsAutomaton nfa → (r : Option PatternID) (slots : List (Option ℕ))
-      → IsAnswer nfa kind earliest x (option_map number_of r) slots
-      → IfSome r (λ p. number_of p < length nfa.patterns)
-  slots-pattern valid None slots a = tt
-  slots-pattern valid (Some p) slots a = pattern-within nfa kind earliest valid x (Some (number_of p)) slots a
-
-  -- after no match no slot is set
-  pub slots-none : (n : ℕ) (pattern : Option ℕ) (slots : List (Option ℕ)) → IsAnswer nfa kind earliest x pattern slots
-      → length slots ≡ n → IfNone pattern (slots ≡ blank n)
-  slots-none n None slots a size = slots-unset nfa kind earliest x slots a ∙ ap blank size
-  slots-none n (Some p) slots a size = tt
-
-  -- the same for a pattern that is not yet a number
-  pub slots-none_of : (n : ℕ) (r : Option PatternID) (slots : List (Option ℕ))
-      → IsAnswer nfa kind earliest x (option_map number_of r) slots → length slots ≡ n → IfNone r (slots ≡ blank n)
-  slots-none_of n None slots a size = slots-none n None slots a size
-  slots-none_of n (Some p) slots a size = tt

@@ -1,5 +1,5 @@
 -- half and full iteration give the same ends
-use Rattle.std.proofs.Common.{◌≡◌, ℕ, zero, suc, ◌≤◌, true, false, Bool, ◌==◌, ◌&&◌, List, map, Option, None, Some, Ok, Err, refl, sym, ◌∙◌, ap, subst, arith}
+use Rattle.std.proofs.Common.{◌≡◌, ℕ, zero, suc, ◌≤◌, true, false, Bool, ◌==◌, ◌&&◌, List, map, Option, None, Some, Ok, Err, refl, ◌∙◌, ap, arith}
 use Rattle.std.proofs.lemmas.Bool.Decides.{nat_tests}
 use Rattle.regex_search_core.specs.Found.{Found, HalfFound}
 use Rattle.regex_search_core.specs.Search.{Search}
@@ -44,16 +44,14 @@ walk_after : (w : IterState) (a : Answer Found) → IsIterState w → IsFoundIn 
     → IsIterState (after w (answer_span span_of a))
 walk_after w (Ok (Some m)) is found = record {
   behind = λ e at. let same : m.end ≡ e = cc in omega arith;
-  ordered =
-      omega (arith, found.2);
+  ordered = omega (arith, found.2);
 }
 walk_after w (Ok None) is found = is
 walk_after w (Err e) is found = is
 
 -- so does moving one byte on, if an empty match is in the span
 walk_shifted : (w : IterState) (a : Answer Found) → IsIterState w → IsFoundIn w.at a
-    → repeats w (answer_span span_of a) ≡ true
-    → IsIterState (shifted w)
+    → repeats w (answer_span span_of a) ≡ true → IsIterState (shifted w)
 walk_shifted w (Ok (Some m)) is found again = record {
   behind = λ e at. let low : e ≤ w.at.start = is.behind e at in omega arith;
   ordered = omega (arith, found.0, found.1, found.2);
@@ -79,37 +77,25 @@ module _ (h : Search → Answer Found) (k : Search → Answer HalfFound) where
       found = finds.inside w.at (same_start-self w.at) is.ordered
 
       same : repeats w (answer_span half_span_of (k w.at)) ≡ repeats w (answer_span span_of (h w.at))
-      same = subst (λ (a : Answer HalfFound). repeats w (answer_span half_span_of a)
-          ≡ repeats w (answer_span span_of (h w.at))) (sym here) (same_repeats w (h w.at) is.behind found)
+      same = rw here (same_repeats w (h w.at) is.behind found)
 
       by_test : (b : Bool) → repeats w (answer_span span_of (h w.at)) ≡ b → SameStep w
       by_test true e =
           let half : repeats w (answer_span half_span_of (k w.at)) ≡ true = same ∙ e in
-          let next : IsIterState (shifted w) = walk_shifted w (h w.at) is found e in
-          let there : k (shifted w).at ≡ end_answer (h (shifted w).at) =
-          finds.ends (shifted w).at (same_start-shifted w) next.ordered in
-          let found' : IsFoundIn (shifted w).at (h (shifted w).at) =
-          finds.inside (shifted w).at (same_start-shifted w) next.ordered in
-          let answer : step_answer half_span_of k w ≡ end_answer (step_answer span_of h w) = rw (half, e) there in
-          let walk : step_iter_state half_span_of k w ≡ step_iter_state span_of h w =
-          rw (half, e) (ap (λ (a : Answer HalfFound). after (shifted w) (answer_span half_span_of a)) there
-          ∙ same_after (shifted w) (h (shifted w).at)) in
+          let next = walk_shifted w (h w.at) is found e in
+          let there = finds.ends (shifted w).at (same_start-shifted w) next.ordered in
+          let found' = finds.inside (shifted w).at (same_start-shifted w) next.ordered in
           record {
-            answer = answer;
-            walk = walk;
+            answer = rw (half, e) there;
+            walk = rw (half, e, there) (same_after (shifted w) (h (shifted w).at));
             next = rw e (walk_after (shifted w) (h (shifted w).at) next found');
             like = rw e (same_start-after_shifted w (answer_span span_of (h (shifted w).at)));
           }
       by_test false e =
           let half : repeats w (answer_span half_span_of (k w.at)) ≡ false = same ∙ e in
-          let answer : step_answer half_span_of k w ≡ end_answer (step_answer span_of h w) = rw (half, e) here in
-          let walk : step_iter_state half_span_of k w ≡ step_iter_state span_of h w =
-          rw (half, e) (ap (λ (a : Answer HalfFound). after w (answer_span half_span_of a)) here
-          ∙ same_after w (h w.at))
-          in
           record {
-            answer = answer;
-            walk = walk;
+            answer = rw (half, e) here;
+            walk = rw (half, e, here) (same_after w (h w.at));
             next = rw e (walk_after w (h w.at) is found);
             like = rw e (same_start-after w (answer_span span_of (h w.at)));
           }

@@ -22,7 +22,7 @@ use Rattle.nfa_search_base.specs.Lists.{AnswersMatch, ComeNext, ComeLast, AreFir
 use Rattle.nfa_search_base.specs.IterStates.{IterState, Answer, AnswerIsInside}
 use Rattle.nfa_search_base.specs.IterStates.{fresh, after, answer_span, span_of}
 use Rattle.nfa_search_base.specs.declared.error.SearchError.{SearchError}
-use Rattle.nfa_search_base.proofs.ListLemmas.{as_items, last-matches, last-unique, match-lies, match-same, matches_in-as_items, never-fails}
+use Rattle.nfa_search_base.proofs.ListLemmas.{as_items, last-matches, last-unique, match-lies, matches_in-as_items, never-fails}
 use Rattle.nfa_search_base.proofs.ListLemmas.{matches-unique, step-as, step-unique, items-greedy}
 use Rattle.nfa_search_base.proofs.IterStateLemmas.{IsOrdered}
 use Rattle.nfa_paths.proofs.PatternLemmas.{length-slot_row}
@@ -31,20 +31,24 @@ module _ (nfa : Automaton) (kind : MatchKind) (earliest : Bool) where
   abbrev tells : Search → Answer Row → Type 0
   tells = AnswersRow nfa kind earliest
 
+  -- what all slots of an answer give is the match of the search
+  slots-match : (t : Search) (p : Option ℕ) (slots : List (Option ℕ)) (m : Option Found)
+      → IsAnswer nfa kind earliest t p slots → length slots ≡ slot_count nfa.groups → match_of p slots ≡ m
+      → IsFindAnswer nfa kind earliest t m
+  slots-match t p slots m a count is = record {
+    restarts = a.restarts;
+    path = a.path;
+    answers = a.answers;
+    found_is = sym is
+        ∙ ap (λ (q : Option ℕ). match_of q slots) a.pattern_is
+        ∙ ap (λ (s : List (Option ℕ)). match_of (option_and_then (path_pattern nfa) a.path) s) a.slots_are
+        ∙ ap (λ (n : ℕ). match_of (option_and_then (path_pattern nfa) a.path) (slot_row nfa n a.path)) count;
+  }
+
   -- the match of a row is that of the search
   row-match : (t : Search) (row : Row) → IsRow nfa kind earliest t row
       → IsFindAnswer nfa kind earliest t (Some (row_found row))
-  row-match t row h = record {
-    restarts = h.answer.restarts;
-    path = h.answer.path;
-    answers = h.answer.answers;
-    found_is =
-        sym h.is_match
-        ∙ ap (λ (p : Option ℕ). match_of p row.slots) h.answer.pattern_is
-        ∙ ap (λ (s : List (Option ℕ)). match_of (option_and_then (path_pattern nfa) h.answer.path) s) h.answer.slots_are
-        ∙ ap (λ (n : ℕ). match_of (option_and_then (path_pattern nfa) h.answer.path) (slot_row nfa n h.answer.path))
-        h.count;
-  }
+  row-match t row h = slots-match t row.pattern row.slots (Some (row_found row)) h.answer h.count h.is_match
 
   -- a row as a match
   abbrev pub as_match : Answer Row → Answer Found
@@ -103,17 +107,7 @@ module _ (nfa : Automaton) (kind : MatchKind) (earliest : Bool) where
     where
       of : (m : Option Found) → match_of c.pattern c.slots ≡ m → tells t (Ok (option_map (λ f. row_of c) m))
       of (Some f) is = record { answer = answer; count = count; is_match = rw is refl }
-      of None is = record {
-        restarts = answer.restarts;
-        path = answer.path;
-        answers = answer.answers;
-        found_is =
-            sym is
-            ∙ ap (λ (p : Option ℕ). match_of p c.slots) answer.pattern_is
-            ∙ ap (λ (s : List (Option ℕ)). match_of (option_and_then (path_pattern nfa) answer.path) s) answer.slots_are
-            ∙ ap (λ (n : ℕ). match_of (option_and_then (path_pattern nfa) answer.path) (slot_row nfa n answer.path))
-            count;
-      }
+      of None is = slots-match t c.pattern c.slots None answer count is
 
   -- a step over rows is one over matches
   ok-match : (w : IterState) (o : Option Row) → IsStep row_span tells w (Ok o)
@@ -170,8 +164,8 @@ module _ (nfa : Automaton) (kind : MatchKind) (earliest : Bool) where
   up-to w (r ∷ rows) [] h k =
       let e = step-unique row_span tells one-row w (Ok (Some r)) (Ok None) h.0 k in cc
   up-to w (r ∷ rows) (Ok y ∷ items) h k =
-      let same : y ≡ r = match-same y r
-      (step-unique row_span tells one-row w (Ok (Some y)) (Ok (Some r)) k.0 h.0) in
+      let is = step-unique row_span tells one-row w (Ok (Some y)) (Ok (Some r)) k.0 h.0 in
+      let same : y ≡ r = cc in
       inl (
         ap (λ (z : Row). let a : Item Row = Ok z in a) same,
         up-to (after w (Some (row_span r))) rows items h.1 (rw same at k.1),

@@ -55,10 +55,5 @@ LeavesFewer-second w None lies ordered comes = by_last w.last
         ≤ ends_left (record { at = w.at; last = last })
     by_last None = omega arith
     by_last (Some e) = omega arith
-LeavesFewer-second w (Some p) lies ordered comes = by_last w.last comes
-  where
-    by_last : (last : Option ℕ) → ComesAfter (record { at = w.at; last = last }) (Some p)
-        → ends_left (after (shifted w) (Some p)) < ends_left (record { at = w.at; last = last })
-    by_last None c = let o : p.start ≤ p.end = ordered p refl in omega (arith, lies.0, lies.1)
-    by_last (Some e) c = let o : p.start ≤ p.end = ordered p refl in let k = c e refl in
-        omega (arith, lies.0, lies.1, k.0, k.1)
+LeavesFewer-second w (Some p) lies ordered comes =
+    LeavesFewer-first w (Some p) (omega (arith, lies.0), lies.1) ordered comes

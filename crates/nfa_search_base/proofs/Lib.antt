@@ -1,5 +1,6 @@
 pub mod AgreementLemmas
 pub mod AskingLemmas
+pub mod CallerLemmas
 pub mod WithCapturesLemmas
 pub mod DrainedLemmas
 pub mod EngineLemmas

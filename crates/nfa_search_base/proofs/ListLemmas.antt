@@ -19,7 +19,7 @@ use Rattle.regex_search_core.specs.Slots.{match_of}
 use Rattle.std.specs.Option.{option_and_then}
 use Rattle.nfa_search_base.specs.Asking.{SameButStart}
 use Rattle.nfa_search_base.specs.LastEnd.{EndsBy}
-use Rattle.nfa_search_base.specs.Items.{Item, matches_in, items_from, items_within, greedy}
+use Rattle.nfa_search_base.specs.Items.{Item, item_by, matches_in, items_from, items_within, greedy}
 use Rattle.nfa_search_base.specs.Lists.{IsStep, Fails, ItemsNext, ItemsLast, AreDisjoint, AreSpansDisjoint}
 use Rattle.nfa_search_base.specs.Lists.{AnswersMatch, AreFirstMatches, AreMatches}
 use Rattle.nfa_search_base.specs.IterStates.{IterState, Answer, Advances, AnswerIsInside}
@@ -31,13 +31,6 @@ use Rattle.nfa_search_base.proofs.StepLemmas.{Advances-fewer}
 use Rattle.nfa_search_base.proofs.IterStateLemmas.{IsOrdered}
 use Rattle.nfa_paths.proofs.OptionLemmas.{same_some}
 
-pub match-same : {X : Type 0} (x y : X) → (let a : Answer X = Ok (Some x) in let b : Answer X = Ok (Some y) in a ≡ b)
-    → x ≡ y
-match-same x y e = cc
-
-error-same : {X : Type 0} (e q : SearchError) → (let a : Answer X = Err e in let b : Answer X = Err q in a ≡ b) → e ≡ q
-error-same e q is = cc
-
 -- the last end is not after the start: before the first match, and after a match
 behind-none : (n : ℕ) → EndsBy None n
 behind-none n = λ e is. let never : None ≡ Some e = is in cc
@@ -48,6 +41,12 @@ behind-after end = λ e is. let same : end ≡ e = same_some end e is in omega (
 -- a list of matches as items
 abbrev pub as_items : {X : Type 0} → List X → List (Item X)
 as_items xs = map (λ x. Ok x) xs
+
+-- what values as items show
+pub items-view : {X Y : Type 0} (view : Y → X) (ys : List Y)
+    → map (item_by view) (map (λ y. Ok y) ys) ≡ as_items (map view ys)
+items-view view [] = refl
+items-view {X} view (y ∷ ys) = ap (λ (l : List (Item X)). Ok (view y) ∷ l) (items-view view ys)
 
 -- If answers of `under` are answers of `tells` as f shows them, so are the steps.
 module _ {X Y : Type 0} (span : X → Span) (span' : Y → Span) (under : Search → Answer X → Type 0)
@@ -132,14 +131,16 @@ module _ {X : Type 0} (span : X → Span) (tells : Search → Answer X → Type 
     next-rest w [] ys h k = (ys, refl)
     next-rest w (Ok x ∷ xs) [] h k = let e = step-unique w (Ok (Some x)) (Ok None) h.0 k in cc
     next-rest w (Ok x ∷ xs) (Ok y ∷ ys) h k =
-        let same : x ≡ y = match-same x y (step-unique w (Ok (Some x)) (Ok (Some y)) h.0 k.0) in
+        let is = step-unique w (Ok (Some x)) (Ok (Some y)) h.0 k.0 in
+        let same : x ≡ y = cc in
         let rest = next-rest (past w x) xs ys h.1 (rw same k.1) in
         (rest.0, ap (λ (m : X). Ok m ∷ ys) (sym same) ∙ ap (λ (l : List (Item X)). Ok x ∷ l) rest.1)
     next-rest w (Ok x ∷ xs) (Err q ∷ ys) h k = let e = step-unique w (Ok (Some x)) (Err q) h.0 k.0 in cc
     next-rest w (Err e ∷ xs) [] h k = let is = step-unique w (Err e) (Ok None) h.0 k in cc
     next-rest w (Err e ∷ xs) (Ok y ∷ ys) h k = let is = step-unique w (Err e) (Ok (Some y)) h.0 k.0 in cc
     next-rest w (Err e ∷ xs) (Err q ∷ ys) h k =
-        let same : e ≡ q = error-same e q (step-unique w (Err e) (Err q) h.0 k.0) in
+        let is = step-unique w (Err e) (Err q) h.0 k.0 in
+        let same : e ≡ q = cc in
         ([], rw (h.1, k.1, same) refl)
 
     -- there is one list

@@ -1,5 +1,5 @@
 -- Items that are all `Ok`, and the one error that may end them.
-use Rattle.std.proofs.Common.{◌≡◌, ◌∙◌, ◌≤◌, inl, inr, true, MatchBool, refl, sym, ap, subst, arith}
+use Rattle.std.proofs.Common.{◌≡◌, ◌∙◌, ◌≤◌, inl, inr, true, MatchBool, refl, ap, subst, arith}
 use Rattle.std.proofs.Common.{Option, None, Some, Result, Ok, Err, List, [], ◌∷◌, ◌++◌, map}
 use Rattle.std.specs.Prelude.{All, IfOk, IfErr}
 use Rattle.std.specs.Iterator.{Yields}
@@ -7,13 +7,13 @@ use Rattle.std.specs.Iterator.Runs.{EachRunFrom}
 use Rattle.std.proofs.lemmas.List.Elements.{All-nil, All-cons}
 use Rattle.regex_search_core.specs.Search.{Search}
 use Rattle.regex_search_core.specs.declared.search.Span.{Span}
-use Rattle.nfa_search_base.specs.Items.{Item, item_by}
+use Rattle.nfa_search_base.specs.Items.{item_by}
 use Rattle.nfa_search_base.specs.Lists.{IsStep, Fails, FailsOrIsRefused, ItemsNext, ItemsLast}
 use Rattle.nfa_search_base.specs.IterStates.{IterState, Answer, AnswerIsInside, fresh, after, repeats, shifted, answer_span}
 use Rattle.nfa_search_base.specs.declared.error.SearchError.{SearchError}
 use Rattle.nfa_search_base.specs.declared.error.SearchError.TheVariants.{Memory}
 use Rattle.nfa_search_base.proofs.IterStateLemmas.{IsOrdered}
-use Rattle.nfa_search_base.proofs.ListLemmas.{as_items, step-lies}
+use Rattle.nfa_search_base.proofs.ListLemmas.{as_items, items-view, step-lies}
 use Rattle.nfa_search_base.proofs.RunLemmas.{Given}
 use Rattle.nfa_search_base.proofs.StepLemmas.{chosen}
 
@@ -32,11 +32,6 @@ oks xs ys i y is ok = rw (is, ok) (oked-more ys y)
 pub no-items : {X Y : Type 0} (view : Y → X) (xs : List (Result Y SearchError)) → map (item_by view) xs ≡ [] → xs ≡ []
 no-items view [] h = refl
 no-items view (y ∷ ys) h = cc
-
--- what they show
-pub oked-view : {X Y : Type 0} (view : Y → X) (ys : List Y) → map (item_by view) (oked ys) ≡ as_items (map view ys)
-oked-view view [] = refl
-oked-view {X} view (y ∷ ys) = ap (λ (l : List (Item X)). Ok (view y) ∷ l) (oked-view view ys)
 
 -- What the calls of an iterator give, if its items are all `Ok`.
 module _ {T Y : Type 0} (steps : T → Option (Result Y SearchError) → T → Type 0)
@@ -61,9 +56,6 @@ module _ {T Y : Type 0} (steps : T → Option (Result Y SearchError) → T → T
       → Yields steps s xs t → steps t (Some i) u → xs ≡ map Ok ys → i ≡ Ok y → FirstOk (ys ++ y ∷ [])
   oked-next xs t i u ys y ran st are ok =
       first-of (ys ++ y ∷ []) (subst First (oks xs ys i y are ok) (given.next xs t i u ran st))
-
-error-same : {X : Type 0} (a b : SearchError) → (let x : Answer X = Err a in let y : Answer X = Err b in x ≡ y) → a ≡ b
-error-same a b e = cc
 
 -- An engine gives the answers that it `tells`, and without an error they are those of a `clean` search. `ends` says
 -- which error may end the items.
@@ -102,13 +94,11 @@ module _ {X Y : Type 0} (span : X → Span) (view : Y → X) (tells clean : Sear
 
   pub next-clean : (w : IterState) (ys : List Y) → Next w (oked ys)
       → ItemsNext span clean (Fails span clean) w (as_items (map view ys))
-  next-clean w ys h =
-      next-values (map view ys) w (subst (λ (l : List (Item X)). ItemsNext span tells ends w l) (oked-view view ys) h)
+  next-clean w ys h = next-values (map view ys) w (rw (items-view view ys) at h)
 
   pub last-clean : (w : IterState) (ys : List Y) → ItemsLast span tells ends w (map (item_by view) (oked ys))
       → ItemsLast span clean (Fails span clean) w (as_items (map view ys))
-  last-clean w ys h =
-      last-values (map view ys) w (subst (λ (l : List (Item X)). ItemsLast span tells ends w l) (oked-view view ys) h)
+  last-clean w ys h = last-values (map view ys) w (rw (items-view view ys) at h)
 
   -- if the search can only give one error, so can its first step
   pub only-step : (x : Search) (error : SearchError) → ((a : Answer X) → tells x a → a ≡ Err error) → (a : Answer X)
@@ -125,15 +115,14 @@ module _ {X Y : Type 0} (span : X → Span) (view : Y → X) (tells clean : Sear
   pub only-item : (x : Search) (error : SearchError) → ((a : Answer X) → tells x a → a ≡ Err error)
       → (xs : List (Result Y SearchError))
       → ItemsLast span tells ends (fresh x) (map (item_by view) xs) → xs ≡ Err error ∷ []
-  only-item x error only [] h = let k : Ok None ≡ Err error = only-step x error only (Ok None) h in cc
-  only-item x error only (Ok y ∷ xs) h =
-      let k : Ok (Some (view y)) ≡ Err error = only-step x error only (Ok (Some (view y))) h.0 in cc
+  only-item x error only [] h = let k = only-step x error only (Ok None) h in cc
+  only-item x error only (Ok y ∷ xs) h = let k = only-step x error only (Ok (Some (view y))) h.0 in cc
   only-item x error only (Err r ∷ xs) h = elim (refused (fresh x) r h.0) [
     | inl step ↦
-        let same : r ≡ error = error-same r error (only-step x error only (Err r) step) in
+        let is = only-step x error only (Err r) step in
+        let same : r ≡ error = cc in
         rw (same, no-items view xs h.1) refl
-    | inr other ↦
-        let k : Ok (Some other.1) ≡ Err error = only-step x error only (Ok (Some other.1)) other.2 in cc
+    | inr other ↦ let k = only-step x error only (Ok (Some other.1)) other.2 in cc
   ]
 
   -- Clean answers are in the span of their search.
@@ -151,9 +140,8 @@ module _ {X Y : Type 0} (span : X → Span) (view : Y → X) (tells clean : Sear
         let k = step-lies span clean lies w (view y) step in
         All-cons (λ item. IfOk item Holds) (Ok y) xs (shows w y from to step)
         (items-hold Holds shows xs (after w (Some (span (view y)))) (omega (arith, k.0, k.1)) to h.1)
-    items-hold Holds shows (Err r ∷ xs) w from to h =
-        rw (no-items view xs h.1) (All-cons (λ item. IfOk item Holds) (Err r) [] tt
-        (All-nil (λ item. IfOk item Holds)))
+    items-hold Holds shows (Err r ∷ xs) w from to h = rw (no-items view xs h.1)
+        (All-cons (λ item. IfOk item Holds) (Err r) [] tt (All-nil (λ item. IfOk item Holds)))
 
     -- if the only error of a search in the span is `Memory`, it is the only error of an item
     module _ (memory : (t : Search) (e : SearchError) → x.start ≤ t.start → t.end ≡ x.end → tells t (Err e)
@@ -163,18 +151,20 @@ module _ {X Y : Type 0} (span : X → Span) (view : Y → X) (tells clean : Sear
       error-memory w r from to h = elim (refused w r h) [
         | inl step ↦ elim (chosen (repeats w (answer_span span step.first)) step.rest) [
           | inl p ↦ memory (shifted w).at r (omega (arith, from)) to p.1
-          | inr p ↦ memory w.at r from to (subst (λ (a : Answer X). tells w.at a) (sym p.1) step.is_first)
+          | inr p ↦ memory w.at r from to (rw p.1 step.is_first)
         ]
         | inr other ↦ other.0
       ]
 
+      abbrev OnlyMemory : Result Y SearchError → Type 0
+      OnlyMemory item = IfErr item (λ error. error ≡ Memory)
+
       pub items-memory : (xs : List (Result Y SearchError)) (w : IterState) → x.start ≤ w.at.start → w.at.end ≡ x.end
           → Next w xs → All (λ item. IfErr item (λ error. error ≡ Memory)) xs
-      items-memory [] w from to h = All-nil (λ item. IfErr item (λ error. error ≡ Memory))
+      items-memory [] w from to h = All-nil OnlyMemory
       items-memory (Ok y ∷ xs) w from to h =
           let k = step-lies span clean lies w (view y) (ok-step w (Some (view y)) h.0) in
-          All-cons (λ item. IfErr item (λ error. error ≡ Memory)) (Ok y) xs tt
+          All-cons OnlyMemory (Ok y) xs tt
           (items-memory xs (after w (Some (span (view y)))) (omega (arith, from, k.0, k.1)) to h.1)
-      items-memory (Err r ∷ xs) w from to h =
-          rw (no-items view xs h.1) (All-cons (λ item. IfErr item (λ error. error ≡ Memory)) (Err r) []
-          (error-memory w r from to h.0) (All-nil (λ item. IfErr item (λ error. error ≡ Memory))))
+      items-memory (Err r ∷ xs) w from to h = rw (no-items view xs h.1)
+          (All-cons OnlyMemory (Err r) [] (error-memory w r from to h.0) (All-nil OnlyMemory))

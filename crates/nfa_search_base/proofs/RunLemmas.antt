@@ -1,5 +1,5 @@
 -- The calls of an iterator that keeps its finder or engine give the items of its list.
-use Rattle.std.proofs.Common.{◌≡◌, ◌⊎◌, inl, inr, true, false, refl, ap, subst}
+use Rattle.std.proofs.Common.{◌≡◌, ◌⊎◌, inl, inr, true, false, refl, ap}
 use Rattle.std.proofs.Common.{Option, None, Some, Result, Ok, Err, List, [], ◌∷◌, ◌++◌, map}
 use Rattle.std.specs.Iterator.{Yields}
 use Rattle.std.specs.Option.{option_map}
@@ -15,7 +15,7 @@ use Rattle.nfa_search_base.specs.Stored.{steps_iter_state, takes_steps, takes_in
 use Rattle.nfa_search_base.specs.IterStates.{IterState, Answer, Advances, fresh, repeats, shifted, after, answer_span}
 use Rattle.nfa_search_base.specs.declared.error.SearchError.{SearchError}
 use Rattle.nfa_search_base.specs.declared.iter.steps.Steps.{Steps}
-use Rattle.nfa_search_base.proofs.ListLemmas.{as_items}
+use Rattle.nfa_search_base.proofs.ListLemmas.{as_items, items-view}
 use Rattle.nfa_search_base.proofs.AskingLemmas.{same_start-self, same_start-then}
 use Rattle.nfa_search_base.proofs.StepLemmas.{chosen, same_start-shifted, same_start-after}
 
@@ -216,21 +216,15 @@ module _ {S X Y : Type 0} (span : X → Span) (asks : S → Search → Answer X 
     abbrev sure_steps : Steps S → Option Y → Steps S → Type 0
     sure_steps = takes_infallible_steps span asks gives
 
-    as_items-view : (xs : List Y) → items (map (λ y. Ok y) xs) ≡ as_items (map view xs)
-    as_items-view [] = refl
-    as_items-view (y ∷ ys) = ap (λ (l : List (Item X)). Ok (view y) ∷ l) (as_items-view ys)
-
     pub gives-first_matches : GivesFirst sure_steps
         (λ xs. ItemsNext span tells ends (fresh x) (as_items (map view xs))) s
     gives-first_matches = λ xs t ran.
-        subst (λ (l : List (Item X)). ItemsNext span tells ends (fresh x) l) (as_items-view xs)
-        (gives-first (map (λ y. Ok y) xs) t (yields-oked steps xs s t ran))
+        rw (items-view view xs) at (gives-first (map (λ y. Ok y) xs) t (yields-oked steps xs s t ran))
 
     pub gives-all_matches : (xs : List Y) (t u : Steps S) → Yields sure_steps s xs t → sure_steps t None u
         → ItemsLast span tells ends (fresh x) (as_items (map view xs))
     gives-all_matches = λ xs t u ran st.
-        subst (λ (l : List (Item X)). ItemsLast span tells ends (fresh x) l) (as_items-view xs)
-        (gives-all (map (λ y. Ok y) xs) t u (yields-oked steps xs s t ran) st)
+        rw (items-view view xs) at (gives-all (map (λ y. Ok y) xs) t u (yields-oked steps xs s t ran) st)
 
 -- What each call to the asker keeps, each call of the iterator keeps.
 module _ {S X Y : Type 0} (span : X → Span) (asks : S → Search → Answer X → S → Type 0)

@@ -7,8 +7,8 @@ use Rattle.regex_search_core.specs.Search.{search_of}
 use Rattle.regex_search_core.specs.declared.search.MatchKind.TheVariants.{LeftmostFirst}
 use Rattle.thompson_nfa.specs.Automaton.{IsAutomaton}
 use Rattle.nfa_paths.proofs.RestartLemmas.{match-some}
+use Rattle.nfa_search_base.proofs.CallerLemmas.{inside-of, pattern-of}
 use Rattle.nfa_backtrack.specs.Backtrack.{Backtracker}
-use Rattle.nfa_backtrack.proofs.EngineLemmas.{inside-of, pattern-of}
 use Rattle.nfa_backtrack.proofs.engine.BoundedBacktracker.find_with.Goals as goal
 
 pub returns-clause-answer : goal.returns-clause-answer
@@ -31,11 +31,12 @@ returns-clause-answer c =
     c.from_slots.ensures
 
 pub returns-clause-inside : goal.returns-clause-inside
-returns-clause-inside c = inside-of c.args.self.now.nfa (search_of c.args.input.now) c.from_slots.result
-    (returns-clause-answer c)
+returns-clause-inside c = inside-of c.args.self.now.nfa LeftmostFirst false (search_of c.args.input.now)
+    c.from_slots.result (returns-clause-answer c)
 
 pub returns-clause-pattern : goal.returns-clause-pattern
 returns-clause-pattern c =
     let same = ap (λ (e : Backtracker). e.nfa) c.self.view_is in
     let valid : IsAutomaton c.args.self.now.nfa = rw (← same) c.group_info.ensures.valid in
-    pattern-of c.args.self.now.nfa (search_of c.args.input.now) valid c.from_slots.result (returns-clause-answer c)
+    pattern-of c.args.self.now.nfa LeftmostFirst false (search_of c.args.input.now) valid c.from_slots.result
+    (returns-clause-answer c)

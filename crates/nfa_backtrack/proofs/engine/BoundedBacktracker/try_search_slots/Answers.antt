@@ -2,8 +2,9 @@
 use Rattle.std.specs.Prelude.{false}
 use Rattle.regex_search_core.specs.Search.{search_of}
 use Rattle.regex_search_core.specs.declared.search.MatchKind.TheVariants.{LeftmostFirst}
+use Rattle.nfa_paths.proofs.InsideLemmas.{slots-within}
 use Rattle.nfa_paths.proofs.RestartLemmas.{answer-of}
-use Rattle.nfa_backtrack.proofs.EngineLemmas.{slots-inside, slots-none}
+use Rattle.nfa_search_base.proofs.CallerLemmas.{slots-none_of}
 use Rattle.nfa_backtrack.proofs.engine.BoundedBacktracker.try_search_slots.Goals as goal
 
 pub returns-clause-answer : goal.returns-clause-answer
@@ -13,8 +14,9 @@ returns-clause-answer c =
 
 pub returns-clause-unmatched : goal.returns-clause-unmatched
 returns-clause-unmatched c =
-    slots-none c.args.self.now.nfa (search_of c.args.input.now) _ _ _ (returns-clause-answer c)
+    slots-none_of c.args.self.now.nfa LeftmostFirst false (search_of c.args.input.now) _ _ _ (returns-clause-answer c)
     c.search_counted.auto.slots
 
 pub returns-clause-inside : goal.returns-clause-inside
-returns-clause-inside c = slots-inside c.args.self.now.nfa (search_of c.args.input.now) _ _ (returns-clause-answer c)
+returns-clause-inside c =
+    slots-within c.args.self.now.nfa LeftmostFirst false (search_of c.args.input.now) _ _ (returns-clause-answer c)

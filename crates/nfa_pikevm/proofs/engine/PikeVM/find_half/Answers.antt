@@ -2,7 +2,7 @@
 use Rattle.regex_search_core.specs.Search.{search_of}
 use Rattle.nfa_paths.proofs.RestartLemmas.{half-of, pattern-among}
 use Rattle.nfa_pikevm.specs.Engines.{kind_of}
-use Rattle.nfa_pikevm.proofs.EngineLemmas.{half-inside}
+use Rattle.nfa_search_base.proofs.CallerLemmas.{half-lies}
 use Rattle.nfa_pikevm.proofs.engine.PikeVM.find_half.Goals as goal
 
 pub returns-clause-answer : goal.returns-clause-answer
@@ -18,5 +18,5 @@ returns-clause-pattern c =
     c.states.ensures.valid c.search.result c.search.ensures.answer)
 
 pub returns-clause-inside : goal.returns-clause-inside
-returns-clause-inside c = half-inside c.args.self.now.nfa (kind_of c.args.self.now) _ (search_of c.args.input)
+returns-clause-inside c = half-lies c.args.self.now.nfa (kind_of c.args.self.now) _ (search_of c.args.input)
     c.search.result (returns-clause-answer c)

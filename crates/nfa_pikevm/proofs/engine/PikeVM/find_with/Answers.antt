@@ -6,7 +6,7 @@ use Rattle.regex_search_core.specs.Search.{search_of}
 use Rattle.thompson_nfa.specs.Automaton.{IsAutomaton}
 use Rattle.nfa_paths.proofs.RestartLemmas.{match-some}
 use Rattle.nfa_pikevm.specs.Engines.{kind_of}
-use Rattle.nfa_pikevm.proofs.EngineLemmas.{pattern-of}
+use Rattle.nfa_search_base.proofs.CallerLemmas.{pattern-of}
 use Rattle.nfa_pikevm.proofs.engine.PikeVM.find_with.Goals as goal
 
 pub returns-clause-answer : goal.returns-clause-answer

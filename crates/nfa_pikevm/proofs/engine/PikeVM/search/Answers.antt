@@ -4,7 +4,7 @@ use Rattle.std.proofs.lemmas.Grind.{common_steps}
 use Rattle.regex_search_core.specs.Search.{search_of}
 use Rattle.nfa_search_base.proofs.SpanLemmas.{spans-inside}
 use Rattle.nfa_pikevm.specs.Engines.{kind_of}
-use Rattle.nfa_pikevm.proofs.EngineLemmas.{slots-none}
+use Rattle.nfa_search_base.proofs.CallerLemmas.{slots-none}
 use Rattle.nfa_pikevm.proofs.engine.PikeVM.search.Goals as goal
 
 pub returns-clause-answer : goal.returns-clause-answer

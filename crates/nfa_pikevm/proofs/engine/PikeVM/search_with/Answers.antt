@@ -7,7 +7,8 @@ use Rattle.regex_search_core.specs.Patterns.{number_of}
 use Rattle.nfa_paths.proofs.RestartLemmas.{answer-of}
 use Rattle.thompson_nfa.specs.Automaton.{IsAutomaton}
 use Rattle.nfa_pikevm.specs.Engines.{kind_of}
-use Rattle.nfa_pikevm.proofs.EngineLemmas.{row-found, slots-pattern}
+use Rattle.nfa_search_base.proofs.CallerLemmas.{slots-pattern}
+use Rattle.nfa_pikevm.proofs.EngineLemmas.{row-found}
 use Rattle.nfa_pikevm.proofs.engine.PikeVM.search_with.Goals as goal
 
 pub returns-in_err-half-clause-answer : goal.returns-in_err-half-clause-answer

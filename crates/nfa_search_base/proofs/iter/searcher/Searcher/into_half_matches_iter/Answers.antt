@@ -1,9 +1,10 @@
 -- The items are the list of the finder.
 use Rattle.std.proofs.Common.{refl, arith}
-use Rattle.regex_search_core.specs.Found.{half_found_of}
+use Rattle.regex_search_core.specs.Found.{HalfFound, half_found_of}
+use Rattle.regex_search_core.specs.Search.{Search}
 use Rattle.nfa_search_base.specs.Asking.{IsCallableOn}
 use Rattle.nfa_search_base.specs.Finders.{Finds}
-use Rattle.nfa_search_base.specs.IterStates.{half_span_of}
+use Rattle.nfa_search_base.specs.IterStates.{Answer, half_span_of}
 use Rattle.nfa_search_base.specs.Stored.{steps_from}
 use Rattle.nfa_search_base.proofs.GreedyLemmas.{try-yields}
 use Rattle.nfa_search_base.proofs.MayAnswerLemmas.{found, found-apart}
@@ -13,15 +14,7 @@ pub returns : goal.returns
 returns g c =
     let s = steps_from c.args.self c.args.finder in
     let given = found half_found_of half_span_of g.F.FnMut s refl in
-    rw c.new.ensures (record {
-      can = c.requires;
-      walk = refl;
-      finder = refl;
-      going = refl;
-      runs = given.run;
-      first = given.first;
-      next = given.next;
-      all = given.all;
-      apart = found-apart half_found_of half_span_of g.F.FnMut (λ m. omega arith) s refl c.requires;
-      list = λ h. try-yields (IsCallableOn g.F.FnMut) (Finds half_found_of g.F.FnMut) half_span_of half_found_of h s;
-    })
+    let apart = found-apart half_found_of half_span_of g.F.FnMut (λ m. omega arith) s refl c.requires in
+    let list = λ (h : Search → Answer HalfFound).
+    try-yields (IsCallableOn g.F.FnMut) (Finds half_found_of g.F.FnMut) half_span_of half_found_of h s in
+    rw c.new.ensures (assumption (refl, c.requires, given, apart, list))

@@ -1,0 +1,51 @@
+-- What callers of an engine learn of the numbers in an answer.
+use Rattle.std.proofs.Common.{◌≡◌, ℕ, List, length, ap, ◌∙◌}
+use Rattle.std.specs.Prelude.{Option, Some, None, Bool, option_map, replicate, IfSome, IfNone, ◌<◌, ◌≤◌}
+use Rattle.regex_search_core.specs.Found.{found_of, half_found_of}
+use Rattle.regex_search_core.specs.Patterns.{number_of}
+use Rattle.regex_search_core.specs.Search.{Search}
+use Rattle.regex_search_core.specs.declared.primitives.PatternID.{PatternID}
+use Rattle.regex_search_core.specs.declared.search.HalfMatch.{HalfMatch}
+use Rattle.regex_search_core.specs.declared.search.Match.{Match}
+use Rattle.regex_search_core.specs.declared.search.MatchKind.{MatchKind}
+use Rattle.thompson_nfa.specs.Automaton.{Automaton, IsAutomaton}
+use Rattle.nfa_paths.specs.Paths.{IsAnswer, IsHalfAnswer, IsFindAnswer}
+use Rattle.nfa_paths.proofs.InsideLemmas.{half-within, match-within, match-pattern, pattern-within}
+use Rattle.nfa_paths.proofs.PatternLemmas.{slots-unset}
+use Rattle.nfa_search_base.specs.Lists.{IsInside}
+
+module _ (nfa : Automaton) (kind : MatchKind) (earliest : Bool) (x : Search) where
+  pub inside-of : (r : Option Match) → IsFindAnswer nfa kind earliest x (option_map found_of r)
+      → IfSome r (λ m. IsInside x (found_of m))
+  inside-of None h = tt
+  inside-of (Some m) h =
+      let k = match-within nfa kind earliest x (found_of m) h in record { from = k.0; ordered = k.1; to = k.2 }
+
+  pub half-lies : (r : Option HalfMatch) → IsHalfAnswer nfa kind earliest x (option_map half_found_of r)
+      → IfSome r (λ m. (x.start ≤ (half_found_of m).offset) × ((half_found_of m).offset ≤ x.end))
+  half-lies None h = tt
+  half-lies (Some m) h = half-within nfa kind earliest x (half_found_of m) h
+
+  pub pattern-of : IsAutomaton nfa → (r : Option Match) → IsFindAnswer nfa kind earliest x (option_map found_of r)
+      → IfSome r (λ m. (found_of m).pattern < length nfa.patterns)
+  pattern-of valid None h = tt
+  pattern-of valid (Some m) h = match-pattern nfa kind earliest valid x (found_of m) h
+
+  pub slots-pattern : IsAutomaton nfa → (r : Option PatternID) (slots : List (Option ℕ))
+      → IsAnswer nfa kind earliest x (option_map number_of r) slots
+      → IfSome r (λ p. number_of p < length nfa.patterns)
+  slots-pattern valid None slots a = tt
+  slots-pattern valid (Some p) slots a = pattern-within nfa kind earliest valid x (Some (number_of p)) slots a
+
+  -- after no match no slot is set
+  pub slots-none : (n : ℕ) (pattern : Option ℕ) (slots : List (Option ℕ)) → IsAnswer nfa kind earliest x pattern slots
+      → length slots ≡ n → IfNone pattern (slots ≡ replicate n None)
+  slots-none n None slots a size = slots-unset nfa kind earliest x slots a ∙ ap (λ k. replicate k None) size
+  slots-none n (Some p) slots a size = tt
+
+  -- the same for a pattern that is not yet a number
+  pub slots-none_of : (n : ℕ) (r : Option PatternID) (slots : List (Option ℕ))
+      → IsAnswer nfa kind earliest x (option_map number_of r) slots → length slots ≡ n
+      → IfNone r (slots ≡ replicate n None)
+  slots-none_of n None slots a size = slots-none n None slots a size
+  slots-none_of n (Some p) slots a size = tt
