@@ -47,19 +47,23 @@ use thompson_nfa::{BuildError, NFA};
 #[derive(Debug, Drop)]
 pub struct BoundedBacktracker {
     config: Config,
+    /// The number of pairs of a state and a position that a search may mark.
+    mark_limit: usize,
     pub(super) first: FirstBytes,
     pub(super) nfa: NFA,
 }
 
 impl Model for BoundedBacktracker {
-    ghost use Rattle.nfa_backtrack.specs.Backtrack.{Backtracker};
+    ghost use Rattle.std.specs.Prelude.{◌≡◌};
+    ghost use Rattle.nfa_backtrack.specs.Backtrack.{Backtracker, capacity_of};
     ghost use Rattle.nfa_scan_core.specs.FirstBytes.{IsFirstBytes};
 
     ghost Value = { Backtracker };
 
     ghost view = { λ e. record { nfa = e.nfa; visited_capacity = e.config } };
 
-    ghost invariant = { λ e. IsFirstBytes e.nfa e.first.may_begin };
+    ghost invariant = { λ e. IsFirstBytes e.nfa e.first.may_begin
+        × (e.mark_limit ≡ capacity_of (record { nfa = e.nfa; visited_capacity = e.config })) };
 }
 
 /// Returns the least visited capacity, in bytes, that has a bit for each pair of the search. With it no search of the
@@ -109,8 +113,14 @@ impl BoundedBacktracker {
     pub(super) fn from_parts(config: Config, nfa: NFA) -> BoundedBacktracker
         ensures { result ≡ record { nfa = nfa; visited_capacity = config } }
     {
+        let mark_limit = rounded_bits(config.get_visited_capacity());
         let first = FirstBytes::new(&nfa);
-        BoundedBacktracker { config, first, nfa }
+        BoundedBacktracker {
+            config,
+            mark_limit,
+            first,
+            nfa,
+        }
     }
 
     /// Makes a backtracker of the NFA with the default configuration. This is always `Ok`.
@@ -259,7 +269,7 @@ impl BoundedBacktracker {
     fn capacity(&self) -> usize
         ensures { result ≡ capacity_of self.now }
     {
-        rounded_bits(self.config.get_visited_capacity())
+        self.mark_limit
     }
 
     /// Returns the length in bytes of the longest span that is not refused for its length: the number of pairs that may

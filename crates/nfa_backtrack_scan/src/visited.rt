@@ -137,12 +137,16 @@ impl Visited {
     }
 }
 
-/// Sets the blocks below this index to zero.
+/// Sets the blocks below this index to zero. One block, as a search for an empty match uses, takes no call.
 fn zero_below(blocks: &mut [u64], used: usize)
     requires { used ≤ length blocks.old }
     ensures below { (i : ℕ) → i < used → slice_index blocks.new i ≡ 0 }
     ensures others { (i : ℕ) → used ≤ i → slice_index blocks.new i ≡ slice_index blocks.old i }
 {
+    if used == 1 {
+        blocks[0] = 0;
+        return;
+    }
     for i in 0..used {
         blocks[i] = 0;
     }

@@ -6,8 +6,8 @@ use Rattle.nfa_backtrack.proofs.engine.BoundedBacktracker.may_begin.Goals as goa
 pub returns-clause-may : goal.returns-clause-may
 returns-clause-may c =
     rw (← c.self.view_is)
-    (begins-may c.self.invariant c.args.byte (omega (arith, c.ranges.byte.fits)) c.refuses.ensures.admitted)
+    (begins-may c.self.invariant.0 c.args.byte (omega (arith, c.ranges.byte.fits)) c.refuses.ensures.admitted)
 
 pub returns-clause-nothing : goal.returns-clause-nothing
 returns-clause-nothing c =
-    rw (← c.self.view_is) (begins-none c.self.invariant c.args.byte c.refuses.ensures.refused)
+    rw (← c.self.view_is) (begins-none c.self.invariant.0 c.args.byte c.refuses.ensures.refused)
