@@ -79,7 +79,7 @@ pub fn first_two(
     input: Input<'_>,
 ) -> Result<Vec<Match>, AllocError>
     requires { Fits cache.old vm.now.nfa }
-    ensures apart { IfOk result (λ v. AreDisjoint (search_of input.entry) None (map found_of v.items)) }
+    ensures disjoint { IfOk result (λ v. AreDisjoint (search_of input.entry) None (map found_of v.items)) }
     ensures few { IfOk result (λ v. length (map found_of v.items) ≤ span_len (search_of input.entry) + 1) }
 {
     laws::matches_are_disjoint();

@@ -108,7 +108,7 @@ memory-alone e x fits t error from to h = elim h [
 
 module _ (e : Backtracker) (x : Search) (s : TryCapturesMatches)
     (engine : (backtrack_captures s).steps.backend.finder ≡ e)
-    (walk : steps_with_iter_state (backtrack_captures s) ≡ fresh x)
+    (iter_state : steps_with_iter_state (backtrack_captures s) ≡ fresh x)
     (going : (backtrack_captures s).steps.done ≡ false) where
   -- the calls give the captures of the NFA
   pub catches-given : CapturesGiven backtrack_captures_next e.nfa LeftmostFirst false (IsTryCapturesAnswer e) x s
@@ -116,7 +116,7 @@ module _ (e : Backtracker) (x : Search) (s : TryCapturesMatches)
       catcher-given (λ e. e.nfa) fits_always IsTryCapturesAnswer (λ e x a. SearchesOnce e x a)
       (λ e x a old new work fits. tt) backtrack_captures_next (λ q. steps_with_state (backtrack_captures q))
       (λ a r b st. st.takes.step) e LeftmostFirst false (IsTryCapturesAnswer e) (λ t o h. h.1) x (λ t a same h. h) s
-      engine walk going (record { fits = tt; holds = s.holds })
+      engine iter_state going (record { fits = tt; holds = s.holds })
 
   -- and errors by the rule of refusals
   pub catches-refused : CatchesRefused e x s
@@ -129,7 +129,7 @@ module _ (e : Backtracker) (x : Search) (s : TryCapturesMatches)
             catcher-memory (λ e. e.nfa) fits_always IsTryCapturesAnswer (λ e x a. SearchesOnce e x a)
             (λ e x a old new work fits. tt) backtrack_captures_next (λ q. steps_with_state (backtrack_captures q))
             (λ a r b st. st.takes.step) e LeftmostFirst false (IsTryCapturesAnswer e) (λ t o h. h.1) x
-            (λ t a same h. h) s engine walk going (memory-alone e x fits) p seen from;
+            (λ t a same h. h) s engine iter_state going (memory-alone e x fits) p seen from;
       }
     where
       only-refused : IsTooLong e x → (a : Answer Row) → IsTryCapturesAnswer e x a
@@ -146,7 +146,7 @@ module _ (e : Backtracker) (x : Search) (s : TryCapturesMatches)
     on = λ xs t r u ran st.
         catches-leave (λ b. b.nfa) IsTryCapturesAnswer (λ b y a. SearchesOnce b y a) e x
         (steps_with_state (backtrack_captures s))
-        engine walk going (steps_with_state (backtrack_captures u))
+        engine iter_state going (steps_with_state (backtrack_captures u))
         (calls-lead backtrack_captures_next BacktrackerSteps (λ q. steps_with_state (backtrack_captures q))
         (λ p i q h. h.takes.step) xs s t r u ran st);
   }
@@ -155,14 +155,14 @@ module _ (e : Backtracker) (x : Search) (s : TryCapturesMatches)
 
 module _ (e : Backtracker) (x : Search) (s : Steps (WithCache (WithCaptures Backtracker) BacktrackCache))
     (may : MayCatchByBacktracker s.backend) (engine : s.backend.backend.finder ≡ e)
-    (walk : steps_iter_state s ≡ fresh x)
+    (iter_state : steps_iter_state s ≡ fresh x)
     (going : s.done ≡ false) where
   -- the cache changes only by the searches of its steps
   pub stored_captures-on : (t : Steps (WithCache (WithCaptures Backtracker) BacktrackCache))
       → CallsLead BacktrackerSteps s t
       → BacktrackerCatchesOn e x s.backend.cache t.backend.cache
   stored_captures-on = catches-leave (λ e. e.nfa) IsTryCapturesAnswer (λ b y a. SearchesOnce b y a) e x s
-      engine walk going
+      engine iter_state going
 
   -- to their end, if all captures are returned
   pub stored_captures-to_end : {V : Type 0} (r : Result V SearchError) (items : V → List Captured)
@@ -170,7 +170,7 @@ module _ (e : Backtracker) (x : Search) (s : Steps (WithCache (WithCaptures Back
       → IfOk r (λ v. DrainsAll BacktrackerSteps s (items v) t)
       → IfOk r (λ v. BacktrackerCatchesToEnd e x (map row_of (items v)) s.backend.cache t.backend.cache)
   stored_captures-to_end = all-to_end (λ e. e.nfa) IsTryCapturesAnswer (λ b y a. SearchesOnce b y a) e x s
-      engine walk going
+      engine iter_state going
 
   -- its steps give all captures of the NFA
   pub all-captures : {V : Type 0} (r : Result V SearchError) (items : V → List Captured)
@@ -184,7 +184,7 @@ module _ (e : Backtracker) (x : Search) (s : Steps (WithCache (WithCaptures Back
       all-drained BacktrackerSteps x s e.nfa LeftmostFirst false (IsTryCapturesAnswer e)
       (catcher-given (λ e. e.nfa) fits_always IsTryCapturesAnswer (λ e x a. SearchesOnce e x a)
       (λ e x a old new work fits. tt) BacktrackerSteps (λ q. q) (λ p r q st. st) e LeftmostFirst false
-      (IsTryCapturesAnswer e) (λ t o h. h.1) x (λ t a same h. h) s engine walk going may)
+      (IsTryCapturesAnswer e) (λ t o h. h.1) x (λ t a same h. h) s engine iter_state going may)
 
   -- and the only error is `Memory` if the span is not too long
   pub stored_captures-by_length : {V : Type 0} (r : Result V SearchError)
@@ -197,6 +197,7 @@ module _ (e : Backtracker) (x : Search) (s : Steps (WithCache (WithCaptures Back
     error-drained BacktrackerSteps x s
         (catcher-memory (λ e. e.nfa) fits_always IsTryCapturesAnswer (λ e x a. SearchesOnce e x a)
         (λ e x a old new work fits. tt) BacktrackerSteps (λ q. q) (λ p r q st. st) e LeftmostFirst false
-        (IsTryCapturesAnswer e) (λ t o h. h.1) x (λ t a same h. h) s engine walk going (memory-alone e x fits)) error t
+        (IsTryCapturesAnswer e) (λ t o h. h.1) x (λ t a same h. h) s engine iter_state going (memory-alone e x fits))
+        error t
         errors,
   )

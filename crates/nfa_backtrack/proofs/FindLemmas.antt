@@ -155,7 +155,7 @@ module _ (e : Backtracker) (x : Search) (long : IsTooLong e x) (old : BacktrackC
 
 -- An iterator of e that begins at x.
 module _ (e : Backtracker) (x : Search) (s : TryFindMatches) (engine : s.steps.backend.engine.now ≡ e)
-    (known : s.steps.backend.known ≡ None) (walk : steps_with_iter_state (backtrack_matches s) ≡ fresh x)
+    (known : s.steps.backend.known ≡ None) (iter_state : steps_with_iter_state (backtrack_matches s) ≡ fresh x)
     (going : s.steps.done ≡ false) where
   step-is : (p : TryFindMatches) (r : Option (Result Match SearchError)) (q : TryFindMatches)
       → backtrack_matches_next p r q
@@ -172,15 +172,15 @@ module _ (e : Backtracker) (x : Search) (s : TryFindMatches) (engine : s.steps.b
           (λ p i q h. h.takes) s xs t r u ran st).cache;
     };
     on = λ xs t r u ran st. finds-leave IsSureAt backtracker_knowing IsTryFindAnswer (λ b y a. SearchesOnce b y a)
-        backtracker_scans e backtrack_matches_next backtrack_matches (λ i. i) step-is x s engine known walk going
+        backtracker_scans e backtrack_matches_next backtrack_matches (λ i. i) step-is x s engine known iter_state going
         xs t r u ran st;
     early = λ xs t r u ran st long.
         let first = first-leaves IsSureAt backtracker_knowing IsTryFindAnswer (λ b y a. SearchesOnce b y a)
-        backtracker_scans e backtrack_matches_next backtrack_matches (λ i. i) step-is x s engine known walk going
+        backtracker_scans e backtrack_matches_next backtrack_matches (λ i. i) step-is x s engine known iter_state going
         xs t r u ran st in
         steps-early e x long s.cache.now first.0 first.1 _ first.2;
     to_end = λ xs t u ms ran st is. finds-to_end IsSureAt backtracker_knowing IsTryFindAnswer
         (λ b y a. SearchesOnce b y a) backtracker_scans e
-        backtrack_matches_next backtrack_matches (λ i. i) step-is x s engine known walk going xs ms t u
+        backtrack_matches_next backtrack_matches (λ i. i) step-is x s engine known iter_state going xs ms t u
         (same-items xs ∙ is) ran st;
   }

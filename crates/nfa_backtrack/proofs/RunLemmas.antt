@@ -19,7 +19,7 @@ use Rattle.nfa_search_base.specs.IterStates.{IterState, Answer, fresh, after, re
 use Rattle.nfa_search_base.specs.declared.error.SearchError.{SearchError}
 use Rattle.nfa_search_base.specs.declared.error.SearchError.TheVariants.{HaystackTooLong, Memory}
 use Rattle.nfa_search_base.specs.declared.iter.steps.Steps.{Steps}
-use Rattle.nfa_search_base.proofs.ListLemmas.{match-lies, matches-apart, step-lies}
+use Rattle.nfa_search_base.proofs.ListLemmas.{match-lies, matches-disjoint, step-lies}
 use Rattle.nfa_search_base.proofs.MatchRunLemmas.{yields-inner}
 use Rattle.nfa_search_base.proofs.OkItemLemmas.{oked, no-items, next-clean, last-clean, only-step, only-item, items-hold, error-memory, items-memory}
 use Rattle.nfa_search_base.proofs.OkItemLemmas.{oked-run, oked-first, oked-all, oked-next}
@@ -145,7 +145,7 @@ module _ (e : Backtracker) where
   oks-fit x (m ∷ ms) h = λ long. let k = long-items x (oked (m ∷ ms)) long h in cc
 
   module _ (x : Search) (s : TryFindMatches) (engine : (backtrack_matches s).steps.backend.engine.now ≡ e)
-      (walk : steps_with_iter_state (backtrack_matches s) ≡ fresh x)
+      (iter_state : steps_with_iter_state (backtrack_matches s) ≡ fresh x)
       (going : (backtrack_matches s).steps.done ≡ false) where
     abbrev core : Steps (WithCache Finder BacktrackCache) → Option (Result Match SearchError)
         → Steps (WithCache Finder BacktrackCache) → Type 0
@@ -168,12 +168,14 @@ module _ (e : Backtracker) where
     finds-given = given backtrack_matches_next First Whole s
         (λ xs t ran. record {
           come = gives-first span_of AsksBacktracker (λ q. GivesItem found_of) found_of tells (Fails span_of tells) x
-              (λ q. q.backend.engine.now ≡ e) (back-acts e x) says (steps_with_state (backtrack_matches s)) walk going
+              (λ q. q.backend.engine.now ≡ e) (back-acts e x) says (steps_with_state (backtrack_matches s)) iter_state
+              going
               engine xs (steps_with_state (backtrack_matches t)) (inner xs t ran);
         })
         (λ xs t u ran st. record {
           come = gives-all span_of AsksBacktracker (λ q. GivesItem found_of) found_of tells (Fails span_of tells) x
-              (λ q. q.backend.engine.now ≡ e) (back-acts e x) says (steps_with_state (backtrack_matches s)) walk going
+              (λ q. q.backend.engine.now ≡ e) (back-acts e x) says (steps_with_state (backtrack_matches s)) iter_state
+              going
               engine xs (steps_with_state (backtrack_matches t)) (steps_with_state (backtrack_matches u))
               (inner xs t ran) st.takes.step;
         })
@@ -207,8 +209,8 @@ module _ (e : Backtracker) where
         (match-lies e.nfa LeftmostFirst false) x (λ m. IsInside x (found_of m)) (step-inside x) p.items (fresh x)
         (omega arith) refl (finds-given.run p seen from).0.come
 
-    pub runs-apart : RunsDisjoint x s
-    runs-apart = λ p seen from ms is. matches-apart e.nfa LeftmostFirst false x (map found_of ms)
+    pub runs-disjoint : RunsDisjoint x s
+    runs-disjoint = λ p seen from ms is. matches-disjoint e.nfa LeftmostFirst false x (map found_of ms)
         (runs-match p seen from ms is).0
 
     pub runs-refused : RunsRefused e x s

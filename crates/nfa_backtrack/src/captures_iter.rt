@@ -88,7 +88,7 @@ impl BoundedBacktracker {
             (backtrack_captures_cache made).ghost_name ≡ cache.entry.ghost_name) }
         ensures same_cache { IfOk result (λ made. (backtrack_captures_cache made).now ≡ cache.entry.now) }
         ensures engine { IfOk result (λ made. backtrack_captures_engine made ≡ self.now) }
-        ensures walk { IfOk result (λ made. backtrack_captures_iter_state made ≡ fresh (search_of input.entry)) }
+        ensures iter_state { IfOk result (λ made. backtrack_captures_iter_state made ≡ fresh (search_of input.entry)) }
         ensures going { IfOk result (λ made. backtrack_captures_done made ≡ false) }
         // Each run of calls gives the first captures of the input, and all of them if it goes on to `None`.
         ensures runs { IfOk result (CapturesRun backtrack_captures_next (IsTryCapturesAnswer self.now)
@@ -117,7 +117,7 @@ impl BoundedBacktracker {
             (search_of input.entry)) }
         ensures groups { IfOk result (CapturesGroups backtrack_captures_next self.now.nfa) }
         ensures inside { IfOk result (CapturesWithin backtrack_captures_next (search_of input.entry)) }
-        ensures apart { IfOk result (CapturesDisjoint backtrack_captures_next (search_of input.entry)) }
+        ensures disjoint { IfOk result (CapturesDisjoint backtrack_captures_next (search_of input.entry)) }
         // The cache changes only by the searches of the steps.
         ensures searches { IfOk result (CatchesBySearches self.now (search_of input.entry)) }
     {
@@ -149,7 +149,7 @@ impl BoundedBacktracker {
         ensures same_reference { (backtrack_captures_cache result).ghost_name ≡ cache.entry.ghost_name }
         ensures same_cache { (backtrack_captures_cache result).now ≡ cache.entry.now }
         ensures engine { backtrack_captures_engine result ≡ self.now }
-        ensures walk { backtrack_captures_iter_state result ≡ fresh (search_of input.entry) }
+        ensures iter_state { backtrack_captures_iter_state result ≡ fresh (search_of input.entry) }
         ensures going { backtrack_captures_done result ≡ false }
         // Each run of calls gives the first captures of the input, and all of them if it goes on to `None`.
         ensures runs { CapturesRun backtrack_captures_next (IsTryCapturesAnswer self.now)
@@ -178,7 +178,7 @@ impl BoundedBacktracker {
             (search_of input.entry) result }
         ensures groups { CapturesGroups backtrack_captures_next self.now.nfa result }
         ensures inside { CapturesWithin backtrack_captures_next (search_of input.entry) result }
-        ensures apart { CapturesDisjoint backtrack_captures_next (search_of input.entry) result }
+        ensures disjoint { CapturesDisjoint backtrack_captures_next (search_of input.entry) result }
         // The cache changes only by the searches of the steps.
         ensures searches { CatchesBySearches self.now (search_of input.entry) result }
     {
@@ -221,7 +221,7 @@ impl BoundedBacktracker {
             (map match_in all.items)) }
         ensures groups { IfOk result (λ all. All (HasGroups self.now.nfa) all.items) }
         ensures inside { IfOk result (λ all. All (CapturesInside (search_of input.entry)) all.items) }
-        ensures apart { IfOk result (λ all. AreDisjoint (search_of input.entry) None (map match_in all.items)) }
+        ensures disjoint { IfOk result (λ all. AreDisjoint (search_of input.entry) None (map match_in all.items)) }
         ensures by_length { AnswersByLength self.now (search_of input.entry) result }
         // The cache changes only by the searches of an iteration. If all captures are returned, these searches go to
         // its end.
@@ -289,7 +289,7 @@ impl<'r> FindWith for CapturesFinder<'r> {
     }
 
     #[inline]
-    fn place(&self, reply: Result<(), SearchError>) -> Option<Span> {
+    fn reply_span(&self, reply: Result<(), SearchError>) -> Option<Span> {
         captures_span(&self.captures, reply)
     }
 

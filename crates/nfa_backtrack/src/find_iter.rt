@@ -81,7 +81,7 @@ impl BoundedBacktracker {
         ensures same_reference { (backtrack_matches_cache result).ghost_name ≡ cache.entry.ghost_name }
         ensures same_cache { (backtrack_matches_cache result).now ≡ cache.entry.now }
         ensures engine { backtrack_matches_engine result ≡ self.now }
-        ensures walk { backtrack_matches_iter_state result ≡ fresh (search_of input.entry) }
+        ensures iter_state { backtrack_matches_iter_state result ≡ fresh (search_of input.entry) }
         ensures going { backtrack_matches_done result ≡ false }
         ensures known { backtracker_finds_known result ≡ None }
         // Each run of calls gives the first items, and all of them if it goes on to `None`.
@@ -89,7 +89,7 @@ impl BoundedBacktracker {
             (AreAllItems self.now (search_of input.entry)) result }
         ensures matches { RunsMatch self.now (search_of input.entry) result }
         ensures inside { RunsInside (search_of input.entry) result }
-        ensures apart { RunsDisjoint (search_of input.entry) result }
+        ensures disjoint { RunsDisjoint (search_of input.entry) result }
         ensures refused { RunsRefused self.now (search_of input.entry) result }
         ensures first { GivesFirst backtrack_matches_next (AreFirstItems self.now (search_of input.entry)) result }
         ensures first_matches { GivesFirstMatches self.now (search_of input.entry) result }
@@ -136,7 +136,7 @@ impl BoundedBacktracker {
     ) -> Result<Vec<Match>, SearchError>
         ensures all { IfOk result (λ found.
             AreMatches self.now.nfa LeftmostFirst false (search_of input.entry) (map found_of found.items)) }
-        ensures apart { IfOk result (λ found. AreDisjoint (search_of input.entry) None (map found_of found.items)) }
+        ensures disjoint { IfOk result (λ found. AreDisjoint (search_of input.entry) None (map found_of found.items)) }
         ensures inside { IfOk result (λ found. All (λ m. IsInside (search_of input.entry) (found_of m)) found.items) }
         ensures by_length { AnswersByLength self.now (search_of input.entry) result }
         // The cache changes only by the searches of an iteration. If all matches are returned, these searches go to its
@@ -214,7 +214,7 @@ impl<'r> FindWith for Finder<'r> {
     }
 
     #[inline]
-    fn place(&self, reply: Result<Option<Match>, SearchError>) -> Option<Span> {
+    fn reply_span(&self, reply: Result<Option<Match>, SearchError>) -> Option<Span> {
         match reply {
             Ok(Some(found)) => Some(found.span()),
             Ok(None) => None,

@@ -35,8 +35,7 @@ module _ (nfa : Automaton) (x : Search) where
   pub IsDeadEnd-capture : (s at next slot : ℕ) → slice_get nfa.states s ≡ Some (Capture next slot)
       → IsDeadEnd nfa x (next, at) → IsDeadEnd nfa x (s, at)
   unfolding edges_of
-  IsDeadEnd-capture s at next slot is dead p =
-      grind (arith, node_at-get)
+  IsDeadEnd-capture s at next slot is dead p = grind (arith, node_at-get)
 
   -- work with the same first pair
   HasAnswersOf-after : (v : Pair) (work shorter : List Task) → HasAnswersOf nfa x work shorter

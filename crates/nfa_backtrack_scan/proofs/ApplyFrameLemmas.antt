@@ -55,8 +55,7 @@ pub tries-unwound : (stack popped : List Frame) (frame : Frame) (slots : Slots) 
     (after : Slots)
     → stack ≡ popped ++ frame ∷ [] → AppliesFrame frame slots place after
     → sum_by frame_tries popped + tries_of_state_pos place ≡ sum_by frame_tries stack
-tries-unwound stack popped frame slots place after pop u =
-    grind (arith, sum_by_push)
+tries-unwound stack popped frame slots place after pop u = grind (arith, sum_by_push)
 
 pub slots-unwound : (stack popped : List Frame) (frame : Frame) (slots : Slots) (place : Option StatePos)
     (after : Slots)

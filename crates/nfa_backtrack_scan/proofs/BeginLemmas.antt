@@ -61,8 +61,7 @@ module _ (nfa : Automaton) (x : Search) where
       (next slot : ℕ) (is : slice_get nfa.states place.sid ≡ Some (Capture next slot))
       (below : next < length nfa.states) (slots : Slots) where
     spent : n.turns + marked_sum (weights nfa x) m.bits ≤ m.turns + marked_sum (weights nfa x) n.bits
-    spent =
-        grind (arith, marked_sum-weights)
+    spent = grind (arith, marked_sum-weights)
 
     -- a Capture writes its slot
     pub BeginsAt-write : BeginsAt nfa x (pair_of place) (record place { sid = next }) m slots n

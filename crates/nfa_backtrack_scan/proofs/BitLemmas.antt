@@ -105,8 +105,7 @@ bits_of-nil = refl
 pub bits_of-zeroed : (used : ℕ) (old new : List ℕ) → length new ≡ length old → IsClearFrom used old
     → ((i : ℕ) → i < used → get_or new i 0 ≡ 0) → ((i : ℕ) → used ≤ i → get_or new i 0 ≡ get_or old i 0)
     → bits_of new ≡ replicate (length (bits_of old)) false
-bits_of-zeroed used old new same clear below others =
-    grind (arith, bits_of-clear, length-bits_of)
+bits_of-zeroed used old new same clear below others = grind (arith, bits_of-clear, length-bits_of)
 
 -- a position of the table, in a block and a place
 module _ (blocks : List ℕ) (bit : ℕ) (inside : bit < length (bits_of blocks)) where
@@ -129,8 +128,7 @@ module _ (blocks : List ℕ) (bit : ℕ) (inside : bit < length (bits_of blocks)
     -- a bit that changes the block was clear, and one that does not was set
     pub bit-clear : (bit_or block (1 * 2 ^ (bit % 64) % 2 ^ 64) ≡ block → ⊥) → (d : Bool)
         → get_or (bits_of blocks) bit d ≡ false
-    bit-clear changes d =
-        grind (arith, bit_at-lt, bit_or-set, get_or-bit)
+    bit-clear changes d = grind (arith, bit_at-lt, bit_or-set, get_or-bit)
 
     pub bit-set : bit_or block (1 * 2 ^ (bit % 64) % 2 ^ 64) ≡ block → (d : Bool) → get_or (bits_of blocks) bit d ≡ true
     bit-set stays d =

@@ -75,8 +75,7 @@ module _ {nfa : Automaton} {x : Search} {s at : ℕ} {m n : Marks} (t : Taken nf
   TurnsLead-stop b stack = record {
     goes = tt;
     within = λ count fits. fits;
-    tried =
-        grind (arith, marked_sum-weights);
+    tried = grind (arith, marked_sum-weights);
     follows = λ work slots. Goes-stuck t b (stacked stack work) slots;
   }
 
@@ -88,8 +87,7 @@ module _ {nfa : Automaton} {x : Search} {s at : ℕ} {m n : Marks} (t : Taken nf
       record {
         goes = IsStatePos-byte t next b row placed states wide;
         within = λ count fits. fits;
-        tried =
-            grind (arith, marked_sum-weights, target-degree);
+        tried = grind (arith, marked_sum-weights, target-degree);
         follows = λ work slots. Goes-byte t next b (stacked stack work) slots;
       }
 
@@ -101,7 +99,6 @@ module _ {nfa : Automaton} {x : Search} {s at : ℕ} {m n : Marks} (t : Taken nf
   TurnsLead-union body exit is into out stack = record {
     goes = record { state = into; from = t.from; to = t.to; row = placed };
     within = search (rules, All-push);
-    tried =
-        grind (arith, marked_sum-weights, sum_by_push);
+    tried = grind (arith, marked_sum-weights, sum_by_push);
     follows = λ work slots. Goes-both t body exit is slots stack work row;
   }

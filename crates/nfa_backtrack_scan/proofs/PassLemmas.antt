@@ -37,8 +37,7 @@ module _ (nfa : Automaton) (x : Search) where
       → ((k : ℕ) → at ≤ k → k < to → IsRefused table x k)
       → Carries nfa x m (map Explore (pairs_from nfa.anchored at (limit - at))) s m
       (map Explore (pairs_from nfa.anchored to (limit - to))) s
-  Carries-skip table first m s zero at to limit is refused =
-      grind arith
+  Carries-skip table first m s zero at to limit is refused = grind arith
   Carries-skip table first m s (suc count) at to limit is refused =
       let next : to ≡ at + 1 + count = omega arith in
       let more = Carries-skip table first m s count (at + 1) to limit next (λ k h l. refused k (omega arith) l) in
@@ -48,8 +47,7 @@ module _ (nfa : Automaton) (x : Search) where
             rw (pairs_from-step nfa.anchored less)
             (Carries-then nfa x (Carries-dead m (nfa.anchored, at)
             (map Explore (pairs_from nfa.anchored (at + 1) (limit - (at + 1)))) s (first.none x at here)) more)
-        | inr past ↦
-            grind arith
+        | inr past ↦ grind arith
       ]
 
   -- the starts that were skipped, or none if they may not be skipped

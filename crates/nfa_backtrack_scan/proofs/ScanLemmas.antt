@@ -59,12 +59,10 @@ module _ (nfa : Automaton) (x : Search) where
 
   -- a scan from further on has room too
   HasBits-raised : (bits : List Bool) (i : ℕ) → HasBits nfa x bits → HasBits nfa (raised x i) bits
-  HasBits-raised bits i room =
-      grind arith
+  HasBits-raised bits i room = grind arith
 
 -- the same after some restarts, if there are as many marks as before
 pub room-after : (nfa : Automaton) (x y : Search) (i : ℕ) (bits after : List Bool) → length after ≡ length bits → y
     ≡ raised x i
     → HasBits nfa x bits → HasBits nfa y after
-room-after nfa x y i bits after same is room =
-    grind arith
+room-after nfa x y i bits after same is room = grind arith

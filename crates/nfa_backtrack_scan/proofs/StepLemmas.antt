@@ -41,8 +41,7 @@ module _ (nfa : Automaton) (x : Search) (place : StatePos) (is_place : IsStatePo
 
   module _ (bits : List Bool) (room : HasBits nfa x bits) where
     lies : (place.at - x.start) * length nfa.states + place.sid < length nfa.states * (span_len x + 1)
-    lies =
-        grind arith
+    lies = grind arith
 
 -- the turn at a place marked it
 pub Taken-place : (nfa : Automaton) (x : Search) (place : StatePos) (marks marked : Marks) (bit : ℕ) → bit
@@ -151,8 +150,7 @@ module _ {nfa : Automaton} {x : Search} {s at : ℕ} {m n : Marks} (t : Taken nf
   pub Goes-edges : (node : Node) → slice_get nfa.states s ≡ Some node → pattern_of node ≡ None → slot_of node ≡ None
       → (es : List Pair) → edges_of x node at ≡ es → (rest : List Task) (slots : Slots)
       → Carries nfa x m (Explore (s, at) ∷ rest) slots n (map Explore es ++ rest) slots
-  Goes-edges node is plain writes es leads rest slots =
-      search (rules, Carries-plain)
+  Goes-edges node is plain writes es leads rest slots = search (rules, Carries-plain)
 
   -- a state that reads a byte
   pub Goes-stuck : IsByteStep nfa x (s, at) None → (rest : List Task) (slots : Slots)
@@ -168,8 +166,7 @@ module _ {nfa : Automaton} {x : Search} {s at : ℕ} {m n : Marks} (t : Taken nf
   pub IsStatePos-byte : (q : ℕ) → IsByteStep nfa x (s, at) (Some q) → (row : ℕ)
       → row ≡ (at - x.start) * length nfa.states → (states : ℕ) → states ≡ length nfa.states
       → IsStatePos nfa x (record { sid = q; at = at + 1; row = row + states })
-  IsStatePos-byte q b row placed states wide =
-      search (rules, target-below)
+  IsStatePos-byte q b row placed states wide = search (rules, target-below)
 
   -- an assertion
   module _ (look : looks.Look) (next : ℕ) (is : slice_get nfa.states s ≡ Some (Look look next)) (rest : List Task)
@@ -207,8 +204,7 @@ module _ {nfa : Automaton} {x : Search} {s at : ℕ} {m n : Marks} (t : Taken nf
     pub Goes-write : Carries nfa x m (Explore (s, at) ∷ stacked stack work) slots n
         (Explore (next, at) ∷ stacked (stack ++ restoring slot (get_or slots slot None) ∷ []) work)
         (set slots slot (Some at))
-    Goes-write =
-        search (rules, Carries-write, stacked-push, work_item-restoring)
+    Goes-write = search (rules, Carries-write, stacked-push, work_item-restoring)
 
     pub Goes-unkept : length slots ≤ slot
         → Carries nfa x m (Explore (s, at) ∷ stacked stack work) slots n (Explore (next, at) ∷ stacked stack work)

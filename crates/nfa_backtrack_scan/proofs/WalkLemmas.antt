@@ -47,8 +47,7 @@ module _ (nfa : Automaton) (x : Search) where
   pub bit_of-within : (bits : List Bool) (s at : ℕ) → HasBits nfa x bits → s < length nfa.states → x.start
       ≤ at → at ≤ x.end
       → bit_of nfa x (s, at) < length bits
-  bit_of-within bits s at room state from to =
-      grind arith
+  bit_of-within bits s at room state from to = grind arith
 
   -- marking a pair adds its state's degree
   pub marked_sum-weights : (bits : List Bool) (s at : ℕ) (node : Node) → s < length nfa.states → x.start
@@ -126,12 +125,10 @@ module _ (nfa : Automaton) (x : Search) where
         (clear : get_or marks.bits (bit_of nfa x (s, at)) true ≡ false)
         (marked : after.bits ≡ set marks.bits (bit_of nfa x (s, at)) true) where
       free : (pairs : List Pair) → Agrees nfa x marks.bits pairs → ¬ (In (s, at) pairs)
-      free pairs agrees i =
-          search rules
+      free pairs agrees i = search rules
 
       grown : (pairs : List Pair) → Agrees nfa x marks.bits pairs → Agrees nfa x after.bits ((s, at) ∷ pairs)
-      grown pairs agrees v =
-          grind (arith, IsMarked-set)
+      grown pairs agrees v = grind (arith, IsMarked-set)
 
       -- a turn that marks the pair
       Carries-taken : (work : List Task) (written : Slots)

@@ -117,7 +117,7 @@ module _ {T : Type 0} (calls : T → Option (Result Captured SearchError) → T 
     (steps : (s : T) (r : Option (Result Captured SearchError)) (t : T) → calls s r t
     → RuleSteps (inner s) r (inner t))
     (c : ChoiceState) (x : Search) (s : T) (holds : Holds c (inner s).backend)
-    (walk : steps_iter_state (inner s) ≡ fresh x)
+    (iter_state : steps_iter_state (inner s) ≡ fresh x)
     (going : (inner s).done ≡ false) where
   abbrev Rows : Search → Answer Row → Type 0
   Rows = AnswersRow c.nfa (kind_in c) x.earliest
@@ -129,14 +129,14 @@ module _ {T : Type 0} (calls : T → Option (Result Captured SearchError) → T 
   stored_captures-given : CapturesGiven calls c.nfa (kind_in c) x.earliest Rows x s
   stored_captures-given =
       captures-given c.nfa (kind_in c) x.earliest Rows (λ t o h. h) x AsksRowByRule Good (row-told c x) calls inner
-      steps s walk going holds.is
+      steps s iter_state going holds.is
       (groups-hold c.nfa AsksRowByRule (Holds c) (holds-after c) (holds-groups c) calls inner steps s holds)
 
   -- and no error but `Memory`
   stored_captures-memory : CapturesMemory calls s
   stored_captures-memory =
       captures-memory c.nfa (kind_in c) x.earliest Rows (λ t o h. h) x AsksRowByRule Good (row-told c x) calls inner
-      steps s walk going holds.is (λ t e from to never. absurd never)
+      steps s iter_state going holds.is (λ t e from to never. absurd never)
 
 -- ---- what the searches change
 
@@ -162,7 +162,7 @@ says s a r gives = said r (copy-says (λ b. Unit {0}) s.backend a r gives tt)
 itself : (c : ChoiceState) → IsOf c c
 itself c = record { nfa = refl; kind = refl }
 
-module _ (x : Search) (s : Steps State) (walk : steps_iter_state s ≡ fresh x) (going : s.done ≡ false) where
+module _ (x : Search) (s : Steps State) (iter_state : steps_iter_state s ≡ fresh x) (going : s.done ≡ false) where
   -- the choice changes only by the searches of the steps
   pub stored_captures-on : (t : Steps State) → CallsLead RuleSteps s t
       → ChoiceCatchesOn x s.backend.cache t.backend.cache
@@ -171,7 +171,7 @@ module _ (x : Search) (s : Steps State) (walk : steps_iter_state s ≡ fresh x) 
       (Looks s.backend.cache) (λ q. IsOf s.backend.cache q.cache) (looks s.backend.cache) lead.items s lead.last
       t lead.item
       going (itself s.backend.cache) lead.ran lead.over in
-      record { answers = k.0 ∷ k.1; steps = rw walk at k.2 }
+      record { answers = k.0 ∷ k.1; steps = rw iter_state at k.2 }
 
   -- to their end, if all captures are returned
   drained-to_end : (cs : List Captured) (t : Steps State) → DrainsAll RuleSteps s cs t
@@ -180,7 +180,7 @@ module _ (x : Search) (s : Steps State) (walk : steps_iter_state s ≡ fresh x) 
       let k = all-leave row_span AsksRowByRule (λ q. GivesCaptures q.backend) row_of says (λ q. q.cache)
       (Looks s.backend.cache) (λ q. IsOf s.backend.cache q.cache) (looks s.backend.cache) cs s all.last t going
       (itself s.backend.cache) all.ran all.over in
-      record { steps = rw walk at k }
+      record { steps = rw iter_state at k }
 
 -- and keeps the engines
 pub stored_captures-engines : (s t : Steps State) → CallsLead RuleSteps s t
@@ -196,7 +196,7 @@ pub catch-serves : (s : ChoiceCaptures)
     → can_step (λ q x. MayCatchByRule q) AsksRowByRule row_span (steps_with_state (choice_catches s))
 catch-serves s = steps-serve (steps_with_state (choice_catches s)) s.holds
 
-module _ (x : Search) (s : ChoiceCaptures) (walk : steps_with_iter_state (choice_catches s) ≡ fresh x)
+module _ (x : Search) (s : ChoiceCaptures) (iter_state : steps_with_iter_state (choice_catches s) ≡ fresh x)
     (going : (choice_catches s).steps.done ≡ false) where
   begins : Holds s.choice.now (steps_with_state (choice_catches s)).backend
   begins = record { may = s.holds; is = itself s.choice.now }
@@ -205,16 +205,16 @@ module _ (x : Search) (s : ChoiceCaptures) (walk : steps_with_iter_state (choice
       (AnswersRow s.choice.now.nfa (kind_in s.choice.now) x.earliest) x s
   catches-given = stored_captures-given choice_catches_next (λ q. steps_with_state (choice_catches q))
       (λ p r q st. st.takes.step)
-      s.choice.now x s begins walk going
+      s.choice.now x s begins iter_state going
 
   pub catches-memory : CapturesMemory choice_catches_next s
   catches-memory = stored_captures-memory choice_catches_next (λ q. steps_with_state (choice_catches q))
       (λ p r q st. st.takes.step)
-      s.choice.now x s begins walk going
+      s.choice.now x s begins iter_state going
 
   pub catches-searches : ChoiceCatchesBySearches x s
   catches-searches = record {
-    on = λ xs t r u ran st. stored_captures-on x (steps_with_state (choice_catches s)) walk going
+    on = λ xs t r u ran st. stored_captures-on x (steps_with_state (choice_catches s)) iter_state going
         (steps_with_state (choice_catches u))
         (calls-lead choice_catches_next RuleSteps (λ q. steps_with_state (choice_catches q))
         (λ p r q h. h.takes.step) xs s t
@@ -237,17 +237,17 @@ pub record AreAllOf (c : ChoiceState) (x : Search) (cs : List Captured) (d : Cho
   pub matches : AreMatches c.nfa (kind_in c) x.earliest x (map match_in cs)
   pub groups : All (HasGroups c.nfa) cs
   pub inside : All (CapturesInside x) cs
-  pub apart : AreDisjoint x None (map match_in cs)
+  pub disjoint : AreDisjoint x None (map match_in cs)
   pub to_end : ChoiceCatchesToEnd x (map row_of cs) c d
 
-module _ (x : Search) (s : Steps State) (may : MayCatchByRule s.backend) (walk : steps_iter_state s ≡ fresh x)
+module _ (x : Search) (s : Steps State) (may : MayCatchByRule s.backend) (iter_state : steps_iter_state s ≡ fresh x)
     (going : s.done ≡ false) where
   begun : Holds s.backend.cache s.backend
   begun = record { may = may; is = itself s.backend.cache }
 
   all-given : CapturesGiven RuleSteps s.backend.cache.nfa (kind_in s.backend.cache) x.earliest
       (AnswersRow s.backend.cache.nfa (kind_in s.backend.cache) x.earliest) x s
-  all-given = stored_captures-given RuleSteps (λ q. q) (λ p r q st. st) s.backend.cache x s begun walk going
+  all-given = stored_captures-given RuleSteps (λ q. q) (λ p r q st. st) s.backend.cache x s begun iter_state going
 
   -- calls that go on to none give all captures
   pub drained : (cs : List Captured) (t : Steps State) → DrainsAll RuleSteps s cs t
@@ -260,12 +260,12 @@ module _ (x : Search) (s : Steps State) (may : MayCatchByRule s.backend) (walk :
         matches = k.1;
         groups = k.2;
         inside = k.3;
-        apart = k.4;
-        to_end = drained-to_end x s walk going cs t all;
+        disjoint = k.4;
+        to_end = drained-to_end x s iter_state going cs t all;
       }
 
   -- and the only error is `Memory`
   pub error-drained : (error : SearchError) (t : Steps State)
       → (error ≡ Memory) ⊎ DrainsToError RuleSteps s error t → error ≡ Memory
   error-drained = error-of RuleSteps x s
-      (stored_captures-memory RuleSteps (λ q. q) (λ p r q st. st) s.backend.cache x s begun walk going)
+      (stored_captures-memory RuleSteps (λ q. q) (λ p r q st. st) s.backend.cache x s begun iter_state going)

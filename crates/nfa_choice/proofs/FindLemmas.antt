@@ -82,7 +82,7 @@ gives-choice s = λ xs t r u ran st.
 -- ---- what changes
 
 -- An iterator that begins at x.
-module _ (x : Search) (s : ChoiceMatches) (walk : steps_with_iter_state (choice_matches s) ≡ fresh x)
+module _ (x : Search) (s : ChoiceMatches) (iter_state : steps_with_iter_state (choice_matches s) ≡ fresh x)
     (going : s.steps.done ≡ false) where
   abbrev Good : WithCache ByRule ChoiceState → Type 0
   Good q = IsOf s.choice.now q.cache
@@ -118,11 +118,11 @@ module _ (x : Search) (s : ChoiceMatches) (walk : steps_with_iter_state (choice_
         (map (λ m. Ok m) xs) (steps_with_state (choice_matches s)) (steps_with_state (choice_matches t))
         (steps_with_state (choice_matches u))
         (option_map (λ m. Ok m) r) going (record { nfa = refl; kind = refl }) (in-steps xs t ran) st.takes.step in
-        record { answers = k.0 ∷ k.1; steps = rw walk at k.2 };
+        record { answers = k.0 ∷ k.1; steps = rw iter_state at k.2 };
     to_end = λ xs t u ran st.
         let k = all-leave span_of AsksByRule (λ q. GivesItem found_of) found_of says (λ q. q.cache) Looks Good looks xs
         (steps_with_state (choice_matches s)) (steps_with_state (choice_matches t))
         (steps_with_state (choice_matches u)) going
         (record { nfa = refl; kind = refl }) (in-steps xs t ran) st.takes.step in
-        record { steps = rw walk at k };
+        record { steps = rw iter_state at k };
   }

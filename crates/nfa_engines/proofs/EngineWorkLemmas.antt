@@ -44,7 +44,7 @@ module _ (nfa : Automaton) (kind : MatchKind) (earliest : Bool) where
   row-hit x (Ok None) h = tt
   row-hit x (Err e) h = tt
 
-  hit-lies : (x : Search) (place : Option Span) → Hit x place → LiesIn x place × IsOrdered place
+  hit-lies : (x : Search) (reply_span : Option Span) → Hit x reply_span → LiesIn x reply_span × IsOrdered reply_span
   hit-lies x None h = (tt, λ p is. let never : None ≡ Some p = is in cc)
   hit-lies x (Some p) h =
       let k = match-within nfa kind earliest x h.0 h.1 in
@@ -100,10 +100,10 @@ module _ (nfa : Automaton) (kind : MatchKind) (earliest : Bool) where
         bound = bound;
       }
 
-  module _ (x y : Search) (like : SameButStart x y) (from : x.start ≤ y.start) (place : Option Span)
-      (hit : Hit y place) (old new : Totals) where
+  module _ (x y : Search) (like : SameButStart x y) (from : x.start ≤ y.start) (reply_span : Option Span)
+      (hit : Hit y reply_span) (old new : Totals) where
     abbrev Cost : Type 0
-    Cost = (count : ℕ) × Costs (restarts_in nfa x) y place count × Adds (turns_in nfa x) old new count
+    Cost = (count : ℕ) × Costs (restarts_in nfa x) y reply_span count × Adds (turns_in nfa x) old new count
 
     -- what a search costs
     worked-cost : Worked y old new → Cost
@@ -112,7 +112,7 @@ module _ (nfa : Automaton) (kind : MatchKind) (earliest : Bool) where
       record {
         starts = few-scans nfa kind earliest y w.restarts w.path w.answers w.count w.few;
         once = λ never. one-scan nfa y w.count (same ∙ never) w.limit;
-        reach = reach place hit;
+        reach = reach reply_span hit;
       },
       record {
         scans = w.scans;
@@ -144,7 +144,7 @@ module _ (nfa : Automaton) (kind : MatchKind) (earliest : Bool) where
     known-cost : new ≡ old → Cost
     known-cost is = (
       0,
-      record { starts = omega arith; once = λ never. omega arith; reach = reach place hit },
+      record { starts = omega arith; once = λ never. omega arith; reach = reach reply_span hit },
       subst (λ (t : Totals). Adds (turns_in nfa x) old t 0) (sym is) (adds-none (turns_in nfa x) old),
     )
       where

@@ -23,7 +23,8 @@ use Rattle.nfa_engines.proofs.OneLemmas.{found-pattern}
 abbrev flagged : IterState → Bool → IterState
 flagged w flag = record w { at = asked w.at flag }
 
-repeats-flagged : (w : IterState) (flag : Bool) (place : Option Span) → repeats (flagged w flag) place ≡ repeats w place
+repeats-flagged : (w : IterState) (flag : Bool) (reply_span : Option Span)
+    → repeats (flagged w flag) reply_span ≡ repeats w reply_span
 repeats-flagged w flag None = refl
 repeats-flagged w flag (Some p) = refl
 

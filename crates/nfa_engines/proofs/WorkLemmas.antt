@@ -31,10 +31,10 @@ pub record Adds (weight : ℕ) (old new : Totals) (count : ℕ) : Type 0 where
 
 -- Of a search that is `free` to restart, and may be made with so many scans: they are no more than its starts, and one
 -- where it is not free; its match ends behind the starts that it passed.
-pub record Costs (free : Bool) (x : Search) (place : Option Span) (count : ℕ) : Type 0 where
+pub record Costs (free : Bool) (x : Search) (reply_span : Option Span) (count : ℕ) : Type 0 where
   pub starts : count ≤ starts_left x + 1
   pub once : free ≡ false → count ≤ 1
-  pub reach : Reaches x count place
+  pub reach : Reaches x count reply_span
 
 -- nothing is added
 pub adds-none : (weight : ℕ) (a : Totals) → Adds weight a a 0
@@ -47,9 +47,9 @@ adds-both weight a b c m n h k = record {
 }
 
 -- the match that is repeated ends where the last one did
-repeated : (at : Search) (last : Option ℕ) (place : Option Span)
-    → repeats (record { at = at; last = last }) place ≡ true
-    → (p : Span) × (place ≡ Some p) × (last ≡ Some p.end)
+repeated : (at : Search) (last : Option ℕ) (reply_span : Option Span)
+    → repeats (record { at = at; last = last }) reply_span ≡ true
+    → (p : Span) × (reply_span ≡ Some p) × (last ≡ Some p.end)
 repeated at last None again = cc
 repeated at None (Some p) again = let never : false ≡ true = (and_parts (p.start == p.end) false again).1 in cc
 repeated at (Some e) (Some p) again =
@@ -100,8 +100,8 @@ module _ (x : Search) where
   Onward w v (Some p) count =
       IsOf v × (v.last ≡ Some p.end) × (count + starts_left v.at ≤ starts_left w.at + 1)
 
-  onward-once : (free : Bool) (w v : IterState) (place : Option Span) (count : ℕ) → IsOf w → v ≡ after w place
-      → Costs free w.at place count → Onward w v place count
+  onward-once : (free : Bool) (w v : IterState) (reply_span : Option Span) (count : ℕ) → IsOf w → v ≡ after w reply_span
+      → Costs free w.at reply_span count → Onward w v reply_span count
   onward-once free w v None count h is cost = cost.starts
   onward-once free w v (Some p) count h is cost =
       let reach = cost.reach in
@@ -113,10 +113,10 @@ module _ (x : Search) where
         subst (λ (u : IterState). count + starts_left u.at ≤ starts_left w.at + 1) (sym is) fewer,
       )
 
-  onward-twice : (free : Bool) (w v : IterState) (p : Span) (place : Option Span) (first second : ℕ) → IsOf w
-      → p.end ≤ w.at.start → v ≡ after (shifted w) place → Reaches w.at first (Some p)
-      → Costs free (shifted w).at place second
-      → Onward w v place (first + second)
+  onward-twice : (free : Bool) (w v : IterState) (p : Span) (reply_span : Option Span) (first second : ℕ) → IsOf w
+      → p.end ≤ w.at.start → v ≡ after (shifted w) reply_span → Reaches w.at first (Some p)
+      → Costs free (shifted w).at reply_span second
+      → Onward w v reply_span (first + second)
   onward-twice free w v p None first second h at is reach cost =
       let more = cost.starts in omega (arith, at, more, reach.0, reach.1, reach.2)
   onward-twice free w v p (Some q) first second h at is reach cost =

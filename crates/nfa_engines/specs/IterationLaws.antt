@@ -8,10 +8,10 @@ use Rattle.nfa_search_base.specs.IterStates.{IterState, fresh, after, shifted, C
 
 -- What each call that gets the next match from a `Searcher` ensures of the walk before it, of the place of its match
 -- (`None` if there is no match), and of the walk after it.
-pub record IsCall (w : IterState) (place : Option Span) (w' : IterState) : Type 0 where
-  pub rises : ComesAfter w place
-  pub fewer : LeavesFewer w place w'
-  pub moves : (w' ≡ after w place) ⊎ (w' ≡ after (shifted w) place)
+pub record IsCall (w : IterState) (reply_span : Option Span) (w' : IterState) : Type 0 where
+  pub rises : ComesAfter w reply_span
+  pub fewer : LeavesFewer w reply_span w'
+  pub moves : (w' ≡ after w reply_span) ⊎ (w' ≡ after (shifted w) reply_span)
 
 -- These calls were made from w on, one after the other: for each, the place of its match, and the walk after it.
 abbrev pub AreCalls : IterState → List (Option Span × IterState) → Type 0

@@ -182,7 +182,7 @@ pub fn one_list_of_matches()
 /// The first matches of a search, all or some, are inside its span and in order: each starts at or after the end of the
 /// one before, and ends after that end. There are at most n + 1 for a span of n bytes.
 pub fn matches_are_disjoint()
-    ensures apart { MatchesAreDisjoint }
+    ensures disjoint { MatchesAreDisjoint }
     ensures count { AtMostInList 1 }
 {}
 

@@ -20,8 +20,7 @@ use Rattle.nfa_paths.proofs.MemberLemmas.{In-map}
 
 first-in : (ts : List Transition) (b t : ℕ) → first_target ts b ≡ Some t → In t (map (λ u. u.next) ts)
 first-in [] b t e = cc
-first-in (u ∷ ts) b t e =
-    grind (arith, first-in ts b t)
+first-in (u ∷ ts) b t e = grind (arith, first-in ts b t)
 
 present-in : (places : List (Option ℕ)) (b t : ℕ) → option_and_then (λ target. target) (slice_get places b) ≡ Some t
     → In t (filter_map (λ target. target) places)
@@ -32,8 +31,7 @@ present-in (None ∷ places) (suc b) t e = present-in places b t e
 present-in (Some s ∷ places) (suc b) t e = inr (present-in places b t e)
 
 range-in : (u : Transition) (b t : ℕ) → (if holds_byte u b then Some u.next else None) ≡ Some t → In t (u.next ∷ [])
-range-in u b t e =
-    grind arith
+range-in u b t e = grind arith
 
 -- an edge over a byte leads to a target, one position on
 byte-edge : (x : Search) (node : Node) (ts : List ℕ) (p : ℕ) (w : Pair)

@@ -111,8 +111,7 @@ module _ (nfa : Automaton) (kind : MatchKind) (earliest : Bool) (x : Search) whe
         of None None one = refl
         of None (Some m) one = absurd one
         of (Some p) None one = absurd one
-        of (Some p) (Some m) one =
-            grind (arith, EndsWith-last)
+        of (Some p) (Some m) one = grind (arith, EndsWith-last)
 
     module _ (bound : is_anchored x.anchored ≡ true) where
       -- an anchored search has one scan

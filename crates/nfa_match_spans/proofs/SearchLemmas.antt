@@ -123,8 +123,7 @@ pub patterns-same : (nfa : Automaton) (places : List PathState) (index : ℕ) (f
     → (index ≤ 2147483646 → found ≡ slice_get nfa.patterns index) → found ≡ None
     → (k : ℕ) → k < index + 1 → (s : ℕ) → k ≤ 2147483646 → slice_get nfa.patterns k ≡ Some s
     → In (fresh_path_state s) places
-patterns-same nfa places index found before here none =
-    grind arith
+patterns-same nfa places index found before here none = grind arith
 
 module _ (nfa : Automaton) (pattern : ℕ) where
   pub IsUnderWay-begin : (places : List PathState) → ((s : ℕ) → IsStart nfa s → In (fresh_path_state s) places)
@@ -173,8 +172,7 @@ module _ (nfa : Automaton) (pattern : ℕ) where
   -- all places are done
   pub IsUnderWay-done : (done : ℕ) (places : List PathState) → length places ≤ done → IsUnderWay nfa pattern done places
       → IsClosed nfa pattern places
-  IsUnderWay-done done places all under =
-      grind (arith, take_all)
+  IsUnderWay-done done places all under = grind (arith, take_all)
 
   -- what was not found to lack a bound does not
   pub IsFine-of : (v : PathState) (node : Node) (lacks : Bool) → node_at nfa v.state ≡ node

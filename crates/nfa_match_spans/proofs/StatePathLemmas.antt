@@ -86,13 +86,13 @@ module _ (nfa : Automaton) (pattern : ℕ) where
       let end : Pair = (v.state, led.position) in
       let p = led.before ++ end ∷ [] in
       let ends = EndsWith-append end led.before in
-      let way : IsStatePath nfa end p = (grind arith) in
+      let way : IsStatePath nfa end p = grind arith in
       let writes = all end p way matches in
       (grind (arith, EndsWith-last, both, slots))
     where
       slots : (slot : ℕ) → slot_among nfa (led.before ++ (v.state, led.position) ∷ []) slot
           ≡ slot_among nfa led.before slot
-      slots slot = (grind (arith, slot_among-append))
+      slots slot = grind (arith, slot_among-append)
 
       both : v.start_written ≡ true → v.end_written ≡ true → ⊥
       both s e = let b : v.start_written && v.end_written ≡ true = rw (s, e) refl in cc (b, lacks)
@@ -134,5 +134,4 @@ module _ (nfa : Automaton) (pattern : ℕ) where
 -- what holds of all patterns holds of all ways
 pub RecordsMatchSpans-each : (nfa : Automaton) → IsAutomaton nfa
     → ((k : ℕ) → k < length nfa.patterns → PatternRecordsMatchSpans nfa k) → RecordsMatchSpans nfa
-RecordsMatchSpans-each nfa valid each end p way matches =
-    search (rules, node-pattern)
+RecordsMatchSpans-each nfa valid each end p way matches = search (rules, node-pattern)

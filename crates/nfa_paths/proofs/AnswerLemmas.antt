@@ -129,7 +129,7 @@ ends_on_boundary x (w ∷ p) e = of w p e
   where
     of : (w : Pair) (p : List Pair) {v : Pair} → last_or (Some w) p ≡ Some v
         → EndsOnBoundary x (w ∷ p) ↔ IsBoundary x.haystack v.1
-    of w [] {v} e = (grind arith)
+    of w [] {v} e = grind arith
     of w (u ∷ p) e = of u p e
 
 module _ (nfa : Automaton) where

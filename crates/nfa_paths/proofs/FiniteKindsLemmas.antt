@@ -69,8 +69,7 @@ greatest_with tell zero = inl (λ e h. absurd (omega arith))
 greatest_with {A} {B} tell (suc k) =
     elim (tell k) [
       | inl a ↦ inr (k, a, λ d h l. absurd (omega arith))
-      | inr b ↦
-          grind (arith, greatest_with tell k)
+      | inr b ↦ grind (arith, greatest_with tell k)
     ]
 
 -- the kinds
@@ -111,8 +110,7 @@ module _ {edges : Pair → List Pair} {starts all : List Pair} {n : ℕ} (finite
   is_least : (e : ℕ) → FirstAt e → ((d : ℕ) → d < e → NoneAt d) → IsLeastEnd edges starts (Passes is_match) e
   is_least e f none = record {
     is_end = is_end e f;
-    least = λ m p w t.
-        grind arith;
+    least = λ m p w t. grind arith;
   }
 
   -- and none after e
@@ -120,8 +118,7 @@ module _ {edges : Pair → List Pair} {starts all : List Pair} {n : ℕ} (finite
       → IsGreatestEnd edges starts (Passes is_match) e
   is_greatest e f none = record {
     is_end = is_end e f;
-    greatest = λ m p w t.
-        grind (arith, ends_within);
+    greatest = λ m p w t. grind (arith, ends_within);
   }
 
   -- the last of the first paths to the match pairs at e
@@ -257,8 +254,7 @@ module _ {edges : Pair → List Pair} {starts all : List Pair} {n : ℕ} (finite
   last_at : (e : ℕ) → FirstAt e → (p : List Pair) × IsLastOfFirsts edges starts (Passes is_match) e p
   last_at e f =
       elim (sought e all) [
-        | inl none ↦
-            search (rules, reached_in)
+        | inl none ↦ search (rules, reached_in)
         | inr b ↦ (
           b.0,
           record {

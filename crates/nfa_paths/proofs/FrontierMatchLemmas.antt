@@ -78,8 +78,7 @@ module _ (is_match : Pair → Bool) where
               )
               | inr some ↦ inr (some.0, rw t some.1, later some.2)
             ]
-        | inr f ↦
-            grind (arith, later, last_match-is g front)
+        | inr f ↦ grind (arith, later, last_match-is g front)
       ]
     where
       later : {b : Pair × Slots} → LastMatch front b → LastMatch (a ∷ front) b
@@ -123,8 +122,7 @@ module _ (is_match : Pair → Bool) where
               among = inl (sym same);
               matches = rw (← same) t;
             }
-        | inr f ↦
-            grind (arith, first_match-cut front a (rw f at e))
+        | inr f ↦ grind (arith, first_match-cut front a (rw f at e))
       ]
 
   -- if there is no match pair, all items come before the first

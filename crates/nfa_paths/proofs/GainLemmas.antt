@@ -179,7 +179,7 @@ module _ (nfa : Automaton) (x : Search) (old : List Bool) (wants : Pair → Bool
               elim s [
                 | inl o ↦ (put j).1 (inl o)
                 | inr w ↦
-                    let same : w.1.0 ≡ e = (search (rules, IsLeastEnd-unique, held-least)) in
+                    let same : w.1.0 ≡ e = search (rules, IsLeastEnd-unique, held-least) in
                     (put j).1 (inr (
                       w.0,
                       (reached-here j w.0).0

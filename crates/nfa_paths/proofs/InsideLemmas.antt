@@ -59,7 +59,7 @@ module _ (nfa : Automaton) where
         → IsWithin x w.1
     path-within m [] path w i = absurd i
     path-within m (y ∷ p) path w i =
-        let start : IsWithin x path.start.1 = (search (rules, starts-from, starts-within)) in
+        let start : IsWithin x path.start.1 = search (rules, starts-from, starts-within) in
         linked-within y p path.linked (subst (λ (v : Pair). IsWithin x v.1) (sym path.head) start) w i
 
     -- and so does each slot that it writes

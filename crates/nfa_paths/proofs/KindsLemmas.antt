@@ -317,8 +317,7 @@ module _ (space : Space) (resting is_match : Pair → Bool) (slots : Slots) (tur
                   let i = (IsFrontier-pairs m h).0 (q, rw k.wanted at k.path) in
                   elim (In-append i.0 l.before (a ∷ l.after) (subst (λ x. In i.0 x) l.split i.1)) [
                     | inl j ↦ absurd (none i.0 j i.2)
-                    | inr j ↦
-                        grind arith
+                    | inr j ↦ grind arith
                   ]
             ]
       ]

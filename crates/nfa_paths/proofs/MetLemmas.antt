@@ -142,7 +142,7 @@ module _ (nfa : Automaton) (x : Search) (old : List Bool) (wants : Pair → Bool
   Best-pattern : (limit : ℕ) (a : Pair × Slots) → Best limit (Some a) → (p : List Pair) → First limit p
       → path_pattern nfa p ≡ pattern_at nfa a.0
   Best-pattern limit a best p first =
-      let same : best.0 ≡ p = (search (rules, IsFirstTo-unique)) in
+      let same : best.0 ≡ p = search (rules, IsFirstTo-unique) in
       ap (path_pattern nfa) (sym same) ∙ ends-pattern nfa best.0 a.0 best.2
 
   -- The set holds the patterns of the first paths before each limit up to e. The last of these is what was found.

@@ -103,10 +103,8 @@ module _ (edges : Pair → List Pair) (target : Pair → Bool) where
   Before-total (go t e n k) (stop u) = cc
   Before-total (go {v = v} {w = a} {p = p} t e n k) (go {w = b} {p = q} u f m l) =
       elim (same a b) [
-        | inl eq ↦
-            grind (arith, Before-total k (rw (← eq) at l))
-        | inr apart ↦
-            grind (arith, Before-cons, Earlier-total)
+        | inl eq ↦ grind (arith, Before-total k (rw (← eq) at l))
+        | inr apart ↦ grind (arith, Before-cons, Earlier-total)
       ]
 
   -- a marked pair has no path

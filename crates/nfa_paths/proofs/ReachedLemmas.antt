@@ -48,16 +48,14 @@ module _ (space : Space) (resting is_match : Pair → Bool) (slots : Slots) (sha
     ReachedBefore-step {e = e} f = (
       λ r.
           elim (cases_lt r.end.1 e) [
-            | inl less ↦
-                grind arith
+            | inl less ↦ grind arith
             | inr more ↦
                 let b : r.end.1 < e + 1 = r.wanted.before in
                 inr ((IsReached-at f).0 (grind arith))
           ],
       λ s.
           elim s [
-            | inl r ↦
-                grind arith
+            | inl r ↦ grind arith
             | inr a ↦
                 let r = (IsReached-at f).1 a in
                 grind arith

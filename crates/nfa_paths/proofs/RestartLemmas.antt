@@ -71,8 +71,7 @@ module _ (nfa : Automaton) (kind : MatchKind) (earliest : Bool) where
           of true true u a =
               (grind (arith, first))
           of true false u a = record { skipped = s.split; answers = here; whole = whole u }
-          of false a u b =
-              grind (arith, first)
+          of false a u b = grind (arith, first)
 
       -- the scan found nothing
       pub settled-none : (slots : Slots) (after last total : ℕ) → ScanGives nfa kind earliest y None slots last

@@ -81,8 +81,7 @@ module _ (nfa : Automaton) (x : Search) where
       of : x.start ≤ x.end → (o : Option ℕ) → In s
           (option_map_or (λ state. pairs_from state x.start (start_count nfa x)) o []) → s.1 ≤ x.end
       of within None i = absurd i
-      of within (Some state) i =
-          grind (arith, below)
+      of within (Some state) i = grind (arith, below)
 
   -- every path ends within the span
   pub EndsBefore-span : (wanted : Pair → Bool) → EndsBefore (space nfa x) wanted (x.end + 1)
@@ -129,8 +128,7 @@ module _ (nfa : Automaton) (x : Search) (kind : MatchKind) (earliest : Bool) whe
           → found_along (capture nfa) o (replicate count None) ≡ Some (v, row)
           → option_map_or length o 0 ≤ turns → FindsAnswer nfa x kind earliest count turns v row
       of None meant leads short = absurd (never_none (v, row) (sym leads))
-      of (Some p) meant leads short =
-          search (rules, apply-slot_row)
+      of (Some p) meant leads short = search (rules, apply-slot_row)
 
 -- each kind from what the scan knows of its positions
 

@@ -196,7 +196,7 @@ module _ (space : Space) (resting is_match : Pair → Bool) (slots : Slots) (sha
 
       greatest : (m : Pair) (p : List Pair) → PathTo space.edges space.starts m p → WantedAt (Passes is_match) e m
           → IsGreatestEnd space.edges space.starts (WantedBefore (Passes is_match) (e + 1)) e
-      greatest m p w h = (grind arith)
+      greatest m p w h = grind arith
 
       last : {p : List Pair} → IsLastOfFirsts space.edges space.starts (Passes is_match) e p
           → IsLastOfFirsts space.edges space.starts (WantedBefore (Passes is_match) (e + 1)) e p

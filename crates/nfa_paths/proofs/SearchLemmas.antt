@@ -118,8 +118,7 @@ module _ (space : Space) (target : Pair → Bool) where
             | inl k ↦
                 let some = IsFirstOfAll-from_among space.edges target (v ∷ marks) es (Some k.0) k.1 in
                 grind (arith, IsFirst-step, found-cons)
-            | inr k ↦
-                grind (arith, Answer-mark, IsFirst-step)
+            | inr k ↦ grind (arith, Answer-mark, IsFirst-step)
           ]
 
       -- a pair that writes nothing
@@ -246,6 +245,5 @@ module _ (space : Space) (target : Pair → Bool) where
           | inl k ↦
               let some = IsFirstOfAll-from_among space.edges target [] (space.edges a.0) (Some k.0) k.1 in
               grind (arith, found-cons)
-          | inr k ↦
-              grind (arith, AnswerBehind-round left front otherwise marks waiting slots old a.1 g)
+          | inr k ↦ grind (arith, AnswerBehind-round left front otherwise marks waiting slots old a.1 g)
         ]

@@ -37,7 +37,7 @@ module _ (nfa : Automaton) (x : Search) (old : List Bool) (wants : Pair → Bool
     never_held m p w h = none m p w ((tells m).1 h)
 
     pub First-none : (earliest : Bool) → size_of_set old ≡ 0 → IsOverlapResult nfa x LeftmostFirst earliest old old
-    First-none earliest empty = (grind (arith, of))
+    First-none earliest empty = grind (arith, of)
       where
         of : (b : Bool) → IsSelectedPath nfa x b (length old) None
         of false = never_held
@@ -159,7 +159,7 @@ module _ (nfa : Automaton) (x : Search) (old : List Bool) (wants : Pair → Bool
           let end = found-end (capture nfa) first.end p slots first.path.ends in
           let here : first.end ≡ a.0 = (same_parts (first.end, apply (capture nfa) p slots) a (sym end ∙ is)).0 in
           let held : IsInsertable nfa x (length old) a.0 = (tells a.0).0 u.wanted in
-          let below : u.pattern < length old = (grind arith) in
+          let below : u.pattern < length old = grind arith in
           let at : pattern_at nfa first.end ≡ Some u.pattern = rw here u.pattern_is in
           record {
             capacity = u.capacity;
@@ -170,8 +170,7 @@ module _ (nfa : Automaton) (x : Search) (old : List Bool) (wants : Pair → Bool
                 inr (
                   omega arith,
                   elim (u.others j h) [
-                    | inl same_pattern ↦
-                        grind arith
+                    | inl same_pattern ↦ grind arith
                     | inr r ↦ IsReached-along (λ v w. w.wanted) r
                   ],
                 );

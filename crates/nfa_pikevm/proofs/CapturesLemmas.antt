@@ -65,36 +65,39 @@ tells-now : (vm : Pike) (x t : Search) (a : Answer Row) → SameButStart x t →
 tells-now vm x t a same h = subst (λ (b : Bool). AnswersRow vm.nfa (kind_of vm) b t a) same.earliest h
 
 module _ (vm : Pike) (x : Search) (s : CapturesMatches) (engine : (pike_captures s).steps.backend.finder ≡ vm)
-    (walk : steps_with_iter_state (pike_captures s) ≡ fresh x) (going : (pike_captures s).steps.done ≡ false) where
-  -- the calls give the captures of the NFA
-  pub catches-given : CapturesGiven pike_captures_next vm.nfa (kind_of vm) x.earliest
-      (AnswersRow vm.nfa (kind_of vm) x.earliest) x s
-  catches-given =
-      catcher-given (λ vm. vm.nfa) fits_pike PikeAnswersRow (λ vm x a. PikeSearches vm x)
-      (λ vm x a. searched-fits vm x) pike_captures_next (λ q. steps_with_state (pike_captures q))
-      (λ a r b st. st.takes.step) vm (kind_of vm) x.earliest (AnswersRow vm.nfa (kind_of vm) x.earliest) (λ t o h. h) x
-      (tells-now vm x) s engine walk going (may-now s)
+    (iter_state : steps_with_iter_state (pike_captures s) ≡ fresh x) (going : (pike_captures s).steps.done ≡ false)
+  where
+    -- the calls give the captures of the NFA
+    pub catches-given : CapturesGiven pike_captures_next vm.nfa (kind_of vm) x.earliest
+        (AnswersRow vm.nfa (kind_of vm) x.earliest) x s
+    catches-given =
+        catcher-given (λ vm. vm.nfa) fits_pike PikeAnswersRow (λ vm x a. PikeSearches vm x)
+        (λ vm x a. searched-fits vm x) pike_captures_next (λ q. steps_with_state (pike_captures q))
+        (λ a r b st. st.takes.step) vm (kind_of vm) x.earliest (AnswersRow vm.nfa (kind_of vm) x.earliest)
+        (λ t o h. h) x
+        (tells-now vm x) s engine iter_state going (may-now s)
 
-  -- and no error but `Memory`
-  pub catches-memory : CapturesMemory pike_captures_next s
-  catches-memory =
-      catcher-memory (λ vm. vm.nfa) fits_pike PikeAnswersRow (λ vm x a. PikeSearches vm x)
-      (λ vm x a. searched-fits vm x) pike_captures_next (λ q. steps_with_state (pike_captures q))
-      (λ a r b st. st.takes.step) vm (kind_of vm) x.earliest (AnswersRow vm.nfa (kind_of vm) x.earliest) (λ t o h. h) x
-      (tells-now vm x) s engine walk going
-      (λ t e from to never. absurd never)
+    -- and no error but `Memory`
+    pub catches-memory : CapturesMemory pike_captures_next s
+    catches-memory =
+        catcher-memory (λ vm. vm.nfa) fits_pike PikeAnswersRow (λ vm x a. PikeSearches vm x)
+        (λ vm x a. searched-fits vm x) pike_captures_next (λ q. steps_with_state (pike_captures q))
+        (λ a r b st. st.takes.step) vm (kind_of vm) x.earliest (AnswersRow vm.nfa (kind_of vm) x.earliest)
+        (λ t o h. h) x
+        (tells-now vm x) s engine iter_state going
+        (λ t e from to never. absurd never)
 
-  -- they change the cache only by their searches
-  pub catches-searches : CatchesBySearches vm x s
-  catches-searches = record {
-    on = λ xs t r u ran st.
-        catches-leave (λ e. e.nfa) PikeAnswersRow (λ e y a. PikeSearches e y) vm x
-        (steps_with_state (pike_captures s)) engine
-        walk going (steps_with_state (pike_captures u))
-        (calls-lead pike_captures_next PikeSteps (λ q. steps_with_state (pike_captures q))
-        (λ p i q h. h.takes.step) xs s t r u
-        ran st);
-  }
+    -- they change the cache only by their searches
+    pub catches-searches : CatchesBySearches vm x s
+    catches-searches = record {
+      on = λ xs t r u ran st.
+          catches-leave (λ e. e.nfa) PikeAnswersRow (λ e y a. PikeSearches e y) vm x
+          (steps_with_state (pike_captures s)) engine
+          iter_state going (steps_with_state (pike_captures u))
+          (calls-lead pike_captures_next PikeSteps (λ q. steps_with_state (pike_captures q))
+          (λ p i q h. h.takes.step) xs s t r u
+          ran st);
+    }
 
 -- the calls keep the cache, and its numbers
 pub catches-cache : (s : CapturesMatches) → CatchesGiveCache s
@@ -108,17 +111,19 @@ catches-cache s = λ xs t r u ran st.
 -- ---- all captures
 
 module _ (vm : Pike) (x : Search) (s : Steps (WithCache (WithCaptures Pike) PikeCache)) (may : MayCatchByPike s.backend)
-    (engine : s.backend.backend.finder ≡ vm) (walk : steps_iter_state s ≡ fresh x) (going : s.done ≡ false) where
+    (engine : s.backend.backend.finder ≡ vm) (iter_state : steps_iter_state s ≡ fresh x) (going : s.done ≡ false) where
   -- the cache changes only by the searches of its steps
   pub stored_captures-on : (t : Steps (WithCache (WithCaptures Pike) PikeCache)) → CallsLead PikeSteps s t
       → PikeCatchesOn vm x s.backend.cache t.backend.cache
-  stored_captures-on = catches-leave (λ vm. vm.nfa) PikeAnswersRow (λ e y a. PikeSearches e y) vm x s engine walk going
+  stored_captures-on = catches-leave (λ vm. vm.nfa) PikeAnswersRow (λ e y a. PikeSearches e y) vm x s engine
+      iter_state going
 
   -- to their end, if all captures are returned
   pub stored_captures-to_end : {V : Type 0} (r : Result V SearchError) (items : V → List Captured)
       (t : Steps (WithCache (WithCaptures Pike) PikeCache)) → IfOk r (λ v. DrainsAll PikeSteps s (items v) t)
       → IfOk r (λ v. PikeCatchesToEnd vm x (map row_of (items v)) s.backend.cache t.backend.cache)
-  stored_captures-to_end = all-to_end (λ vm. vm.nfa) PikeAnswersRow (λ e y a. PikeSearches e y) vm x s engine walk going
+  stored_captures-to_end = all-to_end (λ vm. vm.nfa) PikeAnswersRow (λ e y a. PikeSearches e y) vm x s engine
+      iter_state going
 
   -- its steps give all captures of the NFA
   pub all-captures : {V : Type 0} (r : Result V SearchError) (items : V → List Captured)
@@ -132,7 +137,7 @@ module _ (vm : Pike) (x : Search) (s : Steps (WithCache (WithCaptures Pike) Pike
       (catcher-given (λ vm. vm.nfa) fits_pike PikeAnswersRow (λ vm x a. PikeSearches vm x)
       (λ vm x a. searched-fits vm x) PikeSteps (λ q. q) (λ p r q st. st)
       vm (kind_of vm) x.earliest (AnswersRow vm.nfa (kind_of vm) x.earliest) (λ t o h. h) x
-      (tells-now vm x) s engine walk going may)
+      (tells-now vm x) s engine iter_state going may)
 
   -- and the only error is `Memory`
   pub stored_captures-memory : (error : SearchError) (t : Steps (WithCache (WithCaptures Pike) PikeCache))
@@ -142,7 +147,7 @@ module _ (vm : Pike) (x : Search) (s : Steps (WithCache (WithCaptures Pike) Pike
       (catcher-memory (λ vm. vm.nfa) fits_pike PikeAnswersRow (λ vm x a. PikeSearches vm x)
       (λ vm x a. searched-fits vm x) PikeSteps (λ q. q) (λ p r q st. st)
       vm (kind_of vm) x.earliest (AnswersRow vm.nfa (kind_of vm) x.earliest) (λ t o h. h) x
-      (tells-now vm x) s engine walk going (λ t error from to never. absurd never))
+      (tells-now vm x) s engine iter_state going (λ t error from to never. absurd never))
 
 -- and keep the numbers of the cache
 pub stored_captures-capacities : (s t : Steps (WithCache (WithCaptures Pike) PikeCache)) → CallsLead PikeSteps s t

@@ -119,16 +119,16 @@ gives-cache s = λ xs t r u ran st.
 
 -- An iterator of vm that begins at x.
 module _ (vm : Pike) (x : Search) (s : FindMatches) (engine : s.steps.backend.engine.now ≡ vm)
-    (known : s.steps.backend.known ≡ None) (walk : steps_with_iter_state (pike_matches s) ≡ fresh x)
+    (known : s.steps.backend.known ≡ None) (iter_state : steps_with_iter_state (pike_matches s) ≡ fresh x)
     (going : s.steps.done ≡ false) where
   -- the calls change the cache only by their searches
   pub finds-searches : FindsBySearches vm x s
   finds-searches = record {
     on = λ xs t r u ran st. finds-leave IsSureOf pike_knowing PikeAnswersMatch (λ e y a. PikeSearches e y) pike_scans vm
         pike_matches_next
-        pike_matches (λ m. Ok m) (λ p i q h. h.takes) x s engine known walk going xs t r u ran st;
+        pike_matches (λ m. Ok m) (λ p i q h. h.takes) x s engine known iter_state going xs t r u ran st;
     to_end = λ xs t u ran st. finds-to_end IsSureOf pike_knowing PikeAnswersMatch (λ e y a. PikeSearches e y)
         pike_scans vm
-        pike_matches_next pike_matches (λ m. Ok m) (λ p i q h. h.takes) x s engine known walk going xs xs t u
+        pike_matches_next pike_matches (λ m. Ok m) (λ p i q h. h.takes) x s engine known iter_state going xs xs t u
         refl ran st;
   }

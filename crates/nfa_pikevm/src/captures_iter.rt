@@ -91,7 +91,7 @@ impl PikeVM {
         ensures same_reference { IfOk result (λ made. (pike_captures_cache made).ghost_name ≡ cache.entry.ghost_name) }
         ensures same_cache { IfOk result (λ made. (pike_captures_cache made).now ≡ cache.entry.now) }
         ensures engine { IfOk result (λ made. pike_captures_engine made ≡ self.now) }
-        ensures walk { IfOk result (λ made. pike_captures_iter_state made ≡ fresh (search_of input.entry)) }
+        ensures iter_state { IfOk result (λ made. pike_captures_iter_state made ≡ fresh (search_of input.entry)) }
         ensures going { IfOk result (λ made. pike_captures_done made ≡ false) }
         // Each run of calls gives the first captures of the input, and all of them if it goes on to `None`.
         ensures runs { IfOk result (CapturesRun pike_captures_next
@@ -120,7 +120,7 @@ impl PikeVM {
             (search_of input.entry).earliest (search_of input.entry)) }
         ensures groups { IfOk result (CapturesGroups pike_captures_next self.now.nfa) }
         ensures inside { IfOk result (CapturesWithin pike_captures_next (search_of input.entry)) }
-        ensures apart { IfOk result (CapturesDisjoint pike_captures_next (search_of input.entry)) }
+        ensures disjoint { IfOk result (CapturesDisjoint pike_captures_next (search_of input.entry)) }
         // The cache changes only by the searches of the steps.
         ensures searches { IfOk result (CatchesBySearches self.now (search_of input.entry)) }
         ensures keeps { IfOk result CatchesGiveCache }
@@ -153,7 +153,7 @@ impl PikeVM {
         ensures same_reference { (pike_captures_cache result).ghost_name ≡ cache.entry.ghost_name }
         ensures same_cache { (pike_captures_cache result).now ≡ cache.entry.now }
         ensures engine { pike_captures_engine result ≡ self.now }
-        ensures walk { pike_captures_iter_state result ≡ fresh (search_of input.entry) }
+        ensures iter_state { pike_captures_iter_state result ≡ fresh (search_of input.entry) }
         ensures going { pike_captures_done result ≡ false }
         // Each run of calls gives the first captures of the input, and all of them if it goes on to `None`.
         ensures runs { CapturesRun pike_captures_next
@@ -185,7 +185,7 @@ impl PikeVM {
             (search_of input.entry).earliest (search_of input.entry) result }
         ensures groups { CapturesGroups pike_captures_next self.now.nfa result }
         ensures inside { CapturesWithin pike_captures_next (search_of input.entry) result }
-        ensures apart { CapturesDisjoint pike_captures_next (search_of input.entry) result }
+        ensures disjoint { CapturesDisjoint pike_captures_next (search_of input.entry) result }
         // The cache changes only by the searches of the steps.
         ensures searches { CatchesBySearches self.now (search_of input.entry) result }
         ensures keeps { CatchesGiveCache result }
@@ -227,7 +227,7 @@ impl PikeVM {
             (search_of input.entry).earliest (search_of input.entry) (map match_in all.items)) }
         ensures groups { IfOk result (λ all. All (HasGroups self.now.nfa) all.items) }
         ensures inside { IfOk result (λ all. All (CapturesInside (search_of input.entry)) all.items) }
-        ensures apart { IfOk result (λ all. AreDisjoint (search_of input.entry) None (map match_in all.items)) }
+        ensures disjoint { IfOk result (λ all. AreDisjoint (search_of input.entry) None (map match_in all.items)) }
         ensures capacities { SameCapacities cache.old cache.new }
         // The cache changes only by the searches of an iteration. If all captures are returned, these searches go to
         // its end.
@@ -272,7 +272,7 @@ impl<'r> FindWith for CapturesFinder<'r> {
     }
 
     #[inline]
-    fn place(&self, reply: Result<(), SearchError>) -> Option<Span> {
+    fn reply_span(&self, reply: Result<(), SearchError>) -> Option<Span> {
         captures_span(&self.captures, reply)
     }
 

@@ -71,13 +71,13 @@ impl PikeVM {
         ensures same_reference { (pike_matches_cache result).ghost_name ≡ cache.entry.ghost_name }
         ensures same_cache { (pike_matches_cache result).now ≡ cache.entry.now }
         ensures engine { pike_matches_engine result ≡ self.now }
-        ensures walk { pike_matches_iter_state result ≡ fresh (search_of input.entry) }
+        ensures iter_state { pike_matches_iter_state result ≡ fresh (search_of input.entry) }
         ensures going { pike_matches_done result ≡ false }
         ensures known { pike_finds_known result ≡ None }
         // Each run of calls gives the first matches of the input, and all of them if it goes on to `None`.
         ensures runs { MatchesRun self.now.nfa (kind_of self.now) (search_of input.entry) pike_matches_next result }
         ensures are { MatchesAre self.now.nfa (kind_of self.now) (search_of input.entry) pike_matches_next result }
-        ensures apart { MatchesDisjoint self.now.nfa (kind_of self.now) (search_of input.entry)
+        ensures disjoint { MatchesDisjoint self.now.nfa (kind_of self.now) (search_of input.entry)
             pike_matches_next result }
         ensures first { MatchesFirst self.now.nfa (kind_of self.now) (search_of input.entry) pike_matches_next result }
         ensures next { MatchesNext self.now.nfa (kind_of self.now) (search_of input.entry) pike_matches_next result }
@@ -120,7 +120,7 @@ impl PikeVM {
         ensures all { IfOk result (λ found.
             AreMatches self.now.nfa (kind_of self.now) (search_of input.entry).earliest (search_of input.entry)
             (map found_of found.items)) }
-        ensures apart { IfOk result (λ found. AreDisjoint (search_of input.entry) None (map found_of found.items)) }
+        ensures disjoint { IfOk result (λ found. AreDisjoint (search_of input.entry) None (map found_of found.items)) }
         ensures inside { IfOk result (λ found. All (λ m. IsInside (search_of input.entry) (found_of m)) found.items) }
         ensures capacities { SameCapacities cache.old cache.new }
         // The cache changes only by the searches of an iteration. If all matches are returned, these searches go to its
@@ -175,7 +175,7 @@ impl<'r> FindWith for Finder<'r> {
     }
 
     #[inline]
-    fn place(&self, reply: Option<Match>) -> Option<Span> {
+    fn reply_span(&self, reply: Option<Match>) -> Option<Span> {
         found_span(reply)
     }
 

@@ -62,8 +62,7 @@ Paid-then : {nfa : Automaton} {m n o : Marks} {i j k : ℕ} {stack above top : L
 Paid-then a b = record {
   tried = omega (arith, a.tried, b.tried);
   framed = omega (arith, a.framed, b.framed);
-  entered =
-      omega (arith, a.entered, b.entered);
+  entered = omega (arith, a.entered, b.entered);
 }
 
 -- what is left on the stack at a match is dropped
@@ -175,7 +174,8 @@ module _ {nfa : Automaton} {x : Search} {at s : ℕ} {met : Marks} {items : List
       }
 
   -- no match came
-  pub Finds-none : {stack : List FollowEpsilon} → Turned nfa x at s met items below row (NoMatch (is_match nfa)) m i None stack now
+  pub Finds-none : {stack : List FollowEpsilon} → Turned nfa x at s met items below row (NoMatch (is_match nfa)) m i
+      None stack now
       → FindsMatch nfa x at s met items below row None m i stack now
   Finds-none f = record { front = f.front; gives = f.gives; ends = f.holds }
 

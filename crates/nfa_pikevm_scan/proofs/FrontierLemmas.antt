@@ -150,7 +150,8 @@ module _ (target : Pair → Bool) where
       of : (c : Bool) → last_match target (Some a) front ≡ option_or (last_match target None front) (Some a)
           → last_match target g front ≡ option_or (last_match target None front) g
           → last_match target (cond c (Some a) g) front ≡ option_or (last_match target (cond c (Some a) None) front) g
-      of true e f = e ∙ sym (ap (λ (o : Hit). option_or o g) e ∙ option_or-assoc (last_match target None front) (Some a) g)
+      of true e f = e ∙ sym (ap (λ (o : Hit). option_or o g) e
+          ∙ option_or-assoc (last_match target None front) (Some a) g)
       of false e f = f
 
 -- turns

@@ -130,7 +130,8 @@ module _ {nfa : Automaton} {x : Search} {from : Starts} {limit at width : ℕ} {
     module _ (half : Option HalfMatch) (is : EndsAt to hit half) where
       -- with a match there: no start is left
       pub ScansFirst-match : is_some half ≡ true → ScansFirst nfa x from 0 (to + 1) width half written base new
-      ScansFirst-match some = after (inr refl) (SearchesFirst-match nfa x to width from.state limit c j.search half is some)
+      ScansFirst-match some = after (inr refl) (SearchesFirst-match nfa x to width from.state limit c j.search half is
+          some)
 
       -- with none
       pub ScansFirst-miss : is_some half ≡ false

@@ -98,7 +98,14 @@ MayFollow-cleared {here} {states} {old} {frames} {width} {t} may context below s
         room = record {
           marks = omega (arith, room.marks);
           frames_fit = omega arith;
-          states_fit = omega (arith, room.capacity, t.same_capacity, ap (λ (a : Active). a.capacity) next, ap length none);
+          states_fit = omega (
+            arith,
+            room.capacity,
+            t.same_capacity,
+            ap (λ (a : Active). a.capacity) next,
+            ap length
+                none,
+          );
         };
         stack = omega (arith, room.stack);
       };
@@ -190,7 +197,8 @@ module _ {V : Type 0} {nfa : Automaton} {x : Search} {takes : V → PatternID �
 
   -- there is room for what the next state leads to
   pub HasRoom-next : {left : List (ℕ × Slots)} {after : Marks} {kept : List (ℕ × Slots)} {new : V}
-      {frames capacity f p : ℕ} → met.bits ≡ replicate (length met.bits) false → HasRoom nfa met.bits 0 frames 0 capacity
+      {frames capacity f p : ℕ} → met.bits ≡ replicate (length met.bits) false
+      → HasRoom nfa met.bits 0 frames 0 capacity
       → length after.bits ≡ length met.bits → f ≡ frames → p ≡ capacity
       → NextsLeadTo nfa x takes at met items old left after kept new → HasRoom nfa after.bits 0 f (length kept) p
   HasRoom-next clear room size same_frames same_capacity c =
@@ -277,7 +285,8 @@ module _ {V : Type 0} {nfa : Automaton} {x : Search} {takes : V → PatternID �
 
   -- all were followed
   pub NextsLeadTo-over : {left : List (ℕ × Slots)} {after : Marks} {kept : List (ℕ × Slots)} {new : V} → left ≡ []
-      → NextsLeadTo nfa x takes at met items old left after kept new → ClosuresGive nfa x takes at met items old after kept new
+      → NextsLeadTo nfa x takes at met items old left after kept new
+      → ClosuresGive nfa x takes at met items old after kept new
   NextsLeadTo-over {after = after} over c = record {
     front = c.front;
     ended = false;

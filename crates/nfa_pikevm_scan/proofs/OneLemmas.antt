@@ -74,7 +74,8 @@ module _ (nfa : Automaton) (x : Search) (at : ℕ) where
   -- nothing is kept after the match
   cut-ends : (slots : Slots) (hit : Option PatternID) (front : Frontier) → EndsInMatch nfa at slots hit front
       → moves (edges nfa x) (before_match (is_match nfa) front) ≡ moves (edges nfa x) front
-  cut-ends slots None front e = ap (moves (edges nfa x)) (before_match-all (is_match nfa) front (first-none (is_match nfa) front e))
+  cut-ends slots None front e = ap (moves (edges nfa x))
+      (before_match-all (is_match nfa) front (first-none (is_match nfa) front e))
   cut-ends slots (Some p) front e =
       let v : Pair = (e.1, at) in
       let match : is_match nfa v ≡ true = rw e.4 refl in

@@ -116,7 +116,8 @@ module _ (p : Parts) {a : Active} (view : active_of p.width p.kept.items p.rows.
     (room : length a.items < a.capacity) where
   pub pushed-len : p.len < length p.kept.items
   pushed-len =
-      let n = length-items_of p.width (take p.len p.kept.items) p.rows.items ∙ length-take-le p.len p.kept.items fits.0 in
+      let n = length-items_of p.width (take p.len p.kept.items) p.rows.items
+      ∙ length-take-le p.len p.kept.items fits.0 in
       omega (arith, n, ap (λ (b : Active). length b.items) view, ap (λ (b : Active). b.capacity) view)
 
   pub pushed-fits : p.len * p.width + p.width ≤ length p.rows.items

@@ -73,8 +73,7 @@ module _ (nfa : Automaton) where
 -- the byte at a position before the end of the span
 pub byte_at-inside : (x : Search) (at : ℕ) → at < x.end → x.end ≤ length x.haystack
     → byte_at x at ≡ Some (get_or x.haystack at 0)
-byte_at-inside x at less fits =
-    grind (arith, slice_get-get_or)
+byte_at-inside x at less fits = grind (arith, slice_get-get_or)
 
 -- edges
 

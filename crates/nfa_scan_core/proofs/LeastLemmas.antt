@@ -24,10 +24,8 @@ GrowsBy-more f g more = grind arith
 pub Reads-among : (ts : List Transition) (i : ℕ) (d : Transition) (b : ℕ) → i < length ts
     → Reads (ByteRange (get_or ts i d)) b → Reads (Sparse ts) b
 Reads-among [] i d b less r = absurd (omega arith)
-Reads-among (t ∷ ts) zero d b less r =
-    grind arith
-Reads-among (t ∷ ts) (suc i) d b less r =
-    grind (arith, Reads-among ts i d b (omega arith) r)
+Reads-among (t ∷ ts) zero d b less r = grind arith
+Reads-among (t ∷ ts) (suc i) d b less r = grind (arith, Reads-among ts i d b (omega arith) r)
 
 -- states
 
@@ -95,8 +93,7 @@ module _ (nfa : Automaton) where
       (all : (k : ℕ) → k < a.len → IsReachedAtStart nfa (get_or a.states k 0)) where
     is-here : node_at nfa (get_or a.states done 0) ≡ node
     unfolding node_at
-    is-here =
-        grind (arith, get_or_default, get_or_from_slice_get)
+    is-here = grind (arith, get_or_default, get_or_from_slice_get)
 
     pub at_start-step : Extends a b → AddsOnly a b (epsilon_targets node)
         → (k : ℕ) → k < b.len → IsReachedAtStart nfa (get_or b.states k 0)

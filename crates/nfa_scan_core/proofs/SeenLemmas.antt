@@ -12,8 +12,7 @@ SeenAt-set at s bits inside v = search rules
 -- what is not marked was not seen
 pub SeenAt-clear : (at s : ℕ) (bits : List Bool) → s < length bits → get_or bits s true ≡ false
     → ¬ (SeenAt at bits (s, at))
-SeenAt-clear at s bits inside clear m =
-    search rules
+SeenAt-clear at s bits inside clear m = search rules
 
 -- no bit of clear bits is set
 pub none-set : (n k : ℕ) → get_or (replicate n false) k false ≡ true → ⊥

@@ -63,7 +63,7 @@ module _ (h : Search → Answer Found) (k : Search → Answer HalfFound) where
   -- a step gives the end of the other's step, and leads to the same place
   record SameStep (w : IterState) : Type 0 where
     answer : step_answer half_span_of k w ≡ end_answer (step_answer span_of h w)
-    walk : step_iter_state half_span_of k w ≡ step_iter_state span_of h w
+    iter_state : step_iter_state half_span_of k w ≡ step_iter_state span_of h w
     next : IsIterState (step_iter_state span_of h w)
     like : SameButStart w.at (step_iter_state span_of h w).at
 
@@ -87,7 +87,7 @@ module _ (h : Search → Answer Found) (k : Search → Answer HalfFound) where
           let found' = finds.inside (shifted w).at (same_start-shifted w) next.ordered in
           record {
             answer = rw (half, e) there;
-            walk = rw (half, e, there) (same_after (shifted w) (h (shifted w).at));
+            iter_state = rw (half, e, there) (same_after (shifted w) (h (shifted w).at));
             next = rw e (walk_after (shifted w) (h (shifted w).at) next found');
             like = rw e (same_start-after_shifted w (answer_span span_of (h (shifted w).at)));
           }
@@ -95,7 +95,7 @@ module _ (h : Search → Answer Found) (k : Search → Answer HalfFound) where
           let half : repeats w (answer_span half_span_of (k w.at)) ≡ false = same ∙ e in
           record {
             answer = rw (half, e) here;
-            walk = rw (half, e, here) (same_after w (h w.at));
+            iter_state = rw (half, e, here) (same_after w (h w.at));
             next = rw e (walk_after w (h w.at) is found);
             like = rw e (same_start-after w (answer_span span_of (h w.at)));
           }
@@ -114,7 +114,7 @@ module _ (h : Search → Answer Found) (k : Search → Answer HalfFound) where
       let step = same_step w is finds in
       let rest : items_within half_span_of k n (step_iter_state half_span_of k w)
       ≡ map end_item (items_within span_of h n (step_iter_state span_of h w)) =
-      ap (λ (v : IterState). items_within half_span_of k n v) step.walk
+      ap (λ (v : IterState). items_within half_span_of k n v) step.iter_state
       ∙ agree_within n (step_iter_state span_of h w) step.next
       (finds_like w.at (step_iter_state span_of h w).at step.like finds) in
       ap (λ (a : Answer HalfFound). items_from half_span_of a

@@ -62,10 +62,10 @@ module _ (nfa : Automaton) (kind : MatchKind) (earliest : Bool) where
   row-tells t (Ok None) h = h
   row-tells t (Err e) h = h
 
-  place-as_match : (a : Answer Row) → answer_span row_span a ≡ answer_span span_of (as_match a)
-  place-as_match (Ok (Some row)) = refl
-  place-as_match (Ok None) = refl
-  place-as_match (Err e) = refl
+  span-as_match : (a : Answer Row) → answer_span row_span a ≡ answer_span span_of (as_match a)
+  span-as_match (Ok (Some row)) = refl
+  span-as_match (Ok None) = refl
+  span-as_match (Err e) = refl
 
   -- each of these is in the span
   pub row-lies : (t : Search) (a : Answer Row) → tells t a
@@ -112,7 +112,7 @@ module _ (nfa : Automaton) (kind : MatchKind) (earliest : Bool) where
   -- a step over rows is one over matches
   ok-match : (w : IterState) (o : Option Row) → IsStep row_span tells w (Ok o)
       → IsStep span_of (AnswersMatch nfa kind earliest) w (as_match (Ok o))
-  ok-match w o h = step-as row_span span_of tells (AnswersMatch nfa kind earliest) as_match place-as_match row-tells w
+  ok-match w o h = step-as row_span span_of tells (AnswersMatch nfa kind earliest) as_match span-as_match row-tells w
       (Ok o) h
 
   -- so rows are matches

@@ -26,7 +26,7 @@ use Rattle.nfa_search_base.specs.declared.error.SearchError.{SearchError}
 use Rattle.nfa_search_base.specs.declared.error.SearchError.TheVariants.{Memory}
 use Rattle.nfa_search_base.specs.declared.iter.steps.Steps.{Steps}
 use Rattle.nfa_search_base.proofs.CapturesLemmas.{row-lies, rows-first_matches, rows-matches}
-use Rattle.nfa_search_base.proofs.ListLemmas.{matches-apart, step-lies}
+use Rattle.nfa_search_base.proofs.ListLemmas.{matches-disjoint, step-lies}
 use Rattle.nfa_search_base.proofs.MatchRunLemmas.{yields-inner}
 use Rattle.nfa_search_base.proofs.OkItemLemmas.{oked, next-clean, last-clean, oked-run, oked-first, oked-all, oked-next, items-hold, items-memory}
 use Rattle.nfa_search_base.proofs.RunLemmas.{Given, Says, given, gives-first, gives-all, step-keeps}
@@ -68,7 +68,7 @@ copy-of c a d h = cc
 wider : (x y : Search) → x.start ≤ y.start → y.end ≡ x.end → (slot : Option ℕ) → IsSlotInside y slot
     → IsSlotInside x slot
 wider x y from to None h = tt
-wider x y from to (Some k) h = (omega (arith, h.0), omega (arith, h.1))
+wider x y from to (Some k) h = omega (arith, h.0), omega (arith, h.1)
 
 -- what each item is while the iterator is `Good`, all items are
 module _ {T R : Type 0} (steps : T → Option R → T → Type 0) (Good : T → Type 0) (Holds : R → Type 0)
@@ -172,7 +172,7 @@ module _ (nfa : Automaton) (kind : MatchKind) (earliest : Bool) (tells : Search 
       (steps : T → Option Caught → T → Type 0) (inner : T → Steps (WithCache (WithCaptures E) C))
       (is : (s : T) (r : Option Caught) (t : T) → steps s r t
       → takes_steps row_span asks (λ q. GivesCaptures q.backend) (inner s) r (inner t))
-      (s : T) (walk : steps_iter_state (inner s) ≡ fresh x) (going : (inner s).done ≡ false)
+      (s : T) (iter_state : steps_iter_state (inner s) ≡ fresh x) (going : (inner s).done ≡ false)
       (good : Good (inner s).backend) where
     abbrev core : Steps (WithCache (WithCaptures E) C) → Option Caught → Steps (WithCache (WithCaptures E) C) → Type 0
     core = takes_steps row_span asks (λ q. GivesCaptures q.backend)
@@ -192,11 +192,12 @@ module _ (nfa : Automaton) (kind : MatchKind) (earliest : Bool) (tells : Search 
     caught = given steps First Whole s
         (λ xs t ran. record {
           come = gives-first row_span asks (λ q. GivesCaptures q.backend) row_of tells Refuses x Good acts says
-              (inner s) walk going good xs (inner t) (yields-inner steps core inner is xs s t ran);
+              (inner s) iter_state going good xs (inner t) (yields-inner steps core inner is xs s t ran);
         })
         (λ xs t u ran st. record {
           come = gives-all row_span asks (λ q. GivesCaptures q.backend) row_of tells Refuses x Good acts says (inner s)
-              walk going good xs (inner t) (inner u) (yields-inner steps core inner is xs s t ran) (is t None u st);
+              iter_state going good xs (inner t) (inner u) (yields-inner steps core inner is xs s t ran)
+              (is t None u st);
         })
 
     pub captures-memory
@@ -255,7 +256,7 @@ module _ (nfa : Automaton) (kind : MatchKind) (earliest : Bool) (tells : Search 
       inside = λ p seen from. items-hold row_span row_of tells Rows Refuses (λ w e k. k) row
           (row-lies nfa kind earliest) x (CapturesInside x) (step-inside x) p.items (fresh x) (omega arith) refl
           (caught.run p seen from).0.come;
-      apart = λ p seen from cs are. matches-apart nfa kind earliest x (map match_in cs)
+      disjoint = λ p seen from cs are. matches-disjoint nfa kind earliest x (map match_in cs)
           (oked-run steps First Whole FirstMatches WholeMatches first-matches all-matches s caught p seen from cs
           are).0;
     }

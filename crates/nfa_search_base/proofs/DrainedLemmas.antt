@@ -24,7 +24,7 @@ use Rattle.nfa_search_base.specs.IterStates.{Answer}
 use Rattle.nfa_search_base.specs.declared.error.SearchError.{SearchError}
 use Rattle.nfa_search_base.specs.declared.error.SearchError.TheVariants.{Memory}
 use Rattle.nfa_search_base.specs.declared.iter.steps.Steps.{Steps}
-use Rattle.nfa_search_base.proofs.ListLemmas.{matches-apart}
+use Rattle.nfa_search_base.proofs.ListLemmas.{matches-disjoint}
 use Rattle.nfa_search_base.proofs.RunLemmas.{calls-keep, step-keeps}
 
 -- captures that were made for an NFA have its groups
@@ -85,7 +85,7 @@ module _ {T : Type 0} (calls : T → Option (Result Captured SearchError) → T 
           gives.all_matches (map Ok cs) all.last t cs all.ran all.over refl,
           all_ok (HasGroups nfa) cs (rw items at (gives.groups run.0 run.0.seen run.1)),
           all_ok (CapturesInside x) cs (rw items at (gives.inside run.0 run.0.seen run.1)),
-          matches-apart nfa kind earliest x (map match_in cs)
+          matches-disjoint nfa kind earliest x (map match_in cs)
               (gives.first_matches (map Ok cs) all.last cs all.ran refl),
         )
 

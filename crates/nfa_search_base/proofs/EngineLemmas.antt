@@ -239,7 +239,7 @@ module _ {E C : Type 0} (nfa : E → Automaton) (Fits : C → E → Type 0) (Tel
       (e : E) (kind : MatchKind) (earliest : Bool) (Told : Search → Answer Row → Type 0)
       (row : (t : Search) (o : Option Row) → Told t (Ok o) → AnswersRow (nfa e) kind earliest t (Ok o)) (x : Search)
       (tells : (t : Search) (a : Answer Row) → SameButStart x t → Tells e t a → Told t a) (s : T)
-      (engine : (inner s).backend.backend.finder ≡ e) (walk : steps_iter_state (inner s) ≡ fresh x)
+      (engine : (inner s).backend.backend.finder ≡ e) (iter_state : steps_iter_state (inner s) ≡ fresh x)
       (going : (inner s).done ≡ false) where
     abbrev Good : WithCache (WithCaptures E) C → Type 0
     Good q = q.backend.finder ≡ e
@@ -252,7 +252,7 @@ module _ {E C : Type 0} (nfa : E → Automaton) (Fits : C → E → Type 0) (Tel
     -- all that its calls give
     pub catcher-given : MayRow (inner s).backend → CapturesGiven calls (nfa e) kind earliest Told x s
     catcher-given may =
-        captures-given (nfa e) kind earliest Told row x AsksRow Good told-acts calls inner is s walk going engine
+        captures-given (nfa e) kind earliest Told row x AsksRow Good told-acts calls inner is s iter_state going engine
         (groups-hold (nfa e) AsksRow (λ q. MayRow q × Good q)
         (λ q t a q' h asked. (may_row-after q t a q' h.0 asked, asked.engine ∙ h.1))
         (λ q h. subst (λ (b : E). HasGroups (nfa b) q.backend.captures) h.1 h.0.holds) calls inner is s (may, engine))
@@ -262,7 +262,7 @@ module _ {E C : Type 0} (nfa : E → Automaton) (Fits : C → E → Type 0) (Tel
         → error ≡ Memory)
         → CapturesMemory calls s
     catcher-memory =
-        captures-memory (nfa e) kind earliest Told row x AsksRow Good told-acts calls inner is s walk going engine
+        captures-memory (nfa e) kind earliest Told row x AsksRow Good told-acts calls inner is s iter_state going engine
 
 -- ---- the cache
 

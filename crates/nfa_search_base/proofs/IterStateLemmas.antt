@@ -8,11 +8,11 @@ use Rattle.nfa_search_base.specs.IterStates.{IterState, LiesIn, repeats, after, 
 
 -- the match does not end before it starts
 abbrev pub IsOrdered : Option Span → Type 0
-IsOrdered place = ForSome place (λ p. p.start ≤ p.end)
+IsOrdered reply_span = ForSome reply_span (λ p. p.start ≤ p.end)
 
 -- a match that does not repeat the last one comes after it
-pub ComesAfter-first : (w : IterState) (place : Option Span) → EndsBy w.last w.at.start → LiesIn w.at place
-    → IsOrdered place → repeats w place ≡ false → ComesAfter w place
+pub ComesAfter-first : (w : IterState) (reply_span : Option Span) → EndsBy w.last w.at.start → LiesIn w.at reply_span
+    → IsOrdered reply_span → repeats w reply_span ≡ false → ComesAfter w reply_span
 ComesAfter-first w None behind lies ordered new = tt
 ComesAfter-first w (Some p) behind lies ordered new = λ e is.
     let at_most : e ≤ w.at.start = behind e is in
@@ -26,8 +26,9 @@ ComesAfter-first w (Some p) behind lies ordered new = λ e is.
     after_last e n a b h k l new = grind (arith, nat_tests)
 
 -- and leaves fewer ends
-pub LeavesFewer-first : (w : IterState) (place : Option Span) → LiesIn w.at place → IsOrdered place → ComesAfter w place
-    → LeavesFewer w place (after w place)
+pub LeavesFewer-first : (w : IterState) (reply_span : Option Span) → LiesIn w.at reply_span → IsOrdered reply_span
+    → ComesAfter w reply_span
+    → LeavesFewer w reply_span (after w reply_span)
 LeavesFewer-first w None lies ordered comes = omega arith
 LeavesFewer-first w (Some p) lies ordered comes = by_last w.last comes
   where
@@ -38,8 +39,9 @@ LeavesFewer-first w (Some p) lies ordered comes = by_last w.last comes
         omega (arith, lies.0, lies.1, k.0, k.1)
 
 -- so does a match that is found one on
-pub ComesAfter-second : (w : IterState) (place : Option Span) → EndsBy w.last w.at.start → LiesIn (shifted w).at place
-    → IsOrdered place → ComesAfter w place
+pub ComesAfter-second : (w : IterState) (reply_span : Option Span) → EndsBy w.last w.at.start
+    → LiesIn (shifted w).at reply_span
+    → IsOrdered reply_span → ComesAfter w reply_span
 ComesAfter-second w None behind lies ordered = tt
 ComesAfter-second w (Some p) behind lies ordered = λ e is.
     let at_most : e ≤ w.at.start = behind e is in
@@ -47,8 +49,9 @@ ComesAfter-second w (Some p) behind lies ordered = λ e is.
     (omega (arith, lies.0), omega (arith, lies.0))
 
 -- and without a match, no more ends are left
-pub LeavesFewer-second : (w : IterState) (place : Option Span) → LiesIn (shifted w).at place → IsOrdered place
-    → ComesAfter w place → LeavesFewer w place (after (shifted w) place)
+pub LeavesFewer-second : (w : IterState) (reply_span : Option Span) → LiesIn (shifted w).at reply_span
+    → IsOrdered reply_span
+    → ComesAfter w reply_span → LeavesFewer w reply_span (after (shifted w) reply_span)
 LeavesFewer-second w None lies ordered comes = by_last w.last
   where
     by_last : (last : Option ℕ) → ends_left (shifted (record { at = w.at; last = last }))

@@ -192,7 +192,7 @@ module _ {E A C : Type 0} (Sure : E → Search → Found → Type 0) (shown : A 
       (is : (s : T) (r : Option R) (t : T) → calls s r t
       → TakesStepWith span_of Asks (λ _. GivesItem found_of) (inner s) (option_map item r) (inner t))
       (x : Search) (s : T) (engine : (shown (inner s).steps.backend).engine ≡ e)
-      (known : (shown (inner s).steps.backend).known ≡ None) (walk : steps_with_iter_state (inner s) ≡ fresh x)
+      (known : (shown (inner s).steps.backend).known ≡ None) (iter_state : steps_with_iter_state (inner s) ≡ fresh x)
       (going : (inner s).steps.done ≡ false) where
     in-steps : (xs : List R) (t : T) → Yields calls s xs t
         → Yields (takes_steps span_of Asks (λ q. GivesItem found_of)) (steps_with_state (inner s)) (map item xs)
@@ -211,7 +211,7 @@ module _ {E A C : Type 0} (Sure : E → Search → Found → Type 0) (shown : A 
         (map item xs) (steps_with_state (inner s)) (steps_with_state (inner t)) (steps_with_state (inner u))
         (option_map item r) going
         engine (in-steps xs t ran) (is t r u st).step in
-        rw (known, walk) at k
+        rw (known, iter_state) at k
 
     pub finds-leave : (xs : List R) (t : T) (r : Option R) (u : T) → Yields calls s xs t → calls t r u
         → FindsLeave (Tells e) (Work e) scans x (inner s).cache.now (inner u).cache.now
@@ -233,7 +233,7 @@ module _ {E A C : Type 0} (Sure : E → Search → Found → Type 0) (shown : A 
         (steps_with_state (inner s)) l (steps_with_state (inner t))) same (in-steps xs t ran)) (is t None u st).step in
         record {
           known = option_map found_of (shown (inner u).steps.backend).known;
-          left = record { steps = rw (known, walk) at k };
+          left = record { steps = rw (known, iter_state) at k };
         }
 
 -- ---- captures
@@ -274,14 +274,14 @@ module _ {E C : Type 0} (nfa : E → Automaton) (Tells : E → Search → Answer
       said (Some (Err q)) h = tt
 
   module _ (x : Search) (s : Steps (WithCache (WithCaptures E) C)) (engine : s.backend.backend.finder ≡ e)
-      (walk : steps_iter_state s ≡ fresh x) (going : s.done ≡ false) where
+      (iter_state : steps_iter_state s ≡ fresh x) (going : s.done ≡ false) where
     -- their calls lead from cache to cache by the searches of the steps
     pub catches-leave : (t : Steps (WithCache (WithCaptures E) C)) → CallsLead Calls s t
         → Leaves row_span LooksRow x s.backend.cache t.backend.cache
     catches-leave t lead =
         let k = calls-leave row_span AsksRow (λ q. GivesCaptures q.backend) row_of says-row (λ q. q.cache) LooksRow
         (λ q. q.backend.finder ≡ e) looks-row lead.items s lead.last t lead.item going engine lead.ran lead.over in
-        record { answers = k.0 ∷ k.1; steps = rw walk at k.2 }
+        record { answers = k.0 ∷ k.1; steps = rw iter_state at k.2 }
 
     -- and past all matches if they go on to none
     pub catches-to_end : (cs : List Captured) (t : Steps (WithCache (WithCaptures E) C)) → DrainsAll Calls s cs t
@@ -289,7 +289,7 @@ module _ {E C : Type 0} (nfa : E → Automaton) (Tells : E → Search → Answer
     catches-to_end cs t all =
         let k = all-leave row_span AsksRow (λ q. GivesCaptures q.backend) row_of says-row (λ q. q.cache) LooksRow
         (λ q. q.backend.finder ≡ e) looks-row cs s all.last t going engine all.ran all.over in
-        record { steps = rw walk at k }
+        record { steps = rw iter_state at k }
 
     -- and so if a result holds them
     pub all-to_end : {V : Type 0} (r : Result V SearchError) (items : V → List Captured)

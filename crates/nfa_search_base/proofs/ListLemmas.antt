@@ -197,16 +197,16 @@ module _ {X : Type 0} (span : X → Span) (tells : Search → Answer X → Type 
         Advances-fewer span asks (λ s t a s' k. lies t a k) tt w (Ok (Some x)) tt (past w x) behind (advances w x h)
 
     -- so the matches are in the span of any search that began before, in order and without overlap
-    pub spans-apart : (ends : IterState → SearchError → Type 0) (x : Search) (w : IterState) (items : List (Item X))
+    pub spans-disjoint : (ends : IterState → SearchError → Type 0) (x : Search) (w : IterState) (items : List (Item X))
         → x.start ≤ w.at.start → w.at.end ≡ x.end → EndsBy w.last w.at.start → ItemsNext span tells ends w items
         → AreSpansDisjoint x w.last (map span (matches_in items))
-    spans-apart ends x w [] from to behind h = tt
-    spans-apart ends x w (Err e ∷ items) from to behind h = rw h.1 tt
-    spans-apart ends x w (Ok m ∷ items) from to behind h =
+    spans-disjoint ends x w [] from to behind h = tt
+    spans-disjoint ends x w (Err e ∷ items) from to behind h = rw h.1 tt
+    spans-disjoint ends x w (Ok m ∷ items) from to behind h =
         let k = step-lies w m h.0 in (
           (omega (arith, k.0, from), k.1, omega (arith, k.2, to)),
           step-behind w m behind h.0,
-          spans-apart ends x (past w m) items (omega (arith, k.0, k.1, from)) to (behind-after (span m).end) h.1,
+          spans-disjoint ends x (past w m) items (omega (arith, k.0, k.1, from)) to (behind-after (span m).end) h.1,
         )
 
     -- If h gives the answers of a search, the greedy walk by h gives the list.
@@ -287,11 +287,11 @@ as_items-rest {X} (x ∷ xs) (y ∷ ys) more e =
     (rest.0, ap (λ (z : X). z ∷ ys) same ∙ ap (λ (l : List X). x ∷ l) rest.1)
 
 -- spans that do not overlap are those of matches that do not
-spans-disjoint : (x : Search) (last : Option ℕ) (ms : List Found) → AreSpansDisjoint x last (map span_of ms)
+AreDisjoint-spans : (x : Search) (last : Option ℕ) (ms : List Found) → AreSpansDisjoint x last (map span_of ms)
     → AreDisjoint x last ms
-spans-disjoint x last [] h = tt
-spans-disjoint x last (m ∷ ms) h =
-    (record { from = h.0.0; ordered = h.0.1; to = h.0.2 }, h.1, spans-disjoint x (Some m.end) ms h.2)
+AreDisjoint-spans x last [] h = tt
+AreDisjoint-spans x last (m ∷ ms) h =
+    (record { from = h.0.0; ordered = h.0.1; to = h.0.2 }, h.1, AreDisjoint-spans x (Some m.end) ms h.2)
 
 -- The matches of a search are in its span, so the matches of an iteration do not overlap.
 module _ (tells : Search → Answer Found → Type 0)
@@ -299,10 +299,10 @@ module _ (tells : Search → Answer Found → Type 0)
     × IsOrdered (answer_span span_of a))
     (ends : IterState → SearchError → Type 0) where
   -- the matches among the first items of a search are in its span, in order and without overlap
-  pub items-apart : (x : Search) (items : List (Item Found)) → ItemsNext span_of tells ends (fresh x) items
+  pub items-disjoint : (x : Search) (items : List (Item Found)) → ItemsNext span_of tells ends (fresh x) items
       → AreDisjoint x None (matches_in items)
-  items-apart x items h = spans-disjoint x None (matches_in items)
-      (spans-apart span_of tells lies ends x (fresh x) items (omega arith) refl (behind-none x.start) h)
+  items-disjoint x items h = AreDisjoint-spans x None (matches_in items)
+      (spans-disjoint span_of tells lies ends x (fresh x) items (omega arith) refl (behind-none x.start) h)
 
 module _ (nfa : Automaton) (kind : MatchKind) (earliest : Bool) where
   abbrev tells : Search → Answer Found → Type 0
@@ -361,7 +361,7 @@ module _ (nfa : Automaton) (kind : MatchKind) (earliest : Bool) where
       as_items-rest xs ys rest.0 rest.1
 
   -- the first matches of a search are in its span, in order and without overlap
-  pub matches-apart : (x : Search) (ms : List Found) → AreFirstMatches nfa kind earliest x ms → AreDisjoint x None ms
-  matches-apart x ms h =
+  pub matches-disjoint : (x : Search) (ms : List Found) → AreFirstMatches nfa kind earliest x ms → AreDisjoint x None ms
+  matches-disjoint x ms h =
       subst (λ (l : List Found). AreDisjoint x None l) (matches_in-as_items ms)
-      (items-apart tells match-lies (Fails span_of tells) x (as_items ms) h.come)
+      (items-disjoint tells match-lies (Fails span_of tells) x (as_items ms) h.come)

@@ -19,7 +19,7 @@ use Rattle.nfa_search_base.specs.Stored.{steps_iter_state, takes_infallible_step
 use Rattle.nfa_search_base.specs.IterStates.{IterState, Answer, fresh, span_of}
 use Rattle.nfa_search_base.specs.declared.error.SearchError.{SearchError}
 use Rattle.nfa_search_base.specs.declared.iter.steps.Steps.{Steps}
-use Rattle.nfa_search_base.proofs.ListLemmas.{matches-apart, matches-rest, matches-unique}
+use Rattle.nfa_search_base.proofs.ListLemmas.{matches-disjoint, matches-rest, matches-unique}
 use Rattle.nfa_search_base.proofs.RunLemmas.{Given, Says, given, item-says, gives-first_matches, gives-all_matches}
 
 -- the calls of a shell are those of the iterator in it
@@ -47,7 +47,7 @@ pub record MatchesGiven (nfa : Automaton) (kind : MatchKind) (x : Search) {T : T
   pub runs : MatchesRun nfa kind x steps s
   pub first : MatchesFirst nfa kind x steps s
   pub next : MatchesNext nfa kind x steps s
-  pub apart : MatchesDisjoint nfa kind x steps s
+  pub disjoint : MatchesDisjoint nfa kind x steps s
   pub are : MatchesAre nfa kind x steps s
 
 module _ (nfa : Automaton) (kind : MatchKind) (x : Search) where
@@ -67,7 +67,7 @@ module _ (nfa : Automaton) (kind : MatchKind) (x : Search) where
       (steps : T → Option Match → T → Type 0) (inner : T → Steps S)
       (is : (s : T) (r : Option Match) (t : T) → steps s r t
       → takes_infallible_steps span_of asks (λ q. GivesItem found_of) (inner s) r (inner t))
-      (s : T) (walk : steps_iter_state (inner s) ≡ fresh x) (going : (inner s).done ≡ false)
+      (s : T) (iter_state : steps_iter_state (inner s) ≡ fresh x) (going : (inner s).done ≡ false)
       (good : Good (inner s).backend) where
     abbrev core : Steps S → Option Match → Steps S → Type 0
     core = takes_infallible_steps span_of asks (λ q. GivesItem found_of)
@@ -77,11 +77,12 @@ module _ (nfa : Automaton) (kind : MatchKind) (x : Search) where
     found = given steps (AreFirst nfa kind x) (AreAll nfa kind x) s
         (λ xs t ran. record {
           come = gives-first_matches span_of asks (λ q. GivesItem found_of) found_of tells (Fails span_of tells) x Good
-              acts says (inner s) walk going good xs (inner t) (yields-inner steps core inner is xs s t ran);
+              acts says (inner s) iter_state going good xs (inner t) (yields-inner steps core inner is xs s t ran);
         })
         (λ xs t u ran st. record {
           come = gives-all_matches span_of asks (λ q. GivesItem found_of) found_of tells (Fails span_of tells) x Good
-              acts says (inner s) walk going good xs (inner t) (inner u) (yields-inner steps core inner is xs s t ran)
+              acts says (inner s) iter_state going good xs (inner t) (inner u)
+              (yields-inner steps core inner is xs s t ran)
               (is t None u st);
         })
 
@@ -91,8 +92,8 @@ module _ (nfa : Automaton) (kind : MatchKind) (x : Search) where
       runs = found.run;
       first = found.first;
       next = found.next;
-      apart = λ p seen from.
-          let k = matches-apart nfa kind x.earliest x (map found_of p.items) (found.run p seen from).0 in
+      disjoint = λ p seen from.
+          let k = matches-disjoint nfa kind x.earliest x (map found_of p.items) (found.run p seen from).0 in
           (k, all-inside x None p.items k);
       are = λ p seen from all them.
           let k = found.run p seen from in

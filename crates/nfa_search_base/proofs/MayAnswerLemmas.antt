@@ -22,7 +22,7 @@ use Rattle.nfa_search_base.specs.IterStates.{Answer, IterState, answer_span, Ans
 use Rattle.nfa_search_base.specs.declared.error.SearchError.{SearchError}
 use Rattle.nfa_search_base.specs.declared.iter.steps.Steps.{Steps}
 use Rattle.nfa_search_base.proofs.IterStateLemmas.{IsOrdered}
-use Rattle.nfa_search_base.proofs.MayReplyLemmas.{may-first, may-all, may-apart, step-told, last-told}
+use Rattle.nfa_search_base.proofs.MayReplyLemmas.{may-first, may-all, may-disjoint, step-told, last-told}
 pub use Rattle.nfa_search_base.proofs.MayReplyLemmas.{collected_all}
 use Rattle.nfa_search_base.proofs.RunLemmas.{Given, Says, given, item-says, yields-oked}
 use Rattle.nfa_paths.proofs.OptionLemmas.{same_some}
@@ -79,21 +79,21 @@ module _ {A X F : Type 0} (view : A → X) (span : X → Span)
     view-ordered (Ok None) a is = rw is (λ p same. let never : None ≡ Some p = same in cc)
     view-ordered (Err e) a is = rw is (λ p same. let never : None ≡ Some p = same in cc)
 
-    pub found-apart : (s : Steps F) → s.done ≡ false
+    pub found-disjoint : (s : Steps F) → s.done ≡ false
         → AnswersAlong view g (AnswerIsInside span) s.backend (steps_iter_state s).at
         → StoredMatchesDisjoint view span g (steps_iter_state s) s
-    found-apart s going serves = λ p seen from.
-        may-apart (IsCallableOn g) (Finds view g) span (λ _. GivesItem view) view (Fails span) says
+    found-disjoint s going serves = λ p seen from.
+        may-disjoint (IsCallableOn g) (Finds view g) span (λ _. GivesItem view) view (Fails span) says
         (AnswerIsInside span) (λ t a k. k) (λ q t a q' k. view-ordered k.reply a k.shows) s serves
         (map (item_by view) p.items) ((found s going).run p seen from).0.come
 
-    pub sure-apart : (s : Steps F) → s.done ≡ false
+    pub sure-disjoint : (s : Steps F) → s.done ≡ false
         → AnswersAlong view g (IsInfalliblyInside span) s.backend (steps_iter_state s).at
         → InfallibleMatchesDisjoint view span g (steps_iter_state s) s
-    sure-apart s going serves = λ p seen from.
+    sure-disjoint s going serves = λ p seen from.
         subst (λ (l : List Span). AreSpansDisjoint (steps_iter_state s).at (steps_iter_state s).last l)
         (sure-spans p.items)
-        (may-apart (IsCallableOn g) (Finds view g) span (λ _. GivesItem view) view (Fails span) says
+        (may-disjoint (IsCallableOn g) (Finds view g) span (λ _. GivesItem view) view (Fails span) says
         (IsInfalliblyInside span) (λ t a k. k.0) (λ q t a q' k. view-ordered k.reply a k.shows) s serves
         (map (item_by view) (map (λ m. Ok m) p.items)) ((sure s going).run p seen from).0.come)
 

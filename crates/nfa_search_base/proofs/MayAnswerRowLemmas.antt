@@ -29,7 +29,7 @@ use Rattle.nfa_search_base.specs.declared.error.SearchError.{SearchError}
 use Rattle.nfa_search_base.specs.declared.iter.steps.Steps.{Steps}
 use Rattle.nfa_search_base.proofs.CapturesRunLemmas.{copy-says}
 use Rattle.nfa_search_base.proofs.IterStateLemmas.{IsOrdered}
-use Rattle.nfa_search_base.proofs.MayReplyLemmas.{may-first, may-all, may-apart, step-told, last-told, collected_all}
+use Rattle.nfa_search_base.proofs.MayReplyLemmas.{may-first, may-all, may-disjoint, step-told, last-told, collected_all}
 use Rattle.nfa_search_base.proofs.RunLemmas.{Given, Says, given}
 use Rattle.nfa_paths.proofs.OptionLemmas.{same_some}
 
@@ -101,17 +101,17 @@ module _ {F : Type 0} (g : Mut F (Bor Input × (MutBor Captured × Unit {0}))
         (λ xs t u ran st. caught.all xs t u (sure_caught xs s t ran) st.0)
 
     -- Their matches are in the spans of the finder's searches.
-    pub caught-apart : FillsAlong g (AnswerIsInside row_span) s.backend (steps_iter_state s).at
+    pub caught-disjoint : FillsAlong g (AnswerIsInside row_span) s.backend (steps_iter_state s).at
         → StoredCapturesDisjoint g (steps_iter_state s) s
-    caught-apart serves = λ p seen from.
-        may-apart (CanFill g) (Fills g) row_span GivesCaptures row_of (FailsOrIsRefused row_span) says
+    caught-disjoint serves = λ p seen from.
+        may-disjoint (CanFill g) (Fills g) row_span GivesCaptures row_of (FailsOrIsRefused row_span) says
         (AnswerIsInside row_span) (λ t a k. k) (λ q t a q' k. row-ordered q'.captures k.reply a k.answers) s serves
         (map (item_by row_of) p.items) (caught.run p seen from).0.come
 
     pub sure-caught_apart : FillsAlong g (IsInfalliblyInside row_span) s.backend (steps_iter_state s).at
         → InfallibleCapturesDisjoint g (steps_iter_state s) s
     sure-caught_apart serves = λ p seen from.
-        may-apart (CanFill g) (Fills g) row_span GivesCaptures row_of (FailsOrIsRefused row_span) says
+        may-disjoint (CanFill g) (Fills g) row_span GivesCaptures row_of (FailsOrIsRefused row_span) says
         (IsInfalliblyInside row_span) (λ t a k. k.0) (λ q t a q' k. row-ordered q'.captures k.reply a k.answers) s
         serves (map (item_by row_of) p.items) (sure-caught.run p seen from).0.come
 

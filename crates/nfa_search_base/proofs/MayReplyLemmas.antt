@@ -18,7 +18,7 @@ use Rattle.nfa_search_base.specs.declared.error.SearchError.{SearchError}
 use Rattle.nfa_search_base.specs.declared.iter.steps.Steps.{Steps}
 use Rattle.nfa_search_base.proofs.AskingLemmas.{same_start-self}
 use Rattle.nfa_search_base.proofs.IterStateLemmas.{IsOrdered}
-use Rattle.nfa_search_base.proofs.ListLemmas.{spans-apart, step-as}
+use Rattle.nfa_search_base.proofs.ListLemmas.{spans-disjoint, step-as}
 use Rattle.nfa_search_base.proofs.RunLemmas.{Says, first-from, all-from}
 
 -- `ends tells` says which error may end a list of answers that `tells` gives.
@@ -71,14 +71,14 @@ module _ {S X Y : Type 0} (accepts : S → Search → Type 0) (asks : S → Sear
       (steps_iter_state s) s refl going (same_start-self (steps_iter_state s).at) ([], refl) xs t u ran st
 
   -- Their matches do not overlap if those of the finder are in the spans of its searches.
-  pub may-apart : (P : Search → Answer X → Type 0)
+  pub may-disjoint : (P : Search → Answer X → Type 0)
       → ((t : Search) (a : Answer X) → P t a → AnswerIsInside span t a)
       → ((q : S) (t : Search) (a : Answer X) (q' : S) → asks q t a q' → IsOrdered (answer_span span a))
       → (s : Steps S) → ServesOnAlong accepts asks SameButStart P s.backend (steps_iter_state s).at
       → (items : List (Item X)) → ItemsNext span (May s) (ends (May s)) (steps_iter_state s) items
       → AreSpansDisjoint (steps_iter_state s).at (steps_iter_state s).last (map span (matches_in items))
-  may-apart P lies ordered s serves items come =
-      spans-apart span (May s)
+  may-disjoint P lies ordered s serves items come =
+      spans-disjoint span (May s)
       (λ t a k. (
         lies t a ((serves.at k.calls k.between t k.leads k.same).replies a k.left k.asked),
         ordered k.between t a k.left k.asked,

@@ -99,7 +99,7 @@ module _ {S X Y : Type 0} (span : X → Span) (asks : S → Search → Answer X 
 
   -- the iterator goes on at w
   record IsAt (w : IterState) (s : Steps S) : Type 0 where
-    walk : steps_iter_state s ≡ w
+    iter_state : steps_iter_state s ≡ w
     going : s.done ≡ false
     like : SameButStart x w.at
     good : Good s.backend
@@ -131,7 +131,7 @@ module _ {S X Y : Type 0} (span : X → Span) (asks : S → Search → Answer X 
 
   turn-at : (w : IterState) (s : Steps S) (r : Option (Result Y SearchError)) (t : Steps S) → IsAt w s → steps s r t
       → TakesStep span asks gives s.backend w r t.backend (steps_iter_state t) t.done
-  turn-at w s r t at st = rw (at.going, at.walk) at st
+  turn-at w s r t at st = rw (at.going, at.iter_state) at st
 
   -- a call leads to the state that its item says
   leads : (w : IterState) (s : Steps S) (r : Option (Result Y SearchError)) (t : Steps S) → IsAt w s → steps s r t
@@ -149,7 +149,7 @@ module _ {S X Y : Type 0} (span : X → Span) (asks : S → Search → Answer X 
       of (Some (Ok y)) a step good moved done is = (
         rw is at step,
         record {
-          walk = elim moved [ inl one ↦ rw is at one | inr two ↦ rw is at two ];
+          iter_state = elim moved [ inl one ↦ rw is at one | inr two ↦ rw is at two ];
           going = done;
           like = same_start-then x w.at (after w (Some (span (view y)))).at at.like
               (same_start-after w (Some (span (view y))));
@@ -188,11 +188,11 @@ module _ {S X Y : Type 0} (span : X → Span) (asks : S → Search → Answer X 
       (k.0, ap items (ended ran.0 t xs k.1 ran.2))
 
   -- of an iterator that goes on at w
-  module _ (w : IterState) (s : Steps S) (walk : steps_iter_state s ≡ w) (going : s.done ≡ false)
+  module _ (w : IterState) (s : Steps S) (iter_state : steps_iter_state s ≡ w) (going : s.done ≡ false)
       (like : SameButStart x w.at)
       (good : Good s.backend) where
     here : IsAt w s
-    here = record { walk = walk; going = going; like = like; good = good }
+    here = record { iter_state = iter_state; going = going; like = like; good = good }
 
     -- the items so far are first items
     pub first-from : GivesFirst steps (λ xs. ItemsNext span tells ends w (items xs)) s
@@ -204,27 +204,28 @@ module _ {S X Y : Type 0} (span : X → Span) (asks : S → Search → Answer X 
     all-from = λ xs t u ran st. and-last xs w s t u here ran st
 
   -- of an iterator that begins
-  module _ (s : Steps S) (walk : steps_iter_state s ≡ fresh x) (going : s.done ≡ false) (good : Good s.backend) where
-    pub gives-first : GivesFirst steps (λ xs. ItemsNext span tells ends (fresh x) (items xs)) s
-    gives-first = first-from (fresh x) s walk going (same_start-self x) good
+  module _ (s : Steps S) (iter_state : steps_iter_state s ≡ fresh x) (going : s.done ≡ false) (good : Good s.backend)
+    where
+      pub gives-first : GivesFirst steps (λ xs. ItemsNext span tells ends (fresh x) (items xs)) s
+      gives-first = first-from (fresh x) s iter_state going (same_start-self x) good
 
-    pub gives-all : (xs : List (Result Y SearchError)) (t u : Steps S) → Yields steps s xs t → steps t None u
-        → ItemsLast span tells ends (fresh x) (items xs)
-    gives-all = all-from (fresh x) s walk going (same_start-self x) good
+      pub gives-all : (xs : List (Result Y SearchError)) (t u : Steps S) → Yields steps s xs t → steps t None u
+          → ItemsLast span tells ends (fresh x) (items xs)
+      gives-all = all-from (fresh x) s iter_state going (same_start-self x) good
 
-    -- the same for an iterator that gives only matches
-    abbrev sure_steps : Steps S → Option Y → Steps S → Type 0
-    sure_steps = takes_infallible_steps span asks gives
+      -- the same for an iterator that gives only matches
+      abbrev sure_steps : Steps S → Option Y → Steps S → Type 0
+      sure_steps = takes_infallible_steps span asks gives
 
-    pub gives-first_matches : GivesFirst sure_steps
-        (λ xs. ItemsNext span tells ends (fresh x) (as_items (map view xs))) s
-    gives-first_matches = λ xs t ran.
-        rw (items-view view xs) at (gives-first (map (λ y. Ok y) xs) t (yields-oked steps xs s t ran))
+      pub gives-first_matches : GivesFirst sure_steps
+          (λ xs. ItemsNext span tells ends (fresh x) (as_items (map view xs))) s
+      gives-first_matches = λ xs t ran.
+          rw (items-view view xs) at (gives-first (map (λ y. Ok y) xs) t (yields-oked steps xs s t ran))
 
-    pub gives-all_matches : (xs : List Y) (t u : Steps S) → Yields sure_steps s xs t → sure_steps t None u
-        → ItemsLast span tells ends (fresh x) (as_items (map view xs))
-    gives-all_matches = λ xs t u ran st.
-        rw (items-view view xs) at (gives-all (map (λ y. Ok y) xs) t u (yields-oked steps xs s t ran) st)
+      pub gives-all_matches : (xs : List Y) (t u : Steps S) → Yields sure_steps s xs t → sure_steps t None u
+          → ItemsLast span tells ends (fresh x) (as_items (map view xs))
+      gives-all_matches = λ xs t u ran st.
+          rw (items-view view xs) at (gives-all (map (λ y. Ok y) xs) t u (yields-oked steps xs s t ran) st)
 
 -- What each call to the asker keeps, each call of the iterator keeps.
 module _ {S X Y : Type 0} (span : X → Span) (asks : S → Search → Answer X → S → Type 0)

@@ -21,7 +21,7 @@ chosen true h = inl (refl, h)
 chosen false h = inr (refl, h)
 
 -- after a match or none, the search is the same but for its start
-pub same_start-after : (w : IterState) (place : Option Span) → SameButStart w.at (after w place).at
+pub same_start-after : (w : IterState) (reply_span : Option Span) → SameButStart w.at (after w reply_span).at
 same_start-after w None = record { haystack = refl; end = refl; anchored = refl; earliest = refl }
 same_start-after w (Some p) = record { haystack = refl; end = refl; anchored = refl; earliest = refl }
 
@@ -30,7 +30,8 @@ pub same_start-shifted : (w : IterState) → SameButStart w.at (shifted w).at
 same_start-shifted w = record { haystack = refl; end = refl; anchored = refl; earliest = refl }
 
 -- and after a match one on
-pub same_start-after_shifted : (w : IterState) (place : Option Span) → SameButStart w.at (after (shifted w) place).at
+pub same_start-after_shifted : (w : IterState) (reply_span : Option Span)
+    → SameButStart w.at (after (shifted w) reply_span).at
 same_start-after_shifted w None = record { haystack = refl; end = refl; anchored = refl; earliest = refl }
 same_start-after_shifted w (Some p) = record { haystack = refl; end = refl; anchored = refl; earliest = refl }
 
@@ -87,8 +88,8 @@ module _ {S X : Type 0} {accepts : S → Search → Type 0} {asks : S → Search
   ]
 
 -- what is in a span that starts one byte further on is in this one
-lies-before : (w : IterState) (place : Option Span) → LiesIn (shifted w).at place → LiesIn w.at place
-lies-before w (Some p) inside = (omega (arith, inside.0), inside.1)
+lies-before : (w : IterState) (reply_span : Option Span) → LiesIn (shifted w).at reply_span → LiesIn w.at reply_span
+lies-before w (Some p) inside = omega (arith, inside.0), inside.1
 lies-before w None inside = tt
 
 -- The calls of a step of the iteration w, from the state s.
@@ -96,10 +97,10 @@ module _ {S X : Type 0} (accepts : S → Search → Type 0) (asks : S → Search
     (s : S) (w : IterState)
     (serves : ServesAdvance accepts asks span (AnswerIsInside span) s w) (behind : EndsBy w.last w.at.start) where
   -- a first answer that does not repeat the last match is the step's
-  pub step-once : (a : Answer X) (s' : S) (place : Option Span) (w' : IterState) → asks s w.at a s'
-      → place ≡ answer_span span a → IsOrdered place → repeats w place ≡ false → w' ≡ after w place
+  pub step-once : (a : Answer X) (s' : S) (reply_span : Option Span) (w' : IterState) → asks s w.at a s'
+      → reply_span ≡ answer_span span a → IsOrdered reply_span → repeats w reply_span ≡ false → w' ≡ after w reply_span
       → StepDone accepts asks span s w a s' w'
-  step-once a s' place w' asked is ordered new moved = rw (moved, is) (of (rw is at ordered) (rw is at new))
+  step-once a s' reply_span w' asked is ordered new moved = rw (moved, is) (of (rw is at ordered) (rw is at new))
     where
       of : IsOrdered (answer_span span a) → repeats w (answer_span span a) ≡ false
           → StepDone accepts asks span s w a s' (after w (answer_span span a))
@@ -116,11 +117,11 @@ module _ {S X : Type 0} (accepts : S → Search → Type 0) (asks : S → Search
 
   -- after one that repeats it, the second answer is
   pub step-twice : (b : Answer X) (between : S) (first : Option Span) (w1 : IterState) (a : Answer X) (s' : S)
-      (place : Option Span) (w' : IterState)
+      (reply_span : Option Span) (w' : IterState)
       → asks s w.at b between → first ≡ answer_span span b → repeats w first ≡ true → w1 ≡ shifted w
-      → asks between w1.at a s' → place ≡ answer_span span a → IsOrdered place → w' ≡ after w1 place
+      → asks between w1.at a s' → reply_span ≡ answer_span span a → IsOrdered reply_span → w' ≡ after w1 reply_span
       → StepDone accepts asks span s w a s' w'
-  step-twice b between first w1 a s' place w' asked was again one asked_again is ordered moved =
+  step-twice b between first w1 a s' reply_span w' asked was again one asked_again is ordered moved =
       rw (moved, one, is) (of (rw was at again) (rw one at asked_again) (rw is at ordered))
     where
       of : repeats w (answer_span span b) ≡ true → asks between (shifted w).at a s' → IsOrdered (answer_span span a)

@@ -70,7 +70,8 @@ module _ {F : Type 0} (g : Mut F (Bor Input × (MutBor Captured × Unit {0}))
 
   -- a step of a state that goes on
   turn : (s t : Steps (WithCaptures F)) (r : Option Caught) → s.done ≡ false → steps s r t
-      → TakesStep row_span (Fills g) GivesCaptures s.backend (steps_iter_state s) r t.backend (steps_iter_state t) t.done
+      → TakesStep row_span (Fills g) GivesCaptures s.backend (steps_iter_state s) r t.backend (steps_iter_state t)
+      t.done
   turn s t r d st = rw d at st
 
   -- if the finder never fails, the only error of a step is `Memory`

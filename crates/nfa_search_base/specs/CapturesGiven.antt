@@ -29,4 +29,4 @@ pub record CapturesGiven {T : Type 0} (steps : T → Option (Result Captured Sea
   pub all_matches : MatchesInAll steps nfa kind earliest x s
   pub groups : CapturesGroups steps nfa s
   pub inside : CapturesWithin steps x s
-  pub apart : CapturesDisjoint steps x s
+  pub disjoint : CapturesDisjoint steps x s

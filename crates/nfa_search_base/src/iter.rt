@@ -21,9 +21,9 @@ mod captures_matches;
 mod found_iter;
 pub mod laws;
 pub mod match_items;
-mod place;
 mod searcher;
 mod searches;
+mod span;
 mod spanned;
 mod steps;
 

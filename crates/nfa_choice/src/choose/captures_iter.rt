@@ -79,7 +79,7 @@ impl Choice {
         ensures same_reference { IfOk result (λ made. (choice_catches_choice made).ghost_name
             ≡ self.entry.ghost_name) }
         ensures same_choice { IfOk result (λ made. (choice_catches_choice made).now ≡ self.entry.now) }
-        ensures walk { IfOk result (λ made. choice_catches_walk made ≡ fresh (search_of input.entry)) }
+        ensures iter_state { IfOk result (λ made. choice_catches_walk made ≡ fresh (search_of input.entry)) }
         ensures going { IfOk result (λ made. choice_catches_done made ≡ false) }
         // Each run of calls gives the first captures of the input, and all of them if it goes on to `None`.
         ensures runs { IfOk result (CapturesRun choice_catches_next (AnswersRow self.entry.now.nfa
@@ -108,7 +108,7 @@ impl Choice {
             (kind_in self.entry.now) (search_of input.entry).earliest (search_of input.entry)) }
         ensures groups { IfOk result (CapturesGroups choice_catches_next self.entry.now.nfa) }
         ensures inside { IfOk result (CapturesWithin choice_catches_next (search_of input.entry)) }
-        ensures apart { IfOk result (CapturesDisjoint choice_catches_next (search_of input.entry)) }
+        ensures disjoint { IfOk result (CapturesDisjoint choice_catches_next (search_of input.entry)) }
         // The choice changes only by the searches of the steps.
         ensures searches { IfOk result (ChoiceCatchesBySearches (search_of input.entry)) }
         ensures keeps { IfOk result ChoiceCatchesGiveKept }
@@ -138,7 +138,7 @@ impl Choice {
         requires { HasGroups self.old.nfa captures }
         ensures same_reference { (choice_catches_choice result).ghost_name ≡ self.entry.ghost_name }
         ensures same_choice { (choice_catches_choice result).now ≡ self.entry.now }
-        ensures walk { choice_catches_walk result ≡ fresh (search_of input.entry) }
+        ensures iter_state { choice_catches_walk result ≡ fresh (search_of input.entry) }
         ensures going { choice_catches_done result ≡ false }
         // Each run of calls gives the first captures of the input, and all of them if it goes on to `None`.
         ensures runs { CapturesRun choice_catches_next (AnswersRow self.entry.now.nfa (kind_in self.entry.now)
@@ -167,7 +167,7 @@ impl Choice {
             (search_of input.entry).earliest (search_of input.entry) result }
         ensures groups { CapturesGroups choice_catches_next self.entry.now.nfa result }
         ensures inside { CapturesWithin choice_catches_next (search_of input.entry) result }
-        ensures apart { CapturesDisjoint choice_catches_next (search_of input.entry) result }
+        ensures disjoint { CapturesDisjoint choice_catches_next (search_of input.entry) result }
         // The choice changes only by the searches of the steps.
         ensures searches { ChoiceCatchesBySearches (search_of input.entry) result }
         ensures keeps { ChoiceCatchesGiveKept result }
@@ -199,7 +199,7 @@ impl Choice {
             (search_of input.entry).earliest (search_of input.entry) (map match_in all.items)) }
         ensures groups { IfOk result (λ all. All (HasGroups self.old.nfa) all.items) }
         ensures inside { IfOk result (λ all. All (CapturesInside (search_of input.entry)) all.items) }
-        ensures apart { IfOk result (λ all. AreDisjoint (search_of input.entry) None (map match_in all.items)) }
+        ensures disjoint { IfOk result (λ all. AreDisjoint (search_of input.entry) None (map match_in all.items)) }
         ensures keeps { KeepsEngines self.old self.new }
         // The choice changes only by the searches of an iteration. If all captures are returned, these searches go to
         // its end.
@@ -232,7 +232,7 @@ impl<'c, 'h> ChoiceCaptures<'c, 'h> {
         requires { HasGroups choice.old.nfa captures }
         ensures same_reference { (choice_catches_choice result).ghost_name ≡ choice.entry.ghost_name }
         ensures same_choice { (choice_catches_choice result).now ≡ choice.entry.now }
-        ensures walk { choice_catches_walk result ≡ fresh (search_of input.entry) }
+        ensures iter_state { choice_catches_walk result ≡ fresh (search_of input.entry) }
         ensures going { choice_catches_done result ≡ false }
         ensures given { CapturesGiven choice_catches_next choice.entry.now.nfa (kind_in choice.entry.now)
             (search_of input.entry).earliest (AnswersRow choice.entry.now.nfa (kind_in choice.entry.now)
@@ -281,7 +281,7 @@ impl FindWith for CapturesFinder {
     }
 
     #[inline]
-    fn place(&self, reply: Result<(), SearchError>) -> Option<Span> {
+    fn reply_span(&self, reply: Result<(), SearchError>) -> Option<Span> {
         captures_span(&self.captures, reply)
     }
 

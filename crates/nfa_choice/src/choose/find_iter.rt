@@ -48,14 +48,14 @@ impl Choice {
     pub fn find_iter<'c, 'h>(&'c mut self, input: Input<'h>) -> ChoiceMatches<'c, 'h>
         ensures same_reference { (choice_finds_cache result).ghost_name ≡ self.entry.ghost_name }
         ensures same_choice { (choice_finds_cache result).now ≡ self.entry.now }
-        ensures walk { choice_finds_walk result ≡ fresh (search_of input.entry) }
+        ensures iter_state { choice_finds_walk result ≡ fresh (search_of input.entry) }
         ensures going { choice_finds_done result ≡ false }
         // Each run of calls gives the first matches of the input, and all of them if it goes on to `None`.
         ensures runs { MatchesRun self.entry.now.nfa (kind_in self.entry.now)
             (search_of input.entry) choice_matches_next result }
         ensures are { MatchesAre self.entry.now.nfa (kind_in self.entry.now)
             (search_of input.entry) choice_matches_next result }
-        ensures apart { MatchesDisjoint self.entry.now.nfa (kind_in self.entry.now)
+        ensures disjoint { MatchesDisjoint self.entry.now.nfa (kind_in self.entry.now)
             (search_of input.entry) choice_matches_next result }
         ensures first { MatchesFirst self.entry.now.nfa (kind_in self.entry.now)
             (search_of input.entry) choice_matches_next result }
@@ -92,7 +92,7 @@ impl Choice {
             (search_of input.entry) [] → IsOk result }
         ensures all { IfOk result (λ found. AreMatches self.old.nfa (kind_in self.old) (search_of input.entry).earliest
             (search_of input.entry) (map found_of found.items)) }
-        ensures apart { IfOk result (λ found. AreDisjoint (search_of input.entry) None (map found_of found.items)) }
+        ensures disjoint { IfOk result (λ found. AreDisjoint (search_of input.entry) None (map found_of found.items)) }
         ensures inside { IfOk result (λ found. All (λ m. IsInside (search_of input.entry) (found_of m)) found.items) }
         ensures keeps { KeepsEngines self.old self.new }
         // The choice changes only by the searches of an iteration. If all matches are returned, these searches go to
@@ -141,7 +141,7 @@ impl FindWith for ByRule {
     }
 
     #[inline]
-    fn place(&self, reply: Option<Match>) -> Option<Span> {
+    fn reply_span(&self, reply: Option<Match>) -> Option<Span> {
         found_span(reply)
     }
 

@@ -3,8 +3,8 @@
 use crate::asking::{ask, ask_with};
 use crate::error::SearchError;
 use crate::iter::captures_items::{captures_item, captures_span};
-use crate::iter::place::answer_span;
 use crate::iter::searches::FindWith;
+use crate::iter::span::answer_span;
 use crate::iter::spanned::Spanned;
 use regex_search_core::{Captures, Input, Span};
 use std::marker::{Model, PhantomData};
@@ -56,7 +56,7 @@ where
         ask(finder, input)
     }
 
-    fn place(&self, reply: Result<Option<M>, SearchError>) -> Option<Span> {
+    fn reply_span(&self, reply: Result<Option<M>, SearchError>) -> Option<Span> {
         answer_span(reply)
     }
 
@@ -123,7 +123,7 @@ where
         ask_with(finder, input, &mut self.captures)
     }
 
-    fn place(&self, reply: Result<(), SearchError>) -> Option<Span> {
+    fn reply_span(&self, reply: Result<(), SearchError>) -> Option<Span> {
         captures_span(&self.captures, reply)
     }
 

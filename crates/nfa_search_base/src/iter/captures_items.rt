@@ -19,7 +19,7 @@ use regex_search_core::{Captures, Span};
 /// match, and after an error.
 #[inline]
 pub fn captures_span(captures: &Captures, reply: Result<(), SearchError>) -> Option<Span>
-    ensures place { result ≡ answer_span row_span (filled_answer captures.now reply) }
+    ensures span { result ≡ answer_span row_span (filled_answer captures.now reply) }
     ensures ordered { ForSome result (λ p. p.start ≤ p.end) }
 {
     match reply {

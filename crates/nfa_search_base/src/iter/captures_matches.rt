@@ -66,7 +66,7 @@ impl<'h> Searcher<'h> {
         requires { FillsAlong F.FnMut (AnswerIsInside row_span) (record { finder = finder; captures = captures })
             (iter_state_of self).at }
         ensures can { can_step (CanFill F.FnMut) (Fills F.FnMut) row_span result }
-        ensures walk { steps_iter_state result ≡ iter_state_of self.entry }
+        ensures iter_state { steps_iter_state result ≡ iter_state_of self.entry }
         ensures finder { result.backend ≡ record { finder = finder; captures = captures } }
         ensures going { result.done ≡ false }
         // The items of each run of calls are the first captures, and all of them if the run reaches `None`.
@@ -81,7 +81,7 @@ impl<'h> Searcher<'h> {
         ensures all { StoredCapturesAll F.FnMut (record { finder = finder; captures = captures })
             (iter_state_of self.entry) result }
         // Their matches are in the span, in order and without overlap.
-        ensures apart { StoredCapturesDisjoint F.FnMut (iter_state_of self.entry) result }
+        ensures disjoint { StoredCapturesDisjoint F.FnMut (iter_state_of self.entry) result }
         // If the finder computes h, the items hold the rows of the greedy list of h, up to a failed allocation.
         ensures list { (h : Search → Answer Row) → FillsBy F.FnMut h (record { finder = finder; captures = captures })
             (iter_state_of self.entry).at → YieldsUpToRefusal (takes_steps row_span (Fills F.FnMut) GivesCaptures)
@@ -136,7 +136,7 @@ impl<'h, F> TryCapturesIter<'h, F> {
         ensures all { self.entry.done ≡ false
             → InfallibleCapturesAll F.FnMut self.entry.backend (steps_iter_state self.entry) result }
         // Their matches are in the span, in order and without overlap.
-        ensures apart { self.entry.done ≡ false → InfallibleCapturesDisjoint F.FnMut
+        ensures disjoint { self.entry.done ≡ false → InfallibleCapturesDisjoint F.FnMut
             (steps_iter_state self.entry) result }
         // If the finder computes h, the items hold the rows of the greedy list of h, up to a failed allocation.
         ensures list { (h : Search → Answer Row) → FillsBy F.FnMut h self.entry.backend (steps_iter_state self.entry).at

@@ -76,7 +76,7 @@ impl<'h> Searcher<'h> {
         F: FnMut(&Input<'_>) -> Result<Option<Match>, SearchError>,
         requires { AnswersAlong found_of F.FnMut (AnswerIsInside span_of) finder (iter_state_of self).at }
         ensures can { can_step (IsCallableOn F.FnMut) (Finds found_of F.FnMut) span_of result }
-        ensures walk { steps_iter_state result ≡ iter_state_of self.entry }
+        ensures iter_state { steps_iter_state result ≡ iter_state_of self.entry }
         ensures finder { result.backend ≡ finder }
         ensures going { result.done ≡ false }
         // The items of each run of calls are the first items, and all of them if the run reaches `None`.
@@ -85,7 +85,7 @@ impl<'h> Searcher<'h> {
         ensures next { StoredMatchesNext found_of span_of F.FnMut finder (iter_state_of self.entry) result }
         ensures all { StoredMatchesAll found_of span_of F.FnMut finder (iter_state_of self.entry) result }
         // They are in the span, in order and without overlap.
-        ensures apart { StoredMatchesDisjoint found_of span_of F.FnMut (iter_state_of self.entry) result }
+        ensures disjoint { StoredMatchesDisjoint found_of span_of F.FnMut (iter_state_of self.entry) result }
         // If the finder computes h, the items are the greedy list of h.
         ensures list { (h : Search → Answer Found) → Computes found_of F.FnMut h finder (iter_state_of self.entry).at
             → YieldsList (takes_steps span_of (Finds found_of F.FnMut) (λ _. GivesItem found_of)) (item_by found_of)
@@ -114,7 +114,7 @@ impl<'h> Searcher<'h> {
         F: FnMut(&Input<'_>) -> Result<Option<HalfMatch>, SearchError>,
         requires { AnswersAlong half_found_of F.FnMut (AnswerIsInside half_span_of) finder (iter_state_of self).at }
         ensures can { can_step (IsCallableOn F.FnMut) (Finds half_found_of F.FnMut) half_span_of result }
-        ensures walk { steps_iter_state result ≡ iter_state_of self.entry }
+        ensures iter_state { steps_iter_state result ≡ iter_state_of self.entry }
         ensures finder { result.backend ≡ finder }
         ensures going { result.done ≡ false }
         // The items of each run of calls are the first items, and all of them if the run reaches `None`.
@@ -123,7 +123,7 @@ impl<'h> Searcher<'h> {
         ensures next { StoredMatchesNext half_found_of half_span_of F.FnMut finder (iter_state_of self.entry) result }
         ensures all { StoredMatchesAll half_found_of half_span_of F.FnMut finder (iter_state_of self.entry) result }
         // They are in the span, in order and without overlap.
-        ensures apart { StoredMatchesDisjoint half_found_of half_span_of F.FnMut (iter_state_of self.entry) result }
+        ensures disjoint { StoredMatchesDisjoint half_found_of half_span_of F.FnMut (iter_state_of self.entry) result }
         // If the finder computes h, the items are the greedy list of h.
         ensures list { (h : Search → Answer HalfFound)
             → Computes half_found_of F.FnMut h finder (iter_state_of self.entry).at
@@ -188,7 +188,7 @@ impl<'h, M, F> TryFoundIter<'h, M, F> {
         ensures all { self.entry.done ≡ false
             → InfallibleMatchesAll M.value M.span F.FnMut self.entry.backend (steps_iter_state self.entry) result }
         // They are in the span, in order and without overlap.
-        ensures apart { self.entry.done ≡ false
+        ensures disjoint { self.entry.done ≡ false
             → InfallibleMatchesDisjoint M.value M.span F.FnMut (steps_iter_state self.entry) result }
         // If the finder computes h, the matches are those of the greedy list of h.
         ensures list { (h : Search → Answer M.Value)

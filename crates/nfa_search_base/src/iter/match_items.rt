@@ -13,7 +13,7 @@ use regex_search_core::{Match, Span};
 /// Returns the span of the match.
 #[inline]
 pub fn found_span(found: Option<Match>) -> Option<Span>
-    ensures place { result ≡ match_span (Ok found) }
+    ensures span { result ≡ match_span (Ok found) }
     ensures ordered { ForSome result (λ p. p.start ≤ p.end) }
 {
     match found {

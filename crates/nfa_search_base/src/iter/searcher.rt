@@ -3,8 +3,8 @@ ghost use Rattle.nfa_search_base.specs.LastEnd.{EndsBy};
 
 use crate::error::SearchError;
 use crate::iter::by_ref::ByRef;
-use crate::iter::place::answer_span;
 use crate::iter::searches::FindWith;
+use crate::iter::span::answer_span;
 use regex_search_core::{HalfMatch, Input, Match, Span};
 use std::alloc::AllocError;
 
@@ -109,11 +109,11 @@ impl<'h> Searcher<'h> {
         ensures fewer { LeavesFewer (iter_state_of self.old) (offered_span result) (iter_state_of self.new) }
         ensures same { SameButStart (iter_state_of self.old).at (iter_state_of self.new).at }
     {
-        let place = answer_span(Ok(answer));
-        if self.moves_on(place) {
+        let reply_span = answer_span(Ok(answer));
+        if self.moves_on(reply_span) {
             return Offered::Again;
         }
-        self.take(place);
+        self.take(reply_span);
         Offered::Done(answer)
     }
 
@@ -346,27 +346,27 @@ impl<'h> Searcher<'h> {
             (iter_state_of self.new) }
     {
         let once = backend.answer(cache, &self.input);
-        let place = backend.place(once);
-        if !self.moves_on(place) {
-            self.take(place);
+        let reply_span = backend.reply_span(once);
+        if !self.moves_on(reply_span) {
+            self.take(reply_span);
             return once;
         }
         let twice = backend.answer(cache, &self.input);
-        let place = backend.place(twice);
-        self.take(place);
+        let reply_span = backend.reply_span(twice);
+        self.take(reply_span);
         twice
     }
 
     // Returns whether the match is an empty one at the last end, and if so moves the start one byte on.
     #[inline]
-    fn moves_on(&mut self, place: Option<Span>) -> bool
-        requires { LiesIn (iter_state_of self.old).at place }
-        ensures test { result ≡ repeats (iter_state_of self.old) place }
+    fn moves_on(&mut self, reply_span: Option<Span>) -> bool
+        requires { LiesIn (iter_state_of self.old).at reply_span }
+        ensures test { result ≡ repeats (iter_state_of self.old) reply_span }
         ensures moved { IsTrue result → (iter_state_of self.new ≡ shifted (iter_state_of self.old))
             × IsPast (iter_state_of self.new) }
         ensures stays { result ≡ false → iter_state_of self.new ≡ iter_state_of self.old }
     {
-        let again = match place {
+        let again = match reply_span {
             Some(span) => span.start == span.end && self.last_match_end == Some(span.end),
             None => false,
         };
@@ -379,12 +379,12 @@ impl<'h> Searcher<'h> {
 
     // Takes an answer as it is.
     #[inline]
-    fn take(&mut self, place: Option<Span>)
-        requires inside { LiesIn (iter_state_of self.old).at place }
-        requires ordered { ForSome place (λ p. p.start ≤ p.end) }
-        ensures { iter_state_of self.new ≡ after (iter_state_of self.old) place }
+    fn take(&mut self, reply_span: Option<Span>)
+        requires inside { LiesIn (iter_state_of self.old).at reply_span }
+        requires ordered { ForSome reply_span (λ p. p.start ≤ p.end) }
+        ensures { iter_state_of self.new ≡ after (iter_state_of self.old) reply_span }
     {
-        if let Some(span) = place {
+        if let Some(span) = reply_span {
             self.input.set_start(span.end);
             self.last_match_end = Some(span.end);
         }

@@ -47,8 +47,8 @@ pub trait FindWith: Drop {
             (record { backend = self.new; cache = cache.new }) };
 
     /// Returns the span of the answer's match.
-    fn place(&self, reply: Self::Reply) -> Option<Span>
-        ensures place { result ≡ answer_span span (shows self.now reply) }
+    fn reply_span(&self, reply: Self::Reply) -> Option<Span>
+        ensures span { result ≡ answer_span span (shows self.now reply) }
         ensures ordered { ForSome result (λ p. p.start ≤ p.end) };
 
     /// Returns the item of the answer.

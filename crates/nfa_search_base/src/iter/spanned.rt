@@ -20,7 +20,7 @@ pub trait Spanned: Copy {
     const TRY_ITER: &'static str;
 
     // The span in the haystack.
-    fn place(&self) -> Span
+    fn to_span(&self) -> Span
         ensures { result ≡ span (value self.now) };
 
     ghost ordered: { (x : Self) → (span (value x)).start ≤ (span (value x)).end };
@@ -42,7 +42,7 @@ impl Spanned for Match {
 
     const TRY_ITER: &'static str = "TryMatchesIter";
 
-    fn place(&self) -> Span {
+    fn to_span(&self) -> Span {
         self.span()
     }
 }
@@ -65,7 +65,7 @@ impl Spanned for HalfMatch {
 
     const TRY_ITER: &'static str = "TryHalfMatchesIter";
 
-    fn place(&self) -> Span {
+    fn to_span(&self) -> Span {
         Span {
             start: self.offset(),
             end: self.offset(),

@@ -32,7 +32,7 @@ impl<'h, A: FindWith> Steps<'h, A> {
     /// Makes an iteration over this input that has not begun.
     #[inline]
     pub fn new(input: Input<'h>, backend: A) -> Steps<'h, A>
-        ensures walk { steps_iter_state result ≡ fresh (search_of input.entry) }
+        ensures iter_state { steps_iter_state result ≡ fresh (search_of input.entry) }
         ensures backend { result.backend ≡ backend }
         ensures going { result.done ≡ false }
     {

@@ -28,7 +28,8 @@ visit_state-requires-clause-room c =
     }
 
 pub loop-on-smaller-in-On : goal.loop-on-smaller-in-On
-loop-on-smaller-in-On c = Paid-falls c.in-On.ensures.enters.gives.paid (omega (arith, c.in-On.ensures.turns)) (omega arith)
+loop-on-smaller-in-On c = Paid-falls c.in-On.ensures.enters.gives.paid (omega (arith, c.in-On.ensures.turns))
+    (omega arith)
 
 pub loop-on-preserved-in-On : goal.loop-on-preserved-in-On
 loop-on-preserved-in-On c =

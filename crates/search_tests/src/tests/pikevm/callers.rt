@@ -164,7 +164,7 @@ pub(super) fn collected_inside(
     ensures all { IfOk result
         (λ v. AreMatches vm.now.nfa (kind_of vm.now) false (whole text.now) (map found_of v.items)) }
     ensures inside { IfOk result (λ v. All (λ m. IsInside (whole text.now) (found_of m)) v.items) }
-    ensures apart { IfOk result (λ v. AreDisjoint (whole text.now) None (map found_of v.items)) }
+    ensures disjoint { IfOk result (λ v. AreDisjoint (whole text.now) None (map found_of v.items)) }
 {
     vm.find_iter(cache, Input::new(text)).collect(alloc)
 }
@@ -234,7 +234,7 @@ pub(super) fn looped_inside(
 ) -> Result<Vec<Match>, AllocError>
     requires { Fits cache.old vm.now.nfa }
     ensures inside { IfOk result (λ v. All (λ m. IsInside (whole text.now) (found_of m)) v.items) }
-    ensures apart { IfOk result (λ v. AreDisjoint (whole text.now) None (map found_of v.items)) }
+    ensures disjoint { IfOk result (λ v. AreDisjoint (whole text.now) None (map found_of v.items)) }
 {
     let mut found = Vec::new(alloc);
     for item in vm.find_iter(cache, Input::new(text)) {

@@ -7,5 +7,5 @@ use Rattle.lower_tests.proofs.tests.finders.surely_collected.Goals as goal
 pub returns : goal.returns
 returns c = collected_infallibly_as (IsInfalliblyInside span_of) _ c.collect.result c.collect.ensures.ran
     (c.infallible-items.ensures.all c.into_matches_iter.ensures.going)
-    (c.into_matches_iter.ensures.walk ∙ c.new-searcher.ensures ∙ ap fresh c.new-input.ensures)
+    (c.into_matches_iter.ensures.iter_state ∙ c.new-searcher.ensures ∙ ap fresh c.new-input.ensures)
     (λ t a f' found. search rules)

@@ -55,7 +55,8 @@ returns-then-is_anchored-clause-turns c =
 pub returns-in_default-clause-answer : goal.returns-in_default-clause-answer
 returns-in_default-clause-answer c =
     settled-none c.args.self.now.nfa LeftmostFirst false (search_of c.args.input.now) (search_of c.loop-half.search) _ _
-    c.loop-half.invariant.restarts c.scan.new.slots _ 0 _ (rw c.in_default.is at c.in_ok-half.ensures.answer) c.scan.ensures.scans
+    c.loop-half.invariant.restarts c.scan.new.slots _ 0 _ (rw c.in_default.is at c.in_ok-half.ensures.answer)
+    c.scan.ensures.scans
 
 pub returns-then-may_end_at-clause-answer : goal.returns-then-may_end_at-clause-answer
 returns-then-may_end_at-clause-answer c =

@@ -38,20 +38,22 @@ returns c =
     let engine = ap (λ q. q.finder) c.new.ensures.backend in
     let fits : ¬ (IsTooLong e x) =
     λ long. let k : false ≡ true = c.if-is_too_long.ensures.1 long in cc in
-    let all = all-captures e x begun may engine c.new.ensures.walk c.new.ensures.going c.all_with.result (λ v. v.items)
+    let all = all-captures e x begun may engine c.new.ensures.iter_state c.new.ensures.going c.all_with.result
+    (λ v. v.items)
     left c.all_with.ensures.all in
     record {
       rows = all.0;
       matches = all.1;
       groups = all.2;
       inside = all.3;
-      apart = all.4;
-      by_length = stored_captures-by_length e x begun may engine c.new.ensures.walk c.new.ensures.going
+      disjoint = all.4;
+      by_length = stored_captures-by_length e x begun may engine c.new.ensures.iter_state c.new.ensures.going
           c.all_with.result left
           fits c.all_with.ensures.errors;
-      searches = stored_captures-on e x begun may engine c.new.ensures.walk c.new.ensures.going left
+      searches = stored_captures-on e x begun may engine c.new.ensures.iter_state c.new.ensures.going left
           c.all_with.ensures.calls;
-      to_end = stored_captures-to_end e x begun may engine c.new.ensures.walk c.new.ensures.going c.all_with.result
+      to_end = stored_captures-to_end e x begun may engine c.new.ensures.iter_state c.new.ensures.going
+          c.all_with.result
           (λ v. v.items) left c.all_with.ensures.all;
       early = λ long. absurd (fits long);
     }

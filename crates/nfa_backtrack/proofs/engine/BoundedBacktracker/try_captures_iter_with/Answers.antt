@@ -8,18 +8,18 @@ pub returns : goal.returns
 returns c =
     let e = c.args.self.now in
     let x = search_of c.args.input in
-    let walk = c.new.ensures in
-    let given = catches-given e x _ refl walk refl in
+    let iter_state = c.new.ensures in
+    let given = catches-given e x _ refl iter_state refl in
     record {
       same_reference = refl;
       same_cache = refl;
       engine = refl;
-      walk = walk;
+      iter_state = iter_state;
       going = refl;
       runs = given.runs;
       first = given.first;
       next = given.next;
-      refused = catches-refused e x _ refl walk refl;
+      refused = catches-refused e x _ refl iter_state refl;
       rows = given.rows;
       first_rows = given.first_rows;
       next_row = given.next_row;
@@ -30,6 +30,6 @@ returns c =
       all_matches = given.all_matches;
       groups = given.groups;
       inside = given.inside;
-      apart = given.apart;
-      searches = catches-searches e x _ refl walk refl;
+      disjoint = given.disjoint;
+      searches = catches-searches e x _ refl iter_state refl;
     }

@@ -4,7 +4,7 @@ use Rattle.regex_search_core.specs.Found.{found_of}
 use Rattle.regex_search_core.specs.Search.{search_of}
 use Rattle.regex_search_core.specs.declared.search.MatchKind.TheVariants.{LeftmostFirst}
 use Rattle.nfa_search_base.specs.Lists.{AreFirstMatches}
-use Rattle.nfa_search_base.proofs.ListLemmas.{matches-apart}
+use Rattle.nfa_search_base.proofs.ListLemmas.{matches-disjoint}
 use Rattle.nfa_search_base.proofs.MatchRunLemmas.{all-inside}
 use Rattle.nfa_backtrack.specs.Finding.{AnswersByLength}
 use Rattle.nfa_backtrack.specs.Runs.{GivesByLength}
@@ -16,7 +16,7 @@ returns-clause-inside c =
     let x = search_of c.args.input in
     let all = c.loop-item.found.items in
     let first : AreFirstMatches nfa LeftmostFirst false x (map found_of all) = search rules in
-    all-inside x None all (matches-apart nfa LeftmostFirst false x (map found_of all) first)
+    all-inside x None all (matches-disjoint nfa LeftmostFirst false x (map found_of all) first)
 
 pub returns-in_err-item-clause-by_length : goal.returns-in_err-item-clause-by_length
 returns-in_err-item-clause-by_length c =

@@ -29,16 +29,16 @@ returns c =
     rw c.new.ensures.backend (made-holds c.args.self.now.nfa captures.field-0 captures.ensures.made) in
     let given = c.all_with.ensures in
     let all = IfOk-weaker c.all_with.result _ (λ v. AreAllOf begun.backend.cache x v.items left.backend.cache)
-    (λ v h. drained x begun may c.new.ensures.walk c.new.ensures.going v.items left h) given.all in
+    (λ v h. drained x begun may c.new.ensures.iter_state c.new.ensures.going v.items left h) given.all in
     record {
       memory = IfErr-weaker c.all_with.result _ _
-          (λ error h. error-drained x begun may c.new.ensures.walk c.new.ensures.going error left h) given.errors;
+          (λ error h. error-drained x begun may c.new.ensures.iter_state c.new.ensures.going error left h) given.errors;
       rows = IfOk-weaker c.all_with.result _ _ (λ v h. h.rows) all;
       matches = IfOk-weaker c.all_with.result _ _ (λ v h. h.matches) all;
       groups = IfOk-weaker c.all_with.result _ _ (λ v h. h.groups) all;
       inside = IfOk-weaker c.all_with.result _ _ (λ v h. h.inside) all;
-      apart = IfOk-weaker c.all_with.result _ _ (λ v h. h.apart) all;
+      disjoint = IfOk-weaker c.all_with.result _ _ (λ v h. h.disjoint) all;
       keeps = stored_captures-engines begun left given.calls;
-      searches = stored_captures-on x begun c.new.ensures.walk c.new.ensures.going left given.calls;
+      searches = stored_captures-on x begun c.new.ensures.iter_state c.new.ensures.going left given.calls;
       to_end = IfOk-weaker c.all_with.result _ _ (λ v h. h.to_end) all;
     }

@@ -18,11 +18,11 @@ returns c =
     record {
       same_reference = refl;
       same_choice = refl;
-      walk = c.new.ensures;
+      iter_state = c.new.ensures;
       going = refl;
       runs = given.runs;
       are = given.are;
-      apart = given.apart;
+      disjoint = given.disjoint;
       first = given.first;
       next = given.next;
       searches = finds-searches x _ c.new.ensures refl;

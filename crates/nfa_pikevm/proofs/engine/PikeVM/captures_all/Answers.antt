@@ -34,19 +34,22 @@ returns c =
     }) in
     let engine = ap (λ q. q.finder) c.new.ensures.backend in
     let given = c.all_with.ensures in
-    let all = all-captures vm x begun may engine c.new.ensures.walk c.new.ensures.going c.all_with.result (λ v. v.items)
+    let all = all-captures vm x begun may engine c.new.ensures.iter_state c.new.ensures.going c.all_with.result
+    (λ v. v.items)
     left given.all in
     record {
       memory = IfErr-weaker c.all_with.result _ _
-          (λ error h. stored_captures-memory vm x begun may engine c.new.ensures.walk c.new.ensures.going error left h)
+          (λ error h. stored_captures-memory vm x begun may engine c.new.ensures.iter_state c.new.ensures.going error
+          left h)
           given.errors;
       rows = all.0;
       matches = all.1;
       groups = all.2;
       inside = all.3;
-      apart = all.4;
+      disjoint = all.4;
       capacities = stored_captures-capacities begun left given.calls;
-      searches = stored_captures-on vm x begun may engine c.new.ensures.walk c.new.ensures.going left given.calls;
-      to_end = stored_captures-to_end vm x begun may engine c.new.ensures.walk c.new.ensures.going c.all_with.result
+      searches = stored_captures-on vm x begun may engine c.new.ensures.iter_state c.new.ensures.going left given.calls;
+      to_end = stored_captures-to_end vm x begun may engine c.new.ensures.iter_state c.new.ensures.going
+          c.all_with.result
           (λ v. v.items) left given.all;
     }

@@ -8,15 +8,15 @@ pub returns : goal.returns
 returns c =
     let vm = c.args.self.now in
     let x = search_of c.args.input in
-    let walk = c.new.ensures in
-    let given = catches-given vm x _ refl walk refl in
+    let iter_state = c.new.ensures in
+    let given = catches-given vm x _ refl iter_state refl in
     record {
       same_reference = refl;
       same_cache = refl;
       engine = refl;
-      walk = walk;
+      iter_state = iter_state;
       going = refl;
-      errors = catches-memory vm x _ refl walk refl;
+      errors = catches-memory vm x _ refl iter_state refl;
       runs = given.runs;
       first = given.first;
       next = given.next;
@@ -30,7 +30,7 @@ returns c =
       all_rows = given.all_rows;
       groups = given.groups;
       inside = given.inside;
-      apart = given.apart;
-      searches = catches-searches vm x _ refl walk refl;
+      disjoint = given.disjoint;
+      searches = catches-searches vm x _ refl iter_state refl;
       keeps = catches-cache _;
     }

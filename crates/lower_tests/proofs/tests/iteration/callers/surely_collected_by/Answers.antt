@@ -12,14 +12,14 @@ pub infallible-requires : goal.infallible-requires
 infallible-requires g c =
     subst (λ (w : IterState). AnswersAlong found_of g.F.FnMut (IsInfalliblyInside span_of)
     c.into_matches_iter-items.result.backend
-    w.at) (sym c.into_matches_iter-items.ensures.walk)
+    w.at) (sym c.into_matches_iter-items.ensures.iter_state)
     (rw c.into_matches_iter-items.ensures.finder c.requires.surely)
 
 pub returns : goal.returns
 returns g c =
     subst (λ (w : IterState). IfOk c.collect.result (λ v. AreAllStoredMatches span_of
     (MayAnswer found_of span_of g.F.FnMut c.args.finder w.at) found_of w (map (λ m. Ok m) v.items)))
-    c.into_matches_iter-items.ensures.walk
+    c.into_matches_iter-items.ensures.iter_state
     (rw (sym c.into_matches_iter-items.ensures.finder)
     (collected_all (infallible_match_steps found_of span_of g.F.FnMut) _ c.infallible.result c.collect.result
     c.collect.ensures.ran (c.infallible.ensures.all c.into_matches_iter-items.ensures.going)))

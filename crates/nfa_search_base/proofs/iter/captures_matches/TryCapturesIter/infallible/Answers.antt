@@ -14,6 +14,6 @@ returns g c =
       first = λ going. (given going).first;
       next = λ going. (given going).next;
       all = λ going. (given going).all;
-      apart = λ going. sure-caught_apart g.F.FnMut c.args.self going c.requires;
+      disjoint = λ going. sure-caught_apart g.F.FnMut c.args.self going c.requires;
       list = λ h. catches-list g.F.FnMut h _ (λ s r t st. st.0) c.args.self;
     }

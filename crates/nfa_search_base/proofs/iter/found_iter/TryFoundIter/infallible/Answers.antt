@@ -3,7 +3,7 @@ use Rattle.std.proofs.Common.{refl}
 use Rattle.nfa_search_base.specs.Asking.{IsCallableOn}
 use Rattle.nfa_search_base.specs.Finders.{Finds}
 use Rattle.nfa_search_base.proofs.StoredLemmas.{sure-yields}
-use Rattle.nfa_search_base.proofs.MayAnswerLemmas.{sure, sure-apart}
+use Rattle.nfa_search_base.proofs.MayAnswerLemmas.{sure, sure-disjoint}
 use Rattle.nfa_search_base.proofs.iter.found_iter.TryFoundIter.infallible.Goals as goal
 
 pub returns : goal.returns
@@ -17,6 +17,6 @@ returns g c =
       first = λ going. (given going).first;
       next = λ going. (given going).next;
       all = λ going. (given going).all;
-      apart = λ going. sure-apart m.value m.span g.F.FnMut g.met.M.Spanned.ordered c.args.self going c.requires;
+      disjoint = λ going. sure-disjoint m.value m.span g.F.FnMut g.met.M.Spanned.ordered c.args.self going c.requires;
       list = λ h. sure-yields (IsCallableOn g.F.FnMut) (Finds m.value g.F.FnMut) m.span m.value h c.args.self;
     }

@@ -2,7 +2,7 @@
 use Rattle.std.proofs.Common.{refl}
 use Rattle.nfa_search_base.specs.Stored.{steps_from}
 use Rattle.nfa_search_base.proofs.WithCapturesLemmas.{catches-list}
-use Rattle.nfa_search_base.proofs.MayAnswerRowLemmas.{caught, caught-apart}
+use Rattle.nfa_search_base.proofs.MayAnswerRowLemmas.{caught, caught-disjoint}
 use Rattle.nfa_search_base.proofs.iter.searcher.Searcher.into_captures_iter.Goals as goal
 
 pub returns : goal.returns
@@ -11,13 +11,13 @@ returns g c =
     let given = caught g.F.FnMut s refl in
     rw c.new.ensures (record {
       can = c.requires;
-      walk = refl;
+      iter_state = refl;
       finder = refl;
       going = refl;
       runs = given.run;
       first = given.first;
       next = given.next;
       all = given.all;
-      apart = caught-apart g.F.FnMut s refl c.requires;
+      disjoint = caught-disjoint g.F.FnMut s refl c.requires;
       list = λ h. catches-list g.F.FnMut h _ (λ s r t st. st) s;
     })

@@ -7,14 +7,14 @@ use Rattle.nfa_search_base.specs.Finders.{Finds}
 use Rattle.nfa_search_base.specs.IterStates.{Answer, span_of}
 use Rattle.nfa_search_base.specs.Stored.{steps_from}
 use Rattle.nfa_search_base.proofs.GreedyLemmas.{try-yields}
-use Rattle.nfa_search_base.proofs.MayAnswerLemmas.{found, found-apart}
+use Rattle.nfa_search_base.proofs.MayAnswerLemmas.{found, found-disjoint}
 use Rattle.nfa_search_base.proofs.iter.searcher.Searcher.into_matches_iter.Goals as goal
 
 pub returns : goal.returns
 returns g c =
     let s = steps_from c.args.self c.args.finder in
     let given = found found_of span_of g.F.FnMut s refl in
-    let apart = found-apart found_of span_of g.F.FnMut (λ m. m.ordered) s refl c.requires in
+    let disjoint = found-disjoint found_of span_of g.F.FnMut (λ m. m.ordered) s refl c.requires in
     let list = λ (h : Search → Answer Found).
     try-yields (IsCallableOn g.F.FnMut) (Finds found_of g.F.FnMut) span_of found_of h s in
-    rw c.new.ensures (assumption (refl, c.requires, given, apart, list))
+    rw c.new.ensures (assumption (refl, c.requires, given, disjoint, list))

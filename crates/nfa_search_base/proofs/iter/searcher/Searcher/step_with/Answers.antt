@@ -10,18 +10,20 @@ returns-then-not-moves_on g c =
     let a = g.A.FindWith in
     let w = iter_state_of c.args.self.now in
     let once : c.moves_on.result ≡ false = search rules in
-    step-once a.accepts a.asks a.span _ w c.requires c.args.self.now.behind _ _ c.place-place.result
+    step-once a.accepts a.asks a.span _ w c.requires c.args.self.now.behind _ _ c.reply_span-reply_span.result
     (iter_state_of c.take.new.self)
-    c.answer-once.ensures c.place-place.ensures.place c.place-place.ensures.ordered (search rules)
-    (c.take.ensures ∙ ap (λ (v : IterState). after v c.place-place.result) (c.moves_on.ensures.stays once))
+    c.answer-once.ensures c.reply_span-reply_span.ensures.span c.reply_span-reply_span.ensures.ordered (search rules)
+    (c.take.ensures ∙ ap (λ (v : IterState). after v c.reply_span-reply_span.result) (c.moves_on.ensures.stays once))
 
 pub returns : goal.returns
 returns g c =
     let a = g.A.FindWith in
     let w = iter_state_of c.args.self.now in
     let again : c.moves_on.result ≡ true = search rules in
-    step-twice a.accepts a.asks a.span _ w c.requires c.args.self.now.behind _ _ c.place-place.result
+    step-twice a.accepts a.asks a.span _ w c.requires c.args.self.now.behind _ _ c.reply_span-reply_span.result
     (iter_state_of c.moves_on.new.self) _ _
-    c.place-place-2.result (iter_state_of c.take-2.new.self) c.answer-once.ensures c.place-place.ensures.place
+    c.reply_span-reply_span-2.result (iter_state_of c.take-2.new.self) c.answer-once.ensures
+    c.reply_span-reply_span.ensures.span
     (search rules) (search rules)
-    c.answer-twice.ensures c.place-place-2.ensures.place c.place-place-2.ensures.ordered c.take-2.ensures
+    c.answer-twice.ensures c.reply_span-reply_span-2.ensures.span c.reply_span-reply_span-2.ensures.ordered
+    c.take-2.ensures

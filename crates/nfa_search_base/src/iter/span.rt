@@ -10,11 +10,11 @@ use regex_search_core::Span;
 
 // The span of the answer's match or half match.
 pub(crate) fn answer_span<M: Spanned>(answer: Result<Option<M>, SearchError>) -> Option<Span>
-    ensures place { result ≡ answer_span M.span (answer_by M.value answer) }
+    ensures span { result ≡ answer_span M.span (answer_by M.value answer) }
     ensures ordered { ForSome result (λ p. p.start ≤ p.end) }
 {
     match answer {
-        Ok(Some(found)) => Some(found.place()),
+        Ok(Some(found)) => Some(found.to_span()),
         Ok(None) => None,
         Err(_) => None,
     }
