@@ -1,55 +1,26 @@
 -- The `earliest` flag of an input changes no path. Only the kind of the answer does. Also whether there is a match.
-use Rattle.std.proofs.Common.{◌≡◌, ℕ, inl, inr, Bool, true, false, List, [], ◌∷◌, refl, subst, rules, arith}
+use Rattle.std.proofs.Common.{◌≡◌, ℕ, inl, inr, Bool, true, false, List, refl, subst, rules, arith}
 use Rattle.std.specs.Prelude.{Option, None, Some, is_some, not}
 use Rattle.std.proofs.lemmas.Bool.{cases_Bool}
 use Rattle.regex_search_core.specs.Search.{Search}
 use Rattle.regex_search_core.specs.declared.search.MatchKind.{MatchKind}
-use Rattle.regex_search_core.specs.declared.search.MatchKind.TheVariants.{All, LeftmostFirst}
 use Rattle.thompson_nfa.specs.Automaton.{Automaton}
-use Rattle.nfa_paths.specs.Graphs.{Pair, IsFirstPath, IsEarliestPath, IsLastPath, IsEarliestLastPath}
-use Rattle.nfa_paths.specs.Paths.{raised, IsMatch, is_utf8_empty, edges, starts, IsScanAnswer, EndsOnBoundary, IsWhole, SplitsCharacter, IsKeptAnswer, IsRestartedAnswer, IsSearchAnswer, IsBoolAnswer}
+use Rattle.nfa_paths.specs.Graphs.{Pair}
+use Rattle.nfa_paths.specs.Paths.{raised, is_utf8_empty, edges_of, IsScanAnswer, SplitsCharacter, IsKeptAnswer, IsRestartedAnswer, IsSearchAnswer, IsBoolAnswer}
 use Rattle.nfa_paths.proofs.ExistenceLemmas.{is_match-agrees}
-use Rattle.nfa_paths.proofs.StartLemmas.{edges-alike}
 
 -- the search with this `earliest` flag
 abbrev pub asked : Search → Bool → Search
 asked x sooner = record x { earliest = sooner }
 
--- the edges are the same
-pub edges-asked : (nfa : Automaton) (x : Search) (sooner : Bool) → edges nfa (asked x sooner) ≡ edges nfa x
-edges-asked nfa x sooner = edges-alike nfa (asked x sooner) x refl refl
-
 module _ (nfa : Automaton) where
-  -- so is a scan's answer
+  -- A scan has the same answer, since edges unfold to those of the haystack and the end of the span.
   pub scan_answer-asked : (x : Search) (sooner : Bool) (kind : MatchKind) (earliest : Bool) (r : Option (List Pair))
       → IsScanAnswer nfa (asked x sooner) kind earliest r → IsScanAnswer nfa x kind earliest r
-  scan_answer-asked x sooner kind earliest r = of kind earliest
-    where
-      all : edges nfa (asked x sooner) ≡ edges nfa x
-      all = edges-asked nfa x sooner
-
-      of : (kind : MatchKind) (earliest : Bool) → IsScanAnswer nfa (asked x sooner) kind earliest r
-          → IsScanAnswer nfa x kind earliest r
-      of LeftmostFirst false = subst (λ es. IsFirstPath es (starts nfa x) (IsMatch nfa) r) all
-      of LeftmostFirst true = subst (λ es. IsEarliestPath es (starts nfa x) (IsMatch nfa) r) all
-      of All false = subst (λ es. IsLastPath es (starts nfa x) (IsMatch nfa) r) all
-      of All true = subst (λ es. IsEarliestLastPath es (starts nfa x) (IsMatch nfa) r) all
+  unfolding edges_of
+  scan_answer-asked x sooner kind earliest r h = h
 
   module _ (kind : MatchKind) (earliest : Bool) where
-    -- a path ends on a boundary of the same haystack
-    EndsOnBoundary-asked : (x : Search) (sooner : Bool) (p : List Pair) → EndsOnBoundary (asked x sooner) p
-        → EndsOnBoundary x p
-    EndsOnBoundary-asked x sooner [] h = h
-    EndsOnBoundary-asked x sooner (v ∷ []) h = h
-    EndsOnBoundary-asked x sooner (v ∷ (w ∷ p)) h = EndsOnBoundary-asked x sooner (w ∷ p) h
-
-    -- and the other way round
-    EndsOnBoundary-unasked : (x : Search) (sooner : Bool) (p : List Pair) → EndsOnBoundary x p
-        → EndsOnBoundary (asked x sooner) p
-    EndsOnBoundary-unasked x sooner [] h = h
-    EndsOnBoundary-unasked x sooner (v ∷ []) h = h
-    EndsOnBoundary-unasked x sooner (v ∷ (w ∷ p)) h = EndsOnBoundary-unasked x sooner (w ∷ p) h
-
     -- an answer that splits a codepoint
     SplitsCharacter-asked : (x : Search) (sooner : Bool) → SplitsCharacter nfa kind earliest (asked x sooner)
         → SplitsCharacter nfa kind earliest x
@@ -67,12 +38,8 @@ module _ (nfa : Automaton) where
     IsRestartedAnswer-asked x sooner n r h = record {
       skipped = λ i below. SplitsCharacter-asked (raised x i) sooner (h.skipped i below);
       answers = scan_answer-asked (raised x n) sooner kind earliest r h.answers;
-      whole = whole r h.whole;
+      whole = h.whole;
     }
-      where
-        whole : (r : Option (List Pair)) → IsWhole (asked x sooner) r → IsWhole x r
-        whole None w = w
-        whole (Some p) w = EndsOnBoundary-asked x sooner p w
 
     -- so is a search's answer, and its restarts
     pub search_answer-asked : (x : Search) (sooner : Bool) (n : ℕ) (r : Option (List Pair))

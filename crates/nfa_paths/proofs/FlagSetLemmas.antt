@@ -1,24 +1,21 @@
 -- Nor does what an overlapping search makes of a set read the flag `earliest` of its input.
-use Rattle.std.proofs.Common.{◌≡◌, ℕ, inl, inr, Bool, true, false, List, length, subst, arith, rules}
+use Rattle.std.proofs.Common.{ℕ, inl, inr, Bool, true, false, List, length, arith, rules}
 use Rattle.std.specs.Prelude.{Option, None, Some}
 use Rattle.regex_search_core.specs.Search.{Search}
 use Rattle.regex_search_core.specs.declared.search.MatchKind.{MatchKind}
 use Rattle.regex_search_core.specs.declared.search.MatchKind.TheVariants.{All, LeftmostFirst}
 use Rattle.thompson_nfa.specs.Automaton.{Automaton}
 use Rattle.nfa_paths.specs.Graphs.{Pair, WantedAt, NoPath, IsFirstTo, IsLeastEnd}
-use Rattle.nfa_paths.specs.Kinds.{IsReached, WantedBefore}
+use Rattle.nfa_paths.specs.Kinds.{WantedBefore}
 use Rattle.nfa_paths.specs.Overlaps.{IsPermitted, IsInsertable, IsPatternOf, IsSelectedByAll, IsSelectedPath, HoldsPath, Gains, IsFirstBefore}
-use Rattle.nfa_paths.specs.Overlaps.{IsOverlapResult, pattern_at}
-use Rattle.nfa_paths.specs.Paths.{edges, starts}
-use Rattle.nfa_paths.proofs.EarliestLemmas.{asked, edges-asked}
+use Rattle.nfa_paths.specs.Overlaps.{IsOverlapResult}
+use Rattle.nfa_paths.specs.Paths.{edges, edges_of, starts}
+use Rattle.nfa_paths.proofs.EarliestLemmas.{asked}
 use Rattle.nfa_paths.proofs.PathToLemmas.{IsFirstTo-along}
 use Rattle.nfa_paths.proofs.ReachedLemmas.{IsReached-along}
 
 module _ (nfa : Automaton) where
   module _ (x : Search) (flag : Bool) where
-    all : edges nfa (asked x flag) ≡ edges nfa x
-    all = edges-asked nfa x flag
-
     permitted-asked : (v : Pair) → IsPermitted nfa (asked x flag) v → IsPermitted nfa x v
     permitted-asked v h = record { matches = h.matches; ends = h.ends }
 
@@ -28,27 +25,25 @@ module _ (nfa : Automaton) where
     -- the same patterns are reached
     pattern-asked : (P Q : Pair → Type 0) → ((v : Pair) → P v → Q v) → (k : ℕ) → IsPatternOf nfa (asked x flag) P k
         → IsPatternOf nfa x Q k
-    pattern-asked P Q to k h =
-        IsReached-along to (subst (λ es. IsReached es (starts nfa x) P (pattern_at nfa) k) all h)
+    unfolding edges_of
+    pattern-asked P Q to k h = IsReached-along to h
 
     -- the same ends are the least
     least-asked : (P Q : Pair → Type 0) → ((v : Pair) → P v → Q v) → ((v : Pair) → Q v → P v) → (e : ℕ)
         → IsLeastEnd (edges nfa (asked x flag)) (starts nfa x) P e → IsLeastEnd (edges nfa x) (starts nfa x) Q e
-    least-asked P Q to back e h =
-        let k = subst (λ es. IsLeastEnd es (starts nfa x) P e) all h in
-        record {
-          is_end = grind arith;
-          least = λ m p w q. k.least m p w (back m q);
-        }
+    unfolding edges_of
+    least-asked P Q to back e h = record { is_end = grind arith; least = λ m p w q. h.least m p w (back m q) }
 
     -- the same paths come first
     first-asked : (P Q : Pair → Type 0) → ((v : Pair) → P v → Q v) → ((v : Pair) → Q v → P v) → (p : List Pair)
         → IsFirstTo (edges nfa (asked x flag)) (starts nfa x) P p → IsFirstTo (edges nfa x) (starts nfa x) Q p
-    first-asked P Q to back p h = grind (arith, IsFirstTo-along, all)
+    unfolding edges_of
+    first-asked P Q to back p h = IsFirstTo-along (edges nfa x) (starts nfa x) P Q to back h
 
     none-asked : (P Q : Pair → Type 0) → ((v : Pair) → Q v → P v) → NoPath (edges nfa (asked x flag)) (starts nfa x) P
         → NoPath (edges nfa x) (starts nfa x) Q
-    none-asked P Q back h = λ m p w q. subst (λ es. NoPath es (starts nfa x) P) all h m p w (back m q)
+    unfolding edges_of
+    none-asked P Q back h = λ m p w q. h m p w (back m q)
 
   module _ (x : Search) (flag : Bool) where
     held-unasked : (capacity : ℕ) (v : Pair) → IsInsertable nfa x capacity v
