@@ -45,7 +45,7 @@ node-wider n m slots more patterns all (Capture next slot) long wide many h =
     (omega (arith, h.0), omega (arith, h.1), tt)
 node-wider n m slots more patterns all Fail long wide many h = (tt, tt, tt)
 node-wider n m slots more patterns all (Match pattern) long wide many h = (tt, tt, omega (arith, h.2))
-node-wider n m slots more patterns all _ long wide many h = omega (arith, h.0), tt, tt
+node-wider n m slots more patterns all _ long wide many h = (omega (arith, h.0), tt, tt)
 
 -- more of them, after the old ones
 pub more-in-range : (old new : List Node) (slots more patterns all : ℕ) → Adds old new → slots ≤ more → patterns ≤ all

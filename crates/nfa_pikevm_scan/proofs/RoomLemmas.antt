@@ -88,7 +88,7 @@ AddsStart-passes {at = at} {to} width p inside before some = record {
   ahead = p.low;
   within = λ w. grind (arith, p.near, p.stays);
   stays = λ some. absurd (omega arith);
-  passed = λ k h l. grind (arith, p.near, p.stays), p.passed k h l;
+  passed = λ k h l. (grind (arith, p.near, p.stays), p.passed k h l);
   some = λ less. omega arith;
   passes = λ q. absurd (p.least q.0 q.1);
   last = inl (grind (arith, p.near, p.stays), refl);

@@ -346,13 +346,13 @@ module _ {nfa : Automaton} {s next slot : ℕ} {m n : Marks} (e : Entered nfa s 
 few-target : (node : Node) (slots : Slots) (byte : Option ℕ)
     → (length (kept_target (option_and_then (target_on node) byte) slots) ≤ 1)
     × (length (kept_target (option_and_then (target_on node) byte) slots) ≤ degree node)
-few-target node slots None = omega arith, omega arith
+few-target node slots None = (omega arith, omega arith)
 few-target node slots (Some b) = of (target_on node b) (λ t e. target-degree node b t e)
   where
     of : (target : Option ℕ) → ((t : ℕ) → target ≡ Some t → 1 ≤ degree node)
         → (length (kept_target target slots) ≤ 1) × (length (kept_target target slots) ≤ degree node)
-    of None some = omega arith, omega arith
-    of (Some t) some = omega arith, some t refl
+    of None some = (omega arith, omega arith)
+    of (Some t) some = (omega arith, some t refl)
 
 -- a resting state that is not a match
 no_match : {nfa : Automaton} {s : ℕ} {node : Node} {m n : Marks} → Entered nfa s node m n → (x : Search) (at : ℕ)

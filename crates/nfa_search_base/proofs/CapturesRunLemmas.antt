@@ -68,7 +68,7 @@ copy-of c a d h = cc
 wider : (x y : Search) → x.start ≤ y.start → y.end ≡ x.end → (slot : Option ℕ) → IsSlotInside y slot
     → IsSlotInside x slot
 wider x y from to None h = tt
-wider x y from to (Some k) h = omega (arith, h.0), omega (arith, h.1)
+wider x y from to (Some k) h = (omega (arith, h.0), omega (arith, h.1))
 
 -- what each item is while the iterator is `Good`, all items are
 module _ {T R : Type 0} (steps : T → Option R → T → Type 0) (Good : T → Type 0) (Holds : R → Type 0)

@@ -89,7 +89,7 @@ module _ {S X : Type 0} {accepts : S → Search → Type 0} {asks : S → Search
 
 -- what is in a span that starts one byte further on is in this one
 lies-before : (w : IterState) (reply_span : Option Span) → LiesIn (shifted w).at reply_span → LiesIn w.at reply_span
-lies-before w (Some p) inside = omega (arith, inside.0), inside.1
+lies-before w (Some p) inside = (omega (arith, inside.0), inside.1)
 lies-before w None inside = tt
 
 -- The calls of a step of the iteration w, from the state s.
