@@ -18,7 +18,7 @@ use Rattle.nfa_engines.specs.PatternLaws.{started_at, IsFirstPattern, IsOfPatter
 use Rattle.nfa_engines.specs.PatternLaws.{TriesPatternsInOrder}
 use Rattle.nfa_engines.proofs.AloneLemmas.{edges-alone, pattern-alone, row-alone}
 use Rattle.nfa_engines.proofs.FirstPatternLemmas.{comes, earlier, goes, head-of, not-earlier}
-use Rattle.nfa_engines.proofs.FirstPatternLemmas.{order-disjoint, order-back, order-same, top, top-edges}
+use Rattle.nfa_engines.proofs.FirstPatternLemmas.{order-apart, order-back, order-same, top, top-edges}
 use Rattle.nfa_engines.proofs.FirstPatternLemmas.{top-writes, GoesOn}
 use Rattle.nfa_paths.proofs.OptionLemmas.{same_some, option_or-None}
 use Rattle.nfa_paths.proofs.PathLemmas.{Earlier-irreflexive}
@@ -127,10 +127,10 @@ module _ (nfa : Automaton) (x : Search) (bound : x.anchored ≡ Yes) (h : IsUnio
               (subst (λ s. HeadIs (s, x.start) g.rest) (sym same) g.head)
               (f.first m g.rest
               (subst (λ s. PathTo (edges nfa x) (starts (started_at nfa s) x) m g.rest) (sym same) g.path) t)
-          | inr disjoint ↦
-              inr (order-disjoint nfa x bound h (state, x.start) (g.state, x.start) q g.rest head g.head
+          | inr apart ↦
+              inr (order-apart nfa x bound h (state, x.start) (g.state, x.start) q g.rest head g.head
               (subst (λ es. Earlier es (state, x.start) (g.state, x.start)) (sym (top-edges nfa x bound h))
-              (earlier x.start nfa.patterns k state g.state first.starts_at disjoint
+              (earlier x.start nfa.patterns k state g.state first.starts_at apart
               (λ j less at. (first.nothing j g.state less at).no_path m g.rest
               (path-alone nfa x g.state m g.rest g.path) (match-alone nfa x g.state m t)))))
         ]);

@@ -119,13 +119,13 @@ module _ (nfa : Automaton) (x : Search) (anywhere : is_utf8_empty nfa ≡ false)
   same-first j k f g =
       elim (cases_eq j k) [
         | inl same ↦ same
-        | inr disjoint ↦ elim (cases_lt j k) [
+        | inr apart ↦ elim (cases_lt j k) [
           | inl less ↦
               absurd (something-not_nothing (started_at nfa f.state) f.matches
               (g.first.nothing j f.state less f.first.starts_at))
           | inr more ↦
               absurd (something-not_nothing (started_at nfa g.state) g.matches
-              (f.first.nothing k g.state (omega (arith, disjoint)) g.first.starts_at))
+              (f.first.nothing k g.state (omega (arith, apart)) g.first.starts_at))
         ]
       ]
 

@@ -43,7 +43,7 @@ alternates_of _ = None
 -- the anchored start is a union of the patterns' starts, in their order, and no path from one of these leads to it
 pub record IsUnionOfPatterns (nfa : Automaton) (x : Search) : Type 0 where
   pub union : alternates_of (node_at nfa nfa.anchored) ≡ Some nfa.patterns
-  pub disjoint : (k state at : ℕ) (p : List Pair) → slice_get nfa.patterns k ≡ Some state
+  pub apart : (k state at : ℕ) (p : List Pair) → slice_get nfa.patterns k ≡ Some state
       → PathTo (edges nfa x) (starts (started_at nfa state) x) (nfa.anchored, at) p → ⊥
 
 -- the same, or the anchored start is that of the only pattern
