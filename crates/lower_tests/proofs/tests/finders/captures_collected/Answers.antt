@@ -8,4 +8,4 @@ use Rattle.lower_tests.proofs.tests.finders.captures_collected.Goals as goal
 pub returns : goal.returns
 returns c = captures_collected_as (IsInfalliblyInside row_span) _ c.collect.result c.collect.ensures.ran
     c.into_captures_iter-items.ensures.all
-    (c.new-searcher.ensures ∙ ap fresh c.new-input.ensures) (λ q t a q' matched_row. search rules)
+    (c.new-searcher.ensures ∙ ap fresh c.new.ensures) (λ q t a q' matched_row. search rules)

@@ -8,5 +8,5 @@ use Rattle.lower_tests.proofs.tests.finders.captures_surely_collected.Goals as g
 pub returns : goal.returns
 returns c = captures_collected_infallibly_as (IsInfalliblyInside row_span) _ c.collect.result c.collect.ensures.ran
     (c.infallible-items.ensures.all c.into_captures_iter.ensures.going)
-    (c.into_captures_iter.ensures.iter_state ∙ c.new-searcher.ensures ∙ ap fresh c.new-input.ensures)
+    (c.into_captures_iter.ensures.iter_state ∙ c.new-searcher.ensures ∙ ap fresh c.new.ensures)
     (λ q t a q' matched_row. search rules)
