@@ -319,7 +319,7 @@ fn searches_another_nfa(rt: HostRuntime) {
 
 // What a choice is shown as before any search, of the NFA that matches nothing.
 const NEVER: &str = "Choice { \
-back: BoundedBacktracker { config: Config { visited_capacity: None }, first: FirstBytes { .. }, \
+back: BoundedBacktracker { config: Config { visited_capacity: None }, mark_limit: 2097152, first: FirstBytes { .. }, \
 nfa: NFA { states: [Fail], anchored: StateID(0), unanchored: StateID(0), patterns: [], \
 groups: GroupInfo { names: [], slot_len: 0 }, has_empty: false, utf8: false } }, \
 pike: PikeVM { config: Config { match_kind: None }, first: FirstBytes { .. }, \

@@ -41,7 +41,7 @@ fn expect_matches_shown(
     let want = format!(in alloc;
         "TryFindMatches {{ cache: {UNUSED}, steps: Steps {{ searcher: {FRESH}, \
         backend: Finder {{ engine: BoundedBacktracker {{ config: Config {{ visited_capacity: None }}, \
-        first: FirstBytes {{ .. }}, nfa: {NEVER} }}, known: None }}, done: false }} }}"
+        mark_limit: 2097152, first: FirstBytes {{ .. }}, nfa: {NEVER} }}, known: None }}, done: false }} }}"
     );
     let want = want.expect(rt, "memory for a text");
     expect_shown(rt, alloc, &matches, &want);
