@@ -28,10 +28,10 @@ ends-in [] = refl
 ends-in (m ∷ ms) = ap (λ (l : List HalfFound). end_of m ∷ l) (ends-in ms)
 
 -- the end as an answer
-end-told : (half : Option HalfFound) (found : Option Found) → half ≡ option_map end_of found
+end-answered : (half : Option HalfFound) (found : Option Found) → half ≡ option_map end_of found
     → (let a : Answer HalfFound = Ok half in a ≡ end_answer (Ok found))
-end-told half None is = rw is refl
-end-told half (Some m) is = rw is refl
+end-answered half None is = rw is refl
+end-answered half (Some m) is = rw is refl
 
 behind-none : (n : ℕ) → EndsBy None n
 behind-none n = λ e is. let never : None ≡ Some e = is in cc
@@ -48,8 +48,8 @@ module _ (answered : EverySearchHasAnAnswer) (one : OneMatch) (one_half : OneHal
   abbrev half_at : Search → Option HalfFound
   half_at t = option_and_then (path_half nfa) (answered nfa t kind earliest).1
 
-  half_at-told : (t : Search) → tells t (Ok (half_at t))
-  half_at-told t =
+  half_at-answered : (t : Search) → tells t (Ok (half_at t))
+  half_at-answered t =
       let answer = answered nfa t kind earliest in
       record { restarts = answer.0; path = answer.1; answers = answer.2; found_is = refl }
 
@@ -58,8 +58,8 @@ module _ (answered : EverySearchHasAnAnswer) (one : OneMatch) (one_half : OneHal
       let path = (answered nfa t kind earliest).1 in
       match_of (option_and_then (path_pattern nfa) path) (slot_row nfa (slot_count nfa.groups) path)
 
-  match_at-told : (t : Search) → tells_match t (Ok (match_at t))
-  match_at-told t =
+  match_at-answered : (t : Search) → tells_match t (Ok (match_at t))
+  match_at-answered t =
       let answer = answered nfa t kind earliest in
       record { restarts = answer.0; path = answer.1; answers = answer.2; found_is = refl }
 
@@ -85,7 +85,7 @@ module _ (answered : EverySearchHasAnAnswer) (one : OneMatch) (one_half : OneHal
 
   module _ (valid : IsAutomaton nfa) (records : RecordsMatchSpans nfa) where
     half-end : (t : Search) (half : Option HalfFound) → tells t (Ok half) → half ≡ option_map end_of (match_at t)
-    half-end t half h = ends nfa kind earliest t half (match_at t) valid records h (match_at-told t)
+    half-end t half h = ends nfa kind earliest t half (match_at t) valid records h (match_at-answered t)
 
     -- so is the end of it
     end-in : (t : Search) (half : HalfFound) (found : Option Found) → IsFoundIn t (Ok found)
@@ -99,7 +99,7 @@ module _ (answered : EverySearchHasAnAnswer) (one : OneMatch) (one_half : OneHal
     half-lies : (t : Search) (a : Answer HalfFound) → tells t a
         → AnswerIsInside half_span_of t a × IsOrdered (answer_span half_span_of a)
     half-lies t (Ok (Some half)) h = (
-      end-in t half (match_at t) (found-in t (match_at t) (match_at-told t)) (half-end t (Some half) h),
+      end-in t half (match_at t) (found-in t (match_at t) (match_at-answered t)) (half-end t (Some half) h),
       λ p is.
           let some : Some (half_span_of half) ≡ Some p = is in
           let same : half_span_of half ≡ p = cc in
@@ -115,17 +115,18 @@ module _ (answered : EverySearchHasAnAnswer) (one : OneMatch) (one_half : OneHal
         let h : Search → Answer Found = λ t. Ok (match_at t) in
         let k : Search → Answer HalfFound = λ t. Ok (half_at t) in
         let finds : FindsEnds h k x = record {
-          inside = λ t like here. found-in t (match_at t) (match_at-told t);
+          inside = λ t like here. found-in t (match_at t) (match_at-answered t);
           ends =
               λ t like here.
-              end-told (half_at t) (match_at t) (half-end t (half_at t) (half_at-told t));
+              end-answered (half_at t) (match_at t) (half-end t (half_at t) (half_at-answered t));
         } in
         let half_items : as_items halves ≡ greedy half_span_of k (fresh x) =
         last-unique half_span_of tells half-one (fresh x) (as_items halves) (greedy half_span_of k (fresh x)) come.come
-        (items-greedy half_span_of tells half-lies k x (λ t like. half_at-told t)) in
+        (items-greedy half_span_of tells half-lies k x (λ t like. half_at-answered t)) in
         let match_items : greedy span_of h (fresh x) ≡ as_items ms =
         last-unique span_of tells_match match-one (fresh x) (greedy span_of h (fresh x)) (as_items ms)
-        (items-greedy span_of tells_match (match-lies nfa kind earliest) h x (λ t like. match_at-told t)) all.come in
+        (items-greedy span_of tells_match (match-lies nfa kind earliest) h x (λ t like. match_at-answered t))
+        all.come in
         let both = agree h k (fresh x) (record { behind = behind-none x.start; ordered = ordered }) finds in
         sym (matches_in-as_items halves)
         ∙ ap (λ (l : List (Item HalfFound)). matches_in l)

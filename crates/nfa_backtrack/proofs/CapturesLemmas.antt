@@ -24,7 +24,8 @@ use Rattle.nfa_search_base.specs.declared.iter.steps.Steps.{Steps}
 use Rattle.nfa_search_base.proofs.CapturesLemmas.{stored_captures-tells, row-lies}
 use Rattle.nfa_search_base.proofs.OkItemLemmas.{only-item}
 use Rattle.nfa_search_base.proofs.DrainedLemmas.{all-drained, error-drained}
-use Rattle.nfa_search_base.proofs.EngineLemmas.{catcher-given, catcher-goes, catcher-memory, catcher-serves}
+use Rattle.nfa_search_base.proofs.EngineLemmas.{captures_finder-given, captures_finder-goes}
+use Rattle.nfa_search_base.proofs.EngineLemmas.{captures_finder-memory, captures_finder-serves}
 use Rattle.nfa_search_base.proofs.LeavingLemmas.{all-to_end, calls-lead, catches-leave}
 use Rattle.nfa_backtrack.specs.Backtrack.{Backtracker, CountsAnswer, CountsRefusal, IsTooLong, BacktrackCache}
 use Rattle.nfa_backtrack.specs.CapturesMatches.{AsksBacktrackerRow, CatchesBySearches}
@@ -78,7 +79,7 @@ catch-lies e t (Err error) h = tt
 pub steps-serve : (s : Steps (WithCache (WithCaptures Backtracker) BacktrackCache)) → MayCatchByBacktracker s.backend
     → can_step (λ q x. MayCatchByBacktracker q) AsksBacktrackerRow row_span s
 steps-serve s may =
-    catcher-serves (λ e. e.nfa) fits_always IsTryCapturesAnswer (λ e x a. SearchesOnce e x a)
+    captures_finder-serves (λ e. e.nfa) fits_always IsTryCapturesAnswer (λ e x a. SearchesOnce e x a)
     (λ e x a old new work fits. tt)
     catch-lies s.backend (steps_iter_state s).at may
 
@@ -94,7 +95,7 @@ pub step-may : (s : TryCapturesMatches) (r : Option (Result Captured SearchError
     (steps_with_state (backtrack_captures s)) r t
     → MayCatchByBacktracker t.backend
 step-may s r t st =
-    catcher-goes (λ e. e.nfa) fits_always IsTryCapturesAnswer (λ e x a. SearchesOnce e x a)
+    captures_finder-goes (λ e. e.nfa) fits_always IsTryCapturesAnswer (λ e x a. SearchesOnce e x a)
     (λ e x a old new work fits. tt)
     (steps_with_state (backtrack_captures s)) r t st (record { fits = tt; holds = s.holds })
 
@@ -113,7 +114,7 @@ module _ (e : Backtracker) (x : Search) (s : TryCapturesMatches)
   -- the calls give the captures of the NFA
   pub catches-given : CapturesGiven backtrack_captures_next e.nfa LeftmostFirst false (IsTryCapturesAnswer e) x s
   catches-given =
-      catcher-given (λ e. e.nfa) fits_always IsTryCapturesAnswer (λ e x a. SearchesOnce e x a)
+      captures_finder-given (λ e. e.nfa) fits_always IsTryCapturesAnswer (λ e x a. SearchesOnce e x a)
       (λ e x a old new work fits. tt) backtrack_captures_next (λ q. steps_with_state (backtrack_captures q))
       (λ a r b st. st.takes.step) e LeftmostFirst false (IsTryCapturesAnswer e) (λ t o h. h.1) x (λ t a same h. h) s
       engine iter_state going (record { fits = tt; holds = s.holds })
@@ -126,7 +127,7 @@ module _ (e : Backtracker) (x : Search) (s : TryCapturesMatches)
             (FailsOrIsRefused row_span (IsTryCapturesAnswer e)) (λ w r k. k) (λ t o h. h.1) x
             (HaystackTooLong (span_len x)) (only-refused long) p.items ((catches-given.runs p seen from).1 whole).come;
         memory = λ fits.
-            catcher-memory (λ e. e.nfa) fits_always IsTryCapturesAnswer (λ e x a. SearchesOnce e x a)
+            captures_finder-memory (λ e. e.nfa) fits_always IsTryCapturesAnswer (λ e x a. SearchesOnce e x a)
             (λ e x a old new work fits. tt) backtrack_captures_next (λ q. steps_with_state (backtrack_captures q))
             (λ a r b st. st.takes.step) e LeftmostFirst false (IsTryCapturesAnswer e) (λ t o h. h.1) x
             (λ t a same h. h) s engine iter_state going (memory-alone e x fits) p seen from;
@@ -182,7 +183,7 @@ module _ (e : Backtracker) (x : Search) (s : Steps (WithCache (WithCaptures Back
       × IfOk r (λ v. AreDisjoint x None (map match_in (items v)))
   all-captures =
       all-drained BacktrackerSteps x s e.nfa LeftmostFirst false (IsTryCapturesAnswer e)
-      (catcher-given (λ e. e.nfa) fits_always IsTryCapturesAnswer (λ e x a. SearchesOnce e x a)
+      (captures_finder-given (λ e. e.nfa) fits_always IsTryCapturesAnswer (λ e x a. SearchesOnce e x a)
       (λ e x a old new work fits. tt) BacktrackerSteps (λ q. q) (λ p r q st. st) e LeftmostFirst false
       (IsTryCapturesAnswer e) (λ t o h. h.1) x (λ t a same h. h) s engine iter_state going may)
 
@@ -195,7 +196,7 @@ module _ (e : Backtracker) (x : Search) (s : Steps (WithCache (WithCaptures Back
   stored_captures-by_length (Err error) t fits errors = inr (
     fits,
     error-drained BacktrackerSteps x s
-        (catcher-memory (λ e. e.nfa) fits_always IsTryCapturesAnswer (λ e x a. SearchesOnce e x a)
+        (captures_finder-memory (λ e. e.nfa) fits_always IsTryCapturesAnswer (λ e x a. SearchesOnce e x a)
         (λ e x a old new work fits. tt) BacktrackerSteps (λ q. q) (λ p r q st. st) e LeftmostFirst false
         (IsTryCapturesAnswer e) (λ t o h. h.1) x (λ t a same h. h) s engine iter_state going (memory-alone e x fits))
         error t

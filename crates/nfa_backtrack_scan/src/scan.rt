@@ -16,19 +16,19 @@ use nfa_scan_core::starts::{next_start, skip_limit, start_limit, start_state};
 use regex_search_core::{HalfMatch, Input, NonMaxUsize, Refused, StateID};
 use thompson_nfa::NFA;
 
-/// Unsets all slots. Two slots, those of a match, take no call.
+/// Unsets all slots. Two slots, those of a match, take no call, nor does a search without slots.
 pub fn unset(slots: &mut [Option<NonMaxUsize>])
     ensures { slots.new ≡ replicate (length slots.old) None }
 {
     if slots.len() == 2 {
         slots[0] = None;
         slots[1] = None;
-    } else {
+    } else if !slots.is_empty() {
         unset_each(slots);
     }
 }
 
-/// Unsets all slots, of any number. A call of its own, so that a search with two slots keeps no count for it.
+/// Unsets all slots, of any number. It is never inlined, so that a search with two slots computes nothing for it.
 #[inline(never)]
 fn unset_each(slots: &mut [Option<NonMaxUsize>])
     ensures { slots.new ≡ replicate (length slots.old) None }

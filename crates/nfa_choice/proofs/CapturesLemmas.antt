@@ -80,9 +80,9 @@ row-acts c s t a s' is asked = (
 )
 
 -- the searches of an iteration keep `earliest`
-row-told : (c : ChoiceState) (x : Search) (s : State) (t : Search) (a : Answer Row) (s' : State) → SameButStart x t
+row-answered : (c : ChoiceState) (x : Search) (s : State) (t : Search) (a : Answer Row) (s' : State) → SameButStart x t
     → IsOf c s.cache → AsksRowByRule s t a s' → AnswersRow c.nfa (kind_in c) x.earliest t a × IsOf c s'.cache
-row-told c x s t a s' same is asked =
+row-answered c x s t a s' same is asked =
     let k = row-acts c s t a s' is asked in
     (subst (λ (b : Bool). AnswersRow c.nfa (kind_in c) b t a) same.earliest k.0, k.1)
 
@@ -128,14 +128,14 @@ module _ {T : Type 0} (calls : T → Option (Result Captured SearchError) → T 
   -- all that its calls give
   stored_captures-given : CapturesGiven calls c.nfa (kind_in c) x.earliest Rows x s
   stored_captures-given =
-      captures-given c.nfa (kind_in c) x.earliest Rows (λ t o h. h) x AsksRowByRule Good (row-told c x) calls inner
+      captures-given c.nfa (kind_in c) x.earliest Rows (λ t o h. h) x AsksRowByRule Good (row-answered c x) calls inner
       steps s iter_state going holds.is
       (groups-hold c.nfa AsksRowByRule (Holds c) (holds-after c) (holds-groups c) calls inner steps s holds)
 
   -- and no error but `Memory`
   stored_captures-memory : CapturesMemory calls s
   stored_captures-memory =
-      captures-memory c.nfa (kind_in c) x.earliest Rows (λ t o h. h) x AsksRowByRule Good (row-told c x) calls inner
+      captures-memory c.nfa (kind_in c) x.earliest Rows (λ t o h. h) x AsksRowByRule Good (row-answered c x) calls inner
       steps s iter_state going holds.is (λ t e from to never. absurd never)
 
 -- ---- what the searches change

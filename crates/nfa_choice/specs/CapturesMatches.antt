@@ -44,8 +44,8 @@ abbrev pub choice_catches_choice : ChoiceCaptures → MutBor ChoiceState
 choice_catches_choice s = s.choice
 
 -- its next input and last end, and whether it has ended
-abbrev pub choice_catches_walk : ChoiceCaptures → IterState
-choice_catches_walk s = iter_state_of s.steps.searcher
+abbrev pub choice_captures_iter_state : ChoiceCaptures → IterState
+choice_captures_iter_state s = iter_state_of s.steps.searcher
 
 abbrev pub choice_catches_done : ChoiceCaptures → Bool
 choice_catches_done s = s.steps.done

@@ -45,8 +45,8 @@ abbrev pub choice_finds_cache : ChoiceMatches → MutBor ChoiceState
 choice_finds_cache s = s.choice
 
 -- its next input and last end, and whether it has ended
-abbrev pub choice_finds_walk : ChoiceMatches → IterState
-choice_finds_walk s = iter_state_of s.steps.searcher
+abbrev pub choice_matches_iter_state : ChoiceMatches → IterState
+choice_matches_iter_state s = iter_state_of s.steps.searcher
 
 abbrev pub choice_finds_done : ChoiceMatches → Bool
 choice_finds_done s = s.steps.done

@@ -35,19 +35,20 @@ module _ {X : Type 0} (span : X → Span) (give : PatternHit → X) where
       (meets : (i : ℕ) (a : Answer X) → tells (record x { start = i }) a → Meets a (hit_from i))
       (lies : (i : ℕ) (h : PatternHit) → hit_from i ≡ Some h → LiesFrom haystack i (length haystack + 1) h) where
     -- the iteration after a match that ended at i
-    abbrev walk_at : ℕ → IterState
-    walk_at i = record { at = record x { start = i }; last = Some i }
+    abbrev iter_state_at : ℕ → IterState
+    iter_state_at i = record { at = record x { start = i }; last = Some i }
 
     -- a step after that match
-    step-meets : (i : ℕ) (a : Answer X) → IsStep span tells (walk_at i) a → Meets a (hit_after hit_from i)
+    step-meets : (i : ℕ) (a : Answer X) → IsStep span tells (iter_state_at i) a → Meets a (hit_after hit_from i)
     step-meets i a s = of s.first (hit_from i) refl (meets i s.first s.is_first) s.rest
       where
         repeated : (h : PatternHit) (p : Span) → p ≡ span_of_hit h → (b : Bool)
-            → (h.start == h.trace.end) && (i == h.trace.end) ≡ b → repeats (walk_at i) (Some p) ≡ b
-        repeated h p is b e = subst (λ q. repeats (walk_at i) (Some q) ≡ b) (sym is) e
+            → (h.start == h.trace.end) && (i == h.trace.end) ≡ b → repeats (iter_state_at i) (Some p) ≡ b
+        repeated h p is b e = subst (λ q. repeats (iter_state_at i) (Some q) ≡ b) (sym is) e
 
         of-hit : (y : X) (h : PatternHit) → LiesFrom haystack i (length haystack + 1) h → Meets (Ok (Some y)) (Some h)
-            → MatchBool (repeats (walk_at i) (Some (span y))) (tells (record x { start = i + 1 }) a) (a ≡ Ok (Some y))
+            → MatchBool (repeats (iter_state_at i) (Some (span y))) (tells (record x { start = i + 1 }) a)
+            (a ≡ Ok (Some y))
             → Meets a (if h.trace.end == i then hit_from (i + 1) else Some h)
         of-hit y h l m rest = elim (eqb_tells h.trace.end i) [
           | inl same ↦
@@ -70,7 +71,7 @@ module _ {X : Type 0} (span : X → Span) (give : PatternHit → X) where
         ]
 
         of : (first : Answer X) (o : Option PatternHit) → hit_from i ≡ o → Meets first o
-            → MatchBool (repeats (walk_at i) (answer_span span first)) (tells (record x { start = i + 1 }) a)
+            → MatchBool (repeats (iter_state_at i) (answer_span span first)) (tells (record x { start = i + 1 }) a)
             (a ≡ first)
             → Meets a (if is_some_and o (λ h. h.trace.end == i) then hit_from (i + 1) else o)
         of (Err error) o e m rest = absurd m
@@ -118,7 +119,7 @@ module _ {X : Type 0} (span : X → Span) (give : PatternHit → X) where
 
     -- all items after a match that ended at i
     next-items : (items : List X) (i n : ℕ) → length haystack ≤ n + i
-        → ItemsLast span tells (Fails span tells) (walk_at i) (map (λ y. Ok y) items)
+        → ItemsLast span tells (Fails span tells) (iter_state_at i) (map (λ y. Ok y) items)
         → items ≡ map give (hits_from hit_from n (hit_after hit_from i))
     unfolding hits_from
     next-items [] i n room last = of n (hit_after hit_from i) (step-meets i (Ok None) last)
@@ -131,7 +132,7 @@ module _ {X : Type 0} (span : X → Span) (give : PatternHit → X) where
         of (next-items items) n (hit_after hit_from i) refl room (step-meets i (Ok (Some y)) last.0)
       where
         of : ((e m : ℕ) → length haystack ≤ m + e
-            → ItemsLast span tells (Fails span tells) (walk_at e) (map (λ z. Ok z) items)
+            → ItemsLast span tells (Fails span tells) (iter_state_at e) (map (λ z. Ok z) items)
             → items ≡ map give (hits_from hit_from m (hit_after hit_from e)))
             → (n : ℕ) (o : Option PatternHit) → hit_after hit_from i ≡ o → length haystack ≤ n + i
             → Meets (Ok (Some y)) o
@@ -141,7 +142,7 @@ module _ {X : Type 0} (span : X → Span) (give : PatternHit → X) where
         of more zero (Some h) e room m = let l = after-lies i h e in absurd (omega (arith, l.0, l.1))
         of more (suc n) (Some h) e room m =
             let l = after-lies i h e in
-            let rest = subst (λ (p : Span). ItemsLast span tells (Fails span tells) (walk_at p.end)
+            let rest = subst (λ (p : Span). ItemsLast span tells (Fails span tells) (iter_state_at p.end)
             (map (λ z. Ok z) items)) m.1 last.1 in
             ap₂ (λ z zs. z ∷ zs) m.0 (more h.trace.end n (omega (arith, l.0)) rest)
 
@@ -168,7 +169,7 @@ module _ {X : Type 0} (span : X → Span) (give : PatternHit → X) where
             → y ∷ items ≡ map give (hits_from hit_from (suc (length haystack)) o)
         of None m = absurd m
         of (Some h) m =
-            let rest = subst (λ (p : Span). ItemsLast span tells (Fails span tells) (walk_at p.end)
+            let rest = subst (λ (p : Span). ItemsLast span tells (Fails span tells) (iter_state_at p.end)
             (map (λ z. Ok z) items)) m.1 last.1 in
             ap₂ (λ z zs. z ∷ zs) m.0 (next-items items h.trace.end (length haystack) (omega arith) rest)
 

@@ -19,7 +19,7 @@ use Rattle.nfa_search_base.specs.IterStates.{Answer, IterState, after, fresh, an
 use Rattle.nfa_engines.proofs.LawLemmas.{same-slots}
 use Rattle.nfa_engines.proofs.OneLemmas.{found-pattern}
 
--- the walk whose search carries this flag
+-- the state whose search carries this flag
 abbrev flagged : IterState → Bool → IterState
 flagged w flag = record w { at = asked w.at flag }
 

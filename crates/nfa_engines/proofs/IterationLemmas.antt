@@ -6,7 +6,7 @@ use Rattle.regex_search_core.specs.Search.{Search}
 use Rattle.regex_search_core.specs.declared.search.Span.{Span}
 use Rattle.nfa_paths.specs.Paths.{span_len}
 use Rattle.nfa_search_base.specs.IterStates.{IterState, fresh, ends_left}
-use Rattle.nfa_engines.specs.IterationLaws.{IsCall, AreCalls, places_of, EndsRise}
+use Rattle.nfa_engines.specs.IterationLaws.{IsCall, AreCalls, match_spans_of, EndsRise}
 
 -- a call that gave a match leaves its end as the last one
 call-last : (w : IterState) (p : Span) (w' : IterState) → IsCall w (Some p) w' → w'.last ≡ Some p.end
@@ -26,25 +26,25 @@ none-last w w' call = elim call.moves [
 
 -- the ends go up
 pub ends-rise : (w : IterState) (calls : List (Option Span × IterState)) → AreCalls w calls
-    → EndsRise w.last (places_of calls)
+    → EndsRise w.last (match_spans_of calls)
 ends-rise w [] are = tt
 ends-rise w ((Some p, w') ∷ calls) are =
     let rest = ends-rise w' calls are.1 in
-    (are.0.rises, subst (λ (o : Option ℕ). EndsRise o (places_of calls)) (call-last w p w' are.0) rest)
+    (are.0.rises, subst (λ (o : Option ℕ). EndsRise o (match_spans_of calls)) (call-last w p w' are.0) rest)
 ends-rise w ((None, w') ∷ calls) are =
-    subst (λ (o : Option ℕ). EndsRise o (places_of calls)) (none-last w w' are.0) (ends-rise w' calls are.1)
+    subst (λ (o : Option ℕ). EndsRise o (match_spans_of calls)) (none-last w w' are.0) (ends-rise w' calls are.1)
 
 -- each match takes an end of those that are left
 pub few-matches : (w : IterState) (calls : List (Option Span × IterState)) → AreCalls w calls
-    → length (places_of calls) ≤ ends_left w
+    → length (match_spans_of calls) ≤ ends_left w
 few-matches w [] are = omega arith
 few-matches w ((Some p, w') ∷ calls) are =
     let less : ends_left w' < ends_left w = are.0.fewer in
-    let rest : length (places_of calls) ≤ ends_left w' = few-matches w' calls are.1 in
+    let rest : length (match_spans_of calls) ≤ ends_left w' = few-matches w' calls are.1 in
     omega arith
 few-matches w ((None, w') ∷ calls) are =
     let less : ends_left w' ≤ ends_left w = are.0.fewer in
-    let rest : length (places_of calls) ≤ ends_left w' = few-matches w' calls are.1 in
+    let rest : length (match_spans_of calls) ≤ ends_left w' = few-matches w' calls are.1 in
     omega arith
 
 -- before the first call there are as many as the span has bytes, and one more

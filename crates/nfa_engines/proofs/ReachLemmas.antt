@@ -1,4 +1,4 @@
--- A search that restarts finds its match behind the starts that it passed, and restarts only where a start is left.
+-- A search that restarts finds its match after the starts that it passed, and restarts only where a start is left.
 use Rattle.std.proofs.Common.{◌≡◌, ℕ, zero, suc, ◌+◌, ◌-◌, ◌<◌, ◌≤◌, Bool, true, false, MatchBool, List}
 use Rattle.std.proofs.Common.{arith}
 use Rattle.std.specs.Prelude.{Option, None, Some, ◌&&◌, not}
@@ -19,7 +19,7 @@ use Rattle.nfa_search_base.proofs.LastStartLemmas.{from-scan}
 abbrev pub starts_left : Search → ℕ
 starts_left x = x.end + 1 - x.start
 
--- the match lies in the span, and ends at or behind the last of so many starts
+-- the match lies in the span, and ends at the last of `count` starts or after it
 abbrev pub Reaches : Search → ℕ → Option Span → Type 0
 Reaches x count (Some p) = (x.start ≤ p.end) × (p.end ≤ x.end) × (x.start + count ≤ p.end + 1)
 Reaches x count None = Unit {0}
@@ -59,7 +59,7 @@ module _ (nfa : Automaton) (kind : MatchKind) (earliest : Bool) where
     pub few-scans : count ≤ starts_left x + 1
     few-scans = let all = few-restarts x restarts path answers in omega (arith, few, all)
 
-    -- the match ends behind the starts that were passed
+    -- the match ends after the starts that were passed
     pub match-reaches : (f : Found) → IsFindAnswer nfa kind earliest x (Some f) → Reaches x count (Some (span_of f))
     match-reaches f a =
         let one = search_answer-unique nfa kind earliest x a.restarts restarts a.path path a.answers answers in

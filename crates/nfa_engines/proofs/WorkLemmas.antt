@@ -24,13 +24,13 @@ use Rattle.nfa_paths.proofs.OptionLemmas.{same_some}
 abbrev pub turns_in : Automaton → Search → ℕ
 turns_in nfa x = (1 + total_degree nfa) * (span_len x + 1)
 
--- so many scans were added, each of at most `weight` turns
+-- `count` scans were added, each of at most `weight` turns
 pub record Adds (weight : ℕ) (old new : Totals) (count : ℕ) : Type 0 where
   pub scans : new.scans ≡ old.scans + count
   pub turns : new.turns ≤ old.turns + count * weight
 
--- Of a search that is `free` to restart, and may be made with so many scans: they are no more than its starts, and one
--- where it is not free; its match ends behind the starts that it passed.
+-- Of a search that is `free` to restart, and may be made with `count` scans: they are no more than its starts, and one
+-- where it is not free; its match ends after the starts that it passed.
 pub record Costs (free : Bool) (x : Search) (reply_span : Option Span) (count : ℕ) : Type 0 where
   pub starts : count ≤ starts_left x + 1
   pub once : free ≡ false → count ≤ 1
@@ -94,7 +94,7 @@ module _ (x : Search) where
     behind = λ e is. let same : p.end ≡ e = same_some p.end e is in omega (arith, same);
   }
 
-  -- What a step from w to v with a match at `place` leaves, by so many scans.
+  -- What a step by `count` scans leaves, from w to v, with a match at this span or with none.
   abbrev Onward : IterState → IterState → Option Span → ℕ → Type 0
   Onward w v None count = count ≤ starts_left w.at + 1
   Onward w v (Some p) count =
@@ -140,7 +140,7 @@ pub found_count-to_end : {X : Type 0} (ms : List X) → found_count (answers_to_
 found_count-to_end [] = refl
 found_count-to_end (m ∷ ms) = let rest = found_count-to_end ms in omega (arith, rest)
 
--- What steps from w on add that give so many matches.
+-- What steps from w on add that give `found` matches.
 pub record Led (weight : ℕ) (free : Bool) (w : IterState) (found : ℕ) (old new : Totals) : Type 0 where
   pub count : ℕ
   pub adds : Adds weight old new count
@@ -253,7 +253,7 @@ module _ {S X : Type 0} (span : X → Span) (asks : S → Search → Answer X �
     few-found w s (Ok None ∷ rest) t h good steps = rw steps.2 (omega arith)
     few-found w s (Err e ∷ rest) t h good steps = rw steps.2 (omega arith)
 
--- scans within a limit make no more turns than so many scans
+-- scans that are at most `limit` make no more turns than `limit` scans
 within-limit : (nfa : Automaton) (x : Search) (old new : Totals) (count limit : ℕ) → count ≤ limit
     → Adds (turns_in nfa x) old new count → AddsAtMost limit nfa x old new
 within-limit nfa x old new count limit few adds =
@@ -267,7 +267,7 @@ within-limit nfa x old new count limit few adds =
 
 module _ (nfa : Automaton) (x : Search) (found : ℕ) (old new : Totals)
     (all : Led (turns_in nfa x) (restarts_in nfa x) (fresh x) found old new) where
-  -- past so many matches
+  -- of a list of `found` matches
   pub list-within : AddsAtMost (list_scan_limit nfa x found) nfa x old new
   list-within = within-limit nfa x old new all.count (list_scan_limit nfa x found)
       (fits (restarts_in nfa x) refl) all.adds

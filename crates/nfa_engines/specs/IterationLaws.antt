@@ -6,36 +6,37 @@ use Rattle.regex_search_core.specs.declared.search.Span.{Span}
 use Rattle.nfa_paths.specs.Paths.{span_len}
 use Rattle.nfa_search_base.specs.IterStates.{IterState, fresh, after, shifted, ComesAfter, LeavesFewer}
 
--- What each call that gets the next match from a `Searcher` ensures of the walk before it, of the place of its match
--- (`None` if there is no match), and of the walk after it.
+-- What each call that gets the next match from a `Searcher` ensures of its state before the call, of the span of its
+-- match (`None` if there is no match), and of its state after the call.
 pub record IsCall (w : IterState) (reply_span : Option Span) (w' : IterState) : Type 0 where
   pub rises : ComesAfter w reply_span
   pub fewer : LeavesFewer w reply_span w'
   pub moves : (w' ≡ after w reply_span) ⊎ (w' ≡ after (shifted w) reply_span)
 
--- These calls were made from w on, one after the other: for each, the place of its match, and the walk after it.
+-- These calls were made from w on, one after the other: for each, the span of its match, and the state after it.
 abbrev pub AreCalls : IterState → List (Option Span × IterState) → Type 0
 AreCalls w [] = ⊤
 AreCalls w (call ∷ calls) = IsCall w call.0 call.1 × AreCalls call.1 calls
 
--- the places of the matches that the calls gave
-abbrev pub places_of : List (Option Span × IterState) → List Span
-places_of [] = []
-places_of ((Some p, w) ∷ calls) = p ∷ places_of calls
-places_of ((None, w) ∷ calls) = places_of calls
+-- the spans of the matches that the calls gave
+abbrev pub match_spans_of : List (Option Span × IterState) → List Span
+match_spans_of [] = []
+match_spans_of ((Some p, w) ∷ calls) = p ∷ match_spans_of calls
+match_spans_of ((None, w) ∷ calls) = match_spans_of calls
 
 -- each match starts at or after the end of the one before, and ends after that end
 abbrev pub EndsRise : Option ℕ → List Span → Type 0
 EndsRise last [] = ⊤
-EndsRise last (p ∷ places) = ForSome last (λ e. (e ≤ p.start) × (e < p.end)) × EndsRise (Some p.end) places
+EndsRise last (p ∷ spans) = ForSome last (λ e. (e ≤ p.start) × (e < p.end)) × EndsRise (Some p.end) spans
 
 -- over all calls of one iteration the ends increase
 abbrev pub EndsIncrease : Type 0
 EndsIncrease =
-    (x : Search) (calls : List (Option Span × IterState)) → AreCalls (fresh x) calls → EndsRise None (places_of calls)
+    (x : Search) (calls : List (Option Span × IterState)) → AreCalls (fresh x) calls
+    → EndsRise None (match_spans_of calls)
 
 -- and there are at most `more` matches more than the span has bytes
 abbrev pub AtMostMatches : ℕ → Type 0
 AtMostMatches more =
     (x : Search) (calls : List (Option Span × IterState)) → AreCalls (fresh x) calls
-    → length (places_of calls) ≤ span_len x + more
+    → length (match_spans_of calls) ≤ span_len x + more

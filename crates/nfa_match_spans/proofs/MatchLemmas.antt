@@ -173,6 +173,6 @@ module _ (nfa : Automaton) (kind : MatchKind) (earliest : Bool) (x : Search) whe
               let to = scan_answer-leads nfa x kind earliest p scan.1 in
               search (rules, no-bytes-answered)
 
-      pub no-bytes-told : (found : Option Found) → IsFindAnswer nfa kind earliest x found → HasNoByteAt x.start found
+      pub no-bytes-shown : (found : Option Found) → IsFindAnswer nfa kind earliest x found → HasNoByteAt x.start found
           → AnswersNoBytes nfa kind earliest x
-      no-bytes-told found answer none = search (rules, no-bytes-answered, no-path-answered)
+      no-bytes-shown found answer none = search (rules, no-bytes-answered, no-path-answered)

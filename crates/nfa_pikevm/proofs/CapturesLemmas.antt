@@ -20,7 +20,8 @@ use Rattle.nfa_search_base.specs.declared.error.SearchError.TheVariants.{Memory}
 use Rattle.nfa_search_base.specs.declared.iter.steps.Steps.{Steps}
 use Rattle.nfa_search_base.proofs.CapturesLemmas.{row-lies}
 use Rattle.nfa_search_base.proofs.DrainedLemmas.{all-drained, calls-cache, error-drained}
-use Rattle.nfa_search_base.proofs.EngineLemmas.{calls-kept, catcher-given, catcher-goes, catcher-memory, catcher-serves}
+use Rattle.nfa_search_base.proofs.EngineLemmas.{calls-kept, captures_finder-given, captures_finder-goes}
+use Rattle.nfa_search_base.proofs.EngineLemmas.{captures_finder-memory, captures_finder-serves}
 use Rattle.nfa_search_base.proofs.LeavingLemmas.{all-to_end, calls-lead, catches-leave}
 use Rattle.nfa_pikevm.specs.CapturesMatches.{AsksPikeRow, CatchesBySearches, CatchesGiveCache, MayCatchByPike}
 use Rattle.nfa_pikevm.specs.CapturesMatches.{pike_captures, pike_captures_next}
@@ -42,7 +43,8 @@ may-now s = record { fits = s.fits; holds = s.holds }
 pub steps-serve : (s : Steps (WithCache (WithCaptures Pike) PikeCache)) → MayCatchByPike s.backend
     → can_step (λ q x. MayCatchByPike q) AsksPikeRow row_span s
 steps-serve s may =
-    catcher-serves (λ vm. vm.nfa) fits_pike PikeAnswersRow (λ vm x a. PikeSearches vm x) (λ vm x a. searched-fits vm x)
+    captures_finder-serves (λ vm. vm.nfa) fits_pike PikeAnswersRow (λ vm x a. PikeSearches vm x)
+    (λ vm x a. searched-fits vm x)
     (λ vm t a h. (row-lies vm.nfa (kind_of vm) t.earliest t a h).0) s.backend (steps_iter_state s).at may
 
 -- so the iterator may
@@ -56,7 +58,8 @@ pub step-may : (s : CapturesMatches) (r : Option (Result Captured SearchError))
     → takes_steps row_span AsksPikeRow (λ q. GivesCaptures q.backend) (steps_with_state (pike_captures s)) r t
     → MayCatchByPike t.backend
 step-may s r t st =
-    catcher-goes (λ vm. vm.nfa) fits_pike PikeAnswersRow (λ vm x a. PikeSearches vm x) (λ vm x a. searched-fits vm x)
+    captures_finder-goes (λ vm. vm.nfa) fits_pike PikeAnswersRow (λ vm x a. PikeSearches vm x)
+    (λ vm x a. searched-fits vm x)
     (steps_with_state (pike_captures s)) r t st (may-now s)
 
 -- the searches of an iteration keep `earliest`
@@ -71,7 +74,7 @@ module _ (vm : Pike) (x : Search) (s : CapturesMatches) (engine : (pike_captures
     pub catches-given : CapturesGiven pike_captures_next vm.nfa (kind_of vm) x.earliest
         (AnswersRow vm.nfa (kind_of vm) x.earliest) x s
     catches-given =
-        catcher-given (λ vm. vm.nfa) fits_pike PikeAnswersRow (λ vm x a. PikeSearches vm x)
+        captures_finder-given (λ vm. vm.nfa) fits_pike PikeAnswersRow (λ vm x a. PikeSearches vm x)
         (λ vm x a. searched-fits vm x) pike_captures_next (λ q. steps_with_state (pike_captures q))
         (λ a r b st. st.takes.step) vm (kind_of vm) x.earliest (AnswersRow vm.nfa (kind_of vm) x.earliest)
         (λ t o h. h) x
@@ -80,7 +83,7 @@ module _ (vm : Pike) (x : Search) (s : CapturesMatches) (engine : (pike_captures
     -- and no error but `Memory`
     pub catches-memory : CapturesMemory pike_captures_next s
     catches-memory =
-        catcher-memory (λ vm. vm.nfa) fits_pike PikeAnswersRow (λ vm x a. PikeSearches vm x)
+        captures_finder-memory (λ vm. vm.nfa) fits_pike PikeAnswersRow (λ vm x a. PikeSearches vm x)
         (λ vm x a. searched-fits vm x) pike_captures_next (λ q. steps_with_state (pike_captures q))
         (λ a r b st. st.takes.step) vm (kind_of vm) x.earliest (AnswersRow vm.nfa (kind_of vm) x.earliest)
         (λ t o h. h) x
@@ -134,7 +137,7 @@ module _ (vm : Pike) (x : Search) (s : Steps (WithCache (WithCaptures Pike) Pike
       × IfOk r (λ v. AreDisjoint x None (map match_in (items v)))
   all-captures =
       all-drained PikeSteps x s vm.nfa (kind_of vm) x.earliest (AnswersRow vm.nfa (kind_of vm) x.earliest)
-      (catcher-given (λ vm. vm.nfa) fits_pike PikeAnswersRow (λ vm x a. PikeSearches vm x)
+      (captures_finder-given (λ vm. vm.nfa) fits_pike PikeAnswersRow (λ vm x a. PikeSearches vm x)
       (λ vm x a. searched-fits vm x) PikeSteps (λ q. q) (λ p r q st. st)
       vm (kind_of vm) x.earliest (AnswersRow vm.nfa (kind_of vm) x.earliest) (λ t o h. h) x
       (tells-now vm x) s engine iter_state going may)
@@ -144,7 +147,7 @@ module _ (vm : Pike) (x : Search) (s : Steps (WithCache (WithCaptures Pike) Pike
       → (error ≡ Memory) ⊎ DrainsToError PikeSteps s error t → error ≡ Memory
   stored_captures-memory =
       error-drained PikeSteps x s
-      (catcher-memory (λ vm. vm.nfa) fits_pike PikeAnswersRow (λ vm x a. PikeSearches vm x)
+      (captures_finder-memory (λ vm. vm.nfa) fits_pike PikeAnswersRow (λ vm x a. PikeSearches vm x)
       (λ vm x a. searched-fits vm x) PikeSteps (λ q. q) (λ p r q st. st)
       vm (kind_of vm) x.earliest (AnswersRow vm.nfa (kind_of vm) x.earliest) (λ t o h. h) x
       (tells-now vm x) s engine iter_state going (λ t error from to never. absurd never))

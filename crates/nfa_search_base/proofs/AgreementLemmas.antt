@@ -40,24 +40,24 @@ same_items (Ok None) rest = refl
 same_items (Err e) rest = refl
 
 -- taking an answer leads to an iteration that a searcher may have
-walk_after : (w : IterState) (a : Answer Found) → IsIterState w → IsFoundIn w.at a
+iter_state_after : (w : IterState) (a : Answer Found) → IsIterState w → IsFoundIn w.at a
     → IsIterState (after w (answer_span span_of a))
-walk_after w (Ok (Some m)) is found = record {
+iter_state_after w (Ok (Some m)) is found = record {
   behind = λ e at. let same : m.end ≡ e = cc in omega arith;
   ordered = omega (arith, found.2);
 }
-walk_after w (Ok None) is found = is
-walk_after w (Err e) is found = is
+iter_state_after w (Ok None) is found = is
+iter_state_after w (Err e) is found = is
 
 -- so does moving one byte on, if an empty match is in the span
-walk_shifted : (w : IterState) (a : Answer Found) → IsIterState w → IsFoundIn w.at a
+iter_state_shifted : (w : IterState) (a : Answer Found) → IsIterState w → IsFoundIn w.at a
     → repeats w (answer_span span_of a) ≡ true → IsIterState (shifted w)
-walk_shifted w (Ok (Some m)) is found again = record {
+iter_state_shifted w (Ok (Some m)) is found again = record {
   behind = λ e at. let low : e ≤ w.at.start = is.behind e at in omega arith;
   ordered = omega (arith, found.0, found.1, found.2);
 }
-walk_shifted w (Ok None) is found again = cc
-walk_shifted w (Err e) is found again = cc
+iter_state_shifted w (Ok None) is found again = cc
+iter_state_shifted w (Err e) is found again = cc
 
 module _ (h : Search → Answer Found) (k : Search → Answer HalfFound) where
   -- a step gives the end of the other's step, and leads to the same place
@@ -82,13 +82,13 @@ module _ (h : Search → Answer Found) (k : Search → Answer HalfFound) where
       by_test : (b : Bool) → repeats w (answer_span span_of (h w.at)) ≡ b → SameStep w
       by_test true e =
           let half : repeats w (answer_span half_span_of (k w.at)) ≡ true = same ∙ e in
-          let next = walk_shifted w (h w.at) is found e in
+          let next = iter_state_shifted w (h w.at) is found e in
           let there = finds.ends (shifted w).at (same_start-shifted w) next.ordered in
           let found' = finds.inside (shifted w).at (same_start-shifted w) next.ordered in
           record {
             answer = rw (half, e) there;
             iter_state = rw (half, e, there) (same_after (shifted w) (h (shifted w).at));
-            next = rw e (walk_after (shifted w) (h (shifted w).at) next found');
+            next = rw e (iter_state_after (shifted w) (h (shifted w).at) next found');
             like = rw e (same_start-after_shifted w (answer_span span_of (h (shifted w).at)));
           }
       by_test false e =
@@ -96,7 +96,7 @@ module _ (h : Search → Answer Found) (k : Search → Answer HalfFound) where
           record {
             answer = rw (half, e) here;
             iter_state = rw (half, e, here) (same_after w (h w.at));
-            next = rw e (walk_after w (h w.at) is found);
+            next = rw e (iter_state_after w (h w.at) is found);
             like = rw e (same_start-after w (answer_span span_of (h w.at)));
           }
 

@@ -190,8 +190,8 @@ module _ (nfa : Automaton) (kind : MatchKind) (earliest : Bool) where
         slots = slot_row nfa (slot_count nfa.groups) path;
       }
 
-  answer_of-told : (t : Search) → tells t (filled_answer (answer_of t) (Ok tt))
-  answer_of-told t =
+  answer_of-answered : (t : Search) → tells t (filled_answer (answer_of t) (Ok tt))
+  answer_of-answered t =
       let answer = search_answer-exists nfa kind earliest t in
       let count = length-slot_row nfa (slot_count nfa.groups) answer.1 in
       stored_captures-tells t (answer_of t) (record {
@@ -206,6 +206,6 @@ module _ (nfa : Automaton) (kind : MatchKind) (earliest : Bool) where
   pub rows-exist : (x : Search) → (rows : List Row) × AreRows nfa kind earliest x rows
   rows-exist x =
       let h : Search → Answer Row = λ t. filled_answer (answer_of t) (Ok tt) in
-      let all = items-greedy row_span tells row-lies h x (λ t alike. answer_of-told t) in
+      let all = items-greedy row_span tells row-lies h x (λ t alike. answer_of-answered t) in
       let rows = last-matches row_span tells (λ t e k. k) (fresh x) (greedy row_span h (fresh x)) all in
       (rows.0, record { come = rows.1 })

@@ -209,27 +209,27 @@ module _ {E C : Type 0} (nfa : E → Automaton) (Fits : C → E → Type 0) (Tel
   }
 
   -- the iterator may search wherever searches lead
-  pub catcher-serves : ((e : E) (t : Search) (a : Answer Row) → Tells e t a → AnswerIsInside row_span t a)
+  pub captures_finder-serves : ((e : E) (t : Search) (a : Answer Row) → Tells e t a → AnswerIsInside row_span t a)
       → (s : WithCache (WithCaptures E) C) (x : Search) → MayRow s
       → ServesOnAlong (λ q t. MayRow q) AsksRow SameButStart (AnswerIsInside row_span) s x
-  catcher-serves lies s x may =
+  captures_finder-serves lies s x may =
       ServesOnAlong-by (λ q t. MayRow q) AsksRow (AnswerIsInside row_span)
       (λ (q : WithCache (WithCaptures E) C). MayRow q) s x may (λ q t same may. may)
       (λ q t a q' same may asked. (lies q.backend.finder t a asked.tells, may_row-after q t a q' may asked))
 
   -- and after a step
-  pub catcher-goes : (s : Steps (WithCache (WithCaptures E) C)) (r : Option (Result Captured SearchError))
+  pub captures_finder-goes : (s : Steps (WithCache (WithCaptures E) C)) (r : Option (Result Captured SearchError))
       (t : Steps (WithCache (WithCaptures E) C)) → Calls s r t → MayRow s.backend → MayRow t.backend
-  catcher-goes s r t st =
+  captures_finder-goes s r t st =
       step-keeps row_span AsksRow (λ q. GivesCaptures q.backend)
       (λ (p q : WithCache (WithCaptures E) C). MayRow p → MayRow q)
       (λ q may. may) (λ p q u f g may. g (f may)) (λ p x a q asked may. may_row-after p x a q may asked) s r t st
 
   -- the engine gives the answers of its searches, and stays the same
-  pub catcher-acts : (e : E) (s : WithCache (WithCaptures E) C) (t : Search) (a : Answer Row)
+  pub captures_finder-acts : (e : E) (s : WithCache (WithCaptures E) C) (t : Search) (a : Answer Row)
       (s' : WithCache (WithCaptures E) C)
       → s.backend.finder ≡ e → AsksRow s t a s' → Tells e t a × (s'.backend.finder ≡ e)
-  catcher-acts e s t a s' is asked = (rw is at asked.tells, asked.engine ∙ is)
+  captures_finder-acts e s t a s' is asked = (rw is at asked.tells, asked.engine ∙ is)
 
   -- An iterator around such steps. The engine gives answers as in `Told` on searches like x. Without an error, that is
   -- the row of its NFA.
@@ -247,21 +247,21 @@ module _ {E C : Type 0} (nfa : E → Automaton) (Fits : C → E → Type 0) (Tel
     told-acts : (q : WithCache (WithCaptures E) C) (t : Search) (a : Answer Row) (q' : WithCache (WithCaptures E) C)
         → SameButStart x t → Good q → AsksRow q t a q' → Told t a × Good q'
     told-acts q t a q' same good asked =
-        let k = catcher-acts e q t a q' good asked in (tells t a same k.0, k.1)
+        let k = captures_finder-acts e q t a q' good asked in (tells t a same k.0, k.1)
 
     -- all that its calls give
-    pub catcher-given : MayRow (inner s).backend → CapturesGiven calls (nfa e) kind earliest Told x s
-    catcher-given may =
+    pub captures_finder-given : MayRow (inner s).backend → CapturesGiven calls (nfa e) kind earliest Told x s
+    captures_finder-given may =
         captures-given (nfa e) kind earliest Told row x AsksRow Good told-acts calls inner is s iter_state going engine
         (groups-hold (nfa e) AsksRow (λ q. MayRow q × Good q)
         (λ q t a q' h asked. (may_row-after q t a q' h.0 asked, asked.engine ∙ h.1))
         (λ q h. subst (λ (b : E). HasGroups (nfa b) q.backend.captures) h.1 h.0.holds) calls inner is s (may, engine))
 
     -- the only error is `Memory`, if no search has another
-    pub catcher-memory : ((t : Search) (error : SearchError) → x.start ≤ t.start → t.end ≡ x.end → Told t (Err error)
-        → error ≡ Memory)
+    pub captures_finder-memory : ((t : Search) (error : SearchError) → x.start ≤ t.start → t.end ≡ x.end
+        → Told t (Err error) → error ≡ Memory)
         → CapturesMemory calls s
-    catcher-memory =
+    captures_finder-memory =
         captures-memory (nfa e) kind earliest Told row x AsksRow Good told-acts calls inner is s iter_state going engine
 
 -- ---- the cache
@@ -272,10 +272,10 @@ module _ {A C X Y : Type 0} (span : X → Span) (asks : WithCache A C → Search
     (self : (c : C) → Keeps c c) (then : (a b c : C) → Keeps a b → Keeps b c → Keeps a c)
     (asked : (s : WithCache A C) (x : Search) (a : Answer X) (t : WithCache A C) → asks s x a t
     → Keeps s.cache t.cache) where
-  lent-keeps : (s : StepsWith A C) (r : Option (Result Y SearchError)) (t : StepsWith A C)
+  steps_with-keeps : (s : StepsWith A C) (r : Option (Result Y SearchError)) (t : StepsWith A C)
       → TakesStepWith span asks gives s r t
       → KeepsStepsWith Keeps s t
-  lent-keeps s r t st = record {
+  steps_with-keeps s r t st = record {
     cache = st.cache;
     keeps = step-keeps span asks (λ q. gives q.backend) (λ (p q : WithCache A C). Keeps p.cache q.cache)
         (λ q. self q.cache)
@@ -300,4 +300,4 @@ module _ {A C X Y : Type 0} (span : X → Span) (asks : WithCache A C → Search
       → ((s : T) (r : Option R) (t : T) → calls s r t → TakesStepWith span asks gives (inner s) (item r) (inner t))
       → (s : T) → GivesStepsWith calls inner Keeps s
   calls-kept calls inner item is = gives-kept calls inner
-      (λ s r t st. lent-keeps (inner s) (item r) (inner t) (is s r t st))
+      (λ s r t st. steps_with-keeps (inner s) (item r) (inner t) (is s r t st))

@@ -330,8 +330,8 @@ module _ (nfa : Automaton) (kind : MatchKind) (earliest : Bool) where
       let path = (search_answer-exists nfa kind earliest t).1 in
       match_of (option_and_then (path_pattern nfa) path) (slot_row nfa (slot_count nfa.groups) path)
 
-  answer_of-told : (t : Search) → tells t (Ok (answer_of t))
-  answer_of-told t =
+  answer_of-answered : (t : Search) → tells t (Ok (answer_of t))
+  answer_of-answered t =
       let answer = search_answer-exists nfa kind earliest t in
       record { restarts = answer.0; path = answer.1; answers = answer.2; found_is = refl }
 
@@ -339,7 +339,7 @@ module _ (nfa : Automaton) (kind : MatchKind) (earliest : Bool) where
   pub matches-exist : (x : Search) → (ms : List Found) × AreMatches nfa kind earliest x ms
   matches-exist x =
       let h : Search → Answer Found = λ t. Ok (answer_of t) in
-      let all = items-greedy span_of tells match-lies h x (λ t alike. answer_of-told t) in
+      let all = items-greedy span_of tells match-lies h x (λ t alike. answer_of-answered t) in
       let ms = last-matches span_of tells (λ t e k. k) (fresh x) (greedy span_of h (fresh x)) all in
       (ms.0, record { come = ms.1 })
 

@@ -22,7 +22,7 @@ use Rattle.nfa_search_base.specs.IterStates.{Answer, IterState, answer_span, Ans
 use Rattle.nfa_search_base.specs.declared.error.SearchError.{SearchError}
 use Rattle.nfa_search_base.specs.declared.iter.steps.Steps.{Steps}
 use Rattle.nfa_search_base.proofs.IterStateLemmas.{IsOrdered}
-use Rattle.nfa_search_base.proofs.MayReplyLemmas.{may-first, may-all, may-disjoint, step-told, last-told}
+use Rattle.nfa_search_base.proofs.MayReplyLemmas.{may-first, may-all, may-disjoint, step-answered, last-answered}
 pub use Rattle.nfa_search_base.proofs.MayReplyLemmas.{collected_all}
 use Rattle.nfa_search_base.proofs.RunLemmas.{Given, Says, given, item-says, yields-oked}
 use Rattle.nfa_paths.proofs.OptionLemmas.{same_some}
@@ -112,12 +112,12 @@ module _ {A X F : Type 0} (view : A → X) (span : X → Span)
         let same = kept k.calls f k.between refl k.leads in
         (says_so t a k.left (rw same at k.asked)).1
 
-    all-told : (w : IterState) (items : List (Result A SearchError))
+    all-answered : (w : IterState) (items : List (Result A SearchError))
         → AreAllStoredMatches span (MayAnswer view span g f x) view w items
         → AreAllStoredMatches span tells view w items
-    all-told w items h = record {
-      come = last-told span (MayAnswer view span g f x) tells may-tells (Fails span (MayAnswer view span g f x))
-          (Fails span tells) (λ v e k. step-told span (MayAnswer view span g f x) tells may-tells v (Err e) k) w
+    all-answered w items h = record {
+      come = last-answered span (MayAnswer view span g f x) tells may-tells (Fails span (MayAnswer view span g f x))
+          (Fails span tells) (λ v e k. step-answered span (MayAnswer view span g f x) tells may-tells v (Err e) k) w
           (map (item_by view) items) h.come;
     }
 
@@ -131,7 +131,7 @@ pub collected_as : {A X F Z E : Type 0} {view : A → X} {span : X → Span}
 collected_as {A = A} {view = view} {span = span} {g = g} {f = f} {w = w} {s = s} tells v r ran gives is says_so =
     collected_all (stored_match_steps view span g) (AreAllStoredMatches span tells view v) s r ran
     (λ xs t u y st. subst (λ (q : IterState). AreAllStoredMatches span tells view q xs) is
-    (all-told view span g f w.at tells says_so w xs (gives xs t u y st)))
+    (all-answered view span g f w.at tells says_so w xs (gives xs t u y st)))
 
 -- And of one whose finder never errs.
 pub collected_infallibly_as : {A X F Z E : Type 0} {view : A → X} {span : X → Span}
@@ -144,4 +144,4 @@ collected_infallibly_as {view = view} {span = span} {g = g} {f = f} {w = w} {s =
     collected_all (infallible_match_steps view span g)
     (λ ms. AreAllStoredMatches span tells view v (map (λ m. Ok m) ms)) s r ran
     (λ xs t u y st. subst (λ (q : IterState). AreAllStoredMatches span tells view q (map (λ m. Ok m) xs)) is
-    (all-told view span g f w.at tells says_so w (map (λ m. Ok m) xs) (gives xs t u y st)))
+    (all-answered view span g f w.at tells says_so w (map (λ m. Ok m) xs) (gives xs t u y st)))

@@ -29,7 +29,8 @@ use Rattle.nfa_search_base.specs.declared.error.SearchError.{SearchError}
 use Rattle.nfa_search_base.specs.declared.iter.steps.Steps.{Steps}
 use Rattle.nfa_search_base.proofs.CapturesRunLemmas.{copy-says}
 use Rattle.nfa_search_base.proofs.IterStateLemmas.{IsOrdered}
-use Rattle.nfa_search_base.proofs.MayReplyLemmas.{may-first, may-all, may-disjoint, step-told, last-told, collected_all}
+use Rattle.nfa_search_base.proofs.MayReplyLemmas.{may-first, may-all, may-disjoint, step-answered, last-answered}
+use Rattle.nfa_search_base.proofs.MayReplyLemmas.{collected_all}
 use Rattle.nfa_search_base.proofs.RunLemmas.{Given, Says, given}
 use Rattle.nfa_paths.proofs.OptionLemmas.{same_some}
 
@@ -108,9 +109,9 @@ module _ {F : Type 0} (g : Mut F (Bor Input × (MutBor Captured × Unit {0}))
         (AnswerIsInside row_span) (λ t a k. k) (λ q t a q' k. row-ordered q'.captures k.reply a k.answers) s serves
         (map (item_by row_of) p.items) (caught.run p seen from).0.come
 
-    pub sure-caught_apart : FillsAlong g (IsInfalliblyInside row_span) s.backend (steps_iter_state s).at
+    pub sure-caught_disjoint : FillsAlong g (IsInfalliblyInside row_span) s.backend (steps_iter_state s).at
         → InfallibleCapturesDisjoint g (steps_iter_state s) s
-    sure-caught_apart serves = λ p seen from.
+    sure-caught_disjoint serves = λ p seen from.
         may-disjoint (CanFill g) (Fills g) row_span GivesCaptures row_of (FailsOrIsRefused row_span) says
         (IsInfalliblyInside row_span) (λ t a k. k.0) (λ q t a q' k. row-ordered q'.captures k.reply a k.answers) s
         serves (map (item_by row_of) p.items) (sure-caught.run p seen from).0.come
@@ -118,17 +119,17 @@ module _ {F : Type 0} (g : Mut F (Bor Input × (MutBor Captured × Unit {0}))
 -- If each answer of `under` is one of `tells`, the captures are the same.
 module _ (under tells : Search → Answer Row → Type 0)
     (so : (t : Search) (a : Answer Row) → under t a → tells t a) where
-  ends-told : (w : IterState) (e : SearchError) → FailsOrIsRefused row_span under w e
+  ends-answered : (w : IterState) (e : SearchError) → FailsOrIsRefused row_span under w e
       → FailsOrIsRefused row_span tells w e
-  ends-told w e (inl fails) = inl (step-told row_span under tells so w (Err e) fails)
-  ends-told w e (inr refused) =
-      inr (refused.0, refused.1, step-told row_span under tells so w (Ok (Some refused.1)) refused.2)
+  ends-answered w e (inl fails) = inl (step-answered row_span under tells so w (Err e) fails)
+  ends-answered w e (inr refused) =
+      inr (refused.0, refused.1, step-answered row_span under tells so w (Ok (Some refused.1)) refused.2)
 
-  all-told : (w : IterState) (items : List (Result Captured SearchError)) → AreAllStoredCaptures under w items
+  all-answered : (w : IterState) (items : List (Result Captured SearchError)) → AreAllStoredCaptures under w items
       → AreAllStoredCaptures tells w items
-  all-told w items h = record {
-    come = last-told row_span under tells so (FailsOrIsRefused row_span under) (FailsOrIsRefused row_span tells)
-        ends-told w (map (item_by row_of) items) h.come;
+  all-answered w items h = record {
+    come = last-answered row_span under tells so (FailsOrIsRefused row_span under) (FailsOrIsRefused row_span tells)
+        ends-answered w (map (item_by row_of) items) h.come;
   }
 
 -- The result of `collect` on such an iterator, if its finder answers this with any captures: all captures.
@@ -142,7 +143,8 @@ pub captures_collected_as : {F Z E : Type 0} {g : Mut F (Bor Input × (MutBor Ca
 captures_collected_as {g = g} {c = c} {w = w} {s = s} tells v r ran gives is says_so =
     collected_all (stored_captures_steps g) (AreAllStoredCaptures tells v) s r ran
     (λ xs t u y st. subst (λ (q : IterState). AreAllStoredCaptures tells q xs) is
-    (all-told (MayAnswerRow g c w.at) tells (λ x a k. says_so k.between x a k.left k.asked) w xs (gives xs t u y st)))
+    (all-answered (MayAnswerRow g c w.at) tells (λ x a k. says_so k.between x a k.left k.asked) w xs
+    (gives xs t u y st)))
 
 -- And of one whose finder never errs.
 pub captures_collected_infallibly_as : {F Z E : Type 0} {g : Mut F (Bor Input × (MutBor Captured × Unit {0}))
@@ -155,4 +157,5 @@ pub captures_collected_infallibly_as : {F Z E : Type 0} {g : Mut F (Bor Input ×
 captures_collected_infallibly_as {g = g} {c = c} {w = w} {s = s} tells v r ran gives is says_so =
     collected_all (takes_infallible_captures g) (AreAllStoredCaptures tells v) s r ran
     (λ xs t u y st. subst (λ (q : IterState). AreAllStoredCaptures tells q xs) is
-    (all-told (MayAnswerRow g c w.at) tells (λ x a k. says_so k.between x a k.left k.asked) w xs (gives xs t u y st)))
+    (all-answered (MayAnswerRow g c w.at) tells (λ x a k. says_so k.between x a k.left k.asked) w xs
+    (gives xs t u y st)))

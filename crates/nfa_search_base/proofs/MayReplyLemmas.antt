@@ -83,21 +83,21 @@ module _ {S X Y : Type 0} (accepts : S → Search → Type 0) (asks : S → Sear
         lies t a ((serves.at k.calls k.between t k.leads k.same).replies a k.left k.asked),
         ordered k.between t a k.left k.asked,
       ))
-      (ends (May s)) (steps_iter_state s).at (steps_iter_state s) items (omega arith) refl s.searcher.behind come
+      (ends (May s)) (steps_iter_state s).at (steps_iter_state s) items (omega arith) refl s.searcher.ends_by come
 
 -- If each answer of `under` is one of `tells`, the items are the same.
 module _ {X : Type 0} (span : X → Span) (under tells : Search → Answer X → Type 0)
     (so : (t : Search) (a : Answer X) → under t a → tells t a) where
-  pub step-told : (w : IterState) (a : Answer X) → IsStep span under w a → IsStep span tells w a
-  step-told w a h = step-as span span under tells (λ b. b) (λ b. refl) so w a h
+  pub step-answered : (w : IterState) (a : Answer X) → IsStep span under w a → IsStep span tells w a
+  step-answered w a h = step-as span span under tells (λ b. b) (λ b. refl) so w a h
 
-  pub last-told : (ends ends' : IterState → SearchError → Type 0)
+  pub last-answered : (ends ends' : IterState → SearchError → Type 0)
       → ((w : IterState) (e : SearchError) → ends w e → ends' w e) → (w : IterState) (items : List (Item X))
       → ItemsLast span under ends w items → ItemsLast span tells ends' w items
-  last-told ends ends' end w [] h = step-told w (Ok None) h
-  last-told ends ends' end w (Ok x ∷ items) h =
-      (step-told w (Ok (Some x)) h.0, last-told ends ends' end (after w (Some (span x))) items h.1)
-  last-told ends ends' end w (Err e ∷ items) h = (end w e h.0, h.1)
+  last-answered ends ends' end w [] h = step-answered w (Ok None) h
+  last-answered ends ends' end w (Ok x ∷ items) h =
+      (step-answered w (Ok (Some x)) h.0, last-answered ends ends' end (after w (Some (span x))) items h.1)
+  last-answered ends ends' end w (Err e ∷ items) h = (end w e h.0, h.1)
 
 -- What `collect` makes of an iterator that gives a whole list at its end: that list.
 pub collected_all : {S A Z E : Type 0} (steps : S → Option A → S → Type 0) (Whole : List A → Type 0) (s : S)

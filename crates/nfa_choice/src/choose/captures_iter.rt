@@ -50,7 +50,8 @@ impl Choice {
     ghost use Rattle.nfa_search_base.specs.IterStates.{fresh};
     ghost use Rattle.nfa_choice.specs.CapturesMatches.{ChoiceCatchesBySearches, ChoiceCatchesGiveKept};
     ghost use Rattle.nfa_choice.specs.CapturesMatches.{ChoiceCatchesOn, ChoiceCatchesToEnd, choice_catches_choice};
-    ghost use Rattle.nfa_choice.specs.CapturesMatches.{choice_catches_done, choice_catches_next, choice_catches_walk};
+    ghost use Rattle.nfa_choice.specs.CapturesMatches.{choice_captures_iter_state, choice_catches_done};
+    ghost use Rattle.nfa_choice.specs.CapturesMatches.{choice_catches_next};
     ghost use Rattle.nfa_choice.specs.ChoiceState.{kind_in, KeepsEngines};
 
     /// Returns an iterator over the captures of all matches that do not overlap, from left to right, each with all
@@ -79,7 +80,7 @@ impl Choice {
         ensures same_reference { IfOk result (λ made. (choice_catches_choice made).ghost_name
             ≡ self.entry.ghost_name) }
         ensures same_choice { IfOk result (λ made. (choice_catches_choice made).now ≡ self.entry.now) }
-        ensures iter_state { IfOk result (λ made. choice_catches_walk made ≡ fresh (search_of input.entry)) }
+        ensures iter_state { IfOk result (λ made. choice_captures_iter_state made ≡ fresh (search_of input.entry)) }
         ensures going { IfOk result (λ made. choice_catches_done made ≡ false) }
         // Each run of calls gives the first captures of the input, and all of them if it goes on to `None`.
         ensures runs { IfOk result (CapturesRun choice_catches_next (AnswersRow self.entry.now.nfa
@@ -138,7 +139,7 @@ impl Choice {
         requires { HasGroups self.old.nfa captures }
         ensures same_reference { (choice_catches_choice result).ghost_name ≡ self.entry.ghost_name }
         ensures same_choice { (choice_catches_choice result).now ≡ self.entry.now }
-        ensures iter_state { choice_catches_walk result ≡ fresh (search_of input.entry) }
+        ensures iter_state { choice_captures_iter_state result ≡ fresh (search_of input.entry) }
         ensures going { choice_catches_done result ≡ false }
         // Each run of calls gives the first captures of the input, and all of them if it goes on to `None`.
         ensures runs { CapturesRun choice_catches_next (AnswersRow self.entry.now.nfa (kind_in self.entry.now)
@@ -223,7 +224,7 @@ impl<'c, 'h> ChoiceCaptures<'c, 'h> {
     ghost use Rattle.nfa_search_base.specs.IterStates.{fresh};
     ghost use Rattle.nfa_choice.specs.CapturesMatches.{ChoiceCatchesBySearches, ChoiceCatchesGiveKept};
     ghost use Rattle.nfa_choice.specs.CapturesMatches.{choice_catches_choice, choice_catches_done};
-    ghost use Rattle.nfa_choice.specs.CapturesMatches.{choice_catches_next, choice_catches_walk};
+    ghost use Rattle.nfa_choice.specs.CapturesMatches.{choice_catches_next, choice_captures_iter_state};
     ghost use Rattle.nfa_choice.specs.ChoiceState.{kind_in};
 
     // An iterator that searches with these captures.
@@ -232,7 +233,7 @@ impl<'c, 'h> ChoiceCaptures<'c, 'h> {
         requires { HasGroups choice.old.nfa captures }
         ensures same_reference { (choice_catches_choice result).ghost_name ≡ choice.entry.ghost_name }
         ensures same_choice { (choice_catches_choice result).now ≡ choice.entry.now }
-        ensures iter_state { choice_catches_walk result ≡ fresh (search_of input.entry) }
+        ensures iter_state { choice_captures_iter_state result ≡ fresh (search_of input.entry) }
         ensures going { choice_catches_done result ≡ false }
         ensures given { CapturesGiven choice_catches_next choice.entry.now.nfa (kind_in choice.entry.now)
             (search_of input.entry).earliest (AnswersRow choice.entry.now.nfa (kind_in choice.entry.now)

@@ -30,7 +30,7 @@ impl Choice {
     ghost use Rattle.nfa_choice.specs.ChoiceState.{kind_in, KeepsEngines};
     ghost use Rattle.nfa_choice.specs.Matches.{ChoiceFindsBySearches, ChoiceFindsOn, ChoiceFindsToEnd, ChoiceGivesKept};
     ghost use Rattle.nfa_choice.specs.Matches.{choice_finds_cache, choice_finds_done};
-    ghost use Rattle.nfa_choice.specs.Matches.{choice_matches_next, choice_finds_walk};
+    ghost use Rattle.nfa_choice.specs.Matches.{choice_matches_next, choice_matches_iter_state};
 
     /// Returns an iterator over all matches that do not overlap, from left to right. Does not allocate.
     ///
@@ -48,7 +48,7 @@ impl Choice {
     pub fn find_iter<'c, 'h>(&'c mut self, input: Input<'h>) -> ChoiceMatches<'c, 'h>
         ensures same_reference { (choice_finds_cache result).ghost_name ≡ self.entry.ghost_name }
         ensures same_choice { (choice_finds_cache result).now ≡ self.entry.now }
-        ensures iter_state { choice_finds_walk result ≡ fresh (search_of input.entry) }
+        ensures iter_state { choice_matches_iter_state result ≡ fresh (search_of input.entry) }
         ensures going { choice_finds_done result ≡ false }
         // Each run of calls gives the first matches of the input, and all of them if it goes on to `None`.
         ensures runs { MatchesRun self.entry.now.nfa (kind_in self.entry.now)

@@ -16,7 +16,7 @@ use std::alloc::AllocError;
 pub struct Searcher<'h> {
     input: Input<'h>,
     last_match_end: Option<usize>,
-    pub ghost behind: { EndsBy last_match_end input.span.start },
+    pub ghost ends_by: { EndsBy last_match_end input.span.start },
 }
 
 /// The result of offering an answer to a [`Searcher`].
@@ -113,7 +113,7 @@ impl<'h> Searcher<'h> {
         if self.moves_on(reply_span) {
             return Offered::Again;
         }
-        self.take(reply_span);
+        self.set_last_match(reply_span);
         Offered::Done(answer)
     }
 
@@ -348,12 +348,12 @@ impl<'h> Searcher<'h> {
         let once = backend.answer(cache, &self.input);
         let reply_span = backend.reply_span(once);
         if !self.moves_on(reply_span) {
-            self.take(reply_span);
+            self.set_last_match(reply_span);
             return once;
         }
         let twice = backend.answer(cache, &self.input);
         let reply_span = backend.reply_span(twice);
-        self.take(reply_span);
+        self.set_last_match(reply_span);
         twice
     }
 
@@ -379,7 +379,7 @@ impl<'h> Searcher<'h> {
 
     // Takes an answer as it is.
     #[inline]
-    fn take(&mut self, reply_span: Option<Span>)
+    fn set_last_match(&mut self, reply_span: Option<Span>)
         requires inside { LiesIn (iter_state_of self.old).at reply_span }
         requires ordered { ForSome reply_span (λ p. p.start ≤ p.end) }
         ensures { iter_state_of self.new ≡ after (iter_state_of self.old) reply_span }

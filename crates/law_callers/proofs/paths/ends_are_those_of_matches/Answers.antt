@@ -7,5 +7,5 @@ use Rattle.law_callers.proofs.paths.ends_are_those_of_matches.Goals as goal
 pub returns : goal.returns
 returns c = λ h inside.
     c.half_and_full_agree.ensures h (λ t. end_answer (h t)) (iter_state_of c.args.searcher.now)
-    (record { behind = c.args.searcher.now.behind; ordered = c.args.searcher.now.input.ordered })
+    (record { behind = c.args.searcher.now.ends_by; ordered = c.args.searcher.now.input.ordered })
     (record { inside = λ t _ _. inside t; ends = λ t _ _. refl })

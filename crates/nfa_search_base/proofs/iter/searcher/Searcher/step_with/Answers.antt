@@ -10,17 +10,18 @@ returns-then-not-moves_on g c =
     let a = g.A.FindWith in
     let w = iter_state_of c.args.self.now in
     let once : c.moves_on.result ≡ false = search rules in
-    step-once a.accepts a.asks a.span _ w c.requires c.args.self.now.behind _ _ c.reply_span-reply_span.result
-    (iter_state_of c.take.new.self)
+    step-once a.accepts a.asks a.span _ w c.requires c.args.self.now.ends_by _ _ c.reply_span-reply_span.result
+    (iter_state_of c.set_last_match.new.self)
     c.answer-once.ensures c.reply_span-reply_span.ensures.span c.reply_span-reply_span.ensures.ordered (search rules)
-    (c.take.ensures ∙ ap (λ (v : IterState). after v c.reply_span-reply_span.result) (c.moves_on.ensures.stays once))
+    (c.set_last_match.ensures
+    ∙ ap (λ (v : IterState). after v c.reply_span-reply_span.result) (c.moves_on.ensures.stays once))
 
 pub returns : goal.returns
 returns g c =
     let a = g.A.FindWith in
     let w = iter_state_of c.args.self.now in
     let again : c.moves_on.result ≡ true = search rules in
-    step-twice a.accepts a.asks a.span _ w c.requires c.args.self.now.behind _ _ c.reply_span-reply_span.result
+    step-twice a.accepts a.asks a.span _ w c.requires c.args.self.now.ends_by _ _ c.reply_span-reply_span.result
     (iter_state_of c.moves_on.new.self) _ _
     c.reply_span-reply_span-2.result (iter_state_of c.take-2.new.self) c.answer-once.ensures
     c.reply_span-reply_span.ensures.span
