@@ -1,6 +1,6 @@
 -- the first flaw in the parts of an NFA
 use Rattle.std.specs.Prelude.{◌≡◌, ℕ, ◌<◌, List, length, take, All, slice_index_or}
-use Rattle.std.specs.Prelude.{Option, None, Some}
+use Rattle.std.specs.Prelude.{◌++◌, Option, None, Some, codes, decimal}
 use Rattle.regex_search_core.specs.Groups.{slot_count}
 use Rattle.thompson_nfa.specs.Automaton.{Node, Capture, Match, Fail, LeadsBelow, SlotBelow, PatternBelow}
 use Rattle.thompson_nfa.specs.Automaton.{Automaton, IsAutomaton, AreStatesNumbered, IsNumbered}
@@ -9,6 +9,13 @@ use Rattle.thompson_nfa.specs.declared.flaw.Referrer.{Referrer}
 use Rattle.thompson_nfa.specs.declared.flaw.Referrer.TheVariants as holder
 use Rattle.thompson_nfa.specs.declared.flaw.Flaw.{Flaw}
 use Rattle.thompson_nfa.specs.declared.flaw.Flaw.TheVariants.{Empty, State, Slot, Pattern, Groups}
+
+-- the text of a place that holds the number of a state
+abbrev pub referrer_text : Referrer → List ℕ
+referrer_text holder.Anchored = codes "the anchored start"
+referrer_text holder.Unanchored = codes "the unanchored start"
+referrer_text (holder.Pattern i) = codes "the start of pattern " ++ decimal i
+referrer_text (holder.State i) = codes "state " ++ decimal i
 
 -- the index of the first element that fails; x, which passes, is read past the last element
 abbrev pub IsFirstFailing : {X : Type 0} → (X → Type 0) → X → List X → Option ℕ → Type 0

@@ -23,6 +23,11 @@ pub enum Referrer {
 }
 
 impl fmt::Display for Referrer {
+    ghost use Rattle.std.specs.Prelude.{Some};
+    ghost use Rattle.thompson_nfa.specs.Flaws.{referrer_text};
+
+    ghost output = { λ referrer. Some (referrer_text referrer) };
+
     fn fmt<W: fmt::Write>(&self, f: &mut fmt::Formatter<W>) -> fmt::Result {
         match self {
             Referrer::Anchored => f.write_str("the anchored start"),
