@@ -23,8 +23,8 @@ returns g c =
     let again : c.moves_on.result ≡ true = search rules in
     step-twice a.accepts a.asks a.span _ w c.requires c.args.self.now.ends_by _ _ c.reply_span-reply_span.result
     (iter_state_of c.moves_on.new.self) _ _
-    c.reply_span-reply_span-2.result (iter_state_of c.take-2.new.self) c.answer-once.ensures
+    c.reply_span-reply_span-2.result (iter_state_of c.set_last_match-2.new.self) c.answer-once.ensures
     c.reply_span-reply_span.ensures.span
     (search rules) (search rules)
     c.answer-twice.ensures c.reply_span-reply_span-2.ensures.span c.reply_span-reply_span-2.ensures.ordered
-    c.take-2.ensures
+    c.set_last_match-2.ensures
