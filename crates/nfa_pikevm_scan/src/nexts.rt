@@ -10,6 +10,7 @@ ghost use Rattle.nfa_pikevm_scan.specs.Scans.{blank, HaveRows, KeepsThreads, May
 use crate::active::Parts;
 use crate::closure::{ClosureContext, ClosureOutput, epsilon_closure, next_match};
 use crate::frame::FollowEpsilon;
+use crate::scan::Starts;
 use crate::sink::{MatchSink, SlotsSink};
 use crate::slot::{Slot, unset_row};
 use crate::threads::Threads;
@@ -258,20 +259,20 @@ pub fn nexts_of_lone(
 /// writes to the slots as to the state's row, so it copies no row. Returns the first match, and leaves its slots. If
 /// there is none, it unsets them.
 ///
-/// Requires a position that may not be skipped for its byte. Only that clause uses the table of first bytes.
+/// Requires a position that may not be skipped for its byte. Only that clause uses the table of first bytes and
+/// `starts.stop`.
 #[inline(always)]
 pub fn nexts_of_start(
     here: &ClosureContext<'_, '_>,
     first: &FirstBytes,
-    state: StateID,
-    stop: usize,
+    starts: &Starts,
     threads: &mut Threads,
     slots: &mut [Slot],
 ) -> Option<PatternID>
     requires here { IsClosureContext here.now }
-    requires due { here.now.at < stop
+    requires due { here.now.at < starts.now.stop
         → IsRefused first.now.may_begin (search_of here.now.input.now) here.now.at → ⊥ }
-    requires state { state < length here.now.nfa.now.states }
+    requires state { starts.now.state < length here.now.nfa.now.states }
     requires room { HaveRows here.now.nfa.now (length slots.old) threads.old }
     requires unset { slots.old ≡ blank (length slots.old) }
     requires empty { threads.old.reached.next.items ≡ [] }
@@ -279,8 +280,8 @@ pub fn nexts_of_start(
     ensures keeps { KeepsThreads threads.old threads.new }
     ensures grows { threads.old.reached.seen.turns ≤ threads.new.reached.seen.turns }
     ensures crosses { NextsGive here.now.nfa.now (search_of here.now.input.now) here.now.at false
-        threads.old.reached.seen ((state, blank (length slots.old)) ∷ []) slots.old result threads.new.reached.seen
-        threads.new.curr.items slots.new }
+        threads.old.reached.seen ((starts.now.state, blank (length slots.old)) ∷ []) slots.old result
+        threads.new.reached.seen threads.new.curr.items slots.new }
 {
     let Threads {
         frames,
@@ -290,7 +291,7 @@ pub fn nexts_of_start(
     reached.seen.clear();
     let mut top = 0;
     let frames = frames.as_mut_slice();
-    let hit = next_match(here, state, frames, &mut top, reached, slots);
+    let hit = next_match(here, starts.state, frames, &mut top, reached, slots);
     if hit.is_none() {
         unset_row(slots);
     }

@@ -187,10 +187,7 @@ fn scan_first(
         at,
         byte: byte_at(input, at),
     };
-    let mut found = half_at(
-        nexts_of_start(&here, first, starts.state, starts.stop, threads, slots),
-        at,
-    );
+    let mut found = half_at(nexts_of_start(&here, first, starts, threads, slots), at);
     if found.is_some() {
         if threads.curr.is_empty() {
             return found;

@@ -12,6 +12,7 @@ pub returns-clause-crosses : goal.returns-clause-crosses
 returns-clause-crosses c =
     let nfa = c.args.here.now.nfa.now in
     let x = search_of c.args.here.now.input.now in
+    let state = c.args.starts.now.state in
     let met = c.args.threads.now.reached.seen in
     let hit = c.next_match-hit.result in
     let new = c.next_match-hit.new in
@@ -27,8 +28,8 @@ returns-clause-crosses c =
       | else-is_none w ↦ w.slots-is
     ] in
     rw (c.swap_state_sets.ensures.seen, c.swap_state_sets.ensures.curr)
-    (subst (λ (r : Slots). NextsGive nfa x c.args.here.now.at false met ((c.args.state, r) ∷ []) c.args.slots.now hit
+    (subst (λ (r : Slots). NextsGive nfa x c.args.here.now.at false met ((state, r) ∷ []) c.args.slots.now hit
     new.reached.seen new.reached.next.items last) c.requires.unset
-    (NextsGive-start nfa x c.args.here.now.at met c.args.state c.args.slots.now c.args.slots.now hit new.reached.seen
+    (NextsGive-start nfa x c.args.here.now.at met state c.args.slots.now c.args.slots.now hit new.reached.seen
     new.reached.next.items (take new.top new.frames) new.row last (search (rules, finds))
     (λ none. rw (c.next_match-hit.ensures.over none) refl) same written))
