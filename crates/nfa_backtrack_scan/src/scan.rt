@@ -16,14 +16,14 @@ use nfa_scan_core::starts::{next_start, skip_limit, start_limit, start_state};
 use regex_search_core::{HalfMatch, Input, NonMaxUsize, Refused, StateID};
 use thompson_nfa::NFA;
 
-/// Unsets all slots. Two slots, those of a match, take no call, nor does a search without slots.
+/// Unsets all slots. Two slots, those of a match, take no call.
 pub fn unset(slots: &mut [Option<NonMaxUsize>])
     ensures { slots.new ≡ replicate (length slots.old) None }
 {
     if slots.len() == 2 {
         slots[0] = None;
         slots[1] = None;
-    } else if !slots.is_empty() {
+    } else {
         unset_each(slots);
     }
 }
