@@ -40,8 +40,7 @@ IsTryCapturesAnswer e x (Err error) = IsRefusal e x error
 abbrev pub IsSureAt : Backtracker → Search → Found → Type 0
 IsSureAt e x m = ¬ (IsTooLong e x) × IsSureMatch e.nfa LeftmostFirst false x m
 
--- What a search refuses, counts and grows, whatever it answers. It uses at most `needed` slots of the
--- cache.
+-- What a search refuses, counts and grows, whatever it answers. It uses at most `needed` slots of the cache.
 pub record IsCounted {Y : Type 0} (e : Backtracker) (x : Search) (needed : ℕ) (r : Result Y SearchError)
     (old new : BacktrackCache) : Type 0 where
   pub too_long : IsErrOf r (HaystackTooLong (span_len x)) ↔ IsTooLong e x

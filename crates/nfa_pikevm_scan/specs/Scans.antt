@@ -86,8 +86,8 @@ pub record AreStarts (nfa : Automaton) (x : Search) (starts_at : Starts) : Type 
   pub before : starts_at.stop < starts_at.limit
   pub skips : x.start < starts_at.stop → starts_at.state ≡ nfa.anchored
 
--- A scan may begin: the starts are its own, the span does not start after its end, no slot is set, rows of as many slots
--- have room, and there are no states.
+-- A scan may begin: the starts are its own, the span does not start after its end, no slot is set, there is room for
+-- rows of as many slots, and there are no states.
 pub record MayScan (nfa : Automaton) (x : Search) (starts_at : Starts) (slots : Slots) (t : Threads) : Type 0 where
   pub starts : AreStarts nfa x starts_at
   pub span : x.start ≤ x.end

@@ -377,7 +377,7 @@ impl<'h> Searcher<'h> {
         again
     }
 
-    // Takes an answer as it is.
+    // Moves the start to the end of the answer's match, which becomes the last match. Without a match nothing changes.
     #[inline]
     fn set_last_match(&mut self, reply_span: Option<Span>)
         requires inside { LiesIn (iter_state_of self.old).at reply_span }
