@@ -57,10 +57,6 @@ module _ (nfa : Automaton) (x : Search) where
       → after ≤ before + max_scan_turns nfa x
   turns-bound tried turns after before bits few h k = omega (arith, sum-weights nfa x)
 
-  -- a scan from further on has room too
-  HasBits-raised : (bits : List Bool) (i : ℕ) → HasBits nfa x bits → HasBits nfa (raised x i) bits
-  HasBits-raised bits i room = grind arith
-
 -- the same after some restarts, if there are as many marks as before
 pub room-after : (nfa : Automaton) (x y : Search) (i : ℕ) (bits after : List Bool) → length after ≡ length bits → y
     ≡ raised x i

@@ -43,12 +43,6 @@ unfolding ExploresTo
 Answer-dead space target left otherwise marks v rest slots g plain none h = grind (arith, Answer-more)
 
 module _ (nfa : Automaton) (x : Search) where
-  -- the bit of a place is in the table
-  pub bit_of-within : (bits : List Bool) (s at : ℕ) → HasBits nfa x bits → s < length nfa.states → x.start
-      ≤ at → at ≤ x.end
-      → bit_of nfa x (s, at) < length bits
-  bit_of-within bits s at room state from to = grind arith
-
   -- marking a pair adds its state's degree
   pub marked_sum-weights : (bits : List Bool) (s at : ℕ) (node : Node) → s < length nfa.states → x.start
       ≤ at → at ≤ x.end

@@ -23,12 +23,6 @@ slot_among-append nfa [] q slot = sym (option_or-None (slot_among nfa q slot))
 slot_among-append nfa (v ∷ p) q slot =
     rw (slot_among-append nfa p q slot) (option_or-assoc (slot_among nfa q slot) (slot_among nfa p slot) _)
 
--- a Match writes no slot
-pub written-match : (node : Node) (pattern slot position : ℕ) (held : Option ℕ) → pattern_of node ≡ Some pattern
-    → written node slot position held ≡ held
-written-match (Match k) pattern slot position held e = refl
-written-match _ pattern slot position held e = cc
-
 -- at the start of a way
 pub Describes-fresh : (s position : ℕ) → Describes position position None None (fresh_path_state s)
 Describes-fresh s position = grind arith
@@ -44,36 +38,6 @@ module _ {start position : ℕ} {start_slot end_slot : Option ℕ} {v : PathStat
       → Describes start (position + 1) start_slot end_slot
       (record v { state = s; has_read = true; end_written = false })
   Describes-read s h = grind arith
-
-  -- whether the start's slot holds the start, once a Capture of it, or of another, is done
-  start-captured : (here : Bool) → Describes start position start_slot end_slot v
-      → ((if here then not v.has_read else v.start_written) ≡ true)
-      ↔ (option_or (if here then Some position else None) start_slot ≡ Some start)
-  start-captured false h = h.started
-  start-captured true h = (λ e. ap Some (h.unread (unset v.has_read e)), λ e. set v.has_read refl (same e))
-    where
-      unset : (b : Bool) → not b ≡ true → b ≡ false
-      unset true e = cc
-      unset false e = refl
-
-      same : Some position ≡ Some start → position ≡ start
-      same e = cc
-
-      set : (b : Bool) → v.has_read ≡ b → position ≡ start → not b ≡ true
-      set true e s = absurd (let r : start < position = h.read e in omega arith)
-      set false e s = refl
-
-  -- whether the end's slot holds the position
-  end-captured : (here : Bool) → Describes start position start_slot end_slot v
-      → ((if here then true else v.end_written) ≡ true)
-      ↔ (option_or (if here then Some position else None) end_slot ≡ Some position)
-  end-captured false h = h.ended
-  end-captured true h = (λ e. refl, λ e. refl)
-
-  end-behind : (here : Bool) → Describes start position start_slot end_slot v → (k : ℕ)
-      → option_or (if here then Some position else None) end_slot ≡ Some k → k ≤ position
-  end-behind false h k e = h.behind k e
-  end-behind true h k e = let same : position ≡ k = cc in omega arith
 
   Describes-captured : (pattern next slot s : ℕ) → Describes start position start_slot end_slot v
       → Describes start position (written (Capture next slot) (2 * pattern) position start_slot)

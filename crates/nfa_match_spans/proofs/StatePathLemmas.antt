@@ -27,10 +27,6 @@ HeadIs-append : (s : Pair) (p q : List Pair) → HeadIs s p → HeadIs s (p ++ q
 HeadIs-append s [] q h = absurd h
 HeadIs-append s (x ∷ p) q h = h
 
-pub HeadIs-one : (s t : Pair) (p : List Pair) → HeadIs s p → HeadIs t p → s ≡ t
-HeadIs-one s t [] h k = absurd h
-HeadIs-one s t (x ∷ p) h k = sym h ∙ k
-
 EndsWith-append : (m : Pair) (p : List Pair) → EndsWith m (p ++ m ∷ [])
 EndsWith-append m [] = refl
 EndsWith-append m (x ∷ []) = refl

@@ -13,7 +13,7 @@ use Rattle.thompson_nfa.specs.Automaton.{Automaton}
 use Rattle.nfa_paths.specs.Graphs.{Pair, ComesBefore, PathTo}
 use Rattle.nfa_paths.specs.Exploring.{Slots, write, apply, ExploresTo}
 use Rattle.nfa_paths.specs.Exploring.Task.{Explore}
-use Rattle.nfa_paths.specs.Paths.{space, raised, span_len, is_match, IsMatch, capture, is_utf8_empty, edges, starts, IsScanAnswer, last_of, slot_among, slot_row, EndsOnBoundary, IsWhole, SplitsCharacter, IsKeptAnswer, IsRestartedAnswer, IsSearchAnswer, IsWithinScans, max_scans}
+use Rattle.nfa_paths.specs.Paths.{space, raised, span_len, is_match, IsMatch, capture, is_utf8_empty, edges, starts, IsScanAnswer, last_of, slot_among, slot_row, EndsOnBoundary, IsWhole, SplitsCharacter, IsRestartedAnswer, IsSearchAnswer, IsWithinScans, max_scans}
 use Rattle.nfa_paths.proofs.PathLemmas.{IsLeast-from_first}
 use Rattle.nfa_paths.proofs.SearchLemmas.{Answer-starts, found-Some}
 use Rattle.nfa_paths.proofs.PathToLemmas.{ComesBefore-asymmetric, PathTo-order, IsLeast-none, IsLeast-first, IsFirstPath-unique, IsEarliestPath-unique, IsLastPath-unique, IsEarliestLastPath-unique}
@@ -180,14 +180,6 @@ module _ (nfa : Automaton) where
     SplitsCharacter-whole x None h answers whole =
         never_none h.path (scan_answer-unique x kind earliest (Some h.path) None h.answers answers)
     SplitsCharacter-whole x (Some p) h answers whole = grind (arith, scan_answer-unique)
-
-    -- an anchored search has one answer
-    IsKeptAnswer-unique : (x : Search) (r s : Option (List Pair)) → IsKeptAnswer nfa kind earliest x r
-        → IsKeptAnswer nfa kind earliest x s → r ≡ s
-    IsKeptAnswer-unique x None None h k = refl
-    IsKeptAnswer-unique x None (Some q) h k = grind (arith, scan_answer-unique)
-    IsKeptAnswer-unique x (Some p) None h k = grind (arith, scan_answer-unique)
-    IsKeptAnswer-unique x (Some p) (Some q) h k = scan_answer-unique x kind earliest (Some p) (Some q) h.0 k.0
 
     -- the restarts stop at the first scan that is whole
     IsRestartedAnswer-first : (x : Search) (i j : ℕ) (r s : Option (List Pair))

@@ -1,12 +1,12 @@
 -- The `earliest` flag of an input changes no path. Only the kind of the answer does. Also whether there is a match.
 use Rattle.std.proofs.Common.{◌≡◌, ℕ, inl, inr, Bool, true, false, List, refl, subst, rules, arith}
-use Rattle.std.specs.Prelude.{Option, None, Some, is_some, not}
+use Rattle.std.specs.Prelude.{Option, is_some, not}
 use Rattle.std.proofs.lemmas.Bool.{cases_Bool}
 use Rattle.regex_search_core.specs.Search.{Search}
 use Rattle.regex_search_core.specs.declared.search.MatchKind.{MatchKind}
 use Rattle.thompson_nfa.specs.Automaton.{Automaton}
 use Rattle.nfa_paths.specs.Graphs.{Pair}
-use Rattle.nfa_paths.specs.Paths.{raised, is_utf8_empty, edges_of, IsScanAnswer, SplitsCharacter, IsKeptAnswer, IsRestartedAnswer, IsSearchAnswer, IsBoolAnswer}
+use Rattle.nfa_paths.specs.Paths.{raised, is_utf8_empty, edges_of, IsScanAnswer, SplitsCharacter, IsRestartedAnswer, IsSearchAnswer, IsBoolAnswer}
 use Rattle.nfa_paths.proofs.ExistenceLemmas.{is_match-agrees}
 
 -- the search with this `earliest` flag
@@ -25,12 +25,6 @@ module _ (nfa : Automaton) where
     SplitsCharacter-asked : (x : Search) (sooner : Bool) → SplitsCharacter nfa kind earliest (asked x sooner)
         → SplitsCharacter nfa kind earliest x
     SplitsCharacter-asked x sooner h = grind (arith, scan_answer-asked)
-
-    -- an answer of a search that keeps to its start
-    IsKeptAnswer-asked : (x : Search) (sooner : Bool) (r : Option (List Pair))
-        → IsKeptAnswer nfa kind earliest (asked x sooner) r → IsKeptAnswer nfa kind earliest x r
-    IsKeptAnswer-asked x sooner None h = grind (arith, scan_answer-asked)
-    IsKeptAnswer-asked x sooner (Some p) h = grind (arith, scan_answer-asked)
 
     -- an answer after restarts
     IsRestartedAnswer-asked : (x : Search) (sooner : Bool) (n : ℕ) (r : Option (List Pair))

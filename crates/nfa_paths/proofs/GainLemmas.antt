@@ -8,7 +8,7 @@ use Rattle.regex_search_core.specs.declared.search.MatchKind.TheVariants.{All}
 use Rattle.thompson_nfa.specs.Automaton.{Automaton}
 use Rattle.nfa_paths.specs.Graphs.{Pair, IsLeastEnd, WantedAt}
 use Rattle.nfa_paths.specs.Exploring.{Slots}
-use Rattle.nfa_paths.specs.Kinds.{Passes, ReachedBefore, EndsBefore, HoldsMatch, Scanned, IsFrontier, is_resting}
+use Rattle.nfa_paths.specs.Kinds.{ReachedBefore, EndsBefore, HoldsMatch, Scanned, IsFrontier, is_resting}
 use Rattle.nfa_paths.specs.Paths.{space, edges, starts}
 use Rattle.nfa_paths.specs.Overlaps.{HoldsPattern, pattern_at, IsPermitted, IsInsertable, IsPatternOf, IsOverlapResult}
 use Rattle.nfa_paths.proofs.ReachedLemmas.{IsReached-at, ReachedBefore-start, ReachedBefore-step, IsReached-along}
@@ -22,9 +22,6 @@ module _ (nfa : Automaton) (x : Search) (old : List Bool) (wants : Pair → Bool
   -- what the search goes over
   pub wanted-shape : Scanned (space nfa x) (is_resting nfa) wants
   wanted-shape = Scanned-matches nfa x wants (λ v w. ((tells v).0 w).permitted.matches)
-
-  permitted_at : (e : ℕ) (v : Pair) → WantedAt (Passes wants) e v → WantedAt (IsPermitted nfa x) e v
-  permitted_at e v w = record { wanted = ((tells v).0 w.wanted).permitted; at = w.at }
 
   -- a permitted match counts if its pattern is below the capacity
   counts : {k : ℕ} → k < length old → (v : Pair) → IsPermitted nfa x v → pattern_at nfa v ≡ Some k → wants v ≡ true

@@ -24,9 +24,8 @@ pub mod InsideLemmas
 pub mod KnownLemmas
 pub mod SetLemmas
 pub mod GainLemmas
-pub mod SoundLemmas
+pub mod FirstWantedLemmas
 pub mod MetLemmas
-pub mod UpToLemmas
 pub mod FullLemmas
 pub mod TurnLemmas
 pub mod RestartLemmas

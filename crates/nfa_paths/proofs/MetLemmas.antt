@@ -63,9 +63,6 @@ pub record Between (wants : Pair → Bool) (e : ℕ) (target : Pair → Bool) : 
   pub sub : (v : Pair) → target v ≡ true → wants v ≡ true
   pub all : (v : Pair) → wants v ≡ true → v.1 < e → target v ≡ true
 
-pub Between-all : (wants : Pair → Bool) (e : ℕ) → Between wants e wants
-Between-all wants e = record { sub = λ v t. t; all = λ v t l. t }
-
 pub Between-less : {wants target : Pair → Bool} {e : ℕ} → Between wants (e + 1) target → Between wants e target
 Between-less {wants} {target} {e} b = record { sub = b.sub; all = λ v t l. b.all v t (omega arith) }
 

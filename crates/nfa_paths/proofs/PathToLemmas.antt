@@ -67,12 +67,6 @@ module _ (edges : Pair → List Pair) where
   ComesBefore-heads e d (x ∷ p) (y ∷ q) h k r =
       elim r [ inl less ↦ inr (inl (rw (h, k) less)) | inr s ↦ elim s [ inl eq ↦ inl eq | inr b ↦ inr (inr b) ] ]
 
-  -- a list that starts at a smaller position comes first
-  ComesBefore-less : (e d : Pair) (p q : List Pair) → HeadIs e p → HeadIs d q → e.1 < d.1 → ComesBefore edges p q
-  ComesBefore-less e d [] q h k less = absurd h
-  ComesBefore-less e d (x ∷ p) [] h k less = absurd k
-  ComesBefore-less e d (x ∷ p) (y ∷ q) h k less = inl (rw (h, k) less)
-
   -- of two lists with one head, the order is that of the edges
   ComesBefore-same : (p q : List Pair) → Before edges p q → ComesBefore edges p q
   ComesBefore-same [] q b = b

@@ -93,12 +93,6 @@ module _ (nfa : Automaton) where
       rw (slice_get-get_or (map (slot_among nfa p) (range_with_len 0 count)) i None h)
       (get_or-map-range_with_len (slot_among nfa p) 0 count i i None inside (omega arith))
 
-  -- rows that have the pattern's two slots give one match
-  match-along : (r s : Slots) (k : ℕ) → offset_at r (2 * k) ≡ offset_at s (2 * k)
-      → offset_at r (2 * k + 1) ≡ offset_at s (2 * k + 1)
-      → match_of (Some k) r ≡ match_of (Some k) s
-  match-along r s k start end = rw (start, end) refl
-
   match-row : IsAutomaton nfa → (p : List Pair) (k : ℕ) → path_pattern nfa p ≡ Some k
       → match_of (Some k) (slot_row nfa (2 * length nfa.groups) (Some p))
       ≡ match_of (Some k) (slot_row nfa (slot_count nfa.groups) (Some p))

@@ -1,10 +1,10 @@
 -- The patterns of the match pairs that are reached, position by position.
-use Rattle.std.proofs.Common.{◌≡◌, ℕ, ◌+◌, ◌≤◌, ◌<◌, ◌⊎◌, ◌↔◌, inl, inr, Bool, true, List, refl, arith, rules}
+use Rattle.std.proofs.Common.{◌≡◌, ℕ, ◌+◌, ◌≤◌, ◌<◌, ◌⊎◌, ◌↔◌, inl, inr, Bool, true, List, refl, arith}
 use Rattle.std.specs.Prelude.{Option}
 use Rattle.std.proofs.lemmas.Bool.{cases_lt}
 use Rattle.nfa_paths.specs.Graphs.{Pair, Space, In, WantedAt}
 use Rattle.nfa_paths.specs.Exploring.{Slots}
-use Rattle.nfa_paths.specs.Kinds.{Passes, IsReached, ReachedBefore, EndsBefore, HoldsMatch, Scanned, IsFrontier}
+use Rattle.nfa_paths.specs.Kinds.{Passes, IsReached, ReachedBefore, HoldsMatch, Scanned, IsFrontier}
 use Rattle.nfa_paths.proofs.KindsLemmas.{IsFrontier-pairs}
 use Rattle.nfa_paths.proofs.ScanLemmas.{NoneBefore-start}
 
@@ -60,12 +60,4 @@ module _ (space : Space) (resting is_match : Pair → Bool) (slots : Slots) (sha
                 let r = (IsReached-at f).1 a in
                 grind arith
           ],
-    )
-
-    -- if every path has ended: all that are reached
-    pub ReachedBefore-end : {e : ℕ} → EndsBefore space is_match e
-        → ReachedBefore space is_match pattern e k ↔ IsReached space.edges space.starts (Passes is_match) pattern k
-    ReachedBefore-end ends = (
-      λ r. record { end = r.end; along = r.along; path = r.path; wanted = r.wanted.wanted; pattern_is = r.pattern_is },
-      λ r. search rules,
     )

@@ -194,11 +194,6 @@ module _ (nfa : Automaton) (kind : MatchKind) (earliest : Bool) (x : Search) {sl
       → IsHalfAnswer nfa kind earliest x (option_map half_found_of half)
   half-of half s = record { restarts = s.restarts; path = s.path; answers = s.answers; found_is = s.half_is }
 
-  -- the pattern
-  pattern-given : (half : Option HalfMatch) (s : SearchGives nfa kind earliest x half slots scans turns)
-      → option_map (λ h. (half_found_of h).pattern) half ≡ option_and_then (path_pattern nfa) s.path
-  pattern-given half s = search rules
-
   -- the pattern and the slots, given a part of the slots
   pub answer-of : (half : Option HalfMatch) (pattern : Option ℕ)
       → pattern ≡ option_map (λ h. (half_found_of h).pattern) half

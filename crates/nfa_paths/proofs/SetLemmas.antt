@@ -38,6 +38,13 @@ size-none (true ∷ bs) e k h = absurd (omega (arith, size-cons true bs))
 size-none (false ∷ bs) e zero h = cc
 size-none (false ∷ bs) e (suc k) h = grind (arith, size-none bs)
 
+-- and a set that holds none is of no pattern
+pub size-empty : (set : List Bool) → ((k : ℕ) → HoldsPattern set k → ⊥) → size_of_set set ≡ 0
+size-empty [] none = refl
+size-empty (true ∷ bs) none = absurd (none zero refl)
+size-empty (false ∷ bs) none =
+    let e = size-cons false bs in let r = size-empty bs (λ k h. none (suc k) h) in omega (arith, e, r)
+
 -- what a set holds is below its capacity
 pub holds-below : (set : List Bool) (k : ℕ) → HoldsPattern set k → k < length set
 holds-below [] k h = cc

@@ -15,8 +15,7 @@ use Rattle.nfa_paths.proofs.FrontierMatchLemmas.{before_match-all, before_match-
 use Rattle.nfa_paths.proofs.ScanLemmas.{NoneBefore-start, NoneBefore-step, NoneBefore-end}
 use Rattle.nfa_paths.proofs.SetLemmas.{full-gains, first-gains}
 use Rattle.nfa_paths.proofs.GainLemmas.{wanted-shape, GainsBefore, GainsBefore-start, GainsBefore-step, GainsBefore-end, GainsBefore-full, NoneHeld, NoneHeld-start, NoneHeld-step, NoneHeld-found, NoneHeld-end}
-use Rattle.nfa_paths.proofs.SoundLemmas.{FirstAt-front}
-use Rattle.nfa_paths.proofs.UpToLemmas.{FirstAt-found, First-none}
+use Rattle.nfa_paths.proofs.FirstWantedLemmas.{FirstAt-front, FirstAt-found, First-none}
 use Rattle.nfa_scan_core.specs.Marks.{Marks}
 use Rattle.nfa_pikevm_scan.specs.Scans.{with_start, AreStarts}
 use Rattle.nfa_pikevm_scan.specs.Overlapping.{wants, AddsPatterns, AddsAllPatterns, NextsOverlappingGive}

@@ -94,10 +94,6 @@ AddsStart-passes {at = at} {to} width p inside before some = record {
   last = inl (grind (arith, p.near, p.stays), refl);
 }
 
--- a list with one more item has some
-pub some-push : {A : Type 0} (xs : List A) (a : A) → 0 < length (xs ++ a ∷ [])
-some-push xs a = omega (arith, length-append xs (a ∷ []))
-
 pub some_of : {A : Type 0} (xs : List A) → (length xs ≡ 0 → ⊥) → 0 < length xs
 some_of [] n = absurd (n refl)
 some_of (x ∷ xs) n = omega arith

@@ -16,7 +16,7 @@ use Rattle.nfa_pikevm_scan.proofs.ScanLemmas.{Crossed-given, AreAt-cross}
 use Rattle.nfa_pikevm_scan.proofs.EndLemmas.{ScansAll-over}
 use Rattle.nfa_pikevm_scan.proofs.OverlapSetLemmas.{wants-match}
 use Rattle.nfa_pikevm_scan.proofs.OverlapLoopLemmas.{AllAt, All-start, All-next, All-full, All-over, EarliestAt, Earliest-start, Earliest-next, Earliest-found, Earliest-end}
-use Rattle.nfa_pikevm_scan.proofs.OverlapFirstLemmas.{FirstWay, FirstWay-capacity, FirstWay-start, FirstWay-next, FirstWay-cut, FirstWay-over, FirstWay-full}
+use Rattle.nfa_pikevm_scan.proofs.OverlapFirstLemmas.{FirstWay, FirstWay-start, FirstWay-next, FirstWay-cut, FirstWay-over, FirstWay-full}
 
 module _ (nfa : Automaton) (x : Search) (old : List Bool) where
   -- what is known of the matches before the position
@@ -35,7 +35,7 @@ module _ (nfa : Automaton) (x : Search) (old : List Bool) where
       (new : List Bool) → Known past earliest from at before met items new → length new ≡ length old
   capacity past true from at before met items new k = ap (λ (l : List Bool). length l) k.still
   capacity true false from at before met items new k = k.gains.capacity
-  capacity false false from at before met items new k = FirstWay-capacity nfa x old k
+  capacity false false from at before met items new k = k.capacity
 
   pub SoFar-start : (past earliest : Bool) → (past ≡ false → size_of_set old ≡ 0) → (from : Starts)
       → AreStarts nfa x from → (met : Marks) (items : List (ℕ × Slots)) → items ≡ []
