@@ -82,13 +82,6 @@ pike-acts vm x s t a s' same is asked =
     (λ vm x a. searched-fits vm x) vm s t a s' is asked in
     (subst (λ (b : Bool). AnswersMatch vm.nfa (kind_of vm) b t a) same.earliest k.0, k.1)
 
--- if a match was given, there is a match
-pub none-before : (nfa : Automaton) (kind : MatchKind) (earliest : Bool) (x : Search) (ms : List Match) (m : Match)
-    → AreFirstMatches nfa kind earliest x (map found_of (ms ++ m ∷ [])) → AreMatches nfa kind earliest x [] → ⊥
-none-before nfa kind earliest x ms m first none =
-    let rest = matches-rest nfa kind earliest x (map found_of (ms ++ m ∷ [])) [] first none in
-    omega (arith, simp (length-append, length-map) at (ap length rest.1))
-
 -- ---- the cache
 
 pub same_capacities : (a : PikeCache) → SameCapacities a a

@@ -172,7 +172,7 @@ module _ (nfa : Automaton) (kind : MatchKind) (earliest : Bool) where
       )
   up-to w (r ∷ rows) (Err q ∷ items) h k = elim k.0 [
     | inl fails ↦ absurd (never-fails row_span tells (λ t e k. k) w q fails)
-    | inr refused ↦ inr (ap (λ (z : SearchError). let a : Item Row = Err z in a) refused.0, k.1)
+    | inr refused ↦ inr (refl, ap (λ (z : SearchError). let a : Item Row = Err z in a) refused.0, k.1)
   ]
 
   pub rows-up_to : (x : Search) (rows : List Row) (items : List (Item Row)) → AreRows nfa kind earliest x rows

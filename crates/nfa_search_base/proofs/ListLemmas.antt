@@ -4,9 +4,11 @@ use Rattle.std.proofs.Common.{◌≡◌, ◌∙◌, ℕ, zero, suc, ◌≤◌, �
 use Rattle.std.proofs.Common.{if◌then◌else◌, MatchBool}
 use Rattle.std.proofs.Common.{Option, None, Some, Ok, Err, List, [], ◌∷◌, ◌++◌, map, length, refl, sym, ap, subst}
 use Rattle.std.proofs.Common.{arith, append-nil, length-append}
+use Rattle.std.proofs.lemmas.List.{length-map}
 use Rattle.std.specs.Option.{ForSome}
-use Rattle.regex_search_core.specs.Found.{Found}
+use Rattle.regex_search_core.specs.Found.{Found, found_of}
 use Rattle.regex_search_core.specs.Search.{Search}
+use Rattle.regex_search_core.specs.declared.search.Match.{Match}
 use Rattle.regex_search_core.specs.declared.search.MatchKind.{MatchKind}
 use Rattle.regex_search_core.specs.declared.search.Span.{Span}
 use Rattle.thompson_nfa.specs.Automaton.{Automaton}
@@ -359,6 +361,13 @@ module _ (nfa : Automaton) (kind : MatchKind) (earliest : Bool) where
   matches-rest x xs ys h k =
       let rest = next-rest span_of tells one-answer (fresh x) (as_items xs) (as_items ys) h.come k.come in
       as_items-rest xs ys rest.0 rest.1
+
+  -- if a match was given, there is a match
+  pub none-before : (x : Search) (ms : List Match) (m : Match)
+      → AreFirstMatches nfa kind earliest x (map found_of (ms ++ m ∷ [])) → AreMatches nfa kind earliest x [] → ⊥
+  none-before x ms m first none =
+      let rest = matches-rest x (map found_of (ms ++ m ∷ [])) [] first none in
+      omega (arith, simp (length-append, length-map) at (ap length rest.1))
 
   -- the first matches of a search are in its span, in order and without overlap
   pub matches-disjoint : (x : Search) (ms : List Found) → AreFirstMatches nfa kind earliest x ms → AreDisjoint x None ms

@@ -47,7 +47,7 @@ at_some c (Ok (Some m)) rest (Ok d) xs (inl h) end onward =
     let same : d ≡ c.captures = cc in
     inl (ap (λ (z : Row). Ok z) (ap row_of same ∙ h.1), onward refl)
 at_some c (Ok (Some m)) rest (Err e) xs (inr h) end onward =
-    let same : e ≡ Memory = cc in inr (ap (λ (z : SearchError). Err z) same, end refl)
+    let same : e ≡ Memory = cc in inr (refl, ap (λ (z : SearchError). Err z) same, end refl)
 at_some c (Err e) rest (Err f) xs h end onward =
     let same : f ≡ e = cc in inl (ap (λ (z : SearchError). Err z) same, rw (end refl) tt)
 at_some c (Ok (Some m)) rest x xs (inl h) end onward = cc

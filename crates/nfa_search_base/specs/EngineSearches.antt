@@ -55,7 +55,7 @@ keeping shown s = record { cache = s.cache; known = option_map found_of (shown s
 module _ {E : Type 0} (Sure : E → Search → Found → Type 0) where
   -- what is known about searches like x: nothing, or the match of the search that starts where this match ends
   abbrev pub IsKnownFrom : E → Search → Option Match → Type 0
-  IsKnownFrom e x known = ForSome known (λ m. Sure e (record x { start = m.span.end }) (found_of m))
+  IsKnownFrom e x known = ForSome known (λ m. Sure e (record x { start = (found_of m).end }) (found_of m))
 
   -- `shown` is the engine, and what is known.
   module _ {A C : Type 0} (shown : A → Knowing E) where

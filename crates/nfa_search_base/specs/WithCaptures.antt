@@ -1,6 +1,6 @@
 -- finders of captures
 use Rattle.std.specs.Prelude.{◌≡◌, ◌⊎◌, ℕ, List, [], ◌∷◌, map, Option, None, Some, Result, Ok, Err, option_map}
-use Rattle.std.specs.Prelude.{unwrap_or}
+use Rattle.std.specs.Prelude.{IsOk, unwrap_or}
 use Rattle.std.specs.Fn.{Called, Mut}
 use Rattle.std.specs.Borrow.{Bor, MutBor}
 use Rattle.std.specs.Iterator.{Drains}
@@ -72,7 +72,7 @@ abbrev pub UpToRefusal : {X : Type 0} → List (Item X) → List (Item X) → Ty
 UpToRefusal [] [] = Unit {0}
 UpToRefusal (y ∷ ys) [] = ⊥
 UpToRefusal [] (x ∷ xs) = ⊥
-UpToRefusal (y ∷ ys) (x ∷ xs) = ((x ≡ y) × UpToRefusal ys xs) ⊎ ((x ≡ Err Memory) × (xs ≡ []))
+UpToRefusal (y ∷ ys) (x ∷ xs) = ((x ≡ y) × UpToRefusal ys xs) ⊎ (IsOk y × (x ≡ Err Memory) × (xs ≡ []))
 
 -- an iterator s that runs to its end gives the items of the list, up to a failed allocation
 pub record YieldsUpToRefusal {T R X : Type 0} (steps : T → Option R → T → Type 0) (value : R → Item X) (s : T)

@@ -37,7 +37,7 @@ pub fn found_item(found: Option<Match>) -> Option<Result<Match, SearchError>>
 /// Returns the match if it ends at `end`, otherwise `None`.
 #[inline]
 pub fn ending_at(end: usize, found: Option<Match>) -> Option<Match>
-    ensures kept { ForSome result (λ m. (found ≡ Some m) × (m.span.end ≡ end)) }
+    ensures kept { ForSome result (λ m. (found ≡ Some m) × ((found_of m).end ≡ end)) }
     ensures exactly { option_map found_of result ≡ if_ends_at end (option_map found_of found) }
 {
     match found {

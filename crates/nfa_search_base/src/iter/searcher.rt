@@ -31,8 +31,9 @@ pub enum Offered {
 
 impl<'h> Clone for Searcher<'h> {
     ghost use Rattle.std.specs.Prelude.{◌≡◌};
+    ghost use Rattle.nfa_search_base.specs.Searchers.{iter_state_of};
 
-    ghost is_clone = { λ one other. (other.input ≡ one.input) × (other.last_match_end ≡ one.last_match_end) };
+    ghost is_clone = { λ one other. iter_state_of other ≡ iter_state_of one };
 
     ghost is_infallible = { λ _. Unit {0} };
 

@@ -2,7 +2,7 @@
 use Rattle.std.proofs.Common.{subst, sym}
 use Rattle.regex_search_core.specs.Search.{search_of}
 use Rattle.nfa_search_base.specs.MatchRuns.{MatchesNext}
-use Rattle.nfa_pikevm.proofs.FindLemmas.{none-before}
+use Rattle.nfa_search_base.proofs.ListLemmas.{none-before}
 use Rattle.nfa_choice.specs.ChoiceState.{kind_in}
 use Rattle.nfa_choice.specs.Matches.{choice_matches_next}
 use Rattle.nfa_choice.proofs.choose.Choice.find_all.Goals as goal

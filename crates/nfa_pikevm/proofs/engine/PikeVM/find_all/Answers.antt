@@ -4,7 +4,7 @@ use Rattle.regex_search_core.specs.Search.{search_of}
 use Rattle.nfa_search_base.specs.MatchRuns.{MatchesNext}
 use Rattle.nfa_pikevm.specs.Engines.{kind_of}
 use Rattle.nfa_pikevm.specs.FindMatches.{pike_matches_next}
-use Rattle.nfa_pikevm.proofs.FindLemmas.{none-before}
+use Rattle.nfa_search_base.proofs.ListLemmas.{none-before}
 use Rattle.nfa_pikevm.proofs.engine.PikeVM.find_all.Goals as goal
 
 pub returns-in_err-push-clause-granted : goal.returns-in_err-push-clause-granted
