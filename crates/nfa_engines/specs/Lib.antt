@@ -4,6 +4,7 @@ pub mod AnswerLaws
 pub mod CapacityLaws
 pub mod CapturesLaws
 pub mod FlagLaws
+pub mod FoundSpanLaws
 pub mod GapLaws
 pub mod HalfLaws
 pub mod IterationLaws

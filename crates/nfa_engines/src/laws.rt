@@ -9,7 +9,7 @@
 //! let same = engine.try_search_slots(&mut other, &input, &mut others)?;
 //! ```
 ghost use Rattle.regex_search_core.specs.declared.search.MatchKind.TheVariants.{All, LeftmostFirst};
-ghost use Rattle.std.specs.Prelude.{false};
+ghost use Rattle.std.specs.Prelude.{false, true};
 ghost use Rattle.nfa_engines.specs.AlikeLaws.{CutOutLinesHoldAlike, LinesHoldAlike, SameSidesHoldAlike};
 ghost use Rattle.nfa_engines.specs.AnswerLaws.{AllSlotsGiveTheMatch, FoundIsSomething, NoPatternIsNothing, NotBoth};
 ghost use Rattle.nfa_engines.specs.AnswerLaws.{NotFoundIsNothing, PatternIsMatched, PatternIsSomething};
@@ -20,6 +20,8 @@ ghost use Rattle.nfa_engines.specs.CapturesLaws.{OneRowList, RowsAreMatches, Row
 ghost use Rattle.nfa_engines.specs.FlagLaws.{AnswerReadsNoFlag, AnswersUnderAnyFlag, FoundReadsNoFlag};
 ghost use Rattle.nfa_engines.specs.FlagLaws.{FoundUnderAnyFlag, MatchReadsNoFlag, MatchUnderAnyFlag};
 ghost use Rattle.nfa_engines.specs.FlagLaws.{MatchesReadNoFlag, PathReadsNoFlag, RowsReadNoFlag, SetReadsNoFlag};
+ghost use Rattle.nfa_engines.specs.FoundSpanLaws.{AnswersHaveASpan, EndMayBeCut, SearchMayBeCut, SpanMayBeCut};
+ghost use Rattle.nfa_engines.specs.FoundSpanLaws.{StartIsLeast, StartIsLeastOfAll};
 ghost use Rattle.nfa_engines.specs.GapLaws.{NoneIsNoPath, NoneStartsBefore};
 ghost use Rattle.nfa_engines.specs.HalfLaws.{HalfMatchHasThePattern, OneHalfMatch};
 ghost use Rattle.nfa_engines.specs.IterationLaws.{AtMostMatches, EndsIncrease};
@@ -269,6 +271,25 @@ pub fn first_start_answers()
     ensures start { AnswersHaveAStart LeftmostFirst false }
 {}
 
+/// No accepting path that ends where a leftmost first answer ends starts before it, with `earliest` or not. Without
+/// `earliest` no accepting path starts before it at all.
+pub fn start_is_least()
+    ensures first { StartIsLeast LeftmostFirst false }
+    ensures earliest { StartIsLeast LeftmostFirst true }
+    ensures all { StartIsLeastOfAll LeftmostFirst false }
+{}
+
+/// A leftmost first answer, without `earliest`, is also that of the search whose span is cut to where its path starts
+/// and ends, over the same haystack, and needs no restart there. The cut search may keep its anchoring, and may be
+/// anchored if the search is not. The answer of one scan may be cut with `earliest`, too.
+pub fn answer_is_that_of_the_cut_span()
+    ensures end { EndMayBeCut LeftmostFirst false }
+    ensures scan { SpanMayBeCut LeftmostFirst false }
+    ensures earliest { SpanMayBeCut LeftmostFirst true }
+    ensures search { SearchMayBeCut LeftmostFirst false }
+    ensures answer { AnswersHaveASpan LeftmostFirst false }
+{}
+
 /// A search with `Anchored::Pattern` has the answer and the match of the anchored search of that pattern only: of the
 /// NFA whose anchored start is the start of the pattern. This holds for each match kind, `earliest` or not.
 pub fn pattern_is_alone()
@@ -369,7 +390,7 @@ pub fn iterations_are_bounded()
 /// A loop keeps what each of its searches keeps: the sizes of a PikeVM's cache, so the cache fits the same NFAs after
 /// the loop as before it. In a backtracker's cache a loop holds no more frames and slots than one search may.
 ///
-/// The premises are what each search ensures of its cache (`numbers`, `holds`). In a loop with an invariant the check
+/// The premises are what each search ensures of its cache (`capacities`, `holds`). In a loop with an invariant the check
 /// finds these steps itself. Take the law if a proof relates the searches otherwise, for instance by an iterator.
 pub fn loops_keep_caches()
     ensures none { IsKeptByNone SameCapacities }
