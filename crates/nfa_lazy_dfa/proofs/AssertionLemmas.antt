@@ -1,0 +1,330 @@
+-- Assertions hold alike wherever the bytes on both sides of a position are alike. Those of Unicode words do so only
+-- between bytes below 128.
+use Rattle.std.proofs.Common.{◌≡◌, ◌∙◌, ℕ, ◌-◌, ◌==◌, ◌&&◌, ◌||◌, ◌≤◌, ◌<◌, ◌⊎◌, inl, inr, Bool, true, ◌++◌}
+use Rattle.std.proofs.Common.{false, not, List, length, get_or, refl, sym, ap, subst, arith, le-ltb, lt-ltb, lit<}
+use Rattle.std.specs.Prelude.{Option, None, Some, is_none, option_to_list, slice_get}
+use Rattle.std.specs.Option.{option_map_or}
+use Rattle.std.proofs.lemmas.Bool.{cases_Bool, cases_lt, eq-eqb, ne_eqb}
+use Rattle.std.proofs.lemmas.Bool.Decides.{eqb_tells}
+use Rattle.std.proofs.lemmas.Option.{slice_get-get_or, slice_get_past}
+use Rattle.thompson_nfa.specs.Automaton.{Automaton, Node}
+use Rattle.thompson_nfa.specs.Automaton.Node.{Look}
+use Rattle.thompson_nfa.specs.Looks.{differ, is_byte_at, is_byte_before, is_word_after, is_word_before, is_word_byte}
+use Rattle.thompson_nfa.specs.Looks.{look_holds}
+use Rattle.thompson_nfa.specs.declared.look.Look as looks
+use Rattle.thompson_nfa.specs.declared.look.Look.TheVariants.{Start, End, StartLF, EndLF, StartCRLF, EndCRLF, WordAscii}
+use Rattle.thompson_nfa.specs.declared.look.Look.TheVariants.{WordAsciiNegate, WordUnicode, WordUnicodeNegate}
+use Rattle.thompson_nfa.specs.declared.look.Look.TheVariants.{WordStartAscii, WordEndAscii, WordStartUnicode}
+use Rattle.thompson_nfa.specs.declared.look.Look.TheVariants.{WordEndUnicode, WordStartHalfAscii, WordEndHalfAscii}
+use Rattle.thompson_nfa.specs.declared.look.Look.TheVariants.{WordStartHalfUnicode, WordEndHalfUnicode}
+use Rattle.nfa_paths.specs.Paths.{node_at}
+use Rattle.nfa_determinize.specs.Closures.{Holding, holding_at}
+use Rattle.thompson_nfa.proofs.AsciiWordLemmas.{ascii_look, look_holds-ascii}
+use Rattle.nfa_lazy_dfa.specs.Assertions.{HasNoLook, IsRead, HasNoUnicodeWord, SameLooks, byte_before, is_look, like}
+use Rattle.nfa_lazy_dfa.specs.Assertions.{may_follow, reads_bytes}
+use Rattle.nfa_lazy_dfa.specs.Assertions.{sees}
+
+-- there is such a byte, and it is this one
+abbrev is : ℕ → Option ℕ → Bool
+is c byte = option_map_or (λ b. b == c) byte false
+
+-- there is such a byte, and it is one of a word
+abbrev is_word : Option ℕ → Bool
+is_word byte = option_map_or is_word_byte byte false
+
+-- whether the assertion holds between two bytes
+abbrev holds_between : looks.Look → Option ℕ → Option ℕ → Bool
+holds_between Start before after = is_none before
+holds_between End before after = is_none after
+holds_between StartLF before after = is_none before || is 10 before
+holds_between EndLF before after = is_none after || is 10 after
+holds_between StartCRLF before after = is_none before || is 10 before || (is 13 before && not (is 10 after))
+holds_between EndCRLF before after = is_none after || is 13 after || (is 10 after && not (is 13 before))
+holds_between WordAscii before after = differ (is_word before) (is_word after)
+holds_between WordAsciiNegate before after = not (differ (is_word before) (is_word after))
+holds_between WordStartAscii before after = not (is_word before) && is_word after
+holds_between WordEndAscii before after = is_word before && not (is_word after)
+holds_between WordStartHalfAscii before after = not (is_word before)
+holds_between WordEndHalfAscii before after = not (is_word after)
+holds_between _ before after = false
+
+module _ (h : List ℕ) (at : ℕ) where
+  -- the byte before a position that is not the first
+  before-some : 0 < at → at ≤ length h → byte_before h at ≡ Some (get_or h (at - 1) 0)
+  before-some past within =
+      let inside : at - 1 < length h = omega arith in
+      rw (lt-ltb 0 at past) (slice_get-get_or h (at - 1) 0 inside)
+
+  -- no byte is before the first one
+  before-none : at ≤ 0 → byte_before h at ≡ None
+  before-none none = rw (le-ltb 0 at none) refl
+
+module _ (h : List ℕ) (at : ℕ) (within : at ≤ length h) where
+  start-between : (at == 0) ≡ is_none (byte_before h at)
+  start-between =
+      elim (cases_lt 0 at) [
+        | inl past ↦ ne_eqb at 0 (λ (e : at ≡ 0). omega arith) ∙ sym (ap is_none (before-some h at past within))
+        | inr none ↦ eq-eqb at 0 (omega arith) ∙ sym (ap is_none (before-none h at none))
+      ]
+
+  byte_before-between : (c : ℕ) → is_byte_before h at c ≡ is c (byte_before h at)
+  byte_before-between c =
+      elim (cases_lt 0 at) [
+        | inl past ↦
+            let inside : at - 1 < length h = omega arith in
+            rw (lt-ltb 0 at past) (sym (ap (is c) (slice_get-get_or h (at - 1) 0 inside)))
+        | inr none ↦ rw (le-ltb 0 at none) refl
+      ]
+
+  word_before-between : is_word_before h at ≡ is_word (byte_before h at)
+  word_before-between =
+      elim (cases_lt 0 at) [
+        | inl past ↦
+            let inside : at - 1 < length h = omega arith in
+            rw (lt-ltb 0 at past) (sym (ap is_word (slice_get-get_or h (at - 1) 0 inside)))
+        | inr none ↦ rw (le-ltb 0 at none) refl
+      ]
+
+  end-between : (at == length h) ≡ is_none (slice_get h at)
+  end-between =
+      elim (cases_lt at (length h)) [
+        | inl less ↦
+            ne_eqb at (length h) (λ (e : at ≡ length h). omega arith)
+            ∙ sym (ap is_none (slice_get-get_or h at 0 less))
+        | inr past ↦ eq-eqb at (length h) (omega arith) ∙ sym (ap is_none (slice_get_past h at past))
+      ]
+
+  byte_at-between : (c : ℕ) → is_byte_at h at c ≡ is c (slice_get h at)
+  byte_at-between c =
+      elim (cases_lt at (length h)) [
+        | inl less ↦ rw (lt-ltb at (length h) less) (sym (ap (is c) (slice_get-get_or h at 0 less)))
+        | inr past ↦ rw (le-ltb at (length h) past) (sym (ap (is c) (slice_get_past h at past)))
+      ]
+
+  word_after-between : is_word_after h at ≡ is_word (slice_get h at)
+  word_after-between =
+      elim (cases_lt at (length h)) [
+        | inl less ↦ rw (lt-ltb at (length h) less) (sym (ap is_word (slice_get-get_or h at 0 less)))
+        | inr past ↦ rw (le-ltb at (length h) past) (sym (ap is_word (slice_get_past h at past)))
+      ]
+
+  -- an assertion of bytes holds exactly if it holds between the bytes on both sides
+  pub holds-between : (look : looks.Look) → reads_bytes look ≡ true
+      → look_holds look h at ≡ holds_between look (byte_before h at) (slice_get h at)
+  holds-between Start r = start-between
+  holds-between End r = end-between
+  holds-between StartLF r = rw (start-between, byte_before-between 10) refl
+  holds-between EndLF r = rw (end-between, byte_at-between 10) refl
+  holds-between StartCRLF r =
+      rw (start-between, byte_before-between 10, byte_before-between 13, byte_at-between 10) refl
+  holds-between EndCRLF r =
+      rw (end-between, byte_at-between 13, byte_at-between 10, byte_before-between 13) refl
+  holds-between WordAscii r = rw (word_before-between, word_after-between) refl
+  holds-between WordAsciiNegate r = rw (word_before-between, word_after-between) refl
+  holds-between WordUnicode r = absurd (cc r)
+  holds-between WordUnicodeNegate r = absurd (cc r)
+  holds-between WordStartAscii r = rw (word_before-between, word_after-between) refl
+  holds-between WordEndAscii r = rw (word_before-between, word_after-between) refl
+  holds-between WordStartUnicode r = absurd (cc r)
+  holds-between WordEndUnicode r = absurd (cc r)
+  holds-between WordStartHalfAscii r = rw word_before-between refl
+  holds-between WordEndHalfAscii r = rw word_after-between refl
+  holds-between WordStartHalfUnicode r = absurd (cc r)
+  holds-between WordEndHalfUnicode r = absurd (cc r)
+
+-- between two bytes there are these two
+
+local-before : (b a : Option ℕ) → byte_before (option_to_list b ++ option_to_list a) (length (option_to_list b)) ≡ b
+local-before None a = refl
+local-before (Some x) a = refl
+
+local-after : (b a : Option ℕ) → slice_get (option_to_list b ++ option_to_list a) (length (option_to_list b)) ≡ a
+local-after None None = refl
+local-after None (Some y) = refl
+local-after (Some x) None = refl
+local-after (Some x) (Some y) = refl
+
+local-within : (b a : Option ℕ) → length (option_to_list b) ≤ length (option_to_list b ++ option_to_list a)
+local-within None a = omega arith
+local-within (Some x) None = omega arith
+local-within (Some x) (Some y) = omega arith
+
+-- the byte is below 128, or there is none
+abbrev IsAscii : Option ℕ → Type 0
+IsAscii None = Unit {0}
+IsAscii (Some b) = b < 128
+
+-- the assertion reads bytes, or both bytes are below 128
+abbrev IsKnown : looks.Look → Option ℕ → Option ℕ → Type 0
+IsKnown look before after = (reads_bytes look ≡ true) ⊎ (IsAscii before × IsAscii after)
+
+ascii-reads : (look : looks.Look) → reads_bytes (ascii_look look) ≡ true
+ascii-reads WordUnicode = refl
+ascii-reads WordUnicodeNegate = refl
+ascii-reads WordStartUnicode = refl
+ascii-reads WordEndUnicode = refl
+ascii-reads WordStartHalfUnicode = refl
+ascii-reads WordEndHalfUnicode = refl
+ascii-reads _ = refl
+
+ascii-same : (look : looks.Look) → reads_bytes look ≡ true → ascii_look look ≡ look
+ascii-same WordUnicode r = absurd (cc r)
+ascii-same WordUnicodeNegate r = absurd (cc r)
+ascii-same WordStartUnicode r = absurd (cc r)
+ascii-same WordEndUnicode r = absurd (cc r)
+ascii-same WordStartHalfUnicode r = absurd (cc r)
+ascii-same WordEndHalfUnicode r = absurd (cc r)
+ascii-same _ r = refl
+
+-- an assertion that is known holds exactly if its ASCII form holds between the bytes on both sides
+holds-known : (h : List ℕ) (at : ℕ) → at ≤ length h → (look : looks.Look)
+    → IsKnown look (byte_before h at) (slice_get h at)
+    → look_holds look h at ≡ holds_between (ascii_look look) (byte_before h at) (slice_get h at)
+holds-known h at within look (inl r) =
+    ap (λ (l : looks.Look). look_holds l h at) (sym (ascii-same look r))
+    ∙ holds-between h at within (ascii_look look) (ascii-reads look)
+holds-known h at within look (inr ascii) =
+    look_holds-ascii h at within (λ past. subst IsAscii (before-some h at past within) ascii.0)
+    (λ less. subst IsAscii (slice_get-get_or h at 0 less) ascii.1) look
+    ∙ holds-between h at within (ascii_look look) (ascii-reads look)
+
+sees-between : (b a : Option ℕ) (look : looks.Look) → IsKnown look b a
+    → sees b a look ≡ holds_between (ascii_look look) b a
+sees-between b a look known =
+    let h : List ℕ = option_to_list b ++ option_to_list a in
+    let at : ℕ = length (option_to_list b) in
+    holds-known h at (local-within b a) look
+    (subst (λ (o : Option ℕ). IsKnown look o (slice_get h at)) (sym (local-before b a))
+    (subst (IsKnown look b) (sym (local-after b a)) known))
+    ∙ ap (λ (o : Option ℕ). holds_between (ascii_look look) o (slice_get h at)) (local-before b a)
+    ∙ ap (holds_between (ascii_look look) b) (local-after b a)
+
+sees-at : (h : List ℕ) (at : ℕ) → at ≤ length h → (look : looks.Look)
+    → IsKnown look (byte_before h at) (slice_get h at)
+    → sees (byte_before h at) (slice_get h at) look ≡ holding_at h at look
+sees-at h at within look known =
+    sees-between (byte_before h at) (slice_get h at) look known ∙ sym (holds-known h at within look known)
+
+-- a byte like another one reads alike
+
+like-tells : (b : ℕ)
+    → ((like b == 10) ≡ (b == 10)) × ((like b == 13) ≡ (b == 13)) × (is_word_byte (like b) ≡ is_word_byte b)
+like-tells b =
+    elim (eqb_tells b 10) [
+      | inl e ↦ rw e.1 (refl, refl, refl)
+      | inr e ↦
+          elim (eqb_tells b 13) [
+            | inl f ↦ rw f.1 (refl, refl, refl)
+            | inr f ↦
+                elim (cases_Bool (is_word_byte b)) [
+                  | inl w ↦ rw (w, e.0, f.0) (refl, refl, refl)
+                  | inr w ↦ rw (w, e.0, f.0) (refl, refl, refl)
+                ]
+          ]
+    ]
+
+like-between : (b : ℕ) (after : Option ℕ) (look : looks.Look) → reads_bytes look ≡ true
+    → holds_between look (Some (like b)) after ≡ holds_between look (Some b) after
+like-between b after Start r = refl
+like-between b after End r = refl
+like-between b after StartLF r = (like-tells b).0
+like-between b after EndLF r = refl
+like-between b after StartCRLF r = rw ((like-tells b).0, (like-tells b).1) refl
+like-between b after EndCRLF r = rw (like-tells b).1 refl
+like-between b after WordAscii r = rw (like-tells b).2 refl
+like-between b after WordAsciiNegate r = rw (like-tells b).2 refl
+like-between b after WordUnicode r = absurd (cc r)
+like-between b after WordUnicodeNegate r = absurd (cc r)
+like-between b after WordStartAscii r = rw (like-tells b).2 refl
+like-between b after WordEndAscii r = rw (like-tells b).2 refl
+like-between b after WordStartUnicode r = absurd (cc r)
+like-between b after WordEndUnicode r = absurd (cc r)
+like-between b after WordStartHalfAscii r = rw (like-tells b).2 refl
+like-between b after WordEndHalfAscii r = refl
+like-between b after WordStartHalfUnicode r = absurd (cc r)
+like-between b after WordEndHalfUnicode r = absurd (cc r)
+
+-- a byte that is one of two is below 128
+small : (b : ℕ) → (b == 10 || b == 13) ≡ true → b < 128
+small b e =
+    elim (eqb_tells b 10) [
+      | inl ten ↦ rw ten.1 (lit< tt)
+      | inr other ↦
+          elim (eqb_tells b 13) [
+            | inl thirteen ↦ rw thirteen.1 (lit< tt)
+            | inr none ↦ let never : false ≡ true = rw (other.0, none.0) at e in absurd (cc never)
+          ]
+    ]
+
+-- a byte like another one is below 128
+like-small : (b : ℕ) → like b < 128
+like-small b =
+    elim (cases_Bool (is_word_byte b)) [
+      | inl w ↦ rw w (lit< tt)
+      | inr w ↦
+          elim (cases_Bool (b == 10 || b == 13)) [
+            | inl e ↦ rw (w, e) (small b e)
+            | inr e ↦ rw (w, e) (lit< tt)
+          ]
+    ]
+
+module _ (nfa : Automaton) where
+  pub same-none : HasNoLook nfa → (a b : Holding) → SameLooks nfa a b
+  same-none none a b = record { same = λ s look next e. absurd (cc (none.all s, ap is_look e)) }
+
+  pub same-self : (a : Holding) → SameLooks nfa a a
+  same-self a = record { same = λ s look next e. refl }
+
+  -- without assertions there are none of Unicode words
+  pub reads-none : HasNoLook nfa → HasNoUnicodeWord nfa
+  reads-none none = record { all = λ s. of (node_at nfa s) (none.all s) }
+    where
+      of : (node : Node) → is_look node ≡ false → may_follow node ≡ true
+      of (Look look next) e = absurd (cc e)
+      of _ e = refl
+
+  reads-look : HasNoUnicodeWord nfa → (s : ℕ) (look : looks.Look) (next : ℕ) → node_at nfa s ≡ Look look next
+      → reads_bytes look ≡ true
+  reads-look reads s look next e = sym (ap may_follow e) ∙ reads.all s
+
+  -- a byte that a search may read is below 128 unless assertions read bytes
+  read-ascii : (byte : Option ℕ) → IsRead nfa byte → HasNoUnicodeWord nfa ⊎ IsAscii byte
+  read-ascii None read = inr tt
+  read-ascii (Some b) (inl reads) = inl reads
+  read-ascii (Some b) (inr low) = inr low
+
+  known-look : (before after : Option ℕ) → IsRead nfa before → IsRead nfa after → (s : ℕ) (look : looks.Look)
+      (next : ℕ) → node_at nfa s ≡ Look look next → IsKnown look before after
+  known-look before after b a s look next e =
+      elim (read-ascii before b) [
+        | inl reads ↦ inl (reads-look reads s look next e)
+        | inr low ↦
+            elim (read-ascii after a) [
+              | inl reads ↦ inl (reads-look reads s look next e)
+              | inr less ↦ inr (low, less)
+            ]
+      ]
+
+  -- a byte like this one may be read
+  read-like : (b : ℕ) → IsRead nfa (Some (like b))
+  read-like b = inr (like-small b)
+
+  pub same-like : (b : ℕ) (after : Option ℕ) → IsRead nfa (Some b) → IsRead nfa after
+      → SameLooks nfa (sees (Some (like b)) after) (sees (Some b) after)
+  same-like b after read next_read = record {
+    same = λ s look next e.
+        sees-between (Some (like b)) after look (known-look (Some (like b)) after (read-like b) next_read s look next e)
+        ∙ like-between b after (ascii_look look) (ascii-reads look)
+        ∙ sym (sees-between (Some b) after look (known-look (Some b) after read next_read s look next e));
+  }
+
+  -- what is seen at a position
+  pub same-at : (h : List ℕ) (at : ℕ) → at ≤ length h → (before : Option ℕ) → IsRead nfa (byte_before h at)
+      → IsRead nfa (slice_get h at)
+      → SameLooks nfa (sees before (slice_get h at)) (sees (byte_before h at) (slice_get h at))
+      → SameLooks nfa (sees before (slice_get h at)) (holding_at h at)
+  same-at h at within before b a like = record {
+    same = λ s look next e.
+        like.same s look next e
+        ∙ sees-at h at within look (known-look (byte_before h at) (slice_get h at) b a s look next e);
+  }

@@ -1,0 +1,88 @@
+-- What a cache's rows are, by their numbers.
+use Rattle.std.proofs.Common.{◌≡◌, ℕ, ◌+◌, ◌*◌, ◌<◌, ◌≤◌, ◌≢◌, inl, inr, All, length, map, get_or, sym, ◌∙◌, subst, arith}
+use Rattle.std.specs.Prelude.{vec_len}
+use Rattle.std.proofs.lemmas.List.{length-map}
+use Rattle.std.proofs.lemmas.Option.{get_or_from_slice_get, slice_get_cases}
+use Rattle.nfa_lazy_dfa.specs.Rows.{IsFor, IsRowOf, Leads, LeadsTo, row_of, stances_of}
+use Rattle.nfa_lazy_dfa.specs.Stances.{Stance, stance_of}
+use Rattle.nfa_lazy_dfa.proofs.RowLemmas.{row-within, stance-at}
+use Rattle.nfa_lazy_dfa.specs.declared.cache.Cache.{Cache}
+use Rattle.nfa_lazy_dfa.specs.declared.dfa.DFA.{DFA}
+use Rattle.nfa_lazy_dfa.specs.declared.follow.Stand.{Stand}
+
+module _ (c : Cache) where
+  pub row-is : (row : ℕ) (s : Stand) → row < vec_len c.stands → s ≡ get_or c.stands.items row s
+      → IsRowOf c row (stance_of s)
+  row-is row s less is =
+      let k : row < length c.stands.items = omega (arith, c.stands.ok.0) in stance-at c.stands.items row s k is
+
+  pub row-inside : (row : ℕ) (s : Stance) → IsRowOf c row s → row < vec_len c.stands
+  row-inside row s is =
+      let k : row < length c.stands.items = row-within c.stands.items row s is in omega (arith, c.stands.ok.0)
+
+  module _ (dfa : DFA) (rows : IsFor c dfa) where
+    pub cells-within : (row byte : ℕ) → row < vec_len c.stands → byte < 256 → row * 256 + byte < vec_len c.cells
+    unfolding IsFor
+    cells-within row byte less small =
+        let same : length c.cells.items ≡ length (map stance_of c.stands.items) * 256 = rows.rows.cells_count in
+        let all : length (map stance_of c.stands.items) ≡ length c.stands.items = length-map c.stands.items stance_of in
+        omega (arith, c.stands.ok.0, c.cells.ok.0)
+
+    pub ends-within : (row : ℕ) → row < vec_len c.stands → row < vec_len c.ends
+    unfolding IsFor
+    ends-within row less =
+        let same : length c.ends.items ≡ length (map stance_of c.stands.items) = rows.rows.ends_count in
+        let all : length (map stance_of c.stands.items) ≡ length c.stands.items = length-map c.stands.items stance_of in
+        omega (arith, c.stands.ok.0, c.ends.ok.0)
+
+    pub few-rows : (row : ℕ) → row < vec_len c.stands → row < 0x40_0000
+    unfolding IsFor
+    few-rows row less =
+        let few : length (map stance_of c.stands.items) ≤ 0x40_0000 = rows.rows.few in
+        let all : length (map stance_of c.stands.items) ≡ length c.stands.items = length-map c.stands.items stance_of in
+        omega (arith, c.stands.ok.0)
+
+    pub below-at : (row : ℕ) (s : Stand) → row < vec_len c.stands → s ≡ get_or c.stands.items row s
+        → All (λ q. q < length dfa.nfa.states) s.states.items
+    unfolding IsFor
+    below-at row s less is =
+        let at = row-is row s less is in
+        let k : row < length (map stance_of c.stands.items) =
+        omega (arith, c.stands.ok.0, length-map c.stands.items stance_of) in
+        subst (λ (t : Stance). All (λ q. q < length dfa.nfa.states) t.states)
+        (get_or_from_slice_get (stances_of c.stands.items) row (stance_of s) (stance_of s) at)
+        (rows.rows.below row (stance_of s) k)
+
+    -- a cell that is known leads on, from the place of a row's first cell
+    pub leads-at : (row byte cell : ℕ) (s : Stance) → IsRowOf c row s → byte < 256
+        → cell ≡ get_or c.cells.items (row * 256 + byte) 0 → cell ≢ 0xFFFF_FFFF
+        → Leads dfa.nfa dfa.kind (stances_of c.stands.items) s byte cell
+    unfolding IsFor
+    leads-at row byte cell s was small is known =
+        subst (Leads dfa.nfa dfa.kind (stances_of c.stands.items) s byte) (sym is)
+        (rows.rows.cells_are row byte s was small (λ e. known (is ∙ e)))
+
+    pub known-leads : (row byte cell : ℕ) → row < vec_len c.stands → byte < 256
+        → cell ≡ get_or c.cells.items (row * 256 + byte) 0 → cell ≢ 0xFFFF_FFFF
+        → LeadsTo dfa c c row byte (row_of cell)
+    known-leads row byte cell less small is known =
+        let k : row < length (map stance_of c.stands.items) =
+        omega (arith, c.stands.ok.0, length-map c.stands.items stance_of) in
+        elim (slice_get_cases (stances_of c.stands.items) row).1 [
+          | inl found ↦
+              let s = found.0 in
+              let was : IsRowOf c row s = found.2 in
+              let leads = leads-at row byte cell s was small is known in
+              record { from = s; was = was; to = leads.target; is = leads.is; next = leads.next }
+          | inr past ↦ absurd (let p : length (map stance_of c.stands.items) ≤ row = past.0 in omega arith)
+        ]
+
+-- the cache is still the DFA's, if only its counts changed
+pub IsFor-same : (dfa : DFA) (old new : Cache) → new.stands ≡ old.stands → new.cells ≡ old.cells → new.ends ≡ old.ends
+    → new.taken ≡ old.taken → IsFor old dfa → IsFor new dfa
+unfolding IsFor
+IsFor-same dfa old new stands cells ends taken own = record {
+  rows = rw (stands, cells, ends) own.rows;
+  taken = rw (taken, stands) own.taken;
+  fits = rw taken own.fits;
+}

@@ -1,0 +1,11 @@
+pub mod AssertionLemmas
+pub mod StanceLemmas
+pub mod OnceLemmas
+pub mod RowLemmas
+pub mod CacheLemmas
+pub mod WorkLemmas
+pub mod ScanLemmas
+pub mod CutLemmas
+pub mod RunLemmas
+pub mod StopLemmas
+pub mod IsMatchLemmas

@@ -1,0 +1,89 @@
+-- A scan over cells that are known.
+use Rattle.std.proofs.Common.{◌≡◌, ℕ, ◌+◌, ◌*◌, ◌/◌, ◌%◌, ◌<◌, ◌≢◌, Bool, true, false, List, get_or, refl, ap, sym, ◌∙◌, subst, arith}
+use Rattle.std.specs.Prelude.{Option, None, Some, option_map, slice_get}
+use Rattle.std.specs.Option.{option_or}
+use Rattle.regex_search_core.specs.Found.{HalfFound, half_found_of}
+use Rattle.regex_search_core.specs.declared.search.HalfMatch.{HalfMatch}
+use Rattle.regex_search_core.specs.Search.{Search}
+use Rattle.nfa_paths.specs.Paths.{byte_at}
+use Rattle.nfa_determinize.specs.Configurations.{found_after, half_at}
+use Rattle.nfa_lazy_dfa.specs.Places.{IsFoundAt}
+use Rattle.nfa_lazy_dfa.specs.Runs.{place_at}
+use Rattle.nfa_lazy_dfa.specs.Rows.{IsAt, IsFor, IsRowOf, Leads, LeadsTo, row_of, stances_of}
+use Rattle.nfa_lazy_dfa.proofs.CacheLemmas.{leads-at}
+use Rattle.nfa_lazy_dfa.proofs.ScanLemmas.{IsAt-next, IsFoundAt-next, found_at}
+use Rattle.nfa_lazy_dfa.specs.Stances.{Stance}
+use Rattle.nfa_lazy_dfa.specs.declared.cache.Cache.{Cache}
+use Rattle.nfa_lazy_dfa.specs.declared.dfa.DFA.{DFA}
+use Rattle.nfa_lazy_dfa.specs.declared.follow.Stand.{Stand}
+use Rattle.nfa_lazy_dfa.specs.declared.scan.Place.{Place}
+
+found-none : (earliest : Bool) (found : Option HalfFound) → found_after earliest found None ≡ found
+found-none true None = refl
+found-none true (Some h) = refl
+found-none false found = refl
+
+-- the scan is still there, if only the counts of the cache changed
+pub IsFoundAt-same : (dfa : DFA) (x : Search) (p : Place) (old new : Cache) → new.stands.items ≡ old.stands.items
+    → IsFoundAt dfa old x p → IsFoundAt dfa new x p
+IsFoundAt-same dfa x p old new same here = record {
+  at = record {
+    stance = here.at.stance;
+    is = ap (λ (s : List Stand). slice_get (stances_of s) p.row) same ∙ here.at.is;
+    low = here.at.low;
+    high = here.at.high;
+    stands = here.at.stands;
+  };
+  found = here.found;
+  first = here.first;
+}
+
+module _ (dfa : DFA) (x : Search) (cache : Cache) (own : IsFor cache dfa)
+    (p : Place) (here : IsFoundAt dfa cache x p) (byte cell : ℕ) (inside : p.at < x.end)
+    (is : byte_at x p.at ≡ Some byte) (small : byte < 256)
+    (is_cell : cell ≡ get_or cache.cells.items (p.row * 256 + byte) 0) where
+  leads-from : cell ≢ 0xFFFF_FFFF → Leads dfa.nfa dfa.kind (stances_of cache.stands.items) here.at.stance byte cell
+  leads-from known = leads-at cache dfa own p.row byte cell here.at.stance here.at.is small is_cell known
+
+  pub whole-cell : cell ≢ 0xFFFF_FFFF → cell % 256 ≡ 0
+  whole-cell known = (leads-from known).whole
+
+  pub leads-on : cell ≢ 0xFFFF_FFFF → LeadsTo dfa cache cache p.row byte (row_of cell)
+  leads-on known = record {
+    from = here.at.stance;
+    was = here.at.is;
+    to = (leads-from known).target;
+    is = (leads-from known).is;
+    next = (leads-from known).next;
+  }
+
+  small-mod : cell < 0x4000_0000 → cell % 0x4000_0000 ≡ cell
+  small-mod low = omega arith
+
+  -- to a row that no match leads to
+  pub over-plain : cell < 0x4000_0000 → IsFoundAt dfa cache x (place_at (p.at + 1) cell p.found)
+  over-plain low =
+      let known : cell ≢ 0xFFFF_FFFF = λ e. absurd (omega arith) in
+      let leads = leads-from known in
+      let row : row_of cell ≡ cell / 256 = ap (λ (n : ℕ). n / 256) (small-mod low) in
+      let both = IsAt-next dfa x p.at byte inside is cache cache p.row (row_of cell) here.at (leads-on known)
+      leads.target leads.is in
+      record {
+        at = subst (λ (r : ℕ). IsAt dfa cache x (p.at + 1) r) row both.0;
+        found = here.found ∙ sym (both.1
+            ∙ ap (λ (o : Option ℕ). found_after x.earliest (found_at dfa x p.at) (option_map (half_at p.at) o))
+            (leads.plain low)
+            ∙ found-none x.earliest (found_at dfa x p.at));
+        first = here.first;
+      }
+
+-- over a byte, to a row that a match leads to
+pub over-matched : (dfa : DFA) (x : Search) (cache : Cache) (p : Place) (here : IsFoundAt dfa cache x p) (byte row : ℕ)
+    → p.at < x.end → byte_at x p.at ≡ Some byte → LeadsTo dfa cache cache p.row byte row → (x.earliest ≡ true → ⊥)
+    → (t : Stance) → IsRowOf cache row t → (half found : Option HalfMatch)
+    → option_map half_found_of half ≡ option_map (half_at p.at) t.hit → found ≡ option_or half p.found
+    → (let next : Place = record { at = p.at + 1; row = row; found = found } in IsFoundAt dfa cache x next)
+over-matched dfa x cache p here byte row inside is leads late t is_row half found half_is found_is =
+    let both = IsFoundAt-next dfa x p.at byte inside is cache cache p row here refl leads t is_row half found half_is
+    found_is in
+    record { at = both.0; found = both.1; first = λ e. absurd (late e) }

@@ -1,0 +1,54 @@
+-- What parts of a scan and scans spend, one after the other.
+use Rattle.std.proofs.Common.{◌≡◌, ℕ, ◌+◌, ◌-◌, ◌*◌, ◌≤◌, ◌∙◌, refl, arith}
+use Rattle.std.proofs.Math.Nat.{add-mul}
+use Rattle.regex_search_core.specs.Search.{Search}
+use Rattle.nfa_lazy_dfa.specs.Rows.{AllowsClears, CountsScan, IsBounded, Scans, ScansAtMost, Spends}
+use Rattle.nfa_lazy_dfa.specs.declared.cache.Cache.{Cache}
+use Rattle.nfa_lazy_dfa.specs.declared.dfa.DFA.{DFA}
+
+module _ (a b c : Cache) where
+  pub Spends-both : (s t m n : ℕ) → Spends a b s m → Spends b c t n → Spends a c (s + t) (m + n)
+  Spends-both s t m n first second = record {
+    scans = second.scans ∙ first.scans;
+    steps = omega (arith, first.steps, second.steps);
+    rows = omega (arith, first.rows, second.rows);
+    clears = second.clears ∙ first.clears;
+  }
+
+  -- one scan, over at most this many bytes
+  pub Scans-one : (s n : ℕ) → CountsScan a b → Spends b c s 1 → s ≤ n + 1 → Scans a c 1 n
+  Scans-one s n counts spends less = record {
+    scans = spends.scans ∙ counts.scans;
+    steps = omega (arith, spends.steps, counts.steps);
+    rows = omega (arith, spends.rows, counts.rows, counts.steps);
+    clears = omega (arith, spends.clears, counts.cleared, counts.clears);
+  }
+
+  -- one scan more, over no more bytes
+  pub Scans-more : (k n m : ℕ) → Scans a b k n → Scans b c 1 m → m ≤ n → Scans a c (k + 1) n
+  Scans-more k n m first second less =
+      let all : (k + 1) * (n + 1) ≡ k * (n + 1) + 1 * (n + 1) = add-mul k 1 (n + 1) in
+      record {
+        scans = omega (arith, first.scans, second.scans);
+        steps = omega (arith, first.steps, second.steps, all);
+        rows = omega (arith, first.rows, second.rows);
+        clears = second.clears ∙ first.clears;
+      }
+
+  -- a search, which may clear as often as the DFA allows
+  pub IsBounded-scans : (dfa : DFA) (x : Search) → AllowsClears a b dfa → ScansAtMost b c x → IsBounded a c dfa x
+  IsBounded-scans dfa x allows work = record {
+    count = work.count;
+    scans = omega (arith, work.scans.scans, allows.scans);
+    few = work.few;
+    steps = omega (arith, work.scans.steps, allows.steps);
+    rows = omega (arith, work.scans.rows, allows.rows, allows.steps);
+    clears = omega (arith, work.scans.clears, allows.cleared, allows.clears);
+  }
+
+-- nothing is spent
+pub Spends-none : (c : Cache) (s m : ℕ) → Spends c c s m
+Spends-none c s m = record { scans = refl; steps = omega arith; rows = omega arith; clears = refl }
+
+pub ScansAtMost-one : (a b : Cache) (x : Search) → Scans a b 1 (x.end - x.start) → ScansAtMost a b x
+ScansAtMost-one a b x scan = record { count = 1; few = omega arith; scans = scan }

@@ -1,0 +1,14 @@
+-- There are no rows.
+use Rattle.std.proofs.Common.{refl, arith}
+use Rattle.nfa_lazy_dfa.specs.Rows.{IsFor}
+use Rattle.nfa_lazy_dfa.proofs.RowLemmas.{AreRows-none}
+use Rattle.nfa_lazy_dfa.proofs.cache.Cache.new.Goals as goal
+
+pub returns : goal.returns
+unfolding IsFor
+returns c = record {
+  rows = rw (c.new.ensures.items, c.new-2.ensures.items, c.new-3.ensures.items)
+      (AreRows-none c.args.dfa.now.nfa c.args.dfa.now.kind);
+  taken = rw c.new-2.ensures.items refl;
+  fits = omega arith;
+}

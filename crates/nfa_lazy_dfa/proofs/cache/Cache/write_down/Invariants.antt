@@ -1,0 +1,15 @@
+-- The byte leads from the row to the target.
+use Rattle.std.proofs.Common.{◌≡◌}
+use Rattle.nfa_lazy_dfa.specs.Rows.{IsFor, LeadsTo, Spends}
+use Rattle.nfa_lazy_dfa.proofs.cache.Cache.write_down.Given as goal
+
+abbrev pub invariant-loop-low : goal.invariant-loop-low
+invariant-loop-low l = record {
+  own : IsFor l.self l.dfa;
+  same : l.self.stands.items ≡ l.fn.self.stands.items;
+  leads : LeadsTo l.dfa l.self l.self l.row l.low l.target;
+  spends : Spends l.fn.self l.self 0 0;
+}
+
+abbrev pub decreases-loop-low : goal.decreases-loop-low
+decreases-loop-low l = l.low

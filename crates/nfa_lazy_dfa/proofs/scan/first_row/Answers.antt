@@ -1,0 +1,25 @@
+-- The first row is that of the start, after a byte like the one before the span.
+use Rattle.std.proofs.Common.{ℕ, subst, arith}
+use Rattle.std.specs.Prelude.{Option}
+use Rattle.regex_search_core.specs.Search.{search_of}
+use Rattle.nfa_lazy_dfa.specs.Assertions.{IsRead, SameLooks, sees}
+use Rattle.nfa_lazy_dfa.proofs.ScanLemmas.{IsAt-begin}
+use Rattle.nfa_lazy_dfa.proofs.StopLemmas.{IsStop-gave_up}
+use Rattle.nfa_lazy_dfa.proofs.scan.first_row.Goals as goal
+
+pub returns-in-Ok-clause-at : goal.returns-in-Ok-clause-at
+returns-in-Ok-clause-at c =
+    let x = search_of c.args.input.now in
+    let dfa = c.args.dfa.now in
+    IsAt-begin dfa x c.start.new.self c.in-Ok.row c.args.start c.before-seen.result c.may_start_later.result
+    c.requires.start c.requires.order c.in-Ok.ensures.row c.may_start_later.ensures.count
+    c.may_start_later.ensures.begins c.args.input.now.within
+    (subst (IsRead dfa.nfa) c.in_ok-byte.ensures.byte c.in_ok-byte.ensures.read)
+    (λ after read. subst (λ (o : Option ℕ). SameLooks dfa.nfa (sees c.before-seen.result after) (sees o after))
+    c.in_ok-byte.ensures.byte (c.before-seen.ensures after read))
+
+pub returns-in-Err-clause-stops : goal.returns-in-Err-clause-stops
+returns-in-Err-clause-stops c =
+    let x = search_of c.args.input.now in
+    IsStop-gave_up c.args.dfa.now.nfa x c.at.result c.start-at.result c.at.ensures
+    (record { low = omega (arith, c.start-at.ensures); high = omega (arith, c.start-at.ensures, c.requires.order) })

@@ -1,0 +1,27 @@
+-- The byte after the span may be read, or there is none.
+use Rattle.std.proofs.Common.{◌≤◌, ◌<◌, sym, subst, arith}
+use Rattle.std.specs.Prelude.{length}
+use Rattle.std.proofs.lemmas.Option.{slice_get-get_or, slice_get_past}
+use Rattle.regex_search_core.specs.Search.{search_of}
+use Rattle.nfa_lazy_dfa.specs.Assertions.{IsRead}
+use Rattle.nfa_lazy_dfa.proofs.StopLemmas.{IsStop-gave_up}
+use Rattle.nfa_lazy_dfa.proofs.scan.last.Goals as goal
+
+pub returns-then-at-haystack-clause-read : goal.returns-then-at-haystack-clause-read
+returns-then-at-haystack-clause-read c =
+    let x = search_of c.args.input.now in
+    let at = c.args.place.at in
+    let less : at < length x.haystack = grind arith in
+    subst (IsRead c.args.dfa.now.nfa) (sym (slice_get-get_or x.haystack at 0 less)) c.in_ok-next.ensures.leads.next.read
+
+pub returns-in-Ok-clause-read : goal.returns-in-Ok-clause-read
+returns-in-Ok-clause-read c =
+    let x = search_of c.args.input.now in
+    let at = c.args.place.at in
+    let past : length x.haystack ≤ at = grind arith in
+    subst (IsRead c.args.dfa.now.nfa) (sym (slice_get_past x.haystack at past)) tt
+
+pub returns-in-Err-clause-stops : goal.returns-in-Err-clause-stops
+returns-in-Err-clause-stops c =
+    IsStop-gave_up c.args.dfa.now.nfa (search_of c.args.input.now) c.at.result c.args.place.at c.at.ensures
+    c.requires.span

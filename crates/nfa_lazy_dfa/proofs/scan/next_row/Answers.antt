@@ -1,0 +1,31 @@
+-- A byte that may be read leads on; at any other one the search stops.
+use Rattle.std.proofs.Common.{◌∙◌, ℕ, List, get_or, ap, sym, subst, arith}
+use Rattle.std.specs.Prelude.{Some}
+use Rattle.std.proofs.lemmas.Option.{slice_get-get_or}
+use Rattle.regex_search_core.specs.Search.{search_of}
+use Rattle.nfa_lazy_dfa.specs.Rows.{LeadsTo}
+use Rattle.nfa_lazy_dfa.proofs.StopLemmas.{IsStop-gave_up}
+use Rattle.nfa_lazy_dfa.proofs.scan.next_row.Goals as goal
+
+pub returns-then-is_quit-clause-stops : goal.returns-then-is_quit-clause-stops
+returns-then-is_quit-clause-stops c =
+    let x = search_of c.args.input.now in
+    let at = c.args.place.at in
+    record {
+      quit = c.is_quit.ensures.quit c.if-is_quit.true;
+      is = slice_get-get_or x.haystack at 0 c.requires.inside
+          ∙ ap (λ (h : List ℕ). Some (get_or h at 0)) (sym c.haystack.ensures);
+      low = omega (arith, c.requires.span.low);
+      high = c.requires.span.high;
+    }
+
+pub returns-in-Ok-clause-leads : goal.returns-in-Ok-clause-leads
+returns-in-Ok-clause-leads c =
+    let at = c.args.place.at in
+    subst (λ (h : List ℕ). LeadsTo c.args.dfa.now c.args.cache.now c.next.new.self c.args.place.row (get_or h at 0)
+    c.in-Ok.row) c.haystack.ensures c.in-Ok.ensures.leads
+
+pub returns-in-Err-clause-stops : goal.returns-in-Err-clause-stops
+returns-in-Err-clause-stops c =
+    IsStop-gave_up c.args.dfa.now.nfa (search_of c.args.input.now) c.at.result c.args.place.at c.at.ensures
+    c.requires.span

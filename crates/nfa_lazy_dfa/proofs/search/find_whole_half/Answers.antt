@@ -1,0 +1,140 @@
+-- A match that does not count moves the start on.
+use Rattle.std.proofs.Common.{rules, ◌≡◌, ◌≤◌, ◌∙◌, ◌+◌, ◌-◌, ℕ, Bool, ap, subst, arith}
+use Rattle.std.specs.Prelude.{option_map}
+use Rattle.regex_search_core.specs.Found.{half_found_of}
+use Rattle.regex_search_core.specs.Search.{Search, search_of}
+use Rattle.nfa_determinize.specs.Configurations.{scan_half}
+use Rattle.nfa_determinize.specs.Searches.{FindsSplit}
+use Rattle.nfa_determinize.proofs.ScanHalfLemmas.{Skipping-begin, Skipping-end, Skipping-more, split-inside, split-of}
+use Rattle.nfa_lazy_dfa.specs.Rows.{Scans}
+use Rattle.std.proofs.lemmas.Result.{IfErr-weaker}
+use Rattle.nfa_lazy_dfa.specs.Stops.{IsStop}
+use Rattle.nfa_lazy_dfa.proofs.StopLemmas.{IsStop-later}
+use Rattle.nfa_lazy_dfa.proofs.WorkLemmas.{Scans-more, ScansAtMost-one}
+use Rattle.nfa_lazy_dfa.specs.declared.cache.Cache.{Cache}
+use Rattle.nfa_lazy_dfa.proofs.search.find_whole_half.Goals as goal
+
+-- the first scan is one scan
+first-scan : (a b : Cache) (x : Search) → Scans a b 1 (x.end - x.start)
+    → Scans a b (x.start + 1 - x.start) (x.end - x.start)
+first-scan a b x scan =
+    let one : 1 ≡ x.start + 1 - x.start = omega arith in
+    subst (λ (k : ℕ). Scans a b k (x.end - x.start)) one scan
+
+-- a scan from the next start is one scan more
+next-scan : (a b c : Cache) (x y z : Search) → Scans a b (y.start + 1 - x.start) (x.end - x.start)
+    → Scans b c 1 (z.end - z.start) → x.start ≤ y.start → z.start ≡ y.start + 1 → z.end ≡ x.end
+    → Scans a c (z.start + 1 - x.start) (x.end - x.start)
+next-scan a b c x y z work scan low start end =
+    let less : z.end - z.start ≤ x.end - x.start = omega arith in
+    let more : y.start + 1 - x.start + 1 ≡ z.start + 1 - x.start = omega arith in
+    subst (λ (k : ℕ). Scans a c k (x.end - x.start)) more
+    (Scans-more a b c (y.start + 1 - x.start) (x.end - x.start) (z.end - z.start) work scan less)
+
+pub loop-half-init : goal.loop-half-init
+loop-half-init c = record {
+  skipping = Skipping-begin c.args.dfa.now.nfa c.args.dfa.now.kind c.args.input.earliest (search_of c.args.input);
+  own = c.in_ok-half.ensures.own;
+  few = omega arith;
+  work = first-scan c.args.cache.now c.scan_half.new.cache (search_of c.args.input) (search rules);
+  found = c.in_ok-half.ensures.steps;
+}
+
+pub set_start-requires : goal.set_start-requires
+set_start-requires c =
+    let nfa = c.args.dfa.now.nfa in
+    let kind = c.args.dfa.now.kind in
+    let e = c.args.input.earliest in
+    let y = search_of c.loop-half.input in
+    let found = option_map half_found_of c.loop-half.half in
+    let split : FindsSplit nfa kind e y =
+    split-of nfa kind e y found c.loop-half.invariant.found
+    (λ whole. absurd (cc (c.loop-half-test.true, c.is_whole_half.ensures.1 whole))) in
+    let inside : y.start ≤ y.end = split-inside nfa kind e y split in
+    omega arith
+
+pub loop-half-preserved : goal.loop-half-preserved
+loop-half-preserved c =
+    let nfa = c.args.dfa.now.nfa in
+    let kind = c.args.dfa.now.kind in
+    let x = search_of c.args.input in
+    let y = search_of c.loop-half.input in
+    let z = search_of c.set_start.new.self in
+    let found = option_map half_found_of c.loop-half.half in
+    let split : FindsSplit nfa kind x.earliest y =
+    split-of nfa kind x.earliest y found c.loop-half.invariant.found
+    (λ whole. absurd (cc (c.loop-half-test.true, c.is_whole_half.ensures.1 whole))) in
+    let moved : z ≡ record y { start = y.start + 1 } = search rules in
+    let skipping = Skipping-more nfa kind x.earliest x y z c.loop-half.invariant.skipping split moved in
+    let earlier : z.earliest ≡ x.earliest = ap (λ (w : Search). w.earliest) skipping.raises in
+    let start : z.start ≡ y.start + 1 = ap (λ (w : Search). w.start) moved in
+    let end : z.end ≡ x.end = ap (λ (w : Search). w.end) skipping.raises in
+    let inside : y.start ≤ y.end = split-inside nfa kind x.earliest y split in
+    let same : y.end ≡ x.end = ap (λ (w : Search). w.end) c.loop-half.invariant.skipping.raises in
+    let low : x.start ≤ y.start = c.loop-half.invariant.skipping.low in
+    record {
+      skipping = skipping;
+      own = c.in_ok-half-2.ensures.own;
+      few = omega arith;
+      work = next-scan c.args.cache.now c.loop-half.cache c.scan_half-in-loop-half.new.cache x y z c.loop-half.invariant.work
+          (search rules) low start end;
+      found = c.in_ok-half-2.ensures.steps ∙ ap (λ (e : Bool). scan_half nfa z kind e) earlier;
+    }
+
+pub returns-clause-half : goal.returns-clause-half
+returns-clause-half c =
+    let x = search_of c.args.input in
+    Skipping-end c.args.dfa.now.nfa c.args.dfa.now.kind x.earliest x (search_of c.loop-half.input)
+    (option_map half_found_of c.loop-half.half) c.loop-half.invariant.skipping c.loop-half.invariant.found
+    (c.is_whole_half.ensures.0 c.loop-half-test.false)
+
+pub returns-in_err-half-2-clause-stops : goal.returns-in_err-half-2-clause-stops
+returns-in_err-half-2-clause-stops c =
+    let nfa = c.args.dfa.now.nfa in
+    let kind = c.args.dfa.now.kind in
+    let x = search_of c.args.input in
+    let y = search_of c.loop-half.input in
+    let z = search_of c.set_start.new.self in
+    let found = option_map half_found_of c.loop-half.half in
+    let split : FindsSplit nfa kind x.earliest y =
+    split-of nfa kind x.earliest y found c.loop-half.invariant.found
+    (λ whole. absurd (cc (c.loop-half-test.true, c.is_whole_half.ensures.1 whole))) in
+    let moved : z ≡ record y { start = y.start + 1 } = search rules in
+    let skipping = Skipping-more nfa kind x.earliest x y z c.loop-half.invariant.skipping split moved in
+    IfErr-weaker _ (IsStop nfa z) (IsStop nfa x)
+    (IsStop-later nfa x z (ap (λ (s : Search). s.haystack) skipping.raises) (ap (λ (s : Search). s.end) skipping.raises)
+    skipping.low) (search rules)
+
+pub returns-in_err-half-clause-work : goal.returns-in_err-half-clause-work
+returns-in_err-half-clause-work c =
+    ScansAtMost-one c.args.cache.now c.scan_half.new.cache (search_of c.args.input) (search rules)
+
+pub returns-in_err-half-2-clause-work : goal.returns-in_err-half-2-clause-work
+returns-in_err-half-2-clause-work c =
+    let nfa = c.args.dfa.now.nfa in
+    let kind = c.args.dfa.now.kind in
+    let x = search_of c.args.input in
+    let y = search_of c.loop-half.input in
+    let z = search_of c.set_start.new.self in
+    let found = option_map half_found_of c.loop-half.half in
+    let split : FindsSplit nfa kind x.earliest y =
+    split-of nfa kind x.earliest y found c.loop-half.invariant.found
+    (λ whole. absurd (cc (c.loop-half-test.true, c.is_whole_half.ensures.1 whole))) in
+    let moved : z ≡ record y { start = y.start + 1 } = search rules in
+    let start : z.start ≡ y.start + 1 = ap (λ (w : Search). w.start) moved in
+    let inside : y.start ≤ y.end = split-inside nfa kind x.earliest y split in
+    let same : y.end ≡ x.end = ap (λ (w : Search). w.end) c.loop-half.invariant.skipping.raises in
+    let end : z.end ≡ x.end = ap (λ (w : Search). w.end) moved ∙ same in
+    let low : x.start ≤ y.start = c.loop-half.invariant.skipping.low in
+    record {
+      count = z.start + 1 - x.start;
+      few = omega arith;
+      scans = next-scan c.args.cache.now c.loop-half.cache c.scan_half-in-loop-half.new.cache x y z c.loop-half.invariant.work
+          (search rules) low start end;
+    }
+
+pub returns-clause-work : goal.returns-clause-work
+returns-clause-work c =
+    let x = search_of c.args.input in
+    let y = search_of c.loop-half.input in
+    record { count = y.start + 1 - x.start; few = c.loop-half.invariant.few; scans = c.loop-half.invariant.work }

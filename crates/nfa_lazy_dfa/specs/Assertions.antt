@@ -1,0 +1,71 @@
+-- Assertions that read no more than the byte on each side of a position, and the bytes that a lazy DFA may read.
+use Rattle.std.specs.Prelude.{◌≡◌, ℕ, ◌-◌, ◌<◌, ◌≤◌, ◌⊎◌, Bool, true, false, ◌||◌, ◌==◌, List, ◌++◌, length, nat_lt}
+use Rattle.std.specs.Prelude.{Option, None, Some, ⊤, option_to_list, slice_get, if◌then◌else◌}
+use Rattle.thompson_nfa.specs.Automaton.{Automaton, Node}
+use Rattle.thompson_nfa.specs.Automaton.Node.{Look}
+use Rattle.thompson_nfa.specs.Looks.{is_word_byte}
+use Rattle.thompson_nfa.specs.declared.look.Look as looks
+use Rattle.thompson_nfa.specs.declared.look.Look.TheVariants.{WordUnicode, WordUnicodeNegate}
+use Rattle.thompson_nfa.specs.declared.look.Look.TheVariants.{WordStartUnicode}
+use Rattle.thompson_nfa.specs.declared.look.Look.TheVariants.{WordEndUnicode}
+use Rattle.thompson_nfa.specs.declared.look.Look.TheVariants.{WordStartHalfUnicode, WordEndHalfUnicode}
+use Rattle.nfa_paths.specs.Paths.{node_at}
+use Rattle.nfa_determinize.specs.Closures.{Holding, holding_at}
+
+-- the assertion is not one of a Unicode word
+abbrev pub reads_bytes : looks.Look → Bool
+reads_bytes WordUnicode = false
+reads_bytes WordUnicodeNegate = false
+reads_bytes WordStartUnicode = false
+reads_bytes WordEndUnicode = false
+reads_bytes WordStartHalfUnicode = false
+reads_bytes WordEndHalfUnicode = false
+reads_bytes _ = true
+
+-- the state is not such an assertion, so a search may follow it at any byte
+abbrev pub may_follow : Node → Bool
+may_follow (Look look next) = reads_bytes look
+may_follow _ = true
+
+-- no state of the NFA is an assertion of a Unicode word
+pub record HasNoUnicodeWord (nfa : Automaton) : Type 0 where
+  pub all : (s : ℕ) → may_follow (node_at nfa s) ≡ true
+
+-- a state of the NFA is an assertion of a Unicode word: not all are others
+abbrev pub HasUnicodeWord : Automaton → Type 0
+HasUnicodeWord nfa = ¬ HasNoUnicodeWord nfa
+
+-- A search may read the byte, or there is none. With an assertion of a Unicode word it may read only bytes below 128.
+abbrev pub IsRead : Automaton → Option ℕ → Type 0
+IsRead nfa None = ⊤
+IsRead nfa (Some byte) = HasNoUnicodeWord nfa ⊎ (byte < 128)
+
+-- a search stops at the byte
+pub record IsQuit (nfa : Automaton) (byte : ℕ) : Type 0 where
+  pub word : HasUnicodeWord nfa
+  pub high : 128 ≤ byte
+
+-- the state is an assertion
+abbrev pub is_look : Node → Bool
+is_look (Look look next) = true
+is_look _ = false
+
+-- no state of the NFA is an assertion
+pub record HasNoLook (nfa : Automaton) : Type 0 where
+  pub all : (s : ℕ) → is_look (node_at nfa s) ≡ false
+
+-- the byte just before the position, if there is one
+abbrev pub byte_before : List ℕ → ℕ → Option ℕ
+byte_before haystack at = if nat_lt 0 at then slice_get haystack (at - 1) else None
+
+-- which assertions hold between the two bytes, or at an end of the haystack
+abbrev pub sees : Option ℕ → Option ℕ → Holding
+sees before after = holding_at (option_to_list before ++ option_to_list after) (length (option_to_list before))
+
+-- the assertions of the NFA hold alike
+pub record SameLooks (nfa : Automaton) (a b : Holding) : Type 0 where
+  pub same : (s : ℕ) (look : looks.Look) (next : ℕ) → node_at nfa s ≡ Look look next → a look ≡ b look
+
+-- a byte like this one, of four
+abbrev pub like : ℕ → ℕ
+like b = if is_word_byte b then 97 else (if b == 10 || b == 13 then b else 32)

@@ -1,0 +1,15 @@
+pub mod Options
+pub mod Configs
+pub mod Cuts
+pub mod Assertions
+pub mod Stances
+pub mod Rows
+pub mod Places
+pub mod Runs
+pub mod Stops
+pub mod Finders
+pub use Rattle.nfa_determinize.specs.Configurations
+pub use Rattle.nfa_paths.specs.Paths
+pub use Rattle.regex_search_core.specs.Found
+pub use Rattle.regex_search_core.specs.Search
+pub use Rattle.thompson_nfa.specs.Automaton

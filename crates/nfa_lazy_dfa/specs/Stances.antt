@@ -1,0 +1,67 @@
+-- What a row of a lazy DFA stands for, and where a byte leads.
+use Rattle.std.specs.Prelude.{◌≡◌, ℕ, ◌-◌, Bool, true, not, ◌&&◌, List, [], ◌∷◌, ◌++◌, Option, Some, is_some}
+use Rattle.std.specs.Prelude.{option_map, slice_get, if◌then◌else◌}
+use Rattle.regex_search_core.specs.Patterns.{number_of}
+use Rattle.regex_search_core.specs.Search.{Search}
+use Rattle.regex_search_core.specs.declared.search.MatchKind.{MatchKind}
+use Rattle.regex_search_core.specs.declared.search.MatchKind.TheVariants.{All, LeftmostFirst}
+use Rattle.thompson_nfa.specs.Automaton.{Automaton}
+use Rattle.nfa_paths.specs.Paths.{start_state}
+use Rattle.nfa_determinize.specs.Closures.{Holding, closure, holding_at, kept, pattern_by_kind, step}
+use Rattle.nfa_determinize.specs.Configurations.{Configuration, start_here}
+use Rattle.nfa_lazy_dfa.specs.Assertions.{IsRead, SameLooks, sees}
+use Rattle.nfa_lazy_dfa.specs.declared.follow.Stand.{Stand}
+
+-- The NFA states that the bytes so far led to, with the start if a match may start here; a byte like the last one, if
+-- there is one and an assertion may read it; whether a match may start at the next position, if none is found here; and
+-- the pattern that matched before the last byte.
+pub record Stance : Type 0 where
+  pub states : List ℕ
+  pub before : Option ℕ
+  pub more : Bool
+  pub hit : Option ℕ
+
+-- what the stand's fields say
+abbrev pub stance_of : Stand → Stance
+stance_of s = record { states = s.states.items; before = s.before; more = s.more; hit = option_map number_of s.hit }
+
+-- whether a later match may start if this one was found
+abbrev pub goes_on : MatchKind → Option ℕ → Bool
+goes_on LeftmostFirst hit = not (is_some hit)
+goes_on All hit = true
+
+module _ (nfa : Automaton) where
+  -- the two lists have the same closures, and only an empty list stands for none
+  pub record Covers (states list : List ℕ) : Type 0 where
+    pub same : (holding : Holding) → closure nfa holding states ≡ closure nfa holding list
+    pub none : states ≡ [] → list ≡ []
+
+  -- the start, if a match may start
+  abbrev pub start_if : Bool → List ℕ
+  start_if more = if more then nfa.anchored ∷ [] else []
+
+  -- the closure of the states before this byte, or at the end of the haystack
+  abbrev pub here : Stance → Option ℕ → List ℕ
+  here s after = closure nfa (sees s.before after) s.states
+
+  module _ (kind : MatchKind) where
+    -- the pattern that matches here
+    abbrev pub hit_here : Stance → Option ℕ → Option ℕ
+    hit_here s after = pattern_by_kind nfa kind (here s after)
+
+    -- a search may read the byte, and the byte leads from s to t
+    pub record IsNext (s : Stance) (byte : ℕ) (t : Stance) : Type 0 where
+      pub read : IsRead nfa (Some byte)
+      pub hit : t.hit ≡ hit_here s (Some byte)
+      pub more : t.more ≡ (s.more && goes_on kind (hit_here s (Some byte)))
+      pub states : Covers t.states (step nfa (Some byte) (kept nfa kind (here s (Some byte))) ++ start_if t.more)
+      pub before : (after : Option ℕ) → IsRead nfa after → SameLooks nfa (sees t.before after) (sees (Some byte) after)
+
+  -- what s stands for at a position of a scan
+  pub record StandsFor (x : Search) (at : ℕ) (s : Stance) (c : Configuration) : Type 0 where
+    pub states : Covers s.states (c.states ++ start_here nfa x c.starts)
+    pub sees : IsRead nfa (slice_get x.haystack at)
+        → SameLooks nfa (sees s.before (slice_get x.haystack at)) (holding_at x.haystack at)
+    pub starts : c.starts - 1 ≡ (if s.more then x.end - at else 0)
+    pub begins : s.more ≡ true → start_state nfa x.anchored ≡ Some nfa.anchored
+    pub some : is_some (start_state nfa x.anchored) ≡ true

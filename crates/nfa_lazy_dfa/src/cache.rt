@@ -1,0 +1,333 @@
+//! The rows that were built so far.
+ghost use Rattle.std.specs.Prelude.{◌≡◌, ℕ, ◌+◌, ◌-◌, ◌*◌, ◌<◌, ◌≤◌, ◌++◌, ◌∷◌, [], true, false, None, Some};
+ghost use Rattle.std.specs.Prelude.{All, IfOk, IfSome, IsTrue, OnErr, OnOk, length, option_map, slice_get, vec_len};
+ghost use Rattle.regex_search_core.specs.Patterns.{number_of};
+ghost use Rattle.nfa_lazy_dfa.specs.Rows as rows;
+ghost use Rattle.nfa_lazy_dfa.specs.Rows.{AllowsClears, CountsScan, IsFor, IsRowOf, KeepsRows, Spends, memory_of, stances_of};
+ghost use Rattle.nfa_lazy_dfa.specs.Stances.{hit_here, stance_of};
+
+use crate::dfa::DFA;
+use crate::error::GaveUp;
+use crate::follow::{Stand, last_hit};
+use crate::index::{EMPTY, Index, MAX_ROWS, is_first};
+use nfa_scan_core::counter::Counter;
+use regex_search_core::{PatternID, StateID};
+use std::alloc::{AllocError, Global};
+
+/// A cell of which nothing is known yet.
+pub const UNKNOWN: u32 = 0xFFFF_FFFF;
+
+/// Is added to the row in a cell if a match was seen on the way.
+pub const MATCHED: u32 = 0x4000_0000;
+
+/// Is added to the row in a cell if the row is dead.
+pub const DEAD: u32 = 0x8000_0000;
+
+/// How many cells a row has.
+pub const ROW_CELLS: usize = 256;
+
+/// How many bytes a row takes beside its states.
+const ROW_BYTES: usize = 1120;
+
+/// The rows that searches of one DFA built so far.
+#[derive(Drop)]
+pub struct Cache {
+    /// For each row, where each byte leads: the place of the next row's first cell.
+    pub(crate) cells: Vec<u32>,
+    pub(crate) stands: Vec<Stand>,
+    /// The pattern that matches at the end of the haystack, if it was looked up.
+    pub(crate) ends: Vec<Option<Option<PatternID>>>,
+    index: Index,
+    pub(crate) alloc: Global,
+    /// How many bytes the rows take.
+    taken: usize,
+    /// How often this search may still clear the rows.
+    clears: usize,
+    /// The rows that searches began with last, with one start and with many.
+    firsts: [u32; 2],
+    /// The steps that all searches took, each over one byte.
+    pub(crate) steps: Counter,
+    /// The rows that all searches made.
+    made: Counter,
+    /// How often all searches cleared the rows.
+    cleared: Counter,
+    /// The scans that all searches made.
+    scans: Counter,
+}
+
+impl Stand {
+    /// Whether no later position has a match.
+    pub(crate) fn is_dead(&self) -> bool
+        ensures { IsTrue result → (stance_of self.now).states ≡ [] }
+    {
+        self.states.is_empty()
+    }
+}
+
+impl Cache {
+    pub(crate) fn new(alloc: Global, dfa: &DFA) -> Result<Cache, AllocError>
+        ensures { IfOk result (λ made. IsFor made dfa.now) }
+    {
+        Ok(Cache {
+            cells: Vec::new(alloc),
+            stands: Vec::new(alloc),
+            ends: Vec::new(alloc),
+            index: Index::new(alloc)?,
+            alloc,
+            taken: 0,
+            clears: 0,
+            firsts: [EMPTY; 2],
+            steps: Counter::new(),
+            made: Counter::new(),
+            cleared: Counter::new(),
+            scans: Counter::new(),
+        })
+    }
+
+    /// Lets a search clear the rows this often.
+    pub(crate) fn allow(&mut self, dfa: &DFA)
+        requires { IsFor self.old dfa.now }
+        ensures own { IsFor self.new dfa.now }
+        ensures allows { AllowsClears self.old self.new dfa.now }
+    {
+        self.clears = dfa.max_clears;
+    }
+
+    /// Counts the steps over the bytes from one position to another.
+    #[inline(always)]
+    pub(crate) fn count_steps(&mut self, dfa: &DFA, from: usize, to: usize)
+        requires own { IsFor self.old dfa.now }
+        requires order { from ≤ to }
+        ensures own { IsFor self.new dfa.now }
+        ensures same { self.new.stands.items ≡ self.old.stands.items }
+        ensures spends { Spends self.old self.new (to - from) 0 }
+        ensures counts { self.new.steps ≡ self.old.steps + (to - from) }
+    {
+        let mut at = from;
+        while at < to {
+            self.steps.tick();
+            at += 1;
+        }
+    }
+
+    /// Counts a scan.
+    pub(crate) fn count_scan(&mut self, dfa: &DFA)
+        requires { IsFor self.old dfa.now }
+        ensures own { IsFor self.new dfa.now }
+        ensures counts { CountsScan self.old self.new }
+    {
+        self.scans.tick();
+    }
+
+    /// Returns how many bytes the rows take.
+    pub fn memory_usage(&self) -> usize
+        ensures { result ≡ memory_of self.now }
+    {
+        self.taken
+    }
+
+    /// Forgets all rows.
+    pub(crate) fn clear(&mut self, dfa: &DFA)
+        ensures own { IsFor self.new dfa.now }
+        ensures none { self.new.stands.items ≡ [] }
+        ensures left { self.new.clears ≡ self.old.clears }
+        ensures cleared { self.new.cleared ≡ self.old.cleared + 1 }
+        ensures steps { self.new.steps ≡ self.old.steps }
+        ensures made { self.new.made ≡ self.old.made }
+        ensures scans { self.new.scans ≡ self.old.scans }
+    {
+        self.cleared.tick();
+        self.cells.clear();
+        self.stands.clear();
+        self.ends.clear();
+        self.index.clear();
+        self.taken = 0;
+    }
+
+    /// How many bytes the rows take with one more for the stand, if there is room for it.
+    fn room(&self, dfa: &DFA, stand: &Stand) -> Option<usize>
+        ensures taken { IfSome result (λ taken.
+            taken ≡ self.now.taken + rows.row_memory_of (stance_of stand.now)) }
+        ensures room { IfSome result (λ taken. taken ≤ dfa.now.capacity) }
+        ensures few { IfSome result (λ taken. vec_len self.now.stands < MAX_ROWS) }
+    {
+        let states = stand.states.len().checked_mul(4)?;
+        let taken = self.taken.checked_add(ROW_BYTES)?.checked_add(states)?;
+        if taken > dfa.capacity || self.stands.len() >= MAX_ROWS {
+            return None;
+        }
+        Some(taken)
+    }
+
+    /// Adds a row for the stand, with which the rows take this many bytes.
+    fn add(&mut self, dfa: &DFA, stand: Stand, taken: usize) -> Result<u32, GaveUp>
+        requires own { IsFor self.old dfa.now }
+        requires below { All (λ s. s < length dfa.now.nfa.states) stand.states.items }
+        requires few { vec_len self.old.stands < MAX_ROWS }
+        requires taken { taken ≡ self.old.taken + rows.row_memory_of (stance_of stand) }
+        requires room { taken ≤ dfa.now.capacity }
+        ensures own { IsFor self.new dfa.now }
+        ensures row { IfOk result (λ row. IsRowOf self.new row (stance_of stand)) }
+        ensures keeps { OnOk result (KeepsRows self.old self.new) }
+        ensures spends { Spends self.old self.new 0 1 }
+        ensures counts { OnOk result (self.new.made ≡ self.old.made + 1) }
+    {
+        let row = self.stands.len() as u32;
+        append(&mut self.cells, &mut self.stands, &mut self.ends, stand)?;
+        self.made.tick();
+        self.taken = taken;
+        self.index.enter_last(&self.stands);
+        Ok(row)
+    }
+
+    /// The row of the stand, and whether the other rows are still there.
+    pub(crate) fn intern(&mut self, dfa: &DFA, stand: Stand) -> Result<(u32, bool), GaveUp>
+        requires own { IsFor self.old dfa.now }
+        requires below { All (λ s. s < length dfa.now.nfa.states) stand.states.items }
+        ensures own { IsFor self.new dfa.now }
+        ensures row { IfOk result (λ r. IsRowOf self.new r.0 (stance_of stand)) }
+        ensures keeps { IfOk result (λ r. IsTrue r.1 → KeepsRows self.old self.new) }
+        ensures spends { Spends self.old self.new 0 1 }
+    {
+        if let Some(row) = self.index.find(&self.stands, &stand) {
+            return Ok((row, true));
+        }
+        if let Some(taken) = self.room(dfa, &stand) {
+            let row = self.add(dfa, stand, taken)?;
+            return Ok((row, true));
+        }
+        if self.clears == 0 {
+            return Err(GaveUp::Full);
+        }
+        self.clears -= 1;
+        self.clear(dfa);
+        let Some(taken) = self.room(dfa, &stand) else {
+            return Err(GaveUp::Full);
+        };
+        let row = self.add(dfa, stand, taken)?;
+        Ok((row, false))
+    }
+
+    /// Whether a search that begins with this state begins in the row.
+    fn is_first(&self, row: u32, start: StateID, before: Option<u8>, more: bool) -> bool
+        ensures { IsTrue result
+            → IsRowOf self.now row record { states = start ∷ []; before = before; more = more; hit = None } }
+    {
+        match self.stands.get(row as usize) {
+            None => false,
+            Some(stand) => is_first(stand, start, before, more),
+        }
+    }
+
+    /// The row that a search begins with.
+    pub(crate) fn start(
+        &mut self,
+        dfa: &DFA,
+        start: StateID,
+        before: Option<u8>,
+        more: bool,
+    ) -> Result<u32, GaveUp>
+        requires own { IsFor self.old dfa.now }
+        requires start { start < length dfa.now.nfa.states }
+        ensures own { IsFor self.new dfa.now }
+        ensures row { IfOk result (λ row.
+            IsRowOf self.new row record { states = start ∷ []; before = before; more = more; hit = None }) }
+        ensures spends { Spends self.old self.new 0 1 }
+    {
+        let row = self.firsts[more as usize];
+        if self.is_first(row, start, before, more) {
+            return Ok(row);
+        }
+        self.begin(dfa, start, before, more)
+    }
+
+    /// The row that a search begins with, if it is not known.
+    #[cold]
+    #[inline(never)]
+    fn begin(
+        &mut self,
+        dfa: &DFA,
+        start: StateID,
+        before: Option<u8>,
+        more: bool,
+    ) -> Result<u32, GaveUp>
+        requires own { IsFor self.old dfa.now }
+        requires start { start < length dfa.now.nfa.states }
+        ensures own { IsFor self.new dfa.now }
+        ensures row { IfOk result (λ row.
+            IsRowOf self.new row record { states = start ∷ []; before = before; more = more; hit = None }) }
+        ensures spends { Spends self.old self.new 0 1 }
+    {
+        let mut states = Vec::new(self.alloc);
+        states.push(start)?;
+        let stand = Stand {
+            states,
+            before,
+            more,
+            hit: None,
+        };
+        let row = self.intern(dfa, stand)?.0;
+        self.firsts[more as usize] = row;
+        Ok(row)
+    }
+
+    /// The pattern that matches at the end of the haystack.
+    pub(crate) fn end(&mut self, dfa: &DFA, row: u32) -> Result<Option<PatternID>, GaveUp>
+        requires own { IsFor self.old dfa.now }
+        requires row { row < vec_len self.old.stands }
+        ensures own { IsFor self.new dfa.now }
+        ensures hit { IfOk result (λ hit. (s : _) → IsRowOf self.old row s
+            → option_map number_of hit ≡ hit_here dfa.now.nfa dfa.now.kind s None) }
+        ensures spends { Spends self.old self.new 0 0 }
+    {
+        if let Some(hit) = self.ends[row as usize] {
+            return Ok(hit);
+        }
+        let hit = last_hit(self.alloc, dfa, &self.stands[row as usize])?;
+        self.ends[row as usize] = Some(hit);
+        Ok(hit)
+    }
+}
+
+/// Adds a row whose cells are all unknown. After an error the three lists are as they were.
+fn append(
+    cells: &mut Vec<u32>,
+    stands: &mut Vec<Stand>,
+    ends: &mut Vec<Option<Option<PatternID>>>,
+    stand: Stand,
+) -> Result<(), AllocError>
+    ensures cells { OnOk result (cells.new.items ≡ cells.old.items ++ rows.unknown) }
+    ensures stands { OnOk result (stands.new.items ≡ stands.old.items ++ stand ∷ []) }
+    ensures ends { OnOk result (ends.new.items ≡ ends.old.items ++ None ∷ []) }
+    ensures same_cells { OnErr result (cells.new.items ≡ cells.old.items) }
+    ensures same_stands { OnErr result (stands.new.items ≡ stands.old.items) }
+    ensures same_ends { OnErr result (ends.new.items ≡ ends.old.items) }
+{
+    let before = cells.len();
+    cells.extend_from_slice(&[UNKNOWN; ROW_CELLS])?;
+    if append_stand(stands, ends, stand).is_err() {
+        cells.truncate(before);
+        return Err(AllocError);
+    }
+    Ok(())
+}
+
+/// Adds a stand with no known end. After an error the two lists are as they were.
+fn append_stand(
+    stands: &mut Vec<Stand>,
+    ends: &mut Vec<Option<Option<PatternID>>>,
+    stand: Stand,
+) -> Result<(), AllocError>
+    ensures stands { OnOk result (stands.new.items ≡ stands.old.items ++ stand ∷ []) }
+    ensures ends { OnOk result (ends.new.items ≡ ends.old.items ++ None ∷ []) }
+    ensures same_stands { OnErr result (stands.new.items ≡ stands.old.items) }
+    ensures same_ends { OnErr result (ends.new.items ≡ ends.old.items) }
+{
+    let before = ends.len();
+    ends.push(None)?;
+    if stands.push(stand).is_err() {
+        ends.truncate(before);
+        return Err(AllocError);
+    }
+    Ok(())
+}

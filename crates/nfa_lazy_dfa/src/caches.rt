@@ -1,0 +1,34 @@
+//! Calls that make a cache the DFA's.
+ghost use Rattle.std.specs.Prelude.{IfOk, IsOkUnless};
+ghost use Rattle.nfa_lazy_dfa.specs.Rows.{IsFor};
+
+use crate::cache::Cache;
+use crate::dfa::DFA;
+use crate::error::StopError;
+use std::alloc::Global;
+
+impl DFA {
+    /// Makes a cache for searches of this DFA. It has no rows. The only error is `Memory`.
+    pub fn create_cache(&self, alloc: Global) -> Result<Cache, StopError>
+        ensures own { IfOk result (λ made. IsFor made self.now) }
+        ensures memory { IsOkUnless result StopError.Memory }
+    {
+        Ok(Cache::new(alloc, self)?)
+    }
+
+    /// Makes the cache one of this DFA, whichever DFA it was of. Its rows are dropped.
+    pub fn reset_cache(&self, cache: &mut Cache)
+        ensures { IsFor cache.new self.now }
+    {
+        cache.reset(self);
+    }
+}
+
+impl Cache {
+    /// Makes the cache one of the DFA, whichever DFA it was of. Its rows are dropped, and their memory is kept.
+    pub fn reset(&mut self, dfa: &DFA)
+        ensures { IsFor self.new dfa.now }
+    {
+        self.clear(dfa);
+    }
+}

@@ -1,0 +1,155 @@
+//! One step of the DFA, from a row over a byte to the next one.
+ghost use Rattle.std.specs.Prelude.{◌≡◌, ℕ, ◌<◌, Option, None, Some, false, true};
+ghost use Rattle.std.specs.Prelude.{All, IfOk, IsTrue, length, option_map, replicate, slice_index_or, slice_set};
+ghost use Rattle.regex_search_core.specs.Patterns.{number_of};
+ghost use Rattle.nfa_lazy_dfa.specs.Assertions.{IsRead, SameLooks, like, sees};
+ghost use Rattle.nfa_lazy_dfa.specs.Stances.{Covers, IsNext, goes_on, here, hit_here, stance_of};
+
+use crate::dfa::DFA;
+use nfa_determinize::closure::{closure, kept, pattern_by_kind, step};
+use regex_search_core::{MatchKind, PatternID, StateID};
+use std::alloc::{AllocError, Global};
+use thompson_nfa::NFA;
+
+/// A haystack that is empty.
+const NOTHING: [u8; 0] = [];
+
+/// What a row stands for.
+#[derive(Debug, Drop)]
+pub struct Stand {
+    /// The NFA states that the bytes so far led to, each once, with the start if a match may start here.
+    pub states: Vec<StateID>,
+    /// A byte like the last one, if there is one and an assertion may read it.
+    pub before: Option<u8>,
+    /// A match may start at the next position, unless one is found here.
+    pub more: bool,
+    /// The pattern that matched just before the last byte.
+    pub hit: Option<PatternID>,
+}
+
+/// The closure of the stand's states before this byte, or at the end of the haystack.
+fn closure_of(
+    alloc: Global,
+    dfa: &DFA,
+    stand: &Stand,
+    after: Option<u8>,
+) -> Result<Vec<StateID>, AllocError>
+    requires { All (λ s. s < length dfa.now.nfa.states) stand.now.states.items }
+    ensures closure { IfOk result (λ made. made.items ≡ here dfa.now.nfa (stance_of stand.now) after) }
+    ensures below { IfOk result (λ made. All (λ s. s < length dfa.now.nfa.states) made.items) }
+{
+    match (stand.before, after) {
+        (None, None) => closure(alloc, &dfa.nfa, &NOTHING, 0, &stand.states),
+        (None, Some(after)) => closure(alloc, &dfa.nfa, &[after], 0, &stand.states),
+        (Some(before), None) => closure(alloc, &dfa.nfa, &[before], 1, &stand.states),
+        (Some(before), Some(after)) => {
+            closure(alloc, &dfa.nfa, &[before, after], 1, &stand.states)
+        }
+    }
+}
+
+/// The pattern that matches at the stand, at the end of the haystack.
+pub fn last_hit(alloc: Global, dfa: &DFA, stand: &Stand) -> Result<Option<PatternID>, AllocError>
+    requires { All (λ s. s < length dfa.now.nfa.states) stand.now.states.items }
+    ensures { IfOk result (λ hit.
+        option_map number_of hit ≡ hit_here dfa.now.nfa dfa.now.kind (stance_of stand.now) None) }
+{
+    let states = closure_of(alloc, dfa, stand, None)?;
+    Ok(pattern_by_kind(&dfa.nfa, dfa.kind, &states))
+}
+
+/// The stand after the byte.
+pub fn follow(alloc: Global, dfa: &DFA, stand: &Stand, byte: u8) -> Result<Stand, AllocError>
+    requires below { All (λ s. s < length dfa.now.nfa.states) stand.now.states.items }
+    requires read { IsRead dfa.now.nfa (Some byte) }
+    ensures next { IfOk result (λ made.
+        IsNext dfa.now.nfa dfa.now.kind (stance_of stand.now) byte (stance_of made)) }
+    ensures below { IfOk result (λ made. All (λ s. s < length dfa.now.nfa.states) made.states.items) }
+{
+    let states = closure_of(alloc, dfa, stand, Some(byte))?;
+    let hit = pattern_by_kind(&dfa.nfa, dfa.kind, &states);
+    let more = stand.more && may_start_after(dfa.kind, hit);
+    let left = kept(&dfa.nfa, dfa.kind, &states);
+    let mut next = step(alloc, &dfa.nfa, Some(byte), left)?;
+    if more {
+        next.push(dfa.nfa.start_anchored())?;
+    }
+    let states = each_once(alloc, &dfa.nfa, &next)?;
+    let before = before(dfa, Some(byte));
+    Ok(Stand {
+        states,
+        before,
+        more,
+        hit,
+    })
+}
+
+/// What an assertion of the NFA may read of the byte before a position.
+pub fn before(dfa: &DFA, byte: Option<u8>) -> Option<u8>
+    requires { IsRead dfa.now.nfa byte }
+    ensures { (after : Option ℕ) → IsRead dfa.now.nfa after
+        → SameLooks dfa.now.nfa (sees result after) (sees byte after) }
+{
+    if dfa.looks { Some(like(byte?)) } else { None }
+}
+
+/// A byte like this one: `a` for one of a word, a space for all others but line feed and carriage return.
+fn like(byte: u8) -> u8
+    ensures { result ≡ like byte }
+{
+    if byte.is_ascii_alphanumeric() || byte == b'_' {
+        b'a'
+    } else if byte == b'\n' || byte == b'\r' {
+        byte
+    } else {
+        b' '
+    }
+}
+
+/// Whether a match may start after this one.
+fn may_start_after(kind: MatchKind, hit: Option<PatternID>) -> bool
+    ensures { result ≡ goes_on kind (option_map number_of hit) }
+{
+    match kind {
+        MatchKind::All => true,
+        MatchKind::LeftmostFirst => hit.is_none(),
+    }
+}
+
+/// The states without those that the list has further left.
+fn each_once(alloc: Global, nfa: &NFA, states: &[StateID]) -> Result<Vec<StateID>, AllocError>
+    requires { All (λ s. s < length nfa.now.states) states.now }
+    ensures covers { IfOk result (λ made. Covers nfa.now made.items states.now) }
+    ensures below { IfOk result (λ made. All (λ s. s < length nfa.now.states) made.items) }
+{
+    let mut seen = none_seen(alloc, nfa)?;
+    let mut once = Vec::new(alloc);
+    for sid in states {
+        if see(&mut seen, *sid) {
+            once.push(*sid)?;
+        }
+    }
+    Ok(once)
+}
+
+/// A mark for each state, none of them set.
+fn none_seen(alloc: Global, nfa: &NFA) -> Result<Vec<bool>, AllocError>
+    ensures { IfOk result (λ made. made.items ≡ replicate (length nfa.now.states) false) }
+{
+    Ok(vec![in alloc; false; nfa.states().len()]?)
+}
+
+/// Marks the state, and says whether it was not marked before.
+fn see(seen: &mut Vec<bool>, sid: StateID) -> bool
+    requires { sid < length seen.old.items }
+    ensures fresh { result ≡ true → slice_index_or seen.old.items sid true ≡ false }
+    ensures marked { result ≡ true → seen.new.items ≡ slice_set seen.old.items sid true }
+    ensures again { result ≡ false → slice_index_or seen.old.items sid true ≡ true }
+    ensures same { result ≡ false → seen.new.items ≡ seen.old.items }
+{
+    if seen[sid.as_usize()] {
+        return false;
+    }
+    seen[sid.as_usize()] = true;
+    true
+}

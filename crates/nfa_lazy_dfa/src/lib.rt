@@ -1,0 +1,20 @@
+//! A DFA that is built while it searches: it finds whether and where a match ends, at a few instructions a byte.
+#![tactic(auto)]
+
+mod cache;
+mod caches;
+mod config;
+mod cuts;
+mod dfa;
+mod error;
+mod fill;
+mod follow;
+mod index;
+mod scan;
+mod search;
+
+pub use cache::Cache;
+pub use config::{Builder, Config};
+pub use dfa::DFA;
+pub use error::StopError;
+pub use thompson_nfa::BuildError;

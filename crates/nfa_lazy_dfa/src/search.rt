@@ -1,0 +1,132 @@
+//! Searches of a lazy DFA.
+ghost use Rattle.std.specs.Prelude.{◌↔◌, ◌≤◌, IfErr, IfOk, IsTrue, false, option_map};
+ghost use Rattle.regex_search_core.specs.Found.{half_found_of};
+ghost use Rattle.regex_search_core.specs.Search.{search_of};
+ghost use Rattle.nfa_paths.specs.Paths.{IsBoolAnswer, IsHalfAnswer};
+ghost use Rattle.nfa_determinize.specs.Searches.{IsRestartedHalf, IsWholeHalf};
+ghost use Rattle.nfa_lazy_dfa.specs.Configs.{kind_of, nfa_of};
+ghost use Rattle.nfa_lazy_dfa.specs.Rows.{IsBounded, IsFor, ScansAtMost, capacity_of, memory_of};
+ghost use Rattle.nfa_lazy_dfa.specs.Stops.{IsStop};
+
+use crate::cache::Cache;
+use crate::dfa::DFA;
+use crate::error::StopError;
+use crate::scan::scan_half;
+use nfa_determinize::laws;
+use nfa_scan_core::starts::is_utf8_empty;
+use regex_search_core::{HalfMatch, Input};
+
+impl DFA {
+    /// Returns the pattern of the match that a search of the input finds, and the offset of its end.
+    ///
+    /// Returns `None` if nothing matches. An answer is that of `PikeVM::find_half`, for the DFA's match kind, each
+    /// anchoring, and the input's `earliest`. The errors say why there is no answer:
+    ///
+    /// - `Quit`: the NFA has an assertion of a Unicode word, and the search came to a byte of 128 or more.
+    /// - `GaveUp`: the search had cleared the cache as often as it may, and the cache was full again.
+    /// - `Memory`: an allocation failed.
+    ///
+    /// The caller must ensure that the cache is the DFA's (`IsFor`). [`DFA::create_cache`] and [`Cache::reset`] make one.
+    /// It stays the DFA's in each search, also in one that returns an error.
+    ///
+    /// ```
+    /// // dfa of "foo(?<n>[0-9]+)"
+    /// let half = dfa.try_find_half(&mut cache, Input::new(b"foo12345"))?;
+    /// assert_eq!(rt; half.expect(rt, "a match").offset(), 8);
+    /// ```
+    pub fn try_find_half<'h>(
+        &self,
+        cache: &mut Cache,
+        input: Input<'h>,
+    ) -> Result<Option<HalfMatch>, StopError>
+        requires { IsFor cache.old self.now }
+        ensures own { IsFor cache.new self.now }
+        ensures answer { let x = search_of input.entry in IfOk result (λ half.
+            IsHalfAnswer (nfa_of self.now) (kind_of self.now) x.earliest x (option_map half_found_of half)) }
+        ensures stops { IfErr result (IsStop (nfa_of self.now) (search_of input.entry)) }
+        ensures memory { memory_of cache.new ≤ capacity_of self.now }
+        ensures work { IsBounded cache.old cache.new self.now (search_of input.entry) }
+    {
+        cache.allow(self);
+        find_half(self, cache, input)
+    }
+
+    /// Returns whether a search of the input finds a match. It stops at the first position at which it knows.
+    ///
+    /// An answer is that of `PikeVM::is_match`, whatever the input's `earliest`. The errors, and what the caller must
+    /// ensure, are those of [`DFA::try_find_half`].
+    ///
+    /// ```
+    /// // dfa of "foo[0-9]+bar"
+    /// assert!(rt; dfa.try_is_match(&mut cache, Input::new(b"foo12345bar"))?);
+    /// assert!(rt; !dfa.try_is_match(&mut cache, Input::new(b"foobar"))?);
+    /// ```
+    pub fn try_is_match<'h>(&self, cache: &mut Cache, input: Input<'h>) -> Result<bool, StopError>
+        requires { IsFor cache.old self.now }
+        ensures own { IsFor cache.new self.now }
+        ensures answer { IfOk result
+            (IsBoolAnswer (nfa_of self.now) (kind_of self.now) false (search_of input.entry)) }
+        ensures stops { IfErr result (IsStop (nfa_of self.now) (search_of input.entry)) }
+        ensures memory { memory_of cache.new ≤ capacity_of self.now }
+        ensures work { IsBounded cache.old cache.new self.now (search_of input.entry) }
+    {
+        let earliest = !is_utf8_empty(&self.nfa);
+        let input = input.earliest(earliest);
+        let half = self.try_find_half(cache, input)?;
+        Ok(half.is_some())
+    }
+}
+
+/// The half match of a search.
+fn find_half(dfa: &DFA, cache: &mut Cache, input: Input<'_>) -> Result<Option<HalfMatch>, StopError>
+    requires { IsFor cache.old dfa.now }
+    ensures own { IsFor cache.new dfa.now }
+    ensures answer { let x = search_of input.entry in IfOk result (λ half.
+        IsHalfAnswer dfa.now.nfa dfa.now.kind x.earliest x (option_map half_found_of half)) }
+    ensures stops { IfErr result (IsStop dfa.now.nfa (search_of input.entry)) }
+    ensures work { ScansAtMost cache.old cache.new (search_of input.entry) }
+{
+    laws::steps_find_the_half();
+    if !is_utf8_empty(&dfa.nfa) {
+        return scan_half(dfa, cache, &input);
+    }
+    if !input.get_anchored().is_anchored() {
+        return find_whole_half(dfa, cache, input);
+    }
+    let half = scan_half(dfa, cache, &input)?;
+    if !is_whole_half(&input, half) {
+        return Ok(None);
+    }
+    Ok(half)
+}
+
+/// The half match of the first scan whose match does not split a codepoint, as the start of the span moves on.
+fn find_whole_half(
+    dfa: &DFA,
+    cache: &mut Cache,
+    mut input: Input<'_>,
+) -> Result<Option<HalfMatch>, StopError>
+    requires { IsFor cache.old dfa.now }
+    ensures own { IsFor cache.new dfa.now }
+    ensures half { let x = search_of input.entry in IfOk result (λ half.
+        IsRestartedHalf dfa.now.nfa dfa.now.kind x.earliest x (option_map half_found_of half)) }
+    ensures stops { IfErr result (IsStop dfa.now.nfa (search_of input.entry)) }
+    ensures work { ScansAtMost cache.old cache.new (search_of input.entry) }
+{
+    let mut half = scan_half(dfa, cache, &input)?;
+    while !is_whole_half(&input, half) {
+        input.set_start(input.start() + 1);
+        half = scan_half(dfa, cache, &input)?;
+    }
+    Ok(half)
+}
+
+/// Whether there is no match, or it ends on a boundary.
+fn is_whole_half(input: &Input<'_>, half: Option<HalfMatch>) -> bool
+    ensures { IsTrue result ↔ IsWholeHalf (search_of input.now) (option_map half_found_of half) }
+{
+    match half {
+        Some(half) => input.is_char_boundary(half.offset()),
+        None => true,
+    }
+}
