@@ -4,6 +4,7 @@ mod captures;
 mod choice;
 mod copies;
 mod engines;
+mod hybrid;
 mod iteration;
 mod makers;
 mod pikevms;
@@ -137,5 +138,9 @@ pub fn run(alloc: Global, seen: &mut Seen) -> Result<(), Wrong> {
     makers::sets(alloc, seen)?;
     choice::searches(alloc, seen)?;
     choice::lists(alloc, seen)?;
-    choice::replacements(alloc, seen)
+    choice::replacements(alloc, seen)?;
+    hybrid::searches(alloc, seen)?;
+    hybrid::lists(alloc, seen)?;
+    hybrid::replacements(alloc, seen)?;
+    hybrid::warm(alloc, seen)
 }

@@ -3,6 +3,7 @@
 #![tactic(auto)]
 
 pub mod classifier;
+pub mod ends;
 pub mod lines;
 pub mod loops;
 pub mod owner;

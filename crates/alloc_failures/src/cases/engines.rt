@@ -5,6 +5,7 @@ use nfa_choice::choose::Choice;
 use nfa_engines::backtrack::{self, BoundedBacktracker};
 use nfa_engines::error::SearchError;
 use nfa_engines::pikevm::{self, PikeVM};
+use nfa_hybrid::{Hybrid, dfa};
 use regex_search_core::{Captures, GroupInfo, MatchKind, PatternSet, Refused};
 use std::alloc::Global;
 use test_support::made as samples;
@@ -76,4 +77,14 @@ fn choice_of(alloc: Global, name: &str) -> Result<Choice, MakeError> {
 /// The engine that chooses, of the sample.
 pub fn choice(alloc: Global, seen: &mut Seen, name: &str) -> Result<Choice, Wrong> {
     made!(seen, MakeError::Memory, choice_of(alloc, name))
+}
+
+fn hybrid_of(alloc: Global, name: &str) -> Result<Hybrid, MakeError> {
+    let nfa = samples::nfa_named(alloc, name)?;
+    Ok(Hybrid::new(alloc, nfa, dfa::Config::new())?)
+}
+
+/// A hybrid of the sample.
+pub fn hybrid(alloc: Global, seen: &mut Seen, name: &str) -> Result<Hybrid, Wrong> {
+    made!(seen, MakeError::Memory, hybrid_of(alloc, name))
 }

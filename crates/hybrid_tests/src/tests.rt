@@ -1,0 +1,5 @@
+//! A hybrid beside a PikeVM: over the samples, and over patterns.
+
+mod pair;
+mod patterns;
+mod samples;

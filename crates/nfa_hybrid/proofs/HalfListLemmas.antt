@@ -1,0 +1,192 @@
+-- The list of the half matches of an NFA: there is at most one, its offsets rise, and the calls of an iterator give it.
+use Rattle.std.proofs.Common.{◌≡◌, ◌∙◌, ℕ, ◌≤◌, ◌<◌, Bool, false, ap, sym, arith, refl, subst}
+use Rattle.std.proofs.Common.{Option, None, Some, Result, Ok, Err, List, [], ◌∷◌, ◌++◌, map, length, length-append}
+use Rattle.std.specs.Prelude.{All, IfSome}
+use Rattle.std.specs.Option.{ForSome, option_map}
+use Rattle.std.specs.Iterator.{Yields}
+use Rattle.std.proofs.lemmas.List.Elements.{All-nil, All-cons}
+use Rattle.std.proofs.iter.runs.Sources.{lists}
+use Rattle.regex_search_core.specs.Found.{HalfFound, half_found_of}
+use Rattle.regex_search_core.specs.Search.{Search}
+use Rattle.regex_search_core.specs.declared.search.HalfMatch.{HalfMatch}
+use Rattle.regex_search_core.specs.declared.search.MatchKind.{MatchKind}
+use Rattle.regex_search_core.specs.declared.search.Span.{Span}
+use Rattle.thompson_nfa.specs.Automaton.{Automaton}
+use Rattle.nfa_paths.specs.Paths.{IsHalfAnswer, path_half}
+use Rattle.nfa_paths.proofs.InsideLemmas.{half-within}
+use Rattle.nfa_paths.proofs.OptionLemmas.{same_some}
+use Rattle.nfa_engines.proofs.HalfLemmas.{half-unique}
+use Rattle.nfa_search_base.specs.Asking.{SameButStart}
+use Rattle.nfa_search_base.specs.LastEnd.{EndsBy}
+use Rattle.nfa_search_base.specs.Items.{Item, matches_in}
+use Rattle.nfa_search_base.specs.Lists.{AreSpansDisjoint, IsStep, Fails}
+use Rattle.nfa_search_base.specs.Finders.{answer_by}
+use Rattle.nfa_search_base.specs.Steps.{GivesItem}
+use Rattle.nfa_search_base.specs.Stored.{steps_iter_state, takes_infallible_steps}
+use Rattle.nfa_search_base.specs.IterStates.{Answer, AnswerIsInside, IsInfalliblyInside, IterState, answer_span, fresh, half_span_of}
+use Rattle.nfa_search_base.specs.declared.error.SearchError.{SearchError}
+use Rattle.nfa_search_base.specs.declared.iter.steps.Steps.{Steps}
+use Rattle.nfa_search_base.proofs.IterStateLemmas.{IsOrdered}
+use Rattle.nfa_search_base.proofs.ListLemmas.{as_items, last-unique, matches_in-as_items, next-rest, spans-disjoint}
+use Rattle.nfa_search_base.proofs.MatchRunLemmas.{yields-inner}
+use Rattle.nfa_search_base.proofs.RunLemmas.{Given, Says, given, item-says, gives-first_matches, gives-all_matches}
+use Rattle.nfa_hybrid.specs.HalfLists.{AnswersHalf, AreFirstHalves, AreHalves, AreRising, IsHalfInside}
+use Rattle.nfa_hybrid.specs.HalfRuns.{AreFirst, AreAll, HalvesAre, HalvesFirst, HalvesNext, HalvesRise, HalvesRun}
+
+-- ---- the list
+
+-- the rest of items that are half matches are half matches
+rest-as_items : {X : Type 0} (xs ys : List X) (more : List (Item X)) → as_items ys ≡ as_items xs ++ more
+    → (rest : List X) × (ys ≡ xs ++ rest)
+rest-as_items [] ys more e = (ys, refl)
+rest-as_items (x ∷ xs) [] more e = cc
+rest-as_items {X} (x ∷ xs) (y ∷ ys) more e =
+    let head : (let a : Item X = Ok y in let b : Item X = Ok x in a ≡ b) = cc in
+    let tail : as_items ys ≡ as_items xs ++ more = cc in
+    let same : y ≡ x = cc in
+    let rest = rest-as_items xs ys more tail in
+    (rest.0, ap (λ (z : X). z ∷ ys) same ∙ ap (λ (l : List X). x ∷ l) rest.1)
+
+-- spans of half matches that do not overlap have offsets that rise
+rising-spans : (x : Search) (last : Option ℕ) (ms : List HalfFound) → AreSpansDisjoint x last (map half_span_of ms)
+    → AreRising x last ms
+rising-spans x last [] h = tt
+rising-spans x last (m ∷ ms) h =
+    (record { from = h.0.0; to = h.0.2 }, λ e is. (h.1 e is).1, rising-spans x (Some m.offset) ms h.2)
+
+-- before the first match there is no last end
+ends-none : (n : ℕ) → EndsBy None n
+ends-none n = λ e is. let never : None ≡ Some e = is in cc
+
+no-more : (xs more : List HalfFound) → xs ≡ xs ++ more → length more ≡ 0
+no-more xs more e = omega (arith, ap length e, length-append xs more)
+
+-- offsets that rise are in the span
+all-inside : (x : Search) (last : Option ℕ) (ms : List HalfMatch) → AreRising x last (map half_found_of ms)
+    → All (λ m. IsHalfInside x (half_found_of m)) ms
+all-inside x last [] h = All-nil (λ m. IsHalfInside x (half_found_of m))
+all-inside x last (m ∷ ms) h = All-cons (λ m. IsHalfInside x (half_found_of m)) m ms h.0
+    (all-inside x (Some (half_found_of m).offset) ms h.2)
+
+module _ (nfa : Automaton) (kind : MatchKind) (earliest : Bool) where
+  abbrev tells : Search → Answer HalfFound → Type 0
+  tells = AnswersHalf nfa kind earliest
+
+  -- a search gives one half match
+  one-answer : (t : Search) (a b : Answer HalfFound) → tells t a → tells t b → a ≡ b
+  one-answer t (Ok p) (Ok q) h k =
+      ap (λ (o : Option HalfFound). let a : Answer HalfFound = Ok o in a) (half-unique nfa t kind earliest p q h k)
+  one-answer t (Ok p) (Err e) h k = absurd k
+  one-answer t (Err e) b h k = absurd h
+
+  -- which is in its span
+  pub half-lies : (t : Search) (a : Answer HalfFound) → tells t a
+      → AnswerIsInside half_span_of t a × IsOrdered (answer_span half_span_of a)
+  half-lies t (Ok (Some m)) h =
+      let k = half-within nfa kind earliest t m h in
+      (k, λ p is. subst (λ (q : Span). q.start ≤ q.end) (same_some (half_span_of m) p is) (omega arith))
+  half-lies t (Ok None) h = (tt, λ p is. let never : None ≡ Some p = is in cc)
+  half-lies t (Err e) h = absurd h
+
+  -- and is not an error
+  pub half-lies_infallibly : (t : Search) (a : Answer HalfFound) → tells t a → IsInfalliblyInside half_span_of t a
+  half-lies_infallibly t (Ok half) h = ((half-lies t (Ok half) h).0, refl)
+  half-lies_infallibly t (Err e) h = absurd h
+
+  -- the half match of a search is its answer
+  pub half-answered : (t : Search) (half : Option HalfMatch)
+      → IsHalfAnswer nfa kind earliest t (option_map half_found_of half) → tells t (answer_by half_found_of (Ok half))
+  half-answered t (Some m) h = h
+  half-answered t None h = h
+
+  -- there is one list at most
+  pub halves-unique : (x : Search) (xs ys : List HalfFound) → AreHalves nfa kind earliest x xs
+      → AreHalves nfa kind earliest x ys → xs ≡ ys
+  halves-unique x xs ys h k =
+      sym (matches_in-as_items xs)
+      ∙ ap (λ (l : List (Item HalfFound)). matches_in l)
+      (last-unique half_span_of tells one-answer (fresh x) (as_items xs) (as_items ys) h.come k.come)
+      ∙ matches_in-as_items ys
+
+  -- the rest of the list follows the first half matches
+  pub halves-rest : (x : Search) (xs ys : List HalfFound) → AreFirstHalves nfa kind earliest x xs
+      → AreHalves nfa kind earliest x ys
+      → (more : List HalfFound) × (ys ≡ xs ++ more)
+  halves-rest x xs ys h k =
+      let rest = next-rest half_span_of tells one-answer (fresh x) (as_items xs) (as_items ys) h.come k.come in
+      rest-as_items xs ys rest.0 rest.1
+
+  -- the offsets of the first half matches rise
+  pub halves-rise : (x : Search) (ms : List HalfFound) → AreFirstHalves nfa kind earliest x ms → AreRising x None ms
+  halves-rise x ms h =
+      subst (λ (l : List HalfFound). AreRising x None l) (matches_in-as_items ms)
+      (rising-spans x None (matches_in (as_items ms))
+      (spans-disjoint half_span_of tells half-lies (Fails half_span_of tells) x (fresh x) (as_items ms) (omega arith) refl
+      (ends-none x.start) h.come))
+
+-- ---- the calls
+
+-- all that the calls of an iterator over the half matches of x give
+pub record HalvesGiven (nfa : Automaton) (kind : MatchKind) (x : Search) {T : Type 0}
+    (steps : T → Option HalfMatch → T → Type 0) (s : T) : Type 0 where
+  pub runs : HalvesRun nfa kind x steps s
+  pub first : HalvesFirst nfa kind x steps s
+  pub next : HalvesNext nfa kind x steps s
+  pub rise : HalvesRise nfa kind x steps s
+  pub are : HalvesAre nfa kind x steps s
+
+module _ (nfa : Automaton) (kind : MatchKind) (x : Search) where
+  abbrev tells_here : Search → Answer HalfFound → Type 0
+  tells_here = AnswersHalf nfa kind x.earliest
+
+  says : {S : Type 0} (w : IterState) (s : S) (a : Answer HalfFound) (r : Option (Result HalfMatch SearchError))
+      → GivesItem half_found_of a r
+      → IsStep half_span_of tells_here w a → Says half_found_of a (Fails half_span_of tells_here w) r
+  says w s a r gives step = item-says half_found_of (λ b. IsStep half_span_of tells_here w b) a r gives step
+
+  -- What answers the searches stays `Good`, and gives the half matches of searches like x. A shell's calls are those of
+  -- the iterator in it.
+  module _ {S T : Type 0} (asks : S → Search → Answer HalfFound → S → Type 0) (Good : S → Type 0)
+      (acts : (s : S) (t : Search) (a : Answer HalfFound) (s' : S) → SameButStart x t → Good s → asks s t a s'
+      → tells_here t a × Good s')
+      (steps : T → Option HalfMatch → T → Type 0) (inner : T → Steps S)
+      (is : (s : T) (r : Option HalfMatch) (t : T) → steps s r t
+      → takes_infallible_steps half_span_of asks (λ q. GivesItem half_found_of) (inner s) r (inner t))
+      (s : T) (iter_state : steps_iter_state (inner s) ≡ fresh x) (going : (inner s).done ≡ false)
+      (good : Good (inner s).backend) where
+    abbrev core : Steps S → Option HalfMatch → Steps S → Type 0
+    core = takes_infallible_steps half_span_of asks (λ q. GivesItem half_found_of)
+
+    -- its items are those of x
+    found : Given steps (AreFirst nfa kind x) (AreAll nfa kind x) s
+    found = given steps (AreFirst nfa kind x) (AreAll nfa kind x) s
+        (λ xs t ran. record {
+          come = gives-first_matches half_span_of asks (λ q. GivesItem half_found_of) half_found_of tells_here
+              (Fails half_span_of tells_here) x Good
+              acts says (inner s) iter_state going good xs (inner t) (yields-inner steps core inner is xs s t ran);
+        })
+        (λ xs t u ran st. record {
+          come = gives-all_matches half_span_of asks (λ q. GivesItem half_found_of) half_found_of tells_here
+              (Fails half_span_of tells_here) x Good
+              acts says (inner s) iter_state going good xs (inner t) (inner u)
+              (yields-inner steps core inner is xs s t ran)
+              (is t None u st);
+        })
+
+    -- all that its calls give
+    pub halves-given : HalvesGiven nfa kind x steps s
+    halves-given = record {
+      runs = found.run;
+      first = found.first;
+      next = found.next;
+      rise = λ p seen from.
+          let k = halves-rise nfa kind x.earliest x (map half_found_of p.items) (found.run p seen from).0 in
+          (k, all-inside x None p.items k);
+      are = λ p seen from all them.
+          let k = found.run p seen from in
+          let rest = halves-rest nfa kind x.earliest x (map half_found_of p.items) all k.0 them in
+          lists p half_found_of all rest.0 (λ whole.
+          let same : map half_found_of p.items ≡ all = halves-unique nfa kind x.earliest x (map half_found_of p.items) all
+          (k.1 whole) them in
+          no-more (map half_found_of p.items) rest.0 (same ∙ rest.1)) rest.1;
+    }

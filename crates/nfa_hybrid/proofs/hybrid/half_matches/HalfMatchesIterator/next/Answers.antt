@@ -1,0 +1,13 @@
+-- A step may be made, and never errs.
+use Rattle.regex_search_core.specs.Found.{half_found_of}
+use Rattle.nfa_search_base.specs.StepsWith.{steps_with_state}
+use Rattle.nfa_search_base.specs.IterStates.{half_span_of}
+use Rattle.nfa_search_base.proofs.StoredLemmas.{surely-inside}
+use Rattle.nfa_hybrid.specs.Halves.{AsksInTurn, half_steps, may_ask}
+use Rattle.nfa_hybrid.proofs.HalvesLemmas.{hybrid-serves}
+use Rattle.nfa_hybrid.proofs.hybrid.half_matches.HalfMatchesIterator.next.Goals as goal
+
+pub next_with-requires : goal.next_with-requires
+next_with-requires c = surely-inside may_ask AsksInTurn half_span_of half_found_of
+    (steps_with_state (half_steps c.args.self.now))
+    (hybrid-serves (steps_with_state (half_steps c.args.self.now)))

@@ -1,0 +1,56 @@
+-- An engine over a lazy DFA and a PikeVM as a value, and which of the two ran.
+use Rattle.std.specs.Prelude.{◌≡◌, ◌⊎◌, ◌+◌, ◌*◌, ◌≤◌, Bool, false, Option, Some}
+use Rattle.regex_search_core.specs.Search.{Search}
+use Rattle.regex_search_core.specs.declared.search.MatchKind.{MatchKind}
+use Rattle.thompson_nfa.specs.Automaton.{Automaton}
+use Rattle.nfa_paths.specs.Paths.{IsWork, max_scans, span_len, total_degree}
+use Rattle.nfa_search_base.specs.Finds.{finds}
+use Rattle.nfa_pikevm.specs.Engines.{AddsPikeWork, Fits, PikeCache, SameCapacities, reset_for}
+use Rattle.nfa_lazy_dfa.specs.Configs.{kind_in as kind_set}
+use Rattle.nfa_lazy_dfa.specs.Options.{Options}
+use Rattle.nfa_hybrid.specs.declared.hybrid.Engine.{Engine}
+use Rattle.nfa_hybrid.specs.declared.hybrid.Engine.TheVariants as engine
+
+-- an NFA, the configuration of both engines, what the PikeVM's cache shows, and which engine gave the last answer
+pub record HybridState : Type 0 where
+  pub nfa : Automaton
+  pub config : Options
+  pub pike : PikeCache
+  pub ran : Option Engine
+
+-- the match kind that both engines search with
+abbrev pub kind_in : HybridState → MatchKind
+kind_in h = kind_set h.config
+
+-- whether a search without `earliest` finds a match
+abbrev pub finds_in : HybridState → Search → Bool
+finds_in h x = finds h.nfa (kind_in h) false x
+
+-- the lazy DFA answered, and the PikeVM did not search
+pub record DfaRan (old new : HybridState) : Type 0 where
+  pub ran : new.ran ≡ Some engine.LazyDFA
+  pub pike : new.pike ≡ old.pike
+
+-- `earliest` is the flag of the PikeVM's search.
+module _ (x : Search) (earliest : Bool) where
+  -- the lazy DFA stopped, and the PikeVM answered by a search of the whole span
+  pub record PikeRanAfterDfa (old new : HybridState) : Type 0 where
+    pub ran : new.ran ≡ Some engine.PikeVM
+    pub work : AddsPikeWork old.pike new.pike
+    pub exact : IsWork old.nfa (kind_in old) earliest x new.pike.scans new.pike.turns
+    pub scans : new.pike.scans ≤ max_scans old.nfa x
+    pub turns : new.pike.turns ≤ new.pike.scans * ((1 + total_degree old.nfa) * (span_len x + 1))
+
+  -- one of the two answered
+  abbrev pub RunsInTurn : HybridState → HybridState → Type 0
+  RunsInTurn old new = DfaRan old new ⊎ PikeRanAfterDfa old new
+
+-- all that a search leaves unchanged
+pub record KeepsHybrid (old new : HybridState) : Type 0 where
+  pub nfa : new.nfa ≡ old.nfa
+  pub config : new.config ≡ old.config
+  pub capacities : SameCapacities old.pike new.pike
+
+-- the cache of the PikeVM for another NFA: it is reset only if it does not fit
+abbrev pub IsFitFor : PikeCache → Automaton → PikeCache → Type 0
+IsFitFor old nfa new = (Fits old nfa × (new ≡ old)) ⊎ (¬ (Fits old nfa) × (new ≡ reset_for old nfa))
