@@ -8,7 +8,7 @@ use std::alloc::Global;
 use std::fmt::Write;
 
 /// A pattern, a haystack, and the spans of the groups of the first match; nothing if there is no match.
-const ROWS: [(&str, &str, &str); 48] = [
+const ROWS: [(&str, &str, &str); 57] = [
     (
         "(?<y>[0-9]{4})-(?<m>[0-9]{2})-(?<d>[0-9]{2})",
         "on 1865-04-14",
@@ -65,6 +65,18 @@ const ROWS: [(&str, &str, &str); 48] = [
     (r"(?-u:\b{end})", "aé", "1..1 "),
     (r"(?-u:\b{start-half})a", "ba éa", "5..6 "),
     (r"a(?-u:\b{end-half})", "ab aé", "3..4 "),
+    (r"\<a\>", "ab a", "3..4 "),
+    // Each round of a loop has to read a byte. Rust's regex, RE2, Perl and Python find 0..1, 0..2, 0..2 and 0..1.
+    ("(?:a?b??)+", "ab", "0..2 "),
+    ("(?:a*(?:|b))*", "aab", "0..3 "),
+    (r"(?:\w* ??)+", "ab cd", "0..5 "),
+    ("(a?(b)??)*c?", "abc", "0..3 1..2 1..2 "),
+    // A group under `{0}` is not in the pattern, but a later group keeps its number.
+    ("(?<x>a){0}(b)", "ab", "1..2 - 1..2 "),
+    ("(b)(?<x>a){0}", "ab", "1..2 1..2 "),
+    ("(?:(a){0}b)+", "bb", "0..2 "),
+    // An earlier alternative is preferred: Rust's regex joins the two prefixes, and finds 0..3.
+    (r"\w+a|\w+b", "xab", "0..2 "),
 ];
 
 /// The same, if patterns may match bytes that are not UTF-8.

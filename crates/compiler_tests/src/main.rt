@@ -21,7 +21,7 @@ use std::process::ExitCode;
 use std::{env, io};
 
 /// Patterns, which are searched for in each of the haystacks.
-const PATTERNS: [&str; 40] = [
+const PATTERNS: [&str; 44] = [
     "abc",
     "[0-9]{4}-[0-9]{2}-[0-9]{2}",
     r"(?<key>\w+)=(?<value>[^ ]*)",
@@ -62,6 +62,11 @@ const PATTERNS: [&str; 40] = [
     r"\p{Greek}+",
     "a??(b)",
     "(a|b|ab)*c",
+    // Loops whose part may match the empty string: `find` of `regex_hir` says that a round has to read a byte.
+    "(?:a?b??)+",
+    "(?:a*(?:|b))*",
+    r"(?:\w* ??)+",
+    "(a?(b)??)*c?",
 ];
 
 const HAYSTACKS: [&str; 14] = [

@@ -6,6 +6,7 @@ ghost use Rattle.nfa_engines.specs.Engines.{Fits};
 mod backtracker;
 mod choice;
 mod compiler;
+mod hybrid;
 mod pikevm;
 mod searcher;
 
@@ -14,6 +15,7 @@ use nfa_compiler::Compiler;
 use nfa_engines::NFA;
 use nfa_engines::backtrack::{self, BoundedBacktracker};
 use nfa_engines::pikevm::{Cache, Config, PikeVM};
+use nfa_hybrid::{Hybrid, dfa};
 use std::alloc::Global;
 use std::process::Abort;
 
@@ -47,6 +49,15 @@ fn choice_of(rt: &impl Abort, alloc: Global, patterns: &[&str]) -> Choice {
 fn choice_by(rt: &impl Abort, alloc: Global, patterns: &[&str], config: Config) -> Choice {
     let nfa = nfa(rt, alloc, patterns);
     Choice::new(alloc, nfa, backtrack::Config::new(), config).expect(rt, "a choice")
+}
+
+fn hybrid_of(rt: &impl Abort, alloc: Global, patterns: &[&str]) -> Hybrid {
+    hybrid_by(rt, alloc, patterns, dfa::Config::new())
+}
+
+fn hybrid_by(rt: &impl Abort, alloc: Global, patterns: &[&str], config: dfa::Config) -> Hybrid {
+    let nfa = nfa(rt, alloc, patterns);
+    Hybrid::new(alloc, nfa, config).expect(rt, "a hybrid")
 }
 
 // The cache fits the PikeVM.

@@ -32,3 +32,5 @@ pub mod StrCallLemmas
 pub mod WrittenLemmas
 pub mod StrWrittenLemmas
 pub mod Literals
+pub mod LoopLemmas
+pub mod ExcerptLemmas

@@ -1,9 +1,12 @@
 pub mod Settings
 pub mod Rejected
+pub mod Excerpts
+pub mod ErrorTexts
 pub mod Patterns
 pub mod Blocks
 pub mod Added
 pub mod Compiled
+pub mod Loops
 pub mod Written
 pub mod Laws
 pub mod WayLaws

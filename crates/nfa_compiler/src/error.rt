@@ -1,7 +1,8 @@
 //! The errors of a compiler.
-use crate::syntax_error::SyntaxError;
+use crate::syntax_error::{Place, SyntaxError};
 use regex_search_core::Refused;
 use std::alloc::{AllocError, AllocFailed};
+use std::fmt;
 use thiserror::Error;
 
 /// The reason why a compiler made no NFA. Patterns are numbered from 0 on.
@@ -30,6 +31,27 @@ pub enum CompileError {
     #[error("the groups need more than 2147483646 slots")]
     TooManyGroups,
 }
+
+/// The error of a compiler for the only pattern of its caller. Its text does not have the number of the pattern.
+#[derive(Debug, Drop)]
+pub struct OnlyPattern(pub CompileError);
+
+impl fmt::Display for OnlyPattern {
+    fn fmt<W: fmt::Write>(&self, f: &mut fmt::Formatter<W>) -> fmt::Result {
+        match &self.0 {
+            CompileError::Syntax(error) => write!(f, "{}", Place(error)),
+            CompileError::TooBig { limit, .. } => {
+                write!(f, "the pattern exceeds the size limit of {limit} bytes")
+            }
+            CompileError::Tree { .. } => {
+                f.write_str("the tree of the pattern is not one that a parser returns")
+            }
+            error => write!(f, "{error}"),
+        }
+    }
+}
+
+impl std::error::Error for OnlyPattern {}
 
 impl From<Refused> for CompileError {
     ghost use Rattle.std.specs.Prelude.{◌≡◌};

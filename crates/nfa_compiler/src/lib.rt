@@ -15,14 +15,17 @@ pub mod calls;
 mod compiler;
 mod config;
 mod error;
+mod excerpt;
 mod groups;
 pub mod laws;
+mod loops;
 mod reading;
 mod states;
 mod syntax_error;
 
 pub use compiler::Compiler;
 pub use config::Config;
-pub use error::CompileError;
+pub use error::{CompileError, OnlyPattern};
+pub use loops::has_empty_loop;
 pub use regex_syntax::{Config as Syntax, ErrorKind, Flags, Parsed, Span};
 pub use syntax_error::SyntaxError;

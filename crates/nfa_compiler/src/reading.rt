@@ -60,6 +60,7 @@ fn refused(
             text,
             syntax: *syntax,
             kind: error.kind,
+            reason: error.kind.message(),
             span: error.span,
         }),
         Err(_) => CompileError::Memory,

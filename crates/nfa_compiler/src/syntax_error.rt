@@ -3,6 +3,7 @@ ghost use Rattle.std.specs.Prelude.{◌≤◌, ◌≢◌, IsCharBoundary, string
 ghost use Rattle.regex_syntax.specs.Verdict.{Refuses};
 ghost use Rattle.regex_syntax.specs.declared.error.ErrorKind.TheVariants.{OutOfMemory};
 
+use crate::excerpt::Excerpt;
 use regex_syntax::{Config, ErrorKind, Span};
 use std::fmt;
 
@@ -22,6 +23,8 @@ pub struct SyntaxError {
     pub(crate) text: String,
     pub(crate) syntax: Config,
     pub(crate) kind: ErrorKind,
+    /// The kind in words.
+    pub(crate) reason: &'static str,
     pub(crate) span: Span,
     pub ghost refused: { ∥ Refuses syntax (string_bytes text) kind ∥₁ },
     pub ghost not_for_memory: { kind ≢ OutOfMemory },
@@ -61,6 +64,13 @@ impl SyntaxError {
         self.kind
     }
 
+    /// Returns the reason in words, as `regex_syntax` says it.
+    pub fn reason(&self) -> &'static str
+        ensures { result.now ≡ self.now.reason.now }
+    {
+        self.reason
+    }
+
     /// Returns the span of the error in the text, in bytes.
     pub fn span(&self) -> Span
         ensures { result ≡ self.now.span }
@@ -70,42 +80,35 @@ impl SyntaxError {
 }
 
 impl fmt::Display for SyntaxError {
+    ghost use Rattle.std.specs.Prelude.{Some};
+    ghost use Rattle.nfa_compiler.specs.ErrorTexts.{syntax_error_text};
+
+    ghost output = { λ e. Some (syntax_error_text e) };
+
     fn fmt<W: fmt::Write>(&self, f: &mut fmt::Formatter<W>) -> fmt::Result {
-        let (pattern, reason) = (self.pattern, self.kind.message());
-        let Span { start, end } = self.span;
-        write!(f, "pattern {pattern}, at {start}..{end}: {reason}\n    ")?;
-        let (before, rest) = self.text.split_at(start);
-        let before = match before.rsplit_once('\n') {
-            Some((_, last)) => last,
-            None => before,
-        };
-        let rest = match rest.split_once('\n') {
-            Some((first, _)) => first,
-            None => rest,
-        };
-        write!(f, "{before}{rest}\n    ")?;
-        write_blank(f, before)?;
-        write_marks(f, rest, end - start)
+        let pattern = self.pattern;
+        let place = Place(self);
+        write!(f, "pattern {pattern}, {place}")
     }
 }
 
 impl std::error::Error for SyntaxError {}
 
-/// Writes a space for each character of the text, and a tab for a tab.
-fn write_blank<W: fmt::Write>(f: &mut fmt::Formatter<W>, text: &str) -> fmt::Result {
-    for c in text.chars() {
-        f.write_char(if c == '\t' { '\t' } else { ' ' })?;
-    }
-    Ok(())
-}
+/// The text of an error without the number of its pattern.
+#[derive(Clone, Copy)]
+pub(crate) struct Place<'e>(pub(crate) &'e SyntaxError);
 
-/// Writes a mark for each character that starts in the first `len` bytes, and one if there are none.
-fn write_marks<W: fmt::Write>(f: &mut fmt::Formatter<W>, text: &str, len: usize) -> fmt::Result {
-    f.write_char('^')?;
-    for (at, _) in text.char_indices() {
-        if 0 < at && at < len {
-            f.write_char('^')?;
-        }
+impl fmt::Display for Place<'_> {
+    ghost use Rattle.std.specs.Prelude.{Some};
+    ghost use Rattle.nfa_compiler.specs.ErrorTexts.{place_text};
+
+    ghost output = { λ place. Some (place_text place.0.now) };
+
+    fn fmt<W: fmt::Write>(&self, f: &mut fmt::Formatter<W>) -> fmt::Result {
+        let error = self.0;
+        let Span { start, end } = error.span;
+        let reason = error.reason;
+        let excerpt = Excerpt::new(&error.text, start, end);
+        write!(f, "at {start}..{end}: {reason}\n{excerpt}")
     }
-    Ok(())
 }

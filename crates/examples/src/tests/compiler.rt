@@ -65,6 +65,14 @@ fn build_many_from_hir(rt: &impl Abort, alloc: Global) -> Result<(), Fail> {
     Ok(())
 }
 
+fn has_empty_loop(rt: &impl Abort, alloc: Global) -> Result<(), Fail> {
+    let tree = parse(alloc, "(?:a?b??)+", &Syntax::default())?;
+    assert!(rt; nfa_compiler::has_empty_loop(&tree));
+    let tree = parse(alloc, "(?:ab?)+", &Syntax::default())?;
+    assert!(rt; !nfa_compiler::has_empty_loop(&tree));
+    Ok(())
+}
+
 #[test]
 fn compiled(rt: HostRuntime) -> Result<(), Fail> {
     let alloc = rt.alloc();
@@ -75,5 +83,6 @@ fn compiled(rt: HostRuntime) -> Result<(), Fail> {
     build(&rt, alloc)?;
     build_many(&rt, alloc)?;
     build_from_hir(&rt, alloc)?;
-    build_many_from_hir(&rt, alloc)
+    build_many_from_hir(&rt, alloc)?;
+    has_empty_loop(&rt, alloc)
 }

@@ -1,0 +1,11 @@
+-- the blanks so far
+use Rattle.std.proofs.Common.{take}
+use Rattle.std.specs.Fmt.{HasWritten, IsPlainFormatter}
+use Rattle.std.specs.List.{flat_map}
+use Rattle.nfa_compiler.specs.Excerpts.{blank_byte}
+use Rattle.nfa_compiler.proofs.excerpt.BlankDisplay.fmt.Given as goal
+
+abbrev pub invariant-loop-byte : goal.invariant-loop-byte
+invariant-loop-byte g l =
+    IsPlainFormatter l.initial.f
+    → HasWritten g.W.Write.write_str_gives l.initial.f (flat_map blank_byte (take l.byte-index l.byte-items)) l.f

@@ -1,0 +1,82 @@
+-- Loops whose part may match the empty string. In such a loop each round after the first has to read a byte.
+use Rattle.std.specs.Prelude.{◌≡◌, ℕ, zero, suc, Bool, true, false, not, ◌&&◌, ◌||◌, ◌⊎◌, length, nat_lt, Option, Some, None}
+use Rattle.regex_hir.specs.Re.{Re, empty, literal, byte_in, char_in, look, cat, alt, group, plus}
+use Rattle.regex_hir.specs.Reads.{always_reads}
+use Rattle.nfa_compiler.specs.declared.loops.Form.{Form}
+
+-- no part of the pattern reads a byte
+abbrev pub never_reads : Re → Bool
+never_reads empty = true
+never_reads (literal bs) = not (nat_lt 0 (length bs))
+never_reads (byte_in rs) = false
+never_reads (char_in rs) = false
+never_reads (look l) = true
+never_reads (cat a b) = never_reads a && never_reads b
+never_reads (alt a b) = never_reads a && never_reads b
+never_reads (group n a) = never_reads a
+never_reads (plus greedy a) = never_reads a
+
+-- Some way through the pattern has no part that reads a byte, and some part of the pattern does read one.
+pub record MayReadNothing (re : Re) : Type 0 where
+  pub may_be_empty : always_reads re ≡ false
+  pub may_read : never_reads re ≡ false
+
+-- The pattern has a repetition without an upper bound whose part may match the empty string, and more than that.
+abbrev pub HasEmptyLoop : Re → Type 0
+HasEmptyLoop (cat a b) = HasEmptyLoop a ⊎ HasEmptyLoop b
+HasEmptyLoop (alt a b) = HasEmptyLoop a ⊎ HasEmptyLoop b
+HasEmptyLoop (group n a) = HasEmptyLoop a
+HasEmptyLoop (plus greedy a) = MayReadNothing a ⊎ HasEmptyLoop a
+HasEmptyLoop _ = ⊥
+
+-- the same as a test
+abbrev pub has_empty_loop : Re → Bool
+has_empty_loop empty = false
+has_empty_loop (literal bs) = false
+has_empty_loop (byte_in rs) = false
+has_empty_loop (char_in rs) = false
+has_empty_loop (look l) = false
+has_empty_loop (cat a b) = has_empty_loop a || has_empty_loop b
+has_empty_loop (alt a b) = has_empty_loop a || has_empty_loop b
+has_empty_loop (group n a) = has_empty_loop a
+has_empty_loop (plus greedy a) = (not (always_reads a) && not (never_reads a)) || has_empty_loop a
+
+-- what the form of a pattern says of it
+abbrev pub form_of : Re → Form
+form_of re = record {
+  always_reads = always_reads re;
+  never_reads = never_reads re;
+  has_empty_loop = has_empty_loop re;
+}
+
+-- the form of a pattern of the first form, and then one of the second
+abbrev pub form_then : Form → Form → Form
+form_then a b = record {
+  always_reads = a.always_reads || b.always_reads;
+  never_reads = a.never_reads && b.never_reads;
+  has_empty_loop = a.has_empty_loop || b.has_empty_loop;
+}
+
+-- the form of an alternation of patterns of these forms
+abbrev pub form_either : Form → Form → Form
+form_either a b = record {
+  always_reads = a.always_reads && b.always_reads;
+  never_reads = a.never_reads && b.never_reads;
+  has_empty_loop = a.has_empty_loop || b.has_empty_loop;
+}
+
+-- the form of `{min,max}` after a part of this form
+abbrev pub form_repeated : Form → ℕ → Option ℕ → Form
+form_repeated a zero None = record {
+  always_reads = false;
+  never_reads = a.never_reads;
+  has_empty_loop = (not a.always_reads && not a.never_reads) || a.has_empty_loop;
+}
+form_repeated a (suc n) None = record {
+  always_reads = a.always_reads;
+  never_reads = a.never_reads;
+  has_empty_loop = (not a.always_reads && not a.never_reads) || a.has_empty_loop;
+}
+form_repeated a zero (Some zero) = record { always_reads = false; never_reads = true; has_empty_loop = false }
+form_repeated a zero (Some (suc m)) = record a { always_reads = false }
+form_repeated a (suc n) (Some m) = a
