@@ -1,6 +1,7 @@
 // Loaded before a program's libraries (`.ci/users`), makes its reads and writes fail or fall short. WRITES is the number of
 // writes to standard output that succeed, and READS that of reads of standard input; each later one fails, and puts a byte on
-// file 9. SHORT is the greatest number of bytes that one call moves.
+// file 9. SHORT is the greatest number of bytes that one call moves. With FILES, reads of files that the program opens count as
+// reads of standard input.
 typedef unsigned long size_t;
 
 extern char *getenv(const char *);
@@ -19,8 +20,12 @@ static long number_in(const char *name) {
     return number ? atol(number) : -1;
 }
 
+static int counts(long call, int file) {
+    return file == call || (call == READ && file > 2 && file != 9 && number_in("FILES") > 0);
+}
+
 static long moved(long call, int file, const void *bytes, size_t len) {
-    if (file == call) {
+    if (counts(call, file)) {
         if (left[call] == -2) {
             left[call] = number_in(call == READ ? "READS" : "WRITES");
         }

@@ -21,6 +21,7 @@ const USAGE: &str = "usage: lexer [RULES] < TEXT";
 const HELP: &str = "
 Prints each token of the text in a line: the name of its rule, its span in bytes, and its text.
 RULES is a file with a rule in each line: NAME = PATTERN. Empty lines, and lines that start with #, are left out.
+Write -- before the name of a file that begins with a hyphen.
 The first rule that matches is taken. Texts of the rule `space` are not printed.
 
 Status: 0 if the tokens are the whole text, 1 if no token starts at some place or the text cannot be read or a token
@@ -41,18 +42,21 @@ fn main(rt: HostRuntime) -> Result<ExitCode> {
         .collect(rt.alloc())?;
     match words.as_slice() {
         [] => run(&rt, rules::DEFAULT),
-        ["--help"] => {
+        ["--help", ..] => {
             println!(rt; "{USAGE}\n{HELP}")?;
             Ok(ExitCode::SUCCESS)
         }
-        [name] if !name.starts_with('-') => match fs::read_to_string(&rt, *name) {
-            Ok(text) => run(&rt, &text),
-            Err(error) => Ok(misused(
-                &rt,
-                format_args!("cannot read the rules in {name}: {error}"),
-            )),
-        },
+        ["--", name] => run_file(&rt, name),
+        [name] if !name.starts_with('-') => run_file(&rt, name),
         _ => Ok(misused(&rt, USAGE)),
+    }
+}
+
+// Takes the rules from the file of this name.
+fn run_file(rt: &HostRuntime, name: &str) -> Result<ExitCode> {
+    match fs::read_to_string(rt, name) {
+        Ok(text) => run(rt, &text),
+        Err(error) => Ok(misused(rt, format_args!("cannot read the rules in {name}: {error}"))),
     }
 }
 

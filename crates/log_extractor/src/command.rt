@@ -3,7 +3,8 @@ use crate::output::Output;
 use crate::pattern::LINE;
 use anyhow::Result;
 use clap::{Arg, ArgAction, ArgMatches, Error};
-use std::alloc::Global;
+use option_values::{Valued, split_values};
+use std::alloc::{AllocError, Global};
 
 /// How the program is called.
 const USAGE: &str = "log_extractor [OPTIONS] < LOG";
@@ -34,7 +35,17 @@ pub enum Command<'w> {
     Say(Error),
 }
 
-/// Reads the arguments, the first of which is the name of the program. The only error is that allocation failed.
+/// Splits the arguments, so that a pattern that is attached to `-p` is an argument of its own, with each of its bytes.
+pub fn split<'w>(alloc: Global, words: &[&'w str]) -> Result<Vec<&'w str>, AllocError> {
+    let pattern = Valued {
+        letter: 'p',
+        short: "-p",
+        long: "--pattern",
+    };
+    split_values(alloc, pattern, words)
+}
+
+/// Reads the split arguments, the first of which is the name of the program. The only error is that allocation failed.
 pub fn parse<'w>(alloc: Global, words: &'w [&'w str]) -> Result<Command<'w>> {
     let command = clap::Command::new(alloc, "log_extractor")
         .about("Prints the fields of log lines from standard input.")
@@ -45,30 +56,35 @@ pub fn parse<'w>(alloc: Global, words: &'w [&'w str]) -> Result<Command<'w>> {
                 .short('p')
                 .long("pattern")
                 .action(ArgAction::Set)
+                // A pattern may begin with a hyphen.
+                .allow_hyphen_values(true)
                 .value_name("PATTERN")
                 .help("Find fields by this pattern"),
         )?
         .arg(
-            flag(alloc, "rows")
+            flag(alloc, "rows")?
                 .conflicts_with("json")?
                 .conflicts_with("rejects")?
                 .help("Print no line with the names of the columns"),
         )?
         .arg(
-            flag(alloc, "json")
+            flag(alloc, "json")?
                 .conflicts_with("rejects")?
                 .help("Print a JSON object for each row"),
         )?
-        .arg(flag(alloc, "rejects").help("Print the lines that have no row, and no rows"))?;
+        .arg(flag(alloc, "rejects")?.help("Print the lines that have no row, and no rows"))?;
     match command.try_get_matches_from(words) {
         Ok(matches) => Ok(Command::Extract(read_matches(&matches))),
         Err(error) => Ok(Command::Say(error)),
     }
 }
 
-/// An option without a value, of this name.
-fn flag<'w>(alloc: Global, name: &'w str) -> Arg<'w> {
-    Arg::new(alloc, name).long(name).action(ArgAction::SetTrue)
+/// An option without a value, of this name. It may be given several times.
+fn flag<'w>(alloc: Global, name: &'w str) -> Result<Arg<'w>, AllocError> {
+    Arg::new(alloc, name)
+        .long(name)
+        .action(ArgAction::SetTrue)
+        .overrides_with(name)
 }
 
 fn read_matches<'w>(matches: &ArgMatches<'w>) -> Arguments<'w> {

@@ -9,7 +9,7 @@ mod pattern;
 mod report;
 mod row;
 
-use crate::command::{Arguments, Command, parse};
+use crate::command::{Arguments, Command, parse, split};
 use crate::parser::Parser;
 use crate::pattern::PatternError;
 use anyhow::Result;
@@ -38,6 +38,7 @@ fn answer(rt: &HostRuntime) -> Result<ExitCode> {
     let alloc = rt.alloc();
     let words: Vec<String> = env::args(rt)?.collect(alloc)?;
     let words: Vec<&str> = words.iter().map(|word| word.as_str()).collect(alloc)?;
+    let words = split(alloc, &words)?;
     match parse(alloc, &words)? {
         Command::Extract(arguments) => extract(rt, arguments),
         Command::Say(error) => {

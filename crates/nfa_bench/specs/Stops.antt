@@ -10,9 +10,8 @@ use Rattle.nfa_bench.specs.declared.run.Stop.TheVariants.{Usage, UnknownName, To
 -- its line, if the text is the program's own, and its status
 abbrev pub ending : Stop → Option (List ℕ) × ℕ
 ending Usage = (Some (codes "usage: nfa-bench back|pike NAME HAYSTACK"), 2)
-ending UnknownName = (Some (codes "no sample NFA has this name: docs/NFAS.md lists the names"), 2)
-ending (TooLong len) =
-    (Some (codes "the haystack of " ++ decimal len ++ codes " bytes is too long for the backtracker"), 1)
+ending UnknownName = (Some (codes "unknown name"), 2)
+ending (TooLong len) = (Some (codes "haystack too long: " ++ decimal len), 1)
 ending Memory = (Some (codes "out of memory"), 1)
 ending (Write error) = (None, 1)
 

@@ -25,5 +25,8 @@ fn answer(rt: &HostRuntime) -> io::Result<u8> {
     let arguments: Vec<String> = env::args(rt)?.skip(1).collect(alloc)?;
     let words: Vec<&str> = arguments.iter().map(|word| word.as_str()).collect(alloc)?;
     let mut out = BufWriter::new(alloc, io::writer(rt))?;
-    Ok(run::run(alloc, &words, &mut out))
+    let status = run::run(alloc, &words, &mut out);
+    // A buffer that is dropped is written once more, so what a failed write has left in it is taken out.
+    let (_, _) = out.into_parts();
+    Ok(status)
 }

@@ -167,13 +167,8 @@ impl fmt::Display for Stop {
     fn fmt<W: fmt::Write>(&self, f: &mut fmt::Formatter<W>) -> fmt::Result {
         match self {
             Stop::Usage => f.write_str("usage: nfa-bench back|pike NAME HAYSTACK"),
-            Stop::UnknownName => {
-                f.write_str("no sample NFA has this name: docs/NFAS.md lists the names")
-            }
-            Stop::TooLong { len } => write!(
-                f,
-                "the haystack of {len} bytes is too long for the backtracker"
-            ),
+            Stop::UnknownName => f.write_str("unknown name"),
+            Stop::TooLong { len } => write!(f, "haystack too long: {len}"),
             Stop::Memory => f.write_str("out of memory"),
             Stop::Write(error) => write!(f, "{error}"),
         }

@@ -7,7 +7,7 @@ use std::process::Abort;
 
 const USAGE: &str = "usage: nfa-bench back|pike NAME HAYSTACK\n";
 
-const NO_NAME: &str = "no sample NFA has this name: docs/NFAS.md lists the names\n";
+const NO_NAME: &str = "unknown name\n";
 
 fn expect_status(rt: &impl Abort, words: &[&str], ended: u8, status: u8) {
     assert_eq!(rt; ended, status, "{words:?}");
@@ -71,7 +71,7 @@ fn says_why_it_does_not_search(rt: HostRuntime) {
     }
 }
 
-const TOO_LONG: &str = "the haystack of 19972 bytes is too long for the backtracker\n";
+const TOO_LONG: &str = "haystack too long: 19972\n";
 
 // An engine, an NFA, how many full stops it searches, what is printed, and the status. The length of 19972 is the first
 // that is too long for the backtracker, and the PikeVM takes any.
@@ -146,10 +146,10 @@ impl Write for Refusing {
 
     fn flush(&mut self) -> io::Result<()> {
         if self.flushes {
-            Ok(())
-        } else {
-            Err(io::Error::from(io::ErrorKind::BrokenPipe))
+            return Ok(());
         }
+        self.refused = self.refused.saturating_add(1);
+        Err(io::Error::from(io::ErrorKind::BrokenPipe))
     }
 }
 
@@ -187,10 +187,12 @@ fn takes_all(
     all
 }
 
-// The writer that takes the most writes takes all.
+// The writer that takes no write refuses one, and the writer that takes the most writes takes all.
 fn expect_writes(rt: &impl Abort, alloc: Global, words: &[&str], printed: (&str, u8)) {
+    let mut none = Refusing::new(alloc, 0, true);
+    assert!(rt; !takes_all(rt, alloc, &mut none, words, printed));
     let mut all = false;
-    for left in 0..20 {
+    for left in 1..20 {
         let mut out = Refusing::new(alloc, left, true);
         all = takes_all(rt, alloc, &mut out, words, printed);
     }
@@ -212,5 +214,6 @@ fn a_refused_flush_is_a_failed_write(rt: HostRuntime) {
         let ended = run(alloc, words, &mut out);
         expect_lines(&rt, words, &out.written, whole);
         expect_status(&rt, words, ended, 1);
+        assert_eq!(&rt; out.refused, 1);
     }
 }

@@ -2,6 +2,7 @@
 use crate::options::Options;
 use anyhow::Result;
 use clap::{Arg, ArgAction, ArgMatches, Error};
+use option_values::{Valued, split_values};
 use std::alloc::{AllocError, Global};
 
 /// How the program is called.
@@ -31,12 +32,24 @@ pub enum Command<'w> {
     Say(Error),
 }
 
-/// Reads the arguments, the first of which is the name of the program. The only error is that allocation failed.
+/// Splits the arguments, so that a pattern that is attached to `-e` is an argument of its own, with each of its bytes.
+pub fn split<'w>(alloc: Global, words: &[&'w str]) -> Result<Vec<&'w str>, AllocError> {
+    let regexp = Valued {
+        letter: 'e',
+        short: "-e",
+        long: "--regexp",
+    };
+    split_values(alloc, regexp, words)
+}
+
+/// Reads the split arguments, the first of which is the name of the program. The only error is that allocation failed.
 pub fn parse<'w>(alloc: Global, words: &'w [&'w str]) -> Result<Command<'w>> {
     let command = clap::Command::new(alloc, "nfa_grep")
         .about("Prints the lines in which a pattern matches.")
         .override_usage(USAGE)
         .after_help(AFTER)
+        // An option may be given several times.
+        .args_override_self(true)
         .arg(flag(alloc, "count", 'c').help("Print only the number of selected lines"))?
         .arg(flag(alloc, "only-matching", 'o').help(
             "Print each match that is not empty on a line of its own",
@@ -57,6 +70,8 @@ pub fn parse<'w>(alloc: Global, words: &'w [&'w str]) -> Result<Command<'w>> {
                 .short('e')
                 .long("regexp")
                 .action(ArgAction::Append)
+                // A pattern may begin with a hyphen.
+                .allow_hyphen_values(true)
                 .value_name("PATTERN")
                 .help("Search for this pattern; may be given several times"),
         )?

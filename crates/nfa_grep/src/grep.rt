@@ -11,9 +11,9 @@ ghost use Rattle.text_lines.specs.Lines.{content, with_feed};
 use crate::line::{Place, append_head};
 use crate::options::Options;
 use crate::which::Which;
-use anyhow::Result;
+use anyhow::{Error, Result};
 use nfa_choice::choose::Choice;
-use nfa_compiler::{Compiler, Config, laws};
+use nfa_compiler::{CompileError, Compiler, Config, OnlyPattern, laws};
 use nfa_engines::{backtrack, pikevm};
 use regex_search_core::{Input, Match};
 use std::alloc::{AllocError, Global};
@@ -58,9 +58,13 @@ impl<'p> Grep<'p> {
         ensures options { IfOk result (λ grep. grep.options ≡ options) }
     {
         let config = Config::new().utf8(false);
-        let nfa = Compiler::new()
+        let nfa = match Compiler::new()
             .configure(config)
-            .build_many(alloc, patterns)?;
+            .build_many(alloc, patterns)
+        {
+            Ok(nfa) => nfa,
+            Err(error) => return Err(described(patterns.len(), error)),
+        };
         let choice = Choice::new(alloc, nfa, backtrack::Config::new(), pikevm::Config::new())?;
         let which = if options.which {
             Some(Which::new(alloc, patterns)?)
@@ -250,4 +254,13 @@ fn append_piece(
     append_head(options, at, mark, out)?;
     out.extend_from_slice(&line[found.start()..found.end()])?;
     out.extend_from_slice(b"\n")
+}
+
+/// Returns the error, with the number of its pattern if there are several.
+fn described(pattern_len: usize, error: CompileError) -> Error {
+    if pattern_len == 1 {
+        OnlyPattern(error).into()
+    } else {
+        error.into()
+    }
 }

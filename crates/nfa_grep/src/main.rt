@@ -9,7 +9,7 @@ mod options;
 mod search;
 mod which;
 
-use crate::command::{Command, parse};
+use crate::command::{Command, parse, split};
 use crate::files::run;
 use anyhow::Result;
 use std::env;
@@ -36,6 +36,7 @@ fn answer(rt: &HostRuntime) -> Result<ExitCode> {
     let alloc = rt.alloc();
     let words: Vec<String> = env::args(rt)?.collect(alloc)?;
     let words: Vec<&str> = words.iter().map(|word| word.as_str()).collect(alloc)?;
+    let words = split(alloc, &words)?;
     match parse(alloc, &words)? {
         Command::Search(arguments) => {
             let outcome = run(rt, &arguments)?;

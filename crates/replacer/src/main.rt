@@ -26,7 +26,7 @@ fn main(rt: HostRuntime) -> Result<ExitCode> {
     let alloc = rt.alloc();
     let arguments: Vec<String> = env::args(&rt)?.skip(1).collect(alloc)?;
     let words: Vec<&str> = arguments.iter().map(|word| word.as_str()).collect(alloc)?;
-    if let ["--help"] = words.as_slice() {
+    if let ["--help", ..] = words.as_slice() {
         println!(rt; "{USAGE}\n{HELP}")?;
         return Ok(ExitCode::SUCCESS);
     }

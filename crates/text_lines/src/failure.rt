@@ -25,8 +25,13 @@ pub enum Failure {
 }
 
 impl Failure {
-    /// Returns why the line of this number, from 1, could not be read.
-    pub fn of_reading(error: io::Error, number: u64) -> Failure {
+    ghost use Rattle.std.specs.Prelude.{◌≡◌};
+    ghost use Rattle.text_lines.specs.Failures.{IsOfReading, is_of_input};
+
+    /// Returns why the line of this number, from 1, could not be read: the input, or the memory for the line.
+    pub fn of_reading(error: io::Error, number: u64) -> Failure
+        ensures { IsOfReading number result }
+    {
         if error.kind() == ErrorKind::OutOfMemory {
             Failure::Line(number)
         } else {
@@ -35,7 +40,9 @@ impl Failure {
     }
 
     /// Returns whether the fault is the input's, so that another input can be read.
-    pub fn is_of_input(&self) -> bool {
+    pub fn is_of_input(&self) -> bool
+        ensures { result ≡ is_of_input self.now }
+    {
         match self {
             Failure::Read(_) | Failure::Line(_) | Failure::TooLong => true,
             Failure::Write(_) | Failure::Memory => false,

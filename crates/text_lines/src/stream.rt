@@ -1,6 +1,7 @@
 //! Reading an input line by line, and writing.
-ghost use Rattle.std.specs.Prelude.{◌≡◌, IfOk, OnOk, false, true};
+ghost use Rattle.std.specs.Prelude.{◌≡◌, IfErr, IfOk, OnOk, false, true};
 ghost use Rattle.std.specs.Io.KnownBytes.{Appends};
+ghost use Rattle.text_lines.specs.Failures.{IsOfReading};
 ghost use Rattle.text_lines.specs.Lines.{HasNoLine, TakesLine};
 
 use crate::failure::Failure;
@@ -9,7 +10,7 @@ use std::io::{BufRead, Write};
 /// Reads the next line, which is that of this number, and puts it into `line` in place of what was there. The line has
 /// its end. Returns whether there is a line: there is none at the end of the input.
 ///
-/// Fails if the input cannot be read, or if there is no memory for the line.
+/// Fails with `Read` if the input cannot be read, or with `Line` and this number if there is no memory for the line.
 pub fn read_line<R: BufRead>(
     input: &mut R,
     number: u64,
@@ -18,6 +19,7 @@ pub fn read_line<R: BufRead>(
     ensures taken { IfOk result (λ read. read ≡ true
         → TakesLine (R.remaining input.old) (R.remaining input.new) line.new.items) }
     ensures ended { IfOk result (λ read. read ≡ false → HasNoLine (R.remaining input.old)) }
+    ensures failed { IfErr result (IsOfReading number) }
 {
     line.clear();
     match input.read_until(b'\n', line) {
