@@ -46,6 +46,12 @@ const REFUSALS: &[(Parts, BuildError, Flaw, &str)] = &[
         Flaw::State(Referrer::Pattern(0)),
         "the start of pattern 0 refers to a state that does not exist",
     ),
+    (
+        (&[One::Byte(1)], [0, 0, 0], 0),
+        BuildError::State,
+        Flaw::State(Referrer::State(0)),
+        "state 0 refers to a state that does not exist",
+    ),
     // The slot of the first state is out of range too, but the numbers of all states come first.
     (
         (&[One::Capture(4), One::Byte(2)], [0, 0, 0], 1),
@@ -73,6 +79,15 @@ const REFUSALS: &[(Parts, BuildError, Flaw, &str)] = &[
             pattern: 1,
         },
         "state 1 matches pattern 1, which has no start state",
+    ),
+    (
+        (&[One::Match(1)], [0, 0, 0], 0),
+        BuildError::Pattern,
+        Flaw::Pattern {
+            state: 0,
+            pattern: 1,
+        },
+        "state 0 matches pattern 1, which has no start state",
     ),
     (
         (&[One::Match(0)], [0, 0, 0], 2),

@@ -340,12 +340,17 @@ fn captures_come(rt: HostRuntime) {
 fn lists(rt: HostRuntime) -> Result<(), Fail> {
     let all = collected(rt.alloc(), b"abc")?;
     let again = looped(rt.alloc(), b"abc")?;
-    assert_eq!(rt; all.len(), 4);
-    assert_eq!(rt; again.len(), 4);
-    for (at, item) in all.iter().enumerate() {
-        assert_eq!(rt; item.map(|found| found.end()), Ok(at));
-    }
+    expect_four(&rt, &all);
+    expect_four(&rt, &again);
     Ok(())
+}
+
+// An empty match at each offset of three bytes, and after them.
+fn expect_four(rt: &impl Abort, items: &[Result<Match, SearchError>]) {
+    assert_eq!(rt; items.len(), 4);
+    for (at, item) in items.iter().enumerate() {
+        assert_eq!(rt; item.map(|found| found.range()), Ok(at..at));
+    }
 }
 
 // Both slots, of which there are two, are 0.

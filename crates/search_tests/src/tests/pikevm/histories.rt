@@ -62,7 +62,8 @@ fn expect_seven(rt: &impl Abort, found: Option<Match>) {
 fn expect_found(rt: &impl Abort, vm: &PikeVM, used: &mut Cache, fresh: &mut Cache) {
     expect_fits(rt, vm, used);
     expect_fits(rt, vm, fresh);
-    vm.is_match(used, Input::new(b"foo foo7"));
+    let warmed = vm.is_match(used, Input::new(b"foo foo7"));
+    assert!(rt; warmed);
     let (one, two) = found_twice(vm, used, fresh, TEXT);
     expect_seven(rt, one);
     expect_seven(rt, two);
