@@ -103,7 +103,7 @@ loop-copies zero a b x h = h
 loop-copies (suc n) a b x h =
     ap (λ y. has_empty_loop a || y) (loop-copies n a b x h) ∙ or-again x (has_empty_loop a)
 
--- up to so many copies
+-- up to this many copies
 always-up_to : (greedy : Bool) (n : ℕ) (a : Re) → always_reads (up_to greedy n a) ≡ false
 always-up_to greedy zero a = refl
 always-up_to true (suc n) a = and-false _

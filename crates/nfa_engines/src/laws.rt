@@ -390,8 +390,8 @@ pub fn iterations_are_bounded()
 /// A loop keeps what each of its searches keeps: the sizes of a PikeVM's cache, so the cache fits the same NFAs after
 /// the loop as before it. In a backtracker's cache a loop holds no more frames and slots than one search may.
 ///
-/// The premises are what each search ensures of its cache (`capacities`, `holds`). In a loop with an invariant the check
-/// finds these steps itself. Take the law if a proof relates the searches otherwise, for instance by an iterator.
+/// The premises are what each search ensures of its cache (`capacities`, `holds`). In a loop with an invariant the
+/// check finds these steps itself. Take the law if a proof relates the searches otherwise, for instance by an iterator.
 pub fn loops_keep_caches()
     ensures none { IsKeptByNone SameCapacities }
     ensures two { IsKeptByTwo SameCapacities }

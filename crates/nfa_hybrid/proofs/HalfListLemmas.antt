@@ -121,7 +121,8 @@ module _ (nfa : Automaton) (kind : MatchKind) (earliest : Bool) where
   halves-rise x ms h =
       subst (λ (l : List HalfFound). AreRising x None l) (matches_in-as_items ms)
       (rising-spans x None (matches_in (as_items ms))
-      (spans-disjoint half_span_of tells half-lies (Fails half_span_of tells) x (fresh x) (as_items ms) (omega arith) refl
+      (spans-disjoint half_span_of tells half-lies (Fails half_span_of tells) x (fresh x) (as_items ms) (omega arith)
+      refl
       (ends-none x.start) h.come))
 
 -- ---- the calls
@@ -186,7 +187,8 @@ module _ (nfa : Automaton) (kind : MatchKind) (x : Search) where
           let k = found.run p seen from in
           let rest = halves-rest nfa kind x.earliest x (map half_found_of p.items) all k.0 them in
           lists p half_found_of all rest.0 (λ whole.
-          let same : map half_found_of p.items ≡ all = halves-unique nfa kind x.earliest x (map half_found_of p.items) all
+          let same : map half_found_of p.items ≡ all =
+          halves-unique nfa kind x.earliest x (map half_found_of p.items) all
           (k.1 whole) them in
           no-more (map half_found_of p.items) rest.0 (same ∙ rest.1)) rest.1;
     }

@@ -113,7 +113,8 @@ module _ (x : Search) (s : HalfMatches) (iter_state : steps_with_iter_state (hal
   pub halves-searches : HalvesBySearches x s
   halves-searches = record {
     on = λ xs t r u ran st.
-        let k = calls-leave half_span_of AsksInTurn (λ q. GivesItem half_found_of) half_found_of says (λ q. q.cache) Looks
+        let k =
+        calls-leave half_span_of AsksInTurn (λ q. GivesItem half_found_of) half_found_of says (λ q. q.cache) Looks
         Good looks (map (λ m. Ok m) xs) (steps_with_state (half_steps s)) (steps_with_state (half_steps t))
         (steps_with_state (half_steps u))
         (option_map (λ m. Ok m) r) going (record { nfa = refl; kind = refl }) (in-steps xs t ran) st.takes.step in

@@ -1,5 +1,5 @@
-//! The engine that searches with a lazy DFA, and with a PikeVM if the DFA stops. No search fails. Only calls that make a
-//! hybrid or replace its NFA do, with [`SearchError::Memory`].
+//! The engine that searches with a lazy DFA, and with a PikeVM if the DFA stops. No search fails. Only calls that make
+//! a hybrid or replace its NFA do, with [`SearchError::Memory`].
 //!
 //! A lazy DFA searches a byte in a few instructions, but it stops without an answer in three cases: its cache was full
 //! too often, it came to a byte of 128 or more and the NFA has an assertion of a Unicode word, or an allocation failed.
@@ -102,8 +102,8 @@ fn pikevm(kind: MatchKind, nfa: NFA) -> PikeVM
 }
 
 impl Hybrid {
-    /// Makes both engines for the NFA, with the match kind of the configuration, and a cache for each. The only error is
-    /// `Memory`.
+    /// Makes both engines for the NFA, with the match kind of the configuration, and a cache for each. The only error
+    /// is `Memory`.
     ///
     /// ```
     /// let nfa = Compiler::new().build(alloc, "foo[0-9]+")?;
@@ -223,7 +223,8 @@ impl Hybrid {
         self.pike.find_half(&mut self.pike_cache, input)
     }
 
-    /// Returns whether a search of the input finds a match. The `earliest` flag of the input does not change the answer.
+    /// Returns whether a search of the input finds a match. The `earliest` flag of the input does not change the
+    /// answer.
     ///
     /// ```
     /// // hybrid of "foo(?<n>[0-9]+)"

@@ -27,7 +27,8 @@ pub first-alike : (ts : List Transition) (k : ℕ)
 first-alike [] k all = refl
 first-alike (t ∷ ts) k all =
     let now : holds_byte t k ≡ holds_byte t (k + 1) = all 0 t (omega arith) in
-    let rest : first_target ts k ≡ first_target ts (k + 1) = first-alike ts k (λ j d less. all (suc j) d (omega arith)) in
+    let rest : first_target ts k ≡ first_target ts (k + 1) =
+    first-alike ts k (λ j d less. all (suc j) d (omega arith)) in
     rw (now, rest) refl
 
 module _ (nfa : Automaton) (looks : Bool) (a b : ℕ) (alike : IsAlike nfa looks a b) where

@@ -64,7 +64,8 @@ new-unknown cells row byte here less =
     ap (λ (n : ℕ). get_or (cells ++ unknown) (n + byte) 0) here ∙ get_or-append-add cells unknown byte 0
     ∙ unknown-at byte less
 
-pub stances-more : (stands : List Stand) (s : Stand) → stances_of (stands ++ s ∷ []) ≡ stances_of stands ++ stance_of s ∷ []
+pub stances-more : (stands : List Stand) (s : Stand)
+    → stances_of (stands ++ s ∷ []) ≡ stances_of stands ++ stance_of s ∷ []
 stances-more stands s = map-append stance_of stands (s ∷ [])
 
 -- the row is one of the cache's
@@ -182,7 +183,8 @@ module _ (nfa : Automaton) (kind : MatchKind) where
         }
 
     pub AreRows-end : (row : ℕ) (hit : Option PatternID) → ((s : Stance) → slice_get stances row ≡ Some s
-        → option_map number_of hit ≡ hit_here nfa kind s None) → AreRows nfa kind stances cells (set ends row (Some hit))
+        → option_map number_of hit ≡ hit_here nfa kind s None)
+    → AreRows nfa kind stances cells (set ends row (Some hit))
     AreRows-end row hit is = record {
       cells_count = rows.cells_count;
       ends_count = simp length-set rows.ends_count;

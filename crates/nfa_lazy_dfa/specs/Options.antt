@@ -2,8 +2,8 @@
 use Rattle.std.specs.Prelude.{ℕ, Option}
 use Rattle.regex_search_core.specs.declared.search.MatchKind.{MatchKind}
 
--- The match kind, the bytes that the rows of a cache may take, and how often a search may clear them. `None` there is no
--- limit.
+-- The match kind, the bytes that the rows of a cache may take, and how often a search may clear them. `None` there is
+-- no limit.
 pub record Options : Type 0 where
   pub match_kind : Option MatchKind
   pub cache_capacity : Option ℕ

@@ -35,7 +35,7 @@ pub struct DFA {
     /// The NFA has an assertion.
     pub(crate) looks: bool,
     pub(crate) ghost looks_are: { looks ≡ false → HasNoLook nfa },
-    /// Between which bytes the NFA tells a difference.
+    /// Which bytes the NFA tells apart from the next one.
     pub(crate) cuts: [bool; 256],
     pub(crate) ghost cuts_are: { AreCuts nfa looks cuts },
 }

@@ -64,7 +64,8 @@ impl Index {
         }
     }
 
-    /// Makes twice as many slots. If memory is refused the index stays as it is, and rows that it lacks are built again.
+    /// Makes twice as many slots. If memory is refused the index stays as it is, and rows that it lacks are built
+    /// again.
     fn grow(&mut self, stands: &[Stand])
         requires { length stands.now ≤ MAX_ROWS }
     {

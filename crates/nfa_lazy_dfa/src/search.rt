@@ -26,8 +26,8 @@ impl DFA {
     /// - `GaveUp`: the search had cleared the cache as often as it may, and the cache was full again.
     /// - `Memory`: an allocation failed.
     ///
-    /// The caller must ensure that the cache is the DFA's (`IsFor`). [`DFA::create_cache`] and [`Cache::reset`] make one.
-    /// It stays the DFA's in each search, also in one that returns an error.
+    /// The caller must ensure that the cache is the DFA's (`IsFor`). [`DFA::create_cache`] and [`Cache::reset`] make
+    /// one. It stays the DFA's in each search, also in one that returns an error.
     ///
     /// ```
     /// // dfa of "foo(?<n>[0-9]+)"

@@ -50,7 +50,8 @@ module _ (nfa : Automaton) (x : Search) (old new : List Bool) (size : length new
       up_to p first =
           let held = (tells first.end).0 first.wanted in
           let last : last_of p ≡ Some first.end = EndsWith-last None first.end p first.path.ends in
-          let pattern_is : path_pattern nfa p ≡ Some held.pattern = ends-pattern nfa p first.end last ∙ held.pattern_is in
+          let pattern_is : path_pattern nfa p ≡ Some held.pattern =
+          ends-pattern nfa p first.end last ∙ held.pattern_is in
           record {
             end = first.end;
             ends = last;

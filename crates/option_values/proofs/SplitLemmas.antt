@@ -14,7 +14,7 @@ module _ (letter : ℕ) (short long : List ℕ) (words : List (Bor (List ℕ))) 
   cut : (i : ℕ) (d : Bor (List ℕ)) → i < length words → left i ≡ (slice_index_or words i d).now ∷ left (i + 1)
   cut i d within = rw (drop-cons words i d, add-one) refl
 
-  -- what is split so far, with what comes of the words that are left
+  -- what is split so far, with the words that are left split
   abbrev pub with_left : List (List ℕ) → Mode → List (List ℕ) → List (List ℕ)
   with_left before mode texts = before ++ split_from letter short long mode texts
 

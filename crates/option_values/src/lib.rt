@@ -1,7 +1,7 @@
 //! Values of options as words of their own, for programs that read their command line with `clap`.
 //!
-//! `clap` leaves out an `=` between a letter and its value, so it reads `-e=x` as the value `x`. Other programs read `=x`,
-//! and so does `clap` if the value is a word of its own.
+//! `clap` leaves out an `=` between a letter and its value, so it reads `-e=x` as the value `x`. Other programs read
+//! `=x`, and so does `clap` if the value is a word of its own.
 #![tactic(auto)]
 
 ghost use Rattle.std.specs.Prelude.{◌≡◌, ◌++◌, ◌<◌, IfOk, OnOk, map, slice_index, true};
@@ -43,7 +43,8 @@ pub fn split_values<'w>(
 ) -> Result<Vec<&'w str>, AllocError>
     requires { option.letter < 128 }
     ensures { IfOk result (λ split. map (λ word. word.now) split.items
-        ≡ split_words option.entry.letter option.entry.short.now option.entry.long.now (map (λ word. word.now) words.now)) }
+        ≡ split_words option.entry.letter option.entry.short.now option.entry.long.now
+        (map (λ word. word.now) words.now)) }
 {
     let mut split = Vec::new(alloc);
     let mut mode = Mode::Value;
@@ -63,7 +64,8 @@ fn push_word<'w>(
     requires { option.letter < 128 }
     ensures words { OnOk result (map (λ word. word.now) split.new.items ≡ map (λ word. word.now) split.old.items
         ++ words_of option.entry.letter option.entry.short.now mode word.entry.now) }
-    ensures mode { IfOk result (λ next. next ≡ mode_after option.entry.letter option.entry.long.now mode word.entry.now) }
+    ensures mode { IfOk result
+        (λ next. next ≡ mode_after option.entry.letter option.entry.long.now mode word.entry.now) }
 {
     match mode {
         Mode::Options if is_cluster(word) => push_cluster(option, word, split),

@@ -7,7 +7,8 @@ pub loop-word-preserved : goal.loop-word-preserved
 loop-word-preserved c =
     let option = c.args.option in
     rw c.in_ok-mode.ensures.mode
-    (goes-on option.letter option.short.now option.long.now c.args.words.now _ _ _ c.loop-word.mode c.loop-word.word-index _
+    (goes-on option.letter option.short.now option.long.now c.args.words.now _ _ _ c.loop-word.mode
+    c.loop-word.word-index _
     (search rules) c.loop-word.invariant c.in_ok-mode.ensures.words)
 
 pub returns : goal.returns

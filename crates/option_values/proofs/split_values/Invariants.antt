@@ -7,4 +7,5 @@ abbrev pub invariant-loop-word : goal.invariant-loop-word
 invariant-loop-word l =
     split_words l.option.letter l.option.short.now l.option.long.now (map (λ word. word.now) l.words)
     ≡ map (λ word. word.now) l.split.items
-    ++ split_from l.option.letter l.option.short.now l.option.long.now l.mode (map (λ word. word.now) (drop l.word-index l.words))
+    ++ split_from l.option.letter l.option.short.now l.option.long.now l.mode
+    (map (λ word. word.now) (drop l.word-index l.words))

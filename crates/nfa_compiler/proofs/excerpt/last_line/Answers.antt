@@ -19,4 +19,5 @@ returns-in-Some c =
 pub returns-in-None : goal.returns-in-None
 returns-in-None c =
     let text = c.args.text.now in
-    sym (last-none text (no-feed text (λ k less. NoCharPasses-char 10 text k c.in-None.ensures.cases (omega arith) less)))
+    sym (last-none text (no-feed text (λ k less. NoCharPasses-char 10 text k c.in-None.ensures.cases (omega arith)
+    less)))

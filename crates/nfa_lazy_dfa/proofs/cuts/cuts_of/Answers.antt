@@ -47,7 +47,8 @@ loop-state-preserved c =
                 let here : j ≡ i = omega arith in
                 let read : get_or items j d ≡ s =
                 ap (λ (n : ℕ). get_or items n d) here
-                ∙ get_or_from_slice_get items i s d (slice_get-get_or items i s c.loop-state-test.true ∙ ap Some (sym c.state-item.is)) in
+                ∙ get_or_from_slice_get items i s d
+                (slice_get-get_or items i s c.loop-state-test.true ∙ ap Some (sym c.state-item.is)) in
                 rw read (c.cut_state.ensures.alike k uncut)
           ];
     }

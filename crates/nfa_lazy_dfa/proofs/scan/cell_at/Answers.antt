@@ -33,7 +33,8 @@ returns-clause-whole c = λ known.
     let byte = get_or c.haystack-haystack.result.now at 0 in
     let small : byte < 256 = omega arith in
     let is : byte_at x at ≡ Some byte =
-    byte-here x at c.haystack-haystack.result.now c.haystack-haystack.ensures c.requires.inside c.args.input.now.within in
+    byte-here x at c.haystack-haystack.result.now c.haystack-haystack.ensures c.requires.inside
+    c.args.input.now.within in
     let cell = c.index.result.now in
     let within : row * 256 + byte < vec_len cache.cells =
     cells-within cache dfa c.requires.own row byte (row-inside cache row here.at.stance here.at.is) small in
@@ -42,7 +43,8 @@ returns-clause-whole c = λ known.
     let read : cell ≡ get_or cache.cells.items (row * 256 + byte) 0 =
     c.index.ensures ∙ get_or_default_zero cache.cells.items (c.args.first + byte) cell inside
     ∙ ap (λ (k : ℕ). get_or cache.cells.items k 0) place in
-    whole-cell dfa x cache c.requires.own (place_at at c.args.first c.args.found) here byte cell c.requires.inside is small
+    whole-cell dfa x cache c.requires.own (place_at at c.args.first c.args.found) here byte cell c.requires.inside is
+    small
     read (λ e. absurd (omega arith))
 
 pub returns-clause-plain : goal.returns-clause-plain
@@ -56,7 +58,8 @@ returns-clause-plain c = λ low.
     let byte = get_or c.haystack-haystack.result.now at 0 in
     let small : byte < 256 = omega arith in
     let is : byte_at x at ≡ Some byte =
-    byte-here x at c.haystack-haystack.result.now c.haystack-haystack.ensures c.requires.inside c.args.input.now.within in
+    byte-here x at c.haystack-haystack.result.now c.haystack-haystack.ensures c.requires.inside
+    c.args.input.now.within in
     let cell = c.index.result.now in
     let within : row * 256 + byte < vec_len cache.cells =
     cells-within cache dfa c.requires.own row byte (row-inside cache row here.at.stance here.at.is) small in
@@ -65,7 +68,8 @@ returns-clause-plain c = λ low.
     let read : cell ≡ get_or cache.cells.items (row * 256 + byte) 0 =
     c.index.ensures ∙ get_or_default_zero cache.cells.items (c.args.first + byte) cell inside
     ∙ ap (λ (k : ℕ). get_or cache.cells.items k 0) place in
-    over-plain dfa x cache c.requires.own (place_at at c.args.first c.args.found) here byte cell c.requires.inside is small
+    over-plain dfa x cache c.requires.own (place_at at c.args.first c.args.found) here byte cell c.requires.inside is
+    small
     read low
 
 pub returns-clause-leads : goal.returns-clause-leads
@@ -79,7 +83,8 @@ returns-clause-leads c = λ known.
     let byte = get_or c.haystack-haystack.result.now at 0 in
     let small : byte < 256 = omega arith in
     let is : byte_at x at ≡ Some byte =
-    byte-here x at c.haystack-haystack.result.now c.haystack-haystack.ensures c.requires.inside c.args.input.now.within in
+    byte-here x at c.haystack-haystack.result.now c.haystack-haystack.ensures c.requires.inside
+    c.args.input.now.within in
     let cell = c.index.result.now in
     let within : row * 256 + byte < vec_len cache.cells =
     cells-within cache dfa c.requires.own row byte (row-inside cache row here.at.stance here.at.is) small in
@@ -89,5 +94,6 @@ returns-clause-leads c = λ known.
     c.index.ensures ∙ get_or_default_zero cache.cells.items (c.args.first + byte) cell inside
     ∙ ap (λ (k : ℕ). get_or cache.cells.items k 0) place in
     subst (λ (h : List ℕ). LeadsTo dfa cache cache row (get_or h at 0) (row_of cell)) c.haystack-haystack.ensures
-    (leads-on dfa x cache c.requires.own (place_at at c.args.first c.args.found) here byte cell c.requires.inside is small
+    (leads-on dfa x cache c.requires.own (place_at at c.args.first c.args.found) here byte cell c.requires.inside is
+    small
     read (λ e. absurd (omega arith)))

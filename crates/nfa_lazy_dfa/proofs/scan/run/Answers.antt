@@ -29,7 +29,8 @@ place-first : (dfa : DFA) (cache : Cache) (x : Search) (p : Place) → IsFoundAt
     → IsFoundAt dfa cache x (place_at p.at (p.row * 256) p.found)
 place-first dfa cache x p here =
     let same : p.row ≡ p.row * 256 / 256 = omega arith in
-    subst (λ (r : ℕ). let q : Place = record { at = p.at; row = r; found = p.found } in IsFoundAt dfa cache x q) same here
+    subst (λ (r : ℕ).
+    let q : Place = record { at = p.at; row = r; found = p.found } in IsFoundAt dfa cache x q) same here
 
 pub loop-at-init : goal.loop-at-init
 loop-at-init c = record {
@@ -53,13 +54,15 @@ loop-at-preserved c =
     let above : 0x4000_0000 ≤ cell = c.if-cell-lt-MATCHED.false in
     let known : cell < 0xFFFF_FFFF = omega arith in
     let whole = c.cell_at-cell.ensures.whole known in
-    let leads : LeadsTo dfa cache cache (c.loop-at.first / 256) byte (row_of cell) = c.cell_at-cell.ensures.leads known in
+    let leads : LeadsTo dfa cache cache (c.loop-at.first / 256) byte (row_of cell) =
+    c.cell_at-cell.ensures.leads known in
     let t = stance_of c.index.result.now in
     let row_is : IsRowOf cache (row_of cell) t =
     row-is cache (row_of cell) c.index.result.now (row-inside cache (row_of cell) leads.to leads.is) c.index.ensures in
     record {
       whole = omega arith;
-      at = over-matched dfa x cache (place_at at c.loop-at.first c.loop-at.found) c.loop-at.invariant.at byte (row_of cell)
+      at = over-matched dfa x cache (place_at at c.loop-at.first c.loop-at.found) c.loop-at.invariant.at byte
+          (row_of cell)
           less is leads (late x.earliest c.args.stop cell c.requires.stop above below) t row_is c.half_at.result
           c.or-found.result c.half_at.ensures c.or-found.ensures;
       low = omega arith;
@@ -81,5 +84,6 @@ overflow_mul-first c =
     let cache = c.args.cache.now in
     let here = c.requires.at.at in
     let few : c.args.from.row < 0x40_0000 =
-    few-rows cache c.args.dfa.now c.requires.own c.args.from.row (row-inside cache c.args.from.row here.stance here.is) in
+    few-rows cache c.args.dfa.now c.requires.own c.args.from.row (row-inside cache c.args.from.row here.stance
+    here.is) in
     omega arith

@@ -45,4 +45,5 @@ returns-clause-scan c =
     let spends = Spends-both b c.first_row.new.cache c.scan_from.new.cache 0 over 1 0 (search rules)
     (search rules) in
     let less : 0 + over ≤ (x.end - x.start) + 1 = omega (arith, c.start-at.ensures) in
-    Scans-one c.args.cache.now b c.scan_from.new.cache (0 + over) (x.end - x.start) c.count_scan.ensures.counts spends less
+    Scans-one c.args.cache.now b c.scan_from.new.cache (0 + over) (x.end - x.start) c.count_scan.ensures.counts
+    spends less

@@ -76,7 +76,8 @@ loop-half-preserved c =
       skipping = skipping;
       own = c.in_ok-half-2.ensures.own;
       few = omega arith;
-      work = next-scan c.args.cache.now c.loop-half.cache c.scan_half-in-loop-half.new.cache x y z c.loop-half.invariant.work
+      work = next-scan c.args.cache.now c.loop-half.cache c.scan_half-in-loop-half.new.cache x y z
+          c.loop-half.invariant.work
           (search rules) low start end;
       found = c.in_ok-half-2.ensures.steps ∙ ap (λ (e : Bool). scan_half nfa z kind e) earlier;
     }
@@ -129,7 +130,8 @@ returns-in_err-half-2-clause-work c =
     record {
       count = z.start + 1 - x.start;
       few = omega arith;
-      scans = next-scan c.args.cache.now c.loop-half.cache c.scan_half-in-loop-half.new.cache x y z c.loop-half.invariant.work
+      scans = next-scan c.args.cache.now c.loop-half.cache c.scan_half-in-loop-half.new.cache x y z
+          c.loop-half.invariant.work
           (search rules) low start end;
     }
 

@@ -22,7 +22,8 @@ returns-in-Some-clause-hit c = λ s is.
 
 pub last_hit-requires : goal.last_hit-requires
 last_hit-requires c =
-    below-at c.args.self.now c.args.dfa.now c.requires.own c.args.row c.index-2.result.now c.requires.row c.index-2.ensures
+    below-at c.args.self.now c.args.dfa.now c.requires.own c.args.row c.index-2.result.now c.requires.row
+    c.index-2.ensures
 
 pub index_mut-requires : goal.index_mut-requires
 index_mut-requires c = ends-within c.args.self.now c.args.dfa.now c.requires.own c.args.row c.requires.row
