@@ -184,7 +184,7 @@ module _ (nfa : Automaton) (kind : MatchKind) where
 
     pub AreRows-end : (row : ℕ) (hit : Option PatternID) → ((s : Stance) → slice_get stances row ≡ Some s
         → option_map number_of hit ≡ hit_here nfa kind s None)
-    → AreRows nfa kind stances cells (set ends row (Some hit))
+        → AreRows nfa kind stances cells (set ends row (Some hit))
     AreRows-end row hit is = record {
       cells_count = rows.cells_count;
       ends_count = simp length-set rows.ends_count;
