@@ -3,3 +3,4 @@ pub mod Finding
 pub mod Lines
 pub mod Loops
 pub mod Redacted
+pub mod Written

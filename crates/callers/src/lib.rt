@@ -1,12 +1,26 @@
-//! Callers with no proof file, or with the invariants of their loops: the texts of groups, the lines of a text that
-//! match, searches in loops, the classes of a line, and a text with stars in place of what a group holds.
+//! Callers as users of the library would write them, with no proof file, or with the invariants of their loops: the
+//! texts of groups, the lines of a text that match, searches in loops, the classes of a line, and a text with stars in
+//! place of what a group holds. Others take a law of `nfa_engines` or `nfa_compiler`, whose premises they build from what
+//! calls promise, and say what follows.
 #![tactic(auto)]
 
+pub mod answers;
 pub mod classifier;
+pub mod compiled;
 pub mod ends;
+pub mod halves;
+pub mod hits;
 pub mod lines;
 pub mod loops;
+pub mod modes;
+pub mod order;
 pub mod owner;
+pub mod paths;
+pub mod patterns;
+pub mod places;
 pub mod redactor;
+pub mod sets;
 pub mod spans;
 pub mod texts;
+pub mod work;
+pub mod written;

@@ -1,0 +1,41 @@
+-- An answer is that of each input that asks for the same search, and what is found in a line of a text.
+use Rattle.std.proofs.Common.{◌≡◌, ℕ, ◌-◌, ◌<◌, ◌≤◌, false, List, Option, Some, take, drop, length, length-drop, get_or}
+use Rattle.std.proofs.Common.{subst, arith}
+use Rattle.std.proofs.lemmas.Bool.{lt-ltb}
+use Rattle.std.proofs.lemmas.List.{length-take-le}
+use Rattle.std.proofs.lemmas.Option.{slice_get-get_or}
+use Rattle.nfa_engines.specs.Found.{Found}
+use Rattle.nfa_engines.specs.Search.{Search, whole}
+use Rattle.nfa_engines.specs.Anchored.TheVariants.{No}
+use Rattle.nfa_engines.specs.MatchKind.{MatchKind}
+use Rattle.nfa_engines.specs.Automaton.{Automaton}
+use Rattle.nfa_engines.specs.Paths.{byte_at, IsAnswer, IsFindAnswer}
+use Rattle.nfa_engines.specs.SpanLaws.{cut_out}
+use Rattle.callers.specs.Written.{line_of}
+
+pub answer_of : (nfa : Automaton) (kind : MatchKind) (x y : Search) (pattern : Option ℕ) (slots : List (Option ℕ))
+    → y ≡ x → IsAnswer nfa kind y.earliest y pattern slots → IsAnswer nfa kind x.earliest x pattern slots
+answer_of nfa kind x y pattern slots same h =
+    subst (λ (z : Search). IsAnswer nfa kind z.earliest z pattern slots) same h
+
+pub match_of_search : (nfa : Automaton) (kind : MatchKind) (x y : Search) (found : Option Found) → y ≡ x
+    → IsFindAnswer nfa kind y.earliest y found → IsFindAnswer nfa kind x.earliest x found
+match_of_search nfa kind x y found same h = subst (λ (z : Search). IsFindAnswer nfa kind z.earliest z found) same h
+
+-- the byte at a position before the end of the span
+pub read-inside : (x : Search) (at : ℕ) → at < x.end → x.end ≤ length x.haystack
+    → byte_at x at ≡ Some (get_or x.haystack at 0)
+read-inside x at less fits =
+    let inside : at < length x.haystack = omega arith in
+    rw (lt-ltb at x.end less) (slice_get-get_or x.haystack at 0 inside)
+
+-- what is found in the line alone is found in what is cut out
+pub of_cut : (nfa : Automaton) (kind : MatchKind) (text : List ℕ) (start end : ℕ) (found : Option Found) → start ≤ end
+    → end ≤ length text → IsFindAnswer nfa kind false (whole (take (end - start) (drop start text))) found
+    → IsFindAnswer nfa kind false (cut_out (line_of text start end)) found
+of_cut nfa kind text start end found ordered within h =
+    let rest = length-drop start text in
+    let long = length-take-le (end - start) (drop start text) (omega arith) in
+    subst (λ (n : ℕ). IsFindAnswer nfa kind false
+    (record { haystack = take (end - start) (drop start text); start = 0; end = n; anchored = No; earliest = false })
+    found) long h

@@ -1,0 +1,16 @@
+-- The law of hits, and then that of one hit.
+use Rattle.std.proofs.Common.{◌∙◌, [], ◌∷◌, Option, ap, refl}
+use Rattle.nfa_engines.specs.Search.{search_of}
+use Rattle.nfa_compiler.specs.Patterns.{PatternHit, found_of_hit}
+use Rattle.callers.proofs.hits.find_one_in_str.Goals as goal
+
+pub returns : goal.returns
+returns c = λ re meant.
+    let x = search_of c.args.input in
+    c.searches_of_strs_find_texts.ensures.matches _ _ (re ∷ []) c.args.engine.now.nfa _ _ x _
+    c.requires.compiled (meant, tt) c.requires.utf8
+    (record { leftmost = refl; latest = refl; whole = c.requires.whole }) c.requires.text c.requires.start
+    c.in_ok-found.ensures.answer
+    ∙ ap (λ (h : Option PatternHit). found_of_hit h)
+    (c.str_hits_are_find_str.ensures.first re c.args.engine.now.nfa x c.requires.free c.requires.unanchored
+    c.requires.whole)

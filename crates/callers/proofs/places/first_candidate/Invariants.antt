@@ -1,0 +1,14 @@
+-- Nothing matches before the position.
+use Rattle.std.proofs.Common.{◌+◌, ◌-◌, ◌≤◌}
+use Rattle.nfa_engines.specs.Search.{search_of}
+use Rattle.nfa_engines.specs.StartLaws.{IsFirstStart}
+use Rattle.callers.proofs.places.first_candidate.Given as goal
+
+abbrev pub invariant-loop-at : goal.invariant-loop-at
+invariant-loop-at l = record {
+  first : IsFirstStart l.vm.nfa (search_of l.input) l.at;
+  within : l.at ≤ (search_of l.input).end + 1;
+}
+
+abbrev pub decreases-loop-at : goal.decreases-loop-at
+decreases-loop-at l = (search_of l.input).end - l.at

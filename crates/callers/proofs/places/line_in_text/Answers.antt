@@ -1,0 +1,16 @@
+-- The law, of the two matches.
+use Rattle.std.proofs.Common.{false, option_map}
+use Rattle.nfa_engines.specs.Found.{found_of}
+use Rattle.nfa_engines.specs.Engines.{kind_of}
+use Rattle.nfa_engines.specs.SpanLaws.{moved_match}
+use Rattle.callers.specs.Written.{line_of}
+use Rattle.callers.proofs.places.line_in_text.Goals as goal
+
+pub returns : goal.returns
+returns c =
+    let x = line_of c.args.text.now c.args.start c.args.end in
+    let alone = option_map found_of c.find_inside_and_alone.result.1 in
+    c.one_match.ensures.matches c.args.vm.now.nfa x (kind_of c.args.vm.now) false _
+    (option_map (moved_match c.args.start) alone) c.find_inside_and_alone.ensures.inside
+    (c.answers_read_the_span.ensures.cut_out_match c.args.vm.now.nfa x (kind_of c.args.vm.now) false alone
+    c.requires.plain c.requires.anywhere c.requires.ordered c.find_inside_and_alone.ensures.alone)

@@ -1,9 +1,0 @@
--- The law, of this search.
-use Rattle.std.specs.Prelude.{false}
-use Rattle.nfa_engines.specs.Search.{search_of}
-use Rattle.nfa_engines.specs.Engines.{kind_of}
-use Rattle.law_callers.proofs.has_an_answer.Goals as goal
-
-pub returns : goal.returns
-returns c = c.every_search_has_an_answer.ensures c.args.vm.now.nfa (search_of c.args.input.now)
-    (kind_of c.args.vm.now) false
