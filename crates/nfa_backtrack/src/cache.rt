@@ -25,9 +25,9 @@ pub struct Cache {
     /// Searches that were refused.
     pub(super) refused: Counter,
     /// Scans of all searches before the last one.
-    pub(super) past_scans: Counter,
+    past_scans: Counter,
     /// Turns of all searches before the last one.
-    pub(super) past_turns: Counter,
+    past_turns: Counter,
 }
 
 impl Model for Cache {
@@ -98,6 +98,15 @@ impl Cache {
             past_scans: self.past_scans.copy(),
             past_turns: self.past_turns.copy(),
         })
+    }
+
+    /// Adds the work of the last search to that of all searches before, as a search begins.
+    #[inline(always)]
+    pub(super) fn restart_counts(&mut self)
+        ensures { self.new ≡ record self.old { scans = 0; turns = 0 } }
+    {
+        self.past_scans.absorb(&mut self.scratch.scans);
+        self.scratch.visited.restart_turns(&mut self.past_turns);
     }
 
     /// Returns the bytes that the entries of the cache take: 24 for a stack frame, 8 for a block of marks, 8 for a

@@ -414,16 +414,14 @@ impl BoundedBacktracker {
         ensures last { IfOk result (λ found. IfSome found (λ m.
             start.new ≡ last_start (search_of input.now) cache.new.scans)) }
     {
+        cache.restart_counts();
         let Cache {
             scratch,
             answered,
             refused,
-            past_scans,
-            past_turns,
             slots,
+            ..
         } = cache;
-        past_scans.absorb(&mut scratch.scans);
-        scratch.visited.restart_turns(past_turns);
         if self.is_too_long(input) {
             refused.tick();
             return Err(SearchError::HaystackTooLong {

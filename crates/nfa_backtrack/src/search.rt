@@ -134,16 +134,13 @@ impl BoundedBacktracker {
         ensures cleared { OnErr result (slots.new ≡ replicate (length slots.old) None) }
         ensures counts { IsCounted self.now (search_of input.now) 0 result cache.old cache.new }
     {
+        cache.restart_counts();
         let Cache {
             scratch,
             answered,
             refused,
-            past_scans,
-            past_turns,
             ..
         } = cache;
-        past_scans.absorb(&mut scratch.scans);
-        scratch.visited.restart_turns(past_turns);
         if self.is_too_long(input) {
             unset(slots);
             refused.tick();

@@ -24,9 +24,9 @@ pub struct Cache {
     slots: usize,
     patterns: usize,
     /// Scans of all searches before the last one.
-    pub(super) past_scans: Counter,
+    past_scans: Counter,
     /// Turns of all searches before the last one.
-    pub(super) past_turns: Counter,
+    past_turns: Counter,
 }
 
 impl Model for Cache {
@@ -113,6 +113,18 @@ impl Cache {
             && nfa.group_info().slot_len() <= self.slots
             && nfa.pattern_len() <= self.patterns
             && places <= frames
+    }
+
+    /// Adds the work of the last search to that of all searches before, as a search begins.
+    #[inline(always)]
+    pub(super) fn restart_counts(&mut self)
+        ensures { self.new ≡ record self.old { scans = 0; turns = 0 } }
+    {
+        self.past_scans.absorb(&mut self.threads.scans);
+        self.threads
+            .reached
+            .seen
+            .restart_turns(&mut self.past_turns);
     }
 
     /// Returns a cache of the same sizes and counts. The only error is `Memory`.

@@ -251,15 +251,8 @@ impl PikeVM {
         ensures turns { cache.new.turns ≤ cache.new.scans * ((1 + total_degree self.now.nfa)
             * (span_len (search_of input.now) + 1)) }
     {
-        let Cache {
-            threads,
-            found,
-            past_scans,
-            past_turns,
-            ..
-        } = cache;
-        past_scans.absorb(&mut threads.scans);
-        threads.reached.seen.restart_turns(past_turns);
+        cache.restart_counts();
+        let Cache { threads, found, .. } = cache;
         self.search_with(threads, input, found.as_mut_slice(), slots)
     }
 
@@ -380,15 +373,8 @@ impl PikeVM {
         ensures searches { PikeSearches self.now (search_of input.old) cache.old cache.new }
         ensures last { search_of input.new ≡ raised (search_of input.old) (cache.new.scans - 1) }
     {
-        let Cache {
-            threads,
-            found,
-            past_scans,
-            past_turns,
-            ..
-        } = cache;
-        past_scans.absorb(&mut threads.scans);
-        threads.reached.seen.restart_turns(past_turns);
+        cache.restart_counts();
+        let Cache { threads, found, .. } = cache;
         self.find_with(threads, input, found.as_mut_slice())
     }
 
@@ -421,14 +407,8 @@ impl PikeVM {
         ensures turns { cache.new.turns ≤ cache.new.scans * ((1 + total_degree self.now.nfa)
             * (span_len (search_of input.entry) + 1)) }
     {
-        let Cache {
-            threads,
-            past_scans,
-            past_turns,
-            ..
-        } = cache;
-        past_scans.absorb(&mut threads.scans);
-        threads.reached.seen.restart_turns(past_turns);
+        cache.restart_counts();
+        let threads = &mut cache.threads;
         // An NFA that can be read is valid, so the pattern of each Match state exists.
         self.nfa.states();
         let match_kind = self.config.get_match_kind();
@@ -516,14 +496,8 @@ impl PikeVM {
         ensures turns { cache.new.turns ≤ cache.new.scans * ((1 + total_degree self.now.nfa)
             * (span_len (search_of input.now) + 1)) }
     {
-        let Cache {
-            threads,
-            past_scans,
-            past_turns,
-            ..
-        } = cache;
-        past_scans.absorb(&mut threads.scans);
-        threads.reached.seen.restart_turns(past_turns);
+        cache.restart_counts();
+        let threads = &mut cache.threads;
         let kind = self.config.get_match_kind();
         overlap(&self.nfa, kind, input, threads, patterns);
     }
