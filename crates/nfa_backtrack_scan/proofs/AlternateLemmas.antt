@@ -1,6 +1,6 @@
 -- Alternatives that are pushed, and those that lead nowhere.
 use Rattle.std.proofs.Common.{◌≡◌, ℕ, ◌<◌, inl, inr, List, [], ◌∷◌, ◌++◌, length, map, drop, refl, ap, arith}
-use Rattle.std.specs.Prelude.{Some, None, All}
+use Rattle.std.specs.Prelude.{Some, None}
 use Rattle.std.specs.List.{slice_get}
 use Rattle.std.proofs.lemmas.List.Elements.{All-push}
 use Rattle.std.proofs.lemmas.List.Sums.{sum_by_push}
@@ -12,13 +12,13 @@ use Rattle.nfa_paths.specs.Paths.{edges_of}
 use Rattle.nfa_paths.specs.Exploring.{Slots, Task, ExploresTo}
 use Rattle.nfa_paths.specs.Exploring.Task.{Explore}
 use Rattle.nfa_scan_core.specs.Marks.{Marks}
-use Rattle.nfa_backtrack_scan.specs.Walk.{frame_tries, stacked, IsFrame, IsByteStep, IsStatePos, PaidFor, Carries}
-use Rattle.nfa_backtrack_scan.specs.Walk.{Taken, WalkAnswer}
+use Rattle.nfa_backtrack_scan.specs.Walk.{frame_tries, stacked, IsFrame, IsByteStep, IsStatePos, Carries}
+use Rattle.nfa_backtrack_scan.specs.Walk.{Taken, TurnsLead, Walk, WalkAnswer}
 use Rattle.nfa_backtrack_scan.specs.Alternates.{IsDeadEnd, HasAnswersOf, PushesLive}
 use Rattle.nfa_backtrack_scan.specs.declared.frame.StatePos.{StatePos}
 use Rattle.nfa_backtrack_scan.specs.declared.frame.Frame.{Frame}
 use Rattle.nfa_backtrack_scan.specs.declared.frame.Frame.TheVariants.{Step}
-use Rattle.nfa_backtrack_scan.proofs.StepLemmas.{reads-plain, stacked-push, step-edges, Goes-edges}
+use Rattle.nfa_backtrack_scan.proofs.StepLemmas.{reads-plain, stacked-push, step-edges, Carries-edges}
 use Rattle.nfa_backtrack_scan.proofs.StepLemmas.{PaidFor-step}
 use Rattle.nfa_backtrack_scan.proofs.WalkLemmas.{no_path, Carries-then}
 use Rattle.nfa_scan_core.proofs.AlternateLemmas.{first-drop}
@@ -76,21 +76,22 @@ module _ (nfa : Automaton) (x : Search) where
   Carries-stands m work shorter slots stands = grind arith
 
   -- the turn at a union
-  module _ {place : StatePos} {m n : Marks} (t : Taken nfa x (place.sid, place.at) m n) (alternates : List ℕ)
-      (is : slice_get nfa.states place.sid ≡ Some (Union alternates)) (f : ℕ) (first : slice_get alternates 0 ≡ Some f)
-      {stack after : List Frame} (l : PushesLive nfa x place (drop 1 alternates) stack after) where
-    pub PaidFor-live : (count : ℕ) → All (IsFrame nfa x count) stack → PaidFor nfa x count stack m after n 1
-    PaidFor-live count within =
-        PaidFor-step t (Union alternates) is count stack after 1 (l.within count within)
-        (omega (arith, l.tried, ap length (first-drop alternates f first)))
-
-    pub Goes-live : (slots : Slots) (work : List Task)
-        → Carries nfa x m (Explore (place.sid, place.at) ∷ stacked stack work) slots n
-        (Explore (f, place.at) ∷ stacked after work) slots
-    unfolding edges_of
-    Goes-live slots work =
+  pub TurnsLead-live : {place : StatePos} {m n : Marks} (t : Taken nfa x (place.sid, place.at) m n)
+      (alternates : List ℕ) → slice_get nfa.states place.sid ≡ Some (Union alternates)
+      → (f : ℕ) → slice_get alternates 0 ≡ Some f → (w : Walk) {after : List Frame}
+      → PushesLive nfa x place (drop 1 alternates) w.stack after
+      → IsStatePos nfa x (record place { sid = f })
+      → TurnsLead nfa x (place.sid, place.at) (Some (record place { sid = f })) (record w { marks = m })
+      (record w { stack = after; marks = n })
+  unfolding edges_of
+  TurnsLead-live {place} {m} {n} t alternates is f first w {after} l goes = record {
+    goes = goes;
+    paid = PaidFor-step t (Union alternates) is w after w.slots 1 (l.within (length w.slots))
+        (omega (arith, l.tried, ap length (first-drop alternates f first)));
+    follows = λ work.
         Carries-then nfa x
-        (Goes-edges t (Union alternates) is refl refl
+        (Carries-edges t (Union alternates) is refl refl
         ((f, place.at) ∷ map (λ q. (q, place.at)) (drop 1 alternates))
-        (ap (map (λ q. (q, place.at))) (first-drop alternates f first)) (stacked stack work) slots)
-        (Carries-stands n _ _ slots (HasAnswersOf-after (f, place.at) _ _ (l.follows work)))
+        (ap (map (λ q. (q, place.at))) (first-drop alternates f first)) (stacked w.stack work) w.slots)
+        (Carries-stands n _ _ w.slots (HasAnswersOf-after (f, place.at) _ _ (l.follows work)));
+  }

@@ -6,10 +6,11 @@ use Rattle.std.proofs.lemmas.List.Elements.{All-pop}
 use Rattle.std.proofs.lemmas.List.Sums.{sum_by_push}
 use Rattle.regex_search_core.specs.Search.{Search}
 use Rattle.thompson_nfa.specs.Automaton.{Automaton}
+use Rattle.nfa_paths.specs.Graphs.{Pair}
 use Rattle.nfa_paths.specs.Exploring.{Task, Slots}
 use Rattle.nfa_scan_core.specs.Marks.{Marks}
 use Rattle.nfa_backtrack_scan.specs.Walk.{work_item, stacked, frame_tries, tries_of_state_pos, with_state_pos, WritesSlot, AppliesFrame, IsStatePosOr}
-use Rattle.nfa_backtrack_scan.specs.Walk.{IsFrame, Carries}
+use Rattle.nfa_backtrack_scan.specs.Walk.{Carries, HasFrames, IsFrame, TurnsLead, Walk}
 use Rattle.nfa_backtrack_scan.specs.declared.frame.StatePos.{StatePos}
 use Rattle.nfa_backtrack_scan.specs.declared.frame.Frame.{Frame}
 use Rattle.nfa_backtrack_scan.specs.declared.frame.Frame.TheVariants.{Step, Restore, Clear}
@@ -50,6 +51,24 @@ module _ (nfa : Automaton) (x : Search) where
   within-unwound count stack popped frame slots place after pop u fits =
       let both = All-pop (IsFrame nfa x count) stack popped (Some frame) pop fits in
       (both.0, IsFrame-place count frame slots place after u both.1)
+
+  -- frames applied after turns that lead nowhere
+  pub TurnsLead-resumed : {v : Pair} {old mid : Walk} {place : Option StatePos} {after : List Frame} {slots : Slots}
+      → TurnsLead nfa x v None old mid → length slots ≡ length mid.slots
+      → ((work : List Task)
+      → Carries nfa x mid.marks (stacked mid.stack work) mid.slots mid.marks (with_state_pos place (stacked after work))
+      slots)
+      → (HasFrames nfa x mid → All (IsFrame nfa x (length mid.slots)) after × IsStatePosOr nfa x place)
+      → sum_by frame_tries after + tries_of_state_pos place ≡ sum_by frame_tries mid.stack → HasFrames nfa x old
+      → TurnsLead nfa x v place old (record { stack = after; marks = mid.marks; slots = slots })
+  TurnsLead-resumed l size follows within tried frames = record {
+    goes = (within (l.paid.within frames)).1;
+    paid = record {
+      within = λ held. rw size (within (l.paid.within held)).0;
+      tried = omega (arith, l.paid.tried, tried);
+    };
+    follows = λ work. Carries-then nfa x (l.follows work) (follows work);
+  }
 
 pub tries-unwound : (stack popped : List Frame) (frame : Frame) (slots : Slots) (place : Option StatePos)
     (after : Slots)

@@ -14,7 +14,7 @@ use Rattle.nfa_paths.specs.Paths.{capture, edges, is_match, node_at, slot_of, sp
 use Rattle.nfa_paths.specs.Exploring.{Hit, Slots, ExploresTo, found}
 use Rattle.nfa_paths.specs.Turns.{marked_sum}
 use Rattle.nfa_scan_core.specs.Marks.{Marks}
-use Rattle.nfa_backtrack_scan.specs.Begin.{kept_onto, start_tasks, BeginsAt}
+use Rattle.nfa_backtrack_scan.specs.Begin.{kept_onto, start_tasks, without_frames, BeginsAt}
 use Rattle.nfa_backtrack_scan.specs.Walk.{pair_of, weights, IsStatePos, Carries, Taken, WalkAnswer}
 use Rattle.nfa_backtrack_scan.specs.declared.frame.StatePos.{StatePos}
 use Rattle.nfa_backtrack_scan.proofs.WalkLemmas.{marked_sum-weights, Carries-none, Carries-restore}
@@ -64,12 +64,12 @@ module _ (nfa : Automaton) (x : Search) where
     spent = grind (arith, marked_sum-weights)
 
     -- a Capture writes its slot
-    pub BeginsAt-write : BeginsAt nfa x (pair_of place) (record place { sid = next }) m slots n
-        (set slots slot (Some place.at))
+    pub BeginsAt-write : BeginsAt nfa x (pair_of place) (record place { sid = next }) (without_frames m slots)
+        (without_frames n (set slots slot (Some place.at)))
     BeginsAt-write = record {
       is_place = record { state = below; from = p.from; to = p.to; row = p.row };
       slot = Some slot;
-      old = get_or slots slot None;
+      before = get_or slots slot None;
       own = λ k same. let e : slot ≡ k = cc in rw (node_at-get nfa place.sid (Capture next slot) is, e) refl;
       follows = search (rules, Carries-write);
       spent = spent;
@@ -77,11 +77,11 @@ module _ (nfa : Automaton) (x : Search) where
 
     -- or has no slot
     pub BeginsAt-unkept : length slots ≤ slot
-        → BeginsAt nfa x (pair_of place) (record place { sid = next }) m slots n slots
+        → BeginsAt nfa x (pair_of place) (record place { sid = next }) (without_frames m slots) (without_frames n slots)
     BeginsAt-unkept past = record {
       is_place = record { state = below; from = p.from; to = p.to; row = p.row };
       slot = None;
-      old = None;
+      before = None;
       own = λ k same. cc;
       follows = search (rules, Carries-unkept);
       spent = spent;
@@ -89,5 +89,5 @@ module _ (nfa : Automaton) (x : Search) where
 
   -- no turn is taken at other states
   pub BeginsAt-none : (place : StatePos) (m : Marks) (slots : Slots) → IsStatePos nfa x place
-      → BeginsAt nfa x (pair_of place) place m slots m slots
+      → BeginsAt nfa x (pair_of place) place (without_frames m slots) (without_frames m slots)
   BeginsAt-none place m slots p = grind arith

@@ -1,25 +1,20 @@
--- Turns of a loop over one byte, one after another.
-use Rattle.std.proofs.Common.{◌≡◌, ℕ, ◌+◌, ◌-◌, ◌*◌, ◌<◌, List, [], ◌∷◌, ◌++◌, length, arith, rules}
+-- Turns one after another, and those that lead nowhere.
+use Rattle.std.proofs.Common.{◌≡◌, ℕ, ◌+◌, List, ◌∷◌, arith, rules}
 use Rattle.std.specs.Prelude.{Option, Some, None, Result, Ok, Err, OnErr}
 use Rattle.std.specs.List.{slice_get}
-use Rattle.std.proofs.lemmas.List.Elements.{All-push}
-use Rattle.std.proofs.lemmas.List.Sums.{sum_by_push}
 use Rattle.regex_search_core.specs.Search.{Search}
 use Rattle.thompson_nfa.specs.Automaton.{Automaton}
-use Rattle.thompson_nfa.specs.Automaton.Node.{BinaryUnion}
+use Rattle.thompson_nfa.specs.Automaton.Node.{Fail}
+use Rattle.nfa_paths.specs.Exploring.Task.{Explore}
 use Rattle.nfa_paths.specs.Graphs.{Pair}
-use Rattle.nfa_paths.specs.Paths.{byte_at, target_on}
 use Rattle.nfa_paths.proofs.TurnLemmas.{marked_sum-le}
 use Rattle.nfa_scan_core.specs.Marks.{Marks}
-use Rattle.nfa_backtrack_scan.specs.Walk.{pair_of, stacked, weights, IsAfforded, IsByteStep, TurnsLead}
-use Rattle.nfa_backtrack_scan.specs.Walk.{Taken, WasMarked}
+use Rattle.nfa_backtrack_scan.specs.Walk.{pair_of, stacked, weights, IsAfforded, IsByteStep, IsStatePos, TurnsLead}
+use Rattle.nfa_backtrack_scan.specs.Walk.{Walk, WasMarked}
 use Rattle.nfa_backtrack_scan.specs.declared.frame.StatePos.{StatePos}
 use Rattle.nfa_backtrack_scan.specs.declared.frame.Frame.{Frame}
-use Rattle.nfa_backtrack_scan.specs.declared.frame.Frame.TheVariants.{Step}
-use Rattle.nfa_backtrack_scan.proofs.WalkLemmas.{Carries-then, Carries-marked, Carries-dead, marked_sum-weights}
-use Rattle.nfa_scan_core.proofs.TargetLemmas.{target-degree}
-use Rattle.nfa_backtrack_scan.proofs.StepLemmas.{Goes-both, Goes-byte, Goes-stuck, IsStatePos-byte, reads-plain, read-byte}
-use Rattle.nfa_backtrack_scan.proofs.StepLemmas.{step-edges}
+use Rattle.nfa_backtrack_scan.proofs.WalkLemmas.{Carries-none, Carries-then, Carries-marked, Carries-dead, Fails-at}
+use Rattle.nfa_backtrack_scan.proofs.StepLemmas.{reads-plain, step-edges}
 
 -- what holds in any case holds if allocation failed
 pub OnErr-always : {T E P : Type 0} (r : Result T E) → P → OnErr r P
@@ -27,78 +22,56 @@ OnErr-always (Ok value) p = tt
 OnErr-always (Err error) p = p
 
 module _ (nfa : Automaton) (x : Search) where
+  -- no turn yet
+  pub TurnsLead-none : (place : StatePos) → IsStatePos nfa x place → (w : Walk)
+      → TurnsLead nfa x (pair_of place) (Some place) w w
+  TurnsLead-none place is_place w = record {
+    goes = is_place;
+    paid = record { within = λ frames. frames; tried = omega arith };
+    follows = λ work. Carries-none nfa x w.marks (Explore (pair_of place) ∷ stacked w.stack work) w.slots;
+  }
+
   -- turns after turns
-  pub TurnsLead-then : {v : Pair} {p : StatePos} {q : Option StatePos} {stack after last : List Frame} {m n o : Marks}
-      → TurnsLead nfa x v (Some p) stack m after n → TurnsLead nfa x (pair_of p) q after n last o
-      → TurnsLead nfa x v q stack m last o
-  TurnsLead-then f g = let ft = f.tried in let gt = g.tried in record {
+  pub TurnsLead-then : {v : Pair} {p : StatePos} {q : Option StatePos} {a b c : Walk}
+      → TurnsLead nfa x v (Some p) a b → TurnsLead nfa x (pair_of p) q b c → TurnsLead nfa x v q a c
+  TurnsLead-then f g = let ft = f.paid.tried in let gt = g.paid.tried in record {
     goes = g.goes;
-    within = λ count fits. g.within count (f.within count fits);
-    tried = omega arith;
-    follows = λ work slots. Carries-then nfa x (f.follows work slots) (g.follows work slots);
+    paid = record { within = λ frames. g.paid.within (f.paid.within frames); tried = omega arith };
+    follows = λ work. Carries-then nfa x (f.follows work) (g.follows work);
   }
 
   -- turns that end because allocation failed
-  pub IsAfforded-then : {v : Pair} {p : StatePos} {stack after : List Frame} {m n : Marks} (o : Marks)
-      → TurnsLead nfa x v (Some p) stack m after n → IsAfforded nfa x after n o → IsAfforded nfa x stack m o
-  IsAfforded-then o f e = let ft = f.tried in omega arith
+  pub IsAfforded-then : {v : Pair} {p : StatePos} {a b : Walk} (o : Marks)
+      → TurnsLead nfa x v (Some p) a b → IsAfforded nfa x b.stack b.marks o → IsAfforded nfa x a.stack a.marks o
+  IsAfforded-then o f e = let ft = f.paid.tried in omega arith
 
   -- the one turn before allocation failed
   pub IsAfforded-turn : (stack : List Frame) (m n : Marks) → n.turns ≡ m.turns + 1 → IsAfforded nfa x stack m n
   IsAfforded-turn stack m n counted = omega (arith, marked_sum-le (weights nfa x) m.bits)
 
   -- a turn that finds its place marked
-  pub TurnsLead-marked : (s at : ℕ) (stack : List Frame) {m n : Marks} → WasMarked nfa x (s, at) m n
-      → TurnsLead nfa x (s, at) None stack m stack n
-  TurnsLead-marked s at stack {m} {n} w = record {
+  pub TurnsLead-marked : (s at : ℕ) {m n : Marks} → WasMarked nfa x (s, at) m n → (w : Walk)
+      → TurnsLead nfa x (s, at) None (record w { marks = m }) (record w { marks = n })
+  TurnsLead-marked s at {m} {n} seen w = record {
     goes = tt;
-    within = λ count fits. fits;
-    tried = rw w.same (omega (arith, w.counted));
+    paid = record { within = λ frames. frames; tried = rw seen.same (omega (arith, seen.counted)) };
     follows = search (rules, Carries-marked);
   }
 
   -- a turn at a byte state that leads nowhere, and is not marked
-  pub TurnsLead-dead : (s at : ℕ) (stack : List Frame) {m n : Marks} → IsByteStep nfa x (s, at) None
-      → n.turns ≡ m.turns + 1 → n.bits ≡ m.bits → TurnsLead nfa x (s, at) None stack m stack n
-  TurnsLead-dead s at stack {m} {n} b counted same = record {
+  pub TurnsLead-dead : (s at : ℕ) {m n : Marks} → IsByteStep nfa x (s, at) None → n.turns ≡ m.turns + 1
+      → n.bits ≡ m.bits → (w : Walk) → TurnsLead nfa x (s, at) None (record w { marks = m }) (record w { marks = n })
+  TurnsLead-dead s at {m} {n} b counted same w = record {
     goes = tt;
-    within = λ count fits. fits;
-    tried = rw same (omega (arith, counted));
+    paid = record { within = λ frames. frames; tried = rw same (omega (arith, counted)) };
     follows = search (rules, Carries-dead, reads-plain, step-edges);
   }
 
-module _ {nfa : Automaton} {x : Search} {s at : ℕ} {m n : Marks} (t : Taken nfa x (s, at) m n) (row : ℕ)
-    (placed : row ≡ (at - x.start) * length nfa.states) where
-  -- a byte state that is marked
-  pub TurnsLead-stop : IsByteStep nfa x (s, at) None → (stack : List Frame)
-      → TurnsLead nfa x (s, at) None stack m stack n
-  TurnsLead-stop b stack = record {
+  -- a turn at a state that leads nowhere at all
+  pub TurnsLead-fail : (s at : ℕ) {m n : Marks} → slice_get nfa.states s ≡ Some Fail → n.turns ≡ m.turns + 1
+      → n.bits ≡ m.bits → (w : Walk) → TurnsLead nfa x (s, at) None (record w { marks = m }) (record w { marks = n })
+  TurnsLead-fail s at {m} {n} is counted same w = record {
     goes = tt;
-    within = λ count fits. fits;
-    tried = grind (arith, marked_sum-weights);
-    follows = λ work slots. Goes-stuck t b (stacked stack work) slots;
-  }
-
-  pub TurnsLead-byte : (next : ℕ) → IsByteStep nfa x (s, at) (Some next) → (stack : List Frame) (states : ℕ)
-      → states ≡ length nfa.states
-      → TurnsLead nfa x (s, at) (Some (record { sid = next; at = at + 1; row = row + states })) stack m stack n
-  TurnsLead-byte next b stack states wide =
-      let read = read-byte (target_on b.node) (byte_at x at) next b.leads in
-      record {
-        goes = IsStatePos-byte t next b row placed states wide;
-        within = λ count fits. fits;
-        tried = grind (arith, marked_sum-weights, target-degree);
-        follows = λ work slots. Goes-byte t next b (stacked stack work) slots;
-      }
-
-  -- a union, whose exit is pushed
-  pub TurnsLead-union : (body exit : ℕ) → slice_get nfa.states s ≡ Some (BinaryUnion body exit)
-      → body < length nfa.states → exit < length nfa.states → (stack : List Frame)
-      → TurnsLead nfa x (s, at) (Some (record { sid = body; at = at; row = row })) stack m
-      (stack ++ Step exit at row ∷ []) n
-  TurnsLead-union body exit is into out stack = record {
-    goes = record { state = into; from = t.from; to = t.to; row = placed };
-    within = search (rules, All-push);
-    tried = grind (arith, marked_sum-weights, sum_by_push);
-    follows = λ work slots. Goes-both t body exit is slots stack work row;
+    paid = record { within = λ frames. frames; tried = rw same (omega (arith, counted)) };
+    follows = λ work. Fails-at nfa x m s at (stacked w.stack work) w.slots n counted is same;
   }

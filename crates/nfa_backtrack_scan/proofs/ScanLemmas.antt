@@ -8,13 +8,11 @@ use Rattle.regex_search_core.specs.declared.search.MatchKind.TheVariants.{Leftmo
 use Rattle.thompson_nfa.specs.Automaton.{Automaton}
 use Rattle.nfa_paths.specs.Paths.{span_len, raised, starts, IsScanAnswer}
 use Rattle.nfa_paths.specs.Restarts.{max_scan_turns, GivesPath}
-use Rattle.nfa_paths.specs.Exploring.{Slots}
 use Rattle.nfa_paths.specs.Exploring.Task.{Explore}
 use Rattle.nfa_paths.specs.Turns.{marked_sum}
 use Rattle.nfa_paths.proofs.AnswerLemmas.{scan_none, scan_some}
 use Rattle.nfa_paths.proofs.TurnLemmas.{marked_sum-le}
-use Rattle.nfa_scan_core.specs.Marks.{Marks}
-use Rattle.nfa_backtrack_scan.specs.Walk.{HasBits, Agrees, WalkAnswer, Ends, EndsAt, weights}
+use Rattle.nfa_backtrack_scan.specs.Walk.{weights, Agrees, Ends, EndsAt, HasBits, Walk, WalkAnswer}
 use Rattle.nfa_backtrack_scan.proofs.WalkLemmas.{IsMarked-clear, sum-weights}
 
 module _ (nfa : Automaton) (x : Search) where
@@ -22,26 +20,26 @@ module _ (nfa : Automaton) (x : Search) where
   fresh : (bits : List Bool) → bits ≡ replicate (length bits) false → Agrees nfa x bits []
   fresh bits clear v = (λ i. absurd i, λ m. absurd (IsMarked-clear nfa x (length bits) v (rw clear at m)))
 
-  module _ (marks : Marks) (clear : marks.bits ≡ replicate (length marks.bits) false) (slots : Slots) (turns : ℕ) where
+  module _ (old : Walk) (clear : old.marks.bits ≡ replicate (length old.marks.bits) false) where
     -- all starts were tried, and nothing was found
-    pub starts-none : Ends nfa x marks (map Explore (starts nfa x)) slots None turns
+    pub starts-none : (turns : ℕ) → Ends nfa x old.marks (map Explore (starts nfa x)) old.slots None turns
         → IsScanAnswer nfa x LeftmostFirst false None
     unfolding WalkAnswer
-    starts-none e =
+    starts-none turns e =
         let g = e.grows in
-        scan_none nfa x (turns - marks.turns) slots
-        (e.answer (turns - marks.turns) (omega arith) [] (fresh marks.bits clear))
+        scan_none nfa x (turns - old.marks.turns) old.slots
+        (e.answer (turns - old.marks.turns) (omega arith) [] (fresh old.marks.bits clear))
 
     -- a match was found
-    pub starts-some : (half : HalfMatch) (written : Slots) → slots ≡ replicate (length written) None
-        → EndsAt nfa x half marks (map Explore (starts nfa x)) slots written turns
-        → GivesPath nfa LeftmostFirst false x half written (turns - marks.turns)
+    pub starts-some : (half : HalfMatch) (new : Walk) → old.slots ≡ replicate (length new.slots) None
+        → EndsAt nfa x half old (map Explore (starts nfa x)) new
+        → GivesPath nfa LeftmostFirst false x half new.slots (new.marks.turns - old.marks.turns)
     unfolding WalkAnswer
-    starts-some half written unset e =
+    starts-some half new unset e =
         let g = e.ends.grows in
-        let found = scan_some nfa x (length written) (turns - marks.turns) (e.state, (half_found_of half).offset)
-        written
-        (rw unset at (e.ends.answer (turns - marks.turns) (omega arith) [] (fresh marks.bits clear))) in
+        let turns = new.marks.turns - old.marks.turns in
+        let found = scan_some nfa x (length new.slots) turns (e.state, (half_found_of half).offset) new.slots
+        (rw unset at (e.ends.answer turns (omega arith) [] (fresh old.marks.bits clear))) in
         grind arith
 
   -- the turns of a scan

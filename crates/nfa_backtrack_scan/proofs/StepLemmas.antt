@@ -1,26 +1,30 @@
 -- What each kind of state leads to, after the turn that marked its place.
 use Rattle.std.proofs.Common.{◌≡◌, ℕ, ◌+◌, ◌-◌, ◌*◌, ◌<◌, ◌≤◌, List, [], ◌∷◌, ◌++◌, length, get_or, set, map, rules}
-use Rattle.std.proofs.Common.{refl, ap, sym, arith}
+use Rattle.std.proofs.Common.{refl, ap, sym, arith, length-set}
 use Rattle.std.specs.Prelude.{Option, Some, None, true, false, Bool, All, option_map, option_and_then, option_to_list}
 use Rattle.std.specs.List.{slice_get, sum_by}
 use Rattle.std.proofs.lemmas.List.{length-map}
 use Rattle.std.proofs.lemmas.List.Elements.{All-push}
 use Rattle.std.proofs.lemmas.List.Sums.{sum_by_push}
 use Rattle.regex_search_core.specs.Search.{Search}
+use Rattle.regex_search_core.specs.Patterns.{number_of}
+use Rattle.regex_search_core.specs.declared.primitives.PatternID.{PatternID}
 use Rattle.thompson_nfa.specs.Automaton.{Automaton, Node, node_of}
 use Rattle.thompson_nfa.specs.Automaton.Node.{ByteRange, Sparse, Dense, Look, Union, BinaryUnion, Capture, Match}
 use Rattle.thompson_nfa.specs.Looks.{look_holds}
 use Rattle.thompson_nfa.specs.declared.look.Look as looks
 use Rattle.thompson_nfa.specs.declared.state.State.{State}
 use Rattle.nfa_paths.specs.Graphs.{Pair}
-use Rattle.nfa_paths.specs.Paths.{span_len, degree, node_at, pattern_of, slot_of, edges_of, byte_at, target_on}
+use Rattle.nfa_paths.specs.Paths.{span_len, degree, pattern_of, slot_of, edges_of, byte_at, target_on}
 use Rattle.nfa_paths.specs.Exploring.{Task, Slots}
 use Rattle.nfa_paths.specs.Exploring.Task.{Explore, Restore}
-use Rattle.nfa_scan_core.proofs.TargetLemmas.{target-below}
+use Rattle.nfa_scan_core.proofs.TargetLemmas.{target-below, target-degree}
 use Rattle.nfa_scan_core.specs.Marks.{Marks}
-use Rattle.nfa_backtrack_scan.specs.Walk.{pair_of, work_item, stacked, restoring, move_to, frame_tries, tries_of_move}
-use Rattle.nfa_backtrack_scan.specs.Walk.{bit_of, HasBits, IsStatePos, IsFrame, IsByteStep, PaidFor, ReadsByte}
-use Rattle.nfa_backtrack_scan.specs.Walk.{Carries, Ends, Goes, Taken, TurnsLead, WasMarked}
+use Rattle.nfa_backtrack_scan.specs.Walk.{pair_of, work_item, stacked, restoring, move_to, frame_tries}
+use Rattle.nfa_backtrack_scan.specs.Walk.{tries_of_state_pos, with_state_pos, bit_of, HasBits, HasFrames, IsStatePos}
+use Rattle.nfa_backtrack_scan.specs.Walk.{IsStatePosOr, IsFrame, IsByteStep, PaidFor, ReadsByte, Carries, Goes, Taken}
+use Rattle.nfa_backtrack_scan.specs.Walk.{TurnsLead, Walk, WasMarked}
+use Rattle.nfa_backtrack_scan.specs.declared.walk.Move.TheVariants.{Matched}
 use Rattle.nfa_backtrack_scan.specs.declared.frame.StatePos.{StatePos}
 use Rattle.nfa_backtrack_scan.specs.declared.frame.Frame.{Frame}
 use Rattle.nfa_backtrack_scan.specs.declared.frame.Frame.TheVariants.{Step}
@@ -114,108 +118,147 @@ read-byte f None q e = cc
 read-byte f (Some k) q e = (k, refl, sym e)
 
 -- turns that lead to a place, or nowhere, as the result of a turn
-module _ (nfa : Automaton) (x : Search) {v : Pair} {stack after : List Frame} {m n : Marks} where
-  pub PaidFor-leads : (next : Option StatePos) → TurnsLead nfa x v next stack m after n → (count : ℕ)
-      → All (IsFrame nfa x count) stack → PaidFor nfa x count stack m after n (tries_of_move (move_to next))
-  PaidFor-leads None l count fits = record { within = l.within count fits; tried = l.tried }
-  PaidFor-leads (Some place) l count fits = record { within = l.within count fits; tried = l.tried }
+pub Goes-leads : (nfa : Automaton) (x : Search) {v : Pair} {old new : Walk} (next : Option StatePos)
+    → TurnsLead nfa x v next old new → Goes nfa x v (move_to next) old new
+Goes-leads nfa x None leads = leads
+Goes-leads nfa x (Some place) leads = leads
 
-  pub Goes-leads : (next : Option StatePos) → TurnsLead nfa x v next stack m after n → (slots : Slots)
-      → Goes nfa x v (move_to next) stack m slots after n slots
-  Goes-leads None l slots = λ work. l.follows work slots
-  Goes-leads (Some place) l slots = (l.goes, λ work. l.follows work slots)
+-- the one edge, or none, as work
+place-task : (place : Option StatePos) (rest : List Task)
+    → map Explore (option_to_list (option_map pair_of place)) ++ rest ≡ with_state_pos place rest
+place-task None rest = refl
+place-task (Some place) rest = refl
 
 module _ {nfa : Automaton} {x : Search} {s at : ℕ} {m n : Marks} (t : Taken nfa x (s, at) m n) where
   -- what is pushed is paid for by the state's degree
   pub PaidFor-step : (node : Node) → slice_get nfa.states s ≡ Some node
-      → (count : ℕ) (stack after : List Frame) (in_hand : ℕ)
-      → All (IsFrame nfa x count) after → sum_by frame_tries after + in_hand ≤ sum_by frame_tries stack + degree node
-      → PaidFor nfa x count stack m after n in_hand
-  PaidFor-step node is count stack after in_hand within tried = grind (arith, marked_sum-weights)
+      → (w : Walk) (after : List Frame) (written : Slots) (in_hand : ℕ)
+      → (HasFrames nfa x w → All (IsFrame nfa x (length written)) after)
+      → sum_by frame_tries after + in_hand ≤ sum_by frame_tries w.stack + degree node
+      → PaidFor nfa x (record w { marks = m }) (record { stack = after; marks = n; slots = written }) in_hand
+  PaidFor-step node is w after written in_hand within tried = record {
+    within = within;
+    tried = grind (arith, marked_sum-weights);
+  }
 
-  pub PaidFor-same : (node : Node) → slice_get nfa.states s ≡ Some node → (count : ℕ) (stack : List Frame) (in_hand : ℕ)
-      → All (IsFrame nfa x count) stack → in_hand ≤ degree node → PaidFor nfa x count stack m stack n in_hand
-  PaidFor-same node is count stack in_hand within few =
-      PaidFor-step node is count stack stack in_hand within (omega arith)
-
-  pub PaidFor-push : (node : Node) → slice_get nfa.states s ≡ Some node
-      → (count : ℕ) (stack : List Frame) (f : Frame) (in_hand : ℕ)
-      → All (IsFrame nfa x count) stack → IsFrame nfa x count f → frame_tries f + in_hand ≤ degree node
-      → PaidFor nfa x count stack m (stack ++ f ∷ []) n in_hand
-  PaidFor-push node is count stack f in_hand within fits few =
-      PaidFor-step node is count stack (stack ++ f ∷ []) in_hand (All-push (IsFrame nfa x count) stack f within fits)
-      (omega (arith, sum_by_push frame_tries stack f))
+  PaidFor-same : (node : Node) → slice_get nfa.states s ≡ Some node → (w : Walk) (in_hand : ℕ) → in_hand ≤ degree node
+      → PaidFor nfa x (record w { marks = m }) (record w { marks = n }) in_hand
+  PaidFor-same node is w in_hand few = PaidFor-step node is w w.stack w.slots in_hand (λ frames. frames) (omega arith)
 
   -- on to the edges
-  pub Goes-edges : (node : Node) → slice_get nfa.states s ≡ Some node → pattern_of node ≡ None → slot_of node ≡ None
+  pub Carries-edges : (node : Node) → slice_get nfa.states s ≡ Some node → pattern_of node ≡ None
+      → slot_of node ≡ None
       → (es : List Pair) → edges_of x node at ≡ es → (rest : List Task) (slots : Slots)
       → Carries nfa x m (Explore (s, at) ∷ rest) slots n (map Explore es ++ rest) slots
-  Goes-edges node is plain writes es leads rest slots = search (rules, Carries-plain)
+  Carries-edges node is plain writes es leads rest slots = search (rules, Carries-plain)
 
-  -- a state that reads a byte
-  pub Goes-stuck : IsByteStep nfa x (s, at) None → (rest : List Task) (slots : Slots)
-      → Carries nfa x m (Explore (s, at) ∷ rest) slots n rest slots
-  Goes-stuck b = Goes-edges b.node b.is (reads-plain b.node b.reads) (reads-unwritten b.node b.reads) []
-      (step-edges nfa x s at None b)
-
-  pub Goes-byte : (q : ℕ) → IsByteStep nfa x (s, at) (Some q) → (rest : List Task) (slots : Slots)
-      → Carries nfa x m (Explore (s, at) ∷ rest) slots n (Explore (q, at + 1) ∷ rest) slots
-  Goes-byte q b = Goes-edges b.node b.is (reads-plain b.node b.reads) (reads-unwritten b.node b.reads)
-      ((q, at + 1) ∷ []) (step-edges nfa x s at (Some q) b)
-
-  pub IsStatePos-byte : (q : ℕ) → IsByteStep nfa x (s, at) (Some q) → (row : ℕ)
-      → row ≡ (at - x.start) * length nfa.states → (states : ℕ) → states ≡ length nfa.states
-      → IsStatePos nfa x (record { sid = q; at = at + 1; row = row + states })
-  IsStatePos-byte q b row placed states wide = search (rules, target-below)
-
-  -- an assertion
-  module _ (look : looks.Look) (next : ℕ) (is : slice_get nfa.states s ≡ Some (Look look next)) (rest : List Task)
-      (slots : Slots) where
-    pub Goes-look : look_holds look x.haystack at ≡ true
-        → Carries nfa x m (Explore (s, at) ∷ rest) slots n (Explore (next, at) ∷ rest) slots
-    unfolding edges_of
-    Goes-look holds = Goes-edges (Look look next) is refl refl ((next, at) ∷ []) (rw holds refl) rest slots
-
-    pub Goes-no_look : look_holds look x.haystack at ≡ false
-        → Carries nfa x m (Explore (s, at) ∷ rest) slots n rest slots
-    unfolding edges_of
-    Goes-no_look fails = Goes-edges (Look look next) is refl refl [] (rw fails refl) rest slots
-
-  -- alternatives
-  module _ (alternates : List ℕ) (is : slice_get nfa.states s ≡ Some (Union alternates)) (slots : Slots) where
-    pub Goes-no_union : slice_get alternates 0 ≡ None → (rest : List Task)
-        → Carries nfa x m (Explore (s, at) ∷ rest) slots n rest slots
-    unfolding edges_of
-    Goes-no_union none rest = Goes-edges (Union alternates) is refl refl []
-        (ap (map (λ q. (q, at))) (none-nil alternates none)) rest slots
-
-  pub Goes-both : (alt1 alt2 : ℕ) → slice_get nfa.states s ≡ Some (BinaryUnion alt1 alt2)
-      → (slots : Slots) (stack : List Frame) (work : List Task) (row : ℕ)
-      → Carries nfa x m (Explore (s, at) ∷ stacked stack work) slots n
-      (Explore (alt1, at) ∷ stacked (stack ++ Step alt2 at row ∷ []) work) slots
-  unfolding edges_of
-  Goes-both alt1 alt2 is slots stack work row =
-      rw (stacked-push stack (Step alt2 at row) work)
-      (Goes-edges (BinaryUnion alt1 alt2) is refl refl ((alt1, at) ∷ (alt2, at) ∷ []) refl (stacked stack work) slots)
-
-  -- a Capture, whose slot is tracked or is not
-  module _ (next slot : ℕ) (is : slice_get nfa.states s ≡ Some (Capture next slot)) (slots : Slots) (stack : List Frame)
-      (work : List Task) where
-    pub Goes-write : Carries nfa x m (Explore (s, at) ∷ stacked stack work) slots n
-        (Explore (next, at) ∷ stacked (stack ++ restoring slot (get_or slots slot None) ∷ []) work)
-        (set slots slot (Some at))
-    Goes-write = search (rules, Carries-write, stacked-push, work_item-restoring)
-
-    pub Goes-unkept : length slots ≤ slot
-        → Carries nfa x m (Explore (s, at) ∷ stacked stack work) slots n (Explore (next, at) ∷ stacked stack work)
-        slots
-    Goes-unkept past = search (rules, Carries-unkept)
+  -- a state that pushes nothing and writes no slot, with one edge or none
+  TurnsLead-plain : (node : Node) → slice_get nfa.states s ≡ Some node → pattern_of node ≡ None → slot_of node ≡ None
+      → (place : Option StatePos) → edges_of x node at ≡ option_to_list (option_map pair_of place)
+      → IsStatePosOr nfa x place → tries_of_state_pos place ≤ degree node → (w : Walk)
+      → TurnsLead nfa x (s, at) place (record w { marks = m }) (record w { marks = n })
+  TurnsLead-plain node is plain writes place leads goes few w = record {
+    goes = goes;
+    paid = PaidFor-same node is w (tries_of_state_pos place) few;
+    follows = λ work.
+        rw (← place-task place (stacked w.stack work))
+        (Carries-edges node is plain writes (option_to_list (option_map pair_of place)) leads (stacked w.stack work)
+        w.slots);
+  }
 
   -- a match
-  pub Goes-match : (pattern : ℕ) → slice_get nfa.states s ≡ Some (Match pattern) → (rest : List Task) (slots : Slots)
-      → (pattern_of (node_at nfa s) ≡ Some pattern)
-      × Ends nfa x m (Explore (s, at) ∷ rest) slots (Some ((s, at), slots)) n.turns
-  Goes-match pattern is rest slots = (
-    rw (node_at-get nfa s (Match pattern) is) refl,
-    search (rules, Ends-match),
+  pub Goes-match : (pattern : PatternID) → slice_get nfa.states s ≡ Some (Match (number_of pattern)) → (w : Walk)
+      → Goes nfa x (s, at) (Matched pattern) (record w { marks = m }) (record w { marks = n })
+  Goes-match pattern is w = (
+    rw (node_at-get nfa s (Match (number_of pattern)) is) refl,
+    PaidFor-same (Match (number_of pattern)) is w 0 (omega arith),
+    λ work. search (rules, Ends-match),
   )
+
+  module _ (row : ℕ) (placed : row ≡ (at - x.start) * length nfa.states) where
+    -- another state at this position
+    pub beside : (q : ℕ) → q < length nfa.states → IsStatePos nfa x (record { sid = q; at = at; row = row })
+    beside q below = record { state = below; from = t.from; to = t.to; row = placed }
+
+    -- a state that reads a byte
+    pub TurnsLead-stop : IsByteStep nfa x (s, at) None → (w : Walk)
+        → TurnsLead nfa x (s, at) None (record w { marks = m }) (record w { marks = n })
+    TurnsLead-stop b = TurnsLead-plain b.node b.is (reads-plain b.node b.reads) (reads-unwritten b.node b.reads) None
+        (step-edges nfa x s at None b) tt (omega arith)
+
+    pub TurnsLead-byte : (q : ℕ) → IsByteStep nfa x (s, at) (Some q) → (states : ℕ) → states ≡ length nfa.states
+        → (w : Walk) → TurnsLead nfa x (s, at) (Some (record { sid = q; at = at + 1; row = row + states }))
+        (record w { marks = m }) (record w { marks = n })
+    TurnsLead-byte q b states wide =
+        let read = read-byte (target_on b.node) (byte_at x at) q b.leads in
+        TurnsLead-plain b.node b.is (reads-plain b.node b.reads) (reads-unwritten b.node b.reads)
+        (Some (record { sid = q; at = at + 1; row = row + states }))
+        (step-edges nfa x s at (Some q) b) (search (rules, target-below)) (grind (arith, target-degree))
+
+    -- an assertion
+    module _ (look : looks.Look) (next : ℕ) (is : slice_get nfa.states s ≡ Some (Look look next)) where
+      pub TurnsLead-look : look_holds look x.haystack at ≡ true → next < length nfa.states → (w : Walk)
+          → TurnsLead nfa x (s, at) (Some (record { sid = next; at = at; row = row })) (record w { marks = m })
+          (record w { marks = n })
+      unfolding edges_of
+      TurnsLead-look holds below = TurnsLead-plain (Look look next) is refl refl
+          (Some (record { sid = next; at = at; row = row })) (rw holds refl) (beside next below) (omega arith)
+
+      pub TurnsLead-no_look : look_holds look x.haystack at ≡ false → (w : Walk)
+          → TurnsLead nfa x (s, at) None (record w { marks = m }) (record w { marks = n })
+      unfolding edges_of
+      TurnsLead-no_look fails = TurnsLead-plain (Look look next) is refl refl None (rw fails refl) tt (omega arith)
+
+    -- no alternatives
+    pub TurnsLead-no_union : (alternates : List ℕ) → slice_get nfa.states s ≡ Some (Union alternates)
+        → slice_get alternates 0 ≡ None → (w : Walk)
+        → TurnsLead nfa x (s, at) None (record w { marks = m }) (record w { marks = n })
+    unfolding edges_of
+    TurnsLead-no_union alternates is none = TurnsLead-plain (Union alternates) is refl refl None
+        (ap (map (λ q. (q, at))) (none-nil alternates none)) tt (omega arith)
+
+    -- two alternatives, of which the second is pushed
+    pub TurnsLead-union : (alt1 alt2 : ℕ) → slice_get nfa.states s ≡ Some (BinaryUnion alt1 alt2)
+        → alt1 < length nfa.states → alt2 < length nfa.states → (w : Walk)
+        → TurnsLead nfa x (s, at) (Some (record { sid = alt1; at = at; row = row })) (record w { marks = m })
+        (record w { stack = w.stack ++ Step alt2 at row ∷ []; marks = n })
+    unfolding edges_of
+    TurnsLead-union alt1 alt2 is into out w = record {
+      goes = beside alt1 into;
+      paid = PaidFor-step (BinaryUnion alt1 alt2) is w (w.stack ++ Step alt2 at row ∷ []) w.slots 1
+          (λ frames. All-push (IsFrame nfa x (length w.slots)) w.stack (Step alt2 at row) frames (beside alt2 out))
+          (omega (arith, sum_by_push frame_tries w.stack (Step alt2 at row)));
+      follows = λ work.
+          rw (stacked-push w.stack (Step alt2 at row) work)
+          (Carries-edges (BinaryUnion alt1 alt2) is refl refl ((alt1, at) ∷ (alt2, at) ∷ []) refl
+          (stacked w.stack work) w.slots);
+    }
+
+    -- a Capture, whose slot is tracked or is not
+    module _ (next slot : ℕ) (is : slice_get nfa.states s ≡ Some (Capture next slot)) (below : next < length nfa.states)
+        (w : Walk) where
+      pub TurnsLead-write : slot < length w.slots
+          → TurnsLead nfa x (s, at) (Some (record { sid = next; at = at; row = row })) (record w { marks = m }) (record {
+            stack = w.stack ++ restoring slot (get_or w.slots slot None) ∷ [];
+            marks = n;
+            slots = set w.slots slot (Some at);
+          })
+      TurnsLead-write tracked =
+          let frame = restoring slot (get_or w.slots slot None) in
+          record {
+            goes = beside next below;
+            paid = PaidFor-step (Capture next slot) is w (w.stack ++ frame ∷ []) (set w.slots slot (Some at)) 1
+                (λ frames. rw length-set (All-push (IsFrame nfa x (length w.slots)) w.stack frame frames
+                (IsFrame-restoring nfa x (length w.slots) slot (get_or w.slots slot None) tracked)))
+                (omega (arith, sum_by_push frame_tries w.stack frame, tries-restoring slot (get_or w.slots slot None)));
+            follows = search (rules, Carries-write, stacked-push, work_item-restoring);
+          }
+
+      pub TurnsLead-unkept : length w.slots ≤ slot
+          → TurnsLead nfa x (s, at) (Some (record { sid = next; at = at; row = row })) (record w { marks = m })
+          (record w { marks = n })
+      TurnsLead-unkept past = record {
+        goes = beside next below;
+        paid = PaidFor-same (Capture next slot) is w 1 (omega arith);
+        follows = search (rules, Carries-unkept);
+      }

@@ -24,7 +24,7 @@ use Rattle.nfa_paths.proofs.SearchLemmas.{Answer-write, Answer-unkept}
 use Rattle.nfa_paths.proofs.TurnLemmas.{marked_sum-set, sum-repeated, get_or-repeated}
 use Rattle.nfa_scan_core.specs.Marks.{Marks}
 use Rattle.regex_search_core.specs.declared.search.HalfMatch.{HalfMatch}
-use Rattle.nfa_backtrack_scan.specs.Walk.{bit_of, HasBits, IsMarked, Agrees, weights, WalkAnswer, Carries, Ends, EndsAt}
+use Rattle.nfa_backtrack_scan.specs.Walk.{bit_of, IsMarked, Agrees, weights, Walk, WalkAnswer, Carries, Ends, EndsAt}
 use Rattle.nfa_paths.proofs.StartLemmas.{node_at-get}
 use Rattle.nfa_scan_core.proofs.SeenLemmas.{none-set}
 
@@ -212,7 +212,6 @@ module _ (nfa : Automaton) (x : Search) where
   Ends-none m s = grind (arith, Answer-none)
 
   -- steps before the end
-  pub EndsAt-along : {half : HalfMatch} {m : Marks} {w : List Task} {s : Slots} {n : Marks} {y : List Task}
-      {t written : Slots} {turns : ℕ}
-      → Carries nfa x m w s n y t → EndsAt nfa x half n y t written turns → EndsAt nfa x half m w s written turns
+  pub EndsAt-along : {half : HalfMatch} {a b c : Walk} {w y : List Task}
+      → Carries nfa x a.marks w a.slots b.marks y b.slots → EndsAt nfa x half b y c → EndsAt nfa x half a w c
   EndsAt-along f e = record { state = e.state; matches = e.matches; ends = Carries-ends f e.ends }

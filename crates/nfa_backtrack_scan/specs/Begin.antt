@@ -10,9 +10,8 @@ use Rattle.nfa_paths.specs.Exploring.{Slots, Task}
 use Rattle.nfa_paths.specs.Exploring.Task.{Explore as ToExplore, Restore as ToRestore}
 use Rattle.nfa_paths.specs.Turns.{marked_sum}
 use Rattle.nfa_scan_core.specs.Marks.{Marks}
-use Rattle.nfa_backtrack_scan.specs.Walk.{pair_of, weights, IsStatePos, Carries, EndsAt}
+use Rattle.nfa_backtrack_scan.specs.Walk.{pair_of, weights, Carries, EndsAt, IsStatePos, Walk}
 use Rattle.nfa_backtrack_scan.specs.declared.frame.StatePos.{StatePos}
-use Rattle.nfa_backtrack_scan.specs.declared.frame.Frame.{Frame}
 
 -- some work, with the slot that was written restored before it
 abbrev pub kept_onto : Option ℕ → Option ℕ → List Task → List Task
@@ -23,38 +22,40 @@ kept_onto (Some slot) old work = ToRestore slot old ∷ work
 abbrev pub start_tasks : ℕ → ℕ → ℕ → List Task
 start_tasks state at count = map ToExplore (pairs_from state at count)
 
+-- a walk with no frames
+abbrev pub without_frames : Marks → Slots → Walk
+without_frames marks slots = record { stack = []; marks = marks; slots = slots }
+
 module _ (nfa : Automaton) (x : Search) where
   -- A walk from v goes on at the place, and the marks pay for the tries. The slot that was written, if any, is the one
   -- that v's state writes.
-  pub record BeginsAt (v : Pair) (place : StatePos) (marks : Marks) (slots : Slots) (marked : Marks) (written : Slots)
-      : Type 0 where
+  pub record BeginsAt (v : Pair) (place : StatePos) (old new : Walk) : Type 0 where
     pub is_place : IsStatePos nfa x place
     pub slot : Option ℕ
-    pub old : Option ℕ
+    pub before : Option ℕ
     pub own : ForSome slot (λ k. slot_of (node_at nfa v.0) ≡ Some k)
     pub follows : (work : List Task)
-        → Carries nfa x marks (ToExplore v ∷ work) slots marked
-        (ToExplore (pair_of place) ∷ kept_onto slot old work) written
-    pub spent : marked.turns + marked_sum (weights nfa x) marks.bits
-        ≤ marks.turns + marked_sum (weights nfa x) marked.bits
+        → Carries nfa x old.marks (ToExplore v ∷ work) old.slots new.marks
+        (ToExplore (pair_of place) ∷ kept_onto slot before work) new.slots
+    pub spent : new.marks.turns + marked_sum (weights nfa x) old.marks.bits
+        ≤ old.marks.turns + marked_sum (weights nfa x) new.marks.bits
 
   -- Nothing was found at v, and the marks pay for the tries. The slots are as later starts of this state may find them:
   -- each writes what the first turn at v wrote.
-  pub record StartFails (v : Pair) (marks : Marks) (slots : Slots) (after : List Frame) (marked : Marks)
-      (written : Slots) : Type 0 where
-    pub empty : after ≡ []
+  pub record StartFails (v : Pair) (old new : Walk) : Type 0 where
+    pub empty : new.stack ≡ []
     pub follows : (at count : ℕ)
-        → Carries nfa x marks (ToExplore v ∷ start_tasks v.0 at count) slots marked (start_tasks v.0 at count) written
-    pub spent : marked.turns + marked_sum (weights nfa x) marks.bits
-        ≤ marks.turns + 1 + marked_sum (weights nfa x) marked.bits
+        → Carries nfa x old.marks (ToExplore v ∷ start_tasks v.0 at count) old.slots new.marks
+        (start_tasks v.0 at count) new.slots
+    pub spent : new.marks.turns + marked_sum (weights nfa x) old.marks.bits
+        ≤ old.marks.turns + 1 + marked_sum (weights nfa x) new.marks.bits
 
   -- the result of the first turn, if one was taken
-  abbrev pub Begins : Pair → Option StatePos → Marks → Slots → Marks → Slots → Type 0
-  Begins v None marks slots marked written = StartFails v marks slots [] marked written
-  Begins v (Some place) marks slots marked written = BeginsAt v place marks slots marked written
+  abbrev pub Begins : Pair → Option StatePos → Walk → Walk → Type 0
+  Begins v None old new = StartFails v old new
+  Begins v (Some place) old new = BeginsAt v place old new
 
   -- the result of a walk from a start v
-  abbrev pub StartGives : Pair → Option HalfMatch → Marks → Slots → List Frame → Marks → Slots → Type 0
-  StartGives v None marks slots after marked written = StartFails v marks slots after marked written
-  StartGives v (Some half) marks slots after marked written =
-      (work : List Task) → EndsAt nfa x half marks (ToExplore v ∷ work) slots written marked.turns
+  abbrev pub StartGives : Pair → Option HalfMatch → Walk → Walk → Type 0
+  StartGives v None old new = StartFails v old new
+  StartGives v (Some half) old new = (work : List Task) → EndsAt nfa x half old (ToExplore v ∷ work) new

@@ -23,10 +23,21 @@ use Rattle.nfa_scan_core.specs.Marks.{Marks}
 use Rattle.nfa_backtrack_scan.specs.declared.frame.StatePos.{StatePos}
 use Rattle.nfa_backtrack_scan.specs.declared.frame.Frame.{Frame}
 use Rattle.nfa_backtrack_scan.specs.declared.frame.Frame.TheVariants.{Step, Restore, Clear}
+use Rattle.nfa_backtrack_scan.specs.declared.scratch.Scratch.{Scratch}
 use Rattle.nfa_backtrack_scan.specs.declared.walk.Move.{Move}
 use Rattle.nfa_backtrack_scan.specs.declared.walk.Move.TheVariants.{On, DeadEnd, Matched}
 use Rattle.nfa_backtrack_scan.specs.declared.walk.Outcome.{Outcome}
 use Rattle.nfa_backtrack_scan.specs.declared.walk.Outcome.TheVariants.{On, Matched, Failed}
+
+-- where a walk is: the frames that are left, the marks and the slots
+pub record Walk : Type 0 where
+  pub stack : List Frame
+  pub marks : Marks
+  pub slots : Slots
+
+-- a walk that uses this scratch memory and these slots
+abbrev pub walk_of : Scratch → Slots → Walk
+walk_of scratch slots = record { stack = scratch.stack.items; marks = scratch.visited; slots = slots }
 
 -- the state and position of a place
 abbrev pub pair_of : StatePos → Pair
@@ -89,15 +100,10 @@ abbrev pub tries_of_state_pos : Option StatePos → ℕ
 tries_of_state_pos None = 0
 tries_of_state_pos (Some place) = 1
 
-abbrev pub tries_of_move : Move → ℕ
-tries_of_move (On place) = 1
-tries_of_move DeadEnd = 0
-tries_of_move (Matched pattern) = 0
-
-abbrev pub tries_of_outcome : Outcome → ℕ
-tries_of_outcome (On place) = 1
-tries_of_outcome (Matched half) = 0
-tries_of_outcome Failed = 0
+-- the outcome of a walk that is over
+abbrev pub outcome_of : Option HalfMatch → Outcome
+outcome_of None = Failed
+outcome_of (Some half) = Matched half
 
 -- The pair's state reads a byte, and the target is where the byte at the position leads, if it leads anywhere.
 pub record IsByteStep (nfa : Automaton) (x : Search) (v : Pair) (target : Option ℕ) : Type 0 where
@@ -189,13 +195,16 @@ module _ (nfa : Automaton) (x : Search) where
     pub same : marked.bits ≡ marks.bits
     pub counted : marked.turns ≡ marks.turns + 1
 
+  -- the frames are of this search
+  abbrev pub HasFrames : Walk → Type 0
+  HasFrames walk = All (IsFrame (length walk.slots)) walk.stack
+
   -- The marks pay for what the turns pushed, and for the turns beyond the first. `in_hand` is 1 if they go on at a
   -- place.
-  pub record PaidFor (count : ℕ) (stack : List Frame) (marks : Marks) (after : List Frame) (marked : Marks)
-      (in_hand : ℕ) : Type 0 where
-    pub within : All (IsFrame count) after
-    pub tried : marked.turns + sum_by frame_tries after + in_hand + marked_sum weights marks.bits
-        ≤ marks.turns + 1 + sum_by frame_tries stack + marked_sum weights marked.bits
+  pub record PaidFor (old new : Walk) (in_hand : ℕ) : Type 0 where
+    pub within : HasFrames old → HasFrames new
+    pub tried : new.marks.turns + sum_by frame_tries new.stack + in_hand + marked_sum weights old.marks.bits
+        ≤ old.marks.turns + 1 + sum_by frame_tries old.stack + marked_sum weights new.marks.bits
 
   -- Turns that end because allocation failed: those beyond the first are no more than the frames and all weights allow.
   abbrev pub IsAfforded : List Frame → Marks → Marks → Type 0
@@ -214,61 +223,35 @@ module _ (nfa : Automaton) (x : Search) where
     pub grows : marks.turns ≤ turns
     pub answer : (left : ℕ) → marks.turns + left ≡ turns → WalkAnswer left marks.bits work slots g
 
-  -- the result of a turn at v
-  abbrev pub Goes : Pair → Move → List Frame → Marks → Slots → List Frame → Marks → Slots → Type 0
-  Goes v (On place) stack marks slots after marked written =
-      IsStatePos place
-      × ((work : List Task) → Carries marks (ToExplore v ∷ stacked stack work) slots marked
-      (ToExplore (pair_of place) ∷ stacked after work) written)
-  Goes v DeadEnd stack marks slots after marked written =
-      (work : List Task) → Carries marks (ToExplore v ∷ stacked stack work) slots marked (stacked after work)
-      written
-  Goes v (Matched pattern) stack marks slots after marked written =
-      (pattern_of (node_at nfa v.0) ≡ Some (number_of pattern))
-      × ((work : List Task) → Ends marks (ToExplore v ∷ stacked stack work) slots (Some (v, written)) marked.turns)
-
-  -- The result of turns from v on that write no slot and meet no match: the search goes on at the place or, if there is
-  -- none, with the frames of the stack.
-  pub record TurnsLead (v : Pair) (place : Option StatePos) (stack : List Frame) (marks : Marks) (after : List Frame)
-      (marked : Marks) : Type 0 where
+  -- The result of turns from v on that meet no match: the search goes on at the place or, if there is none, with the
+  -- frames of the stack.
+  pub record TurnsLead (v : Pair) (place : Option StatePos) (old new : Walk) : Type 0 where
     pub goes : IsStatePosOr place
-    pub within : (count : ℕ) → All (IsFrame count) stack → All (IsFrame count) after
-    pub tried : marked.turns + sum_by frame_tries after + tries_of_state_pos place + marked_sum weights marks.bits
-        ≤ marks.turns + 1 + sum_by frame_tries stack + marked_sum weights marked.bits
-    pub follows : (work : List Task) (slots : Slots) → Carries marks (ToExplore v ∷ stacked stack work) slots marked
-        (with_state_pos place (stacked after work)) slots
+    pub paid : PaidFor old new (tries_of_state_pos place)
+    pub follows : (work : List Task) → Carries old.marks (ToExplore v ∷ stacked old.stack work) old.slots new.marks
+        (with_state_pos place (stacked new.stack work)) new.slots
 
-  -- the search ends at a match: its state is one of the pattern, and its position is the end
-  pub record EndsAt (half : HalfMatch) (marks : Marks) (work : List Task) (slots : Slots) (written : Slots) (turns : ℕ)
-      : Type 0 where
+  -- the search of this work ends at a match: its state is one of the pattern, and its position is the end
+  pub record EndsAt (half : HalfMatch) (old : Walk) (work : List Task) (new : Walk) : Type 0 where
     pub state : ℕ
     pub matches : pattern_of (node_at nfa state) ≡ Some (half_found_of half).pattern
-    pub ends : Ends marks work slots (Some ((state, (half_found_of half).offset), written)) turns
+    pub ends : Ends old.marks work old.slots (Some ((state, (half_found_of half).offset), new.slots)) new.marks.turns
 
-  -- the result of a turn at v and, if the turn leads nowhere, of the frames after it
-  abbrev pub ComesTo : Pair → Outcome → List Frame → Marks → Slots → List Frame → Marks → Slots → Type 0
-  ComesTo v (On place) stack marks slots after marked written =
-      IsStatePos place
-      × ((work : List Task) → Carries marks (ToExplore v ∷ stacked stack work) slots marked
-      (ToExplore (pair_of place) ∷ stacked after work) written)
-  ComesTo v (Matched half) stack marks slots after marked written =
-      (work : List Task) → EndsAt half marks (ToExplore v ∷ stacked stack work) slots written marked.turns
-  ComesTo v Failed stack marks slots after marked written =
-      (after ≡ []) × ((work : List Task) → Carries marks (ToExplore v ∷ stacked stack work) slots marked work written)
+  -- the result of a turn at v
+  abbrev pub Goes : Pair → Move → Walk → Walk → Type 0
+  Goes v (On place) old new = TurnsLead v (Some place) old new
+  Goes v DeadEnd old new = TurnsLead v None old new
+  Goes v (Matched pattern) old new =
+      (pattern_of (node_at nfa v.0) ≡ Some (number_of pattern)) × PaidFor old new 0
+      × ((work : List Task) → Ends old.marks (ToExplore v ∷ stacked old.stack work) old.slots (Some (v, new.slots))
+      new.marks.turns)
 
-  -- nothing was found at v, and the marks pay for the tries
-  pub record WalkFails (v : Pair) (marks : Marks) (slots : Slots) (after : List Frame) (marked : Marks)
-      (written : Slots) :
-      Type 0 where
-    pub empty : after ≡ []
-    pub follows : (work : List Task) → Carries marks (ToExplore v ∷ work) slots marked work written
-    pub spent : marked.turns + marked_sum weights marks.bits ≤ marks.turns + 1 + marked_sum weights marked.bits
-
-  -- the result of a walk from v
-  abbrev pub Walks : Pair → Option HalfMatch → Marks → Slots → List Frame → Marks → Slots → Type 0
-  Walks v None marks slots after marked written = WalkFails v marks slots after marked written
-  Walks v (Some half) marks slots after marked written =
-      (work : List Task) → EndsAt half marks (ToExplore v ∷ work) slots written marked.turns
+  -- the result of turns from v on and, if they lead nowhere, of the frames after them
+  abbrev pub ComesTo : Pair → Outcome → Walk → Walk → Type 0
+  ComesTo v (On place) old new = TurnsLead v (Some place) old new
+  ComesTo v (Matched half) old new =
+      PaidFor old new 0 × ((work : List Task) → EndsAt half old (ToExplore v ∷ stacked old.stack work) new)
+  ComesTo v Failed old new = (new.stack ≡ []) × TurnsLead v None old new
 
   -- the result of the search from all starts, in this number of turns
   abbrev pub StartsGive : Option HalfMatch → Slots → ℕ → Type 0
@@ -283,27 +266,24 @@ pub record MayLoop (nfa : Automaton) (x : Search) (body : StatePos) (exit : ℕ)
   pub room : HasBits nfa x bits
 
 -- A turn may be taken at the place: the states are those of the NFA, and the frames are of this search.
-pub record MayStep (nfa : Automaton) (states : List State) (x : Search) (place : StatePos) (count : ℕ)
-    (stack : List Frame) (bits : List Bool) : Type 0 where
+pub record MayStep (nfa : Automaton) (states : List State) (x : Search) (place : StatePos) (walk : Walk) : Type 0 where
   pub states_are : map node_of states ≡ nfa.states
   pub valid : IsAutomaton nfa
   pub is_place : IsStatePos nfa x place
-  pub room : HasBits nfa x bits
-  pub within : All (IsFrame nfa x count) stack
+  pub room : HasBits nfa x walk.marks.bits
+  pub within : HasFrames nfa x walk
 
 -- A walk may go on from the place: there is room for the marks, and no frame waits.
-pub record MayWalk (nfa : Automaton) (x : Search) (place : StatePos) (stack : List Frame) (bits : List Bool) : Type 0
-  where
-    pub is_place : IsStatePos nfa x place
-    pub room : HasBits nfa x bits
-    pub empty : stack ≡ []
+pub record MayWalk (nfa : Automaton) (x : Search) (place : StatePos) (walk : Walk) : Type 0 where
+  pub is_place : IsStatePos nfa x place
+  pub room : HasBits nfa x walk.marks.bits
+  pub empty : walk.stack ≡ []
 
 -- The starts of a search may be tried: the table of first bytes is that of the NFA, no pair is marked, no frame waits
 -- and no slot is set.
-pub record MayTryStarts (nfa : Automaton) (table : List Bool) (x : Search) (stack : List Frame) (bits : List Bool)
-    (slots : Slots) : Type 0 where
+pub record MayTryStarts (nfa : Automaton) (table : List Bool) (x : Search) (walk : Walk) : Type 0 where
   pub first : IsFirstBytes nfa table
-  pub room : HasBits nfa x bits
-  pub clear : bits ≡ replicate (length bits) false
-  pub empty : stack ≡ []
-  pub unset : slots ≡ replicate (length slots) None
+  pub room : HasBits nfa x walk.marks.bits
+  pub clear : walk.marks.bits ≡ replicate (length walk.marks.bits) false
+  pub empty : walk.stack ≡ []
+  pub unset : walk.slots ≡ replicate (length walk.slots) None

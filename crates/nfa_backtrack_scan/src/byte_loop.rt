@@ -1,14 +1,14 @@
 //! A loop over one byte: a byte state and a union that prefers it, run turn by turn.
-ghost use Rattle.std.specs.Prelude.{◌≡◌, ◌+◌, ◌<◌, ◌≤◌, None, Some, List, length, map, slice_get, IfOk, OnErr, OnOk};
+ghost use Rattle.std.specs.Prelude.{◌≡◌, ◌+◌, ◌<◌, ◌≤◌, None, Some, length, map, slice_get, IfOk, OnErr, OnOk};
 ghost use Rattle.std.specs.Prelude.{IfNone};
 ghost use Rattle.std.specs.Option.{ForSome};
 ghost use Rattle.regex_search_core.specs.Search.{search_of};
 ghost use Rattle.thompson_nfa.specs.Automaton.{IsAutomaton, node_of};
 ghost use Rattle.thompson_nfa.specs.Automaton.Node.{ByteRange, BinaryUnion};
 ghost use Rattle.thompson_nfa.specs.declared.state.Transition.{Transition};
+ghost use Rattle.nfa_paths.specs.Exploring.{Slots};
 ghost use Rattle.nfa_backtrack_scan.specs.Walk.{pair_of, loops_on_byte, IsStatePos, HasBits, IsAfforded, IsByteLoop};
-ghost use Rattle.nfa_backtrack_scan.specs.Walk.{LoopsTwice, MayLoop, TurnsLead};
-ghost use Rattle.nfa_backtrack_scan.specs.declared.frame.Frame.{Frame};
+ghost use Rattle.nfa_backtrack_scan.specs.Walk.{walk_of, LoopsTwice, MayLoop, TurnsLead, Walk};
 
 use crate::frame::StatePos;
 use crate::scratch::Scratch;
@@ -85,8 +85,8 @@ fn step_byte(
     ensures size { length visited.new.bits ≡ length visited.old.bits }
     ensures state { ForSome result (λ next. next.sid ≡ trans.now.next) }
     ensures further { ForSome result (λ next. next.at ≡ place.at + 1) }
-    ensures leads { (stack : List Frame) → TurnsLead nfa.now (search_of input.now) (pair_of place) result stack
-        visited.old stack visited.new }
+    ensures leads { (walk : Walk) → TurnsLead nfa.now (search_of input.now) (pair_of place) result
+        (record walk { marks = visited.old }) (record walk { marks = visited.new }) }
 {
     let StatePos { at, row, .. } = place;
     if !mark(nfa, input, place, visited) {
@@ -124,8 +124,8 @@ fn push_exit(
     ensures size { length scratch.new.visited.bits ≡ length scratch.old.visited.bits }
     ensures state { IfOk result (λ next. ForSome next (λ to. to.sid ≡ body)) }
     ensures here { IfOk result (λ next. ForSome next (λ to. to.at ≡ union.at)) }
-    ensures leads { IfOk result (λ next. TurnsLead nfa.now (search_of input.now) (pair_of union) next
-        scratch.old.stack.items scratch.old.visited scratch.new.stack.items scratch.new.visited) }
+    ensures leads { IfOk result (λ next. (slots : Slots) → TurnsLead nfa.now (search_of input.now) (pair_of union) next
+        (walk_of scratch.old slots) (walk_of scratch.new slots)) }
     ensures refused { OnErr result (IsAfforded nfa.now (search_of input.now) scratch.old.stack.items scratch.old.visited
         scratch.new.visited) }
 {
@@ -154,8 +154,8 @@ fn run_byte_loop(
     ensures turns { scratch.old.visited.turns ≤ scratch.new.visited.turns }
     ensures scans { scratch.new.scans ≡ scratch.old.scans }
     ensures size { length scratch.new.visited.bits ≡ length scratch.old.visited.bits }
-    ensures leads { OnOk result (TurnsLead nfa.now (search_of input.now) (pair_of body) None
-        scratch.old.stack.items scratch.old.visited scratch.new.stack.items scratch.new.visited) }
+    ensures leads { OnOk result ((slots : Slots) → TurnsLead nfa.now (search_of input.now) (pair_of body) None
+        (walk_of scratch.old slots) (walk_of scratch.new slots)) }
     ensures refused { OnErr result (IsAfforded nfa.now (search_of input.now) scratch.old.stack.items scratch.old.visited
         scratch.new.visited) }
 {
@@ -189,8 +189,8 @@ pub fn run_loop(
     ensures turns { scratch.old.visited.turns ≤ scratch.new.visited.turns }
     ensures scans { scratch.new.scans ≡ scratch.old.scans }
     ensures size { length scratch.new.visited.bits ≡ length scratch.old.visited.bits }
-    ensures leads { OnOk result (TurnsLead nfa.now (search_of input.now) (pair_of body) None
-        scratch.old.stack.items scratch.old.visited scratch.new.stack.items scratch.new.visited) }
+    ensures leads { OnOk result ((slots : Slots) → TurnsLead nfa.now (search_of input.now) (pair_of body) None
+        (walk_of scratch.old slots) (walk_of scratch.new slots)) }
     ensures refused { OnErr result (IsAfforded nfa.now (search_of input.now) scratch.old.stack.items scratch.old.visited
         scratch.new.visited) }
 {

@@ -6,7 +6,7 @@ ghost use Rattle.regex_search_core.specs.declared.search.MatchKind.TheVariants.{
 ghost use Rattle.nfa_paths.specs.Paths.{span_len, start_count};
 ghost use Rattle.nfa_paths.specs.Restarts.{max_scan_turns, ScanGives};
 ghost use Rattle.nfa_scan_core.specs.FirstBytes.{IsFirstBytes, IsRefused};
-ghost use Rattle.nfa_backtrack_scan.specs.Walk.{pair_of, HasBits, IsStatePos, MayTryStarts, StartsGive};
+ghost use Rattle.nfa_backtrack_scan.specs.Walk.{pair_of, walk_of, HasBits, IsStatePos, MayTryStarts, StartsGive};
 
 use crate::frame::StatePos;
 use crate::scratch::Scratch;
@@ -67,8 +67,7 @@ fn try_starts(
     scratch: &mut Scratch,
     slots: &mut [Option<NonMaxUsize>],
 ) -> Result<Option<HalfMatch>, Refused>
-    requires ready { MayTryStarts nfa.now first.now.may_begin (search_of input.now) scratch.old.stack.items
-        scratch.old.visited.bits slots.old }
+    requires ready { MayTryStarts nfa.now first.now.may_begin (search_of input.now) (walk_of scratch.old slots.old) }
     ensures scans { scratch.new.scans ≡ scratch.old.scans }
     ensures size { length scratch.new.visited.bits ≡ length scratch.old.visited.bits }
     ensures turns { scratch.new.visited.turns ≤ scratch.old.visited.turns + max_scan_turns nfa.now

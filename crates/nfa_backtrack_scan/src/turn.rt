@@ -1,9 +1,9 @@
 //! The parts of a turn: the state at a place, the try to mark the place, and the turn at a byte state.
-ghost use Rattle.std.specs.Prelude.{◌≡◌, ◌+◌, ◌<◌, Some, true, false, List, length, map, slice_get};
+ghost use Rattle.std.specs.Prelude.{◌≡◌, ◌+◌, ◌<◌, Some, true, false, length, map, slice_get};
 ghost use Rattle.regex_search_core.specs.Search.{search_of};
 ghost use Rattle.thompson_nfa.specs.Automaton.{IsAutomaton, LeadsBelow, node_of};
-ghost use Rattle.nfa_backtrack_scan.specs.Walk.{pair_of, IsStatePos, HasBits, IsByteStep, Taken, TurnsLead, WasMarked};
-ghost use Rattle.nfa_backtrack_scan.specs.declared.frame.Frame.{Frame};
+ghost use Rattle.nfa_backtrack_scan.specs.Walk.{pair_of, HasBits, IsByteStep, IsStatePos, Taken, TurnsLead, Walk};
+ghost use Rattle.nfa_backtrack_scan.specs.Walk.{WasMarked};
 
 use crate::frame::StatePos;
 use crate::visited::Visited;
@@ -53,8 +53,8 @@ pub fn cross(
     requires room { HasBits nfa.now (search_of input.now) visited.old.bits }
     ensures turns { visited.new.turns ≡ visited.old.turns + 1 }
     ensures size { length visited.new.bits ≡ length visited.old.bits }
-    ensures leads { (stack : List Frame) → TurnsLead nfa.now (search_of input.now) (pair_of place) result stack
-        visited.old stack visited.new }
+    ensures leads { (walk : Walk) → TurnsLead nfa.now (search_of input.now) (pair_of place) result
+        (record walk { marks = visited.old }) (record walk { marks = visited.new }) }
 {
     let StatePos { at, row, .. } = place;
     let Some(sid) = target else {

@@ -12,14 +12,12 @@ ghost use Rattle.regex_search_core.specs.Search.{Search};
 ghost use Rattle.nfa_paths.specs.Paths.{byte_at};
 ghost use Rattle.nfa_paths.specs.Exploring.{Task};
 ghost use Rattle.nfa_paths.specs.Turns.{marked_sum};
-ghost use Rattle.nfa_backtrack_scan.specs.Begin.{Begins, StartGives};
+ghost use Rattle.nfa_backtrack_scan.specs.Begin.{without_frames, Begins, StartGives};
 ghost use Rattle.nfa_scan_core.specs.Marks.{Marks};
-ghost use Rattle.nfa_backtrack_scan.specs.Walk.{pair_of, stacked, restoring, move_to, frame_tries, tries_of_move};
-ghost use Rattle.nfa_backtrack_scan.specs.Walk.{tries_of_state_pos, tries_of_outcome, with_state_pos, WritesSlot};
-ghost use Rattle.nfa_backtrack_scan.specs.Walk.{AppliesFrame, IsStatePos};
-ghost use Rattle.nfa_backtrack_scan.specs.Walk.{IsStatePosOr, IsFrame, HasBits, PaidFor, Carries, Goes, ComesTo, Walks};
-ghost use Rattle.nfa_backtrack_scan.specs.Walk.{weights};
-ghost use Rattle.nfa_backtrack_scan.specs.Walk.{IsAfforded, MayStep, MayWalk};
+ghost use Rattle.nfa_backtrack_scan.specs.Walk.{pair_of, stacked, restoring, move_to, frame_tries, outcome_of, walk_of};
+ghost use Rattle.nfa_backtrack_scan.specs.Walk.{tries_of_state_pos, weights, with_state_pos, AppliesFrame, Carries};
+ghost use Rattle.nfa_backtrack_scan.specs.Walk.{ComesTo, Goes, HasBits, IsAfforded, IsFrame, IsStatePos, IsStatePosOr};
+ghost use Rattle.nfa_backtrack_scan.specs.Walk.{MayStep, MayWalk, WritesSlot};
 ghost use Rattle.nfa_backtrack_scan.specs.declared.frame.Frame.TheVariants.{Step};
 
 use crate::alternates::push_alternates;
@@ -124,17 +122,14 @@ fn step(
     scratch: &mut Scratch,
     slots: &mut [Option<NonMaxUsize>],
 ) -> Result<Move, Refused>
-    requires ready { MayStep nfa.now states.now (search_of input.now) place (length slots.old) scratch.old.stack.items
-        scratch.old.visited.bits }
+    requires ready { MayStep nfa.now states.now (search_of input.now) place (walk_of scratch.old slots.old) }
     ensures turns { scratch.old.visited.turns + 1 ≤ scratch.new.visited.turns }
     ensures scans { scratch.new.scans ≡ scratch.old.scans }
     ensures size { length scratch.new.visited.bits ≡ length scratch.old.visited.bits }
-    ensures paid { IfOk result (λ move. PaidFor nfa.now (search_of input.now) (length slots.old) scratch.old.stack.items
-        scratch.old.visited scratch.new.stack.items scratch.new.visited (tries_of_move move)) }
     ensures refused { OnErr result (IsAfforded nfa.now (search_of input.now) scratch.old.stack.items scratch.old.visited
         scratch.new.visited) }
-    ensures goes { IfOk result (λ move. Goes nfa.now (search_of input.now) (pair_of place) move scratch.old.stack.items
-        scratch.old.visited slots.old scratch.new.stack.items scratch.new.visited slots.new) }
+    ensures goes { IfOk result (λ move. Goes nfa.now (search_of input.now) (pair_of place) move
+        (walk_of scratch.old slots.old) (walk_of scratch.new slots.new)) }
 {
     let StatePos { sid, at, .. } = place;
     let count = states.len();
@@ -260,18 +255,14 @@ fn advance(
     scratch: &mut Scratch,
     slots: &mut [Option<NonMaxUsize>],
 ) -> Result<Outcome, Refused>
-    requires ready { MayStep nfa.now states.now (search_of input.now) place (length slots.old) scratch.old.stack.items
-        scratch.old.visited.bits }
+    requires ready { MayStep nfa.now states.now (search_of input.now) place (walk_of scratch.old slots.old) }
     ensures turns { scratch.old.visited.turns + 1 ≤ scratch.new.visited.turns }
     ensures scans { scratch.new.scans ≡ scratch.old.scans }
     ensures size { length scratch.new.visited.bits ≡ length scratch.old.visited.bits }
-    ensures paid { IfOk result (λ turn. PaidFor nfa.now (search_of input.now) (length slots.old) scratch.old.stack.items
-        scratch.old.visited scratch.new.stack.items scratch.new.visited (tries_of_outcome turn)) }
     ensures refused { OnErr result (IsAfforded nfa.now (search_of input.now) scratch.old.stack.items scratch.old.visited
         scratch.new.visited) }
-    ensures advances { IfOk result
-        (λ turn. ComesTo nfa.now (search_of input.now) (pair_of place) turn scratch.old.stack.items scratch.old.visited
-        slots.old scratch.new.stack.items scratch.new.visited slots.new) }
+    ensures advances { IfOk result (λ turn. ComesTo nfa.now (search_of input.now) (pair_of place) turn
+        (walk_of scratch.old slots.old) (walk_of scratch.new slots.new)) }
 {
     let at = place.at;
     match step(nfa, states, input, place, scratch, slots)? {
@@ -313,8 +304,8 @@ fn begin(
     requires place { IsStatePos nfa.now (search_of input.now) place }
     requires room { HasBits nfa.now (search_of input.now) visited.old.bits }
     ensures size { length visited.new.bits ≡ length visited.old.bits }
-    ensures begins { Begins nfa.now (search_of input.now) (pair_of place) result visited.old slots.old visited.new
-        slots.new }
+    ensures begins { Begins nfa.now (search_of input.now) (pair_of place) result
+        (without_frames visited.old slots.old) (without_frames visited.new slots.new) }
 {
     match state_at(nfa, nfa.states(), place.sid) {
         State::Capture { next, slot } => {
@@ -347,7 +338,7 @@ pub fn walk(
     ensures bounded { scratch.new.visited.turns + marked_sum (weights nfa.now (search_of input.now))
         scratch.old.visited.bits ≤ scratch.old.visited.turns + 1 + sum (weights nfa.now (search_of input.now)) }
     ensures walks { IfOk result (λ half. StartGives nfa.now (search_of input.now) (pair_of start) half
-        scratch.old.visited slots.old scratch.new.stack.items scratch.new.visited slots.new) }
+        (walk_of scratch.old slots.old) (walk_of scratch.new slots.new)) }
     ensures over { OnOk result (scratch.new.stack.items ≡ []) }
 {
     match begin(nfa, input, start, &mut scratch.visited, slots) {
@@ -371,13 +362,13 @@ fn walk_on(
     scratch: &mut Scratch,
     slots: &mut [Option<NonMaxUsize>],
 ) -> Result<Option<HalfMatch>, Refused>
-    requires ready { MayWalk nfa.now (search_of input.now) start scratch.old.stack.items scratch.old.visited.bits }
+    requires ready { MayWalk nfa.now (search_of input.now) start (walk_of scratch.old slots.old) }
     ensures scans { scratch.new.scans ≡ scratch.old.scans }
     ensures size { length scratch.new.visited.bits ≡ length scratch.old.visited.bits }
     ensures bounded { scratch.new.visited.turns + marked_sum (weights nfa.now (search_of input.now))
         scratch.old.visited.bits ≤ scratch.old.visited.turns + 1 + sum (weights nfa.now (search_of input.now)) }
-    ensures walks { IfOk result (λ half. Walks nfa.now (search_of input.now) (pair_of start) half scratch.old.visited
-        slots.old scratch.new.stack.items scratch.new.visited slots.new) }
+    ensures walks { IfOk result (λ half. ComesTo nfa.now (search_of input.now) (pair_of start) (outcome_of half)
+        (walk_of scratch.old slots.old) (walk_of scratch.new slots.new)) }
 {
     // Both are read at each place. As local values they need not be read again after each write, as values behind a
     // reference would.

@@ -1,30 +1,66 @@
 -- Rounds one after another, up to a turn that leads nowhere.
-use Rattle.std.proofs.Common.{◌∙◌, arith}
+use Rattle.std.proofs.Common.{[], ◌∙◌, arith, refl}
 use Rattle.regex_search_core.specs.Search.{search_of}
-use Rattle.nfa_backtrack_scan.proofs.ByteLoopLemmas.{TurnsLead-then}
+use Rattle.nfa_backtrack_scan.proofs.ByteLoopLemmas.{OnErr-always, IsAfforded-then, TurnsLead-none, TurnsLead-then}
+use Rattle.nfa_backtrack_scan.specs.Walk.{walk_of}
 use Rattle.nfa_backtrack_scan.proofs.byte_loop.run_byte_loop.Goals as goal
 
+pub loop-union-init : goal.loop-union-init
+loop-union-init c = record {
+  state = refl;
+  turns = omega arith;
+  scans = refl;
+  size = refl;
+  leads = λ slots.
+      TurnsLead-none c.args.nfa.now (search_of c.args.input.now) c.args.body c.requires.ready.is_place
+      (walk_of c.args.scratch.now slots);
+}
+
+pub step_byte-requires-clause-place : goal.step_byte-requires-clause-place
+step_byte-requires-clause-place c = (c.loop-union.invariant.leads []).goes
+
+pub push_exit-requires-clause-place : goal.push_exit-requires-clause-place
+push_exit-requires-clause-place c = (c.in-Some.ensures.leads (walk_of c.loop-union.scratch [])).goes
+
+pub returns-in_err-next-clause-refused : goal.returns-in_err-next-clause-refused
+returns-in_err-next-clause-refused c =
+    OnErr-always c.from_residual.result
+    (IsAfforded-then c.args.nfa.now (search_of c.args.input.now) c.push_exit.new.scratch.visited
+    (TurnsLead-then c.args.nfa.now (search_of c.args.input.now) (c.loop-union.invariant.leads [])
+    (c.in-Some.ensures.leads (walk_of c.loop-union.scratch [])))
+    c.in_err-next.ensures.refused)
+
+pub loop-union-smaller : goal.loop-union-smaller
+loop-union-smaller c =
+    let next = (c.in-Some.ensures.leads (walk_of c.loop-union.scratch [])).goes in
+    omega (
+      arith,
+      next.to,
+      c.in-Some.ensures.further c.in-Some.union refl,
+      c.in_ok-next.ensures.here c.in-Some-2.next c.in-Some-2.is,
+    )
+
 pub returns-in_default-clause-leads : goal.returns-in_default-clause-leads
-returns-in_default-clause-leads c =
-    TurnsLead-then c.args.nfa.now (search_of c.args.input.now) c.loop-union.invariant.leads
-    (c.in_default.ensures.leads c.loop-union.scratch.stack.items)
+returns-in_default-clause-leads c = λ slots.
+    TurnsLead-then c.args.nfa.now (search_of c.args.input.now) (c.loop-union.invariant.leads slots)
+    (c.in_default.ensures.leads (walk_of c.loop-union.scratch slots))
 
 pub returns-in_default-2-clause-leads : goal.returns-in_default-2-clause-leads
-returns-in_default-2-clause-leads c =
-    let over = TurnsLead-then c.args.nfa.now (search_of c.args.input.now) c.loop-union.invariant.leads
-    (c.in-Some.ensures.leads c.loop-union.scratch.stack.items) in
-    TurnsLead-then c.args.nfa.now (search_of c.args.input.now) over
-    (rw c.in_default-2.is at c.in_ok-next.ensures.leads)
+returns-in_default-2-clause-leads c = λ slots.
+    TurnsLead-then c.args.nfa.now (search_of c.args.input.now)
+    (TurnsLead-then c.args.nfa.now (search_of c.args.input.now) (c.loop-union.invariant.leads slots)
+    (c.in-Some.ensures.leads (walk_of c.loop-union.scratch slots)))
+    ((rw c.in_default-2.is at c.in_ok-next.ensures.leads) slots)
 
 pub loop-union-preserved : goal.loop-union-preserved
-loop-union-preserved c =
-    let over = TurnsLead-then c.args.nfa.now (search_of c.args.input.now) c.loop-union.invariant.leads
-    (c.in-Some.ensures.leads c.loop-union.scratch.stack.items) in
-    record {
-      state = c.in_ok-next.ensures.state c.in-Some-2.next c.in-Some-2.is;
-      turns = omega (arith, c.loop-union.invariant.turns, c.step_byte.ensures.turns, c.push_exit.ensures.turns);
-      scans = c.push_exit.ensures.scans ∙ c.loop-union.invariant.scans;
-      size = c.push_exit.ensures.size ∙ c.step_byte.ensures.size ∙ c.loop-union.invariant.size;
-      leads = TurnsLead-then c.args.nfa.now (search_of c.args.input.now) over
-          (rw c.in-Some-2.is at c.in_ok-next.ensures.leads);
-    }
+loop-union-preserved c = record {
+  state = c.in_ok-next.ensures.state c.in-Some-2.next c.in-Some-2.is;
+  turns = omega (arith, c.loop-union.invariant.turns, c.step_byte.ensures.turns, c.push_exit.ensures.turns);
+  scans = c.push_exit.ensures.scans ∙ c.loop-union.invariant.scans;
+  size = c.push_exit.ensures.size ∙ c.step_byte.ensures.size ∙ c.loop-union.invariant.size;
+  leads = λ slots.
+      TurnsLead-then c.args.nfa.now (search_of c.args.input.now)
+      (TurnsLead-then c.args.nfa.now (search_of c.args.input.now) (c.loop-union.invariant.leads slots)
+      (c.in-Some.ensures.leads (walk_of c.loop-union.scratch slots)))
+      ((rw c.in-Some-2.is at c.in_ok-next.ensures.leads) slots);
+}

@@ -3,7 +3,8 @@
 use Rattle.std.proofs.Common.{◌≡◌, ◌-◌, ◌≤◌, length}
 use Rattle.regex_search_core.specs.Search.{search_of}
 use Rattle.std.specs.Prelude.{Some}
-use Rattle.nfa_backtrack_scan.specs.Walk.{pair_of, TurnsLead}
+use Rattle.nfa_paths.specs.Exploring.{Slots}
+use Rattle.nfa_backtrack_scan.specs.Walk.{pair_of, walk_of, TurnsLead}
 use Rattle.nfa_backtrack_scan.proofs.byte_loop.run_byte_loop.Given as goal
 
 abbrev pub invariant-loop-union : goal.invariant-loop-union
@@ -12,8 +13,8 @@ invariant-loop-union l = record {
   turns : l.fn.scratch.visited.turns ≤ l.scratch.visited.turns;
   scans : l.scratch.scans ≡ l.fn.scratch.scans;
   size : length l.scratch.visited.bits ≡ length l.fn.scratch.visited.bits;
-  leads : TurnsLead l.nfa (search_of l.input) (pair_of l.body) (Some l.place) l.fn.scratch.stack.items
-      l.fn.scratch.visited l.scratch.stack.items l.scratch.visited;
+  leads : (slots : Slots) → TurnsLead l.nfa (search_of l.input) (pair_of l.body) (Some l.place)
+      (walk_of l.fn.scratch slots) (walk_of l.scratch slots);
 }
 
 -- the positions before the end of the span

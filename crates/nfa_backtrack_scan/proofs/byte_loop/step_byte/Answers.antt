@@ -2,17 +2,17 @@
 use Rattle.std.proofs.Common.{length}
 use Rattle.regex_search_core.specs.Search.{search_of}
 use Rattle.thompson_nfa.specs.Automaton.Node.{ByteRange}
-use Rattle.nfa_backtrack_scan.proofs.StepLemmas.{same_size}
-use Rattle.nfa_backtrack_scan.proofs.ByteLoopLemmas.{TurnsLead-marked, TurnsLead-stop, TurnsLead-byte}
+use Rattle.nfa_backtrack_scan.proofs.StepLemmas.{same_size, TurnsLead-byte, TurnsLead-stop}
+use Rattle.nfa_backtrack_scan.proofs.ByteLoopLemmas.{TurnsLead-marked}
 use Rattle.nfa_backtrack_scan.proofs.byte_loop.step_byte.Goals as goal
 
 pub returns-then-not-mark-clause-leads : goal.returns-then-not-mark-clause-leads
-returns-then-not-mark-clause-leads c = λ stack.
-    TurnsLead-marked c.args.nfa.now (search_of c.args.input.now) c.args.place.sid c.args.place.at stack
+returns-then-not-mark-clause-leads c =
+    TurnsLead-marked c.args.nfa.now (search_of c.args.input.now) c.args.place.sid c.args.place.at
     (c.mark.ensures.seen c.if-not-mark.true)
 
 pub returns-in-Some-clause-leads : goal.returns-in-Some-clause-leads
-returns-in-Some-clause-leads c = λ stack.
+returns-in-Some-clause-leads c =
     let t = c.mark.ensures.taken c.if-not-mark.false in
     TurnsLead-byte t c.args.place.row c.requires.place.row c.in-Some.sid
     (record {
@@ -22,10 +22,10 @@ returns-in-Some-clause-leads c = λ stack.
       below = c.requires.onto;
       leads = rw (← c.byte_at-byte.ensures) c.in-Some.ensures;
     })
-    stack (length c.states.result.now) (same_size c.args.nfa.now c.states.result.now c.states.ensures.nodes)
+    (length c.states.result.now) (same_size c.args.nfa.now c.states.result.now c.states.ensures.nodes)
 
 pub returns-in-None-clause-leads : goal.returns-in-None-clause-leads
-returns-in-None-clause-leads c = λ stack.
+returns-in-None-clause-leads c =
     let t = c.mark.ensures.taken c.if-not-mark.false in
     TurnsLead-stop t c.args.place.row c.requires.place.row
     (record {
@@ -35,4 +35,3 @@ returns-in-None-clause-leads c = λ stack.
       below = c.requires.onto;
       leads = rw (← c.byte_at-byte.ensures) c.in-None.ensures;
     })
-    stack

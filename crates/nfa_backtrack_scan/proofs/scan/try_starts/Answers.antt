@@ -5,6 +5,7 @@ use Rattle.regex_search_core.specs.Search.{search_of}
 use Rattle.nfa_paths.specs.Paths.{pairs_from}
 use Rattle.nfa_paths.specs.Exploring.Task.{Explore}
 use Rattle.nfa_paths.proofs.StartLemmas.{pairs_from-step, pairs_from-end}
+use Rattle.nfa_backtrack_scan.specs.Walk.{walk_of}
 use Rattle.nfa_backtrack_scan.proofs.PassLemmas.{Carries-first, Carries-pass}
 use Rattle.nfa_backtrack_scan.proofs.WalkLemmas.{Carries-then, Carries-ends, Ends-none, EndsAt-along}
 use Rattle.nfa_backtrack_scan.proofs.ScanLemmas.{starts-none, starts-some, turns-all, turns-bound}
@@ -32,9 +33,8 @@ returns-in-Some-2-clause-answer c =
     let size : length c.walk.new.slots ≡ length c.args.slots.now = c.walk.auto.slots ∙ c.loop-at.auto.slots in
     let unset : c.args.slots.now ≡ replicate (length c.walk.new.slots) None = c.requires.ready.unset ∙ ap
     (λ n. replicate n None) (sym size) in
-    starts-some c.args.nfa.now (search_of c.args.input.now) c.args.scratch.now.visited c.requires.ready.clear
-    c.args.slots.now
-    _ c.in-Some-2.half c.walk.new.slots unset
+    starts-some c.args.nfa.now (search_of c.args.input.now) (walk_of c.args.scratch.now c.args.slots.now)
+    c.requires.ready.clear c.in-Some-2.half (walk_of c.walk.new.scratch c.walk.new.slots) unset
     (EndsAt-along c.args.nfa.now (search_of c.args.input.now) follows (walks rest))
 
 pub loop-at-init : goal.loop-at-init
@@ -95,8 +95,7 @@ pub returns-clause-answer : goal.returns-clause-answer
 returns-clause-answer c =
     let over : c.start_limit-limit.result ≤ c.loop-at.at = c.loop-at-test.false in
     let follows = rw (pairs_from-end c.in-Some.sid over) at c.loop-at.invariant.follows in
-    starts-none c.args.nfa.now (search_of c.args.input.now) c.args.scratch.now.visited c.requires.ready.clear
-    c.args.slots.now
-    c.loop-at.scratch.visited.turns
+    starts-none c.args.nfa.now (search_of c.args.input.now) (walk_of c.args.scratch.now c.args.slots.now)
+    c.requires.ready.clear c.loop-at.scratch.visited.turns
     (Carries-ends c.args.nfa.now (search_of c.args.input.now) follows
     (Ends-none c.args.nfa.now (search_of c.args.input.now) c.loop-at.scratch.visited c.loop-at.slots))

@@ -1,22 +1,18 @@
 -- Where a turn leads, for each kind of state; its mark pays for what it pushes.
-use Rattle.std.proofs.Common.{[], ◌<◌, ◌∙◌, length, drop, arith, refl, sym}
-use Rattle.std.specs.Prelude.{None}
+use Rattle.std.proofs.Common.{◌<◌, ◌∙◌, length, drop, arith, refl, sym}
 use Rattle.regex_search_core.specs.Search.{search_of}
-use Rattle.nfa_backtrack_scan.specs.Walk.{pair_of, TurnsLead}
-use Rattle.nfa_backtrack_scan.specs.declared.frame.Frame.TheVariants.{Step}
-use Rattle.thompson_nfa.specs.Automaton.Node.{ByteRange, Sparse, Dense, Look, Union, BinaryUnion, Capture}
-use Rattle.nfa_backtrack_scan.proofs.WalkLemmas.{Fails-at}
-use Rattle.nfa_backtrack_scan.proofs.StepLemmas.{same_size, PaidFor-leads, PaidFor-same, PaidFor-push}
-use Rattle.nfa_backtrack_scan.proofs.StepLemmas.{Goes-leads, Goes-look, Goes-no_look}
-use Rattle.nfa_backtrack_scan.proofs.StepLemmas.{Goes-no_union, Goes-both, Goes-write, Goes-unkept}
-use Rattle.nfa_backtrack_scan.proofs.StepLemmas.{Goes-match, IsFrame-restoring, tries-restoring}
-use Rattle.nfa_backtrack_scan.proofs.ByteLoopLemmas.{OnErr-always, IsAfforded-turn, IsAfforded-then}
-use Rattle.nfa_backtrack_scan.proofs.ByteLoopLemmas.{TurnsLead-marked, TurnsLead-then, TurnsLead-union}
-use Rattle.nfa_backtrack_scan.proofs.AlternateLemmas.{PaidFor-live, Goes-live}
+use Rattle.thompson_nfa.specs.Automaton.Node.{ByteRange, Sparse, Dense}
+use Rattle.nfa_scan_core.proofs.AlternateLemmas.{first-drop}
+use Rattle.nfa_backtrack_scan.specs.Walk.{walk_of}
 use Rattle.nfa_backtrack_scan.specs.Alternates.{PushesLive}
+use Rattle.nfa_backtrack_scan.proofs.StepLemmas.{beside, same_size, Goes-leads, Goes-match, TurnsLead-look}
+use Rattle.nfa_backtrack_scan.proofs.StepLemmas.{TurnsLead-no_look, TurnsLead-no_union, TurnsLead-union}
+use Rattle.nfa_backtrack_scan.proofs.StepLemmas.{TurnsLead-unkept, TurnsLead-write}
+use Rattle.nfa_backtrack_scan.proofs.ByteLoopLemmas.{OnErr-always, IsAfforded-turn, IsAfforded-then, TurnsLead-fail}
+use Rattle.nfa_backtrack_scan.proofs.ByteLoopLemmas.{TurnsLead-marked, TurnsLead-then}
+use Rattle.nfa_backtrack_scan.proofs.AlternateLemmas.{TurnsLead-live}
 use Rattle.nfa_backtrack_scan.proofs.walk.step.Goals as goal
 use Rattle.nfa_backtrack_scan.proofs.walk.step.Goals.{then-slot-slots+in_ok-save-in-Capture, else-slot-slots}
-use Rattle.nfa_scan_core.proofs.AlternateLemmas.{first-drop}
 
 pub cross-next-requires-clause-step : goal.cross-next-requires-clause-step
 cross-next-requires-clause-step c =
@@ -31,17 +27,11 @@ cross-next-requires-clause-step c =
 pub cross-next-requires-clause-states : goal.cross-next-requires-clause-states
 cross-next-requires-clause-states c = same_size c.args.nfa.now c.args.states.now c.requires.ready.states_are
 
-pub returns-in-ByteRange-clause-paid : goal.returns-in-ByteRange-clause-paid
-returns-in-ByteRange-clause-paid c =
-    rw c.move_to.ensures
-    (PaidFor-leads c.args.nfa.now (search_of c.args.input.now) c.cross-next.result
-    (c.cross-next.ensures.leads c.args.scratch.now.stack.items) _ c.requires.ready.within)
-
 pub returns-in-ByteRange-clause-goes : goal.returns-in-ByteRange-clause-goes
 returns-in-ByteRange-clause-goes c =
     rw c.move_to.ensures
     (Goes-leads c.args.nfa.now (search_of c.args.input.now) c.cross-next.result
-    (c.cross-next.ensures.leads c.args.scratch.now.stack.items) c.args.slots.now)
+    (c.cross-next.ensures.leads (walk_of c.args.scratch.now c.args.slots.now)))
 
 pub cross-next-requires-in-Sparse-clause-step : goal.cross-next-requires-in-Sparse-clause-step
 cross-next-requires-in-Sparse-clause-step c =
@@ -57,17 +47,11 @@ cross-next-requires-in-Sparse-clause-step c =
 pub cross-next-requires-in-Sparse-clause-states : goal.cross-next-requires-in-Sparse-clause-states
 cross-next-requires-in-Sparse-clause-states c = same_size c.args.nfa.now c.args.states.now c.requires.ready.states_are
 
-pub returns-in-Sparse-clause-paid : goal.returns-in-Sparse-clause-paid
-returns-in-Sparse-clause-paid c =
-    rw c.move_to-in-Sparse.ensures
-    (PaidFor-leads c.args.nfa.now (search_of c.args.input.now) c.cross-next-in-Sparse.result
-    (c.cross-next-in-Sparse.ensures.leads c.args.scratch.now.stack.items) _ c.requires.ready.within)
-
 pub returns-in-Sparse-clause-goes : goal.returns-in-Sparse-clause-goes
 returns-in-Sparse-clause-goes c =
     rw c.move_to-in-Sparse.ensures
     (Goes-leads c.args.nfa.now (search_of c.args.input.now) c.cross-next-in-Sparse.result
-    (c.cross-next-in-Sparse.ensures.leads c.args.scratch.now.stack.items) c.args.slots.now)
+    (c.cross-next-in-Sparse.ensures.leads (walk_of c.args.scratch.now c.args.slots.now)))
 
 pub cross-next-requires-in-Dense-clause-step : goal.cross-next-requires-in-Dense-clause-step
 cross-next-requires-in-Dense-clause-step c =
@@ -83,49 +67,36 @@ cross-next-requires-in-Dense-clause-step c =
 pub cross-next-requires-in-Dense-clause-states : goal.cross-next-requires-in-Dense-clause-states
 cross-next-requires-in-Dense-clause-states c = same_size c.args.nfa.now c.args.states.now c.requires.ready.states_are
 
-pub returns-in-Dense-clause-paid : goal.returns-in-Dense-clause-paid
-returns-in-Dense-clause-paid c =
-    rw c.move_to-in-Dense.ensures
-    (PaidFor-leads c.args.nfa.now (search_of c.args.input.now) c.cross-next-in-Dense.result
-    (c.cross-next-in-Dense.ensures.leads c.args.scratch.now.stack.items) _ c.requires.ready.within)
-
 pub returns-in-Dense-clause-goes : goal.returns-in-Dense-clause-goes
 returns-in-Dense-clause-goes c =
     rw c.move_to-in-Dense.ensures
     (Goes-leads c.args.nfa.now (search_of c.args.input.now) c.cross-next-in-Dense.result
-    (c.cross-next-in-Dense.ensures.leads c.args.scratch.now.stack.items) c.args.slots.now)
+    (c.cross-next-in-Dense.ensures.leads (walk_of c.args.scratch.now c.args.slots.now)))
 
 pub returns-then-not-mark-clause-goes : goal.returns-then-not-mark-clause-goes
-returns-then-not-mark-clause-goes c = λ work.
-    (TurnsLead-marked c.args.nfa.now (search_of c.args.input.now) c.args.place.sid c.args.place.at
-    c.args.scratch.now.stack.items (c.mark.ensures.seen c.if-not-mark.true)).follows work c.args.slots.now
+returns-then-not-mark-clause-goes c =
+    TurnsLead-marked c.args.nfa.now (search_of c.args.input.now) c.args.place.sid c.args.place.at
+    (c.mark.ensures.seen c.if-not-mark.true) (walk_of c.args.scratch.now c.args.slots.now)
 
 pub returns-then-not-mark-2-clause-goes : goal.returns-then-not-mark-2-clause-goes
-returns-then-not-mark-2-clause-goes c = λ work.
-    (TurnsLead-marked c.args.nfa.now (search_of c.args.input.now) c.args.place.sid c.args.place.at
-    c.args.scratch.now.stack.items (c.mark-in-Union.ensures.seen c.if-not-mark-2.true)).follows work c.args.slots.now
+returns-then-not-mark-2-clause-goes c =
+    TurnsLead-marked c.args.nfa.now (search_of c.args.input.now) c.args.place.sid c.args.place.at
+    (c.mark-in-Union.ensures.seen c.if-not-mark-2.true) (walk_of c.args.scratch.now c.args.slots.now)
 
 pub returns-then-not-mark-3-clause-goes : goal.returns-then-not-mark-3-clause-goes
-returns-then-not-mark-3-clause-goes c = λ work.
-    (TurnsLead-marked c.args.nfa.now (search_of c.args.input.now) c.args.place.sid c.args.place.at
-    c.args.scratch.now.stack.items (c.mark-in-BinaryUnion.ensures.seen c.if-not-mark-3.true)).follows work
-    c.args.slots.now
+returns-then-not-mark-3-clause-goes c =
+    TurnsLead-marked c.args.nfa.now (search_of c.args.input.now) c.args.place.sid c.args.place.at
+    (c.mark-in-BinaryUnion.ensures.seen c.if-not-mark-3.true) (walk_of c.args.scratch.now c.args.slots.now)
 
 pub returns-then-not-mark-4-clause-goes : goal.returns-then-not-mark-4-clause-goes
-returns-then-not-mark-4-clause-goes c = λ work.
-    (TurnsLead-marked c.args.nfa.now (search_of c.args.input.now) c.args.place.sid c.args.place.at
-    c.args.scratch.now.stack.items (c.mark-in-Capture.ensures.seen c.if-not-mark-4.true)).follows work c.args.slots.now
+returns-then-not-mark-4-clause-goes c =
+    TurnsLead-marked c.args.nfa.now (search_of c.args.input.now) c.args.place.sid c.args.place.at
+    (c.mark-in-Capture.ensures.seen c.if-not-mark-4.true) (walk_of c.args.scratch.now c.args.slots.now)
 
 pub returns-then-not-mark-5-clause-goes : goal.returns-then-not-mark-5-clause-goes
-returns-then-not-mark-5-clause-goes c = λ work.
-    (TurnsLead-marked c.args.nfa.now (search_of c.args.input.now) c.args.place.sid c.args.place.at
-    c.args.scratch.now.stack.items (c.mark-in-Match.ensures.seen c.if-not-mark-5.true)).follows work c.args.slots.now
-
-pub returns-then-assertion_holds-clause-paid : goal.returns-then-assertion_holds-clause-paid
-returns-then-assertion_holds-clause-paid c =
-    let t = c.mark.ensures.taken c.if-not-mark.false in
-    let is = rw c.in-Look.is at c.state_at.ensures.node in
-    PaidFor-same t (Look c.in-Look.look c.in-Look.next) is _ _ _ c.requires.ready.within (omega arith)
+returns-then-not-mark-5-clause-goes c =
+    TurnsLead-marked c.args.nfa.now (search_of c.args.input.now) c.args.place.sid c.args.place.at
+    (c.mark-in-Match.ensures.seen c.if-not-mark-5.true) (walk_of c.args.scratch.now c.args.slots.now)
 
 pub returns-then-assertion_holds-clause-goes : goal.returns-then-assertion_holds-clause-goes
 returns-then-assertion_holds-clause-goes c =
@@ -133,41 +104,24 @@ returns-then-assertion_holds-clause-goes c =
     let is = rw c.in-Look.is at c.state_at.ensures.node in
     let below = rw c.in-Look.is at c.state_at.ensures.leads in
     let holds = sym (rw c.haystack.ensures at c.assertion_holds.ensures) ∙ c.if-assertion_holds.true in
-    rw c.to.ensures (
-      record {
-        state = below;
-        from = c.requires.ready.is_place.from;
-        to = c.requires.ready.is_place.to;
-        row = c.requires.ready.is_place.row;
-      },
-      λ work. Goes-look t c.in-Look.look c.in-Look.next is _ _ holds,
-    )
-
-pub returns-else-assertion_holds-clause-paid : goal.returns-else-assertion_holds-clause-paid
-returns-else-assertion_holds-clause-paid c =
-    let t = c.mark.ensures.taken c.if-not-mark.false in
-    let is = rw c.in-Look.is at c.state_at.ensures.node in
-    PaidFor-same t (Look c.in-Look.look c.in-Look.next) is _ _ _ c.requires.ready.within (omega arith)
+    rw c.to.ensures (TurnsLead-look t c.args.place.row c.requires.ready.is_place.row c.in-Look.look c.in-Look.next is
+    holds below (walk_of c.args.scratch.now c.args.slots.now))
 
 pub returns-else-assertion_holds-clause-goes : goal.returns-else-assertion_holds-clause-goes
 returns-else-assertion_holds-clause-goes c =
     let t = c.mark.ensures.taken c.if-not-mark.false in
     let is = rw c.in-Look.is at c.state_at.ensures.node in
     let fails = sym (rw c.haystack.ensures at c.assertion_holds.ensures) ∙ c.if-assertion_holds.false in
-    λ work. Goes-no_look t c.in-Look.look c.in-Look.next is _ _ fails
-
-pub returns-in_default-clause-paid : goal.returns-in_default-clause-paid
-returns-in_default-clause-paid c =
-    let t = c.mark-in-Union.ensures.taken c.if-not-mark-2.false in
-    let is = rw c.in-Union.is at c.state_at.ensures.node in
-    PaidFor-same t (Union c.in-Union.alternates.items) is _ _ _ c.requires.ready.within (omega arith)
+    TurnsLead-no_look t c.args.place.row c.requires.ready.is_place.row c.in-Look.look c.in-Look.next is fails
+    (walk_of c.args.scratch.now c.args.slots.now)
 
 pub returns-in_default-clause-goes : goal.returns-in_default-clause-goes
 returns-in_default-clause-goes c =
     let t = c.mark-in-Union.ensures.taken c.if-not-mark-2.false in
     let is = rw c.in-Union.is at c.state_at.ensures.node in
     let none = sym (rw c.deref-in-Union.ensures.value at c.in_default.ensures.value) in
-    λ work. Goes-no_union t c.in-Union.alternates.items is _ none _
+    TurnsLead-no_union t c.args.place.row c.requires.ready.is_place.row c.in-Union.alternates.items is none
+    (walk_of c.args.scratch.now c.args.slots.now)
 
 pub push_alternates-requires : goal.push_alternates-requires
 push_alternates-requires c =
@@ -183,14 +137,6 @@ pushes c =
     (c.in_ok-push_alternates-in-Union.ensures (search_of c.args.input.now) c.requires.ready.is_place
     c.byte_at-byte.ensures)
 
-pub returns-in_ok-push_alternates-in-Union-clause-paid : goal.returns-in_ok-push_alternates-in-Union-clause-paid
-returns-in_ok-push_alternates-in-Union-clause-paid c =
-    let t = c.mark-in-Union.ensures.taken c.if-not-mark-2.false in
-    let is = rw c.in-Union.is at c.state_at.ensures.node in
-    let first = sym (rw c.deref-in-Union.ensures.value at c.in-Some.ensures.value) in
-    PaidFor-live c.args.nfa.now (search_of c.args.input.now) t c.in-Union.alternates.items is _ first (pushes c) _
-    c.requires.ready.within
-
 pub returns-in_ok-push_alternates-in-Union-clause-goes : goal.returns-in_ok-push_alternates-in-Union-clause-goes
 returns-in_ok-push_alternates-in-Union-clause-goes c =
     let t = c.mark-in-Union.ensures.taken c.if-not-mark-2.false in
@@ -199,16 +145,10 @@ returns-in_ok-push_alternates-in-Union-clause-goes c =
     let first = sym (rw c.deref-in-Union.ensures.value at c.in-Some.ensures.value) in
     let split = first-drop c.in-Union.alternates.items c.in-Some.first.now first in
     let state : c.in-Some.first.now < length c.args.nfa.now.states = (rw split at below) 0 0 (omega arith) in
-    rw c.to-in-Union.ensures (
-      record {
-        state = state;
-        from = c.requires.ready.is_place.from;
-        to = c.requires.ready.is_place.to;
-        row = c.requires.ready.is_place.row;
-      },
-      λ work. Goes-live c.args.nfa.now (search_of c.args.input.now) t c.in-Union.alternates.items is _ first (pushes c)
-          c.args.slots.now work,
-    )
+    rw c.to-in-Union.ensures
+    (TurnsLead-live c.args.nfa.now (search_of c.args.input.now) t c.in-Union.alternates.items is _ first
+    (walk_of c.args.scratch.now c.args.slots.now) (pushes c)
+    (beside t c.args.place.row c.requires.ready.is_place.row c.in-Some.first.now state))
 
 pub returns-in_err-push_alternates-in-Union-clause-refused : goal.returns-in_err-push_alternates-in-Union-clause-refused
 returns-in_err-push_alternates-in-Union-clause-refused c =
@@ -238,131 +178,62 @@ returns-in_err-run_loop-in-BinaryUnion-clause-refused c =
     let is = rw c.in-BinaryUnion.is at c.state_at.ensures.node in
     let below = rw c.in-BinaryUnion.is at c.state_at.ensures.leads in
     let union = TurnsLead-union t c.args.place.row c.requires.ready.is_place.row c.in-BinaryUnion.alt1
-    c.in-BinaryUnion.alt2 is
-    below.0 below.1 c.args.scratch.now.stack.items in
+    c.in-BinaryUnion.alt2 is below.0 below.1 (walk_of c.args.scratch.now c.args.slots.now) in
     let round = rw (c.in_ok-push-in-BinaryUnion.ensures.items, c.later.ensures) at
     c.in_err-run_loop-in-BinaryUnion.ensures.refused in
     OnErr-always c.from_residual-in_err-run_loop-in-BinaryUnion.result
     (IsAfforded-then c.args.nfa.now (search_of c.args.input.now) c.run_loop.new.scratch.visited union round)
 
--- the turn at the union and those of the loop
-round : (c : goal.In_ok-run_loop-in-BinaryUnion)
-    → TurnsLead c.args.nfa.now (search_of c.args.input.now) (pair_of c.args.place) None c.args.scratch.now.stack.items
-    c.args.scratch.now.visited c.run_loop.new.scratch.stack.items c.run_loop.new.scratch.visited
-round c =
-    let t = c.mark-in-BinaryUnion.ensures.taken c.if-not-mark-3.false in
-    let is = rw c.in-BinaryUnion.is at c.state_at.ensures.node in
-    let below = rw c.in-BinaryUnion.is at c.state_at.ensures.leads in
-    TurnsLead-then c.args.nfa.now (search_of c.args.input.now)
-    (TurnsLead-union t c.args.place.row c.requires.ready.is_place.row c.in-BinaryUnion.alt1 c.in-BinaryUnion.alt2 is
-    below.0
-    below.1 c.args.scratch.now.stack.items)
-    (rw (c.in_ok-push-in-BinaryUnion.ensures.items, c.later.ensures, c.to-preferred.ensures) at
-    c.in_ok-run_loop-in-BinaryUnion.ensures.leads)
-
-pub returns-in-Some-byte_loop_at-clause-paid : goal.returns-in-Some-byte_loop_at-clause-paid
-returns-in-Some-byte_loop_at-clause-paid c =
-    let leads = round c in
-    record { within = leads.within (length c.args.slots.now) c.requires.ready.within; tried = leads.tried }
-
 pub returns-in-Some-byte_loop_at-clause-goes : goal.returns-in-Some-byte_loop_at-clause-goes
-returns-in-Some-byte_loop_at-clause-goes c = λ work. (round c).follows work c.args.slots.now
-
-pub returns-in_default-byte_loop_at-clause-paid : goal.returns-in_default-byte_loop_at-clause-paid
-returns-in_default-byte_loop_at-clause-paid c =
+returns-in-Some-byte_loop_at-clause-goes c =
     let t = c.mark-in-BinaryUnion.ensures.taken c.if-not-mark-3.false in
     let is = rw c.in-BinaryUnion.is at c.state_at.ensures.node in
     let below = rw c.in-BinaryUnion.is at c.state_at.ensures.leads in
-    rw (c.in_ok-push-in-BinaryUnion.ensures.items, c.later.ensures)
-    (PaidFor-push t (BinaryUnion c.in-BinaryUnion.alt1 c.in-BinaryUnion.alt2) is _ _
-    (Step c.in-BinaryUnion.alt2 c.args.place.at c.args.place.row) _ c.requires.ready.within
-    (record {
-      state = below.1;
-      from = c.requires.ready.is_place.from;
-      to = c.requires.ready.is_place.to;
-      row = c.requires.ready.is_place.row;
-    })
-    (omega arith))
+    let union = TurnsLead-union t c.args.place.row c.requires.ready.is_place.row c.in-BinaryUnion.alt1
+    c.in-BinaryUnion.alt2 is below.0 below.1 (walk_of c.args.scratch.now c.args.slots.now) in
+    TurnsLead-then c.args.nfa.now (search_of c.args.input.now) union
+    (rw (c.in_ok-push-in-BinaryUnion.ensures.items, c.later.ensures, c.to-preferred.ensures) at
+    (c.in_ok-run_loop-in-BinaryUnion.ensures.leads c.args.slots.now))
 
 pub returns-in_default-byte_loop_at-clause-goes : goal.returns-in_default-byte_loop_at-clause-goes
 returns-in_default-byte_loop_at-clause-goes c =
     let t = c.mark-in-BinaryUnion.ensures.taken c.if-not-mark-3.false in
     let is = rw c.in-BinaryUnion.is at c.state_at.ensures.node in
     let below = rw c.in-BinaryUnion.is at c.state_at.ensures.leads in
-    rw c.to-preferred.ensures (
-      record {
-        state = below.0;
-        from = c.requires.ready.is_place.from;
-        to = c.requires.ready.is_place.to;
-        row = c.requires.ready.is_place.row;
-      },
-      λ work. rw (c.in_ok-push-in-BinaryUnion.ensures.items, c.later.ensures)
-          (Goes-both t c.in-BinaryUnion.alt1 c.in-BinaryUnion.alt2 is c.args.slots.now c.args.scratch.now.stack.items
-          work _),
-    )
-
-pub returns-after-slot-slots-clause-paid : goal.returns-after-slot-slots-clause-paid
-returns-after-slot-slots-clause-paid c =
-    let t = c.mark-in-Capture.ensures.taken c.if-not-mark-4.false in
-    let is = rw c.in-Capture.is at c.state_at.ensures.node in
-    elim c.if-slot-slots.branch [
-      | then-slot-slots+in_ok-save-in-Capture w ↦
-          rw (w.scratch-is, w.in_ok-save-in-Capture.ensures.stack)
-          (PaidFor-push t (Capture c.in-Capture.next c.in-Capture.slot) is _ _ _ _ c.requires.ready.within
-          (IsFrame-restoring c.args.nfa.now (search_of c.args.input.now) _ c.in-Capture.slot _ w.if-slot-slots.true)
-          (omega (arith, tries-restoring)))
-      | else-slot-slots w ↦
-          rw w.scratch-is (PaidFor-same t (Capture c.in-Capture.next c.in-Capture.slot) is _ _ _ c.requires.ready.within
-          (omega arith))
-    ]
+    let union = TurnsLead-union t c.args.place.row c.requires.ready.is_place.row c.in-BinaryUnion.alt1
+    c.in-BinaryUnion.alt2 is below.0 below.1 (walk_of c.args.scratch.now c.args.slots.now) in
+    rw (c.to-preferred.ensures, c.in_ok-push-in-BinaryUnion.ensures.items, c.later.ensures) union
 
 pub returns-after-slot-slots-clause-goes : goal.returns-after-slot-slots-clause-goes
 returns-after-slot-slots-clause-goes c =
     let t = c.mark-in-Capture.ensures.taken c.if-not-mark-4.false in
     let is = rw c.in-Capture.is at c.state_at.ensures.node in
     let below = rw c.in-Capture.is at c.state_at.ensures.leads in
-    rw c.to-in-Capture.ensures (
-      record {
-        state = below;
-        from = c.requires.ready.is_place.from;
-        to = c.requires.ready.is_place.to;
-        row = c.requires.ready.is_place.row;
-      },
-      λ work.
-          elim c.if-slot-slots.branch [
-            | then-slot-slots+in_ok-save-in-Capture w ↦
-                rw (
-                  w.scratch-is,
-                  w.slots-is,
-                  w.in_ok-save-in-Capture.ensures.stack,
-                  w.in_ok-save-in-Capture.ensures.slots,
-                )
-                (Goes-write t c.in-Capture.next c.in-Capture.slot is c.args.slots.now c.args.scratch.now.stack.items
-                work)
-            | else-slot-slots w ↦
-                rw (w.scratch-is, w.slots-is) (Goes-unkept t c.in-Capture.next c.in-Capture.slot is c.args.slots.now
-                c.args.scratch.now.stack.items work w.if-slot-slots.false)
-          ],
-    )
-
-pub returns-in-Fail-clause-paid : goal.returns-in-Fail-clause-paid
-returns-in-Fail-clause-paid c =
-    rw c.pass.ensures (record { within = c.requires.ready.within; tried = omega arith })
+    rw c.to-in-Capture.ensures
+    (elim c.if-slot-slots.branch [
+      | then-slot-slots+in_ok-save-in-Capture w ↦
+          rw (
+            w.scratch-is,
+            w.slots-is,
+            w.in_ok-save-in-Capture.ensures.stack,
+            w.in_ok-save-in-Capture.ensures.slots,
+          )
+          (TurnsLead-write t c.args.place.row c.requires.ready.is_place.row c.in-Capture.next c.in-Capture.slot is below
+          (walk_of c.args.scratch.now c.args.slots.now) w.if-slot-slots.true)
+      | else-slot-slots w ↦
+          rw (w.scratch-is, w.slots-is)
+          (TurnsLead-unkept t c.args.place.row c.requires.ready.is_place.row c.in-Capture.next c.in-Capture.slot is
+          below (walk_of c.args.scratch.now c.args.slots.now) w.if-slot-slots.false)
+    ])
 
 pub returns-in-Fail-clause-goes : goal.returns-in-Fail-clause-goes
-returns-in-Fail-clause-goes c = λ work.
+returns-in-Fail-clause-goes c =
     let is = rw c.in-Fail.is at c.state_at.ensures.node in
-    Fails-at c.args.nfa.now (search_of c.args.input.now) c.args.scratch.now.visited c.args.place.sid c.args.place.at
-    _ _ c.pass.new.self (rw c.pass.ensures refl) is (rw c.pass.ensures refl)
-
-pub returns-else-not-mark-5-clause-paid : goal.returns-else-not-mark-5-clause-paid
-returns-else-not-mark-5-clause-paid c =
-    let t = c.mark-in-Match.ensures.taken c.if-not-mark-5.false in
-    let is = rw c.in-Match.is at c.state_at.ensures.node in
-    PaidFor-same t _ is _ _ _ c.requires.ready.within (omega arith)
+    TurnsLead-fail c.args.nfa.now (search_of c.args.input.now) c.args.place.sid c.args.place.at is
+    (rw c.pass.ensures refl) (rw c.pass.ensures refl) (walk_of c.args.scratch.now c.args.slots.now)
 
 pub returns-else-not-mark-5-clause-goes : goal.returns-else-not-mark-5-clause-goes
 returns-else-not-mark-5-clause-goes c =
     let t = c.mark-in-Match.ensures.taken c.if-not-mark-5.false in
     let is = rw c.in-Match.is at c.state_at.ensures.node in
-    ((Goes-match t _ is [] []).0, λ work. (Goes-match t _ is _ _).1)
+    Goes-match t c.in-Match.pattern_id is (walk_of c.args.scratch.now c.args.slots.now)

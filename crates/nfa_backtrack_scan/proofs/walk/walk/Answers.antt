@@ -3,7 +3,7 @@ use Rattle.std.proofs.Common.{arith}
 use Rattle.regex_search_core.specs.Search.{search_of}
 use Rattle.nfa_paths.proofs.TurnLemmas.{marked_sum-le}
 use Rattle.nfa_backtrack_scan.specs.Begin.{kept_onto, start_tasks}
-use Rattle.nfa_backtrack_scan.specs.Walk.{weights}
+use Rattle.nfa_backtrack_scan.specs.Walk.{walk_of, weights}
 use Rattle.nfa_backtrack_scan.proofs.BeginLemmas.{Carries-kept}
 use Rattle.nfa_backtrack_scan.proofs.WalkLemmas.{Carries-then, EndsAt-along}
 use Rattle.nfa_backtrack_scan.proofs.walk.walk.Goals as goal
@@ -21,22 +21,24 @@ returns-in-None-clause-bounded c =
 pub returns-in-Some-2-clause-walks : goal.returns-in-Some-2-clause-walks
 returns-in-Some-2-clause-walks c = λ work.
     let goes = rw c.in-Some.is at c.begin.ensures.begins in
-    let walks = rw c.in-Some-2.is at c.in_ok-half-in-Some.ensures.walks in
-    EndsAt-along c.args.nfa.now (search_of c.args.input.now) (goes.follows work)
-    (walks (kept_onto goes.slot goes.old work))
+    let walks = rw (c.in-Some-2.is, c.requires.empty) at c.in_ok-half-in-Some.ensures.walks in
+    let end = EndsAt-along c.args.nfa.now (search_of c.args.input.now)
+    {a = walk_of c.args.scratch.now c.args.slots.now} (goes.follows work)
+    (walks.1 (kept_onto goes.slot goes.before work)) in
+    record { state = end.state; matches = end.matches; ends = end.ends }
 
 pub returns-in-None-2-clause-walks : goal.returns-in-None-2-clause-walks
 returns-in-None-2-clause-walks c =
     let goes = rw c.in-Some.is at c.begin.ensures.begins in
-    let fails = rw c.in-None-2.is at c.in_ok-half-in-Some.ensures.walks in
+    let fails = rw (c.in-None-2.is, c.requires.empty) at c.in_ok-half-in-Some.ensures.walks in
     record {
-      empty = fails.empty;
+      empty = fails.0;
       follows = λ at count.
           let rest = start_tasks c.args.start.sid at count in
           Carries-then c.args.nfa.now (search_of c.args.input.now)
           (Carries-then c.args.nfa.now (search_of c.args.input.now) (goes.follows rest)
-          (fails.follows (kept_onto goes.slot goes.old rest)))
+          (rw fails.0 at (fails.1.follows (kept_onto goes.slot goes.before rest))))
           (Carries-kept c.args.nfa.now (search_of c.args.input.now) c.walk_on.new.scratch.visited c.args.start.sid at
-          count goes.slot goes.old c.walk_on.new.slots goes.own);
-      spent = omega (arith, goes.spent, fails.spent);
+          count goes.slot goes.before c.walk_on.new.slots goes.own);
+      spent = omega (arith, goes.spent, rw fails.0 at fails.1.paid.tried);
     }

@@ -1,70 +1,79 @@
 -- A walk that goes on turn by turn ends at its answer, within its turns.
-use Rattle.std.proofs.Common.{◌∙◌, arith}
+use Rattle.std.proofs.Common.{◌∙◌, arith, refl}
 use Rattle.regex_search_core.specs.Search.{search_of}
 use Rattle.nfa_paths.proofs.TurnLemmas.{marked_sum-le}
-use Rattle.nfa_backtrack_scan.specs.Walk.{weights}
-use Rattle.nfa_backtrack_scan.proofs.WalkLemmas.{Carries-then, EndsAt-along}
+use Rattle.nfa_backtrack_scan.specs.Walk.{walk_of, weights}
+use Rattle.nfa_backtrack_scan.proofs.ByteLoopLemmas.{TurnsLead-none, TurnsLead-then}
+use Rattle.nfa_backtrack_scan.proofs.WalkLemmas.{EndsAt-along}
 use Rattle.nfa_backtrack_scan.proofs.walk.walk_on.Goals as goal
 
+pub loop-next-init : goal.loop-next-init
+loop-next-init c = record {
+  scans = refl;
+  size = refl;
+  leads = TurnsLead-none c.args.nfa.now (search_of c.args.input.now) c.args.start c.requires.ready.is_place
+      (walk_of c.args.scratch.now c.args.slots.now);
+}
+
 pub returns-in_err-next-clause-bounded : goal.returns-in_err-next-clause-bounded
-returns-in_err-next-clause-bounded c = omega (arith, c.loop-next.invariant.tried, c.in_err-next.ensures.refused)
+returns-in_err-next-clause-bounded c =
+    let empty = c.requires.ready.empty in
+    omega (arith, rw empty at c.loop-next.invariant.leads.paid.tried, c.in_err-next.ensures.refused)
 
 pub loop-next-smaller : goal.loop-next-smaller
 loop-next-smaller c =
-    let paid = rw c.in-On.is at c.in_ok-next.ensures.paid in
+    let advances = rw c.in-On.is at c.in_ok-next.ensures.advances in
     omega (
       arith,
-      paid.tried,
+      advances.paid.tried,
+      c.advance.ensures.turns,
       marked_sum-le (weights c.args.nfa.now (search_of c.args.input.now))
           c.advance.new.scratch.visited.bits,
     )
 
 pub loop-next-preserved : goal.loop-next-preserved
-loop-next-preserved c =
-    let paid = rw c.in-On.is at c.in_ok-next.ensures.paid in
-    let advances = rw c.in-On.is at c.in_ok-next.ensures.advances in
-    record {
-      place = advances.0;
-      scans = c.advance.ensures.scans ∙ c.loop-next.invariant.scans;
-      size = c.advance.ensures.size ∙ c.loop-next.invariant.size;
-      within = rw c.loop-next.auto.slots at paid.within;
-      follows = λ work. Carries-then c.args.nfa.now (search_of c.args.input.now) (c.loop-next.invariant.follows work)
-          (advances.1 work);
-      tried = omega (arith, c.loop-next.invariant.tried, c.advance.ensures.turns, paid.tried);
-    }
+loop-next-preserved c = record {
+  scans = c.advance.ensures.scans ∙ c.loop-next.invariant.scans;
+  size = c.advance.ensures.size ∙ c.loop-next.invariant.size;
+  leads = TurnsLead-then c.args.nfa.now (search_of c.args.input.now) c.loop-next.invariant.leads
+      (rw c.in-On.is at c.in_ok-next.ensures.advances);
+}
 
 pub returns-in-Matched-clause-bounded : goal.returns-in-Matched-clause-bounded
 returns-in-Matched-clause-bounded c =
-    let paid = rw c.in-Matched.is at c.in_ok-next.ensures.paid in
+    let empty = c.requires.ready.empty in
+    let advances = rw c.in-Matched.is at c.in_ok-next.ensures.advances in
     omega (
       arith,
-      c.loop-next.invariant.tried,
-      paid.tried,
+      rw empty at c.loop-next.invariant.leads.paid.tried,
+      advances.0.tried,
       marked_sum-le (weights c.args.nfa.now (search_of c.args.input.now)) c.advance.new.scratch.visited.bits,
     )
 
 pub returns-in-Matched-clause-walks : goal.returns-in-Matched-clause-walks
-returns-in-Matched-clause-walks c = λ work.
+returns-in-Matched-clause-walks c =
+    let leads = c.loop-next.invariant.leads in
+    let paid = leads.paid in
     let advances = rw c.in-Matched.is at c.in_ok-next.ensures.advances in
-    EndsAt-along c.args.nfa.now (search_of c.args.input.now) (c.loop-next.invariant.follows work) (advances work)
+    let last = advances.0 in (
+      record { within = λ frames. last.within (paid.within frames); tried = omega (arith, paid.tried, last.tried) },
+      λ work. EndsAt-along c.args.nfa.now (search_of c.args.input.now) (leads.follows work) (advances.1 work),
+    )
 
 pub returns-in-Failed-clause-bounded : goal.returns-in-Failed-clause-bounded
 returns-in-Failed-clause-bounded c =
-    let paid = rw c.in-Failed.is at c.in_ok-next.ensures.paid in
+    let empty = c.requires.ready.empty in
+    let advances = rw c.in-Failed.is at c.in_ok-next.ensures.advances in
     omega (
       arith,
-      c.loop-next.invariant.tried,
-      paid.tried,
+      rw empty at c.loop-next.invariant.leads.paid.tried,
+      advances.1.paid.tried,
       marked_sum-le (weights c.args.nfa.now (search_of c.args.input.now)) c.advance.new.scratch.visited.bits,
     )
 
 pub returns-in-Failed-clause-walks : goal.returns-in-Failed-clause-walks
 returns-in-Failed-clause-walks c =
-    let paid = rw c.in-Failed.is at c.in_ok-next.ensures.paid in
-    let advances = rw c.in-Failed.is at c.in_ok-next.ensures.advances in
-    record {
-      empty = advances.0;
-      follows = λ work. Carries-then c.args.nfa.now (search_of c.args.input.now) (c.loop-next.invariant.follows work)
-          (advances.1 work);
-      spent = omega (arith, c.loop-next.invariant.tried, c.advance.ensures.turns, paid.tried);
-    }
+    let advances = rw c.in-Failed.is at c.in_ok-next.ensures.advances in (
+      advances.0,
+      TurnsLead-then c.args.nfa.now (search_of c.args.input.now) c.loop-next.invariant.leads advances.1,
+    )
