@@ -60,7 +60,7 @@ work-append [] more = refl
 work-append (v ∷ states) more = ap (λ (w : List Task). Explore v ∷ w) (work-append states more)
 
 -- a state that does not rest leads to the states that it leads to without a byte
-epsilon-edges : (x : Search) (at : ℕ) (node : Node) → rests node ≡ false
+pub epsilon-edges : (x : Search) (at : ℕ) (node : Node) → rests node ≡ false
     → edges_of x node at ≡ pairs at (epsilon_states (holding_at x.haystack at) node)
 unfolding edges_of
 epsilon-edges x at (Look look next) r = of (look_holds look x.haystack at)
@@ -90,7 +90,7 @@ pub rests-edges : (x : Search) (at : ℕ) (node : Node) → rests node ≡ true
 rests-edges x at node r = resting-edges x node at r ∙ byte-edges at (target_on node) (byte_at x at)
 
 -- a match rests
-match-rests : (node : Node) → is_some (pattern_of node) ≡ true → rests node ≡ true
+pub match-rests : (node : Node) → is_some (pattern_of node) ≡ true → rests node ≡ true
 match-rests (Match pattern) m = refl
 match-rests _ m = cc
 
@@ -146,11 +146,11 @@ module _ (nfa : Automaton) (x : Search) (at : ℕ) where
       never t = absurd (cc (t, r))
 
   -- a number past the last state leads nowhere
-  past-edges : (s : ℕ) → length nfa.states ≤ s → edges nfa x (s, at) ≡ []
+  pub past-edges : (s : ℕ) → length nfa.states ≤ s → edges nfa x (s, at) ≡ []
   unfolding node_at edges_of
   past-edges s past = ap (λ (n : Node). edges_of x n at) (get_or_past nfa.states s Fail past)
 
-  past-plain : (s : ℕ) → length nfa.states ≤ s → is_match nfa (s, at) ≡ true → ⊥
+  pub past-plain : (s : ℕ) → length nfa.states ≤ s → is_match nfa (s, at) ≡ true → ⊥
   unfolding node_at
   past-plain s past m = let never : false ≡ true = rw (get_or_past nfa.states s Fail past) at m in absurd (cc never)
 

@@ -12,3 +12,4 @@ pub mod StepLemmas
 pub mod RepeatLemmas
 pub mod SettledLemmas
 pub mod ScanHalfLemmas
+pub mod IdleLemmas

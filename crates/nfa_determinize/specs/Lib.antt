@@ -1,6 +1,7 @@
 pub mod Closures
 pub mod Configurations
 pub mod Searches
+pub mod Idles
 pub mod Laws
 pub use Rattle.nfa_paths.specs.Graphs
 pub use Rattle.nfa_paths.specs.Paths

@@ -1,4 +1,5 @@
 //! Laws of the steps. Each function is empty: its contract is the theorem.
+ghost use Rattle.nfa_determinize.specs.Idles.{IdlePassesStarts};
 ghost use Rattle.nfa_determinize.specs.Laws.{AdvancesWithEachOnce, ClosureHasEachOnce, ClosureIsShort};
 ghost use Rattle.nfa_determinize.specs.Laws.{ClosureReadsAssertions, ClosureRests, DeadStays, FirstOfEachHasEachOnce};
 ghost use Rattle.nfa_determinize.specs.Laws.{FoundStays, RepeatAddsNothing, StepsFindTheAnswer, StepsFindTheHalf};
@@ -43,4 +44,10 @@ pub fn closures_are_finite()
 /// Of the haystack, a closure depends only on which assertions hold at its position.
 pub fn closures_read_assertions()
     ensures { ClosureReadsAssertions }
+{}
+
+/// If nothing was found before a position and the closure of its states is empty, no accepting path of the search starts
+/// before it, for each match kind and `earliest`. `nfa_engines::laws::starts_may_be_passed` says what follows.
+pub fn idle_passes_starts()
+    ensures { IdlePassesStarts }
 {}
