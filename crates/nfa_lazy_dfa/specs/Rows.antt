@@ -116,6 +116,17 @@ clears_of c = c.cleared
 abbrev pub scans_of : Cache → ℕ
 scans_of c = c.scans
 
+-- The copy is a cache of each DFA that the old one is a cache of. It has the same rows, each in the same place, and the
+-- same counts.
+pub record IsCopyOf (old copy : Cache) : Type 0 where
+  pub own : (dfa : DFA) → IsFor old dfa → IsFor copy dfa
+  pub rows : stances_of copy.stands.items ≡ stances_of old.stands.items
+  pub memory : memory_of copy ≡ memory_of old
+  pub scans : scans_of copy ≡ scans_of old
+  pub steps : steps_of copy ≡ steps_of old
+  pub made : rows_made_of copy ≡ rows_made_of old
+  pub clears : clears_of copy ≡ clears_of old
+
 -- how often a search may clear the rows
 abbrev pub max_clears_of : DFA → ℕ
 max_clears_of dfa = dfa.max_clears

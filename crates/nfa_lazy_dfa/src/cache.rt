@@ -1,13 +1,15 @@
 //! The rows that were built so far.
 ghost use Rattle.std.specs.Prelude.{◌≡◌, ℕ, ◌+◌, ◌-◌, ◌*◌, ◌<◌, ◌≤◌, ◌++◌, ◌∷◌, [], true, false, None, Some};
-ghost use Rattle.std.specs.Prelude.{All, IfOk, IfSome, IsTrue, OnErr, OnOk, length, option_map, slice_get, vec_len};
+ghost use Rattle.std.specs.Prelude.{All, IfOk, IfSome, IsOkUnless, IsTrue, OnErr, OnOk, length, option_map, slice_get, vec_len};
 ghost use Rattle.regex_search_core.specs.Patterns.{number_of};
 ghost use Rattle.nfa_lazy_dfa.specs.Rows as rows;
 ghost use Rattle.nfa_lazy_dfa.specs.Rows.{AllowsClears, CountsScan, IsFor, IsRowOf, KeepsRows, Spends, memory_of, stances_of};
 ghost use Rattle.nfa_lazy_dfa.specs.Stances.{hit_here, stance_of};
 
+mod copy;
+
 use crate::dfa::DFA;
-use crate::error::GaveUp;
+use crate::error::{GaveUp, StopError};
 use crate::follow::{Stand, last_hit};
 use crate::index::{EMPTY, Index, MAX_ROWS, is_first};
 use nfa_scan_core::counter::Counter;
@@ -65,8 +67,18 @@ impl Stand {
 }
 
 impl Cache {
-    pub(crate) fn new(alloc: Global, dfa: &DFA) -> Result<Cache, AllocError>
-        ensures { IfOk result (λ made. IsFor made dfa.now) }
+    /// Makes a cache for searches of the DFA. It has no rows. The only error is `Memory`.
+    ///
+    /// ```
+    /// // dfa of "foo[0-9]+"
+    /// let mut cache = dfa::Cache::new(alloc, dfa)?;
+    /// assert_eq!(rt; cache.memory_usage(), 0);
+    /// assert!(rt; dfa.try_is_match(&mut cache, Input::new(b"foo12345"))?);
+    /// ```
+    pub fn new(alloc: Global, dfa: &DFA) -> Result<Cache, StopError>
+        ensures own { IfOk result (λ made. IsFor made dfa.now) }
+        ensures none { IfOk result (λ made. memory_of made ≡ 0) }
+        ensures memory { IsOkUnless result StopError.Memory }
     {
         Ok(Cache {
             cells: Vec::new(alloc),
@@ -130,6 +142,7 @@ impl Cache {
     pub(crate) fn clear(&mut self, dfa: &DFA)
         ensures own { IsFor self.new dfa.now }
         ensures none { self.new.stands.items ≡ [] }
+        ensures taken { self.new.taken ≡ 0 }
         ensures left { self.new.clears ≡ self.old.clears }
         ensures cleared { self.new.cleared ≡ self.old.cleared + 1 }
         ensures steps { self.new.steps ≡ self.old.steps }

@@ -1,6 +1,6 @@
 //! Calls that make a cache the DFA's.
-ghost use Rattle.std.specs.Prelude.{IfOk, IsOkUnless};
-ghost use Rattle.nfa_lazy_dfa.specs.Rows.{IsFor};
+ghost use Rattle.std.specs.Prelude.{◌≡◌, IfOk, IsOkUnless};
+ghost use Rattle.nfa_lazy_dfa.specs.Rows.{IsFor, memory_of};
 
 use crate::cache::Cache;
 use crate::dfa::DFA;
@@ -11,14 +11,16 @@ impl DFA {
     /// Makes a cache for searches of this DFA. It has no rows. The only error is `Memory`.
     pub fn create_cache(&self, alloc: Global) -> Result<Cache, StopError>
         ensures own { IfOk result (λ made. IsFor made self.now) }
+        ensures none { IfOk result (λ made. memory_of made ≡ 0) }
         ensures memory { IsOkUnless result StopError.Memory }
     {
-        Ok(Cache::new(alloc, self)?)
+        Cache::new(alloc, self)
     }
 
     /// Makes the cache one of this DFA, whichever DFA it was of. Its rows are dropped.
     pub fn reset_cache(&self, cache: &mut Cache)
-        ensures { IsFor cache.new self.now }
+        ensures own { IsFor cache.new self.now }
+        ensures none { memory_of cache.new ≡ 0 }
     {
         cache.reset(self);
     }
@@ -27,7 +29,8 @@ impl DFA {
 impl Cache {
     /// Makes the cache one of the DFA, whichever DFA it was of. Its rows are dropped, and their memory is kept.
     pub fn reset(&mut self, dfa: &DFA)
-        ensures { IsFor self.new dfa.now }
+        ensures own { IsFor self.new dfa.now }
+        ensures none { memory_of self.new ≡ 0 }
     {
         self.clear(dfa);
     }

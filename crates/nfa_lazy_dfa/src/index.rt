@@ -27,6 +27,11 @@ impl Index {
         Ok(Index { slots })
     }
 
+    pub fn copied(&self) -> Result<Index, AllocError> {
+        let slots = self.slots.clone()?;
+        Ok(Index { slots })
+    }
+
     /// Forgets all rows.
     pub fn clear(&mut self) {
         self.slots.fill(EMPTY);

@@ -4,9 +4,9 @@ use Rattle.nfa_lazy_dfa.specs.Rows.{IsFor}
 use Rattle.nfa_lazy_dfa.proofs.RowLemmas.{AreRows-none}
 use Rattle.nfa_lazy_dfa.proofs.cache.Cache.new.Goals as goal
 
-pub returns : goal.returns
+pub returns-clause-own : goal.returns-clause-own
 unfolding IsFor
-returns c = record {
+returns-clause-own c = record {
   rows = rw (c.new.ensures.items, c.new-2.ensures.items, c.new-3.ensures.items)
       (AreRows-none c.args.dfa.now.nfa c.args.dfa.now.kind);
   taken = rw c.new-2.ensures.items refl;
