@@ -16,6 +16,7 @@ pub mod MovedGraphLemmas
 pub mod FirstStartLemmas
 pub mod StartAnswerLemmas
 pub mod FoundSpanLemmas
+pub mod WindowLemmas
 pub mod SpanLemmas
 pub mod AlikeLemmas
 pub mod AloneLemmas
