@@ -1,19 +1,30 @@
 -- A search has the answer of the search in its window: both are answered by the same path.
 use Rattle.std.proofs.Common.{◌≡◌, ◌∙◌, ℕ, ◌↔◌, inl, inr, false, List, refl, sym, ap, subst}
-use Rattle.std.specs.Prelude.{Option, None, Some, option_and_then, option_map}
+use Rattle.std.specs.Prelude.{true, Option, None, Some, is_some, length, option_and_then, option_map, replicate}
+use Rattle.std.proofs.lemmas.List.{length-replicate}
 use Rattle.regex_search_core.specs.Found.{Found, HalfFound}
 use Rattle.regex_search_core.specs.Search.{Search}
 use Rattle.regex_search_core.specs.declared.search.MatchKind.TheVariants.{LeftmostFirst}
 use Rattle.thompson_nfa.specs.Automaton.{Automaton}
 use Rattle.nfa_paths.specs.Graphs.{Pair, EndsWith}
 use Rattle.nfa_paths.specs.Paths.{node_at, path_half, pattern_of, IsAnswer, IsFindAnswer, IsScanAnswer}
-use Rattle.nfa_paths.specs.Paths.{is_utf8_empty, IsSearchAnswer}
+use Rattle.nfa_paths.specs.Paths.{is_utf8_empty, slot_row, IsHalfAnswer, IsMatch, IsSearchAnswer}
 use Rattle.nfa_paths.proofs.AnswerLemmas.{scan_answer-unique}
 use Rattle.nfa_paths.proofs.PathToLemmas.{EndsWith-last}
+use Rattle.nfa_paths.proofs.RestartLemmas.{slot_row-none}
 use Rattle.nfa_engines.specs.StartLaws.{from_start}
 use Rattle.nfa_engines.specs.WindowLaws.{in_window, IsWindow}
 use Rattle.nfa_engines.proofs.FoundSpanLemmas.{end-cut}
 use Rattle.nfa_engines.proofs.StartAnswerLemmas.{scan-passed}
+
+-- without a path each slot is none
+row-none : (nfa : Automaton) (count : ℕ)
+    → (let slots : List (Option ℕ) = replicate count None in slots ≡ slot_row nfa (length slots) None)
+row-none nfa count =
+    let slots : List (Option ℕ) = replicate count None in
+    let none : Option ℕ = None in
+    let size : length slots ≡ count = length-replicate count none in
+    sym (slot_row-none nfa (length slots) ∙ ap (λ (n : ℕ). replicate n none) size)
 
 -- the answer of a search is that of its scan, if no match has to end on a boundary
 module _ (nfa : Automaton) (anywhere : is_utf8_empty nfa ≡ false) (y : Search) where
@@ -118,3 +129,40 @@ module _ (nfa : Automaton) (x : Search) (s : ℕ) (half : HalfFound) (window : I
     same-match (in_window x s half) x both.path both.cut both.whole found,
     same-match x (in_window x s half) both.path both.whole both.cut found,
   )
+
+-- ---- nothing
+
+-- the last state of an accepting path has a pattern, so the path has a half match
+half-some : (nfa : Automaton) (p : List Pair) (m : Pair) → EndsWith m p → IsMatch nfa m → path_half nfa p ≡ None → ⊥
+half-some nfa p m ends matches none =
+    of (pattern_of (node_at nfa m.0)) matches
+    (sym (ap (option_and_then
+    (λ (v : Pair). option_map (λ k. record { pattern = k; offset = v.1 }) (pattern_of (node_at nfa v.0))))
+    (EndsWith-last None m p ends)) ∙ none)
+  where
+    of : (pattern : Option ℕ) → is_some pattern ≡ true
+        → option_map (λ k. let h : HalfFound = record { pattern = k; offset = m.1 } in h) pattern ≡ None → ⊥
+    of None some is = let never : false ≡ true = some in cc
+    of (Some k) some is = cc
+
+pub nothing-found : (nfa : Automaton) (x : Search) (count : ℕ) → is_utf8_empty nfa ≡ false
+    → IsHalfAnswer nfa LeftmostFirst false x None
+    → IsAnswer nfa LeftmostFirst false x None (replicate count None) × IsFindAnswer nfa LeftmostFirst false x None
+nothing-found nfa x count anywhere half =
+    of half.path (scan-of nfa anywhere x half.restarts half.path half.answers) half.found_is
+  where
+    of : (r : Option (List Pair)) → IsScanAnswer nfa x LeftmostFirst false r
+        → None ≡ option_and_then (path_half nfa) r
+        → IsAnswer nfa LeftmostFirst false x None (replicate count None)
+        × IsFindAnswer nfa LeftmostFirst false x None
+    of None h is = (
+      record {
+        restarts = 0;
+        path = None;
+        answers = search-of nfa anywhere x None h;
+        pattern_is = refl;
+        slots_are = row-none nfa count;
+      },
+      record { restarts = 0; path = None; answers = search-of nfa anywhere x None h; found_is = refl },
+    )
+    of (Some p) h is = absurd (half-some nfa p h.end h.path.ends h.wanted (sym is))

@@ -1,5 +1,5 @@
 -- Laws of the window: a part of the span in which a leftmost first search has the answer that it has in the whole span.
-use Rattle.std.specs.Prelude.{◌≡◌, ◌↔◌, ◌⊎◌, ℕ, ◌≤◌, false, List, Option, Some}
+use Rattle.std.specs.Prelude.{◌≡◌, ◌↔◌, ◌⊎◌, ℕ, ◌≤◌, false, List, Option, None, Some, replicate}
 use Rattle.regex_search_core.specs.Found.{Found, HalfFound}
 use Rattle.regex_search_core.specs.Search.{Search}
 use Rattle.regex_search_core.specs.declared.search.MatchKind.TheVariants.{LeftmostFirst}
@@ -41,3 +41,10 @@ WindowMatches =
     (nfa : Automaton) (x : Search) (s : ℕ) (half : HalfFound) (found : Option Found) → IsWindow nfa x s half
     → IsFindAnswer nfa LeftmostFirst false (in_window x s half) found
     ↔ IsFindAnswer nfa LeftmostFirst false x found
+
+-- A search whose half match is none has no pattern, no slot and no match.
+abbrev pub NoHalfMatchIsNothing : Type 0
+NoHalfMatchIsNothing =
+    (nfa : Automaton) (x : Search) (count : ℕ) → is_utf8_empty nfa ≡ false
+    → IsHalfAnswer nfa LeftmostFirst false x None
+    → IsAnswer nfa LeftmostFirst false x None (replicate count None) × IsFindAnswer nfa LeftmostFirst false x None
