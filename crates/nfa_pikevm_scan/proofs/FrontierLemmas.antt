@@ -16,7 +16,7 @@ use Rattle.nfa_paths.proofs.StartLemmas.{resting-capture, resting-edges, byte_pa
 use Rattle.nfa_paths.proofs.TurnLemmas.{marked_sum-le}
 use Rattle.nfa_scan_core.proofs.TargetLemmas.{target-below}
 use Rattle.nfa_scan_core.specs.Marks.{Marks}
-use Rattle.nfa_pikevm_scan.specs.States.{Frontier, kept_target, moves, unmarked, one_of, Formed, Paid}
+use Rattle.nfa_pikevm_scan.specs.States.{Frontier, between, kept_target, moves, unmarked, one_of, Formed, Paid}
 use Rattle.nfa_pikevm_scan.specs.Scans.{AreAt, IsPaidAt, max_scan_turns}
 use Rattle.nfa_paths.proofs.MemberLemmas.{All-In}
 use Rattle.nfa_paths.proofs.OptionLemmas.{option_or-assoc}
@@ -161,23 +161,21 @@ sum-ones [] = refl
 sum-ones (s ∷ states) = omega (arith, sum_by-cons one_of s states, sum-ones states)
 
 module _ (nfa : Automaton) (x : Search) where
-  -- no more states are kept than the NFA has
-  pub Paid-few : (met : Marks) (hand : ℕ) (after : Marks) (more : ℕ) → Paid nfa (unmarked met) 0 [] hand after more [] 0
-      → more ≤ length nfa.states
-  Paid-few met hand after more p =
-      omega (
-        arith,
-        p.entered,
-        marked_sum-le (map one_of nfa.states) after.bits,
-        sum-map one_of nfa.states,
-        sum-ones nfa.states,
-      )
+  -- a position: it keeps no more states than the NFA has, and pays for what was left and what it takes
+  module _ (met : Marks) (hand : ℕ) (after : Marks) (kept : List (ℕ × Slots))
+      (p : Paid nfa (between (unmarked met) []) hand (between after kept) 0) where
+    pub Paid-few : length kept ≤ length nfa.states
+    Paid-few =
+        omega (
+          arith,
+          p.entered,
+          marked_sum-le (map one_of nfa.states) after.bits,
+          sum-map one_of nfa.states,
+          sum-ones nfa.states,
+        )
 
-  -- what was left and what a position takes
-  pub Paid-next : (met : Marks) (hand : ℕ) (after : Marks) (more : ℕ)
-      → Paid nfa (unmarked met) 0 [] hand after more [] 0 → after.turns + more ≤ met.turns + hand + total_degree nfa
-  Paid-next met hand after more p =
-      omega (arith, p.tried, marked_sum-le (map degree nfa.states) after.bits, sum-map degree nfa.states)
+    pub Paid-next : after.turns + length kept ≤ met.turns + hand + total_degree nfa
+    Paid-next = omega (arith, p.tried, marked_sum-le (map degree nfa.states) after.bits, sum-map degree nfa.states)
 
   -- from one position to the next
   pub IsPaidAt-cross : (at before turns items hand after more : ℕ) → x.start ≤ at → IsPaidAt nfa x at before turns items

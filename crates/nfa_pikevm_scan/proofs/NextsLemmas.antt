@@ -17,7 +17,7 @@ use Rattle.nfa_paths.proofs.TurnLemmas.{marked_sum-clear}
 use Rattle.nfa_scan_core.specs.Marks.{Marks}
 use Rattle.nfa_pikevm_scan.specs.Rows.{Active, items_of}
 use Rattle.nfa_pikevm_scan.specs.Needs.{room_of}
-use Rattle.nfa_pikevm_scan.specs.States.{Frontier, moves, tasks, unmarked, one_of, Formed, HasRoom, Paid, Follows, Leads, IsClosureContext, MayFollow}
+use Rattle.nfa_pikevm_scan.specs.States.{Frontier, between, moves, tasks, unmarked, one_of, Formed, HasRoom, Paid, Follows, Leads, IsClosureContext, MayFollow}
 use Rattle.nfa_pikevm_scan.specs.Scans.{MayCross}
 use Rattle.nfa_pikevm_scan.specs.declared.closure.ClosureContext.{ClosureContext}
 use Rattle.nfa_pikevm_scan.specs.declared.closure.ClosureOutput.{ClosureOutput}
@@ -162,7 +162,7 @@ module _ {V : Type 0} (nfa : Automaton) (x : Search) (takes : V → PatternID �
     pub added : kept ≡ moves (edges nfa x) front
     pub takes_all : Takes nfa takes front old false new
     pub formed : Formed nfa at after.bits front
-    pub paid : Paid nfa (unmarked met) 0 [] (length items) after (length kept) [] (length left)
+    pub paid : Paid nfa (between (unmarked met) []) (length items) (between after kept) (length left)
     pub follows : (current old : Slots) (waiting : List Task) (last : Slots)
         → Follows nfa x at (unmarked met) [] (tasks at items (Load old ∷ waiting)) current after front
         (tasks at left (Load old ∷ waiting)) last
@@ -213,13 +213,14 @@ module _ {V : Type 0} {nfa : Automaton} {x : Search} {takes : V → PatternID �
   module _ {left rest : List (ℕ × Slots)} {after : Marks} {kept : List (ℕ × Slots)} {mid : V} {k : ℕ} {row : Slots}
       (next : left ≡ (k, row) ∷ rest) (c : NextsLeadTo nfa x takes at met items old left after kept mid)
       {ended : Bool} {then : Marks} {more : List (ℕ × Slots)} {new : V}
-      (a : ClosureGives nfa x takes at k after kept row mid ended then more new) where
+      (a : ClosureGives nfa x takes at k (record { met = after; kept = kept; stack = []; slots = row }) mid ended
+      (between then more) new) where
     added : more ≡ moves (edges nfa x) (c.front ++ a.front)
     added =
         a.added ∙ ap (λ l. l ++ moves (edges nfa x) a.front) c.added
         ∙ sym (moves-append (edges nfa x) c.front a.front)
 
-    paid : Paid nfa (unmarked met) 0 [] (length items) then (length more) [] (length rest)
+    paid : Paid nfa (between (unmarked met) []) (length items) (between then more) (length rest)
     paid =
         let one_less : length left ≡ 1 + length rest = ap length next ∙ omega arith in
         record {

@@ -15,11 +15,10 @@ use Rattle.std.proofs.lemmas.List.Elements.{All-nil}
 use Rattle.nfa_paths.proofs.FrontierMatchLemmas.{before_match-all}
 use Rattle.nfa_pikevm_scan.proofs.SinkLemmas.{first-none}
 use Rattle.nfa_scan_core.specs.Marks.{Marks}
-use Rattle.nfa_pikevm_scan.specs.States.{Frontier, unmarked, moves, work_onto, EndsInMatch, IsHit, FindsMatch, NextsGive}
+use Rattle.nfa_pikevm_scan.specs.States.{Frontier, Moment, between, unmarked, moves, work_onto, EndsInMatch, IsHit, FindsMatch, NextsGive}
 use Rattle.nfa_pikevm_scan.specs.Sinks.{ClosureGives, ClosuresGive}
-use Rattle.nfa_pikevm_scan.specs.declared.frame.FollowEpsilon.{FollowEpsilon}
 use Rattle.nfa_pikevm_scan.proofs.EpsilonClosureLemmas.{Follows-then, Follows-load}
-use Rattle.nfa_pikevm_scan.proofs.ClosureLemmas.{moves-append, Paid-dropped}
+use Rattle.nfa_pikevm_scan.proofs.ClosureLemmas.{moves-append}
 use Rattle.nfa_pikevm_scan.proofs.FrontierLemmas.{moves-one}
 use Rattle.nfa_pikevm_scan.proofs.NextsLemmas.{NextsLeadTo-begin, NextsLeadTo-next, NextsLeadTo-ended, NextsLeadTo-over}
 
@@ -47,7 +46,8 @@ pub ClosuresGive-one : {V : Type 0} {nfa : Automaton} {x : Search} {takes : V �
     {at : ℕ} {met : Marks} {items : List (ℕ × Slots)} {old : V} {kept : List (ℕ × Slots)} {k : ℕ} {row : Slots}
     (ended : Bool) {then : Marks} {more : List (ℕ × Slots)} {new : V}
     → kept ≡ [] → met.bits ≡ replicate (length met.bits) false → items ≡ (k, row) ∷ []
-    → ClosureGives nfa x takes at k met kept row old ended then more new
+    → ClosureGives nfa x takes at k (record { met = met; kept = kept; stack = []; slots = row }) old ended
+    (between then more) new
     → ClosuresGive nfa x takes at met items old then more new
 ClosuresGive-one true empty clear one a = NextsLeadTo-ended one (NextsLeadTo-begin empty clear) a refl
 ClosuresGive-one false empty clear one a =
@@ -97,13 +97,12 @@ module _ (nfa : Automaton) (x : Search) (at : ℕ) where
       rw (some p refl, e.3) (v, first-ends (is_match nfa) e.0 (v, written) e.2 match, e.4)
 
   -- a state is followed with its row to its first match
-  pub NextsGive-start : (met : Marks) (s : ℕ) (row slots : Slots) (hit : Option PatternID) (after : Marks)
-      (kept : List (ℕ × Slots)) (above : List FollowEpsilon) (written last : Slots)
-      → FindsMatch nfa x at s (unmarked met) [] [] row hit after kept above written
-      → (hit ≡ None → above ≡ []) → (hit ≡ None → last ≡ slots)
-      → ((p : PatternID) → hit ≡ Some p → last ≡ written)
-      → NextsGive nfa x at false met ((s, row) ∷ []) slots hit after kept last
-  NextsGive-start met s row slots hit after kept above written last f over none some = record {
+  pub NextsGive-start : (met : Marks) (s : ℕ) (row slots : Slots) (hit : Option PatternID) (new : Moment) (last : Slots)
+      → FindsMatch nfa x at s (record { met = unmarked met; kept = []; stack = []; slots = row }) hit new
+      → (hit ≡ None → new.stack ≡ []) → (hit ≡ None → last ≡ slots)
+      → ((p : PatternID) → hit ≡ Some p → last ≡ new.slots)
+      → NextsGive nfa x at false met ((s, row) ∷ []) slots hit new.met new.kept last
+  NextsGive-start met s row slots hit new last f over none some = record {
     front = f.front;
     gives = record {
       added = f.gives.added;
@@ -114,16 +113,20 @@ module _ (nfa : Automaton) (x : Search) (at : ℕ) where
         marked = All-nil _;
         once = tt;
       });
-      paid = Paid-dropped f.gives.paid;
+      paid = record {
+        tried = omega (arith, f.gives.paid.tried);
+        framed = omega (arith, f.gives.paid.framed);
+        entered = f.gives.paid.entered;
+      };
       leads = λ current old waiting. record {
-        left = work_onto at above (Load old ∷ waiting);
-        written = written;
+        left = work_onto at new.stack (Load old ∷ waiting);
+        written = new.slots;
         follows = Follows-then nfa x at
             (Follows-load nfa x at (unmarked met) [] (Explore (s, at) ∷ Load old ∷ waiting) current row)
             (f.gives.follows [] old waiting);
         whole = λ on. elim on [ inl past ↦ absurd (cc past) | inr is ↦ rw (over is) refl ];
       };
     };
-    is_hit = hit-ends slots written last hit f.front f.ends none some;
-    cut = λ _. cut-ends written hit f.front f.ends;
+    is_hit = hit-ends slots new.slots last hit f.front f.ends none some;
+    cut = λ _. cut-ends new.slots hit f.front f.ends;
   }

@@ -18,7 +18,7 @@ use Rattle.nfa_paths.proofs.StartLemmas.{IsMatch-capture}
 use Rattle.nfa_paths.proofs.ScanAnswerLemmas.{edges-onward, seeds-later}
 use Rattle.nfa_paths.proofs.ScanningLemmas.{Searching-cut, Searching-wait, Searching-before_round}
 use Rattle.nfa_scan_core.specs.Marks.{Marks}
-use Rattle.nfa_pikevm_scan.specs.States.{Frontier, moves, tasks, unmarked, meant, AreMatchPairs, IsHit, Formed, Paid, SeenAt, SearchingAt, Leads, PositionGives, NextsGive}
+use Rattle.nfa_pikevm_scan.specs.States.{Frontier, between, moves, tasks, unmarked, meant, AreMatchPairs, IsHit, Formed, Paid, SeenAt, SearchingAt, Leads, PositionGives, NextsGive}
 use Rattle.nfa_pikevm_scan.specs.Scans.{blank, starts_from, half_found, AreAt, IsSoFar, IsPaidAt, SearchesFirst, SearchingFrom}
 use Rattle.nfa_pikevm_scan.proofs.TaskLemmas.{starts_from-end, AnswersFor, AnswersFor-round, Searching-for}
 use Rattle.nfa_pikevm_scan.proofs.FrontierLemmas.{Formed-rests, Formed-resting, Formed-next, Formed-below, Formed-over, Paid-few, Paid-next, IsPaidAt-cross}
@@ -30,7 +30,7 @@ pub record Crossed (nfa : Automaton) (x : Search) (at width state limit : ℕ) (
     (goes : Type 0) (after : Marks) (kept : List (ℕ × Slots)) (front : Frontier) : Type 0 where
   pub added : kept ≡ moves (edges nfa x) front
   pub formed : Formed nfa at after.bits front
-  pub paid : Paid nfa (unmarked met) 0 [] (length items) after (length kept) [] 0
+  pub paid : Paid nfa (between (unmarked met) []) (length items) (between after kept) 0
   pub leads : Leads nfa x at (unmarked met) []
       (tasks at items (Load (blank width) ∷ starts_from width state (at + 1) limit)) (blank width) goes after front
       (Load (blank width) ∷ starts_from width state (at + 1) limit)
@@ -58,10 +58,10 @@ module _ {nfa : Automaton} {x : Search} {at width state limit : ℕ} {met after 
       → AreAt nfa x (at + 1) before after.turns kept
   AreAt-cross leads {before} {stood} low paid one = record {
     states = rw c.added (Formed-below nfa x at after.bits leads front c.formed);
-    few = Paid-few nfa x met (length items) after (length kept) c.paid;
+    few = Paid-few nfa x met (length items) after kept c.paid;
     over = λ past. over-cross (omega arith);
     paid = IsPaidAt-cross nfa x at before met.turns stood (length items) after.turns (length kept) low paid one
-        (Paid-next nfa x met (length items) after (length kept) c.paid);
+        (Paid-next nfa x met (length items) after kept c.paid);
   }
 
 -- the first path

@@ -25,7 +25,7 @@ use Rattle.nfa_paths.proofs.ScanningLemmas.{once-keep}
 use Rattle.nfa_scan_core.proofs.TargetLemmas.{target-degree}
 use Rattle.nfa_scan_core.specs.Marks.{Marks}
 use Rattle.nfa_pikevm_scan.specs.Needs.{room_of}
-use Rattle.nfa_pikevm_scan.specs.States.{Frontier, work_onto, with_state, tries, tries_of, state_on, one_of, kept_target, IsWithin, IsPut, IsSaved, WasSeen, Entered, Follows, Formed, Paid, HasRoom, VisitsState, IsMet}
+use Rattle.nfa_pikevm_scan.specs.States.{Frontier, Moment, work_onto, with_state, tries, tries_of, state_on, one_of, kept_target, IsWithin, IsPut, IsSaved, WasSeen, Entered, Follows, Formed, Paid, HasRoom, VisitsState, IsMet}
 use Rattle.nfa_pikevm_scan.specs.declared.closure.Move.{Move}
 use Rattle.nfa_pikevm_scan.specs.declared.closure.Move.TheVariants.{On, Matched, DeadEnd}
 use Rattle.nfa_pikevm_scan.specs.declared.frame.FollowEpsilon.{FollowEpsilon}
@@ -69,20 +69,15 @@ module _ {nfa : Automaton} {s : ℕ} {node : Node} {m n : Marks} (e : Entered nf
         )
 
   -- what it pushes and keeps is paid for
-  Paid-entered : (items kept : ℕ) (stack above : List FollowEpsilon) (in_hand : ℕ)
-      → sum_by tries above + in_hand + kept ≤ sum_by tries stack + degree node + items
-      → length above ≤ length stack + room_of node → kept ≤ items + 1
-      → Paid nfa m items stack 1 n kept above in_hand
-  Paid-entered items kept stack above in_hand tried framed entered = record {
+  Paid-entered : (a b : Moment) (in_hand : ℕ)
+      → sum_by tries b.stack + in_hand + length b.kept ≤ sum_by tries a.stack + degree node + length a.kept
+      → length b.stack ≤ length a.stack + room_of node → length b.kept ≤ length a.kept + 1
+      → Paid nfa (record a { met = m }) 1 (record b { met = n }) in_hand
+  Paid-entered a b in_hand tried framed entered = record {
     tried = omega (arith, tried, e.counted, weight-entered degree);
     framed = omega (arith, framed, weight-entered room_of);
     entered = omega (arith, entered, weight-entered one_of);
   }
-
-  Paid-same : (items : ℕ) (stack : List FollowEpsilon) (in_hand : ℕ) → in_hand ≤ degree node
-      → Paid nfa m items stack 1 n items stack in_hand
-  Paid-same items stack in_hand few = Paid-entered items items stack stack in_hand (omega arith)
-      (omega arith) (omega arith)
 
   -- a mark that is set stays when another is set
   still : (bits : List Bool) (s k : ℕ) → get_or bits k false ≡ true → get_or (set bits s true) k false ≡ true
@@ -124,35 +119,32 @@ module _ {nfa : Automaton} {s : ℕ} {node : Node} {m n : Marks} (e : Entered nf
         }
 
 -- The result of a turn that adds no pair to the front.
-module _ {nfa : Automaton} {x : Search} {at s : ℕ} {m n : Marks} {items : List (ℕ × Slots)} {stack : List FollowEpsilon}
-    {slots : Slots} {turn : Move} {above : List FollowEpsilon} {written : Slots} where
-  VisitsState-bare : IsMet nfa x (s, at) written turn []
-      → ((before : Frontier) → Formed nfa at m.bits before → Formed nfa at n.bits before)
-      → ((before : Frontier) (old : Slots) (work : List Task)
-      → Follows nfa x at m before (Explore (s, at) ∷ work_onto at stack (Load old ∷ work)) slots
-      n before (with_state at (state_on turn) (work_onto at above (Load old ∷ work))) written)
-      → Paid nfa m (length items) stack 1 n (length items) above (tries_of (state_on turn))
-      → VisitsState nfa x at s m items stack slots turn n items above written
-  VisitsState-bare met formed follows paid = record {
-    front = [];
-    gives = record {
-      added = sym (append-nil items);
-      formed = λ before f. rw (append-nil before) (formed before f);
-      follows = λ before old work. rw (append-nil before) (follows before old work);
-      paid = paid;
-    };
-    is_met = met;
-  }
+VisitsState-bare : {nfa : Automaton} {x : Search} {at s : ℕ} {old new : Moment} {turn : Move}
+    → IsMet nfa x (s, at) new.slots turn [] → new.kept ≡ old.kept
+    → ((before : Frontier) → Formed nfa at old.met.bits before → Formed nfa at new.met.bits before)
+    → ((before : Frontier) (below : Slots) (work : List Task)
+    → Follows nfa x at old.met before (Explore (s, at) ∷ work_onto at old.stack (Load below ∷ work)) old.slots
+    new.met before (with_state at (state_on turn) (work_onto at new.stack (Load below ∷ work))) new.slots)
+    → Paid nfa old 1 new (tries_of (state_on turn)) → VisitsState nfa x at s old turn new
+VisitsState-bare {old = old} met same formed follows paid = record {
+  front = [];
+  gives = record {
+    added = same ∙ sym (append-nil old.kept);
+    formed = λ before f. rw (append-nil before) (formed before f);
+    follows = λ before below work. rw (append-nil before) (follows before below work);
+    paid = paid;
+  };
+  is_met = met;
+}
 
-module _ {nfa : Automaton} {x : Search} {at s : ℕ} {m n : Marks} {items : List (ℕ × Slots)} {stack : List FollowEpsilon}
-    {slots : Slots} where
-  -- a turn that finds its state marked
-  pub VisitsState-marked : WasSeen s m n → VisitsState nfa x at s m items stack slots DeadEnd n items stack slots
-  VisitsState-marked w =
-      VisitsState-bare (λ b i. absurd i) (λ before f. rw w.same f)
-      (λ before old work. Follows-marked nfa x at m before (work_onto at stack (Load old ∷ work)) slots w)
-      (let same = w.same in let counted = w.counted in
-      record { tried = rw same (omega arith); framed = rw same (omega arith); entered = rw same (omega arith) })
+-- a turn that finds its state marked
+pub VisitsState-marked : {nfa : Automaton} {x : Search} {at s : ℕ} {a : Moment} {n : Marks} → WasSeen s a.met n
+    → VisitsState nfa x at s a DeadEnd (record a { met = n })
+VisitsState-marked {nfa} {x} {at} {a = a} w =
+    VisitsState-bare (λ b i. absurd i) refl (λ before f. rw w.same f)
+    (λ before below work. Follows-marked nfa x at a.met before (work_onto at a.stack (Load below ∷ work)) a.slots w)
+    (let same = w.same in let counted = w.counted in
+    record { tried = rw same (omega arith); framed = rw same (omega arith); entered = rw same (omega arith) })
 
 -- the alternatives that are pushed, with the earliest on top
 abbrev pub put : List ℕ → List FollowEpsilon
@@ -219,55 +211,51 @@ onto-tries [] = refl
 onto-tries (e ∷ es) = omega arith
 
 -- The result of a turn that marks its state and goes on to its edges, with all but the first pushed.
-module _ {nfa : Automaton} {x : Search} {at s : ℕ} {m n : Marks} {items : List (ℕ × Slots)} {stack : List FollowEpsilon}
-    {slots : Slots} where
-  VisitsState-edges : {node : Node} → Entered nfa s node m n → pattern_of node ≡ None → slot_of node ≡ None
+module _ {nfa : Automaton} {x : Search} {at s : ℕ} {a : Moment} {n : Marks} where
+  VisitsState-edges : {node : Node} → Entered nfa s node a.met n → pattern_of node ≡ None → slot_of node ≡ None
       → (es : List ℕ) → edges_of x node at ≡ map (λ q. (q, at)) es → length es ≤ degree node
       → length es ≤ room_of node + 1 → (turn : Move) → turn ≡ onto (slice_get es 0)
-      → (above : List FollowEpsilon) → above ≡ stack ++ put (drop 1 es)
-      → VisitsState nfa x at s m items stack slots turn n items above slots
+      → (above : List FollowEpsilon) → above ≡ a.stack ++ put (drop 1 es)
+      → VisitsState nfa x at s a turn (record a { met = n; stack = above })
   VisitsState-edges {node} e plain writes es leads few room turn goes above puts =
-      rw (goes, puts) (VisitsState-bare (onto-plain nfa x (s, at) slots (slice_get es 0))
+      rw (goes, puts) (VisitsState-bare (onto-plain nfa x (s, at) a.slots (slice_get es 0)) refl
       (λ before f. Formed-marked e at before f)
-      (λ before old work. rw (onto-work at stack es (Load old ∷ work))
-      (Follows-plain nfa x at m before (work_onto at stack (Load old ∷ work)) slots e plain (map (λ q. (q, at)) es)
-      leads writes))
-      (Paid-entered e (length items) (length items) stack (stack ++ put (drop 1 es))
-      (tries_of (state_on (onto (slice_get es 0)))) (omega (arith, tries-put stack (drop 1 es), onto-tries es))
-      (omega (arith, length-put stack (drop 1 es), length-drop 1 es)) (omega arith)))
+      (λ before below work. rw (onto-work at a.stack es (Load below ∷ work))
+      (Follows-plain nfa x at a.met before (work_onto at a.stack (Load below ∷ work)) a.slots e plain
+      (map (λ q. (q, at)) es) leads writes))
+      (Paid-entered e a (record a { stack = a.stack ++ put (drop 1 es) })
+      (tries_of (state_on (onto (slice_get es 0)))) (omega (arith, tries-put a.stack (drop 1 es), onto-tries es))
+      (omega (arith, length-put a.stack (drop 1 es), length-drop 1 es)) (omega arith)))
 
-  pub VisitsState-look : {look : looks.Look} {next : ℕ} → Entered nfa s (Look look next) m n
-      → look_holds look x.haystack at ≡ true
-      → VisitsState nfa x at s m items stack slots (On next) n items stack slots
+  pub VisitsState-look : {look : looks.Look} {next : ℕ} → Entered nfa s (Look look next) a.met n
+      → look_holds look x.haystack at ≡ true → VisitsState nfa x at s a (On next) (record a { met = n })
   unfolding edges_of
   VisitsState-look {next = next} e holds = VisitsState-edges e refl refl (next ∷ []) (rw holds refl) (omega arith)
-      (omega arith) (On next) refl stack (sym (append-nil stack))
+      (omega arith) (On next) refl a.stack (sym (append-nil a.stack))
 
-  pub VisitsState-no_look : {look : looks.Look} {next : ℕ} → Entered nfa s (Look look next) m n
-      → look_holds look x.haystack at ≡ false
-      → VisitsState nfa x at s m items stack slots DeadEnd n items stack slots
+  pub VisitsState-no_look : {look : looks.Look} {next : ℕ} → Entered nfa s (Look look next) a.met n
+      → look_holds look x.haystack at ≡ false → VisitsState nfa x at s a DeadEnd (record a { met = n })
   unfolding edges_of
   VisitsState-no_look e fails = VisitsState-edges e refl refl [] (rw fails refl) (omega arith) (omega arith) DeadEnd
-      refl stack (sym (append-nil stack))
+      refl a.stack (sym (append-nil a.stack))
 
-  pub VisitsState-no_union : {alternates : List ℕ} → Entered nfa s (Union alternates) m n
-      → slice_get alternates 0 ≡ None
-      → VisitsState nfa x at s m items stack slots DeadEnd n items stack slots
+  pub VisitsState-no_union : {alternates : List ℕ} → Entered nfa s (Union alternates) a.met n
+      → slice_get alternates 0 ≡ None → VisitsState nfa x at s a DeadEnd (record a { met = n })
   unfolding edges_of
   VisitsState-no_union {alternates} e none =
       VisitsState-edges e refl refl [] (ap (map (λ q. (q, at))) (none-nil alternates none)) (omega arith) (omega arith)
-      DeadEnd refl stack (sym (append-nil stack))
+      DeadEnd refl a.stack (sym (append-nil a.stack))
 
-  pub VisitsState-union : {alternates : List ℕ} → Entered nfa s (Union alternates) m n → {f : ℕ}
-      → slice_get alternates 0 ≡ Some f → {above : List FollowEpsilon} → above ≡ stack ++ put (drop 1 alternates)
-      → VisitsState nfa x at s m items stack slots (On f) n items above slots
+  pub VisitsState-union : {alternates : List ℕ} → Entered nfa s (Union alternates) a.met n → {f : ℕ}
+      → slice_get alternates 0 ≡ Some f → {above : List FollowEpsilon} → above ≡ a.stack ++ put (drop 1 alternates)
+      → VisitsState nfa x at s a (On f) (record a { met = n; stack = above })
   unfolding edges_of
   VisitsState-union {alternates} e {f} first {above} is = VisitsState-edges e refl refl alternates refl (omega arith)
       (omega arith) (On f) (ap onto (sym first)) above is
 
-  pub VisitsState-both : {alt1 alt2 : ℕ} → Entered nfa s (BinaryUnion alt1 alt2) m n → {above : List FollowEpsilon}
-      → above ≡ stack ++ ToExplore alt2 ∷ []
-      → VisitsState nfa x at s m items stack slots (On alt1) n items above slots
+  pub VisitsState-both : {alt1 alt2 : ℕ} → Entered nfa s (BinaryUnion alt1 alt2) a.met n → {above : List FollowEpsilon}
+      → above ≡ a.stack ++ ToExplore alt2 ∷ []
+      → VisitsState nfa x at s a (On alt1) (record a { met = n; stack = above })
   unfolding edges_of
   VisitsState-both {alt1} {alt2} e {above} is =
       VisitsState-edges e refl refl (alt1 ∷ alt2 ∷ []) refl (omega arith) (omega arith) (On alt1) refl above is
@@ -299,48 +287,49 @@ within-saved states at slot stack slots above written h within = elim h [
   | inr k ↦ rw k.1 within
 ]
 
-module _ {nfa : Automaton} {s next slot : ℕ} {m n : Marks} (e : Entered nfa s (Capture next slot) m n) (at : ℕ)
-    {stack : List FollowEpsilon} {slots : Slots} {above : List FollowEpsilon} {written : Slots}
-    (h : IsSaved at slot stack slots above written) where
-  Paid-saved : (kept : ℕ) → Paid nfa m kept stack 1 n kept above 1
-  Paid-saved kept = elim h [
+module _ {nfa : Automaton} {s next slot : ℕ} (a : Moment) {n : Marks} (e : Entered nfa s (Capture next slot) a.met n)
+    (at : ℕ) {above : List FollowEpsilon} {written : Slots} (h : IsSaved at slot a.stack a.slots above written) where
+  Paid-saved : Paid nfa a 1 (record { met = n; kept = a.kept; stack = above; slots = written }) 1
+  Paid-saved = elim h [
     | inl k ↦ elim k.1 [
-      | inl none ↦ rw (none.1 ∙ sym none.0) (Paid-same e kept stack 1 (omega arith))
+      | inl none ↦ rw (none.1 ∙ sym none.0) (Paid-entered e a (record a { slots = written }) 1 (omega arith)
+          (omega arith) (omega arith))
       | inr more ↦
-          let back : FollowEpsilon = Restore slot (get_or slots slot None) in
-          rw more (Paid-entered e kept kept stack (stack ++ back ∷ []) 1
-          (omega (arith, sum_by_push tries stack back)) (omega (arith, length-append stack (back ∷ []))) (omega arith))
+          let back : FollowEpsilon = Restore slot (get_or a.slots slot None) in
+          rw more (Paid-entered e a (record a { stack = a.stack ++ back ∷ []; slots = written }) 1
+          (omega (arith, sum_by_push tries a.stack back)) (omega (arith, length-append a.stack (back ∷ [])))
+          (omega arith))
     ]
-    | inr k ↦ rw k.1 (Paid-same e kept stack 1 (omega arith))
+    | inr k ↦ rw k.1 (Paid-entered e a (record a { slots = written }) 1 (omega arith) (omega arith) (omega arith))
   ]
 
   -- If the stack is empty, the slot need not be restored: slots are loaded next.
-  Follows-capture : (x : Search) (before : Frontier) (old : Slots) (work : List Task)
-      → Follows nfa x at m before (Explore (s, at) ∷ work_onto at stack (Load old ∷ work)) slots n before
-      (Explore (next, at) ∷ work_onto at above (Load old ∷ work)) written
+  Follows-capture : (x : Search) (before : Frontier) (below : Slots) (work : List Task)
+      → Follows nfa x at a.met before (Explore (s, at) ∷ work_onto at a.stack (Load below ∷ work)) a.slots n before
+      (Explore (next, at) ∷ work_onto at above (Load below ∷ work)) written
   unfolding edges_of
-  Follows-capture x before old work =
-      let back : Option ℕ = get_or slots slot None in
+  Follows-capture x before below work =
+      let back : Option ℕ = get_or a.slots slot None in
       elim h [
         | inl k ↦ elim k.1 [
           | inl none ↦ rw (none.0, none.1, k.2)
               (Follows-then nfa x at
-              (Follows-write nfa x at m before (Load old ∷ work) slots e refl ((next, at) ∷ []) refl slot refl)
-              (Follows-unrestored nfa x at n before work (set slots slot (Some at)) (next, at) slot back old))
-          | inr more ↦ rw (more, k.2, work_onto-push at stack (Restore slot back) (Load old ∷ work))
-              (Follows-write nfa x at m before (work_onto at stack (Load old ∷ work)) slots e refl ((next, at) ∷ [])
-              refl slot refl)
+              (Follows-write nfa x at a.met before (Load below ∷ work) a.slots e refl ((next, at) ∷ []) refl slot refl)
+              (Follows-unrestored nfa x at n before work (set a.slots slot (Some at)) (next, at) slot back below))
+          | inr more ↦ rw (more, k.2, work_onto-push at a.stack (Restore slot back) (Load below ∷ work))
+              (Follows-write nfa x at a.met before (work_onto at a.stack (Load below ∷ work)) a.slots e refl
+              ((next, at) ∷ []) refl slot refl)
         ]
         | inr k ↦ rw (k.1, k.2)
-            (Follows-unkept nfa x at m before (work_onto at stack (Load old ∷ work)) slots e refl ((next, at) ∷ [])
-            refl slot refl k.0)
+            (Follows-unkept nfa x at a.met before (work_onto at a.stack (Load below ∷ work)) a.slots e refl
+            ((next, at) ∷ []) refl slot refl k.0)
       ]
 
-  pub VisitsState-capture : {x : Search} {items : List (ℕ × Slots)}
-      → VisitsState nfa x at s m items stack slots (On next) n items above written
-  VisitsState-capture {x} {items} =
-      VisitsState-bare (λ b i. absurd i) (λ before f. Formed-marked e at before f)
-      (λ before old work. Follows-capture x before old work) (Paid-saved (length items))
+  pub VisitsState-capture : {x : Search}
+      → VisitsState nfa x at s a (On next) (record { met = n; kept = a.kept; stack = above; slots = written })
+  VisitsState-capture {x} =
+      VisitsState-bare (λ b i. absurd i) refl (λ before f. Formed-marked e at before f)
+      (λ before below work. Follows-capture x before below work) Paid-saved
 
 -- a byte leads to one of the state's edges, or to none
 few-target : (node : Node) (slots : Slots) (byte : Option ℕ)
@@ -362,49 +351,47 @@ no_match {nfa} {s} {node} e x at slots plain = λ b i t.
     elim i [ inl same ↦ both_ways (is_match nfa (s, at)) off (rw same at t) | inr more ↦ absurd more ]
 
 -- The result of a turn that enters a resting state: it keeps the states that the state leads to.
-module _ {nfa : Automaton} {s : ℕ} {node : Node} {m n : Marks} (e : Entered nfa s node m n) {x : Search} {at : ℕ}
-    {items : List (ℕ × Slots)} {stack : List FollowEpsilon} {slots : Slots} (r : rests node ≡ true) where
-  VisitsState-resting : (more : List (ℕ × Slots)) → map (λ v. (v.0, slots)) (edges_of x node at) ≡ more
-      → length more ≤ 1 → length more ≤ degree node
-      → {kept : List (ℕ × Slots)} → kept ≡ items ++ more
-      → {turn : Move} → state_on turn ≡ None → IsMet nfa x (s, at) slots turn (((s, at), slots) ∷ [])
-      → VisitsState nfa x at s m items stack slots turn n kept stack slots
+module _ {nfa : Automaton} {s : ℕ} {node : Node} {a : Moment} {n : Marks} (e : Entered nfa s node a.met n) {x : Search}
+    {at : ℕ} (r : rests node ≡ true) where
+  VisitsState-resting : (more : List (ℕ × Slots)) → map (λ v. (v.0, a.slots)) (edges_of x node at) ≡ more
+      → length more ≤ 1 → length more ≤ degree node → {kept : List (ℕ × Slots)} → kept ≡ a.kept ++ more
+      → {turn : Move} → state_on turn ≡ None → IsMet nfa x (s, at) a.slots turn (((s, at), a.slots) ∷ [])
+      → VisitsState nfa x at s a turn (record a { met = n; kept = kept })
   VisitsState-resting more leads one few {kept} added {turn} over met =
       let is = node_at-get nfa s node e.is in
-      let moved = moves-one (edges nfa x) (s, at) slots (edges_of x node at) (rw is refl) ∙ leads in
-      let count = ap length added ∙ length-append items more in
+      let moved = moves-one (edges nfa x) (s, at) a.slots (edges_of x node at) (rw is refl) ∙ leads in
+      let count = ap length added ∙ length-append a.kept more in
       record {
-        front = ((s, at), slots) ∷ [];
+        front = ((s, at), a.slots) ∷ [];
         gives = record {
-          added = added ∙ ap (λ l. items ++ l) (sym moved);
-          formed = λ before f. Formed-kept e at before f slots r;
-          follows = λ before old work. rw over
-              (Follows-keep nfa x at m before (work_onto at stack (Load old ∷ work)) slots e r);
-          paid = rw over (Paid-entered e (length items) (length kept) stack stack 0 (omega arith) (omega arith)
-              (omega arith));
+          added = added ∙ ap (λ l. a.kept ++ l) (sym moved);
+          formed = λ before f. Formed-kept e at before f a.slots r;
+          follows = λ before below work. rw over
+              (Follows-keep nfa x at a.met before (work_onto at a.stack (Load below ∷ work)) a.slots e r);
+          paid = rw over (Paid-entered e a (record a { kept = kept }) 0 (omega arith) (omega arith) (omega arith));
         };
         is_met = met;
       }
 
   -- the state that the byte leads to is kept
   pub VisitsState-byte : pattern_of node ≡ None → {byte : Option ℕ} → byte ≡ byte_at x at → {kept : List (ℕ × Slots)}
-      → kept ≡ items ++ kept_target (option_and_then (target_on node) byte) slots
-      → VisitsState nfa x at s m items stack slots DeadEnd n kept stack slots
+      → kept ≡ a.kept ++ kept_target (option_and_then (target_on node) byte) a.slots
+      → VisitsState nfa x at s a DeadEnd (record a { met = n; kept = kept })
   VisitsState-byte plain {byte} reads added =
-      let few = few-target node slots byte in
-      VisitsState-resting (kept_target (option_and_then (target_on node) byte) slots)
-      (rw reads (edges-move x at slots node r)) few.0 few.1 added refl (no_match e x at slots plain)
+      let few = few-target node a.slots byte in
+      VisitsState-resting (kept_target (option_and_then (target_on node) byte) a.slots)
+      (rw reads (edges-move x at a.slots node r)) few.0 few.1 added refl (no_match e x at a.slots plain)
 
-module _ {nfa : Automaton} {s : ℕ} {m n : Marks} {x : Search} {at : ℕ} {items : List (ℕ × Slots)}
-    {stack : List FollowEpsilon} {slots : Slots} where
-  pub VisitsState-fail : Entered nfa s Fail m n → VisitsState nfa x at s m items stack slots DeadEnd n items stack slots
+module _ {nfa : Automaton} {s : ℕ} {a : Moment} {n : Marks} {x : Search} {at : ℕ} where
+  pub VisitsState-fail : Entered nfa s Fail a.met n → VisitsState nfa x at s a DeadEnd (record a { met = n })
   unfolding edges_of
-  VisitsState-fail e = VisitsState-resting e refl [] refl (omega arith) (omega arith) (sym (append-nil items)) refl
-      (no_match e x at slots refl)
+  VisitsState-fail e = VisitsState-resting e refl [] refl (omega arith) (omega arith) (sym (append-nil a.kept)) refl
+      (no_match e x at a.slots refl)
 
-  pub VisitsState-match : {pattern : PatternID} → Entered nfa s (Match (number_of pattern)) m n
-      → VisitsState nfa x at s m items stack slots (Matched pattern) n items stack slots
+  pub VisitsState-match : {pattern : PatternID} → Entered nfa s (Match (number_of pattern)) a.met n
+      → VisitsState nfa x at s a (Matched pattern) (record a { met = n })
   unfolding edges_of
   VisitsState-match {pattern} e =
       let is = node_at-get nfa s (Match (number_of pattern)) e.is in
-      VisitsState-resting e refl [] refl (omega arith) (omega arith) (sym (append-nil items)) refl (refl, rw is refl)
+      VisitsState-resting e refl [] refl (omega arith) (omega arith) (sym (append-nil a.kept)) refl
+      (refl, rw is refl)

@@ -10,7 +10,7 @@ use Rattle.nfa_paths.specs.Paths.{node_at, pattern_of, edges, is_match}
 use Rattle.nfa_paths.specs.Exploring.{Slots, Task}
 use Rattle.nfa_paths.specs.Exploring.Task.{Explore as ToExplore, Load as ToLoad}
 use Rattle.nfa_scan_core.specs.Marks.{Marks}
-use Rattle.nfa_pikevm_scan.specs.States.{Frontier, moves, Formed, Paid, Leads, PositionGives}
+use Rattle.nfa_pikevm_scan.specs.States.{Frontier, Moment, moves, work_onto, Formed, Paid, Leads, PositionGives}
 use Rattle.nfa_pikevm_scan.specs.declared.sink.SlotsSink.{SlotsSink}
 use Rattle.nfa_pikevm_scan.specs.declared.overlap.PatternSink.{PatternSink}
 
@@ -51,18 +51,18 @@ pub data Takes {V : Type 0} (nfa : Automaton) (takes : V → PatternID → Slots
       → Takes nfa takes (a ∷ []) v true w
 
 module _ (nfa : Automaton) (x : Search) {V : Type 0} (takes : V → PatternID → Slots → Bool → V → Type 0) where
-  -- The result of following a state with a slot row, up to the position's next byte: a front, whose moves are in memory
-  -- and whose matches were taken.
-  pub record ClosureGives (at s : ℕ) (met : Marks) (items : List (ℕ × Slots)) (row : Slots) (old : V) (ended : Bool)
-      (after : Marks) (kept : List (ℕ × Slots)) (new : V) : Type 0 where
-    pub front : Frontier
-    pub added : kept ≡ items ++ moves (edges nfa x) front
-    pub takes_all : Takes nfa takes front old ended new
-    pub formed : (before : Frontier) → Formed nfa at met.bits before → Formed nfa at after.bits (before ++ front)
-    pub paid : Paid nfa met (length items) [] 1 after (length kept) [] 0
-    pub leads : (before : Frontier) (old : Slots) (work : List Task)
-        → Leads nfa x at met before (ToExplore (s, at) ∷ ToLoad old ∷ work) row (ended ≡ false) after
-        (before ++ front) (ToLoad old ∷ work)
+  -- The result of following a state, and the frames of the stack, up to the position's next byte: a front, whose moves
+  -- are in memory and whose matches were taken.
+  pub record ClosureGives (at s : ℕ) (before : Moment) (old : V) (ended : Bool) (after : Moment) (new : V) : Type 0
+    where
+      pub front : Frontier
+      pub added : after.kept ≡ before.kept ++ moves (edges nfa x) front
+      pub takes_all : Takes nfa takes front old ended new
+      pub formed : (f : Frontier) → Formed nfa at before.met.bits f → Formed nfa at after.met.bits (f ++ front)
+      pub paid : Paid nfa before 1 after 0
+      pub leads : (f : Frontier) (below : Slots) (work : List Task)
+          → Leads nfa x at before.met f (ToExplore (s, at) ∷ work_onto at before.stack (ToLoad below ∷ work))
+          before.slots (ended ≡ false) after.met (f ++ front) (ToLoad below ∷ work)
 
   -- The same for all states at a position, with no marks before.
   pub record ClosuresGive (at : ℕ) (met : Marks) (items : List (ℕ × Slots)) (old : V)

@@ -41,6 +41,21 @@ tasks at (i ∷ items) waiting = ToLoad i.1 ∷ ToExplore (i.0, at) ∷ tasks at
 abbrev pub unmarked : Marks → Marks
 unmarked met = record met { bits = replicate (length met.bits) false }
 
+-- what is held at a moment: the marks, the states that are kept, each with its row, the stack and the slots
+pub record Moment : Type 0 where
+  pub met : Marks
+  pub kept : List (ℕ × Slots)
+  pub stack : List FollowEpsilon
+  pub slots : Slots
+
+-- what is held while a position is followed, with this stack and these slots
+abbrev pub moment_of : ClosureOutput → List FollowEpsilon → Slots → Moment
+moment_of reached stack slots = record { met = reached.seen; kept = reached.next.items; stack = stack; slots = slots }
+
+-- what is held between two states that are followed: no frame and no slots
+abbrev pub between : Marks → List (ℕ × Slots) → Moment
+between met kept = record { met = met; kept = kept; stack = []; slots = [] }
+
 -- the work that a frame leaves at the position
 abbrev pub work_item_of : ℕ → FollowEpsilon → Task
 work_item_of at (Explore sid) = ToExplore (sid, at)
@@ -172,14 +187,15 @@ pub record HasRoom (nfa : Automaton) (bits : List Bool) (top frames kept capacit
 
 -- From one moment to a later one: the marks pay for the turns and for what is left to take, for the frames, and for the
 -- kept states.
-pub record Paid (nfa : Automaton) (met : Marks) (kept : ℕ) (stack : List FollowEpsilon) (hand : ℕ)
-    (after : Marks) (more : ℕ) (above : List FollowEpsilon) (left : ℕ) : Type 0 where
-  pub tried : after.turns + left + sum_by tries above + more + marked_sum (map degree nfa.states) met.bits
-      ≤ met.turns + hand + sum_by tries stack + kept + marked_sum (map degree nfa.states) after.bits
-  pub framed : length above + marked_sum (map room_of nfa.states) met.bits ≤ length stack
-      + marked_sum (map room_of nfa.states) after.bits
-  pub entered : more + marked_sum (map one_of nfa.states) met.bits ≤ kept
-      + marked_sum (map one_of nfa.states) after.bits
+pub record Paid (nfa : Automaton) (old : Moment) (hand : ℕ) (new : Moment) (left : ℕ) : Type 0 where
+  pub tried : new.met.turns + left + sum_by tries new.stack + length new.kept
+      + marked_sum (map degree nfa.states) old.met.bits
+      ≤ old.met.turns + hand + sum_by tries old.stack + length old.kept
+      + marked_sum (map degree nfa.states) new.met.bits
+  pub framed : length new.stack + marked_sum (map room_of nfa.states) old.met.bits ≤ length old.stack
+      + marked_sum (map room_of nfa.states) new.met.bits
+  pub entered : length new.kept + marked_sum (map one_of nfa.states) old.met.bits ≤ length old.kept
+      + marked_sum (map one_of nfa.states) new.met.bits
 
 -- The position is in the span or at its end, and the byte is the one at the position.
 pub record IsClosureContext (here : ClosureContext) : Type 0 where
@@ -217,32 +233,25 @@ module _ (nfa : Automaton) (x : Search) where
 
   -- The result of turns from a state on, which are paid for: they add a front, whose moves are in memory, and leave a
   -- state to follow, or none, and a stack. What is left below the stack begins by loading slots.
-  pub record TurnsGive (at s : ℕ) (met : Marks) (items : List (ℕ × Slots)) (stack : List FollowEpsilon) (slots : Slots)
-      (front : Frontier) (after : Marks) (kept : List (ℕ × Slots)) (state : Option ℕ) (above : List FollowEpsilon)
-      (written : Slots) : Type 0 where
-    pub added : kept ≡ items ++ moves (edges nfa x) front
-    pub formed : (before : Frontier) → Formed nfa at met.bits before → Formed nfa at after.bits (before ++ front)
-    pub follows : (before : Frontier) (old : Slots) (work : List Task)
-        → Follows at met before (ToExplore (s, at) ∷ work_onto at stack (ToLoad old ∷ work)) slots
-        after (before ++ front) (with_state at state (work_onto at above (ToLoad old ∷ work))) written
-    pub paid : Paid nfa met (length items) stack 1 after (length kept) above (tries_of state)
+  pub record TurnsGive (at s : ℕ) (old : Moment) (front : Frontier) (state : Option ℕ) (new : Moment) : Type 0 where
+    pub added : new.kept ≡ old.kept ++ moves (edges nfa x) front
+    pub formed : (before : Frontier) → Formed nfa at old.met.bits before → Formed nfa at new.met.bits (before ++ front)
+    pub follows : (before : Frontier) (below : Slots) (work : List Task)
+        → Follows at old.met before (ToExplore (s, at) ∷ work_onto at old.stack (ToLoad below ∷ work)) old.slots
+        new.met (before ++ front) (with_state at state (work_onto at new.stack (ToLoad below ∷ work))) new.slots
+    pub paid : Paid nfa old 1 new (tries_of state)
 
   -- The result of a turn that tries to enter the state.
-  pub record VisitsState (at s : ℕ) (met : Marks) (items : List (ℕ × Slots)) (stack : List FollowEpsilon)
-      (slots : Slots)
-      (turn : Move) (after : Marks) (kept : List (ℕ × Slots)) (above : List FollowEpsilon)
-      (written : Slots) : Type 0 where
+  pub record VisitsState (at s : ℕ) (old : Moment) (turn : Move) (new : Moment) : Type 0 where
     pub front : Frontier
-    pub gives : TurnsGive at s met items stack slots front after kept (state_on turn) above written
-    pub is_met : IsMet (s, at) written turn front
+    pub gives : TurnsGive at s old front (state_on turn) new
+    pub is_met : IsMet (s, at) new.slots turn front
 
   -- The result of turns from a state on up to the next match, if there is one: the front ends with the match.
-  pub record FindsMatch (at s : ℕ) (met : Marks) (items : List (ℕ × Slots)) (stack : List FollowEpsilon) (slots : Slots)
-      (hit : Option PatternID) (after : Marks) (kept : List (ℕ × Slots)) (above : List FollowEpsilon)
-      (written : Slots) : Type 0 where
+  pub record FindsMatch (at s : ℕ) (old : Moment) (hit : Option PatternID) (new : Moment) : Type 0 where
     pub front : Frontier
-    pub gives : TurnsGive at s met items stack slots front after kept None above written
-    pub ends : EndsInMatch nfa at written hit front
+    pub gives : TurnsGive at s old front None new
+    pub ends : EndsInMatch nfa at new.slots hit front
 
   -- The search goes on to a front and some work. The work is `rest` if the search `goes_on` to the end of its work.
   pub record Leads (at : ℕ) (met : Marks) (before : Frontier) (work : List Task) (slots : Slots) (goes_on : Type 0)
@@ -258,7 +267,7 @@ module _ (nfa : Automaton) (x : Search) where
       (after : Marks) (kept : List (ℕ × Slots)) : Type 0 where
     pub added : kept ≡ moves (edges nfa x) front
     pub formed : Formed nfa at after.bits front
-    pub paid : Paid nfa (unmarked met) 0 [] (length items) after (length kept) [] 0
+    pub paid : Paid nfa (between (unmarked met) []) (length items) (between after kept) 0
     pub leads : (current old : Slots) (waiting : List Task)
         → Leads at (unmarked met) [] (tasks at items (ToLoad old ∷ waiting)) current goes_on after front
         (ToLoad old ∷ waiting)
@@ -291,17 +300,3 @@ pub record MayFollow (here : ClosureContext) (states : List ℕ) (old : ClosureO
 
 abbrev pub ClosureFramesWithin : ClosureContext → ℕ → List FollowEpsilon → Type 0
 ClosureFramesWithin here count stack = All (IsWithin (length here.nfa.now.states) count) stack
-
-abbrev pub ClosureVisits : ClosureContext → ℕ → ClosureOutput → List FollowEpsilon → Slots → Move → ClosureOutput
-    → List FollowEpsilon → Slots
-    → Type 0
-ClosureVisits here s old stack slots turn new above written =
-    VisitsState here.nfa.now (search_of here.input.now) here.at s old.seen old.next.items stack slots turn new.seen
-    new.next.items above written
-
-abbrev pub ClosureFindsMatch : ClosureContext → ℕ → ClosureOutput → List FollowEpsilon → Slots → Option PatternID
-    → ClosureOutput
-    → List FollowEpsilon → Slots → Type 0
-ClosureFindsMatch here s old stack slots hit new above written =
-    FindsMatch here.nfa.now (search_of here.input.now) here.at s old.seen old.next.items stack slots hit new.seen
-    new.next.items above written

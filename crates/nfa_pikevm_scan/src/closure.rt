@@ -10,7 +10,7 @@ ghost use Rattle.nfa_pikevm_scan.specs.Needs.{stack_frames};
 ghost use Rattle.nfa_pikevm_scan.specs.States.{Frontier, work_onto, with_state, tries, tries_of, state_on, undone};
 ghost use Rattle.nfa_pikevm_scan.specs.States.{state_of, HasSlot, IsBelow, IsWithin, Follows, IsClosureContext};
 ghost use Rattle.nfa_pikevm_scan.specs.States.{KeepsRoom, ClosureHasRoom, ClosureFramesWithin};
-ghost use Rattle.nfa_pikevm_scan.specs.States.{ClosureVisits, ClosureFindsMatch};
+ghost use Rattle.nfa_pikevm_scan.specs.States.{moment_of, FindsMatch, VisitsState};
 ghost use Rattle.nfa_pikevm_scan.specs.States.{Entered, WasSeen, kept_target};
 ghost use Rattle.nfa_pikevm_scan.specs.Sinks.{ClosureGives};
 ghost use Rattle.nfa_pikevm_scan.specs.declared.frame.FollowEpsilon.TheVariants.{Explore, Restore};
@@ -152,8 +152,9 @@ pub fn visit_state(
     ensures top { top.new ≤ stack_frames here.now.nfa.now }
     ensures state { IsBelow (length here.now.nfa.now.states) (state_on result) }
     ensures within { ClosureFramesWithin here.now (length row.old) (take top.new frames.new) }
-    ensures enters { ClosureVisits here.now sid reached.old (take top.old frames.old) row.old result reached.new
-        (take top.new frames.new) row.new }
+    ensures enters { VisitsState here.now.nfa.now (search_of here.now.input.now) here.now.at sid
+        (moment_of reached.old (take top.old frames.old) row.old) result
+        (moment_of reached.new (take top.new frames.new) row.new) }
 {
     let Some(state) = enter(here.nfa, sid, &mut reached.seen) else {
         return Move::DeadEnd;
@@ -266,8 +267,9 @@ pub fn next_match(
     ensures top { top.new ≤ stack_frames here.now.nfa.now }
     ensures over { result ≡ None → top.new ≡ 0 }
     ensures within { ClosureFramesWithin here.now (length row.old) (take top.new frames.new) }
-    ensures finds { ClosureFindsMatch here.now from reached.old (take top.old frames.old) row.old result reached.new
-        (take top.new frames.new) row.new }
+    ensures finds { FindsMatch here.now.nfa.now (search_of here.now.input.now) here.now.at from
+        (moment_of reached.old (take top.old frames.old) row.old) result
+        (moment_of reached.new (take top.new frames.new) row.new) }
 {
     let mut sid = from;
     loop {
@@ -307,8 +309,7 @@ pub fn epsilon_closure<T: MatchSink>(
     ensures width { T.row_width sink.new ≡ T.row_width sink.old }
     ensures same_reference { T.reference sink.new ≡ T.reference sink.old }
     ensures arrives { ClosureGives here.now.nfa.now (search_of here.now.input.now) T.takes here.now.at root
-        reached.old.seen
-        reached.old.next.items row.old sink.old result reached.new.seen reached.new.next.items sink.new }
+        (moment_of reached.old [] row.old) sink.old result (moment_of reached.new [] []) sink.new }
 {
     let mut top = 0;
     let mut sid = root;

@@ -30,7 +30,7 @@ returns-in_default-resume-clause-arrives g c =
     let empty : take c.resume.new.top c.next_match.new.frames ≡ [] = rw none refl in
     ClosureGives-whole empty
     (Turned-resumed c.next_match.new.top c.resume.new.top c.next_match.new.frames
-    c.in_default-resume.ensures.top (omega (arith, c.in-Some.ensures.top, c.requires.room.stack))
+    c.in_default-resume.ensures.top (omega (arith, c.in-Some.ensures.top, c.requires.room.stack)) refl
     c.in_default-resume.ensures.tried c.in_default-resume.ensures.follows
     (Turned-more c.loop-pattern.invariant.followed c.in-Some.ensures.finds
     (Takes-match _ false c.if-take.false c.in-Some.ensures.finds.ends c.take.ensures.takes) refl))
@@ -52,7 +52,7 @@ loop-pattern-preserved g c =
       width = c.take.ensures.width ∙ c.loop-pattern.invariant.width;
       same_reference = c.take.ensures.same_reference ∙ c.loop-pattern.invariant.same_reference;
       followed = Turned-resumed c.next_match.new.top c.resume.new.top c.next_match.new.frames
-          c.in-Some-resume.ensures.top (omega (arith, c.in-Some.ensures.top, c.requires.room.stack))
+          c.in-Some-resume.ensures.top (omega (arith, c.in-Some.ensures.top, c.requires.room.stack)) refl
           c.in-Some-resume.ensures.tried c.in-Some-resume.ensures.follows
           (Turned-more c.loop-pattern.invariant.followed c.in-Some.ensures.finds
           (Takes-match _ false c.if-take.false c.in-Some.ensures.finds.ends c.take.ensures.takes) refl);

@@ -4,7 +4,7 @@ use Rattle.regex_search_core.specs.Search.{search_of}
 use Rattle.nfa_paths.specs.Paths.{degree}
 use Rattle.nfa_paths.specs.Turns.{marked_sum}
 use Rattle.nfa_pikevm_scan.specs.Needs.{stack_frames}
-use Rattle.nfa_pikevm_scan.specs.States.{tries, IsWithin, KeepsRoom}
+use Rattle.nfa_pikevm_scan.specs.States.{moment_of, tries, IsWithin, KeepsRoom}
 use Rattle.nfa_pikevm_scan.specs.Sinks.{Takes}
 use Rattle.nfa_pikevm_scan.proofs.ClosureLemmas.{Turned}
 use Rattle.nfa_pikevm_scan.proofs.closure.epsilon_closure.Given as goal
@@ -18,10 +18,9 @@ invariant-loop-pattern g l = record {
   within : All (IsWithin (length l.here.nfa.now.states) (length l.row)) (take l.top l.frames);
   width : g.T.MatchSink.row_width l.sink ≡ g.T.MatchSink.row_width l.fn.sink;
   same_reference : g.T.MatchSink.reference l.sink ≡ g.T.MatchSink.reference l.fn.sink;
-  followed : Turned l.here.nfa.now (search_of l.here.input.now) l.here.at l.fn.root l.fn.reached.seen
-      l.fn.reached.next.items [] l.fn.row
-      (λ front. Takes l.here.nfa.now g.T.MatchSink.takes front l.fn.sink false l.sink)
-      l.reached.seen l.reached.next.items (Some l.sid) (take l.top l.frames) l.row;
+  followed : Turned l.here.nfa.now (search_of l.here.input.now) l.here.at l.fn.root (moment_of l.fn.reached [] l.fn.row)
+      (λ front. Takes l.here.nfa.now g.T.MatchSink.takes front l.fn.sink false l.sink) (Some l.sid)
+      (moment_of l.reached (take l.top l.frames) l.row);
 }
 
 -- the turns that wait on the stack, and those that the states may still bring that are not marked

@@ -1,5 +1,5 @@
 -- All that a state leads to without reading a byte is entered in order, up to the next match.
-use Rattle.std.proofs.Common.{length, arith}
+use Rattle.std.proofs.Common.{length, arith, refl}
 use Rattle.nfa_pikevm_scan.proofs.ApplyFrameLemmas.{within-lower}
 use Rattle.nfa_pikevm_scan.proofs.ClosureLemmas.{Paid-falls, Turned-begin, Turned-resumed, Passed-plain, Finds-none, Finds-match, HasRoom-paid, KeepsRoom-none, KeepsRoom-then}
 use Rattle.nfa_pikevm_scan.proofs.closure.next_match.Goals as goal
@@ -23,7 +23,7 @@ visit_state-requires-clause-room c =
     record {
       room = rw i.keeps.same
           (HasRoom-paid c.args.top.now c.loop-on.top c.args.frames.now c.loop-on.frames c.requires.room.room
-          i.passed.gives.paid i.keeps.size (omega (arith, c.requires.top)) (omega (arith, i.inside)));
+          i.passed.gives.paid i.keeps.size refl (omega (arith, c.requires.top)) refl (omega (arith, i.inside)));
       stack = omega arith;
     }
 
@@ -63,7 +63,7 @@ loop-on-preserved c =
       within = rw (c.resume.auto.row, c.visit_state.auto.row)
           (within-lower _ _ _ _ _ c.in-Some.ensures.top c.visit_state.ensures.within);
       passed = Turned-resumed c.visit_state.new.top c.resume.new.top c.visit_state.new.frames c.in-Some.ensures.top
-          (omega (arith, c.visit_state.ensures.top, stack)) c.in-Some.ensures.tried c.in-Some.ensures.follows turned;
+          (omega (arith, c.visit_state.ensures.top, stack)) refl c.in-Some.ensures.tried c.in-Some.ensures.follows turned;
     }
 
 pub returns-in-None-clause-finds : goal.returns-in-None-clause-finds
@@ -73,4 +73,4 @@ returns-in-None-clause-finds c =
     c.in-DeadEnd.ensures.enters.is_met in
     Finds-none
     (Turned-resumed c.visit_state.new.top c.resume.new.top c.visit_state.new.frames c.in-None.ensures.top
-    (omega (arith, c.visit_state.ensures.top, stack)) c.in-None.ensures.tried c.in-None.ensures.follows turned)
+    (omega (arith, c.visit_state.ensures.top, stack)) refl c.in-None.ensures.tried c.in-None.ensures.follows turned)

@@ -5,7 +5,7 @@ use Rattle.nfa_paths.specs.Paths.{degree, is_match}
 use Rattle.nfa_paths.specs.Kinds.{NoMatch}
 use Rattle.nfa_paths.specs.Turns.{marked_sum}
 use Rattle.nfa_pikevm_scan.specs.Needs.{stack_frames}
-use Rattle.nfa_pikevm_scan.specs.States.{tries, IsWithin, KeepsRoom}
+use Rattle.nfa_pikevm_scan.specs.States.{moment_of, tries, IsWithin, KeepsRoom}
 use Rattle.nfa_pikevm_scan.proofs.ClosureLemmas.{Turned}
 use Rattle.nfa_pikevm_scan.proofs.closure.next_match.Given as goal
 
@@ -16,9 +16,9 @@ invariant-loop-on l = record {
   keeps : KeepsRoom l.fn.reached l.reached;
   grows : l.fn.reached.seen.turns ≤ l.reached.seen.turns;
   within : All (IsWithin (length l.here.nfa.now.states) (length l.row)) (take l.top l.frames);
-  passed : Turned l.here.nfa.now (search_of l.here.input.now) l.here.at l.fn.from l.fn.reached.seen
-      l.fn.reached.next.items (take l.fn.top l.fn.frames) l.fn.row (NoMatch (is_match l.here.nfa.now))
-      l.reached.seen l.reached.next.items (Some l.sid) (take l.top l.frames) l.row;
+  passed : Turned l.here.nfa.now (search_of l.here.input.now) l.here.at l.fn.from
+      (moment_of l.fn.reached (take l.fn.top l.fn.frames) l.fn.row) (NoMatch (is_match l.here.nfa.now)) (Some l.sid)
+      (moment_of l.reached (take l.top l.frames) l.row);
 }
 
 -- the turns that wait on the stack, and those that the states may still bring that are not marked

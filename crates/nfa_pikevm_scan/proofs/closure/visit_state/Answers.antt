@@ -132,4 +132,4 @@ returns-after-slot-row-clause-within c =
 
 pub returns-after-slot-row-clause-enters : goal.returns-after-slot-row-clause-enters
 returns-after-slot-row-clause-enters c =
-    VisitsState-capture (rw c.in-Capture.is at c.in-Some.ensures.entered) c.args.here.now.at (saved c)
+    VisitsState-capture _ (rw c.in-Capture.is at c.in-Some.ensures.entered) c.args.here.now.at (saved c)
