@@ -1,9 +1,11 @@
 -- What a cache's rows are, by their numbers.
-use Rattle.std.proofs.Common.{◌≡◌, ℕ, ◌+◌, ◌*◌, ◌<◌, ◌≤◌, ◌≢◌, inl, inr, All, length, map, get_or, sym, ◌∙◌, subst, arith}
+use Rattle.std.proofs.Common.{◌≡◌, ℕ, ◌+◌, ◌*◌, ◌<◌, ◌≤◌, ◌≢◌, inl, inr, All, length, map, get_or, ap, sym, ◌∙◌, subst, arith}
 use Rattle.std.specs.Prelude.{vec_len}
+use Rattle.std.specs.List.{sum_by}
 use Rattle.std.proofs.lemmas.List.{length-map}
-use Rattle.std.proofs.lemmas.Option.{get_or_from_slice_get, slice_get_cases}
-use Rattle.nfa_lazy_dfa.specs.Rows.{IsFor, IsRowOf, Leads, LeadsTo, row_of, stances_of}
+use Rattle.std.proofs.lemmas.List.Sums.{get_or-le-sum_by}
+use Rattle.std.proofs.lemmas.Option.{get_or_from_slice_get, slice_get_cases, slice_get_within}
+use Rattle.nfa_lazy_dfa.specs.Rows.{IsFor, IsRowOf, Leads, LeadsTo, row_memory_of, row_of, stances_of}
 use Rattle.nfa_lazy_dfa.specs.Stances.{Stance, stance_of}
 use Rattle.nfa_lazy_dfa.proofs.RowLemmas.{row-within, stance-at}
 use Rattle.nfa_lazy_dfa.specs.declared.cache.Cache.{Cache}
@@ -52,6 +54,18 @@ module _ (c : Cache) where
         subst (λ (t : Stance). All (λ q. q < length dfa.nfa.states) t.states)
         (get_or_from_slice_get (stances_of c.stands.items) row (stance_of s) (stance_of s) at)
         (rows.rows.below row (stance_of s) k)
+
+    -- a row takes no more than all rows may
+    pub row-fits : (row : ℕ) (s : Stance) → IsRowOf c row s → row_memory_of s ≤ dfa.capacity
+    unfolding IsFor
+    row-fits row s is =
+        let stances = stances_of c.stands.items in
+        let less : row < length stances = slice_get_within stances row s is in
+        let at : get_or stances row s ≡ s = get_or_from_slice_get stances row s s is in
+        let part : row_memory_of (get_or stances row s) ≤ sum_by row_memory_of stances =
+        get_or-le-sum_by row_memory_of stances row s less in
+        let same : row_memory_of (get_or stances row s) ≡ row_memory_of s = ap row_memory_of at in
+        omega (arith, rows.taken, rows.fits)
 
     -- a cell that is known leads on, from the place of a row's first cell
     pub leads-at : (row byte cell : ℕ) (s : Stance) → IsRowOf c row s → byte < 256

@@ -1,12 +1,13 @@
 -- A list of states without those that it has further left: the same closures.
 use Rattle.std.proofs.Common.{◌≡◌, ℕ, ◌+◌, ◌<◌, inl, inr, Bool, true, false, List, [], ◌∷◌, ◌++◌, length, get_or, set, drop}
-use Rattle.std.proofs.Common.{replicate, refl, ap, sym, ◌∙◌, arith, append_assoc, get_or-set_other, length-set}
+use Rattle.std.proofs.Common.{replicate, refl, ap, sym, ◌∙◌, arith, append_assoc, get_or-set_other, length-append, length-set}
 use Rattle.std.proofs.Math.Decide.{ℕ_discrete}
 use Rattle.std.proofs.Math.Seq.{drop-length}
 use Rattle.std.proofs.lemmas.List.{drop_more, get_or-replicate, length-replicate}
 use Rattle.thompson_nfa.specs.Automaton.{Automaton}
 use Rattle.nfa_paths.specs.Graphs.{In}
 use Rattle.nfa_determinize.specs.Closures.{Holding, closure}
+use Rattle.nfa_determinize.proofs.ExploreLemmas.{unseen, unseen-all, unseen-set}
 use Rattle.nfa_determinize.proofs.RepeatLemmas.{closure-repeat}
 use Rattle.nfa_lazy_dfa.specs.Stances.{Covers}
 
@@ -29,6 +30,7 @@ pub record IsOnce (nfa : Automaton) (states : List ℕ) (i : ℕ) (once : List �
   pub marked : (s : ℕ) → s < length seen → get_or seen s true ≡ true → In s once
   pub same : (holding : Holding) → closure nfa holding (once ++ drop i states) ≡ closure nfa holding states
   pub none : once ≡ [] → i ≡ 0
+  pub count : length once + unseen seen ≡ length nfa.states
 
 module _ (nfa : Automaton) (states : List ℕ) where
   pub IsOnce-begin : IsOnce nfa states 0 [] (replicate (length nfa.states) false)
@@ -40,6 +42,7 @@ module _ (nfa : Automaton) (states : List ℕ) where
         (get_or-replicate (length nfa.states) s false true within));
     same = λ holding. refl;
     none = λ e. refl;
+    count = omega (arith, unseen-all (length nfa.states));
   }
     where
       never : (b : Bool) → b ≡ true → b ≡ false → ⊥
@@ -51,8 +54,9 @@ module _ (nfa : Automaton) (states : List ℕ) where
     drop-here : drop i states ≡ s ∷ drop (i + 1) states
     drop-here = drop_more states i s within ∙ ap (λ t. t ∷ drop (i + 1) states) (sym at)
 
-    pub IsOnce-fresh : IsOnce nfa states (i + 1) (once ++ s ∷ []) (set seen s true)
-    IsOnce-fresh = record {
+    pub IsOnce-fresh : get_or seen s true ≡ false
+        → IsOnce nfa states (i + 1) (once ++ s ∷ []) (set seen s true)
+    IsOnce-fresh fresh = record {
       size = simp length-set is.size;
       marked = λ t less marked.
           elim (ℕ_discrete t s) [
@@ -65,6 +69,7 @@ module _ (nfa : Automaton) (states : List ℕ) where
           ap (closure nfa holding) (append_assoc once (s ∷ []) (drop (i + 1) states)
           ∙ ap (λ (more : List ℕ). once ++ more) (sym drop-here)) ∙ is.same holding;
       none = λ e. absurd (append-none once s e);
+      count = omega (arith, is.count, unseen-set seen s fresh, length-append once (s ∷ []));
     }
 
     pub IsOnce-again : s < length seen → get_or seen s true ≡ true → IsOnce nfa states (i + 1) once seen
@@ -75,6 +80,7 @@ module _ (nfa : Automaton) (states : List ℕ) where
           sym (closure-repeat nfa holding once (drop (i + 1) states) s (is.marked s inside was))
           ∙ ap (λ (more : List ℕ). closure nfa holding (once ++ more)) (sym drop-here) ∙ is.same holding;
       none = λ e. absurd (rw e at is.marked s inside was);
+      count = is.count;
     }
 
   pub IsOnce-end : (once : List ℕ) (seen : List Bool) → IsOnce nfa states (length states) once seen

@@ -4,6 +4,7 @@ pub mod Cuts
 pub mod Assertions
 pub mod Stances
 pub mod Rows
+pub mod Capacities
 pub mod Places
 pub mod Runs
 pub mod Stops

@@ -1,7 +1,8 @@
 //! The rows that were built so far.
 ghost use Rattle.std.specs.Prelude.{◌≡◌, ℕ, ◌+◌, ◌-◌, ◌*◌, ◌<◌, ◌≤◌, ◌++◌, ◌∷◌, [], true, false, None, Some};
-ghost use Rattle.std.specs.Prelude.{All, IfOk, IfSome, IsOkUnless, IsTrue, OnErr, OnOk, length, option_map, slice_get, vec_len};
+ghost use Rattle.std.specs.Prelude.{◌⊎◌, All, Err, IfErr, IfOk, IfNone, IfSome, IsOkUnless, IsTrue, OnErr, OnOk, length, option_map, slice_get, vec_len};
 ghost use Rattle.regex_search_core.specs.Patterns.{number_of};
+ghost use Rattle.nfa_lazy_dfa.specs.Capacities.{IsUsedUpBy, first_row_memory};
 ghost use Rattle.nfa_lazy_dfa.specs.Rows as rows;
 ghost use Rattle.nfa_lazy_dfa.specs.Rows.{AllowsClears, CountsScan, IsFor, IsRowOf, KeepsRows, Spends, memory_of, stances_of};
 ghost use Rattle.nfa_lazy_dfa.specs.Stances.{hit_here, stance_of};
@@ -30,6 +31,9 @@ pub const ROW_CELLS: usize = 256;
 
 /// How many bytes a row takes beside its states.
 const ROW_BYTES: usize = 1120;
+
+/// How many bytes the row takes that a scan begins with.
+const FIRST_ROW_BYTES: usize = ROW_BYTES + 4;
 
 /// The rows that searches of one DFA built so far.
 #[derive(Drop)]
@@ -163,10 +167,13 @@ impl Cache {
             taken ≡ self.now.taken + rows.row_memory_of (stance_of stand.now)) }
         ensures room { IfSome result (λ taken. taken ≤ dfa.now.capacity) }
         ensures few { IfSome result (λ taken. vec_len self.now.stands < MAX_ROWS) }
+        ensures full { IfNone result ((MAX_ROWS ≤ vec_len self.now.stands)
+            ⊎ (dfa.now.capacity < self.now.taken + rows.row_memory_of (stance_of stand.now))) }
     {
+        let capacity = dfa.capacity;
         let states = stand.states.len().checked_mul(4)?;
         let taken = self.taken.checked_add(ROW_BYTES)?.checked_add(states)?;
-        if taken > dfa.capacity || self.stands.len() >= MAX_ROWS {
+        if taken > capacity || self.stands.len() >= MAX_ROWS {
             return None;
         }
         Some(taken)
@@ -184,6 +191,7 @@ impl Cache {
         ensures keeps { OnOk result (KeepsRows self.old self.new) }
         ensures spends { Spends self.old self.new 0 1 }
         ensures counts { OnOk result (self.new.made ≡ self.old.made + 1) }
+        ensures full { IfErr result (IsUsedUpBy self.new dfa.now) }
     {
         let row = self.stands.len() as u32;
         append(&mut self.cells, &mut self.stands, &mut self.ends, stand)?;
@@ -197,10 +205,12 @@ impl Cache {
     pub(crate) fn intern(&mut self, dfa: &DFA, stand: Stand) -> Result<(u32, bool), GaveUp>
         requires own { IsFor self.old dfa.now }
         requires below { All (λ s. s < length dfa.now.nfa.states) stand.states.items }
+        requires short { length stand.states.items ≤ length dfa.now.nfa.states }
         ensures own { IsFor self.new dfa.now }
         ensures row { IfOk result (λ r. IsRowOf self.new r.0 (stance_of stand)) }
         ensures keeps { IfOk result (λ r. IsTrue r.1 → KeepsRows self.old self.new) }
         ensures spends { Spends self.old self.new 0 1 }
+        ensures full { IfErr result (IsUsedUpBy self.new dfa.now) }
     {
         if let Some(row) = self.index.find(&self.stands, &stand) {
             return Ok((row, true));
@@ -246,6 +256,8 @@ impl Cache {
         ensures row { IfOk result (λ row.
             IsRowOf self.new row record { states = start ∷ []; before = before; more = more; hit = None }) }
         ensures spends { Spends self.old self.new 0 1 }
+        ensures full { IfErr result (IsUsedUpBy self.new dfa.now) }
+        ensures small { dfa.now.capacity < first_row_memory → result ≡ Err GaveUp.Full }
     {
         let row = self.firsts[more as usize];
         if self.is_first(row, start, before, more) {
@@ -270,7 +282,12 @@ impl Cache {
         ensures row { IfOk result (λ row.
             IsRowOf self.new row record { states = start ∷ []; before = before; more = more; hit = None }) }
         ensures spends { Spends self.old self.new 0 1 }
+        ensures full { IfErr result (IsUsedUpBy self.new dfa.now) }
+        ensures small { dfa.now.capacity < first_row_memory → result ≡ Err GaveUp.Full }
     {
+        if dfa.capacity < FIRST_ROW_BYTES {
+            return Err(GaveUp::Full);
+        }
         let mut states = Vec::new(self.alloc);
         states.push(start)?;
         let stand = Stand {
@@ -292,6 +309,7 @@ impl Cache {
         ensures hit { IfOk result (λ hit. (s : _) → IsRowOf self.old row s
             → option_map number_of hit ≡ hit_here dfa.now.nfa dfa.now.kind s None) }
         ensures spends { Spends self.old self.new 0 0 }
+        ensures full { IfErr result (IsUsedUpBy self.new dfa.now) }
     {
         if let Some(hit) = self.ends[row as usize] {
             return Ok(hit);

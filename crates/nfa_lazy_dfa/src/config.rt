@@ -60,7 +60,11 @@ impl Config {
         self
     }
 
-    /// Sets the number of bytes that the rows of a cache may take. A search that needs more drops all rows and goes on.
+    /// Sets the number of bytes that the rows of a cache may take: 1120 for each row, and 4 for each of its states. A
+    /// search that needs more drops all rows and goes on.
+    ///
+    /// Below 1124 bytes there is no room for a row. Each search that has to scan then gives up at the start of its span,
+    /// and allocates nothing.
     pub fn cache_capacity(mut self, bytes: usize) -> Config
         ensures { result ≡ record self { cache_capacity = Some bytes } }
     {
@@ -69,7 +73,7 @@ impl Config {
     }
 
     /// Sets the number of times that a search clears its cache before it may give up. `None` sets no limit: then a
-    /// search gives up only if two rows do not fit into the cache.
+    /// search gives up only if a row does not fit into an empty cache.
     pub fn minimum_cache_clear_count(mut self, count: Option<usize>) -> Config
         ensures { result ≡ record self { minimum_cache_clear_count = Some count } }
     {

@@ -1,5 +1,6 @@
 //! Why a search of a lazy DFA stops without an answer.
-ghost use Rattle.std.specs.Prelude.{◌≡◌, ◌⊎◌};
+ghost use Rattle.std.specs.Prelude.{◌≡◌};
+ghost use Rattle.nfa_lazy_dfa.specs.Capacities.{stop_at};
 
 use nfa_search_base::error::SearchError;
 use regex_search_core::MatchError;
@@ -64,7 +65,7 @@ pub enum GaveUp {
 impl GaveUp {
     /// Returns the error of a search whose scan is at this offset.
     pub fn at(self, offset: usize) -> StopError
-        ensures { (result ≡ StopError.Memory) ⊎ (result ≡ StopError.GaveUp offset) }
+        ensures { result ≡ stop_at self offset }
     {
         match self {
             GaveUp::Full => StopError::GaveUp { offset },
@@ -74,12 +75,22 @@ impl GaveUp {
 }
 
 impl From<AllocError> for GaveUp {
+    ghost use Rattle.std.specs.Prelude.{◌≡◌};
+    ghost use Rattle.nfa_lazy_dfa.specs.declared.error.GaveUp.TheVariants as reasons;
+
+    ghost from_gives = { λ _ made. made ≡ reasons.Memory };
+
     fn from(_: AllocError) -> GaveUp {
         GaveUp::Memory
     }
 }
 
 impl<T: Drop> From<AllocFailed<T>> for GaveUp {
+    ghost use Rattle.std.specs.Prelude.{◌≡◌};
+    ghost use Rattle.nfa_lazy_dfa.specs.declared.error.GaveUp.TheVariants as reasons;
+
+    ghost from_gives = { λ _ made. made ≡ reasons.Memory };
+
     fn from(_: AllocFailed<T>) -> GaveUp {
         GaveUp::Memory
     }

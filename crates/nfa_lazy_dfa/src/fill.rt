@@ -1,6 +1,7 @@
 //! The cells of rows: where each byte leads.
-ghost use Rattle.std.specs.Prelude.{◌≡◌, ◌+◌, ◌*◌, ◌%◌, ◌<◌, IfOk, None, Some, vec_len};
+ghost use Rattle.std.specs.Prelude.{◌≡◌, ◌+◌, ◌*◌, ◌%◌, ◌<◌, IfErr, IfOk, None, Some, vec_len};
 ghost use Rattle.nfa_lazy_dfa.specs.Assertions.{IsRead};
+ghost use Rattle.nfa_lazy_dfa.specs.Capacities.{IsUsedUpBy};
 ghost use Rattle.nfa_lazy_dfa.specs.Rows as rows;
 ghost use Rattle.nfa_lazy_dfa.specs.Rows.{IsFor, LeadsTo, Spends};
 ghost use Rattle.nfa_lazy_dfa.specs.Stances.{stance_of};
@@ -54,6 +55,7 @@ impl Cache {
         ensures own { IsFor self.new dfa.now }
         ensures leads { IfOk result (LeadsTo dfa.now self.old self.new row byte) }
         ensures spends { Spends self.old self.new 1 0 }
+        ensures full { IfErr result (IsUsedUpBy self.new dfa.now) }
     {
         self.steps.tick();
         let cell = self.cells[place_of(row, byte)];
@@ -74,6 +76,7 @@ impl Cache {
         ensures own { IsFor self.new dfa.now }
         ensures leads { IfOk result (LeadsTo dfa.now self.old self.new row byte) }
         ensures spends { Spends self.old self.new 0 1 }
+        ensures full { IfErr result (IsUsedUpBy self.new dfa.now) }
     {
         let stand = follow(self.alloc, dfa, &self.stands[row as usize], byte)?;
         let (target, kept) = self.intern(dfa, stand)?;

@@ -1,5 +1,5 @@
 //! One step of the DFA, from a row over a byte to the next one.
-ghost use Rattle.std.specs.Prelude.{◌≡◌, ℕ, ◌<◌, Option, None, Some, false, true};
+ghost use Rattle.std.specs.Prelude.{◌≡◌, ℕ, ◌<◌, ◌≤◌, Option, None, Some, false, true};
 ghost use Rattle.std.specs.Prelude.{All, IfOk, IsTrue, length, option_map, replicate, slice_index_or, slice_set};
 ghost use Rattle.regex_search_core.specs.Patterns.{number_of};
 ghost use Rattle.nfa_lazy_dfa.specs.Assertions.{IsRead, SameLooks, like, sees};
@@ -65,6 +65,7 @@ pub fn follow(alloc: Global, dfa: &DFA, stand: &Stand, byte: u8) -> Result<Stand
     ensures next { IfOk result (λ made.
         IsNext dfa.now.nfa dfa.now.kind (stance_of stand.now) byte (stance_of made)) }
     ensures below { IfOk result (λ made. All (λ s. s < length dfa.now.nfa.states) made.states.items) }
+    ensures short { IfOk result (λ made. length made.states.items ≤ length dfa.now.nfa.states) }
 {
     let states = closure_of(alloc, dfa, stand, Some(byte))?;
     let hit = pattern_by_kind(&dfa.nfa, dfa.kind, &states);
@@ -121,6 +122,7 @@ fn each_once(alloc: Global, nfa: &NFA, states: &[StateID]) -> Result<Vec<StateID
     requires { All (λ s. s < length nfa.now.states) states.now }
     ensures covers { IfOk result (λ made. Covers nfa.now made.items states.now) }
     ensures below { IfOk result (λ made. All (λ s. s < length nfa.now.states) made.items) }
+    ensures short { IfOk result (λ made. length made.items ≤ length nfa.now.states) }
 {
     let mut seen = none_seen(alloc, nfa)?;
     let mut once = Vec::new(alloc);

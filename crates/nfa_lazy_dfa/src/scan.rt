@@ -1,5 +1,5 @@
 //! A scan, row by row.
-ghost use Rattle.std.specs.Prelude.{◌≡◌, ◌+◌, ◌-◌, ◌/◌, ◌%◌, ◌<◌, ◌≤◌, ◌↔◌, IfErr, IfOk, IsTrue, Some, true};
+ghost use Rattle.std.specs.Prelude.{◌≡◌, ◌+◌, ◌-◌, ◌/◌, ◌%◌, ◌<◌, ◌≤◌, ◌↔◌, IfErr, IfOk, IsTrue, OnErr, Some, true};
 ghost use Rattle.std.specs.Prelude.{if◌then◌else◌, length, option_map, slice_get, slice_index, vec_len};
 ghost use Rattle.regex_search_core.specs.Found.{half_found_of};
 ghost use Rattle.regex_search_core.specs.Patterns.{number_of};
@@ -9,6 +9,7 @@ ghost use Rattle.nfa_determinize.specs.Configurations.{half_at, scan_half};
 ghost use Rattle.nfa_lazy_dfa.specs.Places.{IsFoundAt};
 ghost use Rattle.nfa_lazy_dfa.specs.Runs.{place_at};
 ghost use Rattle.nfa_lazy_dfa.specs.Assertions.{IsRead, byte_before};
+ghost use Rattle.nfa_lazy_dfa.specs.Capacities.{HasToScan, IsUsedUpAt, StopsAtStart, first_row_memory};
 ghost use Rattle.nfa_lazy_dfa.specs.Rows as rows;
 ghost use Rattle.nfa_lazy_dfa.specs.Rows.{IsAt, IsFor, IsRowOf, LeadsTo, Scans, Spends, steps_of};
 ghost use Rattle.nfa_lazy_dfa.specs.Stances.{hit_here};
@@ -178,6 +179,9 @@ pub fn scan_half(
         option_map half_found_of half ≡ scan_half dfa.now.nfa x dfa.now.kind x.earliest) }
     ensures stops { IfErr result (IsStop dfa.now.nfa (search_of input.now)) }
     ensures scan { let x = search_of input.now in Scans cache.old cache.new 1 (x.end - x.start) }
+    ensures full { IfErr result (IsUsedUpAt cache.new dfa.now) }
+    ensures small { dfa.now.capacity < first_row_memory → HasToScan dfa.now.nfa (search_of input.now)
+        → StopsAtStart (search_of input.now) result }
 {
     cache.count_scan(dfa);
     let Some(start) = start_state(&dfa.nfa, input) else {
@@ -211,6 +215,8 @@ fn first_row(
     ensures at { let x = search_of input.now in IfOk result (IsAt dfa.now cache.new x x.start) }
     ensures spends { Spends cache.old cache.new 0 1 }
     ensures stops { IfErr result (IsStop dfa.now.nfa (search_of input.now)) }
+    ensures full { IfErr result (IsUsedUpAt cache.new dfa.now) }
+    ensures small { dfa.now.capacity < first_row_memory → StopsAtStart (search_of input.now) result }
 {
     let at = input.start();
     let byte = byte_before(dfa, input)?;
@@ -235,6 +241,7 @@ fn scan_from(
         option_map half_found_of half ≡ scan_half dfa.now.nfa x dfa.now.kind x.earliest) }
     ensures stops { IfErr result (IsStop dfa.now.nfa (search_of input.now)) }
     ensures spends { Spends cache.old cache.new (((search_of input.now).end - from.at) + 1) 0 }
+    ensures full { IfErr result (IsUsedUpAt cache.new dfa.now) }
 {
     let earliest = input.get_earliest();
     let stop = if earliest { MATCHED } else { DEAD };
@@ -268,6 +275,7 @@ fn next_row(dfa: &DFA, cache: &mut Cache, input: &Input<'_>, place: Place) -> Re
         (slice_index (search_of input.now).haystack place.at)) }
     ensures stops { IfErr result (IsStop dfa.now.nfa (search_of input.now)) }
     ensures spends { Spends cache.old cache.new 1 0 }
+    ensures full { IfErr result (IsUsedUpAt cache.new dfa.now) }
 {
     let at = place.at;
     let byte = input.haystack()[at];
@@ -297,6 +305,7 @@ fn last(
     ensures read { IfOk result (λ _. IsRead dfa.now.nfa (slice_get (search_of input.now).haystack place.at)) }
     ensures stops { IfErr result (IsStop dfa.now.nfa (search_of input.now)) }
     ensures spends { Spends cache.old cache.new 1 0 }
+    ensures full { IfErr result (IsUsedUpAt cache.new dfa.now) }
 {
     let at = place.at;
     if at < input.haystack().len() {
@@ -315,6 +324,8 @@ fn byte_before(dfa: &DFA, input: &Input<'_>) -> Result<Option<u8>, StopError>
     ensures byte { let x = search_of input.now in IfOk result (λ byte. byte ≡ byte_before x.haystack x.start) }
     ensures read { IfOk result (λ byte. IsRead dfa.now.nfa byte) }
     ensures stops { IfErr result (IsStop dfa.now.nfa (search_of input.now)) }
+    ensures quits { OnErr result (StopsAtStart (search_of input.now) result) }
+    ensures full { (c : Cache) → IfErr result (IsUsedUpAt c dfa.now) }
 {
     let at = input.start();
     if at == 0 {

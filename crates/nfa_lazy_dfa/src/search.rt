@@ -1,9 +1,10 @@
 //! Searches of a lazy DFA.
-ghost use Rattle.std.specs.Prelude.{◌↔◌, ◌≤◌, IfErr, IfOk, IsTrue, false, option_map};
+ghost use Rattle.std.specs.Prelude.{◌↔◌, ◌<◌, ◌≤◌, IfErr, IfOk, IsTrue, false, option_map};
 ghost use Rattle.regex_search_core.specs.Found.{half_found_of};
 ghost use Rattle.regex_search_core.specs.Search.{search_of};
 ghost use Rattle.nfa_paths.specs.Paths.{IsBoolAnswer, IsHalfAnswer};
 ghost use Rattle.nfa_determinize.specs.Searches.{IsRestartedHalf, IsWholeHalf};
+ghost use Rattle.nfa_lazy_dfa.specs.Capacities.{HasNoRoom, HasToScan, IsUsedUpAt, StopsAtStart, first_row_memory};
 ghost use Rattle.nfa_lazy_dfa.specs.Configs.{kind_of, nfa_of};
 ghost use Rattle.nfa_lazy_dfa.specs.Rows.{IsBounded, IsFor, ScansAtMost, capacity_of, memory_of};
 ghost use Rattle.nfa_lazy_dfa.specs.Stops.{IsStop};
@@ -46,6 +47,9 @@ impl DFA {
         ensures stops { IfErr result (IsStop (nfa_of self.now) (search_of input.entry)) }
         ensures memory { memory_of cache.new ≤ capacity_of self.now }
         ensures work { IsBounded cache.old cache.new self.now (search_of input.entry) }
+        ensures full { IfErr result (HasNoRoom cache.old cache.new self.now) }
+        ensures small { capacity_of self.now < first_row_memory
+            → HasToScan (nfa_of self.now) (search_of input.entry) → StopsAtStart (search_of input.entry) result }
     {
         cache.allow(self);
         find_half(self, cache, input)
@@ -69,6 +73,9 @@ impl DFA {
         ensures stops { IfErr result (IsStop (nfa_of self.now) (search_of input.entry)) }
         ensures memory { memory_of cache.new ≤ capacity_of self.now }
         ensures work { IsBounded cache.old cache.new self.now (search_of input.entry) }
+        ensures full { IfErr result (HasNoRoom cache.old cache.new self.now) }
+        ensures small { capacity_of self.now < first_row_memory
+            → HasToScan (nfa_of self.now) (search_of input.entry) → StopsAtStart (search_of input.entry) result }
     {
         let earliest = !is_utf8_empty(&self.nfa);
         let input = input.earliest(earliest);
@@ -85,6 +92,9 @@ fn find_half(dfa: &DFA, cache: &mut Cache, input: Input<'_>) -> Result<Option<Ha
         IsHalfAnswer dfa.now.nfa dfa.now.kind x.earliest x (option_map half_found_of half)) }
     ensures stops { IfErr result (IsStop dfa.now.nfa (search_of input.entry)) }
     ensures work { ScansAtMost cache.old cache.new (search_of input.entry) }
+    ensures full { IfErr result (IsUsedUpAt cache.new dfa.now) }
+    ensures small { dfa.now.capacity < first_row_memory → HasToScan dfa.now.nfa (search_of input.entry)
+        → StopsAtStart (search_of input.entry) result }
 {
     laws::steps_find_the_half();
     if !is_utf8_empty(&dfa.nfa) {
@@ -112,6 +122,9 @@ fn find_whole_half(
         IsRestartedHalf dfa.now.nfa dfa.now.kind x.earliest x (option_map half_found_of half)) }
     ensures stops { IfErr result (IsStop dfa.now.nfa (search_of input.entry)) }
     ensures work { ScansAtMost cache.old cache.new (search_of input.entry) }
+    ensures full { IfErr result (IsUsedUpAt cache.new dfa.now) }
+    ensures small { dfa.now.capacity < first_row_memory → HasToScan dfa.now.nfa (search_of input.entry)
+        → StopsAtStart (search_of input.entry) result }
 {
     let mut half = scan_half(dfa, cache, &input)?;
     while !is_whole_half(&input, half) {

@@ -1,9 +1,15 @@
 -- A state that the list has further left is passed over.
 use Rattle.std.proofs.Common.{◌≡◌, ◌<◌, ◌++◌, ◌∷◌, [], length, arith}
 use Rattle.std.proofs.lemmas.List.Elements.{All-push}
-use Rattle.nfa_lazy_dfa.proofs.OnceLemmas.{IsOnce-again, IsOnce-fresh}
+use Rattle.nfa_lazy_dfa.proofs.OnceLemmas.{IsOnce-again, IsOnce-begin, IsOnce-fresh}
 use Rattle.nfa_lazy_dfa.proofs.follow.each_once.Goals as goal
 use Rattle.nfa_lazy_dfa.proofs.follow.each_once.Goals.{then-see+in_ok-push, else-see}
+
+pub loop-sid-init : goal.loop-sid-init
+loop-sid-init c = rw (c.in_ok-seen.ensures, c.new-once.ensures.items) (record {
+  once = IsOnce-begin c.args.nfa.now c.args.states.now;
+  below = λ k d less. absurd (omega arith);
+})
 
 pub loop-sid-preserved : goal.loop-sid-preserved
 loop-sid-preserved c =
@@ -20,7 +26,8 @@ loop-sid-preserved c =
       | then-see+in_ok-push w ↦
           let items : w.push.new.self.items ≡ old ++ s ∷ [] = w.in_ok-push.ensures.items in
           rw (w.once-is, items, c.see.ensures.marked w.if-see.true) (record {
-            once = IsOnce-fresh nfa xs i old seen is s c.loop-sid-test.true c.sid-item.is;
+            once = IsOnce-fresh nfa xs i old seen is s c.loop-sid-test.true c.sid-item.is
+                (c.see.ensures.fresh w.if-see.true);
             below = All-push (λ s. s < length nfa.states) old s c.loop-sid.invariant.below below;
           })
       | else-see w ↦

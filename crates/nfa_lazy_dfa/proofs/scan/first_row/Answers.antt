@@ -1,10 +1,10 @@
 -- The first row is that of the start, after a byte like the one before the span.
-use Rattle.std.proofs.Common.{ℕ, subst, arith}
+use Rattle.std.proofs.Common.{rules, ℕ, subst, arith}
 use Rattle.std.specs.Prelude.{Option}
 use Rattle.regex_search_core.specs.Search.{search_of}
 use Rattle.nfa_lazy_dfa.specs.Assertions.{IsRead, SameLooks, sees}
 use Rattle.nfa_lazy_dfa.proofs.ScanLemmas.{IsAt-begin}
-use Rattle.nfa_lazy_dfa.proofs.StopLemmas.{IsStop-gave_up}
+use Rattle.nfa_lazy_dfa.proofs.StopLemmas.{IsStop-gave_up, IsUsedUp-at}
 use Rattle.nfa_lazy_dfa.proofs.scan.first_row.Goals as goal
 
 pub returns-in-Ok-clause-at : goal.returns-in-Ok-clause-at
@@ -21,5 +21,12 @@ returns-in-Ok-clause-at c =
 pub returns-in-Err-clause-stops : goal.returns-in-Err-clause-stops
 returns-in-Err-clause-stops c =
     let x = search_of c.args.input.now in
-    IsStop-gave_up c.args.dfa.now.nfa x c.at.result c.start-at.result c.at.ensures
+    IsStop-gave_up c.args.dfa.now.nfa x c.at.result c.in-Err.gave_up c.start-at.result c.at.ensures
     (record { low = omega (arith, c.start-at.ensures); high = omega (arith, c.start-at.ensures, c.requires.order) })
+
+pub returns-in-Err-clause-full : goal.returns-in-Err-clause-full
+returns-in-Err-clause-full c =
+    IsUsedUp-at c.start.new.self c.args.dfa.now c.at.result c.in-Err.gave_up c.start-at.result c.at.ensures c.in-Err.ensures.full
+
+pub returns-in_err-byte-clause-full : goal.returns-in_err-byte-clause-full
+returns-in_err-byte-clause-full c = let full = c.in_err-byte.ensures.full c.args.cache.now in search rules

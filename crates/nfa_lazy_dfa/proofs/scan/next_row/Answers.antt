@@ -4,7 +4,7 @@ use Rattle.std.specs.Prelude.{Some}
 use Rattle.std.proofs.lemmas.Option.{slice_get-get_or}
 use Rattle.regex_search_core.specs.Search.{search_of}
 use Rattle.nfa_lazy_dfa.specs.Rows.{LeadsTo}
-use Rattle.nfa_lazy_dfa.proofs.StopLemmas.{IsStop-gave_up}
+use Rattle.nfa_lazy_dfa.proofs.StopLemmas.{IsStop-gave_up, IsUsedUp-at}
 use Rattle.nfa_lazy_dfa.proofs.scan.next_row.Goals as goal
 
 pub returns-then-is_quit-clause-stops : goal.returns-then-is_quit-clause-stops
@@ -27,5 +27,9 @@ returns-in-Ok-clause-leads c =
 
 pub returns-in-Err-clause-stops : goal.returns-in-Err-clause-stops
 returns-in-Err-clause-stops c =
-    IsStop-gave_up c.args.dfa.now.nfa (search_of c.args.input.now) c.at.result c.args.place.at c.at.ensures
+    IsStop-gave_up c.args.dfa.now.nfa (search_of c.args.input.now) c.at.result c.in-Err.gave_up c.args.place.at c.at.ensures
     c.requires.span
+
+pub returns-in-Err-clause-full : goal.returns-in-Err-clause-full
+returns-in-Err-clause-full c =
+    IsUsedUp-at c.next.new.self c.args.dfa.now c.at.result c.in-Err.gave_up c.args.place.at c.at.ensures c.in-Err.ensures.full

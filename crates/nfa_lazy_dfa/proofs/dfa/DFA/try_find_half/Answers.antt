@@ -1,6 +1,10 @@
 -- The rows fit, and the search spends what its scans do.
+use Rattle.std.proofs.Common.{rules}
+use Rattle.std.proofs.lemmas.Result.{IfErr-weaker}
 use Rattle.regex_search_core.specs.Search.{search_of}
+use Rattle.nfa_lazy_dfa.specs.Capacities.{HasNoRoom, IsUsedUpAt}
 use Rattle.nfa_lazy_dfa.specs.Rows.{IsFor}
+use Rattle.nfa_lazy_dfa.proofs.StopLemmas.{HasNoRoom-scans}
 use Rattle.nfa_lazy_dfa.proofs.WorkLemmas.{IsBounded-scans}
 use Rattle.nfa_lazy_dfa.proofs.dfa.DFA.try_find_half.Goals as goal
 
@@ -12,3 +16,11 @@ pub returns-clause-work : goal.returns-clause-work
 returns-clause-work c =
     IsBounded-scans c.args.cache.now c.allow.new.self c.find_half.new.cache c.args.self.now (search_of c.args.input)
     c.allow.ensures.allows c.find_half.ensures.work
+
+pub returns-clause-full : goal.returns-clause-full
+returns-clause-full c =
+    let x = search_of c.args.input in
+    IfErr-weaker _ (IsUsedUpAt c.find_half.new.cache c.args.self.now)
+    (HasNoRoom c.args.cache.now c.find_half.new.cache c.args.self.now)
+    (HasNoRoom-scans c.args.cache.now c.allow.new.self c.find_half.new.cache c.args.self.now x
+    c.allow.ensures.allows c.find_half.ensures.work) (search rules)
