@@ -10,7 +10,7 @@ use Rattle.nfa_determinize.specs.Closures.{kept, pattern_by_kind, step}
 use Rattle.nfa_lazy_dfa.specs.Assertions.{HasNoLook, sees}
 use Rattle.nfa_lazy_dfa.specs.Cuts.{IsAlike}
 use Rattle.nfa_lazy_dfa.specs.Rows.{LeadsTo, stances_of}
-use Rattle.nfa_lazy_dfa.specs.Stances.{Covers, IsNext, Stance, goes_on, here, hit_here, start_if}
+use Rattle.nfa_lazy_dfa.specs.Stances.{Covers, IsNext, Stance, goes_on, here, hit_here, patterns_for, start_if}
 use Rattle.nfa_lazy_dfa.proofs.AssertionLemmas.{reads-none, same-none}
 use Rattle.nfa_lazy_dfa.proofs.StanceLemmas.{closure-same}
 use Rattle.nfa_lazy_dfa.specs.declared.cache.Cache.{Cache}
@@ -50,6 +50,7 @@ module _ (nfa : Automaton) (looks : Bool) (a b : ℕ) (alike : IsAlike nfa looks
       record {
         read = inl (reads-none nfa none);
         hit = next.hit ∙ hit;
+        hits = next.hits ∙ ap (patterns_for nfa kind) same;
         more = next.more ∙ ap (λ (o : Option ℕ). s.more && goes_on kind o) hit;
         states = subst (λ (states : List ℕ). Covers nfa t.states (states ++ start_if nfa t.more))
             (ap (λ (h : List ℕ). step nfa (Some a) (kept nfa kind h)) same

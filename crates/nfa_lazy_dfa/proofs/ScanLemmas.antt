@@ -19,7 +19,7 @@ use Rattle.nfa_lazy_dfa.specs.declared.scan.Place.{Place}
 use Rattle.nfa_lazy_dfa.specs.Rows.{IsAt, IsRowOf, LeadsTo, stances_of}
 use Rattle.nfa_lazy_dfa.specs.Assertions.{IsRead, SameLooks, byte_before, sees}
 use Rattle.nfa_lazy_dfa.proofs.AssertionLemmas.{same-at}
-use Rattle.nfa_lazy_dfa.specs.Stances.{Covers, IsNext, StandsFor, Stance, hit_here}
+use Rattle.nfa_lazy_dfa.specs.Stances.{Covers, IsNext, StandsFor, Stance, first_stance, hit_here}
 use Rattle.nfa_lazy_dfa.proofs.StanceLemmas.{stands-dead, stands-here, stands-next}
 use Rattle.nfa_lazy_dfa.proofs.RowLemmas.{some-same}
 use Rattle.nfa_lazy_dfa.specs.declared.cache.Cache.{Cache}
@@ -76,7 +76,7 @@ module _ (dfa : DFA) (x : Search) where
   -- at the first position
   pub IsAt-begin : (c : Cache) (row start : ℕ) (before : Option ℕ) (more : Bool)
       → start_state dfa.nfa x.anchored ≡ Some start → x.start ≤ x.end
-      → (let s : Stance = record { states = start ∷ []; before = before; more = more; hit = None } in IsRowOf c row s)
+      → IsRowOf c row (first_stance start before more)
       → start_count dfa.nfa x ≡ (if more then ((x.end - x.start) + 1) else 1)
       → (more ≡ true → start_state dfa.nfa x.anchored ≡ Some dfa.nfa.anchored)
       → x.end ≤ length x.haystack
@@ -89,7 +89,7 @@ module _ (dfa : DFA) (x : Search) where
       let some : is_some (start_state dfa.nfa x.anchored) ≡ true = ap is_some known in
       let all : length (starts dfa.nfa x) ≡ (if more then ((x.end - x.start) + 1) else 1) =
       length-starts dfa.nfa x some ∙ count in
-      let s : Stance = record { states = start ∷ []; before = before; more = more; hit = None } in
+      let s : Stance = first_stance start before more in
       let stands : StandsFor dfa.nfa x x.start s (begin dfa.nfa x) = record {
         states = subst (Covers dfa.nfa (start ∷ [])) (sym (list more (length (starts dfa.nfa x)) all start known))
             (record { same = λ holding. refl; none = λ e. absurd (never start e) });

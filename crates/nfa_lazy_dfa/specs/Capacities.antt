@@ -1,6 +1,8 @@
 -- When a search gives up since its cache is full.
 use Rattle.std.specs.Prelude.{◌≡◌, ℕ, ◌+◌, ◌*◌, ◌<◌, ◌≤◌, ◌⊎◌, true, length, is_some, Result, Ok, Err, ⊤}
 use Rattle.regex_search_core.specs.Search.{Search}
+use Rattle.regex_search_core.specs.declared.search.MatchKind.{MatchKind}
+use Rattle.regex_search_core.specs.declared.search.MatchKind.TheVariants.{All, LeftmostFirst}
 use Rattle.thompson_nfa.specs.Automaton.{Automaton}
 use Rattle.nfa_paths.specs.Paths.{start_state}
 use Rattle.nfa_lazy_dfa.specs.Rows.{capacity_of, clears_of, max_clears_of}
@@ -15,9 +17,10 @@ use Rattle.nfa_lazy_dfa.specs.declared.error.StopError.TheVariants.{GaveUp, Quit
 abbrev pub first_row_memory : ℕ
 first_row_memory = 1124
 
--- how many bytes a row takes at most: it has each state of the NFA once
-abbrev pub largest_row_memory : Automaton → ℕ
-largest_row_memory nfa = 1120 + length nfa.states * 4
+-- how many bytes a row takes at most: it has each state of the NFA once, and for `All` a pattern for each
+abbrev pub largest_row_memory : Automaton → MatchKind → ℕ
+largest_row_memory nfa LeftmostFirst = 1120 + length nfa.states * 4
+largest_row_memory nfa All = 1120 + length nfa.states * 8
 
 -- a search of x has to scan: its span has a position, and its pattern is one of the NFA's
 pub record HasToScan (nfa : Automaton) (x : Search) : Type 0 where
@@ -35,13 +38,13 @@ StopsAtStart x (Err Memory) = ⊥
 -- a search that gave up had cleared the rows as often as it may, or the largest row does not fit into an empty cache
 abbrev pub HasNoRoom : Cache → Cache → DFA → StopError → Type 0
 HasNoRoom old new dfa (GaveUp offset) =
-    (clears_of new ≡ clears_of old + max_clears_of dfa) ⊎ (capacity_of dfa < largest_row_memory dfa.nfa)
+    (clears_of new ≡ clears_of old + max_clears_of dfa) ⊎ (capacity_of dfa < largest_row_memory dfa.nfa dfa.kind)
 HasNoRoom old new dfa (Quit byte offset) = ⊤
 HasNoRoom old new dfa Memory = ⊤
 
 -- the rows may not be cleared again in this search, or the largest row does not fit into an empty cache
 abbrev pub IsUsedUp : Cache → DFA → Type 0
-IsUsedUp c dfa = (c.clears ≡ 0) ⊎ (capacity_of dfa < largest_row_memory dfa.nfa)
+IsUsedUp c dfa = (c.clears ≡ 0) ⊎ (capacity_of dfa < largest_row_memory dfa.nfa dfa.kind)
 
 -- the same, if this is why a row is missing
 abbrev pub IsUsedUpBy : Cache → DFA → reasons.GaveUp → Type 0

@@ -27,7 +27,7 @@ stances_of stands = map stance_of stands
 
 -- how many bytes a row takes
 abbrev pub row_memory_of : Stance → ℕ
-row_memory_of s = 1120 + length s.states * 4
+row_memory_of s = 1120 + (length s.states + length s.hits) * 4
 
 module _ (nfa : Automaton) (kind : MatchKind) where
   -- the cell is the place of a row's first cell, and leads to what the byte leads to

@@ -1,29 +1,46 @@
 -- What a row of a lazy DFA stands for, and where a byte leads.
-use Rattle.std.specs.Prelude.{◌≡◌, ℕ, ◌-◌, Bool, true, not, ◌&&◌, List, [], ◌∷◌, ◌++◌, Option, Some, is_some}
-use Rattle.std.specs.Prelude.{option_map, slice_get, if◌then◌else◌}
+use Rattle.std.specs.Prelude.{◌≡◌, ℕ, ◌-◌, Bool, true, not, ◌&&◌, List, [], ◌∷◌, ◌++◌, Option, None, Some, is_some}
+use Rattle.std.specs.Prelude.{map, option_map, option_to_list, slice_get, if◌then◌else◌}
 use Rattle.regex_search_core.specs.Patterns.{number_of}
 use Rattle.regex_search_core.specs.Search.{Search}
 use Rattle.regex_search_core.specs.declared.search.MatchKind.{MatchKind}
 use Rattle.regex_search_core.specs.declared.search.MatchKind.TheVariants.{All, LeftmostFirst}
 use Rattle.thompson_nfa.specs.Automaton.{Automaton}
 use Rattle.nfa_paths.specs.Paths.{start_state}
-use Rattle.nfa_determinize.specs.Closures.{Holding, closure, holding_at, kept, pattern_by_kind, step}
+use Rattle.nfa_determinize.specs.Closures.{Holding, closure, holding_at, kept, pattern_by_kind, state_pattern, step}
 use Rattle.nfa_determinize.specs.Configurations.{Configuration, start_here}
 use Rattle.nfa_lazy_dfa.specs.Assertions.{IsRead, SameLooks, sees}
 use Rattle.nfa_lazy_dfa.specs.declared.follow.Stand.{Stand}
 
 -- The NFA states that the bytes so far led to, with the start if a match may start here; a byte like the last one, if
--- there is one and an assertion may read it; whether a match may start at the next position, if none is found here; and
--- the pattern that matched before the last byte.
+-- there is one and an assertion may read it; whether a match may start at the next position, if none is found here;
+-- the pattern that matched before the last byte; and for `All` the patterns of all matches there.
 pub record Stance : Type 0 where
   pub states : List ℕ
   pub before : Option ℕ
   pub more : Bool
   pub hit : Option ℕ
+  pub hits : List ℕ
 
 -- what the stand's fields say
 abbrev pub stance_of : Stand → Stance
-stance_of s = record { states = s.states.items; before = s.before; more = s.more; hit = option_map number_of s.hit }
+stance_of s = record {
+  states = s.states.items;
+  before = s.before;
+  more = s.more;
+  hit = option_map number_of s.hit;
+  hits = map number_of s.hits.items;
+}
+
+-- where a scan begins: in its start state, with no match
+abbrev pub first_stance : ℕ → Option ℕ → Bool → Stance
+first_stance start before more = record {
+  states = start ∷ [];
+  before = before;
+  more = more;
+  hit = None;
+  hits = [];
+}
 
 -- whether a later match may start if this one was found
 abbrev pub goes_on : MatchKind → Option ℕ → Bool
@@ -35,6 +52,16 @@ module _ (nfa : Automaton) where
   pub record Covers (states list : List ℕ) : Type 0 where
     pub same : (holding : Holding) → closure nfa holding states ≡ closure nfa holding list
     pub none : states ≡ [] → list ≡ []
+
+  -- the patterns of the Match states, in order
+  abbrev pub patterns_in : List ℕ → List ℕ
+  patterns_in [] = []
+  patterns_in (s ∷ states) = option_to_list (state_pattern nfa s) ++ patterns_in states
+
+  -- the same for `All`; leftmost first does without
+  abbrev pub patterns_for : MatchKind → List ℕ → List ℕ
+  patterns_for LeftmostFirst states = []
+  patterns_for All states = patterns_in states
 
   -- the start, if a match may start
   abbrev pub start_if : Bool → List ℕ
@@ -49,10 +76,15 @@ module _ (nfa : Automaton) where
     abbrev pub hit_here : Stance → Option ℕ → Option ℕ
     hit_here s after = pattern_by_kind nfa kind (here s after)
 
+    -- for `All` the patterns of all matches here
+    abbrev pub hits_here : Stance → Option ℕ → List ℕ
+    hits_here s after = patterns_for kind (here s after)
+
     -- a search may read the byte, and the byte leads from s to t
     pub record IsNext (s : Stance) (byte : ℕ) (t : Stance) : Type 0 where
       pub read : IsRead nfa (Some byte)
       pub hit : t.hit ≡ hit_here s (Some byte)
+      pub hits : t.hits ≡ hits_here s (Some byte)
       pub more : t.more ≡ (s.more && goes_on kind (hit_here s (Some byte)))
       pub states : Covers t.states (step nfa (Some byte) (kept nfa kind (here s (Some byte))) ++ start_if t.more)
       pub before : (after : Option ℕ) → IsRead nfa after → SameLooks nfa (sees t.before after) (sees (Some byte) after)

@@ -2,10 +2,10 @@
 ghost use Rattle.std.specs.Prelude.{◌≡◌, ℕ, ◌+◌, ◌-◌, ◌*◌, ◌<◌, ◌≤◌, ◌++◌, ◌∷◌, [], true, false, None, Some};
 ghost use Rattle.std.specs.Prelude.{◌⊎◌, All, Err, IfErr, IfOk, IfNone, IfSome, IsOkUnless, IsTrue, OnErr, OnOk, length, option_map, slice_get, vec_len};
 ghost use Rattle.regex_search_core.specs.Patterns.{number_of};
-ghost use Rattle.nfa_lazy_dfa.specs.Capacities.{IsUsedUpBy, first_row_memory};
+ghost use Rattle.nfa_lazy_dfa.specs.Capacities.{IsUsedUpBy, first_row_memory, largest_row_memory};
 ghost use Rattle.nfa_lazy_dfa.specs.Rows as rows;
 ghost use Rattle.nfa_lazy_dfa.specs.Rows.{AllowsClears, CountsScan, IsFor, IsRowOf, KeepsRows, Spends, memory_of, stances_of};
-ghost use Rattle.nfa_lazy_dfa.specs.Stances.{hit_here, stance_of};
+ghost use Rattle.nfa_lazy_dfa.specs.Stances.{first_stance, hit_here, stance_of};
 
 mod copy;
 
@@ -29,7 +29,7 @@ pub const DEAD: u32 = 0x8000_0000;
 /// How many cells a row has.
 pub const ROW_CELLS: usize = 256;
 
-/// How many bytes a row takes beside its states.
+/// How many bytes a row takes beside its states and patterns.
 const ROW_BYTES: usize = 1120;
 
 /// How many bytes the row takes that a scan begins with.
@@ -171,8 +171,11 @@ impl Cache {
             ⊎ (dfa.now.capacity < self.now.taken + rows.row_memory_of (stance_of stand.now))) }
     {
         let capacity = dfa.capacity;
-        let states = stand.states.len().checked_mul(4)?;
-        let taken = self.taken.checked_add(ROW_BYTES)?.checked_add(states)?;
+        let entries = stand.states.len().checked_add(stand.hits.len())?;
+        let taken = self
+            .taken
+            .checked_add(ROW_BYTES)?
+            .checked_add(entries.checked_mul(4)?)?;
         if taken > capacity || self.stands.len() >= MAX_ROWS {
             return None;
         }
@@ -205,7 +208,7 @@ impl Cache {
     pub(crate) fn intern(&mut self, dfa: &DFA, stand: Stand) -> Result<(u32, bool), GaveUp>
         requires own { IsFor self.old dfa.now }
         requires below { All (λ s. s < length dfa.now.nfa.states) stand.states.items }
-        requires short { length stand.states.items ≤ length dfa.now.nfa.states }
+        requires small { rows.row_memory_of (stance_of stand) ≤ largest_row_memory dfa.now.nfa dfa.now.kind }
         ensures own { IsFor self.new dfa.now }
         ensures row { IfOk result (λ r. IsRowOf self.new r.0 (stance_of stand)) }
         ensures keeps { IfOk result (λ r. IsTrue r.1 → KeepsRows self.old self.new) }
@@ -234,7 +237,7 @@ impl Cache {
     /// Whether a search that begins with this state begins in the row.
     fn is_first(&self, row: u32, start: StateID, before: Option<u8>, more: bool) -> bool
         ensures { IsTrue result
-            → IsRowOf self.now row record { states = start ∷ []; before = before; more = more; hit = None } }
+            → IsRowOf self.now row (first_stance start before more) }
     {
         match self.stands.get(row as usize) {
             None => false,
@@ -254,7 +257,7 @@ impl Cache {
         requires start { start < length dfa.now.nfa.states }
         ensures own { IsFor self.new dfa.now }
         ensures row { IfOk result (λ row.
-            IsRowOf self.new row record { states = start ∷ []; before = before; more = more; hit = None }) }
+            IsRowOf self.new row (first_stance start before more)) }
         ensures spends { Spends self.old self.new 0 1 }
         ensures full { IfErr result (IsUsedUpBy self.new dfa.now) }
         ensures small { dfa.now.capacity < first_row_memory → result ≡ Err GaveUp.Full }
@@ -280,7 +283,7 @@ impl Cache {
         requires start { start < length dfa.now.nfa.states }
         ensures own { IsFor self.new dfa.now }
         ensures row { IfOk result (λ row.
-            IsRowOf self.new row record { states = start ∷ []; before = before; more = more; hit = None }) }
+            IsRowOf self.new row (first_stance start before more)) }
         ensures spends { Spends self.old self.new 0 1 }
         ensures full { IfErr result (IsUsedUpBy self.new dfa.now) }
         ensures small { dfa.now.capacity < first_row_memory → result ≡ Err GaveUp.Full }
@@ -295,6 +298,7 @@ impl Cache {
             before,
             more,
             hit: None,
+            hits: Vec::new(self.alloc),
         };
         let row = self.intern(dfa, stand)?.0;
         self.firsts[more as usize] = row;

@@ -63,8 +63,8 @@ impl Config {
     /// Sets the number of bytes that the rows of a cache may take: 1120 for each row, and 4 for each of its states. A
     /// search that needs more drops all rows and goes on.
     ///
-    /// Below 1124 bytes there is no room for a row. Each search that has to scan then gives up at the start of its span,
-    /// and allocates nothing.
+    /// Below 1124 bytes there is no room for a row. Each search that has to scan then gives up at the start of its
+    /// span, and allocates nothing.
     pub fn cache_capacity(mut self, bytes: usize) -> Config
         ensures { result ≡ record self { cache_capacity = Some bytes } }
     {

@@ -1,15 +1,21 @@
 //! One step of the DFA, from a row over a byte to the next one.
-ghost use Rattle.std.specs.Prelude.{◌≡◌, ℕ, ◌<◌, ◌≤◌, Option, None, Some, false, true};
-ghost use Rattle.std.specs.Prelude.{All, IfOk, IsTrue, length, option_map, replicate, slice_index_or, slice_set};
+ghost use Rattle.std.specs.Prelude.{◌≡◌, ℕ, ◌<◌, ◌≤◌, [], Option, None, Some, false, true};
+ghost use Rattle.std.specs.Prelude.{All, IfOk, IsTrue, length, map, option_map, replicate, slice_index_or, slice_set};
 ghost use Rattle.regex_search_core.specs.Patterns.{number_of};
+ghost use Rattle.regex_search_core.specs.declared.search.MatchKind.TheVariants.{LeftmostFirst};
+ghost use Rattle.thompson_nfa.specs.Automaton.{node_of};
+ghost use Rattle.nfa_paths.specs.Paths.{pattern_of};
 ghost use Rattle.nfa_lazy_dfa.specs.Assertions.{IsRead, SameLooks, like, sees};
-ghost use Rattle.nfa_lazy_dfa.specs.Stances.{Covers, IsNext, goes_on, here, hit_here, stance_of};
+ghost use Rattle.nfa_lazy_dfa.specs.Capacities.{largest_row_memory};
+ghost use Rattle.nfa_lazy_dfa.specs.Rows as rows;
+ghost use Rattle.nfa_lazy_dfa.specs.Stances.{Covers, IsNext, goes_on, here, hit_here, patterns_for, patterns_in, stance_of};
 
 use crate::dfa::DFA;
 use nfa_determinize::closure::{closure, kept, pattern_by_kind, step};
+use nfa_determinize::laws;
 use regex_search_core::{MatchKind, PatternID, StateID};
 use std::alloc::{AllocError, Global};
-use thompson_nfa::NFA;
+use thompson_nfa::{NFA, State};
 
 /// A haystack that is empty.
 const NOTHING: [u8; 0] = [];
@@ -25,6 +31,8 @@ pub struct Stand {
     pub more: bool,
     /// The pattern that matched just before the last byte.
     pub hit: Option<PatternID>,
+    /// For `All` the patterns of all matches there.
+    pub hits: Vec<PatternID>,
 }
 
 /// The closure of the stand's states before this byte, or at the end of the haystack.
@@ -37,7 +45,9 @@ fn closure_of(
     requires { All (λ s. s < length dfa.now.nfa.states) stand.now.states.items }
     ensures closure { IfOk result (λ made. made.items ≡ here dfa.now.nfa (stance_of stand.now) after) }
     ensures below { IfOk result (λ made. All (λ s. s < length dfa.now.nfa.states) made.items) }
+    ensures short { IfOk result (λ made. length made.items ≤ length dfa.now.nfa.states) }
 {
+    laws::closures_are_finite();
     match (stand.before, after) {
         (None, None) => closure(alloc, &dfa.nfa, &NOTHING, 0, &stand.states),
         (None, Some(after)) => closure(alloc, &dfa.nfa, &[after], 0, &stand.states),
@@ -66,9 +76,12 @@ pub fn follow(alloc: Global, dfa: &DFA, stand: &Stand, byte: u8) -> Result<Stand
         IsNext dfa.now.nfa dfa.now.kind (stance_of stand.now) byte (stance_of made)) }
     ensures below { IfOk result (λ made. All (λ s. s < length dfa.now.nfa.states) made.states.items) }
     ensures short { IfOk result (λ made. length made.states.items ≤ length dfa.now.nfa.states) }
+    ensures small { IfOk result (λ made.
+        rows.row_memory_of (stance_of made) ≤ largest_row_memory dfa.now.nfa dfa.now.kind) }
 {
     let states = closure_of(alloc, dfa, stand, Some(byte))?;
     let hit = pattern_by_kind(&dfa.nfa, dfa.kind, &states);
+    let hits = patterns_for(alloc, dfa, &states)?;
     let more = stand.more && may_start_after(dfa.kind, hit);
     let left = kept(&dfa.nfa, dfa.kind, &states);
     let mut next = step(alloc, &dfa.nfa, Some(byte), left)?;
@@ -82,7 +95,47 @@ pub fn follow(alloc: Global, dfa: &DFA, stand: &Stand, byte: u8) -> Result<Stand
         before,
         more,
         hit,
+        hits,
     })
+}
+
+/// For `All` the patterns of all matches among the states.
+fn patterns_for(alloc: Global, dfa: &DFA, states: &[StateID]) -> Result<Vec<PatternID>, AllocError>
+    requires { All (λ s. s < length dfa.now.nfa.states) states.now }
+    ensures patterns { IfOk result (λ made.
+        map number_of made.items ≡ patterns_for dfa.now.nfa dfa.now.kind states.now) }
+    ensures short { IfOk result (λ made. length made.items ≤ length states.now) }
+    ensures none { IfOk result (λ made. dfa.now.kind ≡ LeftmostFirst → made.items ≡ []) }
+{
+    match dfa.kind {
+        MatchKind::All => patterns_in(alloc, &dfa.nfa, states),
+        MatchKind::LeftmostFirst => Ok(Vec::new(alloc)),
+    }
+}
+
+/// The patterns of the `Match` states.
+fn patterns_in(alloc: Global, nfa: &NFA, states: &[StateID]) -> Result<Vec<PatternID>, AllocError>
+    requires { All (λ s. s < length nfa.now.states) states.now }
+    ensures patterns { IfOk result (λ made. map number_of made.items ≡ patterns_in nfa.now states.now) }
+    ensures short { IfOk result (λ made. length made.items ≤ length states.now) }
+{
+    let mut patterns = Vec::new(alloc);
+    for sid in states {
+        if let Some(pattern) = pattern_of(nfa.state(*sid)) {
+            patterns.push(pattern)?;
+        }
+    }
+    Ok(patterns)
+}
+
+/// The pattern of the state, if it is a `Match`.
+fn pattern_of(state: &State) -> Option<PatternID>
+    ensures { option_map number_of result ≡ pattern_of (node_of state.now) }
+{
+    match state {
+        State::Match { pattern_id } => Some(*pattern_id),
+        _ => None,
+    }
 }
 
 /// What an assertion of the NFA may read of the byte before a position.

@@ -1,8 +1,8 @@
 //! The rows of a cache by the hash of what they stand for.
-ghost use Rattle.std.specs.Prelude.{◌≡◌, ◌≤◌, ◌∷◌, [], None, Some, IfOk, IfSome, IsTrue, length, option_map, slice_get};
+ghost use Rattle.std.specs.Prelude.{◌≡◌, ◌≤◌, ◌∷◌, [], None, Some, IfOk, IfSome, IsTrue, length, map, option_map, slice_get};
 ghost use Rattle.regex_search_core.specs.Patterns.{number_of};
 ghost use Rattle.nfa_lazy_dfa.specs.Rows.{stances_of};
-ghost use Rattle.nfa_lazy_dfa.specs.Stances.{stance_of};
+ghost use Rattle.nfa_lazy_dfa.specs.Stances.{first_stance, stance_of};
 
 use crate::follow::Stand;
 use regex_search_core::{PatternID, StateID};
@@ -106,12 +106,24 @@ fn place(slots: &mut [u32], hash: usize, row: u32) {
     }
 }
 
+/// The hash with these patterns mixed in.
+fn with_patterns(seed: u64, patterns: &[PatternID]) -> u64 {
+    let mut hash = seed;
+    for pattern in patterns {
+        hash = (hash.rotate_left(11) ^ pattern.as_usize() as u64).wrapping_mul(
+            0x9E37_79B9_7F4A_7C15,
+        );
+    }
+    hash
+}
+
 /// A number that is the same for equal stands.
 fn hash_of(stand: &Stand) -> usize {
     let mut hash = match stand.hit {
         Some(pattern) => pattern.as_usize() as u64 * 4 + 2,
         None => 0,
     };
+    hash = with_patterns(hash, &stand.hits);
     if stand.more {
         hash = hash ^ 1;
     }
@@ -150,6 +162,21 @@ fn same_hit(a: Option<PatternID>, b: Option<PatternID>) -> bool
     }
 }
 
+/// Whether the two lists are equal.
+fn same_hits(a: &[PatternID], b: &[PatternID]) -> bool
+    ensures { IsTrue result → map number_of a.now ≡ map number_of b.now }
+{
+    if a.len() != b.len() {
+        return false;
+    }
+    for index in 0..a.len() {
+        if a[index].as_usize() != b[index].as_usize() {
+            return false;
+        }
+    }
+    true
+}
+
 /// Whether the two bytes are equal.
 fn same_before(a: Option<u8>, b: Option<u8>) -> bool
     ensures { IsTrue result → a ≡ b }
@@ -168,13 +195,14 @@ fn same_stand(a: &Stand, b: &Stand) -> bool
     a.more == b.more
         && same_before(a.before, b.before)
         && same_hit(a.hit, b.hit)
+        && same_hits(&a.hits, &b.hits)
         && same_states(&a.states, &b.states)
 }
 
 /// Returns whether a search that begins with this state begins with the stand.
 pub fn is_first(stand: &Stand, start: StateID, before: Option<u8>, more: bool) -> bool
     ensures { IsTrue result
-        → stance_of stand.now ≡ record { states = start ∷ []; before = before; more = more; hit = None } }
+        → stance_of stand.now ≡ first_stance start before more }
 {
     match &stand.states[..] {
         [only] => {
@@ -182,6 +210,7 @@ pub fn is_first(stand: &Stand, start: StateID, before: Option<u8>, more: bool) -
                 && stand.more == more
                 && same_before(stand.before, before)
                 && stand.hit.is_none()
+                && stand.hits.is_empty()
         }
         _ => false,
     }

@@ -17,6 +17,7 @@ impl Stand {
             before: self.before,
             more: self.more,
             hit: self.hit,
+            hits: self.hits.clone()?,
         })
     }
 }

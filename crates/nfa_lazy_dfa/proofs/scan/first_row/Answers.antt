@@ -26,7 +26,8 @@ returns-in-Err-clause-stops c =
 
 pub returns-in-Err-clause-full : goal.returns-in-Err-clause-full
 returns-in-Err-clause-full c =
-    IsUsedUp-at c.start.new.self c.args.dfa.now c.at.result c.in-Err.gave_up c.start-at.result c.at.ensures c.in-Err.ensures.full
+    IsUsedUp-at c.start.new.self c.args.dfa.now c.at.result c.in-Err.gave_up c.start-at.result c.at.ensures
+    c.in-Err.ensures.full
 
 pub returns-in_err-byte-clause-full : goal.returns-in_err-byte-clause-full
 returns-in_err-byte-clause-full c = let full = c.in_err-byte.ensures.full c.args.cache.now in search rules

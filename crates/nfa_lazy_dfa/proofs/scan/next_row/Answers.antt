@@ -27,9 +27,10 @@ returns-in-Ok-clause-leads c =
 
 pub returns-in-Err-clause-stops : goal.returns-in-Err-clause-stops
 returns-in-Err-clause-stops c =
-    IsStop-gave_up c.args.dfa.now.nfa (search_of c.args.input.now) c.at.result c.in-Err.gave_up c.args.place.at c.at.ensures
-    c.requires.span
+    IsStop-gave_up c.args.dfa.now.nfa (search_of c.args.input.now) c.at.result c.in-Err.gave_up c.args.place.at
+    c.at.ensures c.requires.span
 
 pub returns-in-Err-clause-full : goal.returns-in-Err-clause-full
 returns-in-Err-clause-full c =
-    IsUsedUp-at c.next.new.self c.args.dfa.now c.at.result c.in-Err.gave_up c.args.place.at c.at.ensures c.in-Err.ensures.full
+    IsUsedUp-at c.next.new.self c.args.dfa.now c.at.result c.in-Err.gave_up c.args.place.at c.at.ensures
+    c.in-Err.ensures.full

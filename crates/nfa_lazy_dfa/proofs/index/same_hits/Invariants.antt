@@ -1,0 +1,7 @@
+-- The patterns so far are equal.
+use Rattle.std.proofs.Common.{◌≡◌, ℕ, ◌<◌, get_or, map}
+use Rattle.regex_search_core.specs.Patterns.{number_of}
+use Rattle.nfa_lazy_dfa.proofs.index.same_hits.Given as goal
+
+abbrev pub invariant-loop-index : goal.invariant-loop-index
+invariant-loop-index l = (k : ℕ) → k < l.index → get_or (map number_of l.a) k 0 ≡ get_or (map number_of l.b) k 0
