@@ -6,6 +6,7 @@ pub mod SearchLemmas
 pub mod AddLemmas
 pub mod RangeLemmas
 pub mod CompiledLemmas
+pub mod ErrorLemmas
 pub mod CharLemmas
 pub mod MeantLemmas
 pub mod TextLemmas

@@ -4,7 +4,7 @@ ghost use Rattle.regex_nfa.specs.Run.{state_of};
 ghost use Rattle.thompson_nfa.specs.Automaton.{node_of};
 ghost use Rattle.nfa_compiler.specs.Blocks.{IsBlock, Stands, look_of, match_at, moved, slot_in};
 ghost use Rattle.nfa_compiler.specs.Added.{Adds, HoldsStates};
-ghost use Rattle.nfa_compiler.specs.Rejected.{IsOfNoText};
+ghost use Rattle.nfa_compiler.specs.Rejected.{IsOfSite};
 
 use crate::error::CompileError;
 use crate::states::push;
@@ -29,7 +29,7 @@ impl Site {
     /// Returns the new number of a state.
     fn target(self, id: u32) -> Result<StateID, CompileError>
         ensures target { IfOk result (λ target. (id < self.size) × (target ≡ self.base + id)) }
-        ensures fails { IfErr result IsOfNoText }
+        ensures fails { IfErr result (IsOfSite self) }
     {
         if id as usize >= self.size {
             return Err(self.bad_tree());
@@ -39,7 +39,7 @@ impl Site {
 
     /// Returns the error of a pattern whose tree is not one that a parser returns.
     fn bad_tree(self) -> CompileError
-        ensures { IsOfNoText result }
+        ensures { IsOfSite self result }
     {
         CompileError::Tree {
             pattern: self.pattern.as_usize(),
@@ -49,7 +49,7 @@ impl Site {
     /// Returns the new number of a slot of an explicit group.
     fn slot(self, slot: u32) -> Result<usize, CompileError>
         ensures slot { IfOk result (λ place. (2 ≤ slot) × (place ≡ slot_in self slot)) }
-        ensures fails { IfErr result IsOfNoText }
+        ensures fails { IfErr result (IsOfSite self) }
     {
         if slot < 2 {
             return Err(self.bad_tree());
@@ -62,7 +62,7 @@ impl Site {
     /// Moves a transition.
     fn transition(self, transition: regex_nfa::Transition) -> Result<Transition, CompileError>
         ensures moved { IfOk result (λ made. (transition.next < self.size) × (made ≡ moved self transition)) }
-        ensures fails { IfErr result IsOfNoText }
+        ensures fails { IfErr result (IsOfSite self) }
     {
         Ok(Transition {
             start: transition.start,
@@ -79,7 +79,7 @@ impl Site {
     ) -> Result<Vec<Transition>, CompileError>
         ensures inside { IfOk result (λ made. All (λ t. t.next < self.size) transitions.now) }
         ensures moved { IfOk result (λ made. made.items ≡ map (moved self) transitions.now) }
-        ensures fails { IfErr result IsOfNoText }
+        ensures fails { IfErr result (IsOfSite self) }
     {
         let mut made = Vec::with_capacity(alloc, transitions.len())?;
         for transition in transitions {
@@ -93,7 +93,7 @@ impl Site {
         requires { id < vec_len nfa.now.states }
         ensures stands { IfOk result (λ made.
             Stands nfa.now.transitions.items self (state_of nfa.now id) (node_of made)) }
-        ensures fails { IfErr result IsOfNoText }
+        ensures fails { IfErr result (IsOfSite self) }
     {
         match nfa.state(id) {
             regex_nfa::State::ByteRange(transition) => Ok(State::ByteRange {
@@ -126,7 +126,7 @@ impl Site {
     /// Returns the number of the pattern's Match.
     fn end(self) -> Result<StateID, CompileError>
         ensures end { IfOk result (λ end. end ≡ match_at self) }
-        ensures fails { IfErr result IsOfNoText }
+        ensures fails { IfErr result (IsOfSite self) }
     {
         StateID::new(self.base.saturating_add(self.size)).ok_or(CompileError::TooManyStates)
     }
@@ -142,7 +142,7 @@ impl Site {
         requires size { self.size ≤ vec_len nfa.now.states }
         ensures holds { OnOk result (HoldsStates (map node_of states.old.items) (map node_of states.new.items)
             nfa.now self self.size) }
-        ensures fails { IfErr result IsOfNoText }
+        ensures fails { IfErr result (IsOfSite self) }
     {
         for id in 0..self.size {
             states.push(self.state(alloc, nfa, id as u32)?)?;
@@ -164,7 +164,7 @@ impl Site {
         ensures added { OnOk result (Adds (map node_of states.old.items) (map node_of states.new.items)) }
         ensures count { OnOk result (vec_len states.new ≡ match_at self + 2) }
         ensures block { OnOk result (IsBlock (map node_of states.new.items) nfa.now self) }
-        ensures fails { IfErr result IsOfNoText }
+        ensures fails { IfErr result (IsOfSite self) }
     {
         self.add_states(alloc, nfa, states)?;
         push(

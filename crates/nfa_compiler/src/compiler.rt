@@ -1,7 +1,8 @@
 //! The compiler: from the trees of patterns to one NFA.
-ghost use Rattle.std.specs.Prelude.{◌≡◌, ◌==◌, ◌+◌, ◌*◌, ◌<◌, ◌∷◌, [], All, true, false, IfErr, IfOk, OnOk};
+ghost use Rattle.std.specs.Prelude.{◌≡◌, ◌==◌, ◌+◌, ◌*◌, ◌<◌, ◌≤◌, ◌∷◌, [], All, true, false, IfErr, IfOk, OnOk};
 ghost use Rattle.std.specs.Prelude.{length, map, vec_len};
 ghost use Rattle.regex_hir.specs.Meaning.{meaning};
+ghost use Rattle.regex_nfa.specs.Sizes.{table_bytes};
 ghost use Rattle.regex_compile.specs.Implements.{Implements};
 ghost use Rattle.regex_search_core.specs.Groups.{slot_count};
 ghost use Rattle.thompson_nfa.specs.Automaton.{IsAutomaton, node_of};
@@ -9,7 +10,8 @@ ghost use Rattle.nfa_paths.specs.Paths.{is_utf8_empty};
 ghost use Rattle.nfa_compiler.specs.Compiled.{AlwaysReads, ArePatterns, IsCompiled, IsNfaOf, IsPatternAt};
 ghost use Rattle.nfa_compiler.specs.Compiled.{explicit_names, groups_of, res_of};
 ghost use Rattle.nfa_compiler.specs.Added.{Adds, AreInRange, KeepsInRange};
-ghost use Rattle.nfa_compiler.specs.Rejected.{IsOfNoText, IsOfOneText};
+ghost use Rattle.nfa_compiler.specs.Rejected.{FitsIn, IsOfNoPattern, IsOfNoText, IsOfOneText, IsOfPattern};
+ghost use Rattle.nfa_compiler.specs.Rejected.{NamesPattern, NamesText, TextsFitIn};
 
 use crate::block::Site;
 use crate::config::Config;
@@ -109,7 +111,9 @@ impl Compiler {
         ensures free { self.now.config.anchored ≡ false
             → IfOk result (λ nfa. (nfa.anchored == nfa.unanchored) ≡ false) }
         ensures anywhere { self.now.config.utf8 ≡ false → IfOk result (λ nfa. is_utf8_empty nfa ≡ false) }
+        ensures fits { IfOk result (λ _. TextsFitIn self.now.config.size_limit (syntax_of self.now) (pattern.now ∷ [])) }
         ensures rejected { IfErr result (IsOfOneText (syntax_of self.now) (pattern.now ∷ [])) }
+        ensures named { IfErr result (NamesText (syntax_of self.now) self.now.config.size_limit (pattern.now ∷ [])) }
     {
         self.build_many(alloc, &[pattern])
     }
@@ -131,7 +135,11 @@ impl Compiler {
         ensures free { self.now.config.anchored ≡ false
             → IfOk result (λ nfa. (nfa.anchored == nfa.unanchored) ≡ false) }
         ensures anywhere { self.now.config.utf8 ≡ false → IfOk result (λ nfa. is_utf8_empty nfa ≡ false) }
+        ensures fits { IfOk result (λ _. TextsFitIn self.now.config.size_limit (syntax_of self.now)
+            (map (λ text. text.now) patterns.now)) }
         ensures rejected { IfErr result (IsOfOneText (syntax_of self.now) (map (λ text. text.now) patterns.now)) }
+        ensures named { IfErr result (NamesText (syntax_of self.now) self.now.config.size_limit
+            (map (λ text. text.now) patterns.now)) }
     {
         let syntax = regex_syntax::Config {
             utf8: self.config.utf8,
@@ -162,7 +170,9 @@ impl Compiler {
             → IfOk result (λ nfa. (nfa.anchored == nfa.unanchored) ≡ false) }
         ensures anywhere { self.now.config.utf8 ≡ false → IfOk result (λ nfa. is_utf8_empty nfa ≡ false) }
         ensures reads { IfOk result (λ nfa. nfa.has_empty ≡ false → AlwaysReads pattern.now) }
+        ensures fits { IfOk result (λ _. All (FitsIn self.now.config.size_limit) (meaning pattern.now.hir ∷ [])) }
         ensures fails { IfErr result IsOfNoText }
+        ensures named { IfErr result (NamesPattern self.now.config.size_limit (meaning pattern.now.hir ∷ [])) }
     {
         self.build_many_from_hir(alloc, slice::from_ref(pattern))
     }
@@ -191,7 +201,9 @@ impl Compiler {
             → IfOk result (λ nfa. (nfa.anchored == nfa.unanchored) ≡ false) }
         ensures anywhere { self.now.config.utf8 ≡ false → IfOk result (λ nfa. is_utf8_empty nfa ≡ false) }
         ensures reads { IfOk result (λ nfa. nfa.has_empty ≡ false → All AlwaysReads patterns.now) }
+        ensures fits { IfOk result (λ _. All (FitsIn self.now.config.size_limit) (res_of patterns.now)) }
         ensures fails { IfErr result IsOfNoText }
+        ensures named { IfErr result (NamesPattern self.now.config.size_limit (res_of patterns.now)) }
     {
         let groups = groups_of(alloc, patterns)?;
         let mut states = Vec::new(alloc);
@@ -221,7 +233,7 @@ impl Compiler {
         ensures within { IfOk result (λ start. start < vec_len states.new) }
         ensures bound { IfOk result (λ start. self.now.config.anchored ≡ true → start ≡ anchored) }
         ensures free { IfOk result (λ start. self.now.config.anchored ≡ false → start ≡ vec_len states.old) }
-        ensures fails { IfErr result IsOfNoText }
+        ensures fails { IfErr result IsOfNoPattern }
     {
         if self.config.anchored {
             return Ok(anchored);
@@ -243,7 +255,9 @@ impl Compiler {
         ensures inside { IfOk result (λ starts. All (λ s. s < vec_len states.new) starts.items) }
         ensures range { OnOk result (AreInRange (slot_count (groups_of patterns.now)) (length patterns.now)
             (map node_of states.new.items)) }
+        ensures fits { IfOk result (λ _. All (FitsIn self.now.config.size_limit) (res_of patterns.now)) }
         ensures fails { IfErr result IsOfNoText }
+        ensures named { IfErr result (NamesPattern self.now.config.size_limit (res_of patterns.now)) }
     {
         let mut starts = Vec::with_capacity(alloc, patterns.len())?;
         let mut slots = slots_for(patterns.len())?;
@@ -272,7 +286,8 @@ impl Compiler {
             (map node_of states.new.items)) }
         ensures inside { IfOk result (λ start. start < vec_len states.new) }
         ensures added { OnOk result (Adds (map node_of states.old.items) (map node_of states.new.items)) }
-        ensures fails { IfErr result IsOfNoText }
+        ensures fits { IfOk result (λ _. FitsIn self.now.config.size_limit (meaning pattern.now.hir)) }
+        ensures fails { IfErr result (IsOfPattern self.now.config.size_limit index) }
     {
         let nfa = self.compile(alloc, index, pattern)?;
         let site = Site {
@@ -289,7 +304,8 @@ impl Compiler {
     fn compile(&self, alloc: Global, index: usize, pattern: &Parsed) -> Result<Nfa, CompileError>
         ensures implements { IfOk result (λ nfa. Implements nfa (meaning pattern.now.hir)) }
         ensures slots { IfOk result (λ nfa. nfa.slot_count ≡ 2 * length pattern.now.names.items) }
-        ensures fails { IfErr result IsOfNoText }
+        ensures small { IfOk result (λ nfa. table_bytes nfa ≤ self.now.config.size_limit + 24) }
+        ensures fails { IfErr result (IsOfPattern self.now.config.size_limit index) }
     {
         let Ok(groups) = u32::try_from(pattern.names.len()) else {
             return Err(CompileError::TooManyGroups);

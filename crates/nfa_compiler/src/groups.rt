@@ -2,7 +2,7 @@
 ghost use Rattle.std.specs.Prelude.{◌≡◌, ◌+◌, ◌*◌, IfErr, IfOk, drop, length, map, option_map, string_bytes};
 ghost use Rattle.regex_search_core.specs.Patterns.{number_of};
 ghost use Rattle.nfa_compiler.specs.Compiled.{explicit_names, groups_of};
-ghost use Rattle.nfa_compiler.specs.Rejected.{IsOfNoText};
+ghost use Rattle.nfa_compiler.specs.Rejected.{IsOfNoPattern};
 
 use crate::error::CompileError;
 use regex_search_core::{GroupInfo, PatternID};
@@ -22,7 +22,7 @@ fn explicit(pattern: &Parsed) -> &[Option<String>]
 /// Makes the group info of these patterns.
 pub(crate) fn groups_of(alloc: Global, patterns: &[Parsed]) -> Result<GroupInfo, CompileError>
     ensures groups { IfOk result (λ groups. groups ≡ groups_of patterns.now) }
-    ensures fails { IfErr result IsOfNoText }
+    ensures fails { IfErr result IsOfNoPattern }
 {
     let mut names = Vec::with_capacity(alloc, patterns.len())?;
     for pattern in patterns {
@@ -45,7 +45,7 @@ fn names_of(alloc: Global, names: &[Option<String>]) -> Result<Vec<Option<String
 /// Returns the number of the pattern at this index.
 pub(crate) fn pattern_number(index: usize) -> Result<PatternID, CompileError>
     ensures number { IfOk result (λ pattern. number_of pattern ≡ index) }
-    ensures fails { IfErr result IsOfNoText }
+    ensures fails { IfErr result IsOfNoPattern }
 {
     PatternID::new(index).ok_or(CompileError::TooManyPatterns)
 }
@@ -53,7 +53,7 @@ pub(crate) fn pattern_number(index: usize) -> Result<PatternID, CompileError>
 /// Returns the first slot after those of the pattern's explicit groups, which begin at `slots`.
 pub(crate) fn slots_after(slots: usize, pattern: &Parsed) -> Result<usize, CompileError>
     ensures after { IfOk result (λ after. after ≡ slots + 2 * length (explicit_names pattern.now)) }
-    ensures fails { IfErr result IsOfNoText }
+    ensures fails { IfErr result IsOfNoPattern }
 {
     let own = slots_for(explicit(pattern).len())?;
     slots.checked_add(own).ok_or(CompileError::TooManyGroups)
@@ -62,7 +62,7 @@ pub(crate) fn slots_after(slots: usize, pattern: &Parsed) -> Result<usize, Compi
 /// Returns the number of slots of this number of groups: two for each.
 pub(crate) fn slots_for(groups: usize) -> Result<usize, CompileError>
     ensures slots { IfOk result (λ slots. slots ≡ 2 * groups) }
-    ensures fails { IfErr result IsOfNoText }
+    ensures fails { IfErr result IsOfNoPattern }
 {
     groups.checked_mul(2).ok_or(CompileError::TooManyGroups)
 }

@@ -3,7 +3,7 @@ ghost use Rattle.std.specs.Prelude.{◌≡◌, ◌≤◌, IfErr, IfOk, IsCharBou
 ghost use Rattle.std.specs.List.{AllZip};
 ghost use Rattle.regex_syntax.specs.Verdict.{Refuses};
 ghost use Rattle.nfa_compiler.specs.Compiled.{IsTreeOf};
-ghost use Rattle.nfa_compiler.specs.Rejected.{IsMemoryOr, IsOfOneText, IsRejection};
+ghost use Rattle.nfa_compiler.specs.Rejected.{IsMemoryOr, IsOfOneText, IsOfReading, IsRejection};
 
 use crate::error::CompileError;
 use crate::syntax_error::SyntaxError;
@@ -19,6 +19,7 @@ pub(crate) fn read_all(
     ensures read { IfOk result (λ trees. AllZip (IsTreeOf syntax.now) (map (λ text. text.now) patterns.now)
         trees.items) }
     ensures rejected { IfErr result (IsOfOneText syntax.now (map (λ text. text.now) patterns.now)) }
+    ensures fails { IfErr result IsOfReading }
 {
     let mut trees = Vec::with_capacity(alloc, patterns.len())?;
     for (index, pattern) in patterns.iter().enumerate() {

@@ -3,7 +3,7 @@ ghost use Rattle.std.specs.Prelude.{◌≡◌, ◌<◌, ◌++◌, ◌∷◌, [],
 ghost use Rattle.thompson_nfa.specs.Automaton.{node_of};
 ghost use Rattle.nfa_compiler.specs.Added.{Adds, KeepsInRange};
 ghost use Rattle.nfa_compiler.specs.Compiled.{Chooses};
-ghost use Rattle.nfa_compiler.specs.Rejected.{IsOfNoText};
+ghost use Rattle.nfa_compiler.specs.Rejected.{IsOfNoPattern};
 
 use crate::error::CompileError;
 use regex_search_core::StateID;
@@ -14,7 +14,7 @@ use thompson_nfa::{State, Transition};
 pub(crate) fn push(states: &mut Vec<State>, state: State) -> Result<StateID, CompileError>
     ensures number { IfOk result (λ number. number ≡ vec_len states.old) }
     ensures nodes { OnOk result (map node_of states.new.items ≡ map node_of states.old.items ++ node_of state ∷ []) }
-    ensures fails { IfErr result IsOfNoText }
+    ensures fails { IfErr result IsOfNoPattern }
 {
     let id = StateID::new(states.len()).ok_or(CompileError::TooManyStates)?;
     states.push(state)?;
@@ -32,7 +32,7 @@ pub(crate) fn choice(
     ensures within { IfOk result (λ state. state < vec_len states.new) }
     ensures added { OnOk result (Adds (map node_of states.old.items) (map node_of states.new.items)) }
     ensures range { OnOk result (KeepsInRange (map node_of states.old.items) (map node_of states.new.items)) }
-    ensures fails { IfErr result IsOfNoText }
+    ensures fails { IfErr result IsOfNoPattern }
 {
     if let [one] = starts {
         return Ok(*one);
@@ -48,7 +48,7 @@ pub(crate) fn prefix(states: &mut Vec<State>, start: StateID) -> Result<StateID,
     ensures within { IfOk result (λ number. number < vec_len states.new) }
     ensures added { OnOk result (Adds (map node_of states.old.items) (map node_of states.new.items)) }
     ensures range { OnOk result (KeepsInRange (map node_of states.old.items) (map node_of states.new.items)) }
-    ensures fails { IfErr result IsOfNoText }
+    ensures fails { IfErr result IsOfNoPattern }
 {
     let prefix = StateID::new(states.len()).ok_or(CompileError::TooManyStates)?;
     let skip = StateID::new(states.len().saturating_add(1)).ok_or(CompileError::TooManyStates)?;

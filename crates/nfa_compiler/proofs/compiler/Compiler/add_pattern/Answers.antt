@@ -22,3 +22,10 @@ returns-clause-range c =
     (omega (arith, nodes-length c.args.states.now))
     (omega (arith, nodes-length c.add.new.states, c.in_ok-start.ensures.count))
     c.in_ok-pattern_number.ensures.number refl c.in_ok-nfa.ensures.slots c.requires.slots c.requires.range
+
+pub returns-clause-fits : goal.returns-clause-fits
+returns-clause-fits c = record {
+  nfa = c.in_ok-nfa.nfa;
+  implements = c.in_ok-nfa.ensures.implements;
+  small = c.in_ok-nfa.ensures.small;
+}

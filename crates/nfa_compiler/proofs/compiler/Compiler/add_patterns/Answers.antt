@@ -1,10 +1,13 @@
 -- one more pattern is there
-use Rattle.std.proofs.Common.{◌+◌, ◌∙◌, ap, arith, length, map, subst, sym, vec_len}
+use Rattle.std.proofs.Common.{◌+◌, ◌∙◌, ap, arith, length, map, rules, subst, sym, vec_len}
 use Rattle.std.proofs.lemmas.List.{length_push}
 use Rattle.thompson_nfa.specs.Automaton.{node_of}
+use Rattle.nfa_compiler.specs.Compiled.{res_of}
+use Rattle.nfa_compiler.specs.Rejected.{NamesPattern}
 use Rattle.nfa_compiler.specs.Added.{AreInRange}
 use Rattle.nfa_compiler.proofs.AddLemmas.{adds-length, nodes-length}
 use Rattle.nfa_compiler.proofs.CompiledLemmas.{made-more, inside-more, slots-more}
+use Rattle.nfa_compiler.proofs.ErrorLemmas.{fit-all, fit-more, named-at}
 use Rattle.nfa_compiler.proofs.compiler.Compiler.add_patterns.Goals as goal
 
 pub loop-index-preserved : goal.loop-index-preserved
@@ -36,4 +39,20 @@ loop-index-preserved c = record {
         adds-length _ _ c.in_ok-add_pattern.ensures.added,
       ))
       c.loop-index.invariant.inside c.in_ok-add_pattern.ensures.inside c.in_ok-push.ensures.items;
+  fit =
+      fit-more c.args.self.now.config.size_limit c.args.patterns.now c.loop-index.index c.index-patterns-index.result
+      c.loop-index-test.true c.index-patterns-index.is c.loop-index.invariant.fit c.in_ok-add_pattern.ensures.fits;
 }
+
+pub returns-in_err-add_pattern-clause-named : goal.returns-in_err-add_pattern-clause-named
+returns-in_err-add_pattern-clause-named c =
+    let h : NamesPattern c.args.self.now.config.size_limit (res_of c.args.patterns.now) c.in_err-add_pattern.field-0.0 =
+    named-at c.args.self.now.config.size_limit c.args.patterns.now c.loop-index.index c.in_err-add_pattern.field-0.0
+    c.loop-index-test.true
+    c.loop-index.invariant.fit c.in_err-add_pattern.ensures.fails in
+    search (rules, h)
+
+pub returns-clause-fits : goal.returns-clause-fits
+returns-clause-fits c =
+    fit-all c.args.self.now.config.size_limit c.args.patterns.now
+    (λ k below. c.loop-index.invariant.fit k (omega (arith, c.loop-index-test.false)))

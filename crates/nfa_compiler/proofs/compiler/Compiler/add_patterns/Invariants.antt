@@ -1,8 +1,10 @@
 -- the patterns so far are at their starts
-use Rattle.std.proofs.Common.{◌≡◌, ◌<◌, map, length, vec_len}
-use Rattle.std.specs.Prelude.{All}
+use Rattle.std.proofs.Common.{◌≡◌, ℕ, ◌<◌, map, length, vec_len}
+use Rattle.std.specs.Prelude.{All, slice_index_or}
+use Rattle.regex_hir.specs.Re.{empty}
 use Rattle.thompson_nfa.specs.Automaton.{node_of}
 use Rattle.nfa_compiler.specs.Added.{AreInRange}
+use Rattle.nfa_compiler.specs.Rejected.{FitsIn}
 use Rattle.nfa_compiler.specs.Compiled.{ArePatterns, first_slot, groups_of, res_of}
 use Rattle.nfa_compiler.proofs.compiler.Compiler.add_patterns.Given as goal
 
@@ -13,4 +15,5 @@ invariant-loop-index l = record {
   made : ArePatterns (map node_of l.states.items) (groups_of l.patterns) l.starts.items (res_of l.patterns) l.index;
   range : AreInRange l.slots l.index (map node_of l.states.items);
   inside : All (λ s. s < vec_len l.states) l.starts.items;
+  fit : (k : ℕ) → k < l.index → FitsIn l.self.config.size_limit (slice_index_or (res_of l.patterns) k empty);
 }

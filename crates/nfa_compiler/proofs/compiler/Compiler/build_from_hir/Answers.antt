@@ -1,0 +1,13 @@
+-- the one pattern fits
+use Rattle.std.proofs.Common.{List, subst}
+use Rattle.std.specs.Prelude.{All, IfOk}
+use Rattle.regex_syntax.specs.declared.Parsed.{Parsed}
+use Rattle.nfa_compiler.specs.Compiled.{res_of}
+use Rattle.nfa_compiler.specs.Rejected.{FitsIn}
+use Rattle.nfa_compiler.proofs.compiler.Compiler.build_from_hir.Goals as goal
+
+pub returns-clause-fits : goal.returns-clause-fits
+returns-clause-fits c =
+    subst (λ (ps : List Parsed). IfOk c.build_many_from_hir.result
+    (λ _. All (FitsIn c.args.self.now.config.size_limit) (res_of ps)))
+    c.from_ref.ensures.value c.build_many_from_hir.ensures.fits
