@@ -3,3 +3,4 @@ pub mod LexedLemmas
 pub mod RuleLemmas
 pub mod TokenLemmas
 pub mod Writes
+pub mod RuleErrorLemmas

@@ -3,3 +3,4 @@ pub mod Lexers
 pub mod Printed
 pub mod Rules
 pub mod Tokens
+pub mod RuleErrors

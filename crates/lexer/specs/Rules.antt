@@ -1,11 +1,11 @@
 -- How rules are written, one in a line.
-use Rattle.std.specs.Prelude.{ℕ, ◌+◌, ◌<◌, ◌≡◌, ◌≢◌, ◌↔◌, ◌==◌, ◌||◌, ◌++◌, Bool, false, not, IsTrue, List, [], codes, drop, length, slice_index, slice_index_or}
+use Rattle.std.specs.Prelude.{ℕ, ◌+◌, ◌<◌, ◌≡◌, ◌≢◌, ◌-◌, ◌↔◌, ◌==◌, ◌||◌, ◌++◌, Bool, false, not, IsTrue, List, [], chars, codes, drop, length, slice_index, slice_index_or}
 use Rattle.std.specs.List.{AllZip, after_first, before_first, enumerate_from, filter, position_or_len}
-use Rattle.std.specs.Str.{trim}
+use Rattle.std.specs.Str.{trim, trim_start}
 use Rattle.nfa_compiler.specs.declared.error.CompileError.TheVariants.{Memory}
 use Rattle.lexer.specs.declared.rules.Rule.{Rule}
 use Rattle.lexer.specs.declared.rules.RulesError.{RulesError}
-use Rattle.lexer.specs.declared.rules.RulesError.TheVariants.{NoRule, NoPattern, Compile}
+use Rattle.lexer.specs.declared.rules.RulesError.TheVariants.{NoRule, NoPattern, TooLarge, Compile}
 
 -- the bytes `=` and `#`
 abbrev pub equals_sign : ℕ
@@ -25,18 +25,26 @@ name_in line = trim (before_first (λ byte. byte == equals_sign) line)
 abbrev pub pattern_in : List ℕ → List ℕ
 pattern_in line = trim (after_first (λ byte. byte == equals_sign) line)
 
+-- The character of the line, from 1, at which the pattern starts: after those before the `=`, the `=`, and white space.
+abbrev pub column_in : List ℕ → ℕ
+column_in line =
+    let before = before_first (λ byte. byte == equals_sign) line in
+    let behind = after_first (λ byte. byte == equals_sign) line in
+    length (chars before) + (length (chars behind) - length (chars (trim_start behind))) + 2
+
 -- the line has a name, an `=` and a pattern
 pub record HasRule (line : List ℕ) : Type 0 where
   pub sign : sign_place line < length line
   pub some_name : name_in line ≢ []
   pub some_pattern : pattern_in line ≢ []
 
--- It is this rule. The texts of `space` are not shown.
+-- It is this rule, whose pattern starts at this column. The texts of `space` are not shown.
 pub record IsRuleOf (line : List ℕ) (rule : Rule) : Type 0 where
   pub has : HasRule line
   pub name_is : rule.name.now ≡ name_in line
   pub pattern_is : rule.pattern.now ≡ pattern_in line
   pub hidden_is : IsTrue rule.hidden ↔ (rule.name.now ≡ codes "space")
+  pub column_is : rule.column ≡ column_in line
 
 -- the line has nothing but white space, or starts with `#`
 abbrev pub is_left_out : List ℕ → Bool
@@ -72,6 +80,7 @@ pub record IsFirstWrong (lines : List (List ℕ)) (number : ℕ) : Type 0 where
 abbrev pub IsRulesError : List (List ℕ) → RulesError → Type 0
 IsRulesError lines (NoRule line) = IsFirstWrong lines line
 IsRulesError lines (NoPattern line column reason) = ⊥
+IsRulesError lines (TooLarge line limit) = ⊥
 IsRulesError lines (Compile error) = error ≡ Memory
 
 -- The rules of the first `index` lines were made. With those of the lines that are left, they are the rules of all.

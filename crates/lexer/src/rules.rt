@@ -1,14 +1,18 @@
 //! The rules of a language: in each line of a text the name of a rule, `=`, and its pattern.
-ghost use Rattle.std.specs.Prelude.{◌≡◌, ◌+◌, IfErr, IfNone, IfOk, IfSome, map};
+ghost use Rattle.std.specs.Prelude.{◌≡◌, ◌≤◌, ◌<◌, ◌+◌, ◌-◌, ◌^◌, IfErr, IfNone, IfOk, IfSome, chars, length, map};
+ghost use Rattle.std.specs.Str.{trim_start};
 ghost use Rattle.std.specs.Str.Lines.{lines};
 ghost use Rattle.nfa_compiler.specs.Compiled.{IsCompiled};
+ghost use Rattle.nfa_compiler.specs.Rejected.{IsOfOneText, NamesText};
+ghost use Rattle.nfa_compiler.specs.declared.error.CompileError.TheVariants.{Syntax, TooBig};
 ghost use Rattle.lexer.specs.Lexed.{rule_patterns};
+ghost use Rattle.lexer.specs.RuleErrors.{IsCompileMistake};
 ghost use Rattle.lexer.specs.Rules.{AreRulesOf, HasRule, IsRuleOf, IsRulesError, is_left_out};
 ghost use Rattle.lexer.specs.Tokens.{rule_syntax};
 
 use nfa_compiler::{CompileError, Compiler, Config, SyntaxError};
 use std::alloc::{AllocError, AllocFailed, Global};
-use thiserror::Error;
+use std::fmt;
 use thompson_nfa::NFA;
 
 /// The rules of the program if no others are given.
@@ -36,25 +40,56 @@ pub struct Rule<'t> {
     pub column: usize,
 }
 
-/// Why a text is not a list of rules.
-#[derive(Debug, Drop, Error)]
+/// Why a text is not a list of rules. Lines and columns are numbered from 1, and columns count characters.
+#[derive(Debug, Drop)]
 pub enum RulesError {
     /// The line has no name, no `=` or no pattern.
-    #[error("line {line} of the rules is not NAME = PATTERN")]
     NoRule {
         line: usize,
     },
-    /// At this character of the line, from 1, stands what is wrong with its pattern.
-    #[error("line {line} of the rules, column {column}: {reason}")]
+    /// The pattern of the line is not one, for a reason that is at this column.
     NoPattern {
         line: usize,
         column: usize,
         reason: &'static str,
     },
-    /// The patterns cannot be compiled, or allocation failed.
-    #[error("{0}")]
+    /// The pattern of the line exceeds this size limit, in bytes.
+    TooLarge {
+        line: usize,
+        limit: usize,
+    },
+    /// Allocation failed, or the patterns need more states, numbers or slots than an NFA has.
     Compile(CompileError),
 }
+
+impl fmt::Display for RulesError {
+    ghost use Rattle.std.specs.Prelude.{Some};
+    ghost use Rattle.lexer.specs.RuleErrors.{rules_error_text};
+
+    ghost output = { λ e. Some (rules_error_text e) };
+
+    fn fmt<W: fmt::Write>(&self, f: &mut fmt::Formatter<W>) -> fmt::Result {
+        match self {
+            RulesError::NoRule { line } => {
+                write!(f, "line {line} of the rules is not NAME = PATTERN")
+            }
+            RulesError::NoPattern {
+                line,
+                column,
+                reason,
+            } => { write!(f, "line {line} of the rules, column {column}: {reason}") }
+            RulesError::TooLarge { line, limit } => {
+                write!(
+                    f,
+                    "line {line} of the rules: the pattern exceeds the size limit of {limit} bytes"
+                )
+            }
+            RulesError::Compile(error) => write!(f, "{error}"),
+        }
+    }
+}
+
+impl std::error::Error for RulesError {}
 
 impl<T: Drop> From<AllocFailed<T>> for RulesError {
     ghost use Rattle.std.specs.Prelude.{◌≡◌};
@@ -147,22 +182,29 @@ fn rule_of<'t>(line: &'t str, number: usize) -> Option<Rule<'t>>
 }
 
 /// Returns the number of the character, from 1, at which the pattern starts: after the `=` and white space.
-fn column_of(before: &str, behind: &str) -> usize {
-    let space = behind
-        .chars()
-        .count()
-        .saturating_sub(behind.trim_start().chars().count());
-    before
-        .chars()
-        .count()
-        .saturating_add(space)
-        .saturating_add(2)
+fn column_of(before: &str, behind: &str) -> usize
+    requires { length before.now + length behind.now < 2 ^ 63 }
+    ensures { result ≡ length (chars before.now)
+        + (length (chars behind.now) - length (chars (trim_start behind.now))) + 2 }
+{
+    let space = char_count(behind).saturating_sub(char_count(behind.trim_start()));
+    char_count(before) + space + 2
+}
+
+/// Returns the number of characters of the text.
+#[tactic(auto, using(std::proofs::lemmas::Str::chars_from_encodes))]
+fn char_count(text: &str) -> usize
+    ensures value { result ≡ length (chars text.now) }
+    ensures bound { result ≤ length text.now }
+{
+    text.chars().count()
 }
 
 /// Compiles the patterns of these rules, each of which is bound to the start of a search and matches bytes.
 pub fn compile(alloc: Global, rules: &[Rule<'_>]) -> Result<NFA, RulesError>
     ensures compiled { IfOk result (IsCompiled rule_syntax (rule_patterns rules.now)) }
     ensures anchored { IfOk result (λ nfa. nfa.anchored ≡ nfa.unanchored) }
+    ensures error { IfErr result (IsCompileMistake rules.now) }
 {
     let patterns = patterns_of(alloc, rules)?;
     let config = Config::new().utf8(false).anchored(true);
@@ -171,7 +213,8 @@ pub fn compile(alloc: Global, rules: &[Rule<'_>]) -> Result<NFA, RulesError>
         .build_many(alloc, &patterns)
     {
         Ok(nfa) => Ok(nfa),
-        Err(CompileError::Syntax(error)) => Err(at_its_line(rules, error)),
+        Err(CompileError::Syntax(error)) => Err(syntax_error(rules, &error)),
+        Err(CompileError::TooBig { pattern, limit }) => Err(too_large(rules, pattern, limit)),
         Err(error) => Err(RulesError::Compile(error)),
     }
 }
@@ -189,14 +232,27 @@ fn patterns_of<'t>(alloc: Global, rules: &[Rule<'t>]) -> Result<Vec<&'t str>, Al
 }
 
 /// Returns the error as one of the line that has the pattern.
-fn at_its_line(rules: &[Rule<'_>], error: SyntaxError) -> RulesError {
-    let Some(rule) = rules.get(error.pattern()) else {
-        return RulesError::Compile(CompileError::Syntax(error));
-    };
+fn syntax_error(rules: &[Rule<'_>], error: &SyntaxError) -> RulesError
+    requires { IsOfOneText rule_syntax (rule_patterns rules.now) (Syntax error.now) }
+    ensures { IsCompileMistake rules.now result }
+{
+    let rule = &rules[error.pattern()];
     let (before, _) = error.text().split_at(error.span().start);
     RulesError::NoPattern {
         line: rule.line,
-        column: before.chars().count().saturating_add(rule.column),
-        reason: error.kind().message(),
+        column: rule.column.saturating_add(char_count(before)),
+        reason: error.reason(),
+    }
+}
+
+/// Returns the error that the pattern of this rule exceeds the size limit.
+fn too_large(rules: &[Rule<'_>], pattern: usize, limit: usize) -> RulesError
+    requires within { pattern < length rules.now }
+    requires named { NamesText rule_syntax 10485760 (rule_patterns rules.now) (TooBig pattern limit) }
+    ensures { IsCompileMistake rules.now result }
+{
+    RulesError::TooLarge {
+        line: rules[pattern].line,
+        limit,
     }
 }

@@ -1,0 +1,55 @@
+-- Why rules cannot be compiled, and what is printed of it.
+use Rattle.std.specs.Prelude.{◌≡◌, ℕ, ◌+◌, ◌-◌, ◌^◌, ◌++◌, List, Some, ⊤, chars, codes, decimal, length, min, slice_get, take}
+use Rattle.nfa_compiler.specs.ErrorTexts.{compile_error_text}
+use Rattle.nfa_compiler.specs.Rejected.{IsFirstTooBigOf, IsRejection}
+use Rattle.nfa_compiler.specs.declared.error.CompileError.{CompileError}
+use Rattle.nfa_compiler.specs.declared.error.CompileError.TheVariants.{Syntax, TooBig}
+use Rattle.nfa_compiler.specs.declared.syntax_error.SyntaxError.{SyntaxError}
+use Rattle.lexer.specs.Lexed.{rule_patterns}
+use Rattle.lexer.specs.Tokens.{rule_syntax}
+use Rattle.lexer.specs.declared.rules.Rule.{Rule}
+use Rattle.lexer.specs.declared.rules.RulesError.{RulesError}
+use Rattle.lexer.specs.declared.rules.RulesError.TheVariants.{NoRule, NoPattern, TooLarge, Compile}
+
+-- The pattern of the rule of this line is none, by the grammar. The column counts the characters of the line before the
+-- error, and the largest number stands for larger ones.
+pub record IsSyntaxMistake (rules : List Rule) (line column : ℕ) (reason : List ℕ) : Type 0 where
+  pub rule : Rule
+  pub error : SyntaxError
+  pub rule_is : slice_get rules error.pattern ≡ Some rule
+  pub rejected : IsRejection rule_syntax error.pattern rule.pattern.now error
+  pub line_is : line ≡ rule.line
+  pub column_is : column ≡ min (rule.column + length (chars (take error.span.start rule.pattern.now))) (2 ^ 64 - 1)
+  pub reason_is : reason ≡ error.reason.now
+
+-- The pattern of the rule of this line is the first that exceeds the default size limit, which is this one.
+pub record IsTooLarge (rules : List Rule) (line limit : ℕ) : Type 0 where
+  pub rule : Rule
+  pub pattern : ℕ
+  pub rule_is : slice_get rules pattern ≡ Some rule
+  pub first : IsFirstTooBigOf rule_syntax limit (rule_patterns rules) pattern
+  pub line_is : line ≡ rule.line
+  pub limit_is : limit ≡ 10485760
+
+-- the error is not of one pattern's text or size
+abbrev pub IsOfAllRules : CompileError → Type 0
+IsOfAllRules (Syntax e) = ⊥
+IsOfAllRules (TooBig pattern limit) = ⊥
+IsOfAllRules _ = ⊤
+
+-- why these rules cannot be compiled
+abbrev pub IsCompileMistake : List Rule → RulesError → Type 0
+IsCompileMistake rules (NoRule line) = ⊥
+IsCompileMistake rules (NoPattern line column reason) = IsSyntaxMistake rules line column reason.now
+IsCompileMistake rules (TooLarge line limit) = IsTooLarge rules line limit
+IsCompileMistake rules (Compile e) = IsOfAllRules e
+
+-- the text of an error
+abbrev pub rules_error_text : RulesError → List ℕ
+rules_error_text (NoRule line) = codes "line " ++ decimal line ++ codes " of the rules is not NAME = PATTERN"
+rules_error_text (NoPattern line column reason) =
+    codes "line " ++ decimal line ++ codes " of the rules, column " ++ decimal column ++ codes ": " ++ reason.now
+rules_error_text (TooLarge line limit) =
+    codes "line " ++ decimal line ++ codes " of the rules: the pattern exceeds the size limit of " ++ decimal limit
+    ++ codes " bytes"
+rules_error_text (Compile e) = compile_error_text e
