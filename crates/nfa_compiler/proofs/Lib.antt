@@ -29,6 +29,7 @@ pub mod StrLemmas
 pub mod LiesLemmas
 pub mod StrSearchLemmas
 pub mod AllBoundaryLemmas
+pub mod NameCallLemmas
 pub mod StrCallLemmas
 pub mod WrittenLemmas
 pub mod StrWrittenLemmas

@@ -16,9 +16,8 @@ use Rattle.nfa_compiler.specs.Compiled.{IsCompiled, IsMeant}
 use Rattle.nfa_compiler.specs.Patterns.{PatternHit, found_at, found_by, found_of_hit, hit_by, slots_of}
 use Rattle.nfa_compiler.specs.NameLaws.{IsNamed, captures_of, written_span}
 use Rattle.nfa_compiler.specs.StrHits.{str_hit}
-use Rattle.nfa_compiler.proofs.GroupLemmas.{name-written}
 use Rattle.nfa_compiler.proofs.CallLemmas.{hit-found, hits-found}
-use Rattle.nfa_compiler.proofs.NameLemmas.{groups-named}
+use Rattle.nfa_compiler.proofs.NameCallLemmas.{group-of-one, name-of-hit, one-known}
 use Rattle.nfa_compiler.proofs.StrSearchLemmas.{all-str-matches, all-str-of-one, one-str-hit, starts-free, str-answer, str-match}
 
 module _ (syntax : Config) (text : List ℕ) (nfa : Automaton) (haystack : List ℕ)
@@ -48,35 +47,10 @@ module _ (syntax : Config) (text : List ℕ) (nfa : Automaton) (haystack : List 
       → group_named (drop 1 names ∷ []) 0 name ≡ Some group
       → named_span captures name ≡ option_and_then (written_span group) (find_str re haystack 0)
   call-name-in-str captures name names group answer same room named is =
-      of (find_str re haystack 0) (one-str-hit re nfa (whole haystack) free refl refl)
-    where
-      hits : (captures.pattern ≡ option_map (λ (h : PatternHit). h.pattern) (str_hit (re ∷ []) nfa (whole haystack)))
-          × (captures.slots ≡ slots_of nfa.groups (length captures.slots) (str_hit (re ∷ []) nfa (whole haystack)))
-      hits =
-          str-answer syntax (text ∷ []) (re ∷ []) nfa compiled (meant, tt) mode (whole haystack) refl valid
-          (starts-free syntax (text ∷ []) (re ∷ []) nfa compiled (meant, tt) mode (whole haystack) refl valid free 0)
-          captures.pattern captures.slots answer
-
-      groups : nfa.groups ≡ drop 1 names ∷ []
-      groups =
-          compiled.groups ∙ groups-named syntax (text ∷ []) compiled.trees (names ∷ []) compiled.read (named, tt)
-
-      known : 0 < length nfa.groups
-      known = let one = ap (λ gs. length gs) groups in omega (arith, one)
-
-      of : (o : Option Match) → str_hit (re ∷ []) nfa (whole haystack) ≡ option_map (hit_by 0) o
-          → named_span captures name ≡ option_and_then (written_span group) o
-      of None none =
-          let gone : captures.pattern ≡ None =
-          hits.0 ∙ ap (option_map (λ (h : PatternHit). h.pattern)) none in
-          ap (option_and_then (λ pattern. option_and_then (λ g. group_span captures g)
-          (group_named captures.groups pattern name))) gone
-      of (Some m) some =
-          let pattern : captures.pattern ≡ Some 0 = hits.0 ∙ ap (option_map (λ (h : PatternHit). h.pattern)) some in
-          let slots : captures.slots ≡ slots_of nfa.groups (slot_count nfa.groups) (Some (hit_by 0 m)) =
-          hits.1 ∙ ap (λ n. slots_of nfa.groups n (str_hit (re ∷ []) nfa (whole haystack))) room
-          ∙ ap (slots_of nfa.groups (slot_count nfa.groups)) some in
-          let all : captures ≡ captures_of nfa (hit_by 0 m) =
-          λ i. record { groups = same i; pattern = pattern i; slots = slots i } in
-          ap (λ c. named_span c name) all
-          ∙ name-written nfa (hit_by 0 m) name group known (ap (λ gs. group_named gs 0 name) groups ∙ is)
+      let hits = str-answer syntax (text ∷ []) (re ∷ []) nfa compiled (meant, tt) mode (whole haystack) refl valid
+      (starts-free syntax (text ∷ []) (re ∷ []) nfa compiled (meant, tt) mode (whole haystack) refl valid free 0)
+      captures.pattern captures.slots answer in
+      name-of-hit nfa captures name group (str_hit (re ∷ []) nfa (whole haystack)) (find_str re haystack 0) same room
+      (one-known syntax text nfa compiled names named)
+      (group-of-one syntax text nfa compiled names named name group is) hits.0 hits.1
+      (one-str-hit re nfa (whole haystack) free refl refl)

@@ -71,6 +71,28 @@ pub fn matches_of_text(
         → map found_of found.now ≡ map found_by (find_all re haystack.now) }
 {}
 
+/// The span that captures of a search of the whole haystack give for a name: the span that the match of `find` last
+/// wrote for the first group with this name in the text.
+pub fn named_group_of_text(
+    compiler: &Compiler,
+    pattern: &str,
+    nfa: &NFA,
+    haystack: &[u8],
+    captures: &Captures,
+    name: &str,
+)
+    requires compiled { IsCompiled (syntax_of compiler.now) (pattern.now ∷ []) nfa.now }
+    requires anywhere { is_utf8_empty nfa.now ≡ false }
+    requires free { (nfa.now.anchored == nfa.now.unanchored) ≡ false }
+    requires groups { captures.now.groups ≡ nfa.now.groups }
+    requires room { length captures.now.slots ≡ slot_count nfa.now.groups }
+    requires answer { IsAnswer nfa.now LeftmostFirst false (whole haystack.now) captures.now.pattern
+        captures.now.slots }
+    ensures { (re : Re) (names : List (Option (List ℕ))) (group : ℕ) → IsMeant (syntax_of compiler.now) pattern.now re
+        → IsNamed (syntax_of compiler.now) pattern.now names → group_named (drop 1 names ∷ []) 0 name.now ≡ Some group
+        → named_span captures.now name.now ≡ option_and_then (written_span group) (find re haystack.now 0) }
+{}
+
 /// In UTF-8 mode, the match of a search of a whole `str` is what `find_str` of `regex_hir` gives for the pattern that
 /// the grammar reads in the text.
 pub fn match_in_str(
