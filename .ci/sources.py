@@ -1,6 +1,12 @@
-"""The public items of the sources, for `.ci/calls` and `.ci/pages`: what each declares, documents and promises."""
+"""The one reader of sources and pages for the text checks. `Sources` has the files. The other functions take the text
+of a file, and return what is in it: of a source its lines, functions, public items or definitions; of a page its
+blocks, headings, links and tables. `command` runs a check as a program."""
+import functools
+import itertools
+import os
 import pathlib
 import re
+import sys
 from typing import NamedTuple
 
 root = pathlib.Path(__file__).resolve().parent.parent
@@ -40,6 +46,75 @@ LAWS = [('nfa_engines::laws', 'nfa_engines'), ('nfa_choice::laws', 'nfa_choice')
         ('nfa_compiler::laws', 'nfa_compiler'),
         ('nfa_determinize::laws', 'nfa_determinize')]
 
+def kept(read):
+    """Makes a generator of a text return a list, and keeps what it has read."""
+    return functools.cache(lambda text: list(read(text)))
+
+
+@functools.cache
+def paths():
+    """The paths of all files, without what is built, in order."""
+    found = []
+    for folder, folders, names in os.walk(root):
+        folders[:] = [it for it in folders if it not in ('out', '.git', '__pycache__')]
+        found += [os.path.relpath(os.path.join(folder, name), root) for name in names]
+    return sorted(found, key=lambda it: it.split('/'))
+
+
+@functools.cache
+def text_at(path):
+    return (root / path).read_text()
+
+
+class Sources:
+    """The files by their paths, as they are, or with other texts for some of them."""
+
+    def __init__(self, changed=None):
+        self.changed = changed or {}
+
+    def text(self, path):
+        return self.changed[path] if path in self.changed else text_at(path)
+
+    def files(self, form):
+        """The paths of this form, in order."""
+        return [it for it in paths() if re.fullmatch(form, it)]
+
+    def code(self, crate, name=r'\w+'):
+        """The files of code of a crate."""
+        return self.files(rf'crates/{crate}/src/(\w+/)*{name}\.rt')
+
+    def crates(self):
+        """What each crate of crates.txt depends on."""
+        lines = [line.split(':') for line in self.text('crates.txt').splitlines() if line and line[0] != '#']
+        return {name.split()[0]: rest.split() for name, rest in lines}
+
+    def pages(self):
+        """The pages of the library, for users and for those who change it."""
+        return self.files(r'\w+\.md|docs/\w+\.md')
+
+    def items(self, crate, name=r'\w+'):
+        """The public items of a crate, those of the main files first."""
+        main = {'engine.rt', 'search.rt', 'choose.rt', 'hybrid.rt', 'compiler.rt', 'nfa.rt'}
+        files = sorted(self.code(crate, name), key=lambda it: it.split('/')[-1] not in main)
+        return [item for file in files for item in items(self.text(file))]
+
+    def laws(self, crate):
+        return [it for it in self.items(crate, 'laws') if it.kind == 'fn']
+
+    def definitions(self):
+        """The definitions of the crates' specs, each after its crate and its file."""
+        for path in self.files(r'crates/\w+/specs/\w+\.antt'):
+            for it in definitions(self.text(path)):
+                yield path.split('/')[1], pathlib.PurePath(path).stem, it
+
+    def mutants(self, crate):
+        """The name and the lines of each mutant of a crate."""
+        folder = f'crates/{crate}/must-fail/'
+        for path in self.files(folder + r'[\w-]+\.edit'):
+            yield pathlib.PurePath(path).stem, self.text(path).splitlines()
+        if others := self.files(folder + r'others\.md'):
+            yield from mutants(self.text(others[0]))
+
 
 class Item(NamedTuple):
     """A public type or function. A clause is its name, which may be empty, and its text. The parts of a type are its
@@ -64,10 +139,10 @@ CLAUSE = re.compile(r'\s*(?://[^\n]*\n\s*)*(requires|ensures)\b\*?\s*(\w*)\s*\{'
 def closing(text, at):
     """The index of the brace that closes the one at `at`."""
     depth = 0
-    for index in range(at, len(text)):
-        depth += (text[index] == '{') - (text[index] == '}')
+    for found in re.compile('[{}]').finditer(text, at):
+        depth += 1 if found[0] == '{' else -1
         if depth == 0:
-            return index
+            return found.start()
 
 
 def contract(text):
@@ -82,49 +157,104 @@ def contract(text):
     return ' '.join(signature.split()).rstrip(','), clauses['requires'], clauses['ensures']
 
 
-def items(crate, files='*'):
-    """Yields each public item of the crate, those of the main files first."""
-    main = {'engine.rt', 'search.rt', 'choose.rt', 'hybrid.rt', 'compiler.rt', 'nfa.rt'}
-    found = (root / 'crates' / crate / 'src').rglob(f'{files}.rt')
-    for file in sorted(found, key=lambda it: (it.name not in main, it)):
-        text, owner = file.read_text(), None
-        for at in PARTS.finditer(text):
-            if at['type']:
-                owner = None if ' for ' in at[0] else at['type']
-                continue
-            if not at['kind']:
-                owner = None
-                continue
-            said = [line.strip()[4:] for line in (at['said'] or '').splitlines()]
-            rest = text[at.start('kind'):]
-            if at['kind'] == 'fn':
-                yield Item('fn', owner, at['name'], said, *contract(rest))
-            else:
-                head = re.search(r'[;{(]', rest)
-                body = rest[head.start():closing(rest, head.start())] if head[0] == '{' else ''
-                parts = [(part[2] or part[3], [line.strip()[4:] for line in part[1].splitlines()],
-                          part[0].splitlines()[-1].strip()) for part in MEMBERS.finditer(body)]
-                yield Item(at['kind'], None, at['name'], said, rest[:head.start()].strip(), [], [], parts)
+def comment(lines):
+    return [line.strip()[4:] for line in lines.splitlines()]
 
 
-def group(crate, types, functions):
+@kept
+def items(text):
+    """The public items of a file of code."""
+    owner = None
+    for at in PARTS.finditer(text):
+        if not at['kind']:
+            owner = at['type'] if at['type'] and ' for ' not in at[0] else None
+            continue
+        rest = text[at.start('kind'):]
+        if at['kind'] == 'fn':
+            yield Item('fn', owner, at['name'], comment(at['said']), *contract(rest))
+        else:
+            head = re.search(r'[;{(]', rest)
+            body = rest[head.start():closing(rest, head.start())] if head[0] == '{' else ''
+            parts = [(part[2] or part[3], comment(part[1]), part[0].splitlines()[-1].strip())
+                     for part in MEMBERS.finditer(body)]
+            yield Item(at['kind'], None, at['name'], comment(at['said']), rest[:head.start()].strip(), [], [], parts)
+
+
+def group(sources, crate, types, functions):
     """Yields the name of each type of a group, or none, with the item of the type and its functions."""
-    found = list(items(crate))
+    found = sources.items(crate)
     for owner in [*types.split(), None]:
         calls = [it for it in found if it.kind == 'fn' and it.owner == owner
                  and (owner or it.name in functions.split())]
         yield owner, next((it for it in found if it.kind != 'fn' and it.name == owner), None), calls
 
 
-def laws(crate):
-    return [it for it in items(crate, 'laws') if it.kind == 'fn']
+def example(said):
+    """The lines of the code block of a comment, or none."""
+    if '```' not in said:
+        return None
+    if said.count('```') != 2:
+        return ['more than one code block']
+    return said[said.index('```') + 1:len(said) - 1 - said[::-1].index('```')]
+
+
+class Function(NamedTuple):
+    """A function of a file: its name, its type if it is a method, with a star if the method is a trait's, and the
+    numbers of its first line, of the one where its body begins, and of its last line."""
+    name: str
+    owner: str | None
+    first: int
+    body: int
+    last: int
+
+
+@kept
+def functions(text):
+    """The functions of a file. `rt fmt` lays them out, so indentation says where one ends."""
+    lines, owner = text.split('\n'), ''
+    for at, line in enumerate(lines):
+        held = re.match(r'(?:impl(?:<[^{]*?>)?|pub trait|trait) (?:(\w+)(?:<.*>)? for )?(\w+)', line)
+        if held or line == '}':
+            owner = held[2] + (f'{held[1] or ""}*' if held[1] or 'trait ' in line else '') if held else ''
+        head = re.match(r'( *)(?:pub(?:\([a-z]+\))? )?(?:const )?(?:unsafe )?fn (\w+)', line)
+        if head:
+            first, last = at, at
+            while first and re.match(head[1] + r'(#\[|//)', lines[first - 1]):
+                first -= 1
+            while not is_end(lines, at, last, head[1]):
+                last += 1
+            body = next((it for it in range(at, last) if re.match(head[1] + r'(\S.*)?\{$', lines[it])), last)
+            yield Function(head[2], owner if head[1] else None, first + 1, body + 1, last + 1)
+
+
+def is_end(lines, first, at, indent):
+    """Returns whether a function of this indentation, with this first line, ends with this line."""
+    if at + 1 == len(lines):
+        return True
+    if at == first and lines[at].endswith(('}', ';')):
+        return True
+    after = lines[at + 1]
+    return re.match(indent + r'(\}|\{\}|\).*;$)', lines[at]) or after.strip() and not after.startswith(indent)
+
+
+@kept
+def lines_within(text):
+    """Each line of a file of code, and the line that opens the block which it is in, if that is a condition or a
+    `match`."""
+    open_lines = []
+    for line in text.split('\n'):
+        indent = len(line) - len(line.lstrip())
+        while line.strip() and open_lines and open_lines[-1][0] >= indent:
+            open_lines.pop()
+        opens = open_lines[-1][1] if open_lines else ''
+        yield line.strip(), opens if re.match(r'(\} )?(if|else|match|while|for|loop|let)\b|.*=>', opens) else ''
+        if line.endswith('{'):
+            open_lines.append((indent, line.strip()))
 
 
 class Definition(NamedTuple):
     """A name that `specs` defines for others, with its comment. Definitions without one share that of the one above."""
     name: str
-    crate: str
-    file: str
     said: str
     declared: str
 
@@ -132,17 +262,105 @@ class Definition(NamedTuple):
 DEFINES = re.compile(r' *(?:(?:abbrev|unfoldable) pub|pub (?:abbrev|unfoldable|record|data)) ([^\s:({]+)')
 
 
-def definitions(crates='*'):
-    """Yields the definitions of the crates' specs, file by file."""
-    for file in sorted((root / 'crates').glob(f'{crates}/specs/*.antt')):
-        comment, fresh = [], []
-        for line in file.read_text().splitlines()[1:]:
-            text = line.strip()
-            if text.startswith('--'):
-                fresh.append(text[2:].strip())
-            elif at := DEFINES.match(line):
-                comment = fresh or comment
-                yield Definition(at[1], file.parent.parent.name, file.stem, ' '.join(comment), text)
-                fresh = []
-            else:
-                fresh = []
+@kept
+def definitions(text):
+    """The definitions of a file of specs."""
+    comment, fresh = [], []
+    for line in text.splitlines()[1:]:
+        text = line.strip()
+        if text.startswith('--'):
+            fresh.append(text[2:].strip())
+        elif at := DEFINES.match(line):
+            comment = fresh or comment
+            yield Definition(at[1], ' '.join(comment), text)
+            fresh = []
+        else:
+            fresh = []
+
+
+@kept
+def mutants(text):
+    """The name and the lines of each mutant of a list: a line `body: NAME` begins one, and a line `statement: NAME` a
+    law in a form in which it is false, whose name here is `statement.NAME`."""
+    parts = re.split(r'(?m)^```\n', text)
+    found = re.split(r'(?m)^(body|statement): ([A-Za-z0-9_-]+)\n', parts[1] if len(parts) == 3 else '')
+    if len(found) < 4 or found[0]:
+        yield 'others.md', ['no mutants between two fences, or a line before the first one']
+    for kind, name, lines in zip(found[1::3], found[2::3], found[3::3]):
+        yield ('statement.' if kind == 'statement' else '') + name, lines.splitlines()
+
+
+class Block(NamedTuple):
+    """A block of code of a page, its language, and the paragraph before it."""
+    lead: str
+    language: str
+    code: str
+
+
+@kept
+def blocks(text):
+    parts = re.split(r'(?m)^```(.*)\n', text)
+    return [Block(before.rstrip('\n').rpartition('\n\n')[2], language, code)
+            for before, language, code in zip(parts[::4], parts[1::4], parts[2::4])]
+
+
+def prose(text):
+    """A page without its blocks of code."""
+    return re.sub(r'```.*?```', '', text, flags=re.S)
+
+
+def codes(text):
+    """What stands in backticks."""
+    return re.findall(r'`([^`\n]+)`', text)
+
+
+def headings(text):
+    return re.findall(r'(?m)^#+ (.*)$', text)
+
+
+def anchor(heading):
+    """The anchor of a heading, as hosts of Markdown make it."""
+    return re.sub(r'[^\w -]', '', heading.lower()).replace(' ', '-')
+
+
+def links(text):
+    """The targets of the links of a page to other pages."""
+    return [it for it in re.findall(r'\]\(([^)\s]+)\)', prose(text)) if '://' not in it]
+
+
+LINK = re.compile(r'\[(`[^`]*`)\](?:\([^)]*\))?')
+
+
+def unlinked(text):
+    """A text with its links to types and calls as their names."""
+    return LINK.sub(r'\1', text)
+
+
+@kept
+def tables(text):
+    """The tables of a page: the heading above, the first line, and the cells of each row."""
+    heading = ''
+    for is_row, lines in itertools.groupby(prose(text).split('\n'), lambda it: it.startswith('|')):
+        lines = list(lines)
+        if is_row:
+            yield heading, lines[0], [list(map(str.strip, re.split(r' \|(?= )', it.strip('|')))) for it in lines[2:]]
+        else:
+            heading = next((line for line in reversed(lines) if line.startswith('#')), heading)
+
+
+def report(name, wrong, said):
+    """Says what a check found in one line, or ends with what is wrong."""
+    if wrong:
+        sys.exit(f'{name}: ' + '\n'.join(wrong))
+    print(f'{name}: {said}')
+
+
+def command(file, check, options=None):
+    """Runs a check, which returns what is wrong and what to say if nothing is; or one of its options instead."""
+    name, words = pathlib.Path(file).name, sys.argv[1:]
+    if not words:
+        report(name, *check(Sources()))
+    elif words[0] in (options or {}):
+        options[words[0]](Sources(), *words[1:])
+    else:
+        sys.exit(f'usage: .ci/{name} [{"|".join(options or {})}]')
