@@ -13,7 +13,7 @@ use Rattle.nfa_paths.proofs.AnswerLemmas.{scan_answer-unique}
 use Rattle.nfa_paths.proofs.PathToLemmas.{EndsWith-last}
 use Rattle.nfa_paths.proofs.RestartLemmas.{slot_row-none}
 use Rattle.nfa_engines.specs.StartLaws.{from_start}
-use Rattle.nfa_engines.specs.WindowLaws.{in_window, IsWindow}
+use Rattle.nfa_engines.specs.WindowLaws.{in_window, IsWindowFrom}
 use Rattle.nfa_engines.proofs.FoundSpanLemmas.{end-cut}
 use Rattle.nfa_engines.proofs.StartAnswerLemmas.{scan-passed}
 
@@ -56,7 +56,7 @@ path-end nfa p m half ends is =
     (λ (v : Pair). option_map (λ k. record { pattern = k; offset = v.1 }) (pattern_of (node_at nfa v.0))))
     (EndsWith-last None m p ends))
 
-module _ (nfa : Automaton) (x : Search) (s : ℕ) (half : HalfFound) (window : IsWindow nfa x s half) where
+module _ (nfa : Automaton) (x : Search) (s : ℕ) (half : HalfFound) (window : IsWindowFrom nfa x s half) where
   begun : (p : List Pair) → IsScanAnswer nfa x LeftmostFirst false (Some p)
       → IsScanAnswer nfa (from_start x s) LeftmostFirst false (Some p)
   begun p h = elim window.begins [

@@ -18,7 +18,7 @@ PathsTellTheFirstStart =
 
 -- A search for the match that ends where the half match does may begin at s, since s is its start or a first start. No
 -- match has to end on a boundary.
-pub record IsWindow (nfa : Automaton) (x : Search) (s : ℕ) (half : HalfFound) : Type 0 where
+pub record IsWindowFrom (nfa : Automaton) (x : Search) (s : ℕ) (half : HalfFound) : Type 0 where
   pub anywhere : is_utf8_empty nfa ≡ false
   pub begins : (s ≡ x.start) ⊎ (IsUnbound nfa x × IsFirstStart nfa x s)
   pub ends : IsHalfAnswer nfa LeftmostFirst false x (Some half)
@@ -31,14 +31,14 @@ in_window x s half = cut_to x s half.offset x.anchored
 abbrev pub WindowAnswers : Type 0
 WindowAnswers =
     (nfa : Automaton) (x : Search) (s : ℕ) (half : HalfFound) (pattern : Option ℕ) (slots : List (Option ℕ))
-    → IsWindow nfa x s half
+    → IsWindowFrom nfa x s half
     → IsAnswer nfa LeftmostFirst false (in_window x s half) pattern slots
     ↔ IsAnswer nfa LeftmostFirst false x pattern slots
 
 -- the same for their match
 abbrev pub WindowMatches : Type 0
 WindowMatches =
-    (nfa : Automaton) (x : Search) (s : ℕ) (half : HalfFound) (found : Option Found) → IsWindow nfa x s half
+    (nfa : Automaton) (x : Search) (s : ℕ) (half : HalfFound) (found : Option Found) → IsWindowFrom nfa x s half
     → IsFindAnswer nfa LeftmostFirst false (in_window x s half) found
     ↔ IsFindAnswer nfa LeftmostFirst false x found
 
