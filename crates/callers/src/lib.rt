@@ -1,7 +1,7 @@
 //! Callers as users of the library would write them, with no proof file, or with the invariants of their loops: the
 //! texts of groups, the lines of a text that match, searches in loops, the classes of a line, and a text with stars in
-//! place of what a group holds. Others take a law of `nfa_engines` or `nfa_compiler`, whose premises they build from what
-//! calls promise, and say what follows.
+//! place of what a group holds. Others take a law of `nfa_engines` or `nfa_compiler`, whose premises they build from
+//! what calls promise, and say what follows.
 #![tactic(auto)]
 
 pub mod answers;

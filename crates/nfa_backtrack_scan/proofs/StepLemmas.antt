@@ -238,7 +238,8 @@ module _ {nfa : Automaton} {x : Search} {s at : ℕ} {m n : Marks} (t : Taken nf
     module _ (next slot : ℕ) (is : slice_get nfa.states s ≡ Some (Capture next slot)) (below : next < length nfa.states)
         (w : Walk) where
       pub TurnsLead-write : slot < length w.slots
-          → TurnsLead nfa x (s, at) (Some (record { sid = next; at = at; row = row })) (record w { marks = m }) (record {
+          → TurnsLead nfa x (s, at) (Some (record { sid = next; at = at; row = row }))
+          (record w { marks = m }) (record {
             stack = w.stack ++ restoring slot (get_or w.slots slot None) ∷ [];
             marks = n;
             slots = set w.slots slot (Some at);

@@ -111,7 +111,8 @@ impl Compiler {
         ensures free { self.now.config.anchored ≡ false
             → IfOk result (λ nfa. (nfa.anchored == nfa.unanchored) ≡ false) }
         ensures anywhere { self.now.config.utf8 ≡ false → IfOk result (λ nfa. is_utf8_empty nfa ≡ false) }
-        ensures fits { IfOk result (λ _. TextsFitIn self.now.config.size_limit (syntax_of self.now) (pattern.now ∷ [])) }
+        ensures fits { IfOk result (λ _. TextsFitIn self.now.config.size_limit (syntax_of self.now)
+            (pattern.now ∷ [])) }
         ensures rejected { IfErr result (IsOfOneText (syntax_of self.now) (pattern.now ∷ [])) }
         ensures named { IfErr result (NamesText (syntax_of self.now) self.now.config.size_limit (pattern.now ∷ [])) }
     {

@@ -286,8 +286,12 @@ starts-less All count = refl
 start-of : (state at count : ℕ) (d : Pair) → In d (pairs_from state at count)
     → (d.0 ≡ state) × (d.1 < at + length (pairs_from state at count))
 start-of state at zero d i = absurd i
-start-of state at (suc count) d (inl e) = (ap (λ (v : Pair). v.0) e, let k : d.1 ≡ at = ap (λ (v : Pair). v.1) e in omega arith)
-start-of state at (suc count) d (inr i) = let h = start-of state (at + 1) count d i in (h.0, let k : d.1 < at + 1 + length (pairs_from state (at + 1) count) = h.1 in omega arith)
+start-of state at (suc count) d (inl e) =
+    (ap (λ (v : Pair). v.0) e, let k : d.1 ≡ at = ap (λ (v : Pair). v.1) e in omega arith)
+start-of state at (suc count) d (inr i) =
+    let h = start-of state (at + 1) count d i in
+    let k : d.1 < at + 1 + length (pairs_from state (at + 1) count) = h.1 in
+    (h.0, omega arith)
 
 module _ (nfa : Automaton) (x : Search) where
   start-before : (d : Pair) → In d (starts nfa x) → d.1 < x.start + length (starts nfa x)

@@ -46,8 +46,8 @@ pub fn closures_read_assertions()
     ensures { ClosureReadsAssertions }
 {}
 
-/// If nothing was found before a position and the closure of its states is empty, no accepting path of the search starts
-/// before it, for each match kind and `earliest`. `nfa_engines::laws::starts_may_be_passed` says what follows.
+/// If nothing was found before a position and the closure of its states is empty, no accepting path of the search
+/// starts before it, for each match kind and `earliest`. `nfa_engines::laws::starts_may_be_passed` says what follows.
 pub fn idle_passes_starts()
     ensures { IdlePassesStarts }
 {}

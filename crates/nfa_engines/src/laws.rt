@@ -292,9 +292,10 @@ pub fn answer_is_that_of_the_cut_span()
     ensures answer { AnswersHaveASpan LeftmostFirst false }
 {}
 
-/// A leftmost first search, without `earliest`, has the answer and the match of the search in a window: the span from its
-/// start, or from a start that may be passed to ([`starts_may_be_passed`]), to the end of its half match, over the same
-/// haystack and with the same anchoring. If its half match is none, so is its answer. No match has to end on a boundary.
+/// A leftmost first search, without `earliest`, has the answer and the match of the search in a window: the span from
+/// its start, or from a start that may be passed to ([`starts_may_be_passed`]), to the end of its half match, over the
+/// same haystack and with the same anchoring. If its half match is none, so is its answer. No match has to end on a
+/// boundary.
 ///
 /// If no accepting path starts before a position, starts may be passed up to it.
 pub fn answer_is_that_of_the_window()

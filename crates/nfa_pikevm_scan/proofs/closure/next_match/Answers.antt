@@ -63,7 +63,8 @@ loop-on-preserved c =
       within = rw (c.resume.auto.row, c.visit_state.auto.row)
           (within-lower _ _ _ _ _ c.in-Some.ensures.top c.visit_state.ensures.within);
       passed = Turned-resumed c.visit_state.new.top c.resume.new.top c.visit_state.new.frames c.in-Some.ensures.top
-          (omega (arith, c.visit_state.ensures.top, stack)) refl c.in-Some.ensures.tried c.in-Some.ensures.follows turned;
+          (omega (arith, c.visit_state.ensures.top, stack)) refl c.in-Some.ensures.tried c.in-Some.ensures.follows
+          turned;
     }
 
 pub returns-in-None-clause-finds : goal.returns-in-None-clause-finds
