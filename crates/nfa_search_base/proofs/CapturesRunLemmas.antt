@@ -1,5 +1,5 @@
 -- The calls of an iterator over captures by an engine give the captures of the engine's NFA.
-use Rattle.std.proofs.Common.{◌≡◌, ◌∙◌, ℕ, ◌≤◌, ◌⊎◌, inl, inr, Bool, false, refl, sym, ap, subst}
+use Rattle.std.proofs.Common.{◌≡◌, ◌∙◌, ℕ, ◌≤◌, inl, inr, Bool, refl, sym, ap, subst}
 use Rattle.std.proofs.Common.{Option, None, Some, Result, Ok, Err, List, [], ◌∷◌, map, arith}
 use Rattle.std.specs.Prelude.{All, IfOk}
 use Rattle.std.specs.Iterator.{Yields}
@@ -13,23 +13,25 @@ use Rattle.thompson_nfa.specs.Automaton.{Automaton}
 use Rattle.nfa_paths.proofs.InsideLemmas.{slots-within}
 use Rattle.nfa_search_base.specs.Asking.{SameButStart}
 use Rattle.nfa_search_base.specs.CapturesGiven.{CapturesGiven}
-use Rattle.nfa_search_base.specs.WithCaptures.{Row, WithCaptures, GivesCaptures, row_found, row_of, row_span}
+use Rattle.nfa_search_base.specs.WithCaptures.{Row, row_found, row_of, row_span}
 use Rattle.nfa_search_base.specs.CapturesLists.{IsRow, AnswersRow, AreFirstRows, AreRows, AreFirstCaptures, AreAllCaptures}
 use Rattle.nfa_search_base.specs.CapturesLists.{HasGroups}
 use Rattle.nfa_search_base.specs.CapturesRuns.{match_in, CapturesInside, CapturesGroups, CapturesMemory}
-use Rattle.nfa_search_base.specs.WithCache.{WithCache}
 use Rattle.nfa_search_base.specs.Lists.{AreFirstMatches, AreMatches}
-use Rattle.nfa_search_base.specs.Lists.{IsStep, FailsOrIsRefused, IsSlotInside}
-use Rattle.nfa_search_base.specs.Stored.{steps_iter_state, takes_steps}
+use Rattle.nfa_search_base.specs.Lists.{IsStep, IsSlotInside}
+use Rattle.nfa_search_base.specs.Stored.{steps_iter_state}
 use Rattle.nfa_search_base.specs.IterStates.{IterState, Answer, fresh, repeats, shifted, answer_span}
 use Rattle.nfa_search_base.specs.declared.error.SearchError.{SearchError}
 use Rattle.nfa_search_base.specs.declared.error.SearchError.TheVariants.{Memory}
 use Rattle.nfa_search_base.specs.declared.iter.steps.Steps.{Steps}
 use Rattle.nfa_search_base.proofs.CapturesLemmas.{row-lies, rows-first_matches, rows-matches}
+use Rattle.nfa_search_base.proofs.EngineLemmas.{SearchesAs, SearchesOf, answers_as, step-may, step-stays}
+use Rattle.nfa_search_base.proofs.ItemLemmas.{ItemsOf, StepsBy, copies_of, copy-of}
 use Rattle.nfa_search_base.proofs.ListLemmas.{matches-disjoint, step-lies}
-use Rattle.nfa_search_base.proofs.MatchRunLemmas.{yields-inner}
-use Rattle.nfa_search_base.proofs.OkItemLemmas.{oked, next-clean, last-clean, oked-run, oked-first, oked-all, oked-next, items-hold, items-memory}
-use Rattle.nfa_search_base.proofs.RunLemmas.{Given, Says, given, gives-first, gives-all, step-keeps}
+use Rattle.nfa_search_base.proofs.OkItemLemmas.{GoesOnIn, OkedAs, ToldOf, oked, next-clean, last-clean, oked-run, oked-first}
+use Rattle.nfa_search_base.proofs.OkItemLemmas.{oked-all, oked-next, values-hold, errors-memory}
+use Rattle.nfa_search_base.proofs.RunLemmas.{Begins, Given, given, items-given}
+use Rattle.nfa_search_base.proofs.ShellLemmas.{ShellOf, same-items}
 use Rattle.nfa_search_base.proofs.SpanLemmas.{spans-inside}
 use Rattle.nfa_search_base.proofs.StepLemmas.{chosen}
 
@@ -40,29 +42,6 @@ Caught = Result Captured SearchError
 found-rows : (cs : List Captured) → map row_found (map row_of cs) ≡ map match_in cs
 found-rows [] = refl
 found-rows (c ∷ cs) = ap (λ (l : List Found). match_in c ∷ l) (found-rows cs)
-
--- an item says what its step answers; an error may be a refusal of the copy
-pub copy-says : {F : Type 0} (step : Answer Row → Type 0) (c : WithCaptures F) (a : Answer Row) (r : Option Caught)
-    → GivesCaptures c a r → step a
-    → Says row_of a (λ e. step (Err e) ⊎ ((e ≡ Memory) × (row : Row) × step (Ok (Some row)))) r
-copy-says step c (Ok (Some row)) (Some (Ok d)) (inl h) is =
-    let same : d ≡ c.captures = cc in
-    let row_is : row ≡ row_of d = sym (ap row_of same ∙ h.1) in
-    ap (λ (z : Row). let a : Answer Row = Ok (Some z) in a) row_is
-copy-says step c (Ok (Some row)) (Some (Err e)) (inr h) is = let same : e ≡ Memory = cc in inr (same, row, is)
-copy-says step c (Ok None) None h is = refl
-copy-says step c (Err q) (Some (Err e)) h is =
-    let same : (let a : Answer Row = Err q in let b : Answer Row = Err e in a ≡ b) = cc in inl (rw (← same) is)
-copy-says step c (Ok (Some row)) r (inl h) is = cc
-copy-says step c (Ok (Some row)) r (inr h) is = cc
-copy-says step c a r h is = cc
-
--- a copy is of the captures that were left
-pub copy-of : {F : Type 0} (c : WithCaptures F) (a : Answer Row) (d : Captured) → GivesCaptures c a (Some (Ok d))
-    → d ≡ c.captures
-copy-of c (Ok (Some row)) d (inl h) = cc
-copy-of c (Ok (Some row)) d (inr h) = cc
-copy-of c a d h = cc
 
 -- a slot in a span is in a wider one
 wider : (x y : Search) → x.start ≤ y.start → y.end ≡ x.end → (slot : Option ℕ) → IsSlotInside y slot
@@ -84,179 +63,168 @@ module _ {T R : Type 0} (steps : T → Option R → T → Type 0) (Good : T → 
   runs-hold s good = λ p seen from.
       let ran = p.gave.0 in all-hold p.items s ran.0 good (subst (λ (q : T). Yields steps q p.items ran.0) from ran.1)
 
--- If the captures of each state that `Holds` have the groups of an NFA, so have those that the calls give.
-module _ {E C T : Type 0} (nfa : Automaton)
-    (asks : WithCache (WithCaptures E) C → Search → Answer Row → WithCache (WithCaptures E) C → Type 0)
-    (Holds : WithCache (WithCaptures E) C → Type 0)
-    (keeps : (s : WithCache (WithCaptures E) C) (t : Search) (a : Answer Row) (s' : WithCache (WithCaptures E) C)
-    → Holds s → asks s t a s' → Holds s')
-    (has : (s : WithCache (WithCaptures E) C) → Holds s → HasGroups nfa s.backend.captures)
-    (steps : T → Option Caught → T → Type 0) (inner : T → Steps (WithCache (WithCaptures E) C))
-    (is : (s : T) (r : Option Caught) (t : T) → steps s r t
-    → takes_steps row_span asks (λ q. GivesCaptures q.backend) (inner s) r (inner t)) where
-  call-groups : (p : T) (r : Caught) (q : T) → Holds (inner p).backend → steps p (Some r) q
-      → IfOk r (HasGroups nfa) × Holds (inner q).backend
-  call-groups p r q holds st = (of r (is p (Some r) q st), left)
-    where
-      left : Holds (inner q).backend
-      left = step-keeps row_span asks (λ q. GivesCaptures q.backend)
-          (λ (a b : WithCache (WithCaptures E) C). Holds a → Holds b) (λ a h. h) (λ a b c f g h. g (f h))
-          (λ a t d b asked h. keeps a t d b h asked) (inner p) (Some r) (inner q) (is p (Some r) q st) holds
+-- What callers are told of the searches like x by an engine e, in whose iteration the state holds captures: the rows of
+-- an NFA, or errors.
+pub record RowsTold {E C S : Type 0} (by : SearchesOf E C S Row) (captures : S → Captured) (e : E) (x : Search)
+    : Type 1 where
+  pub nfa : Automaton
+  pub kind : MatchKind
+  pub earliest : Bool
+  pub tells : Search → Answer Row → Type 0
+  pub told : (t : Search) (a : Answer Row) → SameButStart x t → by.Tells e t a → tells t a
+  pub row : (t : Search) (o : Option Row) → tells t (Ok o) → AnswersRow nfa kind earliest t (Ok o)
+  -- the captures of an iteration that may search have the groups of the NFA
+  pub groups : (s : S) (t : Search) → SearchesAs by e s → by.May s t → HasGroups nfa (captures s)
 
-      of : (r : Caught)
-          → takes_steps row_span asks (λ q. GivesCaptures q.backend) (inner p) (Some r) (inner q)
-          → IfOk r (HasGroups nfa)
-      of (Err error) step = tt
-      of (Ok d) step = elim (chosen (inner p).done step) [
-        | inl k ↦ let never : (let z : Option Caught = Some (Ok d) in z ≡ None) = k.1.0 in cc
-        | inr k ↦
-            rw (copy-of (inner q).backend.backend k.1.answer d k.1.item) (has (inner q).backend left)
-      ]
+module _ {E C S : Type 0} {by : SearchesOf E C S Row} {captures : S → Captured} {e : E} {x : Search}
+    (told : RowsTold by captures e x) where
+  abbrev copies : ItemsOf S Row Captured
+  copies = copies_of captures
 
-  pub groups-hold : (s : T) → Holds (inner s).backend → CapturesGroups steps nfa s
-  groups-hold s holds =
-      runs-hold steps (λ q. Holds (inner q).backend) (λ item. IfOk item (HasGroups nfa)) call-groups s holds
-
--- A search that gives an answer without an error gives its row.
-module _ (nfa : Automaton) (kind : MatchKind) (earliest : Bool) (tells : Search → Answer Row → Type 0)
-    (row : (t : Search) (o : Option Row) → tells t (Ok o) → AnswersRow nfa kind earliest t (Ok o)) where
-  abbrev Refuses : IterState → SearchError → Type 0
-  Refuses = FailsOrIsRefused row_span tells
+  -- a call of the steps
+  abbrev pub CapturesSteps : Steps S → Option Caught → Steps S → Type 0
+  CapturesSteps = StepsBy copies by.asks
 
   abbrev Rows : Search → Answer Row → Type 0
-  Rows = AnswersRow nfa kind earliest
+  Rows = AnswersRow told.nfa told.kind told.earliest
+
+  -- without an error these are rows, whose matches are in the span
+  abbrev pub rows : ToldOf row_span
+  rows = record {
+    tells = told.tells;
+    clean = Rows;
+    ok = told.row;
+    lies = row-lies told.nfa told.kind told.earliest;
+  }
 
   -- the row of a step is that of some search in the span
-  record HasRow (x : Search) (r : Row) : Type 0 where
+  record HasRow (r : Row) : Type 0 where
     at : Search
     from : x.start ≤ at.start
     to : at.end ≡ x.end
-    is_row : IsRow nfa kind earliest at r
+    is_row : IsRow told.nfa told.kind told.earliest at r
 
-  step-row : (x : Search) (w : IterState) (r : Row) → x.start ≤ w.at.start → w.at.end ≡ x.end
-      → IsStep row_span Rows w (Ok (Some r)) → HasRow x r
-  step-row x w r from to h = elim (chosen (repeats w (answer_span row_span h.first)) h.rest) [
-    | inl p ↦ record { at = (shifted w).at; from = omega (arith, from); to = to; is_row = p.1 }
+  step-row : (w : IterState) (r : Row) → GoesOnIn copies rows x w → IsStep row_span Rows w (Ok (Some r)) → HasRow r
+  step-row w r in_span h = elim (chosen (repeats w (answer_span row_span h.first)) h.rest) [
+    | inl p ↦ record { at = (shifted w).at; from = omega (arith, in_span.0); to = in_span.1; is_row = p.1 }
     | inr p ↦ record {
       at = w.at;
-      from = from;
-      to = to;
+      from = in_span.0;
+      to = in_span.1;
       is_row = subst (λ (a : Answer Row). Rows w.at a) (sym p.1) h.is_first;
     }
   ]
 
   -- so captures of a step are in the span
-  step-inside : (x : Search) (w : IterState) (c : Captured) → x.start ≤ w.at.start → w.at.end ≡ x.end
+  step-inside : (w : IterState) (c : Captured) → GoesOnIn copies rows x w
       → IsStep row_span Rows w (Ok (Some (row_of c))) → CapturesInside x c
-  step-inside x w c from to step =
-      let has = step-row x w (row_of c) from to step in
-      let k = step-lies row_span Rows (row-lies nfa kind earliest) w (row_of c) step in
+  step-inside w c in_span step =
+      let has = step-row w (row_of c) in_span step in
+      let k = step-lies row_span Rows rows.lies w (row_of c) step in
       let slots : All (IsSlotInside x) c.slots
       = All-weaker (IsSlotInside has.at) (IsSlotInside x) (wider x has.at has.from has.to) c.slots
-      (slots-within nfa kind earliest has.at c.pattern c.slots has.is_row.answer) in
+      (slots-within told.nfa told.kind told.earliest has.at c.pattern c.slots has.is_row.answer) in
       record {
         is_match = has.is_row.is_match;
-        inside = record { from = omega (arith, k.0); ordered = k.1; to = omega (arith, k.2) };
+        inside = record { from = omega (arith, in_span.0, k.0); ordered = k.1; to = omega (arith, in_span.1, k.2) };
         slots = slots;
         spans = spans-inside x c slots;
       }
 
-  -- The calls of a shell are those of the iterator in it. What answers its searches stays `Good`, and gives the answers
-  -- of a search.
-  module _ {E C T : Type 0} (x : Search)
-      (asks : WithCache (WithCaptures E) C → Search → Answer Row → WithCache (WithCaptures E) C → Type 0)
-      (Good : WithCache (WithCaptures E) C → Type 0)
-      (acts : (s : WithCache (WithCaptures E) C) (t : Search) (a : Answer Row) (s' : WithCache (WithCaptures E) C)
-      → SameButStart x t
-      → Good s → asks s t a s' → tells t a × Good s')
-      (steps : T → Option Caught → T → Type 0) (inner : T → Steps (WithCache (WithCaptures E) C))
-      (is : (s : T) (r : Option Caught) (t : T) → steps s r t
-      → takes_steps row_span asks (λ q. GivesCaptures q.backend) (inner s) r (inner t))
-      (s : T) (iter_state : steps_iter_state (inner s) ≡ fresh x) (going : (inner s).done ≡ false)
-      (good : Good (inner s).backend) where
-    abbrev core : Steps (WithCache (WithCaptures E) C) → Option Caught → Steps (WithCache (WithCaptures E) C) → Type 0
-    core = takes_steps row_span asks (λ q. GivesCaptures q.backend)
+  module _ {T : Type 0} (shell : ShellOf CapturesSteps (λ (i : Caught). i) T) where
+    -- an iterator of e that may search
+    abbrev Holds : T → Type 0
+    Holds q = by.May (shell.inner q).backend (steps_iter_state (shell.inner q)).at
+        × SearchesAs by e (shell.inner q).backend
 
-    says : (w : IterState) (q : WithCache (WithCaptures E) C) (a : Answer Row) (r : Option Caught)
-        → GivesCaptures q.backend a r
-        → IsStep row_span tells w a → Says row_of a (Refuses w) r
-    says w q a r gives step = copy-says (λ b. IsStep row_span tells w b) q.backend a r gives step
+    call-groups : (p : T) (r : Caught) (q : T) → Holds p → shell.calls p (Some r) q
+        → IfOk r (HasGroups told.nfa) × Holds q
+    call-groups p r q holds st = (of r (shell.is p (Some r) q st), left)
+      where
+        left : Holds q
+        left = (
+          step-may by copies (shell.inner p) (Some r) (shell.inner q) (shell.is p (Some r) q st) holds.0,
+          step-stays by copies e (shell.inner p) (Some r) (shell.inner q) (shell.is p (Some r) q st) holds.1,
+        )
 
-    abbrev First : List Caught → Type 0
-    First xs = AreFirstCaptures tells x xs
+        of : (r : Caught) → CapturesSteps (shell.inner p) (Some r) (shell.inner q) → IfOk r (HasGroups told.nfa)
+        of (Err error) step = tt
+        of (Ok d) step = elim (chosen (shell.inner p).done step) [
+          | inl k ↦ let never : (let z : Option Caught = Some (Ok d) in z ≡ None) = k.1.0 in cc
+          | inr k ↦
+              rw (copy-of (captures (shell.inner q).backend) k.1.answer d k.1.item)
+              (told.groups (shell.inner q).backend (steps_iter_state (shell.inner q)).at left.1 left.0)
+        ]
 
-    abbrev Whole : List Caught → Type 0
-    Whole xs = AreAllCaptures tells x xs
+    module _ (s : T) (begins : Begins (SearchesAs by e) x (shell.inner s)) where
+      abbrev First : List Caught → Type 0
+      First xs = AreFirstCaptures told.tells x xs
 
-    caught : Given steps First Whole s
-    caught = given steps First Whole s
-        (λ xs t ran. record {
-          come = gives-first row_span asks (λ q. GivesCaptures q.backend) row_of tells Refuses x Good acts says
-              (inner s) iter_state going good xs (inner t) (yields-inner steps core inner is xs s t ran);
-        })
-        (λ xs t u ran st. record {
-          come = gives-all row_span asks (λ q. GivesCaptures q.backend) row_of tells Refuses x Good acts says (inner s)
-              iter_state going good xs (inner t) (inner u) (yields-inner steps core inner is xs s t ran)
-              (is t None u st);
-        })
+      abbrev Whole : List Caught → Type 0
+      Whole xs = AreAllCaptures told.tells x xs
 
-    pub captures-memory
-        : ((t : Search) (e : SearchError) → x.start ≤ t.start → t.end ≡ x.end → tells t (Err e) → e ≡ Memory)
-        → CapturesMemory steps s
-    captures-memory memory = λ p seen from.
-        items-memory row_span row_of tells Rows Refuses (λ w e k. k) row (row-lies nfa kind earliest) x memory p.items
-        (fresh x) (omega arith) refl (caught.run p seen from).0.come
+      caught : Given shell.calls First Whole s
+      caught =
+          let k = items-given copies (answers_as by e x told.tells told.told) shell s begins in
+          given shell.calls First Whole s
+          (λ xs t ran. record { come = rw (same-items xs) at (k.first xs t ran) })
+          (λ xs t u ran st. record { come = rw (same-items xs) at (k.all xs t u ran st) })
 
-    -- captures that are all `Ok`, as rows and as matches
-    abbrev FirstRows : List Captured → Type 0
-    FirstRows cs = AreFirstRows nfa kind earliest x (map row_of cs)
+      -- the only error is `Memory`, if no search has another
+      pub captures-memory
+          : ((t : Search) (error : SearchError) → x.start ≤ t.start → t.end ≡ x.end → told.tells t (Err error)
+          → error ≡ Memory)
+          → CapturesMemory shell.calls s
+      captures-memory memory = λ p seen from.
+          errors-memory copies rows x memory p.items (caught.run p seen from).0.come
 
-    abbrev WholeRows : List Captured → Type 0
-    WholeRows cs = AreRows nfa kind earliest x (map row_of cs)
+      -- captures that are all `Ok`, as rows and as matches
+      abbrev FirstRows : List Captured → Type 0
+      FirstRows cs = AreFirstRows told.nfa told.kind told.earliest x (map row_of cs)
 
-    abbrev FirstMatches : List Captured → Type 0
-    FirstMatches cs = AreFirstMatches nfa kind earliest x (map match_in cs)
+      abbrev WholeRows : List Captured → Type 0
+      WholeRows cs = AreRows told.nfa told.kind told.earliest x (map row_of cs)
 
-    abbrev WholeMatches : List Captured → Type 0
-    WholeMatches cs = AreMatches nfa kind earliest x (map match_in cs)
+      abbrev FirstMatches : List Captured → Type 0
+      FirstMatches cs = AreFirstMatches told.nfa told.kind told.earliest x (map match_in cs)
 
-    first-rows : (cs : List Captured) → First (oked cs) → FirstRows cs
-    first-rows cs h = record {
-      come = next-clean row_span row_of tells Rows Refuses (λ w e k. k) row (fresh x) cs h.come;
-    }
+      abbrev WholeMatches : List Captured → Type 0
+      WholeMatches cs = AreMatches told.nfa told.kind told.earliest x (map match_in cs)
 
-    all-rows : (cs : List Captured) → Whole (oked cs) → WholeRows cs
-    all-rows cs h = record {
-      come = last-clean row_span row_of tells Rows Refuses (λ w e k. k) row (fresh x) cs h.come;
-    }
+      as_rows : OkedAs First Whole FirstRows WholeRows
+      as_rows = record {
+        first = λ cs h. record { come = next-clean copies rows (fresh x) cs h.come };
+        whole = λ cs h. record { come = last-clean copies rows (fresh x) cs h.come };
+      }
 
-    first-matches : (cs : List Captured) → First (oked cs) → FirstMatches cs
-    first-matches cs h = subst (λ (ms : List Found). AreFirstMatches nfa kind earliest x ms) (found-rows cs)
-        (rows-first_matches nfa kind earliest x (map row_of cs) (first-rows cs h))
+      as_matches : OkedAs First Whole FirstMatches WholeMatches
+      as_matches = record {
+        first = λ cs h. subst (λ (ms : List Found). AreFirstMatches told.nfa told.kind told.earliest x ms)
+            (found-rows cs)
+            (rows-first_matches told.nfa told.kind told.earliest x (map row_of cs) (as_rows.first cs h));
+        whole = λ cs h. subst (λ (ms : List Found). AreMatches told.nfa told.kind told.earliest x ms) (found-rows cs)
+            (rows-matches told.nfa told.kind told.earliest x (map row_of cs) (as_rows.whole cs h));
+      }
 
-    all-matches : (cs : List Captured) → Whole (oked cs) → WholeMatches cs
-    all-matches cs h = subst (λ (ms : List Found). AreMatches nfa kind earliest x ms) (found-rows cs)
-        (rows-matches nfa kind earliest x (map row_of cs) (all-rows cs h))
-
-    -- all that its calls give
-    pub captures-given : CapturesGroups steps nfa s → CapturesGiven steps nfa kind earliest tells x s
-    captures-given groups = record {
-      runs = caught.run;
-      first = caught.first;
-      next = caught.next;
-      rows = oked-run steps First Whole FirstRows WholeRows first-rows all-rows s caught;
-      first_rows = oked-first steps First Whole FirstRows WholeRows first-rows all-rows s caught;
-      next_row = oked-next steps First Whole FirstRows WholeRows first-rows all-rows s caught;
-      all_rows = oked-all steps First Whole FirstRows WholeRows first-rows all-rows s caught;
-      matches = oked-run steps First Whole FirstMatches WholeMatches first-matches all-matches s caught;
-      first_matches = oked-first steps First Whole FirstMatches WholeMatches first-matches all-matches s caught;
-      next_match = oked-next steps First Whole FirstMatches WholeMatches first-matches all-matches s caught;
-      all_matches = oked-all steps First Whole FirstMatches WholeMatches first-matches all-matches s caught;
-      groups = groups;
-      inside = λ p seen from. items-hold row_span row_of tells Rows Refuses (λ w e k. k) row
-          (row-lies nfa kind earliest) x (CapturesInside x) (step-inside x) p.items (fresh x) (omega arith) refl
-          (caught.run p seen from).0.come;
-      disjoint = λ p seen from cs are. matches-disjoint nfa kind earliest x (map match_in cs)
-          (oked-run steps First Whole FirstMatches WholeMatches first-matches all-matches s caught p seen from cs
-          are).0;
-    }
+      -- all that its calls give
+      pub captures-given : by.May (shell.inner s).backend (steps_iter_state (shell.inner s)).at
+          → CapturesGiven shell.calls told.nfa told.kind told.earliest told.tells x s
+      captures-given may = record {
+        runs = caught.run;
+        first = caught.first;
+        next = caught.next;
+        rows = oked-run as_rows shell.calls s caught;
+        first_rows = oked-first as_rows shell.calls s caught;
+        next_row = oked-next as_rows shell.calls s caught;
+        all_rows = oked-all as_rows shell.calls s caught;
+        matches = oked-run as_matches shell.calls s caught;
+        first_matches = oked-first as_matches shell.calls s caught;
+        next_match = oked-next as_matches shell.calls s caught;
+        all_matches = oked-all as_matches shell.calls s caught;
+        groups = runs-hold shell.calls Holds (λ item. IfOk item (HasGroups told.nfa)) call-groups s
+            (may, begins.good);
+        inside = λ p seen from.
+            values-hold copies rows x (CapturesInside x) step-inside p.items (caught.run p seen from).0.come;
+        disjoint = λ p seen from cs are. matches-disjoint told.nfa told.kind told.earliest x (map match_in cs)
+            (oked-run as_matches shell.calls s caught p seen from cs are).0;
+      }

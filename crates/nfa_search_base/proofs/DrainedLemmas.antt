@@ -1,5 +1,5 @@
 -- What an engine's steps over captures give, if they go on until `None` or an error.
-use Rattle.std.proofs.Common.{◌≡◌, Bool, refl, Option, None}
+use Rattle.std.proofs.Common.{◌≡◌, ◌≤◌, Bool, refl, Option, None}
 use Rattle.std.proofs.Common.{◌⊎◌, inl, inr, replicate}
 use Rattle.std.proofs.Common.{Result, Ok, Err, List, [], ◌∷◌, ◌++◌, map}
 use Rattle.std.specs.Prelude.{All, IfErr, IfOk}
@@ -11,21 +11,24 @@ use Rattle.regex_search_core.specs.Search.{Search}
 use Rattle.regex_search_core.specs.Slots.{Captured}
 use Rattle.regex_search_core.specs.declared.search.MatchKind.{MatchKind}
 use Rattle.thompson_nfa.specs.Automaton.{Automaton}
-use Rattle.nfa_search_base.specs.WithCaptures.{WithCaptures, GivesCaptures, Row, row_of, row_span}
+use Rattle.nfa_search_base.specs.WithCaptures.{Row, row_of}
 use Rattle.nfa_search_base.specs.CapturesLists.{AreRows, HasGroups}
 use Rattle.nfa_search_base.specs.CapturesGiven.{CapturesGiven}
-use Rattle.nfa_search_base.specs.CapturesRuns.{CapturesInside, CapturesMemory, match_in}
+use Rattle.nfa_search_base.specs.CapturesRuns.{CapturesInside, match_in}
 use Rattle.nfa_search_base.specs.Drained.{CallsLead, DrainsAll, DrainsToError}
-use Rattle.nfa_search_base.specs.EngineSearches.{AsksEngineRow}
-use Rattle.nfa_search_base.specs.WithCache.{WithCache}
 use Rattle.nfa_search_base.specs.Lists.{AreDisjoint, AreMatches}
-use Rattle.nfa_search_base.specs.Stored.{takes_steps}
+use Rattle.nfa_search_base.specs.Stored.{steps_iter_state, takes_steps}
+use Rattle.nfa_search_base.specs.WithCache.{WithCache}
 use Rattle.nfa_search_base.specs.IterStates.{Answer}
 use Rattle.nfa_search_base.specs.declared.error.SearchError.{SearchError}
 use Rattle.nfa_search_base.specs.declared.error.SearchError.TheVariants.{Memory}
 use Rattle.nfa_search_base.specs.declared.iter.steps.Steps.{Steps}
+use Rattle.nfa_search_base.proofs.CapturesRunLemmas.{CapturesSteps, RowsTold, captures-given, captures-memory}
+use Rattle.nfa_search_base.proofs.EngineLemmas.{KeptBy, SearchesAs, SearchesOf, steps-keep}
+use Rattle.nfa_search_base.proofs.ItemLemmas.{ItemsOf, StepsBy}
 use Rattle.nfa_search_base.proofs.ListLemmas.{matches-disjoint}
-use Rattle.nfa_search_base.proofs.RunLemmas.{calls-keep, step-keeps}
+use Rattle.nfa_search_base.proofs.RunLemmas.{Begins, calls-keep}
+use Rattle.nfa_search_base.proofs.ShellLemmas.{no_shell}
 
 -- captures that were made for an NFA have its groups
 pub made-holds : (nfa : Automaton) (c : Captured)
@@ -45,65 +48,67 @@ all-last : {X : Type 0} (P : X → Type 0) (xs : List X) (x : X) → All P (xs +
 all-last P [] x h = All-head P x [] h
 all-last P (y ∷ ys) x h = all-last P ys x (All-tail P y (ys ++ x ∷ []) h)
 
-module _ {E C : Type 0} (nfa : E → Automaton) (Tells : E → Search → Answer Row → Type 0)
-    (Work : E → Search → Answer Row → C → C → Type 0) where
-  abbrev AsksRow : WithCache (WithCaptures E) C → Search → Answer Row → WithCache (WithCaptures E) C → Type 0
-  AsksRow = AsksEngineRow nfa Tells Work
+-- what each search keeps of the cache, the calls keep
+module _ {A C X Y : Type 0} {asks : WithCache A C → Search → Answer X → WithCache A C → Type 0} (kept : KeptBy asks)
+    (items : ItemsOf (WithCache A C) X Y) where
+  pub calls-cache : (s t : Steps (WithCache A C)) → CallsLead (StepsBy items asks) s t
+      → kept.Keeps s.backend.cache t.backend.cache
+  calls-cache s t lead =
+      let keep = calls-keep (StepsBy items asks) (λ p q. kept.Keeps p.backend.cache q.backend.cache)
+      (λ p. kept.self p.backend.cache)
+      (λ p q u f g. kept.then p.backend.cache q.backend.cache u.backend.cache f g)
+      (steps-keep kept items.span items.gives) in
+      keep s lead.items lead.last lead.item t lead.ran lead.over
 
-  abbrev Calls : Steps (WithCache (WithCaptures E) C) → Option (Result Captured SearchError)
-      → Steps (WithCache (WithCaptures E) C)
-      → Type 0
-  Calls = takes_steps row_span AsksRow (λ q. GivesCaptures q.backend)
+-- An iterator that gives the captures of x: the items of calls that go on to none are the captures of all matches of x,
+-- which are in its span, one after the other.
+module _ {T : Type 0} {calls : T → Option (Result Captured SearchError) → T → Type 0} {nfa : Automaton}
+    {kind : MatchKind} {earliest : Bool} {tells : Search → Answer Row → Type 0} {x : Search} {s : T}
+    (gives : CapturesGiven calls nfa kind earliest tells x s) where
+  pub drained : (cs : List Captured) (t : T) → DrainsAll calls s cs t
+      → AreRows nfa kind earliest x (map row_of cs) × AreMatches nfa kind earliest x (map match_in cs)
+      × All (HasGroups nfa) cs × All (CapturesInside x) cs × AreDisjoint x None (map match_in cs)
+  drained cs t all =
+      let run = run_of_exit calls s (map Ok cs) all.last all.ran t all.over in
+      let items = run.3.0 in (
+        gives.all_rows (map Ok cs) all.last t cs all.ran all.over refl,
+        gives.all_matches (map Ok cs) all.last t cs all.ran all.over refl,
+        all_ok (HasGroups nfa) cs (rw items at (gives.groups run.0 run.0.seen run.1)),
+        all_ok (CapturesInside x) cs (rw items at (gives.inside run.0 run.0.seen run.1)),
+        matches-disjoint nfa kind earliest x (map match_in cs)
+            (gives.first_matches (map Ok cs) all.last cs all.ran refl),
+      )
 
-  -- what each search keeps of the cache, the calls keep
-  pub calls-cache : (Keeps : C → C → Type 0) → ((c : C) → Keeps c c)
-      → ((a b c : C) → Keeps a b → Keeps b c → Keeps a c)
-      → ((e : E) (x : Search) (a : Answer Row) (old new : C) → Work e x a old new → Keeps old new)
-      → (s t : Steps (WithCache (WithCaptures E) C)) → CallsLead Calls s t → Keeps s.backend.cache t.backend.cache
-  calls-cache Keeps self then kept s t lead =
-      calls-keep Calls (λ p q. Keeps p.backend.cache q.backend.cache) (λ p. self p.backend.cache)
-      (λ p q u f g. then p.backend.cache q.backend.cache u.backend.cache f g)
-      (λ p r q st. step-keeps row_span AsksRow (λ q. GivesCaptures q.backend)
-      (λ (p q : WithCache (WithCaptures E) C). Keeps p.cache q.cache) (λ p. self p.cache)
-      (λ p q u f g. then p.cache q.cache u.cache f g)
-      (λ p x a q asked. kept p.backend.finder x a p.cache q.cache asked.work) p r q st)
-      s lead.items lead.last lead.item t lead.ran lead.over
+  -- and so if a result holds them
+  pub all-drained : {V : Type 0} (r : Result V SearchError) (items : V → List Captured) (t : T)
+      → IfOk r (λ v. DrainsAll calls s (items v) t)
+      → IfOk r (λ v. AreRows nfa kind earliest x (map row_of (items v)))
+      × IfOk r (λ v. AreMatches nfa kind earliest x (map match_in (items v)))
+      × IfOk r (λ v. All (HasGroups nfa) (items v)) × IfOk r (λ v. All (CapturesInside x) (items v))
+      × IfOk r (λ v. AreDisjoint x None (map match_in (items v)))
+  all-drained (Ok v) items t all = drained (items v) t all
+  all-drained (Err error) items t all = (tt, tt, tt, tt, tt)
 
--- An iterator that gives the captures of x.
-module _ {T : Type 0} (calls : T → Option (Result Captured SearchError) → T → Type 0) (x : Search) (s : T) where
-  module _ (nfa : Automaton) (kind : MatchKind) (earliest : Bool) (Told : Search → Answer Row → Type 0)
-      (gives : CapturesGiven calls nfa kind earliest Told x s) where
-    -- the items of calls that go on to none are the captures of all matches of x, which are in its span, one after the
-    -- other
-    pub drained : (cs : List Captured) (t : T) → DrainsAll calls s cs t
-        → AreRows nfa kind earliest x (map row_of cs) × AreMatches nfa kind earliest x (map match_in cs)
-        × All (HasGroups nfa) cs × All (CapturesInside x) cs × AreDisjoint x None (map match_in cs)
-    drained cs t all =
-        let run = run_of_exit calls s (map Ok cs) all.last all.ran t all.over in
-        let items = run.3.0 in (
-          gives.all_rows (map Ok cs) all.last t cs all.ran all.over refl,
-          gives.all_matches (map Ok cs) all.last t cs all.ran all.over refl,
-          all_ok (HasGroups nfa) cs (rw items at (gives.groups run.0 run.0.seen run.1)),
-          all_ok (CapturesInside x) cs (rw items at (gives.inside run.0 run.0.seen run.1)),
-          matches-disjoint nfa kind earliest x (map match_in cs)
-              (gives.first_matches (map Ok cs) all.last cs all.ran refl),
-        )
+-- Steps of an engine that begin at x.
+module _ {E C S : Type 0} {by : SearchesOf E C S Row} {captures : S → Captured} {e : E} {x : Search}
+    (told : RowsTold by captures e x) {s : Steps S} (begins : Begins (SearchesAs by e) x s) where
+  -- they give all captures of the NFA, if a result holds them
+  pub all-captures : {V : Type 0} → by.May s.backend (steps_iter_state s).at → (r : Result V SearchError)
+      (items : V → List Captured) (t : Steps S) → IfOk r (λ v. DrainsAll (CapturesSteps told) s (items v) t)
+      → IfOk r (λ v. AreRows told.nfa told.kind told.earliest x (map row_of (items v)))
+      × IfOk r (λ v. AreMatches told.nfa told.kind told.earliest x (map match_in (items v)))
+      × IfOk r (λ v. All (HasGroups told.nfa) (items v)) × IfOk r (λ v. All (CapturesInside x) (items v))
+      × IfOk r (λ v. AreDisjoint x None (map match_in (items v)))
+  all-captures may = all-drained (captures-given told (no_shell (CapturesSteps told)) s begins may)
 
-    -- and so if a result holds them
-    pub all-drained : {V : Type 0} (r : Result V SearchError) (items : V → List Captured) (t : T)
-        → IfOk r (λ v. DrainsAll calls s (items v) t)
-        → IfOk r (λ v. AreRows nfa kind earliest x (map row_of (items v)))
-        × IfOk r (λ v. AreMatches nfa kind earliest x (map match_in (items v)))
-        × IfOk r (λ v. All (HasGroups nfa) (items v)) × IfOk r (λ v. All (CapturesInside x) (items v))
-        × IfOk r (λ v. AreDisjoint x None (map match_in (items v)))
-    all-drained (Ok v) items t all = drained (items v) t all
-    all-drained (Err error) items t all = (tt, tt, tt, tt, tt)
-
-  -- an error is that of memory, if no item has another
-  pub error-drained : CapturesMemory calls s → (error : SearchError) (t : T)
-      → (error ≡ Memory) ⊎ DrainsToError calls s error t → error ≡ Memory
-  error-drained memory error t (inl is) = is
-  error-drained memory error t (inr ends) =
-      let run = run_of_turn calls s (map Ok ends.items) ends.last ends.ran (Err error) t ends.over in
-      all-last (λ item. IfErr item (λ q. q ≡ Memory)) (map Ok ends.items) (Err error)
-      (rw run.2.0 at (memory run.0 run.0.seen run.1))
+  -- an error is that of memory, if no search has another
+  pub error-captures
+      : ((t : Search) (error : SearchError) → x.start ≤ t.start → t.end ≡ x.end → told.tells t (Err error)
+      → error ≡ Memory)
+      → (error : SearchError) (t : Steps S) → (error ≡ Memory) ⊎ DrainsToError (CapturesSteps told) s error t
+      → error ≡ Memory
+  error-captures memory error t (inl is) = is
+  error-captures memory error t (inr ends) =
+      let run = run_of_turn (CapturesSteps told) s (map Ok ends.items) ends.last ends.ran (Err error) t ends.over in
+      let errors = captures-memory told (no_shell (CapturesSteps told)) s begins memory run.0 run.0.seen run.1 in
+      all-last (λ item. IfErr item (λ q. q ≡ Memory)) (map Ok ends.items) (Err error) (rw run.2.0 at errors)

@@ -6,8 +6,10 @@ pub mod DrainedLemmas
 pub mod EngineLemmas
 pub mod FindsLemmas
 pub mod GreedyLemmas
+pub mod ItemLemmas
 pub mod LastStartLemmas
 pub mod LeavingLemmas
+pub mod ShellLemmas
 pub mod SkipLemmas
 pub mod SpanLemmas
 pub mod StepLemmas

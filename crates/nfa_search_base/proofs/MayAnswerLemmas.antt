@@ -12,9 +12,8 @@ use Rattle.regex_search_core.specs.declared.search.Span.{Span}
 use Rattle.nfa_search_base.specs.Asking.{IsCallableOn, SameButStart}
 use Rattle.nfa_search_base.specs.Finders.{Finds, AnswersAlong, answer_by}
 use Rattle.nfa_search_base.specs.Items.{item_by, matches_in}
-use Rattle.nfa_search_base.specs.Lists.{IsStep, Fails, AreFirstStoredMatches, AreAllStoredMatches, AreSpansDisjoint}
+use Rattle.nfa_search_base.specs.Lists.{Fails, AreFirstStoredMatches, AreAllStoredMatches, AreSpansDisjoint}
 use Rattle.nfa_search_base.specs.Serving.{LeadsOn}
-use Rattle.nfa_search_base.specs.Steps.{GivesItem}
 use Rattle.nfa_search_base.specs.Stored.{steps_iter_state}
 use Rattle.nfa_search_base.specs.StoredRuns.{MayAnswer, stored_match_steps, infallible_match_steps, StoredMatchesAll}
 use Rattle.nfa_search_base.specs.StoredRuns.{StoredMatchesDisjoint, InfallibleMatchesDisjoint, InfallibleMatchesAll}
@@ -22,16 +21,17 @@ use Rattle.nfa_search_base.specs.IterStates.{Answer, IterState, answer_span, Ans
 use Rattle.nfa_search_base.specs.declared.error.SearchError.{SearchError}
 use Rattle.nfa_search_base.specs.declared.iter.steps.Steps.{Steps}
 use Rattle.nfa_search_base.proofs.IterStateLemmas.{IsOrdered}
+use Rattle.nfa_search_base.proofs.ItemLemmas.{ItemsOf, items_as}
 use Rattle.nfa_search_base.proofs.MayReplyLemmas.{may-first, may-all, may-disjoint, step-answered, last-answered}
 pub use Rattle.nfa_search_base.proofs.MayReplyLemmas.{collected_all}
-use Rattle.nfa_search_base.proofs.RunLemmas.{Given, Says, given, item-says, yields-oked}
+use Rattle.nfa_search_base.proofs.RunLemmas.{Given, given, yields-oked}
 use Rattle.nfa_paths.proofs.OptionLemmas.{same_some}
 
 module _ {A X F : Type 0} (view : A → X) (span : X → Span)
     (g : Mut F (Bor Input × Unit {0}) (Result (Option A) SearchError)) where
-  says : (tells : Search → Answer X → Type 0) (w : IterState) (q : F) (a : Answer X) (r : Option (Result A SearchError))
-      → GivesItem view a r → IsStep span tells w a → Says view a (Fails span tells w) r
-  says tells w q a r gives step = item-says view (λ b. IsStep span tells w b) a r gives step
+  -- the items are the finder's answers
+  abbrev as_answered : ItemsOf F X A
+  as_answered = items_as span view
 
   module _ (s : Steps F) (going : s.done ≡ false) where
     -- what the finder of an iterator may answer
@@ -47,13 +47,9 @@ module _ {A X F : Type 0} (view : A → X) (span : X → Span)
     -- its calls give
     pub found : Given (stored_match_steps view span g) First Whole s
     found = given (stored_match_steps view span g) First Whole s
-        (λ xs t ran. record {
-          come = may-first (IsCallableOn g) (Finds view g) span (λ _. GivesItem view) view (Fails span) says s going xs
-              t ran;
-        })
+        (λ xs t ran. record { come = may-first (IsCallableOn g) (Finds view g) as_answered s going xs t ran })
         (λ xs t u ran st. record {
-          come = may-all (IsCallableOn g) (Finds view g) span (λ _. GivesItem view) view (Fails span) says s going xs t
-              u ran st;
+          come = let all = may-all (IsCallableOn g) (Finds view g) as_answered s going in all xs t u ran st;
         })
 
     -- and so do those of the iterator whose finder never errs
@@ -83,19 +79,19 @@ module _ {A X F : Type 0} (view : A → X) (span : X → Span)
         → AnswersAlong view g (AnswerIsInside span) s.backend (steps_iter_state s).at
         → StoredMatchesDisjoint view span g (steps_iter_state s) s
     found-disjoint s going serves = λ p seen from.
-        may-disjoint (IsCallableOn g) (Finds view g) span (λ _. GivesItem view) view (Fails span) says
-        (AnswerIsInside span) (λ t a k. k) (λ q t a q' k. view-ordered k.reply a k.shows) s serves
-        (map (item_by view) p.items) ((found s going).run p seen from).0.come
+        let disjoint = may-disjoint (IsCallableOn g) (Finds view g) as_answered (AnswerIsInside span) (λ t a k. k)
+        (λ q t a q' k. view-ordered k.reply a k.shows) in
+        disjoint s serves p.items ((found s going).run p seen from).0.come
 
     pub sure-disjoint : (s : Steps F) → s.done ≡ false
         → AnswersAlong view g (IsInfalliblyInside span) s.backend (steps_iter_state s).at
         → InfallibleMatchesDisjoint view span g (steps_iter_state s) s
     sure-disjoint s going serves = λ p seen from.
+        let disjoint = may-disjoint (IsCallableOn g) (Finds view g) as_answered (IsInfalliblyInside span)
+        (λ t a k. k.0) (λ q t a q' k. view-ordered k.reply a k.shows) in
         subst (λ (l : List Span). AreSpansDisjoint (steps_iter_state s).at (steps_iter_state s).last l)
         (sure-spans p.items)
-        (may-disjoint (IsCallableOn g) (Finds view g) span (λ _. GivesItem view) view (Fails span) says
-        (IsInfalliblyInside span) (λ t a k. k.0) (λ q t a q' k. view-ordered k.reply a k.shows) s serves
-        (map (item_by view) (map (λ m. Ok m) p.items)) ((sure s going).run p seen from).0.come)
+        (disjoint s serves (map (λ m. Ok m) p.items) ((sure s going).run p seen from).0.come)
 
   -- If each call leaves the finder as it was, what it answers on one search it may answer along all calls.
   module _ (f : F) (x : Search) (tells : Search → Answer X → Type 0)

@@ -15,11 +15,11 @@ use Rattle.regex_search_core.specs.Slots.{Captured, match_of}
 use Rattle.regex_search_core.specs.declared.search.Input.{Input}
 use Rattle.regex_search_core.specs.declared.search.Span.{Span}
 use Rattle.nfa_paths.proofs.InsideLemmas.{offsets}
-use Rattle.nfa_search_base.specs.WithCaptures.{Row, WithCaptures, CanFill, Fills, FillsAlong, GivesCaptures, row_of, row_span}
+use Rattle.nfa_search_base.specs.WithCaptures.{Row, WithCaptures, CanFill, Fills, FillsAlong, row_of, row_span}
 use Rattle.nfa_search_base.specs.WithCaptures.{filled_answer, row_found}
 use Rattle.nfa_search_base.specs.Items.{item_by}
 use Rattle.nfa_search_base.specs.CapturesLists.{AreFirstStoredCaptures, AreAllStoredCaptures}
-use Rattle.nfa_search_base.specs.Lists.{IsStep, FailsOrIsRefused}
+use Rattle.nfa_search_base.specs.Lists.{FailsOrIsRefused}
 use Rattle.nfa_search_base.specs.Stored.{steps_iter_state}
 use Rattle.nfa_search_base.specs.StoredRuns.{MayAnswerRow, stored_captures_steps, StoredCapturesAll}
 use Rattle.nfa_search_base.specs.StoredRuns.{StoredCapturesDisjoint, InfallibleCapturesDisjoint, InfallibleCapturesAll}
@@ -27,11 +27,11 @@ use Rattle.nfa_search_base.specs.CapturesSteps.{takes_infallible_captures}
 use Rattle.nfa_search_base.specs.IterStates.{Answer, IterState, AnswerIsInside, IsInfalliblyInside, answer_span}
 use Rattle.nfa_search_base.specs.declared.error.SearchError.{SearchError}
 use Rattle.nfa_search_base.specs.declared.iter.steps.Steps.{Steps}
-use Rattle.nfa_search_base.proofs.CapturesRunLemmas.{copy-says}
 use Rattle.nfa_search_base.proofs.IterStateLemmas.{IsOrdered}
+use Rattle.nfa_search_base.proofs.ItemLemmas.{ItemsOf, copies_of}
 use Rattle.nfa_search_base.proofs.MayReplyLemmas.{may-first, may-all, may-disjoint, step-answered, last-answered}
 use Rattle.nfa_search_base.proofs.MayReplyLemmas.{collected_all}
-use Rattle.nfa_search_base.proofs.RunLemmas.{Given, Says, given}
+use Rattle.nfa_search_base.proofs.RunLemmas.{Given, given}
 use Rattle.nfa_paths.proofs.OptionLemmas.{same_some}
 
 -- a match of captures starts at or before its end
@@ -62,10 +62,9 @@ row-ordered c (Ok u) a is = rw is (of (match_of c.pattern c.slots) refl)
 
 module _ {F : Type 0} (g : Mut F (Bor Input × (MutBor Captured × Unit {0}))
     (Result (Unit {0}) SearchError × (MutBor Captured × Unit {0}))) where
-  says : (tells : Search → Answer Row → Type 0) (w : IterState) (q : WithCaptures F) (a : Answer Row)
-      (r : Option (Result Captured SearchError)) → GivesCaptures q a r → IsStep row_span tells w a
-      → Says row_of a (FailsOrIsRefused row_span tells w) r
-  says tells w q a r gives step = copy-says (λ b. IsStep row_span tells w b) q a r gives step
+  -- the items are copies of the captures that the finder filled
+  abbrev copies : ItemsOf (WithCaptures F) Row Captured
+  copies = copies_of (λ q. q.captures)
 
   sure_caught : (xs : List (Result Captured SearchError)) (q t : Steps (WithCaptures F))
       → Yields (takes_infallible_captures g) q xs t → Yields (stored_captures_steps g) q xs t
@@ -86,14 +85,8 @@ module _ {F : Type 0} (g : Mut F (Bor Input × (MutBor Captured × Unit {0}))
     -- its calls give
     pub caught : Given (stored_captures_steps g) First Whole s
     caught = given (stored_captures_steps g) First Whole s
-        (λ xs t ran. record {
-          come = may-first (CanFill g) (Fills g) row_span GivesCaptures row_of (FailsOrIsRefused row_span) says s going
-              xs t ran;
-        })
-        (λ xs t u ran st. record {
-          come = may-all (CanFill g) (Fills g) row_span GivesCaptures row_of (FailsOrIsRefused row_span) says s going
-              xs t u ran st;
-        })
+        (λ xs t ran. record { come = may-first (CanFill g) (Fills g) copies s going xs t ran })
+        (λ xs t u ran st. record { come = let all = may-all (CanFill g) (Fills g) copies s going in all xs t u ran st })
 
     -- and so do those of the iterator whose finder never errs
     pub sure-caught : Given (takes_infallible_captures g) First Whole s
@@ -105,16 +98,16 @@ module _ {F : Type 0} (g : Mut F (Bor Input × (MutBor Captured × Unit {0}))
     pub caught-disjoint : FillsAlong g (AnswerIsInside row_span) s.backend (steps_iter_state s).at
         → StoredCapturesDisjoint g (steps_iter_state s) s
     caught-disjoint serves = λ p seen from.
-        may-disjoint (CanFill g) (Fills g) row_span GivesCaptures row_of (FailsOrIsRefused row_span) says
-        (AnswerIsInside row_span) (λ t a k. k) (λ q t a q' k. row-ordered q'.captures k.reply a k.answers) s serves
-        (map (item_by row_of) p.items) (caught.run p seen from).0.come
+        let disjoint = may-disjoint (CanFill g) (Fills g) copies (AnswerIsInside row_span) (λ t a k. k)
+        (λ q t a q' k. row-ordered q'.captures k.reply a k.answers) in
+        disjoint s serves p.items (caught.run p seen from).0.come
 
     pub sure-caught_disjoint : FillsAlong g (IsInfalliblyInside row_span) s.backend (steps_iter_state s).at
         → InfallibleCapturesDisjoint g (steps_iter_state s) s
     sure-caught_disjoint serves = λ p seen from.
-        may-disjoint (CanFill g) (Fills g) row_span GivesCaptures row_of (FailsOrIsRefused row_span) says
-        (IsInfalliblyInside row_span) (λ t a k. k.0) (λ q t a q' k. row-ordered q'.captures k.reply a k.answers) s
-        serves (map (item_by row_of) p.items) (sure-caught.run p seen from).0.come
+        let disjoint = may-disjoint (CanFill g) (Fills g) copies (IsInfalliblyInside row_span) (λ t a k. k.0)
+        (λ q t a q' k. row-ordered q'.captures k.reply a k.answers) in
+        disjoint s serves p.items (sure-caught.run p seen from).0.come
 
 -- If each answer of `under` is one of `tells`, the captures are the same.
 module _ (under tells : Search → Answer Row → Type 0)

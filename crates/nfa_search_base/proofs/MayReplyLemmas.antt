@@ -10,26 +10,20 @@ use Rattle.regex_search_core.specs.Search.{Search}
 use Rattle.regex_search_core.specs.declared.search.Span.{Span}
 use Rattle.nfa_search_base.specs.Asking.{SameButStart}
 use Rattle.nfa_search_base.specs.Items.{Item, item_by, matches_in}
-use Rattle.nfa_search_base.specs.Lists.{IsStep, ItemsLast, ItemsNext, AreSpansDisjoint}
+use Rattle.nfa_search_base.specs.Lists.{IsStep, ItemsLast, AreSpansDisjoint}
 use Rattle.nfa_search_base.specs.Serving.{LeadsOn, MayReply, ServesOnAlong}
-use Rattle.nfa_search_base.specs.Stored.{steps_iter_state, takes_steps}
+use Rattle.nfa_search_base.specs.Stored.{steps_iter_state}
 use Rattle.nfa_search_base.specs.IterStates.{Answer, IterState, AnswerIsInside, after, answer_span}
 use Rattle.nfa_search_base.specs.declared.error.SearchError.{SearchError}
 use Rattle.nfa_search_base.specs.declared.iter.steps.Steps.{Steps}
 use Rattle.nfa_search_base.proofs.AskingLemmas.{same_start-self}
 use Rattle.nfa_search_base.proofs.IterStateLemmas.{IsOrdered}
+use Rattle.nfa_search_base.proofs.ItemLemmas.{EndsAt, ItemsOf, Last, Next, StepsBy}
 use Rattle.nfa_search_base.proofs.ListLemmas.{spans-disjoint, step-as}
-use Rattle.nfa_search_base.proofs.RunLemmas.{Says, first-from, all-from}
+use Rattle.nfa_search_base.proofs.RunLemmas.{AnswersOf, GoesOn, first-from, all-from}
 
--- `ends tells` says which error may end a list of answers that `tells` gives.
 module _ {S X Y : Type 0} (accepts : S → Search → Type 0) (asks : S → Search → Answer X → S → Type 0)
-    (span : X → Span) (gives : S → Answer X → Option (Result Y SearchError) → Type 0) (view : Y → X)
-    (ends : (Search → Answer X → Type 0) → IterState → SearchError → Type 0)
-    (says : (tells : Search → Answer X → Type 0) (w : IterState) (q : S) (a : Answer X)
-    (r : Option (Result Y SearchError)) → gives q a r → IsStep span tells w a → Says view a (ends tells w) r) where
-  abbrev steps : Steps S → Option (Result Y SearchError) → Steps S → Type 0
-  steps = takes_steps span asks gives
-
+    (items : ItemsOf S X Y) where
   -- calls on searches like x led from f to q
   Reached : S → Search → S → Type 0
   Reached f x q = (calls : List (Search × Answer X)) × LeadsOn accepts asks SameButStart x f calls q
@@ -49,41 +43,51 @@ module _ {S X Y : Type 0} (accepts : S → Search → Type 0) (asks : S → Sear
   abbrev May : Steps S → Search → Answer X → Type 0
   May s = MayReply accepts asks SameButStart s.backend (steps_iter_state s).at
 
+  -- an iterator that has not ended goes on where it is
+  abbrev asked : (s : Steps S) → AnswersOf S (steps_iter_state s).at (May s)
+  asked s = record {
+    asks = asks;
+    Good = Reached s.backend (steps_iter_state s).at;
+    acts = λ q t a q' same good found. acts s.backend (steps_iter_state s).at q t a q' same good found;
+  }
+
+  goes : (s : Steps S) → s.done ≡ false
+      → GoesOn (Reached s.backend (steps_iter_state s).at) (steps_iter_state s).at (steps_iter_state s) s
+  unfolding Reached
+  goes s going = record {
+    iter_state = refl;
+    going = going;
+    good = ([], refl);
+    like = same_start-self (steps_iter_state s).at;
+  }
+
   -- the first items
   pub may-first : (s : Steps S) → s.done ≡ false → (xs : List (Result Y SearchError)) (t : Steps S)
-      → Yields steps s xs t → ItemsNext span (May s) (ends (May s)) (steps_iter_state s) (map (item_by view) xs)
-  unfolding Reached
-  may-first s going xs t ran =
-      first-from span asks gives view (May s) (ends (May s)) (steps_iter_state s).at
-      (Reached s.backend (steps_iter_state s).at)
-      (λ q t a q' same good found. acts s.backend (steps_iter_state s).at q t a q' same good found) (says (May s))
-      (steps_iter_state s) s refl going (same_start-self (steps_iter_state s).at) ([], refl) xs t ran
+      → Yields (StepsBy items asks) s xs t → Next items (May s) (steps_iter_state s) xs
+  may-first s going xs t ran = first-from items (asked s) xs (steps_iter_state s) s t (goes s going) ran
 
   -- and at `None` all
   pub may-all : (s : Steps S) → s.done ≡ false → (xs : List (Result Y SearchError)) (t u : Steps S)
-      → Yields steps s xs t → steps t None u
-      → ItemsLast span (May s) (ends (May s)) (steps_iter_state s) (map (item_by view) xs)
-  unfolding Reached
+      → Yields (StepsBy items asks) s xs t → StepsBy items asks t None u → Last items (May s) (steps_iter_state s) xs
   may-all s going xs t u ran st =
-      all-from span asks gives view (May s) (ends (May s)) (steps_iter_state s).at
-      (Reached s.backend (steps_iter_state s).at)
-      (λ q t a q' same good found. acts s.backend (steps_iter_state s).at q t a q' same good found) (says (May s))
-      (steps_iter_state s) s refl going (same_start-self (steps_iter_state s).at) ([], refl) xs t u ran st
+      let all = all-from items (asked s) xs (steps_iter_state s) s t u in all (goes s going) ran st
 
   -- Their matches do not overlap if those of the finder are in the spans of its searches.
   pub may-disjoint : (P : Search → Answer X → Type 0)
-      → ((t : Search) (a : Answer X) → P t a → AnswerIsInside span t a)
-      → ((q : S) (t : Search) (a : Answer X) (q' : S) → asks q t a q' → IsOrdered (answer_span span a))
+      → ((t : Search) (a : Answer X) → P t a → AnswerIsInside items.span t a)
+      → ((q : S) (t : Search) (a : Answer X) (q' : S) → asks q t a q' → IsOrdered (answer_span items.span a))
       → (s : Steps S) → ServesOnAlong accepts asks SameButStart P s.backend (steps_iter_state s).at
-      → (items : List (Item X)) → ItemsNext span (May s) (ends (May s)) (steps_iter_state s) items
-      → AreSpansDisjoint (steps_iter_state s).at (steps_iter_state s).last (map span (matches_in items))
-  may-disjoint P lies ordered s serves items come =
-      spans-disjoint span (May s)
+      → (xs : List (Result Y SearchError)) → Next items (May s) (steps_iter_state s) xs
+      → AreSpansDisjoint (steps_iter_state s).at (steps_iter_state s).last
+      (map items.span (matches_in (map (item_by items.view) xs)))
+  may-disjoint P lies ordered s serves xs come =
+      spans-disjoint items.span (May s)
       (λ t a k. (
         lies t a ((serves.at k.calls k.between t k.leads k.same).replies a k.left k.asked),
         ordered k.between t a k.left k.asked,
       ))
-      (ends (May s)) (steps_iter_state s).at (steps_iter_state s) items (omega arith) refl s.searcher.ends_by come
+      (EndsAt items (May s)) (steps_iter_state s).at (steps_iter_state s) (map (item_by items.view) xs) (omega arith)
+      refl s.searcher.ends_by come
 
 -- If each answer of `under` is one of `tells`, the items are the same.
 module _ {X : Type 0} (span : X → Span) (under tells : Search → Answer X → Type 0)

@@ -3,9 +3,12 @@ use Rattle.std.proofs.Common.{[], ap, refl}
 use Rattle.std.proofs.lemmas.Result.{IfErr-weaker}
 use Rattle.regex_search_core.specs.Search.{search_of}
 use Rattle.nfa_search_base.specs.WithCache.{with_cache}
-use Rattle.nfa_search_base.proofs.DrainedLemmas.{made-holds}
+use Rattle.nfa_search_base.proofs.DrainedLemmas.{all-captures, calls-cache, error-captures, made-holds}
+use Rattle.nfa_search_base.proofs.EngineLemmas.{SearchesAs}
+use Rattle.nfa_search_base.proofs.LeavingLemmas.{all-to_end, steps-leave}
+use Rattle.nfa_search_base.proofs.RunLemmas.{Begins}
 use Rattle.nfa_pikevm.specs.CapturesMatches.{MayCatchByPike}
-use Rattle.nfa_pikevm.proofs.CapturesLemmas.{all-captures, stored_captures-memory, stored_captures-capacities, stored_captures-on, stored_captures-to_end, steps-serve}
+use Rattle.nfa_pikevm.proofs.CapturesLemmas.{captures_kept, pike_copies, pike_fills, pike_rows, steps-serve}
 use Rattle.nfa_pikevm.proofs.engine.PikeVM.captures_all.Goals as goal
 
 pub all_with-requires : goal.all_with-requires
@@ -32,24 +35,23 @@ returns c =
       fits = c.requires;
       holds = made-holds vm.nfa captures.field-0 captures.ensures.made;
     }) in
-    let engine = ap (λ q. q.finder) c.new.ensures.backend in
+    let begins : Begins (SearchesAs pike_fills vm) x begun = record {
+      iter_state = c.new.ensures.iter_state;
+      going = c.new.ensures.going;
+      good = ap (λ q. q.finder) c.new.ensures.backend;
+    } in
     let given = c.all_with.ensures in
-    let all = all-captures vm x begun may engine c.new.ensures.iter_state c.new.ensures.going c.all_with.result
-    (λ v. v.items)
-    left given.all in
+    let all = all-captures (pike_rows vm x) begins may c.all_with.result (λ v. v.items) left given.all in
     record {
       memory = IfErr-weaker c.all_with.result _ _
-          (λ error h. stored_captures-memory vm x begun may engine c.new.ensures.iter_state c.new.ensures.going error
-          left h)
+          (λ error h. error-captures (pike_rows vm x) begins (λ t e from to never. absurd never) error left h)
           given.errors;
       rows = all.0;
       matches = all.1;
       groups = all.2;
       inside = all.3;
       disjoint = all.4;
-      capacities = stored_captures-capacities begun left given.calls;
-      searches = stored_captures-on vm x begun may engine c.new.ensures.iter_state c.new.ensures.going left given.calls;
-      to_end = stored_captures-to_end vm x begun may engine c.new.ensures.iter_state c.new.ensures.going
-          c.all_with.result
-          (λ v. v.items) left given.all;
+      capacities = calls-cache captures_kept pike_copies begun left given.calls;
+      searches = steps-leave pike_fills pike_copies vm begins left given.calls;
+      to_end = all-to_end pike_fills pike_copies vm begins c.all_with.result (λ v. v.items) left given.all;
     }

@@ -8,8 +8,7 @@ use Rattle.nfa_search_base.specs.EngineSearches.{if_ends_at, last_start}
 use Rattle.nfa_search_base.proofs.EngineLemmas.{find-answered, found-by, known-answer, known-is, known-kept, search-made}
 use Rattle.nfa_search_base.proofs.LastStartLemmas.{match-from-scan}
 use Rattle.nfa_pikevm.specs.Engines.{kind_of}
-use Rattle.nfa_pikevm.specs.Finding.{IsSureOf, PikeSearches, PikeAnswersMatch, pike_scans}
-use Rattle.nfa_pikevm.proofs.FindLemmas.{finds-sure, sure-finds}
+use Rattle.nfa_pikevm.proofs.FindLemmas.{finds-sure, pike_finder}
 use Rattle.nfa_pikevm.proofs.find_iter.FinderFindWith.answer.Goals as goal
 
 pub returns-then-is_some : goal.returns-then-is_some
@@ -17,12 +16,11 @@ returns-then-is_some c =
     let vm = c.args.self.now.engine.now in
     let x = search_of c.args.input.now in
     record {
-      finds = known-answer IsSureOf vm x c.args.self.now.known c.ending_at-known.result (PikeAnswersMatch vm x)
-          (sure-finds vm x) c.requires.knows
+      finds = known-answer pike_finder vm x c.args.self.now.known c.ending_at-known.result c.requires.knows
           (λ m is. let k = c.ending_at-known.ensures.kept m is in (k.0, k.1 ∙ c.start.ensures)) (search rules);
       engine = refl;
       knows = c.requires.knows;
-      work = known-is (λ y a. PikeSearches vm y) pike_scans x c.ending_at-known.result _
+      work = known-is c.ending_at-known.result
           (rw (← c.start.ensures) c.ending_at-known.ensures.exactly) (search rules);
     }
 
@@ -37,14 +35,14 @@ returns c =
     record {
       finds = find-answered vm.nfa (kind_of vm) x.earliest x c.find_with_start-found.result e.answer;
       engine = refl;
-      knows = known-kept IsSureOf vm x (last_start x cache.scans) c.ending_at-self.result (λ m is.
+      knows = known-kept pike_finder vm x (last_start x cache.scans) c.ending_at-self.result (λ m is.
           let k = c.ending_at-self.ensures.kept m is in (
             finds-sure vm (raised x (cache.scans - 1)) (found_of m)
                 (subst (λ (o : Option Match). IsFindAnswer vm.nfa (kind_of vm) x.earliest
                 (raised x (cache.scans - 1)) (option_map found_of o)) k.0 last),
             k.1 ∙ start,
           ));
-      work = search-made (λ y a. PikeSearches vm y) pike_scans x c.ending_at-known.result _ _ _
+      work = search-made c.ending_at-known.result
           (rw (← c.start.ensures) c.ending_at-known.ensures.exactly) (search rules) e.searches
           (rw (← start) c.ending_at-self.ensures.exactly
           ∙ ap (λ o. if_ends_at (last_start x cache.scans) o)
