@@ -1,7 +1,6 @@
--- The answers of searches in an iteration by a backtracker, and when its iterator may search.
+-- A backtracker as the engine of an iteration over matches: when its iterator may search, and what it gives and keeps.
 use Rattle.std.proofs.Common.{◌≡◌, ◌∙◌, ℕ, ◌+◌, ◌-◌, ◌*◌, ◌≤◌, refl, false, Option, None, Some, Result, Ok, Err, arith, length}
 use Rattle.std.proofs.Common.{List, ◌∷◌, MatchBool, ap}
-use Rattle.std.specs.Option.{option_map}
 use Rattle.std.specs.Prelude.{IfOk, IfSome, OnOk, OnErr}
 use Rattle.std.proofs.Math.Nat.{mul-le-mul_left}
 use Rattle.regex_search_core.specs.Found.{Found, found_of}
@@ -10,7 +9,6 @@ use Rattle.regex_search_core.specs.declared.search.Match.{Match}
 use Rattle.regex_search_core.specs.declared.search.MatchKind.TheVariants.{LeftmostFirst}
 use Rattle.nfa_paths.specs.Paths.{IsWithinScans, IsWork, raised, span_len}
 use Rattle.nfa_paths.proofs.KnownLemmas.{match-sure, sure-match}
-use Rattle.nfa_search_base.specs.Asking.{SameButStart}
 use Rattle.nfa_search_base.specs.EngineSearches.{AnswersBy, Keeping, found_in, if_ends_at}
 use Rattle.nfa_search_base.specs.Finders.{answer_by}
 use Rattle.nfa_search_base.specs.Leaving.{StepsLead, asks_keeping}
@@ -22,11 +20,15 @@ use Rattle.nfa_search_base.specs.IterStates.{Advances, Answer, AnswerIsInside, I
 use Rattle.nfa_search_base.specs.IterStates.{repeats, shifted, span_of}
 use Rattle.nfa_search_base.specs.declared.error.SearchError.{SearchError}
 use Rattle.nfa_search_base.specs.declared.iter.steps.Steps.{Steps}
-use Rattle.nfa_search_base.proofs.EngineLemmas.{calls-kept, finder-acts, finder-goes, finder-serves}
+use Rattle.nfa_search_base.proofs.EngineLemmas.{EngineOf, FinderOf, KeptBy, SearchesAs, SearchesOf, answers_as}
+use Rattle.nfa_search_base.proofs.EngineLemmas.{calls-kept, finds_by, searches-serve, step-may}
+use Rattle.nfa_search_base.proofs.ItemLemmas.{ItemsOf, items_as}
 use Rattle.nfa_search_base.proofs.LastStartLemmas.{match-from-scan}
-use Rattle.nfa_search_base.proofs.LeavingLemmas.{finds-leave, finds-to_end, first-leaves, same-item, same-items}
+use Rattle.nfa_search_base.proofs.LeavingLemmas.{calls-lead, calls-leave, finds-leave, finds-to_end}
 use Rattle.nfa_search_base.proofs.ListLemmas.{match-lies}
 use Rattle.nfa_search_base.proofs.IterStateLemmas.{IsOrdered}
+use Rattle.nfa_search_base.proofs.RunLemmas.{AnswersOf, Begins}
+use Rattle.nfa_search_base.proofs.ShellLemmas.{ShellOf, plain_shell, same-items, steps_in}
 use Rattle.nfa_backtrack.specs.Backtrack.{Backtracker, CountsAnswer, CountsRefusal, IsTooLong, BacktrackCache}
 use Rattle.nfa_backtrack.specs.Backtrack.{refused_early}
 use Rattle.nfa_backtrack.specs.FindMatches.{AsksBacktracker, FindsBySearches}
@@ -94,12 +96,49 @@ pub find-lies : (e : Backtracker) (t : Search) (a : Answer Found) → IsTryFindA
 find-lies e t (Ok found) h = match-lies e.nfa LeftmostFirst false t (Ok found) h.1
 find-lies e t (Err error) h = (tt, λ p is. let never : None ≡ Some p = is in cc)
 
--- the iterator may search in every state
+-- ---- the engine
+
+-- the backtracker with its answers
+abbrev pub back_by : {X : Type 0} → (Backtracker → Search → Answer X → Type 0) → EngineOf Backtracker BacktrackCache X
+back_by tells = record {
+  nfa = λ e. e.nfa;
+  Fits = fits_always;
+  Tells = tells;
+  Work = λ e x a. SearchesOnce e x a;
+  scans = backtracker_scans;
+  stays = λ e x a old new work fits. tt;
+}
+
+abbrev pub back_finder : FinderOf Backtracker Finder BacktrackCache
+back_finder = record {
+  by = back_by IsTryFindAnswer;
+  shown = backtracker_knowing;
+  Sure = IsSureAt;
+  sure = sure-finds;
+}
+
+abbrev pub back_finds : SearchesOf Backtracker (Keeping BacktrackCache) (WithCache Finder BacktrackCache) Found
+back_finds = finds_by back_finder
+
+-- its items
+abbrev pub back_items : ItemsOf (WithCache Finder BacktrackCache) Found Match
+back_items = items_as span_of found_of
+
+-- what it answers
+abbrev pub back_answers : (e : Backtracker) (x : Search)
+    → AnswersOf (WithCache Finder BacktrackCache) x (IsTryFindAnswer e)
+back_answers e x = answers_as back_finds e x (IsTryFindAnswer e) (λ t a same h. h)
+
+-- its iterator
+abbrev pub find_shell
+    : ShellOf (TakesStepWith span_of AsksBacktracker (λ _. GivesItem found_of)) (λ (i : Result Match SearchError). i)
+    TryFindMatches
+find_shell = plain_shell backtrack_matches_next backtrack_matches (λ s r t st. st.takes)
+
+-- it may search in every state
 pub find-serves : (s : TryFindMatches)
     → can_step MayFindByBacktracker AsksBacktracker span_of (steps_with_state (backtrack_matches s))
-find-serves s =
-    finder-serves IsSureAt backtracker_knowing fits_always IsTryFindAnswer (λ e x a. SearchesOnce e x a)
-    backtracker_scans (λ e x a old new work fits. tt) (AnswerIsInside span_of) (λ e t a h. (find-lies e t a h).0)
+find-serves s = searches-serve back_finds (AnswerIsInside span_of) (λ e t a h. (find-lies e t a h).0)
     (steps_with_state (backtrack_matches s)).backend (steps_with_iter_state (backtrack_matches s)).at
     (record { fits = tt; knows = s.knows })
 
@@ -108,18 +147,8 @@ pub step-goes : (s : TryFindMatches) (r : Option (Result Match SearchError))
     (t : Steps (WithCache Finder BacktrackCache))
     → takes_steps span_of AsksBacktracker (λ q. GivesItem found_of) (steps_with_state (backtrack_matches s)) r t
     → MayFindByBacktracker t.backend (steps_iter_state t).at
-step-goes s r t st =
-    finder-goes IsSureAt backtracker_knowing fits_always IsTryFindAnswer (λ e x a. SearchesOnce e x a)
-    backtracker_scans (λ e x a old new work fits. tt) (λ _. GivesItem found_of)
-    (steps_with_state (backtrack_matches s)) r t st (record { fits = tt; knows = s.knows })
-
--- the backtracker gives the answers of its searches, and does not change
-pub back-acts : (e : Backtracker) (x : Search) (s : WithCache Finder BacktrackCache) (t : Search) (a : Answer Found)
-    (s' : WithCache Finder BacktrackCache) → SameButStart x t
-    → s.backend.engine.now ≡ e → AsksBacktracker s t a s' → IsTryFindAnswer e t a × (s'.backend.engine.now ≡ e)
-back-acts e x s t a s' same is asked =
-    finder-acts IsSureAt backtracker_knowing fits_always IsTryFindAnswer (λ e x a. SearchesOnce e x a)
-    backtracker_scans (λ e x a old new work fits. tt) e s t a s' is asked
+step-goes s r t st = step-may back_finds back_items (steps_with_state (backtrack_matches s)) r t st
+    (record { fits = tt; knows = s.knows })
 
 -- ---- the cache
 
@@ -153,34 +182,34 @@ module _ (e : Backtracker) (x : Search) (long : IsTooLong e x) (old : BacktrackC
   steps-early (Ok None) more q h = (step-early (Ok None) q h.0 h.1).2
   steps-early (Err error) more q h = (step-early (Err error) q h.0 h.1).2
 
+-- the cache may change in any way
+abbrev any_kept : KeptBy AsksBacktracker
+any_kept = record {
+  Keeps = λ c d. Unit {0};
+  self = λ c. tt;
+  then = λ a b c f g. tt;
+  asked = λ s x a t asked. tt;
+}
+
 -- An iterator of e that begins at x.
 module _ (e : Backtracker) (x : Search) (s : TryFindMatches) (engine : s.steps.backend.engine.now ≡ e)
-    (known : s.steps.backend.known ≡ None) (iter_state : steps_with_iter_state (backtrack_matches s) ≡ fresh x)
-    (going : s.steps.done ≡ false) where
-  step-is : (p : TryFindMatches) (r : Option (Result Match SearchError)) (q : TryFindMatches)
-      → backtrack_matches_next p r q
-      → TakesStepWith span_of AsksBacktracker (λ _. GivesItem found_of) (backtrack_matches p)
-      (option_map (λ i. i) r) (backtrack_matches q)
-  step-is p r q st = rw (same-item r) st.takes
+    (iter_state : steps_with_iter_state (backtrack_matches s) ≡ fresh x) (going : s.steps.done ≡ false) where
+  pub finds-begin : Begins (SearchesAs back_finds e) x (steps_with_state (backtrack_matches s))
+  finds-begin = record { iter_state = iter_state; going = going; good = engine }
 
   -- the calls change the cache only by their searches
-  pub finds-searches : FindsBySearches e x s
-  finds-searches = record {
-    keeps = λ xs t r u ran st. record {
-      cache = (calls-kept span_of AsksBacktracker (λ _. GivesItem found_of) (λ c d. Unit {0}) (λ c. tt)
-          (λ a b c f g. tt) (λ q y a p asked. tt) backtrack_matches_next backtrack_matches (λ i. i)
-          (λ p i q h. h.takes) s xs t r u ran st).cache;
-    };
-    on = λ xs t r u ran st. finds-leave IsSureAt backtracker_knowing IsTryFindAnswer (λ b y a. SearchesOnce b y a)
-        backtracker_scans e backtrack_matches_next backtrack_matches (λ i. i) step-is x s engine known iter_state going
-        xs t r u ran st;
+  pub finds-searches : s.steps.backend.known ≡ None → FindsBySearches e x s
+  finds-searches known = record {
+    keeps = λ xs t r u ran st.
+        let kept = calls-kept any_kept find_shell s in record { cache = (kept xs t r u ran st).cache };
+    on = finds-leave back_finder (steps_in find_shell) e s finds-begin known;
     early = λ xs t r u ran st long.
-        let first = first-leaves IsSureAt backtracker_knowing IsTryFindAnswer (λ b y a. SearchesOnce b y a)
-        backtracker_scans e backtrack_matches_next backtrack_matches (λ i. i) step-is x s engine known iter_state going
-        xs t r u ran st in
+        let lead = calls-lead back_finds back_items (steps_in find_shell) in
+        let first = rw (known, iter_state) at (calls-leave back_finds back_items e
+        (steps_with_state (backtrack_matches s)) (steps_with_state (backtrack_matches u)) (going, engine)
+        (lead xs s t r u ran st)) in
         steps-early e x long s.cache.now first.0 first.1 _ first.2;
-    to_end = λ xs t u ms ran st is. finds-to_end IsSureAt backtracker_knowing IsTryFindAnswer
-        (λ b y a. SearchesOnce b y a) backtracker_scans e
-        backtrack_matches_next backtrack_matches (λ i. i) step-is x s engine known iter_state going xs ms t u
-        (same-items xs ∙ is) ran st;
+    to_end = λ xs t u ms ran st is.
+        let to_end = finds-to_end back_finder (steps_in find_shell) e s finds-begin known in
+        to_end xs ms t u (same-items xs ∙ is) ran st;
   }

@@ -8,32 +8,28 @@ use Rattle.regex_search_core.specs.Search.{Search}
 use Rattle.regex_search_core.specs.declared.search.Match.{Match}
 use Rattle.regex_search_core.specs.declared.search.MatchKind.TheVariants.{LeftmostFirst}
 use Rattle.nfa_paths.specs.Paths.{span_len}
-use Rattle.nfa_search_base.specs.Items.{item_by}
-use Rattle.nfa_search_base.specs.Lists.{IsStep, Fails, ItemsNext, ItemsLast, AnswersMatch, AreFirstMatches, AreMatches}
+use Rattle.nfa_search_base.specs.Lists.{IsStep, AnswersMatch, AreFirstMatches, AreMatches}
 use Rattle.nfa_search_base.specs.Lists.{IsInside}
-use Rattle.nfa_search_base.specs.WithCache.{WithCache}
-use Rattle.nfa_search_base.specs.StepsWith.{steps_with_state, steps_with_iter_state}
-use Rattle.nfa_search_base.specs.Steps.{GivesItem}
-use Rattle.nfa_search_base.specs.Stored.{takes_steps}
+use Rattle.nfa_search_base.specs.StepsWith.{steps_with_iter_state}
 use Rattle.nfa_search_base.specs.IterStates.{IterState, Answer, fresh, after, repeats, shifted, span_of, answer_span}
 use Rattle.nfa_search_base.specs.declared.error.SearchError.{SearchError}
 use Rattle.nfa_search_base.specs.declared.error.SearchError.TheVariants.{HaystackTooLong, Memory}
-use Rattle.nfa_search_base.specs.declared.iter.steps.Steps.{Steps}
+use Rattle.nfa_search_base.proofs.ItemLemmas.{Last, Next}
 use Rattle.nfa_search_base.proofs.ListLemmas.{match-lies, matches-disjoint, step-lies}
-use Rattle.nfa_search_base.proofs.MatchRunLemmas.{yields-inner}
-use Rattle.nfa_search_base.proofs.OkItemLemmas.{oked, no-items, next-clean, last-clean, only-step, only-item, items-hold, error-memory, items-memory}
-use Rattle.nfa_search_base.proofs.OkItemLemmas.{oked-run, oked-first, oked-all, oked-next}
-use Rattle.nfa_search_base.proofs.RunLemmas.{Given, given, item-says, Says, gives-first, gives-all}
+use Rattle.nfa_search_base.proofs.OkItemLemmas.{GoesOnIn, OkedAs, ToldOf, error-memory, errors-memory, last-clean}
+use Rattle.nfa_search_base.proofs.OkItemLemmas.{next-clean, no-items, oked, oked-all, oked-first, oked-next, oked-run}
+use Rattle.nfa_search_base.proofs.OkItemLemmas.{only-item, only-step, values-hold}
+use Rattle.nfa_search_base.proofs.RunLemmas.{Given, given, items-given}
+use Rattle.nfa_search_base.proofs.ShellLemmas.{same-items, steps_in}
 use Rattle.nfa_search_base.proofs.StepLemmas.{chosen}
-use Rattle.nfa_backtrack.specs.Backtrack.{Backtracker, IsTooLong, BacktrackCache}
-use Rattle.nfa_backtrack.specs.FindMatches.{AsksBacktracker, backtrack_matches, backtrack_matches_next}
+use Rattle.nfa_backtrack.specs.Backtrack.{Backtracker, IsTooLong}
+use Rattle.nfa_backtrack.specs.FindMatches.{backtrack_matches, backtrack_matches_next}
 use Rattle.nfa_backtrack.specs.Finding.{AnswersByLength, IsTryFindAnswer, IsRefusal}
 use Rattle.nfa_backtrack.specs.Runs.{RunsMatch, RunsInside, RunsDisjoint, RunsRefused}
 use Rattle.nfa_backtrack.specs.Runs.{GivesFirstMatches, GivesAllMatches, GivesNextMatch, AreFirstItems, AreAllItems}
-use Rattle.nfa_backtrack.specs.declared.find_iter.Finder.{Finder}
 use Rattle.nfa_backtrack.specs.Runs.{GivesByLength, EndsByLength}
 use Rattle.nfa_backtrack.specs.declared.find_iter.TryFindMatches.{TryFindMatches}
-use Rattle.nfa_backtrack.proofs.FindLemmas.{back-acts, find-lies, still-fits}
+use Rattle.nfa_backtrack.proofs.FindLemmas.{back_answers, back_items, find-lies, find_shell, finds-begin, still-fits}
 
 module _ (e : Backtracker) where
   abbrev tells : Search → Answer Found → Type 0
@@ -42,26 +38,24 @@ module _ (e : Backtracker) where
   abbrev Step : IterState → Answer Found → Type 0
   Step = IsStep span_of tells
 
-  abbrev Next : IterState → List (Result Match SearchError) → Type 0
-  Next w xs = ItemsNext span_of tells (Fails span_of tells) w (map (item_by found_of) xs)
-
-  abbrev Last : IterState → List (Result Match SearchError) → Type 0
-  Last w xs = ItemsLast span_of tells (Fails span_of tells) w (map (item_by found_of) xs)
-
-  says : (w : IterState) (s : WithCache Finder BacktrackCache) (a : Answer Found)
-      (r : Option (Result Match SearchError)) → GivesItem found_of a r
-      → Step w a → Says found_of a (Fails span_of tells w) r
-  says w s a r gives step = item-says found_of (λ b. Step w b) a r gives step
-
   abbrev Clean : Search → Answer Found → Type 0
   Clean = AnswersMatch e.nfa LeftmostFirst false
 
+  -- without an error the answer of a search is its match
+  abbrev told : ToldOf span_of
+  told = record {
+    tells = tells;
+    clean = Clean;
+    ok = λ t o h. h.1;
+    lies = match-lies e.nfa LeftmostFirst false;
+  }
+
   -- a match of the span is inside it
-  step-inside : (x : Search) (w : IterState) (m : Match) → x.start ≤ w.at.start → w.at.end ≡ x.end
+  step-inside : (x : Search) (w : IterState) (m : Match) → GoesOnIn back_items told x w
       → IsStep span_of Clean w (Ok (Some (found_of m))) → IsInside x (found_of m)
-  step-inside x w m from to step =
+  step-inside x w m in_span step =
       let k = step-lies span_of Clean (match-lies e.nfa LeftmostFirst false) w (found_of m) step in
-      record { from = omega (arith, k.0); ordered = k.1; to = omega (arith, k.2) }
+      record { from = omega (arith, in_span.0, k.0); ordered = k.1; to = omega (arith, in_span.1, k.2) }
 
   -- a search that is too long only gives its refusal
   only-refused : (x : Search) → IsTooLong e x → (a : Answer Found) → tells x a → a ≡ Err (HaystackTooLong (span_len x))
@@ -74,14 +68,12 @@ module _ (e : Backtracker) where
   -- so its first step does
   long-step : (x : Search) (a : Answer Found) → IsTooLong e x → Step (fresh x) a
       → a ≡ Err (HaystackTooLong (span_len x))
-  long-step x a long = only-step span_of found_of tells Clean (Fails span_of tells) (λ w r k. inl k) (λ t o h. h.1) x
-      (HaystackTooLong (span_len x)) (only-refused x long) a
+  long-step x a long = only-step back_items told x (HaystackTooLong (span_len x)) (only-refused x long) a
 
   -- and it is the only item
-  long-items : (x : Search) (xs : List (Result Match SearchError)) → IsTooLong e x → Last (fresh x) xs
+  long-items : (x : Search) (xs : List (Result Match SearchError)) → IsTooLong e x → Last back_items tells (fresh x) xs
       → xs ≡ Err (HaystackTooLong (span_len x)) ∷ []
-  long-items x xs long = only-item span_of found_of tells Clean (Fails span_of tells) (λ w r k. inl k) (λ t o h. h.1) x
-      (HaystackTooLong (span_len x)) (only-refused x long) xs
+  long-items x xs long = only-item back_items told x (HaystackTooLong (span_len x)) (only-refused x long) xs
 
   -- the error of any other search is `Memory`
   memory-alone : (x : Search) → ¬ (IsTooLong e x) → (t : Search) (r : SearchError) → x.start ≤ t.start → t.end ≡ x.end
@@ -118,67 +110,47 @@ module _ (e : Backtracker) where
 
   -- the last of some items of a search that is not too long
   last-by-length : (x : Search) (xs : List (Result Match SearchError)) (i : Result Match SearchError) (w : IterState)
-      → ¬ (IsTooLong e x) → x.start ≤ w.at.start → w.at.end ≡ x.end → Next w (xs ++ i ∷ []) → AnswersByLength e x i
-  last-by-length x [] (Ok m) w fits from to h = fits
-  last-by-length x [] (Err r) w fits from to h = inr (
-    fits,
-    error-memory span_of found_of tells Clean (Fails span_of tells) (λ w r k. inl k) (λ t o h. h.1)
-        (match-lies e.nfa LeftmostFirst false) x (memory-alone x fits) w r from to h.0,
-  )
-  last-by-length x (Ok m ∷ xs) i w fits from to h =
+      → ¬ (IsTooLong e x) → GoesOnIn back_items told x w → Next back_items tells w (xs ++ i ∷ []) → AnswersByLength e x i
+  last-by-length x [] (Ok m) w fits in_span h = fits
+  last-by-length x [] (Err r) w fits in_span h =
+      inr (fits, error-memory back_items told x (memory-alone x fits) w r in_span h.0)
+  last-by-length x (Ok m ∷ xs) i w fits in_span h =
       let k = step-lies span_of tells (find-lies e) w (found_of m) h.0 in
-      last-by-length x xs i (after w (Some (span_of (found_of m)))) fits (omega (arith, k.0, k.1)) to h.1
-  last-by-length x (Err r ∷ xs) i w fits from to h = absurd (none-after xs i (no-items found_of (xs ++ i ∷ []) h.1))
+      last-by-length x xs i (after w (Some (span_of (found_of m)))) fits
+      (omega (arith, in_span.0, k.0, k.1), in_span.1) h.1
+  last-by-length x (Err r ∷ xs) i w fits in_span h = absurd (none-after xs i (no-items found_of (xs ++ i ∷ []) h.1))
 
   -- and of any search
   item-by-length : (x : Search) (xs : List (Result Match SearchError)) (i : Result Match SearchError)
-      → Next (fresh x) (xs ++ i ∷ []) → AnswersByLength e x i
+      → Next back_items tells (fresh x) (xs ++ i ∷ []) → AnswersByLength e x i
   item-by-length x [] (Ok m) h = match-fits x m h.0
   item-by-length x [] (Err r) h = error-step (fresh x) r h.0
   item-by-length x (Ok m ∷ xs) i h =
-      last-by-length x (Ok m ∷ xs) i (fresh x) (match-fits x m h.0) (omega arith) refl h
+      last-by-length x (Ok m ∷ xs) i (fresh x) (match-fits x m h.0) (omega arith, refl) h
   item-by-length x (Err r ∷ xs) i h = absurd (none-after xs i (no-items found_of (xs ++ i ∷ []) h.1))
 
   -- a list of only matches is not of a search that is too long
-  oks-fit : (x : Search) (ms : List Match) → Last (fresh x) (oked ms) → ¬ (IsTooLong e x)
+  oks-fit : (x : Search) (ms : List Match) → Last back_items tells (fresh x) (oked ms) → ¬ (IsTooLong e x)
   oks-fit x [] h = λ long. let k = long-items x (oked []) long h in cc
   oks-fit x (m ∷ ms) h = λ long. let k = long-items x (oked (m ∷ ms)) long h in cc
 
   module _ (x : Search) (s : TryFindMatches) (engine : (backtrack_matches s).steps.backend.engine.now ≡ e)
       (iter_state : steps_with_iter_state (backtrack_matches s) ≡ fresh x)
       (going : (backtrack_matches s).steps.done ≡ false) where
-    abbrev core : Steps (WithCache Finder BacktrackCache) → Option (Result Match SearchError)
-        → Steps (WithCache Finder BacktrackCache) → Type 0
-    core = takes_steps span_of AsksBacktracker (λ q. GivesItem found_of)
-
     abbrev First : List (Result Match SearchError) → Type 0
     First xs = AreFirstItems e x xs
 
     abbrev Whole : List (Result Match SearchError) → Type 0
     Whole xs = AreAllItems e x xs
 
-    -- the calls of the iterator are those of its steps
-    inner : (xs : List (Result Match SearchError)) (t : TryFindMatches) → Yields backtrack_matches_next s xs t
-        → Yields core (steps_with_state (backtrack_matches s)) xs (steps_with_state (backtrack_matches t))
-    inner xs t = yields-inner backtrack_matches_next core (λ q. steps_with_state (backtrack_matches q))
-        (λ a r b st. st.takes.step) xs s t
-
     -- what its calls give
     pub finds-given : Given backtrack_matches_next First Whole s
-    finds-given = given backtrack_matches_next First Whole s
-        (λ xs t ran. record {
-          come = gives-first span_of AsksBacktracker (λ q. GivesItem found_of) found_of tells (Fails span_of tells) x
-              (λ q. q.backend.engine.now ≡ e) (back-acts e x) says (steps_with_state (backtrack_matches s)) iter_state
-              going
-              engine xs (steps_with_state (backtrack_matches t)) (inner xs t ran);
-        })
-        (λ xs t u ran st. record {
-          come = gives-all span_of AsksBacktracker (λ q. GivesItem found_of) found_of tells (Fails span_of tells) x
-              (λ q. q.backend.engine.now ≡ e) (back-acts e x) says (steps_with_state (backtrack_matches s)) iter_state
-              going
-              engine xs (steps_with_state (backtrack_matches t)) (steps_with_state (backtrack_matches u))
-              (inner xs t ran) st.takes.step;
-        })
+    finds-given =
+        let k = items-given back_items (back_answers e x) (steps_in find_shell) s
+        (finds-begin e x s engine iter_state going) in
+        given backtrack_matches_next First Whole s
+        (λ xs t ran. record { come = rw (same-items xs) at (k.first xs t ran) })
+        (λ xs t u ran st. record { come = rw (same-items xs) at (k.all xs t u ran st) })
 
     -- items that are all `Ok` are matches
     abbrev FirstMatches : List Match → Type 0
@@ -187,27 +159,19 @@ module _ (e : Backtracker) where
     abbrev WholeMatches : List Match → Type 0
     WholeMatches ms = AreMatches e.nfa LeftmostFirst false x (map found_of ms)
 
-    first-matches : (ms : List Match) → First (oked ms) → FirstMatches ms
-    first-matches ms h = record {
-      come = next-clean span_of found_of tells Clean (Fails span_of tells) (λ w r k. inl k) (λ t o q. q.1) (fresh x) ms
-          h.come;
-    }
-
-    all-matches : (ms : List Match) → Whole (oked ms) → WholeMatches ms
-    all-matches ms h = record {
-      come = last-clean span_of found_of tells Clean (Fails span_of tells) (λ w r k. inl k) (λ t o q. q.1) (fresh x) ms
-          h.come;
+    as_matches : OkedAs First Whole FirstMatches WholeMatches
+    as_matches = record {
+      first = λ ms h. record { come = next-clean back_items told (fresh x) ms h.come };
+      whole = λ ms h. record { come = last-clean back_items told (fresh x) ms h.come };
     }
 
     pub runs-match : RunsMatch e x s
-    runs-match = oked-run backtrack_matches_next First Whole FirstMatches WholeMatches first-matches all-matches s
-        finds-given
+    runs-match = oked-run as_matches backtrack_matches_next s finds-given
 
     pub runs-inside : RunsInside x s
     runs-inside = λ p seen from.
-        items-hold span_of found_of tells Clean (Fails span_of tells) (λ w r k. inl k) (λ t o q. q.1)
-        (match-lies e.nfa LeftmostFirst false) x (λ m. IsInside x (found_of m)) (step-inside x) p.items (fresh x)
-        (omega arith) refl (finds-given.run p seen from).0.come
+        values-hold back_items told x (λ m. IsInside x (found_of m)) (step-inside x) p.items
+        (finds-given.run p seen from).0.come
 
     pub runs-disjoint : RunsDisjoint x s
     runs-disjoint = λ p seen from ms is. matches-disjoint e.nfa LeftmostFirst false x (map found_of ms)
@@ -218,22 +182,17 @@ module _ (e : Backtracker) where
         let k = finds-given.run p seen from in
         record {
           long = λ long whole. long-items x p.items long (k.1 whole).come;
-          memory = λ fits. items-memory span_of found_of tells Clean (Fails span_of tells) (λ w r k. inl k)
-              (λ t o q. q.1) (match-lies e.nfa LeftmostFirst false) x (memory-alone x fits) p.items (fresh x)
-              (omega arith) refl k.0.come;
+          memory = λ fits. errors-memory back_items told x (memory-alone x fits) p.items k.0.come;
         }
 
     pub gives-first-matches : GivesFirstMatches e x s
-    gives-first-matches = oked-first backtrack_matches_next First Whole FirstMatches WholeMatches first-matches
-        all-matches s finds-given
+    gives-first-matches = oked-first as_matches backtrack_matches_next s finds-given
 
     pub gives-matches : GivesAllMatches e x s
-    gives-matches = oked-all backtrack_matches_next First Whole FirstMatches WholeMatches first-matches all-matches s
-        finds-given
+    gives-matches = oked-all as_matches backtrack_matches_next s finds-given
 
     pub gives-next-match : GivesNextMatch e x s
-    gives-next-match = oked-next backtrack_matches_next First Whole FirstMatches WholeMatches first-matches all-matches
-        s finds-given
+    gives-next-match = oked-next as_matches backtrack_matches_next s finds-given
 
     pub gives-by-length : GivesByLength e x s
     gives-by-length = λ xs t i u ran st. item-by-length x xs i (finds-given.next xs t i u ran st).come

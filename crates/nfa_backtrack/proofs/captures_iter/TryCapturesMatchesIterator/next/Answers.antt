@@ -1,6 +1,6 @@
 -- A step may be made, and leaves what the iterator keeps.
 use Rattle.nfa_search_base.specs.WithCache.{with_cache}
-use Rattle.nfa_backtrack.proofs.CapturesLemmas.{catch-serves, step-may}
+use Rattle.nfa_backtrack.proofs.CapturesLemmas.{catch-serves, step-goes}
 use Rattle.nfa_backtrack.proofs.captures_iter.TryCapturesMatchesIterator.next.Goals as goal
 
 pub next_with-requires : goal.next_with-requires
@@ -8,6 +8,6 @@ next_with-requires c = catch-serves c.args.self.now
 
 pub invariant_of-self : goal.invariant_of-self
 invariant_of-self c =
-    let k = step-may c.args.self.now c.next_with.result (with_cache c.next_with.new.self c.next_with.new.cache)
+    let k = step-goes c.args.self.now c.next_with.result (with_cache c.next_with.new.self c.next_with.new.cache)
     c.next_with.ensures in
     record { holds = k.holds }

@@ -2,10 +2,13 @@
 use Rattle.std.proofs.Common.{◌≡◌, [], ap, false, refl, true}
 use Rattle.regex_search_core.specs.Search.{search_of}
 use Rattle.nfa_search_base.specs.WithCache.{with_cache}
-use Rattle.nfa_search_base.proofs.DrainedLemmas.{made-holds}
+use Rattle.nfa_search_base.proofs.DrainedLemmas.{all-captures, made-holds}
+use Rattle.nfa_search_base.proofs.EngineLemmas.{SearchesAs}
+use Rattle.nfa_search_base.proofs.LeavingLemmas.{all-to_end, steps-leave}
+use Rattle.nfa_search_base.proofs.RunLemmas.{Begins}
 use Rattle.nfa_backtrack.specs.CapturesMatches.{MayCatchByBacktracker}
 use Rattle.nfa_backtrack.specs.Backtrack.{IsTooLong}
-use Rattle.nfa_backtrack.proofs.CapturesLemmas.{all-captures, stored_captures-by_length, stored_captures-on, stored_captures-to_end, steps-serve}
+use Rattle.nfa_backtrack.proofs.CapturesLemmas.{back_copies, back_fills, back_rows, captures-by_length, steps-serve}
 use Rattle.nfa_backtrack.proofs.engine.BoundedBacktracker.try_captures_all.Goals as goal
 
 pub all_with-requires : goal.all_with-requires
@@ -35,25 +38,22 @@ returns c =
       fits = tt;
       holds = made-holds e.nfa captures.field-0 captures.ensures.made;
     }) in
-    let engine = ap (λ q. q.finder) c.new.ensures.backend in
+    let begins : Begins (SearchesAs back_fills e) x begun = record {
+      iter_state = c.new.ensures.iter_state;
+      going = c.new.ensures.going;
+      good = ap (λ q. q.finder) c.new.ensures.backend;
+    } in
     let fits : ¬ (IsTooLong e x) =
     λ long. let k : false ≡ true = c.if-is_too_long.ensures.1 long in cc in
-    let all = all-captures e x begun may engine c.new.ensures.iter_state c.new.ensures.going c.all_with.result
-    (λ v. v.items)
-    left c.all_with.ensures.all in
+    let all = all-captures (back_rows e x) begins may c.all_with.result (λ v. v.items) left c.all_with.ensures.all in
     record {
       rows = all.0;
       matches = all.1;
       groups = all.2;
       inside = all.3;
       disjoint = all.4;
-      by_length = stored_captures-by_length e x begun may engine c.new.ensures.iter_state c.new.ensures.going
-          c.all_with.result left
-          fits c.all_with.ensures.errors;
-      searches = stored_captures-on e x begun may engine c.new.ensures.iter_state c.new.ensures.going left
-          c.all_with.ensures.calls;
-      to_end = stored_captures-to_end e x begun may engine c.new.ensures.iter_state c.new.ensures.going
-          c.all_with.result
-          (λ v. v.items) left c.all_with.ensures.all;
+      by_length = captures-by_length e x begins fits c.all_with.result left c.all_with.ensures.errors;
+      searches = steps-leave back_fills back_copies e begins left c.all_with.ensures.calls;
+      to_end = all-to_end back_fills back_copies e begins c.all_with.result (λ v. v.items) left c.all_with.ensures.all;
       early = λ long. absurd (fits long);
     }

@@ -32,5 +32,5 @@ returns c =
       all_matches = gives-matches e x _ refl iter_state refl;
       by_length = gives-by-length e x _ refl iter_state refl;
       end = ends-by-length e x _ refl iter_state refl;
-      searches = finds-searches e x _ refl refl iter_state refl;
+      searches = finds-searches e x _ refl iter_state refl refl;
     }

@@ -6,8 +6,7 @@ use Rattle.regex_search_core.specs.declared.search.Match.{Match}
 use Rattle.nfa_search_base.specs.declared.error.SearchError.{SearchError}
 use Rattle.nfa_search_base.specs.EngineSearches.{if_ends_at, last_start}
 use Rattle.nfa_search_base.proofs.EngineLemmas.{known-answer, known-is, known-kept, search-made}
-use Rattle.nfa_backtrack.specs.Finding.{IsTryFindAnswer, IsSureAt, SearchesOnce, backtracker_scans}
-use Rattle.nfa_backtrack.proofs.FindLemmas.{found-sure, known-last, sure-finds}
+use Rattle.nfa_backtrack.proofs.FindLemmas.{back_finder, found-sure, known-last}
 use Rattle.nfa_backtrack.proofs.find_iter.FinderFindWith.answer.Goals as goal
 
 pub returns-then-is_some : goal.returns-then-is_some
@@ -15,13 +14,11 @@ returns-then-is_some c =
     let e = c.args.self.now.engine.now in
     let x = search_of c.args.input.now in
     record {
-      finds = known-answer IsSureAt e x c.args.self.now.known c.ending_at-known.result (IsTryFindAnswer e x)
-          (sure-finds e x)
-          c.requires.knows
+      finds = known-answer back_finder e x c.args.self.now.known c.ending_at-known.result c.requires.knows
           (λ m is. let k = c.ending_at-known.ensures.kept m is in (k.0, k.1 ∙ c.start.ensures)) (search rules);
       engine = refl;
       knows = c.requires.knows;
-      work = known-is (λ y a. SearchesOnce e y a) backtracker_scans x c.ending_at-known.result _
+      work = known-is c.ending_at-known.result
           (rw (← c.start.ensures) c.ending_at-known.ensures.exactly) (search rules);
     }
 
@@ -35,13 +32,13 @@ returns c =
     record {
       finds = found.finds;
       engine = refl;
-      knows = known-kept IsSureAt e x last c.ending_at-self.result (λ m is.
+      knows = known-kept back_finder e x last c.ending_at-self.result (λ m is.
           let k = c.ending_at-self.ensures.kept m is in
           let some = c.found_in.ensures.found m k.0 in
           let same = subst (λ (r : Result (Option Match) SearchError). IfOk r
           (λ o. IfSome o (λ n. c.find_at-reply.new.start ≡ last))) some found.last in
           (found-sure e x reply _ _ m some found.finds found.once, k.1 ∙ same));
-      work = search-made (λ y a. SearchesOnce e y a) backtracker_scans x c.ending_at-known.result _ _ _
+      work = search-made c.ending_at-known.result
           (rw (← c.start.ensures) c.ending_at-known.ensures.exactly) (search rules) found.once
           (c.ending_at-self.ensures.exactly
           ∙ ap (λ o. if_ends_at c.find_at-reply.new.start o) c.found_in.ensures.exactly
