@@ -1,5 +1,5 @@
 -- What the lists of a choice add to the totals of both its caches.
-use Rattle.std.proofs.Common.{◌≡◌, ◌+◌, ◌*◌, ◌⊎◌, Bool, true, false, List, length, refl, ap, subst, inl, inr}
+use Rattle.std.proofs.Common.{◌≡◌, ◌∙◌, ◌+◌, ◌*◌, ◌⊎◌, Bool, true, false, List, length, refl, ap, subst, inl, inr}
 use Rattle.std.specs.Prelude.{not}
 use Rattle.std.proofs.lemmas.Bool.{and_parts}
 use Rattle.regex_search_core.specs.Found.{Found}
@@ -15,12 +15,13 @@ use Rattle.nfa_search_base.proofs.StepLemmas.{chosen}
 use Rattle.nfa_engines.specs.WorkLaws.{AddsAtMost, Totals, backtracker_totals, list_scan_limit, pike_totals}
 use Rattle.nfa_engines.proofs.EngineWorkLemmas.{Hit, Worked, calls-add, list-adds, match-hit, row-hit, worked}
 use Rattle.nfa_engines.proofs.EngineWorkLemmas.{worked-within}
+use Rattle.nfa_pikevm.specs.Engines.{Pike, kind_of}
 use Rattle.nfa_choice.specs.CapturesMatches.{CatchesByRule, ChoiceCatchesOn, ChoiceCatchesToEnd, ChoiceTellsRow}
 use Rattle.nfa_choice.specs.ChoiceState.{BacktrackerRan, ChoiceState, KeepsEngines, FellBackToPike, RunsByRule}
-use Rattle.nfa_choice.specs.ChoiceState.{is_for_backtracker, is_leftmost_first, kind_in}
+use Rattle.nfa_choice.specs.ChoiceState.{is_for_backtracker, is_leftmost_first, kind_in, pike_of}
 use Rattle.nfa_choice.specs.Matches.{ChoiceFindsOn, ChoiceFindsToEnd, ChoiceTells, FindsByRule}
 use Rattle.nfa_choice.specs.WorkLaws.{ChoiceAddsAtMost}
-use Rattle.nfa_choice.proofs.FindLemmas.{IsOf, is-kept}
+use Rattle.nfa_choice.proofs.FindLemmas.{pike-kept}
 
 -- what a search for the backtracker asks
 leftmost : (kind : MatchKind) → is_leftmost_first kind ≡ true → LeftmostFirst ≡ kind
@@ -78,28 +79,28 @@ module _ (y : Search) (s t : ChoiceState) (runs : RunsByRule s y y.earliest t) w
           h.bounded.scans h.bounded.turns h.work.scans h.work.turns)
 
 -- what runs by what is kept runs as at first
-from-first : (c s t : ChoiceState) (y : Search) (old new : Totals) → IsOf c s
+from-first : (c s t : ChoiceState) (y : Search) (old new : Totals) → pike_of s ≡ pike_of c
     → Worked s.nfa (kind_in s) y.earliest y old new ⊎ (new ≡ old)
     → Worked c.nfa (kind_in c) y.earliest y old new ⊎ (new ≡ old)
 from-first c s t y old new is (inr same) = inr same
 from-first c s t y old new is (inl w) =
-    inl
-    (subst (λ (k : MatchKind). Worked c.nfa k y.earliest y old new) is.kind
-    (subst (λ (n : Automaton). Worked n (kind_in s) y.earliest y old new) is.nfa w))
+    inl (subst (λ (vm : Pike). Worked vm.nfa (kind_of vm) y.earliest y old new) is w)
 
 -- Each search answers a match or a row, and runs by the rule, which is work for one or both of the caches.
 module _ (totals : ChoiceState → Totals)
     (runs : (y : Search) (s t : ChoiceState) → RunsByRule s y y.earliest t
     → Worked s.nfa (kind_in s) y.earliest y (totals s) (totals t) ⊎ (totals t ≡ totals s))
     (x : Search) (c d : ChoiceState) where
+  -- it answers as c does
+  abbrev IsOf : ChoiceState → Type 0
+  IsOf s = pike_of s ≡ pike_of c
+
   abbrev WorksOf : ChoiceState → Search → ChoiceState → Type 0
-  WorksOf s y t = (Worked c.nfa (kind_in c) y.earliest y (totals s) (totals t) ⊎ (totals t ≡ totals s)) × IsOf c t
+  WorksOf s y t = (Worked c.nfa (kind_in c) y.earliest y (totals s) (totals t) ⊎ (totals t ≡ totals s)) × IsOf t
 
-  works : (y : Search) (s t : ChoiceState) → IsOf c s → RunsByRule s y y.earliest t → KeepsEngines s t → WorksOf s y t
-  works y s t is rule keeps = (from-first c s t y (totals s) (totals t) is (runs y s t rule), is-kept c s t is keeps)
-
-  first : IsOf c c
-  first = record { nfa = refl; kind = refl }
+  works : (y : Search) (s t : ChoiceState) → IsOf s → RunsByRule s y y.earliest t → KeepsEngines s t → WorksOf s y t
+  works y s t is rule keeps =
+      (from-first c s t y (totals s) (totals t) is (runs y s t rule), pike-kept s t keeps ∙ is)
 
   abbrev Finds : ChoiceState → Search → Answer Found → ChoiceState → Type 0
   Finds = DoesSearch (ChoiceTells c) (λ y a. FindsByRule y)
@@ -108,18 +109,18 @@ module _ (totals : ChoiceState → Totals)
       → Hit c.nfa (kind_in c) y.earliest y (answer_span span_of a)
   finds-hit s y a t asked = match-hit c.nfa (kind_in c) y.earliest y a asked.tells
 
-  finds-work : (s : ChoiceState) (y : Search) (a : Answer Found) (t : ChoiceState) → IsOf c s → Finds s y a t
+  finds-work : (s : ChoiceState) (y : Search) (a : Answer Found) (t : ChoiceState) → IsOf s → Finds s y a t
       → WorksOf s y t
   finds-work s y a t is asked = works y s t is asked.work.runs asked.work.keeps
 
   matches-add : (ms : List Found) → ChoiceFindsToEnd x ms c d
       → AddsAtMost (list_scan_limit c.nfa x (length ms)) c.nfa x (totals c) (totals d)
-  matches-add ms h = list-adds span_of Finds totals (IsOf c) c.nfa (kind_in c) (λ y. y.earliest) x finds-hit finds-work
-      ms c d first h.steps
+  matches-add ms h = list-adds span_of Finds totals IsOf c.nfa (kind_in c) (λ y. y.earliest) x finds-hit finds-work
+      ms c d refl h.steps
 
   finds-add : ChoiceFindsOn x c d → AddsAtMost (2 * span_len x + 3) c.nfa x (totals c) (totals d)
-  finds-add h = calls-add span_of Finds totals (IsOf c) c.nfa (kind_in c) (λ y. y.earliest) x finds-hit finds-work
-      h.answers c d first h.steps
+  finds-add h = calls-add span_of Finds totals IsOf c.nfa (kind_in c) (λ y. y.earliest) x finds-hit finds-work
+      h.answers c d refl h.steps
 
   abbrev Fills : ChoiceState → Search → Answer Row → ChoiceState → Type 0
   Fills = DoesSearch (ChoiceTellsRow c) (λ y a. CatchesByRule y)
@@ -128,18 +129,18 @@ module _ (totals : ChoiceState → Totals)
       → Hit c.nfa (kind_in c) y.earliest y (answer_span row_span a)
   catches-hit s y a t asked = row-hit c.nfa (kind_in c) y.earliest y a asked.tells
 
-  catches-work : (s : ChoiceState) (y : Search) (a : Answer Row) (t : ChoiceState) → IsOf c s → Fills s y a t
+  catches-work : (s : ChoiceState) (y : Search) (a : Answer Row) (t : ChoiceState) → IsOf s → Fills s y a t
       → WorksOf s y t
   catches-work s y a t is asked = works y s t is asked.work.runs asked.work.keeps
 
   rows-add : (rows : List Row) → ChoiceCatchesToEnd x rows c d
       → AddsAtMost (list_scan_limit c.nfa x (length rows)) c.nfa x (totals c) (totals d)
-  rows-add rows h = list-adds row_span Fills totals (IsOf c) c.nfa (kind_in c) (λ y. y.earliest) x catches-hit
-      catches-work rows c d first h.steps
+  rows-add rows h = list-adds row_span Fills totals IsOf c.nfa (kind_in c) (λ y. y.earliest) x catches-hit
+      catches-work rows c d refl h.steps
 
   catches-add : ChoiceCatchesOn x c d → AddsAtMost (2 * span_len x + 3) c.nfa x (totals c) (totals d)
-  catches-add h = calls-add row_span Fills totals (IsOf c) c.nfa (kind_in c) (λ y. y.earliest) x catches-hit
-      catches-work h.answers c d first h.steps
+  catches-add h = calls-add row_span Fills totals IsOf c.nfa (kind_in c) (λ y. y.earliest) x catches-hit
+      catches-work h.answers c d refl h.steps
 
 -- So it is of both caches.
 module _ (x : Search) where

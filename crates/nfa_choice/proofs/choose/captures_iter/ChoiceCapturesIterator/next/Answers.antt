@@ -1,8 +1,6 @@
 -- A step may be made, and leaves what the iterator keeps.
 use Rattle.nfa_search_base.specs.WithCache.{with_cache}
-use Rattle.nfa_search_base.specs.StepsWith.{steps_with_state}
-use Rattle.nfa_choice.specs.CapturesMatches.{choice_catches}
-use Rattle.nfa_choice.proofs.CapturesLemmas.{catch-serves, step-may}
+use Rattle.nfa_choice.proofs.CapturesLemmas.{catch-serves, step-goes}
 use Rattle.nfa_choice.proofs.choose.captures_iter.ChoiceCapturesIterator.next.Goals as goal
 
 pub next_with-requires : goal.next_with-requires
@@ -10,6 +8,6 @@ next_with-requires c = catch-serves c.args.self.now
 
 pub invariant_of-self : goal.invariant_of-self
 invariant_of-self c = record {
-  holds = step-may (steps_with_state (choice_catches c.args.self.now)) c.next_with.result
-      (with_cache c.next_with.new.self c.next_with.new.cache) c.next_with.ensures c.args.self.now.holds;
+  holds = step-goes c.args.self.now c.next_with.result (with_cache c.next_with.new.self c.next_with.new.cache)
+      c.next_with.ensures;
 }
