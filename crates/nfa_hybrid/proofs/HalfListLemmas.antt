@@ -3,7 +3,6 @@ use Rattle.std.proofs.Common.{◌≡◌, ◌∙◌, ℕ, ◌≤◌, ◌<◌, Boo
 use Rattle.std.proofs.Common.{Option, None, Some, Result, Ok, Err, List, [], ◌∷◌, ◌++◌, map, length, length-append}
 use Rattle.std.specs.Prelude.{All, IfSome}
 use Rattle.std.specs.Option.{ForSome, option_map}
-use Rattle.std.specs.Iterator.{Yields}
 use Rattle.std.proofs.lemmas.List.Elements.{All-nil, All-cons}
 use Rattle.std.proofs.iter.runs.Sources.{lists}
 use Rattle.regex_search_core.specs.Found.{HalfFound, half_found_of}
@@ -16,20 +15,17 @@ use Rattle.nfa_paths.specs.Paths.{IsHalfAnswer, path_half}
 use Rattle.nfa_paths.proofs.InsideLemmas.{half-within}
 use Rattle.nfa_paths.proofs.OptionLemmas.{same_some}
 use Rattle.nfa_engines.proofs.HalfLemmas.{half-unique}
-use Rattle.nfa_search_base.specs.Asking.{SameButStart}
 use Rattle.nfa_search_base.specs.LastEnd.{EndsBy}
 use Rattle.nfa_search_base.specs.Items.{Item, matches_in}
-use Rattle.nfa_search_base.specs.Lists.{AreSpansDisjoint, IsStep, Fails}
+use Rattle.nfa_search_base.specs.Lists.{AreSpansDisjoint, Fails}
 use Rattle.nfa_search_base.specs.Finders.{answer_by}
-use Rattle.nfa_search_base.specs.Steps.{GivesItem}
-use Rattle.nfa_search_base.specs.Stored.{steps_iter_state, takes_infallible_steps}
-use Rattle.nfa_search_base.specs.IterStates.{Answer, AnswerIsInside, IsInfalliblyInside, IterState, answer_span, fresh, half_span_of}
+use Rattle.nfa_search_base.specs.IterStates.{Answer, AnswerIsInside, IsInfalliblyInside, answer_span, fresh, half_span_of}
 use Rattle.nfa_search_base.specs.declared.error.SearchError.{SearchError}
-use Rattle.nfa_search_base.specs.declared.iter.steps.Steps.{Steps}
 use Rattle.nfa_search_base.proofs.IterStateLemmas.{IsOrdered}
-use Rattle.nfa_search_base.proofs.ListLemmas.{as_items, last-unique, matches_in-as_items, next-rest, spans-disjoint}
-use Rattle.nfa_search_base.proofs.MatchRunLemmas.{yields-inner}
-use Rattle.nfa_search_base.proofs.RunLemmas.{Given, Says, given, item-says, gives-first_matches, gives-all_matches}
+use Rattle.nfa_search_base.proofs.ItemLemmas.{StepsBy, items_as}
+use Rattle.nfa_search_base.proofs.ListLemmas.{as_items, items-view, last-unique, matches_in-as_items, next-rest, spans-disjoint}
+use Rattle.nfa_search_base.proofs.RunLemmas.{AnswersOf, Begins, Given, given, items-given}
+use Rattle.nfa_search_base.proofs.ShellLemmas.{ShellOf}
 use Rattle.nfa_hybrid.specs.HalfLists.{AnswersHalf, AreFirstHalves, AreHalves, AreRising, IsHalfInside}
 use Rattle.nfa_hybrid.specs.HalfRuns.{AreFirst, AreAll, HalvesAre, HalvesFirst, HalvesNext, HalvesRise, HalvesRun}
 
@@ -136,59 +132,34 @@ pub record HalvesGiven (nfa : Automaton) (kind : MatchKind) (x : Search) {T : Ty
   pub rise : HalvesRise nfa kind x steps s
   pub are : HalvesAre nfa kind x steps s
 
-module _ (nfa : Automaton) (kind : MatchKind) (x : Search) where
-  abbrev tells_here : Search → Answer HalfFound → Type 0
-  tells_here = AnswersHalf nfa kind x.earliest
+-- What answers the searches gives the half matches of searches like x. A shell's calls are those of the iterator in it.
+module _ (nfa : Automaton) (kind : MatchKind) {S T : Type 0} {x : Search}
+    (answers : AnswersOf S x (AnswersHalf nfa kind x.earliest))
+    (shell : ShellOf (StepsBy (items_as half_span_of half_found_of) answers.asks) (λ m. Ok m) T) (s : T)
+    (begins : Begins answers.Good x (shell.inner s)) where
+  -- its items are those of x
+  found : Given shell.calls (AreFirst nfa kind x) (AreAll nfa kind x) s
+  found =
+      let k = items-given (items_as half_span_of half_found_of) answers shell s begins in
+      given shell.calls (AreFirst nfa kind x) (AreAll nfa kind x) s
+      (λ xs t ran. record { come = rw (items-view half_found_of xs) at (k.first xs t ran) })
+      (λ xs t u ran st. record { come = rw (items-view half_found_of xs) at (k.all xs t u ran st) })
 
-  says : {S : Type 0} (w : IterState) (s : S) (a : Answer HalfFound) (r : Option (Result HalfMatch SearchError))
-      → GivesItem half_found_of a r
-      → IsStep half_span_of tells_here w a → Says half_found_of a (Fails half_span_of tells_here w) r
-  says w s a r gives step = item-says half_found_of (λ b. IsStep half_span_of tells_here w b) a r gives step
-
-  -- What answers the searches stays `Good`, and gives the half matches of searches like x. A shell's calls are those of
-  -- the iterator in it.
-  module _ {S T : Type 0} (asks : S → Search → Answer HalfFound → S → Type 0) (Good : S → Type 0)
-      (acts : (s : S) (t : Search) (a : Answer HalfFound) (s' : S) → SameButStart x t → Good s → asks s t a s'
-      → tells_here t a × Good s')
-      (steps : T → Option HalfMatch → T → Type 0) (inner : T → Steps S)
-      (is : (s : T) (r : Option HalfMatch) (t : T) → steps s r t
-      → takes_infallible_steps half_span_of asks (λ q. GivesItem half_found_of) (inner s) r (inner t))
-      (s : T) (iter_state : steps_iter_state (inner s) ≡ fresh x) (going : (inner s).done ≡ false)
-      (good : Good (inner s).backend) where
-    abbrev core : Steps S → Option HalfMatch → Steps S → Type 0
-    core = takes_infallible_steps half_span_of asks (λ q. GivesItem half_found_of)
-
-    -- its items are those of x
-    found : Given steps (AreFirst nfa kind x) (AreAll nfa kind x) s
-    found = given steps (AreFirst nfa kind x) (AreAll nfa kind x) s
-        (λ xs t ran. record {
-          come = gives-first_matches half_span_of asks (λ q. GivesItem half_found_of) half_found_of tells_here
-              (Fails half_span_of tells_here) x Good
-              acts says (inner s) iter_state going good xs (inner t) (yields-inner steps core inner is xs s t ran);
-        })
-        (λ xs t u ran st. record {
-          come = gives-all_matches half_span_of asks (λ q. GivesItem half_found_of) half_found_of tells_here
-              (Fails half_span_of tells_here) x Good
-              acts says (inner s) iter_state going good xs (inner t) (inner u)
-              (yields-inner steps core inner is xs s t ran)
-              (is t None u st);
-        })
-
-    -- all that its calls give
-    pub halves-given : HalvesGiven nfa kind x steps s
-    halves-given = record {
-      runs = found.run;
-      first = found.first;
-      next = found.next;
-      rise = λ p seen from.
-          let k = halves-rise nfa kind x.earliest x (map half_found_of p.items) (found.run p seen from).0 in
-          (k, all-inside x None p.items k);
-      are = λ p seen from all them.
-          let k = found.run p seen from in
-          let rest = halves-rest nfa kind x.earliest x (map half_found_of p.items) all k.0 them in
-          lists p half_found_of all rest.0 (λ whole.
-          let same : map half_found_of p.items ≡ all =
-          halves-unique nfa kind x.earliest x (map half_found_of p.items) all
-          (k.1 whole) them in
-          no-more (map half_found_of p.items) rest.0 (same ∙ rest.1)) rest.1;
-    }
+  -- all that its calls give
+  pub halves-given : HalvesGiven nfa kind x shell.calls s
+  halves-given = record {
+    runs = found.run;
+    first = found.first;
+    next = found.next;
+    rise = λ p seen from.
+        let k = halves-rise nfa kind x.earliest x (map half_found_of p.items) (found.run p seen from).0 in
+        (k, all-inside x None p.items k);
+    are = λ p seen from all them.
+        let k = found.run p seen from in
+        let rest = halves-rest nfa kind x.earliest x (map half_found_of p.items) all k.0 them in
+        lists p half_found_of all rest.0 (λ whole.
+        let same : map half_found_of p.items ≡ all =
+        halves-unique nfa kind x.earliest x (map half_found_of p.items) all
+        (k.1 whole) them in
+        no-more (map half_found_of p.items) rest.0 (same ∙ rest.1)) rest.1;
+  }
