@@ -1,5 +1,5 @@
 -- From one position to the next of a scan for all sets of matches.
-use Rattle.std.proofs.Common.{◌≡◌, ℕ, ◌+◌, ◌-◌, ◌≤◌, inl, inr, List, ◌∷◌, length, replicate, refl, arith, Bool, true, false, Option, Some, None, cond, is_some}
+use Rattle.std.proofs.Common.{◌≡◌, ℕ, ◌+◌, ◌-◌, ◌≤◌, inl, inr, ◌∷◌, length, replicate, refl, arith, Bool, true, false, Option, Some, None, cond, is_some}
 use Rattle.std.specs.Option.{option_or}
 use Rattle.regex_search_core.specs.Search.{Search}
 use Rattle.regex_search_core.specs.declared.primitives.PatternID.{PatternID}
@@ -15,12 +15,11 @@ use Rattle.nfa_paths.proofs.FrontierMatchLemmas.{first_match-is, last_match-is}
 use Rattle.nfa_paths.proofs.ScanLemmas.{NoneBefore-step, LastBefore-step}
 use Rattle.nfa_paths.proofs.ScanAnswerLemmas.{edges-onward, seeds-later, Scanned-matches, scan_earliest-cut, scan_earliest_last-found}
 use Rattle.nfa_paths.proofs.ScanningLemmas.{Scanning-load, Scanning-front, Scanning-round}
-use Rattle.nfa_scan_core.specs.Marks.{Marks}
-use Rattle.nfa_pikevm_scan.specs.States.{Frontier, meant, AreMatchPairs, GoesOn, SeenAt, NextsGive}
+use Rattle.nfa_pikevm_scan.specs.States.{Frontier, Moment, meant, AreMatchPairs, PositionGives, GoesOn, SeenAt, NextsGive}
 use Rattle.nfa_pikevm_scan.specs.Scans.{blank, starts_from, IsSoFar, ScansAll, ScanningFrom}
 use Rattle.nfa_pikevm_scan.proofs.TaskLemmas.{AnswersFor-round, Searching-for}
 use Rattle.nfa_pikevm_scan.proofs.FrontierLemmas.{Formed-rests, Formed-resting, Formed-next, last_match-or}
-use Rattle.nfa_pikevm_scan.proofs.ScanLemmas.{Crossed, Crossed-given, EndsAt, EndsAt-none, match-cross}
+use Rattle.nfa_pikevm_scan.proofs.ScanLemmas.{EndsAt, EndsAt-none, Leads-starts, match-cross}
 use Rattle.nfa_scan_core.proofs.SeenLemmas.{SeenAt-none}
 
 -- The match that was found last, of the paths that end before the position.
@@ -31,57 +30,55 @@ pub record HasLast (nfa : Automaton) (x : Search) (at width : ℕ) (found : Opti
   pub last : LastBefore (space nfa x) (is_match nfa) (blank width) at turns so_far
 
 module _ (wanted : Pair → Bool) {nfa : Automaton} (sub : AreMatchPairs nfa wanted) {x : Search}
-    {at width state limit : ℕ} {met after : Marks} {items kept : List (ℕ × Slots)} {front : Frontier} {goes : Type 0}
-    (c : Crossed nfa x at width state limit met items goes after kept front)
-    (s : ScanningFrom nfa x wanted at width state (at + 1) limit met items) where
+    {at : ℕ} (width state limit : ℕ) {a b : Moment} {front : Frontier} {goes : Type 0}
+    (c : PositionGives nfa x at a goes front b)
+    (s : ScanningFrom nfa x wanted at width state (at + 1) limit a.met a.kept) where
   -- what was met and put aside, wherever the position ended
-  pub all-left : Scanning (space nfa x) wanted (blank width) at (SeenAt at after.bits) after.turns front c.leads.left
-      c.leads.written
+  pub all-left : Scanning (space nfa x) wanted (blank width) at (SeenAt at b.met.bits) b.met.turns front
+      (Leads-starts c width state limit).left (Leads-starts c width state limit).written
   all-left = record {
-    searching = λ target m. c.leads.follows.leads target (λ v t. sub v (m v t).0) (starts nfa x) (blank width) None
-        (s.searching target m);
+    searching = λ target m. (Leads-starts c width state limit).follows.leads target (λ v t. sub v (m v t).0)
+        (starts nfa x) (blank width) None (s.searching target m);
   }
 
   -- if it went on to the end of its work
-  all-whole : goes → Scanning (space nfa x) wanted (blank width) at (SeenAt at after.bits) after.turns front
-      (Load (blank width) ∷ starts_from width state (at + 1) limit) c.leads.written
-  all-whole goes_on = rw (c.leads.whole goes_on) at all-left
+  all-whole : goes → Scanning (space nfa x) wanted (blank width) at (SeenAt at b.met.bits) b.met.turns front
+      (Load (blank width) ∷ starts_from width state (at + 1) limit) (Leads-starts c width state limit).written
+  all-whole goes_on = rw ((Leads-starts c width state limit).whole goes_on) at all-left
 
   -- its front is complete
-  pub all-front : goes → IsFrontier (space nfa x) (is_resting nfa) wanted (blank width) after.turns front at
+  pub all-front : goes → IsFrontier (space nfa x) (is_resting nfa) wanted (blank width) b.met.turns front at
   all-front goes_on =
       Scanning-front (space nfa x) wanted (blank width)
       (Scanning-load (space nfa x) wanted (blank width) (all-whole goes_on))
-      (Formed-resting nfa x at after.bits front c.formed) c.formed.once
+      (Formed-resting nfa x at b.met.bits front c.formed) c.formed.once
       (seeds-later (blank width) state at (limit - (at + 1)))
 
   -- the next position
-  pub ScansAll-next : goes → ScansAll nfa x wanted (at + 1) width state limit after kept
+  pub ScansAll-next : goes → ScansAll nfa x wanted (at + 1) width state limit b.met b.kept
   ScansAll-next goes_on =
       let next = Scanning-round (space nfa x) wanted (blank width)
-      {After = SeenAt (at + 1) (replicate (length after.bits) false)} (all-whole goes_on) (edges-onward nfa x)
-      (Formed-rests nfa x at after.bits front c.formed) (seeds-later (blank width) state at (limit - (at + 1)))
-      (λ v seen. let h : v.1 ≡ at = seen.here in omega arith) (SeenAt-none (at + 1) (length after.bits))
+      {After = SeenAt (at + 1) (replicate (length b.met.bits) false)} (all-whole goes_on) (edges-onward nfa x)
+      (Formed-rests nfa x at b.met.bits front c.formed) (seeds-later (blank width) state at (limit - (at + 1)))
+      (λ v seen. let h : v.1 ≡ at = seen.here in omega arith) (SeenAt-none (at + 1) (length b.met.bits))
       (blank width) in
       rw c.added (record {
         scanning = record {
           searching = λ target m.
               Searching-for (space nfa x) target (next.searching target m)
               (AnswersFor-round (space nfa x) target at front (blank width) (starts_from width state (at + 1) limit)
-              (Formed-next nfa x at after.bits front c.formed))
+              (Formed-next nfa x at b.met.bits front c.formed))
               (blank width);
         };
       })
 
 module _ (nfa : Automaton) (x : Search) (at width state limit : ℕ) where
-  module _ {past : Bool} {met : Marks} {items : List (ℕ × Slots)} {slots : Slots} {hit : Option PatternID}
-      {after : Marks} {kept : List (ℕ × Slots)} {written : Slots}
-      (c : NextsGive nfa x at past met items slots hit after kept written)
-      (s : ScanningFrom nfa x (is_match nfa) at width state (at + 1) limit met items) where
+  module _ {past : Bool} {a b : Moment} {hit : Option PatternID} (c : NextsGive nfa x at past a hit b)
+      (s : ScanningFrom nfa x (is_match nfa) at width state (at + 1) limit a.met a.kept) where
     -- the same for a search, if each match is wanted
-    nexts-front : GoesOn past hit → IsFrontier (space nfa x) (is_resting nfa) (is_match nfa) (blank width) after.turns
+    nexts-front : GoesOn past hit → IsFrontier (space nfa x) (is_resting nfa) (is_match nfa) (blank width) b.met.turns
         c.front at
-    nexts-front = all-front (is_match nfa) (λ v t. t) (Crossed-given width state limit c.gives) s
+    nexts-front = all-front (is_match nfa) (λ v t. t) width state limit c.gives s
 
     -- no path ended before the position, and none ends at it
     pub NoneBefore-cross : hit ≡ None → NoneBefore (space nfa x) (is_match nfa) at
@@ -97,29 +94,28 @@ module _ (nfa : Automaton) (x : Search) (at width state limit : ℕ) where
         no_match false e = elim (first_match-is (is_match nfa) c.front) [ inl h ↦ h.1 | inr h ↦ absurd (cc (h.1, e)) ]
 
     -- if no path ended before, the match that is meant is the earliest path's, the first or the last
-    pub earliest-found : NoneBefore (space nfa x) (is_match nfa) at → (a : Pair × Slots)
-        → meant past (is_match nfa) c.front ≡ Some a
+    pub earliest-found : NoneBefore (space nfa x) (is_match nfa) at → (v : Pair × Slots)
+        → meant past (is_match nfa) c.front ≡ Some v
         → IsFoundBy (capture nfa) (blank width) (IsScanAnswer nfa x (cond past AllMatches LeftmostFirst) true)
-        after.turns (Some a)
-    earliest-found none a = of past (λ on. inl on)
+        b.met.turns (Some v)
+    earliest-found none v = of past (λ on. inl on)
       where
-        of : (p : Bool) → (p ≡ true → GoesOn past hit) → meant p (is_match nfa) c.front ≡ Some a
+        of : (p : Bool) → (p ≡ true → GoesOn past hit) → meant p (is_match nfa) c.front ≡ Some v
             → IsFoundBy (capture nfa) (blank width) (IsScanAnswer nfa x (cond p AllMatches LeftmostFirst) true)
-            after.turns (Some a)
-        of true goes_on last = scan_earliest_last-found nfa x (blank width) none (nexts-front (goes_on refl)) a last
+            b.met.turns (Some v)
+        of true goes_on last = scan_earliest_last-found nfa x (blank width) none (nexts-front (goes_on refl)) v last
         of false goes_on first = scan_earliest-cut nfa x (blank width) none
-            (all-left (is_match nfa) (λ v t. t) (Crossed-given width state limit c.gives) s)
-            (Formed-resting nfa x at after.bits c.front c.gives.formed) first
+            (all-left (is_match nfa) (λ v t. t) width state limit c.gives s)
+            (Formed-resting nfa x at b.met.bits c.front c.gives.formed) first
 
   -- the match at the position, or what was found before
-  pub HasLast-cross : {met : Marks} {items : List (ℕ × Slots)} {slots : Slots} {hit : Option PatternID} {after : Marks}
-      {kept : List (ℕ × Slots)} {written : Slots} {found : Option HalfMatch}
-      → (c : NextsGive nfa x at true met items slots hit after kept written)
-      → ScanningFrom nfa x (is_match nfa) at width state (at + 1) limit met items
-      → met.turns ≤ after.turns → (half : Option HalfMatch) → EndsAt at hit half
-      → HasLast nfa x at width found slots met.turns
-      → HasLast nfa x (at + 1) width (option_or half found) written after.turns
-  HasLast-cross {slots = slots} {hit = hit} {written = written} {found = found} c s grows half is h = record {
+  pub HasLast-cross : {a b : Moment} {hit : Option PatternID} {found : Option HalfMatch}
+      → (c : NextsGive nfa x at true a hit b)
+      → ScanningFrom nfa x (is_match nfa) at width state (at + 1) limit a.met a.kept
+      → a.met.turns ≤ b.met.turns → (half : Option HalfMatch) → EndsAt at hit half
+      → HasLast nfa x at width found a.slots a.met.turns
+      → HasLast nfa x (at + 1) width (option_or half found) b.slots b.met.turns
+  HasLast-cross {a} {b} {hit} {found} c s grows half is h = record {
     so_far = last_match (is_match nfa) h.so_far c.front;
     is_so_far = rw (last_match-or (is_match nfa) h.so_far c.front) (of half (match-cross c half is)
         (λ none. rw (EndsAt-none at hit half is none) at c.is_hit));
@@ -128,9 +124,9 @@ module _ (nfa : Automaton) (x : Search) (at width state limit : ℕ) where
   }
     where
       of : (m : Option HalfMatch) → (is_some m ≡ true
-          → (v : Pair) × (last_match (is_match nfa) None c.front ≡ Some (v, written))
-          × IsSoFar nfa x m written (Some (v, written)))
-          → (is_some m ≡ false → (last_match (is_match nfa) None c.front ≡ None) × (written ≡ slots))
-          → IsSoFar nfa x (option_or m found) written (option_or (last_match (is_match nfa) None c.front) h.so_far)
+          → (v : Pair) × (last_match (is_match nfa) None c.front ≡ Some (v, b.slots))
+          × IsSoFar nfa x m b.slots (Some (v, b.slots)))
+          → (is_some m ≡ false → (last_match (is_match nfa) None c.front ≡ None) × (b.slots ≡ a.slots))
+          → IsSoFar nfa x (option_or m found) b.slots (option_or (last_match (is_match nfa) None c.front) h.so_far)
       of None some none = let k = none refl in rw (k.0, k.1) h.is_so_far
       of (Some m) some none = let k = some refl in rw k.1 k.2

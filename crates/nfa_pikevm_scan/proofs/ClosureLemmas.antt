@@ -65,7 +65,7 @@ Paid-then p q = record {
 
 -- what is left on the stack at a match is dropped
 pub Paid-dropped : {nfa : Automaton} {a b : Moment} {hand left : ℕ} → Paid nfa a hand b left
-    → Paid nfa a hand (between b.met b.kept) 0
+    → Paid nfa a hand (between b.met b.kept []) 0
 Paid-dropped p = record { tried = omega (arith, p.tried); framed = omega (arith, p.framed); entered = p.entered }
 
 -- the turns that wait and those that unmarked states may still bring are fewer after a turn
@@ -192,7 +192,7 @@ module _ {V : Type 0} {nfa : Automaton} {x : Search} {takes : V → PatternID �
     {a b : Moment} {old v : V} where
   -- all was followed
   pub ClosureGives-whole : b.stack ≡ [] → Turned nfa x at s a (λ front. Takes nfa takes front old false v) None b
-      → ClosureGives nfa x takes at s a old false (between b.met b.kept) v
+      → ClosureGives nfa x takes at s a old false (between b.met b.kept []) v
   ClosureGives-whole empty f = record {
     front = f.front;
     added = f.gives.added;
@@ -220,7 +220,7 @@ module _ {V : Type 0} {nfa : Automaton} {x : Search} {takes : V → PatternID �
     }
 
     -- it ends with the match
-    pub ClosureGives-ended : ended ≡ true → ClosureGives nfa x takes at s a old true (between c.met c.kept) w
+    pub ClosureGives-ended : ended ≡ true → ClosureGives nfa x takes at s a old true (between c.met c.kept []) w
     ClosureGives-ended stops =
         let r = TurnsGive-then f.gives h.gives in
         record {

@@ -20,7 +20,7 @@ use Rattle.nfa_paths.proofs.ScanLemmas.{IsFoundBy-more, NoneBefore-start, LastBe
 use Rattle.nfa_paths.proofs.ScanningLemmas.{Scanning-load, Scanning-over}
 use Rattle.nfa_scan_core.specs.FirstBytes.{IsFirstBytes}
 use Rattle.nfa_scan_core.specs.Marks.{Marks}
-use Rattle.nfa_pikevm_scan.specs.States.{tasks, unmarked, AreMatchPairs, SeenAt, SearchingAt, NextsGive}
+use Rattle.nfa_pikevm_scan.specs.States.{Moment, tasks, unmarked, AreMatchPairs, SeenAt, SearchingAt, NextsGive}
 use Rattle.nfa_pikevm_scan.specs.Scans.{blank, starts_from, with_start, IsPassed, AddsStart, AreStarts, IsSoFar, SearchesFirst, SearchingFrom, ScansAll, ScanningFrom}
 use Rattle.nfa_pikevm_scan.specs.declared.scan.Starts.{Starts}
 use Rattle.nfa_pikevm_scan.proofs.TaskLemmas.{tasks-joins, tasks-alone, tasks-joined, starts_from-end, AnswersFor, AnswersFor-same, AnswersFor-then, AnswersFor-tasks, AnswersFor-pass, AnswersFor-skip, Searching-for, Searching-seen, Searching-begin}
@@ -208,14 +208,13 @@ module _ (nfa : Automaton) (x : Search) where
   ends-at at e = rw e (EndsBefore-span nfa x (is_match nfa))
 
   -- the first position with a match
-  pub earliest-over : (at width state limit : ℕ) {past : Bool} {met : Marks} {items : List (ℕ × Slots)} {slots : Slots}
-      {hit : Option PatternID} {after : Marks} {kept : List (ℕ × Slots)} {written : Slots}
-      → NextsGive nfa x at past met items slots hit after kept written
-      → ScanningFrom nfa x (is_match nfa) at width state (at + 1) limit met items
+  pub earliest-over : (at width state limit : ℕ) {past : Bool} {a b : Moment} {hit : Option PatternID}
+      → NextsGive nfa x at past a hit b
+      → ScanningFrom nfa x (is_match nfa) at width state (at + 1) limit a.met a.kept
       → NoneBefore (space nfa x) (is_match nfa) at → (half : Option HalfMatch) → EndsAt at hit half
-      → is_some half ≡ true → width ≡ length written
-      → ScanGives nfa (cond past AllMatches LeftmostFirst) true x half written after.turns
-  earliest-over at width state limit {past} {after = after} {written = written} c s none half is some size =
+      → is_some half ≡ true → width ≡ length b.slots
+      → ScanGives nfa (cond past AllMatches LeftmostFirst) true x half b.slots b.met.turns
+  earliest-over at width state limit {past} {a} {b} c s none half is some size =
       let k = match-cross c half is some in
-      Scans-so_far (cond past AllMatches LeftmostFirst) true width after.turns half written (Some (k.0, written)) k.2
-      (earliest-found nfa x at width state limit c s none (k.0, written) k.1) size
+      Scans-so_far (cond past AllMatches LeftmostFirst) true width b.met.turns half b.slots (Some (k.0, b.slots)) k.2
+      (earliest-found nfa x at width state limit c s none (k.0, b.slots) k.1) size

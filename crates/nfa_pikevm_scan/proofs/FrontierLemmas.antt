@@ -163,7 +163,7 @@ sum-ones (s ∷ states) = omega (arith, sum_by-cons one_of s states, sum-ones st
 module _ (nfa : Automaton) (x : Search) where
   -- a position: it keeps no more states than the NFA has, and pays for what was left and what it takes
   module _ (met : Marks) (hand : ℕ) (after : Marks) (kept : List (ℕ × Slots))
-      (p : Paid nfa (between (unmarked met) []) hand (between after kept) 0) where
+      (p : Paid nfa (between (unmarked met) [] []) hand (between after kept []) 0) where
     pub Paid-few : length kept ≤ length nfa.states
     Paid-few =
         omega (

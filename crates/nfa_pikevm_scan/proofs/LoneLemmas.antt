@@ -11,14 +11,14 @@ use Rattle.nfa_paths.specs.Exploring.{Task, Slots, Hit}
 use Rattle.nfa_paths.specs.Paths.{is_match, starts}
 use Rattle.nfa_scan_core.specs.FirstBytes.{IsFirstBytes}
 use Rattle.nfa_scan_core.specs.Marks.{Marks}
-use Rattle.nfa_pikevm_scan.specs.States.{unmarked, SearchingAt, NextsGive}
-use Rattle.nfa_pikevm_scan.specs.Scans.{blank, AddsStart, AreStarts, HaveRows, KeepsThreads, MayCross, MayScan, PassesOver, ScansFirst, SearchesFirst, SearchingFrom}
+use Rattle.nfa_pikevm_scan.specs.States.{between, unmarked, SearchingAt, NextsGive}
+use Rattle.nfa_pikevm_scan.specs.Scans.{blank, held, AddsStart, AreStarts, HaveRows, KeepsThreads, MayCross, MayScan, PassesOver, ScansFirst, SearchesFirst, SearchingFrom}
 use Rattle.nfa_pikevm_scan.specs.declared.scan.Starts.{Starts}
 use Rattle.nfa_pikevm_scan.specs.declared.threads.Threads.{Threads}
 use Rattle.nfa_pikevm_scan.proofs.RoomLemmas.{AddsStart-passes, AreAt-none, KeepsThreads-none, KeepsThreads-then, few-joins}
 use Rattle.nfa_pikevm_scan.proofs.TaskLemmas.{tasks-alone}
 use Rattle.nfa_pikevm_scan.proofs.FrontierLemmas.{IsPaidAt-later}
-use Rattle.nfa_pikevm_scan.proofs.ScanLemmas.{AreAt-cross, Crossed-given, EndsAt, EndsAt-none, SearchesFirst-match, SearchesFirst-miss}
+use Rattle.nfa_pikevm_scan.proofs.ScanLemmas.{AreAt-cross, EndsAt, EndsAt-none, SearchesFirst-match, SearchesFirst-miss}
 use Rattle.nfa_pikevm_scan.proofs.EndLemmas.{SearchesFirst-begin, SearchesFirst-joins}
 
 -- no match was found
@@ -108,7 +108,7 @@ module _ {nfa : Automaton} {x : Search} {from : Starts} {limit at width : ℕ} {
       (j : Joined nfa x from.state limit at to width s.searches.so_far old.reached.seen old.curr.items items)
       {new : Threads} (keeps : KeepsThreads old new) (next : new.reached.next.items ≡ []) {hit : Option PatternID}
       {written : Slots}
-      (c : NextsGive nfa x to false old.reached.seen items slots hit new.reached.seen new.curr.items written) where
+      (c : NextsGive nfa x to false (between old.reached.seen items slots) hit (held new written)) where
     -- the next position, with what was found up to it
     after : {later : ℕ} {half : Option HalfMatch} → (later ≡ from.limit) ⊎ (later ≡ 0)
         → SearchesFirst nfa x (to + 1) width from.state later half written new.reached.seen new.curr.items
@@ -122,7 +122,7 @@ module _ {nfa : Automaton} {x : Search} {from : Starts} {limit at width : ℕ} {
           high = omega arith;
           keeps = KeepsThreads-then s.keeps keeps;
           next = next;
-          states = AreAt-cross (Crossed-given width from.state limit c.gives) are.leads low
+          states = AreAt-cross c.gives are.leads low
               (IsPaidAt-later nfa x j.ahead s.states.paid) j.few;
           searches = searches;
         }

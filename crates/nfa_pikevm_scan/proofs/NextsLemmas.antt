@@ -17,7 +17,7 @@ use Rattle.nfa_paths.proofs.TurnLemmas.{marked_sum-clear}
 use Rattle.nfa_scan_core.specs.Marks.{Marks}
 use Rattle.nfa_pikevm_scan.specs.Rows.{Active, items_of}
 use Rattle.nfa_pikevm_scan.specs.Needs.{room_of}
-use Rattle.nfa_pikevm_scan.specs.States.{Frontier, between, moves, tasks, unmarked, one_of, Formed, HasRoom, Paid, Follows, Leads, IsClosureContext, MayFollow}
+use Rattle.nfa_pikevm_scan.specs.States.{Frontier, Moment, between, moves, tasks, unmarked, one_of, Formed, HasRoom, Paid, Follows, Leads, IsClosureContext, MayFollow}
 use Rattle.nfa_pikevm_scan.specs.Scans.{MayCross}
 use Rattle.nfa_pikevm_scan.specs.declared.closure.ClosureContext.{ClosureContext}
 use Rattle.nfa_pikevm_scan.specs.declared.closure.ClosureOutput.{ClosureOutput}
@@ -155,23 +155,25 @@ module _ (nfa : Automaton) (x : Search) (at : ℕ) where
       leads i.1 (Explore (i.0, at) ∷ tasks at items (Load old ∷ waiting))
 
 module _ {V : Type 0} (nfa : Automaton) (x : Search) (takes : V → PatternID → Slots → Bool → V → Type 0) (at : ℕ)
-    (met : Marks) (items : List (ℕ × Slots)) (old : V) where
+    (begun : Moment) (old : V) where
   -- The result of a position's states so far, with some left to follow.
-  pub record NextsLeadTo (left : List (ℕ × Slots)) (after : Marks) (kept : List (ℕ × Slots)) (new : V) : Type 0 where
+  pub record NextsLeadTo (left : List (ℕ × Slots)) (now : Moment) (new : V) : Type 0 where
     pub front : Frontier
-    pub added : kept ≡ moves (edges nfa x) front
+    pub added : now.kept ≡ moves (edges nfa x) front
     pub takes_all : Takes nfa takes front old false new
-    pub formed : Formed nfa at after.bits front
-    pub paid : Paid nfa (between (unmarked met) []) (length items) (between after kept) (length left)
-    pub follows : (current old : Slots) (waiting : List Task) (last : Slots)
-        → Follows nfa x at (unmarked met) [] (tasks at items (Load old ∷ waiting)) current after front
-        (tasks at left (Load old ∷ waiting)) last
+    pub formed : Formed nfa at now.met.bits front
+    pub paid : Paid nfa (between (unmarked begun.met) [] []) (length begun.kept) (between now.met now.kept [])
+        (length left)
+    pub follows : (current below : Slots) (waiting : List Task) (last : Slots)
+        → Follows nfa x at (unmarked begun.met) [] (tasks at begun.kept (Load below ∷ waiting)) current now.met front
+        (tasks at left (Load below ∷ waiting)) last
 
 module _ {V : Type 0} {nfa : Automaton} {x : Search} {takes : V → PatternID → Slots → Bool → V → Type 0} {at : ℕ}
-    {met : Marks} {items : List (ℕ × Slots)} {old : V} where
+    {begun : Moment} {old : V} where
   -- all are left
-  pub NextsLeadTo-begin : {kept : List (ℕ × Slots)} → kept ≡ [] → met.bits ≡ replicate (length met.bits) false
-      → NextsLeadTo nfa x takes at met items old items met kept old
+  pub NextsLeadTo-begin : {kept : List (ℕ × Slots)} → kept ≡ []
+      → begun.met.bits ≡ replicate (length begun.met.bits) false
+      → NextsLeadTo nfa x takes at begun old begun.kept (record begun { kept = kept }) old
   NextsLeadTo-begin empty clear = record {
     front = [];
     added = empty;
@@ -184,23 +186,22 @@ module _ {V : Type 0} {nfa : Automaton} {x : Search} {takes : V → PatternID �
       once = tt;
     };
     paid = record {
-      tried = omega (arith, marked_sum-clear (map degree nfa.states) (length met.bits), ap length empty);
-      framed = omega (arith, marked_sum-clear (map room_of nfa.states) (length met.bits));
-      entered = omega (arith, marked_sum-clear (map one_of nfa.states) (length met.bits), ap length empty);
+      tried = omega (arith, marked_sum-clear (map degree nfa.states) (length begun.met.bits), ap length empty);
+      framed = omega (arith, marked_sum-clear (map room_of nfa.states) (length begun.met.bits));
+      entered = omega (arith, marked_sum-clear (map one_of nfa.states) (length begun.met.bits), ap length empty);
     };
-    follows = λ current old waiting last.
-        let same : met ≡ unmarked met = ap (λ b. record met { bits = b }) clear in
-        subst (λ (n : Marks). Follows nfa x at n [] (tasks at items (Load old ∷ waiting)) current met []
-        (tasks at items (Load old ∷ waiting)) last) same
-        (Follows-tasks nfa x at met [] items old waiting current last);
+    follows = λ current below waiting last.
+        let same : begun.met ≡ unmarked begun.met = ap (λ b. record begun.met { bits = b }) clear in
+        subst (λ (n : Marks). Follows nfa x at n [] (tasks at begun.kept (Load below ∷ waiting)) current begun.met []
+        (tasks at begun.kept (Load below ∷ waiting)) last) same
+        (Follows-tasks nfa x at begun.met [] begun.kept below waiting current last);
   }
 
   -- there is room for what the next state leads to
-  pub HasRoom-next : {left : List (ℕ × Slots)} {after : Marks} {kept : List (ℕ × Slots)} {new : V}
-      {frames capacity f p : ℕ} → met.bits ≡ replicate (length met.bits) false
-      → HasRoom nfa met.bits 0 frames 0 capacity
-      → length after.bits ≡ length met.bits → f ≡ frames → p ≡ capacity
-      → NextsLeadTo nfa x takes at met items old left after kept new → HasRoom nfa after.bits 0 f (length kept) p
+  pub HasRoom-next : {left : List (ℕ × Slots)} {now : Moment} {new : V} {frames capacity f p : ℕ}
+      → begun.met.bits ≡ replicate (length begun.met.bits) false → HasRoom nfa begun.met.bits 0 frames 0 capacity
+      → length now.met.bits ≡ length begun.met.bits → f ≡ frames → p ≡ capacity
+      → NextsLeadTo nfa x takes at begun old left now new → HasRoom nfa now.met.bits 0 f (length now.kept) p
   HasRoom-next clear room size same_frames same_capacity c =
       let rooms = ap (marked_sum (map room_of nfa.states)) clear in
       let ones = ap (marked_sum (map one_of nfa.states)) clear in
@@ -210,17 +211,16 @@ module _ {V : Type 0} {nfa : Automaton} {x : Search} {takes : V → PatternID �
         states_fit = omega (arith, room.states_fit, c.paid.entered, ones);
       }
 
-  module _ {left rest : List (ℕ × Slots)} {after : Marks} {kept : List (ℕ × Slots)} {mid : V} {k : ℕ} {row : Slots}
-      (next : left ≡ (k, row) ∷ rest) (c : NextsLeadTo nfa x takes at met items old left after kept mid)
-      {ended : Bool} {then : Marks} {more : List (ℕ × Slots)} {new : V}
-      (a : ClosureGives nfa x takes at k (record { met = after; kept = kept; stack = []; slots = row }) mid ended
-      (between then more) new) where
-    added : more ≡ moves (edges nfa x) (c.front ++ a.front)
+  module _ {left rest : List (ℕ × Slots)} {b : Moment} {mid : V} {k : ℕ} {row : Slots} (next : left ≡ (k, row) ∷ rest)
+      (c : NextsLeadTo nfa x takes at begun old left b mid) {ended : Bool} {then : Moment} {new : V}
+      (a : ClosureGives nfa x takes at k (between b.met b.kept row) mid ended then new) where
+    added : then.kept ≡ moves (edges nfa x) (c.front ++ a.front)
     added =
         a.added ∙ ap (λ l. l ++ moves (edges nfa x) a.front) c.added
         ∙ sym (moves-append (edges nfa x) c.front a.front)
 
-    paid : Paid nfa (between (unmarked met) []) (length items) (between then more) (length rest)
+    paid : Paid nfa (between (unmarked begun.met) [] []) (length begun.kept) (between then.met then.kept [])
+        (length rest)
     paid =
         let one_less : length left ≡ 1 + length rest = ap length next ∙ omega arith in
         record {
@@ -230,41 +230,41 @@ module _ {V : Type 0} {nfa : Automaton} {x : Search} {takes : V → PatternID �
         }
 
     -- up to the state that is followed
-    reaches : (current old : Slots) (waiting : List Task)
-        → Follows nfa x at (unmarked met) [] (tasks at items (Load old ∷ waiting)) current after c.front
-        (Explore (k, at) ∷ tasks at rest (Load old ∷ waiting)) row
-    reaches current old waiting =
+    reaches : (current below : Slots) (waiting : List Task)
+        → Follows nfa x at (unmarked begun.met) [] (tasks at begun.kept (Load below ∷ waiting)) current b.met c.front
+        (Explore (k, at) ∷ tasks at rest (Load below ∷ waiting)) row
+    reaches current below waiting =
         Follows-then nfa x at
-        (subst (λ l. Follows nfa x at (unmarked met) [] (tasks at items (Load old ∷ waiting)) current after c.front
-        (tasks at l (Load old ∷ waiting)) row) next
-        (c.follows current old waiting row))
-        (Follows-load nfa x at after c.front (Explore (k, at) ∷ tasks at rest (Load old ∷ waiting)) row row)
+        (subst (λ l. Follows nfa x at (unmarked begun.met) [] (tasks at begun.kept (Load below ∷ waiting)) current
+        b.met c.front (tasks at l (Load below ∷ waiting)) row) next
+        (c.follows current below waiting row))
+        (Follows-load nfa x at b.met c.front (Explore (k, at) ∷ tasks at rest (Load below ∷ waiting)) row row)
 
-    leads : (old : Slots) (waiting : List Task)
-        → Leads nfa x at after c.front (Explore (k, at) ∷ tasks at rest (Load old ∷ waiting)) row (ended ≡ false)
-        then (c.front ++ a.front) (tasks at rest (Load old ∷ waiting))
-    leads = Leads-tasks nfa x at after then c.front (c.front ++ a.front) k row (ended ≡ false) rest
+    leads : (below : Slots) (waiting : List Task)
+        → Leads nfa x at b.met c.front (Explore (k, at) ∷ tasks at rest (Load below ∷ waiting)) row (ended ≡ false)
+        then.met (c.front ++ a.front) (tasks at rest (Load below ∷ waiting))
+    leads = Leads-tasks nfa x at b.met then.met c.front (c.front ++ a.front) k row (ended ≡ false) rest
         (a.leads c.front)
 
     -- the position goes on
-    pub NextsLeadTo-next : ended ≡ false → NextsLeadTo nfa x takes at met items old rest then more new
+    pub NextsLeadTo-next : ended ≡ false → NextsLeadTo nfa x takes at begun old rest then new
     NextsLeadTo-next on = record {
       front = c.front ++ a.front;
       added = added;
       takes_all = Takes-then c.takes_all (rw on at a.takes_all);
       formed = a.formed c.front c.formed;
       paid = paid;
-      follows = λ current old waiting last.
-          let l = leads old waiting in
-          Follows-then nfa x at (reaches current old waiting)
+      follows = λ current below waiting last.
+          let l = leads below waiting in
+          Follows-then nfa x at (reaches current below waiting)
           (Follows-then nfa x at
-          (subst (λ w. Follows nfa x at after c.front (Explore (k, at) ∷ tasks at rest (Load old ∷ waiting)) row then
-          (c.front ++ a.front) w l.written) (l.whole on) l.follows)
-          (Follows-tasks nfa x at then (c.front ++ a.front) rest old waiting l.written last));
+          (subst (λ w. Follows nfa x at b.met c.front (Explore (k, at) ∷ tasks at rest (Load below ∷ waiting)) row
+          then.met (c.front ++ a.front) w l.written) (l.whole on) l.follows)
+          (Follows-tasks nfa x at then.met (c.front ++ a.front) rest below waiting l.written last));
     }
 
     -- it ends with the state
-    pub NextsLeadTo-ended : ended ≡ true → ClosuresGive nfa x takes at met items old then more new
+    pub NextsLeadTo-ended : ended ≡ true → ClosuresGive nfa x takes at begun old then new
     NextsLeadTo-ended stops = record {
       front = c.front ++ a.front;
       ended = ended;
@@ -272,12 +272,12 @@ module _ {V : Type 0} {nfa : Automaton} {x : Search} {takes : V → PatternID �
         added = added;
         formed = a.formed c.front c.formed;
         paid = record { tried = omega (arith, paid.tried); framed = paid.framed; entered = paid.entered };
-        leads = λ current old waiting.
-            let l = leads old waiting in
+        leads = λ current below waiting.
+            let l = leads below waiting in
             record {
               left = l.left;
               written = l.written;
-              follows = Follows-then nfa x at (reaches current old waiting) l.follows;
+              follows = Follows-then nfa x at (reaches current below waiting) l.follows;
               whole = λ on. absurd (cc (on, stops));
             };
       };
@@ -285,23 +285,22 @@ module _ {V : Type 0} {nfa : Automaton} {x : Search} {takes : V → PatternID �
     }
 
   -- all were followed
-  pub NextsLeadTo-over : {left : List (ℕ × Slots)} {after : Marks} {kept : List (ℕ × Slots)} {new : V} → left ≡ []
-      → NextsLeadTo nfa x takes at met items old left after kept new
-      → ClosuresGive nfa x takes at met items old after kept new
-  NextsLeadTo-over {after = after} over c = record {
+  pub NextsLeadTo-over : {left : List (ℕ × Slots)} {now : Moment} {new : V} → left ≡ []
+      → NextsLeadTo nfa x takes at begun old left now new → ClosuresGive nfa x takes at begun old now new
+  NextsLeadTo-over {now = now} over c = record {
     front = c.front;
     ended = false;
     gives = record {
       added = c.added;
       formed = c.formed;
       paid = record { tried = omega (arith, c.paid.tried); framed = c.paid.framed; entered = c.paid.entered };
-      leads = λ current old waiting. record {
-        left = Load old ∷ waiting;
+      leads = λ current below waiting. record {
+        left = Load below ∷ waiting;
         written = current;
         follows =
-            subst (λ l. Follows nfa x at (unmarked met) [] (tasks at items (Load old ∷ waiting)) current after c.front
-            (tasks at l (Load old ∷ waiting)) current) over
-            (c.follows current old waiting current);
+            subst (λ l. Follows nfa x at (unmarked begun.met) [] (tasks at begun.kept (Load below ∷ waiting)) current
+            now.met c.front (tasks at l (Load below ∷ waiting)) current) over
+            (c.follows current below waiting current);
         whole = λ _. refl;
       };
     };

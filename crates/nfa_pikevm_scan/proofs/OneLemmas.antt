@@ -43,12 +43,10 @@ items-one width n (s ∷ t ∷ kept) cells k one is wide = absurd (omega (arith,
 
 -- the only state of a position gives what the position gives
 pub ClosuresGive-one : {V : Type 0} {nfa : Automaton} {x : Search} {takes : V → PatternID → Slots → Bool → V → Type 0}
-    {at : ℕ} {met : Marks} {items : List (ℕ × Slots)} {old : V} {kept : List (ℕ × Slots)} {k : ℕ} {row : Slots}
-    (ended : Bool) {then : Marks} {more : List (ℕ × Slots)} {new : V}
-    → kept ≡ [] → met.bits ≡ replicate (length met.bits) false → items ≡ (k, row) ∷ []
-    → ClosureGives nfa x takes at k (record { met = met; kept = kept; stack = []; slots = row }) old ended
-    (between then more) new
-    → ClosuresGive nfa x takes at met items old then more new
+    {at : ℕ} {begun : Moment} {old : V} {kept : List (ℕ × Slots)} {k : ℕ} {row : Slots} (ended : Bool) {then : Moment}
+    {new : V} → kept ≡ [] → begun.met.bits ≡ replicate (length begun.met.bits) false → begun.kept ≡ (k, row) ∷ []
+    → ClosureGives nfa x takes at k (between begun.met kept row) old ended then new
+    → ClosuresGive nfa x takes at begun old then new
 ClosuresGive-one true empty clear one a = NextsLeadTo-ended one (NextsLeadTo-begin empty clear) a refl
 ClosuresGive-one false empty clear one a =
     NextsLeadTo-over refl (NextsLeadTo-next one (NextsLeadTo-begin empty clear) a refl)
@@ -98,10 +96,10 @@ module _ (nfa : Automaton) (x : Search) (at : ℕ) where
 
   -- a state is followed with its row to its first match
   pub NextsGive-start : (met : Marks) (s : ℕ) (row slots : Slots) (hit : Option PatternID) (new : Moment) (last : Slots)
-      → FindsMatch nfa x at s (record { met = unmarked met; kept = []; stack = []; slots = row }) hit new
+      → FindsMatch nfa x at s (between (unmarked met) [] row) hit new
       → (hit ≡ None → new.stack ≡ []) → (hit ≡ None → last ≡ slots)
       → ((p : PatternID) → hit ≡ Some p → last ≡ new.slots)
-      → NextsGive nfa x at false met ((s, row) ∷ []) slots hit new.met new.kept last
+      → NextsGive nfa x at false (between met ((s, row) ∷ []) slots) hit (between new.met new.kept last)
   NextsGive-start met s row slots hit new last f over none some = record {
     front = f.front;
     gives = record {

@@ -19,13 +19,13 @@ use Rattle.nfa_paths.proofs.ScanAnswerLemmas.{edges-onward, seeds-later}
 use Rattle.nfa_paths.proofs.SearchingLemmas.{Searching-load, Searching-done}
 use Rattle.nfa_scan_core.specs.Marks.{Marks}
 use Rattle.nfa_pikevm_scan.specs.Scans.{starts_from, with_start, AreStarts, SearchingFrom}
-use Rattle.nfa_pikevm_scan.specs.States.{moves, tasks, unmarked, SearchingAt}
-use Rattle.nfa_pikevm_scan.specs.Overlapping.{wants, AddsPatterns, GoesPast, NextsOverlappingGive}
+use Rattle.nfa_pikevm_scan.specs.States.{Moment, between, moves, tasks, unmarked, SearchingAt}
+use Rattle.nfa_pikevm_scan.specs.Overlapping.{wants, AddsPatterns, NextsOverlappingGive}
 use Rattle.nfa_pikevm_scan.specs.declared.scan.Starts.{Starts}
 use Rattle.nfa_pikevm_scan.proofs.RoomLemmas.{over-joined}
 use Rattle.nfa_pikevm_scan.proofs.TaskLemmas.{starts_from-end, tasks-joined}
 use Rattle.nfa_pikevm_scan.proofs.FrontierLemmas.{Formed-resting}
-use Rattle.nfa_pikevm_scan.proofs.ScanLemmas.{Crossed, Crossed-given, first-miss, first-hit}
+use Rattle.nfa_pikevm_scan.proofs.ScanLemmas.{first-miss, first-hit}
 use Rattle.nfa_pikevm_scan.proofs.EndLemmas.{SearchingAt-begin}
 use Rattle.nfa_pikevm_scan.proofs.OverlapSetLemmas.{AddsFirst-none, AddsFirst-some, wants-tells, wants-match}
 use Rattle.nfa_paths.proofs.OptionLemmas.{same_some}
@@ -124,42 +124,38 @@ module _ (nfa : Automaton) (x : Search) (old : List Bool) where
           (full-exact nfa x old new w.capacity w.exact.sound full)
 
   module _ {from : Starts} {at : ℕ} {met : Marks} {items : List (ℕ × Slots)} {mid : List Bool} {hit : Bool}
-      {after : Marks} {kept : List (ℕ × Slots)} {new : List Bool}
-      (w : FirstWay from at met items mid)
-      (c : NextsOverlappingGive nfa x at false (length old) met (with_start from 0 at items) mid hit after
-      kept new) where
-    crossed : Crossed nfa x at 0 from.state from.limit met (with_start from 0 at items) (GoesPast false hit) after kept
-        c.front
-    crossed = Crossed-given 0 from.state from.limit c.gives
-
+      {b : Moment} {new : List Bool} (w : FirstWay from at met items mid)
+      (c : NextsOverlappingGive nfa x at false (length old) (between met (with_start from 0 at items) []) mid hit b
+      new) where
     rests : (a : Pair × Slots) → In a c.front → (is_resting nfa a.0 ≡ true) × (a.0.1 ≡ at)
-    rests = Formed-resting nfa x at after.bits c.front c.gives.formed
+    rests = Formed-resting nfa x at b.met.bits c.front c.gives.formed
 
     -- a search for what is wanted before the next position, or for more, wants the same here
     agree : (target : Pair → Bool) → Between wanted (at + 1) target → (a : Pair × Slots) → In a c.front
         → target a.0 ≡ wanted a.0
-    agree target b a i = Between-same b a.0 (rests a i).1
+    agree target q a i = Between-same q a.0 (rests a i).1
 
     cut-for : (target : Pair → Bool) → Between wanted (at + 1) target
         → moves (edges nfa x) (before_match target c.front) ≡ moves (edges nfa x) c.front
-    cut-for target b =
-        ap (moves (edges nfa x)) (before_match-same target wanted c.front (agree target b)) ∙ c.cut refl
+    cut-for target q =
+        ap (moves (edges nfa x)) (before_match-same target wanted c.front (agree target q)) ∙ c.cut refl
 
     next-searching : hit ≡ false → first_match wanted c.front ≡ None → (target : Pair → Bool)
         → Between wanted (at + 1) target
-        → SearchingFrom nfa x target (at + 1) 0 from.state (at + 1) from.limit w.so_far after kept
-    next-searching off lacks target b =
-        first-miss target (λ v t. wants-match nfa x (length old) v (b.sub v t)) crossed (cut-for target b)
-        (joined-search w target (Between-less b)) (first_match-same target wanted c.front (agree target b) ∙ lacks)
-        (inr off)
+        → SearchingFrom nfa x target (at + 1) 0 from.state (at + 1) from.limit w.so_far b.met b.kept
+    next-searching off lacks target q =
+        first-miss target (λ v t. wants-match nfa x (length old) v (q.sub v t)) 0 from.state from.limit c.gives
+        (cut-for target q) (joined-search w target (Between-less q))
+        (first_match-same target wanted c.front (agree target q) ∙ lacks) (inr off)
 
     cut-searching : (a : Pair × Slots) → first_match wanted c.front ≡ Some a → (target : Pair → Bool)
         → Between wanted (at + 1) target
-        → SearchingAt nfa x (at + 1) target (starts nfa x) [] (Some a) (unmarked after) []
-        (tasks (at + 1) kept (ToLoad [] ∷ [])) []
-    cut-searching a has target b =
-        first-hit target (λ v t. wants-match nfa x (length old) v (b.sub v t)) crossed (cut-for target b)
-        (joined-search w target (Between-less b)) a (first_match-same target wanted c.front (agree target b) ∙ has)
+        → SearchingAt nfa x (at + 1) target (starts nfa x) [] (Some a) (unmarked b.met) []
+        (tasks (at + 1) b.kept (ToLoad [] ∷ [])) []
+    cut-searching a has target q =
+        first-hit target (λ v t. wants-match nfa x (length old) v (q.sub v t)) 0 from.state from.limit c.gives
+        (cut-for target q) (joined-search w target (Between-less q)) a
+        (first_match-same target wanted c.front (agree target q) ∙ has)
 
     -- the set has room for the pattern of a match that is wanted
     has_room : (a : Pair × Slots) (k : ℕ) → wanted a.0 ≡ true → pattern_at nfa a.0 ≡ Some k → k < length mid
@@ -171,7 +167,7 @@ module _ (nfa : Automaton) (x : Search) (old : List Bool) where
         omega arith
 
     -- no match: the next position
-    pub FirstWay-next : hit ≡ false → FirstWay from (at + 1) after kept new
+    pub FirstWay-next : hit ≡ false → FirstWay from (at + 1) b.met b.kept new
     FirstWay-next off =
         let n = AddsFirst-none nfa (first_match wanted c.front) mid new
         (subst (λ h. AddsPatterns nfa false wanted c.front mid h new) off c.gathers) in
@@ -180,14 +176,14 @@ module _ (nfa : Automaton) (x : Search) (old : List Bool) where
           searching = next-searching off n.0;
           capacity = rw n.1 w.capacity;
           exact = rw n.1 (Exact-next nfa x old wanted tells
-              (best-ahead kept (starts_from 0 from.state (at + 1) from.limit) w.so_far
+              (best-ahead b.kept (starts_from 0 from.state (at + 1) from.limit) w.so_far
               (λ k i. let l = seeds-later [] from.state at (from.limit - (at + 1)) k i in omega arith)
               (next-searching off n.0)) w.exact);
         }
 
     -- a match: the states after it are dropped, and no later start joins
     pub FirstWay-cut : size_of_set old ≡ 0 → hit ≡ true
-        → FirstWay (record from { limit = 0 }) (at + 1) after kept new
+        → FirstWay (record from { limit = 0 }) (at + 1) b.met b.kept new
     unfolding seeds
     FirstWay-cut empty on =
         let put = AddsFirst-some nfa (first_match wanted c.front) mid new
@@ -199,6 +195,6 @@ module _ (nfa : Automaton) (x : Search) (old : List Bool) where
           searching = rw none (cut-searching put.0 put.1);
           capacity = rw put.2.2 (length-with mid put.2.0) ∙ w.capacity;
           exact = Exact-match nfa x old wanted tells put.0
-              (best-ahead kept [] (Some put.0) (λ k i. absurd i) (cut-searching put.0 put.1)) w.exact put.2.1
+              (best-ahead b.kept [] (Some put.0) (λ k i. absurd i) (cut-searching put.0 put.1)) w.exact put.2.1
               (has_room put.0 put.2.0 matches put.2.1) put.2.2;
         }

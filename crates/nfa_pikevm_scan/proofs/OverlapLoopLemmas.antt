@@ -21,16 +21,16 @@ use Rattle.nfa_pikevm_scan.specs.Scans.{with_start, AreStarts}
 use Rattle.nfa_pikevm_scan.specs.Overlapping.{wants, AddsPatterns, AddsAllPatterns, NextsOverlappingGive}
 use Rattle.nfa_pikevm_scan.specs.declared.scan.Starts.{Starts}
 use Rattle.nfa_pikevm_scan.proofs.FrontierLemmas.{Formed-resting}
-use Rattle.nfa_pikevm_scan.proofs.ScanLemmas.{Crossed-given}
+use Rattle.nfa_pikevm_scan.specs.States.{Moment, between}
 use Rattle.nfa_pikevm_scan.proofs.AllLemmas.{all-left}
 use Rattle.nfa_pikevm_scan.proofs.EndLemmas.{ScansAll-joined, ScansAll-over}
 use Rattle.nfa_pikevm_scan.proofs.StandsLemmas.{Stands, Stands-start, Stands-next, Stands-front}
 use Rattle.nfa_pikevm_scan.proofs.OverlapSetLemmas.{AddsAll-none, AddsFirst-none, AddsFirst-some, wants-tells, wants-match}
 
 -- without a match that counts the set stays as it is
-pub set-stays : {nfa : Automaton} {x : Search} {at n : ℕ} (past : Bool) {met : Marks} {items : List (ℕ × Slots)}
-    {set : List Bool} {hit : Bool} {after : Marks} {kept : List (ℕ × Slots)} {new : List Bool}
-    → NextsOverlappingGive nfa x at past n met items set hit after kept new → hit ≡ false → new ≡ set
+pub set-stays : {nfa : Automaton} {x : Search} {at n : ℕ} (past : Bool) {a b : Moment}
+    {set : List Bool} {hit : Bool} {new : List Bool}
+    → NextsOverlappingGive nfa x at past n a set hit b new → hit ≡ false → new ≡ set
 set-stays {nfa} {x} {n = n} past {set = set} {new = new} c off =
     of past (subst (λ h. AddsPatterns nfa past (wants nfa x n) c.front set h new) off c.gathers)
   where
@@ -55,15 +55,15 @@ module _ (nfa : Automaton) (x : Search) (old : List Bool) where
     pub gains : GainsBefore nfa x old wanted tells at new
 
   pub All-next : {from : Starts} {at before : ℕ} {met : Marks} {items : List (ℕ × Slots)} {mid : List Bool} {hit : Bool}
-      {after : Marks} {kept : List (ℕ × Slots)} {new : List Bool}
+      {b : Moment} {new : List Bool}
       → IsAutomaton nfa → x.start ≤ at → AllAt from at before met items mid
-      → NextsOverlappingGive nfa x at true (length old) met (with_start from 0 at items) mid hit after kept new
-      → AllAt from (at + 1) before after kept new
+      → NextsOverlappingGive nfa x at true (length old) (between met (with_start from 0 at items) []) mid hit b new
+      → AllAt from (at + 1) before b.met b.kept new
   All-next good low a c = record {
-    stands = Stands-next a.stands (Crossed-given _ _ _ c.gives) (wants-match nfa x (length old))
+    stands = Stands-next a.stands c.gives (wants-match nfa x (length old))
         good.numbered.targets_in low (inl refl);
     gains = GainsBefore-step nfa x old wanted tells
-        (Stands-front a.stands (Crossed-given _ _ _ c.gives) (wants-match nfa x (length old)) (inl refl)) a.gains
+        (Stands-front a.stands c.gives (wants-match nfa x (length old)) (inl refl)) a.gains
         c.gathers.capacity c.gathers.gained;
   }
 
@@ -119,48 +119,46 @@ module _ (nfa : Automaton) (x : Search) (old : List Bool) where
       )
 
   pub Earliest-next : (past : Bool) {from : Starts} {at before : ℕ} {met : Marks} {items : List (ℕ × Slots)}
-      {mid : List Bool} {hit : Bool} {after : Marks}
-      {kept : List (ℕ × Slots)} {new : List Bool}
+      {mid : List Bool} {hit : Bool} {b : Moment} {new : List Bool}
       → IsAutomaton nfa → x.start ≤ at → EarliestAt past from at before met items mid
-      → NextsOverlappingGive nfa x at past (length old) met (with_start from 0 at items) mid hit after kept new
+      → NextsOverlappingGive nfa x at past (length old) (between met (with_start from 0 at items) []) mid hit b new
       → hit ≡ false
-      → EarliestAt past from (at + 1) before after kept new
+      → EarliestAt past from (at + 1) before b.met b.kept new
   Earliest-next past {at = at} {mid = mid} {hit = hit} {new = new} good low a c off =
-      let f = Stands-front a.stands (Crossed-given _ _ _ c.gives) (wants-match nfa x (length old)) (inr off) in
+      let f = Stands-front a.stands c.gives (wants-match nfa x (length old)) (inr off) in
       let g : AddsPatterns nfa past wanted c.front old false new =
       subst (λ s. AddsPatterns nfa past wanted c.front s false new) a.still
       (subst (λ h. AddsPatterns nfa past wanted c.front mid h new) off c.gathers) in
       let u = unmet past new a.none f g in
       record {
-        stands = Stands-next a.stands (Crossed-given _ _ _ c.gives) (wants-match nfa x (length old))
+        stands = Stands-next a.stands c.gives (wants-match nfa x (length old))
             good.numbered.targets_in low (inr off);
         still = u.0;
         none = u.1;
       }
 
   pub Earliest-found : (past : Bool) {from : Starts} {at before : ℕ} {met : Marks} {items : List (ℕ × Slots)}
-      {mid : List Bool} {hit : Bool} {after : Marks}
-      {kept : List (ℕ × Slots)} {new : List Bool}
+      {mid : List Bool} {hit : Bool} {b : Moment} {new : List Bool}
       → IsAutomaton nfa → (past ≡ false → size_of_set old ≡ 0) → EarliestAt past from at before met items mid
-      → NextsOverlappingGive nfa x at past (length old) met (with_start from 0 at items) mid hit after kept new
+      → NextsOverlappingGive nfa x at past (length old) (between met (with_start from 0 at items) []) mid hit b new
       → hit ≡ true
       → IsOverlapResult nfa x (cond past AllMatches LeftmostFirst) true old new
   Earliest-found true {mid = mid} {new = new} good empty a c on =
-      let f = Stands-front a.stands (Crossed-given _ _ _ c.gives) (wants-match nfa x (length old)) (inl refl) in
+      let f = Stands-front a.stands c.gives (wants-match nfa x (length old)) (inl refl) in
       let g : AddsAllPatterns nfa wanted c.front old true new =
       subst (λ s. AddsAllPatterns nfa wanted c.front s true new) a.still
       (subst (λ h. AddsAllPatterns nfa wanted c.front mid h new) on c.gathers) in
       let held = g.some refl in
       NoneHeld-found nfa x old wanted tells f a.none held.0 held.1 held.2 g.capacity g.gained
-  Earliest-found false {from} {at} {before} {met} {items} {mid} {hit} {after} {kept} {new} good empty a c on =
+  Earliest-found false {from} {at} {before} {met} {items} {mid} {hit} {b} {new} good empty a c on =
       let g : AddsPatterns nfa false wanted c.front old true new =
       subst (λ s. AddsPatterns nfa false wanted c.front s true new) a.still
       (subst (λ h. AddsPatterns nfa false wanted c.front mid h new) on c.gathers) in
       let put = AddsFirst-some nfa (first_match wanted c.front) old new g in
-      let s = all-left wanted (wants-match nfa x (length old)) (Crossed-given 0 from.state from.limit c.gives)
+      let s = all-left wanted (wants-match nfa x (length old)) 0 from.state from.limit c.gives
       (ScansAll-joined nfa x from at 0 a.stands.scans) in
       let first = FirstAt-front nfa x old wanted tells s
-      (Formed-resting nfa x at after.bits c.front c.gives.formed) put.0 put.1 in
+      (Formed-resting nfa x at b.met.bits c.front c.gives.formed) put.0 put.1 in
       FirstAt-found nfa x old wanted tells a.none first put.2.1 (empty refl) put.2.2
 
   pub Earliest-end : (past : Bool) {from : Starts} {at before : ℕ} {met : Marks} {items : List (ℕ × Slots)}
@@ -176,16 +174,15 @@ module _ (nfa : Automaton) (x : Search) (old : List Bool) where
       (wanted-shape nfa x old wanted tells) a.none ends) true (empty refl))
 
 -- what the position came to, from the items before the start joined
-pub crosses-joined : {nfa : Automaton} {x : Search} {at : ℕ} {past : Bool} {m : ℕ} {met1 : Marks}
-    {items1 : List (ℕ × Slots)} {set : List Bool} {hit : Bool} {after : Marks} {kept : List (ℕ × Slots)}
-    {new : List Bool}
-    (n : ℕ) (met : Marks) (items : List (ℕ × Slots)) → m ≡ n → met1 ≡ met → items1 ≡ items
-    → NextsOverlappingGive nfa x at past m met1 items1 set hit after kept new
-    → NextsOverlappingGive nfa x at past n met items set hit after kept new
-crosses-joined {nfa} {x} {at} {past} {m} {met1} {items1} {set} {hit} {after} {kept} {new} n met items size same i c =
-    subst (λ j. NextsOverlappingGive nfa x at past n met j set hit after kept new) i
-    (subst (λ o. NextsOverlappingGive nfa x at past n o items1 set hit after kept new) same
-    (subst (λ k. NextsOverlappingGive nfa x at past k met1 items1 set hit after kept new) size c))
+pub crosses-joined : {nfa : Automaton} {x : Search} {at : ℕ} {past : Bool} {m : ℕ} {a b : Moment} {set : List Bool}
+    {hit : Bool} {new : List Bool}
+    (n : ℕ) (met : Marks) (items : List (ℕ × Slots)) → m ≡ n → a.met ≡ met → a.kept ≡ items
+    → NextsOverlappingGive nfa x at past m a set hit b new
+    → NextsOverlappingGive nfa x at past n (record a { met = met; kept = items }) set hit b new
+crosses-joined {nfa} {x} {at} {past} {a = a} {b} {set} {hit} {new} n met items size same i c =
+    subst (λ j. NextsOverlappingGive nfa x at past n (record a { met = met; kept = j }) set hit b new) i
+    (subst (λ o. NextsOverlappingGive nfa x at past n (record a { met = o }) set hit b new) same
+    (subst (λ k. NextsOverlappingGive nfa x at past k a set hit b new) size c))
 
 pub All-start : (nfa : Automaton) (x : Search) (from : Starts) → AreStarts nfa x from
     → (met : Marks) (items : List (ℕ × Slots)) (set : List Bool) → items ≡ []

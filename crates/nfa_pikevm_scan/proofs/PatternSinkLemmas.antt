@@ -12,8 +12,7 @@ use Rattle.nfa_paths.specs.Exploring.{Slots}
 use Rattle.nfa_paths.specs.Kinds.{before_match}
 use Rattle.nfa_paths.proofs.StartLemmas.{IsMatch-edges}
 use Rattle.nfa_paths.proofs.SetLemmas.{length-with}
-use Rattle.nfa_scan_core.specs.Marks.{Marks}
-use Rattle.nfa_pikevm_scan.specs.States.{Frontier, moves}
+use Rattle.nfa_pikevm_scan.specs.States.{Frontier, Moment, moves}
 use Rattle.nfa_pikevm_scan.specs.Overlapping.{permits, wants, AddsPatterns, GoesPast, NextsOverlappingGive}
 use Rattle.nfa_pikevm_scan.specs.Sinks.{counts, PatternSinkTakes, Takes, ClosuresGive}
 use Rattle.nfa_pikevm_scan.specs.Sinks.Takes.{none, plain, taken, ends}
@@ -164,23 +163,21 @@ module _ (nfa : Automaton) (x : Search) (at n : ℕ) where
       elim on [ inl e ↦ absurd (cc (b.1, e)) | inr e ↦ absurd (cc (met, e)) ]
 
 -- the result of all states of a position, in terms of the set
-pub NextsOverlappingGive-taken : {nfa : Automaton} {x : Search} {at : ℕ} {met : Marks} {items : List (ℕ × Slots)}
-    {old new : PatternSink} {after : Marks} {kept : List (ℕ × Slots)} → old.met ≡ false
-    → old.permitted ≡ permits nfa x at → All (λ i. length i.1 ≤ 0) items
-    → ClosuresGive nfa x PatternSinkTakes at met items old after kept new
-    → NextsOverlappingGive nfa x at old.past_match (length old.patterns.now) met items old.patterns.now
-    new.met after kept
+pub NextsOverlappingGive-taken : {nfa : Automaton} {x : Search} {at : ℕ} {a b : Moment} {old new : PatternSink}
+    → old.met ≡ false → old.permitted ≡ permits nfa x at → All (λ i. length i.1 ≤ 0) a.kept
+    → ClosuresGive nfa x PatternSinkTakes at a old b new
+    → NextsOverlappingGive nfa x at old.past_match (length old.patterns.now) a old.patterns.now new.met b
     new.patterns.now
-NextsOverlappingGive-taken {nfa} {x} {at} {items = items} {old} {new} fresh may rows a =
+NextsOverlappingGive-taken {nfa} {x} {at} {a} {b} {old} {new} fresh may rows c =
     let n : ℕ = length old.patterns.now in
-    let g = all-gathered nfa x at n a.takes_all (record { passes = refl; may = may; size = refl })
-    a.gives.formed.here in
+    let g = all-gathered nfa x at n c.takes_all (record { passes = refl; may = may; size = refl })
+    c.gives.formed.here in
     let same : new.met ≡ g.0 = g.1 ∙ ap (λ b. g.0 || b) fresh ∙ or-false g.0 in
     record {
-      front = a.front;
-      gives = PositionGives-if (λ on. on-gathered nfa x at n a.takes_all on) a.gives;
-      rows = no-rows items rows;
+      front = c.front;
+      gives = PositionGives-if a.slots b.slots (λ on. on-gathered nfa x at n c.takes_all on) c.gives;
+      rows = no-rows a.kept rows;
       gathers = rw same g.2;
-      cut = λ off. cut-gathered nfa x at n a.takes_all (record { passes = off; may = may; size = refl })
-          a.gives.formed.here;
+      cut = λ off. cut-gathered nfa x at n c.takes_all (record { passes = off; may = may; size = refl })
+          c.gives.formed.here;
     }

@@ -17,108 +17,92 @@ use Rattle.nfa_paths.proofs.OptionLemmas.{same_some}
 use Rattle.nfa_paths.proofs.StartLemmas.{IsMatch-capture}
 use Rattle.nfa_paths.proofs.ScanAnswerLemmas.{edges-onward, seeds-later}
 use Rattle.nfa_paths.proofs.ScanningLemmas.{Searching-cut, Searching-wait, Searching-before_round}
-use Rattle.nfa_scan_core.specs.Marks.{Marks}
-use Rattle.nfa_pikevm_scan.specs.States.{Frontier, between, moves, tasks, unmarked, meant, AreMatchPairs, IsHit, Formed, Paid, SeenAt, SearchingAt, Leads, PositionGives, NextsGive}
+use Rattle.nfa_pikevm_scan.specs.States.{Frontier, Moment, moves, tasks, unmarked, meant, AreMatchPairs, IsHit, SeenAt, SearchingAt, Leads, PositionGives, NextsGive}
 use Rattle.nfa_pikevm_scan.specs.Scans.{blank, starts_from, half_found, AreAt, IsSoFar, IsPaidAt, SearchesFirst, SearchingFrom}
 use Rattle.nfa_pikevm_scan.proofs.TaskLemmas.{starts_from-end, AnswersFor, AnswersFor-round, Searching-for}
 use Rattle.nfa_pikevm_scan.proofs.FrontierLemmas.{Formed-rests, Formed-resting, Formed-next, Formed-below, Formed-over, Paid-few, Paid-next, IsPaidAt-cross}
 use Rattle.nfa_scan_core.proofs.SeenLemmas.{SeenAt-none}
 
--- The result of the states at a position, with the start that joined, for a search or for a scan for a set: a front,
--- whose moves are in memory. All that is left is followed if it `goes` on.
-pub record Crossed (nfa : Automaton) (x : Search) (at width state limit : ℕ) (met : Marks) (items : List (ℕ × Slots))
-    (goes : Type 0) (after : Marks) (kept : List (ℕ × Slots)) (front : Frontier) : Type 0 where
-  pub added : kept ≡ moves (edges nfa x) front
-  pub formed : Formed nfa at after.bits front
-  pub paid : Paid nfa (between (unmarked met) []) (length items) (between after kept) 0
-  pub leads : Leads nfa x at (unmarked met) []
-      (tasks at items (Load (blank width) ∷ starts_from width state (at + 1) limit)) (blank width) goes after front
+module _ {nfa : Automaton} {x : Search} {at : ℕ} {a b : Moment} {front : Frontier} {goes : Type 0}
+    (c : PositionGives nfa x at a goes front b) where
+  -- where it leads, above the later starts of a scan
+  pub Leads-starts : (width state limit : ℕ)
+      → Leads nfa x at (unmarked a.met) []
+      (tasks at a.kept (Load (blank width) ∷ starts_from width state (at + 1) limit)) (blank width) goes b.met front
       (Load (blank width) ∷ starts_from width state (at + 1) limit)
+  Leads-starts width state limit = c.leads (blank width) (blank width) (starts_from width state (at + 1) limit)
 
-pub Crossed-given : {nfa : Automaton} {x : Search} {at : ℕ} (width state limit : ℕ) {met : Marks}
-    {items : List (ℕ × Slots)} {goes : Type 0} {front : Frontier} {after : Marks} {kept : List (ℕ × Slots)}
-    → PositionGives nfa x at met items goes front after kept
-    → Crossed nfa x at width state limit met items goes after kept front
-Crossed-given {at = at} width state limit c = record {
-  added = c.added;
-  formed = c.formed;
-  paid = c.paid;
-  leads = c.leads (blank width) (blank width) (starts_from width state (at + 1) limit);
-}
-
-module _ {nfa : Automaton} {x : Search} {at width state limit : ℕ} {met after : Marks} {items kept : List (ℕ × Slots)}
-    {front : Frontier} {goes : Type 0} (c : Crossed nfa x at width state limit met items goes after kept front) where
   -- at the end nothing is kept
-  pub over-cross : x.end ≤ at → kept ≡ []
-  over-cross past = c.added ∙ Formed-over nfa x at after.bits past front c.formed
+  pub over-cross : x.end ≤ at → b.kept ≡ []
+  over-cross past = c.added ∙ Formed-over nfa x at b.met.bits past front c.formed
 
   -- what is kept for the next position, if at most one start joined
   pub AreAt-cross : All (LeadsBelow (length nfa.states)) nfa.states → {before stood : ℕ} → x.start ≤ at
-      → IsPaidAt nfa x at before met.turns stood → length items ≤ stood + 1
-      → AreAt nfa x (at + 1) before after.turns kept
+      → IsPaidAt nfa x at before a.met.turns stood → length a.kept ≤ stood + 1
+      → AreAt nfa x (at + 1) before b.met.turns b.kept
   AreAt-cross leads {before} {stood} low paid one = record {
-    states = rw c.added (Formed-below nfa x at after.bits leads front c.formed);
-    few = Paid-few nfa x met (length items) after kept c.paid;
+    states = rw c.added (Formed-below nfa x at b.met.bits leads front c.formed);
+    few = Paid-few nfa x a.met (length a.kept) b.met b.kept c.paid;
     over = λ past. over-cross (omega arith);
-    paid = IsPaidAt-cross nfa x at before met.turns stood (length items) after.turns (length kept) low paid one
-        (Paid-next nfa x met (length items) after kept c.paid);
+    paid = IsPaidAt-cross nfa x at before a.met.turns stood (length a.kept) b.met.turns (length b.kept) low paid one
+        (Paid-next nfa x a.met (length a.kept) b.met b.kept c.paid);
   }
 
 -- the first path
 
 module _ (wanted : Pair → Bool) {nfa : Automaton} (sub : AreMatchPairs nfa wanted) {x : Search}
-    {at width state limit : ℕ} {met after : Marks} {items kept : List (ℕ × Slots)} {front : Frontier} {goes : Type 0}
-    {so_far : Hit} (c : Crossed nfa x at width state limit met items goes after kept front)
+    {at : ℕ} (width state limit : ℕ) {a b : Moment} {front : Frontier} {goes : Type 0} {so_far : Hit}
+    (c : PositionGives nfa x at a goes front b)
     (ends : moves (edges nfa x) (before_match wanted front) ≡ moves (edges nfa x) front)
-    (s : SearchingFrom nfa x wanted at width state (at + 1) limit so_far met items) where
+    (s : SearchingFrom nfa x wanted at width state (at + 1) limit so_far a.met a.kept) where
   -- the next position's work is that of what is kept
   kept-work : (waiting : List Task) → AnswersFor (space nfa x) wanted
       (next_tasks (edges nfa x) (before_match wanted front) (Load (blank width) ∷ waiting))
-      (tasks (at + 1) kept (Load (blank width) ∷ waiting))
+      (tasks (at + 1) b.kept (Load (blank width) ∷ waiting))
   kept-work waiting =
       subst (λ (ks : List (ℕ × Slots)). AnswersFor (space nfa x) wanted
       (next_tasks (edges nfa x) (before_match wanted front) (Load (blank width) ∷ waiting))
       (tasks (at + 1) ks (Load (blank width) ∷ waiting))) (ends ∙ sym c.added)
       (AnswersFor-round (space nfa x) wanted at (before_match wanted front) (blank width) waiting
-      (λ a i. Formed-next nfa x at after.bits front c.formed a (before_match-among wanted front a i)))
+      (λ a i. Formed-next nfa x at b.met.bits front c.formed a (before_match-among wanted front a i)))
 
   -- the search at the front
-  front-search : SearchingAt nfa x at wanted (starts nfa x) (blank width) so_far after front c.leads.left
-      c.leads.written
-  front-search = c.leads.follows.leads wanted sub (starts nfa x) (blank width) so_far s
+  front-search : SearchingAt nfa x at wanted (starts nfa x) (blank width) so_far b.met front
+      (Leads-starts c width state limit).left (Leads-starts c width state limit).written
+  front-search = (Leads-starts c width state limit).follows.leads wanted sub (starts nfa x) (blank width) so_far s
 
   -- the states before the first wanted pair go on
   goes-on : {other : Hit} {slots : Slots} (waiting : List Task)
-      → SearchingAt nfa x at wanted (starts nfa x) (blank width) other after (before_match wanted front)
+      → SearchingAt nfa x at wanted (starts nfa x) (blank width) other b.met (before_match wanted front)
       (Load (blank width) ∷ waiting) slots
       → ((k : Pair) → In (Explore k) waiting → at < k.1)
-      → SearchingAt nfa x (at + 1) wanted (starts nfa x) (blank width) other (unmarked after) []
-      (tasks (at + 1) kept (Load (blank width) ∷ waiting)) (blank width)
+      → SearchingAt nfa x (at + 1) wanted (starts nfa x) (blank width) other (unmarked b.met) []
+      (tasks (at + 1) b.kept (Load (blank width) ∷ waiting)) (blank width)
   goes-on waiting before later =
       Searching-for (space nfa x) wanted
-      (Searching-before_round (space nfa x) wanted {After = SeenAt (at + 1) (replicate (length after.bits) false)} front
-      before (edges-onward nfa x) (Formed-rests nfa x at after.bits front c.formed) later
-      (λ v seen. let h : v.1 ≡ at = seen.here in omega arith) (SeenAt-none (at + 1) (length after.bits)) (blank width))
+      (Searching-before_round (space nfa x) wanted {After = SeenAt (at + 1) (replicate (length b.met.bits) false)} front
+      before (edges-onward nfa x) (Formed-rests nfa x at b.met.bits front c.formed) later
+      (λ v seen. let h : v.1 ≡ at = seen.here in omega arith) (SeenAt-none (at + 1) (length b.met.bits)) (blank width))
       (kept-work waiting) (blank width)
 
   -- no match at the position
   pub first-miss : first_match wanted front ≡ None → goes
-      → SearchingFrom nfa x wanted (at + 1) width state (at + 1) limit so_far after kept
+      → SearchingFrom nfa x wanted (at + 1) width state (at + 1) limit so_far b.met b.kept
   first-miss none goes_on =
-      goes-on {slots = c.leads.written} (starts_from width state (at + 1) limit)
-      (rw (before_match-all wanted front none) (rw (c.leads.whole goes_on) at front-search))
+      goes-on {slots = (Leads-starts c width state limit).written} (starts_from width state (at + 1) limit)
+      (rw (before_match-all wanted front none) (rw ((Leads-starts c width state limit).whole goes_on) at front-search))
       (seeds-later (blank width) state at (limit - (at + 1)))
 
   -- a match at the position
-  pub first-hit : (a : Pair × Slots) → first_match wanted front ≡ Some a
-      → SearchingAt nfa x (at + 1) wanted (starts nfa x) (blank width) (Some a) (unmarked after) []
-      (tasks (at + 1) kept (Load (blank width) ∷ [])) (blank width)
-  first-hit a some =
-      let h = first_match-cut wanted front a some in
-      let split = subst (λ (f : Frontier). SearchingAt nfa x at wanted (starts nfa x) (blank width) so_far after
-      f c.leads.left c.leads.written) h.split front-search in
-      let cut = Searching-cut (space nfa x) wanted (before_match wanted front) a
-      h.after split h.matches (IsMatch-capture nfa a.0 (sub a.0 h.matches)) in
+  pub first-hit : (v : Pair × Slots) → first_match wanted front ≡ Some v
+      → SearchingAt nfa x (at + 1) wanted (starts nfa x) (blank width) (Some v) (unmarked b.met) []
+      (tasks (at + 1) b.kept (Load (blank width) ∷ [])) (blank width)
+  first-hit v some =
+      let h = first_match-cut wanted front v some in
+      let split = subst (λ (f : Frontier). SearchingAt nfa x at wanted (starts nfa x) (blank width) so_far b.met
+      f (Leads-starts c width state limit).left (Leads-starts c width state limit).written) h.split front-search in
+      let cut = Searching-cut (space nfa x) wanted (before_match wanted front) v
+      h.after split h.matches (IsMatch-capture nfa v.0 (sub v.0 h.matches)) in
       goes-on [] (Searching-wait (space nfa x) wanted (blank width) cut) (λ k i. absurd i)
 
 -- a match that ends at a position
@@ -133,62 +117,60 @@ EndsAt-none at (Some p) None e none = cc
 EndsAt-none at (Some p) (Some m) e none = cc
 
 -- a half match is the match that is meant
-pub match-cross : {nfa : Automaton} {x : Search} {at : ℕ} {past : Bool} {met : Marks} {items : List (ℕ × Slots)}
-    {slots : Slots} {hit : Option PatternID} {after : Marks} {kept : List (ℕ × Slots)} {written : Slots}
-    (c : NextsGive nfa x at past met items slots hit after kept written) (half : Option HalfMatch) → EndsAt at hit half
-    → is_some half ≡ true → (v : Pair) × (meant past (is_match nfa) c.front ≡ Some (v, written))
-    × IsSoFar nfa x half written (Some (v, written))
-match-cross {nfa} {x} {at} {past} {slots = slots} {hit} {after} {written = written} c half is some =
+pub match-cross : {nfa : Automaton} {x : Search} {at : ℕ} {past : Bool} {a b : Moment}
+    {hit : Option PatternID} (c : NextsGive nfa x at past a hit b) (half : Option HalfMatch) → EndsAt at hit half
+    → is_some half ≡ true → (v : Pair) × (meant past (is_match nfa) c.front ≡ Some (v, b.slots))
+    × IsSoFar nfa x half b.slots (Some (v, b.slots))
+match-cross {nfa} {x} {at} {past} {a} {b} {hit} c half is some =
     of hit c.is_hit half is some
   where
-    among : (p : Bool) (v : Pair) → meant p (is_match nfa) c.front ≡ Some (v, written) → In (v, written) c.front
+    among : (p : Bool) (v : Pair) → meant p (is_match nfa) c.front ≡ Some (v, b.slots) → In (v, b.slots) c.front
     among true v e = elim (last_match-is (is_match nfa) None c.front) [
       | inl h ↦ absurd (cc (h.0, e))
-      | inr h ↦ subst (λ (a : Pair × Slots). In a c.front) (same_some h.0 (v, written) (sym h.1 ∙ e))
+      | inr h ↦ subst (λ (a : Pair × Slots). In a c.front) (same_some h.0 (v, b.slots) (sym h.1 ∙ e))
           (rw h.2.split (In-middle h.2.before h.0 h.2.after))
     ]
-    among false v e = (first_match-cut (is_match nfa) c.front (v, written) e).among
+    among false v e = (first_match-cut (is_match nfa) c.front (v, b.slots) e).among
 
-    of : (o : Option PatternID) → IsHit nfa (meant past (is_match nfa) c.front) slots o written
+    of : (o : Option PatternID) → IsHit nfa (meant past (is_match nfa) c.front) a.slots o b.slots
         → (m : Option HalfMatch) → EndsAt at o m → is_some m ≡ true
-        → (v : Pair) × (meant past (is_match nfa) c.front ≡ Some (v, written))
-        × IsSoFar nfa x m written (Some (v, written))
+        → (v : Pair) × (meant past (is_match nfa) c.front ≡ Some (v, b.slots))
+        × IsSoFar nfa x m b.slots (Some (v, b.slots))
     of None h None e some = cc
     of None h (Some m) e some = cc
     of (Some p) h None e some = cc
     of (Some p) h (Some m) e some =
         let same : half_found_of m ≡ half_found (number_of p) at = cc in
-        let r = Formed-resting nfa x at after.bits c.front c.gives.formed (h.0, written) (among past h.0 h.1) in
+        let r = Formed-resting nfa x at b.met.bits c.front c.gives.formed (h.0, b.slots) (among past h.0 h.1) in
         let offset : (half_found_of m).offset ≡ at = ap (λ (f : HalfFound). f.offset) same in
         let number : (half_found_of m).pattern ≡ number_of p = ap (λ (f : HalfFound). f.pattern) same in
         let here : h.0.1 ≡ (half_found_of m).offset = r.1 ∙ sym offset in
-        (h.0, h.1, (h.0.0, ap (λ (n : ℕ). Some ((h.0.0, n), written)) here, h.2 ∙ ap Some (sym number)))
+        (h.0, h.1, (h.0.0, ap (λ (n : ℕ). Some ((h.0.0, n), b.slots)) here, h.2 ∙ ap Some (sym number)))
 
-module _ (nfa : Automaton) (x : Search) (at width state limit : ℕ) {met : Marks} {items : List (ℕ × Slots)}
-    {slots : Slots} {hit : Option PatternID} {after : Marks} {kept : List (ℕ × Slots)} {written : Slots} {so_far : Hit}
-    (c : NextsGive nfa x at false met items slots hit after kept written)
-    (s : SearchingFrom nfa x (is_match nfa) at width state (at + 1) limit so_far met items) where
+module _ (nfa : Automaton) (x : Search) (at width state limit : ℕ) {a b : Moment} {hit : Option PatternID}
+    {so_far : Hit} (c : NextsGive nfa x at false a hit b)
+    (s : SearchingFrom nfa x (is_match nfa) at width state (at + 1) limit so_far a.met a.kept) where
   -- a position with no match
-  pub SearchesFirst-miss : {found : Option HalfMatch} → IsSoFar nfa x found slots so_far → hit ≡ None
-      → SearchesFirst nfa x (at + 1) width state limit found written after kept
+  pub SearchesFirst-miss : {found : Option HalfMatch} → IsSoFar nfa x found a.slots so_far → hit ≡ None
+      → SearchesFirst nfa x (at + 1) width state limit found b.slots b.met b.kept
   SearchesFirst-miss {found} is_so_far none =
       let h = rw none at c.is_hit in
       record {
         so_far = so_far;
         is_so_far = subst (λ (k : Slots). IsSoFar nfa x found k so_far) (sym h.1) is_so_far;
-        searching = first-miss (is_match nfa) (λ v t. t) (Crossed-given width state limit c.gives) (c.cut refl) s h.0
+        searching = first-miss (is_match nfa) (λ v t. t) width state limit c.gives (c.cut refl) s h.0
             (inr none);
       }
 
   -- a position with a match: no start is left
   pub SearchesFirst-match : (half : Option HalfMatch) → EndsAt at hit half → is_some half ≡ true
-      → SearchesFirst nfa x (at + 1) width state 0 half written after kept
+      → SearchesFirst nfa x (at + 1) width state 0 half b.slots b.met b.kept
   SearchesFirst-match half is some =
       let h = match-cross c half is some in
       let later : 0 ≤ at + 1 = omega arith in
       record {
-        so_far = Some (h.0, written);
+        so_far = Some (h.0, b.slots);
         is_so_far = h.2;
         searching = rw (starts_from-end width state later) (first-hit (is_match nfa) (λ v t. t)
-            (Crossed-given width state limit c.gives) (c.cut refl) s (h.0, written) h.1);
+            width state limit c.gives (c.cut refl) s (h.0, b.slots) h.1);
       }

@@ -1,5 +1,5 @@
 -- The matches of a front, taken in order.
-use Rattle.std.proofs.Common.{◌≡◌, ℕ, inl, inr, Bool, true, false, List, [], ◌∷◌, ◌++◌, refl, sym, subst, Some, None}
+use Rattle.std.proofs.Common.{◌≡◌, ℕ, inl, inr, Bool, true, false, [], ◌∷◌, ◌++◌, refl, sym, subst, Some, None}
 use Rattle.std.proofs.lemmas.Bool.{false_from_ne_true}
 use Rattle.regex_search_core.specs.Search.{Search}
 use Rattle.regex_search_core.specs.Patterns.{number_of}
@@ -10,8 +10,7 @@ use Rattle.nfa_paths.specs.Paths.{node_at, pattern_of, is_match}
 use Rattle.nfa_paths.specs.Exploring.{Slots}
 use Rattle.nfa_paths.specs.Kinds.{NoMatch, first_match}
 use Rattle.nfa_paths.proofs.FrontierMatchLemmas.{first_match-is, first_match-cut}
-use Rattle.nfa_scan_core.specs.Marks.{Marks}
-use Rattle.nfa_pikevm_scan.specs.States.{Frontier, EndsInMatch, PositionGives}
+use Rattle.nfa_pikevm_scan.specs.States.{Frontier, Moment, EndsInMatch, PositionGives}
 use Rattle.nfa_pikevm_scan.specs.Sinks.{Takes}
 use Rattle.nfa_pikevm_scan.specs.Sinks.Takes.{none, plain, taken, ends}
 
@@ -52,15 +51,15 @@ module _ {V : Type 0} {nfa : Automaton} {takes : V → PatternID → Slots → B
       subst (λ f. Takes nfa takes f v ended w) (sym e.3)
       (Takes-then (Takes-none e.0 v e.2) (takes-one ended pattern e.4 (rw same at t)))
 
--- a position that goes on in fewer cases
-pub PositionGives-if : {nfa : Automaton} {x : Search} {at : ℕ} {met : Marks} {items : List (ℕ × Slots)}
-    {goes fewer : Type 0} {front : Frontier} {after : Marks} {kept : List (ℕ × Slots)} → (fewer → goes)
-    → PositionGives nfa x at met items goes front after kept → PositionGives nfa x at met items fewer front after kept
-PositionGives-if goes_on g = record {
+-- a position that goes on in fewer cases, whatever the slots
+pub PositionGives-if : {nfa : Automaton} {x : Search} {at : ℕ} {a b : Moment} {goes fewer : Type 0} {front : Frontier}
+    (slots written : Slots) → (fewer → goes) → PositionGives nfa x at a goes front b
+    → PositionGives nfa x at (record a { slots = slots }) fewer front (record b { slots = written })
+PositionGives-if slots written goes_on g = record {
   added = g.added;
   formed = g.formed;
   paid = g.paid;
-  leads = λ current old waiting.
-      let l = g.leads current old waiting in
+  leads = λ current below waiting.
+      let l = g.leads current below waiting in
       record { left = l.left; written = l.written; follows = l.follows; whole = λ on. l.whole (goes_on on) };
 }

@@ -1,13 +1,12 @@
 -- What the last row is when the matches of a position were taken.
-use Rattle.std.proofs.Common.{◌≡◌, ℕ, inl, inr, Bool, true, false, List, [], ◌++◌, map, refl, sym, ap, ◌∙◌, subst, None, Some, not}
+use Rattle.std.proofs.Common.{◌≡◌, ℕ, inl, inr, Bool, true, false, [], ◌++◌, map, refl, sym, ap, ◌∙◌, subst, None, Some, not}
 use Rattle.regex_search_core.specs.Search.{Search}
 use Rattle.thompson_nfa.specs.Automaton.{Automaton}
 use Rattle.nfa_paths.specs.Paths.{edges, is_match}
 use Rattle.nfa_paths.specs.Exploring.{Slots, Hit}
 use Rattle.nfa_paths.specs.Kinds.{first_match, before_match, last_match}
 use Rattle.nfa_paths.proofs.StartLemmas.{IsMatch-edges}
-use Rattle.nfa_scan_core.specs.Marks.{Marks}
-use Rattle.nfa_pikevm_scan.specs.States.{Frontier, moves, meant, IsHit, GoesOn, NextsGive}
+use Rattle.nfa_pikevm_scan.specs.States.{Frontier, Moment, moves, meant, IsHit, GoesOn, NextsGive}
 use Rattle.nfa_pikevm_scan.specs.Sinks.{SlotsSinkTakes, Takes, ClosuresGive}
 use Rattle.nfa_pikevm_scan.specs.Sinks.Takes.{none, plain, taken, ends}
 use Rattle.nfa_pikevm_scan.specs.declared.sink.SlotsSink.{SlotsSink}
@@ -81,14 +80,13 @@ module _ (nfa : Automaton) where
   on-taken (ends p is k) on = elim on [ inl e ↦ goes k.ends e | inr e ↦ absurd (cc (k.hit, e)) ]
 
 -- the result of all states of a position, as the match that is meant
-pub NextsGive-taken : {nfa : Automaton} {x : Search} {at : ℕ} {met : Marks} {items : List (ℕ × Slots)}
-    {old new : SlotsSink}
-    {after : Marks} {kept : List (ℕ × Slots)} → old.hit ≡ None
-    → ClosuresGive nfa x SlotsSinkTakes at met items old after kept new
-    → NextsGive nfa x at old.past_match met items old.slots.now new.hit after kept new.slots.now
-NextsGive-taken {nfa} {x} {old = old} fresh a = record {
-  front = a.front;
-  gives = PositionGives-if (λ on. on-taken nfa a.takes_all on) a.gives;
-  is_hit = meant-taken nfa old.past_match a.takes_all refl fresh;
-  cut = cut-taken nfa x a.takes_all;
+pub NextsGive-taken : {nfa : Automaton} {x : Search} {at : ℕ} {a b : Moment} {old new : SlotsSink} → old.hit ≡ None
+    → ClosuresGive nfa x SlotsSinkTakes at a old b new
+    → NextsGive nfa x at old.past_match (record a { slots = old.slots.now }) new.hit
+    (record b { slots = new.slots.now })
+NextsGive-taken {nfa} {x} {old = old} {new} fresh c = record {
+  front = c.front;
+  gives = PositionGives-if old.slots.now new.slots.now (λ on. on-taken nfa c.takes_all on) c.gives;
+  is_hit = meant-taken nfa old.past_match c.takes_all refl fresh;
+  cut = cut-taken nfa x c.takes_all;
 }

@@ -8,11 +8,12 @@ use Rattle.nfa_paths.specs.Exploring.{Slots}
 use Rattle.nfa_paths.specs.Overlaps.{IsOverlapResult}
 use Rattle.nfa_scan_core.specs.Marks.{Marks}
 use Rattle.nfa_pikevm_scan.specs.Scans.{with_start, AreStarts, AreAt, max_scan_turns}
+use Rattle.nfa_pikevm_scan.specs.States.{Moment, between}
 use Rattle.nfa_pikevm_scan.specs.Overlapping.{NextsOverlappingGive}
 use Rattle.nfa_pikevm_scan.specs.declared.scan.Starts.{Starts}
 use Rattle.nfa_pikevm_scan.proofs.RoomLemmas.{AreAt-none, few-joined}
 use Rattle.nfa_pikevm_scan.proofs.FrontierLemmas.{AreAt-turns}
-use Rattle.nfa_pikevm_scan.proofs.ScanLemmas.{Crossed-given, AreAt-cross}
+use Rattle.nfa_pikevm_scan.proofs.ScanLemmas.{AreAt-cross}
 use Rattle.nfa_pikevm_scan.proofs.EndLemmas.{ScansAll-over}
 use Rattle.nfa_pikevm_scan.proofs.OverlapSetLemmas.{wants-match}
 use Rattle.nfa_pikevm_scan.proofs.OverlapLoopLemmas.{AllAt, All-start, All-next, All-full, All-over, EarliestAt, Earliest-start, Earliest-next, Earliest-found, Earliest-end}
@@ -70,22 +71,21 @@ module _ (nfa : Automaton) (x : Search) (old : List Bool) where
 
   module _ (good : IsAutomaton nfa) {past earliest : Bool} (empty : past ≡ false → size_of_set old ≡ 0) {from : Starts}
       {at before : ℕ} (low : x.start ≤ at) {met : Marks} {items : List (ℕ × Slots)} {mid : List Bool}
-      (s : SoFar past earliest from at before met items mid) {hit : Bool} {after : Marks} {kept : List (ℕ × Slots)}
-      {new : List Bool}
-      (c : NextsOverlappingGive nfa x at past (length old) met (with_start from 0 at items) mid hit after
-      kept new) where
+      (s : SoFar past earliest from at before met items mid) {hit : Bool} {b : Moment} {new : List Bool}
+      (c : NextsOverlappingGive nfa x at past (length old) (between met (with_start from 0 at items) []) mid hit b
+      new) where
     -- the states at the next position
-    states : AreAt nfa x (at + 1) before after.turns kept
-    states = AreAt-cross (Crossed-given 0 from.state from.limit c.gives) good.numbered.targets_in low s.states.paid
+    states : AreAt nfa x (at + 1) before b.met.turns b.kept
+    states = AreAt-cross c.gives good.numbered.targets_in low s.states.paid
         (few-joined from 0 at items)
 
     -- the turns, if the scan ends at the position
-    pub SoFar-turns : at ≤ x.end → after.turns ≤ before + max_scan_turns nfa x
+    pub SoFar-turns : at ≤ x.end → b.met.turns ≤ before + max_scan_turns nfa x
     SoFar-turns high = AreAt-turns nfa x (omega arith) (omega arith) states
 
     -- the next position
     pub SoFar-next : (hit ≡ true → earliest ≡ false)
-        → SoFar past earliest (record from { limit = cond (hit && not past) 0 from.limit }) (at + 1) before after kept
+        → SoFar past earliest (record from { limit = cond (hit && not past) 0 from.limit }) (at + 1) before b.met b.kept
         new
     SoFar-next on =
         let k = of past earliest hit empty on s.known c in
@@ -93,14 +93,15 @@ module _ (nfa : Automaton) (x : Search) (old : List Bool) where
           states = states;
           known = k;
           size = capacity past earliest (record from { limit = cond (hit && not past) 0 from.limit }) (at + 1) before
-              after kept new k;
+              b.met b.kept new k;
         }
       where
         of : (past earliest hit : Bool) → (past ≡ false → size_of_set old ≡ 0) → (hit ≡ true → earliest ≡ false)
             → Known past earliest from at before met items mid
-            → NextsOverlappingGive nfa x at past (length old) met (with_start from 0 at items) mid hit after kept new
-            → Known past earliest (record from { limit = cond (hit && not past) 0 from.limit }) (at + 1) before after
-            kept new
+            → NextsOverlappingGive nfa x at past (length old) (between met (with_start from 0 at items) []) mid hit b
+            new
+            → Known past earliest (record from { limit = cond (hit && not past) 0 from.limit }) (at + 1) before b.met
+            b.kept new
         of past true true empty on k c = let never : true ≡ false = on refl in absurd (cc never)
         of past true false empty on k c = Earliest-next nfa x old past good low k c refl
         of true false true empty on k c = All-next nfa x old good low k c
@@ -116,7 +117,8 @@ module _ (nfa : Automaton) (x : Search) (old : List Bool) where
         of : (past earliest : Bool) → (past ≡ false → size_of_set old ≡ 0)
             → (earliest ≡ true) ⊎ (size_of_set new ≡ length new)
             → Known past earliest from at before met items mid
-            → NextsOverlappingGive nfa x at past (length old) met (with_start from 0 at items) mid hit after kept new
+            → NextsOverlappingGive nfa x at past (length old) (between met (with_start from 0 at items) []) mid hit b
+            new
             → IsOverlapResult nfa x (cond past AllMatches LeftmostFirst) earliest old new
         of past true empty over k c = Earliest-found nfa x old past good empty k c on
         of true false empty over k c = elim over [

@@ -7,11 +7,11 @@ use Rattle.nfa_paths.specs.Paths.{space, is_match}
 use Rattle.nfa_paths.specs.Exploring.{Slots}
 use Rattle.nfa_paths.specs.Kinds.{is_resting, IsFrontier}
 use Rattle.nfa_scan_core.specs.Marks.{Marks}
-use Rattle.nfa_pikevm_scan.specs.States.{Frontier, AreMatchPairs}
+use Rattle.nfa_pikevm_scan.specs.States.{Frontier, Moment, between, AreMatchPairs, PositionGives}
 use Rattle.nfa_pikevm_scan.specs.Scans.{blank, with_start, AreStarts, AreAt, JoinsStart, KeepsThreads, MayCross, ScansAll, MayScan}
 use Rattle.nfa_pikevm_scan.specs.declared.scan.Starts.{Starts}
 use Rattle.nfa_pikevm_scan.proofs.RoomLemmas.{AreAt-none, HaveRows-kept, KeepsThreads-then, below-joined, few-joined}
-use Rattle.nfa_pikevm_scan.proofs.ScanLemmas.{Crossed, AreAt-cross}
+use Rattle.nfa_pikevm_scan.proofs.ScanLemmas.{AreAt-cross}
 use Rattle.nfa_pikevm_scan.proofs.AllLemmas.{all-front, ScansAll-next}
 use Rattle.nfa_pikevm_scan.proofs.EndLemmas.{ScansAll-begin, ScansAll-joined}
 use Rattle.nfa_pikevm_scan.specs.declared.threads.Threads.{Threads}
@@ -52,23 +52,25 @@ MayCross-joins {from = from} {slots} {at} {old = old} ready keeps none a j state
 }
 
 module _ {nfa : Automaton} {x : Search} {wanted : Pair → Bool} {width : ℕ} {from : Starts} {at before : ℕ}
-    {met after : Marks} {items kept : List (ℕ × Slots)} {front : Frontier} {goes : Type 0}
+    {met : Marks} {items : List (ℕ × Slots)} {slots : Slots} {b : Moment} {front : Frontier} {goes : Type 0}
     (s : Stands nfa x wanted width from at before met items)
-    (c : Crossed nfa x at width from.state from.limit met (with_start from width at items) goes after kept front) where
+    (c : PositionGives nfa x at (between met (with_start from width at items) slots) goes front b) where
   -- the states at the next position
   pub Stands-states : All (LeadsBelow (length nfa.states)) nfa.states → x.start ≤ at
-      → AreAt nfa x (at + 1) before after.turns kept
+      → AreAt nfa x (at + 1) before b.met.turns b.kept
   Stands-states leads low = AreAt-cross c leads low s.states.paid (few-joined from width at items)
 
   -- the next position, if the whole position was followed
   pub Stands-next : AreMatchPairs nfa wanted → All (LeadsBelow (length nfa.states)) nfa.states → x.start ≤ at → goes
-      → Stands nfa x wanted width from (at + 1) before after kept
+      → Stands nfa x wanted width from (at + 1) before b.met b.kept
   Stands-next sub leads low goes_on = record {
     states = Stands-states leads low;
-    scans = ScansAll-next wanted sub c (ScansAll-joined nfa x from at width s.scans) goes_on;
+    scans = ScansAll-next wanted sub width from.state from.limit c (ScansAll-joined nfa x from at width s.scans)
+        goes_on;
   }
 
   -- the front of a position that was followed whole
   pub Stands-front : AreMatchPairs nfa wanted → goes
-      → IsFrontier (space nfa x) (is_resting nfa) wanted (blank width) after.turns front at
-  Stands-front sub goes_on = all-front wanted sub c (ScansAll-joined nfa x from at width s.scans) goes_on
+      → IsFrontier (space nfa x) (is_resting nfa) wanted (blank width) b.met.turns front at
+  Stands-front sub goes_on =
+      all-front wanted sub width from.state from.limit c (ScansAll-joined nfa x from at width s.scans) goes_on

@@ -5,11 +5,10 @@ use Rattle.regex_search_core.specs.Search.{Search}
 use Rattle.thompson_nfa.specs.Automaton.{Automaton}
 use Rattle.nfa_paths.specs.Graphs.{Pair}
 use Rattle.nfa_paths.specs.Paths.{edges, is_utf8_empty}
-use Rattle.nfa_paths.specs.Exploring.{Slots, Hit}
+use Rattle.nfa_paths.specs.Exploring.{Hit}
 use Rattle.nfa_paths.specs.Kinds.{HoldsMatch, first_match, before_match}
 use Rattle.nfa_paths.specs.Overlaps.{HoldsPattern, pattern_at}
-use Rattle.nfa_scan_core.specs.Marks.{Marks}
-use Rattle.nfa_pikevm_scan.specs.States.{Frontier, moves, PositionGives}
+use Rattle.nfa_pikevm_scan.specs.States.{Frontier, Moment, moves, PositionGives}
 
 -- whether the position does not split a codepoint
 abbrev pub is_boundary : List ℕ → ℕ → Bool
@@ -57,11 +56,10 @@ GoesPast past met = (past ≡ true) ⊎ (met ≡ false)
 module _ (nfa : Automaton) (x : Search) where
   -- For a set of capacity n: the result of following all states at a position, with rows of no slots, and what the set
   -- gains from the front.
-  pub record NextsOverlappingGive (at : ℕ) (past : Bool) (n : ℕ) (met : Marks) (items : List (ℕ × Slots))
-      (set : List Bool)
-      (hit : Bool) (after : Marks) (kept : List (ℕ × Slots)) (gathered : List Bool) : Type 0 where
+  pub record NextsOverlappingGive (at : ℕ) (past : Bool) (n : ℕ) (old : Moment) (set : List Bool) (hit : Bool)
+      (new : Moment) (gathered : List Bool) : Type 0 where
     pub front : Frontier
-    pub gives : PositionGives nfa x at met items (GoesPast past hit) front after kept
-    pub rows : All (λ i. i.1 ≡ []) items
+    pub gives : PositionGives nfa x at old (GoesPast past hit) front new
+    pub rows : All (λ i. i.1 ≡ []) old.kept
     pub gathers : AddsPatterns nfa past (wants nfa x n) front set hit gathered
     pub cut : past ≡ false → moves (edges nfa x) (before_match (wants nfa x n) front) ≡ moves (edges nfa x) front

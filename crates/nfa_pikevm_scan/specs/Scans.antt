@@ -15,7 +15,7 @@ use Rattle.nfa_scan_core.specs.Marks.{Marks}
 use Rattle.nfa_pikevm_scan.specs.Needs.{stack_frames}
 use Rattle.nfa_pikevm_scan.specs.declared.scan.Starts.{Starts}
 use Rattle.nfa_pikevm_scan.specs.declared.threads.Threads.{Threads}
-use Rattle.nfa_pikevm_scan.specs.States.{tasks, unmarked, SeenAt, SearchingAt}
+use Rattle.nfa_pikevm_scan.specs.States.{between, tasks, unmarked, Moment, SeenAt, SearchingAt}
 
 -- a row with no slot set
 abbrev pub blank : ℕ → Slots
@@ -95,6 +95,10 @@ pub record MayScan (nfa : Automaton) (x : Search) (starts_at : Starts) (slots : 
   pub room : HaveRows nfa (length slots) t
   pub curr : t.curr.items ≡ []
   pub next : t.reached.next.items ≡ []
+
+-- what the threads hold between two positions, with these slots
+abbrev pub held : Threads → Slots → Moment
+held t slots = between t.reached.seen t.curr.items slots
 
 -- the states at a position with the start after them, if it may still join
 abbrev pub with_start : Starts → ℕ → ℕ → List (ℕ × Slots) → List (ℕ × Slots)

@@ -9,7 +9,6 @@ use Rattle.nfa_paths.specs.Graphs.{Pair}
 use Rattle.nfa_paths.specs.Paths.{node_at, pattern_of, edges, is_match}
 use Rattle.nfa_paths.specs.Exploring.{Slots, Task}
 use Rattle.nfa_paths.specs.Exploring.Task.{Explore as ToExplore, Load as ToLoad}
-use Rattle.nfa_scan_core.specs.Marks.{Marks}
 use Rattle.nfa_pikevm_scan.specs.States.{Frontier, Moment, moves, work_onto, Formed, Paid, Leads, PositionGives}
 use Rattle.nfa_pikevm_scan.specs.declared.sink.SlotsSink.{SlotsSink}
 use Rattle.nfa_pikevm_scan.specs.declared.overlap.PatternSink.{PatternSink}
@@ -65,9 +64,8 @@ module _ (nfa : Automaton) (x : Search) {V : Type 0} (takes : V → PatternID �
           before.slots (ended ≡ false) after.met (f ++ front) (ToLoad below ∷ work)
 
   -- The same for all states at a position, with no marks before.
-  pub record ClosuresGive (at : ℕ) (met : Marks) (items : List (ℕ × Slots)) (old : V)
-      (after : Marks) (kept : List (ℕ × Slots)) (new : V) : Type 0 where
+  pub record ClosuresGive (at : ℕ) (before : Moment) (old : V) (after : Moment) (new : V) : Type 0 where
     pub front : Frontier
     pub ended : Bool
-    pub gives : PositionGives nfa x at met items (ended ≡ false) front after kept
+    pub gives : PositionGives nfa x at before (ended ≡ false) front after
     pub takes_all : Takes nfa takes front old ended new

@@ -52,9 +52,9 @@ pub record Moment : Type 0 where
 abbrev pub moment_of : ClosureOutput → List FollowEpsilon → Slots → Moment
 moment_of reached stack slots = record { met = reached.seen; kept = reached.next.items; stack = stack; slots = slots }
 
--- what is held between two states that are followed: no frame and no slots
-abbrev pub between : Marks → List (ℕ × Slots) → Moment
-between met kept = record { met = met; kept = kept; stack = []; slots = [] }
+-- what is held with no frame: before a state is followed, and between two positions
+abbrev pub between : Marks → List (ℕ × Slots) → Slots → Moment
+between met kept slots = record { met = met; kept = kept; stack = []; slots = slots }
 
 -- the work that a frame leaves at the position
 abbrev pub work_item_of : ℕ → FollowEpsilon → Task
@@ -261,23 +261,21 @@ module _ (nfa : Automaton) (x : Search) where
     pub follows : Follows at met before work slots after front left written
     pub whole : goes_on → left ≡ rest
 
-  -- The result of following the states at a position, with no marks before: a front, whose moves are in memory. All
-  -- that is left is followed if the position `goes_on`.
-  pub record PositionGives (at : ℕ) (met : Marks) (items : List (ℕ × Slots)) (goes_on : Type 0) (front : Frontier)
-      (after : Marks) (kept : List (ℕ × Slots)) : Type 0 where
-    pub added : kept ≡ moves (edges nfa x) front
-    pub formed : Formed nfa at after.bits front
-    pub paid : Paid nfa (between (unmarked met) []) (length items) (between after kept) 0
-    pub leads : (current old : Slots) (waiting : List Task)
-        → Leads at (unmarked met) [] (tasks at items (ToLoad old ∷ waiting)) current goes_on after front
-        (ToLoad old ∷ waiting)
+  -- The result of following the states that are kept for a position, with no marks before: a front, whose moves are in
+  -- memory. All that is left is followed if the position `goes_on`.
+  pub record PositionGives (at : ℕ) (old : Moment) (goes_on : Type 0) (front : Frontier) (new : Moment) : Type 0 where
+    pub added : new.kept ≡ moves (edges nfa x) front
+    pub formed : Formed nfa at new.met.bits front
+    pub paid : Paid nfa (between (unmarked old.met) [] []) (length old.kept) (between new.met new.kept []) 0
+    pub leads : (current below : Slots) (waiting : List Task)
+        → Leads at (unmarked old.met) [] (tasks at old.kept (ToLoad below ∷ waiting)) current goes_on new.met front
+        (ToLoad below ∷ waiting)
 
   -- The same with the match of the front that is meant. Without `past` nothing after the first match is kept.
-  pub record NextsGive (at : ℕ) (past : Bool) (met : Marks) (items : List (ℕ × Slots)) (slots : Slots)
-      (hit : Option PatternID) (after : Marks) (kept : List (ℕ × Slots)) (written : Slots) : Type 0 where
+  pub record NextsGive (at : ℕ) (past : Bool) (old : Moment) (hit : Option PatternID) (new : Moment) : Type 0 where
     pub front : Frontier
-    pub gives : PositionGives at met items (GoesOn past hit) front after kept
-    pub is_hit : IsHit nfa (meant past (is_match nfa) front) slots hit written
+    pub gives : PositionGives at old (GoesOn past hit) front new
+    pub is_hit : IsHit nfa (meant past (is_match nfa) front) old.slots hit new.slots
     pub cut : past ≡ false → moves (edges nfa x) (before_match (is_match nfa) front) ≡ moves (edges nfa x) front
 
 -- The same, for what is reached from the place of a scan.

@@ -3,9 +3,9 @@ ghost use Rattle.std.specs.Prelude.{◌≡◌, ◌*◌, ◌<◌, ◌≤◌, [], 
 ghost use Rattle.regex_search_core.specs.Search.{search_of};
 ghost use Rattle.nfa_scan_core.specs.FirstBytes.{IsRefused};
 ghost use Rattle.nfa_pikevm_scan.specs.Rows.{items_of};
-ghost use Rattle.nfa_pikevm_scan.specs.States.{IsClosureContext, KeepsRoom, MayFollow, NextsGive};
+ghost use Rattle.nfa_pikevm_scan.specs.States.{between, moment_of, IsClosureContext, KeepsRoom, MayFollow, NextsGive};
 ghost use Rattle.nfa_pikevm_scan.specs.Sinks.{ClosuresGive};
-ghost use Rattle.nfa_pikevm_scan.specs.Scans.{blank, HaveRows, KeepsThreads, MayCross, SameSizes};
+ghost use Rattle.nfa_pikevm_scan.specs.Scans.{blank, held, HaveRows, KeepsThreads, MayCross, SameSizes};
 
 use crate::active::Parts;
 use crate::closure::{ClosureContext, ClosureOutput, epsilon_closure, next_match};
@@ -64,9 +64,9 @@ fn nexts_of_states<T: MatchSink>(
     ensures grows { reached.old.seen.turns ≤ reached.new.seen.turns }
     ensures width { T.row_width sink.new ≡ T.row_width sink.old }
     ensures same_reference { T.reference sink.new ≡ T.reference sink.old }
-    ensures arrive { ClosuresGive here.now.nfa.now (search_of here.now.input.now) T.takes here.now.at reached.old.seen
-        (items_of (T.row_width sink.old) kept.now rows.old) sink.old reached.new.seen reached.new.next.items
-        sink.new }
+    ensures arrive { ClosuresGive here.now.nfa.now (search_of here.now.input.now) T.takes here.now.at
+        (between reached.old.seen (items_of (T.row_width sink.old) kept.now rows.old) []) sink.old
+        (moment_of reached.new [] []) sink.new }
 {
     let width = sink.width();
     let mut start = 0;
@@ -94,8 +94,8 @@ pub fn nexts_with<T: MatchSink>(
     ensures keeps { KeepsThreads threads.old threads.new }
     ensures grows { threads.old.reached.seen.turns ≤ threads.new.reached.seen.turns }
     ensures same_reference { T.reference sink.new ≡ T.reference sink.old }
-    ensures arrive { ClosuresGive nfa.now (search_of input.now) T.takes at threads.old.reached.seen
-        threads.old.curr.items sink.old threads.new.reached.seen threads.new.reached.next.items sink.new }
+    ensures arrive { ClosuresGive nfa.now (search_of input.now) T.takes at (held threads.old []) sink.old
+        (moment_of threads.new.reached [] []) sink.new }
     ensures rows { All (λ i. length i.1 ≤ T.row_width sink.old) threads.old.curr.items }
 {
     let Threads {
@@ -149,8 +149,8 @@ pub fn nexts(
     ensures next { threads.new.reached.next.items ≡ [] }
     ensures keeps { KeepsThreads threads.old threads.new }
     ensures grows { threads.old.reached.seen.turns ≤ threads.new.reached.seen.turns }
-    ensures crosses { NextsGive nfa.now (search_of input.now) at past_match threads.old.reached.seen
-        threads.old.curr.items slots.old result threads.new.reached.seen threads.new.curr.items slots.new }
+    ensures crosses { NextsGive nfa.now (search_of input.now) at past_match (held threads.old slots.old) result
+        (held threads.new slots.new) }
 {
     let mut last = SlotsSink {
         slots,
@@ -178,9 +178,9 @@ fn nexts_of_one<T: MatchSink>(
     ensures keeps { KeepsRoom reached.old reached.new }
     ensures grows { reached.old.seen.turns ≤ reached.new.seen.turns }
     ensures same_reference { T.reference sink.new ≡ T.reference sink.old }
-    ensures arrive { ClosuresGive here.now.nfa.now (search_of here.now.input.now) T.takes here.now.at reached.old.seen
-        (items_of (T.row_width sink.old) kept.now rows.old) sink.old reached.new.seen reached.new.next.items
-        sink.new }
+    ensures arrive { ClosuresGive here.now.nfa.now (search_of here.now.input.now) T.takes here.now.at
+        (between reached.old.seen (items_of (T.row_width sink.old) kept.now rows.old) []) sink.old
+        (moment_of reached.new [] []) sink.new }
 {
     let width = sink.width();
     let row = &mut rows[0..width];
@@ -201,8 +201,8 @@ fn nexts_of_one_with<T: MatchSink>(
     ensures keeps { KeepsThreads threads.old threads.new }
     ensures grows { threads.old.reached.seen.turns ≤ threads.new.reached.seen.turns }
     ensures same_reference { T.reference sink.new ≡ T.reference sink.old }
-    ensures arrive { ClosuresGive nfa.now (search_of input.now) T.takes at threads.old.reached.seen
-        threads.old.curr.items sink.old threads.new.reached.seen threads.new.reached.next.items sink.new }
+    ensures arrive { ClosuresGive nfa.now (search_of input.now) T.takes at (held threads.old []) sink.old
+        (moment_of threads.new.reached [] []) sink.new }
 {
     let Threads {
         frames,
@@ -242,8 +242,8 @@ pub fn nexts_of_lone(
     ensures next { threads.new.reached.next.items ≡ [] }
     ensures keeps { KeepsThreads threads.old threads.new }
     ensures grows { threads.old.reached.seen.turns ≤ threads.new.reached.seen.turns }
-    ensures crosses { NextsGive nfa.now (search_of input.now) at false threads.old.reached.seen
-        threads.old.curr.items slots.old result threads.new.reached.seen threads.new.curr.items slots.new }
+    ensures crosses { NextsGive nfa.now (search_of input.now) at false (held threads.old slots.old) result
+        (held threads.new slots.new) }
 {
     let mut last = SlotsSink {
         slots,
@@ -280,8 +280,8 @@ pub fn nexts_of_start(
     ensures keeps { KeepsThreads threads.old threads.new }
     ensures grows { threads.old.reached.seen.turns ≤ threads.new.reached.seen.turns }
     ensures crosses { NextsGive here.now.nfa.now (search_of here.now.input.now) here.now.at false
-        threads.old.reached.seen ((starts.now.state, blank (length slots.old)) ∷ []) slots.old result
-        threads.new.reached.seen threads.new.curr.items slots.new }
+        (between threads.old.reached.seen ((starts.now.state, blank (length slots.old)) ∷ []) slots.old) result
+        (held threads.new slots.new) }
 {
     let Threads {
         frames,

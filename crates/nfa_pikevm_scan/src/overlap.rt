@@ -5,7 +5,7 @@ ghost use Rattle.regex_search_core.specs.Search.{search_of};
 ghost use Rattle.regex_search_core.specs.declared.search.MatchKind.TheVariants.{All as AllMatches, LeftmostFirst};
 ghost use Rattle.thompson_nfa.specs.Automaton.{IsAutomaton};
 ghost use Rattle.nfa_paths.specs.Overlaps.{IsOverlapResult};
-ghost use Rattle.nfa_pikevm_scan.specs.Scans.{HaveRoom, KeepsThreads, MayCross, MayScan, SameSizes};
+ghost use Rattle.nfa_pikevm_scan.specs.Scans.{held, HaveRoom, KeepsThreads, MayCross, MayScan, SameSizes};
 ghost use Rattle.nfa_pikevm_scan.specs.Scans.{max_scan_turns, IsWithinTurns};
 ghost use Rattle.nfa_pikevm_scan.specs.Needs.{overlap_scans};
 ghost use Rattle.nfa_pikevm_scan.specs.Overlapping.{NextsOverlappingGive};
@@ -73,8 +73,7 @@ fn nexts_overlapping(
     ensures next { threads.new.reached.next.items ≡ [] }
     ensures keeps { KeepsThreads threads.old threads.new }
     ensures crosses { NextsOverlappingGive nfa.now (search_of input.now) at past_match (length patterns.old)
-        threads.old.reached.seen threads.old.curr.items patterns.old result threads.new.reached.seen
-        threads.new.curr.items patterns.new }
+        (held threads.old []) patterns.old result (held threads.new []) patterns.new }
 {
     let mut gatherer = PatternSink {
         patterns,

@@ -3,7 +3,7 @@ use Rattle.std.proofs.Common.{◌≡◌, ◌∙◌, [], ◌∷◌, take, refl, s
 use Rattle.regex_search_core.specs.Search.{search_of}
 use Rattle.regex_search_core.specs.declared.primitives.PatternID.{PatternID}
 use Rattle.nfa_paths.specs.Exploring.{Slots}
-use Rattle.nfa_pikevm_scan.specs.States.{moment_of, NextsGive}
+use Rattle.nfa_pikevm_scan.specs.States.{between, moment_of, NextsGive}
 use Rattle.nfa_pikevm_scan.proofs.OneLemmas.{none-is, some-is, NextsGive-start}
 use Rattle.nfa_pikevm_scan.proofs.nexts.nexts_of_start.Goals as goal
 use Rattle.nfa_pikevm_scan.proofs.nexts.nexts_of_start.Goals.{then-is_none, else-is_none}
@@ -28,8 +28,8 @@ returns-clause-crosses c =
       | else-is_none w ↦ w.slots-is
     ] in
     rw (c.swap_state_sets.ensures.seen, c.swap_state_sets.ensures.curr)
-    (subst (λ (r : Slots). NextsGive nfa x c.args.here.now.at false met ((state, r) ∷ []) c.args.slots.now hit
-    new.reached.seen new.reached.next.items last) c.requires.unset
+    (subst (λ (r : Slots). NextsGive nfa x c.args.here.now.at false (between met ((state, r) ∷ []) c.args.slots.now) hit
+    (between new.reached.seen new.reached.next.items last)) c.requires.unset
     (NextsGive-start nfa x c.args.here.now.at met state c.args.slots.now c.args.slots.now hit
     (moment_of new.reached (take new.top new.frames) new.row) last (search (rules, finds))
     (λ none. rw (c.next_match-hit.ensures.over none) refl) same written))

@@ -5,7 +5,6 @@ use Rattle.nfa_pikevm_scan.proofs.AllLemmas.{HasLast-cross}
 use Rattle.nfa_pikevm_scan.proofs.EndLemmas.{HasLast-begin, ScansAll-joined, ScansAll-over, last-over, ends-at}
 use Rattle.nfa_pikevm_scan.proofs.StandsLemmas.{MayCross-joins, Stands-next, Stands-ready}
 use Rattle.nfa_pikevm_scan.proofs.RoomLemmas.{KeepsThreads-none, KeepsThreads-then, none_of}
-use Rattle.nfa_pikevm_scan.proofs.ScanLemmas.{Crossed-given}
 use Rattle.nfa_pikevm_scan.proofs.scan.scan_all.Goals as goal
 
 pub loop-at-init : goal.loop-at-init
@@ -43,7 +42,7 @@ loop-at-preserved c =
       keeps = KeepsThreads-then c.loop-at.invariant.keeps
           (KeepsThreads-then c.add_start.ensures.keeps c.nexts.ensures.keeps);
       next = c.nexts.ensures.next;
-      stands = Stands-next c.loop-at.invariant.stands (Crossed-given _ _ _ crosses.gives) (λ v t. t)
+      stands = Stands-next c.loop-at.invariant.stands crosses.gives (λ v t. t)
           c.requires.ready.starts.leads low (inl refl);
       last = rw c.or-found.ensures
           (HasLast-cross c.args.nfa.now x c.loop-at.at (length c.args.slots.now) c.args.starts.now.state

@@ -8,7 +8,7 @@ use Rattle.nfa_pikevm_scan.proofs.EndLemmas.{NoneBefore-begin, ScansAll-joined, 
 use Rattle.nfa_pikevm_scan.proofs.FrontierLemmas.{AreAt-turns}
 use Rattle.nfa_pikevm_scan.proofs.StandsLemmas.{MayCross-joins, Stands-next, Stands-ready, Stands-states}
 use Rattle.nfa_pikevm_scan.proofs.RoomLemmas.{KeepsThreads-none, KeepsThreads-then, none_of}
-use Rattle.nfa_pikevm_scan.proofs.ScanLemmas.{Crossed-given, EndsAt-none}
+use Rattle.nfa_pikevm_scan.proofs.ScanLemmas.{EndsAt-none}
 use Rattle.nfa_pikevm_scan.proofs.scan.scan_earliest.Goals as goal
 
 pub loop-at-init : goal.loop-at-init
@@ -44,7 +44,7 @@ returns-then-is_some-clause-turns c =
     let crosses = rw (c.add_start.ensures.seen, items) at c.nexts.ensures.crosses in
     let low : x.start ≤ c.loop-at.at = omega (arith, c.start-at.ensures, c.loop-at.auto.at) in
     AreAt-turns c.args.nfa.now x (omega (arith, c.end-at-end.ensures.value, c.loop-at-test.true)) c.requires.ready.span
-    (Stands-states c.loop-at.invariant.stands (Crossed-given _ _ _ crosses.gives) c.requires.ready.starts.leads low)
+    (Stands-states c.loop-at.invariant.stands crosses.gives c.requires.ready.starts.leads low)
 
 pub returns-then-is_some-clause-answer : goal.returns-then-is_some-clause-answer
 returns-then-is_some-clause-answer c =
@@ -70,7 +70,7 @@ loop-at-preserved c =
       keeps = KeepsThreads-then c.loop-at.invariant.keeps
           (KeepsThreads-then c.add_start.ensures.keeps c.nexts.ensures.keeps);
       next = c.nexts.ensures.next;
-      stands = Stands-next c.loop-at.invariant.stands (Crossed-given _ _ _ crosses.gives) (λ v t. t)
+      stands = Stands-next c.loop-at.invariant.stands crosses.gives (λ v t. t)
           c.requires.ready.starts.leads low (inr no_hit);
       none = NoneBefore-cross c.args.nfa.now x c.loop-at.at (length c.args.slots.now) c.args.starts.now.state
           c.args.starts.now.limit crosses
