@@ -32,7 +32,7 @@ pub record HasLast (nfa : Automaton) (x : Search) (at width : ℕ) (found : Opti
 module _ (wanted : Pair → Bool) {nfa : Automaton} (sub : AreMatchPairs nfa wanted) {x : Search}
     {at : ℕ} (width state limit : ℕ) {a b : Moment} {front : Frontier} {goes : Type 0}
     (c : PositionGives nfa x at a goes front b)
-    (s : ScanningFrom nfa x wanted at width state (at + 1) limit a.met a.kept) where
+    (s : ScanningFrom nfa x wanted at width state (at + 1) limit a) where
   -- what was met and put aside, wherever the position ended
   pub all-left : Scanning (space nfa x) wanted (blank width) at (SeenAt at b.met.bits) b.met.turns front
       (Leads-starts c width state limit).left (Leads-starts c width state limit).written
@@ -55,7 +55,7 @@ module _ (wanted : Pair → Bool) {nfa : Automaton} (sub : AreMatchPairs nfa wan
       (seeds-later (blank width) state at (limit - (at + 1)))
 
   -- the next position
-  pub ScansAll-next : goes → ScansAll nfa x wanted (at + 1) width state limit b.met b.kept
+  pub ScansAll-next : goes → ScansAll nfa x wanted (at + 1) width state limit b
   ScansAll-next goes_on =
       let next = Scanning-round (space nfa x) wanted (blank width)
       {After = SeenAt (at + 1) (replicate (length b.met.bits) false)} (all-whole goes_on) (edges-onward nfa x)
@@ -74,7 +74,7 @@ module _ (wanted : Pair → Bool) {nfa : Automaton} (sub : AreMatchPairs nfa wan
 
 module _ (nfa : Automaton) (x : Search) (at width state limit : ℕ) where
   module _ {past : Bool} {a b : Moment} {hit : Option PatternID} (c : NextsGive nfa x at past a hit b)
-      (s : ScanningFrom nfa x (is_match nfa) at width state (at + 1) limit a.met a.kept) where
+      (s : ScanningFrom nfa x (is_match nfa) at width state (at + 1) limit a) where
     -- the same for a search, if each match is wanted
     nexts-front : GoesOn past hit → IsFrontier (space nfa x) (is_resting nfa) (is_match nfa) (blank width) b.met.turns
         c.front at
@@ -111,7 +111,7 @@ module _ (nfa : Automaton) (x : Search) (at width state limit : ℕ) where
   -- the match at the position, or what was found before
   pub HasLast-cross : {a b : Moment} {hit : Option PatternID} {found : Option HalfMatch}
       → (c : NextsGive nfa x at true a hit b)
-      → ScanningFrom nfa x (is_match nfa) at width state (at + 1) limit a.met a.kept
+      → ScanningFrom nfa x (is_match nfa) at width state (at + 1) limit a
       → a.met.turns ≤ b.met.turns → (half : Option HalfMatch) → EndsAt at hit half
       → HasLast nfa x at width found a.slots a.met.turns
       → HasLast nfa x (at + 1) width (option_or half found) b.slots b.met.turns

@@ -1,13 +1,13 @@
 -- Applying frames of the stack.
-use Rattle.std.proofs.Common.{◌≡◌, ℕ, ◌+◌, ◌-◌, ◌<◌, ◌≤◌, List, [], ◌∷◌, ◌++◌, length, take, refl, ap, sym, ◌∙◌, arith, get_or, Option, Some, All, sum_by}
-use Rattle.std.proofs.lemmas.List.{take_more, take-take}
+use Rattle.std.proofs.Common.{◌≡◌, ℕ, ◌+◌, ◌-◌, ◌<◌, ◌≤◌, List, [], ◌∷◌, ◌++◌, length, take, refl, ap, sym, ◌∙◌, arith, get_or, Option, Some, None, All, sum_by}
+use Rattle.std.proofs.lemmas.List.{length-append, take_more, take-take}
 use Rattle.std.proofs.lemmas.List.Elements.{All-pop, All-take}
 use Rattle.std.proofs.lemmas.List.Sums.{sum_by_push}
 use Rattle.regex_search_core.specs.Search.{Search}
 use Rattle.thompson_nfa.specs.Automaton.{Automaton}
 use Rattle.nfa_paths.specs.Exploring.{Task, Slots}
 use Rattle.nfa_scan_core.specs.Marks.{Marks}
-use Rattle.nfa_pikevm_scan.specs.States.{Frontier, work_item_of, work_onto, with_state, tries, tries_of, undone, state_of, HasSlot, IsWithin, Follows}
+use Rattle.nfa_pikevm_scan.specs.States.{Frontier, work_item_of, work_onto, with_state, tries, tries_of, undone, state_of, HasSlot, IsWithin, Follows, Resumes}
 use Rattle.nfa_pikevm_scan.specs.declared.frame.FollowEpsilon.{FollowEpsilon}
 use Rattle.nfa_pikevm_scan.specs.declared.frame.FollowEpsilon.TheVariants.{Explore, Restore}
 use Rattle.nfa_pikevm_scan.proofs.EpsilonClosureLemmas.{Follows-then, Follows-none, Follows-restore}
@@ -41,7 +41,7 @@ module _ (nfa : Automaton) (x : Search) (at : ℕ) (met : Marks) (front : Fronti
   Follows-undone work (Explore sid) slots = Follows-none nfa x at met front _ slots
   Follows-undone work (Restore slot old) slots = Follows-restore nfa x at met front work slots slot old
 
-  pub Follows-popped : (work : List Task) (whole stack popped : List FollowEpsilon) (f : FollowEpsilon)
+  Follows-popped : (work : List Task) (whole stack popped : List FollowEpsilon) (f : FollowEpsilon)
       (entry slots : Slots) (state : Option ℕ) (after : Slots)
       → stack ≡ popped ++ f ∷ [] → state ≡ state_of f → after ≡ undone f slots
       → Follows nfa x at met front (work_onto at whole work) entry met front (work_onto at stack work) slots
@@ -51,7 +51,7 @@ module _ (nfa : Automaton) (x : Search) (at : ℕ) (met : Marks) (front : Fronti
       rw (is, undo) (Follows-then nfa x at (rw (pop, work_onto-push at popped f work) at h)
       (Follows-undone (work_onto at popped work) f slots))
 
-pub tries-popped : (stack popped : List FollowEpsilon) (f : FollowEpsilon) (state : Option ℕ) → stack ≡ popped ++ f ∷ []
+tries-popped : (stack popped : List FollowEpsilon) (f : FollowEpsilon) (state : Option ℕ) → stack ≡ popped ++ f ∷ []
     → state ≡ state_of f
     → sum_by tries popped + tries_of state ≡ sum_by tries stack
 tries-popped stack popped f state pop is = omega (
@@ -65,6 +65,24 @@ tries-popped stack popped f state pop is = omega (
     same : (f : FollowEpsilon) → tries f ≡ tries_of (state_of f)
     same (Explore sid) = refl
     same (Restore slot old) = refl
+
+-- no frame, or one more
+pub Resumes-none : (stack : List FollowEpsilon) (slots : Slots) → Resumes stack slots None stack slots
+Resumes-none stack slots = record {
+  fewer = omega arith;
+  tried = omega arith;
+  follows = λ nfa x at met front work. Follows-none nfa x at met front (work_onto at stack work) slots;
+}
+
+pub Resumes-popped : {whole stack popped : List FollowEpsilon} (f : FollowEpsilon) {entry slots after : Slots}
+    {state : Option ℕ} → Resumes whole entry None stack slots → stack ≡ popped ++ f ∷ [] → state ≡ state_of f
+    → after ≡ undone f slots → Resumes whole entry state popped after
+Resumes-popped {whole} {stack} {popped} f {entry} {slots} {after} {state} r pop is undo = record {
+  fewer = omega (arith, r.fewer, ap length pop, length-append popped (f ∷ []));
+  tried = omega (arith, r.tried, tries-popped stack popped f state pop is);
+  follows = λ nfa x at met front work. Follows-popped nfa x at met front work whole stack popped f entry slots state
+      after pop is undo (r.follows nfa x at met front work);
+}
 
 pub slot-popped : (count : ℕ) (stack popped : List FollowEpsilon) (f : FollowEpsilon) → stack ≡ popped ++ f ∷ []
     → All (HasSlot count) stack

@@ -6,14 +6,13 @@ use Rattle.regex_search_core.specs.declared.primitives.PatternID.{PatternID}
 use Rattle.thompson_nfa.specs.Automaton.{Automaton}
 use Rattle.nfa_paths.specs.Graphs.{Pair}
 use Rattle.nfa_paths.specs.Paths.{degree, edges, is_match}
-use Rattle.nfa_paths.specs.Exploring.{Task, Slots}
+use Rattle.nfa_paths.specs.Exploring.{Slots}
 use Rattle.nfa_paths.specs.Exploring.Task.{Explore as ToExplore, Load as ToLoad}
 use Rattle.nfa_paths.specs.Kinds.{NoMatch}
 use Rattle.nfa_paths.specs.Turns.{marked_sum}
 use Rattle.nfa_paths.proofs.TurnLemmas.{marked_sum-le}
-use Rattle.nfa_scan_core.specs.Marks.{Marks}
 use Rattle.nfa_pikevm_scan.specs.Rows.{Active}
-use Rattle.nfa_pikevm_scan.specs.States.{Frontier, Moment, between, moves, work_onto, with_state, state_on, tries, tries_of, Follows, Paid, HasRoom, KeepsRoom, TurnsGive, VisitsState, FindsMatch}
+use Rattle.nfa_pikevm_scan.specs.States.{Frontier, Moment, moment_of, between, moves, work_onto, state_on, tries, Paid, HasRoom, KeepsRoom, Resumes, TurnsGive, VisitsState, FindsMatch}
 use Rattle.nfa_pikevm_scan.specs.Sinks.{Takes, ClosureGives}
 use Rattle.nfa_pikevm_scan.specs.declared.closure.Move.{Move}
 use Rattle.nfa_pikevm_scan.specs.declared.closure.ClosureOutput.{ClosureOutput}
@@ -82,21 +81,22 @@ Paid-falls {nfa} {a} {b} p turned less = omega (
 )
 
 -- there is still room
-pub HasRoom-paid : {nfa : Automaton} {a b : Moment} {size capacity hand left : ℕ} (top now : ℕ)
-    (frames after : List FollowEpsilon)
-    → HasRoom nfa a.met.bits top size (length a.kept) capacity → Paid nfa a hand b left
-    → length b.met.bits ≡ length a.met.bits → a.stack ≡ take top frames → top ≤ length frames
-    → b.stack ≡ take now after → now ≤ length after → HasRoom nfa b.met.bits now size (length b.kept) capacity
-HasRoom-paid top now frames after room paid same whole inside left within = record {
-  marks = omega (arith, room.marks);
+pub HasRoom-paid : {nfa : Automaton} {old new : ClosureOutput} {row then : Slots} {hand left : ℕ} (top now : ℕ)
+    (frames after : List FollowEpsilon) → HasRoom nfa old top (length frames)
+    → Paid nfa (moment_of old (take top frames) row) hand (moment_of new (take now after) then) left
+    → KeepsRoom old new → length after ≡ length frames → top ≤ length frames → now ≤ length after
+    → HasRoom nfa new now (length after)
+HasRoom-paid top now frames after room paid keeps same inside within = record {
+  marks = omega (arith, room.marks, keeps.size);
   frames_fit = omega (
     arith,
     room.frames_fit,
     paid.framed,
-    ap length whole ∙ length-take-le top frames inside,
-    ap length left ∙ length-take-le now after within,
+    length-take-le top frames inside,
+    length-take-le now after within,
   );
-  states_fit = omega (arith, room.states_fit, paid.entered);
+  states_fit = omega (arith, room.states_fit, paid.entered, ap (λ (a : Active). a.capacity) keeps.same);
+  stack = omega (arith, room.stack);
 }
 
 -- Turns whose front has a property, with what is still to be followed.
@@ -121,28 +121,22 @@ module _ {nfa : Automaton} {x : Search} {at s : ℕ} {a : Moment} {Holds : Front
     holds = holds;
   }
 
-  -- the frames above the first `u` are applied
-  pub Turned-resumed : {b : Moment} (t u : ℕ) (frames : List FollowEpsilon) {state : Option ℕ} {then : Slots} → u ≤ t
-      → t ≤ length frames → b.stack ≡ take t frames
-      → sum_by tries (take u frames) + tries_of state ≡ sum_by tries (take t frames)
-      → ((nfa : Automaton) (x : Search) (at : ℕ) (met : Marks) (front : Frontier) (work : List Task)
-      → Follows nfa x at met front (work_onto at (take t frames) work) b.slots met
-      front (with_state at state (work_onto at (take u frames) work)) then)
-      → Turned nfa x at s a Holds None b
-      → Turned nfa x at s a Holds state (record b { stack = take u frames; slots = then })
-  Turned-resumed {b} t u frames less inside whole tried resumes f =
+  -- frames are applied
+  pub Turned-resumed : {b : Moment} {state : Option ℕ} {left : List FollowEpsilon} {then : Slots}
+      → Resumes b.stack b.slots state left then → Turned nfa x at s a Holds None b
+      → Turned nfa x at s a Holds state (record b { stack = left; slots = then })
+  Turned-resumed {b} r f =
       let p = f.gives.paid in
-      let long = ap length whole ∙ length-take-le t frames inside in
       record {
         front = f.front;
         gives = record {
           added = f.gives.added;
           formed = f.gives.formed;
           follows = λ before below work. Follows-then nfa x at (f.gives.follows before below work)
-              (rw whole (resumes nfa x at b.met (before ++ f.front) (ToLoad below ∷ work)));
+              (r.follows nfa x at b.met (before ++ f.front) (ToLoad below ∷ work));
           paid = record {
-            tried = omega (arith, p.tried, ap (sum_by tries) whole);
-            framed = omega (arith, p.framed, long, length-take-le u frames (omega arith));
+            tried = omega (arith, p.tried, r.tried);
+            framed = omega (arith, p.framed, r.fewer);
             entered = p.entered;
           };
         };

@@ -20,8 +20,8 @@ use Rattle.nfa_paths.proofs.ScanLemmas.{IsFoundBy-more, NoneBefore-start, LastBe
 use Rattle.nfa_paths.proofs.ScanningLemmas.{Scanning-load, Scanning-over}
 use Rattle.nfa_scan_core.specs.FirstBytes.{IsFirstBytes}
 use Rattle.nfa_scan_core.specs.Marks.{Marks}
-use Rattle.nfa_pikevm_scan.specs.States.{Moment, tasks, unmarked, AreMatchPairs, SeenAt, SearchingAt, NextsGive}
-use Rattle.nfa_pikevm_scan.specs.Scans.{blank, starts_from, with_start, IsPassed, AddsStart, AreStarts, IsSoFar, SearchesFirst, SearchingFrom, ScansAll, ScanningFrom}
+use Rattle.nfa_pikevm_scan.specs.States.{Moment, between, tasks, unmarked, AreMatchPairs, SeenAt, SearchingAt, NextsGive}
+use Rattle.nfa_pikevm_scan.specs.Scans.{blank, starts_from, start_joined, with_start, IsPassed, AddsStart, AreStarts, IsSoFar, SearchesFirst, SearchingFrom, ScansAll, ScanningFrom}
 use Rattle.nfa_pikevm_scan.specs.declared.scan.Starts.{Starts}
 use Rattle.nfa_pikevm_scan.proofs.TaskLemmas.{tasks-joins, tasks-alone, tasks-joined, starts_from-end, AnswersFor, AnswersFor-same, AnswersFor-then, AnswersFor-tasks, AnswersFor-pass, AnswersFor-skip, Searching-for, Searching-seen, Searching-begin}
 use Rattle.nfa_pikevm_scan.proofs.RoomLemmas.{over-joined}
@@ -35,7 +35,8 @@ module _ (nfa : Automaton) (x : Search) where
   module _ (begins : Starts) (are : AreStarts nfa x begins) (slots : Slots) (met : Marks) where
     -- the search for a set of match pairs begins
     pub SearchingAt-begin : (target : Pair → Bool)
-        → SearchingFrom nfa x target x.start (length slots) begins.state x.start begins.limit None met []
+        → SearchingFrom nfa x target x.start (length slots) begins.state x.start begins.limit None
+        (between met [] slots)
     SearchingAt-begin target =
         subst (λ (ps : List Pair). SearchingAt nfa x x.start target (starts nfa x) (blank (length slots)) None
         (unmarked met) [] (Load (blank (length slots)) ∷ seeds (blank (length slots)) ps) (blank (length slots)))
@@ -44,12 +45,12 @@ module _ (nfa : Automaton) (x : Search) where
         (starts nfa x) (blank (length slots)) (blank (length slots)) (SeenAt-none x.start (length met.bits)))
 
     pub SearchesFirst-begin : slots ≡ blank (length slots)
-        → SearchesFirst nfa x x.start (length slots) begins.state begins.limit None slots met []
+        → SearchesFirst nfa x x.start (length slots) begins.state begins.limit None (between met [] slots)
     SearchesFirst-begin unset =
         record { so_far = None; is_so_far = (refl, unset); searching = SearchingAt-begin (is_match nfa) }
 
     pub ScansAll-begin : (wanted : Pair → Bool)
-        → ScansAll nfa x wanted x.start (length slots) begins.state begins.limit met []
+        → ScansAll nfa x wanted x.start (length slots) begins.state begins.limit (between met [] slots)
     ScansAll-begin wanted = record { scanning = record { searching = λ target m. SearchingAt-begin target } }
 
     pub HasLast-begin : slots ≡ blank (length slots) → HasLast nfa x x.start (length slots) None slots met.turns
@@ -70,12 +71,13 @@ module _ (nfa : Automaton) (x : Search) where
   -- the starts join
 
   -- all sets of wanted pairs at once
-  pub ScansAll-joined : (begins : Starts) (at width : ℕ) {wanted : Pair → Bool} {met : Marks} {items : List (ℕ × Slots)}
-      → ScansAll nfa x wanted at width begins.state begins.limit met items
-      → ScanningFrom nfa x wanted at width begins.state (at + 1) begins.limit met (with_start begins width at items)
-  ScansAll-joined begins at width {wanted} {met} {items} s =
-      subst (λ (w : List Task). Scanning (space nfa x) wanted (blank width) at
-      (SeenAt at (unmarked met).bits) met.turns [] w (blank width)) (tasks-joined begins width at items) s.scanning
+  pub ScansAll-joined : (begins : Starts) (at width : ℕ) {wanted : Pair → Bool} {now : Moment}
+      → ScansAll nfa x wanted at width begins.state begins.limit now
+      → ScanningFrom nfa x wanted at width begins.state (at + 1) begins.limit
+      (start_joined begins width at now)
+  ScansAll-joined begins at width {wanted} {now} s =
+      subst (λ (w : List Task). Scanning (space nfa x) wanted (blank width) at (SeenAt at (unmarked now.met).bits)
+      now.met.turns [] w (blank width)) (tasks-joined begins width at now.kept) s.scanning
 
   module _ (table : List Bool) (first : IsFirstBytes nfa table) (begins : Starts) (are : AreStarts nfa x begins)
       (limit width : ℕ) where
@@ -130,20 +132,19 @@ module _ (nfa : Automaton) (x : Search) where
         ]
 
     -- the first path
-    pub SearchesFirst-joins : (at to : ℕ) {items kept : List (ℕ × Slots)} {found : Option HalfMatch} {slots : Slots}
-        {met : Marks} → x.start ≤ at
-        → AddsStart table x begins limit width at items to kept
-        → (s : SearchesFirst nfa x at width begins.state limit found slots met items)
-        → SearchingFrom nfa x (is_match nfa) to width begins.state (to + 1) limit s.so_far met kept
-    SearchesFirst-joins at to {items} {kept} {met = met} low j s =
+    pub SearchesFirst-joins : (at to : ℕ) {kept : List (ℕ × Slots)} {found : Option HalfMatch} {now : Moment}
+        → x.start ≤ at → AddsStart table x begins limit width at now.kept to kept
+        → (s : SearchesFirst nfa x at width begins.state limit found now)
+        → SearchingFrom nfa x (is_match nfa) to width begins.state (to + 1) limit s.so_far (record now { kept = kept })
+    SearchesFirst-joins at to {kept} {now = now} low j s =
         Searching-seen (space nfa x) (is_match nfa)
         (Searching-for (space nfa x) (is_match nfa) s.searching
-        (AnswersFor-then (space nfa x) (is_match nfa) (skip-work at to items kept low j)
-        (add_start-work at to items kept low j)) (blank width))
-        (SeenAt to (unmarked met).bits)
+        (AnswersFor-then (space nfa x) (is_match nfa) (skip-work at to now.kept kept low j)
+        (add_start-work at to now.kept kept low j)) (blank width))
+        (SeenAt to (unmarked now.met).bits)
         (λ v. (
-          λ seen. absurd (SeenAt-none at (length met.bits) v seen),
-          λ seen. absurd (SeenAt-none to (length met.bits) v seen),
+          λ seen. absurd (SeenAt-none at (length now.met.bits) v seen),
+          λ seen. absurd (SeenAt-none to (length now.met.bits) v seen),
         ))
 
   -- the end
@@ -172,25 +173,25 @@ module _ (nfa : Automaton) (x : Search) where
       }
 
   -- nothing is left of the search for the first path
-  pub first-over : {at width state limit : ℕ} {found : Option HalfMatch} {slots : Slots} {met : Marks}
-      {items : List (ℕ × Slots)} → SearchesFirst nfa x at width state limit found slots met items → limit ≤ at
-      → items ≡ [] → width ≡ length slots → ScanGives nfa LeftmostFirst false x found slots met.turns
-  first-over {at} {width} {state} {limit} {found} {slots} {met} s past none size =
-      let alone : SearchingAt nfa x at (is_match nfa) (starts nfa x) (blank width) s.so_far (unmarked met) []
+  pub first-over : {at width state limit : ℕ} {found : Option HalfMatch} {now : Moment}
+      → SearchesFirst nfa x at width state limit found now → limit ≤ at → now.kept ≡ [] → width ≡ length now.slots
+      → ScanGives nfa LeftmostFirst false x found now.slots now.met.turns
+  first-over {at} {width} {state} {limit} {found} {now} s past none size =
+      let alone : SearchingAt nfa x at (is_match nfa) (starts nfa x) (blank width) s.so_far (unmarked now.met) []
       (Load (blank width) ∷ []) (blank width) = rw (none, starts_from-end width state past) at s.searching in
       let answer = Searching-done (space nfa x) (is_match nfa) (Searching-load (space nfa x) (is_match nfa) alone) in
-      Scans-so_far LeftmostFirst false width met.turns found slots s.so_far s.is_so_far
-      (scan_first-found nfa x (blank width) met.turns s.so_far answer) size
+      Scans-so_far LeftmostFirst false width now.met.turns found now.slots s.so_far s.is_so_far
+      (scan_first-found nfa x (blank width) now.met.turns s.so_far answer) size
 
   -- no state and no start is left: every path has ended
-  pub ScansAll-over : (begins : Starts) (at width : ℕ) {wanted : Pair → Bool} {met : Marks} {items : List (ℕ × Slots)}
-      → ScansAll nfa x wanted at width begins.state begins.limit met items → with_start begins width at items ≡ []
+  pub ScansAll-over : (begins : Starts) (at width : ℕ) {wanted : Pair → Bool} {now : Moment}
+      → ScansAll nfa x wanted at width begins.state begins.limit now → with_start begins width at now.kept ≡ []
       → AreMatchPairs nfa wanted → EndsBefore (space nfa x) wanted at
-  ScansAll-over begins at width {wanted} {met} {items} s none sub =
-      let past : begins.limit ≤ at = over-joined begins width at items none in
+  ScansAll-over begins at width {wanted} {now} s none sub =
+      let past : begins.limit ≤ at = over-joined begins width at now.kept none in
       let later : begins.limit ≤ at + 1 = omega arith in
-      let alone : Scanning (space nfa x) wanted (blank width) at
-      (SeenAt at (unmarked met).bits) met.turns [] (Load (blank width) ∷ []) (blank width) =
+      let alone : Scanning (space nfa x) wanted (blank width) at (SeenAt at (unmarked now.met).bits) now.met.turns []
+      (Load (blank width) ∷ []) (blank width) =
       rw (none, starts_from-end width begins.state later) at (ScansAll-joined begins at width s) in
       EndsBefore-over (space nfa x) (is_resting nfa) wanted (blank width) (Scanned-matches nfa x wanted sub) at
       (Scanning-over (space nfa x) wanted (blank width) (Scanning-load (space nfa x) wanted (blank width) alone))
@@ -210,7 +211,7 @@ module _ (nfa : Automaton) (x : Search) where
   -- the first position with a match
   pub earliest-over : (at width state limit : ℕ) {past : Bool} {a b : Moment} {hit : Option PatternID}
       → NextsGive nfa x at past a hit b
-      → ScanningFrom nfa x (is_match nfa) at width state (at + 1) limit a.met a.kept
+      → ScanningFrom nfa x (is_match nfa) at width state (at + 1) limit a
       → NoneBefore (space nfa x) (is_match nfa) at → (half : Option HalfMatch) → EndsAt at hit half
       → is_some half ≡ true → width ≡ length b.slots
       → ScanGives nfa (cond past AllMatches LeftmostFirst) true x half b.slots b.met.turns

@@ -10,8 +10,7 @@ use Rattle.thompson_nfa.specs.Automaton.{Automaton}
 use Rattle.nfa_paths.specs.Exploring.{Task, Slots, Hit}
 use Rattle.nfa_paths.specs.Paths.{is_match, starts}
 use Rattle.nfa_scan_core.specs.FirstBytes.{IsFirstBytes}
-use Rattle.nfa_scan_core.specs.Marks.{Marks}
-use Rattle.nfa_pikevm_scan.specs.States.{between, unmarked, SearchingAt, NextsGive}
+use Rattle.nfa_pikevm_scan.specs.States.{Moment, between, unmarked, SearchingAt, NextsGive}
 use Rattle.nfa_pikevm_scan.specs.Scans.{blank, held, AddsStart, AreStarts, HaveRows, KeepsThreads, MayCross, MayScan, PassesOver, ScansFirst, SearchesFirst, SearchingFrom}
 use Rattle.nfa_pikevm_scan.specs.declared.scan.Starts.{Starts}
 use Rattle.nfa_pikevm_scan.specs.declared.threads.Threads.{Threads}
@@ -27,20 +26,20 @@ half-none None e = refl
 half-none (Some m) e = cc
 
 -- The position that a scan goes on at, with its states: at most one start has joined those that were there.
-pub record Joined (nfa : Automaton) (x : Search) (state limit at to width : ℕ) (so_far : Hit) (met : Marks)
-    (before items : List (ℕ × Slots)) : Type 0 where
-  pub states : All (λ i. i.0 < length nfa.states) items
-  pub few : length items ≤ length before + 1
+pub record Joined (nfa : Automaton) (x : Search) (state limit at to width : ℕ) (so_far : Hit)
+    (before : List (ℕ × Slots)) (now : Moment) : Type 0 where
+  pub states : All (λ i. i.0 < length nfa.states) now.kept
+  pub few : length now.kept ≤ length before + 1
   pub ahead : at ≤ to
   pub within : to ≤ x.end
-  pub search : SearchingFrom nfa x (is_match nfa) to width state (to + 1) limit so_far met items
+  pub search : SearchingFrom nfa x (is_match nfa) to width state (to + 1) limit so_far now
 
 -- the states there may be followed
-pub MayCross-joined : {nfa : Automaton} {x : Search} {state limit at to width : ℕ} {so_far : Hit} {met : Marks}
-    {before : List (ℕ × Slots)} {t : Threads}
-    → Joined nfa x state limit at to width so_far met before t.curr.items → HaveRows nfa width t
-    → t.reached.next.items ≡ [] → MayCross nfa x to width t
-MayCross-joined j rows none = record { place = j.within; states = j.states; room = rows; empty = none }
+pub MayCross-joined : {nfa : Automaton} {x : Search} {state limit at to width : ℕ} {so_far : Hit}
+    {before : List (ℕ × Slots)} {now : Moment} {t : Threads} → Joined nfa x state limit at to width so_far before now
+    → t.curr.items ≡ now.kept → HaveRows nfa width t → t.reached.next.items ≡ [] → MayCross nfa x to width t
+MayCross-joined j are rows none =
+    record { place = j.within; states = rw are j.states; room = rows; empty = none }
 
 -- the scan begins
 pub ScansFirst-begin : {nfa : Automaton} {x : Search} {from : Starts} {slots : Slots} {t : Threads}
@@ -61,7 +60,7 @@ module _ {nfa : Automaton} {x : Search} {from : Starts} {limit at width : ℕ} {
     {base old : Threads} (s : ScansFirst nfa x from limit at width found slots base old) where
   -- a state is there, and no start is left
   pub Joined-lone : limit ≡ 0 → length old.curr.items ≡ 1
-      → Joined nfa x from.state limit at at width s.searches.so_far old.reached.seen old.curr.items old.curr.items
+      → Joined nfa x from.state limit at at width s.searches.so_far old.curr.items (held old slots)
   Joined-lone none one = record {
     states = s.states.states;
     few = omega arith;
@@ -79,7 +78,8 @@ module _ {nfa : Automaton} {x : Search} {from : Starts} {limit at width : ℕ} {
   -- the start has joined, or is passed over, or none is left; and some state is there
   pub Joined-start : {table : List Bool} → IsFirstBytes nfa table → AreStarts nfa x from → {to : ℕ}
       {items : List (ℕ × Slots)} → AddsStart table x from limit width at old.curr.items to items → 0 < length items
-      → Joined nfa x from.state limit at to width s.searches.so_far old.reached.seen old.curr.items items
+      → Joined nfa x from.state limit at to width s.searches.so_far old.curr.items
+      (record (held old slots) { kept = items })
   Joined-start {table} first are {to} {items} j some = record {
     states = elim j.last [
       | inl h ↦ rw h.1 (All-push (λ (i : ℕ × Slots). i.0 < length nfa.states) old.curr.items
@@ -105,13 +105,14 @@ module _ {nfa : Automaton} {x : Search} {from : Starts} {limit at width : ℕ} {
   }
 
   module _ (are : AreStarts nfa x from) {to : ℕ} {items : List (ℕ × Slots)}
-      (j : Joined nfa x from.state limit at to width s.searches.so_far old.reached.seen old.curr.items items)
+      (j : Joined nfa x from.state limit at to width s.searches.so_far old.curr.items
+      (record (held old slots) { kept = items }))
       {new : Threads} (keeps : KeepsThreads old new) (next : new.reached.next.items ≡ []) {hit : Option PatternID}
       {written : Slots}
       (c : NextsGive nfa x to false (between old.reached.seen items slots) hit (held new written)) where
     -- the next position, with what was found up to it
     after : {later : ℕ} {half : Option HalfMatch} → (later ≡ from.limit) ⊎ (later ≡ 0)
-        → SearchesFirst nfa x (to + 1) width from.state later half written new.reached.seen new.curr.items
+        → SearchesFirst nfa x (to + 1) width from.state later half (held new written)
         → ScansFirst nfa x from later (to + 1) width half written base new
     after limits searches =
         let low : x.start ≤ to = omega (arith, s.low, j.ahead) in
@@ -144,8 +145,7 @@ pub Joined-first : {nfa : Automaton} {x : Search} {from : Starts} {slots : Slots
     (ready : MayScan nfa x from slots t) {table : List Bool} → IsFirstBytes nfa table → x.start < from.limit → {to : ℕ}
     → PassesOver table x x.start from.stop to
     → Joined nfa x from.state from.limit x.start to (length slots) (ScansFirst-begin ready).searches.so_far
-    t.reached.seen t.curr.items
-    ((from.state, blank (length slots)) ∷ [])
+    t.curr.items (between t.reached.seen ((from.state, blank (length slots)) ∷ []) slots)
 Joined-first {x = x} {from} {slots} {t} ready first some p =
     let are = ready.starts in
     Joined-start (ScansFirst-begin ready) first are

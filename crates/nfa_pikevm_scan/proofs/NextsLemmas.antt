@@ -17,7 +17,7 @@ use Rattle.nfa_paths.proofs.TurnLemmas.{marked_sum-clear}
 use Rattle.nfa_scan_core.specs.Marks.{Marks}
 use Rattle.nfa_pikevm_scan.specs.Rows.{Active, items_of}
 use Rattle.nfa_pikevm_scan.specs.Needs.{room_of}
-use Rattle.nfa_pikevm_scan.specs.States.{Frontier, Moment, between, moves, tasks, unmarked, one_of, Formed, HasRoom, Paid, Follows, Leads, IsClosureContext, MayFollow}
+use Rattle.nfa_pikevm_scan.specs.States.{Frontier, KeepsRoom, Moment, between, moment_of, moves, tasks, unmarked, one_of, Formed, HasRoom, Paid, Follows, Leads, IsClosureContext, MayFollow}
 use Rattle.nfa_pikevm_scan.specs.Scans.{MayCross}
 use Rattle.nfa_pikevm_scan.specs.declared.closure.ClosureContext.{ClosureContext}
 use Rattle.nfa_pikevm_scan.specs.declared.closure.ClosureOutput.{ClosureOutput}
@@ -95,18 +95,15 @@ MayFollow-cleared {here} {states} {old} {frames} {width} {t} may context below s
       context = context;
       below = below;
       room = record {
-        room = record {
-          marks = omega (arith, room.marks);
-          frames_fit = omega arith;
-          states_fit = omega (
-            arith,
-            room.capacity,
-            t.same_capacity,
-            ap (λ (a : Active). a.capacity) next,
-            ap length
-                none,
-          );
-        };
+        marks = omega (arith, room.marks);
+        frames_fit = omega arith;
+        states_fit = omega (
+          arith,
+          room.capacity,
+          t.same_capacity,
+          ap (λ (a : Active). a.capacity) next,
+          ap length none,
+        );
         stack = omega (arith, room.stack);
       };
       clear = bits ∙ ap (λ n. replicate n false) (sym size);
@@ -196,20 +193,6 @@ module _ {V : Type 0} {nfa : Automaton} {x : Search} {takes : V → PatternID �
         (tasks at begun.kept (Load below ∷ waiting)) last) same
         (Follows-tasks nfa x at begun.met [] begun.kept below waiting current last);
   }
-
-  -- there is room for what the next state leads to
-  pub HasRoom-next : {left : List (ℕ × Slots)} {now : Moment} {new : V} {frames capacity f p : ℕ}
-      → begun.met.bits ≡ replicate (length begun.met.bits) false → HasRoom nfa begun.met.bits 0 frames 0 capacity
-      → length now.met.bits ≡ length begun.met.bits → f ≡ frames → p ≡ capacity
-      → NextsLeadTo nfa x takes at begun old left now new → HasRoom nfa now.met.bits 0 f (length now.kept) p
-  HasRoom-next clear room size same_frames same_capacity c =
-      let rooms = ap (marked_sum (map room_of nfa.states)) clear in
-      let ones = ap (marked_sum (map one_of nfa.states)) clear in
-      record {
-        marks = omega (arith, room.marks);
-        frames_fit = omega (arith, room.frames_fit, c.paid.framed, rooms);
-        states_fit = omega (arith, room.states_fit, c.paid.entered, ones);
-      }
 
   module _ {left rest : List (ℕ × Slots)} {b : Moment} {mid : V} {k : ℕ} {row : Slots} (next : left ≡ (k, row) ∷ rest)
       (c : NextsLeadTo nfa x takes at begun old left b mid) {ended : Bool} {then : Moment} {new : V}
@@ -306,3 +289,27 @@ module _ {V : Type 0} {nfa : Automaton} {x : Search} {takes : V → PatternID �
     };
     takes_all = c.takes_all;
   }
+
+-- there is room for what the next state leads to
+pub HasRoom-next : {V : Type 0} {here : ClosureContext} {x : Search}
+    {takes : V → PatternID → Slots → Bool → V → Type 0} {at : ℕ} {states : List ℕ} {old new : ClosureOutput}
+    {frames width f : ℕ} {items left : List (ℕ × Slots)} {v w : V} → MayFollow here states old frames width
+    → KeepsRoom old new → f ≡ frames
+    → NextsLeadTo here.nfa.now x takes at (between old.seen items []) v left (moment_of new [] []) w
+    → HasRoom here.nfa.now new 0 f
+HasRoom-next {here = here} may keeps same c =
+    let states = here.nfa.now.states in
+    let room = may.room in
+    record {
+      marks = omega (arith, room.marks, keeps.size);
+      frames_fit = omega (arith, room.frames_fit, c.paid.framed, ap (marked_sum (map room_of states)) may.clear);
+      states_fit = omega (
+        arith,
+        room.states_fit,
+        c.paid.entered,
+        ap (marked_sum (map one_of states)) may.clear,
+        ap length may.empty,
+        ap (λ (a : Active). a.capacity) keeps.same,
+      );
+      stack = omega (arith, room.stack);
+    }

@@ -18,7 +18,7 @@ use Rattle.nfa_paths.proofs.SetLemmas.{length-with}
 use Rattle.nfa_paths.proofs.ScanAnswerLemmas.{edges-onward, seeds-later}
 use Rattle.nfa_paths.proofs.SearchingLemmas.{Searching-load, Searching-done}
 use Rattle.nfa_scan_core.specs.Marks.{Marks}
-use Rattle.nfa_pikevm_scan.specs.Scans.{starts_from, with_start, AreStarts, SearchingFrom}
+use Rattle.nfa_pikevm_scan.specs.Scans.{starts_from, start_joined, with_start, AreStarts, SearchingFrom}
 use Rattle.nfa_pikevm_scan.specs.States.{Moment, between, moves, tasks, unmarked, SearchingAt}
 use Rattle.nfa_pikevm_scan.specs.Overlapping.{wants, AddsPatterns, NextsOverlappingGive}
 use Rattle.nfa_pikevm_scan.specs.declared.scan.Starts.{Starts}
@@ -57,17 +57,16 @@ module _ (nfa : Automaton) (x : Search) (old : List Bool) where
   tells = wants-tells nfa x (length old)
 
   -- what the scan keeps at a position: the match that was found, what it put into the set, and what is left to do
-  pub record FirstWay (from : Starts) (at : ℕ) (met : Marks) (items : List (ℕ × Slots))
-      (new : List Bool) : Type 0 where
+  pub record FirstWay (from : Starts) (at : ℕ) (now : Moment) (new : List Bool) : Type 0 where
     pub so_far : Hit
     -- the search for all that is wanted, and for what is wanted before a limit that was not passed yet
     pub searching : (target : Pair → Bool) → Between wanted at target
-        → SearchingFrom nfa x target at 0 from.state at from.limit so_far met items
+        → SearchingFrom nfa x target at 0 from.state at from.limit so_far now
     pub capacity : length new ≡ length old
     pub exact : Exact nfa x old wanted tells at so_far new
 
   pub FirstWay-start : (from : Starts) → AreStarts nfa x from → size_of_set old ≡ 0 → (met : Marks)
-      (items : List (ℕ × Slots)) → items ≡ [] → FirstWay from x.start met items old
+      (items : List (ℕ × Slots)) → items ≡ [] → FirstWay from x.start (between met items []) old
   FirstWay-start from are empty met items none =
       rw none (record {
         so_far = None;
@@ -91,29 +90,29 @@ module _ (nfa : Automaton) (x : Search) (old : List Bool) where
       (Answer-ahead (space nfa x) before at (edges-onward nfa x) (λ v t. (before_is wanted at v t).before) 0 so_far
       s.marks (tasks at items (ToLoad [] ∷ waiting)) [] (tasks-ahead at items waiting later)))
 
-  module _ {from : Starts} {at : ℕ} {met : Marks} {items : List (ℕ × Slots)} {new : List Bool}
-      (w : FirstWay from at met items new) where
+  module _ {from : Starts} {at : ℕ} {a : Moment} {new : List Bool} (w : FirstWay from at a new) where
     -- the search, with the start that joined
     joined-search : (target : Pair → Bool) → Between wanted at target
-        → SearchingFrom nfa x target at 0 from.state (at + 1) from.limit w.so_far met (with_start from 0 at items)
+        → SearchingFrom nfa x target at 0 from.state (at + 1) from.limit w.so_far (start_joined from 0 at a)
     joined-search target b =
-        subst (λ z. SearchingAt nfa x at target (starts nfa x) [] w.so_far (unmarked met) [] z [])
-        (tasks-joined from 0 at items) (w.searching target b)
+        subst (λ z. SearchingAt nfa x at target (starts nfa x) [] w.so_far (unmarked a.met) [] z [])
+        (tasks-joined from 0 at a.kept) (w.searching target b)
 
     module _ (empty : size_of_set old ≡ 0) where
       -- no state and no start is left
-      pub FirstWay-over : with_start from 0 at items ≡ [] → IsOverlapResult nfa x LeftmostFirst false old new
+      pub FirstWay-over : with_start from 0 at a.kept ≡ [] → IsOverlapResult nfa x LeftmostFirst false old new
       FirstWay-over none =
           exact-result nfa x old new w.capacity wanted tells empty
           (Exact-end nfa x old wanted tells w.exact w.capacity (λ limit behind.
-          Best-found nfa x old wanted tells limit met.turns [] w.so_far
+          Best-found nfa x old wanted tells limit a.met.turns [] w.so_far
           (done (before_target wanted limit) (Between-before wanted limit at behind))))
         where
           done : (target : Pair → Bool) → Between wanted at target
-              → ExploresTo (space nfa x) target met.turns None [] (map ToExplore (starts nfa x)) [] w.so_far
+              → ExploresTo (space nfa x) target a.met.turns None [] (map ToExplore (starts nfa x)) [] w.so_far
           done target b =
-              let past : from.limit ≤ at + 1 = (let h = over-joined from 0 at items none in omega (arith, h)) in
-              let left : SearchingAt nfa x at target (starts nfa x) [] w.so_far (unmarked met) [] (ToLoad [] ∷ []) [] =
+              let past : from.limit ≤ at + 1 = (let h = over-joined from 0 at a.kept none in omega (arith, h)) in
+              let left : SearchingAt nfa x at target (starts nfa x) [] w.so_far (unmarked a.met) []
+              (ToLoad [] ∷ []) [] =
               rw (none, starts_from-end 0 from.state past) at (joined-search target b) in
               Searching-done (space nfa x) target (Searching-load (space nfa x) target left)
 
@@ -123,11 +122,10 @@ module _ (nfa : Automaton) (x : Search) (old : List Bool) where
           exact-result nfa x old new w.capacity wanted tells empty
           (full-exact nfa x old new w.capacity w.exact.sound full)
 
-  module _ {from : Starts} {at : ℕ} {met : Marks} {items : List (ℕ × Slots)} {mid : List Bool} {hit : Bool}
-      {b : Moment} {new : List Bool} (w : FirstWay from at met items mid)
-      (c : NextsOverlappingGive nfa x at false (length old) (between met (with_start from 0 at items) []) mid hit b
-      new) where
-    rests : (a : Pair × Slots) → In a c.front → (is_resting nfa a.0 ≡ true) × (a.0.1 ≡ at)
+  module _ {from : Starts} {at : ℕ} {a b : Moment} {mid : List Bool} {hit : Bool} {new : List Bool}
+      (w : FirstWay from at a mid)
+      (c : NextsOverlappingGive nfa x at false (length old) (start_joined from 0 at a) mid hit b new) where
+    rests : (v : Pair × Slots) → In v c.front → (is_resting nfa v.0 ≡ true) × (v.0.1 ≡ at)
     rests = Formed-resting nfa x at b.met.bits c.front c.gives.formed
 
     -- a search for what is wanted before the next position, or for more, wants the same here
@@ -142,7 +140,7 @@ module _ (nfa : Automaton) (x : Search) (old : List Bool) where
 
     next-searching : hit ≡ false → first_match wanted c.front ≡ None → (target : Pair → Bool)
         → Between wanted (at + 1) target
-        → SearchingFrom nfa x target (at + 1) 0 from.state (at + 1) from.limit w.so_far b.met b.kept
+        → SearchingFrom nfa x target (at + 1) 0 from.state (at + 1) from.limit w.so_far b
     next-searching off lacks target q =
         first-miss target (λ v t. wants-match nfa x (length old) v (q.sub v t)) 0 from.state from.limit c.gives
         (cut-for target q) (joined-search w target (Between-less q))
@@ -167,7 +165,7 @@ module _ (nfa : Automaton) (x : Search) (old : List Bool) where
         omega arith
 
     -- no match: the next position
-    pub FirstWay-next : hit ≡ false → FirstWay from (at + 1) b.met b.kept new
+    pub FirstWay-next : hit ≡ false → FirstWay from (at + 1) b new
     FirstWay-next off =
         let n = AddsFirst-none nfa (first_match wanted c.front) mid new
         (subst (λ h. AddsPatterns nfa false wanted c.front mid h new) off c.gathers) in
@@ -183,7 +181,7 @@ module _ (nfa : Automaton) (x : Search) (old : List Bool) where
 
     -- a match: the states after it are dropped, and no later start joins
     pub FirstWay-cut : size_of_set old ≡ 0 → hit ≡ true
-        → FirstWay (record from { limit = 0 }) (at + 1) b.met b.kept new
+        → FirstWay (record from { limit = 0 }) (at + 1) b new
     unfolding seeds
     FirstWay-cut empty on =
         let put = AddsFirst-some nfa (first_match wanted c.front) mid new

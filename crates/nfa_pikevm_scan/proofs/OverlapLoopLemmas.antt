@@ -17,7 +17,7 @@ use Rattle.nfa_paths.proofs.SetLemmas.{full-gains, first-gains}
 use Rattle.nfa_paths.proofs.GainLemmas.{wanted-shape, GainsBefore, GainsBefore-start, GainsBefore-step, GainsBefore-end, GainsBefore-full, NoneHeld, NoneHeld-start, NoneHeld-step, NoneHeld-found, NoneHeld-end}
 use Rattle.nfa_paths.proofs.FirstWantedLemmas.{FirstAt-front, FirstAt-found, First-none}
 use Rattle.nfa_scan_core.specs.Marks.{Marks}
-use Rattle.nfa_pikevm_scan.specs.Scans.{with_start, AreStarts}
+use Rattle.nfa_pikevm_scan.specs.Scans.{start_joined, with_start, AreStarts}
 use Rattle.nfa_pikevm_scan.specs.Overlapping.{wants, AddsPatterns, AddsAllPatterns, NextsOverlappingGive}
 use Rattle.nfa_pikevm_scan.specs.declared.scan.Starts.{Starts}
 use Rattle.nfa_pikevm_scan.proofs.FrontierLemmas.{Formed-resting}
@@ -49,34 +49,33 @@ module _ (nfa : Automaton) (x : Search) (old : List Bool) where
 
   -- all patterns
 
-  pub record AllAt (from : Starts) (at before : ℕ) (met : Marks) (items : List (ℕ × Slots))
-      (new : List Bool) : Type 0 where
-    pub stands : Stands nfa x wanted 0 from at before met items
+  pub record AllAt (from : Starts) (at before : ℕ) (now : Moment) (new : List Bool) : Type 0 where
+    pub stands : Stands nfa x wanted 0 from at before now
     pub gains : GainsBefore nfa x old wanted tells at new
 
-  pub All-next : {from : Starts} {at before : ℕ} {met : Marks} {items : List (ℕ × Slots)} {mid : List Bool} {hit : Bool}
-      {b : Moment} {new : List Bool}
-      → IsAutomaton nfa → x.start ≤ at → AllAt from at before met items mid
-      → NextsOverlappingGive nfa x at true (length old) (between met (with_start from 0 at items) []) mid hit b new
-      → AllAt from (at + 1) before b.met b.kept new
-  All-next good low a c = record {
-    stands = Stands-next a.stands c.gives (wants-match nfa x (length old))
+  pub All-next : {from : Starts} {at before : ℕ} {a b : Moment} {mid : List Bool} {hit : Bool}
+      {new : List Bool}
+      → IsAutomaton nfa → x.start ≤ at → AllAt from at before a mid
+      → NextsOverlappingGive nfa x at true (length old) (start_joined from 0 at a) mid hit b new
+      → AllAt from (at + 1) before b new
+  All-next good low s c = record {
+    stands = Stands-next s.stands c.gives (wants-match nfa x (length old))
         good.numbered.targets_in low (inl refl);
     gains = GainsBefore-step nfa x old wanted tells
-        (Stands-front a.stands c.gives (wants-match nfa x (length old)) (inl refl)) a.gains
+        (Stands-front s.stands c.gives (wants-match nfa x (length old)) (inl refl)) s.gains
         c.gathers.capacity c.gathers.gained;
   }
 
-  pub All-over : {from : Starts} {at before : ℕ} {met : Marks} {items : List (ℕ × Slots)} {new : List Bool}
-      → AllAt from at before met items new → with_start from 0 at items ≡ []
+  pub All-over : {from : Starts} {at before : ℕ} {now : Moment} {new : List Bool}
+      → AllAt from at before now new → with_start from 0 at now.kept ≡ []
       → IsOverlapResult nfa x AllMatches false old new
   All-over {from} {at} a none =
       GainsBefore-end nfa x old wanted tells a.gains
       (ScansAll-over nfa x from at 0 a.stands.scans none (wants-match nfa x (length old)))
 
   -- a full set gains no more
-  pub All-full : {from : Starts} {at before : ℕ} {met : Marks} {items : List (ℕ × Slots)} {new : List Bool}
-      → AllAt from at before met items new → size_of_set new ≡ length new
+  pub All-full : {from : Starts} {at before : ℕ} {now : Moment} {new : List Bool}
+      → AllAt from at before now new → size_of_set new ≡ length new
       → IsOverlapResult nfa x AllMatches false old new
   All-full a full = GainsBefore-full nfa x old wanted tells a.gains full
 
@@ -87,15 +86,14 @@ module _ (nfa : Automaton) (x : Search) (old : List Bool) where
   NoneMet true at = NoneHeld nfa x old wanted tells at
   NoneMet false at = NoneBefore (space nfa x) wanted at
 
-  pub record EarliestAt (past : Bool) (from : Starts) (at before : ℕ) (met : Marks) (items : List (ℕ × Slots))
-      (new : List Bool) : Type 0 where
-    pub stands : Stands nfa x wanted 0 from at before met items
+  pub record EarliestAt (past : Bool) (from : Starts) (at before : ℕ) (now : Moment) (new : List Bool) : Type 0 where
+    pub stands : Stands nfa x wanted 0 from at before now
     pub still : new ≡ old
     pub none : NoneMet past at
 
   pub Earliest-start : (past : Bool) (from : Starts) → AreStarts nfa x from
       → (met : Marks) (items : List (ℕ × Slots)) → items ≡ []
-      → EarliestAt past from x.start met.turns met items old
+      → EarliestAt past from x.start met.turns (between met items []) old
   Earliest-start past from are met items none =
       record { stands = Stands-start nfa x wanted from are [] met none; still = refl; none = of past }
     where
@@ -118,52 +116,51 @@ module _ (nfa : Automaton) (x : Search) (old : List Bool) where
             (rw (before_match-all wanted front n.0) at (before_match-plain wanted front)),
       )
 
-  pub Earliest-next : (past : Bool) {from : Starts} {at before : ℕ} {met : Marks} {items : List (ℕ × Slots)}
-      {mid : List Bool} {hit : Bool} {b : Moment} {new : List Bool}
-      → IsAutomaton nfa → x.start ≤ at → EarliestAt past from at before met items mid
-      → NextsOverlappingGive nfa x at past (length old) (between met (with_start from 0 at items) []) mid hit b new
+  pub Earliest-next : (past : Bool) {from : Starts} {at before : ℕ} {a b : Moment} {mid : List Bool}
+      {hit : Bool} {new : List Bool}
+      → IsAutomaton nfa → x.start ≤ at → EarliestAt past from at before a mid
+      → NextsOverlappingGive nfa x at past (length old) (start_joined from 0 at a) mid hit b new
       → hit ≡ false
-      → EarliestAt past from (at + 1) before b.met b.kept new
-  Earliest-next past {at = at} {mid = mid} {hit = hit} {new = new} good low a c off =
-      let f = Stands-front a.stands c.gives (wants-match nfa x (length old)) (inr off) in
+      → EarliestAt past from (at + 1) before b new
+  Earliest-next past {at = at} {mid = mid} {hit = hit} {new = new} good low s c off =
+      let f = Stands-front s.stands c.gives (wants-match nfa x (length old)) (inr off) in
       let g : AddsPatterns nfa past wanted c.front old false new =
-      subst (λ s. AddsPatterns nfa past wanted c.front s false new) a.still
+      subst (λ m. AddsPatterns nfa past wanted c.front m false new) s.still
       (subst (λ h. AddsPatterns nfa past wanted c.front mid h new) off c.gathers) in
-      let u = unmet past new a.none f g in
+      let u = unmet past new s.none f g in
       record {
-        stands = Stands-next a.stands c.gives (wants-match nfa x (length old))
+        stands = Stands-next s.stands c.gives (wants-match nfa x (length old))
             good.numbered.targets_in low (inr off);
         still = u.0;
         none = u.1;
       }
 
-  pub Earliest-found : (past : Bool) {from : Starts} {at before : ℕ} {met : Marks} {items : List (ℕ × Slots)}
-      {mid : List Bool} {hit : Bool} {b : Moment} {new : List Bool}
-      → IsAutomaton nfa → (past ≡ false → size_of_set old ≡ 0) → EarliestAt past from at before met items mid
-      → NextsOverlappingGive nfa x at past (length old) (between met (with_start from 0 at items) []) mid hit b new
+  pub Earliest-found : (past : Bool) {from : Starts} {at before : ℕ} {a b : Moment} {mid : List Bool}
+      {hit : Bool} {new : List Bool}
+      → IsAutomaton nfa → (past ≡ false → size_of_set old ≡ 0) → EarliestAt past from at before a mid
+      → NextsOverlappingGive nfa x at past (length old) (start_joined from 0 at a) mid hit b new
       → hit ≡ true
       → IsOverlapResult nfa x (cond past AllMatches LeftmostFirst) true old new
-  Earliest-found true {mid = mid} {new = new} good empty a c on =
-      let f = Stands-front a.stands c.gives (wants-match nfa x (length old)) (inl refl) in
+  Earliest-found true {mid = mid} {new = new} good empty s c on =
+      let f = Stands-front s.stands c.gives (wants-match nfa x (length old)) (inl refl) in
       let g : AddsAllPatterns nfa wanted c.front old true new =
-      subst (λ s. AddsAllPatterns nfa wanted c.front s true new) a.still
+      subst (λ m. AddsAllPatterns nfa wanted c.front m true new) s.still
       (subst (λ h. AddsAllPatterns nfa wanted c.front mid h new) on c.gathers) in
       let held = g.some refl in
-      NoneHeld-found nfa x old wanted tells f a.none held.0 held.1 held.2 g.capacity g.gained
-  Earliest-found false {from} {at} {before} {met} {items} {mid} {hit} {b} {new} good empty a c on =
+      NoneHeld-found nfa x old wanted tells f s.none held.0 held.1 held.2 g.capacity g.gained
+  Earliest-found false {from} {at} {b = b} {mid} {hit} {new} good empty s c on =
       let g : AddsPatterns nfa false wanted c.front old true new =
-      subst (λ s. AddsPatterns nfa false wanted c.front s true new) a.still
+      subst (λ m. AddsPatterns nfa false wanted c.front m true new) s.still
       (subst (λ h. AddsPatterns nfa false wanted c.front mid h new) on c.gathers) in
       let put = AddsFirst-some nfa (first_match wanted c.front) old new g in
-      let s = all-left wanted (wants-match nfa x (length old)) 0 from.state from.limit c.gives
-      (ScansAll-joined nfa x from at 0 a.stands.scans) in
-      let first = FirstAt-front nfa x old wanted tells s
+      let all = all-left wanted (wants-match nfa x (length old)) 0 from.state from.limit c.gives
+      (ScansAll-joined nfa x from at 0 s.stands.scans) in
+      let first = FirstAt-front nfa x old wanted tells all
       (Formed-resting nfa x at b.met.bits c.front c.gives.formed) put.0 put.1 in
-      FirstAt-found nfa x old wanted tells a.none first put.2.1 (empty refl) put.2.2
+      FirstAt-found nfa x old wanted tells s.none first put.2.1 (empty refl) put.2.2
 
-  pub Earliest-end : (past : Bool) {from : Starts} {at before : ℕ} {met : Marks} {items : List (ℕ × Slots)}
-      {new : List Bool}
-      → (past ≡ false → size_of_set old ≡ 0) → EarliestAt past from at before met items new
+  pub Earliest-end : (past : Bool) {from : Starts} {at before : ℕ} {now : Moment} {new : List Bool}
+      → (past ≡ false → size_of_set old ≡ 0) → EarliestAt past from at before now new
       → EndsBefore (space nfa x) wanted at
       → IsOverlapResult nfa x (cond past AllMatches LeftmostFirst) true old new
   Earliest-end true empty a ends = rw a.still
@@ -186,7 +183,7 @@ crosses-joined {nfa} {x} {at} {past} {a = a} {b} {set} {hit} {new} n met items s
 
 pub All-start : (nfa : Automaton) (x : Search) (from : Starts) → AreStarts nfa x from
     → (met : Marks) (items : List (ℕ × Slots)) (set : List Bool) → items ≡ []
-    → AllAt nfa x set from x.start met.turns met items set
+    → AllAt nfa x set from x.start met.turns (between met items []) set
 All-start nfa x from are met items set none = record {
   stands = Stands-start nfa x (wants nfa x (length set)) from are [] met none;
   gains = GainsBefore-start nfa x set (wants nfa x (length set)) (wants-tells nfa x (length set));

@@ -54,7 +54,7 @@ module _ (wanted : Pair → Bool) {nfa : Automaton} (sub : AreMatchPairs nfa wan
     {at : ℕ} (width state limit : ℕ) {a b : Moment} {front : Frontier} {goes : Type 0} {so_far : Hit}
     (c : PositionGives nfa x at a goes front b)
     (ends : moves (edges nfa x) (before_match wanted front) ≡ moves (edges nfa x) front)
-    (s : SearchingFrom nfa x wanted at width state (at + 1) limit so_far a.met a.kept) where
+    (s : SearchingFrom nfa x wanted at width state (at + 1) limit so_far a) where
   -- the next position's work is that of what is kept
   kept-work : (waiting : List Task) → AnswersFor (space nfa x) wanted
       (next_tasks (edges nfa x) (before_match wanted front) (Load (blank width) ∷ waiting))
@@ -87,7 +87,7 @@ module _ (wanted : Pair → Bool) {nfa : Automaton} (sub : AreMatchPairs nfa wan
 
   -- no match at the position
   pub first-miss : first_match wanted front ≡ None → goes
-      → SearchingFrom nfa x wanted (at + 1) width state (at + 1) limit so_far b.met b.kept
+      → SearchingFrom nfa x wanted (at + 1) width state (at + 1) limit so_far b
   first-miss none goes_on =
       goes-on {slots = (Leads-starts c width state limit).written} (starts_from width state (at + 1) limit)
       (rw (before_match-all wanted front none) (rw ((Leads-starts c width state limit).whole goes_on) at front-search))
@@ -149,10 +149,10 @@ match-cross {nfa} {x} {at} {past} {a} {b} {hit} c half is some =
 
 module _ (nfa : Automaton) (x : Search) (at width state limit : ℕ) {a b : Moment} {hit : Option PatternID}
     {so_far : Hit} (c : NextsGive nfa x at false a hit b)
-    (s : SearchingFrom nfa x (is_match nfa) at width state (at + 1) limit so_far a.met a.kept) where
+    (s : SearchingFrom nfa x (is_match nfa) at width state (at + 1) limit so_far a) where
   -- a position with no match
   pub SearchesFirst-miss : {found : Option HalfMatch} → IsSoFar nfa x found a.slots so_far → hit ≡ None
-      → SearchesFirst nfa x (at + 1) width state limit found b.slots b.met b.kept
+      → SearchesFirst nfa x (at + 1) width state limit found b
   SearchesFirst-miss {found} is_so_far none =
       let h = rw none at c.is_hit in
       record {
@@ -164,7 +164,7 @@ module _ (nfa : Automaton) (x : Search) (at width state limit : ℕ) {a b : Mome
 
   -- a position with a match: no start is left
   pub SearchesFirst-match : (half : Option HalfMatch) → EndsAt at hit half → is_some half ≡ true
-      → SearchesFirst nfa x (at + 1) width state 0 half b.slots b.met b.kept
+      → SearchesFirst nfa x (at + 1) width state 0 half b
   SearchesFirst-match half is some =
       let h = match-cross c half is some in
       let later : 0 ≤ at + 1 = omega arith in

@@ -8,7 +8,7 @@ use Rattle.nfa_paths.specs.Exploring.{Slots}
 use Rattle.nfa_paths.specs.Kinds.{is_resting, IsFrontier}
 use Rattle.nfa_scan_core.specs.Marks.{Marks}
 use Rattle.nfa_pikevm_scan.specs.States.{Frontier, Moment, between, AreMatchPairs, PositionGives}
-use Rattle.nfa_pikevm_scan.specs.Scans.{blank, with_start, AreStarts, AreAt, JoinsStart, KeepsThreads, MayCross, ScansAll, MayScan}
+use Rattle.nfa_pikevm_scan.specs.Scans.{blank, held, start_joined, AreStarts, AreAt, JoinsStart, KeepsThreads, MayCross, ScansAll, MayScan}
 use Rattle.nfa_pikevm_scan.specs.declared.scan.Starts.{Starts}
 use Rattle.nfa_pikevm_scan.proofs.RoomLemmas.{AreAt-none, HaveRows-kept, KeepsThreads-then, below-joined, few-joined}
 use Rattle.nfa_pikevm_scan.proofs.ScanLemmas.{AreAt-cross}
@@ -18,13 +18,13 @@ use Rattle.nfa_pikevm_scan.specs.declared.threads.Threads.{Threads}
 
 -- the states, the turns and the work at a position
 pub record Stands (nfa : Automaton) (x : Search) (wanted : Pair → Bool) (width : ℕ) (from : Starts) (at before : ℕ)
-    (met : Marks) (items : List (ℕ × Slots)) : Type 0 where
-  pub states : AreAt nfa x at before met.turns items
-  pub scans : ScansAll nfa x wanted at width from.state from.limit met items
+    (now : Moment) : Type 0 where
+  pub states : AreAt nfa x at before now.met.turns now.kept
+  pub scans : ScansAll nfa x wanted at width from.state from.limit now
 
 pub Stands-start : (nfa : Automaton) (x : Search) (wanted : Pair → Bool) (from : Starts) → AreStarts nfa x from
     → (slots : Slots) (met : Marks) {items : List (ℕ × Slots)} → items ≡ []
-    → Stands nfa x wanted (length slots) from x.start met.turns met items
+    → Stands nfa x wanted (length slots) from x.start met.turns (between met items slots)
 Stands-start nfa x wanted from are slots met none =
     rw none (record {
       states = AreAt-none nfa x met.turns;
@@ -34,7 +34,7 @@ Stands-start nfa x wanted from are slots met none =
 -- at the start of a scan for all matches
 pub Stands-ready : {nfa : Automaton} {x : Search} {from : Starts} {t : Threads} {at : ℕ} (slots : Slots) → at ≡ x.start
     → MayScan nfa x from slots t
-    → Stands nfa x (is_match nfa) (length slots) from at t.reached.seen.turns t.reached.seen t.curr.items
+    → Stands nfa x (is_match nfa) (length slots) from at t.reached.seen.turns (held t slots)
 Stands-ready {nfa} {x} {from} {t} slots start ready =
     rw start (Stands-start nfa x (is_match nfa) from ready.starts slots t.reached.seen ready.curr)
 
@@ -52,17 +52,16 @@ MayCross-joins {from = from} {slots} {at} {old = old} ready keeps none a j state
 }
 
 module _ {nfa : Automaton} {x : Search} {wanted : Pair → Bool} {width : ℕ} {from : Starts} {at before : ℕ}
-    {met : Marks} {items : List (ℕ × Slots)} {slots : Slots} {b : Moment} {front : Frontier} {goes : Type 0}
-    (s : Stands nfa x wanted width from at before met items)
-    (c : PositionGives nfa x at (between met (with_start from width at items) slots) goes front b) where
+    {a b : Moment} {front : Frontier} {goes : Type 0} (s : Stands nfa x wanted width from at before a)
+    (c : PositionGives nfa x at (start_joined from width at a) goes front b) where
   -- the states at the next position
   pub Stands-states : All (LeadsBelow (length nfa.states)) nfa.states → x.start ≤ at
       → AreAt nfa x (at + 1) before b.met.turns b.kept
-  Stands-states leads low = AreAt-cross c leads low s.states.paid (few-joined from width at items)
+  Stands-states leads low = AreAt-cross c leads low s.states.paid (few-joined from width at a.kept)
 
   -- the next position, if the whole position was followed
   pub Stands-next : AreMatchPairs nfa wanted → All (LeadsBelow (length nfa.states)) nfa.states → x.start ≤ at → goes
-      → Stands nfa x wanted width from (at + 1) before b.met b.kept
+      → Stands nfa x wanted width from (at + 1) before b
   Stands-next sub leads low goes_on = record {
     states = Stands-states leads low;
     scans = ScansAll-next wanted sub width from.state from.limit c (ScansAll-joined nfa x from at width s.scans)

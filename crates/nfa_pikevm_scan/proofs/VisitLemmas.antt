@@ -24,8 +24,9 @@ use Rattle.nfa_paths.proofs.TurnLemmas.{marked_sum-set, marked_sum-le}
 use Rattle.nfa_paths.proofs.ScanningLemmas.{once-keep}
 use Rattle.nfa_scan_core.proofs.TargetLemmas.{target-degree}
 use Rattle.nfa_scan_core.specs.Marks.{Marks}
-use Rattle.nfa_pikevm_scan.specs.Needs.{room_of}
+use Rattle.nfa_pikevm_scan.specs.Needs.{room_of, stack_frames}
 use Rattle.nfa_pikevm_scan.specs.States.{Frontier, Moment, work_onto, with_state, tries, tries_of, state_on, one_of, kept_target, IsWithin, IsPut, IsSaved, WasSeen, Entered, Follows, Formed, Paid, HasRoom, VisitsState, IsMet}
+use Rattle.nfa_pikevm_scan.specs.declared.closure.ClosureOutput.{ClosureOutput}
 use Rattle.nfa_pikevm_scan.specs.declared.closure.Move.{Move}
 use Rattle.nfa_pikevm_scan.specs.declared.closure.Move.TheVariants.{On, Matched, DeadEnd}
 use Rattle.nfa_pikevm_scan.specs.declared.frame.FollowEpsilon.{FollowEpsilon}
@@ -44,29 +45,6 @@ module _ {nfa : Automaton} {s : ℕ} {node : Node} {m n : Marks} (e : Entered nf
       get_or_from_slice_get (map w nfa.states) s (w node) 0 (rw (slice_get-map w nfa.states s, e.is) refl) in
       rw e.marked (marked_sum-set (map w nfa.states) m.bits s e.clear
       ∙ ap (λ k. marked_sum (map w nfa.states) m.bits + k) one)
-
-  module _ {top frames kept capacity : ℕ} (room : HasRoom nfa m.bits top frames kept capacity) where
-    -- there is room for the frames that it pushes
-    pub frames-entered : top + room_of node ≤ frames
-    frames-entered = omega (
-      arith,
-      room.frames_fit,
-      weight-entered room_of,
-      marked_sum-le (map room_of nfa.states) n.bits,
-      sum-map room_of nfa.states,
-    )
-
-    -- and for one more state
-    pub states-entered : kept < capacity
-    states-entered =
-        omega (
-          arith,
-          room.states_fit,
-          weight-entered one_of,
-          marked_sum-le (map one_of nfa.states) n.bits,
-          sum-map one_of nfa.states,
-          sum-ones nfa.states,
-        )
 
   -- what it pushes and keeps is paid for
   Paid-entered : (a b : Moment) (in_hand : ℕ)
@@ -117,6 +95,31 @@ module _ {nfa : Automaton} {s : ℕ} {node : Node} {m n : Marks} (e : Entered nf
               let l : get_or m.bits s false ≡ true = ap (λ w. get_or m.bits w.0 false) (sym v) ∙ k in
               absurd (cc (l, unmarked)));
         }
+
+-- Before the state was entered there was room.
+module _ {nfa : Automaton} {s : ℕ} {node : Node} {old : ClosureOutput} {n : Marks} (e : Entered nfa s node old.seen n)
+    {top frames : ℕ} (room : HasRoom nfa old top frames) where
+  -- there is room for the frames that it pushes
+  pub frames-entered : top + room_of node ≤ stack_frames nfa
+  frames-entered = omega (
+    arith,
+    room.frames_fit,
+    weight-entered e room_of,
+    marked_sum-le (map room_of nfa.states) n.bits,
+    sum-map room_of nfa.states,
+  )
+
+  -- and for one more state
+  pub states-entered : length old.next.items < old.next.capacity
+  states-entered =
+      omega (
+        arith,
+        room.states_fit,
+        weight-entered e one_of,
+        marked_sum-le (map one_of nfa.states) n.bits,
+        sum-map one_of nfa.states,
+        sum-ones nfa.states,
+      )
 
 -- The result of a turn that adds no pair to the front.
 VisitsState-bare : {nfa : Automaton} {x : Search} {at s : ℕ} {old new : Moment} {turn : Move}

@@ -11,7 +11,6 @@ use Rattle.nfa_paths.specs.Exploring.Task.{Load}
 use Rattle.nfa_paths.specs.Kinds.{Scanning}
 pub use Rattle.nfa_paths.specs.Restarts.{max_scan_turns}
 use Rattle.nfa_scan_core.specs.FirstBytes.{IsRefused}
-use Rattle.nfa_scan_core.specs.Marks.{Marks}
 use Rattle.nfa_pikevm_scan.specs.Needs.{stack_frames}
 use Rattle.nfa_pikevm_scan.specs.declared.scan.Starts.{Starts}
 use Rattle.nfa_pikevm_scan.specs.declared.threads.Threads.{Threads}
@@ -105,6 +104,10 @@ abbrev pub with_start : Starts → ℕ → ℕ → List (ℕ × Slots) → List 
 with_start starts_at width at items = if nat_lt at starts_at.limit then items ++ (starts_at.state, blank width)
     ∷ [] else items
 
+-- what is held once the start has joined, if it may still join
+abbrev pub start_joined : Starts → ℕ → ℕ → Moment → Moment
+start_joined starts_at width at now = record now { kept = with_start starts_at width at now.kept }
+
 -- The start has joined the states of the threads, if it may still join. Nothing else changed.
 pub record JoinsStart (starts_at : Starts) (at : ℕ) (old new : Threads) : Type 0 where
   pub curr : new.curr.items ≡ with_start starts_at old.curr.width at old.curr.items
@@ -166,25 +169,24 @@ module _ (nfa : Automaton) (x : Search) where
     pub over : x.end < at → items ≡ []
     pub paid : IsPaidAt at before turns (length items)
 
-  -- The search for a set of match pairs, at a position where it has followed no state yet. The states there are left,
-  -- and the starts from `next` on.
-  abbrev pub SearchingFrom : (Pair → Bool) → ℕ → ℕ → ℕ → ℕ → ℕ → Hit → Marks → List (ℕ × Slots) → Type 0
-  SearchingFrom target at width start next limit so_far met items =
-      SearchingAt nfa x at target (starts nfa x) (blank width) so_far (unmarked met) []
-      (tasks at items (Load (blank width) ∷ starts_from width start next limit)) (blank width)
+  -- The search for a set of match pairs, at a position where it has followed no state yet. The states that are kept
+  -- are left, and the starts from `next` on.
+  abbrev pub SearchingFrom : (Pair → Bool) → ℕ → ℕ → ℕ → ℕ → ℕ → Hit → Moment → Type 0
+  SearchingFrom target at width start next limit so_far now =
+      SearchingAt nfa x at target (starts nfa x) (blank width) so_far (unmarked now.met) []
+      (tasks at now.kept (Load (blank width) ∷ starts_from width start next limit)) (blank width)
 
   -- the same for the scan for each wanted pair
-  abbrev pub ScanningFrom : (Pair → Bool) → ℕ → ℕ → ℕ → ℕ → ℕ → Marks → List (ℕ × Slots) → Type 0
-  ScanningFrom wanted at width start next limit met items =
-      Scanning (space nfa x) wanted (blank width) at (SeenAt at (unmarked met).bits) met.turns []
-      (tasks at items (Load (blank width) ∷ starts_from width start next limit)) (blank width)
+  abbrev pub ScanningFrom : (Pair → Bool) → ℕ → ℕ → ℕ → ℕ → ℕ → Moment → Type 0
+  ScanningFrom wanted at width start next limit now =
+      Scanning (space nfa x) wanted (blank width) at (SeenAt at (unmarked now.met).bits) now.met.turns []
+      (tasks at now.kept (Load (blank width) ∷ starts_from width start next limit)) (blank width)
 
   -- The search for the first path, at a position where it has followed no state yet.
-  pub record SearchesFirst (at width start limit : ℕ) (found : Option HalfMatch) (slots : Slots) (met : Marks)
-      (items : List (ℕ × Slots)) : Type 0 where
+  pub record SearchesFirst (at width start limit : ℕ) (found : Option HalfMatch) (now : Moment) : Type 0 where
     pub so_far : Hit
-    pub is_so_far : IsSoFar found slots so_far
-    pub searching : SearchingFrom (is_match nfa) at width start at limit so_far met items
+    pub is_so_far : IsSoFar found now.slots so_far
+    pub searching : SearchingFrom (is_match nfa) at width start at limit so_far now
 
   -- The scan for the first path, which began with the threads `old`, at a position where it has followed no state yet.
   -- The starts up to their own limit are left, or none is.
@@ -196,9 +198,8 @@ module _ (nfa : Automaton) (x : Search) where
     pub keeps : KeepsThreads old now
     pub next : now.reached.next.items ≡ []
     pub states : AreAt at old.reached.seen.turns now.reached.seen.turns now.curr.items
-    pub searches : SearchesFirst at width from.state limit found slots now.reached.seen now.curr.items
+    pub searches : SearchesFirst at width from.state limit found (held now slots)
 
   -- The scan for each wanted pair, at a position where it has followed no state yet.
-  pub record ScansAll (wanted : Pair → Bool) (at width start limit : ℕ) (met : Marks)
-      (items : List (ℕ × Slots)) : Type 0 where
-    pub scanning : ScanningFrom wanted at width start at limit met items
+  pub record ScansAll (wanted : Pair → Bool) (at width start limit : ℕ) (now : Moment) : Type 0 where
+    pub scanning : ScanningFrom wanted at width start at limit now

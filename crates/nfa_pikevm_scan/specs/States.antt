@@ -179,11 +179,15 @@ pub record Formed (nfa : Automaton) (at : ℕ) (bits : List Bool) (front : Front
   pub marked : All (λ a. slice_index_or bits a.0.0 false ≡ true) front
   pub once : NoRepeats (map (λ a. a.0) front)
 
--- There is a mark for each state, and room for the frames and the states that may still come.
-pub record HasRoom (nfa : Automaton) (bits : List Bool) (top frames kept capacity : ℕ) : Type 0 where
-  pub marks : length nfa.states ≤ length bits
-  pub frames_fit : top + sum_by room_of nfa.states ≤ frames + marked_sum (map room_of nfa.states) bits
-  pub states_fit : kept + length nfa.states ≤ capacity + marked_sum (map one_of nfa.states) bits
+-- There is a mark for each state, and room for the frames and the states that may still come. `top` frames of the stack
+-- are used, and never more than the NFA needs.
+pub record HasRoom (nfa : Automaton) (old : ClosureOutput) (top frames : ℕ) : Type 0 where
+  pub marks : length nfa.states ≤ length old.seen.bits
+  pub frames_fit : top + sum_by room_of nfa.states
+      ≤ stack_frames nfa + marked_sum (map room_of nfa.states) old.seen.bits
+  pub states_fit : length old.next.items + length nfa.states
+      ≤ old.next.capacity + marked_sum (map one_of nfa.states) old.seen.bits
+  pub stack : stack_frames nfa ≤ frames
 
 -- From one moment to a later one: the marks pay for the turns and for what is left to take, for the frames, and for the
 -- kept states.
@@ -278,20 +282,23 @@ module _ (nfa : Automaton) (x : Search) where
     pub is_hit : IsHit nfa (meant past (is_match nfa) front) old.slots hit new.slots
     pub cut : past ≡ false → moves (edges nfa x) (before_match (is_match nfa) front) ≡ moves (edges nfa x) front
 
--- The same, for what is reached from the place of a scan.
+-- Frames were applied, down to a state to follow or all of them: what is left of any search is the same.
+pub record Resumes (stack : List FollowEpsilon) (old : Slots) (state : Option ℕ) (left : List FollowEpsilon)
+    (new : Slots) : Type 0 where
+  pub fewer : length left ≤ length stack
+  pub tried : sum_by tries left + tries_of state ≡ sum_by tries stack
+  pub follows : (nfa : Automaton) (x : Search) (at : ℕ) (met : Marks) (front : Frontier) (work : List Task)
+      → Follows nfa x at met front (work_onto at stack work) old met front
+      (with_state at state (work_onto at left work)) new
 
--- There is room, and no more of the stack is used than the NFA needs.
-pub record ClosureHasRoom (here : ClosureContext) (old : ClosureOutput) (top frames : ℕ) : Type 0 where
-  pub room : HasRoom here.nfa.now old.seen.bits top (stack_frames here.nfa.now) (length old.next.items)
-      old.next.capacity
-  pub stack : stack_frames here.nfa.now ≤ frames
+-- The same, for what is reached from the place of a scan.
 
 -- The states may be followed at the position, with rows of this width: each is a state of the NFA, there is room for
 -- what they lead to, no state is marked, and none is kept for the next position yet.
 pub record MayFollow (here : ClosureContext) (states : List ℕ) (old : ClosureOutput) (frames width : ℕ) : Type 0 where
   pub context : IsClosureContext here
   pub below : All (λ s. s < length here.nfa.now.states) states
-  pub room : ClosureHasRoom here old 0 frames
+  pub room : HasRoom here.nfa.now old 0 frames
   pub clear : old.seen.bits ≡ replicate (length old.seen.bits) false
   pub empty : old.next.items ≡ []
   pub width_is : width ≡ old.next.width

@@ -1,17 +1,12 @@
 //! The states that a state leads to without reading a byte.
-ghost use Rattle.std.specs.Prelude.{◌≡◌, ℕ, ◌+◌, ◌<◌, ◌≤◌, [], ◌∷◌, ◌++◌, None, Some, List, length, map, reverse, drop};
+ghost use Rattle.std.specs.Prelude.{◌≡◌, ℕ, ◌+◌, ◌<◌, ◌≤◌, [], ◌∷◌, ◌++◌, None, length, map, reverse, drop};
 ghost use Rattle.std.specs.Prelude.{take, slice_index_or, All, IfSome};
-ghost use Rattle.std.specs.List.{sum_by};
-ghost use Rattle.regex_search_core.specs.Search.{Search, search_of};
-ghost use Rattle.thompson_nfa.specs.Automaton.{Automaton, LeadsBelow, node_of};
-ghost use Rattle.nfa_paths.specs.Exploring.{Task};
-ghost use Rattle.nfa_scan_core.specs.Marks.{Marks};
+ghost use Rattle.regex_search_core.specs.Search.{search_of};
+ghost use Rattle.thompson_nfa.specs.Automaton.{LeadsBelow, node_of};
 ghost use Rattle.nfa_pikevm_scan.specs.Needs.{stack_frames};
-ghost use Rattle.nfa_pikevm_scan.specs.States.{Frontier, work_onto, with_state, tries, tries_of, state_on, undone};
-ghost use Rattle.nfa_pikevm_scan.specs.States.{state_of, HasSlot, IsBelow, IsWithin, Follows, IsClosureContext};
-ghost use Rattle.nfa_pikevm_scan.specs.States.{KeepsRoom, ClosureHasRoom, ClosureFramesWithin};
-ghost use Rattle.nfa_pikevm_scan.specs.States.{moment_of, FindsMatch, VisitsState};
-ghost use Rattle.nfa_pikevm_scan.specs.States.{Entered, WasSeen, kept_target};
+ghost use Rattle.nfa_pikevm_scan.specs.States.{kept_target, moment_of, state_of, state_on, undone, ClosureFramesWithin};
+ghost use Rattle.nfa_pikevm_scan.specs.States.{Entered, FindsMatch, HasRoom, HasSlot, IsBelow, IsClosureContext};
+ghost use Rattle.nfa_pikevm_scan.specs.States.{IsWithin, KeepsRoom, Resumes, VisitsState, WasSeen};
 ghost use Rattle.nfa_pikevm_scan.specs.Sinks.{ClosureGives};
 ghost use Rattle.nfa_pikevm_scan.specs.declared.frame.FollowEpsilon.TheVariants.{Explore, Restore};
 
@@ -144,7 +139,7 @@ pub fn visit_state(
     requires here { IsClosureContext here.now }
     requires state { sid < length here.now.nfa.now.states }
     requires top { top.old ≤ stack_frames here.now.nfa.now }
-    requires room { ClosureHasRoom here.now reached.old top.old (length frames.old) }
+    requires room { HasRoom here.now.nfa.now reached.old top.old (length frames.old) }
     requires width { length row.old ≡ reached.old.next.width }
     requires within { ClosureFramesWithin here.now (length row.old) (take top.old frames.old) }
     ensures turns { reached.new.seen.turns ≡ reached.old.seen.turns + 1 }
@@ -228,13 +223,10 @@ pub fn resume(frames: &[FollowEpsilon], top: &mut usize, row: &mut [Slot]) -> Op
     requires top { top.old ≤ length frames.now }
     requires slots { All (HasSlot (length row.old)) (take top.old frames.now) }
     ensures top { top.new ≤ top.old }
-    ensures tried { sum_by tries (take top.new frames.now) + tries_of result ≡ sum_by tries (take top.old frames.now) }
     ensures state { (states : ℕ) → All (IsWithin states (length row.old)) (take top.old frames.now)
         → IsBelow states result }
     ensures over { result ≡ None → top.new ≡ 0 }
-    ensures follows { (nfa : Automaton) (x : Search) (at : ℕ) (met : Marks) (front : Frontier) (work : List Task)
-        → Follows nfa x at met front (work_onto at (take top.old frames.now) work) row.old met front
-        (with_state at result (work_onto at (take top.new frames.now) work)) row.new }
+    ensures resumes { Resumes (take top.old frames.now) row.old result (take top.new frames.now) row.new }
 {
     while *top > 0 {
         *top -= 1;
@@ -259,7 +251,7 @@ pub fn next_match(
     requires here { IsClosureContext here.now }
     requires state { from < length here.now.nfa.now.states }
     requires top { top.old ≤ stack_frames here.now.nfa.now }
-    requires room { ClosureHasRoom here.now reached.old top.old (length frames.old) }
+    requires room { HasRoom here.now.nfa.now reached.old top.old (length frames.old) }
     requires width { length row.old ≡ reached.old.next.width }
     requires within { ClosureFramesWithin here.now (length row.old) (take top.old frames.old) }
     ensures turns { reached.old.seen.turns < reached.new.seen.turns }
@@ -301,7 +293,7 @@ pub fn epsilon_closure<T: MatchSink>(
 ) -> bool
     requires here { IsClosureContext here.now }
     requires state { root < length here.now.nfa.now.states }
-    requires room { ClosureHasRoom here.now reached.old 0 (length frames.old) }
+    requires room { HasRoom here.now.nfa.now reached.old 0 (length frames.old) }
     requires width { length row.old ≡ reached.old.next.width }
     requires takes { length row.old ≡ T.row_width sink.old }
     ensures keeps { KeepsRoom reached.old reached.new }

@@ -29,15 +29,13 @@ returns-in_default-resume-clause-arrives g c =
     let none : c.resume.new.top ≡ 0 = c.in_default-resume.ensures.over refl in
     let empty : take c.resume.new.top c.next_match.new.frames ≡ [] = rw none refl in
     ClosureGives-whole empty
-    (Turned-resumed c.next_match.new.top c.resume.new.top c.next_match.new.frames
-    c.in_default-resume.ensures.top (omega (arith, c.in-Some.ensures.top, c.requires.room.stack)) refl
-    c.in_default-resume.ensures.tried c.in_default-resume.ensures.follows
+    (Turned-resumed c.in_default-resume.ensures.resumes
     (Turned-more c.loop-pattern.invariant.followed c.in-Some.ensures.finds
     (Takes-match _ false c.if-take.false c.in-Some.ensures.finds.ends c.take.ensures.takes) refl))
 
 pub loop-pattern-smaller : goal.loop-pattern-smaller
 loop-pattern-smaller g c = Paid-falls c.in-Some.ensures.finds.gives.paid (omega (arith, c.in-Some.ensures.turns))
-    (omega (arith, c.in-Some-resume.ensures.tried))
+    (omega (arith, c.in-Some-resume.ensures.resumes.tried))
 
 pub loop-pattern-preserved : goal.loop-pattern-preserved
 loop-pattern-preserved g c =
@@ -51,9 +49,7 @@ loop-pattern-preserved g c =
           (within-lower _ _ _ _ _ c.in-Some-resume.ensures.top c.in-Some.ensures.within);
       width = c.take.ensures.width ∙ c.loop-pattern.invariant.width;
       same_reference = c.take.ensures.same_reference ∙ c.loop-pattern.invariant.same_reference;
-      followed = Turned-resumed c.next_match.new.top c.resume.new.top c.next_match.new.frames
-          c.in-Some-resume.ensures.top (omega (arith, c.in-Some.ensures.top, c.requires.room.stack)) refl
-          c.in-Some-resume.ensures.tried c.in-Some-resume.ensures.follows
+      followed = Turned-resumed c.in-Some-resume.ensures.resumes
           (Turned-more c.loop-pattern.invariant.followed c.in-Some.ensures.finds
           (Takes-match _ false c.if-take.false c.in-Some.ensures.finds.ends c.take.ensures.takes) refl);
     }

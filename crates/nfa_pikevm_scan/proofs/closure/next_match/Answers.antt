@@ -1,5 +1,5 @@
 -- All that a state leads to without reading a byte is entered in order, up to the next match.
-use Rattle.std.proofs.Common.{length, arith, refl}
+use Rattle.std.proofs.Common.{length, arith}
 use Rattle.nfa_pikevm_scan.proofs.ApplyFrameLemmas.{within-lower}
 use Rattle.nfa_pikevm_scan.proofs.ClosureLemmas.{Paid-falls, Turned-begin, Turned-resumed, Passed-plain, Finds-none, Finds-match, HasRoom-paid, KeepsRoom-none, KeepsRoom-then}
 use Rattle.nfa_pikevm_scan.proofs.closure.next_match.Goals as goal
@@ -18,14 +18,9 @@ loop-on-init c =
 pub visit_state-requires-clause-room : goal.visit_state-requires-clause-room
 visit_state-requires-clause-room c =
     let i = c.loop-on.invariant in
-    let stack = c.requires.room.stack in
-    let frames = c.loop-on.auto.frames in
-    record {
-      room = rw i.keeps.same
-          (HasRoom-paid c.args.top.now c.loop-on.top c.args.frames.now c.loop-on.frames c.requires.room.room
-          i.passed.gives.paid i.keeps.size refl (omega (arith, c.requires.top)) refl (omega (arith, i.inside)));
-      stack = omega arith;
-    }
+    HasRoom-paid c.args.top.now c.loop-on.top c.args.frames.now c.loop-on.frames c.requires.room i.passed.gives.paid
+    i.keeps c.loop-on.auto.frames (omega (arith, c.requires.top, c.requires.room.stack))
+    (omega (arith, i.inside, c.requires.room.stack, c.loop-on.auto.frames))
 
 pub loop-on-smaller-in-On : goal.loop-on-smaller-in-On
 loop-on-smaller-in-On c = Paid-falls c.in-On.ensures.enters.gives.paid (omega (arith, c.in-On.ensures.turns))
@@ -47,13 +42,10 @@ returns-in-Matched-clause-finds c = Finds-match c.loop-on.invariant.passed c.in-
 
 pub loop-on-smaller : goal.loop-on-smaller
 loop-on-smaller c = Paid-falls c.in-DeadEnd.ensures.enters.gives.paid (omega (arith, c.visit_state.ensures.turns))
-    (omega (arith, c.in-Some.ensures.tried))
+    (omega (arith, c.in-Some.ensures.resumes.tried))
 
 pub loop-on-preserved : goal.loop-on-preserved
 loop-on-preserved c =
-    let stack = c.requires.room.stack in
-    let turned = Passed-plain c.loop-on.invariant.passed c.in-DeadEnd.ensures.enters
-    c.in-DeadEnd.ensures.enters.is_met in
     record {
       state = c.in-Some.ensures.state (length c.args.here.now.nfa.now.states)
           (rw c.visit_state.auto.row c.visit_state.ensures.within);
@@ -62,16 +54,11 @@ loop-on-preserved c =
       grows = omega (arith, c.visit_state.ensures.turns);
       within = rw (c.resume.auto.row, c.visit_state.auto.row)
           (within-lower _ _ _ _ _ c.in-Some.ensures.top c.visit_state.ensures.within);
-      passed = Turned-resumed c.visit_state.new.top c.resume.new.top c.visit_state.new.frames c.in-Some.ensures.top
-          (omega (arith, c.visit_state.ensures.top, stack)) refl c.in-Some.ensures.tried c.in-Some.ensures.follows
-          turned;
+      passed = Turned-resumed c.in-Some.ensures.resumes (Passed-plain c.loop-on.invariant.passed
+          c.in-DeadEnd.ensures.enters c.in-DeadEnd.ensures.enters.is_met);
     }
 
 pub returns-in-None-clause-finds : goal.returns-in-None-clause-finds
 returns-in-None-clause-finds c =
-    let stack = c.requires.room.stack in
-    let turned = Passed-plain c.loop-on.invariant.passed c.in-DeadEnd.ensures.enters
-    c.in-DeadEnd.ensures.enters.is_met in
-    Finds-none
-    (Turned-resumed c.visit_state.new.top c.resume.new.top c.visit_state.new.frames c.in-None.ensures.top
-    (omega (arith, c.visit_state.ensures.top, stack)) refl c.in-None.ensures.tried c.in-None.ensures.follows turned)
+    Finds-none (Turned-resumed c.in-None.ensures.resumes (Passed-plain c.loop-on.invariant.passed
+    c.in-DeadEnd.ensures.enters c.in-DeadEnd.ensures.enters.is_met))

@@ -10,7 +10,7 @@ pub returns-in_default-clause-enters : goal.returns-in_default-clause-enters
 returns-in_default-clause-enters c = VisitsState-marked (c.in_default.ensures.marked refl)
 
 pub push_target-requires-clause-room : goal.push_target-requires-clause-room
-push_target-requires-clause-room c = states-entered c.in-Some.ensures.entered c.requires.room.room
+push_target-requires-clause-room c = states-entered c.in-Some.ensures.entered c.requires.room
 
 pub returns-in-ByteRange-clause-enters : goal.returns-in-ByteRange-clause-enters
 returns-in-ByteRange-clause-enters c =
@@ -18,7 +18,7 @@ returns-in-ByteRange-clause-enters c =
     (rw c.range_target.ensures at c.push_target.ensures.kept)
 
 pub push_target-requires-in-Sparse-clause-room : goal.push_target-requires-in-Sparse-clause-room
-push_target-requires-in-Sparse-clause-room c = states-entered c.in-Some.ensures.entered c.requires.room.room
+push_target-requires-in-Sparse-clause-room c = states-entered c.in-Some.ensures.entered c.requires.room
 
 pub returns-in-Sparse-clause-enters : goal.returns-in-Sparse-clause-enters
 returns-in-Sparse-clause-enters c =
@@ -26,7 +26,7 @@ returns-in-Sparse-clause-enters c =
     (rw (c.sparse_target.ensures, c.deref.ensures.value) at c.push_target-in-Sparse.ensures.kept)
 
 pub push_target-requires-in-Dense-clause-room : goal.push_target-requires-in-Dense-clause-room
-push_target-requires-in-Dense-clause-room c = states-entered c.in-Some.ensures.entered c.requires.room.room
+push_target-requires-in-Dense-clause-room c = states-entered c.in-Some.ensures.entered c.requires.room
 
 pub returns-in-Dense-clause-enters : goal.returns-in-Dense-clause-enters
 returns-in-Dense-clause-enters c =
@@ -51,7 +51,7 @@ returns-in-Match-clause-enters c = VisitsState-match (rw c.in-Match.is at c.in-S
 
 pub push_alternates-requires : goal.push_alternates-requires
 push_alternates-requires c =
-    let room = frames-entered (rw c.in-Union.is at c.in-Some.ensures.entered) c.requires.room.room in
+    let room = frames-entered (rw c.in-Union.is at c.in-Some.ensures.entered) c.requires.room in
     rw c.deref-in-Union-2.ensures.value
     (omega (arith, room, c.requires.room.stack, length-drop 1 c.in-Union.alternates.items))
 
@@ -62,7 +62,7 @@ returns-in_default-first-clause-enters c =
 
 pub returns-in-Some-first-clause-top : goal.returns-in-Some-first-clause-top
 returns-in-Some-first-clause-top c =
-    let room = frames-entered (rw c.in-Union.is at c.in-Some.ensures.entered) c.requires.room.room in
+    let room = frames-entered (rw c.in-Union.is at c.in-Some.ensures.entered) c.requires.room in
     let top = rw c.deref-in-Union-2.ensures.value at c.push_alternates.ensures.top in
     omega (arith, room, top, length-drop 1 c.in-Union.alternates.items)
 
@@ -81,12 +81,12 @@ returns-in-Some-first-clause-enters c =
 
 pub push-requires : goal.push-requires
 push-requires c =
-    let room = frames-entered (rw c.in-BinaryUnion.is at c.in-Some.ensures.entered) c.requires.room.room in
+    let room = frames-entered (rw c.in-BinaryUnion.is at c.in-Some.ensures.entered) c.requires.room in
     omega (arith, room, c.requires.room.stack)
 
 pub returns-in-BinaryUnion-clause-top : goal.returns-in-BinaryUnion-clause-top
 returns-in-BinaryUnion-clause-top c =
-    let room = frames-entered (rw c.in-BinaryUnion.is at c.in-Some.ensures.entered) c.requires.room.room in
+    let room = frames-entered (rw c.in-BinaryUnion.is at c.in-Some.ensures.entered) c.requires.room in
     omega (arith, room, c.push.ensures.top)
 
 pub returns-in-BinaryUnion-clause-enters : goal.returns-in-BinaryUnion-clause-enters
@@ -95,12 +95,12 @@ returns-in-BinaryUnion-clause-enters c =
 
 pub push_restore-requires-clause-room : goal.push_restore-requires-clause-room
 push_restore-requires-clause-room c =
-    let room = frames-entered (rw c.in-Capture.is at c.in-Some.ensures.entered) c.requires.room.room in
+    let room = frames-entered (rw c.in-Capture.is at c.in-Some.ensures.entered) c.requires.room in
     omega (arith, room, c.requires.room.stack)
 
 pub returns-after-slot-row-clause-top : goal.returns-after-slot-row-clause-top
 returns-after-slot-row-clause-top c =
-    let room = frames-entered (rw c.in-Capture.is at c.in-Some.ensures.entered) c.requires.room.room in
+    let room = frames-entered (rw c.in-Capture.is at c.in-Some.ensures.entered) c.requires.room in
     let same = c.if-slot-row.auto.frames in
     elim c.if-slot-row.branch [
       | then-slot-row w ↦ let put = top-put c.args.top.now w.push_restore.new.top w.push_restore.ensures.empty

@@ -17,12 +17,8 @@ loop-sid-init g c = record {
 }
 
 pub epsilon_closure-requires-clause-room : goal.epsilon_closure-requires-clause-room
-epsilon_closure-requires-clause-room g c = record {
-  room = HasRoom-next c.requires.ready.clear (rw c.requires.ready.empty at c.requires.ready.room.room)
-      c.loop-sid.invariant.keeps.size refl (ap (λ (z : Active). z.capacity) c.loop-sid.invariant.keeps.same)
-      c.loop-sid.invariant.crosses;
-  stack = omega (arith, c.loop-sid.auto.frames, c.requires.ready.room.stack);
-}
+epsilon_closure-requires-clause-room g c =
+    HasRoom-next c.requires.ready c.loop-sid.invariant.keeps c.loop-sid.auto.frames c.loop-sid.invariant.crosses
 
 pub epsilon_closure-requires-clause-width : goal.epsilon_closure-requires-clause-width
 epsilon_closure-requires-clause-width g c =

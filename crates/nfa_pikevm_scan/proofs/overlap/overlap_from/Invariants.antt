@@ -2,7 +2,7 @@
 use Rattle.std.proofs.Common.{◌≡◌, ◌≤◌, ◌<◌, ◌+◌, [], length}
 use Rattle.regex_search_core.specs.Search.{search_of}
 use Rattle.regex_search_core.specs.PatternSets.{size_of_set}
-use Rattle.nfa_pikevm_scan.specs.Scans.{KeepsThreads}
+use Rattle.nfa_pikevm_scan.specs.Scans.{held, KeepsThreads}
 use Rattle.nfa_pikevm_scan.proofs.SoFarLemmas.{SoFar}
 use Rattle.nfa_pikevm_scan.proofs.overlap.overlap_from.Given as goal
 
@@ -15,6 +15,6 @@ invariant-loop-at l = record {
   keeps : KeepsThreads l.fn.threads l.threads;
   next : l.threads.reached.next.items ≡ [];
   so_far : SoFar l.nfa (search_of l.input) l.fn.patterns l.past_match (search_of l.input).earliest l.joining l.at
-      l.fn.threads.reached.seen.turns l.threads.reached.seen l.threads.curr.items l.patterns;
+      l.fn.threads.reached.seen.turns (held l.threads []) l.patterns;
   not_full : size_of_set l.patterns < length l.patterns;
 }

@@ -7,7 +7,7 @@ use Rattle.nfa_pikevm_scan.proofs.scan.run_lone.Goals as goal
 pub nexts_of_lone-requires-clause-ready : goal.nexts_of_lone-requires-clause-ready
 nexts_of_lone-requires-clause-ready c =
     let s = c.loop-at.invariant.first c.requires.first.0 c.requires.first.1 in
-    rw c.loop-at.auto.slots (MayCross-joined (Joined-lone s refl (c.is_lone.ensures.0 c.loop-at-test.true))
+    rw c.loop-at.auto.slots (MayCross-joined (Joined-lone s refl (c.is_lone.ensures.0 c.loop-at-test.true)) refl
     (HaveRows-kept c.requires.room c.loop-at.invariant.keeps) s.next)
 
 pub loop-at-preserved-then-is_some : goal.loop-at-preserved-then-is_some

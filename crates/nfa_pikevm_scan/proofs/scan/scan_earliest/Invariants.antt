@@ -3,7 +3,7 @@ use Rattle.std.proofs.Common.{◌≡◌, [], length}
 use Rattle.regex_search_core.specs.Search.{search_of}
 use Rattle.nfa_paths.specs.Kinds.{NoneBefore}
 use Rattle.nfa_paths.specs.Paths.{is_match, space}
-use Rattle.nfa_pikevm_scan.specs.Scans.{KeepsThreads}
+use Rattle.nfa_pikevm_scan.specs.Scans.{held, KeepsThreads}
 use Rattle.nfa_pikevm_scan.proofs.StandsLemmas.{Stands}
 use Rattle.nfa_pikevm_scan.proofs.scan.scan_earliest.Given as goal
 
@@ -12,7 +12,7 @@ invariant-loop-at l = record {
   keeps : KeepsThreads l.fn.threads l.threads;
   next : l.threads.reached.next.items ≡ [];
   stands : Stands l.nfa (search_of l.input) (is_match l.nfa) (length l.fn.slots) l.starts l.at
-      l.fn.threads.reached.seen.turns l.threads.reached.seen l.threads.curr.items;
+      l.fn.threads.reached.seen.turns (held l.threads l.slots);
   none : NoneBefore (space l.nfa (search_of l.input)) (is_match l.nfa) l.at;
   same : l.slots ≡ l.fn.slots;
 }

@@ -64,7 +64,7 @@ nexts-requires-clause-ready c =
     let ready = c.requires.ready in
     let joins = rw (s.keeps.width, ready.room.width_is) at c.in-Some.ensures.joins in
     let joined = Joined-start s c.requires.first ready.starts joins c.in-Some.ensures.some in
-    rw (c.loop-to.auto.slots, c.nexts_of_start.auto.slots) (MayCross-joined joined
+    rw (c.loop-to.auto.slots, c.nexts_of_start.auto.slots) (MayCross-joined joined refl
     (HaveRows-kept ready.room (KeepsThreads-then s.keeps c.in-Some.ensures.keeps)) (c.in-Some.ensures.next ∙ s.next))
 
 pub run_lone-last-requires-clause-room : goal.run_lone-last-requires-clause-room
