@@ -258,6 +258,15 @@ module _ (nfa : Automaton) (x : Search) where
   StartsGive None slots turns = IsScanAnswer nfa x LeftmostFirst false None
   StartsGive (Some half) slots turns = GivesPath nfa LeftmostFirst false x half slots turns
 
+-- Frames were applied, down to a place to search from or all of them: what is left of any search is the same.
+pub record Resumes (stack : List Frame) (old : Slots) (place : Option StatePos) (left : List Frame) (new : Slots)
+    : Type 0 where
+  pub tried : sum_by frame_tries left + tries_of_state_pos place ≡ sum_by frame_tries stack
+  pub within : (nfa : Automaton) (x : Search) → All (IsFrame nfa x (length old)) stack
+      → All (IsFrame nfa x (length new)) left × IsStatePosOr nfa x place
+  pub follows : (nfa : Automaton) (x : Search) (marks : Marks) (work : List Task)
+      → Carries nfa x marks (stacked stack work) old marks (with_state_pos place (stacked left work)) new
+
 -- A loop over one byte may run: the place is that of its byte state, and there is room for the marks.
 pub record MayLoop (nfa : Automaton) (x : Search) (body : StatePos) (exit : ℕ) (trans : Transition) (bits : List Bool)
     : Type 0 where

@@ -1,24 +1,13 @@
 //! A walk: the search from one start, turn by turn, which skips marked pairs.
-ghost use Rattle.std.specs.Prelude.{◌≡◌, ◌+◌, ◌*◌, ◌<◌, ◌≤◌, [], ◌∷◌, ◌++◌, None, Some, true, List, length, map};
-ghost use Rattle.std.specs.Prelude.{reverse, drop, slice_index_or, slice_set, All, IfOk, OnErr, OnOk};
-ghost use Rattle.std.specs.Prelude.{sum};
-ghost use Rattle.std.specs.List.{sum_by};
-ghost use Rattle.std.specs.Option.{ForSome};
+ghost use Rattle.std.specs.Prelude.{◌≡◌, ◌+◌, ◌<◌, ◌≤◌, [], ◌∷◌, ◌++◌, None, Some, length};
+ghost use Rattle.std.specs.Prelude.{slice_index_or, slice_set, sum, All, IfOk, OnErr, OnOk};
 ghost use Rattle.regex_search_core.specs.Search.{search_of};
-ghost use Rattle.thompson_nfa.specs.Automaton.{Automaton, IsAutomaton, node_of};
-ghost use Rattle.thompson_nfa.specs.Automaton.Node.{ByteRange, Sparse, Dense};
 ghost use Rattle.thompson_nfa.specs.Looks.{look_holds};
-ghost use Rattle.regex_search_core.specs.Search.{Search};
-ghost use Rattle.nfa_paths.specs.Paths.{byte_at};
-ghost use Rattle.nfa_paths.specs.Exploring.{Task};
 ghost use Rattle.nfa_paths.specs.Turns.{marked_sum};
 ghost use Rattle.nfa_backtrack_scan.specs.Begin.{without_frames, Begins, StartGives};
-ghost use Rattle.nfa_scan_core.specs.Marks.{Marks};
-ghost use Rattle.nfa_backtrack_scan.specs.Walk.{pair_of, stacked, restoring, move_to, frame_tries, outcome_of, walk_of};
-ghost use Rattle.nfa_backtrack_scan.specs.Walk.{tries_of_state_pos, weights, with_state_pos, AppliesFrame, Carries};
-ghost use Rattle.nfa_backtrack_scan.specs.Walk.{ComesTo, Goes, HasBits, IsAfforded, IsFrame, IsStatePos, IsStatePosOr};
-ghost use Rattle.nfa_backtrack_scan.specs.Walk.{MayStep, MayWalk, WritesSlot};
-ghost use Rattle.nfa_backtrack_scan.specs.declared.frame.Frame.TheVariants.{Step};
+ghost use Rattle.nfa_backtrack_scan.specs.Walk.{move_to, outcome_of, pair_of, restoring, walk_of, weights};
+ghost use Rattle.nfa_backtrack_scan.specs.Walk.{AppliesFrame, ComesTo, Goes, HasBits, IsAfforded, IsStatePos, MayStep};
+ghost use Rattle.nfa_backtrack_scan.specs.Walk.{MayWalk, Resumes, WritesSlot};
 
 use crate::alternates::push_alternates;
 use crate::byte_loop::{byte_loop_at, run_loop};
@@ -228,13 +217,7 @@ fn apply_frame(frame: Frame, slots: &mut [Option<NonMaxUsize>]) -> Option<StateP
 #[inline(always)]
 fn resume(stack: &mut Vec<Frame>, slots: &mut [Option<NonMaxUsize>]) -> Option<StatePos>
     requires { All (WritesSlot (length slots.old)) stack.old.items }
-    ensures follows { (nfa : Automaton) (x : Search) (marks : Marks) (work : List Task)
-        → Carries nfa x marks (stacked stack.old.items work) slots.old marks
-        (with_state_pos result (stacked stack.new.items work)) slots.new }
-    ensures within { (nfa : Automaton) (x : Search) → All (IsFrame nfa x (length slots.old)) stack.old.items
-        → All (IsFrame nfa x (length slots.old)) stack.new.items × IsStatePosOr nfa x result }
-    ensures tried { sum_by frame_tries stack.new.items + tries_of_state_pos result ≡ sum_by frame_tries
-        stack.old.items }
+    ensures resumes { Resumes stack.old.items slots.old result stack.new.items slots.new }
     ensures over { result ≡ None → stack.new.items ≡ [] }
 {
     while let Some(frame) = stack.pop() {

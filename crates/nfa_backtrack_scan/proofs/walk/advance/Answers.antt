@@ -21,18 +21,12 @@ returns-in-Matched-clause-advances c =
 
 pub returns-in-Some-clause-advances : goal.returns-in-Some-clause-advances
 returns-in-Some-clause-advances c =
-    let goes = rw c.in-DeadEnd.is at c.in_ok-next.ensures.goes in
-    TurnsLead-resumed c.args.nfa.now (search_of c.args.input.now) goes c.resume.auto.slots
-    (c.in-Some.ensures.follows c.args.nfa.now (search_of c.args.input.now) c.step.new.scratch.visited)
-    (c.in-Some.ensures.within c.args.nfa.now (search_of c.args.input.now)) c.in-Some.ensures.tried
-    c.requires.ready.within
+    TurnsLead-resumed c.args.nfa.now (search_of c.args.input.now) (rw c.in-DeadEnd.is at c.in_ok-next.ensures.goes)
+    c.in-Some.ensures.resumes c.requires.ready.within
 
 pub returns-in-None-clause-advances : goal.returns-in-None-clause-advances
-returns-in-None-clause-advances c =
-    let goes = rw c.in-DeadEnd.is at c.in_ok-next.ensures.goes in (
-      c.in-None.ensures.over refl,
-      TurnsLead-resumed c.args.nfa.now (search_of c.args.input.now) goes c.resume.auto.slots
-          (c.in-None.ensures.follows c.args.nfa.now (search_of c.args.input.now) c.step.new.scratch.visited)
-          (c.in-None.ensures.within c.args.nfa.now (search_of c.args.input.now)) c.in-None.ensures.tried
-          c.requires.ready.within,
-    )
+returns-in-None-clause-advances c = (
+  c.in-None.ensures.over refl,
+  TurnsLead-resumed c.args.nfa.now (search_of c.args.input.now) (rw c.in-DeadEnd.is at c.in_ok-next.ensures.goes)
+      c.in-None.ensures.resumes c.requires.ready.within,
+)
