@@ -291,8 +291,6 @@ pub record Resumes (stack : List FollowEpsilon) (old : Slots) (state : Option �
       → Follows nfa x at met front (work_onto at stack work) old met front
       (with_state at state (work_onto at left work)) new
 
--- The same, for what is reached from the place of a scan.
-
 -- The states may be followed at the position, with rows of this width: each is a state of the NFA, there is room for
 -- what they lead to, no state is marked, and none is kept for the next position yet.
 pub record MayFollow (here : ClosureContext) (states : List ℕ) (old : ClosureOutput) (frames width : ℕ) : Type 0 where
@@ -303,5 +301,6 @@ pub record MayFollow (here : ClosureContext) (states : List ℕ) (old : ClosureO
   pub empty : old.next.items ≡ []
   pub width_is : width ≡ old.next.width
 
+-- each frame follows a state of the NFA, or writes a slot below `count`
 abbrev pub ClosureFramesWithin : ClosureContext → ℕ → List FollowEpsilon → Type 0
 ClosureFramesWithin here count stack = All (IsWithin (length here.nfa.now.states) count) stack
