@@ -3,7 +3,7 @@ use Rattle.std.specs.Prelude.{ℕ, ◌≡◌, List, [], ◌∷◌, ◌++◌, Opt
 use Rattle.std.specs.Io.KnownBytes.{Appends}
 use Rattle.nfa_compiler.specs.NameLaws.{IsNamed}
 use Rattle.nfa_compiler.specs.Patterns.{PatternHit}
-use Rattle.nfa_compiler.specs.Rejected.{IsOfOneText}
+use Rattle.nfa_compiler.specs.Rejected.{IsOfOneText, NamesText}
 use Rattle.replacer.specs.Hits.{groups_named_by, pattern_syntax}
 use Rattle.replacer.specs.Replaced.{replaced_by}
 use Rattle.replacer.specs.Separated.{fields_by, first_fields_by}
@@ -44,9 +44,10 @@ IsTemplateMistake groups (Replace template) mistake = IsMistakeIn groups templat
 IsTemplateMistake groups Split mistake = ⊥
 IsTemplateMistake groups (SplitN limit) mistake = ⊥
 
--- This is wrong with the pattern, or with the template of the command.
+-- This is wrong with the pattern, which is none or exceeds the default size limit, or with the template of the command.
 abbrev pub IsMisused : List ℕ → Command → Mistake → Type 0
-IsMisused pattern command (Pattern error) = IsOfOneText pattern_syntax (pattern ∷ []) error
+IsMisused pattern command (Pattern error) =
+    IsOfOneText pattern_syntax (pattern ∷ []) error.0 × NamesText pattern_syntax 10485760 (pattern ∷ []) error.0
 IsMisused pattern command (Template error) =
     (names : List (Option (List ℕ))) → IsNamed pattern_syntax pattern names
     → IsTemplateMistake (groups_named_by names) command (Template error)

@@ -6,7 +6,7 @@ ghost use Rattle.nfa_engines.specs.Paths.{is_utf8_empty};
 ghost use Rattle.nfa_compiler.specs.Compiled.{IsMeant};
 ghost use Rattle.nfa_compiler.specs.NameLaws.{IsNamed};
 ghost use Rattle.nfa_compiler.specs.Patterns.{PatternHit};
-ghost use Rattle.nfa_compiler.specs.Rejected.{IsOfOneText};
+ghost use Rattle.nfa_compiler.specs.Rejected.{IsOfOneText, NamesText};
 ghost use Rattle.replacer.specs.Hits.{AreAllHits, IsSearchOf, SearchesFor, groups_named_by, pattern_syntax};
 ghost use Rattle.replacer.specs.Printed.{IsMistakeIn, IsMisused, IsPrinted, IsReplacedBy, IsTemplateMistake};
 ghost use Rattle.replacer.specs.Printed.{field_lines};
@@ -18,7 +18,7 @@ use crate::fields::{split, splitn};
 use crate::replace::replace_all;
 use crate::template::{Template, TemplateError};
 use anyhow::{Context, Result};
-use nfa_compiler::{CompileError, Compiler, laws};
+use nfa_compiler::{CompileError, Compiler, OnlyPattern, laws};
 use nfa_engines::pikevm::PikeVM;
 use regex_search_core::PatternID;
 use std::alloc::Global;
@@ -31,7 +31,7 @@ use thiserror::Error;
 pub enum Mistake {
     /// The pattern cannot be compiled.
     #[error("{0}")]
-    Pattern(CompileError),
+    Pattern(OnlyPattern),
     /// The template cannot be read, or names a group that the pattern does not have.
     #[error("{0}")]
     Template(TemplateError),
@@ -62,7 +62,7 @@ pub fn run<R: Read + Drop, W: Write>(
     let vm = match compile(alloc, pattern) {
         Ok(vm) => vm,
         Err(CompileError::Memory) => return Err(CompileError::Memory.into()),
-        Err(error) => return Ok(Some(Mistake::Pattern(error))),
+        Err(error) => return Ok(Some(Mistake::Pattern(OnlyPattern(error)))),
     };
     let mistake = print(alloc, &vm, command, input, out)?;
     Ok(mistake)
@@ -72,6 +72,7 @@ pub fn run<R: Read + Drop, W: Write>(
 fn compile(alloc: Global, pattern: &str) -> Result<PikeVM, CompileError>
     ensures search { IfOk result (IsSearchOf pattern.now) }
     ensures rejected { IfErr result (IsOfOneText pattern_syntax (pattern.now ∷ [])) }
+    ensures named { IfErr result (NamesText pattern_syntax 10485760 (pattern.now ∷ [])) }
 {
     let nfa = Compiler::new().build(alloc, pattern)?;
     match PikeVM::new_from_nfa(nfa) {
