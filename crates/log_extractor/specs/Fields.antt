@@ -8,7 +8,7 @@ use Rattle.regex_syntax.specs.Verdict.{default_config}
 use Rattle.regex_syntax.specs.declared.Config.{Config}
 use Rattle.nfa_compiler.specs.Compiled.{IsMeant}
 use Rattle.nfa_compiler.specs.NameLaws.{IsNamed, written_span}
-use Rattle.nfa_compiler.specs.Rejected.{IsOfOneText}
+use Rattle.nfa_compiler.specs.Rejected.{IsOfOneText, NamesText}
 use Rattle.log_extractor.specs.declared.pattern.Column.{Column}
 use Rattle.log_extractor.specs.declared.pattern.PatternError.{PatternError}
 use Rattle.log_extractor.specs.declared.pattern.PatternError.TheVariants.{Memory, Compile, NoColumns}
@@ -69,8 +69,9 @@ row p line = option_map (fields_of p line) (match_at_start p line)
 abbrev pub fields_now : List (Option (Bor (List ℕ))) → List (Option (List ℕ))
 fields_now fields = map (option_map (λ (field : Bor (List ℕ)). field.now)) fields
 
--- allocation failed, the text is not a pattern that can be compiled, or no group of the pattern has a name
+-- allocation failed, the text is not a pattern or the pattern exceeds the default size limit, or no group has a name
 abbrev pub IsPatternMistake : List ℕ → PatternError → Type 0
 IsPatternMistake text Memory = ⊤
-IsPatternMistake text (Compile error) = IsOfOneText line_syntax (text ∷ []) error
+IsPatternMistake text (Compile error) =
+    IsOfOneText line_syntax (text ∷ []) error.0 × NamesText line_syntax 10485760 (text ∷ []) error.0
 IsPatternMistake text NoColumns = (p : LinePattern) → IsLinePattern text p → columns_of p ≡ []

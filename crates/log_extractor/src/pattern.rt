@@ -6,7 +6,7 @@ ghost use Rattle.nfa_compiler.specs.Compiled.{IsCompiled};
 ghost use Rattle.nfa_compiler.specs.NameLaws.{IsNamed};
 ghost use Rattle.log_extractor.specs.Fields.{IsPatternMistake, columns_in, group_of, line_syntax, named_groups};
 
-use nfa_compiler::{CompileError, Compiler, Config, Syntax};
+use nfa_compiler::{CompileError, Compiler, Config, OnlyPattern, Syntax};
 use nfa_engines::error::SearchError;
 use nfa_engines::{BuildError, NFA};
 use std::alloc::{AllocError, AllocFailed, Global};
@@ -34,7 +34,7 @@ pub enum PatternError {
     Memory,
     /// The text is not a pattern, or the pattern is too large.
     #[error("{0}")]
-    Compile(CompileError),
+    Compile(OnlyPattern),
     /// No group of the pattern has a name, so there are no columns.
     #[error("the pattern has no named group, such as (?<level>[A-Z]+)")]
     NoColumns,
@@ -73,7 +73,7 @@ pub fn compile(alloc: Global, text: &str) -> Result<NFA, PatternError>
     match Compiler::new().configure(config).build(alloc, text) {
         Ok(nfa) => Ok(nfa),
         Err(CompileError::Memory) => Err(PatternError::Memory),
-        Err(error) => Err(PatternError::Compile(error)),
+        Err(error) => Err(PatternError::Compile(OnlyPattern(error))),
     }
 }
 

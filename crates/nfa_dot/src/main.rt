@@ -10,7 +10,7 @@ use crate::command::{Command, Source, parse};
 use crate::graph::{Marks, write_graph};
 use crate::path::answered_path;
 use anyhow::{Context, Result, bail};
-use nfa_compiler::Compiler;
+use nfa_compiler::{Compiler, OnlyPattern};
 use nfa_engines::pikevm::PikeVM;
 use nfa_samples::sample;
 use std::alloc::Global;
@@ -75,6 +75,6 @@ fn nfa_of(alloc: Global, source: Source<'_>) -> Result<NFA> {
                 "no sample NFA has the name {name:?}: docs/NFAS.md lists the names"
             ))
         }
-        Source::Pattern(text) => Ok(Compiler::new().build(alloc, text)?),
+        Source::Pattern(text) => Ok(Compiler::new().build(alloc, text).map_err(OnlyPattern)?),
     }
 }
