@@ -92,7 +92,3 @@ IsOfNoPattern (Syntax e) = ⊥
 IsOfNoPattern (TooBig pattern limit) = ⊥
 IsOfNoPattern (Tree pattern) = ⊥
 IsOfNoPattern _ = ⊤
-
--- allocation failed, or a text is not a pattern
-abbrev pub IsOfReading : CompileError → Type 0
-IsOfReading e = IsMemoryOr (λ _. ⊤) e

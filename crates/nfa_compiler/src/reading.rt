@@ -1,9 +1,9 @@
 //! Reading the texts of patterns as trees.
-ghost use Rattle.std.specs.Prelude.{◌≡◌, ◌≤◌, IfErr, IfOk, IsCharBoundary, map, string_bytes};
+ghost use Rattle.std.specs.Prelude.{◌≡◌, ◌≤◌, IfErr, IfOk, IsCharBoundary, map, string_bytes, ⊤};
 ghost use Rattle.std.specs.List.{AllZip};
 ghost use Rattle.regex_syntax.specs.Verdict.{Refuses};
 ghost use Rattle.nfa_compiler.specs.Compiled.{IsTreeOf};
-ghost use Rattle.nfa_compiler.specs.Rejected.{IsMemoryOr, IsOfOneText, IsOfReading, IsRejection};
+ghost use Rattle.nfa_compiler.specs.Rejected.{IsMemoryOr, IsOfOneText, IsRejection};
 
 use crate::error::CompileError;
 use crate::syntax_error::SyntaxError;
@@ -19,7 +19,7 @@ pub(crate) fn read_all(
     ensures read { IfOk result (λ trees. AllZip (IsTreeOf syntax.now) (map (λ text. text.now) patterns.now)
         trees.items) }
     ensures rejected { IfErr result (IsOfOneText syntax.now (map (λ text. text.now) patterns.now)) }
-    ensures fails { IfErr result IsOfReading }
+    ensures fails { IfErr result (IsMemoryOr (λ _. ⊤)) }
 {
     let mut trees = Vec::with_capacity(alloc, patterns.len())?;
     for (index, pattern) in patterns.iter().enumerate() {
