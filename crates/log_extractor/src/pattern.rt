@@ -4,6 +4,7 @@ ghost use Rattle.std.specs.Prelude.{string_bytes, ℕ};
 ghost use Rattle.nfa_engines.specs.Paths.{is_utf8_empty};
 ghost use Rattle.nfa_compiler.specs.Compiled.{IsCompiled};
 ghost use Rattle.nfa_compiler.specs.NameLaws.{IsNamed};
+ghost use Rattle.nfa_compiler.specs.Rejected.{TextsFitIn};
 ghost use Rattle.log_extractor.specs.Fields.{IsPatternMistake, columns_in, group_of, line_syntax, named_groups};
 
 use nfa_compiler::{CompileError, Compiler, Config, OnlyPattern, Syntax};
@@ -67,6 +68,7 @@ pub fn compile(alloc: Global, text: &str) -> Result<NFA, PatternError>
     ensures compiled { IfOk result (IsCompiled line_syntax (text.now ∷ [])) }
     ensures anchored { IfOk result (λ nfa. nfa.anchored ≡ nfa.unanchored) }
     ensures anywhere { IfOk result (λ nfa. is_utf8_empty nfa ≡ false) }
+    ensures fits { IfOk result (λ _. TextsFitIn 10485760 line_syntax (text.now ∷ [])) }
     ensures mistake { IfErr result (IsPatternMistake text.now) }
 {
     let config = Config::new().utf8(false).anchored(true);

@@ -6,7 +6,7 @@ ghost use Rattle.nfa_engines.specs.Paths.{is_utf8_empty};
 ghost use Rattle.nfa_compiler.specs.Compiled.{IsMeant};
 ghost use Rattle.nfa_compiler.specs.NameLaws.{IsNamed};
 ghost use Rattle.nfa_compiler.specs.Patterns.{PatternHit};
-ghost use Rattle.nfa_compiler.specs.Rejected.{IsOfOneText, NamesText};
+ghost use Rattle.nfa_compiler.specs.Rejected.{IsOfOneText, NamesText, TextsFitIn};
 ghost use Rattle.replacer.specs.Hits.{AreAllHits, IsSearchOf, SearchesFor, groups_named_by, pattern_syntax};
 ghost use Rattle.replacer.specs.Printed.{IsMistakeIn, IsMisused, IsPrinted, IsReplacedBy, IsTemplateMistake};
 ghost use Rattle.replacer.specs.Printed.{field_lines};
@@ -71,6 +71,7 @@ pub fn run<R: Read + Drop, W: Write>(
 /// Compiles the pattern.
 fn compile(alloc: Global, pattern: &str) -> Result<PikeVM, CompileError>
     ensures search { IfOk result (IsSearchOf pattern.now) }
+    ensures fits { IfOk result (λ _. TextsFitIn 10485760 pattern_syntax (pattern.now ∷ [])) }
     ensures rejected { IfErr result (IsOfOneText pattern_syntax (pattern.now ∷ [])) }
     ensures named { IfErr result (NamesText pattern_syntax 10485760 (pattern.now ∷ [])) }
 {
