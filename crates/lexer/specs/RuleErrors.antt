@@ -1,9 +1,9 @@
 -- Why rules cannot be compiled, and what is printed of it.
-use Rattle.std.specs.Prelude.{◌≡◌, ℕ, ◌+◌, ◌-◌, ◌^◌, ◌++◌, List, Some, ⊤, chars, codes, decimal, length, min, slice_get, take}
+use Rattle.std.specs.Prelude.{◌≡◌, ℕ, ◌+◌, ◌-◌, ◌^◌, ◌++◌, Bool, List, Some, false, true, ⊤, chars, codes, decimal, length, min, slice_get, take}
 use Rattle.nfa_compiler.specs.ErrorTexts.{compile_error_text}
 use Rattle.nfa_compiler.specs.Rejected.{IsFirstTooBigOf, IsRejection}
 use Rattle.nfa_compiler.specs.declared.error.CompileError.{CompileError}
-use Rattle.nfa_compiler.specs.declared.error.CompileError.TheVariants.{Syntax, TooBig}
+use Rattle.nfa_compiler.specs.declared.error.CompileError.TheVariants.{Memory, Syntax, TooBig}
 use Rattle.nfa_compiler.specs.declared.syntax_error.SyntaxError.{SyntaxError}
 use Rattle.lexer.specs.Lexed.{rule_patterns}
 use Rattle.lexer.specs.Tokens.{rule_syntax}
@@ -43,6 +43,11 @@ IsCompileMistake rules (NoRule line) = ⊥
 IsCompileMistake rules (NoPattern line column reason) = IsSyntaxMistake rules line column reason.now
 IsCompileMistake rules (TooLarge line limit) = IsTooLarge rules line limit
 IsCompileMistake rules (Compile e) = IsOfAllRules e
+
+-- the reason is that allocation failed
+abbrev pub is_memory : RulesError → Bool
+is_memory (Compile Memory) = true
+is_memory _ = false
 
 -- the text of an error
 abbrev pub rules_error_text : RulesError → List ℕ

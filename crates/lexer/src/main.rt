@@ -7,7 +7,6 @@ mod rules;
 
 use crate::rules::RulesError;
 use anyhow::Result;
-use nfa_compiler::CompileError;
 use nfa_engines::pikevm::PikeVM;
 use std::fmt::Display;
 use std::io::BufWriter;
@@ -80,10 +79,10 @@ fn run(rt: &HostRuntime, text: &str) -> Result<ExitCode> {
 
 // Rules that are wrong are a misuse, and memory that was refused is not.
 fn refused(rt: &HostRuntime, error: RulesError) -> Result<ExitCode> {
-    match error {
-        RulesError::Compile(CompileError::Memory) => Err(error.into()),
-        error => Ok(misused(rt, error)),
+    if error.is_memory() {
+        return Err(error.into());
     }
+    Ok(misused(rt, error))
 }
 
 // The status says so even if the line cannot be written.

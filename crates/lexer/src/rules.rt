@@ -3,7 +3,7 @@ ghost use Rattle.std.specs.Prelude.{◌≡◌, ◌≤◌, ◌<◌, ◌+◌, ◌-
 ghost use Rattle.std.specs.Str.{trim_start};
 ghost use Rattle.std.specs.Str.Lines.{lines};
 ghost use Rattle.nfa_compiler.specs.Compiled.{IsCompiled};
-ghost use Rattle.nfa_compiler.specs.Rejected.{IsOfOneText, NamesText};
+ghost use Rattle.nfa_compiler.specs.Rejected.{IsOfOneText, NamesText, TextsFitIn};
 ghost use Rattle.nfa_compiler.specs.declared.error.CompileError.TheVariants.{Syntax, TooBig};
 ghost use Rattle.lexer.specs.Lexed.{rule_patterns};
 ghost use Rattle.lexer.specs.RuleErrors.{IsCompileMistake};
@@ -60,6 +60,17 @@ pub enum RulesError {
     },
     /// Allocation failed, or the patterns need more states, numbers or slots than an NFA has.
     Compile(CompileError),
+}
+
+impl RulesError {
+    ghost use Rattle.lexer.specs.RuleErrors.{is_memory};
+
+    /// Returns whether the reason is that allocation failed, and not that the rules are wrong.
+    pub fn is_memory(&self) -> bool
+        ensures { result ≡ is_memory self.now }
+    {
+        matches!(self, RulesError::Compile(CompileError::Memory))
+    }
 }
 
 impl fmt::Display for RulesError {
@@ -204,6 +215,7 @@ fn char_count(text: &str) -> usize
 pub fn compile(alloc: Global, rules: &[Rule<'_>]) -> Result<NFA, RulesError>
     ensures compiled { IfOk result (IsCompiled rule_syntax (rule_patterns rules.now)) }
     ensures anchored { IfOk result (λ nfa. nfa.anchored ≡ nfa.unanchored) }
+    ensures fits { IfOk result (λ _. TextsFitIn 10485760 rule_syntax (rule_patterns rules.now)) }
     ensures error { IfErr result (IsCompileMistake rules.now) }
 {
     let patterns = patterns_of(alloc, rules)?;
