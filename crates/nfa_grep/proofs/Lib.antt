@@ -1,5 +1,6 @@
 mod GoingLemmas
 mod MeantLemmas
 mod NumbersLemmas
+mod PatternLemmas
 mod PrintedLemmas
 mod WhichLemmas

@@ -1,17 +1,21 @@
 -- From the laws on searches of texts to what the patterns find in a line.
-use Rattle.std.proofs.Common.{◌≡◌, ◌∙◌, ℕ, suc, ◌+◌, Bool, false, List, [], length, map, refl, sym, ap}
-use Rattle.std.proofs.Common.{add-one, arith}
-use Rattle.std.specs.Prelude.{Option, None, Some, is_some, nat_lt, option_map, ◌==◌}
-use Rattle.std.proofs.lemmas.Bool.{lt-ltb}
+use Rattle.std.proofs.Common.{◌≡◌, ◌∙◌, ℕ, zero, suc, ◌+◌, ◌<◌, Bool, false, inl, inr, List, [], ◌∷◌, length, map}
+use Rattle.std.proofs.Common.{refl, sym, subst, ap, ap₂, add-one, arith}
+use Rattle.std.specs.Prelude.{All, Option, None, Some, is_some, nat_lt, option_map, if◌then◌else◌, ◌==◌}
+use Rattle.std.specs.List.{AllZip}
+use Rattle.std.proofs.lemmas.Bool.{cases_Bool, lt-ltb}
 use Rattle.std.proofs.lemmas.List.{length-map}
 use Rattle.regex_hir.specs.Re.{Re}
+use Rattle.regex_hir.specs.Text.{is_some_and}
 use Rattle.regex_search_core.specs.Found.{Found, found_of}
 use Rattle.regex_search_core.specs.declared.search.Match.{Match}
 use Rattle.regex_search_core.specs.Search.{whole}
+use Rattle.regex_syntax.specs.Captures.{SameCaptures}
 use Rattle.thompson_nfa.specs.Automaton.{Automaton}
-use Rattle.nfa_compiler.specs.AllHits.{all_hits, hits_from}
+use Rattle.nfa_compiler.specs.AllHits.{all_hits, hit_after, hits_from}
 use Rattle.nfa_compiler.specs.Laws.{hit}
 use Rattle.nfa_compiler.specs.Patterns.{PatternHit, expected, found_at}
+use Rattle.nfa_compiler.proofs.MeantLemmas.{AreAlike, expected-alike}
 use Rattle.nfa_grep.specs.Meant.{all_found, hit_from, is_found}
 
 -- something is found exactly if there are hits
@@ -58,3 +62,55 @@ module _ (res : List Re) (nfa : Automaton) (text : List ℕ) (free : (nfa.anchor
   pub found-of-hits : (ms : List Found) → ms ≡ map found_at (all_hits res nfa (whole text)) → ms ≡ all_found res text
   found-of-hits ms e = e ∙ ap (λ (b : Bool). map found_at (hits_from
       (λ i. expected res b (record (whole text) { start = i })) (length text + 1) (expected res b (whole text)))) free
+
+-- what a caller cannot tell apart
+
+alike-some : (a b : Option PatternHit) → AreAlike a b → is_some a ≡ is_some b
+alike-some None None same = refl
+alike-some None (Some h) same = absurd same
+alike-some (Some h) None same = absurd same
+alike-some (Some h) (Some g) same = refl
+
+module _ (f g : ℕ → Option PatternHit) (alike : (i : ℕ) → AreAlike (f i) (g i)) where
+  after-alike : (i : ℕ) → AreAlike (hit_after f i) (hit_after g i)
+  after-alike i = of (f i) (g i) (alike i)
+    where
+      of : (a b : Option PatternHit) → AreAlike a b
+          → AreAlike (if is_some_and a (λ h. h.trace.end == i) then f (i + 1) else a)
+          (if is_some_and b (λ h. h.trace.end == i) then g (i + 1) else b)
+      of None None same = tt
+      of None (Some k) same = absurd same
+      of (Some h) None same = absurd same
+      of (Some h) (Some k) same =
+          let ends : (h.trace.end == i) ≡ (k.trace.end == i) = ap (λ (n : ℕ). n == i) same.end in
+          elim (cases_Bool (k.trace.end == i)) [
+            | inl there ↦ rw (ends, there) (alike (i + 1))
+            | inr other ↦ rw (ends, other) same
+          ]
+
+  hits-alike : (n : ℕ) (a b : Option PatternHit) → AreAlike a b
+      → map found_at (hits_from f n a) ≡ map found_at (hits_from g n b)
+  unfolding hits_from
+  hits-alike zero a b same = refl
+  hits-alike (suc n) None None same = refl
+  hits-alike (suc n) None (Some k) same = absurd same
+  hits-alike (suc n) (Some h) None same = absurd same
+  hits-alike (suc n) (Some h) (Some k) same =
+      let found : found_at h ≡ found_at k =
+      λ i. record { pattern = same.pattern i; start = same.start i; end = same.end i } in
+      let after : AreAlike (hit_after f h.trace.end) (hit_after g k.trace.end) =
+      subst (λ (m : ℕ). AreAlike (hit_after f h.trace.end) (hit_after g m)) same.end (after-alike h.trace.end) in
+      ap₂ (λ x xs. x ∷ xs) found (hits-alike n (hit_after f h.trace.end) (hit_after g k.trace.end) after)
+
+module _ (text : List ℕ) (bytes : All (λ b. b < 256) text) (trees res : List Re)
+    (same : AllZip SameCaptures trees res) where
+  from-alike : (i : ℕ) → AreAlike (hit_from trees text i) (hit_from res text i)
+  from-alike i = expected-alike (record (whole text) { start = i }) bytes trees res false same
+
+  pub found-same : is_found trees text ≡ is_found res text
+  found-same = alike-some (hit_from trees text 0) (hit_from res text 0) (from-alike 0)
+
+  pub all-found-same : all_found trees text ≡ all_found res text
+  all-found-same =
+      hits-alike (hit_from trees text) (hit_from res text) from-alike (length text + 1) (hit_from trees text 0)
+      (hit_from res text 0) (from-alike 0)

@@ -16,9 +16,9 @@ use Rattle.regex_search_core.specs.Search.{whole}
 use Rattle.nfa_compiler.specs.KindLaws.{PatternMatches}
 use Rattle.nfa_compiler.specs.Patterns.{PatternHit, expected, first_hit, hit_of, pick}
 use Rattle.nfa_compiler.specs.Written.{MatchesIn}
-use Rattle.nfa_compiler.proofs.MeantLemmas.{AreAlike, expected-alike}
 use Rattle.nfa_paths.specs.Overlaps.{HoldsPattern}
 use Rattle.nfa_grep.specs.Meant.{is_found, which_found}
+use Rattle.nfa_grep.proofs.MeantLemmas.{found-same}
 use Rattle.nfa_paths.proofs.TestLemmas.{same_test}
 
 -- the first hit is at one of the positions
@@ -89,25 +89,14 @@ module _ (text : List ℕ) (re : Re) where
       found-is ∙ first-complete at (length text - 0 + 1) 0 m.start (omega arith) (omega (arith, m.within))
       (only (hit_of 0 m.start (attempt text re accept m.start)) ∙ here)
 
-alike-some : (a b : Option PatternHit) → AreAlike a b → is_some a ≡ is_some b
-alike-some None None same = refl
-alike-some None (Some h) same = absurd same
-alike-some (Some h) None same = absurd same
-alike-some (Some h) (Some g) same = refl
-
 module _ (text : List ℕ) (bytes : All (λ b. b < 256) text) where
-  -- patterns with the same captures are found in the same texts
-  same-found : (a b : Re) → SameCaptures a b → is_found (a ∷ []) text ≡ is_found (b ∷ []) text
-  same-found a b same =
-      alike-some (expected (a ∷ []) false (whole text)) (expected (b ∷ []) false (whole text))
-      (expected-alike (whole text) bytes (a ∷ []) (b ∷ []) false (same, tt))
-
   pub same-which : (trees res : List Re) → AllZip SameCaptures trees res → which_found trees text ≡ which_found res text
   same-which [] [] same = refl
   same-which [] (b ∷ res) same = absurd same
   same-which (a ∷ trees) [] same = absurd same
   same-which (a ∷ trees) (b ∷ res) same =
-      ap (λ (found : Bool). found ∷ which_found trees text) (same-found a b same.0)
+      ap (λ (found : Bool). found ∷ which_found trees text)
+      (found-same text bytes (a ∷ []) (b ∷ []) (same.0, tt))
       ∙ ap (λ (rest : List Bool). is_found (b ∷ []) text ∷ rest) (same-which trees res same.1)
 
 -- a set of as many patterns, which holds those that match

@@ -1,18 +1,61 @@
--- What patterns find in a line, in the words of the reference matcher.
-use Rattle.std.specs.Prelude.{ℕ, ◌+◌, Bool, false, List, [], ◌∷◌, length, map, Option, is_some}
-use Rattle.regex_hir.specs.Re.{Re}
+-- What patterns mean, and what they find in a line, in the words of the reference matcher.
+use Rattle.std.specs.Prelude.{◌≡◌, ℕ, ◌+◌, Bool, false, List, [], ◌∷◌, length, map, Option, is_some, chars}
+use Rattle.std.specs.Prelude.{encode_utf8_all, if◌then◌else◌}
+use Rattle.std.specs.List.{AllZip}
+use Rattle.regex_hir.specs.Meaning.{cat_all, meaning}
+use Rattle.regex_hir.specs.Re.{Re, look}
+use Rattle.regex_hir.specs.declared.look.Look.TheVariants.{Start, End, WordStartHalfUnicode, WordEndHalfUnicode}
 use Rattle.regex_search_core.specs.Found.{Found}
 use Rattle.regex_search_core.specs.PatternSets.{patterns_of}
 use Rattle.regex_search_core.specs.Search.{whole}
+use Rattle.regex_syntax.specs.Captures.{SameCaptures}
+use Rattle.regex_syntax.specs.Verdict.{default_flags, escaped_text}
+use Rattle.regex_syntax.specs.declared.Config.{Config}
+use Rattle.regex_syntax.specs.declared.Parsed.{Parsed}
+use Rattle.thompson_nfa.specs.Automaton.{Automaton}
 use Rattle.nfa_compiler.specs.AllHits.{hits_from}
-use Rattle.nfa_compiler.specs.Compiled.{AreMeant}
+use Rattle.nfa_compiler.specs.Compiled.{IsMeant, IsNfaOf}
 use Rattle.nfa_compiler.specs.Patterns.{PatternHit, expected, found_at}
 use Rattle.nfa_compiler.specs.Written.{byte_syntax}
+use Rattle.nfa_grep.specs.declared.options.Bounds.{Bounds}
+use Rattle.nfa_grep.specs.declared.options.Bounds.TheVariants.{Anywhere, Words, Line}
 use Rattle.nfa_grep.specs.declared.options.Options.{Options}
 
--- These are what the grammar reads in the texts. Patterns may match bytes that are not text.
-abbrev pub Mean : List (List ℕ) → List Re → Type 0
-Mean texts res = AreMeant byte_syntax texts res
+-- how the grammar reads a text: patterns may match bytes that are not text, and with `ignore_case` the flag `i` is set
+abbrev pub syntax_of : Options → Config
+syntax_of options =
+    record byte_syntax { flags = record default_flags { case_insensitive = options.ignore_case } }
+
+-- the text that the grammar reads: with `fixed`, each character with a meaning of its own has a backslash before it
+abbrev pub pattern_text : Options → List ℕ → List ℕ
+pattern_text options text = if options.fixed then encode_utf8_all (escaped_text (chars text)) else text
+
+-- The pattern with what bounds its matches. As grep says, a match is a word if no letter, digit or underscore is next
+-- to it. Other matches of the pattern at the same place are tried until one is such a match.
+abbrev pub bounded : Bounds → Re → Re
+bounded Anywhere re = re
+bounded Words re = cat_all (look WordStartHalfUnicode ∷ re ∷ look WordEndHalfUnicode ∷ [])
+bounded Line re = cat_all (look Start ∷ re ∷ look End ∷ [])
+
+-- the text means this pattern
+pub record IsPattern (options : Options) (text : List ℕ) (re : Re) : Type 0 where
+  pub inner : Re
+  pub reads : IsMeant (syntax_of options) (pattern_text options text) inner
+  pub is_bounded : re ≡ bounded options.bounds inner
+
+-- each text means the pattern at its place
+abbrev pub ArePatterns : Options → List (List ℕ) → List Re → Type 0
+ArePatterns options texts res = AllZip (IsPattern options) texts res
+
+-- the tree matches as what the text means
+abbrev pub IsReadFrom : Options → List ℕ → Parsed → Type 0
+IsReadFrom options text tree = (re : Re) → IsPattern options text re → SameCaptures (meaning tree.hir) re
+
+-- the NFA is made of patterns that match as what the texts mean
+pub record IsBuilt (options : Options) (texts : List (List ℕ)) (nfa : Automaton) : Type 0 where
+  pub trees : List Re
+  pub made : IsNfaOf trees nfa
+  pub same : (res : List Re) → ArePatterns options texts res → AllZip SameCaptures trees res
 
 -- the first hit that starts at an offset or after it: of the first of the patterns that matches there
 abbrev pub hit_from : List Re → List ℕ → ℕ → Option PatternHit
@@ -38,3 +81,7 @@ numbers_found res text = patterns_of (which_found res text)
 pub record Grepping : Type 0 where
   pub patterns : List (List ℕ)
   pub options : Options
+
+-- these are what the texts mean
+abbrev pub Mean : Grepping → List Re → Type 0
+Mean grep res = ArePatterns grep.options grep.patterns res

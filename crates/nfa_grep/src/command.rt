@@ -1,5 +1,5 @@
 //! What the arguments of the command line ask for.
-use crate::options::Options;
+use crate::options::{Bounds, Options};
 use anyhow::Result;
 use clap::{Arg, ArgAction, ArgMatches, Error};
 use option_values::{Valued, split_values};
@@ -49,22 +49,21 @@ pub fn parse<'w>(alloc: Global, words: &'w [&'w str]) -> Result<Command<'w>> {
         .override_usage(USAGE)
         .after_help(AFTER)
         // An option may be given several times.
-        .args_override_self(true)
-        .arg(flag(alloc, "count", 'c').help("Print only the number of selected lines"))?
-        .arg(flag(alloc, "only-matching", 'o').help(
-            "Print each match that is not empty on a line of its own",
-        ))?
-        .arg(flag(alloc, "line-number", 'n').help("Print the number of the line, from 1"))?
-        .arg(flag(alloc, "byte-offset", 'b').help(
-            "Print the offset in bytes of the line, with -o of the match",
-        ))?
-        .arg(flag(alloc, "invert-match", 'v').help("Select the lines in which no pattern matches"))?
-        .arg(
-            Arg::new(alloc, "which")
-                .long("which")
-                .action(ArgAction::SetTrue)
-                .help("Print the numbers, from 0, of the patterns that match in the line"),
-        )?
+        .args_override_self(true);
+    let command = with_patterns(alloc, command)?;
+    let command = with_output(alloc, command)?.arg(words_argument(alloc)?)?;
+    match command.try_get_matches_from(words) {
+        Ok(matches) => Ok(Command::Search(read_matches(alloc, &matches)?)),
+        Err(error) => Ok(Command::Say(error)),
+    }
+}
+
+/// Adds the options that say which lines are selected.
+fn with_patterns<'w>(
+    alloc: Global,
+    command: clap::Command<'w>,
+) -> Result<clap::Command<'w>, AllocError> {
+    command
         .arg(
             Arg::new(alloc, "regexp")
                 .short('e')
@@ -75,11 +74,38 @@ pub fn parse<'w>(alloc: Global, words: &'w [&'w str]) -> Result<Command<'w>> {
                 .value_name("PATTERN")
                 .help("Search for this pattern; may be given several times"),
         )?
-        .arg(words_argument(alloc)?)?;
-    match command.try_get_matches_from(words) {
-        Ok(matches) => Ok(Command::Search(read_matches(alloc, &matches)?)),
-        Err(error) => Ok(Command::Say(error)),
-    }
+        .arg(flag(alloc, "extended-regexp", 'E').help(
+            "Change nothing: patterns have the syntax of the crate regex",
+        ))?
+        .arg(flag(alloc, "fixed-strings", 'F').help("Search for the patterns as texts"))?
+        .arg(flag(alloc, "ignore-case", 'i').help("Find letters in upper and in lower case"))?
+        .arg(flag(alloc, "word-regexp", 'w').help(
+            "Find only matches with no letter, digit or underscore next to them",
+        ))?
+        .arg(flag(alloc, "line-regexp", 'x').help("Find only matches that are whole lines"))?
+        .arg(flag(alloc, "invert-match", 'v').help("Select the lines in which no pattern matches"))
+}
+
+/// Adds the options that say what is printed.
+fn with_output<'w>(
+    alloc: Global,
+    command: clap::Command<'w>,
+) -> Result<clap::Command<'w>, AllocError> {
+    command
+        .arg(flag(alloc, "count", 'c').help("Print only the number of selected lines"))?
+        .arg(flag(alloc, "only-matching", 'o').help(
+            "Print each match that is not empty on a line of its own",
+        ))?
+        .arg(flag(alloc, "line-number", 'n').help("Print the number of the line, from 1"))?
+        .arg(flag(alloc, "byte-offset", 'b').help(
+            "Print the offset in bytes of the line, with -o of the match",
+        ))?
+        .arg(
+            Arg::new(alloc, "which")
+                .long("which")
+                .action(ArgAction::SetTrue)
+                .help("Print the numbers, from 0, of the patterns that match in the line"),
+        )
 }
 
 /// An option without a value, of this name and this letter.
@@ -100,9 +126,23 @@ fn words_argument<'w>(alloc: Global) -> Result<Arg<'w>, AllocError> {
         .required_unless_present("regexp")
 }
 
+/// Returns what bounds a match. A whole line goes before a word.
+fn bounds_of(matches: &ArgMatches<'_>) -> Bounds {
+    if matches.get_flag("line-regexp") {
+        Bounds::Line
+    } else if matches.get_flag("word-regexp") {
+        Bounds::Words
+    } else {
+        Bounds::Anywhere
+    }
+}
+
 fn read_matches<'w>(alloc: Global, matches: &ArgMatches<'w>) -> Result<Arguments<'w>> {
     let count = matches.get_flag("count");
     let options = Options {
+        fixed: matches.get_flag("fixed-strings"),
+        ignore_case: matches.get_flag("ignore-case"),
+        bounds: bounds_of(matches),
         count,
         only: matches.get_flag("only-matching"),
         numbers: matches.get_flag("line-number"),

@@ -1,19 +1,22 @@
 //! The lines in which a pattern matches, and what is printed of them.
-ghost use Rattle.std.specs.Prelude.{◌≡◌, ◌≤◌, ◌<◌, ◌+◌, ◌^◌, ◌++◌, All, IfOk, List, OnOk, false, length, map};
+ghost use Rattle.std.specs.Prelude.{◌≡◌, ◌≤◌, ◌<◌, ◌+◌, ◌^◌, ◌++◌, All, IfOk, List, MatchOption, OnOk, false, length};
+ghost use Rattle.std.specs.Prelude.{map, true};
 ghost use Rattle.regex_hir.specs.Re.{Re};
 ghost use Rattle.regex_search_core.specs.Found.{found_of};
 ghost use Rattle.regex_search_core.specs.Search.{whole};
 ghost use Rattle.nfa_engines.specs.Lists.{IsInside};
+ghost use Rattle.nfa_compiler.specs.Compiled.{IsNfaOf, res_of};
 ghost use Rattle.nfa_grep.specs.Meant.{Mean, all_found, is_found};
 ghost use Rattle.nfa_grep.specs.Printed.{head, is_selected, mark_of, piece, pieces, shown};
 ghost use Rattle.text_lines.specs.Lines.{content, with_feed};
 
 use crate::line::{Place, append_head};
 use crate::options::Options;
+use crate::pattern::{described, read_patterns};
 use crate::which::Which;
-use anyhow::{Error, Result};
+use anyhow::Result;
 use nfa_choice::choose::Choice;
-use nfa_compiler::{CompileError, Compiler, Config, OnlyPattern, laws};
+use nfa_compiler::{Compiler, Config, Parsed, laws};
 use nfa_engines::{backtrack, pikevm};
 use regex_search_core::{Input, Match};
 use std::alloc::{AllocError, Global};
@@ -36,19 +39,17 @@ pub struct Grep<'p> {
 impl<'p> Model for Grep<'p> {
     ghost use Rattle.std.specs.Prelude.{◌≡◌, ◌==◌, MatchOption, None, false, map, true};
     ghost use Rattle.nfa_engines.specs.Paths.{is_utf8_empty};
-    ghost use Rattle.nfa_compiler.specs.Compiled.{IsCompiled};
-    ghost use Rattle.nfa_compiler.specs.Written.{byte_syntax};
-    ghost use Rattle.nfa_grep.specs.Meant.{Grepping};
+    ghost use Rattle.nfa_grep.specs.Meant.{Grepping, IsBuilt};
 
     ghost Value = { Grepping };
 
     ghost view = { λ g. record { patterns = map (λ text. text.now) g.patterns.now; options = g.options } };
 
-    ghost invariant = { λ g. IsCompiled byte_syntax (map (λ text. text.now) g.patterns.now) g.choice.nfa
+    ghost invariant = { λ g. IsBuilt g.options (map (λ text. text.now) g.patterns.now) g.choice.nfa
         × (is_utf8_empty g.choice.nfa ≡ false) × ((g.choice.nfa.anchored == g.choice.nfa.unanchored) ≡ false)
         × (g.choice.match_kind ≡ None)
         × MatchOption g.which (g.options.which ≡ false)
-        (λ nfa. (g.options.which ≡ true) × IsCompiled byte_syntax (map (λ text. text.now) g.patterns.now) nfa) };
+        (λ nfa. (g.options.which ≡ true) × IsBuilt g.options (map (λ text. text.now) g.patterns.now) nfa) };
 }
 
 impl<'p> Grep<'p> {
@@ -61,20 +62,17 @@ impl<'p> Grep<'p> {
         ensures options { IfOk result (λ grep. grep.options ≡ options) }
         ensures fits { IfOk result (λ _. TextsFitIn 10485760 byte_syntax (map (λ text. text.now) patterns.now)) }
     {
+        let trees = read_patterns(alloc, options, patterns)?;
         let config = Config::new().utf8(false);
         let nfa = match Compiler::new()
             .configure(config)
-            .build_many(alloc, patterns)
+            .build_many_from_hir(alloc, &trees)
         {
             Ok(nfa) => nfa,
             Err(error) => return Err(described(patterns.len(), error)),
         };
         let choice = Choice::new(alloc, nfa, backtrack::Config::new(), pikevm::Config::new())?;
-        let which = if options.which {
-            Some(Which::new(alloc, patterns)?)
-        } else {
-            None
-        };
+        let which = which_of(alloc, options.which, &trees)?;
         Ok(Grep {
             alloc,
             patterns,
@@ -93,10 +91,10 @@ impl<'p> Grep<'p> {
 
     /// Returns whether some pattern matches somewhere in the text of a line, its end left out.
     fn finds(&mut self, text: &[u8]) -> bool
-        ensures found { (res : List Re) → Mean self.old.patterns res → result ≡ is_found res text.now }
+        ensures found { (res : List Re) → Mean self.old res → result ≡ is_found res text.now }
         ensures kept { self.new ≡ self.old }
     {
-        laws::searches_find_texts();
+        laws::searches_find_hits();
         self.choice
             .search_slots(&Input::new(text), &mut [])
             .is_some()
@@ -105,7 +103,7 @@ impl<'p> Grep<'p> {
     /// Returns whether the line is selected: whether some pattern matches somewhere in it, or, if the options invert
     /// that, whether none does. The line may have its end.
     pub fn selects(&mut self, line: &[u8]) -> bool
-        ensures selected { (res : List Re) → Mean self.old.patterns res
+        ensures selected { (res : List Re) → Mean self.old res
             → result ≡ is_selected self.old.options res line.now }
         ensures kept { self.new ≡ self.old }
     {
@@ -115,12 +113,12 @@ impl<'p> Grep<'p> {
 
     /// Returns all matches in the text of a line, from left to right.
     fn matches(&mut self, text: &[u8]) -> Result<Vec<Match>, AllocError>
-        ensures all { IfOk result (λ found. (res : List Re) → Mean self.old.patterns res
+        ensures all { IfOk result (λ found. (res : List Re) → Mean self.old res
             → map found_of found.items ≡ all_found res text.now) }
         ensures inside { IfOk result (λ found. All (λ m. IsInside (whole text.now) (found_of m)) found.items) }
         ensures kept { self.new ≡ self.old }
     {
-        laws::iterations_find_texts();
+        laws::iterations_find_all_hits();
         let Ok(matches) = self.choice.find_all(self.alloc, Input::new(text)) else {
             return Err(AllocError);
         };
@@ -135,9 +133,9 @@ impl<'p> Grep<'p> {
         out: &mut Vec<u8>,
     ) -> Result<bool, AllocError>
         requires counted { place.offset + length line.now < 2 ^ 64 }
-        ensures selected { IfOk result (λ selected. (res : List Re) → Mean self.old.patterns res
+        ensures selected { IfOk result (λ selected. (res : List Re) → Mean self.old res
             → selected ≡ is_selected self.old.options res line.now) }
-        ensures shown { OnOk result ((res : List Re) → Mean self.old.patterns res → out.new.items
+        ensures shown { OnOk result ((res : List Re) → Mean self.old res → out.new.items
             ≡ out.old.items ++ shown self.old.options res place.entry.label.now place.entry.number place.entry.offset
             line.now) }
         ensures kept { self.new ≡ self.old }
@@ -162,9 +160,9 @@ impl<'p> Grep<'p> {
         out: &mut Vec<u8>,
     ) -> Result<bool, AllocError>
         requires counted { place.offset + length line.now < 2 ^ 64 }
-        ensures found { IfOk result (λ found. (res : List Re) → Mean self.old.patterns res
+        ensures found { IfOk result (λ found. (res : List Re) → Mean self.old res
             → found ≡ is_found res (content line.now)) }
-        ensures shown { OnOk result ((res : List Re) → Mean self.old.patterns res → out.new.items
+        ensures shown { OnOk result ((res : List Re) → Mean self.old res → out.new.items
             ≡ out.old.items ++ pieces self.old.options
             (place.entry.label.now ++ mark_of self.old.options res line.now) place.entry.number place.entry.offset
             line.now (all_found res (content line.now))) }
@@ -186,7 +184,7 @@ impl<'p> Grep<'p> {
         line: &[u8],
         out: &mut Vec<u8>,
     ) -> Result<(), AllocError>
-        ensures shown { OnOk result ((res : List Re) → Mean self.old.patterns res → out.new.items
+        ensures shown { OnOk result ((res : List Re) → Mean self.old res → out.new.items
             ≡ out.old.items ++ (head self.old.options
             (place.entry.label.now ++ mark_of self.old.options res line.now) place.entry.number place.entry.offset
             ++ with_feed line.now)) }
@@ -200,7 +198,7 @@ impl<'p> Grep<'p> {
     /// Returns the numbers of the patterns that match in the line, as they are printed, or nothing if they are not
     /// wanted.
     fn mark(&mut self, line: &[u8]) -> Result<Vec<u8>, AllocError>
-        ensures mark { IfOk result (λ mark. (res : List Re) → Mean self.old.patterns res
+        ensures mark { IfOk result (λ mark. (res : List Re) → Mean self.old res
             → mark.items ≡ mark_of self.old.options res line.now) }
         ensures kept { self.new ≡ self.old }
     {
@@ -209,6 +207,18 @@ impl<'p> Grep<'p> {
             which.append_numbers(self.alloc, content(line), &mut mark)?;
         }
         Ok(mark)
+    }
+}
+
+/// Makes the search for all patterns that match, if it is wanted.
+fn which_of(alloc: Global, wanted: bool, patterns: &[Parsed]) -> Result<Option<Which>>
+    ensures { IfOk result (λ which. MatchOption which (wanted ≡ false)
+        (λ nfa. (wanted ≡ true) × IsNfaOf (res_of patterns.now) nfa)) }
+{
+    if wanted {
+        Ok(Some(Which::new(alloc, patterns)?))
+    } else {
+        Ok(None)
     }
 }
 
@@ -258,13 +268,4 @@ fn append_piece(
     append_head(options, at, mark, out)?;
     out.extend_from_slice(&line[found.start()..found.end()])?;
     out.extend_from_slice(b"\n")
-}
-
-/// Returns the error, with the number of its pattern if there are several.
-fn described(pattern_len: usize, error: CompileError) -> Error {
-    if pattern_len == 1 {
-        OnlyPattern(error).into()
-    } else {
-        error.into()
-    }
 }

@@ -6,6 +6,7 @@ mod files;
 mod grep;
 mod line;
 mod options;
+mod pattern;
 mod search;
 mod which;
 

@@ -1,8 +1,25 @@
-//! What is printed of a line that is selected.
+//! The options: which lines are selected, and what is printed of them.
+
+/// What bounds a match.
+#[derive(Clone, Copy, Debug, PartialEq, Eq)]
+pub enum Bounds {
+    /// Nothing.
+    Anywhere,
+    /// A match has no letter, digit or underscore next to it.
+    Words,
+    /// A match is a whole line.
+    Line,
+}
 
 /// The options that change which lines are selected, and what is printed of them.
 #[derive(Clone, Copy, Debug, PartialEq, Eq)]
 pub struct Options {
+    /// The patterns are texts, in which no character has a meaning of its own.
+    pub fixed: bool,
+    /// Letters match in upper case and in lower case.
+    pub ignore_case: bool,
+    /// What bounds a match.
+    pub bounds: Bounds,
     /// Print only the number of selected lines.
     pub count: bool,
     /// Print each match on a line of its own.

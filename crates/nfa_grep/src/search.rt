@@ -19,7 +19,7 @@ pub fn print_matches<R: BufRead, W: Write>(
     input: &mut R,
     out: &mut W,
 ) -> Result<u64, Failure>
-    ensures printed { IfOk result (λ count. (res : List Re) → Mean grep.old.patterns res
+    ensures printed { IfOk result (λ count. (res : List Re) → Mean grep.old res
         → PrintsOutput grep.old.options res label.now (R.remaining input.old) (W.contents out.old) (W.contents out.new)
         count) }
     ensures kept { grep.new ≡ grep.old }
@@ -44,7 +44,7 @@ fn search<R: BufRead, W: Write>(
     input: &mut R,
     out: &mut W,
 ) -> Result<u64, Failure>
-    ensures printed { IfOk result (λ count. (res : List Re) → Mean grep.old.patterns res
+    ensures printed { IfOk result (λ count. (res : List Re) → Mean grep.old res
         → PrintsLines grep.old.options res label.now (R.remaining input.old) (W.contents out.old) (W.contents out.new)
         count) }
     ensures kept { grep.new ≡ grep.old }

@@ -1,18 +1,18 @@
 //! Which of the patterns match in a line.
-ghost use Rattle.std.specs.Prelude.{◌≡◌, ◌↔◌, ◌++◌, IfOk, List, OnOk, false, map, ℕ};
+ghost use Rattle.std.specs.Prelude.{◌≡◌, ◌↔◌, ◌++◌, IfOk, List, OnOk, false, ℕ};
 ghost use Rattle.regex_hir.specs.Re.{Re};
 ghost use Rattle.regex_search_core.specs.PatternSets.{patterns_of};
 ghost use Rattle.regex_search_core.specs.Search.{whole};
 ghost use Rattle.nfa_engines.specs.Overlaps.{HoldsPattern};
-ghost use Rattle.nfa_compiler.specs.Compiled.{IsCompiled, IsNfaOf};
+ghost use Rattle.nfa_compiler.specs.Compiled.{IsNfaOf, res_of};
 ghost use Rattle.nfa_compiler.specs.KindLaws.{PatternMatches};
-ghost use Rattle.nfa_compiler.specs.Written.{byte_syntax};
-ghost use Rattle.nfa_grep.specs.Meant.{Mean, numbers_found, which_found};
+ghost use Rattle.nfa_grep.specs.Meant.{ArePatterns, IsBuilt, numbers_found, which_found};
 ghost use Rattle.nfa_grep.specs.Printed.{number_list};
+ghost use Rattle.nfa_grep.specs.declared.options.Options.{Options};
 
 use anyhow::Result;
 use itoa::Buffer;
-use nfa_compiler::{Compiler, Config, laws};
+use nfa_compiler::{Compiler, Config, Parsed, laws};
 use nfa_engines::pikevm::{Cache, PikeVM};
 use regex_search_core::{Input, MatchKind, PatternSet, Refused};
 use std::alloc::{AllocError, Global};
@@ -43,14 +43,14 @@ impl Model for Which {
 }
 
 impl Which {
-    /// Compiles the patterns. Fails if a text is not a pattern, if the patterns are too large, or if allocation failed.
-    pub fn new(alloc: Global, patterns: &[&str]) -> Result<Which>
-        ensures { IfOk result (λ which. IsCompiled byte_syntax (map (λ text. text.now) patterns.now) which) }
+    /// Compiles the patterns. Fails if they are too large, or if allocation failed.
+    pub fn new(alloc: Global, patterns: &[Parsed]) -> Result<Which>
+        ensures { IfOk result (IsNfaOf (res_of patterns.now)) }
     {
         let config = Config::new().utf8(false);
         let nfa = Compiler::new()
             .configure(config)
-            .build_many(alloc, patterns)?;
+            .build_many_from_hir(alloc, patterns)?;
         let kind = PikeVM::config().match_kind(MatchKind::All);
         let vm = PikeVM::builder().configure(kind).build_from_nfa(nfa)?;
         let cache = vm.create_cache(alloc)?;
@@ -62,8 +62,8 @@ impl Which {
     pub fn patterns_in(&mut self, alloc: Global, text: &[u8]) -> Result<PatternSet, Refused>
         ensures held { IfOk result (λ set. (res : List Re) → IsNfaOf res self.old
             → (k : ℕ) → HoldsPattern set k ↔ PatternMatches res false (whole text.now) k) }
-        ensures found { IfOk result (λ set. (texts : List (List ℕ)) → (res : List Re)
-            → IsCompiled byte_syntax texts self.old → Mean texts res → set ≡ which_found res text.now) }
+        ensures found { IfOk result (λ set. (options : Options) → (texts : List (List ℕ)) → (res : List Re)
+            → IsBuilt options texts self.old → ArePatterns options texts res → set ≡ which_found res text.now) }
         ensures kept { self.new ≡ self.old }
     {
         laws::sets_hold_patterns_that_match();
@@ -81,8 +81,8 @@ impl Which {
         text: &[u8],
         out: &mut Vec<u8>,
     ) -> Result<(), AllocError>
-        ensures numbers { OnOk result ((texts : List (List ℕ)) → (res : List Re)
-            → IsCompiled byte_syntax texts self.old → Mean texts res
+        ensures numbers { OnOk result ((options : Options) → (texts : List (List ℕ)) → (res : List Re)
+            → IsBuilt options texts self.old → ArePatterns options texts res
             → out.new.items ≡ out.old.items ++ number_list (numbers_found res text.now)) }
         ensures kept { self.new ≡ self.old }
     {

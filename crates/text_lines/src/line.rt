@@ -1,7 +1,7 @@
 //! A line and its end.
 ghost use Rattle.std.specs.Prelude.{◌≡◌, ◌++◌, OnOk};
 ghost use Rattle.std.specs.Io.BufRead.{ends_with_byte, strip_last};
-ghost use Rattle.text_lines.specs.Lines.{content, with_feed};
+ghost use Rattle.text_lines.specs.Lines.{content, record_content, with_end, with_feed};
 
 use std::alloc::AllocError;
 
@@ -35,13 +35,31 @@ pub fn content(line: &[u8]) -> &[u8]
     }
 }
 
+/// Returns the record without its end. A record that ends at a line feed is a line.
+pub fn record_content(line: &[u8], end: u8) -> &[u8]
+    ensures { result.now ≡ record_content end line.now }
+{
+    if end == b'\n' {
+        content(line)
+    } else {
+        without_last(line, end)
+    }
+}
+
 /// Appends the line, and a line feed if it has none at its end.
 pub fn append_whole(line: &[u8], out: &mut Vec<u8>) -> Result<(), AllocError>
     ensures { OnOk result (out.new.items ≡ out.old.items ++ with_feed line.now) }
 {
+    append_record(line, b'\n', out)
+}
+
+/// Appends the record, and its end if it has none.
+pub fn append_record(line: &[u8], end: u8, out: &mut Vec<u8>) -> Result<(), AllocError>
+    ensures { OnOk result (out.new.items ≡ out.old.items ++ with_end end line.now) }
+{
     out.extend_from_slice(line)?;
-    if !ends_with(line, b'\n') {
-        out.extend_from_slice(b"\n")?;
+    if !ends_with(line, end) {
+        out.push(end)?;
     }
     Ok(())
 }

@@ -27,7 +27,7 @@ loop-before-preserved g c =
           let label = c.args.label.now in
           let some : c.in_ok-read_line.field-0 ≡ true = search rules in
           let next-is : c.in-Some.next ≡ c.loop-before.offset + length line = search rules in
-          let meant-here = subst (λ (gr : Grepping). Mean gr.patterns res) (sym inv.kept) meant in
+          let meant-here = subst (λ (gr : Grepping). Mean gr res) (sym inv.kept) meant in
           let printed = shown options res label (before + 1) c.loop-before.offset line in
           let here : c.append_line.new.out.items ≡ printed =
           rw (c.deref.ensures.value, inv.kept, c.clear.ensures.items)

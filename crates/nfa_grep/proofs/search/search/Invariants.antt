@@ -7,7 +7,7 @@ use Rattle.nfa_grep.proofs.search.search.Given as goal
 
 abbrev pub invariant-loop-before : goal.invariant-loop-before
 invariant-loop-before g l = record {
-  printed : (res : List Re) → Mean l.fn.grep.patterns res
+  printed : (res : List Re) → Mean l.fn.grep res
       → HasPrinted l.fn.grep.options res l.label (g.R.Read.remaining l.fn.input) (g.R.Read.remaining l.input)
       (g.W.Write.contents l.fn.out) (g.W.Write.contents l.out) (l.before + 1) l.offset l.count;
   counted : l.count ≤ l.before;

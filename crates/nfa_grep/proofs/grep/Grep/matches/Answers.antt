@@ -1,22 +1,23 @@
 -- The law, of these matches.
-use Rattle.std.proofs.Common.{ap, arith, map, refl, subst, sym}
+use Rattle.std.proofs.Common.{◌∙◌, ap, arith, map, refl, subst, sym}
 use Rattle.regex_search_core.specs.Found.{found_of}
 use Rattle.regex_search_core.specs.Search.{Search, whole}
 use Rattle.nfa_compiler.proofs.CallLemmas.{bytes-of}
 use Rattle.nfa_grep.specs.Meant.{Grepping, Mean}
-use Rattle.nfa_grep.proofs.MeantLemmas.{found-of-hits}
+use Rattle.nfa_grep.proofs.MeantLemmas.{all-found-same, found-of-hits}
 use Rattle.nfa_grep.proofs.grep.Grep.matches.Goals as goal
 
 pub returns-clause-all : goal.returns-clause-all
 returns-clause-all c = λ res meant.
     let text = c.args.text.now in
+    let nfa = c.self.inside.choice.nfa in
     let bytes = bytes-of text (λ k. omega (arith, c.type_inv.text k)) in
     let inv = c.self.invariant in
-    let meant-inside = subst (λ (g : Grepping). Mean g.patterns res) (sym c.self.view_is) meant in
-    found-of-hits res c.self.inside.choice.nfa text inv.2 (map found_of c.in-Ok.matches.items)
-    (c.iterations_find_texts.ensures.matches _ _ res c.self.inside.choice.nfa _ _ (whole text) _ inv.0
-    meant-inside inv.1 (record {
+    let meant-inside = subst (λ (g : Grepping). Mean g res) (sym c.self.view_is) meant in
+    found-of-hits inv.0.trees nfa text inv.2 (map found_of c.in-Ok.matches.items)
+    (c.iterations_find_all_hits.ensures.matches inv.0.trees nfa _ _ (whole text) _ inv.0.made inv.1 (record {
       leftmost = rw inv.3 refl;
       latest = ap (λ (s : Search). s.earliest) c.new.ensures;
       whole = refl;
-    }) bytes (rw c.new.ensures at c.in-Ok.ensures.all))
+    }) (rw c.new.ensures at c.in-Ok.ensures.all))
+    ∙ all-found-same text bytes inv.0.trees res (inv.0.same res meant-inside)

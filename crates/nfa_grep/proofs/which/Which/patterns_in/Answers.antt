@@ -3,10 +3,8 @@ use Rattle.std.proofs.Common.{◌≡◌, ◌∙◌, ap, arith, false, length, re
 use Rattle.std.proofs.lemmas.List.{length-replicate}
 use Rattle.regex_search_core.specs.Search.{Search, search_of, whole}
 use Rattle.nfa_engines.specs.Automaton.{Automaton}
-use Rattle.nfa_compiler.specs.Compiled.{IsNfaOf, res_of}
-use Rattle.nfa_compiler.specs.Written.{byte_syntax}
+use Rattle.nfa_compiler.specs.Compiled.{IsNfaOf}
 use Rattle.nfa_compiler.proofs.CallLemmas.{bytes-of}
-use Rattle.nfa_compiler.proofs.MeantLemmas.{all-meant}
 use Rattle.nfa_grep.proofs.NumbersLemmas.{same-which, which-is}
 use Rattle.nfa_grep.proofs.WhichLemmas.{as-all, held}
 use Rattle.nfa_grep.proofs.which.Which.patterns_in.Goals as goal
@@ -25,12 +23,12 @@ returns-clause-held c = λ res made k.
     (c.sets_hold_patterns_that_match.ensures res nfa (whole text) _ _ made-inside inv.2 refl sets k)
 
 pub returns-clause-found : goal.returns-clause-found
-returns-clause-found c = λ texts res compiled meant.
+returns-clause-found c = λ options texts res built meant.
     let text = c.args.text.now in
     let bytes = bytes-of text (λ k. omega (arith, c.type_inv.text k)) in
-    let trees = res_of compiled.trees in
+    let trees = built.trees in
     let set = c.which_overlapping_matches.new.patterns in
-    let made-inside = subst (λ (a : Automaton). IsNfaOf trees a) (sym c.self.view_is) compiled.made in
+    let made-inside = subst (λ (a : Automaton). IsNfaOf trees a) (sym c.self.view_is) built.made in
     let room : length set ≡ length trees =
     omega (
       arith,
@@ -40,5 +38,5 @@ returns-clause-found c = λ texts res compiled meant.
       c.pattern_len.ensures,
       made-inside.patterns,
     ) in
-    which-is text trees set room (λ k. returns-clause-held c trees compiled.made k)
-    ∙ same-which text bytes trees res (all-meant byte_syntax texts compiled.trees res compiled.read meant)
+    which-is text trees set room (λ k. returns-clause-held c trees built.made k)
+    ∙ same-which text bytes trees res (built.same res meant)

@@ -1,0 +1,55 @@
+-- From what the parser returns to what texts mean.
+use Rattle.std.proofs.Common.{◌≡◌, Bool, List, [], ◌∷◌, false, true, ℕ}
+use Rattle.std.specs.Prelude.{MatchOption, None, Option, Some}
+use Rattle.std.specs.List.{AllZip}
+use Rattle.regex_hir.specs.Meaning.{meaning}
+use Rattle.regex_hir.specs.Re.{Re, look}
+use Rattle.regex_hir.specs.declared.look.Look.TheVariants.{Start, End, WordStartHalfUnicode, WordEndHalfUnicode}
+use Rattle.regex_syntax.proofs.CapturesLemmas.{alike_cat, alike_refl}
+use Rattle.regex_syntax.specs.Captures.{SameCaptures}
+use Rattle.regex_syntax.specs.declared.Config.{Config}
+use Rattle.regex_syntax.specs.declared.Parsed.{Parsed}
+use Rattle.thompson_nfa.specs.Automaton.{Automaton}
+use Rattle.nfa_compiler.specs.Compiled.{IsMeant, IsNfaOf, IsTreeOf, res_of}
+use Rattle.nfa_compiler.proofs.MeantLemmas.{all-meant}
+use Rattle.nfa_grep.specs.Meant.{ArePatterns, IsBuilt, IsReadFrom, bounded}
+use Rattle.nfa_grep.specs.declared.options.Bounds.{Bounds}
+use Rattle.nfa_grep.specs.declared.options.Bounds.TheVariants.{Anywhere, Words, Line}
+use Rattle.nfa_grep.specs.declared.options.Options.{Options}
+
+-- patterns that match alike still do if their matches are bounded
+pub bounded-alike : (bounds : Bounds) (a b : Re) → SameCaptures a b → SameCaptures (bounded bounds a) (bounded bounds b)
+bounded-alike Anywhere a b same = same
+bounded-alike Words a b same =
+    alike_cat (alike_refl (look WordStartHalfUnicode)) (alike_cat same (alike_refl _))
+bounded-alike Line a b same = alike_cat (alike_refl (look Start)) (alike_cat same (alike_refl _))
+
+-- the tree of one text
+pub tree-alike : (syntax : Config) (text : List ℕ) (tree : Parsed) (re : Re) → IsTreeOf syntax text tree
+    → IsMeant syntax text re → SameCaptures (meaning tree.hir) re
+tree-alike syntax text tree re read means =
+    (all-meant syntax (text ∷ []) (tree ∷ []) (re ∷ []) (read, tt) (means, tt)).0
+
+-- the trees of all texts
+pub trees-alike : (options : Options) (texts : List (List ℕ)) (trees : List Parsed) (res : List Re)
+    → AllZip (IsReadFrom options) texts trees → ArePatterns options texts res → AllZip SameCaptures (res_of trees) res
+trees-alike options [] [] [] read are = tt
+trees-alike options [] [] (re ∷ res) read are = absurd are
+trees-alike options [] (tree ∷ trees) res read are = absurd read
+trees-alike options (text ∷ texts) [] res read are = absurd read
+trees-alike options (text ∷ texts) (tree ∷ trees) [] read are = absurd are
+trees-alike options (text ∷ texts) (tree ∷ trees) (re ∷ res) read are =
+    (read.0 re are.0, trees-alike options texts trees res read.1 are.1)
+
+-- an NFA of the trees
+module _ (options : Options) (texts : List (List ℕ)) (trees : List Parsed)
+    (read : AllZip (IsReadFrom options) texts trees) where
+  pub built : (nfa : Automaton) → IsNfaOf (res_of trees) nfa → IsBuilt options texts nfa
+  built nfa made =
+      record { trees = res_of trees; made = made; same = λ res are. trees-alike options texts trees res read are }
+
+  pub which-built : (wanted : Bool) (which : Option Automaton)
+      → MatchOption which (wanted ≡ false) (λ nfa. (wanted ≡ true) × IsNfaOf (res_of trees) nfa)
+      → MatchOption which (wanted ≡ false) (λ nfa. (wanted ≡ true) × IsBuilt options texts nfa)
+  which-built wanted None none = none
+  which-built wanted (Some nfa) some = (some.0, built nfa some.1)

@@ -1,0 +1,117 @@
+//! From the texts of patterns to trees.
+ghost use Rattle.std.specs.Prelude.{◌≡◌, ◌∷◌, [], IfOk, IfSome, map};
+ghost use Rattle.std.specs.List.{AllZip};
+ghost use Rattle.regex_hir.specs.Meaning.{cat_all, meaning};
+ghost use Rattle.regex_hir.specs.Re.{Re, look};
+ghost use Rattle.regex_syntax.specs.Captures.{SameCaptures};
+ghost use Rattle.nfa_compiler.specs.Compiled.{IsMeant};
+ghost use Rattle.nfa_grep.specs.Meant.{IsReadFrom, bounded, syntax_of};
+
+use crate::options::{Bounds, Options};
+use anyhow::{Error, Result};
+use nfa_compiler::{CompileError, Compiler, Config, Flags, OnlyPattern, Parsed, Syntax};
+use regex_hir::{Hir, Look};
+use std::alloc::{AllocError, Global};
+
+/// Reads each text as a pattern. Fails if a text is not a pattern, or if allocation failed.
+pub fn read_patterns(alloc: Global, options: Options, texts: &[&str]) -> Result<Vec<Parsed>>
+    ensures { IfOk result (λ trees. AllZip (IsReadFrom options) (map (λ text. text.now) texts.now) trees.items) }
+{
+    let mut trees = Vec::with_capacity(alloc, texts.len())?;
+    for text in texts {
+        let Some(tree) = read_pattern(alloc, options, text) else {
+            return Err(refusal(alloc, options, texts));
+        };
+        trees.push(tree)?;
+    }
+    Ok(trees)
+}
+
+/// Returns the syntax of the patterns.
+fn syntax_of(options: Options) -> Syntax
+    ensures { result ≡ syntax_of options }
+{
+    let flags = Flags {
+        case_insensitive: options.ignore_case,
+        ..Flags::default()
+    };
+    Syntax {
+        flags,
+        utf8: false,
+        ..Syntax::default()
+    }
+}
+
+/// Reads the text as a pattern. There is none if the text is not a pattern, or if allocation failed.
+fn read_pattern(alloc: Global, options: Options, text: &str) -> Option<Parsed>
+    ensures { IfSome result (IsReadFrom options text.now) }
+{
+    if options.fixed {
+        let escaped = regex_syntax::escape(alloc, text).ok()?;
+        return read_tree(alloc, options, escaped.as_str());
+    }
+    read_tree(alloc, options, text)
+}
+
+/// Reads the text by the grammar, and bounds its matches.
+fn read_tree(alloc: Global, options: Options, text: &str) -> Option<Parsed>
+    ensures { IfSome result (λ tree. (re : Re) → IsMeant (syntax_of options) text.now re
+        → SameCaptures (meaning tree.hir) (bounded options.bounds re)) }
+{
+    let Ok(Parsed { hir, names }) = regex_syntax::parse(alloc, text, &syntax_of(options)) else {
+        return None;
+    };
+    match bounded(alloc, options.bounds, hir) {
+        Ok(hir) => Some(Parsed { hir, names }),
+        Err(_) => None,
+    }
+}
+
+/// Returns the tree with what bounds its matches.
+fn bounded(alloc: Global, bounds: Bounds, tree: Hir) -> Result<Hir, AllocError>
+    ensures { IfOk result (λ hir. meaning hir ≡ bounded bounds (meaning tree)) }
+{
+    match bounds {
+        Bounds::Anywhere => Ok(tree),
+        Bounds::Words => between(
+            alloc,
+            Look::WordStartHalfUnicode,
+            tree,
+            Look::WordEndHalfUnicode,
+        ),
+        Bounds::Line => between(alloc, Look::Start, tree, Look::End),
+    }
+}
+
+/// Returns the tree between two assertions.
+fn between(alloc: Global, start: Look, tree: Hir, end: Look) -> Result<Hir, AllocError>
+    ensures { IfOk result (λ hir. meaning hir ≡ cat_all (look start ∷ meaning tree ∷ look end ∷ [])) }
+{
+    let mut parts = Vec::with_capacity(alloc, 3)?;
+    parts.push(Hir::Look(start))?;
+    parts.push(tree)?;
+    parts.push(Hir::Look(end))?;
+    Ok(Hir::Concat(parts))
+}
+
+/// Returns why some text of these was not read: it is not a pattern, or allocation failed.
+fn refusal(alloc: Global, options: Options, texts: &[&str]) -> Error {
+    if !options.fixed {
+        let compiler = Compiler::new()
+            .configure(Config::new().utf8(false))
+            .syntax(syntax_of(options));
+        if let Err(error) = compiler.build_many(alloc, texts) {
+            return described(texts.len(), error);
+        }
+    }
+    AllocError.into()
+}
+
+/// Returns the error, with the number of its pattern if there are several.
+pub fn described(pattern_len: usize, error: CompileError) -> Error {
+    if pattern_len == 1 {
+        OnlyPattern(error).into()
+    } else {
+        error.into()
+    }
+}

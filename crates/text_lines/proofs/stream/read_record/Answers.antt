@@ -1,0 +1,21 @@
+-- What the read gave is a record if it is of a byte at least.
+use Rattle.std.proofs.Common.{rules, ◌≡◌, ◌<◌, length}
+use Rattle.text_lines.proofs.LineLemmas.{no-record, none-after, takes-record}
+use Rattle.text_lines.proofs.stream.read_record.Goals as goal
+
+pub returns-in-Ok-clause-taken : goal.returns-in-Ok-clause-taken
+returns-in-Ok-clause-taken g c = λ read.
+    let some : 0 < length c.read_until.new.buf.items = search rules in
+    takes-record c.args.end (g.R.Read.remaining c.args.input.now) (g.R.Read.remaining c.read_until.new.self)
+    c.read_until.new.buf.items some (rw c.clear.ensures.items at c.in-Ok.ensures.bytes) c.in-Ok.ensures.rest
+
+pub returns-in-Ok-clause-ended : goal.returns-in-Ok-clause-ended
+returns-in-Ok-clause-ended g c = λ read.
+    let none : c.in-Ok.len ≡ 0 = search rules in
+    no-record c.args.end (g.R.Read.remaining c.args.input.now) (c.in-Ok.ensures.end none)
+
+pub returns-in-Ok-clause-stays : goal.returns-in-Ok-clause-stays
+returns-in-Ok-clause-stays g c = λ read.
+    let none : c.in-Ok.len ≡ 0 = search rules in
+    none-after c.args.end (g.R.Read.remaining c.args.input.now) (g.R.Read.remaining c.read_until.new.self)
+    (c.in-Ok.ensures.end none) c.in-Ok.ensures.rest
