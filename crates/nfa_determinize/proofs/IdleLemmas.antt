@@ -13,15 +13,18 @@ use Rattle.regex_search_core.specs.declared.search.MatchKind.TheVariants.{All, L
 use Rattle.thompson_nfa.specs.Automaton.{Automaton}
 use Rattle.nfa_paths.specs.Graphs.{Pair, In, HeadIs, NoRepeats, Linked, EndsWith, PathTo}
 use Rattle.nfa_paths.specs.Kinds.{rests}
+use Rattle.nfa_paths.specs.Paths.{IsScanAnswer, path_half, pattern_of}
 use Rattle.nfa_paths.specs.Paths.{IsMatch, node_at, byte_at, target_on, edges, pairs_from, start_count, start_state, starts}
 use Rattle.nfa_paths.proofs.MemberLemmas.{In-append_left, In-append_right}
-use Rattle.nfa_paths.proofs.PathToLemmas.{In-cases}
-use Rattle.nfa_paths.proofs.ScanAnswerLemmas.{starts-from}
+use Rattle.nfa_paths.proofs.PathToLemmas.{EndsWith-last, In-cases}
+use Rattle.nfa_paths.proofs.AnswerLemmas.{scan_answer-leads}
+use Rattle.nfa_paths.proofs.ScanAnswerLemmas.{edges-onward, starts-from}
 use Rattle.nfa_determinize.specs.Closures.{closure, holding_at, epsilon_states, explore, step, kept, pattern_by_kind}
 use Rattle.nfa_determinize.specs.Closures.{state_pattern, last_pattern}
 use Rattle.nfa_determinize.specs.Configurations.{closure_at, found_after, half_at, scanned, start_here}
-use Rattle.nfa_determinize.specs.Configurations.{starts_after}
+use Rattle.nfa_determinize.specs.Configurations.{scan_half, starts_after}
 use Rattle.nfa_determinize.specs.Idles.{IsIdle, StartsFrom}
+use Rattle.nfa_determinize.proofs.AnswerLemmas.{scan-answered}
 use Rattle.nfa_determinize.proofs.ExploreLemmas.{unseen, unseen-set, unseen-none, unseen-all}
 use Rattle.nfa_determinize.proofs.FollowLemmas.{pairs, epsilon-edges, match-rests, past-edges, past-plain, rests-edges}
 use Rattle.nfa_determinize.proofs.MatchLemmas.{NoneMatches, first-is}
@@ -401,3 +404,50 @@ module _ (nfa : Automaton) (x : Search) where
             | inr from ↦ from
           ];
     }
+
+-- a match ends at each such position or after it
+module _ (nfa : Automaton) (x : Search) where
+  linked-onward : (m v : Pair) (p : List Pair) → Linked (edges nfa x) (v ∷ p) → EndsWith m (v ∷ p) → v.1 ≤ m.1
+  linked-onward m v [] linked ends = let same : v.1 ≡ m.1 = ap (λ (u : Pair). u.1) ends in omega arith
+  linked-onward m v (w ∷ p) linked ends =
+      let on : v.1 ≤ w.1 = edges-onward nfa x v w linked.0 in
+      let rest : w.1 ≤ m.1 = linked-onward m w p linked.1 ends in
+      omega arith
+
+  path-onward : (m v : Pair) (p : List Pair) → HeadIs v p → Linked (edges nfa x) p → EndsWith m p → v.1 ≤ m.1
+  path-onward m v [] head linked ends = absurd head
+  path-onward m v (w ∷ p) head linked ends =
+      let same : w.1 ≡ v.1 = ap (λ (u : Pair). u.1) head in
+      let on : w.1 ≤ m.1 = linked-onward m w p linked ends in
+      omega arith
+
+  pub half-after : (s : ℕ) → StartsFrom nfa x s → (kind : MatchKind) (earliest : Bool) (h : HalfFound)
+      → scan_half nfa x kind earliest ≡ Some h → s ≤ h.offset
+  half-after s starts kind earliest h is =
+      let a = scan-answered nfa x kind earliest in
+      of a.path a.answers (a.half_is ∙ is)
+    where
+      never : None ≡ Some h → ⊥
+      never e = cc
+
+      end : (v : Pair) (o : Option ℕ) → option_map (λ k. record { pattern = k; offset = v.1 }) o ≡ Some h
+          → v.1 ≡ h.offset
+      end v None e = absurd (never e)
+      end v (Some k) e = ap (λ (g : Option HalfFound). option_map_or (λ f. f.offset) g 0) e
+
+      of : (o : Option (List Pair)) → IsScanAnswer nfa x kind earliest o → option_and_then (path_half nfa) o ≡ Some h
+          → s ≤ h.offset
+      of None answers e = absurd (never e)
+      of (Some p) answers e =
+          let to = scan_answer-leads nfa x kind earliest p answers in
+          let last = EndsWith-last None to.end p to.path.ends in
+          let from : s ≤ to.path.start.1 = starts.from to.end p to.path to.matches in
+          let on : to.path.start.1 ≤ to.end.1 =
+          path-onward to.end to.path.start p to.path.head to.path.linked to.path.ends in
+          let at : to.end.1 ≡ h.offset =
+          end to.end (pattern_of (node_at nfa to.end.0)) (rw last at e) in
+          omega arith
+
+  -- no path starts before the search does
+  pub StartsFrom-start : StartsFrom nfa x x.start
+  StartsFrom-start = record { from = λ m p w accepts. starts-from nfa x w.start w.among }

@@ -5,6 +5,7 @@ use Rattle.std.proofs.lemmas.Bool.Decides.{nat_tests}
 use Rattle.regex_search_core.specs.declared.search.MatchKind.{MatchKind}
 use Rattle.thompson_nfa.specs.Automaton.{Automaton}
 use Rattle.thompson_nfa.specs.declared.state.Transition.{Transition}
+use Rattle.nfa_paths.specs.Graphs.{In}
 use Rattle.nfa_paths.specs.Paths.{first_target, holds_byte, node_at, target_on}
 use Rattle.nfa_determinize.specs.Closures.{kept, pattern_by_kind, step}
 use Rattle.nfa_lazy_dfa.specs.Assertions.{HasNoLook, sees}
@@ -47,6 +48,10 @@ module _ (nfa : Automaton) (looks : Bool) (a b : ℕ) (alike : IsAlike nfa looks
       closure-same nfa (sees s.before (Some a)) (sees s.before (Some b))
       (same-none nfa none (sees s.before (Some a)) (sees s.before (Some b))) s.states in
       let hit : hit_here nfa kind s (Some a) ≡ hit_here nfa kind s (Some b) = ap (pattern_by_kind nfa kind) same in
+      let same-step : step nfa (Some b) (kept nfa kind (here nfa s (Some b)))
+      ≡ step nfa (Some a) (kept nfa kind (here nfa s (Some a))) =
+      sym (ap (λ (h : List ℕ). step nfa (Some a) (kept nfa kind h)) same
+      ∙ step-alike (kept nfa kind (here nfa s (Some b)))) in
       record {
         read = inl (reads-none nfa none);
         hit = next.hit ∙ hit;
@@ -55,6 +60,7 @@ module _ (nfa : Automaton) (looks : Bool) (a b : ℕ) (alike : IsAlike nfa looks
         states = subst (λ (states : List ℕ). Covers nfa t.states (states ++ start_if nfa t.more))
             (ap (λ (h : List ℕ). step nfa (Some a) (kept nfa kind h)) same
             ∙ step-alike (kept nfa kind (here nfa s (Some b)))) next.states;
+        held = λ q i. next.held q (subst (In q) same-step i);
         before = λ after read. same-none nfa none (sees t.before after) (sees (Some b) after);
       }
 

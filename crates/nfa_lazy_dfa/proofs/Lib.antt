@@ -1,10 +1,13 @@
 pub mod AssertionLemmas
 pub mod StanceLemmas
+pub mod HeldLemmas
+pub mod ApartLemmas
 pub mod OnceLemmas
 pub mod RowLemmas
 pub mod CacheLemmas
 pub mod WorkLemmas
 pub mod ScanLemmas
+pub mod WatchLemmas
 pub mod CutLemmas
 pub mod RunLemmas
 pub mod StopLemmas

@@ -93,6 +93,7 @@ module _ (dfa : DFA) (x : Search) where
       let stands : StandsFor dfa.nfa x x.start s (begin dfa.nfa x) = record {
         states = subst (Covers dfa.nfa (start ∷ [])) (sym (list more (length (starts dfa.nfa x)) all start known))
             (record { same = λ holding. refl; none = λ e. absurd (never start e) });
+        held = λ q i. absurd i;
         sees = λ after. same-at dfa.nfa x.haystack x.start (omega arith) before read after
             (like (slice_get x.haystack x.start) after);
         starts = less more (length (starts dfa.nfa x)) (x.end - x.start) all;

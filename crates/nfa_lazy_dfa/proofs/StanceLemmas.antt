@@ -8,6 +8,7 @@ use Rattle.regex_search_core.specs.declared.search.MatchKind.{MatchKind}
 use Rattle.regex_search_core.specs.declared.search.MatchKind.TheVariants.{All, LeftmostFirst}
 use Rattle.thompson_nfa.specs.Automaton.{Automaton, Node}
 use Rattle.thompson_nfa.specs.Automaton.Node.{ByteRange, Sparse, Dense, Look, Union, BinaryUnion, Capture, Fail, Match}
+use Rattle.nfa_paths.specs.Graphs.{In}
 use Rattle.nfa_paths.specs.Kinds.{rests}
 use Rattle.nfa_paths.specs.Paths.{byte_at, node_at, start_state}
 use Rattle.nfa_determinize.specs.Closures.{Holding, closure, epsilon_states, explore, holding_at, kept, pattern_by_kind, step}
@@ -125,6 +126,10 @@ module _ (nfa : Automaton) (x : Search) (kind : MatchKind) where
       ∙ ap (λ (b : Bool). if b then suc k else 0) (sym next.more) in
       let begins : t.more ≡ true → start_state nfa x.anchored ≡ Some nfa.anchored =
       λ more. stands.begins (and-left s.more (goes_on kind hit) (sym next.more ∙ more)) in
+      let stepped : step nfa (Some byte) (kept nfa kind (here nfa s (Some byte)))
+      ≡ (advance nfa x kind earliest at c).states =
+      ap (λ (o : Option ℕ). step nfa o (kept nfa kind (here nfa s (Some byte)))) (sym is)
+      ∙ ap (λ (h : List ℕ). step nfa (byte_at x at) (kept nfa kind h)) (sym same) in
       let list : step nfa (Some byte) (kept nfa kind (here nfa s (Some byte))) ++ start_if nfa t.more
       ≡ (advance nfa x kind earliest at c).states ++ start_here nfa x (advance nfa x kind earliest at c).starts =
       ap (λ (o : Option ℕ). step nfa o (kept nfa kind (here nfa s (Some byte))) ++ start_if nfa t.more) (sym is)
@@ -134,6 +139,7 @@ module _ (nfa : Automaton) (x : Search) (kind : MatchKind) where
       (starts_after kind (pattern_by_kind nfa kind (closure_at nfa x at c)) c.starts) k counted begins)) in
       record {
         states = subst (Covers nfa t.states) list next.states;
+        held = λ q i. next.held q (subst (In q) (sym stepped) i);
         sees = λ after. same-at nfa x.haystack (at + 1) (omega arith) t.before
             (subst (IsRead nfa) (sym before) next.read) after
             (subst (λ (o : Option ℕ). SameLooks nfa (sees t.before (slice_get x.haystack (at + 1)))

@@ -6,6 +6,7 @@ use Rattle.regex_search_core.specs.Search.{Search}
 use Rattle.regex_search_core.specs.declared.search.MatchKind.{MatchKind}
 use Rattle.regex_search_core.specs.declared.search.MatchKind.TheVariants.{All, LeftmostFirst}
 use Rattle.thompson_nfa.specs.Automaton.{Automaton}
+use Rattle.nfa_paths.specs.Graphs.{In}
 use Rattle.nfa_paths.specs.Paths.{start_state}
 use Rattle.nfa_determinize.specs.Closures.{Holding, closure, holding_at, kept, pattern_by_kind, state_pattern, step}
 use Rattle.nfa_determinize.specs.Configurations.{Configuration, start_here}
@@ -87,11 +88,13 @@ module _ (nfa : Automaton) where
       pub hits : t.hits ≡ hits_here s (Some byte)
       pub more : t.more ≡ (s.more && goes_on kind (hit_here s (Some byte)))
       pub states : Covers t.states (step nfa (Some byte) (kept nfa kind (here s (Some byte))) ++ start_if t.more)
+      pub held : (q : ℕ) → In q (step nfa (Some byte) (kept nfa kind (here s (Some byte)))) → In q t.states
       pub before : (after : Option ℕ) → IsRead nfa after → SameLooks nfa (sees t.before after) (sees (Some byte) after)
 
   -- what s stands for at a position of a scan
   pub record StandsFor (x : Search) (at : ℕ) (s : Stance) (c : Configuration) : Type 0 where
     pub states : Covers s.states (c.states ++ start_here nfa x c.starts)
+    pub held : (q : ℕ) → In q c.states → In q s.states
     pub sees : IsRead nfa (slice_get x.haystack at)
         → SameLooks nfa (sees s.before (slice_get x.haystack at)) (holding_at x.haystack at)
     pub starts : c.starts - 1 ≡ (if s.more then x.end - at else 0)

@@ -2,10 +2,12 @@
 ghost use Rattle.std.specs.Prelude.{◌≡◌, false, length, true, IfOk, IsOk};
 ghost use Rattle.regex_search_core.specs.declared.search.MatchKind.TheVariants.{LeftmostFirst};
 ghost use Rattle.thompson_nfa.specs.Automaton.{node_of};
+ghost use Rattle.nfa_lazy_dfa.specs.Apart.{IsStartApart};
 ghost use Rattle.nfa_lazy_dfa.specs.Assertions.{HasNoLook, HasNoUnicodeWord, HasUnicodeWord, IsQuit, IsRead, is_look};
 ghost use Rattle.nfa_lazy_dfa.specs.Assertions.{may_follow, reads_bytes};
 ghost use Rattle.nfa_lazy_dfa.specs.Cuts.{AreCuts};
 
+use crate::apart::is_start_apart;
 use crate::config::{Builder, Config};
 use crate::cuts::cuts_of;
 use regex_search_core::MatchKind;
@@ -35,6 +37,9 @@ pub struct DFA {
     /// The NFA has an assertion.
     pub(crate) looks: bool,
     pub(crate) ghost looks_are: { looks ≡ false → HasNoLook nfa },
+    /// No byte leads to the start.
+    pub(crate) apart: bool,
+    pub(crate) ghost apart_is: { apart ≡ true → IsStartApart nfa },
     /// Which bytes the NFA tells apart from the next one.
     pub(crate) cuts: [bool; 256],
     pub(crate) ghost cuts_are: { AreCuts nfa looks cuts },
@@ -50,6 +55,7 @@ impl DFA {
     {
         let quits = has_unicode_word(&nfa);
         let looks = has_look(&nfa);
+        let apart = is_start_apart(&nfa);
         let cuts = cuts_of(&nfa, looks);
         DFA {
             config,
@@ -58,6 +64,7 @@ impl DFA {
             max_clears: config.get_minimum_cache_clear_count().unwrap_or(usize::MAX),
             quits,
             looks,
+            apart,
             cuts,
             nfa,
         }

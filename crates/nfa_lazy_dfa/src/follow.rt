@@ -4,6 +4,7 @@ ghost use Rattle.std.specs.Prelude.{All, IfOk, IsTrue, length, map, option_map, 
 ghost use Rattle.regex_search_core.specs.Patterns.{number_of};
 ghost use Rattle.regex_search_core.specs.declared.search.MatchKind.TheVariants.{LeftmostFirst};
 ghost use Rattle.thompson_nfa.specs.Automaton.{node_of};
+ghost use Rattle.nfa_paths.specs.Graphs.{In};
 ghost use Rattle.nfa_paths.specs.Paths.{pattern_of};
 ghost use Rattle.nfa_lazy_dfa.specs.Assertions.{IsRead, SameLooks, like, sees};
 ghost use Rattle.nfa_lazy_dfa.specs.Capacities.{largest_row_memory};
@@ -174,6 +175,7 @@ fn may_start_after(kind: MatchKind, hit: Option<PatternID>) -> bool
 fn each_once(alloc: Global, nfa: &NFA, states: &[StateID]) -> Result<Vec<StateID>, AllocError>
     requires { All (λ s. s < length nfa.now.states) states.now }
     ensures covers { IfOk result (λ made. Covers nfa.now made.items states.now) }
+    ensures held { IfOk result (λ made. (q : ℕ) → In q states.now → In q made.items) }
     ensures below { IfOk result (λ made. All (λ s. s < length nfa.now.states) made.items) }
     ensures short { IfOk result (λ made. length made.items ≤ length nfa.now.states) }
 {

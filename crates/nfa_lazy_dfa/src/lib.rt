@@ -1,6 +1,7 @@
 //! A DFA that is built while it searches: it finds whether and where a match ends, at a few instructions a byte.
 #![tactic(auto)]
 
+mod apart;
 mod cache;
 mod caches;
 mod config;
@@ -12,9 +13,11 @@ mod follow;
 mod index;
 mod scan;
 mod search;
+mod window;
 
 pub use cache::Cache;
 pub use config::{Builder, Config};
 pub use dfa::DFA;
 pub use error::StopError;
 pub use thompson_nfa::BuildError;
+pub use window::Window;

@@ -24,15 +24,15 @@ use regex_search_core::{HalfMatch, Input, PatternID, StateID};
 
 /// Where a scan is: a position, the row there, and what was found before.
 #[derive(Clone, Copy)]
-struct Place {
-    at: usize,
-    row: u32,
-    found: Option<HalfMatch>,
+pub struct Place {
+    pub at: usize,
+    pub row: u32,
+    pub found: Option<HalfMatch>,
 }
 
 /// The cell of the byte at the position, in the row whose cells begin at `first`.
 #[inline(always)]
-fn cell_at(
+pub fn cell_at(
     dfa: &DFA,
     cache: &Cache,
     input: &Input<'_>,
@@ -161,7 +161,7 @@ fn may_start_later(dfa: &DFA, input: &Input<'_>) -> bool
 }
 
 /// A match of the pattern that ends at the position, if there is a pattern.
-fn half_at(pattern: Option<PatternID>, at: usize) -> Option<HalfMatch>
+pub fn half_at(pattern: Option<PatternID>, at: usize) -> Option<HalfMatch>
     ensures { option_map half_found_of result ≡ option_map (half_at at) (option_map number_of pattern) }
 {
     Some(HalfMatch::new(pattern?, at))
@@ -201,7 +201,7 @@ pub fn scan_half(
 }
 
 /// The row of a scan at its first position.
-fn first_row(
+pub fn first_row(
     dfa: &DFA,
     cache: &mut Cache,
     input: &Input<'_>,
@@ -228,7 +228,7 @@ fn first_row(
 }
 
 /// The half match of a scan that is at this place.
-fn scan_from(
+pub fn scan_from(
     dfa: &DFA,
     cache: &mut Cache,
     input: &Input<'_>,
@@ -265,7 +265,12 @@ fn scan_from(
 }
 
 /// The row after the byte at the place, which is in the span or just after it.
-fn next_row(dfa: &DFA, cache: &mut Cache, input: &Input<'_>, place: Place) -> Result<u32, StopError>
+pub fn next_row(
+    dfa: &DFA,
+    cache: &mut Cache,
+    input: &Input<'_>,
+    place: Place,
+) -> Result<u32, StopError>
     requires own { IsFor cache.old dfa.now }
     requires row { place.row < vec_len cache.old.stands }
     requires inside { place.at < length (search_of input.now).haystack }

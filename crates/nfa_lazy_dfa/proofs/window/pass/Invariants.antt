@@ -1,0 +1,15 @@
+-- The scan found nothing yet.
+use Rattle.std.proofs.Common.{◌≤◌, ◌-◌}
+use Rattle.regex_search_core.specs.Search.{search_of}
+use Rattle.nfa_lazy_dfa.specs.Watches.{IsWatching}
+use Rattle.nfa_lazy_dfa.proofs.window.pass.Given as goal
+
+abbrev pub invariant-loop-w : goal.invariant-loop-w
+invariant-loop-w l = record {
+  watching : IsWatching l.dfa l.cache (search_of l.input) l.w;
+  low : l.fn.from.at ≤ l.w.at;
+  high : l.w.at ≤ l.end;
+}
+
+abbrev pub decreases-loop-w : goal.decreases-loop-w
+decreases-loop-w l = l.end - l.w.at

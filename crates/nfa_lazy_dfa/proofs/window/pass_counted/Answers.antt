@@ -1,0 +1,9 @@
+-- Counting changes no row.
+use Rattle.regex_search_core.specs.Search.{search_of}
+use Rattle.nfa_lazy_dfa.proofs.WatchLemmas.{IsWatching-same}
+use Rattle.nfa_lazy_dfa.proofs.window.pass_counted.Goals as goal
+
+pub returns-clause-watching : goal.returns-clause-watching
+returns-clause-watching c =
+    IsWatching-same c.args.dfa.now (search_of c.args.input.now) c.pass-to.result c.args.cache.now
+    c.count_steps.new.self c.count_steps.ensures.same c.pass-to.ensures.watching
