@@ -138,6 +138,28 @@ fn count_all(dfa: &DFA, cache: &mut Cache, text: &[u8]) -> Result<u64>
     Ok(count)
 }
 
+/// Counts the matches, and the bytes of their windows.
+fn count_windows(dfa: &DFA, cache: &mut Cache, text: &[u8]) -> Result<(u64, u64)>
+    requires { IsFor cache.old dfa.now }
+    ensures { IsFor cache.new dfa.now }
+{
+    let mut count = 0u64;
+    let mut bytes = 0u64;
+    let mut from = 0;
+    while from < text.len() {
+        let input = Input::new(text).range(from..text.len());
+        match dfa.try_find_window(cache, input)? {
+            None => return Ok((count, bytes)),
+            Some(window) => {
+                count = count.wrapping_add(1);
+                bytes = bytes.wrapping_add(window.end().saturating_sub(window.start()) as u64);
+                from = window.end().max(from.saturating_add(1));
+            }
+        }
+    }
+    Ok((count, bytes))
+}
+
 fn rounds(dfa: &DFA, cache: &mut Cache, text: &[u8], rounds: u64) -> Result<u64>
     requires { IsFor cache.old dfa.now }
 {
@@ -148,22 +170,44 @@ fn rounds(dfa: &DFA, cache: &mut Cache, text: &[u8], rounds: u64) -> Result<u64>
     Ok(count)
 }
 
+fn rounds_of_windows(dfa: &DFA, cache: &mut Cache, text: &[u8], rounds: u64) -> Result<(u64, u64)>
+    requires { IsFor cache.old dfa.now }
+{
+    let mut counts = (0, 0);
+    for _ in 0..rounds {
+        counts = count_windows(dfa, cache, text)?;
+    }
+    Ok(counts)
+}
+
 fn run(alloc: Global, spec: &str, text: &[u8], times: u64) -> Result<u64> {
     let dfa = DFA::new(compiled(alloc, spec)?)?;
     let mut cache = dfa.create_cache(alloc)?;
     rounds(&dfa, &mut cache, text, times)
 }
 
+fn run_windows(alloc: Global, spec: &str, text: &[u8], times: u64) -> Result<(u64, u64)> {
+    let dfa = DFA::new(compiled(alloc, spec)?)?;
+    let mut cache = dfa.create_cache(alloc)?;
+    rounds_of_windows(&dfa, &mut cache, text, times)
+}
+
 fn main(rt: HostRuntime) -> Result<()> {
     let alloc = rt.alloc();
     let arguments: Vec<String> = env::args(&rt)?.skip(1).collect(alloc)?;
     let words: Vec<&str> = arguments.iter().map(|word| word.as_str()).collect(alloc)?;
-    if let [spec, times] = &words[..] {
-        let mut text = Vec::new(alloc);
-        rt.reader().read_to_end(&mut text)?;
-        let times = times.parse::<u64>()?;
-        let count = run(alloc, spec, &text, times)?;
-        println!(rt; "{count}")?;
+    let mut text = Vec::new(alloc);
+    rt.reader().read_to_end(&mut text)?;
+    match &words[..] {
+        [spec, times] => {
+            let count = run(alloc, spec, &text, times.parse::<u64>()?)?;
+            println!(rt; "{count}")?;
+        }
+        [spec, times, "windows"] => {
+            let (count, bytes) = run_windows(alloc, spec, &text, times.parse::<u64>()?)?;
+            println!(rt; "{count} {bytes}")?;
+        }
+        _ => {}
     }
     Ok(())
 }

@@ -1,5 +1,5 @@
 -- No match starts before a position at which the scan is in an idle row and found nothing.
-use Rattle.std.proofs.Common.{◌≡◌, ℕ, zero, suc, ◌+◌, ◌-◌, ◌*◌, ◌/◌, ◌%◌, ◌≤◌, inl, inr, Bool, true, List, [], ◌∷◌}
+use Rattle.std.proofs.Common.{◌≡◌, ℕ, zero, suc, ◌+◌, ◌-◌, ◌*◌, ◌/◌, ◌≤◌, inl, inr, Bool, List, [], ◌∷◌}
 use Rattle.std.proofs.Common.{◌<◌, get_or, refl, ap, sym, ◌∙◌, subst, arith}
 use Rattle.std.specs.Prelude.{Result, Ok, Err, IfOk, IfSome}
 use Rattle.std.specs.Prelude.{Option, None, Some, option_and_then, option_map, option_to_list, slice_get}
@@ -14,14 +14,14 @@ use Rattle.nfa_paths.proofs.OptionLemmas.{option_or-None}
 use Rattle.nfa_paths.proofs.MemberLemmas.{In-append}
 use Rattle.nfa_determinize.specs.Closures.{closure, explore, holding_at, kept, step}
 use Rattle.nfa_determinize.specs.Configurations.{closure_at, half_at, scan_half, scanned}
-use Rattle.nfa_determinize.specs.Idles.{IsIdle, StartsFrom}
+use Rattle.nfa_determinize.specs.Idles.{StartsFrom}
 use Rattle.nfa_determinize.proofs.IdleLemmas.{StartsFrom-start, half-after, idle-passes}
 use Rattle.nfa_lazy_dfa.specs.Apart.{IsStartApart}
 use Rattle.nfa_lazy_dfa.specs.Places.{IsFoundAt}
 use Rattle.nfa_lazy_dfa.specs.Rows.{IsAt, IsRowOf, LeadsTo, stances_of}
 use Rattle.nfa_lazy_dfa.specs.Runs.{place_at}
 use Rattle.nfa_lazy_dfa.specs.Stances.{Stance}
-use Rattle.nfa_lazy_dfa.specs.Watches.{IsBegun, IsIdlePlace, IsWatching}
+use Rattle.nfa_lazy_dfa.specs.Watches.{IsBegun, IsWatching}
 use Rattle.nfa_lazy_dfa.specs.Windows.{IsWindow, half_in, start_in}
 use Rattle.nfa_lazy_dfa.proofs.ScanLemmas.{IsFoundAt-next, found_at}
 use Rattle.nfa_lazy_dfa.proofs.RunLemmas.{IsFoundAt-same}

@@ -1,5 +1,5 @@
 -- The row has only the start.
-use Rattle.std.proofs.Common.{rules, ◌≡◌, ◌<◌, ◌*◌, ◌/◌, ◌∷◌, [], ℕ, ap, sym, ◌∙◌, arith}
+use Rattle.std.proofs.Common.{rules, ◌≡◌, ◌<◌, ◌*◌, ◌/◌, ◌∷◌, [], ap, ◌∙◌, arith}
 use Rattle.std.specs.Prelude.{slice_get, vec_len}
 use Rattle.nfa_lazy_dfa.specs.Rows.{IsRowOf, stances_of}
 use Rattle.nfa_lazy_dfa.specs.Stances.{Stance, stance_of}

@@ -1,5 +1,5 @@
 -- The window starts where the search does, or at an idle position.
-use Rattle.std.proofs.Common.{rules, ◌≡◌}
+use Rattle.std.proofs.Common.{rules}
 use Rattle.std.specs.Prelude.{IfOk, option_map}
 use Rattle.regex_search_core.specs.Search.{search_of}
 use Rattle.nfa_paths.specs.Paths.{IsHalfAnswer}
