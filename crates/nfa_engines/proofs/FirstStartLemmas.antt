@@ -1,6 +1,6 @@
 -- The paths of an unanchored search are those of the anchored searches at each start.
 use Rattle.std.proofs.Common.{◌≡◌, ℕ, zero, suc, ◌+◌, ◌-◌, ◌≤◌, ◌<◌, ◌⊎◌, inl, inr, List, [], ◌∷◌}
-use Rattle.std.proofs.Common.{◌∙◌, refl, sym, ap, subst, arith, le-ltb}
+use Rattle.std.proofs.Common.{refl, sym, ap, subst, arith, le-ltb}
 use Rattle.std.proofs.lemmas.Bool.{cases_lt}
 use Rattle.regex_search_core.specs.Search.{Search}
 use Rattle.regex_search_core.specs.declared.search.Anchored.{Anchored}
@@ -61,11 +61,6 @@ heads-less edges start other (v ∷ p) (w ∷ q) head k less =
     let from : v.1 ≡ start.1 = ap (λ (z : Pair). z.1) head in
     let to : w.1 ≡ other.1 = ap (λ (z : Pair). z.1) k in
     inl (omega arith)
-
--- a list has one first pair
-pub heads-one : (v w : Pair) (p : List Pair) → HeadIs v p → HeadIs w p → v ≡ w
-heads-one v w [] h k = absurd h
-heads-one v w (a ∷ p) h k = sym h ∙ k
 
 -- a path of a graph is one from each list of starts that holds its own
 pub with-starts : {edges : Pair → List Pair} {starts others : List Pair} {m : Pair} {p : List Pair}

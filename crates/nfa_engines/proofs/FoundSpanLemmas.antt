@@ -20,7 +20,7 @@ use Rattle.nfa_paths.proofs.ScanAnswerLemmas.{edges-onward, edges-rise, edges-wi
 use Rattle.nfa_paths.proofs.StartLemmas.{byte_pairs, pairs_from-has, raised-zero, resting-edges}
 use Rattle.nfa_engines.specs.FoundSpanLaws.{cut_to, IsAnswerSpan, IsLeastStart, MayCut}
 use Rattle.nfa_engines.specs.FoundSpanLaws.MayCut.{same, tied}
-use Rattle.nfa_engines.proofs.FirstStartLemmas.{heads-one, heads-order, pairs_from-in}
+use Rattle.nfa_engines.proofs.FirstStartLemmas.{heads-order, pairs_from-in}
 
 -- a list has one last pair
 some_one : (a b : Pair) → Some a ≡ Some b → a ≡ b
@@ -28,6 +28,11 @@ some_one a b e = cc
 
 ends-one : (m n : Pair) (p : List Pair) → EndsWith m p → EndsWith n p → m ≡ n
 ends-one m n p e d = some_one m n (sym (EndsWith-last None m p e) ∙ EndsWith-last None n p d)
+
+-- and one first
+heads-one : (v w : Pair) (p : List Pair) → HeadIs v p → HeadIs w p → v ≡ w
+heads-one v w [] h k = absurd h
+heads-one v w (a ∷ p) h k = sym h ∙ k
 
 -- the start
 

@@ -16,7 +16,6 @@ pub mod MovedGraphLemmas
 pub mod FirstStartLemmas
 pub mod StartAnswerLemmas
 pub mod FoundSpanLemmas
-pub mod WindowLemmas
 pub mod SpanLemmas
 pub mod AlikeLemmas
 pub mod AloneLemmas

@@ -147,7 +147,7 @@ module _ (nfa : Automaton) (k : ℕ) where
 
   module _ (x y : Search)
       (same : ArePathsMoved (edges nfa x) (edges nfa y) (starts nfa x) (starts nfa y) (IsMatch nfa) k) where
-    pub scan-moved : (kind : MatchKind) (earliest : Bool) (r : Option (List Pair)) → IsScanAnswer nfa x kind earliest r
+    scan-moved : (kind : MatchKind) (earliest : Bool) (r : Option (List Pair)) → IsScanAnswer nfa x kind earliest r
         → IsScanAnswer nfa y kind earliest (option_map (moved_path k) r)
     scan-moved LeftmostFirst false =
         first_path-moved (edges nfa x) (edges nfa y) (starts nfa x) (starts nfa y) (IsMatch nfa) k same

@@ -1,7 +1,7 @@
 -- The answer of an unanchored search is that of the anchored search at the first start that has one.
 use Rattle.std.proofs.Common.{◌≡◌, ℕ, ◌+◌, ◌≤◌, ◌⊎◌, ◌↔◌, inl, inr, Bool, false, List, length}
 use Rattle.std.proofs.Common.{refl, sym, ap, subst, arith}
-use Rattle.std.specs.Prelude.{Option, None, Some, option_and_then, option_map}
+use Rattle.std.specs.Prelude.{Option, None, Some, option_and_then}
 use Rattle.std.proofs.lemmas.Bool.{cases_lt}
 use Rattle.regex_search_core.specs.Found.{Found}
 use Rattle.regex_search_core.specs.Groups.{slot_count}
@@ -18,16 +18,11 @@ use Rattle.nfa_engines.specs.Accepting.{MatchesNothing}
 use Rattle.nfa_engines.specs.StartLaws.{anchored_at, from_start, IsAnswerStart, IsFirstStart, IsUnbound}
 use Rattle.nfa_engines.proofs.MovedLemmas.{moved, moved_path, moved_path-none, ArePathsMoved}
 use Rattle.nfa_engines.proofs.MovedAnswerLemmas.{answer-moved, match_answer-moved, moved_match-none, moved_slots-none}
-use Rattle.nfa_engines.proofs.MovedAnswerLemmas.{scan-moved}
-use Rattle.nfa_engines.proofs.FirstStartLemmas.{anchored-start, heads-less, heads-one, heads-order, same_edges, start-anchored}
+use Rattle.nfa_engines.proofs.FirstStartLemmas.{anchored-start, heads-less, heads-order, same_edges, start-anchored}
 use Rattle.nfa_engines.proofs.FirstStartLemmas.{start-unbound, unbound-start, with-starts}
 
 moved-none : (v : Pair) → moved 0 v ≡ v
 moved-none v = let at : v.1 + 0 ≡ v.1 = omega arith in λ i. (v.0, at i)
-
-moved_answer-none : (r : Option (List Pair)) → option_map (moved_path 0) r ≡ r
-moved_answer-none None = refl
-moved_answer-none (Some p) = ap Some (moved_path-none p)
 
 -- if two lists of starts have the same paths to wanted pairs, no path moves
 module _ (edges : Pair → List Pair) (starts others : List Pair) (Wanted : Pair → Type 0)
@@ -82,23 +77,6 @@ module _ (nfa : Automaton) (x : Search) (free : IsUnbound nfa x) where
         (none w.start.1 at.from).no_path m p (anchored-path m p w) t;
   }
 
-  -- a position before which no accepting path starts is a first start
-  pub first-by-paths : (s : ℕ) → x.start ≤ s
-      → ((m : Pair) (p : List Pair) (w : PathTo (edges nfa x) (starts nfa x) m p) → IsMatch nfa m → s ≤ w.start.1)
-      → IsFirstStart nfa x s
-  first-by-paths s from past = record {
-    from = from;
-    nothing = λ i low less. record {
-      no_path = λ m p w t.
-          let at = start-anchored nfa x i w.start w.among in
-          let position : w.start.1 ≡ i = ap (λ (z : Pair). z.1) at.is in
-          let u = unbound-path i low m p w in
-          let later : s ≤ u.start.1 = past m p u t in
-          let same : u.start.1 ≡ w.start.1 = ap (λ (z : Pair). z.1) (heads-one u.start w.start p u.head w.head) in
-          absurd (omega arith);
-    };
-  }
-
   module _ (s : ℕ) (first : IsFirstStart nfa x s) where
     -- an accepting path starts there or later
     starts-past : (m : Pair) (p : List Pair) (w : PathTo (edges nfa x) (starts nfa x) m p) → IsMatch nfa m
@@ -142,15 +120,6 @@ module _ (nfa : Automaton) (x : Search) (free : IsUnbound nfa x) where
         (paths-stay (edges nfa x) (starts nfa (from_start x s)) (starts nfa x) (IsMatch nfa) path-back path-on)
 
     -- so starts before it may be passed over
-    pub scan-passed : (kind : MatchKind) (earliest : Bool) (r : Option (List Pair))
-        → IsScanAnswer nfa x kind earliest r ↔ IsScanAnswer nfa (from_start x s) kind earliest r
-    scan-passed kind earliest r = (
-      λ h. subst (IsScanAnswer nfa (from_start x s) kind earliest) (moved_answer-none r)
-          (scan-moved nfa 0 x (from_start x s) on kind earliest r h),
-      λ h. subst (IsScanAnswer nfa x kind earliest) (moved_answer-none r)
-          (scan-moved nfa 0 (from_start x s) x back kind earliest r h),
-    )
-
     pub answer-passed : (kind : MatchKind) (earliest : Bool) (pattern : Option ℕ) (slots : List (Option ℕ))
         → IsAnswer nfa kind earliest x pattern slots ↔ IsAnswer nfa kind earliest (from_start x s) pattern slots
     answer-passed kind earliest pattern slots = (

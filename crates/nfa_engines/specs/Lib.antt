@@ -15,7 +15,6 @@ pub mod PatternLaws
 pub mod SetLaws
 pub mod SpanLaws
 pub mod StartLaws
-pub mod WindowLaws
 pub mod WorkLaws
 pub use Rattle.nfa_backtrack.specs.Backtrack
 pub use Rattle.nfa_backtrack.specs.CapturesMatches as BacktrackCapturesMatches

@@ -44,8 +44,6 @@ ghost use Rattle.nfa_engines.specs.SpanLaws.{MatchesReadTheSpan};
 ghost use Rattle.nfa_engines.specs.StartLaws.{AnswersHaveAStart, FirstStartAnswers, FirstStartMatches};
 ghost use Rattle.nfa_engines.specs.StartLaws.{FirstStartMoves, NothingAtByte, StartIsFirst};
 ghost use Rattle.nfa_engines.specs.StartLaws.{MatchStartsArePassed, NothingAtEachStart, StartsArePassed};
-ghost use Rattle.nfa_engines.specs.WindowLaws.{NoHalfMatchIsNothing, PathsTellTheFirstStart, WindowAnswers};
-ghost use Rattle.nfa_engines.specs.WindowLaws.{WindowMatches};
 ghost use Rattle.nfa_engines.specs.WorkLaws.{list_scan_limit, BacktrackerCatchesWithin, BacktrackerFindsWithin};
 ghost use Rattle.nfa_engines.specs.WorkLaws.{BacktrackerMatchesAreWithin, BacktrackerRowsAreWithin, PikeCatchesWithin};
 ghost use Rattle.nfa_engines.specs.WorkLaws.{PikeFindsWithin, PikeMatchesAreWithin, PikeRowsAreWithin};
@@ -290,19 +288,6 @@ pub fn answer_is_that_of_the_cut_span()
     ensures earliest { SpanMayBeCut LeftmostFirst true }
     ensures search { SearchMayBeCut LeftmostFirst false }
     ensures answer { AnswersHaveASpan LeftmostFirst false }
-{}
-
-/// A leftmost first search, without `earliest`, has the answer and the match of the search in a window: the span from
-/// its start, or from a start that may be passed to ([`starts_may_be_passed`]), to the end of its half match, over the
-/// same haystack and with the same anchoring. If its half match is none, so is its answer. No match has to end on a
-/// boundary.
-///
-/// If no accepting path starts before a position, starts may be passed up to it.
-pub fn answer_is_that_of_the_window()
-    ensures answers { WindowAnswers }
-    ensures matches { WindowMatches }
-    ensures nothing { NoHalfMatchIsNothing }
-    ensures first { PathsTellTheFirstStart }
 {}
 
 /// A search with `Anchored::Pattern` has the answer and the match of the anchored search of that pattern only: of the
