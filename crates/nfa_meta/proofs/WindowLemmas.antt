@@ -1,0 +1,212 @@
+-- The path that answers a search answers the search of a window.
+use Rattle.std.proofs.Common.{◌≡◌, ℕ, ◌≤◌, Bool, true, false, List, [], ◌∷◌, refl, ap, sym, ◌∙◌, subst, arith}
+use Rattle.std.specs.Prelude.{Option, None, Some, MatchBool, is_some, option_and_then, option_map}
+use Rattle.std.specs.Option.{option_map_or}
+use Rattle.regex_search_core.specs.Found.{Found, HalfFound}
+use Rattle.regex_search_core.specs.Search.{Search, is_anchored}
+use Rattle.regex_search_core.specs.declared.search.Anchored.TheVariants.{Yes}
+use Rattle.regex_search_core.specs.declared.search.MatchKind.{MatchKind}
+use Rattle.regex_search_core.specs.declared.search.MatchKind.TheVariants.{LeftmostFirst}
+use Rattle.thompson_nfa.specs.Automaton.{Automaton}
+use Rattle.nfa_paths.specs.Graphs.{Pair, HeadIs, PathTo, IsFirstTo}
+use Rattle.nfa_paths.specs.Paths.{IsAnswer, IsFindAnswer, IsHalfAnswer, IsKeptAnswer, IsMatch, IsRestartedAnswer}
+use Rattle.nfa_paths.specs.Paths.{IsScanAnswer, IsSearchAnswer, edges, is_utf8_empty, node_at, path_half}
+use Rattle.nfa_paths.specs.Paths.{pattern_of, starts}
+use Rattle.nfa_paths.proofs.AnswerLemmas.{scan_answer-leads, scan_answer-unique}
+use Rattle.nfa_paths.proofs.PathToLemmas.{EndsWith-last}
+use Rattle.nfa_determinize.specs.Idles.{StartsFrom}
+use Rattle.nfa_engines.specs.FoundSpanLaws.{EndMayBeCut}
+use Rattle.nfa_engines.specs.StartLaws.{IsFirstStart, IsUnbound, from_start}
+use Rattle.nfa_engines.proofs.FirstStartLemmas.{same_edges, start-anchored, start-unbound, unbound-start, with-starts}
+use Rattle.nfa_lazy_dfa.specs.Windows.{IsWindow, half_in, start_in}
+use Rattle.nfa_lazy_dfa.specs.declared.window.Window.{Window}
+use Rattle.nfa_meta.specs.WindowLaws.{WindowHasTheMatch, within}
+
+-- the answer of one scan
+
+module _ (nfa : Automaton) (kind : MatchKind) (earliest : Bool) (x : Search) (whole : is_utf8_empty nfa ≡ false) where
+  scan-of : (restarts : ℕ) (path : Option (List Pair)) → IsSearchAnswer nfa kind earliest x restarts path
+      → IsScanAnswer nfa x kind earliest path
+  scan-of restarts path = of (is_utf8_empty nfa) whole
+    where
+      of : (b : Bool) → b ≡ false
+          → MatchBool b (MatchBool (is_anchored x.anchored) ((restarts ≡ 0) × IsKeptAnswer nfa kind earliest x path)
+          (IsRestartedAnswer nfa kind earliest x restarts path)) ((restarts ≡ 0) × IsScanAnswer nfa x kind earliest path)
+          → IsScanAnswer nfa x kind earliest path
+      of true e h = absurd (cc e)
+      of false e h = h.1
+
+  search-of : (n : ℕ) → n ≡ 0 → (path : Option (List Pair)) → IsScanAnswer nfa x kind earliest path
+      → IsSearchAnswer nfa kind earliest x n path
+  search-of n zero path = of (is_utf8_empty nfa) whole
+    where
+      of : (b : Bool) → b ≡ false → IsScanAnswer nfa x kind earliest path
+          → MatchBool b (MatchBool (is_anchored x.anchored) ((n ≡ 0) × IsKeptAnswer nfa kind earliest x path)
+          (IsRestartedAnswer nfa kind earliest x n path)) ((n ≡ 0) × IsScanAnswer nfa x kind earliest path)
+      of true e h = absurd (cc e)
+      of false e h = (zero, h)
+
+-- a list begins with one pair
+heads-same : (v w : Pair) (p : List Pair) → HeadIs v p → HeadIs w p → v ≡ w
+heads-same v w [] i j = absurd i
+heads-same v w (u ∷ p) i j = sym i ∙ j
+
+module _ (nfa : Automaton) (x : Search) (free : IsUnbound nfa x) (s : ℕ) (low : x.start ≤ s)
+    (from : StartsFrom nfa x s) where
+  -- no anchored search before the position matches
+  pub first-start : IsFirstStart nfa x s
+  first-start = record {
+    from = low;
+    nothing = λ i first before. record {
+      no_path = λ m p w accepts.
+          let at = start-anchored nfa x i w.start w.among in
+          let position : w.start.1 ≡ i = ap (λ (v : Pair). v.1) at.is in
+          let high : i ≤ x.end = at.within in
+          let path : PathTo (edges nfa x) (starts nfa x) m p =
+          subst (λ es. PathTo es (starts nfa x) m p) (same_edges nfa x i Yes)
+          (with-starts w (unbound-start nfa x free x.start w.start
+          (record { state_is = ap (λ (v : Pair). v.0) at.is; from = omega arith; within = omega arith }))) in
+          let past : s ≤ path.start.1 = from.from m p path accepts in
+          let same : path.start.1 ≡ w.start.1 = ap (λ (v : Pair). v.1) (heads-same path.start w.start p path.head w.head) in
+          absurd (omega arith);
+    };
+  }
+
+  -- a path to a match is one of the search from the position on
+  path-on : (m : Pair) (p : List Pair) → PathTo (edges nfa x) (starts nfa x) m p → IsMatch nfa m
+      → PathTo (edges nfa x) (starts nfa (from_start x s)) m p
+  path-on m p w accepts =
+      let at = start-unbound nfa x free x.start w.start w.among in
+      with-starts w (unbound-start nfa x free s w.start
+      (record { state_is = at.state_is; from = from.from m p w accepts; within = at.within }))
+
+  path-back : (m : Pair) (p : List Pair) → PathTo (edges nfa x) (starts nfa (from_start x s)) m p
+      → PathTo (edges nfa x) (starts nfa x) m p
+  path-back m p w =
+      let at = start-unbound nfa x free s w.start w.among in
+      let past : s ≤ w.start.1 = at.from in
+      with-starts w (unbound-start nfa x free x.start w.start
+      (record { state_is = at.state_is; from = omega arith; within = at.within }))
+
+  -- the first one stays the first
+  scan-on : (p : List Pair) → IsScanAnswer nfa x LeftmostFirst false (Some p)
+      → IsScanAnswer nfa (from_start x s) LeftmostFirst false (Some p)
+  scan-on p h =
+      subst (λ es. IsFirstTo es (starts nfa (from_start x s)) (IsMatch nfa) p) (sym (same_edges nfa x s x.anchored))
+      (record {
+        end = h.end;
+        path = path-on h.end p h.path h.wanted;
+        wanted = h.wanted;
+        first = λ m q w accepts. h.first m q (path-back m q w) accepts;
+      })
+
+  -- the path of the half match
+
+  record Halved (half : HalfFound) : Type 0 where
+    path : List Pair
+    answers : IsScanAnswer nfa x LeftmostFirst false (Some path)
+    inside : IsScanAnswer nfa (within x s half.offset) LeftmostFirst false (Some path)
+
+  halved : EndMayBeCut LeftmostFirst false → (half : HalfFound)
+      → IsHalfAnswer nfa LeftmostFirst false x (Some half) → Halved half
+  halved cut half h =
+      of h.path (scan-of nfa LeftmostFirst false x free.anywhere h.restarts h.path h.answers) h.found_is
+    where
+      never : Some half ≡ None → ⊥
+      never e = cc
+
+      end : (v : Pair) (o : Option ℕ) → Some half ≡ option_map (λ k. record { pattern = k; offset = v.1 }) o
+          → v.1 ≡ half.offset
+      end v None e = absurd (never e)
+      end v (Some k) e = sym (ap (λ (g : Option HalfFound). option_map_or (λ f. f.offset) g 0) e)
+
+      of : (o : Option (List Pair)) → IsScanAnswer nfa x LeftmostFirst false o
+          → Some half ≡ option_and_then (path_half nfa) o → Halved half
+      of None answers e = absurd (never e)
+      of (Some p) answers e =
+          let to = scan_answer-leads nfa x LeftmostFirst false p answers in
+          let last = EndsWith-last None to.end p to.path.ends in
+          let at : to.end.1 ≡ half.offset = end to.end (pattern_of (node_at nfa to.end.0)) (rw last at e) in
+          record {
+            path = p;
+            answers = answers;
+            inside = subst (λ (n : ℕ). IsScanAnswer nfa (within x s n) LeftmostFirst false (Some p)) at
+                (cut nfa (from_start x s) p to.end (scan-on p answers) to.path.ends);
+          }
+
+  module _ (cut : EndMayBeCut LeftmostFirst false) (half : HalfFound)
+      (h : IsHalfAnswer nfa LeftmostFirst false x (Some half)) where
+    same-path : (restarts : ℕ) (path : Option (List Pair))
+        → IsSearchAnswer nfa LeftmostFirst false (within x s half.offset) restarts path
+        → IsSearchAnswer nfa LeftmostFirst false x 0 path
+    same-path restarts path answers =
+        let k = halved cut half h in
+        let same : Some k.path ≡ path =
+        scan_answer-unique nfa (within x s half.offset) LeftmostFirst false (Some k.path) path k.inside
+        (scan-of nfa LeftmostFirst false (within x s half.offset) free.anywhere restarts path answers) in
+        search-of nfa LeftmostFirst false x free.anywhere 0 refl path
+        (subst (IsScanAnswer nfa x LeftmostFirst false) same k.answers)
+
+    pub window-answer : (pattern : Option ℕ) (slots : List (Option ℕ))
+        → IsAnswer nfa LeftmostFirst false (within x s half.offset) pattern slots
+        → IsAnswer nfa LeftmostFirst false x pattern slots
+    window-answer pattern slots a = record {
+      restarts = 0;
+      path = a.path;
+      answers = same-path a.restarts a.path a.answers;
+      pattern_is = a.pattern_is;
+      slots_are = a.slots_are;
+    }
+
+    pub window-match : (found : Option Found)
+        → IsFindAnswer nfa LeftmostFirst false (within x s half.offset) found
+        → IsFindAnswer nfa LeftmostFirst false x found
+    window-match found a = record {
+      restarts = 0;
+      path = a.path;
+      answers = same-path a.restarts a.path a.answers;
+      found_is = a.found_is;
+    }
+
+-- no half match, so no match
+pub none-found : (nfa : Automaton) (kind : MatchKind) (earliest : Bool) (x : Search) → is_utf8_empty nfa ≡ false
+    → IsHalfAnswer nfa kind earliest x None → IsFindAnswer nfa kind earliest x None
+none-found nfa kind earliest x whole h =
+    let none = of h.path (scan-of nfa kind earliest x whole h.restarts h.path h.answers) h.found_is in
+    record {
+      restarts = h.restarts;
+      path = None;
+      answers = subst (IsSearchAnswer nfa kind earliest x h.restarts) none h.answers;
+      found_is = refl;
+    }
+  where
+    half : (v : Pair) (o : Option ℕ) → is_some o ≡ true
+        → None ≡ option_map (λ k. (let f : HalfFound = record { pattern = k; offset = v.1 } in f)) o → ⊥
+    half v None some e = cc
+    half v (Some k) some e = cc
+
+    of : (o : Option (List Pair)) → IsScanAnswer nfa x kind earliest o → None ≡ option_and_then (path_half nfa) o
+        → o ≡ None
+    of None answers e = refl
+    of (Some p) answers e =
+        let to = scan_answer-leads nfa x kind earliest p answers in
+        let last = EndsWith-last None to.end p to.path.ends in
+        absurd (half to.end (pattern_of (node_at nfa to.end.0)) to.matches (rw last at e))
+
+-- the match of a window is that of the search
+pub window-found : WindowHasTheMatch → (nfa : Automaton) (x y : Search) (w : Window) (kind : MatchKind) (earliest : Bool)
+    → kind ≡ LeftmostFirst → earliest ≡ false → IsUnbound nfa x → IsWindow nfa x w
+    → IsHalfAnswer nfa kind earliest x (Some (half_in w)) → y ≡ within x (start_in w) (half_in w).offset
+    → (found : Option Found) → IsFindAnswer nfa kind earliest y found → IsFindAnswer nfa kind earliest x found
+window-found law nfa x y w kind earliest first last free window half is found answers =
+    let to : (k : MatchKind) (e : Bool) → kind ≡ k → earliest ≡ e → IsFindAnswer nfa k e x found
+    → IsFindAnswer nfa kind earliest x found =
+    λ k e f l. subst (λ (z : MatchKind). IsFindAnswer nfa z e x found → IsFindAnswer nfa kind earliest x found) f
+    (subst (λ (b : Bool). IsFindAnswer nfa kind b x found → IsFindAnswer nfa kind earliest x found) l (λ a. a)) in
+    to LeftmostFirst false first last
+    (law nfa x (start_in w) (half_in w) found free window.low window.starts
+    (subst (λ (k : MatchKind). IsHalfAnswer nfa k false x (Some (half_in w))) first
+    (subst (λ (e : Bool). IsHalfAnswer nfa kind e x (Some (half_in w))) last half))
+    (subst (λ (k : MatchKind). IsFindAnswer nfa k false (within x (start_in w) (half_in w).offset) found) first
+    (subst (λ (e : Bool). IsFindAnswer nfa kind e (within x (start_in w) (half_in w).offset) found) last
+    (subst (λ (z : Search). IsFindAnswer nfa kind earliest z found) is answers))))

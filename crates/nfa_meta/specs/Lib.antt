@@ -1,0 +1,4 @@
+pub mod Windowed
+pub mod WindowLaws
+pub use Rattle.nfa_choice.specs.ChoiceState
+pub use Rattle.nfa_determinize.specs.Idles

@@ -1,0 +1,16 @@
+//! One engine for one NFA ([`Regex`]): each search runs the cheapest engine that can answer it. A lazy DFA finds where the
+//! match ends and a window that holds it, and an engine of `nfa_choice` finds the match in the window. Searches never
+//! fail.
+//!
+//! ```
+//! let mut regex = Regex::new(alloc, nfa)?;
+//! if let Some(found) = regex.find(Input::new(text)) {
+//!     println!(rt; "{}..{}", found.start(), found.end())?;
+//! }
+//! ```
+#![tactic(auto)]
+
+pub mod laws;
+pub mod regex;
+
+pub use regex::Regex;
