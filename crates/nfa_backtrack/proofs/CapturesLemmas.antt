@@ -1,5 +1,5 @@
 -- A backtracker as the engine of an iteration over captures: when its iterator may search, and what it gives.
-use Rattle.std.proofs.Common.{◌≡◌, ◌≤◌, false, Option, Result, Ok, Err, ap, length}
+use Rattle.std.proofs.Common.{◌≡◌, false, Option, Result, Ok, Err, ap, length}
 use Rattle.std.proofs.Common.{◌↔◌, ◌⊎◌, inl, inr}
 use Rattle.std.specs.Prelude.{IfErr, IsErrOf, OnErr, OnOk}
 use Rattle.regex_search_core.specs.Groups.{slot_count}
@@ -18,7 +18,8 @@ use Rattle.nfa_search_base.specs.declared.error.SearchError.{SearchError}
 use Rattle.nfa_search_base.specs.declared.error.SearchError.TheVariants.{HaystackTooLong, Memory}
 use Rattle.nfa_search_base.specs.declared.iter.steps.Steps.{Steps}
 use Rattle.nfa_search_base.proofs.CapturesLemmas.{stored_captures-tells, row-lies}
-use Rattle.nfa_search_base.proofs.CapturesRunLemmas.{CapturesSteps, RowsTold, captures-given, captures-memory, rows}
+use Rattle.nfa_search_base.proofs.CapturesRunLemmas.{CapturesSteps, RowsOf, captures-given, captures-memory}
+use Rattle.nfa_search_base.proofs.CapturesRunLemmas.{results_of}
 use Rattle.nfa_search_base.proofs.DrainedLemmas.{error-captures}
 use Rattle.nfa_search_base.proofs.EngineLemmas.{SearchesAs, SearchesOf, fills_by, searches-serve, step-may}
 use Rattle.nfa_search_base.proofs.ItemLemmas.{ItemsOf, copies_of}
@@ -32,7 +33,7 @@ use Rattle.nfa_backtrack.specs.CapturesMatches.{CatchesRefused, MayCatchByBacktr
 use Rattle.nfa_backtrack.specs.CapturesMatches.{backtrack_captures, backtrack_captures_next}
 use Rattle.nfa_backtrack.specs.Finding.{AnswersByLength, Counts, DoesWork, IsTryCapturesAnswer}
 use Rattle.nfa_backtrack.specs.declared.captures_iter.TryCapturesMatches.{TryCapturesMatches}
-use Rattle.nfa_backtrack.proofs.FindLemmas.{back_by, still-fits}
+use Rattle.nfa_backtrack.proofs.FindLemmas.{back_engine, memory-alone, refused-alone}
 
 -- what captures with all slots hold after a search is what it answers
 pub stored_captures-answer : (e : Backtracker) (t : Search) (c : Captured) (r : Result (Unit {0}) SearchError)
@@ -69,20 +70,20 @@ catch-lies e t (Err error) h = tt
 -- ---- the engine
 
 abbrev pub back_fills : SearchesOf Backtracker BacktrackCache (WithCache (WithCaptures Backtracker) BacktrackCache) Row
-back_fills = fills_by (back_by IsTryCapturesAnswer)
+back_fills = fills_by (back_engine IsTryCapturesAnswer)
 
 -- its items
 abbrev pub back_copies : ItemsOf (WithCache (WithCaptures Backtracker) BacktrackCache) Row Captured
 back_copies = copies_of (λ q. q.backend.captures)
 
 -- what it tells: the rows of the NFA, or refusals
-abbrev pub back_rows : (e : Backtracker) (x : Search) → RowsTold back_fills (λ q. q.backend.captures) e x
+abbrev pub back_rows : (e : Backtracker) (x : Search) → RowsOf back_fills (λ q. q.backend.captures) e x
 back_rows e x = record {
   nfa = e.nfa;
   kind = LeftmostFirst;
   earliest = false;
   tells = IsTryCapturesAnswer e;
-  told = λ t a same h. h;
+  given = λ t a same h. h;
   row = λ t o h. h.1;
   groups = λ s t is may. rw is at may.holds;
 }
@@ -112,14 +113,6 @@ pub step-goes : (s : TryCapturesMatches) (r : Option (Result Captured SearchErro
 step-goes s r t st = step-may back_fills back_copies (steps_with_state (backtrack_captures s)) r t st
     (record { fits = tt; holds = s.holds })
 
--- if the span is not too long, the only error of a search from one of its positions on is `Memory`
-memory-alone : (e : Backtracker) (x : Search) → ¬ (IsTooLong e x) → (t : Search) (error : SearchError)
-    → x.start ≤ t.start → t.end ≡ x.end → IsTryCapturesAnswer e t (Err error) → error ≡ Memory
-memory-alone e x fits t error from to h = elim h [
-  | inl refused ↦ absurd (still-fits e x t to from fits refused.0)
-  | inr memory ↦ memory.1
-]
-
 -- An iterator of e that begins at x.
 module _ (e : Backtracker) (x : Search) (s : TryCapturesMatches)
     (engine : (backtrack_captures s).steps.backend.finder ≡ e)
@@ -137,7 +130,7 @@ module _ (e : Backtracker) (x : Search) (s : TryCapturesMatches)
   pub catches-refused : CatchesRefused e x s
   catches-refused = λ p seen from.
       record {
-        long = λ long whole. only-item back_copies (rows (back_rows e x)) x (HaystackTooLong (span_len x))
+        long = λ long whole. only-item back_copies (results_of (back_rows e x)) x (HaystackTooLong (span_len x))
             (only-refused long) p.items ((catches-given.runs p seen from).1 whole).come;
         memory = λ fits.
             captures-memory (back_rows e x) (steps_in captures_shell) s begins (memory-alone e x fits) p seen from;
@@ -146,10 +139,8 @@ module _ (e : Backtracker) (x : Search) (s : TryCapturesMatches)
       only-refused : IsTooLong e x → (a : Answer Row) → IsTryCapturesAnswer e x a
           → a ≡ Err (HaystackTooLong (span_len x))
       only-refused long (Ok o) h = absurd (h.0 long)
-      only-refused long (Err q) h = elim h [
-        | inl refused ↦ ap (λ (r : SearchError). let b : Answer Row = Err r in b) refused.1
-        | inr memory ↦ absurd (memory.0 long)
-      ]
+      only-refused long (Err q) h =
+          ap (λ (r : SearchError). let b : Answer Row = Err r in b) (refused-alone e x q long h)
 
   -- they change the cache only by their searches
   pub catches-searches : CatchesBySearches e x s

@@ -1,6 +1,6 @@
 -- A backtracker as the engine of an iteration over matches: when its iterator may search, and what it gives and keeps.
 use Rattle.std.proofs.Common.{◌≡◌, ◌∙◌, ℕ, ◌+◌, ◌-◌, ◌*◌, ◌≤◌, refl, false, Option, None, Some, Result, Ok, Err, arith, length}
-use Rattle.std.proofs.Common.{List, ◌∷◌, MatchBool, ap}
+use Rattle.std.proofs.Common.{List, ◌∷◌, MatchBool, ap, inl, inr}
 use Rattle.std.specs.Prelude.{IfOk, IfSome, OnOk, OnErr}
 use Rattle.std.proofs.Math.Nat.{mul-le-mul_left}
 use Rattle.regex_search_core.specs.Found.{Found, found_of}
@@ -19,6 +19,7 @@ use Rattle.nfa_search_base.specs.Stored.{steps_iter_state, can_step, takes_steps
 use Rattle.nfa_search_base.specs.IterStates.{Advances, Answer, AnswerIsInside, IterState, after, fresh, answer_span}
 use Rattle.nfa_search_base.specs.IterStates.{repeats, shifted, span_of}
 use Rattle.nfa_search_base.specs.declared.error.SearchError.{SearchError}
+use Rattle.nfa_search_base.specs.declared.error.SearchError.TheVariants.{HaystackTooLong, Memory}
 use Rattle.nfa_search_base.specs.declared.iter.steps.Steps.{Steps}
 use Rattle.nfa_search_base.proofs.EngineLemmas.{EngineOf, FinderOf, KeptBy, SearchesAs, SearchesOf, answers_as}
 use Rattle.nfa_search_base.proofs.EngineLemmas.{calls-kept, finds_by, searches-serve, step-may}
@@ -34,7 +35,7 @@ use Rattle.nfa_backtrack.specs.Backtrack.{refused_early}
 use Rattle.nfa_backtrack.specs.FindMatches.{AsksBacktracker, FindsBySearches}
 use Rattle.nfa_backtrack.specs.FindMatches.{MayFindByBacktracker, backtrack_matches, backtrack_matches_next}
 use Rattle.nfa_backtrack.specs.FindMatches.{backtracker_knowing, fits_always}
-use Rattle.nfa_backtrack.specs.Finding.{Counts, DoesWork, IsTryFindAnswer, IsSureAt, SearchesOnce}
+use Rattle.nfa_backtrack.specs.Finding.{Counts, DoesWork, IsRefusal, IsTryFindAnswer, IsSureAt, SearchesOnce}
 use Rattle.nfa_backtrack.specs.Finding.{backtracker_scans}
 use Rattle.nfa_backtrack.specs.declared.find_iter.Finder.{Finder}
 use Rattle.nfa_backtrack.specs.declared.find_iter.TryFindMatches.{TryFindMatches}
@@ -47,6 +48,18 @@ still-fits e x y end on fits long =
     let more : length e.nfa.states * (span_len y + 1) ≤ length e.nfa.states * (span_len x + 1) =
     mul-le-mul_left (length e.nfa.states) shorter in
     fits (omega (arith, long, more))
+
+-- a search that is too long only gives that refusal
+pub refused-alone : (e : Backtracker) (x : Search) (error : SearchError) → IsTooLong e x → IsRefusal e x error
+    → error ≡ HaystackTooLong (span_len x)
+refused-alone e x error long (inl refused) = refused.1
+refused-alone e x error long (inr memory) = absurd (memory.0 long)
+
+-- if the span is not too long, the only error of a search from one of its positions on is `Memory`
+pub memory-alone : (e : Backtracker) (x : Search) → ¬ (IsTooLong e x) → (t : Search) (error : SearchError)
+    → x.start ≤ t.start → t.end ≡ x.end → IsRefusal e t error → error ≡ Memory
+memory-alone e x fits t error from to (inl refused) = absurd (still-fits e x t to from fits refused.0)
+memory-alone e x fits t error from to (inr memory) = memory.1
 
 -- a match that is sure to be found is the answer
 pub sure-finds : (e : Backtracker) (t : Search) (m : Found) → IsSureAt e t m → IsTryFindAnswer e t (Ok (Some m))
@@ -99,8 +112,9 @@ find-lies e t (Err error) h = (tt, λ p is. let never : None ≡ Some p = is in 
 -- ---- the engine
 
 -- the backtracker with its answers
-abbrev pub back_by : {X : Type 0} → (Backtracker → Search → Answer X → Type 0) → EngineOf Backtracker BacktrackCache X
-back_by tells = record {
+abbrev pub back_engine : {X : Type 0} → (Backtracker → Search → Answer X → Type 0)
+    → EngineOf Backtracker BacktrackCache X
+back_engine tells = record {
   nfa = λ e. e.nfa;
   Fits = fits_always;
   Tells = tells;
@@ -111,7 +125,7 @@ back_by tells = record {
 
 abbrev pub back_finder : FinderOf Backtracker Finder BacktrackCache
 back_finder = record {
-  by = back_by IsTryFindAnswer;
+  engine = back_engine IsTryFindAnswer;
   shown = backtracker_knowing;
   Sure = IsSureAt;
   sure = sure-finds;

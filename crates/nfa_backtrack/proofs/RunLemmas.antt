@@ -1,8 +1,7 @@
 -- The calls of an iterator over a backtracker's matches give the items of its search.
-use Rattle.std.proofs.Common.{◌≡◌, ◌≤◌, arith, false, Option, None, Some, Result, Ok, Err}
+use Rattle.std.proofs.Common.{◌≡◌, arith, false, None, Some, Result, Ok, Err}
 use Rattle.std.proofs.Common.{refl, ap}
 use Rattle.std.proofs.Common.{List, [], ◌∷◌, ◌++◌, map, MatchBool, inl, inr}
-use Rattle.std.specs.Iterator.{Yields}
 use Rattle.regex_search_core.specs.Found.{Found, found_of}
 use Rattle.regex_search_core.specs.Search.{Search}
 use Rattle.regex_search_core.specs.declared.search.Match.{Match}
@@ -13,10 +12,10 @@ use Rattle.nfa_search_base.specs.Lists.{IsInside}
 use Rattle.nfa_search_base.specs.StepsWith.{steps_with_iter_state}
 use Rattle.nfa_search_base.specs.IterStates.{IterState, Answer, fresh, after, repeats, shifted, span_of, answer_span}
 use Rattle.nfa_search_base.specs.declared.error.SearchError.{SearchError}
-use Rattle.nfa_search_base.specs.declared.error.SearchError.TheVariants.{HaystackTooLong, Memory}
+use Rattle.nfa_search_base.specs.declared.error.SearchError.TheVariants.{HaystackTooLong}
 use Rattle.nfa_search_base.proofs.ItemLemmas.{Last, Next}
 use Rattle.nfa_search_base.proofs.ListLemmas.{match-lies, matches-disjoint, step-lies}
-use Rattle.nfa_search_base.proofs.OkItemLemmas.{GoesOnIn, OkedAs, ToldOf, error-memory, errors-memory, last-clean}
+use Rattle.nfa_search_base.proofs.OkItemLemmas.{GoesOnIn, OkedAs, ResultsOf, error-memory, errors-memory, last-clean}
 use Rattle.nfa_search_base.proofs.OkItemLemmas.{next-clean, no-items, oked, oked-all, oked-first, oked-next, oked-run}
 use Rattle.nfa_search_base.proofs.OkItemLemmas.{only-item, only-step, values-hold}
 use Rattle.nfa_search_base.proofs.RunLemmas.{Given, given, items-given}
@@ -29,7 +28,8 @@ use Rattle.nfa_backtrack.specs.Runs.{RunsMatch, RunsInside, RunsDisjoint, RunsRe
 use Rattle.nfa_backtrack.specs.Runs.{GivesFirstMatches, GivesAllMatches, GivesNextMatch, AreFirstItems, AreAllItems}
 use Rattle.nfa_backtrack.specs.Runs.{GivesByLength, EndsByLength}
 use Rattle.nfa_backtrack.specs.declared.find_iter.TryFindMatches.{TryFindMatches}
-use Rattle.nfa_backtrack.proofs.FindLemmas.{back_answers, back_items, find-lies, find_shell, finds-begin, still-fits}
+use Rattle.nfa_backtrack.proofs.FindLemmas.{back_answers, back_items, find-lies, find_shell, finds-begin, memory-alone}
+use Rattle.nfa_backtrack.proofs.FindLemmas.{refused-alone, still-fits}
 
 module _ (e : Backtracker) where
   abbrev tells : Search → Answer Found → Type 0
@@ -42,8 +42,8 @@ module _ (e : Backtracker) where
   Clean = AnswersMatch e.nfa LeftmostFirst false
 
   -- without an error the answer of a search is its match
-  abbrev told : ToldOf span_of
-  told = record {
+  abbrev results : ResultsOf span_of
+  results = record {
     tells = tells;
     clean = Clean;
     ok = λ t o h. h.1;
@@ -51,7 +51,7 @@ module _ (e : Backtracker) where
   }
 
   -- a match of the span is inside it
-  step-inside : (x : Search) (w : IterState) (m : Match) → GoesOnIn back_items told x w
+  step-inside : (x : Search) (w : IterState) (m : Match) → GoesOnIn back_items results x w
       → IsStep span_of Clean w (Ok (Some (found_of m))) → IsInside x (found_of m)
   step-inside x w m in_span step =
       let k = step-lies span_of Clean (match-lies e.nfa LeftmostFirst false) w (found_of m) step in
@@ -60,28 +60,18 @@ module _ (e : Backtracker) where
   -- a search that is too long only gives its refusal
   only-refused : (x : Search) → IsTooLong e x → (a : Answer Found) → tells x a → a ≡ Err (HaystackTooLong (span_len x))
   only-refused x long (Ok found) h = absurd (h.0 long)
-  only-refused x long (Err error) h = elim h [
-    | inl refused ↦ ap (λ (r : SearchError). let b : Answer Found = Err r in b) refused.1
-    | inr memory ↦ absurd (memory.0 long)
-  ]
+  only-refused x long (Err error) h =
+      ap (λ (r : SearchError). let b : Answer Found = Err r in b) (refused-alone e x error long h)
 
   -- so its first step does
   long-step : (x : Search) (a : Answer Found) → IsTooLong e x → Step (fresh x) a
       → a ≡ Err (HaystackTooLong (span_len x))
-  long-step x a long = only-step back_items told x (HaystackTooLong (span_len x)) (only-refused x long) a
+  long-step x a long = only-step back_items results x (HaystackTooLong (span_len x)) (only-refused x long) a
 
   -- and it is the only item
   long-items : (x : Search) (xs : List (Result Match SearchError)) → IsTooLong e x → Last back_items tells (fresh x) xs
       → xs ≡ Err (HaystackTooLong (span_len x)) ∷ []
-  long-items x xs long = only-item back_items told x (HaystackTooLong (span_len x)) (only-refused x long) xs
-
-  -- the error of any other search is `Memory`
-  memory-alone : (x : Search) → ¬ (IsTooLong e x) → (t : Search) (r : SearchError) → x.start ≤ t.start → t.end ≡ x.end
-      → tells t (Err r) → r ≡ Memory
-  memory-alone x fits t r from to h = elim h [
-    | inl long ↦ absurd (still-fits e x t to from fits long.0)
-    | inr memory ↦ memory.1
-  ]
+  long-items x xs long = only-item back_items results x (HaystackTooLong (span_len x)) (only-refused x long) xs
 
   -- an error of a step is a refusal
   error-step : (w : IterState) (r : SearchError) → Step w (Err r) → IsRefusal e w.at r
@@ -110,10 +100,11 @@ module _ (e : Backtracker) where
 
   -- the last of some items of a search that is not too long
   last-by-length : (x : Search) (xs : List (Result Match SearchError)) (i : Result Match SearchError) (w : IterState)
-      → ¬ (IsTooLong e x) → GoesOnIn back_items told x w → Next back_items tells w (xs ++ i ∷ []) → AnswersByLength e x i
+      → ¬ (IsTooLong e x) → GoesOnIn back_items results x w → Next back_items tells w (xs ++ i ∷ [])
+      → AnswersByLength e x i
   last-by-length x [] (Ok m) w fits in_span h = fits
   last-by-length x [] (Err r) w fits in_span h =
-      inr (fits, error-memory back_items told x (memory-alone x fits) w r in_span h.0)
+      inr (fits, error-memory back_items results x (memory-alone e x fits) w r in_span h.0)
   last-by-length x (Ok m ∷ xs) i w fits in_span h =
       let k = step-lies span_of tells (find-lies e) w (found_of m) h.0 in
       last-by-length x xs i (after w (Some (span_of (found_of m)))) fits
@@ -161,8 +152,8 @@ module _ (e : Backtracker) where
 
     as_matches : OkedAs First Whole FirstMatches WholeMatches
     as_matches = record {
-      first = λ ms h. record { come = next-clean back_items told (fresh x) ms h.come };
-      whole = λ ms h. record { come = last-clean back_items told (fresh x) ms h.come };
+      first = λ ms h. record { come = next-clean back_items results (fresh x) ms h.come };
+      whole = λ ms h. record { come = last-clean back_items results (fresh x) ms h.come };
     }
 
     pub runs-match : RunsMatch e x s
@@ -170,7 +161,7 @@ module _ (e : Backtracker) where
 
     pub runs-inside : RunsInside x s
     runs-inside = λ p seen from.
-        values-hold back_items told x (λ m. IsInside x (found_of m)) (step-inside x) p.items
+        values-hold back_items results x (λ m. IsInside x (found_of m)) (step-inside x) p.items
         (finds-given.run p seen from).0.come
 
     pub runs-disjoint : RunsDisjoint x s
@@ -182,7 +173,7 @@ module _ (e : Backtracker) where
         let k = finds-given.run p seen from in
         record {
           long = λ long whole. long-items x p.items long (k.1 whole).come;
-          memory = λ fits. errors-memory back_items told x (memory-alone x fits) p.items k.0.come;
+          memory = λ fits. errors-memory back_items results x (memory-alone e x fits) p.items k.0.come;
         }
 
     pub gives-first-matches : GivesFirstMatches e x s

@@ -13,7 +13,7 @@ use Rattle.nfa_search_base.specs.IterStates.{AnswerIsInside, fresh}
 use Rattle.nfa_search_base.specs.declared.error.SearchError.{SearchError}
 use Rattle.nfa_search_base.specs.declared.iter.steps.Steps.{Steps}
 use Rattle.nfa_search_base.proofs.CapturesLemmas.{row-lies}
-use Rattle.nfa_search_base.proofs.CapturesRunLemmas.{RowsTold, captures-given, captures-memory}
+use Rattle.nfa_search_base.proofs.CapturesRunLemmas.{RowsOf, captures-given, captures-memory}
 use Rattle.nfa_search_base.proofs.EngineLemmas.{KeptBy, SearchesAs, SearchesOf, calls-kept, searches-serve, step-may}
 use Rattle.nfa_search_base.proofs.ItemLemmas.{ItemsOf, copies_of}
 use Rattle.nfa_search_base.proofs.LeavingLemmas.{shell-leaves}
@@ -49,13 +49,13 @@ choice_copies = copies_of (λ q. q.backend.captures)
 
 -- what it tells of searches like x: the rows of the NFA, with the same `earliest`
 abbrev pub choice_rows : (c : ChoiceState) (x : Search)
-    → RowsTold choice_fills (λ q. q.backend.captures) (pike_of c) x
+    → RowsOf choice_fills (λ q. q.backend.captures) (pike_of c) x
 choice_rows c x = record {
   nfa = c.nfa;
   kind = kind_in c;
   earliest = x.earliest;
   tells = AnswersRow c.nfa (kind_in c) x.earliest;
-  told = λ t a same h. subst (λ (b : Bool). AnswersRow c.nfa (kind_in c) b t a) same.earliest h;
+  given = λ t a same h. subst (λ (b : Bool). AnswersRow c.nfa (kind_in c) b t a) same.earliest h;
   row = λ t o h. h;
   groups = λ s t is may. subst (λ (vm : Pike). HasGroups vm.nfa s.backend.captures) is may;
 }
@@ -117,7 +117,4 @@ captures_kept = record {
 
 -- so the calls keep the choice, and what its answers depend on
 pub catches-choice : (s : ChoiceCaptures) → ChoiceCatchesGiveKept s
-catches-choice s = λ xs t r u ran st.
-    let kept = calls-kept captures_kept captures_shell s in
-    let k = kept xs t r u ran st in
-    record { choice = k.cache; keeps = k.keeps }
+catches-choice = calls-kept captures_kept captures_shell

@@ -6,6 +6,7 @@ use Rattle.regex_search_core.specs.declared.search.Match.{Match}
 use Rattle.nfa_search_base.specs.WithCache.{WithCache}
 use Rattle.nfa_search_base.specs.StepsWith.{TakesStepWith, steps_with_state, steps_with_iter_state}
 use Rattle.nfa_search_base.specs.Lists.{AnswersMatch}
+use Rattle.nfa_search_base.specs.Serving.{may_ask}
 use Rattle.nfa_search_base.specs.Steps.{GivesItem}
 use Rattle.nfa_search_base.specs.Stored.{steps_iter_state, can_step_infallibly}
 use Rattle.nfa_search_base.specs.IterStates.{fresh, span_of, IsInfalliblyInside}
@@ -22,7 +23,7 @@ use Rattle.nfa_pikevm.specs.Finding.{PikeAnswersMatch}
 use Rattle.nfa_engines.proofs.LoopLemmas.{sizes-none, sizes-two}
 use Rattle.nfa_choice.specs.ChoiceState.{ChoiceState, KeepsEngines, kind_in, pike_of}
 use Rattle.nfa_choice.specs.Matches.{AsksByRule, ChoiceFindsBySearches, ChoiceGivesKept, FindsByRule}
-use Rattle.nfa_choice.specs.Matches.{choice_matches, choice_matches_next, may_ask}
+use Rattle.nfa_choice.specs.Matches.{choice_matches, choice_matches_next}
 use Rattle.nfa_choice.specs.declared.choose.find_iter.ByRule.{ByRule}
 use Rattle.nfa_choice.specs.declared.choose.find_iter.ChoiceMatches.{ChoiceMatches}
 
@@ -54,9 +55,9 @@ choice_finds = record {
   May = may_ask;
   Tells = PikeAnswersMatch;
   Work = λ vm x a. FindsByRule x;
-  tells = λ s t a s' asked. asked.finds;
-  works = λ s t a s' asked. record { runs = asked.runs; holds = asked.holds; keeps = asked.keeps };
-  stays = λ s t a s' asked. pike-kept s.cache s'.cache asked.keeps;
+  tells = λ s t a s' asked. asked.tells;
+  works = λ s t a s' asked. asked.work;
+  stays = λ s t a s' asked. pike-kept s.cache s'.cache asked.work.keeps;
   like = λ s x t same may. tt;
   goes = λ s t a s' may asked. tt;
 }
@@ -85,15 +86,12 @@ find_kept = record {
   Keeps = KeepsEngines;
   self = keeps-self;
   then = keeps-then;
-  asked = λ s x a t asked. asked.keeps;
+  asked = λ s x a t asked. asked.work.keeps;
 }
 
 -- all calls keep the choice
 pub gives-choice : (s : ChoiceMatches) → ChoiceGivesKept s
-gives-choice s = λ xs t r u ran st.
-    let kept = calls-kept find_kept find_shell s in
-    let k = kept xs t r u ran st in
-    record { choice = k.cache; keeps = k.keeps }
+gives-choice = calls-kept find_kept find_shell
 
 -- An iterator that begins at x.
 module _ (x : Search) (s : ChoiceMatches) (iter_state : steps_with_iter_state (choice_matches s) ≡ fresh x)

@@ -6,14 +6,13 @@ use Rattle.regex_search_core.specs.Found.{Found}
 use Rattle.regex_search_core.specs.Search.{Search}
 use Rattle.regex_search_core.specs.declared.search.MatchKind.{MatchKind}
 use Rattle.regex_search_core.specs.declared.search.MatchKind.TheVariants.{All, LeftmostFirst}
-use Rattle.thompson_nfa.specs.Automaton.{Automaton}
 use Rattle.nfa_paths.specs.Paths.{span_len}
 use Rattle.nfa_search_base.specs.WithCaptures.{Row, row_span}
 use Rattle.nfa_search_base.specs.Leaving.{DoesSearch}
-use Rattle.nfa_search_base.specs.IterStates.{Answer, answer_span, span_of}
+use Rattle.nfa_search_base.specs.IterStates.{span_of}
 use Rattle.nfa_search_base.proofs.StepLemmas.{chosen}
 use Rattle.nfa_engines.specs.WorkLaws.{AddsAtMost, Totals, backtracker_totals, list_scan_limit, pike_totals}
-use Rattle.nfa_engines.proofs.EngineWorkLemmas.{Hit, Worked, calls-add, list-adds, match-hit, row-hit, worked}
+use Rattle.nfa_engines.proofs.EngineWorkLemmas.{WorkOf, Worked, calls-add, list-adds, match-hit, row-hit, worked}
 use Rattle.nfa_engines.proofs.EngineWorkLemmas.{worked-within}
 use Rattle.nfa_pikevm.specs.Engines.{Pike, kind_of}
 use Rattle.nfa_choice.specs.CapturesMatches.{CatchesByRule, ChoiceCatchesOn, ChoiceCatchesToEnd, ChoiceTellsRow}
@@ -102,45 +101,41 @@ module _ (totals : ChoiceState → Totals)
   works y s t is rule keeps =
       (from-first c s t y (totals s) (totals t) is (runs y s t rule), pike-kept s t keeps ∙ is)
 
-  abbrev Finds : ChoiceState → Search → Answer Found → ChoiceState → Type 0
-  Finds = DoesSearch (ChoiceTells c) (λ y a. FindsByRule y)
+  abbrev finds_work : WorkOf span_of (DoesSearch (ChoiceTells c) (λ y a. FindsByRule y))
+  finds_work = record {
+    nfa = c.nfa;
+    kind = kind_in c;
+    early = λ y. y.earliest;
+    totals = totals;
+    Good = IsOf;
+    hits = λ s y a t asked. match-hit c.nfa (kind_in c) y.earliest y a asked.tells;
+    works = λ s y a t is asked. works y s t is asked.work.runs asked.work.keeps;
+  }
 
-  finds-hit : (s : ChoiceState) (y : Search) (a : Answer Found) (t : ChoiceState) → Finds s y a t
-      → Hit c.nfa (kind_in c) y.earliest y (answer_span span_of a)
-  finds-hit s y a t asked = match-hit c.nfa (kind_in c) y.earliest y a asked.tells
-
-  finds-work : (s : ChoiceState) (y : Search) (a : Answer Found) (t : ChoiceState) → IsOf s → Finds s y a t
-      → WorksOf s y t
-  finds-work s y a t is asked = works y s t is asked.work.runs asked.work.keeps
+  abbrev catches_work : WorkOf row_span (DoesSearch (ChoiceTellsRow c) (λ y a. CatchesByRule y))
+  catches_work = record {
+    nfa = c.nfa;
+    kind = kind_in c;
+    early = λ y. y.earliest;
+    totals = totals;
+    Good = IsOf;
+    hits = λ s y a t asked. row-hit c.nfa (kind_in c) y.earliest y a asked.tells;
+    works = λ s y a t is asked. works y s t is asked.work.runs asked.work.keeps;
+  }
 
   matches-add : (ms : List Found) → ChoiceFindsToEnd x ms c d
       → AddsAtMost (list_scan_limit c.nfa x (length ms)) c.nfa x (totals c) (totals d)
-  matches-add ms h = list-adds span_of Finds totals IsOf c.nfa (kind_in c) (λ y. y.earliest) x finds-hit finds-work
-      ms c d refl h.steps
+  matches-add ms h = list-adds finds_work x ms c d refl h
 
   finds-add : ChoiceFindsOn x c d → AddsAtMost (2 * span_len x + 3) c.nfa x (totals c) (totals d)
-  finds-add h = calls-add span_of Finds totals IsOf c.nfa (kind_in c) (λ y. y.earliest) x finds-hit finds-work
-      h.answers c d refl h.steps
-
-  abbrev Fills : ChoiceState → Search → Answer Row → ChoiceState → Type 0
-  Fills = DoesSearch (ChoiceTellsRow c) (λ y a. CatchesByRule y)
-
-  catches-hit : (s : ChoiceState) (y : Search) (a : Answer Row) (t : ChoiceState) → Fills s y a t
-      → Hit c.nfa (kind_in c) y.earliest y (answer_span row_span a)
-  catches-hit s y a t asked = row-hit c.nfa (kind_in c) y.earliest y a asked.tells
-
-  catches-work : (s : ChoiceState) (y : Search) (a : Answer Row) (t : ChoiceState) → IsOf s → Fills s y a t
-      → WorksOf s y t
-  catches-work s y a t is asked = works y s t is asked.work.runs asked.work.keeps
+  finds-add h = calls-add finds_work x c d refl h
 
   rows-add : (rows : List Row) → ChoiceCatchesToEnd x rows c d
       → AddsAtMost (list_scan_limit c.nfa x (length rows)) c.nfa x (totals c) (totals d)
-  rows-add rows h = list-adds row_span Fills totals IsOf c.nfa (kind_in c) (λ y. y.earliest) x catches-hit
-      catches-work rows c d refl h.steps
+  rows-add rows h = list-adds catches_work x rows c d refl h
 
   catches-add : ChoiceCatchesOn x c d → AddsAtMost (2 * span_len x + 3) c.nfa x (totals c) (totals d)
-  catches-add h = calls-add row_span Fills totals IsOf c.nfa (kind_in c) (λ y. y.earliest) x catches-hit
-      catches-work h.answers c d refl h.steps
+  catches-add h = calls-add catches_work x c d refl h
 
 -- So it is of both caches.
 module _ (x : Search) where

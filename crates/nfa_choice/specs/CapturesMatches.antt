@@ -1,5 +1,5 @@
 -- The iterator over the captures of a choice.
-use Rattle.std.specs.Prelude.{◌≡◌, Bool, List, Option, Result}
+use Rattle.std.specs.Prelude.{Bool, List, Option, Result}
 use Rattle.std.specs.Borrow.{MutBor}
 use Rattle.regex_search_core.specs.Search.{Search}
 use Rattle.regex_search_core.specs.Slots.{Captured}
@@ -8,7 +8,7 @@ use Rattle.nfa_search_base.specs.WithCaptures.{WithCaptures, GivesCaptures, Row,
 use Rattle.nfa_search_base.specs.CapturesLists.{HasGroups, AnswersRow}
 use Rattle.nfa_search_base.specs.Leaving.{DoesSearch, Leaves, LeavesAtEnd}
 use Rattle.nfa_search_base.specs.WithCache.{WithCache}
-use Rattle.nfa_search_base.specs.StepsWith.{StepsWith, TakesStepWith}
+use Rattle.nfa_search_base.specs.StepsWith.{GivesStepsWith, StepsWith, TakesStepWith}
 use Rattle.nfa_search_base.specs.Runs.{GivesKept}
 use Rattle.nfa_search_base.specs.Searchers.{iter_state_of}
 use Rattle.nfa_search_base.specs.IterStates.{Answer, IterState}
@@ -70,12 +70,8 @@ abbrev pub choice_catches_next : ChoiceCaptures → Option (Result Captured Sear
 choice_catches_next s r t = ChoiceCatchesNext s r t
 
 -- the calls keep the choice, and what its answers depend on
-pub record CatchesKeepChoice (s t : ChoiceCaptures) : Type 0 where
-  pub choice : t.choice.ghost_name ≡ s.choice.ghost_name
-  pub keeps : KeepsEngines s.choice.now t.choice.now
-
 abbrev pub ChoiceCatchesGiveKept : ChoiceCaptures → Type 0
-ChoiceCatchesGiveKept s = GivesKept choice_catches_next CatchesKeepChoice s
+ChoiceCatchesGiveKept s = GivesStepsWith choice_catches_next choice_catches KeepsEngines s
 
 -- the calls change the choice only by the searches of an iteration over x
 pub record ChoiceCatchesBySearches (x : Search) (s : ChoiceCaptures) : Type 0 where

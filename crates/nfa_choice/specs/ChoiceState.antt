@@ -8,7 +8,7 @@ use Rattle.nfa_paths.specs.Paths.{span_len, max_scans, total_degree, IsWork, IsW
 use Rattle.nfa_backtrack.specs.Backtrack.{Backtracker, BacktrackCache, AddsBacktrackWork, CountsAnswer, CountsRefusal, GrowsBlocks}
 use Rattle.nfa_backtrack.specs.Backtrack.{max_haystack_len_of}
 use Rattle.nfa_search_base.specs.Finds.{finds}
-use Rattle.nfa_pikevm.specs.Engines.{Pike, PikeCache, AddsPikeWork, Fits, SameCapacities, kind_of, reset_for}
+use Rattle.nfa_pikevm.specs.Engines.{Pike, PikeCache, AddsPikeWork, SameCapacities, kind_of}
 use Rattle.nfa_choice.specs.declared.choose.Engine.{Engine}
 use Rattle.nfa_choice.specs.declared.choose.Engine.TheVariants as engine
 
@@ -95,7 +95,3 @@ pub record KeepsEngines (old new : ChoiceState) : Type 0 where
   pub visited_capacity : new.visited_capacity ≡ old.visited_capacity
   pub match_kind : new.match_kind ≡ old.match_kind
   pub capacities : SameCapacities old.pike new.pike
-
--- the cache of the PikeVM for another NFA: it is reset only if it does not fit
-abbrev pub IsFitFor : PikeCache → Automaton → PikeCache → Type 0
-IsFitFor old nfa new = (Fits old nfa × (new ≡ old)) ⊎ (¬ (Fits old nfa) × (new ≡ reset_for old nfa))

@@ -1,5 +1,5 @@
 -- The iterator over the matches of a choice.
-use Rattle.std.specs.Prelude.{◌≡◌, ◌*◌, length, List, map, None, Ok, Option, option_map, ⊤, Bool}
+use Rattle.std.specs.Prelude.{◌*◌, length, List, map, None, Ok, Option, option_map, Bool}
 use Rattle.std.specs.Borrow.{MutBor}
 use Rattle.std.specs.Iterator.{Yields}
 use Rattle.regex_search_core.specs.Found.{Found, found_of}
@@ -8,7 +8,7 @@ use Rattle.regex_search_core.specs.declared.search.Match.{Match}
 use Rattle.nfa_backtrack.specs.Backtrack.{HoldsNoMore}
 use Rattle.nfa_search_base.specs.Leaving.{DoesSearch, Leaves, LeavesAtEnd}
 use Rattle.nfa_search_base.specs.WithCache.{WithCache}
-use Rattle.nfa_search_base.specs.StepsWith.{StepsWith, TakesStepWith}
+use Rattle.nfa_search_base.specs.StepsWith.{GivesStepsWith, StepsWith, TakesStepWith}
 use Rattle.nfa_search_base.specs.Lists.{AnswersMatch}
 use Rattle.nfa_search_base.specs.Runs.{GivesKept}
 use Rattle.nfa_search_base.specs.Steps.{GivesItem}
@@ -51,18 +51,9 @@ choice_matches_iter_state s = iter_state_of s.steps.searcher
 abbrev pub choice_finds_done : ChoiceMatches → Bool
 choice_finds_done s = s.steps.done
 
--- it may always search
-abbrev pub may_ask : WithCache ByRule ChoiceState → Search → Type 0
-may_ask s x = ⊤
-
--- One search by the engine that the rule names may answer this.
-pub record AsksByRule (s : WithCache ByRule ChoiceState) (x : Search) (a : Answer Found)
-    (t : WithCache ByRule ChoiceState)
-    : Type 0 where
-  pub finds : AnswersMatch s.cache.nfa (kind_in s.cache) x.earliest x a
-  pub runs : RunsByRule s.cache x x.earliest t.cache
-  pub holds : HoldsNoMore (2 * length s.cache.nfa.groups) s.cache.back t.cache.back
-  pub keeps : KeepsEngines s.cache t.cache
+-- one search by the engine that the rule names may answer this
+abbrev pub AsksByRule : WithCache ByRule ChoiceState → Search → Answer Found → WithCache ByRule ChoiceState → Type 0
+AsksByRule s x a t = DoesSearch (ChoiceTells s.cache) (λ y b. FindsByRule y) s.cache x a t.cache
 
 -- a call
 pub record ChoiceFindsNext (s : ChoiceMatches) (r : Option Match) (t : ChoiceMatches) : Type 0 where
@@ -73,12 +64,8 @@ abbrev pub choice_matches_next : ChoiceMatches → Option Match → ChoiceMatche
 choice_matches_next s r t = ChoiceFindsNext s r t
 
 -- the calls keep the choice, and what its answers depend on
-pub record KeepsChoice (s t : ChoiceMatches) : Type 0 where
-  pub choice : t.choice.ghost_name ≡ s.choice.ghost_name
-  pub keeps : KeepsEngines s.choice.now t.choice.now
-
 abbrev pub ChoiceGivesKept : ChoiceMatches → Type 0
-ChoiceGivesKept s = GivesKept choice_matches_next KeepsChoice s
+ChoiceGivesKept s = GivesStepsWith choice_matches_next choice_matches KeepsEngines s
 
 -- The calls change the choice only by the searches of an iteration over x. At `None` the iteration went to its end,
 -- past the matches so far.

@@ -20,7 +20,8 @@ ghost use Rattle.nfa_search_base.specs.Lists.{IsInside, IsSlotInside};
 ghost use Rattle.nfa_search_base.specs.Spans.{SpansInside};
 ghost use Rattle.nfa_backtrack.specs.Backtrack.{empty_cache, HoldsNoMore};
 ghost use Rattle.nfa_pikevm.specs.Engines.{cache_for};
-ghost use Rattle.nfa_choice.specs.ChoiceState.{finds_in, is_for_backtracker, kind_in, IsFitFor, KeepsEngines};
+ghost use Rattle.nfa_choice.specs.ChoiceState.{finds_in, is_for_backtracker, kind_in, KeepsEngines};
+ghost use Rattle.nfa_pikevm.specs.Engines.{IsFitFor};
 ghost use Rattle.nfa_choice.specs.ChoiceState.{RunsByRule};
 
 mod captures;

@@ -16,7 +16,7 @@ use Rattle.nfa_paths.proofs.ExistenceLemmas.{search_answer-exists}
 use Rattle.nfa_paths.proofs.InsideLemmas.{match-within}
 use Rattle.nfa_search_base.specs.WithCaptures.{Row, row_found, row_span}
 use Rattle.nfa_search_base.specs.CapturesLists.{AnswersRow}
-use Rattle.nfa_search_base.specs.Leaving.{StepsLead, answers_to_end}
+use Rattle.nfa_search_base.specs.Leaving.{Leaves, LeavesAtEnd, answers_to_end}
 use Rattle.nfa_search_base.specs.SameBut.{SameButStart}
 use Rattle.nfa_search_base.specs.Lists.{AnswersMatch}
 use Rattle.nfa_search_base.specs.IterStates.{Answer, LiesIn, fresh, answer_span, span_of}
@@ -25,7 +25,7 @@ use Rattle.nfa_search_base.proofs.IterStateLemmas.{IsOrdered}
 use Rattle.nfa_engines.specs.WorkLaws.{AddsAtMost, Totals, list_scan_limit}
 use Rattle.nfa_engines.proofs.IterationLemmas.{first-ends}
 use Rattle.nfa_engines.proofs.ReachLemmas.{Reaches, few-scans, match-known, match-reaches, one-scan, restarts_in}
-use Rattle.nfa_engines.proofs.WorkLemmas.{Adds, Costs, Led, adds-none, calls-within, few-found, found_count}
+use Rattle.nfa_engines.proofs.WorkLemmas.{Adds, Costs, CostsOf, Led, adds-none, calls-within, few-found, found_count}
 use Rattle.nfa_engines.proofs.WorkLemmas.{found_count-to_end, is_of-fresh, led, list-within, turns_in}
 
 module _ (nfa : Automaton) (kind : MatchKind) (earliest : Bool) where
@@ -157,39 +157,48 @@ module _ (nfa : Automaton) (kind : MatchKind) (earliest : Bool) where
     cost-of (inl w) = worked-cost w
     cost-of (inr is) = known-cost is
 
--- Each search `asks` what has `totals`, and does its work, or none; what it asks is `Good`, and stays so.
-module _ {S X : Type 0} (span : X → Span) (asks : S → Search → Answer X → S → Type 0) (totals : S → Totals)
-    (Good : S → Type 0) (nfa : Automaton) (kind : MatchKind) (early : Search → Bool) (x : Search)
-    (hits : (s : S) (y : Search) (a : Answer X) (t : S) → asks s y a t → Hit nfa kind (early y) y (answer_span span a))
-    (works : (s : S) (y : Search) (a : Answer X) (t : S) → Good s → asks s y a t
-    → (Worked nfa kind (early y) y (totals s) (totals t) ⊎ (totals t ≡ totals s)) × Good t) where
-  costs : (s : S) (y : Search) (a : Answer X) (t : S) → SameButStart x y → x.start ≤ y.start → Good s → asks s y a t
-      → (count : ℕ) × Costs (restarts_in nfa x) y (answer_span span a) count
-      × Adds (turns_in nfa x) (totals s) (totals t) count × Good t
-  costs s y a t like from good asked =
-      let k = works s y a t good asked in
-      let c = cost-of nfa kind (early y) x y like from (answer_span span a) (hits s y a t asked) (totals s)
-      (totals t) k.0 in
-      (c.0, c.1, c.2, k.1)
+-- Searches of an NFA that each do their work, or none. What they ask has `totals`, is `Good`, and stays so.
+pub record WorkOf {S X : Type 0} (span : X → Span) (asks : S → Search → Answer X → S → Type 0) : Type 1 where
+  pub nfa : Automaton
+  pub kind : MatchKind
+  pub early : Search → Bool
+  pub totals : S → Totals
+  pub Good : S → Type 0
+  pub hits : (s : S) (y : Search) (a : Answer X) (t : S) → asks s y a t
+      → Hit nfa kind (early y) y (answer_span span a)
+  pub works : (s : S) (y : Search) (a : Answer X) (t : S) → Good s → asks s y a t
+      → (Worked nfa kind (early y) y (totals s) (totals t) ⊎ (totals t ≡ totals s)) × Good t
+
+module _ {S X : Type 0} {span : X → Span} {asks : S → Search → Answer X → S → Type 0} (work : WorkOf span asks)
+    (x : Search) where
+  abbrev costs : CostsOf span asks (turns_in work.nfa x) (restarts_in work.nfa x) x
+  costs = record {
+    totals = work.totals;
+    Good = work.Good;
+    costs = λ s y a t like from good asked.
+        let k = work.works s y a t good asked in
+        let cost = cost-of work.nfa work.kind (work.early y) x y like from in
+        let c = cost (answer_span span a) (work.hits s y a t asked) (work.totals s) (work.totals t) k.0 in
+        (c.0, c.1, c.2, k.1);
+  }
 
   -- an iteration to its end, past these matches
-  pub list-adds : (ms : List X) (s t : S) → Good s → StepsLead span asks (fresh x) s (answers_to_end ms) t
-      → AddsAtMost (list_scan_limit nfa x (length ms)) nfa x (totals s) (totals t)
-  list-adds ms s t good steps =
-      let all = led span asks totals Good (turns_in nfa x) (restarts_in nfa x) x costs (fresh x) s (answers_to_end ms) t
-      (is_of-fresh x) good steps in
-      list-within nfa x (length ms) (totals s) (totals t)
-      (subst (λ (n : ℕ). Led (turns_in nfa x) (restarts_in nfa x) (fresh x) n (totals s) (totals t))
-      (found_count-to_end ms) all)
+  pub list-adds : (ms : List X) (s t : S) → work.Good s → LeavesAtEnd span asks x ms s t
+      → AddsAtMost (list_scan_limit work.nfa x (length ms)) work.nfa x (work.totals s) (work.totals t)
+  list-adds ms s t good left =
+      let all = led costs (fresh x) s (answers_to_end ms) t (is_of-fresh x) good left.steps in
+      list-within work.nfa x (length ms) (work.totals s) (work.totals t)
+      (subst (λ (n : ℕ). Led (turns_in work.nfa x) (restarts_in work.nfa x) (fresh x) n (work.totals s)
+      (work.totals t)) (found_count-to_end ms) all)
 
   -- and one that stops anywhere
-  pub calls-add : (answers : List (Answer X)) (s t : S) → Good s → StepsLead span asks (fresh x) s answers t
-      → AddsAtMost (2 * span_len x + 3) nfa x (totals s) (totals t)
-  calls-add answers s t good steps =
-      let all = led span asks totals Good (turns_in nfa x) (restarts_in nfa x) x costs (fresh x) s answers t
-      (is_of-fresh x) good steps in
-      let few = few-found span asks totals Good (turns_in nfa x) (restarts_in nfa x) x costs
-      (λ p y a q asked. hit-lies nfa kind (early y) y (answer_span span a) (hits p y a q asked)) (fresh x) s answers t
-      (is_of-fresh x) good steps in
+  pub calls-add : (s t : S) → work.Good s → Leaves span asks x s t
+      → AddsAtMost (2 * span_len x + 3) work.nfa x (work.totals s) (work.totals t)
+  calls-add s t good left =
+      let all = led costs (fresh x) s left.answers t (is_of-fresh x) good left.steps in
+      let few = few-found costs (λ p y a q asked. hit-lies work.nfa work.kind (work.early y) y (answer_span span a)
+      (work.hits p y a q asked)) in
+      let found = few (fresh x) s left.answers t (is_of-fresh x) good left.steps in
       let ends = first-ends x in
-      calls-within nfa x (found_count answers) (totals s) (totals t) all (omega (arith, few, ends))
+      calls-within work.nfa x (found_count left.answers) (work.totals s) (work.totals t) all
+      (omega (arith, found, ends))

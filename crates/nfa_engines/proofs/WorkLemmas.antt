@@ -147,35 +147,43 @@ pub record Led (weight : ℕ) (free : Bool) (w : IterState) (found : ℕ) (old n
   pub starts : count ≤ starts_left w.at + 1 + found
   pub once : free ≡ false → count ≤ 2 * found + searches_at w.last
 
--- A match is an X, which lies at `span`; a search `asks` what has `totals`, is `Good`, and stays so.
-module _ {S X : Type 0} (span : X → Span) (asks : S → Search → Answer X → S → Type 0) (totals : S → Totals)
-    (Good : S → Type 0) (weight : ℕ) (free : Bool) (x : Search)
-    (costs : (s : S) (y : Search) (a : Answer X) (t : S) → SameButStart x y → x.start ≤ y.start → Good s → asks s y a t
-    → (count : ℕ) × Costs free y (answer_span span a) count × Adds weight (totals s) (totals t) count × Good t) where
+-- What each search of an iteration over x costs. A match is an X, which lies at `span`; a search `asks` what has
+-- `totals`, is `Good`, and stays so.
+pub record CostsOf {S X : Type 0} (span : X → Span) (asks : S → Search → Answer X → S → Type 0) (weight : ℕ)
+    (free : Bool) (x : Search) : Type 1 where
+  pub totals : S → Totals
+  pub Good : S → Type 0
+  pub costs : (s : S) (y : Search) (a : Answer X) (t : S) → SameButStart x y → x.start ≤ y.start → Good s
+      → asks s y a t
+      → (count : ℕ) × Costs free y (answer_span span a) count × Adds weight (totals s) (totals t) count × Good t
+
+module _ {S X : Type 0} {span : X → Span} {asks : S → Search → Answer X → S → Type 0} {weight : ℕ} {free : Bool}
+    {x : Search} (each : CostsOf span asks weight free x) where
   -- what a step adds
   record Stepped (s : S) (w : IterState) (a : Answer X) (t : S) (v : IterState) : Type 0 where
     count : ℕ
-    adds : Adds weight (totals s) (totals t) count
+    adds : Adds weight (each.totals s) (each.totals t) count
     onward : Onward x w v (answer_span span a) count
     once : free ≡ false → count ≤ searches_at w.last
-    good : Good t
+    good : each.Good t
 
-  stepped : (s : S) (w : IterState) (a : Answer X) (t : S) (v : IterState) → IsOf x w → Good s
+  stepped : (s : S) (w : IterState) (a : Answer X) (t : S) (v : IterState) → IsOf x w → each.Good s
       → Advances span asks s w a t v
       → Stepped s w a t v
   stepped s w a t v h good step =
-      let one = costs s w.at step.answer step.between h.like h.from good step.first in
+      let one = each.costs s w.at step.answer step.between h.like h.from good step.first in
       elim (chosen (repeats w (answer_span span step.answer)) step.rest) [
         | inl p ↦
             let from : x.start ≤ (shifted w).at.start = let from = h.from in omega (arith, from) in
             let like = same_start-then x w.at (shifted w).at h.like (same_start-shifted w) in
-            let two = costs step.between (shifted w).at a t like from one.3 p.1.0 in
+            let two = each.costs step.between (shifted w).at a t like from one.3 p.1.0 in
             let same = repeated w.at w.last (answer_span span step.answer) p.0 in
             let reach : Reaches w.at one.0 (Some same.0) =
             subst (λ (o : Option Span). Reaches w.at one.0 o) same.1 one.1.reach in
             record {
               count = one.0 + two.0;
-              adds = adds-both weight (totals s) (totals step.between) (totals t) one.0 two.0 one.2 two.2;
+              adds = let both = adds-both weight (each.totals s) (each.totals step.between) (each.totals t) in
+                  both one.0 two.0 one.2 two.2;
               onward =
                   onward-twice x free w v same.0 (answer_span span a) one.0 two.0 h (h.behind same.0.end same.2) p.1.1
                   reach two.1;
@@ -191,18 +199,18 @@ module _ {S X : Type 0} (span : X → Span) (asks : S → Search → Answer X �
             subst (λ (b : Answer X). Costs free w.at (answer_span span b) one.0) (sym p.1.0) one.1 in
             record {
               count = one.0;
-              adds = subst (λ (u : S). Adds weight (totals s) (totals u) one.0) (sym p.1.1) one.2;
+              adds = subst (λ (u : S). Adds weight (each.totals s) (each.totals u) one.0) (sym p.1.1) one.2;
               onward = onward-once x free w v (answer_span span a) one.0 h p.1.2 cost;
               once = λ never. let a = cost.once never in let b = few-searches w.last in omega (arith, a, b);
-              good = subst (λ (u : S). Good u) (sym p.1.1) one.3;
+              good = subst (λ (u : S). each.Good u) (sym p.1.1) one.3;
             }
       ]
 
-  pub led : (w : IterState) (s : S) (answers : List (Answer X)) (t : S) → IsOf x w → Good s
-      → StepsLead span asks w s answers t → Led weight free w (found_count answers) (totals s) (totals t)
+  pub led : (w : IterState) (s : S) (answers : List (Answer X)) (t : S) → IsOf x w → each.Good s
+      → StepsLead span asks w s answers t → Led weight free w (found_count answers) (each.totals s) (each.totals t)
   led w s [] t h good steps = record {
     count = 0;
-    adds = rw steps (adds-none weight (totals s));
+    adds = rw steps (adds-none weight (each.totals s));
     starts = omega arith;
     once = λ never. omega arith;
   }
@@ -213,7 +221,8 @@ module _ {S X : Type 0} (span : X → Span) (asks : S → Search → Answer X �
       let more = led v u rest t one.onward.0 one.good steps.3 in
       record {
         count = one.count + more.count;
-        adds = adds-both weight (totals s) (totals u) (totals t) one.count more.count one.adds more.adds;
+        adds = let both = adds-both weight (each.totals s) (each.totals u) (each.totals t) in
+            both one.count more.count one.adds more.adds;
         starts = let a = one.onward.2 in let b = more.starts in omega (arith, a, b);
         once = λ never.
             let a = one.once never in
@@ -241,7 +250,7 @@ module _ {S X : Type 0} (span : X → Span) (asks : S → Search → Answer X �
   -- There are at most as many matches as ends are left.
   module _ (lies : (s : S) (y : Search) (a : Answer X) (t : S) → asks s y a t → AnswerIsInside span y a
       × IsOrdered (answer_span span a)) where
-    pub few-found : (w : IterState) (s : S) (answers : List (Answer X)) (t : S) → IsOf x w → Good s
+    pub few-found : (w : IterState) (s : S) (answers : List (Answer X)) (t : S) → IsOf x w → each.Good s
         → StepsLead span asks w s answers t → found_count answers ≤ ends_left w
     few-found w s [] t h good steps = omega arith
     few-found w s (Ok (Some m) ∷ rest) t h good steps =

@@ -1,29 +1,27 @@
 -- The list of the half matches of an NFA: there is at most one, its offsets rise, and the calls of an iterator give it.
-use Rattle.std.proofs.Common.{◌≡◌, ◌∙◌, ℕ, ◌≤◌, ◌<◌, Bool, false, ap, sym, arith, refl, subst}
-use Rattle.std.proofs.Common.{Option, None, Some, Result, Ok, Err, List, [], ◌∷◌, ◌++◌, map, length, length-append}
-use Rattle.std.specs.Prelude.{All, IfSome}
-use Rattle.std.specs.Option.{ForSome, option_map}
+use Rattle.std.proofs.Common.{◌≡◌, ℕ, ◌≤◌, Bool, ap, arith, refl, subst}
+use Rattle.std.proofs.Common.{Option, None, Some, Ok, Err, List, [], ◌∷◌, ◌++◌, map}
+use Rattle.std.specs.Prelude.{All}
+use Rattle.std.specs.Option.{option_map}
 use Rattle.std.proofs.lemmas.List.Elements.{All-nil, All-cons}
-use Rattle.std.proofs.iter.runs.Sources.{lists}
 use Rattle.regex_search_core.specs.Found.{HalfFound, half_found_of}
 use Rattle.regex_search_core.specs.Search.{Search}
 use Rattle.regex_search_core.specs.declared.search.HalfMatch.{HalfMatch}
 use Rattle.regex_search_core.specs.declared.search.MatchKind.{MatchKind}
 use Rattle.regex_search_core.specs.declared.search.Span.{Span}
 use Rattle.thompson_nfa.specs.Automaton.{Automaton}
-use Rattle.nfa_paths.specs.Paths.{IsHalfAnswer, path_half}
+use Rattle.nfa_paths.specs.Paths.{IsHalfAnswer}
 use Rattle.nfa_paths.proofs.InsideLemmas.{half-within}
 use Rattle.nfa_paths.proofs.OptionLemmas.{same_some}
 use Rattle.nfa_engines.proofs.HalfLemmas.{half-unique}
-use Rattle.nfa_search_base.specs.LastEnd.{EndsBy}
-use Rattle.nfa_search_base.specs.Items.{Item, matches_in}
+use Rattle.nfa_search_base.specs.Items.{matches_in}
 use Rattle.nfa_search_base.specs.Lists.{AreSpansDisjoint, Fails}
 use Rattle.nfa_search_base.specs.Finders.{answer_by}
 use Rattle.nfa_search_base.specs.IterStates.{Answer, AnswerIsInside, IsInfalliblyInside, answer_span, fresh, half_span_of}
-use Rattle.nfa_search_base.specs.declared.error.SearchError.{SearchError}
 use Rattle.nfa_search_base.proofs.IterStateLemmas.{IsOrdered}
 use Rattle.nfa_search_base.proofs.ItemLemmas.{StepsBy, items_as}
-use Rattle.nfa_search_base.proofs.ListLemmas.{as_items, items-view, last-unique, matches_in-as_items, next-rest, spans-disjoint}
+use Rattle.nfa_search_base.proofs.ListLemmas.{as_items, items-view, fresh-disjoint, matches_in-as_items, values-rest, values-unique}
+use Rattle.nfa_search_base.proofs.MatchRunLemmas.{runs-are}
 use Rattle.nfa_search_base.proofs.RunLemmas.{AnswersOf, Begins, Given, given, items-given}
 use Rattle.nfa_search_base.proofs.ShellLemmas.{ShellOf}
 use Rattle.nfa_hybrid.specs.HalfLists.{AnswersHalf, AreFirstHalves, AreHalves, AreRising, IsHalfInside}
@@ -31,31 +29,12 @@ use Rattle.nfa_hybrid.specs.HalfRuns.{AreFirst, AreAll, HalvesAre, HalvesFirst, 
 
 -- ---- the list
 
--- the rest of items that are half matches are half matches
-rest-as_items : {X : Type 0} (xs ys : List X) (more : List (Item X)) → as_items ys ≡ as_items xs ++ more
-    → (rest : List X) × (ys ≡ xs ++ rest)
-rest-as_items [] ys more e = (ys, refl)
-rest-as_items (x ∷ xs) [] more e = cc
-rest-as_items {X} (x ∷ xs) (y ∷ ys) more e =
-    let head : (let a : Item X = Ok y in let b : Item X = Ok x in a ≡ b) = cc in
-    let tail : as_items ys ≡ as_items xs ++ more = cc in
-    let same : y ≡ x = cc in
-    let rest = rest-as_items xs ys more tail in
-    (rest.0, ap (λ (z : X). z ∷ ys) same ∙ ap (λ (l : List X). x ∷ l) rest.1)
-
 -- spans of half matches that do not overlap have offsets that rise
 rising-spans : (x : Search) (last : Option ℕ) (ms : List HalfFound) → AreSpansDisjoint x last (map half_span_of ms)
     → AreRising x last ms
 rising-spans x last [] h = tt
 rising-spans x last (m ∷ ms) h =
     (record { from = h.0.0; to = h.0.2 }, λ e is. (h.1 e is).1, rising-spans x (Some m.offset) ms h.2)
-
--- before the first match there is no last end
-ends-none : (n : ℕ) → EndsBy None n
-ends-none n = λ e is. let never : None ≡ Some e = is in cc
-
-no-more : (xs more : List HalfFound) → xs ≡ xs ++ more → length more ≡ 0
-no-more xs more e = omega (arith, ap length e, length-append xs more)
 
 -- offsets that rise are in the span
 all-inside : (x : Search) (last : Option ℕ) (ms : List HalfMatch) → AreRising x last (map half_found_of ms)
@@ -98,28 +77,20 @@ module _ (nfa : Automaton) (kind : MatchKind) (earliest : Bool) where
   -- there is one list at most
   pub halves-unique : (x : Search) (xs ys : List HalfFound) → AreHalves nfa kind earliest x xs
       → AreHalves nfa kind earliest x ys → xs ≡ ys
-  halves-unique x xs ys h k =
-      sym (matches_in-as_items xs)
-      ∙ ap (λ (l : List (Item HalfFound)). matches_in l)
-      (last-unique half_span_of tells one-answer (fresh x) (as_items xs) (as_items ys) h.come k.come)
-      ∙ matches_in-as_items ys
+  halves-unique x xs ys h k = values-unique half_span_of tells one-answer (fresh x) xs ys h.come k.come
 
   -- the rest of the list follows the first half matches
   pub halves-rest : (x : Search) (xs ys : List HalfFound) → AreFirstHalves nfa kind earliest x xs
       → AreHalves nfa kind earliest x ys
       → (more : List HalfFound) × (ys ≡ xs ++ more)
-  halves-rest x xs ys h k =
-      let rest = next-rest half_span_of tells one-answer (fresh x) (as_items xs) (as_items ys) h.come k.come in
-      rest-as_items xs ys rest.0 rest.1
+  halves-rest x xs ys h k = values-rest half_span_of tells one-answer (fresh x) xs ys h.come k.come
 
   -- the offsets of the first half matches rise
   pub halves-rise : (x : Search) (ms : List HalfFound) → AreFirstHalves nfa kind earliest x ms → AreRising x None ms
   halves-rise x ms h =
       subst (λ (l : List HalfFound). AreRising x None l) (matches_in-as_items ms)
       (rising-spans x None (matches_in (as_items ms))
-      (spans-disjoint half_span_of tells half-lies (Fails half_span_of tells) x (fresh x) (as_items ms) (omega arith)
-      refl
-      (ends-none x.start) h.come))
+      (fresh-disjoint half_span_of tells half-lies (Fails half_span_of tells) x (as_items ms) h.come))
 
 -- ---- the calls
 
@@ -154,12 +125,6 @@ module _ (nfa : Automaton) (kind : MatchKind) {S T : Type 0} {x : Search}
     rise = λ p seen from.
         let k = halves-rise nfa kind x.earliest x (map half_found_of p.items) (found.run p seen from).0 in
         (k, all-inside x None p.items k);
-    are = λ p seen from all them.
-        let k = found.run p seen from in
-        let rest = halves-rest nfa kind x.earliest x (map half_found_of p.items) all k.0 them in
-        lists p half_found_of all rest.0 (λ whole.
-        let same : map half_found_of p.items ≡ all =
-        halves-unique nfa kind x.earliest x (map half_found_of p.items) all
-        (k.1 whole) them in
-        no-more (map half_found_of p.items) rest.0 (same ∙ rest.1)) rest.1;
+    are = runs-are shell.calls half_found_of (AreFirstHalves nfa kind x.earliest x) (AreHalves nfa kind x.earliest x)
+        (halves-rest nfa kind x.earliest x) (halves-unique nfa kind x.earliest x) s found.run;
   }

@@ -5,6 +5,7 @@ use Rattle.regex_search_core.specs.Search.{Search}
 use Rattle.regex_search_core.specs.declared.search.HalfMatch.{HalfMatch}
 use Rattle.nfa_search_base.specs.WithCache.{WithCache}
 use Rattle.nfa_search_base.specs.StepsWith.{TakesStepWith, steps_with_state, steps_with_iter_state}
+use Rattle.nfa_search_base.specs.Serving.{may_ask}
 use Rattle.nfa_search_base.specs.Steps.{GivesItem}
 use Rattle.nfa_search_base.specs.Stored.{steps_iter_state, can_step_infallibly}
 use Rattle.nfa_search_base.specs.IterStates.{fresh, half_span_of, IsInfalliblyInside}
@@ -19,7 +20,7 @@ use Rattle.nfa_engines.proofs.LoopLemmas.{sizes-none, sizes-two}
 use Rattle.nfa_hybrid.specs.HalfLists.{AnswersHalf}
 use Rattle.nfa_hybrid.specs.HybridState.{HybridState, KeepsHybrid, kind_in}
 use Rattle.nfa_hybrid.specs.Halves.{AsksInTurn, FindsHalfInTurn, HalvesBySearches, HalvesGiveKept}
-use Rattle.nfa_hybrid.specs.Halves.{half_steps, halves_next, may_ask}
+use Rattle.nfa_hybrid.specs.Halves.{half_steps, halves_next}
 use Rattle.nfa_hybrid.specs.declared.hybrid.half_matches.HalfMatches.{HalfMatches}
 use Rattle.nfa_hybrid.specs.declared.hybrid.half_matches.InTurn.{InTurn}
 use Rattle.nfa_hybrid.proofs.HalfListLemmas.{HalvesGiven, half-lies_infallibly, halves-given}
@@ -54,9 +55,9 @@ hybrid_finds = record {
   May = may_ask;
   Tells = λ vm x a. AnswersHalf vm.nfa (kind_of vm) x.earliest x a;
   Work = λ vm x a. FindsHalfInTurn x;
-  tells = λ s t a s' asked. asked.finds;
-  works = λ s t a s' asked. record { runs = asked.runs; keeps = asked.keeps };
-  stays = λ s t a s' asked. pike-kept s.cache s'.cache asked.keeps;
+  tells = λ s t a s' asked. asked.tells;
+  works = λ s t a s' asked. asked.work;
+  stays = λ s t a s' asked. pike-kept s.cache s'.cache asked.work.keeps;
   like = λ s x t same may. tt;
   goes = λ s t a s' may asked. tt;
 }
@@ -68,7 +69,7 @@ half_items = items_as half_span_of half_found_of
 abbrev half_answers : (h : HybridState) (x : Search)
     → AnswersOf (WithCache InTurn HybridState) x (AnswersHalf h.nfa (kind_in h) x.earliest)
 half_answers h x = answers_as hybrid_finds (pike_in h) x (AnswersHalf h.nfa (kind_in h) x.earliest)
-    (λ t a same told. subst (λ (b : Bool). AnswersHalf h.nfa (kind_in h) b t a) same.earliest told)
+    (λ t a same found. subst (λ (b : Bool). AnswersHalf h.nfa (kind_in h) b t a) same.earliest found)
 
 -- its iterator
 abbrev half_shell : ShellOf (TakesStepWith half_span_of AsksInTurn (λ _. GivesItem half_found_of))
@@ -85,15 +86,12 @@ half_kept = record {
   Keeps = KeepsHybrid;
   self = keeps-self;
   then = keeps-then;
-  asked = λ s x a t asked. asked.keeps;
+  asked = λ s x a t asked. asked.work.keeps;
 }
 
 -- all calls keep the hybrid
 pub gives-hybrid : (s : HalfMatches) → HalvesGiveKept s
-gives-hybrid s = λ xs t r u ran st.
-    let kept = calls-kept half_kept half_shell s in
-    let k = kept xs t r u ran st in
-    record { hybrid = k.cache; keeps = k.keeps }
+gives-hybrid = calls-kept half_kept half_shell
 
 -- An iterator that begins at x.
 module _ (x : Search) (s : HalfMatches) (iter_state : steps_with_iter_state (half_steps s) ≡ fresh x)

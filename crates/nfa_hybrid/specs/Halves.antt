@@ -1,5 +1,5 @@
 -- The iterator over the half matches of a hybrid.
-use Rattle.std.specs.Prelude.{◌≡◌, List, map, None, Ok, Option, option_map, ⊤, Bool}
+use Rattle.std.specs.Prelude.{List, map, None, Ok, Option, option_map, Bool}
 use Rattle.std.specs.Borrow.{MutBor}
 use Rattle.std.specs.Iterator.{Yields}
 use Rattle.regex_search_core.specs.Found.{HalfFound, half_found_of}
@@ -7,7 +7,7 @@ use Rattle.regex_search_core.specs.Search.{Search}
 use Rattle.regex_search_core.specs.declared.search.HalfMatch.{HalfMatch}
 use Rattle.nfa_search_base.specs.Leaving.{DoesSearch, Leaves, LeavesAtEnd}
 use Rattle.nfa_search_base.specs.WithCache.{WithCache}
-use Rattle.nfa_search_base.specs.StepsWith.{StepsWith, TakesStepWith}
+use Rattle.nfa_search_base.specs.StepsWith.{GivesStepsWith, StepsWith, TakesStepWith}
 use Rattle.nfa_search_base.specs.Runs.{GivesKept}
 use Rattle.nfa_search_base.specs.Steps.{GivesItem}
 use Rattle.nfa_search_base.specs.Searchers.{iter_state_of}
@@ -50,17 +50,10 @@ halves_iter_state s = iter_state_of s.steps.searcher
 abbrev pub halves_done : HalfMatches → Bool
 halves_done s = s.steps.done
 
--- it may always search
-abbrev pub may_ask : WithCache InTurn HybridState → Search → Type 0
-may_ask s x = ⊤
-
--- One search by the engines in turn may answer this.
-pub record AsksInTurn (s : WithCache InTurn HybridState) (x : Search) (a : Answer HalfFound)
-    (t : WithCache InTurn HybridState)
-    : Type 0 where
-  pub finds : AnswersHalf s.cache.nfa (kind_in s.cache) x.earliest x a
-  pub runs : RunsInTurn x x.earliest s.cache t.cache
-  pub keeps : KeepsHybrid s.cache t.cache
+-- one search by the engines in turn may answer this
+abbrev pub AsksInTurn : WithCache InTurn HybridState → Search → Answer HalfFound → WithCache InTurn HybridState
+    → Type 0
+AsksInTurn s x a t = DoesSearch (HybridTells s.cache) (λ y b. FindsHalfInTurn y) s.cache x a t.cache
 
 -- a call
 pub record HalvesStep (s : HalfMatches) (r : Option HalfMatch) (t : HalfMatches) : Type 0 where
@@ -71,12 +64,8 @@ abbrev pub halves_next : HalfMatches → Option HalfMatch → HalfMatches → Ty
 halves_next s r t = HalvesStep s r t
 
 -- the calls keep the hybrid, and what its answers depend on
-pub record HalvesKeepHybrid (s t : HalfMatches) : Type 0 where
-  pub hybrid : t.hybrid.ghost_name ≡ s.hybrid.ghost_name
-  pub keeps : KeepsHybrid s.hybrid.now t.hybrid.now
-
 abbrev pub HalvesGiveKept : HalfMatches → Type 0
-HalvesGiveKept s = GivesKept halves_next HalvesKeepHybrid s
+HalvesGiveKept s = GivesStepsWith halves_next half_steps KeepsHybrid s
 
 -- The calls change the hybrid only by the searches of an iteration over x. At `None` the iteration went to its end,
 -- past the half matches so far.

@@ -5,7 +5,7 @@ use Rattle.regex_search_core.specs.declared.search.MatchKind.{MatchKind}
 use Rattle.thompson_nfa.specs.Automaton.{Automaton}
 use Rattle.nfa_paths.specs.Paths.{IsWork, max_scans, span_len, total_degree}
 use Rattle.nfa_search_base.specs.Finds.{finds}
-use Rattle.nfa_pikevm.specs.Engines.{AddsPikeWork, Fits, PikeCache, SameCapacities, reset_for}
+use Rattle.nfa_pikevm.specs.Engines.{AddsPikeWork, PikeCache, SameCapacities}
 use Rattle.nfa_lazy_dfa.specs.Configs.{kind_in as kind_set}
 use Rattle.nfa_lazy_dfa.specs.Options.{Options}
 use Rattle.nfa_hybrid.specs.declared.hybrid.Engine.{Engine}
@@ -50,7 +50,3 @@ pub record KeepsHybrid (old new : HybridState) : Type 0 where
   pub nfa : new.nfa ≡ old.nfa
   pub config : new.config ≡ old.config
   pub capacities : SameCapacities old.pike new.pike
-
--- the cache of the PikeVM for another NFA: it is reset only if it does not fit
-abbrev pub IsFitFor : PikeCache → Automaton → PikeCache → Type 0
-IsFitFor old nfa new = (Fits old nfa × (new ≡ old)) ⊎ (¬ (Fits old nfa) × (new ≡ reset_for old nfa))

@@ -18,7 +18,8 @@ ghost use Rattle.regex_search_core.specs.Search.{search_of};
 ghost use Rattle.nfa_lazy_dfa.specs.Configs.{config_of, kind_in as kind_set, kind_of as dfa_kind_of, nfa_of};
 ghost use Rattle.nfa_paths.specs.Paths.{IsBoolAnswer, IsHalfAnswer, is_utf8_empty};
 ghost use Rattle.nfa_pikevm.specs.Engines.{cache_for};
-ghost use Rattle.nfa_hybrid.specs.HybridState.{IsFitFor, KeepsHybrid, RunsInTurn, finds_in, kind_in};
+ghost use Rattle.nfa_pikevm.specs.Engines.{IsFitFor};
+ghost use Rattle.nfa_hybrid.specs.HybridState.{KeepsHybrid, RunsInTurn, finds_in, kind_in};
 
 mod half_matches;
 mod overlap;

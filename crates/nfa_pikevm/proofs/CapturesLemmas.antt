@@ -13,7 +13,7 @@ use Rattle.nfa_search_base.specs.IterStates.{AnswerIsInside, fresh}
 use Rattle.nfa_search_base.specs.declared.error.SearchError.{SearchError}
 use Rattle.nfa_search_base.specs.declared.iter.steps.Steps.{Steps}
 use Rattle.nfa_search_base.proofs.CapturesLemmas.{row-lies}
-use Rattle.nfa_search_base.proofs.CapturesRunLemmas.{RowsTold, captures-given, captures-memory}
+use Rattle.nfa_search_base.proofs.CapturesRunLemmas.{RowsOf, captures-given, captures-memory}
 use Rattle.nfa_search_base.proofs.EngineLemmas.{KeptBy, SearchesAs, SearchesOf, calls-kept, fills_by, searches-serve}
 use Rattle.nfa_search_base.proofs.EngineLemmas.{step-may}
 use Rattle.nfa_search_base.proofs.ItemLemmas.{ItemsOf, copies_of}
@@ -25,30 +25,31 @@ use Rattle.nfa_pikevm.specs.CapturesMatches.{pike_captures, pike_captures_next}
 use Rattle.nfa_pikevm.specs.Engines.{Pike, PikeCache, SameCapacities, kind_of}
 use Rattle.nfa_pikevm.specs.Finding.{PikeAnswersRow}
 use Rattle.nfa_pikevm.specs.declared.captures_iter.CapturesMatches.{CapturesMatches}
-use Rattle.nfa_pikevm.proofs.FindLemmas.{pike_by, same_capacities, same_capacities-then}
+use Rattle.nfa_pikevm.proofs.FindLemmas.{pike_engine, same_capacities, same_capacities-then}
 
 abbrev pub pike_fills : SearchesOf Pike PikeCache (WithCache (WithCaptures Pike) PikeCache) Row
-pike_fills = fills_by (pike_by PikeAnswersRow)
+pike_fills = fills_by (pike_engine PikeAnswersRow)
 
 -- its items
 abbrev pub pike_copies : ItemsOf (WithCache (WithCaptures Pike) PikeCache) Row Captured
 pike_copies = copies_of (λ q. q.backend.captures)
 
 -- what it tells of searches like x: the rows of the NFA, with the same `earliest`
-abbrev pub pike_rows : (vm : Pike) (x : Search) → RowsTold pike_fills (λ q. q.backend.captures) vm x
+abbrev pub pike_rows : (vm : Pike) (x : Search) → RowsOf pike_fills (λ q. q.backend.captures) vm x
 pike_rows vm x = record {
   nfa = vm.nfa;
   kind = kind_of vm;
   earliest = x.earliest;
   tells = AnswersRow vm.nfa (kind_of vm) x.earliest;
-  told = λ t a same h. subst (λ (b : Bool). AnswersRow vm.nfa (kind_of vm) b t a) same.earliest h;
+  given = λ t a same h. subst (λ (b : Bool). AnswersRow vm.nfa (kind_of vm) b t a) same.earliest h;
   row = λ t o h. h;
   groups = λ s t is may. rw is at may.holds;
 }
 
 -- its iterator
 abbrev pub captures_shell
-    : ShellOf (TakesStepWith row_span AsksPikeRow GivesCaptures) (λ (i : Result Captured SearchError). i) CapturesMatches
+    : ShellOf (TakesStepWith row_span AsksPikeRow GivesCaptures) (λ (i : Result Captured SearchError). i)
+    CapturesMatches
 captures_shell = plain_shell pike_captures_next pike_captures (λ s r t st. st.takes)
 
 may-now : (s : CapturesMatches) → MayCatchByPike (steps_with_state (pike_captures s)).backend
@@ -104,7 +105,4 @@ captures_kept = record {
 
 -- the calls keep the cache, and its numbers
 pub catches-cache : (s : CapturesMatches) → CatchesGiveCache s
-catches-cache s = λ xs t r u ran st.
-    let kept = calls-kept captures_kept captures_shell s in
-    let k = kept xs t r u ran st in
-    record { cache = k.cache; capacities = k.keeps }
+catches-cache = calls-kept captures_kept captures_shell

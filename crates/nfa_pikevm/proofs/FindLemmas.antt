@@ -52,8 +52,8 @@ searched-fits vm x old new work fits = still-fits old new vm.nfa work.capacities
 -- ---- the engine
 
 -- the PikeVM with its answers
-abbrev pub pike_by : {X : Type 0} → (Pike → Search → Answer X → Type 0) → EngineOf Pike PikeCache X
-pike_by tells = record {
+abbrev pub pike_engine : {X : Type 0} → (Pike → Search → Answer X → Type 0) → EngineOf Pike PikeCache X
+pike_engine tells = record {
   nfa = λ vm. vm.nfa;
   Fits = fits_pike;
   Tells = tells;
@@ -63,7 +63,7 @@ pike_by tells = record {
 }
 
 abbrev pub pike_finder : FinderOf Pike Finder PikeCache
-pike_finder = record { by = pike_by PikeAnswersMatch; shown = pike_knowing; Sure = IsSureOf; sure = sure-finds }
+pike_finder = record { engine = pike_engine PikeAnswersMatch; shown = pike_knowing; Sure = IsSureOf; sure = sure-finds }
 
 abbrev pub pike_finds : SearchesOf Pike (Keeping PikeCache) (WithCache Finder PikeCache) Found
 pike_finds = finds_by pike_finder
@@ -123,10 +123,7 @@ find_kept = record {
 
 -- the calls keep the cache, and its numbers
 pub gives-cache : (s : FindMatches) → GivesCache s
-gives-cache s = λ xs t r u ran st.
-    let kept = calls-kept find_kept find_shell s in
-    let k = kept xs t r u ran st in
-    record { cache = k.cache; capacities = k.keeps }
+gives-cache = calls-kept find_kept find_shell
 
 -- ---- an iterator of vm that begins at x
 

@@ -1,12 +1,12 @@
 -- The iterator over the captures of a PikeVM.
-use Rattle.std.specs.Prelude.{◌≡◌, Option, Result, Bool}
+use Rattle.std.specs.Prelude.{Option, Result, Bool}
 use Rattle.std.specs.Borrow.{MutBor}
 use Rattle.regex_search_core.specs.Search.{Search}
 use Rattle.regex_search_core.specs.Slots.{Captured}
 use Rattle.nfa_search_base.specs.WithCaptures.{WithCaptures, GivesCaptures, Row, row_span}
 use Rattle.nfa_search_base.specs.EngineSearches.{AsksEngineRow, MayFill}
 use Rattle.nfa_search_base.specs.WithCache.{WithCache}
-use Rattle.nfa_search_base.specs.StepsWith.{StepsWith, TakesStepWith}
+use Rattle.nfa_search_base.specs.StepsWith.{GivesStepsWith, StepsWith, TakesStepWith}
 use Rattle.nfa_search_base.specs.Runs.{GivesKept}
 use Rattle.nfa_search_base.specs.Searchers.{iter_state_of}
 use Rattle.nfa_search_base.specs.IterStates.{Answer, IterState}
@@ -53,12 +53,8 @@ abbrev pub pike_captures_next : CapturesMatches → Option (Result Captured Sear
 pike_captures_next s r t = PikeCatchesNext s r t
 
 -- the calls keep the cache, and its sizes
-pub record CatchesKeepCache (s t : CapturesMatches) : Type 0 where
-  pub cache : t.cache.ghost_name ≡ s.cache.ghost_name
-  pub capacities : SameCapacities s.cache.now t.cache.now
-
 abbrev pub CatchesGiveCache : CapturesMatches → Type 0
-CatchesGiveCache s = GivesKept pike_captures_next CatchesKeepCache s
+CatchesGiveCache s = GivesStepsWith pike_captures_next pike_captures SameCapacities s
 
 -- the calls change the cache only by the searches of an iteration over x
 pub record CatchesBySearches (vm : Pike) (x : Search) (s : CapturesMatches) : Type 0 where

@@ -1,5 +1,5 @@
 -- A PikeVM and its cache as values, and the condition that a cache fits.
-use Rattle.std.specs.Prelude.{◌≡◌, ℕ, ◌+◌, ◌*◌, ◌≤◌, Option, length, unwrap_or}
+use Rattle.std.specs.Prelude.{◌≡◌, ◌⊎◌, ℕ, ◌+◌, ◌*◌, ◌≤◌, Option, length, unwrap_or}
 use Rattle.regex_search_core.specs.Groups.{slot_count}
 use Rattle.regex_search_core.specs.declared.search.MatchKind.{MatchKind}
 use Rattle.regex_search_core.specs.declared.search.MatchKind.TheVariants.{LeftmostFirst}
@@ -55,6 +55,10 @@ reset_for cache nfa = record cache {
   patterns = length nfa.patterns;
   frames = stack_frames nfa;
 }
+
+-- the cache for another NFA: it is reset only if it does not fit
+abbrev pub IsFitFor : PikeCache → Automaton → PikeCache → Type 0
+IsFitFor old nfa new = (Fits old nfa × (new ≡ old)) ⊎ (¬ (Fits old nfa) × (new ≡ reset_for old nfa))
 
 -- a new cache for the NFA
 abbrev pub cache_for : Automaton → PikeCache

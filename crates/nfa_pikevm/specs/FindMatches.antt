@@ -1,5 +1,5 @@
 -- The iterator over the matches of a PikeVM.
-use Rattle.std.specs.Prelude.{◌≡◌, List, map, Option, None, Ok, option_map, Bool}
+use Rattle.std.specs.Prelude.{List, map, Option, None, Ok, option_map, Bool}
 use Rattle.std.specs.Borrow.{MutBor}
 use Rattle.std.specs.Iterator.{Yields}
 use Rattle.regex_search_core.specs.Found.{Found, found_of}
@@ -7,7 +7,7 @@ use Rattle.regex_search_core.specs.Search.{Search}
 use Rattle.regex_search_core.specs.declared.search.Match.{Match}
 use Rattle.nfa_search_base.specs.EngineSearches.{AsksEngine, Knowing, MayFind}
 use Rattle.nfa_search_base.specs.WithCache.{WithCache}
-use Rattle.nfa_search_base.specs.StepsWith.{StepsWith, TakesStepWith}
+use Rattle.nfa_search_base.specs.StepsWith.{GivesStepsWith, StepsWith, TakesStepWith}
 use Rattle.nfa_search_base.specs.Runs.{GivesKept}
 use Rattle.nfa_search_base.specs.Steps.{GivesItem}
 use Rattle.nfa_search_base.specs.Searchers.{iter_state_of}
@@ -65,12 +65,8 @@ abbrev pub pike_finds_known : FindMatches → Option Found
 pike_finds_known s = option_map found_of s.steps.backend.known
 
 -- the calls keep the cache, and its sizes
-pub record KeepsCache (s t : FindMatches) : Type 0 where
-  pub cache : t.cache.ghost_name ≡ s.cache.ghost_name
-  pub capacities : SameCapacities s.cache.now t.cache.now
-
 abbrev pub GivesCache : FindMatches → Type 0
-GivesCache s = GivesKept pike_matches_next KeepsCache s
+GivesCache s = GivesStepsWith pike_matches_next pike_matches SameCapacities s
 
 -- The calls change the cache only by the searches of an iteration over x. At `None` the iteration went to its end, past
 -- the matches so far.

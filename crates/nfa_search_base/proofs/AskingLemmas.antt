@@ -57,12 +57,12 @@ module _ {S R : Type 0} {accepts : S → Search → Type 0} {asks : S → Search
   }
 
 -- if an invariant of the state holds now and after each call, what it implies holds along the calls
-pub ServesOnAlong-by : {S R : Type 0} (accepts : S → Search → Type 0) (asks : S → Search → R → S → Type 0)
-    (P : Search → R → Type 0) (Inv : S → Type 0) (f : S) (s : Search) → Inv f
+pub ServesOnAlong-by : {S R : Type 0} {accepts : S → Search → Type 0} {asks : S → Search → R → S → Type 0}
+    {P : Search → R → Type 0} (Inv : S → Type 0) (f : S) (s : Search) → Inv f
     → ((q : S) (t : Search) → SameButStart s t → Inv q → accepts q t)
     → ((q : S) (t : Search) (reply : R) (q' : S) → SameButStart s t → Inv q → asks q t reply q' → P t reply × Inv q')
     → ServesOnAlong accepts asks SameButStart P f s
-ServesOnAlong-by {S} {R} accepts asks P Inv f s now may says = record {
+ServesOnAlong-by {S} {R} {accepts} {asks} Inv f s now may says = record {
   at = λ calls f' t leads same.
       let inv : Inv f' = kept calls f f' now leads in
       record {

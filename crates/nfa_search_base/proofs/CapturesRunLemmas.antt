@@ -1,5 +1,5 @@
 -- The calls of an iterator over captures by an engine give the captures of the engine's NFA.
-use Rattle.std.proofs.Common.{◌≡◌, ◌∙◌, ℕ, ◌≤◌, inl, inr, Bool, refl, sym, ap, subst}
+use Rattle.std.proofs.Common.{◌≡◌, ℕ, ◌≤◌, inl, inr, Bool, refl, sym, ap, subst}
 use Rattle.std.proofs.Common.{Option, None, Some, Result, Ok, Err, List, [], ◌∷◌, map, arith}
 use Rattle.std.specs.Prelude.{All, IfOk}
 use Rattle.std.specs.Iterator.{Yields}
@@ -16,7 +16,7 @@ use Rattle.nfa_search_base.specs.CapturesGiven.{CapturesGiven}
 use Rattle.nfa_search_base.specs.WithCaptures.{Row, row_found, row_of, row_span}
 use Rattle.nfa_search_base.specs.CapturesLists.{IsRow, AnswersRow, AreFirstRows, AreRows, AreFirstCaptures, AreAllCaptures}
 use Rattle.nfa_search_base.specs.CapturesLists.{HasGroups}
-use Rattle.nfa_search_base.specs.CapturesRuns.{match_in, CapturesInside, CapturesGroups, CapturesMemory}
+use Rattle.nfa_search_base.specs.CapturesRuns.{match_in, CapturesInside, CapturesMemory}
 use Rattle.nfa_search_base.specs.Lists.{AreFirstMatches, AreMatches}
 use Rattle.nfa_search_base.specs.Lists.{IsStep, IsSlotInside}
 use Rattle.nfa_search_base.specs.Stored.{steps_iter_state}
@@ -28,7 +28,7 @@ use Rattle.nfa_search_base.proofs.CapturesLemmas.{row-lies, rows-first_matches, 
 use Rattle.nfa_search_base.proofs.EngineLemmas.{SearchesAs, SearchesOf, answers_as, step-may, step-stays}
 use Rattle.nfa_search_base.proofs.ItemLemmas.{ItemsOf, StepsBy, copies_of, copy-of}
 use Rattle.nfa_search_base.proofs.ListLemmas.{matches-disjoint, step-lies}
-use Rattle.nfa_search_base.proofs.OkItemLemmas.{GoesOnIn, OkedAs, ToldOf, oked, next-clean, last-clean, oked-run, oked-first}
+use Rattle.nfa_search_base.proofs.OkItemLemmas.{GoesOnIn, OkedAs, ResultsOf, next-clean, last-clean, oked-run, oked-first}
 use Rattle.nfa_search_base.proofs.OkItemLemmas.{oked-all, oked-next, values-hold, errors-memory}
 use Rattle.nfa_search_base.proofs.RunLemmas.{Begins, Given, given, items-given}
 use Rattle.nfa_search_base.proofs.ShellLemmas.{ShellOf, same-items}
@@ -65,36 +65,36 @@ module _ {T R : Type 0} (steps : T → Option R → T → Type 0) (Good : T → 
 
 -- What callers are told of the searches like x by an engine e, in whose iteration the state holds captures: the rows of
 -- an NFA, or errors.
-pub record RowsTold {E C S : Type 0} (by : SearchesOf E C S Row) (captures : S → Captured) (e : E) (x : Search)
+pub record RowsOf {E C S : Type 0} (searches : SearchesOf E C S Row) (captures : S → Captured) (e : E) (x : Search)
     : Type 1 where
   pub nfa : Automaton
   pub kind : MatchKind
   pub earliest : Bool
   pub tells : Search → Answer Row → Type 0
-  pub told : (t : Search) (a : Answer Row) → SameButStart x t → by.Tells e t a → tells t a
+  pub given : (t : Search) (a : Answer Row) → SameButStart x t → searches.Tells e t a → tells t a
   pub row : (t : Search) (o : Option Row) → tells t (Ok o) → AnswersRow nfa kind earliest t (Ok o)
   -- the captures of an iteration that may search have the groups of the NFA
-  pub groups : (s : S) (t : Search) → SearchesAs by e s → by.May s t → HasGroups nfa (captures s)
+  pub groups : (s : S) (t : Search) → SearchesAs searches e s → searches.May s t → HasGroups nfa (captures s)
 
-module _ {E C S : Type 0} {by : SearchesOf E C S Row} {captures : S → Captured} {e : E} {x : Search}
-    (told : RowsTold by captures e x) where
+module _ {E C S : Type 0} {searches : SearchesOf E C S Row} {captures : S → Captured} {e : E} {x : Search}
+    (rows : RowsOf searches captures e x) where
   abbrev copies : ItemsOf S Row Captured
   copies = copies_of captures
 
   -- a call of the steps
   abbrev pub CapturesSteps : Steps S → Option Caught → Steps S → Type 0
-  CapturesSteps = StepsBy copies by.asks
+  CapturesSteps = StepsBy copies searches.asks
 
   abbrev Rows : Search → Answer Row → Type 0
-  Rows = AnswersRow told.nfa told.kind told.earliest
+  Rows = AnswersRow rows.nfa rows.kind rows.earliest
 
   -- without an error these are rows, whose matches are in the span
-  abbrev pub rows : ToldOf row_span
-  rows = record {
-    tells = told.tells;
+  abbrev pub results_of : ResultsOf row_span
+  results_of = record {
+    tells = rows.tells;
     clean = Rows;
-    ok = told.row;
-    lies = row-lies told.nfa told.kind told.earliest;
+    ok = rows.row;
+    lies = row-lies rows.nfa rows.kind rows.earliest;
   }
 
   -- the row of a step is that of some search in the span
@@ -102,9 +102,10 @@ module _ {E C S : Type 0} {by : SearchesOf E C S Row} {captures : S → Captured
     at : Search
     from : x.start ≤ at.start
     to : at.end ≡ x.end
-    is_row : IsRow told.nfa told.kind told.earliest at r
+    is_row : IsRow rows.nfa rows.kind rows.earliest at r
 
-  step-row : (w : IterState) (r : Row) → GoesOnIn copies rows x w → IsStep row_span Rows w (Ok (Some r)) → HasRow r
+  step-row : (w : IterState) (r : Row) → GoesOnIn copies results_of x w → IsStep row_span Rows w (Ok (Some r))
+      → HasRow r
   step-row w r in_span h = elim (chosen (repeats w (answer_span row_span h.first)) h.rest) [
     | inl p ↦ record { at = (shifted w).at; from = omega (arith, in_span.0); to = in_span.1; is_row = p.1 }
     | inr p ↦ record {
@@ -116,14 +117,14 @@ module _ {E C S : Type 0} {by : SearchesOf E C S Row} {captures : S → Captured
   ]
 
   -- so captures of a step are in the span
-  step-inside : (w : IterState) (c : Captured) → GoesOnIn copies rows x w
+  step-inside : (w : IterState) (c : Captured) → GoesOnIn copies results_of x w
       → IsStep row_span Rows w (Ok (Some (row_of c))) → CapturesInside x c
   step-inside w c in_span step =
       let has = step-row w (row_of c) in_span step in
-      let k = step-lies row_span Rows rows.lies w (row_of c) step in
+      let k = step-lies row_span Rows results_of.lies w (row_of c) step in
       let slots : All (IsSlotInside x) c.slots
       = All-weaker (IsSlotInside has.at) (IsSlotInside x) (wider x has.at has.from has.to) c.slots
-      (slots-within told.nfa told.kind told.earliest has.at c.pattern c.slots has.is_row.answer) in
+      (slots-within rows.nfa rows.kind rows.earliest has.at c.pattern c.slots has.is_row.answer) in
       record {
         is_match = has.is_row.is_match;
         inside = record { from = omega (arith, in_span.0, k.0); ordered = k.1; to = omega (arith, in_span.1, k.2) };
@@ -134,81 +135,81 @@ module _ {E C S : Type 0} {by : SearchesOf E C S Row} {captures : S → Captured
   module _ {T : Type 0} (shell : ShellOf CapturesSteps (λ (i : Caught). i) T) where
     -- an iterator of e that may search
     abbrev Holds : T → Type 0
-    Holds q = by.May (shell.inner q).backend (steps_iter_state (shell.inner q)).at
-        × SearchesAs by e (shell.inner q).backend
+    Holds q = searches.May (shell.inner q).backend (steps_iter_state (shell.inner q)).at
+        × SearchesAs searches e (shell.inner q).backend
 
     call-groups : (p : T) (r : Caught) (q : T) → Holds p → shell.calls p (Some r) q
-        → IfOk r (HasGroups told.nfa) × Holds q
+        → IfOk r (HasGroups rows.nfa) × Holds q
     call-groups p r q holds st = (of r (shell.is p (Some r) q st), left)
       where
         left : Holds q
         left = (
-          step-may by copies (shell.inner p) (Some r) (shell.inner q) (shell.is p (Some r) q st) holds.0,
-          step-stays by copies e (shell.inner p) (Some r) (shell.inner q) (shell.is p (Some r) q st) holds.1,
+          step-may searches copies (shell.inner p) (Some r) (shell.inner q) (shell.is p (Some r) q st) holds.0,
+          step-stays searches copies e (shell.inner p) (Some r) (shell.inner q) (shell.is p (Some r) q st) holds.1,
         )
 
-        of : (r : Caught) → CapturesSteps (shell.inner p) (Some r) (shell.inner q) → IfOk r (HasGroups told.nfa)
+        of : (r : Caught) → CapturesSteps (shell.inner p) (Some r) (shell.inner q) → IfOk r (HasGroups rows.nfa)
         of (Err error) step = tt
         of (Ok d) step = elim (chosen (shell.inner p).done step) [
           | inl k ↦ let never : (let z : Option Caught = Some (Ok d) in z ≡ None) = k.1.0 in cc
           | inr k ↦
               rw (copy-of (captures (shell.inner q).backend) k.1.answer d k.1.item)
-              (told.groups (shell.inner q).backend (steps_iter_state (shell.inner q)).at left.1 left.0)
+              (rows.groups (shell.inner q).backend (steps_iter_state (shell.inner q)).at left.1 left.0)
         ]
 
-    module _ (s : T) (begins : Begins (SearchesAs by e) x (shell.inner s)) where
+    module _ (s : T) (begins : Begins (SearchesAs searches e) x (shell.inner s)) where
       abbrev First : List Caught → Type 0
-      First xs = AreFirstCaptures told.tells x xs
+      First xs = AreFirstCaptures rows.tells x xs
 
       abbrev Whole : List Caught → Type 0
-      Whole xs = AreAllCaptures told.tells x xs
+      Whole xs = AreAllCaptures rows.tells x xs
 
       caught : Given shell.calls First Whole s
       caught =
-          let k = items-given copies (answers_as by e x told.tells told.told) shell s begins in
+          let k = items-given copies (answers_as searches e x rows.tells rows.given) shell s begins in
           given shell.calls First Whole s
           (λ xs t ran. record { come = rw (same-items xs) at (k.first xs t ran) })
           (λ xs t u ran st. record { come = rw (same-items xs) at (k.all xs t u ran st) })
 
       -- the only error is `Memory`, if no search has another
       pub captures-memory
-          : ((t : Search) (error : SearchError) → x.start ≤ t.start → t.end ≡ x.end → told.tells t (Err error)
+          : ((t : Search) (error : SearchError) → x.start ≤ t.start → t.end ≡ x.end → rows.tells t (Err error)
           → error ≡ Memory)
           → CapturesMemory shell.calls s
       captures-memory memory = λ p seen from.
-          errors-memory copies rows x memory p.items (caught.run p seen from).0.come
+          errors-memory copies results_of x memory p.items (caught.run p seen from).0.come
 
       -- captures that are all `Ok`, as rows and as matches
       abbrev FirstRows : List Captured → Type 0
-      FirstRows cs = AreFirstRows told.nfa told.kind told.earliest x (map row_of cs)
+      FirstRows cs = AreFirstRows rows.nfa rows.kind rows.earliest x (map row_of cs)
 
       abbrev WholeRows : List Captured → Type 0
-      WholeRows cs = AreRows told.nfa told.kind told.earliest x (map row_of cs)
+      WholeRows cs = AreRows rows.nfa rows.kind rows.earliest x (map row_of cs)
 
       abbrev FirstMatches : List Captured → Type 0
-      FirstMatches cs = AreFirstMatches told.nfa told.kind told.earliest x (map match_in cs)
+      FirstMatches cs = AreFirstMatches rows.nfa rows.kind rows.earliest x (map match_in cs)
 
       abbrev WholeMatches : List Captured → Type 0
-      WholeMatches cs = AreMatches told.nfa told.kind told.earliest x (map match_in cs)
+      WholeMatches cs = AreMatches rows.nfa rows.kind rows.earliest x (map match_in cs)
 
       as_rows : OkedAs First Whole FirstRows WholeRows
       as_rows = record {
-        first = λ cs h. record { come = next-clean copies rows (fresh x) cs h.come };
-        whole = λ cs h. record { come = last-clean copies rows (fresh x) cs h.come };
+        first = λ cs h. record { come = next-clean copies results_of (fresh x) cs h.come };
+        whole = λ cs h. record { come = last-clean copies results_of (fresh x) cs h.come };
       }
 
       as_matches : OkedAs First Whole FirstMatches WholeMatches
       as_matches = record {
-        first = λ cs h. subst (λ (ms : List Found). AreFirstMatches told.nfa told.kind told.earliest x ms)
+        first = λ cs h. subst (λ (ms : List Found). AreFirstMatches rows.nfa rows.kind rows.earliest x ms)
             (found-rows cs)
-            (rows-first_matches told.nfa told.kind told.earliest x (map row_of cs) (as_rows.first cs h));
-        whole = λ cs h. subst (λ (ms : List Found). AreMatches told.nfa told.kind told.earliest x ms) (found-rows cs)
-            (rows-matches told.nfa told.kind told.earliest x (map row_of cs) (as_rows.whole cs h));
+            (rows-first_matches rows.nfa rows.kind rows.earliest x (map row_of cs) (as_rows.first cs h));
+        whole = λ cs h. subst (λ (ms : List Found). AreMatches rows.nfa rows.kind rows.earliest x ms) (found-rows cs)
+            (rows-matches rows.nfa rows.kind rows.earliest x (map row_of cs) (as_rows.whole cs h));
       }
 
       -- all that its calls give
-      pub captures-given : by.May (shell.inner s).backend (steps_iter_state (shell.inner s)).at
-          → CapturesGiven shell.calls told.nfa told.kind told.earliest told.tells x s
+      pub captures-given : searches.May (shell.inner s).backend (steps_iter_state (shell.inner s)).at
+          → CapturesGiven shell.calls rows.nfa rows.kind rows.earliest rows.tells x s
       captures-given may = record {
         runs = caught.run;
         first = caught.first;
@@ -221,10 +222,11 @@ module _ {E C S : Type 0} {by : SearchesOf E C S Row} {captures : S → Captured
         first_matches = oked-first as_matches shell.calls s caught;
         next_match = oked-next as_matches shell.calls s caught;
         all_matches = oked-all as_matches shell.calls s caught;
-        groups = runs-hold shell.calls Holds (λ item. IfOk item (HasGroups told.nfa)) call-groups s
+        groups = runs-hold shell.calls Holds (λ item. IfOk item (HasGroups rows.nfa)) call-groups s
             (may, begins.good);
         inside = λ p seen from.
-            values-hold copies rows x (CapturesInside x) step-inside p.items (caught.run p seen from).0.come;
-        disjoint = λ p seen from cs are. matches-disjoint told.nfa told.kind told.earliest x (map match_in cs)
-            (oked-run as_matches shell.calls s caught p seen from cs are).0;
+            values-hold copies results_of x (CapturesInside x) step-inside p.items (caught.run p seen from).0.come;
+        disjoint = λ p seen from cs are.
+            let first = oked-run as_matches shell.calls s caught in
+            matches-disjoint rows.nfa rows.kind rows.earliest x (map match_in cs) (first p seen from cs are).0;
       }

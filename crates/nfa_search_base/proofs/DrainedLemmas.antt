@@ -17,13 +17,13 @@ use Rattle.nfa_search_base.specs.CapturesGiven.{CapturesGiven}
 use Rattle.nfa_search_base.specs.CapturesRuns.{CapturesInside, match_in}
 use Rattle.nfa_search_base.specs.Drained.{CallsLead, DrainsAll, DrainsToError}
 use Rattle.nfa_search_base.specs.Lists.{AreDisjoint, AreMatches}
-use Rattle.nfa_search_base.specs.Stored.{steps_iter_state, takes_steps}
+use Rattle.nfa_search_base.specs.Stored.{steps_iter_state}
 use Rattle.nfa_search_base.specs.WithCache.{WithCache}
 use Rattle.nfa_search_base.specs.IterStates.{Answer}
 use Rattle.nfa_search_base.specs.declared.error.SearchError.{SearchError}
 use Rattle.nfa_search_base.specs.declared.error.SearchError.TheVariants.{Memory}
 use Rattle.nfa_search_base.specs.declared.iter.steps.Steps.{Steps}
-use Rattle.nfa_search_base.proofs.CapturesRunLemmas.{CapturesSteps, RowsTold, captures-given, captures-memory}
+use Rattle.nfa_search_base.proofs.CapturesRunLemmas.{CapturesSteps, RowsOf, captures-given, captures-memory}
 use Rattle.nfa_search_base.proofs.EngineLemmas.{KeptBy, SearchesAs, SearchesOf, steps-keep}
 use Rattle.nfa_search_base.proofs.ItemLemmas.{ItemsOf, StepsBy}
 use Rattle.nfa_search_base.proofs.ListLemmas.{matches-disjoint}
@@ -90,25 +90,25 @@ module _ {T : Type 0} {calls : T → Option (Result Captured SearchError) → T 
   all-drained (Err error) items t all = (tt, tt, tt, tt, tt)
 
 -- Steps of an engine that begin at x.
-module _ {E C S : Type 0} {by : SearchesOf E C S Row} {captures : S → Captured} {e : E} {x : Search}
-    (told : RowsTold by captures e x) {s : Steps S} (begins : Begins (SearchesAs by e) x s) where
+module _ {E C S : Type 0} {searches : SearchesOf E C S Row} {captures : S → Captured} {e : E} {x : Search}
+    (rows : RowsOf searches captures e x) {s : Steps S} (begins : Begins (SearchesAs searches e) x s) where
   -- they give all captures of the NFA, if a result holds them
-  pub all-captures : {V : Type 0} → by.May s.backend (steps_iter_state s).at → (r : Result V SearchError)
-      (items : V → List Captured) (t : Steps S) → IfOk r (λ v. DrainsAll (CapturesSteps told) s (items v) t)
-      → IfOk r (λ v. AreRows told.nfa told.kind told.earliest x (map row_of (items v)))
-      × IfOk r (λ v. AreMatches told.nfa told.kind told.earliest x (map match_in (items v)))
-      × IfOk r (λ v. All (HasGroups told.nfa) (items v)) × IfOk r (λ v. All (CapturesInside x) (items v))
+  pub all-captures : {V : Type 0} → searches.May s.backend (steps_iter_state s).at → (r : Result V SearchError)
+      (items : V → List Captured) (t : Steps S) → IfOk r (λ v. DrainsAll (CapturesSteps rows) s (items v) t)
+      → IfOk r (λ v. AreRows rows.nfa rows.kind rows.earliest x (map row_of (items v)))
+      × IfOk r (λ v. AreMatches rows.nfa rows.kind rows.earliest x (map match_in (items v)))
+      × IfOk r (λ v. All (HasGroups rows.nfa) (items v)) × IfOk r (λ v. All (CapturesInside x) (items v))
       × IfOk r (λ v. AreDisjoint x None (map match_in (items v)))
-  all-captures may = all-drained (captures-given told (no_shell (CapturesSteps told)) s begins may)
+  all-captures may = all-drained (captures-given rows (no_shell (CapturesSteps rows)) s begins may)
 
   -- an error is that of memory, if no search has another
   pub error-captures
-      : ((t : Search) (error : SearchError) → x.start ≤ t.start → t.end ≡ x.end → told.tells t (Err error)
+      : ((t : Search) (error : SearchError) → x.start ≤ t.start → t.end ≡ x.end → rows.tells t (Err error)
       → error ≡ Memory)
-      → (error : SearchError) (t : Steps S) → (error ≡ Memory) ⊎ DrainsToError (CapturesSteps told) s error t
+      → (error : SearchError) (t : Steps S) → (error ≡ Memory) ⊎ DrainsToError (CapturesSteps rows) s error t
       → error ≡ Memory
   error-captures memory error t (inl is) = is
   error-captures memory error t (inr ends) =
-      let run = run_of_turn (CapturesSteps told) s (map Ok ends.items) ends.last ends.ran (Err error) t ends.over in
-      let errors = captures-memory told (no_shell (CapturesSteps told)) s begins memory run.0 run.0.seen run.1 in
+      let run = run_of_turn (CapturesSteps rows) s (map Ok ends.items) ends.last ends.ran (Err error) t ends.over in
+      let errors = captures-memory rows (no_shell (CapturesSteps rows)) s begins memory run.0 run.0.seen run.1 in
       all-last (λ item. IfErr item (λ q. q ≡ Memory)) (map Ok ends.items) (Err error) (rw run.2.0 at errors)

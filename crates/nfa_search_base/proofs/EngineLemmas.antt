@@ -87,7 +87,7 @@ module _ {C : Type 0} {Work : Search → Answer Found → C → C → Type 0} {s
   -- so the cache is the same, or was searched with
   pub same-or-made : {a : Answer Found} {s t : Keeping C} → SearchesUnlessKnown Work scans x a s t
       → (t.cache ≡ s.cache) ⊎ Work x a s.cache t.cache
-  same-or-made {a = a} {s = s} {t = t} by = of (if_ends_at x.start s.known) by.by_known
+  same-or-made {a = a} {s = s} {t = t} made = of (if_ends_at x.start s.known) made.by_known
     where
       of : (k : Option Found) → AnswersBy Work scans x a k s t → (t.cache ≡ s.cache) ⊎ Work x a s.cache t.cache
       of (Some m) h = inl (ap (λ q. q.cache) h.1)
@@ -110,11 +110,11 @@ pub record EngineOf (E C X : Type 0) : Type 1 where
 
 -- An engine of an iteration that may know the match of its next search, `shown` by an A.
 pub record FinderOf (E A C : Type 0) : Type 1 where
-  pub by : EngineOf E C Found
+  pub engine : EngineOf E C Found
   pub shown : A → Knowing E
   -- the match is the only one that a search can find, and so its answer
   pub Sure : E → Search → Found → Type 0
-  pub sure : (e : E) (t : Search) (m : Found) → Sure e t m → by.Tells e t (Ok (Some m))
+  pub sure : (e : E) (t : Search) (m : Found) → Sure e t m → engine.Tells e t (Ok (Some m))
 
 -- The searches of an iteration whose state is an S, by the engine in the state.
 pub record SearchesOf (E C S X : Type 0) : Type 1 where
@@ -135,62 +135,62 @@ pub record SearchesOf (E C S X : Type 0) : Type 1 where
   pub like : (s : S) (x t : Search) → SameButStart x t → May s x → May s t
   pub goes : (s : S) (t : Search) (a : Answer X) (s' : S) → May s t → asks s t a s' → May s' t
 
-module _ {E C S X : Type 0} (by : SearchesOf E C S X) where
+module _ {E C S X : Type 0} (searches : SearchesOf E C S X) where
   -- e searches
   abbrev pub SearchesAs : E → S → Type 0
-  SearchesAs e s = by.engine s ≡ e
+  SearchesAs e s = searches.engine s ≡ e
 
   -- it gives the answer of its search, does the search's work, and goes on to search
-  pub searches-as : (e : E) (s : S) (t : Search) (a : Answer X) (s' : S) → SearchesAs e s → by.asks s t a s'
-      → by.Tells e t a × by.Work e t a (by.cache s) (by.cache s') × SearchesAs e s'
+  pub searches-as : (e : E) (s : S) (t : Search) (a : Answer X) (s' : S) → SearchesAs e s → searches.asks s t a s'
+      → searches.Tells e t a × searches.Work e t a (searches.cache s) (searches.cache s') × SearchesAs e s'
   searches-as e s t a s' is asked = (
-    subst (λ (b : E). by.Tells b t a) is (by.tells s t a s' asked),
-    subst (λ (b : E). by.Work b t a (by.cache s) (by.cache s')) is (by.works s t a s' asked),
-    by.stays s t a s' asked ∙ is,
+    subst (λ (b : E). searches.Tells b t a) is (searches.tells s t a s' asked),
+    subst (λ (b : E). searches.Work b t a (searches.cache s) (searches.cache s')) is (searches.works s t a s' asked),
+    searches.stays s t a s' asked ∙ is,
   )
 
   -- its answers, as they are told
   abbrev pub answers_as : (e : E) (x : Search) (tells : Search → Answer X → Type 0)
-      → ((t : Search) (a : Answer X) → SameButStart x t → by.Tells e t a → tells t a) → AnswersOf S x tells
-  answers_as e x tells told = record {
-    asks = by.asks;
+      → ((t : Search) (a : Answer X) → SameButStart x t → searches.Tells e t a → tells t a) → AnswersOf S x tells
+  answers_as e x tells given = record {
+    asks = searches.asks;
     Good = SearchesAs e;
     acts = λ s t a s' same is asked.
-        let k = searches-as e s t a s' is asked in (told t a same k.0, k.2);
+        let k = searches-as e s t a s' is asked in (given t a same k.0, k.2);
   }
 
   -- a search on one like x leaves what the next one needs
-  after-like : (x : Search) (s : S) (t : Search) (a : Answer X) (s' : S) → SameButStart x t → by.May s x
-      → by.asks s t a s' → by.May s' x
+  after-like : (x : Search) (s : S) (t : Search) (a : Answer X) (s' : S) → SameButStart x t → searches.May s x
+      → searches.asks s t a s' → searches.May s' x
   after-like x s t a s' same may asked =
-      by.like s' t x (same_start-back x t same) (by.goes s t a s' (by.like s x t same may) asked)
+      searches.like s' t x (same_start-back x t same) (searches.goes s t a s' (searches.like s x t same may) asked)
 
   -- the iterator may search wherever searches like x lead
   pub searches-serve : (P : Search → Answer X → Type 0)
-      → ((e : E) (t : Search) (a : Answer X) → by.Tells e t a → P t a) → (s : S) (x : Search) → by.May s x
-      → ServesOnAlong by.May by.asks SameButStart P s x
-  searches-serve P lies s x may = ServesOnAlong-by by.May by.asks P (λ (q : S). by.May q x) s x may
-      (λ q t same may. by.like q x t same may)
+      → ((e : E) (t : Search) (a : Answer X) → searches.Tells e t a → P t a) → (s : S) (x : Search) → searches.May s x
+      → ServesOnAlong searches.May searches.asks SameButStart P s x
+  searches-serve P lies s x may = ServesOnAlong-by (λ (q : S). searches.May q x) s x may
+      (λ q t same may. searches.like q x t same may)
       (λ q t a q' same may asked. (
-        lies (by.engine q) t a (by.tells q t a q' asked),
+        lies (searches.engine q) t a (searches.tells q t a q' asked),
         after-like x q t a q' same may asked,
       ))
 
   -- and after a step
   pub step-may : {Y : Type 0} (items : ItemsOf S X Y) (s : Steps S) (r : Option (Result Y SearchError)) (t : Steps S)
-      → StepsBy items by.asks s r t → by.May s.backend (steps_iter_state s).at
-      → by.May t.backend (steps_iter_state t).at
+      → StepsBy items searches.asks s r t → searches.May s.backend (steps_iter_state s).at
+      → searches.May t.backend (steps_iter_state t).at
   step-may items s r t st may = elim (chosen s.done st) [
     | inl p ↦ rw p.1.1 may
     | inr p ↦
         let x = (steps_iter_state s).at in
-        let on : by.May t.backend x = step-holds (λ (q : S). by.May q x) (after-like x) may p.1.step in
-        by.like t.backend x (steps_iter_state t).at p.1.same on
+        let on : searches.May t.backend x = step-holds (λ (q : S). searches.May q x) (after-like x) may p.1.step in
+        searches.like t.backend x (steps_iter_state t).at p.1.same on
   ]
 
   -- the engine stays the same
   pub step-stays : {Y : Type 0} (items : ItemsOf S X Y) (e : E) (s : Steps S) (r : Option (Result Y SearchError))
-      (t : Steps S) → StepsBy items by.asks s r t → SearchesAs e s.backend → SearchesAs e t.backend
+      (t : Steps S) → StepsBy items searches.asks s r t → SearchesAs e s.backend → SearchesAs e t.backend
   step-stays items e s r t st is = elim (chosen s.done st) [
     | inl p ↦ rw p.1.1 is
     | inr p ↦ step-holds (λ (q : S). SearchesAs e q)
@@ -208,7 +208,7 @@ module _ {E A C : Type 0} (finder : FinderOf E A C) where
   -- the match that is known answers, if there is one
   pub known-answer : (e : E) (t : Search) (known kept : Option Match) → IsKnownFrom finder.Sure e t known
       → ForSome kept (λ m. (known ≡ Some m) × (m.span.end ≡ t.start)) → IsTrue (is_some kept)
-      → finder.by.Tells e t (answer_by found_of (Ok kept))
+      → finder.engine.Tells e t (answer_by found_of (Ok kept))
   known-answer e t known None knows ends some = let k : false ≡ true = some in cc
   known-answer e t known (Some m) knows ends some =
       let k = ends m refl in
@@ -224,10 +224,10 @@ module _ {E A C : Type 0} (finder : FinderOf E A C) where
       subst (λ (n : ℕ). finder.Sure e (record t { start = n }) (found_of m)) (sym k.1) k.0
 
   abbrev Asks : WithCache A C → Search → Answer Found → WithCache A C → Type 0
-  Asks = AsksEngine finder.Sure finder.shown finder.by.Tells finder.by.Work finder.by.scans
+  Asks = AsksEngine finder.Sure finder.shown finder.engine.Tells finder.engine.Work finder.engine.scans
 
   abbrev May : WithCache A C → Search → Type 0
-  May = MayFind finder.Sure finder.shown finder.by.Fits
+  May = MayFind finder.Sure finder.shown finder.engine.Fits
 
   pub find-like : (s : WithCache A C) (x t : Search) → SameButStart x t → May s x → May s t
   find-like s x t same may = record {
@@ -235,13 +235,14 @@ module _ {E A C : Type 0} (finder : FinderOf E A C) where
     knows = known-like (finder.shown s.backend).engine x t (finder.shown s.backend).known same may.knows;
   }
 
-  pub find-goes : (s : WithCache A C) (t : Search) (a : Answer Found) (s' : WithCache A C) → May s t → Asks s t a s' → May s' t
+  pub find-goes : (s : WithCache A C) (t : Search) (a : Answer Found) (s' : WithCache A C) → May s t → Asks s t a s'
+      → May s' t
   find-goes s t a s' may asked = record { fits = rw asked.engine fits; knows = asked.knows }
     where
-      fits : finder.by.Fits s'.cache (finder.shown s.backend).engine
+      fits : finder.engine.Fits s'.cache (finder.shown s.backend).engine
       fits = elim (same-or-made asked.work) [
         | inl same ↦ rw same may.fits
-        | inr work ↦ finder.by.stays (finder.shown s.backend).engine t a s.cache s'.cache work may.fits
+        | inr work ↦ finder.engine.stays (finder.shown s.backend).engine t a s.cache s'.cache work may.fits
       ]
 
   -- its searches, unless their match is known
@@ -251,8 +252,8 @@ module _ {E A C : Type 0} (finder : FinderOf E A C) where
     cache = λ s. keeping finder.shown s;
     asks = Asks;
     May = May;
-    Tells = finder.by.Tells;
-    Work = λ e. SearchesUnlessKnown (finder.by.Work e) finder.by.scans;
+    Tells = finder.engine.Tells;
+    Work = λ e. SearchesUnlessKnown (finder.engine.Work e) finder.engine.scans;
     tells = λ s t a s' asked. asked.finds;
     works = λ s t a s' asked. asked.work;
     stays = λ s t a s' asked. asked.engine;
@@ -262,14 +263,14 @@ module _ {E A C : Type 0} (finder : FinderOf E A C) where
 
 -- ---- engines that fill captures
 
-module _ {E C : Type 0} (by : EngineOf E C Row) where
+module _ {E C : Type 0} (engine : EngineOf E C Row) where
   abbrev AsksRow : WithCache (WithCaptures E) C → Search → Answer Row → WithCache (WithCaptures E) C → Type 0
-  AsksRow = AsksEngineRow by.nfa by.Tells by.Work
+  AsksRow = AsksEngineRow engine.nfa engine.Tells engine.Work
 
   pub fill-goes : (s : WithCache (WithCaptures E) C) (x : Search) (a : Answer Row) (t : WithCache (WithCaptures E) C)
-      → MayFill by.nfa by.Fits s → AsksRow s x a t → MayFill by.nfa by.Fits t
+      → MayFill engine.nfa engine.Fits s → AsksRow s x a t → MayFill engine.nfa engine.Fits t
   fill-goes s x a t may asked = record {
-    fits = rw asked.engine (by.stays s.backend.finder x a s.cache t.cache asked.work may.fits);
+    fits = rw asked.engine (engine.stays s.backend.finder x a s.cache t.cache asked.work may.fits);
     holds = rw asked.engine asked.holds;
   }
 
@@ -279,9 +280,9 @@ module _ {E C : Type 0} (by : EngineOf E C Row) where
     engine = λ s. s.backend.finder;
     cache = λ s. s.cache;
     asks = AsksRow;
-    May = λ s x. MayFill by.nfa by.Fits s;
-    Tells = by.Tells;
-    Work = by.Work;
+    May = λ s x. MayFill engine.nfa engine.Fits s;
+    Tells = engine.Tells;
+    Work = engine.Work;
     tells = λ s t a s' asked. asked.tells;
     works = λ s t a s' asked. asked.work;
     stays = λ s t a s' asked. asked.engine;

@@ -22,7 +22,8 @@ module _ {X Y : Type 0} (view : Y → X) (a : Answer X) (ends : SearchError → 
   Says (Some (Err e)) = ends e
 
 -- an item that is its answer says that it is
-pub item-says : {X Y : Type 0} (view : Y → X) (step : Answer X → Type 0) (a : Answer X) (r : Option (Result Y SearchError))
+pub item-says : {X Y : Type 0} (view : Y → X) (step : Answer X → Type 0) (a : Answer X)
+    (r : Option (Result Y SearchError))
     → GivesItem view a r → step a → Says view a (λ e. step (Err e)) r
 item-says view step (Ok (Some x)) (Some (Ok y)) gives is = cc
 item-says view step (Ok None) None gives is = refl
@@ -35,7 +36,8 @@ abbrev pub FailsOrRefuses : {X : Type 0} → (Answer X → Type 0) → SearchErr
 FailsOrRefuses {X} step e = step (Err e) ⊎ ((e ≡ Memory) × (x : X) × step (Ok (Some x)))
 
 -- an item says what its step answers; an error may be a refusal of the copy
-pub copy-says : (step : Answer Row → Type 0) (c : Captured) (a : Answer Row) (r : Option (Result Captured SearchError))
+pub copy-says : (step : Answer Row → Type 0) (c : Captured) (a : Answer Row)
+    (r : Option (Result Captured SearchError))
     → GivesCopy c a r → step a → Says row_of a (FailsOrRefuses step) r
 copy-says step c (Ok (Some row)) (Some (Ok d)) (inl h) is =
     let same : d ≡ c = cc in

@@ -4,17 +4,16 @@ use Rattle.std.proofs.Common.{Option, None, Some, Result, Ok, Err, List, [], ◌
 use Rattle.std.specs.Iterator.{Yields}
 use Rattle.std.specs.Option.{option_map}
 use Rattle.std.specs.Prelude.{IfOk}
-use Rattle.regex_search_core.specs.Found.{Found, found_of}
+use Rattle.regex_search_core.specs.Found.{found_of}
 use Rattle.regex_search_core.specs.Search.{Search}
 use Rattle.regex_search_core.specs.declared.search.Match.{Match}
 use Rattle.nfa_search_base.specs.Drained.{CallsLead, DrainsAll}
 use Rattle.nfa_search_base.specs.Leaving.{DoesSearch, FindsLeave, FindsLeaveAtEnd, Leaves, LeavesAtEnd, StepsLead}
 use Rattle.nfa_search_base.specs.Leaving.{answers_to_end}
 use Rattle.nfa_search_base.specs.Runs.{GivesKept}
-use Rattle.nfa_search_base.specs.WithCache.{WithCache}
 use Rattle.nfa_search_base.specs.Steps.{TakesStep}
 use Rattle.nfa_search_base.specs.Stored.{steps_iter_state}
-use Rattle.nfa_search_base.specs.IterStates.{Advances, Answer, IterState, fresh, answer_span, repeats, shifted, span_of}
+use Rattle.nfa_search_base.specs.IterStates.{Advances, Answer, IterState, answer_span, repeats, shifted, span_of}
 use Rattle.nfa_search_base.specs.declared.error.SearchError.{SearchError}
 use Rattle.nfa_search_base.specs.declared.iter.steps.Steps.{Steps}
 use Rattle.nfa_search_base.proofs.EngineLemmas.{FinderOf, SearchesAs, SearchesOf, finds_by, searches-as}
@@ -24,41 +23,56 @@ use Rattle.nfa_search_base.proofs.ShellLemmas.{ShellOf, yields-inner}
 use Rattle.nfa_search_base.proofs.StepLemmas.{chosen}
 
 -- The engine e searches.
-module _ {E C S X Y : Type 0} (by : SearchesOf E C S X) (items : ItemsOf S X Y) (e : E) where
+module _ {E C S X Y : Type 0} (searches : SearchesOf E C S X) (items : ItemsOf S X Y) (e : E) where
   abbrev steps : Steps S → Option (Result Y SearchError) → Steps S → Type 0
-  steps = StepsBy items by.asks
+  steps = StepsBy items searches.asks
 
   -- a search, by what it does with the cache
   abbrev Does : C → Search → Answer X → C → Type 0
-  Does = DoesSearch (by.Tells e) (by.Work e)
+  Does = DoesSearch (searches.Tells e) (searches.Work e)
+
+  abbrev cache_in : Steps S → C
+  cache_in s = searches.cache s.backend
+
+  -- an iteration over x led from cache to cache by such searches, and to its end past these matches
+  abbrev pub LeavesBy : Search → C → C → Type 0
+  LeavesBy = Leaves items.span Does
+
+  abbrev pub LeavesAtEndBy : Search → List X → C → C → Type 0
+  LeavesAtEndBy = LeavesAtEnd items.span Does
 
   abbrev Leads : IterState → C → List (Answer X) → C → Type 0
   Leads = StepsLead items.span Does
 
-  acts : (s : S) (t : Search) (a : Answer X) (s' : S) → SearchesAs by e s → by.asks s t a s'
-      → Does (by.cache s) t a (by.cache s') × SearchesAs by e s'
-  acts s t a s' is asked = let k = searches-as by e s t a s' is asked in (record { tells = k.0; work = k.1 }, k.2)
+  acts : (s : S) (t : Search) (a : Answer X) (s' : S) → SearchesAs searches e s → searches.asks s t a s'
+      → Does (searches.cache s) t a (searches.cache s') × SearchesAs searches e s'
+  acts s t a s' is asked = let k = searches-as searches e s t a s' is asked in (record { tells = k.0; work = k.1 }, k.2)
 
   says : (s : S) (a : Answer X) (y : Y) → items.gives s a (Some (Ok y)) → a ≡ Ok (Some (items.view y))
   says s a y gives = items.says (λ b. Unit {0}) s a (Some (Ok y)) gives tt
 
-  advance-seen : (s : S) (w : IterState) (a : Answer X) (s' : S) (w' : IterState) → SearchesAs by e s
-      → Advances items.span by.asks s w a s' w'
-      → Advances items.span Does (by.cache s) w a (by.cache s') w' × SearchesAs by e s'
-  advance-seen s w a s' w' good step =
+  advance-cache : (s : S) (w : IterState) (a : Answer X) (s' : S) (w' : IterState) → SearchesAs searches e s
+      → Advances items.span searches.asks s w a s' w'
+      → Advances items.span Does (searches.cache s) w a (searches.cache s') w' × SearchesAs searches e s'
+  advance-cache s w a s' w' good step =
       let one = acts s w.at step.answer step.between good step.first in
       elim (chosen (repeats w (answer_span items.span step.answer)) step.rest) [
         | inl p ↦
             let two = acts step.between (shifted w).at a s' one.1 p.1.0 in (
-              record { answer = step.answer; between = by.cache step.between; first = one.0; rest = rw p.0 (two.0, p.1.1) },
+              record {
+                answer = step.answer;
+                between = searches.cache step.between;
+                first = one.0;
+                rest = rw p.0 (two.0, p.1.1);
+              },
               two.1,
             )
         | inr p ↦ (
           record {
             answer = step.answer;
-            between = by.cache step.between;
+            between = searches.cache step.between;
             first = one.0;
-            rest = rw p.0 (p.1.0, ap by.cache p.1.1, p.1.2);
+            rest = rw p.0 (p.1.0, ap searches.cache p.1.1, p.1.2);
           },
           rw p.1.1 one.1,
         )
@@ -77,7 +91,8 @@ module _ {E C S X Y : Type 0} (by : SearchesOf E C S X) (items : ItemsOf S X Y) 
 
   -- any other call is a step
   turn : (s : Steps S) (r : Option (Result Y SearchError)) (u : Steps S) → s.done ≡ false → steps s r u
-      → TakesStep items.span by.asks items.gives s.backend (steps_iter_state s) r u.backend (steps_iter_state u) u.done
+      → TakesStep items.span searches.asks items.gives s.backend (steps_iter_state s) r u.backend (steps_iter_state u)
+      u.done
   turn s r u going st = rw going at st
 
   only : (w : IterState) (a : Answer X) (p q : C) (v : IterState) → Advances items.span Does p w a q v
@@ -88,48 +103,47 @@ module _ {E C S X Y : Type 0} (by : SearchesOf E C S X) (items : ItemsOf S X Y) 
 
   -- the iterator has not ended
   abbrev pub IsGoing : Steps S → Type 0
-  IsGoing s = (s.done ≡ false) × SearchesAs by e s.backend
+  IsGoing s = (s.done ≡ false) × SearchesAs searches e s.backend
 
   advance-in : (s : Steps S) (on : IsGoing s) (r : Option (Result Y SearchError)) (u : Steps S) (st : steps s r u)
-      → Advances items.span Does (by.cache s.backend) (steps_iter_state s) (turn s r u on.0 st).answer
-      (by.cache u.backend) (steps_iter_state u) × SearchesAs by e u.backend
+      → Advances items.span Does (cache_in s) (steps_iter_state s) (turn s r u on.0 st).answer (cache_in u)
+      (steps_iter_state u) × SearchesAs searches e u.backend
   advance-in s on r u st =
       let one = turn s r u on.0 st in
-      advance-seen s.backend (steps_iter_state s) one.answer u.backend (steps_iter_state u) on.1 one.step
+      advance-cache s.backend (steps_iter_state s) one.answer u.backend (steps_iter_state u) on.1 one.step
 
   from : (xs : List (Result Y SearchError)) (s t u : Steps S) (r : Option (Result Y SearchError)) → IsGoing s
       → Yields steps s xs t → steps t r u
-      → (first : Answer X) × (rest : List (Answer X)) × Leads (steps_iter_state s) (by.cache s.backend) (first ∷ rest)
-      (by.cache u.backend)
+      → (first : Answer X) × (rest : List (Answer X)) × Leads (steps_iter_state s) (cache_in s) (first ∷ rest)
+      (cache_in u)
   from [] s t u r on ran st =
       let a = (turn s r u on.0 (rw ran st)).answer in
       let k = advance-in s on r u (rw ran st) in
-      (a, [], only (steps_iter_state s) a (by.cache s.backend) (by.cache u.backend) (steps_iter_state u) k.0)
+      (a, [], only (steps_iter_state s) a (cache_in s) (cache_in u) (steps_iter_state u) k.0)
   from (Ok y ∷ xs) s t u r on ran st =
       let q = ran.0 in
       let one = turn s (Some (Ok y)) q on.0 ran.1 in
       let k = advance-in s on (Some (Ok y)) q ran.1 in
       let rest = from xs q t u r (one.ends, k.1) ran.2 st in
       let is : one.answer ≡ Ok (Some (items.view y)) = says q.backend one.answer y one.item in
-      (Ok (Some (items.view y)), rest.0 ∷ rest.1, (by.cache q.backend, steps_iter_state q, rw is at k.0, rest.2))
+      (Ok (Some (items.view y)), rest.0 ∷ rest.1, (cache_in q, steps_iter_state q, rw is at k.0, rest.2))
   from (Err error ∷ xs) s t u r on ran st =
       let q = ran.0 in
       let one = turn s (Some (Err error)) q on.0 ran.1 in
       let k = advance-in s on (Some (Err error)) q ran.1 in
       let same : u ≡ q = all-still xs q t u r one.ends ran.2 st in
-      let leads = only (steps_iter_state s) one.answer (by.cache s.backend) (by.cache q.backend) (steps_iter_state q)
-      k.0 in
+      let leads = only (steps_iter_state s) one.answer (cache_in s) (cache_in q) (steps_iter_state q) k.0 in
       (one.answer, [], rw same leads)
 
   -- what calls leave of an iterator that goes on
   pub calls-leave : (s u : Steps S) → IsGoing s → CallsLead steps s u
-      → (first : Answer X) × (rest : List (Answer X)) × Leads (steps_iter_state s) (by.cache s.backend) (first ∷ rest)
-      (by.cache u.backend)
+      → (first : Answer X) × (rest : List (Answer X)) × Leads (steps_iter_state s) (cache_in s) (first ∷ rest)
+      (cache_in u)
   calls-leave s u on lead = from lead.items s lead.last u lead.item on lead.ran lead.over
 
   -- and what they leave if they go on to none
   pub all-leave : (ys : List Y) (s t u : Steps S) → IsGoing s → Yields steps s (map Ok ys) t → steps t None u
-      → Leads (steps_iter_state s) (by.cache s.backend) (answers_to_end (map items.view ys)) (by.cache u.backend)
+      → Leads (steps_iter_state s) (cache_in s) (answers_to_end (map items.view ys)) (cache_in u)
   all-leave [] s t u on ran st =
       let one = turn s None u on.0 (rw ran st) in
       let is : one.answer ≡ Ok None = items.says (λ b. Unit {0}) u.backend one.answer None one.item tt in
@@ -139,42 +153,41 @@ module _ {E C S X Y : Type 0} (by : SearchesOf E C S X) (items : ItemsOf S X Y) 
       let one = turn s (Some (Ok y)) q on.0 ran.1 in
       let k = advance-in s on (Some (Ok y)) q ran.1 in
       let is : one.answer ≡ Ok (Some (items.view y)) = says q.backend one.answer y one.item in
-      (by.cache q.backend, steps_iter_state q, rw is at k.0, all-leave ys q t u (one.ends, k.1) ran.2 st)
+      (cache_in q, steps_iter_state q, rw is at k.0, all-leave ys q t u (one.ends, k.1) ran.2 st)
 
 -- ---- steps
 
-module _ {E C S X Y : Type 0} (by : SearchesOf E C S X) (items : ItemsOf S X Y) (e : E) {x : Search} {s : Steps S}
-    (begins : Begins (SearchesAs by e) x s) where
+module _ {E C S X Y : Type 0} (searches : SearchesOf E C S X) (items : ItemsOf S X Y) (e : E) {x : Search} {s : Steps S}
+    (begins : Begins (SearchesAs searches e) x s) where
   -- the cache changes only by the searches of the steps
-  pub steps-leave : (t : Steps S) → CallsLead (StepsBy items by.asks) s t
-      → Leaves items.span (DoesSearch (by.Tells e) (by.Work e)) x (by.cache s.backend) (by.cache t.backend)
+  pub steps-leave : (t : Steps S) → CallsLead (StepsBy items searches.asks) s t
+      → LeavesBy searches items e x (searches.cache s.backend) (searches.cache t.backend)
   steps-leave t lead =
-      let k = calls-leave by items e s t (begins.going, begins.good) lead in
+      let k = calls-leave searches items e s t (begins.going, begins.good) lead in
       record { answers = k.0 ∷ k.1; steps = rw begins.iter_state at k.2 }
 
   -- and past all matches if they go on to none
-  pub steps-to_end : (ys : List Y) (t : Steps S) → DrainsAll (StepsBy items by.asks) s ys t
-      → LeavesAtEnd items.span (DoesSearch (by.Tells e) (by.Work e)) x (map items.view ys) (by.cache s.backend)
-      (by.cache t.backend)
+  pub steps-to_end : (ys : List Y) (t : Steps S) → DrainsAll (StepsBy items searches.asks) s ys t
+      → LeavesAtEndBy searches items e x (map items.view ys) (searches.cache s.backend) (searches.cache t.backend)
   steps-to_end ys t all =
-      let leave = all-leave by items e ys s all.last t in
+      let leave = all-leave searches items e ys s all.last t in
       record { steps = rw begins.iter_state at (leave (begins.going, begins.good) all.ran all.over) }
 
   -- and so if a result holds them
   pub all-to_end : {V : Type 0} (r : Result V SearchError) (ys : V → List Y) (t : Steps S)
-      → IfOk r (λ v. DrainsAll (StepsBy items by.asks) s (ys v) t)
-      → IfOk r (λ v. LeavesAtEnd items.span (DoesSearch (by.Tells e) (by.Work e)) x (map items.view (ys v))
-      (by.cache s.backend) (by.cache t.backend))
+      → IfOk r (λ v. DrainsAll (StepsBy items searches.asks) s (ys v) t)
+      → IfOk r (λ v. LeavesAtEndBy searches items e x (map items.view (ys v)) (searches.cache s.backend)
+      (searches.cache t.backend))
   all-to_end (Ok v) ys t all = steps-to_end (ys v) t all
   all-to_end (Err error) ys t all = tt
 
 -- ---- iterators around steps
 
-module _ {E C S X Y T R : Type 0} (by : SearchesOf E C S X) (items : ItemsOf S X Y) {item : R → Result Y SearchError}
-    (shell : ShellOf (StepsBy items by.asks) item T) where
+module _ {E C S X Y T R : Type 0} (searches : SearchesOf E C S X) (items : ItemsOf S X Y)
+    {item : R → Result Y SearchError} (shell : ShellOf (StepsBy items searches.asks) item T) where
   -- calls of the shell are calls of the steps
   pub calls-lead : (xs : List R) (s t : T) (r : Option R) (u : T) → Yields shell.calls s xs t → shell.calls t r u
-      → CallsLead (StepsBy items by.asks) (shell.inner s) (shell.inner u)
+      → CallsLead (StepsBy items searches.asks) (shell.inner s) (shell.inner u)
   calls-lead xs s t r u ran st = record {
     items = map item xs;
     last = shell.inner t;
@@ -183,20 +196,20 @@ module _ {E C S X Y T R : Type 0} (by : SearchesOf E C S X) (items : ItemsOf S X
     over = shell.is t r u st;
   }
 
-  module _ (e : E) {x : Search} (s : T) (begins : Begins (SearchesAs by e) x (shell.inner s)) where
+  module _ (e : E) {x : Search} (s : T) (begins : Begins (SearchesAs searches e) x (shell.inner s)) where
     -- the cache changes only by the searches of the calls
-    pub shell-leaves : GivesKept shell.calls (λ p q. Leaves items.span (DoesSearch (by.Tells e) (by.Work e)) x
-        (by.cache (shell.inner p).backend) (by.cache (shell.inner q).backend)) s
+    pub shell-leaves : GivesKept shell.calls (λ p q. LeavesBy searches items e x
+        (searches.cache (shell.inner p).backend) (searches.cache (shell.inner q).backend)) s
     shell-leaves = λ xs t r u ran st.
-        steps-leave by items e begins (shell.inner u) (calls-lead xs s t r u ran st)
+        steps-leave searches items e begins (shell.inner u) (calls-lead xs s t r u ran st)
 
     -- and past all matches if they go on to none
     pub shell-to_end : (xs : List R) (ys : List Y) (t u : T) → map item xs ≡ map (λ y. Ok y) ys
         → Yields shell.calls s xs t → shell.calls t None u
-        → LeavesAtEnd items.span (DoesSearch (by.Tells e) (by.Work e)) x (map items.view ys)
-        (by.cache (shell.inner s).backend) (by.cache (shell.inner u).backend)
+        → LeavesAtEndBy searches items e x (map items.view ys)
+        (searches.cache (shell.inner s).backend) (searches.cache (shell.inner u).backend)
     shell-to_end xs ys t u same ran st =
-        steps-to_end by items e begins ys (shell.inner u) (record {
+        steps-to_end searches items e begins ys (shell.inner u) (record {
           last = shell.inner t;
           ran = rw same at (yields-inner shell xs s t ran);
           over = shell.is t None u st;
@@ -209,8 +222,8 @@ module _ {E A C T R : Type 0} (finder : FinderOf E A C) {item : R → Result Mat
     (begins : Begins (SearchesAs (finds_by finder) e) x (shell.inner s))
     (known : (finder.shown (shell.inner s).backend.backend).known ≡ None) where
   -- an iteration that knew nothing leaves the cache of its searches
-  pub finds-leave : GivesKept shell.calls (λ p q. FindsLeave (finder.by.Tells e) (finder.by.Work e) finder.by.scans x
-      (shell.inner p).backend.cache (shell.inner q).backend.cache) s
+  pub finds-leave : GivesKept shell.calls (λ p q. FindsLeave (finder.engine.Tells e) (finder.engine.Work e)
+      finder.engine.scans x (shell.inner p).backend.cache (shell.inner q).backend.cache) s
   finds-leave = λ xs t r u ran st.
       let leaves = shell-leaves (finds_by finder) (items_as span_of found_of) shell e s begins in
       record {
@@ -220,7 +233,7 @@ module _ {E A C T R : Type 0} (finder : FinderOf E A C) {item : R → Result Mat
 
   pub finds-to_end : (xs : List R) (ms : List Match) (t u : T) → map item xs ≡ map (λ m. Ok m) ms
       → Yields shell.calls s xs t → shell.calls t None u
-      → FindsLeaveAtEnd (finder.by.Tells e) (finder.by.Work e) finder.by.scans x (map found_of ms)
+      → FindsLeaveAtEnd (finder.engine.Tells e) (finder.engine.Work e) finder.engine.scans x (map found_of ms)
       (shell.inner s).backend.cache (shell.inner u).backend.cache
   finds-to_end xs ms t u same ran st =
       let to_end = shell-to_end (finds_by finder) (items_as span_of found_of) shell e s begins in

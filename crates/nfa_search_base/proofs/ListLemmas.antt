@@ -50,6 +50,22 @@ pub items-view : {X Y : Type 0} (view : Y → X) (ys : List Y)
 items-view view [] = refl
 items-view {X} view (y ∷ ys) = ap (λ (l : List (Item X)). Ok (view y) ∷ l) (items-view view ys)
 
+pub matches_in-as_items : {X : Type 0} (xs : List X) → matches_in (as_items xs) ≡ xs
+matches_in-as_items [] = refl
+matches_in-as_items (x ∷ xs) = ap (λ l. x ∷ l) (matches_in-as_items xs)
+
+-- the rest of items that are matches are matches
+as_items-rest : {X : Type 0} (xs ys : List X) (more : List (Item X)) → as_items ys ≡ as_items xs ++ more
+    → (rest : List X) × (ys ≡ xs ++ rest)
+as_items-rest [] ys more e = (ys, refl)
+as_items-rest (x ∷ xs) [] more e = cc
+as_items-rest {X} (x ∷ xs) (y ∷ ys) more e =
+    let head : (let a : Item X = Ok y in let b : Item X = Ok x in a ≡ b) = cc in
+    let tail : as_items ys ≡ as_items xs ++ more = cc in
+    let same : y ≡ x = cc in
+    let rest = as_items-rest xs ys more tail in
+    (rest.0, ap (λ (z : X). z ∷ ys) same ∙ ap (λ (l : List X). x ∷ l) rest.1)
+
 -- If answers of `under` are answers of `tells` as f shows them, so are the steps.
 module _ {X Y : Type 0} (span : X → Span) (span' : Y → Span) (under : Search → Answer X → Type 0)
     (tells : Search → Answer Y → Type 0) (f : Answer X → Answer Y)
@@ -152,6 +168,19 @@ module _ {X : Type 0} (span : X → Span) (tells : Search → Answer X → Type 
         let less = next-rest w ys xs (last-next (Fails span tells) w ys k) h in
         none-left xs ys more.0 less.0 more.1 less.1
 
+    -- so there is one list of values
+    pub values-unique : (w : IterState) (xs ys : List X) → Last w (as_items xs) → Last w (as_items ys) → xs ≡ ys
+    values-unique w xs ys h k =
+        sym (matches_in-as_items xs)
+        ∙ ap (λ (l : List (Item X)). matches_in l) (last-unique w (as_items xs) (as_items ys) h k)
+        ∙ matches_in-as_items ys
+
+    -- and the first values are followed by its rest
+    pub values-rest : (w : IterState) (xs ys : List X) → Next w (as_items xs) → Last w (as_items ys)
+        → (more : List X) × (ys ≡ xs ++ more)
+    values-rest w xs ys h k =
+        let rest = next-rest w (as_items xs) (as_items ys) h k in as_items-rest xs ys rest.0 rest.1
+
   -- if the answer of a search is in its span
   module _ (lies : (t : Search) (a : Answer X) → tells t a
       → AnswerIsInside span t a × IsOrdered (answer_span span a)) where
@@ -210,6 +239,12 @@ module _ {X : Type 0} (span : X → Span) (tells : Search → Answer X → Type 
           step-behind w m behind h.0,
           spans-disjoint ends x (past w m) items (omega (arith, k.0, k.1, from)) to (behind-after (span m).end) h.1,
         )
+
+    -- the same for all matches of a search
+    pub fresh-disjoint : (ends : IterState → SearchError → Type 0) (x : Search) (items : List (Item X))
+        → ItemsNext span tells ends (fresh x) items → AreSpansDisjoint x None (map span (matches_in items))
+    fresh-disjoint ends x items h =
+        let disjoint = spans-disjoint ends x (fresh x) items in disjoint (omega arith) refl (behind-none x.start) h
 
     -- If h gives the answers of a search, the greedy walk by h gives the list.
     module _ (h : Search → Answer X) where
@@ -272,22 +307,6 @@ module _ {X : Type 0} (span : X → Span) (tells : Search → Answer X → Type 
       unfolding greedy
       items-greedy x gives = come-greedy (suc (ends_left (fresh x))) (fresh x) (omega arith) (behind-none x.start) gives
 
-pub matches_in-as_items : {X : Type 0} (xs : List X) → matches_in (as_items xs) ≡ xs
-matches_in-as_items [] = refl
-matches_in-as_items (x ∷ xs) = ap (λ l. x ∷ l) (matches_in-as_items xs)
-
--- the rest of items that are matches are matches
-as_items-rest : {X : Type 0} (xs ys : List X) (more : List (Item X)) → as_items ys ≡ as_items xs ++ more
-    → (rest : List X) × (ys ≡ xs ++ rest)
-as_items-rest [] ys more e = (ys, refl)
-as_items-rest (x ∷ xs) [] more e = cc
-as_items-rest {X} (x ∷ xs) (y ∷ ys) more e =
-    let head : (let a : Item X = Ok y in let b : Item X = Ok x in a ≡ b) = cc in
-    let tail : as_items ys ≡ as_items xs ++ more = cc in
-    let same : y ≡ x = cc in
-    let rest = as_items-rest xs ys more tail in
-    (rest.0, ap (λ (z : X). z ∷ ys) same ∙ ap (λ (l : List X). x ∷ l) rest.1)
-
 -- spans that do not overlap are those of matches that do not
 AreDisjoint-spans : (x : Search) (last : Option ℕ) (ms : List Found) → AreSpansDisjoint x last (map span_of ms)
     → AreDisjoint x last ms
@@ -304,7 +323,7 @@ module _ (tells : Search → Answer Found → Type 0)
   pub items-disjoint : (x : Search) (items : List (Item Found)) → ItemsNext span_of tells ends (fresh x) items
       → AreDisjoint x None (matches_in items)
   items-disjoint x items h = AreDisjoint-spans x None (matches_in items)
-      (spans-disjoint span_of tells lies ends x (fresh x) items (omega arith) refl (behind-none x.start) h)
+      (fresh-disjoint span_of tells lies ends x items h)
 
 module _ (nfa : Automaton) (kind : MatchKind) (earliest : Bool) where
   abbrev tells : Search → Answer Found → Type 0
@@ -348,19 +367,13 @@ module _ (nfa : Automaton) (kind : MatchKind) (earliest : Bool) where
   -- and one at most
   pub matches-unique : (x : Search) (xs ys : List Found) → AreMatches nfa kind earliest x xs
       → AreMatches nfa kind earliest x ys → xs ≡ ys
-  matches-unique x xs ys h k =
-      sym (matches_in-as_items xs)
-      ∙ ap (λ (l : List (Item Found)). matches_in l)
-      (last-unique span_of tells one-answer (fresh x) (as_items xs) (as_items ys) h.come k.come)
-      ∙ matches_in-as_items ys
+  matches-unique x xs ys h k = values-unique span_of tells one-answer (fresh x) xs ys h.come k.come
 
   -- the rest of the list follows the first matches
   pub matches-rest : (x : Search) (xs ys : List Found) → AreFirstMatches nfa kind earliest x xs
       → AreMatches nfa kind earliest x ys
       → (more : List Found) × (ys ≡ xs ++ more)
-  matches-rest x xs ys h k =
-      let rest = next-rest span_of tells one-answer (fresh x) (as_items xs) (as_items ys) h.come k.come in
-      as_items-rest xs ys rest.0 rest.1
+  matches-rest x xs ys h k = values-rest span_of tells one-answer (fresh x) xs ys h.come k.come
 
   -- if a match was given, there is a match
   pub none-before : (x : Search) (ms : List Match) (m : Match)

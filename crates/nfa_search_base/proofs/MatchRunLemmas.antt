@@ -2,24 +2,38 @@
 use Rattle.std.proofs.Common.{◌≡◌, ◌∙◌, ℕ, ap, arith}
 use Rattle.std.proofs.Common.{Option, None, Some, Ok, List, [], ◌∷◌, ◌++◌, map, length, length-append}
 use Rattle.std.specs.Prelude.{All}
+use Rattle.std.specs.Iterator.Runs.{EachRunFrom, ItemsMapTo}
 use Rattle.std.proofs.lemmas.List.Elements.{All-nil, All-cons}
 use Rattle.std.proofs.iter.runs.Sources.{lists}
-use Rattle.regex_search_core.specs.Found.{Found, found_of}
+use Rattle.regex_search_core.specs.Found.{found_of}
 use Rattle.regex_search_core.specs.Search.{Search}
 use Rattle.regex_search_core.specs.declared.search.Match.{Match}
 use Rattle.regex_search_core.specs.declared.search.MatchKind.{MatchKind}
 use Rattle.thompson_nfa.specs.Automaton.{Automaton}
-use Rattle.nfa_search_base.specs.Lists.{AnswersMatch, AreDisjoint, IsInside}
+use Rattle.nfa_search_base.specs.Lists.{AnswersMatch, AreDisjoint, AreFirstMatches, AreMatches, IsInside}
 use Rattle.nfa_search_base.specs.MatchRuns.{AreFirst, AreAll, MatchesRun, MatchesFirst, MatchesNext, MatchesAre}
 use Rattle.nfa_search_base.specs.MatchRuns.{MatchesDisjoint}
+use Rattle.nfa_search_base.specs.Runs.{RunsGive}
 use Rattle.nfa_search_base.specs.IterStates.{span_of}
 use Rattle.nfa_search_base.proofs.ItemLemmas.{StepsBy, items_as}
 use Rattle.nfa_search_base.proofs.ListLemmas.{items-view, matches-disjoint, matches-rest, matches-unique}
 use Rattle.nfa_search_base.proofs.RunLemmas.{AnswersOf, Begins, Given, given, items-given}
 use Rattle.nfa_search_base.proofs.ShellLemmas.{ShellOf}
 
-no-more : (xs more : List Found) → xs ≡ xs ++ more → length more ≡ 0
-no-more xs more e = omega (arith, ap length e, length-append xs more)
+-- If the rest of a list follows first values, and there is one list, the items of each run are its first elements.
+pub runs-are : {T X Y : Type 0} (steps : T → Option Y → T → Type 0) (view : Y → X) (First Whole : List X → Type 0)
+    → ((xs ys : List X) → First xs → Whole ys → (more : List X) × (ys ≡ xs ++ more))
+    → ((xs ys : List X) → Whole xs → Whole ys → xs ≡ ys) → (s : T)
+    → RunsGive steps (λ ys. First (map view ys)) (λ ys. Whole (map view ys)) s
+    → EachRunFrom steps s (λ p. (all : List X) → Whole all → ItemsMapTo p view all)
+runs-are {X = X} steps view First Whole follows one s run = λ p seen from all them.
+    let k = run p seen from in
+    let rest = follows (map view p.items) all k.0 them in
+    lists p view all rest.0
+    (λ whole. no-more (map view p.items) rest.0 (one (map view p.items) all (k.1 whole) them ∙ rest.1)) rest.1
+  where
+    no-more : (xs more : List X) → xs ≡ xs ++ more → length more ≡ 0
+    no-more xs more e = omega (arith, ap length e, length-append xs more)
 
 -- matches that are apart are in the span
 pub all-inside : (x : Search) (last : Option ℕ) (ms : List Match) → AreDisjoint x last (map found_of ms)
@@ -59,11 +73,6 @@ module _ (nfa : Automaton) (kind : MatchKind) {S T : Type 0} {x : Search}
     disjoint = λ p seen from.
         let k = matches-disjoint nfa kind x.earliest x (map found_of p.items) (found.run p seen from).0 in
         (k, all-inside x None p.items k);
-    are = λ p seen from all them.
-        let k = found.run p seen from in
-        let rest = matches-rest nfa kind x.earliest x (map found_of p.items) all k.0 them in
-        lists p found_of all rest.0 (λ whole.
-        let same : map found_of p.items ≡ all = matches-unique nfa kind x.earliest x (map found_of p.items) all
-        (k.1 whole) them in
-        no-more (map found_of p.items) rest.0 (same ∙ rest.1)) rest.1;
+    are = runs-are shell.calls found_of (AreFirstMatches nfa kind x.earliest x) (AreMatches nfa kind x.earliest x)
+        (matches-rest nfa kind x.earliest x) (matches-unique nfa kind x.earliest x) s found.run;
   }

@@ -62,84 +62,86 @@ module _ {T Y : Type 0} {First Whole : List (Result Y SearchError) → Type 0} {
   oked-next xs t i u ys y ran st are ok =
       taken.first (ys ++ y ∷ []) (subst First (oks xs ys i y are ok) (given.next xs t i u ran st))
 
--- What searches answer, as their callers are told. Without an error, that is the answer of a `clean` search, in its span.
-pub record ToldOf {X : Type 0} (span : X → Span) : Type 1 where
+-- What searches answer, as their callers are told. Without an error, that is the answer of a `clean` search, which is
+-- in its span.
+pub record ResultsOf {X : Type 0} (span : X → Span) : Type 1 where
   pub tells : Search → Answer X → Type 0
   pub clean : Search → Answer X → Type 0
   pub ok : (t : Search) (o : Option X) → tells t (Ok o) → clean t (Ok o)
   pub lies : (t : Search) (a : Answer X) → clean t a → AnswerIsInside span t a × IsOrdered (answer_span span a)
 
-module _ {S X Y : Type 0} (items : ItemsOf S X Y) (told : ToldOf items.span) where
+module _ {S X Y : Type 0} (items : ItemsOf S X Y) (results : ResultsOf items.span) where
   -- the span of an answer, and what a step answers
   abbrev span_in : Answer X → Option Span
   span_in = answer_span items.span
 
   abbrev Tells : IterState → Answer X → Type 0
-  Tells = IsStep items.span told.tells
+  Tells = IsStep items.span results.tells
 
   abbrev Clean : IterState → Answer X → Type 0
-  Clean = IsStep items.span told.clean
+  Clean = IsStep items.span results.clean
 
   -- a step without an error is a clean one
   pub ok-step : (w : IterState) (o : Option X) → Tells w (Ok o) → Clean w (Ok o)
   ok-step w o h = of h.first h.is_first h.rest
     where
-      of : (f : Answer X) → told.tells w.at f
-          → MatchBool (repeats w (span_in f)) (told.tells (shifted w).at (Ok o)) (Ok o ≡ f)
+      of : (f : Answer X) → results.tells w.at f
+          → MatchBool (repeats w (span_in f)) (results.tells (shifted w).at (Ok o)) (Ok o ≡ f)
           → Clean w (Ok o)
       of (Err q) is rest = let k : Ok o ≡ Err q = rest in cc
-      of (Ok None) is rest = record { first = Ok None; is_first = told.ok w.at None is; rest = rest }
+      of (Ok None) is rest = record { first = Ok None; is_first = results.ok w.at None is; rest = rest }
       of (Ok (Some f)) is rest = elim (chosen (repeats w (Some (items.span f))) rest) [
         | inl p ↦
-            record { first = Ok (Some f); is_first = told.ok w.at (Some f) is; rest = rw p.0 (told.ok (shifted w).at o p.1) }
-        | inr p ↦ record { first = Ok (Some f); is_first = told.ok w.at (Some f) is; rest = rw p.0 p.1 }
+            let second = results.ok (shifted w).at o p.1 in
+            record { first = Ok (Some f); is_first = results.ok w.at (Some f) is; rest = rw p.0 second }
+        | inr p ↦ record { first = Ok (Some f); is_first = results.ok w.at (Some f) is; rest = rw p.0 p.1 }
       ]
 
   -- so items that are all `Ok` are those of clean searches
-  next-values : (xs : List X) (w : IterState) → ItemsNext items.span told.tells (EndsAt items told.tells) w (as_items xs)
-      → ItemsNext items.span told.clean (Fails items.span told.clean) w (as_items xs)
+  next-values : (xs : List X) (w : IterState)
+      → ItemsNext items.span results.tells (EndsAt items results.tells) w (as_items xs)
+      → ItemsNext items.span results.clean (Fails items.span results.clean) w (as_items xs)
   next-values [] w h = tt
   next-values (x ∷ xs) w h = (ok-step w (Some x) h.0, next-values xs (after w (Some (items.span x))) h.1)
 
-  last-values : (xs : List X) (w : IterState) → ItemsLast items.span told.tells (EndsAt items told.tells) w (as_items xs)
-      → ItemsLast items.span told.clean (Fails items.span told.clean) w (as_items xs)
+  last-values : (xs : List X) (w : IterState)
+      → ItemsLast items.span results.tells (EndsAt items results.tells) w (as_items xs)
+      → ItemsLast items.span results.clean (Fails items.span results.clean) w (as_items xs)
   last-values [] w h = ok-step w None h
   last-values (x ∷ xs) w h = (ok-step w (Some x) h.0, last-values xs (after w (Some (items.span x))) h.1)
 
-  pub next-clean : (w : IterState) (ys : List Y) → Next items told.tells w (oked ys)
-      → ItemsNext items.span told.clean (Fails items.span told.clean) w (as_items (map items.view ys))
+  pub next-clean : (w : IterState) (ys : List Y) → Next items results.tells w (oked ys)
+      → ItemsNext items.span results.clean (Fails items.span results.clean) w (as_items (map items.view ys))
   next-clean w ys h = next-values (map items.view ys) w (rw (items-view items.view ys) at h)
 
-  pub last-clean : (w : IterState) (ys : List Y) → Last items told.tells w (oked ys)
-      → ItemsLast items.span told.clean (Fails items.span told.clean) w (as_items (map items.view ys))
+  pub last-clean : (w : IterState) (ys : List Y) → Last items results.tells w (oked ys)
+      → ItemsLast items.span results.clean (Fails items.span results.clean) w (as_items (map items.view ys))
   last-clean w ys h = last-values (map items.view ys) w (rw (items-view items.view ys) at h)
 
   -- if the search can only give one error, so can its first step
-  pub only-step : (x : Search) (error : SearchError) → ((a : Answer X) → told.tells x a → a ≡ Err error) → (a : Answer X)
-      → Tells (fresh x) a → a ≡ Err error
-  only-step x error only a h = of h.first (only h.first h.is_first) h.rest
-    where
-      of : (f : Answer X) → f ≡ Err error
-          → MatchBool (repeats (fresh x) (span_in f)) (told.tells (shifted (fresh x)).at a) (a ≡ f)
-          → a ≡ Err error
-      of (Ok o) is rest = let k : Ok o ≡ Err error = is in cc
-      of (Err q) is rest = rest ∙ is
+  module _ (x : Search) (error : SearchError) (only : (a : Answer X) → results.tells x a → a ≡ Err error) where
+    pub only-step : (a : Answer X) → Tells (fresh x) a → a ≡ Err error
+    only-step a h = of h.first (only h.first h.is_first) h.rest
+      where
+        of : (f : Answer X) → f ≡ Err error
+            → MatchBool (repeats (fresh x) (span_in f)) (results.tells (shifted (fresh x)).at a) (a ≡ f)
+            → a ≡ Err error
+        of (Ok o) is rest = let k : Ok o ≡ Err error = is in cc
+        of (Err q) is rest = rest ∙ is
 
-  -- and this error is the only item
-  pub only-item : (x : Search) (error : SearchError) → ((a : Answer X) → told.tells x a → a ≡ Err error)
-      → (xs : List (Result Y SearchError))
-      → Last items told.tells (fresh x) xs → xs ≡ Err error ∷ []
-  only-item x error only [] h = let k = only-step x error only (Ok None) h in cc
-  only-item x error only (Ok y ∷ xs) h = let k = only-step x error only (Ok (Some (items.view y))) h.0 in cc
-  only-item x error only (Err r ∷ xs) h = elim (items.refused (Tells (fresh x)) r h.0) [
-    | inl step ↦
-        let is = only-step x error only (Err r) step in
-        let same : r ≡ error = cc in
-        rw (same, no-items items.view xs h.1) refl
-    | inr other ↦ let k = only-step x error only (Ok (Some other.1)) other.2 in cc
-  ]
+    -- and this error is the only item
+    pub only-item : (xs : List (Result Y SearchError)) → Last items results.tells (fresh x) xs → xs ≡ Err error ∷ []
+    only-item [] h = let k = only-step (Ok None) h in cc
+    only-item (Ok y ∷ xs) h = let k = only-step (Ok (Some (items.view y))) h.0 in cc
+    only-item (Err r ∷ xs) h = elim (items.refused (Tells (fresh x)) r h.0) [
+      | inl step ↦
+          let is = only-step (Err r) step in
+          let same : r ≡ error = cc in
+          rw (same, no-items items.view xs h.1) refl
+      | inr other ↦ let k = only-step (Ok (Some other.1)) other.2 in cc
+    ]
 
-  -- What is at the iteration over x.
+  -- Of an iteration over x.
   module _ (x : Search) where
     -- it goes on in the span of x
     abbrev pub GoesOnIn : IterState → Type 0
@@ -148,7 +150,7 @@ module _ {S X Y : Type 0} (items : ItemsOf S X Y) (told : ToldOf items.span) whe
     after-step : (w : IterState) (y : Y) → GoesOnIn w → Clean w (Ok (Some (items.view y)))
         → GoesOnIn (after w (Some (items.span (items.view y))))
     after-step w y in_span step =
-        let k = step-lies items.span told.clean told.lies w (items.view y) step in
+        let k = step-lies items.span results.clean results.lies w (items.view y) step in
         (omega (arith, in_span.0, k.0, k.1), in_span.1)
 
     -- what a step in the span shows of its value is true of all values
@@ -157,7 +159,7 @@ module _ {S X Y : Type 0} (items : ItemsOf S X Y) (told : ToldOf items.span) whe
       abbrev Held : Result Y SearchError → Type 0
       Held item = IfOk item Holds
 
-      items-hold : (xs : List (Result Y SearchError)) (w : IterState) → GoesOnIn w → Next items told.tells w xs
+      items-hold : (xs : List (Result Y SearchError)) (w : IterState) → GoesOnIn w → Next items results.tells w xs
           → All Held xs
       items-hold [] w in_span h = All-nil Held
       items-hold (Ok y ∷ xs) w in_span h =
@@ -166,14 +168,14 @@ module _ {S X Y : Type 0} (items : ItemsOf S X Y) (told : ToldOf items.span) whe
           (items-hold xs (after w (Some (items.span (items.view y)))) (after-step w y in_span step) h.1)
       items-hold (Err r ∷ xs) w in_span h = rw (no-items items.view xs h.1) (All-cons Held (Err r) [] tt (All-nil Held))
 
-      pub values-hold : (xs : List (Result Y SearchError)) → Next items told.tells (fresh x) xs
+      pub values-hold : (xs : List (Result Y SearchError)) → Next items results.tells (fresh x) xs
           → All (λ item. IfOk item Holds) xs
       values-hold xs h = items-hold xs (fresh x) (omega arith, refl) h
 
     -- if the only error of a search in the span is `Memory`, it is the only error of an item
-    module _ (memory : (t : Search) (e : SearchError) → x.start ≤ t.start → t.end ≡ x.end → told.tells t (Err e)
+    module _ (memory : (t : Search) (e : SearchError) → x.start ≤ t.start → t.end ≡ x.end → results.tells t (Err e)
         → e ≡ Memory) where
-      pub error-memory : (w : IterState) (r : SearchError) → GoesOnIn w → EndsAt items told.tells w r → r ≡ Memory
+      pub error-memory : (w : IterState) (r : SearchError) → GoesOnIn w → EndsAt items results.tells w r → r ≡ Memory
       error-memory w r in_span h = elim (items.refused (Tells w) r h) [
         | inl step ↦ elim (chosen (repeats w (span_in step.first)) step.rest) [
           | inl p ↦ memory (shifted w).at r (omega (arith, in_span.0)) in_span.1 p.1
@@ -185,7 +187,7 @@ module _ {S X Y : Type 0} (items : ItemsOf S X Y) (told : ToldOf items.span) whe
       abbrev OnlyMemory : Result Y SearchError → Type 0
       OnlyMemory item = IfErr item (λ error. error ≡ Memory)
 
-      memory-from : (xs : List (Result Y SearchError)) (w : IterState) → GoesOnIn w → Next items told.tells w xs
+      memory-from : (xs : List (Result Y SearchError)) (w : IterState) → GoesOnIn w → Next items results.tells w xs
           → All OnlyMemory xs
       memory-from [] w in_span h = All-nil OnlyMemory
       memory-from (Ok y ∷ xs) w in_span h =
@@ -195,6 +197,6 @@ module _ {S X Y : Type 0} (items : ItemsOf S X Y) (told : ToldOf items.span) whe
       memory-from (Err r ∷ xs) w in_span h = rw (no-items items.view xs h.1)
           (All-cons OnlyMemory (Err r) [] (error-memory w r in_span h.0) (All-nil OnlyMemory))
 
-      pub errors-memory : (xs : List (Result Y SearchError)) → Next items told.tells (fresh x) xs
+      pub errors-memory : (xs : List (Result Y SearchError)) → Next items results.tells (fresh x) xs
           → All (λ item. IfErr item (λ error. error ≡ Memory)) xs
       errors-memory xs h = memory-from xs (fresh x) (omega arith, refl) h

@@ -4,7 +4,6 @@ use Rattle.std.specs.Iterator.{Yields}
 use Rattle.std.specs.Option.{option_map}
 use Rattle.regex_search_core.specs.Search.{Search}
 use Rattle.regex_search_core.specs.declared.search.Span.{Span}
-use Rattle.nfa_search_base.specs.Drained.{CallsLead}
 use Rattle.nfa_search_base.specs.WithCache.{WithCache}
 use Rattle.nfa_search_base.specs.StepsWith.{TakesStepWith, steps_with_state}
 use Rattle.nfa_search_base.specs.Stored.{takes_steps}

@@ -5,10 +5,10 @@ use Rattle.std.specs.Borrow.{Bor}
 use Rattle.regex_search_core.specs.Search.{Search, search_of}
 use Rattle.regex_search_core.specs.declared.search.Input.{Input}
 use Rattle.regex_search_core.specs.declared.search.Span.{Span}
-use Rattle.nfa_search_base.specs.Asking.{IsCallableOn, SameButStart}
+use Rattle.nfa_search_base.specs.Asking.{SameButStart}
 use Rattle.nfa_search_base.specs.LastEnd.{EndsBy}
 use Rattle.nfa_search_base.specs.IterStates.{IterState, Answer, answer_span, AnswerIsInside, IsInfalliblyInside, LiesIn, repeats, after, shifted, Advances, ComesAfter, LeavesFewer}
-use Rattle.nfa_search_base.specs.Finders.{answer_by, Finds, AnswersAlong}
+use Rattle.nfa_search_base.specs.Finders.{answer_by, AnswersAlong}
 use Rattle.nfa_search_base.specs.WithCache.{WithCache, accepts_whole, asks_whole}
 use Rattle.nfa_search_base.specs.Serving.{LeadsOn, ServesOnAlong, ServesAdvance, StepDone}
 use Rattle.nfa_search_base.specs.declared.error.SearchError.{SearchError}
@@ -145,7 +145,7 @@ module _ {A X F : Type 0} (view : A → X) (g : Mut F (Bor Input × Unit {0}) (R
       → ((q : F) (p : Bor Input) (reply : Result (Option A) SearchError) (q' : F) → SameButStart s (search_of p.now)
       → Inv q → Called g q (p, tt) reply q' → P (search_of p.now) (answer_by view reply) × Inv q')
       → AnswersAlong view g P f s
-  AnswersAlong-by Inv f s now may says = ServesOnAlong-by (IsCallableOn g) (Finds view g) P Inv f s now
+  AnswersAlong-by Inv f s now may says = ServesOnAlong-by Inv f s now
       (λ q t same inv p e. may q p (rw e same) inv)
       (λ q t a q' same inv found.
       let asked = found.asked in

@@ -147,7 +147,7 @@ module _ {F : Type 0} (g : Mut F (Bor Input × (MutBor Captured × Unit {0}))
       → Called g f (p, (q, tt)) (reply, (left, tt)) f' → P (search_of p.now) (filled_answer left.now reply)
       × Inv f' left.now)
       → FillsAlong g P c s
-  FillsAlong-by Inv c s now may says = ServesOnAlong-by (CanFill g) (Fills g) P
+  FillsAlong-by Inv c s now may says = ServesOnAlong-by
       (λ (q : WithCaptures F). Inv q.finder q.captures) c s now
       (λ q t same inv p m e k. may q.finder p m (rw e same) (rw k inv))
       (λ q t a q' same inv filled.

@@ -1,5 +1,5 @@
 -- what answers searches
-use Rattle.std.specs.Prelude.{◌≡◌, true, List}
+use Rattle.std.specs.Prelude.{◌≡◌, true, List, ⊤}
 use Rattle.std.specs.List.{FoldsTo}
 use Rattle.regex_search_core.specs.Search.{Search}
 use Rattle.regex_search_core.specs.declared.search.Span.{Span}
@@ -49,3 +49,7 @@ module _ {S X : Type 0} (accepts : S → Search → Type 0) (asks : S → Search
     pub rises : ComesAfter w (answer_span span a)
     pub fewer : LeavesFewer w (answer_span span a) w'
     pub same : SameButStart w.at w'.at
+
+-- a search may always be made
+abbrev pub may_ask : {S : Type 0} → S → Search → Type 0
+may_ask s x = ⊤

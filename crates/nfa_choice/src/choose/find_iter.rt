@@ -114,7 +114,8 @@ impl FindWith for ByRule {
     ghost use Rattle.nfa_search_base.specs.Finders.{answer_by};
     ghost use Rattle.nfa_search_base.specs.Steps.{GivesItem};
     ghost use Rattle.nfa_search_base.specs.IterStates.{span_of};
-    ghost use Rattle.nfa_choice.specs.Matches.{AsksByRule, may_ask};
+    ghost use Rattle.nfa_search_base.specs.Serving.{may_ask};
+    ghost use Rattle.nfa_choice.specs.Matches.{AsksByRule};
     ghost use Rattle.std.specs.Prelude.{Ok};
 
     type Cache = Choice;

@@ -109,7 +109,8 @@ impl FindWith for InTurn {
     ghost use Rattle.nfa_search_base.specs.Finders.{answer_by};
     ghost use Rattle.nfa_search_base.specs.Steps.{GivesItem};
     ghost use Rattle.nfa_search_base.specs.IterStates.{half_span_of};
-    ghost use Rattle.nfa_hybrid.specs.Halves.{AsksInTurn, may_ask};
+    ghost use Rattle.nfa_search_base.specs.Serving.{may_ask};
+    ghost use Rattle.nfa_hybrid.specs.Halves.{AsksInTurn};
     ghost use Rattle.std.specs.Prelude.{Ok};
 
     type Cache = Hybrid;

@@ -9,9 +9,6 @@ returns c =
     let e = c.find.ensures in
     let x = search_of c.args.input.now in
     record {
-      finds = find-answered c.args.choice.now.nfa (kind_in c.args.choice.now) x.earliest x c.find.result
-          e.answer;
-      runs = e.runs;
-      holds = e.holds;
-      keeps = e.keeps;
+      tells = find-answered c.args.choice.now.nfa (kind_in c.args.choice.now) x.earliest x c.find.result e.answer;
+      work = record { runs = e.runs; holds = e.holds; keeps = e.keeps };
     }

@@ -1,9 +1,10 @@
 -- A step may be made, and never errs.
 use Rattle.regex_search_core.specs.Found.{found_of}
+use Rattle.nfa_search_base.specs.Serving.{may_ask}
 use Rattle.nfa_search_base.specs.StepsWith.{steps_with_state}
 use Rattle.nfa_search_base.specs.IterStates.{span_of}
 use Rattle.nfa_search_base.proofs.StoredLemmas.{surely-inside}
-use Rattle.nfa_choice.specs.Matches.{AsksByRule, choice_matches, may_ask}
+use Rattle.nfa_choice.specs.Matches.{AsksByRule, choice_matches}
 use Rattle.nfa_choice.proofs.FindLemmas.{choice-serves}
 use Rattle.nfa_choice.proofs.choose.find_iter.ChoiceMatchesIterator.next.Goals as goal
 

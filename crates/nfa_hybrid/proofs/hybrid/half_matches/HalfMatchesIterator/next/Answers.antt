@@ -1,9 +1,10 @@
 -- A step may be made, and never errs.
 use Rattle.regex_search_core.specs.Found.{half_found_of}
+use Rattle.nfa_search_base.specs.Serving.{may_ask}
 use Rattle.nfa_search_base.specs.StepsWith.{steps_with_state}
 use Rattle.nfa_search_base.specs.IterStates.{half_span_of}
 use Rattle.nfa_search_base.proofs.StoredLemmas.{surely-inside}
-use Rattle.nfa_hybrid.specs.Halves.{AsksInTurn, half_steps, may_ask}
+use Rattle.nfa_hybrid.specs.Halves.{AsksInTurn, half_steps}
 use Rattle.nfa_hybrid.proofs.HalvesLemmas.{hybrid-serves}
 use Rattle.nfa_hybrid.proofs.hybrid.half_matches.HalfMatchesIterator.next.Goals as goal
 

@@ -9,7 +9,6 @@ returns c =
     let e = c.find_half.ensures in
     let x = search_of c.args.input.now in
     record {
-      finds = half-answered c.args.hybrid.now.nfa (kind_in c.args.hybrid.now) x.earliest x c.find_half.result e.answer;
-      runs = e.runs;
-      keeps = e.keeps;
+      tells = half-answered c.args.hybrid.now.nfa (kind_in c.args.hybrid.now) x.earliest x c.find_half.result e.answer;
+      work = record { runs = e.runs; keeps = e.keeps };
     }
