@@ -12,3 +12,8 @@ pub mod CutLemmas
 pub mod RunLemmas
 pub mod StopLemmas
 pub mod IsMatchLemmas
+pub mod ReachLemmas
+pub mod GainLemmas
+pub mod FlagLemmas
+pub mod HitLemmas
+pub mod AddLemmas

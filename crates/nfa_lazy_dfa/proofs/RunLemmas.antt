@@ -87,3 +87,11 @@ over-matched dfa x cache p here byte row inside is leads late t is_row half foun
     let both = IsFoundAt-next dfa x p.at byte inside is cache cache p row here refl leads t is_row half found half_is
     found_is in
     record { at = both.0; found = both.1; first = λ e. absurd (late e) }
+
+-- the place at the first cell of a row
+pub place-first : (dfa : DFA) (cache : Cache) (x : Search) (p : Place) → IsFoundAt dfa cache x p
+    → IsFoundAt dfa cache x (place_at p.at (p.row * 256) p.found)
+place-first dfa cache x p here =
+    let same : p.row ≡ p.row * 256 / 256 = omega arith in
+    subst (λ (r : ℕ).
+    let q : Place = record { at = p.at; row = r; found = p.found } in IsFoundAt dfa cache x q) same here

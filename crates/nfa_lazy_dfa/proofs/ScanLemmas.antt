@@ -57,7 +57,8 @@ none-map None e = refl
 none-map (Some h) e = cc
 
 -- the byte that is read is of the haystack
-byte-there : (x : Search) (at byte : ℕ) → at < x.end → byte_at x at ≡ Some byte → slice_get x.haystack at ≡ Some byte
+pub byte-there : (x : Search) (at byte : ℕ) → at < x.end → byte_at x at ≡ Some byte
+    → slice_get x.haystack at ≡ Some byte
 byte-there x at byte less is =
     sym (ap (λ (b : Bool). if b then slice_get x.haystack at else None) (lt-ltb at x.end less)) ∙ is
 

@@ -1,17 +1,17 @@
 //! The rows that were built so far.
 ghost use Rattle.std.specs.Prelude.{◌≡◌, ℕ, ◌+◌, ◌-◌, ◌*◌, ◌<◌, ◌≤◌, ◌++◌, ◌∷◌, [], true, false, None, Some};
-ghost use Rattle.std.specs.Prelude.{◌⊎◌, All, Err, IfErr, IfOk, IfNone, IfSome, IsOkUnless, IsTrue, OnErr, OnOk, length, option_map, slice_get, vec_len};
+ghost use Rattle.std.specs.Prelude.{◌⊎◌, All, Err, IfErr, IfOk, IfNone, IfSome, IsOkUnless, IsTrue, OnErr, OnOk, length, map, option_map, slice_get, vec_len};
 ghost use Rattle.regex_search_core.specs.Patterns.{number_of};
 ghost use Rattle.nfa_lazy_dfa.specs.Capacities.{IsUsedUpBy, first_row_memory, largest_row_memory};
 ghost use Rattle.nfa_lazy_dfa.specs.Rows as rows;
 ghost use Rattle.nfa_lazy_dfa.specs.Rows.{AllowsClears, CountsScan, IsFor, IsRowOf, KeepsRows, Spends, memory_of, stances_of};
-ghost use Rattle.nfa_lazy_dfa.specs.Stances.{first_stance, hit_here, stance_of};
+ghost use Rattle.nfa_lazy_dfa.specs.Stances.{first_stance, hit_here, hits_here, stance_of};
 
 mod copy;
 
 use crate::dfa::DFA;
 use crate::error::{GaveUp, StopError};
-use crate::follow::{Stand, last_hit};
+use crate::follow::{Stand, last_hit, last_hits};
 use crate::index::{EMPTY, Index, MAX_ROWS, is_first};
 use nfa_scan_core::counter::Counter;
 use regex_search_core::{PatternID, StateID};
@@ -312,6 +312,7 @@ impl Cache {
         ensures own { IsFor self.new dfa.now }
         ensures hit { IfOk result (λ hit. (s : _) → IsRowOf self.old row s
             → option_map number_of hit ≡ hit_here dfa.now.nfa dfa.now.kind s None) }
+        ensures same { self.new.stands.items ≡ self.old.stands.items }
         ensures spends { Spends self.old self.new 0 0 }
         ensures full { IfErr result (IsUsedUpBy self.new dfa.now) }
     {
@@ -321,6 +322,26 @@ impl Cache {
         let hit = last_hit(self.alloc, dfa, &self.stands[row as usize])?;
         self.ends[row as usize] = Some(hit);
         Ok(hit)
+    }
+}
+
+impl Cache {
+    /// For `All` the patterns of all matches at the end of the haystack.
+    pub(crate) fn end_hits(&mut self, dfa: &DFA, row: u32) -> Result<Vec<PatternID>, GaveUp>
+        requires own { IsFor self.old dfa.now }
+        requires row { row < vec_len self.old.stands }
+        ensures own { IsFor self.new dfa.now }
+        ensures hits { IfOk result (λ hits. (s : _) → IsRowOf self.old row s
+            → map number_of hits.items ≡ hits_here dfa.now.nfa dfa.now.kind s None) }
+        ensures spends { Spends self.old self.new 0 0 }
+        ensures full { IfErr result (IsUsedUpBy self.new dfa.now) }
+    {
+        let hit = self.end(dfa, row)?;
+        if hit.is_none() {
+            return Ok(Vec::new(self.alloc));
+        }
+        let hits = last_hits(self.alloc, dfa, &self.stands[row as usize])?;
+        Ok(hits)
     }
 }
 

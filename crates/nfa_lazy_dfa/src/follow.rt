@@ -9,7 +9,7 @@ ghost use Rattle.nfa_paths.specs.Paths.{pattern_of};
 ghost use Rattle.nfa_lazy_dfa.specs.Assertions.{IsRead, SameLooks, like, sees};
 ghost use Rattle.nfa_lazy_dfa.specs.Capacities.{largest_row_memory};
 ghost use Rattle.nfa_lazy_dfa.specs.Rows as rows;
-ghost use Rattle.nfa_lazy_dfa.specs.Stances.{Covers, IsNext, goes_on, here, hit_here, patterns_for, patterns_in, stance_of};
+ghost use Rattle.nfa_lazy_dfa.specs.Stances.{Covers, IsNext, goes_on, here, hit_here, hits_here, patterns_for, patterns_in, stance_of};
 
 use crate::dfa::DFA;
 use nfa_determinize::closure::{closure, kept, pattern_by_kind, step};
@@ -67,6 +67,16 @@ pub fn last_hit(alloc: Global, dfa: &DFA, stand: &Stand) -> Result<Option<Patter
 {
     let states = closure_of(alloc, dfa, stand, None)?;
     Ok(pattern_by_kind(&dfa.nfa, dfa.kind, &states))
+}
+
+/// For `All` the patterns of all matches at the stand, at the end of the haystack.
+pub fn last_hits(alloc: Global, dfa: &DFA, stand: &Stand) -> Result<Vec<PatternID>, AllocError>
+    requires { All (λ s. s < length dfa.now.nfa.states) stand.now.states.items }
+    ensures { IfOk result (λ hits.
+        map number_of hits.items ≡ hits_here dfa.now.nfa dfa.now.kind (stance_of stand.now) None) }
+{
+    let states = closure_of(alloc, dfa, stand, None)?;
+    patterns_for(alloc, dfa, &states)
 }
 
 /// The stand after the byte.

@@ -11,6 +11,7 @@ mod error;
 mod fill;
 mod follow;
 mod index;
+mod overlap;
 mod scan;
 mod search;
 mod window;

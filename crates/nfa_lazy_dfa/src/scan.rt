@@ -57,7 +57,7 @@ pub fn cell_at(
 /// Goes on over cells that lead to rows without a match, four bytes at a time. Returns the position and where the cells
 /// of the row there begin. The next cell leads to a match, to a dead row or is unknown, or the span ends soon.
 #[inline(always)]
-fn pass(
+pub fn pass(
     dfa: &DFA,
     cache: &Cache,
     input: &Input<'_>,

@@ -1,18 +1,14 @@
 -- A cell leads to what the byte leads to; one with a match is followed only if later matches count.
-use Rattle.std.proofs.Common.{◌≡◌, ◌<◌, ◌≤◌, ◌*◌, ◌/◌, ℕ, Bool, true, false, get_or, refl, subst, arith}
+use Rattle.std.proofs.Common.{◌≡◌, ◌<◌, ◌≤◌, ◌/◌, ℕ, Bool, true, false, get_or, refl, arith}
 use Rattle.std.specs.Prelude.{Some, if◌then◌else◌}
 use Rattle.nfa_paths.specs.Paths.{byte_at}
 use Rattle.nfa_lazy_dfa.specs.Rows.{IsRowOf, LeadsTo, row_of}
 use Rattle.nfa_lazy_dfa.specs.Stances.{stance_of}
-use Rattle.nfa_lazy_dfa.specs.Places.{IsFoundAt}
 use Rattle.nfa_lazy_dfa.specs.Runs.{place_at}
-use Rattle.nfa_lazy_dfa.specs.declared.cache.Cache.{Cache}
-use Rattle.nfa_lazy_dfa.specs.declared.dfa.DFA.{DFA}
-use Rattle.nfa_lazy_dfa.specs.declared.scan.Place.{Place}
-use Rattle.regex_search_core.specs.Search.{Search, search_of}
+use Rattle.regex_search_core.specs.Search.{search_of}
 use Rattle.nfa_lazy_dfa.proofs.CacheLemmas.{few-rows, row-inside, row-is}
 use Rattle.nfa_lazy_dfa.proofs.ScanLemmas.{byte-here}
-use Rattle.nfa_lazy_dfa.proofs.RunLemmas.{over-matched}
+use Rattle.nfa_lazy_dfa.proofs.RunLemmas.{over-matched, place-first}
 use Rattle.nfa_lazy_dfa.proofs.scan.run.Goals as goal
 
 late : (e : Bool) (stop cell : ℕ) → stop ≡ (if e then 0x4000_0000 else 0x8000_0000) → 0x4000_0000 ≤ cell → cell < stop
@@ -23,14 +19,6 @@ late false stop cell is low high e = cc
 early : (e : Bool) (stop : ℕ) → stop ≡ (if e then 0x4000_0000 else 0x8000_0000) → stop ≤ 0x8000_0000
 early true stop is = omega arith
 early false stop is = omega arith
-
--- the place at the first cell of a row
-place-first : (dfa : DFA) (cache : Cache) (x : Search) (p : Place) → IsFoundAt dfa cache x p
-    → IsFoundAt dfa cache x (place_at p.at (p.row * 256) p.found)
-place-first dfa cache x p here =
-    let same : p.row ≡ p.row * 256 / 256 = omega arith in
-    subst (λ (r : ℕ).
-    let q : Place = record { at = p.at; row = r; found = p.found } in IsFoundAt dfa cache x q) same here
 
 pub loop-at-init : goal.loop-at-init
 loop-at-init c = record {
