@@ -1,5 +1,5 @@
 -- The pattern of a half match is one of the NFA's.
-use Rattle.std.proofs.Common.{◌≡◌, ◌∙◌, Bool, ap, sym}
+use Rattle.std.proofs.Common.{◌∙◌, Bool, ap, sym}
 use Rattle.std.specs.Prelude.{◌<◌, IfSome, None, Option, Some, length, option_map}
 use Rattle.regex_search_core.specs.Found.{HalfFound, half_found_of}
 use Rattle.regex_search_core.specs.Search.{Search}

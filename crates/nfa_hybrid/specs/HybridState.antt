@@ -1,11 +1,13 @@
 -- An engine over a lazy DFA and a PikeVM as a value, and which of the two ran.
-use Rattle.std.specs.Prelude.{◌≡◌, ◌⊎◌, ◌+◌, ◌*◌, ◌≤◌, Bool, false, Option, Some}
+use Rattle.std.specs.Prelude.{◌≡◌, ◌⊎◌, ◌+◌, ◌*◌, ◌≤◌, Bool, false, List, Option, Some}
 use Rattle.regex_search_core.specs.Search.{Search}
 use Rattle.regex_search_core.specs.declared.search.MatchKind.{MatchKind}
+use Rattle.regex_search_core.specs.declared.search.MatchKind.TheVariants.{All}
 use Rattle.thompson_nfa.specs.Automaton.{Automaton}
 use Rattle.nfa_paths.specs.Paths.{IsWork, max_scans, span_len, total_degree}
 use Rattle.nfa_search_base.specs.Finds.{finds}
 use Rattle.nfa_pikevm.specs.Engines.{AddsPikeWork, PikeCache, SameCapacities}
+use Rattle.nfa_pikevm.specs.Needs.{overlap_scans}
 use Rattle.nfa_lazy_dfa.specs.Configs.{kind_in as kind_set}
 use Rattle.nfa_lazy_dfa.specs.Options.{Options}
 use Rattle.nfa_hybrid.specs.declared.hybrid.Engine.{Engine}
@@ -44,6 +46,19 @@ module _ (x : Search) (earliest : Bool) where
   -- one of the two answered
   abbrev pub RunsInTurn : HybridState → HybridState → Type 0
   RunsInTurn old new = DfaRan old new ⊎ PikeRanAfterDfa old new
+
+-- `set` is the set of patterns before the search.
+module _ (x : Search) (set : List Bool) where
+  -- the PikeVM added the patterns: by one scan, or under leftmost first by none if the set holds a pattern
+  pub record PikeRanForSet (old new : HybridState) : Type 0 where
+    pub ran : new.ran ≡ Some engine.PikeVM
+    pub work : AddsPikeWork old.pike new.pike
+    pub scans : new.pike.scans ≡ overlap_scans (kind_in old) set
+    pub turns : new.pike.turns ≤ new.pike.scans * ((1 + total_degree old.nfa) * (span_len x + 1))
+
+  -- for `All` one of the two added them
+  abbrev pub SetRunsInTurn : HybridState → HybridState → Type 0
+  SetRunsInTurn old new = (DfaRan old new × (kind_in old ≡ All)) ⊎ PikeRanForSet old new
 
 -- all that a search leaves unchanged
 pub record KeepsHybrid (old new : HybridState) : Type 0 where

@@ -1,21 +1,19 @@
 //! The patterns of all matches, including matches that overlap.
 ghost use Rattle.std.specs.Prelude.{◌≡◌, ◌+◌, ◌*◌, ◌≤◌, Some};
 ghost use Rattle.regex_search_core.specs.Search.{search_of};
+ghost use Rattle.regex_search_core.specs.declared.search.MatchKind.TheVariants as kinds;
 ghost use Rattle.nfa_paths.specs.Overlaps.{IsOverlapResult};
-ghost use Rattle.nfa_paths.specs.Paths.{span_len, total_degree};
-ghost use Rattle.nfa_pikevm.specs.Engines.{AddsPikeWork};
-ghost use Rattle.nfa_pikevm.specs.Needs.{overlap_scans};
-ghost use Rattle.nfa_hybrid.specs.HybridState.{KeepsHybrid, kind_in};
-ghost use Rattle.nfa_hybrid.specs.declared.hybrid.Engine.TheVariants as engine;
+ghost use Rattle.nfa_hybrid.specs.HybridState.{KeepsHybrid, PikeRanForSet, SetRunsInTurn, kind_in};
 
 use crate::hybrid::{Engine, Hybrid};
-use regex_search_core::{Input, PatternSet};
+use regex_search_core::{Input, MatchKind, PatternSet};
 
 impl Hybrid {
     /// Adds the patterns of all matches to the set, including matches that overlap. The set keeps its patterns, and
     /// gains only patterns below its capacity.
     ///
-    /// The search is always one of the PikeVM, with the match kind of the configuration: see
+    /// With the match kind `All` the lazy DFA searches first, and the PikeVM if it stops. With `LeftmostFirst` the
+    /// search is one of the PikeVM: see
     /// [`PikeVM::which_overlapping_matches`](nfa_engines::pikevm::PikeVM::which_overlapping_matches).
     ///
     /// ```
@@ -31,15 +29,41 @@ impl Hybrid {
     pub fn which_overlapping_matches(&mut self, input: &Input<'_>, patterns: &mut PatternSet)
         ensures result { IsOverlapResult self.old.nfa (search_of input.now) (kind_in self.old)
             (search_of input.now).earliest patterns.old patterns.new }
-
-        ensures ran { self.new.ran ≡ Some engine.PikeVM }
+        ensures runs { SetRunsInTurn (search_of input.now) patterns.old self.old self.new }
         ensures keeps { KeepsHybrid self.old self.new }
-        ensures total { AddsPikeWork self.old.pike self.new.pike }
+    {
+        match self.get_config().get_match_kind() {
+            MatchKind::All => self.add_by_either(input, patterns),
+            MatchKind::LeftmostFirst => self.add_by_pikevm(input, patterns),
+        }
+    }
 
-        // One scan, or none under leftmost first if the set holds a pattern.
-        ensures scans { self.new.pike.scans ≡ overlap_scans (kind_in self.old) patterns.old }
-        ensures turns { self.new.pike.turns ≤ self.new.pike.scans * ((1 + total_degree self.old.nfa)
-            * (span_len (search_of input.now) + 1)) }
+    /// The search of the lazy DFA, or if it stops that of the PikeVM. What the lazy DFA had added is of matches too.
+    fn add_by_either(&mut self, input: &Input<'_>, patterns: &mut PatternSet)
+        requires { kind_in self.old ≡ kinds.All }
+        ensures result { IsOverlapResult self.old.nfa (search_of input.now) (kind_in self.old)
+            (search_of input.now).earliest patterns.old patterns.new }
+        ensures runs { SetRunsInTurn (search_of input.now) patterns.old self.old self.new }
+        ensures keeps { KeepsHybrid self.old self.new }
+    {
+        if let Ok(()) = self
+            .dfa
+            .try_which_overlapping_matches(&mut self.dfa_cache, input, patterns)
+        {
+            self.ran = Some(Engine::LazyDFA);
+            return;
+        }
+        self.ran = Some(Engine::PikeVM);
+        self.pike
+            .which_overlapping_matches(&mut self.pike_cache, input, patterns);
+    }
+
+    /// The search of the PikeVM.
+    fn add_by_pikevm(&mut self, input: &Input<'_>, patterns: &mut PatternSet)
+        ensures result { IsOverlapResult self.old.nfa (search_of input.now) (kind_in self.old)
+            (search_of input.now).earliest patterns.old patterns.new }
+        ensures runs { PikeRanForSet (search_of input.now) patterns.old self.old self.new }
+        ensures keeps { KeepsHybrid self.old self.new }
     {
         self.ran = Some(Engine::PikeVM);
         self.pike
