@@ -1,0 +1,3 @@
+pub mod Spelling
+pub mod ReadLemmas
+pub mod Denotes

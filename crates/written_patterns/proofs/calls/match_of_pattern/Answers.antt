@@ -1,0 +1,10 @@
+-- The law of texts, of what the grammar reads.
+use Rattle.std.proofs.Common.{arith}
+use Rattle.nfa_compiler.proofs.CallLemmas.{bytes-of}
+use Rattle.written_patterns.proofs.ReadLemmas.{match-is}
+use Rattle.written_patterns.proofs.calls.match_of_pattern.Goals as goal
+
+pub returns : goal.returns
+returns c =
+    match-is c.args.pattern.now c.args.nfa.now c.requires.pattern c.args.text.now
+    (bytes-of c.args.text.now (λ k. omega (arith, c.type_inv.text k))) _ c.requires.answer

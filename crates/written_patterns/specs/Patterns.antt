@@ -1,0 +1,43 @@
+-- What a pattern that is written out finds in a text, as functions of the two. A pattern here is what the grammar reads
+-- in byte mode; a text that is not a pattern finds nothing.
+use Rattle.std.specs.Prelude.{◌≡◌, ◌==◌, false, Bool, List, [], ◌∷◌, drop, Option, None, Some, chars, is_some, option_and_then, ℕ}
+use Rattle.regex_hir.specs.Find.{Match, find, find_all}
+use Rattle.regex_syntax.specs.Grammar.{read}
+use Rattle.nfa_engines.specs.Automaton.{Automaton}
+use Rattle.nfa_engines.specs.Groups.{group_named}
+use Rattle.nfa_engines.specs.Paths.{is_utf8_empty}
+use Rattle.nfa_engines.specs.Span.{Span}
+use Rattle.nfa_compiler.specs.Compiled.{IsCompiled}
+use Rattle.nfa_compiler.specs.NameLaws.{written_span}
+use Rattle.nfa_compiler.specs.Written.{byte_syntax}
+
+-- the first match of the pattern in the text
+unfoldable pub first_match : List ℕ → List ℕ → Option Match
+first_match pattern text =
+    option_and_then (λ (found, names). find found.value text 0) (read byte_syntax (chars pattern))
+
+-- whether the pattern matches somewhere in the text
+abbrev pub has_match : List ℕ → List ℕ → Bool
+has_match pattern text = is_some (first_match pattern text)
+
+abbrev pub all_of : Option (List Match) → List Match
+all_of None = []
+all_of (Some matches) = matches
+
+-- all matches of the pattern in the text, from left to right, without overlaps
+unfoldable pub all_matches : List ℕ → List ℕ → List Match
+all_matches pattern text =
+    all_of (option_and_then (λ (found, names). Some (find_all found.value text)) (read byte_syntax (chars pattern)))
+
+-- the span of the group with this name in the first match: what the match last wrote for it
+unfoldable pub named_span_in : List ℕ → List ℕ → List ℕ → Option Span
+named_span_in pattern name text =
+    option_and_then (λ (found, names). option_and_then
+    (λ group. option_and_then (written_span group) (find found.value text 0)) (group_named (drop 1 names ∷ []) 0 name))
+    (read byte_syntax (chars pattern))
+
+-- The NFA is that of the pattern, in byte mode, and its searches may start anywhere.
+pub record IsOfPattern (pattern : List ℕ) (nfa : Automaton) : Type 0 where
+  pub compiled : IsCompiled byte_syntax (pattern ∷ []) nfa
+  pub anywhere : is_utf8_empty nfa ≡ false
+  pub free : (nfa.anchored == nfa.unanchored) ≡ false

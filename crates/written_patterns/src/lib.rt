@@ -1,0 +1,7 @@
+//! Patterns that are written out: what they find in a text, as functions of the pattern and the text, and which whole
+//! texts they match, in words of the text alone.
+//!
+//! `specs/Patterns.antt` has the functions, `specs/Texts.antt` the words on texts, and `proofs/Denotes.antt` the lemmas.
+#![tactic(auto)]
+
+pub mod calls;
