@@ -1,0 +1,2 @@
+mod TileLemmas
+mod ShapeLemmas

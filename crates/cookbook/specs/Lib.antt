@@ -1,0 +1,4 @@
+pub mod Shapes
+pub mod Fields
+pub mod Tiles
+pub mod Replaced
