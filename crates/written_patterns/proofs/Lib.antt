@@ -1,3 +1,4 @@
 pub mod Spelling
 pub mod ReadLemmas
 pub mod Denotes
+pub mod Octets

@@ -1,5 +1,5 @@
 -- What a whole text is, in its own words: bytes, runs of bytes, parts one after another, and alternatives.
-use Rattle.std.specs.Prelude.{◌≡◌, ◌⊎◌, ℕ, zero, suc, ◌≤◌, Bool, true, List, [], ◌++◌, All, length}
+use Rattle.std.specs.Prelude.{◌≡◌, ◌⊎◌, ℕ, zero, suc, ◌<◌, ◌≤◌, Bool, true, List, [], ◌++◌, All, decimal, length}
 
 -- exactly these bytes
 pub record Exactly (bytes text : List ℕ) : Type 0 where
@@ -34,3 +34,9 @@ pub record ◌or_else◌ (P Q : List ℕ → Type 0) (text : List ℕ) : Type 0 
 abbrev pub Times : ℕ → (List ℕ → Type 0) → List ℕ → Type 0
 Times zero P = Exactly []
 Times (suc n) P = P followed_by Times n P
+
+-- the decimal form of a number below the limit, without a zero in front
+pub record DecimalBelow (limit : ℕ) (text : List ℕ) : Type 0 where
+  pub number : ℕ
+  pub below : number < limit
+  pub text_is : text ≡ decimal number
