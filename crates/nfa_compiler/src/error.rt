@@ -13,8 +13,8 @@ pub enum CompileError {
     Memory,
     /// A text is not a pattern, or nests too deeply.
     Syntax(SyntaxError),
-    /// The states of the pattern with this number, or the work to make them, would exceed this size limit, which is
-    /// that of [`Config::size_limit`](crate::Config::size_limit). The patterns before it do not exceed it.
+    /// The states of the pattern with this number, or the work to make them, would exceed this size limit: that of
+    /// [`Config::size_limit`](crate::Config::size_limit). The patterns before it do not exceed it.
     TooBig { pattern: usize, limit: usize },
     /// A tree passed to [`Compiler::build_from_hir`](crate::Compiler::build_from_hir) is not one that a parser returns:
     /// a byte class goes above 255, a group has the number 0, or a group has a number but no name entry.

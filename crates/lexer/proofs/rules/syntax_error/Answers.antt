@@ -9,5 +9,4 @@ returns c =
     syntax-mistake c.args.rules.now c.args.error.now c.pattern.result _ c.saturating_add.result c.char_count.result
     c.span.result.start c.split_at.result.0.now c.text.result.now c.reason.result.now c.pattern.ensures c.requires
     c.saturating_add.ensures c.char_count.ensures.value c.split_at.ensures.front
-    (ap (λ (s : Span). s.start) c.span.ensures)
-    c.text.ensures c.reason.ensures
+    (ap (λ (s : Span). s.start) c.span.ensures) c.text.ensures c.reason.ensures
