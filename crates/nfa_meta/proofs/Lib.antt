@@ -1,1 +1,2 @@
+pub mod MatchesLemmas
 pub mod WindowLemmas

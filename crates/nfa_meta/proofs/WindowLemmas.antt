@@ -1,7 +1,8 @@
 -- The path that answers a search answers the search of a window.
 use Rattle.std.proofs.Common.{◌≡◌, ℕ, ◌≤◌, Bool, true, false, List, [], ◌∷◌, refl, ap, sym, ◌∙◌, subst, arith}
-use Rattle.std.specs.Prelude.{Option, None, Some, MatchBool, is_some, option_and_then, option_map}
+use Rattle.std.specs.Prelude.{Option, None, Some, MatchBool, is_some, replicate, option_and_then, option_map}
 use Rattle.std.specs.Option.{option_map_or}
+use Rattle.std.proofs.lemmas.List.{length-replicate}
 use Rattle.regex_search_core.specs.Found.{Found, HalfFound}
 use Rattle.regex_search_core.specs.Search.{Search, is_anchored}
 use Rattle.regex_search_core.specs.declared.search.Anchored.TheVariants.{Yes}
@@ -11,7 +12,7 @@ use Rattle.thompson_nfa.specs.Automaton.{Automaton}
 use Rattle.nfa_paths.specs.Graphs.{Pair, HeadIs, PathTo, IsFirstTo}
 use Rattle.nfa_paths.specs.Paths.{IsAnswer, IsFindAnswer, IsHalfAnswer, IsKeptAnswer, IsMatch, IsRestartedAnswer}
 use Rattle.nfa_paths.specs.Paths.{IsScanAnswer, IsSearchAnswer, edges, is_utf8_empty, node_at, path_half}
-use Rattle.nfa_paths.specs.Paths.{pattern_of, starts}
+use Rattle.nfa_paths.specs.Paths.{pattern_of, slot_row, starts}
 use Rattle.nfa_paths.proofs.AnswerLemmas.{scan_answer-leads, scan_answer-unique}
 use Rattle.nfa_paths.proofs.PathToLemmas.{EndsWith-last}
 use Rattle.nfa_determinize.specs.Idles.{StartsFrom}
@@ -20,7 +21,7 @@ use Rattle.nfa_engines.specs.StartLaws.{IsFirstStart, IsUnbound, from_start}
 use Rattle.nfa_engines.proofs.FirstStartLemmas.{same_edges, start-anchored, start-unbound, unbound-start, with-starts}
 use Rattle.nfa_lazy_dfa.specs.Windows.{IsWindow, half_in, start_in}
 use Rattle.nfa_lazy_dfa.specs.declared.window.Window.{Window}
-use Rattle.nfa_meta.specs.WindowLaws.{WindowHasTheMatch, within}
+use Rattle.nfa_meta.specs.WindowLaws.{WindowHasTheAnswer, WindowHasTheMatch, within}
 
 -- the answer of one scan
 
@@ -168,17 +169,12 @@ module _ (nfa : Automaton) (x : Search) (free : IsUnbound nfa x) (s : ℕ) (low 
       found_is = a.found_is;
     }
 
--- no half match, so no match
-pub none-found : (nfa : Automaton) (kind : MatchKind) (earliest : Bool) (x : Search) → is_utf8_empty nfa ≡ false
-    → IsHalfAnswer nfa kind earliest x None → IsFindAnswer nfa kind earliest x None
-none-found nfa kind earliest x whole h =
-    let none = of h.path (scan-of nfa kind earliest x whole h.restarts h.path h.answers) h.found_is in
-    record {
-      restarts = h.restarts;
-      path = None;
-      answers = subst (IsSearchAnswer nfa kind earliest x h.restarts) none h.answers;
-      found_is = refl;
-    }
+-- no half match, so no path
+none-path : (nfa : Automaton) (kind : MatchKind) (earliest : Bool) (x : Search) → is_utf8_empty nfa ≡ false
+    → (h : IsHalfAnswer nfa kind earliest x None) → IsSearchAnswer nfa kind earliest x h.restarts None
+none-path nfa kind earliest x whole h =
+    subst (IsSearchAnswer nfa kind earliest x h.restarts)
+    (of h.path (scan-of nfa kind earliest x whole h.restarts h.path h.answers) h.found_is) h.answers
   where
     half : (v : Pair) (o : Option ℕ) → is_some o ≡ true
         → None ≡ option_map (λ k. (let f : HalfFound = record { pattern = k; offset = v.1 } in f)) o → ⊥
@@ -210,3 +206,36 @@ window-found law nfa x y w kind earliest first last free window half is found an
     (subst (λ (k : MatchKind). IsFindAnswer nfa k false (within x (start_in w) (half_in w).offset) found) first
     (subst (λ (e : Bool). IsFindAnswer nfa kind e (within x (start_in w) (half_in w).offset) found) last
     (subst (λ (z : Search). IsFindAnswer nfa kind earliest z found) is answers))))
+
+-- its pattern and slots are those of the search
+pub window-slots : WindowHasTheAnswer → (nfa : Automaton) (x y : Search) (w : Window) (kind : MatchKind)
+    (earliest : Bool) → kind ≡ LeftmostFirst → earliest ≡ false → IsUnbound nfa x → IsWindow nfa x w
+    → IsHalfAnswer nfa kind earliest x (Some (half_in w)) → y ≡ within x (start_in w) (half_in w).offset
+    → (pattern : Option ℕ) (slots : List (Option ℕ)) → IsAnswer nfa kind earliest y pattern slots
+    → IsAnswer nfa kind earliest x pattern slots
+window-slots law nfa x y w kind earliest first last free window half is pattern slots answers =
+    let to : (k : MatchKind) (e : Bool) → kind ≡ k → earliest ≡ e → IsAnswer nfa k e x pattern slots
+    → IsAnswer nfa kind earliest x pattern slots =
+    λ k e f l. subst (λ (z : MatchKind). IsAnswer nfa z e x pattern slots → IsAnswer nfa kind earliest x pattern slots) f
+    (subst (λ (b : Bool). IsAnswer nfa kind b x pattern slots → IsAnswer nfa kind earliest x pattern slots) l (λ a. a)) in
+    to LeftmostFirst false first last
+    (law nfa x (start_in w) (half_in w) pattern slots free window.low window.starts
+    (subst (λ (k : MatchKind). IsHalfAnswer nfa k false x (Some (half_in w))) first
+    (subst (λ (e : Bool). IsHalfAnswer nfa kind e x (Some (half_in w))) last half))
+    (subst (λ (k : MatchKind). IsAnswer nfa k false (within x (start_in w) (half_in w).offset) pattern slots) first
+    (subst (λ (e : Bool). IsAnswer nfa kind e (within x (start_in w) (half_in w).offset) pattern slots) last
+    (subst (λ (z : Search). IsAnswer nfa kind earliest z pattern slots) is answers))))
+
+-- without a half match there is no pattern, and no slot is set
+pub none-answer : (nfa : Automaton) (kind : MatchKind) (earliest : Bool) (x : Search) → is_utf8_empty nfa ≡ false
+    → IsHalfAnswer nfa kind earliest x None → (n : ℕ) → IsAnswer nfa kind earliest x None (replicate n None)
+unfolding slot_row
+none-answer nfa kind earliest x whole h n =
+    let f = none-path nfa kind earliest x whole h in
+    record {
+      restarts = h.restarts;
+      path = None;
+      answers = f;
+      pattern_is = refl;
+      slots_are = ap (λ (k : ℕ). replicate k None) (sym (length-replicate n None));
+    }

@@ -1,3 +1,4 @@
+pub mod Matches
 pub mod Windowed
 pub mod WindowLaws
 pub use Rattle.nfa_choice.specs.ChoiceState

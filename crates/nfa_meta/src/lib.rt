@@ -13,4 +13,4 @@
 pub mod laws;
 pub mod regex;
 
-pub use regex::Regex;
+pub use regex::{FindMatches, Regex};

@@ -1,20 +1,25 @@
 //! The engine that runs a lazy DFA first, and an engine of `nfa_choice` for the match in its window.
+ghost use Rattle.std.specs.Prelude.{All, IfNone, replicate};
 ghost use Rattle.std.specs.Prelude.{◌≡◌, ◌<◌, IfOk, IfSome, IsOkUnless, None, false, length, option_map, true};
 ghost use Rattle.regex_search_core.specs.Found.{found_of, half_found_of};
+ghost use Rattle.regex_search_core.specs.Patterns.{number_of};
 ghost use Rattle.regex_search_core.specs.Search.{search_of};
-ghost use Rattle.nfa_paths.specs.Paths.{IsBoolAnswer, IsFindAnswer, IsHalfAnswer};
-ghost use Rattle.nfa_search_base.specs.Lists.{IsInside};
+ghost use Rattle.nfa_paths.specs.Paths.{IsAnswer, IsBoolAnswer, IsFindAnswer, IsHalfAnswer};
+ghost use Rattle.nfa_search_base.specs.Lists.{IsInside, IsSlotInside};
 ghost use Rattle.nfa_backtrack.specs.Backtrack.{empty_cache};
 ghost use Rattle.nfa_pikevm.specs.Engines.{cache_for};
 ghost use Rattle.nfa_choice.specs.ChoiceState.{KeepsEngines, kind_in};
 ghost use Rattle.nfa_meta.specs.Windowed.{IsWindowed};
 
+mod find_iter;
+
 use crate::laws;
+pub use find_iter::FindMatches;
 use nfa_choice::choose::Choice;
 use nfa_engines::error::SearchError;
 use nfa_engines::{backtrack, pikevm};
 use nfa_lazy_dfa::{Cache, DFA};
-use regex_search_core::{HalfMatch, Input, Match};
+use regex_search_core::{HalfMatch, Input, Match, NonMaxUsize, PatternID};
 use std::alloc::Global;
 use std::marker::Model;
 use thompson_nfa::NFA;
@@ -126,6 +131,48 @@ impl Regex {
             Ok(None) => None,
             Ok(Some(window)) => self.choice.find(input.range(window.start()..window.end())),
             Err(_) => self.choice.find(input),
+        }
+    }
+
+    /// Searches, and writes byte offsets to the slots, as both engines of the [`Choice`] do. Any number of slots may be
+    /// given. Slots that the NFA does not have are set to `None`, and so are all slots if nothing matches.
+    ///
+    /// The engines run as for [`Regex::find`], so the groups cost what the window does.
+    ///
+    /// ```
+    /// // regex of [r"\pL+", r"\d+"]
+    /// let mut slots = [None; 4];
+    /// let pattern = regex.search_slots(&Input::new(b"!@#123"), &mut slots);
+    /// assert_eq!(rt; pattern.expect(rt, "a match").as_usize(), 1);
+    /// let wanted = [None, None, NonMaxUsize::new(3), NonMaxUsize::new(6)];
+    /// assert_eq!(rt; slots, wanted);
+    /// ```
+    pub fn search_slots(
+        &mut self,
+        input: &Input<'_>,
+        slots: &mut [Option<NonMaxUsize>],
+    ) -> Option<PatternID>
+        ensures answer { IsAnswer self.old.nfa (kind_in self.old) (search_of input.now).earliest (search_of input.now)
+            (option_map number_of result) slots.new }
+        ensures unmatched { IfNone result (slots.new ≡ replicate (length slots.old) None) }
+        ensures pattern { IfSome result (λ p. number_of p < length self.old.nfa.patterns) }
+        ensures inside { All (IsSlotInside (search_of input.now)) slots.new }
+        ensures keeps { KeepsEngines self.old self.new }
+    {
+        if !self.is_windowed(input) {
+            return self.choice.search_slots(input, slots);
+        }
+        laws::windows_answer();
+        match self.dfa.try_find_window(&mut self.cache, *input) {
+            Ok(None) => {
+                slots.fill(None);
+                None
+            }
+            Ok(Some(window)) => {
+                let cut = input.range(window.start()..window.end());
+                self.choice.search_slots(&cut, slots)
+            }
+            Err(_) => self.choice.search_slots(input, slots),
         }
     }
 

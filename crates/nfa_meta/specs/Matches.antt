@@ -1,0 +1,58 @@
+-- The iterator over the matches of a regex.
+use Rattle.std.specs.Prelude.{◌≡◌, Ok, Option, option_map, ⊤, Bool}
+use Rattle.std.specs.Borrow.{MutBor}
+use Rattle.regex_search_core.specs.Found.{Found, found_of}
+use Rattle.regex_search_core.specs.Search.{Search}
+use Rattle.regex_search_core.specs.declared.search.Match.{Match}
+use Rattle.nfa_search_base.specs.WithCache.{WithCache}
+use Rattle.nfa_search_base.specs.StepsWith.{StepsWith, TakesStepWith}
+use Rattle.nfa_search_base.specs.Lists.{AnswersMatch}
+use Rattle.nfa_search_base.specs.Runs.{GivesKept}
+use Rattle.nfa_search_base.specs.Steps.{GivesItem}
+use Rattle.nfa_search_base.specs.Searchers.{iter_state_of}
+use Rattle.nfa_search_base.specs.IterStates.{Answer, IterState, span_of}
+use Rattle.nfa_choice.specs.ChoiceState.{ChoiceState, kind_in, KeepsEngines}
+use Rattle.nfa_meta.specs.declared.regex.find_iter.ByWindow.{ByWindow}
+use Rattle.nfa_meta.specs.declared.regex.find_iter.FindMatches.{FindMatches}
+
+-- the steps of the iterator, and the engine that it borrows
+abbrev pub finds_steps : FindMatches → StepsWith ByWindow ChoiceState
+finds_steps s = record { steps = s.steps; cache = s.regex }
+
+-- the engine that it searches with
+abbrev pub finds_regex : FindMatches → MutBor ChoiceState
+finds_regex s = s.regex
+
+-- its next input and last end, and whether it has ended
+abbrev pub finds_iter_state : FindMatches → IterState
+finds_iter_state s = iter_state_of s.steps.searcher
+
+abbrev pub finds_done : FindMatches → Bool
+finds_done s = s.steps.done
+
+-- it may always search
+abbrev pub may_ask : WithCache ByWindow ChoiceState → Search → Type 0
+may_ask s x = ⊤
+
+-- one search for a match may answer this
+pub record AsksByWindow (s : WithCache ByWindow ChoiceState) (x : Search) (a : Answer Found)
+    (t : WithCache ByWindow ChoiceState)
+    : Type 0 where
+  pub finds : AnswersMatch s.cache.nfa (kind_in s.cache) x.earliest x a
+  pub keeps : KeepsEngines s.cache t.cache
+
+-- a call
+pub record FindsNext (s : FindMatches) (r : Option Match) (t : FindMatches) : Type 0 where
+  pub takes : TakesStepWith span_of AsksByWindow (λ _. GivesItem found_of) (finds_steps s)
+      (option_map (λ m. Ok m) r) (finds_steps t)
+
+abbrev pub finds_next : FindMatches → Option Match → FindMatches → Type 0
+finds_next s r t = FindsNext s r t
+
+-- the calls keep the engine, and what its answers depend on
+pub record KeepsRegex (s t : FindMatches) : Type 0 where
+  pub regex : t.regex.ghost_name ≡ s.regex.ghost_name
+  pub keeps : KeepsEngines s.regex.now t.regex.now
+
+abbrev pub FindsGiveKept : FindMatches → Type 0
+FindsGiveKept s = GivesKept finds_next KeepsRegex s

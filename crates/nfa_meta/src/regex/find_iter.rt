@@ -1,0 +1,131 @@
+//! Iteration over the matches of an input.
+use crate::regex::Regex;
+use nfa_engines::error::SearchError;
+use nfa_engines::iter::match_items::{found_item, found_span};
+use nfa_engines::iter::{FindWith, Searcher, Steps};
+use regex_search_core::{Input, Match, Span};
+
+/// An iterator over all matches of an input that do not overlap, from left to right. [`Regex::find_iter`] returns it.
+///
+/// It gives at most n + 1 matches for a span of n bytes. It is fused: after the last match it returns only `None`.
+#[derive(Drop)]
+pub struct FindMatches<'r, 'h> {
+    regex: &'r mut Regex,
+    steps: Steps<'h, ByWindow>,
+}
+
+// The searches of one iteration: each borrows the engine.
+#[derive(Debug, Drop)]
+struct ByWindow;
+
+impl Regex {
+    ghost use Rattle.std.specs.Prelude.{◌≡◌, false};
+    ghost use Rattle.regex_search_core.specs.Search.{search_of};
+    ghost use Rattle.nfa_search_base.specs.IterStates.{fresh};
+    ghost use Rattle.nfa_search_base.specs.MatchRuns.{MatchesRun, MatchesAre, MatchesDisjoint, MatchesFirst};
+    ghost use Rattle.nfa_search_base.specs.MatchRuns.{MatchesNext};
+    ghost use Rattle.nfa_choice.specs.ChoiceState.{kind_in};
+    ghost use Rattle.nfa_meta.specs.Matches.{FindsGiveKept, finds_done, finds_iter_state, finds_next, finds_regex};
+
+    /// Returns an iterator over all matches that do not overlap, from left to right. Does not allocate.
+    ///
+    /// Each search starts at the end of the last match, and runs as [`Regex::find`]. An empty match there is replaced by
+    /// the result of a search from one byte further on.
+    ///
+    /// ```
+    /// // regex of "foo[0-9]+"
+    /// let mut ranges = Vec::new(alloc);
+    /// for found in regex.find_iter(Input::new(b"foo1 foo12 foo123")) {
+    ///     ranges.push(found.range())?;
+    /// }
+    /// assert_eq!(rt; ranges.as_slice(), [0..4, 5..10, 11..17].as_slice());
+    /// ```
+    pub fn find_iter<'r, 'h>(&'r mut self, input: Input<'h>) -> FindMatches<'r, 'h>
+        ensures same_reference { (finds_regex result).ghost_name ≡ self.entry.ghost_name }
+        ensures same_regex { (finds_regex result).now ≡ self.entry.now }
+        ensures iter_state { finds_iter_state result ≡ fresh (search_of input.entry) }
+        ensures going { finds_done result ≡ false }
+        // Each run of calls gives the first matches of the input, and all of them if it goes on to `None`.
+        ensures runs { MatchesRun self.entry.now.nfa (kind_in self.entry.now)
+            (search_of input.entry) finds_next result }
+        ensures are { MatchesAre self.entry.now.nfa (kind_in self.entry.now)
+            (search_of input.entry) finds_next result }
+        ensures disjoint { MatchesDisjoint self.entry.now.nfa (kind_in self.entry.now)
+            (search_of input.entry) finds_next result }
+        ensures first { MatchesFirst self.entry.now.nfa (kind_in self.entry.now)
+            (search_of input.entry) finds_next result }
+        ensures next { MatchesNext self.entry.now.nfa (kind_in self.entry.now)
+            (search_of input.entry) finds_next result }
+        ensures keeps { FindsGiveKept result }
+    {
+        FindMatches {
+            regex: self,
+            steps: Steps {
+                searcher: Searcher::new(input),
+                backend: ByWindow,
+                done: false,
+            },
+        }
+    }
+}
+
+impl FindWith for ByWindow {
+    ghost use Rattle.regex_search_core.specs.Found.{Found, found_of};
+    ghost use Rattle.nfa_search_base.specs.Finders.{answer_by};
+    ghost use Rattle.nfa_search_base.specs.Steps.{GivesItem};
+    ghost use Rattle.nfa_search_base.specs.IterStates.{span_of};
+    ghost use Rattle.nfa_meta.specs.Matches.{AsksByWindow, may_ask};
+    ghost use Rattle.std.specs.Prelude.{Ok};
+
+    type Cache = Regex;
+
+    type Reply = Option<Match>;
+
+    ghost Value = { Found };
+
+    ghost shows = { λ _ reply. answer_by found_of (Ok reply) };
+
+    ghost span = { span_of };
+
+    ghost accepts = { may_ask };
+
+    type Item = Match;
+
+    ghost gives = { λ _. GivesItem found_of };
+
+    ghost asks = { AsksByWindow };
+
+    #[inline]
+    fn answer(&mut self, regex: &mut Regex, input: &Input<'_>) -> Option<Match> {
+        regex.find(*input)
+    }
+
+    #[inline]
+    fn reply_span(&self, reply: Option<Match>) -> Option<Span> {
+        found_span(reply)
+    }
+
+    #[inline]
+    fn item(&self, reply: Option<Match>) -> Option<Result<Match, SearchError>> {
+        found_item(reply)
+    }
+}
+
+impl<'r, 'h> Iterator for FindMatches<'r, 'h> {
+    ghost use Rattle.nfa_search_base.specs.StepsWith.{infallible_left_with};
+    ghost use Rattle.nfa_meta.specs.Matches.{finds_next, finds_steps};
+
+    type Item = Match;
+
+    ghost next_gives = { finds_next };
+
+    ghost remaining = { λ s. infallible_left_with (finds_steps s) };
+
+    fn next(&mut self) -> Option<Match> {
+        match self.steps.next_with(self.regex) {
+            Some(Ok(found)) => Some(found),
+            None => None,
+            Some(Err(_)) => unreachable!(),
+        }
+    }
+}
