@@ -2,4 +2,6 @@
 
 mod pair;
 mod patterns;
+mod rows;
 mod samples;
+mod sets;

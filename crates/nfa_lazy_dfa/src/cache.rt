@@ -1,6 +1,6 @@
 //! The rows that were built so far.
 ghost use Rattle.std.specs.Prelude.{◌≡◌, ℕ, ◌+◌, ◌-◌, ◌*◌, ◌<◌, ◌≤◌, ◌++◌, ◌∷◌, [], true, false, None, Some};
-ghost use Rattle.std.specs.Prelude.{◌⊎◌, All, Err, IfErr, IfOk, IfNone, IfSome, IsOkUnless, IsTrue, OnErr, OnOk, length, map, option_map, slice_get, vec_len};
+ghost use Rattle.std.specs.Prelude.{◌⊎◌, ◌↔◌, All, Err, IfErr, IfOk, IfNone, IfSome, IsOkUnless, IsTrue, OnErr, OnOk, length, map, option_map, slice_get, vec_len};
 ghost use Rattle.regex_search_core.specs.Patterns.{number_of};
 ghost use Rattle.nfa_lazy_dfa.specs.Capacities.{IsUsedUpBy, first_row_memory, largest_row_memory};
 ghost use Rattle.nfa_lazy_dfa.specs.Rows as rows;
@@ -75,7 +75,7 @@ impl Cache {
     ///
     /// ```
     /// // dfa of "foo[0-9]+"
-    /// let mut cache = dfa::Cache::new(alloc, dfa)?;
+    /// let mut cache = Cache::new(alloc, dfa)?;
     /// assert_eq!(rt; cache.memory_usage(), 0);
     /// assert!(rt; dfa.try_is_match(&mut cache, Input::new(b"foo12345"))?);
     /// ```
@@ -236,8 +236,7 @@ impl Cache {
 
     /// Whether a search that begins with this state begins in the row.
     fn is_first(&self, row: u32, start: StateID, before: Option<u8>, more: bool) -> bool
-        ensures { IsTrue result
-            → IsRowOf self.now row (first_stance start before more) }
+        ensures { IsTrue result ↔ IsRowOf self.now row (first_stance start before more) }
     {
         match self.stands.get(row as usize) {
             None => false,

@@ -18,6 +18,12 @@ impl DFA {
     }
 
     /// Makes the cache one of this DFA, whichever DFA it was of. Its rows are dropped.
+    ///
+    /// ```
+    /// // dfa of "foo[0-9]+"
+    /// dfa.reset_cache(cache);
+    /// assert!(rt; dfa.try_is_match(cache, Input::new(b"foo12345"))?);
+    /// ```
     pub fn reset_cache(&self, cache: &mut Cache)
         ensures own { IsFor cache.new self.now }
         ensures none { memory_of cache.new ≡ 0 }
@@ -28,6 +34,13 @@ impl DFA {
 
 impl Cache {
     /// Makes the cache one of the DFA, whichever DFA it was of. Its rows are dropped, and their memory is kept.
+    ///
+    /// ```
+    /// // dfa of "foo[0-9]+"
+    /// cache.reset(dfa);
+    /// assert_eq!(rt; cache.memory_usage(), 0);
+    /// assert!(rt; dfa.try_is_match(cache, Input::new(b"foo12345"))?);
+    /// ```
     pub fn reset(&mut self, dfa: &DFA)
         ensures own { IsFor self.new dfa.now }
         ensures none { memory_of self.new ≡ 0 }

@@ -19,9 +19,11 @@ use thompson_nfa::{BuildError, Look, NFA, State};
 /// (`kind_of`) and the configuration (`config_of`).
 ///
 /// ```
+/// let nfa = Compiler::new().build(alloc, "foo[0-9]+")?;
 /// let dfa = DFA::new(nfa)?;
 /// let mut cache = dfa.create_cache(alloc)?;
 /// let half = dfa.try_find_half(&mut cache, Input::new(b"foo12345"))?;
+/// assert!(rt; half.is_some());
 /// ```
 #[derive(Debug, Drop)]
 pub struct DFA {
@@ -88,6 +90,15 @@ impl DFA {
     }
 
     /// Returns a builder with nothing set.
+    ///
+    /// ```
+    /// let nfa = Compiler::new().build(alloc, "foo[0-9]+")?;
+    /// let mut builder = DFA::builder();
+    /// builder.configure(DFA::config().cache_capacity(100_000));
+    /// let dfa = builder.build_from_nfa(nfa)?;
+    /// assert_eq!(rt; dfa.get_config().get_cache_capacity(), 100_000);
+    /// assert_eq!(rt; dfa.get_nfa().pattern_len(), dfa.pattern_len());
+    /// ```
     pub fn builder() -> Builder
         ensures { result ≡ unset }
     {

@@ -1,5 +1,5 @@
 //! The rows of a cache by the hash of what they stand for.
-ghost use Rattle.std.specs.Prelude.{◌≡◌, ◌≤◌, ◌∷◌, [], None, Some, IfOk, IfSome, IsTrue, length, map, option_map, slice_get};
+ghost use Rattle.std.specs.Prelude.{◌≡◌, ◌↔◌, ◌≤◌, ◌∷◌, [], None, Some, IfOk, IfSome, IsTrue, length, map, option_map, slice_get};
 ghost use Rattle.regex_search_core.specs.Patterns.{number_of};
 ghost use Rattle.nfa_lazy_dfa.specs.Rows.{stances_of};
 ghost use Rattle.nfa_lazy_dfa.specs.Stances.{first_stance, stance_of};
@@ -179,7 +179,7 @@ fn same_hits(a: &[PatternID], b: &[PatternID]) -> bool
 
 /// Whether the two bytes are equal.
 fn same_before(a: Option<u8>, b: Option<u8>) -> bool
-    ensures { IsTrue result → a ≡ b }
+    ensures { IsTrue result ↔ (a ≡ b) }
 {
     match (a, b) {
         (None, None) => true,
@@ -201,8 +201,7 @@ fn same_stand(a: &Stand, b: &Stand) -> bool
 
 /// Returns whether a search that begins with this state begins with the stand.
 pub fn is_first(stand: &Stand, start: StateID, before: Option<u8>, more: bool) -> bool
-    ensures { IsTrue result
-        → stance_of stand.now ≡ first_stance start before more }
+    ensures { IsTrue result ↔ (stance_of stand.now ≡ first_stance start before more) }
 {
     match &stand.states[..] {
         [only] => {

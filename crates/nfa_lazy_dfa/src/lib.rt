@@ -1,4 +1,5 @@
-//! A DFA that is built while it searches: it finds whether and where a match ends, at a few instructions a byte.
+//! A DFA that is built while it searches: it finds whether and where a match ends, and which patterns match, at a few
+//! instructions a byte.
 #![tactic(auto)]
 
 mod apart;

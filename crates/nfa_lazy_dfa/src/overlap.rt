@@ -10,7 +10,7 @@ ghost use Rattle.nfa_lazy_dfa.specs.Assertions.{IsRead};
 ghost use Rattle.nfa_lazy_dfa.specs.Capacities.{HasNoRoom, HasToScan, IsUsedUpAt, StopsAtStart, first_row_memory};
 ghost use Rattle.nfa_lazy_dfa.specs.Configs.{kind_of, nfa_of};
 ghost use Rattle.nfa_lazy_dfa.specs.Places.{IsFoundAt};
-ghost use Rattle.nfa_lazy_dfa.specs.Rows.{IsBounded, IsFor, IsRowOf, Scans, Spends, capacity_of, memory_of, scans_of};
+ghost use Rattle.nfa_lazy_dfa.specs.Rows.{IsBounded, IsFor, IsRowOf, Scans, Spends, capacity_of, memory_of, scans_of, steps_of};
 ghost use Rattle.nfa_lazy_dfa.specs.Sets.{AddsEach, AddsHere, IsPartOfOverlap};
 ghost use Rattle.nfa_lazy_dfa.specs.Stances.{hits_here};
 ghost use Rattle.nfa_lazy_dfa.specs.Stops.{IsInSpan, IsStop};
@@ -38,7 +38,7 @@ impl DFA {
     /// ```
     /// // dfa of [r"\w+", r"\d+", r"\pL+", "foo", "bar", "barfoo", "foobar"], with MatchKind::All
     /// let mut patterns = PatternSet::new(alloc, dfa.pattern_len())?;
-    /// dfa.try_which_overlapping_matches(&mut cache, &Input::new(b"foobar"), &mut patterns)?;
+    /// dfa.try_which_overlapping_matches(cache, &Input::new(b"foobar"), &mut patterns)?;
     /// assert_eq!(rt; patterns.len(), 5);
     /// ```
     pub fn try_which_overlapping_matches(
@@ -161,6 +161,7 @@ fn skip(dfa: &DFA, cache: &mut Cache, input: &Input<'_>, from: Place) -> Place
     ensures low { from.at ≤ result.at }
     ensures found { result.found ≡ from.found }
     ensures spends { Spends cache.old cache.new (result.at - from.at) 0 }
+    ensures counts { steps_of cache.new ≡ steps_of cache.old + (result.at - from.at) }
 {
     let first = from.row * ROW_CELLS as u32;
     let (at, first) = pass(dfa, cache, input, from.at, first, from.found);

@@ -31,8 +31,8 @@ impl DFA {
     /// one. It stays the DFA's in each search, also in one that returns an error.
     ///
     /// ```
-    /// // dfa of "foo(?<n>[0-9]+)"
-    /// let half = dfa.try_find_half(&mut cache, Input::new(b"foo12345"))?;
+    /// // dfa of "foo[0-9]+"
+    /// let half = dfa.try_find_half(cache, Input::new(b"foo12345"))?;
     /// assert_eq!(rt; half.expect(rt, "a match").offset(), 8);
     /// ```
     pub fn try_find_half<'h>(
@@ -61,9 +61,9 @@ impl DFA {
     /// ensure, are those of [`DFA::try_find_half`].
     ///
     /// ```
-    /// // dfa of "foo[0-9]+bar"
-    /// assert!(rt; dfa.try_is_match(&mut cache, Input::new(b"foo12345bar"))?);
-    /// assert!(rt; !dfa.try_is_match(&mut cache, Input::new(b"foobar"))?);
+    /// // dfa of "foo[0-9]+"
+    /// assert!(rt; dfa.try_is_match(cache, Input::new(b"foo12345"))?);
+    /// assert!(rt; !dfa.try_is_match(cache, Input::new(b"foobar"))?);
     /// ```
     pub fn try_is_match<'h>(&self, cache: &mut Cache, input: Input<'h>) -> Result<bool, StopError>
         requires { IsFor cache.old self.now }

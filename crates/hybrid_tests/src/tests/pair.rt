@@ -7,7 +7,7 @@ ghost use Rattle.nfa_engines.specs.IterStates.{LiesIn};
 use nfa_engines::error::SearchError;
 use nfa_engines::iter::Searcher;
 use nfa_engines::pikevm::{self, PikeVM};
-use nfa_engines::{HalfMatch, Input, NFA};
+use nfa_engines::{HalfMatch, Input, NFA, PatternSet};
 use nfa_hybrid::{Engine, Hybrid, dfa};
 use std::alloc::Global;
 use std::process::Abort;
@@ -76,6 +76,26 @@ fn next_found(
     }
 }
 
+// The set that the PikeVM makes.
+fn set_by(
+    rt: &impl Abort,
+    alloc: Global,
+    vm: &PikeVM,
+    threads: &mut pikevm::Cache,
+    input: &Input<'_>,
+    capacity: usize,
+) -> PatternSet {
+    let mut set = PatternSet::new(alloc, capacity).expect(rt, "memory");
+    if threads.fits(vm) {
+        vm.which_overlapping_matches(threads, input, &mut set);
+    }
+    set
+}
+
+fn same_sets(a: &PatternSet, b: &PatternSet) -> bool {
+    a.len() == b.len() && a.iter().all(|pattern| b.contains(pattern))
+}
+
 fn expect_on(rt: &impl Abort, input: &Input<'_>, holds: bool) {
     assert!(rt; holds, "{input:?}");
 }
@@ -103,6 +123,29 @@ impl Pair {
         self.count();
         let wanted = is_piked(&self.vm, &mut self.threads, *input);
         expect_on(rt, input, found == wanted);
+    }
+
+    /// Both make the same set, also in sets with room for fewer patterns.
+    pub fn expect_same_set(&mut self, rt: &impl Abort, alloc: Global, input: &Input<'_>) {
+        let patterns = self.hybrid.pattern_len();
+        for capacity in [0, patterns / 2, patterns] {
+            let set = self.set_of(rt, alloc, input, capacity);
+            let wanted = set_by(rt, alloc, &self.vm, &mut self.threads, input, capacity);
+            expect_on(rt, input, same_sets(&set, &wanted));
+        }
+    }
+
+    fn set_of(
+        &mut self,
+        rt: &impl Abort,
+        alloc: Global,
+        input: &Input<'_>,
+        capacity: usize,
+    ) -> PatternSet {
+        let mut set = PatternSet::new(alloc, capacity).expect(rt, "memory");
+        self.hybrid.which_overlapping_matches(input, &mut set);
+        self.count();
+        set
     }
 
     /// Both give the same half matches from left to right. Returns how many there are.

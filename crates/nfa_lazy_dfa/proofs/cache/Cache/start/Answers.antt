@@ -7,5 +7,5 @@ use Rattle.nfa_lazy_dfa.proofs.cache.Cache.start.Goals as goal
 pub returns-then-is_first-clause-small : goal.returns-then-is_first-clause-small
 returns-then-is_first-clause-small c = λ less.
     let fits = row-fits c.args.self.now c.args.dfa.now c.requires.own _
-    (first_stance c.args.start c.args.before c.args.more) (c.is_first.ensures c.if-is_first.true) in
+    (first_stance c.args.start c.args.before c.args.more) (c.is_first.ensures.0 c.if-is_first.true) in
     absurd (omega arith)
