@@ -18,12 +18,13 @@ returns-clause-next c =
     record {
       read = c.requires.read;
       hit = search rules;
+      hits = search rules;
       more = search rules;
       states = search rules;
       held = λ q i.
           let j : In q next = subst (In q) (sym stepped) i in
           c.in_ok-states-2.ensures.held q
-          (subst (In q) (sym c.deref-3.ensures.value)
+          (subst (In q) (sym c.deref-4.ensures.value)
           (elim c.if-more.branch [
             | then-more+in_ok-push w ↦
                 let pushed : c.if-more.next.items ≡ next ++ c.args.dfa.now.nfa.anchored ∷ [] = search rules in
