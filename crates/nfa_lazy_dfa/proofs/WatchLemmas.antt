@@ -101,10 +101,7 @@ module _ (dfa : DFA) (c : Cache) (x : Search) where
       same q (inl e) = e
       same q (inr i) = absurd i
 
-  -- later positions are at least as far
-  pub IsBegun-later : (start at to : ℕ) → at ≤ to → IsBegun dfa.nfa x start at → IsBegun dfa.nfa x start to
-  IsBegun-later start at to less h = record { low = h.low; high = let k : start ≤ at = h.high in omega arith; starts = h.starts }
-
+-- the start of the search
 pub IsBegun-start : (nfa : Automaton) (x : Search) (at : ℕ) → at ≡ x.start → IsBegun nfa x at at
 IsBegun-start nfa x at same = record {
   low = omega arith;
@@ -141,8 +138,9 @@ pub watching-next : (dfa : DFA) (x : Search) (old new : Cache) (w : Watch) → I
     → (half : Option HalfMatch) → option_map half_found_of half ≡ option_map (half_at w.at) t.hit
     → IsAt dfa new x (w.at + 1) next × (option_map half_found_of half ≡ found_at dfa x (w.at + 1))
 watching-next dfa x old new w here inside is p same next leads t known half half_is =
-    IsFoundAt-next dfa x w.at (get_or x.haystack w.at 0) inside is old new (place_at w.at w.first None) next here.at refl
-    (subst (λ (q : Place). LeadsTo dfa old new q.row (get_or x.haystack q.at 0) next) same leads) t known half half half_is
+    IsFoundAt-next dfa x w.at (get_or x.haystack w.at 0) inside is old new (place_at w.at w.first None) next here.at
+    refl (subst (λ (q : Place). LeadsTo dfa old new q.row (get_or x.haystack q.at 0) next) same leads) t known half half
+    half_is
     (sym (option_or-None half))
 
 -- a window that starts where the search does, and one that starts at an idle position
@@ -153,7 +151,8 @@ pub IsWindow-start : (nfa : Automaton) (kind : MatchKind) (x : Search) (start : 
     → IfSome w (λ w. start_in w ≡ start) → IfSome w (IsWindow nfa x)
 IsWindow-start nfa kind x start first half answers None is at = tt
 IsWindow-start nfa kind x start first half answers (Some w) is at =
-    let lies = half-within nfa kind x.earliest x (half_in w) (subst (IsHalfAnswer nfa kind x.earliest x) (sym is) answers)
+    let lies =
+    half-within nfa kind x.earliest x (half_in w) (subst (IsHalfAnswer nfa kind x.earliest x) (sym is) answers)
     in
     let here : start_in w ≡ x.start = at ∙ first in
     record {

@@ -117,7 +117,7 @@ fn idle_place(dfa: &DFA, cache: &Cache, row: u32) -> u32
     }
 }
 
-/// The watch in a row at a position, before which no match starts at all or not before the earlier start.
+/// The watch at this place. No match starts before the place if its row is idle, nor otherwise before `start`.
 fn watch_at(
     dfa: &DFA,
     cache: &Cache,

@@ -8,5 +8,6 @@ pub returns : goal.returns
 returns c = λ e. record {
   apart = states-apart c.args.nfa.now c.states-state-items.result.now c.args.nfa.now.anchored
       c.states-state-items.ensures.nodes
-      (λ k less byte is. c.loop-state.invariant k (omega arith) byte (is ∙ ap Some (sym c.start_anchored-start.ensures.value)));
+      (λ k less byte is.
+      c.loop-state.invariant k (omega arith) byte (is ∙ ap Some (sym c.start_anchored-start.ensures.value)));
 }
