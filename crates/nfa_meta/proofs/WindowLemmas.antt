@@ -32,7 +32,8 @@ module _ (nfa : Automaton) (kind : MatchKind) (earliest : Bool) (x : Search) (wh
     where
       of : (b : Bool) → b ≡ false
           → MatchBool b (MatchBool (is_anchored x.anchored) ((restarts ≡ 0) × IsKeptAnswer nfa kind earliest x path)
-          (IsRestartedAnswer nfa kind earliest x restarts path)) ((restarts ≡ 0) × IsScanAnswer nfa x kind earliest path)
+          (IsRestartedAnswer nfa kind earliest x restarts path))
+          ((restarts ≡ 0) × IsScanAnswer nfa x kind earliest path)
           → IsScanAnswer nfa x kind earliest path
       of true e h = absurd (cc e)
       of false e h = h.1
@@ -68,7 +69,8 @@ module _ (nfa : Automaton) (x : Search) (free : IsUnbound nfa x) (s : ℕ) (low 
           (with-starts w (unbound-start nfa x free x.start w.start
           (record { state_is = ap (λ (v : Pair). v.0) at.is; from = omega arith; within = omega arith }))) in
           let past : s ≤ path.start.1 = from.from m p path accepts in
-          let same : path.start.1 ≡ w.start.1 = ap (λ (v : Pair). v.1) (heads-same path.start w.start p path.head w.head) in
+          let same : path.start.1 ≡ w.start.1 =
+          ap (λ (v : Pair). v.1) (heads-same path.start w.start p path.head w.head) in
           absurd (omega arith);
     };
   }
@@ -190,7 +192,8 @@ none-path nfa kind earliest x whole h =
         absurd (half to.end (pattern_of (node_at nfa to.end.0)) to.matches (rw last at e))
 
 -- the match of a window is that of the search
-pub window-found : WindowHasTheMatch → (nfa : Automaton) (x y : Search) (w : Window) (kind : MatchKind) (earliest : Bool)
+pub window-found : WindowHasTheMatch → (nfa : Automaton) (x y : Search) (w : Window) (kind : MatchKind)
+    (earliest : Bool)
     → kind ≡ LeftmostFirst → earliest ≡ false → IsUnbound nfa x → IsWindow nfa x w
     → IsHalfAnswer nfa kind earliest x (Some (half_in w)) → y ≡ within x (start_in w) (half_in w).offset
     → (found : Option Found) → IsFindAnswer nfa kind earliest y found → IsFindAnswer nfa kind earliest x found
@@ -216,8 +219,10 @@ pub window-slots : WindowHasTheAnswer → (nfa : Automaton) (x y : Search) (w : 
 window-slots law nfa x y w kind earliest first last free window half is pattern slots answers =
     let to : (k : MatchKind) (e : Bool) → kind ≡ k → earliest ≡ e → IsAnswer nfa k e x pattern slots
     → IsAnswer nfa kind earliest x pattern slots =
-    λ k e f l. subst (λ (z : MatchKind). IsAnswer nfa z e x pattern slots → IsAnswer nfa kind earliest x pattern slots) f
-    (subst (λ (b : Bool). IsAnswer nfa kind b x pattern slots → IsAnswer nfa kind earliest x pattern slots) l (λ a. a)) in
+    λ k e f l.
+    subst (λ (z : MatchKind). IsAnswer nfa z e x pattern slots → IsAnswer nfa kind earliest x pattern slots) f
+    (subst (λ (b : Bool). IsAnswer nfa kind b x pattern slots → IsAnswer nfa kind earliest x pattern slots) l
+    (λ a. a)) in
     to LeftmostFirst false first last
     (law nfa x (start_in w) (half_in w) pattern slots free window.low window.starts
     (subst (λ (k : MatchKind). IsHalfAnswer nfa k false x (Some (half_in w))) first

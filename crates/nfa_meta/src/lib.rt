@@ -1,6 +1,5 @@
-//! One engine for one NFA ([`Regex`]): each search runs the cheapest engine that can answer it. A lazy DFA finds where the
-//! match ends and a window that holds it, and an engine of `nfa_choice` finds the match in the window. Searches never
-//! fail.
+//! One engine for one NFA ([`Regex`]). A lazy DFA finds where a match ends and a window that holds it, and an engine of
+//! `nfa_choice` finds the match in the window. Searches never fail.
 //!
 //! ```
 //! let mut regex = Regex::new(alloc, nfa)?;

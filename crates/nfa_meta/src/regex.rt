@@ -1,14 +1,16 @@
 //! The engine that runs a lazy DFA first, and an engine of `nfa_choice` for the match in its window.
-ghost use Rattle.std.specs.Prelude.{All, IfNone, replicate};
-ghost use Rattle.std.specs.Prelude.{◌≡◌, ◌<◌, IfOk, IfSome, IsOkUnless, None, false, length, option_map, true};
+ghost use Rattle.std.specs.Prelude.{◌≡◌, ◌<◌, All, IfNone, IfOk, IfSome, IsOkUnless, None, false, length, option_map};
+ghost use Rattle.std.specs.Prelude.{replicate, true};
 ghost use Rattle.regex_search_core.specs.Found.{found_of, half_found_of};
 ghost use Rattle.regex_search_core.specs.Patterns.{number_of};
 ghost use Rattle.regex_search_core.specs.Search.{search_of};
+ghost use Rattle.regex_search_core.specs.declared.search.MatchKind.TheVariants.{LeftmostFirst};
 ghost use Rattle.nfa_paths.specs.Paths.{IsAnswer, IsBoolAnswer, IsFindAnswer, IsHalfAnswer};
 ghost use Rattle.nfa_search_base.specs.Lists.{IsInside, IsSlotInside};
 ghost use Rattle.nfa_backtrack.specs.Backtrack.{empty_cache};
 ghost use Rattle.nfa_pikevm.specs.Engines.{cache_for};
 ghost use Rattle.nfa_choice.specs.ChoiceState.{KeepsEngines, kind_in};
+ghost use Rattle.nfa_lazy_dfa.specs.Configs.{kind_of, nfa_of};
 ghost use Rattle.nfa_meta.specs.Windowed.{IsWindowed};
 
 mod find_iter;
@@ -24,12 +26,12 @@ use std::alloc::Global;
 use std::marker::Model;
 use thompson_nfa::NFA;
 
-/// A search engine for one NFA that runs the cheapest engine that can answer, and never fails. It searches leftmost
-/// first.
+/// A search engine for one NFA over a lazy DFA and the two engines of a [`Choice`]. It searches leftmost first, and
+/// never fails.
 ///
-/// A lazy DFA searches first. It gives the ends of matches, and for [`Regex::find`] a window in which the two engines of
-/// a [`Choice`] find the match. If the DFA stops without an answer, the [`Choice`] searches the whole input. Contracts see
-/// what they see of the [`Choice`].
+/// The DFA searches first. It gives the ends of matches, and for [`Regex::find`] a window in which the [`Choice`] finds
+/// the match. If the DFA stops without an answer, the [`Choice`] searches the whole input. Contracts see what they see
+/// of the [`Choice`].
 #[derive(Drop)]
 pub struct Regex {
     dfa: DFA,
@@ -50,6 +52,17 @@ impl Model for Regex {
 
     ghost invariant = { λ r. (nfa_of r.dfa ≡ r.choice.nfa) × (kind_of r.dfa ≡ LeftmostFirst)
         × (kind_in r.choice ≡ LeftmostFirst) × IsFor r.cache r.dfa };
+}
+
+/// Makes a lazy DFA of the NFA.
+fn lazy_dfa(nfa: NFA) -> DFA
+    ensures nfa { nfa_of result ≡ nfa }
+    ensures kind { kind_of result ≡ LeftmostFirst }
+{
+    match DFA::new(nfa) {
+        Ok(dfa) => dfa,
+        Err(_) => unreachable!(),
+    }
 }
 
 impl Regex {
@@ -75,9 +88,7 @@ impl Regex {
         let Ok(copy) = nfa.clone() else {
             return Err(SearchError::Memory);
         };
-        let Ok(dfa) = DFA::new(copy) else {
-            return Err(SearchError::Memory);
-        };
+        let dfa = lazy_dfa(copy);
         let Ok(cache) = dfa.create_cache(alloc) else {
             return Err(SearchError::Memory);
         };
@@ -105,10 +116,10 @@ impl Regex {
 
     /// Returns the match that a search of the input finds, in byte offsets into the haystack.
     ///
-    /// The lazy DFA finds the end of the match and a window that holds it, and the [`Choice`] searches the window. So the
-    /// work of the slower engines depends on the window, and not on the haystack. The [`Choice`] searches the whole input
-    /// if the DFA stops, if the search is anchored or `earliest`, or if the NFA can match the empty string and is in UTF-8
-    /// mode.
+    /// The lazy DFA finds the end of the match and a window that holds it, and the [`Choice`] searches the window. So
+    /// the work of the slower engines depends on the window, and not on the haystack. The [`Choice`] searches the whole
+    /// input if the DFA stops, if the search is anchored or `earliest`, if the NFA is anchored, or if it can match the
+    /// empty string and is in UTF-8 mode.
     ///
     /// ```
     /// // regex of "foo[0-9]+"
@@ -195,7 +206,8 @@ impl Regex {
         }
     }
 
-    /// Returns whether a search of the input finds a match. The `earliest` flag of the input does not change the answer.
+    /// Returns whether a search of the input finds a match. The `earliest` flag of the input does not change the
+    /// answer.
     ///
     /// ```
     /// // regex of "foo[0-9]+"

@@ -29,8 +29,8 @@ impl Regex {
 
     /// Returns an iterator over all matches that do not overlap, from left to right. Does not allocate.
     ///
-    /// Each search starts at the end of the last match, and runs as [`Regex::find`]. An empty match there is replaced by
-    /// the result of a search from one byte further on.
+    /// Each search starts at the end of the last match, and runs as [`Regex::find`]. An empty match there is replaced
+    /// by the result of a search from one byte further on.
     ///
     /// ```
     /// // regex of "foo[0-9]+"

@@ -27,5 +27,6 @@ returns-in-Ok-Some-clause-answer c =
     let is : y ≡ within x (start_in w) (half_in w).offset = first_of (search rules, grind (arith, common_steps)) in
     let found : IsFindAnswer r.nfa (kind_in r) x.earliest y (option_map found_of c.find-in-Ok-Some.result) =
     first_of (search rules, grind (arith, common_steps)) in
-    window-found c.windows_answer.ensures.matches r.nfa x y w (kind_in r) x.earliest first windowed.last windowed.unbound
+    window-found c.windows_answer.ensures.matches r.nfa x y w (kind_in r) x.earliest first windowed.last
+    windowed.unbound
     window half is (option_map found_of c.find-in-Ok-Some.result) found

@@ -29,7 +29,8 @@ returns-in-Ok-Some-clause-answer c =
     let is : y ≡ within x (start_in w) (half_in w).offset = first_of (search rules, grind (arith, common_steps)) in
     let found : IsAnswer r.nfa (kind_in r) x.earliest y pattern slots =
     first_of (search rules, grind (arith, common_steps)) in
-    window-slots c.windows_answer.ensures.answers r.nfa x y w (kind_in r) x.earliest first windowed.last windowed.unbound
+    window-slots c.windows_answer.ensures.answers r.nfa x y w (kind_in r) x.earliest first windowed.last
+    windowed.unbound
     window half is pattern slots found
 
 pub returns-in-Ok-None-clause-answer : goal.returns-in-Ok-None-clause-answer
