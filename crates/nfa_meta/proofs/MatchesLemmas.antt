@@ -1,47 +1,77 @@
--- The answers of searches in an iteration by a regex, and when its iterator may search.
-use Rattle.std.proofs.Common.{Bool, Ok, subst}
-use Rattle.std.specs.Option.{option_map}
+-- A regex as the engine of an iteration over matches: when its iterator may search, and what it gives and keeps.
+use Rattle.std.proofs.Common.{◌≡◌, Bool, false, Ok, refl, subst}
 use Rattle.regex_search_core.specs.Found.{Found, found_of}
 use Rattle.regex_search_core.specs.Search.{Search}
-use Rattle.regex_search_core.specs.declared.search.MatchKind.{MatchKind}
-use Rattle.thompson_nfa.specs.Automaton.{Automaton}
-use Rattle.nfa_search_base.specs.Asking.{SameButStart}
+use Rattle.regex_search_core.specs.declared.search.Match.{Match}
 use Rattle.nfa_search_base.specs.WithCache.{WithCache}
+use Rattle.nfa_search_base.specs.StepsWith.{TakesStepWith, steps_with_state, steps_with_iter_state}
 use Rattle.nfa_search_base.specs.Lists.{AnswersMatch}
+use Rattle.nfa_search_base.specs.Serving.{may_ask}
 use Rattle.nfa_search_base.specs.Steps.{GivesItem}
 use Rattle.nfa_search_base.specs.Stored.{steps_iter_state, can_step_infallibly}
-use Rattle.nfa_search_base.specs.IterStates.{Answer, span_of, IsInfalliblyInside}
+use Rattle.nfa_search_base.specs.IterStates.{fresh, span_of, IsInfalliblyInside}
 use Rattle.nfa_search_base.specs.declared.iter.steps.Steps.{Steps}
-use Rattle.nfa_search_base.proofs.AskingLemmas.{ServesOnAlong-by}
-use Rattle.nfa_search_base.proofs.EngineLemmas.{calls-kept, find-lies}
-use Rattle.nfa_choice.specs.ChoiceState.{ChoiceState, KeepsEngines, kind_in}
-use Rattle.nfa_choice.proofs.FindLemmas.{IsOf, is-kept, keeps-self, keeps-then}
-use Rattle.nfa_meta.specs.Matches.{AsksByWindow, FindsGiveKept, finds_next, finds_steps, may_ask}
+use Rattle.nfa_search_base.proofs.EngineLemmas.{KeptBy, SearchesAs, SearchesOf, answers_as, calls-kept, find-lies}
+use Rattle.nfa_search_base.proofs.EngineLemmas.{searches-serve}
+use Rattle.nfa_search_base.proofs.MatchRunLemmas.{MatchesGiven, matches-given}
+use Rattle.nfa_search_base.proofs.RunLemmas.{AnswersOf, Begins}
+use Rattle.nfa_search_base.proofs.ShellLemmas.{ShellOf, steps_in}
+use Rattle.nfa_pikevm.specs.Engines.{Pike, kind_of}
+use Rattle.nfa_pikevm.specs.Finding.{PikeAnswersMatch}
+use Rattle.nfa_choice.specs.ChoiceState.{ChoiceState, KeepsEngines, kind_in, pike_of}
+use Rattle.nfa_choice.proofs.FindLemmas.{keeps-self, keeps-then, pike-kept}
+use Rattle.nfa_meta.specs.Matches.{AsksByWindow, FindsGiveKept, finds_next, finds_steps}
 use Rattle.nfa_meta.specs.declared.regex.find_iter.ByWindow.{ByWindow}
 use Rattle.nfa_meta.specs.declared.regex.find_iter.FindMatches.{FindMatches}
 
+-- the regex, whose answers are those of the PikeVM of its choice
+abbrev regex_finds : SearchesOf Pike ChoiceState (WithCache ByWindow ChoiceState) Found
+regex_finds = record {
+  engine = λ s. pike_of s.cache;
+  cache = λ s. s.cache;
+  asks = AsksByWindow;
+  May = may_ask;
+  Tells = PikeAnswersMatch;
+  Work = λ vm x a. KeepsEngines;
+  tells = λ s t a s' asked. asked.tells;
+  works = λ s t a s' asked. asked.work;
+  stays = λ s t a s' asked. pike-kept s.cache s'.cache asked.work;
+  like = λ s x t same may. tt;
+  goes = λ s t a s' may asked. tt;
+}
+
+-- what it answers on searches like x
+abbrev regex_answers : (e : ChoiceState) (x : Search)
+    → AnswersOf (WithCache ByWindow ChoiceState) x (AnswersMatch e.nfa (kind_in e) x.earliest)
+regex_answers e x = answers_as regex_finds (pike_of e) x (AnswersMatch e.nfa (kind_in e) x.earliest)
+    (λ t a same h. subst (λ (b : Bool). AnswersMatch e.nfa (kind_in e) b t a) same.earliest h)
+
+-- its iterator
+abbrev regex_shell : ShellOf (TakesStepWith span_of AsksByWindow (λ _. GivesItem found_of)) (λ (m : Match). Ok m)
+    FindMatches
+regex_shell = record { calls = finds_next; inner = finds_steps; is = λ s r t st. st.takes }
+
 -- it may always search, and never errs
 pub regex-serves : (s : Steps (WithCache ByWindow ChoiceState)) → can_step_infallibly may_ask AsksByWindow span_of s
-regex-serves s = ServesOnAlong-by may_ask AsksByWindow (IsInfalliblyInside span_of)
-    (λ (q : WithCache ByWindow ChoiceState). Unit {0}) s.backend (steps_iter_state s).at tt (λ q t same u. tt)
-    (λ q t a q' same u asked. (find-lies q.cache.nfa (kind_in q.cache) t.earliest t a asked.finds, tt))
+regex-serves s = searches-serve regex_finds (IsInfalliblyInside span_of)
+    (λ vm t a h. find-lies vm.nfa (kind_of vm) t.earliest t a h) s.backend (steps_iter_state s).at tt
 
--- it answers the matches of its searches, and they depend on the same
-pub regex-acts : (c : ChoiceState) (x : Search) (s : WithCache ByWindow ChoiceState) (t : Search) (a : Answer Found)
-    (s' : WithCache ByWindow ChoiceState) → SameButStart x t → IsOf c s.cache → AsksByWindow s t a s'
-    → AnswersMatch c.nfa (kind_in c) x.earliest t a × IsOf c s'.cache
-regex-acts c x s t a s' same is asked = (
-  subst (λ (b : Bool). AnswersMatch c.nfa (kind_in c) b t a) same.earliest
-      (subst (λ (k : MatchKind). AnswersMatch c.nfa k t.earliest t a) is.kind
-      (subst (λ (n : Automaton). AnswersMatch n (kind_in s.cache) t.earliest t a) is.nfa asked.finds)),
-  is-kept c s.cache s'.cache is asked.keeps,
-)
+abbrev regex_kept : KeptBy AsksByWindow
+regex_kept = record {
+  Keeps = KeepsEngines;
+  self = keeps-self;
+  then = keeps-then;
+  asked = λ s x a t asked. asked.work;
+}
 
 -- all calls keep the engine
 pub gives-regex : (s : FindMatches) → FindsGiveKept s
-gives-regex s = λ xs t r u ran st.
-    let k = calls-kept span_of AsksByWindow (λ _. GivesItem found_of) KeepsEngines keeps-self keeps-then
-    (λ p x a q asked. asked.keeps) finds_next finds_steps (option_map (λ m. Ok m))
-    (λ p i q h. h.takes) s xs t r
-    u ran st in
-    record { regex = k.cache; keeps = k.keeps }
+gives-regex = calls-kept regex_kept regex_shell
+
+-- An iterator that begins at x gives the matches of the NFA.
+pub finds-given : (x : Search) (s : FindMatches) → steps_with_iter_state (finds_steps s) ≡ fresh x
+    → s.steps.done ≡ false → MatchesGiven s.regex.now.nfa (kind_in s.regex.now) x finds_next s
+finds-given x s iter_state going =
+    let begins : Begins (SearchesAs regex_finds (pike_of s.regex.now)) x (steps_with_state (finds_steps s)) =
+    record { iter_state = iter_state; going = going; good = refl } in
+    matches-given s.regex.now.nfa (kind_in s.regex.now) (regex_answers s.regex.now x) (steps_in regex_shell) s begins

@@ -1,13 +1,13 @@
 -- The iterator over the matches of a regex.
-use Rattle.std.specs.Prelude.{◌≡◌, Ok, Option, option_map, ⊤, Bool}
+use Rattle.std.specs.Prelude.{Ok, Option, option_map, Bool}
 use Rattle.std.specs.Borrow.{MutBor}
 use Rattle.regex_search_core.specs.Found.{Found, found_of}
 use Rattle.regex_search_core.specs.Search.{Search}
 use Rattle.regex_search_core.specs.declared.search.Match.{Match}
+use Rattle.nfa_search_base.specs.Leaving.{DoesSearch}
 use Rattle.nfa_search_base.specs.WithCache.{WithCache}
-use Rattle.nfa_search_base.specs.StepsWith.{StepsWith, TakesStepWith}
+use Rattle.nfa_search_base.specs.StepsWith.{GivesStepsWith, StepsWith, TakesStepWith}
 use Rattle.nfa_search_base.specs.Lists.{AnswersMatch}
-use Rattle.nfa_search_base.specs.Runs.{GivesKept}
 use Rattle.nfa_search_base.specs.Steps.{GivesItem}
 use Rattle.nfa_search_base.specs.Searchers.{iter_state_of}
 use Rattle.nfa_search_base.specs.IterStates.{Answer, IterState, span_of}
@@ -30,16 +30,14 @@ finds_iter_state s = iter_state_of s.steps.searcher
 abbrev pub finds_done : FindMatches → Bool
 finds_done s = s.steps.done
 
--- it may always search
-abbrev pub may_ask : WithCache ByWindow ChoiceState → Search → Type 0
-may_ask s x = ⊤
+-- the answer of one search for a match: the match of the kind and its `earliest`, and never an error
+abbrev pub RegexTells : ChoiceState → Search → Answer Found → Type 0
+RegexTells e x a = AnswersMatch e.nfa (kind_in e) x.earliest x a
 
--- one search for a match may answer this
-pub record AsksByWindow (s : WithCache ByWindow ChoiceState) (x : Search) (a : Answer Found)
-    (t : WithCache ByWindow ChoiceState)
-    : Type 0 where
-  pub finds : AnswersMatch s.cache.nfa (kind_in s.cache) x.earliest x a
-  pub keeps : KeepsEngines s.cache t.cache
+-- one search for a match may answer this, and keeps the engine
+abbrev pub AsksByWindow : WithCache ByWindow ChoiceState → Search → Answer Found → WithCache ByWindow ChoiceState
+    → Type 0
+AsksByWindow s x a t = DoesSearch (RegexTells s.cache) (λ y b. KeepsEngines) s.cache x a t.cache
 
 -- a call
 pub record FindsNext (s : FindMatches) (r : Option Match) (t : FindMatches) : Type 0 where
@@ -50,9 +48,5 @@ abbrev pub finds_next : FindMatches → Option Match → FindMatches → Type 0
 finds_next s r t = FindsNext s r t
 
 -- the calls keep the engine, and what its answers depend on
-pub record KeepsRegex (s t : FindMatches) : Type 0 where
-  pub regex : t.regex.ghost_name ≡ s.regex.ghost_name
-  pub keeps : KeepsEngines s.regex.now t.regex.now
-
 abbrev pub FindsGiveKept : FindMatches → Type 0
-FindsGiveKept s = GivesKept finds_next KeepsRegex s
+FindsGiveKept s = GivesStepsWith finds_next finds_steps KeepsEngines s

@@ -74,7 +74,8 @@ impl FindWith for ByWindow {
     ghost use Rattle.nfa_search_base.specs.Finders.{answer_by};
     ghost use Rattle.nfa_search_base.specs.Steps.{GivesItem};
     ghost use Rattle.nfa_search_base.specs.IterStates.{span_of};
-    ghost use Rattle.nfa_meta.specs.Matches.{AsksByWindow, may_ask};
+    ghost use Rattle.nfa_search_base.specs.Serving.{may_ask};
+    ghost use Rattle.nfa_meta.specs.Matches.{AsksByWindow};
     ghost use Rattle.std.specs.Prelude.{Ok};
 
     type Cache = Regex;

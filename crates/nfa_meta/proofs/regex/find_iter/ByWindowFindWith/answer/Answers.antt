@@ -9,6 +9,6 @@ returns c =
     let e = c.find.ensures in
     let x = search_of c.args.input.now in
     record {
-      finds = find-answered c.args.regex.now.nfa (kind_in c.args.regex.now) x.earliest x c.find.result e.answer;
-      keeps = e.keeps;
+      tells = find-answered c.args.regex.now.nfa (kind_in c.args.regex.now) x.earliest x c.find.result e.answer;
+      work = e.keeps;
     }
