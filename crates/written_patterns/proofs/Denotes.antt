@@ -122,8 +122,12 @@ any {a} {test} k = record {
 }
 
 -- `(..)?`
-pub maybe : {a : Re} {P : List ℕ → Type 0} → Denotes a P → Denotes (alt a empty) (P or_else Exactly [])
-maybe p = record { re = alt p.re empty; same = alt_cong p.same (same_refl empty); spells = spells-optional true p.spells }
+pub maybe : {a : Re} {P : List ℕ → Type 0} → Denotes a P → Denotes (alt (cat a empty) empty) (P or_else Exactly [])
+maybe p = record {
+  re = alt p.re empty;
+  same = alt_cong (cat-empty _ then p.same) (same_refl empty);
+  spells = spells-optional true p.spells;
+}
 
 -- `(..){3}`
 pub times : (n : ℕ) {a : Re} {P : List ℕ → Type 0} → Denotes a P → Denotes (copies n a empty) (Times n P)

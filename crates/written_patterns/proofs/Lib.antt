@@ -2,3 +2,4 @@ pub mod Spelling
 pub mod ReadLemmas
 pub mod Denotes
 pub mod Octets
+mod Examples

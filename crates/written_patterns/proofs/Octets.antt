@@ -292,13 +292,16 @@ octet-words t = (
 -- classes of digits
 
 up-to-five : IsClass (class_of (range 48 53 ∷ [])) (is_in_range 48 53)
-up-to-five = class (range 48 53 ∷ []) (is_in_range 48 53) (λ c. grind (arith, nat_tests)) (λ c h. grind (arith, nat_tests))
+up-to-five =
+    class (range 48 53 ∷ []) (is_in_range 48 53) (λ c. grind (arith, nat_tests)) (λ c h. grind (arith, nat_tests))
 
 up-to-four : IsClass (class_of (range 48 52 ∷ [])) (is_in_range 48 52)
-up-to-four = class (range 48 52 ∷ []) (is_in_range 48 52) (λ c. grind (arith, nat_tests)) (λ c h. grind (arith, nat_tests))
+up-to-four =
+    class (range 48 52 ∷ []) (is_in_range 48 52) (λ c. grind (arith, nat_tests)) (λ c h. grind (arith, nat_tests))
 
 pub positive : IsClass (class_of (range 49 57 ∷ [])) (is_in_range 49 57)
-positive = class (range 49 57 ∷ []) (is_in_range 49 57) (λ c. grind (arith, nat_tests)) (λ c h. grind (arith, nat_tests))
+positive =
+    class (range 49 57 ∷ []) (is_in_range 49 57) (λ c. grind (arith, nat_tests)) (λ c h. grind (arith, nat_tests))
 
 -- what the grammar reads in `25[0-5]|2[0-4][0-9]|1[0-9]{2}|[1-9]?[0-9]`
 abbrev pub octet_read : Re
@@ -318,4 +321,4 @@ octet = in_words octet-words (
   where
     maybe_one : Denotes (alt (cat (class_of (range 49 57 ∷ [])) empty) empty)
         (Bytes (is_in_range 49 57) 1 1 or_else Exactly [])
-    maybe_one = maybe (last (one positive))
+    maybe_one = maybe (one positive)

@@ -1,7 +1,8 @@
 //! Patterns that are written out: what they find in a text, as functions of the pattern and the text, and which whole
 //! texts they match, in words of the text alone.
 //!
-//! `specs/Patterns.antt` has the functions, `specs/Texts.antt` the words on texts, and `proofs/Denotes.antt` the lemmas.
+//! `specs/Patterns.antt` has the functions, `specs/Texts.antt` the words on texts, `proofs/Denotes.antt` the lemmas,
+//! and `proofs/Octets.antt` the numbers below 256.
 #![tactic(auto)]
 
 pub mod calls;
