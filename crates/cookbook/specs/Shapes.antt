@@ -1,8 +1,8 @@
--- Dates, versions and numbers with dots between them, in words of the text.
+-- Dates, versions and IPv4 addresses, in words of the text.
 use Rattle.std.specs.Prelude.{ℕ, List, codes}
 use Rattle.std.specs.Char.{is_ascii_digit}
 use Rattle.std.specs.Int.{is_in_range}
-use Rattle.written_patterns.specs.Texts.{Bytes, BytesOrMore, Exactly, Times, ◌followed_by◌, ◌or_else◌}
+use Rattle.written_patterns.specs.Texts.{Bytes, BytesOrMore, DecimalBelow, Exactly, Times, ◌followed_by◌, ◌or_else◌}
 
 -- n digits
 abbrev pub Digits : ℕ → List ℕ → Type 0
@@ -10,7 +10,8 @@ Digits n = Bytes is_ascii_digit n n
 
 -- four digits, a dash, two digits, a dash and two digits
 abbrev pub IsDate : List ℕ → Type 0
-IsDate = Digits 4 followed_by Exactly (codes "-") followed_by Digits 2 followed_by Exactly (codes "-") followed_by Digits 2
+IsDate =
+    Digits 4 followed_by Exactly (codes "-") followed_by Digits 2 followed_by Exactly (codes "-") followed_by Digits 2
 
 -- a zero, or digits of which the first is 1 to 9
 abbrev pub IsNumber : List ℕ → Type 0
@@ -21,7 +22,6 @@ abbrev pub IsVersion : List ℕ → Type 0
 IsVersion =
     IsNumber followed_by Exactly (codes ".") followed_by IsNumber followed_by Exactly (codes ".") followed_by IsNumber
 
--- four times one to three digits, with dots between them
-abbrev pub IsQuad : List ℕ → Type 0
-IsQuad =
-    Bytes is_ascii_digit 1 3 followed_by Times 3 (Exactly (codes ".") followed_by Bytes is_ascii_digit 1 3)
+-- four numbers below 256 in decimal, with dots between them
+abbrev pub IsIpv4 : List ℕ → Type 0
+IsIpv4 = Times 3 (DecimalBelow 256 followed_by Exactly (codes ".")) followed_by DecimalBelow 256

@@ -18,7 +18,8 @@ pub fn counts<'t>(
     lines: &[&'t [u8]],
 ) -> Result<HashMap<&'t str, u64>>
     ensures counts { IfOk result (λ counts. (q : List ℕ)
-        → unwrap_or (get_by (λ k. bytes_eq q k.now) counts) 0 ≡ count_by (λ line. has_key field.old q line.now) lines.now) }
+        → unwrap_or (get_by (λ k. bytes_eq q k.now) counts) 0
+        ≡ count_by (λ line. has_key field.old q line.now) lines.now) }
     ensures keeps { field.new ≡ field.old }
 {
     let mut counts = HashMap::new(alloc);

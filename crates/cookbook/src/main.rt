@@ -33,9 +33,9 @@ fn main(rt: HostRuntime) -> Result<()> {
         validator.is_version(b"01.0.0")
     )?;
     println!(rt;
-        "quad: {} {}",
-        validator.is_quad(b"10.0.0.1"),
-        validator.is_quad(b"10.0.1")
+        "ipv4: {} {}",
+        validator.is_ipv4(b"10.0.0.255"),
+        validator.is_ipv4(b"10.0.0.256")
     )?;
     let mut matcher = Matcher::new(alloc, "WARN|ERROR")?;
     println!(rt; "lines: {}", matcher.matching(alloc, &LOG)?.len())?;

@@ -1,4 +1,4 @@
-//! Whether a whole text is a date, a version or four numbers with dots between them, as an IPv4 address is.
+//! Whether a whole text is a date, a version or an IPv4 address.
 use crate::matcher::Matcher;
 use anyhow::Result;
 use std::alloc::Global;
@@ -8,37 +8,38 @@ pub const DATE: &str = r"\A[0-9]{4}-[0-9]{2}-[0-9]{2}\z";
 
 pub const VERSION: &str = r"\A(?:0|[1-9][0-9]*)\.(?:0|[1-9][0-9]*)\.(?:0|[1-9][0-9]*)\z";
 
-pub const QUAD: &str = r"\A[0-9]{1,3}(?:\.[0-9]{1,3}){3}\z";
+pub const IPV4: &str =
+    r"\A(?:(?:25[0-5]|2[0-4][0-9]|1[0-9]{2}|[1-9]?[0-9])\.){3}(?:25[0-5]|2[0-4][0-9]|1[0-9]{2}|[1-9]?[0-9])\z";
 
 /// The three patterns, compiled.
 #[derive(Drop)]
 pub struct Validator {
     date: Matcher,
     version: Matcher,
-    quad: Matcher,
+    ipv4: Matcher,
 }
 
 impl Model for Validator {
     ghost use Rattle.std.specs.Prelude.{◌≡◌, ⊤};
-    ghost use Rattle.cookbook.specs.declared.validate.TheConstants.{DATE, QUAD, VERSION};
+    ghost use Rattle.cookbook.specs.declared.validate.TheConstants.{DATE, IPV4, VERSION};
 
     ghost Value = { ⊤ };
 
     ghost view = { λ v. tt };
 
-    ghost invariant = { λ v. (v.date ≡ DATE.now) × (v.version ≡ VERSION.now) × (v.quad ≡ QUAD.now) };
+    ghost invariant = { λ v. (v.date ≡ DATE.now) × (v.version ≡ VERSION.now) × (v.ipv4 ≡ IPV4.now) };
 }
 
 impl Validator {
     ghost use Rattle.std.specs.Prelude.{◌≡◌, ◌↔◌, true};
-    ghost use Rattle.cookbook.specs.Shapes.{IsDate, IsQuad, IsVersion};
+    ghost use Rattle.cookbook.specs.Shapes.{IsDate, IsIpv4, IsVersion};
 
     /// Compiles the patterns.
     pub fn new(alloc: Global) -> Result<Validator> {
         Ok(Validator {
             date: Matcher::new(alloc, DATE)?,
             version: Matcher::new(alloc, VERSION)?,
-            quad: Matcher::new(alloc, QUAD)?,
+            ipv4: Matcher::new(alloc, IPV4)?,
         })
     }
 
@@ -56,10 +57,10 @@ impl Validator {
         self.version.is_match(text)
     }
 
-    /// Returns whether the text is four numbers of one to three digits, with dots between them.
-    pub fn is_quad(&mut self, text: &[u8]) -> bool
-        ensures { (result ≡ true) ↔ IsQuad text.now }
+    /// Returns whether the text is four numbers below 256 in decimal, with dots between them.
+    pub fn is_ipv4(&mut self, text: &[u8]) -> bool
+        ensures { (result ≡ true) ↔ IsIpv4 text.now }
     {
-        self.quad.is_match(text)
+        self.ipv4.is_match(text)
     }
 }
