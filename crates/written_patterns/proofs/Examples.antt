@@ -19,4 +19,5 @@ branches = whole (end (last text or branch (text and_then last text)))
 groups : IsWhole byte_syntax (codes "\\A(?:a){3}(?:b)?(c)\\z")
     (Times 3 (Exactly (codes "a")) followed_by (Exactly (codes "b") or_else Exactly []) followed_by Exactly (codes "c"))
 unfolding on_literals
-groups = whole (times 3 (branch (last text)) before maybe (branch (last text)) before end (group_of (branch (last text))))
+groups = whole
+    (times 3 (branch (last text)) before maybe (branch (last text)) before end (group_of (branch (last text))))

@@ -13,5 +13,6 @@ invariant_of-result c =
       search rules,
       search rules,
       search rules,
-      which-built c.args.options texts trees read c.args.options.which c.in_ok-which.which (rw c.deref-2.ensures.value at c.in_ok-which.ensures),
+      which-built c.args.options texts trees read c.args.options.which c.in_ok-which.which
+          (rw c.deref-2.ensures.value at c.in_ok-which.ensures),
     )
