@@ -1,49 +1,79 @@
-// Loaded before a program's libraries (`.ci/users`), makes its reads and writes fail or fall short. WRITES is the number of
-// writes to standard output that succeed, and READS that of reads of standard input; each later one fails, and puts a byte on
-// file 9. SHORT is the greatest number of bytes that one call moves. With FILES, reads of files that the program opens count as
-// reads of standard input.
+// Loaded before a program's own libraries (`programs.py`), counts what the program asks for, and lets some of it fail.
+// The environment says what:
+// - WRITES and READS: how many writes to standard output, and reads of standard input, succeed; each later one fails.
+// - SHORT: how many bytes one of these calls moves at most.
+// - FILES: reads of files that the program opens count as reads of standard input.
+// - REFUSED: the number of the one request for memory that is refused.
+// - ROOM: how many bytes all requests together may take; later ones are refused.
+// - COUNTS: when the program ends, file 9 gets the bytes of all requests, the reads and the writes.
+// A call that fails by one of the others puts a byte on file 9, except for ROOM.
 typedef unsigned long size_t;
 
 extern char *getenv(const char *);
 extern long atol(const char *);
 extern long syscall(long, ...);
 extern int *__errno_location(void);
+extern void *__libc_malloc(size_t);
+extern void *__libc_realloc(void *, size_t);
 
 enum { READ, WRITE };
 enum { EIO = 5 };
 
-// What is left to each of the two, once looked up; -1 is without end.
-static long left[2] = {-2, -2};
+static long taken, requests, calls[2];
 
+// A number in the environment, -1 for none.
 static long number_in(const char *name) {
     const char *number = getenv(name);
     return number ? atol(number) : -1;
 }
 
-static int counts(long call, int file) {
-    return file == call || (call == READ && file > 2 && file != 9 && number_in("FILES") > 0);
-}
-
 static long moved(long call, int file, const void *bytes, size_t len) {
-    if (counts(call, file)) {
-        if (left[call] == -2) {
-            left[call] = number_in(call == READ ? "READS" : "WRITES");
-        }
-        if (left[call] == 0) {
+    if (file == call || (call == READ && file > 2 && file != 9 && number_in("FILES") > 0)) {
+        long left = number_in(call == READ ? "READS" : "WRITES"), most = number_in("SHORT");
+        if (left >= 0 && calls[call] >= left) {
             syscall(WRITE, 9, "!", 1);
             *__errno_location() = EIO;
             return -1;
         }
-        if (left[call] > 0) {
-            left[call]--;
-        }
-        long most = number_in("SHORT");
+        calls[call]++;
         if (most > 0 && len > (size_t)most) {
             len = most;
         }
     }
     return syscall(call, file, bytes, len);
 }
+
+static int is_refused(size_t size) {
+    long room = number_in("ROOM");
+    taken += size;
+    if (room > 0 && taken > room) {
+        return 1;
+    }
+    return ++requests == number_in("REFUSED") && syscall(WRITE, 9, "!", 1) == 1;
+}
+
+static void write_number(long number, char after) {
+    char text[24];
+    int at = sizeof text;
+    text[--at] = after;
+    do {
+        text[--at] = '0' + number % 10;
+        number /= 10;
+    } while (number);
+    syscall(WRITE, 9, text + at, sizeof text - at);
+}
+
+__attribute__((destructor)) static void write_counts(void) {
+    if (number_in("COUNTS") > 0) {
+        write_number(taken, ' ');
+        write_number(calls[READ], ' ');
+        write_number(calls[WRITE], '\n');
+    }
+}
+
+void *malloc(size_t size) { return is_refused(size) ? 0 : __libc_malloc(size); }
+
+void *realloc(void *old, size_t size) { return is_refused(size) ? 0 : __libc_realloc(old, size); }
 
 long read(int file, void *bytes, size_t len) { return moved(READ, file, bytes, len); }
 

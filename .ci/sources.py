@@ -50,6 +50,7 @@ LAWS = [('nfa_engines::laws', 'nfa_engines'), ('nfa_choice::laws', 'nfa_choice')
         ('nfa_compiler::laws', 'nfa_compiler'),
         ('nfa_determinize::laws', 'nfa_determinize'), ('nfa_meta::laws', 'nfa_meta')]
 
+
 def kept(read):
     """Makes a generator of a text return a list, and keeps what it has read."""
     return functools.cache(lambda text: list(read(text)))
@@ -94,7 +95,7 @@ class Sources:
 
     def pages(self):
         """The pages of the library, for users and for those who change it."""
-        return self.files(r'\w+\.md|docs/\w+\.md')
+        return self.files(r'(docs/)?[^/]+\.md')
 
     def items(self, crate, name=r'\w+'):
         """The public items of a crate, those of the main files first."""
@@ -314,7 +315,7 @@ def prose(text):
 
 
 def codes(text):
-    """What stands in backticks."""
+    """The texts in backticks."""
     return re.findall(r'`([^`\n]+)`', text)
 
 
