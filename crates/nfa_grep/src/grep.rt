@@ -53,14 +53,10 @@ impl<'p> Model for Grep<'p> {
 }
 
 impl<'p> Grep<'p> {
-    ghost use Rattle.nfa_compiler.specs.Rejected.{TextsFitIn};
-    ghost use Rattle.nfa_compiler.specs.Written.{byte_syntax};
-
     /// Compiles the patterns. Fails if a text is not a pattern, if the patterns are too large, or if allocation failed.
     pub fn new(alloc: Global, patterns: &'p [&'p str], options: Options) -> Result<Grep<'p>>
         ensures patterns { IfOk result (λ grep. grep.patterns ≡ map (λ text. text.now) patterns.now) }
         ensures options { IfOk result (λ grep. grep.options ≡ options) }
-        ensures fits { IfOk result (λ _. TextsFitIn 10485760 byte_syntax (map (λ text. text.now) patterns.now)) }
     {
         let trees = read_patterns(alloc, options, patterns)?;
         let config = Config::new().utf8(false);
