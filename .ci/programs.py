@@ -63,6 +63,9 @@ class Runner:
         stdin = {'stdin': subprocess.PIPE if isinstance(text, bytes) else text}
         if text is CLOSED:
             stdin = {'stdin': subprocess.DEVNULL, 'preexec_fn': lambda: os.close(0)}
+        command = path or built(program)
+        if not pathlib.Path(command).exists():
+            self.stop(f'there is no {command}, which `rt ci` builds')
         environment = {name: str(value) for name, value in settings.items()}
         if settings:
             environment['LD_PRELOAD'] = faults()
@@ -70,7 +73,7 @@ class Runner:
             with starting:
                 self.runs += 1
                 os.dup2(told.fileno(), TOLD)
-                started = subprocess.Popen([path or built(program), *arguments], stdout=out, stderr=subprocess.PIPE,
+                started = subprocess.Popen([command, *arguments], stdout=out, stderr=subprocess.PIPE,
                                            env=environment, pass_fds=[TOLD], user=user, **stdin)
             try:
                 printed, errors = started.communicate(text if isinstance(text, bytes) else None, timeout=limit)
