@@ -27,7 +27,7 @@ fn end_of(dfa: &DFA, cache: &mut Cache, text: &[u8]) -> Result<Option<usize>, St
     Ok(half.map(|half| half.offset()))
 }
 
-// The search ends there, and the cache then has at most so many rows.
+// The search ends there, and the cache then has at most that number of rows.
 fn expect_end(
     rt: &impl Abort,
     dfa: &DFA,
@@ -77,8 +77,8 @@ fn expect_copy(rt: &impl Abort, dfa: &DFA, cache: &Cache, text: &[u8], end: Opti
     expect_no_more(rt, dfa, &mut copy, text, end);
 }
 
-// A pattern, a text, the end of its match, and how many rows there are. A row that is not found again is made anew at
-// each byte, or at each second one.
+// A pattern, a text, the end of its match, and the number of rows. A row that is not found is made again at each byte,
+// or at each second one.
 const ROWS: &[(&str, &str, Option<usize>, usize)] = &[
     ("a+b", "aaaaaaaaaaaaaaaaaaaaaaaaaaaaaaaaaaaaaaaa", None, 2),
     (
