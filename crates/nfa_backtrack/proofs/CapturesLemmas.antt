@@ -76,7 +76,7 @@ back_fills = fills_by (back_engine IsTryCapturesAnswer)
 abbrev pub back_copies : ItemsOf (WithCache (WithCaptures Backtracker) BacktrackCache) Row Captured
 back_copies = copies_of (λ q. q.backend.captures)
 
--- what it tells: the rows of the NFA, or refusals
+-- what it answers: the rows of the NFA, or refusals
 abbrev pub back_rows : (e : Backtracker) (x : Search) → RowsOf back_fills (λ q. q.backend.captures) e x
 back_rows e x = record {
   nfa = e.nfa;

@@ -47,7 +47,7 @@ choice_fills = record {
 abbrev pub choice_copies : ItemsOf (WithCache (WithCaptures (Unit {0})) ChoiceState) Row Captured
 choice_copies = copies_of (λ q. q.backend.captures)
 
--- what it tells of searches like x: the rows of the NFA, with the same `earliest`
+-- what it answers to searches like x: the rows of the NFA, with the same `earliest`
 abbrev pub choice_rows : (c : ChoiceState) (x : Search)
     → RowsOf choice_fills (λ q. q.backend.captures) (pike_of c) x
 choice_rows c x = record {

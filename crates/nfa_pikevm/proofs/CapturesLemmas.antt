@@ -34,7 +34,7 @@ pike_fills = fills_by (pike_engine PikeAnswersRow)
 abbrev pub pike_copies : ItemsOf (WithCache (WithCaptures Pike) PikeCache) Row Captured
 pike_copies = copies_of (λ q. q.backend.captures)
 
--- what it tells of searches like x: the rows of the NFA, with the same `earliest`
+-- what it answers to searches like x: the rows of the NFA, with the same `earliest`
 abbrev pub pike_rows : (vm : Pike) (x : Search) → RowsOf pike_fills (λ q. q.backend.captures) vm x
 pike_rows vm x = record {
   nfa = vm.nfa;

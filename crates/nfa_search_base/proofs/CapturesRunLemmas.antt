@@ -63,7 +63,7 @@ module _ {T R : Type 0} (steps : T → Option R → T → Type 0) (Good : T → 
   runs-hold s good = λ p seen from.
       let ran = p.gave.0 in all-hold p.items s ran.0 good (subst (λ (q : T). Yields steps q p.items ran.0) from ran.1)
 
--- What callers are told of the searches like x by an engine e, in whose iteration the state holds captures: the rows of
+-- What an engine e promises of the searches like x, in whose iteration the state holds captures: the rows of
 -- an NFA, or errors.
 pub record RowsOf {E C S : Type 0} (searches : SearchesOf E C S Row) (captures : S → Captured) (e : E) (x : Search)
     : Type 1 where

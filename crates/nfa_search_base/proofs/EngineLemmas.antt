@@ -149,7 +149,7 @@ module _ {E C S X : Type 0} (searches : SearchesOf E C S X) where
     searches.stays s t a s' asked ∙ is,
   )
 
-  -- its answers, as they are told
+  -- its answers, as its contract says
   abbrev pub answers_as : (e : E) (x : Search) (tells : Search → Answer X → Type 0)
       → ((t : Search) (a : Answer X) → SameButStart x t → searches.Tells e t a → tells t a) → AnswersOf S x tells
   answers_as e x tells given = record {

@@ -62,8 +62,8 @@ module _ {T Y : Type 0} {First Whole : List (Result Y SearchError) → Type 0} {
   oked-next xs t i u ys y ran st are ok =
       taken.first (ys ++ y ∷ []) (subst First (oks xs ys i y are ok) (given.next xs t i u ran st))
 
--- What searches answer, as their callers are told. Without an error, that is the answer of a `clean` search, which is
--- in its span.
+-- What searches answer, as their contracts say. Without an error, that is the answer of a `clean` search, which is in
+-- its span.
 pub record ResultsOf {X : Type 0} (span : X → Span) : Type 1 where
   pub tells : Search → Answer X → Type 0
   pub clean : Search → Answer X → Type 0

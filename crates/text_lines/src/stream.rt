@@ -25,8 +25,8 @@ pub fn read_line<R: BufRead>(
 }
 
 /// Reads the next record, which is that of this number, and puts it into `line` in place of what was there. A record
-/// goes up to its end, the first byte of this value, and has it. Returns whether there is a record: there is none at the
-/// end of the input.
+/// goes up to its end, the first byte of this value, and has it. Returns whether there is a record: there is none at
+/// the end of the input.
 ///
 /// Fails with `Read` if the input cannot be read, or with `Line` and this number if there is no memory for the record.
 pub fn read_record<R: BufRead>(

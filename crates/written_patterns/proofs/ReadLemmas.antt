@@ -27,6 +27,7 @@ use Rattle.nfa_compiler.specs.Written.{IsReadAs, MatchesIn, byte_syntax}
 use Rattle.nfa_compiler.proofs.CallLemmas.{call-match, call-matches}
 use Rattle.nfa_compiler.proofs.NameCallLemmas.{call-name, groups-of-one}
 use Rattle.nfa_compiler.proofs.TextLemmas.{one-hit, text-answer}
+use Rattle.nfa_compiler.proofs.UnboundLemmas.{texts-lose-none}
 use Rattle.nfa_compiler.proofs.WrittenLemmas.{found-as-read}
 use Rattle.written_patterns.specs.Patterns.{IsOfPattern, all_matches, first_match, has_match, named_span_in}
 
@@ -157,7 +158,9 @@ module _ (pattern : List ℕ) (nfa : Automaton) (own : IsOfPattern pattern nfa) 
       let hits = text-answer byte_syntax (pattern ∷ []) (re ∷ []) nfa (whole text) own.compiled
       (meant pattern nfa own.compiled, tt) own.anywhere refl bytes captures.pattern captures.slots answer in
       none-name captures name (find re text 0)
-      (hits.0 ∙ ap (option_map (λ (h : PatternHit). h.pattern)) (one-hit re nfa (whole text) own.free refl refl)
+      (hits.0 ∙ ap (option_map (λ (h : PatternHit). h.pattern)) (one-hit re nfa (whole text)
+      (texts-lose-none byte_syntax (pattern ∷ []) (re ∷ []) nfa text own.compiled (meant pattern nfa own.compiled, tt)
+      own.free bytes) refl refl)
       ∙ zero-hit (find re text 0))
       (ap (λ gs. group_named gs 0 name) (same ∙ groups-of-one byte_syntax pattern nfa own.compiled names named) ∙ is)
 
