@@ -16,6 +16,7 @@ use Rattle.nfa_search_base.specs.WithCaptures.{Row, row_found, row_span}
 use Rattle.nfa_search_base.specs.CapturesLists.{AreRows, AnswersRow}
 use Rattle.nfa_search_base.specs.Lists.{AreMatches, AnswersMatch}
 use Rattle.nfa_search_base.specs.IterStates.{Answer, span_of}
+use Rattle.nfa_compiler.specs.AnyStart.{LosesNoHit}
 use Rattle.nfa_compiler.specs.AllHits.{all_hits, hit_at, hits_from, row_of_hit}
 use Rattle.nfa_compiler.specs.Compiled.{AreMeant, IsCompiled, IsNfaOf}
 use Rattle.nfa_compiler.specs.Patterns.{PatternHit, found_at, found_of_hit, hit_by, slots_of}
@@ -128,7 +129,7 @@ module _ (syntax : Config) (texts : List (List ℕ)) (res : List Re) (nfa : Auto
       (λ i. text-answer syntax texts res nfa (record x { start = i }) compiled meant anywhere whole bytes)
 
 -- all hits of one pattern
-pub all-of-one : (re : Re) (nfa : Automaton) (x : Search) → (nfa.anchored == nfa.unanchored) ≡ false → x.anchored ≡ No
+pub all-of-one : (re : Re) (nfa : Automaton) (x : Search) → LosesNoHit (re ∷ []) nfa x.haystack → x.anchored ≡ No
     → x.start ≡ 0 → x.end ≡ length x.haystack
     → all_hits (re ∷ []) nfa x ≡ map (hit_by 0) (find_all re x.haystack)
 all-of-one re nfa x free mode first whole =

@@ -1,6 +1,6 @@
 -- What a search of a whole haystack finds of one text, in the words of `regex_hir`.
 use Rattle.std.proofs.Common.{◌≡◌, ℕ, zero, suc, ◌<◌, false, List, [], ◌∷◌, map, length, refl, ap, ◌∙◌, arith}
-use Rattle.std.specs.Prelude.{Option, None, Some, All, option_map, slice_index_or, ◌==◌}
+use Rattle.std.specs.Prelude.{Option, None, Some, All, option_map, slice_index_or}
 use Rattle.regex_hir.specs.Find.{Match, find, find_all}
 use Rattle.regex_hir.specs.Re.{Re}
 use Rattle.regex_search_core.specs.Found.{Found}
@@ -10,10 +10,12 @@ use Rattle.regex_syntax.specs.declared.Config.{Config}
 use Rattle.thompson_nfa.specs.Automaton.{Automaton}
 use Rattle.nfa_paths.specs.Paths.{is_utf8_empty, IsFindAnswer}
 use Rattle.nfa_search_base.specs.Lists.{AreMatches}
+use Rattle.nfa_compiler.specs.AnyStart.{FindsFromAnyStart, LosesNoHit}
 use Rattle.nfa_compiler.specs.Compiled.{IsCompiled, IsMeant}
 use Rattle.nfa_compiler.specs.Patterns.{found_at, found_by, found_of_hit, hit_by}
 use Rattle.nfa_compiler.proofs.AllSearchLemmas.{all-of-one, all-text-matches}
 use Rattle.nfa_compiler.proofs.TextLemmas.{one-hit, text-match}
+use Rattle.nfa_compiler.proofs.UnboundLemmas.{texts-lose-none}
 
 -- the bytes of a slice
 default-same : (xs : List ℕ) (k d : ℕ) → k < length xs → slice_index_or xs k d ≡ slice_index_or xs k 0
@@ -35,18 +37,21 @@ hits-found (m ∷ ms) = ap (λ fs. found_by m ∷ fs) (hits-found ms)
 
 module _ (syntax : Config) (text : List ℕ) (nfa : Automaton) (haystack : List ℕ)
     (compiled : IsCompiled syntax (text ∷ []) nfa) (anywhere : is_utf8_empty nfa ≡ false)
-    (free : (nfa.anchored == nfa.unanchored) ≡ false) (bytes : All (λ b. b < 256) haystack) (re : Re)
+    (free : FindsFromAnyStart nfa) (bytes : All (λ b. b < 256) haystack) (re : Re)
     (meant : IsMeant syntax text re) where
+  kept : LosesNoHit (re ∷ []) nfa haystack
+  kept = texts-lose-none syntax (text ∷ []) (re ∷ []) nfa haystack compiled (meant, tt) free bytes
+
   pub call-match : (found : Option Found) → IsFindAnswer nfa LeftmostFirst false (whole haystack) found
       → found ≡ option_map found_by (find re haystack 0)
   call-match found answer =
       text-match syntax (text ∷ []) (re ∷ []) nfa (whole haystack) compiled (meant, tt) anywhere refl bytes found answer
-      ∙ ap found_of_hit (one-hit re nfa (whole haystack) free refl refl)
+      ∙ ap found_of_hit (one-hit re nfa (whole haystack) kept refl refl)
       ∙ hit-found (find re haystack 0)
 
   pub call-matches : (ms : List Found) → AreMatches nfa LeftmostFirst false (whole haystack) ms
       → ms ≡ map found_by (find_all re haystack)
   call-matches ms are =
       all-text-matches syntax (text ∷ []) (re ∷ []) nfa (whole haystack) compiled (meant, tt) anywhere refl bytes ms are
-      ∙ ap (map found_at) (all-of-one re nfa (whole haystack) free refl refl refl)
+      ∙ ap (map found_at) (all-of-one re nfa (whole haystack) kept refl refl refl)
       ∙ hits-found (find_all re haystack)

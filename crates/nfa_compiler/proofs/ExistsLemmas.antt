@@ -263,7 +263,7 @@ module _ (res : List Re) (a : Automaton) (made : IsNfaOf res a) (x : Search) (wh
   -- a search
 
   -- a path to a Match of pattern k shows that it matches
-  path-sound : (k : ℕ) (m : Pair) (p : List Pair) → PathTo (edges a x) (starts a x) m p → IsMatch a m
+  pub path-sound : (k : ℕ) (m : Pair) (p : List Pair) → PathTo (edges a x) (starts a x) m p → IsMatch a m
       → pattern_of (node_at a m.0) ≡ Some k → PatternMatches res (is_bound res a made) x k
   path-sound k m [] path matches is = absurd path.head
   path-sound k m (v ∷ rest) path matches is =

@@ -15,6 +15,7 @@ pub mod WayLemmas
 pub mod OrderLemmas
 pub mod StartPairLemmas
 pub mod ExistsLemmas
+pub mod UnboundLemmas
 pub mod NameLemmas
 pub mod KnownLemmas
 pub mod GroupLemmas

@@ -6,7 +6,7 @@ use Rattle.regex_hir.specs.Meaning.{copies, repeat, up_to}
 use Rattle.regex_hir.specs.Re.{Re, empty, literal, byte_in, char_in, look, cat, alt, group, plus}
 use Rattle.regex_hir.specs.Reads.{always_reads}
 use Rattle.nfa_compiler.specs.declared.loops.Form.{Form}
-use Rattle.nfa_compiler.specs.Loops.{HasEmptyLoop, form_of, form_repeated, has_empty_loop, never_reads}
+use Rattle.nfa_compiler.specs.Loops.{HasEmptyLoop, begins_at_start, form_of, form_repeated, has_empty_loop, never_reads}
 
 -- the test agrees with the fact
 pub empty_loop-from_test : (re : Re) → has_empty_loop re ≡ true → HasEmptyLoop re
@@ -76,11 +76,9 @@ or-false true = refl
 or-false false = refl
 
 same-form : (f g : Form) → f.always_reads ≡ g.always_reads → f.never_reads ≡ g.never_reads
-    → f.has_empty_loop ≡ g.has_empty_loop → f ≡ g
-same-form f g p q r =
-    ap (λ x. record f { always_reads = x }) p
-    ∙ (ap (λ x. record g { never_reads = x; has_empty_loop = f.has_empty_loop }) q
-    ∙ ap (λ x. record g { has_empty_loop = x }) r)
+    → f.has_empty_loop ≡ g.has_empty_loop → f.begins_at_start ≡ g.begins_at_start → f ≡ g
+same-form f g p q r s =
+    λ i. record { always_reads = p i; never_reads = q i; has_empty_loop = r i; begins_at_start = s i }
 
 -- copies of a part, and then b
 always-copies : (n : ℕ) (a b : Re) → always_reads b ≡ always_reads a → always_reads (copies n a b) ≡ always_reads a
@@ -103,7 +101,33 @@ loop-copies zero a b x h = h
 loop-copies (suc n) a b x h =
     ap (λ y. has_empty_loop a || y) (loop-copies n a b x h) ∙ or-again x (has_empty_loop a)
 
+or-both : (b c : Bool) → (b || (c && b)) ≡ b
+or-both true c = refl
+or-both false true = refl
+or-both false false = refl
+
+begins-copies : (n : ℕ) (a b : Re) → begins_at_start b ≡ begins_at_start a
+    → begins_at_start (copies n a b) ≡ begins_at_start a
+begins-copies zero a b h = h
+begins-copies (suc n) a b h =
+    ap (λ x. begins_at_start a || (never_reads a && x)) (begins-copies n a b h)
+    ∙ or-both (begins_at_start a) (never_reads a)
+
+begins-copies_of_none : (n : ℕ) (a b : Re) → begins_at_start b ≡ false
+    → begins_at_start (copies (suc n) a b) ≡ begins_at_start a
+begins-copies_of_none zero a b h =
+    ap (λ x. begins_at_start a || (never_reads a && x)) h
+    ∙ (ap (λ x. begins_at_start a || x) (and-false (never_reads a)) ∙ or-false (begins_at_start a))
+begins-copies_of_none (suc n) a b h =
+    ap (λ x. begins_at_start a || (never_reads a && x)) (begins-copies_of_none n a b h)
+    ∙ or-both (begins_at_start a) (never_reads a)
+
 -- up to this many copies
+begins-up_to : (greedy : Bool) (n : ℕ) (a : Re) → begins_at_start (up_to greedy n a) ≡ false
+begins-up_to greedy zero a = refl
+begins-up_to true (suc n) a = and-false _
+begins-up_to false (suc n) a = refl
+
 always-up_to : (greedy : Bool) (n : ℕ) (a : Re) → always_reads (up_to greedy n a) ≡ false
 always-up_to greedy zero a = refl
 always-up_to true (suc n) a = and-false _
@@ -144,17 +168,20 @@ pub form-repeat : (min : ℕ) (max : Option ℕ) (greedy : Bool) (a : Re)
     → form_repeated (form_of a) min max ≡ form_of (repeat min max greedy a)
 unfolding repeat
 form-repeat zero None true a =
-    same-form _ _ (sym (and-false _)) (sym (and-true _)) (sym (or-false _))
+    same-form _ _ (sym (and-false _)) (sym (and-true _)) (sym (or-false _)) (sym (and-false _))
 form-repeat zero None false a = refl
 form-repeat (suc n) None greedy a =
     same-form _ _ (sym (always-copies n a (plus greedy a) refl)) (sym (never-copies n a (plus greedy a) refl))
     (sym (loop-copies n a (plus greedy a) (not (always_reads a) && not (never_reads a)) refl))
+    (sym (begins-copies n a (plus greedy a) refl))
 form-repeat zero (Some zero) greedy a = refl
 form-repeat zero (Some (suc m)) greedy a =
     let all : suc m - 0 ≡ suc m = omega arith in
     subst (λ n. form_repeated (form_of a) 0 (Some (suc m)) ≡ form_of (up_to greedy n a)) (sym all)
-    (same-form _ _ (sym (always-up_to greedy (suc m) a)) (sym (never-up_to greedy m a)) (sym (loop-up_to greedy m a)))
+    (same-form _ _ (sym (always-up_to greedy (suc m) a)) (sym (never-up_to greedy m a)) (sym (loop-up_to greedy m a))
+    (sym (begins-up_to greedy (suc m) a)))
 form-repeat (suc n) (Some m) greedy a =
     let rest = up_to greedy (m - suc n) a in
     same-form _ _ (sym (always-copies_of_none n a rest (always-up_to greedy (m - suc n) a)))
     (sym (never-between greedy n (m - suc n) a)) (sym (loop-between greedy n (m - suc n) a))
+    (sym (begins-copies_of_none n a rest (begins-up_to greedy (m - suc n) a)))

@@ -1,6 +1,6 @@
 -- What captures of a search of a whole haystack give for a name, in the words of `regex_hir`.
 use Rattle.std.proofs.Common.{◌≡◌, ℕ, ◌<◌, false, All, List, [], ◌∷◌, length, refl, ap, arith, ◌∙◌}
-use Rattle.std.specs.Prelude.{Option, None, Some, drop, option_and_then, option_map, ◌==◌}
+use Rattle.std.specs.Prelude.{Option, None, Some, drop, option_and_then, option_map}
 use Rattle.regex_hir.specs.Find.{Match, find}
 use Rattle.regex_hir.specs.Re.{Re}
 use Rattle.regex_search_core.specs.Groups.{group_named, slot_count}
@@ -10,6 +10,7 @@ use Rattle.regex_search_core.specs.declared.search.MatchKind.TheVariants.{Leftmo
 use Rattle.regex_syntax.specs.declared.Config.{Config}
 use Rattle.thompson_nfa.specs.Automaton.{Automaton}
 use Rattle.nfa_paths.specs.Paths.{is_utf8_empty, IsAnswer}
+use Rattle.nfa_compiler.specs.AnyStart.{FindsFromAnyStart}
 use Rattle.nfa_compiler.specs.Compiled.{IsCompiled, IsMeant}
 use Rattle.nfa_compiler.specs.Laws.{hit}
 use Rattle.nfa_compiler.specs.Patterns.{PatternHit, hit_by, slots_of}
@@ -17,6 +18,7 @@ use Rattle.nfa_compiler.specs.NameLaws.{IsNamed, captures_of, written_span}
 use Rattle.nfa_compiler.proofs.GroupLemmas.{name-written}
 use Rattle.nfa_compiler.proofs.NameLemmas.{groups-named}
 use Rattle.nfa_compiler.proofs.TextLemmas.{one-hit, text-answer}
+use Rattle.nfa_compiler.proofs.UnboundLemmas.{texts-lose-none}
 
 -- The captures are those of the hit of the only pattern.
 pub name-of-hit : (nfa : Automaton) (captures : Captured) (name : List ℕ) (group : ℕ) (found : Option PatternHit)
@@ -53,7 +55,7 @@ module _ (syntax : Config) (text : List ℕ) (nfa : Automaton) (compiled : IsCom
 
 -- the captures of a search of the whole haystack in byte mode, at a name
 pub call-name : (syntax : Config) (text : List ℕ) (nfa : Automaton) (haystack : List ℕ)
-    → IsCompiled syntax (text ∷ []) nfa → is_utf8_empty nfa ≡ false → (nfa.anchored == nfa.unanchored) ≡ false
+    → IsCompiled syntax (text ∷ []) nfa → is_utf8_empty nfa ≡ false → FindsFromAnyStart nfa
     → All (λ b. b < 256) haystack → (re : Re) → IsMeant syntax text re
     → (captures : Captured) (name : List ℕ) (names : List (Option (List ℕ))) (group : ℕ)
     → IsAnswer nfa LeftmostFirst false (whole haystack) captures.pattern captures.slots
@@ -66,4 +68,5 @@ call-name syntax text nfa haystack compiled anywhere free bytes re meant capture
     captures.pattern captures.slots answer in
     name-of-hit nfa captures name group (hit (re ∷ []) nfa (whole haystack)) (find re haystack 0) same room
     (one-known syntax text nfa compiled names named) (group-of-one syntax text nfa compiled names named name group is)
-    hits.0 hits.1 (one-hit re nfa (whole haystack) free refl refl)
+    hits.0 hits.1 (one-hit re nfa (whole haystack)
+    (texts-lose-none syntax (text ∷ []) (re ∷ []) nfa haystack compiled (meant, tt) free bytes) refl refl)

@@ -26,10 +26,11 @@ use Rattle.nfa_search_base.specs.WithCaptures.{Row}
 use Rattle.nfa_search_base.specs.CapturesLists.{AreRows}
 use Rattle.nfa_search_base.specs.Lists.{AreMatches}
 use Rattle.nfa_compiler.specs.AllHits.{hits_from, row_of_hit}
-use Rattle.nfa_compiler.specs.BoundaryHits.{boundary_hit}
+use Rattle.nfa_compiler.specs.AnyStart.{FindsFromAnyStart, LosesNoHit}
+use Rattle.nfa_compiler.specs.BoundaryHits.{boundary_hit, expected_on_boundary}
 use Rattle.nfa_compiler.specs.Compiled.{AreMeant, IsCompiled, IsTreeOf, res_of}
 use Rattle.nfa_compiler.specs.Laws.{hit}
-use Rattle.nfa_compiler.specs.Patterns.{PatternHit, first_hit, found_at, found_of_hit, hit_by, hit_of, pick, pick_one, slots_of}
+use Rattle.nfa_compiler.specs.Patterns.{PatternHit, expected, first_hit, found_at, found_of_hit, hit_by, hit_of, pick, pick_one, slots_of}
 use Rattle.nfa_compiler.specs.StrHits.{MatchesCharacters, all_str_hits, at_boundary, expected_in_str, str_hit, str_hit_at_start}
 use Rattle.nfa_paths.proofs.TestLemmas.{is_plain}
 use Rattle.nfa_compiler.proofs.AllLemmas.{hits-are-matches}
@@ -41,6 +42,7 @@ use Rattle.nfa_compiler.proofs.LiesLemmas.{str-lies}
 use Rattle.nfa_compiler.proofs.MeantLemmas.{AreAlike, all-meant, first-alike, found-alike, one-alike, pattern-alike, pick-alike, slots-alike}
 use Rattle.nfa_compiler.proofs.SearchLemmas.{answer-is, expected-known, match-is}
 use Rattle.nfa_compiler.proofs.StrLemmas.{boundary-is-str, hit-is-str, text-bytes}
+use Rattle.nfa_compiler.proofs.UnboundLemmas.{boundary-unbound, hit-unbound, loses-none, str-unbound, texts-lose-none}
 
 -- Patterns that a caller cannot tell apart have hits in a `str` that a caller cannot tell apart.
 
@@ -112,74 +114,120 @@ module _ (syntax : Config) (texts : List (List ℕ)) (res : List Re) (nfa : Auto
   own-match : All MatchesCharacters own
   own-match = trees-match syntax (sym compiled.mode ∙ mode) texts compiled.trees compiled.read
 
-  module _ (x : Search) (whole : x.end ≡ length x.haystack) (text : IsUtf8 x.haystack)
-      (starts : bound ≡ true → x.anchored ≡ No → IsBoundary x.haystack x.start) where
-    own-alike : AreAlike (str_hit own nfa x) (str_hit res nfa x)
-    own-alike = str-alike x (text-bytes x.haystack text) own res bound
+  -- the hit of a search, which is that of one that is bound to its start exactly if `b` is true
+  module _ (x : Search) (whole : x.end ≡ length x.haystack) (text : IsUtf8 x.haystack) (b : Bool)
+      (plain-is : expected own bound x ≡ expected own b x)
+      (boundary-is : expected_on_boundary own bound x ≡ expected_on_boundary own b x)
+      (starts : b ≡ true → x.anchored ≡ No → IsBoundary x.haystack x.start) where
+    own-alike : AreAlike (expected_in_str own b x) (expected_in_str res b x)
+    own-alike = str-alike x (text-bytes x.haystack text) own res b
         (all-meant syntax texts compiled.trees res compiled.read meant)
 
+    on-boundary : boundary_hit own nfa x ≡ expected_in_str own b x
+    on-boundary = boundary-is ∙ boundary-is-str own own-match b x text starts
+
+    in-bytes : is_utf8_empty nfa ≡ false → hit own nfa x ≡ expected_in_str own b x
+    in-bytes is = plain-is ∙ hit-is-str own own-match b x text (trees-read syntax texts nfa compiled mode is)
+
+    match-by : (found : Option Found) → IsFindAnswer nfa LeftmostFirst false x found
+        → found ≡ found_of_hit (expected_in_str res b x)
+    match-by found answer =
+        of (is_utf8_empty nfa) refl ∙ found-alike (expected_in_str own b x) (expected_in_str res b x) own-alike
+      where
+        of : (empty : Bool) → is_utf8_empty nfa ≡ empty → found ≡ found_of_hit (expected_in_str own b x)
+        of true is = boundary-match own nfa compiled.made is x whole found answer ∙ ap found_of_hit on-boundary
+        of false is = match-is own nfa compiled.made x whole is found answer ∙ ap found_of_hit (in-bytes is)
+
+    answer-by : (pattern : Option ℕ) (slots : List (Option ℕ)) → IsAnswer nfa LeftmostFirst false x pattern slots
+        → (pattern ≡ option_map (λ (h : PatternHit). h.pattern) (expected_in_str res b x))
+        × (slots ≡ slots_of nfa.groups (length slots) (expected_in_str res b x))
+    answer-by pattern slots answer = of (is_utf8_empty nfa) refl
+      where
+        alike : (o : Option PatternHit) → o ≡ expected_in_str own b x
+            → ((h : PatternHit) → o ≡ Some h → h.pattern < length nfa.groups)
+            → (pattern ≡ option_map (λ (h : PatternHit). h.pattern) o) × (slots ≡ slots_of nfa.groups (length slots) o)
+            → (pattern ≡ option_map (λ (h : PatternHit). h.pattern) (expected_in_str res b x))
+            × (slots ≡ slots_of nfa.groups (length slots) (expected_in_str res b x))
+        alike o is known a =
+            let like : AreAlike o (expected_in_str res b x) =
+            subst (λ p. AreAlike p (expected_in_str res b x)) (sym is) own-alike in (
+              a.0 ∙ pattern-alike o (expected_in_str res b x) like,
+              a.1 ∙ slots-alike nfa.groups (length slots) o (expected_in_str res b x) known like,
+            )
+
+        of : (empty : Bool) → is_utf8_empty nfa ≡ empty
+            → (pattern ≡ option_map (λ (h : PatternHit). h.pattern) (expected_in_str res b x))
+            × (slots ≡ slots_of nfa.groups (length slots) (expected_in_str res b x))
+        of true is =
+            alike (boundary_hit own nfa x) on-boundary
+            (boundary-known own nfa compiled.made is x whole answer.restarts answer.path answer.answers)
+            (boundary-answer own nfa compiled.made is x whole pattern slots answer)
+        of false is =
+            alike (hit own nfa x) (in-bytes is) (expected-known own nfa compiled.made x whole)
+            (answer-is own nfa compiled.made x whole is pattern slots answer)
+
+  -- that of the NFA
+  module _ (x : Search) (whole : x.end ≡ length x.haystack) (text : IsUtf8 x.haystack)
+      (starts : bound ≡ true → x.anchored ≡ No → IsBoundary x.haystack x.start) where
     pub str-match : (found : Option Found) → IsFindAnswer nfa LeftmostFirst false x found
         → found ≡ found_of_hit (str_hit res nfa x)
-    str-match found answer =
-        of (is_utf8_empty nfa) refl ∙ found-alike (str_hit own nfa x) (str_hit res nfa x) own-alike
-      where
-        of : (b : Bool) → is_utf8_empty nfa ≡ b → found ≡ found_of_hit (str_hit own nfa x)
-        of true is =
-            boundary-match own nfa compiled.made is x whole found answer
-            ∙ ap found_of_hit (boundary-is-str own own-match bound x text starts)
-        of false is =
-            match-is own nfa compiled.made x whole is found answer
-            ∙ ap found_of_hit (hit-is-str own own-match bound x text (trees-read syntax texts nfa compiled mode is))
+    str-match = match-by x whole text bound refl refl starts
 
     pub str-answer : (pattern : Option ℕ) (slots : List (Option ℕ)) → IsAnswer nfa LeftmostFirst false x pattern slots
         → (pattern ≡ option_map (λ (h : PatternHit). h.pattern) (str_hit res nfa x))
         × (slots ≡ slots_of nfa.groups (length slots) (str_hit res nfa x))
-    str-answer pattern slots answer = of (is_utf8_empty nfa) refl
-      where
-        alike : (o : Option PatternHit) → o ≡ str_hit own nfa x
-            → ((h : PatternHit) → o ≡ Some h → h.pattern < length nfa.groups)
-            → (pattern ≡ option_map (λ (h : PatternHit). h.pattern) o) × (slots ≡ slots_of nfa.groups (length slots) o)
-            → (pattern ≡ option_map (λ (h : PatternHit). h.pattern) (str_hit res nfa x))
-            × (slots ≡ slots_of nfa.groups (length slots) (str_hit res nfa x))
-        alike o is known a =
-            let like : AreAlike o (str_hit res nfa x) =
-            subst (λ p. AreAlike p (str_hit res nfa x)) (sym is) own-alike in (
-              a.0 ∙ pattern-alike o (str_hit res nfa x) like,
-              a.1 ∙ slots-alike nfa.groups (length slots) o (str_hit res nfa x) known like,
-            )
+    str-answer = answer-by x whole text bound refl refl starts
 
-        of : (b : Bool) → is_utf8_empty nfa ≡ b
-            → (pattern ≡ option_map (λ (h : PatternHit). h.pattern) (str_hit res nfa x))
-            × (slots ≡ slots_of nfa.groups (length slots) (str_hit res nfa x))
-        of true is =
-            alike (boundary_hit own nfa x) (boundary-is-str own own-match bound x text starts)
-            (boundary-known own nfa compiled.made is x whole answer.restarts answer.path answer.answers)
-            (boundary-answer own nfa compiled.made is x whole pattern slots answer)
-        of false is =
-            alike (hit own nfa x) (hit-is-str own own-match bound x text (trees-read syntax texts nfa compiled mode is))
-            (expected-known own nfa compiled.made x whole)
-            (answer-is own nfa compiled.made x whole is pattern slots answer)
+  -- that of an NFA that finds matches from any start
+  module _ (x : Search) (whole : x.end ≡ length x.haystack) (text : IsUtf8 x.haystack)
+      (free : FindsFromAnyStart nfa) where
+    own-kept : LosesNoHit own nfa x.haystack
+    own-kept = loses-none own nfa compiled.made free x.haystack
+
+    pub str-kept : LosesNoHit res nfa x.haystack
+    str-kept = texts-lose-none syntax texts res nfa x.haystack compiled meant free (text-bytes x.haystack text)
+
+    never-bound : false ≡ true → x.anchored ≡ No → IsBoundary x.haystack x.start
+    never-bound is = absurd (is_plain false refl is)
+
+    free-is : expected_in_str res false x ≡ str_hit res nfa x
+    free-is = sym (str-unbound res nfa x whole str-kept)
+
+    pub free-str-match : (found : Option Found) → IsFindAnswer nfa LeftmostFirst false x found
+        → found ≡ found_of_hit (str_hit res nfa x)
+    free-str-match found answer =
+        match-by x whole text false (hit-unbound own nfa x whole own-kept) (boundary-unbound own nfa x whole own-kept)
+        never-bound found answer
+        ∙ ap found_of_hit free-is
+
+    pub free-str-answer : (pattern : Option ℕ) (slots : List (Option ℕ))
+        → IsAnswer nfa LeftmostFirst false x pattern slots
+        → (pattern ≡ option_map (λ (h : PatternHit). h.pattern) (str_hit res nfa x))
+        × (slots ≡ slots_of nfa.groups (length slots) (str_hit res nfa x))
+    free-str-answer pattern slots answer =
+        subst (λ o. (pattern ≡ option_map (λ (h : PatternHit). h.pattern) o)
+        × (slots ≡ slots_of nfa.groups (length slots) o)) free-is
+        (answer-by x whole text false (hit-unbound own nfa x whole own-kept)
+        (boundary-unbound own nfa x whole own-kept) never-bound pattern slots answer)
 
   -- all of them
 
-  module _ (x : Search) (whole : x.end ≡ length x.haystack) (text : IsUtf8 x.haystack) (free : bound ≡ false) where
+  module _ (x : Search) (whole : x.end ≡ length x.haystack) (text : IsUtf8 x.haystack)
+      (free : FindsFromAnyStart nfa) where
     lies : (i : ℕ) (h : PatternHit) → str_hit res nfa (record x { start = i }) ≡ Some h
         → LiesFrom x.haystack i (length x.haystack + 1) h
     lies i h = str-lies res bound (record x { start = i }) h whole
 
-    pub starts-free : (i : ℕ) → bound ≡ true → x.anchored ≡ No → IsBoundary x.haystack i
-    starts-free i is = absurd (is_plain bound free is)
-
     pub all-str-matches : (ms : List Found) → AreMatches nfa LeftmostFirst false x ms
         → ms ≡ map found_at (all_str_hits res nfa x)
     all-str-matches = matches-of nfa x (λ i. str_hit res nfa (record x { start = i })) lies
-        (λ i. str-match (record x { start = i }) whole text (starts-free i))
+        (λ i. free-str-match (record x { start = i }) whole text free)
 
     pub all-str-rows : (rows : List Row) → AreRows nfa LeftmostFirst false x rows
         → rows ≡ map (row_of_hit nfa) (all_str_hits res nfa x)
     all-str-rows = rows-of nfa x (λ i. str_hit res nfa (record x { start = i })) lies
-        (λ i. str-match (record x { start = i }) whole text (starts-free i))
-        (λ i. str-answer (record x { start = i }) whole text (starts-free i))
+        (λ i. free-str-match (record x { start = i }) whole text free)
+        (λ i. free-str-answer (record x { start = i }) whole text free)
 
 -- one pattern
 
@@ -206,22 +254,26 @@ first-is-str re haystack (suc n) i =
     of true (Some t) e = refl
     of false o e = e
 
-pub one-str-hit : (re : Re) (nfa : Automaton) (x : Search) → (nfa.anchored == nfa.unanchored) ≡ false
-    → x.anchored ≡ No → x.end ≡ length x.haystack
-    → str_hit (re ∷ []) nfa x ≡ option_map (hit_by 0) (find_str re x.haystack x.start)
+pub one-str-free : (re : Re) (x : Search) → x.anchored ≡ No → x.end ≡ length x.haystack
+    → expected_in_str (re ∷ []) false x ≡ option_map (hit_by 0) (find_str re x.haystack x.start)
 unfolding expected_in_str find_str first_from
-one-str-hit re nfa x free mode whole =
+one-str-free re x mode whole =
     elim (cases_lt x.end x.start) [
       | inl past ↦
           let none : length x.haystack + 1 - x.start ≡ 0 = omega arith in
           rw (lt-ltb x.end x.start past, none) refl
       | inr inside ↦
           let count : x.end - x.start + 1 ≡ length x.haystack + 1 - x.start = omega arith in
-          rw (le-ltb x.end x.start inside, mode, free, count)
+          rw (le-ltb x.end x.start inside, mode, count)
           (first-is-str re x.haystack (length x.haystack + 1 - x.start) x.start)
     ]
 
-pub all-str-of-one : (re : Re) (nfa : Automaton) (x : Search) → (nfa.anchored == nfa.unanchored) ≡ false
+pub one-str-hit : (re : Re) (nfa : Automaton) (x : Search) → LosesNoHit (re ∷ []) nfa x.haystack
+    → x.anchored ≡ No → x.end ≡ length x.haystack
+    → str_hit (re ∷ []) nfa x ≡ option_map (hit_by 0) (find_str re x.haystack x.start)
+one-str-hit re nfa x kept mode whole = str-unbound (re ∷ []) nfa x whole kept ∙ one-str-free re x mode whole
+
+pub all-str-of-one : (re : Re) (nfa : Automaton) (x : Search) → LosesNoHit (re ∷ []) nfa x.haystack
     → x.anchored ≡ No → x.start ≡ 0 → x.end ≡ length x.haystack
     → all_str_hits (re ∷ []) nfa x ≡ map (hit_by 0) (find_all_str re x.haystack)
 all-str-of-one re nfa x free mode first whole =

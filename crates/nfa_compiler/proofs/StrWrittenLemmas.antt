@@ -1,7 +1,7 @@
 -- A search of a `str` in UTF-8 mode finds something exactly if a pattern matches from a boundary as which its text is
 -- read.
 use Rattle.std.proofs.Common.{◌≡◌, ℕ, Bool, true, false, List, [], ◌∷◌, length, refl, sym, ap, ◌∙◌, arith, IsUtf8}
-use Rattle.std.specs.Prelude.{Option, None, Some, All, is_some, option_map, if◌then◌else◌, ◌==◌, ◌↔◌}
+use Rattle.std.specs.Prelude.{Option, None, Some, All, is_some, option_map, if◌then◌else◌, ◌↔◌}
 use Rattle.std.specs.List.{AllZip}
 use Rattle.regex_hir.specs.Find.{Match, find_str}
 use Rattle.regex_hir.specs.Meaning.{meaning}
@@ -20,15 +20,17 @@ use Rattle.regex_syntax.specs.declared.Parsed.{Parsed}
 use Rattle.regex_syntax.proofs.CapturesLemmas.{alike_sym}
 use Rattle.thompson_nfa.specs.Automaton.{Automaton}
 use Rattle.nfa_paths.specs.Paths.{is_utf8_empty, IsBoolAnswer}
+use Rattle.nfa_compiler.specs.AnyStart.{FindsFromAnyStart, LosesNoHit}
 use Rattle.nfa_compiler.specs.Compiled.{IsCompiled, IsTreeOf, res_of}
 use Rattle.nfa_compiler.specs.Patterns.{hit_by}
-use Rattle.nfa_compiler.specs.StrHits.{MatchesCharacters, str_hit}
+use Rattle.nfa_compiler.specs.StrHits.{MatchesCharacters, expected_in_str}
 use Rattle.nfa_compiler.specs.Written.{IsReadAs, MatchesInStr}
 use Rattle.nfa_paths.proofs.TestLemmas.{is_plain}
 use Rattle.nfa_compiler.proofs.BoundarySearchLemmas.{boundary-found}
 use Rattle.nfa_compiler.proofs.SearchLemmas.{found-is}
 use Rattle.nfa_compiler.proofs.StrLemmas.{boundary-is-str, hit-is-str, text-bytes}
-use Rattle.nfa_compiler.proofs.StrSearchLemmas.{one-str-hit, trees-match, trees-read}
+use Rattle.nfa_compiler.proofs.StrSearchLemmas.{one-str-free, trees-match, trees-read}
+use Rattle.nfa_compiler.proofs.UnboundLemmas.{boundary-unbound, hit-unbound, loses-none}
 use Rattle.nfa_compiler.proofs.WrittenLemmas.{match-alike, read-as}
 
 -- `find_str` gives a match exactly if there is one from a boundary
@@ -65,35 +67,37 @@ some-mapped (Some m) = refl
 
 module _ (syntax : Config) (text : List ℕ) (nfa : Automaton) (haystack : List ℕ)
     (compiled : IsCompiled syntax (text ∷ []) nfa) (mode : nfa.utf8 ≡ true)
-    (free : (nfa.anchored == nfa.unanchored) ≡ false) (valid : IsUtf8 haystack) where
+    (free : FindsFromAnyStart nfa) (valid : IsUtf8 haystack) where
   abbrev trees-mean : List Re
   trees-mean = res_of compiled.trees
-
-  abbrev bound : Bool
-  bound = nfa.anchored == nfa.unanchored
 
   own-match : All MatchesCharacters trees-mean
   own-match = trees-match syntax (sym compiled.mode ∙ mode) (text ∷ []) compiled.trees compiled.read
 
-  never-bound : bound ≡ true → (whole haystack).anchored ≡ No → IsBoundary haystack 0
-  never-bound is = absurd (is_plain bound free is)
+  kept : LosesNoHit trees-mean nfa haystack
+  kept = loses-none trees-mean nfa compiled.made free haystack
+
+  never-bound : false ≡ true → (whole haystack).anchored ≡ No → IsBoundary haystack 0
+  never-bound is = absurd (is_plain false refl is)
 
   str-found : (found : Bool) → IsBoolAnswer nfa LeftmostFirst false (whole haystack) found
-      → found ≡ is_some (str_hit trees-mean nfa (whole haystack))
+      → found ≡ is_some (expected_in_str trees-mean false (whole haystack))
   str-found found answer = of (is_utf8_empty nfa) refl
     where
-      of : (b : Bool) → is_utf8_empty nfa ≡ b → found ≡ is_some (str_hit trees-mean nfa (whole haystack))
+      of : (b : Bool) → is_utf8_empty nfa ≡ b → found ≡ is_some (expected_in_str trees-mean false (whole haystack))
       of true is =
           boundary-found trees-mean nfa compiled.made is (whole haystack) refl found answer
-          ∙ ap is_some (boundary-is-str trees-mean own-match bound (whole haystack) valid never-bound)
+          ∙ ap is_some (boundary-unbound trees-mean nfa (whole haystack) refl kept
+          ∙ boundary-is-str trees-mean own-match false (whole haystack) valid never-bound)
       of false is =
           found-is trees-mean nfa compiled.made (whole haystack) refl is found answer
-          ∙ ap is_some (hit-is-str trees-mean own-match bound (whole haystack) valid
+          ∙ ap is_some (hit-unbound trees-mean nfa (whole haystack) refl kept
+          ∙ hit-is-str trees-mean own-match false (whole haystack) valid
           (trees-read syntax (text ∷ []) nfa compiled mode is))
 
   module _ (re : Re) (is : IsReadAs syntax text re) (found : Bool) where
     of-tree : (trees : List Parsed) → AllZip (IsTreeOf syntax) (text ∷ []) trees
-        → found ≡ is_some (str_hit (res_of trees) nfa (whole haystack))
+        → found ≡ is_some (expected_in_str (res_of trees) false (whole haystack))
         → (found ≡ true) ↔ MatchesInStr haystack re
     of-tree [] read e = absurd read
     of-tree (tree ∷ (other ∷ trees)) read e = absurd read.1
@@ -109,7 +113,7 @@ module _ (syntax : Config) (text : List ℕ) (nfa : Automaton) (haystack : List 
         same = read-as syntax text tree re read.0 is
 
         all : found ≡ is_some (find_str own haystack 0)
-        all = e ∙ ap is_some (one-str-hit own nfa (whole haystack) free refl refl)
+        all = e ∙ ap is_some (one-str-free own (whole haystack) refl refl)
             ∙ some-mapped (find_str own haystack 0)
 
         alike : (a b : Re) → SameCaptures a b → MatchesInStr haystack a → MatchesInStr haystack b

@@ -12,11 +12,13 @@ use Rattle.regex_hir.specs.Find.{first_from, find}
 use Rattle.regex_syntax.specs.declared.Config.{Config}
 use Rattle.thompson_nfa.specs.Automaton.{Automaton}
 use Rattle.nfa_paths.specs.Paths.{is_utf8_empty, IsAnswer, IsFindAnswer}
+use Rattle.nfa_compiler.specs.AnyStart.{LosesNoHit}
 use Rattle.nfa_compiler.specs.Compiled.{AreMeant, IsCompiled, res_of}
 use Rattle.nfa_compiler.specs.Laws.{hit}
 use Rattle.nfa_compiler.specs.Patterns.{PatternHit, expected, first_hit, found_of_hit, hit_by, hit_of, pick, slots_of}
 use Rattle.nfa_compiler.proofs.MeantLemmas.{AreAlike, all-meant, expected-alike, found-alike, pattern-alike, slots-alike}
 use Rattle.nfa_compiler.proofs.SearchLemmas.{answer-is, match-is, expected-known}
+use Rattle.nfa_compiler.proofs.UnboundLemmas.{hit-unbound}
 
 module _ (syntax : Config) (texts : List (List ℕ)) (res : List Re) (nfa : Automaton) (x : Search)
     (compiled : IsCompiled syntax texts nfa) (meant : AreMeant syntax texts res) (anywhere : is_utf8_empty nfa ≡ false)
@@ -61,17 +63,21 @@ first-is re haystack (suc n) i = of (attempt haystack re accept i) (first-is re 
     of None e = e
     of (Some t) e = refl
 
-pub one-hit : (re : Re) (nfa : Automaton) (x : Search) → (nfa.anchored == nfa.unanchored) ≡ false → x.anchored ≡ No
-    → x.end ≡ length x.haystack
-    → hit (re ∷ []) nfa x ≡ option_map (hit_by 0) (find re x.haystack x.start)
+one-free : (re : Re) (x : Search) → x.anchored ≡ No → x.end ≡ length x.haystack
+    → expected (re ∷ []) false x ≡ option_map (hit_by 0) (find re x.haystack x.start)
 unfolding expected find first_from
-one-hit re nfa x free mode whole =
+one-free re x mode whole =
     elim (cases_lt x.end x.start) [
       | inl past ↦
           let none : length x.haystack + 1 - x.start ≡ 0 = omega arith in
           rw (lt-ltb x.end x.start past, none) refl
       | inr inside ↦
           let count : x.end - x.start + 1 ≡ length x.haystack + 1 - x.start = omega arith in
-          rw (le-ltb x.end x.start inside, mode, free, count)
+          rw (le-ltb x.end x.start inside, mode, count)
           (first-is re x.haystack (length x.haystack + 1 - x.start) x.start)
     ]
+
+pub one-hit : (re : Re) (nfa : Automaton) (x : Search) → LosesNoHit (re ∷ []) nfa x.haystack → x.anchored ≡ No
+    → x.end ≡ length x.haystack
+    → hit (re ∷ []) nfa x ≡ option_map (hit_by 0) (find re x.haystack x.start)
+one-hit re nfa x kept mode whole = hit-unbound (re ∷ []) nfa x whole kept ∙ one-free re x mode whole

@@ -22,10 +22,12 @@ use Rattle.regex_syntax.specs.declared.Parsed.{Parsed}
 use Rattle.regex_syntax.proofs.CapturesLemmas.{◌also◌, alike_of_same, alike_sym}
 use Rattle.thompson_nfa.specs.Automaton.{Automaton}
 use Rattle.nfa_paths.specs.Paths.{is_utf8_empty, IsBoolAnswer, IsScanAnswer}
+use Rattle.nfa_compiler.specs.AnyStart.{FindsFromAnyStart, LosesNoHit}
 use Rattle.nfa_compiler.specs.Compiled.{IsCompiled, IsTreeOf, res_of}
 use Rattle.nfa_compiler.specs.KindLaws.{MatchesSomewhere}
 use Rattle.nfa_compiler.specs.Written.{IsReadAs, MatchesIn}
 use Rattle.nfa_compiler.proofs.ExistsLemmas.{anywhere-ends, path-iff}
+use Rattle.nfa_compiler.proofs.UnboundLemmas.{loses-none, matches-unbound}
 
 -- what a text is read as
 
@@ -69,11 +71,11 @@ module _ (haystack : List ℕ) (bytes : All (λ b. b < 256) haystack) where
 
 module _ (syntax : Config) (text : List ℕ) (nfa : Automaton) (haystack : List ℕ)
     (compiled : IsCompiled syntax (text ∷ []) nfa) (anywhere : is_utf8_empty nfa ≡ false)
-    (free : (nfa.anchored == nfa.unanchored) ≡ false) (bytes : All (λ b. b < 256) haystack) (re : Re)
+    (free : FindsFromAnyStart nfa) (bytes : All (λ b. b < 256) haystack) (re : Re)
     (is : IsReadAs syntax text re) where
   -- the one tree matches somewhere exactly if the pattern does
   somewhere : (trees : List Parsed) → AllZip (IsTreeOf syntax) (text ∷ []) trees
-      → MatchesSomewhere (res_of trees) (nfa.anchored == nfa.unanchored) (whole haystack) ↔ MatchesIn haystack re
+      → MatchesSomewhere (res_of trees) false (whole haystack) ↔ MatchesIn haystack re
   somewhere [] read = absurd read
   somewhere (tree ∷ (other ∷ trees)) read = absurd read.1
   somewhere (tree ∷ []) read = (
@@ -83,7 +85,7 @@ module _ (syntax : Config) (text : List ℕ) (nfa : Automaton) (haystack : List 
         record {
           start = p.start;
           end = p.end;
-          within = rw free at p.to;
+          within = p.to;
           matches = match-alike haystack bytes (meaning tree.hir) re same p.start p.end
               (subst (λ k. Matches haystack (slice_index_or (meaning tree.hir ∷ []) k empty) p.start p.end) first
               p.matches);
@@ -97,7 +99,7 @@ module _ (syntax : Config) (text : List ℕ) (nfa : Automaton) (haystack : List 
             known = omega arith;
             tried = tt;
             from = omega arith;
-            to = rw free m.within;
+            to = m.within;
             inside = omega arith;
             matches = match-alike haystack bytes re (meaning tree.hir) (alike_sym same) m.start m.end m.matches;
           };
@@ -116,5 +118,23 @@ module _ (syntax : Config) (text : List ℕ) (nfa : Automaton) (haystack : List 
       let own-res = res_of compiled.trees in
       let both = path-iff own-res nfa compiled.made (whole haystack) refl
       (anywhere-ends own-res nfa compiled.made (whole haystack) refl anywhere) LeftmostFirst false answer.path own.1 in
-      let same = somewhere compiled.trees compiled.read in
-      (λ e. same.0 (both.0 (sym answer.found_is ∙ e)), λ m. answer.found_is ∙ both.1 (same.1 m))
+      let same = somewhere compiled.trees compiled.read in (
+        λ e. same.0 (unbound.0 (both.0 (sym answer.found_is ∙ e))),
+        λ m. answer.found_is ∙ both.1 (unbound.1 (same.1 m)),
+      )
+    where
+      kept : LosesNoHit (res_of compiled.trees) nfa haystack
+      kept = loses-none (res_of compiled.trees) nfa compiled.made free haystack
+
+      unbound : MatchesSomewhere (res_of compiled.trees) (nfa.anchored == nfa.unanchored) (whole haystack)
+          ↔ MatchesSomewhere (res_of compiled.trees) false (whole haystack)
+      unbound = (
+        λ m. record {
+          pattern = m.pattern;
+          matches = (matches-unbound (res_of compiled.trees) nfa (whole haystack) m.pattern refl kept).0 m.matches;
+        },
+        λ m. record {
+          pattern = m.pattern;
+          matches = (matches-unbound (res_of compiled.trees) nfa (whole haystack) m.pattern refl kept).1 m.matches;
+        },
+      )

@@ -1,5 +1,5 @@
 -- What iterations over the matches of a compiled NFA find: all hits of its patterns.
-use Rattle.std.specs.Prelude.{◌≡◌, ℕ, ◌<◌, All, Bool, false, List, [], ◌∷◌, length, map, ◌==◌}
+use Rattle.std.specs.Prelude.{◌≡◌, ℕ, ◌<◌, All, Bool, false, List, [], ◌∷◌, length, map}
 use Rattle.regex_hir.specs.Re.{Re}
 use Rattle.regex_hir.specs.Find.{find_all}
 use Rattle.regex_search_core.specs.Found.{Found}
@@ -12,6 +12,7 @@ use Rattle.nfa_paths.specs.Paths.{is_utf8_empty}
 use Rattle.nfa_search_base.specs.WithCaptures.{Row}
 use Rattle.nfa_search_base.specs.CapturesLists.{AreRows}
 use Rattle.nfa_search_base.specs.Lists.{AreMatches}
+use Rattle.nfa_compiler.specs.AnyStart.{LosesNoHit}
 use Rattle.nfa_compiler.specs.AllHits.{all_hits, row_of_hit}
 use Rattle.nfa_compiler.specs.Compiled.{AreMeant, IsCompiled, IsNfaOf}
 use Rattle.nfa_compiler.specs.Laws.{IsLeftmostToTheEnd}
@@ -46,10 +47,9 @@ RowsAreAllOfTexts =
     → is_utf8_empty nfa ≡ false → IsLeftmostToTheEnd kind earliest x → All (λ b. b < 256) x.haystack
     → AreRows nfa kind earliest x rows → rows ≡ map (row_of_hit nfa) (all_hits res nfa x)
 
--- All hits of one pattern in a whole haystack are what `find_all` of `regex_hir` gives, if no search is bound to its
--- start.
+-- All hits of one pattern in a whole haystack, if none is lost, are what `find_all` of `regex_hir` gives.
 abbrev pub AllHitsAreFindAll : Type 0
 AllHitsAreFindAll =
-    (re : Re) (nfa : Automaton) (x : Search) → (nfa.anchored == nfa.unanchored) ≡ false → x.anchored ≡ No
+    (re : Re) (nfa : Automaton) (x : Search) → LosesNoHit (re ∷ []) nfa x.haystack → x.anchored ≡ No
     → x.start ≡ 0 → x.end ≡ length x.haystack
     → all_hits (re ∷ []) nfa x ≡ map (hit_by 0) (find_all re x.haystack)

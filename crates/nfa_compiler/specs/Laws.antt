@@ -10,6 +10,7 @@ use Rattle.regex_search_core.specs.declared.search.MatchKind.TheVariants.{Leftmo
 use Rattle.thompson_nfa.specs.Automaton.{Automaton}
 use Rattle.thompson_nfa.specs.Looks.{look_holds}
 use Rattle.nfa_paths.specs.Paths.{is_utf8_empty, IsAnswer, IsFindAnswer, IsBoolAnswer}
+use Rattle.nfa_compiler.specs.AnyStart.{LosesNoHit}
 use Rattle.nfa_compiler.specs.Blocks.{look_of}
 use Rattle.nfa_compiler.specs.Compiled.{AreMeant, IsCompiled, IsNfaOf}
 use Rattle.regex_hir.specs.Find.{find}
@@ -72,9 +73,9 @@ TextsAreMatched =
     → is_utf8_empty nfa ≡ false → IsLeftmostToTheEnd kind earliest x → All (λ b. b < 256) x.haystack
     → IsFindAnswer nfa kind earliest x found → found ≡ found_of_hit (hit res nfa x)
 
--- The hit of one pattern in a search that is not bound to its start is what `find` of `regex_hir` gives.
+-- The hit of one pattern, if none is lost, is what `find` of `regex_hir` gives.
 abbrev pub OneHitIsFind : Type 0
 OneHitIsFind =
-    (re : Re) (nfa : Automaton) (x : Search) → (nfa.anchored == nfa.unanchored) ≡ false → x.anchored ≡ No
+    (re : Re) (nfa : Automaton) (x : Search) → LosesNoHit (re ∷ []) nfa x.haystack → x.anchored ≡ No
     → x.end ≡ length x.haystack
     → hit (re ∷ []) nfa x ≡ option_map (hit_by 0) (find re x.haystack x.start)

@@ -7,6 +7,7 @@ pub mod Blocks
 pub mod Added
 pub mod Compiled
 pub mod Loops
+pub mod AnyStart
 pub mod Written
 pub mod Laws
 pub mod WayLaws
@@ -20,3 +21,4 @@ pub mod BoundaryHits
 pub mod StrHits
 pub mod Utf8Laws
 pub mod StrLaws
+pub mod UnboundLaws

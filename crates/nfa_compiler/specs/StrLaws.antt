@@ -1,6 +1,6 @@
 -- What searches find in a `str`, a haystack that is UTF-8, if the NFA was compiled in UTF-8 mode: what the grammar
 -- reads in the texts of the patterns, at the boundaries of the `str`.
-use Rattle.std.specs.Prelude.{◌≡◌, ℕ, Bool, true, false, List, [], ◌∷◌, length, map, IsUtf8, Option, option_map, ◌==◌}
+use Rattle.std.specs.Prelude.{◌≡◌, ℕ, Bool, true, List, [], ◌∷◌, length, map, IsUtf8, Option, option_map}
 use Rattle.regex_hir.specs.Find.{find_all_str, find_str}
 use Rattle.regex_hir.specs.Re.{Re}
 use Rattle.regex_search_core.specs.Found.{Found}
@@ -13,6 +13,7 @@ use Rattle.nfa_paths.specs.Paths.{IsAnswer, IsFindAnswer}
 use Rattle.nfa_search_base.specs.WithCaptures.{Row}
 use Rattle.nfa_search_base.specs.CapturesLists.{AreRows}
 use Rattle.nfa_search_base.specs.Lists.{AreMatches}
+use Rattle.nfa_compiler.specs.AnyStart.{FindsFromAnyStart, LosesNoHit}
 use Rattle.nfa_compiler.specs.AllHits.{row_of_hit}
 use Rattle.nfa_compiler.specs.Compiled.{AreMeant, IsCompiled}
 use Rattle.nfa_compiler.specs.Laws.{IsLeftmostToTheEnd}
@@ -37,10 +38,10 @@ StrsAreMatched =
     → IsLeftmostToTheEnd kind earliest x → IsUtf8 x.haystack → StartsOnBoundary nfa x
     → IsFindAnswer nfa kind earliest x found → found ≡ found_of_hit (str_hit res nfa x)
 
--- The hit of one pattern in a search that is not bound to its start is what `find_str` of `regex_hir` gives.
+-- The hit of one pattern, if none is lost, is what `find_str` of `regex_hir` gives.
 abbrev pub OneHitIsFindStr : Type 0
 OneHitIsFindStr =
-    (re : Re) (nfa : Automaton) (x : Search) → (nfa.anchored == nfa.unanchored) ≡ false → x.anchored ≡ No
+    (re : Re) (nfa : Automaton) (x : Search) → LosesNoHit (re ∷ []) nfa x.haystack → x.anchored ≡ No
     → x.end ≡ length x.haystack
     → str_hit (re ∷ []) nfa x ≡ option_map (hit_by 0) (find_str re x.haystack x.start)
 
@@ -49,7 +50,7 @@ abbrev pub MatchesAreAllOfStrs : Type 0
 MatchesAreAllOfStrs =
     (syntax : Config) (texts : List (List ℕ)) (res : List Re) (nfa : Automaton) (kind : MatchKind) (earliest : Bool)
     (x : Search) (ms : List Found) → IsCompiled syntax texts nfa → AreMeant syntax texts res → nfa.utf8 ≡ true
-    → (nfa.anchored == nfa.unanchored) ≡ false → IsLeftmostToTheEnd kind earliest x → IsUtf8 x.haystack
+    → FindsFromAnyStart nfa → IsLeftmostToTheEnd kind earliest x → IsUtf8 x.haystack
     → AreMatches nfa kind earliest x ms → ms ≡ map found_at (all_str_hits res nfa x)
 
 -- and its captures
@@ -57,12 +58,12 @@ abbrev pub RowsAreAllOfStrs : Type 0
 RowsAreAllOfStrs =
     (syntax : Config) (texts : List (List ℕ)) (res : List Re) (nfa : Automaton) (kind : MatchKind) (earliest : Bool)
     (x : Search) (rows : List Row) → IsCompiled syntax texts nfa → AreMeant syntax texts res → nfa.utf8 ≡ true
-    → (nfa.anchored == nfa.unanchored) ≡ false → IsLeftmostToTheEnd kind earliest x → IsUtf8 x.haystack
+    → FindsFromAnyStart nfa → IsLeftmostToTheEnd kind earliest x → IsUtf8 x.haystack
     → AreRows nfa kind earliest x rows → rows ≡ map (row_of_hit nfa) (all_str_hits res nfa x)
 
--- All hits of one pattern in a whole `str` are what `find_all_str` of `regex_hir` gives.
+-- All hits of one pattern in a whole `str`, if none is lost, are what `find_all_str` of `regex_hir` gives.
 abbrev pub AllHitsAreFindAllStr : Type 0
 AllHitsAreFindAllStr =
-    (re : Re) (nfa : Automaton) (x : Search) → (nfa.anchored == nfa.unanchored) ≡ false → x.anchored ≡ No
+    (re : Re) (nfa : Automaton) (x : Search) → LosesNoHit (re ∷ []) nfa x.haystack → x.anchored ≡ No
     → x.start ≡ 0 → x.end ≡ length x.haystack
     → all_str_hits (re ∷ []) nfa x ≡ map (hit_by 0) (find_all_str re x.haystack)

@@ -5,7 +5,7 @@
 //! let found = vm.find(&mut cache, Input::new(line));
 //! match_of_text(&compiler, pattern, vm.get_nfa(), line, found);
 //! ```
-ghost use Rattle.std.specs.Prelude.{◌≡◌, ◌==◌, ◌↔◌, ◌∷◌, [], IsUtf8, List, Option, Some, drop, false};
+ghost use Rattle.std.specs.Prelude.{◌≡◌, ◌↔◌, ◌∷◌, [], IsUtf8, List, Option, Some, drop, false};
 ghost use Rattle.std.specs.Prelude.{length, map, option_and_then, option_map, true, ℕ};
 ghost use Rattle.regex_hir.specs.Find.{find, find_all, find_all_str, find_str};
 ghost use Rattle.regex_hir.specs.Re.{Re};
@@ -20,6 +20,7 @@ ghost use Rattle.nfa_compiler.specs.Compiled.{IsCompiled, IsMeant};
 ghost use Rattle.nfa_compiler.specs.NameLaws.{IsNamed, written_span};
 ghost use Rattle.nfa_compiler.specs.Patterns.{found_by};
 ghost use Rattle.nfa_compiler.specs.Settings.{syntax_of};
+ghost use Rattle.nfa_compiler.specs.AnyStart.{FindsFromAnyStart};
 ghost use Rattle.nfa_compiler.specs.Written.{IsReadAs, MatchesIn, MatchesInStr};
 
 use crate::compiler::Compiler;
@@ -37,7 +38,7 @@ pub fn match_of_text(
 )
     requires compiled { IsCompiled (syntax_of compiler.now) (pattern.now ∷ []) nfa.now }
     requires anywhere { is_utf8_empty nfa.now ≡ false }
-    requires free { (nfa.now.anchored == nfa.now.unanchored) ≡ false }
+    requires free { FindsFromAnyStart nfa.now }
     requires answer { IsFindAnswer nfa.now LeftmostFirst false (whole haystack.now) (option_map found_of found) }
     ensures { (re : Re) → IsMeant (syntax_of compiler.now) pattern.now re
         → option_map found_of found ≡ option_map found_by (find re haystack.now 0) }
@@ -48,7 +49,7 @@ pub fn match_of_text(
 pub fn is_match_of_text(compiler: &Compiler, pattern: &str, nfa: &NFA, haystack: &[u8], found: bool)
     requires compiled { IsCompiled (syntax_of compiler.now) (pattern.now ∷ []) nfa.now }
     requires anywhere { is_utf8_empty nfa.now ≡ false }
-    requires free { (nfa.now.anchored == nfa.now.unanchored) ≡ false }
+    requires free { FindsFromAnyStart nfa.now }
     requires answer { IsBoolAnswer nfa.now LeftmostFirst false (whole haystack.now) found }
     ensures { (re : Re) → IsReadAs (syntax_of compiler.now) pattern.now re
         → (found ≡ true) ↔ MatchesIn haystack.now re }
@@ -65,7 +66,7 @@ pub fn matches_of_text(
 )
     requires compiled { IsCompiled (syntax_of compiler.now) (pattern.now ∷ []) nfa.now }
     requires anywhere { is_utf8_empty nfa.now ≡ false }
-    requires free { (nfa.now.anchored == nfa.now.unanchored) ≡ false }
+    requires free { FindsFromAnyStart nfa.now }
     requires all { AreMatches nfa.now LeftmostFirst false (whole haystack.now) (map found_of found.now) }
     ensures { (re : Re) → IsMeant (syntax_of compiler.now) pattern.now re
         → map found_of found.now ≡ map found_by (find_all re haystack.now) }
@@ -83,7 +84,7 @@ pub fn named_group_of_text(
 )
     requires compiled { IsCompiled (syntax_of compiler.now) (pattern.now ∷ []) nfa.now }
     requires anywhere { is_utf8_empty nfa.now ≡ false }
-    requires free { (nfa.now.anchored == nfa.now.unanchored) ≡ false }
+    requires free { FindsFromAnyStart nfa.now }
     requires groups { captures.now.groups ≡ nfa.now.groups }
     requires room { length captures.now.slots ≡ slot_count nfa.now.groups }
     requires answer { IsAnswer nfa.now LeftmostFirst false (whole haystack.now) captures.now.pattern
@@ -105,7 +106,7 @@ pub fn match_in_str(
     requires compiled { IsCompiled (syntax_of compiler.now) (pattern.now ∷ []) nfa.now }
     requires utf8 { nfa.now.utf8 ≡ true }
     requires text { IsUtf8 haystack.now }
-    requires free { (nfa.now.anchored == nfa.now.unanchored) ≡ false }
+    requires free { FindsFromAnyStart nfa.now }
     requires answer { IsFindAnswer nfa.now LeftmostFirst false (whole haystack.now) (option_map found_of found) }
     ensures { (re : Re) → IsMeant (syntax_of compiler.now) pattern.now re
         → option_map found_of found ≡ option_map found_by (find_str re haystack.now 0) }
@@ -117,7 +118,7 @@ pub fn is_match_in_str(compiler: &Compiler, pattern: &str, nfa: &NFA, haystack: 
     requires compiled { IsCompiled (syntax_of compiler.now) (pattern.now ∷ []) nfa.now }
     requires utf8 { nfa.now.utf8 ≡ true }
     requires text { IsUtf8 haystack.now }
-    requires free { (nfa.now.anchored == nfa.now.unanchored) ≡ false }
+    requires free { FindsFromAnyStart nfa.now }
     requires answer { IsBoolAnswer nfa.now LeftmostFirst false (whole haystack.now) found }
     ensures { (re : Re) → IsReadAs (syntax_of compiler.now) pattern.now re
         → (found ≡ true) ↔ MatchesInStr haystack.now re }
@@ -135,7 +136,7 @@ pub fn matches_in_str(
     requires compiled { IsCompiled (syntax_of compiler.now) (pattern.now ∷ []) nfa.now }
     requires utf8 { nfa.now.utf8 ≡ true }
     requires text { IsUtf8 haystack.now }
-    requires free { (nfa.now.anchored == nfa.now.unanchored) ≡ false }
+    requires free { FindsFromAnyStart nfa.now }
     requires all { AreMatches nfa.now LeftmostFirst false (whole haystack.now) (map found_of found.now) }
     ensures { (re : Re) → IsMeant (syntax_of compiler.now) pattern.now re
         → map found_of found.now ≡ map found_by (find_all_str re haystack.now) }
@@ -154,7 +155,7 @@ pub fn named_group_in_str(
     requires compiled { IsCompiled (syntax_of compiler.now) (pattern.now ∷ []) nfa.now }
     requires utf8 { nfa.now.utf8 ≡ true }
     requires text { IsUtf8 haystack.now }
-    requires free { (nfa.now.anchored == nfa.now.unanchored) ≡ false }
+    requires free { FindsFromAnyStart nfa.now }
     requires groups { captures.now.groups ≡ nfa.now.groups }
     requires room { length captures.now.slots ≡ slot_count nfa.now.groups }
     requires answer { IsAnswer nfa.now LeftmostFirst false (whole haystack.now) captures.now.pattern

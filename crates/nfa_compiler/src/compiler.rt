@@ -1,5 +1,5 @@
 //! The compiler: from the trees of patterns to one NFA.
-ghost use Rattle.std.specs.Prelude.{◌≡◌, ◌==◌, ◌+◌, ◌*◌, ◌<◌, ◌≤◌, ◌∷◌, [], All, true, false, IfErr, IfOk, OnOk};
+ghost use Rattle.std.specs.Prelude.{◌≡◌, ◌==◌, ◌||◌, ◌+◌, ◌*◌, ◌<◌, ◌≤◌, ◌∷◌, [], All, true, false, IfErr, IfOk, OnOk};
 ghost use Rattle.std.specs.Prelude.{length, map, vec_len};
 ghost use Rattle.regex_hir.specs.Meaning.{meaning};
 ghost use Rattle.regex_nfa.specs.Sizes.{table_bytes};
@@ -9,6 +9,8 @@ ghost use Rattle.thompson_nfa.specs.Automaton.{IsAutomaton, node_of};
 ghost use Rattle.nfa_paths.specs.Paths.{is_utf8_empty};
 ghost use Rattle.nfa_compiler.specs.Compiled.{AlwaysReads, ArePatterns, IsCompiled, IsNfaOf, IsPatternAt};
 ghost use Rattle.nfa_compiler.specs.Compiled.{explicit_names, groups_of, res_of};
+ghost use Rattle.nfa_compiler.specs.Loops.{all_begin_at_start};
+ghost use Rattle.nfa_compiler.specs.AnyStart.{FindsFromAnyStart, IsBoundAsRead};
 ghost use Rattle.nfa_compiler.specs.Added.{Adds, AreInRange, KeepsInRange};
 ghost use Rattle.nfa_compiler.specs.Rejected.{FitsIn, IsOfNoPattern, IsOfNoText, IsOfOneText, IsOfPattern};
 ghost use Rattle.nfa_compiler.specs.Rejected.{NamesPattern, NamesText, TextsFitIn};
@@ -17,6 +19,7 @@ use crate::block::Site;
 use crate::config::Config;
 use crate::error::CompileError;
 use crate::groups::{groups_of, pattern_number, slots_after, slots_for};
+use crate::loops::all_begin_at_start;
 use crate::reading::read_all;
 use crate::states::{choice, prefix};
 use regex_compile::Error;
@@ -108,8 +111,8 @@ impl Compiler {
         ensures valid { IfOk result IsAutomaton }
         ensures utf8 { IfOk result (λ nfa. nfa.utf8 ≡ self.now.config.utf8) }
         ensures anchored { self.now.config.anchored ≡ true → IfOk result (λ nfa. nfa.anchored ≡ nfa.unanchored) }
-        ensures free { self.now.config.anchored ≡ false
-            → IfOk result (λ nfa. (nfa.anchored == nfa.unanchored) ≡ false) }
+        ensures bound { IfOk result (IsBoundAsRead self.now.config.anchored (syntax_of self.now) (pattern.now ∷ [])) }
+        ensures free { self.now.config.anchored ≡ false → IfOk result FindsFromAnyStart }
         ensures anywhere { self.now.config.utf8 ≡ false → IfOk result (λ nfa. is_utf8_empty nfa ≡ false) }
         ensures fits { IfOk result (λ _. TextsFitIn self.now.config.size_limit (syntax_of self.now)
             (pattern.now ∷ [])) }
@@ -133,8 +136,9 @@ impl Compiler {
         ensures valid { IfOk result IsAutomaton }
         ensures utf8 { IfOk result (λ nfa. nfa.utf8 ≡ self.now.config.utf8) }
         ensures anchored { self.now.config.anchored ≡ true → IfOk result (λ nfa. nfa.anchored ≡ nfa.unanchored) }
-        ensures free { self.now.config.anchored ≡ false
-            → IfOk result (λ nfa. (nfa.anchored == nfa.unanchored) ≡ false) }
+        ensures bound { IfOk result (IsBoundAsRead self.now.config.anchored (syntax_of self.now)
+            (map (λ text. text.now) patterns.now)) }
+        ensures free { self.now.config.anchored ≡ false → IfOk result FindsFromAnyStart }
         ensures anywhere { self.now.config.utf8 ≡ false → IfOk result (λ nfa. is_utf8_empty nfa ≡ false) }
         ensures fits { IfOk result (λ _. TextsFitIn self.now.config.size_limit (syntax_of self.now)
             (map (λ text. text.now) patterns.now)) }
@@ -167,8 +171,9 @@ impl Compiler {
         ensures groups { IfOk result (λ nfa. nfa.groups ≡ groups_of (pattern.now ∷ [])) }
         ensures utf8 { IfOk result (λ nfa. nfa.utf8 ≡ self.now.config.utf8) }
         ensures anchored { self.now.config.anchored ≡ true → IfOk result (λ nfa. nfa.anchored ≡ nfa.unanchored) }
-        ensures free { self.now.config.anchored ≡ false
-            → IfOk result (λ nfa. (nfa.anchored == nfa.unanchored) ≡ false) }
+        ensures bound { IfOk result (λ nfa. (nfa.anchored == nfa.unanchored)
+            ≡ (self.now.config.anchored || all_begin_at_start (meaning pattern.now.hir ∷ []))) }
+        ensures free { self.now.config.anchored ≡ false → IfOk result FindsFromAnyStart }
         ensures anywhere { self.now.config.utf8 ≡ false → IfOk result (λ nfa. is_utf8_empty nfa ≡ false) }
         ensures reads { IfOk result (λ nfa. nfa.has_empty ≡ false → AlwaysReads pattern.now) }
         ensures fits { IfOk result (λ _. All (FitsIn self.now.config.size_limit) (meaning pattern.now.hir ∷ [])) }
@@ -198,8 +203,9 @@ impl Compiler {
         ensures groups { IfOk result (λ nfa. nfa.groups ≡ groups_of patterns.now) }
         ensures utf8 { IfOk result (λ nfa. nfa.utf8 ≡ self.now.config.utf8) }
         ensures anchored { self.now.config.anchored ≡ true → IfOk result (λ nfa. nfa.anchored ≡ nfa.unanchored) }
-        ensures free { self.now.config.anchored ≡ false
-            → IfOk result (λ nfa. (nfa.anchored == nfa.unanchored) ≡ false) }
+        ensures bound { IfOk result (λ nfa. (nfa.anchored == nfa.unanchored)
+            ≡ (self.now.config.anchored || all_begin_at_start (res_of patterns.now))) }
+        ensures free { self.now.config.anchored ≡ false → IfOk result FindsFromAnyStart }
         ensures anywhere { self.now.config.utf8 ≡ false → IfOk result (λ nfa. is_utf8_empty nfa ≡ false) }
         ensures reads { IfOk result (λ nfa. nfa.has_empty ≡ false → All AlwaysReads patterns.now) }
         ensures fits { IfOk result (λ _. All (FitsIn self.now.config.size_limit) (res_of patterns.now)) }
@@ -210,7 +216,8 @@ impl Compiler {
         let mut states = Vec::new(alloc);
         let starts = self.add_patterns(alloc, patterns, &mut states)?;
         let anchored = choice(alloc, &mut states, &starts)?;
-        let unanchored = self.unanchored(&mut states, anchored)?;
+        let is_bound = self.binds(patterns);
+        let unanchored = unanchored(&mut states, anchored, is_bound)?;
         let has_empty = may_one_be_empty(patterns);
         let utf8 = self.config.utf8;
         match NFA::from_states(
@@ -221,25 +228,13 @@ impl Compiler {
         }
     }
 
-    /// Returns the start of unanchored searches: a prefix that skips bytes, or the anchored start if the NFA is
-    /// anchored.
-    fn unanchored(
-        &self,
-        states: &mut Vec<State>,
-        anchored: StateID,
-    ) -> Result<StateID, CompileError>
-        requires { anchored < vec_len states.old }
-        ensures added { OnOk result (Adds (map node_of states.old.items) (map node_of states.new.items)) }
-        ensures range { OnOk result (KeepsInRange (map node_of states.old.items) (map node_of states.new.items)) }
-        ensures within { IfOk result (λ start. start < vec_len states.new) }
-        ensures bound { IfOk result (λ start. self.now.config.anchored ≡ true → start ≡ anchored) }
-        ensures free { IfOk result (λ start. self.now.config.anchored ≡ false → start ≡ vec_len states.old) }
-        ensures fails { IfErr result IsOfNoPattern }
+    /// Returns whether searches for these patterns are bound to their start.
+    fn binds(&self, patterns: &[Parsed]) -> bool
+        ensures { result ≡ (self.now.config.anchored || all_begin_at_start (res_of patterns.now)) }
     {
-        if self.config.anchored {
-            return Ok(anchored);
-        }
-        prefix(states, anchored)
+        let begun = all_begin_at_start(patterns);
+        let anchored = self.config.anchored;
+        anchored || begun
     }
 
     /// Adds the states of these patterns, and returns the start of each. Requires that there are no states yet.
@@ -322,6 +317,27 @@ impl Compiler {
             Err(Error::OutOfMemory) => Err(CompileError::Memory),
         }
     }
+}
+
+/// Returns the start of unanchored searches: a prefix that skips bytes, or the anchored start if searches are bound to
+/// their start.
+fn unanchored(
+    states: &mut Vec<State>,
+    anchored: StateID,
+    is_bound: bool,
+) -> Result<StateID, CompileError>
+    requires { anchored < vec_len states.old }
+    ensures added { OnOk result (Adds (map node_of states.old.items) (map node_of states.new.items)) }
+    ensures range { OnOk result (KeepsInRange (map node_of states.old.items) (map node_of states.new.items)) }
+    ensures within { IfOk result (λ start. start < vec_len states.new) }
+    ensures bound { IfOk result (λ start. is_bound ≡ true → start ≡ anchored) }
+    ensures free { IfOk result (λ start. is_bound ≡ false → start ≡ vec_len states.old) }
+    ensures fails { IfErr result IsOfNoPattern }
+{
+    if is_bound {
+        return Ok(anchored);
+    }
+    prefix(states, anchored)
 }
 
 /// Returns whether one of these patterns may match the empty string.

@@ -24,7 +24,9 @@ impl Config {
         }
     }
 
-    /// Sets whether each search is bound to its start. An NFA with this setting has no prefix that skips bytes.
+    /// Sets whether each search is bound to its start. An NFA with this setting has no prefix that skips bytes. An NFA
+    /// has none either if each way through each of its patterns begins with the assertion `Start`: with `\A`, or with
+    /// `^` without the flag `m`.
     pub fn anchored(self, yes: bool) -> Config
         ensures { result ≡ record self { anchored = yes } }
     {

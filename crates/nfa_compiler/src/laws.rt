@@ -14,6 +14,8 @@ ghost use Rattle.nfa_compiler.specs.WayLaws.{PatternsRecordBounds, TextsRecordBo
 ghost use Rattle.nfa_compiler.specs.StrHits.{str_hit};
 ghost use Rattle.nfa_compiler.specs.StrLaws.{AllHitsAreFindAllStr, MatchesAreAllOfStrs, OneHitIsFindStr};
 ghost use Rattle.nfa_compiler.specs.StrLaws.{RowsAreAllOfStrs, StrsAreAnswered, StrsAreMatched};
+ghost use Rattle.nfa_compiler.specs.UnboundLaws.{BegunMatchAtStart, BoundaryHitsAreUnbound, HitsAreUnbound};
+ghost use Rattle.nfa_compiler.specs.UnboundLaws.{MatchesAreUnbound, PatternsLoseNoHit, StrHitsAreUnbound, TextsLoseNoHit};
 ghost use Rattle.nfa_compiler.specs.Utf8Laws.{AnswersAreBoundaryHits, FindsBoundaryHits, MatchesAreBoundaryHits};
 ghost use Rattle.nfa_compiler.specs.Utf8Laws.{BoundaryHitsAreStrHits, MatchesAreAllBoundaryHits};
 ghost use Rattle.nfa_compiler.specs.Utf8Laws.{RowsAreAllBoundaryHits};
@@ -59,7 +61,24 @@ pub fn searches_find_texts()
     ensures matches { TextsAreMatched }
 {}
 
-/// The hit of one pattern is what `find` of `regex_hir` gives.
+/// A pattern that begins with `Start` matches only from the start of a haystack. The compiler binds searches to their
+/// start if each pattern begins so. In that case, too, no hit is lost: `FindsFromAnyStart`, which
+/// [`Compiler::build`](crate::Compiler::build) ensures if it is not anchored, is the premise.
+pub fn no_hit_is_lost()
+    ensures begun { BegunMatchAtStart }
+    ensures patterns { PatternsLoseNoHit }
+    ensures texts { TextsLoseNoHit }
+{}
+
+/// If no hit is lost, hits and matches are those of a search that is not bound to its start.
+pub fn hits_are_unbound()
+    ensures hits { HitsAreUnbound }
+    ensures boundary_hits { BoundaryHitsAreUnbound }
+    ensures str_hits { StrHitsAreUnbound }
+    ensures matches { MatchesAreUnbound }
+{}
+
+/// The hit of one pattern is what `find` of `regex_hir` gives, if no hit is lost.
 pub fn one_hit_is_find()
     ensures { OneHitIsFind }
 {}
@@ -77,7 +96,7 @@ pub fn iterations_find_texts()
     ensures captures { RowsAreAllOfTexts }
 {}
 
-/// All hits of one pattern in a whole haystack are what `find_all` of `regex_hir` gives.
+/// All hits of one pattern in a whole haystack are what `find_all` of `regex_hir` gives, if no hit is lost.
 pub fn all_hits_are_find_all()
     ensures { AllHitsAreFindAll }
 {}
@@ -152,14 +171,14 @@ pub fn searches_of_strs_find_texts()
     ensures matches { StrsAreMatched }
 {}
 
-/// An iteration finds all of these, if the NFA does not bind searches to their start.
+/// An iteration finds all of these, if the NFA finds matches from any start.
 pub fn iterations_of_strs_find_texts()
     ensures matches { MatchesAreAllOfStrs }
     ensures captures { RowsAreAllOfStrs }
 {}
 
 /// The hit of one pattern in a `str` is what `find_str` of `regex_hir` gives, and all hits are what `find_all_str`
-/// gives.
+/// gives, if no hit is lost.
 pub fn str_hits_are_find_str()
     ensures first { OneHitIsFindStr }
     ensures all { AllHitsAreFindAllStr }

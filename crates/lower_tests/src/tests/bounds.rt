@@ -1,5 +1,6 @@
 //! The sample NFAs, and mistakes by hand.
 use super::fixtures::{id, named, pattern, plain_groups};
+use super::shown::expect_eq_of;
 use Row::{Byte, Capture, Either, Match};
 use nfa_match_spans::records_match_spans;
 use regex_search_core::StateID;
@@ -51,7 +52,7 @@ fn samples_that_write_their_bounds(rt: HostRuntime) {
 
 fn expect_told(rt: &impl Abort, alloc: Global, nfa: &NFA, want: bool, name: &str) {
     let found = records_match_spans(alloc, nfa).expect(rt, "memory");
-    assert_eq!(rt; found, want, "{name}");
+    expect_eq_of(rt, found, want, &name);
 }
 
 // A state: a byte, a slot that is written, or one of two, each with the numbers of the states behind it; or a match.

@@ -9,6 +9,7 @@ ghost use Rattle.nfa_engines.specs.Lists.{AreAllStoredMatches};
 ghost use Rattle.nfa_engines.specs.IterStates.{IsInfalliblyInside, fresh, half_span_of, span_of};
 
 use super::fixtures::{plain_groups, set_slots};
+use super::shown::expect_eq;
 use nfa_engines::error::SearchError;
 use nfa_engines::iter::Searcher;
 use regex_search_core::{Captures, HalfMatch, Input, Match, PatternID, Span};
@@ -146,16 +147,16 @@ fn first_byte(rt: &impl Abort, alloc: Global) -> Captures {
 
 // At each offset of two bytes, and behind them, there is one.
 fn expect_empty(rt: &impl Abort, matches: &[Match]) {
-    assert_eq!(rt; matches.len(), 3);
+    expect_eq(rt, matches.len(), 3);
     for (at, found) in matches.iter().enumerate() {
-        assert_eq!(rt; (found.start(), found.end()), (at, at));
+        expect_eq(rt, (found.start(), found.end()), (at, at));
     }
 }
 
 fn expect_ends(rt: &impl Abort, halves: &[HalfMatch]) {
-    assert_eq!(rt; halves.len(), 3);
+    expect_eq(rt, halves.len(), 3);
     for (at, half) in halves.iter().enumerate() {
-        assert_eq!(rt; half.offset(), at);
+        expect_eq(rt, half.offset(), at);
     }
 }
 
@@ -163,7 +164,7 @@ fn expect_ends(rt: &impl Abort, halves: &[HalfMatch]) {
 fn functions_are_finders(rt: HostRuntime) -> Result<(), Fail> {
     let alloc = rt.alloc();
     expect_empty(&rt, &surely_collected(alloc, b"ab")?);
-    assert_eq!(rt; collected(alloc, b"ab")?.len(), 3);
+    expect_eq(&rt, collected(alloc, b"ab")?.len(), 3);
     Ok(())
 }
 
@@ -171,7 +172,7 @@ fn functions_are_finders(rt: HostRuntime) -> Result<(), Fail> {
 fn functions_are_finders_of_ends(rt: HostRuntime) -> Result<(), Fail> {
     let alloc = rt.alloc();
     expect_ends(&rt, &halves_surely_collected(alloc, b"ab")?);
-    assert_eq!(rt; halves_collected(alloc, b"ab")?.len(), 3);
+    expect_eq(&rt, halves_collected(alloc, b"ab")?.len(), 3);
     Ok(())
 }
 
@@ -179,7 +180,7 @@ fn functions_are_finders_of_ends(rt: HostRuntime) -> Result<(), Fail> {
 fn functions_are_finders_of_captures(rt: HostRuntime) -> Result<(), Fail> {
     let alloc = rt.alloc();
     let all = captures_collected(alloc, b"ab", first_byte(&rt, alloc))?;
-    assert_eq!(rt; all.len(), 1);
+    expect_eq(&rt, all.len(), 1);
     Ok(())
 }
 
@@ -187,6 +188,6 @@ fn functions_are_finders_of_captures(rt: HostRuntime) -> Result<(), Fail> {
 fn functions_that_never_err_are_finders_of_captures(rt: HostRuntime) -> Result<(), Fail> {
     let alloc = rt.alloc();
     let all = captures_surely_collected(alloc, b"ab", first_byte(&rt, alloc))?;
-    assert_eq!(rt; all.len(), 1);
+    expect_eq(&rt, all.len(), 1);
     Ok(())
 }

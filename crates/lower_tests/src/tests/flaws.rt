@@ -1,6 +1,6 @@
 //! Tests of what refuses an NFA.
 use super::fixtures::{id, pattern, plain_groups};
-use super::shown::expect_told;
+use super::shown::{expect_eq, expect_told};
 use std::alloc::Global;
 use std::process::Abort;
 use thompson_nfa::{BuildError, Flaw, NFA, Referrer, State, Transition, first_flaw};
@@ -164,9 +164,9 @@ fn expect_made(
     let patterns = vec![in alloc; id(rt, start)].expect(rt, "memory");
     let groups = plain_groups(rt, alloc, groups);
     let found = first_flaw(&states, anchored, unanchored, &patterns, &groups);
-    assert_eq!(rt; found, flaw);
+    expect_eq(rt, found, flaw);
     let made = NFA::from_states(states, anchored, unanchored, patterns, groups, false, false);
-    assert_eq!(rt; made.err(), error);
+    expect_eq(rt, made.err(), error);
 }
 
 const TOLD: &[(BuildError, &str)] = &[

@@ -1,4 +1,5 @@
 //! Tests of where assertions hold.
+use super::shown::{expect_eq, expect_eq_of};
 use std::process::Abort;
 use thompson_nfa::{Look, look_matches};
 
@@ -141,7 +142,7 @@ const HOLDS: &[(Look, &[u8], &[bool])] = &[
 #[test]
 fn assertions(rt: HostRuntime) {
     for (look, haystack, places) in HOLDS {
-        assert_eq!(rt; places.len().checked_sub(1), Some(haystack.len()));
+        expect_eq(&rt, places.len().checked_sub(1), Some(haystack.len()));
         expect_places(&rt, *look, haystack, places);
     }
 }
@@ -155,7 +156,7 @@ fn expect_places(rt: &impl Abort, look: Look, haystack: &[u8], places: &[bool]) 
 fn expect_holds(rt: &impl Abort, look: Look, haystack: &[u8], at: usize, want: bool) {
     assert!(rt; at <= haystack.len());
     let holds = look_matches(look, haystack, at);
-    assert_eq!(rt; holds, want, "{look:?} in {haystack:?} at {at}");
+    expect_eq_of(rt, holds, want, &(look, haystack, at));
 }
 
 // Whether a text begins and ends with a character of words.

@@ -1,6 +1,6 @@
 //! Tests of NFAs: how they are made and read.
 use super::fixtures::{id, pattern, plain_groups};
-use super::shown::{expect_number, expect_shown};
+use super::shown::{expect, expect_eq, expect_number, expect_shown};
 use std::alloc::{AllocError, Global};
 use std::process::Abort;
 use thompson_nfa::{BuildError, Look, NFA, State, Transition};
@@ -62,23 +62,24 @@ fn reads(rt: HostRuntime) {
 
 fn expect_one_of_each(rt: &impl Abort, alloc: Global, nfa: &NFA) {
     expect_starts(rt, nfa);
-    assert!(rt; nfa.has_empty() && !nfa.is_utf8());
-    assert_eq!(rt; nfa.group_info().slot_len(), 4);
+    expect(rt, nfa.has_empty() && !nfa.is_utf8(), "flags");
+    expect_eq(rt, nfa.group_info().slot_len(), 4);
     let last = nfa.state(nfa.start_unanchored());
     let want = "BinaryUnion { alt1: StateID(0), alt2: StateID(5) }";
     expect_shown(rt, alloc, last, want);
 }
 
 fn expect_starts(rt: &impl Abort, nfa: &NFA) {
-    assert_eq!(rt; nfa.states().len(), 10);
-    assert_eq!(rt;
+    expect_eq(rt, nfa.states().len(), 10);
+    expect_eq(
+        rt,
         (nfa.start_anchored(), nfa.start_unanchored()),
-        (id(rt, 0), id(rt, 8))
+        (id(rt, 0), id(rt, 8)),
     );
-    assert!(rt; !nfa.is_always_start_anchored());
-    assert_eq!(rt; nfa.pattern_len(), 2);
-    assert_eq!(rt; nfa.start_pattern(pattern(rt, 1)), Some(id(rt, 2)));
-    assert_eq!(rt; nfa.start_pattern(pattern(rt, 2)), None);
+    expect(rt, !nfa.is_always_start_anchored(), "two starts");
+    expect_eq(rt, nfa.pattern_len(), 2);
+    expect_eq(rt, nfa.start_pattern(pattern(rt, 1)), Some(id(rt, 2)));
+    expect_eq(rt, nfa.start_pattern(pattern(rt, 2)), None);
 }
 
 const ALWAYS: &str = "[Capture { next: StateID(1), slot: 0 }, \
@@ -109,14 +110,18 @@ fn expect_never(rt: &impl Abort, alloc: Global, never: &NFA) {
 
 // An NFA that is anchored and not in UTF-8 mode, with so many patterns of two slots, the first from state 0.
 fn expect_simple(rt: &impl Abort, nfa: &NFA, has_empty: bool, patterns: usize) {
-    assert!(rt; nfa.is_always_start_anchored() && !nfa.is_utf8());
-    assert_eq!(rt; nfa.has_empty(), has_empty);
-    assert_eq!(rt; nfa.pattern_len(), patterns);
+    expect(
+        rt,
+        nfa.is_always_start_anchored() && !nfa.is_utf8(),
+        "flags",
+    );
+    expect_eq(rt, nfa.has_empty(), has_empty);
+    expect_eq(rt, nfa.pattern_len(), patterns);
     let groups = nfa.group_info();
-    assert_eq!(rt; groups.pattern_len(), patterns);
-    assert_eq!(rt; groups.slot_len(), patterns.saturating_mul(2));
+    expect_eq(rt, groups.pattern_len(), patterns);
+    expect_eq(rt, groups.slot_len(), patterns.saturating_mul(2));
     let first = if patterns > 0 { Some(id(rt, 0)) } else { None };
-    assert_eq!(rt; nfa.start_pattern(pattern(rt, 0)), first);
+    expect_eq(rt, nfa.start_pattern(pattern(rt, 0)), first);
 }
 
 const LOOKS: &[(Look, &str)] = &[

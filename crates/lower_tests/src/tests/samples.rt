@@ -1,6 +1,6 @@
 //! Tests of the tables of the samples.
 use super::fixtures::named;
-use super::shown::expect_text;
+use super::shown::{expect, expect_eq_of, expect_text};
 use nfa_samples::sample;
 use regex_search_core::{PatternID, StateID};
 use std::alloc::{AllocError, Global};
@@ -175,7 +175,7 @@ const SHAPES: &[(&str, &str, &str)] = &[
 
 // The NFA has so many states, and its groups these names.
 fn expect_counts(rt: &impl Abort, alloc: Global, nfa: &NFA, count: usize, groups: &str) {
-    assert_eq!(rt; nfa.states().len(), count, "{groups}");
+    expect_eq_of(rt, nfa.states().len(), count, &groups);
     let shown = format!(in alloc; "{:?}", nfa.group_info()).expect(rt, "memory");
     expect_names(rt, &shown, groups);
 }
@@ -209,7 +209,7 @@ const UNKNOWN: &[&str] = &["", "nothing", "ABC", "abc ", "ab"];
 fn other_names_are_unknown(rt: HostRuntime) {
     for &name in UNKNOWN {
         let found = sample(rt.alloc(), name).expect(&rt, "memory");
-        assert!(rt; found.is_none(), "{name}");
+        expect(&rt, found.is_none(), name);
     }
 }
 

@@ -7,7 +7,7 @@ ghost use Rattle.regex_search_core.specs.Patterns.{number_of};
 ghost use Rattle.regex_search_core.specs.PatternSets.{patterns_of};
 
 use super::fixtures::pattern;
-use super::shown::expect_number;
+use super::shown::{expect, expect_eq, expect_eq_of, expect_number};
 use regex_search_core::{
     Anchored, Captures, GroupInfo, HalfMatch, Input, Match, MatchKind, NonMaxUsize, PatternID,
     PatternSet, Span, StateID,
@@ -75,48 +75,66 @@ const NUMBERS: &[(usize, bool)] = &[
 fn numbers_at_their_limits(rt: HostRuntime) {
     for &(number, fits) in NUMBERS {
         let want = if fits { Some(number) } else { None };
-        assert_eq!(rt; PatternID::new(number).map(|p| p.as_usize()), want);
-        assert_eq!(rt; StateID::new(number).map(|s| s.as_usize()), want);
+        expect_eq(&rt, PatternID::new(number).map(|p| p.as_usize()), want);
+        expect_eq(&rt, StateID::new(number).map(|s| s.as_usize()), want);
     }
-    assert_eq!(rt;
+    expect_eq(
+        &rt,
         NonMaxUsize::new(usize::MAX - 1).map(|n| n.get()),
-        Some(usize::MAX - 1)
+        Some(usize::MAX - 1),
     );
-    assert_eq!(rt; NonMaxUsize::new(usize::MAX), None);
+    expect_eq(&rt, NonMaxUsize::new(usize::MAX), None);
 }
 
 #[test]
 fn inputs(rt: HostRuntime) {
     let input = Input::new(b"abc");
-    assert_eq!(rt; input.haystack(), b"abc".as_slice());
-    assert_eq!(rt; input.get_span(), span(0, 3));
-    assert_eq!(rt; input.get_anchored(), Anchored::No);
-    assert!(rt; !input.get_earliest() && !input.is_done());
+    expect_eq(&rt, input.haystack(), b"abc".as_slice());
+    expect_eq(&rt, input.get_span(), span(0, 3));
+    expect_eq(&rt, input.get_anchored(), Anchored::No);
+    expect(&rt, !input.get_earliest() && !input.is_done(), "new");
 
     let mut input = input
         .span(span(1, 2))
         .anchored(Anchored::Yes)
         .earliest(true);
-    assert_eq!(rt; input.get_span(), span(1, 2));
-    assert!(rt; input.get_anchored().is_anchored() && input.get_earliest());
+    expect_eq(&rt, input.get_span(), span(1, 2));
+    expect(
+        &rt,
+        input.get_anchored().is_anchored() && input.get_earliest(),
+        "set",
+    );
     input = input.range(1..3);
-    assert_eq!(rt; (input.start(), input.end()), (1, 3));
+    expect_eq(&rt, (input.start(), input.end()), (1, 3));
     input.set_end(2);
     input.set_start(3);
-    assert!(rt; input.is_done());
-    assert_eq!(rt; input.get_span().len(), 0);
-    assert_eq!(rt; span(1, 3).len(), 2);
+    expect(&rt, input.is_done(), "done");
+    expect_eq(&rt, input.get_span().len(), 0);
+    expect_eq(&rt, span(1, 3).len(), 2);
     input.set_span(span(0, 1));
-    assert_eq!(rt; input.get_range(), 0..1);
+    expect_eq(&rt, input.get_range(), 0..1);
     input.set_range(2..3);
-    assert_eq!(rt; input.get_span(), span(2, 3));
+    expect_eq(&rt, input.get_span(), span(2, 3));
     input.set_anchored(Anchored::Pattern(pattern(&rt, 1)));
     input.set_earliest(false);
-    assert_eq!(rt; input.get_anchored().pattern(), Some(pattern(&rt, 1)));
-    assert!(rt; !input.get_earliest() && Anchored::Yes.pattern().is_none());
-    assert!(rt; Anchored::Pattern(pattern(&rt, 1)).is_anchored() && !Anchored::No.is_anchored());
-    assert!(rt; MatchKind::All.continue_past_first_match());
-    assert!(rt; !MatchKind::LeftmostFirst.continue_past_first_match());
+    expect_eq(&rt, input.get_anchored().pattern(), Some(pattern(&rt, 1)));
+    expect(
+        &rt,
+        !input.get_earliest() && Anchored::Yes.pattern().is_none(),
+        "no pattern",
+    );
+    expect(
+        &rt,
+        Anchored::Pattern(pattern(&rt, 1)).is_anchored(),
+        "anchored",
+    );
+    expect(&rt, !Anchored::No.is_anchored(), "unanchored");
+    expect(&rt, MatchKind::All.continue_past_first_match(), "all");
+    expect(
+        &rt,
+        !MatchKind::LeftmostFirst.continue_past_first_match(),
+        "first",
+    );
 }
 
 // A span, and whether it is empty.
@@ -126,9 +144,9 @@ const EMPTY_SPANS: &[(usize, usize, bool)] = &[(1, 3, false), (3, 3, true), (3, 
 fn spans(rt: HostRuntime) {
     for &(start, end, empty) in EMPTY_SPANS {
         let span = span(start, end);
-        assert_eq!(rt; span.is_empty(), empty);
-        assert_eq!(rt; span.range(), start..end);
-        assert_eq!(rt; span.offset(4).range(), start + 4..end + 4);
+        expect_eq(&rt, span.is_empty(), empty);
+        expect_eq(&rt, span.range(), start..end);
+        expect_eq(&rt, span.offset(4).range(), start + 4..end + 4);
     }
 }
 
@@ -153,7 +171,7 @@ fn boundaries(rt: HostRuntime) {
 
 fn expect_boundaries(rt: &impl Abort, input: &Input<'_>, wants: &[bool]) {
     for (offset, want) in wants.iter().enumerate() {
-        assert_eq!(rt; input.is_char_boundary(offset), *want, "at {offset}");
+        expect_eq_of(rt, input.is_char_boundary(offset), *want, &offset);
     }
 }
 
@@ -187,21 +205,26 @@ fn expect_slots(
 ) {
     let found = Match::from_slots(pattern(rt, number), slots);
     let ends = found.map(|found| (found.start(), found.end()));
-    assert_eq!(rt; ends, want, "of {number}");
+    expect_eq_of(rt, ends, want, &number);
 }
 
 #[test]
 fn matches_have_their_parts(rt: HostRuntime) {
     let found = Match::new(pattern(&rt, 5), span(2, 4));
-    assert_eq!(rt; found.pattern(), pattern(&rt, 5));
-    assert_eq!(rt;
+    expect_eq(&rt, found.pattern(), pattern(&rt, 5));
+    expect_eq(
+        &rt,
         (found.start(), found.end(), found.is_empty()),
-        (2, 4, false)
+        (2, 4, false),
     );
-    assert_eq!(rt; (found.range(), found.len()), (2..4, 2));
-    assert!(rt; Match::new(pattern(&rt, 5), span(2, 2)).is_empty());
+    expect_eq(&rt, (found.range(), found.len()), (2..4, 2));
+    expect(
+        &rt,
+        Match::new(pattern(&rt, 5), span(2, 2)).is_empty(),
+        "empty",
+    );
     let half = HalfMatch::new(pattern(&rt, 5), 4);
-    assert_eq!(rt; (half.pattern(), half.offset()), (pattern(&rt, 5), 4));
+    expect_eq(&rt, (half.pattern(), half.offset()), (pattern(&rt, 5), 4));
 }
 
 // A pattern, and what its insertion tells.
@@ -231,9 +254,9 @@ const REMOVED: &[(usize, bool)] = &[(1, true), (1, false), (2147483646, false)];
 
 fn expect_removals(rt: &impl Abort, set: &mut PatternSet) {
     for &(number, want) in REMOVED {
-        assert_eq!(rt; set.remove(pattern(rt, number)), want, "{number}");
+        expect_eq_of(rt, set.remove(pattern(rt, number)), want, &number);
     }
-    assert_eq!(rt; (set.len(), set.capacity()), (2, 3));
+    expect_eq(rt, (set.len(), set.capacity()), (2, 3));
 }
 
 #[test]
@@ -244,31 +267,36 @@ fn a_set_takes_patterns_below_its_capacity(rt: HostRuntime) {
 
 fn expect_insertion(rt: &impl Abort, set: &mut PatternSet) {
     assert!(rt; set.capacity() == 1);
-    assert_eq!(rt;
+    expect_eq(
+        rt,
         (set.insert(pattern(rt, 0)), set.insert(pattern(rt, 0))),
-        (true, false)
+        (true, false),
     );
 }
 
 #[test]
 fn a_set_of_no_patterns_is_full(rt: HostRuntime) {
     let set = PatternSet::new(rt.alloc(), 0).expect(&rt, "memory");
-    assert!(rt; set.is_full());
+    expect(&rt, set.is_full(), "full");
 }
 
 fn expect_last_insertion(rt: &impl Abort, set: &mut PatternSet) {
-    assert_eq!(rt; set.try_insert(pattern(rt, 1)), Some(true));
-    assert!(rt; set.is_full() && !set.is_empty());
+    expect_eq(rt, set.try_insert(pattern(rt, 1)), Some(true));
+    expect(rt, set.is_full() && !set.is_empty(), "full");
 }
 
 fn expect_insertions(rt: &impl Abort, set: &mut PatternSet) {
-    assert!(rt; set.is_empty() && !set.is_full());
+    expect(rt, set.is_empty() && !set.is_full(), "empty");
     for &(number, want) in INSERTED {
-        assert_eq!(rt; set.try_insert(pattern(rt, number)), want, "{number}");
+        expect_eq_of(rt, set.try_insert(pattern(rt, number)), want, &number);
     }
-    assert_eq!(rt; (set.len(), set.capacity()), (2, 3));
-    assert!(rt; set.contains(pattern(rt, 2)) && !set.contains(pattern(rt, 1)));
-    assert!(rt; !set.contains(pattern(rt, 3)));
+    expect_eq(rt, (set.len(), set.capacity()), (2, 3));
+    expect(
+        rt,
+        set.contains(pattern(rt, 2)) && !set.contains(pattern(rt, 1)),
+        "members",
+    );
+    expect(rt, !set.contains(pattern(rt, 3)), "no member");
 }
 
 // The set has these patterns, by `for` and by `collect`.
@@ -278,7 +306,7 @@ fn expect_members(rt: &impl Abort, alloc: Global, set: &PatternSet, want: &[usiz
 }
 
 fn expect_numbers(rt: &impl Abort, found: &[usize], want: &[usize]) {
-    assert_eq!(rt; found, want);
+    expect_eq(rt, found, want);
 }
 
 fn expect_patterns(rt: &impl Abort, found: &[PatternID], want: &[usize]) {
@@ -318,19 +346,19 @@ const NAMED: &[(usize, &str, Option<usize>)] = &[
 ];
 
 fn expect_two_patterns(rt: &impl Abort, groups: &GroupInfo) {
-    assert_eq!(rt; groups.pattern_len(), 2);
-    assert_eq!(rt; groups.implicit_slot_len(), 4);
-    assert_eq!(rt; groups.slot_len(), 12);
+    expect_eq(rt, groups.pattern_len(), 2);
+    expect_eq(rt, groups.implicit_slot_len(), 4);
+    expect_eq(rt, groups.slot_len(), 12);
     for &(number, group, want) in GROUP_SLOTS {
         let slot = groups.slot(pattern(rt, number), group);
-        assert_eq!(rt; slot, want, "{number}, {group}");
+        expect_eq_of(rt, slot, want, &(number, group));
     }
     for (number, want) in [3, 3, 0].iter().enumerate() {
-        assert_eq!(rt; groups.group_len(pattern(rt, number)), *want);
+        expect_eq(rt, groups.group_len(pattern(rt, number)), *want);
     }
     for &(number, name, want) in NAMED {
         let group = groups.to_index(pattern(rt, number), name);
-        assert_eq!(rt; group, want, "{number}, {name}");
+        expect_eq_of(rt, group, want, &(number, name));
     }
 }
 
@@ -341,18 +369,30 @@ fn captures_have_their_slots(rt: HostRuntime) -> Result<(), Fail> {
 }
 
 fn expect_slot_lens(rt: &impl Abort, alloc: Global, groups: &GroupInfo) -> Result<(), Fail> {
-    assert_eq!(rt; Captures::matches(alloc, groups.clone()?)?.slots().len(), 4);
-    assert_eq!(rt; Captures::empty(alloc, groups.clone()?)?.slots().len(), 0);
+    expect_eq(
+        rt,
+        Captures::matches(alloc, groups.clone()?)?.slots().len(),
+        4,
+    );
+    expect_eq(
+        rt,
+        Captures::empty(alloc, groups.clone()?)?.slots().len(),
+        0,
+    );
     expect_blank(rt, &Captures::all(alloc, groups.clone()?)?);
     Ok(())
 }
 
 fn expect_blank(rt: &impl Abort, captures: &Captures) {
-    assert_eq!(rt; captures.slots().len(), 12);
-    assert_eq!(rt; captures.group_info().slot_len(), 12);
-    assert!(rt; !captures.is_match());
-    assert_eq!(rt; captures.pattern(), None);
-    assert_eq!(rt; (captures.get_match(), captures.get_group(0)), (None, None));
+    expect_eq(rt, captures.slots().len(), 12);
+    expect_eq(rt, captures.group_info().slot_len(), 12);
+    expect(rt, !captures.is_match(), "no match");
+    expect_eq(rt, captures.pattern(), None);
+    expect_eq(
+        rt,
+        (captures.get_match(), captures.get_group(0)),
+        (None, None),
+    );
 }
 
 #[test]
@@ -379,24 +419,26 @@ fn write_match(rt: &impl Abort, captures: &mut Captures) {
 // That match is told, and no longer once its group starts behind its end.
 fn expect_match(rt: &impl Abort, captures: &mut Captures) {
     expect_groups(rt, captures);
-    assert_eq!(rt; captures.slots().len(), 12);
+    assert!(rt; captures.slots().len() == 12);
     set_seven(captures, 6);
-    assert_eq!(rt; captures.get_group(2), None);
+    expect_eq(rt, captures.get_group(2), None);
 }
 
 fn expect_groups(rt: &impl Abort, captures: &Captures) {
-    assert!(rt; captures.is_match());
-    assert_eq!(rt; captures.pattern(), Some(pattern(rt, 0)));
-    assert_eq!(rt;
+    expect(rt, captures.is_match(), "a match");
+    expect_eq(rt, captures.pattern(), Some(pattern(rt, 0)));
+    expect_eq(
+        rt,
         captures.get_match(),
-        Some(Match::new(pattern(rt, 0), span(1, 8)))
+        Some(Match::new(pattern(rt, 0), span(1, 8))),
     );
-    assert_eq!(rt; captures.get_group(0), Some(span(1, 8)));
-    assert_eq!(rt;
+    expect_eq(rt, captures.get_group(0), Some(span(1, 8)));
+    expect_eq(
+        rt,
         (captures.get_group(1), captures.get_group(3)),
-        (None, None)
+        (None, None),
     );
-    assert_eq!(rt; captures.get_group(2), Some(span(2, 4)));
-    assert_eq!(rt; captures.get_group_by_name("numbers"), Some(span(2, 4)));
-    assert_eq!(rt; captures.get_group_by_name("a"), None);
+    expect_eq(rt, captures.get_group(2), Some(span(2, 4)));
+    expect_eq(rt, captures.get_group_by_name("numbers"), Some(span(2, 4)));
+    expect_eq(rt, captures.get_group_by_name("a"), None);
 }

@@ -13,7 +13,7 @@ ghost use Rattle.nfa_search_base.specs.StoredRuns.{MayAnswer, MayAnswerRow};
 ghost use Rattle.nfa_search_base.specs.IterStates.{AnswerIsInside, IsInfalliblyInside, fresh, half_span_of, span_of};
 
 use crate::tests::fixtures::{plain_groups, set_slots};
-use crate::tests::shown::expect_shown;
+use crate::tests::shown::{expect_eq, expect_shown};
 use nfa_search_base::error::SearchError;
 use nfa_search_base::iter::Searcher;
 use regex_search_core::{
@@ -268,7 +268,7 @@ fn collected_captures(
 #[test]
 fn an_error_ends_captures(rt: HostRuntime) {
     let text = outcomes(&rt, rt.alloc(), no_captures(&rt, rt.alloc()));
-    assert_eq!(rt; text.as_str(), "match, error, none, none, none, ");
+    expect_eq(&rt, text.as_str(), "match, error, none, none, none, ");
 }
 
 // Where a span starts that no search answers, and what five calls give: the error of the first call, of the second
@@ -284,7 +284,7 @@ fn an_error_of_each_call_ends_captures(rt: HostRuntime) {
     for &(fails, want) in ERRORS {
         let captures = captures_at(&rt, rt.alloc(), 0, 1);
         let text = outcomes_of_byte(&rt, rt.alloc(), captures, fails);
-        assert_eq!(rt; text.as_str(), want);
+        expect_eq(&rt, text.as_str(), want);
     }
 }
 
@@ -315,7 +315,7 @@ fn expect_sure(rt: &impl Abort, alloc: Global, captures: Captures) {
     });
     let items = items.infallible();
     expect_shown(rt, alloc, &items, TRIES_OF_SURE);
-    assert_eq!(rt; items.count(), 0);
+    expect_eq(rt, items.count(), 0);
 }
 
 fn no_captures(rt: &impl Abort, alloc: Global) -> Captures {
@@ -347,9 +347,9 @@ fn lists(rt: HostRuntime) -> Result<(), Fail> {
 
 // An empty match at each offset of three bytes, and after them.
 fn expect_four(rt: &impl Abort, items: &[Result<Match, SearchError>]) {
-    assert_eq!(rt; items.len(), 4);
+    expect_eq(rt, items.len(), 4);
     for (at, item) in items.iter().enumerate() {
-        assert_eq!(rt; item.map(|found| found.range()), Ok(at..at));
+        expect_eq(rt, item.map(|found| found.range()), Ok(at..at));
     }
 }
 
@@ -368,7 +368,7 @@ fn a_list_of_captures_is_collected(rt: HostRuntime) -> Result<(), Fail> {
     let alloc = rt.alloc();
     let captures = captures_at(&rt, alloc, 0, 0);
     assert!(rt; are_zeros(&captures));
-    assert_eq!(rt; collected_captures(alloc, b"ab", captures)?.len(), 1);
+    expect_eq(&rt, collected_captures(alloc, b"ab", captures)?.len(), 1);
     Ok(())
 }
 
@@ -381,7 +381,7 @@ fn captures_that_a_finder_leaves_are_collected(rt: HostRuntime) -> Result<(), Fa
         captures_at(&rt, alloc, 0, 1),
         |input, captures| captured_or_fails(input, captures, 1),
     )?;
-    assert_eq!(rt; some.len(), 2);
+    expect_eq(&rt, some.len(), 2);
     let all = captures_surely_collected_by(
         alloc,
         Searcher::new(Input::new(b"ab")),
@@ -391,6 +391,6 @@ fn captures_that_a_finder_leaves_are_collected(rt: HostRuntime) -> Result<(), Fa
             Ok(())
         },
     )?;
-    assert_eq!(rt; all.len(), 0);
+    expect_eq(&rt, all.len(), 0);
     Ok(())
 }

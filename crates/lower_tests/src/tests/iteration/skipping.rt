@@ -2,6 +2,7 @@
 ghost use Rattle.regex_search_core.specs.Search.{search_of};
 ghost use Rattle.nfa_search_base.specs.Skipping.{HasOffsetIn};
 
+use crate::tests::shown::{expect_eq, expect_eq_of};
 use nfa_search_base::empty::{skip_splits_fwd, skip_splits_rev};
 use nfa_search_base::error::SearchError;
 use regex_search_core::{Anchored, Input, MatchError, Span};
@@ -66,8 +67,8 @@ fn expect_forward(rt: &impl Abort, row: &Forward) {
         seen = noted(seen, input.start());
         nearest(input, 0, input.start() == fails)
     });
-    assert_eq!(rt; found, want.ok_or(ERROR), "starts {starts}");
-    assert_eq!(rt; seen, starts);
+    expect_eq_of(rt, found, want.ok_or(ERROR), &starts);
+    expect_eq(rt, seen, starts);
 }
 
 #[test]
@@ -112,8 +113,8 @@ fn expect_backward(rt: &impl Abort, row: &Backward) {
         seen = noted(seen, input.end());
         nearest(input, place, input.end() == fails)
     });
-    assert_eq!(rt; found, want.ok_or(ERROR), "ends {ends}");
-    assert_eq!(rt; seen, ends);
+    expect_eq_of(rt, found, want.ok_or(ERROR), &ends);
+    expect_eq(rt, seen, ends);
 }
 
 #[test]

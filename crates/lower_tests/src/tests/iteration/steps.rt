@@ -6,7 +6,7 @@ ghost use Rattle.nfa_search_base.specs.Finders.{answer_by, match_span, half_matc
 ghost use Rattle.nfa_search_base.specs.IterStates.{IsInfalliblyInside, LiesIn, half_span_of, span_of};
 
 use super::callers::{collected_by, halves_collected_by, surely_collected_by};
-use crate::tests::shown::expect_shown;
+use crate::tests::shown::{expect, expect_eq, expect_eq_of, expect_shown};
 use nfa_search_base::error::SearchError;
 use nfa_search_base::iter::{Offered, Searcher};
 use regex_search_core::{HalfMatch, Input, Match, MatchError, PatternID, Span};
@@ -119,8 +119,8 @@ const STEPS: &[Step] = &[
 fn expect_step(rt: &impl Abort, searcher: &mut Searcher<'_>, step: &Step) {
     let (fails, place, want, start) = *step;
     let found = searcher.try_advance(|input: &Input<'_>| found_or_error(input, place, fails));
-    assert_eq!(rt; ends(found), want.ok_or(ERROR), "start {start}");
-    assert_eq!(rt; searcher.input().start(), start);
+    expect_eq_of(rt, ends(found), want.ok_or(ERROR), &start);
+    expect_eq(rt, searcher.input().start(), start);
 }
 
 #[test]
@@ -143,8 +143,8 @@ const HALF_STEPS: &[HalfStep] = &[
 fn expect_half_step(rt: &impl Abort, searcher: &mut Searcher<'_>, step: &HalfStep) {
     let (fails, place, want, start) = *step;
     let found = searcher.try_advance_half(|input: &Input<'_>| half_or_error(input, place, fails));
-    assert_eq!(rt; half_place_of(found), want.ok_or(ERROR), "start {start}");
-    assert_eq!(rt; searcher.input().start(), start);
+    expect_eq_of(rt, half_place_of(found), want.ok_or(ERROR), &start);
+    expect_eq(rt, searcher.input().start(), start);
 }
 
 #[test]
@@ -179,9 +179,9 @@ fn lent_steps(
 fn lent_finders_stay(rt: HostRuntime) {
     let mut searcher = Searcher::new(Input::new(b"ab"));
     let (first, second, seen) = lent_steps(&mut searcher);
-    assert_eq!(rt; ends(first), Ok(Some((0, 0))));
-    assert_eq!(rt; ends(Ok(second)), Ok(Some((1, 1))));
-    assert_eq!(rt; seen, 1001);
+    expect_eq(&rt, ends(first), Ok(Some((0, 0))));
+    expect_eq(&rt, ends(Ok(second)), Ok(Some((1, 1))));
+    expect_eq(&rt, seen, 1001);
 }
 
 fn lent_half_steps(
@@ -205,9 +205,9 @@ fn lent_half_steps(
 fn lent_half_finders_stay(rt: HostRuntime) {
     let mut searcher = Searcher::new(Input::new(b"ab"));
     let (first, second, seen) = lent_half_steps(&mut searcher);
-    assert_eq!(rt; half_place_of(first), Ok(Some(0)));
-    assert_eq!(rt; half_place_of(Ok(second)), Ok(Some(1)));
-    assert_eq!(rt; seen, 1001);
+    expect_eq(&rt, half_place_of(first), Ok(Some(0)));
+    expect_eq(&rt, half_place_of(Ok(second)), Ok(Some(1)));
+    expect_eq(&rt, seen, 1001);
 }
 
 // What a call of an iterator gives: an empty match, by its place, the finder's error, or nothing.
@@ -254,7 +254,7 @@ fn expect_call(rt: &impl Abort, item: Option<Result<(usize, usize), SearchError>
         Call::Error => Some(Err(ERROR)),
         Call::Nothing => None,
     };
-    assert_eq!(rt; item, want);
+    expect_eq(rt, item, want);
 }
 
 fn item_ends(
@@ -306,7 +306,7 @@ fn iterators_after_errors(rt: HostRuntime) {
 fn expect_advances(rt: &impl Abort, searcher: &mut Searcher<'_>) {
     for at in 0..3usize {
         let full = searcher.advance(at_start);
-        assert_eq!(rt; ends(Ok(full)), Ok(Some((at, at))));
+        expect_eq(rt, ends(Ok(full)), Ok(Some((at, at))));
     }
 }
 
@@ -315,7 +315,7 @@ fn infallible_steps(rt: HostRuntime) {
     let mut searcher = Searcher::new(Input::new(b"ab"));
     expect_advances(&rt, &mut searcher);
     let none = searcher.advance_half(half_at_start);
-    assert_eq!(rt; half_place_of(Ok(none)), Ok(None));
+    expect_eq(&rt, half_place_of(Ok(none)), Ok(None));
 }
 
 // Where the span of an iterator over matches ends, where the one of its form that never errs starts, and how many
@@ -336,8 +336,8 @@ fn infallible_half_matches() -> (usize, usize, usize) {
 
 #[test]
 fn infallible_iterators(rt: HostRuntime) {
-    assert_eq!(rt; infallible_matches(), (2, 0, 3));
-    assert_eq!(rt; infallible_half_matches(), (2, 0, 3));
+    expect_eq(&rt, infallible_matches(), (2, 0, 3));
+    expect_eq(&rt, infallible_half_matches(), (2, 0, 3));
 }
 
 // How many matches are collected of what that finder tells, of one that never errs, and how many half matches.
@@ -362,19 +362,19 @@ fn halves_collected_len(alloc: Global) -> Result<usize, AllocError> {
 #[test]
 fn what_a_finder_tells_is_collected(rt: HostRuntime) -> Result<(), Fail> {
     let alloc = rt.alloc();
-    assert_eq!(rt; collected_len(alloc)?, 3);
-    assert_eq!(rt; surely_collected_len(alloc)?, 3);
-    assert_eq!(rt; halves_collected_len(alloc)?, 3);
+    expect_eq(&rt, collected_len(alloc)?, 3);
+    expect_eq(&rt, surely_collected_len(alloc)?, 3);
+    expect_eq(&rt, halves_collected_len(alloc)?, 3);
     Ok(())
 }
 
 fn expect_offers(rt: &impl Abort, searcher: &mut Searcher<'_>) {
     let first = nearest(searcher.input(), 0);
-    assert_eq!(rt; searcher.offer(first), Offered::Done(first));
+    expect_eq(rt, searcher.offer(first), Offered::Done(first));
     let second = nearest(searcher.input(), 0);
-    assert_eq!(rt; searcher.offer(second), Offered::Again);
-    assert_eq!(rt; searcher.input().start(), 1);
-    assert_eq!(rt; searcher.offer(None), Offered::Done(None));
+    expect_eq(rt, searcher.offer(second), Offered::Again);
+    expect_eq(rt, searcher.input().start(), 1);
+    expect_eq(rt, searcher.offer(None), Offered::Done(None));
 }
 
 const AFTER_OFFERS: &str =
@@ -388,7 +388,7 @@ fn matches_text(alloc: Global, searcher: Searcher<'_>) -> Result<String, AllocEr
 }
 
 fn expect_start(rt: &impl Abort, text: &str, start: &str) {
-    assert!(rt; text.starts_with(start));
+    expect(rt, text.starts_with(start), text);
 }
 
 #[test]

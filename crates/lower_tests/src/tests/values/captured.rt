@@ -4,6 +4,7 @@ ghost use Rattle.regex_search_core.specs.Slots.{group_spans};
 
 use super::{span, two_patterns, write_match};
 use crate::tests::fixtures::pattern;
+use crate::tests::shown::{expect_eq, expect_eq_of};
 use regex_search_core::{Captures, Span};
 use std::alloc::{AllocError, Global};
 use std::process::Abort;
@@ -55,13 +56,13 @@ fn expect_all_groups(rt: &impl Abort, alloc: Global, captures: &mut Captures) {
 
 // The groups of the pattern that is set are these, counted, by `collect` and by `for`.
 fn expect_groups(rt: &impl Abort, alloc: Global, captures: &Captures, want: &[Option<Span>]) {
-    assert_eq!(rt; captures.group_len(), want.len());
+    expect_eq(rt, captures.group_len(), want.len());
     expect_spans(rt, &collected(alloc, captures).expect(rt, "memory"), want);
     expect_spans(rt, &looped(alloc, captures).expect(rt, "memory"), want);
 }
 
 fn expect_spans(rt: &impl Abort, found: &[Option<Span>], want: &[Option<Span>]) {
-    assert_eq!(rt; found, want);
+    expect_eq(rt, found, want);
 }
 
 // A haystack, a group, and its text.
@@ -77,7 +78,7 @@ const TEXTS: &[(&[u8], usize, Option<&[u8]>)] = &[
 
 fn expect_texts(rt: &impl Abort, captures: &Captures) {
     for &(haystack, group, want) in TEXTS {
-        assert_eq!(rt; captures.group_text(haystack, group), want, "{group}");
+        expect_eq_of(rt, captures.group_text(haystack, group), want, &group);
     }
 }
 

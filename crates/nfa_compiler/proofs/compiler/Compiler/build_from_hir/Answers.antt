@@ -1,8 +1,9 @@
--- the one pattern fits
+-- the list of the one pattern
 use Rattle.std.proofs.Common.{List, subst}
-use Rattle.std.specs.Prelude.{All, IfOk}
+use Rattle.std.specs.Prelude.{All, IfOk, ◌≡◌, ◌==◌, ◌||◌}
 use Rattle.regex_syntax.specs.declared.Parsed.{Parsed}
 use Rattle.nfa_compiler.specs.Compiled.{res_of}
+use Rattle.nfa_compiler.specs.Loops.{all_begin_at_start}
 use Rattle.nfa_compiler.specs.Rejected.{FitsIn}
 use Rattle.nfa_compiler.proofs.compiler.Compiler.build_from_hir.Goals as goal
 
@@ -11,3 +12,9 @@ returns-clause-fits c =
     subst (λ (ps : List Parsed). IfOk c.build_many_from_hir.result
     (λ _. All (FitsIn c.args.self.now.config.size_limit) (res_of ps)))
     c.from_ref.ensures.value c.build_many_from_hir.ensures.fits
+
+pub returns-clause-bound : goal.returns-clause-bound
+returns-clause-bound c =
+    subst (λ (ps : List Parsed). IfOk c.build_many_from_hir.result (λ nfa. (nfa.anchored == nfa.unanchored)
+    ≡ (c.args.self.now.config.anchored || all_begin_at_start (res_of ps))))
+    c.from_ref.ensures.value c.build_many_from_hir.ensures.bound

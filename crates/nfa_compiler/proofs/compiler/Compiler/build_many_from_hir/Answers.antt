@@ -1,11 +1,14 @@
 -- what was made of the patterns is the NFA
-use Rattle.std.proofs.Common.{◌∙◌, ◌<◌, ap, arith, ne_eqb, subst}
-use Rattle.std.specs.Prelude.{All, false}
-use Rattle.std.proofs.lemmas.Bool.{and_right}
+use Rattle.std.proofs.Common.{◌≡◌, ◌∙◌, ◌<◌, ℕ, Bool, true, false, inl, inr, ap, arith, eq-eqb, ne_eqb, refl, subst, sym}
+use Rattle.std.specs.Prelude.{All, ◌==◌, ◌||◌}
+use Rattle.std.proofs.lemmas.Bool.{and_right, cases_Bool}
 use Rattle.thompson_nfa.specs.Automaton.{Automaton}
+use Rattle.nfa_compiler.specs.Compiled.{res_of}
+use Rattle.nfa_compiler.specs.Loops.{all_begin_at_start}
 use Rattle.nfa_compiler.proofs.AddLemmas.{nodes-length}
 use Rattle.nfa_compiler.proofs.CompiledLemmas.{nfa-made}
 use Rattle.nfa_compiler.proofs.RangeLemmas.{built-valid, no-flaw}
+use Rattle.nfa_compiler.proofs.UnboundLemmas.{only-at-start}
 use Rattle.nfa_compiler.proofs.compiler.Compiler.build_many_from_hir.Goals as goal
 
 pub returns-clause-made : goal.returns-clause-made
@@ -21,17 +24,34 @@ pub returns-clause-anywhere : goal.returns-clause-anywhere
 returns-clause-anywhere c =
     λ off. and_right _ _ (ap (λ (n : Automaton). n.utf8) c.in-Ok.ensures.1 ∙ off)
 
-pub returns-clause-free : goal.returns-clause-free
-returns-clause-free c = λ off.
-    let built = c.in-Ok.ensures.1 in
-    ne_eqb _ _ (λ e. omega (
+-- the starts are one exactly if the NFA was to be bound
+bound-is : (nfa made : Automaton) (count : ℕ) (b : Bool) → nfa ≡ made → made.anchored < count
+    → (b ≡ true → made.unanchored ≡ made.anchored) → (b ≡ false → made.unanchored ≡ count)
+    → (nfa.anchored == nfa.unanchored) ≡ b
+bound-is nfa made count true e less same past =
+    eq-eqb nfa.anchored nfa.unanchored
+    (ap (λ (n : Automaton). n.anchored) e ∙ sym (same refl) ∙ sym (ap (λ (n : Automaton). n.unanchored) e))
+bound-is nfa made count false e less same past =
+    ne_eqb nfa.anchored nfa.unanchored (λ one. omega (
       arith,
-      ap (λ (n : Automaton). n.anchored) built,
-      ap (λ (n : Automaton). n.unanchored) built,
-      c.in_ok-anchored.ensures.within,
-      c.in_ok-unanchored.ensures.free off,
-      e,
+      ap (λ (n : Automaton). n.anchored) e,
+      ap (λ (n : Automaton). n.unanchored) e,
+      past refl,
+      less,
+      one,
     ))
+
+pub returns-clause-bound : goal.returns-clause-bound
+returns-clause-bound c =
+    bound-is _ _ _ _ c.in-Ok.ensures.1 c.in_ok-anchored.ensures.within c.in_ok-unanchored.ensures.bound
+    c.in_ok-unanchored.ensures.free
+    ∙ c.binds-is_bound.ensures
+
+pub returns-clause-free : goal.returns-clause-free
+returns-clause-free c = λ off. elim (cases_Bool (all_begin_at_start (res_of c.args.patterns.now))) [
+  | inl all ↦ inr (only-at-start (res_of c.args.patterns.now) _ (returns-clause-made c) all)
+  | inr some ↦ inl (returns-clause-bound c ∙ rw (off, some) refl)
+]
 
 pub unreachable-requires : goal.unreachable-requires
 unreachable-requires c =
