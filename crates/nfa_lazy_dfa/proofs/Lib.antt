@@ -7,6 +7,7 @@ pub mod RowLemmas
 pub mod CacheLemmas
 pub mod WorkLemmas
 pub mod ScanLemmas
+pub mod ReadLemmas
 pub mod WatchLemmas
 pub mod CutLemmas
 pub mod RunLemmas

@@ -89,6 +89,7 @@ module _ (nfa : Automaton) (kind : MatchKind) where
     is = get-left stances (t ∷ []) (row_of cell) h.target h.is;
     next = h.next;
     plain = h.plain;
+    matched = h.matched;
   }
 
   pub AreRows-none : AreRows nfa kind [] [] []

@@ -1,17 +1,18 @@
 -- A scan over cells that are known.
-use Rattle.std.proofs.Common.{◌≡◌, ℕ, ◌+◌, ◌*◌, ◌/◌, ◌%◌, ◌<◌, ◌≢◌, Bool, true, false, List, get_or, refl, ap, sym, ◌∙◌, subst, arith}
-use Rattle.std.specs.Prelude.{Option, None, Some, option_map, slice_get}
-use Rattle.std.specs.Option.{option_or}
+use Rattle.std.proofs.Common.{◌≡◌, ℕ, ◌+◌, ◌*◌, ◌/◌, ◌%◌, ◌<◌, ◌≤◌, ◌-◌, ◌≢◌, Bool, true, false}
+use Rattle.std.proofs.Common.{List, get_or, refl, ap, sym, ◌∙◌, subst, arith}
+use Rattle.std.specs.Prelude.{Option, None, Some, is_some, option_map, slice_get}
 use Rattle.regex_search_core.specs.Found.{HalfFound, half_found_of}
 use Rattle.regex_search_core.specs.declared.search.HalfMatch.{HalfMatch}
 use Rattle.regex_search_core.specs.Search.{Search}
 use Rattle.nfa_paths.specs.Paths.{byte_at}
 use Rattle.nfa_determinize.specs.Configurations.{found_after, half_at}
-use Rattle.nfa_lazy_dfa.specs.Places.{IsFoundAt}
+use Rattle.nfa_lazy_dfa.specs.Places.{IsFoundAt, IsMatchedAt}
 use Rattle.nfa_lazy_dfa.specs.Runs.{place_at}
 use Rattle.nfa_lazy_dfa.specs.Rows.{IsAt, IsFor, IsRowOf, Leads, LeadsTo, row_of, stances_of}
 use Rattle.nfa_lazy_dfa.proofs.CacheLemmas.{leads-at}
-use Rattle.nfa_lazy_dfa.proofs.ScanLemmas.{IsAt-next, IsFoundAt-next, found_at}
+use Rattle.nfa_lazy_dfa.proofs.RowLemmas.{some-same}
+use Rattle.nfa_lazy_dfa.proofs.ScanLemmas.{IsAt-next, found_at}
 use Rattle.nfa_lazy_dfa.specs.Stances.{Stance}
 use Rattle.nfa_lazy_dfa.specs.declared.cache.Cache.{Cache}
 use Rattle.nfa_lazy_dfa.specs.declared.dfa.DFA.{DFA}
@@ -77,16 +78,58 @@ module _ (dfa : DFA) (x : Search) (cache : Cache) (own : IsFor cache dfa)
         first = here.first;
       }
 
--- over a byte, to a row that a match leads to
-pub over-matched : (dfa : DFA) (x : Search) (cache : Cache) (p : Place) (here : IsFoundAt dfa cache x p) (byte row : ℕ)
-    → p.at < x.end → byte_at x p.at ≡ Some byte → LeadsTo dfa cache cache p.row byte row → (x.earliest ≡ true → ⊥)
-    → (t : Stance) → IsRowOf cache row t → (half found : Option HalfMatch)
-    → option_map half_found_of half ≡ option_map (half_at p.at) t.hit → found ≡ option_or half p.found
-    → (let next : Place = record { at = p.at + 1; row = row; found = found } in IsFoundAt dfa cache x next)
-over-matched dfa x cache p here byte row inside is leads late t is_row half found half_is found_is =
-    let both = IsFoundAt-next dfa x p.at byte inside is cache cache p row here refl leads t is_row half found half_is
-    found_is in
-    record { at = both.0; found = both.1; first = λ e. absurd (late e) }
+found-first : (earliest : Bool) → earliest ≡ false → (found hit : Option HalfFound) → is_some hit ≡ true
+    → found_after earliest found hit ≡ hit
+found-first true late found hit some = cc
+found-first false late found None some = cc
+found-first false late found (Some h) some = refl
+
+half-some : (at : ℕ) (hit : Option ℕ) → is_some hit ≡ true → is_some (option_map (half_at at) hit) ≡ true
+half-some at None some = cc
+half-some at (Some p) some = refl
+
+-- over a byte, to a row that a match leads to, and that is not dead
+pub over-match : (dfa : DFA) (x : Search) (cache : Cache) → IsFor cache dfa → (at first byte cell : ℕ)
+    → IsAt dfa cache x at (first / 256) → at < x.end → byte_at x at ≡ Some byte → byte < 256
+    → cell ≡ get_or cache.cells.items (first / 256 * 256 + byte) 0 → 0x4000_0000 ≤ cell → cell < 0x8000_0000
+    → x.earliest ≡ false → IsMatchedAt dfa cache x (at + 1) (cell - 0x4000_0000)
+over-match dfa x cache own at first byte cell here inside is small is_cell low high late =
+    let known : cell ≢ 0xFFFF_FFFF = λ e. absurd (omega arith) in
+    let leads = leads-at cache dfa own (first / 256) byte cell here.stance here.is small is_cell known in
+    let to : LeadsTo dfa cache cache (first / 256) byte (row_of cell) = record {
+      from = here.stance;
+      was = here.is;
+      to = leads.target;
+      is = leads.is;
+      next = leads.next;
+    } in
+    let both = IsAt-next dfa x at byte inside is cache cache (first / 256) (row_of cell) here to leads.target leads.is
+    in
+    let row : row_of cell ≡ (cell - 0x4000_0000) / 256 = omega arith in
+    let back : at ≡ at + 1 - 1 = omega arith in
+    let hit = leads.target.hit in
+    let some : is_some (option_map (half_at at) hit) ≡ true = half-some at hit (leads.matched low high) in
+    record {
+      at = subst (IsAt dfa cache x (at + 1)) row both.0;
+      found = λ s there.
+          let same : s ≡ leads.target =
+          some-same (slice_get (stances_of cache.stands.items) (row_of cell)) s leads.target
+          (ap (slice_get (stances_of cache.stands.items)) row ∙ there) leads.is in
+          ap (λ (t : Stance). option_map (half_at (at + 1 - 1)) t.hit) same
+          ∙ ap (λ (n : ℕ). option_map (half_at n) hit) (sym back)
+          ∙ sym (both.1 ∙ found-first x.earliest late (found_at dfa x at) (option_map (half_at at) hit) some);
+    }
+
+-- the place of a scan whose last match is its row's
+pub found-matched : (dfa : DFA) (x : Search) (cache : Cache) (at first : ℕ) → IsMatchedAt dfa cache x at first
+    → x.earliest ≡ false → (t : Stance) → IsRowOf cache (first / 256) t → (half : Option HalfMatch)
+    → option_map half_found_of half ≡ option_map (half_at (at - 1)) t.hit
+    → IsFoundAt dfa cache x (place_at at first half)
+found-matched dfa x cache at first here late t is half half_is = record {
+  at = here.at;
+  found = half_is ∙ here.found t is;
+  first = λ early. cc;
+}
 
 -- the place at the first cell of a row
 pub place-first : (dfa : DFA) (cache : Cache) (x : Search) (p : Place) → IsFoundAt dfa cache x p

@@ -10,7 +10,7 @@ use Rattle.regex_search_core.specs.declared.search.HalfMatch.{HalfMatch}
 use Rattle.regex_search_core.specs.Search.{Search}
 use Rattle.nfa_paths.specs.Paths.{byte_at, pairs_from, start_count, start_state, starts}
 use Rattle.nfa_determinize.specs.Closures.{pattern_by_kind}
-use Rattle.nfa_determinize.specs.Configurations.{Configuration, begin, closure_at, found_after}
+use Rattle.nfa_determinize.specs.Configurations.{Configuration, IsDead, begin, closure_at, found_after}
 use Rattle.nfa_determinize.specs.Configurations.{half_at, position_count, scanned, scan_half, start_here}
 use Rattle.nfa_determinize.proofs.ScanHalfLemmas.{length-starts}
 use Rattle.nfa_determinize.proofs.SettledLemmas.{scanned-next, settled-found}
@@ -194,17 +194,23 @@ module _ (dfa : DFA) (x : Search) where
       ap (λ (e : Configuration). e.found) (scanned-next dfa.nfa x dfa.kind x.earliest x.end low)
       ∙ ap (λ (o : Option ℕ). found_after x.earliest (found_at x.end) (option_map (half_at x.end) o)) now
 
+  -- a dead row stands for a configuration that is dead
+  pub IsAt-is_dead : (c : Cache) (at row : ℕ) → IsAt dfa c x at row → (t : Stance) → IsRowOf c row t → t.states ≡ []
+      → IsDead (scanned dfa.nfa x dfa.kind x.earliest (at - x.start))
+  IsAt-is_dead c at row here t is none =
+      let same : t ≡ here.stance = some-same (slice_get (stances_of c.stands.items) row) t here.stance is here.is in
+      stands-dead dfa.nfa x dfa.kind at here.stance
+      (scanned dfa.nfa x dfa.kind x.earliest (at - x.start)) here.stands
+      (ap (λ (s : Stance). s.states) (sym same) ∙ none)
+
   -- in a dead row, or with the first match if it is enough
   pub IsAt-dead : (c : Cache) (at row : ℕ) → IsAt dfa c x at row → (t : Stance) → IsRowOf c row t → t.states ≡ []
       → found_at at ≡ scan_half dfa.nfa x dfa.kind x.earliest
   IsAt-dead c at row here t is none =
-      let same : t ≡ here.stance = some-same (slice_get (stances_of c.stands.items) row) t here.stance is here.is in
       let low : x.start ≤ at = here.low in
       let high : at ≤ x.end = here.high in
       settled-found dfa.nfa x dfa.kind x.earliest (at - x.start) (omega arith)
-      (inl (stands-dead dfa.nfa x dfa.kind at here.stance
-      (scanned dfa.nfa x dfa.kind x.earliest (at - x.start)) here.stands
-      (ap (λ (s : Stance). s.states) (sym same) ∙ none)))
+      (inl (IsAt-is_dead c at row here t is none))
 
   pub IsAt-first : (c : Cache) (at row : ℕ) → IsAt dfa c x at row → x.earliest ≡ true → is_some (found_at at) ≡ true
       → found_at at ≡ scan_half dfa.nfa x dfa.kind x.earliest

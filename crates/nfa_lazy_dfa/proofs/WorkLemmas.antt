@@ -11,15 +11,17 @@ module _ (a b c : Cache) where
   Spends-both s t m n first second = record {
     scans = second.scans ∙ first.scans;
     steps = omega (arith, first.steps, second.steps);
+    grows = omega (arith, first.grows, second.grows);
     rows = omega (arith, first.rows, second.rows);
     clears = second.clears ∙ first.clears;
   }
 
-  -- one scan, over at most this many bytes
+  -- one scan, over at most n bytes
   pub Scans-one : (s n : ℕ) → CountsScan a b → Spends b c s 1 → s ≤ n + 1 → Scans a c 1 n
   Scans-one s n counts spends less = record {
     scans = spends.scans ∙ counts.scans;
     steps = omega (arith, spends.steps, counts.steps);
+    grows = omega (arith, spends.grows, counts.steps);
     rows = omega (arith, spends.rows, counts.rows, counts.steps);
     clears = omega (arith, spends.clears, counts.cleared, counts.clears);
   }
@@ -31,6 +33,7 @@ module _ (a b c : Cache) where
       record {
         scans = omega (arith, first.scans, second.scans);
         steps = omega (arith, first.steps, second.steps, all);
+        grows = omega (arith, first.grows, second.grows);
         rows = omega (arith, first.rows, second.rows);
         clears = second.clears ∙ first.clears;
       }
@@ -48,7 +51,13 @@ module _ (a b c : Cache) where
 
 -- nothing is spent
 pub Spends-none : (c : Cache) (s m : ℕ) → Spends c c s m
-Spends-none c s m = record { scans = refl; steps = omega arith; rows = omega arith; clears = refl }
+Spends-none c s m = record {
+  scans = refl;
+  steps = omega arith;
+  grows = omega arith;
+  rows = omega arith;
+  clears = refl;
+}
 
 pub ScansAtMost-one : (a b : Cache) (x : Search) → Scans a b 1 (x.end - x.start) → ScansAtMost a b x
 ScansAtMost-one a b x scan = record { count = 1; few = omega arith; scans = scan }

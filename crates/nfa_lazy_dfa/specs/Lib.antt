@@ -6,6 +6,7 @@ pub mod Assertions
 pub mod Stances
 pub mod Rows
 pub mod Capacities
+pub mod Reads
 pub mod Sets
 pub mod Places
 pub mod Runs

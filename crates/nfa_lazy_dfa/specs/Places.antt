@@ -1,12 +1,13 @@
 -- Where a scan is, and what it found so far.
-use Rattle.std.specs.Prelude.{◌≡◌, ◌-◌, Bool, true, Option, None, is_some, option_map}
+use Rattle.std.specs.Prelude.{◌≡◌, ℕ, ◌-◌, ◌/◌, Bool, true, Option, None, is_some, option_map}
 use Rattle.regex_search_core.specs.Found.{HalfFound, half_found_of}
 use Rattle.regex_search_core.specs.Search.{Search}
 use Rattle.regex_search_core.specs.declared.search.MatchKind.{MatchKind}
 use Rattle.thompson_nfa.specs.Automaton.{Automaton}
 use Rattle.nfa_paths.specs.Paths.{IsHalfAnswer}
-use Rattle.nfa_determinize.specs.Configurations.{scanned}
-use Rattle.nfa_lazy_dfa.specs.Rows.{IsAt}
+use Rattle.nfa_determinize.specs.Configurations.{half_at, scanned}
+use Rattle.nfa_lazy_dfa.specs.Rows.{IsAt, IsRowOf}
+use Rattle.nfa_lazy_dfa.specs.Stances.{Stance}
 use Rattle.nfa_lazy_dfa.specs.declared.cache.Cache.{Cache}
 use Rattle.nfa_lazy_dfa.specs.declared.dfa.DFA.{DFA}
 use Rattle.nfa_lazy_dfa.specs.declared.scan.Place.{Place}
@@ -16,6 +17,12 @@ pub record IsFoundAt (dfa : DFA) (c : Cache) (x : Search) (p : Place) : Type 0 w
   pub at : IsAt dfa c x p.at p.row
   pub found : option_map half_found_of p.found ≡ (scanned dfa.nfa x dfa.kind x.earliest (p.at - x.start)).found
   pub first : x.earliest ≡ true → option_map half_found_of p.found ≡ None
+
+-- the scan is at a position, in the row whose cells begin at `first`, and the last match that it found is the row's
+pub record IsMatchedAt (dfa : DFA) (c : Cache) (x : Search) (to first : ℕ) : Type 0 where
+  pub at : IsAt dfa c x to (first / 256)
+  pub found : (s : Stance) → IsRowOf c (first / 256) s
+      → option_map (half_at (to - 1)) s.hit ≡ (scanned dfa.nfa x dfa.kind x.earliest (to - x.start)).found
 
 -- an `earliest` search finds a match, or none
 pub record IsFoundEarly (nfa : Automaton) (kind : MatchKind) (x : Search) (found : Bool) : Type 0 where

@@ -1,6 +1,6 @@
 -- The rows of a cache, and what each cell says.
 use Rattle.std.specs.Prelude.{◌≡◌, ℕ, ◌+◌, ◌-◌, ◌*◌, ◌/◌, ◌%◌, ◌<◌, ◌≤◌, ◌≢◌, List, All, length, map, replicate}
-use Rattle.std.specs.Prelude.{Option, None, Some, option_map, slice_get, slice_index_or}
+use Rattle.std.specs.Prelude.{Option, None, Some, is_some, option_map, slice_get, slice_index_or, true}
 use Rattle.std.specs.List.{sum_by}
 use Rattle.regex_search_core.specs.Patterns.{number_of}
 use Rattle.regex_search_core.specs.Search.{Search}
@@ -37,6 +37,7 @@ module _ (nfa : Automaton) (kind : MatchKind) where
     pub is : slice_get stances (row_of cell) ≡ Some target
     pub next : IsNext nfa kind s byte target
     pub plain : cell < 0x4000_0000 → target.hit ≡ None
+    pub matched : 0x4000_0000 ≤ cell → cell < 0x8000_0000 → is_some target.hit ≡ true
 
   -- each cell that is known leads to what its byte leads to
   abbrev pub AreCells : List Stance → List ℕ → Type 0
@@ -131,19 +132,21 @@ pub record IsCopyOf (old copy : Cache) : Type 0 where
 abbrev pub max_clears_of : DFA → ℕ
 max_clears_of dfa = dfa.max_clears
 
--- A part of a scan: it took at most this many steps, and made at most a row for each of them and some more. Each clear
--- was one that the search was allowed.
+-- A part of a scan: it took at most `most` steps, and made at most a row for each of them and some more. Each clear was
+-- one that the search was allowed. No step is forgotten.
 pub record Spends (old new : Cache) (most more : ℕ) : Type 0 where
   pub scans : scans_of new ≡ scans_of old
   pub steps : steps_of new ≤ steps_of old + most
+  pub grows : steps_of old ≤ steps_of new
   pub rows : rows_made_of new + steps_of old ≤ rows_made_of old + steps_of new + more
   pub clears : clears_of new + new.clears ≡ clears_of old + old.clears
 
--- Scans over at most this many bytes: each took at most a step for each byte and one more, and made at most a row for
--- each step and one more. Each clear was one that the search was allowed.
+-- Scans over at most this number of bytes: each took at most a step for each byte and one more, and made at most a row
+-- for each step and one more. Each clear was one that the search was allowed. No step is forgotten.
 pub record Scans (old new : Cache) (count bytes : ℕ) : Type 0 where
   pub scans : scans_of new ≡ scans_of old + count
   pub steps : steps_of new ≤ steps_of old + count * (bytes + 1)
+  pub grows : steps_of old ≤ steps_of new
   pub rows : rows_made_of new + steps_of old ≤ rows_made_of old + steps_of new + count
   pub clears : clears_of new + new.clears ≡ clears_of old + old.clears
 

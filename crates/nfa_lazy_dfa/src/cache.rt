@@ -182,7 +182,7 @@ impl Cache {
         Some(taken)
     }
 
-    /// Adds a row for the stand, with which the rows take this many bytes.
+    /// Adds a row for the stand. With it the rows take `taken` bytes.
     fn add(&mut self, dfa: &DFA, stand: Stand, taken: usize) -> Result<u32, GaveUp>
         requires own { IsFor self.old dfa.now }
         requires below { All (λ s. s < length dfa.now.nfa.states) stand.states.items }

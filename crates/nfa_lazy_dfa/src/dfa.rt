@@ -42,7 +42,7 @@ pub struct DFA {
     /// No byte leads to the start.
     pub(crate) apart: bool,
     pub(crate) ghost apart_is: { apart ≡ true → IsStartApart nfa },
-    /// Which bytes the NFA tells apart from the next one.
+    /// Which bytes have other transitions in the NFA than the next one.
     pub(crate) cuts: [bool; 256],
     pub(crate) ghost cuts_are: { AreCuts nfa looks cuts },
 }

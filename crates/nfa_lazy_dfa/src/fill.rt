@@ -1,9 +1,9 @@
 //! The cells of rows: where each byte leads.
-ghost use Rattle.std.specs.Prelude.{◌≡◌, ◌+◌, ◌*◌, ◌%◌, ◌<◌, IfErr, IfOk, None, Some, vec_len};
+ghost use Rattle.std.specs.Prelude.{◌≡◌, ◌+◌, ◌*◌, ◌%◌, ◌<◌, ◌≤◌, IfErr, IfOk, None, Some, is_some, true, vec_len};
 ghost use Rattle.nfa_lazy_dfa.specs.Assertions.{IsRead};
 ghost use Rattle.nfa_lazy_dfa.specs.Capacities.{IsUsedUpBy};
 ghost use Rattle.nfa_lazy_dfa.specs.Rows as rows;
-ghost use Rattle.nfa_lazy_dfa.specs.Rows.{IsFor, LeadsTo, Spends};
+ghost use Rattle.nfa_lazy_dfa.specs.Rows.{IsFor, LeadsTo, Spends, steps_of};
 ghost use Rattle.nfa_lazy_dfa.specs.Stances.{stance_of};
 
 use crate::cache::{Cache, DEAD, MATCHED, ROW_CELLS, UNKNOWN};
@@ -18,6 +18,7 @@ fn cell_to(row: u32, stand: &Stand) -> u32
     ensures row { rows.row_of result ≡ row }
     ensures whole { result % ROW_CELLS ≡ 0 }
     ensures plain { result < MATCHED → (stance_of stand.now).hit ≡ None }
+    ensures matched { MATCHED ≤ result → result < DEAD → is_some (stance_of stand.now).hit ≡ true }
 {
     let first = row * ROW_CELLS as u32;
     if stand.is_dead() {
@@ -55,6 +56,7 @@ impl Cache {
         ensures own { IsFor self.new dfa.now }
         ensures leads { IfOk result (LeadsTo dfa.now self.old self.new row byte) }
         ensures spends { Spends self.old self.new 1 0 }
+        ensures counts { steps_of self.new ≡ steps_of self.old + 1 }
         ensures full { IfErr result (IsUsedUpBy self.new dfa.now) }
     {
         self.steps.tick();

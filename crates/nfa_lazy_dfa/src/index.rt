@@ -86,7 +86,7 @@ impl Index {
     }
 }
 
-/// The slot that is tried after this many others.
+/// The slot that is tried after `probe` others.
 #[inline(always)]
 fn slot(hash: usize, probe: usize, slots: usize) -> usize {
     hash.wrapping_add(probe) & slots.wrapping_sub(1)

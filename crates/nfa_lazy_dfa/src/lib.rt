@@ -12,6 +12,7 @@ mod error;
 mod fill;
 mod follow;
 mod index;
+mod known;
 mod overlap;
 mod scan;
 mod search;

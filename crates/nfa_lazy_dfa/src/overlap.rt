@@ -10,6 +10,7 @@ ghost use Rattle.nfa_lazy_dfa.specs.Assertions.{IsRead};
 ghost use Rattle.nfa_lazy_dfa.specs.Capacities.{HasNoRoom, HasToScan, IsUsedUpAt, StopsAtStart, first_row_memory};
 ghost use Rattle.nfa_lazy_dfa.specs.Configs.{kind_of, nfa_of};
 ghost use Rattle.nfa_lazy_dfa.specs.Places.{IsFoundAt};
+ghost use Rattle.nfa_lazy_dfa.specs.Reads.{HasRead, IsSetOver};
 ghost use Rattle.nfa_lazy_dfa.specs.Rows.{IsBounded, IsFor, IsRowOf, Scans, Spends, capacity_of, memory_of, scans_of, steps_of};
 ghost use Rattle.nfa_lazy_dfa.specs.Sets.{AddsEach, AddsHere, IsPartOfOverlap};
 ghost use Rattle.nfa_lazy_dfa.specs.Stances.{hits_here};
@@ -18,7 +19,8 @@ ghost use Rattle.nfa_lazy_dfa.specs.Stops.{IsInSpan, IsStop};
 use crate::cache::{Cache, ROW_CELLS};
 use crate::dfa::DFA;
 use crate::error::StopError;
-use crate::scan::{Place, first_row, half_at, next_row, pass};
+use crate::known::pass;
+use crate::scan::{Place, first_row, half_at, next_row};
 use nfa_scan_core::starts::{may_end_at, start_state};
 use regex_search_core::{Input, PatternID, PatternSet};
 
@@ -58,6 +60,8 @@ impl DFA {
         ensures memory { memory_of cache.new ≤ capacity_of self.now }
         ensures scans { scans_of cache.new ≡ scans_of cache.old + 1 }
         ensures work { IsBounded cache.old cache.new self.now (search_of input.now) }
+        ensures reads { let x = search_of input.now in
+            OnOk result (HasRead (IsSetOver self.now x x.earliest patterns.new) cache.old cache.new x.start) }
         ensures full { IfErr result (HasNoRoom cache.old cache.new self.now) }
         ensures small { capacity_of self.now < first_row_memory → size_of_set patterns.old < length patterns.old
             → HasToScan (nfa_of self.now) (search_of input.now) → StopsAtStart (search_of input.now) result }
@@ -87,6 +91,8 @@ fn overlap(
         patterns.new) }
     ensures stops { IfErr result (IsStop dfa.now.nfa (search_of input.now)) }
     ensures scan { let x = search_of input.now in Scans cache.old cache.new 1 (x.end - x.start) }
+    ensures reads { let x = search_of input.now in OnOk result (HasRead (IsSetOver dfa.now x earliest patterns.new)
+        cache.old cache.new x.start) }
     ensures full { IfErr result (IsUsedUpAt cache.new dfa.now) }
     ensures small { dfa.now.capacity < first_row_memory → size_of_set patterns.old < length patterns.old
         → HasToScan dfa.now.nfa (search_of input.now) → StopsAtStart (search_of input.now) result }
@@ -130,6 +136,8 @@ fn overlap_from(
         patterns.new) }
     ensures stops { IfErr result (IsStop dfa.now.nfa (search_of input.now)) }
     ensures spends { Spends cache.old cache.new (((search_of input.now).end - from.at) + 1) 0 }
+    ensures reads { OnOk result (HasRead (IsSetOver dfa.now (search_of input.now) earliest patterns.new) cache.old
+        cache.new from.at) }
     ensures full { IfErr result (IsUsedUpAt cache.new dfa.now) }
 {
     let mut place = skip(dfa, cache, input, from);

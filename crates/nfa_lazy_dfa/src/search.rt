@@ -1,11 +1,12 @@
 //! Searches of a lazy DFA.
-ghost use Rattle.std.specs.Prelude.{◌↔◌, ◌<◌, ◌≤◌, IfErr, IfOk, IsTrue, false, option_map};
+ghost use Rattle.std.specs.Prelude.{◌≡◌, ◌↔◌, ◌<◌, ◌≤◌, IfErr, IfOk, IsTrue, OnOk, false, not, option_map, true};
 ghost use Rattle.regex_search_core.specs.Found.{half_found_of};
 ghost use Rattle.regex_search_core.specs.Search.{search_of};
-ghost use Rattle.nfa_paths.specs.Paths.{IsBoolAnswer, IsHalfAnswer};
+ghost use Rattle.nfa_paths.specs.Paths.{IsBoolAnswer, IsHalfAnswer, is_utf8_empty};
 ghost use Rattle.nfa_determinize.specs.Searches.{IsRestartedHalf, IsWholeHalf};
 ghost use Rattle.nfa_lazy_dfa.specs.Capacities.{HasNoRoom, HasToScan, IsUsedUpAt, StopsAtStart, first_row_memory};
 ghost use Rattle.nfa_lazy_dfa.specs.Configs.{kind_of, nfa_of};
+ghost use Rattle.nfa_lazy_dfa.specs.Reads.{HasReadSpan};
 ghost use Rattle.nfa_lazy_dfa.specs.Rows.{IsBounded, IsFor, ScansAtMost, capacity_of, memory_of};
 ghost use Rattle.nfa_lazy_dfa.specs.Stops.{IsStop};
 
@@ -47,12 +48,13 @@ impl DFA {
         ensures stops { IfErr result (IsStop (nfa_of self.now) (search_of input.entry)) }
         ensures memory { memory_of cache.new ≤ capacity_of self.now }
         ensures work { IsBounded cache.old cache.new self.now (search_of input.entry) }
+        ensures reads { OnOk result (HasReadSpan cache.old cache.new self.now (search_of input.entry)) }
         ensures full { IfErr result (HasNoRoom cache.old cache.new self.now) }
         ensures small { capacity_of self.now < first_row_memory
             → HasToScan (nfa_of self.now) (search_of input.entry) → StopsAtStart (search_of input.entry) result }
     {
         cache.allow(self);
-        find_half(self, cache, input)
+        find_half(self, cache, &input)
     }
 
     /// Returns whether a search of the input finds a match. It stops at the first position at which it knows.
@@ -73,6 +75,8 @@ impl DFA {
         ensures stops { IfErr result (IsStop (nfa_of self.now) (search_of input.entry)) }
         ensures memory { memory_of cache.new ≤ capacity_of self.now }
         ensures work { IsBounded cache.old cache.new self.now (search_of input.entry) }
+        ensures reads { let free = not (is_utf8_empty (nfa_of self.now)) in OnOk result
+            (HasReadSpan cache.old cache.new self.now (record (search_of input.entry) { earliest = free })) }
         ensures full { IfErr result (HasNoRoom cache.old cache.new self.now) }
         ensures small { capacity_of self.now < first_row_memory
             → HasToScan (nfa_of self.now) (search_of input.entry) → StopsAtStart (search_of input.entry) result }
@@ -85,26 +89,55 @@ impl DFA {
 }
 
 /// The half match of a search.
-fn find_half(dfa: &DFA, cache: &mut Cache, input: Input<'_>) -> Result<Option<HalfMatch>, StopError>
+#[inline(always)]
+fn find_half(
+    dfa: &DFA,
+    cache: &mut Cache,
+    input: &Input<'_>,
+) -> Result<Option<HalfMatch>, StopError>
     requires { IsFor cache.old dfa.now }
     ensures own { IsFor cache.new dfa.now }
-    ensures answer { let x = search_of input.entry in IfOk result (λ half.
+    ensures answer { let x = search_of input.now in IfOk result (λ half.
         IsHalfAnswer dfa.now.nfa dfa.now.kind x.earliest x (option_map half_found_of half)) }
-    ensures stops { IfErr result (IsStop dfa.now.nfa (search_of input.entry)) }
-    ensures work { ScansAtMost cache.old cache.new (search_of input.entry) }
+    ensures stops { IfErr result (IsStop dfa.now.nfa (search_of input.now)) }
+    ensures work { ScansAtMost cache.old cache.new (search_of input.now) }
+    ensures reads { OnOk result (HasReadSpan cache.old cache.new dfa.now (search_of input.now)) }
     ensures full { IfErr result (IsUsedUpAt cache.new dfa.now) }
-    ensures small { dfa.now.capacity < first_row_memory → HasToScan dfa.now.nfa (search_of input.entry)
-        → StopsAtStart (search_of input.entry) result }
+    ensures small { dfa.now.capacity < first_row_memory → HasToScan dfa.now.nfa (search_of input.now)
+        → StopsAtStart (search_of input.now) result }
 {
     laws::steps_find_the_half();
-    if !is_utf8_empty(&dfa.nfa) {
-        return scan_half(dfa, cache, &input);
+    if is_utf8_empty(&dfa.nfa) {
+        return find_on_boundary(dfa, cache, input);
     }
+    scan_half(dfa, cache, input)
+}
+
+/// The half match of a search whose match counts only if it ends on a boundary.
+#[inline(never)]
+fn find_on_boundary(
+    dfa: &DFA,
+    cache: &mut Cache,
+    input: &Input<'_>,
+) -> Result<Option<HalfMatch>, StopError>
+    requires own { IsFor cache.old dfa.now }
+    requires utf8 { is_utf8_empty dfa.now.nfa ≡ true }
+    ensures own { IsFor cache.new dfa.now }
+    ensures answer { let x = search_of input.now in IfOk result (λ half.
+        IsHalfAnswer dfa.now.nfa dfa.now.kind x.earliest x (option_map half_found_of half)) }
+    ensures stops { IfErr result (IsStop dfa.now.nfa (search_of input.now)) }
+    ensures work { ScansAtMost cache.old cache.new (search_of input.now) }
+    ensures reads { OnOk result (HasReadSpan cache.old cache.new dfa.now (search_of input.now)) }
+    ensures full { IfErr result (IsUsedUpAt cache.new dfa.now) }
+    ensures small { dfa.now.capacity < first_row_memory → HasToScan dfa.now.nfa (search_of input.now)
+        → StopsAtStart (search_of input.now) result }
+{
+    laws::steps_find_the_half();
     if !input.get_anchored().is_anchored() {
-        return find_whole_half(dfa, cache, input);
+        return find_whole_half(dfa, cache, *input);
     }
-    let half = scan_half(dfa, cache, &input)?;
-    if !is_whole_half(&input, half) {
+    let half = scan_half(dfa, cache, input)?;
+    if !is_whole_half(input, half) {
         return Ok(None);
     }
     Ok(half)
@@ -122,6 +155,7 @@ fn find_whole_half(
         IsRestartedHalf dfa.now.nfa dfa.now.kind x.earliest x (option_map half_found_of half)) }
     ensures stops { IfErr result (IsStop dfa.now.nfa (search_of input.entry)) }
     ensures work { ScansAtMost cache.old cache.new (search_of input.entry) }
+    ensures reads { OnOk result (HasReadSpan cache.old cache.new dfa.now (search_of input.entry)) }
     ensures full { IfErr result (IsUsedUpAt cache.new dfa.now) }
     ensures small { dfa.now.capacity < first_row_memory → HasToScan dfa.now.nfa (search_of input.entry)
         → StopsAtStart (search_of input.entry) result }

@@ -2,7 +2,7 @@
 //!
 //! A row whose only state is the start is *idle*: each path of an earlier start has ended there. A scan that found
 //! nothing yet keeps the last idle position, and compares one row for each four bytes to see the next.
-ghost use Rattle.std.specs.Prelude.{◌≡◌, ◌+◌, ◌-◌, ◌*◌, ◌%◌, ◌≤◌, ◌∷◌, [], IfErr, IfOk, IfSome, IsTrue, None};
+ghost use Rattle.std.specs.Prelude.{◌≡◌, ◌+◌, ◌-◌, ◌*◌, ◌%◌, ◌<◌, ◌≤◌, ◌∷◌, [], IfErr, IfOk, IfSome, IsTrue, None, OnOk};
 ghost use Rattle.std.specs.Prelude.{option_map, true};
 ghost use Rattle.regex_search_core.specs.Found.{half_found_of};
 ghost use Rattle.regex_search_core.specs.Patterns.{number_of};
@@ -10,9 +10,11 @@ ghost use Rattle.regex_search_core.specs.Search.{search_of};
 ghost use Rattle.nfa_paths.specs.Paths.{IsHalfAnswer};
 ghost use Rattle.nfa_determinize.specs.Configurations.{scan_half};
 ghost use Rattle.nfa_determinize.specs.Idles.{StartsFrom};
+ghost use Rattle.nfa_lazy_dfa.specs.Capacities.{HasNoRoom, HasToScan, IsUsedUpAt, StopsAtStart, first_row_memory};
 ghost use Rattle.nfa_lazy_dfa.specs.Configs.{kind_of, nfa_of};
 ghost use Rattle.nfa_lazy_dfa.specs.Places.{IsFoundAt};
-ghost use Rattle.nfa_lazy_dfa.specs.Rows.{IsBounded, IsFor, Scans, Spends, capacity_of, memory_of};
+ghost use Rattle.nfa_lazy_dfa.specs.Reads.{HasRead, HasReadSpan, IsOver};
+ghost use Rattle.nfa_lazy_dfa.specs.Rows.{IsBounded, IsFor, Scans, Spends, capacity_of, memory_of, steps_of};
 ghost use Rattle.nfa_lazy_dfa.specs.Runs.{place_at};
 ghost use Rattle.nfa_lazy_dfa.specs.Stances.{stance_of};
 ghost use Rattle.nfa_lazy_dfa.specs.Stops.{IsStop};
@@ -23,7 +25,8 @@ use crate::cache::{Cache, MATCHED, ROW_CELLS, UNKNOWN};
 use crate::dfa::DFA;
 use crate::error::StopError;
 use crate::follow::Stand;
-use crate::scan::{Place, cell_at, first_row, half_at, next_row, scan_from};
+use crate::known::cell_at;
+use crate::scan::{Place, first_row, half_at, next_row, scan_from};
 use nfa_determinize::laws;
 use nfa_scan_core::starts::{is_utf8_empty, start_state};
 use regex_search_core::{HalfMatch, Input, PatternID, StateID};
@@ -220,6 +223,7 @@ fn pass_counted(dfa: &DFA, cache: &mut Cache, input: &Input<'_>, from: Watch) ->
     ensures watching { IsWatching dfa.now cache.new (search_of input.now) result }
     ensures low { from.at ≤ result.at }
     ensures spends { Spends cache.old cache.new (result.at - from.at) 0 }
+    ensures counts { steps_of cache.new ≡ steps_of cache.old + (result.at - from.at) }
 {
     let to = pass(dfa, cache, input, from);
     cache.count_steps(dfa, from.at, to.at);
@@ -243,6 +247,8 @@ fn window_from(
         IsBegun dfa.now.nfa (search_of input.now) (start_in w) (search_of input.now).end)) }
     ensures stops { IfErr result (IsStop dfa.now.nfa (search_of input.now)) }
     ensures spends { Spends cache.old cache.new (((search_of input.now).end - from.at) + 1) 0 }
+    ensures reads { OnOk result (HasRead (IsOver dfa.now (search_of input.now)) cache.old cache.new from.at) }
+    ensures full { IfErr result (IsUsedUpAt cache.new dfa.now) }
 {
     let earliest = input.get_earliest();
     let mut w = pass_counted(dfa, cache, input, from);
@@ -280,6 +286,11 @@ fn scan_window(dfa: &DFA, cache: &mut Cache, input: &Input<'_>) -> Result<Option
         IsBegun dfa.now.nfa (search_of input.now) (start_in w) (search_of input.now).end)) }
     ensures stops { IfErr result (IsStop dfa.now.nfa (search_of input.now)) }
     ensures scan { let x = search_of input.now in Scans cache.old cache.new 1 (x.end - x.start) }
+    ensures reads { let x = search_of input.now in
+        OnOk result (HasRead (IsOver dfa.now x) cache.old cache.new x.start) }
+    ensures full { IfErr result (IsUsedUpAt cache.new dfa.now) }
+    ensures small { dfa.now.capacity < first_row_memory → HasToScan dfa.now.nfa (search_of input.now)
+        → StopsAtStart (search_of input.now) result }
 {
     cache.count_scan(dfa);
     let Some(start) = start_state(&dfa.nfa, input) else {
@@ -330,6 +341,10 @@ impl DFA {
         ensures stops { IfErr result (IsStop (nfa_of self.now) (search_of input.entry)) }
         ensures memory { memory_of cache.new ≤ capacity_of self.now }
         ensures work { IsBounded cache.old cache.new self.now (search_of input.entry) }
+        ensures reads { OnOk result (HasReadSpan cache.old cache.new self.now (search_of input.entry)) }
+        ensures full { IfErr result (HasNoRoom cache.old cache.new self.now) }
+        ensures small { capacity_of self.now < first_row_memory
+            → HasToScan (nfa_of self.now) (search_of input.entry) → StopsAtStart (search_of input.entry) result }
     {
         laws::steps_find_the_half();
         if is_utf8_empty(&self.nfa) || !self.apart {

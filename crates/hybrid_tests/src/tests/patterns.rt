@@ -1,11 +1,9 @@
-//! A hybrid over compiled patterns: assertions of Unicode words, patterns with more rows than a cache has room for, and
-//! a long haystack.
+//! A hybrid over compiled patterns: assertions of Unicode words, and patterns with more rows than a cache has room for.
 
 use super::pair::{Pair, pair_of};
 use nfa_compiler::Compiler;
 use nfa_engines::{Input, MatchKind, NFA};
 use nfa_hybrid::dfa::Config;
-use nfa_hybrid::{Engine, Hybrid};
 use std::alloc::Global;
 use std::process::Abort;
 use test_support::searches::searches_of;
@@ -135,21 +133,4 @@ fn hybrids_answer_for_patterns_with_many_rows(rt: HostRuntime) {
         let nfa = nfa(&rt, alloc, pattern);
         expect_exploding(&rt, alloc, &nfa, &bytes);
     }
-}
-
-// The only match ends at the end of a haystack of a million bytes, and the lazy DFA finds it.
-#[test]
-fn a_hybrid_searches_a_long_haystack(rt: HostRuntime) {
-    let alloc = rt.alloc();
-    let mut bytes = vec![in alloc; b'0'; 1_000_000].expect(&rt, "memory");
-    bytes.push(b'x').expect(&rt, "memory");
-    let nfa = nfa(&rt, alloc, "[01]+x");
-    let mut hybrid = Hybrid::new(alloc, nfa, Config::new()).expect(&rt, "memory");
-    expect_end(&rt, &mut hybrid, &bytes);
-}
-
-fn expect_end(rt: &impl Abort, hybrid: &mut Hybrid, bytes: &[u8]) {
-    let half = hybrid.find_half(Input::new(bytes)).expect(rt, "a match");
-    assert_eq!(rt; half.offset(), bytes.len());
-    assert_eq!(rt; hybrid.ran(), Some(Engine::LazyDFA));
 }

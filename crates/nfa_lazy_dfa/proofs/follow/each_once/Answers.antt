@@ -45,4 +45,5 @@ loop-sid-preserved c =
     ]
 
 pub returns-clause-held : goal.returns-clause-held
-returns-clause-held c = IsHeld-end c.args.states.now c.loop-sid.once.items c.loop-sid.sid-index (omega arith) c.loop-sid.invariant.held
+returns-clause-held c =
+    IsHeld-end c.args.states.now c.loop-sid.once.items c.loop-sid.sid-index (omega arith) c.loop-sid.invariant.held

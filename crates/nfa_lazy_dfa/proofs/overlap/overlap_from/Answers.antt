@@ -1,11 +1,12 @@
 -- A row leads to the next one, whose patterns are added; a dead row ends the scan, as does a match if it is enough.
-use Rattle.std.proofs.Common.{rules, ◌≡◌, ◌<◌, ◌≤◌, ◌+◌, ◌-◌, ℕ, false, get_or, refl, sym, subst, arith}
+use Rattle.std.proofs.Common.{rules, ◌≡◌, ◌<◌, ◌≤◌, ◌+◌, ◌-◌, ℕ, inl, inr, false, get_or, refl, ap, sym, subst, arith}
 use Rattle.std.specs.Prelude.{Some, map, slice_get}
 use Rattle.regex_search_core.specs.Patterns.{number_of}
 use Rattle.regex_search_core.specs.Search.{search_of}
 use Rattle.nfa_paths.specs.Paths.{byte_at}
 use Rattle.nfa_lazy_dfa.specs.Places.{IsFoundAt}
-use Rattle.nfa_lazy_dfa.specs.Rows.{IsRowOf, Spends}
+use Rattle.nfa_lazy_dfa.specs.Reads.{IsSetOver}
+use Rattle.nfa_lazy_dfa.specs.Rows.{IsRowOf, Spends, steps_of}
 use Rattle.nfa_lazy_dfa.specs.Stances.{hits_here, patterns_in, stance_of}
 use Rattle.nfa_lazy_dfa.specs.declared.scan.Place.{Place}
 use Rattle.nfa_lazy_dfa.proofs.CacheLemmas.{row-inside, row-is}
@@ -13,7 +14,8 @@ use Rattle.nfa_lazy_dfa.proofs.GainLemmas.{Gaining, Gaining-begin, Gaining-end, 
 use Rattle.nfa_lazy_dfa.proofs.GainLemmas.{Gaining-part, Gaining-skip}
 use Rattle.nfa_lazy_dfa.proofs.HitLemmas.{found-dead, found-next-row, found-same, hits-at, hits-next}
 use Rattle.nfa_lazy_dfa.proofs.ReachLemmas.{here_at}
-use Rattle.nfa_lazy_dfa.proofs.ScanLemmas.{byte-here}
+use Rattle.nfa_lazy_dfa.proofs.ReadLemmas.{IsOver-late}
+use Rattle.nfa_lazy_dfa.proofs.ScanLemmas.{IsAt-is_dead, IsAt-next, byte-here}
 use Rattle.nfa_lazy_dfa.proofs.WorkLemmas.{Spends-both}
 use Rattle.nfa_lazy_dfa.proofs.overlap.overlap_from.Goals as goal
 use Rattle.nfa_lazy_dfa.proofs.overlap.overlap_from.Goals.{then-is_over-via-then-is_over, then-is_over-via-else-is_over+then-is_dead}
@@ -31,6 +33,7 @@ loop-place-init c =
       at = c.skip-place.ensures.at;
       low = c.skip-place.ensures.low;
       spends = c.skip-place.ensures.spends;
+      counts = c.skip-place.ensures.counts;
       gains = Gaining-skip dfa.nfa x c.args.earliest old from.at place.at old low c.skip-place.ensures.low
           (found-same dfa x c.requires.kind c.requires.late c.args.cache.now c.skip-place.new.cache from place
           c.requires.at c.skip-place.ensures.at c.skip-place.ensures.found)
@@ -153,6 +156,12 @@ loop-place-preserved c =
           (Spends-both c.args.cache.now new end ((at - c.args.from.at) + 1) (last.at - (at + 1)) 0 0
           (Spends-both c.args.cache.now c.loop-place.cache new (at - c.args.from.at) 1 0 0
           c.loop-place.invariant.spends c.in_ok-next.ensures.spends) c.skip-place-in-loop-place.ensures.spends);
+      counts = omega (
+        arith,
+        c.loop-place.invariant.counts,
+        c.in_ok-next.ensures.counts,
+        c.skip-place-in-loop-place.ensures.counts,
+      );
       gains = Gaining-skip dfa.nfa x c.args.earliest old (at + 1) last.at c.add_here-met.new.patterns (omega arith) up
           (found-same dfa x c.requires.kind c.requires.late new end after last there
           c.skip-place-in-loop-place.ensures.at c.skip-place-in-loop-place.ensures.found) more;
@@ -192,3 +201,58 @@ returns-in_err-add_last-clause-part c =
     let part = Gaining-part c.args.dfa.now.nfa (search_of c.args.input.now) c.args.earliest c.args.patterns.now
     c.loop-place.place.at c.loop-place.patterns c.loop-place.invariant.gains in
     search rules
+
+pub returns-then-is_over-clause-reads : goal.returns-then-is_over-clause-reads
+returns-then-is_over-clause-reads c =
+    let x = search_of c.args.input.now in
+    let dfa = c.args.dfa.now in
+    let place = c.loop-place.place in
+    let at = place.at in
+    let new = c.next_row.new.cache in
+    let next = c.in_ok-next.next in
+    let byte = get_or x.haystack at 0 in
+    let less : at < x.end = omega arith in
+    let low : c.args.from.at ≤ at = c.loop-place.invariant.low in
+    let is : byte_at x at ≡ Some byte = byte-here x at x.haystack refl less c.args.input.now.within in
+    let leads = c.in_ok-next.ensures.leads in
+    let stand = c.index-stand.result.now in
+    let t = stance_of stand in
+    let known : IsRowOf new next t =
+    row-is new next stand (row-inside new next leads.to leads.is) c.index-stand.ensures in
+    let adds = c.add_here-met.ensures in
+    let set = c.add_here-met.new.patterns in
+    let over : IsSetOver dfa x c.args.earliest set (at + 1) = elim c.then-is_over.branch [
+      | then-is_over-via-then-is_over w ↦
+          let both = c.is_over.ensures.over w.if-is_over.true in
+          elim both.1 [
+            | inl e ↦
+                let some = adds.some both.0 in
+                inr (inr (e, (some.0, (adds.gained some.0).1 (inr (some.1, some.2)))))
+            | inr full ↦ inr (inl full)
+          ]
+      | then-is_over-via-else-is_over+then-is_dead w ↦
+          let there = IsAt-next dfa x at byte less is c.loop-place.cache new place.row next
+          c.loop-place.invariant.at.at leads t known in
+          inl (IsOver-late dfa x (at + 1) c.requires.late (inr (inl
+          (IsAt-is_dead dfa x new (at + 1) next there.0 t known (w.is_dead.ensures w.if-is_dead.true)))))
+    ] in
+    let same : steps_of c.then-is_over.cache ≡ steps_of new = elim c.then-is_over.branch [
+      | then-is_over-via-then-is_over w ↦ ap steps_of w.cache-is
+      | then-is_over-via-else-is_over+then-is_dead w ↦ ap steps_of w.cache-is
+    ] in
+    record {
+      to = at + 1;
+      low = omega arith;
+      over = over;
+      steps = omega (arith, c.loop-place.invariant.counts, c.in_ok-next.ensures.counts, same);
+    }
+
+pub returns-clause-reads : goal.returns-clause-reads
+returns-clause-reads c =
+    let low : c.args.from.at ≤ c.loop-place.place.at = c.loop-place.invariant.low in
+    record {
+      to = c.loop-place.place.at;
+      low = low;
+      over = inl (inl (omega arith));
+      steps = omega (arith, c.loop-place.invariant.counts, c.in_ok-add_last.ensures.spends.grows);
+    }

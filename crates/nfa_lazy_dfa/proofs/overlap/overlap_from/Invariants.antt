@@ -1,8 +1,8 @@
 -- The scan is at this place, and the set has gained the patterns that are reached before.
-use Rattle.std.proofs.Common.{◌-◌, ◌≤◌}
+use Rattle.std.proofs.Common.{◌+◌, ◌≡◌, ◌-◌, ◌≤◌}
 use Rattle.regex_search_core.specs.Search.{search_of}
 use Rattle.nfa_lazy_dfa.specs.Places.{IsFoundAt}
-use Rattle.nfa_lazy_dfa.specs.Rows.{IsFor, Spends}
+use Rattle.nfa_lazy_dfa.specs.Rows.{IsFor, Spends, steps_of}
 use Rattle.nfa_lazy_dfa.proofs.GainLemmas.{Gaining}
 use Rattle.nfa_lazy_dfa.proofs.overlap.overlap_from.Given as goal
 
@@ -12,6 +12,7 @@ invariant-loop-place l = record {
   at : IsFoundAt l.dfa l.cache (search_of l.input) l.place;
   low : l.fn.from.at ≤ l.place.at;
   spends : Spends l.fn.cache l.cache (l.place.at - l.fn.from.at) 0;
+  counts : steps_of l.cache ≡ steps_of l.fn.cache + (l.place.at - l.fn.from.at);
   gains : Gaining l.dfa.nfa (search_of l.input) l.earliest l.fn.patterns l.place.at l.patterns;
 }
 

@@ -1,8 +1,6 @@
 -- The first row is that of the start, after a byte like the one before the span.
-use Rattle.std.proofs.Common.{rules, ℕ, subst, arith}
-use Rattle.std.specs.Prelude.{Option}
+use Rattle.std.proofs.Common.{rules, arith}
 use Rattle.regex_search_core.specs.Search.{search_of}
-use Rattle.nfa_lazy_dfa.specs.Assertions.{IsRead, SameLooks, sees}
 use Rattle.nfa_lazy_dfa.proofs.ScanLemmas.{IsAt-begin}
 use Rattle.nfa_lazy_dfa.proofs.StopLemmas.{IsStop-gave_up, IsUsedUp-at}
 use Rattle.nfa_lazy_dfa.proofs.scan.first_row.Goals as goal
@@ -11,12 +9,9 @@ pub returns-in-Ok-clause-at : goal.returns-in-Ok-clause-at
 returns-in-Ok-clause-at c =
     let x = search_of c.args.input.now in
     let dfa = c.args.dfa.now in
-    IsAt-begin dfa x c.start.new.self c.in-Ok.row c.args.start c.before-seen.result c.may_start_later.result
+    IsAt-begin dfa x c.start.new.self c.in-Ok.row c.args.start c.in_ok-seen.seen c.may_start_later.result
     c.requires.start c.requires.order c.in-Ok.ensures.row c.may_start_later.ensures.count
-    c.may_start_later.ensures.begins c.args.input.now.within
-    (subst (IsRead dfa.nfa) c.in_ok-byte.ensures.byte c.in_ok-byte.ensures.read)
-    (λ after read. subst (λ (o : Option ℕ). SameLooks dfa.nfa (sees c.before-seen.result after) (sees o after))
-    c.in_ok-byte.ensures.byte (c.before-seen.ensures after read))
+    c.may_start_later.ensures.begins c.args.input.now.within c.in_ok-seen.ensures.read c.in_ok-seen.ensures.like
 
 pub returns-in-Err-clause-stops : goal.returns-in-Err-clause-stops
 returns-in-Err-clause-stops c =
@@ -29,5 +24,5 @@ returns-in-Err-clause-full c =
     IsUsedUp-at c.start.new.self c.args.dfa.now c.at.result c.in-Err.gave_up c.start-at.result c.at.ensures
     c.in-Err.ensures.full
 
-pub returns-in_err-byte-clause-full : goal.returns-in_err-byte-clause-full
-returns-in_err-byte-clause-full c = let full = c.in_err-byte.ensures.full c.args.cache.now in search rules
+pub returns-in_err-seen-clause-full : goal.returns-in_err-seen-clause-full
+returns-in_err-seen-clause-full c = let full = c.in_err-seen.ensures.full c.args.cache.now in search rules

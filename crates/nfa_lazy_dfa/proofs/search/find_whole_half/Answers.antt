@@ -6,10 +6,12 @@ use Rattle.regex_search_core.specs.Search.{Search, search_of}
 use Rattle.nfa_determinize.specs.Configurations.{scan_half}
 use Rattle.nfa_determinize.specs.Searches.{FindsSplit}
 use Rattle.nfa_determinize.proofs.ScanHalfLemmas.{Skipping-begin, Skipping-end, Skipping-more, split-inside, split-of}
+use Rattle.nfa_lazy_dfa.specs.Reads.{IsOver}
 use Rattle.nfa_lazy_dfa.specs.Rows.{Scans}
 use Rattle.std.proofs.lemmas.Result.{IfErr-weaker}
 use Rattle.nfa_lazy_dfa.specs.Stops.{IsStop}
 use Rattle.nfa_lazy_dfa.proofs.StopLemmas.{IsStop-later}
+use Rattle.nfa_lazy_dfa.proofs.ReadLemmas.{HasRead-more}
 use Rattle.nfa_lazy_dfa.proofs.WorkLemmas.{Scans-more, ScansAtMost-one}
 use Rattle.nfa_lazy_dfa.specs.declared.cache.Cache.{Cache}
 use Rattle.nfa_lazy_dfa.proofs.search.find_whole_half.Goals as goal
@@ -36,6 +38,7 @@ loop-half-init c = record {
   skipping = Skipping-begin c.args.dfa.now.nfa c.args.dfa.now.kind c.args.input.earliest (search_of c.args.input);
   own = c.in_ok-half.ensures.own;
   few = omega arith;
+  reads = c.in_ok-half.ensures.reads;
   work = first-scan c.args.cache.now c.scan_half.new.cache (search_of c.args.input) (search rules);
   found = c.in_ok-half.ensures.steps;
 }
@@ -76,6 +79,9 @@ loop-half-preserved c =
       skipping = skipping;
       own = c.in_ok-half-2.ensures.own;
       few = omega arith;
+      reads = HasRead-more (IsOver c.args.dfa.now z) c.args.cache.now c.loop-half.cache
+          c.scan_half-in-loop-half.new.cache z.start z.start (omega arith)
+          (omega (arith, c.loop-half.invariant.work.grows)) c.in_ok-half-2.ensures.reads;
       work = next-scan c.args.cache.now c.loop-half.cache c.scan_half-in-loop-half.new.cache x y z
           c.loop-half.invariant.work
           (search rules) low start end;
@@ -140,3 +146,17 @@ returns-clause-work c =
     let x = search_of c.args.input in
     let y = search_of c.loop-half.input in
     record { count = y.start + 1 - x.start; few = c.loop-half.invariant.few; scans = c.loop-half.invariant.work }
+
+pub returns-clause-reads : goal.returns-clause-reads
+returns-clause-reads c =
+    let x = search_of c.args.input in
+    let y = search_of c.loop-half.input in
+    let skipping = c.loop-half.invariant.skipping in
+    let low : x.start ≤ y.start = skipping.low in
+    let start : x.start + (y.start - x.start) ≡ y.start = omega arith in
+    record {
+      last = y;
+      raises = skipping.raises ∙ ap (λ (n : ℕ). record x { start = n }) start;
+      low = low;
+      reads = c.loop-half.invariant.reads;
+    }

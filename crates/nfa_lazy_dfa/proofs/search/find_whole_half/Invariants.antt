@@ -5,6 +5,7 @@ use Rattle.regex_search_core.specs.Found.{half_found_of}
 use Rattle.regex_search_core.specs.Search.{search_of}
 use Rattle.nfa_determinize.specs.Configurations.{scan_half}
 use Rattle.nfa_determinize.proofs.ScanHalfLemmas.{Skipping}
+use Rattle.nfa_lazy_dfa.specs.Reads.{HasRead, IsOver}
 use Rattle.nfa_lazy_dfa.specs.Rows.{IsFor, Scans}
 use Rattle.nfa_lazy_dfa.proofs.search.find_whole_half.Given as goal
 
@@ -16,6 +17,7 @@ invariant-loop-half l =
       skipping : Skipping l.dfa.nfa l.dfa.kind x.earliest x y;
       own : IsFor l.cache l.dfa;
       few : y.start + 1 - x.start ≤ (x.end - x.start) + 2;
+      reads : HasRead (IsOver l.dfa y) l.fn.cache l.cache y.start;
       work : Scans l.fn.cache l.cache (y.start + 1 - x.start) (x.end - x.start);
       found : option_map half_found_of l.half ≡ scan_half l.dfa.nfa y l.dfa.kind x.earliest;
     }

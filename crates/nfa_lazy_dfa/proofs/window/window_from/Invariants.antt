@@ -1,7 +1,7 @@
 -- The scan found nothing yet.
-use Rattle.std.proofs.Common.{◌≤◌, ◌-◌}
+use Rattle.std.proofs.Common.{◌+◌, ◌≡◌, ◌≤◌, ◌-◌}
 use Rattle.regex_search_core.specs.Search.{search_of}
-use Rattle.nfa_lazy_dfa.specs.Rows.{IsFor, Spends}
+use Rattle.nfa_lazy_dfa.specs.Rows.{IsFor, Spends, steps_of}
 use Rattle.nfa_lazy_dfa.specs.Watches.{IsWatching}
 use Rattle.nfa_lazy_dfa.proofs.window.window_from.Given as goal
 
@@ -11,6 +11,7 @@ invariant-loop-w l = record {
   watching : IsWatching l.dfa l.cache (search_of l.input) l.w;
   low : l.fn.from.at ≤ l.w.at;
   spends : Spends l.fn.cache l.cache (l.w.at - l.fn.from.at) 0;
+  counts : steps_of l.cache ≡ steps_of l.fn.cache + (l.w.at - l.fn.from.at);
 }
 
 abbrev pub decreases-loop-w : goal.decreases-loop-w

@@ -28,6 +28,7 @@ loop-at-preserved c =
       spends = record {
         scans = before.scans;
         steps = omega (arith, before.steps, c.tick.ensures);
+        grows = omega (arith, before.grows, c.tick.ensures);
         rows = omega (arith, before.rows, c.tick.ensures);
         clears = before.clears;
       };

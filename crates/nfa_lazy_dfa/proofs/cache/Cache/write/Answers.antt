@@ -1,6 +1,6 @@
 -- The cell of the byte leads to the row that the byte leads to.
 use Rattle.std.proofs.Common.{◌≡◌, ◌<◌, ℕ, set, ap, sym, ◌∙◌, subst, arith}
-use Rattle.std.specs.Prelude.{slice_get}
+use Rattle.std.specs.Prelude.{is_some, slice_get}
 use Rattle.nfa_lazy_dfa.specs.Rows.{AreRows, IsFor, Leads, stances_of}
 use Rattle.nfa_lazy_dfa.specs.Stances.{Stance, stance_of}
 use Rattle.nfa_lazy_dfa.proofs.RowLemmas.{AreRows-write, some-same}
@@ -40,6 +40,8 @@ returns-clause-own c =
       is = ap (slice_get stances) c.cell_to-cell.ensures.row ∙ leads.is;
       next = leads.next;
       plain = λ low. ap (λ (s : Stance). s.hit) (sym same) ∙ c.cell_to-cell.ensures.plain low;
+      matched = λ low high.
+          ap (λ (s : Stance). is_some s.hit) (sym same) ∙ c.cell_to-cell.ensures.matched low high;
     } in
     record {
       rows = subst (λ (place : ℕ). AreRows dfa.nfa dfa.kind stances (set self.cells.items place cell) self.ends.items)

@@ -1,9 +1,10 @@
 -- The rows fit, and the search spends what its scans do.
 use Rattle.std.proofs.Common.{rules}
-use Rattle.std.proofs.lemmas.Result.{IfErr-weaker}
+use Rattle.std.proofs.lemmas.Result.{IfErr-weaker, on_ok_weaker}
 use Rattle.regex_search_core.specs.Search.{search_of}
 use Rattle.nfa_lazy_dfa.specs.Capacities.{HasNoRoom, IsUsedUpAt}
 use Rattle.nfa_lazy_dfa.specs.Rows.{IsFor}
+use Rattle.nfa_lazy_dfa.proofs.ReadLemmas.{HasReadSpan-more}
 use Rattle.nfa_lazy_dfa.proofs.StopLemmas.{HasNoRoom-scans}
 use Rattle.nfa_lazy_dfa.proofs.WorkLemmas.{IsBounded-scans}
 use Rattle.nfa_lazy_dfa.proofs.dfa.DFA.try_find_half.Goals as goal
@@ -24,3 +25,9 @@ returns-clause-full c =
     (HasNoRoom c.args.cache.now c.find_half.new.cache c.args.self.now)
     (HasNoRoom-scans c.args.cache.now c.allow.new.self c.find_half.new.cache c.args.self.now x
     c.allow.ensures.allows c.find_half.ensures.work) (search rules)
+
+pub returns-clause-reads : goal.returns-clause-reads
+returns-clause-reads c =
+    on_ok_weaker c.find_half.result
+    (HasReadSpan-more c.args.cache.now c.allow.new.self c.find_half.new.cache c.args.self.now
+    (search_of c.args.input) c.allow.ensures.allows.steps) c.find_half.ensures.reads

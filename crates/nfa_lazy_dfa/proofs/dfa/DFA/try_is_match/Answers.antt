@@ -1,10 +1,12 @@
 -- There is a match exactly if a search finds a half match, the earliest one if matches may end anywhere.
-use Rattle.std.proofs.Common.{◌≡◌, ◌≤◌, ◌+◌, ◌-◌, ◌*◌, ℕ, ap, subst, arith, refl, rules}
+use Rattle.std.proofs.Common.{◌≡◌, ◌≤◌, ◌+◌, ◌-◌, ◌*◌, ◌∙◌, ℕ, Bool, ap, subst, arith, refl, rules}
 use Rattle.std.specs.Prelude.{Option, None, Some, is_some, not, option_map}
 use Rattle.std.proofs.lemmas.Result.{IfErr-weaker}
 use Rattle.regex_search_core.specs.Found.{half_found_of}
 use Rattle.regex_search_core.specs.Search.{Search, search_of}
 use Rattle.regex_search_core.specs.declared.search.HalfMatch.{HalfMatch}
+use Rattle.nfa_paths.specs.Paths.{is_utf8_empty}
+use Rattle.nfa_lazy_dfa.specs.Reads.{HasReadSpan}
 use Rattle.nfa_lazy_dfa.specs.Rows.{IsBounded, steps_of}
 use Rattle.nfa_lazy_dfa.specs.declared.cache.Cache.{Cache}
 use Rattle.nfa_lazy_dfa.specs.declared.dfa.DFA.{DFA}
@@ -60,3 +62,12 @@ returns-in_err-half-clause-work c =
     same-bounds c.args.cache.now c.try_find_half.new.cache c.args.self.now (search_of c.args.input)
     (search_of c.earliest-input.result) (ap (λ (s : Search). s.start) c.earliest-input.ensures)
     (ap (λ (s : Search). s.end) c.earliest-input.ensures) (search rules)
+
+pub returns-clause-reads : goal.returns-clause-reads
+returns-clause-reads c =
+    let x = search_of c.args.input in
+    let dfa = c.args.self.now in
+    let same : search_of c.earliest-input.result ≡ record x { earliest = not (is_utf8_empty dfa.nfa) } =
+    c.earliest-input.ensures
+    ∙ ap (λ (b : Bool). record x { earliest = not b }) c.is_utf8_empty-earliest.ensures in
+    subst (HasReadSpan c.args.cache.now c.try_find_half.new.cache dfa) same c.in_ok-half.ensures.reads

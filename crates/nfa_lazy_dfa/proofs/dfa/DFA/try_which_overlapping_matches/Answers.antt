@@ -1,11 +1,13 @@
 -- The rows fit, and the search spends what its scan does.
-use Rattle.std.proofs.Common.{Bool, false, subst}
-use Rattle.std.proofs.lemmas.Result.{IfErr-weaker, IfOk-weaker}
+use Rattle.std.proofs.Common.{Bool, false, subst, arith}
+use Rattle.std.proofs.lemmas.Result.{IfErr-weaker, IfOk-weaker, on_ok_weaker}
 use Rattle.regex_search_core.specs.Search.{Search, search_of}
 use Rattle.regex_search_core.specs.declared.search.MatchKind.TheVariants.{All}
 use Rattle.nfa_paths.specs.Overlaps.{IsOverlapResult}
+use Rattle.nfa_lazy_dfa.specs.Reads.{HasRead, IsSetOver}
 use Rattle.nfa_lazy_dfa.specs.Rows.{IsFor}
 use Rattle.nfa_lazy_dfa.specs.Sets.{IsPartOfOverlap}
+use Rattle.nfa_lazy_dfa.proofs.ReadLemmas.{HasRead-more}
 use Rattle.nfa_lazy_dfa.proofs.FlagLemmas.{overlap-same, part-same}
 use Rattle.nfa_lazy_dfa.proofs.dfa.DFA.try_which_overlapping_matches.Goals as goal
 
@@ -40,3 +42,17 @@ returns-clause-part c =
     (part-same nfa x false e old new
     (subst (λ (y : Search). IsPartOfOverlap nfa y e old new) c.earliest-whole.ensures r)))
     c.overlap.ensures.part
+
+pub returns-clause-reads : goal.returns-clause-reads
+returns-clause-reads c =
+    let x = search_of c.args.input.now in
+    let dfa = c.args.self.now in
+    let old = c.args.cache.now in
+    let new = c.overlap.new.cache in
+    let set = c.overlap.new.patterns in
+    on_ok_weaker c.overlap.result
+    (λ reads. subst (λ (b : Bool). HasRead (IsSetOver dfa x b set) old new x.start) c.get_earliest.ensures
+    (HasRead-more (IsSetOver dfa x c.get_earliest.result set) old c.allow.new.self new x.start x.start (omega arith)
+    (omega (arith, c.allow.ensures.allows.steps))
+    (subst (λ (y : Search). HasRead (IsSetOver dfa y c.get_earliest.result set) c.allow.new.self new y.start)
+    c.earliest-whole.ensures reads))) c.overlap.ensures.reads

@@ -9,7 +9,7 @@ use Rattle.nfa_lazy_dfa.specs.Runs.{place_at}
 use Rattle.nfa_lazy_dfa.proofs.CacheLemmas.{cells-within, row-inside}
 use Rattle.nfa_lazy_dfa.proofs.ScanLemmas.{byte-here}
 use Rattle.nfa_lazy_dfa.proofs.RunLemmas.{leads-on, over-plain, whole-cell}
-use Rattle.nfa_lazy_dfa.proofs.scan.cell_at.Goals as goal
+use Rattle.nfa_lazy_dfa.proofs.known.cell_at.Goals as goal
 
 pub index-requires : goal.index-requires
 index-requires c =

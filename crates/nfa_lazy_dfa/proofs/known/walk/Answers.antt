@@ -1,7 +1,7 @@
 -- Counting changes no row.
 use Rattle.regex_search_core.specs.Search.{search_of}
 use Rattle.nfa_lazy_dfa.proofs.RunLemmas.{IsFoundAt-same}
-use Rattle.nfa_lazy_dfa.proofs.scan.walk.Goals as goal
+use Rattle.nfa_lazy_dfa.proofs.known.walk.Goals as goal
 
 pub returns-clause-at : goal.returns-clause-at
 returns-clause-at c =

@@ -1,9 +1,9 @@
 -- The scan is at this place.
-use Rattle.std.proofs.Common.{◌-◌, ◌≤◌}
+use Rattle.std.proofs.Common.{◌+◌, ◌≡◌, ◌-◌, ◌≤◌}
 use Rattle.regex_search_core.specs.Search.{search_of}
 use Rattle.nfa_lazy_dfa.specs.Places.{IsFoundAt}
-use Rattle.nfa_lazy_dfa.specs.Rows.{IsFor, Spends}
-use Rattle.nfa_lazy_dfa.proofs.scan.scan_from.Given as goal
+use Rattle.nfa_lazy_dfa.specs.Rows.{IsFor, Spends, steps_of}
+use Rattle.nfa_lazy_dfa.proofs.scan.scan_on.Given as goal
 
 abbrev pub invariant-loop-place : goal.invariant-loop-place
 invariant-loop-place l = record {
@@ -11,6 +11,7 @@ invariant-loop-place l = record {
   at : IsFoundAt l.dfa l.cache (search_of l.input) l.place;
   low : l.fn.from.at ≤ l.place.at;
   spends : Spends l.fn.cache l.cache (l.place.at - l.fn.from.at) 0;
+  counts : steps_of l.cache ≡ steps_of l.fn.cache + (l.place.at - l.fn.from.at);
 }
 
 abbrev pub decreases-loop-place : goal.decreases-loop-place

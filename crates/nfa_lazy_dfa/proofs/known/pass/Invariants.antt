@@ -3,7 +3,7 @@ use Rattle.std.proofs.Common.{◌≡◌, ◌≤◌, ◌-◌, ◌%◌}
 use Rattle.regex_search_core.specs.Search.{search_of}
 use Rattle.nfa_lazy_dfa.specs.Places.{IsFoundAt}
 use Rattle.nfa_lazy_dfa.specs.Runs.{place_at}
-use Rattle.nfa_lazy_dfa.proofs.scan.pass.Given as goal
+use Rattle.nfa_lazy_dfa.proofs.known.pass.Given as goal
 
 abbrev pub invariant-loop-at : goal.invariant-loop-at
 invariant-loop-at l = record {

@@ -1,0 +1,48 @@
+-- A cell leads to what the byte leads to; one with a match is followed only if later matches count.
+use Rattle.std.proofs.Common.{◌≡◌, ◌<◌, ◌/◌, ◌∙◌, false, sym, arith}
+use Rattle.nfa_lazy_dfa.specs.Rows.{IsRowOf}
+use Rattle.nfa_lazy_dfa.specs.Stances.{stance_of}
+use Rattle.regex_search_core.specs.Search.{search_of}
+use Rattle.nfa_lazy_dfa.proofs.CacheLemmas.{few-rows, row-inside, row-is}
+use Rattle.nfa_lazy_dfa.proofs.RunLemmas.{found-matched, place-first}
+use Rattle.nfa_lazy_dfa.proofs.known.run.Goals as goal
+
+pub loop-at-init : goal.loop-at-init
+loop-at-init c = record {
+  whole = omega arith;
+  at = place-first c.args.dfa.now c.args.cache.now (search_of c.args.input.now) c.args.from c.requires.at;
+  low = omega arith;
+}
+
+pub loop-at-preserved : goal.loop-at-preserved
+loop-at-preserved c =
+    let x = search_of c.args.input.now in
+    let cache = c.args.cache.now in
+    let next = c.pass_matches-next.result.0 in
+    let row = c.pass_matches-next.result.1 in
+    let here = c.pass_matches-next.ensures.at in
+    let late : x.earliest ≡ false = sym c.get_earliest-earliest.ensures ∙ c.if-earliest.false in
+    let t = stance_of c.index.result.now in
+    let known : IsRowOf cache (row / 256) t =
+    row-is cache (row / 256) c.index.result.now (row-inside cache (row / 256) here.at.stance here.at.is) c.index.ensures
+    in
+    record {
+      whole = c.pass_matches-next.ensures.whole;
+      at = found-matched c.args.dfa.now x cache next row here late t known c.half_at-found.result
+          c.half_at-found.ensures;
+      low = omega arith;
+    }
+
+pub index-requires : goal.index-requires
+index-requires c =
+    let here = c.pass_matches-next.ensures.at.at in
+    row-inside c.args.cache.now (c.pass_matches-next.result.1 / 256) here.stance here.is
+
+pub overflow_mul-first : goal.overflow_mul-first
+overflow_mul-first c =
+    let cache = c.args.cache.now in
+    let here = c.requires.at.at in
+    let few : c.args.from.row < 0x40_0000 =
+    few-rows cache c.args.dfa.now c.requires.own c.args.from.row (row-inside cache c.args.from.row here.stance
+    here.is) in
+    omega arith

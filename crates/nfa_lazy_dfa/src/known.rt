@@ -1,0 +1,177 @@
+//! A scan over cells that are known.
+ghost use Rattle.std.specs.Prelude.{◌≡◌, ◌+◌, ◌-◌, ◌/◌, ◌%◌, ◌<◌, ◌≤◌, IfSome, false, slice_index};
+ghost use Rattle.regex_search_core.specs.Search.{search_of};
+ghost use Rattle.nfa_lazy_dfa.specs.Places.{IsFoundAt, IsMatchedAt};
+ghost use Rattle.nfa_lazy_dfa.specs.Runs.{place_at};
+ghost use Rattle.nfa_lazy_dfa.specs.Rows as rows;
+ghost use Rattle.nfa_lazy_dfa.specs.Rows.{IsAt, IsFor, LeadsTo, Spends, steps_of};
+
+use crate::cache::{Cache, DEAD, MATCHED, ROW_CELLS, UNKNOWN};
+use crate::dfa::DFA;
+use crate::scan::{Place, half_at};
+use regex_search_core::{HalfMatch, Input};
+
+/// The cell of the byte at the position, in the row whose cells begin at `first`.
+#[inline(always)]
+pub fn cell_at(
+    dfa: &DFA,
+    cache: &Cache,
+    input: &Input<'_>,
+    at: usize,
+    first: u32,
+    found: Option<HalfMatch>,
+) -> u32
+    requires own { IsFor cache.now dfa.now }
+    requires inside { at < (search_of input.now).end }
+    requires whole { first % ROW_CELLS ≡ 0 }
+    requires at { IsFoundAt dfa.now cache.now (search_of input.now) (place_at at first found) }
+    ensures whole { result < UNKNOWN → result % ROW_CELLS ≡ 0 }
+    ensures plain { result < MATCHED
+        → IsFoundAt dfa.now cache.now (search_of input.now) (place_at (at + 1) result found) }
+    ensures leads { result < UNKNOWN → LeadsTo dfa.now cache.now cache.now (first / ROW_CELLS)
+        (slice_index (search_of input.now).haystack at) (rows.row_of result) }
+{
+    let haystack = input.haystack();
+    cache.cells[first as usize + haystack[at] as usize]
+}
+
+/// Goes on over cells that lead to rows without a match, four bytes at a time. Returns the position and where the cells
+/// of the row there begin. The next cell leads to a match, to a dead row or is unknown, or the span ends soon.
+#[inline(always)]
+pub fn pass(
+    dfa: &DFA,
+    cache: &Cache,
+    input: &Input<'_>,
+    from: usize,
+    row: u32,
+    found: Option<HalfMatch>,
+) -> (usize, u32)
+    requires own { IsFor cache.now dfa.now }
+    requires whole { row % ROW_CELLS ≡ 0 }
+    requires at { IsFoundAt dfa.now cache.now (search_of input.now) (place_at from row found) }
+    ensures whole { result.1 % ROW_CELLS ≡ 0 }
+    ensures at { IsFoundAt dfa.now cache.now (search_of input.now) (place_at result.0 result.1 found) }
+    ensures low { from ≤ result.0 }
+{
+    let end = input.end();
+    let mut at = from;
+    let mut first = row;
+    while end - at >= 4 {
+        let second = cell_at(dfa, cache, input, at, first, found);
+        if second >= MATCHED {
+            return (at, first);
+        }
+        at += 1;
+        let third = cell_at(dfa, cache, input, at, second, found);
+        if third >= MATCHED {
+            return (at, second);
+        }
+        at += 1;
+        let fourth = cell_at(dfa, cache, input, at, third, found);
+        if fourth >= MATCHED {
+            return (at, third);
+        }
+        at += 1;
+        first = cell_at(dfa, cache, input, at, fourth, found);
+        if first >= MATCHED {
+            return (at, fourth);
+        }
+        at += 1;
+    }
+    (at, first)
+}
+
+/// Where the cells of the next row begin, if the byte leads to a row with a match that is known and not dead.
+#[inline(always)]
+fn over_match(dfa: &DFA, cache: &Cache, input: &Input<'_>, at: usize, first: u32) -> Option<u32>
+    requires own { IsFor cache.now dfa.now }
+    requires inside { at < (search_of input.now).end }
+    requires whole { first % ROW_CELLS ≡ 0 }
+    requires at { IsAt dfa.now cache.now (search_of input.now) at (first / ROW_CELLS) }
+    ensures whole { IfSome result (λ next. next % ROW_CELLS ≡ 0) }
+    ensures at { let x = search_of input.now in x.earliest ≡ false
+        → IfSome result (IsMatchedAt dfa.now cache.now x (at + 1)) }
+{
+    let haystack = input.haystack();
+    let cell = cache.cells[first as usize + haystack[at] as usize];
+    if cell < MATCHED || cell >= DEAD {
+        return None;
+    }
+    Some(cell - MATCHED)
+}
+
+/// Goes on over cells that lead to rows with a match. Returns the position and where the cells of the row there begin.
+#[inline(always)]
+fn pass_matches(dfa: &DFA, cache: &Cache, input: &Input<'_>, from: usize, row: u32) -> (usize, u32)
+    requires own { IsFor cache.now dfa.now }
+    requires late { (search_of input.now).earliest ≡ false }
+    requires whole { row % ROW_CELLS ≡ 0 }
+    requires at { IsMatchedAt dfa.now cache.now (search_of input.now) from row }
+    ensures whole { result.1 % ROW_CELLS ≡ 0 }
+    ensures at { IsMatchedAt dfa.now cache.now (search_of input.now) result.0 result.1 }
+    ensures low { from ≤ result.0 }
+{
+    let end = input.end();
+    let mut at = from;
+    let mut first = row;
+    while at < end {
+        let Some(next) = over_match(dfa, cache, input, at, first) else {
+            return (at, first);
+        };
+        first = next;
+        at += 1;
+    }
+    (at, first)
+}
+
+/// Goes on over cells up to one that leads to a dead row or is unknown, or with `earliest` up to one with a match.
+#[inline(always)]
+fn run(dfa: &DFA, cache: &Cache, input: &Input<'_>, from: Place) -> Place
+    requires own { IsFor cache.now dfa.now }
+    requires at { IsFoundAt dfa.now cache.now (search_of input.now) from }
+    ensures at { IsFoundAt dfa.now cache.now (search_of input.now) result }
+    ensures low { from.at ≤ result.at }
+{
+    let earliest = input.get_earliest();
+    let end = input.end();
+    let mut at = from.at;
+    let mut first = from.row * ROW_CELLS as u32;
+    let mut found = from.found;
+    while at < end {
+        let cell = cell_at(dfa, cache, input, at, first, found);
+        if cell < MATCHED {
+            let (next, row) = pass(dfa, cache, input, at + 1, cell, found);
+            at = next;
+            first = row;
+            continue;
+        }
+        if earliest {
+            break;
+        }
+        let Some(matched) = over_match(dfa, cache, input, at, first) else {
+            break;
+        };
+        let (next, row) = pass_matches(dfa, cache, input, at + 1, matched);
+        found = half_at(cache.stands[row as usize / ROW_CELLS].hit, next - 1);
+        at = next;
+        first = row;
+    }
+    let row = first / ROW_CELLS as u32;
+    Place { at, row, found }
+}
+
+/// Goes on as [`run`], and counts the steps.
+#[inline(always)]
+pub fn walk(dfa: &DFA, cache: &mut Cache, input: &Input<'_>, from: Place) -> Place
+    requires own { IsFor cache.old dfa.now }
+    requires at { IsFoundAt dfa.now cache.old (search_of input.now) from }
+    ensures own { IsFor cache.new dfa.now }
+    ensures at { IsFoundAt dfa.now cache.new (search_of input.now) result }
+    ensures low { from.at ≤ result.at }
+    ensures spends { Spends cache.old cache.new (result.at - from.at) 0 }
+    ensures counts { steps_of cache.new ≡ steps_of cache.old + (result.at - from.at) }
+{
+    let place = run(dfa, cache, input, from);
+    cache.count_steps(dfa, from.at, place.at);
+    place
+}
