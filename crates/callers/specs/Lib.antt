@@ -3,4 +3,5 @@ pub mod Finding
 pub mod Lines
 pub mod Loops
 pub mod Redacted
+pub mod Regexes
 pub mod Written

@@ -1,6 +1,6 @@
 //! Callers of the laws on the hits of compiled NFAs: a bounded backtracker finds what the reference matcher finds for
 //! the patterns. Each one requires an NFA that a compiler returned for these patterns.
-ghost use Rattle.std.specs.Prelude.{◌≡◌, ◌==◌, ◌∷◌, [], IfOk, IsUtf8, List, false, length, map, option_map, true};
+ghost use Rattle.std.specs.Prelude.{◌≡◌, ◌∷◌, [], IfOk, IsUtf8, List, false, length, map, option_map, true};
 ghost use Rattle.regex_hir.specs.Find.{find, find_all, find_str};
 ghost use Rattle.regex_hir.specs.Meaning.{meaning};
 ghost use Rattle.regex_hir.specs.Re.{Re};
@@ -11,6 +11,7 @@ ghost use Rattle.regex_syntax.specs.WellFormed.{IsWellFormed};
 ghost use Rattle.nfa_engines.specs.WithCaptures.{row_of};
 ghost use Rattle.nfa_engines.specs.Paths.{is_utf8_empty};
 ghost use Rattle.nfa_compiler.specs.AllHits.{all_hits, row_of_hit};
+ghost use Rattle.nfa_compiler.specs.AnyStart.{FindsFromAnyStart};
 ghost use Rattle.nfa_compiler.specs.BoundaryHits.{all_boundary_hits, boundary_hit};
 ghost use Rattle.nfa_compiler.specs.Compiled.{AreMeant, IsCompiled, IsMeant, IsNfaOf, res_of};
 ghost use Rattle.nfa_compiler.specs.Laws.{hit};
@@ -51,13 +52,14 @@ pub fn find_one(
 ) -> Result<Option<Match>, SearchError>
     requires made { IsNfaOf (meaning tree.now.hir ∷ []) engine.now.nfa }
     requires anywhere { is_utf8_empty engine.now.nfa ≡ false }
-    requires free { (engine.now.nfa.anchored == engine.now.nfa.unanchored) ≡ false }
+    requires free { FindsFromAnyStart engine.now.nfa }
     requires unanchored { (search_of input).anchored ≡ No }
     requires whole { (search_of input).end ≡ length (search_of input).haystack }
     ensures { let x = search_of input.entry in IfOk result (λ found. option_map found_of found
         ≡ found_of_hit (option_map (hit_by 0) (find (meaning tree.now.hir) x.haystack x.start))) }
 {
     laws::searches_find_hits();
+    laws::no_hit_is_lost();
     laws::one_hit_is_find();
     let found = engine.try_find(cache, input)?;
     Ok(found)
@@ -73,7 +75,7 @@ pub fn find_all_of_one(
 ) -> Result<Vec<Match>, SearchError>
     requires made { IsNfaOf (meaning tree.now.hir ∷ []) engine.now.nfa }
     requires anywhere { is_utf8_empty engine.now.nfa ≡ false }
-    requires free { (engine.now.nfa.anchored == engine.now.nfa.unanchored) ≡ false }
+    requires free { FindsFromAnyStart engine.now.nfa }
     requires unanchored { (search_of input).anchored ≡ No }
     requires start { (search_of input).start ≡ 0 }
     requires whole { (search_of input).end ≡ length (search_of input).haystack }
@@ -81,6 +83,7 @@ pub fn find_all_of_one(
         ≡ map found_at (map (hit_by 0) (find_all (meaning tree.now.hir) (search_of input.entry).haystack))) }
 {
     laws::iterations_find_all_hits();
+    laws::no_hit_is_lost();
     laws::all_hits_are_find_all();
     let found = engine.try_find_all(alloc, cache, input)?;
     Ok(found)
@@ -139,7 +142,7 @@ pub fn capture_hits_in_str(
 ) -> Result<Vec<Captures>, SearchError>
     requires compiled { IsCompiled (syntax_of compiler.now) (map (λ text. text.now) patterns.now) engine.now.nfa }
     requires utf8 { engine.now.nfa.utf8 ≡ true }
-    requires free { (engine.now.nfa.anchored == engine.now.nfa.unanchored) ≡ false }
+    requires free { FindsFromAnyStart engine.now.nfa }
     requires text { IsUtf8 (search_of input).haystack }
     requires whole { (search_of input).end ≡ length (search_of input).haystack }
     ensures { IfOk result (λ rows. (res : List Re)
@@ -260,7 +263,7 @@ pub fn find_one_in_str(
     requires compiled { IsCompiled (syntax_of compiler.now) (pattern.now ∷ []) engine.now.nfa }
     requires utf8 { engine.now.nfa.utf8 ≡ true }
     requires text { IsUtf8 (search_of input).haystack }
-    requires free { (engine.now.nfa.anchored == engine.now.nfa.unanchored) ≡ false }
+    requires free { FindsFromAnyStart engine.now.nfa }
     requires start { StartsOnBoundary engine.now.nfa (search_of input) }
     requires unanchored { (search_of input).anchored ≡ No }
     requires whole { (search_of input).end ≡ length (search_of input).haystack }
@@ -269,6 +272,7 @@ pub fn find_one_in_str(
         → option_map found_of found ≡ found_of_hit (option_map (hit_by 0) (find_str re x.haystack x.start))) }
 {
     laws::searches_of_strs_find_texts();
+    laws::no_hit_is_lost();
     laws::str_hits_are_find_str();
     let found = engine.try_find(cache, input)?;
     Ok(found)

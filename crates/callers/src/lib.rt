@@ -19,6 +19,7 @@ pub mod paths;
 pub mod patterns;
 pub mod places;
 pub mod redactor;
+pub mod regexes;
 pub mod sets;
 pub mod spans;
 pub mod texts;

@@ -1,11 +1,12 @@
 //! Calls that are given the text of a pattern: their contracts say what the text means.
-ghost use Rattle.std.specs.Prelude.{◌≡◌, ◌==◌, ◌∷◌, [], IfOk, List, Option, Some, drop, false, true, map};
+ghost use Rattle.std.specs.Prelude.{◌≡◌, ◌∷◌, [], IfOk, List, Option, Some, drop, false, true, map};
 ghost use Rattle.std.specs.Prelude.{option_and_then, option_map, ℕ};
 ghost use Rattle.regex_hir.specs.Find.{find, find_all, find_all_str, find_str};
 ghost use Rattle.regex_hir.specs.Re.{Re};
 ghost use Rattle.nfa_engines.specs.Found.{found_of};
 ghost use Rattle.nfa_engines.specs.Groups.{group_named};
 ghost use Rattle.nfa_engines.specs.Paths.{is_utf8_empty};
+ghost use Rattle.nfa_compiler.specs.AnyStart.{FindsFromAnyStart};
 ghost use Rattle.nfa_compiler.specs.Compiled.{IsCompiled, IsMeant};
 ghost use Rattle.nfa_compiler.specs.NameLaws.{IsNamed, written_span};
 ghost use Rattle.nfa_compiler.specs.Patterns.{found_by};
@@ -55,7 +56,7 @@ pub fn try_find_compiled(
 ) -> Result<Option<Match>, SearchError>
     requires compiled { IsCompiled (syntax_of compiler.now) (pattern.now ∷ []) engine.now.nfa }
     requires anywhere { is_utf8_empty engine.now.nfa ≡ false }
-    requires free { (engine.now.nfa.anchored == engine.now.nfa.unanchored) ≡ false }
+    requires free { FindsFromAnyStart engine.now.nfa }
     ensures { IfOk result (λ found. (re : Re) → IsMeant (syntax_of compiler.now) pattern.now re
         → option_map found_of found ≡ option_map found_by (find re line.now 0)) }
 {

@@ -4,6 +4,7 @@
 
 ghost use Rattle.nfa_pikevm.specs.Engines.{Fits};
 
+mod anchors;
 mod examples;
 mod hostile;
 mod refused;
@@ -176,6 +177,10 @@ fn test(rt: &HostRuntime) -> Result<()> {
     report(rt, &wrong, rows, "examples")?;
     let (wrong, rows) = examples::byte_differences(rt.alloc())?;
     report(rt, &wrong, rows, "examples of bytes")?;
+    let (wrong, rows) = anchors::differences(rt.alloc())?;
+    report(rt, &wrong, rows, "anchors")?;
+    anchors::expect_lists(rt.alloc())?;
+    anchors::expect_later_spans(rt.alloc())?;
     hostile::expect_large(rt.alloc())?;
     hostile::expect_refused(rt.alloc())?;
     hostile::expect_texts(rt.alloc())?;

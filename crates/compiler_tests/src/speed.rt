@@ -1,9 +1,12 @@
-//! The program with arguments: goes over all matches in its input, over and over, with one of our engines or with the
-//! crate regex; or prints the number of states.
+//! The program with arguments: goes over all matches in its input, or their captures, over and over, with one of our
+//! engines or with the crate regex; or prints the number of states.
 ghost use Rattle.std.specs.Prelude.{◌≤◌, IfOk};
 
 use named_engine::{Engine, Failure, read_haystack};
 use nfa_compiler::{CompileError, Compiler};
+use nfa_engines::Input;
+use nfa_engines::error::SearchError;
+use nfa_meta::Regex as Meta;
 use regex::bytes::{Matcher, Regex};
 use std::alloc::{AllocError, Global};
 use std::io::{Read, Write};
@@ -66,7 +69,8 @@ fn count<R: Read>(alloc: Global, words: &[&str], text: &mut R) -> Result<u64, St
     let rounds = rounds.parse::<u64>().ok().ok_or(Stop::Usage)?;
     let bytes = read_haystack(alloc, text)?;
     match finder {
-        Finder::Regex => regex_rounds(alloc, pattern, &bytes, rounds),
+        Finder::Regex(items) => regex_rounds(alloc, pattern, &bytes, rounds, items),
+        Finder::Meta(items) => meta_rounds(alloc, pattern, &bytes, rounds, items),
         Finder::Ours(engine) => {
             let count = engine.count_matches(alloc, compiled(alloc, pattern)?, &bytes, rounds)?;
             Ok(count)
@@ -85,14 +89,72 @@ fn compiled(alloc: Global, pattern: &str) -> Result<NFA, Stop> {
 }
 
 /// The matches of the last round, with one matcher for all rounds.
-fn regex_rounds(alloc: Global, pattern: &str, text: &[u8], rounds: u64) -> Result<u64, Stop> {
+fn regex_rounds(
+    alloc: Global,
+    pattern: &str,
+    text: &[u8],
+    rounds: u64,
+    items: Items,
+) -> Result<u64, Stop> {
     let regex = Regex::new(alloc, pattern)?;
     let mut matcher = regex.matcher(alloc)?;
     let mut count = 0;
     for _ in 0..rounds {
-        count = count_matched(&mut matcher, text);
+        count = match items {
+            Items::Matches => count_matched(&mut matcher, text),
+            Items::Captures => count_captured(&mut matcher, text),
+        };
     }
     Ok(count)
+}
+
+/// The matches of the last round, with one engine of `nfa_meta` for all rounds.
+fn meta_rounds(
+    alloc: Global,
+    pattern: &str,
+    text: &[u8],
+    rounds: u64,
+    items: Items,
+) -> Result<u64, Stop> {
+    let mut meta = Meta::new_from_nfa(alloc, compiled(alloc, pattern)?)?;
+    let mut count = 0;
+    for _ in 0..rounds {
+        count = match items {
+            Items::Matches => count_found(&mut meta, text),
+            Items::Captures => count_caught(alloc, &mut meta, text)?,
+        };
+    }
+    Ok(count)
+}
+
+fn count_found(meta: &mut Meta, text: &[u8]) -> u64 {
+    let mut count = 0u64;
+    for _ in meta.find_iter(Input::new(text)) {
+        count = count.wrapping_add(1);
+    }
+    count
+}
+
+fn count_caught(alloc: Global, meta: &mut Meta, text: &[u8]) -> Result<u64, Stop> {
+    let mut count = 0u64;
+    for captures in meta.captures_iter(alloc, Input::new(text))? {
+        captures?;
+        count = count.wrapping_add(1);
+    }
+    Ok(count)
+}
+
+fn count_captured(matcher: &mut Matcher<'_>, text: &[u8]) -> u64 {
+    let mut found = matcher.captures_iter(text);
+    let mut count = 0u64;
+    // A pass finds at most one match at each offset.
+    for _ in 0..=text.len() {
+        if found.next().is_none() {
+            break;
+        }
+        count = count.wrapping_add(1);
+    }
+    count
 }
 
 fn count_matched(matcher: &mut Matcher<'_>, text: &[u8]) -> u64 {
@@ -107,16 +169,26 @@ fn count_matched(matcher: &mut Matcher<'_>, text: &[u8]) -> u64 {
 #[derive(Clone, Copy, Debug)]
 enum Finder {
     Ours(Engine),
-    Regex,
+    Meta(Items),
+    Regex(Items),
+}
+
+/// What a round goes over.
+#[derive(Clone, Copy, Debug)]
+enum Items {
+    Matches,
+    Captures,
 }
 
 impl Finder {
     fn from_word(word: &str) -> Option<Finder> {
-        if word == "regex" {
-            return Some(Finder::Regex);
+        match word {
+            "meta" => Some(Finder::Meta(Items::Matches)),
+            "regex" => Some(Finder::Regex(Items::Matches)),
+            "meta-captures" => Some(Finder::Meta(Items::Captures)),
+            "regex-captures" => Some(Finder::Regex(Items::Captures)),
+            _ => Engine::from_word(word).map(Finder::Ours),
         }
-        let engine = Engine::from_word(word)?;
-        Some(Finder::Ours(engine))
     }
 }
 
@@ -145,7 +217,7 @@ impl fmt::Display for Stop {
         match self {
             Stop::Usage => {
                 f.write_str(
-                    "usage: compiler-tests [back|pike|regex PATTERN ROUNDS | states PATTERN]",
+                    "usage: compiler-tests [back|pike|meta[-captures]|regex[-captures] PATTERN ROUNDS | states PATTERN]",
                 )
             }
             Stop::Pattern(error) => write!(f, "{error}"),
@@ -170,6 +242,12 @@ impl From<regex::Error> for Stop {
             regex::Error::OutOfMemory => Stop::Failed(Failure::Memory),
             error => Stop::OtherPattern(error),
         }
+    }
+}
+
+impl From<SearchError> for Stop {
+    fn from(error: SearchError) -> Stop {
+        Stop::Failed(Failure::from(error))
     }
 }
 

@@ -1,4 +1,3 @@
 pub mod Shapes
 pub mod Fields
 pub mod Tiles
-pub mod Replaced

@@ -5,7 +5,7 @@ ghost use Rattle.nfa_engines.specs.Lists.{AreDisjoint};
 ghost use Rattle.nfa_engines.specs.Search.{whole};
 ghost use Rattle.nfa_compiler.specs.Patterns.{found_by};
 ghost use Rattle.written_patterns.specs.Patterns.{all_matches};
-ghost use Rattle.cookbook.specs.Replaced.{replaced};
+ghost use Rattle.nfa_meta.specs.Replaced.{replaced};
 
 use crate::matcher::Matcher;
 use anyhow::Result;

@@ -13,6 +13,8 @@ use Rattle.nfa_search_base.specs.IterStates.{fresh, span_of, IsInfalliblyInside}
 use Rattle.nfa_search_base.specs.declared.iter.steps.Steps.{Steps}
 use Rattle.nfa_search_base.proofs.EngineLemmas.{KeptBy, SearchesAs, SearchesOf, answers_as, calls-kept, find-lies}
 use Rattle.nfa_search_base.proofs.EngineLemmas.{searches-serve}
+use Rattle.nfa_search_base.proofs.ItemLemmas.{ItemsOf, items_as}
+use Rattle.nfa_search_base.proofs.LeavingLemmas.{shell-leaves, shell-to_end}
 use Rattle.nfa_search_base.proofs.MatchRunLemmas.{MatchesGiven, matches-given}
 use Rattle.nfa_search_base.proofs.RunLemmas.{AnswersOf, Begins}
 use Rattle.nfa_search_base.proofs.ShellLemmas.{ShellOf, steps_in}
@@ -20,7 +22,7 @@ use Rattle.nfa_pikevm.specs.Engines.{Pike, kind_of}
 use Rattle.nfa_pikevm.specs.Finding.{PikeAnswersMatch}
 use Rattle.nfa_choice.specs.ChoiceState.{ChoiceState, KeepsEngines, kind_in, pike_of}
 use Rattle.nfa_choice.proofs.FindLemmas.{keeps-self, keeps-then, pike-kept}
-use Rattle.nfa_meta.specs.Matches.{AsksByWindow, FindsGiveKept, finds_next, finds_steps}
+use Rattle.nfa_meta.specs.Matches.{AsksByWindow, FindsBySearches, FindsByWindow, FindsGiveKept, finds_next, finds_steps}
 use Rattle.nfa_meta.specs.declared.regex.find_iter.ByWindow.{ByWindow}
 use Rattle.nfa_meta.specs.declared.regex.find_iter.FindMatches.{FindMatches}
 
@@ -32,13 +34,16 @@ regex_finds = record {
   asks = AsksByWindow;
   May = may_ask;
   Tells = PikeAnswersMatch;
-  Work = λ vm x a. KeepsEngines;
+  Work = λ vm x a. FindsByWindow x;
   tells = λ s t a s' asked. asked.tells;
   works = λ s t a s' asked. asked.work;
-  stays = λ s t a s' asked. pike-kept s.cache s'.cache asked.work;
+  stays = λ s t a s' asked. pike-kept s.cache s'.cache asked.work.keeps;
   like = λ s x t same may. tt;
   goes = λ s t a s' may asked. tt;
 }
+
+abbrev regex_items : ItemsOf (WithCache ByWindow ChoiceState) Found Match
+regex_items = items_as span_of found_of
 
 -- what it answers on searches like x
 abbrev regex_answers : (e : ChoiceState) (x : Search)
@@ -61,17 +66,29 @@ regex_kept = record {
   Keeps = KeepsEngines;
   self = keeps-self;
   then = keeps-then;
-  asked = λ s x a t asked. asked.work;
+  asked = λ s x a t asked. asked.work.keeps;
 }
 
 -- all calls keep the engine
 pub gives-regex : (s : FindMatches) → FindsGiveKept s
 gives-regex = calls-kept regex_kept regex_shell
 
--- An iterator that begins at x gives the matches of the NFA.
-pub finds-given : (x : Search) (s : FindMatches) → steps_with_iter_state (finds_steps s) ≡ fresh x
-    → s.steps.done ≡ false → MatchesGiven s.regex.now.nfa (kind_in s.regex.now) x finds_next s
-finds-given x s iter_state going =
-    let begins : Begins (SearchesAs regex_finds (pike_of s.regex.now)) x (steps_with_state (finds_steps s)) =
-    record { iter_state = iter_state; going = going; good = refl } in
-    matches-given s.regex.now.nfa (kind_in s.regex.now) (regex_answers s.regex.now x) (steps_in regex_shell) s begins
+-- An iterator that begins at x.
+module _ (x : Search) (s : FindMatches) (iter_state : steps_with_iter_state (finds_steps s) ≡ fresh x)
+    (going : s.steps.done ≡ false) where
+  begins : Begins (SearchesAs regex_finds (pike_of s.regex.now)) x (steps_with_state (finds_steps s))
+  begins = record { iter_state = iter_state; going = going; good = refl }
+
+  -- the calls give the matches of the NFA
+  pub finds-given : MatchesGiven s.regex.now.nfa (kind_in s.regex.now) x finds_next s
+  finds-given = matches-given s.regex.now.nfa (kind_in s.regex.now) (regex_answers s.regex.now x)
+      (steps_in regex_shell) s begins
+
+  -- they change the engine only by their searches
+  pub finds-searches : FindsBySearches x s
+  finds-searches = record {
+    on = shell-leaves regex_finds regex_items (steps_in regex_shell) (pike_of s.regex.now) s begins;
+    to_end = λ xs t u ran st.
+        let to_end = shell-to_end regex_finds regex_items (steps_in regex_shell) (pike_of s.regex.now) s begins in
+        to_end xs xs t u refl ran st;
+  }

@@ -1,5 +1,5 @@
 -- The path that answers a search answers the search of a window.
-use Rattle.std.proofs.Common.{◌≡◌, ℕ, ◌≤◌, Bool, true, false, List, [], ◌∷◌, refl, ap, sym, ◌∙◌, subst, arith}
+use Rattle.std.proofs.Common.{◌≡◌, ◌⊎◌, inl, inr, ℕ, ◌≤◌, Bool, true, false, List, [], ◌∷◌, refl, ap, sym, ◌∙◌, subst, arith}
 use Rattle.std.specs.Prelude.{Option, None, Some, MatchBool, is_some, replicate, option_and_then, option_map}
 use Rattle.std.specs.Option.{option_map_or}
 use Rattle.std.proofs.lemmas.List.{length-replicate}
@@ -22,6 +22,8 @@ use Rattle.nfa_engines.proofs.FirstStartLemmas.{same_edges, start-anchored, star
 use Rattle.nfa_lazy_dfa.specs.Windows.{IsWindow, half_in, start_in}
 use Rattle.nfa_lazy_dfa.specs.declared.window.Window.{Window}
 use Rattle.nfa_meta.specs.WindowLaws.{WindowHasTheAnswer, WindowHasTheMatch, within}
+use Rattle.nfa_meta.specs.WindowRuns.{AnswersAs, HasNoMatch, IsWindowOf}
+use Rattle.nfa_meta.specs.Windowed.{IsWindowed}
 
 -- the answer of one scan
 
@@ -192,7 +194,7 @@ none-path nfa kind earliest x whole h =
         absurd (half to.end (pattern_of (node_at nfa to.end.0)) to.matches (rw last at e))
 
 -- the match of a window is that of the search
-pub window-found : WindowHasTheMatch → (nfa : Automaton) (x y : Search) (w : Window) (kind : MatchKind)
+window-found : WindowHasTheMatch → (nfa : Automaton) (x y : Search) (w : Window) (kind : MatchKind)
     (earliest : Bool)
     → kind ≡ LeftmostFirst → earliest ≡ false → IsUnbound nfa x → IsWindow nfa x w
     → IsHalfAnswer nfa kind earliest x (Some (half_in w)) → y ≡ within x (start_in w) (half_in w).offset
@@ -211,7 +213,7 @@ window-found law nfa x y w kind earliest first last free window half is found an
     (subst (λ (z : Search). IsFindAnswer nfa kind earliest z found) is answers))))
 
 -- its pattern and slots are those of the search
-pub window-slots : WindowHasTheAnswer → (nfa : Automaton) (x y : Search) (w : Window) (kind : MatchKind)
+window-slots : WindowHasTheAnswer → (nfa : Automaton) (x y : Search) (w : Window) (kind : MatchKind)
     (earliest : Bool) → kind ≡ LeftmostFirst → earliest ≡ false → IsUnbound nfa x → IsWindow nfa x w
     → IsHalfAnswer nfa kind earliest x (Some (half_in w)) → y ≡ within x (start_in w) (half_in w).offset
     → (pattern : Option ℕ) (slots : List (Option ℕ)) → IsAnswer nfa kind earliest y pattern slots
@@ -232,7 +234,7 @@ window-slots law nfa x y w kind earliest first last free window half is pattern 
     (subst (λ (z : Search). IsAnswer nfa kind earliest z pattern slots) is answers))))
 
 -- without a half match there is no pattern, and no slot is set
-pub none-answer : (nfa : Automaton) (kind : MatchKind) (earliest : Bool) (x : Search) → is_utf8_empty nfa ≡ false
+none-answer : (nfa : Automaton) (kind : MatchKind) (earliest : Bool) (x : Search) → is_utf8_empty nfa ≡ false
     → IsHalfAnswer nfa kind earliest x None → (n : ℕ) → IsAnswer nfa kind earliest x None (replicate n None)
 unfolding slot_row
 none-answer nfa kind earliest x whole h n =
@@ -244,3 +246,51 @@ none-answer nfa kind earliest x whole h n =
       pattern_is = refl;
       slots_are = ap (λ (k : ℕ). replicate k None) (sym (length-replicate n None));
     }
+
+-- nor is there a match
+pub none-match : (nfa : Automaton) (kind : MatchKind) (x : Search) → is_utf8_empty nfa ≡ false
+    → IsHalfAnswer nfa kind x.earliest x None → HasNoMatch nfa kind x
+none-match nfa kind x whole h = record {
+  rows = none-answer nfa kind x.earliest x whole h;
+  matches = record {
+    restarts = h.restarts;
+    path = None;
+    answers = none-path nfa kind x.earliest x whole h;
+    found_is = refl;
+  };
+}
+
+-- a search has its own answers
+pub answers-self : (nfa : Automaton) (kind : MatchKind) (x y : Search) → y ≡ x → AnswersAs nfa kind x y
+answers-self nfa kind x y is =
+    subst (λ (z : Search). AnswersAs nfa kind x z) (sym is)
+    (record { rows = λ pattern slots h. h; matches = λ found h. h })
+
+-- The window of a lazy DFA.
+module _ (nfa : Automaton) (x y : Search) (w : Window) (windowed : IsWindowed nfa x) (window : IsWindow nfa x w)
+    (is : y ≡ within x (start_in w) (half_in w).offset) where
+  -- is a window of the search
+  pub window-is : IsWindowOf nfa x y
+  window-is =
+      subst (λ (z : Search). IsWindowOf nfa x z) (sym is)
+      (record {
+        windowed = windowed;
+        haystack = refl;
+        anchored = refl;
+        earliest = refl;
+        from = window.low;
+        to = window.high;
+      })
+
+  -- and has its answers
+  pub window-answers : WindowHasTheAnswer → WindowHasTheMatch → (kind : MatchKind) → kind ≡ LeftmostFirst
+      → IsHalfAnswer nfa kind x.earliest x (Some (half_in w)) → AnswersAs nfa kind x y
+  window-answers rows matches kind first half = record {
+    rows = window-slots rows nfa x y w kind x.earliest first windowed.last windowed.unbound window half is;
+    matches = window-found matches nfa x y w kind x.earliest first windowed.last windowed.unbound window half is;
+  }
+
+-- what is left of a search has its `earliest`
+pub part-earliest : (nfa : Automaton) (x y : Search) → (y ≡ x) ⊎ IsWindowOf nfa x y → y.earliest ≡ x.earliest
+part-earliest nfa x y (inl same) = ap (λ (z : Search). z.earliest) same
+part-earliest nfa x y (inr window) = window.earliest

@@ -1,17 +1,21 @@
 -- The iterator over the matches of a regex.
-use Rattle.std.specs.Prelude.{Ok, Option, option_map, Bool}
+use Rattle.std.specs.Prelude.{◌*◌, length, List, map, None, Ok, Option, option_map, Bool}
 use Rattle.std.specs.Borrow.{MutBor}
+use Rattle.std.specs.Iterator.{Yields}
 use Rattle.regex_search_core.specs.Found.{Found, found_of}
 use Rattle.regex_search_core.specs.Search.{Search}
 use Rattle.regex_search_core.specs.declared.search.Match.{Match}
-use Rattle.nfa_search_base.specs.Leaving.{DoesSearch}
+use Rattle.nfa_backtrack.specs.Backtrack.{HoldsNoMore}
+use Rattle.nfa_search_base.specs.Leaving.{DoesSearch, Leaves, LeavesAtEnd}
 use Rattle.nfa_search_base.specs.WithCache.{WithCache}
 use Rattle.nfa_search_base.specs.StepsWith.{GivesStepsWith, StepsWith, TakesStepWith}
 use Rattle.nfa_search_base.specs.Lists.{AnswersMatch}
+use Rattle.nfa_search_base.specs.Runs.{GivesKept}
 use Rattle.nfa_search_base.specs.Steps.{GivesItem}
 use Rattle.nfa_search_base.specs.Searchers.{iter_state_of}
 use Rattle.nfa_search_base.specs.IterStates.{Answer, IterState, span_of}
 use Rattle.nfa_choice.specs.ChoiceState.{ChoiceState, kind_in, KeepsEngines}
+use Rattle.nfa_meta.specs.WindowRuns.{RunsByWindow}
 use Rattle.nfa_meta.specs.declared.regex.find_iter.ByWindow.{ByWindow}
 use Rattle.nfa_meta.specs.declared.regex.find_iter.FindMatches.{FindMatches}
 
@@ -30,14 +34,28 @@ finds_iter_state s = iter_state_of s.steps.searcher
 abbrev pub finds_done : FindMatches → Bool
 finds_done s = s.steps.done
 
+-- one search for a match, in a window or in the whole span
+pub record FindsByWindow (x : Search) (old new : ChoiceState) : Type 0 where
+  pub runs : RunsByWindow x old new
+  pub holds : HoldsNoMore (2 * length old.nfa.groups) old.back new.back
+  pub keeps : KeepsEngines old new
+
 -- the answer of one search for a match: the match of the kind and its `earliest`, and never an error
 abbrev pub RegexTells : ChoiceState → Search → Answer Found → Type 0
 RegexTells e x a = AnswersMatch e.nfa (kind_in e) x.earliest x a
 
--- one search for a match may answer this, and keeps the engine
+-- an iteration over the matches of x led from one regex to the other only by its searches, as far as it went
+abbrev pub RegexFindsOn : Search → ChoiceState → ChoiceState → Type 0
+RegexFindsOn x old new = Leaves span_of (DoesSearch (RegexTells old) (λ y a. FindsByWindow y)) x old new
+
+-- the same, and the iteration went to its end, past these matches
+abbrev pub RegexFindsToEnd : Search → List Found → ChoiceState → ChoiceState → Type 0
+RegexFindsToEnd x ms old new = LeavesAtEnd span_of (DoesSearch (RegexTells old) (λ y a. FindsByWindow y)) x ms old new
+
+-- one search for a match may answer this
 abbrev pub AsksByWindow : WithCache ByWindow ChoiceState → Search → Answer Found → WithCache ByWindow ChoiceState
     → Type 0
-AsksByWindow s x a t = DoesSearch (RegexTells s.cache) (λ y b. KeepsEngines) s.cache x a t.cache
+AsksByWindow s x a t = DoesSearch (RegexTells s.cache) (λ y b. FindsByWindow y) s.cache x a t.cache
 
 -- a call
 pub record FindsNext (s : FindMatches) (r : Option Match) (t : FindMatches) : Type 0 where
@@ -50,3 +68,10 @@ finds_next s r t = FindsNext s r t
 -- the calls keep the engine, and what its answers depend on
 abbrev pub FindsGiveKept : FindMatches → Type 0
 FindsGiveKept s = GivesStepsWith finds_next finds_steps KeepsEngines s
+
+-- The calls change the engine only by the searches of an iteration over x. At `None` the iteration went to its end,
+-- past the matches so far.
+pub record FindsBySearches (x : Search) (s : FindMatches) : Type 0 where
+  pub on : GivesKept finds_next (λ p q. RegexFindsOn x p.regex.now q.regex.now) s
+  pub to_end : (xs : List Match) (t u : FindMatches) → Yields finds_next s xs t → finds_next t None u
+      → RegexFindsToEnd x (map found_of xs) s.regex.now u.regex.now

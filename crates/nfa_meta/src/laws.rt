@@ -1,5 +1,8 @@
-//! Laws of windows. Each function is empty: its contract is the theorem.
+//! Laws of windows, and of the work of an iteration. Each function is empty: its contract is the theorem.
+ghost use Rattle.nfa_engines.specs.WorkLaws.{list_scan_limit};
 ghost use Rattle.nfa_meta.specs.WindowLaws.{WindowHasTheAnswer, WindowHasTheMatch, WindowsAreFirstStarts};
+ghost use Rattle.nfa_meta.specs.WorkLaws.{RegexCatchesWithin, RegexFindsWithin, RegexMatchesAreWithin};
+ghost use Rattle.nfa_meta.specs.WorkLaws.{RegexRowsAreWithin};
 
 use nfa_engines::laws::answer_is_that_of_the_cut_span;
 
@@ -19,3 +22,24 @@ pub fn windows_answer()
 {
     answer_is_that_of_the_cut_span();
 }
+
+/// A whole list takes little more than one search. Over the calls that find all k matches in a span of n bytes, or
+/// their captures, the totals of each cache of the `Choice` rise by at most n + k + 2 scans. If no search may restart,
+/// they rise by at most 2k + 1 scans. The turns rise by at most (1 + D)(n + 1) for each of these scans. If the lazy DFA
+/// answers, they do not rise, and a scan of a window takes turns for its bytes only.
+///
+/// The premises are what `find_all` and `captures_all` ensure if they are `Ok` (`to_end`), and what `find_iter` ensures
+/// if it goes on to `None` (`searches`).
+pub fn lists_are_bounded()
+    ensures matches { RegexMatchesAreWithin list_scan_limit }
+    ensures rows { RegexRowsAreWithin list_scan_limit }
+{}
+
+/// Wherever an iteration over a span of n bytes stops, the totals of each cache of the `Choice` rise by at most 2n + 3
+/// scans. The turns rise by at most (1 + D)(n + 1) for each of these scans.
+///
+/// The premises are what the lists and the iterators over matches and captures ensure (`searches`).
+pub fn iterations_are_bounded()
+    ensures matches { RegexFindsWithin 3 }
+    ensures rows { RegexCatchesWithin 3 }
+{}

@@ -2,14 +2,21 @@
 //! `nfa_choice` finds the match in the window. Searches never fail.
 //!
 //! ```
-//! let mut regex = Regex::new(alloc, nfa)?;
+//! let mut regex = Regex::new(alloc, "[0-9]+")?;
 //! if let Some(found) = regex.find(Input::new(text)) {
 //!     println!(rt; "{}..{}", found.start(), found.end())?;
 //! }
 //! ```
 #![tactic(auto)]
 
+mod builder;
+mod error;
+pub mod interpolate;
 pub mod laws;
 pub mod regex;
 
-pub use regex::{FindMatches, Regex};
+pub use builder::{Builder, Config};
+pub use error::BuildError;
+pub use nfa_choice::Engine;
+pub use nfa_compiler::{CompileError, Syntax};
+pub use regex::{CapturesMatches, FindMatches, HalfMatches, Regex};

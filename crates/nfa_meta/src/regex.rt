@@ -1,42 +1,57 @@
 //! The engine that runs a lazy DFA first, and an engine of `nfa_choice` for the match in its window.
-ghost use Rattle.std.specs.Prelude.{◌≡◌, ◌<◌, All, IfNone, IfOk, IfSome, IsOkUnless, None, false, length, option_map};
-ghost use Rattle.std.specs.Prelude.{replicate, true};
+ghost use Rattle.std.specs.Prelude.{◌≡◌, ◌*◌, ◌<◌, ◌≤◌, All, IfNone, IfOk, IfSome, IsOkUnless, None, false, length};
+ghost use Rattle.std.specs.Prelude.{not, option_map, replicate};
 ghost use Rattle.regex_search_core.specs.Found.{found_of, half_found_of};
 ghost use Rattle.regex_search_core.specs.Patterns.{number_of};
 ghost use Rattle.regex_search_core.specs.Search.{search_of};
 ghost use Rattle.regex_search_core.specs.declared.search.MatchKind.TheVariants.{LeftmostFirst};
-ghost use Rattle.nfa_paths.specs.Paths.{IsAnswer, IsBoolAnswer, IsFindAnswer, IsHalfAnswer};
+ghost use Rattle.nfa_paths.specs.Paths.{IsAnswer, IsBoolAnswer, IsFindAnswer, IsHalfAnswer, is_utf8_empty};
 ghost use Rattle.nfa_search_base.specs.Lists.{IsInside, IsSlotInside};
-ghost use Rattle.nfa_backtrack.specs.Backtrack.{empty_cache};
-ghost use Rattle.nfa_pikevm.specs.Engines.{cache_for};
-ghost use Rattle.nfa_choice.specs.ChoiceState.{KeepsEngines, kind_in};
-ghost use Rattle.nfa_lazy_dfa.specs.Configs.{kind_of, nfa_of};
-ghost use Rattle.nfa_meta.specs.Windowed.{IsWindowed};
+ghost use Rattle.nfa_backtrack.specs.Backtrack.{HoldsNoMore};
+ghost use Rattle.nfa_choice.specs.ChoiceState.{KeepsEngines, finds_in, kind_in};
+ghost use Rattle.nfa_lazy_dfa.specs.Configs.{kind_in as config_kind, kind_of, nfa_of};
+ghost use Rattle.nfa_meta.specs.Built.{engines_of};
+ghost use Rattle.nfa_meta.specs.WindowRuns.{RunsAfterDfa, RunsByWindow};
 
+mod captures;
+mod captures_iter;
+mod fill;
 mod find_iter;
+mod half_matches;
+mod may_begin;
+mod overlap;
+mod replace;
+mod split;
+mod window;
 
-use crate::laws;
+use crate::builder::Config;
+pub use captures_iter::CapturesMatches;
 pub use find_iter::FindMatches;
-use nfa_choice::choose::Choice;
+pub use half_matches::HalfMatches;
+use nfa_choice::choose::{Choice, Engine};
 use nfa_engines::error::SearchError;
 use nfa_engines::{backtrack, pikevm};
 use nfa_lazy_dfa::{Cache, DFA};
-use regex_search_core::{HalfMatch, Input, Match, NonMaxUsize, PatternID};
+use nfa_match_spans::records_match_spans;
+use regex_search_core::{GroupInfo, HalfMatch, Input, Match, NonMaxUsize, PatternID};
 use std::alloc::Global;
 use std::marker::Model;
 use thompson_nfa::NFA;
+use window::NoWindow;
 
 /// A search engine for one NFA over a lazy DFA and the two engines of a [`Choice`]. It searches leftmost first, and
 /// never fails.
 ///
-/// The DFA searches first. It gives the ends of matches, and for [`Regex::find`] a window in which the [`Choice`] finds
-/// the match. If the DFA stops without an answer, the [`Choice`] searches the whole input. Contracts see what they see
-/// of the [`Choice`].
+/// The DFA searches first. It gives the ends of matches, and for spans and groups a window in which the [`Choice`]
+/// finds the match. If the DFA stops without an answer, the [`Choice`] searches the whole input. Contracts see what
+/// they see of the [`Choice`], which does not change if the DFA answers.
 #[derive(Drop)]
 pub struct Regex {
     dfa: DFA,
     cache: Cache,
     choice: Choice,
+    /// Each way to a match writes where the match starts and ends.
+    records_spans: bool,
 }
 
 impl Model for Regex {
@@ -45,81 +60,143 @@ impl Model for Regex {
     ghost use Rattle.nfa_lazy_dfa.specs.Configs.{kind_of, nfa_of};
     ghost use Rattle.nfa_lazy_dfa.specs.Rows.{IsFor};
     ghost use Rattle.nfa_choice.specs.ChoiceState.{ChoiceState, kind_in};
+    ghost use Rattle.nfa_match_spans.specs.StatePaths.{RecordsMatchSpans};
+    ghost use Rattle.std.specs.Prelude.{true};
+    ghost use Rattle.thompson_nfa.specs.Automaton.{IsAutomaton};
 
     ghost Value = { ChoiceState };
 
     ghost view = { λ r. r.choice };
 
     ghost invariant = { λ r. (nfa_of r.dfa ≡ r.choice.nfa) × (kind_of r.dfa ≡ LeftmostFirst)
-        × (kind_in r.choice ≡ LeftmostFirst) × IsFor r.cache r.dfa };
+        × (kind_in r.choice ≡ LeftmostFirst) × IsFor r.cache r.dfa
+        × IsAutomaton r.choice.nfa × (r.records_spans ≡ true → RecordsMatchSpans r.choice.nfa) };
 }
 
 /// Makes a lazy DFA of the NFA.
-fn lazy_dfa(nfa: NFA) -> DFA
+fn lazy_dfa(config: nfa_lazy_dfa::Config, nfa: NFA) -> DFA
     ensures nfa { nfa_of result ≡ nfa }
-    ensures kind { kind_of result ≡ LeftmostFirst }
+    ensures kind { kind_of result ≡ config_kind config }
 {
-    match DFA::new(nfa) {
+    let mut builder = DFA::builder();
+    builder.configure(config);
+    match builder.build_from_nfa(nfa) {
         Ok(dfa) => dfa,
         Err(_) => unreachable!(),
     }
 }
 
 impl Regex {
-    /// Makes the engines for the NFA, with default configurations and empty caches. The only error is `Memory`.
+    /// Makes the engines for the NFA, with the default settings of [`Config`] and empty caches. The only error is
+    /// `Memory`.
     ///
     /// ```
     /// let nfa = Compiler::new().build(alloc, "foo[0-9]+")?;
-    /// let mut regex = Regex::new(alloc, nfa)?;
+    /// let mut regex = Regex::new_from_nfa(alloc, nfa)?;
     /// let found = regex.find(Input::new(b"foo12345"));
     /// assert_eq!(rt; found.expect(rt, "a match").range(), 0..8);
     /// ```
-    pub fn new(alloc: Global, nfa: NFA) -> Result<Regex, SearchError>
-        ensures made { IfOk result (λ made. made ≡ record {
-          nfa = nfa;
-          visited_capacity = None;
-          match_kind = None;
-          back = empty_cache;
-          pike = cache_for nfa;
-          ran = None;
-        }) }
+    pub fn new_from_nfa(alloc: Global, nfa: NFA) -> Result<Regex, SearchError>
+        ensures made { IfOk result (λ made. made ≡ engines_of nfa None) }
+        ensures memory { IsOkUnless result SearchError.Memory }
+    {
+        Regex::from_parts(
+            alloc,
+            nfa,
+            Config::new().lazy_dfa(),
+            backtrack::Config::new(),
+        )
+    }
+
+    /// Makes the engines for the NFA, with these configurations and empty caches. The only error is `Memory`.
+    pub(crate) fn from_parts(
+        alloc: Global,
+        nfa: NFA,
+        hybrid: nfa_lazy_dfa::Config,
+        back: backtrack::Config,
+    ) -> Result<Regex, SearchError>
+        requires { config_kind hybrid ≡ LeftmostFirst }
+        ensures made { IfOk result (λ made. made ≡ engines_of nfa back) }
         ensures memory { IsOkUnless result SearchError.Memory }
     {
         let Ok(copy) = nfa.clone() else {
             return Err(SearchError::Memory);
         };
-        let dfa = lazy_dfa(copy);
+        let dfa = lazy_dfa(hybrid, copy);
         let Ok(cache) = dfa.create_cache(alloc) else {
             return Err(SearchError::Memory);
         };
-        let choice = Choice::new(alloc, nfa, backtrack::Config::new(), pikevm::Config::new())?;
-        Ok(Regex { dfa, cache, choice })
+        let Ok(records_spans) = records_match_spans(alloc, &nfa) else {
+            return Err(SearchError::Memory);
+        };
+        let choice = Choice::new(alloc, nfa, back, pikevm::Config::new())?;
+        Ok(Regex {
+            dfa,
+            cache,
+            choice,
+            records_spans,
+        })
     }
 
     /// Returns the NFA.
+    ///
+    /// ```
+    /// // regex of "foo(?<n>[0-9]+)"
+    /// assert_eq!(rt; regex.get_nfa().group_info().slot_len(), 4);
+    /// ```
     pub fn get_nfa(&self) -> &NFA
         ensures { result.now ≡ self.now.nfa }
     {
         self.choice.get_nfa()
     }
 
-    /// Whether a window of the lazy DFA has the match of the search.
-    fn is_windowed(&self, input: &Input<'_>) -> bool
-        ensures { result ≡ true → IsWindowed self.now.nfa (search_of input.now) }
+    /// Returns the number of patterns.
+    ///
+    /// ```
+    /// // regex of [r"\pL+", r"\d+"]
+    /// assert_eq!(rt; regex.pattern_len(), 2);
+    /// ```
+    pub fn pattern_len(&self) -> usize
+        ensures { result ≡ length self.now.nfa.patterns }
     {
-        let nfa = self.choice.get_nfa();
-        !input.get_earliest()
-            && !input.get_anchored().is_anchored()
-            && !nfa.is_always_start_anchored()
-            && !(nfa.has_empty() && nfa.is_utf8())
+        self.get_nfa().pattern_len()
+    }
+
+    /// Returns the groups of all patterns.
+    ///
+    /// ```
+    /// // regex of "foo(?<n>[0-9]+)"
+    /// assert_eq!(rt; regex.group_info().slot_len(), 4);
+    /// ```
+    pub fn group_info(&self) -> &GroupInfo
+        ensures { result.now ≡ self.now.nfa.groups }
+    {
+        self.get_nfa().group_info()
+    }
+
+    /// Returns the engine of the [`Choice`] that gave the answer of its last search, including searches of an
+    /// iteration. Returns `None` if the lazy DFA has given all answers so far.
+    ///
+    /// ```
+    /// // regex of "fo+"
+    /// assert!(rt; regex.is_match(Input::new(b"a foo")));
+    /// assert_eq!(rt; regex.ran(), None);
+    /// regex.find(Input::new(b"a foo"));
+    /// assert_eq!(rt; regex.ran(), Some(Engine::Backtracker));
+    /// ```
+    pub fn ran(&self) -> Option<Engine>
+        ensures { result ≡ self.now.ran }
+    {
+        self.choice.ran()
     }
 
     /// Returns the match that a search of the input finds, in byte offsets into the haystack.
     ///
-    /// The lazy DFA finds the end of the match and a window that holds it, and the [`Choice`] searches the window. So
-    /// the work of the slower engines depends on the window, and not on the haystack. The [`Choice`] searches the whole
-    /// input if the DFA stops, if the search is anchored or `earliest`, if the NFA is anchored, or if it can match the
-    /// empty string and is in UTF-8 mode.
+    /// The lazy DFA finds the end of the match and a window that holds it, and then searches from the first starts of
+    /// the window. If the match starts at none of them, the [`Choice`] searches the window. So the work of the slower
+    /// engines depends on the window, and not on the haystack. There is no window if the search is anchored or
+    /// `earliest`, if the NFA is anchored, or if it can match the empty string and is in UTF-8 mode. The DFA alone then
+    /// answers an anchored search. The [`Choice`] searches the whole input otherwise, and if the DFA stops.
     ///
     /// ```
     /// // regex of "foo[0-9]+"
@@ -132,16 +209,20 @@ impl Regex {
             (option_map found_of result) }
         ensures pattern { IfSome result (λ m. (found_of m).pattern < length self.old.nfa.patterns) }
         ensures inside { IfSome result (λ m. IsInside (search_of input.entry) (found_of m)) }
+        ensures runs { RunsByWindow (search_of input.entry) self.old self.new }
+        ensures holds { HoldsNoMore (2 * length self.old.nfa.groups) self.old.back self.new.back }
         ensures keeps { KeepsEngines self.old self.new }
     {
-        if !self.is_windowed(&input) {
-            return self.choice.find(input);
+        if let Some(found) = self.find_anchored(input) {
+            return found;
         }
-        laws::windows_answer();
-        match self.dfa.try_find_window(&mut self.cache, input) {
+        match self.window(input) {
             Ok(None) => None,
-            Ok(Some(window)) => self.choice.find(input.range(window.start()..window.end())),
-            Err(_) => self.choice.find(input),
+            Ok(Some(window)) => match self.find_near_start(window) {
+                Some(found) => Some(found),
+                None => self.choice.find(window),
+            },
+            Err(NoWindow) => self.choice.find(input),
         }
     }
 
@@ -168,22 +249,16 @@ impl Regex {
         ensures unmatched { IfNone result (slots.new ≡ replicate (length slots.old) None) }
         ensures pattern { IfSome result (λ p. number_of p < length self.old.nfa.patterns) }
         ensures inside { All (IsSlotInside (search_of input.now)) slots.new }
+        ensures runs { RunsByWindow (search_of input.now) self.old self.new }
+        ensures holds { HoldsNoMore 0 self.old.back self.new.back }
         ensures keeps { KeepsEngines self.old self.new }
     {
-        if !self.is_windowed(input) {
-            return self.choice.search_slots(input, slots);
-        }
-        laws::windows_answer();
-        match self.dfa.try_find_window(&mut self.cache, *input) {
-            Ok(None) => {
+        match self.part_to_search(*input) {
+            Some(part) => self.choice.search_slots(&part, slots),
+            None => {
                 slots.fill(None);
                 None
             }
-            Ok(Some(window)) => {
-                let cut = input.range(window.start()..window.end());
-                self.choice.search_slots(&cut, slots)
-            }
-            Err(_) => self.choice.search_slots(input, slots),
         }
     }
 
@@ -198,12 +273,19 @@ impl Regex {
     pub fn find_half<'h>(&mut self, input: Input<'h>) -> Option<HalfMatch>
         ensures answer { IsHalfAnswer self.old.nfa (kind_in self.old) (search_of input.entry).earliest
             (search_of input.entry) (option_map half_found_of result) }
+        ensures pattern { IfSome result (λ m. (half_found_of m).pattern < length self.old.nfa.patterns) }
+        ensures inside { IfSome result (λ m. ((search_of input.entry).start ≤ (half_found_of m).offset)
+            × ((half_found_of m).offset ≤ (search_of input.entry).end)) }
+        ensures runs { RunsAfterDfa (search_of input.entry) (search_of input.entry).earliest self.old self.new }
+        ensures holds { HoldsNoMore 0 self.old.back self.new.back }
         ensures keeps { KeepsEngines self.old self.new }
     {
-        match self.dfa.try_find_half(&mut self.cache, input) {
-            Ok(half) => half,
-            Err(_) => self.choice.find_half(input),
+        if let Ok(half) = self.dfa.try_find_half(&mut self.cache, input) {
+            // An NFA that can be read is valid, so its patterns are those of its Match states.
+            self.choice.get_nfa().states();
+            return half;
         }
+        self.choice.find_half(input)
     }
 
     /// Returns whether a search of the input finds a match. The `earliest` flag of the input does not change the
@@ -216,6 +298,9 @@ impl Regex {
     /// ```
     pub fn is_match<'h>(&mut self, input: Input<'h>) -> bool
         ensures answer { IsBoolAnswer self.old.nfa (kind_in self.old) false (search_of input.entry) result }
+        ensures finds { result ≡ finds_in self.old (search_of input.entry) }
+        ensures runs { RunsAfterDfa (search_of input.entry) (not (is_utf8_empty self.old.nfa)) self.old self.new }
+        ensures holds { HoldsNoMore 0 self.old.back self.new.back }
         ensures keeps { KeepsEngines self.old self.new }
     {
         match self.dfa.try_is_match(&mut self.cache, input) {

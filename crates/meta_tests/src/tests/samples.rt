@@ -1,7 +1,7 @@
 //! A regex over each sample: each span of some haystacks, and four ways to search it.
 
 use nfa_choice::choose::Choice;
-use nfa_engines::{Input, NFA, NonMaxUsize, backtrack, pikevm};
+use nfa_engines::{Input, Match, NFA, NonMaxUsize, PatternSet, backtrack, pikevm};
 use nfa_meta::Regex;
 use std::alloc::Global;
 use std::process::Abort;
@@ -22,9 +22,9 @@ fn choice_of(rt: &impl Abort, alloc: Global, nfa: &NFA) -> Choice {
     Choice::new(alloc, nfa, backtrack::Config::new(), pikevm::Config::new()).expect(rt, "memory")
 }
 
-fn regex_of(rt: &impl Abort, alloc: Global, nfa: &NFA) -> Regex {
+pub(super) fn regex_of(rt: &impl Abort, alloc: Global, nfa: &NFA) -> Regex {
     let nfa = nfa.clone().expect(rt, "memory");
-    Regex::new(alloc, nfa).expect(rt, "memory")
+    Regex::new_from_nfa(alloc, nfa).expect(rt, "memory")
 }
 
 fn expect_on(rt: &impl Abort, input: &Input<'_>, holds: bool) {
@@ -49,6 +49,46 @@ fn expect_same_slots(rt: &impl Abort, regex: &mut Regex, choice: &mut Choice, in
     let pattern = regex.search_slots(input, &mut found);
     let other = choice.search_slots(input, &mut wanted);
     expect_on(rt, input, pattern == other && found == wanted);
+}
+
+fn expect_same_captures(
+    rt: &impl Abort,
+    alloc: Global,
+    regex: &mut Regex,
+    choice: &mut Choice,
+    input: &Input<'_>,
+) {
+    let mut found = regex.create_captures(alloc).expect(rt, "memory");
+    let mut wanted = choice.create_captures(alloc).expect(rt, "memory");
+    regex.search(input, &mut found);
+    choice.search(input, &mut wanted);
+    expect_on(rt, input, found.pattern() == wanted.pattern());
+    expect_on(rt, input, found.slots() == wanted.slots());
+}
+
+fn expect_same_set(
+    rt: &impl Abort,
+    alloc: Global,
+    regex: &mut Regex,
+    choice: &mut Choice,
+    input: &Input<'_>,
+) {
+    let count = choice.get_nfa().pattern_len();
+    let mut found = PatternSet::new(alloc, count).expect(rt, "memory");
+    let mut wanted = PatternSet::new(alloc, count).expect(rt, "memory");
+    regex.which_overlapping_matches(input, &mut found);
+    choice.which_overlapping_matches(input, &mut wanted);
+    expect_on(rt, input, found.len() == wanted.len());
+    for pattern in wanted.iter() {
+        expect_on(rt, input, found.contains(pattern));
+    }
+}
+
+fn expect_all(rt: &impl Abort, all: &[Match], wanted: &[(usize, usize)]) {
+    assert_eq!(rt; all.len(), wanted.len());
+    for (found, &(start, end)) in all.iter().zip(wanted) {
+        assert_eq!(rt; found.range(), start..end);
+    }
 }
 
 fn expect_same_list(
@@ -90,9 +130,13 @@ fn expect_haystack(
     for input in &inputs {
         expect_same(rt, regex, choice, input);
         expect_same_slots(rt, regex, choice, input);
+        expect_same_captures(rt, alloc, regex, choice, input);
+        expect_same_set(rt, alloc, regex, choice, input);
     }
     let list = list_of(rt, alloc, choice, Input::new(haystack));
     expect_same_list(rt, regex, &list, Input::new(haystack));
+    let all = regex.find_all(alloc, Input::new(haystack));
+    expect_all(rt, &all.expect(rt, "memory"), &list);
 }
 
 fn expect_haystacks(rt: &impl Abort, alloc: Global, regex: &mut Regex, choice: &mut Choice) {

@@ -1,8 +1,11 @@
-//! Where the windows of the lazy DFA begin. No contract says how near they are to the match.
+//! Where the windows of the lazy DFA begin, and that the engines search no more. No contract says how near they are to
+//! the match, nor that the DFA answers where it can.
 
+use super::samples::regex_of;
 use nfa_compiler::Compiler;
-use nfa_engines::Input;
+use nfa_engines::{Input, Span};
 use nfa_lazy_dfa::DFA;
+use nfa_meta::{Engine, Regex};
 use std::alloc::Global;
 use std::process::Abort;
 
@@ -36,4 +39,44 @@ fn windows_begin_with_the_match(rt: HostRuntime) {
     for &row in WINDOWS {
         expect_row(&rt, rt.alloc(), row);
     }
+}
+
+fn regex_by(rt: &impl Abort, alloc: Global, pattern: &str) -> Regex {
+    let nfa = Compiler::new().build(alloc, pattern).expect(rt, "an NFA");
+    regex_of(rt, alloc, &nfa)
+}
+
+#[test]
+fn the_lazy_dfa_answers_if_it_can(rt: HostRuntime) {
+    let mut regex = regex_by(&rt, rt.alloc(), "foo[0-9]+");
+    assert!(&rt; regex.is_match(Input::new(b"a foo12")));
+    let half = regex.find_half(Input::new(b"a foo12"));
+    assert_eq!(&rt; half.map(|half| half.offset()), Some(7));
+    assert_eq!(&rt; regex.find(Input::new(b"a fo12")), None);
+    assert_eq!(&rt; regex.ran(), None);
+}
+
+const FILL: usize = 1_000_000;
+
+// The haystack is too long for the backtracker, and the window is not. The lazy DFA finds the start without the choice.
+#[test]
+fn the_choice_searches_the_window(rt: HostRuntime) {
+    let alloc = rt.alloc();
+    let mut regex = regex_by(&rt, alloc, "foo([0-9]+)");
+    let mut text = vec![in alloc; b'x'; FILL].expect(&rt, "memory");
+    text.extend_from_slice(b"foo12").expect(&rt, "memory");
+    let found = regex.find(Input::new(&text));
+    assert_eq!(&rt; found.map(|found| found.start()), Some(FILL));
+    assert_eq!(&rt; regex.ran(), None);
+    let mut slots = [None; 4];
+    let pattern = regex.search_slots(&Input::new(&text), &mut slots);
+    assert!(&rt; pattern.is_some() && regex.ran() == Some(Engine::Backtracker));
+    let mut captures = regex.create_captures(alloc).expect(&rt, "memory");
+    regex.search(&Input::new(&text), &mut captures);
+    let digits = Span {
+        start: FILL + 3,
+        end: FILL + 5,
+    };
+    assert_eq!(&rt; captures.get_group(1), Some(digits));
+    assert_eq!(&rt; regex.ran(), Some(Engine::Backtracker));
 }

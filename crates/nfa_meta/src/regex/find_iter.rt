@@ -4,6 +4,7 @@ use nfa_engines::error::SearchError;
 use nfa_engines::iter::match_items::{found_item, found_span};
 use nfa_engines::iter::{FindWith, Searcher, Steps};
 use regex_search_core::{Input, Match, Span};
+use std::alloc::Global;
 
 /// An iterator over all matches of an input that do not overlap, from left to right. [`Regex::find_iter`] returns it.
 ///
@@ -19,13 +20,16 @@ pub struct FindMatches<'r, 'h> {
 struct ByWindow;
 
 impl Regex {
-    ghost use Rattle.std.specs.Prelude.{◌≡◌, false};
+    ghost use Rattle.std.specs.Prelude.{◌≡◌, false, All, IfOk, IsOk, IsOkUnless, None, [], map};
+    ghost use Rattle.regex_search_core.specs.Found.{found_of};
     ghost use Rattle.regex_search_core.specs.Search.{search_of};
+    ghost use Rattle.nfa_search_base.specs.Lists.{AreDisjoint, AreMatches, IsInside};
     ghost use Rattle.nfa_search_base.specs.IterStates.{fresh};
     ghost use Rattle.nfa_search_base.specs.MatchRuns.{MatchesRun, MatchesAre, MatchesDisjoint, MatchesFirst};
     ghost use Rattle.nfa_search_base.specs.MatchRuns.{MatchesNext};
-    ghost use Rattle.nfa_choice.specs.ChoiceState.{kind_in};
-    ghost use Rattle.nfa_meta.specs.Matches.{FindsGiveKept, finds_done, finds_iter_state, finds_next, finds_regex};
+    ghost use Rattle.nfa_choice.specs.ChoiceState.{kind_in, KeepsEngines};
+    ghost use Rattle.nfa_meta.specs.Matches.{FindsBySearches, FindsGiveKept, RegexFindsOn, RegexFindsToEnd};
+    ghost use Rattle.nfa_meta.specs.Matches.{finds_done, finds_iter_state, finds_next, finds_regex};
 
     /// Returns an iterator over all matches that do not overlap, from left to right. Does not allocate.
     ///
@@ -56,6 +60,8 @@ impl Regex {
             (search_of input.entry) finds_next result }
         ensures next { MatchesNext self.entry.now.nfa (kind_in self.entry.now)
             (search_of input.entry) finds_next result }
+        // The engines change only by the searches of the steps.
+        ensures searches { FindsBySearches (search_of input.entry) result }
         ensures keeps { FindsGiveKept result }
     {
         FindMatches {
@@ -66,6 +72,39 @@ impl Regex {
                 done: false,
             },
         }
+    }
+
+    /// Returns all matches that do not overlap, from left to right, as [`Regex::find_iter`] gives them.
+    ///
+    /// Allocates for the list only if there is a match. The only error is [`SearchError::Memory`]: the list could not
+    /// be allocated. No search fails.
+    ///
+    /// ```
+    /// // regex of "foo(?<n>[0-9]+)"
+    /// let all = regex.find_all(alloc, Input::new(b"foo1 foo12 foo123"))?;
+    /// assert_eq!(rt; all.len(), 3);
+    /// assert_eq!(rt; all[2].range(), 11..17);
+    /// ```
+    pub fn find_all(&mut self, alloc: Global, input: Input<'_>) -> Result<Vec<Match>, SearchError>
+        ensures memory { IsOkUnless result SearchError.Memory }
+        ensures granted { AreMatches self.old.nfa (kind_in self.old) (search_of input.entry).earliest
+            (search_of input.entry) [] → IsOk result }
+        ensures all { IfOk result (λ found. AreMatches self.old.nfa (kind_in self.old) (search_of input.entry).earliest
+            (search_of input.entry) (map found_of found.items)) }
+        ensures disjoint { IfOk result (λ found. AreDisjoint (search_of input.entry) None (map found_of found.items)) }
+        ensures inside { IfOk result (λ found. All (λ m. IsInside (search_of input.entry) (found_of m)) found.items) }
+        ensures keeps { KeepsEngines self.old self.new }
+        // The engines change only by the searches of an iteration. If all matches are returned, these searches go to
+        // its end.
+        ensures searches { RegexFindsOn (search_of input.entry) self.old self.new }
+        ensures to_end { IfOk result (λ found.
+            RegexFindsToEnd (search_of input.entry) (map found_of found.items) self.old self.new) }
+    {
+        let mut found = Vec::new(alloc);
+        for item in self.find_iter(input) {
+            found.push(item)?;
+        }
+        Ok(found)
     }
 }
 

@@ -12,5 +12,7 @@ returns c =
     c.requires.made c.requires.anywhere (record { leftmost = refl; latest = refl; whole = c.requires.whole })
     c.in_ok-found.ensures.answer
     ∙ ap (λ (h : Option PatternHit). found_of_hit h)
-    (c.one_hit_is_find.ensures (meaning c.args.tree.now.hir) c.args.engine.now.nfa x c.requires.free
+    (c.one_hit_is_find.ensures (meaning c.args.tree.now.hir) c.args.engine.now.nfa x
+    (c.no_hit_is_lost.ensures.patterns (meaning c.args.tree.now.hir ∷ []) c.args.engine.now.nfa x.haystack
+    c.requires.made c.requires.free)
     c.requires.unanchored c.requires.whole)

@@ -1,5 +1,5 @@
 -- The matches so far were replaced.
-use Rattle.cookbook.specs.Replaced.{HasReplaced}
+use Rattle.nfa_meta.specs.Replaced.{HasReplaced}
 use Rattle.cookbook.proofs.replace.replace_matches.Given as goal
 
 abbrev pub invariant-loop-found : goal.invariant-loop-found

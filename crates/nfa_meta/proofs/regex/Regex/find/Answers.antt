@@ -1,32 +1,31 @@
--- The match in the window is that of the search.
-use Rattle.std.proofs.Common.{rules, ◌≡◌, arith}
+-- A match that the lazy DFA finds is inside the span, and names a pattern.
+use Rattle.std.proofs.Common.{rules, ◌∙◌, Some, arith}
 use Rattle.std.proofs.lemmas.Grind.{common_steps}
-use Rattle.std.specs.Prelude.{Some, option_map}
 use Rattle.regex_search_core.specs.Found.{found_of}
 use Rattle.regex_search_core.specs.Search.{search_of}
-use Rattle.regex_search_core.specs.declared.search.MatchKind.TheVariants.{LeftmostFirst}
-use Rattle.nfa_paths.specs.Paths.{IsFindAnswer, IsHalfAnswer}
+use Rattle.nfa_paths.specs.Paths.{IsFindAnswer}
+use Rattle.nfa_search_base.proofs.CallerLemmas.{inside-of}
 use Rattle.nfa_choice.specs.ChoiceState.{kind_in}
-use Rattle.nfa_lazy_dfa.specs.Windows.{IsWindow, half_in, start_in}
-use Rattle.nfa_meta.specs.WindowLaws.{within}
-use Rattle.nfa_meta.specs.Windowed.{IsWindowed}
-use Rattle.nfa_meta.proofs.WindowLemmas.{window-found}
 use Rattle.nfa_meta.proofs.regex.Regex.find.Goals as goal
 
-pub returns-in-Ok-Some-clause-answer : goal.returns-in-Ok-Some-clause-answer
-returns-in-Ok-Some-clause-answer c =
-    let x = search_of c.args.input in
-    let y = search_of c.range.result in
+pub returns-in-Some-clause-pattern : goal.returns-in-Some-clause-pattern
+returns-in-Some-clause-pattern c = rw c.in-Some.is at c.find_anchored.ensures.pattern
+
+pub returns-in-Some-clause-inside : goal.returns-in-Some-clause-inside
+returns-in-Some-clause-inside c =
     let r = c.args.self.now in
-    let w = c.in-Ok-Some.window in
-    let first : kind_in r ≡ LeftmostFirst = first_of (search rules, grind (arith, common_steps)) in
-    let windowed : IsWindowed r.nfa x = first_of (search rules, grind (arith, common_steps)) in
-    let window : IsWindow r.nfa x w = first_of (search rules, grind (arith, common_steps)) in
-    let half : IsHalfAnswer r.nfa (kind_in r) x.earliest x (Some (half_in w)) =
+    let x = search_of c.args.input in
+    inside-of r.nfa (kind_in r) x.earliest x c.in-Some.found (rw c.in-Some.is at c.find_anchored.ensures.answer)
+
+pub returns-in-Some-find_near_start-clause-pattern : goal.returns-in-Some-find_near_start-clause-pattern
+returns-in-Some-find_near_start-clause-pattern c =
+    let same = c.window.ensures.same ∙ c.find_anchored.ensures.same in
+    rw same at (rw c.in-Some-find_near_start.is at c.find_near_start.ensures.pattern)
+
+pub returns-in-Some-find_near_start-clause-inside : goal.returns-in-Some-find_near_start-clause-inside
+returns-in-Some-find_near_start-clause-inside c =
+    let r = c.args.self.now in
+    let x = search_of c.args.input in
+    let answer : IsFindAnswer r.nfa (kind_in r) x.earliest x (Some (found_of c.in-Some-find_near_start.found)) =
     first_of (search rules, grind (arith, common_steps)) in
-    let is : y ≡ within x (start_in w) (half_in w).offset = first_of (search rules, grind (arith, common_steps)) in
-    let found : IsFindAnswer r.nfa (kind_in r) x.earliest y (option_map found_of c.find-in-Ok-Some.result) =
-    first_of (search rules, grind (arith, common_steps)) in
-    window-found c.windows_answer.ensures.matches r.nfa x y w (kind_in r) x.earliest first windowed.last
-    windowed.unbound
-    window half is (option_map found_of c.find-in-Ok-Some.result) found
+    inside-of r.nfa (kind_in r) x.earliest x (Some c.in-Some-find_near_start.found) answer

@@ -10,5 +10,5 @@ returns c =
     let x = search_of c.args.input.now in
     record {
       tells = find-answered c.args.regex.now.nfa (kind_in c.args.regex.now) x.earliest x c.find.result e.answer;
-      work = e.keeps;
+      work = record { runs = e.runs; holds = e.holds; keeps = e.keeps };
     }

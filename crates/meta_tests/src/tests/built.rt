@@ -1,0 +1,95 @@
+//! Regexes of texts: what their settings change, and why they are not made.
+
+use nfa_engines::Input;
+use nfa_meta::{Builder, Config, Regex, Syntax};
+use std::alloc::Global;
+use std::process::Abort;
+
+/// The settings, a pattern, a haystack, and where it matches.
+type Row = (Config, &'static str, &'static str, Option<(usize, usize)>);
+
+fn expect_found(rt: &impl Abort, alloc: Global, row: Row) {
+    let (config, pattern, haystack, wanted) = row;
+    let builder = Regex::builder().configure(config);
+    let mut regex = builder.build(alloc, pattern).expect(rt, "a regex");
+    let found = regex.find(Input::new(haystack.as_bytes()));
+    let found = found.map(|m| (m.start(), m.end()));
+    assert_eq!(rt; found, wanted, "{pattern}");
+}
+
+#[test]
+fn settings_change_what_is_found(rt: HostRuntime) {
+    let alloc = rt.alloc();
+    let config = Regex::config();
+    let digits = "[0-9]+";
+    expect_found(&rt, alloc, (config, digits, "foo 12", Some((4, 6))));
+    expect_found(&rt, alloc, (config.anchored(true), digits, "foo 12", None));
+    expect_found(
+        &rt,
+        alloc,
+        (config.anchored(true), digits, "12", Some((0, 2))),
+    );
+    expect_found(&rt, alloc, (config, "(?:)", "☃", Some((0, 0))));
+    expect_found(
+        &rt,
+        alloc,
+        (config.utf8(false), r"(?-u:\x98)", "☃", Some((1, 2))),
+    );
+}
+
+#[test]
+fn settings_of_engines_change_no_answer(rt: HostRuntime) {
+    let alloc = rt.alloc();
+    let config = Regex::config();
+    let pattern = r"\b[a-z]+[0-9]";
+    let found = Some((4, 8));
+    expect_found(&rt, alloc, (config, pattern, "☃ foo7 bar8", found));
+    expect_found(
+        &rt,
+        alloc,
+        (config.hybrid(false), pattern, "☃ foo7 bar8", found),
+    );
+    let small = config
+        .hybrid_cache_capacity(2000)
+        .backtrack_visited_capacity(8);
+    expect_found(&rt, alloc, (small, pattern, "☃ foo7 bar8", found));
+}
+
+fn expect_why(rt: &impl Abort, alloc: Global, builder: Builder, pattern: &str, wanted: &str) {
+    let Err(error) = builder.build(alloc, pattern) else {
+        assert!(rt; false, "{pattern}");
+        return;
+    };
+    let text = format!(in alloc; "{error}").expect(rt, "memory");
+    assert!(rt; text.starts_with(wanted), "{text}");
+}
+
+#[test]
+fn errors_name_the_cause(rt: HostRuntime) {
+    let alloc = rt.alloc();
+    let small = Regex::config().nfa_size_limit(100);
+    let builder = Regex::builder();
+    expect_why(&rt, alloc, builder, "foo(", "pattern 0, at 3..4: ");
+    let wanted = "pattern 0 exceeds the size limit of 100 bytes";
+    expect_why(&rt, alloc, builder.configure(small), r"\w{50}", wanted);
+    expect_why(&rt, alloc, builder, r"\141", "pattern 0, at ");
+    let syntax = Syntax {
+        octal: true,
+        ..Syntax::default()
+    };
+    let mut regex = builder
+        .syntax(syntax)
+        .build(alloc, r"\141")
+        .expect(&rt, "a regex");
+    assert!(rt; regex.is_match(Input::new(b"a")));
+}
+
+#[test]
+fn patterns_and_groups_are_counted(rt: HostRuntime) {
+    let alloc = rt.alloc();
+    let regex = Regex::new_many(alloc, &["(?<n>[0-9])(x)", "[a-z]"]).expect(&rt, "a regex");
+    assert_eq!(rt; regex.pattern_len(), 2);
+    assert_eq!(rt; regex.group_info().slot_len(), 8);
+    let wrong = Regex::new_many(alloc, &["a", "(", "b"]);
+    assert!(rt; wrong.is_err());
+}

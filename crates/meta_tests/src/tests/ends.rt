@@ -1,0 +1,36 @@
+//! Half matches of patterns, one after the other.
+
+use super::samples::regex_of;
+use nfa_compiler::Compiler;
+use nfa_engines::Input;
+use std::alloc::Global;
+use std::process::Abort;
+
+/// A pattern, a haystack, and the offsets of all half matches.
+type Row = (&'static str, &'static str, &'static [usize]);
+
+const ROWS: &[Row] = &[
+    ("foo[0-9]+", "foo1 foo12 foo123", &[4, 10, 17]),
+    ("a|b", "ab", &[1, 2]),
+    ("a*", "aa", &[2]),
+    // The lazy DFA stops at a byte of 128 or more.
+    (r"\w+\b", "foo ☃ bar", &[3, 11]),
+    ("a", "xyz", &[]),
+];
+
+fn expect_row(rt: &impl Abort, alloc: Global, (pattern, haystack, wanted): Row) {
+    let nfa = Compiler::new().build(alloc, pattern).expect(rt, "an NFA");
+    let mut regex = regex_of(rt, alloc, &nfa);
+    let mut ends = Vec::new(alloc);
+    for half in regex.half_matches(Input::new(haystack.as_bytes())) {
+        ends.push(half.offset()).expect(rt, "memory");
+    }
+    assert_eq!(rt; ends.as_slice(), wanted, "{pattern}");
+}
+
+#[test]
+fn half_matches_have_the_ends(rt: HostRuntime) {
+    for &row in ROWS {
+        expect_row(&rt, rt.alloc(), row);
+    }
+}

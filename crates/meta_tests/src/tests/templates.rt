@@ -1,0 +1,152 @@
+//! Texts that have a template, filled by captures, in place of the matches of a pattern.
+
+use nfa_engines::Input;
+use nfa_meta::Regex;
+use nfa_meta::interpolate::TemplateError;
+use std::alloc::Global;
+use std::process::Abort;
+
+/// A pattern, a haystack, a limit or 0 for none, a template, and the output.
+type Row = (
+    &'static str,
+    &'static str,
+    usize,
+    &'static str,
+    &'static str,
+);
+
+const DATE: &str = "(?<y>[0-9]{4})-(?<m>[0-9]{2})-(?<d>[0-9]{2})";
+
+const FILLED: &[Row] = &[
+    // Numbers and names, with and without braces.
+    (
+        DATE,
+        "2012-03-14 to 2013-01-01",
+        0,
+        "$m/$d/$y",
+        "03/14/2012 to 01/01/2013",
+    ),
+    (
+        DATE,
+        "2012-03-14 to 2013-01-01",
+        1,
+        "$3.$2.$1",
+        "14.03.2012 to 2013-01-01",
+    ),
+    (
+        r"(?<first>\w+)\s+(?<second>\w+)",
+        "deep fried",
+        0,
+        "${first}_$second",
+        "deep_fried",
+    ),
+    (
+        r"([^,\s]+),\s+(\S+)",
+        "Springsteen, Bruce",
+        0,
+        "$2 $1",
+        "Bruce Springsteen",
+    ),
+    ("(b)", "abc", 0, "${1}a", "abac"),
+    ("(?<a1>b)", "abc", 0, "$a1-${a1}1", "ab-b1c"),
+    ("[a-z]+", "ab 1 cd", 0, "<$0>", "<ab> 1 <cd>"),
+    // Dollars.
+    ("(b)", "abc", 0, "$$", "a$c"),
+    ("(b)", "abc", 0, "$$1", "a$1c"),
+    ("(b)", "abc", 0, "$$$1", "a$bc"),
+    ("(b)", "abc", 0, "x$", "ax$c"),
+    ("(b)", "abc", 0, "$ $.$", "a$ $.$c"),
+    ("(b)", "abc", 0, "", "ac"),
+    // Groups that took no part.
+    ("(a)|(b)", "ab", 0, "<$1$2>", "<a><b>"),
+    ("a(x)?", "aax", 0, "[$1]", "[][x]"),
+    // Limits, and no match.
+    ("(a)", "banana", 2, "<$1>", "b<a>n<a>na"),
+    ("(a)", "banana", 9, "<$1>", "b<a>n<a>n<a>"),
+    ("(x)", "banana", 0, "$1", "banana"),
+    ("(x)", "", 2, "$1", ""),
+    // Empty matches.
+    ("", "ab", 0, "<$0>", "<>a<>b<>"),
+    ("a*", "baac", 0, "<$0>", "<>b<aa>c<>"),
+    ("(a*)", "baac", 2, "<$1>", "<>b<aa>c"),
+    // Text beyond ASCII. No match splits a codepoint, and a name without braces is ASCII.
+    ("(x?)", "☃", 0, "[$1]", "[]☃[]"),
+    (r"(\pL+)☃", "δ☃βγ☃", 0, "$1!", "δ!βγ!"),
+    ("(?<δ>b)", "abc", 0, "${δ}δ", "abδc"),
+    ("(?<δ>b)", "abc", 0, "$δ", "a$δc"),
+];
+
+/// A template for the pattern `(?<n>b)(c)?`, and why it is not one.
+const REFUSED: &[(&str, &str)] = &[
+    ("$3", "bytes 1 to 2 of the template name no group"),
+    ("$1a", "bytes 1 to 3 of the template name no group"),
+    ("x${m}", "bytes 3 to 4 of the template name no group"),
+    ("${}", "bytes 2 to 2 of the template name no group"),
+    (
+        "$$${n",
+        "the brace after the dollar at byte 2 of the template is not closed",
+    ),
+];
+
+fn expect_filled(rt: &impl Abort, alloc: Global, (pattern, haystack, limit, text, wanted): Row) {
+    let mut regex = Regex::new(alloc, pattern).expect(rt, "a regex");
+    let template = regex
+        .parse_template(alloc, text.as_bytes())
+        .expect(rt, "a template");
+    let output = regex
+        .replacen_template(alloc, haystack.as_bytes(), limit, &template)
+        .expect(rt, "memory");
+    assert_eq!(rt; output.as_slice(), wanted.as_bytes(), "{text}");
+}
+
+#[test]
+fn templates_are_filled(rt: HostRuntime) {
+    for &row in FILLED {
+        expect_filled(&rt, rt.alloc(), row);
+    }
+}
+
+fn expect_refused(rt: &impl Abort, alloc: Global, regex: &Regex, (text, wanted): (&str, &str)) {
+    match regex.parse_template(alloc, text.as_bytes()) {
+        Ok(_) => assert!(rt; false, "{text}"),
+        Err(error) => expect_text(rt, alloc, error, wanted),
+    }
+}
+
+fn expect_text(rt: &impl Abort, alloc: Global, error: TemplateError, wanted: &str) {
+    let text = format!(in alloc; "{error}").expect(rt, "memory");
+    assert!(rt; text.starts_with(wanted), "{text}");
+}
+
+#[test]
+fn mistakes_in_templates_are_named(rt: HostRuntime) {
+    let alloc = rt.alloc();
+    let regex = Regex::new(alloc, "(?<n>b)(c)?").expect(&rt, "a regex");
+    for &row in REFUSED {
+        expect_refused(&rt, alloc, &regex, row);
+    }
+}
+
+#[test]
+fn groups_are_those_of_the_pattern_that_matched(rt: HostRuntime) {
+    let alloc = rt.alloc();
+    let mut regex = Regex::new_many(alloc, &["(a)(d)?", "(b)c"]).expect(&rt, "a regex");
+    let template = regex
+        .parse_template(alloc, b"<$1$2>")
+        .expect(&rt, "a template");
+    let output = regex
+        .replace_all_template(alloc, b"abcad", &template)
+        .expect(&rt, "memory");
+    assert_eq!(rt; output.as_slice(), b"<a><b><ad>".as_slice());
+}
+
+#[test]
+fn first_captures_are_as_many_as_wanted(rt: HostRuntime) {
+    let alloc = rt.alloc();
+    let mut regex = Regex::new(alloc, "foo([0-9]+)").expect(&rt, "a regex");
+    for (count, wanted) in [(0, 0), (1, 1), (2, 2), (3, 3), (9, 3)] {
+        let input = Input::new(b"foo1 foo12 foo123");
+        let first = regex.first_captures(alloc, input, count);
+        assert_eq!(rt; first.expect(&rt, "memory").len(), wanted);
+    }
+}

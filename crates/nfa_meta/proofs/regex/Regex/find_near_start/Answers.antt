@@ -1,0 +1,18 @@
+-- Nothing matches before the start of a window.
+use Rattle.std.proofs.Common.{rules, ℕ, ◌≤◌, ◌+◌, arith, refl, subst, sym}
+use Rattle.std.proofs.lemmas.Grind.{common_steps}
+use Rattle.regex_search_core.specs.Search.{search_of}
+use Rattle.nfa_engines.specs.StartLaws.{IsFirstStart}
+use Rattle.nfa_meta.proofs.regex.Regex.find_near_start.Goals as goal
+
+pub loop-init : goal.loop-init
+loop-init c =
+    let x = search_of c.args.window in
+    let start : c.start-at.result ≤ x.end + 1 = first_of (search rules, grind (arith, common_steps)) in
+    record {
+      same = refl;
+      first =
+          subst (λ (s : ℕ). IsFirstStart c.args.self.now.nfa x s) (sym c.start-at.ensures)
+          (c.bytes_may_be_skipped.ensures.first c.args.self.now.nfa x);
+      within = start;
+    }

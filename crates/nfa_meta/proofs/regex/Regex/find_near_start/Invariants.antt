@@ -1,0 +1,12 @@
+-- Nothing matches before the start.
+use Rattle.std.proofs.Common.{◌≡◌, ◌+◌, ◌≤◌}
+use Rattle.regex_search_core.specs.Search.{search_of}
+use Rattle.nfa_engines.specs.StartLaws.{IsFirstStart}
+use Rattle.nfa_meta.proofs.regex.Regex.find_near_start.Given as goal
+
+abbrev pub invariant-loop : goal.invariant-loop
+invariant-loop l = record {
+  same : l.self ≡ l.fn.self;
+  first : IsFirstStart l.fn.self.nfa (search_of l.window) l.at;
+  within : l.at ≤ (search_of l.window).end + 1;
+}

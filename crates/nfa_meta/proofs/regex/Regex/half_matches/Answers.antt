@@ -1,0 +1,23 @@
+-- The iterator gives the half matches of its input, and keeps the engine.
+use Rattle.std.proofs.Common.{refl}
+use Rattle.regex_search_core.specs.Search.{search_of}
+use Rattle.nfa_meta.proofs.HalvesLemmas.{gives-regex, halves-searches, halves-of}
+use Rattle.nfa_meta.proofs.regex.Regex.half_matches.Goals as goal
+
+pub returns : goal.returns
+returns c =
+    let x = search_of c.args.input in
+    let given = halves-of x _ c.new.ensures refl in
+    record {
+      same_reference = refl;
+      same_regex = refl;
+      iter_state = c.new.ensures;
+      going = refl;
+      runs = given.runs;
+      are = given.are;
+      rise = given.rise;
+      first = given.first;
+      next = given.next;
+      searches = halves-searches x _ c.new.ensures refl;
+      keeps = gives-regex _;
+    }

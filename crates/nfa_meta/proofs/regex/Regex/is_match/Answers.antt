@@ -1,0 +1,16 @@
+-- Whether there is a match is what the function says.
+use Rattle.std.proofs.Common.{arith, false, rules}
+use Rattle.std.proofs.lemmas.Grind.{common_steps}
+use Rattle.regex_search_core.specs.Search.{search_of}
+use Rattle.nfa_paths.specs.Paths.{IsBoolAnswer}
+use Rattle.nfa_search_base.proofs.FindsLemmas.{found-finds}
+use Rattle.nfa_choice.specs.ChoiceState.{kind_in}
+use Rattle.nfa_meta.proofs.regex.Regex.is_match.Goals as goal
+
+pub returns-in-Ok-clause-finds : goal.returns-in-Ok-clause-finds
+returns-in-Ok-clause-finds c =
+    let e = c.args.self.now in
+    let x = search_of c.args.input in
+    let answer : IsBoolAnswer e.nfa (kind_in e) false x c.in-Ok.found =
+    first_of (search rules, grind (arith, common_steps)) in
+    found-finds e.nfa (kind_in e) false x c.in-Ok.found answer

@@ -1,0 +1,21 @@
+-- A position with a byte that no match begins with is skipped.
+use Rattle.std.proofs.Common.{◌<◌, ◌≤◌, length, get_or, arith}
+use Rattle.regex_search_core.specs.Search.{search_of}
+use Rattle.nfa_meta.proofs.AnchoredLemmas.{read-inside}
+use Rattle.nfa_meta.proofs.regex.Regex.next_start.Goals as goal
+
+pub loop-at-preserved : goal.loop-at-preserved
+loop-at-preserved c =
+    let x = search_of c.args.window.now in
+    let fits : c.args.window.now.span.end ≤ length c.args.window.now.haystack.now = omega arith in
+    let inside : c.loop-at.at < c.args.window.now.span.end =
+    omega (arith, c.loop-at-test.true, c.end-end.ensures.value)
+    in
+    let byte = get_or c.args.window.now.haystack.now c.loop-at.at 0 in
+    let none = rw c.haystack-haystack.ensures at (c.may_begin.ensures.nothing c.if-not-may_begin.true) in
+    record {
+      first =
+          c.bytes_may_be_skipped.ensures.moves c.args.self.now.nfa x c.loop-at.at byte c.loop-at.invariant.first
+          (read-inside x c.loop-at.at inside fits) none;
+      within = omega arith;
+    }

@@ -1,0 +1,25 @@
+-- The matches that were replaced are the first ones of the text.
+use Rattle.std.proofs.Common.{◌∙◌, List, ap, arith, map}
+use Rattle.std.proofs.lemmas.List.{length-map}
+use Rattle.regex_search_core.specs.Found.{found_of}
+use Rattle.regex_search_core.specs.Search.{search_of}
+use Rattle.regex_search_core.specs.declared.search.Match.{Match}
+use Rattle.nfa_meta.specs.Replaced.{replaced}
+use Rattle.nfa_meta.proofs.GapLemmas.{as-many, first-of}
+use Rattle.nfa_meta.proofs.regex.Regex.replacen.Goals as goal
+
+pub returns-clause-first : goal.returns-clause-first
+returns-clause-first c = λ some.
+    let r = c.args.self.now in
+    let text = c.args.haystack.now in
+    let x = search_of c.new.result in
+    let items = c.in_ok-matches.matches.items in
+    let found = c.in_ok-matches.ensures in
+    record {
+      matches = map found_of items;
+      first = first-of r text x c.new.ensures items found.first;
+      few = omega (arith, found.few, length-map items found_of);
+      as_many = as-many r text x c.new.ensures items c.args.limit found.as_many;
+      output_is = c.in_ok-output.ensures
+          ∙ ap (λ (ms : List Match). replaced text c.args.bytes.now 0 (map found_of ms)) c.deref.ensures.value;
+    }

@@ -1,0 +1,13 @@
+-- A step may be made, and leaves what the iterator keeps.
+use Rattle.nfa_search_base.specs.WithCache.{with_cache}
+use Rattle.nfa_meta.proofs.CapturesLemmas.{catch-serves, step-goes}
+use Rattle.nfa_meta.proofs.regex.captures_iter.CapturesMatchesIterator.next.Goals as goal
+
+pub next_with-requires : goal.next_with-requires
+next_with-requires c = catch-serves c.args.self.now
+
+pub invariant_of-self : goal.invariant_of-self
+invariant_of-self c = record {
+  holds = step-goes c.args.self.now c.next_with.result (with_cache c.next_with.new.self c.next_with.new.cache)
+      c.next_with.ensures;
+}

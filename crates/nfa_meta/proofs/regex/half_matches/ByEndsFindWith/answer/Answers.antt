@@ -1,0 +1,14 @@
+-- The half match is the answer of the search.
+use Rattle.regex_search_core.specs.Search.{search_of}
+use Rattle.nfa_choice.specs.ChoiceState.{kind_in}
+use Rattle.nfa_hybrid.proofs.HalfListLemmas.{half-answered}
+use Rattle.nfa_meta.proofs.regex.half_matches.ByEndsFindWith.answer.Goals as goal
+
+pub returns : goal.returns
+returns c =
+    let e = c.find_half.ensures in
+    let x = search_of c.args.input.now in
+    record {
+      tells = half-answered c.args.regex.now.nfa (kind_in c.args.regex.now) x.earliest x c.find_half.result e.answer;
+      work = record { runs = e.runs; holds = e.holds; keeps = e.keeps };
+    }

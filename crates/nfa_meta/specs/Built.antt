@@ -1,0 +1,99 @@
+-- What a builder makes of the texts of patterns, and why it fails.
+use Rattle.std.specs.Prelude.{◌≡◌, ℕ, true, false, List, Option, None, codes, ⊤}
+use Rattle.thompson_nfa.specs.Automaton.{Automaton, IsAutomaton}
+use Rattle.nfa_paths.specs.Paths.{is_utf8_empty}
+use Rattle.nfa_backtrack.specs.Backtrack.{empty_cache}
+use Rattle.nfa_pikevm.specs.Engines.{cache_for}
+use Rattle.nfa_choice.specs.ChoiceState.{ChoiceState}
+use Rattle.nfa_compiler.specs.AnyStart.{FindsFromAnyStart, IsBoundAsRead}
+use Rattle.nfa_compiler.specs.Compiled.{IsCompiled}
+use Rattle.nfa_compiler.specs.ErrorTexts.{compile_error_text}
+use Rattle.nfa_compiler.specs.Rejected.{IsOfOneText, NamesText, TextsFitIn}
+use Rattle.nfa_compiler.specs.Settings.{syntax_of}
+use Rattle.nfa_compiler.specs.declared.compiler.Compiler.{Compiler}
+use Rattle.nfa_compiler.specs.declared.error.CompileError.{CompileError}
+use Rattle.nfa_compiler.specs.declared.error.CompileError.TheVariants as cause
+use Rattle.nfa_meta.specs.declared.builder.Builder.{Builder}
+use Rattle.nfa_meta.specs.declared.builder.Config.{Config}
+use Rattle.nfa_meta.specs.declared.error.BuildError.{BuildError}
+use Rattle.nfa_meta.specs.declared.error.BuildError.TheVariants.{Compile, Memory}
+use Rattle.regex_syntax.specs.Verdict.{default_config}
+
+-- the default settings
+abbrev pub default_settings : Config
+default_settings = record {
+  anchored = false;
+  utf8 = true;
+  nfa_size_limit = 10_485_760;
+  hybrid = true;
+  hybrid_cache_capacity = 16_777_216;
+  backtrack_visited_capacity = None;
+}
+
+-- the builder of these settings, and of the default syntax
+abbrev pub default_builder : Builder
+default_builder = record { config = default_settings; syntax = default_config }
+
+-- the compiler that a builder compiles texts with
+abbrev pub compiler_of : Builder → Compiler
+compiler_of b = record {
+  config = record { anchored = b.config.anchored; utf8 = b.config.utf8; size_limit = b.config.nfa_size_limit };
+  syntax = b.syntax;
+}
+
+-- the engines of an NFA before their first search, with this capacity of the backtracker
+abbrev pub engines_of : Automaton → Option ℕ → ChoiceState
+engines_of nfa capacity = record {
+  nfa = nfa;
+  visited_capacity = capacity;
+  match_kind = None;
+  back = empty_cache;
+  pike = cache_for nfa;
+  ran = None;
+}
+
+-- the engines have not searched yet: their caches are as they were made, and the backtracker has this capacity
+pub record HasNotSearched (capacity : Option ℕ) (r : ChoiceState) : Type 0 where
+  pub visited_capacity : r.visited_capacity ≡ capacity
+  pub match_kind : r.match_kind ≡ None
+  pub back : r.back ≡ empty_cache
+  pub pike : r.pike ≡ cache_for r.nfa
+  pub ran : r.ran ≡ None
+
+-- The NFA is what the builder compiles these texts to: one that reads them by the builder's syntax, within its size
+-- limit. It is in UTF-8 mode, and bound to starts, as the builder is set.
+pub record IsBuiltFrom (b : Builder) (texts : List (List ℕ)) (nfa : Automaton) : Type 0 where
+  pub compiled : IsCompiled (syntax_of (compiler_of b)) texts nfa
+  pub valid : IsAutomaton nfa
+  pub utf8 : nfa.utf8 ≡ b.config.utf8
+  pub anchored : b.config.anchored ≡ true → nfa.anchored ≡ nfa.unanchored
+  pub bound : IsBoundAsRead b.config.anchored (syntax_of (compiler_of b)) texts nfa
+  pub free : b.config.anchored ≡ false → FindsFromAnyStart nfa
+  pub anywhere : b.config.utf8 ≡ false → is_utf8_empty nfa ≡ false
+  pub fits : TextsFitIn b.config.nfa_size_limit (syntax_of (compiler_of b)) texts
+
+-- the error is not that allocation failed
+abbrev pub IsNotMemory : CompileError → Type 0
+IsNotMemory cause.Memory = ⊥
+IsNotMemory _ = ⊤
+
+-- an error of the compiler is about these texts
+pub record IsErrorOf (b : Builder) (texts : List (List ℕ)) (error : CompileError) : Type 0 where
+  pub rejected : IsOfOneText (syntax_of (compiler_of b)) texts error
+  pub named : NamesText (syntax_of (compiler_of b)) b.config.nfa_size_limit texts error
+  pub kind : IsNotMemory error
+
+-- allocation failed, or the builder's compiler refuses these texts with the cause
+abbrev pub IsWhyNotBuilt : Builder → List (List ℕ) → BuildError → Type 0
+IsWhyNotBuilt b texts Memory = ⊤
+IsWhyNotBuilt b texts (Compile error) = IsErrorOf b texts error
+
+-- the error of a builder for one of the compiler
+abbrev pub build_error_of : CompileError → BuildError
+build_error_of cause.Memory = Memory
+build_error_of error = Compile error
+
+-- its text
+abbrev pub build_error_text : BuildError → List ℕ
+build_error_text Memory = codes "out of memory"
+build_error_text (Compile error) = compile_error_text error

@@ -1,0 +1,45 @@
+-- What of a regex searched: its lazy DFA, or the choice in a window or in the whole span.
+use Rattle.std.specs.Prelude.{◌≡◌, ◌≤◌, ◌⊎◌, ℕ, Bool, List, None, Option, replicate}
+use Rattle.regex_search_core.specs.Found.{Found}
+use Rattle.regex_search_core.specs.Search.{Search}
+use Rattle.regex_search_core.specs.declared.search.MatchKind.{MatchKind}
+use Rattle.thompson_nfa.specs.Automaton.{Automaton}
+use Rattle.nfa_paths.specs.Paths.{IsAnswer, IsFindAnswer}
+use Rattle.nfa_choice.specs.ChoiceState.{ChoiceState, RunsByRule}
+use Rattle.nfa_meta.specs.Windowed.{IsWindowed}
+
+-- a search that has windows, and the search of a span in its span
+pub record IsWindowOf (nfa : Automaton) (x y : Search) : Type 0 where
+  pub windowed : IsWindowed nfa x
+  pub haystack : y.haystack ≡ x.haystack
+  pub anchored : y.anchored ≡ x.anchored
+  pub earliest : y.earliest ≡ x.earliest
+  pub from : x.start ≤ y.start
+  pub to : y.end ≤ x.end
+
+-- the answers of y are answers of x
+pub record AnswersAs (nfa : Automaton) (kind : MatchKind) (x y : Search) : Type 0 where
+  pub rows : (pattern : Option ℕ) (slots : List (Option ℕ))
+      → IsAnswer nfa kind x.earliest y pattern slots → IsAnswer nfa kind x.earliest x pattern slots
+  pub matches : (found : Option Found)
+      → IsFindAnswer nfa kind x.earliest y found → IsFindAnswer nfa kind x.earliest x found
+
+-- the answer of x is that nothing matches
+pub record HasNoMatch (nfa : Automaton) (kind : MatchKind) (x : Search) : Type 0 where
+  pub rows : (n : ℕ) → IsAnswer nfa kind x.earliest x None (replicate n None)
+  pub matches : IsFindAnswer nfa kind x.earliest x None
+
+-- the choice searched a window of x by its rule
+pub record SearchedWindow (x : Search) (old new : ChoiceState) : Type 0 where
+  pub window : Search
+  pub is : IsWindowOf old.nfa x window
+  pub runs : RunsByRule old window window.earliest new
+
+-- The lazy DFA answered, and the choice did not search; or the choice searched the whole span by its rule. `earliest`
+-- is the flag of the PikeVM's search.
+abbrev pub RunsAfterDfa : Search → Bool → ChoiceState → ChoiceState → Type 0
+RunsAfterDfa x earliest old new = (new ≡ old) ⊎ RunsByRule old x earliest new
+
+-- the same, or the choice searched a window
+abbrev pub RunsByWindow : Search → ChoiceState → ChoiceState → Type 0
+RunsByWindow x old new = RunsAfterDfa x x.earliest old new ⊎ SearchedWindow x old new

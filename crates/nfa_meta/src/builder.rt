@@ -1,0 +1,308 @@
+//! The settings of a regex, and its builder.
+ghost use Rattle.std.specs.Prelude.{◌≡◌, ◌∷◌, [], IfErr, IfOk, IsOkUnless, None, Some, map};
+ghost use Rattle.regex_search_core.specs.declared.search.MatchKind.TheVariants.{LeftmostFirst};
+ghost use Rattle.nfa_lazy_dfa.specs.Configs.{kind_in};
+ghost use Rattle.nfa_meta.specs.Built.{HasNotSearched, IsBuiltFrom, IsWhyNotBuilt, compiler_of, default_builder};
+ghost use Rattle.nfa_meta.specs.Built.{default_settings, engines_of};
+
+use crate::error::BuildError;
+use crate::regex::Regex;
+use nfa_compiler::{Compiler, Syntax};
+use nfa_engines::backtrack;
+use nfa_engines::error::SearchError;
+use nfa_lazy_dfa::DFA;
+use regex_search_core::MatchKind;
+use std::alloc::Global;
+use thompson_nfa::NFA;
+
+/// The settings of a regex. The first three are those of its NFA, if it is compiled from texts. The others change what
+/// searches cost, and never what they return.
+#[derive(Clone, Copy, Debug)]
+pub struct Config {
+    /// Whether each search is bound to its start.
+    pub anchored: bool,
+    /// Whether patterns match only UTF-8: see [`Config::utf8`].
+    pub utf8: bool,
+    /// The most bytes that the tables of one pattern may take: see [`Config::nfa_size_limit`].
+    pub nfa_size_limit: usize,
+    /// Whether searches begin with a lazy DFA.
+    pub hybrid: bool,
+    /// The most bytes that the rows of the lazy DFA may take: see [`Config::hybrid_cache_capacity`].
+    pub hybrid_cache_capacity: usize,
+    /// The most bytes that the marks of a search of the backtracker may take, or `None` for the default: see
+    /// [`Config::backtrack_visited_capacity`].
+    pub backtrack_visited_capacity: Option<usize>,
+}
+
+impl Config {
+    /// Returns the default settings: unanchored, in UTF-8 mode, with a size limit of ten mebibytes; with a lazy DFA of
+    /// at most 16 mebibytes, and a backtracker with its default capacity.
+    pub fn new() -> Config
+        ensures { result ≡ default_settings }
+    {
+        Config {
+            anchored: false,
+            utf8: true,
+            nfa_size_limit: 10 << 20,
+            hybrid: true,
+            hybrid_cache_capacity: 16 << 20,
+            backtrack_visited_capacity: None,
+        }
+    }
+
+    /// Sets whether each search is bound to its start.
+    pub fn anchored(self, yes: bool) -> Config
+        ensures { result ≡ record self { anchored = yes } }
+    {
+        Config {
+            anchored: yes,
+            ..self
+        }
+    }
+
+    /// Sets whether patterns match only UTF-8.
+    ///
+    /// With `true`, a text that could match bytes that are not UTF-8 is not a pattern, and a search skips an empty
+    /// match that splits a codepoint. With `false`, patterns may match any bytes, and an empty match may be anywhere.
+    pub fn utf8(self, yes: bool) -> Config
+        ensures { result ≡ record self { utf8 = yes } }
+    {
+        Config { utf8: yes, ..self }
+    }
+
+    /// Sets the most bytes that the tables of one pattern may take while it is compiled.
+    pub fn nfa_size_limit(self, bytes: usize) -> Config
+        ensures { result ≡ record self { nfa_size_limit = bytes } }
+    {
+        Config {
+            nfa_size_limit: bytes,
+            ..self
+        }
+    }
+
+    /// Sets whether searches begin with a lazy DFA. With `false`, the DFA never makes a row, and the other engines
+    /// search each input whole.
+    pub fn hybrid(self, yes: bool) -> Config
+        ensures { result ≡ record self { hybrid = yes } }
+    {
+        Config {
+            hybrid: yes,
+            ..self
+        }
+    }
+
+    /// Sets the most bytes that the rows of the lazy DFA may take: 1120 for each row, and 4 for each of its states.
+    pub fn hybrid_cache_capacity(self, bytes: usize) -> Config
+        ensures { result ≡ record self { hybrid_cache_capacity = bytes } }
+    {
+        Config {
+            hybrid_cache_capacity: bytes,
+            ..self
+        }
+    }
+
+    /// Sets the most bytes that the marks of a search of the backtracker may take, rounded up to whole blocks of eight
+    /// bytes. The PikeVM searches inputs that need more.
+    pub fn backtrack_visited_capacity(self, bytes: usize) -> Config
+        ensures { result ≡ record self { backtrack_visited_capacity = Some bytes } }
+    {
+        Config {
+            backtrack_visited_capacity: Some(bytes),
+            ..self
+        }
+    }
+
+    /// Returns the configuration of the lazy DFA. A DFA without capacity stops at the start of each search.
+    pub(crate) fn lazy_dfa(&self) -> nfa_lazy_dfa::Config
+        ensures { kind_in result ≡ LeftmostFirst }
+    {
+        let capacity = if self.hybrid {
+            self.hybrid_cache_capacity
+        } else {
+            0
+        };
+        DFA::config()
+            .match_kind(MatchKind::LeftmostFirst)
+            .cache_capacity(capacity)
+    }
+
+    /// Returns the configuration of the backtracker.
+    fn backtracker(&self) -> backtrack::Config
+        ensures { result ≡ self.now.backtrack_visited_capacity }
+    {
+        match self.backtrack_visited_capacity {
+            Some(bytes) => backtrack::Config::new().visited_capacity(bytes),
+            None => backtrack::Config::new(),
+        }
+    }
+}
+
+impl Default for Config {
+    /// Returns the default settings.
+    fn default() -> Config
+        ensures { result ≡ default_settings }
+    {
+        Config::new()
+    }
+}
+
+/// A builder of regexes. [`Regex::builder`] returns one with the default settings.
+///
+/// ```
+/// let config = Regex::config().anchored(true);
+/// let mut regex = Regex::builder().configure(config).build(alloc, "[0-9]+")?;
+/// assert!(rt; !regex.is_match(Input::new(b"foo 12")));
+/// ```
+#[derive(Clone, Copy, Debug)]
+pub struct Builder {
+    pub config: Config,
+    /// The syntax of texts. Its field `utf8` is not used: see [`Config::utf8`].
+    pub syntax: Syntax,
+}
+
+impl Builder {
+    /// Returns a builder with the default settings and the default syntax.
+    pub fn new() -> Builder
+        ensures { result ≡ default_builder }
+    {
+        Builder {
+            config: Config::new(),
+            syntax: Syntax::default(),
+        }
+    }
+
+    /// Replaces the settings.
+    pub fn configure(self, config: Config) -> Builder
+        ensures { result ≡ record self { config = config } }
+    {
+        Builder { config, ..self }
+    }
+
+    /// Replaces the syntax of texts.
+    pub fn syntax(self, syntax: Syntax) -> Builder
+        ensures { result ≡ record self { syntax = syntax } }
+    {
+        Builder { syntax, ..self }
+    }
+
+    /// Returns the compiler of texts.
+    fn compiler(&self) -> Compiler
+        ensures { result ≡ compiler_of self.now }
+    {
+        let config = nfa_compiler::Config::new()
+            .anchored(self.config.anchored)
+            .utf8(self.config.utf8)
+            .size_limit(self.config.nfa_size_limit);
+        Compiler::new().configure(config).syntax(self.syntax)
+    }
+
+    /// Makes a regex of one pattern, with empty caches.
+    ///
+    /// Fails if the text is not a pattern, if the pattern exceeds the size limit (`BuildError::Compile`), or if
+    /// allocation fails.
+    pub fn build(&self, alloc: Global, pattern: &str) -> Result<Regex, BuildError>
+        ensures built { IfOk result (λ made. IsBuiltFrom self.now (pattern.now ∷ []) made.nfa) }
+        ensures engines { IfOk result (HasNotSearched self.now.config.backtrack_visited_capacity) }
+        ensures why { IfErr result (IsWhyNotBuilt self.now (pattern.now ∷ [])) }
+    {
+        self.build_many(alloc, &[pattern])
+    }
+
+    /// Makes a regex of these patterns, numbered from 0 on, with empty caches. If two match from one start, the earlier
+    /// one is preferred.
+    ///
+    /// Fails as [`Builder::build`] does. The error has the number of the pattern that failed.
+    pub fn build_many(&self, alloc: Global, patterns: &[&str]) -> Result<Regex, BuildError>
+        ensures built { IfOk result (λ made.
+            IsBuiltFrom self.now (map (λ text. text.now) patterns.now) made.nfa) }
+        ensures engines { IfOk result (HasNotSearched self.now.config.backtrack_visited_capacity) }
+        ensures why { IfErr result (IsWhyNotBuilt self.now (map (λ text. text.now) patterns.now)) }
+    {
+        let nfa = self.compiler().build_many(alloc, patterns)?;
+        match self.build_from_nfa(alloc, nfa) {
+            Ok(regex) => Ok(regex),
+            Err(_) => Err(BuildError::Memory),
+        }
+    }
+
+    /// Makes a regex of the NFA, with empty caches. Settings of the NFA have no effect. The only error is `Memory`.
+    pub fn build_from_nfa(&self, alloc: Global, nfa: NFA) -> Result<Regex, SearchError>
+        ensures engines { IfOk result (λ made. made ≡ engines_of nfa self.now.config.backtrack_visited_capacity) }
+        ensures memory { IsOkUnless result SearchError.Memory }
+    {
+        Regex::from_parts(
+            alloc,
+            nfa,
+            self.config.lazy_dfa(),
+            self.config.backtracker(),
+        )
+    }
+}
+
+impl Regex {
+    /// Compiles the pattern, and makes the engines for it, with default settings and empty caches.
+    ///
+    /// Fails if the text is not a pattern, if the pattern exceeds the size limit (`BuildError::Compile`), or if
+    /// allocation fails.
+    ///
+    /// ```
+    /// let mut regex = Regex::new(alloc, "foo[0-9]+")?;
+    /// let found = regex.find(Input::new(b"foo12345"));
+    /// assert_eq!(rt; found.expect(rt, "a match").range(), 0..8);
+    /// ```
+    pub fn new(alloc: Global, pattern: &str) -> Result<Regex, BuildError>
+        ensures built { IfOk result (λ made. IsBuiltFrom default_builder (pattern.now ∷ []) made.nfa) }
+        ensures engines { IfOk result (HasNotSearched None) }
+        ensures why { IfErr result (IsWhyNotBuilt default_builder (pattern.now ∷ [])) }
+    {
+        Builder::new().build(alloc, pattern)
+    }
+
+    /// Compiles these patterns, numbered from 0 on, and makes the engines for them, with default settings and empty
+    /// caches. If two match from one start, the earlier one is preferred.
+    ///
+    /// Fails as [`Regex::new`] does. The error has the number of the pattern that failed.
+    ///
+    /// ```
+    /// let mut regex = Regex::new_many(alloc, &["[a-z]+", "[0-9]+"])?;
+    /// let found = regex.find(Input::new(b"12"));
+    /// assert_eq!(rt; found.expect(rt, "a match").pattern().as_usize(), 1);
+    /// ```
+    pub fn new_many(alloc: Global, patterns: &[&str]) -> Result<Regex, BuildError>
+        ensures built { IfOk result (λ made.
+            IsBuiltFrom default_builder (map (λ text. text.now) patterns.now) made.nfa) }
+        ensures engines { IfOk result (HasNotSearched None) }
+        ensures why { IfErr result (IsWhyNotBuilt default_builder (map (λ text. text.now) patterns.now)) }
+    {
+        Builder::new().build_many(alloc, patterns)
+    }
+
+    /// Returns the default settings.
+    ///
+    /// ```
+    /// let config = Regex::config().hybrid(false);
+    /// let mut regex = Regex::builder().configure(config).build(alloc, "fo+")?;
+    /// assert!(rt; regex.is_match(Input::new(b"a foo")));
+    /// assert!(rt; regex.ran().is_some());
+    /// ```
+    pub fn config() -> Config
+        ensures { result ≡ default_settings }
+    {
+        Config::new()
+    }
+
+    /// Returns a builder with the default settings and the default syntax.
+    ///
+    /// ```
+    /// let bytes = r"(?-u:\xFF)+";
+    /// let config = Regex::config().utf8(false);
+    /// let built = Regex::builder().configure(config).build(alloc, bytes);
+    /// assert!(rt; built.is_ok());
+    /// assert!(rt; Regex::new(alloc, bytes).is_err());
+    /// ```
+    pub fn builder() -> Builder
+        ensures { result ≡ default_builder }
+    {
+        Builder::new()
+    }
+}

@@ -1,0 +1,94 @@
+//! Captures for the NFA, and the searches that fill them.
+ghost use Rattle.std.specs.Prelude.{◌≡◌, ◌<◌, None, length, replicate, All, IfNone, IfOk, IfSome, IsOkUnless};
+ghost use Rattle.regex_search_core.specs.Groups.{slot_count};
+ghost use Rattle.regex_search_core.specs.Search.{search_of};
+ghost use Rattle.nfa_paths.specs.Paths.{IsAnswer};
+ghost use Rattle.nfa_search_base.specs.Lists.{IsSlotInside};
+ghost use Rattle.nfa_search_base.specs.Spans.{SpansInside};
+ghost use Rattle.nfa_backtrack.specs.Backtrack.{HoldsNoMore};
+ghost use Rattle.nfa_choice.specs.ChoiceState.{kind_in, KeepsEngines};
+ghost use Rattle.nfa_meta.specs.WindowRuns.{RunsByWindow};
+
+use crate::regex::Regex;
+use nfa_engines::error::SearchError;
+use regex_search_core::{Captures, Input};
+use std::alloc::Global;
+
+impl Regex {
+    /// Makes captures with two slots for each group of the NFA. No pattern and no slot is set. The only error is
+    /// `Memory`.
+    ///
+    /// ```
+    /// // regex of "foo(?<n>[0-9]+)"
+    /// let captures = regex.create_captures(alloc)?;
+    /// assert_eq!(rt; captures.slots(), [None; 4].as_slice());
+    /// ```
+    pub fn create_captures(&self, alloc: Global) -> Result<Captures, SearchError>
+        ensures made { IfOk result (λ made. made ≡ record {
+          groups = self.now.nfa.groups;
+          pattern = None;
+          slots = replicate (slot_count self.now.nfa.groups) None;
+        }) }
+        ensures memory { IsOkUnless result SearchError.Memory }
+    {
+        self.choice.create_captures(alloc)
+    }
+
+    /// Searches, and writes the result to the captures: the pattern that matched, and the slots that
+    /// [`Regex::search_slots`] returns for that number of slots. Their groups do not change. If nothing matches, no
+    /// pattern and no slot is set. The captures may be of another NFA.
+    ///
+    /// The engines run as for [`Regex::find`], so the groups cost what the window does.
+    ///
+    /// ```
+    /// // regex of "foo(?<n>[0-9]+)"
+    /// let mut captures = regex.create_captures(alloc)?;
+    /// regex.search(&Input::new(b"foo12345"), &mut captures);
+    /// let digits = captures.get_group_by_name("n");
+    /// assert_eq!(rt; digits, Some(Span { start: 3, end: 8 }));
+    /// ```
+    pub fn search(&mut self, input: &Input<'_>, captures: &mut Captures)
+        ensures answer { IsAnswer self.old.nfa (kind_in self.old) (search_of input.now).earliest (search_of input.now)
+            captures.new.pattern captures.new.slots }
+        ensures groups { captures.new.groups ≡ captures.old.groups }
+        ensures count { length captures.new.slots ≡ length captures.old.slots }
+        ensures unmatched { IfNone captures.new.pattern
+            (captures.new.slots ≡ replicate (length captures.old.slots) None) }
+        ensures pattern { IfSome captures.new.pattern (λ p. p < length self.old.nfa.patterns) }
+        ensures inside { All (IsSlotInside (search_of input.now)) captures.new.slots }
+        ensures spans { SpansInside (search_of input.now) captures.new }
+        ensures runs { RunsByWindow (search_of input.now) self.old self.new }
+        ensures holds { HoldsNoMore 0 self.old.back self.new.back }
+        ensures keeps { KeepsEngines self.old self.new }
+    {
+        match self.part_to_search(*input) {
+            Some(part) => self.choice.search(&part, captures),
+            None => captures.clear(),
+        }
+    }
+
+    /// Searches as [`Regex::search`] does, but takes the input by value.
+    ///
+    /// ```
+    /// // regex of "foo(?<n>[0-9]+)"
+    /// let mut captures = regex.create_captures(alloc)?;
+    /// regex.captures(Input::new(b"foo12345"), &mut captures);
+    /// assert_eq!(rt; captures.get_group(1), Some(Span { start: 3, end: 8 }));
+    /// ```
+    pub fn captures<'h>(&mut self, input: Input<'h>, captures: &mut Captures)
+        ensures answer { let x = search_of input.entry in
+            IsAnswer self.old.nfa (kind_in self.old) x.earliest x captures.new.pattern captures.new.slots }
+        ensures groups { captures.new.groups ≡ captures.old.groups }
+        ensures count { length captures.new.slots ≡ length captures.old.slots }
+        ensures unmatched { IfNone captures.new.pattern
+            (captures.new.slots ≡ replicate (length captures.old.slots) None) }
+        ensures pattern { IfSome captures.new.pattern (λ p. p < length self.old.nfa.patterns) }
+        ensures inside { All (IsSlotInside (search_of input.entry)) captures.new.slots }
+        ensures spans { SpansInside (search_of input.entry) captures.new }
+        ensures runs { RunsByWindow (search_of input.entry) self.old self.new }
+        ensures holds { HoldsNoMore 0 self.old.back self.new.back }
+        ensures keeps { KeepsEngines self.old self.new }
+    {
+        self.search(&input, captures);
+    }
+}

@@ -1,0 +1,308 @@
+//! Iteration over the captures of the matches of an input.
+ghost use Rattle.nfa_search_base.specs.CapturesLists.{HasGroups};
+
+use crate::regex::Regex;
+use nfa_engines::error::SearchError;
+use nfa_engines::iter::captures_items::{captures_item, captures_span};
+use nfa_engines::iter::{FindWith, Searcher, Steps};
+use regex_search_core::{Captures, Input, Span};
+use std::alloc::Global;
+use std::marker::Model;
+
+/// An iterator over the captures of all matches of an input that do not overlap, from left to right.
+/// [`Regex::captures_iter`] returns it.
+///
+/// Its items are `Ok` captures, each its own copy, at most n + 1 for a span of n bytes, and at most one error. The only
+/// error is [`SearchError::Memory`]: a copy could not be allocated. The iterator is fused: after the last match or the
+/// error it returns only `None`.
+#[derive(Drop)]
+pub struct CapturesMatches<'r, 'h> {
+    regex: &'r mut Regex,
+    steps: Steps<'h, CapturesFinder>,
+    ghost holds: { HasGroups regex.now.nfa steps.backend.captures },
+}
+
+// The captures that the searches of one iteration fill. Each search borrows the engine.
+#[derive(Debug, Drop)]
+struct CapturesFinder {
+    captures: Captures,
+}
+
+impl Model for CapturesFinder {
+    ghost use Rattle.nfa_search_base.specs.WithCaptures.{WithCaptures};
+
+    ghost Value = { WithCaptures (Unit {0}) };
+
+    ghost view = { λ a. record { finder = tt; captures = a.captures } };
+}
+
+impl Regex {
+    ghost use Rattle.std.specs.Prelude.{◌≡◌, false, All, IfOk, IsOkUnless, None, map};
+    ghost use Rattle.regex_search_core.specs.Search.{search_of};
+    ghost use Rattle.nfa_search_base.specs.WithCaptures.{row_of};
+    ghost use Rattle.nfa_search_base.specs.CapturesLists.{AreRows, AnswersRow};
+    ghost use Rattle.nfa_search_base.specs.CapturesRuns.{CapturesDisjoint, CapturesFirst, CapturesGroups};
+    ghost use Rattle.nfa_search_base.specs.CapturesRuns.{CapturesInside};
+    ghost use Rattle.nfa_search_base.specs.CapturesRuns.{CapturesMemory, CapturesNext, CapturesRun, CapturesWithin};
+    ghost use Rattle.nfa_search_base.specs.CapturesRuns.{MatchesInAll, MatchesInFirst, MatchesInNext, MatchesInRun};
+    ghost use Rattle.nfa_search_base.specs.CapturesRuns.{RowsAll, RowsFirst, RowsNext, RowsRun, match_in};
+    ghost use Rattle.nfa_search_base.specs.Lists.{AreDisjoint, AreMatches};
+    ghost use Rattle.nfa_search_base.specs.IterStates.{fresh};
+    ghost use Rattle.nfa_meta.specs.CapturesMatches.{CatchesBySearches, CatchesGiveKept};
+    ghost use Rattle.nfa_meta.specs.CapturesMatches.{RegexCatchesOn, RegexCatchesToEnd, catches_regex};
+    ghost use Rattle.nfa_meta.specs.CapturesMatches.{catches_iter_state, catches_done};
+    ghost use Rattle.nfa_meta.specs.CapturesMatches.{catches_next};
+    ghost use Rattle.nfa_choice.specs.ChoiceState.{kind_in, KeepsEngines};
+
+    /// Returns an iterator over the captures of all matches that do not overlap, from left to right, each with all
+    /// groups of the NFA. This call runs no search. The only error is [`SearchError::Memory`]: the captures to search
+    /// with could not be allocated.
+    ///
+    /// Each search starts at the end of the last match. An empty match there is replaced by the result of a search from
+    /// one byte further on. The engines run as for [`Regex::find`]. An answer that gives no match ends the list, for
+    /// instance if the NFA does not set the two slots of its pattern. Each item is a copy. If it cannot be allocated,
+    /// the item is the error, once.
+    ///
+    /// ```
+    /// // regex of "foo(?<n>[0-9]+)"
+    /// let mut last = None;
+    /// for captures in regex.captures_iter(alloc, Input::new(b"foo1 foo12 foo123"))? {
+    ///     last = captures?.get_group_by_name("n");
+    /// }
+    /// assert_eq!(rt; last, Some(Span { start: 14, end: 17 }));
+    /// ```
+    pub fn captures_iter<'r, 'h>(
+        &'r mut self,
+        alloc: Global,
+        input: Input<'h>,
+    ) -> Result<CapturesMatches<'r, 'h>, SearchError>
+        ensures memory { IsOkUnless result SearchError.Memory }
+        ensures same_reference { IfOk result (λ made. (catches_regex made).ghost_name
+            ≡ self.entry.ghost_name) }
+        ensures same_regex { IfOk result (λ made. (catches_regex made).now ≡ self.entry.now) }
+        ensures iter_state { IfOk result (λ made. catches_iter_state made ≡ fresh (search_of input.entry)) }
+        ensures going { IfOk result (λ made. catches_done made ≡ false) }
+        // Each run of calls gives the first captures of the input, and all of them if it goes on to `None`.
+        ensures runs { IfOk result (CapturesRun catches_next (AnswersRow self.entry.now.nfa
+            (kind_in self.entry.now) (search_of input.entry).earliest) (search_of input.entry)) }
+        ensures first { IfOk result (CapturesFirst catches_next (AnswersRow self.entry.now.nfa
+            (kind_in self.entry.now) (search_of input.entry).earliest) (search_of input.entry)) }
+        ensures next { IfOk result (CapturesNext catches_next (AnswersRow self.entry.now.nfa
+            (kind_in self.entry.now) (search_of input.entry).earliest) (search_of input.entry)) }
+        ensures errors { IfOk result (CapturesMemory catches_next) }
+        // If no copy fails, their rows and their matches are those of the input.
+        ensures rows { IfOk result (RowsRun catches_next self.entry.now.nfa (kind_in self.entry.now)
+            (search_of input.entry).earliest (search_of input.entry)) }
+        ensures first_rows { IfOk result (RowsFirst catches_next self.entry.now.nfa (kind_in self.entry.now)
+            (search_of input.entry).earliest (search_of input.entry)) }
+        ensures next_row { IfOk result (RowsNext catches_next self.entry.now.nfa (kind_in self.entry.now)
+            (search_of input.entry).earliest (search_of input.entry)) }
+        ensures all_rows { IfOk result (RowsAll catches_next self.entry.now.nfa (kind_in self.entry.now)
+            (search_of input.entry).earliest (search_of input.entry)) }
+        ensures matches { IfOk result (MatchesInRun catches_next self.entry.now.nfa (kind_in self.entry.now)
+            (search_of input.entry).earliest (search_of input.entry)) }
+        ensures first_matches { IfOk result (MatchesInFirst catches_next self.entry.now.nfa
+            (kind_in self.entry.now) (search_of input.entry).earliest (search_of input.entry)) }
+        ensures next_match { IfOk result (MatchesInNext catches_next self.entry.now.nfa
+            (kind_in self.entry.now) (search_of input.entry).earliest (search_of input.entry)) }
+        ensures all_matches { IfOk result (MatchesInAll catches_next self.entry.now.nfa
+            (kind_in self.entry.now) (search_of input.entry).earliest (search_of input.entry)) }
+        ensures groups { IfOk result (CapturesGroups catches_next self.entry.now.nfa) }
+        ensures inside { IfOk result (CapturesWithin catches_next (search_of input.entry)) }
+        ensures disjoint { IfOk result (CapturesDisjoint catches_next (search_of input.entry)) }
+        // The engines change only by the searches of the steps.
+        ensures searches { IfOk result (CatchesBySearches (search_of input.entry)) }
+        ensures keeps { IfOk result CatchesGiveKept }
+    {
+        let captures = self.create_captures(alloc)?;
+        Ok(self.captures_iter_with(input, captures))
+    }
+
+    /// Returns the same iterator, but searches with the given captures, which must have all groups of this NFA
+    /// ([`Regex::create_captures`]). Does not allocate, and cannot fail.
+    ///
+    /// ```
+    /// // regex of "foo(?<n>[0-9]+)"
+    /// let captures = regex.create_captures(alloc)?;
+    /// let mut last = None;
+    /// for captures in regex.captures_iter_with(Input::new(b"foo1 foo12 foo123"), captures) {
+    ///     last = captures?.get_group_by_name("n");
+    /// }
+    /// assert_eq!(rt; last, Some(Span { start: 14, end: 17 }));
+    /// ```
+    #[inline]
+    pub fn captures_iter_with<'r, 'h>(
+        &'r mut self,
+        input: Input<'h>,
+        captures: Captures,
+    ) -> CapturesMatches<'r, 'h>
+        requires { HasGroups self.old.nfa captures }
+        ensures same_reference { (catches_regex result).ghost_name ≡ self.entry.ghost_name }
+        ensures same_regex { (catches_regex result).now ≡ self.entry.now }
+        ensures iter_state { catches_iter_state result ≡ fresh (search_of input.entry) }
+        ensures going { catches_done result ≡ false }
+        // Each run of calls gives the first captures of the input, and all of them if it goes on to `None`.
+        ensures runs { CapturesRun catches_next (AnswersRow self.entry.now.nfa (kind_in self.entry.now)
+            (search_of input.entry).earliest) (search_of input.entry) result }
+        ensures first { CapturesFirst catches_next (AnswersRow self.entry.now.nfa (kind_in self.entry.now)
+            (search_of input.entry).earliest) (search_of input.entry) result }
+        ensures next { CapturesNext catches_next (AnswersRow self.entry.now.nfa (kind_in self.entry.now)
+            (search_of input.entry).earliest) (search_of input.entry) result }
+        ensures errors { CapturesMemory catches_next result }
+        // If no copy fails, their rows and their matches are those of the input.
+        ensures rows { RowsRun catches_next self.entry.now.nfa (kind_in self.entry.now)
+            (search_of input.entry).earliest (search_of input.entry) result }
+        ensures first_rows { RowsFirst catches_next self.entry.now.nfa (kind_in self.entry.now)
+            (search_of input.entry).earliest (search_of input.entry) result }
+        ensures next_row { RowsNext catches_next self.entry.now.nfa (kind_in self.entry.now)
+            (search_of input.entry).earliest (search_of input.entry) result }
+        ensures all_rows { RowsAll catches_next self.entry.now.nfa (kind_in self.entry.now)
+            (search_of input.entry).earliest (search_of input.entry) result }
+        ensures matches { MatchesInRun catches_next self.entry.now.nfa (kind_in self.entry.now)
+            (search_of input.entry).earliest (search_of input.entry) result }
+        ensures first_matches { MatchesInFirst catches_next self.entry.now.nfa (kind_in self.entry.now)
+            (search_of input.entry).earliest (search_of input.entry) result }
+        ensures next_match { MatchesInNext catches_next self.entry.now.nfa (kind_in self.entry.now)
+            (search_of input.entry).earliest (search_of input.entry) result }
+        ensures all_matches { MatchesInAll catches_next self.entry.now.nfa (kind_in self.entry.now)
+            (search_of input.entry).earliest (search_of input.entry) result }
+        ensures groups { CapturesGroups catches_next self.entry.now.nfa result }
+        ensures inside { CapturesWithin catches_next (search_of input.entry) result }
+        ensures disjoint { CapturesDisjoint catches_next (search_of input.entry) result }
+        // The engines change only by the searches of the steps.
+        ensures searches { CatchesBySearches (search_of input.entry) result }
+        ensures keeps { CatchesGiveKept result }
+    {
+        CapturesMatches::over(self, input, captures)
+    }
+
+    /// Returns the captures of all matches that do not overlap, from left to right, each with all groups of the NFA, as
+    /// [`Regex::captures_iter`] gives them.
+    ///
+    /// The only error is [`SearchError::Memory`]: the list or captures could not be allocated. No search fails.
+    ///
+    /// ```
+    /// // regex of "foo(?<n>[0-9]+)"
+    /// let all = regex.captures_all(alloc, Input::new(b"foo1 foo12 foo123"))?;
+    /// assert_eq!(rt; all.len(), 3);
+    /// let digits = all[2].get_group_by_name("n");
+    /// assert_eq!(rt; digits, Some(Span { start: 14, end: 17 }));
+    /// ```
+    pub fn captures_all(
+        &mut self,
+        alloc: Global,
+        input: Input<'_>,
+    ) -> Result<Vec<Captures>, SearchError>
+        ensures memory { IsOkUnless result SearchError.Memory }
+        ensures rows { IfOk result (λ all. AreRows self.old.nfa (kind_in self.old) (search_of input.entry).earliest
+            (search_of input.entry) (map row_of all.items)) }
+        ensures matches { IfOk result (λ all. AreMatches self.old.nfa (kind_in self.old)
+            (search_of input.entry).earliest (search_of input.entry) (map match_in all.items)) }
+        ensures groups { IfOk result (λ all. All (HasGroups self.old.nfa) all.items) }
+        ensures inside { IfOk result (λ all. All (CapturesInside (search_of input.entry)) all.items) }
+        ensures disjoint { IfOk result (λ all. AreDisjoint (search_of input.entry) None (map match_in all.items)) }
+        ensures keeps { KeepsEngines self.old self.new }
+        // The engines change only by the searches of an iteration. If all captures are returned, these searches go to
+        // its end.
+        ensures searches { RegexCatchesOn (search_of input.entry) self.old self.new }
+        ensures to_end { IfOk result (λ all.
+            RegexCatchesToEnd (search_of input.entry) (map row_of all.items) self.old self.new) }
+    {
+        let catcher = CapturesFinder {
+            captures: self.create_captures(alloc)?,
+        };
+        Steps::new(input, catcher).all_with(alloc, self)
+    }
+}
+
+impl<'r, 'h> CapturesMatches<'r, 'h> {
+    ghost use Rattle.std.specs.Prelude.{◌≡◌, false};
+    ghost use Rattle.regex_search_core.specs.Search.{search_of};
+    ghost use Rattle.nfa_search_base.specs.CapturesGiven.{CapturesGiven};
+    ghost use Rattle.nfa_search_base.specs.CapturesLists.{AnswersRow};
+    ghost use Rattle.nfa_search_base.specs.CapturesRuns.{CapturesMemory};
+    ghost use Rattle.nfa_search_base.specs.IterStates.{fresh};
+    ghost use Rattle.nfa_meta.specs.CapturesMatches.{CatchesBySearches, CatchesGiveKept};
+    ghost use Rattle.nfa_meta.specs.CapturesMatches.{catches_regex, catches_done};
+    ghost use Rattle.nfa_meta.specs.CapturesMatches.{catches_next, catches_iter_state};
+    ghost use Rattle.nfa_choice.specs.ChoiceState.{kind_in};
+
+    // An iterator that searches with these captures.
+    #[inline]
+    fn over(regex: &'r mut Regex, input: Input<'h>, captures: Captures) -> CapturesMatches<'r, 'h>
+        requires { HasGroups regex.old.nfa captures }
+        ensures same_reference { (catches_regex result).ghost_name ≡ regex.entry.ghost_name }
+        ensures same_regex { (catches_regex result).now ≡ regex.entry.now }
+        ensures iter_state { catches_iter_state result ≡ fresh (search_of input.entry) }
+        ensures going { catches_done result ≡ false }
+        ensures given { CapturesGiven catches_next regex.entry.now.nfa (kind_in regex.entry.now)
+            (search_of input.entry).earliest (AnswersRow regex.entry.now.nfa (kind_in regex.entry.now)
+            (search_of input.entry).earliest) (search_of input.entry) result }
+        ensures errors { CapturesMemory catches_next result }
+        ensures searches { CatchesBySearches (search_of input.entry) result }
+        ensures keeps { CatchesGiveKept result }
+    {
+        CapturesMatches {
+            regex,
+            steps: Steps {
+                searcher: Searcher::new(input),
+                backend: CapturesFinder { captures },
+                done: false,
+            },
+        }
+    }
+}
+
+impl FindWith for CapturesFinder {
+    ghost use Rattle.nfa_search_base.specs.WithCaptures.{Row, filled_answer, row_span, GivesCaptures};
+    ghost use Rattle.nfa_meta.specs.CapturesMatches.{AsksRowByWindow, MayCatch};
+
+    type Cache = Regex;
+
+    type Reply = Result<(), SearchError>;
+
+    ghost Value = { Row };
+
+    ghost shows = { λ c reply. filled_answer c.captures reply };
+
+    ghost span = { row_span };
+
+    ghost accepts = { λ s _. MayCatch s };
+
+    type Item = Captures;
+
+    ghost gives = { GivesCaptures };
+
+    ghost asks = { AsksRowByWindow };
+
+    #[inline]
+    fn answer(&mut self, regex: &mut Regex, input: &Input<'_>) -> Result<(), SearchError> {
+        regex.search(input, &mut self.captures);
+        Ok(())
+    }
+
+    #[inline]
+    fn reply_span(&self, reply: Result<(), SearchError>) -> Option<Span> {
+        captures_span(&self.captures, reply)
+    }
+
+    #[inline]
+    fn item(&self, reply: Result<(), SearchError>) -> Option<Result<Captures, SearchError>> {
+        captures_item(&self.captures, reply)
+    }
+}
+
+impl<'r, 'h> Iterator for CapturesMatches<'r, 'h> {
+    ghost use Rattle.nfa_search_base.specs.StepsWith.{steps_with_left};
+    ghost use Rattle.nfa_meta.specs.CapturesMatches.{catches_steps, catches_next};
+
+    type Item = Result<Captures, SearchError>;
+
+    ghost next_gives = { catches_next };
+
+    ghost remaining = { λ s. steps_with_left (catches_steps s) };
+
+    fn next(&mut self) -> Option<Result<Captures, SearchError>> {
+        self.steps.next_with(self.regex)
+    }
+}
