@@ -1,6 +1,9 @@
 mod GoingLemmas
+mod GroupedLemmas
 mod MeantLemmas
 mod NumbersLemmas
 mod PatternLemmas
 mod PrintedLemmas
+mod RecordLemmas
+mod RefusalLemmas
 mod WhichLemmas

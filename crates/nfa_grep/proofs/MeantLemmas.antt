@@ -1,7 +1,7 @@
 -- From the laws on searches of texts to what the patterns find in a line.
 use Rattle.std.proofs.Common.{◌≡◌, ◌∙◌, ℕ, zero, suc, ◌+◌, ◌<◌, Bool, false, inl, inr, List, [], ◌∷◌, length, map}
 use Rattle.std.proofs.Common.{refl, sym, subst, ap, ap₂, add-one, arith}
-use Rattle.std.specs.Prelude.{All, Option, None, Some, is_some, nat_lt, option_map, if◌then◌else◌, ◌==◌}
+use Rattle.std.specs.Prelude.{All, Option, None, Some, is_some, nat_lt, if◌then◌else◌, ◌==◌}
 use Rattle.std.specs.List.{AllZip}
 use Rattle.std.proofs.lemmas.Bool.{cases_Bool, lt-ltb}
 use Rattle.std.proofs.lemmas.List.{length-map}
@@ -13,9 +13,12 @@ use Rattle.regex_search_core.specs.Search.{whole}
 use Rattle.regex_syntax.specs.Captures.{SameCaptures}
 use Rattle.thompson_nfa.specs.Automaton.{Automaton}
 use Rattle.nfa_compiler.specs.AllHits.{all_hits, hit_after, hits_from}
+use Rattle.nfa_compiler.specs.AnyStart.{FindsFromAnyStart}
+use Rattle.nfa_compiler.specs.Compiled.{IsNfaOf}
 use Rattle.nfa_compiler.specs.Laws.{hit}
-use Rattle.nfa_compiler.specs.Patterns.{PatternHit, expected, found_at}
+use Rattle.nfa_compiler.specs.Patterns.{PatternHit, found_at}
 use Rattle.nfa_compiler.proofs.MeantLemmas.{AreAlike, expected-alike}
+use Rattle.nfa_compiler.proofs.UnboundLemmas.{hit-unbound, loses-none}
 use Rattle.nfa_grep.specs.Meant.{all_found, hit_from, is_found}
 
 -- something is found exactly if there are hits
@@ -45,23 +48,21 @@ module _ (res : List Re) (text : List ℕ) where
   found-if-any ms any all is =
       is ∙ ap (nat_lt 0) (sym (length-map ms found_of) ∙ ap length all) ∙ sym found-is
 
-same-is_some : {A B : Type 0} (f : A → B) (o : Option A) → is_some (option_map f o) ≡ is_some o
-same-is_some f None = refl
-same-is_some f (Some x) = refl
+module _ (res : List Re) (nfa : Automaton) (text : List ℕ) (made : IsNfaOf res nfa) (free : FindsFromAnyStart nfa) where
+  -- the hit from each place on is that of a search that is not bound to it
+  same-from : (i : ℕ) → hit res nfa (record (whole text) { start = i }) ≡ hit_from res text i
+  same-from i = hit-unbound res nfa (record (whole text) { start = i }) refl (loses-none res nfa made free text)
 
-module _ (res : List Re) (nfa : Automaton) (text : List ℕ) (free : (nfa.anchored == nfa.unanchored) ≡ false) where
-  -- a search that answers the hit's pattern finds something exactly if there is a hit
-  pub found-of-answer : {A : Type 0} (number : A → ℕ) (o : Option A)
-      → option_map number o ≡ option_map (λ (h : PatternHit). h.pattern) (hit res nfa (whole text))
-      → is_some o ≡ is_found res text
-  found-of-answer number o e =
-      sym (same-is_some number o) ∙ ap is_some e ∙ same-is_some _ (hit res nfa (whole text))
-      ∙ ap (λ (b : Bool). is_some (expected res b (whole text))) free
+  -- the NFA has a hit exactly if the patterns do
+  pub found-of-hit : is_some (hit res nfa (whole text)) ≡ is_found res text
+  found-of-hit = ap is_some (same-from 0)
 
   -- the hits of the NFA are those of the patterns
   pub found-of-hits : (ms : List Found) → ms ≡ map found_at (all_hits res nfa (whole text)) → ms ≡ all_found res text
-  found-of-hits ms e = e ∙ ap (λ (b : Bool). map found_at (hits_from
-      (λ i. expected res b (record (whole text) { start = i })) (length text + 1) (expected res b (whole text)))) free
+  found-of-hits ms e =
+      let all : (λ i. hit res nfa (record (whole text) { start = i })) ≡ hit_from res text = λ t i. same-from i t in
+      e ∙ ap₂ (λ (from : ℕ → Option PatternHit) (first : Option PatternHit). map found_at
+      (hits_from from (length text + 1) first)) all (same-from 0)
 
 -- what a caller cannot tell apart
 

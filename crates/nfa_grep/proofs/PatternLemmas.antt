@@ -4,7 +4,7 @@ use Rattle.std.specs.Prelude.{MatchOption, None, Option, Some}
 use Rattle.std.specs.List.{AllZip}
 use Rattle.regex_hir.specs.Meaning.{meaning}
 use Rattle.regex_hir.specs.Re.{Re, look}
-use Rattle.regex_hir.specs.declared.look.Look.TheVariants.{Start, End, WordStartHalfUnicode, WordEndHalfUnicode}
+use Rattle.regex_hir.specs.declared.look.Look.TheVariants.{Start, WordStartHalfUnicode}
 use Rattle.regex_syntax.proofs.CapturesLemmas.{alike_cat, alike_refl}
 use Rattle.regex_syntax.specs.Captures.{SameCaptures}
 use Rattle.regex_syntax.specs.declared.Config.{Config}

@@ -8,9 +8,8 @@ use Rattle.std.proofs.lemmas.List.{length-map, map-append}
 use Rattle.regex_hir.specs.Re.{Re}
 use Rattle.regex_search_core.specs.Found.{Found, found_of}
 use Rattle.regex_search_core.specs.declared.search.Match.{Match}
-use Rattle.nfa_grep.specs.Meant.{all_found, is_found}
-use Rattle.text_lines.specs.Lines.{content}
-use Rattle.nfa_grep.specs.Printed.{comma, mark_of, pieces, shown}
+use Rattle.nfa_grep.specs.Meant.{is_found}
+use Rattle.nfa_grep.specs.Printed.{colon, comma, mark_of, pieces, shown_if_selected, shown_matches, text_of}
 use Rattle.nfa_grep.specs.declared.options.Options.{Options}
 use Rattle.nfa_grep.proofs.MeantLemmas.{all-none}
 
@@ -20,15 +19,15 @@ flat-of-found f [] = refl
 flat-of-found f (m ∷ ms) = ap (λ l. f (found_of m) ++ l) (flat-of-found f ms)
 
 -- with `only`, a line without matches gives nothing, as if it had been selected
-pub shown-matches : (options : Options) (res : List Re) (label : List ℕ) (number offset : ℕ) (line : List ℕ)
-    → options.only ≡ true → options.inverted ≡ false → options.count ≡ false
-    → shown options res label number offset line
-    ≡ pieces options (label ++ mark_of options res line) number offset line (all_found res (content line))
-shown-matches options res label number offset line only straight printed =
-    let all = pieces options (label ++ mark_of options res line) number offset line in
-    rw (printed, only, straight) (elim (cases_Bool (is_found res (content line))) [
+pub shown-matches : (options : Options) (res : List Re) (name : List ℕ) (number offset : ℕ) (line : List ℕ)
+    → options.only ≡ true → options.inverted ≡ false
+    → shown_if_selected options res name number offset line
+    ≡ shown_matches options colon res name number offset line
+shown-matches options res name number offset line only straight =
+    let all = pieces options colon name (mark_of options colon res line) number offset line in
+    rw (only, straight) (elim (cases_Bool (is_found res (text_of options line))) [
       | inl found ↦ rw found refl
-      | inr none ↦ rw none (sym (ap all (all-none res (content line) none)))
+      | inr none ↦ rw none (sym (ap all (all-none res (text_of options line) none)))
     ])
 
 -- one more piece

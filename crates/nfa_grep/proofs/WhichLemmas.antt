@@ -1,6 +1,6 @@
 -- From the law on sets of patterns to which patterns match in a line.
 use Rattle.std.proofs.Common.{◌≡◌, ℕ, zero, suc, ◌<◌, ◌⊎◌, inr, ⊎_elim, Bool, true, false, List, length}
-use Rattle.std.proofs.Common.{subst, sym, arith}
+use Rattle.std.proofs.Common.{refl, subst, arith}
 use Rattle.std.specs.Prelude.{◌↔◌, ◌==◌, replicate}
 use Rattle.std.proofs.lemmas.List.{length-replicate}
 use Rattle.regex_hir.specs.Re.{Re}
@@ -9,8 +9,10 @@ use Rattle.regex_search_core.specs.declared.search.MatchKind.{MatchKind}
 use Rattle.regex_search_core.specs.declared.search.MatchKind.TheVariants.{All}
 use Rattle.nfa_engines.specs.Automaton.{Automaton}
 use Rattle.nfa_engines.specs.Overlaps.{HoldsPattern, IsOverlapResult}
+use Rattle.nfa_compiler.specs.AnyStart.{FindsFromAnyStart}
 use Rattle.nfa_compiler.specs.Compiled.{IsNfaOf}
 use Rattle.nfa_compiler.specs.KindLaws.{PatternMatches}
+use Rattle.nfa_compiler.proofs.UnboundLemmas.{loses-none, matches-unbound}
 
 -- a set of `All` that is not asked for the earliest match
 pub as-all : (nfa : Automaton) (x y : Search) (kind : MatchKind) (b : Bool) (old new : List Bool) → x ≡ y → kind ≡ All
@@ -30,15 +32,16 @@ none-held (suc n) (suc k) e = none-held n k e
 
 -- an empty set with room for each pattern comes to hold those that match
 pub held : (res : List Re) (nfa : Automaton) (text : List ℕ) → IsNfaOf res nfa
-    → (nfa.anchored == nfa.unanchored) ≡ false → (n : ℕ) → n ≡ length nfa.patterns → (new : List Bool) (k : ℕ)
+    → FindsFromAnyStart nfa → (n : ℕ) → n ≡ length nfa.patterns → (new : List Bool) (k : ℕ)
     → (HoldsPattern new k ↔ (HoldsPattern (replicate n false) k ⊎ ((k < length (replicate n false))
     × PatternMatches res (nfa.anchored == nfa.unanchored) (whole text) k)))
     → HoldsPattern new k ↔ PatternMatches res false (whole text) k
 held res nfa text made free n room new k h = (
   (λ there. ⊎_elim (λ bad. absurd (none-held n k bad))
-      (λ found. subst (λ (b : Bool). PatternMatches res b (whole text) k) free found.1) (h.0 there)),
+      (λ found. (matches-unbound res nfa (whole text) k refl (loses-none res nfa made free text)).0 found.1)
+      (h.0 there)),
   λ found. h.1 (inr (
     omega (arith, found.known, made.patterns, room, length-replicate n false),
-    subst (λ (b : Bool). PatternMatches res b (whole text) k) (sym free) found,
+    (matches-unbound res nfa (whole text) k refl (loses-none res nfa made free text)).1 found,
   )),
 )

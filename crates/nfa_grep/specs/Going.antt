@@ -1,37 +1,86 @@
--- A search of an input that is under way.
-use Rattle.std.specs.Prelude.{◌≡◌, ℕ, ◌+◌, List, ◌++◌, Option, Some, IfSome}
+-- A search of an input that is under way, and one that has ended.
+use Rattle.std.specs.Prelude.{◌≡◌, ℕ, ◌+◌, ◌-◌, ◌≤◌, ◌⊎◌, Bool, true, false, List, [], ◌++◌, Option, Some, IfSome, length, map}
+use Rattle.std.specs.List.{concat}
 use Rattle.std.specs.Io.KnownBytes.{Appends}
 use Rattle.regex_hir.specs.Re.{Re}
-use Rattle.text_lines.specs.Lines.{lines_of}
-use Rattle.nfa_grep.specs.Printed.{output, printed, printed_lines, selected_count}
+use Rattle.text_lines.specs.Lines.{records_of}
+use Rattle.nfa_grep.specs.Grouped.{Item, context_of, grouped}
+use Rattle.nfa_grep.specs.Printed.{items, limit_of, output, printed, read, read_in, searched_in, selected_count}
+use Rattle.nfa_grep.specs.declared.groups.Groups.{Groups}
+use Rattle.nfa_grep.specs.declared.options.Context.{Context}
 use Rattle.nfa_grep.specs.declared.options.Options.{Options}
+use Rattle.nfa_grep.specs.declared.options.Report.{Report}
 
-module _ (options : Options) (res : List Re) (label : List ℕ) where
+-- the reader has what comes after these lines of the text, and so it has not read beyond them
+pub record StopsAfter (text : List ℕ) (lines : List (List ℕ)) (input : Option (List ℕ)) : Type 0 where
+  pub rest : List ℕ
+  pub rest_is : input ≡ Some rest
+  pub text_is : text ≡ concat lines ++ rest
+
+-- the lines that are kept, none of which is selected
+abbrev pub kept_items : List (List ℕ) → List Item
+kept_items texts = map (λ text. record { selected = false; text = text }) texts
+
+abbrev pub kept_texts : Groups → List (List ℕ)
+kept_texts groups = map (λ text. text.items) groups.kept.items
+
+-- what is still printed if these lines come next
+abbrev pub printed_later : Groups → List Item → List ℕ
+printed_later groups later =
+    grouped groups.context groups.used groups.gap groups.left (kept_items (kept_texts groups) ++ later)
+
+-- No more lines are kept than are printed before one that is selected, and none while lines are printed after one.
+-- Without lines to print there is nothing to keep.
+pub record IsInOrder (groups : Groups) : Type 0 where
+  pub within : length (kept_texts groups) ≤ groups.context.before
+  pub printing : (groups.left ≡ 0) ⊎ ((kept_texts groups ≡ []) × (groups.used ≡ true) × (groups.gap ≡ false))
+  pub unwanted : groups.wanted ≡ false → (groups.context.before ≡ 0) × (groups.context.after ≡ 0) × (groups.left ≡ 0)
+
+module _ (wanted : Bool) (options : Options) (res : List Re) (name : List ℕ) (context : Context) (used : Bool)
+    (limit : ℕ) where
   -- The bytes that are left to read are known. What was written, and what is printed of the lines that are left, is
   -- what is printed of the text. The lines that were selected, and those that are left to select, are as many as those
-  -- of the text.
-  pub record IsGoing (text : List ℕ) (input out-before out : Option (List ℕ)) (number offset count : ℕ) : Type 0 where
+  -- of the text. The bytes that were read are those of the lines that were read.
+  pub record IsGoing (text : List ℕ) (input out-before out : Option (List ℕ)) (number offset count : ℕ)
+      (groups : Groups) : Type 0 where
     pub rest : List ℕ
     pub rest_is : input ≡ Some rest
     pub written : List ℕ
     pub writes : Appends out-before out written
-    pub printed_is : printed_lines options res label text
-        ≡ written ++ printed options res label number offset (lines_of rest)
-    pub count_is : selected_count options res text ≡ count + selected_count options res rest
+    pub taken : List ℕ
+    pub text_is : text ≡ taken ++ rest
+    pub printed_is : printed wanted options res name context used limit text ≡ written
+        ++ printed_later groups (items wanted options res name (limit - count) number offset
+        (records_of options.end rest))
+    pub count_is : selected_count options res (searched_in options res limit text)
+        ≡ count + selected_count options res (searched_in options res (limit - count) rest)
+    pub read_is : concat (read_in options res context limit text)
+        ≡ taken ++ concat (read options res context (limit - count) groups.left (records_of options.end rest))
 
   -- the same, if the bytes of the reader were known at first
-  abbrev pub HasPrinted : Option (List ℕ) → Option (List ℕ) → Option (List ℕ) → Option (List ℕ) → ℕ → ℕ → ℕ → Type 0
-  HasPrinted input-before input out-before out number offset count =
-      IfSome input-before (λ text. IsGoing text input out-before out number offset count)
+  abbrev pub HasPrinted : Option (List ℕ) → Option (List ℕ) → Option (List ℕ) → Option (List ℕ) → ℕ → ℕ → ℕ → Groups
+      → Type 0
+  HasPrinted input-before input out-before out number offset count groups =
+      IfSome input-before (λ text. IsGoing text input out-before out number offset count groups)
 
-  -- the lines of the text were printed, and `count` of them are selected
-  abbrev pub PrintsLines : Option (List ℕ) → Option (List ℕ) → Option (List ℕ) → ℕ → Type 0
-  PrintsLines input out-before out count =
-      IfSome input (λ text. Appends out-before out (printed_lines options res label text)
-      × (count ≡ selected_count options res text))
+  -- the lines of the text that are to be printed were printed, and `count` of those that were searched are selected
+  abbrev pub PrintsLines : Option (List ℕ) → Option (List ℕ) → Option (List ℕ) → Option (List ℕ) → ℕ → Type 0
+  PrintsLines input-before input out-before out count =
+      IfSome input-before (λ text.
+      Appends out-before out (printed wanted options res name context used limit text)
+      × (count ≡ selected_count options res (searched_in options res limit text))
+      × StopsAfter text (read_in options res context limit text) input)
 
-  -- what is to be printed of the text was printed, and `count` of its lines are selected
+module _ (report : Report) (options : Options) (res : List Re) (name : List ℕ) (context : Context) (used : Bool)
+    (limit : ℕ) where
+  -- what is to be printed of the text was printed, and `count` of the lines that were searched are selected
   abbrev pub PrintsOutput : Option (List ℕ) → Option (List ℕ) → Option (List ℕ) → ℕ → Type 0
   PrintsOutput input out-before out count =
-      IfSome input (λ text. Appends out-before out (output options res label text)
-      × (count ≡ selected_count options res text))
+      IfSome input (λ text. Appends out-before out (output report options res name context used limit text)
+      × (count ≡ selected_count options res (searched_in options res (limit_of report limit) text)))
+
+module _ (report : Report) (options : Options) (res : List Re) (context : Context) (limit : ℕ) where
+  -- nothing was read after the line with which the limit is reached, and after those that are printed because of it
+  abbrev pub StopsInTime : Option (List ℕ) → Option (List ℕ) → Type 0
+  StopsInTime input-before input = IfSome input-before (λ text.
+      StopsAfter text (read_in options res (context_of report context) (limit_of report limit) text) input)

@@ -1,3 +1,6 @@
 pub mod Going
+pub mod Grouped
 pub mod Meant
 pub mod Printed
+pub mod Refusals
+pub mod Texts

@@ -1,86 +1,180 @@
 -- What is printed of the lines of an input.
-use Rattle.std.specs.Prelude.{ℕ, ◌+◌, Bool, not, ◌||◌, List, [], ◌∷◌, ◌++◌, length, map, decimal}
-use Rattle.std.specs.Prelude.{if◌then◌else◌, ◌==◌, slice_range}
+use Rattle.std.specs.Prelude.{ℕ, ◌+◌, ◌-◌, Bool, true, false, not, ◌&&◌, List, [], ◌∷◌, ◌++◌, length, map}
+use Rattle.std.specs.Prelude.{decimal, min, if◌then◌else◌, ◌==◌, slice_range}
 use Rattle.std.specs.List.{count_by, flat_map, join_with_byte}
 use Rattle.regex_hir.specs.Re.{Re}
 use Rattle.regex_search_core.specs.Found.{Found}
-use Rattle.text_lines.specs.Lines.{content, line_feed, lines_of, with_feed}
+use Rattle.text_lines.specs.Lines.{line_feed, record_content, records_of, with_end}
+use Rattle.nfa_grep.specs.Grouped.{Item, context_of, grouped, left_after}
 use Rattle.nfa_grep.specs.Meant.{all_found, is_found, numbers_found}
+use Rattle.nfa_grep.specs.declared.options.Context.{Context}
 use Rattle.nfa_grep.specs.declared.options.Options.{Options}
+use Rattle.nfa_grep.specs.declared.options.Report.{Report}
+use Rattle.nfa_grep.specs.declared.options.Report.TheVariants.{Lines, Count, With, Without, Nothing}
 
--- the colon and the comma
+-- the colon, the hyphen and the comma
 abbrev pub colon : ℕ
 colon = 58
+
+abbrev pub hyphen : ℕ
+hyphen = 45
 
 abbrev pub comma : ℕ
 comma = 44
 
--- the number and a colon, if it is wanted
-abbrev pub numbered : Bool → ℕ → List ℕ
-numbered wanted n = if wanted then (decimal n ++ colon ∷ []) else []
+-- what comes after each label of a line: a hyphen if it is printed because of a line near it
+abbrev pub mark_end : Bool → ℕ
+mark_end selected = if selected then colon else hyphen
 
--- the numbers, with commas between them, and a colon
-abbrev pub number_list : List ℕ → List ℕ
-number_list numbers = join_with_byte comma (map decimal numbers) ++ colon ∷ []
+-- the name of the input and this byte, if it is wanted
+abbrev pub label_of : Options → ℕ → List ℕ → List ℕ
+label_of options end name = if options.named then (name ++ end ∷ []) else []
+
+-- the number and this byte, if it is wanted
+abbrev pub numbered : Bool → ℕ → ℕ → List ℕ
+numbered wanted end n = if wanted then (decimal n ++ end ∷ []) else []
+
+-- the numbers, with commas between them, and this byte
+abbrev pub number_list : ℕ → List ℕ → List ℕ
+number_list end numbers = join_with_byte comma (map decimal numbers) ++ end ∷ []
+
+-- a line without its end
+abbrev pub text_of : Options → List ℕ → List ℕ
+text_of options line = record_content options.end line
 
 -- what comes after the label of a line: the numbers of the patterns that match in its text, if they are wanted
-abbrev pub mark_of : Options → List Re → List ℕ → List ℕ
-mark_of options res line = if options.which then number_list (numbers_found res (content line)) else []
+abbrev pub mark_of : Options → ℕ → List Re → List ℕ → List ℕ
+mark_of options end res line =
+    if options.which then number_list end (numbers_found res (text_of options line)) else []
 
 -- what comes before a line or a match
-abbrev pub head : Options → List ℕ → ℕ → ℕ → List ℕ
-head options label number offset =
-    label ++ (numbered options.numbers number ++ numbered options.offsets offset)
+abbrev pub head : Options → ℕ → List ℕ → List ℕ → ℕ → ℕ → List ℕ
+head options end name mark number offset =
+    label_of options end name ++ (mark ++ (numbered options.numbers end number ++ numbered options.offsets end offset))
 
 -- what is printed of a match: nothing of an empty one
-abbrev pub piece : Options → List ℕ → ℕ → ℕ → List ℕ → Found → List ℕ
-piece options label number offset line m =
+abbrev pub piece : Options → ℕ → List ℕ → List ℕ → ℕ → ℕ → List ℕ → Found → List ℕ
+piece options end name mark number offset line m =
     if m.start == m.end then []
-    else (head options label number (offset + m.start) ++ (slice_range line m.start m.end ++ line_feed ∷ []))
+    else (head options end name mark number (offset + m.start)
+    ++ (slice_range line m.start m.end ++ options.end ∷ []))
 
 -- what is printed of these matches, in order
-abbrev pub pieces : Options → List ℕ → ℕ → ℕ → List ℕ → List Found → List ℕ
-pieces options label number offset line ms = flat_map (piece options label number offset line) ms
+abbrev pub pieces : Options → ℕ → List ℕ → List ℕ → ℕ → ℕ → List ℕ → List Found → List ℕ
+pieces options end name mark number offset line ms = flat_map (piece options end name mark number offset line) ms
 
 -- whether the line is selected
 abbrev pub is_selected : Options → List Re → List ℕ → Bool
 is_selected options res line =
-    if options.inverted then not (is_found res (content line)) else is_found res (content line)
+    if options.inverted then not (is_found res (text_of options line)) else is_found res (text_of options line)
 
--- what is printed of a line that is selected
-abbrev pub shown_selected : Options → List Re → List ℕ → ℕ → ℕ → List ℕ → List ℕ
-shown_selected options res label number offset line =
+-- what is printed of the matches in a line
+abbrev pub shown_matches : Options → ℕ → List Re → List ℕ → ℕ → ℕ → List ℕ → List ℕ
+shown_matches options end res name number offset line =
+    pieces options end name (mark_of options end res line) number offset line (all_found res (text_of options line))
+
+-- what is printed of a whole line
+abbrev pub shown_whole : Options → ℕ → List Re → List ℕ → ℕ → ℕ → List ℕ → List ℕ
+shown_whole options end res name number offset line =
+    head options end name (mark_of options end res line) number offset ++ with_end options.end line
+
+-- What is printed of a line that is printed, which may be selected. With `only`, matches are printed of lines that are
+-- selected, and if these are the lines without a match, of the others.
+abbrev pub shown : Options → List Re → List ℕ → ℕ → ℕ → Bool → List ℕ → List ℕ
+shown options res name number offset selected line =
     if options.only
-    then (if options.inverted then []
-    else pieces options label number offset line (all_found res (content line)))
-    else (head options label number offset ++ with_feed line)
+    then (if (if options.inverted then not selected else selected)
+    then shown_matches options (mark_end selected) res name number offset line else [])
+    else shown_whole options (mark_end selected) res name number offset line
 
--- what is printed of a line, with the numbers of the patterns that match in it after the label
-abbrev pub shown : Options → List Re → List ℕ → ℕ → ℕ → List ℕ → List ℕ
-shown options res label number offset line =
-    if options.count || not (is_selected options res line) then []
-    else shown_selected options res (label ++ mark_of options res line) number offset line
+-- what is printed of a line because it is selected
+abbrev pub shown_if_selected : Options → List Re → List ℕ → ℕ → ℕ → List ℕ → List ℕ
+shown_if_selected options res name number offset line =
+    if is_selected options res line then shown options res name number offset true line else []
 
--- what is printed of these lines: the first one has this number and starts at this offset
-unfoldable pub printed : Options → List Re → List ℕ → ℕ → ℕ → List (List ℕ) → List ℕ
-printed options res label number offset [] = []
-printed options res label number offset (line ∷ lines) =
-    shown options res label number offset line ++ printed options res label (number + 1) (offset + length line) lines
+-- whether selected lines are printed
+abbrev pub shows : Report → Bool
+shows Lines = true
+shows _ = false
 
--- how many lines of a text are selected
-abbrev pub selected_count : Options → List Re → List ℕ → ℕ
-selected_count options res text = count_by (is_selected options res) (lines_of text)
+-- after how many selected lines a search ends that would end after this number: after one, if only it matters
+abbrev pub limit_of : Report → ℕ → ℕ
+limit_of Lines limit = limit
+limit_of Count limit = limit
+limit_of _ limit = min limit 1
 
--- what is printed of the lines of a text
-abbrev pub printed_lines : Options → List Re → List ℕ → List ℕ → List ℕ
-printed_lines options res label text = printed options res label 1 0 (lines_of text)
+-- the lines of these that are searched: up to the selected line with which the limit is reached
+unfoldable pub searched : Options → List Re → ℕ → List (List ℕ) → List (List ℕ)
+searched options res limit [] = []
+searched options res limit (line ∷ lines) =
+    if limit == 0 then []
+    else (line ∷ searched options res (limit - (if is_selected options res line then 1 else 0)) lines)
+
+-- whether the line is selected, if at most `limit` more lines may be selected
+abbrev pub is_picked : Options → List Re → ℕ → List ℕ → Bool
+is_picked options res limit line = if limit == 0 then false else is_selected options res line
+
+-- the number of lines that may still be selected after a line
+abbrev pub fewer : ℕ → Bool → ℕ
+fewer limit selected = limit - (if selected then 1 else 0)
+
+-- a line and what is printed of it
+abbrev pub item_of : Bool → Options → List Re → List ℕ → ℕ → ℕ → Bool → List ℕ → Item
+item_of wanted options res name number offset selected line =
+    record { selected = selected; text = if wanted then shown options res name number offset selected line else [] }
+
+-- these lines, and what is printed of each: the first one has this number and starts at this offset
+unfoldable pub items : Bool → Options → List Re → List ℕ → ℕ → ℕ → ℕ → List (List ℕ) → List Item
+items wanted options res name limit number offset [] = []
+items wanted options res name limit number offset (line ∷ lines) =
+    item_of wanted options res name number offset (is_picked options res limit line) line
+    ∷ items wanted options res name (fewer limit (is_picked options res limit line)) (number + 1)
+    (offset + length line) lines
+
+-- The lines of these that are read. After the selected line with which the limit is reached only those are that are
+-- printed because of it.
+unfoldable pub read : Options → List Re → Context → ℕ → ℕ → List (List ℕ) → List (List ℕ)
+read options res context limit left [] = []
+read options res context limit left (line ∷ lines) =
+    if (limit == 0) && (left == 0) then []
+    else (line ∷ read options res context (fewer limit (is_picked options res limit line))
+    (left_after context left (is_picked options res limit line)) lines)
+
+-- the number of these lines that are selected
+abbrev pub selected_count : Options → List Re → List (List ℕ) → ℕ
+selected_count options res lines = count_by (is_selected options res) lines
+
+-- the lines of a text that are searched, and those that are read
+abbrev pub searched_in : Options → List Re → ℕ → List ℕ → List (List ℕ)
+searched_in options res limit text = searched options res limit (records_of options.end text)
+
+abbrev pub read_in : Options → List Re → Context → ℕ → List ℕ → List (List ℕ)
+read_in options res context limit text = read options res context limit 0 (records_of options.end text)
+
+-- What is printed of the lines of a text: of those that are selected, up to the limit, and of those around them. `used`
+-- says that some line of another text was printed before.
+abbrev pub printed : Bool → Options → List Re → List ℕ → Context → Bool → ℕ → List ℕ → List ℕ
+printed wanted options res name context used limit text =
+    grouped context used true 0 (items wanted options res name limit 1 0 (records_of options.end text))
+
+-- the name of the input, as a line
+abbrev pub name_line : List ℕ → List ℕ
+name_line name = name ++ line_feed ∷ []
 
 -- the number of the selected lines, as a line
-abbrev pub count_line : List ℕ → ℕ → List ℕ
-count_line label count = label ++ (decimal count ++ line_feed ∷ [])
+abbrev pub count_line : Options → List ℕ → ℕ → List ℕ
+count_line options name count = label_of options colon name ++ (decimal count ++ line_feed ∷ [])
+
+-- what is printed after the lines of an input, of which `count` are selected
+abbrev pub summary : Report → Options → List ℕ → ℕ → List ℕ
+summary Lines options name count = []
+summary Count options name count = count_line options name count
+summary With options name count = if count == 0 then [] else name_line name
+summary Without options name count = if count == 0 then name_line name else []
+summary Nothing options name count = []
 
 -- all that is printed of a text
-abbrev pub output : Options → List Re → List ℕ → List ℕ → List ℕ
-output options res label text =
-    printed_lines options res label text
-    ++ (if options.count then count_line label (selected_count options res text) else [])
+abbrev pub output : Report → Options → List Re → List ℕ → Context → Bool → ℕ → List ℕ → List ℕ
+output report options res name context used limit text =
+    printed (shows report) options res name (context_of report context) used (limit_of report limit) text
+    ++ summary report options name (selected_count options res (searched_in options res (limit_of report limit) text))

@@ -1,17 +1,18 @@
 //! What the arguments of the command line ask for.
-use crate::options::{Bounds, Options};
-use anyhow::Result;
+use crate::fault::Fault;
+use crate::flags::with_flags;
+use crate::options::{Bounds, Context, Options, Report};
 use clap::{Arg, ArgAction, ArgMatches, Error};
-use option_values::{Valued, split_values};
 use std::alloc::{AllocError, Global};
 
 /// How the program is called.
-const USAGE: &str = "nfa_grep [OPTIONS] [-e PATTERN].. [PATTERN] [FILE]..";
+const USAGE: &str = "nfa_grep [OPTIONS] [-e PATTERN].. [-f FILE].. [PATTERN] [FILE]..";
 
 /// What the help says below the options.
 const AFTER: &str = "\
-Without -e, the first argument is the pattern. Without a file, or for the file -, standard input is searched.
+Without -e and -f, the first argument is the pattern. Without a file, or for the file -, standard input is searched.
 A line is of any bytes. It ends at a line feed, and a carriage return before the line feed belongs to the end.
+Of a file that is not text, which has a byte 0 in what is read first, no lines are printed without -a.
 
 Status: 0 if a line was selected, 1 if none was, 2 after an error.";
 
@@ -19,7 +20,26 @@ Status: 0 if a line was selected, 1 if none was, 2 after an error.";
 #[derive(Drop)]
 pub struct Arguments<'w> {
     pub options: Options,
+    /// What is printed of each file.
+    pub report: Report,
+    /// The search of a file ends after this many selected lines.
+    pub limit: u64,
+    /// Which lines around a selected one are printed.
+    pub context: Context,
+    /// Lines are printed also of files that are not text.
+    pub text: bool,
+    /// Folders are searched, with all in them.
+    pub recursive: bool,
+    /// The names of inputs are not printed.
+    pub unnamed: bool,
+    /// Files that cannot be read are not named.
+    pub silent: bool,
+    /// Each line is written at once.
+    pub line_buffered: bool,
+    /// The patterns, one on each line of these.
     pub patterns: Vec<&'w str>,
+    /// The files with more patterns, one on each line.
+    pub pattern_files: Vec<&'w str>,
     pub files: Vec<&'w str>,
 }
 
@@ -32,98 +52,91 @@ pub enum Command<'w> {
     Say(Error),
 }
 
-/// Splits the arguments, so that a pattern that is attached to `-e` is an argument of its own, with each of its bytes.
-pub fn split<'w>(alloc: Global, words: &[&'w str]) -> Result<Vec<&'w str>, AllocError> {
-    let regexp = Valued {
-        letter: 'e',
-        short: "-e",
-        long: "--regexp",
-    };
-    split_values(alloc, regexp, words)
-}
-
-/// Reads the split arguments, the first of which is the name of the program. The only error is that allocation failed.
-pub fn parse<'w>(alloc: Global, words: &'w [&'w str]) -> Result<Command<'w>> {
+/// Reads the split arguments, the first of which is the name of the program. Fails if the value of `-m` is not a
+/// number, or if allocation failed.
+pub fn parse<'w>(alloc: Global, words: &'w [&'w str]) -> Result<Command<'w>, Fault> {
     let command = clap::Command::new(alloc, "nfa_grep")
         .about("Prints the lines in which a pattern matches.")
         .override_usage(USAGE)
         .after_help(AFTER)
+        // -h has a meaning of its own.
+        .disable_help_flag(true)
         // An option may be given several times.
         .args_override_self(true);
-    let command = with_patterns(alloc, command)?;
-    let command = with_output(alloc, command)?.arg(words_argument(alloc)?)?;
+    let command = with_flags(alloc, command)?.arg(words_argument(alloc)?)?;
     match command.try_get_matches_from(words) {
         Ok(matches) => Ok(Command::Search(read_matches(alloc, &matches)?)),
         Err(error) => Ok(Command::Say(error)),
     }
 }
 
-/// Adds the options that say which lines are selected.
-fn with_patterns<'w>(
-    alloc: Global,
-    command: clap::Command<'w>,
-) -> Result<clap::Command<'w>, AllocError> {
-    command
-        .arg(
-            Arg::new(alloc, "regexp")
-                .short('e')
-                .long("regexp")
-                .action(ArgAction::Append)
-                // A pattern may begin with a hyphen.
-                .allow_hyphen_values(true)
-                .value_name("PATTERN")
-                .help("Search for this pattern; may be given several times"),
-        )?
-        .arg(flag(alloc, "extended-regexp", 'E').help(
-            "Change nothing: patterns have the syntax of the crate regex",
-        ))?
-        .arg(flag(alloc, "fixed-strings", 'F').help("Search for the patterns as texts"))?
-        .arg(flag(alloc, "ignore-case", 'i').help("Find letters in upper and in lower case"))?
-        .arg(flag(alloc, "word-regexp", 'w').help(
-            "Find only matches with no letter, digit or underscore next to them",
-        ))?
-        .arg(flag(alloc, "line-regexp", 'x').help("Find only matches that are whole lines"))?
-        .arg(flag(alloc, "invert-match", 'v').help("Select the lines in which no pattern matches"))
-}
-
-/// Adds the options that say what is printed.
-fn with_output<'w>(
-    alloc: Global,
-    command: clap::Command<'w>,
-) -> Result<clap::Command<'w>, AllocError> {
-    command
-        .arg(flag(alloc, "count", 'c').help("Print only the number of selected lines"))?
-        .arg(flag(alloc, "only-matching", 'o').help(
-            "Print each match that is not empty on a line of its own",
-        ))?
-        .arg(flag(alloc, "line-number", 'n').help("Print the number of the line, from 1"))?
-        .arg(flag(alloc, "byte-offset", 'b').help(
-            "Print the offset in bytes of the line, with -o of the match",
-        ))?
-        .arg(
-            Arg::new(alloc, "which")
-                .long("which")
-                .action(ArgAction::SetTrue)
-                .help("Print the numbers, from 0, of the patterns that match in the line"),
-        )
-}
-
-/// An option without a value, of this name and this letter.
-fn flag<'w>(alloc: Global, name: &'w str, letter: char) -> Arg<'w> {
-    Arg::new(alloc, name)
-        .short(letter)
-        .long(name)
-        .action(ArgAction::SetTrue)
-}
-
-/// The arguments that belong to no option: the pattern if there is no `-e`, and the files.
+/// The arguments that belong to no option: the pattern if there is no `-e` and no `-f`, and the files.
 fn words_argument<'w>(alloc: Global) -> Result<Arg<'w>, AllocError> {
     Arg::new(alloc, "words")
         .action(ArgAction::Append)
         .num_args(0..)
         .value_name("PATTERN|FILE")
-        .help("The pattern, unless -e is given, and the files")
-        .required_unless_present("regexp")
+        .help("The pattern, unless -e or -f is given, and the files")
+        .required_unless_present("regexp")?
+        .required_unless_present("file")
+}
+
+fn read_matches<'w>(alloc: Global, matches: &ArgMatches<'w>) -> Result<Arguments<'w>, Fault> {
+    let mut patterns = strs_of(alloc, matches, "regexp")?;
+    let pattern_files = strs_of(alloc, matches, "file")?;
+    let mut files = strs_of(alloc, matches, "words")?;
+    // Without -e and -f, the first argument is the pattern.
+    if patterns.is_empty() && pattern_files.is_empty() && !files.is_empty() {
+        patterns.push(files.remove(0))?;
+    }
+    Ok(Arguments {
+        options: options_of(matches, files.len() > 1),
+        report: report_of(matches),
+        limit: limit_of(matches.get_str("max-count"))?,
+        context: context_of(matches)?,
+        recursive: matches.get_flag("recursive"),
+        unnamed: matches.get_flag("no-filename"),
+        text: matches.get_flag("text"),
+        silent: matches.get_flag("no-messages"),
+        line_buffered: matches.get_flag("line-buffered"),
+        patterns,
+        pattern_files,
+        files,
+    })
+}
+
+/// Returns the values of the option of this name.
+fn strs_of<'w>(
+    alloc: Global,
+    matches: &ArgMatches<'w>,
+    name: &str,
+) -> Result<Vec<&'w str>, AllocError> {
+    let mut values = Vec::new(alloc);
+    if let Some(given) = matches.get_strs(name) {
+        values.extend_from_slice(given)?;
+    }
+    Ok(values)
+}
+
+fn options_of(matches: &ArgMatches<'_>, several: bool) -> Options {
+    let with = matches.get_flag("with-filename");
+    let without = matches.get_flag("no-filename");
+    Options {
+        fixed: matches.get_flag("fixed-strings"),
+        ignore_case: matches.get_flag("ignore-case"),
+        bounds: bounds_of(matches),
+        end: if matches.get_flag("null-data") {
+            0
+        } else {
+            b'\n'
+        },
+        inverted: matches.get_flag("invert-match"),
+        only: matches.get_flag("only-matching"),
+        named: with || several && !without,
+        which: matches.get_flag("which"),
+        numbers: matches.get_flag("line-number"),
+        offsets: matches.get_flag("byte-offset"),
+    }
 }
 
 /// Returns what bounds a match. A whole line goes before a word.
@@ -137,40 +150,65 @@ fn bounds_of(matches: &ArgMatches<'_>) -> Bounds {
     }
 }
 
-fn read_matches<'w>(alloc: Global, matches: &ArgMatches<'w>) -> Result<Arguments<'w>> {
-    let count = matches.get_flag("count");
-    let options = Options {
-        fixed: matches.get_flag("fixed-strings"),
-        ignore_case: matches.get_flag("ignore-case"),
-        bounds: bounds_of(matches),
-        count,
-        only: matches.get_flag("only-matching"),
-        numbers: matches.get_flag("line-number"),
-        offsets: matches.get_flag("byte-offset"),
-        inverted: matches.get_flag("invert-match"),
-        // A count has no numbers of patterns before it.
-        which: matches.get_flag("which") && !count,
+/// Returns what is printed of each file. Nothing goes before names, and these before a count.
+fn report_of(matches: &ArgMatches<'_>) -> Report {
+    if matches.get_flag("quiet") {
+        Report::Nothing
+    } else if matches.get_flag("files-with-matches") {
+        Report::With
+    } else if matches.get_flag("files-without-match") {
+        Report::Without
+    } else if matches.get_flag("count") {
+        Report::Count
+    } else {
+        Report::Lines
+    }
+}
+
+/// Returns the limit that this value of `-m` gives. There is none without a value, for a negative number, and for one
+/// that is too large for a `u64`.
+fn limit_of(value: Option<&str>) -> Result<u64, Fault> {
+    let Some(value) = value else {
+        return Ok(u64::MAX);
     };
-    let mut patterns = Vec::new(alloc);
-    let mut files = Vec::new(alloc);
-    if let Some(given) = matches.get_strs("regexp") {
-        for pattern in given {
-            patterns.push(*pattern)?;
-        }
+    match number_of(value) {
+        Some((limit, false)) => Ok(limit),
+        Some((_, true)) => Ok(u64::MAX),
+        None => Err(Fault::Limit),
     }
-    if let Some(words) = matches.get_strs("words") {
-        for word in words {
-            // Without -e, the first argument is the pattern.
-            if patterns.is_empty() {
-                patterns.push(*word)?;
-            } else {
-                files.push(*word)?;
-            }
-        }
+}
+
+/// Returns the number, at most `u64::MAX`, and whether it has a minus. There is none if the text is not a number.
+fn number_of(text: &str) -> Option<(u64, bool)> {
+    let (digits, negative) = match text.strip_prefix('-') {
+        Some(digits) => (digits, true),
+        None => (text.strip_prefix('+').unwrap_or(text), false),
+    };
+    if digits.is_empty() || !digits.bytes().all(|byte| byte.is_ascii_digit()) {
+        return None;
     }
-    Ok(Arguments {
-        options,
-        patterns,
-        files,
+    Some((digits.parse::<u64>().unwrap_or(u64::MAX), negative))
+}
+
+/// Returns which lines around a selected one are printed. `-A` and `-B` go before `-C`.
+fn context_of(matches: &ArgMatches<'_>) -> Result<Context, Fault> {
+    let around = count_of(matches.get_str("context"))?;
+    let before = count_of(matches.get_str("before-context"))?.or(around);
+    let after = count_of(matches.get_str("after-context"))?.or(around);
+    Ok(Context {
+        before: before.unwrap_or(0) as usize,
+        after: after.unwrap_or(0),
+        separated: before.is_some() || after.is_some(),
     })
+}
+
+/// Returns the number of lines that this value gives.
+fn count_of(value: Option<&str>) -> Result<Option<u64>, Fault> {
+    let Some(value) = value else {
+        return Ok(None);
+    };
+    match number_of(value) {
+        Some((count, false)) => Ok(Some(count)),
+        _ => Err(Fault::Context),
+    }
 }

@@ -1,10 +1,12 @@
 //! The search of all files that the arguments name.
+use crate::binary::search_input;
 use crate::command::Arguments;
+use crate::fault::Fault;
 use crate::grep::Grep;
-use crate::search::print_matches;
-use anyhow::Result;
-use std::alloc::{AllocError, Global};
-use std::io::{BufReader, BufWriter, Write};
+use crate::options::{Options, Report, Request};
+use crate::patterns::{all_patterns, read_files};
+use crate::walk::{Kind, is_folder, kind_of, push_paths};
+use std::io::{BufReader, BufWriter, IsTerminal, Write};
 use std::{fs, io};
 use text_lines::failure::Failure;
 
@@ -20,29 +22,87 @@ pub struct Outcome {
 /// Searches the inputs that the arguments name, in order. An input that cannot be read, or that has a line for which
 /// there is no memory, is named on standard error, and the search goes on with the next one. The error is one that ends
 /// the search: of a pattern, of the output, or of memory.
-pub fn run(rt: &HostRuntime, arguments: &Arguments<'_>) -> Result<Outcome> {
-    let mut grep = Grep::new(rt.alloc(), &arguments.patterns, arguments.options)?;
-    search_all(rt, &mut grep, &arguments.files)
+pub fn run(rt: &HostRuntime, arguments: &Arguments<'_>) -> Result<Outcome, Fault> {
+    let files = read_files(rt, &arguments.pattern_files)?;
+    let patterns = all_patterns(rt.alloc(), &arguments.patterns, &files)?;
+    search_for(rt, arguments, &patterns)
 }
 
-/// Searches these inputs, or standard input if there are none.
-fn search_all(rt: &HostRuntime, grep: &mut Grep<'_>, names: &[&str]) -> Result<Outcome> {
-    let mut out = BufWriter::new(rt.alloc(), io::writer(rt))?;
-    let outcome = if names.is_empty() {
-        search_each(rt, grep, &["-"], &mut out)?
-    } else {
-        search_each(rt, grep, names, &mut out)?
+/// Searches for these patterns.
+fn search_for(
+    rt: &HostRuntime,
+    arguments: &Arguments<'_>,
+    patterns: &[&str],
+) -> Result<Outcome, Fault> {
+    let options = Options {
+        named: arguments.options.named || names_folder(rt, arguments),
+        ..arguments.options
     };
-    if let Err(error) = out.flush() {
-        return Err(Failure::Write(error).into());
+    let mut grep = Grep::new(rt.alloc(), patterns, options)?;
+    // No line can be selected, so no input is read.
+    if arguments.limit == 0 && arguments.report != Report::Without {
+        return Ok(Outcome {
+            selected: false,
+            failed: false,
+        });
     }
+    let outcome = if arguments.line_buffered || rt.stdout().is_terminal() {
+        search_all(rt, &mut grep, arguments, &mut io::writer(rt))?
+    } else {
+        search_buffered(rt, &mut grep, arguments)?
+    };
     Ok(outcome)
 }
 
-/// Searches these inputs.
+/// Returns whether names are printed because the only input is a folder.
+fn names_folder(rt: &HostRuntime, arguments: &Arguments<'_>) -> bool {
+    if !arguments.recursive || arguments.unnamed {
+        return false;
+    }
+    match arguments.files.first() {
+        Some(name) => *name != "-" && is_folder(rt, name),
+        None => true,
+    }
+}
+
+/// Searches the inputs, and writes many lines at once.
+fn search_buffered(
+    rt: &HostRuntime,
+    grep: &mut Grep<'_>,
+    arguments: &Arguments<'_>,
+) -> Result<Outcome, Failure> {
+    let Ok(mut out) = BufWriter::new(rt.alloc(), io::writer(rt)) else {
+        return Err(Failure::Memory);
+    };
+    let outcome = search_all(rt, grep, arguments, &mut out)?;
+    match out.flush() {
+        Ok(()) => Ok(outcome),
+        Err(error) => Err(Failure::Write(error)),
+    }
+}
+
+/// Searches the inputs. Without names, that is the folder in which the program runs, if folders are searched, and else
+/// standard input.
+fn search_all<W: Write>(
+    rt: &HostRuntime,
+    grep: &mut Grep<'_>,
+    arguments: &Arguments<'_>,
+    out: &mut W,
+) -> Result<Outcome, Failure> {
+    if !arguments.files.is_empty() {
+        search_each(rt, grep, arguments, &arguments.files, out)
+    } else if arguments.recursive {
+        search_each(rt, grep, arguments, &["."], out)
+    } else {
+        search_each(rt, grep, arguments, &["-"], out)
+    }
+}
+
+/// Searches these inputs. If nothing is printed, it ends at the first selected line.
 fn search_each<W: Write>(
     rt: &HostRuntime,
     grep: &mut Grep<'_>,
+    arguments: &Arguments<'_>,
     names: &[&str],
     out: &mut W,
 ) -> Result<Outcome, Failure> {
@@ -51,63 +111,137 @@ fn search_each<W: Write>(
         failed: false,
     };
     for name in names {
-        match search_named(rt, grep, name, names.len() > 1, out) {
-            Ok(count) => outcome.selected |= count > 0,
-            Err(error) => {
-                if !error.is_of_input() {
-                    return Err(error);
-                }
-                outcome.failed = true;
-                // The status says so even if the line cannot be written.
-                let shown = shown_name(name);
-                let _ = eprintln!(rt; "nfa_grep: {shown}: {error}");
-            }
+        if arguments.recursive && *name != "-" && is_folder(rt, name) {
+            search_folder(rt, grep, arguments, name, &mut outcome, out)?;
+        } else {
+            search_one(rt, grep, arguments, name, &mut outcome, out)?;
+        }
+        if is_over(arguments, outcome) {
+            outcome.failed = false;
+            return Ok(outcome);
         }
     }
     Ok(outcome)
 }
 
-/// The name of an input, as it is printed.
-fn shown_name(name: &str) -> &str {
+/// Returns whether no other input matters.
+fn is_over(arguments: &Arguments<'_>, outcome: Outcome) -> bool {
+    outcome.selected && arguments.report == Report::Nothing
+}
+
+/// Searches the files in the folder, and in those in it, in the order of names. Links in folders are not followed.
+fn search_folder<W: Write>(
+    rt: &HostRuntime,
+    grep: &mut Grep<'_>,
+    arguments: &Arguments<'_>,
+    folder: &str,
+    outcome: &mut Outcome,
+    out: &mut W,
+) -> Result<(), Failure> {
+    let mut paths = Vec::new(rt.alloc());
+    if let Err(error) = push_paths(rt, folder, &mut paths) {
+        name_fault(rt, arguments, folder, &Failure::Read(error), outcome);
+    }
+    for _ in 0..u64::MAX {
+        if is_over(arguments, *outcome) {
+            return Ok(());
+        }
+        let Some(path) = paths.pop() else {
+            return Ok(());
+        };
+        let path = path.as_str();
+        match kind_of(rt, path) {
+            Ok(Kind::File) => search_one(rt, grep, arguments, path, outcome, out)?,
+            Ok(Kind::Folder) => {
+                if let Err(error) = push_paths(rt, path, &mut paths) {
+                    name_fault(rt, arguments, path, &Failure::Read(error), outcome);
+                }
+            }
+            Ok(Kind::Other) => {}
+            Err(error) => name_fault(rt, arguments, path, &Failure::Read(error), outcome),
+        }
+    }
+    Ok(())
+}
+
+/// Searches one input, and notes in `outcome` what the search came to.
+fn search_one<W: Write>(
+    rt: &HostRuntime,
+    grep: &mut Grep<'_>,
+    arguments: &Arguments<'_>,
+    name: &str,
+    outcome: &mut Outcome,
+    out: &mut W,
+) -> Result<(), Failure> {
+    let request = Request {
+        name: shown_name(arguments, name),
+        report: arguments.report,
+        limit: arguments.limit,
+        context: arguments.context,
+        used: outcome.selected,
+    };
+    match search_named(rt, grep, arguments.text, request, name, out) {
+        Ok(count) => outcome.selected |= count > 0,
+        Err(error) => {
+            if !error.is_of_input() {
+                return Err(error);
+            }
+            name_fault(rt, arguments, name, &error, outcome);
+        }
+    }
+    Ok(())
+}
+
+/// Says on standard error why an input was not searched to its end, if that is wanted.
+fn name_fault(
+    rt: &HostRuntime,
+    arguments: &Arguments<'_>,
+    name: &str,
+    error: &Failure,
+    outcome: &mut Outcome,
+) {
+    outcome.failed = true;
+    if !arguments.silent {
+        // The status says so even if the line cannot be written.
+        let shown = shown_name(arguments, name);
+        let _ = eprintln!(rt; "nfa_grep: {shown}: {error}");
+    }
+}
+
+/// The name of an input, as it is printed. That of the folder in which the program runs is left out if it was not
+/// given.
+fn shown_name<'n>(arguments: &Arguments<'_>, name: &'n str) -> &'n str {
     if name == "-" {
         "(standard input)"
+    } else if arguments.files.is_empty() {
+        name.strip_prefix("./").unwrap_or(name)
     } else {
         name
     }
 }
 
-/// What comes before each line of this input: its name and a colon, if there are several inputs.
-fn label_of(alloc: Global, name: &str, several: bool) -> Result<Vec<u8>, AllocError> {
-    let mut label = Vec::new(alloc);
-    if several {
-        label.extend_from_slice(shown_name(name).as_bytes())?;
-        label.extend_from_slice(b":")?;
-    }
-    Ok(label)
-}
-
-/// Searches the input of this name, and returns how many of its lines are selected.
+/// Searches the input of this name, and returns how many of the lines that were searched are selected.
 fn search_named<W: Write>(
     rt: &HostRuntime,
     grep: &mut Grep<'_>,
+    text: bool,
+    request: Request<'_>,
     name: &str,
-    several: bool,
     out: &mut W,
 ) -> Result<u64, Failure> {
     let alloc = rt.alloc();
-    let label = label_of(alloc, name, several)?;
     if name == "-" {
         let Ok(mut input) = BufReader::new(alloc, rt.reader()) else {
             return Err(Failure::Memory);
         };
-        return print_matches(alloc, grep, &label, &mut input, out);
+        return search_input(rt, grep, text, request, &mut input, out);
     }
     match fs::open(rt, name) {
         Ok(file) => {
             let Ok(mut input) = BufReader::new(alloc, file) else {
                 return Err(Failure::Memory);
             };
-            print_matches(alloc, grep, &label, &mut input, out)
+            search_input(rt, grep, text, request, &mut input, out)
         }
         Err(error) => Err(Failure::Read(error)),
     }

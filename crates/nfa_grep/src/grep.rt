@@ -1,27 +1,28 @@
 //! The lines in which a pattern matches, and what is printed of them.
-ghost use Rattle.std.specs.Prelude.{◌≡◌, ◌≤◌, ◌<◌, ◌+◌, ◌^◌, ◌++◌, All, IfOk, List, MatchOption, OnOk, false, length};
-ghost use Rattle.std.specs.Prelude.{map, true};
+ghost use Rattle.std.specs.Prelude.{◌≡◌, ◌≤◌, ◌<◌, ◌+◌, ◌^◌, ◌++◌, ◌⊎◌, All, IfErr, IfOk, List, MatchOption, OnOk, false, length};
+ghost use Rattle.std.specs.Prelude.{[], if◌then◌else◌, map, true};
 ghost use Rattle.regex_hir.specs.Re.{Re};
 ghost use Rattle.regex_search_core.specs.Found.{found_of};
 ghost use Rattle.regex_search_core.specs.Search.{whole};
 ghost use Rattle.nfa_engines.specs.Lists.{IsInside};
 ghost use Rattle.nfa_compiler.specs.Compiled.{IsNfaOf, res_of};
 ghost use Rattle.nfa_grep.specs.Meant.{Mean, all_found, is_found};
-ghost use Rattle.nfa_grep.specs.Printed.{head, is_selected, mark_of, piece, pieces, shown};
-ghost use Rattle.text_lines.specs.Lines.{content, with_feed};
+ghost use Rattle.nfa_grep.specs.Printed.{is_selected, mark_of, piece, pieces, shown, shown_if_selected};
+ghost use Rattle.nfa_grep.specs.Printed.{shown_matches, shown_whole, text_of};
+ghost use Rattle.nfa_grep.specs.Refusals.{IsOfPatterns, IsTextRefusal, IsTreeRefusal};
+ghost use Rattle.text_lines.specs.Lines.{with_end};
 
+use crate::fault::Fault;
 use crate::line::{Place, append_head};
 use crate::options::Options;
 use crate::pattern::{described, read_patterns};
 use crate::which::Which;
-use anyhow::Result;
-use nfa_choice::choose::Choice;
 use nfa_compiler::{Compiler, Config, Parsed, laws};
-use nfa_engines::{backtrack, pikevm};
+use nfa_meta::Regex;
 use regex_search_core::{Input, Match};
 use std::alloc::{AllocError, Global};
 use std::marker::Model;
-use text_lines::line::{append_whole, content};
+use text_lines::line::{append_record, record_content};
 
 /// What is searched for in each line, and what is printed of a line that is selected. It owns the engine, and a second
 /// one that finds the numbers of the patterns that match, if they are wanted.
@@ -32,12 +33,13 @@ pub struct Grep<'p> {
     alloc: Global,
     patterns: &'p [&'p str],
     options: Options,
-    choice: Choice,
+    regex: Regex,
     which: Option<Which>,
 }
 
 impl<'p> Model for Grep<'p> {
-    ghost use Rattle.std.specs.Prelude.{◌≡◌, ◌==◌, MatchOption, None, false, map, true};
+    ghost use Rattle.std.specs.Prelude.{◌≡◌, MatchOption, None, false, map, true};
+    ghost use Rattle.nfa_compiler.specs.AnyStart.{FindsFromAnyStart};
     ghost use Rattle.nfa_engines.specs.Paths.{is_utf8_empty};
     ghost use Rattle.nfa_grep.specs.Meant.{Grepping, IsBuilt};
 
@@ -45,18 +47,20 @@ impl<'p> Model for Grep<'p> {
 
     ghost view = { λ g. record { patterns = map (λ text. text.now) g.patterns.now; options = g.options } };
 
-    ghost invariant = { λ g. IsBuilt g.options (map (λ text. text.now) g.patterns.now) g.choice.nfa
-        × (is_utf8_empty g.choice.nfa ≡ false) × ((g.choice.nfa.anchored == g.choice.nfa.unanchored) ≡ false)
-        × (g.choice.match_kind ≡ None)
+    ghost invariant = { λ g. IsBuilt g.options (map (λ text. text.now) g.patterns.now) g.regex.nfa
+        × (is_utf8_empty g.regex.nfa ≡ false) × FindsFromAnyStart g.regex.nfa
+        × (g.regex.match_kind ≡ None)
         × MatchOption g.which (g.options.which ≡ false)
         (λ nfa. (g.options.which ≡ true) × IsBuilt g.options (map (λ text. text.now) g.patterns.now) nfa) };
 }
 
 impl<'p> Grep<'p> {
     /// Compiles the patterns. Fails if a text is not a pattern, if the patterns are too large, or if allocation failed.
-    pub fn new(alloc: Global, patterns: &'p [&'p str], options: Options) -> Result<Grep<'p>>
+    pub fn new(alloc: Global, patterns: &'p [&'p str], options: Options) -> Result<Grep<'p>, Fault>
         ensures patterns { IfOk result (λ grep. grep.patterns ≡ map (λ text. text.now) patterns.now) }
         ensures options { IfOk result (λ grep. grep.options ≡ options) }
+        ensures refused { IfErr result (λ fault. IsTextRefusal options (map (λ text. text.now) patterns.now) fault
+            ⊎ IsOfPatterns options (map (λ text. text.now) patterns.now) fault) }
     {
         let trees = read_patterns(alloc, options, patterns)?;
         let config = Config::new().utf8(false);
@@ -67,13 +71,13 @@ impl<'p> Grep<'p> {
             Ok(nfa) => nfa,
             Err(error) => return Err(described(patterns.len(), error)),
         };
-        let choice = Choice::new(alloc, nfa, backtrack::Config::new(), pikevm::Config::new())?;
+        let regex = Regex::new_from_nfa(alloc, nfa)?;
         let which = which_of(alloc, options.which, &trees)?;
         Ok(Grep {
             alloc,
             patterns,
             options,
-            choice,
+            regex,
             which,
         })
     }
@@ -85,15 +89,20 @@ impl<'p> Grep<'p> {
         self.options
     }
 
+    /// Returns the line without its end.
+    fn text_of<'l>(&self, line: &'l [u8]) -> &'l [u8]
+        ensures { result.now ≡ text_of self.now.options line.now }
+    {
+        record_content(line, self.options.end)
+    }
+
     /// Returns whether some pattern matches somewhere in the text of a line, its end left out.
     fn finds(&mut self, text: &[u8]) -> bool
         ensures found { (res : List Re) → Mean self.old res → result ≡ is_found res text.now }
         ensures kept { self.new ≡ self.old }
     {
         laws::searches_find_hits();
-        self.choice
-            .search_slots(&Input::new(text), &mut [])
-            .is_some()
+        self.regex.is_match(Input::new(text))
     }
 
     /// Returns whether the line is selected: whether some pattern matches somewhere in it, or, if the options invert
@@ -103,7 +112,7 @@ impl<'p> Grep<'p> {
             → result ≡ is_selected self.old.options res line.now }
         ensures kept { self.new ≡ self.old }
     {
-        let found = self.finds(content(line));
+        let found = self.finds(self.text_of(line));
         if self.options.inverted { !found } else { found }
     }
 
@@ -115,13 +124,13 @@ impl<'p> Grep<'p> {
         ensures kept { self.new ≡ self.old }
     {
         laws::iterations_find_all_hits();
-        let Ok(matches) = self.choice.find_all(self.alloc, Input::new(text)) else {
+        let Ok(matches) = self.regex.find_all(self.alloc, Input::new(text)) else {
             return Err(AllocError);
         };
         Ok(matches)
     }
 
-    /// Appends what is printed of the line, and returns whether the line is selected.
+    /// Appends what is printed of the line if it is selected, and returns whether it is.
     pub fn append_line(
         &mut self,
         place: Place<'_>,
@@ -132,19 +141,66 @@ impl<'p> Grep<'p> {
         ensures selected { IfOk result (λ selected. (res : List Re) → Mean self.old res
             → selected ≡ is_selected self.old.options res line.now) }
         ensures shown { OnOk result ((res : List Re) → Mean self.old res → out.new.items
-            ≡ out.old.items ++ shown self.old.options res place.entry.label.now place.entry.number place.entry.offset
-            line.now) }
+            ≡ out.old.items ++ shown_if_selected self.old.options res place.entry.name.now place.entry.number
+            place.entry.offset line.now) }
         ensures kept { self.new ≡ self.old }
     {
         let options = self.options;
-        if options.only && !options.inverted && !options.count {
-            return self.append_matches(place, line, out);
+        let at = Place { end: b':', ..place };
+        if options.only && !options.inverted {
+            return self.append_matches(at, line, out);
         }
         let selected = self.selects(line);
-        if selected && !options.only && !options.count {
-            self.append_selected(place, line, out)?;
+        if selected && !options.only {
+            self.append_whole(at, line, out)?;
         }
         Ok(selected)
+    }
+
+    /// Appends what is printed of a line because of one near it.
+    pub fn append_near(
+        &mut self,
+        place: Place<'_>,
+        line: &[u8],
+        out: &mut Vec<u8>,
+    ) -> Result<(), AllocError>
+        requires counted { place.offset + length line.now < 2 ^ 64 }
+        ensures shown { OnOk result ((res : List Re) → Mean self.old res → out.new.items
+            ≡ out.old.items ++ shown self.old.options res place.entry.name.now place.entry.number place.entry.offset
+            false line.now) }
+        ensures kept { self.new ≡ self.old }
+    {
+        let at = Place { end: b'-', ..place };
+        if !self.options.only {
+            return self.append_whole(at, line, out);
+        }
+        if self.options.inverted {
+            self.append_matches(at, line, out)?;
+        }
+        Ok(())
+    }
+
+    /// Returns whether the line is selected, and appends what is printed of it, if that is wanted.
+    pub fn take_line(
+        &mut self,
+        wanted: bool,
+        place: Place<'_>,
+        line: &[u8],
+        out: &mut Vec<u8>,
+    ) -> Result<bool, AllocError>
+        requires counted { place.offset + length line.now < 2 ^ 64 }
+        ensures selected { IfOk result (λ selected. (res : List Re) → Mean self.old res
+            → selected ≡ is_selected self.old.options res line.now) }
+        ensures shown { OnOk result ((res : List Re) → Mean self.old res → out.new.items ≡ out.old.items
+            ++ (if wanted then shown_if_selected self.old.options res place.entry.name.now place.entry.number
+            place.entry.offset line.now else [])) }
+        ensures kept { self.new ≡ self.old }
+    {
+        if wanted {
+            self.append_line(place, line, out)
+        } else {
+            Ok(self.selects(line))
+        }
     }
 
     /// Appends each match in the text of the line that is not empty, and returns whether there is any match, which may
@@ -157,59 +213,63 @@ impl<'p> Grep<'p> {
     ) -> Result<bool, AllocError>
         requires counted { place.offset + length line.now < 2 ^ 64 }
         ensures found { IfOk result (λ found. (res : List Re) → Mean self.old res
-            → found ≡ is_found res (content line.now)) }
+            → found ≡ is_found res (text_of self.old.options line.now)) }
         ensures shown { OnOk result ((res : List Re) → Mean self.old res → out.new.items
-            ≡ out.old.items ++ pieces self.old.options
-            (place.entry.label.now ++ mark_of self.old.options res line.now) place.entry.number place.entry.offset
-            line.now (all_found res (content line.now))) }
+            ≡ out.old.items ++ shown_matches self.old.options place.entry.end res place.entry.name.now
+            place.entry.number place.entry.offset line.now) }
         ensures kept { self.new ≡ self.old }
     {
-        let matches = self.matches(content(line))?;
+        let matches = self.matches(self.text_of(line))?;
         if matches.is_empty() {
             return Ok(false);
         }
-        let mark = self.mark(line)?;
+        let mark = self.mark(place.end, line)?;
         append_pieces(self.options, place, &mark, line, &matches, out)?;
         Ok(true)
     }
 
     /// Appends the line, with what comes before it.
-    fn append_selected(
+    fn append_whole(
         &mut self,
         place: Place<'_>,
         line: &[u8],
         out: &mut Vec<u8>,
     ) -> Result<(), AllocError>
         ensures shown { OnOk result ((res : List Re) → Mean self.old res → out.new.items
-            ≡ out.old.items ++ (head self.old.options
-            (place.entry.label.now ++ mark_of self.old.options res line.now) place.entry.number place.entry.offset
-            ++ with_feed line.now)) }
+            ≡ out.old.items ++ shown_whole self.old.options place.entry.end res place.entry.name.now place.entry.number
+            place.entry.offset line.now) }
         ensures kept { self.new ≡ self.old }
     {
-        let mark = self.mark(line)?;
+        let mark = self.mark(place.end, line)?;
         append_head(self.options, place, &mark, out)?;
-        append_whole(line, out)
+        append_record(line, self.options.end, out)
     }
 
     /// Returns the numbers of the patterns that match in the line, as they are printed, or nothing if they are not
     /// wanted.
-    fn mark(&mut self, line: &[u8]) -> Result<Vec<u8>, AllocError>
+    fn mark(&mut self, end: u8, line: &[u8]) -> Result<Vec<u8>, AllocError>
         ensures mark { IfOk result (λ mark. (res : List Re) → Mean self.old res
-            → mark.items ≡ mark_of self.old.options res line.now) }
+            → mark.items ≡ mark_of self.old.options end res line.now) }
         ensures kept { self.new ≡ self.old }
     {
         let mut mark = Vec::new(self.alloc);
         if let Some(which) = &mut self.which {
-            which.append_numbers(self.alloc, content(line), &mut mark)?;
+            which.append_numbers(
+                self.alloc,
+                record_content(line, self.options.end),
+                end,
+                &mut mark,
+            )?;
         }
         Ok(mark)
     }
 }
 
 /// Makes the search for all patterns that match, if it is wanted.
-fn which_of(alloc: Global, wanted: bool, patterns: &[Parsed]) -> Result<Option<Which>>
-    ensures { IfOk result (λ which. MatchOption which (wanted ≡ false)
+fn which_of(alloc: Global, wanted: bool, patterns: &[Parsed]) -> Result<Option<Which>, Fault>
+    ensures made { IfOk result (λ which. MatchOption which (wanted ≡ false)
         (λ nfa. (wanted ≡ true) × IsNfaOf (res_of patterns.now) nfa)) }
+    ensures refused { IfErr result (IsTreeRefusal (length patterns.now) (res_of patterns.now)) }
 {
     if wanted {
         Ok(Some(Which::new(alloc, patterns)?))
@@ -230,7 +290,7 @@ fn append_pieces(
     requires counted { place.offset + length line.now < 2 ^ 64 }
     requires inside { All (λ m. (found_of m).end ≤ length line.now) matches.now }
     ensures { OnOk result (out.new.items ≡ out.old.items
-        ++ pieces options (place.entry.label.now ++ mark.now) place.entry.number place.entry.offset line.now
+        ++ pieces options place.entry.end place.entry.name.now mark.now place.entry.number place.entry.offset line.now
         (map found_of matches.now)) }
 {
     for found in matches {
@@ -251,7 +311,7 @@ fn append_piece(
     requires counted { place.offset + length line.now < 2 ^ 64 }
     requires inside { (found_of found).end ≤ length line.now }
     ensures { OnOk result (out.new.items ≡ out.old.items
-        ++ piece options (place.entry.label.now ++ mark.now) place.entry.number place.entry.offset line.now
+        ++ piece options place.entry.end place.entry.name.now mark.now place.entry.number place.entry.offset line.now
         (found_of found)) }
 {
     if found.start() == found.end() {
@@ -263,5 +323,6 @@ fn append_piece(
     };
     append_head(options, at, mark, out)?;
     out.extend_from_slice(&line[found.start()..found.end()])?;
-    out.extend_from_slice(b"\n")
+    out.push(options.end)?;
+    Ok(())
 }

@@ -1,57 +1,98 @@
 //! What comes before a line where it is printed.
 ghost use Rattle.std.specs.Prelude.{◌≡◌, ◌++◌, OnOk};
-ghost use Rattle.nfa_grep.specs.Printed.{count_line, head, numbered};
+ghost use Rattle.nfa_grep.specs.Printed.{count_line, head, label_of, name_line, numbered, summary};
 
-use crate::options::Options;
+use crate::options::{Options, Report};
 use itoa::Buffer;
 use std::alloc::AllocError;
 
-/// Where a line is: the label of its input, its number from 1, and the offset of its first byte.
+/// Where a line is: the name of its input, its number from 1, and the offset of its first byte; and how that is shown.
 #[derive(Clone, Copy, Debug)]
-pub struct Place<'l> {
-    /// The name of the file and a colon, or nothing.
-    pub label: &'l [u8],
+pub struct Place<'n> {
+    pub name: &'n [u8],
     pub number: u64,
     pub offset: u64,
+    /// The byte after each label of the line: a colon, or a hyphen if the line is printed because of one near it.
+    pub end: u8,
 }
 
-/// Appends the number and a colon, if it is wanted.
-fn append_number(wanted: bool, number: u64, out: &mut Vec<u8>) -> Result<(), AllocError>
-    ensures { OnOk result (out.new.items ≡ out.old.items ++ numbered wanted number) }
+/// Appends the number and this byte, if it is wanted.
+fn append_number(wanted: bool, end: u8, number: u64, out: &mut Vec<u8>) -> Result<(), AllocError>
+    ensures { OnOk result (out.new.items ≡ out.old.items ++ numbered wanted end number) }
 {
     if wanted {
         let mut buffer = Buffer::new();
         out.extend_from_slice(buffer.format(number).as_bytes())?;
-        out.extend_from_slice(b":")?;
+        out.push(end)?;
     }
     Ok(())
 }
 
-/// Appends what comes before a line or a match: the label and the mark, then the number of the line and the offset, if
-/// they are wanted.
+/// Appends the name and this byte, if it is wanted.
+fn append_label(options: Options, end: u8, name: &[u8], out: &mut Vec<u8>) -> Result<(), AllocError>
+    ensures { OnOk result (out.new.items ≡ out.old.items ++ label_of options end name.now) }
+{
+    if options.named {
+        out.extend_from_slice(name)?;
+        out.push(end)?;
+    }
+    Ok(())
+}
+
+/// Appends what comes before a line or a match: the name of the input, the mark, the number of the line and the offset,
+/// if they are wanted.
 pub fn append_head(
     options: Options,
     place: Place<'_>,
     mark: &[u8],
     out: &mut Vec<u8>,
 ) -> Result<(), AllocError>
-    ensures { OnOk result (out.new.items
-        ≡ out.old.items ++ head options (place.entry.label.now ++ mark.now) place.entry.number place.entry.offset) }
+    ensures { OnOk result (out.new.items ≡ out.old.items
+        ++ head options place.entry.end place.entry.name.now mark.now place.entry.number place.entry.offset) }
 {
-    out.extend_from_slice(place.label)?;
+    append_label(options, place.end, place.name, out)?;
     out.extend_from_slice(mark)?;
-    append_number(options.numbers, place.number, out)?;
-    append_number(options.offsets, place.offset, out)?;
-    Ok(())
+    append_number(options.numbers, place.end, place.number, out)?;
+    append_number(options.offsets, place.end, place.offset, out)
 }
 
-/// Appends the number of selected lines, as a line with this label.
-pub fn append_count(label: &[u8], count: u64, out: &mut Vec<u8>) -> Result<(), AllocError>
-    ensures { OnOk result (out.new.items ≡ out.old.items ++ count_line label.now count) }
+/// Appends the name, as a line.
+fn append_name(name: &[u8], out: &mut Vec<u8>) -> Result<(), AllocError>
+    ensures { OnOk result (out.new.items ≡ out.old.items ++ name_line name.now) }
+{
+    out.extend_from_slice(name)?;
+    out.extend_from_slice(b"\n")
+}
+
+/// Appends the number of selected lines, as a line.
+fn append_count(
+    options: Options,
+    name: &[u8],
+    count: u64,
+    out: &mut Vec<u8>,
+) -> Result<(), AllocError>
+    ensures { OnOk result (out.new.items ≡ out.old.items ++ count_line options name.now count) }
 {
     let mut buffer = Buffer::new();
-    out.extend_from_slice(label)?;
+    append_label(options, b':', name, out)?;
     out.extend_from_slice(buffer.format(count).as_bytes())?;
-    out.extend_from_slice(b"\n")?;
-    Ok(())
+    out.extend_from_slice(b"\n")
+}
+
+/// Appends what is printed of an input after its lines, `count` of which are selected.
+pub fn append_summary(
+    report: Report,
+    options: Options,
+    name: &[u8],
+    count: u64,
+    out: &mut Vec<u8>,
+) -> Result<(), AllocError>
+    ensures { OnOk result (out.new.items ≡ out.old.items ++ summary report options name.now count) }
+{
+    match report {
+        Report::Count => append_count(options, name, count, out),
+        Report::With if count > 0 => append_name(name, out),
+        Report::Without if count == 0 => append_name(name, out),
+        _ => Ok(()),
+    }
 }

@@ -1,19 +1,28 @@
 //! Prints the lines of files, or of standard input, in which a pattern matches.
 #![tactic(auto)]
 
+mod arguments;
+mod binary;
 mod command;
+mod fault;
 mod files;
+mod flags;
 mod grep;
+mod groups;
 mod line;
 mod options;
 mod pattern;
+mod patterns;
 mod search;
+mod walk;
 mod which;
+mod words;
 
-use crate::command::{Command, parse, split};
-use crate::files::run;
-use anyhow::Result;
-use std::env;
+use crate::arguments::arguments;
+use crate::command::{Command, parse};
+use crate::fault::Fault;
+use crate::files::{Outcome, run};
+use crate::words::split;
 use std::process::ExitCode;
 
 /// No line was selected.
@@ -22,37 +31,49 @@ const NONE: u8 = 1;
 /// The arguments, a pattern, a file or the output were at fault.
 const FAILED: u8 = 2;
 
+/// Nobody reads the output any more: the status that a shell has of a program which the signal for that ends.
+const CLOSED: u8 = 128 + 13;
+
 fn main(rt: HostRuntime) -> ExitCode {
     match answer(&rt) {
         Ok(code) => code,
-        Err(error) => {
+        Err(fault) if fault.is_closed_pipe() => ExitCode::from(CLOSED),
+        Err(fault) => {
             // The status says so even if the line cannot be written.
-            let _ = eprintln!(rt; "nfa_grep: {error}");
+            let _ = eprintln!(rt; "nfa_grep: {fault}");
             ExitCode::from(FAILED)
         }
     }
 }
 
-fn answer(rt: &HostRuntime) -> Result<ExitCode> {
-    let alloc = rt.alloc();
-    let words: Vec<String> = env::args(rt)?.collect(alloc)?;
-    let words: Vec<&str> = words.iter().map(|word| word.as_str()).collect(alloc)?;
-    let words = split(alloc, &words)?;
-    match parse(alloc, &words)? {
-        Command::Search(arguments) => {
-            let outcome = run(rt, &arguments)?;
-            Ok(if outcome.failed {
-                ExitCode::from(FAILED)
-            } else if outcome.selected {
-                ExitCode::SUCCESS
-            } else {
-                ExitCode::from(NONE)
-            })
-        }
+fn answer(rt: &HostRuntime) -> Result<ExitCode, Fault> {
+    let words = arguments(rt)?;
+    let words: Vec<&str> = words.iter().map(|word| word.as_str()).collect(rt.alloc())?;
+    let words = split(rt.alloc(), &words)?;
+    obey(rt, &words)
+}
+
+/// Does what the arguments ask for.
+fn obey(rt: &HostRuntime, words: &[&str]) -> Result<ExitCode, Fault> {
+    match parse(rt.alloc(), words)? {
+        Command::Search(arguments) => Ok(code_of(run(rt, &arguments)?)),
         Command::Say(error) => {
             let code = if error.use_stderr() { FAILED } else { 0 };
-            error.print(rt)?;
-            Ok(ExitCode::from(code))
+            match error.print(rt) {
+                Ok(()) => Ok(ExitCode::from(code)),
+                Err(error) => Err(Fault::Help(error)),
+            }
         }
+    }
+}
+
+/// Returns the status of what the search came to.
+fn code_of(outcome: Outcome) -> ExitCode {
+    if outcome.failed {
+        ExitCode::from(FAILED)
+    } else if outcome.selected {
+        ExitCode::SUCCESS
+    } else {
+        ExitCode::from(NONE)
     }
 }

@@ -11,7 +11,7 @@ pub enum Bounds {
     Line,
 }
 
-/// The options that change which lines are selected, and what is printed of them.
+/// The options that change which lines are selected, and what is printed of a line.
 #[derive(Clone, Copy, Debug, PartialEq, Eq)]
 pub struct Options {
     /// The patterns are texts, in which no character has a meaning of its own.
@@ -20,16 +20,97 @@ pub struct Options {
     pub ignore_case: bool,
     /// What bounds a match.
     pub bounds: Bounds,
-    /// Print only the number of selected lines.
-    pub count: bool,
+    /// The byte at the end of a line.
+    pub end: u8,
+    /// Select the lines in which no pattern matches.
+    pub inverted: bool,
     /// Print each match on a line of its own.
     pub only: bool,
+    /// Print the name of the input.
+    pub named: bool,
+    /// Print the numbers, from 0, of the patterns that match in the line.
+    pub which: bool,
     /// Print the number of the line, from 1.
     pub numbers: bool,
     /// Print the offset of the line, or of the match, in bytes from the start of the input.
     pub offsets: bool,
-    /// Select the lines in which no pattern matches.
-    pub inverted: bool,
-    /// Print the numbers, from 0, of the patterns that match in the line.
-    pub which: bool,
+}
+
+/// Which lines around a selected one are printed, too.
+#[derive(Clone, Copy, Debug, PartialEq, Eq)]
+pub struct Context {
+    /// This many lines before it.
+    pub before: usize,
+    /// This many lines after it.
+    pub after: u64,
+    /// Print two hyphens, as a line, between groups of lines that are not next to each other in an input.
+    pub separated: bool,
+}
+
+/// No line is printed but those that are selected.
+const NO_CONTEXT: Context = Context {
+    before: 0,
+    after: 0,
+    separated: false,
+};
+
+/// What is printed of an input.
+#[derive(Clone, Copy, Debug, PartialEq, Eq)]
+pub enum Report {
+    /// The selected lines.
+    Lines,
+    /// The number of selected lines.
+    Count,
+    /// The name of the input, if a line is selected.
+    With,
+    /// The name of the input, if no line is selected.
+    Without,
+    /// Nothing.
+    Nothing,
+}
+
+impl Report {
+    ghost use Rattle.std.specs.Prelude.{◌≡◌};
+    ghost use Rattle.nfa_grep.specs.Grouped.{context_of};
+    ghost use Rattle.nfa_grep.specs.Printed.{limit_of, shows};
+
+    /// Returns whether selected lines are printed.
+    pub fn shows(self) -> bool
+        ensures { result ≡ shows self }
+    {
+        self == Report::Lines
+    }
+
+    /// Returns after how many selected lines a search ends that would end after this number: after one, if only it
+    /// matters.
+    pub fn limit(self, limit: u64) -> u64
+        ensures { result ≡ limit_of self limit }
+    {
+        match self {
+            Report::Lines | Report::Count => limit,
+            Report::With | Report::Without | Report::Nothing => limit.min(1),
+        }
+    }
+
+    /// Returns which lines around a selected one are printed: none if no lines are.
+    pub fn context(self, context: Context) -> Context
+        ensures { result ≡ context_of self context }
+    {
+        if self.shows() { context } else { NO_CONTEXT }
+    }
+}
+
+/// What is searched for in one input.
+#[derive(Clone, Copy, Debug)]
+pub struct Request<'n> {
+    /// The name of the input, as it is printed.
+    pub name: &'n str,
+    /// What is printed of it.
+    pub report: Report,
+    /// The search ends after this many selected lines.
+    pub limit: u64,
+    /// Which lines around a selected one are printed.
+    pub context: Context,
+    /// Some line of an input before this one was selected.
+    pub used: bool,
 }

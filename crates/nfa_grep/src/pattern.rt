@@ -1,21 +1,23 @@
 //! From the texts of patterns to trees.
-ghost use Rattle.std.specs.Prelude.{◌≡◌, ◌∷◌, [], IfOk, IfSome, map};
+ghost use Rattle.std.specs.Prelude.{◌≡◌, ◌∷◌, [], IfErr, IfOk, IfSome, map};
 ghost use Rattle.std.specs.List.{AllZip};
 ghost use Rattle.regex_hir.specs.Meaning.{cat_all, meaning};
 ghost use Rattle.regex_hir.specs.Re.{Re, look};
 ghost use Rattle.regex_syntax.specs.Captures.{SameCaptures};
 ghost use Rattle.nfa_compiler.specs.Compiled.{IsMeant};
 ghost use Rattle.nfa_grep.specs.Meant.{IsReadFrom, bounded, syntax_of};
+ghost use Rattle.nfa_grep.specs.Refusals.{IsTextRefusal, described};
 
+use crate::fault::Fault;
 use crate::options::{Bounds, Options};
-use anyhow::{Error, Result};
 use nfa_compiler::{CompileError, Compiler, Config, Flags, OnlyPattern, Parsed, Syntax};
 use regex_hir::{Hir, Look};
 use std::alloc::{AllocError, Global};
 
 /// Reads each text as a pattern. Fails if a text is not a pattern, or if allocation failed.
-pub fn read_patterns(alloc: Global, options: Options, texts: &[&str]) -> Result<Vec<Parsed>>
-    ensures { IfOk result (λ trees. AllZip (IsReadFrom options) (map (λ text. text.now) texts.now) trees.items) }
+pub fn read_patterns(alloc: Global, options: Options, texts: &[&str]) -> Result<Vec<Parsed>, Fault>
+    ensures read { IfOk result (λ trees. AllZip (IsReadFrom options) (map (λ text. text.now) texts.now) trees.items) }
+    ensures refused { IfErr result (IsTextRefusal options (map (λ text. text.now) texts.now)) }
 {
     let mut trees = Vec::with_capacity(alloc, texts.len())?;
     for text in texts {
@@ -95,23 +97,28 @@ fn between(alloc: Global, start: Look, tree: Hir, end: Look) -> Result<Hir, Allo
 }
 
 /// Returns why some text of these was not read: it is not a pattern, or allocation failed.
-fn refusal(alloc: Global, options: Options, texts: &[&str]) -> Error {
-    if !options.fixed {
-        let compiler = Compiler::new()
-            .configure(Config::new().utf8(false))
-            .syntax(syntax_of(options));
-        if let Err(error) = compiler.build_many(alloc, texts) {
-            return described(texts.len(), error);
-        }
+fn refusal(alloc: Global, options: Options, texts: &[&str]) -> Fault
+    ensures { IsTextRefusal options (map (λ text. text.now) texts.now) result }
+{
+    if options.fixed {
+        return Fault::Memory;
     }
-    AllocError.into()
+    let compiler = Compiler::new()
+        .configure(Config::new().utf8(false))
+        .syntax(syntax_of(options));
+    match compiler.build_many(alloc, texts) {
+        Err(CompileError::Syntax(error)) => described(texts.len(), CompileError::Syntax(error)),
+        _ => Fault::Memory,
+    }
 }
 
 /// Returns the error, with the number of its pattern if there are several.
-pub fn described(pattern_len: usize, error: CompileError) -> Error {
+pub fn described(pattern_len: usize, error: CompileError) -> Fault
+    ensures { result ≡ described pattern_len error }
+{
     if pattern_len == 1 {
-        OnlyPattern(error).into()
+        Fault::OnlyPattern(OnlyPattern(error))
     } else {
-        error.into()
+        Fault::Pattern(error)
     }
 }

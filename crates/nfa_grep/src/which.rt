@@ -1,5 +1,5 @@
 //! Which of the patterns match in a line.
-ghost use Rattle.std.specs.Prelude.{◌≡◌, ◌↔◌, ◌++◌, IfOk, List, OnOk, false, ℕ};
+ghost use Rattle.std.specs.Prelude.{◌≡◌, ◌↔◌, ◌++◌, IfErr, IfOk, List, OnOk, false, length, ℕ};
 ghost use Rattle.regex_hir.specs.Re.{Re};
 ghost use Rattle.regex_search_core.specs.PatternSets.{patterns_of};
 ghost use Rattle.regex_search_core.specs.Search.{whole};
@@ -8,9 +8,11 @@ ghost use Rattle.nfa_compiler.specs.Compiled.{IsNfaOf, res_of};
 ghost use Rattle.nfa_compiler.specs.KindLaws.{PatternMatches};
 ghost use Rattle.nfa_grep.specs.Meant.{ArePatterns, IsBuilt, numbers_found, which_found};
 ghost use Rattle.nfa_grep.specs.Printed.{number_list};
+ghost use Rattle.nfa_grep.specs.Refusals.{IsTreeRefusal};
 ghost use Rattle.nfa_grep.specs.declared.options.Options.{Options};
 
-use anyhow::Result;
+use crate::fault::Fault;
+use crate::pattern::described;
 use itoa::Buffer;
 use nfa_compiler::{Compiler, Config, Parsed, laws};
 use nfa_engines::pikevm::{Cache, PikeVM};
@@ -28,7 +30,8 @@ pub struct Which {
 }
 
 impl Model for Which {
-    ghost use Rattle.std.specs.Prelude.{◌≡◌, ◌==◌, false};
+    ghost use Rattle.std.specs.Prelude.{◌≡◌, false};
+    ghost use Rattle.nfa_compiler.specs.AnyStart.{FindsFromAnyStart};
     ghost use Rattle.regex_search_core.specs.declared.search.MatchKind.TheVariants.{All};
     ghost use Rattle.nfa_engines.specs.Automaton.{Automaton};
     ghost use Rattle.nfa_engines.specs.Engines.{Fits, kind_of};
@@ -39,20 +42,28 @@ impl Model for Which {
     ghost view = { λ w. w.vm.nfa };
 
     ghost invariant = { λ w. Fits w.cache w.vm.nfa × (kind_of w.vm ≡ All) × (is_utf8_empty w.vm.nfa ≡ false)
-        × ((w.vm.nfa.anchored == w.vm.nfa.unanchored) ≡ false) };
+        × FindsFromAnyStart w.vm.nfa };
 }
 
 impl Which {
     /// Compiles the patterns. Fails if they are too large, or if allocation failed.
-    pub fn new(alloc: Global, patterns: &[Parsed]) -> Result<Which>
-        ensures { IfOk result (IsNfaOf (res_of patterns.now)) }
+    pub fn new(alloc: Global, patterns: &[Parsed]) -> Result<Which, Fault>
+        ensures made { IfOk result (IsNfaOf (res_of patterns.now)) }
+        ensures refused { IfErr result (IsTreeRefusal (length patterns.now) (res_of patterns.now)) }
     {
         let config = Config::new().utf8(false);
-        let nfa = Compiler::new()
+        let nfa = match Compiler::new()
             .configure(config)
-            .build_many_from_hir(alloc, patterns)?;
+            .build_many_from_hir(alloc, patterns)
+        {
+            Ok(nfa) => nfa,
+            Err(error) => return Err(described(patterns.len(), error)),
+        };
         let kind = PikeVM::config().match_kind(MatchKind::All);
-        let vm = PikeVM::builder().configure(kind).build_from_nfa(nfa)?;
+        // It is always `Ok`.
+        let Ok(vm) = PikeVM::builder().configure(kind).build_from_nfa(nfa) else {
+            return Err(Fault::Memory);
+        };
         let cache = vm.create_cache(alloc)?;
         Ok(Which { vm, cache })
     }
@@ -74,28 +85,29 @@ impl Which {
     }
 
     /// Appends the numbers of the patterns that match somewhere in the text of a line, in ascending order, with commas
-    /// between them, and a colon.
+    /// between them, and this byte.
     pub fn append_numbers(
         &mut self,
         alloc: Global,
         text: &[u8],
+        end: u8,
         out: &mut Vec<u8>,
     ) -> Result<(), AllocError>
         ensures numbers { OnOk result ((options : Options) → (texts : List (List ℕ)) → (res : List Re)
             → IsBuilt options texts self.old → ArePatterns options texts res
-            → out.new.items ≡ out.old.items ++ number_list (numbers_found res text.now)) }
+            → out.new.items ≡ out.old.items ++ number_list end (numbers_found res text.now)) }
         ensures kept { self.new ≡ self.old }
     {
         let Ok(set) = self.patterns_in(alloc, text) else {
             return Err(AllocError);
         };
-        append_set(&set, out)
+        append_set(&set, end, out)
     }
 }
 
-/// Appends the numbers of the patterns in the set, in ascending order, with commas between them, and a colon.
-fn append_set(set: &PatternSet, out: &mut Vec<u8>) -> Result<(), AllocError>
-    ensures { OnOk result (out.new.items ≡ out.old.items ++ number_list (patterns_of set.now)) }
+/// Appends the numbers of the patterns in the set, in ascending order, with commas between them, and this byte.
+fn append_set(set: &PatternSet, end: u8, out: &mut Vec<u8>) -> Result<(), AllocError>
+    ensures { OnOk result (out.new.items ≡ out.old.items ++ number_list end (patterns_of set.now)) }
 {
     let mut buffer = Buffer::new();
     let mut first = true;
@@ -106,5 +118,6 @@ fn append_set(set: &PatternSet, out: &mut Vec<u8>) -> Result<(), AllocError>
         out.extend_from_slice(buffer.format(pattern.as_usize()).as_bytes())?;
         first = false;
     }
-    out.extend_from_slice(b":")
+    out.push(end)?;
+    Ok(())
 }

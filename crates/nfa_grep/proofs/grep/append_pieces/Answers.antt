@@ -11,8 +11,8 @@ use Rattle.nfa_grep.proofs.grep.append_pieces.Goals as goal
 pub returns : goal.returns
 returns c =
     let ms = c.args.matches.now in
-    let label = c.args.place.label.now ++ c.args.mark.now in
-    let one = piece c.args.options label c.args.place.number c.args.place.offset c.args.line.now in
+    let place = c.args.place in
+    let one = piece c.args.options place.end place.name.now c.args.mark.now place.number place.offset c.args.line.now in
     let all = take_all c.loop-found.found-index ms (omega (arith, c.loop-found-test.false)) in
     c.loop-found.invariant
     ∙ ap (λ (l : List Match). c.args.out.now.items ++ flat_map (λ m. one (found_of m)) l) all

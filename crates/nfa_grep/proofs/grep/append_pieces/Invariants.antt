@@ -7,5 +7,6 @@ use Rattle.nfa_grep.proofs.grep.append_pieces.Given as goal
 
 abbrev pub invariant-loop-found : goal.invariant-loop-found
 invariant-loop-found l = l.out.items ≡ l.fn.out.items
-    ++ flat_map (λ m. piece l.options (l.place.label.now ++ l.mark) l.place.number l.place.offset l.line (found_of m))
+    ++ flat_map (λ m. piece l.options l.place.end l.place.name.now l.mark l.place.number l.place.offset
+    l.line (found_of m))
     (take l.found-index l.matches)

@@ -1,23 +1,22 @@
 -- The law, of this answer.
-use Rattle.std.proofs.Common.{◌∙◌, ap, arith, refl, subst, sym}
-use Rattle.regex_search_core.specs.Patterns.{number_of}
-use Rattle.regex_search_core.specs.Search.{Search, whole}
+use Rattle.std.proofs.Common.{◌∙◌, arith, refl, subst, sym}
+use Rattle.regex_search_core.specs.Search.{whole}
 use Rattle.nfa_compiler.proofs.CallLemmas.{bytes-of}
 use Rattle.nfa_grep.specs.Meant.{Grepping, Mean}
-use Rattle.nfa_grep.proofs.MeantLemmas.{found-of-answer, found-same}
+use Rattle.nfa_grep.proofs.MeantLemmas.{found-of-hit, found-same}
 use Rattle.nfa_grep.proofs.grep.Grep.finds.Goals as goal
 
 pub returns-clause-found : goal.returns-clause-found
 returns-clause-found c = λ res meant.
     let text = c.args.text.now in
-    let nfa = c.self.inside.choice.nfa in
+    let nfa = c.self.inside.regex.nfa in
     let bytes = bytes-of text (λ k. omega (arith, c.type_inv.text k)) in
     let inv = c.self.invariant in
     let meant-inside = subst (λ (g : Grepping). Mean g res) (sym c.self.view_is) meant in
-    let law = c.searches_find_hits.ensures.answers inv.0.trees nfa _ _ (whole text) _ _ inv.0.made inv.1 (record {
+    let law = c.searches_find_hits.ensures.found inv.0.trees nfa _ _ (whole text) _ inv.0.made inv.1 (record {
       leftmost = rw inv.3 refl;
-      latest = ap (λ (s : Search). s.earliest) c.new.ensures;
+      latest = refl;
       whole = refl;
-    }) (rw c.new.ensures at c.search_slots.ensures.answer) in
-    c.is_some.ensures ∙ found-of-answer inv.0.trees nfa text inv.2 number_of c.search_slots.result law.0
+    }) (rw c.new.ensures at c.is_match.ensures.answer) in
+    law ∙ found-of-hit inv.0.trees nfa text inv.0.made inv.2
     ∙ found-same text bytes inv.0.trees res (inv.0.same res meant-inside)

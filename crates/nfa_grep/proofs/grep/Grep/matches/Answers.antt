@@ -10,11 +10,11 @@ use Rattle.nfa_grep.proofs.grep.Grep.matches.Goals as goal
 pub returns-clause-all : goal.returns-clause-all
 returns-clause-all c = λ res meant.
     let text = c.args.text.now in
-    let nfa = c.self.inside.choice.nfa in
+    let nfa = c.self.inside.regex.nfa in
     let bytes = bytes-of text (λ k. omega (arith, c.type_inv.text k)) in
     let inv = c.self.invariant in
     let meant-inside = subst (λ (g : Grepping). Mean g res) (sym c.self.view_is) meant in
-    found-of-hits inv.0.trees nfa text inv.2 (map found_of c.in-Ok.matches.items)
+    found-of-hits inv.0.trees nfa text inv.0.made inv.2 (map found_of c.in-Ok.matches.items)
     (c.iterations_find_all_hits.ensures.matches inv.0.trees nfa _ _ (whole text) _ inv.0.made inv.1 (record {
       leftmost = rw inv.3 refl;
       latest = ap (λ (s : Search). s.earliest) c.new.ensures;

@@ -1,0 +1,96 @@
+//! The pattern that is attached to `-e`, as an argument of its own.
+use std::alloc::{AllocError, Global};
+
+/// What the next argument may be.
+#[derive(Clone, Copy)]
+enum Next {
+    /// Options, a pattern or a file.
+    Any,
+    /// The value of the option before it, or the name of the program.
+    Value,
+    /// A pattern or a file, and so are all others.
+    Word,
+}
+
+/// Splits the arguments, so that a pattern that is attached to `-e` is an argument of its own: `-ne=x` becomes `-n`,
+/// `-e` and `=x`, of which `clap` would drop the `=`. Values of other options stay as they are.
+pub fn split<'w>(alloc: Global, words: &[&'w str]) -> Result<Vec<&'w str>, AllocError> {
+    let mut split = Vec::new(alloc);
+    let mut next = Next::Value;
+    for word in words {
+        next = push_word(next, word, &mut split)?;
+    }
+    Ok(split)
+}
+
+/// Appends the argument, split if it has an attached pattern, and returns what the next one may be.
+fn push_word<'w>(next: Next, word: &'w str, split: &mut Vec<&'w str>) -> Result<Next, AllocError> {
+    match next {
+        Next::Any if word.starts_with('-') && !word.starts_with("--") => push_letters(word, split),
+        Next::Any => {
+            split.push(word)?;
+            Ok(after_whole(word))
+        }
+        Next::Value => {
+            split.push(word)?;
+            Ok(Next::Any)
+        }
+        Next::Word => {
+            split.push(word)?;
+            Ok(Next::Word)
+        }
+    }
+}
+
+/// Returns what the next argument may be after one that is not letters after one hyphen.
+fn after_whole(word: &str) -> Next {
+    match word {
+        "--" => Next::Word,
+        "--regexp" | "--file" | "--max-count" => Next::Value,
+        "--after-context" | "--before-context" | "--context" => Next::Value,
+        _ => Next::Any,
+    }
+}
+
+/// Appends letters after one hyphen. The pattern, if one is attached there, is an argument of its own.
+fn push_letters<'w>(word: &'w str, split: &mut Vec<&'w str>) -> Result<Next, AllocError> {
+    let Some((flags, value)) = word.split_once('e') else {
+        split.push(word)?;
+        return Ok(after_letters(word));
+    };
+    // What comes after the letter of another option with a value is that value.
+    if has_other(flags) {
+        split.push(word)?;
+        return Ok(after_letters(word));
+    }
+    if flags != "-" {
+        split.push(flags)?;
+    }
+    split.push("-e")?;
+    if value.is_empty() {
+        return Ok(Next::Value);
+    }
+    split.push(value)?;
+    Ok(Next::Any)
+}
+
+/// Returns whether one of the letters is that of an option with a value, other than `-e`.
+fn has_other(letters: &str) -> bool {
+    letters.bytes().any(|letter| is_other(letter))
+}
+
+/// Returns whether an option with a value, other than `-e`, has this letter.
+fn is_other(letter: u8) -> bool {
+    matches!(letter, b'f' | b'm' | b'A' | b'B' | b'C')
+}
+
+/// Returns what the next argument may be after letters without a pattern: a value, if the last letter is the first one
+/// of an option with a value.
+fn after_letters(word: &str) -> Next {
+    let letters = word.bytes().position(|letter| is_other(letter));
+    if letters.is_some_and(|at| at + 1 == word.len()) {
+        Next::Value
+    } else {
+        Next::Any
+    }
+}
