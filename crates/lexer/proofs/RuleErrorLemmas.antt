@@ -10,9 +10,8 @@ use Rattle.nfa_compiler.specs.Compiled.{IsTreeOf}
 use Rattle.nfa_compiler.specs.Rejected.{IsFirstTooBigOf, IsOfOneText, IsRejection}
 use Rattle.nfa_compiler.specs.declared.error.CompileError.TheVariants.{Syntax}
 use Rattle.nfa_compiler.specs.declared.syntax_error.SyntaxError.{SyntaxError}
-use Rattle.lexer.specs.Lexed.{rule_patterns}
+use Rattle.lexer.specs.Patterns.{rule_patterns, rule_syntax}
 use Rattle.lexer.specs.RuleErrors.{IsSyntaxMistake, IsTooLarge}
-use Rattle.lexer.specs.Tokens.{rule_syntax}
 use Rattle.lexer.specs.declared.rules.Rule.{Rule}
 
 -- the pattern that is too large is that of a rule

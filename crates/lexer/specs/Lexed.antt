@@ -1,24 +1,8 @@
 -- The tokens of a text, in the words of the reference matcher: what the meanings of the rules say of it.
-use Rattle.std.specs.Prelude.{ℕ, zero, suc, ◌≡◌, ◌==◌, List, [], ◌∷◌, length, map, Option, Some, None, IfSome, option_map, if◌then◌else◌, nat_lt}
+use Rattle.std.specs.Prelude.{ℕ, zero, suc, ◌≡◌, ◌==◌, List, [], ◌∷◌, ◌++◌, drop, flat_map, length, Option, Some, None, if◌then◌else◌, nat_lt, slice_range}
 use Rattle.regex_hir.specs.Re.{Re}
-use Rattle.regex_search_core.specs.Found.{Found, found_of}
-use Rattle.regex_search_core.specs.declared.search.MatchKind.TheVariants.{LeftmostFirst}
-use Rattle.nfa_engines.specs.Engines.{Pike, kind_of}
-use Rattle.nfa_compiler.specs.Compiled.{IsCompiled}
+use Rattle.regex_search_core.specs.Found.{Found}
 use Rattle.nfa_compiler.specs.Patterns.{found_of_hit, pick}
-use Rattle.lexer.specs.Tokens.{rule_syntax, token_found}
-use Rattle.lexer.specs.declared.lexer.Stuck.{Stuck}
-use Rattle.lexer.specs.declared.lexer.Token.{Token}
-use Rattle.lexer.specs.declared.rules.Rule.{Rule}
-
--- the patterns of these rules
-abbrev pub rule_patterns : List Rule → List (List ℕ)
-rule_patterns rules = map (λ rule. rule.pattern.now) rules
-
--- the PikeVM is made of these patterns, and prefers the first one that matches
-pub record IsLexerOf (patterns : List (List ℕ)) (vm : Pike) : Type 0 where
-  pub compiled : IsCompiled rule_syntax patterns vm.nfa
-  pub leftmost : kind_of vm ≡ LeftmostFirst
 
 -- the match, if it has a byte at least
 abbrev pub with_bytes : Option Found → Option Found
@@ -55,9 +39,9 @@ module _ (res : List Re) (text : List ℕ) where
   abbrev pub stuck_in : Option ℕ
   stuck_in = if end_after 0 lexed == length text then None else Some (end_after 0 lexed)
 
-  -- These are the tokens of the text, and this is the place where no token starts, with the hit there: none, or one
-  -- without a byte.
-  pub record AreLexed (tokens : List Token) (stuck : Option Stuck) : Type 0 where
-    pub tokens_are : map token_found tokens ≡ lexed
-    pub place_is : option_map (λ (s : Stuck). s.at) stuck ≡ stuck_in
-    pub hit_is : IfSome stuck (λ s. option_map found_of s.found ≡ hit_there s.at)
+-- the texts of the tokens, and what is after the last one, are the text
+abbrev pub TokensAreJoined : Type 0
+TokensAreJoined =
+    (res : List Re) (text : List ℕ)
+    → flat_map (λ (m : Found). slice_range text m.start m.end) (lexed res text)
+    ++ drop (end_after 0 (lexed res text)) text ≡ text

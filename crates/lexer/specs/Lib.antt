@@ -1,6 +1,7 @@
 pub mod Lexed
-pub mod Lexers
+pub mod Lexing
+pub mod Patterns
 pub mod Printed
+pub mod RuleErrors
 pub mod Rules
 pub mod Tokens
-pub mod RuleErrors

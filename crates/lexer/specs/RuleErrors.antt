@@ -1,15 +1,19 @@
 -- Why rules cannot be compiled, and what is printed of it.
 use Rattle.std.specs.Prelude.{◌≡◌, ℕ, ◌+◌, ◌-◌, ◌^◌, ◌++◌, Bool, List, Some, false, true, ⊤, chars, codes, decimal, length, min, slice_get, take}
 use Rattle.nfa_compiler.specs.ErrorTexts.{compile_error_text}
-use Rattle.nfa_compiler.specs.Rejected.{IsFirstTooBigOf, IsRejection}
+use Rattle.nfa_compiler.specs.Rejected.{IsFirstTooBigOf, IsOfOneText, IsRejection, NamesText}
 use Rattle.nfa_compiler.specs.declared.error.CompileError.{CompileError}
 use Rattle.nfa_compiler.specs.declared.error.CompileError.TheVariants.{Memory, Syntax, TooBig}
 use Rattle.nfa_compiler.specs.declared.syntax_error.SyntaxError.{SyntaxError}
-use Rattle.lexer.specs.Lexed.{rule_patterns}
-use Rattle.lexer.specs.Tokens.{rule_syntax}
+use Rattle.lexer.specs.Patterns.{rule_patterns, rule_syntax}
 use Rattle.lexer.specs.declared.rules.Rule.{Rule}
 use Rattle.lexer.specs.declared.rules.RulesError.{RulesError}
 use Rattle.lexer.specs.declared.rules.RulesError.TheVariants.{NoRule, NoPattern, TooLarge, Compile}
+
+-- the compiler refuses these patterns with the error
+pub record IsRefusal (patterns : List (List ℕ)) (error : CompileError) : Type 0 where
+  pub rejected : IsOfOneText rule_syntax patterns error
+  pub named : NamesText rule_syntax 10485760 patterns error
 
 -- The pattern of the rule of this line is none, by the grammar. The column counts the characters of the line before the
 -- error, and the largest number stands for larger ones.

@@ -1,130 +1,119 @@
 //! A line for each token.
-ghost use Rattle.std.specs.Prelude.{◌≡◌, ◌++◌, All, IfOk, IfSome, List, OnOk, codes, is_none, length, map, option_map};
-ghost use Rattle.std.specs.Prelude.{slice_get};
+ghost use Rattle.std.specs.Prelude.{◌≡◌, ◌++◌, IfOk, IfSome, List, OnOk, codes, is_none};
+ghost use Rattle.std.specs.Prelude.{slice_get, string_bytes};
 ghost use Rattle.std.specs.Io.KnownBytes.{Appends};
 ghost use Rattle.regex_hir.specs.Re.{Re};
 ghost use Rattle.nfa_compiler.specs.Compiled.{AreMeant};
-ghost use Rattle.lexer.specs.Lexed.{IsLexerOf, rule_patterns, stuck_in};
-ghost use Rattle.lexer.specs.Printed.{printed_tokens, rule_line, shown_place, shown_text, stuck_line, token_line};
-ghost use Rattle.lexer.specs.Printed.{token_lines, unknown_line};
-ghost use Rattle.lexer.specs.Tokens.{AreTokens, IsStuck, LiesInText, end_of_tokens, rule_syntax, token_found};
+ghost use Rattle.lexer.specs.Lexed.{stuck_in};
+ghost use Rattle.lexer.specs.Patterns.{rule_patterns, rule_syntax};
+ghost use Rattle.lexer.specs.Printed.{object_line, printed_tokens, rule_line, shown_place, shown_text};
+ghost use Rattle.lexer.specs.Printed.{shown_unless_skipped, stuck_at, stuck_line, token_line, token_lines};
+ghost use Rattle.lexer.specs.Printed.{unknown_line};
+ghost use Rattle.json.specs.Print.{quoted};
+ghost use Rattle.lexer.specs.Tokens.{LiesInText, token_found};
 
-use crate::lexer::{Lexed, Token, tokens};
+use crate::lexer::{Lexer, Token};
+use crate::names::is_in;
 use crate::rules::Rule;
 use anyhow::Result;
-use nfa_engines::pikevm::PikeVM;
 use regex_search_core::Span;
-use std::alloc::Global;
+use serde_json::Value;
+use std::alloc::{AllocError, Global};
 use std::io;
 use std::io::{Read, Write};
 
-/// Reads the text to its end and prints its tokens, and returns whether they are the whole text. If they are not, the
-/// last line has the offset at which no token starts. Fails if the input cannot be read, the output cannot be written
-/// or allocation failed; nothing more is written then.
+/// How tokens are printed.
+#[derive(Clone, Copy, Debug)]
+pub struct Style<'s> {
+    /// The names of the rules whose tokens are not printed.
+    pub skip: &'s [&'s str],
+    /// Whether each token is a JSON object.
+    pub json: bool,
+}
+
+/// Reads the text to its end and prints its tokens but those of the rules to skip, and returns whether they are the
+/// whole text. If they are not, the last line has the offset at which no token starts. Fails if the input cannot be
+/// read, the output cannot be written or allocation failed; nothing more is written then.
 ///
-/// Requires a PikeVM of these rules that prefers the first pattern that matches.
+/// Requires a lexer of these rules.
 ///
 /// If the reader and the writer have known bytes, the text is all that the reader had left, and the writer has taken
 /// the lines of the tokens that the meanings of the rules give, and nothing else.
 pub fn run<R: Read + Drop, W: Write>(
     alloc: Global,
-    vm: &PikeVM,
+    lexer: &mut Lexer<'_>,
     rules: &[Rule<'_>],
+    style: Style<'_>,
     mut input: R,
     out: &mut W,
 ) -> Result<bool>
-    requires { IsLexerOf (rule_patterns rules.now) vm.now }
+    requires { lexer.old ≡ rule_patterns rules.now }
     ensures printed { OnOk result ((res : List Re) → AreMeant rule_syntax (rule_patterns rules.now) res
         → IfSome (R.remaining input) (λ text. Appends (W.contents out.old) (W.contents out.new)
-        (printed_tokens rules.now res text))) }
+        (printed_tokens style.entry rules.now res text))) }
     ensures whole { IfOk result (λ whole. (res : List Re) → AreMeant rule_syntax (rule_patterns rules.now) res
         → IfSome (R.remaining input) (λ text. whole ≡ is_none (stuck_in res text))) }
 {
     let mut text = Vec::new(alloc);
     input.read_to_end(&mut text)?;
-    print_tokens(alloc, vm, rules, &text, out)
+    Ok(print_tokens(alloc, lexer, rules, style, &text, out)?)
 }
 
 /// Prints the tokens of the text, and returns whether they are the whole text.
 fn print_tokens<W: Write>(
     alloc: Global,
-    vm: &PikeVM,
+    lexer: &mut Lexer<'_>,
     rules: &[Rule<'_>],
+    style: Style<'_>,
     text: &[u8],
     out: &mut W,
-) -> Result<bool>
-    requires { IsLexerOf (rule_patterns rules.now) vm.now }
+) -> io::Result<bool>
+    requires { lexer.old ≡ rule_patterns rules.now }
     ensures printed { OnOk result ((res : List Re) → AreMeant rule_syntax (rule_patterns rules.now) res
-        → Appends (W.contents out.old) (W.contents out.new) (printed_tokens rules.now res text.now)) }
+        → Appends (W.contents out.old) (W.contents out.new) (printed_tokens style.entry rules.now res text.now)) }
     ensures whole { IfOk result (λ whole. (res : List Re) → AreMeant rule_syntax (rule_patterns rules.now) res
         → whole ≡ is_none (stuck_in res text.now)) }
 {
-    let mut cache = vm.create_cache(alloc)?;
-    let lexed = tokens(alloc, vm, &mut cache, text)?;
-    lie_in_text(vm, text, &lexed);
-    write_lexed(out, rules, text, &lexed)?;
-    Ok(lexed.stuck.is_none())
-}
-
-/// Each of these tokens is inside the text.
-fn lie_in_text(vm: &PikeVM, text: &[u8], lexed: &Lexed)
-    requires tokens { AreTokens vm.now text.now lexed.now.tokens.items
-        (end_of_tokens lexed.now.stuck (length text.now)) }
-    requires stuck { IfSome lexed.now.stuck (IsStuck vm.now text.now) }
-    ensures { All (LiesInText text.now) lexed.now.tokens.items }
-{}
-
-/// Writes a line for each token, and one for the place where no token starts.
-#[tactic(auto, using(crate::proofs::Writes::writes))]
-fn write_lexed<W: Write>(
-    out: &mut W,
-    rules: &[Rule<'_>],
-    text: &[u8],
-    lexed: &Lexed,
-) -> io::Result<()>
-    requires { All (LiesInText text.now) lexed.now.tokens.items }
-    ensures { OnOk result (Appends (W.contents out.old) (W.contents out.new)
-        (token_lines rules.now text.now (map token_found lexed.now.tokens.items)
-        ++ stuck_line (option_map (λ stuck. stuck.at) lexed.now.stuck))) }
-{
-    write_tokens(out, rules, text, &lexed.tokens)?;
-    if let Some(stuck) = &lexed.stuck {
-        let at = stuck.at;
-        writeln!(out, "no token at {at}")?;
+    let mut at = 0;
+    while at < text.len() {
+        let Some(token) = lexer.token_at(text, at) else {
+            write_stuck(out, style.json, at)?;
+            out.flush()?;
+            return Ok(false);
+        };
+        write_token(alloc, out, rules, style, text, token)?;
+        at = token.span.end;
     }
-    out.flush()
+    out.flush()?;
+    Ok(true)
 }
 
-#[tactic(auto, using(crate::proofs::Writes::writes))]
-fn write_tokens<W: Write>(
-    out: &mut W,
-    rules: &[Rule<'_>],
-    text: &[u8],
-    tokens: &[Token],
-) -> io::Result<()>
-    requires { All (LiesInText text.now) tokens.now }
-    ensures { OnOk result (Appends (W.contents out.old) (W.contents out.new)
-        (token_lines rules.now text.now (map token_found tokens.now))) }
+/// Writes that no token starts at this offset.
+fn write_stuck<W: Write>(out: &mut W, json: bool, at: usize) -> io::Result<()>
+    ensures { OnOk result (Appends (W.contents out.old) (W.contents out.new) (stuck_at json at)) }
 {
-    for token in tokens {
-        write_token(out, rules, text, token)?;
+    if json {
+        return writeln!(out, "{{\"no_token_at\":{at}}}");
     }
-    Ok(())
+    writeln!(out, "no token at {at}")
 }
 
+/// Writes the line of the token, if tokens of its rule are printed.
 fn write_token<W: Write>(
+    alloc: Global,
     out: &mut W,
     rules: &[Rule<'_>],
+    style: Style<'_>,
     text: &[u8],
-    token: &Token,
+    token: Token,
 ) -> io::Result<()>
-    requires { LiesInText text.now token.now }
+    requires { LiesInText text.now token }
     ensures { OnOk result (Appends (W.contents out.old) (W.contents out.new)
-        (token_line rules.now text.now (token_found token.now))) }
+        (token_line style.entry rules.now text.now (token_found token))) }
 {
     let shown = &text[token.span.start..token.span.end];
     match rule_at(rules, token.pattern.as_usize()) {
-        Some(rule) => write_rule(out, rule, token.span, shown),
+        Some(rule) => write_unless_skipped(alloc, out, rule, style, token.span, shown),
         None => write_unknown(out, token.span, shown),
     }
 }
@@ -134,6 +123,54 @@ fn rule_at<'t>(rules: &[Rule<'t>], number: usize) -> Option<Rule<'t>>
     ensures { result ≡ slice_get rules.now number }
 {
     rules.get(number).copied()
+}
+
+/// Writes the line of a token of this rule, if tokens of the rule are printed.
+fn write_unless_skipped<W: Write>(
+    alloc: Global,
+    out: &mut W,
+    rule: Rule<'_>,
+    style: Style<'_>,
+    span: Span,
+    text: &[u8],
+) -> io::Result<()>
+    ensures { OnOk result (Appends (W.contents out.old) (W.contents out.new)
+        (shown_unless_skipped style.entry rule.entry span text.now)) }
+{
+    if is_in(style.skip, rule.name) {
+        return Ok(());
+    }
+    if style.json {
+        return write_object(alloc, out, rule.name, span, text);
+    }
+    write_rule(out, rule, span, text)
+}
+
+/// Writes a token as a JSON object. Bytes of its text that are not UTF-8 are replaced by U+FFFD.
+fn write_object<W: Write>(
+    alloc: Global,
+    out: &mut W,
+    name: &str,
+    span: Span,
+    text: &[u8],
+) -> io::Result<()>
+    ensures { OnOk result (Appends (W.contents out.old) (W.contents out.new) (object_line name.now span text.now)) }
+{
+    let kind = quoted(alloc, String::from_utf8_lossy(alloc, name.as_bytes())?)?;
+    let shown = quoted(alloc, String::from_utf8_lossy(alloc, text)?)?;
+    let start = span.start;
+    let end = span.end;
+    writeln!(
+        out,
+        "{{\"kind\":{kind},\"start\":{start},\"end\":{end},\"text\":{shown}}}"
+    )
+}
+
+/// Returns the text in quotes, with the escapes of JSON.
+fn quoted(alloc: Global, text: String) -> Result<String, AllocError>
+    ensures { IfOk result (λ made. string_bytes made ≡ quoted (string_bytes text)) }
+{
+    Value::String(text).to_string(alloc)
 }
 
 /// Writes the name of the rule, the span, and the text, if it is not hidden.

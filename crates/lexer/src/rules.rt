@@ -2,18 +2,16 @@
 ghost use Rattle.std.specs.Prelude.{◌≡◌, ◌≤◌, ◌<◌, ◌+◌, ◌-◌, ◌^◌, IfErr, IfNone, IfOk, IfSome, chars, length, map};
 ghost use Rattle.std.specs.Str.{trim_start};
 ghost use Rattle.std.specs.Str.Lines.{lines};
-ghost use Rattle.nfa_compiler.specs.Compiled.{IsCompiled};
 ghost use Rattle.nfa_compiler.specs.Rejected.{IsOfOneText, NamesText, TextsFitIn};
 ghost use Rattle.nfa_compiler.specs.declared.error.CompileError.TheVariants.{Syntax, TooBig};
-ghost use Rattle.lexer.specs.Lexed.{rule_patterns};
-ghost use Rattle.lexer.specs.RuleErrors.{IsCompileMistake};
+ghost use Rattle.lexer.specs.Patterns.{IsRegexOf, rule_patterns, rule_syntax};
+ghost use Rattle.lexer.specs.RuleErrors.{IsCompileMistake, IsRefusal};
 ghost use Rattle.lexer.specs.Rules.{AreRulesOf, HasRule, IsRuleOf, IsRulesError, is_left_out};
-ghost use Rattle.lexer.specs.Tokens.{rule_syntax};
 
-use nfa_compiler::{CompileError, Compiler, Config, SyntaxError};
+use nfa_compiler::{CompileError, SyntaxError};
+use nfa_meta::{BuildError, Regex};
 use std::alloc::{AllocError, AllocFailed, Global};
 use std::fmt;
-use thompson_nfa::NFA;
 
 /// The rules of the program if no others are given.
 ///
@@ -211,23 +209,33 @@ fn char_count(text: &str) -> usize
     text.chars().count()
 }
 
-/// Compiles the patterns of these rules, each of which is bound to the start of a search and matches bytes.
-pub fn compile(alloc: Global, rules: &[Rule<'_>]) -> Result<NFA, RulesError>
-    ensures compiled { IfOk result (IsCompiled rule_syntax (rule_patterns rules.now)) }
-    ensures anchored { IfOk result (λ nfa. nfa.anchored ≡ nfa.unanchored) }
+/// Makes one regex of the patterns of these rules. Each search is bound to its start, and patterns match bytes.
+pub fn compile(alloc: Global, rules: &[Rule<'_>]) -> Result<Regex, RulesError>
+    ensures compiled { IfOk result (IsRegexOf (rule_patterns rules.now)) }
     ensures fits { IfOk result (λ _. TextsFitIn 10485760 rule_syntax (rule_patterns rules.now)) }
     ensures error { IfErr result (IsCompileMistake rules.now) }
 {
     let patterns = patterns_of(alloc, rules)?;
-    let config = Config::new().utf8(false).anchored(true);
-    match Compiler::new()
+    let config = Regex::config().utf8(false).anchored(true);
+    match Regex::builder()
         .configure(config)
         .build_many(alloc, &patterns)
     {
-        Ok(nfa) => Ok(nfa),
-        Err(CompileError::Syntax(error)) => Err(syntax_error(rules, &error)),
-        Err(CompileError::TooBig { pattern, limit }) => Err(too_large(rules, pattern, limit)),
-        Err(error) => Err(RulesError::Compile(error)),
+        Ok(regex) => Ok(regex),
+        Err(BuildError::Memory) => Err(RulesError::Compile(CompileError::Memory)),
+        Err(BuildError::Compile(error)) => Err(refusal(rules, error)),
+    }
+}
+
+/// Returns the error of the compiler as one of the rules.
+fn refusal(rules: &[Rule<'_>], error: CompileError) -> RulesError
+    requires { IsRefusal (rule_patterns rules.now) error }
+    ensures { IsCompileMistake rules.now result }
+{
+    match error {
+        CompileError::Syntax(error) => syntax_error(rules, &error),
+        CompileError::TooBig { pattern, limit } => too_large(rules, pattern, limit),
+        error => RulesError::Compile(error),
     }
 }
 

@@ -1,6 +1,6 @@
 -- From the laws on searches of texts to the fields of a line.
-use Rattle.std.proofs.Common.{◌≡◌, ◌∙◌, ℕ, suc, ◌+◌, ◌≤◌, ◌<◌, Bool, true, false, List, [], ◌∷◌, map, length, drop, refl, sym, ap, subst, arith, eq-eqb}
-use Rattle.std.specs.Prelude.{Option, None, Some, IsSome, option_map, ◌==◌}
+use Rattle.std.proofs.Common.{◌≡◌, ◌∙◌, ℕ, ◌+◌, ◌≤◌, ◌<◌, true, false, List, [], ◌∷◌, map, length, drop, refl, sym, ap, subst, arith, eq-eqb}
+use Rattle.std.specs.Prelude.{Option, None, Some, IsSome, option_map}
 use Rattle.std.specs.Option.{option_or}
 use Rattle.std.proofs.lemmas.Bool.{le-ltb}
 use Rattle.regex_hir.specs.Find.{Match}
@@ -9,15 +9,26 @@ use Rattle.regex_search_core.specs.Groups.{groups_at, slot_count}
 use Rattle.regex_search_core.specs.Search.{Search, whole}
 use Rattle.regex_search_core.specs.declared.search.Anchored.TheVariants.{No}
 use Rattle.regex_search_core.specs.Slots.{Captured, group_span}
-use Rattle.thompson_nfa.specs.Automaton.{Automaton}
+use Rattle.nfa_engines.specs.Automaton.{Automaton}
 use Rattle.nfa_compiler.specs.Laws.{hit}
 use Rattle.nfa_compiler.specs.NameLaws.{GroupsAreWritten, captures_of, written_span}
 use Rattle.nfa_compiler.specs.Patterns.{PatternHit, expected, hit_by, hit_of, slots_of}
+use Rattle.nfa_meta.specs.ChoiceState.{ChoiceState, KeepsEngines}
 use Rattle.log_extractor.specs.declared.pattern.Column.{Column}
-use Rattle.log_extractor.specs.Fields.{LinePattern, NamedGroup, columns_of, cut, fields_of, group_of, match_at_start, named_groups, row}
+use Rattle.log_extractor.specs.Fields.{IsRegexOf, LinePattern, NamedGroup, columns_of, cut, fields_of, group_of, match_at_start, named_groups, row}
 
 no : false ≡ true → ⊥
 no e = cc
+
+-- a search keeps what a regex is made of
+pub regex-kept : (text : List ℕ) (old new : ChoiceState) → IsRegexOf text old → KeepsEngines old new
+    → IsRegexOf text new
+regex-kept text old new is kept = record {
+  compiled = rw kept.nfa is.compiled;
+  anywhere = rw kept.nfa is.anywhere;
+  bound = rw kept.nfa is.bound;
+  leftmost = kept.match_kind ∙ is.leftmost;
+}
 
 -- the one hit of a search that is bound to its start
 bound-hit-at : (re : Re) (nfa : Automaton) (x : Search) → nfa.anchored ≡ nfa.unanchored → x.anchored ≡ No

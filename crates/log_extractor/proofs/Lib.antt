@@ -1,4 +1,6 @@
+mod EscapeLemmas
 mod FieldLemmas
 mod GoingLemmas
 mod NameLemmas
 mod ObjectLemmas
+mod RowLemmas

@@ -1,9 +1,9 @@
 -- The named groups of some names and one more.
 use Rattle.std.proofs.Common.{◌≡◌, ◌∙◌, ℕ, ◌+◌, ◌<◌, ◌≤◌, List, [], ◌∷◌, ◌++◌, map, take, drop, length, option_map, refl, sym, ap, arith}
-use Rattle.std.specs.Prelude.{Option, None, Some, IsSomeAnd, String, chars, string_bytes, slice_get, slice_index_or}
+use Rattle.std.specs.Prelude.{Option, None, Some, IsSomeAnd, String, chars, string_bytes, slice_get}
 use Rattle.std.specs.List.{AllZip}
 use Rattle.std.specs.declared.alloc.Global.{Global}
-use Rattle.std.proofs.lemmas.List.{length-map, length-take, map-append, take_more}
+use Rattle.std.proofs.lemmas.List.{length-map, length-take, map-append}
 use Rattle.regex_hir.specs.Meaning.{meaning}
 use Rattle.regex_hir.specs.Re.{Re}
 use Rattle.regex_hir.specs.declared.hir.Hir.{Hir}
@@ -13,7 +13,7 @@ use Rattle.regex_syntax.specs.declared.Parsed.{Parsed}
 use Rattle.regex_syntax.specs.Grammar.{Names, group_count, read}
 use Rattle.regex_syntax.specs.Verdict.{Reads}
 use Rattle.regex_search_core.specs.Groups.{groups_at}
-use Rattle.thompson_nfa.specs.Automaton.{Automaton}
+use Rattle.nfa_engines.specs.Automaton.{Automaton}
 use Rattle.nfa_compiler.specs.Compiled.{IsCompiled, IsTreeOf, groups_of}
 use Rattle.nfa_compiler.specs.NameLaws.{IsNamed}
 use Rattle.nfa_compiler.proofs.NameLemmas.{names-one}

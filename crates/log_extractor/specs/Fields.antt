@@ -6,9 +6,11 @@ use Rattle.regex_hir.specs.Re.{Re, accept, attempt}
 use Rattle.regex_search_core.specs.declared.search.Span.{Span}
 use Rattle.regex_syntax.specs.Verdict.{default_config}
 use Rattle.regex_syntax.specs.declared.Config.{Config}
-use Rattle.nfa_compiler.specs.Compiled.{IsMeant}
+use Rattle.nfa_engines.specs.Paths.{is_utf8_empty}
+use Rattle.nfa_compiler.specs.Compiled.{IsCompiled, IsMeant}
 use Rattle.nfa_compiler.specs.NameLaws.{IsNamed, written_span}
 use Rattle.nfa_compiler.specs.Rejected.{IsOfOneText, NamesText}
+use Rattle.nfa_meta.specs.ChoiceState.{ChoiceState}
 use Rattle.log_extractor.specs.declared.pattern.Column.{Column}
 use Rattle.log_extractor.specs.declared.pattern.PatternError.{PatternError}
 use Rattle.log_extractor.specs.declared.pattern.PatternError.TheVariants.{Memory, Compile, NoColumns}
@@ -26,6 +28,13 @@ pub record LinePattern : Type 0 where
 pub record IsLinePattern (text : List ℕ) (p : LinePattern) : Type 0 where
   pub tree : IsMeant line_syntax text p.tree
   pub names : IsNamed line_syntax text p.names
+
+-- The regex is made of this pattern. Its searches are bound to their start, and matches may end anywhere.
+pub record IsRegexOf (text : List ℕ) (regex : ChoiceState) : Type 0 where
+  pub compiled : IsCompiled line_syntax (text ∷ []) regex.nfa
+  pub anywhere : is_utf8_empty regex.nfa ≡ false
+  pub bound : regex.nfa.anchored ≡ regex.nfa.unanchored
+  pub leftmost : regex.match_kind ≡ None
 
 -- a column: a group that has a name
 pub record NamedGroup : Type 0 where

@@ -1,23 +1,47 @@
 -- What is printed of the lines of an input.
-use Rattle.std.specs.Prelude.{◌≡◌, ℕ, List, [], ◌∷◌, ◌++◌, Option, None, Some, codes, flat_map, map, unwrap_or, if◌then◌else◌}
+use Rattle.std.specs.Prelude.{◌≡◌, ◌≢◌, ◌==◌, ℕ, List, [], ◌∷◌, ◌++◌, All, Option, None, Some, codes, flat_map, map, unwrap_or, if◌then◌else◌}
 use Rattle.std.specs.Str.Lossy.{utf8_lossy}
 use Rattle.json.specs.Print.{quoted}
 use Rattle.text_lines.specs.Lines.{content, line_feed, lines_of, with_feed}
 use Rattle.log_extractor.specs.Fields.{LinePattern, NamedGroup, columns_of, row}
+use Rattle.log_extractor.specs.Written.{carriage_return, feed, separator, tab, unescaped, written}
+use Rattle.log_extractor.specs.declared.output.Form.{Form}
+use Rattle.log_extractor.specs.declared.output.Form.TheVariants.{Tabs}
 use Rattle.log_extractor.specs.declared.output.Output.{Output}
 use Rattle.log_extractor.specs.declared.output.Output.TheVariants.{Table, Rows, Objects, Rejects}
-
-abbrev pub tab : ℕ
-tab = 9
 
 -- these pieces, with this byte before each one but the first
 abbrev pub separated : ℕ → List (List ℕ) → List ℕ
 separated byte [] = []
 separated byte (piece ∷ pieces) = piece ++ flat_map (λ p. byte ∷ p) pieces
 
--- the fields with tabs between them, as a line
-abbrev pub row_line : List (List ℕ) → List ℕ
-row_line fields = separated tab fields ++ line_feed ∷ []
+-- the texts as fields of a row of this form
+abbrev pub row_text : Form → List (List ℕ) → List ℕ
+row_text form texts = separated (separator form) (map (written form) texts)
+
+-- the row as a line
+abbrev pub row_line : Form → List (List ℕ) → List ℕ
+row_line form texts = row_text form texts ++ line_feed ∷ []
+
+-- the byte, before the first field
+abbrev pub grown : ℕ → List (List ℕ) → List (List ℕ)
+grown byte [] = (byte ∷ []) ∷ []
+grown byte (field ∷ fields) = (byte ∷ field) ∷ fields
+
+-- the parts of a row between its tabs
+abbrev pub cut_at_tabs : List ℕ → List (List ℕ)
+cut_at_tabs [] = [] ∷ []
+cut_at_tabs (byte ∷ bytes) = if byte == tab then ([] ∷ cut_at_tabs bytes) else grown byte (cut_at_tabs bytes)
+
+-- a row with tabs is a single line
+abbrev pub RowsAreLines : Type 0
+RowsAreLines = (texts : List (List ℕ)) → All (λ byte. (byte ≢ feed) × (byte ≢ carriage_return)) (row_text Tabs texts)
+
+-- what is between its tabs means the texts
+abbrev pub RowsAreReadBack : Type 0
+RowsAreReadBack =
+    (text : List ℕ) (texts : List (List ℕ))
+    → map unescaped (cut_at_tabs (row_text Tabs (text ∷ texts))) ≡ text ∷ texts
 
 -- the text of a field: empty if there is none
 abbrev pub field_text : Option (List ℕ) → List ℕ
@@ -27,8 +51,8 @@ abbrev pub field_texts : List (Option (List ℕ)) → List (List ℕ)
 field_texts fields = map field_text fields
 
 -- the line of a row
-abbrev pub field_line : List (Option (List ℕ)) → List ℕ
-field_line fields = row_line (field_texts fields)
+abbrev pub field_line : Form → List (Option (List ℕ)) → List ℕ
+field_line form fields = row_line form (field_texts fields)
 
 -- the names of columns
 abbrev pub column_names : List NamedGroup → List (List ℕ)
@@ -54,15 +78,15 @@ object_line columns fields = 123 ∷ separated 44 (members columns fields) ++ 12
 
 -- what is printed of a line that has these fields
 abbrev pub shown_fields : Output → List NamedGroup → List (Option (List ℕ)) → List ℕ
-shown_fields Table columns fields = field_line fields
-shown_fields Rows columns fields = field_line fields
+shown_fields (Table form) columns fields = field_line form fields
+shown_fields (Rows form) columns fields = field_line form fields
 shown_fields Objects columns fields = object_line columns fields
 shown_fields Rejects columns fields = []
 
 -- what is printed of a line that has none: of rejects, the line itself
 abbrev pub shown_reject : Output → List ℕ → List ℕ
-shown_reject Table line = []
-shown_reject Rows line = []
+shown_reject (Table form) line = []
+shown_reject (Rows form) line = []
 shown_reject Objects line = []
 shown_reject Rejects line = with_feed line
 
@@ -77,8 +101,8 @@ shown_line output p line = shown_as output (columns_of p) line (row p (content l
 
 -- what is printed before the lines: of a table, the names of the columns
 abbrev pub table_head : Output → List NamedGroup → List ℕ
-table_head Table columns = row_line (column_names columns)
-table_head Rows columns = []
+table_head (Table form) columns = row_line form (column_names columns)
+table_head (Rows form) columns = []
 table_head Objects columns = []
 table_head Rejects columns = []
 

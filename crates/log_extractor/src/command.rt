@@ -1,29 +1,39 @@
 //! What the arguments of the command line ask for.
-use crate::output::Output;
-use crate::pattern::LINE;
+use crate::output::{Form, Output};
+use crate::pattern::{COMBINED, LINE, SYSLOG};
 use anyhow::Result;
 use clap::{Arg, ArgAction, ArgMatches, Error};
 use option_values::{Valued, split_values};
 use std::alloc::{AllocError, Global};
 
 /// How the program is called.
-const USAGE: &str = "log_extractor [OPTIONS] < LOG";
+const USAGE: &str = "log_extractor [OPTIONS] [FILE]..";
 
-/// What the help says below the options.
+/// The names of formats.
+const FORMATS: &[&str] = &["syslog", "combined"];
+
+/// What the help says below the options, before the patterns of the formats.
 const AFTER: &str = "\
 The named groups of the pattern are the columns, in order. A line has a row if the pattern matches it from its start.
-A field is the text of its group, unchanged, and empty if the group took no part. Fields are separated by tabs.
+A field is the text of its group, and empty if the group took no part. Fields are separated by tabs. In a field, \\t is
+a tab, \\n a line feed, \\r a carriage return and \\\\ a backslash, so a row is always one line with all its columns.
+With --csv a field is in quotes if it is empty or has a comma, a quote or an end of a line, and its quotes are doubled.
+Without a file, or for the file -, standard input is read.
 A line is of any bytes. It ends at a line feed, and a carriage return before the line feed belongs to the end.
-The default pattern is of lines such as `2026-11-22 14:03:07 ERROR disk full`.
 
-Status: 0, 1 if the input cannot be read, the output cannot be written or memory runs out, 2 if the arguments or the
-pattern are wrong.";
+Status: 0, 1 if an input cannot be read, the output cannot be written or memory runs out, 2 if the arguments or the
+pattern are wrong. If the output is a pipe that is closed, the program ends with status 0.
 
-/// By which pattern fields are found, and what is printed.
-#[derive(Clone, Copy)]
+The default pattern is of lines such as `2026-11-22 14:03:07 ERROR disk full`. The patterns of the formats:";
+
+/// By which pattern fields are found, where, and what is printed.
+#[derive(Drop)]
 pub struct Arguments<'w> {
     pub pattern: &'w str,
     pub output: Output,
+    /// Whether the output for a line is written before the next line is read.
+    pub line_buffered: bool,
+    pub files: Vec<&'w str>,
 }
 
 /// What the arguments ask for.
@@ -45,22 +55,56 @@ pub fn split<'w>(alloc: Global, words: &[&'w str]) -> Result<Vec<&'w str>, Alloc
     split_values(alloc, pattern, words)
 }
 
-/// Reads the split arguments, the first of which is the name of the program. The only error is that allocation failed.
-pub fn parse<'w>(alloc: Global, words: &'w [&'w str]) -> Result<Command<'w>> {
+/// Returns what the help says below the options.
+pub fn help_below(alloc: Global) -> Result<String, AllocError> {
+    format!(in alloc; "{AFTER}\n  syslog    {SYSLOG}\n  combined  {COMBINED}")
+}
+
+/// Reads the split arguments, the first of which is the name of the program. The help ends with `below`. The only error
+/// is that allocation failed.
+pub fn parse<'w>(alloc: Global, below: &'w str, words: &'w [&'w str]) -> Result<Command<'w>> {
     let command = clap::Command::new(alloc, "log_extractor")
-        .about("Prints the fields of log lines from standard input.")
+        .about("Prints the fields of log lines.")
         .override_usage(USAGE)
-        .after_help(AFTER)
-        .arg(
-            Arg::new(alloc, "pattern")
-                .short('p')
-                .long("pattern")
-                .action(ArgAction::Set)
-                // A pattern may begin with a hyphen.
-                .allow_hyphen_values(true)
-                .value_name("PATTERN")
-                .help("Find fields by this pattern"),
-        )?
+        .after_help(below)
+        .arg(pattern_argument(alloc)?)?
+        .arg(format_argument(alloc))?;
+    let command = with_output(alloc, command)?.arg(files_argument(alloc))?;
+    match command.try_get_matches_from(words) {
+        Ok(matches) => Ok(Command::Extract(read_matches(alloc, &matches)?)),
+        Err(error) => Ok(Command::Say(error)),
+    }
+}
+
+/// The option with the pattern.
+fn pattern_argument<'w>(alloc: Global) -> Result<Arg<'w>, AllocError> {
+    Arg::new(alloc, "pattern")
+        .short('p')
+        .long("pattern")
+        .action(ArgAction::Set)
+        // A pattern may begin with a hyphen.
+        .allow_hyphen_values(true)
+        .value_name("PATTERN")
+        .help("Find fields by this pattern")
+        .conflicts_with("format")
+}
+
+/// The option that names a pattern.
+fn format_argument<'w>(alloc: Global) -> Arg<'w> {
+    Arg::new(alloc, "format")
+        .long("format")
+        .action(ArgAction::Set)
+        .value_parser(FORMATS)
+        .value_name("FORMAT")
+        .help("Find fields by the pattern of this format, which is shown below")
+}
+
+/// Adds the options that say what is printed.
+fn with_output<'w>(
+    alloc: Global,
+    command: clap::Command<'w>,
+) -> Result<clap::Command<'w>, AllocError> {
+    command
         .arg(
             flag(alloc, "rows")?
                 .conflicts_with("json")?
@@ -68,15 +112,27 @@ pub fn parse<'w>(alloc: Global, words: &'w [&'w str]) -> Result<Command<'w>> {
                 .help("Print no line with the names of the columns"),
         )?
         .arg(
+            flag(alloc, "csv")?
+                .conflicts_with("json")?
+                .conflicts_with("rejects")?
+                .help("Separate fields by commas"),
+        )?
+        .arg(
             flag(alloc, "json")?
                 .conflicts_with("rejects")?
                 .help("Print a JSON object for each row"),
         )?
-        .arg(flag(alloc, "rejects")?.help("Print the lines that have no row, and no rows"))?;
-    match command.try_get_matches_from(words) {
-        Ok(matches) => Ok(Command::Extract(read_matches(&matches))),
-        Err(error) => Ok(Command::Say(error)),
-    }
+        .arg(flag(alloc, "rejects")?.help("Print the lines that have no row, and no rows"))?
+        .arg(flag(alloc, "line-buffered")?.help("Write the output for a line before reading on"))
+}
+
+/// The arguments that belong to no option: the files.
+fn files_argument<'w>(alloc: Global) -> Arg<'w> {
+    Arg::new(alloc, "files")
+        .action(ArgAction::Append)
+        .num_args(0..)
+        .value_name("FILE")
+        .help("The files to read, in order")
 }
 
 /// An option without a value, of this name. It may be given several times.
@@ -87,18 +143,47 @@ fn flag<'w>(alloc: Global, name: &'w str) -> Result<Arg<'w>, AllocError> {
         .overrides_with(name)
 }
 
-fn read_matches<'w>(matches: &ArgMatches<'w>) -> Arguments<'w> {
-    let output = if matches.get_flag("rejects") {
+/// Returns the pattern of lines: the one that is given, or that of the format.
+fn pattern_of<'w>(matches: &ArgMatches<'w>) -> &'w str {
+    if let Some(pattern) = matches.get_str("pattern") {
+        return pattern;
+    }
+    match matches.get_str("format") {
+        Some("syslog") => SYSLOG,
+        Some("combined") => COMBINED,
+        _ => LINE,
+    }
+}
+
+/// Returns what is to be printed.
+fn output_of(matches: &ArgMatches<'_>) -> Output {
+    let form = if matches.get_flag("csv") {
+        Form::Commas
+    } else {
+        Form::Tabs
+    };
+    if matches.get_flag("rejects") {
         Output::Rejects
     } else if matches.get_flag("json") {
         Output::Objects
     } else if matches.get_flag("rows") {
-        Output::Rows
+        Output::Rows(form)
     } else {
-        Output::Table
-    };
-    Arguments {
-        pattern: matches.get_str("pattern").unwrap_or(LINE),
-        output,
+        Output::Table(form)
     }
+}
+
+fn read_matches<'w>(alloc: Global, matches: &ArgMatches<'w>) -> Result<Arguments<'w>> {
+    let mut files = Vec::new(alloc);
+    if let Some(words) = matches.get_strs("files") {
+        for word in words {
+            files.push(*word)?;
+        }
+    }
+    Ok(Arguments {
+        pattern: pattern_of(matches),
+        output: output_of(matches),
+        line_buffered: matches.get_flag("line-buffered"),
+        files,
+    })
 }

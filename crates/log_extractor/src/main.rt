@@ -1,7 +1,9 @@
-//! Reads log lines from standard input, and prints their fields.
+//! Prints the fields of log lines from files, or from standard input.
 #![tactic(auto)]
 
 mod command;
+mod field;
+mod files;
 mod object;
 mod output;
 mod parser;
@@ -9,19 +11,19 @@ mod pattern;
 mod report;
 mod row;
 
-use crate::command::{Arguments, Command, parse, split};
+use crate::command::{Arguments, Command, help_below, parse, split};
+use crate::files::print_all;
 use crate::parser::Parser;
 use crate::pattern::PatternError;
 use anyhow::Result;
 use clap::Error;
 use clap::error::ErrorKind;
 use std::fmt::Display;
-use std::io::{BufReader, BufWriter, Write};
 use std::process::ExitCode;
 use std::{env, io};
 use text_lines::failure::Failure;
 
-/// The input, the output or memory failed.
+/// An input, the output or memory failed.
 const FAILED: u8 = 1;
 
 /// The arguments or the pattern are wrong.
@@ -39,12 +41,13 @@ fn answer(rt: &HostRuntime) -> Result<ExitCode> {
     let words: Vec<String> = env::args(rt)?.collect(alloc)?;
     let words: Vec<&str> = words.iter().map(|word| word.as_str()).collect(alloc)?;
     let words = split(alloc, &words)?;
-    match parse(alloc, &words)? {
-        Command::Extract(arguments) => extract(rt, arguments),
-        Command::Say(error) => {
-            error.print(rt)?;
-            Ok(ExitCode::from(status_of(&error)))
-        }
+    let below = help_below(alloc)?;
+    match parse(alloc, below.as_str(), &words)? {
+        Command::Extract(arguments) => extract(rt, &arguments),
+        Command::Say(error) => match error.print(rt) {
+            Err(failure) if failure.kind() != io::ErrorKind::BrokenPipe => Err(failure.into()),
+            _ => Ok(ExitCode::from(status_of(&error))),
+        },
     }
 }
 
@@ -57,19 +60,25 @@ fn status_of(error: &Error) -> u8 {
     }
 }
 
-fn extract(rt: &HostRuntime, arguments: Arguments<'_>) -> Result<ExitCode> {
-    let alloc = rt.alloc();
-    let mut parser = match Parser::new(alloc, arguments.pattern) {
+fn extract(rt: &HostRuntime, arguments: &Arguments<'_>) -> Result<ExitCode> {
+    let mut parser = match Parser::new(rt.alloc(), arguments.pattern) {
         Ok(parser) => parser,
         Err(PatternError::Memory) => return Err(PatternError::Memory.into()),
         Err(error) => return Ok(ended(rt, error, MISUSED)),
     };
-    let mut input = BufReader::new(alloc, rt.reader())?;
-    let mut out = BufWriter::new(alloc, io::writer(rt))?;
-    report::run(alloc, &mut parser, arguments.output, &mut input, &mut out)?;
-    match out.flush() {
-        Ok(()) => Ok(ExitCode::SUCCESS),
-        Err(error) => Err(Failure::Write(error).into()),
+    match print_all(rt, &mut parser, arguments) {
+        Ok(true) => Ok(ExitCode::SUCCESS),
+        Ok(false) => Ok(ExitCode::from(FAILED)),
+        Err(error) if is_closed_pipe(&error) => Ok(ExitCode::SUCCESS),
+        Err(error) => Err(error.into()),
+    }
+}
+
+/// Returns whether the output is a pipe that is closed: its reader has what it wants.
+fn is_closed_pipe(error: &Failure) -> bool {
+    match error {
+        Failure::Write(error) => error.kind() == io::ErrorKind::BrokenPipe,
+        _ => false,
     }
 }
 

@@ -1,12 +1,21 @@
 //! What is printed of an input.
 
+/// How a row is written as a line.
+#[derive(Clone, Copy, Debug, PartialEq, Eq)]
+pub enum Form {
+    /// Tabs between the fields, and escapes in them.
+    Tabs,
+    /// Commas between the fields, and quotes around those that need them.
+    Commas,
+}
+
 /// What is printed of an input.
 #[derive(Clone, Copy, Debug, PartialEq, Eq)]
 pub enum Output {
     /// A line with the names of the columns, and the rows.
-    Table,
+    Table(Form),
     /// The rows only.
-    Rows,
+    Rows(Form),
     /// The rows as JSON objects.
     Objects,
     /// The lines that have no row, as they are.

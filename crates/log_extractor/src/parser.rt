@@ -7,12 +7,12 @@ ghost use Rattle.log_extractor.specs.Fields.{cut, fields_now};
 
 use crate::pattern::{Column, PatternError, columns, compile};
 use nfa_compiler::laws;
-use nfa_engines::pikevm::{Cache, PikeVM};
+use nfa_meta::Regex;
 use regex_search_core::{Captures, Input};
 use std::alloc::{AllocError, Global};
 use std::marker::Model;
 
-/// Finds the fields of lines. It owns an engine, the cache for it, and the captures that a search fills.
+/// Finds the fields of lines. It owns a regex, and the captures that a search fills.
 ///
 /// A contract sees the text of the pattern.
 #[derive(Drop)]
@@ -20,27 +20,22 @@ pub struct Parser<'p> {
     alloc: Global,
     pattern: &'p str,
     columns: Vec<Column>,
-    vm: PikeVM,
-    cache: Cache,
+    regex: Regex,
     captures: Captures,
 }
 
 impl<'p> Model for Parser<'p> {
-    ghost use Rattle.std.specs.Prelude.{◌≡◌, ◌∷◌, [], None, List, false, length, map, ℕ};
+    ghost use Rattle.std.specs.Prelude.{◌≡◌, List, length, map, ℕ};
     ghost use Rattle.regex_search_core.specs.Groups.{groups_at, slot_count};
-    ghost use Rattle.nfa_engines.specs.Engines.{Fits};
-    ghost use Rattle.nfa_engines.specs.Paths.{is_utf8_empty};
-    ghost use Rattle.nfa_compiler.specs.Compiled.{IsCompiled};
-    ghost use Rattle.log_extractor.specs.Fields.{group_of, line_syntax, named_groups};
+    ghost use Rattle.log_extractor.specs.Fields.{IsRegexOf, group_of, named_groups};
 
     ghost Value = { List ℕ };
 
     ghost view = { λ p. p.pattern.now };
 
-    ghost invariant = { λ p. IsCompiled line_syntax (p.pattern.now ∷ []) p.vm.nfa × (is_utf8_empty p.vm.nfa ≡ false)
-        × (p.vm.nfa.anchored ≡ p.vm.nfa.unanchored) × (p.vm.match_kind ≡ None) × Fits p.cache p.vm.nfa
-        × (p.captures.groups ≡ p.vm.nfa.groups) × (length p.captures.slots ≡ slot_count p.vm.nfa.groups)
-        × (map group_of p.columns.items ≡ named_groups 1 (groups_at p.vm.nfa.groups 0)) };
+    ghost invariant = { λ p. IsRegexOf p.pattern.now p.regex × (p.captures.groups ≡ p.regex.nfa.groups)
+        × (length p.captures.slots ≡ slot_count p.regex.nfa.groups)
+        × (map group_of p.columns.items ≡ named_groups 1 (groups_at p.regex.nfa.groups 0)) };
 }
 
 impl<'p> Parser<'p> {
@@ -57,26 +52,19 @@ impl<'p> Parser<'p> {
         ensures mistake { IfErr result (IsPatternMistake pattern.now) }
     {
         laws::groups_are_those_of_texts();
-        let nfa = compile(alloc, pattern)?;
+        let regex = compile(alloc, pattern)?;
         let columns = columns(alloc, pattern)?;
         if columns.is_empty() {
             return Err(PatternError::NoColumns);
         }
-        let Ok(vm) = PikeVM::new_from_nfa(nfa) else {
-            return Err(PatternError::Memory);
-        };
-        let Ok(cache) = vm.create_cache(alloc) else {
-            return Err(PatternError::Memory);
-        };
-        let Ok(captures) = vm.create_captures(alloc) else {
+        let Ok(captures) = regex.create_captures(alloc) else {
             return Err(PatternError::Memory);
         };
         Ok(Parser {
             alloc,
             pattern,
             columns,
-            vm,
-            cache,
+            regex,
             captures,
         })
     }
@@ -102,8 +90,7 @@ impl<'p> Parser<'p> {
     {
         laws::searches_find_texts();
         laws::groups_are_those_of_texts();
-        self.vm
-            .search(&mut self.cache, &Input::new(line), &mut self.captures);
+        self.regex.search(&Input::new(line), &mut self.captures);
         if !self.captures.is_match() {
             return Ok(None);
         }

@@ -1,15 +1,13 @@
 //! The pattern of a line: its columns and its NFA.
-ghost use Rattle.std.specs.Prelude.{◌≡◌, ◌∷◌, ◌++◌, [], IfErr, IfOk, List, OnOk, Option, false, map, option_map};
+ghost use Rattle.std.specs.Prelude.{◌≡◌, ◌∷◌, ◌++◌, [], IfErr, IfOk, List, OnOk, Option, map, option_map};
 ghost use Rattle.std.specs.Prelude.{string_bytes, ℕ};
-ghost use Rattle.nfa_engines.specs.Paths.{is_utf8_empty};
-ghost use Rattle.nfa_compiler.specs.Compiled.{IsCompiled};
 ghost use Rattle.nfa_compiler.specs.NameLaws.{IsNamed};
 ghost use Rattle.nfa_compiler.specs.Rejected.{TextsFitIn};
-ghost use Rattle.log_extractor.specs.Fields.{IsPatternMistake, columns_in, group_of, line_syntax, named_groups};
+ghost use Rattle.log_extractor.specs.Fields.{IsPatternMistake, IsRegexOf, columns_in, group_of, line_syntax};
+ghost use Rattle.log_extractor.specs.Fields.{named_groups};
 
-use nfa_compiler::{CompileError, Compiler, Config, OnlyPattern, Syntax};
-use nfa_engines::error::SearchError;
-use nfa_engines::{BuildError, NFA};
+use nfa_compiler::{OnlyPattern, Syntax};
+use nfa_meta::{BuildError, Regex};
 use std::alloc::{AllocError, AllocFailed, Global};
 use thiserror::Error;
 
@@ -18,6 +16,20 @@ use thiserror::Error;
 pub const LINE: &str = concat!(
     "(?<date>[0-9]{4}-[0-9]{2}-[0-9]{2}) (?<time>[0-9]{2}:[0-9]{2}:[0-9]{2}) ",
     r"(?<level>[A-Z]+) (?<message>(?s-u:.)*)\z",
+);
+
+/// A line of the system's log: `Nov 22 14:03:07 host program[17]: message`, with or without the number of the process,
+/// and with a time as `2026-11-22T14:03:07.123456+01:00` too.
+pub const SYSLOG: &str = concat!(
+    r"(?s-u)(?<time>[A-Z][a-z]{2} [ 0-9][0-9] [0-9:]{8}|[0-9]{4}-[^ ]+) (?<host>[^ ]+) ",
+    r"(?<program>[^ :\[]+)(?:\[(?<pid>[0-9]+)\])?: (?<message>.*)\z",
+);
+
+/// A line of a web server's log in the combined format. A quote in a quoted field has a backslash before it.
+pub const COMBINED: &str = concat!(
+    r"(?s-u)(?<host>[^ ]+) (?<ident>[^ ]+) (?<user>[^ ]+) \[(?<time>[^\]]+)\] ",
+    r#""(?<request>(?:[^"\\]|\\.)*)" (?<status>[0-9]{3}) (?<bytes>[0-9]+|-) "#,
+    r#""(?<referer>(?:[^"\\]|\\.)*)" "(?<agent>(?:[^"\\]|\\.)*)"\z"#,
 );
 
 /// A column: a group of the pattern that has a name.
@@ -63,19 +75,17 @@ impl<T: Drop> From<AllocFailed<T>> for PatternError {
     }
 }
 
-/// Compiles the text of a pattern. A match is bound to the start of the line, and may be of any bytes.
-pub fn compile(alloc: Global, text: &str) -> Result<NFA, PatternError>
-    ensures compiled { IfOk result (IsCompiled line_syntax (text.now ∷ [])) }
-    ensures anchored { IfOk result (λ nfa. nfa.anchored ≡ nfa.unanchored) }
-    ensures anywhere { IfOk result (λ nfa. is_utf8_empty nfa ≡ false) }
+/// Makes a regex of the text of a pattern. A match is bound to the start of the line, and may be of any bytes.
+pub fn compile(alloc: Global, text: &str) -> Result<Regex, PatternError>
+    ensures compiled { IfOk result (IsRegexOf text.now) }
     ensures fits { IfOk result (λ _. TextsFitIn 10485760 line_syntax (text.now ∷ [])) }
     ensures mistake { IfErr result (IsPatternMistake text.now) }
 {
-    let config = Config::new().utf8(false).anchored(true);
-    match Compiler::new().configure(config).build(alloc, text) {
-        Ok(nfa) => Ok(nfa),
-        Err(CompileError::Memory) => Err(PatternError::Memory),
-        Err(error) => Err(PatternError::Compile(OnlyPattern(error))),
+    let config = Regex::config().utf8(false).anchored(true);
+    match Regex::builder().configure(config).build(alloc, text) {
+        Ok(regex) => Ok(regex),
+        Err(BuildError::Memory) => Err(PatternError::Memory),
+        Err(BuildError::Compile(error)) => Err(PatternError::Compile(OnlyPattern(error))),
     }
 }
 

@@ -3,8 +3,9 @@ ghost use Rattle.std.specs.Prelude.{◌≡◌, ◌++◌, OnOk, map, option_map};
 ghost use Rattle.std.specs.Io.KnownBytes.{Appends};
 ghost use Rattle.log_extractor.specs.Fields.{IsLinePattern, LinePattern, columns_of, group_of, fields_now};
 ghost use Rattle.log_extractor.specs.Going.{Writes};
-ghost use Rattle.log_extractor.specs.Printed.{PartsAreJoined, table_head, extracted, extracted_lines};
+ghost use Rattle.log_extractor.specs.Printed.{PartsAreJoined, table_head, extracted_lines};
 ghost use Rattle.log_extractor.specs.Printed.{shown_line, shown_as, shown_fields, shown_reject};
+ghost use Rattle.log_extractor.specs.declared.output.Form.{Form};
 ghost use Rattle.log_extractor.specs.declared.output.Output.TheVariants as output;
 
 use crate::object::append_object;
@@ -18,36 +19,16 @@ use text_lines::failure::Failure;
 use text_lines::line::{append_whole, content};
 use text_lines::stream::{read_line, write_bytes};
 
-/// Prints what is to be printed of an input.
-///
-/// What is printed is said of a reader and a writer of known bytes: the text is all that the reader had left. After an
-/// error, what was printed is a beginning of it.
-pub fn run<R: BufRead, W: Write>(
-    alloc: Global,
-    parser: &mut Parser<'_>,
-    output: Output,
-    input: &mut R,
-    out: &mut W,
-) -> Result<(), Failure>
-    ensures printed { OnOk result (Writes (extracted output) parser.old (R.remaining input.old) (W.contents out.old)
-        (W.contents out.new)) }
-    ensures kept { parser.new ≡ parser.old }
-{
-    print_head(alloc, parser, output, out)?;
-    print_lines(alloc, parser, output, input, out)?;
-    Ok(())
-}
-
 /// The rows of a text, its objects and its rejects are those of its parts, if it is cut after line feeds. So the parts
 /// of a log can be printed side by side, each by a process of its own.
 pub fn parts_are_joined()
-    ensures rows { PartsAreJoined output.Rows }
+    ensures rows { (form : Form) → PartsAreJoined (output.Rows form) }
     ensures objects { PartsAreJoined output.Objects }
     ensures rejects { PartsAreJoined output.Rejects }
 {}
 
-/// Prints what comes before the lines.
-fn print_head<W: Write>(
+/// Prints what comes before the lines of all inputs.
+pub fn print_head<W: Write>(
     alloc: Global,
     parser: &Parser<'_>,
     output: Output,
@@ -66,15 +47,17 @@ fn append_head(output: Output, columns: &[Column], out: &mut Vec<u8>) -> Result<
     ensures { OnOk result (out.new.items ≡ out.old.items ++ table_head output (map group_of columns.now)) }
 {
     match output {
-        Output::Table => append_names(columns, out),
-        Output::Rows | Output::Objects | Output::Rejects => Ok(()),
+        Output::Table(form) => append_names(form, columns, out),
+        Output::Rows(_) | Output::Objects | Output::Rejects => Ok(()),
     }
 }
 
 /// Prints what is to be printed of the lines of an input.
 ///
-/// The input is read a line at a time, so the memory is bounded by the longest line and what is printed of it.
-fn print_lines<R: BufRead, W: Write>(
+/// What is printed is said of a reader and a writer of known bytes: the text is all that the reader had left. After an
+/// error, what was printed is a beginning of it. The input is read a line at a time, so the memory is bounded by the
+/// longest line and what is printed of it.
+pub fn print_lines<R: BufRead, W: Write>(
     alloc: Global,
     parser: &mut Parser<'_>,
     output: Output,
@@ -148,7 +131,7 @@ fn append_fields(
         ≡ out.old.items ++ shown_fields output (map group_of columns.now) (fields_now fields.now)) }
 {
     match output {
-        Output::Table | Output::Rows => append_row(fields, out),
+        Output::Table(form) | Output::Rows(form) => append_row(form, fields, out),
         Output::Objects => append_object(alloc, columns, fields, out),
         Output::Rejects => Ok(()),
     }
@@ -160,6 +143,6 @@ fn append_reject(output: Output, line: &[u8], out: &mut Vec<u8>) -> Result<(), A
 {
     match output {
         Output::Rejects => append_whole(line, out),
-        Output::Table | Output::Rows | Output::Objects => Ok(()),
+        Output::Table(_) | Output::Rows(_) | Output::Objects => Ok(()),
     }
 }

@@ -1,85 +1,104 @@
-//! Rows as lines with tabs.
+//! Rows as lines, with a byte between the fields.
 ghost use Rattle.std.specs.Prelude.{◌≡◌, ◌∷◌, ◌++◌, OnOk, flat_map, map, option_map};
 ghost use Rattle.log_extractor.specs.Fields.{group_of, fields_now};
-ghost use Rattle.log_extractor.specs.Printed.{field_line, column_names, row_line, separated, tab, field_text};
-ghost use Rattle.log_extractor.specs.Printed.{field_texts};
+ghost use Rattle.log_extractor.specs.Printed.{RowsAreLines, RowsAreReadBack, column_names, field_line, field_text};
+ghost use Rattle.log_extractor.specs.Printed.{field_texts, row_line, separated};
+ghost use Rattle.log_extractor.specs.Written.{separator, written};
 
+use crate::field::append_text;
+use crate::output::Form;
 use crate::pattern::Column;
 use std::alloc::AllocError;
 
-/// Appends a line with the names of the columns.
-pub fn append_names(columns: &[Column], out: &mut Vec<u8>) -> Result<(), AllocError>
-    ensures { OnOk result (out.new.items ≡ out.old.items ++ row_line (column_names (map group_of columns.now))) }
+/// A row with tabs is one line. Between its tabs it has as many fields as there are columns, and each means its text.
+pub fn rows_are_read_back()
+    ensures lines { RowsAreLines }
+    ensures texts { RowsAreReadBack }
+{}
+
+/// Returns the byte between the fields.
+fn separator(form: Form) -> u8
+    ensures { result ≡ separator form }
 {
-    append_joined_names(columns, out)?;
+    match form {
+        Form::Tabs => b'\t',
+        Form::Commas => b',',
+    }
+}
+
+/// Appends a line with the names of the columns.
+pub fn append_names(form: Form, columns: &[Column], out: &mut Vec<u8>) -> Result<(), AllocError>
+    ensures { OnOk result (out.new.items
+        ≡ out.old.items ++ row_line form (column_names (map group_of columns.now))) }
+{
+    append_joined_names(form, columns, out)?;
     out.push(b'\n')?;
     Ok(())
 }
 
-/// Appends the names of the columns, with tabs between them.
-fn append_joined_names(columns: &[Column], out: &mut Vec<u8>) -> Result<(), AllocError>
-    ensures { OnOk result (out.new.items ≡ out.old.items ++ separated tab (column_names (map group_of columns.now))) }
+/// Appends the names of the columns, separated.
+fn append_joined_names(form: Form, columns: &[Column], out: &mut Vec<u8>) -> Result<(), AllocError>
+    ensures { OnOk result (out.new.items ≡ out.old.items
+        ++ separated (separator form) (map (written form) (column_names (map group_of columns.now)))) }
 {
     let [column, columns @ ..] = columns else {
         return Ok(());
     };
-    out.extend_from_slice(column.name.as_bytes())?;
-    append_more_names(columns, out)?;
+    append_text(form, column.name.as_bytes(), out)?;
+    append_more_names(form, columns, out)?;
     Ok(())
 }
 
-/// Appends the name of each column, with a tab before it.
-fn append_more_names(columns: &[Column], out: &mut Vec<u8>) -> Result<(), AllocError>
-    ensures { OnOk result (out.new.items
-        ≡ out.old.items ++ flat_map (λ name. tab ∷ name) (column_names (map group_of columns.now))) }
+/// Appends the name of each column, with a separator before it.
+fn append_more_names(form: Form, columns: &[Column], out: &mut Vec<u8>) -> Result<(), AllocError>
+    ensures { OnOk result (out.new.items ≡ out.old.items ++ flat_map (λ name. separator form ∷ name)
+        (map (written form) (column_names (map group_of columns.now)))) }
 {
     for column in columns {
-        out.push(b'\t')?;
-        out.extend_from_slice(column.name.as_bytes())?;
+        out.push(separator(form))?;
+        append_text(form, column.name.as_bytes(), out)?;
     }
     Ok(())
 }
 
 /// Appends a line with the fields. A field that is `None` is empty.
-pub fn append_row(fields: &[Option<&[u8]>], out: &mut Vec<u8>) -> Result<(), AllocError>
-    ensures { OnOk result (out.new.items ≡ out.old.items ++ field_line (fields_now fields.now)) }
+pub fn append_row(form: Form, fields: &[Option<&[u8]>], out: &mut Vec<u8>) -> Result<(), AllocError>
+    ensures { OnOk result (out.new.items ≡ out.old.items ++ field_line form (fields_now fields.now)) }
 {
-    append_joined(fields, out)?;
+    append_joined(form, fields, out)?;
     out.push(b'\n')?;
     Ok(())
 }
 
-/// Appends the fields, with tabs between them.
-fn append_joined(fields: &[Option<&[u8]>], out: &mut Vec<u8>) -> Result<(), AllocError>
-    ensures { OnOk result (out.new.items ≡ out.old.items ++ separated tab (field_texts (fields_now fields.now))) }
+/// Appends the fields, separated.
+fn append_joined(form: Form, fields: &[Option<&[u8]>], out: &mut Vec<u8>) -> Result<(), AllocError>
+    ensures { OnOk result (out.new.items ≡ out.old.items
+        ++ separated (separator form) (map (written form) (field_texts (fields_now fields.now)))) }
 {
     let [field, fields @ ..] = fields else {
         return Ok(());
     };
-    append_field(*field, out)?;
-    append_more(fields, out)?;
+    append_field(form, *field, out)?;
+    append_more(form, fields, out)?;
     Ok(())
 }
 
-/// Appends each field, with a tab before it.
-fn append_more(fields: &[Option<&[u8]>], out: &mut Vec<u8>) -> Result<(), AllocError>
-    ensures { OnOk result (out.new.items
-        ≡ out.old.items ++ flat_map (λ text. tab ∷ text) (field_texts (fields_now fields.now))) }
+/// Appends each field, with a separator before it.
+fn append_more(form: Form, fields: &[Option<&[u8]>], out: &mut Vec<u8>) -> Result<(), AllocError>
+    ensures { OnOk result (out.new.items ≡ out.old.items ++ flat_map (λ text. separator form ∷ text)
+        (map (written form) (field_texts (fields_now fields.now)))) }
 {
     for field in fields {
-        out.push(b'\t')?;
-        append_field(*field, out)?;
+        out.push(separator(form))?;
+        append_field(form, *field, out)?;
     }
     Ok(())
 }
 
-/// Appends the text of a field.
-fn append_field(field: Option<&[u8]>, out: &mut Vec<u8>) -> Result<(), AllocError>
-    ensures { OnOk result (out.new.items
-        ≡ out.old.items ++ field_text (option_map (λ text. text.now) field.entry)) }
+/// Appends the field. One that is `None` is written as an empty text.
+fn append_field(form: Form, field: Option<&[u8]>, out: &mut Vec<u8>) -> Result<(), AllocError>
+    ensures { OnOk result (out.new.items ≡ out.old.items
+        ++ written form (field_text (option_map (λ text. text.now) field.entry))) }
 {
-    if let Some(text) = field {
-        out.extend_from_slice(text)?;
-    }
-    Ok(())
+    append_text(form, field.unwrap_or(b""), out)
 }

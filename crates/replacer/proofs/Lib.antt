@@ -1,4 +1,5 @@
--- The lemmas on hits, on what is printed and on writes.
+-- The lemmas on hits, on limits, on what is printed and on runs over lines.
+pub mod GoingLemmas
+pub mod LimitLemmas
 pub mod MeantLemmas
 pub mod PrintedLemmas
-pub mod Writes

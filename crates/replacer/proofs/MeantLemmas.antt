@@ -14,22 +14,24 @@ use Rattle.regex_search_core.specs.declared.search.MatchKind.TheVariants.{Leftmo
 use Rattle.nfa_engines.specs.Automaton.{Automaton}
 use Rattle.nfa_engines.specs.WithCaptures.{Row, row_of}
 use Rattle.nfa_engines.specs.CapturesLists.{AreRows, HasGroups}
-use Rattle.nfa_engines.specs.Engines.{Pike, kind_of}
 use Rattle.nfa_engines.specs.Lists.{AreFirstMatches, AreMatches}
 use Rattle.nfa_engines.specs.Paths.{IsAnswer, IsFindAnswer, is_utf8_empty}
 use Rattle.nfa_search_base.proofs.ListLemmas.{matches-exist, matches-rest}
 use Rattle.nfa_compiler.specs.AllHits.{all_hits, hits_from, row_of_hit}
 use Rattle.nfa_compiler.specs.AllLaws.{MatchesAreAllOfTexts, RowsAreAllOfTexts}
+use Rattle.nfa_compiler.specs.AnyStart.{LosesNoHit}
 use Rattle.nfa_compiler.specs.BoundaryHits.{boundary_hit, expected_on_boundary, on_boundary}
 use Rattle.nfa_compiler.specs.Compiled.{res_of}
-use Rattle.nfa_compiler.specs.Laws.{IsLeftmostToTheEnd}
-use Rattle.nfa_compiler.specs.Patterns.{PatternHit, expected, found_at, found_of_hit, pick, slots_of}
+use Rattle.nfa_compiler.specs.Laws.{IsLeftmostToTheEnd, hit}
+use Rattle.nfa_compiler.specs.Patterns.{PatternHit, found_at, found_of_hit, pick, slots_of}
 use Rattle.nfa_compiler.specs.StrLaws.{AllHitsAreFindAllStr, MatchesAreAllOfStrs, RowsAreAllOfStrs}
 use Rattle.nfa_compiler.proofs.AllSearchLemmas.{matches-of, rows-of}
 use Rattle.nfa_compiler.proofs.BoundLemmas.{LiesFrom}
 use Rattle.nfa_compiler.proofs.BoundarySearchLemmas.{boundary-answer, boundary-known, boundary-match}
 use Rattle.nfa_compiler.proofs.LiesLemmas.{boundary-lies}
 use Rattle.nfa_compiler.proofs.MeantLemmas.{AreAlike, all-meant, first-alike, found-alike, pattern-alike, pick-alike, slots-alike}
+use Rattle.nfa_compiler.proofs.UnboundLemmas.{boundary-unbound, hit-unbound, loses-none, texts-lose-none}
+use Rattle.nfa_meta.specs.ChoiceState.{ChoiceState, kind_in}
 use Rattle.replacer.specs.Hits.{AreAllHits, SearchesFor, captured_by, hits_in, next_hit, pattern_syntax}
 
 -- alike hits end on a boundary alike
@@ -60,20 +62,20 @@ captures-are nfa (c ∷ cs) (h ∷ hits) groups rows =
     λ i. record { groups = groups.0.groups i; pattern = (one i).pattern; slots = (one i).slots } in
     ap₂ (λ x xs. x ∷ xs) same (captures-are nfa cs hits groups.1 rest)
 
-module _ (pattern : List ℕ) (re : Re) (vm : Pike) (text : List ℕ) (bytes : All (λ b. b < 256) text)
-    (of : SearchesFor pattern re vm) where
+module _ (pattern : List ℕ) (re : Re) (r : ChoiceState) (text : List ℕ) (bytes : All (λ b. b < 256) text)
+    (of : SearchesFor pattern re r) where
   -- the hits that end on a boundary are those of the tree that was compiled
-  module _ (mode : is_utf8_empty vm.nfa ≡ true) where
+  module _ (mode : is_utf8_empty r.nfa ≡ true) where
     abbrev trees : List Re
     trees = res_of of.search.compiled.trees
 
     abbrev at_place : ℕ → Search
     at_place i = record (whole text) { start = i }
 
-    next-alike : (i : ℕ) → AreAlike (boundary_hit trees vm.nfa (at_place i)) (next_hit re true text i)
+    free-alike : (i : ℕ) → AreAlike (expected_on_boundary trees false (at_place i)) (next_hit re true text i)
     unfolding expected_on_boundary
-    next-alike i =
-        rw of.search.free (elim (cases_lt (length text) i) [
+    free-alike i =
+        elim (cases_lt (length text) i) [
           | inl past ↦ rw (lt-ltb (length text) i past) tt
           | inr inside ↦
               rw (le-ltb (length text) i inside)
@@ -84,71 +86,89 @@ module _ (pattern : List ℕ) (re : Re) (vm : Pike) (text : List ℕ) (bytes : A
               (all-meant pattern_syntax (pattern ∷ []) of.search.compiled.trees (re ∷ []) of.search.compiled.read
               (of.meant, tt))))
               (length text - i + 1) i)
-        ])
+        ]
 
-    has-matches : (i : ℕ) (found : Option Found) → IsFindAnswer vm.nfa LeftmostFirst false (at_place i) found
+    next-alike : (i : ℕ) → AreAlike (boundary_hit trees r.nfa (at_place i)) (next_hit re true text i)
+    next-alike i =
+        subst (λ o. AreAlike o (next_hit re true text i))
+        (sym (boundary-unbound trees r.nfa (at_place i) refl
+        (loses-none trees r.nfa of.search.compiled.made of.search.free text)))
+        (free-alike i)
+
+    has-matches : (i : ℕ) (found : Option Found) → IsFindAnswer r.nfa LeftmostFirst false (at_place i) found
         → found ≡ found_of_hit (next_hit re true text i)
     has-matches i found answer =
-        boundary-match trees vm.nfa of.search.compiled.made mode (at_place i) refl found answer
-        ∙ found-alike (boundary_hit trees vm.nfa (at_place i)) (next_hit re true text i) (next-alike i)
+        boundary-match trees r.nfa of.search.compiled.made mode (at_place i) refl found answer
+        ∙ found-alike (boundary_hit trees r.nfa (at_place i)) (next_hit re true text i) (next-alike i)
 
     has-answers : (i : ℕ) (found : Option ℕ) (slots : List (Option ℕ))
-        → IsAnswer vm.nfa LeftmostFirst false (at_place i) found slots
+        → IsAnswer r.nfa LeftmostFirst false (at_place i) found slots
         → (found ≡ option_map (λ (h : PatternHit). h.pattern) (next_hit re true text i))
-        × (slots ≡ slots_of vm.nfa.groups (length slots) (next_hit re true text i))
+        × (slots ≡ slots_of r.nfa.groups (length slots) (next_hit re true text i))
     has-answers i found slots answer =
-        let a = boundary-answer trees vm.nfa of.search.compiled.made mode (at_place i) refl found slots answer in
-        let known = boundary-known trees vm.nfa of.search.compiled.made mode (at_place i) refl answer.restarts
+        let a = boundary-answer trees r.nfa of.search.compiled.made mode (at_place i) refl found slots answer in
+        let known = boundary-known trees r.nfa of.search.compiled.made mode (at_place i) refl answer.restarts
         answer.path
         answer.answers in
-        let hit = boundary_hit trees vm.nfa (at_place i) in (
+        let hit = boundary_hit trees r.nfa (at_place i) in (
           a.0 ∙ pattern-alike hit (next_hit re true text i) (next-alike i),
-          a.1 ∙ slots-alike vm.nfa.groups (length slots) hit (next_hit re true text i) known (next-alike i),
+          a.1 ∙ slots-alike r.nfa.groups (length slots) hit (next_hit re true text i) known (next-alike i),
         )
 
     lies : (i : ℕ) (h : PatternHit) → next_hit re true text i ≡ Some h → LiesFrom text i (length text + 1) h
     lies i h is = boundary-lies (re ∷ []) false (at_place i) h refl is
 
-    empty-matches : (ms : List Found) → AreMatches vm.nfa LeftmostFirst false (whole text) ms
+    empty-matches : (ms : List Found) → AreMatches r.nfa LeftmostFirst false (whole text) ms
         → ms ≡ map found_at (hits_in re true text)
-    empty-matches ms are = matches-of vm.nfa (whole text) (next_hit re true text) lies has-matches ms are
+    empty-matches ms are = matches-of r.nfa (whole text) (next_hit re true text) lies has-matches ms are
 
-    empty-rows : (rows : List Row) → AreRows vm.nfa LeftmostFirst false (whole text) rows
-        → rows ≡ map (row_of_hit vm.nfa) (hits_in re true text)
-    empty-rows rows are = rows-of vm.nfa (whole text) (next_hit re true text) lies has-matches has-answers rows are
+    empty-rows : (rows : List Row) → AreRows r.nfa LeftmostFirst false (whole text) rows
+        → rows ≡ map (row_of_hit r.nfa) (hits_in re true text)
+    empty-rows rows are = rows-of r.nfa (whole text) (next_hit re true text) lies has-matches has-answers rows are
 
-  abbrev leftmost : IsLeftmostToTheEnd (kind_of vm) false (whole text)
+  abbrev leftmost : IsLeftmostToTheEnd (kind_in r) false (whole text)
   leftmost = record { leftmost = of.search.leftmost; latest = refl; whole = refl }
 
+  -- no hit is lost
+  kept : LosesNoHit (re ∷ []) r.nfa text
+  kept = texts-lose-none pattern_syntax (pattern ∷ []) (re ∷ []) r.nfa text of.search.compiled (of.meant, tt)
+      of.search.free bytes
+
+  same-from : (i : ℕ) → hit (re ∷ []) r.nfa (record (whole text) { start = i }) ≡ next_hit re false text i
+  same-from i = hit-unbound (re ∷ []) r.nfa (record (whole text) { start = i }) refl kept
+
   -- the hits of the NFA are those of the pattern
-  plain : all_hits (re ∷ []) vm.nfa (whole text) ≡ hits_in re false text
-  plain = ap (λ (b : Bool). hits_from (λ i. expected (re ∷ []) b (record (whole text) { start = i })) (length text + 1)
-      (expected (re ∷ []) b (whole text))) of.search.free
+  plain : all_hits (re ∷ []) r.nfa (whole text) ≡ hits_in re false text
+  plain =
+      let all : (λ i. hit (re ∷ []) r.nfa (record (whole text) { start = i })) ≡ next_hit re false text =
+      λ t i. same-from i t in
+      ap₂ (λ (from : ℕ → Option PatternHit) (first : Option PatternHit). hits_from from (length text + 1) first) all
+      (same-from 0)
 
   module _ (texts : MatchesAreAllOfTexts) (strs : MatchesAreAllOfStrs) (found : AllHitsAreFindAllStr) where
-    pub matches-are : (ms : List Found) → AreMatches vm.nfa (kind_of vm) false (whole text) ms
+    pub matches-are : (ms : List Found) → AreMatches r.nfa (kind_in r) false (whole text) ms
         → (hits : List PatternHit)
-        → AreAllHits re (is_utf8_empty vm.nfa) text hits → ms ≡ map found_at hits
-    matches-are ms are hits (inl e) = by-mode (is_utf8_empty vm.nfa) refl ∙ ap (map found_at) (sym e)
+        → AreAllHits re (is_utf8_empty r.nfa) text hits → ms ≡ map found_at hits
+    matches-are ms are hits (inl e) = by-mode (is_utf8_empty r.nfa) refl ∙ ap (map found_at) (sym e)
       where
-        by-mode : (b : Bool) → is_utf8_empty vm.nfa ≡ b → ms ≡ map found_at (hits_in re b text)
+        by-mode : (b : Bool) → is_utf8_empty r.nfa ≡ b → ms ≡ map found_at (hits_in re b text)
         by-mode true mode = empty-matches mode ms (rw of.search.leftmost at are)
         by-mode false mode =
-            texts pattern_syntax (pattern ∷ []) (re ∷ []) vm.nfa (kind_of vm) false (whole text) ms of.search.compiled
+            texts pattern_syntax (pattern ∷ []) (re ∷ []) r.nfa (kind_in r) false (whole text) ms of.search.compiled
             (of.meant, tt) mode leftmost bytes are
             ∙ ap (map found_at) plain
     matches-are ms are hits (inr (utf8, e)) =
-        strs pattern_syntax (pattern ∷ []) (re ∷ []) vm.nfa (kind_of vm) false (whole text) ms of.search.compiled
+        strs pattern_syntax (pattern ∷ []) (re ∷ []) r.nfa (kind_in r) false (whole text) ms of.search.compiled
         (of.meant, tt) of.search.compiled.mode of.search.free leftmost utf8 are
-        ∙ ap (map found_at) (found re vm.nfa (whole text) of.search.free refl refl refl ∙ sym e)
+        ∙ ap (map found_at) (found re r.nfa (whole text) kept refl refl refl ∙ sym e)
 
-    pub first-are : (ms : List Found) (count : ℕ) → AreFirstMatches vm.nfa (kind_of vm) false (whole text) ms
-        → (length ms ≡ count) ⊎ AreMatches vm.nfa (kind_of vm) false (whole text) ms → length ms ≤ count
-        → (hits : List PatternHit) → AreAllHits re (is_utf8_empty vm.nfa) text hits → ms
+    pub first-are : (ms : List Found) (count : ℕ) → AreFirstMatches r.nfa (kind_in r) false (whole text) ms
+        → (length ms ≡ count) ⊎ AreMatches r.nfa (kind_in r) false (whole text) ms → length ms ≤ count
+        → (hits : List PatternHit) → AreAllHits re (is_utf8_empty r.nfa) text hits → ms
         ≡ take count (map found_at hits)
     first-are ms count first (inl same) few hits h =
-        let all = matches-exist vm.nfa (kind_of vm) false (whole text) in
-        let rest = matches-rest vm.nfa (kind_of vm) false (whole text) ms all.0 first all.1 in
+        let all = matches-exist r.nfa (kind_in r) false (whole text) in
+        let rest = matches-rest r.nfa (kind_in r) false (whole text) ms all.0 first all.1 in
         let within : count ≤ length ms = omega (arith, same) in
         sym (ap (take count) (sym (matches-are all.0 all.1 hits h) ∙ rest.1)
         ∙ take-append-le count ms rest.0 within ∙ take_all count ms few)
@@ -157,24 +177,24 @@ module _ (pattern : List ℕ) (re : Re) (vm : Pike) (text : List ℕ) (bytes : A
         is ∙ sym (take_all count (map found_at hits) (subst (λ (l : List Found). length l ≤ count) is few))
 
   module _ (texts : RowsAreAllOfTexts) (strs : RowsAreAllOfStrs) (found : AllHitsAreFindAllStr) where
-    rows-are : (rows : List Row) → AreRows vm.nfa (kind_of vm) false (whole text) rows → (hits : List PatternHit)
-        → AreAllHits re (is_utf8_empty vm.nfa) text hits → rows ≡ map (row_of_hit vm.nfa) hits
-    rows-are rows are hits (inl e) = by-mode (is_utf8_empty vm.nfa) refl ∙ ap (map (row_of_hit vm.nfa)) (sym e)
+    rows-are : (rows : List Row) → AreRows r.nfa (kind_in r) false (whole text) rows → (hits : List PatternHit)
+        → AreAllHits re (is_utf8_empty r.nfa) text hits → rows ≡ map (row_of_hit r.nfa) hits
+    rows-are rows are hits (inl e) = by-mode (is_utf8_empty r.nfa) refl ∙ ap (map (row_of_hit r.nfa)) (sym e)
       where
-        by-mode : (b : Bool) → is_utf8_empty vm.nfa ≡ b → rows ≡ map (row_of_hit vm.nfa) (hits_in re b text)
+        by-mode : (b : Bool) → is_utf8_empty r.nfa ≡ b → rows ≡ map (row_of_hit r.nfa) (hits_in re b text)
         by-mode true mode = empty-rows mode rows (rw of.search.leftmost at are)
         by-mode false mode =
-            texts pattern_syntax (pattern ∷ []) (re ∷ []) vm.nfa (kind_of vm) false (whole text) rows of.search.compiled
+            texts pattern_syntax (pattern ∷ []) (re ∷ []) r.nfa (kind_in r) false (whole text) rows of.search.compiled
             (of.meant, tt) mode leftmost bytes are
-            ∙ ap (map (row_of_hit vm.nfa)) plain
+            ∙ ap (map (row_of_hit r.nfa)) plain
     rows-are rows are hits (inr (utf8, e)) =
-        strs pattern_syntax (pattern ∷ []) (re ∷ []) vm.nfa (kind_of vm) false (whole text) rows of.search.compiled
+        strs pattern_syntax (pattern ∷ []) (re ∷ []) r.nfa (kind_in r) false (whole text) rows of.search.compiled
         (of.meant, tt) of.search.compiled.mode of.search.free leftmost utf8 are
-        ∙ ap (map (row_of_hit vm.nfa)) (found re vm.nfa (whole text) of.search.free refl refl refl ∙ sym e)
+        ∙ ap (map (row_of_hit r.nfa)) (found re r.nfa (whole text) kept refl refl refl ∙ sym e)
 
-    pub caught-are : (cs : List Captured) → AreRows vm.nfa (kind_of vm) false (whole text) (map row_of cs)
-        → All (HasGroups vm.nfa) cs → (hits : List PatternHit) → AreAllHits re (is_utf8_empty vm.nfa) text hits
-        → cs ≡ map (captured_by vm.nfa.groups) hits
+    pub caught-are : (cs : List Captured) → AreRows r.nfa (kind_in r) false (whole text) (map row_of cs)
+        → All (HasGroups r.nfa) cs → (hits : List PatternHit) → AreAllHits re (is_utf8_empty r.nfa) text hits
+        → cs ≡ map (captured_by r.nfa.groups) hits
     caught-are cs are groups hits h =
-        captures-are vm.nfa cs hits (recursion_from_All (HasGroups vm.nfa) cs groups)
+        captures-are r.nfa cs hits (recursion_from_All (HasGroups r.nfa) cs groups)
         (rows-are (map row_of cs) are hits h)

@@ -1,16 +1,22 @@
 -- From the text that was read to the reader, and from the groups of the NFA to those of the pattern.
-use Rattle.std.proofs.Common.{◌≡◌, ◌∙◌, ℕ, ◌-◌, ◌<◌, Bool, List, map, take, arith, ne_eqb, refl, subst}
-use Rattle.std.specs.Prelude.{Option, None, Some, IfNone, IfSome}
+use Rattle.std.proofs.Common.{◌≡◌, ◌∙◌, ℕ, ◌-◌, ◌<◌, Bool, List, [], ◌∷◌, map, take, arith, ne_eqb, refl, subst}
+use Rattle.std.specs.Prelude.{Option, None, Some, IfSome}
+use Rattle.std.specs.Io.KnownBytes.{Appends}
 use Rattle.regex_hir.specs.Re.{Re}
-use Rattle.nfa_compiler.specs.NameLaws.{IsNamed}
+use Rattle.nfa_engines.specs.Paths.{is_utf8_empty}
+use Rattle.nfa_compiler.specs.NameLaws.{GroupsAreNamed, IsNamed}
 use Rattle.nfa_compiler.specs.Patterns.{PatternHit, found_at}
-use Rattle.replacer.specs.Hits.{AreAllHits, groups_named_by, pattern_syntax}
-use Rattle.replacer.specs.Printed.{IsMisused, IsPrinted, IsTemplateMistake}
+use Rattle.nfa_meta.specs.Built.{HasNotSearched, IsBuiltFrom, default_builder}
+use Rattle.nfa_meta.specs.ChoiceState.{ChoiceState, KeepsEngines, kind_in}
+use Rattle.replacer.specs.Hits.{AreHitsOf, IsSearchOf, SearchesFor, groups_named_by, pattern_syntax}
+use Rattle.replacer.specs.Printed.{Groups, IsActionOf, IsMisused, IsTemplateMistake, Prints, printed}
 use Rattle.replacer.specs.Separated.{first_fields_by, gaps}
+use Rattle.replacer.specs.declared.action.Action.{Action}
 use Rattle.replacer.specs.declared.command.Command.{Command}
 use Rattle.replacer.specs.declared.command.Command.TheVariants.{Replace, Split, SplitN}
-use Rattle.replacer.specs.declared.report.Mistake.{Mistake}
-use Rattle.replacer.specs.declared.report.Mistake.TheVariants.{Pattern, Template}
+use Rattle.replacer.specs.declared.command.Request.{Request}
+use Rattle.replacer.specs.declared.job.Mistake.{Mistake}
+use Rattle.replacer.specs.declared.job.Mistake.TheVariants.{Memory, Pattern, Template}
 
 -- what holds of the text that was read holds of all that the reader had
 pub at-read : (all : Option (List ℕ)) (read text : List ℕ) (P : List ℕ → Type 0) → read ≡ text
@@ -18,43 +24,64 @@ pub at-read : (all : Option (List ℕ)) (read text : List ℕ) (P : List ℕ →
 at-read None read text P same is p = tt
 at-read (Some bytes) read text P same is p = subst P (same ∙ is) p
 
+-- the regex that is built from a pattern searches for it
+pub built-search : (pattern : List ℕ) (r : ChoiceState) → IsBuiltFrom default_builder (pattern ∷ []) r.nfa
+    → HasNotSearched None r → IsSearchOf pattern r
+built-search pattern r built engines = record {
+  compiled = built.compiled;
+  leftmost = rw engines.match_kind refl;
+  free = built.free refl;
+}
+
+-- after searches the regex searches for the same
+pub search-kept : (pattern : List ℕ) (old new : ChoiceState) → KeepsEngines old new → IsSearchOf pattern old
+    → IsSearchOf pattern new
+search-kept pattern old new keeps of = record {
+  compiled = rw keeps.nfa of.compiled;
+  leftmost = rw keeps.match_kind of.leftmost;
+  free = rw keeps.nfa of.free;
+}
+
 -- the first fields, if there may be one
 pub first-by : (limit : ℕ) (text : List ℕ) (hits : List PatternHit) → 0 < limit
     → gaps text 0 (take (limit - 1) (map found_at hits)) ≡ first_fields_by limit text hits
 first-by limit text hits some = rw (ne_eqb limit 0 (λ e. absurd (omega (arith, e, some)))) refl
 
-abbrev Groups : Type 0
-Groups = List (List (Option (List ℕ)))
+-- what is printed for the groups of the NFA is printed for those of the pattern
+module _ (law : GroupsAreNamed) (request : Request) (r : ChoiceState) (of : IsSearchOf request.pattern.now r) where
+  pub groups-are : (names : List (Option (List ℕ))) → IsNamed pattern_syntax request.pattern.now names
+      → r.nfa.groups ≡ groups_named_by names
+  groups-are names named =
+      law pattern_syntax (request.pattern.now ∷ []) (names ∷ []) r.nfa of.compiled (named, tt)
 
-module _ (pattern : List ℕ) (groups : Groups) (command : Command)
-    (known : (names : List (Option (List ℕ))) → IsNamed pattern_syntax pattern names → groups ≡ groups_named_by names)
-  where
-    -- what is printed for the groups of the NFA is printed for those of the pattern
-    pub printed-by : (all old new : Option (List ℕ)) (re : Re) (empty : Bool) (names : List (Option (List ℕ)))
-        → IsNamed pattern_syntax pattern names
-        → IfSome all (λ text. (hits : List PatternHit) → AreAllHits re empty text hits
-        → IsPrinted old new groups text hits command)
-        → IfSome all (λ text. (may : Bool) × ((hits : List PatternHit) → AreAllHits re may text hits
-        → IsPrinted old new (groups_named_by names) text hits command))
-    printed-by None old new re empty names named h = tt
-    printed-by (Some text) old new re empty names named h =
-        let P : Groups → Type 0 =
-        λ gs. (hits : List PatternHit) → AreAllHits re empty text hits → IsPrinted old new gs text hits command in
-        (empty, subst P (known names named) h)
+  pub prints : (act : Action) (input old new : Option (List ℕ)) → IsActionOf r.nfa.groups request.command act
+      → ((pattern : List ℕ) (re : Re) (hits : List ℕ → List PatternHit) → SearchesFor pattern re r
+      → AreHitsOf re (is_utf8_empty r.nfa) hits
+      → IfSome input (λ text. Appends old new
+      (printed r.nfa.groups hits act request.whole request.limit text)))
+      → Prints request input old new
+  prints act input old new is h = λ re names meant named.
+      let P : Groups → Type 0 =
+      λ gs. IsActionOf gs request.command act × ((hits : List ℕ → List PatternHit)
+      → AreHitsOf re (is_utf8_empty r.nfa) hits
+      → IfSome input (λ text. Appends old new (printed gs hits act request.whole request.limit text))) in
+      let both : P (groups_named_by names) = subst P (groups-are names named) (
+        is,
+        λ hits all.
+            h request.pattern.now re hits (record { search = of; meant = meant }) all,
+      ) in
+      (is_utf8_empty r.nfa, act, both.0, both.1)
 
-    -- so is a mistake
-    pub misused : (mistake : Option Mistake) → IfSome mistake (IsTemplateMistake groups command)
-        → IfSome mistake (IsMisused pattern command)
-    misused None h = tt
-    misused (Some (Template error)) h = λ names named.
-        let P : Groups → Type 0 = λ gs. IsTemplateMistake gs command (Template error) in subst P (known names named) h
-    misused (Some (Pattern error)) h = absurd (of command h)
-      where
-        of : (c : Command) → IsTemplateMistake groups c (Pattern error) → ⊥
-        of (Replace template) h = h
-        of Split h = h
-        of (SplitN limit) h = h
-
-pub map-none : {A P Q : Type 0} (o : Option A) → (P → Q) → IfNone o P → IfNone o Q
-map-none None f h = f h
-map-none (Some x) f h = tt
+  -- so is a mistake
+  pub misused : (mistake : Mistake) → IsTemplateMistake r.nfa.groups request.command mistake
+      → IsMisused request mistake
+  misused Memory h = tt
+  misused (Pattern error) h = absurd (no-pattern request.command h)
+    where
+      no-pattern : (command : Command) → IsTemplateMistake r.nfa.groups command (Pattern error) → ⊥
+      no-pattern (Replace template) h = h
+      no-pattern Split h = h
+      no-pattern (SplitN limit) h = h
+  misused (Template error) h = λ names named.
+      let P : Groups → Type 0 = λ gs. IsTemplateMistake gs request.command (Template error) in
+      subst P (groups-are names named) h

@@ -1,5 +1,5 @@
 -- All hits of a pattern in a text, in the words of the reference matcher.
-use Rattle.std.specs.Prelude.{ℕ, ◌+◌, ◌≡◌, ◌==◌, ◌⊎◌, Bool, false, IsUtf8, List, [], ◌∷◌, drop, length, map, Option, Some, if◌then◌else◌}
+use Rattle.std.specs.Prelude.{ℕ, ◌+◌, ◌≡◌, ◌⊎◌, Bool, false, IsUtf8, List, [], ◌∷◌, drop, length, map, Option, Some, if◌then◌else◌}
 use Rattle.regex_hir.specs.Find.{find_all_str}
 use Rattle.regex_hir.specs.Re.{Re}
 use Rattle.regex_search_core.specs.Groups.{slot_count}
@@ -8,25 +8,26 @@ use Rattle.regex_search_core.specs.Slots.{Captured}
 use Rattle.regex_search_core.specs.declared.search.MatchKind.TheVariants.{LeftmostFirst}
 use Rattle.regex_syntax.specs.Verdict.{default_config}
 use Rattle.regex_syntax.specs.declared.Config.{Config}
-use Rattle.nfa_engines.specs.Engines.{Pike, kind_of}
 use Rattle.nfa_compiler.specs.AllHits.{hits_from}
+use Rattle.nfa_compiler.specs.AnyStart.{FindsFromAnyStart}
 use Rattle.nfa_compiler.specs.BoundaryHits.{expected_on_boundary}
 use Rattle.nfa_compiler.specs.Compiled.{IsCompiled, IsMeant}
 use Rattle.nfa_compiler.specs.Patterns.{PatternHit, expected, hit_by, slots_of}
+use Rattle.nfa_meta.specs.ChoiceState.{ChoiceState, kind_in}
 
 -- The syntax of the pattern: the default one, in which a pattern matches characters of a text only.
 abbrev pub pattern_syntax : Config
 pattern_syntax = default_config
 
--- the PikeVM searches for this pattern, by leftmost first, and from any place
-pub record IsSearchOf (pattern : List ℕ) (vm : Pike) : Type 0 where
-  pub compiled : IsCompiled pattern_syntax (pattern ∷ []) vm.nfa
-  pub leftmost : kind_of vm ≡ LeftmostFirst
-  pub free : (vm.nfa.anchored == vm.nfa.unanchored) ≡ false
+-- the regex searches for this pattern, by leftmost first, and from any place
+pub record IsSearchOf (pattern : List ℕ) (r : ChoiceState) : Type 0 where
+  pub compiled : IsCompiled pattern_syntax (pattern ∷ []) r.nfa
+  pub leftmost : kind_in r ≡ LeftmostFirst
+  pub free : FindsFromAnyStart r.nfa
 
 -- and the pattern means `re`
-pub record SearchesFor (pattern : List ℕ) (re : Re) (vm : Pike) : Type 0 where
-  pub search : IsSearchOf pattern vm
+pub record SearchesFor (pattern : List ℕ) (re : Re) (r : ChoiceState) : Type 0 where
+  pub search : IsSearchOf pattern r
   pub meant : IsMeant pattern_syntax pattern re
 
 module _ (re : Re) (empty : Bool) (text : List ℕ) where
@@ -44,6 +45,10 @@ module _ (re : Re) (empty : Bool) (text : List ℕ) where
   -- These are all hits in the text. If it is UTF-8, they are those that `find_all_str` of `regex_hir` gives, too.
   abbrev pub AreAllHits : List PatternHit → Type 0
   AreAllHits hits = (hits ≡ hits_in) ⊎ (IsUtf8 text × (hits ≡ map (hit_by 0) (find_all_str re text)))
+
+-- the function gives all hits of each text
+abbrev pub AreHitsOf : Re → Bool → (List ℕ → List PatternHit) → Type 0
+AreHitsOf re empty hits = (text : List ℕ) → AreAllHits re empty text (hits text)
 
 -- the explicit groups of a pattern whose groups have these names, from group 0 on
 abbrev pub groups_named_by : List (Option (List ℕ)) → List (List (Option (List ℕ)))

@@ -1,7 +1,7 @@
+pub mod Going
+pub mod Hints
 pub mod Hits
-pub mod Names
+pub mod Lines
 pub mod Printed
 pub mod Replaced
 pub mod Separated
-pub mod Templates
-pub mod Writing

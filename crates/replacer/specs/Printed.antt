@@ -1,53 +1,93 @@
 -- What is printed for a text.
-use Rattle.std.specs.Prelude.{ℕ, ◌≡◌, List, [], ◌∷◌, ◌++◌, Option, flat_map, length}
+use Rattle.std.specs.Prelude.{ℕ, ◌≡◌, Bool, List, [], ◌∷◌, ◌++◌, Option, IfSome, flat_map, length, if◌then◌else◌, ⊤}
 use Rattle.std.specs.Io.KnownBytes.{Appends}
+use Rattle.regex_hir.specs.Re.{Re}
+use Rattle.text_lines.specs.Lines.{lines_of}
+use Rattle.nfa_compiler.specs.Compiled.{IsMeant}
 use Rattle.nfa_compiler.specs.NameLaws.{IsNamed}
 use Rattle.nfa_compiler.specs.Patterns.{PatternHit}
 use Rattle.nfa_compiler.specs.Rejected.{IsOfOneText, NamesText}
-use Rattle.replacer.specs.Hits.{groups_named_by, pattern_syntax}
-use Rattle.replacer.specs.Replaced.{replaced_by}
+use Rattle.nfa_meta.specs.TemplateTexts.{AreParts, IsMistake}
+use Rattle.replacer.specs.Hits.{AreHitsOf, groups_named_by, pattern_syntax}
+use Rattle.replacer.specs.Lines.{feed_of, without_feed}
+use Rattle.replacer.specs.Replaced.{left_after, limited, replaced_by}
 use Rattle.replacer.specs.Separated.{fields_by, first_fields_by}
-use Rattle.replacer.specs.Writing.{AreParts, IsMistake}
+use Rattle.replacer.specs.declared.action.Action.{Action}
+use Rattle.replacer.specs.declared.action.Action.TheVariants as action
 use Rattle.replacer.specs.declared.command.Command.{Command}
 use Rattle.replacer.specs.declared.command.Command.TheVariants.{Replace, Split, SplitN}
-use Rattle.replacer.specs.declared.report.Mistake.{Mistake}
-use Rattle.replacer.specs.declared.report.Mistake.TheVariants.{Pattern, Template}
-use Rattle.replacer.specs.declared.template.Part.{Part}
+use Rattle.replacer.specs.declared.command.Request.{Request}
+use Rattle.replacer.specs.declared.job.Mistake.{Mistake}
+use Rattle.replacer.specs.declared.job.Mistake.TheVariants.{Memory, Pattern, Template}
+
+abbrev pub Groups : Type 0
+Groups = List (List (Option (List ℕ)))
 
 -- a line for each field
 abbrev pub field_lines : List (List ℕ) → List ℕ
 field_lines fields = flat_map (λ field. field ++ (10 ∷ [])) fields
 
--- A writer that held the bytes `old` has taken what the command prints of the text, and nothing else. The pattern has
--- these groups and hits.
-module _ (old new : Option (List ℕ)) (groups : List (List (Option (List ℕ)))) (text : List ℕ)
-    (hits : List PatternHit) where
-  -- the template says some parts, and they replace each hit
-  pub record IsReplacedBy (template : List ℕ) : Type 0 where
-    pub parts : List Part
-    pub says : AreParts groups 0 template parts (length template)
-    pub appended : Appends old new (replaced_by groups parts text hits)
+-- The action is what the command says, for a pattern with these groups: the parts are those of the template.
+abbrev pub IsActionOf : Groups → Command → Action → Type 0
+IsActionOf groups (Replace template) (action.Replace parsed) =
+    AreParts groups 0 template.now parsed.parts.items (length template.now)
+IsActionOf groups Split action.Split = ⊤
+IsActionOf groups (SplitN limit) (action.SplitN count) = count ≡ limit
+IsActionOf groups _ _ = ⊥
 
-  abbrev pub IsPrinted : Command → Type 0
-  IsPrinted (Replace template) = IsReplacedBy template.now
-  IsPrinted Split = Appends old new (field_lines (fields_by text hits))
-  IsPrinted (SplitN limit) = Appends old new (field_lines (first_fields_by limit text hits))
+-- What is printed of a text that has this end, which the pattern does not see, and these hits. At most `left` of them
+-- are replaced.
+abbrev pub shown : Groups → Action → Option ℕ → List ℕ → List ℕ → List PatternHit → List ℕ
+shown groups (action.Replace template) left text end hits =
+    replaced_by groups template.parts.items text (limited left hits) ++ end
+shown groups action.Split left text end hits = field_lines (fields_by text hits)
+shown groups (action.SplitN limit) left text end hits = field_lines (first_fields_by limit text hits)
 
--- This is wrong with the template. The pattern has these groups.
-abbrev pub IsMistakeIn : List (List (Option (List ℕ))) → List ℕ → Mistake → Type 0
-IsMistakeIn groups template (Template error) = IsMistake groups 0 template error
-IsMistakeIn groups template (Pattern error) = ⊥
+-- how many matches may be replaced after it
+abbrev pub left_by : Action → Option ℕ → List PatternHit → Option ℕ
+left_by (action.Replace template) left hits = left_after left (length hits)
+left_by action.Split left hits = left
+left_by (action.SplitN limit) left hits = left
 
--- The command has a template, and this is wrong with it.
-abbrev pub IsTemplateMistake : List (List (Option (List ℕ))) → Command → Mistake → Type 0
-IsTemplateMistake groups (Replace template) mistake = IsMistakeIn groups template.now mistake
-IsTemplateMistake groups Split mistake = ⊥
-IsTemplateMistake groups (SplitN limit) mistake = ⊥
+-- The pattern has these groups, and each text has the hits that the function gives.
+module _ (groups : Groups) (hits : List ℕ → List PatternHit) (act : Action) where
+  -- what is printed of lines, in order
+  unfoldable pub lines_shown : Option ℕ → List (List ℕ) → List ℕ
+  lines_shown left [] = []
+  lines_shown left (line ∷ lines) =
+      shown groups act left (without_feed line) (feed_of line) (hits (without_feed line))
+      ++ lines_shown (left_by act left (hits (without_feed line))) lines
 
--- This is wrong with the pattern, which is none or exceeds the default size limit, or with the template of the command.
-abbrev pub IsMisused : List ℕ → Command → Mistake → Type 0
-IsMisused pattern command (Pattern error) =
-    IsOfOneText pattern_syntax (pattern ∷ []) error.0 × NamesText pattern_syntax 10485760 (pattern ∷ []) error.0
-IsMisused pattern command (Template error) =
-    (names : List (Option (List ℕ))) → IsNamed pattern_syntax pattern names
-    → IsTemplateMistake (groups_named_by names) command (Template error)
+  -- what is printed of a text, line by line or as a whole
+  abbrev pub printed : Bool → Option ℕ → List ℕ → List ℕ
+  printed whole limit text =
+      if whole then shown groups act limit text [] (hits text) else lines_shown limit (lines_of text)
+
+-- A reader of known bytes had these left, and a writer of known bytes has taken what is printed of them, and nothing
+-- else, for all that the grammar reads in the pattern of the request. If a text is not UTF-8, its hits depend on
+-- whether the pattern may match the empty string (`empty`).
+abbrev pub Prints : Request → Option (List ℕ) → Option (List ℕ) → Option (List ℕ) → Type 0
+Prints request input old new =
+    (re : Re) (names : List (Option (List ℕ))) → IsMeant pattern_syntax request.pattern.now re
+    → IsNamed pattern_syntax request.pattern.now names
+    → (empty : Bool) × (act : Action) × IsActionOf (groups_named_by names) request.command act
+    × ((hits : List ℕ → List PatternHit) → AreHitsOf re empty hits
+    → IfSome input (λ text. Appends old new
+    (printed (groups_named_by names) hits act request.whole request.limit text)))
+
+-- The command has a template, and this is wrong with it. The pattern has these groups.
+abbrev pub IsTemplateMistake : Groups → Command → Mistake → Type 0
+IsTemplateMistake groups (Replace template) (Template error) = IsMistake groups 0 template.now error
+IsTemplateMistake groups command Memory = ⊤
+IsTemplateMistake groups _ _ = ⊥
+
+-- Allocation failed; or this is wrong with the pattern, which is none or exceeds the default size limit, or with the
+-- template of the command.
+abbrev pub IsMisused : Request → Mistake → Type 0
+IsMisused request Memory = ⊤
+IsMisused request (Pattern error) =
+    IsOfOneText pattern_syntax (request.pattern.now ∷ []) error.0
+    × NamesText pattern_syntax 10485760 (request.pattern.now ∷ []) error.0
+IsMisused request (Template error) =
+    (names : List (Option (List ℕ))) → IsNamed pattern_syntax request.pattern.now names
+    → IsTemplateMistake (groups_named_by names) request.command (Template error)

@@ -5,13 +5,10 @@ use Rattle.std.specs.Borrow.{Bor}
 use Rattle.regex_search_core.specs.Found.{Found, found_of}
 use Rattle.regex_search_core.specs.Search.{whole}
 use Rattle.regex_search_core.specs.declared.search.Match.{Match}
-use Rattle.nfa_engines.specs.Engines.{Pike, kind_of}
-use Rattle.nfa_engines.specs.Lists.{AreDisjoint, AreFirstMatches, AreMatches}
+use Rattle.nfa_engines.specs.Lists.{AreDisjoint}
 use Rattle.nfa_compiler.specs.Patterns.{PatternHit, found_at}
-
--- where the last one ended of the first i matches: at this offset, if there is one
-abbrev pub last_end : ℕ → ℕ → Option ℕ
-last_end i from = if i == 0 then None else Some from
+use Rattle.nfa_meta.specs.ChoiceState.{ChoiceState}
+use Rattle.nfa_meta.specs.Gaps.{AreAllOf, AreFirstOf, last_end}
 
 -- the text of a match
 abbrev pub match_text : List ℕ → Found → List ℕ
@@ -63,16 +60,16 @@ module _ (haystack : List ℕ) where
     pub apart : AreDisjoint (whole haystack) (last_end i from) (map found_of (drop i matches))
     pub joined : IsJoined from (map found_of (drop i matches)) → IsJoined 0 (map found_of matches)
 
-  module _ (vm : Pike) where
+  module _ (r : ChoiceState) where
     -- the fields are what stands around the matches of the haystack
     pub record IsSplit (fields : List (List ℕ)) : Type 0 where
       pub matches : List Found
-      pub are : AreMatches vm.nfa (kind_of vm) false (whole haystack) matches
+      pub are : AreAllOf r haystack matches
       pub around : AreAround matches fields
 
     -- They are what stands around the first matches of it: of one less than the limit, or of all, if there are fewer.
     pub record IsSplitUpTo (limit : ℕ) (fields : List (List ℕ)) : Type 0 where
       pub matches : List Found
-      pub first : AreFirstMatches vm.nfa (kind_of vm) false (whole haystack) matches
-      pub as_many : (length matches + 1 ≡ limit) ⊎ AreMatches vm.nfa (kind_of vm) false (whole haystack) matches
+      pub first : AreFirstOf r haystack matches
+      pub as_many : (length matches + 1 ≡ limit) ⊎ AreAllOf r haystack matches
       pub around : AreAround matches fields

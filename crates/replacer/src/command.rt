@@ -1,21 +1,24 @@
 //! What the arguments of the command line ask for.
 
 /// The line that says how the program is called.
-pub const USAGE: &str =
-    "usage: replacer replace PATTERN TEMPLATE | split PATTERN | splitn PATTERN LIMIT < TEXT";
+pub const USAGE: &str = "usage: replacer [--whole] [-n NUM] replace PATTERN TEMPLATE [FILE..] | \
+split PATTERN [FILE..] | splitn PATTERN LIMIT [FILE..]";
 
 /// What `--help` prints below it.
 pub const HELP: &str = "
-Replaces the matches of a pattern in the text, or splits the text there.
-replace  prints the text with the template in place of each match.
+Replaces the matches of a pattern in each line of the files, or splits the lines there.
+replace  prints the line with the template in place of each match.
 split    prints what is before, between and after the matches, a line for each field.
-splitn   prints at most LIMIT fields. The last one is the rest of the text.
+splitn   prints at most LIMIT fields of a line. The last one is the rest of it.
+--whole  takes each file as one text, so that the pattern sees its line feeds.
+-n NUM   replaces only the first NUM matches of each file.
 In TEMPLATE, $1, $name and ${name} are what a group matched, and $$ is a dollar.
+Standard input is read if there is no file, and for the file `-`.
 
-Status: 0 if the output was written, 1 if the text cannot be read, the output cannot be written or there is no memory,
+Status: 0 if the output was written, 1 if a file cannot be read, the output cannot be written or there is no memory,
 2 if the arguments, the pattern or the template are wrong.";
 
-/// What to do with the text.
+/// What to do at the matches of a text.
 #[derive(Clone, Copy, Debug, PartialEq, Eq)]
 pub enum Command<'w> {
     /// Replace each match by this template.
@@ -26,16 +29,79 @@ pub enum Command<'w> {
     SplitN(usize),
 }
 
-impl<'w> Command<'w> {
-    /// Returns the pattern of these arguments and what to do at its matches.
-    pub fn from_words(words: &[&'w str]) -> Option<(&'w str, Command<'w>)> {
-        match words {
-            ["replace", pattern, template] => {
-                Some((pattern, Command::Replace(template.as_bytes())))
+/// A pattern, what to do at its matches, and how a text is read.
+#[derive(Clone, Copy, Debug, PartialEq, Eq)]
+pub struct Request<'w> {
+    pub pattern: &'w str,
+    pub command: Command<'w>,
+    /// Whether the text is taken as a whole, and not line by line.
+    pub whole: bool,
+    /// At most this many matches of the text are replaced, if there is a limit.
+    pub limit: Option<usize>,
+}
+
+/// What the arguments ask for.
+#[derive(Clone, Copy, Debug)]
+pub struct Arguments<'w> {
+    pub request: Request<'w>,
+    /// The names of the inputs, in order; standard input if there are none.
+    pub files: &'w [&'w str],
+}
+
+/// The options, which are before the command.
+#[derive(Clone, Copy, Debug)]
+struct Options {
+    whole: bool,
+    limit: Option<usize>,
+}
+
+/// Returns what the arguments ask for, or `None` if they are wrong.
+pub fn parse<'w>(words: &'w [&'w str]) -> Option<Arguments<'w>> {
+    let (options, words) = options_of(words)?;
+    let (pattern, command, files) = command_of(words)?;
+    if options.limit.is_some() && !matches!(command, Command::Replace(_)) {
+        return None;
+    }
+    let request = Request {
+        pattern,
+        command,
+        whole: options.whole,
+        limit: options.limit,
+    };
+    Some(Arguments { request, files })
+}
+
+/// Returns the options, and the words from the command on.
+fn options_of<'w>(words: &'w [&'w str]) -> Option<(Options, &'w [&'w str])> {
+    let mut options = Options {
+        whole: false,
+        limit: None,
+    };
+    let mut is_limit = false;
+    for (index, word) in words.iter().enumerate() {
+        match *word {
+            number if is_limit => {
+                options.limit = Some(number.parse().ok()?);
+                is_limit = false;
             }
-            ["split", pattern] => Some((pattern, Command::Split)),
-            ["splitn", pattern, limit] => Some((pattern, Command::SplitN(limit.parse().ok()?))),
-            _ => None,
+            "--whole" => options.whole = true,
+            "-n" => is_limit = true,
+            _ => return Some((options, &words[index..])),
         }
+    }
+    None
+}
+
+/// Returns the pattern, the command, and the names of files.
+fn command_of<'w>(words: &'w [&'w str]) -> Option<(&'w str, Command<'w>, &'w [&'w str])> {
+    match words {
+        ["replace", pattern, template, files @ ..] => {
+            Some((pattern, Command::Replace(template.as_bytes()), files))
+        }
+        ["split", pattern, files @ ..] => Some((pattern, Command::Split, files)),
+        ["splitn", pattern, limit, files @ ..] => {
+            Some((pattern, Command::SplitN(limit.parse().ok()?), files))
+        }
+        _ => None,
     }
 }

@@ -3,40 +3,39 @@ ghost use Rattle.std.specs.Prelude.{◌≡◌, ◌+◌, ◌<◌, ◌≤◌, IfOk
 ghost use Rattle.regex_hir.specs.Re.{Re};
 ghost use Rattle.regex_search_core.specs.Found.{found_of};
 ghost use Rattle.regex_search_core.specs.Search.{whole};
-ghost use Rattle.nfa_engines.specs.Engines.{Fits, SameCapacities};
 ghost use Rattle.nfa_engines.specs.Lists.{AreDisjoint};
 ghost use Rattle.nfa_engines.specs.Paths.{is_utf8_empty};
 ghost use Rattle.nfa_compiler.specs.Patterns.{PatternHit};
+ghost use Rattle.nfa_meta.specs.ChoiceState.{KeepsEngines};
 ghost use Rattle.replacer.specs.Hits.{AreAllHits, SearchesFor};
 ghost use Rattle.replacer.specs.Separated.{AreAround, IsSplit, IsSplitUpTo, fields_by, first_fields_by, texts};
 
-use crate::found::first_matches;
-use crate::meant::{all_are_meant, first_are_meant};
-use nfa_engines::pikevm::{Cache, PikeVM};
+use nfa_compiler::laws;
+use nfa_meta::Regex;
 use regex_search_core::{Input, Match};
 use std::alloc::{AllocError, Global};
 
 /// Returns the fields of the haystack: what is before, between and after its matches. There is one field more than
 /// there are matches, and a field may be empty. The only error is that allocation failed.
 ///
-/// If the PikeVM searches for a pattern, the matches are all hits of what the pattern means (`meant`).
+/// If the regex searches for a pattern, the matches are all hits of what the pattern means (`meant`).
 pub fn split<'h>(
     alloc: Global,
-    vm: &PikeVM,
-    cache: &mut Cache,
+    regex: &mut Regex,
     haystack: &'h [u8],
 ) -> Result<Vec<&'h [u8]>, AllocError>
-    requires { Fits cache.old vm.now.nfa }
     ensures meant { IfOk result (λ fields. (pattern : List ℕ) (re : Re) (hits : List PatternHit)
-        → SearchesFor pattern re vm.now → AreAllHits re (is_utf8_empty vm.now.nfa) haystack.now hits
+        → SearchesFor pattern re regex.old → AreAllHits re (is_utf8_empty regex.old.nfa) haystack.now hits
         → texts fields.items ≡ fields_by haystack.now hits) }
-    ensures fields { IfOk result (λ fields. IsSplit haystack.now vm.now (texts fields.items)) }
-    ensures capacities { SameCapacities cache.old cache.new }
+    ensures fields { IfOk result (λ fields. IsSplit haystack.now regex.old (texts fields.items)) }
+    ensures keeps { KeepsEngines regex.old regex.new }
 {
-    let Ok(matches) = vm.find_all(alloc, cache, Input::new(haystack)) else {
+    laws::iterations_find_texts();
+    laws::iterations_of_strs_find_texts();
+    laws::str_hits_are_find_str();
+    let Ok(matches) = regex.find_all(alloc, Input::new(haystack)) else {
         return Err(AllocError);
     };
-    all_are_meant(vm, haystack, &matches);
     let fields = fields_between(alloc, haystack, &matches)?;
     Ok(fields)
 }
@@ -45,25 +44,26 @@ pub fn split<'h>(
 /// that is 0. Searches for no more matches than are needed. The only error is that allocation failed.
 pub fn splitn<'h>(
     alloc: Global,
-    vm: &PikeVM,
-    cache: &mut Cache,
+    regex: &mut Regex,
     haystack: &'h [u8],
     limit: usize,
 ) -> Result<Vec<&'h [u8]>, AllocError>
-    requires { Fits cache.old vm.now.nfa }
     ensures meant { IfOk result (λ fields. (pattern : List ℕ) (re : Re) (hits : List PatternHit)
-        → SearchesFor pattern re vm.now → AreAllHits re (is_utf8_empty vm.now.nfa) haystack.now hits
+        → SearchesFor pattern re regex.old → AreAllHits re (is_utf8_empty regex.old.nfa) haystack.now hits
         → texts fields.items ≡ first_fields_by limit haystack.now hits) }
     ensures none { limit ≡ 0 → IfOk result (λ fields. fields.items ≡ []) }
-    ensures fields { 0 < limit → IfOk result (λ fields. IsSplitUpTo haystack.now vm.now limit (texts fields.items)) }
+    ensures fields { 0 < limit → IfOk result (λ fields.
+        IsSplitUpTo haystack.now regex.old limit (texts fields.items)) }
     ensures few { IfOk result (λ fields. length fields.items ≤ limit) }
-    ensures capacities { SameCapacities cache.old cache.new }
+    ensures keeps { KeepsEngines regex.old regex.new }
 {
+    laws::iterations_find_texts();
+    laws::iterations_of_strs_find_texts();
+    laws::str_hits_are_find_str();
     if limit == 0 {
         return Ok(Vec::new(alloc));
     }
-    let matches = first_matches(alloc, vm, cache, haystack, limit - 1)?;
-    first_are_meant(vm, haystack, &matches, limit - 1);
+    let matches = regex.first_matches(alloc, Input::new(haystack), limit - 1)?;
     let fields = fields_between(alloc, haystack, &matches)?;
     Ok(fields)
 }

@@ -1,49 +1,74 @@
-//! Reads a text from standard input, and replaces the matches of a pattern in it, or splits it there.
+//! Reads texts, and replaces the matches of a pattern in them, or splits them there.
 #![tactic(auto)]
 
+mod action;
 mod command;
 mod fields;
-mod found;
-mod meant;
-mod name;
+mod files;
+mod hint;
+mod job;
+mod line;
 mod replace;
-mod report;
-mod scan;
-mod template;
+mod shown;
 
-use crate::command::{Command, HELP, USAGE};
+use crate::command::{Arguments, Command, HELP, USAGE, parse};
+use crate::files::print_files;
+use crate::hint::{HINT, has_foreign};
+use crate::job::{Job, Mistake};
 use anyhow::Result;
+use std::env;
 use std::fmt::Display;
-use std::io::BufWriter;
 use std::process::ExitCode;
-use std::{env, io};
+
+/// The input, the output or memory failed.
+const FAILED: u8 = 1;
 
 /// The arguments are not those of a command, or the pattern or the template cannot be read.
 const MISUSED: u8 = 2;
 
-// An error is printed on standard error, and the status then is 1.
-fn main(rt: HostRuntime) -> Result<ExitCode> {
+fn main(rt: HostRuntime) -> ExitCode {
+    match answer(&rt) {
+        Ok(code) => code,
+        Err(error) => {
+            // The status says so even if the line cannot be written.
+            let _ = eprintln!(rt; "replacer: {error}");
+            ExitCode::from(FAILED)
+        }
+    }
+}
+
+fn answer(rt: &HostRuntime) -> Result<ExitCode> {
     let alloc = rt.alloc();
-    let arguments: Vec<String> = env::args(&rt)?.skip(1).collect(alloc)?;
+    let arguments: Vec<String> = env::args(rt)?.skip(1).collect(alloc)?;
     let words: Vec<&str> = arguments.iter().map(|word| word.as_str()).collect(alloc)?;
     if let ["--help", ..] = words.as_slice() {
         println!(rt; "{USAGE}\n{HELP}")?;
         return Ok(ExitCode::SUCCESS);
     }
-    match Command::from_words(&words) {
-        Some((pattern, command)) => run(&rt, pattern, command),
-        None => Ok(misused(&rt, USAGE)),
+    match parse(&words) {
+        Some(arguments) => run(rt, arguments),
+        None => Ok(misused(rt, USAGE)),
     }
 }
 
-fn run(rt: &HostRuntime, pattern: &str, command: Command<'_>) -> Result<ExitCode> {
-    let mut out = BufWriter::new(rt.alloc(), io::writer(rt))?;
-    Ok(
-        match report::run(rt.alloc(), pattern, command, rt.reader(), &mut out)? {
-            Some(mistake) => misused(rt, mistake),
-            None => ExitCode::SUCCESS,
-        },
-    )
+fn run(rt: &HostRuntime, arguments: Arguments<'_>) -> Result<ExitCode> {
+    let mut job = match Job::new(rt.alloc(), arguments.request) {
+        Ok(job) => job,
+        Err(Mistake::Memory) => return Err(Mistake::Memory.into()),
+        Err(mistake) => return Ok(misused(rt, mistake)),
+    };
+    if let Command::Replace(template) = arguments.request.command {
+        if has_foreign(template) {
+            // A hint that cannot be written changes nothing else.
+            let _ = eprintln!(rt; "replacer: {HINT}");
+        }
+    }
+    let failed = print_files(rt, &mut job, arguments.files)?;
+    Ok(if failed {
+        ExitCode::from(FAILED)
+    } else {
+        ExitCode::SUCCESS
+    })
 }
 
 // The status says so even if the line cannot be written.

@@ -1,90 +1,54 @@
-//! A text with something else in place of its matches.
-ghost use Rattle.std.specs.Prelude.{◌≡◌, ◌≤◌, ◌++◌, All, IfOk, List, None, OnOk, map, ℕ};
+//! The captures of the matches of a text that are replaced.
+ghost use Rattle.std.specs.Prelude.{◌≡◌, All, IfOk, List, None, map, ℕ};
 ghost use Rattle.regex_hir.specs.Re.{Re};
 ghost use Rattle.regex_search_core.specs.Search.{whole};
 ghost use Rattle.nfa_engines.specs.CapturesRuns.{CapturesInside, match_in};
-ghost use Rattle.nfa_engines.specs.Engines.{Fits, SameCapacities};
 ghost use Rattle.nfa_engines.specs.Lists.{AreDisjoint};
 ghost use Rattle.nfa_engines.specs.Paths.{is_utf8_empty};
 ghost use Rattle.nfa_compiler.specs.Patterns.{PatternHit};
-ghost use Rattle.replacer.specs.Hits.{AreAllHits, SearchesFor};
-ghost use Rattle.replacer.specs.Replaced.{IsReplaced, replaced, replaced_by, replaced_one};
+ghost use Rattle.nfa_meta.specs.ChoiceState.{KeepsEngines};
+ghost use Rattle.replacer.specs.Hits.{AreAllHits, SearchesFor, captured_by};
+ghost use Rattle.replacer.specs.Replaced.{AreFirstOf, limited};
 
-use crate::meant::caught_are_meant;
-use crate::template::Template;
-use nfa_engines::pikevm::{Cache, PikeVM};
+use nfa_compiler::laws;
+use nfa_meta::Regex;
 use regex_search_core::{Captures, Input};
 use std::alloc::{AllocError, Global};
 
-/// Returns the haystack with the template, filled by each match, in place of the match. The only error is that
-/// allocation failed.
+/// Returns the captures of the first matches of the haystack, as many as the limit says, or of all if there is none.
+/// The only error is that allocation failed.
 ///
-/// If the engine has several patterns, matches of all of them are replaced. The names of the template were resolved by
-/// the one pattern that [`Template::parse`] was given. A match of another pattern fills in its group of that number.
-///
-/// If the PikeVM searches for one pattern, the matches are all hits of what the pattern means (`meant`).
-pub fn replace_all(
+/// If the regex searches for one pattern, they are those of the first hits of what the pattern means (`meant`).
+pub fn captures_in(
     alloc: Global,
-    vm: &PikeVM,
-    cache: &mut Cache,
+    regex: &mut Regex,
     haystack: &[u8],
-    template: &Template<'_>,
-) -> Result<Vec<u8>, AllocError>
-    requires { Fits cache.old vm.now.nfa }
-    ensures meant { IfOk result (λ output. (pattern : List ℕ) (re : Re) (hits : List PatternHit)
-        → SearchesFor pattern re vm.now → AreAllHits re (is_utf8_empty vm.now.nfa) haystack.now hits
-        → output.items ≡ replaced_by vm.now.nfa.groups template.now.parts.items haystack.now hits) }
-    ensures replaced { IfOk result (λ output. IsReplaced vm.now haystack.now template.now.parts.items output.items) }
-    ensures capacities { SameCapacities cache.old cache.new }
+    limit: Option<usize>,
+) -> Result<Vec<Captures>, AllocError>
+    ensures meant { IfOk result (λ caught. (pattern : List ℕ) (re : Re) (hits : List PatternHit)
+        → SearchesFor pattern re regex.old → AreAllHits re (is_utf8_empty regex.old.nfa) haystack.now hits
+        → caught.items ≡ map (captured_by regex.old.nfa.groups) (limited limit hits)) }
+    ensures first { IfOk result (λ caught. AreFirstOf regex.old haystack.now limit caught.items) }
+    ensures inside { IfOk result (λ caught. All (CapturesInside (whole haystack.now)) caught.items) }
+    ensures apart { IfOk result (λ caught. AreDisjoint (whole haystack.now) None (map match_in caught.items)) }
+    ensures keeps { KeepsEngines regex.old regex.new }
 {
-    let Ok(caught) = vm.captures_all(alloc, cache, Input::new(haystack)) else {
+    laws::iterations_find_texts();
+    laws::iterations_of_strs_find_texts();
+    laws::str_hits_are_find_str();
+    let Ok(caught) = regex.captures_all(alloc, Input::new(haystack)) else {
         return Err(AllocError);
     };
-    caught_are_meant(vm, haystack, &caught);
-    let output = replace_caught(alloc, haystack, caught, template)?;
-    Ok(output)
+    Ok(first_of(caught, limit))
 }
 
-/// Returns the haystack with the filled template in place of the match of each of these captures.
-#[tactic(auto, using(std::proofs::lemmas::List::Elements::recursion_from_All))]
-fn replace_caught(
-    alloc: Global,
-    haystack: &[u8],
-    caught: Vec<Captures>,
-    template: &Template<'_>,
-) -> Result<Vec<u8>, AllocError>
-    requires inside { All (CapturesInside (whole haystack.now)) caught.items }
-    requires apart { AreDisjoint (whole haystack.now) None (map match_in caught.items) }
-    ensures { IfOk result (λ output. output.items ≡ replaced haystack.now template.now.parts.items 0 caught.items) }
+/// Returns the first of these captures, as many as the limit says, or all.
+fn first_of(mut caught: Vec<Captures>, limit: Option<usize>) -> Vec<Captures>
+    ensures { result.items ≡ limited limit caught.items }
 {
-    let mut output = Vec::new(alloc);
-    let mut from = 0;
-    for captures in caught {
-        from = replace_one(haystack, from, &captures, template, &mut output)?;
-    }
-    output.extend_from_slice(&haystack[from..])?;
-    Ok(output)
-}
-
-/// Appends what is before the match of these captures, from an offset on, and the template filled by it. Returns the
-/// end of the match.
-fn replace_one(
-    haystack: &[u8],
-    from: usize,
-    captures: &Captures,
-    template: &Template<'_>,
-    output: &mut Vec<u8>,
-) -> Result<usize, AllocError>
-    requires inside { CapturesInside (whole haystack.now) captures.now }
-    requires before { from ≤ (match_in captures.now).start }
-    ensures output { OnOk result (output.new.items
-        ≡ output.old.items ++ replaced_one haystack.now template.now.parts.items from captures.now) }
-    ensures end { IfOk result (λ end. end ≡ (match_in captures.now).end) }
-{
-    let Some(found) = captures.get_match() else {
-        unreachable!()
+    let Some(count) = limit else {
+        return caught;
     };
-    output.extend_from_slice(&haystack[from..found.start()])?;
-    template.fill(haystack, captures, output)?;
-    Ok(found.end())
+    caught.truncate(count);
+    caught
 }

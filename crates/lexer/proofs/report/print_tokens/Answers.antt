@@ -1,38 +1,69 @@
--- The tokens are those that the patterns mean.
-use Rattle.std.proofs.Common.{◌≡◌, ◌∙◌, ◌++◌, ℕ, List, ap, ap₂, map, refl, rules, subst}
-use Rattle.std.specs.Prelude.{Option, None, Some, is_none, option_map}
-use Rattle.std.specs.Io.KnownBytes.{Appends}
-use Rattle.regex_hir.specs.Re.{Re}
-use Rattle.lexer.specs.Lexed.{AreLexed}
-use Rattle.lexer.specs.Printed.{printed_tokens, stuck_line, token_lines}
+-- A token more was printed, or none starts where the last one ends.
+use Rattle.std.proofs.Common.{rules, ◌≡◌, ℕ, List, arith, subst, sym}
+use Rattle.std.specs.Prelude.{None}
+use Rattle.std.proofs.KnownBytes.{Appends-kept}
+use Rattle.nfa_compiler.specs.Compiled.{AreMeant}
+use Rattle.lexer.specs.Patterns.{rule_syntax}
 use Rattle.lexer.specs.Tokens.{token_found}
-use Rattle.lexer.specs.declared.lexer.Stuck.{Stuck}
-use Rattle.lexer.specs.declared.lexer.Token.{Token}
-use Rattle.lexer.specs.declared.rules.Rule.{Rule}
+use Rattle.lexer.proofs.PrintedLemmas.{printed-all, printed-more, printed-none, printed-stuck, stuck-not-whole}
+use Rattle.lexer.proofs.PrintedLemmas.{whole-if-all}
 use Rattle.lexer.proofs.report.print_tokens.Goals as goal
 
-lines-are : (rules : List Rule) (res : List Re) (text : List ℕ) (tokens : List Token) (stuck : Option Stuck)
-    → AreLexed res text tokens stuck
-    → token_lines rules text (map token_found tokens) ++ stuck_line (option_map (λ (s : Stuck). s.at) stuck)
-    ≡ printed_tokens rules res text
-lines-are rules res text tokens stuck is =
-    ap₂ (λ ms at. token_lines rules text ms ++ stuck_line at) is.tokens_are is.place_is
+pub loop-at-init : goal.loop-at-init
+loop-at-init g c = record {
+  within = omega arith;
+  printed = λ res meant. printed-none c.args.style c.args.rules.now res c.args.text.now
+      (g.W.Write.contents c.args.out.now);
+  kept = search rules;
+}
 
-same-none : {A B : Type 0} (f : A → B) (o : Option A) → is_none o ≡ is_none (option_map f o)
-same-none f None = refl
-same-none f (Some x) = refl
+pub loop-at-preserved : goal.loop-at-preserved
+loop-at-preserved g c = record {
+  within = c.in-Some.ensures.inside.within;
+  printed = λ res meant.
+      let inv = c.loop-at.invariant in
+      let here = subst (λ (ps : List (List ℕ)). AreMeant rule_syntax ps res) (sym inv.kept) meant in
+      printed-more c.args.style c.args.rules.now res c.args.text.now (g.W.Write.contents c.args.out.now)
+      c.loop-at.at (token_found c.in-Some.token) (g.W.Write.contents c.loop-at.out)
+      (g.W.Write.contents c.write_token.new.out) inv.within (inv.printed res meant)
+      (c.in-Some.ensures.token res here) c.in_ok-write_token.ensures;
+  kept = search rules;
+}
+
+pub returns-in_default-clause-printed : goal.returns-in_default-clause-printed
+returns-in_default-clause-printed g c = λ res meant.
+    let inv = c.loop-at.invariant in
+    let start = subst (λ (ps : List (List ℕ)). AreMeant rule_syntax ps res) (sym c.requires) meant in
+    let here = subst (λ (ps : List (List ℕ)). AreMeant rule_syntax ps res) (sym inv.kept) start in
+    let none : c.token_at.result ≡ None = search rules in
+    let writes = Appends-kept (g.W.Write.contents c.loop-at.out) (g.W.Write.contents c.write_stuck.new.out) _ _
+    c.in_ok-write_stuck.ensures c.flush.ensures.bytes in
+    printed-stuck c.args.style c.args.rules.now res c.args.text.now (g.W.Write.contents c.args.out.now) c.loop-at.at
+    (g.W.Write.contents c.loop-at.out) _ c.loop-at-test.true (inv.printed res start)
+    (rw none at (c.token_at.ensures.token res here)) writes
+
+pub returns-in_default-clause-whole : goal.returns-in_default-clause-whole
+returns-in_default-clause-whole g c = λ res meant.
+    let inv = c.loop-at.invariant in
+    let start = subst (λ (ps : List (List ℕ)). AreMeant rule_syntax ps res) (sym c.requires) meant in
+    let here = subst (λ (ps : List (List ℕ)). AreMeant rule_syntax ps res) (sym inv.kept) start in
+    let none : c.token_at.result ≡ None = search rules in
+    stuck-not-whole c.args.style c.args.rules.now res c.args.text.now (g.W.Write.contents c.args.out.now) c.loop-at.at
+    (g.W.Write.contents c.loop-at.out) c.loop-at-test.true (inv.printed res start)
+    (rw none at (c.token_at.ensures.token res here))
 
 pub returns-clause-printed : goal.returns-clause-printed
 returns-clause-printed g c = λ res meant.
-    let lexed = c.in_ok-lexed.lexed in
-    let P : List ℕ → Type 0 = λ l. Appends (g.W.Write.contents c.args.out.now)
-    (g.W.Write.contents c.write_lexed.new.out) l in
-    subst P (lines-are c.args.rules.now res c.args.text.now lexed.tokens.items lexed.stuck
-    (c.in_ok-lexed.ensures.meant _ res c.requires meant)) c.in_ok-write_lexed.ensures
+    let inv = c.loop-at.invariant in
+    let start = subst (λ (ps : List (List ℕ)). AreMeant rule_syntax ps res) (sym c.requires) meant in
+    let all = printed-all c.args.style c.args.rules.now res c.args.text.now (g.W.Write.contents c.args.out.now)
+    c.loop-at.at (g.W.Write.contents c.loop-at.out) inv.within (omega (arith, c.loop-at-test.false))
+    (inv.printed res start) in
+    Appends-kept (g.W.Write.contents c.args.out.now) (g.W.Write.contents c.loop-at.out) _ _ all c.flush-2.ensures.bytes
 
 pub returns-clause-whole : goal.returns-clause-whole
 returns-clause-whole g c = λ res meant.
-    let lexed = c.in_ok-lexed.lexed in
-    let none : c.is_none.result ≡ is_none lexed.stuck = search rules in
-    none ∙ same-none (λ (s : Stuck). s.at) lexed.stuck
-    ∙ ap is_none (c.in_ok-lexed.ensures.meant _ res c.requires meant).place_is
+    let inv = c.loop-at.invariant in
+    let start = subst (λ (ps : List (List ℕ)). AreMeant rule_syntax ps res) (sym c.requires) meant in
+    whole-if-all c.args.style c.args.rules.now res c.args.text.now (g.W.Write.contents c.args.out.now) c.loop-at.at
+    (g.W.Write.contents c.loop-at.out) inv.within (omega (arith, c.loop-at-test.false)) (inv.printed res start)

@@ -4,7 +4,7 @@ use Rattle.log_extractor.proofs.GoingLemmas.{printed-joined}
 use Rattle.log_extractor.proofs.report.parts_are_joined.Goals as goal
 
 pub returns-clause-rows : goal.returns-clause-rows
-returns-clause-rows c = printed-joined output.Rows
+returns-clause-rows c = λ form. printed-joined (output.Rows form)
 
 pub returns-clause-objects : goal.returns-clause-objects
 returns-clause-objects c = printed-joined output.Objects

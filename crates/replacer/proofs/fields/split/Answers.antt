@@ -1,13 +1,24 @@
--- The matches are those of the hits.
-use Rattle.std.proofs.Common.{◌∙◌, List, ap, map, sym}
+-- The matches are those of the hits, by the laws on iterations.
+use Rattle.std.proofs.Common.{◌∙◌, List, ap, arith, map, subst}
 use Rattle.regex_search_core.specs.Found.{found_of}
 use Rattle.regex_search_core.specs.declared.search.Match.{Match}
+use Rattle.regex_search_core.specs.Search.{Search}
+use Rattle.nfa_engines.specs.Lists.{AreMatches}
+use Rattle.nfa_compiler.proofs.CallLemmas.{bytes-of}
+use Rattle.nfa_meta.specs.ChoiceState.{kind_in}
 use Rattle.replacer.specs.Separated.{gaps}
+use Rattle.replacer.proofs.MeantLemmas.{matches-are}
 use Rattle.replacer.proofs.fields.split.Goals as goal
 
 pub returns-clause-meant : goal.returns-clause-meant
 returns-clause-meant c = λ pattern re hits of all.
     let text = c.args.haystack.now in
+    let r = c.args.regex.now in
+    let items = map found_of c.in-Ok.matches.items in
+    let are = subst (λ (x : Search). AreMatches r.nfa (kind_in r) x.earliest x items) c.new.ensures
+    c.in-Ok.ensures.all in
     c.in_ok-fields.ensures.around.fields_are
-    ∙ ap (λ (ms : List Match). gaps text 0 (map found_of ms)) (c.deref-2.ensures.value ∙ sym c.deref.ensures.value)
-    ∙ ap (gaps text 0) (c.all_are_meant.ensures pattern re hits of all)
+    ∙ ap (λ (ms : List Match). gaps text 0 (map found_of ms)) c.deref.ensures.value
+    ∙ ap (gaps text 0) (matches-are pattern re r text (bytes-of text (λ k. omega (arith, c.type_inv.haystack k)))
+    of c.iterations_find_texts.ensures.matches c.iterations_of_strs_find_texts.ensures.matches
+    c.str_hits_are_find_str.ensures.all items are hits all)

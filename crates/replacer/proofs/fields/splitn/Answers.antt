@@ -1,16 +1,45 @@
--- The matches are the first of those of the hits.
-use Rattle.std.proofs.Common.{◌∙◌, ◌<◌, List, ap, arith, map, sym}
+-- The matches are the first of those of the hits, by the laws on iterations.
+use Rattle.std.proofs.Common.{◌≡◌, ◌∙◌, ◌<◌, ◌-◌, List, ap, arith, length, map, subst}
+use Rattle.std.proofs.lemmas.List.{length-map}
 use Rattle.regex_search_core.specs.Found.{found_of}
+use Rattle.regex_search_core.specs.Search.{search_of}
 use Rattle.regex_search_core.specs.declared.search.Match.{Match}
-use Rattle.replacer.specs.Separated.{gaps}
+use Rattle.nfa_compiler.proofs.CallLemmas.{bytes-of}
+use Rattle.nfa_meta.proofs.GapLemmas.{as-many, first-of, one-fewer}
+use Rattle.replacer.specs.Separated.{AreAround, gaps, texts}
+use Rattle.replacer.proofs.MeantLemmas.{first-are}
 use Rattle.replacer.proofs.PrintedLemmas.{first-by}
 use Rattle.replacer.proofs.fields.splitn.Goals as goal
 
 pub returns-clause-meant : goal.returns-clause-meant
 returns-clause-meant c = λ pattern re hits of all.
+    let r = c.args.regex.now in
     let text = c.args.haystack.now in
     let some : 0 < c.args.limit = omega arith in
+    let x = search_of c.new-2.result in
+    let items = c.in_ok-matches.matches.items in
+    let found = c.in_ok-matches.ensures in
+    let same : length (map found_of items) ≡ length items = length-map items found_of in
     c.in_ok-fields.ensures.around.fields_are
-    ∙ ap (λ (ms : List Match). gaps text 0 (map found_of ms)) (c.deref-2.ensures.value ∙ sym c.deref.ensures.value)
-    ∙ ap (gaps text 0) (c.first_are_meant.ensures pattern re hits of all)
+    ∙ ap (λ (ms : List Match). gaps text 0 (map found_of ms)) c.deref.ensures.value
+    ∙ ap (gaps text 0) (first-are pattern re r text (bytes-of text (λ k. omega (arith, c.type_inv.haystack k))) of
+    c.iterations_find_texts.ensures.matches c.iterations_of_strs_find_texts.ensures.matches
+    c.str_hits_are_find_str.ensures.all (map found_of items) (c.args.limit - 1)
+    (first-of r text x c.new-2.ensures items found.first)
+    (as-many r text x c.new-2.ensures items (c.args.limit - 1) found.as_many) (omega (arith, same, found.few)) hits all)
     ∙ first-by c.args.limit text hits some
+
+pub returns-clause-fields : goal.returns-clause-fields
+returns-clause-fields c = λ some.
+    let r = c.args.regex.now in
+    let text = c.args.haystack.now in
+    let x = search_of c.new-2.result in
+    let items = c.in_ok-matches.matches.items in
+    let found = c.in_ok-matches.ensures in
+    record {
+      matches = map found_of items;
+      first = first-of r text x c.new-2.ensures items found.first;
+      as_many = one-fewer r text x c.new-2.ensures items c.args.limit some found.as_many;
+      around = subst (λ (ms : List Match). AreAround text (map found_of ms) (texts c.in_ok-fields.fields.items))
+          c.deref.ensures.value c.in_ok-fields.ensures.around;
+    }

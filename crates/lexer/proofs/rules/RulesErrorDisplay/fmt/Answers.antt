@@ -1,7 +1,6 @@
 -- the parts of the text, joined
 use Rattle.std.proofs.Common.{append_assoc}
 use Rattle.std.proofs.Output.{has_written_of_eq}
-use Rattle.lexer.specs.RuleErrors.{rules_error_text}
 use Rattle.lexer.proofs.rules.RulesErrorDisplay.fmt.Goals as goal
 
 pub returns-in-NoPattern-clause-writes : goal.returns-in-NoPattern-clause-writes

@@ -1,12 +1,18 @@
 -- The columns are those of the NFA.
-use Rattle.std.proofs.Common.{rules, ◌≡◌, ◌∙◌, ℕ, [], ap, true, false, arith, length, map, sym}
+use Rattle.std.proofs.Common.{rules, ◌≡◌, ◌∙◌, ap, true, false, arith, length, map, sym}
 use Rattle.std.specs.Prelude.{None}
 use Rattle.std.proofs.lemmas.List.{length-map, length-replicate}
+use Rattle.std.proofs.lemmas.Result.{err_from_is_err_and}
 use Rattle.regex_search_core.specs.Groups.{slot_count}
 use Rattle.regex_search_core.specs.Slots.{Captured}
-use Rattle.log_extractor.specs.Fields.{group_of, line_syntax}
+use Rattle.log_extractor.specs.Fields.{group_of}
 use Rattle.log_extractor.proofs.NameLemmas.{compiled-columns, empty-columns}
 use Rattle.log_extractor.proofs.parser.Parser.new.Goals as goal
+
+pub returns-in_err-columns-clause-mistake : goal.returns-in_err-columns-clause-mistake
+returns-in_err-columns-clause-mistake c =
+    let p = err_from_is_err_and c.from_residual-in_err-columns.result c.from_residual-in_err-columns.ensures.1 in
+    rw (p.1, p.2) c.in_err-columns.ensures.mistake
 
 pub returns-then-is_empty-clause-mistake : goal.returns-then-is_empty-clause-mistake
 returns-then-is_empty-clause-mistake c = λ p is.
@@ -23,16 +29,11 @@ returns-clause-columns c = λ p is none.
     cc
 
 pub invariant_of-result : goal.invariant_of-result
-invariant_of-result c =
-    let nfa : c.in-Ok.vm.nfa ≡ c.in_ok-nfa.nfa = search rules in (
-      search rules,
-      search rules,
-      search rules,
-      search rules,
-      search rules,
-      search rules,
-      ap (λ (k : Captured). length k.slots) c.in-Ok-create_captures.ensures.made
-          ∙ length-replicate (slot_count c.in-Ok.vm.nfa.groups) None,
-      rw nfa (compiled-columns c.args.pattern.now c.in_ok-nfa.nfa (map group_of c.in_ok-columns.columns.items)
-          c.in_ok-nfa.ensures.compiled c.in_ok-columns.ensures.read),
-    )
+invariant_of-result c = (
+  c.in_ok-regex.ensures.compiled,
+  search rules,
+  ap (λ (k : Captured). length k.slots) c.in-Ok.ensures.made
+      ∙ length-replicate (slot_count c.in_ok-regex.regex.nfa.groups) None,
+  compiled-columns c.args.pattern.now c.in_ok-regex.regex.nfa (map group_of c.in_ok-columns.columns.items)
+      c.in_ok-regex.ensures.compiled.compiled c.in_ok-columns.ensures.read,
+)

@@ -1,0 +1,77 @@
+//! What the arguments of the command line ask for.
+use crate::report::Style;
+use std::alloc::{AllocError, Global};
+
+/// The line that says how the program is called.
+pub const USAGE: &str = "usage: lexer [--json] [--skip NAME].. [RULES] < TEXT";
+
+/// What `--help` prints below it.
+pub const HELP: &str = "
+Prints each token of the text in a line: the name of its rule, its span in bytes, and its text.
+RULES is a file with a rule in each line: NAME = PATTERN. Empty lines, and lines that start with #, are left out.
+Write -- before the name of a file that begins with a hyphen.
+The first rule that matches is taken. A token of the rule `space` is printed without its text.
+--json      prints each token as a JSON object, with its text.
+--skip NAME prints no tokens of the rule of this name. It may be given several times.
+
+Status: 0 if the tokens are the whole text, 1 if no token starts at some place or the text cannot be read or a token
+written, 2 if the arguments or the rules are wrong.";
+
+/// What the arguments ask for.
+#[derive(Debug, Drop)]
+pub struct Arguments<'w> {
+    /// The name of the file of the rules, if one is given.
+    pub rules: Option<&'w str>,
+    /// The names of the rules whose tokens are not printed.
+    pub skip: Vec<&'w str>,
+    /// Whether tokens are printed as JSON objects.
+    pub json: bool,
+}
+
+impl<'w> Arguments<'w> {
+    /// Returns how tokens are printed.
+    pub fn style(&self) -> Style<'_> {
+        Style {
+            skip: &self.skip,
+            json: self.json,
+        }
+    }
+}
+
+/// Returns what the arguments ask for, or `None` if they are wrong. The only error is that allocation failed.
+pub fn parse<'w>(alloc: Global, words: &[&'w str]) -> Result<Option<Arguments<'w>>, AllocError> {
+    let mut skip = Vec::new(alloc);
+    let mut json = false;
+    let mut is_name = false;
+    for (index, word) in words.iter().enumerate() {
+        match *word {
+            name if is_name => {
+                skip.push(name)?;
+                is_name = false;
+            }
+            "--skip" => is_name = true,
+            "--json" => json = true,
+            _ => {
+                let Some(name) = file_of(&words[index..]) else {
+                    return Ok(None);
+                };
+                let rules = Some(name);
+                return Ok(Some(Arguments { rules, skip, json }));
+            }
+        }
+    }
+    if is_name {
+        return Ok(None);
+    }
+    let rules = None;
+    Ok(Some(Arguments { rules, skip, json }))
+}
+
+/// Returns the name of a file, which may be after `--`.
+fn file_of<'w>(words: &[&'w str]) -> Option<&'w str> {
+    match words {
+        ["--", name] => Some(name),
+        [name] if !name.starts_with('-') => Some(name),
+        _ => None,
+    }
+}

@@ -1,6 +1,0 @@
--- What has been pushed is what the iterator gave, and fewer than are asked for.
-use Rattle.std.proofs.Common.{◌≡◌, ◌<◌, length}
-use Rattle.replacer.proofs.found.first_matches.Given as goal
-
-abbrev pub invariant-loop-found : goal.invariant-loop-found
-invariant-loop-found l = record { items : l.first.items ≡ l.yielded; room : length l.first.items < l.count }

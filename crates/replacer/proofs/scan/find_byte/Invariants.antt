@@ -1,6 +1,0 @@
--- None of the bytes so far is the one that is sought.
-use Rattle.replacer.specs.Writing.{HasNo}
-use Rattle.replacer.proofs.scan.find_byte.Given as goal
-
-abbrev pub invariant-loop-end : goal.invariant-loop-end
-invariant-loop-end l = HasNo l.text l.from l.end l.byte
