@@ -1,14 +1,15 @@
 -- An engine over two others as a value, and the rule that picks one of the two for a search.
 use Rattle.std.specs.Prelude.{◌≡◌, ◌⊎◌, ◌+◌, ◌*◌, ◌≤◌, ℕ, Bool, true, false, ◌&&◌, not, nat_le, MatchBool, Option, Some}
+use Rattle.std.specs.Prelude.{◌-◌, ◌^◌, min}
 use Rattle.regex_search_core.specs.Search.{Search}
 use Rattle.regex_search_core.specs.declared.search.MatchKind.{MatchKind}
 use Rattle.regex_search_core.specs.declared.search.MatchKind.TheVariants.{All, LeftmostFirst}
 use Rattle.thompson_nfa.specs.Automaton.{Automaton}
 use Rattle.nfa_paths.specs.Paths.{span_len, max_scans, total_degree, IsWork, IsWithinScans}
 use Rattle.nfa_backtrack.specs.Backtrack.{Backtracker, BacktrackCache, AddsBacktrackWork, CountsAnswer, CountsRefusal, GrowsBlocks}
-use Rattle.nfa_backtrack.specs.Backtrack.{max_haystack_len_of}
+use Rattle.nfa_backtrack.specs.Backtrack.{max_haystack_len_of, memory_of}
 use Rattle.nfa_search_base.specs.Finds.{finds}
-use Rattle.nfa_pikevm.specs.Engines.{Pike, PikeCache, AddsPikeWork, SameCapacities, kind_of}
+use Rattle.nfa_pikevm.specs.Engines.{Pike, PikeCache, AddsPikeWork, SameCapacities, kind_of, pike_memory_of}
 use Rattle.nfa_choice.specs.declared.choose.Engine.{Engine}
 use Rattle.nfa_choice.specs.declared.choose.Engine.TheVariants as engine
 
@@ -28,6 +29,10 @@ backtracker_of c = record { nfa = c.nfa; visited_capacity = c.visited_capacity }
 -- its PikeVM, which defines its answers
 abbrev pub pike_of : ChoiceState → Pike
 pike_of c = record { nfa = c.nfa; match_kind = c.match_kind }
+
+-- the bytes of both caches, or the maximum `usize` if they are more
+abbrev pub bytes_of : ChoiceState → ℕ
+bytes_of c = min (memory_of c.back + pike_memory_of c.pike) (2 ^ 64 - 1)
 
 -- the match kind that it searches with
 abbrev pub kind_in : ChoiceState → MatchKind

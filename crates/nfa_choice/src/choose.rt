@@ -20,7 +20,7 @@ ghost use Rattle.nfa_search_base.specs.Lists.{IsInside, IsSlotInside};
 ghost use Rattle.nfa_search_base.specs.Spans.{SpansInside};
 ghost use Rattle.nfa_backtrack.specs.Backtrack.{empty_cache, HoldsNoMore};
 ghost use Rattle.nfa_pikevm.specs.Engines.{cache_for};
-ghost use Rattle.nfa_choice.specs.ChoiceState.{finds_in, is_for_backtracker, kind_in, KeepsEngines};
+ghost use Rattle.nfa_choice.specs.ChoiceState.{bytes_of, finds_in, is_for_backtracker, kind_in, KeepsEngines};
 ghost use Rattle.nfa_pikevm.specs.Engines.{IsFitFor};
 ghost use Rattle.nfa_choice.specs.ChoiceState.{RunsByRule};
 
@@ -200,6 +200,21 @@ impl Choice {
         ensures { result.now ≡ self.now.match_kind }
     {
         self.pike.get_config()
+    }
+
+    /// Returns the bytes that the entries of both caches take. The sum saturates at `usize::MAX`.
+    ///
+    /// ```
+    /// // choice of "foo(?<n>[0-9]+)"
+    /// let before = choice.memory_usage();
+    /// choice.find(Input::new(b"foo12345"));
+    /// assert!(rt; choice.memory_usage() > before);
+    /// ```
+    pub fn memory_usage(&self) -> usize
+        ensures { result ≡ bytes_of self.now }
+    {
+        let back = self.back_cache.memory_usage();
+        back.saturating_add(self.pike_cache.memory_usage())
     }
 
     /// Returns whether the search is one for the backtracker.

@@ -40,6 +40,13 @@ fn get_pikevm_config(rt: &impl Abort, choice: &Choice) {
     assert_eq!(rt; choice.get_pikevm_config().get_match_kind(), MatchKind::All);
 }
 
+fn memory_usage(rt: &impl Abort, choice: &mut Choice) {
+    // choice of "foo(?<n>[0-9]+)"
+    let before = choice.memory_usage();
+    choice.find(Input::new(b"foo12345"));
+    assert!(rt; choice.memory_usage() > before);
+}
+
 fn search_slots(rt: &impl Abort, choice: &mut Choice) {
     // choice of [r"\pL+", r"\d+"]
     let mut slots = [None; 4];
@@ -212,6 +219,7 @@ fn run_replace(rt: &impl Abort, alloc: Global, choice: &mut Choice) {
 fn of_foo(rt: HostRuntime) {
     let alloc = rt.alloc();
     let mut choice = choice_of(&rt, alloc, &["foo(?<n>[0-9]+)"]);
+    memory_usage(&rt, &mut choice);
     run_searches(&rt, &mut choice);
     run_tests(&rt, &mut choice);
     run_captures(&rt, alloc, &mut choice);
