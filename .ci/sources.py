@@ -32,6 +32,7 @@ GROUPS = [
     ('Matches that split a codepoint', 'nfa_engines::empty', 'nfa_search_base', '',
      'skip_splits_fwd skip_splits_fwd_by_ref skip_splits_rev skip_splits_rev_by_ref'),
     ('Whether an NFA records its bounds', 'nfa_match_spans', 'nfa_match_spans', '', 'records_match_spans'),
+    ('The bytes that each match begins with', 'nfa_prefix', 'nfa_prefix', '', 'literal_prefix find_prefix'),
     ('The lazy DFA', 'nfa_lazy_dfa', 'nfa_lazy_dfa', 'DFA Cache Config Builder StopError Window', ''),
     ('The engine that runs the cheapest engine', 'nfa_meta', 'nfa_meta', 'Regex FindMatches', ''),
     ('Scans by steps, for determinizers', 'nfa_determinize::closure', 'nfa_determinize', '',
@@ -47,7 +48,7 @@ GROUPS = [
 # The modules of laws: empty functions whose contracts are theorems.
 LAWS = [('nfa_engines::laws', 'nfa_engines'), ('nfa_choice::laws', 'nfa_choice'),
         ('nfa_engines::iter::laws', 'nfa_search_base'), ('nfa_match_spans::laws', 'nfa_match_spans'),
-        ('nfa_compiler::laws', 'nfa_compiler'),
+        ('nfa_prefix::laws', 'nfa_prefix'), ('nfa_compiler::laws', 'nfa_compiler'),
         ('nfa_determinize::laws', 'nfa_determinize'), ('nfa_meta::laws', 'nfa_meta')]
 
 
