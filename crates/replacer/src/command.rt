@@ -1,7 +1,8 @@
 //! What the arguments of the command line ask for.
 
 /// The line that says how the program is called.
-pub const USAGE: &str = "usage: replacer [--whole] [-n NUM] replace PATTERN TEMPLATE [FILE..] | \
+pub const USAGE: &str =
+    "usage: replacer [-i] [-F] [--whole] [-n NUM] replace PATTERN TEMPLATE [FILE..] | \
 split PATTERN [FILE..] | splitn PATTERN LIMIT [FILE..]";
 
 /// What `--help` prints below it.
@@ -10,6 +11,8 @@ Replaces the matches of a pattern in each line of the files, or splits the lines
 replace  prints the line with the template in place of each match.
 split    prints what is before, between and after the matches, a line for each field.
 splitn   prints at most LIMIT fields of a line. The last one is the rest of it.
+-i       lets letters match in either case.
+-F       takes PATTERN as a text in which no character has a meaning of its own.
 --whole  takes each file as one text, so that the pattern sees its line feeds.
 -n NUM   replaces only the first NUM matches of each file.
 In TEMPLATE, $1, $name and ${name} are what a group matched, and $$ is a dollar.
@@ -33,6 +36,10 @@ pub enum Command<'w> {
 #[derive(Clone, Copy, Debug, PartialEq, Eq)]
 pub struct Request<'w> {
     pub pattern: &'w str,
+    /// Whether the pattern is a text, in which no character has a meaning of its own.
+    pub fixed: bool,
+    /// Whether letters match in either case.
+    pub ignore_case: bool,
     pub command: Command<'w>,
     /// Whether the text is taken as a whole, and not line by line.
     pub whole: bool,
@@ -51,6 +58,8 @@ pub struct Arguments<'w> {
 /// The options, which are before the command.
 #[derive(Clone, Copy, Debug)]
 struct Options {
+    fixed: bool,
+    ignore_case: bool,
     whole: bool,
     limit: Option<usize>,
 }
@@ -64,6 +73,8 @@ pub fn parse<'w>(words: &'w [&'w str]) -> Option<Arguments<'w>> {
     }
     let request = Request {
         pattern,
+        fixed: options.fixed,
+        ignore_case: options.ignore_case,
         command,
         whole: options.whole,
         limit: options.limit,
@@ -74,6 +85,8 @@ pub fn parse<'w>(words: &'w [&'w str]) -> Option<Arguments<'w>> {
 /// Returns the options, and the words from the command on.
 fn options_of<'w>(words: &'w [&'w str]) -> Option<(Options, &'w [&'w str])> {
     let mut options = Options {
+        fixed: false,
+        ignore_case: false,
         whole: false,
         limit: None,
     };
@@ -84,6 +97,8 @@ fn options_of<'w>(words: &'w [&'w str]) -> Option<(Options, &'w [&'w str])> {
                 options.limit = Some(number.parse().ok()?);
                 is_limit = false;
             }
+            "-F" => options.fixed = true,
+            "-i" => options.ignore_case = true,
             "--whole" => options.whole = true,
             "-n" => is_limit = true,
             _ => return Some((options, &words[index..])),

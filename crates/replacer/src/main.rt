@@ -8,6 +8,7 @@ mod files;
 mod hint;
 mod job;
 mod line;
+mod pattern;
 mod replace;
 mod shown;
 
