@@ -3,6 +3,8 @@
 // - WRITES and READS: how many writes to standard output, and reads of standard input, succeed; each later one fails.
 // - SHORT: how many bytes one of these calls moves at most.
 // - FILES: reads of files that the program opens count as reads of standard input.
+// - CHANGES: how many calls succeed that make, write, flush, link or rename a file, or set its owner or permissions; each
+//   later one fails.
 // - REFUSED: the number of the one request for memory that is refused.
 // - ROOM: how many bytes all requests together may take; later ones are refused.
 // - COUNTS: when the program ends, file 9 gets the bytes of all requests, the reads and the writes.
@@ -16,10 +18,10 @@ extern int *__errno_location(void);
 extern void *__libc_malloc(size_t);
 extern void *__libc_realloc(void *, size_t);
 
-enum { READ, WRITE };
-enum { EIO = 5 };
+enum { READ, WRITE, OPEN, FSYNC = 74, RENAME = 82, LINK = 86, FCHMOD = 91, FCHOWN = 93 };
+enum { EIO = 5, O_CREAT = 0100 };
 
-static long taken, requests, calls[2];
+static long taken, requests, changes, calls[2];
 
 // A number in the environment, -1 for none.
 static long number_in(const char *name) {
@@ -27,7 +29,21 @@ static long number_in(const char *name) {
     return number ? atol(number) : -1;
 }
 
+// Whether this change of a file fails.
+static int is_stopped(void) {
+    long left = number_in("CHANGES");
+    if (left < 0 || changes++ < left) {
+        return 0;
+    }
+    syscall(WRITE, 9, "!", 1);
+    *__errno_location() = EIO;
+    return 1;
+}
+
 static long moved(long call, int file, const void *bytes, size_t len) {
+    if (call == WRITE && file > 2 && file != 9 && is_stopped()) {
+        return -1;
+    }
     if (file == call || (call == READ && file > 2 && file != 9 && number_in("FILES") > 0)) {
         long left = number_in(call == READ ? "READS" : "WRITES"), most = number_in("SHORT");
         if (left >= 0 && calls[call] >= left) {
@@ -82,3 +98,19 @@ long write(int file, const void *bytes, size_t len) { return moved(WRITE, file, 
 long __read(int file, void *bytes, size_t len) { return moved(READ, file, bytes, len); }
 
 long __write(int file, const void *bytes, size_t len) { return moved(WRITE, file, bytes, len); }
+
+int open(const char *path, int flags, unsigned mode) {
+    return flags & O_CREAT && is_stopped() ? -1 : (int)syscall(OPEN, path, flags, mode);
+}
+
+int fsync(int file) { return is_stopped() ? -1 : (int)syscall(FSYNC, file); }
+
+int rename(const char *from, const char *to) { return is_stopped() ? -1 : (int)syscall(RENAME, from, to); }
+
+int link(const char *from, const char *to) { return is_stopped() ? -1 : (int)syscall(LINK, from, to); }
+
+int fchmod(int file, unsigned mode) { return is_stopped() ? -1 : (int)syscall(FCHMOD, file, mode); }
+
+int fchown(int file, unsigned owner, unsigned group) {
+    return is_stopped() ? -1 : (int)syscall(FCHOWN, file, owner, group);
+}

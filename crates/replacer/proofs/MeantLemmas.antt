@@ -1,7 +1,7 @@
 -- From the matches and captures of a text to the hits of what the pattern means.
-use Rattle.std.proofs.Common.{◌≡◌, ◌∙◌, ℕ, zero, suc, ◌+◌, ◌-◌, ◌≤◌, ◌<◌, ◌⊎◌, inl, inr, Bool, true, false, List, [], ◌∷◌, ◌++◌, length, map, take, All, arith, refl, sym, ap, ap₂, subst}
+use Rattle.std.proofs.Common.{◌≡◌, ◌∙◌, ℕ, ◌+◌, ◌-◌, ◌≤◌, ◌<◌, ◌⊎◌, inl, inr, Bool, true, false, List, [], ◌∷◌, length, map, take, All, arith, refl, sym, ap, ap₂, subst}
 use Rattle.std.specs.List.{AllByRecursion}
-use Rattle.std.specs.Prelude.{Option, None, Some, option_map, if◌then◌else◌, ◌==◌}
+use Rattle.std.specs.Prelude.{Option, None, Some, option_map, if◌then◌else◌}
 use Rattle.std.proofs.lemmas.Bool.{cases_lt, lt-ltb, le-ltb}
 use Rattle.std.proofs.lemmas.List.{take-append-le, take_all}
 use Rattle.std.proofs.lemmas.List.Elements.{recursion_from_All}
@@ -32,7 +32,7 @@ use Rattle.nfa_compiler.proofs.LiesLemmas.{boundary-lies}
 use Rattle.nfa_compiler.proofs.MeantLemmas.{AreAlike, all-meant, first-alike, found-alike, pattern-alike, pick-alike, slots-alike}
 use Rattle.nfa_compiler.proofs.UnboundLemmas.{boundary-unbound, hit-unbound, loses-none, texts-lose-none}
 use Rattle.nfa_meta.specs.ChoiceState.{ChoiceState, kind_in}
-use Rattle.replacer.specs.Hits.{AreAllHits, SearchesFor, captured_by, hits_in, next_hit, pattern_syntax}
+use Rattle.replacer.specs.Hits.{AreAllHits, SearchesFor, captured_by, Sought, hits_in, next_hit, syntax_of}
 
 -- alike hits end on a boundary alike
 kept-alike : (text : List ℕ) (h g : Option PatternHit) → AreAlike h g
@@ -62,7 +62,7 @@ captures-are nfa (c ∷ cs) (h ∷ hits) groups rows =
     λ i. record { groups = groups.0.groups i; pattern = (one i).pattern; slots = (one i).slots } in
     ap₂ (λ x xs. x ∷ xs) same (captures-are nfa cs hits groups.1 rest)
 
-module _ (pattern : List ℕ) (re : Re) (r : ChoiceState) (text : List ℕ) (bytes : All (λ b. b < 256) text)
+module _ (pattern : Sought) (re : Re) (r : ChoiceState) (text : List ℕ) (bytes : All (λ b. b < 256) text)
     (of : SearchesFor pattern re r) where
   -- the hits that end on a boundary are those of the tree that was compiled
   module _ (mode : is_utf8_empty r.nfa ≡ true) where
@@ -83,7 +83,7 @@ module _ (pattern : List ℕ) (re : Re) (r : ChoiceState) (text : List ℕ) (byt
               (λ k. on_boundary text (pick text (re ∷ []) 0 k))
               (λ k. kept-alike text (pick text trees 0 k) (pick text (re ∷ []) 0 k)
               (pick-alike text bytes trees (re ∷ []) 0 k
-              (all-meant pattern_syntax (pattern ∷ []) of.search.compiled.trees (re ∷ []) of.search.compiled.read
+              (all-meant (syntax_of pattern) (pattern.text ∷ []) of.search.compiled.trees (re ∷ []) of.search.compiled.read
               (of.meant, tt))))
               (length text - i + 1) i)
         ]
@@ -131,7 +131,7 @@ module _ (pattern : List ℕ) (re : Re) (r : ChoiceState) (text : List ℕ) (byt
 
   -- no hit is lost
   kept : LosesNoHit (re ∷ []) r.nfa text
-  kept = texts-lose-none pattern_syntax (pattern ∷ []) (re ∷ []) r.nfa text of.search.compiled (of.meant, tt)
+  kept = texts-lose-none (syntax_of pattern) (pattern.text ∷ []) (re ∷ []) r.nfa text of.search.compiled (of.meant, tt)
       of.search.free bytes
 
   same-from : (i : ℕ) → hit (re ∷ []) r.nfa (record (whole text) { start = i }) ≡ next_hit re false text i
@@ -154,11 +154,11 @@ module _ (pattern : List ℕ) (re : Re) (r : ChoiceState) (text : List ℕ) (byt
         by-mode : (b : Bool) → is_utf8_empty r.nfa ≡ b → ms ≡ map found_at (hits_in re b text)
         by-mode true mode = empty-matches mode ms (rw of.search.leftmost at are)
         by-mode false mode =
-            texts pattern_syntax (pattern ∷ []) (re ∷ []) r.nfa (kind_in r) false (whole text) ms of.search.compiled
+            texts (syntax_of pattern) (pattern.text ∷ []) (re ∷ []) r.nfa (kind_in r) false (whole text) ms of.search.compiled
             (of.meant, tt) mode leftmost bytes are
             ∙ ap (map found_at) plain
     matches-are ms are hits (inr (utf8, e)) =
-        strs pattern_syntax (pattern ∷ []) (re ∷ []) r.nfa (kind_in r) false (whole text) ms of.search.compiled
+        strs (syntax_of pattern) (pattern.text ∷ []) (re ∷ []) r.nfa (kind_in r) false (whole text) ms of.search.compiled
         (of.meant, tt) of.search.compiled.mode of.search.free leftmost utf8 are
         ∙ ap (map found_at) (found re r.nfa (whole text) kept refl refl refl ∙ sym e)
 
@@ -184,11 +184,11 @@ module _ (pattern : List ℕ) (re : Re) (r : ChoiceState) (text : List ℕ) (byt
         by-mode : (b : Bool) → is_utf8_empty r.nfa ≡ b → rows ≡ map (row_of_hit r.nfa) (hits_in re b text)
         by-mode true mode = empty-rows mode rows (rw of.search.leftmost at are)
         by-mode false mode =
-            texts pattern_syntax (pattern ∷ []) (re ∷ []) r.nfa (kind_in r) false (whole text) rows of.search.compiled
+            texts (syntax_of pattern) (pattern.text ∷ []) (re ∷ []) r.nfa (kind_in r) false (whole text) rows of.search.compiled
             (of.meant, tt) mode leftmost bytes are
             ∙ ap (map (row_of_hit r.nfa)) plain
     rows-are rows are hits (inr (utf8, e)) =
-        strs pattern_syntax (pattern ∷ []) (re ∷ []) r.nfa (kind_in r) false (whole text) rows of.search.compiled
+        strs (syntax_of pattern) (pattern.text ∷ []) (re ∷ []) r.nfa (kind_in r) false (whole text) rows of.search.compiled
         (of.meant, tt) of.search.compiled.mode of.search.free leftmost utf8 are
         ∙ ap (map (row_of_hit r.nfa)) (found re r.nfa (whole text) kept refl refl refl ∙ sym e)
 

@@ -1,15 +1,17 @@
 -- From the text that was read to the reader, and from the groups of the NFA to those of the pattern.
-use Rattle.std.proofs.Common.{◌≡◌, ◌∙◌, ℕ, ◌-◌, ◌<◌, Bool, List, [], ◌∷◌, map, take, arith, ne_eqb, refl, subst}
+use Rattle.std.proofs.Common.{◌≡◌, ◌∙◌, ℕ, ◌-◌, ◌<◌, List, [], ◌∷◌, map, take, arith, ne_eqb, refl, subst}
 use Rattle.std.specs.Prelude.{Option, None, Some, IfSome}
 use Rattle.std.specs.Io.KnownBytes.{Appends}
 use Rattle.regex_hir.specs.Re.{Re}
 use Rattle.nfa_engines.specs.Paths.{is_utf8_empty}
-use Rattle.nfa_compiler.specs.NameLaws.{GroupsAreNamed, IsNamed}
+use Rattle.nfa_compiler.specs.NameLaws.{GroupsAreNamed}
 use Rattle.nfa_compiler.specs.Patterns.{PatternHit, found_at}
 use Rattle.nfa_meta.specs.Built.{HasNotSearched, IsBuiltFrom, default_builder}
-use Rattle.nfa_meta.specs.ChoiceState.{ChoiceState, KeepsEngines, kind_in}
-use Rattle.replacer.specs.Hits.{AreHitsOf, IsSearchOf, SearchesFor, groups_named_by, pattern_syntax}
-use Rattle.replacer.specs.Printed.{Groups, IsActionOf, IsMisused, IsTemplateMistake, Prints, printed}
+use Rattle.nfa_meta.specs.ChoiceState.{ChoiceState, KeepsEngines}
+use Rattle.nfa_meta.specs.declared.builder.Builder.{Builder}
+use Rattle.replacer.specs.Hits.{AreHitsOf, HasNames, IsSearchOf, SearchesFor, Sought, groups_named_by, syntax_of}
+use Rattle.replacer.specs.Printed.{Groups, IsActionOf, IsMisused, IsPatternMistake, IsTemplateMistake, Prints, printed}
+use Rattle.replacer.specs.Printed.{sought}
 use Rattle.replacer.specs.Separated.{first_fields_by, gaps}
 use Rattle.replacer.specs.declared.action.Action.{Action}
 use Rattle.replacer.specs.declared.command.Command.{Command}
@@ -24,8 +26,12 @@ pub at-read : (all : Option (List ℕ)) (read text : List ℕ) (P : List ℕ →
 at-read None read text P same is p = tt
 at-read (Some bytes) read text P same is p = subst P (same ∙ is) p
 
+-- the builder of a pattern's syntax
+abbrev pub builder_of : Sought → Builder
+builder_of pattern = record default_builder { syntax = syntax_of pattern }
+
 -- the regex that is built from a pattern searches for it
-pub built-search : (pattern : List ℕ) (r : ChoiceState) → IsBuiltFrom default_builder (pattern ∷ []) r.nfa
+pub built-search : (pattern : Sought) (r : ChoiceState) → IsBuiltFrom (builder_of pattern) (pattern.text ∷ []) r.nfa
     → HasNotSearched None r → IsSearchOf pattern r
 built-search pattern r built engines = record {
   compiled = built.compiled;
@@ -34,7 +40,7 @@ built-search pattern r built engines = record {
 }
 
 -- after searches the regex searches for the same
-pub search-kept : (pattern : List ℕ) (old new : ChoiceState) → KeepsEngines old new → IsSearchOf pattern old
+pub search-kept : (pattern : Sought) (old new : ChoiceState) → KeepsEngines old new → IsSearchOf pattern old
     → IsSearchOf pattern new
 search-kept pattern old new keeps of = record {
   compiled = rw keeps.nfa of.compiled;
@@ -47,15 +53,22 @@ pub first-by : (limit : ℕ) (text : List ℕ) (hits : List PatternHit) → 0 < 
     → gaps text 0 (take (limit - 1) (map found_at hits)) ≡ first_fields_by limit text hits
 first-by limit text hits some = rw (ne_eqb limit 0 (λ e. absurd (omega (arith, e, some)))) refl
 
+-- what is wrong with the pattern is wrong with the request
+pub pattern-misused : (request : Request) (mistake : Mistake) → IsPatternMistake (sought request) mistake
+    → IsMisused request mistake
+pattern-misused request Memory h = tt
+pattern-misused request (Pattern error) h = h
+pattern-misused request (Template error) h = absurd h
+
 -- what is printed for the groups of the NFA is printed for those of the pattern
-module _ (law : GroupsAreNamed) (request : Request) (r : ChoiceState) (of : IsSearchOf request.pattern.now r) where
-  pub groups-are : (names : List (Option (List ℕ))) → IsNamed pattern_syntax request.pattern.now names
+module _ (law : GroupsAreNamed) (request : Request) (r : ChoiceState) (of : IsSearchOf (sought request) r) where
+  pub groups-are : (names : List (Option (List ℕ))) → HasNames (sought request) names
       → r.nfa.groups ≡ groups_named_by names
   groups-are names named =
-      law pattern_syntax (request.pattern.now ∷ []) (names ∷ []) r.nfa of.compiled (named, tt)
+      law (syntax_of (sought request)) ((sought request).text ∷ []) (names ∷ []) r.nfa of.compiled (named, tt)
 
   pub prints : (act : Action) (input old new : Option (List ℕ)) → IsActionOf r.nfa.groups request.command act
-      → ((pattern : List ℕ) (re : Re) (hits : List ℕ → List PatternHit) → SearchesFor pattern re r
+      → ((pattern : Sought) (re : Re) (hits : List ℕ → List PatternHit) → SearchesFor pattern re r
       → AreHitsOf re (is_utf8_empty r.nfa) hits
       → IfSome input (λ text. Appends old new
       (printed r.nfa.groups hits act request.whole request.limit text)))
@@ -68,7 +81,7 @@ module _ (law : GroupsAreNamed) (request : Request) (r : ChoiceState) (of : IsSe
       let both : P (groups_named_by names) = subst P (groups-are names named) (
         is,
         λ hits all.
-            h request.pattern.now re hits (record { search = of; meant = meant }) all,
+            h (sought request) re hits (record { search = of; meant = meant }) all,
       ) in
       (is_utf8_empty r.nfa, act, both.0, both.1)
 

@@ -6,29 +6,44 @@ use Rattle.regex_search_core.specs.Groups.{slot_count}
 use Rattle.regex_search_core.specs.Search.{whole}
 use Rattle.regex_search_core.specs.Slots.{Captured}
 use Rattle.regex_search_core.specs.declared.search.MatchKind.TheVariants.{LeftmostFirst}
-use Rattle.regex_syntax.specs.Verdict.{default_config}
+use Rattle.regex_syntax.specs.Verdict.{default_config, default_flags}
 use Rattle.regex_syntax.specs.declared.Config.{Config}
 use Rattle.nfa_compiler.specs.AllHits.{hits_from}
 use Rattle.nfa_compiler.specs.AnyStart.{FindsFromAnyStart}
 use Rattle.nfa_compiler.specs.BoundaryHits.{expected_on_boundary}
 use Rattle.nfa_compiler.specs.Compiled.{IsCompiled, IsMeant}
+use Rattle.nfa_compiler.specs.NameLaws.{IsNamed}
 use Rattle.nfa_compiler.specs.Patterns.{PatternHit, expected, hit_by, slots_of}
 use Rattle.nfa_meta.specs.ChoiceState.{ChoiceState, kind_in}
 
--- The syntax of the pattern: the default one, in which a pattern matches characters of a text only.
-abbrev pub pattern_syntax : Config
-pattern_syntax = default_config
+-- the text of a pattern, and whether letters match in either case
+pub record Sought : Type 0 where
+  pub text : List ℕ
+  pub ignore_case : Bool
+
+-- The syntax of the pattern: the default one, in which a pattern matches characters of a text only. If letters match in
+-- either case, the flag `i` is set.
+abbrev pub syntax_of : Sought → Config
+syntax_of pattern = record default_config { flags = record default_flags { case_insensitive = pattern.ignore_case } }
+
+-- the grammar reads `re` in the pattern
+abbrev pub Means : Sought → Re → Type 0
+Means pattern re = IsMeant (syntax_of pattern) pattern.text re
+
+-- the grammar reads these names of groups in the pattern, from group 0 on
+abbrev pub HasNames : Sought → List (Option (List ℕ)) → Type 0
+HasNames pattern names = IsNamed (syntax_of pattern) pattern.text names
 
 -- the regex searches for this pattern, by leftmost first, and from any place
-pub record IsSearchOf (pattern : List ℕ) (r : ChoiceState) : Type 0 where
-  pub compiled : IsCompiled pattern_syntax (pattern ∷ []) r.nfa
+pub record IsSearchOf (pattern : Sought) (r : ChoiceState) : Type 0 where
+  pub compiled : IsCompiled (syntax_of pattern) (pattern.text ∷ []) r.nfa
   pub leftmost : kind_in r ≡ LeftmostFirst
   pub free : FindsFromAnyStart r.nfa
 
 -- and the pattern means `re`
-pub record SearchesFor (pattern : List ℕ) (re : Re) (r : ChoiceState) : Type 0 where
+pub record SearchesFor (pattern : Sought) (re : Re) (r : ChoiceState) : Type 0 where
   pub search : IsSearchOf pattern r
-  pub meant : IsMeant pattern_syntax pattern re
+  pub meant : Means pattern re
 
 module _ (re : Re) (empty : Bool) (text : List ℕ) where
   -- The first hit from this place on. `empty` says that the pattern may match the empty string. Then a match that

@@ -1,14 +1,14 @@
 -- What is printed for a text.
-use Rattle.std.specs.Prelude.{ℕ, ◌≡◌, Bool, List, [], ◌∷◌, ◌++◌, Option, IfSome, flat_map, length, if◌then◌else◌, ⊤}
+use Rattle.std.specs.Prelude.{ℕ, ◌≡◌, Bool, List, [], ◌∷◌, ◌++◌, Option, IfSome, chars, encode_utf8_all, flat_map}
+use Rattle.std.specs.Prelude.{length, if◌then◌else◌, ⊤}
 use Rattle.std.specs.Io.KnownBytes.{Appends}
 use Rattle.regex_hir.specs.Re.{Re}
+use Rattle.regex_syntax.specs.Verdict.{escaped_text}
 use Rattle.text_lines.specs.Lines.{lines_of}
-use Rattle.nfa_compiler.specs.Compiled.{IsMeant}
-use Rattle.nfa_compiler.specs.NameLaws.{IsNamed}
 use Rattle.nfa_compiler.specs.Patterns.{PatternHit}
 use Rattle.nfa_compiler.specs.Rejected.{IsOfOneText, NamesText}
 use Rattle.nfa_meta.specs.TemplateTexts.{AreParts, IsMistake}
-use Rattle.replacer.specs.Hits.{AreHitsOf, groups_named_by, pattern_syntax}
+use Rattle.replacer.specs.Hits.{AreHitsOf, HasNames, Means, Sought, groups_named_by, syntax_of}
 use Rattle.replacer.specs.Lines.{feed_of, without_feed}
 use Rattle.replacer.specs.Replaced.{left_after, limited, replaced_by}
 use Rattle.replacer.specs.Separated.{fields_by, first_fields_by}
@@ -19,6 +19,17 @@ use Rattle.replacer.specs.declared.command.Command.TheVariants.{Replace, Split, 
 use Rattle.replacer.specs.declared.command.Request.{Request}
 use Rattle.replacer.specs.declared.job.Mistake.{Mistake}
 use Rattle.replacer.specs.declared.job.Mistake.TheVariants.{Memory, Pattern, Template}
+
+-- the text with a backslash before each character that has a meaning of its own in a pattern
+abbrev pub escaped : List ℕ → List ℕ
+escaped text = encode_utf8_all (escaped_text (chars text))
+
+-- the pattern that is searched for: with `fixed`, the text that was given is escaped
+abbrev pub sought : Request → Sought
+sought request = record {
+  text = if request.fixed then escaped request.pattern.now else request.pattern.now;
+  ignore_case = request.ignore_case;
+}
 
 abbrev pub Groups : Type 0
 Groups = List (List (Option (List ℕ)))
@@ -68,8 +79,7 @@ module _ (groups : Groups) (hits : List ℕ → List PatternHit) (act : Action) 
 -- whether the pattern may match the empty string (`empty`).
 abbrev pub Prints : Request → Option (List ℕ) → Option (List ℕ) → Option (List ℕ) → Type 0
 Prints request input old new =
-    (re : Re) (names : List (Option (List ℕ))) → IsMeant pattern_syntax request.pattern.now re
-    → IsNamed pattern_syntax request.pattern.now names
+    (re : Re) (names : List (Option (List ℕ))) → Means (sought request) re → HasNames (sought request) names
     → (empty : Bool) × (act : Action) × IsActionOf (groups_named_by names) request.command act
     × ((hits : List ℕ → List PatternHit) → AreHitsOf re empty hits
     → IfSome input (λ text. Appends old new
@@ -81,13 +91,18 @@ IsTemplateMistake groups (Replace template) (Template error) = IsMistake groups 
 IsTemplateMistake groups command Memory = ⊤
 IsTemplateMistake groups _ _ = ⊥
 
--- Allocation failed; or this is wrong with the pattern, which is none or exceeds the default size limit, or with the
--- template of the command.
+-- Allocation failed, or this is wrong with the pattern: it is none, or exceeds the default size limit.
+abbrev pub IsPatternMistake : Sought → Mistake → Type 0
+IsPatternMistake pattern Memory = ⊤
+IsPatternMistake pattern (Pattern error) =
+    IsOfOneText (syntax_of pattern) (pattern.text ∷ []) error.0
+    × NamesText (syntax_of pattern) 10485760 (pattern.text ∷ []) error.0
+IsPatternMistake pattern (Template error) = ⊥
+
+-- allocation failed, or this is wrong with the pattern, or with the template of the command
 abbrev pub IsMisused : Request → Mistake → Type 0
 IsMisused request Memory = ⊤
-IsMisused request (Pattern error) =
-    IsOfOneText pattern_syntax (request.pattern.now ∷ []) error.0
-    × NamesText pattern_syntax 10485760 (request.pattern.now ∷ []) error.0
+IsMisused request (Pattern error) = IsPatternMistake (sought request) (Pattern error)
 IsMisused request (Template error) =
-    (names : List (Option (List ℕ))) → IsNamed pattern_syntax request.pattern.now names
+    (names : List (Option (List ℕ))) → HasNames (sought request) names
     → IsTemplateMistake (groups_named_by names) request.command (Template error)

@@ -1,7 +1,8 @@
 //! What the arguments of the command line ask for.
 
 /// The line that says how the program is called.
-pub const USAGE: &str = "usage: replacer [--whole] [-n NUM] replace PATTERN TEMPLATE [FILE..] | \
+pub const USAGE: &str =
+    "usage: replacer [-i] [-F] [--whole] [-n NUM] [--in-place[=SUFFIX]] replace PATTERN TEMPLATE [FILE..] | \
 split PATTERN [FILE..] | splitn PATTERN LIMIT [FILE..]";
 
 /// What `--help` prints below it.
@@ -10,10 +11,19 @@ Replaces the matches of a pattern in each line of the files, or splits the lines
 replace  prints the line with the template in place of each match.
 split    prints what is before, between and after the matches, a line for each field.
 splitn   prints at most LIMIT fields of a line. The last one is the rest of it.
+-i       lets letters match in either case.
+-F       takes PATTERN as a text in which no character has a meaning of its own.
 --whole  takes each file as one text, so that the pattern sees its line feeds.
 -n NUM   replaces only the first NUM matches of each file.
 In TEMPLATE, $1, $name and ${name} are what a group matched, and $$ is a dollar.
 Standard input is read if there is no file, and for the file `-`.
+
+--in-place[=SUFFIX]  prints nothing, but puts what would be printed of each file in its place. There must be files, and
+         `-` is none. All is written to a new file NAME.replacer-0 in the same folder, or if that is there, up to 99. The
+         new file gets the owner, the group and the permissions of the old one, and is renamed over it. With SUFFIX, the
+         old file stays under NAME and SUFFIX; if there is such a file, that is an error. After an error the old file is
+         as it was, and the new one is removed. Times, access lists and other attributes are not kept, and other hard
+         links stay links to the old file. A symbolic link stays, and the file to which it leads is replaced.
 
 Status: 0 if the output was written, 1 if a file cannot be read, the output cannot be written or there is no memory,
 2 if the arguments, the pattern or the template are wrong.";
@@ -33,6 +43,10 @@ pub enum Command<'w> {
 #[derive(Clone, Copy, Debug, PartialEq, Eq)]
 pub struct Request<'w> {
     pub pattern: &'w str,
+    /// Whether the pattern is a text, in which no character has a meaning of its own.
+    pub fixed: bool,
+    /// Whether letters match in either case.
+    pub ignore_case: bool,
     pub command: Command<'w>,
     /// Whether the text is taken as a whole, and not line by line.
     pub whole: bool,
@@ -40,19 +54,32 @@ pub struct Request<'w> {
     pub limit: Option<usize>,
 }
 
+/// Where the result goes.
+#[derive(Clone, Copy, Debug, PartialEq, Eq)]
+pub enum Target<'w> {
+    /// Standard output.
+    Output,
+    /// The place of each file. If there is a suffix, the old file stays under its name with the suffix.
+    Files(Option<&'w str>),
+}
+
 /// What the arguments ask for.
 #[derive(Clone, Copy, Debug)]
 pub struct Arguments<'w> {
     pub request: Request<'w>,
+    pub target: Target<'w>,
     /// The names of the inputs, in order; standard input if there are none.
     pub files: &'w [&'w str],
 }
 
 /// The options, which are before the command.
 #[derive(Clone, Copy, Debug)]
-struct Options {
+struct Options<'w> {
+    fixed: bool,
+    ignore_case: bool,
     whole: bool,
     limit: Option<usize>,
+    target: Target<'w>,
 }
 
 /// Returns what the arguments ask for, or `None` if they are wrong.
@@ -62,20 +89,32 @@ pub fn parse<'w>(words: &'w [&'w str]) -> Option<Arguments<'w>> {
     if options.limit.is_some() && !matches!(command, Command::Replace(_)) {
         return None;
     }
+    if options.target != Target::Output && (files.is_empty() || files.contains(&"-")) {
+        return None;
+    }
     let request = Request {
         pattern,
+        fixed: options.fixed,
+        ignore_case: options.ignore_case,
         command,
         whole: options.whole,
         limit: options.limit,
     };
-    Some(Arguments { request, files })
+    Some(Arguments {
+        request,
+        target: options.target,
+        files,
+    })
 }
 
 /// Returns the options, and the words from the command on.
-fn options_of<'w>(words: &'w [&'w str]) -> Option<(Options, &'w [&'w str])> {
+fn options_of<'w>(words: &'w [&'w str]) -> Option<(Options<'w>, &'w [&'w str])> {
     let mut options = Options {
+        fixed: false,
+        ignore_case: false,
         whole: false,
         limit: None,
+        target: Target::Output,
     };
     let mut is_limit = false;
     for (index, word) in words.iter().enumerate() {
@@ -84,12 +123,24 @@ fn options_of<'w>(words: &'w [&'w str]) -> Option<(Options, &'w [&'w str])> {
                 options.limit = Some(number.parse().ok()?);
                 is_limit = false;
             }
+            "-F" => options.fixed = true,
+            "-i" => options.ignore_case = true,
             "--whole" => options.whole = true,
             "-n" => is_limit = true,
-            _ => return Some((options, &words[index..])),
+            "--in-place" => options.target = Target::Files(None),
+            other => match other.strip_prefix("--in-place=") {
+                Some(suffix) if is_suffix(suffix) => options.target = Target::Files(Some(suffix)),
+                Some(_) => return None,
+                None => return Some((options, &words[index..])),
+            },
         }
     }
     None
+}
+
+/// Returns whether the suffix makes another name of a file in the same folder.
+fn is_suffix(suffix: &str) -> bool {
+    !suffix.is_empty() && !suffix.contains('/')
 }
 
 /// Returns the pattern, the command, and the names of files.

@@ -7,7 +7,7 @@ ghost use Rattle.nfa_engines.specs.Lists.{AreDisjoint};
 ghost use Rattle.nfa_engines.specs.Paths.{is_utf8_empty};
 ghost use Rattle.nfa_compiler.specs.Patterns.{PatternHit};
 ghost use Rattle.nfa_meta.specs.ChoiceState.{KeepsEngines};
-ghost use Rattle.replacer.specs.Hits.{AreAllHits, SearchesFor};
+ghost use Rattle.replacer.specs.Hits.{AreAllHits, SearchesFor, Sought};
 ghost use Rattle.replacer.specs.Separated.{AreAround, IsSplit, IsSplitUpTo, fields_by, first_fields_by, texts};
 
 use nfa_compiler::laws;
@@ -24,7 +24,7 @@ pub fn split<'h>(
     regex: &mut Regex,
     haystack: &'h [u8],
 ) -> Result<Vec<&'h [u8]>, AllocError>
-    ensures meant { IfOk result (λ fields. (pattern : List ℕ) (re : Re) (hits : List PatternHit)
+    ensures meant { IfOk result (λ fields. (pattern : Sought) (re : Re) (hits : List PatternHit)
         → SearchesFor pattern re regex.old → AreAllHits re (is_utf8_empty regex.old.nfa) haystack.now hits
         → texts fields.items ≡ fields_by haystack.now hits) }
     ensures fields { IfOk result (λ fields. IsSplit haystack.now regex.old (texts fields.items)) }
@@ -48,7 +48,7 @@ pub fn splitn<'h>(
     haystack: &'h [u8],
     limit: usize,
 ) -> Result<Vec<&'h [u8]>, AllocError>
-    ensures meant { IfOk result (λ fields. (pattern : List ℕ) (re : Re) (hits : List PatternHit)
+    ensures meant { IfOk result (λ fields. (pattern : Sought) (re : Re) (hits : List PatternHit)
         → SearchesFor pattern re regex.old → AreAllHits re (is_utf8_empty regex.old.nfa) haystack.now hits
         → texts fields.items ≡ first_fields_by limit haystack.now hits) }
     ensures none { limit ≡ 0 → IfOk result (λ fields. fields.items ≡ []) }

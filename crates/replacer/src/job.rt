@@ -6,16 +6,17 @@ ghost use Rattle.nfa_engines.specs.Paths.{is_utf8_empty};
 ghost use Rattle.nfa_compiler.specs.Patterns.{PatternHit};
 ghost use Rattle.nfa_meta.specs.ChoiceState.{KeepsEngines};
 ghost use Rattle.text_lines.specs.Lines.{lines_of};
-ghost use Rattle.replacer.specs.Hits.{AreHitsOf, SearchesFor};
+ghost use Rattle.replacer.specs.Hits.{AreHitsOf, SearchesFor, Sought};
 ghost use Rattle.replacer.specs.Printed.{IsMisused, Prints, lines_shown, shown};
 
 use crate::action::Action;
 use crate::command::Request;
 use crate::line::Line;
+use crate::pattern::regex_of;
 use crate::shown::show;
 use nfa_compiler::{OnlyPattern, laws};
+use nfa_meta::Regex;
 use nfa_meta::interpolate::TemplateError;
-use nfa_meta::{BuildError, Regex};
 use std::alloc::Global;
 use std::io::{BufRead, ErrorKind, Write};
 use std::marker::Model;
@@ -49,14 +50,14 @@ pub struct Job<'w> {
 
 impl<'w> Model for Job<'w> {
     ghost use Rattle.replacer.specs.Hits.{IsSearchOf};
-    ghost use Rattle.replacer.specs.Printed.{IsActionOf};
+    ghost use Rattle.replacer.specs.Printed.{IsActionOf, sought};
     ghost use Rattle.replacer.specs.declared.command.Request.{Request};
 
     ghost Value = { Request };
 
     ghost view = { λ j. j.request };
 
-    ghost invariant = { λ j. IsSearchOf j.request.pattern.now j.regex
+    ghost invariant = { λ j. IsSearchOf (sought j.request) j.regex
         × IsActionOf j.regex.nfa.groups j.request.command j.action };
 }
 
@@ -67,10 +68,9 @@ impl<'w> Job<'w> {
         ensures mistake { IfErr result (IsMisused request.entry) }
     {
         laws::groups_are_those_of_texts();
-        let regex = match Regex::new(alloc, request.pattern) {
+        let regex = match regex_of(alloc, request) {
             Ok(regex) => regex,
-            Err(BuildError::Memory) => return Err(Mistake::Memory),
-            Err(BuildError::Compile(error)) => return Err(Mistake::Pattern(OnlyPattern(error))),
+            Err(mistake) => return Err(mistake),
         };
         let action = match Action::new(alloc, request.command, &regex) {
             Ok(action) => action,
@@ -117,7 +117,7 @@ fn print_whole<R: BufRead, W: Write>(
     input: &mut R,
     out: &mut W,
 ) -> Result<(), Failure>
-    ensures printed { OnOk result ((pattern : List ℕ) (re : Re) (hits : List ℕ → List PatternHit)
+    ensures printed { OnOk result ((pattern : Sought) (re : Re) (hits : List ℕ → List PatternHit)
         → SearchesFor pattern re regex.old → AreHitsOf re (is_utf8_empty regex.old.nfa) hits
         → IfSome (R.remaining input.old) (λ text. Appends (W.contents out.old) (W.contents out.new)
         (shown regex.old.nfa.groups action.now limit text [] (hits text)))) }
@@ -150,7 +150,7 @@ fn print_lines<R: BufRead, W: Write>(
     input: &mut R,
     out: &mut W,
 ) -> Result<(), Failure>
-    ensures printed { OnOk result ((pattern : List ℕ) (re : Re) (hits : List ℕ → List PatternHit)
+    ensures printed { OnOk result ((pattern : Sought) (re : Re) (hits : List ℕ → List PatternHit)
         → SearchesFor pattern re regex.old → AreHitsOf re (is_utf8_empty regex.old.nfa) hits
         → IfSome (R.remaining input.old) (λ text. Appends (W.contents out.old) (W.contents out.new)
         (lines_shown regex.old.nfa.groups hits action.now limit (lines_of text)))) }

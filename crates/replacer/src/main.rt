@@ -3,17 +3,22 @@
 
 mod action;
 mod command;
+mod fault;
 mod fields;
 mod files;
+mod filled;
 mod hint;
+mod in_place;
 mod job;
 mod line;
+mod pattern;
 mod replace;
 mod shown;
 
-use crate::command::{Arguments, Command, HELP, USAGE, parse};
+use crate::command::{Arguments, Command, HELP, Target, USAGE, parse};
 use crate::files::print_files;
 use crate::hint::{HINT, has_foreign};
+use crate::in_place::replace_files;
 use crate::job::{Job, Mistake};
 use anyhow::Result;
 use std::env;
@@ -63,7 +68,10 @@ fn run(rt: &HostRuntime, arguments: Arguments<'_>) -> Result<ExitCode> {
             let _ = eprintln!(rt; "replacer: {HINT}");
         }
     }
-    let failed = print_files(rt, &mut job, arguments.files)?;
+    let failed = match arguments.target {
+        Target::Output => print_files(rt, &mut job, arguments.files)?,
+        Target::Files(suffix) => replace_files(rt, &mut job, arguments.files, suffix),
+    };
     Ok(if failed {
         ExitCode::from(FAILED)
     } else {

@@ -7,7 +7,7 @@ ghost use Rattle.nfa_engines.specs.Lists.{AreDisjoint};
 ghost use Rattle.nfa_engines.specs.Paths.{is_utf8_empty};
 ghost use Rattle.nfa_compiler.specs.Patterns.{PatternHit};
 ghost use Rattle.nfa_meta.specs.ChoiceState.{KeepsEngines};
-ghost use Rattle.replacer.specs.Hits.{AreAllHits, SearchesFor, captured_by};
+ghost use Rattle.replacer.specs.Hits.{AreAllHits, SearchesFor, Sought, captured_by};
 ghost use Rattle.replacer.specs.Replaced.{AreFirstOf, limited};
 
 use nfa_compiler::laws;
@@ -25,7 +25,7 @@ pub fn captures_in(
     haystack: &[u8],
     limit: Option<usize>,
 ) -> Result<Vec<Captures>, AllocError>
-    ensures meant { IfOk result (λ caught. (pattern : List ℕ) (re : Re) (hits : List PatternHit)
+    ensures meant { IfOk result (λ caught. (pattern : Sought) (re : Re) (hits : List PatternHit)
         → SearchesFor pattern re regex.old → AreAllHits re (is_utf8_empty regex.old.nfa) haystack.now hits
         → caught.items ≡ map (captured_by regex.old.nfa.groups) (limited limit hits)) }
     ensures first { IfOk result (λ caught. AreFirstOf regex.old haystack.now limit caught.items) }

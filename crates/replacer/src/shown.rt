@@ -4,7 +4,7 @@ ghost use Rattle.regex_hir.specs.Re.{Re};
 ghost use Rattle.nfa_engines.specs.Paths.{is_utf8_empty};
 ghost use Rattle.nfa_compiler.specs.Patterns.{PatternHit};
 ghost use Rattle.nfa_meta.specs.ChoiceState.{KeepsEngines};
-ghost use Rattle.replacer.specs.Hits.{AreAllHits, SearchesFor};
+ghost use Rattle.replacer.specs.Hits.{AreAllHits, SearchesFor, Sought};
 ghost use Rattle.replacer.specs.Printed.{field_lines, left_by, shown};
 ghost use Rattle.replacer.specs.Replaced.{left_after, limited, replaced_by};
 ghost use Rattle.replacer.specs.Separated.{fields_by, first_fields_by, texts};
@@ -35,10 +35,10 @@ pub fn show(
     left: Option<usize>,
     line: Line<'_>,
 ) -> Result<Shown, AllocError>
-    ensures text { IfOk result (λ made. (pattern : List ℕ) (re : Re) (hits : List PatternHit)
+    ensures text { IfOk result (λ made. (pattern : Sought) (re : Re) (hits : List PatternHit)
         → SearchesFor pattern re regex.old → AreAllHits re (is_utf8_empty regex.old.nfa) line.entry.text.now hits
         → made.text.items ≡ shown regex.old.nfa.groups action.now left line.entry.text.now line.entry.end.now hits) }
-    ensures left { IfOk result (λ made. (pattern : List ℕ) (re : Re) (hits : List PatternHit)
+    ensures left { IfOk result (λ made. (pattern : Sought) (re : Re) (hits : List PatternHit)
         → SearchesFor pattern re regex.old → AreAllHits re (is_utf8_empty regex.old.nfa) line.entry.text.now hits
         → made.left ≡ left_by action.now left hits) }
     ensures keeps { KeepsEngines regex.old regex.new }
@@ -67,11 +67,11 @@ fn show_replaced(
     left: Option<usize>,
     line: Line<'_>,
 ) -> Result<Shown, AllocError>
-    ensures text { IfOk result (λ made. (pattern : List ℕ) (re : Re) (hits : List PatternHit)
+    ensures text { IfOk result (λ made. (pattern : Sought) (re : Re) (hits : List PatternHit)
         → SearchesFor pattern re regex.old → AreAllHits re (is_utf8_empty regex.old.nfa) line.entry.text.now hits
         → made.text.items ≡ replaced_by regex.old.nfa.groups template.now.parts.items line.entry.text.now
         (limited left hits) ++ line.entry.end.now) }
-    ensures left { IfOk result (λ made. (pattern : List ℕ) (re : Re) (hits : List PatternHit)
+    ensures left { IfOk result (λ made. (pattern : Sought) (re : Re) (hits : List PatternHit)
         → SearchesFor pattern re regex.old → AreAllHits re (is_utf8_empty regex.old.nfa) line.entry.text.now hits
         → made.left ≡ left_after left (length hits)) }
     ensures keeps { KeepsEngines regex.old regex.new }
@@ -112,7 +112,7 @@ fn left_after(limit: Option<usize>, count: usize) -> Option<usize>
 
 /// Returns a line for each field of the text.
 fn show_fields(alloc: Global, regex: &mut Regex, text: &[u8]) -> Result<Vec<u8>, AllocError>
-    ensures meant { IfOk result (λ lines. (pattern : List ℕ) (re : Re) (hits : List PatternHit)
+    ensures meant { IfOk result (λ lines. (pattern : Sought) (re : Re) (hits : List PatternHit)
         → SearchesFor pattern re regex.old → AreAllHits re (is_utf8_empty regex.old.nfa) text.now hits
         → lines.items ≡ field_lines (fields_by text.now hits)) }
     ensures keeps { KeepsEngines regex.old regex.new }
@@ -129,7 +129,7 @@ fn show_first_fields(
     text: &[u8],
     limit: usize,
 ) -> Result<Vec<u8>, AllocError>
-    ensures meant { IfOk result (λ lines. (pattern : List ℕ) (re : Re) (hits : List PatternHit)
+    ensures meant { IfOk result (λ lines. (pattern : Sought) (re : Re) (hits : List PatternHit)
         → SearchesFor pattern re regex.old → AreAllHits re (is_utf8_empty regex.old.nfa) text.now hits
         → lines.items ≡ field_lines (first_fields_by limit text.now hits)) }
     ensures keeps { KeepsEngines regex.old regex.new }

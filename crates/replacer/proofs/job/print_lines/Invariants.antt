@@ -5,12 +5,12 @@ use Rattle.nfa_engines.specs.Paths.{is_utf8_empty}
 use Rattle.nfa_compiler.specs.Patterns.{PatternHit}
 use Rattle.nfa_meta.specs.ChoiceState.{KeepsEngines}
 use Rattle.replacer.specs.Going.{HasWritten}
-use Rattle.replacer.specs.Hits.{AreHitsOf, SearchesFor}
+use Rattle.replacer.specs.Hits.{AreHitsOf, SearchesFor, Sought}
 use Rattle.replacer.proofs.job.print_lines.Given as goal
 
 abbrev pub invariant-loop-before : goal.invariant-loop-before
 invariant-loop-before g l = record {
-  printed : (pattern : List ℕ) (re : Re) (hits : List ℕ → List PatternHit) → SearchesFor pattern re l.fn.regex
+  printed : (pattern : Sought) (re : Re) (hits : List ℕ → List PatternHit) → SearchesFor pattern re l.fn.regex
       → AreHitsOf re (is_utf8_empty l.fn.regex.nfa) hits
       → HasWritten l.fn.regex.nfa.groups hits l.action l.fn.limit (g.R.Read.remaining l.fn.input)
       (g.R.Read.remaining l.input) (g.W.Write.contents l.fn.out) (g.W.Write.contents l.out) l.left;

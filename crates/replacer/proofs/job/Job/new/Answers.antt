@@ -1,11 +1,12 @@
--- The groups of the NFA are those of the pattern.
-use Rattle.replacer.proofs.PrintedLemmas.{built-search, misused}
+-- What is wrong with the pattern or the template is wrong with the request.
+use Rattle.replacer.proofs.PrintedLemmas.{misused, pattern-misused}
 use Rattle.replacer.proofs.job.Job.new.Goals as goal
 
 pub returns-in-Err-clause-mistake : goal.returns-in-Err-clause-mistake
 returns-in-Err-clause-mistake c =
-    let request = c.args.request in
-    let regex = c.in-Ok.regex in
-    misused c.groups_are_those_of_texts.ensures.names request regex
-    (built-search request.pattern.now regex c.in-Ok.ensures.built c.in-Ok.ensures.engines) c.in-Err.mistake
-    c.in-Err.ensures.mistake
+    pattern-misused c.args.request c.in-Err.mistake c.in-Err.ensures.mistake
+
+pub returns-in-Err-new-clause-mistake : goal.returns-in-Err-new-clause-mistake
+returns-in-Err-new-clause-mistake c =
+    misused c.groups_are_those_of_texts.ensures.names c.args.request c.in-Ok.regex c.in-Ok.ensures.searches
+    c.in-Err-new.mistake c.in-Err-new.ensures.mistake
