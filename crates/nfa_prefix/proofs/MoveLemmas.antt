@@ -50,7 +50,8 @@ module _ (nfa : Automaton) where
   unfolding bytes_from
   move-whole bytes moves rest state m h count e =
       ap (take 32) (append_assoc bytes (option_to_list m.byte) (bytes_from nfa rest m.next))
-      ∙ ap (λ o. take 32 (bytes ++ option_map_or (λ m. option_to_list m.byte ++ bytes_from nfa rest m.next) o [])) (sym e)
+      ∙ ap
+      (λ o. take 32 (bytes ++ option_map_or (λ m. option_to_list m.byte ++ bytes_from nfa rest m.next) o [])) (sym e)
       ∙ ap (λ k. take 32 (bytes ++ bytes_from nfa k state)) (sym count)
       ∙ h.whole
 

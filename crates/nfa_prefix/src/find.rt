@@ -4,11 +4,10 @@ ghost use Rattle.nfa_prefix.specs.Occurrences.{IsFirstOccurrence, OccursNowhere}
 
 use memchr::memmem;
 
-/// Returns the first position from `from` on at which all bytes of the prefix are in the haystack, before `end`. Returns
-/// `None` if there is none.
+/// Returns the first position from `from` on at which all bytes of the prefix are in the haystack, before `end`.
 ///
-/// `from` may be past `end`. Requires that `end` is not past the end of the haystack. An empty prefix is at each
-/// position up to `end`.
+/// Returns `None` if there is none. `from` may be past `end`. Requires that `end` is not past the end of the haystack.
+/// An empty prefix is at each position up to `end`.
 ///
 /// ```
 /// assert!(rt; find_prefix(b"foo foo", 1, 7, b"foo") == Some(4));

@@ -19,7 +19,7 @@ const MAX_LENGTH: usize = 32;
 /// cover `Anchored::Pattern`, whose searches begin with another state. The only error is that an allocation failed.
 ///
 /// ```
-/// // NFA of "(foo)(?:bar|baz)": "foo"
+/// // NFA of "(foo)(?:bar|qux)": "foo"
 /// let prefix = literal_prefix(alloc, &nfa)?;
 /// assert!(rt; &prefix[..] == b"foo");
 /// ```
