@@ -1,11 +1,10 @@
 -- From the searches of a lexer to the tokens that the meanings of the patterns give.
-use Rattle.std.proofs.Common.{◌≡◌, ◌∙◌, ℕ, zero, suc, false, ◌+◌, ◌≤◌, ◌<◌, Bool, List, [], ◌∷◌, ◌++◌, All, length, drop, arith, refl, sym, ap, ap₂, inl, inr, subst, append_assoc, append-nil, eq-eqb, ne_eqb}
-use Rattle.std.specs.Prelude.{Option, None, Some, flat_map, slice_range, ◌==◌, if◌then◌else◌}
+use Rattle.std.proofs.Common.{◌≡◌, ◌∙◌, ℕ, zero, suc, false, ◌≤◌, ◌<◌, Bool, List, [], ◌∷◌, ◌++◌, All, length, drop, arith, refl, sym, ap, ap₂, inl, inr, subst, append_assoc, append-nil, eq-eqb, ne_eqb}
+use Rattle.std.specs.Prelude.{Option, None, Some, flat_map, slice_range, ◌==◌}
 use Rattle.std.proofs.lemmas.Bool.{cases_lt, le-ltb, lt-ltb}
 use Rattle.std.proofs.lemmas.List.Folds.{drop_split}
 use Rattle.regex_hir.specs.Re.{Re}
 use Rattle.regex_search_core.specs.Found.{Found}
-use Rattle.regex_search_core.specs.declared.search.MatchKind.TheVariants.{LeftmostFirst}
 use Rattle.nfa_engines.specs.Paths.{IsFindAnswer}
 use Rattle.nfa_compiler.specs.Compiled.{AreMeant}
 use Rattle.nfa_compiler.specs.Laws.{TextsAreMatched}

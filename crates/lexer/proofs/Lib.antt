@@ -1,7 +1,9 @@
--- The lemmas on tokens, on rules and on writes.
+-- The lemmas on tokens, on pieces, on rules and on writes.
 pub mod LexedLemmas
 pub mod NameLemmas
+pub mod PieceLemmas
 pub mod PrintedLemmas
+pub mod RecoveredLemmas
 pub mod RuleLemmas
 pub mod Writes
 pub mod RuleErrorLemmas

@@ -1,13 +1,13 @@
 -- That the lines of tokens are written one after the other.
-use Rattle.std.proofs.Common.{◌≡◌, ◌∙◌, ℕ, ◌≤◌, ◌<◌, true, false, List, [], ◌∷◌, ◌++◌, length, arith, refl, sym, ap, ap₂, subst, append-nil}
-use Rattle.std.specs.Prelude.{Option, None, Some, is_none, flat_map}
+use Rattle.std.proofs.Common.{◌≡◌, ◌∙◌, ℕ, ◌≤◌, ◌<◌, true, false, List, [], ◌∷◌, ◌++◌, length, arith, sym, ap, ap₂, subst, append-nil}
+use Rattle.std.specs.Prelude.{Option, None, Some, is_none}
 use Rattle.std.specs.Io.KnownBytes.{Appends}
 use Rattle.std.proofs.KnownBytes.{Appends-nil, Appends-trans}
 use Rattle.std.proofs.lemmas.List.Concat.{flat_map-append}
 use Rattle.regex_hir.specs.Re.{Re}
 use Rattle.regex_search_core.specs.Found.{Found}
-use Rattle.lexer.specs.Lexed.{lexed, stuck_in, token_there}
-use Rattle.lexer.specs.Lexing.{HasPrinted, IsLexedTo}
+use Rattle.lexer.specs.Lexed.{stuck_in, token_there}
+use Rattle.lexer.specs.Lexing.{HasPrinted}
 use Rattle.lexer.specs.Printed.{printed_tokens, stuck_at, stuck_line, token_line, token_lines}
 use Rattle.lexer.specs.declared.report.Style.{Style}
 use Rattle.lexer.specs.declared.rules.Rule.{Rule}

@@ -8,6 +8,7 @@ use Rattle.regex_hir.specs.Re.{Re}
 use Rattle.regex_search_core.specs.Found.{Found}
 use Rattle.regex_search_core.specs.declared.search.Span.{Span}
 use Rattle.lexer.specs.Lexed.{lexed, stuck_in}
+use Rattle.lexer.specs.Recovered.{TextPiece, recovered}
 use Rattle.lexer.specs.declared.report.Style.{Style}
 use Rattle.lexer.specs.declared.rules.Rule.{Rule}
 
@@ -44,9 +45,18 @@ abbrev pub shown_unless_skipped : Style → Rule → Span → List ℕ → List 
 shown_unless_skipped style rule span text =
     if is_in (map (λ name. name.now) style.skip.now) rule.name.now then [] else styled_line style rule span text
 
+-- the line of a piece of this name that is no token of a rule
+abbrev pub named_line : List ℕ → Span → List ℕ → List ℕ
+named_line name span text = shown_place name span ++ shown_text text
+
 -- the line of a token of no rule
 abbrev pub unknown_line : Span → List ℕ → List ℕ
-unknown_line span text = shown_place (codes "?") span ++ shown_text text
+unknown_line span text = named_line (codes "?") span text
+
+-- the line of a stretch at which no token starts
+abbrev pub error_line : Style → Span → List ℕ → List ℕ
+error_line style span text =
+    if style.json then object_line (codes "error") span text else named_line (codes "error") span text
 
 -- the span of a token
 abbrev pub found_span : Found → Span
@@ -73,7 +83,23 @@ abbrev pub stuck_line : Bool → Option ℕ → List ℕ
 stuck_line json None = []
 stuck_line json (Some at) = stuck_at json at
 
--- what is printed of a text by these rules, which mean `res`
+-- the line of a piece of the text
+abbrev pub piece_line : Style → List Rule → List ℕ → TextPiece → List ℕ
+piece_line style rules text piece =
+    unwrap_or (option_map (λ n. token_line style rules text (record { pattern = n; start = piece.start; end = piece.end }))
+    piece.pattern)
+    (error_line style (record { start = piece.start; end = piece.end }) (slice_range text piece.start piece.end))
+
+-- the lines of these pieces
+abbrev pub piece_lines : Style → List Rule → List ℕ → List TextPiece → List ℕ
+piece_lines style rules text pieces = flat_map (piece_line style rules text) pieces
+
+-- what is printed of the tokens of a text by these rules, which mean `res`
 abbrev pub printed_tokens : Style → List Rule → List Re → List ℕ → List ℕ
 printed_tokens style rules res text =
     token_lines style rules text (lexed res text) ++ stuck_line style.json (stuck_in res text)
+
+-- what is printed of a text: its pieces if the lexer goes on after errors, and otherwise its tokens
+abbrev pub printed_text : Style → List Rule → List Re → List ℕ → List ℕ
+printed_text style rules res text =
+    if style.recover then piece_lines style rules text (recovered res text) else printed_tokens style rules res text

@@ -3,7 +3,7 @@ use crate::report::Style;
 use std::alloc::{AllocError, Global};
 
 /// The line that says how the program is called.
-pub const USAGE: &str = "usage: lexer [--json] [--skip NAME].. [RULES] < TEXT";
+pub const USAGE: &str = "usage: lexer [--json] [--recover] [--skip NAME].. [RULES] < TEXT";
 
 /// What `--help` prints below it.
 pub const HELP: &str = "
@@ -12,10 +12,12 @@ RULES is a file with a rule in each line: NAME = PATTERN. Empty lines, and lines
 Write -- before the name of a file that begins with a hyphen.
 The first rule that matches is taken. A token of the rule `space` is printed without its text.
 --json      prints each token as a JSON object, with its text.
+--recover   goes on after text of which no rule takes a byte: up to the next place at which a token starts, or to the
+            end, it is a token of the name `error`, among the others.
 --skip NAME prints no tokens of the rule of this name. It may be given several times.
 
-Status: 0 if the tokens are the whole text, 1 if no token starts at some place or the text cannot be read or a token
-written, 2 if the arguments or the rules are wrong.";
+Status: 0 if the tokens of rules are the whole text, 1 if no token starts at some place or the text cannot be read or a
+token written, 2 if the arguments or the rules are wrong.";
 
 /// What the arguments ask for.
 #[derive(Debug, Drop)]
@@ -26,6 +28,8 @@ pub struct Arguments<'w> {
     pub skip: Vec<&'w str>,
     /// Whether tokens are printed as JSON objects.
     pub json: bool,
+    /// Whether the lexer goes on after text that no rule takes.
+    pub recover: bool,
 }
 
 impl<'w> Arguments<'w> {
@@ -34,37 +38,40 @@ impl<'w> Arguments<'w> {
         Style {
             skip: &self.skip,
             json: self.json,
+            recover: self.recover,
         }
     }
 }
 
 /// Returns what the arguments ask for, or `None` if they are wrong. The only error is that allocation failed.
 pub fn parse<'w>(alloc: Global, words: &[&'w str]) -> Result<Option<Arguments<'w>>, AllocError> {
-    let mut skip = Vec::new(alloc);
-    let mut json = false;
+    let mut arguments = Arguments {
+        rules: None,
+        skip: Vec::new(alloc),
+        json: false,
+        recover: false,
+    };
     let mut is_name = false;
     for (index, word) in words.iter().enumerate() {
         match *word {
             name if is_name => {
-                skip.push(name)?;
+                arguments.skip.push(name)?;
                 is_name = false;
             }
             "--skip" => is_name = true,
-            "--json" => json = true,
+            "--json" => arguments.json = true,
+            "--recover" => arguments.recover = true,
             _ => {
-                let Some(name) = file_of(&words[index..]) else {
-                    return Ok(None);
-                };
-                let rules = Some(name);
-                return Ok(Some(Arguments { rules, skip, json }));
+                arguments.rules = file_of(&words[index..]);
+                let is_right = arguments.rules.is_some();
+                return Ok(is_right.then_some(arguments));
             }
         }
     }
     if is_name {
         return Ok(None);
     }
-    let rules = None;
-    Ok(Some(Arguments { rules, skip, json }))
+    Ok(Some(arguments))
 }
 
 /// Returns the name of a file, which may be after `--`.

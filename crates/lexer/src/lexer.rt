@@ -1,5 +1,5 @@
 //! The tokens of a text, one after the other, by anchored searches.
-ghost use Rattle.std.specs.Prelude.{◌≡◌, ◌≤◌, ◌<◌, IfErr, IfOk, IfSome, List, Some, length, option_map};
+ghost use Rattle.std.specs.Prelude.{◌≡◌, ◌≤◌, ◌<◌, ◌-◌, IfErr, IfOk, IfSome, List, Some, length, option_map};
 ghost use Rattle.regex_hir.specs.Re.{Re};
 ghost use Rattle.regex_search_core.specs.Found.{found_of};
 ghost use Rattle.nfa_engines.specs.Lists.{IsInside};
@@ -7,8 +7,10 @@ ghost use Rattle.nfa_compiler.specs.Compiled.{AreMeant};
 ghost use Rattle.nfa_compiler.specs.Rejected.{TextsFitIn};
 ghost use Rattle.lexer.specs.Lexed.{TokensAreJoined, hit_there, token_there, with_bytes};
 ghost use Rattle.lexer.specs.Patterns.{rule_patterns, rule_syntax};
+ghost use Rattle.lexer.specs.Recovered.{PiecesAreLongest, PiecesAreTheText, piece_there, stretch_end};
 ghost use Rattle.lexer.specs.RuleErrors.{IsCompileMistake};
-ghost use Rattle.lexer.specs.Tokens.{LiesInText, search_at, token_found};
+ghost use Rattle.lexer.specs.Tokens.{LiesInText, PieceLiesInText, is_token, piece_end, piece_found, search_at};
+ghost use Rattle.lexer.specs.Tokens.{token_found};
 
 use crate::rules::{Rule, RulesError, compile};
 use nfa_compiler::laws;
@@ -22,6 +24,33 @@ use std::marker::Model;
 pub struct Token {
     pub pattern: PatternID,
     pub span: Span,
+}
+
+/// A piece of the text, of at least one byte.
+#[derive(Clone, Copy, Debug)]
+pub enum Piece {
+    Token(Token),
+    /// A longest stretch at which no token starts.
+    Error(Span),
+}
+
+impl Piece {
+    /// Returns whether the piece is a token.
+    pub fn is_token(self) -> bool
+        ensures { result ≡ is_token self }
+    {
+        matches!(self, Piece::Token(_))
+    }
+
+    /// Returns the offset at which the piece ends.
+    pub fn end(self) -> usize
+        ensures { result ≡ piece_end self }
+    {
+        match self {
+            Piece::Token(token) => token.span.end,
+            Piece::Error(span) => span.end,
+        }
+    }
 }
 
 /// Finds the tokens of texts. It owns one regex of the patterns of all rules.
@@ -47,6 +76,13 @@ impl<'r> Model for Lexer<'r> {
 /// The tokens of a text have no gap and no overlap: their texts, and what is after the last one, are the text.
 pub fn tokens_are_joined()
     ensures { TokensAreJoined }
+{}
+
+/// The texts of the pieces are the text. Each piece is a token, or a stretch that ends where a token starts or at the
+/// end of the text, and in which no token starts.
+pub fn pieces_are_the_text()
+    ensures joined { PiecesAreTheText }
+    ensures longest { PiecesAreLongest }
 {}
 
 impl<'r> Lexer<'r> {
@@ -90,6 +126,42 @@ impl<'r> Lexer<'r> {
         ensures kept { self.new ≡ self.old }
     {
         token_of(self.hit_at(text, at)?)
+    }
+
+    /// Returns the piece at this place: the token there or, if there is none, the stretch up to the next place at which
+    /// a token starts, or to the end.
+    pub fn piece_at(&mut self, text: &[u8], at: usize) -> Piece
+        requires { at < length text.now }
+        ensures piece { (res : List Re) → AreMeant rule_syntax self.old res
+            → piece_found result ≡ piece_there res text.now at }
+        ensures after { at < piece_end result }
+        ensures inside { PieceLiesInText text.now result }
+        ensures kept { self.new ≡ self.old }
+    {
+        match self.token_at(text, at) {
+            Some(token) => Piece::Token(token),
+            None => Piece::Error(Span {
+                start: at,
+                end: self.next_token(text, at + 1),
+            }),
+        }
+    }
+
+    /// Returns the first place from this one on at which a token starts; the end of the text, if there is none.
+    fn next_token(&mut self, text: &[u8], from: usize) -> usize
+        requires { from ≤ length text.now }
+        ensures end { (res : List Re) → AreMeant rule_syntax self.old res
+            → result ≡ stretch_end (token_there res text.now) (length text.now - from) from }
+        ensures from { from ≤ result }
+        ensures within { result ≤ length text.now }
+        ensures kept { self.new ≡ self.old }
+    {
+        for at in from..text.len() {
+            if self.token_at(text, at).is_some() {
+                return at;
+            }
+        }
+        text.len()
     }
 }
 

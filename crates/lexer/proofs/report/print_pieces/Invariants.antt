@@ -1,0 +1,18 @@
+-- The pieces up to this place were printed.
+use Rattle.std.proofs.Common.{◌≡◌, ◌≤◌, ◌-◌, List, length}
+use Rattle.regex_hir.specs.Re.{Re}
+use Rattle.nfa_compiler.specs.Compiled.{AreMeant}
+use Rattle.lexer.specs.Lexing.{HasRecovered}
+use Rattle.lexer.specs.Patterns.{rule_syntax}
+use Rattle.lexer.proofs.report.print_pieces.Given as goal
+
+abbrev pub invariant-loop-at : goal.invariant-loop-at
+invariant-loop-at g l = record {
+  within : l.at ≤ length l.text;
+  printed : (res : List Re) → AreMeant rule_syntax l.fn.lexer res
+      → HasRecovered res l.text l.style l.rules l.at l.whole (g.W.Write.contents l.fn.out) (g.W.Write.contents l.out);
+  kept : l.lexer ≡ l.fn.lexer;
+}
+
+abbrev pub decreases-loop-at : goal.decreases-loop-at
+decreases-loop-at g l = length l.text - l.at
