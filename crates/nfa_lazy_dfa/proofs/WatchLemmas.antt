@@ -30,7 +30,7 @@ use Rattle.nfa_lazy_dfa.specs.declared.dfa.DFA.{DFA}
 use Rattle.nfa_lazy_dfa.specs.declared.follow.Stand.{Stand}
 use Rattle.nfa_lazy_dfa.specs.declared.scan.Place.{Place}
 use Rattle.nfa_lazy_dfa.specs.declared.error.StopError.{StopError}
-use Rattle.nfa_lazy_dfa.specs.declared.window.Watch.{Watch}
+use Rattle.nfa_lazy_dfa.specs.declared.watch.Watch.{Watch}
 use Rattle.nfa_lazy_dfa.specs.declared.window.Window.{Window}
 use Rattle.regex_search_core.specs.declared.search.HalfMatch.{HalfMatch}
 

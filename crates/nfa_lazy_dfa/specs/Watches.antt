@@ -9,7 +9,7 @@ use Rattle.nfa_lazy_dfa.specs.Runs.{place_at}
 use Rattle.nfa_lazy_dfa.specs.Stances.{Stance}
 use Rattle.nfa_lazy_dfa.specs.declared.cache.Cache.{Cache}
 use Rattle.nfa_lazy_dfa.specs.declared.dfa.DFA.{DFA}
-use Rattle.nfa_lazy_dfa.specs.declared.window.Watch.{Watch}
+use Rattle.nfa_lazy_dfa.specs.declared.watch.Watch.{Watch}
 
 -- the position is in the span, at most at another one, and no accepting path starts before it
 pub record IsBegun (nfa : Automaton) (x : Search) (start at : ℕ) : Type 0 where

@@ -51,6 +51,8 @@ pub struct Cache {
     clears: usize,
     /// The rows that searches began with last, with one start and with many.
     firsts: [u32; 2],
+    /// Where the cells of the two idle rows began that scans left last for a row that is not idle, the newer first.
+    pub(crate) idles: [u32; 2],
     /// The steps that all searches took, each over one byte.
     pub(crate) steps: Counter,
     /// The rows that all searches made.
@@ -93,6 +95,7 @@ impl Cache {
             taken: 0,
             clears: 0,
             firsts: [EMPTY; 2],
+            idles: [UNKNOWN; 2],
             steps: Counter::new(),
             made: Counter::new(),
             cleared: Counter::new(),

@@ -16,6 +16,7 @@ mod known;
 mod overlap;
 mod scan;
 mod search;
+mod watch;
 mod window;
 
 pub use cache::Cache;

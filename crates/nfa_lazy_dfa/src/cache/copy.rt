@@ -63,6 +63,7 @@ impl Cache {
             taken: self.taken,
             clears: self.clears,
             firsts: self.firsts,
+            idles: self.idles,
             steps: self.steps.copy(),
             made: self.made.copy(),
             cleared: self.cleared.copy(),

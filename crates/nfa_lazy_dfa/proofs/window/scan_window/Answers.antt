@@ -6,17 +6,12 @@ use Rattle.nfa_lazy_dfa.specs.Reads.{IsOver}
 use Rattle.nfa_lazy_dfa.specs.Rows.{steps_of}
 use Rattle.nfa_lazy_dfa.proofs.ReadLemmas.{HasRead-more, HasRead-none, IsOver-none}
 use Rattle.nfa_lazy_dfa.proofs.ScanLemmas.{no-starts, no-state}
-use Rattle.nfa_lazy_dfa.proofs.WatchLemmas.{IsBegun-start}
 use Rattle.nfa_lazy_dfa.proofs.window.scan_window.Goals as goal
 
 pub returns-in_default-clause-half : goal.returns-in_default-clause-half
 returns-in_default-clause-half c =
     let x = search_of c.args.input.now in
     no-starts c.args.dfa.now x (no-state c.args.dfa.now x (sym c.start_state.ensures.value ∙ c.in_default.is))
-
-pub watch_at-from-requires-clause-begun : goal.watch_at-from-requires-clause-begun
-watch_at-from-requires-clause-begun c =
-    IsBegun-start c.args.dfa.now.nfa (search_of c.args.input.now) c.start-at.result c.start-at.ensures
 
 pub returns-in_default-clause-reads : goal.returns-in_default-clause-reads
 returns-in_default-clause-reads c =
@@ -35,8 +30,8 @@ returns-then-is_done-clause-reads c =
 pub returns-clause-reads : goal.returns-clause-reads
 returns-clause-reads c =
     let x = search_of c.args.input.now in
-    let at = c.watch_at-from.result.at in
-    let from : at ≡ x.start = c.watch_at-from.ensures.at ∙ c.start-at.ensures in
+    let at = c.first_watch-from.result.at in
+    let from : at ≡ x.start = c.first_watch-from.ensures.at ∙ c.start-at.ensures in
     let grows : steps_of c.args.cache.now ≤ steps_of c.first_row.new.cache =
     omega (arith, c.count_scan.ensures.counts.steps, c.first_row.ensures.spends.grows) in
     on_ok_weaker c.window_from.result

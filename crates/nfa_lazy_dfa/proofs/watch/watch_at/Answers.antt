@@ -6,7 +6,7 @@ use Rattle.regex_search_core.specs.Search.{search_of}
 use Rattle.nfa_lazy_dfa.specs.Rows.{IsRowOf}
 use Rattle.nfa_lazy_dfa.proofs.CacheLemmas.{few-rows, row-inside}
 use Rattle.nfa_lazy_dfa.proofs.WatchLemmas.{IsFoundAt-place, idle-begun}
-use Rattle.nfa_lazy_dfa.proofs.window.watch_at.Goals as goal
+use Rattle.nfa_lazy_dfa.proofs.watch.watch_at.Goals as goal
 
 pub overflow_mul-first : goal.overflow_mul-first
 overflow_mul-first c =

@@ -1,7 +1,7 @@
 -- Counting changes no row.
 use Rattle.regex_search_core.specs.Search.{search_of}
 use Rattle.nfa_lazy_dfa.proofs.WatchLemmas.{IsWatching-same}
-use Rattle.nfa_lazy_dfa.proofs.window.pass_counted.Goals as goal
+use Rattle.nfa_lazy_dfa.proofs.watch.pass_counted.Goals as goal
 
 pub returns-clause-watching : goal.returns-clause-watching
 returns-clause-watching c =

@@ -2,7 +2,7 @@
 use Rattle.std.proofs.Common.{◌≤◌, ◌-◌}
 use Rattle.regex_search_core.specs.Search.{search_of}
 use Rattle.nfa_lazy_dfa.specs.Watches.{IsWatching}
-use Rattle.nfa_lazy_dfa.proofs.window.pass.Given as goal
+use Rattle.nfa_lazy_dfa.proofs.watch.pass.Given as goal
 
 abbrev pub invariant-loop-w : goal.invariant-loop-w
 invariant-loop-w l = record {

@@ -3,7 +3,7 @@ use Rattle.std.proofs.Common.{◌≡◌, ◌+◌, ◌/◌, ◌%◌, ℕ, ap, sym
 use Rattle.regex_search_core.specs.Search.{search_of}
 use Rattle.nfa_lazy_dfa.specs.Rows.{IsRowOf}
 use Rattle.nfa_lazy_dfa.proofs.WatchLemmas.{idle-begun}
-use Rattle.nfa_lazy_dfa.proofs.window.moved.Goals as goal
+use Rattle.nfa_lazy_dfa.proofs.watch.moved.Goals as goal
 
 pub returns-then-first-from-clause-watching : goal.returns-then-first-from-clause-watching
 returns-then-first-from-clause-watching c =

@@ -5,7 +5,7 @@ use Rattle.nfa_lazy_dfa.specs.Rows.{IsRowOf, stances_of}
 use Rattle.nfa_lazy_dfa.specs.Stances.{Stance, stance_of}
 use Rattle.nfa_lazy_dfa.proofs.CacheLemmas.{few-rows, row-is}
 use Rattle.nfa_lazy_dfa.proofs.RowLemmas.{some-same}
-use Rattle.nfa_lazy_dfa.proofs.window.idle_place.Goals as goal
+use Rattle.nfa_lazy_dfa.proofs.watch.idle_place.Goals as goal
 
 pub overflow_mul-result : goal.overflow_mul-result
 overflow_mul-result c =

@@ -1,0 +1,31 @@
+-- No match of the search starts before its start.
+use Rattle.std.proofs.Common.{◌<◌, arith}
+use Rattle.regex_search_core.specs.Search.{search_of}
+use Rattle.nfa_lazy_dfa.proofs.CacheLemmas.{few-rows, row-inside}
+use Rattle.nfa_lazy_dfa.proofs.WatchLemmas.{IsBegun-start, IsFoundAt-place}
+use Rattle.nfa_lazy_dfa.proofs.watch.first_watch.Goals as goal
+
+pub overflow_mul-first : goal.overflow_mul-first
+overflow_mul-first c =
+    let cache = c.args.cache.now in
+    let here = c.requires.at.at in
+    let few : c.args.place.row < 0x40_0000 =
+    few-rows cache c.args.dfa.now c.requires.own c.args.place.row (row-inside cache c.args.place.row here.stance
+    here.is) in
+    omega arith
+
+pub watch_at-requires-clause-begun : goal.watch_at-requires-clause-begun
+watch_at-requires-clause-begun c =
+    IsBegun-start c.args.dfa.now.nfa (search_of c.args.input.now) c.args.place.at c.requires.start
+
+pub returns-clause-watching : goal.returns-clause-watching
+returns-clause-watching c =
+    let dfa = c.args.dfa.now in
+    let cache = c.args.cache.now in
+    let x = search_of c.args.input.now in
+    record {
+      whole = omega arith;
+      at = IsFoundAt-place dfa cache x c.args.place c.requires.found c.requires.at;
+      idle = c.likely_idle-idle.ensures.idle;
+      begun = IsBegun-start dfa.nfa x c.args.place.at c.requires.start;
+    }

@@ -1,0 +1,235 @@
+//! A scan that found nothing yet, and the last position at which it saw that no path is under way.
+//!
+//! A row whose only state is the start is *idle*: each path of an earlier start has ended there. If the NFA has
+//! assertions there are several, by the byte before. A scan knows one of them, and compares it with the row of each
+//! position. It begins with one of the two that earlier scans left last for a row that is not idle, so for the start of
+//! a match: the cache keeps their places. Where a step takes no known cell, it looks at the row itself, and goes on with
+//! that one if it is idle.
+ghost use Rattle.std.specs.Prelude.{◌≡◌, ◌+◌, ◌-◌, ◌%◌, ◌≤◌, ◌∷◌, [], IsTrue, None, true};
+ghost use Rattle.regex_search_core.specs.Search.{search_of};
+ghost use Rattle.nfa_lazy_dfa.specs.Places.{IsFoundAt};
+ghost use Rattle.nfa_lazy_dfa.specs.Rows.{IsFor, Spends, steps_of};
+ghost use Rattle.nfa_lazy_dfa.specs.Runs.{place_at};
+ghost use Rattle.nfa_lazy_dfa.specs.Stances.{stance_of};
+ghost use Rattle.nfa_lazy_dfa.specs.Watches.{IsBegun, IsIdlePlace, IsWatching};
+
+use crate::cache::{Cache, MATCHED, ROW_CELLS, UNKNOWN};
+use crate::dfa::DFA;
+use crate::follow::Stand;
+use crate::known::cell_at;
+use crate::scan::Place;
+use regex_search_core::{Input, StateID};
+
+/// Where a scan is that has found nothing yet.
+#[derive(Clone, Copy)]
+pub struct Watch {
+    pub at: usize,
+    /// Where the cells of the row at this position begin.
+    first: u32,
+    /// A position before which no match starts.
+    pub start: usize,
+    /// Where the cells of an idle row begin. `UNKNOWN` is the place of none.
+    pub idle: u32,
+}
+
+impl Watch {
+    /// The place of the scan.
+    pub fn place(self) -> Place
+        ensures { result ≡ place_at self.at self.first None }
+    {
+        Place {
+            at: self.at,
+            row: self.first / ROW_CELLS as u32,
+            found: None,
+        }
+    }
+}
+
+/// Whether the start is the only state of the stand.
+fn is_idle(stand: &Stand, start: StateID) -> bool
+    ensures { IsTrue result → (stance_of stand.now).states ≡ start ∷ [] }
+{
+    match &stand.states[..] {
+        [only] => *only == start,
+        _ => false,
+    }
+}
+
+/// Where the cells of the row begin if it is idle, and otherwise the place of no row.
+fn idle_place(dfa: &DFA, cache: &Cache, row: u32) -> u32
+    requires { IsFor cache.now dfa.now }
+    ensures { IsIdlePlace dfa.now cache.now result }
+{
+    if row as usize >= cache.stands.len() {
+        return UNKNOWN;
+    }
+    if is_idle(&cache.stands[row as usize], dfa.nfa.start_anchored()) {
+        row * ROW_CELLS as u32
+    } else {
+        UNKNOWN
+    }
+}
+
+/// The watch at this place. No match starts before the place if its row is idle, nor otherwise before `start`.
+pub fn watch_at(
+    dfa: &DFA,
+    cache: &Cache,
+    input: &Input<'_>,
+    place: Place,
+    start: usize,
+    idle: u32,
+) -> Watch
+    requires own { IsFor cache.now dfa.now }
+    requires apart { dfa.now.apart ≡ true }
+    requires found { place.found ≡ None }
+    requires at { IsFoundAt dfa.now cache.now (search_of input.now) place }
+    requires begun { IsBegun dfa.now.nfa (search_of input.now) start place.at }
+    ensures watching { IsWatching dfa.now cache.now (search_of input.now) result }
+    ensures at { result.at ≡ place.at }
+{
+    let first = place.row * ROW_CELLS as u32;
+    let here = idle_place(dfa, cache, place.row);
+    if here == first {
+        Watch {
+            at: place.at,
+            first,
+            start: place.at,
+            idle: here,
+        }
+    } else {
+        Watch {
+            at: place.at,
+            first,
+            start,
+            idle: idle_place(dfa, cache, idle / ROW_CELLS as u32),
+        }
+    }
+}
+
+/// Where the cells of an idle row begin to which the scan is likely to come: of the two that earlier scans left last, the
+/// one to which the first byte leads, or the newer one. `UNKNOWN` is the place of none.
+fn likely_idle(dfa: &DFA, cache: &Cache, input: &Input<'_>, at: usize, first: u32) -> u32
+    requires own { IsFor cache.now dfa.now }
+    requires whole { first % ROW_CELLS ≡ 0 }
+    requires at { IsFoundAt dfa.now cache.now (search_of input.now) (place_at at first None) }
+    ensures idle { IsIdlePlace dfa.now cache.now result }
+{
+    let [newer, older] = cache.idles;
+    let is_older = dfa.looks
+        && at < input.end()
+        && cell_at(dfa, cache, input, at, first, None) == older;
+    let likely = if is_older { older } else { newer };
+    idle_place(dfa, cache, likely / ROW_CELLS as u32)
+}
+
+/// The watch at the start of a scan.
+pub fn first_watch(dfa: &DFA, cache: &Cache, input: &Input<'_>, place: Place) -> Watch
+    requires own { IsFor cache.now dfa.now }
+    requires apart { dfa.now.apart ≡ true }
+    requires found { place.found ≡ None }
+    requires start { place.at ≡ (search_of input.now).start }
+    requires at { IsFoundAt dfa.now cache.now (search_of input.now) place }
+    ensures watching { IsWatching dfa.now cache.now (search_of input.now) result }
+    ensures at { result.at ≡ place.at }
+{
+    let first = place.row * ROW_CELLS as u32;
+    let idle = likely_idle(dfa, cache, input, place.at, first);
+    if idle == UNKNOWN {
+        return watch_at(dfa, cache, input, place, place.at, UNKNOWN);
+    }
+    Watch {
+        at: place.at,
+        first,
+        start: place.at,
+        idle,
+    }
+}
+
+/// Keeps the place of the row that a scan left, if that row was idle and the next one is not. The row that the scan began
+/// with is known to the next scan without this.
+pub fn keep_left(dfa: &DFA, cache: &mut Cache, begun: usize, from: Watch, to: Watch)
+    requires { IsFor cache.old dfa.now }
+    ensures own { IsFor cache.new dfa.now }
+    ensures same { cache.new.stands.items ≡ cache.old.stands.items }
+    ensures spends { Spends cache.old cache.new 0 0 }
+    ensures counts { steps_of cache.new ≡ steps_of cache.old }
+{
+    let [newer, _] = cache.idles;
+    if begun < from.at && from.start == from.at && to.start < to.at && from.first != newer {
+        cache.idles = [from.first, newer];
+    }
+}
+
+/// The watch one position further, in the row whose cells begin at `first`.
+#[inline(always)]
+fn moved(dfa: &DFA, cache: &Cache, input: &Input<'_>, from: Watch, first: u32) -> Watch
+    requires apart { dfa.now.apart ≡ true }
+    requires watching { IsWatching dfa.now cache.now (search_of input.now) from }
+    requires whole { first % ROW_CELLS ≡ 0 }
+    requires at { IsFoundAt dfa.now cache.now (search_of input.now) (place_at (from.at + 1) first None) }
+    ensures watching { IsWatching dfa.now cache.now (search_of input.now) result }
+    ensures at { result.at ≡ from.at + 1 }
+{
+    let at = from.at + 1;
+    let start = if first == from.idle { at } else { from.start };
+    Watch {
+        at,
+        first,
+        start,
+        idle: from.idle,
+    }
+}
+
+/// Goes on over cells that lead to rows without a match, four bytes at a time, as the scan of a half match does, and
+/// looks at each position whether the row is idle.
+#[inline(always)]
+fn pass(dfa: &DFA, cache: &Cache, input: &Input<'_>, from: Watch) -> Watch
+    requires own { IsFor cache.now dfa.now }
+    requires apart { dfa.now.apart ≡ true }
+    requires watching { IsWatching dfa.now cache.now (search_of input.now) from }
+    ensures watching { IsWatching dfa.now cache.now (search_of input.now) result }
+    ensures low { from.at ≤ result.at }
+{
+    let end = input.end();
+    let mut w = from;
+    while end - w.at >= 4 {
+        let second = cell_at(dfa, cache, input, w.at, w.first, None);
+        if second >= MATCHED {
+            return w;
+        }
+        w = moved(dfa, cache, input, w, second);
+        let third = cell_at(dfa, cache, input, w.at, w.first, None);
+        if third >= MATCHED {
+            return w;
+        }
+        w = moved(dfa, cache, input, w, third);
+        let fourth = cell_at(dfa, cache, input, w.at, w.first, None);
+        if fourth >= MATCHED {
+            return w;
+        }
+        w = moved(dfa, cache, input, w, fourth);
+        let fifth = cell_at(dfa, cache, input, w.at, w.first, None);
+        if fifth >= MATCHED {
+            return w;
+        }
+        w = moved(dfa, cache, input, w, fifth);
+    }
+    w
+}
+
+/// Goes on as [`pass`], and counts the steps.
+#[inline(always)]
+pub fn pass_counted(dfa: &DFA, cache: &mut Cache, input: &Input<'_>, from: Watch) -> Watch
+    requires own { IsFor cache.old dfa.now }
+    requires apart { dfa.now.apart ≡ true }
+    requires watching { IsWatching dfa.now cache.old (search_of input.now) from }
+    ensures own { IsFor cache.new dfa.now }
+    ensures watching { IsWatching dfa.now cache.new (search_of input.now) result }
+    ensures low { from.at ≤ result.at }
+    ensures spends { Spends cache.old cache.new (result.at - from.at) 0 }
+    ensures counts { steps_of cache.new ≡ steps_of cache.old + (result.at - from.at) }
+{
+    let to = pass(dfa, cache, input, from);
+    cache.count_steps(dfa, from.at, to.at);
+    to
+}
