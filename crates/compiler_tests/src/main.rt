@@ -7,6 +7,7 @@ ghost use Rattle.nfa_pikevm.specs.Engines.{Fits};
 mod anchors;
 mod examples;
 mod hostile;
+mod prefixes;
 mod refused;
 mod speed;
 
@@ -179,6 +180,8 @@ fn test(rt: &HostRuntime) -> Result<()> {
     report(rt, &wrong, rows, "examples of bytes")?;
     let (wrong, rows) = anchors::differences(rt.alloc())?;
     report(rt, &wrong, rows, "anchors")?;
+    let (wrong, rows) = prefixes::differences(rt.alloc())?;
+    report(rt, &wrong, rows, "prefixes")?;
     anchors::expect_lists(rt.alloc())?;
     anchors::expect_later_spans(rt.alloc())?;
     hostile::expect_large(rt.alloc())?;
