@@ -1,9 +1,9 @@
 -- What is printed for a text.
 use Rattle.std.specs.Prelude.{ℕ, ◌≡◌, Bool, List, [], ◌∷◌, ◌++◌, Option, IfSome, chars, encode_utf8_all, flat_map}
-use Rattle.std.specs.Prelude.{length, if◌then◌else◌, ⊤}
+use Rattle.std.specs.Prelude.{length, if◌then◌else◌, true, ⊤}
 use Rattle.std.specs.Io.KnownBytes.{Appends}
 use Rattle.regex_hir.specs.Re.{Re}
-use Rattle.regex_syntax.specs.Verdict.{escaped_text}
+use Rattle.regex_syntax.specs.Verdict.{ReadsAsText, escaped_text}
 use Rattle.text_lines.specs.Lines.{lines_of}
 use Rattle.nfa_compiler.specs.Patterns.{PatternHit}
 use Rattle.nfa_compiler.specs.Rejected.{IsOfOneText, NamesText}
@@ -30,6 +30,11 @@ sought request = record {
   text = if request.fixed then escaped request.pattern.now else request.pattern.now;
   ignore_case = request.ignore_case;
 }
+
+-- With `fixed`, the pattern that is searched for matches the bytes of the text that was given, and has no group, if
+-- case is not ignored.
+abbrev pub IsFixedText : Request → Type 0
+IsFixedText request = request.fixed ≡ true → ReadsAsText (sought request).text request.pattern.now
 
 abbrev pub Groups : Type 0
 Groups = List (List (Option (List ℕ)))

@@ -7,7 +7,7 @@ ghost use Rattle.nfa_compiler.specs.Patterns.{PatternHit};
 ghost use Rattle.nfa_meta.specs.ChoiceState.{KeepsEngines};
 ghost use Rattle.text_lines.specs.Lines.{lines_of};
 ghost use Rattle.replacer.specs.Hits.{AreHitsOf, SearchesFor, Sought};
-ghost use Rattle.replacer.specs.Printed.{IsMisused, Prints, lines_shown, shown};
+ghost use Rattle.replacer.specs.Printed.{IsFixedText, IsMisused, Prints, lines_shown, shown};
 
 use crate::action::Action;
 use crate::command::Request;
@@ -65,6 +65,7 @@ impl<'w> Job<'w> {
     /// Compiles the pattern, and reads the template if there is one.
     pub fn new(alloc: Global, request: Request<'w>) -> Result<Job<'w>, Mistake>
         ensures request { IfOk result (λ job. job ≡ request.entry) }
+        ensures fixed { IfOk result (λ _. IsFixedText request.entry) }
         ensures mistake { IfErr result (IsMisused request.entry) }
     {
         laws::groups_are_those_of_texts();

@@ -1,7 +1,7 @@
 //! The regex that searches for a pattern.
 ghost use Rattle.std.specs.Prelude.{IfErr, IfOk};
 ghost use Rattle.replacer.specs.Hits.{IsSearchOf};
-ghost use Rattle.replacer.specs.Printed.{IsPatternMistake, sought};
+ghost use Rattle.replacer.specs.Printed.{IsFixedText, IsPatternMistake, sought};
 
 use crate::command::Request;
 use crate::job::Mistake;
@@ -10,9 +10,10 @@ use nfa_meta::{BuildError, Regex};
 use std::alloc::Global;
 
 /// Compiles the pattern of the request. Fails if its text is not a pattern, if the pattern is too large, or if
-/// allocation failed. A fixed text always is a pattern.
+/// allocation failed.
 pub fn regex_of(alloc: Global, request: Request<'_>) -> Result<Regex, Mistake>
     ensures searches { IfOk result (IsSearchOf (sought request.entry)) }
+    ensures fixed { IfOk result (λ _. IsFixedText request.entry) }
     ensures mistake { IfErr result (IsPatternMistake (sought request.entry)) }
 {
     if request.fixed {
