@@ -22,6 +22,7 @@ mod may_begin;
 mod overlap;
 mod replace;
 mod split;
+mod start;
 mod window;
 
 use crate::builder::Config;
@@ -37,7 +38,6 @@ use regex_search_core::{GroupInfo, HalfMatch, Input, Match, NonMaxUsize, Pattern
 use std::alloc::Global;
 use std::marker::Model;
 use thompson_nfa::NFA;
-use window::NoWindow;
 
 /// A search engine for one NFA over a lazy DFA and the two engines of a [`Choice`]. It searches leftmost first, and
 /// never fails.
@@ -52,6 +52,8 @@ pub struct Regex {
     choice: Choice,
     /// Each way to a match writes where the match starts and ends.
     records_spans: bool,
+    /// The last match was at the first start of its search, so the next one may be, too.
+    matched_at_first: bool,
 }
 
 impl Model for Regex {
@@ -83,6 +85,14 @@ fn lazy_dfa(config: nfa_lazy_dfa::Config, nfa: NFA) -> DFA
     match builder.build_from_nfa(nfa) {
         Ok(dfa) => dfa,
         Err(_) => unreachable!(),
+    }
+}
+
+/// Whether the match starts there.
+fn starts_at(found: Option<Match>, at: usize) -> bool {
+    match found {
+        Some(found) => found.start() == at,
+        None => false,
     }
 }
 
@@ -135,6 +145,7 @@ impl Regex {
             cache,
             choice,
             records_spans,
+            matched_at_first: true,
         })
     }
 
@@ -192,8 +203,8 @@ impl Regex {
 
     /// Returns the match that a search of the input finds, in byte offsets into the haystack.
     ///
-    /// The lazy DFA finds the end of the match and a window that holds it, and then searches from the first starts of
-    /// the window. If the match starts at none of them, the [`Choice`] searches the window. So the work of the slower
+    /// If the last match was at the first start of its search, the lazy DFA looks for the match there. Otherwise it finds
+    /// the end of the match and a window that holds it, and then searches from the first starts of the window. If the match starts at none of them, the [`Choice`] searches the window. So the work of the slower
     /// engines depends on the window, and not on the haystack. There is no window if the search is anchored or
     /// `earliest`, if the NFA is anchored, or if it can match the empty string and is in UTF-8 mode. The DFA alone then
     /// answers an anchored search. The [`Choice`] searches the whole input otherwise, and if the DFA stops.
@@ -216,14 +227,13 @@ impl Regex {
         if let Some(found) = self.find_anchored(input) {
             return found;
         }
-        match self.window(input) {
-            Ok(None) => None,
-            Ok(Some(window)) => match self.find_near_start(window) {
-                Some(found) => Some(found),
-                None => self.choice.find(window),
-            },
-            Err(NoWindow) => self.choice.find(input),
+        let first = self.first_start(&input);
+        if let Some(found) = self.find_at_first(input, first) {
+            return Some(found);
         }
+        let found = self.find_by_window(input);
+        self.matched_at_first = starts_at(found, first);
+        found
     }
 
     /// Searches, and writes byte offsets to the slots, as both engines of the [`Choice`] do. Any number of slots may be
