@@ -1,0 +1,41 @@
+-- The bytes that each match of an NFA begins with.
+use Rattle.std.specs.Prelude.{ℕ, zero, suc, ◌++◌, ◌==◌, List, [], ◌∷◌, length, take, Option, None, Some}
+use Rattle.std.specs.Prelude.{option_to_list, if◌then◌else◌}
+use Rattle.std.specs.Option.{option_map_or}
+use Rattle.regex_search_core.specs.Search.{Search}
+use Rattle.thompson_nfa.specs.declared.state.Transition.{Transition}
+use Rattle.thompson_nfa.specs.Automaton.{Automaton, Node}
+use Rattle.thompson_nfa.specs.Automaton.Node.{ByteRange, Sparse, Look, Capture}
+use Rattle.nfa_paths.specs.Paths.{node_at}
+use Rattle.nfa_engines.specs.Accepting.{MatchesSomething}
+use Rattle.nfa_engines.specs.StartLaws.{anchored_at}
+use Rattle.nfa_prefix.specs.Occurrences.{OccursBefore}
+use Rattle.nfa_prefix.specs.declared.only_move.Move.{Move}
+
+-- the move over the transition, if it has only one byte
+abbrev pub move_over : Transition → Option Move
+move_over t = if t.start == t.end then Some (record { byte = Some t.start; next = t.next }) else None
+
+-- The move of a state that has only one: over one byte, or without a byte. An assertion is taken to hold.
+abbrev pub only_move : Node → Option Move
+only_move (ByteRange trans) = move_over trans
+only_move (Sparse (t ∷ [])) = move_over t
+only_move (Look look next) = Some (record { byte = None; next = next })
+only_move (Capture next slot) = Some (record { byte = None; next = next })
+only_move _ = None
+
+module _ (nfa : Automaton) where
+  -- the bytes of at most this many moves from a state on, up to the first state that does not have only one
+  unfoldable pub bytes_from : ℕ → ℕ → List ℕ
+  bytes_from zero state = []
+  bytes_from (suc moves) state =
+      option_map_or (λ m. option_to_list m.byte ++ bytes_from moves m.next) (only_move (node_at nfa state)) []
+
+  -- the bytes from the anchored start on, of at most one move for each state: the first 32 of them
+  abbrev pub prefix_of : List ℕ
+  prefix_of = take 32 (bytes_from (length nfa.states) nfa.anchored)
+
+-- wherever an anchored search has an accepting path, the bytes are in the haystack, before the end of the span
+pub record BeginsWith (nfa : Automaton) (bytes : List ℕ) : Type 0 where
+  pub occurs : (x : Search) (at : ℕ) → MatchesSomething nfa (anchored_at x at)
+      → OccursBefore x.haystack x.end bytes at

@@ -1,0 +1,27 @@
+//! A search for bytes in a part of a haystack.
+ghost use Rattle.std.specs.Prelude.{◌≤◌, IfNone, IfSome, length};
+ghost use Rattle.nfa_prefix.specs.Occurrences.{IsFirstOccurrence, OccursNowhere};
+
+use memchr::memmem;
+
+/// Returns the first position from `from` on at which all bytes of the prefix are in the haystack, before `end`. Returns
+/// `None` if there is none.
+///
+/// `from` may be past `end`. Requires that `end` is not past the end of the haystack. An empty prefix is at each
+/// position up to `end`.
+///
+/// ```
+/// assert!(rt; find_prefix(b"foo foo", 1, 7, b"foo") == Some(4));
+/// assert!(rt; find_prefix(b"foo foo", 1, 6, b"foo") == None);
+/// ```
+pub fn find_prefix(haystack: &[u8], from: usize, end: usize, prefix: &[u8]) -> Option<usize>
+    requires { end ≤ length haystack.now }
+    ensures first { IfSome result (IsFirstOccurrence haystack.now end prefix.now from) }
+    ensures nowhere { IfNone result (OccursNowhere haystack.now end prefix.now from) }
+{
+    if from > end {
+        return None;
+    }
+    let at = memmem::find(&haystack[from..end], prefix)?;
+    Some(from + at)
+}

@@ -1,0 +1,46 @@
+//! The bytes that each match of an NFA begins with.
+ghost use Rattle.std.specs.Prelude.{◌≡◌, IfOk};
+ghost use Rattle.nfa_prefix.specs.Prefixes.{BeginsWith, prefix_of};
+
+use crate::laws::prefixes_are_read;
+use crate::only_move::only_move;
+use std::alloc::{AllocError, Global};
+use thompson_nfa::NFA;
+
+/// The maximum length of a prefix. Up to this length, a search for it prepares no table.
+const MAX_LENGTH: usize = 32;
+
+/// Returns the bytes that each match of the NFA begins with, wherever it starts. They are in the haystack from the
+/// start of the match on, inside the span of the search.
+///
+/// The states are followed from the start state of anchored searches (`NFA::start_anchored`), as long as they move on
+/// in one way only: over one byte, or without a byte. So the prefix may be shorter than what all matches have in
+/// common, or empty: it ends before a class of bytes and before an alternation. It has at most 32 bytes. It does not
+/// cover `Anchored::Pattern`, whose searches begin with another state. The only error is that an allocation failed.
+///
+/// ```
+/// // NFA of "(foo)(?:bar|baz)": "foo"
+/// let prefix = literal_prefix(alloc, &nfa)?;
+/// assert!(rt; &prefix[..] == b"foo");
+/// ```
+pub fn literal_prefix(alloc: Global, nfa: &NFA) -> Result<Vec<u8>, AllocError>
+    ensures value { IfOk result (λ prefix. prefix.items ≡ prefix_of nfa.now) }
+    ensures begins { IfOk result (λ prefix. BeginsWith nfa.now prefix.items) }
+{
+    prefixes_are_read();
+    let mut prefix = Vec::new(alloc);
+    let mut state = nfa.start_anchored();
+    for _ in 0..nfa.states().len() {
+        let Some(only) = only_move(nfa.state(state)) else {
+            return Ok(prefix);
+        };
+        if let Some(byte) = only.byte {
+            if prefix.len() == MAX_LENGTH {
+                return Ok(prefix);
+            }
+            prefix.push(byte)?;
+        }
+        state = only.next;
+    }
+    Ok(prefix)
+}
