@@ -58,7 +58,7 @@ RegexFindsToEnd x ms old new = LeavesAtEnd span_of (DoesSearch (RegexTells old) 
 abbrev pub MayFindByWindow : WithCache ByWindow ChoiceState → Search → Type 0
 MayFindByWindow s x = IsKnownFrom IsSureOf (pike_of s.cache) x s.backend.known
 
--- One search for a match may answer this. If the answer was known, the engine did not change.
+-- One search for a match may answer this: what was known of it, or what the engine finds. What is known then is right.
 pub record AsksByWindow (s : WithCache ByWindow ChoiceState) (x : Search) (a : Answer Found)
     (t : WithCache ByWindow ChoiceState) : Type 0 where
   pub tells : RegexTells s.cache x a

@@ -76,9 +76,7 @@ impl Regex {
     }
 
     /// Returns the match of a search, if the last one matched at its first start, and so does this one by the lazy DFA.
-    pub(super) fn find_at_first<'h>(&mut self, input: Input<'h>, at: usize) -> Option<Match>
-        requires first { IsFirstStart self.old.nfa (search_of input) at }
-        requires within { at ≤ (search_of input).end + 1 }
+    pub(super) fn find_at_first<'h>(&mut self, input: Input<'h>) -> Option<Match>
         ensures answer { let x = search_of input.entry in IfSome result (λ m.
             IsFindAnswer self.old.nfa (kind_in self.old) x.earliest x (Some (found_of m))) }
         ensures pattern { IfSome result (λ m. (found_of m).pattern < length self.old.nfa.patterns) }
@@ -87,6 +85,40 @@ impl Regex {
         if !self.matched_at_first || !self.starts_anywhere(&input) {
             return None;
         }
+        let at = self.first_start(&input);
+        if !self.begins_at(&input, at) {
+            return None;
+        }
         self.find_at_start(input, at)?
+    }
+
+    /// Whether a match may begin at the position: not inside a codepoint, and with its byte or at the end of the span.
+    fn begins_at(&self, input: &Input<'_>, at: usize) -> bool {
+        input.is_char_boundary(at) && (at >= input.end() || self.may_begin(input.haystack()[at]))
+    }
+
+    /// Whether the match is at the first start of its search, so that the next one may be, too. After a search that
+    /// began inside a codepoint, this is what it was before.
+    pub(super) fn is_at_first(&self, input: &Input<'_>, found: Option<Match>) -> bool {
+        let Some(found) = found else {
+            return false;
+        };
+        if !input.is_char_boundary(input.start()) {
+            return self.matched_at_first;
+        }
+        match input.haystack().get(input.start()..found.start()) {
+            Some(passed) => passed.len() <= REACH && !self.begins_among(passed),
+            None => false,
+        }
+    }
+
+    /// Whether a match may begin with one of the bytes.
+    fn begins_among(&self, bytes: &[u8]) -> bool {
+        for byte in bytes {
+            if self.may_begin(*byte) {
+                return true;
+            }
+        }
+        false
     }
 }

@@ -47,6 +47,23 @@ impl Regex {
         if !self.is_windowed(&input) {
             return Err(NoWindow);
         }
+        match self.from_prefix(input) {
+            Some(rest) => self.window_in(rest),
+            None => Ok(None),
+        }
+    }
+
+    /// Returns the window of the lazy DFA that has the answer of a search that has windows. Returns `None` in it if nothing matches.
+    fn window_in<'h>(&mut self, input: Input<'h>) -> Result<Option<Input<'h>>, NoWindow>
+        requires windowed { IsWindowed self.old.nfa (search_of input) }
+        ensures nothing { IfOk result (λ window.
+            IfNone window (HasNoMatch self.old.nfa (kind_in self.old) (search_of input.entry))) }
+        ensures part { IfOk result (λ window.
+            IfSome window (λ part. IsWindowOf self.old.nfa (search_of input.entry) (search_of part))) }
+        ensures answers { IfOk result (λ window. IfSome window (λ part.
+            AnswersAs self.old.nfa (kind_in self.old) (search_of input.entry) (search_of part))) }
+        ensures same { self.new ≡ self.old }
+    {
         laws::windows_answer();
         match self.dfa.try_find_window(&mut self.cache, input) {
             Ok(None) => Ok(None),
