@@ -17,9 +17,10 @@ use Rattle.nfa_paths.proofs.InsideLemmas.{match-within}
 use Rattle.nfa_search_base.proofs.CallerLemmas.{pattern-of}
 use Rattle.nfa_engines.specs.Accepting.{MatchesNothing}
 use Rattle.nfa_engines.specs.Agreement.{end_of}
-use Rattle.nfa_engines.specs.StartLaws.{FirstStartMatches, IsFirstStart, anchored_at}
+use Rattle.nfa_engines.specs.StartLaws.{IsFirstStart, anchored_at}
 use Rattle.nfa_match_spans.specs.MatchSpanLaws.{AnchoredStartsTheSpan, HalfMatchesAreEnds, NoneIsNothing}
 use Rattle.nfa_match_spans.specs.StatePaths.{RecordsMatchSpans}
+use Rattle.nfa_meta.specs.FirstStarts.{FirstStartHasTheMatch, StartsAnywhere}
 use Rattle.nfa_meta.specs.WindowRuns.{IsWindowOf}
 use Rattle.nfa_meta.specs.Windowed.{IsWindowed}
 
@@ -95,18 +96,18 @@ next-of nfa x s first None nothing = tt
 next-of nfa x s first (Some None) nothing = next-first nfa x s first nothing
 next-of nfa x s first (Some (Some m)) nothing = tt
 
--- the answer of the anchored search at such a start of a window, where it is that of the window
+-- the answer of the anchored search at such a start, where it is that of the search
 pub found-at-start : (nfa : Automaton) (kind : MatchKind) (earliest : Bool) (x : Search) (s : ℕ)
-    → kind ≡ LeftmostFirst → IsWindowed nfa x → earliest ≡ false → IsFirstStart nfa x s
-    → FirstStartMatches LeftmostFirst false → (known : Option (Option Match))
+    → kind ≡ LeftmostFirst → StartsAnywhere nfa x → earliest ≡ false → IsFirstStart nfa x s
+    → FirstStartHasTheMatch → (known : Option (Option Match))
     → IfSome known (λ found. IsFindAnswer nfa kind earliest (anchored_at x s) (option_map found_of found))
     → IfSome known (λ found. IfSome found (λ m. IsFindAnswer nfa kind earliest x (Some (found_of m))))
-found-at-start nfa kind earliest x s kind_is windowed last first matches None answers = tt
-found-at-start nfa kind earliest x s kind_is windowed last first matches (Some None) answers = tt
-found-at-start nfa kind earliest x s kind_is windowed last first matches (Some (Some m)) answers =
+found-at-start nfa kind earliest x s kind_is starts last first matches None answers = tt
+found-at-start nfa kind earliest x s kind_is starts last first matches (Some None) answers = tt
+found-at-start nfa kind earliest x s kind_is starts last first matches (Some (Some m)) answers =
     subst (λ (k : MatchKind). IsFindAnswer nfa k earliest x (Some (found_of m))) (sym kind_is)
     (subst (λ (b : Bool). IsFindAnswer nfa LeftmostFirst b x (Some (found_of m))) (sym last)
-    (matches nfa x s (found_of m) windowed.unbound first
+    (matches nfa x s (found_of m) starts first
     (subst (λ (b : Bool). IsFindAnswer nfa LeftmostFirst b (anchored_at x s) (Some (found_of m))) last
     (subst (λ (k : MatchKind). IsFindAnswer nfa k earliest (anchored_at x s) (Some (found_of m))) kind_is
     answers))))

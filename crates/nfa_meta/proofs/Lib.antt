@@ -1,8 +1,10 @@
 pub mod AnchoredLemmas
 pub mod CapturesLemmas
 pub mod CaughtLemmas
+pub mod FirstStartLemmas
 pub mod GapLemmas
 pub mod HalvesLemmas
 pub mod MatchesLemmas
+pub mod PrefixLemmas
 pub mod WindowLemmas
 pub mod WorkLemmas

@@ -1,11 +1,12 @@
 -- The path that answers a search answers the search of a window.
-use Rattle.std.proofs.Common.{◌≡◌, ◌⊎◌, inl, inr, ℕ, ◌≤◌, Bool, true, false, List, [], ◌∷◌, refl, ap, sym, ◌∙◌, subst, arith}
-use Rattle.std.specs.Prelude.{Option, None, Some, MatchBool, is_some, replicate, option_and_then, option_map}
+use Rattle.std.proofs.Common.{Err, Ok, Result, ◌≡◌, ◌⊎◌, inl, inr, ℕ, ◌≤◌, Bool, true, false, List, [], ◌∷◌, refl, ap, sym, ◌∙◌, subst, arith}
+use Rattle.std.specs.Prelude.{IfNone, IfOk, IfSome, Option, None, Some, MatchBool, is_some, replicate, option_and_then, option_map}
 use Rattle.std.specs.Option.{option_map_or}
 use Rattle.std.proofs.lemmas.List.{length-replicate}
 use Rattle.regex_search_core.specs.Found.{Found, HalfFound}
-use Rattle.regex_search_core.specs.Search.{Search, is_anchored}
+use Rattle.regex_search_core.specs.Search.{Search, is_anchored, search_of}
 use Rattle.regex_search_core.specs.declared.search.Anchored.TheVariants.{Yes}
+use Rattle.regex_search_core.specs.declared.search.Input.{Input}
 use Rattle.regex_search_core.specs.declared.search.MatchKind.{MatchKind}
 use Rattle.regex_search_core.specs.declared.search.MatchKind.TheVariants.{LeftmostFirst}
 use Rattle.thompson_nfa.specs.Automaton.{Automaton}
@@ -294,3 +295,56 @@ module _ (nfa : Automaton) (x y : Search) (w : Window) (windowed : IsWindowed nf
 pub part-earliest : (nfa : Automaton) (x y : Search) → (y ≡ x) ⊎ IsWindowOf nfa x y → y.earliest ≡ x.earliest
 part-earliest nfa x y (inl same) = ap (λ (z : Search). z.earliest) same
 part-earliest nfa x y (inr window) = window.earliest
+
+-- a window of what is left of a search is one of the search, and has its answers
+pub window-then : (nfa : Automaton) (x y z : Search) → IsWindowOf nfa x y → IsWindowOf nfa y z → IsWindowOf nfa x z
+window-then nfa x y z one two = record {
+  windowed = one.windowed;
+  haystack = two.haystack ∙ one.haystack;
+  anchored = two.anchored ∙ one.anchored;
+  earliest = two.earliest ∙ one.earliest;
+  from = (let a = one.from in let b = two.from in omega arith);
+  to = (let a = one.to in let b = two.to in omega arith);
+}
+
+pub answers-then : (nfa : Automaton) (kind : MatchKind) (x y z : Search) → y.earliest ≡ x.earliest
+    → AnswersAs nfa kind x y → AnswersAs nfa kind y z → AnswersAs nfa kind x z
+answers-then nfa kind x y z same one two = record {
+  rows = λ pattern slots h. one.rows pattern slots
+      (subst (λ (b : Bool). IsAnswer nfa kind b z pattern slots → IsAnswer nfa kind b y pattern slots) same
+      (two.rows pattern slots) h);
+  matches = λ found h. one.matches found
+      (subst (λ (b : Bool). IsFindAnswer nfa kind b z found → IsFindAnswer nfa kind b y found) same
+      (two.matches found) h);
+}
+
+pub nothing-then : (nfa : Automaton) (kind : MatchKind) (x y : Search) → y.earliest ≡ x.earliest
+    → AnswersAs nfa kind x y → HasNoMatch nfa kind y → HasNoMatch nfa kind x
+nothing-then nfa kind x y same one none = record {
+  rows = λ n. one.rows None (replicate n None)
+      (subst (λ (b : Bool). IsAnswer nfa kind b y None (replicate n None)) same (none.rows n));
+  matches = one.matches None (subst (λ (b : Bool). IsFindAnswer nfa kind b y None) same none.matches);
+}
+
+-- so the window of what is left of a search is that of the search
+module _ (nfa : Automaton) (kind : MatchKind) (x y : Search) (of : IsWindowOf nfa x y) (same : AnswersAs nfa kind x y)
+    {E : Type 0} where
+  pub nothing-on : (r : Result (Option Input) E) → IfOk r (λ window. IfNone window (HasNoMatch nfa kind y))
+      → IfOk r (λ window. IfNone window (HasNoMatch nfa kind x))
+  nothing-on (Ok None) h = nothing-then nfa kind x y of.earliest same h
+  nothing-on (Ok (Some w)) h = tt
+  nothing-on (Err e) h = tt
+
+  pub part-on : (r : Result (Option Input) E)
+      → IfOk r (λ window. IfSome window (λ part. IsWindowOf nfa y (search_of part)))
+      → IfOk r (λ window. IfSome window (λ part. IsWindowOf nfa x (search_of part)))
+  part-on (Ok None) h = tt
+  part-on (Ok (Some w)) h = window-then nfa x y (search_of w) of h
+  part-on (Err e) h = tt
+
+  pub answers-on : (r : Result (Option Input) E)
+      → IfOk r (λ window. IfSome window (λ part. AnswersAs nfa kind y (search_of part)))
+      → IfOk r (λ window. IfSome window (λ part. AnswersAs nfa kind x (search_of part)))
+  answers-on (Ok None) h = tt
+  answers-on (Ok (Some w)) h = answers-then nfa kind x y (search_of w) of.earliest same h
+  answers-on (Err e) h = tt

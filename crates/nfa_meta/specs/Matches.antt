@@ -6,6 +6,7 @@ use Rattle.regex_search_core.specs.Found.{Found, found_of}
 use Rattle.regex_search_core.specs.Search.{Search}
 use Rattle.regex_search_core.specs.declared.search.Match.{Match}
 use Rattle.nfa_backtrack.specs.Backtrack.{HoldsNoMore}
+use Rattle.nfa_search_base.specs.EngineSearches.{IsKnownFrom}
 use Rattle.nfa_search_base.specs.Leaving.{DoesSearch, Leaves, LeavesAtEnd}
 use Rattle.nfa_search_base.specs.WithCache.{WithCache}
 use Rattle.nfa_search_base.specs.StepsWith.{GivesStepsWith, StepsWith, TakesStepWith}
@@ -14,7 +15,8 @@ use Rattle.nfa_search_base.specs.Runs.{GivesKept}
 use Rattle.nfa_search_base.specs.Steps.{GivesItem}
 use Rattle.nfa_search_base.specs.Searchers.{iter_state_of}
 use Rattle.nfa_search_base.specs.IterStates.{Answer, IterState, span_of}
-use Rattle.nfa_choice.specs.ChoiceState.{ChoiceState, kind_in, KeepsEngines}
+use Rattle.nfa_pikevm.specs.Finding.{IsSureOf}
+use Rattle.nfa_choice.specs.ChoiceState.{ChoiceState, kind_in, KeepsEngines, pike_of}
 use Rattle.nfa_meta.specs.WindowRuns.{RunsByWindow}
 use Rattle.nfa_meta.specs.declared.regex.find_iter.ByWindow.{ByWindow}
 use Rattle.nfa_meta.specs.declared.regex.find_iter.FindMatches.{FindMatches}
@@ -52,10 +54,16 @@ RegexFindsOn x old new = Leaves span_of (DoesSearch (RegexTells old) (λ y a. Fi
 abbrev pub RegexFindsToEnd : Search → List Found → ChoiceState → ChoiceState → Type 0
 RegexFindsToEnd x ms old new = LeavesAtEnd span_of (DoesSearch (RegexTells old) (λ y a. FindsByWindow y)) x ms old new
 
--- one search for a match may answer this
-abbrev pub AsksByWindow : WithCache ByWindow ChoiceState → Search → Answer Found → WithCache ByWindow ChoiceState
-    → Type 0
-AsksByWindow s x a t = DoesSearch (RegexTells s.cache) (λ y b. FindsByWindow y) s.cache x a t.cache
+-- what is known of searches like this one is right
+abbrev pub MayFindByWindow : WithCache ByWindow ChoiceState → Search → Type 0
+MayFindByWindow s x = IsKnownFrom IsSureOf (pike_of s.cache) x s.backend.known
+
+-- One search for a match may answer this: what was known of it, or what the engine finds. What is known then is right.
+pub record AsksByWindow (s : WithCache ByWindow ChoiceState) (x : Search) (a : Answer Found)
+    (t : WithCache ByWindow ChoiceState) : Type 0 where
+  pub tells : RegexTells s.cache x a
+  pub work : FindsByWindow x s.cache t.cache
+  pub knows : MayFindByWindow t x
 
 -- a call
 pub record FindsNext (s : FindMatches) (r : Option Match) (t : FindMatches) : Type 0 where

@@ -127,7 +127,7 @@ impl Config {
     }
 
     /// Returns the configuration of the backtracker.
-    fn backtracker(&self) -> backtrack::Config
+    pub(crate) fn backtracker(&self) -> backtrack::Config
         ensures { result ≡ self.now.backtrack_visited_capacity }
     {
         match self.backtrack_visited_capacity {
@@ -230,12 +230,7 @@ impl Builder {
         ensures engines { IfOk result (λ made. made ≡ engines_of nfa self.now.config.backtrack_visited_capacity) }
         ensures memory { IsOkUnless result SearchError.Memory }
     {
-        Regex::from_parts(
-            alloc,
-            nfa,
-            self.config.lazy_dfa(),
-            self.config.backtracker(),
-        )
+        Regex::from_parts(alloc, nfa, self.config)
     }
 }
 

@@ -20,8 +20,10 @@ mod find_iter;
 mod half_matches;
 mod may_begin;
 mod overlap;
+mod prefix;
 mod replace;
 mod split;
+mod start;
 mod window;
 
 use crate::builder::Config;
@@ -30,14 +32,14 @@ pub use find_iter::FindMatches;
 pub use half_matches::HalfMatches;
 use nfa_choice::choose::{Choice, Engine};
 use nfa_engines::error::SearchError;
-use nfa_engines::{backtrack, pikevm};
+use nfa_engines::pikevm;
 use nfa_lazy_dfa::{Cache, DFA};
 use nfa_match_spans::records_match_spans;
+use nfa_prefix::literal_prefix;
 use regex_search_core::{GroupInfo, HalfMatch, Input, Match, NonMaxUsize, PatternID};
 use std::alloc::Global;
 use std::marker::Model;
 use thompson_nfa::NFA;
-use window::NoWindow;
 
 /// A search engine for one NFA over a lazy DFA and the two engines of a [`Choice`]. It searches leftmost first, and
 /// never fails.
@@ -47,11 +49,16 @@ use window::NoWindow;
 /// they see of the [`Choice`], which does not change if the DFA answers.
 #[derive(Drop)]
 pub struct Regex {
+    config: Config,
     dfa: DFA,
     cache: Cache,
     choice: Choice,
     /// Each way to a match writes where the match starts and ends.
     records_spans: bool,
+    /// The bytes that each match begins with.
+    prefix: Vec<u8>,
+    /// The last match was at the first start of its search, so the next one may be, too.
+    matched_at_first: bool,
 }
 
 impl Model for Regex {
@@ -63,6 +70,7 @@ impl Model for Regex {
     ghost use Rattle.nfa_match_spans.specs.StatePaths.{RecordsMatchSpans};
     ghost use Rattle.std.specs.Prelude.{true};
     ghost use Rattle.thompson_nfa.specs.Automaton.{IsAutomaton};
+    ghost use Rattle.nfa_prefix.specs.Prefixes.{BeginsWith};
 
     ghost Value = { ChoiceState };
 
@@ -70,7 +78,9 @@ impl Model for Regex {
 
     ghost invariant = { λ r. (nfa_of r.dfa ≡ r.choice.nfa) × (kind_of r.dfa ≡ LeftmostFirst)
         × (kind_in r.choice ≡ LeftmostFirst) × IsFor r.cache r.dfa
-        × IsAutomaton r.choice.nfa × (r.records_spans ≡ true → RecordsMatchSpans r.choice.nfa) };
+        × (r.config.backtrack_visited_capacity ≡ r.choice.visited_capacity)
+        × IsAutomaton r.choice.nfa × (r.records_spans ≡ true → RecordsMatchSpans r.choice.nfa)
+        × BeginsWith r.choice.nfa r.prefix.items };
 }
 
 /// Makes a lazy DFA of the NFA.
@@ -100,42 +110,51 @@ impl Regex {
         ensures made { IfOk result (λ made. made ≡ engines_of nfa None) }
         ensures memory { IsOkUnless result SearchError.Memory }
     {
-        Regex::from_parts(
-            alloc,
-            nfa,
-            Config::new().lazy_dfa(),
-            backtrack::Config::new(),
-        )
+        Regex::from_parts(alloc, nfa, Config::new())
     }
 
-    /// Makes the engines for the NFA, with these configurations and empty caches. The only error is `Memory`.
-    pub(crate) fn from_parts(
-        alloc: Global,
-        nfa: NFA,
-        hybrid: nfa_lazy_dfa::Config,
-        back: backtrack::Config,
-    ) -> Result<Regex, SearchError>
-        requires { config_kind hybrid ≡ LeftmostFirst }
-        ensures made { IfOk result (λ made. made ≡ engines_of nfa back) }
+    /// Makes the engines for the NFA, with these settings and empty caches. The only error is `Memory`.
+    pub(crate) fn from_parts(alloc: Global, nfa: NFA, config: Config) -> Result<Regex, SearchError>
+        ensures made { IfOk result (λ made. made ≡ engines_of nfa config.backtrack_visited_capacity) }
         ensures memory { IsOkUnless result SearchError.Memory }
     {
         let Ok(copy) = nfa.clone() else {
             return Err(SearchError::Memory);
         };
-        let dfa = lazy_dfa(hybrid, copy);
+        let dfa = lazy_dfa(config.lazy_dfa(), copy);
         let Ok(cache) = dfa.create_cache(alloc) else {
             return Err(SearchError::Memory);
         };
         let Ok(records_spans) = records_match_spans(alloc, &nfa) else {
             return Err(SearchError::Memory);
         };
-        let choice = Choice::new(alloc, nfa, back, pikevm::Config::new())?;
+        let Ok(prefix) = literal_prefix(alloc, &nfa) else {
+            return Err(SearchError::Memory);
+        };
+        let choice = Choice::new(alloc, nfa, config.backtracker(), pikevm::Config::new())?;
         Ok(Regex {
+            config,
             dfa,
             cache,
             choice,
             records_spans,
+            prefix,
+            matched_at_first: true,
         })
+    }
+
+    /// Returns the settings that the regex was built with. A regex that was built from an NFA keeps the settings of NFAs,
+    /// too, which have no effect.
+    ///
+    /// ```
+    /// let config = Regex::config().hybrid_cache_capacity(100_000);
+    /// let regex = Regex::builder().configure(config).build(alloc, "fo+")?;
+    /// assert_eq!(rt; regex.get_config().hybrid_cache_capacity, 100_000);
+    /// ```
+    pub fn get_config(&self) -> Config
+        ensures { result.backtrack_visited_capacity ≡ self.now.visited_capacity }
+    {
+        self.config
     }
 
     /// Returns the NFA.
@@ -192,8 +211,8 @@ impl Regex {
 
     /// Returns the match that a search of the input finds, in byte offsets into the haystack.
     ///
-    /// The lazy DFA finds the end of the match and a window that holds it, and then searches from the first starts of
-    /// the window. If the match starts at none of them, the [`Choice`] searches the window. So the work of the slower
+    /// If the last match was at the first start of its search, the lazy DFA looks for the match there. Otherwise it finds
+    /// the end of the match and a window that holds it, and then searches from the first starts of the window. If the match starts at none of them, the [`Choice`] searches the window. So the work of the slower
     /// engines depends on the window, and not on the haystack. There is no window if the search is anchored or
     /// `earliest`, if the NFA is anchored, or if it can match the empty string and is in UTF-8 mode. The DFA alone then
     /// answers an anchored search. The [`Choice`] searches the whole input otherwise, and if the DFA stops.
@@ -216,14 +235,12 @@ impl Regex {
         if let Some(found) = self.find_anchored(input) {
             return found;
         }
-        match self.window(input) {
-            Ok(None) => None,
-            Ok(Some(window)) => match self.find_near_start(window) {
-                Some(found) => Some(found),
-                None => self.choice.find(window),
-            },
-            Err(NoWindow) => self.choice.find(input),
+        if let Some(found) = self.find_at_first(input) {
+            return Some(found);
         }
+        let found = self.find_by_window(input);
+        self.matched_at_first = self.is_at_first(&input, found);
+        found
     }
 
     /// Searches, and writes byte offsets to the slots, as both engines of the [`Choice`] do. Any number of slots may be

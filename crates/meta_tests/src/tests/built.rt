@@ -93,3 +93,14 @@ fn patterns_and_groups_are_counted(rt: HostRuntime) {
     let wrong = Regex::new_many(alloc, &["a", "(", "b"]);
     assert!(rt; wrong.is_err());
 }
+
+#[test]
+fn settings_are_kept(rt: HostRuntime) {
+    let alloc = rt.alloc();
+    let config = Regex::config().hybrid_cache_capacity(100_000);
+    let builder = Regex::builder().configure(config);
+    let regex = builder.build(alloc, "fo+").expect(&rt, "a regex");
+    let kept = regex.get_config();
+    assert_eq!(&rt; kept.hybrid_cache_capacity, 100_000);
+    assert!(&rt; kept.utf8 && !kept.anchored);
+}

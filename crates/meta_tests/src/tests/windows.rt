@@ -56,6 +56,36 @@ fn the_lazy_dfa_answers_if_it_can(rt: HostRuntime) {
     assert_eq!(&rt; regex.ran(), None);
 }
 
+// A pattern that matches the empty string matches at the start of each search, up to a byte that splits a codepoint.
+#[test]
+fn the_lazy_dfa_finds_empty_matches(rt: HostRuntime) {
+    let alloc = rt.alloc();
+    let mut regex = regex_by(&rt, alloc, "[a-z]*");
+    let found = regex.find(Input::new(b"1ab"));
+    assert_eq!(&rt; found.map(|found| found.range()), Some(0..0));
+    assert_eq!(&rt; regex.ran(), None);
+    let mut ranges = Vec::new(alloc);
+    for found in regex.find_iter(Input::new(b"ab 1")) {
+        ranges.push(found.range()).expect(&rt, "memory");
+    }
+    assert_eq!(&rt; ranges.as_slice(), [0..2, 3..3, 4..4].as_slice());
+    let found = regex.find(Input::new("\u{2603}a".as_bytes()).range(1..4));
+    assert_eq!(&rt; found.map(|found| found.range()), Some(3..4));
+}
+
+// Each match begins with `foo`, and what comes before that is passed over.
+#[test]
+fn matches_begin_with_a_prefix(rt: HostRuntime) {
+    let mut regex = regex_by(&rt, rt.alloc(), "(foo)(bar|[0-9]+)");
+    let input = Input::new(b"fo foo fooba foobar foo12");
+    let found = regex.find(input);
+    assert_eq!(&rt; found.map(|found| found.range()), Some(13..19));
+    let found = regex.find(input.range(14..25));
+    assert_eq!(&rt; found.map(|found| found.range()), Some(20..25));
+    assert_eq!(&rt; regex.find(input.range(14..22)), None);
+    assert_eq!(&rt; regex.ran(), None);
+}
+
 const FILL: usize = 1_000_000;
 
 // The haystack is too long for the backtracker, and the window is not. The lazy DFA finds the start without the choice.

@@ -1,7 +1,12 @@
 //! Iteration over the matches of an input.
+ghost use Rattle.nfa_search_base.specs.EngineSearches.{IsKnownFrom};
+ghost use Rattle.nfa_search_base.specs.Stored.{steps_iter_state};
+ghost use Rattle.nfa_pikevm.specs.Finding.{IsSureOf};
+ghost use Rattle.nfa_choice.specs.ChoiceState.{pike_of};
+
 use crate::regex::Regex;
 use nfa_engines::error::SearchError;
-use nfa_engines::iter::match_items::{found_item, found_span};
+use nfa_engines::iter::match_items::{ending_at, found_item, found_span};
 use nfa_engines::iter::{FindWith, Searcher, Steps};
 use regex_search_core::{Input, Match, Span};
 use std::alloc::Global;
@@ -13,11 +18,15 @@ use std::alloc::Global;
 pub struct FindMatches<'r, 'h> {
     regex: &'r mut Regex,
     steps: Steps<'h, ByWindow>,
+    ghost knows: { IsKnownFrom IsSureOf (pike_of regex.now) (steps_iter_state steps).at steps.backend.known },
 }
 
 // The searches of one iteration: each borrows the engine.
 #[derive(Debug, Drop)]
-struct ByWindow;
+struct ByWindow {
+    // The match that the last search found, if it ends where that search started. It also answers a search from there.
+    known: Option<Match>,
+}
 
 impl Regex {
     ghost use Rattle.std.specs.Prelude.{◌≡◌, false, All, IfOk, IsOk, IsOkUnless, None, [], map};
@@ -68,7 +77,7 @@ impl Regex {
             regex: self,
             steps: Steps {
                 searcher: Searcher::new(input),
-                backend: ByWindow,
+                backend: ByWindow { known: None },
                 done: false,
             },
         }
@@ -113,8 +122,7 @@ impl FindWith for ByWindow {
     ghost use Rattle.nfa_search_base.specs.Finders.{answer_by};
     ghost use Rattle.nfa_search_base.specs.Steps.{GivesItem};
     ghost use Rattle.nfa_search_base.specs.IterStates.{span_of};
-    ghost use Rattle.nfa_search_base.specs.Serving.{may_ask};
-    ghost use Rattle.nfa_meta.specs.Matches.{AsksByWindow};
+    ghost use Rattle.nfa_meta.specs.Matches.{AsksByWindow, MayFindByWindow};
     ghost use Rattle.std.specs.Prelude.{Ok};
 
     type Cache = Regex;
@@ -127,7 +135,7 @@ impl FindWith for ByWindow {
 
     ghost span = { span_of };
 
-    ghost accepts = { may_ask };
+    ghost accepts = { MayFindByWindow };
 
     type Item = Match;
 
@@ -137,7 +145,13 @@ impl FindWith for ByWindow {
 
     #[inline]
     fn answer(&mut self, regex: &mut Regex, input: &Input<'_>) -> Option<Match> {
-        regex.find(*input)
+        let known = ending_at(input.start(), self.known);
+        if known.is_some() {
+            return known;
+        }
+        let found = regex.find(*input);
+        self.known = ending_at(input.start(), found);
+        found
     }
 
     #[inline]

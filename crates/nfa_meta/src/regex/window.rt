@@ -1,21 +1,22 @@
 //! The part of an input that holds the answer of its search.
-ghost use Rattle.std.specs.Prelude.{◌≡◌, ◌⊎◌, ◌+◌, ◌<◌, ◌≤◌, IfNone, IfOk, IfSome, Some, false, length, option_map, true};
+ghost use Rattle.std.specs.Prelude.{◌≡◌, ◌*◌, ◌⊎◌, ◌<◌, IfNone, IfOk, IfSome, Some, false, length, option_map, true};
 ghost use Rattle.regex_search_core.specs.Found.{found_of};
 ghost use Rattle.regex_search_core.specs.Search.{search_of};
 ghost use Rattle.nfa_paths.specs.Paths.{IsFindAnswer, is_utf8_empty};
+ghost use Rattle.nfa_search_base.specs.Lists.{IsInside};
+ghost use Rattle.nfa_backtrack.specs.Backtrack.{HoldsNoMore};
 ghost use Rattle.nfa_engines.specs.Accepting.{MatchesNothing};
-ghost use Rattle.nfa_engines.specs.StartLaws.{IsFirstStart};
-ghost use Rattle.nfa_choice.specs.ChoiceState.{kind_in};
+ghost use Rattle.nfa_choice.specs.ChoiceState.{KeepsEngines, kind_in};
 ghost use Rattle.nfa_meta.specs.Windowed.{IsWindowed};
-ghost use Rattle.nfa_meta.specs.WindowRuns.{AnswersAs, HasNoMatch, IsWindowOf};
+ghost use Rattle.nfa_meta.specs.WindowRuns.{AnswersAs, HasNoMatch, IsWindowOf, RunsByWindow};
 
 use crate::laws;
 use crate::regex::Regex;
-use nfa_engines::laws::{bytes_may_be_skipped, first_start_answers};
+use nfa_engines::laws::bytes_may_be_skipped;
 use nfa_match_spans::laws::{
     anchored_matches_start_the_span, half_matches_are_ends, no_match_is_missed,
 };
-use regex_search_core::{Anchored, Input, Match, Span};
+use regex_search_core::{Input, Match, Span};
 
 /// The number of starts in a window that the lazy DFA tries before the choice searches the window.
 const TRIES: usize = 4;
@@ -30,10 +31,7 @@ impl Regex {
         ensures { result ≡ true → IsWindowed self.now.nfa (search_of input.now) }
     {
         let nfa = self.choice.get_nfa();
-        !input.get_earliest()
-            && !input.get_anchored().is_anchored()
-            && !nfa.is_always_start_anchored()
-            && !(nfa.has_empty() && nfa.is_utf8())
+        self.starts_anywhere(input) && !(nfa.has_empty() && nfa.is_utf8())
     }
 
     /// Returns the window of the lazy DFA that has the answer of the search. Returns `None` in it if nothing matches.
@@ -49,6 +47,23 @@ impl Regex {
         if !self.is_windowed(&input) {
             return Err(NoWindow);
         }
+        match self.from_prefix(input) {
+            Some(rest) => self.window_in(rest),
+            None => Ok(None),
+        }
+    }
+
+    /// Returns the window of the lazy DFA that has the answer of a search that has windows. Returns `None` in it if nothing matches.
+    fn window_in<'h>(&mut self, input: Input<'h>) -> Result<Option<Input<'h>>, NoWindow>
+        requires windowed { IsWindowed self.old.nfa (search_of input) }
+        ensures nothing { IfOk result (λ window.
+            IfNone window (HasNoMatch self.old.nfa (kind_in self.old) (search_of input.entry))) }
+        ensures part { IfOk result (λ window.
+            IfSome window (λ part. IsWindowOf self.old.nfa (search_of input.entry) (search_of part))) }
+        ensures answers { IfOk result (λ window. IfSome window (λ part.
+            AnswersAs self.old.nfa (kind_in self.old) (search_of input.entry) (search_of part))) }
+        ensures same { self.new ≡ self.old }
+    {
         laws::windows_answer();
         match self.dfa.try_find_window(&mut self.cache, input) {
             Ok(None) => Ok(None),
@@ -102,6 +117,27 @@ impl Regex {
         }
     }
 
+    /// Returns the match of the search, which is not anchored or has no answer by the lazy DFA: of a window, or else of
+    /// the whole span.
+    pub(super) fn find_by_window<'h>(&mut self, input: Input<'h>) -> Option<Match>
+        ensures answer { let x = search_of input.entry in
+            IsFindAnswer self.old.nfa (kind_in self.old) x.earliest x (option_map found_of result) }
+        ensures pattern { IfSome result (λ m. (found_of m).pattern < length self.old.nfa.patterns) }
+        ensures inside { IfSome result (λ m. IsInside (search_of input.entry) (found_of m)) }
+        ensures runs { RunsByWindow (search_of input.entry) self.old self.new }
+        ensures holds { HoldsNoMore (2 * length self.old.nfa.groups) self.old.back self.new.back }
+        ensures keeps { KeepsEngines self.old self.new }
+    {
+        match self.window(input) {
+            Ok(None) => None,
+            Ok(Some(window)) => match self.find_near_start(window) {
+                Some(found) => Some(found),
+                None => self.choice.find(window),
+            },
+            Err(NoWindow) => self.choice.find(input),
+        }
+    }
+
     /// Returns the match of a window's search, if the lazy DFA finds it at one of the first starts whose byte a match
     /// may begin with.
     pub(super) fn find_near_start<'h>(&mut self, window: Input<'h>) -> Option<Match>
@@ -114,7 +150,7 @@ impl Regex {
         bytes_may_be_skipped();
         let mut at = window.start();
         for _ in 0..TRIES {
-            at = self.next_start(&window, at);
+            at = self.next_start(&window, at, window.end());
             if let Some(found) = self.find_at_start(window, at)? {
                 return Some(found);
             }
@@ -124,42 +160,5 @@ impl Regex {
             at += 1;
         }
         None
-    }
-
-    /// Returns the first position of a window, from one on before which nothing matches, whose byte a match may begin
-    /// with. Returns the window's end if there is none, or the position if it is not in the window.
-    fn next_start(&self, window: &Input<'_>, from: usize) -> usize
-        requires first { IsFirstStart self.now.nfa (search_of window.now) from }
-        requires within { from ≤ (search_of window.now).end + 1 }
-        ensures first { IsFirstStart self.now.nfa (search_of window.now) result }
-        ensures within { result ≤ (search_of window.now).end + 1 }
-    {
-        bytes_may_be_skipped();
-        let haystack = window.haystack();
-        let end = window.end();
-        let mut at = from;
-        while at < end && !self.may_begin(haystack[at]) {
-            at += 1;
-        }
-        at
-    }
-
-    /// Returns the match of a window's search, if the lazy DFA finds one at this start, before which nothing matches.
-    /// Returns `Some(None)` if nothing matches at this start either, and `None` if the lazy DFA has no answer.
-    fn find_at_start<'h>(&mut self, window: Input<'h>, at: usize) -> Option<Option<Match>>
-        requires windowed { IsWindowed self.old.nfa (search_of window) }
-        requires first { IsFirstStart self.old.nfa (search_of window) at }
-        requires within { at ≤ (search_of window).end + 1 }
-        ensures answer { let x = search_of window.entry in IfSome result (λ found. IfSome found (λ m.
-            IsFindAnswer self.old.nfa (kind_in self.old) x.earliest x (Some (found_of m)))) }
-        ensures pattern { IfSome result (λ found.
-            IfSome found (λ m. (found_of m).pattern < length self.old.nfa.patterns)) }
-        ensures moves { IfSome result (λ found.
-            IfNone found (IsFirstStart self.old.nfa (search_of window.entry) (at + 1))) }
-        ensures same { self.new ≡ self.old }
-    {
-        let _ = &self.dfa;
-        first_start_answers();
-        self.find_anchored(window.range(at..window.end()).anchored(Anchored::Yes))
     }
 }

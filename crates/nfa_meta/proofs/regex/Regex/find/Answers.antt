@@ -1,5 +1,5 @@
 -- A match that the lazy DFA finds is inside the span, and names a pattern.
-use Rattle.std.proofs.Common.{rules, ◌∙◌, Some, arith}
+use Rattle.std.proofs.Common.{rules, Some, arith}
 use Rattle.std.proofs.lemmas.Grind.{common_steps}
 use Rattle.regex_search_core.specs.Found.{found_of}
 use Rattle.regex_search_core.specs.Search.{search_of}
@@ -17,15 +17,14 @@ returns-in-Some-clause-inside c =
     let x = search_of c.args.input in
     inside-of r.nfa (kind_in r) x.earliest x c.in-Some.found (rw c.in-Some.is at c.find_anchored.ensures.answer)
 
-pub returns-in-Some-find_near_start-clause-pattern : goal.returns-in-Some-find_near_start-clause-pattern
-returns-in-Some-find_near_start-clause-pattern c =
-    let same = c.window.ensures.same ∙ c.find_anchored.ensures.same in
-    rw same at (rw c.in-Some-find_near_start.is at c.find_near_start.ensures.pattern)
+pub returns-in-Some-find_at_first-clause-pattern : goal.returns-in-Some-find_at_first-clause-pattern
+returns-in-Some-find_at_first-clause-pattern c =
+    rw c.find_anchored.ensures.same at (rw c.in-Some-find_at_first.is at c.find_at_first.ensures.pattern)
 
-pub returns-in-Some-find_near_start-clause-inside : goal.returns-in-Some-find_near_start-clause-inside
-returns-in-Some-find_near_start-clause-inside c =
+pub returns-in-Some-find_at_first-clause-inside : goal.returns-in-Some-find_at_first-clause-inside
+returns-in-Some-find_at_first-clause-inside c =
     let r = c.args.self.now in
     let x = search_of c.args.input in
-    let answer : IsFindAnswer r.nfa (kind_in r) x.earliest x (Some (found_of c.in-Some-find_near_start.found)) =
+    let answer : IsFindAnswer r.nfa (kind_in r) x.earliest x (Some (found_of c.in-Some-find_at_first.found)) =
     first_of (search rules, grind (arith, common_steps)) in
-    inside-of r.nfa (kind_in r) x.earliest x (Some c.in-Some-find_near_start.found) answer
+    inside-of r.nfa (kind_in r) x.earliest x (Some c.in-Some-find_at_first.found) answer

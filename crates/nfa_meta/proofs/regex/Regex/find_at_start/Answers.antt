@@ -1,5 +1,5 @@
--- The match of the anchored search at a start before which nothing matches is that of the window.
-use Rattle.std.proofs.Common.{rules, ◌≡◌, arith, false, option_map}
+-- The match of the anchored search at a start before which nothing matches is that of the search.
+use Rattle.std.proofs.Common.{rules, ◌≡◌, arith, option_map}
 use Rattle.std.proofs.lemmas.Grind.{common_steps}
 use Rattle.std.specs.Prelude.{IfNone, IfSome}
 use Rattle.regex_search_core.specs.Found.{found_of}
@@ -14,18 +14,18 @@ use Rattle.nfa_meta.proofs.regex.Regex.find_at_start.Goals as goal
 
 pub returns-clause-answer : goal.returns-clause-answer
 returns-clause-answer c =
-    let x = search_of c.args.window in
+    let x = search_of c.args.input in
     let r = c.args.self.now in
     let first : kind_in r ≡ LeftmostFirst = first_of (search rules, grind (arith, common_steps)) in
     let answer : IfSome c.find_anchored.result (λ found.
     IsFindAnswer r.nfa (kind_in r) x.earliest (anchored_at x c.args.at) (option_map found_of found)) =
     first_of (search rules, grind (arith, common_steps)) in
-    found-at-start r.nfa (kind_in r) x.earliest x c.args.at first c.requires.windowed c.requires.windowed.last
-    c.requires.first c.first_start_answers.ensures.matches c.find_anchored.result answer
+    found-at-start r.nfa (kind_in r) x.earliest x c.args.at first c.requires.anywhere c.requires.anywhere.last
+    c.requires.first c.first_starts_answer.ensures c.find_anchored.result answer
 
 pub returns-clause-moves : goal.returns-clause-moves
-returns-clause-moves c =
-    let x = search_of c.args.window in
+returns-clause-moves c = λ anywhere.
+    let x = search_of c.args.input in
     let r = c.args.self.now in
     let nothing : IfSome c.find_anchored.result (λ found.
     IfNone found (MatchesNothing r.nfa (anchored_at x c.args.at))) =

@@ -6,12 +6,12 @@ use Rattle.nfa_meta.proofs.regex.Regex.next_start.Goals as goal
 
 pub loop-at-preserved : goal.loop-at-preserved
 loop-at-preserved c =
-    let x = search_of c.args.window.now in
-    let fits : c.args.window.now.span.end ≤ length c.args.window.now.haystack.now = omega arith in
-    let inside : c.loop-at.at < c.args.window.now.span.end =
-    omega (arith, c.loop-at-test.true, c.end-end.ensures.value)
+    let x = search_of c.args.input.now in
+    let fits : c.args.input.now.span.end ≤ length c.args.input.now.haystack.now = omega arith in
+    let inside : c.loop-at.at < c.args.input.now.span.end =
+    omega (arith, c.loop-at-test.true, c.requires.until)
     in
-    let byte = get_or c.args.window.now.haystack.now c.loop-at.at 0 in
+    let byte = get_or c.args.input.now.haystack.now c.loop-at.at 0 in
     let none = rw c.haystack-haystack.ensures at (c.may_begin.ensures.nothing c.if-not-may_begin.true) in
     record {
       first =

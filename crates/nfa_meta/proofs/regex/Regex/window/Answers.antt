@@ -1,50 +1,33 @@
--- A window has the answers of the input, and without one nothing matches.
-use Rattle.std.proofs.Common.{rules, ◌≡◌, arith}
-use Rattle.std.proofs.lemmas.Grind.{common_steps}
-use Rattle.std.specs.Prelude.{None, Some}
+-- The window of what is left of the input is that of the input.
 use Rattle.regex_search_core.specs.Search.{search_of}
-use Rattle.regex_search_core.specs.declared.search.MatchKind.TheVariants.{LeftmostFirst}
-use Rattle.nfa_paths.specs.Paths.{IsHalfAnswer}
 use Rattle.nfa_choice.specs.ChoiceState.{kind_in}
-use Rattle.nfa_lazy_dfa.specs.Windows.{IsWindow, half_in, start_in}
-use Rattle.nfa_meta.specs.WindowLaws.{within}
-use Rattle.nfa_meta.specs.Windowed.{IsWindowed}
-use Rattle.nfa_meta.proofs.WindowLemmas.{none-match, window-answers}
+use Rattle.nfa_meta.specs.WindowRuns.{AnswersAs, IsWindowOf}
+use Rattle.nfa_meta.proofs.WindowLemmas.{answers-on, nothing-on, part-on}
 use Rattle.nfa_meta.proofs.regex.Regex.window.Goals as goal
-use Rattle.nfa_meta.proofs.regex.Regex.window.Goals.{in-Ok-None, in-Ok-Some, in-Err}
 
-pub returns-clause-nothing : goal.returns-clause-nothing
-returns-clause-nothing c =
-    let x = search_of c.args.input in
+pub returns-in-Some-clause-nothing : goal.returns-in-Some-clause-nothing
+returns-in-Some-clause-nothing c =
     let r = c.args.self.now in
-    let windowed : IsWindowed r.nfa x = first_of (search rules, grind (arith, common_steps)) in
-    elim c.match-try_find_window.branch [
-      | in-Ok-None w ↦
-          let half : IsHalfAnswer r.nfa (kind_in r) x.earliest x None =
-          first_of (search rules, grind (arith, common_steps)) in
-          rw w.result-is (none-match r.nfa (kind_in r) x windowed.unbound.anywhere half)
-      | in-Ok-Some w ↦ rw w.result-is tt
-      | in-Err w ↦ rw w.result-is tt
-    ]
+    let x = search_of c.args.input in
+    let y = search_of c.in-Some.rest in
+    let of : IsWindowOf r.nfa x y = rw c.in-Some.is at c.from_prefix.ensures.part in
+    let answers : AnswersAs r.nfa (kind_in r) x y = rw c.in-Some.is at c.from_prefix.ensures.answers in
+    nothing-on r.nfa (kind_in r) x y of answers c.window_in.result c.window_in.ensures.nothing
 
-pub returns-clause-answers : goal.returns-clause-answers
-returns-clause-answers c =
-    let x = search_of c.args.input in
+pub returns-in-Some-clause-part : goal.returns-in-Some-clause-part
+returns-in-Some-clause-part c =
     let r = c.args.self.now in
-    let first : kind_in r ≡ LeftmostFirst = first_of (search rules, grind (arith, common_steps)) in
-    let windowed : IsWindowed r.nfa x = first_of (search rules, grind (arith, common_steps)) in
-    elim c.match-try_find_window.branch [
-      | in-Ok-None w ↦ rw w.result-is tt
-      | in-Ok-Some w ↦
-          let y = search_of w.range.result in
-          let v = w.in-Ok-Some.window in
-          let window : IsWindow r.nfa x v = first_of (search rules, grind (arith, common_steps)) in
-          let half : IsHalfAnswer r.nfa (kind_in r) x.earliest x (Some (half_in v)) =
-          first_of (search rules, grind (arith, common_steps)) in
-          let is : y ≡ within x (start_in v) (half_in v).offset =
-          first_of (search rules, grind (arith, common_steps)) in
-          rw w.result-is
-          (window-answers r.nfa x y v windowed window is c.windows_answer.ensures.answers
-          c.windows_answer.ensures.matches (kind_in r) first half)
-      | in-Err w ↦ rw w.result-is tt
-    ]
+    let x = search_of c.args.input in
+    let y = search_of c.in-Some.rest in
+    let of : IsWindowOf r.nfa x y = rw c.in-Some.is at c.from_prefix.ensures.part in
+    let answers : AnswersAs r.nfa (kind_in r) x y = rw c.in-Some.is at c.from_prefix.ensures.answers in
+    part-on r.nfa (kind_in r) x y of answers c.window_in.result c.window_in.ensures.part
+
+pub returns-in-Some-clause-answers : goal.returns-in-Some-clause-answers
+returns-in-Some-clause-answers c =
+    let r = c.args.self.now in
+    let x = search_of c.args.input in
+    let y = search_of c.in-Some.rest in
+    let of : IsWindowOf r.nfa x y = rw c.in-Some.is at c.from_prefix.ensures.part in
+    let answers : AnswersAs r.nfa (kind_in r) x y = rw c.in-Some.is at c.from_prefix.ensures.answers in
+    answers-on r.nfa (kind_in r) x y of answers c.window_in.result c.window_in.ensures.answers

@@ -1,14 +1,47 @@
--- The match is the answer of the search.
+-- A known match is the answer. Otherwise it is the search's, which may give the match that is known then.
+use Rattle.std.proofs.Common.{rules, ◌∙◌, Option, option_map, subst, sym}
+use Rattle.regex_search_core.specs.Found.{found_of}
 use Rattle.regex_search_core.specs.Search.{search_of}
-use Rattle.nfa_choice.specs.ChoiceState.{kind_in}
-use Rattle.nfa_search_base.proofs.EngineLemmas.{find-answered}
+use Rattle.regex_search_core.specs.declared.search.Match.{Match}
+use Rattle.nfa_paths.specs.Paths.{IsFindAnswer}
+use Rattle.nfa_search_base.proofs.EngineLemmas.{find-answered, known-answer, known-kept}
+use Rattle.nfa_search_base.specs.EngineSearches.{IsKnownFrom}
+use Rattle.nfa_pikevm.specs.Engines.{Pike}
+use Rattle.nfa_pikevm.specs.Finding.{IsSureOf}
+use Rattle.nfa_pikevm.proofs.FindLemmas.{finds-sure, pike_finder}
+use Rattle.nfa_choice.specs.ChoiceState.{kind_in, pike_of}
+use Rattle.nfa_choice.proofs.FindLemmas.{pike-kept}
+use Rattle.nfa_meta.proofs.MatchesLemmas.{known-work}
 use Rattle.nfa_meta.proofs.regex.find_iter.ByWindowFindWith.answer.Goals as goal
+
+pub returns-then-is_some : goal.returns-then-is_some
+returns-then-is_some c =
+    let r = c.args.regex.now in
+    let x = search_of c.args.input.now in
+    record {
+      tells = known-answer pike_finder (pike_of r) x c.args.self.now.known c.ending_at-known.result c.requires
+          (λ m is. let k = c.ending_at-known.ensures.kept m is in (k.0, k.1 ∙ c.start.ensures)) (search rules);
+      work = known-work x r;
+      knows = c.requires;
+    }
 
 pub returns : goal.returns
 returns c =
-    let e = c.find.ensures in
+    let r = c.args.regex.now in
+    let found = c.find-found.result in
+    let e = c.find-found.ensures in
     let x = search_of c.args.input.now in
     record {
-      tells = find-answered c.args.regex.now.nfa (kind_in c.args.regex.now) x.earliest x c.find.result e.answer;
+      tells = find-answered r.nfa (kind_in r) x.earliest x found e.answer;
       work = record { runs = e.runs; holds = e.holds; keeps = e.keeps };
+      knows =
+          subst (λ (vm : Pike). IsKnownFrom IsSureOf vm x c.ending_at-self.result)
+          (sym (pike-kept r c.find-found.new.self e.keeps))
+          (known-kept pike_finder (pike_of r) x x.start c.ending_at-self.result (λ m is.
+          let k = c.ending_at-self.ensures.kept m is in (
+            finds-sure (pike_of r) x (found_of m)
+                (subst (λ (o : Option Match). IsFindAnswer r.nfa (kind_in r) x.earliest x (option_map found_of o)) k.0
+                e.answer),
+            k.1 ∙ c.start-2.ensures,
+          )));
     }

@@ -1,14 +1,20 @@
--- A step may be made, and never errs.
+-- A step may be made, never errs, and leaves what the iterator keeps.
 use Rattle.regex_search_core.specs.Found.{found_of}
-use Rattle.nfa_search_base.specs.Serving.{may_ask}
+use Rattle.nfa_search_base.specs.WithCache.{with_cache}
 use Rattle.nfa_search_base.specs.StepsWith.{steps_with_state}
 use Rattle.nfa_search_base.specs.IterStates.{span_of}
 use Rattle.nfa_search_base.proofs.StoredLemmas.{surely-inside}
-use Rattle.nfa_meta.specs.Matches.{AsksByWindow, finds_steps}
-use Rattle.nfa_meta.proofs.MatchesLemmas.{regex-serves}
+use Rattle.nfa_meta.specs.Matches.{AsksByWindow, MayFindByWindow, finds_steps}
+use Rattle.nfa_meta.proofs.MatchesLemmas.{regex-serves, step-goes}
 use Rattle.nfa_meta.proofs.regex.find_iter.FindMatchesIterator.next.Goals as goal
 
 pub next_with-requires : goal.next_with-requires
-next_with-requires c = surely-inside may_ask AsksByWindow span_of found_of
+next_with-requires c = surely-inside MayFindByWindow AsksByWindow span_of found_of
     (steps_with_state (finds_steps c.args.self.now))
-    (regex-serves (steps_with_state (finds_steps c.args.self.now)))
+    (regex-serves c.args.self.now)
+
+pub invariant_of-self : goal.invariant_of-self
+invariant_of-self c = record {
+  knows = step-goes c.args.self.now c.next_with.result (with_cache c.next_with.new.self c.next_with.new.cache)
+      c.next_with.ensures;
+}

@@ -1,0 +1,50 @@
+-- A window has the answers of the input, and without one nothing matches.
+use Rattle.std.proofs.Common.{rules, ◌≡◌, arith}
+use Rattle.std.proofs.lemmas.Grind.{common_steps}
+use Rattle.std.specs.Prelude.{None, Some}
+use Rattle.regex_search_core.specs.Search.{search_of}
+use Rattle.regex_search_core.specs.declared.search.MatchKind.TheVariants.{LeftmostFirst}
+use Rattle.nfa_paths.specs.Paths.{IsHalfAnswer}
+use Rattle.nfa_choice.specs.ChoiceState.{kind_in}
+use Rattle.nfa_lazy_dfa.specs.Windows.{IsWindow, half_in, start_in}
+use Rattle.nfa_meta.specs.WindowLaws.{within}
+use Rattle.nfa_meta.specs.Windowed.{IsWindowed}
+use Rattle.nfa_meta.proofs.WindowLemmas.{none-match, window-answers}
+use Rattle.nfa_meta.proofs.regex.Regex.window_in.Goals as goal
+use Rattle.nfa_meta.proofs.regex.Regex.window_in.Goals.{in-Ok-None, in-Ok-Some, in-Err}
+
+pub returns-clause-nothing : goal.returns-clause-nothing
+returns-clause-nothing c =
+    let x = search_of c.args.input in
+    let r = c.args.self.now in
+    let windowed : IsWindowed r.nfa x = first_of (search rules, grind (arith, common_steps)) in
+    elim c.match-try_find_window.branch [
+      | in-Ok-None w ↦
+          let half : IsHalfAnswer r.nfa (kind_in r) x.earliest x None =
+          first_of (search rules, grind (arith, common_steps)) in
+          rw w.result-is (none-match r.nfa (kind_in r) x windowed.unbound.anywhere half)
+      | in-Ok-Some w ↦ rw w.result-is tt
+      | in-Err w ↦ rw w.result-is tt
+    ]
+
+pub returns-clause-answers : goal.returns-clause-answers
+returns-clause-answers c =
+    let x = search_of c.args.input in
+    let r = c.args.self.now in
+    let first : kind_in r ≡ LeftmostFirst = first_of (search rules, grind (arith, common_steps)) in
+    let windowed : IsWindowed r.nfa x = first_of (search rules, grind (arith, common_steps)) in
+    elim c.match-try_find_window.branch [
+      | in-Ok-None w ↦ rw w.result-is tt
+      | in-Ok-Some w ↦
+          let y = search_of w.range.result in
+          let v = w.in-Ok-Some.window in
+          let window : IsWindow r.nfa x v = first_of (search rules, grind (arith, common_steps)) in
+          let half : IsHalfAnswer r.nfa (kind_in r) x.earliest x (Some (half_in v)) =
+          first_of (search rules, grind (arith, common_steps)) in
+          let is : y ≡ within x (start_in v) (half_in v).offset =
+          first_of (search rules, grind (arith, common_steps)) in
+          rw w.result-is
+          (window-answers r.nfa x y v windowed window is c.windows_answer.ensures.answers
+          c.windows_answer.ensures.matches (kind_in r) first half)
+      | in-Err w ↦ rw w.result-is tt
+    ]

@@ -1,0 +1,124 @@
+//! The first start of a search at which it may match.
+ghost use Rattle.std.specs.Prelude.{◌≡◌, ◌+◌, ◌<◌, ◌≤◌, IfNone, IfSome, Some, false, length, true};
+ghost use Rattle.regex_search_core.specs.Found.{found_of};
+ghost use Rattle.regex_search_core.specs.Search.{search_of};
+ghost use Rattle.nfa_paths.specs.Paths.{IsFindAnswer, is_utf8_empty};
+ghost use Rattle.nfa_engines.specs.StartLaws.{IsFirstStart};
+ghost use Rattle.nfa_choice.specs.ChoiceState.{kind_in};
+ghost use Rattle.nfa_meta.specs.FirstStarts.{StartsAnywhere};
+
+use crate::laws;
+use crate::regex::Regex;
+use nfa_engines::laws::bytes_may_be_skipped;
+use regex_search_core::{Anchored, Input, Match};
+
+/// The number of bytes that a search passes over to its first start, before it leaves the rest to a window.
+const REACH: usize = 8;
+
+impl Regex {
+    /// Whether a match of the search may start anywhere in its span, and the first of all paths counts.
+    pub(super) fn starts_anywhere(&self, input: &Input<'_>) -> bool
+        ensures { result ≡ true → StartsAnywhere self.now.nfa (search_of input.now) }
+    {
+        !input.get_earliest()
+            && !input.get_anchored().is_anchored()
+            && !self.choice.get_nfa().is_always_start_anchored()
+    }
+
+    /// Returns the first position of a span, from one on before which nothing matches, whose byte a match may begin
+    /// with. Returns `until` if there is none before it, or the position if it is not before that.
+    pub(super) fn next_start(&self, input: &Input<'_>, from: usize, until: usize) -> usize
+        requires first { IsFirstStart self.now.nfa (search_of input.now) from }
+        requires within { from ≤ (search_of input.now).end + 1 }
+        requires until { until ≤ (search_of input.now).end }
+        ensures first { IsFirstStart self.now.nfa (search_of input.now) result }
+        ensures within { result ≤ (search_of input.now).end + 1 }
+    {
+        bytes_may_be_skipped();
+        let haystack = input.haystack();
+        let mut at = from;
+        while at < until && !self.may_begin(haystack[at]) {
+            at += 1;
+        }
+        at
+    }
+
+    /// Returns the first position of the span whose byte a match may begin with, or one near the start before which
+    /// nothing matches.
+    pub(super) fn first_start(&self, input: &Input<'_>) -> usize
+        ensures first { IsFirstStart self.now.nfa (search_of input.now) result }
+        ensures within { result ≤ (search_of input.now).end + 1 }
+    {
+        bytes_may_be_skipped();
+        let start = input.start();
+        let end = input.end();
+        let until = start.saturating_add(REACH).min(end);
+        self.next_start(input, start, until)
+    }
+
+    /// Returns the match of a search, if the lazy DFA finds one at this start, before which nothing matches. Returns
+    /// `Some(None)` if it finds none there, and `None` if it has no answer.
+    pub(super) fn find_at_start<'h>(&mut self, input: Input<'h>, at: usize) -> Option<Option<Match>>
+        requires anywhere { StartsAnywhere self.old.nfa (search_of input) }
+        requires first { IsFirstStart self.old.nfa (search_of input) at }
+        requires within { at ≤ (search_of input).end + 1 }
+        ensures answer { let x = search_of input.entry in IfSome result (λ found. IfSome found (λ m.
+            IsFindAnswer self.old.nfa (kind_in self.old) x.earliest x (Some (found_of m)))) }
+        ensures pattern { IfSome result (λ found.
+            IfSome found (λ m. (found_of m).pattern < length self.old.nfa.patterns)) }
+        ensures moves { is_utf8_empty self.old.nfa ≡ false → IfSome result (λ found.
+            IfNone found (IsFirstStart self.old.nfa (search_of input.entry) (at + 1))) }
+        ensures same { self.new ≡ self.old }
+    {
+        let _ = &self.dfa;
+        laws::first_starts_answer();
+        self.find_anchored(input.range(at..input.end()).anchored(Anchored::Yes))
+    }
+
+    /// Returns the match of a search, if the last one matched at its first start, and so does this one by the lazy DFA.
+    pub(super) fn find_at_first<'h>(&mut self, input: Input<'h>) -> Option<Match>
+        ensures answer { let x = search_of input.entry in IfSome result (λ m.
+            IsFindAnswer self.old.nfa (kind_in self.old) x.earliest x (Some (found_of m))) }
+        ensures pattern { IfSome result (λ m. (found_of m).pattern < length self.old.nfa.patterns) }
+        ensures same { self.new ≡ self.old }
+    {
+        if !self.matched_at_first || !self.starts_anywhere(&input) {
+            return None;
+        }
+        let at = self.first_start(&input);
+        if !self.begins_at(&input, at) {
+            return None;
+        }
+        self.find_at_start(input, at)?
+    }
+
+    /// Whether a match may begin at the position: not inside a codepoint, and with its byte or at the end of the span.
+    fn begins_at(&self, input: &Input<'_>, at: usize) -> bool {
+        input.is_char_boundary(at) && (at >= input.end() || self.may_begin(input.haystack()[at]))
+    }
+
+    /// Whether the match is at the first start of its search, so that the next one may be, too. After a search that
+    /// began inside a codepoint, this is what it was before.
+    pub(super) fn is_at_first(&self, input: &Input<'_>, found: Option<Match>) -> bool {
+        let Some(found) = found else {
+            return false;
+        };
+        if !input.is_char_boundary(input.start()) {
+            return self.matched_at_first;
+        }
+        match input.haystack().get(input.start()..found.start()) {
+            Some(passed) => passed.len() <= REACH && !self.begins_among(passed),
+            None => false,
+        }
+    }
+
+    /// Whether a match may begin with one of the bytes.
+    fn begins_among(&self, bytes: &[u8]) -> bool {
+        for byte in bytes {
+            if self.may_begin(*byte) {
+                return true;
+            }
+        }
+        false
+    }
+}
