@@ -18,12 +18,12 @@ splitn   prints at most LIMIT fields of a line. The last one is the rest of it.
 In TEMPLATE, $1, $name and ${name} are what a group matched, and $$ is a dollar.
 Standard input is read if there is no file, and for the file `-`.
 
---in-place[=SUFFIX]  prints nothing, but puts what would be printed of each file in its place. There must be files, and
-         `-` is none. All is written to a new file NAME.replacer-0 in the same folder, or if that is there, up to 99. The
-         new file gets the owner, the group and the permissions of the old one, and is renamed over it. With SUFFIX, the
-         old file stays under NAME and SUFFIX; if there is such a file, that is an error. After an error the old file is
-         as it was, and the new one is removed. Times, access lists and other attributes are not kept, and other hard
-         links stay links to the old file. A symbolic link stays, and the file to which it leads is replaced.
+--in-place[=SUFFIX]  prints nothing, but puts what would be printed of each file in its place. There must be files,
+         and `-` is none. All is written to a new file in its folder, NAME.replacer-0, or up to 99 if that is there.
+         The new file gets the owner, the group and the permissions of the old one, and is renamed over it. With SUFFIX
+         the old file stays under NAME and SUFFIX; if there is such a file, that is an error. After an error the old
+         file is as it was, and the new one is removed. Times, access lists and other attributes are not kept, and
+         other hard links stay links to the old file. A symbolic link stays, and the file to which it leads is replaced.
 
 Status: 0 if the output was written, 1 if a file cannot be read, the output cannot be written or there is no memory,
 2 if the arguments, the pattern or the template are wrong.";

@@ -11,8 +11,8 @@ use text_lines::failure::Failure;
 const NAME_COUNT: u32 = 100;
 
 /// Does the job for each of these files, in order, and puts the result in its place. With a suffix, the old file stays
-/// under its name with the suffix. A file for which that fails is as it was, and is named on standard error, and the next
-/// one is read. Returns whether there was such a file.
+/// under its name with the suffix. A file for which that fails is as it was, and is named on standard error, and the
+/// next one is read. Returns whether there was such a file.
 pub fn replace_files(
     rt: &HostRuntime,
     job: &mut Job<'_>,
