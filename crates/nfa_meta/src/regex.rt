@@ -143,8 +143,7 @@ impl Regex {
         })
     }
 
-    /// Returns the settings that the regex was built with. A regex that was built from an NFA keeps the settings of NFAs,
-    /// too, which have no effect.
+    /// Returns the settings that the regex was built with. If it was built from an NFA, those of NFAs had no effect.
     ///
     /// ```
     /// let config = Regex::config().hybrid_cache_capacity(100_000);
@@ -211,11 +210,13 @@ impl Regex {
 
     /// Returns the match that a search of the input finds, in byte offsets into the haystack.
     ///
-    /// If the last match was at the first start of its search, the lazy DFA looks for the match there. Otherwise it finds
-    /// the end of the match and a window that holds it, and then searches from the first starts of the window. If the match starts at none of them, the [`Choice`] searches the window. So the work of the slower
-    /// engines depends on the window, and not on the haystack. There is no window if the search is anchored or
-    /// `earliest`, if the NFA is anchored, or if it can match the empty string and is in UTF-8 mode. The DFA alone then
-    /// answers an anchored search. The [`Choice`] searches the whole input otherwise, and if the DFA stops.
+    /// If the last match was at the first start of its search, the lazy DFA tries the first start of this one. If it
+    /// does not match there, it finds the end of the match and a window that holds it, from the first place on where
+    /// the bytes occur that each match begins with, and searches from the first starts of the window. If the match
+    /// starts at none of them, the [`Choice`] searches the window. So the work of the slower engines depends on the
+    /// window, and not on the haystack. There is no window if the search is anchored or `earliest`, if the NFA is
+    /// anchored, or if it can match the empty string and is in UTF-8 mode. The DFA alone then answers an anchored
+    /// search. The [`Choice`] searches the whole input otherwise, and if the DFA stops.
     ///
     /// ```
     /// // regex of "foo[0-9]+"

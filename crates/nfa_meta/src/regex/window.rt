@@ -53,7 +53,8 @@ impl Regex {
         }
     }
 
-    /// Returns the window of the lazy DFA that has the answer of a search that has windows. Returns `None` in it if nothing matches.
+    /// Returns the window of the lazy DFA that has the answer of a search that has windows. Returns `None` in it if
+    /// nothing matches.
     fn window_in<'h>(&mut self, input: Input<'h>) -> Result<Option<Input<'h>>, NoWindow>
         requires windowed { IsWindowed self.old.nfa (search_of input) }
         ensures nothing { IfOk result (λ window.
