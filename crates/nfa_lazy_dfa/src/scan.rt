@@ -1,6 +1,6 @@
 //! A scan, row by row.
 ghost use Rattle.std.specs.Prelude.{◌≡◌, ℕ, ◌+◌, ◌-◌, ◌<◌, ◌≤◌, IfErr, IfOk, IfSome, OnErr, OnOk, Option, Some, true};
-ghost use Rattle.std.specs.Prelude.{if◌then◌else◌, length, option_map, slice_get, slice_index, vec_len};
+ghost use Rattle.std.specs.Prelude.{◌∷◌, [], if◌then◌else◌, length, option_map, slice_get, slice_index, vec_len};
 ghost use Rattle.regex_search_core.specs.Found.{half_found_of};
 ghost use Rattle.regex_search_core.specs.Patterns.{number_of};
 ghost use Rattle.regex_search_core.specs.Search.{search_of};
@@ -11,7 +11,7 @@ ghost use Rattle.nfa_lazy_dfa.specs.Assertions.{IsRead, SameLooks, byte_before, 
 ghost use Rattle.nfa_lazy_dfa.specs.Capacities.{HasToScan, IsUsedUpAt, StopsAtStart, first_row_memory};
 ghost use Rattle.nfa_lazy_dfa.specs.Reads.{HasRead, IsOver};
 ghost use Rattle.nfa_lazy_dfa.specs.Rows.{IsAt, IsFor, IsRowOf, LeadsTo, Scans, Spends, steps_of};
-ghost use Rattle.nfa_lazy_dfa.specs.Stances.{hit_here};
+ghost use Rattle.nfa_lazy_dfa.specs.Stances.{Stance, hit_here};
 ghost use Rattle.nfa_lazy_dfa.specs.Stops.{IsInSpan, IsStop};
 
 use crate::cache::{Cache, ROW_CELLS, UNKNOWN};
@@ -99,6 +99,7 @@ pub fn first_row(
     requires order { (search_of input.now).start ≤ (search_of input.now).end }
     ensures own { IsFor cache.new dfa.now }
     ensures at { let x = search_of input.now in IfOk result (IsAt dfa.now cache.new x x.start) }
+    ensures alone { IfOk result (λ row. (s : Stance) → IsRowOf cache.new row s → s.states ≡ start ∷ []) }
     ensures spends { Spends cache.old cache.new 0 1 }
     ensures stops { IfErr result (IsStop dfa.now.nfa (search_of input.now)) }
     ensures full { IfErr result (IsUsedUpAt cache.new dfa.now) }

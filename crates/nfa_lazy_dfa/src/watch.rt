@@ -8,9 +8,9 @@
 ghost use Rattle.std.specs.Prelude.{◌≡◌, ◌+◌, ◌-◌, ◌%◌, ◌≤◌, ◌∷◌, [], IsTrue, None, true};
 ghost use Rattle.regex_search_core.specs.Search.{search_of};
 ghost use Rattle.nfa_lazy_dfa.specs.Places.{IsFoundAt};
-ghost use Rattle.nfa_lazy_dfa.specs.Rows.{IsFor, Spends, steps_of};
+ghost use Rattle.nfa_lazy_dfa.specs.Rows.{IsFor, IsRowOf, Spends, steps_of};
 ghost use Rattle.nfa_lazy_dfa.specs.Runs.{place_at};
-ghost use Rattle.nfa_lazy_dfa.specs.Stances.{stance_of};
+ghost use Rattle.nfa_lazy_dfa.specs.Stances.{Stance, stance_of};
 ghost use Rattle.nfa_lazy_dfa.specs.Watches.{IsBegun, IsIdlePlace, IsWatching};
 
 use crate::cache::{Cache, MATCHED, ROW_CELLS, UNKNOWN};
@@ -115,16 +115,23 @@ fn likely_idle(dfa: &DFA, cache: &Cache, input: &Input<'_>, at: usize, first: u3
     ensures idle { IsIdlePlace dfa.now cache.now result }
 {
     let [newer, older] = cache.idles;
-    let is_older = dfa.looks
-        && at < input.end()
-        && cell_at(dfa, cache, input, at, first, None) == older;
+    let is_older = at < input.end() && cell_at(dfa, cache, input, at, first, None) == older;
     let likely = if is_older { older } else { newer };
     idle_place(dfa, cache, likely / ROW_CELLS as u32)
 }
 
-/// The watch at the start of a scan.
-pub fn first_watch(dfa: &DFA, cache: &Cache, input: &Input<'_>, place: Place) -> Watch
+/// The watch at the start of a scan, in a row whose only state is `start`. An NFA without assertions has no other idle
+/// row that a scan comes to before a match.
+#[inline(always)]
+pub fn first_watch(
+    dfa: &DFA,
+    cache: &Cache,
+    input: &Input<'_>,
+    place: Place,
+    start: StateID,
+) -> Watch
     requires own { IsFor cache.now dfa.now }
+    requires alone { (s : Stance) → IsRowOf cache.now place.row s → s.states ≡ start ∷ [] }
     requires apart { dfa.now.apart ≡ true }
     requires found { place.found ≡ None }
     requires start { place.at ≡ (search_of input.now).start }
@@ -132,15 +139,24 @@ pub fn first_watch(dfa: &DFA, cache: &Cache, input: &Input<'_>, place: Place) ->
     ensures watching { IsWatching dfa.now cache.now (search_of input.now) result }
     ensures at { result.at ≡ place.at }
 {
+    let at = place.at;
     let first = place.row * ROW_CELLS as u32;
-    let idle = likely_idle(dfa, cache, input, place.at, first);
+    if !dfa.looks && start == dfa.nfa.start_anchored() {
+        return Watch {
+            at,
+            first,
+            start: at,
+            idle: first,
+        };
+    }
+    let idle = likely_idle(dfa, cache, input, at, first);
     if idle == UNKNOWN {
-        return watch_at(dfa, cache, input, place, place.at, UNKNOWN);
+        return watch_at(dfa, cache, input, place, at, UNKNOWN);
     }
     Watch {
-        at: place.at,
+        at,
         first,
-        start: place.at,
+        start: at,
         idle,
     }
 }

@@ -141,7 +141,7 @@ fn scan_window(dfa: &DFA, cache: &mut Cache, input: &Input<'_>) -> Result<Option
         row,
         found: None,
     };
-    let from = first_watch(dfa, cache, input, place);
+    let from = first_watch(dfa, cache, input, place, start);
     window_from(dfa, cache, input, from)
 }
 

@@ -1,9 +1,18 @@
 -- The first row is that of the start, after a byte like the one before the span.
-use Rattle.std.proofs.Common.{rules, arith}
+use Rattle.std.proofs.Common.{rules, ap, arith}
+use Rattle.std.specs.Prelude.{slice_get}
 use Rattle.regex_search_core.specs.Search.{search_of}
 use Rattle.nfa_lazy_dfa.proofs.ScanLemmas.{IsAt-begin}
 use Rattle.nfa_lazy_dfa.proofs.StopLemmas.{IsStop-gave_up, IsUsedUp-at}
+use Rattle.nfa_lazy_dfa.proofs.RowLemmas.{some-same}
+use Rattle.nfa_lazy_dfa.specs.Rows.{stances_of}
+use Rattle.nfa_lazy_dfa.specs.Stances.{Stance, first_stance}
 use Rattle.nfa_lazy_dfa.proofs.scan.first_row.Goals as goal
+
+pub returns-in-Ok-clause-alone : goal.returns-in-Ok-clause-alone
+returns-in-Ok-clause-alone c = λ s is.
+    ap (λ (t : Stance). t.states) (some-same (slice_get (stances_of c.start.new.self.stands.items) c.in-Ok.row) s
+    (first_stance c.args.start c.in_ok-seen.seen c.may_start_later.result) is c.in-Ok.ensures.row)
 
 pub returns-in-Ok-clause-at : goal.returns-in-Ok-clause-at
 returns-in-Ok-clause-at c =

@@ -1,8 +1,9 @@
 -- No match of the search starts before its start.
-use Rattle.std.proofs.Common.{◌<◌, arith}
+use Rattle.std.proofs.Common.{rules, ◌<◌, ◌≡◌, ◌*◌, ◌/◌, ◌∷◌, [], ◌∙◌, ℕ, ap, subst, arith}
 use Rattle.regex_search_core.specs.Search.{search_of}
 use Rattle.nfa_lazy_dfa.proofs.CacheLemmas.{few-rows, row-inside}
 use Rattle.nfa_lazy_dfa.proofs.WatchLemmas.{IsBegun-start, IsFoundAt-place}
+use Rattle.nfa_lazy_dfa.specs.Rows.{IsRowOf}
 use Rattle.nfa_lazy_dfa.proofs.watch.first_watch.Goals as goal
 
 pub overflow_mul-first : goal.overflow_mul-first
@@ -28,4 +29,22 @@ returns-clause-watching c =
       at = IsFoundAt-place dfa cache x c.args.place c.requires.found c.requires.at;
       idle = c.likely_idle-idle.ensures.idle;
       begun = IsBegun-start dfa.nfa x c.args.place.at c.requires.start;
+    }
+
+pub returns-then-eq-clause-watching : goal.returns-then-eq-clause-watching
+returns-then-eq-clause-watching c =
+    let dfa = c.args.dfa.now in
+    let cache = c.args.cache.now in
+    let x = search_of c.args.input.now in
+    let p = c.args.place in
+    let row : p.row * 256 / 256 ≡ p.row = omega arith in
+    let same : c.args.start ≡ dfa.nfa.anchored = search rules in
+    record {
+      whole = omega arith;
+      at = IsFoundAt-place dfa cache x p c.requires.found c.requires.at;
+      idle = record {
+        alone = λ s whole is.
+            c.requires.alone s (subst (λ (r : ℕ). IsRowOf cache r s) row is) ∙ ap (λ (q : ℕ). q ∷ []) same;
+      };
+      begun = IsBegun-start dfa.nfa x p.at c.requires.start;
     }
