@@ -9,6 +9,9 @@ use std::io::{BufRead, BufReader, BufWriter, Write};
 use std::{fs, io};
 use text_lines::failure::Failure;
 
+/// What standard error says if no line has a row.
+const NO_ROW: &str = "log_extractor: no line matched; --rejects prints lines that have no row";
+
 /// What is done with the lines of the inputs.
 #[derive(Drop)]
 struct Work {
@@ -17,6 +20,8 @@ struct Work {
     column: Option<usize>,
     /// How often its values occur so far.
     counts: Counts,
+    /// Whether a line had a row.
+    rows: bool,
 }
 
 /// Prints what is to be printed of the files that the arguments name, in order, or of standard input if there are none.
@@ -57,6 +62,7 @@ fn print_to<W: Write>(
         output,
         column,
         counts: no_counts(rt.alloc()),
+        rows: false,
     };
     if column.is_none() {
         print_head(rt.alloc(), parser, output, out)?;
@@ -68,6 +74,9 @@ fn print_to<W: Write>(
     };
     if let Some(name) = arguments.count {
         print_counted(rt, output, name, &work.counts, out)?;
+    }
+    if complete && !work.rows && output != Output::Rejects {
+        let _ = eprintln!(rt; "{NO_ROW}");
     }
     Ok(complete)
 }
@@ -153,7 +162,14 @@ fn work_on<R: BufRead, W: Write>(
     out: &mut W,
 ) -> Result<(), Failure> {
     match work.column {
-        Some(column) => count_lines(alloc, parser, column, input, &mut work.counts),
-        None => print_lines(alloc, parser, work.output, input, out),
+        Some(column) => {
+            count_lines(alloc, parser, column, input, &mut work.counts)?;
+            work.rows = !work.counts.is_empty();
+        }
+        None => {
+            let rows = print_lines(alloc, parser, work.output, input, out)?;
+            work.rows |= rows;
+        }
     }
+    Ok(())
 }
