@@ -1,6 +1,6 @@
 -- That the lines of pieces are written one after the other.
 use Rattle.std.proofs.Common.{◌≡◌, ◌∙◌, ℕ, ◌≤◌, ◌<◌, Bool, true, false, List, [], ◌∷◌, ◌++◌, length, arith, refl, sym, ap, subst, append-nil, append_assoc}
-use Rattle.std.specs.Prelude.{◌&&◌, Option, None, Some, is_none, is_some}
+use Rattle.std.specs.Prelude.{◌&&◌, Option, None, Some, is_none, is_some, slice_range}
 use Rattle.std.specs.Io.KnownBytes.{Appends}
 use Rattle.std.proofs.KnownBytes.{Appends-nil, Appends-trans}
 use Rattle.std.proofs.lemmas.List.Concat.{flat_map-append}
@@ -8,9 +8,9 @@ use Rattle.regex_hir.specs.Re.{Re}
 use Rattle.regex_search_core.specs.Found.{Found}
 use Rattle.lexer.specs.Lexed.{stuck_in, token_there}
 use Rattle.lexer.specs.Lexing.{HasRecovered, IsWholeTo}
-use Rattle.lexer.specs.Printed.{piece_line, piece_lines}
-use Rattle.lexer.specs.Recovered.{TextPiece, piece_of, piece_there, recovered}
-use Rattle.lexer.specs.Tokens.{PieceLiesInText, is_token, piece_end, piece_found}
+use Rattle.lexer.specs.Printed.{kind_line, piece_line, piece_lines, position_if}
+use Rattle.lexer.specs.Recovered.{TextPiece, piece_of, piece_there, recovered, stretch_end}
+use Rattle.lexer.specs.Tokens.{is_token, piece_found, piece_span}
 use Rattle.lexer.specs.declared.lexer.Piece.{Piece}
 use Rattle.lexer.specs.declared.lexer.Piece.TheVariants as piece
 use Rattle.lexer.specs.declared.report.Style.{Style}
@@ -22,13 +22,20 @@ token-same : (p : Piece) → is_token p ≡ is_some (piece_found p).pattern
 token-same (piece.Token token) = refl
 token-same (piece.Error span) = refl
 
-end-same : (p : Piece) → piece_end p ≡ (piece_found p).end
+end-same : (p : Piece) → (piece_span p).end ≡ (piece_found p).end
 end-same (piece.Token token) = refl
 end-same (piece.Error span) = refl
 
-pub end-inside : (text : List ℕ) (p : Piece) → PieceLiesInText text p → piece_end p ≤ length text
-end-inside text (piece.Token token) lies = lies.within
-end-inside text (piece.Error span) lies = lies.1
+pub start-same : (p : Piece) → (piece_span p).start ≡ (piece_found p).start
+start-same (piece.Token token) = refl
+start-same (piece.Error span) = refl
+
+-- what is written of a piece is its line
+pub line-of : (style : Style) (rules : List Rule) (text : List ℕ) (p : Piece)
+    → kind_line style rules (piece_found p).pattern (piece_span p) (position_if style.positions text (piece_span p).start)
+    (slice_range text (piece_span p).start (piece_span p).end) ≡ piece_line style rules text (piece_found p)
+line-of style rules text (piece.Token token) = refl
+line-of style rules text (piece.Error span) = refl
 
 module _ (style : Style) (rules : List Rule) (res : List Re) (text : List ℕ) (before : Option (List ℕ)) where
   abbrev Printed : ℕ → Bool → Option (List ℕ) → Type 0
@@ -72,7 +79,7 @@ module _ (style : Style) (rules : List Rule) (res : List Re) (text : List ℕ) (
   pub recovered-more : (at : ℕ) (whole : Bool) (p : Piece) (out next : Option (List ℕ)) → at < length text
       → Printed at whole out → piece_found p ≡ piece_there res text at
       → Appends out next (piece_line style rules text (piece_found p))
-      → Printed (piece_end p) (whole && is_token p) next
+      → Printed ((piece_span p).end) (whole && is_token p) next
   recovered-more at whole p out next less so-far is writes =
       rw (end-same p, token-same p)
       (subst (λ (q : TextPiece). Printed q.end (whole && is_some q.pattern) next) (sym is)

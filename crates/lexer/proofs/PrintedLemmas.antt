@@ -1,14 +1,14 @@
 -- That the lines of tokens are written one after the other.
-use Rattle.std.proofs.Common.{◌≡◌, ◌∙◌, ℕ, ◌≤◌, ◌<◌, true, false, List, [], ◌∷◌, ◌++◌, length, arith, sym, ap, ap₂, subst, append-nil}
-use Rattle.std.specs.Prelude.{Option, None, Some, is_none}
+use Rattle.std.proofs.Common.{◌≡◌, ◌∙◌, ℕ, ◌≤◌, ◌<◌, true, false, List, [], ◌∷◌, ◌++◌, length, arith, refl, sym, ap, ap₂, subst, append-nil}
+use Rattle.std.specs.Prelude.{Option, None, Some, is_none, flat_map}
 use Rattle.std.specs.Io.KnownBytes.{Appends}
 use Rattle.std.proofs.KnownBytes.{Appends-nil, Appends-trans}
 use Rattle.std.proofs.lemmas.List.Concat.{flat_map-append}
 use Rattle.regex_hir.specs.Re.{Re}
 use Rattle.regex_search_core.specs.Found.{Found}
-use Rattle.lexer.specs.Lexed.{stuck_in, token_there}
-use Rattle.lexer.specs.Lexing.{HasPrinted}
-use Rattle.lexer.specs.Printed.{printed_tokens, stuck_at, stuck_line, token_line, token_lines}
+use Rattle.lexer.specs.Lexed.{lexed, stuck_in, token_there}
+use Rattle.lexer.specs.Lexing.{HasPrinted, IsLexedTo}
+use Rattle.lexer.specs.Printed.{position_if, printed_tokens, stuck_at, stuck_line, token_line, token_lines}
 use Rattle.lexer.specs.declared.report.Style.{Style}
 use Rattle.lexer.specs.declared.rules.Rule.{Rule}
 use Rattle.lexer.proofs.LexedLemmas.{all-lexed, lexed-more, lexed-none, none-at-end, not-stuck, stuck-there}
@@ -36,14 +36,15 @@ module _ (style : Style) (rules : List Rule) (res : List Re) (text : List ℕ) (
 
   -- no token starts here
   pub printed-stuck : (at : ℕ) (out next : Option (List ℕ)) → at < length text → Printed at out
-      → None ≡ token_there res text at → Appends out next (stuck_at style.json at)
+      → None ≡ token_there res text at
+      → Appends out next (stuck_at style.json at (position_if style.positions text at))
       → Appends before next (printed_tokens style rules res text)
   printed-stuck at out next less so-far none writes =
       let all = all-lexed res text at so-far.tokens (sym none) so-far.lexed in
       let place = stuck-there res text at so-far.tokens less (sym none) so-far.lexed in
-      let whole : token_lines style rules text so-far.tokens ++ stuck_line style.json (Some at)
+      let whole : token_lines style rules text so-far.tokens ++ stuck_line style text (Some at)
       ≡ printed_tokens style rules res text =
-      ap₂ (λ (ms : List Found) (o : Option ℕ). token_lines style rules text ms ++ stuck_line style.json o) all place in
+      ap₂ (λ (ms : List Found) (o : Option ℕ). token_lines style rules text ms ++ stuck_line style text o) all place in
       subst (λ (l : List ℕ). Appends before next l) whole (Appends-trans before out next _ _ so-far.written writes)
 
   pub stuck-not-whole : (at : ℕ) (out : Option (List ℕ)) → at < length text → Printed at out
@@ -64,9 +65,9 @@ module _ (style : Style) (rules : List Rule) (res : List Re) (text : List ℕ) (
       let last = at-end at out within end so-far in
       let all = all-lexed res text (length text) last.tokens (none-at-end res text) last.lexed in
       let place = not-stuck res text last.tokens last.lexed in
-      let whole : token_lines style rules text last.tokens ++ stuck_line style.json None
+      let whole : token_lines style rules text last.tokens ++ stuck_line style text None
       ≡ printed_tokens style rules res text =
-      ap₂ (λ (ms : List Found) (o : Option ℕ). token_lines style rules text ms ++ stuck_line style.json o) all place in
+      ap₂ (λ (ms : List Found) (o : Option ℕ). token_lines style rules text ms ++ stuck_line style text o) all place in
       subst (λ (l : List ℕ). Appends before out l) whole (rw (append-nil _) last.written)
 
   pub whole-if-all : (at : ℕ) (out : Option (List ℕ)) → at ≤ length text → length text ≤ at → Printed at out

@@ -1,6 +1,7 @@
 pub mod Lexed
 pub mod Lexing
 pub mod Patterns
+pub mod Positions
 pub mod Printed
 pub mod Recovered
 pub mod RuleErrors

@@ -4,6 +4,7 @@ use Rattle.regex_search_core.specs.Found.{Found}
 use Rattle.regex_search_core.specs.Patterns.{number_of}
 use Rattle.regex_search_core.specs.Search.{Search}
 use Rattle.regex_search_core.specs.declared.search.Anchored.TheVariants.{Yes}
+use Rattle.regex_search_core.specs.declared.search.Span.{Span}
 use Rattle.lexer.specs.Recovered.{TextPiece}
 use Rattle.lexer.specs.declared.lexer.Piece.{Piece}
 use Rattle.lexer.specs.declared.lexer.Piece.TheVariants as piece
@@ -33,12 +34,12 @@ abbrev pub is_token : Piece → Bool
 is_token (piece.Token token) = true
 is_token (piece.Error span) = false
 
--- where the piece ends
-abbrev pub piece_end : Piece → ℕ
-piece_end (piece.Token token) = token.span.end
-piece_end (piece.Error span) = span.end
+-- where the piece is
+abbrev pub piece_span : Piece → Span
+piece_span (piece.Token token) = token.span
+piece_span (piece.Error span) = span
 
--- the piece has a byte at least, and lies in the text
-abbrev pub PieceLiesInText : List ℕ → Piece → Type 0
-PieceLiesInText text (piece.Token token) = LiesInText text token
-PieceLiesInText text (piece.Error span) = (span.start < span.end) × (span.end ≤ length text)
+-- the span has a byte at least, and lies in the text
+pub record SpanLiesInText (text : List ℕ) (span : Span) : Type 0 where
+  pub some_bytes : span.start < span.end
+  pub within : span.end ≤ length text

@@ -3,7 +3,8 @@ use crate::report::Style;
 use std::alloc::{AllocError, Global};
 
 /// The line that says how the program is called.
-pub const USAGE: &str = "usage: lexer [--json] [--recover] [--skip NAME].. [RULES] < TEXT";
+pub const USAGE: &str =
+    "usage: lexer [--json] [--positions] [--recover] [--skip NAME].. [RULES] < TEXT";
 
 /// What `--help` prints below it.
 pub const HELP: &str = "
@@ -12,6 +13,8 @@ RULES is a file with a rule in each line: NAME = PATTERN. Empty lines, and lines
 Write -- before the name of a file that begins with a hyphen.
 The first rule that matches is taken. A token of the rule `space` is printed without its text.
 --json      prints each token as a JSON object, with its text.
+--positions prints LINE:COLUMN of each token after its span, both from 1. Columns count characters: all bytes but those
+            that continue a character of UTF-8.
 --recover   goes on after text of which no rule takes a byte: up to the next place at which a token starts, or to the
             end, it is a token of the name `error`, among the others.
 --skip NAME prints no tokens of the rule of this name. It may be given several times.
@@ -30,6 +33,8 @@ pub struct Arguments<'w> {
     pub json: bool,
     /// Whether the lexer goes on after text that no rule takes.
     pub recover: bool,
+    /// Whether the line and the column of each token are printed.
+    pub positions: bool,
 }
 
 impl<'w> Arguments<'w> {
@@ -39,6 +44,7 @@ impl<'w> Arguments<'w> {
             skip: &self.skip,
             json: self.json,
             recover: self.recover,
+            positions: self.positions,
         }
     }
 }
@@ -50,6 +56,7 @@ pub fn parse<'w>(alloc: Global, words: &[&'w str]) -> Result<Option<Arguments<'w
         skip: Vec::new(alloc),
         json: false,
         recover: false,
+        positions: false,
     };
     let mut is_name = false;
     for (index, word) in words.iter().enumerate() {
@@ -61,6 +68,7 @@ pub fn parse<'w>(alloc: Global, words: &[&'w str]) -> Result<Option<Arguments<'w
             "--skip" => is_name = true,
             "--json" => arguments.json = true,
             "--recover" => arguments.recover = true,
+            "--positions" => arguments.positions = true,
             _ => {
                 arguments.rules = file_of(&words[index..]);
                 let is_right = arguments.rules.is_some();

@@ -9,7 +9,7 @@ ghost use Rattle.lexer.specs.Lexed.{TokensAreJoined, hit_there, token_there, wit
 ghost use Rattle.lexer.specs.Patterns.{rule_patterns, rule_syntax};
 ghost use Rattle.lexer.specs.Recovered.{PiecesAreLongest, PiecesAreTheText, piece_there, stretch_end};
 ghost use Rattle.lexer.specs.RuleErrors.{IsCompileMistake};
-ghost use Rattle.lexer.specs.Tokens.{LiesInText, PieceLiesInText, is_token, piece_end, piece_found, search_at};
+ghost use Rattle.lexer.specs.Tokens.{LiesInText, SpanLiesInText, is_token, piece_span, piece_found, search_at};
 ghost use Rattle.lexer.specs.Tokens.{token_found};
 
 use crate::rules::{Rule, RulesError, compile};
@@ -42,13 +42,13 @@ impl Piece {
         matches!(self, Piece::Token(_))
     }
 
-    /// Returns the offset at which the piece ends.
-    pub fn end(self) -> usize
-        ensures { result ≡ piece_end self }
+    /// Returns where the piece is.
+    pub fn span(self) -> Span
+        ensures { result ≡ piece_span self }
     {
         match self {
-            Piece::Token(token) => token.span.end,
-            Piece::Error(span) => span.end,
+            Piece::Token(token) => token.span,
+            Piece::Error(span) => span,
         }
     }
 }
@@ -134,8 +134,8 @@ impl<'r> Lexer<'r> {
         requires { at < length text.now }
         ensures piece { (res : List Re) → AreMeant rule_syntax self.old res
             → piece_found result ≡ piece_there res text.now at }
-        ensures after { at < piece_end result }
-        ensures inside { PieceLiesInText text.now result }
+        ensures after { at < (piece_span result).end }
+        ensures inside { SpanLiesInText text.now (piece_span result) }
         ensures kept { self.new ≡ self.old }
     {
         match self.token_at(text, at) {

@@ -4,6 +4,7 @@
 mod command;
 mod lexer;
 mod names;
+mod position;
 mod report;
 mod rules;
 

@@ -1,23 +1,29 @@
 //! A line for each token.
-ghost use Rattle.std.specs.Prelude.{◌≡◌, ◌++◌, IfOk, IfSome, List, OnOk, codes, is_none};
-ghost use Rattle.std.specs.Prelude.{slice_get, string_bytes};
+ghost use Rattle.std.specs.Prelude.{◌≡◌, ◌≤◌, ◌++◌, IfOk, IfSome, List, OnOk, codes, if◌then◌else◌, is_none};
+ghost use Rattle.std.specs.Prelude.{length, slice_get, slice_range, string_bytes};
+ghost use Rattle.std.specs.Fmt.{decimal};
 ghost use Rattle.std.specs.Io.KnownBytes.{Appends};
+ghost use Rattle.std.specs.Str.Lossy.{utf8_lossy};
 ghost use Rattle.regex_hir.specs.Re.{Re};
 ghost use Rattle.nfa_compiler.specs.Compiled.{AreMeant};
 ghost use Rattle.lexer.specs.Lexed.{stuck_in};
 ghost use Rattle.lexer.specs.Patterns.{rule_patterns, rule_syntax};
-ghost use Rattle.lexer.specs.Printed.{error_line, named_line, object_line, piece_line, piece_lines};
-ghost use Rattle.lexer.specs.Printed.{printed_text, printed_tokens, rule_line, shown_place, shown_text};
-ghost use Rattle.lexer.specs.Printed.{shown_unless_skipped, stuck_at, stuck_line, token_line, token_lines};
+ghost use Rattle.lexer.specs.Positions.{first_position};
+ghost use Rattle.lexer.specs.Printed.{error_line, kind_line, named_line, object_line, pattern_line, piece_lines};
+ghost use Rattle.lexer.specs.Printed.{position_members, printed_text, printed_tokens, rule_line, shown_place};
+ghost use Rattle.lexer.specs.Printed.{shown_position, shown_span, shown_text, shown_unless_skipped, stuck_at};
+ghost use Rattle.lexer.specs.Printed.{stuck_line, stuck_object, stuck_text, token_lines};
+ghost use Rattle.lexer.specs.Tokens.{piece_found};
 ghost use Rattle.json.specs.Print.{quoted};
 ghost use Rattle.lexer.specs.Recovered.{recovered};
-ghost use Rattle.lexer.specs.Tokens.{LiesInText, PieceLiesInText, piece_found, token_found};
+ghost use Rattle.regex_search_core.specs.Patterns.{number_of};
 
 use crate::lexer::{Lexer, Piece, Token};
 use crate::names::is_in;
+use crate::position::{Position, moved};
 use crate::rules::Rule;
 use anyhow::Result;
-use regex_search_core::Span;
+use regex_search_core::{PatternID, Span};
 use serde_json::Value;
 use std::alloc::{AllocError, Global};
 use std::io;
@@ -32,6 +38,17 @@ pub struct Style<'s> {
     pub json: bool,
     /// Whether the lexer goes on where a token starts again.
     pub recover: bool,
+    /// Whether the line and the column of each token are printed.
+    pub positions: bool,
+}
+
+/// What is shown of a token besides its name.
+#[derive(Clone, Copy, Debug)]
+struct Shown<'t> {
+    span: Span,
+    /// The position of its start, if positions are printed.
+    position: Option<Position>,
+    text: &'t [u8],
 }
 
 /// The name of a stretch at which no token starts.
@@ -104,12 +121,16 @@ fn print_pieces<W: Write>(
         → whole ≡ is_none (stuck_in res text.now)) }
 {
     let mut whole = true;
+    let mut position = first_shown(style.positions);
     let mut at = 0;
     while at < text.len() {
         let piece = lexer.piece_at(text, at);
-        write_piece(alloc, out, rules, style, text, piece)?;
+        let span = piece.span();
+        let shown = shown_at(text, span, position);
+        write_piece(alloc, out, rules, style, piece, shown)?;
         whole &= piece.is_token();
-        at = piece.end();
+        position = moved(position, text, at, span.end);
+        at = span.end;
     }
     out.flush()?;
     Ok(whole)
@@ -130,28 +151,84 @@ fn print_tokens<W: Write>(
     ensures whole { IfOk result (λ whole. (res : List Re) → AreMeant rule_syntax (rule_patterns rules.now) res
         → whole ≡ is_none (stuck_in res text.now)) }
 {
+    let mut position = first_shown(style.positions);
     let mut at = 0;
     while at < text.len() {
         let Some(token) = lexer.token_at(text, at) else {
-            write_stuck(out, style.json, at)?;
+            write_stuck(out, style.json, at, position)?;
             out.flush()?;
             return Ok(false);
         };
-        write_token(alloc, out, rules, style, text, token)?;
+        let shown = shown_at(text, token.span, position);
+        write_token(alloc, out, rules, style, token.pattern, shown)?;
+        position = moved(position, text, at, token.span.end);
         at = token.span.end;
     }
     out.flush()?;
     Ok(true)
 }
 
-/// Writes that no token starts at this offset.
-fn write_stuck<W: Write>(out: &mut W, json: bool, at: usize) -> io::Result<()>
-    ensures { OnOk result (Appends (W.contents out.old) (W.contents out.new) (stuck_at json at)) }
+/// Returns the position of the start of a text, if positions are printed.
+fn first_shown(positions: bool) -> Option<Position>
+    ensures { result ≡ (if positions then Some first_position else None) }
+{
+    if positions {
+        Some(Position::first())
+    } else {
+        None
+    }
+}
+
+/// Returns what is shown of the piece of the text that has this span, and starts at this position.
+fn shown_at<'t>(text: &'t [u8], span: Span, position: Option<Position>) -> Shown<'t>
+    requires start { span.start ≤ span.end }
+    requires within { span.end ≤ length text.now }
+    ensures text { result.text.now ≡ slice_range text.now span.start span.end }
+    ensures span { result.span ≡ span }
+    ensures position { result.position ≡ position }
+{
+    Shown {
+        span,
+        position,
+        text: &text[span.start..span.end],
+    }
+}
+
+/// Writes that no token starts at this offset, and its position if it is given.
+fn write_stuck<W: Write>(
+    out: &mut W,
+    json: bool,
+    at: usize,
+    position: Option<Position>,
+) -> io::Result<()>
+    ensures { OnOk result (Appends (W.contents out.old) (W.contents out.new) (stuck_at json at position)) }
 {
     if json {
-        return writeln!(out, "{{\"no_token_at\":{at}}}");
+        return write_stuck_object(out, at, position);
     }
-    writeln!(out, "no token at {at}")
+    write_stuck_line(out, at, position)
+}
+
+fn write_stuck_object<W: Write>(
+    out: &mut W,
+    at: usize,
+    position: Option<Position>,
+) -> io::Result<()>
+    ensures { OnOk result (Appends (W.contents out.old) (W.contents out.new) (stuck_object at position)) }
+{
+    write!(out, "{{\"no_token_at\":{at}")?;
+    write_members(out, position)?;
+    out.write_all(b"}\n")?;
+    Ok(())
+}
+
+fn write_stuck_line<W: Write>(out: &mut W, at: usize, position: Option<Position>) -> io::Result<()>
+    ensures { OnOk result (Appends (W.contents out.old) (W.contents out.new) (stuck_text at position)) }
+{
+    write!(out, "no token at {at}")?;
+    write_position(out, position)?;
+    out.write_all(b"\n")?;
+    Ok(())
 }
 
 /// Writes the line of the piece, if pieces of its kind are printed.
@@ -160,52 +237,49 @@ fn write_piece<W: Write>(
     out: &mut W,
     rules: &[Rule<'_>],
     style: Style<'_>,
-    text: &[u8],
     piece: Piece,
+    shown: Shown<'_>,
 ) -> io::Result<()>
-    requires { PieceLiesInText text.now piece }
     ensures { OnOk result (Appends (W.contents out.old) (W.contents out.new)
-        (piece_line style.entry rules.now text.now (piece_found piece))) }
+        (kind_line style.entry rules.now (piece_found piece).pattern shown.entry.span shown.entry.position shown.entry.text.now)) }
 {
     match piece {
-        Piece::Token(token) => write_token(alloc, out, rules, style, text, token),
-        Piece::Error(span) => write_error(alloc, out, style, span, &text[span.start..span.end]),
+        Piece::Token(token) => write_token(alloc, out, rules, style, token.pattern, shown),
+        Piece::Error(_) => write_error(alloc, out, style, shown),
     }
 }
 
-/// Writes the line of a stretch at which no token starts, which has this text.
+/// Writes the line of a stretch at which no token starts.
 fn write_error<W: Write>(
     alloc: Global,
     out: &mut W,
     style: Style<'_>,
-    span: Span,
-    text: &[u8],
+    shown: Shown<'_>,
 ) -> io::Result<()>
-    ensures { OnOk result (Appends (W.contents out.old) (W.contents out.new) (error_line style.entry span text.now)) }
+    ensures { OnOk result (Appends (W.contents out.old) (W.contents out.new)
+        (error_line style.entry shown.entry.span shown.entry.position shown.entry.text.now)) }
 {
     if style.json {
-        return write_object(alloc, out, ERROR, span, text);
+        return write_object(alloc, out, ERROR, shown);
     }
-    write_named(out, ERROR, span, text)
+    write_named(out, ERROR, shown)
 }
 
-/// Writes the line of the token, if tokens of its rule are printed.
+/// Writes the line of a token of this pattern, if tokens of its rule are printed.
 fn write_token<W: Write>(
     alloc: Global,
     out: &mut W,
     rules: &[Rule<'_>],
     style: Style<'_>,
-    text: &[u8],
-    token: Token,
+    pattern: PatternID,
+    shown: Shown<'_>,
 ) -> io::Result<()>
-    requires { LiesInText text.now token }
     ensures { OnOk result (Appends (W.contents out.old) (W.contents out.new)
-        (token_line style.entry rules.now text.now (token_found token))) }
+        (pattern_line style.entry rules.now (number_of pattern) shown.entry.span shown.entry.position shown.entry.text.now)) }
 {
-    let shown = &text[token.span.start..token.span.end];
-    match rule_at(rules, token.pattern.as_usize()) {
-        Some(rule) => write_unless_skipped(alloc, out, rule, style, token.span, shown),
-        None => write_named(out, "?", token.span, shown),
+    match rule_at(rules, pattern.as_usize()) {
+        Some(rule) => write_unless_skipped(alloc, out, rule, style, shown),
+        None => write_named(out, "?", shown),
     }
 }
 
@@ -222,19 +296,18 @@ fn write_unless_skipped<W: Write>(
     out: &mut W,
     rule: Rule<'_>,
     style: Style<'_>,
-    span: Span,
-    text: &[u8],
+    shown: Shown<'_>,
 ) -> io::Result<()>
     ensures { OnOk result (Appends (W.contents out.old) (W.contents out.new)
-        (shown_unless_skipped style.entry rule.entry span text.now)) }
+        (shown_unless_skipped style.entry rule.entry shown.entry.span shown.entry.position shown.entry.text.now)) }
 {
     if is_in(style.skip, rule.name) {
         return Ok(());
     }
     if style.json {
-        return write_object(alloc, out, rule.name, span, text);
+        return write_object(alloc, out, rule.name, shown);
     }
-    write_rule(out, rule, span, text)
+    write_rule(out, rule, shown)
 }
 
 /// Writes a token as a JSON object. Bytes of its text that are not UTF-8 are replaced by U+FFFD.
@@ -242,19 +315,53 @@ fn write_object<W: Write>(
     alloc: Global,
     out: &mut W,
     name: &str,
-    span: Span,
-    text: &[u8],
+    shown: Shown<'_>,
 ) -> io::Result<()>
-    ensures { OnOk result (Appends (W.contents out.old) (W.contents out.new) (object_line name.now span text.now)) }
+    ensures { OnOk result (Appends (W.contents out.old) (W.contents out.new)
+        (object_line name.now shown.entry.span shown.entry.position shown.entry.text.now)) }
 {
-    let kind = quoted(alloc, String::from_utf8_lossy(alloc, name.as_bytes())?)?;
-    let shown = quoted(alloc, String::from_utf8_lossy(alloc, text)?)?;
+    let kind = quoted_lossy(alloc, name.as_bytes())?;
+    let text = quoted_lossy(alloc, shown.text)?;
+    write_object_head(out, kind.as_str(), shown.span)?;
+    write_members(out, shown.position)?;
+    write_text_member(out, text.as_str())?;
+    Ok(())
+}
+
+/// Writes the beginning of an object: this kind, and the span.
+fn write_object_head<W: Write>(out: &mut W, kind: &str, span: Span) -> io::Result<()>
+    ensures { OnOk result (Appends (W.contents out.old) (W.contents out.new)
+        (codes "{\"kind\":" ++ kind.now ++ codes ",\"start\":" ++ decimal span.start ++ codes ",\"end\":"
+        ++ decimal span.end)) }
+{
     let start = span.start;
     let end = span.end;
-    writeln!(
-        out,
-        "{{\"kind\":{kind},\"start\":{start},\"end\":{end},\"text\":{shown}}}"
-    )
+    write!(out, "{{\"kind\":{kind},\"start\":{start},\"end\":{end}")
+}
+
+/// Writes the last member, whose value is this text, and the end of the object.
+fn write_text_member<W: Write>(out: &mut W, text: &str) -> io::Result<()>
+    ensures { OnOk result (Appends (W.contents out.old) (W.contents out.new)
+        (codes ",\"text\":" ++ text.now ++ codes "}\n")) }
+{
+    writeln!(out, ",\"text\":{text}}}")
+}
+
+/// Writes the members of the position, if it is given.
+fn write_members<W: Write>(out: &mut W, position: Option<Position>) -> io::Result<()>
+    ensures { OnOk result (Appends (W.contents out.old) (W.contents out.new) (position_members position)) }
+{
+    match position {
+        Some(Position { line, column }) => write!(out, ",\"line\":{line},\"column\":{column}"),
+        None => Ok(()),
+    }
+}
+
+/// Returns the bytes as a text in quotes, with the escapes of JSON. Those that are not UTF-8 are replaced by U+FFFD.
+fn quoted_lossy(alloc: Global, bytes: &[u8]) -> Result<String, AllocError>
+    ensures { IfOk result (λ made. string_bytes made ≡ quoted (utf8_lossy bytes.now)) }
+{
+    quoted(alloc, String::from_utf8_lossy(alloc, bytes)?)
 }
 
 /// Returns the text in quotes, with the escapes of JSON.
@@ -264,32 +371,58 @@ fn quoted(alloc: Global, text: String) -> Result<String, AllocError>
     Value::String(text).to_string(alloc)
 }
 
-/// Writes the name of the rule, the span, and the text, if it is not hidden.
+/// Writes the name of the rule, the place, and the text, if it is not hidden.
 #[tactic(auto, using(crate::proofs::Writes::writes))]
-fn write_rule<W: Write>(out: &mut W, rule: Rule<'_>, span: Span, text: &[u8]) -> io::Result<()>
-    ensures { OnOk result (Appends (W.contents out.old) (W.contents out.new) (rule_line rule.entry span text.now)) }
+fn write_rule<W: Write>(out: &mut W, rule: Rule<'_>, shown: Shown<'_>) -> io::Result<()>
+    ensures { OnOk result (Appends (W.contents out.old) (W.contents out.new)
+        (rule_line rule.entry shown.entry.span shown.entry.position shown.entry.text.now)) }
 {
-    write_place(out, rule.name, span)?;
+    write_place(out, rule.name, shown.span, shown.position)?;
     if rule.hidden {
         return out.write_all(b"\n");
     }
-    write_text(out, text)
+    write_text(out, shown.text)
 }
 
 #[tactic(auto, using(crate::proofs::Writes::writes))]
-fn write_named<W: Write>(out: &mut W, name: &str, span: Span, text: &[u8]) -> io::Result<()>
-    ensures { OnOk result (Appends (W.contents out.old) (W.contents out.new) (named_line name.now span text.now)) }
+fn write_named<W: Write>(out: &mut W, name: &str, shown: Shown<'_>) -> io::Result<()>
+    ensures { OnOk result (Appends (W.contents out.old) (W.contents out.new)
+        (named_line name.now shown.entry.span shown.entry.position shown.entry.text.now)) }
 {
-    write_place(out, name, span)?;
-    write_text(out, text)
+    write_place(out, name, shown.span, shown.position)?;
+    write_text(out, shown.text)
 }
 
-fn write_place<W: Write>(out: &mut W, name: &str, span: Span) -> io::Result<()>
-    ensures { OnOk result (Appends (W.contents out.old) (W.contents out.new) (shown_place name.now span)) }
+/// Writes the name, the span, and the position if it is given.
+#[tactic(auto, using(crate::proofs::Writes::writes))]
+fn write_place<W: Write>(
+    out: &mut W,
+    name: &str,
+    span: Span,
+    position: Option<Position>,
+) -> io::Result<()>
+    ensures { OnOk result (Appends (W.contents out.old) (W.contents out.new) (shown_place name.now span position)) }
+{
+    write_span(out, name, span)?;
+    write_position(out, position)
+}
+
+fn write_span<W: Write>(out: &mut W, name: &str, span: Span) -> io::Result<()>
+    ensures { OnOk result (Appends (W.contents out.old) (W.contents out.new) (shown_span name.now span)) }
 {
     let start = span.start;
     let end = span.end;
     write!(out, "{name} {start}..{end}")
+}
+
+/// Writes a space and the position, if it is given.
+fn write_position<W: Write>(out: &mut W, position: Option<Position>) -> io::Result<()>
+    ensures { OnOk result (Appends (W.contents out.old) (W.contents out.new) (shown_position position)) }
+{
+    match position {
+        Some(Position { line, column }) => write!(out, " {line}:{column}"),
+        None => Ok(()),
+    }
 }
 
 /// Writes a space, the text, and the end of the line.

@@ -1,15 +1,15 @@
 -- A run over an input starts, goes on by a line, and ends.
-use Rattle.std.proofs.Common.{◌≡◌, ◌∙◌, ℕ, List, [], ◌∷◌, ◌++◌, refl, sym, ap, subst, append_assoc, append-nil}
-use Rattle.std.specs.Prelude.{Option, None, Some, IfSome, flat_map}
+use Rattle.std.proofs.Common.{◌≡◌, ◌∙◌, ℕ, Bool, true, false, List, [], ◌∷◌, ◌++◌, refl, sym, ap, subst, append_assoc, append-nil}
+use Rattle.std.specs.Prelude.{◌||◌, Option, None, Some, IfSome, flat_map, is_some, option_map}
 use Rattle.std.specs.Io.KnownBytes.{Appends}
 use Rattle.std.proofs.KnownBytes.{Appends-nil, Appends-trans}
 use Rattle.std.proofs.lemmas.Grind.{flat_map-append}
-use Rattle.text_lines.specs.Lines.{HasNoLine, TakesLine, line_feed, lines_of}
+use Rattle.text_lines.specs.Lines.{HasNoLine, TakesLine, content, line_feed, lines_of}
 use Rattle.text_lines.proofs.LineLemmas.{first-line, none-left}
 use Rattle.text_lines.proofs.PartLemmas.{lines-of-parts}
-use Rattle.log_extractor.specs.Fields.{LinePattern}
+use Rattle.log_extractor.specs.Fields.{LinePattern, row}
 use Rattle.log_extractor.specs.Going.{HasWritten}
-use Rattle.log_extractor.specs.Printed.{extracted_lines, shown_line}
+use Rattle.log_extractor.specs.Printed.{extracted_lines, has_row, shown_line}
 use Rattle.log_extractor.specs.declared.output.Output.{Output}
 
 module _ (output : Output) (p : LinePattern) where
@@ -49,6 +49,54 @@ module _ (output : Output) (p : LinePattern) where
       ∙ ap (λ ls. going.written ++ all ls) (none-left input going.rest going.rest_is end)
       ∙ append-nil going.written in
       subst (λ (l : List ℕ). Appends out-before out l) (sym done) going.writes
+
+-- Whether a line has a row.
+
+or-joined : (a b c : Bool) → (a || (b || c)) ≡ ((a || b) || c)
+or-joined true b c = refl
+or-joined false b c = refl
+
+or-false : (a : Bool) → (a || false) ≡ a
+or-false true = refl
+or-false false = refl
+
+pub is_some-map : {A B : Type 0} (f : A → B) (o : Option A) → is_some (option_map f o) ≡ is_some o
+is_some-map f None = refl
+is_some-map f (Some a) = refl
+
+-- the lines so far were looked at, and the others are left
+pub record IsLooking (p : LinePattern) (text : List ℕ) (input : Option (List ℕ)) (found : Bool) : Type 0 where
+  pub rest : List ℕ
+  pub rest_is : input ≡ Some rest
+  pub found_is : has_row p (lines_of text) ≡ (found || has_row p (lines_of rest))
+
+abbrev pub HasLooked : LinePattern → Option (List ℕ) → Option (List ℕ) → Bool → Type 0
+HasLooked p before input found = IfSome before (λ text. IsLooking p text input found)
+
+pub looking-init : (p : LinePattern) (input : Option (List ℕ)) → HasLooked p input input false
+looking-init p None = tt
+looking-init p (Some text) = record { rest = text; rest_is = refl; found_is = refl }
+
+pub looking-step : (p : LinePattern) (before input after : Option (List ℕ)) (line : List ℕ) (found : Bool)
+    → TakesLine input after line → HasLooked p before input found
+    → HasLooked p before after (found || is_some (row p (content line)))
+looking-step p None input after line found takes looked = tt
+looking-step p (Some text) input after line found takes looked =
+    let first = first-line input looked.rest looked.rest_is after line takes in
+    record {
+      rest = first.rest;
+      rest_is = first.left_is;
+      found_is = looked.found_is ∙ ap (λ (ls : List (List ℕ)). found || has_row p ls) first.lines_are
+          ∙ or-joined found (is_some (row p (content line))) (has_row p (lines_of first.rest));
+    }
+
+pub looking-end : (p : LinePattern) (before input : Option (List ℕ)) (found : Bool) → HasNoLine input
+    → HasLooked p before input found → IfSome before (λ text. found ≡ has_row p (lines_of text))
+looking-end p None input found end looked = tt
+looking-end p (Some text) input found end looked =
+    sym (looked.found_is
+    ∙ ap (λ (ls : List (List ℕ)). found || has_row p ls) (none-left input looked.rest looked.rest_is end)
+    ∙ or-false found)
 
 -- the same is printed of a text as of its parts
 pub printed-joined : (output : Output) (p : LinePattern) (a b : List ℕ)

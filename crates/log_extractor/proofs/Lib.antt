@@ -1,3 +1,4 @@
+mod CountLemmas
 mod EscapeLemmas
 mod FieldLemmas
 mod GoingLemmas

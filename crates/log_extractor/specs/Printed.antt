@@ -1,5 +1,6 @@
 -- What is printed of the lines of an input.
-use Rattle.std.specs.Prelude.{◌≡◌, ◌≢◌, ◌==◌, ℕ, List, [], ◌∷◌, ◌++◌, All, Option, None, Some, codes, flat_map, map, unwrap_or, if◌then◌else◌}
+use Rattle.std.specs.Prelude.{◌≡◌, ◌≢◌, ◌==◌, ℕ, Bool, List, [], ◌∷◌, ◌++◌, All, Option, None, Some, codes, flat_map, is_some, map, unwrap_or, if◌then◌else◌}
+use Rattle.std.specs.List.{list_any}
 use Rattle.std.specs.Str.Lossy.{utf8_lossy}
 use Rattle.json.specs.Print.{quoted}
 use Rattle.text_lines.specs.Lines.{content, line_feed, lines_of, with_feed}
@@ -105,6 +106,10 @@ table_head (Table form) columns = row_line form (column_names columns)
 table_head (Rows form) columns = []
 table_head Objects columns = []
 table_head Rejects columns = []
+
+-- whether one of these lines has a row
+abbrev pub has_row : LinePattern → List (List ℕ) → Bool
+has_row p lines = list_any (λ line. is_some (row p (content line))) lines
 
 -- what is printed of the lines of a text, in order
 abbrev pub extracted_lines : Output → LinePattern → List ℕ → List ℕ

@@ -17,6 +17,8 @@ const AFTER: &str = "\
 The named groups of the pattern are the columns, in order. A line has a row if the pattern matches it from its start.
 A field is the text of its group, and empty if the group took no part. Fields are separated by tabs. In a field, \\t is
 a tab, \\n a line feed, \\r a carriage return and \\\\ a backslash, so a row is always one line with all its columns.
+With --count the most frequent value is first, and those that occur as often as each other are in the order of bytes.
+A field that is empty since its group took no part counts as an empty value.
 With --csv a field is in quotes if it is empty or has a comma, a quote or an end of a line, and its quotes are doubled.
 Without a file, or for the file -, standard input is read.
 A line is of any bytes. It ends at a line feed, and a carriage return before the line feed belongs to the end.
@@ -31,6 +33,8 @@ The default pattern is of lines such as `2026-11-22 14:03:07 ERROR disk full`. T
 pub struct Arguments<'w> {
     pub pattern: &'w str,
     pub output: Output,
+    /// The column whose values are counted, if rows are not printed.
+    pub count: Option<&'w str>,
     /// Whether the output for a line is written before the next line is read.
     pub line_buffered: bool,
     pub files: Vec<&'w str>,
@@ -69,7 +73,9 @@ pub fn parse<'w>(alloc: Global, below: &'w str, words: &'w [&'w str]) -> Result<
         .after_help(below)
         .arg(pattern_argument(alloc)?)?
         .arg(format_argument(alloc))?;
-    let command = with_output(alloc, command)?.arg(files_argument(alloc))?;
+    let command = with_output(alloc, command)?
+        .arg(count_argument(alloc)?)?
+        .arg(files_argument(alloc))?;
     match command.try_get_matches_from(words) {
         Ok(matches) => Ok(Command::Extract(read_matches(alloc, &matches)?)),
         Err(error) => Ok(Command::Say(error)),
@@ -97,6 +103,17 @@ fn format_argument<'w>(alloc: Global) -> Arg<'w> {
         .value_parser(FORMATS)
         .value_name("FORMAT")
         .help("Find fields by the pattern of this format, which is shown below")
+}
+
+/// The option with the column whose values are counted.
+fn count_argument<'w>(alloc: Global) -> Result<Arg<'w>, AllocError> {
+    Arg::new(alloc, "count")
+        .long("count")
+        .action(ArgAction::Set)
+        .value_name("COLUMN")
+        .help("Print how often each value of this column occurs, and no rows")
+        .conflicts_with("json")?
+        .conflicts_with("rejects")
 }
 
 /// Adds the options that say what is printed.
@@ -183,6 +200,7 @@ fn read_matches<'w>(alloc: Global, matches: &ArgMatches<'w>) -> Result<Arguments
     Ok(Arguments {
         pattern: pattern_of(matches),
         output: output_of(matches),
+        count: matches.get_str("count"),
         line_buffered: matches.get_flag("line-buffered"),
         files,
     })

@@ -1,14 +1,31 @@
 //! The output for all inputs that the arguments name.
 use crate::command::Arguments;
-use crate::output::Output;
+use crate::count::{Counts, count_lines, no_counts, print_count_head, print_counts};
+use crate::output::{Form, Output};
 use crate::parser::Parser;
 use crate::report::{print_head, print_lines};
-use std::io::{BufReader, BufWriter, Write};
+use std::alloc::Global;
+use std::io::{BufRead, BufReader, BufWriter, Write};
 use std::{fs, io};
 use text_lines::failure::Failure;
 
+/// What standard error says if no line has a row.
+const NO_ROW: &str = "log_extractor: no line matched; --rejects prints lines that have no row";
+
+/// What is done with the lines of the inputs.
+#[derive(Drop)]
+struct Work {
+    output: Output,
+    /// The number of the column whose values are counted, if rows are not printed.
+    column: Option<usize>,
+    /// How often its values occur so far.
+    counts: Counts,
+    /// Whether a line had a row.
+    rows: bool,
+}
+
 /// Prints what is to be printed of the files that the arguments name, in order, or of standard input if there are none.
-/// Returns whether each was read to its end.
+/// Returns whether each was read to its end. If a column is given, its values are counted, and their counts are printed.
 ///
 /// A file that cannot be read, or that has a line for which there is no memory, is named on standard error, and the
 /// next one is read. The error is one of the output, or of memory.
@@ -16,15 +33,16 @@ pub fn print_all(
     rt: &HostRuntime,
     parser: &mut Parser<'_>,
     arguments: &Arguments<'_>,
+    column: Option<usize>,
 ) -> Result<bool, Failure> {
     if arguments.line_buffered {
         // The output for a line is written by one call.
-        return print_to(rt, parser, arguments, &mut io::writer(rt));
+        return print_to(rt, parser, arguments, column, &mut io::writer(rt));
     }
     let Ok(mut out) = BufWriter::new(rt.alloc(), io::writer(rt)) else {
         return Err(Failure::Memory);
     };
-    let complete = print_to(rt, parser, arguments, &mut out)?;
+    let complete = print_to(rt, parser, arguments, column, &mut out)?;
     match out.flush() {
         Ok(()) => Ok(complete),
         Err(error) => Err(Failure::Write(error)),
@@ -36,28 +54,64 @@ fn print_to<W: Write>(
     rt: &HostRuntime,
     parser: &mut Parser<'_>,
     arguments: &Arguments<'_>,
+    column: Option<usize>,
     out: &mut W,
 ) -> Result<bool, Failure> {
     let output = arguments.output;
-    print_head(rt.alloc(), parser, output, out)?;
-    if arguments.files.is_empty() {
-        print_each(rt, parser, output, &["-"], out)
-    } else {
-        print_each(rt, parser, output, &arguments.files, out)
+    let mut work = Work {
+        output,
+        column,
+        counts: no_counts(rt.alloc()),
+        rows: false,
+    };
+    if column.is_none() {
+        print_head(rt.alloc(), parser, output, out)?;
     }
+    let complete = if arguments.files.is_empty() {
+        print_each(rt, parser, &mut work, &["-"], out)?
+    } else {
+        print_each(rt, parser, &mut work, &arguments.files, out)?
+    };
+    if let Some(name) = arguments.count {
+        print_counted(rt, output, name, &work.counts, out)?;
+    }
+    if complete && !work.rows && output != Output::Rejects {
+        let _ = eprintln!(rt; "{NO_ROW}");
+    }
+    Ok(complete)
 }
 
-/// Prints what is to be printed of the lines of these inputs. Returns whether each was read to its end.
+/// Prints the counts of the values of the column of this name.
+fn print_counted<W: Write>(
+    rt: &HostRuntime,
+    output: Output,
+    name: &str,
+    counts: &Counts,
+    out: &mut W,
+) -> Result<(), Failure> {
+    let form = match output {
+        Output::Table(form) => {
+            print_count_head(rt.alloc(), form, name, out)?;
+            form
+        }
+        Output::Rows(form) => form,
+        // These exclude counts.
+        Output::Objects | Output::Rejects => Form::Tabs,
+    };
+    print_counts(rt.alloc(), form, counts, out)
+}
+
+/// Does what is to be done with the lines of these inputs. Returns whether each was read to its end.
 fn print_each<W: Write>(
     rt: &HostRuntime,
     parser: &mut Parser<'_>,
-    output: Output,
+    work: &mut Work,
     names: &[&str],
     out: &mut W,
 ) -> Result<bool, Failure> {
     let mut complete = true;
     for name in names {
-        if let Err(error) = print_named(rt, parser, output, name, out) {
+        if let Err(error) = print_named(rt, parser, work, name, out) {
             if !error.is_of_input() {
                 return Err(error);
             }
@@ -73,11 +127,11 @@ fn print_each<W: Write>(
     Ok(complete)
 }
 
-/// Prints what is to be printed of the lines of the input of this name.
+/// Does what is to be done with the lines of the input of this name.
 fn print_named<W: Write>(
     rt: &HostRuntime,
     parser: &mut Parser<'_>,
-    output: Output,
+    work: &mut Work,
     name: &str,
     out: &mut W,
 ) -> Result<(), Failure> {
@@ -86,15 +140,36 @@ fn print_named<W: Write>(
         let Ok(mut input) = BufReader::new(alloc, rt.reader()) else {
             return Err(Failure::Memory);
         };
-        return print_lines(alloc, parser, output, &mut input, out);
+        return work_on(alloc, parser, work, &mut input, out);
     }
     match fs::open(rt, name) {
         Ok(file) => {
             let Ok(mut input) = BufReader::new(alloc, file) else {
                 return Err(Failure::Memory);
             };
-            print_lines(alloc, parser, output, &mut input, out)
+            work_on(alloc, parser, work, &mut input, out)
         }
         Err(error) => Err(Failure::Read(error)),
     }
+}
+
+/// Does what is to be done with the lines of this input.
+fn work_on<R: BufRead, W: Write>(
+    alloc: Global,
+    parser: &mut Parser<'_>,
+    work: &mut Work,
+    input: &mut R,
+    out: &mut W,
+) -> Result<(), Failure> {
+    match work.column {
+        Some(column) => {
+            count_lines(alloc, parser, column, input, &mut work.counts)?;
+            work.rows = !work.counts.is_empty();
+        }
+        None => {
+            let rows = print_lines(alloc, parser, work.output, input, out)?;
+            work.rows |= rows;
+        }
+    }
+    Ok(())
 }

@@ -2,6 +2,7 @@
 #![tactic(auto)]
 
 mod command;
+mod count;
 mod field;
 mod files;
 mod object;
@@ -12,6 +13,7 @@ mod report;
 mod row;
 
 use crate::command::{Arguments, Command, help_below, parse, split};
+use crate::count::column_named;
 use crate::files::print_all;
 use crate::parser::Parser;
 use crate::pattern::PatternError;
@@ -66,7 +68,14 @@ fn extract(rt: &HostRuntime, arguments: &Arguments<'_>) -> Result<ExitCode> {
         Err(PatternError::Memory) => return Err(PatternError::Memory.into()),
         Err(error) => return Ok(ended(rt, error, MISUSED)),
     };
-    match print_all(rt, &mut parser, arguments) {
+    let column = match arguments.count {
+        Some(name) => match column_named(parser.columns(), name) {
+            Some(column) => Some(column),
+            None => return Ok(ended(rt, format_args!("no column has the name {name}"), MISUSED)),
+        },
+        None => None,
+    };
+    match print_all(rt, &mut parser, arguments, column) {
         Ok(true) => Ok(ExitCode::SUCCESS),
         Ok(false) => Ok(ExitCode::from(FAILED)),
         Err(error) if is_closed_pipe(&error) => Ok(ExitCode::SUCCESS),

@@ -1,9 +1,10 @@
 //! What is printed of an input, line by line.
-ghost use Rattle.std.specs.Prelude.{◌≡◌, ◌++◌, OnOk, map, option_map};
+ghost use Rattle.std.specs.Prelude.{◌≡◌, ◌++◌, IfOk, IfSome, OnOk, is_some, map, option_map};
 ghost use Rattle.std.specs.Io.KnownBytes.{Appends};
-ghost use Rattle.log_extractor.specs.Fields.{IsLinePattern, LinePattern, columns_of, group_of, fields_now};
+ghost use Rattle.text_lines.specs.Lines.{content, lines_of};
+ghost use Rattle.log_extractor.specs.Fields.{IsLinePattern, LinePattern, columns_of, group_of, fields_now, row};
 ghost use Rattle.log_extractor.specs.Going.{Writes};
-ghost use Rattle.log_extractor.specs.Printed.{PartsAreJoined, table_head, extracted_lines};
+ghost use Rattle.log_extractor.specs.Printed.{PartsAreJoined, table_head, extracted_lines, has_row};
 ghost use Rattle.log_extractor.specs.Printed.{shown_line, shown_as, shown_fields, shown_reject};
 ghost use Rattle.log_extractor.specs.declared.output.Form.{Form};
 ghost use Rattle.log_extractor.specs.declared.output.Output.TheVariants as output;
@@ -52,7 +53,7 @@ fn append_head(output: Output, columns: &[Column], out: &mut Vec<u8>) -> Result<
     }
 }
 
-/// Prints what is to be printed of the lines of an input.
+/// Prints what is to be printed of the lines of an input. Returns whether a line has a row.
 ///
 /// What is printed is said of a reader and a writer of known bytes: the text is all that the reader had left. After an
 /// error, what was printed is a beginning of it. The input is read a line at a time, so the memory is bounded by the
@@ -63,42 +64,48 @@ pub fn print_lines<R: BufRead, W: Write>(
     output: Output,
     input: &mut R,
     out: &mut W,
-) -> Result<(), Failure>
+) -> Result<bool, Failure>
     ensures printed { OnOk result (Writes (extracted_lines output) parser.old (R.remaining input.old)
         (W.contents out.old)
         (W.contents out.new)) }
+    ensures rows { IfOk result (λ rows. (p : LinePattern) → IsLinePattern parser.old p
+        → IfSome (R.remaining input.old) (λ text. rows ≡ has_row p (lines_of text))) }
     ensures kept { parser.new ≡ parser.old }
 {
     let mut line = Vec::new(alloc);
     let mut shown = Vec::new(alloc);
+    let mut rows = false;
     for before in 0..u64::MAX {
         shown.clear();
         if !read_line(input, before + 1, &mut line)? {
-            return Ok(());
+            return Ok(rows);
         }
-        let Ok(()) = append_line(alloc, parser, output, &line, &mut shown) else {
+        let Ok(row) = append_line(alloc, parser, output, &line, &mut shown) else {
             return Err(Failure::Line(before + 1));
         };
+        rows |= row;
         write_bytes(out, &shown)?;
     }
     Err(Failure::TooLong)
 }
 
-/// Appends what is printed of the line, which may have its end.
+/// Appends what is printed of the line, which may have its end. Returns whether it has a row.
 fn append_line(
     alloc: Global,
     parser: &mut Parser<'_>,
     output: Output,
     line: &[u8],
     out: &mut Vec<u8>,
-) -> Result<(), AllocError>
+) -> Result<bool, AllocError>
     ensures shown { OnOk result ((p : LinePattern) → IsLinePattern parser.old p
         → out.new.items ≡ out.old.items ++ shown_line output p line.now) }
+    ensures row { IfOk result (λ found. (p : LinePattern) → IsLinePattern parser.old p
+        → found ≡ is_some (row p (content line.now))) }
     ensures kept { parser.new ≡ parser.old }
 {
     let row = parser.parse_line(content(line))?;
     append_shown(alloc, output, parser.columns(), line, &row, out)?;
-    Ok(())
+    Ok(row.is_some())
 }
 
 /// Appends what is printed of a line that has this row.

@@ -17,7 +17,7 @@ pub fn rows_are_read_back()
 {}
 
 /// Returns the byte between the fields.
-fn separator(form: Form) -> u8
+pub fn separator(form: Form) -> u8
     ensures { result ≡ separator form }
 {
     match form {

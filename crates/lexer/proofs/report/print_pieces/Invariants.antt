@@ -4,6 +4,7 @@ use Rattle.regex_hir.specs.Re.{Re}
 use Rattle.nfa_compiler.specs.Compiled.{AreMeant}
 use Rattle.lexer.specs.Lexing.{HasRecovered}
 use Rattle.lexer.specs.Patterns.{rule_syntax}
+use Rattle.lexer.specs.Printed.{position_if}
 use Rattle.lexer.proofs.report.print_pieces.Given as goal
 
 abbrev pub invariant-loop-at : goal.invariant-loop-at
@@ -11,6 +12,7 @@ invariant-loop-at g l = record {
   within : l.at ≤ length l.text;
   printed : (res : List Re) → AreMeant rule_syntax l.fn.lexer res
       → HasRecovered res l.text l.style l.rules l.at l.whole (g.W.Write.contents l.fn.out) (g.W.Write.contents l.out);
+  position : l.position ≡ position_if l.style.positions l.text l.at;
   kept : l.lexer ≡ l.fn.lexer;
 }
 

@@ -1,10 +1,13 @@
 -- A token more was printed, or none starts where the last one ends.
-use Rattle.std.proofs.Common.{rules, ◌≡◌, ℕ, List, arith, subst, sym}
+use Rattle.std.proofs.Common.{rules, ◌≡◌, ◌∙◌, ℕ, List, ap, arith, subst, sym}
 use Rattle.std.specs.Prelude.{None}
 use Rattle.std.proofs.KnownBytes.{Appends-kept}
 use Rattle.nfa_compiler.specs.Compiled.{AreMeant}
 use Rattle.lexer.specs.Patterns.{rule_syntax}
+use Rattle.lexer.specs.Printed.{position_if}
 use Rattle.lexer.specs.Tokens.{token_found}
+use Rattle.lexer.proofs.LexedLemmas.{token-lies}
+use Rattle.lexer.proofs.PositionLemmas.{position-given, position-moved, position-start}
 use Rattle.lexer.proofs.PrintedLemmas.{printed-all, printed-more, printed-none, printed-stuck, stuck-not-whole}
 use Rattle.lexer.proofs.PrintedLemmas.{whole-if-all}
 use Rattle.lexer.proofs.report.print_tokens.Goals as goal
@@ -14,8 +17,13 @@ loop-at-init g c = record {
   within = omega arith;
   printed = λ res meant. printed-none c.args.style c.args.rules.now res c.args.text.now
       (g.W.Write.contents c.args.out.now);
+  position = position-start c.args.style.positions _ c.args.text.now c.first_shown-position.ensures;
   kept = search rules;
 }
+
+pub moved-position-requires-clause-place : goal.moved-position-requires-clause-place
+moved-position-requires-clause-place g c =
+    position-given c.args.style.positions c.loop-at.position c.args.text.now c.loop-at.at c.loop-at.invariant.position
 
 pub loop-at-preserved : goal.loop-at-preserved
 loop-at-preserved g c = record {
@@ -23,10 +31,20 @@ loop-at-preserved g c = record {
   printed = λ res meant.
       let inv = c.loop-at.invariant in
       let here = subst (λ (ps : List (List ℕ)). AreMeant rule_syntax ps res) (sym inv.kept) meant in
+      let is = c.in-Some.ensures.token res here in
+      let lies = token-lies res c.args.text.now c.loop-at.at inv.within (token_found c.in-Some.token) (sym is) in
+      let place : c.shown_at-shown.result.position
+      ≡ position_if c.args.style.positions c.args.text.now c.in-Some.token.span.start =
+      c.shown_at-shown.ensures.position ∙ inv.position
+      ∙ ap (position_if c.args.style.positions c.args.text.now) (sym lies.start) in
+      let writes = rw (c.shown_at-shown.ensures.span, place, c.shown_at-shown.ensures.text)
+      at c.in_ok-write_token.ensures in
       printed-more c.args.style c.args.rules.now res c.args.text.now (g.W.Write.contents c.args.out.now)
       c.loop-at.at (token_found c.in-Some.token) (g.W.Write.contents c.loop-at.out)
-      (g.W.Write.contents c.write_token.new.out) inv.within (inv.printed res meant)
-      (c.in-Some.ensures.token res here) c.in_ok-write_token.ensures;
+      (g.W.Write.contents c.write_token.new.out) inv.within (inv.printed res meant) is writes;
+  position = c.moved-position.ensures
+      ∙ position-moved c.args.style.positions c.loop-at.position c.args.text.now c.loop-at.at c.in-Some.token.span.end
+      c.loop-at.invariant.position;
   kept = search rules;
 }
 
@@ -37,7 +55,7 @@ returns-in_default-clause-printed g c = λ res meant.
     let here = subst (λ (ps : List (List ℕ)). AreMeant rule_syntax ps res) (sym inv.kept) start in
     let none : c.token_at.result ≡ None = search rules in
     let writes = Appends-kept (g.W.Write.contents c.loop-at.out) (g.W.Write.contents c.write_stuck.new.out) _ _
-    c.in_ok-write_stuck.ensures c.flush.ensures.bytes in
+    (rw inv.position at c.in_ok-write_stuck.ensures) c.flush.ensures.bytes in
     printed-stuck c.args.style c.args.rules.now res c.args.text.now (g.W.Write.contents c.args.out.now) c.loop-at.at
     (g.W.Write.contents c.loop-at.out) _ c.loop-at-test.true (inv.printed res start)
     (rw none at (c.token_at.ensures.token res here)) writes

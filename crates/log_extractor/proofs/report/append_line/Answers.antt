@@ -1,7 +1,9 @@
 -- The row is that of the line.
 use Rattle.std.proofs.Common.{◌∙◌, ◌++◌, ℕ, List, ap, ap₂, subst, sym}
+use Rattle.std.specs.Prelude.{is_some}
 use Rattle.log_extractor.specs.Fields.{IsLinePattern, row}
 use Rattle.log_extractor.specs.Printed.{shown_as}
+use Rattle.log_extractor.proofs.GoingLemmas.{is_some-map}
 use Rattle.log_extractor.proofs.report.append_line.Goals as goal
 
 pub returns-clause-shown : goal.returns-clause-shown
@@ -10,3 +12,8 @@ returns-clause-shown c = λ p is.
     c.in_ok-append_shown.ensures
     ∙ ap₂ (λ cs r. c.args.out.now.items ++ shown_as c.args.output cs c.args.line.now r) (c.columns.ensures p here)
     (c.in_ok-row.ensures.fields p is ∙ ap (row p) c.content.ensures)
+
+pub returns-clause-row : goal.returns-clause-row
+returns-clause-row c = λ p is.
+    c.is_some.ensures ∙ sym (is_some-map _ c.in_ok-row.row)
+    ∙ ap is_some (c.in_ok-row.ensures.fields p is ∙ ap (row p) c.content.ensures)

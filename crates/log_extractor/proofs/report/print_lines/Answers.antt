@@ -1,10 +1,18 @@
 -- The run goes on by a line, and ends if nothing is left to read.
 use Rattle.std.proofs.Common.{rules, ◌≡◌, ℕ, List, false, subst, sym, true}
 use Rattle.std.specs.Io.KnownBytes.{Appends}
-use Rattle.log_extractor.specs.Fields.{IsLinePattern}
+use Rattle.std.specs.Prelude.{is_some}
+use Rattle.text_lines.specs.Lines.{content}
+use Rattle.log_extractor.specs.Fields.{IsLinePattern, row}
 use Rattle.log_extractor.specs.Printed.{shown_line}
-use Rattle.log_extractor.proofs.GoingLemmas.{going-end, going-step}
+use Rattle.log_extractor.proofs.GoingLemmas.{going-end, going-step, looking-end, looking-step}
 use Rattle.log_extractor.proofs.report.print_lines.Goals as goal
+
+pub returns-then-not-branch-clause-rows : goal.returns-then-not-branch-clause-rows
+returns-then-not-branch-clause-rows g c = λ p is.
+    let none : c.in_ok-read_line.field-0 ≡ false = search rules in
+    looking-end p _ (g.R.Read.remaining c.loop-before.input) c.loop-before.rows (c.in_ok-read_line.ensures.ended none)
+    (c.loop-before.invariant.looked p is)
 
 pub returns-then-not-branch-clause-printed : goal.returns-then-not-branch-clause-printed
 returns-then-not-branch-clause-printed g c = λ p is.
@@ -29,5 +37,13 @@ loop-before-preserved g c =
           (g.R.Read.remaining c.read_line.new.input) (g.W.Write.contents c.args.out.now)
           (g.W.Write.contents c.loop-before.out) (g.W.Write.contents c.write_bytes.new.out) line
           (c.in_ok-read_line.ensures.taken some) writes (inv.printed p is);
+      looked = λ p is.
+          let some : c.in_ok-read_line.field-0 ≡ true = search rules in
+          let is-here = subst (λ (text : List ℕ). IsLinePattern text p) (sym inv.kept) is in
+          let here : c.in-Ok.row ≡ is_some (row p (content line)) =
+          rw (c.deref.ensures.value) at (c.in-Ok.ensures.row p is-here) in
+          rw here (looking-step p (g.R.Read.remaining c.args.input.now) (g.R.Read.remaining c.loop-before.input)
+          (g.R.Read.remaining c.read_line.new.input) line c.loop-before.rows (c.in_ok-read_line.ensures.taken some)
+          (inv.looked p is));
       kept = search rules;
     }

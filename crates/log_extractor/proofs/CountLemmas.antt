@@ -1,0 +1,289 @@
+-- How values are counted, and how the counts are listed.
+use Rattle.std.proofs.Common.{◌≡◌, ◌∙◌, ℕ, zero, suc, ◌+◌, ◌<◌, ◌≤◌, Bool, true, false, cond, List, [], ◌∷◌, ◌++◌, All, length, map, refl, sym, ap, subst, arith, inl, inr, get_or, append_assoc, append-nil}
+use Rattle.std.specs.Prelude.{◌⊎◌, Option, None, Some, IfSome, flat_map, slice_get, string_bytes, unwrap_or}
+use Rattle.std.specs.Borrow.{Bor}
+use Rattle.std.specs.BTreeMap.{BTreeMap, IsEmpty, IsOrdered, UpdatesBy, is_at}
+use Rattle.std.specs.Cmp.Lexicographic.{slice_cmp, bytes_decides, nat_list_cmp_total, nat_list_eq_equiv}
+use Rattle.std.specs.Cmp.{eq_by_cmp_equiv}
+use Rattle.std.specs.Global.{Vec}
+use Rattle.std.specs.List.{AllAdjacentBelow, AllByRecursion, Contains, IsDistinct}
+use Rattle.std.specs.List.Sorted.{IsPermutation, IsSorted, IsStrictlySortedBy}
+use Rattle.std.specs.Map.{KeepsOthers, AreApart, IsKeyTest, keys_of, lookup}
+use Rattle.std.specs.Ordering.{eq_by_cmp, is_eq, is_lt, nat_cmp, ordering_then}
+use Rattle.std.specs.Str.{bytes_eq}
+use Rattle.std.specs.declared.cmp.Ordering.{Ordering}
+use Rattle.std.specs.declared.cmp.Ordering.TheVariants.{Less}
+use Rattle.std.specs.declared.cmp.Reverse.{Reverse}
+use Rattle.std.proofs.lemmas.Bool.{cases_Bool, cases_lt, cond-false, cond-true, le-ltb, lt-ltb, eq-eqb}
+use Rattle.std.proofs.lemmas.Grind.{flat_map-append}
+use Rattle.std.proofs.lemmas.List.{get_or-map, length-map, map-append}
+use Rattle.std.proofs.lemmas.List.Elements.{All-map}
+use Rattle.std.proofs.lemmas.List.Sorted.{All-permutation, Contains-permutation, IsPermutation-map}
+use Rattle.std.proofs.lemmas.List.Sums.{sum_by_push}
+use Rattle.std.proofs.lemmas.Map.Keys.{IsDistinct-IsPermutation, IsDistinct-cons, sorted_head, sorted_tail}
+use Rattle.std.proofs.lemmas.Map.Text.{is_eq-slice_cmp}
+use Rattle.text_lines.specs.Lines.{HasNoLine, TakesLine}
+use Rattle.text_lines.proofs.LineLemmas.{first-line, none-left}
+use Rattle.log_extractor.specs.Counts.{IsCountList, IsFound, IsTally, MayPrecede, count_in, count_of, counted}
+use Rattle.log_extractor.specs.Counts.{entry_counted, key_cmp, occurrences, positive, value_in, values_in}
+use Rattle.log_extractor.specs.Fields.{LinePattern, group_of}
+use Rattle.log_extractor.specs.Printed.{column_names}
+use Rattle.log_extractor.specs.declared.pattern.Column.{Column}
+
+-- One more value is counted.
+
+apart : (bs cs ks : List ℕ) → bytes_eq bs cs ≡ false → bytes_eq bs ks ≡ true → bytes_eq cs ks ≡ false
+apart bs cs ks n y = nat_list_eq_equiv.symm cs ks ∙ sym (nat_list_eq_equiv.congr bs ks cs y) ∙ n
+
+apart-in-order : (bs cs ks : List ℕ) → bytes_eq bs cs ≡ false → is_eq (slice_cmp nat_cmp bs ks) ≡ true
+    → is_eq (slice_cmp nat_cmp cs ks) ≡ false
+apart-in-order bs cs ks n y = is_eq-slice_cmp cs ks ∙ apart bs cs ks n (sym (is_eq-slice_cmp bs ks) ∙ y)
+
+module _ (eq : Vec ℕ → Vec ℕ → Bool) (test : Vec ℕ → Bool) where
+  other-entries : (old new : List (Vec ℕ × ℕ)) → KeepsOthers eq test old new → (other : Vec ℕ → Bool)
+      → IsKeyTest eq other → AreApart test other → lookup other new ≡ lookup other old
+  unfolding KeepsOthers
+  other-entries old new h = h
+
+-- what a map has after a change at these bytes
+updated : (bs : List ℕ) (m n : BTreeMap (Vec ℕ) ℕ) (w : Option ℕ)
+    → UpdatesBy key_cmp (λ k. slice_cmp nat_cmp bs k.items) m n w → (cs : List ℕ)
+    → count_in n cs ≡ cond (bytes_eq bs cs) w (count_in m cs)
+updated bs m n w h cs = elim (cases_Bool (bytes_eq bs cs)) [
+  | inl y ↦
+      subst (λ (l : List ℕ). count_in n l ≡ w) ((bytes_decides bs cs).0 y) h.1
+      ∙ sym (cond-true (bytes_eq bs cs) w (count_in m cs) y)
+  | inr differs ↦
+      other-entries _ _ _ _ h.3 _
+      (λ x y. (eq_by_cmp_equiv nat_list_cmp_total).congr cs x.items y.items)
+      (λ k. apart-in-order bs cs k.items differs)
+      ∙ sym (cond-false (bytes_eq bs cs) w (count_in m cs) differs)
+]
+
+pub tally-none : (m : BTreeMap (Vec ℕ) ℕ) → IsEmpty m → IsTally [] m
+tally-none m empty = λ value. rw empty refl
+
+positive-more : (n : ℕ) → positive (n + 1) ≡ Some (n + 1)
+positive-more n = let e : n + 1 ≡ suc n = omega arith in rw e refl
+
+number-of : (n : ℕ) → unwrap_or (positive n) 0 ≡ n
+number-of zero = refl
+number-of (suc n) = refl
+
+one-more : (v : List ℕ) (values : List (List ℕ)) (w : List ℕ)
+    → occurrences v (values ++ w ∷ []) ≡ occurrences v values + cond (bytes_eq v w) 1 0
+one-more v values w = sum_by_push _ values w
+
+pub tally-more : (values : List (List ℕ)) (value key : List ℕ) (m n : BTreeMap (Vec ℕ) ℕ) (next : ℕ)
+    → IsTally values m → key ≡ value → next ≡ count_of m value + 1
+    → UpdatesBy key_cmp (λ k. slice_cmp nat_cmp key k.items) m n (Some next) → IsTally (values ++ value ∷ []) n
+tally-more values value key m n next tally same next-is updates = λ v.
+    let now = updated key m n (Some next) updates v in
+    elim (cases_Bool (bytes_eq value v)) [
+      | inl y ↦
+          let is : value ≡ v = (bytes_decides value v).0 y in
+          let count : next ≡ occurrences v values + 1 =
+          next-is ∙ ap (λ o. unwrap_or o 0 + 1) (tally value)
+          ∙ ap (λ k. k + 1) (number-of (occurrences value values))
+          ∙ ap (λ u. occurrences u values + 1) is in
+          let more : occurrences v (values ++ value ∷ []) ≡ occurrences v values + 1 =
+          one-more v values value ∙ rw (nat_list_eq_equiv.symm v value, y) refl in
+          now ∙ rw (same, y) (ap Some count) ∙ sym (ap positive more ∙ positive-more (occurrences v values))
+      | inr differs ↦
+          let more : occurrences v (values ++ value ∷ []) ≡ occurrences v values =
+          one-more v values value ∙ rw (nat_list_eq_equiv.symm v value, differs) (omega arith) in
+          now ∙ rw (same, differs) (tally v) ∙ sym (ap positive more)
+    ]
+
+pub tally-same : (values : List (List ℕ)) (m : BTreeMap (Vec ℕ) ℕ) → IsTally values m → IsTally (values ++ []) m
+tally-same values m tally = rw (append-nil values) tally
+
+-- A run over the lines of an input.
+
+-- the values of the lines so far were counted
+pub record IsCounting (p : LinePattern) (column : ℕ) (values : List (List ℕ)) (text : List ℕ) (input : Option (List ℕ))
+    (counts : BTreeMap (Vec ℕ) ℕ) : Type 0 where
+  pub rest : List ℕ
+  pub rest_is : input ≡ Some rest
+  pub so_far : List (List ℕ)
+  pub tally : IsTally (values ++ so_far) counts
+  pub values_are : values_in p column text ≡ so_far ++ values_in p column rest
+
+abbrev pub HasCounted : LinePattern → ℕ → List (List ℕ) → Option (List ℕ) → Option (List ℕ)
+    → BTreeMap (Vec ℕ) ℕ → Type 0
+HasCounted p column values before input counts =
+    IfSome before (λ text. IsCounting p column values text input counts)
+
+module _ (p : LinePattern) (column : ℕ) (values : List (List ℕ)) where
+  pub counting-init : (input : Option (List ℕ)) (m : BTreeMap (Vec ℕ) ℕ) → IsTally values m
+      → HasCounted p column values input input m
+  counting-init None m tally = tt
+  counting-init (Some text) m tally = record {
+    rest = text;
+    rest_is = refl;
+    so_far = [];
+    tally = tally-same values m tally;
+    values_are = refl;
+  }
+
+  pub counting-step : (before input after : Option (List ℕ)) (line : List ℕ) (m n : BTreeMap (Vec ℕ) ℕ)
+      → TakesLine input after line
+      → ((seen : List (List ℕ)) → IsTally seen m → IsTally (seen ++ value_in p column line) n)
+      → HasCounted p column values before input m → HasCounted p column values before after n
+  counting-step None input after line m n takes adds going = tt
+  counting-step (Some text) input after line m n takes adds going =
+      let first = first-line input going.rest going.rest_is after line takes in
+      let here = value_in p column line in
+      record {
+        rest = first.rest;
+        rest_is = first.left_is;
+        so_far = going.so_far ++ here;
+        tally = rw (← append_assoc values going.so_far here) (adds (values ++ going.so_far) going.tally);
+        values_are = going.values_are
+            ∙ ap (λ (ls : List (List ℕ)). going.so_far ++ flat_map (value_in p column) ls) first.lines_are
+            ∙ sym (append_assoc going.so_far here (values_in p column first.rest));
+      }
+
+  pub counting-end : (before input : Option (List ℕ)) (m : BTreeMap (Vec ℕ) ℕ) → HasNoLine input
+      → HasCounted p column values before input m
+      → IfSome before (λ text. IsTally (values ++ values_in p column text) m)
+  counting-end None input m end going = tt
+  counting-end (Some text) input m end going =
+      let done : values_in p column text ≡ going.so_far =
+      going.values_are
+      ∙ ap (λ (ls : List (List ℕ)). going.so_far ++ flat_map (value_in p column) ls)
+      (none-left input going.rest going.rest_is end)
+      ∙ append-nil going.so_far in
+      subst (λ (vs : List (List ℕ)). IsTally (values ++ vs) m) (sym done) going.tally
+
+-- The list of the counts.
+
+abbrev Pair : Type 0
+Pair = Reverse ℕ × Bor (List ℕ)
+
+abbrev second : ℕ × List ℕ → List ℕ
+second c = c.1
+
+abbrev bytes_of : Vec ℕ → List ℕ
+bytes_of k = k.items
+
+pub listed-more : (xs : List Pair) (pair : Pair) (e : Vec ℕ × ℕ) (s t : List (Vec ℕ × ℕ)) (all : List (ℕ × List ℕ))
+    → map counted xs ++ map entry_counted s ≡ all → s ≡ e ∷ t → counted pair ≡ entry_counted e
+    → map counted (xs ++ pair ∷ []) ++ map entry_counted t ≡ all
+listed-more xs pair e s t all so-far is same =
+    ap (λ (cs : List (ℕ × List ℕ)). cs ++ map entry_counted t) (map-append counted xs (pair ∷ []))
+    ∙ append_assoc (map counted xs) (counted pair ∷ []) (map entry_counted t)
+    ∙ ap (λ (c : ℕ × List ℕ). map counted xs ++ c ∷ map entry_counted t) same
+    ∙ ap (λ (es : List (Vec ℕ × ℕ)). map counted xs ++ map entry_counted es) (sym is)
+    ∙ so-far
+
+positive-is : (n k : ℕ) → positive n ≡ Some k → (k ≡ n) × (0 < k)
+positive-is zero k h = absurd (cc)
+positive-is (suc n) k h =
+    let same : suc n ≡ k = cc in (sym same, omega (arith, same))
+
+abbrev IsCounted : List (List ℕ) → ℕ × List ℕ → Type 0
+IsCounted values c = (c.0 ≡ occurrences c.1 values) × (0 < c.0)
+
+list-counts : (values : List (List ℕ)) (m : BTreeMap (Vec ℕ) ℕ) → IsTally values m → IsFound m
+    → All (IsCounted values) (map entry_counted m.entries)
+list-counts values m tally found =
+    All-map (IsCounted values) entry_counted m.entries
+    (λ k d inside. positive-is _ _ (sym (tally (get_or m.entries k d).0.items) ∙ found k d inside))
+
+contains-head : (x : List ℕ) (xs : List (List ℕ)) → Contains (x ∷ xs) x
+contains-head x xs = (0, omega arith, refl)
+
+contains-tail : (x y : List ℕ) (xs : List (List ℕ)) → Contains xs y → Contains (x ∷ xs) y
+contains-tail x y xs c = (suc c.0, omega (arith, c.1), c.2)
+
+has-value : (v : List ℕ) (es : List (Vec ℕ × ℕ)) (n : ℕ)
+    → lookup (is_at (λ (k : Vec ℕ). slice_cmp nat_cmp v k.items)) es ≡ Some n
+    → Contains (map second (map entry_counted es)) v
+has-value v [] n there = absurd (cc)
+has-value v (e ∷ es) n there = elim (cases_Bool (is_eq (slice_cmp nat_cmp v e.0.items))) [
+  | inl y ↦
+      let same : e.0.items ≡ v = sym ((bytes_decides v e.0.items).0 (sym (is_eq-slice_cmp v e.0.items) ∙ y)) in
+      subst (λ (x : List ℕ). Contains (e.0.items ∷ map second (map entry_counted es)) x) same (contains-head e.0.items _)
+  | inr differs ↦ contains-tail e.0.items v _ (has-value v es n (rw differs at there))
+]
+
+positive-some : (n : ℕ) → 0 < n → positive n ≡ Some n
+positive-some zero none = absurd (omega (arith, none))
+positive-some (suc n) some = refl
+
+less-apart : (a b : List ℕ) → slice_cmp nat_cmp a b ≡ Less → bytes_eq a b ≡ false
+less-apart a b less = sym (is_eq-slice_cmp a b) ∙ ap is_eq less
+
+all-apart : (k : Vec ℕ) (es : List (Vec ℕ × ℕ)) → AllByRecursion (λ y. key_cmp k y ≡ Less) (keys_of es)
+    → AllByRecursion (λ y. bytes_eq k.items y ≡ false) (map second (map entry_counted es))
+all-apart k [] less = tt
+all-apart k (e ∷ es) less = (less-apart k.items e.0.items less.0, all-apart k es less.1)
+
+distinct-values : (es : List (Vec ℕ × ℕ)) → IsStrictlySortedBy key_cmp (keys_of es)
+    → IsDistinct bytes_eq (map second (map entry_counted es))
+unfolding IsDistinct
+distinct-values [] sorted = tt
+distinct-values (e ∷ es) sorted = (
+  all-apart e.0 es (sorted_head key_cmp e.0 (keys_of es) sorted),
+  distinct-values es (sorted_tail key_cmp e.0 (keys_of es) sorted),
+)
+
+abbrev pub pair_cmp : Pair → Pair → Ordering
+pair_cmp x y = ordering_then (nat_cmp y.0.0 x.0.0) (slice_cmp nat_cmp x.1.now y.1.now)
+
+order-of : (x y : ℕ) (o : Ordering) → is_lt (ordering_then (nat_cmp x y) o) ≡ false
+    → (y < x) ⊎ ((x ≡ y) × (is_lt o ≡ false))
+order-of x y o h = elim (cases_lt x y) [
+  | inl less ↦ let wrong : true ≡ false = rw (lt-ltb x y less) at h in absurd (cc)
+  | inr more ↦ elim (cases_lt y x) [
+    | inl less ↦ inl less
+    | inr other ↦
+        let same : x ≡ y = omega (arith, more, other) in
+        inr (same, rw (le-ltb x y more, eq-eqb x y same) at h)
+  ]
+]
+
+may-precede : (a b : Pair) → is_lt (pair_cmp b a) ≡ false → MayPrecede (counted a) (counted b)
+may-precede a b h = order-of a.0.0 b.0.0 (slice_cmp nat_cmp b.1.now a.1.now) h
+
+abbrev pair_of : ℕ × List ℕ → Pair
+pair_of c = (record { 0 = c.0 }, record { ref_ptr = (0, 0); now = c.1 })
+
+sorted-counts : (xs : List Pair) → IsSorted pair_cmp xs
+    → AllAdjacentBelow MayPrecede (map counted xs) (length (map counted xs))
+sorted-counts xs sorted = λ k d below.
+    let inside : k + 1 < length xs = omega (arith, below, length-map xs counted) in
+    let step = may-precede (get_or xs k (pair_of d)) (get_or xs (k + 1) (pair_of d))
+    (sorted k (pair_of d) (omega arith) inside) in
+    rw (get_or-map counted xs k (pair_of d) d (omega (arith, inside)), get_or-map counted xs (k + 1) (pair_of d) d inside)
+    step
+
+pub count-list : (values : List (List ℕ)) (m : BTreeMap (Vec ℕ) ℕ) (xs ys : List Pair) → IsTally values m
+    → IsOrdered key_cmp m → IsFound m → map counted xs ≡ map entry_counted m.entries → IsPermutation xs ys
+    → IsSorted pair_cmp ys → IsCountList values (map counted ys)
+count-list values m xs ys tally ordered found same moved sorted =
+    let pairs = IsPermutation-map counted xs ys moved in
+    let texts = IsPermutation-map second (map counted xs) (map counted ys) pairs in
+    record {
+      counts = All-permutation (IsCounted values) (map counted xs) (map counted ys) pairs
+          (subst (All (IsCounted values)) (sym same) (list-counts values m tally found));
+      all = λ value some.
+          Contains-permutation (map second (map counted xs)) (map second (map counted ys)) value texts
+          (subst (λ (cs : List (ℕ × List ℕ)). Contains (map second cs) value) (sym same)
+          (has-value value m.entries _ (tally value ∙ positive-some (occurrences value values) some)));
+      once = IsDistinct-IsPermutation bytes_eq (λ x y. nat_list_eq_equiv.symm x y) (map second (map counted xs))
+          (map second (map counted ys)) texts
+          (subst (λ (cs : List (ℕ × List ℕ)). IsDistinct bytes_eq (map second cs)) (sym same)
+          (distinct-values m.entries ordered));
+      sorted = sorted-counts ys sorted;
+    }
+
+-- The column of a name.
+
+pub names-at : (columns : List Column) (k : ℕ) (column : Column) → k < length columns
+    → column ≡ get_or columns k column
+    → slice_get (column_names (map group_of columns)) k ≡ Some (string_bytes column.name)
+names-at [] k column inside at = absurd (omega (arith, inside))
+names-at (c ∷ cs) zero column inside at = ap (λ (x : Column). Some (string_bytes x.name)) (sym at)
+names-at (c ∷ cs) (suc k) column inside at = names-at cs k column (omega (arith, inside)) at

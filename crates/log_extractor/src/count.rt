@@ -1,0 +1,236 @@
+//! How often each value of a column occurs.
+ghost use Rattle.std.specs.Prelude.{◌≡◌, ◌++◌, ◌∷◌, [], IfErr, IfNone, IfOk, IfSome, List, OnOk, map, option_map, slice_get, string_bytes, ℕ};
+ghost use Rattle.std.specs.Io.KnownBytes.{Appends};
+ghost use Rattle.text_lines.specs.Lines.{content};
+ghost use Rattle.std.specs.BTreeMap.{IsOrdered};
+ghost use Rattle.std.specs.Str.{bytes_eq};
+ghost use Rattle.log_extractor.specs.Counts.{IsCountList, IsFound, IsTally, count_head, count_line, count_lines, count_of};
+ghost use Rattle.log_extractor.specs.Counts.{counted, entry_counted, key_cmp, value_at, value_in, values_in};
+ghost use Rattle.log_extractor.specs.Fields.{IsLinePattern, LinePattern, fields_now, group_of, row};
+ghost use Rattle.log_extractor.specs.Printed.{column_names};
+
+use crate::field::append_text;
+use crate::output::Form;
+use crate::parser::Parser;
+use crate::pattern::Column;
+use crate::row::separator;
+use std::alloc::{AllocError, Global};
+use std::cmp::Reverse;
+use std::collections::BTreeMap;
+use std::io::{BufRead, Write};
+use text_lines::failure::Failure;
+use text_lines::line::content;
+use text_lines::stream::{read_line, write_bytes};
+
+/// How often each value occurs, by the values that occur.
+pub type Counts = BTreeMap<Vec<u8>, u64>;
+
+/// A value, and how often it occurs. Those that occur more often are less, and then those that are less as bytes.
+pub type Counted<'c> = (Reverse<u64>, &'c [u8]);
+
+/// Returns counts of no values.
+pub fn no_counts(alloc: Global) -> Counts
+    ensures { IsTally [] result }
+{
+    BTreeMap::new(alloc)
+}
+
+/// Returns the number of the column of this name, from 0.
+pub fn column_named(columns: &[Column], name: &str) -> Option<usize>
+    ensures found { IfSome result (λ k. slice_get (column_names (map group_of columns.now)) k ≡ Some name.now) }
+{
+    for (number, column) in columns.iter().enumerate() {
+        if is_named(column, name) {
+            return Some(number);
+        }
+    }
+    None
+}
+
+/// Returns whether the column has this name.
+fn is_named(column: &Column, name: &str) -> bool
+    ensures { result ≡ bytes_eq (string_bytes column.now.name) name.now }
+{
+    column.name.as_str() == name
+}
+
+/// Counts the values of the column of this number in the rows of an input. A field that is `None` is an empty value.
+///
+/// The input is read a line at a time, so the memory is bounded by the longest line and the values that differ.
+pub fn count_lines<R: BufRead>(
+    alloc: Global,
+    parser: &mut Parser<'_>,
+    column: usize,
+    input: &mut R,
+    counts: &mut Counts,
+) -> Result<(), Failure>
+    ensures counted { OnOk result ((p : LinePattern) → IsLinePattern parser.old p → (values : List (List ℕ))
+        → IsTally values counts.old → IfSome (R.remaining input.old)
+        (λ text. IsTally (values ++ values_in p column text) counts.new)) }
+    ensures kept { parser.new ≡ parser.old }
+{
+    let mut line = Vec::new(alloc);
+    for before in 0..u64::MAX {
+        if !read_line(input, before + 1, &mut line)? {
+            return Ok(());
+        }
+        count_one(alloc, parser, column, &line, before + 1, counts)?;
+    }
+    Err(Failure::TooLong)
+}
+
+/// Counts the value of the column in the row of the line, if it has one. The line may have its end, and has this number,
+/// from 1.
+fn count_one(
+    alloc: Global,
+    parser: &mut Parser<'_>,
+    column: usize,
+    line: &[u8],
+    number: u64,
+    counts: &mut Counts,
+) -> Result<(), Failure>
+    ensures counted { OnOk result ((p : LinePattern) → IsLinePattern parser.old p → (values : List (List ℕ))
+        → IsTally values counts.old → IsTally (values ++ value_in p column line.now) counts.new) }
+    ensures kept { parser.new ≡ parser.old }
+{
+    let Ok(row) = parser.parse_line(content(line)) else {
+        return Err(Failure::Line(number));
+    };
+    let Some(value) = value_at(&row, column) else {
+        return Ok(());
+    };
+    add(alloc, counts, value, number)
+}
+
+/// Returns the text of the field of this number, if there are fields.
+fn value_at<'l>(row: &Option<Vec<Option<&'l [u8]>>>, column: usize) -> Option<&'l [u8]>
+    ensures { option_map (λ value. value.now) result
+        ≡ value_at column (option_map (λ fields. fields_now fields.items) row.now) }
+{
+    let Some(fields) = row else {
+        return None;
+    };
+    field_at(fields, column)
+}
+
+/// Returns the text of the field of this number, which is empty if its group took no part.
+fn field_at<'l>(fields: &[Option<&'l [u8]>], column: usize) -> Option<&'l [u8]>
+    ensures { option_map (λ value. value.now) result ≡ value_at column (Some (fields_now fields.now)) }
+{
+    let field = *fields.get(column)?;
+    Some(field.unwrap_or(b""))
+}
+
+/// Returns how often the value was counted.
+fn count_of(counts: &Counts, value: &[u8]) -> u64
+    ensures { result ≡ count_of counts.now value.now }
+{
+    counts.get(value).copied().unwrap_or(0)
+}
+
+/// Counts the value once more. It is of the line of this number.
+fn add(alloc: Global, counts: &mut Counts, value: &[u8], number: u64) -> Result<(), Failure>
+    ensures { OnOk result ((values : List (List ℕ)) → IsTally values counts.old
+        → IsTally (values ++ value.now ∷ []) counts.new) }
+{
+    let Some(next) = count_of(counts, value).checked_add(1) else {
+        return Err(Failure::TooLong);
+    };
+    let Ok(key) = Vec::from_slice(alloc, value) else {
+        return Err(Failure::Line(number));
+    };
+    let Ok(_) = counts.insert(key, next) else {
+        return Err(Failure::Line(number));
+    };
+    Ok(())
+}
+
+/// Prints a line with the names of the columns of the counts.
+pub fn print_count_head<W: Write>(
+    alloc: Global,
+    form: Form,
+    name: &str,
+    out: &mut W,
+) -> Result<(), Failure>
+    ensures { OnOk result (Appends (W.contents out.old) (W.contents out.new) (count_head form name.now)) }
+{
+    let mut line = Vec::new(alloc);
+    append_count_head(form, name, &mut line)?;
+    write_bytes(out, &line)
+}
+
+fn append_count_head(form: Form, name: &str, out: &mut Vec<u8>) -> Result<(), AllocError>
+    ensures { OnOk result (out.new.items ≡ out.old.items ++ count_head form name.now) }
+{
+    out.extend_from_slice(b"count")?;
+    out.push(separator(form))?;
+    append_text(form, name.as_bytes(), out)?;
+    out.push(b'\n')?;
+    Ok(())
+}
+
+/// Prints a row for each value, with its count. The most frequent are first, and values that occur as often as each other
+/// are in the order of their bytes.
+pub fn print_counts<W: Write>(
+    alloc: Global,
+    form: Form,
+    counts: &Counts,
+    out: &mut W,
+) -> Result<(), Failure>
+    ensures { OnOk result ((values : List (List ℕ)) → IsTally values counts.now
+        → (listed : List (ℕ × List ℕ)) × IsCountList values listed
+        × Appends (W.contents out.old) (W.contents out.new) (count_lines form listed)) }
+{
+    let mut listed = listed_values(alloc, counts)?;
+    listed.sort()?;
+    let mut rows = Vec::new(alloc);
+    append_counts(alloc, form, &listed, &mut rows)?;
+    write_bytes(out, &rows)?;
+    Ok(())
+}
+
+/// Returns the values with their counts, in the order of the values.
+fn listed_values<'c>(alloc: Global, counts: &'c Counts) -> Result<Vec<Counted<'c>>, AllocError>
+    ensures entries { IfOk result (λ listed. map counted listed.items ≡ map entry_counted counts.now.entries) }
+    ensures ordered { IfOk result (λ _. IsOrdered key_cmp counts.now) }
+    ensures found { IfOk result (λ _. IsFound counts.now) }
+{
+    let mut listed = Vec::with_capacity(alloc, counts.len())?;
+    for (value, count) in counts.iter() {
+        listed.push((Reverse(*count), value.as_slice()))?;
+    }
+    Ok(listed)
+}
+
+/// Appends a row for each of these values.
+fn append_counts(
+    alloc: Global,
+    form: Form,
+    listed: &[Counted<'_>],
+    out: &mut Vec<u8>,
+) -> Result<(), AllocError>
+    ensures { OnOk result (out.new.items ≡ out.old.items ++ count_lines form (map counted listed.now)) }
+{
+    for (count, value) in listed {
+        append_count(alloc, form, count.0, value, out)?;
+    }
+    Ok(())
+}
+
+/// Appends a row with the count and the value.
+fn append_count(
+    alloc: Global,
+    form: Form,
+    count: u64,
+    value: &[u8],
+    out: &mut Vec<u8>,
+) -> Result<(), AllocError>
+    ensures { OnOk result (out.new.items ≡ out.old.items ++ count_line form (count, value.now)) }
+{
+    let digits = format!(in alloc; "{count}")?;
+    out.extend_from_slice(digits.as_bytes())?;
+    out.push(separator(form))?;
+    append_text(form, value, out)?;
+    out.push(b'\n')?;
+    Ok(())
+}
