@@ -7,6 +7,7 @@ mod names;
 mod position;
 mod report;
 mod rules;
+mod shown;
 
 use crate::command::{Arguments, HELP, USAGE, parse};
 use crate::lexer::Lexer;

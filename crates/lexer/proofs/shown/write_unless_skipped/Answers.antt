@@ -1,7 +1,7 @@
 -- Nothing is written of a rule that is skipped.
 use Rattle.std.proofs.Common.{rules, ◌≡◌, ◌∙◌, false, sym, true}
 use Rattle.std.proofs.KnownBytes.{Appends-nil}
-use Rattle.lexer.proofs.report.write_unless_skipped.Goals as goal
+use Rattle.lexer.proofs.shown.write_unless_skipped.Goals as goal
 
 pub returns-then-is_in : goal.returns-then-is_in
 returns-then-is_in g c = rw (sym c.is_in.ensures ∙ c.if-is_in.true) (Appends-nil _)

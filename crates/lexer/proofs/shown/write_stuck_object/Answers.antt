@@ -1,10 +1,10 @@
 -- Three writes, one after the other.
 use Rattle.std.proofs.KnownBytes.{Appends-trans}
-use Rattle.lexer.proofs.report.write_stuck_line.Goals as goal
+use Rattle.lexer.proofs.shown.write_stuck_object.Goals as goal
 
 pub returns : goal.returns
 returns g c =
     Appends-trans (g.W.Write.contents c.args.out.now) (g.W.Write.contents c.write.new.self)
     (g.W.Write.contents c.write_all.new.self) _ _ c.in_ok-write.ensures.bytes
-    (Appends-trans (g.W.Write.contents c.write.new.self) (g.W.Write.contents c.write_position.new.out)
-    (g.W.Write.contents c.write_all.new.self) _ _ c.in_ok-write_position.ensures c.in_ok-write_all.ensures.bytes)
+    (Appends-trans (g.W.Write.contents c.write.new.self) (g.W.Write.contents c.write_members.new.out)
+    (g.W.Write.contents c.write_all.new.self) _ _ c.in_ok-write_members.ensures c.in_ok-write_all.ensures.bytes)

@@ -4,7 +4,7 @@ use Rattle.std.proofs.KnownBytes.{Appends-trans}
 use Rattle.std.proofs.lemmas.Grind.{common_steps}
 use Rattle.std.specs.Str.Lossy.{utf8_lossy}
 use Rattle.json.specs.Print.{quoted}
-use Rattle.lexer.proofs.report.write_object.Goals as goal
+use Rattle.lexer.proofs.shown.write_object.Goals as goal
 
 pub returns : goal.returns
 returns g c =
