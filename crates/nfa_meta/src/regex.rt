@@ -8,7 +8,7 @@ ghost use Rattle.regex_search_core.specs.declared.search.MatchKind.TheVariants.{
 ghost use Rattle.nfa_paths.specs.Paths.{IsAnswer, IsBoolAnswer, IsFindAnswer, IsHalfAnswer, is_utf8_empty};
 ghost use Rattle.nfa_search_base.specs.Lists.{IsInside, IsSlotInside};
 ghost use Rattle.nfa_backtrack.specs.Backtrack.{HoldsNoMore};
-ghost use Rattle.nfa_choice.specs.ChoiceState.{KeepsEngines, finds_in, kind_in};
+ghost use Rattle.nfa_choice.specs.ChoiceState.{KeepsEngines, bytes_of, finds_in, kind_in};
 ghost use Rattle.nfa_lazy_dfa.specs.Configs.{kind_in as config_kind, kind_of, nfa_of};
 ghost use Rattle.nfa_meta.specs.Built.{engines_of};
 ghost use Rattle.nfa_meta.specs.WindowRuns.{RunsAfterDfa, RunsByWindow};
@@ -156,6 +156,22 @@ impl Regex {
         self.config
     }
 
+    /// Returns the bytes that the rows of the lazy DFA and the entries of the caches of the [`Choice`] take. The sum
+    /// saturates at `usize::MAX`.
+    ///
+    /// ```
+    /// // regex of "foo[0-9]+"
+    /// let before = regex.memory_usage();
+    /// regex.find_half(Input::new(b"foo12345"));
+    /// assert!(rt; regex.memory_usage() > before);
+    /// ```
+    pub fn memory_usage(&self) -> usize
+        ensures { bytes_of self.now ≤ result }
+    {
+        let rows = self.cache.memory_usage();
+        self.choice.memory_usage().saturating_add(rows)
+    }
+
     /// Returns the NFA.
     ///
     /// ```
@@ -199,7 +215,7 @@ impl Regex {
     /// // regex of "fo+"
     /// assert!(rt; regex.is_match(Input::new(b"a foo")));
     /// assert_eq!(rt; regex.ran(), None);
-    /// regex.find(Input::new(b"a foo"));
+    /// regex.search_slots(&Input::new(b"a foo"), &mut [None; 2]);
     /// assert_eq!(rt; regex.ran(), Some(Engine::Backtracker));
     /// ```
     pub fn ran(&self) -> Option<Engine>
@@ -298,6 +314,9 @@ impl Regex {
         ensures holds { HoldsNoMore 0 self.old.back self.new.back }
         ensures keeps { KeepsEngines self.old self.new }
     {
+        if self.lacks_prefix(&input) {
+            return None;
+        }
         if let Ok(half) = self.dfa.try_find_half(&mut self.cache, input) {
             // An NFA that can be read is valid, so its patterns are those of its Match states.
             self.choice.get_nfa().states();
@@ -321,6 +340,9 @@ impl Regex {
         ensures holds { HoldsNoMore 0 self.old.back self.new.back }
         ensures keeps { KeepsEngines self.old self.new }
     {
+        if self.lacks_prefix(&input) {
+            return false;
+        }
         match self.dfa.try_is_match(&mut self.cache, input) {
             Ok(found) => found,
             Err(_) => self.choice.is_match(input),

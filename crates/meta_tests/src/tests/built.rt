@@ -104,3 +104,14 @@ fn settings_are_kept(rt: HostRuntime) {
     assert_eq!(&rt; kept.hybrid_cache_capacity, 100_000);
     assert!(&rt; kept.utf8 && !kept.anchored);
 }
+
+#[test]
+fn rows_take_memory(rt: HostRuntime) {
+    let alloc = rt.alloc();
+    let mut regex = Regex::new(alloc, "fo+").expect(&rt, "a regex");
+    let before = regex.memory_usage();
+    assert!(&rt; !regex.is_match(Input::new(b"a bar")));
+    assert_eq!(&rt; regex.memory_usage(), before);
+    assert!(&rt; regex.is_match(Input::new(b"a foo")));
+    assert!(&rt; regex.memory_usage() > before);
+}

@@ -1,7 +1,9 @@
 //! The bytes that each match begins with.
-ghost use Rattle.std.specs.Prelude.{IfNone, IfSome};
+ghost use Rattle.std.specs.Prelude.{◌≡◌, IfNone, IfSome, None, false, true};
 ghost use Rattle.regex_search_core.specs.Search.{search_of};
 ghost use Rattle.regex_search_core.specs.declared.search.MatchKind.{MatchKind};
+ghost use Rattle.nfa_paths.specs.Paths.{IsBoolAnswer, IsHalfAnswer};
+ghost use Rattle.nfa_engines.specs.Accepting.{MatchesNothing};
 ghost use Rattle.nfa_prefix.specs.Prefixes.{BeginsWith};
 ghost use Rattle.nfa_choice.specs.ChoiceState.{kind_in};
 ghost use Rattle.nfa_meta.specs.Windowed.{IsWindowed};
@@ -27,6 +29,33 @@ impl Regex {
             AnswersAs self.now.nfa (kind_in self.now) (search_of input.entry) (search_of part)) }
     {
         rest_from(self.choice.get_nfa(), &self.prefix, input)
+    }
+
+    /// Whether nothing matches since the prefix of each match does not occur.
+    pub(super) fn lacks_prefix(&self, input: &Input<'_>) -> bool
+        ensures half { result ≡ true → IsHalfAnswer self.now.nfa (kind_in self.now) (search_of input.now).earliest
+            (search_of input.now) None }
+        ensures found { result ≡ true → IsBoolAnswer self.now.nfa (kind_in self.now) false (search_of input.now) false }
+    {
+        nothing_has_no_answer();
+        self.is_windowed(input) && is_lacking(self.choice.get_nfa(), &self.prefix, input)
+    }
+}
+
+/// Whether the prefix, with which each match begins, occurs nowhere in the span of a search that has windows.
+fn is_lacking(nfa: &NFA, prefix: &[u8], input: &Input<'_>) -> bool
+    requires begins { BeginsWith nfa.now prefix.now }
+    requires windowed { IsWindowed nfa.now (search_of input.now) }
+    ensures nothing { result ≡ true → MatchesNothing nfa.now (search_of input.now) }
+{
+    bytes_may_be_skipped();
+    no_match_without_prefix();
+    if prefix.is_empty() {
+        return false;
+    }
+    match find_prefix(input.haystack(), input.start(), input.end(), prefix) {
+        Some(_) => false,
+        None => true,
     }
 }
 

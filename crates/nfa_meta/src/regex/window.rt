@@ -27,7 +27,7 @@ pub(super) struct NoWindow;
 
 impl Regex {
     /// Whether a window of the lazy DFA has the match of the search.
-    fn is_windowed(&self, input: &Input<'_>) -> bool
+    pub(super) fn is_windowed(&self, input: &Input<'_>) -> bool
         ensures { result ≡ true → IsWindowed self.now.nfa (search_of input.now) }
     {
         let nfa = self.choice.get_nfa();

@@ -14,3 +14,11 @@ returns-in-Ok-clause-finds c =
     let answer : IsBoolAnswer e.nfa (kind_in e) false x c.in-Ok.found =
     first_of (search rules, grind (arith, common_steps)) in
     found-finds e.nfa (kind_in e) false x c.in-Ok.found answer
+
+pub returns-then-lacks_prefix-clause-finds : goal.returns-then-lacks_prefix-clause-finds
+returns-then-lacks_prefix-clause-finds c =
+    let e = c.args.self.now in
+    let x = search_of c.args.input in
+    let answer : IsBoolAnswer e.nfa (kind_in e) false x false =
+    first_of (search rules, grind (arith, common_steps)) in
+    found-finds e.nfa (kind_in e) false x false answer
