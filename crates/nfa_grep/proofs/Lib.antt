@@ -2,6 +2,7 @@ mod GoingLemmas
 mod GroupedLemmas
 mod MeantLemmas
 mod NumbersLemmas
+mod PaintedLemmas
 mod PatternLemmas
 mod PrintedLemmas
 mod RecordLemmas

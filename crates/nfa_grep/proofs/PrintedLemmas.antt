@@ -1,7 +1,7 @@
 -- What is printed of matches, and of numbers.
 use Rattle.std.proofs.Common.{◌≡◌, ◌∙◌, ℕ, ◌<◌, inl, inr, true, false, List, [], ◌∷◌, ◌++◌, map, length}
 use Rattle.std.proofs.Common.{refl, sym, ap, arith, append_assoc}
-use Rattle.std.specs.Prelude.{decimal}
+use Rattle.std.specs.Prelude.{Bool, decimal, if◌then◌else◌}
 use Rattle.std.specs.List.{flat_map, join_with_byte}
 use Rattle.std.proofs.lemmas.Bool.{cases_Bool}
 use Rattle.std.proofs.lemmas.List.{length-map, map-append}
@@ -9,7 +9,8 @@ use Rattle.regex_hir.specs.Re.{Re}
 use Rattle.regex_search_core.specs.Found.{Found, found_of}
 use Rattle.regex_search_core.specs.declared.search.Match.{Match}
 use Rattle.nfa_grep.specs.Meant.{is_found}
-use Rattle.nfa_grep.specs.Printed.{colon, comma, mark_of, pieces, shown_if_selected, shown_matches, text_of}
+use Rattle.nfa_grep.specs.Printed.{colon, comma, is_selected, mark_of, pieces, shown, shown_if_selected}
+use Rattle.nfa_grep.specs.Printed.{shown_matches, shown_whole, text_of}
 use Rattle.nfa_grep.specs.declared.options.Options.{Options}
 use Rattle.nfa_grep.proofs.MeantLemmas.{all-none}
 
@@ -24,11 +25,21 @@ pub shown-matches : (options : Options) (res : List Re) (name : List ℕ) (numbe
     → shown_if_selected options res name number offset line
     ≡ shown_matches options colon res name number offset line
 shown-matches options res name number offset line only straight =
-    let all = pieces options colon name (mark_of options colon res line) number offset line in
+    let all = pieces options colon name (mark_of options res line) number offset line in
     rw (only, straight) (elim (cases_Bool (is_found res (text_of options line))) [
       | inl found ↦ rw found refl
       | inr none ↦ rw none (sym (ap all (all-none res (text_of options line) none)))
     ])
+
+-- a whole line that is selected
+pub shown-whole : (options : Options) (res : List Re) (name : List ℕ) (number offset : ℕ) (line : List ℕ)
+    → options.only ≡ false → is_selected options res line ≡ true
+    → shown_if_selected options res name number offset line
+    ≡ shown_whole options colon res name number offset line
+shown-whole options res name number offset line only selected =
+    let whole : shown options res name number offset true line
+    ≡ shown_whole options colon res name number offset line = rw only refl in
+    ap (λ (b : Bool). if b then shown options res name number offset true line else []) selected ∙ whole
 
 -- one more piece
 pub join_more : (c : ℕ) (xs : List (List ℕ)) (x : List ℕ) → 0 < length xs

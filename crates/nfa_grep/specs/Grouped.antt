@@ -3,9 +3,11 @@ use Rattle.std.specs.Prelude.{ℕ, ◌-◌, Bool, true, false, ◌&&◌, ◌||�
 use Rattle.std.specs.Prelude.{take}
 use Rattle.std.specs.List.{list_any}
 use Rattle.text_lines.specs.Lines.{line_feed}
+use Rattle.nfa_grep.specs.Painted.{painted}
 use Rattle.nfa_grep.specs.declared.options.Context.{Context}
 use Rattle.nfa_grep.specs.declared.options.Report.{Report}
 use Rattle.nfa_grep.specs.declared.options.Report.TheVariants.{Lines}
+use Rattle.nfa_grep.specs.declared.paint.Colour.TheVariants.{Separator}
 
 -- a line: whether it is selected, and what is printed of it if it is printed
 pub record Item : Type 0 where
@@ -13,12 +15,12 @@ pub record Item : Type 0 where
   pub text : List ℕ
 
 -- two hyphens, as a line
-abbrev pub separator : List ℕ
-separator = 45 ∷ 45 ∷ line_feed ∷ []
+abbrev pub separator : Bool → List ℕ
+separator coloured = painted coloured Separator (45 ∷ 45 ∷ []) ++ line_feed ∷ []
 
 -- no line is printed but those that are selected
 abbrev pub no_context : Context
-no_context = record { before = 0; after = 0; separated = false }
+no_context = record { before = 0; after = 0; separated = false; coloured = false }
 
 -- around which lines others are printed: around none if no lines are printed
 abbrev pub context_of : Report → Context → Context
@@ -42,7 +44,7 @@ left_after context left selected = if selected then context.after else (left - 1
 -- What is printed before a line: the separator, if a line was printed before, a line between both was not or both are
 -- of different inputs, and separators are wanted.
 abbrev pub between : Context → Bool → Bool → List ℕ
-between context used gap = if (used && gap) && context.separated then separator else []
+between context used gap = if (used && gap) && context.separated then separator context.coloured else []
 
 -- What is printed of these lines. `used` says that some line was printed before, and `gap` that the line before the
 -- first of these was not.

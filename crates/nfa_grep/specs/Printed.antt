@@ -1,16 +1,18 @@
 -- What is printed of the lines of an input.
 use Rattle.std.specs.Prelude.{ℕ, ◌+◌, ◌-◌, Bool, true, false, not, ◌&&◌, List, [], ◌∷◌, ◌++◌, length, map}
-use Rattle.std.specs.Prelude.{decimal, min, if◌then◌else◌, ◌==◌, slice_range}
+use Rattle.std.specs.Prelude.{decimal, drop, min, if◌then◌else◌, ◌==◌, slice_range}
 use Rattle.std.specs.List.{count_by, flat_map, join_with_byte}
 use Rattle.regex_hir.specs.Re.{Re}
 use Rattle.regex_search_core.specs.Found.{Found}
 use Rattle.text_lines.specs.Lines.{line_feed, record_content, records_of, with_end}
 use Rattle.nfa_grep.specs.Grouped.{Item, context_of, grouped, left_after}
 use Rattle.nfa_grep.specs.Meant.{all_found, is_found, numbers_found}
+use Rattle.nfa_grep.specs.Painted.{label, painted, painted_text}
 use Rattle.nfa_grep.specs.declared.options.Context.{Context}
 use Rattle.nfa_grep.specs.declared.options.Options.{Options}
 use Rattle.nfa_grep.specs.declared.options.Report.{Report}
 use Rattle.nfa_grep.specs.declared.options.Report.TheVariants.{Lines, Count, With, Without, Nothing}
+use Rattle.nfa_grep.specs.declared.paint.Colour.TheVariants.{Match, Name, Number}
 
 -- the colon, the hyphen and the comma
 abbrev pub colon : ℕ
@@ -22,42 +24,50 @@ hyphen = 45
 abbrev pub comma : ℕ
 comma = 44
 
+-- the options, without colours
+abbrev pub uncoloured : Options → Options
+uncoloured options = record options { coloured = false }
+
 -- what comes after each label of a line: a hyphen if it is printed because of a line near it
 abbrev pub mark_end : Bool → ℕ
 mark_end selected = if selected then colon else hyphen
 
 -- the name of the input and this byte, if it is wanted
 abbrev pub label_of : Options → ℕ → List ℕ → List ℕ
-label_of options end name = if options.named then (name ++ end ∷ []) else []
+label_of options end name = if options.named then label options.coloured Name end name else []
 
 -- the number and this byte, if it is wanted
-abbrev pub numbered : Bool → ℕ → ℕ → List ℕ
-numbered wanted end n = if wanted then (decimal n ++ end ∷ []) else []
+abbrev pub numbered : Bool → Bool → ℕ → ℕ → List ℕ
+numbered coloured wanted end n = if wanted then label coloured Number end (decimal n) else []
 
--- the numbers, with commas between them, and this byte
-abbrev pub number_list : ℕ → List ℕ → List ℕ
-number_list end numbers = join_with_byte comma (map decimal numbers) ++ end ∷ []
+-- the numbers, with commas between them
+abbrev pub number_list : List ℕ → List ℕ
+number_list numbers = join_with_byte comma (map decimal numbers)
 
 -- a line without its end
 abbrev pub text_of : Options → List ℕ → List ℕ
 text_of options line = record_content options.end line
 
--- what comes after the label of a line: the numbers of the patterns that match in its text, if they are wanted
-abbrev pub mark_of : Options → ℕ → List Re → List ℕ → List ℕ
-mark_of options end res line =
-    if options.which then number_list end (numbers_found res (text_of options line)) else []
+-- the numbers of the patterns that match in the text of a line, if they are wanted
+abbrev pub mark_of : Options → List Re → List ℕ → List ℕ
+mark_of options res line = if options.which then number_list (numbers_found res (text_of options line)) else []
+
+-- the mark and this byte, if it is wanted
+abbrev pub marked : Options → ℕ → List ℕ → List ℕ
+marked options end mark = if options.which then label options.coloured Number end mark else []
 
 -- what comes before a line or a match
 abbrev pub head : Options → ℕ → List ℕ → List ℕ → ℕ → ℕ → List ℕ
 head options end name mark number offset =
-    label_of options end name ++ (mark ++ (numbered options.numbers end number ++ numbered options.offsets end offset))
+    label_of options end name ++ (marked options end mark ++ (numbered options.coloured options.numbers end number
+    ++ numbered options.coloured options.offsets end offset))
 
 -- what is printed of a match: nothing of an empty one
 abbrev pub piece : Options → ℕ → List ℕ → List ℕ → ℕ → ℕ → List ℕ → Found → List ℕ
 piece options end name mark number offset line m =
     if m.start == m.end then []
     else (head options end name mark number (offset + m.start)
-    ++ (slice_range line m.start m.end ++ options.end ∷ []))
+    ++ (painted options.coloured Match (slice_range line m.start m.end) ++ options.end ∷ []))
 
 -- what is printed of these matches, in order
 abbrev pub pieces : Options → ℕ → List ℕ → List ℕ → ℕ → ℕ → List ℕ → List Found → List ℕ
@@ -71,12 +81,28 @@ is_selected options res line =
 -- what is printed of the matches in a line
 abbrev pub shown_matches : Options → ℕ → List Re → List ℕ → ℕ → ℕ → List ℕ → List ℕ
 shown_matches options end res name number offset line =
-    pieces options end name (mark_of options end res line) number offset line (all_found res (text_of options line))
+    pieces options end name (mark_of options res line) number offset line (all_found res (text_of options line))
+
+-- Whether the matches of a whole line are in colour: those of lines that are selected, and if these are the lines
+-- without a match, those of the others.
+abbrev pub has_colours : Options → ℕ → Bool
+has_colours options end = options.coloured && (if options.inverted then not (end == colon) else (end == colon))
+
+-- the line, with its matches in colour
+abbrev pub painted_line : Options → List Re → List ℕ → List ℕ
+painted_line options res line =
+    painted_text (text_of options line) (all_found res (text_of options line))
+    ++ with_end options.end (drop (length (text_of options line)) line)
+
+-- the line, with its matches in colour if they are
+abbrev pub shown_line : Options → ℕ → List Re → List ℕ → List ℕ
+shown_line options end res line =
+    if has_colours options end then painted_line options res line else with_end options.end line
 
 -- what is printed of a whole line
 abbrev pub shown_whole : Options → ℕ → List Re → List ℕ → ℕ → ℕ → List ℕ → List ℕ
 shown_whole options end res name number offset line =
-    head options end name (mark_of options end res line) number offset ++ with_end options.end line
+    head options end name (mark_of options res line) number offset ++ shown_line options end res line
 
 -- What is printed of a line that is printed, which may be selected. With `only`, matches are printed of lines that are
 -- selected, and if these are the lines without a match, of the others.
@@ -158,8 +184,8 @@ printed wanted options res name context used limit text =
     grouped context used true 0 (items wanted options res name limit 1 0 (records_of options.end text))
 
 -- the name of the input, as a line
-abbrev pub name_line : List ℕ → List ℕ
-name_line name = name ++ line_feed ∷ []
+abbrev pub name_line : Options → List ℕ → List ℕ
+name_line options name = painted options.coloured Name name ++ line_feed ∷ []
 
 -- the number of the selected lines, as a line
 abbrev pub count_line : Options → List ℕ → ℕ → List ℕ
@@ -169,8 +195,8 @@ count_line options name count = label_of options colon name ++ (decimal count ++
 abbrev pub summary : Report → Options → List ℕ → ℕ → List ℕ
 summary Lines options name count = []
 summary Count options name count = count_line options name count
-summary With options name count = if count == 0 then [] else name_line name
-summary Without options name count = if count == 0 then name_line name else []
+summary With options name count = if count == 0 then [] else name_line options name
+summary Without options name count = if count == 0 then name_line options name else []
 summary Nothing options name count = []
 
 -- all that is printed of a text

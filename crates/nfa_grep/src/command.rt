@@ -1,7 +1,7 @@
 //! What the arguments of the command line ask for.
 use crate::fault::Fault;
 use crate::flags::with_flags;
-use crate::options::{Bounds, Context, Options, Report};
+use crate::options::{Bounds, Context, Options, Report, When};
 use clap::{Arg, ArgAction, ArgMatches, Error};
 use std::alloc::{AllocError, Global};
 
@@ -26,6 +26,8 @@ pub struct Arguments<'w> {
     pub limit: u64,
     /// Which lines around a selected one are printed.
     pub context: Context,
+    /// When colours are printed, of which the options do not know yet.
+    pub coloured: When,
     /// Lines are printed also of files that are not text.
     pub text: bool,
     /// Folders are searched, with all in them.
@@ -94,6 +96,7 @@ fn read_matches<'w>(alloc: Global, matches: &ArgMatches<'w>) -> Result<Arguments
         report: report_of(matches),
         limit: limit_of(matches.get_str("max-count"))?,
         context: context_of(matches)?,
+        coloured: when_of(matches.get_str("color")),
         recursive: matches.get_flag("recursive"),
         unnamed: matches.get_flag("no-filename"),
         text: matches.get_flag("text"),
@@ -136,6 +139,16 @@ fn options_of(matches: &ArgMatches<'_>, several: bool) -> Options {
         which: matches.get_flag("which"),
         numbers: matches.get_flag("line-number"),
         offsets: matches.get_flag("byte-offset"),
+        coloured: false,
+    }
+}
+
+/// Returns when colours are printed with this value of `--color`: never without the option.
+fn when_of(value: Option<&str>) -> When {
+    match value {
+        Some("always") => When::Always,
+        Some("auto") => When::Auto,
+        _ => When::Never,
     }
 }
 
@@ -199,6 +212,7 @@ fn context_of(matches: &ArgMatches<'_>) -> Result<Context, Fault> {
         before: before.unwrap_or(0) as usize,
         after: after.unwrap_or(0),
         separated: before.is_some() || after.is_some(),
+        coloured: false,
     })
 }
 

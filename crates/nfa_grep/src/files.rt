@@ -3,10 +3,12 @@ use crate::binary::search_input;
 use crate::command::Arguments;
 use crate::fault::Fault;
 use crate::grep::Grep;
-use crate::options::{Options, Report, Request};
+use crate::options::{Context, Options, Report, Request, When};
 use crate::patterns::{all_patterns, read_files};
 use crate::walk::{Kind, is_folder, kind_of, push_paths};
-use std::io::{BufReader, BufWriter, IsTerminal, Write};
+use std::env::FillError;
+use std::io::{BufReader, BufWriter, IsTerminal, Read, Write};
+use std::rt::Env;
 use std::{fs, io};
 use text_lines::failure::Failure;
 
@@ -36,6 +38,7 @@ fn search_for(
 ) -> Result<Outcome, Fault> {
     let options = Options {
         named: arguments.options.named || names_folder(rt, arguments),
+        coloured: is_coloured(rt, arguments.coloured),
         ..arguments.options
     };
     let mut grep = Grep::new(rt.alloc(), patterns, options)?;
@@ -52,6 +55,25 @@ fn search_for(
         search_buffered(rt, &mut grep, arguments)?
     };
     Ok(outcome)
+}
+
+/// Returns whether colours are printed. A terminal has colours, unless its type is not known or `dumb`.
+fn is_coloured(rt: &HostRuntime, when: When) -> bool {
+    match when {
+        When::Never => false,
+        When::Always => true,
+        When::Auto => rt.stdout().is_terminal() && has_colours(rt),
+    }
+}
+
+/// Returns whether the type of the terminal is known, and is not `dumb`.
+fn has_colours(rt: &HostRuntime) -> bool {
+    let mut buffer = [0u8; 5];
+    match rt.var("TERM", &mut buffer) {
+        Ok(len) => &buffer[..len] != b"dumb".as_slice(),
+        Err(FillError::TooLong) => true,
+        Err(FillError::NotPresent) => false,
+    }
 }
 
 /// Returns whether names are printed because the only input is a folder.
@@ -177,7 +199,10 @@ fn search_one<W: Write>(
         name: shown_name(arguments, name),
         report: arguments.report,
         limit: arguments.limit,
-        context: arguments.context,
+        context: Context {
+            coloured: grep.options().coloured,
+            ..arguments.context
+        },
         used: outcome.selected,
     };
     match search_named(rt, grep, arguments.text, request, name, out) {
@@ -229,20 +254,26 @@ fn search_named<W: Write>(
     name: &str,
     out: &mut W,
 ) -> Result<u64, Failure> {
-    let alloc = rt.alloc();
     if name == "-" {
-        let Ok(mut input) = BufReader::new(alloc, rt.reader()) else {
-            return Err(Failure::Memory);
-        };
-        return search_input(rt, grep, text, request, &mut input, out);
+        return search_reader(rt, grep, text, request, rt.reader(), out);
     }
     match fs::open(rt, name) {
-        Ok(file) => {
-            let Ok(mut input) = BufReader::new(alloc, file) else {
-                return Err(Failure::Memory);
-            };
-            search_input(rt, grep, text, request, &mut input, out)
-        }
+        Ok(file) => search_reader(rt, grep, text, request, file, out),
         Err(error) => Err(Failure::Read(error)),
     }
+}
+
+/// Searches what this reader has, and returns how many of the lines that were searched are selected.
+fn search_reader<R: Read + Drop, W: Write>(
+    rt: &HostRuntime,
+    grep: &mut Grep<'_>,
+    text: bool,
+    request: Request<'_>,
+    reader: R,
+    out: &mut W,
+) -> Result<u64, Failure> {
+    let Ok(mut input) = BufReader::new(rt.alloc(), reader) else {
+        return Err(Failure::Memory);
+    };
+    search_input(rt, grep, text, request, &mut input, out)
 }

@@ -2,6 +2,9 @@
 use clap::{Arg, ArgAction, Command};
 use std::alloc::{AllocError, Global};
 
+/// When colours are printed.
+const WHENS: &[&str] = &["auto", "always", "never"];
+
 /// Adds all options.
 pub fn with_flags<'w>(alloc: Global, command: Command<'w>) -> Result<Command<'w>, AllocError> {
     let command = with_patterns(alloc, command)?;
@@ -138,7 +141,21 @@ fn with_lines<'w>(alloc: Global, command: Command<'w>) -> Result<Command<'w>, Al
         ))?
         .arg(long_flag(alloc, "which").help(
             "Print the numbers, from 0, of the patterns that match in the line",
-        ))
+        ))?
+        .arg(
+            Arg::new(alloc, "color")
+                .long("color")
+                .alias("colour")?
+                .action(ArgAction::Set)
+                .num_args(0..=1)
+                .require_equals(true)
+                .default_missing_value("auto")
+                .value_parser(WHENS)
+                .value_name("WHEN")
+                .help(
+                    "Print matches, names, numbers and separators in colours; auto, as without WHEN: on a terminal",
+                ),
+        )
 }
 
 /// Adds the options about the names of files.

@@ -1,20 +1,21 @@
 //! The lines in which a pattern matches, and what is printed of them.
 ghost use Rattle.std.specs.Prelude.{◌≡◌, ◌≤◌, ◌<◌, ◌+◌, ◌^◌, ◌++◌, ◌⊎◌, All, IfErr, IfOk, List, MatchOption, OnOk, false, length};
-ghost use Rattle.std.specs.Prelude.{[], if◌then◌else◌, map, true};
+ghost use Rattle.std.specs.Prelude.{[], None, if◌then◌else◌, map, true};
 ghost use Rattle.regex_hir.specs.Re.{Re};
 ghost use Rattle.regex_search_core.specs.Found.{found_of};
 ghost use Rattle.regex_search_core.specs.Search.{whole};
-ghost use Rattle.nfa_engines.specs.Lists.{IsInside};
+ghost use Rattle.nfa_engines.specs.Lists.{AreDisjoint, IsInside};
 ghost use Rattle.nfa_compiler.specs.Compiled.{IsNfaOf, res_of};
 ghost use Rattle.nfa_grep.specs.Meant.{Mean, all_found, is_found};
-ghost use Rattle.nfa_grep.specs.Printed.{is_selected, mark_of, piece, pieces, shown, shown_if_selected};
-ghost use Rattle.nfa_grep.specs.Printed.{shown_matches, shown_whole, text_of};
+ghost use Rattle.nfa_grep.specs.Printed.{has_colours, is_selected, mark_of, painted_line, piece, pieces, shown};
+ghost use Rattle.nfa_grep.specs.Printed.{shown_if_selected, shown_line, shown_matches, shown_whole, text_of};
 ghost use Rattle.nfa_grep.specs.Refusals.{IsOfPatterns, IsTextRefusal, IsTreeRefusal};
 ghost use Rattle.text_lines.specs.Lines.{with_end};
 
 use crate::fault::Fault;
 use crate::line::{Place, append_head};
 use crate::options::Options;
+use crate::paint::{Colour, append_matched, append_painted};
 use crate::pattern::{described, read_patterns};
 use crate::which::Which;
 use nfa_compiler::{Compiler, Config, Parsed, laws};
@@ -121,6 +122,7 @@ impl<'p> Grep<'p> {
         ensures all { IfOk result (λ found. (res : List Re) → Mean self.old res
             → map found_of found.items ≡ all_found res text.now) }
         ensures inside { IfOk result (λ found. All (λ m. IsInside (whole text.now) (found_of m)) found.items) }
+        ensures apart { IfOk result (λ found. AreDisjoint (whole text.now) None (map found_of found.items)) }
         ensures kept { self.new ≡ self.old }
     {
         laws::iterations_find_all_hits();
@@ -223,7 +225,7 @@ impl<'p> Grep<'p> {
         if matches.is_empty() {
             return Ok(false);
         }
-        let mark = self.mark(place.end, line)?;
+        let mark = self.mark(line)?;
         append_pieces(self.options, place, &mark, line, &matches, out)?;
         Ok(true)
     }
@@ -240,16 +242,32 @@ impl<'p> Grep<'p> {
             place.entry.offset line.now) }
         ensures kept { self.new ≡ self.old }
     {
-        let mark = self.mark(place.end, line)?;
+        let mark = self.mark(line)?;
         append_head(self.options, place, &mark, out)?;
+        if has_colours(self.options, place.end) {
+            return self.append_painted(line, out);
+        }
         append_record(line, self.options.end, out)
+    }
+
+    /// Appends the line, with its matches in colour.
+    fn append_painted(&mut self, line: &[u8], out: &mut Vec<u8>) -> Result<(), AllocError>
+        ensures shown { OnOk result ((res : List Re) → Mean self.old res
+            → out.new.items ≡ out.old.items ++ painted_line self.old.options res line.now) }
+        ensures kept { self.new ≡ self.old }
+    {
+        let end = self.options().end;
+        let text = self.text_of(line);
+        let matches = self.matches(text)?;
+        append_matched(text, &matches, out)?;
+        append_record(&line[text.len()..], end, out)
     }
 
     /// Returns the numbers of the patterns that match in the line, as they are printed, or nothing if they are not
     /// wanted.
-    fn mark(&mut self, end: u8, line: &[u8]) -> Result<Vec<u8>, AllocError>
+    fn mark(&mut self, line: &[u8]) -> Result<Vec<u8>, AllocError>
         ensures mark { IfOk result (λ mark. (res : List Re) → Mean self.old res
-            → mark.items ≡ mark_of self.old.options end res line.now) }
+            → mark.items ≡ mark_of self.old.options res line.now) }
         ensures kept { self.new ≡ self.old }
     {
         let mut mark = Vec::new(self.alloc);
@@ -257,12 +275,23 @@ impl<'p> Grep<'p> {
             which.append_numbers(
                 self.alloc,
                 record_content(line, self.options.end),
-                end,
                 &mut mark,
             )?;
         }
         Ok(mark)
     }
+}
+
+/// Returns whether the matches of a whole line are in colour, if this byte is after its labels.
+fn has_colours(options: Options, end: u8) -> bool
+    ensures { result ≡ has_colours options end }
+{
+    options.coloured
+        && if options.inverted {
+            end != b':'
+        } else {
+            end == b':'
+        }
 }
 
 /// Makes the search for all patterns that match, if it is wanted.
@@ -322,7 +351,8 @@ fn append_piece(
         ..place
     };
     append_head(options, at, mark, out)?;
-    out.extend_from_slice(&line[found.start()..found.end()])?;
+    let text = &line[found.start()..found.end()];
+    append_painted(options.coloured, Colour::Match, text, out)?;
     out.push(options.end)?;
     Ok(())
 }

@@ -11,11 +11,9 @@ ghost use Rattle.nfa_grep.specs.Printed.{is_selected, item_of, shows};
 use crate::grep::Grep;
 use crate::line::Place;
 use crate::options::{Context, Request};
+use crate::paint::{Colour, append_painted};
 use std::alloc::{AllocError, Global};
 use std::collections::VecDeque;
-
-/// The line between two groups.
-const SEPARATOR: &[u8] = b"--\n";
 
 /// What is printed of the lines of an input, of which some are selected.
 #[derive(Drop)]
@@ -202,7 +200,8 @@ fn append_between(
     ensures { OnOk result (out.new.items ≡ out.old.items ++ between context used gap) }
 {
     if used && gap && context.separated {
-        out.extend_from_slice(SEPARATOR)?;
+        append_painted(context.coloured, Colour::Separator, b"--", out)?;
+        out.push(b'\n')?;
     }
     Ok(())
 }

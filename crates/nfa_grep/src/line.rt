@@ -1,8 +1,9 @@
 //! What comes before a line where it is printed.
 ghost use Rattle.std.specs.Prelude.{◌≡◌, ◌++◌, OnOk};
-ghost use Rattle.nfa_grep.specs.Printed.{count_line, head, label_of, name_line, numbered, summary};
+ghost use Rattle.nfa_grep.specs.Printed.{count_line, head, label_of, marked, name_line, numbered, summary};
 
 use crate::options::{Options, Report};
+use crate::paint::{Colour, append_label, append_painted};
 use itoa::Buffer;
 use std::alloc::AllocError;
 
@@ -17,24 +18,39 @@ pub struct Place<'n> {
 }
 
 /// Appends the number and this byte, if it is wanted.
-fn append_number(wanted: bool, end: u8, number: u64, out: &mut Vec<u8>) -> Result<(), AllocError>
-    ensures { OnOk result (out.new.items ≡ out.old.items ++ numbered wanted end number) }
+fn append_number(
+    coloured: bool,
+    wanted: bool,
+    end: u8,
+    number: u64,
+    out: &mut Vec<u8>,
+) -> Result<(), AllocError>
+    ensures { OnOk result (out.new.items ≡ out.old.items ++ numbered coloured wanted end number) }
 {
     if wanted {
         let mut buffer = Buffer::new();
-        out.extend_from_slice(buffer.format(number).as_bytes())?;
-        out.push(end)?;
+        let digits = buffer.format(number).as_bytes();
+        append_label(coloured, Colour::Number, end, digits, out)?;
     }
     Ok(())
 }
 
 /// Appends the name and this byte, if it is wanted.
-fn append_label(options: Options, end: u8, name: &[u8], out: &mut Vec<u8>) -> Result<(), AllocError>
+fn append_name(options: Options, end: u8, name: &[u8], out: &mut Vec<u8>) -> Result<(), AllocError>
     ensures { OnOk result (out.new.items ≡ out.old.items ++ label_of options end name.now) }
 {
     if options.named {
-        out.extend_from_slice(name)?;
-        out.push(end)?;
+        append_label(options.coloured, Colour::Name, end, name, out)?;
+    }
+    Ok(())
+}
+
+/// Appends the mark and this byte, if it is wanted.
+fn append_mark(options: Options, end: u8, mark: &[u8], out: &mut Vec<u8>) -> Result<(), AllocError>
+    ensures { OnOk result (out.new.items ≡ out.old.items ++ marked options end mark.now) }
+{
+    if options.which {
+        append_label(options.coloured, Colour::Number, end, mark, out)?;
     }
     Ok(())
 }
@@ -50,17 +66,18 @@ pub fn append_head(
     ensures { OnOk result (out.new.items ≡ out.old.items
         ++ head options place.entry.end place.entry.name.now mark.now place.entry.number place.entry.offset) }
 {
-    append_label(options, place.end, place.name, out)?;
-    out.extend_from_slice(mark)?;
-    append_number(options.numbers, place.end, place.number, out)?;
-    append_number(options.offsets, place.end, place.offset, out)
+    let coloured = options.coloured;
+    append_name(options, place.end, place.name, out)?;
+    append_mark(options, place.end, mark, out)?;
+    append_number(coloured, options.numbers, place.end, place.number, out)?;
+    append_number(coloured, options.offsets, place.end, place.offset, out)
 }
 
 /// Appends the name, as a line.
-fn append_name(name: &[u8], out: &mut Vec<u8>) -> Result<(), AllocError>
-    ensures { OnOk result (out.new.items ≡ out.old.items ++ name_line name.now) }
+fn append_name_line(options: Options, name: &[u8], out: &mut Vec<u8>) -> Result<(), AllocError>
+    ensures { OnOk result (out.new.items ≡ out.old.items ++ name_line options name.now) }
 {
-    out.extend_from_slice(name)?;
+    append_painted(options.coloured, Colour::Name, name, out)?;
     out.extend_from_slice(b"\n")
 }
 
@@ -74,7 +91,7 @@ fn append_count(
     ensures { OnOk result (out.new.items ≡ out.old.items ++ count_line options name.now count) }
 {
     let mut buffer = Buffer::new();
-    append_label(options, b':', name, out)?;
+    append_name(options, b':', name, out)?;
     out.extend_from_slice(buffer.format(count).as_bytes())?;
     out.extend_from_slice(b"\n")
 }
@@ -91,8 +108,8 @@ pub fn append_summary(
 {
     match report {
         Report::Count => append_count(options, name, count, out),
-        Report::With if count > 0 => append_name(name, out),
-        Report::Without if count == 0 => append_name(name, out),
+        Report::With if count > 0 => append_name_line(options, name, out),
+        Report::Without if count == 0 => append_name_line(options, name, out),
         _ => Ok(()),
     }
 }

@@ -11,6 +11,7 @@ mod grep;
 mod groups;
 mod line;
 mod options;
+mod paint;
 mod pattern;
 mod patterns;
 mod search;

@@ -34,6 +34,17 @@ pub struct Options {
     pub numbers: bool,
     /// Print the offset of the line, or of the match, in bytes from the start of the input.
     pub offsets: bool,
+    /// Print matches, and what comes before lines, in colours.
+    pub coloured: bool,
+}
+
+/// When colours are printed.
+#[derive(Clone, Copy, Debug, PartialEq, Eq)]
+pub enum When {
+    Never,
+    /// If the output is a terminal that has colours.
+    Auto,
+    Always,
 }
 
 /// Which lines around a selected one are printed, too.
@@ -45,6 +56,8 @@ pub struct Context {
     pub after: u64,
     /// Print two hyphens, as a line, between groups of lines that are not next to each other in an input.
     pub separated: bool,
+    /// Print these in colour.
+    pub coloured: bool,
 }
 
 /// No line is printed but those that are selected.
@@ -52,6 +65,7 @@ const NO_CONTEXT: Context = Context {
     before: 0,
     after: 0,
     separated: false,
+    coloured: false,
 };
 
 /// What is printed of an input.

@@ -85,29 +85,28 @@ impl Which {
     }
 
     /// Appends the numbers of the patterns that match somewhere in the text of a line, in ascending order, with commas
-    /// between them, and this byte.
+    /// between them.
     pub fn append_numbers(
         &mut self,
         alloc: Global,
         text: &[u8],
-        end: u8,
         out: &mut Vec<u8>,
     ) -> Result<(), AllocError>
         ensures numbers { OnOk result ((options : Options) → (texts : List (List ℕ)) → (res : List Re)
             → IsBuilt options texts self.old → ArePatterns options texts res
-            → out.new.items ≡ out.old.items ++ number_list end (numbers_found res text.now)) }
+            → out.new.items ≡ out.old.items ++ number_list (numbers_found res text.now)) }
         ensures kept { self.new ≡ self.old }
     {
         let Ok(set) = self.patterns_in(alloc, text) else {
             return Err(AllocError);
         };
-        append_set(&set, end, out)
+        append_set(&set, out)
     }
 }
 
-/// Appends the numbers of the patterns in the set, in ascending order, with commas between them, and this byte.
-fn append_set(set: &PatternSet, end: u8, out: &mut Vec<u8>) -> Result<(), AllocError>
-    ensures { OnOk result (out.new.items ≡ out.old.items ++ number_list end (patterns_of set.now)) }
+/// Appends the numbers of the patterns in the set, in ascending order, with commas between them.
+fn append_set(set: &PatternSet, out: &mut Vec<u8>) -> Result<(), AllocError>
+    ensures { OnOk result (out.new.items ≡ out.old.items ++ number_list (patterns_of set.now)) }
 {
     let mut buffer = Buffer::new();
     let mut first = true;
@@ -118,6 +117,5 @@ fn append_set(set: &PatternSet, end: u8, out: &mut Vec<u8>) -> Result<(), AllocE
         out.extend_from_slice(buffer.format(pattern.as_usize()).as_bytes())?;
         first = false;
     }
-    out.push(end)?;
     Ok(())
 }

@@ -1,16 +1,15 @@
 -- One more number was appended, and all were.
 use Rattle.std.proofs.Common.{rules, ◌≡◌, ◌∙◌, ℕ, List, [], ◌∷◌, ◌++◌, map}
-use Rattle.std.proofs.Common.{ap, ap₂, arith, sym, append_assoc, append-nil}
+use Rattle.std.proofs.Common.{ap, ap₂, arith, sym, append-nil}
 use Rattle.std.specs.Prelude.{decimal}
 use Rattle.std.specs.List.{join_with_byte}
-use Rattle.std.proofs.lemmas.Grind.{common_steps}
 use Rattle.std.proofs.lemmas.Iterator.Consumers.{YieldsList-end, YieldsList-from_first}
 use Rattle.std.proofs.lemmas.List.{length-append}
 use Rattle.regex_search_core.specs.Patterns.{number_of}
 use Rattle.regex_search_core.specs.declared.primitives.PatternID.{PatternID}
 use Rattle.regex_search_core.specs.PatternSets.{patterns_of}
 use Rattle.regex_search_core.specs.PatternSetIters.{patterns_left}
-use Rattle.nfa_grep.specs.Printed.{comma, number_list}
+use Rattle.nfa_grep.specs.Printed.{comma}
 use Rattle.nfa_grep.proofs.PrintedLemmas.{appended-more, numbers-first, numbers-more}
 use Rattle.nfa_grep.proofs.which.append_set.Goals.{then-not-first+in_ok-extend_from_slice, else-not-first}
 use Rattle.nfa_grep.proofs.which.append_set.Goals as goal
@@ -51,9 +50,5 @@ returns c =
     let all : map number_of c.loop-pattern.yielded ≡ set =
     (YieldsList-end from c.loop-pattern.yielded c.loop-pattern.pattern-iterator c.loop-pattern.yielded_by c.next.result
     c.next.new.self c.in-None.is c.next.ensures.steps).0 in
-    let end = c.args.end in
-    let appended : c.loop-pattern.out.items ++ end ∷ [] ≡ c.args.out.now.items ++ number_list end set =
-    ap (λ l. l ++ end ∷ []) (c.loop-pattern.invariant.appended
-    ∙ ap (λ l. c.args.out.now.items ++ join_with_byte comma (map decimal l)) all)
-    ∙ append_assoc c.args.out.now.items (join_with_byte comma (map decimal set)) (end ∷ []) in
-    grind (arith, common_steps, appended)
+    c.loop-pattern.invariant.appended
+    ∙ ap (λ l. c.args.out.now.items ++ join_with_byte comma (map decimal l)) all

@@ -1,0 +1,9 @@
+-- One more match was printed.
+use Rattle.nfa_grep.proofs.PaintedLemmas.{painted-more}
+use Rattle.nfa_grep.proofs.paint.append_matched.Goals as goal
+
+pub loop-found-preserved : goal.loop-found-preserved
+loop-found-preserved c =
+    painted-more c.args.text.now c.args.matches.now c.loop-found.found-index c.found-item.result c.loop-found.from _
+    c.args.out.now.items c.loop-found.out.items _ c.loop-found-test.true c.found-item.is c.loop-found.invariant
+    c.in_ok-append_match.ensures c.end-from.ensures
