@@ -47,20 +47,9 @@ pub record Part : Type 0 where
 abbrev pub bare_part : List ℕ → Part
 bare_part text = record { coloured = false; colour = paint.Match; text = text }
 
--- the text of these parts, without colours
-abbrev pub bare : List Part → List ℕ
-bare parts = flat_map (λ part. part.text) parts
-
 -- the text of these parts, with colours
 abbrev pub in_colours : List Part → List ℕ
 in_colours parts = flat_map (λ part. painted part.coloured part.colour part.text) parts
-
--- The second text is the first, with some of its parts in colours. So it is the first if the escape sequences are left
--- out.
-pub record IsPainted (plain text : List ℕ) : Type 0 where
-  pub parts : List Part
-  pub plain_is : plain ≡ bare parts
-  pub text_is : text ≡ in_colours parts
 
 -- the text of a match, which has a colour unless it is empty
 abbrev pub part_of : List ℕ → Found → Part

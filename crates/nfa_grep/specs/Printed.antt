@@ -24,10 +24,6 @@ hyphen = 45
 abbrev pub comma : ℕ
 comma = 44
 
--- the options, without colours
-abbrev pub uncoloured : Options → Options
-uncoloured options = record options { coloured = false }
-
 -- what comes after each label of a line: a hyphen if it is printed because of a line near it
 abbrev pub mark_end : Bool → ℕ
 mark_end selected = if selected then colon else hyphen
