@@ -217,7 +217,7 @@ impl fmt::Display for Stop {
         match self {
             Stop::Usage => {
                 f.write_str(
-                    "usage: compiler-tests [back|pike|meta[-captures]|regex[-captures] PATTERN ROUNDS | states PATTERN]",
+                    "usage: compiler-tests [back|pike|meta[-captures]|regex[-captures] PATTERN ROUNDS|states PATTERN]",
                 )
             }
             Stop::Pattern(error) => write!(f, "{error}"),

@@ -32,7 +32,8 @@ start-same (piece.Error span) = refl
 
 -- what is written of a piece is its line
 pub line-of : (style : Style) (rules : List Rule) (text : List ℕ) (p : Piece)
-    → kind_line style rules (piece_found p).pattern (piece_span p) (position_if style.positions text (piece_span p).start)
+    → kind_line style rules (piece_found p).pattern (piece_span p)
+    (position_if style.positions text (piece_span p).start)
     (slice_range text (piece_span p).start (piece_span p).end) ≡ piece_line style rules text (piece_found p)
 line-of style rules text (piece.Token token) = refl
 line-of style rules text (piece.Error span) = refl

@@ -4,26 +4,26 @@ use Rattle.std.specs.Prelude.{Option, None, Some, IfSome, not, option_map, if◌
 use Rattle.std.specs.List.{filter}
 use Rattle.std.proofs.lemmas.Bool.{cases_Bool}
 use Rattle.std.proofs.lemmas.List.{take_more}
-use Rattle.lexer.specs.Positions.{continues_character, first_position, is_feed, position_after, position_at}
+use Rattle.lexer.specs.Positions.{continues_character, first_position, is_feed, position_past_all, position_at}
 use Rattle.lexer.specs.Positions.{position_past}
 use Rattle.lexer.specs.Printed.{position_if}
 use Rattle.lexer.specs.declared.position.Position.{Position}
 
 after-append : (p : Position) (xs ys : List ℕ)
-    → position_after p (xs ++ ys) ≡ position_after (position_after p xs) ys
-unfolding position_after
+    → position_past_all p (xs ++ ys) ≡ position_past_all (position_past_all p xs) ys
+unfolding position_past_all
 after-append p [] ys = refl
 after-append p (x ∷ xs) ys = after-append (position_past p x) xs ys
 
-after-one : (p : Position) (x : ℕ) → position_after p (x ∷ []) ≡ position_past p x
-unfolding position_after
+after-one : (p : Position) (x : ℕ) → position_past_all p (x ∷ []) ≡ position_past p x
+unfolding position_past_all
 after-one p x = refl
 
 -- the position one byte on
 pub position-next : (text : List ℕ) (at : ℕ) → at < length text
     → position_past (position_at text at) (get_or text at 0) ≡ position_at text (at + 1)
 position-next text at less =
-    sym (ap (position_after first_position) (take_more text at 0 less)
+    sym (ap (position_past_all first_position) (take_more text at 0 less)
     ∙ after-append first_position (take at text) (get_or text at 0 ∷ [])
     ∙ after-one (position_at text at) (get_or text at 0))
 
@@ -44,7 +44,7 @@ past-below n p byte below = elim (cases_Bool (is_feed byte)) [
 ]
 
 pub position-below : (text : List ℕ) (at : ℕ) → at ≤ length text → IsBelow at (position_at text at)
-unfolding position_after
+unfolding position_past_all
 position-below text zero within = record { line = omega arith; column = omega arith }
 position-below text (suc n) within =
     let less : n < length text = omega (arith, within) in
@@ -54,7 +54,7 @@ position-below text (suc n) within =
     (subst (IsBelow (n + 1)) (position-next text n less) (past-below n (position_at text n) (get_or text n 0) before))
 
 first-there : (text : List ℕ) → first_position ≡ position_at text 0
-unfolding position_after
+unfolding position_past_all
 first-there text = refl
 
 -- the position of the start, if positions are printed
@@ -87,8 +87,8 @@ past-line p byte bytes = elim (cases_Bool (is_feed byte)) [
 ]
 
 lines-counted : (p : Position) (bytes : List ℕ)
-    → (position_after p bytes).line ≡ p.line + length (filter is_feed bytes)
-unfolding position_after
+    → (position_past_all p bytes).line ≡ p.line + length (filter is_feed bytes)
+unfolding position_past_all
 lines-counted p [] = omega arith
 lines-counted p (byte ∷ bytes) = lines-counted (position_past p byte) bytes ∙ past-line p byte bytes
 
@@ -105,8 +105,8 @@ past-column p byte bytes other = elim (cases_Bool (continues_character byte)) [
 ]
 
 pub columns-are-counted : (p : Position) (line : List ℕ) → All (λ b. is_feed b ≡ false) line
-    → (position_after p line).column ≡ p.column + length (filter (λ b. not (continues_character b)) line)
-unfolding position_after
+    → (position_past_all p line).column ≡ p.column + length (filter (λ b. not (continues_character b)) line)
+unfolding position_past_all
 columns-are-counted p [] none = omega arith
 columns-are-counted p (byte ∷ line) none =
     columns-are-counted (position_past p byte) line (λ k d inside. none (suc k) d (omega (arith, inside)))

@@ -23,13 +23,13 @@ position_past position byte =
     else record { line = position.line; column = position.column + 1 }
 
 -- the position after these bytes
-unfoldable pub position_after : Position → List ℕ → Position
-position_after position [] = position
-position_after position (byte ∷ bytes) = position_after (position_past position byte) bytes
+unfoldable pub position_past_all : Position → List ℕ → Position
+position_past_all position [] = position
+position_past_all position (byte ∷ bytes) = position_past_all (position_past position byte) bytes
 
 -- the position of this place in a text
 abbrev pub position_at : List ℕ → ℕ → Position
-position_at text at = position_after first_position (take at text)
+position_at text at = position_past_all first_position (take at text)
 
 -- the line is one more than the line feeds before the place
 abbrev pub LinesAreCounted : Type 0
@@ -40,5 +40,5 @@ LinesAreCounted =
 abbrev pub ColumnsAreCounted : Type 0
 ColumnsAreCounted =
     (position : Position) (line : List ℕ) → All (λ byte. is_feed byte ≡ false) line
-    → (position_after position line).column
+    → (position_past_all position line).column
     ≡ position.column + length (filter (λ byte. not (continues_character byte)) line)

@@ -62,7 +62,9 @@ styled_line style rule span position text =
 -- the same line, but nothing if the name of the rule is one of those to skip
 abbrev pub shown_unless_skipped : Style → Rule → Span → Option Position → List ℕ → List ℕ
 shown_unless_skipped style rule span position text =
-    if is_in (map (λ name. name.now) style.skip.now) rule.name.now then [] else styled_line style rule span position text
+    if is_in (map (λ name. name.now) style.skip.now) rule.name.now
+    then []
+    else styled_line style rule span position text
 
 -- the line of a piece of this name that is no token of a rule
 abbrev pub named_line : List ℕ → Span → Option Position → List ℕ → List ℕ

@@ -204,7 +204,8 @@ has-value v [] n there = absurd (cc)
 has-value v (e ∷ es) n there = elim (cases_Bool (is_eq (slice_cmp nat_cmp v e.0.items))) [
   | inl y ↦
       let same : e.0.items ≡ v = sym ((bytes_decides v e.0.items).0 (sym (is_eq-slice_cmp v e.0.items) ∙ y)) in
-      subst (λ (x : List ℕ). Contains (e.0.items ∷ map second (map entry_counted es)) x) same (contains-head e.0.items _)
+      subst (λ (x : List ℕ). Contains (e.0.items ∷ map second (map entry_counted es)) x) same
+      (contains-head e.0.items _)
   | inr differs ↦ contains-tail e.0.items v _ (has-value v es n (rw differs at there))
 ]
 
@@ -256,8 +257,8 @@ sorted-counts xs sorted = λ k d below.
     let inside : k + 1 < length xs = omega (arith, below, length-map xs counted) in
     let step = may-precede (get_or xs k (pair_of d)) (get_or xs (k + 1) (pair_of d))
     (sorted k (pair_of d) (omega arith) inside) in
-    rw (get_or-map counted xs k (pair_of d) d (omega (arith, inside)), get_or-map counted xs (k + 1) (pair_of d) d inside)
-    step
+    rw (get_or-map counted xs k (pair_of d) d (omega (arith, inside)),
+    get_or-map counted xs (k + 1) (pair_of d) d inside) step
 
 pub count-list : (values : List (List ℕ)) (m : BTreeMap (Vec ℕ) ℕ) (xs ys : List Pair) → IsTally values m
     → IsOrdered key_cmp m → IsFound m → map counted xs ≡ map entry_counted m.entries → IsPermutation xs ys

@@ -83,11 +83,11 @@ pub record IsCountList (values : List (List ℕ)) (listed : List (ℕ × List �
   pub sorted : AllAdjacentBelow MayPrecede listed (length listed)
 
 -- the row of a value: its count, and the value as a field
-abbrev pub count_line : Form → ℕ × List ℕ → List ℕ
-count_line form c = decimal c.0 ++ separator form ∷ written form c.1 ++ line_feed ∷ []
+abbrev pub tally_line : Form → ℕ × List ℕ → List ℕ
+tally_line form c = decimal c.0 ++ separator form ∷ written form c.1 ++ line_feed ∷ []
 
-abbrev pub count_lines : Form → List (ℕ × List ℕ) → List ℕ
-count_lines form listed = flat_map (count_line form) listed
+abbrev pub tally_lines : Form → List (ℕ × List ℕ) → List ℕ
+tally_lines form listed = flat_map (tally_line form) listed
 
 -- the line with the names of the columns
 abbrev pub count_head : Form → List ℕ → List ℕ

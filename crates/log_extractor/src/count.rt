@@ -4,7 +4,7 @@ ghost use Rattle.std.specs.Io.KnownBytes.{Appends};
 ghost use Rattle.text_lines.specs.Lines.{content};
 ghost use Rattle.std.specs.BTreeMap.{IsOrdered};
 ghost use Rattle.std.specs.Str.{bytes_eq};
-ghost use Rattle.log_extractor.specs.Counts.{IsCountList, IsFound, IsTally, count_head, count_line, count_lines, count_of};
+ghost use Rattle.log_extractor.specs.Counts.{IsCountList, IsFound, IsTally, count_head, count_of, tally_line, tally_lines};
 ghost use Rattle.log_extractor.specs.Counts.{counted, entry_counted, key_cmp, value_at, value_in, values_in};
 ghost use Rattle.log_extractor.specs.Fields.{IsLinePattern, LinePattern, fields_now, group_of, row};
 ghost use Rattle.log_extractor.specs.Printed.{column_names};
@@ -79,8 +79,8 @@ pub fn count_lines<R: BufRead>(
     Err(Failure::TooLong)
 }
 
-/// Counts the value of the column in the row of the line, if it has one. The line may have its end, and has this number,
-/// from 1.
+/// Counts the value of the column in the row of the line, if it has one. The line may have its end, and has this
+/// number, from 1.
 fn count_one(
     alloc: Global,
     parser: &mut Parser<'_>,
@@ -169,8 +169,8 @@ fn append_count_head(form: Form, name: &str, out: &mut Vec<u8>) -> Result<(), Al
     Ok(())
 }
 
-/// Prints a row for each value, with its count. The most frequent are first, and values that occur as often as each other
-/// are in the order of their bytes.
+/// Prints a row for each value, with its count. The most frequent are first, and values that occur as often as each
+/// other are in the order of their bytes.
 pub fn print_counts<W: Write>(
     alloc: Global,
     form: Form,
@@ -179,7 +179,7 @@ pub fn print_counts<W: Write>(
 ) -> Result<(), Failure>
     ensures { OnOk result ((values : List (List ℕ)) → IsTally values counts.now
         → (listed : List (ℕ × List ℕ)) × IsCountList values listed
-        × Appends (W.contents out.old) (W.contents out.new) (count_lines form listed)) }
+        × Appends (W.contents out.old) (W.contents out.new) (tally_lines form listed)) }
 {
     let mut listed = listed_values(alloc, counts)?;
     listed.sort()?;
@@ -209,7 +209,7 @@ fn append_counts(
     listed: &[Counted<'_>],
     out: &mut Vec<u8>,
 ) -> Result<(), AllocError>
-    ensures { OnOk result (out.new.items ≡ out.old.items ++ count_lines form (map counted listed.now)) }
+    ensures { OnOk result (out.new.items ≡ out.old.items ++ tally_lines form (map counted listed.now)) }
 {
     for (count, value) in listed {
         append_count(alloc, form, count.0, value, out)?;
@@ -225,7 +225,7 @@ fn append_count(
     value: &[u8],
     out: &mut Vec<u8>,
 ) -> Result<(), AllocError>
-    ensures { OnOk result (out.new.items ≡ out.old.items ++ count_line form (count, value.now)) }
+    ensures { OnOk result (out.new.items ≡ out.old.items ++ tally_line form (count, value.now)) }
 {
     let digits = format!(in alloc; "{count}")?;
     out.extend_from_slice(digits.as_bytes())?;

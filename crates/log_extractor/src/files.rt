@@ -25,7 +25,7 @@ struct Work {
 }
 
 /// Prints what is to be printed of the files that the arguments name, in order, or of standard input if there are none.
-/// Returns whether each was read to its end. If a column is given, its values are counted, and their counts are printed.
+/// Returns whether each was read to its end. If a column is given, its values are counted, and the counts are printed.
 ///
 /// A file that cannot be read, or that has a line for which there is no memory, is named on standard error, and the
 /// next one is read. The error is one of the output, or of memory.

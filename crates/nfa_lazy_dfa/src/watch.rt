@@ -3,8 +3,8 @@
 //! A row whose only state is the start is *idle*: each path of an earlier start has ended there. If the NFA has
 //! assertions there are several, by the byte before. A scan knows one of them, and compares it with the row of each
 //! position. It begins with one of the two that earlier scans left last for a row that is not idle, so for the start of
-//! a match: the cache keeps their places. Where a step takes no known cell, it looks at the row itself, and goes on with
-//! that one if it is idle.
+//! a match: the cache keeps their places. Where a step takes no known cell, it looks at the row itself, and goes on
+//! with that one if it is idle.
 ghost use Rattle.std.specs.Prelude.{◌≡◌, ◌+◌, ◌-◌, ◌%◌, ◌≤◌, ◌∷◌, [], IsTrue, None, true};
 ghost use Rattle.regex_search_core.specs.Search.{search_of};
 ghost use Rattle.nfa_lazy_dfa.specs.Places.{IsFoundAt};
@@ -106,8 +106,8 @@ pub fn watch_at(
     }
 }
 
-/// Where the cells of an idle row begin to which the scan is likely to come: of the two that earlier scans left last, the
-/// one to which the first byte leads, or the newer one. `UNKNOWN` is the place of none.
+/// Where the cells of an idle row begin to which the scan is likely to come: of the two that earlier scans left last,
+/// the one to which the first byte leads, or the newer one. `UNKNOWN` is the place of none.
 fn likely_idle(dfa: &DFA, cache: &Cache, input: &Input<'_>, at: usize, first: u32) -> u32
     requires own { IsFor cache.now dfa.now }
     requires whole { first % ROW_CELLS ≡ 0 }
@@ -161,8 +161,8 @@ pub fn first_watch(
     }
 }
 
-/// Keeps the place of the row that a scan left, if that row was idle and the next one is not. The row that the scan began
-/// with is known to the next scan without this.
+/// Keeps the place of the row that a scan left, if that row was idle and the next one is not. The row that the scan
+/// began with is known to the next scan without this.
 pub fn keep_left(dfa: &DFA, cache: &mut Cache, begun: usize, from: Watch, to: Watch)
     requires { IsFor cache.old dfa.now }
     ensures own { IsFor cache.new dfa.now }

@@ -157,7 +157,7 @@ impl Regex {
     }
 
     /// Returns the bytes that the rows of the lazy DFA and the entries of the caches of the [`Choice`] take. The sum
-    /// saturates at `usize::MAX`.
+    /// saturates at `usize::MAX`. Contracts see only the caches of the [`Choice`], so they say that it is no less.
     ///
     /// ```
     /// // regex of "foo[0-9]+"

@@ -83,8 +83,8 @@ module _ (pattern : Sought) (re : Re) (r : ChoiceState) (text : List ℕ) (bytes
               (λ k. on_boundary text (pick text (re ∷ []) 0 k))
               (λ k. kept-alike text (pick text trees 0 k) (pick text (re ∷ []) 0 k)
               (pick-alike text bytes trees (re ∷ []) 0 k
-              (all-meant (syntax_of pattern) (pattern.text ∷ []) of.search.compiled.trees (re ∷ []) of.search.compiled.read
-              (of.meant, tt))))
+              (all-meant (syntax_of pattern) (pattern.text ∷ []) of.search.compiled.trees (re ∷ [])
+              of.search.compiled.read (of.meant, tt))))
               (length text - i + 1) i)
         ]
 
@@ -154,12 +154,12 @@ module _ (pattern : Sought) (re : Re) (r : ChoiceState) (text : List ℕ) (bytes
         by-mode : (b : Bool) → is_utf8_empty r.nfa ≡ b → ms ≡ map found_at (hits_in re b text)
         by-mode true mode = empty-matches mode ms (rw of.search.leftmost at are)
         by-mode false mode =
-            texts (syntax_of pattern) (pattern.text ∷ []) (re ∷ []) r.nfa (kind_in r) false (whole text) ms of.search.compiled
-            (of.meant, tt) mode leftmost bytes are
+            texts (syntax_of pattern) (pattern.text ∷ []) (re ∷ []) r.nfa (kind_in r) false (whole text) ms
+            of.search.compiled (of.meant, tt) mode leftmost bytes are
             ∙ ap (map found_at) plain
     matches-are ms are hits (inr (utf8, e)) =
-        strs (syntax_of pattern) (pattern.text ∷ []) (re ∷ []) r.nfa (kind_in r) false (whole text) ms of.search.compiled
-        (of.meant, tt) of.search.compiled.mode of.search.free leftmost utf8 are
+        strs (syntax_of pattern) (pattern.text ∷ []) (re ∷ []) r.nfa (kind_in r) false (whole text) ms
+        of.search.compiled (of.meant, tt) of.search.compiled.mode of.search.free leftmost utf8 are
         ∙ ap (map found_at) (found re r.nfa (whole text) kept refl refl refl ∙ sym e)
 
     pub first-are : (ms : List Found) (count : ℕ) → AreFirstMatches r.nfa (kind_in r) false (whole text) ms
@@ -184,12 +184,12 @@ module _ (pattern : Sought) (re : Re) (r : ChoiceState) (text : List ℕ) (bytes
         by-mode : (b : Bool) → is_utf8_empty r.nfa ≡ b → rows ≡ map (row_of_hit r.nfa) (hits_in re b text)
         by-mode true mode = empty-rows mode rows (rw of.search.leftmost at are)
         by-mode false mode =
-            texts (syntax_of pattern) (pattern.text ∷ []) (re ∷ []) r.nfa (kind_in r) false (whole text) rows of.search.compiled
-            (of.meant, tt) mode leftmost bytes are
+            texts (syntax_of pattern) (pattern.text ∷ []) (re ∷ []) r.nfa (kind_in r) false (whole text) rows
+            of.search.compiled (of.meant, tt) mode leftmost bytes are
             ∙ ap (map (row_of_hit r.nfa)) plain
     rows-are rows are hits (inr (utf8, e)) =
-        strs (syntax_of pattern) (pattern.text ∷ []) (re ∷ []) r.nfa (kind_in r) false (whole text) rows of.search.compiled
-        (of.meant, tt) of.search.compiled.mode of.search.free leftmost utf8 are
+        strs (syntax_of pattern) (pattern.text ∷ []) (re ∷ []) r.nfa (kind_in r) false (whole text) rows
+        of.search.compiled (of.meant, tt) of.search.compiled.mode of.search.free leftmost utf8 are
         ∙ ap (map (row_of_hit r.nfa)) (found re r.nfa (whole text) kept refl refl refl ∙ sym e)
 
     pub caught-are : (cs : List Captured) → AreRows r.nfa (kind_in r) false (whole text) (map row_of cs)

@@ -28,7 +28,8 @@ loop-at-preserved c = record {
       let no : is_some c.token_at.result ≡ false = search rules in
       inv.same res meant
       ∙ stretch-on (token_there res text) (length text) c.loop-at.at c.loop-at-test.true
-      (none-of token_found c.token_at.result (token_there res text c.loop-at.at) no (c.token_at.ensures.token res here));
+      (none-of token_found c.token_at.result (token_there res text c.loop-at.at) no
+      (c.token_at.ensures.token res here));
   kept = search rules;
 }
 
