@@ -15,6 +15,7 @@ pub mod MovedAnswerLemmas
 pub mod MovedGraphLemmas
 pub mod FirstStartLemmas
 pub mod StartAnswerLemmas
+pub mod AnywhereLemmas
 pub mod FoundSpanLemmas
 pub mod SpanLemmas
 pub mod AlikeLemmas

@@ -139,7 +139,7 @@ module _ (nfa : Automaton) (x : Search) (free : IsUnbound nfa x) where
     )
 
     -- the first path of the anchored search there is the first of all
-    first-answers : (p : List Pair)
+    pub first-answers : (p : List Pair)
         → IsFirstTo (edges nfa (anchored_at x s)) (starts nfa (anchored_at x s)) (IsMatch nfa) p
         → IsFirstTo (edges nfa x) (starts nfa x) (IsMatch nfa) p
     first-answers p h =

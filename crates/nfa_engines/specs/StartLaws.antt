@@ -17,6 +17,11 @@ from_start x s = record x { start = s }
 abbrev pub anchored_at : Search → ℕ → Search
 anchored_at x s = record x { start = s; anchored = Yes }
 
+-- a match of the search may start at each position of its span: neither the search nor the NFA is anchored
+pub record StartsAnywhere (nfa : Automaton) (x : Search) : Type 0 where
+  pub unanchored : x.anchored ≡ No
+  pub prefixed : (nfa.anchored == nfa.unanchored) ≡ false
+
 -- A match of the search may start at each position of its span, and end anywhere: neither the search nor the NFA is
 -- anchored, and no match has to end on a boundary.
 pub record IsUnbound (nfa : Automaton) (x : Search) : Type 0 where
@@ -57,6 +62,14 @@ abbrev pub FirstStartMatches : MatchKind → Bool → Type 0
 FirstStartMatches kind earliest =
     (nfa : Automaton) (x : Search) (s : ℕ) (m : Found)
     → IsUnbound nfa x → IsFirstStart nfa x s
+    → IsFindAnswer nfa kind earliest (anchored_at x s) (Some m)
+    → IsFindAnswer nfa kind earliest x (Some m)
+
+-- the same for its match if it may have to end on a boundary
+abbrev pub FirstStartMatchesAnywhere : MatchKind → Bool → Type 0
+FirstStartMatchesAnywhere kind earliest =
+    (nfa : Automaton) (x : Search) (s : ℕ) (m : Found)
+    → StartsAnywhere nfa x → IsFirstStart nfa x s
     → IsFindAnswer nfa kind earliest (anchored_at x s) (Some m)
     → IsFindAnswer nfa kind earliest x (Some m)
 

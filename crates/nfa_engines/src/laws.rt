@@ -42,7 +42,7 @@ ghost use Rattle.nfa_engines.specs.SpanLaws.{AnswersReadTheSpan, CutOutAnswers, 
 ghost use Rattle.nfa_engines.specs.SpanLaws.{CutOutMatchesAlike, MatchesMove, MatchesMoveAlike, MatchesReadAssertions};
 ghost use Rattle.nfa_engines.specs.SpanLaws.{MatchesReadTheSpan};
 ghost use Rattle.nfa_engines.specs.StartLaws.{AnswersHaveAStart, FirstStartAnswers, FirstStartMatches};
-ghost use Rattle.nfa_engines.specs.StartLaws.{FirstStartMoves, NothingAtByte, StartIsFirst};
+ghost use Rattle.nfa_engines.specs.StartLaws.{FirstStartMatchesAnywhere, FirstStartMoves, NothingAtByte, StartIsFirst};
 ghost use Rattle.nfa_engines.specs.StartLaws.{MatchStartsArePassed, NothingAtEachStart, StartsArePassed};
 ghost use Rattle.nfa_engines.specs.WorkLaws.{list_scan_limit, BacktrackerCatchesWithin, BacktrackerFindsWithin};
 ghost use Rattle.nfa_engines.specs.WorkLaws.{BacktrackerMatchesAreWithin, BacktrackerRowsAreWithin, PikeCatchesWithin};
@@ -264,10 +264,11 @@ pub fn bytes_may_be_skipped()
 /// The leftmost first answer of an unanchored search is that of the anchored search at the first start that has one. If
 /// an answer has a pattern, there is such a start in the span.
 ///
-/// Premises: those of [`starts_may_be_passed`].
+/// Premises: those of [`starts_may_be_passed`]. For `boundary`, the match may have to end on a boundary.
 pub fn first_start_answers()
     ensures answers { FirstStartAnswers LeftmostFirst false }
     ensures matches { FirstStartMatches LeftmostFirst false }
+    ensures boundary { FirstStartMatchesAnywhere LeftmostFirst false }
     ensures start { AnswersHaveAStart LeftmostFirst false }
 {}
 

@@ -17,10 +17,9 @@ use Rattle.nfa_paths.proofs.InsideLemmas.{match-within}
 use Rattle.nfa_search_base.proofs.CallerLemmas.{pattern-of}
 use Rattle.nfa_engines.specs.Accepting.{MatchesNothing}
 use Rattle.nfa_engines.specs.Agreement.{end_of}
-use Rattle.nfa_engines.specs.StartLaws.{IsFirstStart, anchored_at}
+use Rattle.nfa_engines.specs.StartLaws.{FirstStartMatchesAnywhere, IsFirstStart, StartsAnywhere, anchored_at}
 use Rattle.nfa_match_spans.specs.MatchSpanLaws.{AnchoredStartsTheSpan, HalfMatchesAreEnds, NoneIsNothing}
 use Rattle.nfa_match_spans.specs.StatePaths.{RecordsMatchSpans}
-use Rattle.nfa_meta.specs.FirstStarts.{FirstStartHasTheMatch, StartsAnywhere}
 use Rattle.nfa_meta.specs.WindowRuns.{IsWindowOf}
 use Rattle.nfa_meta.specs.Windowed.{IsWindowed}
 
@@ -99,7 +98,7 @@ next-of nfa x s first (Some (Some m)) nothing = tt
 -- the answer of the anchored search at such a start, where it is that of the search
 pub found-at-start : (nfa : Automaton) (kind : MatchKind) (earliest : Bool) (x : Search) (s : ℕ)
     → kind ≡ LeftmostFirst → StartsAnywhere nfa x → earliest ≡ false → IsFirstStart nfa x s
-    → FirstStartHasTheMatch → (known : Option (Option Match))
+    → FirstStartMatchesAnywhere LeftmostFirst false → (known : Option (Option Match))
     → IfSome known (λ found. IsFindAnswer nfa kind earliest (anchored_at x s) (option_map found_of found))
     → IfSome known (λ found. IfSome found (λ m. IsFindAnswer nfa kind earliest x (Some (found_of m))))
 found-at-start nfa kind earliest x s kind_is starts last first matches None answers = tt

@@ -1,7 +1,6 @@
 pub mod AnchoredLemmas
 pub mod CapturesLemmas
 pub mod CaughtLemmas
-pub mod FirstStartLemmas
 pub mod GapLemmas
 pub mod HalvesLemmas
 pub mod MatchesLemmas

@@ -1,7 +1,6 @@
 pub mod Built
 pub mod CapturesMatches
 pub mod Filled
-pub mod FirstStarts
 pub mod Gaps
 pub mod GroupNames
 pub mod Halves

@@ -1,6 +1,5 @@
 //! Laws of windows, and of the work of an iteration. Each function is empty: its contract is the theorem.
 ghost use Rattle.nfa_engines.specs.WorkLaws.{list_scan_limit};
-ghost use Rattle.nfa_meta.specs.FirstStarts.{FirstStartHasTheMatch};
 ghost use Rattle.nfa_meta.specs.WindowLaws.{WindowHasTheAnswer, WindowHasTheMatch, WindowsAreFirstStarts};
 ghost use Rattle.nfa_meta.specs.WorkLaws.{RegexCatchesWithin, RegexFindsWithin, RegexMatchesAreWithin};
 ghost use Rattle.nfa_meta.specs.WorkLaws.{RegexRowsAreWithin};
@@ -11,15 +10,6 @@ use nfa_engines::laws::answer_is_that_of_the_cut_span;
 /// `nfa_engines::laws`.
 pub fn windows_are_first_starts()
     ensures { WindowsAreFirstStarts }
-{}
-
-/// The match of an anchored search at a start before which nothing matches is that of the search, for leftmost first,
-/// without `earliest`. So it is at the start of the span. It may have to end on a boundary, unlike in
-/// `first_start_answers` of `nfa_engines::laws`.
-///
-/// Premises: neither the search nor the NFA is anchored.
-pub fn first_starts_answer()
-    ensures { FirstStartHasTheMatch }
 {}
 
 /// The leftmost first answer of a search, without `earliest`, is that of the search of a window: of a span from a

@@ -3,13 +3,11 @@ ghost use Rattle.std.specs.Prelude.{◌≡◌, ◌+◌, ◌<◌, ◌≤◌, IfNo
 ghost use Rattle.regex_search_core.specs.Found.{found_of};
 ghost use Rattle.regex_search_core.specs.Search.{search_of};
 ghost use Rattle.nfa_paths.specs.Paths.{IsFindAnswer, is_utf8_empty};
-ghost use Rattle.nfa_engines.specs.StartLaws.{IsFirstStart};
+ghost use Rattle.nfa_engines.specs.StartLaws.{IsFirstStart, StartsAnywhere};
 ghost use Rattle.nfa_choice.specs.ChoiceState.{kind_in};
-ghost use Rattle.nfa_meta.specs.FirstStarts.{StartsAnywhere};
 
-use crate::laws;
 use crate::regex::Regex;
-use nfa_engines::laws::bytes_may_be_skipped;
+use nfa_engines::laws::{bytes_may_be_skipped, first_start_answers};
 use regex_search_core::{Anchored, Input, Match};
 
 /// The number of bytes that a search passes over to its first start, before it leaves the rest to a window.
@@ -18,7 +16,8 @@ const REACH: usize = 8;
 impl Regex {
     /// Whether a match of the search may start anywhere in its span, and the first of all paths counts.
     pub(super) fn starts_anywhere(&self, input: &Input<'_>) -> bool
-        ensures { result ≡ true → StartsAnywhere self.now.nfa (search_of input.now) }
+        ensures anywhere { result ≡ true → StartsAnywhere self.now.nfa (search_of input.now) }
+        ensures last { result ≡ true → (search_of input.now).earliest ≡ false }
     {
         !input.get_earliest()
             && !input.get_anchored().is_anchored()
@@ -60,6 +59,7 @@ impl Regex {
     /// `Some(None)` if it finds none there, and `None` if it has no answer.
     pub(super) fn find_at_start<'h>(&mut self, input: Input<'h>, at: usize) -> Option<Option<Match>>
         requires anywhere { StartsAnywhere self.old.nfa (search_of input) }
+        requires last { (search_of input).earliest ≡ false }
         requires first { IsFirstStart self.old.nfa (search_of input) at }
         requires within { at ≤ (search_of input).end + 1 }
         ensures answer { let x = search_of input.entry in IfSome result (λ found. IfSome found (λ m.
@@ -71,7 +71,7 @@ impl Regex {
         ensures same { self.new ≡ self.old }
     {
         let _ = &self.dfa;
-        laws::first_starts_answer();
+        first_start_answers();
         self.find_anchored(input.range(at..input.end()).anchored(Anchored::Yes))
     }
 

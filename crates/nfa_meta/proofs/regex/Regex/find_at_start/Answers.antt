@@ -20,8 +20,8 @@ returns-clause-answer c =
     let answer : IfSome c.find_anchored.result (λ found.
     IsFindAnswer r.nfa (kind_in r) x.earliest (anchored_at x c.args.at) (option_map found_of found)) =
     first_of (search rules, grind (arith, common_steps)) in
-    found-at-start r.nfa (kind_in r) x.earliest x c.args.at first c.requires.anywhere c.requires.anywhere.last
-    c.requires.first c.first_starts_answer.ensures c.find_anchored.result answer
+    found-at-start r.nfa (kind_in r) x.earliest x c.args.at first c.requires.anywhere c.requires.last
+    c.requires.first c.first_start_answers.ensures.boundary c.find_anchored.result answer
 
 pub returns-clause-moves : goal.returns-clause-moves
 returns-clause-moves c = λ anywhere.
