@@ -40,20 +40,30 @@ IsTryCapturesAnswer e x (Err error) = IsRefusal e x error
 abbrev pub IsSureAt : Backtracker → Search → Found → Type 0
 IsSureAt e x m = ¬ (IsTooLong e x) × IsSureMatch e.nfa LeftmostFirst false x m
 
--- What a search refuses, counts and grows, whatever it answers. It uses at most `needed` slots of the cache.
+-- What each search refuses, counts and grows, whatever it answers. It uses at most `needed` slots of the cache.
 pub record IsCounted {Y : Type 0} (e : Backtracker) (x : Search) (needed : ℕ) (r : Result Y SearchError)
     (old new : BacktrackCache) : Type 0 where
+  -- the error is `HaystackTooLong`, with the length of the span, exactly if the span is too long
   pub too_long : IsErrOf r (HaystackTooLong (span_len x)) ↔ IsTooLong e x
+  -- any other error is `Memory`
   pub errors : IfErr r (λ error. (error ≡ Memory) ⊎ (error ≡ HaystackTooLong (span_len x)))
+  -- an answer took exactly one scan more than restarts, and a turn at least for each pair of its path
   pub work : OnOk r (IsWork e.nfa LeftmostFirst false x new.scans new.turns)
+  -- a refused search made no more scans than an answer takes
   pub within : OnErr r (IsWithinScans e.nfa LeftmostFirst false x new.scans)
+  -- the scans and the turns are bounded
   pub scans : new.scans ≤ max_scans e.nfa x
   pub turns : new.turns ≤ new.scans * max_scan_turns e.nfa x
+  -- the search is counted once, as answered or as refused
   pub answered : OnOk r (CountsAnswer old new)
   pub refused : OnErr r (CountsRefusal old new)
+  -- the totals rise by this search only
   pub total : AddsBacktrackWork old new
+  -- the cache frees no marks, and has no more than it had or the pairs need
   pub blocks : GrowsBlocks e.nfa x old.blocks new.blocks
+  -- it holds no frame that it did not hold before, and no more slots than it had or are needed
   pub holds : HoldsNoMore needed old new
+  -- if the span is too long, only the count of refusals changes
   pub early : IsTooLong e x → new ≡ refused_early old
 
 -- an answer is counted as an answer, and an error as a refusal

@@ -1,12 +1,10 @@
 //! Searches that fill captures.
-ghost use Rattle.std.specs.Prelude.{◌≡◌, ◌↔◌, ◌⊎◌, ◌+◌, ◌*◌, ◌<◌, ◌≤◌, None, length, replicate, false, All, IfErr};
-ghost use Rattle.std.specs.Prelude.{IfSome, IfNone, IsErrOf, OnErr, OnOk};
+ghost use Rattle.std.specs.Prelude.{◌≡◌, ◌+◌, ◌<◌, None, length, replicate, false, All};
+ghost use Rattle.std.specs.Prelude.{IfSome, IfNone, OnErr, OnOk};
 ghost use Rattle.regex_search_core.specs.Search.{search_of};
 ghost use Rattle.regex_search_core.specs.declared.search.MatchKind.TheVariants.{LeftmostFirst};
-ghost use Rattle.nfa_paths.specs.Paths.{span_len, total_degree, max_scans, IsAnswer, IsWork, IsWithinScans};
-ghost use Rattle.nfa_backtrack.specs.Backtrack.{IsTooLong, AddsBacktrackWork, CountsAnswer, CountsRefusal, GrowsBlocks};
-ghost use Rattle.nfa_backtrack.specs.Backtrack.{HoldsNoMore};
-ghost use Rattle.nfa_backtrack.specs.Backtrack.{refused_early};
+ghost use Rattle.nfa_paths.specs.Paths.{IsAnswer};
+ghost use Rattle.nfa_backtrack.specs.Finding.{IsCounted};
 ghost use Rattle.nfa_search_base.specs.Lists.{IsSlotInside};
 ghost use Rattle.nfa_search_base.specs.Spans.{SpansInside};
 
@@ -47,26 +45,7 @@ impl BoundedBacktracker {
         ensures inside { All (IsSlotInside (search_of input.now)) captures.new.slots }
         ensures spans { SpansInside (search_of input.now) captures.new }
 
-        ensures too_long { IsErrOf result (SearchError.HaystackTooLong (span_len (search_of input.now)))
-            ↔ IsTooLong self.now (search_of input.now) }
-        ensures errors { IfErr result (λ e. (e ≡ SearchError.Memory)
-            ⊎ (e ≡ SearchError.HaystackTooLong (span_len (search_of input.now)))) }
-
-        // The work: exactly one scan more than restarts, within stated bounds.
-        ensures work { OnOk result (IsWork self.now.nfa LeftmostFirst false (search_of input.now)
-            cache.new.scans cache.new.turns) }
-        ensures within { OnErr result (IsWithinScans self.now.nfa LeftmostFirst false (search_of input.now)
-            cache.new.scans) }
-        ensures scans { cache.new.scans ≤ max_scans self.now.nfa (search_of input.now) }
-        ensures turns { cache.new.turns
-            ≤ cache.new.scans * ((1 + total_degree self.now.nfa) * (span_len (search_of input.now) + 1)) }
-        // The search is counted once.
-        ensures answered { OnOk result (CountsAnswer cache.old cache.new) }
-        ensures refused { OnErr result (CountsRefusal cache.old cache.new) }
-        ensures total { AddsBacktrackWork cache.old cache.new }
-        ensures blocks { GrowsBlocks self.now.nfa (search_of input.now) cache.old.blocks cache.new.blocks }
-        ensures holds { HoldsNoMore 0 cache.old cache.new }
-        ensures early { IsTooLong self.now (search_of input.now) → cache.new ≡ refused_early cache.old }
+        ensures counts { IsCounted self.now (search_of input.now) 0 result cache.old cache.new }
     {
         captures.set_pattern(None);
         let pattern = self.try_search_slots(cache, input, captures.slots_mut())?;
@@ -99,26 +78,7 @@ impl BoundedBacktracker {
         ensures inside { All (IsSlotInside (search_of input.entry)) captures.new.slots }
         ensures spans { SpansInside (search_of input.entry) captures.new }
 
-        ensures too_long { IsErrOf result (SearchError.HaystackTooLong (span_len (search_of input.entry)))
-            ↔ IsTooLong self.now (search_of input.entry) }
-        ensures errors { IfErr result (λ e. (e ≡ SearchError.Memory)
-            ⊎ (e ≡ SearchError.HaystackTooLong (span_len (search_of input.entry)))) }
-
-        // The work: exactly one scan more than restarts, within stated bounds.
-        ensures work { OnOk result (IsWork self.now.nfa LeftmostFirst false (search_of input.entry)
-            cache.new.scans cache.new.turns) }
-        ensures within { OnErr result (IsWithinScans self.now.nfa LeftmostFirst false (search_of input.entry)
-            cache.new.scans) }
-        ensures scans { cache.new.scans ≤ max_scans self.now.nfa (search_of input.entry) }
-        ensures turns { cache.new.turns
-            ≤ cache.new.scans * ((1 + total_degree self.now.nfa) * (span_len (search_of input.entry) + 1)) }
-        // The search is counted once.
-        ensures answered { OnOk result (CountsAnswer cache.old cache.new) }
-        ensures refused { OnErr result (CountsRefusal cache.old cache.new) }
-        ensures total { AddsBacktrackWork cache.old cache.new }
-        ensures blocks { GrowsBlocks self.now.nfa (search_of input.entry) cache.old.blocks cache.new.blocks }
-        ensures holds { HoldsNoMore 0 cache.old cache.new }
-        ensures early { IsTooLong self.now (search_of input.entry) → cache.new ≡ refused_early cache.old }
+        ensures counts { IsCounted self.now (search_of input.entry) 0 result cache.old cache.new }
     {
         self.try_search(cache, &input, captures)
     }

@@ -1,7 +1,7 @@
 //! The backtracker: its constructors, getters and searches.
-ghost use Rattle.std.specs.Prelude.{◌≡◌, ◌↔◌, ◌⊎◌, ◌+◌, ◌*◌, ◌/◌, ◌<◌, ◌≤◌, ◌^◌, None, Ok, length, max, vec_len};
+ghost use Rattle.std.specs.Prelude.{◌≡◌, ◌↔◌, ◌+◌, ◌*◌, ◌/◌, ◌<◌, ◌≤◌, ◌^◌, None, Ok, length, max, vec_len};
 ghost use Rattle.std.specs.Prelude.{replicate};
-ghost use Rattle.std.specs.Prelude.{option_map, All, IfOk, OnOk, IfErr, OnErr, IsErrOf, IsOkUnless, IsTrue, false};
+ghost use Rattle.std.specs.Prelude.{option_map, All, IfOk, OnOk, OnErr, IsOkUnless, IsTrue, false};
 ghost use Rattle.std.specs.Prelude.{IfNone, IfSome, IsOk, vec_capacity};
 ghost use Rattle.regex_search_core.specs.Search.{search_of};
 ghost use Rattle.regex_search_core.specs.Groups.{slot_count};
@@ -9,12 +9,11 @@ ghost use Rattle.regex_search_core.specs.Patterns.{number_of};
 ghost use Rattle.regex_search_core.specs.Found.{found_of, half_found_of};
 ghost use Rattle.regex_search_core.specs.declared.search.MatchKind.TheVariants.{LeftmostFirst};
 ghost use Rattle.thompson_nfa.specs.Simple.{always, never};
-ghost use Rattle.nfa_paths.specs.Paths.{span_len, total_degree, max_scans, IsAnswer, IsFindAnswer, IsBoolAnswer};
+ghost use Rattle.nfa_paths.specs.Paths.{span_len, max_scans, IsAnswer, IsFindAnswer, IsBoolAnswer};
 ghost use Rattle.nfa_paths.specs.Paths.{IsWork, IsWithinScans};
 ghost use Rattle.nfa_paths.specs.Restarts.{max_scan_turns};
-ghost use Rattle.nfa_backtrack.specs.Backtrack.{IsTooLong, AddsBacktrackWork, CountsAnswer, CountsRefusal, GrowsBlocks};
-ghost use Rattle.nfa_backtrack.specs.Backtrack.{HoldsNoMore};
-ghost use Rattle.nfa_backtrack.specs.Backtrack.{refused_early, empty_cache, capacity_of, rounded_bits};
+ghost use Rattle.nfa_backtrack.specs.Backtrack.{IsTooLong, GrowsBlocks};
+ghost use Rattle.nfa_backtrack.specs.Backtrack.{empty_cache, capacity_of, rounded_bits};
 ghost use Rattle.nfa_backtrack.specs.Backtrack.{max_haystack_len_of};
 ghost use Rattle.nfa_backtrack.specs.Backtrack.{min_capacity_of};
 ghost use Rattle.nfa_backtrack.specs.Finding.{IsCounted};
@@ -325,26 +324,7 @@ impl BoundedBacktracker {
         ensures pattern { IfOk result (λ pattern. IfSome pattern (λ p. number_of p < length self.now.nfa.patterns)) }
         ensures inside { All (IsSlotInside (search_of input.now)) slots.new }
 
-        ensures too_long { IsErrOf result (SearchError.HaystackTooLong (span_len (search_of input.now)))
-            ↔ IsTooLong self.now (search_of input.now) }
-        ensures errors { IfErr result (λ e. (e ≡ SearchError.Memory)
-            ⊎ (e ≡ SearchError.HaystackTooLong (span_len (search_of input.now)))) }
-
-        // The work: exactly one scan more than restarts, within stated bounds.
-        ensures work { OnOk result (IsWork self.now.nfa LeftmostFirst false (search_of input.now) cache.new.scans
-            cache.new.turns) }
-        ensures within { OnErr result (IsWithinScans self.now.nfa LeftmostFirst false (search_of input.now)
-            cache.new.scans) }
-        ensures scans { cache.new.scans ≤ max_scans self.now.nfa (search_of input.now) }
-        ensures turns { cache.new.turns
-            ≤ cache.new.scans * ((1 + total_degree self.now.nfa) * (span_len (search_of input.now) + 1)) }
-        // The search is counted once.
-        ensures answered { OnOk result (CountsAnswer cache.old cache.new) }
-        ensures refused { OnErr result (CountsRefusal cache.old cache.new) }
-        ensures total { AddsBacktrackWork cache.old cache.new }
-        ensures blocks { GrowsBlocks self.now.nfa (search_of input.now) cache.old.blocks cache.new.blocks }
-        ensures holds { HoldsNoMore 0 cache.old cache.new }
-        ensures early { IsTooLong self.now (search_of input.now) → cache.new ≡ refused_early cache.old }
+        ensures counts { IsCounted self.now (search_of input.now) 0 result cache.old cache.new }
     {
         let half = self.search_counted(cache, input, slots)?;
         Ok(pattern_of(half))
@@ -373,25 +353,8 @@ impl BoundedBacktracker {
         ensures pattern { IfOk result (λ found. IfSome found
             (λ m. (found_of m).pattern < length self.now.nfa.patterns)) }
 
-        ensures too_long { IsErrOf result (SearchError.HaystackTooLong (span_len (search_of input.entry)))
-            ↔ IsTooLong self.now (search_of input.entry) }
-        ensures errors { IfErr result (λ e. (e ≡ SearchError.Memory)
-            ⊎ (e ≡ SearchError.HaystackTooLong (span_len (search_of input.entry)))) }
-
-        ensures work { OnOk result (IsWork self.now.nfa LeftmostFirst false (search_of input.entry) cache.new.scans
-            cache.new.turns) }
-        ensures within { OnErr result (IsWithinScans self.now.nfa LeftmostFirst false (search_of input.entry)
-            cache.new.scans) }
-        ensures scans { cache.new.scans ≤ max_scans self.now.nfa (search_of input.entry) }
-        ensures turns { cache.new.turns
-            ≤ cache.new.scans * ((1 + total_degree self.now.nfa) * (span_len (search_of input.entry) + 1)) }
-        // The search is counted once.
-        ensures answered { OnOk result (CountsAnswer cache.old cache.new) }
-        ensures refused { OnErr result (CountsRefusal cache.old cache.new) }
-        ensures total { AddsBacktrackWork cache.old cache.new }
-        ensures blocks { GrowsBlocks self.now.nfa (search_of input.entry) cache.old.blocks cache.new.blocks }
-        ensures holds { HoldsNoMore (2 * length self.now.nfa.groups) cache.old cache.new }
-        ensures early { IsTooLong self.now (search_of input.entry) → cache.new ≡ refused_early cache.old }
+        ensures counts { IsCounted self.now (search_of input.entry) (2 * length self.now.nfa.groups) result cache.old
+            cache.new }
     {
         let mut start = input.start();
         self.find_with_start(cache, &input, &mut start)
@@ -491,25 +454,7 @@ impl BoundedBacktracker {
             found) }
         ensures finds { IfOk result (λ found. found ≡ finds self.now.nfa LeftmostFirst false (search_of input.entry)) }
 
-        ensures too_long { IsErrOf result (SearchError.HaystackTooLong (span_len (search_of input.entry)))
-            ↔ IsTooLong self.now (search_of input.entry) }
-        ensures errors { IfErr result (λ e. (e ≡ SearchError.Memory)
-            ⊎ (e ≡ SearchError.HaystackTooLong (span_len (search_of input.entry)))) }
-
-        ensures work { OnOk result (IsWork self.now.nfa LeftmostFirst false (search_of input.entry) cache.new.scans
-            cache.new.turns) }
-        ensures within { OnErr result (IsWithinScans self.now.nfa LeftmostFirst false (search_of input.entry)
-            cache.new.scans) }
-        ensures scans { cache.new.scans ≤ max_scans self.now.nfa (search_of input.entry) }
-        ensures turns { cache.new.turns
-            ≤ cache.new.scans * ((1 + total_degree self.now.nfa) * (span_len (search_of input.entry) + 1)) }
-        // The search is counted once.
-        ensures answered { OnOk result (CountsAnswer cache.old cache.new) }
-        ensures refused { OnErr result (CountsRefusal cache.old cache.new) }
-        ensures total { AddsBacktrackWork cache.old cache.new }
-        ensures blocks { GrowsBlocks self.now.nfa (search_of input.entry) cache.old.blocks cache.new.blocks }
-        ensures holds { HoldsNoMore 0 cache.old cache.new }
-        ensures early { IsTooLong self.now (search_of input.entry) → cache.new ≡ refused_early cache.old }
+        ensures counts { IsCounted self.now (search_of input.entry) 0 result cache.old cache.new }
     {
         match self.try_search_slots(cache, &input, &mut [])? {
             Some(_) => Ok(true),

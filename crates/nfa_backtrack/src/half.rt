@@ -1,13 +1,11 @@
 //! The search for the end of a match only.
-ghost use Rattle.std.specs.Prelude.{◌≡◌, ◌↔◌, ◌⊎◌, ◌+◌, ◌*◌, ◌<◌, ◌≤◌, length, option_map, false};
-ghost use Rattle.std.specs.Prelude.{IfErr, IfOk, IfSome, IsErrOf, OnErr, OnOk};
+ghost use Rattle.std.specs.Prelude.{◌+◌, ◌<◌, ◌≤◌, length, option_map, false};
+ghost use Rattle.std.specs.Prelude.{IfOk, IfSome};
 ghost use Rattle.regex_search_core.specs.Found.{half_found_of};
 ghost use Rattle.regex_search_core.specs.Search.{search_of};
 ghost use Rattle.regex_search_core.specs.declared.search.MatchKind.TheVariants.{LeftmostFirst};
-ghost use Rattle.nfa_paths.specs.Paths.{span_len, total_degree, max_scans, IsHalfAnswer, IsWork, IsWithinScans};
-ghost use Rattle.nfa_backtrack.specs.Backtrack.{IsTooLong, AddsBacktrackWork, CountsAnswer, CountsRefusal, GrowsBlocks};
-ghost use Rattle.nfa_backtrack.specs.Backtrack.{HoldsNoMore};
-ghost use Rattle.nfa_backtrack.specs.Backtrack.{refused_early};
+ghost use Rattle.nfa_paths.specs.Paths.{IsHalfAnswer};
+ghost use Rattle.nfa_backtrack.specs.Finding.{IsCounted};
 
 use crate::cache::Cache;
 use crate::engine::BoundedBacktracker;
@@ -38,25 +36,7 @@ impl BoundedBacktracker {
             (λ m. ((search_of input.entry).start ≤ (half_found_of m).offset)
             × ((half_found_of m).offset ≤ (search_of input.entry).end))) }
 
-        ensures too_long { IsErrOf result (SearchError.HaystackTooLong (span_len (search_of input.entry)))
-            ↔ IsTooLong self.now (search_of input.entry) }
-        ensures errors { IfErr result (λ e. (e ≡ SearchError.Memory)
-            ⊎ (e ≡ SearchError.HaystackTooLong (span_len (search_of input.entry)))) }
-
-        ensures work { OnOk result (IsWork self.now.nfa LeftmostFirst false (search_of input.entry) cache.new.scans
-            cache.new.turns) }
-        ensures within { OnErr result (IsWithinScans self.now.nfa LeftmostFirst false (search_of input.entry)
-            cache.new.scans) }
-        ensures scans { cache.new.scans ≤ max_scans self.now.nfa (search_of input.entry) }
-        ensures turns { cache.new.turns
-            ≤ cache.new.scans * ((1 + total_degree self.now.nfa) * (span_len (search_of input.entry) + 1)) }
-        // The search is counted once.
-        ensures answered { OnOk result (CountsAnswer cache.old cache.new) }
-        ensures refused { OnErr result (CountsRefusal cache.old cache.new) }
-        ensures total { AddsBacktrackWork cache.old cache.new }
-        ensures blocks { GrowsBlocks self.now.nfa (search_of input.entry) cache.old.blocks cache.new.blocks }
-        ensures holds { HoldsNoMore 0 cache.old cache.new }
-        ensures early { IsTooLong self.now (search_of input.entry) → cache.new ≡ refused_early cache.old }
+        ensures counts { IsCounted self.now (search_of input.entry) 0 result cache.old cache.new }
     {
         self.search_counted(cache, &input, &mut [])
     }

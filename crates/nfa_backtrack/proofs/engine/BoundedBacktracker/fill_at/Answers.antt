@@ -9,11 +9,11 @@ returns-clause-tells c =
     let e = c.try_search.ensures in
     stored_captures-answer c.args.self.now (search_of c.args.input.now) c.try_search.new.captures
     c.try_search.result e.answer
-    (e.count ∙ c.requires.count) e.too_long e.errors
+    (e.count ∙ c.requires.count) e.counts.too_long e.counts.errors
 
 pub returns-clause-once : goal.returns-clause-once
 returns-clause-once c =
-    let e = c.try_search.ensures in
+    let e = c.try_search.ensures.counts in
     record {
       total = e.total;
       counts = counts-captures c.try_search.new.captures c.try_search.result _ _ e.answered e.refused;
