@@ -46,10 +46,7 @@ impl BoundedBacktracker {
     ghost use Rattle.nfa_search_base.specs.CapturesGiven.{CapturesGiven};
     ghost use Rattle.nfa_search_base.specs.WithCaptures.{filled_answer, row_of};
     ghost use Rattle.nfa_search_base.specs.CapturesLists.{AreRows};
-    ghost use Rattle.nfa_search_base.specs.CapturesRuns.{CapturesDisjoint, CapturesFirst, CapturesGroups, CapturesNext};
-    ghost use Rattle.nfa_search_base.specs.CapturesRuns.{CapturesRun, CapturesWithin, MatchesInAll, MatchesInFirst};
-    ghost use Rattle.nfa_search_base.specs.CapturesRuns.{MatchesInNext, MatchesInRun, RowsAll, RowsFirst, RowsNext};
-    ghost use Rattle.nfa_search_base.specs.CapturesRuns.{CapturesInside, RowsRun, match_in};
+    ghost use Rattle.nfa_search_base.specs.CapturesRuns.{CapturesInside, match_in};
     ghost use Rattle.nfa_search_base.specs.Lists.{AreDisjoint, AreMatches};
     ghost use Rattle.nfa_search_base.specs.IterStates.{fresh};
     ghost use Rattle.nfa_backtrack.specs.CapturesMatches.{CatchesBySearches, CatchesRefused};
@@ -91,33 +88,10 @@ impl BoundedBacktracker {
         ensures iter_state { IfOk result (λ made. backtrack_captures_iter_state made ≡ fresh (search_of input.entry)) }
         ensures going { IfOk result (λ made. backtrack_captures_done made ≡ false) }
         // Each run of calls gives the first captures of the input, and all of them if it goes on to `None`.
-        ensures runs { IfOk result (CapturesRun backtrack_captures_next (IsTryCapturesAnswer self.now)
-            (search_of input.entry)) }
-        ensures first { IfOk result (CapturesFirst backtrack_captures_next (IsTryCapturesAnswer self.now)
-            (search_of input.entry)) }
-        ensures next { IfOk result (CapturesNext backtrack_captures_next (IsTryCapturesAnswer self.now)
-            (search_of input.entry)) }
-        ensures refused { IfOk result (CatchesRefused self.now (search_of input.entry)) }
         // If no copy fails, their rows and their matches are those of the input.
-        ensures rows { IfOk result (RowsRun backtrack_captures_next self.now.nfa LeftmostFirst false
-            (search_of input.entry)) }
-        ensures first_rows { IfOk result (RowsFirst backtrack_captures_next self.now.nfa LeftmostFirst false
-            (search_of input.entry)) }
-        ensures next_row { IfOk result (RowsNext backtrack_captures_next self.now.nfa LeftmostFirst false
-            (search_of input.entry)) }
-        ensures all_rows { IfOk result (RowsAll backtrack_captures_next self.now.nfa LeftmostFirst false
-            (search_of input.entry)) }
-        ensures matches { IfOk result (MatchesInRun backtrack_captures_next self.now.nfa LeftmostFirst false
-            (search_of input.entry)) }
-        ensures first_matches { IfOk result (MatchesInFirst backtrack_captures_next self.now.nfa LeftmostFirst false
-            (search_of input.entry)) }
-        ensures next_match { IfOk result (MatchesInNext backtrack_captures_next self.now.nfa LeftmostFirst false
-            (search_of input.entry)) }
-        ensures all_matches { IfOk result (MatchesInAll backtrack_captures_next self.now.nfa LeftmostFirst false
-            (search_of input.entry)) }
-        ensures groups { IfOk result (CapturesGroups backtrack_captures_next self.now.nfa) }
-        ensures inside { IfOk result (CapturesWithin backtrack_captures_next (search_of input.entry)) }
-        ensures disjoint { IfOk result (CapturesDisjoint backtrack_captures_next (search_of input.entry)) }
+        ensures given { IfOk result (CapturesGiven backtrack_captures_next self.now.nfa LeftmostFirst false
+            (IsTryCapturesAnswer self.now) (search_of input.entry)) }
+        ensures refused { IfOk result (CatchesRefused self.now (search_of input.entry)) }
         // The cache changes only by the searches of the steps.
         ensures searches { IfOk result (CatchesBySearches self.now (search_of input.entry)) }
     {
@@ -152,33 +126,10 @@ impl BoundedBacktracker {
         ensures iter_state { backtrack_captures_iter_state result ≡ fresh (search_of input.entry) }
         ensures going { backtrack_captures_done result ≡ false }
         // Each run of calls gives the first captures of the input, and all of them if it goes on to `None`.
-        ensures runs { CapturesRun backtrack_captures_next (IsTryCapturesAnswer self.now)
-            (search_of input.entry) result }
-        ensures first { CapturesFirst backtrack_captures_next (IsTryCapturesAnswer self.now)
-            (search_of input.entry) result }
-        ensures next { CapturesNext backtrack_captures_next (IsTryCapturesAnswer self.now)
-            (search_of input.entry) result }
-        ensures refused { CatchesRefused self.now (search_of input.entry) result }
         // If no copy fails, their rows and their matches are those of the input.
-        ensures rows { RowsRun backtrack_captures_next self.now.nfa LeftmostFirst false
-            (search_of input.entry) result }
-        ensures first_rows { RowsFirst backtrack_captures_next self.now.nfa LeftmostFirst false
-            (search_of input.entry) result }
-        ensures next_row { RowsNext backtrack_captures_next self.now.nfa LeftmostFirst false
-            (search_of input.entry) result }
-        ensures all_rows { RowsAll backtrack_captures_next self.now.nfa LeftmostFirst false
-            (search_of input.entry) result }
-        ensures matches { MatchesInRun backtrack_captures_next self.now.nfa LeftmostFirst false
-            (search_of input.entry) result }
-        ensures first_matches { MatchesInFirst backtrack_captures_next self.now.nfa LeftmostFirst false
-            (search_of input.entry) result }
-        ensures next_match { MatchesInNext backtrack_captures_next self.now.nfa LeftmostFirst false
-            (search_of input.entry) result }
-        ensures all_matches { MatchesInAll backtrack_captures_next self.now.nfa LeftmostFirst false
-            (search_of input.entry) result }
-        ensures groups { CapturesGroups backtrack_captures_next self.now.nfa result }
-        ensures inside { CapturesWithin backtrack_captures_next (search_of input.entry) result }
-        ensures disjoint { CapturesDisjoint backtrack_captures_next (search_of input.entry) result }
+        ensures given { CapturesGiven backtrack_captures_next self.now.nfa LeftmostFirst false (IsTryCapturesAnswer
+            self.now) (search_of input.entry) result }
+        ensures refused { CatchesRefused self.now (search_of input.entry) result }
         // The cache changes only by the searches of the steps.
         ensures searches { CatchesBySearches self.now (search_of input.entry) result }
     {

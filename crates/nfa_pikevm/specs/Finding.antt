@@ -29,12 +29,16 @@ answer_of found = answer_by found_of (Ok found)
 abbrev pub IsSureOf : Pike → Search → Found → Type 0
 IsSureOf vm x m = IsSureMatch vm.nfa (kind_of vm) x.earliest x m
 
--- one search was made with the cache, within the bounds of its work, and kept the cache's sizes
+-- What each search counts and keeps, whatever it answers.
 pub record PikeSearches (vm : Pike) (x : Search) (old new : PikeCache) : Type 0 where
+  -- the totals rise by this search only
   pub total : AddsPikeWork old new
+  -- it took exactly one scan more than restarts, and a turn at least for each pair of its path
   pub work : IsWork vm.nfa (kind_of vm) x.earliest x new.scans new.turns
+  -- the scans and the turns are bounded
   pub scans : new.scans ≤ max_scans vm.nfa x
   pub turns : new.turns ≤ new.scans * ((1 + total_degree vm.nfa) * (span_len x + 1))
+  -- the sizes of the cache stay, so it fits what it fitted
   pub capacities : SameCapacities old new
 
 -- the scans of the last search with the cache

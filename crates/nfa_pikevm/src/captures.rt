@@ -1,10 +1,11 @@
 //! Searches that fill captures.
-ghost use Rattle.std.specs.Prelude.{◌≡◌, ◌+◌, ◌*◌, ◌<◌, ◌≤◌, None, length, replicate, IfSome, IfNone, All};
+ghost use Rattle.std.specs.Prelude.{◌≡◌, ◌+◌, ◌<◌, None, length, replicate, IfSome, IfNone, All};
 ghost use Rattle.regex_search_core.specs.Search.{search_of};
-ghost use Rattle.nfa_paths.specs.Paths.{span_len, total_degree, max_scans, IsAnswer, IsWork};
+ghost use Rattle.nfa_paths.specs.Paths.{IsAnswer};
 ghost use Rattle.nfa_search_base.specs.Lists.{IsSlotInside};
 ghost use Rattle.nfa_search_base.specs.Spans.{SpansInside};
-ghost use Rattle.nfa_pikevm.specs.Engines.{AddsPikeWork, Fits, SameCapacities, kind_of};
+ghost use Rattle.nfa_pikevm.specs.Engines.{Fits, kind_of};
+ghost use Rattle.nfa_pikevm.specs.Finding.{PikeSearches};
 
 use crate::cache::Cache;
 use crate::engine::PikeVM;
@@ -36,14 +37,7 @@ impl PikeVM {
         ensures inside { All (IsSlotInside (search_of input.now)) captures.new.slots }
         ensures spans { SpansInside (search_of input.now) captures.new }
 
-        ensures capacities { SameCapacities cache.old cache.new }
-        ensures total { AddsPikeWork cache.old cache.new }
-
-        ensures work { let x = search_of input.now in
-            IsWork self.now.nfa (kind_of self.now) x.earliest x cache.new.scans cache.new.turns }
-        ensures scans { cache.new.scans ≤ max_scans self.now.nfa (search_of input.now) }
-        ensures turns { cache.new.turns
-            ≤ cache.new.scans * ((1 + total_degree self.now.nfa) * (span_len (search_of input.now) + 1)) }
+        ensures counts { PikeSearches self.now (search_of input.now) cache.old cache.new }
     {
         let slots = captures.slots_mut();
         let pattern = self.search_slots(cache, input, slots);
@@ -72,14 +66,7 @@ impl PikeVM {
         ensures inside { All (IsSlotInside (search_of input.entry)) captures.new.slots }
         ensures spans { SpansInside (search_of input.entry) captures.new }
 
-        ensures capacities { SameCapacities cache.old cache.new }
-        ensures total { AddsPikeWork cache.old cache.new }
-
-        ensures work { let x = search_of input.entry in
-            IsWork self.now.nfa (kind_of self.now) x.earliest x cache.new.scans cache.new.turns }
-        ensures scans { cache.new.scans ≤ max_scans self.now.nfa (search_of input.entry) }
-        ensures turns { cache.new.turns ≤ cache.new.scans * ((1 + total_degree self.now.nfa)
-            * (span_len (search_of input.entry) + 1)) }
+        ensures counts { PikeSearches self.now (search_of input.entry) cache.old cache.new }
     {
         self.search(cache, &input, captures);
     }

@@ -47,11 +47,7 @@ impl PikeVM {
     ghost use Rattle.nfa_search_base.specs.CapturesGiven.{CapturesGiven};
     ghost use Rattle.nfa_search_base.specs.WithCaptures.{row_of};
     ghost use Rattle.nfa_search_base.specs.CapturesLists.{AreRows, AnswersRow};
-    ghost use Rattle.nfa_search_base.specs.CapturesRuns.{CapturesDisjoint, CapturesFirst, CapturesGroups};
-    ghost use Rattle.nfa_search_base.specs.CapturesRuns.{CapturesMemory};
-    ghost use Rattle.nfa_search_base.specs.CapturesRuns.{CapturesNext, CapturesRun, CapturesWithin, MatchesInAll};
-    ghost use Rattle.nfa_search_base.specs.CapturesRuns.{MatchesInFirst, MatchesInNext, MatchesInRun, RowsAll};
-    ghost use Rattle.nfa_search_base.specs.CapturesRuns.{CapturesInside, RowsFirst, RowsNext, RowsRun, match_in};
+    ghost use Rattle.nfa_search_base.specs.CapturesRuns.{CapturesInside, CapturesMemory, match_in};
     ghost use Rattle.nfa_search_base.specs.Lists.{AreDisjoint, AreMatches};
     ghost use Rattle.nfa_search_base.specs.IterStates.{fresh};
     ghost use Rattle.nfa_pikevm.specs.CapturesMatches.{CatchesBySearches, CatchesGiveCache};
@@ -94,33 +90,11 @@ impl PikeVM {
         ensures iter_state { IfOk result (λ made. pike_captures_iter_state made ≡ fresh (search_of input.entry)) }
         ensures going { IfOk result (λ made. pike_captures_done made ≡ false) }
         // Each run of calls gives the first captures of the input, and all of them if it goes on to `None`.
-        ensures runs { IfOk result (CapturesRun pike_captures_next
-            (AnswersRow self.now.nfa (kind_of self.now) (search_of input.entry).earliest) (search_of input.entry)) }
-        ensures first { IfOk result (CapturesFirst pike_captures_next
-            (AnswersRow self.now.nfa (kind_of self.now) (search_of input.entry).earliest) (search_of input.entry)) }
-        ensures next { IfOk result (CapturesNext pike_captures_next
-            (AnswersRow self.now.nfa (kind_of self.now) (search_of input.entry).earliest) (search_of input.entry)) }
-        ensures errors { IfOk result (CapturesMemory pike_captures_next) }
         // If no copy fails, their rows and their matches are those of the input.
-        ensures rows { IfOk result (RowsRun pike_captures_next self.now.nfa (kind_of self.now)
-            (search_of input.entry).earliest (search_of input.entry)) }
-        ensures first_rows { IfOk result (RowsFirst pike_captures_next self.now.nfa (kind_of self.now)
-            (search_of input.entry).earliest (search_of input.entry)) }
-        ensures next_row { IfOk result (RowsNext pike_captures_next self.now.nfa (kind_of self.now)
-            (search_of input.entry).earliest (search_of input.entry)) }
-        ensures all_rows { IfOk result (RowsAll pike_captures_next self.now.nfa (kind_of self.now)
-            (search_of input.entry).earliest (search_of input.entry)) }
-        ensures matches { IfOk result (MatchesInRun pike_captures_next self.now.nfa (kind_of self.now)
-            (search_of input.entry).earliest (search_of input.entry)) }
-        ensures first_matches { IfOk result (MatchesInFirst pike_captures_next self.now.nfa (kind_of self.now)
-            (search_of input.entry).earliest (search_of input.entry)) }
-        ensures next_match { IfOk result (MatchesInNext pike_captures_next self.now.nfa (kind_of self.now)
-            (search_of input.entry).earliest (search_of input.entry)) }
-        ensures all_matches { IfOk result (MatchesInAll pike_captures_next self.now.nfa (kind_of self.now)
-            (search_of input.entry).earliest (search_of input.entry)) }
-        ensures groups { IfOk result (CapturesGroups pike_captures_next self.now.nfa) }
-        ensures inside { IfOk result (CapturesWithin pike_captures_next (search_of input.entry)) }
-        ensures disjoint { IfOk result (CapturesDisjoint pike_captures_next (search_of input.entry)) }
+        ensures given { IfOk result (CapturesGiven pike_captures_next self.now.nfa (kind_of self.now)
+            (search_of input.entry).earliest (AnswersRow self.now.nfa (kind_of self.now)
+            (search_of input.entry).earliest) (search_of input.entry)) }
+        ensures errors { IfOk result (CapturesMemory pike_captures_next) }
         // The cache changes only by the searches of the steps.
         ensures searches { IfOk result (CatchesBySearches self.now (search_of input.entry)) }
         ensures keeps { IfOk result CatchesGiveCache }
@@ -156,36 +130,11 @@ impl PikeVM {
         ensures iter_state { pike_captures_iter_state result ≡ fresh (search_of input.entry) }
         ensures going { pike_captures_done result ≡ false }
         // Each run of calls gives the first captures of the input, and all of them if it goes on to `None`.
-        ensures runs { CapturesRun pike_captures_next
-            (AnswersRow self.now.nfa (kind_of self.now) (search_of input.entry).earliest)
-            (search_of input.entry) result }
-        ensures first { CapturesFirst pike_captures_next
-            (AnswersRow self.now.nfa (kind_of self.now) (search_of input.entry).earliest)
-            (search_of input.entry) result }
-        ensures next { CapturesNext pike_captures_next
-            (AnswersRow self.now.nfa (kind_of self.now) (search_of input.entry).earliest)
-            (search_of input.entry) result }
-        ensures errors { CapturesMemory pike_captures_next result }
         // If no copy fails, their rows and their matches are those of the input.
-        ensures rows { RowsRun pike_captures_next self.now.nfa (kind_of self.now)
-            (search_of input.entry).earliest (search_of input.entry) result }
-        ensures first_rows { RowsFirst pike_captures_next self.now.nfa (kind_of self.now)
-            (search_of input.entry).earliest (search_of input.entry) result }
-        ensures next_row { RowsNext pike_captures_next self.now.nfa (kind_of self.now)
-            (search_of input.entry).earliest (search_of input.entry) result }
-        ensures all_rows { RowsAll pike_captures_next self.now.nfa (kind_of self.now)
-            (search_of input.entry).earliest (search_of input.entry) result }
-        ensures matches { MatchesInRun pike_captures_next self.now.nfa (kind_of self.now)
-            (search_of input.entry).earliest (search_of input.entry) result }
-        ensures first_matches { MatchesInFirst pike_captures_next self.now.nfa (kind_of self.now)
-            (search_of input.entry).earliest (search_of input.entry) result }
-        ensures next_match { MatchesInNext pike_captures_next self.now.nfa (kind_of self.now)
-            (search_of input.entry).earliest (search_of input.entry) result }
-        ensures all_matches { MatchesInAll pike_captures_next self.now.nfa (kind_of self.now)
-            (search_of input.entry).earliest (search_of input.entry) result }
-        ensures groups { CapturesGroups pike_captures_next self.now.nfa result }
-        ensures inside { CapturesWithin pike_captures_next (search_of input.entry) result }
-        ensures disjoint { CapturesDisjoint pike_captures_next (search_of input.entry) result }
+        ensures given { CapturesGiven pike_captures_next self.now.nfa (kind_of self.now)
+            (search_of input.entry).earliest (AnswersRow self.now.nfa (kind_of self.now)
+            (search_of input.entry).earliest) (search_of input.entry) result }
+        ensures errors { CapturesMemory pike_captures_next result }
         // The cache changes only by the searches of the steps.
         ensures searches { CatchesBySearches self.now (search_of input.entry) result }
         ensures keeps { CatchesGiveCache result }

@@ -241,15 +241,7 @@ impl PikeVM {
         ensures pattern { IfSome result (λ p. number_of p < length self.now.nfa.patterns) }
         ensures inside { All (IsSlotInside (search_of input.now)) slots.new }
 
-        ensures capacities { SameCapacities cache.old cache.new }
-        ensures total { AddsPikeWork cache.old cache.new }
-
-        // The work: exactly one scan more than restarts, within stated bounds.
-        ensures work { IsWork self.now.nfa (kind_of self.now) (search_of input.now).earliest (search_of input.now)
-            cache.new.scans cache.new.turns }
-        ensures scans { cache.new.scans ≤ max_scans self.now.nfa (search_of input.now) }
-        ensures turns { cache.new.turns ≤ cache.new.scans * ((1 + total_degree self.now.nfa)
-            * (span_len (search_of input.now) + 1)) }
+        ensures counts { PikeSearches self.now (search_of input.now) cache.old cache.new }
     {
         cache.restart_counts();
         let Cache { threads, found, .. } = cache;
@@ -351,14 +343,7 @@ impl PikeVM {
         ensures pattern { IfSome result (λ m. (found_of m).pattern < length self.now.nfa.patterns) }
         ensures inside { IfSome result (λ m. IsInside (search_of input.entry) (found_of m)) }
 
-        ensures capacities { SameCapacities cache.old cache.new }
-        ensures total { AddsPikeWork cache.old cache.new }
-
-        ensures work { IsWork self.now.nfa (kind_of self.now) (search_of input.entry).earliest (search_of input.entry)
-            cache.new.scans cache.new.turns }
-        ensures scans { cache.new.scans ≤ max_scans self.now.nfa (search_of input.entry) }
-        ensures turns { cache.new.turns ≤ cache.new.scans * ((1 + total_degree self.now.nfa)
-            * (span_len (search_of input.entry) + 1)) }
+        ensures counts { PikeSearches self.now (search_of input.entry) cache.old cache.new }
     {
         let mut moved = input;
         self.find_with_start(cache, &mut moved)
@@ -398,14 +383,7 @@ impl PikeVM {
         ensures inside { IfSome result (λ m. ((search_of input.entry).start ≤ (half_found_of m).offset)
             × ((half_found_of m).offset ≤ (search_of input.entry).end)) }
 
-        ensures capacities { SameCapacities cache.old cache.new }
-        ensures total { AddsPikeWork cache.old cache.new }
-
-        ensures work { IsWork self.now.nfa (kind_of self.now) (search_of input.entry).earliest (search_of input.entry)
-            cache.new.scans cache.new.turns }
-        ensures scans { cache.new.scans ≤ max_scans self.now.nfa (search_of input.entry) }
-        ensures turns { cache.new.turns ≤ cache.new.scans * ((1 + total_degree self.now.nfa)
-            * (span_len (search_of input.entry) + 1)) }
+        ensures counts { PikeSearches self.now (search_of input.entry) cache.old cache.new }
     {
         cache.restart_counts();
         let threads = &mut cache.threads;

@@ -41,11 +41,8 @@ impl Choice {
     ghost use Rattle.regex_search_core.specs.Search.{search_of};
     ghost use Rattle.nfa_search_base.specs.WithCaptures.{row_of};
     ghost use Rattle.nfa_search_base.specs.CapturesLists.{AreRows, AnswersRow};
-    ghost use Rattle.nfa_search_base.specs.CapturesRuns.{CapturesDisjoint, CapturesFirst, CapturesGroups};
-    ghost use Rattle.nfa_search_base.specs.CapturesRuns.{CapturesInside};
-    ghost use Rattle.nfa_search_base.specs.CapturesRuns.{CapturesMemory, CapturesNext, CapturesRun, CapturesWithin};
-    ghost use Rattle.nfa_search_base.specs.CapturesRuns.{MatchesInAll, MatchesInFirst, MatchesInNext, MatchesInRun};
-    ghost use Rattle.nfa_search_base.specs.CapturesRuns.{RowsAll, RowsFirst, RowsNext, RowsRun, match_in};
+    ghost use Rattle.nfa_search_base.specs.CapturesGiven.{CapturesGiven};
+    ghost use Rattle.nfa_search_base.specs.CapturesRuns.{CapturesInside, CapturesMemory, match_in};
     ghost use Rattle.nfa_search_base.specs.Lists.{AreDisjoint, AreMatches};
     ghost use Rattle.nfa_search_base.specs.IterStates.{fresh};
     ghost use Rattle.nfa_choice.specs.CapturesMatches.{ChoiceCatchesBySearches, ChoiceCatchesGiveKept};
@@ -83,33 +80,11 @@ impl Choice {
         ensures iter_state { IfOk result (λ made. choice_captures_iter_state made ≡ fresh (search_of input.entry)) }
         ensures going { IfOk result (λ made. choice_catches_done made ≡ false) }
         // Each run of calls gives the first captures of the input, and all of them if it goes on to `None`.
-        ensures runs { IfOk result (CapturesRun choice_catches_next (AnswersRow self.entry.now.nfa
-            (kind_in self.entry.now) (search_of input.entry).earliest) (search_of input.entry)) }
-        ensures first { IfOk result (CapturesFirst choice_catches_next (AnswersRow self.entry.now.nfa
-            (kind_in self.entry.now) (search_of input.entry).earliest) (search_of input.entry)) }
-        ensures next { IfOk result (CapturesNext choice_catches_next (AnswersRow self.entry.now.nfa
-            (kind_in self.entry.now) (search_of input.entry).earliest) (search_of input.entry)) }
-        ensures errors { IfOk result (CapturesMemory choice_catches_next) }
         // If no copy fails, their rows and their matches are those of the input.
-        ensures rows { IfOk result (RowsRun choice_catches_next self.entry.now.nfa (kind_in self.entry.now)
-            (search_of input.entry).earliest (search_of input.entry)) }
-        ensures first_rows { IfOk result (RowsFirst choice_catches_next self.entry.now.nfa (kind_in self.entry.now)
-            (search_of input.entry).earliest (search_of input.entry)) }
-        ensures next_row { IfOk result (RowsNext choice_catches_next self.entry.now.nfa (kind_in self.entry.now)
-            (search_of input.entry).earliest (search_of input.entry)) }
-        ensures all_rows { IfOk result (RowsAll choice_catches_next self.entry.now.nfa (kind_in self.entry.now)
-            (search_of input.entry).earliest (search_of input.entry)) }
-        ensures matches { IfOk result (MatchesInRun choice_catches_next self.entry.now.nfa (kind_in self.entry.now)
-            (search_of input.entry).earliest (search_of input.entry)) }
-        ensures first_matches { IfOk result (MatchesInFirst choice_catches_next self.entry.now.nfa
-            (kind_in self.entry.now) (search_of input.entry).earliest (search_of input.entry)) }
-        ensures next_match { IfOk result (MatchesInNext choice_catches_next self.entry.now.nfa
-            (kind_in self.entry.now) (search_of input.entry).earliest (search_of input.entry)) }
-        ensures all_matches { IfOk result (MatchesInAll choice_catches_next self.entry.now.nfa
-            (kind_in self.entry.now) (search_of input.entry).earliest (search_of input.entry)) }
-        ensures groups { IfOk result (CapturesGroups choice_catches_next self.entry.now.nfa) }
-        ensures inside { IfOk result (CapturesWithin choice_catches_next (search_of input.entry)) }
-        ensures disjoint { IfOk result (CapturesDisjoint choice_catches_next (search_of input.entry)) }
+        ensures given { IfOk result (CapturesGiven choice_catches_next self.entry.now.nfa (kind_in self.entry.now)
+            (search_of input.entry).earliest (AnswersRow self.entry.now.nfa (kind_in self.entry.now)
+            (search_of input.entry).earliest) (search_of input.entry)) }
+        ensures errors { IfOk result (CapturesMemory choice_catches_next) }
         // The choice changes only by the searches of the steps.
         ensures searches { IfOk result (ChoiceCatchesBySearches (search_of input.entry)) }
         ensures keeps { IfOk result ChoiceCatchesGiveKept }
@@ -142,33 +117,11 @@ impl Choice {
         ensures iter_state { choice_captures_iter_state result ≡ fresh (search_of input.entry) }
         ensures going { choice_catches_done result ≡ false }
         // Each run of calls gives the first captures of the input, and all of them if it goes on to `None`.
-        ensures runs { CapturesRun choice_catches_next (AnswersRow self.entry.now.nfa (kind_in self.entry.now)
-            (search_of input.entry).earliest) (search_of input.entry) result }
-        ensures first { CapturesFirst choice_catches_next (AnswersRow self.entry.now.nfa (kind_in self.entry.now)
-            (search_of input.entry).earliest) (search_of input.entry) result }
-        ensures next { CapturesNext choice_catches_next (AnswersRow self.entry.now.nfa (kind_in self.entry.now)
+        // If no copy fails, their rows and their matches are those of the input.
+        ensures given { CapturesGiven choice_catches_next self.entry.now.nfa (kind_in self.entry.now)
+            (search_of input.entry).earliest (AnswersRow self.entry.now.nfa (kind_in self.entry.now)
             (search_of input.entry).earliest) (search_of input.entry) result }
         ensures errors { CapturesMemory choice_catches_next result }
-        // If no copy fails, their rows and their matches are those of the input.
-        ensures rows { RowsRun choice_catches_next self.entry.now.nfa (kind_in self.entry.now)
-            (search_of input.entry).earliest (search_of input.entry) result }
-        ensures first_rows { RowsFirst choice_catches_next self.entry.now.nfa (kind_in self.entry.now)
-            (search_of input.entry).earliest (search_of input.entry) result }
-        ensures next_row { RowsNext choice_catches_next self.entry.now.nfa (kind_in self.entry.now)
-            (search_of input.entry).earliest (search_of input.entry) result }
-        ensures all_rows { RowsAll choice_catches_next self.entry.now.nfa (kind_in self.entry.now)
-            (search_of input.entry).earliest (search_of input.entry) result }
-        ensures matches { MatchesInRun choice_catches_next self.entry.now.nfa (kind_in self.entry.now)
-            (search_of input.entry).earliest (search_of input.entry) result }
-        ensures first_matches { MatchesInFirst choice_catches_next self.entry.now.nfa (kind_in self.entry.now)
-            (search_of input.entry).earliest (search_of input.entry) result }
-        ensures next_match { MatchesInNext choice_catches_next self.entry.now.nfa (kind_in self.entry.now)
-            (search_of input.entry).earliest (search_of input.entry) result }
-        ensures all_matches { MatchesInAll choice_catches_next self.entry.now.nfa (kind_in self.entry.now)
-            (search_of input.entry).earliest (search_of input.entry) result }
-        ensures groups { CapturesGroups choice_catches_next self.entry.now.nfa result }
-        ensures inside { CapturesWithin choice_catches_next (search_of input.entry) result }
-        ensures disjoint { CapturesDisjoint choice_catches_next (search_of input.entry) result }
         // The choice changes only by the searches of the steps.
         ensures searches { ChoiceCatchesBySearches (search_of input.entry) result }
         ensures keeps { ChoiceCatchesGiveKept result }

@@ -41,11 +41,8 @@ impl Regex {
     ghost use Rattle.regex_search_core.specs.Search.{search_of};
     ghost use Rattle.nfa_search_base.specs.WithCaptures.{row_of};
     ghost use Rattle.nfa_search_base.specs.CapturesLists.{AreRows, AnswersRow};
-    ghost use Rattle.nfa_search_base.specs.CapturesRuns.{CapturesDisjoint, CapturesFirst, CapturesGroups};
-    ghost use Rattle.nfa_search_base.specs.CapturesRuns.{CapturesInside};
-    ghost use Rattle.nfa_search_base.specs.CapturesRuns.{CapturesMemory, CapturesNext, CapturesRun, CapturesWithin};
-    ghost use Rattle.nfa_search_base.specs.CapturesRuns.{MatchesInAll, MatchesInFirst, MatchesInNext, MatchesInRun};
-    ghost use Rattle.nfa_search_base.specs.CapturesRuns.{RowsAll, RowsFirst, RowsNext, RowsRun, match_in};
+    ghost use Rattle.nfa_search_base.specs.CapturesGiven.{CapturesGiven};
+    ghost use Rattle.nfa_search_base.specs.CapturesRuns.{CapturesInside, CapturesMemory, match_in};
     ghost use Rattle.nfa_search_base.specs.Lists.{AreDisjoint, AreMatches};
     ghost use Rattle.nfa_search_base.specs.IterStates.{fresh};
     ghost use Rattle.nfa_meta.specs.CapturesMatches.{CatchesBySearches, CatchesGiveKept};
@@ -83,33 +80,11 @@ impl Regex {
         ensures iter_state { IfOk result (λ made. catches_iter_state made ≡ fresh (search_of input.entry)) }
         ensures going { IfOk result (λ made. catches_done made ≡ false) }
         // Each run of calls gives the first captures of the input, and all of them if it goes on to `None`.
-        ensures runs { IfOk result (CapturesRun catches_next (AnswersRow self.entry.now.nfa
-            (kind_in self.entry.now) (search_of input.entry).earliest) (search_of input.entry)) }
-        ensures first { IfOk result (CapturesFirst catches_next (AnswersRow self.entry.now.nfa
-            (kind_in self.entry.now) (search_of input.entry).earliest) (search_of input.entry)) }
-        ensures next { IfOk result (CapturesNext catches_next (AnswersRow self.entry.now.nfa
-            (kind_in self.entry.now) (search_of input.entry).earliest) (search_of input.entry)) }
-        ensures errors { IfOk result (CapturesMemory catches_next) }
         // If no copy fails, their rows and their matches are those of the input.
-        ensures rows { IfOk result (RowsRun catches_next self.entry.now.nfa (kind_in self.entry.now)
-            (search_of input.entry).earliest (search_of input.entry)) }
-        ensures first_rows { IfOk result (RowsFirst catches_next self.entry.now.nfa (kind_in self.entry.now)
-            (search_of input.entry).earliest (search_of input.entry)) }
-        ensures next_row { IfOk result (RowsNext catches_next self.entry.now.nfa (kind_in self.entry.now)
-            (search_of input.entry).earliest (search_of input.entry)) }
-        ensures all_rows { IfOk result (RowsAll catches_next self.entry.now.nfa (kind_in self.entry.now)
-            (search_of input.entry).earliest (search_of input.entry)) }
-        ensures matches { IfOk result (MatchesInRun catches_next self.entry.now.nfa (kind_in self.entry.now)
-            (search_of input.entry).earliest (search_of input.entry)) }
-        ensures first_matches { IfOk result (MatchesInFirst catches_next self.entry.now.nfa
-            (kind_in self.entry.now) (search_of input.entry).earliest (search_of input.entry)) }
-        ensures next_match { IfOk result (MatchesInNext catches_next self.entry.now.nfa
-            (kind_in self.entry.now) (search_of input.entry).earliest (search_of input.entry)) }
-        ensures all_matches { IfOk result (MatchesInAll catches_next self.entry.now.nfa
-            (kind_in self.entry.now) (search_of input.entry).earliest (search_of input.entry)) }
-        ensures groups { IfOk result (CapturesGroups catches_next self.entry.now.nfa) }
-        ensures inside { IfOk result (CapturesWithin catches_next (search_of input.entry)) }
-        ensures disjoint { IfOk result (CapturesDisjoint catches_next (search_of input.entry)) }
+        ensures given { IfOk result (CapturesGiven catches_next self.entry.now.nfa (kind_in self.entry.now)
+            (search_of input.entry).earliest (AnswersRow self.entry.now.nfa (kind_in self.entry.now)
+            (search_of input.entry).earliest) (search_of input.entry)) }
+        ensures errors { IfOk result (CapturesMemory catches_next) }
         // The engines change only by the searches of the steps.
         ensures searches { IfOk result (CatchesBySearches (search_of input.entry)) }
         ensures keeps { IfOk result CatchesGiveKept }
@@ -142,33 +117,11 @@ impl Regex {
         ensures iter_state { catches_iter_state result ≡ fresh (search_of input.entry) }
         ensures going { catches_done result ≡ false }
         // Each run of calls gives the first captures of the input, and all of them if it goes on to `None`.
-        ensures runs { CapturesRun catches_next (AnswersRow self.entry.now.nfa (kind_in self.entry.now)
-            (search_of input.entry).earliest) (search_of input.entry) result }
-        ensures first { CapturesFirst catches_next (AnswersRow self.entry.now.nfa (kind_in self.entry.now)
-            (search_of input.entry).earliest) (search_of input.entry) result }
-        ensures next { CapturesNext catches_next (AnswersRow self.entry.now.nfa (kind_in self.entry.now)
+        // If no copy fails, their rows and their matches are those of the input.
+        ensures given { CapturesGiven catches_next self.entry.now.nfa (kind_in self.entry.now)
+            (search_of input.entry).earliest (AnswersRow self.entry.now.nfa (kind_in self.entry.now)
             (search_of input.entry).earliest) (search_of input.entry) result }
         ensures errors { CapturesMemory catches_next result }
-        // If no copy fails, their rows and their matches are those of the input.
-        ensures rows { RowsRun catches_next self.entry.now.nfa (kind_in self.entry.now)
-            (search_of input.entry).earliest (search_of input.entry) result }
-        ensures first_rows { RowsFirst catches_next self.entry.now.nfa (kind_in self.entry.now)
-            (search_of input.entry).earliest (search_of input.entry) result }
-        ensures next_row { RowsNext catches_next self.entry.now.nfa (kind_in self.entry.now)
-            (search_of input.entry).earliest (search_of input.entry) result }
-        ensures all_rows { RowsAll catches_next self.entry.now.nfa (kind_in self.entry.now)
-            (search_of input.entry).earliest (search_of input.entry) result }
-        ensures matches { MatchesInRun catches_next self.entry.now.nfa (kind_in self.entry.now)
-            (search_of input.entry).earliest (search_of input.entry) result }
-        ensures first_matches { MatchesInFirst catches_next self.entry.now.nfa (kind_in self.entry.now)
-            (search_of input.entry).earliest (search_of input.entry) result }
-        ensures next_match { MatchesInNext catches_next self.entry.now.nfa (kind_in self.entry.now)
-            (search_of input.entry).earliest (search_of input.entry) result }
-        ensures all_matches { MatchesInAll catches_next self.entry.now.nfa (kind_in self.entry.now)
-            (search_of input.entry).earliest (search_of input.entry) result }
-        ensures groups { CapturesGroups catches_next self.entry.now.nfa result }
-        ensures inside { CapturesWithin catches_next (search_of input.entry) result }
-        ensures disjoint { CapturesDisjoint catches_next (search_of input.entry) result }
         // The engines change only by the searches of the steps.
         ensures searches { CatchesBySearches (search_of input.entry) result }
         ensures keeps { CatchesGiveKept result }

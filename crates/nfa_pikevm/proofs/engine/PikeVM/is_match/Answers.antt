@@ -28,7 +28,7 @@ returns-clause-work c =
     let mode : c.is_utf8_empty-earliest.result ≡ is_utf8_empty c.args.self.now.nfa =
     rw (← c.self.view_is) c.is_utf8_empty-earliest.ensures in
     work-free c.args.self.now.nfa (kind_of c.args.self.now) (search_of c.args.input) (search_of c.earliest-input.result)
-    _ (ap not mode) c.earliest-input.ensures _ _ c.search_slots.ensures.work
+    _ (ap not mode) c.earliest-input.ensures _ _ c.search_slots.ensures.counts.work
 
 pub returns-clause-finds : goal.returns-clause-finds
 returns-clause-finds c =
