@@ -126,7 +126,14 @@ impl Choice {
         ensures searches { ChoiceCatchesBySearches (search_of input.entry) result }
         ensures keeps { ChoiceCatchesGiveKept result }
     {
-        ChoiceCaptures::over(self, input, captures)
+        ChoiceCaptures {
+            choice: self,
+            steps: Steps {
+                searcher: Searcher::new(input),
+                backend: CapturesFinder { captures },
+                done: false,
+            },
+        }
     }
 
     /// Returns the captures of all matches that do not overlap, from left to right, each with all groups of the NFA, as
@@ -165,44 +172,6 @@ impl Choice {
             captures: self.create_captures(alloc)?,
         };
         Steps::new(input, catcher).all_with(alloc, self)
-    }
-}
-
-impl<'c, 'h> ChoiceCaptures<'c, 'h> {
-    ghost use Rattle.std.specs.Prelude.{◌≡◌, false};
-    ghost use Rattle.regex_search_core.specs.Search.{search_of};
-    ghost use Rattle.nfa_search_base.specs.CapturesGiven.{CapturesGiven};
-    ghost use Rattle.nfa_search_base.specs.CapturesLists.{AnswersRow};
-    ghost use Rattle.nfa_search_base.specs.CapturesRuns.{CapturesMemory};
-    ghost use Rattle.nfa_search_base.specs.IterStates.{fresh};
-    ghost use Rattle.nfa_choice.specs.CapturesMatches.{ChoiceCatchesBySearches, ChoiceCatchesGiveKept};
-    ghost use Rattle.nfa_choice.specs.CapturesMatches.{choice_catches_choice, choice_catches_done};
-    ghost use Rattle.nfa_choice.specs.CapturesMatches.{choice_catches_next, choice_captures_iter_state};
-    ghost use Rattle.nfa_choice.specs.ChoiceState.{kind_in};
-
-    // An iterator that searches with these captures.
-    #[inline]
-    fn over(choice: &'c mut Choice, input: Input<'h>, captures: Captures) -> ChoiceCaptures<'c, 'h>
-        requires { HasGroups choice.old.nfa captures }
-        ensures same_reference { (choice_catches_choice result).ghost_name ≡ choice.entry.ghost_name }
-        ensures same_choice { (choice_catches_choice result).now ≡ choice.entry.now }
-        ensures iter_state { choice_captures_iter_state result ≡ fresh (search_of input.entry) }
-        ensures going { choice_catches_done result ≡ false }
-        ensures given { CapturesGiven choice_catches_next choice.entry.now.nfa (kind_in choice.entry.now)
-            (search_of input.entry).earliest (AnswersRow choice.entry.now.nfa (kind_in choice.entry.now)
-            (search_of input.entry).earliest) (search_of input.entry) result }
-        ensures errors { CapturesMemory choice_catches_next result }
-        ensures searches { ChoiceCatchesBySearches (search_of input.entry) result }
-        ensures keeps { ChoiceCatchesGiveKept result }
-    {
-        ChoiceCaptures {
-            choice,
-            steps: Steps {
-                searcher: Searcher::new(input),
-                backend: CapturesFinder { captures },
-                done: false,
-            },
-        }
     }
 }
 

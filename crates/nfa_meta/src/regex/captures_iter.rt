@@ -126,7 +126,14 @@ impl Regex {
         ensures searches { CatchesBySearches (search_of input.entry) result }
         ensures keeps { CatchesGiveKept result }
     {
-        CapturesMatches::over(self, input, captures)
+        CapturesMatches {
+            regex: self,
+            steps: Steps {
+                searcher: Searcher::new(input),
+                backend: CapturesFinder { captures },
+                done: false,
+            },
+        }
     }
 
     /// Returns the captures of all matches that do not overlap, from left to right, each with all groups of the NFA, as
@@ -165,44 +172,6 @@ impl Regex {
             captures: self.create_captures(alloc)?,
         };
         Steps::new(input, catcher).all_with(alloc, self)
-    }
-}
-
-impl<'r, 'h> CapturesMatches<'r, 'h> {
-    ghost use Rattle.std.specs.Prelude.{◌≡◌, false};
-    ghost use Rattle.regex_search_core.specs.Search.{search_of};
-    ghost use Rattle.nfa_search_base.specs.CapturesGiven.{CapturesGiven};
-    ghost use Rattle.nfa_search_base.specs.CapturesLists.{AnswersRow};
-    ghost use Rattle.nfa_search_base.specs.CapturesRuns.{CapturesMemory};
-    ghost use Rattle.nfa_search_base.specs.IterStates.{fresh};
-    ghost use Rattle.nfa_meta.specs.CapturesMatches.{CatchesBySearches, CatchesGiveKept};
-    ghost use Rattle.nfa_meta.specs.CapturesMatches.{catches_regex, catches_done};
-    ghost use Rattle.nfa_meta.specs.CapturesMatches.{catches_next, catches_iter_state};
-    ghost use Rattle.nfa_choice.specs.ChoiceState.{kind_in};
-
-    // An iterator that searches with these captures.
-    #[inline]
-    fn over(regex: &'r mut Regex, input: Input<'h>, captures: Captures) -> CapturesMatches<'r, 'h>
-        requires { HasGroups regex.old.nfa captures }
-        ensures same_reference { (catches_regex result).ghost_name ≡ regex.entry.ghost_name }
-        ensures same_regex { (catches_regex result).now ≡ regex.entry.now }
-        ensures iter_state { catches_iter_state result ≡ fresh (search_of input.entry) }
-        ensures going { catches_done result ≡ false }
-        ensures given { CapturesGiven catches_next regex.entry.now.nfa (kind_in regex.entry.now)
-            (search_of input.entry).earliest (AnswersRow regex.entry.now.nfa (kind_in regex.entry.now)
-            (search_of input.entry).earliest) (search_of input.entry) result }
-        ensures errors { CapturesMemory catches_next result }
-        ensures searches { CatchesBySearches (search_of input.entry) result }
-        ensures keeps { CatchesGiveKept result }
-    {
-        CapturesMatches {
-            regex,
-            steps: Steps {
-                searcher: Searcher::new(input),
-                backend: CapturesFinder { captures },
-                done: false,
-            },
-        }
     }
 }
 

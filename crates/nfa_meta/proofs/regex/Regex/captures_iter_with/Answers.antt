@@ -1,5 +1,17 @@
--- What the iterator gives, clause by clause.
+-- The iterator gives the captures of its input, and keeps the engine.
+use Rattle.std.proofs.Common.{refl}
+use Rattle.regex_search_core.specs.Search.{search_of}
+use Rattle.nfa_meta.proofs.CapturesLemmas.{catches-kept, catches-given, catches-memory, catches-searches}
 use Rattle.nfa_meta.proofs.regex.Regex.captures_iter_with.Goals as goal
 
-pub returns : goal.returns
-returns c = assumption (c.over.ensures, c.over.ensures.given)
+pub returns-clause-given : goal.returns-clause-given
+returns-clause-given c = catches-given (search_of c.args.input) _ c.new.ensures refl
+
+pub returns-clause-errors : goal.returns-clause-errors
+returns-clause-errors c = catches-memory (search_of c.args.input) _ c.new.ensures refl
+
+pub returns-clause-searches : goal.returns-clause-searches
+returns-clause-searches c = catches-searches (search_of c.args.input) _ c.new.ensures refl
+
+pub returns-clause-keeps : goal.returns-clause-keeps
+returns-clause-keeps c = catches-kept _
