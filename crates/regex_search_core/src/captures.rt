@@ -20,8 +20,9 @@ use std::marker::Model;
 
 /// The pattern that a search matched, if any, and the slots of its groups.
 ///
-/// A slot holds the byte offset of the start or the end of a group, or `None` if the group did not take part. A
-/// contract sees the groups, the pattern's number and the slots.
+/// A slot holds the byte offset of the start or the end of a group, or `None` if the group did not take part. Copies
+/// share the groups, so a copy takes memory for its slots only. A contract sees the groups, the pattern's number and the
+/// slots.
 #[derive(Debug, Drop)]
 pub struct Captures {
     group_info: HeldGroups,
@@ -190,7 +191,7 @@ impl Captures {
         self.slots.fill(None);
     }
 
-    /// Returns equal captures, which share the groups with these. Those of [`Captures::empty`] copy them.
+    /// Returns equal captures, which share the groups of these. The groups of [`Captures::empty`] are copied.
     pub fn clone(&self) -> Result<Captures, Refused>
         ensures { IfOk result (λ copy. copy ≡ self.now) }
     {

@@ -13,4 +13,4 @@ returns-clause-spans c =
     let is : c.args.self.now.pattern ≡ Some p = rw (← c.self.view_is) (rw c.in_ok-pattern.was refl) in
     let same = c.group_info.ensures in
     spans_at-groups c.args.self.now p _ _ _ is (rw (← same) (says.known.0 refl)) at (rw (← same) says.first)
-      (rw (← same) says.count)
+    (rw (← same) says.count)
