@@ -6,6 +6,7 @@ ghost use Rattle.regex_search_core.specs.Slots.{match_of, captured_count, group_
 ghost use Rattle.regex_search_core.specs.Patterns.{number_of};
 
 mod groups;
+mod held_groups;
 
 use crate::group_info::GroupInfo;
 use crate::primitives::{NonMaxUsize, PatternID};
@@ -13,16 +14,18 @@ use crate::refused::Refused;
 use crate::search::{Match, Span};
 use crate::slots::span_in;
 pub use groups::CapturesPatternIter;
+use held_groups::HeldGroups;
 use std::alloc::Global;
 use std::marker::Model;
 
 /// The pattern that a search matched, if any, and the slots of its groups.
 ///
-/// A slot holds the byte offset of the start or the end of a group, or `None` if the group did not take part. A
-/// contract sees the groups, the pattern's number and the slots.
+/// A slot holds the byte offset of the start or the end of a group, or `None` if the group did not take part. Copies
+/// share the groups, so a copy takes memory for its slots only. A contract sees the groups, the pattern's number and the
+/// slots.
 #[derive(Debug, Drop)]
 pub struct Captures {
-    group_info: GroupInfo,
+    group_info: HeldGroups,
     pattern: Option<PatternID>,
     slots: Vec<Option<NonMaxUsize>>,
 }
@@ -31,11 +34,12 @@ impl Model for Captures {
     ghost use Rattle.std.specs.Prelude.{option_map};
     ghost use Rattle.regex_search_core.specs.Patterns.{number_of};
     ghost use Rattle.regex_search_core.specs.Slots.{Captured};
+    ghost use Rattle.regex_search_core.specs.HeldGroups.{held_groups};
 
     ghost Value = { Captured };
 
     ghost view = { λ c. record {
-      groups = c.group_info;
+      groups = held_groups c.group_info;
       pattern = option_map number_of c.pattern;
       slots = c.slots.items;
     } };
@@ -55,7 +59,7 @@ impl Captures {
     {
         let slots = vec![in alloc; None; group_info.slot_len()]?;
         Ok(Captures {
-            group_info,
+            group_info: HeldGroups::shared(alloc, group_info)?,
             pattern: None,
             slots,
         })
@@ -71,7 +75,7 @@ impl Captures {
     {
         let slots = vec![in alloc; None; group_info.implicit_slot_len()]?;
         Ok(Captures {
-            group_info,
+            group_info: HeldGroups::shared(alloc, group_info)?,
             pattern: None,
             slots,
         })
@@ -82,7 +86,7 @@ impl Captures {
         ensures { result ≡ Ok (record { groups = group_info; pattern = None; slots = [] }) }
     {
         Ok(Captures {
-            group_info,
+            group_info: HeldGroups::Owned(group_info),
             pattern: None,
             slots: Vec::new(alloc),
         })
@@ -92,7 +96,7 @@ impl Captures {
     pub fn group_info(&self) -> &GroupInfo
         ensures { result.now ≡ self.now.groups }
     {
-        &self.group_info
+        self.group_info.get()
     }
 
     /// Returns the pattern that matched. `None` if no pattern is set.
@@ -144,7 +148,7 @@ impl Captures {
     pub fn get_group(&self, index: usize) -> Option<Span>
         ensures { result ≡ group_span self.now index }
     {
-        let slot = self.group_info.slot(self.pattern?, index)?;
+        let slot = self.group_info().slot(self.pattern?, index)?;
         span_in(&self.slots, slot)
     }
 
@@ -152,7 +156,7 @@ impl Captures {
     pub fn get_group_by_name(&self, name: &str) -> Option<Span>
         ensures { result ≡ named_span self.now name.now }
     {
-        let index = self.group_info.to_index(self.pattern?, name)?;
+        let index = self.group_info().to_index(self.pattern?, name)?;
         self.get_group(index)
     }
 
@@ -174,7 +178,7 @@ impl Captures {
         ensures { result ≡ captured_count self.now }
     {
         match self.pattern {
-            Some(pattern) => self.group_info.group_len(pattern),
+            Some(pattern) => self.group_info().group_len(pattern),
             None => 0,
         }
     }
@@ -187,7 +191,7 @@ impl Captures {
         self.slots.fill(None);
     }
 
-    /// Returns equal captures.
+    /// Returns equal captures, which share the groups of these. The groups of [`Captures::empty`] are copied.
     pub fn clone(&self) -> Result<Captures, Refused>
         ensures { IfOk result (λ copy. copy ≡ self.now) }
     {

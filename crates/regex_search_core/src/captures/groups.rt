@@ -53,7 +53,7 @@ impl Captures {
         ensures rest_are_slots { IfSome result (λ s. s.1 + 2 * s.2 < 2 ^ 33) }
     {
         let pattern = self.pattern?;
-        let (explicit, count) = self.group_info.explicit_groups(pattern)?;
+        let (explicit, count) = self.group_info().explicit_groups(pattern)?;
         Some((pattern.as_usize() * 2, explicit, count + 1))
     }
 }

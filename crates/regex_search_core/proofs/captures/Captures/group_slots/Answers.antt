@@ -10,5 +10,7 @@ returns-clause-spans c =
     let p = number_of c.in_ok-pattern.pattern in
     let says = c.in_ok-explicit.ensures in
     let at : c.as_usize.result * 2 ≡ p * 2 = ap (λ n. n * 2) c.as_usize.ensures.value in
-    let is : option_map number_of c.self.inside.pattern ≡ Some p = rw c.in_ok-pattern.was refl in
-    rw (← c.self.view_is) (spans_at-groups _ p _ _ _ is (says.known.0 refl) at says.first says.count)
+    let is : c.args.self.now.pattern ≡ Some p = rw (← c.self.view_is) (rw c.in_ok-pattern.was refl) in
+    let same = c.group_info.ensures in
+    spans_at-groups c.args.self.now p _ _ _ is (rw (← same) (says.known.0 refl)) at (rw (← same) says.first)
+    (rw (← same) says.count)
