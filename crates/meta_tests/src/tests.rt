@@ -4,6 +4,7 @@
 mod built;
 mod captures;
 mod ends;
+mod rewrites;
 mod samples;
 mod templates;
 mod texts;
