@@ -1,6 +1,7 @@
 //! What the arguments of the command line ask for.
 use crate::report::Style;
 use std::alloc::{AllocError, Global};
+use std::fmt;
 
 /// The line that says how the program is called.
 pub const USAGE: &str =
@@ -11,16 +12,28 @@ pub const HELP: &str = "
 Prints each token of the text in a line: the name of its rule, its span in bytes, and its text.
 RULES is a file with a rule in each line: NAME = PATTERN. Empty lines, and lines that start with #, are left out.
 Write -- before the name of a file that begins with a hyphen.
+Without RULES the rules are those of a language like C: identifier, number, string, space and operator.
 The first rule that matches is taken. A token of the rule `space` is printed without its text.
---json      prints each token as a JSON object, with its text.
---positions prints LINE:COLUMN of each token after its span, both from 1. Columns count characters: all bytes but those
-            that continue a character of UTF-8.
---recover   goes on after text of which no rule takes a byte: up to the next place at which a token starts, or to the
-            end, it is a token of the name `error`, among the others.
---skip NAME prints no tokens of the rule of this name. It may be given several times.
+
+Options:
+--json       prints each token as a JSON object, with its text.
+--positions  prints LINE:COLUMN of each token after its span, both from 1. Columns count characters: all bytes but those
+             that continue a character of UTF-8.
+--recover    goes on after text of which no rule takes a byte: up to the next place at which a token starts, or to the
+             end, it is a token of the name `error`, among the others.
+--skip NAME  prints no tokens of the rule of this name. It may be given several times.
+--help       prints this, and nothing else.
 
 Status: 0 if the tokens of rules are the whole text, 1 if no token starts at some place or the text cannot be read or a
-token written, 2 if the arguments or the rules are wrong.";
+token written, 2 if the arguments or the rules are wrong.
+
+Examples:
+lexer --skip space < main.c
+    prints the words, numbers, strings and operators of a program.
+lexer --recover --positions < main.c | grep '^error'
+    prints where the program has text that no rule takes.
+printf 'word = [a-z]+\\nspace = \\s+\\n' > rules; echo 'to be' | lexer --json rules
+    prints two words and the white space after each as objects.";
 
 /// What the arguments ask for.
 #[derive(Debug, Drop)]
@@ -49,8 +62,37 @@ impl<'w> Arguments<'w> {
     }
 }
 
-/// Returns what the arguments ask for, or `None` if they are wrong. The only error is that allocation failed.
-pub fn parse<'w>(alloc: Global, words: &[&'w str]) -> Result<Option<Arguments<'w>>, AllocError> {
+/// Why the arguments are wrong.
+#[derive(Clone, Copy, Debug)]
+pub enum Misuse<'w> {
+    /// There is no such option.
+    NoOption(&'w str),
+    /// The last word is `--skip`.
+    NoName,
+    /// The last word is `--`.
+    NoFile,
+    /// This word is after the name of the file.
+    AfterFile(&'w str),
+}
+
+impl fmt::Display for Misuse<'_> {
+    fn fmt<W: fmt::Write>(&self, f: &mut fmt::Formatter<W>) -> fmt::Result {
+        match self {
+            Misuse::NoOption(word) => write!(f, "there is no option {word}"),
+            Misuse::NoName => write!(f, "--skip needs the name of a rule"),
+            Misuse::NoFile => write!(f, "-- needs the name of a file"),
+            Misuse::AfterFile(word) => {
+                write!(f, "RULES is the last argument, and {word} comes after it")
+            }
+        }
+    }
+}
+
+/// Returns what the arguments ask for, or why they are wrong. The only other error is that allocation failed.
+pub fn parse<'w>(
+    alloc: Global,
+    words: &[&'w str],
+) -> Result<Result<Arguments<'w>, Misuse<'w>>, AllocError> {
     let mut arguments = Arguments {
         rules: None,
         skip: Vec::new(alloc),
@@ -70,23 +112,30 @@ pub fn parse<'w>(alloc: Global, words: &[&'w str]) -> Result<Option<Arguments<'w
             "--recover" => arguments.recover = true,
             "--positions" => arguments.positions = true,
             _ => {
-                arguments.rules = file_of(&words[index..]);
-                let is_right = arguments.rules.is_some();
-                return Ok(is_right.then_some(arguments));
+                return match file_of(&words[index..]) {
+                    Ok(name) => {
+                        arguments.rules = Some(name);
+                        Ok(Ok(arguments))
+                    }
+                    Err(misuse) => Ok(Err(misuse)),
+                };
             }
         }
     }
     if is_name {
-        return Ok(None);
+        return Ok(Err(Misuse::NoName));
     }
-    Ok(Some(arguments))
+    Ok(Ok(arguments))
 }
 
 /// Returns the name of a file, which may be after `--`.
-fn file_of<'w>(words: &[&'w str]) -> Option<&'w str> {
+fn file_of<'w>(words: &[&'w str]) -> Result<&'w str, Misuse<'w>> {
     match words {
-        ["--", name] => Some(name),
-        [name] if !name.starts_with('-') => Some(name),
-        _ => None,
+        ["--", name] => Ok(name),
+        ["--", _, word, ..] => Err(Misuse::AfterFile(word)),
+        [] | ["--"] => Err(Misuse::NoFile),
+        [word, ..] if word.starts_with('-') => Err(Misuse::NoOption(word)),
+        [name] => Ok(name),
+        [_, word, ..] => Err(Misuse::AfterFile(word)),
     }
 }

@@ -38,8 +38,11 @@ fn main(rt: HostRuntime) -> Result<ExitCode> {
         return Ok(ExitCode::SUCCESS);
     }
     match parse(rt.alloc(), &words)? {
-        Some(arguments) => run_file(&rt, &arguments),
-        None => Ok(misused(&rt, USAGE)),
+        Ok(arguments) => run_file(&rt, &arguments),
+        Err(misuse) => {
+            let said = format_args!("lexer: {misuse}\n{USAGE}\nlexer --help says more.");
+            Ok(misused(&rt, said))
+        }
     }
 }
 

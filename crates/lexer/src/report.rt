@@ -104,7 +104,7 @@ fn print_pieces<W: Write>(
         let piece = lexer.piece_at(text, at);
         let span = piece.span();
         let shown = shown_at(text, span, position);
-        write_piece(alloc, out, rules, style, piece, shown)?;
+        write_piece(alloc, out, rules, &style, piece, &shown)?;
         whole &= piece.is_token();
         position = moved(position, text, at, span.end);
         at = span.end;
@@ -137,7 +137,7 @@ fn print_tokens<W: Write>(
             return Ok(false);
         };
         let shown = shown_at(text, token.span, position);
-        write_token(alloc, out, rules, style, token.pattern, shown)?;
+        write_token(alloc, out, rules, &style, token.pattern, &shown)?;
         position = moved(position, text, at, token.span.end);
         at = token.span.end;
     }

@@ -1,6 +1,6 @@
 //! The line of a token, of a stretch at which no token starts, and of the place where the lexer is stuck.
 ghost use Rattle.std.specs.Prelude.{◌≡◌, ◌≤◌, ◌++◌, IfOk, OnOk, codes, if◌then◌else◌};
-ghost use Rattle.std.specs.Prelude.{length, slice_get, slice_range, string_bytes};
+ghost use Rattle.std.specs.Prelude.{length, option_map, slice_get, slice_range, string_bytes};
 ghost use Rattle.std.specs.Fmt.{decimal};
 ghost use Rattle.std.specs.Io.KnownBytes.{Appends};
 ghost use Rattle.std.specs.Str.Lossy.{utf8_lossy};
@@ -104,13 +104,13 @@ pub fn write_piece<W: Write>(
     alloc: Global,
     out: &mut W,
     rules: &[Rule<'_>],
-    style: Style<'_>,
+    style: &Style<'_>,
     piece: Piece,
-    shown: Shown<'_>,
+    shown: &Shown<'_>,
 ) -> io::Result<()>
     ensures { OnOk result (Appends (W.contents out.old) (W.contents out.new)
-        (kind_line style.entry rules.now (piece_found piece).pattern shown.entry.span shown.entry.position
-        shown.entry.text.now)) }
+        (kind_line style.now rules.now (piece_found piece).pattern shown.now.span shown.now.position
+        shown.now.text.now)) }
 {
     match piece {
         Piece::Token(token) => write_token(alloc, out, rules, style, token.pattern, shown),
@@ -122,11 +122,11 @@ pub fn write_piece<W: Write>(
 fn write_error<W: Write>(
     alloc: Global,
     out: &mut W,
-    style: Style<'_>,
-    shown: Shown<'_>,
+    style: &Style<'_>,
+    shown: &Shown<'_>,
 ) -> io::Result<()>
     ensures { OnOk result (Appends (W.contents out.old) (W.contents out.new)
-        (error_line style.entry shown.entry.span shown.entry.position shown.entry.text.now)) }
+        (error_line style.now shown.now.span shown.now.position shown.now.text.now)) }
 {
     if style.json {
         return write_object(alloc, out, ERROR, shown);
@@ -139,13 +139,13 @@ pub fn write_token<W: Write>(
     alloc: Global,
     out: &mut W,
     rules: &[Rule<'_>],
-    style: Style<'_>,
+    style: &Style<'_>,
     pattern: PatternID,
-    shown: Shown<'_>,
+    shown: &Shown<'_>,
 ) -> io::Result<()>
     ensures { OnOk result (Appends (W.contents out.old) (W.contents out.new)
-        (pattern_line style.entry rules.now (number_of pattern) shown.entry.span shown.entry.position
-        shown.entry.text.now)) }
+        (pattern_line style.now rules.now (number_of pattern) shown.now.span shown.now.position
+        shown.now.text.now)) }
 {
     match rule_at(rules, pattern.as_usize()) {
         Some(rule) => write_unless_skipped(alloc, out, rule, style, shown),
@@ -154,22 +154,22 @@ pub fn write_token<W: Write>(
 }
 
 /// Returns the rule of this number.
-fn rule_at<'t>(rules: &[Rule<'t>], number: usize) -> Option<Rule<'t>>
-    ensures { result ≡ slice_get rules.now number }
+fn rule_at<'s, 't>(rules: &'s [Rule<'t>], number: usize) -> Option<&'s Rule<'t>>
+    ensures { option_map (λ rule. rule.now) result ≡ slice_get rules.now number }
 {
-    rules.get(number).copied()
+    rules.get(number)
 }
 
 /// Writes the line of a token of this rule, if tokens of the rule are printed.
 fn write_unless_skipped<W: Write>(
     alloc: Global,
     out: &mut W,
-    rule: Rule<'_>,
-    style: Style<'_>,
-    shown: Shown<'_>,
+    rule: &Rule<'_>,
+    style: &Style<'_>,
+    shown: &Shown<'_>,
 ) -> io::Result<()>
     ensures { OnOk result (Appends (W.contents out.old) (W.contents out.new)
-        (shown_unless_skipped style.entry rule.entry shown.entry.span shown.entry.position shown.entry.text.now)) }
+        (shown_unless_skipped style.now rule.now shown.now.span shown.now.position shown.now.text.now)) }
 {
     if is_in(style.skip, rule.name) {
         return Ok(());
@@ -185,10 +185,10 @@ fn write_object<W: Write>(
     alloc: Global,
     out: &mut W,
     name: &str,
-    shown: Shown<'_>,
+    shown: &Shown<'_>,
 ) -> io::Result<()>
     ensures { OnOk result (Appends (W.contents out.old) (W.contents out.new)
-        (object_line name.now shown.entry.span shown.entry.position shown.entry.text.now)) }
+        (object_line name.now shown.now.span shown.now.position shown.now.text.now)) }
 {
     let kind = quoted_lossy(alloc, name.as_bytes())?;
     let text = quoted_lossy(alloc, shown.text)?;
@@ -243,9 +243,9 @@ fn quoted(alloc: Global, text: String) -> Result<String, AllocError>
 
 /// Writes the name of the rule, the place, and the text, if it is not hidden.
 #[tactic(auto, using(crate::proofs::Writes::writes))]
-fn write_rule<W: Write>(out: &mut W, rule: Rule<'_>, shown: Shown<'_>) -> io::Result<()>
+fn write_rule<W: Write>(out: &mut W, rule: &Rule<'_>, shown: &Shown<'_>) -> io::Result<()>
     ensures { OnOk result (Appends (W.contents out.old) (W.contents out.new)
-        (rule_line rule.entry shown.entry.span shown.entry.position shown.entry.text.now)) }
+        (rule_line rule.now shown.now.span shown.now.position shown.now.text.now)) }
 {
     write_place(out, rule.name, shown.span, shown.position)?;
     if rule.hidden {
@@ -255,9 +255,9 @@ fn write_rule<W: Write>(out: &mut W, rule: Rule<'_>, shown: Shown<'_>) -> io::Re
 }
 
 #[tactic(auto, using(crate::proofs::Writes::writes))]
-fn write_named<W: Write>(out: &mut W, name: &str, shown: Shown<'_>) -> io::Result<()>
+fn write_named<W: Write>(out: &mut W, name: &str, shown: &Shown<'_>) -> io::Result<()>
     ensures { OnOk result (Appends (W.contents out.old) (W.contents out.new)
-        (named_line name.now shown.entry.span shown.entry.position shown.entry.text.now)) }
+        (named_line name.now shown.now.span shown.now.position shown.now.text.now)) }
 {
     write_place(out, name, shown.span, shown.position)?;
     write_text(out, shown.text)

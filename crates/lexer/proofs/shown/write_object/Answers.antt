@@ -10,7 +10,7 @@ pub returns : goal.returns
 returns g c =
     let kind : c.as_str.result.now ≡ quoted (utf8_lossy c.args.name.now) =
     first_of (search rules, grind (arith, common_steps)) in
-    let text : c.as_str-2.result.now ≡ quoted (utf8_lossy c.args.shown.text.now) =
+    let text : c.as_str-2.result.now ≡ quoted (utf8_lossy c.args.shown.now.text.now) =
     first_of (search rules, grind (arith, common_steps)) in
     Appends-trans (g.W.Write.contents c.args.out.now) (g.W.Write.contents c.write_object_head.new.out)
     (g.W.Write.contents c.write_text_member.new.out) _ _ (rw kind at c.in_ok-write_object_head.ensures)

@@ -8,10 +8,10 @@ returns-then-is_in g c = rw (sym c.is_in.ensures ∙ c.if-is_in.true) (Appends-n
 
 pub returns-then-style : goal.returns-then-style
 returns-then-style g c =
-    let json : c.args.style.json ≡ true = search rules in
+    let json : c.args.style.now.json ≡ true = search rules in
     rw (sym c.is_in.ensures ∙ c.if-is_in.false, json) c.write_object.ensures
 
 pub returns : goal.returns
 returns g c =
-    let json : c.args.style.json ≡ false = search rules in
+    let json : c.args.style.now.json ≡ false = search rules in
     rw (sym c.is_in.ensures ∙ c.if-is_in.false, json) c.write_rule.ensures
