@@ -5,5 +5,6 @@ pub mod GapLemmas
 pub mod HalvesLemmas
 pub mod MatchesLemmas
 pub mod PrefixLemmas
+pub mod RewriteLemmas
 pub mod WindowLemmas
 pub mod WorkLemmas

@@ -6,6 +6,7 @@ pub mod GroupNames
 pub mod Halves
 pub mod Matches
 pub mod Replaced
+pub mod Rewritten
 pub mod Templates
 pub mod TemplateTexts
 pub mod Windowed

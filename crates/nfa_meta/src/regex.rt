@@ -22,6 +22,7 @@ mod may_begin;
 mod overlap;
 mod prefix;
 mod replace;
+mod rewrite;
 mod split;
 mod start;
 mod window;

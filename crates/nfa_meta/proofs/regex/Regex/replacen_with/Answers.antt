@@ -1,0 +1,24 @@
+-- The calls append what h gives for the captures of the first matches.
+use Rattle.std.proofs.Common.{◌∙◌, [], All, List, ap, subst}
+use Rattle.std.proofs.lemmas.List.Elements.{recursion_from_All}
+use Rattle.regex_search_core.specs.Search.{Search, search_of, whole}
+use Rattle.regex_search_core.specs.Slots.{Captured}
+use Rattle.nfa_search_base.specs.CapturesRuns.{CapturesInside}
+use Rattle.nfa_meta.specs.Rewritten.{rewritten}
+use Rattle.nfa_meta.proofs.CaughtLemmas.{all-caught}
+use Rattle.nfa_meta.proofs.RewriteLemmas.{rewritten-by}
+use Rattle.nfa_meta.proofs.regex.Regex.replacen_with.Goals as goal
+
+pub returns-clause-first_appended : goal.returns-clause-first_appended
+returns-clause-first_appended g c = λ some h appends.
+    let text = c.args.haystack.now in
+    let first = c.in_ok-caught.ensures.first in
+    let cs = c.in_ok-caught.caught.items in
+    let inside = subst (λ (x : Search). All (CapturesInside x) cs) c.new.ensures c.in_ok-caught.ensures.inside in
+    record {
+      caught = first.all;
+      all = all-caught c.args.self.now text (search_of c.new.result) c.new.ensures first.all first.rows first.groups;
+      output_is = rewritten-by g.F.FnMut text h appends cs (recursion_from_All (CapturesInside (whole text)) cs inside)
+          0 c.args.replacement [] c.in_ok-output.output.items c.in_ok-output.ensures
+          ∙ ap (λ (caught : List Captured). rewritten text h 0 caught) first.first;
+    }

@@ -1,0 +1,88 @@
+-- A text with what a function appends in place of its matches.
+use Rattle.std.specs.Prelude.{◌≡◌, ◌≤◌, ℕ, List, [], ◌∷◌, ◌++◌, Ok, Result, drop, length, map, slice_range, take}
+use Rattle.std.specs.Borrow.{Bor, MutBor}
+use Rattle.std.specs.Fn.{Called, Mut}
+use Rattle.std.specs.Global.{Vec}
+use Rattle.std.specs.List.{AllByRecursion}
+use Rattle.std.specs.declared.alloc.AllocError.{AllocError}
+use Rattle.regex_search_core.specs.Search.{whole}
+use Rattle.regex_search_core.specs.Slots.{Captured}
+use Rattle.nfa_search_base.specs.CapturesRuns.{CapturesInside, match_in}
+use Rattle.nfa_search_base.specs.Lists.{AreDisjoint}
+use Rattle.nfa_choice.specs.ChoiceState.{ChoiceState}
+use Rattle.nfa_meta.specs.Filled.{AreAllCaught}
+use Rattle.nfa_meta.specs.Gaps.{last_end}
+
+-- the text from an offset on, with what h gives for these captures in place of the match of each
+abbrev pub rewritten : List ℕ → (Captured → List ℕ) → ℕ → List Captured → List ℕ
+rewritten text h from [] = drop from text
+rewritten text h from (c ∷ cs) =
+    slice_range text from (match_in c).start ++ (h c ++ rewritten text h (match_in c).end cs)
+
+-- the output is the text with what h gives for its captures in place of each match
+pub record IsRewrittenBy (r : ChoiceState) (text : List ℕ) (h : Captured → List ℕ) (output : List ℕ) : Type 0 where
+  pub caught : List Captured
+  pub all : AreAllCaught r text caught
+  pub output_is : output ≡ rewritten text h 0 caught
+
+-- the output is the text with what h gives in place of its first matches: of as many as the limit, or of all, if there
+-- are fewer
+pub record IsRewrittenUpToBy (r : ChoiceState) (text : List ℕ) (limit : ℕ) (h : Captured → List ℕ)
+    (output : List ℕ) : Type 0 where
+  pub caught : List Captured
+  pub all : AreAllCaught r text caught
+  pub output_is : output ≡ rewritten text h 0 (take limit caught)
+
+module _ {F : Type 0} (g : Mut F (Bor Captured × (MutBor (Vec ℕ) × Unit {0}))
+    (Result (Unit {0}) AllocError × (MutBor (Vec ℕ) × Unit {0}))) where
+  -- the function may be called with the captures of any match of the text, and any output
+  abbrev pub TakesMatchesOf : List ℕ → Type 0
+  TakesMatchesOf text = (f : F) (p : Bor Captured) (q : MutBor (Vec ℕ)) → CapturesInside (whole text) p.now
+      → g.pre f (p, (q, tt))
+
+  -- a call of f with these captures and this output returns `Ok`, and leaves f' and the output after it
+  pub record Writes (f : F) (c : Captured) (before after : List ℕ) (f' : F) : Type 0 where
+    pub shown : Bor Captured
+    pub shows : shown.now ≡ c
+    pub lent : MutBor (Vec ℕ)
+    pub lends : lent.now.items ≡ before
+    pub left : MutBor (Vec ℕ)
+    pub called : Called g f (shown, (lent, tt)) (Ok tt, (left, tt)) f'
+    pub leaves : left.now.items ≡ after
+
+  -- each call that returns `Ok` for a match of the text appends what h gives for its captures
+  abbrev pub AppendsBy : List ℕ → (Captured → List ℕ) → Type 0
+  AppendsBy text h = (f f' : F) (c : Captured) (before after : List ℕ) → CapturesInside (whole text) c
+      → Writes f c before after f' → after ≡ before ++ h c
+
+  -- The text from an offset on is appended, and for the match of each of these captures what a call appends: the calls,
+  -- in their order, lead from f and the output before to the output after.
+  abbrev pub RewritesFrom : List ℕ → ℕ → List Captured → F → List ℕ → List ℕ → Type 0
+  RewritesFrom text from [] f before after = after ≡ before ++ drop from text
+  RewritesFrom text from (c ∷ cs) f before after = (f' : F) × (between : List ℕ)
+      × Writes f c (before ++ slice_range text from (match_in c).start) between f'
+      × RewritesFrom text (match_in c).end cs f' between after
+
+  -- The calls so far led to f and the output: if the calls for those that are left lead on to an output, all calls do.
+  pub record HasRewritten (text : List ℕ) (caught left : List Captured) (f₀ f : F) (i from : ℕ)
+      (output : List ℕ) : Type 0 where
+    pub goes_on : (after : List ℕ) → RewritesFrom text from left f output after
+        → RewritesFrom text 0 caught f₀ [] after
+    pub begins : i ≡ 0 → from ≡ 0
+    pub within : from ≤ length text
+    pub inside : AllByRecursion (CapturesInside (whole text)) left
+    pub apart : AreDisjoint (whole text) (last_end i from) (map match_in left)
+
+  module _ (r : ChoiceState) (text : List ℕ) (f : F) where
+    -- the output is the text with what f appends for its captures in place of each match, from left to right
+    pub record IsRewritten (output : List ℕ) : Type 0 where
+      pub caught : List Captured
+      pub all : AreAllCaught r text caught
+      pub writes : RewritesFrom text 0 caught f [] output
+
+    -- the output is the text with what f appends in place of its first matches: of as many as the limit, or of all, if
+    -- there are fewer
+    pub record IsRewrittenUpTo (limit : ℕ) (output : List ℕ) : Type 0 where
+      pub caught : List Captured
+      pub all : AreAllCaught r text caught
+      pub writes : RewritesFrom text 0 (take limit caught) f [] output

@@ -1,0 +1,137 @@
+//! A text with what a function appends in place of its matches.
+ghost use Rattle.std.specs.Prelude.{◌≡◌, ◌<◌, ◌≤◌, ◌++◌, All, IfOk, List, None, OnOk, [], map, slice_range, ℕ};
+ghost use Rattle.regex_search_core.specs.Search.{whole};
+ghost use Rattle.regex_search_core.specs.Slots.{Captured};
+ghost use Rattle.nfa_search_base.specs.CapturesRuns.{CapturesInside, match_in};
+ghost use Rattle.nfa_search_base.specs.Lists.{AreDisjoint};
+ghost use Rattle.nfa_choice.specs.ChoiceState.{KeepsEngines};
+ghost use Rattle.nfa_meta.specs.Rewritten.{AppendsBy, IsRewritten, IsRewrittenBy, IsRewrittenUpTo};
+ghost use Rattle.nfa_meta.specs.Rewritten.{IsRewrittenUpToBy, RewritesFrom, TakesMatchesOf};
+
+use crate::regex::Regex;
+use regex_search_core::{Captures, Input};
+use std::alloc::{AllocError, Global};
+
+impl Regex {
+    /// Returns the haystack with what the function appends to the output, for the captures of each match, in place of
+    /// the match. The function is called once for each match, from left to right. The only errors are that allocation
+    /// failed, and those of the function.
+    ///
+    /// ```
+    /// // regex of "(?<y>[0-9]{4})-(?<m>[0-9]{2})"
+    /// let text = b"2026-11, 2027-01";
+    /// let output = regex.replace_all_with(alloc, text, |captures, output| {
+    ///     match captures.get_group_by_name("m") {
+    ///         Some(month) => output.extend_from_slice(&text[month.start..month.end]),
+    ///         None => Ok(()),
+    ///     }
+    /// })?;
+    /// assert_eq!(rt; output.as_slice(), b"11, 01".as_slice());
+    /// ```
+    pub fn replace_all_with<F>(
+        &mut self,
+        alloc: Global,
+        haystack: &[u8],
+        replacement: F,
+    ) -> Result<Vec<u8>, AllocError>
+    where
+        F: FnMut(&Captures, &mut Vec<u8>) -> Result<(), AllocError>,
+        requires { TakesMatchesOf F.FnMut haystack.now }
+        ensures rewritten { IfOk result (λ output.
+            IsRewritten F.FnMut self.old haystack.now replacement output.items) }
+        // If each call appends what a function `h` of the captures gives.
+        ensures appended { (h : Captured → List ℕ) → AppendsBy F.FnMut haystack.now h → IfOk result (λ output.
+            IsRewrittenBy self.old haystack.now h output.items) }
+        ensures keeps { KeepsEngines self.old self.new }
+    {
+        let Ok(caught) = self.captures_all(alloc, Input::new(haystack)) else {
+            return Err(AllocError);
+        };
+        let output = rewrite(alloc, haystack, caught, replacement)?;
+        Ok(output)
+    }
+
+    /// Returns the haystack with what the function appends, for their captures, in place of its first matches: at most
+    /// `limit`, and all if `limit` is 0. The only errors are that allocation failed, and those of the function.
+    ///
+    /// ```
+    /// // regex of "[0-9]+"
+    /// let output = regex.replacen_with(alloc, b"1 and 23", 1, |_, output| output.push(b'#'))?;
+    /// assert_eq!(rt; output.as_slice(), b"# and 23".as_slice());
+    /// ```
+    pub fn replacen_with<F>(
+        &mut self,
+        alloc: Global,
+        haystack: &[u8],
+        limit: usize,
+        replacement: F,
+    ) -> Result<Vec<u8>, AllocError>
+    where
+        F: FnMut(&Captures, &mut Vec<u8>) -> Result<(), AllocError>,
+        requires { TakesMatchesOf F.FnMut haystack.now }
+        ensures all { limit ≡ 0 → IfOk result (λ output.
+            IsRewritten F.FnMut self.old haystack.now replacement output.items) }
+        ensures first { 0 < limit → IfOk result (λ output.
+            IsRewrittenUpTo F.FnMut self.old haystack.now replacement limit output.items) }
+        // If each call appends what a function `h` of the captures gives.
+        ensures all_appended { limit ≡ 0 → (h : Captured → List ℕ) → AppendsBy F.FnMut haystack.now h
+            → IfOk result (λ output. IsRewrittenBy self.old haystack.now h output.items) }
+        ensures first_appended { 0 < limit → (h : Captured → List ℕ) → AppendsBy F.FnMut haystack.now h
+            → IfOk result (λ output. IsRewrittenUpToBy self.old haystack.now limit h output.items) }
+        ensures keeps { KeepsEngines self.old self.new }
+    {
+        if limit == 0 {
+            return self.replace_all_with(alloc, haystack, replacement);
+        }
+        let caught = self.first_captures(alloc, Input::new(haystack), limit)?;
+        let output = rewrite(alloc, haystack, caught, replacement)?;
+        Ok(output)
+    }
+}
+
+/// Returns the haystack with what the function appends for these captures in place of the match of each.
+#[tactic(auto, using(std::proofs::lemmas::List::Elements::recursion_from_All))]
+fn rewrite<F>(
+    alloc: Global,
+    haystack: &[u8],
+    caught: Vec<Captures>,
+    mut replacement: F,
+) -> Result<Vec<u8>, AllocError>
+where
+    F: FnMut(&Captures, &mut Vec<u8>) -> Result<(), AllocError>,
+    requires takes { TakesMatchesOf F.FnMut haystack.now }
+    requires inside { All (CapturesInside (whole haystack.now)) caught.items }
+    requires apart { AreDisjoint (whole haystack.now) None (map match_in caught.items) }
+    ensures { IfOk result (λ output.
+        RewritesFrom F.FnMut haystack.now 0 caught.items replacement [] output.items) }
+{
+    let mut output = Vec::new(alloc);
+    let mut from = 0;
+    for captures in caught {
+        let end = copy_to_match(haystack, from, &captures, &mut output)?;
+        replacement(&captures, &mut output)?;
+        from = end;
+    }
+    output.extend_from_slice(&haystack[from..])?;
+    Ok(output)
+}
+
+/// Appends the haystack from an offset to the match of these captures. Returns the end of the match.
+fn copy_to_match(
+    haystack: &[u8],
+    from: usize,
+    captures: &Captures,
+    output: &mut Vec<u8>,
+) -> Result<usize, AllocError>
+    requires inside { CapturesInside (whole haystack.now) captures.now }
+    requires before { from ≤ (match_in captures.now).start }
+    ensures output { OnOk result (output.new.items
+        ≡ output.old.items ++ slice_range haystack.now from (match_in captures.now).start) }
+    ensures end { IfOk result (λ end. end ≡ (match_in captures.now).end) }
+{
+    let Some(found) = captures.get_match() else {
+        unreachable!()
+    };
+    output.extend_from_slice(&haystack[from..found.start()])?;
+    Ok(found.end())
+}
