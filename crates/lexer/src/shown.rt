@@ -1,7 +1,4 @@
 //! The line of a token, of a stretch at which no token starts, and of the place where the lexer is stuck.
-//!
-//! An `io::Result` is large: a call that returns one costs about as much as a number that is written. So what writes the
-//! line of a token is inlined.
 ghost use Rattle.std.specs.Prelude.{◌≡◌, ◌≤◌, ◌++◌, IfOk, OnOk, codes, if◌then◌else◌};
 ghost use Rattle.std.specs.Prelude.{length, option_map, slice_get, slice_range, string_bytes};
 ghost use Rattle.std.specs.Fmt.{decimal};
@@ -138,7 +135,6 @@ fn write_error<W: Write>(
 }
 
 /// Writes the line of a token of this pattern, if tokens of its rule are printed.
-#[inline(always)]
 pub fn write_token<W: Write>(
     alloc: Global,
     out: &mut W,
@@ -165,7 +161,6 @@ fn rule_at<'s, 't>(rules: &'s [Rule<'t>], number: usize) -> Option<&'s Rule<'t>>
 }
 
 /// Writes the line of a token of this rule, if tokens of the rule are printed.
-#[inline(always)]
 fn write_unless_skipped<W: Write>(
     alloc: Global,
     out: &mut W,
@@ -248,7 +243,6 @@ fn quoted(alloc: Global, text: String) -> Result<String, AllocError>
 
 /// Writes the name of the rule, the place, and the text, if it is not hidden.
 #[tactic(auto, using(crate::proofs::Writes::writes))]
-#[inline(always)]
 fn write_rule<W: Write>(out: &mut W, rule: &Rule<'_>, shown: &Shown<'_>) -> io::Result<()>
     ensures { OnOk result (Appends (W.contents out.old) (W.contents out.new)
         (rule_line rule.now shown.now.span shown.now.position shown.now.text.now)) }
@@ -271,7 +265,6 @@ fn write_named<W: Write>(out: &mut W, name: &str, shown: &Shown<'_>) -> io::Resu
 
 /// Writes the name, the span, and the position if it is given.
 #[tactic(auto, using(crate::proofs::Writes::writes))]
-#[inline(always)]
 fn write_place<W: Write>(
     out: &mut W,
     name: &str,
@@ -284,7 +277,6 @@ fn write_place<W: Write>(
     write_position(out, position)
 }
 
-#[inline(always)]
 fn write_span<W: Write>(out: &mut W, name: &str, span: Span) -> io::Result<()>
     ensures { OnOk result (Appends (W.contents out.old) (W.contents out.new) (shown_span name.now span)) }
 {
@@ -294,7 +286,6 @@ fn write_span<W: Write>(out: &mut W, name: &str, span: Span) -> io::Result<()>
 }
 
 /// Writes a space and the position, if it is given.
-#[inline(always)]
 fn write_position<W: Write>(out: &mut W, position: Option<Position>) -> io::Result<()>
     ensures { OnOk result (Appends (W.contents out.old) (W.contents out.new) (shown_position position)) }
 {
@@ -306,7 +297,6 @@ fn write_position<W: Write>(out: &mut W, position: Option<Position>) -> io::Resu
 
 /// Writes a space, the text, and the end of the line.
 #[tactic(auto, using(crate::proofs::Writes::writes))]
-#[inline(always)]
 fn write_text<W: Write>(out: &mut W, text: &[u8]) -> io::Result<()>
     ensures { OnOk result (Appends (W.contents out.old) (W.contents out.new) (shown_text text.now)) }
 {
@@ -315,7 +305,6 @@ fn write_text<W: Write>(out: &mut W, text: &[u8]) -> io::Result<()>
 }
 
 #[tactic(auto, using(crate::proofs::Writes::writes))]
-#[inline(always)]
 fn write_line<W: Write>(out: &mut W, line: &[u8]) -> io::Result<()>
     ensures { OnOk result (Appends (W.contents out.old) (W.contents out.new) (line.now ++ codes "\n")) }
 {
