@@ -25,7 +25,8 @@ Options:
 --help       prints this, and nothing else.
 
 Status: 0 if the tokens of rules are the whole text, 1 if no token starts at some place or the text cannot be read or a
-token written, 2 if the arguments or the rules are wrong.
+token written, 2 if the arguments or the rules are wrong. If the output is a pipe that is closed, the program ends with
+status 0.
 
 Examples:
 lexer --skip space < main.c

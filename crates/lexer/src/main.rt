@@ -16,7 +16,7 @@ use crate::report::Style;
 use crate::rules::RulesError;
 use anyhow::Result;
 use std::fmt::Display;
-use std::io::BufWriter;
+use std::io::{BufWriter, ErrorKind};
 use std::process::ExitCode;
 use std::{env, fs, io};
 
@@ -34,8 +34,10 @@ fn main(rt: HostRuntime) -> Result<ExitCode> {
         .map(|word| word.as_str())
         .collect(rt.alloc())?;
     if let ["--help", ..] = words.as_slice() {
-        println!(rt; "{USAGE}\n{HELP}")?;
-        return Ok(ExitCode::SUCCESS);
+        return match println!(rt; "{USAGE}\n{HELP}") {
+            Err(error) if error.kind() != ErrorKind::BrokenPipe => Err(error.into()),
+            _ => Ok(ExitCode::SUCCESS),
+        };
     }
     match parse(rt.alloc(), &words)? {
         Ok(arguments) => run_file(&rt, &arguments),
@@ -70,12 +72,13 @@ fn run(rt: &HostRuntime, text: &str, style: Style<'_>) -> Result<ExitCode> {
         Err(error) => return refused(rt, error),
     };
     let mut out = BufWriter::new(rt.alloc(), io::writer(rt))?;
-    let whole = report::run(rt.alloc(), &mut lexer, &rules, style, rt.reader(), &mut out)?;
-    Ok(if whole {
-        ExitCode::SUCCESS
-    } else {
-        ExitCode::from(STUCK)
-    })
+    match report::run(rt.alloc(), &mut lexer, &rules, style, rt.reader(), &mut out) {
+        Ok(true) => Ok(ExitCode::SUCCESS),
+        Ok(false) => Ok(ExitCode::from(STUCK)),
+        // The reader of the pipe has what it wants.
+        Err(error) if error.kind() == ErrorKind::BrokenPipe => Ok(ExitCode::SUCCESS),
+        Err(error) => Err(error.into()),
+    }
 }
 
 // Rules that are wrong are a misuse, and memory that was refused is not.

@@ -13,7 +13,6 @@ use crate::lexer::Lexer;
 use crate::position::moved;
 use crate::rules::Rule;
 use crate::shown::{first_shown, shown_at, write_piece, write_stuck, write_token};
-use anyhow::Result;
 use std::alloc::Global;
 use std::io;
 use std::io::{Read, Write};
@@ -47,7 +46,7 @@ pub fn run<R: Read + Drop, W: Write>(
     style: Style<'_>,
     mut input: R,
     out: &mut W,
-) -> Result<bool>
+) -> io::Result<bool>
     requires { lexer.old ≡ rule_patterns rules.now }
     ensures printed { OnOk result ((res : List Re) → AreMeant rule_syntax (rule_patterns rules.now) res
         → IfSome (R.remaining input) (λ text. Appends (W.contents out.old) (W.contents out.new)
@@ -57,7 +56,7 @@ pub fn run<R: Read + Drop, W: Write>(
 {
     let mut text = Vec::new(alloc);
     input.read_to_end(&mut text)?;
-    Ok(print_text(alloc, lexer, rules, style, &text, out)?)
+    print_text(alloc, lexer, rules, style, &text, out)
 }
 
 /// Prints the tokens of the text, or its pieces, and returns whether the tokens are the whole text.
