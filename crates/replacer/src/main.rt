@@ -15,7 +15,7 @@ mod pattern;
 mod replace;
 mod shown;
 
-use crate::command::{Arguments, Command, HELP, Target, USAGE, parse};
+use crate::command::{Arguments, Command, HELP, Misuse, Target, USAGE, parse};
 use crate::files::print_files;
 use crate::hint::{HINT, has_foreign};
 use crate::in_place::replace_files;
@@ -23,7 +23,9 @@ use crate::job::{Job, Mistake};
 use anyhow::Result;
 use std::env;
 use std::fmt::Display;
+use std::io::ErrorKind;
 use std::process::ExitCode;
+use text_lines::failure::Failure;
 
 /// The input, the output or memory failed.
 const FAILED: u8 = 1;
@@ -47,12 +49,14 @@ fn answer(rt: &HostRuntime) -> Result<ExitCode> {
     let arguments: Vec<String> = env::args(rt)?.skip(1).collect(alloc)?;
     let words: Vec<&str> = arguments.iter().map(|word| word.as_str()).collect(alloc)?;
     if let ["--help", ..] = words.as_slice() {
-        println!(rt; "{USAGE}\n{HELP}")?;
-        return Ok(ExitCode::SUCCESS);
+        return match println!(rt; "{USAGE}\n{HELP}") {
+            Err(error) if error.kind() != ErrorKind::BrokenPipe => Err(error.into()),
+            _ => Ok(ExitCode::SUCCESS),
+        };
     }
     match parse(&words) {
-        Some(arguments) => run(rt, arguments),
-        None => Ok(misused(rt, USAGE)),
+        Ok(arguments) => run(rt, arguments),
+        Err(misuse) => Ok(confused(rt, misuse)),
     }
 }
 
@@ -68,15 +72,30 @@ fn run(rt: &HostRuntime, arguments: Arguments<'_>) -> Result<ExitCode> {
             let _ = eprintln!(rt; "replacer: {HINT}");
         }
     }
-    let failed = match arguments.target {
-        Target::Output => print_files(rt, &mut job, arguments.files)?,
-        Target::Files(suffix) => replace_files(rt, &mut job, arguments.files, suffix),
+    let printed = match arguments.target {
+        Target::Output => print_files(rt, &mut job, arguments.files),
+        Target::Files(suffix) => Ok(replace_files(rt, &mut job, arguments.files, suffix)),
     };
-    Ok(if failed {
-        ExitCode::from(FAILED)
-    } else {
-        ExitCode::SUCCESS
-    })
+    match printed {
+        Ok(false) => Ok(ExitCode::SUCCESS),
+        Ok(true) => Ok(ExitCode::from(FAILED)),
+        Err(error) if is_closed_pipe(&error) => Ok(ExitCode::SUCCESS),
+        Err(error) => Err(error.into()),
+    }
+}
+
+/// Returns whether the output is a pipe that is closed: its reader has what it wants.
+fn is_closed_pipe(error: &Failure) -> bool {
+    match error {
+        Failure::Write(error) => error.kind() == ErrorKind::BrokenPipe,
+        _ => false,
+    }
+}
+
+// The status says so even if the lines cannot be written.
+fn confused(rt: &HostRuntime, misuse: Misuse<'_>) -> ExitCode {
+    let _ = eprintln!(rt; "replacer: {misuse}\n{USAGE}\nreplacer --help says more.");
+    ExitCode::from(MISUSED)
 }
 
 // The status says so even if the line cannot be written.
