@@ -5,6 +5,9 @@ use crate::options::{Bounds, Context, Options, Report, When};
 use clap::{Arg, ArgAction, ArgMatches, Error};
 use std::alloc::{AllocError, Global};
 
+/// What `--version` prints after the name of the program.
+const VERSION: &str = "0.1.0";
+
 /// How the program is called.
 const USAGE: &str = "nfa_grep [OPTIONS] [-e PATTERN].. [-f FILE].. [PATTERN] [FILE]..";
 
@@ -59,6 +62,7 @@ pub enum Command<'w> {
 pub fn parse<'w>(alloc: Global, words: &'w [&'w str]) -> Result<Command<'w>, Fault> {
     let command = clap::Command::new(alloc, "nfa_grep")
         .about("Prints the lines in which a pattern matches.")
+        .version(VERSION)
         .override_usage(USAGE)
         .after_help(AFTER)
         // -h has a meaning of its own.

@@ -221,7 +221,7 @@ fn with_limits<'w>(alloc: Global, command: Command<'w>) -> Result<Command<'w>, A
                 "context",
                 'C',
                 "NUM",
-                "Print this many lines before and after a selected one, too",
+                "Print this many lines before and after a selected one, too; -2 is -C 2",
             ),
         ],
     )

@@ -1,4 +1,5 @@
-//! The pattern that is attached to `-e`, as an argument of its own.
+//! The arguments in a form that `clap` reads as grep would: the pattern that is attached to `-e` is an argument of its
+//! own, and `-2` is `-C 2`.
 use std::alloc::{AllocError, Global};
 
 /// What the next argument may be.
@@ -13,7 +14,8 @@ enum Next {
 }
 
 /// Splits the arguments, so that a pattern that is attached to `-e` is an argument of its own: `-ne=x` becomes `-n`,
-/// `-e` and `=x`, of which `clap` would drop the `=`. Values of other options stay as they are.
+/// `-e` and `=x`, of which `clap` would drop the `=`. `-2` becomes `-C` and `2`. Values of other options stay as they
+/// are.
 pub fn split<'w>(alloc: Global, words: &[&'w str]) -> Result<Vec<&'w str>, AllocError> {
     let mut split = Vec::new(alloc);
     let mut next = Next::Value;
@@ -54,6 +56,11 @@ fn after_whole(word: &str) -> Next {
 
 /// Appends letters after one hyphen. The pattern, if one is attached there, is an argument of its own.
 fn push_letters<'w>(word: &'w str, split: &mut Vec<&'w str>) -> Result<Next, AllocError> {
+    if let Some(number) = number_in(word) {
+        split.push("-C")?;
+        split.push(number)?;
+        return Ok(Next::Any);
+    }
     let Some((flags, value)) = word.split_once('e') else {
         split.push(word)?;
         return Ok(after_letters(word));
@@ -72,6 +79,15 @@ fn push_letters<'w>(word: &'w str, split: &mut Vec<&'w str>) -> Result<Next, All
     }
     split.push(value)?;
     Ok(Next::Any)
+}
+
+/// Returns the number, if the argument is a hyphen and one.
+fn number_in(word: &str) -> Option<&str> {
+    let digits = word.strip_prefix('-')?;
+    if digits.is_empty() || !digits.bytes().all(|byte| byte.is_ascii_digit()) {
+        return None;
+    }
+    Some(digits)
 }
 
 /// Returns whether one of the letters is that of an option with a value, other than `-e`.
