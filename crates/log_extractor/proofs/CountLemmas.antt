@@ -257,8 +257,10 @@ sorted-counts xs sorted = λ k d below.
     let inside : k + 1 < length xs = omega (arith, below, length-map xs counted) in
     let step = may-precede (get_or xs k (pair_of d)) (get_or xs (k + 1) (pair_of d))
     (sorted k (pair_of d) (omega arith) inside) in
-    rw (get_or-map counted xs k (pair_of d) d (omega (arith, inside)),
-    get_or-map counted xs (k + 1) (pair_of d) d inside) step
+    rw (
+      get_or-map counted xs k (pair_of d) d (omega (arith, inside)),
+      get_or-map counted xs (k + 1) (pair_of d) d inside,
+    ) step
 
 pub count-list : (values : List (List ℕ)) (m : BTreeMap (Vec ℕ) ℕ) (xs ys : List Pair) → IsTally values m
     → IsOrdered key_cmp m → IsFound m → map counted xs ≡ map entry_counted m.entries → IsPermutation xs ys
@@ -288,3 +290,46 @@ pub names-at : (columns : List Column) (k : ℕ) (column : Column) → k < lengt
 names-at [] k column inside at = absurd (omega (arith, inside))
 names-at (c ∷ cs) zero column inside at = ap (λ (x : Column). Some (string_bytes x.name)) (sym at)
 names-at (c ∷ cs) (suc k) column inside at = names-at cs k column (omega (arith, inside)) at
+
+none-past : (columns : List Column) (k : ℕ) → length columns ≤ k
+    → slice_get (column_names (map group_of columns)) k ≡ None
+none-past [] k past = refl
+none-past (c ∷ cs) zero past = absurd (omega (arith, past))
+none-past (c ∷ cs) (suc k) past = none-past cs k (omega (arith, past))
+
+-- of the first columns none has this name
+pub record AreNotNamed (columns : List Column) (name : List ℕ) (count : ℕ) : Type 0 where
+  pub within : count ≤ length columns
+  pub none : (k : ℕ) → k < count → ¬ (slice_get (column_names (map group_of columns)) k ≡ Some name)
+
+pub not-named-init : (columns : List Column) (name : List ℕ) → AreNotNamed columns name 0
+not-named-init columns name = record { within = omega arith; none = λ k none. absurd (omega (arith, none)) }
+
+pub not-named-step : (columns : List Column) (name : List ℕ) (n : ℕ) (column : Column) → n < length columns
+    → column ≡ get_or columns n column → bytes_eq (string_bytes column.name) name ≡ false
+    → AreNotNamed columns name n → AreNotNamed columns name (n + 1)
+not-named-step columns name n column inside at differs so-far = record {
+  within = omega (arith, inside);
+  none = λ k below named. elim (cases_lt k n) [
+    | inl less ↦ so-far.none k less named
+    | inr more ↦
+        let here : k ≡ n = omega (arith, below, more) in
+        let has : slice_get (column_names (map group_of columns)) n ≡ Some name = rw here at named in
+        let is : string_bytes column.name ≡ name = of (sym (names-at columns n column inside at) ∙ has) in
+        let yes : true ≡ false = sym ((bytes_decides (string_bytes column.name) name).1 is) ∙ differs in
+        absurd (cc)
+  ];
+}
+  where
+    of : Some (string_bytes column.name) ≡ Some name → string_bytes column.name ≡ name
+    of e = cc
+
+pub not-named-end : (columns : List Column) (name : List ℕ) (n : ℕ) → length columns ≤ n → AreNotNamed columns name n
+    → (k : ℕ) → ¬ (slice_get (column_names (map group_of columns)) k ≡ Some name)
+not-named-end columns name n past none = λ k named. elim (cases_lt k n) [
+  | inl less ↦ none.none k less named
+  | inr more ↦ no-some (sym (none-past columns k (omega (arith, past, more))) ∙ named)
+]
+  where
+    no-some : ¬ (None ≡ Some name)
+    no-some e = absurd (cc)

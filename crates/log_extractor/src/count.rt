@@ -38,6 +38,8 @@ pub fn no_counts(alloc: Global) -> Counts
 /// Returns the number of the column of this name, from 0.
 pub fn column_named(columns: &[Column], name: &str) -> Option<usize>
     ensures found { IfSome result (λ k. slice_get (column_names (map group_of columns.now)) k ≡ Some name.now) }
+    ensures missing { IfNone result ((k : ℕ)
+        → ¬ (slice_get (column_names (map group_of columns.now)) k ≡ Some name.now)) }
 {
     for (number, column) in columns.iter().enumerate() {
         if is_named(column, name) {

@@ -1,6 +1,6 @@
--- Nothing is kept from one column to the next.
-use Rattle.std.proofs.Common.{◌≤◌, length}
+-- No column so far has the name.
+use Rattle.log_extractor.proofs.CountLemmas.{AreNotNamed}
 use Rattle.log_extractor.proofs.count.column_named.Given as goal
 
 abbrev pub invariant-loop-number : goal.invariant-loop-number
-invariant-loop-number l = l.number ≤ length l.columns
+invariant-loop-number l = AreNotNamed l.columns l.name l.number
