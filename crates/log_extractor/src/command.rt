@@ -23,6 +23,11 @@ With --csv a field is in quotes if it is empty or has a comma, a quote or an end
 Without a file, or for the file -, standard input is read.
 A line is of any bytes. It ends at a line feed, and a carriage return before the line feed belongs to the end.
 
+Examples:
+  log_extractor --json app.log
+  log_extractor --format combined --count status access.log
+  log_extractor --csv -p '(?<user>[a-z]+): (?<said>.*)' < chat.log
+
 Status: 0, 1 if an input cannot be read, the output cannot be written or memory runs out, 2 if the arguments or the
 pattern are wrong. If the output is a pipe that is closed, the program ends with status 0.
 
@@ -140,7 +145,9 @@ fn with_output<'w>(
                 .help("Print a JSON object for each row"),
         )?
         .arg(flag(alloc, "rejects")?.help("Print the lines that have no row, and no rows"))?
-        .arg(flag(alloc, "line-buffered")?.help("Write the output for a line before reading on"))
+        .arg(flag(alloc, "line-buffered")?.help(
+            "Write the output for a line before reading on, as to a terminal",
+        ))
 }
 
 /// The arguments that belong to no option: the files.

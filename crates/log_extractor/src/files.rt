@@ -5,12 +5,13 @@ use crate::output::{Form, Output};
 use crate::parser::Parser;
 use crate::report::{print_head, print_lines};
 use std::alloc::Global;
-use std::io::{BufRead, BufReader, BufWriter, Write};
+use std::io::{BufRead, BufReader, BufWriter, IsTerminal, Write};
 use std::{fs, io};
 use text_lines::failure::Failure;
 
 /// What standard error says if no line has a row.
-const NO_ROW: &str = "log_extractor: no line matched; --rejects prints lines that have no row";
+const NO_ROW: &str =
+    "log_extractor: no line matched from its start; --rejects prints lines that have no row";
 
 /// What is done with the lines of the inputs.
 #[derive(Drop)]
@@ -35,7 +36,7 @@ pub fn print_all(
     arguments: &Arguments<'_>,
     column: Option<usize>,
 ) -> Result<bool, Failure> {
-    if arguments.line_buffered {
+    if arguments.line_buffered || rt.stdout().is_terminal() {
         // The output for a line is written by one call.
         return print_to(rt, parser, arguments, column, &mut io::writer(rt));
     }

@@ -1,16 +1,14 @@
 -- The column has the name, or none has.
-use Rattle.std.proofs.Common.{rules, ◌≡◌, ◌∙◌, ap, arith, false, sym}
-use Rattle.std.specs.Prelude.{Some, string_bytes}
+use Rattle.std.proofs.Common.{◌∙◌, ap, arith, sym}
+use Rattle.std.specs.Prelude.{Some}
 use Rattle.std.specs.Cmp.Lexicographic.{bytes_decides}
 use Rattle.log_extractor.proofs.CountLemmas.{names-at, not-named-end, not-named-init, not-named-step}
 use Rattle.log_extractor.proofs.count.column_named.Goals as goal
 
-pub returns-then-is_named : goal.returns-then-is_named
-returns-then-is_named c = record {
-  found = names-at c.args.columns.now c.loop-number.number c.index-columns-number.result c.loop-number-test.true
-      c.index-columns-number.is
-      ∙ ap Some ((bytes_decides _ _).0 (sym c.is_named.ensures ∙ c.if-is_named.true));
-}
+pub returns-then-is_named-clause-found : goal.returns-then-is_named-clause-found
+returns-then-is_named-clause-found c =
+    names-at c.args.columns.now c.loop-number.number c.index-columns-number.result c.loop-number-test.true
+    c.index-columns-number.is ∙ ap Some ((bytes_decides _ _).0 (sym c.is_named.ensures ∙ c.if-is_named.true))
 
 pub loop-number-init : goal.loop-number-init
 loop-number-init c = not-named-init c.args.columns.now c.args.name.now
@@ -21,8 +19,7 @@ loop-number-preserved c =
     c.loop-number-test.true c.index-columns-number.is (sym c.is_named.ensures ∙ c.if-is_named.false)
     c.loop-number.invariant
 
-pub returns : goal.returns
-returns c = record {
-  missing = not-named-end c.args.columns.now c.args.name.now c.loop-number.number
-      (omega (arith, c.loop-number-test.false)) c.loop-number.invariant;
-}
+pub returns-clause-missing : goal.returns-clause-missing
+returns-clause-missing c =
+    not-named-end c.args.columns.now c.args.name.now c.loop-number.number (omega (arith, c.loop-number-test.false))
+    c.loop-number.invariant
