@@ -46,7 +46,7 @@ impl BoundedBacktracker {
     ghost use Rattle.nfa_search_base.specs.CapturesGiven.{CapturesGiven};
     ghost use Rattle.nfa_search_base.specs.WithCaptures.{filled_answer, row_of};
     ghost use Rattle.nfa_search_base.specs.CapturesLists.{AreRows};
-    ghost use Rattle.nfa_search_base.specs.CapturesRuns.{CapturesInside, match_in};
+    ghost use Rattle.nfa_search_base.specs.CapturesRuns.{CapturesInside, CapturesWithin, match_in};
     ghost use Rattle.nfa_search_base.specs.Lists.{AreDisjoint, AreMatches};
     ghost use Rattle.nfa_search_base.specs.IterStates.{fresh};
     ghost use Rattle.nfa_backtrack.specs.CapturesMatches.{CatchesBySearches, CatchesRefused};
@@ -87,10 +87,11 @@ impl BoundedBacktracker {
         ensures engine { IfOk result (λ made. backtrack_captures_engine made ≡ self.now) }
         ensures iter_state { IfOk result (λ made. backtrack_captures_iter_state made ≡ fresh (search_of input.entry)) }
         ensures going { IfOk result (λ made. backtrack_captures_done made ≡ false) }
-        // Each run of calls gives the first captures of the input, and all of them if it goes on to `None`.
-        // If no copy fails, their rows and their matches are those of the input.
+        // Each run of calls gives the first captures of the input, and all of them if it goes on to `None`. If no copy
+        // fails, their rows and their matches are those of the input.
         ensures given { IfOk result (CapturesGiven backtrack_captures_next self.now.nfa LeftmostFirst false
             (IsTryCapturesAnswer self.now) (search_of input.entry)) }
+        ensures inside { IfOk result (CapturesWithin backtrack_captures_next (search_of input.entry)) }
         ensures refused { IfOk result (CatchesRefused self.now (search_of input.entry)) }
         // The cache changes only by the searches of the steps.
         ensures searches { IfOk result (CatchesBySearches self.now (search_of input.entry)) }
@@ -125,10 +126,11 @@ impl BoundedBacktracker {
         ensures engine { backtrack_captures_engine result ≡ self.now }
         ensures iter_state { backtrack_captures_iter_state result ≡ fresh (search_of input.entry) }
         ensures going { backtrack_captures_done result ≡ false }
-        // Each run of calls gives the first captures of the input, and all of them if it goes on to `None`.
-        // If no copy fails, their rows and their matches are those of the input.
+        // Each run of calls gives the first captures of the input, and all of them if it goes on to `None`. If no copy
+        // fails, their rows and their matches are those of the input.
         ensures given { CapturesGiven backtrack_captures_next self.now.nfa LeftmostFirst false (IsTryCapturesAnswer
             self.now) (search_of input.entry) result }
+        ensures inside { CapturesWithin backtrack_captures_next (search_of input.entry) result }
         ensures refused { CatchesRefused self.now (search_of input.entry) result }
         // The cache changes only by the searches of the steps.
         ensures searches { CatchesBySearches self.now (search_of input.entry) result }

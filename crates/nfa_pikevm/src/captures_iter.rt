@@ -47,7 +47,7 @@ impl PikeVM {
     ghost use Rattle.nfa_search_base.specs.CapturesGiven.{CapturesGiven};
     ghost use Rattle.nfa_search_base.specs.WithCaptures.{row_of};
     ghost use Rattle.nfa_search_base.specs.CapturesLists.{AreRows, AnswersRow};
-    ghost use Rattle.nfa_search_base.specs.CapturesRuns.{CapturesInside, CapturesMemory, match_in};
+    ghost use Rattle.nfa_search_base.specs.CapturesRuns.{CapturesInside, CapturesMemory, CapturesWithin, match_in};
     ghost use Rattle.nfa_search_base.specs.Lists.{AreDisjoint, AreMatches};
     ghost use Rattle.nfa_search_base.specs.IterStates.{fresh};
     ghost use Rattle.nfa_pikevm.specs.CapturesMatches.{CatchesBySearches, CatchesGiveCache};
@@ -89,11 +89,12 @@ impl PikeVM {
         ensures engine { IfOk result (λ made. pike_captures_engine made ≡ self.now) }
         ensures iter_state { IfOk result (λ made. pike_captures_iter_state made ≡ fresh (search_of input.entry)) }
         ensures going { IfOk result (λ made. pike_captures_done made ≡ false) }
-        // Each run of calls gives the first captures of the input, and all of them if it goes on to `None`.
-        // If no copy fails, their rows and their matches are those of the input.
+        // Each run of calls gives the first captures of the input, and all of them if it goes on to `None`. If no copy
+        // fails, their rows and their matches are those of the input.
         ensures given { IfOk result (CapturesGiven pike_captures_next self.now.nfa (kind_of self.now)
             (search_of input.entry).earliest (AnswersRow self.now.nfa (kind_of self.now)
             (search_of input.entry).earliest) (search_of input.entry)) }
+        ensures inside { IfOk result (CapturesWithin pike_captures_next (search_of input.entry)) }
         ensures errors { IfOk result (CapturesMemory pike_captures_next) }
         // The cache changes only by the searches of the steps.
         ensures searches { IfOk result (CatchesBySearches self.now (search_of input.entry)) }
@@ -129,11 +130,12 @@ impl PikeVM {
         ensures engine { pike_captures_engine result ≡ self.now }
         ensures iter_state { pike_captures_iter_state result ≡ fresh (search_of input.entry) }
         ensures going { pike_captures_done result ≡ false }
-        // Each run of calls gives the first captures of the input, and all of them if it goes on to `None`.
-        // If no copy fails, their rows and their matches are those of the input.
+        // Each run of calls gives the first captures of the input, and all of them if it goes on to `None`. If no copy
+        // fails, their rows and their matches are those of the input.
         ensures given { CapturesGiven pike_captures_next self.now.nfa (kind_of self.now)
             (search_of input.entry).earliest (AnswersRow self.now.nfa (kind_of self.now)
             (search_of input.entry).earliest) (search_of input.entry) result }
+        ensures inside { CapturesWithin pike_captures_next (search_of input.entry) result }
         ensures errors { CapturesMemory pike_captures_next result }
         // The cache changes only by the searches of the steps.
         ensures searches { CatchesBySearches self.now (search_of input.entry) result }

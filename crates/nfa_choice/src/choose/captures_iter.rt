@@ -42,7 +42,7 @@ impl Choice {
     ghost use Rattle.nfa_search_base.specs.WithCaptures.{row_of};
     ghost use Rattle.nfa_search_base.specs.CapturesLists.{AreRows, AnswersRow};
     ghost use Rattle.nfa_search_base.specs.CapturesGiven.{CapturesGiven};
-    ghost use Rattle.nfa_search_base.specs.CapturesRuns.{CapturesInside, CapturesMemory, match_in};
+    ghost use Rattle.nfa_search_base.specs.CapturesRuns.{CapturesInside, CapturesMemory, CapturesWithin, match_in};
     ghost use Rattle.nfa_search_base.specs.Lists.{AreDisjoint, AreMatches};
     ghost use Rattle.nfa_search_base.specs.IterStates.{fresh};
     ghost use Rattle.nfa_choice.specs.CapturesMatches.{ChoiceCatchesBySearches, ChoiceCatchesGiveKept};
@@ -79,11 +79,12 @@ impl Choice {
         ensures same_choice { IfOk result (λ made. (choice_catches_choice made).now ≡ self.entry.now) }
         ensures iter_state { IfOk result (λ made. choice_captures_iter_state made ≡ fresh (search_of input.entry)) }
         ensures going { IfOk result (λ made. choice_catches_done made ≡ false) }
-        // Each run of calls gives the first captures of the input, and all of them if it goes on to `None`.
-        // If no copy fails, their rows and their matches are those of the input.
+        // Each run of calls gives the first captures of the input, and all of them if it goes on to `None`. If no copy
+        // fails, their rows and their matches are those of the input.
         ensures given { IfOk result (CapturesGiven choice_catches_next self.entry.now.nfa (kind_in self.entry.now)
             (search_of input.entry).earliest (AnswersRow self.entry.now.nfa (kind_in self.entry.now)
             (search_of input.entry).earliest) (search_of input.entry)) }
+        ensures inside { IfOk result (CapturesWithin choice_catches_next (search_of input.entry)) }
         ensures errors { IfOk result (CapturesMemory choice_catches_next) }
         // The choice changes only by the searches of the steps.
         ensures searches { IfOk result (ChoiceCatchesBySearches (search_of input.entry)) }
@@ -116,11 +117,12 @@ impl Choice {
         ensures same_choice { (choice_catches_choice result).now ≡ self.entry.now }
         ensures iter_state { choice_captures_iter_state result ≡ fresh (search_of input.entry) }
         ensures going { choice_catches_done result ≡ false }
-        // Each run of calls gives the first captures of the input, and all of them if it goes on to `None`.
-        // If no copy fails, their rows and their matches are those of the input.
+        // Each run of calls gives the first captures of the input, and all of them if it goes on to `None`. If no copy
+        // fails, their rows and their matches are those of the input.
         ensures given { CapturesGiven choice_catches_next self.entry.now.nfa (kind_in self.entry.now)
             (search_of input.entry).earliest (AnswersRow self.entry.now.nfa (kind_in self.entry.now)
             (search_of input.entry).earliest) (search_of input.entry) result }
+        ensures inside { CapturesWithin choice_catches_next (search_of input.entry) result }
         ensures errors { CapturesMemory choice_catches_next result }
         // The choice changes only by the searches of the steps.
         ensures searches { ChoiceCatchesBySearches (search_of input.entry) result }

@@ -42,7 +42,7 @@ impl Regex {
     ghost use Rattle.nfa_search_base.specs.WithCaptures.{row_of};
     ghost use Rattle.nfa_search_base.specs.CapturesLists.{AreRows, AnswersRow};
     ghost use Rattle.nfa_search_base.specs.CapturesGiven.{CapturesGiven};
-    ghost use Rattle.nfa_search_base.specs.CapturesRuns.{CapturesInside, CapturesMemory, match_in};
+    ghost use Rattle.nfa_search_base.specs.CapturesRuns.{CapturesInside, CapturesMemory, CapturesWithin, match_in};
     ghost use Rattle.nfa_search_base.specs.Lists.{AreDisjoint, AreMatches};
     ghost use Rattle.nfa_search_base.specs.IterStates.{fresh};
     ghost use Rattle.nfa_meta.specs.CapturesMatches.{CatchesBySearches, CatchesGiveKept};
@@ -79,11 +79,12 @@ impl Regex {
         ensures same_regex { IfOk result (λ made. (catches_regex made).now ≡ self.entry.now) }
         ensures iter_state { IfOk result (λ made. catches_iter_state made ≡ fresh (search_of input.entry)) }
         ensures going { IfOk result (λ made. catches_done made ≡ false) }
-        // Each run of calls gives the first captures of the input, and all of them if it goes on to `None`.
-        // If no copy fails, their rows and their matches are those of the input.
+        // Each run of calls gives the first captures of the input, and all of them if it goes on to `None`. If no copy
+        // fails, their rows and their matches are those of the input.
         ensures given { IfOk result (CapturesGiven catches_next self.entry.now.nfa (kind_in self.entry.now)
             (search_of input.entry).earliest (AnswersRow self.entry.now.nfa (kind_in self.entry.now)
             (search_of input.entry).earliest) (search_of input.entry)) }
+        ensures inside { IfOk result (CapturesWithin catches_next (search_of input.entry)) }
         ensures errors { IfOk result (CapturesMemory catches_next) }
         // The engines change only by the searches of the steps.
         ensures searches { IfOk result (CatchesBySearches (search_of input.entry)) }
@@ -116,11 +117,12 @@ impl Regex {
         ensures same_regex { (catches_regex result).now ≡ self.entry.now }
         ensures iter_state { catches_iter_state result ≡ fresh (search_of input.entry) }
         ensures going { catches_done result ≡ false }
-        // Each run of calls gives the first captures of the input, and all of them if it goes on to `None`.
-        // If no copy fails, their rows and their matches are those of the input.
+        // Each run of calls gives the first captures of the input, and all of them if it goes on to `None`. If no copy
+        // fails, their rows and their matches are those of the input.
         ensures given { CapturesGiven catches_next self.entry.now.nfa (kind_in self.entry.now)
             (search_of input.entry).earliest (AnswersRow self.entry.now.nfa (kind_in self.entry.now)
             (search_of input.entry).earliest) (search_of input.entry) result }
+        ensures inside { CapturesWithin catches_next (search_of input.entry) result }
         ensures errors { CapturesMemory catches_next result }
         // The engines change only by the searches of the steps.
         ensures searches { CatchesBySearches (search_of input.entry) result }

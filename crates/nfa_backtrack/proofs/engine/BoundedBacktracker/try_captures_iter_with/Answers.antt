@@ -7,6 +7,9 @@ use Rattle.nfa_backtrack.proofs.engine.BoundedBacktracker.try_captures_iter_with
 pub returns-clause-given : goal.returns-clause-given
 returns-clause-given c = catches-given c.args.self.now (search_of c.args.input) _ refl c.new.ensures refl
 
+pub returns-clause-inside : goal.returns-clause-inside
+returns-clause-inside c = (catches-given c.args.self.now (search_of c.args.input) _ refl c.new.ensures refl).inside
+
 pub returns-clause-refused : goal.returns-clause-refused
 returns-clause-refused c = catches-refused c.args.self.now (search_of c.args.input) _ refl c.new.ensures refl
 

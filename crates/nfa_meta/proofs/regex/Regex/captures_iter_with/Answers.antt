@@ -7,6 +7,9 @@ use Rattle.nfa_meta.proofs.regex.Regex.captures_iter_with.Goals as goal
 pub returns-clause-given : goal.returns-clause-given
 returns-clause-given c = catches-given (search_of c.args.input) _ c.new.ensures refl
 
+pub returns-clause-inside : goal.returns-clause-inside
+returns-clause-inside c = (catches-given (search_of c.args.input) _ c.new.ensures refl).inside
+
 pub returns-clause-errors : goal.returns-clause-errors
 returns-clause-errors c = catches-memory (search_of c.args.input) _ c.new.ensures refl
 

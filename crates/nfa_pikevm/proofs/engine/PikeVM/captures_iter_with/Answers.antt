@@ -7,6 +7,9 @@ use Rattle.nfa_pikevm.proofs.engine.PikeVM.captures_iter_with.Goals as goal
 pub returns-clause-given : goal.returns-clause-given
 returns-clause-given c = catches-given c.args.self.now (search_of c.args.input) _ refl c.new.ensures refl
 
+pub returns-clause-inside : goal.returns-clause-inside
+returns-clause-inside c = (catches-given c.args.self.now (search_of c.args.input) _ refl c.new.ensures refl).inside
+
 pub returns-clause-errors : goal.returns-clause-errors
 returns-clause-errors c = catches-memory c.args.self.now (search_of c.args.input) _ refl c.new.ensures refl
 
