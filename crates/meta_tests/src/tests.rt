@@ -4,7 +4,6 @@
 mod built;
 mod captures;
 mod ends;
-mod rewriters;
 mod rewrites;
 mod samples;
 mod templates;

@@ -1,6 +1,5 @@
 //! Texts that have what a function appends in place of the matches of a pattern.
 
-use crate::tests::rewriters::{masked, only_group};
 use nfa_meta::Regex;
 use regex_search_core::{Captures, Span};
 use std::alloc::{AllocError, Global};
@@ -117,26 +116,4 @@ fn errors_of_functions_are_returned(rt: HostRuntime) {
     assert!(rt; all.is_err());
     let none = regex.replacen_with(alloc, b"a", 1, |_, _| Err(AllocError));
     assert_eq!(rt; none.expect(&rt, "an output").as_slice(), b"a".as_slice());
-}
-
-#[test]
-fn callers_say_what_is_in_place_of_a_match(rt: HostRuntime) {
-    let alloc = rt.alloc();
-    let mut regex = regex(&rt, alloc, "([0-9]+)(%)?");
-    let text = b"1% and 23";
-    let numbers = only_group(alloc, &mut regex, text, 1);
-    assert_eq!(rt;
-        numbers.expect(&rt, "an output").as_slice(),
-        b"1 and 23".as_slice()
-    );
-    let signs = only_group(alloc, &mut regex, text, 2);
-    assert_eq!(rt;
-        signs.expect(&rt, "an output").as_slice(),
-        b"% and ".as_slice()
-    );
-    let first = masked(alloc, &mut regex, text, b'#');
-    assert_eq!(rt;
-        first.expect(&rt, "an output").as_slice(),
-        b"# and 23".as_slice()
-    );
 }
