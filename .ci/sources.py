@@ -33,6 +33,7 @@ GROUPS = [
      'skip_splits_fwd skip_splits_fwd_by_ref skip_splits_rev skip_splits_rev_by_ref'),
     ('Whether an NFA records its bounds', 'nfa_match_spans', 'nfa_match_spans', '', 'records_match_spans'),
     ('The bytes that each match begins with', 'nfa_prefix', 'nfa_prefix', '', 'literal_prefix find_prefix'),
+    ('Fewer captures', 'nfa_captures', 'nfa_captures', 'WhichCaptures', 'keep_captures'),
     ('The lazy DFA', 'nfa_lazy_dfa', 'nfa_lazy_dfa', 'DFA Cache Config Builder StopError Window', ''),
     ('The engine that runs the cheapest engine', 'nfa_meta', 'nfa_meta', 'Regex FindMatches', ''),
     ('Scans by steps, for determinizers', 'nfa_determinize::closure', 'nfa_determinize', '',
@@ -48,7 +49,8 @@ GROUPS = [
 # The modules of laws: empty functions whose contracts are theorems.
 LAWS = [('nfa_engines::laws', 'nfa_engines'), ('nfa_choice::laws', 'nfa_choice'),
         ('nfa_engines::iter::laws', 'nfa_search_base'), ('nfa_match_spans::laws', 'nfa_match_spans'),
-        ('nfa_prefix::laws', 'nfa_prefix'), ('nfa_compiler::laws', 'nfa_compiler'),
+        ('nfa_prefix::laws', 'nfa_prefix'), ('nfa_captures::laws', 'nfa_captures'),
+        ('nfa_compiler::laws', 'nfa_compiler'),
         ('nfa_determinize::laws', 'nfa_determinize'), ('nfa_meta::laws', 'nfa_meta')]
 
 

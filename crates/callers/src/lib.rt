@@ -5,7 +5,9 @@
 #![tactic(auto)]
 
 pub mod answers;
+pub mod captures;
 pub mod classifier;
+pub mod clauses;
 pub mod compiled;
 pub mod ends;
 pub mod halves;

@@ -1,6 +1,7 @@
 //! Tests of the crates below the engines.
 mod bounds;
 mod bounds_caller;
+mod captures;
 mod finders;
 mod fixtures;
 mod flaws;

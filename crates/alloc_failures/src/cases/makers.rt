@@ -2,6 +2,7 @@
 
 use super::searches::found;
 use super::{Seen, Wrong, engines, expect, made};
+use nfa_captures::{WhichCaptures, keep_captures};
 use nfa_engines::backtrack::{self, BoundedBacktracker};
 use nfa_engines::error::SearchError;
 use nfa_engines::pikevm::{self, PikeVM};
@@ -39,17 +40,33 @@ fn expect_made(
     slots: usize,
 ) -> Result<(), Wrong> {
     let nfa = made_sample(alloc, seen, name)?;
-    expect_copy(seen, &nfa, states, slots)
+    expect_copy(alloc, seen, &nfa, states, slots)
 }
 
-fn expect_copy(seen: &mut Seen, nfa: &NFA, states: usize, slots: usize) -> Result<(), Wrong> {
+fn expect_copy(
+    alloc: Global,
+    seen: &mut Seen,
+    nfa: &NFA,
+    states: usize,
+    slots: usize,
+) -> Result<(), Wrong> {
     expect_sample(nfa, states, slots)?;
     let copy = nfa_copy(seen, nfa)?;
-    expect_sample(&copy, states, slots)
+    expect_sample(&copy, states, slots)?;
+    let small = fewer_captures(alloc, seen, nfa)?;
+    expect_sample(&small, states, nfa.group_info().implicit_slot_len())
 }
 
 fn made_sample(alloc: Global, seen: &mut Seen, name: &str) -> Result<NFA, Wrong> {
     made!(seen, BuildError::Memory, sample(alloc, name))?.ok_or(Wrong("a name that is unknown"))
+}
+
+fn fewer_captures(alloc: Global, seen: &mut Seen, nfa: &NFA) -> Result<NFA, Wrong> {
+    made!(
+        seen,
+        BuildError::Memory,
+        keep_captures(alloc, nfa, WhichCaptures::Implicit)
+    )
 }
 
 fn nfa_copy(seen: &mut Seen, nfa: &NFA) -> Result<NFA, Wrong> {

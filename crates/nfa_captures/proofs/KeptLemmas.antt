@@ -1,0 +1,162 @@
+-- An NFA with fewer captures has the same ways, and the slots that are kept are the same.
+use Rattle.std.proofs.Common.{◌≡◌, ◌∙◌, ℕ, zero, suc, ◌+◌, ◌*◌, ◌≤◌, ◌<◌, ◌==◌, inl, inr, Bool, true, false, List, [], ◌∷◌, ap, arith, length, map, ne_eqb, refl, replicate, sym}
+use Rattle.std.specs.Prelude.{Option, None, Some, nat_lt, option_and_then, slice_index_or}
+use Rattle.std.specs.List.{range_with_len, sum_by}
+use Rattle.std.specs.Option.{option_map_or, option_or}
+use Rattle.std.proofs.lemmas.Bool.{cases_Bool, cases_lt, le-ltb, lt-ltb}
+use Rattle.std.proofs.lemmas.List.{length-replicate}
+use Rattle.regex_search_core.specs.Found.{Found}
+use Rattle.regex_search_core.specs.Groups.{slot_count}
+use Rattle.regex_search_core.specs.Search.{Search}
+use Rattle.regex_search_core.specs.Slots.{match_of}
+use Rattle.thompson_nfa.specs.Automaton.{Automaton, Node, IsAutomaton}
+use Rattle.thompson_nfa.specs.Automaton.Node.{ByteRange, Sparse, Dense, Look, Union, BinaryUnion, Capture, Fail, Match}
+use Rattle.nfa_paths.specs.Graphs.{Pair}
+use Rattle.nfa_paths.specs.Overlaps.{pattern_at}
+use Rattle.nfa_paths.specs.Paths.{capture, edges, edges_of, node_at, path_pattern, pattern_of, slot_among, slot_of}
+use Rattle.nfa_paths.specs.Paths.{slot_row}
+use Rattle.nfa_paths.proofs.PatternLemmas.{length-slot_row, match-along-path}
+use Rattle.nfa_captures.specs.Kept.{kept_node, with_groups}
+use Rattle.nfa_captures.proofs.WaysLemmas.{HaveSameWays, pattern-same}
+
+abbrev Groups : Type 0
+Groups = List (List (Option (List ℕ)))
+
+-- a state of a list that was mapped
+state-kept : (count : ℕ) (states : List Node) (s : ℕ)
+    → slice_index_or (map (kept_node count) states) s Fail ≡ kept_node count (slice_index_or states s Fail)
+state-kept count [] s = refl
+state-kept count (n ∷ states) zero = refl
+state-kept count (n ∷ states) (suc s) = state-kept count states s
+
+module _ (count : ℕ) where
+  -- what follows a state
+  edges-kept : (x : Search) (n : Node) (at : ℕ) → edges_of x (kept_node count n) at ≡ edges_of x n at
+  unfolding edges_of
+  edges-kept x (Capture next slot) at = elim (cases_Bool (nat_lt slot count)) [
+    | inl below ↦ rw below refl
+    | inr past ↦ rw past refl
+  ]
+  edges-kept x (ByteRange t) at = refl
+  edges-kept x (Sparse ts) at = refl
+  edges-kept x (Dense targets) at = refl
+  edges-kept x (Look look next) at = refl
+  edges-kept x (Union alternates) at = refl
+  edges-kept x (BinaryUnion alt1 alt2) at = refl
+  edges-kept x Fail at = refl
+  edges-kept x (Match pattern) at = refl
+
+  -- what it matches
+  pattern-kept : (n : Node) → pattern_of (kept_node count n) ≡ pattern_of n
+  pattern-kept (Capture next slot) = elim (cases_Bool (nat_lt slot count)) [
+    | inl below ↦ rw below refl
+    | inr past ↦ rw past refl
+  ]
+  pattern-kept (ByteRange t) = refl
+  pattern-kept (Sparse ts) = refl
+  pattern-kept (Dense targets) = refl
+  pattern-kept (Look look next) = refl
+  pattern-kept (Union alternates) = refl
+  pattern-kept (BinaryUnion alt1 alt2) = refl
+  pattern-kept Fail = refl
+  pattern-kept (Match pattern) = refl
+
+  -- whether it writes a slot that is kept
+  slot-kept : (slot : ℕ) → slot < count → (n : Node)
+      → option_map_or (λ k. k == slot) (slot_of (kept_node count n)) false
+      ≡ option_map_or (λ k. k == slot) (slot_of n) false
+  slot-kept slot less (Capture next own) = elim (cases_lt own count) [
+    | inl below ↦ rw (lt-ltb own count below) refl
+    | inr past ↦
+        let other : (own == slot) ≡ false = ne_eqb own slot (λ (e : own ≡ slot). omega arith) in
+        rw (le-ltb own count past) (sym other)
+  ]
+  slot-kept slot less (ByteRange t) = refl
+  slot-kept slot less (Sparse ts) = refl
+  slot-kept slot less (Dense targets) = refl
+  slot-kept slot less (Look look next) = refl
+  slot-kept slot less (Union alternates) = refl
+  slot-kept slot less (BinaryUnion alt1 alt2) = refl
+  slot-kept slot less Fail = refl
+  slot-kept slot less (Match pattern) = refl
+
+module _ (groups : Groups) (nfa : Automaton) where
+  abbrev kept : Automaton
+  kept = with_groups groups nfa
+
+  node-kept : (s : ℕ) → node_at kept s ≡ kept_node (slot_count groups) (node_at nfa s)
+  unfolding node_at
+  node-kept s = state-kept (slot_count groups) nfa.states s
+
+  pub same-ways : HaveSameWays kept nfa
+  same-ways = record {
+    edges_are = λ x. λ i v. (ap (λ (n : Node). edges_of x n v.1) (node-kept v.0)
+        ∙ edges-kept (slot_count groups) x (node_at nfa v.0) v.1) i;
+    starts_are = λ x. refl;
+    patterns_are = λ i v. (ap pattern_of (node-kept v.0) ∙ pattern-kept (slot_count groups) (node_at nfa v.0)) i;
+    utf8_is = refl;
+  }
+
+  -- a slot that is kept
+  among-kept : (p : List Pair) (slot : ℕ) → slot < slot_count groups
+      → slot_among kept p slot ≡ slot_among nfa p slot
+  among-kept [] slot less = refl
+  among-kept (v ∷ p) slot less =
+      let rest = among-kept p slot less in
+      let writes : option_map_or (λ k. k == slot) (capture kept v) false
+      ≡ option_map_or (λ k. k == slot) (capture nfa v) false =
+      ap (λ (n : Node). option_map_or (λ k. k == slot) (slot_of n) false) (node-kept v.0)
+      ∙ slot-kept (slot_count groups) slot less (node_at nfa v.0) in
+      rw (rest, writes) refl
+
+  -- the first slots of a path
+  pub row-kept : (n : ℕ) (r : Option (List Pair)) → n ≤ slot_count groups → slot_row kept n r ≡ slot_row nfa n r
+  unfolding slot_row
+  row-kept n None few = refl
+  row-kept n (Some p) few = of 0 n (omega (arith, few))
+    where
+      of : (from count : ℕ) → from + count ≤ slot_count groups
+          → map (slot_among kept p) (range_with_len from count) ≡ map (slot_among nfa p) (range_with_len from count)
+      of from zero few = refl
+      of from (suc count) few =
+          let here = among-kept p from (omega arith) in
+          let rest = of (from + 1) count (omega arith) in
+          λ i. here i ∷ rest i
+
+-- no explicit groups of n patterns
+abbrev unnamed : ℕ → Groups
+unnamed n = replicate n []
+
+-- two slots for each pattern
+pub slots-of-unnamed : (n : ℕ) → slot_count (unnamed n) ≡ 2 * n
+slots-of-unnamed n =
+    let none : sum_by length (unnamed n) ≡ 0 = of n in
+    let count : length (unnamed n) ≡ n = length-replicate n [] in
+    omega (arith, none, count)
+  where
+    of : (n : ℕ) → sum_by length (unnamed n) ≡ 0
+    of zero = refl
+    of (suc n) = of n
+
+-- a match of the slots of groups 0
+pub match-kept : (nfa : Automaton) → IsAutomaton nfa → (r : Option (List Pair))
+    → match_of (option_and_then (path_pattern (with_groups (unnamed (length nfa.groups)) nfa)) r)
+    (slot_row (with_groups (unnamed (length nfa.groups)) nfa) (slot_count (unnamed (length nfa.groups))) r)
+    ≡ match_of (option_and_then (path_pattern nfa) r) (slot_row nfa (slot_count nfa.groups) r)
+match-kept nfa valid r =
+    let groups : Groups = unnamed (length nfa.groups) in
+    let size : slot_count groups ≡ 2 * length nfa.groups = slots-of-unnamed (length nfa.groups) in
+    let pattern = pattern-same (with_groups groups nfa) nfa (same-ways groups nfa) r in
+    let few : slot_count groups ≤ slot_count groups = omega arith in
+    let row = row-kept groups nfa (slot_count groups) r few ∙ ap (λ (n : ℕ). slot_row nfa n r) size in
+    (λ i. match_of (pattern i) (row i)) ∙ of (option_and_then (path_pattern nfa) r) refl
+  where
+    of : (o : Option ℕ) → o ≡ option_and_then (path_pattern nfa) r
+        → match_of (option_and_then (path_pattern nfa) r) (slot_row nfa (2 * length nfa.groups) r)
+        ≡ match_of (option_and_then (path_pattern nfa) r) (slot_row nfa (slot_count nfa.groups) r)
+    of None none = rw (sym none) refl
+    of (Some k) some =
+        let slots : List (Option ℕ) = slot_row nfa (2 * length nfa.groups) r in
+        let size : length slots ≡ 2 * length nfa.groups = length-slot_row nfa (2 * length nfa.groups) r in
+        ap (λ (o : Option ℕ). match_of o slots) (sym some)
+        ∙ match-along-path nfa valid k slots size r some (ap (λ (n : ℕ). slot_row nfa n r) (sym size))

@@ -1,0 +1,4 @@
+pub mod KeptLemmas
+pub mod SetLemmas
+pub mod ValidLemmas
+pub mod WaysLemmas

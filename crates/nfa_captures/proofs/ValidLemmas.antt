@@ -1,0 +1,151 @@
+-- An NFA with fewer captures is one that `NFA::from_states` accepts.
+use Rattle.std.proofs.Common.{◌≡◌, ◌∙◌, ℕ, ◌+◌, ◌*◌, ◌≤◌, ◌<◌, inl, inr, List, [], ◌∷◌, ap, arith, length, map, refl, replicate, subst, sym}
+use Rattle.std.specs.Prelude.{All, Option, None, Some, nat_lt, slice_index_or}
+use Rattle.std.proofs.lemmas.Bool.{cases_Bool, cases_lt, le-ltb, lt-ltb}
+use Rattle.std.proofs.lemmas.List.{get_or_past, length-map, length-replicate}
+use Rattle.std.proofs.lemmas.List.Elements.{All-cons, All-head, All-map, All-nil, All-tail}
+use Rattle.regex_search_core.specs.Groups.{slot_count}
+use Rattle.thompson_nfa.specs.Automaton.{Automaton, AreGroupsOfPatterns, IsAutomaton, LeadsBelow, Node, PatternBelow}
+use Rattle.thompson_nfa.specs.Automaton.{SlotBelow}
+use Rattle.thompson_nfa.specs.Automaton.Node.{ByteRange, Sparse, Dense, Look, Union, BinaryUnion, Capture, Fail, Match}
+use Rattle.thompson_nfa.specs.Flaws.{IsFirstFlaw}
+use Rattle.thompson_nfa.specs.declared.flaw.Flaw.{Flaw}
+use Rattle.thompson_nfa.specs.declared.flaw.Flaw.TheVariants as flaw
+use Rattle.thompson_nfa.specs.declared.flaw.Referrer.TheVariants as holder
+use Rattle.nfa_captures.specs.Kept.{kept_groups, kept_node, with_captures, with_groups}
+use Rattle.nfa_captures.specs.declared.which.WhichCaptures.{WhichCaptures}
+use Rattle.nfa_captures.specs.declared.which.WhichCaptures.TheVariants as which
+
+module _ (count : ℕ) where
+  -- a state leads where it led
+  leads-kept : (n : ℕ) (node : Node) → LeadsBelow n node → LeadsBelow n (kept_node count node)
+  leads-kept n (Capture next slot) h = elim (cases_Bool (nat_lt slot count)) [
+    | inl below ↦ rw below h
+    | inr past ↦ rw past (All-cons (λ s. s < n) next [] h (All-nil (λ s. s < n)))
+  ]
+  leads-kept n (ByteRange t) h = h
+  leads-kept n (Sparse ts) h = h
+  leads-kept n (Dense targets) h = h
+  leads-kept n (Look look next) h = h
+  leads-kept n (Union alternates) h = h
+  leads-kept n (BinaryUnion alt1 alt2) h = h
+  leads-kept n Fail h = h
+  leads-kept n (Match pattern) h = h
+
+  -- a state writes only slots that are kept
+  slot-below : (node : Node) → SlotBelow count (kept_node count node)
+  slot-below (Capture next slot) = elim (cases_lt slot count) [
+    | inl below ↦ rw (lt-ltb slot count below) below
+    | inr past ↦ rw (le-ltb slot count past) tt
+  ]
+  slot-below (ByteRange t) = tt
+  slot-below (Sparse ts) = tt
+  slot-below (Dense targets) = tt
+  slot-below (Look look next) = tt
+  slot-below (Union alternates) = tt
+  slot-below (BinaryUnion alt1 alt2) = tt
+  slot-below Fail = tt
+  slot-below (Match pattern) = tt
+
+  pattern-below : (n : ℕ) (node : Node) → PatternBelow n node → PatternBelow n (kept_node count node)
+  pattern-below n (Capture next slot) h = elim (cases_Bool (nat_lt slot count)) [
+    | inl below ↦ rw below tt
+    | inr past ↦ rw past tt
+  ]
+  pattern-below n (ByteRange t) h = h
+  pattern-below n (Sparse ts) h = h
+  pattern-below n (Dense targets) h = h
+  pattern-below n (Look look next) h = h
+  pattern-below n (Union alternates) h = h
+  pattern-below n (BinaryUnion alt1 alt2) h = h
+  pattern-below n Fail h = h
+  pattern-below n (Match pattern) h = h
+
+  -- a state that writes no other slot is as it was
+  node-same : (node : Node) → SlotBelow count node → kept_node count node ≡ node
+  node-same (Capture next slot) h = rw (lt-ltb slot count h) refl
+  node-same (ByteRange t) h = refl
+  node-same (Sparse ts) h = refl
+  node-same (Dense targets) h = refl
+  node-same (Look look next) h = refl
+  node-same (Union alternates) h = refl
+  node-same (BinaryUnion alt1 alt2) h = refl
+  node-same Fail h = refl
+  node-same (Match pattern) h = refl
+
+  nodes-same : (nodes : List Node) → All (SlotBelow count) nodes → map (kept_node count) nodes ≡ nodes
+  nodes-same [] h = refl
+  nodes-same (n ∷ nodes) h =
+      let here = node-same n (All-head (SlotBelow count) n nodes h) in
+      let rest = nodes-same nodes (All-tail (SlotBelow count) n nodes h) in
+      λ i. here i ∷ rest i
+
+pub valid : (groups : List (List (Option (List ℕ)))) (nfa : Automaton) → IsAutomaton nfa
+    → AreGroupsOfPatterns (with_groups groups nfa) → IsAutomaton (with_groups groups nfa)
+valid groups nfa is of_patterns =
+    let f = kept_node (slot_count groups) in
+    let size : length nfa.states ≡ length (map f nfa.states) = sym (length-map nfa.states f) in
+    let n = is.numbered in
+    record {
+      filled = subst (λ n. 0 < n) size is.filled;
+      numbered = record {
+        anchored_in = subst (λ n. nfa.anchored < n) size n.anchored_in;
+        unanchored_in = subst (λ n. nfa.unanchored < n) size n.unanchored_in;
+        patterns_in = subst (λ n. All (λ s. s < n) nfa.patterns) size n.patterns_in;
+        targets_in = subst (λ n. All (LeadsBelow n) (map f nfa.states)) size
+            (All-map (LeadsBelow (length nfa.states)) f nfa.states
+            (λ k d less. leads-kept (slot_count groups) (length nfa.states) (slice_index_or nfa.states k d)
+            (n.targets_in k d less)));
+      };
+      slots = All-map (SlotBelow (slot_count groups)) f nfa.states
+          (λ k d less. slot-below (slot_count groups) (slice_index_or nfa.states k d));
+      patterns = All-map (PatternBelow (length nfa.patterns)) f nfa.states
+          (λ k d less. pattern-below (slot_count groups) (length nfa.patterns) (slice_index_or nfa.states k d)
+          (is.patterns k d less));
+      groups = of_patterns;
+    }
+
+groups-kept : (which : WhichCaptures) (nfa : Automaton) → IsAutomaton nfa
+    → AreGroupsOfPatterns (with_captures which nfa)
+unfolding with_captures
+groups-kept which.All nfa is = is.groups
+groups-kept which.Implicit nfa is =
+    let unnamed : List (Option (List ℕ)) = [] in
+    let size = length-replicate (length nfa.groups) unnamed in
+    elim is.groups [
+      | inl each ↦ inl (size ∙ each)
+      | inr none ↦ inr (size ∙ none)
+    ]
+groups-kept which.None nfa is = inr refl
+
+pub captures-valid : (which : WhichCaptures) (nfa : Automaton) → IsAutomaton nfa → IsAutomaton (with_captures which nfa)
+unfolding with_captures
+captures-valid which nfa is = valid (kept_groups which nfa.groups) nfa is (groups-kept which nfa is)
+
+pub all-kept : (nfa : Automaton) → IsAutomaton nfa → with_captures which.All nfa ≡ nfa
+unfolding with_captures
+all-kept nfa is =
+    ap (λ (states : List Node). (let made : Automaton = record nfa { states = states } in made))
+    (nodes-same (slot_count nfa.groups) nfa.states is.slots)
+
+-- of all elements and of a default, so of each place
+at-place : {X : Type 0} (P : X → Type 0) (xs : List X) (i : ℕ) (x : X) → All P xs → P x → P (slice_index_or xs i x)
+at-place P xs i x all default = elim (cases_lt i (length xs)) [
+  | inl inside ↦ all i x inside
+  | inr past ↦ subst P (sym (get_or_past xs i x past)) default
+]
+
+-- an NFA has no flaw
+pub no-flaw : (a : Automaton) (f : Flaw) → IsAutomaton a → IsFirstFlaw a (Some f) → ⊥
+no-flaw a flaw.Empty is first = let filled = is.filled in omega arith
+no-flaw a (flaw.State holder.Anchored) is first = first.1 is.numbered.anchored_in
+no-flaw a (flaw.State holder.Unanchored) is first = first.1.1 is.numbered.unanchored_in
+no-flaw a (flaw.State (holder.Pattern i)) is first =
+    first.1.2.1 (at-place (λ s. s < length a.states) a.patterns i 0 is.numbered.patterns_in is.filled)
+no-flaw a (flaw.State (holder.State i)) is first =
+    first.1.3.1 (at-place (LeadsBelow (length a.states)) a.states i Fail is.numbered.targets_in tt)
+no-flaw a (flaw.Slot state slot) is first =
+    first.1.0.1 (at-place (SlotBelow (slot_count a.groups)) a.states state Fail is.slots tt)
+no-flaw a (flaw.Pattern state pattern) is first =
+    first.2.0.1 (at-place (PatternBelow (length a.patterns)) a.states state Fail is.patterns tt)
+no-flaw a (flaw.Groups groups patterns) is first = first.3 is.groups

@@ -1,0 +1,16 @@
+-- A path writes the slots that are kept as before.
+use Rattle.std.proofs.Common.{◌≤◌, length, subst}
+use Rattle.regex_search_core.specs.Groups.{slot_count}
+use Rattle.nfa_paths.specs.Paths.{IsAnswer}
+use Rattle.nfa_captures.specs.Kept.{kept_groups, with_captures}
+use Rattle.nfa_captures.proofs.KeptLemmas.{row-kept, same-ways}
+use Rattle.nfa_captures.proofs.WaysLemmas.{slots-answer}
+use Rattle.nfa_captures.proofs.laws.kept_slots_are_the_same.Goals as goal
+
+pub returns : goal.returns
+unfolding with_captures
+returns c = λ which nfa small kind earliest x pattern slots is few answer.
+    let groups = kept_groups which nfa.groups in
+    slots-answer (with_captures which nfa) nfa (same-ways groups nfa) kind earliest x pattern slots
+    (λ r. row-kept groups nfa (length slots) r (subst (λ a. length slots ≤ slot_count a.groups) is few))
+    (subst (λ a. IsAnswer a kind earliest x pattern slots) is answer)

@@ -1,0 +1,2 @@
+pub mod CapturesLaws
+pub mod Kept
