@@ -4,6 +4,7 @@ pub mod CaughtLemmas
 pub mod GapLemmas
 pub mod HalvesLemmas
 pub mod MatchesLemmas
+pub mod MatchSlotLemmas
 pub mod PrefixLemmas
 pub mod RewriteLemmas
 pub mod WindowLemmas

@@ -5,6 +5,7 @@ pub mod Gaps
 pub mod GroupNames
 pub mod Halves
 pub mod Matches
+pub mod MatchSlots
 pub mod Replaced
 pub mod Rewritten
 pub mod Templates

@@ -18,6 +18,7 @@ mod captures_iter;
 mod fill;
 mod find_iter;
 mod half_matches;
+mod match_slots;
 mod may_begin;
 mod overlap;
 mod prefix;
@@ -31,6 +32,7 @@ use crate::builder::Config;
 pub use captures_iter::CapturesMatches;
 pub use find_iter::FindMatches;
 pub use half_matches::HalfMatches;
+use match_slots::write_match;
 use nfa_choice::choose::{Choice, Engine};
 use nfa_engines::error::SearchError;
 use nfa_engines::pikevm;
@@ -213,10 +215,10 @@ impl Regex {
     /// iteration. Returns `None` if the lazy DFA has given all answers so far.
     ///
     /// ```
-    /// // regex of "fo+"
+    /// // regex of "f(o+)"
     /// assert!(rt; regex.is_match(Input::new(b"a foo")));
     /// assert_eq!(rt; regex.ran(), None);
-    /// regex.search_slots(&Input::new(b"a foo"), &mut [None; 2]);
+    /// regex.search_slots(&Input::new(b"a foo"), &mut [None; 4]);
     /// assert_eq!(rt; regex.ran(), Some(Engine::Backtracker));
     /// ```
     pub fn ran(&self) -> Option<Engine>
@@ -288,9 +290,13 @@ impl Regex {
         ensures holds { HoldsNoMore 0 self.old.back self.new.back }
         ensures keeps { KeepsEngines self.old self.new }
     {
-        match self.part_to_search(*input) {
-            Some(part) => self.choice.search_slots(&part, slots),
-            None => {
+        match self.match_or_part(*input, slots.len()) {
+            Ok(found) => {
+                write_match(found, slots);
+                Some(found.pattern())
+            }
+            Err(Some(part)) => self.choice.search_slots(&part, slots),
+            Err(None) => {
                 slots.fill(None);
                 None
             }

@@ -10,6 +10,7 @@ ghost use Rattle.nfa_choice.specs.ChoiceState.{kind_in, KeepsEngines};
 ghost use Rattle.nfa_meta.specs.WindowRuns.{RunsByWindow};
 
 use crate::regex::Regex;
+use crate::regex::match_slots::fill_captures;
 use nfa_engines::error::SearchError;
 use regex_search_core::{Captures, Input};
 use std::alloc::Global;
@@ -61,9 +62,10 @@ impl Regex {
         ensures holds { HoldsNoMore 0 self.old.back self.new.back }
         ensures keeps { KeepsEngines self.old self.new }
     {
-        match self.part_to_search(*input) {
-            Some(part) => self.choice.search(&part, captures),
-            None => captures.clear(),
+        match self.match_or_part(*input, captures.slots().len()) {
+            Ok(found) => fill_captures(found, captures),
+            Err(Some(part)) => self.choice.search(&part, captures),
+            Err(None) => captures.clear(),
         }
     }
 

@@ -1,18 +1,27 @@
 -- The groups in the part are those of the search.
 use Rattle.std.proofs.Common.{◌∙◌, Bool, subst}
+use Rattle.regex_search_core.specs.Found.{found_of}
 use Rattle.regex_search_core.specs.Search.{search_of}
 use Rattle.nfa_paths.specs.Paths.{IsAnswer}
 use Rattle.nfa_choice.specs.ChoiceState.{kind_in}
+use Rattle.nfa_search_base.proofs.SpanLemmas.{spans-inside}
+use Rattle.nfa_meta.proofs.MatchSlotLemmas.{match_slots-inside}
 use Rattle.nfa_meta.proofs.WindowLemmas.{part-earliest}
 use Rattle.nfa_meta.proofs.regex.Regex.search.Goals as goal
 
-pub returns-in-Some-clause-answer : goal.returns-in-Some-clause-answer
-returns-in-Some-clause-answer c =
+pub returns-in-Err-Some-clause-answer : goal.returns-in-Err-Some-clause-answer
+returns-in-Err-Some-clause-answer c =
     let r = c.args.self.now in
-    let y = search_of c.in-Some.part in
-    let answers = rw c.in-Some.is at c.part_to_search.ensures.answers in
-    let part = rw c.in-Some.is at c.part_to_search.ensures.part in
+    let y = search_of c.in-Err-Some.part in
+    let answers = rw c.in-Err-Some.field-0-is at c.in-Err-Some.ensures.answers in
+    let part = rw c.in-Err-Some.field-0-is at c.in-Err-Some.ensures.part in
     answers.rows _ _ (subst (λ (b : Bool).
     IsAnswer r.nfa (kind_in r) b y c.search.new.captures.pattern c.search.new.captures.slots)
     (part-earliest r.nfa (search_of c.args.input.now) y part)
-    (rw (c.self.view_is ∙ c.part_to_search.ensures.same) at c.search.ensures.answer))
+    (rw (c.self.view_is ∙ c.match_or_part.ensures.same) at c.search.ensures.answer))
+
+pub returns-in-Ok-clause-spans : goal.returns-in-Ok-clause-spans
+returns-in-Ok-clause-spans c =
+    let x = search_of c.args.input.now in
+    let inside = match_slots-inside x (found_of c.in-Ok.found) c.in-Ok.ensures.inside in
+    rw c.fill_captures.ensures (spans-inside x _ inside)

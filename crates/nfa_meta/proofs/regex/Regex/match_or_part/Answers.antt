@@ -1,0 +1,39 @@
+-- The two slots of a match are those of the search.
+use Rattle.std.proofs.Common.{rules, ◌≡◌, Some, arith}
+use Rattle.std.proofs.lemmas.Grind.{common_steps}
+use Rattle.std.proofs.lemmas.Result.{IfOk-weaker}
+use Rattle.regex_search_core.specs.Found.{found_of}
+use Rattle.regex_search_core.specs.Groups.{slot_count}
+use Rattle.regex_search_core.specs.Search.{search_of}
+use Rattle.nfa_search_base.proofs.CallerLemmas.{inside-of}
+use Rattle.nfa_choice.specs.ChoiceState.{kind_in}
+use Rattle.nfa_meta.proofs.MatchSlotLemmas.{plain-answer}
+use Rattle.nfa_meta.proofs.regex.Regex.match_or_part.Goals as goal
+
+pub returns-in-Some-clause-answer : goal.returns-in-Some-clause-answer
+returns-in-Some-clause-answer c =
+    let r = c.args.self.now in
+    let x = search_of c.args.input in
+    let two : slot_count r.nfa.groups ≡ 2 = first_of (search rules, grind (arith, common_steps)) in
+    plain-answer r.nfa (kind_in r) x.earliest x (found_of c.in-Some.found) two c.in-Some.ensures.answer
+
+pub returns-in-Some-clause-inside : goal.returns-in-Some-clause-inside
+returns-in-Some-clause-inside c =
+    let r = c.args.self.now in
+    let x = search_of c.args.input in
+    inside-of r.nfa (kind_in r) x.earliest x (Some c.in-Some.found) c.in-Some.ensures.answer
+
+pub returns-clause-answer : goal.returns-clause-answer
+returns-clause-answer c =
+    let r = c.args.self.now in
+    let x = search_of c.args.input in
+    let two : slot_count r.nfa.groups ≡ 2 = first_of (search rules, grind (arith, common_steps)) in
+    IfOk-weaker c.match_in_window.result _ _ (λ m h. plain-answer r.nfa (kind_in r) x.earliest x (found_of m) two h)
+    (rw c.find_at_first.ensures.same at c.match_in_window.ensures.answer)
+
+pub returns-clause-inside : goal.returns-clause-inside
+returns-clause-inside c =
+    let r = c.args.self.now in
+    let x = search_of c.args.input in
+    IfOk-weaker c.match_in_window.result _ _ (λ m h. inside-of r.nfa (kind_in r) x.earliest x (Some m) h)
+    (rw c.find_at_first.ensures.same at c.match_in_window.ensures.answer)

@@ -1,0 +1,7 @@
+-- The slots of a match.
+use Rattle.std.specs.Prelude.{ℕ, List, [], ◌∷◌, Option, Some}
+use Rattle.regex_search_core.specs.Found.{Found}
+
+-- the two slots of a match
+abbrev pub match_slots : Found → List (Option ℕ)
+match_slots m = Some m.start ∷ Some m.end ∷ []

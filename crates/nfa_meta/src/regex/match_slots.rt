@@ -1,0 +1,96 @@
+//! Searches for slots, if the NFA has only the two of the match.
+ghost use Rattle.std.specs.Prelude.{◌≡◌, ◌⊎◌, ◌<◌, IfErr, IfNone, IfOk, IfSome, Some, length};
+ghost use Rattle.regex_search_core.specs.Found.{found_of};
+ghost use Rattle.regex_search_core.specs.Search.{search_of};
+ghost use Rattle.nfa_paths.specs.Paths.{IsAnswer, IsFindAnswer};
+ghost use Rattle.nfa_search_base.specs.Lists.{IsInside};
+ghost use Rattle.nfa_choice.specs.ChoiceState.{kind_in};
+ghost use Rattle.nfa_meta.specs.MatchSlots.{match_slots};
+ghost use Rattle.nfa_meta.specs.WindowRuns.{AnswersAs, HasNoMatch, IsWindowOf};
+
+use crate::regex::Regex;
+use crate::regex::window::NoWindow;
+use regex_search_core::{Captures, Input, Match, NonMaxUsize};
+
+impl Regex {
+    /// Returns the match of a search for this number of slots, if the match has no others and the lazy DFA finds it.
+    /// Otherwise returns the input that the choice has to search, or `None` in it if nothing matches.
+    pub(super) fn match_or_part<'h>(
+        &mut self,
+        input: Input<'h>,
+        count: usize,
+    ) -> Result<Match, Option<Input<'h>>>
+        ensures answer { let x = search_of input.entry in IfOk result (λ m.
+            IsAnswer self.old.nfa (kind_in self.old) x.earliest x (Some (found_of m).pattern)
+            (match_slots (found_of m))) }
+        ensures count { IfOk result (λ m. count ≡ 2) }
+        ensures pattern { IfOk result (λ m. (found_of m).pattern < length self.old.nfa.patterns) }
+        ensures inside { IfOk result (λ m. IsInside (search_of input.entry) (found_of m)) }
+        ensures nothing { IfErr result (λ part.
+            IfNone part (HasNoMatch self.old.nfa (kind_in self.old) (search_of input.entry))) }
+        ensures part { let x = search_of input.entry in IfErr result (λ rest. IfSome rest (λ part.
+            (search_of part ≡ x) ⊎ IsWindowOf self.old.nfa x (search_of part))) }
+        ensures answers { IfErr result (λ rest. IfSome rest (λ part.
+            AnswersAs self.old.nfa (kind_in self.old) (search_of input.entry) (search_of part))) }
+        ensures same { self.new ≡ self.old }
+    {
+        if count != 2 || self.group_info().slot_len() != 2 {
+            return Err(self.part_to_search(input));
+        }
+        if let Some(found) = self.find_at_first(input) {
+            return Ok(found);
+        }
+        self.match_in_window(input)
+    }
+
+    /// Returns the match of the search, if the lazy DFA finds it in a window. Otherwise returns the input that the
+    /// choice has to search, or `None` in it if nothing matches.
+    fn match_in_window<'h>(&mut self, input: Input<'h>) -> Result<Match, Option<Input<'h>>>
+        ensures answer { let x = search_of input.entry in IfOk result (λ m.
+            IsFindAnswer self.old.nfa (kind_in self.old) x.earliest x (Some (found_of m))) }
+        ensures pattern { IfOk result (λ m. (found_of m).pattern < length self.old.nfa.patterns) }
+        ensures nothing { IfErr result (λ part.
+            IfNone part (HasNoMatch self.old.nfa (kind_in self.old) (search_of input.entry))) }
+        ensures part { let x = search_of input.entry in IfErr result (λ rest. IfSome rest (λ part.
+            (search_of part ≡ x) ⊎ IsWindowOf self.old.nfa x (search_of part))) }
+        ensures answers { IfErr result (λ rest. IfSome rest (λ part.
+            AnswersAs self.old.nfa (kind_in self.old) (search_of input.entry) (search_of part))) }
+        ensures same { self.new ≡ self.old }
+    {
+        match self.window(input) {
+            Ok(None) => {
+                self.matched_at_first = false;
+                Err(None)
+            }
+            Ok(Some(window)) => {
+                let found = self.find_near_start(window);
+                self.matched_at_first = self.is_at_first(&input, found);
+                found.ok_or(Some(window))
+            }
+            Err(NoWindow) => Err(Some(input)),
+        }
+    }
+}
+
+/// Writes the start and the end of the match to the two slots.
+pub(super) fn write_match(found: Match, slots: &mut [Option<NonMaxUsize>])
+    requires two { length slots.old ≡ 2 }
+    requires fits { (found_of found).end < usize.MAX }
+    ensures { slots.new ≡ match_slots (found_of found) }
+{
+    slots[0] = NonMaxUsize::new(found.start());
+    slots[1] = NonMaxUsize::new(found.end());
+}
+
+/// Writes the match to captures of two slots.
+pub(super) fn fill_captures(found: Match, captures: &mut Captures)
+    requires two { length captures.old.slots ≡ 2 }
+    requires fits { (found_of found).end < usize.MAX }
+    ensures { captures.new ≡ record captures.old {
+      pattern = Some (found_of found).pattern;
+      slots = match_slots (found_of found);
+    } }
+{
+    captures.set_pattern(Some(found.pattern()));
+    write_match(found, captures.slots_mut());
+}
