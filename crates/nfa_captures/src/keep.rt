@@ -98,7 +98,8 @@ fn pattern_starts(alloc: Global, nfa: &NFA) -> Result<Vec<StateID>, BuildError>
     Ok(starts)
 }
 
-/// Returns the start state of the pattern of this number. `None` if there is none, or if no search can name the pattern.
+/// Returns the start state of the pattern of this number. `None` if there is none, or if no search can name the
+/// pattern.
 fn pattern_start(nfa: &NFA, index: usize) -> Option<StateID>
     ensures start { IfSome result (λ start. slice_get nfa.now.patterns index ≡ Some start) }
     ensures none { IsNone result → index < length nfa.now.patterns → 2147483646 < index }

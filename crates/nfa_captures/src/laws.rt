@@ -1,7 +1,7 @@
 //! What an NFA with fewer captures answers. Each function is empty: its contract is the theorem.
 //!
-//! Call a law in a function whose proof needs it. The call costs nothing at run time, and the proof of that function can
-//! use its clauses.
+//! Call a law in a function whose proof needs it. The call costs nothing at run time, and the proof of that function
+//! can use its clauses.
 //!
 //! ```
 //! let half = PikeVM::new_from_nfa(keep_captures(alloc, &nfa, WhichCaptures::None)?)?;
@@ -11,8 +11,8 @@
 ghost use Rattle.nfa_captures.specs.CapturesLaws.{AllAreKept, FindsAlike, HalvesAlike, MatchesAlike, SetsAlike};
 ghost use Rattle.nfa_captures.specs.CapturesLaws.{SlotsAlike};
 
-/// Whether there is a match, half matches and sets of patterns are the same with any captures. This holds for each match
-/// kind, `earliest` or not.
+/// Whether there is a match, half matches and sets of patterns are the same with any captures. This holds for each
+/// match kind, `earliest` or not.
 pub fn no_captures_are_needed()
     ensures found { FindsAlike }
     ensures half { HalvesAlike }

@@ -21,8 +21,8 @@ pub(crate) fn kept_states(
     Ok(kept)
 }
 
-/// Copies the state. A `Capture` of a slot from `count` on becomes a `Union` of one alternative, which leads to the same
-/// state.
+/// Copies the state. A `Capture` of a slot from `count` on becomes a `Union` of one alternative, which leads to the
+/// same state.
 fn kept_state(alloc: Global, state: &State, count: usize) -> Result<State, AllocError>
     ensures { IfOk result (λ kept. node_of kept ≡ kept_node count (node_of state.now)) }
 {
