@@ -1,5 +1,6 @@
 mod GoingLemmas
 mod GroupedLemmas
+mod JoinedLemmas
 mod MeantLemmas
 mod NumbersLemmas
 mod PaintedLemmas
@@ -7,4 +8,5 @@ mod PatternLemmas
 mod PrintedLemmas
 mod RecordLemmas
 mod RefusalLemmas
+mod UncolouredLemmas
 mod WhichLemmas

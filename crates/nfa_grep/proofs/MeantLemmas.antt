@@ -19,7 +19,7 @@ use Rattle.nfa_compiler.specs.Laws.{hit}
 use Rattle.nfa_compiler.specs.Patterns.{PatternHit, found_at}
 use Rattle.nfa_compiler.proofs.MeantLemmas.{AreAlike, expected-alike}
 use Rattle.nfa_compiler.proofs.UnboundLemmas.{hit-unbound, loses-none}
-use Rattle.nfa_grep.specs.Meant.{all_found, hit_from, is_found}
+use Rattle.nfa_grep.specs.Meant.{all_found, hit_from, is_found, span_of, spans_of}
 
 -- something is found exactly if there are hits
 
@@ -43,10 +43,13 @@ module _ (res : List Re) (text : List ℕ) where
   found-is = rw add-one (is-hit (hit_from res text) (length text) (hit_from res text 0))
 
   -- these are all matches
-  pub found-if-any : (ms : List Match) (any : Bool) → map found_of ms ≡ all_found res text
+  pub found-if-any : (ms : List Match) (any : Bool) → spans_of (map found_of ms) ≡ spans_of (all_found res text)
       → any ≡ nat_lt 0 (length ms) → any ≡ is_found res text
   found-if-any ms any all is =
-      is ∙ ap (nat_lt 0) (sym (length-map ms found_of) ∙ ap length all) ∙ sym found-is
+      is
+      ∙ ap (nat_lt 0) (sym (length-map ms found_of) ∙ sym (length-map (map found_of ms) span_of) ∙ ap length all
+      ∙ length-map (all_found res text) span_of)
+      ∙ sym found-is
 
 module _ (res : List Re) (nfa : Automaton) (text : List ℕ) (made : IsNfaOf res nfa) (free : FindsFromAnyStart nfa) where
   -- the hit from each place on is that of a search that is not bound to it

@@ -1,6 +1,6 @@
 -- The matches of a text are printed one by one.
-use Rattle.std.proofs.Common.{◌≡◌, ◌∙◌, ℕ, ◌+◌, ◌-◌, ◌<◌, Bool, false, List, ◌∷◌, ◌++◌, append_assoc}
-use Rattle.std.proofs.Common.{ap, arith, drop, get_or, length, map, ne_eqb, subst, sym}
+use Rattle.std.proofs.Common.{◌≡◌, ◌∙◌, ℕ, ◌+◌, ◌-◌, ◌<◌, Bool, false, List, [], ◌∷◌, ◌++◌, append_assoc}
+use Rattle.std.proofs.Common.{ap, arith, drop, get_or, length, map, ne_eqb, refl, subst, sym}
 use Rattle.std.specs.Prelude.{Option, None, Some, ◌==◌, if◌then◌else◌, not, slice_range}
 use Rattle.std.proofs.lemmas.List.{drop_more, length-drop, take_all}
 use Rattle.regex_search_core.specs.Found.{Found, found_of}
@@ -10,10 +10,11 @@ use Rattle.nfa_engines.specs.Lists.{AreDisjoint}
 use Rattle.nfa_meta.specs.Gaps.{last_end}
 use Rattle.text_lines.specs.Lines.{with_end}
 use Rattle.regex_hir.specs.Re.{Re}
-use Rattle.nfa_grep.specs.Meant.{all_found}
+use Rattle.nfa_grep.specs.Meant.{all_found, span_of, spans_of}
 use Rattle.nfa_grep.specs.Printed.{painted_line, text_of}
 use Rattle.nfa_grep.specs.declared.options.Options.{Options}
-use Rattle.nfa_grep.specs.Painted.{HasPainted, in_colours, matched_from, painted, painted_text, parts_from}
+use Rattle.nfa_grep.specs.Painted.{HasPainted, Part, bare_part, in_colours, matched_from, painted, painted_text, part_of}
+use Rattle.nfa_grep.specs.Painted.{parts_from}
 use Rattle.nfa_grep.specs.declared.paint.Colour.TheVariants as paint
 
 -- one more match was printed
@@ -42,10 +43,24 @@ painted-more text ms i found from next before out after less item printed is end
       apart = subst (λ (o : Option ℕ). AreDisjoint (whole text) o rest) last (apart.2);
     })
 
+-- the parts of a text do not depend on the numbers of the patterns that match
+parts-same : (text : List ℕ) (from : ℕ) (ms ns : List Found) → spans_of ms ≡ spans_of ns
+    → parts_from text from ms ≡ parts_from text from ns
+parts-same text from [] [] same = refl
+parts-same text from [] (n ∷ ns) same = absurd (cc)
+parts-same text from (m ∷ ms) [] same = absurd (cc)
+parts-same text from (m ∷ ms) (n ∷ ns) same =
+    let one : span_of m ≡ span_of n = cc in
+    let rest : spans_of ms ≡ spans_of ns = cc in
+    let at : ℕ × ℕ → List Part = λ span. bare_part (slice_range text from span.0)
+    ∷ (part_of text (record { pattern = 0; start = span.0; end = span.1 }) ∷ parts_from text span.1 ms) in
+    ap at one ∙ ap (λ (l : List Part). bare_part (slice_range text from n.start) ∷ (part_of text n ∷ l))
+    (parts-same text n.end ms ns rest)
+
 -- a line was printed in colours
 pub line-shown : (options : Options) (res : List Re) (line text : List ℕ) (list : List Found)
     (out middle after : List ℕ) (end : ℕ) → text ≡ text_of options line
-    → list ≡ all_found res (text_of options line) → middle ≡ out ++ painted_text text list
+    → spans_of list ≡ spans_of (all_found res (text_of options line)) → middle ≡ out ++ painted_text text list
     → after ≡ middle ++ with_end end (slice_range line (length text) (length line)) → end ≡ options.end
     → after ≡ out ++ painted_line options res line
 line-shown options res line text list out middle after end text-is list-is middle-is is end-is =
@@ -57,5 +72,6 @@ line-shown options res line text list out middle after end text-is list-is middl
     ∙ append_assoc out (painted_text text list) (with_end end (drop (length text) line))
     ∙ ap (λ (n : ℕ). out ++ (painted_text text list ++ with_end n (drop (length text) line))) end-is
     ∙ ap (λ (l : List ℕ). out ++ (painted_text l list ++ with_end options.end (drop (length l) line))) text-is
-    ∙ ap (λ (l : List Found). out ++ (painted_text (text_of options line) l
-    ++ with_end options.end (drop (length (text_of options line)) line))) list-is
+    ∙ ap (λ (parts : List Part). out ++ (in_colours parts
+    ++ with_end options.end (drop (length (text_of options line)) line)))
+    (parts-same (text_of options line) 0 list (all_found res (text_of options line)) list-is)

@@ -12,7 +12,7 @@ use Rattle.regex_syntax.specs.declared.Parsed.{Parsed}
 use Rattle.thompson_nfa.specs.Automaton.{Automaton}
 use Rattle.nfa_compiler.specs.Compiled.{IsMeant, IsNfaOf, IsTreeOf, res_of}
 use Rattle.nfa_compiler.proofs.MeantLemmas.{all-meant}
-use Rattle.nfa_grep.specs.Meant.{ArePatterns, IsBuilt, IsReadFrom, bounded}
+use Rattle.nfa_grep.specs.Meant.{ArePatterns, IsBuilt, IsOfAll, IsReadFrom, IsSearched, bounded}
 use Rattle.nfa_grep.specs.declared.options.Bounds.{Bounds}
 use Rattle.nfa_grep.specs.declared.options.Bounds.TheVariants.{Anywhere, Words, Line}
 use Rattle.nfa_grep.specs.declared.options.Options.{Options}
@@ -46,6 +46,10 @@ module _ (options : Options) (texts : List (List ℕ)) (trees : List Parsed)
     (read : AllZip (IsReadFrom options) texts trees) where
   pub built : (nfa : Automaton) → IsNfaOf (res_of trees) nfa → IsBuilt options texts nfa
   built nfa made =
+      record { trees = res_of trees; made = made; same = λ res are. trees-alike options texts trees res read are }
+
+  pub searched : (nfa : Automaton) → IsOfAll (res_of trees) nfa → IsSearched options texts nfa
+  searched nfa made =
       record { trees = res_of trees; made = made; same = λ res are. trees-alike options texts trees res read are }
 
   pub which-built : (wanted : Bool) (which : Option Automaton)

@@ -8,16 +8,16 @@ use Rattle.std.proofs.lemmas.List.{length-map, map-append}
 use Rattle.regex_hir.specs.Re.{Re}
 use Rattle.regex_search_core.specs.Found.{Found, found_of}
 use Rattle.regex_search_core.specs.declared.search.Match.{Match}
-use Rattle.nfa_grep.specs.Meant.{is_found}
+use Rattle.nfa_grep.specs.Meant.{is_found, span_of, spans_of}
 use Rattle.nfa_grep.specs.Printed.{colon, comma, is_selected, mark_of, pieces, shown, shown_if_selected}
 use Rattle.nfa_grep.specs.Printed.{shown_matches, shown_whole, text_of}
 use Rattle.nfa_grep.specs.declared.options.Options.{Options}
 use Rattle.nfa_grep.proofs.MeantLemmas.{all-none}
 
-pub flat-of-found : (f : Found → List ℕ) (ms : List Match)
-    → flat_map (λ m. f (found_of m)) ms ≡ flat_map f (map found_of ms)
+pub flat-of-found : (f : ℕ × ℕ → List ℕ) (ms : List Match)
+    → flat_map (λ m. f (span_of (found_of m))) ms ≡ flat_map f (spans_of (map found_of ms))
 flat-of-found f [] = refl
-flat-of-found f (m ∷ ms) = ap (λ l. f (found_of m) ++ l) (flat-of-found f ms)
+flat-of-found f (m ∷ ms) = ap (λ l. f (span_of (found_of m)) ++ l) (flat-of-found f ms)
 
 -- with `only`, a line without matches gives nothing, as if it had been selected
 pub shown-matches : (options : Options) (res : List Re) (name : List ℕ) (number offset : ℕ) (line : List ℕ)
@@ -28,7 +28,7 @@ shown-matches options res name number offset line only straight =
     let all = pieces options colon name (mark_of options res line) number offset line in
     rw (only, straight) (elim (cases_Bool (is_found res (text_of options line))) [
       | inl found ↦ rw found refl
-      | inr none ↦ rw none (sym (ap all (all-none res (text_of options line) none)))
+      | inr none ↦ rw none (sym (ap (λ (ms : List Found). all (spans_of ms)) (all-none res (text_of options line) none)))
     ])
 
 -- a whole line that is selected

@@ -5,3 +5,4 @@ pub mod Painted
 pub mod Printed
 pub mod Refusals
 pub mod Texts
+pub mod Uncoloured

@@ -1,8 +1,8 @@
 -- What patterns mean, and what they find in a line, in the words of the reference matcher.
-use Rattle.std.specs.Prelude.{◌≡◌, ℕ, ◌+◌, Bool, false, List, [], ◌∷◌, length, map, Option, is_some, chars}
+use Rattle.std.specs.Prelude.{◌≡◌, ℕ, ◌+◌, ◌⊎◌, Bool, false, List, [], ◌∷◌, length, map, Option, is_some, chars}
 use Rattle.std.specs.Prelude.{encode_utf8_all, if◌then◌else◌}
 use Rattle.std.specs.List.{AllZip}
-use Rattle.regex_hir.specs.Meaning.{cat_all, meaning}
+use Rattle.regex_hir.specs.Meaning.{alt_all, cat_all, meaning}
 use Rattle.regex_hir.specs.Re.{Re, look}
 use Rattle.regex_hir.specs.declared.look.Look.TheVariants.{Start, End, WordStartHalfUnicode, WordEndHalfUnicode}
 use Rattle.regex_search_core.specs.Found.{Found}
@@ -57,6 +57,16 @@ pub record IsBuilt (options : Options) (texts : List (List ℕ)) (nfa : Automato
   pub made : IsNfaOf trees nfa
   pub same : (res : List Re) → ArePatterns options texts res → AllZip SameCaptures trees res
 
+-- the NFA is made of these patterns, or of one pattern that tries them in order
+abbrev pub IsOfAll : List Re → Automaton → Type 0
+IsOfAll res nfa = IsNfaOf res nfa ⊎ IsNfaOf (alt_all res ∷ []) nfa
+
+-- the same, of patterns that match as what the texts mean
+pub record IsSearched (options : Options) (texts : List (List ℕ)) (nfa : Automaton) : Type 0 where
+  pub trees : List Re
+  pub made : IsOfAll trees nfa
+  pub same : (res : List Re) → ArePatterns options texts res → AllZip SameCaptures trees res
+
 -- the first hit that starts at an offset or after it: of the first of the patterns that matches there
 abbrev pub hit_from : List Re → List ℕ → ℕ → Option PatternHit
 hit_from res text i = expected res false (record (whole text) { start = i })
@@ -68,6 +78,14 @@ is_found res text = is_some (hit_from res text 0)
 -- where all hits in the text are, from left to right
 abbrev pub all_found : List Re → List ℕ → List Found
 all_found res text = map found_at (hits_from (hit_from res text) (length text + 1) (hit_from res text 0))
+
+-- where a match starts and ends
+abbrev pub span_of : Found → ℕ × ℕ
+span_of m = (m.start, m.end)
+
+-- the same of each of these
+abbrev pub spans_of : List Found → List (ℕ × ℕ)
+spans_of ms = map span_of ms
 
 -- for each of the patterns, whether it matches somewhere in the text
 abbrev pub which_found : List Re → List ℕ → List Bool

@@ -3,10 +3,9 @@ use Rattle.std.specs.Prelude.{ℕ, ◌+◌, ◌-◌, Bool, true, false, not, ◌
 use Rattle.std.specs.Prelude.{decimal, drop, min, if◌then◌else◌, ◌==◌, slice_range}
 use Rattle.std.specs.List.{count_by, flat_map, join_with_byte}
 use Rattle.regex_hir.specs.Re.{Re}
-use Rattle.regex_search_core.specs.Found.{Found}
 use Rattle.text_lines.specs.Lines.{line_feed, record_content, records_of, with_end}
 use Rattle.nfa_grep.specs.Grouped.{Item, context_of, grouped, left_after}
-use Rattle.nfa_grep.specs.Meant.{all_found, is_found, numbers_found}
+use Rattle.nfa_grep.specs.Meant.{all_found, is_found, numbers_found, spans_of}
 use Rattle.nfa_grep.specs.Painted.{label, painted, painted_text}
 use Rattle.nfa_grep.specs.declared.options.Context.{Context}
 use Rattle.nfa_grep.specs.declared.options.Options.{Options}
@@ -58,16 +57,17 @@ head options end name mark number offset =
     label_of options end name ++ (marked options end mark ++ (numbered options.coloured options.numbers end number
     ++ numbered options.coloured options.offsets end offset))
 
--- what is printed of a match: nothing of an empty one
-abbrev pub piece : Options → ℕ → List ℕ → List ℕ → ℕ → ℕ → List ℕ → Found → List ℕ
-piece options end name mark number offset line m =
-    if m.start == m.end then []
-    else (head options end name mark number (offset + m.start)
-    ++ (painted options.coloured Match (slice_range line m.start m.end) ++ options.end ∷ []))
+-- what is printed of a match that starts and ends there: nothing of an empty one
+abbrev pub piece : Options → ℕ → List ℕ → List ℕ → ℕ → ℕ → List ℕ → ℕ × ℕ → List ℕ
+piece options end name mark number offset line span =
+    if span.0 == span.1 then []
+    else (head options end name mark number (offset + span.0)
+    ++ (painted options.coloured Match (slice_range line span.0 span.1) ++ options.end ∷ []))
 
 -- what is printed of these matches, in order
-abbrev pub pieces : Options → ℕ → List ℕ → List ℕ → ℕ → ℕ → List ℕ → List Found → List ℕ
-pieces options end name mark number offset line ms = flat_map (piece options end name mark number offset line) ms
+abbrev pub pieces : Options → ℕ → List ℕ → List ℕ → ℕ → ℕ → List ℕ → List (ℕ × ℕ) → List ℕ
+pieces options end name mark number offset line spans =
+    flat_map (piece options end name mark number offset line) spans
 
 -- whether the line is selected
 abbrev pub is_selected : Options → List Re → List ℕ → Bool
@@ -77,7 +77,8 @@ is_selected options res line =
 -- what is printed of the matches in a line
 abbrev pub shown_matches : Options → ℕ → List Re → List ℕ → ℕ → ℕ → List ℕ → List ℕ
 shown_matches options end res name number offset line =
-    pieces options end name (mark_of options res line) number offset line (all_found res (text_of options line))
+    pieces options end name (mark_of options res line) number offset line
+    (spans_of (all_found res (text_of options line)))
 
 -- Whether the matches of a whole line are in colour: those of lines that are selected, and if these are the lines
 -- without a match, those of the others.

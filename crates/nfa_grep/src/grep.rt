@@ -6,19 +6,20 @@ ghost use Rattle.regex_search_core.specs.Found.{found_of};
 ghost use Rattle.regex_search_core.specs.Search.{whole};
 ghost use Rattle.nfa_engines.specs.Lists.{AreDisjoint, IsInside};
 ghost use Rattle.nfa_compiler.specs.Compiled.{IsNfaOf, res_of};
-ghost use Rattle.nfa_grep.specs.Meant.{Mean, all_found, is_found};
+ghost use Rattle.nfa_grep.specs.Meant.{Mean, all_found, is_found, span_of, spans_of};
 ghost use Rattle.nfa_grep.specs.Printed.{has_colours, is_selected, mark_of, painted_line, piece, pieces, shown};
 ghost use Rattle.nfa_grep.specs.Printed.{shown_if_selected, shown_line, shown_matches, shown_whole, text_of};
 ghost use Rattle.nfa_grep.specs.Refusals.{IsOfPatterns, IsTextRefusal, IsTreeRefusal};
 ghost use Rattle.text_lines.specs.Lines.{with_end};
 
 use crate::fault::Fault;
+use crate::joined::nfa_of;
 use crate::line::{Place, append_head};
 use crate::options::Options;
 use crate::paint::{Colour, append_matched, append_painted};
-use crate::pattern::{described, read_patterns};
+use crate::pattern::read_patterns;
 use crate::which::Which;
-use nfa_compiler::{Compiler, Config, Parsed, laws};
+use nfa_compiler::{Parsed, laws};
 use nfa_meta::Regex;
 use regex_search_core::{Input, Match};
 use std::alloc::{AllocError, Global};
@@ -42,13 +43,13 @@ impl<'p> Model for Grep<'p> {
     ghost use Rattle.std.specs.Prelude.{◌≡◌, MatchOption, None, false, map, true};
     ghost use Rattle.nfa_compiler.specs.AnyStart.{FindsFromAnyStart};
     ghost use Rattle.nfa_engines.specs.Paths.{is_utf8_empty};
-    ghost use Rattle.nfa_grep.specs.Meant.{Grepping, IsBuilt};
+    ghost use Rattle.nfa_grep.specs.Meant.{Grepping, IsBuilt, IsSearched};
 
     ghost Value = { Grepping };
 
     ghost view = { λ g. record { patterns = map (λ text. text.now) g.patterns.now; options = g.options } };
 
-    ghost invariant = { λ g. IsBuilt g.options (map (λ text. text.now) g.patterns.now) g.regex.nfa
+    ghost invariant = { λ g. IsSearched g.options (map (λ text. text.now) g.patterns.now) g.regex.nfa
         × (is_utf8_empty g.regex.nfa ≡ false) × FindsFromAnyStart g.regex.nfa
         × (g.regex.match_kind ≡ None)
         × MatchOption g.which (g.options.which ≡ false)
@@ -64,14 +65,7 @@ impl<'p> Grep<'p> {
             ⊎ IsOfPatterns options (map (λ text. text.now) patterns.now) fault) }
     {
         let trees = read_patterns(alloc, options, patterns)?;
-        let config = Config::new().utf8(false);
-        let nfa = match Compiler::new()
-            .configure(config)
-            .build_many_from_hir(alloc, &trees)
-        {
-            Ok(nfa) => nfa,
-            Err(error) => return Err(described(patterns.len(), error)),
-        };
+        let nfa = nfa_of(alloc, &trees)?;
         let regex = Regex::new_from_nfa(alloc, nfa)?;
         let which = which_of(alloc, options.which, &trees)?;
         Ok(Grep {
@@ -120,7 +114,7 @@ impl<'p> Grep<'p> {
     /// Returns all matches in the text of a line, from left to right.
     fn matches(&mut self, text: &[u8]) -> Result<Vec<Match>, AllocError>
         ensures all { IfOk result (λ found. (res : List Re) → Mean self.old res
-            → map found_of found.items ≡ all_found res text.now) }
+            → spans_of (map found_of found.items) ≡ spans_of (all_found res text.now)) }
         ensures inside { IfOk result (λ found. All (λ m. IsInside (whole text.now) (found_of m)) found.items) }
         ensures apart { IfOk result (λ found. AreDisjoint (whole text.now) None (map found_of found.items)) }
         ensures kept { self.new ≡ self.old }
@@ -320,7 +314,7 @@ fn append_pieces(
     requires inside { All (λ m. (found_of m).end ≤ length line.now) matches.now }
     ensures { OnOk result (out.new.items ≡ out.old.items
         ++ pieces options place.entry.end place.entry.name.now mark.now place.entry.number place.entry.offset line.now
-        (map found_of matches.now)) }
+        (spans_of (map found_of matches.now))) }
 {
     for found in matches {
         append_piece(options, place, mark, line, *found, out)?;
@@ -341,7 +335,7 @@ fn append_piece(
     requires inside { (found_of found).end ≤ length line.now }
     ensures { OnOk result (out.new.items ≡ out.old.items
         ++ piece options place.entry.end place.entry.name.now mark.now place.entry.number place.entry.offset line.now
-        (found_of found)) }
+        (span_of (found_of found))) }
 {
     if found.start() == found.end() {
         return Ok(());

@@ -9,6 +9,7 @@ mod files;
 mod flags;
 mod grep;
 mod groups;
+mod joined;
 mod line;
 mod options;
 mod paint;

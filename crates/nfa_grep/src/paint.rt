@@ -4,9 +4,16 @@ ghost use Rattle.regex_search_core.specs.Found.{found_of};
 ghost use Rattle.regex_search_core.specs.Search.{whole};
 ghost use Rattle.nfa_engines.specs.Lists.{AreDisjoint, IsInside};
 ghost use Rattle.nfa_grep.specs.Painted.{label, matched_from, painted, painted_text, start_of};
+ghost use Rattle.nfa_grep.specs.Uncoloured.{ColoursCanBeLeftOut, PartsAreTheText};
 
 use regex_search_core::Match;
 use std::alloc::AllocError;
+
+/// A text with matches in colour is the text once the colours are left out.
+pub fn colours_are_around()
+    ensures parts { PartsAreTheText }
+    ensures bytes { ColoursCanBeLeftOut }
+{}
 
 /// What has a colour.
 #[derive(Clone, Copy, Debug, PartialEq, Eq)]

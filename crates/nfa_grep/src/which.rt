@@ -12,9 +12,9 @@ ghost use Rattle.nfa_grep.specs.Refusals.{IsTreeRefusal};
 ghost use Rattle.nfa_grep.specs.declared.options.Options.{Options};
 
 use crate::fault::Fault;
-use crate::pattern::described;
+use crate::joined::separate;
 use itoa::Buffer;
-use nfa_compiler::{Compiler, Config, Parsed, laws};
+use nfa_compiler::{Parsed, laws};
 use nfa_engines::pikevm::{Cache, PikeVM};
 use regex_search_core::{Input, MatchKind, PatternSet, Refused};
 use std::alloc::{AllocError, Global};
@@ -51,14 +51,7 @@ impl Which {
         ensures made { IfOk result (IsNfaOf (res_of patterns.now)) }
         ensures refused { IfErr result (IsTreeRefusal (length patterns.now) (res_of patterns.now)) }
     {
-        let config = Config::new().utf8(false);
-        let nfa = match Compiler::new()
-            .configure(config)
-            .build_many_from_hir(alloc, patterns)
-        {
-            Ok(nfa) => nfa,
-            Err(error) => return Err(described(patterns.len(), error)),
-        };
+        let nfa = separate(alloc, patterns)?;
         let kind = PikeVM::config().match_kind(MatchKind::All);
         // It is always `Ok`.
         let Ok(vm) = PikeVM::builder().configure(kind).build_from_nfa(nfa) else {

@@ -4,6 +4,7 @@ use Rattle.std.proofs.lemmas.List.{take_all}
 use Rattle.std.specs.List.{flat_map}
 use Rattle.regex_search_core.specs.Found.{found_of}
 use Rattle.regex_search_core.specs.declared.search.Match.{Match}
+use Rattle.nfa_grep.specs.Meant.{span_of}
 use Rattle.nfa_grep.specs.Printed.{piece}
 use Rattle.nfa_grep.proofs.PrintedLemmas.{flat-of-found}
 use Rattle.nfa_grep.proofs.grep.append_pieces.Goals as goal
@@ -15,5 +16,5 @@ returns c =
     let one = piece c.args.options place.end place.name.now c.args.mark.now place.number place.offset c.args.line.now in
     let all = take_all c.loop-found.found-index ms (omega (arith, c.loop-found-test.false)) in
     c.loop-found.invariant
-    ∙ ap (λ (l : List Match). c.args.out.now.items ++ flat_map (λ m. one (found_of m)) l) all
+    ∙ ap (λ (l : List Match). c.args.out.now.items ++ flat_map (λ m. one (span_of (found_of m))) l) all
     ∙ ap (λ l. c.args.out.now.items ++ l) (flat-of-found one ms)

@@ -2,11 +2,12 @@
 use Rattle.std.proofs.Common.{◌≡◌, ◌++◌, take}
 use Rattle.std.specs.List.{flat_map}
 use Rattle.regex_search_core.specs.Found.{found_of}
+use Rattle.nfa_grep.specs.Meant.{span_of}
 use Rattle.nfa_grep.specs.Printed.{piece}
 use Rattle.nfa_grep.proofs.grep.append_pieces.Given as goal
 
 abbrev pub invariant-loop-found : goal.invariant-loop-found
 invariant-loop-found l = l.out.items ≡ l.fn.out.items
     ++ flat_map (λ m. piece l.options l.place.end l.place.name.now l.mark l.place.number l.place.offset
-    l.line (found_of m))
+    l.line (span_of (found_of m)))
     (take l.found-index l.matches)

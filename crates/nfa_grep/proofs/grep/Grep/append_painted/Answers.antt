@@ -1,7 +1,9 @@
 -- The line was printed, with all its matches.
-use Rattle.std.proofs.Common.{◌∙◌, ap, map}
+use Rattle.std.proofs.Common.{◌∙◌, List, ap, map}
 use Rattle.std.proofs.lemmas.Result.{on_ok_weaker}
 use Rattle.regex_search_core.specs.Found.{found_of}
+use Rattle.regex_search_core.specs.declared.search.Match.{Match}
+use Rattle.nfa_grep.specs.Meant.{spans_of}
 use Rattle.nfa_grep.specs.declared.options.Options.{Options}
 use Rattle.nfa_grep.proofs.PaintedLemmas.{line-shown}
 use Rattle.nfa_grep.proofs.grep.Grep.append_painted.Goals as goal
@@ -12,6 +14,6 @@ returns-clause-shown c =
     let all = rw c.text_of-text.ensures at (c.in_ok-matches.ensures.all res meant) in
     line-shown c.args.self.now.options res c.args.line.now c.text_of-text.result.now
     (map found_of c.deref.result.now) c.args.out.now.items c.append_matched.new.out.items _ _ c.text_of-text.ensures
-    (ap (map found_of) c.deref.ensures.value ∙ all) c.in_ok-append_matched.ensures appended
+    (ap (λ (ms : List Match). spans_of (map found_of ms)) c.deref.ensures.value ∙ all) c.in_ok-append_matched.ensures appended
     (ap (λ (o : Options). o.end) c.options-end.ensures))
     c.append_record.ensures

@@ -3,7 +3,8 @@ use Rattle.std.proofs.Common.{◌∙◌, arith, refl, subst, sym}
 use Rattle.regex_search_core.specs.Search.{whole}
 use Rattle.nfa_compiler.proofs.CallLemmas.{bytes-of}
 use Rattle.nfa_grep.specs.Meant.{Grepping, Mean}
-use Rattle.nfa_grep.proofs.MeantLemmas.{found-of-hit, found-same}
+use Rattle.nfa_grep.proofs.JoinedLemmas.{found-of-all}
+use Rattle.nfa_grep.proofs.MeantLemmas.{found-same}
 use Rattle.nfa_grep.proofs.grep.Grep.finds.Goals as goal
 
 pub returns-clause-found : goal.returns-clause-found
@@ -13,10 +14,10 @@ returns-clause-found c = λ res meant.
     let bytes = bytes-of text (λ k. omega (arith, c.type_inv.text k)) in
     let inv = c.self.invariant in
     let meant-inside = subst (λ (g : Grepping). Mean g res) (sym c.self.view_is) meant in
-    let law = c.searches_find_hits.ensures.found inv.0.trees nfa _ _ (whole text) _ inv.0.made inv.1 (record {
+    found-of-all inv.0.trees nfa text inv.2 c.is_match.result inv.0.made (λ some made.
+    c.searches_find_hits.ensures.found some nfa _ _ (whole text) _ made inv.1 (record {
       leftmost = rw inv.3 refl;
       latest = refl;
       whole = refl;
-    }) (rw c.new.ensures at c.is_match.ensures.answer) in
-    law ∙ found-of-hit inv.0.trees nfa text inv.0.made inv.2
+    }) (rw c.new.ensures at c.is_match.ensures.answer))
     ∙ found-same text bytes inv.0.trees res (inv.0.same res meant-inside)

@@ -3,8 +3,9 @@ use Rattle.std.proofs.Common.{◌∙◌, ap, arith, map, refl, subst, sym}
 use Rattle.regex_search_core.specs.Found.{found_of}
 use Rattle.regex_search_core.specs.Search.{Search, whole}
 use Rattle.nfa_compiler.proofs.CallLemmas.{bytes-of}
-use Rattle.nfa_grep.specs.Meant.{Grepping, Mean}
-use Rattle.nfa_grep.proofs.MeantLemmas.{all-found-same, found-of-hits}
+use Rattle.nfa_grep.specs.Meant.{Grepping, Mean, spans_of}
+use Rattle.nfa_grep.proofs.JoinedLemmas.{spans-of-all}
+use Rattle.nfa_grep.proofs.MeantLemmas.{all-found-same}
 use Rattle.nfa_grep.proofs.grep.Grep.matches.Goals as goal
 
 pub returns-clause-all : goal.returns-clause-all
@@ -14,10 +15,10 @@ returns-clause-all c = λ res meant.
     let bytes = bytes-of text (λ k. omega (arith, c.type_inv.text k)) in
     let inv = c.self.invariant in
     let meant-inside = subst (λ (g : Grepping). Mean g res) (sym c.self.view_is) meant in
-    found-of-hits inv.0.trees nfa text inv.0.made inv.2 (map found_of c.in-Ok.matches.items)
-    (c.iterations_find_all_hits.ensures.matches inv.0.trees nfa _ _ (whole text) _ inv.0.made inv.1 (record {
+    spans-of-all inv.0.trees nfa text inv.2 (map found_of c.in-Ok.matches.items) inv.0.made (λ some made.
+    c.iterations_find_all_hits.ensures.matches some nfa _ _ (whole text) _ made inv.1 (record {
       leftmost = rw inv.3 refl;
       latest = ap (λ (s : Search). s.earliest) c.new.ensures;
       whole = refl;
     }) (rw c.new.ensures at c.in-Ok.ensures.all))
-    ∙ all-found-same text bytes inv.0.trees res (inv.0.same res meant-inside)
+    ∙ ap spans_of (all-found-same text bytes inv.0.trees res (inv.0.same res meant-inside))

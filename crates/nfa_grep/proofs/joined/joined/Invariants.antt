@@ -1,0 +1,8 @@
+-- The trees so far were copied.
+use Rattle.std.proofs.Common.{◌≡◌, map, take}
+use Rattle.regex_hir.specs.Meaning.{meaning}
+use Rattle.nfa_compiler.specs.Compiled.{res_of}
+use Rattle.nfa_grep.proofs.joined.joined.Given as goal
+
+abbrev pub invariant-loop-tree : goal.invariant-loop-tree
+invariant-loop-tree l = map meaning l.branches.items ≡ res_of (take l.tree-index l.trees)
