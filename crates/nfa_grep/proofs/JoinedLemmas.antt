@@ -1,5 +1,5 @@
 -- The hits of an alternation are those of its branches, but for the numbers of the patterns.
-use Rattle.std.proofs.Common.{◌≡◌, ◌∙◌, ℕ, zero, suc, ◌+◌, ◌-◌, ◌≤◌, Bool, false, inl, inr, List, [], ◌∷◌, length}
+use Rattle.std.proofs.Common.{◌≡◌, ◌∙◌, ℕ, zero, suc, ◌+◌, ◌-◌, ◌≤◌, Bool, inl, inr, List, [], ◌∷◌, length}
 use Rattle.std.proofs.Common.{map, refl, ap, ap₂, arith}
 use Rattle.std.specs.Prelude.{Option, None, Some, is_some, option_map, if◌then◌else◌, nat_lt, ◌==◌}
 use Rattle.std.specs.Option.{option_or}

@@ -28,7 +28,8 @@ shown-matches options res name number offset line only straight =
     let all = pieces options colon name (mark_of options res line) number offset line in
     rw (only, straight) (elim (cases_Bool (is_found res (text_of options line))) [
       | inl found ↦ rw found refl
-      | inr none ↦ rw none (sym (ap (λ (ms : List Found). all (spans_of ms)) (all-none res (text_of options line) none)))
+      | inr none ↦
+          rw none (sym (ap (λ (ms : List Found). all (spans_of ms)) (all-none res (text_of options line) none)))
     ])
 
 -- a whole line that is selected

@@ -14,6 +14,6 @@ returns-clause-shown c =
     let all = rw c.text_of-text.ensures at (c.in_ok-matches.ensures.all res meant) in
     line-shown c.args.self.now.options res c.args.line.now c.text_of-text.result.now
     (map found_of c.deref.result.now) c.args.out.now.items c.append_matched.new.out.items _ _ c.text_of-text.ensures
-    (ap (λ (ms : List Match). spans_of (map found_of ms)) c.deref.ensures.value ∙ all) c.in_ok-append_matched.ensures appended
-    (ap (λ (o : Options). o.end) c.options-end.ensures))
+    (ap (λ (ms : List Match). spans_of (map found_of ms)) c.deref.ensures.value ∙ all)
+    c.in_ok-append_matched.ensures appended (ap (λ (o : Options). o.end) c.options-end.ensures))
     c.append_record.ensures

@@ -11,7 +11,8 @@ invariant_of-result c =
     let trees = c.in_ok-trees.trees.items in
     let read = c.in_ok-trees.ensures.read in (
       rw c.in_ok-regex.ensures.made
-          (searched c.args.options texts trees read c.in_ok-nfa.nfa (rw c.deref.ensures.value at c.in_ok-nfa.ensures.made)),
+          (searched c.args.options texts trees read c.in_ok-nfa.nfa
+          (rw c.deref.ensures.value at c.in_ok-nfa.ensures.made)),
       search rules,
       search rules,
       search rules,
