@@ -3,7 +3,7 @@
 
 use super::samples::regex_of;
 use nfa_compiler::Compiler;
-use nfa_engines::{Input, Span};
+use nfa_engines::{Input, NonMaxUsize, Span};
 use nfa_lazy_dfa::DFA;
 use nfa_meta::{Engine, Regex};
 use std::alloc::Global;
@@ -54,6 +54,32 @@ fn the_lazy_dfa_answers_if_it_can(rt: HostRuntime) {
     assert_eq!(&rt; half.map(|half| half.offset()), Some(7));
     assert_eq!(&rt; regex.find(Input::new(b"a fo12")), None);
     assert_eq!(&rt; regex.ran(), None);
+}
+
+/// Searches for two slots, and expects a match with this span, or none.
+fn expect_slots(rt: &impl Abort, regex: &mut Regex, text: &[u8], span: Option<(usize, usize)>) {
+    let mut slots = [None; 2];
+    let pattern = regex.search_slots(&Input::new(text), &mut slots);
+    let wanted = match span {
+        Some((start, end)) => [NonMaxUsize::new(start), NonMaxUsize::new(end)],
+        None => [None; 2],
+    };
+    assert!(rt; pattern.is_some() == span.is_some() && slots == wanted);
+}
+
+// The NFA has only the two slots of a match.
+#[test]
+fn the_lazy_dfa_fills_two_slots(rt: HostRuntime) {
+    let alloc = rt.alloc();
+    let mut regex = regex_by(&rt, alloc, "foo[0-9]+");
+    expect_slots(&rt, &mut regex, b"a foo12", Some((2, 7)));
+    expect_slots(&rt, &mut regex, b"a fo12", None);
+    let mut captures = regex.create_captures(alloc).expect(&rt, "memory");
+    regex.search(&Input::new(b"foo1 foo2"), &mut captures);
+    assert_eq!(&rt; captures.get_group(0), Some(Span { start: 0, end: 4 }));
+    assert_eq!(&rt; regex.ran(), None);
+    regex.search_slots(&Input::new(b"a foo12"), &mut [None; 3]);
+    assert_eq!(&rt; regex.ran(), Some(Engine::Backtracker));
 }
 
 // A pattern that matches the empty string matches at the start of each search, up to a byte that splits a codepoint.
