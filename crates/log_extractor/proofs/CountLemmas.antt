@@ -1,6 +1,6 @@
 -- How values are counted, and how the counts are listed.
 use Rattle.std.proofs.Common.{◌≡◌, ◌∙◌, ℕ, zero, suc, ◌+◌, ◌<◌, ◌≤◌, Bool, true, false, cond, List, [], ◌∷◌, ◌++◌, All, length, map, refl, sym, ap, subst, arith, inl, inr, get_or, append_assoc, append-nil}
-use Rattle.std.specs.Prelude.{◌⊎◌, Option, None, Some, IfSome, flat_map, slice_get, string_bytes, unwrap_or}
+use Rattle.std.specs.Prelude.{◌⊎◌, Option, String, None, Some, IfSome, flat_map, slice_get, string_bytes, unwrap_or}
 use Rattle.std.specs.Borrow.{Bor}
 use Rattle.std.specs.BTreeMap.{BTreeMap, IsEmpty, IsOrdered, UpdatesBy, is_at}
 use Rattle.std.specs.Cmp.Lexicographic.{slice_cmp, bytes_decides, nat_list_cmp_total, nat_list_eq_equiv}
@@ -9,26 +9,24 @@ use Rattle.std.specs.Global.{Vec}
 use Rattle.std.specs.List.{AllAdjacentBelow, AllByRecursion, Contains, IsDistinct}
 use Rattle.std.specs.List.Sorted.{IsPermutation, IsSorted, IsStrictlySortedBy}
 use Rattle.std.specs.Map.{KeepsOthers, AreApart, IsKeyTest, keys_of, lookup}
-use Rattle.std.specs.Ordering.{eq_by_cmp, is_eq, is_lt, nat_cmp, ordering_then}
+use Rattle.std.specs.Ordering.{is_eq, is_lt, nat_cmp, ordering_then}
 use Rattle.std.specs.Str.{bytes_eq}
+use Rattle.std.specs.declared.alloc.Global.{Global}
 use Rattle.std.specs.declared.cmp.Ordering.{Ordering}
 use Rattle.std.specs.declared.cmp.Ordering.TheVariants.{Less}
 use Rattle.std.specs.declared.cmp.Reverse.{Reverse}
 use Rattle.std.proofs.lemmas.Bool.{cases_Bool, cases_lt, cond-false, cond-true, le-ltb, lt-ltb, eq-eqb}
-use Rattle.std.proofs.lemmas.Grind.{flat_map-append}
 use Rattle.std.proofs.lemmas.List.{get_or-map, length-map, map-append}
 use Rattle.std.proofs.lemmas.List.Elements.{All-map}
 use Rattle.std.proofs.lemmas.List.Sorted.{All-permutation, Contains-permutation, IsPermutation-map}
 use Rattle.std.proofs.lemmas.List.Sums.{sum_by_push}
-use Rattle.std.proofs.lemmas.Map.Keys.{IsDistinct-IsPermutation, IsDistinct-cons, sorted_head, sorted_tail}
+use Rattle.std.proofs.lemmas.Map.Keys.{IsDistinct-IsPermutation, sorted_head, sorted_tail}
 use Rattle.std.proofs.lemmas.Map.Text.{is_eq-slice_cmp}
 use Rattle.text_lines.specs.Lines.{HasNoLine, TakesLine}
 use Rattle.text_lines.proofs.LineLemmas.{first-line, none-left}
 use Rattle.log_extractor.specs.Counts.{IsCountList, IsFound, IsTally, MayPrecede, count_in, count_of, counted}
 use Rattle.log_extractor.specs.Counts.{entry_counted, key_cmp, occurrences, positive, value_in, values_in}
-use Rattle.log_extractor.specs.Fields.{LinePattern, group_of}
-use Rattle.log_extractor.specs.Printed.{column_names}
-use Rattle.log_extractor.specs.declared.pattern.Column.{Column}
+use Rattle.log_extractor.specs.Several.{LabelledPattern}
 
 -- One more value is counted.
 
@@ -101,22 +99,22 @@ tally-same values m tally = rw (append-nil values) tally
 -- A run over the lines of an input.
 
 -- the values of the lines so far were counted
-pub record IsCounting (p : LinePattern) (column : ℕ) (values : List (List ℕ)) (text : List ℕ) (input : Option (List ℕ))
-    (counts : BTreeMap (Vec ℕ) ℕ) : Type 0 where
+pub record IsCounting (ps : List LabelledPattern) (column : ℕ) (values : List (List ℕ)) (text : List ℕ)
+    (input : Option (List ℕ)) (counts : BTreeMap (Vec ℕ) ℕ) : Type 0 where
   pub rest : List ℕ
   pub rest_is : input ≡ Some rest
   pub so_far : List (List ℕ)
   pub tally : IsTally (values ++ so_far) counts
-  pub values_are : values_in p column text ≡ so_far ++ values_in p column rest
+  pub values_are : values_in ps column text ≡ so_far ++ values_in ps column rest
 
-abbrev pub HasCounted : LinePattern → ℕ → List (List ℕ) → Option (List ℕ) → Option (List ℕ)
+abbrev pub HasCounted : List LabelledPattern → ℕ → List (List ℕ) → Option (List ℕ) → Option (List ℕ)
     → BTreeMap (Vec ℕ) ℕ → Type 0
-HasCounted p column values before input counts =
-    IfSome before (λ text. IsCounting p column values text input counts)
+HasCounted ps column values before input counts =
+    IfSome before (λ text. IsCounting ps column values text input counts)
 
-module _ (p : LinePattern) (column : ℕ) (values : List (List ℕ)) where
+module _ (ps : List LabelledPattern) (column : ℕ) (values : List (List ℕ)) where
   pub counting-init : (input : Option (List ℕ)) (m : BTreeMap (Vec ℕ) ℕ) → IsTally values m
-      → HasCounted p column values input input m
+      → HasCounted ps column values input input m
   counting-init None m tally = tt
   counting-init (Some text) m tally = record {
     rest = text;
@@ -128,30 +126,30 @@ module _ (p : LinePattern) (column : ℕ) (values : List (List ℕ)) where
 
   pub counting-step : (before input after : Option (List ℕ)) (line : List ℕ) (m n : BTreeMap (Vec ℕ) ℕ)
       → TakesLine input after line
-      → ((seen : List (List ℕ)) → IsTally seen m → IsTally (seen ++ value_in p column line) n)
-      → HasCounted p column values before input m → HasCounted p column values before after n
+      → ((seen : List (List ℕ)) → IsTally seen m → IsTally (seen ++ value_in ps column line) n)
+      → HasCounted ps column values before input m → HasCounted ps column values before after n
   counting-step None input after line m n takes adds going = tt
   counting-step (Some text) input after line m n takes adds going =
       let first = first-line input going.rest going.rest_is after line takes in
-      let here = value_in p column line in
+      let here = value_in ps column line in
       record {
         rest = first.rest;
         rest_is = first.left_is;
         so_far = going.so_far ++ here;
         tally = rw (← append_assoc values going.so_far here) (adds (values ++ going.so_far) going.tally);
         values_are = going.values_are
-            ∙ ap (λ (ls : List (List ℕ)). going.so_far ++ flat_map (value_in p column) ls) first.lines_are
-            ∙ sym (append_assoc going.so_far here (values_in p column first.rest));
+            ∙ ap (λ (ls : List (List ℕ)). going.so_far ++ flat_map (value_in ps column) ls) first.lines_are
+            ∙ sym (append_assoc going.so_far here (values_in ps column first.rest));
       }
 
   pub counting-end : (before input : Option (List ℕ)) (m : BTreeMap (Vec ℕ) ℕ) → HasNoLine input
-      → HasCounted p column values before input m
-      → IfSome before (λ text. IsTally (values ++ values_in p column text) m)
+      → HasCounted ps column values before input m
+      → IfSome before (λ text. IsTally (values ++ values_in ps column text) m)
   counting-end None input m end going = tt
   counting-end (Some text) input m end going =
-      let done : values_in p column text ≡ going.so_far =
+      let done : values_in ps column text ≡ going.so_far =
       going.values_are
-      ∙ ap (λ (ls : List (List ℕ)). going.so_far ++ flat_map (value_in p column) ls)
+      ∙ ap (λ (ls : List (List ℕ)). going.so_far ++ flat_map (value_in ps column) ls)
       (none-left input going.rest going.rest_is end)
       ∙ append-nil going.so_far in
       subst (λ (vs : List (List ℕ)). IsTally (values ++ vs) m) (sym done) going.tally
@@ -284,51 +282,51 @@ count-list values m xs ys tally ordered found same moved sorted =
 
 -- The column of a name.
 
-pub names-at : (columns : List Column) (k : ℕ) (column : Column) → k < length columns
-    → column ≡ get_or columns k column
-    → slice_get (column_names (map group_of columns)) k ≡ Some (string_bytes column.name)
-names-at [] k column inside at = absurd (omega (arith, inside))
-names-at (c ∷ cs) zero column inside at = ap (λ (x : Column). Some (string_bytes x.name)) (sym at)
-names-at (c ∷ cs) (suc k) column inside at = names-at cs k column (omega (arith, inside)) at
+pub names-at : (names : List (String Global)) (k : ℕ) (other : String Global) → k < length names
+    → other ≡ get_or names k other
+    → slice_get (map string_bytes names) k ≡ Some (string_bytes other)
+names-at [] k other inside at = absurd (omega (arith, inside))
+names-at (c ∷ cs) zero other inside at = ap (λ (x : String Global). Some (string_bytes x)) (sym at)
+names-at (c ∷ cs) (suc k) other inside at = names-at cs k other (omega (arith, inside)) at
 
-none-past : (columns : List Column) (k : ℕ) → length columns ≤ k
-    → slice_get (column_names (map group_of columns)) k ≡ None
+none-past : (names : List (String Global)) (k : ℕ) → length names ≤ k
+    → slice_get (map string_bytes names) k ≡ None
 none-past [] k past = refl
 none-past (c ∷ cs) zero past = absurd (omega (arith, past))
 none-past (c ∷ cs) (suc k) past = none-past cs k (omega (arith, past))
 
--- of the first columns none has this name
-pub record AreNotNamed (columns : List Column) (name : List ℕ) (count : ℕ) : Type 0 where
-  pub within : count ≤ length columns
-  pub none : (k : ℕ) → k < count → ¬ (slice_get (column_names (map group_of columns)) k ≡ Some name)
+-- of the first names none has this name
+pub record AreNotNamed (names : List (String Global)) (name : List ℕ) (count : ℕ) : Type 0 where
+  pub within : count ≤ length names
+  pub none : (k : ℕ) → k < count → ¬ (slice_get (map string_bytes names) k ≡ Some name)
 
-pub not-named-init : (columns : List Column) (name : List ℕ) → AreNotNamed columns name 0
-not-named-init columns name = record { within = omega arith; none = λ k none. absurd (omega (arith, none)) }
+pub not-named-init : (names : List (String Global)) (name : List ℕ) → AreNotNamed names name 0
+not-named-init names name = record { within = omega arith; none = λ k none. absurd (omega (arith, none)) }
 
-pub not-named-step : (columns : List Column) (name : List ℕ) (n : ℕ) (column : Column) → n < length columns
-    → column ≡ get_or columns n column → bytes_eq (string_bytes column.name) name ≡ false
-    → AreNotNamed columns name n → AreNotNamed columns name (n + 1)
-not-named-step columns name n column inside at differs so-far = record {
+pub not-named-step : (names : List (String Global)) (name : List ℕ) (n : ℕ) (other : String Global) → n < length names
+    → other ≡ get_or names n other → bytes_eq (string_bytes other) name ≡ false
+    → AreNotNamed names name n → AreNotNamed names name (n + 1)
+not-named-step names name n other inside at differs so-far = record {
   within = omega (arith, inside);
   none = λ k below named. elim (cases_lt k n) [
     | inl less ↦ so-far.none k less named
     | inr more ↦
         let here : k ≡ n = omega (arith, below, more) in
-        let has : slice_get (column_names (map group_of columns)) n ≡ Some name = rw here at named in
-        let is : string_bytes column.name ≡ name = of (sym (names-at columns n column inside at) ∙ has) in
-        let yes : true ≡ false = sym ((bytes_decides (string_bytes column.name) name).1 is) ∙ differs in
+        let has : slice_get (map string_bytes names) n ≡ Some name = rw here at named in
+        let is : string_bytes other ≡ name = of (sym (names-at names n other inside at) ∙ has) in
+        let yes : true ≡ false = sym ((bytes_decides (string_bytes other) name).1 is) ∙ differs in
         absurd (cc)
   ];
 }
   where
-    of : Some (string_bytes column.name) ≡ Some name → string_bytes column.name ≡ name
+    of : Some (string_bytes other) ≡ Some name → string_bytes other ≡ name
     of e = cc
 
-pub not-named-end : (columns : List Column) (name : List ℕ) (n : ℕ) → length columns ≤ n → AreNotNamed columns name n
-    → (k : ℕ) → ¬ (slice_get (column_names (map group_of columns)) k ≡ Some name)
-not-named-end columns name n past none = λ k named. elim (cases_lt k n) [
+pub not-named-end : (names : List (String Global)) (name : List ℕ) (n : ℕ) → length names ≤ n → AreNotNamed names name n
+    → (k : ℕ) → ¬ (slice_get (map string_bytes names) k ≡ Some name)
+not-named-end names name n past none = λ k named. elim (cases_lt k n) [
   | inl less ↦ none.none k less named
-  | inr more ↦ no-some (sym (none-past columns k (omega (arith, past, more))) ∙ named)
+  | inr more ↦ no-some (sym (none-past names k (omega (arith, past, more))) ∙ named)
 ]
   where
     no-some : ¬ (None ≡ Some name)

@@ -5,3 +5,4 @@ mod GoingLemmas
 mod NameLemmas
 mod ObjectLemmas
 mod RowLemmas
+mod SeveralLemmas

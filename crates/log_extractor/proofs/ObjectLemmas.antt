@@ -3,10 +3,9 @@ use Rattle.std.proofs.Common.{◌≡◌, ◌∙◌, ℕ, zero, suc, ◌+◌, ◌
 use Rattle.std.specs.Prelude.{Option, flat_map, min}
 use Rattle.std.proofs.lemmas.Bool.{cases_lt}
 use Rattle.std.proofs.lemmas.List.{flat_map_more, get_or-map, length-map, length-take-le, take_more}
-use Rattle.log_extractor.specs.Fields.{NamedGroup}
 use Rattle.log_extractor.specs.Printed.{member_text, members}
 
-members-append : (cs : List NamedGroup) (fs : List (Option (List ℕ))) (c : NamedGroup) (f : Option (List ℕ))
+members-append : (cs : List (List ℕ)) (fs : List (Option (List ℕ))) (c : List ℕ) (f : Option (List ℕ))
     → length cs ≡ length fs → members (cs ++ c ∷ []) (fs ++ f ∷ []) ≡ members cs fs ++ member_text c f ∷ []
 members-append [] [] c f same = refl
 members-append [] (g ∷ fs) c f same = absurd (omega (arith, same))
@@ -15,7 +14,7 @@ members-append (d ∷ cs) (g ∷ fs) c f same =
     ap (λ ms. member_text d g ∷ ms) (members-append cs fs c f (omega (arith, same)))
 
 -- the member at n was appended
-pub members-step : (cs : List NamedGroup) (fs : List (Option (List ℕ))) (n m : ℕ) (c : NamedGroup)
+pub members-step : (cs : List (List ℕ)) (fs : List (Option (List ℕ))) (n m : ℕ) (c : List ℕ)
     (f : Option (List ℕ)) (before old new : List ℕ) → m ≡ n + 1 → n < length cs → n < length fs
     → take (n + 1) cs ≡ take n cs ++ c ∷ [] → take (n + 1) fs ≡ take n fs ++ f ∷ []
     → old ≡ before ++ flat_map (λ m. 44 ∷ m) (members (take n cs) (take n fs))
@@ -36,7 +35,7 @@ take-none zero = refl
 take-none (suc n) = refl
 
 -- all members were appended
-pub members-all : (cs : List NamedGroup) (fs : List (Option (List ℕ))) (n : ℕ) → (length cs ≤ n) ⊎ (length fs ≤ n)
+pub members-all : (cs : List (List ℕ)) (fs : List (Option (List ℕ))) (n : ℕ) → (length cs ≤ n) ⊎ (length fs ≤ n)
     → members (take n cs) (take n fs) ≡ members cs fs
 members-all [] fs n none = ap (λ cs. members cs (take n fs)) (take-none n)
 members-all (c ∷ cs) [] zero none = refl
@@ -62,6 +61,6 @@ take-map-more f xs n x inside is =
     take_more (map f xs) n (f x) (omega (arith, length-map xs f))
     ∙ ap (λ y. take n (map f xs) ++ y ∷ []) (get_or-map f xs n x (f x) inside ∙ ap f (sym is))
 
-pub members_none : (columns : List NamedGroup) → members columns [] ≡ []
+pub members_none : (names : List (List ℕ)) → members names [] ≡ []
 members_none [] = refl
-members_none (column ∷ columns) = refl
+members_none (name ∷ names) = refl

@@ -1,5 +1,5 @@
 -- How often each value of a column occurs, and what is printed of that.
-use Rattle.std.specs.Prelude.{◌≡◌, ◌⊎◌, ℕ, zero, suc, ◌+◌, ◌<◌, false, List, [], ◌∷◌, ◌++◌, All, codes, flat_map, length, map, Option, None, Some, option_map, slice_get, unwrap_or, count_by}
+use Rattle.std.specs.Prelude.{◌≡◌, ◌⊎◌, ℕ, zero, suc, ◌<◌, false, List, [], ◌∷◌, ◌++◌, All, codes, flat_map, length, map, Option, None, Some, option_map, slice_get, unwrap_or, count_by}
 use Rattle.std.specs.Borrow.{Bor}
 use Rattle.std.specs.BTreeMap.{BTreeMap, get, get_by}
 use Rattle.std.specs.Cmp.Lexicographic.{slice_cmp}
@@ -11,8 +11,8 @@ use Rattle.std.specs.Str.{bytes_eq}
 use Rattle.std.specs.declared.cmp.Ordering.{Ordering}
 use Rattle.std.specs.declared.cmp.Reverse.{Reverse}
 use Rattle.text_lines.specs.Lines.{content, line_feed, lines_of}
-use Rattle.log_extractor.specs.Fields.{LinePattern, row}
 use Rattle.log_extractor.specs.Printed.{field_text}
+use Rattle.log_extractor.specs.Several.{LabelledPattern, row_of}
 use Rattle.log_extractor.specs.Written.{separator, written}
 use Rattle.log_extractor.specs.declared.output.Form.{Form}
 
@@ -27,12 +27,12 @@ listed_option None = []
 listed_option (Some value) = value ∷ []
 
 -- the value of the column in the row of a line, if the line has a row
-abbrev pub value_in : LinePattern → ℕ → List ℕ → List (List ℕ)
-value_in p column line = listed_option (value_at column (row p (content line)))
+abbrev pub value_in : List LabelledPattern → ℕ → List ℕ → List (List ℕ)
+value_in ps column line = listed_option (value_at column (row_of ps (content line)))
 
 -- the values of the column in the rows of a text, in order
-abbrev pub values_in : LinePattern → ℕ → List ℕ → List (List ℕ)
-values_in p column text = flat_map (value_in p column) (lines_of text)
+abbrev pub values_in : List LabelledPattern → ℕ → List ℕ → List (List ℕ)
+values_in ps column text = flat_map (value_in ps column) (lines_of text)
 
 -- how often the value occurs
 abbrev pub occurrences : List ℕ → List (List ℕ) → ℕ

@@ -54,6 +54,10 @@ columns_in names = named_groups 1 (drop 1 names)
 abbrev pub columns_of : LinePattern → List NamedGroup
 columns_of p = columns_in p.names
 
+-- the names of columns
+abbrev pub column_names : List NamedGroup → List (List ℕ)
+column_names columns = map (λ (column : NamedGroup). column.name) columns
+
 -- what a column of the program is
 abbrev pub group_of : Column → NamedGroup
 group_of column = record { number = column.group; name = string_bytes column.name }

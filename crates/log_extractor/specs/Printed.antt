@@ -4,7 +4,7 @@ use Rattle.std.specs.List.{list_any}
 use Rattle.std.specs.Str.Lossy.{utf8_lossy}
 use Rattle.json.specs.Print.{quoted}
 use Rattle.text_lines.specs.Lines.{content, line_feed, lines_of, with_feed}
-use Rattle.log_extractor.specs.Fields.{LinePattern, NamedGroup, columns_of, row}
+use Rattle.log_extractor.specs.Several.{LabelledPattern, names_of, row_of}
 use Rattle.log_extractor.specs.Written.{carriage_return, feed, separator, tab, unescaped, written}
 use Rattle.log_extractor.specs.declared.output.Form.{Form}
 use Rattle.log_extractor.specs.declared.output.Form.TheVariants.{Tabs}
@@ -55,34 +55,30 @@ field_texts fields = map field_text fields
 abbrev pub field_line : Form → List (Option (List ℕ)) → List ℕ
 field_line form fields = row_line form (field_texts fields)
 
--- the names of columns
-abbrev pub column_names : List NamedGroup → List (List ℕ)
-column_names columns = map (λ (column : NamedGroup). column.name) columns
-
 -- A field as a JSON value: null if there is none. Bytes that are not UTF-8 become U+FFFD.
 abbrev pub value_text : Option (List ℕ) → List ℕ
 value_text None = codes "null"
 value_text (Some text) = quoted (utf8_lossy text)
 
 -- the name of the column, a colon and the value
-abbrev pub member_text : NamedGroup → Option (List ℕ) → List ℕ
-member_text column field = quoted column.name ++ 58 ∷ value_text field
+abbrev pub member_text : List ℕ → Option (List ℕ) → List ℕ
+member_text name field = quoted name ++ 58 ∷ value_text field
 
-abbrev pub members : List NamedGroup → List (Option (List ℕ)) → List (List ℕ)
+abbrev pub members : List (List ℕ) → List (Option (List ℕ)) → List (List ℕ)
 members [] fields = []
-members (column ∷ columns) [] = []
-members (column ∷ columns) (field ∷ fields) = member_text column field ∷ members columns fields
+members (name ∷ names) [] = []
+members (name ∷ names) (field ∷ fields) = member_text name field ∷ members names fields
 
 -- the fields as a JSON object, with commas between its members and braces around them, on a line
-abbrev pub object_line : List NamedGroup → List (Option (List ℕ)) → List ℕ
-object_line columns fields = 123 ∷ separated 44 (members columns fields) ++ 125 ∷ line_feed ∷ []
+abbrev pub object_line : List (List ℕ) → List (Option (List ℕ)) → List ℕ
+object_line names fields = 123 ∷ separated 44 (members names fields) ++ 125 ∷ line_feed ∷ []
 
 -- what is printed of a line that has these fields
-abbrev pub shown_fields : Output → List NamedGroup → List (Option (List ℕ)) → List ℕ
-shown_fields (Table form) columns fields = field_line form fields
-shown_fields (Rows form) columns fields = field_line form fields
-shown_fields Objects columns fields = object_line columns fields
-shown_fields Rejects columns fields = []
+abbrev pub shown_fields : Output → List (List ℕ) → List (Option (List ℕ)) → List ℕ
+shown_fields (Table form) names fields = field_line form fields
+shown_fields (Rows form) names fields = field_line form fields
+shown_fields Objects names fields = object_line names fields
+shown_fields Rejects names fields = []
 
 -- what is printed of a line that has none: of rejects, the line itself
 abbrev pub shown_reject : Output → List ℕ → List ℕ
@@ -92,35 +88,36 @@ shown_reject Objects line = []
 shown_reject Rejects line = with_feed line
 
 -- what is printed of a line that has this row
-abbrev pub shown_as : Output → List NamedGroup → List ℕ → Option (List (Option (List ℕ))) → List ℕ
-shown_as output columns line None = shown_reject output line
-shown_as output columns line (Some fields) = shown_fields output columns fields
+abbrev pub shown_as : Output → List (List ℕ) → List ℕ → Option (List (Option (List ℕ))) → List ℕ
+shown_as output names line None = shown_reject output line
+shown_as output names line (Some fields) = shown_fields output names fields
 
 -- what is printed of a line
-abbrev pub shown_line : Output → LinePattern → List ℕ → List ℕ
-shown_line output p line = shown_as output (columns_of p) line (row p (content line))
+abbrev pub shown_line : Output → List LabelledPattern → List ℕ → List ℕ
+shown_line output ps line = shown_as output (names_of ps) line (row_of ps (content line))
 
 -- what is printed before the lines: of a table, the names of the columns
-abbrev pub table_head : Output → List NamedGroup → List ℕ
-table_head (Table form) columns = row_line form (column_names columns)
-table_head (Rows form) columns = []
-table_head Objects columns = []
-table_head Rejects columns = []
+abbrev pub table_head : Output → List (List ℕ) → List ℕ
+table_head (Table form) names = row_line form names
+table_head (Rows form) names = []
+table_head Objects names = []
+table_head Rejects names = []
 
 -- whether one of these lines has a row
-abbrev pub has_row : LinePattern → List (List ℕ) → Bool
-has_row p lines = list_any (λ line. is_some (row p (content line))) lines
+abbrev pub has_row : List LabelledPattern → List (List ℕ) → Bool
+has_row ps lines = list_any (λ line. is_some (row_of ps (content line))) lines
 
 -- what is printed of the lines of a text, in order
-abbrev pub extracted_lines : Output → LinePattern → List ℕ → List ℕ
-extracted_lines output p text = flat_map (shown_line output p) (lines_of text)
+abbrev pub extracted_lines : Output → List LabelledPattern → List ℕ → List ℕ
+extracted_lines output ps text = flat_map (shown_line output ps) (lines_of text)
 
 -- what is printed of a text
-abbrev pub extracted : Output → LinePattern → List ℕ → List ℕ
-extracted output p text = table_head output (columns_of p) ++ extracted_lines output p text
+abbrev pub extracted : Output → List LabelledPattern → List ℕ → List ℕ
+extracted output ps text = table_head output (names_of ps) ++ extracted_lines output ps text
 
 -- Of a text that is cut after a line feed, the same is printed as of its two parts, one after the other.
 abbrev pub PartsAreJoined : Output → Type 0
 PartsAreJoined output =
-    (p : LinePattern) (a b : List ℕ)
-    → extracted output p (a ++ line_feed ∷ [] ++ b) ≡ extracted output p (a ++ line_feed ∷ []) ++ extracted output p b
+    (ps : List LabelledPattern) (a b : List ℕ)
+    → extracted output ps (a ++ line_feed ∷ [] ++ b)
+    ≡ extracted output ps (a ++ line_feed ∷ []) ++ extracted output ps b

@@ -1,4 +1,7 @@
 //! What the arguments of the command line ask for.
+ghost use Rattle.std.specs.Prelude.{◌≡◌, IfOk, map, string_bytes};
+ghost use Rattle.log_extractor.specs.Several.{label_of, labels_from};
+
 use crate::output::{Form, Output};
 use crate::pattern::{COMBINED, LINE, SYSLOG};
 use anyhow::Result;
@@ -15,10 +18,14 @@ const FORMATS: &[&str] = &["syslog", "combined"];
 /// What the help says below the options, before the patterns of the formats.
 const AFTER: &str = "\
 The named groups of the pattern are the columns, in order. A line has a row if the pattern matches it from its start.
-A field is the text of its group, and empty if the group took no part. Fields are separated by tabs. In a field, \\t is
-a tab, \\n a line feed, \\r a carriage return and \\\\ a backslash, so a row is always one line with all its columns.
+With several -p or --format the first of the patterns that matches a line gives its row. The columns are the named
+groups of all, each name once, in the order of their first appearance. Before them is a column `pattern`: the number of
+that pattern, from 0 in the order of the arguments, or the name of its format.
+A field is the text of its group, and empty if the group took no part or the pattern has no such group. Fields are
+separated by tabs. In a field, \\t is a tab, \\n a line feed, \\r a carriage return and \\\\ a backslash, so a row is
+always one line with all its columns.
 With --count the most frequent value is first, and those that occur as often as each other are in the order of bytes.
-A field that is empty since its group took no part counts as an empty value.
+A field without a text counts as an empty value.
 With --csv a field is in quotes if it is empty or has a comma, a quote or an end of a line, and its quotes are doubled.
 Without a file, or for the file -, standard input is read.
 A line is of any bytes. It ends at a line feed, and a carriage return before the line feed belongs to the end.
@@ -33,10 +40,18 @@ pattern are wrong. If the output is a pipe that is closed, the program ends with
 
 The default pattern is of lines such as `2026-11-22 14:03:07 ERROR disk full`. The patterns of the formats:";
 
-/// By which pattern fields are found, where, and what is printed.
+/// A pattern of lines, and the name of its format, if it has one.
+#[derive(Clone, Copy, Debug, Drop)]
+pub struct Given<'w> {
+    pub format: Option<&'w str>,
+    pub pattern: &'w str,
+}
+
+/// By which patterns fields are found, where, and what is printed.
 #[derive(Drop)]
 pub struct Arguments<'w> {
-    pub pattern: &'w str,
+    /// The patterns, in the order in which they are tried. There is at least one.
+    pub patterns: Vec<Given<'w>>,
     pub output: Output,
     /// The column whose values are counted, if rows are not printed.
     pub count: Option<&'w str>,
@@ -76,7 +91,7 @@ pub fn parse<'w>(alloc: Global, below: &'w str, words: &'w [&'w str]) -> Result<
         .about("Prints the fields of log lines.")
         .override_usage(USAGE)
         .after_help(below)
-        .arg(pattern_argument(alloc)?)?
+        .arg(pattern_argument(alloc))?
         .arg(format_argument(alloc))?;
     let command = with_output(alloc, command)?
         .arg(count_argument(alloc)?)?
@@ -87,24 +102,23 @@ pub fn parse<'w>(alloc: Global, below: &'w str, words: &'w [&'w str]) -> Result<
     }
 }
 
-/// The option with the pattern.
-fn pattern_argument<'w>(alloc: Global) -> Result<Arg<'w>, AllocError> {
+/// The option with a pattern.
+fn pattern_argument<'w>(alloc: Global) -> Arg<'w> {
     Arg::new(alloc, "pattern")
         .short('p')
         .long("pattern")
-        .action(ArgAction::Set)
+        .action(ArgAction::Append)
         // A pattern may begin with a hyphen.
         .allow_hyphen_values(true)
         .value_name("PATTERN")
         .help("Find fields by this pattern")
-        .conflicts_with("format")
 }
 
 /// The option that names a pattern.
 fn format_argument<'w>(alloc: Global) -> Arg<'w> {
     Arg::new(alloc, "format")
         .long("format")
-        .action(ArgAction::Set)
+        .action(ArgAction::Append)
         .value_parser(FORMATS)
         .value_name("FORMAT")
         .help("Find fields by the pattern of this format, which is shown below")
@@ -167,15 +181,74 @@ fn flag<'w>(alloc: Global, name: &'w str) -> Result<Arg<'w>, AllocError> {
         .overrides_with(name)
 }
 
-/// Returns the pattern of lines: the one that is given, or that of the format.
-fn pattern_of<'w>(matches: &ArgMatches<'w>) -> &'w str {
-    if let Some(pattern) = matches.get_str("pattern") {
-        return pattern;
+/// Returns the patterns that are given, in order. Without one it is the default pattern.
+fn patterns_of<'w>(alloc: Global, matches: &ArgMatches<'w>) -> Result<Vec<Given<'w>>> {
+    let mut words = Vec::new(alloc);
+    push_words(matches, "pattern", false, &mut words)?;
+    push_words(matches, "format", true, &mut words)?;
+    words.sort()?;
+    let mut patterns = Vec::new(alloc);
+    for (_, is_format, word) in &words {
+        patterns.push(given_by(*is_format, word))?;
     }
-    match matches.get_str("format") {
-        Some("syslog") => SYSLOG,
-        Some("combined") => COMBINED,
-        _ => LINE,
+    if patterns.is_empty() {
+        patterns.push(Given {
+            format: None,
+            pattern: LINE,
+        })?;
+    }
+    Ok(patterns)
+}
+
+/// Adds the values of the option, each with its place among all arguments.
+fn push_words<'w>(
+    matches: &ArgMatches<'w>,
+    id: &str,
+    is_format: bool,
+    words: &mut Vec<(usize, bool, &'w str)>,
+) -> Result<()> {
+    let (Some(values), Some(places)) = (matches.get_strs(id), matches.indices_of(id)) else {
+        return Ok(());
+    };
+    for (value, place) in values.iter().zip(places) {
+        words.push((*place, is_format, *value))?;
+    }
+    Ok(())
+}
+
+/// Returns the pattern that is given by a word: the name of a format, or the pattern itself.
+fn given_by<'w>(is_format: bool, word: &'w str) -> Given<'w> {
+    if !is_format {
+        return Given {
+            format: None,
+            pattern: word,
+        };
+    }
+    let pattern = if word == "syslog" { SYSLOG } else { COMBINED };
+    Given {
+        format: Some(word),
+        pattern,
+    }
+}
+
+/// Returns what the rows of each pattern have in the column of labels: the name of its format, or its number.
+pub fn labels_of(alloc: Global, patterns: &[Given<'_>]) -> Result<Vec<String>, AllocError>
+    ensures { IfOk result (λ labels. map string_bytes labels.items ≡ labels_from 0 patterns.now) }
+{
+    let mut labels = Vec::new(alloc);
+    for (number, given) in patterns.iter().enumerate() {
+        labels.push(label_of(alloc, number, given)?)?;
+    }
+    Ok(labels)
+}
+
+/// Returns the label of the pattern of this number.
+fn label_of(alloc: Global, number: usize, given: &Given<'_>) -> Result<String, AllocError>
+    ensures { IfOk result (λ label. string_bytes label ≡ label_of number given.now) }
+{
+    match given.format {
+        Some(name) => String::from_str(alloc, name),
+        None => format!(in alloc; "{number}"),
     }
 }
 
@@ -205,7 +278,7 @@ fn read_matches<'w>(alloc: Global, matches: &ArgMatches<'w>) -> Result<Arguments
         }
     }
     Ok(Arguments {
-        pattern: pattern_of(matches),
+        patterns: patterns_of(alloc, matches)?,
         output: output_of(matches),
         count: matches.get_str("count"),
         line_buffered: matches.get_flag("line-buffered"),

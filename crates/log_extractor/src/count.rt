@@ -3,16 +3,15 @@ ghost use Rattle.std.specs.Prelude.{◌≡◌, ◌++◌, ◌∷◌, [], IfErr, I
 ghost use Rattle.std.specs.Io.KnownBytes.{Appends};
 ghost use Rattle.text_lines.specs.Lines.{content};
 ghost use Rattle.std.specs.BTreeMap.{IsOrdered};
-ghost use Rattle.std.specs.Str.{bytes_eq};
 ghost use Rattle.log_extractor.specs.Counts.{IsCountList, IsFound, IsTally, count_head, count_of, tally_line, tally_lines};
 ghost use Rattle.log_extractor.specs.Counts.{counted, entry_counted, key_cmp, value_at, value_in, values_in};
-ghost use Rattle.log_extractor.specs.Fields.{IsLinePattern, LinePattern, fields_now, group_of, row};
-ghost use Rattle.log_extractor.specs.Printed.{column_names};
+ghost use Rattle.log_extractor.specs.Fields.{fields_now};
+ghost use Rattle.log_extractor.specs.Several.{AreLinePatterns, LabelledPattern};
 
 use crate::field::append_text;
+use crate::names::is_name;
 use crate::output::Form;
-use crate::parser::Parser;
-use crate::pattern::Column;
+use crate::parsers::Parsers;
 use crate::row::separator;
 use std::alloc::{AllocError, Global};
 use std::cmp::Reverse;
@@ -35,25 +34,17 @@ pub fn no_counts(alloc: Global) -> Counts
     BTreeMap::new(alloc)
 }
 
-/// Returns the number of the column of this name, from 0.
-pub fn column_named(columns: &[Column], name: &str) -> Option<usize>
-    ensures found { IfSome result (λ k. slice_get (column_names (map group_of columns.now)) k ≡ Some name.now) }
-    ensures missing { IfNone result ((k : ℕ)
-        → ¬ (slice_get (column_names (map group_of columns.now)) k ≡ Some name.now)) }
+/// Returns the number of the column of this name, from 0, if there are columns of these names.
+pub fn column_named(names: &[String], name: &str) -> Option<usize>
+    ensures found { IfSome result (λ k. slice_get (map string_bytes names.now) k ≡ Some name.now) }
+    ensures missing { IfNone result ((k : ℕ) → ¬ (slice_get (map string_bytes names.now) k ≡ Some name.now)) }
 {
-    for (number, column) in columns.iter().enumerate() {
-        if is_named(column, name) {
+    for (number, other) in names.iter().enumerate() {
+        if is_name(other, name) {
             return Some(number);
         }
     }
     None
-}
-
-/// Returns whether the column has this name.
-fn is_named(column: &Column, name: &str) -> bool
-    ensures { result ≡ bytes_eq (string_bytes column.now.name) name.now }
-{
-    column.name.as_str() == name
 }
 
 /// Counts the values of the column of this number in the rows of an input. A field that is `None` is an empty value.
@@ -61,22 +52,22 @@ fn is_named(column: &Column, name: &str) -> bool
 /// The input is read a line at a time, so the memory is bounded by the longest line and the values that differ.
 pub fn count_lines<R: BufRead>(
     alloc: Global,
-    parser: &mut Parser<'_>,
+    parsers: &mut Parsers<'_>,
     column: usize,
     input: &mut R,
     counts: &mut Counts,
 ) -> Result<(), Failure>
-    ensures counted { OnOk result ((p : LinePattern) → IsLinePattern parser.old p → (values : List (List ℕ))
-        → IsTally values counts.old → IfSome (R.remaining input.old)
-        (λ text. IsTally (values ++ values_in p column text) counts.new)) }
-    ensures kept { parser.new ≡ parser.old }
+    ensures counted { OnOk result ((ps : List LabelledPattern) → AreLinePatterns parsers.old ps
+        → (values : List (List ℕ)) → IsTally values counts.old → IfSome (R.remaining input.old)
+        (λ text. IsTally (values ++ values_in ps column text) counts.new)) }
+    ensures kept { parsers.new ≡ parsers.old }
 {
     let mut line = Vec::new(alloc);
     for before in 0..u64::MAX {
         if !read_line(input, before + 1, &mut line)? {
             return Ok(());
         }
-        count_one(alloc, parser, column, &line, before + 1, counts)?;
+        count_one(alloc, parsers, column, &line, before + 1, counts)?;
     }
     Err(Failure::TooLong)
 }
@@ -85,17 +76,17 @@ pub fn count_lines<R: BufRead>(
 /// number, from 1.
 fn count_one(
     alloc: Global,
-    parser: &mut Parser<'_>,
+    parsers: &mut Parsers<'_>,
     column: usize,
     line: &[u8],
     number: u64,
     counts: &mut Counts,
 ) -> Result<(), Failure>
-    ensures counted { OnOk result ((p : LinePattern) → IsLinePattern parser.old p → (values : List (List ℕ))
-        → IsTally values counts.old → IsTally (values ++ value_in p column line.now) counts.new) }
-    ensures kept { parser.new ≡ parser.old }
+    ensures counted { OnOk result ((ps : List LabelledPattern) → AreLinePatterns parsers.old ps
+        → (values : List (List ℕ)) → IsTally values counts.old → IsTally (values ++ value_in ps column line.now) counts.new) }
+    ensures kept { parsers.new ≡ parsers.old }
 {
-    let Ok(row) = parser.parse_line(content(line)) else {
+    let Ok(row) = parsers.parse_line(content(line)) else {
         return Err(Failure::Line(number));
     };
     let Some(value) = value_at(&row, column) else {

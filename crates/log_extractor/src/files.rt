@@ -2,7 +2,7 @@
 use crate::command::Arguments;
 use crate::count::{Counts, count_lines, no_counts, print_count_head, print_counts};
 use crate::output::{Form, Output};
-use crate::parser::Parser;
+use crate::parsers::Parsers;
 use crate::report::{print_head, print_lines};
 use std::alloc::Global;
 use std::io::{BufRead, BufReader, BufWriter, IsTerminal, Write};
@@ -32,18 +32,18 @@ struct Work {
 /// next one is read. The error is one of the output, or of memory.
 pub fn print_all(
     rt: &HostRuntime,
-    parser: &mut Parser<'_>,
+    parsers: &mut Parsers<'_>,
     arguments: &Arguments<'_>,
     column: Option<usize>,
 ) -> Result<bool, Failure> {
     if arguments.line_buffered || rt.stdout().is_terminal() {
         // The output for a line is written by one call.
-        return print_to(rt, parser, arguments, column, &mut io::writer(rt));
+        return print_to(rt, parsers, arguments, column, &mut io::writer(rt));
     }
     let Ok(mut out) = BufWriter::new(rt.alloc(), io::writer(rt)) else {
         return Err(Failure::Memory);
     };
-    let complete = print_to(rt, parser, arguments, column, &mut out)?;
+    let complete = print_to(rt, parsers, arguments, column, &mut out)?;
     match out.flush() {
         Ok(()) => Ok(complete),
         Err(error) => Err(Failure::Write(error)),
@@ -53,7 +53,7 @@ pub fn print_all(
 /// The same, to this writer.
 fn print_to<W: Write>(
     rt: &HostRuntime,
-    parser: &mut Parser<'_>,
+    parsers: &mut Parsers<'_>,
     arguments: &Arguments<'_>,
     column: Option<usize>,
     out: &mut W,
@@ -66,12 +66,12 @@ fn print_to<W: Write>(
         rows: false,
     };
     if column.is_none() {
-        print_head(rt.alloc(), parser, output, out)?;
+        print_head(rt.alloc(), parsers, output, out)?;
     }
     let complete = if arguments.files.is_empty() {
-        print_each(rt, parser, &mut work, &["-"], out)?
+        print_each(rt, parsers, &mut work, &["-"], out)?
     } else {
-        print_each(rt, parser, &mut work, &arguments.files, out)?
+        print_each(rt, parsers, &mut work, &arguments.files, out)?
     };
     if let Some(name) = arguments.count {
         print_counted(rt, output, name, &work.counts, out)?;
@@ -105,14 +105,14 @@ fn print_counted<W: Write>(
 /// Does what is to be done with the lines of these inputs. Returns whether each was read to its end.
 fn print_each<W: Write>(
     rt: &HostRuntime,
-    parser: &mut Parser<'_>,
+    parsers: &mut Parsers<'_>,
     work: &mut Work,
     names: &[&str],
     out: &mut W,
 ) -> Result<bool, Failure> {
     let mut complete = true;
     for name in names {
-        if let Err(error) = print_named(rt, parser, work, name, out) {
+        if let Err(error) = print_named(rt, parsers, work, name, out) {
             if !error.is_of_input() {
                 return Err(error);
             }
@@ -131,7 +131,7 @@ fn print_each<W: Write>(
 /// Does what is to be done with the lines of the input of this name.
 fn print_named<W: Write>(
     rt: &HostRuntime,
-    parser: &mut Parser<'_>,
+    parsers: &mut Parsers<'_>,
     work: &mut Work,
     name: &str,
     out: &mut W,
@@ -141,14 +141,14 @@ fn print_named<W: Write>(
         let Ok(mut input) = BufReader::new(alloc, rt.reader()) else {
             return Err(Failure::Memory);
         };
-        return work_on(alloc, parser, work, &mut input, out);
+        return work_on(alloc, parsers, work, &mut input, out);
     }
     match fs::open(rt, name) {
         Ok(file) => {
             let Ok(mut input) = BufReader::new(alloc, file) else {
                 return Err(Failure::Memory);
             };
-            work_on(alloc, parser, work, &mut input, out)
+            work_on(alloc, parsers, work, &mut input, out)
         }
         Err(error) => Err(Failure::Read(error)),
     }
@@ -157,18 +157,18 @@ fn print_named<W: Write>(
 /// Does what is to be done with the lines of this input.
 fn work_on<R: BufRead, W: Write>(
     alloc: Global,
-    parser: &mut Parser<'_>,
+    parsers: &mut Parsers<'_>,
     work: &mut Work,
     input: &mut R,
     out: &mut W,
 ) -> Result<(), Failure> {
     match work.column {
         Some(column) => {
-            count_lines(alloc, parser, column, input, &mut work.counts)?;
+            count_lines(alloc, parsers, column, input, &mut work.counts)?;
             work.rows = !work.counts.is_empty();
         }
         None => {
-            let rows = print_lines(alloc, parser, work.output, input, out)?;
+            let rows = print_lines(alloc, parsers, work.output, input, out)?;
             work.rows |= rows;
         }
     }

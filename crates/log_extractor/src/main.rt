@@ -5,17 +5,21 @@ mod command;
 mod count;
 mod field;
 mod files;
+mod names;
 mod object;
 mod output;
 mod parser;
+mod parsers;
 mod pattern;
 mod report;
 mod row;
 
-use crate::command::{Arguments, Command, help_below, parse, split};
+use crate::command::{Arguments, Command, help_below, labels_of, parse, split};
 use crate::count::column_named;
 use crate::files::print_all;
+use crate::names::has_name;
 use crate::parser::Parser;
+use crate::parsers::{LABEL, LabelledParser, Parsers};
 use crate::pattern::PatternError;
 use anyhow::Result;
 use clap::Error;
@@ -30,6 +34,9 @@ const FAILED: u8 = 1;
 
 /// The arguments or the pattern are wrong.
 const MISUSED: u8 = 2;
+
+/// What is wrong with a group of the name of the column of labels.
+const NAME_TAKEN: &str = "of several patterns none may have a group of the name pattern";
 
 fn main(rt: HostRuntime) -> ExitCode {
     match answer(&rt) {
@@ -63,23 +70,49 @@ fn status_of(error: &Error) -> u8 {
 }
 
 fn extract(rt: &HostRuntime, arguments: &Arguments<'_>) -> Result<ExitCode> {
-    let mut parser = match Parser::new(rt.alloc(), arguments.pattern) {
-        Ok(parser) => parser,
-        Err(PatternError::Memory) => return Err(PatternError::Memory.into()),
-        Err(error) => return Ok(ended(rt, error, MISUSED)),
-    };
+    let labels = labels_of(rt.alloc(), &arguments.patterns)?;
+    let mut parsers = Vec::new(rt.alloc());
+    for (given, label) in arguments.patterns.iter().zip(&labels) {
+        match Parser::new(rt.alloc(), given.pattern) {
+            Ok(parser) => parsers.push(LabelledParser { label, parser })?,
+            Err(PatternError::Memory) => return Err(PatternError::Memory.into()),
+            Err(error) if labels.len() == 1 => return Ok(ended(rt, error, MISUSED)),
+            Err(error) => {
+                return Ok(ended(rt, format_args!("pattern {label}: {error}"), MISUSED));
+            }
+        }
+    }
+    print_rows(rt, arguments, Parsers::new(rt.alloc(), parsers)?)
+}
+
+fn print_rows(
+    rt: &HostRuntime,
+    arguments: &Arguments<'_>,
+    mut parsers: Parsers<'_>,
+) -> Result<ExitCode> {
+    if has_label_twice(parsers.names()) {
+        return Ok(ended(rt, NAME_TAKEN, MISUSED));
+    }
     let column = match arguments.count {
-        Some(name) => match column_named(parser.columns(), name) {
+        Some(name) => match column_named(parsers.names(), name) {
             Some(column) => Some(column),
             None => return Ok(ended(rt, format_args!("no column has the name {name}"), MISUSED)),
         },
         None => None,
     };
-    match print_all(rt, &mut parser, arguments, column) {
+    match print_all(rt, &mut parsers, arguments, column) {
         Ok(true) => Ok(ExitCode::SUCCESS),
         Ok(false) => Ok(ExitCode::from(FAILED)),
         Err(error) if is_closed_pipe(&error) => Ok(ExitCode::SUCCESS),
         Err(error) => Err(error.into()),
+    }
+}
+
+/// Returns whether a column has the name of the column of labels, which is the first one then.
+fn has_label_twice(names: &[String]) -> bool {
+    match names {
+        [first, names @ ..] => first.as_str() == LABEL && has_name(names, LABEL),
+        [] => false,
     }
 }
 

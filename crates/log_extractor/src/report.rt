@@ -1,18 +1,18 @@
 //! What is printed of an input, line by line.
-ghost use Rattle.std.specs.Prelude.{◌≡◌, ◌++◌, IfOk, IfSome, OnOk, is_some, map, option_map};
+ghost use Rattle.std.specs.Prelude.{◌≡◌, ◌++◌, IfOk, IfSome, List, OnOk, is_some, map, option_map, string_bytes};
 ghost use Rattle.std.specs.Io.KnownBytes.{Appends};
 ghost use Rattle.text_lines.specs.Lines.{content, lines_of};
-ghost use Rattle.log_extractor.specs.Fields.{IsLinePattern, LinePattern, columns_of, group_of, fields_now, row};
+ghost use Rattle.log_extractor.specs.Fields.{fields_now};
 ghost use Rattle.log_extractor.specs.Going.{Writes};
 ghost use Rattle.log_extractor.specs.Printed.{PartsAreJoined, table_head, extracted_lines, has_row};
 ghost use Rattle.log_extractor.specs.Printed.{shown_line, shown_as, shown_fields, shown_reject};
+ghost use Rattle.log_extractor.specs.Several.{AreLinePatterns, LabelledPattern, names_of, row_of};
 ghost use Rattle.log_extractor.specs.declared.output.Form.{Form};
 ghost use Rattle.log_extractor.specs.declared.output.Output.TheVariants as output;
 
 use crate::object::append_object;
 use crate::output::Output;
-use crate::parser::Parser;
-use crate::pattern::Column;
+use crate::parsers::Parsers;
 use crate::row::{append_names, append_row};
 use std::alloc::{AllocError, Global};
 use std::io::{BufRead, Write};
@@ -31,24 +31,24 @@ pub fn parts_are_joined()
 /// Prints what comes before the lines of all inputs.
 pub fn print_head<W: Write>(
     alloc: Global,
-    parser: &Parser<'_>,
+    parsers: &Parsers<'_>,
     output: Output,
     out: &mut W,
 ) -> Result<(), Failure>
-    ensures { OnOk result ((p : LinePattern) → IsLinePattern parser.now p
-        → Appends (W.contents out.old) (W.contents out.new) (table_head output (columns_of p))) }
+    ensures { OnOk result ((ps : List LabelledPattern) → AreLinePatterns parsers.now ps
+        → Appends (W.contents out.old) (W.contents out.new) (table_head output (names_of ps))) }
 {
     let mut names = Vec::new(alloc);
-    append_head(output, parser.columns(), &mut names)?;
+    append_head(output, parsers.names(), &mut names)?;
     write_bytes(out, &names)
 }
 
 /// Appends what comes before the lines.
-fn append_head(output: Output, columns: &[Column], out: &mut Vec<u8>) -> Result<(), AllocError>
-    ensures { OnOk result (out.new.items ≡ out.old.items ++ table_head output (map group_of columns.now)) }
+fn append_head(output: Output, names: &[String], out: &mut Vec<u8>) -> Result<(), AllocError>
+    ensures { OnOk result (out.new.items ≡ out.old.items ++ table_head output (map string_bytes names.now)) }
 {
     match output {
-        Output::Table(form) => append_names(form, columns, out),
+        Output::Table(form) => append_names(form, names, out),
         Output::Rows(_) | Output::Objects | Output::Rejects => Ok(()),
     }
 }
@@ -60,17 +60,17 @@ fn append_head(output: Output, columns: &[Column], out: &mut Vec<u8>) -> Result<
 /// longest line and what is printed of it.
 pub fn print_lines<R: BufRead, W: Write>(
     alloc: Global,
-    parser: &mut Parser<'_>,
+    parsers: &mut Parsers<'_>,
     output: Output,
     input: &mut R,
     out: &mut W,
 ) -> Result<bool, Failure>
-    ensures printed { OnOk result (Writes (extracted_lines output) parser.old (R.remaining input.old)
+    ensures printed { OnOk result (Writes (extracted_lines output) parsers.old (R.remaining input.old)
         (W.contents out.old)
         (W.contents out.new)) }
-    ensures rows { IfOk result (λ rows. (p : LinePattern) → IsLinePattern parser.old p
-        → IfSome (R.remaining input.old) (λ text. rows ≡ has_row p (lines_of text))) }
-    ensures kept { parser.new ≡ parser.old }
+    ensures rows { IfOk result (λ rows. (ps : List LabelledPattern) → AreLinePatterns parsers.old ps
+        → IfSome (R.remaining input.old) (λ text. rows ≡ has_row ps (lines_of text))) }
+    ensures kept { parsers.new ≡ parsers.old }
 {
     let mut line = Vec::new(alloc);
     let mut shown = Vec::new(alloc);
@@ -80,7 +80,7 @@ pub fn print_lines<R: BufRead, W: Write>(
         if !read_line(input, before + 1, &mut line)? {
             return Ok(rows);
         }
-        let Ok(row) = append_line(alloc, parser, output, &line, &mut shown) else {
+        let Ok(row) = append_line(alloc, parsers, output, &line, &mut shown) else {
             return Err(Failure::Line(before + 1));
         };
         rows |= row;
@@ -92,19 +92,19 @@ pub fn print_lines<R: BufRead, W: Write>(
 /// Appends what is printed of the line, which may have its end. Returns whether it has a row.
 fn append_line(
     alloc: Global,
-    parser: &mut Parser<'_>,
+    parsers: &mut Parsers<'_>,
     output: Output,
     line: &[u8],
     out: &mut Vec<u8>,
 ) -> Result<bool, AllocError>
-    ensures shown { OnOk result ((p : LinePattern) → IsLinePattern parser.old p
-        → out.new.items ≡ out.old.items ++ shown_line output p line.now) }
-    ensures row { IfOk result (λ found. (p : LinePattern) → IsLinePattern parser.old p
-        → found ≡ is_some (row p (content line.now))) }
-    ensures kept { parser.new ≡ parser.old }
+    ensures shown { OnOk result ((ps : List LabelledPattern) → AreLinePatterns parsers.old ps
+        → out.new.items ≡ out.old.items ++ shown_line output ps line.now) }
+    ensures row { IfOk result (λ found. (ps : List LabelledPattern) → AreLinePatterns parsers.old ps
+        → found ≡ is_some (row_of ps (content line.now))) }
+    ensures kept { parsers.new ≡ parsers.old }
 {
-    let row = parser.parse_line(content(line))?;
-    append_shown(alloc, output, parser.columns(), line, &row, out)?;
+    let row = parsers.parse_line(content(line))?;
+    append_shown(alloc, output, parsers.names(), line, &row, out)?;
     Ok(row.is_some())
 }
 
@@ -112,16 +112,16 @@ fn append_line(
 fn append_shown(
     alloc: Global,
     output: Output,
-    columns: &[Column],
+    names: &[String],
     line: &[u8],
     row: &Option<Vec<Option<&[u8]>>>,
     out: &mut Vec<u8>,
 ) -> Result<(), AllocError>
-    ensures { OnOk result (out.new.items ≡ out.old.items ++ shown_as output (map group_of columns.now) line.now
+    ensures { OnOk result (out.new.items ≡ out.old.items ++ shown_as output (map string_bytes names.now) line.now
         (option_map (λ fields. fields_now fields.items) row.now)) }
 {
     match row {
-        Some(fields) => append_fields(alloc, output, columns, fields, out),
+        Some(fields) => append_fields(alloc, output, names, fields, out),
         None => append_reject(output, line, out),
     }
 }
@@ -130,16 +130,16 @@ fn append_shown(
 fn append_fields(
     alloc: Global,
     output: Output,
-    columns: &[Column],
+    names: &[String],
     fields: &[Option<&[u8]>],
     out: &mut Vec<u8>,
 ) -> Result<(), AllocError>
     ensures { OnOk result (out.new.items
-        ≡ out.old.items ++ shown_fields output (map group_of columns.now) (fields_now fields.now)) }
+        ≡ out.old.items ++ shown_fields output (map string_bytes names.now) (fields_now fields.now)) }
 {
     match output {
         Output::Table(form) | Output::Rows(form) => append_row(form, fields, out),
-        Output::Objects => append_object(alloc, columns, fields, out),
+        Output::Objects => append_object(alloc, names, fields, out),
         Output::Rejects => Ok(()),
     }
 }

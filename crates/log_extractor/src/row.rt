@@ -1,13 +1,12 @@
 //! Rows as lines, with a byte between the fields.
-ghost use Rattle.std.specs.Prelude.{◌≡◌, ◌∷◌, ◌++◌, OnOk, flat_map, map, option_map};
-ghost use Rattle.log_extractor.specs.Fields.{group_of, fields_now};
-ghost use Rattle.log_extractor.specs.Printed.{RowsAreLines, RowsAreReadBack, column_names, field_line, field_text};
+ghost use Rattle.std.specs.Prelude.{◌≡◌, ◌∷◌, ◌++◌, OnOk, flat_map, map, option_map, string_bytes};
+ghost use Rattle.log_extractor.specs.Fields.{fields_now};
+ghost use Rattle.log_extractor.specs.Printed.{RowsAreLines, RowsAreReadBack, field_line, field_text};
 ghost use Rattle.log_extractor.specs.Printed.{field_texts, row_line, separated};
 ghost use Rattle.log_extractor.specs.Written.{separator, written};
 
 use crate::field::append_text;
 use crate::output::Form;
-use crate::pattern::Column;
 use std::alloc::AllocError;
 
 /// A row with tabs is one line. Between its tabs it has as many fields as there are columns, and each means its text.
@@ -26,37 +25,37 @@ pub fn separator(form: Form) -> u8
     }
 }
 
-/// Appends a line with the names of the columns.
-pub fn append_names(form: Form, columns: &[Column], out: &mut Vec<u8>) -> Result<(), AllocError>
+/// Appends a line with the names.
+pub fn append_names(form: Form, names: &[String], out: &mut Vec<u8>) -> Result<(), AllocError>
     ensures { OnOk result (out.new.items
-        ≡ out.old.items ++ row_line form (column_names (map group_of columns.now))) }
+        ≡ out.old.items ++ row_line form (map string_bytes names.now)) }
 {
-    append_joined_names(form, columns, out)?;
+    append_joined_names(form, names, out)?;
     out.push(b'\n')?;
     Ok(())
 }
 
-/// Appends the names of the columns, separated.
-fn append_joined_names(form: Form, columns: &[Column], out: &mut Vec<u8>) -> Result<(), AllocError>
+/// Appends the names, separated.
+fn append_joined_names(form: Form, names: &[String], out: &mut Vec<u8>) -> Result<(), AllocError>
     ensures { OnOk result (out.new.items ≡ out.old.items
-        ++ separated (separator form) (map (written form) (column_names (map group_of columns.now)))) }
+        ++ separated (separator form) (map (written form) (map string_bytes names.now))) }
 {
-    let [column, columns @ ..] = columns else {
+    let [name, names @ ..] = names else {
         return Ok(());
     };
-    append_text(form, column.name.as_bytes(), out)?;
-    append_more_names(form, columns, out)?;
+    append_text(form, name.as_bytes(), out)?;
+    append_more_names(form, names, out)?;
     Ok(())
 }
 
-/// Appends the name of each column, with a separator before it.
-fn append_more_names(form: Form, columns: &[Column], out: &mut Vec<u8>) -> Result<(), AllocError>
+/// Appends each name, with a separator before it.
+fn append_more_names(form: Form, names: &[String], out: &mut Vec<u8>) -> Result<(), AllocError>
     ensures { OnOk result (out.new.items ≡ out.old.items ++ flat_map (λ name. separator form ∷ name)
-        (map (written form) (column_names (map group_of columns.now)))) }
+        (map (written form) (map string_bytes names.now))) }
 {
-    for column in columns {
+    for name in names {
         out.push(separator(form))?;
-        append_text(form, column.name.as_bytes(), out)?;
+        append_text(form, name.as_bytes(), out)?;
     }
     Ok(())
 }

@@ -1,0 +1,10 @@
+-- The first names are others.
+use Rattle.std.proofs.Common.{◌≡◌, List, ℕ, map, drop}
+use Rattle.std.specs.Prelude.{string_bytes}
+use Rattle.std.specs.List.{list_any}
+use Rattle.std.specs.Str.{bytes_eq}
+use Rattle.log_extractor.proofs.names.has_name.Given as goal
+
+abbrev pub invariant-loop-other : goal.invariant-loop-other
+invariant-loop-other l = list_any (λ (x : List ℕ). bytes_eq x l.name) (map string_bytes l.names)
+    ≡ list_any (λ (x : List ℕ). bytes_eq x l.name) (map string_bytes (drop l.other-index l.names))

@@ -1,0 +1,163 @@
+//! The rows of lines by the first of several patterns that matches.
+ghost use Rattle.std.specs.Prelude.{◌≡◌, ◌++◌, IfOk, List, OnOk, drop, map, option_map, string_bytes};
+ghost use Rattle.log_extractor.specs.Fields.{fields_now, group_of};
+ghost use Rattle.log_extractor.specs.Several.{AreLinePatterns, IsLabelledPattern, LabelledPattern, fields_named};
+ghost use Rattle.log_extractor.specs.Several.{label_field, row_of_first, row_of_one, text_of};
+
+use crate::names::{push_fields, union_of};
+use crate::parser::Parser;
+use std::alloc::{AllocError, Global};
+use std::marker::Model;
+
+/// The name of the column that says by which pattern a line has its row.
+pub const LABEL: &str = "pattern";
+
+/// A parser, and what the rows of its lines have in the column of labels.
+#[derive(Drop)]
+pub struct LabelledParser<'p> {
+    pub label: &'p str,
+    pub parser: Parser<'p>,
+}
+
+/// Finds the rows of lines. A line has the row of the first parser whose pattern matches it from its start.
+///
+/// A contract sees the labels and the texts of the patterns.
+#[derive(Drop)]
+pub struct Parsers<'p> {
+    alloc: Global,
+    parsers: Vec<LabelledParser<'p>>,
+    /// The name of the column of labels, and the names of the other columns.
+    names: Vec<String>,
+}
+
+impl<'p> Model for Parsers<'p> {
+    ghost use Rattle.std.specs.Prelude.{◌≡◌, ◌∷◌, List, codes, map, string_bytes};
+    ghost use Rattle.log_extractor.specs.Several.{AreLinePatterns, LabelledPattern, LabelledText};
+    ghost use Rattle.log_extractor.specs.Several.{text_of, union_names};
+
+    ghost Value = { List LabelledText };
+
+    ghost view = { λ p. map text_of p.parsers.items };
+
+    ghost invariant = { λ p. (ps : List LabelledPattern) → AreLinePatterns (map text_of p.parsers.items) ps
+        → map string_bytes p.names.items ≡ codes "pattern" ∷ union_names ps };
+}
+
+impl<'p> Parsers<'p> {
+    ghost use Rattle.log_extractor.specs.Several.{names_of, row_of};
+
+    /// Joins the parsers. The columns are the named groups of all, each name once, in the order of their first
+    /// appearance. If there are several parsers, a column of labels is first.
+    ///
+    /// The only error is that allocation failed.
+    pub fn new(alloc: Global, parsers: Vec<LabelledParser<'p>>) -> Result<Parsers<'p>, AllocError>
+        ensures { IfOk result (λ made. made ≡ map text_of parsers.entry.items) }
+    {
+        let mut names = union_of(alloc, &parsers)?;
+        names.insert(0, String::from_str(alloc, LABEL)?)?;
+        Ok(Parsers {
+            alloc,
+            parsers,
+            names,
+        })
+    }
+
+    /// Returns the names of the columns.
+    pub fn names(&self) -> &[String]
+        ensures { (ps : List LabelledPattern) → AreLinePatterns self.now ps
+            → map string_bytes result.now ≡ names_of ps }
+    {
+        if self.parsers.len() > 1 {
+            &self.names
+        } else {
+            after_first(&self.names)
+        }
+    }
+
+    /// Returns the fields of the line, one for each column: the text that the match last wrote for the group. A field
+    /// is `None` if the match wrote nothing for its group, or the pattern has no such group. Returns `None` if no
+    /// pattern matches the line from its start. The only error is that allocation failed.
+    pub fn parse_line<'l>(
+        &mut self,
+        line: &'l [u8],
+    ) -> Result<Option<Vec<Option<&'l [u8]>>>, AllocError>
+    where
+        'p: 'l,
+        ensures fields { IfOk result (λ found. (ps : List LabelledPattern) → AreLinePatterns self.old ps
+            → option_map (λ fields. fields_now fields.items) found ≡ row_of ps line.now) }
+        ensures kept { self.new ≡ self.old }
+    {
+        let several = self.parsers.len() > 1;
+        let names = after_first(&self.names);
+        first_row(self.alloc, several, names, &mut self.parsers, line)
+    }
+}
+
+/// Returns the names after the first one.
+fn after_first(names: &[String]) -> &[String]
+    ensures { result.now ≡ drop 1 names.now }
+{
+    match names {
+        [_, names @ ..] => names,
+        [] => names,
+    }
+}
+
+/// Returns the row of the line by the first of the parsers that has one.
+fn first_row<'l, 'p: 'l>(
+    alloc: Global,
+    several: bool,
+    names: &[String],
+    parsers: &mut [LabelledParser<'p>],
+    line: &'l [u8],
+) -> Result<Option<Vec<Option<&'l [u8]>>>, AllocError>
+    ensures fields { IfOk result (λ found. (ps : List LabelledPattern) → AreLinePatterns (map text_of parsers.old) ps
+        → option_map (λ fields. fields_now fields.items) found
+        ≡ row_of_first several (map string_bytes names.now) ps line.now) }
+    ensures kept { parsers.new ≡ parsers.old }
+{
+    for number in 0..parsers.len() {
+        let row = row_by(alloc, several, names, &mut parsers[number], line)?;
+        if row.is_some() {
+            return Ok(row);
+        }
+    }
+    Ok(None)
+}
+
+/// Returns the row of the line by the parser: its label, if there are several parsers, and the fields of the columns
+/// of these names.
+fn row_by<'l, 'p: 'l>(
+    alloc: Global,
+    several: bool,
+    names: &[String],
+    labelled: &mut LabelledParser<'p>,
+    line: &'l [u8],
+) -> Result<Option<Vec<Option<&'l [u8]>>>, AllocError>
+    ensures fields { IfOk result (λ found. (p : LabelledPattern) → IsLabelledPattern (text_of labelled.old) p
+        → option_map (λ fields. fields_now fields.items) found
+        ≡ row_of_one several (map string_bytes names.now) p line.now) }
+    ensures kept { labelled.new ≡ labelled.old }
+{
+    let Some(fields) = labelled.parser.parse_line(line)? else {
+        return Ok(None);
+    };
+    let mut row = label_field(alloc, several, labelled.label)?;
+    push_fields(names, labelled.parser.columns(), &fields, &mut row)?;
+    Ok(Some(row))
+}
+
+/// Returns the field of the label, if there are several parsers.
+fn label_field<'l>(
+    alloc: Global,
+    several: bool,
+    label: &'l str,
+) -> Result<Vec<Option<&'l [u8]>>, AllocError>
+    ensures { IfOk result (λ fields. fields_now fields.items ≡ label_field several label.now) }
+{
+    let mut fields = Vec::new(alloc);
+    if several {
+        fields.push(Some(label.as_bytes()))?;
+    }
+    Ok(fields)
+}
