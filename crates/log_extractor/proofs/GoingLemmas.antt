@@ -9,7 +9,7 @@ use Rattle.text_lines.proofs.LineLemmas.{first-line, none-left}
 use Rattle.text_lines.proofs.PartLemmas.{lines-of-parts}
 use Rattle.log_extractor.specs.Going.{HasWritten}
 use Rattle.log_extractor.specs.Printed.{extracted_lines, has_row, shown_line}
-use Rattle.log_extractor.specs.Several.{LabelledPattern, row_of}
+use Rattle.log_extractor.specs.Several.{LabelledPattern, row_by_first}
 use Rattle.log_extractor.specs.declared.output.Output.{Output}
 
 module _ (output : Output) (ps : List LabelledPattern) where
@@ -80,7 +80,7 @@ looking-init ps (Some text) = record { rest = text; rest_is = refl; found_is = r
 
 pub looking-step : (ps : List LabelledPattern) (before input after : Option (List ℕ)) (line : List ℕ) (found : Bool)
     → TakesLine input after line → HasLooked ps before input found
-    → HasLooked ps before after (found || is_some (row_of ps (content line)))
+    → HasLooked ps before after (found || is_some (row_by_first ps (content line)))
 looking-step ps None input after line found takes looked = tt
 looking-step ps (Some text) input after line found takes looked =
     let first = first-line input looked.rest looked.rest_is after line takes in
@@ -88,7 +88,7 @@ looking-step ps (Some text) input after line found takes looked =
       rest = first.rest;
       rest_is = first.left_is;
       found_is = looked.found_is ∙ ap (λ (ls : List (List ℕ)). found || has_row ps ls) first.lines_are
-          ∙ or-joined found (is_some (row_of ps (content line))) (has_row ps (lines_of first.rest));
+          ∙ or-joined found (is_some (row_by_first ps (content line))) (has_row ps (lines_of first.rest));
     }
 
 pub looking-end : (ps : List LabelledPattern) (before input : Option (List ℕ)) (found : Bool) → HasNoLine input

@@ -7,7 +7,7 @@ use Rattle.std.specs.Str.{bytes_eq}
 use Rattle.std.specs.declared.alloc.Global.{Global}
 use Rattle.std.proofs.lemmas.List.{length-take, map-append, set-get_or, take_more}
 use Rattle.log_extractor.specs.Fields.{NamedGroup, column_names, columns_of, group_of, row}
-use Rattle.log_extractor.specs.Several.{AreLinePatterns, IsLabelledPattern, LabelledPattern, field_at, field_named, fields_named, is_several, label_field, label_name, label_of, labels_from, names_of, row_of, row_of_first, row_of_one, text_of, union_names, with_columns, with_name, with_names}
+use Rattle.log_extractor.specs.Several.{AreLinePatterns, IsLabelledPattern, LabelledPattern, field_at, field_named, fields_named, is_several, label_field, label_name, pattern_label, labels_from, shown_names, row_by_first, row_of_first, row_of_one, labelled_text, union_names, with_columns, with_name, with_names}
 use Rattle.log_extractor.specs.declared.command.Given.{Given}
 use Rattle.log_extractor.specs.declared.parsers.LabelledParser.{LabelledParser}
 use Rattle.log_extractor.specs.declared.pattern.Column.{Column}
@@ -59,17 +59,17 @@ columns-step ps i p columns old new more so-far are here =
 -- the pattern of the parser of this number
 pub record IsAt (parsers : List LabelledParser) (ps : List LabelledPattern) (n : ℕ) (x : LabelledParser) : Type 0 where
   pub p : LabelledPattern
-  pub is : IsLabelledPattern (text_of x) p
+  pub is : IsLabelledPattern (labelled_text x) p
   pub rest : drop n ps ≡ p ∷ drop (n + 1) ps
   pub first : take (n + 1) ps ≡ take n ps ++ p ∷ []
 
 pub pattern-at : (parsers : List LabelledParser) (ps : List LabelledPattern) (n : ℕ) (x : LabelledParser)
-    → AreLinePatterns (map text_of parsers) ps → n < length parsers → x ≡ get_or parsers n x → IsAt parsers ps n x
+    → AreLinePatterns (map labelled_text parsers) ps → n < length parsers → x ≡ get_or parsers n x → IsAt parsers ps n x
 pattern-at [] ps n x are inside at = absurd (omega (arith, inside))
 pattern-at (q ∷ qs) [] n x are inside at = absurd are
 pattern-at (q ∷ qs) (p ∷ ps) zero x are inside at = record {
   p = p;
-  is = subst (λ (y : LabelledParser). IsLabelledPattern (text_of y) p) (sym at) are.0;
+  is = subst (λ (y : LabelledParser). IsLabelledPattern (labelled_text y) p) (sym at) are.0;
   rest = refl;
   first = refl;
 }
@@ -84,7 +84,7 @@ pattern-at (q ∷ qs) (p ∷ ps) (suc n) x are inside at =
     }
 
 pub none-after : (parsers : List LabelledParser) (ps : List LabelledPattern) (n : ℕ)
-    → AreLinePatterns (map text_of parsers) ps → length parsers ≤ n → drop n ps ≡ []
+    → AreLinePatterns (map labelled_text parsers) ps → length parsers ≤ n → drop n ps ≡ []
 none-after [] [] zero are past = refl
 none-after [] [] (suc n) are past = refl
 none-after [] (p ∷ ps) n are past = absurd are
@@ -93,7 +93,7 @@ none-after (q ∷ qs) (p ∷ ps) zero are past = absurd (omega (arith, past))
 none-after (q ∷ qs) (p ∷ ps) (suc n) are past = none-after qs ps n are.1 (omega (arith, past))
 
 pub all-before : (parsers : List LabelledParser) (ps : List LabelledPattern) (n : ℕ)
-    → AreLinePatterns (map text_of parsers) ps → length parsers ≤ n → take n ps ≡ ps
+    → AreLinePatterns (map labelled_text parsers) ps → length parsers ≤ n → take n ps ≡ ps
 all-before [] [] zero are past = refl
 all-before [] [] (suc n) are past = refl
 all-before [] (p ∷ ps) n are past = absurd are
@@ -135,8 +135,8 @@ none-mapped f (Some a) r none same = absurd (cc)
 -- the parser of this number has the row
 pub first-found : (several : Bool) (names : List (List ℕ)) (parsers : List LabelledParser) (ps : List LabelledPattern)
     (n : ℕ) (x : LabelledParser) (line : List ℕ) (row : Option (List (Option (List ℕ))))
-    → AreLinePatterns (map text_of parsers) ps → n < length parsers → x ≡ get_or parsers n x
-    → ((p : LabelledPattern) → IsLabelledPattern (text_of x) p → row ≡ row_of_one several names p line)
+    → AreLinePatterns (map labelled_text parsers) ps → n < length parsers → x ≡ get_or parsers n x
+    → ((p : LabelledPattern) → IsLabelledPattern (labelled_text x) p → row ≡ row_of_one several names p line)
     → IsSome row → row ≡ row_of_first several names (drop n ps) line
 first-found several names parsers ps n x line row are inside at by some =
     let it = pattern-at parsers ps n x are inside at in
@@ -148,8 +148,8 @@ first-found several names parsers ps n x line row are inside at by some =
 -- the parser of this number has none
 pub first-passed : (several : Bool) (names : List (List ℕ)) (parsers : List LabelledParser) (ps : List LabelledPattern)
     (n : ℕ) (x : LabelledParser) (line : List ℕ) (row : Option (List (Option (List ℕ))))
-    → AreLinePatterns (map text_of parsers) ps → n < length parsers → x ≡ get_or parsers n x
-    → ((p : LabelledPattern) → IsLabelledPattern (text_of x) p → row ≡ row_of_one several names p line)
+    → AreLinePatterns (map labelled_text parsers) ps → n < length parsers → x ≡ get_or parsers n x
+    → ((p : LabelledPattern) → IsLabelledPattern (labelled_text x) p → row ≡ row_of_one several names p line)
     → row ≡ None → row_of_first several names (drop n ps) line ≡ row_of_first several names (drop (n + 1) ps) line
 first-passed several names parsers ps n x line row are inside at by none =
     let it = pattern-at parsers ps n x are inside at in
@@ -164,7 +164,7 @@ whole-again : {A : Type 0} (xs : List A) → take (length xs) (xs ++ drop (lengt
 whole-again [] = refl
 whole-again (x ∷ xs) = ap (λ ys. x ∷ ys) (whole-again xs)
 
--- the list of a vector whose slice was lent, and is the same
+-- the list of a vector, after its slice was borrowed and did not change
 pub written-back : {A : Type 0} (xs new : List A) (n : ℕ) → new ≡ xs → n ≡ length xs
     → take n (new ++ drop (length new) xs) ≡ xs
 written-back xs new n same count =
@@ -190,7 +190,8 @@ several-length [] several more less = sym (less (omega arith))
 several-length (x ∷ []) several more less = sym (less (omega arith))
 several-length (x ∷ y ∷ xs) several more less = sym (more (omega arith))
 
-same-several : (parsers : List LabelledParser) (ps : List LabelledPattern) → AreLinePatterns (map text_of parsers) ps
+same-several : (parsers : List LabelledParser) (ps : List LabelledPattern)
+    → AreLinePatterns (map labelled_text parsers) ps
     → is_several ps ≡ is_several parsers
 same-several [] [] are = refl
 same-several [] (p ∷ ps) are = absurd are
@@ -201,7 +202,7 @@ same-several (q ∷ s ∷ qs) (p ∷ []) are = absurd are.1
 same-several (q ∷ s ∷ qs) (p ∷ r ∷ ps) are = refl
 
 pub several-patterns : (parsers : List LabelledParser) (ps : List LabelledPattern) (several : Bool)
-    → AreLinePatterns (map text_of parsers) ps → ((1 < length parsers) → several ≡ true)
+    → AreLinePatterns (map labelled_text parsers) ps → ((1 < length parsers) → several ≡ true)
     → ((length parsers ≤ 1) → several ≡ false) → is_several ps ≡ several
 several-patterns parsers ps several are more less =
     same-several parsers ps are ∙ several-length parsers several more less
@@ -222,17 +223,17 @@ label-first names name new label rest is first others =
     ∙ ap (λ (ns : List (List ℕ)). label ∷ ns) others
 
 pub names-several : (parsers : List LabelledParser) (ps : List LabelledPattern) (names : List (List ℕ))
-    → AreLinePatterns (map text_of parsers) ps → 1 < length parsers → names ≡ codes "pattern" ∷ union_names ps
-    → names ≡ names_of ps
+    → AreLinePatterns (map labelled_text parsers) ps → 1 < length parsers → names ≡ codes "pattern" ∷ union_names ps
+    → names ≡ shown_names ps
 names-several parsers ps names are more is =
     is
     ∙ ap (λ (b : Bool). label_name b ++ union_names ps)
     (sym (several-patterns parsers ps true are (λ m. refl) (λ l. absurd (omega (arith, more, l)))))
 
 pub names-single : (parsers : List LabelledParser) (ps : List LabelledPattern) (names rest : List (String Global))
-    → AreLinePatterns (map text_of parsers) ps → length parsers ≤ 1
+    → AreLinePatterns (map labelled_text parsers) ps → length parsers ≤ 1
     → map string_bytes names ≡ codes "pattern" ∷ union_names ps → rest ≡ drop 1 names
-    → map string_bytes rest ≡ names_of ps
+    → map string_bytes rest ≡ shown_names ps
 names-single parsers ps names rest are less is rest-is =
     ap (map string_bytes) rest-is ∙ union-after-label names ps is
     ∙ ap (λ (b : Bool). label_name b ++ union_names ps)
@@ -240,9 +241,9 @@ names-single parsers ps names rest are less is rest-is =
 
 pub row-found : (parsers : List LabelledParser) (ps : List LabelledPattern) (several : Bool)
     (names rest : List (String Global)) (line : List ℕ) (found : Option (List (Option (List ℕ))))
-    → AreLinePatterns (map text_of parsers) ps → ((1 < length parsers) → several ≡ true)
+    → AreLinePatterns (map labelled_text parsers) ps → ((1 < length parsers) → several ≡ true)
     → ((length parsers ≤ 1) → several ≡ false) → map string_bytes names ≡ codes "pattern" ∷ union_names ps
-    → rest ≡ drop 1 names → found ≡ row_of_first several (map string_bytes rest) ps line → found ≡ row_of ps line
+    → rest ≡ drop 1 names → found ≡ row_of_first several (map string_bytes rest) ps line → found ≡ row_by_first ps line
 row-found parsers ps several names rest line found are more less is rest-is found-is =
     found-is
     ∙ ap (λ (b : Bool). row_of_first b (map string_bytes rest) ps line)
@@ -338,14 +339,14 @@ no-more-names (x ∷ xs) name (suc n) past = no-more-names xs name n (omega (ari
 -- Labels.
 
 labels-more : (before : List Given) (given : Given) (n m : ℕ) → m ≡ n + length before
-    → labels_from n (before ++ given ∷ []) ≡ labels_from n before ++ label_of m given ∷ []
-labels-more [] given n m is = let same : n ≡ m = omega (arith, is) in ap (λ k. label_of k given ∷ []) same
+    → labels_from n (before ++ given ∷ []) ≡ labels_from n before ++ pattern_label m given ∷ []
+labels-more [] given n m is = let same : n ≡ m = omega (arith, is) in ap (λ k. pattern_label k given ∷ []) same
 labels-more (b ∷ before) given n m is =
-    ap (λ ls. label_of n b ∷ ls) (labels-more before given (n + 1) m (omega (arith, is)))
+    ap (λ ls. pattern_label n b ∷ ls) (labels-more before given (n + 1) m (omega (arith, is)))
 
 pub labels-step : (patterns : List Given) (i : ℕ) (given : Given) (labels new : List (String Global))
     (label : String Global) → i < length patterns → new ≡ labels ++ label ∷ []
-    → string_bytes label ≡ label_of i (get_or patterns i given)
+    → string_bytes label ≡ pattern_label i (get_or patterns i given)
     → map string_bytes labels ≡ labels_from 0 (take i patterns)
     → map string_bytes new ≡ labels_from 0 (take (i + 1) patterns)
 labels-step patterns i given labels new label inside is here so-far =

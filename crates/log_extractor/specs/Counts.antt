@@ -12,7 +12,7 @@ use Rattle.std.specs.declared.cmp.Ordering.{Ordering}
 use Rattle.std.specs.declared.cmp.Reverse.{Reverse}
 use Rattle.text_lines.specs.Lines.{content, line_feed, lines_of}
 use Rattle.log_extractor.specs.Printed.{field_text}
-use Rattle.log_extractor.specs.Several.{LabelledPattern, row_of}
+use Rattle.log_extractor.specs.Several.{LabelledPattern, row_by_first}
 use Rattle.log_extractor.specs.Written.{separator, written}
 use Rattle.log_extractor.specs.declared.output.Form.{Form}
 
@@ -28,7 +28,7 @@ listed_option (Some value) = value ∷ []
 
 -- the value of the column in the row of a line, if the line has a row
 abbrev pub value_in : List LabelledPattern → ℕ → List ℕ → List (List ℕ)
-value_in ps column line = listed_option (value_at column (row_of ps (content line)))
+value_in ps column line = listed_option (value_at column (row_by_first ps (content line)))
 
 -- the values of the column in the rows of a text, in order
 abbrev pub values_in : List LabelledPattern → ℕ → List ℕ → List (List ℕ)

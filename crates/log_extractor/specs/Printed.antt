@@ -4,7 +4,7 @@ use Rattle.std.specs.List.{list_any}
 use Rattle.std.specs.Str.Lossy.{utf8_lossy}
 use Rattle.json.specs.Print.{quoted}
 use Rattle.text_lines.specs.Lines.{content, line_feed, lines_of, with_feed}
-use Rattle.log_extractor.specs.Several.{LabelledPattern, names_of, row_of}
+use Rattle.log_extractor.specs.Several.{LabelledPattern, shown_names, row_by_first}
 use Rattle.log_extractor.specs.Written.{carriage_return, feed, separator, tab, unescaped, written}
 use Rattle.log_extractor.specs.declared.output.Form.{Form}
 use Rattle.log_extractor.specs.declared.output.Form.TheVariants.{Tabs}
@@ -94,7 +94,7 @@ shown_as output names line (Some fields) = shown_fields output names fields
 
 -- what is printed of a line
 abbrev pub shown_line : Output → List LabelledPattern → List ℕ → List ℕ
-shown_line output ps line = shown_as output (names_of ps) line (row_of ps (content line))
+shown_line output ps line = shown_as output (shown_names ps) line (row_by_first ps (content line))
 
 -- what is printed before the lines: of a table, the names of the columns
 abbrev pub table_head : Output → List (List ℕ) → List ℕ
@@ -105,7 +105,7 @@ table_head Rejects names = []
 
 -- whether one of these lines has a row
 abbrev pub has_row : List LabelledPattern → List (List ℕ) → Bool
-has_row ps lines = list_any (λ line. is_some (row_of ps (content line))) lines
+has_row ps lines = list_any (λ line. is_some (row_by_first ps (content line))) lines
 
 -- what is printed of the lines of a text, in order
 abbrev pub extracted_lines : Output → List LabelledPattern → List ℕ → List ℕ
@@ -113,7 +113,7 @@ extracted_lines output ps text = flat_map (shown_line output ps) (lines_of text)
 
 -- what is printed of a text
 abbrev pub extracted : Output → List LabelledPattern → List ℕ → List ℕ
-extracted output ps text = table_head output (names_of ps) ++ extracted_lines output ps text
+extracted output ps text = table_head output (shown_names ps) ++ extracted_lines output ps text
 
 -- Of a text that is cut after a line feed, the same is printed as of its two parts, one after the other.
 abbrev pub PartsAreJoined : Output → Type 0

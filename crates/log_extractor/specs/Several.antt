@@ -26,17 +26,17 @@ abbrev pub AreLinePatterns : List LabelledText → List LabelledPattern → Type
 AreLinePatterns texts ps = AllZip IsLabelledPattern texts ps
 
 -- the label of the pattern of this number: the name of its format, if it has one, or the number in digits
-abbrev pub label_of : ℕ → Given → List ℕ
-label_of number given = unwrap_or (option_map (λ (name : Bor (List ℕ)). name.now) given.format) (decimal number)
+abbrev pub pattern_label : ℕ → Given → List ℕ
+pattern_label number given = unwrap_or (option_map (λ (name : Bor (List ℕ)). name.now) given.format) (decimal number)
 
 -- the labels of patterns, the first of which has this number
 abbrev pub labels_from : ℕ → List Given → List (List ℕ)
 labels_from number [] = []
-labels_from number (given ∷ more) = label_of number given ∷ labels_from (number + 1) more
+labels_from number (given ∷ more) = pattern_label number given ∷ labels_from (number + 1) more
 
 -- what a parser with a label is
-abbrev pub text_of : LabelledParser → LabelledText
-text_of labelled = (labelled.label.now, labelled.parser)
+abbrev pub labelled_text : LabelledParser → LabelledText
+labelled_text labelled = (labelled.label.now, labelled.parser)
 
 -- the names and one more, unless it is one of them
 abbrev pub with_name : List (List ℕ) → List ℕ → List (List ℕ)
@@ -96,9 +96,9 @@ row_of_first several names (p ∷ ps) line =
     option_or (row_of_one several names p line) (row_of_first several names ps line)
 
 -- the names of the columns: of several patterns first that of the label
-abbrev pub names_of : List LabelledPattern → List (List ℕ)
-names_of ps = label_name (is_several ps) ++ union_names ps
+abbrev pub shown_names : List LabelledPattern → List (List ℕ)
+shown_names ps = label_name (is_several ps) ++ union_names ps
 
 -- The row of a line by the patterns: it has one exactly if one of them matches it from its start.
-abbrev pub row_of : List LabelledPattern → List ℕ → Option (List (Option (List ℕ)))
-row_of ps line = row_of_first (is_several ps) (union_names ps) ps line
+abbrev pub row_by_first : List LabelledPattern → List ℕ → Option (List (Option (List ℕ)))
+row_by_first ps line = row_of_first (is_several ps) (union_names ps) ps line

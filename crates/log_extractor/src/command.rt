@@ -1,6 +1,6 @@
 //! What the arguments of the command line ask for.
 ghost use Rattle.std.specs.Prelude.{◌≡◌, IfOk, map, string_bytes};
-ghost use Rattle.log_extractor.specs.Several.{label_of, labels_from};
+ghost use Rattle.log_extractor.specs.Several.{pattern_label, labels_from};
 
 use crate::output::{Form, Output};
 use crate::pattern::{COMBINED, LINE, SYSLOG};
@@ -237,14 +237,14 @@ pub fn labels_of(alloc: Global, patterns: &[Given<'_>]) -> Result<Vec<String>, A
 {
     let mut labels = Vec::new(alloc);
     for (number, given) in patterns.iter().enumerate() {
-        labels.push(label_of(alloc, number, given)?)?;
+        labels.push(pattern_label(alloc, number, given)?)?;
     }
     Ok(labels)
 }
 
 /// Returns the label of the pattern of this number.
-fn label_of(alloc: Global, number: usize, given: &Given<'_>) -> Result<String, AllocError>
-    ensures { IfOk result (λ label. string_bytes label ≡ label_of number given.now) }
+fn pattern_label(alloc: Global, number: usize, given: &Given<'_>) -> Result<String, AllocError>
+    ensures { IfOk result (λ label. string_bytes label ≡ pattern_label number given.now) }
 {
     match given.format {
         Some(name) => String::from_str(alloc, name),

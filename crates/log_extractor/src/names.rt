@@ -3,7 +3,7 @@ ghost use Rattle.std.specs.Prelude.{◌≡◌, ◌++◌, IfOk, List, OnOk, map, 
 ghost use Rattle.std.specs.List.{list_any};
 ghost use Rattle.std.specs.Str.{bytes_eq};
 ghost use Rattle.log_extractor.specs.Fields.{column_names, fields_now, group_of};
-ghost use Rattle.log_extractor.specs.Several.{AreLinePatterns, LabelledPattern, field_at, field_named, fields_named, text_of};
+ghost use Rattle.log_extractor.specs.Several.{AreLinePatterns, LabelledPattern, field_at, field_named, fields_named, labelled_text};
 ghost use Rattle.log_extractor.specs.Several.{union_names, with_name, with_names};
 
 use crate::parsers::LabelledParser;
@@ -12,7 +12,7 @@ use std::alloc::{AllocError, Global};
 
 /// Returns the names of the columns of all parsers, each once, in the order of their first appearance.
 pub fn union_of(alloc: Global, parsers: &[LabelledParser<'_>]) -> Result<Vec<String>, AllocError>
-    ensures { IfOk result (λ names. (ps : List LabelledPattern) → AreLinePatterns (map text_of parsers.now) ps
+    ensures { IfOk result (λ names. (ps : List LabelledPattern) → AreLinePatterns (map labelled_text parsers.now) ps
         → map string_bytes names.items ≡ union_names ps) }
 {
     let mut names = Vec::new(alloc);

@@ -2,7 +2,7 @@
 ghost use Rattle.std.specs.Prelude.{◌≡◌, ◌++◌, IfOk, List, OnOk, drop, map, option_map, string_bytes};
 ghost use Rattle.log_extractor.specs.Fields.{fields_now, group_of};
 ghost use Rattle.log_extractor.specs.Several.{AreLinePatterns, IsLabelledPattern, LabelledPattern, fields_named};
-ghost use Rattle.log_extractor.specs.Several.{label_field, row_of_first, row_of_one, text_of};
+ghost use Rattle.log_extractor.specs.Several.{label_field, row_of_first, row_of_one, labelled_text};
 
 use crate::names::{push_fields, union_of};
 use crate::parser::Parser;
@@ -33,25 +33,25 @@ pub struct Parsers<'p> {
 impl<'p> Model for Parsers<'p> {
     ghost use Rattle.std.specs.Prelude.{◌≡◌, ◌∷◌, List, codes, map, string_bytes};
     ghost use Rattle.log_extractor.specs.Several.{AreLinePatterns, LabelledPattern, LabelledText};
-    ghost use Rattle.log_extractor.specs.Several.{text_of, union_names};
+    ghost use Rattle.log_extractor.specs.Several.{labelled_text, union_names};
 
     ghost Value = { List LabelledText };
 
-    ghost view = { λ p. map text_of p.parsers.items };
+    ghost view = { λ p. map labelled_text p.parsers.items };
 
-    ghost invariant = { λ p. (ps : List LabelledPattern) → AreLinePatterns (map text_of p.parsers.items) ps
+    ghost invariant = { λ p. (ps : List LabelledPattern) → AreLinePatterns (map labelled_text p.parsers.items) ps
         → map string_bytes p.names.items ≡ codes "pattern" ∷ union_names ps };
 }
 
 impl<'p> Parsers<'p> {
-    ghost use Rattle.log_extractor.specs.Several.{names_of, row_of};
+    ghost use Rattle.log_extractor.specs.Several.{shown_names, row_by_first};
 
     /// Joins the parsers. The columns are the named groups of all, each name once, in the order of their first
     /// appearance. If there are several parsers, a column of labels is first.
     ///
     /// The only error is that allocation failed.
     pub fn new(alloc: Global, parsers: Vec<LabelledParser<'p>>) -> Result<Parsers<'p>, AllocError>
-        ensures { IfOk result (λ made. made ≡ map text_of parsers.entry.items) }
+        ensures { IfOk result (λ made. made ≡ map labelled_text parsers.entry.items) }
     {
         let mut names = union_of(alloc, &parsers)?;
         names.insert(0, String::from_str(alloc, LABEL)?)?;
@@ -65,7 +65,7 @@ impl<'p> Parsers<'p> {
     /// Returns the names of the columns.
     pub fn names(&self) -> &[String]
         ensures { (ps : List LabelledPattern) → AreLinePatterns self.now ps
-            → map string_bytes result.now ≡ names_of ps }
+            → map string_bytes result.now ≡ shown_names ps }
     {
         if self.parsers.len() > 1 {
             &self.names
@@ -84,7 +84,7 @@ impl<'p> Parsers<'p> {
     where
         'p: 'l,
         ensures fields { IfOk result (λ found. (ps : List LabelledPattern) → AreLinePatterns self.old ps
-            → option_map (λ fields. fields_now fields.items) found ≡ row_of ps line.now) }
+            → option_map (λ fields. fields_now fields.items) found ≡ row_by_first ps line.now) }
         ensures kept { self.new ≡ self.old }
     {
         let several = self.parsers.len() > 1;
@@ -111,7 +111,8 @@ fn first_row<'l, 'p: 'l>(
     parsers: &mut [LabelledParser<'p>],
     line: &'l [u8],
 ) -> Result<Option<Vec<Option<&'l [u8]>>>, AllocError>
-    ensures fields { IfOk result (λ found. (ps : List LabelledPattern) → AreLinePatterns (map text_of parsers.old) ps
+    ensures fields { IfOk result (λ found. (ps : List LabelledPattern)
+        → AreLinePatterns (map labelled_text parsers.old) ps
         → option_map (λ fields. fields_now fields.items) found
         ≡ row_of_first several (map string_bytes names.now) ps line.now) }
     ensures kept { parsers.new ≡ parsers.old }
@@ -134,7 +135,7 @@ fn row_by<'l, 'p: 'l>(
     labelled: &mut LabelledParser<'p>,
     line: &'l [u8],
 ) -> Result<Option<Vec<Option<&'l [u8]>>>, AllocError>
-    ensures fields { IfOk result (λ found. (p : LabelledPattern) → IsLabelledPattern (text_of labelled.old) p
+    ensures fields { IfOk result (λ found. (p : LabelledPattern) → IsLabelledPattern (labelled_text labelled.old) p
         → option_map (λ fields. fields_now fields.items) found
         ≡ row_of_one several (map string_bytes names.now) p line.now) }
     ensures kept { labelled.new ≡ labelled.old }

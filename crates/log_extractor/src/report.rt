@@ -6,7 +6,7 @@ ghost use Rattle.log_extractor.specs.Fields.{fields_now};
 ghost use Rattle.log_extractor.specs.Going.{Writes};
 ghost use Rattle.log_extractor.specs.Printed.{PartsAreJoined, table_head, extracted_lines, has_row};
 ghost use Rattle.log_extractor.specs.Printed.{shown_line, shown_as, shown_fields, shown_reject};
-ghost use Rattle.log_extractor.specs.Several.{AreLinePatterns, LabelledPattern, names_of, row_of};
+ghost use Rattle.log_extractor.specs.Several.{AreLinePatterns, LabelledPattern, shown_names, row_by_first};
 ghost use Rattle.log_extractor.specs.declared.output.Form.{Form};
 ghost use Rattle.log_extractor.specs.declared.output.Output.TheVariants as output;
 
@@ -36,7 +36,7 @@ pub fn print_head<W: Write>(
     out: &mut W,
 ) -> Result<(), Failure>
     ensures { OnOk result ((ps : List LabelledPattern) → AreLinePatterns parsers.now ps
-        → Appends (W.contents out.old) (W.contents out.new) (table_head output (names_of ps))) }
+        → Appends (W.contents out.old) (W.contents out.new) (table_head output (shown_names ps))) }
 {
     let mut names = Vec::new(alloc);
     append_head(output, parsers.names(), &mut names)?;
@@ -100,7 +100,7 @@ fn append_line(
     ensures shown { OnOk result ((ps : List LabelledPattern) → AreLinePatterns parsers.old ps
         → out.new.items ≡ out.old.items ++ shown_line output ps line.now) }
     ensures row { IfOk result (λ found. (ps : List LabelledPattern) → AreLinePatterns parsers.old ps
-        → found ≡ is_some (row_of ps (content line.now))) }
+        → found ≡ is_some (row_by_first ps (content line.now))) }
     ensures kept { parsers.new ≡ parsers.old }
 {
     let row = parsers.parse_line(content(line))?;

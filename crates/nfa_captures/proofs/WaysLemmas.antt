@@ -14,7 +14,7 @@ use Rattle.nfa_paths.specs.Paths.{edges, is_utf8_empty, last_of, path_half, path
 use Rattle.nfa_paths.specs.Paths.{IsAnswer, IsBoolAnswer, IsFindAnswer, IsHalfAnswer}
 use Rattle.nfa_paths.specs.Paths.{IsKeptAnswer, IsMatch, IsRestartedAnswer, IsScanAnswer, IsSearchAnswer, SplitsCharacter}
 
--- nothing but what paths write tells the two NFAs apart
+-- the two NFAs differ only in what their paths write
 pub record HaveSameWays (a b : Automaton) : Type 0 where
   pub edges_are : (x : Search) → edges a x ≡ edges b x
   pub starts_are : (x : Search) → starts a x ≡ starts b x

@@ -2,7 +2,7 @@
 use Rattle.std.proofs.Common.{◌≡◌, ◌∙◌, ◌<◌, ◌≤◌, List, ap, arith, false, get_or, length, map, refl, subst, sym, true}
 use Rattle.std.specs.Prelude.{is_some, option_map, string_bytes}
 use Rattle.log_extractor.specs.Fields.{fields_now}
-use Rattle.log_extractor.specs.Several.{AreLinePatterns, LabelledPattern, row_of_first, text_of}
+use Rattle.log_extractor.specs.Several.{AreLinePatterns, LabelledPattern, row_of_first, labelled_text}
 use Rattle.log_extractor.specs.declared.parsers.LabelledParser.{LabelledParser}
 use Rattle.log_extractor.proofs.SeveralLemmas.{first-found, first-passed, none-after, none-mapped, parsers-kept, some-mapped}
 use Rattle.log_extractor.proofs.parsers.first_row.Goals as goal
@@ -12,7 +12,7 @@ returns-then-is_some-clause-fields c = λ ps are.
     let inv = c.loop-number.invariant in
     let parsers = c.loop-number.parsers in
     let n = c.loop-number.number in
-    let here = subst (λ (qs : List LabelledParser). AreLinePatterns (map text_of qs) ps) (sym inv.kept) are in
+    let here = subst (λ (qs : List LabelledParser). AreLinePatterns (map labelled_text qs) ps) (sym inv.kept) are in
     let some : is_some c.in_ok-row.row ≡ true = sym c.is_some.ensures ∙ c.if-is_some.true in
     let inside : n < length parsers = omega (arith, c.loop-number-test.true, ap length inv.kept) in
     first-found c.args.several (map string_bytes c.args.names.now) parsers ps n
@@ -34,7 +34,8 @@ loop-number-preserved c =
     record {
       kept = parsers-kept parsers n it c.row_by.new.labelled at c.in_ok-row.ensures.kept ∙ inv.kept;
       looked = λ ps are.
-          let here = subst (λ (qs : List LabelledParser). AreLinePatterns (map text_of qs) ps) (sym inv.kept) are in
+          let here = subst (λ (qs : List LabelledParser). AreLinePatterns (map labelled_text qs) ps)
+          (sym inv.kept) are in
           inv.looked ps are
           ∙ first-passed c.args.several (map string_bytes c.args.names.now) parsers ps n it c.args.line.now
           (option_map (λ fields. fields_now fields.items) c.in_ok-row.row) here inside at c.in_ok-row.ensures.fields

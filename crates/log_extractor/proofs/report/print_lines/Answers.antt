@@ -3,7 +3,7 @@ use Rattle.std.proofs.Common.{rules, ◌≡◌, List, false, subst, sym, true}
 use Rattle.std.specs.Io.KnownBytes.{Appends}
 use Rattle.std.specs.Prelude.{is_some}
 use Rattle.text_lines.specs.Lines.{content}
-use Rattle.log_extractor.specs.Several.{AreLinePatterns, LabelledText, row_of}
+use Rattle.log_extractor.specs.Several.{AreLinePatterns, LabelledText, row_by_first}
 use Rattle.log_extractor.specs.Printed.{shown_line}
 use Rattle.log_extractor.proofs.GoingLemmas.{going-end, going-step, looking-end, looking-step}
 use Rattle.log_extractor.proofs.report.print_lines.Goals as goal
@@ -41,7 +41,7 @@ loop-before-preserved g c =
       looked = λ ps is.
           let some : c.in_ok-read_line.field-0 ≡ true = search rules in
           let is-here = subst (λ (texts : List LabelledText). AreLinePatterns texts ps) (sym inv.kept) is in
-          let here : c.in-Ok.row ≡ is_some (row_of ps (content line)) =
+          let here : c.in-Ok.row ≡ is_some (row_by_first ps (content line)) =
           rw (c.deref.ensures.value) at (c.in-Ok.ensures.row ps is-here) in
           rw here (looking-step ps (g.R.Read.remaining c.args.input.now) (g.R.Read.remaining c.loop-before.input)
           (g.R.Read.remaining c.read_line.new.input) line c.loop-before.rows (c.in_ok-read_line.ensures.taken some)
