@@ -111,9 +111,11 @@ fn write_spans(slots: &[Option<NonMaxUsize>], text: &mut String) -> Result<()> {
 }
 
 fn write_span(pair: &[Option<NonMaxUsize>], text: &mut String) -> Result<()> {
-    match pair {
-        [Some(start), Some(end)] => write!(text, "{}..{} ", start.get(), end.get())?,
-        _ => write!(text, "- ")?,
+    let start = pair.first().copied().flatten();
+    let end = pair.get(1).copied().flatten();
+    match start.zip(end) {
+        Some((start, end)) => write!(text, "{}..{} ", start.get(), end.get())?,
+        None => write!(text, "- ")?,
     }
     Ok(())
 }

@@ -12,9 +12,9 @@ mod refused;
 mod speed;
 
 use anyhow::{Result, bail};
-use nfa_compiler::{Compiler, Config};
+use nfa_compiler::Compiler;
 use nfa_engines::pikevm::{Cache, PikeVM};
-use regex::Regex;
+use regex::{Captures, Matcher, Regex};
 use regex_search_core::{Input, NonMaxUsize};
 use std::alloc::Global;
 use std::fmt::Write;
@@ -130,17 +130,27 @@ fn theirs(alloc: Global, pattern: &str, haystack: &str) -> Result<String> {
     let mut matcher = regex.matcher(alloc)?;
     let mut text = String::new(alloc);
     if let Some(captures) = matcher.captures(haystack) {
-        for group in 0..captures.len() {
-            match captures.get(group) {
-                Some(span) => write!(text, "{} {} ", span.start(), span.end())?,
-                None => write!(text, "- - ")?,
-            }
+        write_groups(&captures, &mut text)?;
+    }
+    write_their_matches(&mut matcher, haystack, &mut text)?;
+    Ok(text)
+}
+
+fn write_groups(captures: &Captures<'_, '_>, text: &mut String) -> Result<()> {
+    for group in 0..captures.len() {
+        match captures.get(group) {
+            Some(span) => write!(text, "{} {} ", span.start(), span.end())?,
+            None => write!(text, "- - ")?,
         }
     }
+    Ok(())
+}
+
+fn write_their_matches(matcher: &mut Matcher<'_>, haystack: &str, text: &mut String) -> Result<()> {
     for found in matcher.find_iter(haystack) {
         write!(text, "{}..{} ", found.start(), found.end())?;
     }
-    Ok(text)
+    Ok(())
 }
 
 // Memory that is refused for the arguments or for the buffer is reported as that of a search.
@@ -204,36 +214,30 @@ fn report(rt: &HostRuntime, wrong: &[String], rows: usize, what: &str) -> Result
 }
 
 fn compare(rt: &HostRuntime) -> Result<()> {
-    let alloc = rt.alloc();
-    let mut same = 0u32;
-    let mut different = 0u32;
+    let mut different = 0usize;
     for pattern in &PATTERNS {
-        match Compiler::new()
-            .configure(Config::new())
-            .build(alloc, pattern)
-        {
-            Ok(nfa) => println!(rt; "{pattern}: {} states", nfa.states().len())?,
-            Err(error) => {
-                println!(rt; "{pattern}: {error}")?;
-                continue;
-            }
-        }
-        for haystack in &HAYSTACKS {
-            let (a, b) = (
-                ours(alloc, pattern, haystack)?,
-                theirs(alloc, pattern, haystack)?,
-            );
-            if a == b {
-                same = same.saturating_add(1);
-            } else {
-                different = different.saturating_add(1);
-                println!(rt; "{pattern} in {haystack:?}: {a}; regex: {b}")?;
-            }
-        }
+        let nfa = Compiler::new().build(rt.alloc(), pattern)?;
+        println!(rt; "{pattern}: {} states", nfa.states().len())?;
+        different = different.saturating_add(compare_haystacks(rt, pattern)?);
     }
+    let same = (PATTERNS.len() * HAYSTACKS.len()).saturating_sub(different);
     println!(rt; "{same} the same, {different} different")?;
     if different > 0 {
         bail!("some answers differ from those of regex, which the lines above show");
     }
     Ok(())
+}
+
+/// Returns in how many haystacks the answers differ, and prints these.
+fn compare_haystacks(rt: &HostRuntime, pattern: &str) -> Result<usize> {
+    let mut different = 0usize;
+    for haystack in &HAYSTACKS {
+        let ours = ours(rt.alloc(), pattern, haystack)?;
+        let theirs = theirs(rt.alloc(), pattern, haystack)?;
+        if ours != theirs {
+            different = different.saturating_add(1);
+            println!(rt; "{pattern} in {haystack:?}: {ours}; regex: {theirs}")?;
+        }
+    }
+    Ok(different)
 }

@@ -128,11 +128,7 @@ fn meta_rounds(
 }
 
 fn count_found(meta: &mut Meta, text: &[u8]) -> u64 {
-    let mut count = 0u64;
-    for _ in meta.find_iter(Input::new(text)) {
-        count = count.wrapping_add(1);
-    }
-    count
+    meta.find_iter(Input::new(text)).count() as u64
 }
 
 fn count_caught(alloc: Global, meta: &mut Meta, text: &[u8]) -> Result<u64, Stop> {
@@ -229,10 +225,7 @@ impl fmt::Display for Stop {
 
 impl From<CompileError> for Stop {
     fn from(error: CompileError) -> Stop {
-        match error {
-            CompileError::Memory => Stop::Failed(Failure::Memory),
-            error => Stop::Pattern(error),
-        }
+        Stop::Pattern(error)
     }
 }
 

@@ -8,13 +8,22 @@ use std::process::Abort;
 /// The settings, a pattern, a haystack, and where it matches.
 type Row = (Config, &'static str, &'static str, Option<(usize, usize)>);
 
+// What owns a regex asserts nothing: that takes half a minute of a check.
+fn built(rt: &impl Abort, alloc: Global, builder: Builder, pattern: &str) -> Regex {
+    builder.build(alloc, pattern).expect(rt, "a regex")
+}
+
 fn expect_found(rt: &impl Abort, alloc: Global, row: Row) {
     let (config, pattern, haystack, wanted) = row;
     let builder = Regex::builder().configure(config);
-    let mut regex = builder.build(alloc, pattern).expect(rt, "a regex");
+    let mut regex = built(rt, alloc, builder, pattern);
+    expect_span(rt, &mut regex, haystack, wanted);
+}
+
+fn expect_span(rt: &impl Abort, regex: &mut Regex, haystack: &str, wanted: Option<(usize, usize)>) {
     let found = regex.find(Input::new(haystack.as_bytes()));
     let found = found.map(|m| (m.start(), m.end()));
-    assert_eq!(rt; found, wanted, "{pattern}");
+    assert_eq!(rt; found, wanted, "{haystack}");
 }
 
 #[test]
@@ -56,10 +65,8 @@ fn settings_of_engines_change_no_answer(rt: HostRuntime) {
 }
 
 fn expect_why(rt: &impl Abort, alloc: Global, builder: Builder, pattern: &str, wanted: &str) {
-    let Err(error) = builder.build(alloc, pattern) else {
-        assert!(rt; false, "{pattern}");
-        return;
-    };
+    let error = builder.build(alloc, pattern).err();
+    let error = error.expect(rt, "an error");
     let text = format!(in alloc; "{error}").expect(rt, "memory");
     assert!(rt; text.starts_with(wanted), "{text}");
 }
@@ -73,45 +80,60 @@ fn errors_name_the_cause(rt: HostRuntime) {
     let wanted = "pattern 0 exceeds the size limit of 100 bytes";
     expect_why(&rt, alloc, builder.configure(small), r"\w{50}", wanted);
     expect_why(&rt, alloc, builder, r"\141", "pattern 0, at ");
+}
+
+#[test]
+fn octal_numbers_are_read_if_wanted(rt: HostRuntime) {
     let syntax = Syntax {
         octal: true,
         ..Syntax::default()
     };
-    let mut regex = builder
-        .syntax(syntax)
-        .build(alloc, r"\141")
-        .expect(&rt, "a regex");
-    assert!(rt; regex.is_match(Input::new(b"a")));
+    let builder = Regex::builder().syntax(syntax);
+    let mut regex = built(&rt, rt.alloc(), builder, r"\141");
+    expect_span(&rt, &mut regex, "a", Some((0, 1)));
 }
 
 #[test]
 fn patterns_and_groups_are_counted(rt: HostRuntime) {
     let alloc = rt.alloc();
     let regex = Regex::new_many(alloc, &["(?<n>[0-9])(x)", "[a-z]"]).expect(&rt, "a regex");
+    expect_counts(&rt, &regex);
+}
+
+fn expect_counts(rt: &impl Abort, regex: &Regex) {
     assert_eq!(rt; regex.pattern_len(), 2);
     assert_eq!(rt; regex.group_info().slot_len(), 8);
-    let wrong = Regex::new_many(alloc, &["a", "(", "b"]);
-    assert!(rt; wrong.is_err());
+}
+
+#[test]
+fn one_wrong_pattern_is_an_error(rt: HostRuntime) {
+    let wrong = Regex::new_many(rt.alloc(), &["a", "(", "b"]).err();
+    assert!(rt; wrong.is_some());
 }
 
 #[test]
 fn settings_are_kept(rt: HostRuntime) {
     let alloc = rt.alloc();
     let config = Regex::config().hybrid_cache_capacity(100_000);
-    let builder = Regex::builder().configure(config);
-    let regex = builder.build(alloc, "fo+").expect(&rt, "a regex");
-    let kept = regex.get_config();
-    assert_eq!(&rt; kept.hybrid_cache_capacity, 100_000);
-    assert!(&rt; kept.utf8 && !kept.anchored);
+    let regex = built(&rt, alloc, Regex::builder().configure(config), "fo+");
+    expect_kept(&rt, regex.get_config());
+}
+
+fn expect_kept(rt: &impl Abort, kept: Config) {
+    assert!(rt; kept.hybrid_cache_capacity == 100_000 && kept.utf8 && !kept.anchored);
 }
 
 #[test]
 fn rows_take_memory(rt: HostRuntime) {
     let alloc = rt.alloc();
     let mut regex = Regex::new(alloc, "fo+").expect(&rt, "a regex");
+    expect_rows_take_memory(&rt, &mut regex);
+}
+
+fn expect_rows_take_memory(rt: &impl Abort, regex: &mut Regex) {
     let before = regex.memory_usage();
-    assert!(&rt; !regex.is_match(Input::new(b"a bar")));
-    assert_eq!(&rt; regex.memory_usage(), before);
-    assert!(&rt; regex.is_match(Input::new(b"a foo")));
-    assert!(&rt; regex.memory_usage() > before);
+    assert!(rt; !regex.is_match(Input::new(b"a bar")));
+    assert_eq!(rt; regex.memory_usage(), before);
+    assert!(rt; regex.is_match(Input::new(b"a foo")));
+    assert!(rt; regex.memory_usage() > before);
 }

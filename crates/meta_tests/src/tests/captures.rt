@@ -66,37 +66,38 @@ fn iterated_with(
     all
 }
 
-fn expect_groups(rt: &impl Abort, alloc: Global, all: &[Captures], (pattern, _, wanted): Row) {
-    let text = groups_of(rt, alloc, all);
-    assert_eq!(rt; text.as_str(), wanted, "{pattern}");
-}
-
-fn expect_row(rt: &impl Abort, alloc: Global, row: Row) {
-    let (pattern, haystack, _) = row;
-    let nfa = Compiler::new().build(alloc, pattern).expect(rt, "an NFA");
-    let mut regex = regex_of(rt, alloc, &nfa);
+fn expect_row(rt: &impl Abort, alloc: Global, regex: &mut Regex, (_, haystack, wanted): Row) {
     let input = Input::new(haystack.as_bytes());
     let all = regex.captures_all(alloc, input).expect(rt, "memory");
-    expect_groups(rt, alloc, &all, row);
-    let all = iterated(rt, alloc, &mut regex, input);
-    expect_groups(rt, alloc, &all, row);
-    let all = iterated_with(rt, alloc, &mut regex, input);
-    expect_groups(rt, alloc, &all, row);
+    expect_text(rt, &groups_of(rt, alloc, &all), wanted);
+    let all = iterated(rt, alloc, regex, input);
+    expect_text(rt, &groups_of(rt, alloc, &all), wanted);
+    let all = iterated_with(rt, alloc, regex, input);
+    expect_text(rt, &groups_of(rt, alloc, &all), wanted);
+}
+
+fn regex_by(rt: &impl Abort, alloc: Global, pattern: &str) -> Regex {
+    let nfa = Compiler::new().build(alloc, pattern).expect(rt, "an NFA");
+    regex_of(rt, alloc, &nfa)
 }
 
 #[test]
 fn captures_have_the_spans_of_each_group(rt: HostRuntime) {
     for &row in ROWS {
-        expect_row(&rt, rt.alloc(), row);
+        let mut regex = regex_by(&rt, rt.alloc(), row.0);
+        expect_row(&rt, rt.alloc(), &mut regex, row);
     }
 }
 
 #[test]
 fn captures_take_an_input_by_value(rt: HostRuntime) {
     let alloc = rt.alloc();
-    let nfa = Compiler::new().build(alloc, "foo([0-9]+)");
-    let mut regex = regex_of(&rt, alloc, &nfa.expect(&rt, "an NFA"));
+    let mut regex = regex_by(&rt, alloc, "foo([0-9]+)");
     let mut captures = regex.create_captures(alloc).expect(&rt, "memory");
     regex.captures(Input::new(b"a foo12").earliest(true), &mut captures);
-    assert_eq!(&rt; groups_of(&rt, alloc, &[captures]).as_str(), "2..6 5..6 | ");
+    expect_text(&rt, &groups_of(&rt, alloc, &[captures]), "2..6 5..6 | ");
+}
+
+fn expect_text(rt: &impl Abort, text: &str, wanted: &str) {
+    assert_eq!(rt; text, wanted);
 }

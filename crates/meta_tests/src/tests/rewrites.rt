@@ -55,65 +55,81 @@ fn swap(text: &[u8], captures: &Captures, output: &mut Vec<u8>) -> Result<(), Al
 #[test]
 fn functions_replace_matches(rt: HostRuntime) {
     let alloc = rt.alloc();
-    for (pattern, haystack, limit, wanted) in SWAPPED {
-        let text = haystack.as_bytes();
+    for &(pattern, haystack, limit, wanted) in SWAPPED {
         let mut regex = regex(&rt, alloc, pattern);
-        let output = regex
-            .replacen_with(
-                alloc,
-                text,
-                *limit,
-                |captures, output| swap(text, captures, output),
-            )
-            .expect(&rt, "an output");
-        assert_eq!(rt;
-            output.as_slice(),
-            wanted.as_bytes(),
-            "{} in {}",
-            pattern,
-            haystack
-        );
+        let output = swapped(alloc, &mut regex, haystack.as_bytes(), limit);
+        expect_output(&rt, output, wanted);
     }
+}
+
+fn swapped(
+    alloc: Global,
+    regex: &mut Regex,
+    text: &[u8],
+    limit: usize,
+) -> Result<Vec<u8>, AllocError> {
+    regex.replacen_with(
+        alloc,
+        text,
+        limit,
+        |captures, output| swap(text, captures, output),
+    )
+}
+
+fn expect_output(rt: &impl Abort, output: Result<Vec<u8>, AllocError>, wanted: &str) {
+    let output = output.expect(rt, "an output");
+    assert_eq!(rt; output.as_slice(), wanted.as_bytes());
 }
 
 #[test]
 fn functions_replace_all_matches(rt: HostRuntime) {
-    let alloc = rt.alloc();
-    let text = b"one, two";
-    let mut regex = regex(&rt, alloc, "[a-z]+");
-    let output = regex
-        .replace_all_with(alloc, text, |captures, output| {
-            let word = text_in(text, captures.get_group(0));
-            for byte in word {
-                output.push(byte.to_ascii_uppercase())?;
-            }
-            Ok(())
-        })
-        .expect(&rt, "an output");
-    assert_eq!(rt; output.as_slice(), b"ONE, TWO".as_slice());
+    let mut regex = regex(&rt, rt.alloc(), "[a-z]+");
+    let output = shouted(rt.alloc(), &mut regex, b"one, two");
+    expect_output(&rt, output, "ONE, TWO");
+}
+
+fn shouted(alloc: Global, regex: &mut Regex, text: &[u8]) -> Result<Vec<u8>, AllocError> {
+    regex.replace_all_with(alloc, text, |captures, output| {
+        shout(text_in(text, captures.get_group(0)), output)
+    })
+}
+
+fn shout(word: &[u8], output: &mut Vec<u8>) -> Result<(), AllocError> {
+    for byte in word {
+        output.push(byte.to_ascii_uppercase())?;
+    }
+    Ok(())
 }
 
 #[test]
 fn functions_are_called_in_order(rt: HostRuntime) {
-    let alloc = rt.alloc();
+    let mut regex = regex(&rt, rt.alloc(), "[a-z]+");
+    let output = numbered(rt.alloc(), &mut regex, b"one, two and three");
+    expect_output(&rt, output, "1, 2 3 4");
+}
+
+fn numbered(alloc: Global, regex: &mut Regex, text: &[u8]) -> Result<Vec<u8>, AllocError> {
     let mut count = b'0';
-    let mut regex = regex(&rt, alloc, "[a-z]+");
-    let output = regex
-        .replace_all_with(alloc, b"one, two and three", |_, output| {
-            count = count.wrapping_add(1);
-            output.push(count)?;
-            Ok(())
-        })
-        .expect(&rt, "an output");
-    assert_eq!(rt; output.as_slice(), b"1, 2 3 4".as_slice());
+    regex.replace_all_with(alloc, text, |_, output| {
+        count = count.wrapping_add(1);
+        output.push(count)?;
+        Ok(())
+    })
 }
 
 #[test]
 fn errors_of_functions_are_returned(rt: HostRuntime) {
-    let alloc = rt.alloc();
-    let mut regex = regex(&rt, alloc, "[0-9]");
-    let all = regex.replace_all_with(alloc, b"a1", |_, _| Err(AllocError));
-    assert!(rt; all.is_err());
-    let none = regex.replacen_with(alloc, b"a", 1, |_, _| Err(AllocError));
-    assert_eq!(rt; none.expect(&rt, "an output").as_slice(), b"a".as_slice());
+    let mut regex = regex(&rt, rt.alloc(), "[0-9]");
+    let output = refused(rt.alloc(), &mut regex, b"a1");
+    expect_error(&rt, output.err());
+    let output = refused(rt.alloc(), &mut regex, b"a");
+    expect_output(&rt, output, "a");
+}
+
+fn expect_error(rt: &impl Abort, error: Option<AllocError>) {
+    assert!(rt; error.is_some());
+}
+
+fn refused(alloc: Global, regex: &mut Regex, text: &[u8]) -> Result<Vec<u8>, AllocError> {
+    regex.replacen_with(alloc, text, 1, |_, _| Err(AllocError))
 }

@@ -147,15 +147,24 @@ fn expect_haystacks(rt: &impl Abort, alloc: Global, regex: &mut Regex, choice: &
 
 fn expect_nfa(rt: &impl Abort, alloc: Global, nfa: &NFA) {
     let mut regex = regex_of(rt, alloc, nfa);
+    expect_nfa_by(rt, alloc, nfa, &mut regex);
+}
+
+// A function that owns both engines takes a minute of a check.
+fn expect_nfa_by(rt: &impl Abort, alloc: Global, nfa: &NFA, regex: &mut Regex) {
     let mut choice = choice_of(rt, alloc, nfa);
-    expect_haystacks(rt, alloc, &mut regex, &mut choice);
+    expect_haystacks(rt, alloc, regex, &mut choice);
 }
 
 fn expect_samples(rt: &impl Abort, alloc: Global, names: &[&str]) {
     for &name in names {
-        let nfa = nfa_named(alloc, name).expect(rt, "a sample");
-        expect_nfa(rt, alloc, &nfa);
+        expect_sample(rt, alloc, name);
     }
+}
+
+fn expect_sample(rt: &impl Abort, alloc: Global, name: &str) {
+    let nfa = nfa_named(alloc, name).expect(rt, "a sample");
+    expect_nfa(rt, alloc, &nfa);
 }
 
 #[test]

@@ -3,7 +3,7 @@
 use nfa_engines::Input;
 use nfa_meta::Regex;
 use nfa_meta::interpolate::TemplateError;
-use std::alloc::Global;
+use std::alloc::{AllocError, Global};
 use std::process::Abort;
 
 /// A pattern, a haystack, a limit or 0 for none, a template, and the output.
@@ -88,29 +88,30 @@ const REFUSED: &[(&str, &str)] = &[
     ),
 ];
 
-fn expect_filled(rt: &impl Abort, alloc: Global, (pattern, haystack, limit, text, wanted): Row) {
-    let mut regex = Regex::new(alloc, pattern).expect(rt, "a regex");
-    let template = regex
-        .parse_template(alloc, text.as_bytes())
-        .expect(rt, "a template");
-    let output = regex
-        .replacen_template(alloc, haystack.as_bytes(), limit, &template)
-        .expect(rt, "memory");
-    assert_eq!(rt; output.as_slice(), wanted.as_bytes(), "{text}");
+fn expect_filled(rt: &impl Abort, alloc: Global, regex: &mut Regex, row: Row) {
+    let (_, haystack, limit, text, wanted) = row;
+    let template = regex.parse_template(alloc, text.as_bytes());
+    let template = template.expect(rt, "a template");
+    let output = regex.replacen_template(alloc, haystack.as_bytes(), limit, &template);
+    expect_output(rt, output, wanted);
+}
+
+fn expect_output(rt: &impl Abort, output: Result<Vec<u8>, AllocError>, wanted: &str) {
+    let output = output.expect(rt, "memory");
+    assert_eq!(rt; output.as_slice(), wanted.as_bytes());
 }
 
 #[test]
 fn templates_are_filled(rt: HostRuntime) {
     for &row in FILLED {
-        expect_filled(&rt, rt.alloc(), row);
+        let mut regex = Regex::new(rt.alloc(), row.0).expect(&rt, "a regex");
+        expect_filled(&rt, rt.alloc(), &mut regex, row);
     }
 }
 
 fn expect_refused(rt: &impl Abort, alloc: Global, regex: &Regex, (text, wanted): (&str, &str)) {
-    match regex.parse_template(alloc, text.as_bytes()) {
-        Ok(_) => assert!(rt; false, "{text}"),
-        Err(error) => expect_text(rt, alloc, error, wanted),
-    }
+    let error = regex.parse_template(alloc, text.as_bytes()).err();
+    expect_text(rt, alloc, error.expect(rt, "an error"), wanted);
 }
 
 fn expect_text(rt: &impl Abort, alloc: Global, error: TemplateError, wanted: &str) {
@@ -120,10 +121,13 @@ fn expect_text(rt: &impl Abort, alloc: Global, error: TemplateError, wanted: &st
 
 #[test]
 fn mistakes_in_templates_are_named(rt: HostRuntime) {
-    let alloc = rt.alloc();
-    let regex = Regex::new(alloc, "(?<n>b)(c)?").expect(&rt, "a regex");
+    let regex = Regex::new(rt.alloc(), "(?<n>b)(c)?").expect(&rt, "a regex");
+    expect_all_refused(&rt, rt.alloc(), &regex);
+}
+
+fn expect_all_refused(rt: &impl Abort, alloc: Global, regex: &Regex) {
     for &row in REFUSED {
-        expect_refused(&rt, alloc, &regex, row);
+        expect_refused(rt, alloc, regex, row);
     }
 }
 
@@ -131,22 +135,27 @@ fn mistakes_in_templates_are_named(rt: HostRuntime) {
 fn groups_are_those_of_the_pattern_that_matched(rt: HostRuntime) {
     let alloc = rt.alloc();
     let mut regex = Regex::new_many(alloc, &["(a)(d)?", "(b)c"]).expect(&rt, "a regex");
-    let template = regex
-        .parse_template(alloc, b"<$1$2>")
-        .expect(&rt, "a template");
-    let output = regex
-        .replace_all_template(alloc, b"abcad", &template)
-        .expect(&rt, "memory");
-    assert_eq!(rt; output.as_slice(), b"<a><b><ad>".as_slice());
+    expect_all_filled(&rt, alloc, &mut regex);
+}
+
+fn expect_all_filled(rt: &impl Abort, alloc: Global, regex: &mut Regex) {
+    let template = regex.parse_template(alloc, b"<$1$2>");
+    let template = template.expect(rt, "a template");
+    let output = regex.replace_all_template(alloc, b"abcad", &template);
+    expect_output(rt, output, "<a><b><ad>");
 }
 
 #[test]
 fn first_captures_are_as_many_as_wanted(rt: HostRuntime) {
     let alloc = rt.alloc();
     let mut regex = Regex::new(alloc, "foo([0-9]+)").expect(&rt, "a regex");
-    for (count, wanted) in [(0, 0), (1, 1), (2, 2), (3, 3), (9, 3)] {
-        let input = Input::new(b"foo1 foo12 foo123");
-        let first = regex.first_captures(alloc, input, count);
-        assert_eq!(rt; first.expect(&rt, "memory").len(), wanted);
+    for &(count, wanted) in &[(0, 0), (1, 1), (2, 2), (3, 3), (9, 3)] {
+        expect_first(&rt, alloc, &mut regex, count, wanted);
     }
+}
+
+fn expect_first(rt: &impl Abort, alloc: Global, regex: &mut Regex, count: usize, wanted: usize) {
+    let input = Input::new(b"foo1 foo12 foo123");
+    let first = regex.first_captures(alloc, input, count);
+    assert_eq!(rt; first.expect(rt, "memory").len(), wanted);
 }

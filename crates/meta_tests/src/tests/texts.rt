@@ -2,7 +2,7 @@
 
 use nfa_engines::Span;
 use nfa_meta::Regex;
-use std::alloc::Global;
+use std::alloc::{AllocError, Global};
 use std::process::Abort;
 
 /// A pattern, a haystack, and the texts around all matches.
@@ -58,18 +58,28 @@ const REPLACED: &[Replacing] = &[
     ("a", "xyz", 0, "b", "xyz"),
 ];
 
-fn expect_texts(rt: &impl Abort, haystack: &str, spans: &[Span], wanted: &[&str]) {
-    assert_eq!(rt; spans.len(), wanted.len(), "{haystack}");
+fn expect_texts(
+    rt: &impl Abort,
+    haystack: &str,
+    spans: Result<Vec<Span>, AllocError>,
+    wanted: &[&str],
+) {
+    let spans = spans.expect(rt, "memory");
+    expect(rt, spans.len() == wanted.len(), haystack);
     for (span, text) in spans.iter().zip(wanted) {
         let found = haystack.as_bytes().get(span.range());
-        assert_eq!(rt; found, Some(text.as_bytes()), "{haystack}");
+        expect(rt, found == Some(text.as_bytes()), haystack);
     }
+}
+
+fn expect(rt: &impl Abort, holds: bool, haystack: &str) {
+    assert!(rt; holds, "{haystack}");
 }
 
 fn expect_fields(rt: &impl Abort, alloc: Global, (pattern, haystack, wanted): Fields) {
     let mut regex = Regex::new(alloc, pattern).expect(rt, "a regex");
     let spans = regex.split_all(alloc, haystack.as_bytes());
-    expect_texts(rt, haystack, &spans.expect(rt, "memory"), wanted);
+    expect_texts(rt, haystack, spans, wanted);
 }
 
 fn expect_first_fields(
@@ -79,16 +89,19 @@ fn expect_first_fields(
 ) {
     let mut regex = Regex::new(alloc, pattern).expect(rt, "a regex");
     let spans = regex.splitn_all(alloc, haystack.as_bytes(), limit);
-    expect_texts(rt, haystack, &spans.expect(rt, "memory"), wanted);
+    expect_texts(rt, haystack, spans, wanted);
 }
 
 fn expect_replaced(rt: &impl Abort, alloc: Global, row: Replacing) {
     let (pattern, haystack, limit, bytes, wanted) = row;
     let mut regex = Regex::new(alloc, pattern).expect(rt, "a regex");
-    let output = regex
-        .replacen(alloc, haystack.as_bytes(), limit, bytes.as_bytes())
-        .expect(rt, "memory");
-    assert_eq!(rt; output.as_slice(), wanted.as_bytes(), "{haystack}");
+    let output = regex.replacen(alloc, haystack.as_bytes(), limit, bytes.as_bytes());
+    expect_output(rt, output, wanted);
+}
+
+fn expect_output(rt: &impl Abort, output: Result<Vec<u8>, AllocError>, wanted: &str) {
+    let output = output.expect(rt, "memory");
+    assert_eq!(rt; output.as_slice(), wanted.as_bytes());
 }
 
 #[test]

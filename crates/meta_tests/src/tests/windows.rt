@@ -3,10 +3,11 @@
 
 use super::samples::regex_of;
 use nfa_compiler::Compiler;
-use nfa_engines::{Input, NonMaxUsize, Span};
+use nfa_engines::{Input, NonMaxUsize};
 use nfa_lazy_dfa::DFA;
 use nfa_meta::{Engine, Regex};
 use std::alloc::Global;
+use std::ops::Range;
 use std::process::Abort;
 
 /// A pattern, a haystack, and the window of the first match.
@@ -49,11 +50,26 @@ fn regex_by(rt: &impl Abort, alloc: Global, pattern: &str) -> Regex {
 #[test]
 fn the_lazy_dfa_answers_if_it_can(rt: HostRuntime) {
     let mut regex = regex_by(&rt, rt.alloc(), "foo[0-9]+");
-    assert!(&rt; regex.is_match(Input::new(b"a foo12")));
+    expect_answers(&rt, &mut regex);
+}
+
+// A test makes a regex, and a function that borrows it asserts: the check is faster so.
+fn expect_answers(rt: &impl Abort, regex: &mut Regex) {
+    assert!(rt; regex.is_match(Input::new(b"a foo12")));
     let half = regex.find_half(Input::new(b"a foo12"));
-    assert_eq!(&rt; half.map(|half| half.offset()), Some(7));
-    assert_eq!(&rt; regex.find(Input::new(b"a fo12")), None);
-    assert_eq!(&rt; regex.ran(), None);
+    assert_eq!(rt; half.map(|half| half.offset()), Some(7));
+    expect_range(rt, regex, Input::new(b"a fo12"), None);
+    expect_ran(rt, regex, None);
+}
+
+/// Expects the match with this range, or none.
+fn expect_range(rt: &impl Abort, regex: &mut Regex, input: Input<'_>, range: Option<Range<usize>>) {
+    let found = regex.find(input);
+    assert_eq!(rt; found.map(|found| found.range()), range);
+}
+
+fn expect_ran(rt: &impl Abort, regex: &Regex, engine: Option<Engine>) {
+    assert_eq!(rt; regex.ran(), engine);
 }
 
 /// Searches for two slots, and expects a match with this span, or none.
@@ -74,12 +90,25 @@ fn the_lazy_dfa_fills_two_slots(rt: HostRuntime) {
     let mut regex = regex_by(&rt, alloc, "foo[0-9]+");
     expect_slots(&rt, &mut regex, b"a foo12", Some((2, 7)));
     expect_slots(&rt, &mut regex, b"a fo12", None);
-    let mut captures = regex.create_captures(alloc).expect(&rt, "memory");
-    regex.search(&Input::new(b"foo1 foo2"), &mut captures);
-    assert_eq!(&rt; captures.get_group(0), Some(Span { start: 0, end: 4 }));
-    assert_eq!(&rt; regex.ran(), None);
+    expect_group(&rt, alloc, &mut regex, b"foo1 foo2", 0, Some((0, 4)));
+    expect_ran(&rt, &regex, None);
     regex.search_slots(&Input::new(b"a foo12"), &mut [None; 3]);
-    assert_eq!(&rt; regex.ran(), Some(Engine::Backtracker));
+    expect_ran(&rt, &regex, Some(Engine::Backtracker));
+}
+
+/// Searches with captures, and expects that a group has this span.
+fn expect_group(
+    rt: &impl Abort,
+    alloc: Global,
+    regex: &mut Regex,
+    text: &[u8],
+    group: usize,
+    span: Option<(usize, usize)>,
+) {
+    let mut captures = regex.create_captures(alloc).expect(rt, "memory");
+    regex.search(&Input::new(text), &mut captures);
+    let found = captures.get_group(group).map(|s| (s.start, s.end));
+    assert_eq!(rt; found, span);
 }
 
 // A pattern that matches the empty string matches at the start of each search, up to a byte that splits a codepoint.
@@ -87,16 +116,25 @@ fn the_lazy_dfa_fills_two_slots(rt: HostRuntime) {
 fn the_lazy_dfa_finds_empty_matches(rt: HostRuntime) {
     let alloc = rt.alloc();
     let mut regex = regex_by(&rt, alloc, "[a-z]*");
-    let found = regex.find(Input::new(b"1ab"));
-    assert_eq!(&rt; found.map(|found| found.range()), Some(0..0));
-    assert_eq!(&rt; regex.ran(), None);
+    expect_range(&rt, &mut regex, Input::new(b"1ab"), Some(0..0));
+    expect_ran(&rt, &regex, None);
+    let snowman = Input::new("\u{2603}a".as_bytes());
+    expect_range(&rt, &mut regex, snowman.range(1..4), Some(3..4));
+    expect_ranges(&rt, alloc, &mut regex, b"ab 1", &[0..2, 3..3, 4..4]);
+}
+
+fn expect_ranges(
+    rt: &impl Abort,
+    alloc: Global,
+    regex: &mut Regex,
+    text: &[u8],
+    wanted: &[Range<usize>],
+) {
     let mut ranges = Vec::new(alloc);
-    for found in regex.find_iter(Input::new(b"ab 1")) {
-        ranges.push(found.range()).expect(&rt, "memory");
+    for found in regex.find_iter(Input::new(text)) {
+        ranges.push(found.range()).expect(rt, "memory");
     }
-    assert_eq!(&rt; ranges.as_slice(), [0..2, 3..3, 4..4].as_slice());
-    let found = regex.find(Input::new("\u{2603}a".as_bytes()).range(1..4));
-    assert_eq!(&rt; found.map(|found| found.range()), Some(3..4));
+    assert_eq!(rt; ranges.as_slice(), wanted);
 }
 
 // Each match begins with `foo`, and what comes before that is passed over.
@@ -104,12 +142,10 @@ fn the_lazy_dfa_finds_empty_matches(rt: HostRuntime) {
 fn matches_begin_with_a_prefix(rt: HostRuntime) {
     let mut regex = regex_by(&rt, rt.alloc(), "(foo)(bar|[0-9]+)");
     let input = Input::new(b"fo foo fooba foobar foo12");
-    let found = regex.find(input);
-    assert_eq!(&rt; found.map(|found| found.range()), Some(13..19));
-    let found = regex.find(input.range(14..25));
-    assert_eq!(&rt; found.map(|found| found.range()), Some(20..25));
-    assert_eq!(&rt; regex.find(input.range(14..22)), None);
-    assert_eq!(&rt; regex.ran(), None);
+    expect_range(&rt, &mut regex, input, Some(13..19));
+    expect_range(&rt, &mut regex, input.range(14..25), Some(20..25));
+    expect_range(&rt, &mut regex, input.range(14..22), None);
+    expect_ran(&rt, &regex, None);
 }
 
 const FILL: usize = 1_000_000;
@@ -121,18 +157,10 @@ fn the_choice_searches_the_window(rt: HostRuntime) {
     let mut regex = regex_by(&rt, alloc, "foo([0-9]+)");
     let mut text = vec![in alloc; b'x'; FILL].expect(&rt, "memory");
     text.extend_from_slice(b"foo12").expect(&rt, "memory");
-    let found = regex.find(Input::new(&text));
-    assert_eq!(&rt; found.map(|found| found.start()), Some(FILL));
-    assert_eq!(&rt; regex.ran(), None);
-    let mut slots = [None; 4];
-    let pattern = regex.search_slots(&Input::new(&text), &mut slots);
-    assert!(&rt; pattern.is_some() && regex.ran() == Some(Engine::Backtracker));
-    let mut captures = regex.create_captures(alloc).expect(&rt, "memory");
-    regex.search(&Input::new(&text), &mut captures);
-    let digits = Span {
-        start: FILL + 3,
-        end: FILL + 5,
-    };
-    assert_eq!(&rt; captures.get_group(1), Some(digits));
-    assert_eq!(&rt; regex.ran(), Some(Engine::Backtracker));
+    let found = FILL..FILL + 5;
+    expect_range(&rt, &mut regex, Input::new(&text), Some(found));
+    expect_ran(&rt, &regex, None);
+    let digits = Some((FILL + 3, FILL + 5));
+    expect_group(&rt, alloc, &mut regex, &text, 1, digits);
+    expect_ran(&rt, &regex, Some(Engine::Backtracker));
 }
