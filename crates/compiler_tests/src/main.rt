@@ -232,12 +232,19 @@ fn compare(rt: &HostRuntime) -> Result<()> {
 fn compare_haystacks(rt: &HostRuntime, pattern: &str) -> Result<usize> {
     let mut different = 0usize;
     for haystack in &HAYSTACKS {
-        let ours = ours(rt.alloc(), pattern, haystack)?;
-        let theirs = theirs(rt.alloc(), pattern, haystack)?;
-        if ours != theirs {
+        if differs(rt, pattern, haystack)? {
             different = different.saturating_add(1);
-            println!(rt; "{pattern} in {haystack:?}: {ours}; regex: {theirs}")?;
         }
     }
     Ok(different)
+}
+
+fn differs(rt: &HostRuntime, pattern: &str, haystack: &str) -> Result<bool> {
+    let ours = ours(rt.alloc(), pattern, haystack)?;
+    let theirs = theirs(rt.alloc(), pattern, haystack)?;
+    let same = ours == theirs;
+    if !same {
+        println!(rt; "{pattern} in {haystack:?}: {ours}; regex: {theirs}")?;
+    }
+    Ok(!same)
 }

@@ -1,5 +1,6 @@
 //! Regexes of texts: what their settings change, and why they are not made.
 
+use super::regex;
 use nfa_engines::Input;
 use nfa_meta::{Builder, Config, Regex, Syntax};
 use std::alloc::Global;
@@ -8,7 +9,6 @@ use std::process::Abort;
 /// The settings, a pattern, a haystack, and where it matches.
 type Row = (Config, &'static str, &'static str, Option<(usize, usize)>);
 
-// What owns a regex asserts nothing: that takes half a minute of a check.
 fn built(rt: &impl Abort, alloc: Global, builder: Builder, pattern: &str) -> Regex {
     builder.build(alloc, pattern).expect(rt, "a regex")
 }
@@ -125,8 +125,7 @@ fn expect_kept(rt: &impl Abort, kept: Config) {
 
 #[test]
 fn rows_take_memory(rt: HostRuntime) {
-    let alloc = rt.alloc();
-    let mut regex = Regex::new(alloc, "fo+").expect(&rt, "a regex");
+    let mut regex = regex(&rt, rt.alloc(), "fo+");
     expect_rows_take_memory(&rt, &mut regex);
 }
 

@@ -1,7 +1,6 @@
 //! Captures of the matches of patterns, with windows and without. The spans are those that regex-automata gives.
 
-use super::samples::regex_of;
-use nfa_compiler::Compiler;
+use super::{expect_text, regex};
 use nfa_engines::{Captures, Input};
 use nfa_meta::Regex;
 use std::alloc::{AllocError, Global};
@@ -76,28 +75,23 @@ fn expect_row(rt: &impl Abort, alloc: Global, regex: &mut Regex, (_, haystack, w
     expect_text(rt, &groups_of(rt, alloc, &all), wanted);
 }
 
-fn regex_by(rt: &impl Abort, alloc: Global, pattern: &str) -> Regex {
-    let nfa = Compiler::new().build(alloc, pattern).expect(rt, "an NFA");
-    regex_of(rt, alloc, &nfa)
-}
-
 #[test]
 fn captures_have_the_spans_of_each_group(rt: HostRuntime) {
     for &row in ROWS {
-        let mut regex = regex_by(&rt, rt.alloc(), row.0);
+        let mut regex = regex(&rt, rt.alloc(), row.0);
         expect_row(&rt, rt.alloc(), &mut regex, row);
     }
 }
 
 #[test]
 fn captures_take_an_input_by_value(rt: HostRuntime) {
-    let alloc = rt.alloc();
-    let mut regex = regex_by(&rt, alloc, "foo([0-9]+)");
-    let mut captures = regex.create_captures(alloc).expect(&rt, "memory");
-    regex.captures(Input::new(b"a foo12").earliest(true), &mut captures);
-    expect_text(&rt, &groups_of(&rt, alloc, &[captures]), "2..6 5..6 | ");
+    let mut regex = regex(&rt, rt.alloc(), "foo([0-9]+)");
+    let text = earliest_groups(&rt, rt.alloc(), &mut regex, b"a foo12");
+    expect_text(&rt, &text, "2..6 5..6 | ");
 }
 
-fn expect_text(rt: &impl Abort, text: &str, wanted: &str) {
-    assert_eq!(rt; text, wanted);
+fn earliest_groups(rt: &impl Abort, alloc: Global, regex: &mut Regex, text: &[u8]) -> String {
+    let mut captures = regex.create_captures(alloc).expect(rt, "memory");
+    regex.captures(Input::new(text).earliest(true), &mut captures);
+    groups_of(rt, alloc, &[captures])
 }

@@ -1,8 +1,8 @@
 //! Half matches of patterns, one after the other.
 
-use super::samples::regex_of;
-use nfa_compiler::Compiler;
+use super::regex;
 use nfa_engines::Input;
+use nfa_meta::Regex;
 use std::alloc::Global;
 use std::process::Abort;
 
@@ -18,9 +18,7 @@ const ROWS: &[Row] = &[
     ("a", "xyz", &[]),
 ];
 
-fn expect_row(rt: &impl Abort, alloc: Global, (pattern, haystack, wanted): Row) {
-    let nfa = Compiler::new().build(alloc, pattern).expect(rt, "an NFA");
-    let mut regex = regex_of(rt, alloc, &nfa);
+fn expect_row(rt: &impl Abort, alloc: Global, regex: &mut Regex, (pattern, haystack, wanted): Row) {
     let mut ends = Vec::new(alloc);
     for half in regex.half_matches(Input::new(haystack.as_bytes())) {
         ends.push(half.offset()).expect(rt, "memory");
@@ -31,6 +29,7 @@ fn expect_row(rt: &impl Abort, alloc: Global, (pattern, haystack, wanted): Row) 
 #[test]
 fn half_matches_have_the_ends(rt: HostRuntime) {
     for &row in ROWS {
-        expect_row(&rt, rt.alloc(), row);
+        let mut regex = regex(&rt, rt.alloc(), row.0);
+        expect_row(&rt, rt.alloc(), &mut regex, row);
     }
 }

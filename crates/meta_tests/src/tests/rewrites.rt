@@ -1,5 +1,6 @@
 //! Texts that have what a function appends in place of the matches of a pattern.
 
+use super::{expect_output, regex};
 use nfa_meta::Regex;
 use regex_search_core::{Captures, Span};
 use std::alloc::{AllocError, Global};
@@ -31,10 +32,6 @@ const SWAPPED: &[Row] = &[
     ("(x?)()", "☃", 0, " ☃ "),
     (r"(\pL)(☃)", "δ☃β", 9, "☃ δβ"),
 ];
-
-fn regex(rt: &impl Abort, alloc: Global, pattern: &str) -> Regex {
-    Regex::new(alloc, pattern).expect(rt, "a regex")
-}
 
 /// Returns the text in the span, or nothing.
 fn text_in(text: &[u8], span: Option<Span>) -> &[u8] {
@@ -74,31 +71,6 @@ fn swapped(
         limit,
         |captures, output| swap(text, captures, output),
     )
-}
-
-fn expect_output(rt: &impl Abort, output: Result<Vec<u8>, AllocError>, wanted: &str) {
-    let output = output.expect(rt, "an output");
-    assert_eq!(rt; output.as_slice(), wanted.as_bytes());
-}
-
-#[test]
-fn functions_replace_all_matches(rt: HostRuntime) {
-    let mut regex = regex(&rt, rt.alloc(), "[a-z]+");
-    let output = shouted(rt.alloc(), &mut regex, b"one, two");
-    expect_output(&rt, output, "ONE, TWO");
-}
-
-fn shouted(alloc: Global, regex: &mut Regex, text: &[u8]) -> Result<Vec<u8>, AllocError> {
-    regex.replace_all_with(alloc, text, |captures, output| {
-        shout(text_in(text, captures.get_group(0)), output)
-    })
-}
-
-fn shout(word: &[u8], output: &mut Vec<u8>) -> Result<(), AllocError> {
-    for byte in word {
-        output.push(byte.to_ascii_uppercase())?;
-    }
-    Ok(())
 }
 
 #[test]

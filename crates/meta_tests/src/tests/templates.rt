@@ -1,9 +1,10 @@
 //! Texts that have a template, filled by captures, in place of the matches of a pattern.
 
+use super::{expect_output, regex};
 use nfa_engines::Input;
 use nfa_meta::Regex;
 use nfa_meta::interpolate::TemplateError;
-use std::alloc::{AllocError, Global};
+use std::alloc::Global;
 use std::process::Abort;
 
 /// A pattern, a haystack, a limit or 0 for none, a template, and the output.
@@ -96,32 +97,27 @@ fn expect_filled(rt: &impl Abort, alloc: Global, regex: &mut Regex, row: Row) {
     expect_output(rt, output, wanted);
 }
 
-fn expect_output(rt: &impl Abort, output: Result<Vec<u8>, AllocError>, wanted: &str) {
-    let output = output.expect(rt, "memory");
-    assert_eq!(rt; output.as_slice(), wanted.as_bytes());
-}
-
 #[test]
 fn templates_are_filled(rt: HostRuntime) {
     for &row in FILLED {
-        let mut regex = Regex::new(rt.alloc(), row.0).expect(&rt, "a regex");
+        let mut regex = regex(&rt, rt.alloc(), row.0);
         expect_filled(&rt, rt.alloc(), &mut regex, row);
     }
 }
 
 fn expect_refused(rt: &impl Abort, alloc: Global, regex: &Regex, (text, wanted): (&str, &str)) {
     let error = regex.parse_template(alloc, text.as_bytes()).err();
-    expect_text(rt, alloc, error.expect(rt, "an error"), wanted);
+    expect_why(rt, alloc, error.expect(rt, "an error"), wanted);
 }
 
-fn expect_text(rt: &impl Abort, alloc: Global, error: TemplateError, wanted: &str) {
+fn expect_why(rt: &impl Abort, alloc: Global, error: TemplateError, wanted: &str) {
     let text = format!(in alloc; "{error}").expect(rt, "memory");
     assert!(rt; text.starts_with(wanted), "{text}");
 }
 
 #[test]
 fn mistakes_in_templates_are_named(rt: HostRuntime) {
-    let regex = Regex::new(rt.alloc(), "(?<n>b)(c)?").expect(&rt, "a regex");
+    let regex = regex(&rt, rt.alloc(), "(?<n>b)(c)?");
     expect_all_refused(&rt, rt.alloc(), &regex);
 }
 
@@ -148,7 +144,7 @@ fn expect_all_filled(rt: &impl Abort, alloc: Global, regex: &mut Regex) {
 #[test]
 fn first_captures_are_as_many_as_wanted(rt: HostRuntime) {
     let alloc = rt.alloc();
-    let mut regex = Regex::new(alloc, "foo([0-9]+)").expect(&rt, "a regex");
+    let mut regex = regex(&rt, alloc, "foo([0-9]+)");
     for &(count, wanted) in &[(0, 0), (1, 1), (2, 2), (3, 3), (9, 3)] {
         expect_first(&rt, alloc, &mut regex, count, wanted);
     }

@@ -1,7 +1,7 @@
 //! Texts that are split at the matches of a pattern, or have other bytes in place of them.
 
+use super::{expect_output, regex};
 use nfa_engines::Span;
-use nfa_meta::Regex;
 use std::alloc::{AllocError, Global};
 use std::process::Abort;
 
@@ -77,7 +77,7 @@ fn expect(rt: &impl Abort, holds: bool, haystack: &str) {
 }
 
 fn expect_fields(rt: &impl Abort, alloc: Global, (pattern, haystack, wanted): Fields) {
-    let mut regex = Regex::new(alloc, pattern).expect(rt, "a regex");
+    let mut regex = regex(rt, alloc, pattern);
     let spans = regex.split_all(alloc, haystack.as_bytes());
     expect_texts(rt, haystack, spans, wanted);
 }
@@ -87,21 +87,16 @@ fn expect_first_fields(
     alloc: Global,
     (pattern, haystack, limit, wanted): FirstFields,
 ) {
-    let mut regex = Regex::new(alloc, pattern).expect(rt, "a regex");
+    let mut regex = regex(rt, alloc, pattern);
     let spans = regex.splitn_all(alloc, haystack.as_bytes(), limit);
     expect_texts(rt, haystack, spans, wanted);
 }
 
 fn expect_replaced(rt: &impl Abort, alloc: Global, row: Replacing) {
     let (pattern, haystack, limit, bytes, wanted) = row;
-    let mut regex = Regex::new(alloc, pattern).expect(rt, "a regex");
+    let mut regex = regex(rt, alloc, pattern);
     let output = regex.replacen(alloc, haystack.as_bytes(), limit, bytes.as_bytes());
     expect_output(rt, output, wanted);
-}
-
-fn expect_output(rt: &impl Abort, output: Result<Vec<u8>, AllocError>, wanted: &str) {
-    let output = output.expect(rt, "memory");
-    assert_eq!(rt; output.as_slice(), wanted.as_bytes());
 }
 
 #[test]

@@ -1,7 +1,7 @@
 //! Where the windows of the lazy DFA begin, and that the engines search no more. No contract says how near they are to
 //! the match, nor that the DFA answers where it can.
 
-use super::samples::regex_of;
+use super::regex;
 use nfa_compiler::Compiler;
 use nfa_engines::{Input, NonMaxUsize};
 use nfa_lazy_dfa::DFA;
@@ -42,14 +42,9 @@ fn windows_begin_with_the_match(rt: HostRuntime) {
     }
 }
 
-fn regex_by(rt: &impl Abort, alloc: Global, pattern: &str) -> Regex {
-    let nfa = Compiler::new().build(alloc, pattern).expect(rt, "an NFA");
-    regex_of(rt, alloc, &nfa)
-}
-
 #[test]
 fn the_lazy_dfa_answers_if_it_can(rt: HostRuntime) {
-    let mut regex = regex_by(&rt, rt.alloc(), "foo[0-9]+");
+    let mut regex = regex(&rt, rt.alloc(), "foo[0-9]+");
     expect_answers(&rt, &mut regex);
 }
 
@@ -87,7 +82,7 @@ fn expect_slots(rt: &impl Abort, regex: &mut Regex, text: &[u8], span: Option<(u
 #[test]
 fn the_lazy_dfa_fills_two_slots(rt: HostRuntime) {
     let alloc = rt.alloc();
-    let mut regex = regex_by(&rt, alloc, "foo[0-9]+");
+    let mut regex = regex(&rt, alloc, "foo[0-9]+");
     expect_slots(&rt, &mut regex, b"a foo12", Some((2, 7)));
     expect_slots(&rt, &mut regex, b"a fo12", None);
     expect_group(&rt, alloc, &mut regex, b"foo1 foo2", 0, Some((0, 4)));
@@ -115,7 +110,7 @@ fn expect_group(
 #[test]
 fn the_lazy_dfa_finds_empty_matches(rt: HostRuntime) {
     let alloc = rt.alloc();
-    let mut regex = regex_by(&rt, alloc, "[a-z]*");
+    let mut regex = regex(&rt, alloc, "[a-z]*");
     expect_range(&rt, &mut regex, Input::new(b"1ab"), Some(0..0));
     expect_ran(&rt, &regex, None);
     let snowman = Input::new("\u{2603}a".as_bytes());
@@ -140,7 +135,7 @@ fn expect_ranges(
 // Each match begins with `foo`, and what comes before that is passed over.
 #[test]
 fn matches_begin_with_a_prefix(rt: HostRuntime) {
-    let mut regex = regex_by(&rt, rt.alloc(), "(foo)(bar|[0-9]+)");
+    let mut regex = regex(&rt, rt.alloc(), "(foo)(bar|[0-9]+)");
     let input = Input::new(b"fo foo fooba foobar foo12");
     expect_range(&rt, &mut regex, input, Some(13..19));
     expect_range(&rt, &mut regex, input.range(14..25), Some(20..25));
@@ -154,7 +149,7 @@ const FILL: usize = 1_000_000;
 #[test]
 fn the_choice_searches_the_window(rt: HostRuntime) {
     let alloc = rt.alloc();
-    let mut regex = regex_by(&rt, alloc, "foo([0-9]+)");
+    let mut regex = regex(&rt, alloc, "foo([0-9]+)");
     let mut text = vec![in alloc; b'x'; FILL].expect(&rt, "memory");
     text.extend_from_slice(b"foo12").expect(&rt, "memory");
     let found = FILL..FILL + 5;
