@@ -3,9 +3,8 @@
 use crate::refused::{nests_too_deep, out_of_memory, too_big, too_deep};
 use anyhow::{Result, bail};
 use nfa_compiler::{Compiler, Config};
-use regex_syntax::parse;
+use regex_syntax::{Parsed, parse};
 use std::alloc::Global;
-use std::fmt::Write;
 
 /// How many states the NFA of this pattern has.
 fn states(alloc: Global, pattern: &str) -> Result<usize> {
@@ -40,18 +39,18 @@ fn expect(is: bool, what: &'static str) -> Result<()> {
 /// Compiles large patterns: counts inside counts, a text of ten thousand characters, classes of all of Unicode, and
 /// two hundred groups inside one another.
 pub fn expect_large(alloc: Global) -> Result<()> {
-    expect(states(alloc, "(a{100}){100}")? > 10000, "counts in counts")?;
-    expect(states(alloc, "a{1000}")? > 1000, "a count")?;
+    expect_states(alloc, "(a{100}){100}", 10000, "counts in counts")?;
+    expect_states(alloc, "a{1000}", 1000, "a count")?;
+    expect_states(alloc, r"[^a]\p{L}(?s:.)", 100, "classes of Unicode")?;
     let long = repeated(alloc, "0123456789", 1000)?;
-    expect(states(alloc, long.as_str())? > 10000, "a long pattern")?;
-    expect(
-        states(alloc, r"[^a]\p{L}(?s:.)")? > 100,
-        "classes of Unicode",
-    )?;
-    expect(
-        states(alloc, nested(alloc, 200)?.as_str())? > 400,
-        "groups in groups",
-    )
+    expect_states(alloc, &long, 10000, "a long pattern")?;
+    let deep = nested(alloc, 200)?;
+    expect_states(alloc, &deep, 400, "groups in groups")
+}
+
+/// The NFA has more than this many states.
+fn expect_states(alloc: Global, pattern: &str, count: usize, what: &'static str) -> Result<()> {
+    expect(states(alloc, pattern)? > count, what)
 }
 
 /// Patterns that are refused for their size, or for their depth.
@@ -82,15 +81,22 @@ pub fn expect_texts(alloc: Global) -> Result<()> {
 
 /// A hundred patterns in one NFA.
 pub fn expect_many(alloc: Global) -> Result<()> {
-    let mut texts = Vec::new(alloc);
-    for number in 0..100 {
-        let mut text = String::new(alloc);
-        write!(text, "number {number}")?;
-        texts.push(text)?;
-    }
+    let texts = numbered(alloc, 100)?;
     let patterns: Vec<&str> = texts.iter().map(|text| text.as_str()).collect(alloc)?;
-    let nfa = Compiler::new().build_many(alloc, &patterns)?;
-    expect(nfa.pattern_len() == 100, "a hundred patterns")
+    expect(pattern_len(alloc, &patterns)? == 100, "a hundred patterns")
+}
+
+fn numbered(alloc: Global, count: usize) -> Result<Vec<String>> {
+    let mut texts = Vec::new(alloc);
+    for number in 0..count {
+        texts.push(format!(in alloc; "number {number}")?)?;
+    }
+    Ok(texts)
+}
+
+fn pattern_len(alloc: Global, patterns: &[&str]) -> Result<usize> {
+    let nfa = Compiler::new().build_many(alloc, patterns)?;
+    Ok(nfa.pattern_len())
 }
 
 /// Trees that were read before, with settings of syntax and of the NFA.
@@ -99,20 +105,23 @@ pub fn expect_trees(alloc: Global) -> Result<()> {
     let compiler = Compiler::new()
         .syntax(syntax)
         .configure(Config::new().anchored(true).utf8(false));
-    let tree = parse(alloc, "(?<a>b)", &syntax)?;
-    let nfa = compiler.build_from_hir(alloc, &tree)?;
-    expect(nfa.group_info().slot_len() == 4, "the slots of a tree")?;
-    expect(
-        nfa.start_anchored() == nfa.start_unanchored(),
-        "an anchored NFA",
-    )?;
     let mut trees = Vec::new(alloc);
-    trees.push(tree)?;
+    trees.push(parse(alloc, "(?<a>b)", &syntax)?)?;
     trees.push(parse(alloc, "c", &syntax)?)?;
+    expect_first(alloc, &compiler, &trees)?;
     let nfa = compiler.build_many_from_hir(alloc, &trees)?;
-    expect(nfa.group_info().slot_len() == 6, "the slots of trees")?;
+    let is_both = !nfa.is_utf8() && nfa.pattern_len() == 2 && nfa.group_info().slot_len() == 6;
+    expect(is_both, "an NFA of two trees")
+}
+
+fn expect_first(alloc: Global, compiler: &Compiler, trees: &[Parsed]) -> Result<()> {
+    let Some(tree) = trees.first() else {
+        bail!("no tree");
+    };
+    let nfa = compiler.build_from_hir(alloc, tree)?;
+    let is_anchored = nfa.start_anchored() == nfa.start_unanchored();
     expect(
-        !nfa.is_utf8() && nfa.pattern_len() == 2,
-        "an NFA of two trees",
+        is_anchored && nfa.group_info().slot_len() == 4,
+        "an anchored NFA",
     )
 }

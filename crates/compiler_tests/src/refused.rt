@@ -209,12 +209,16 @@ fn wanted(alloc: Global, number: usize, row: usize) -> Result<String> {
 
 /// Returns the text of the pattern's error, or that there is none. It is the second of two patterns; the first is good.
 fn given(alloc: Global, pattern: &str) -> Result<String> {
-    let mut text = String::new(alloc);
-    match Compiler::new().build_many(alloc, &["good", pattern]) {
-        Ok(_) => write!(text, "no error")?,
-        Err(error) => write!(text, "{error}")?,
-    }
-    Ok(text)
+    let compiler = Compiler::new();
+    error_text(alloc, compiler.build_many(alloc, &["good", pattern]).err())
+}
+
+fn error_text(alloc: Global, error: Option<CompileError>) -> Result<String> {
+    let text = match &error {
+        Some(error) => format!(in alloc; "{error}"),
+        None => String::from_str(alloc, "no error"),
+    };
+    Ok(text?)
 }
 
 /// Returns the error texts that differ from their rows, and the number of rows.
@@ -232,12 +236,7 @@ pub fn differences(alloc: Global) -> Result<(Vec<String>, usize)> {
 /// Returns the text of the error of a pattern that exceeds this limit.
 pub fn too_big(alloc: Global, pattern: &str, limit: usize) -> Result<String> {
     let compiler = Compiler::new().configure(Config::new().size_limit(limit));
-    let mut text = String::new(alloc);
-    match compiler.build(alloc, pattern) {
-        Ok(_) => write!(text, "no error")?,
-        Err(error) => write!(text, "{error}")?,
-    }
-    Ok(text)
+    error_text(alloc, compiler.build(alloc, pattern).err())
 }
 
 /// Returns the text of the error of a pattern that nests deeper than this.
@@ -246,19 +245,13 @@ pub fn too_deep(alloc: Global, pattern: &str, limit: u32) -> Result<String> {
         nest_limit: limit,
         ..Syntax::default()
     };
-    let mut text = String::new(alloc);
-    match Compiler::new().syntax(syntax).build(alloc, pattern) {
-        Ok(_) => write!(text, "no error")?,
-        Err(error) => write!(text, "{error}")?,
-    }
-    Ok(text)
+    let compiler = Compiler::new().syntax(syntax);
+    error_text(alloc, compiler.build(alloc, pattern).err())
 }
 
 /// Returns the text of the error that allocation failed.
 pub fn out_of_memory(alloc: Global) -> Result<String> {
-    let mut text = String::new(alloc);
-    write!(text, "{}", CompileError::Memory)?;
-    Ok(text)
+    error_text(alloc, Some(CompileError::Memory))
 }
 
 /// Whether the error of this text is that it nests too deep.
