@@ -1,13 +1,12 @@
-//! All matches, all captures and the set of patterns of a `Choice`, next to those of the two engines over the same NFA.
-//! The functions that own an engine let others borrow it.
+//! All matches, all captures and the set of patterns of a `Choice`, next to those of a PikeVM over the same NFA. The
+//! functions that own an engine let others borrow it.
 
 ghost use Rattle.nfa_engines.specs.Engines.{Fits};
 
-use super::super::expected::{Case, expect_answer};
+use super::super::expected::{Case, expect, expect_answer};
 use super::super::shapes::nfa_copy;
 use super::{captures_of, choice_by, marks, nfa, with_engine};
 use nfa_choice::{Choice, Engine};
-use nfa_engines::backtrack::{self, BoundedBacktracker};
 use nfa_engines::pikevm::{self, PikeVM};
 use regex_search_core::{Captures, Input, Match, MatchKind, PatternSet};
 use std::alloc::Global;
@@ -50,7 +49,7 @@ fn rows_text(rt: &impl Abort, alloc: Global, all: &[Captures]) -> String {
     text
 }
 
-// ---- the engines
+// ---- the PikeVM
 
 fn piked(
     rt: &impl Abort,
@@ -73,31 +72,6 @@ fn piked_lists(rt: &impl Abort, alloc: Global, nfa: NFA, input: Input<'_>) -> [S
     let vm = PikeVM::new_from_nfa(nfa).expect(rt, "a PikeVM");
     let mut cache = vm.create_cache(alloc).expect(rt, "memory");
     piked(rt, alloc, &vm, &mut cache, input)
-}
-
-fn backtracked(
-    rt: &impl Abort,
-    alloc: Global,
-    engine: &BoundedBacktracker,
-    cache: &mut backtrack::Cache,
-    input: Input<'_>,
-) -> [String; 2] {
-    let found = engine
-        .try_find_all(alloc, cache, input)
-        .expect(rt, "memory");
-    let caught = engine
-        .try_captures_all(alloc, cache, input)
-        .expect(rt, "memory");
-    [
-        matches_text(rt, alloc, &found),
-        rows_text(rt, alloc, &caught),
-    ]
-}
-
-fn backtracked_lists(rt: &impl Abort, alloc: Global, nfa: NFA, input: Input<'_>) -> [String; 2] {
-    let engine = BoundedBacktracker::new_from_nfa(nfa).expect(rt, "a backtracker");
-    let mut cache = engine.create_cache(alloc);
-    backtracked(rt, alloc, &engine, &mut cache, input)
 }
 
 // ---- the choice
@@ -158,15 +132,13 @@ fn expect_lists(
 
 fn expect_same_lists(rt: &impl Abort, alloc: Global, case: &Case<'_>, capacity: Option<usize>) {
     let nfa = nfa(rt, alloc, case.name);
-    let first = backtracked_lists(rt, alloc, nfa_copy(rt, &nfa), case.input);
-    let second = piked_lists(rt, alloc, nfa_copy(rt, &nfa), case.input);
+    let want = piked_lists(rt, alloc, nfa_copy(rt, &nfa), case.input);
     let mut choice = choice_by(rt, alloc, nfa, marks(capacity), pikevm::Config::new());
-    expect_lists(rt, alloc, &mut choice, case, &first);
-    expect_lists(rt, alloc, &mut choice, case, &second);
+    expect_lists(rt, alloc, &mut choice, case, &want);
 }
 
 #[test]
-fn lists_are_those_of_both_engines(rt: HostRuntime) {
+fn lists_are_those_of_a_pikevm(rt: HostRuntime) {
     for &(name, haystack, capacity) in LISTS {
         let input = Input::new(haystack);
         expect_same_lists(&rt, rt.alloc(), &Case { name, input }, capacity);
@@ -209,12 +181,22 @@ fn expect_caught(
     );
 }
 
+fn expect_groups(
+    rt: &impl Abort,
+    alloc: Global,
+    capacity: Option<usize>,
+    input: Input<'_>,
+    want: &str,
+) {
+    let nfa = nfa(rt, alloc, "groups");
+    let mut choice = choice_by(rt, alloc, nfa, marks(capacity), pikevm::Config::new());
+    expect_caught(rt, alloc, &mut choice, input, want);
+}
+
 #[test]
 fn captures_of_an_input(rt: HostRuntime) {
     for &(haystack, capacity, want) in CAUGHT {
-        let nfa = nfa(&rt, rt.alloc(), "groups");
-        let mut choice = choice_by(&rt, rt.alloc(), nfa, marks(capacity), pikevm::Config::new());
-        expect_caught(&rt, rt.alloc(), &mut choice, Input::new(haystack), want);
+        expect_groups(&rt, rt.alloc(), capacity, Input::new(haystack), want);
     }
 }
 
@@ -269,7 +251,11 @@ fn chosen_set(rt: &impl Abort, alloc: Global, choice: &mut Choice, input: &Input
     let patterns = choice.get_nfa().pattern_len();
     let mut set = PatternSet::new(alloc, patterns).expect(rt, "memory");
     choice.which_overlapping_matches(input, &mut set);
-    assert!(rt; choice.ran() == Some(Engine::PikeVM));
+    expect(
+        rt,
+        choice.ran() == Some(Engine::PikeVM),
+        "the engine that ran",
+    );
     set_text(rt, alloc, &set)
 }
 
