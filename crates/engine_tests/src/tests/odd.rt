@@ -16,7 +16,10 @@ use test_support::made::NAMES;
 
 // Which pattern alone the search is anchored for; a number above the patterns is for none.
 fn mode(pattern: Option<usize>) -> Anchored {
-    match pattern.and_then(|pattern| PatternID::new(pattern)) {
+    let Some(pattern) = pattern else {
+        return Anchored::No;
+    };
+    match PatternID::new(pattern) {
         Some(pattern) => Anchored::Pattern(pattern),
         None => Anchored::No,
     }

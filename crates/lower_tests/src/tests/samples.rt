@@ -245,12 +245,17 @@ fn chain(alloc: Global) -> Result<String, AllocError> {
     Ok(text)
 }
 
+fn start_of(nfa: &NFA, index: usize) -> Option<StateID> {
+    let pattern = PatternID::new(index)?;
+    nfa.start_pattern(pattern)
+}
+
 fn shown_head(alloc: Global, nfa: &NFA) -> Result<String, AllocError> {
     let anchored = nfa.start_anchored().as_usize();
     let unanchored = nfa.start_unanchored().as_usize();
     let mut text = format!(in alloc; "{anchored} {unanchored} [")?;
     for index in 0..nfa.pattern_len() {
-        if let Some(start) = PatternID::new(index).and_then(|pattern| nfa.start_pattern(pattern)) {
+        if let Some(start) = start_of(nfa, index) {
             write_id(&mut text, if index == 0 { "" } else { "," }, start)?;
         }
     }
