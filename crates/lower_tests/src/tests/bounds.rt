@@ -79,6 +79,10 @@ fn add_all(machine: &mut Machine, rows: &[Row], starts: &[usize]) -> Result<(), 
     for row in rows {
         add(machine, *row)?;
     }
+    add_starts(machine, starts)
+}
+
+fn add_starts(machine: &mut Machine, starts: &[usize]) -> Result<(), MakeError> {
     for &start in starts {
         machine.pattern(start)?;
         machine.groups(0)?;
