@@ -1,14 +1,54 @@
-//! Tests of each engine by itself, and of captures by both.
+//! Tests of each engine by itself, and of captures by both. What is asserted in many places is asserted by one function,
+//! and what is owned in many places is made by one: a check takes some seconds for each assertion and each way out in
+//! place, and less for a call.
+
+ghost use Rattle.nfa_pikevm.specs.Engines.{Fits};
 
 mod backtrack;
 mod captures;
+mod halves;
 mod pikevm;
 
-use regex_search_core::{Captures, Match};
+use nfa_engines::backtrack::BoundedBacktracker;
+use nfa_engines::pikevm::{self as pike, PikeVM};
+use regex_search_core::{Captures, Match, MatchKind};
 use std::alloc::{AllocError, Global};
 use std::fmt::Debug;
 use std::process::Abort;
+use test_support::made;
 use test_support::text::parts;
+
+// A backtracker of the sample.
+fn engine_named(rt: &impl Abort, alloc: Global, name: &str) -> BoundedBacktracker {
+    made::backtracker(alloc, name).expect(rt, name)
+}
+
+// One whose marks take so many bytes.
+fn with_capacity(rt: &impl Abort, alloc: Global, name: &str, bytes: usize) -> BoundedBacktracker {
+    made::with_capacity(alloc, name, bytes).expect(rt, name)
+}
+
+// A PikeVM of the sample.
+fn vm_named(rt: &impl Abort, alloc: Global, name: &str) -> PikeVM {
+    made::pikevm(alloc, name).expect(rt, name)
+}
+
+// One that searches by this kind.
+fn of_kind(rt: &impl Abort, alloc: Global, name: &str, kind: MatchKind) -> PikeVM {
+    made::of_kind(alloc, name, kind).expect(rt, name)
+}
+
+// A cache for it.
+fn threads(rt: &impl Abort, alloc: Global, vm: &PikeVM) -> pike::Cache
+    ensures { Fits result vm.now.nfa }
+{
+    vm.create_cache(alloc).expect(rt, "a cache")
+}
+
+// It is as it has to be with what has that name.
+fn expect(rt: &impl Abort, holds: bool, name: &str) {
+    assert!(rt; holds, "{name}");
+}
 
 // The text was made, and is this. What it is of tells its row from the others.
 fn expect_text(rt: &impl Abort, of: &impl Debug, text: Result<String, AllocError>, want: &str) {
@@ -37,22 +77,10 @@ fn expect_parts(rt: &impl Abort, found: Match, want: (usize, usize, usize)) {
     assert_eq!(rt; parts(found), want);
 }
 
-// The matches are the first that are wanted, so many.
-fn expect_matches(rt: &impl Abort, all: &[Match], wants: &[(usize, usize, usize)], len: usize) {
-    expect_number(rt, all.len(), len);
-    assert!(rt; len <= wants.len());
+// The matches are those that are wanted.
+fn expect_matches(rt: &impl Abort, all: &[Match], wants: &[(usize, usize, usize)]) {
+    expect_number(rt, all.len(), wants.len());
     for (found, want) in all.iter().zip(wants) {
         expect_parts(rt, *found, *want);
     }
-}
-
-// The same of a list that was made.
-fn expect_list<E: Debug>(
-    rt: &impl Abort,
-    list: Result<Vec<Match>, E>,
-    wants: &[(usize, usize, usize)],
-    len: usize,
-) {
-    let all = list.expect(rt, "a list");
-    expect_matches(rt, &all, wants, len);
 }

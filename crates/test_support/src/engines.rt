@@ -10,7 +10,7 @@ use crate::text::{
 use nfa_engines::backtrack::{self, BoundedBacktracker};
 use nfa_engines::error::SearchError;
 use nfa_engines::pikevm::{self, PikeVM};
-use regex_search_core::{Input, Match, NonMaxUsize, PatternID};
+use regex_search_core::Input;
 use std::alloc::{AllocError, Global};
 use thompson_nfa::NFA;
 
@@ -47,33 +47,6 @@ impl Engines {
     /// How many slots the NFA has.
     pub fn slot_len(&self) -> usize {
         self.vm.get_nfa().group_info().slot_len()
-    }
-
-    /// The NFA that both search.
-    pub fn nfa(&self) -> &NFA {
-        self.vm.get_nfa()
-    }
-
-    /// The pattern that both answer, the backtracker in the first slots, the PikeVM in the second ones.
-    pub fn search_slots(
-        &mut self,
-        input: &Input<'_>,
-        first: &mut [Option<NonMaxUsize>],
-        second: &mut [Option<NonMaxUsize>],
-    ) -> Result<[Option<PatternID>; 2], SearchError> {
-        Ok([
-            self.backtracker
-                .try_search_slots(&mut self.marks, input, first)?,
-            self.vm.search_slots(&mut self.threads, input, second),
-        ])
-    }
-
-    /// The match that both find.
-    pub fn find(&mut self, input: Input<'_>) -> Result<[Option<Match>; 2], SearchError> {
-        Ok([
-            self.backtracker.try_find(&mut self.marks, input)?,
-            self.vm.find(&mut self.threads, input),
-        ])
     }
 
     /// What both answer and leave in slots that held 7 before.

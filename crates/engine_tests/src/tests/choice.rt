@@ -8,12 +8,11 @@ use super::expected::{Case, expect, expect_answer};
 use nfa_choice::choose::{Choice, Engine};
 use nfa_engines::error::SearchError;
 use nfa_engines::{backtrack, pikevm};
-use nfa_samples::answers::HALVES;
 use regex_search_core::{Captures, Input, MatchKind, NonMaxUsize};
 use std::alloc::Global;
 use std::process::Abort;
 use test_support::made::nfa_named;
-use test_support::text::{half_text, match_text, slots_text, write_item};
+use test_support::text::{match_text, slots_text, write_item};
 use thompson_nfa::NFA;
 
 fn nfa(rt: &impl Abort, alloc: Global, name: &str) -> NFA {
@@ -186,24 +185,6 @@ fn expect_choice(rt: &impl Abort, alloc: Global, row: &Row) {
 fn answers_whichever_engine_runs(rt: HostRuntime) {
     for row in ROWS {
         expect_choice(&rt, rt.alloc(), row);
-    }
-}
-
-fn expect_half(rt: &impl Abort, alloc: Global, choice: &mut Choice, case: &Case<'_>, want: &str) {
-    let text = half_text(alloc, choice.find_half(case.input)).expect(rt, "memory");
-    expect_answer(rt, case, text.as_str(), want);
-}
-
-fn expect_half_of(rt: &impl Abort, alloc: Global, case: &Case<'_>, want: &str) {
-    let mut choice = choice(rt, alloc, case.name);
-    expect_half(rt, alloc, &mut choice, case, want);
-}
-
-#[test]
-fn finds_the_end_of_the_first_match(rt: HostRuntime) {
-    for &(name, haystack, want) in HALVES {
-        let input = Input::new(haystack.as_bytes());
-        expect_half_of(&rt, rt.alloc(), &Case { name, input }, want);
     }
 }
 

@@ -10,9 +10,17 @@ use regex_search_core::{Anchored, Captures, Input, PatternID, PatternSet};
 use std::alloc::Global;
 use std::process::Abort;
 use test_support::engines::Engines;
-use test_support::made::{backtracker, input_in, nfa_named, pikevm, with_capacity};
+use test_support::made::{self, input_in, nfa_named};
 use test_support::text::{backtracked_list, backtracked_match, backtracked_slots};
 use thompson_nfa::NFA;
+
+fn backtracker(rt: &impl Abort, alloc: Global, name: &str) -> BoundedBacktracker {
+    made::backtracker(alloc, name).expect(rt, name)
+}
+
+fn pikevm(rt: &impl Abort, alloc: Global, name: &str) -> PikeVM {
+    made::pikevm(alloc, name).expect(rt, name)
+}
 
 fn dots(rt: &impl Abort, alloc: Global, len: usize) -> Vec<u8> {
     vec![in alloc; b'.'; len].expect(rt, "memory")
@@ -21,8 +29,7 @@ fn dots(rt: &impl Abort, alloc: Global, len: usize) -> Vec<u8> {
 #[test]
 fn no_length_wants_memory(rt: HostRuntime) {
     let alloc = rt.alloc();
-    let engine = backtracker(alloc, "abc_a").expect(&rt, "an engine");
-    expect_lengths(&rt, alloc, &engine);
+    expect_lengths(&rt, alloc, &backtracker(&rt, alloc, "abc_a"));
 }
 
 fn expect_lengths(rt: &impl Abort, alloc: Global, engine: &BoundedBacktracker) {
@@ -79,9 +86,13 @@ fn no_number_of_matches_wants_memory(rt: HostRuntime) {
 #[test]
 fn a_greater_capacity_is_used(rt: HostRuntime) {
     let alloc = rt.alloc();
-    let engine = with_capacity(alloc, "abc_a", 400000).expect(&rt, "an engine");
+    let engine = made::with_capacity(alloc, "abc_a", 400000).expect(&rt, "an engine");
+    expect_capacity(&rt, alloc, &engine);
+}
+
+fn expect_capacity(rt: &impl Abort, alloc: Global, engine: &BoundedBacktracker) {
     let mut cache = engine.create_cache(alloc);
-    expect_use(&rt, alloc, &engine, &mut cache);
+    expect_use(rt, alloc, engine, &mut cache);
 }
 
 fn expect_use(
@@ -134,8 +145,14 @@ fn expect_deep(rt: &impl Abort, alloc: Global, shape: Shape, haystack: &[u8], wa
 fn no_number_of_slots_wants_memory(rt: HostRuntime) {
     let alloc = rt.alloc();
     let mut engines = engines_of(&rt, alloc, "groups");
-    for &slot_len in &[11, 12, 64, 1000] {
-        expect_groups(&rt, alloc, &mut engines, slot_len);
+    expect_all_groups(&rt, alloc, &mut engines);
+}
+
+const SLOT_LENS: &[usize] = &[11, 12, 64, 1000];
+
+fn expect_all_groups(rt: &impl Abort, alloc: Global, engines: &mut Engines) {
+    for &slot_len in SLOT_LENS {
+        expect_groups(rt, alloc, engines, slot_len);
     }
 }
 
@@ -170,21 +187,17 @@ const LONG: &[u8] = &[b'.'; 1000];
 #[test]
 fn copies_want_no_memory(rt: HostRuntime) {
     let alloc = rt.alloc();
-    expect_copies(
-        &rt,
-        alloc,
-        &nfa_named(alloc, "groups").expect(&rt, "a sample"),
-    );
-    expect_copies(
-        &rt,
-        alloc,
-        &nfa_named(alloc, "alnum100").expect(&rt, "a sample"),
-    );
-    expect_copies(
-        &rt,
-        alloc,
-        &nfa_of(alloc, Shape::Word(1000)).expect(&rt, "an NFA"),
-    );
+    expect_copies(&rt, alloc, &named(&rt, alloc, "groups"));
+    expect_copies(&rt, alloc, &named(&rt, alloc, "alnum100"));
+    expect_copies(&rt, alloc, &word(&rt, alloc));
+}
+
+fn named(rt: &impl Abort, alloc: Global, name: &str) -> NFA {
+    nfa_named(alloc, name).expect(rt, name)
+}
+
+fn word(rt: &impl Abort, alloc: Global) -> NFA {
+    nfa_of(alloc, Shape::Word(1000)).expect(rt, "an NFA")
 }
 
 fn expect_copies(rt: &impl Abort, alloc: Global, nfa: &NFA) {
@@ -227,7 +240,7 @@ fn expect_pikevm_copies(rt: &impl Abort, alloc: Global, nfa: &NFA) {
 }
 
 fn small_cache(rt: &impl Abort, alloc: Global) -> pikevm::Cache {
-    let small = pikevm(alloc, "a_pair").expect(rt, "an engine");
+    let small = pikevm(rt, alloc, "a_pair");
     small.create_cache(alloc).expect(rt, "memory")
 }
 
@@ -246,9 +259,8 @@ fn expect_fit(rt: &impl Abort, vm: &PikeVM, same: &PikeVM, copy: &mut pikevm::Ca
 
 #[test]
 fn captures_want_no_memory(rt: HostRuntime) {
-    for &name in &["date", "foo_bar"] {
-        expect_captures(&rt, rt.alloc(), name);
-    }
+    expect_captures(&rt, rt.alloc(), "date");
+    expect_captures(&rt, rt.alloc(), "foo_bar");
 }
 
 // Both engines make captures of eight slots.
@@ -260,12 +272,12 @@ fn expect_captures(rt: &impl Abort, alloc: Global, name: &str) {
 }
 
 fn backtracker_captures(rt: &impl Abort, alloc: Global, name: &str) -> Captures {
-    let engine = backtracker(alloc, name).expect(rt, "an engine");
+    let engine = backtracker(rt, alloc, name);
     engine.create_captures(alloc).expect(rt, "memory")
 }
 
 fn pikevm_captures(rt: &impl Abort, alloc: Global, name: &str) -> Captures {
-    let vm = pikevm(alloc, name).expect(rt, "an engine");
+    let vm = pikevm(rt, alloc, name);
     vm.create_captures(alloc).expect(rt, "memory")
 }
 
@@ -286,6 +298,6 @@ fn what_is_not_set_is_the_default(rt: HostRuntime) {
 fn with_nothing_set(rt: &impl Abort, alloc: Global, name: &str) -> BoundedBacktracker {
     let mut builder = BoundedBacktracker::builder();
     builder.configure(backtrack::Config::new());
-    let nfa = nfa_named(alloc, name).expect(rt, "a sample");
+    let nfa = named(rt, alloc, name);
     builder.build_from_nfa(nfa).expect(rt, "memory")
 }

@@ -16,7 +16,10 @@ use test_support::made::NAMES;
 
 // Which pattern alone the search is anchored for; a number above the patterns is for none.
 fn mode(pattern: Option<usize>) -> Anchored {
-    match pattern.and_then(|pattern| PatternID::new(pattern)) {
+    let Some(pattern) = pattern else {
+        return Anchored::No;
+    };
+    match PatternID::new(pattern) {
         Some(pattern) => Anchored::Pattern(pattern),
         None => Anchored::No,
     }
@@ -121,10 +124,14 @@ fn expect_none(rt: &impl Abort, alloc: Global, name: &str, haystack: &[u8])
     expect_none_of(rt, alloc, &mut engines, &Case { name, input });
 }
 
-fn expect_none_of(rt: &impl Abort, alloc: Global, engines: &mut Engines, case: &Case<'_>) {
+fn expect_no_slots(rt: &impl Abort, alloc: Global, engines: &mut Engines, case: &Case<'_>) {
     let slot_len = engines.slot_len();
     let none = none_text(rt, alloc, slot_len);
     expect_slots(rt, alloc, engines, case, slot_len, none.as_str());
+}
+
+fn expect_none_of(rt: &impl Abort, alloc: Global, engines: &mut Engines, case: &Case<'_>) {
+    expect_no_slots(rt, alloc, engines, case);
     expect_slots(rt, alloc, engines, case, 0, "none");
     expect_match(rt, alloc, engines, case, "none");
     expect_list(rt, alloc, engines, case, "");

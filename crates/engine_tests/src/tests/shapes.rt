@@ -135,12 +135,16 @@ fn add_byte_or_loop(machine: &mut Machine, len: usize) -> Result<(), MakeError> 
     machine.bytes(b'a', b'a', 3)?;
     machine.capture(1, 4)?;
     machine.accept(0)?;
+    add_loop(machine, len)?;
+    machine.pattern(1)?;
+    machine.groups(0)?;
+    machine.pattern(5)?;
+    machine.groups(0)
+}
+
+fn add_loop(machine: &mut Machine, len: usize) -> Result<(), MakeError> {
     for next in 1..len {
         machine.bytes(b'c', b'c', next.saturating_add(5))?;
     }
-    machine.bytes(b'c', b'c', 5)?;
-    machine.pattern(1)?;
-    machine.pattern(5)?;
-    machine.groups(0)?;
-    machine.groups(0)
+    machine.bytes(b'c', b'c', 5)
 }

@@ -1,5 +1,7 @@
 //! What the calls of a search answer, as one number, with caches and captures that all searches share.
 
+ghost use Rattle.nfa_pikevm.specs.Engines.{Fits};
+
 use super::shapes::{Shape, nfa_of};
 use nfa_choice::choose::Choice;
 use nfa_engines::backtrack::{self, BoundedBacktracker};
@@ -148,7 +150,14 @@ pub fn sum_piked(vm: &PikeVM, input: &Input<'_>, shared: &mut Shared) -> u64 {
     let sum = fold_match(sum, vm.find(threads, *input));
     let sum = fold_is_match(sum, vm.is_match(threads, *input));
     vm.search(threads, input, captures);
-    let mut sum = fold_slots(sum, captures.pattern(), captures.slots());
+    let sum = fold_slots(sum, captures.pattern(), captures.slots());
+    fold_piked_list(vm, threads, input, sum)
+}
+
+fn fold_piked_list(vm: &PikeVM, threads: &mut pikevm::Cache, input: &Input<'_>, sum: u64) -> u64
+    requires { Fits threads.old vm.now.nfa }
+{
+    let mut sum = sum;
     for found in vm.find_iter(threads, *input) {
         sum = fold_match(sum, Some(found));
     }

@@ -13,10 +13,14 @@ use std::process::Abort;
 #[test]
 fn states_out_of_reach_take_no_time(rt: HostRuntime) {
     let alloc = rt.alloc();
-    let nfa = nfa_of(alloc, Shape::ByteOrLoop(500000)).expect(&rt, "an NFA");
-    let vm = PikeVM::new_from_nfa(nfa).expect(&rt, "memory");
+    let vm = byte_or_loop(&rt, alloc);
     let mut cache = vm.create_cache(alloc).expect(&rt, "memory");
     expect_ones(&rt, alloc, &vm, &mut cache);
+}
+
+fn byte_or_loop(rt: &impl Abort, alloc: Global) -> PikeVM {
+    let nfa = nfa_of(alloc, Shape::ByteOrLoop(500000)).expect(rt, "an NFA");
+    PikeVM::new_from_nfa(nfa).expect(rt, "memory")
 }
 
 fn bytes(rt: &impl Abort, alloc: Global, byte: u8, len: usize) -> Vec<u8> {

@@ -1,12 +1,13 @@
 //! The sample NFAs, and mistakes by hand.
-use super::fixtures::{id, named, pattern, plain_groups};
+use super::fixtures::named;
 use super::shown::expect_eq_of;
 use Row::{Byte, Capture, Either, Match};
 use nfa_match_spans::records_match_spans;
-use regex_search_core::StateID;
 use std::alloc::Global;
 use std::process::Abort;
-use thompson_nfa::{NFA, State, Transition};
+use test_support::machine::Machine;
+use test_support::made::MakeError;
+use thompson_nfa::NFA;
 
 // Whether the tables of the samples write both slots of a pattern on each way to its match. Those of `a` have no
 // captures, and `backwards` writes the end before the byte and the start behind it. In `loop` a group lacks its end,
@@ -64,54 +65,36 @@ enum Row {
     Match(usize),
 }
 
-impl Row {
-    fn state(self, rt: &impl Abort) -> State {
-        match self {
-            Row::Byte(byte, next) => State::ByteRange {
-                trans: Transition {
-                    start: byte,
-                    end: byte,
-                    next: id(rt, next),
-                },
-            },
-            Row::Capture(slot, next) => State::Capture {
-                next: id(rt, next),
-                slot,
-            },
-            Row::Either(alt1, alt2) => State::BinaryUnion {
-                alt1: id(rt, alt1),
-                alt2: id(rt, alt2),
-            },
-            Row::Match(number) => State::Match {
-                pattern_id: pattern(rt, number),
-            },
-        }
+fn add(machine: &mut Machine, row: Row) -> Result<(), MakeError> {
+    match row {
+        Byte(byte, next) => machine.bytes(byte, byte, next),
+        Capture(slot, next) => machine.capture(slot, next),
+        Either(first, second) => machine.either(first, second),
+        Match(pattern) => machine.accept(pattern),
     }
 }
 
-fn states_of(rt: &impl Abort, alloc: Global, rows: &[Row]) -> Vec<State> {
-    let mut states = Vec::new(alloc);
+fn add_all(machine: &mut Machine, rows: &[Row], starts: &[usize]) -> Result<(), MakeError> {
+    machine.set_flags(false, true);
     for row in rows {
-        states.push(row.state(rt)).expect(rt, "memory");
+        add(machine, *row)?;
     }
-    states
+    add_starts(machine, starts)
 }
 
-fn ids(rt: &impl Abort, alloc: Global, numbers: &[usize]) -> Vec<StateID> {
-    let mut ids = Vec::new(alloc);
-    for &number in numbers {
-        ids.push(id(rt, number)).expect(rt, "memory");
+fn add_starts(machine: &mut Machine, starts: &[usize]) -> Result<(), MakeError> {
+    for &start in starts {
+        machine.pattern(start)?;
+        machine.groups(0)?;
     }
-    ids
+    Ok(())
 }
 
 // The NFA of these rows; state 0 is the start, and each of `starts` that of a pattern.
 fn nfa_of(rt: &impl Abort, alloc: Global, rows: &[Row], starts: &[usize]) -> NFA {
-    let start = id(rt, 0);
-    let groups = plain_groups(rt, alloc, starts.len());
-    let patterns = ids(rt, alloc, starts);
-    let states = states_of(rt, alloc, rows);
-    NFA::from_states(states, start, start, patterns, groups, false, true).expect(rt, "an NFA")
+    let mut machine = Machine::new(alloc);
+    add_all(&mut machine, rows, starts).expect(rt, "memory");
+    machine.build(0, 0).expect(rt, "an NFA")
 }
 
 // What an NFA is, whether it writes its bounds, its states, and the starts of its patterns.

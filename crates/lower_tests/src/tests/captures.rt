@@ -66,22 +66,41 @@ const FOUND: &[(WhichCaptures, Option<(usize, usize)>, usize)] = &[
 #[test]
 fn matches_need_group_0_and_half_matches_do_not(rt: HostRuntime) {
     for &(which, span, end) in FOUND {
-        let nfa = named(&rt, rt.alloc(), "groups");
-        let kept = keep_captures(rt.alloc(), &nfa, which).expect(&rt, "memory");
-        let vm = PikeVM::new_from_nfa(kept).expect(&rt, "memory");
+        let vm = vm_of(&rt, rt.alloc(), which);
         let (found, half) = found_by(&rt, rt.alloc(), &vm);
-        expect_eq_of(
-            &rt,
-            found.map(|found| (found.start(), found.end())),
-            span,
-            &which,
-        );
-        expect_eq_of(&rt, half.map(|half| half.offset()), Some(end), &which);
+        expect_eq_of(&rt, found, span, &which);
+        expect_eq_of(&rt, half, Some(end), &which);
     }
 }
 
-fn found_by(rt: &impl Abort, alloc: Global, vm: &PikeVM) -> (Option<Match>, Option<HalfMatch>) {
+fn vm_of(rt: &impl Abort, alloc: Global, which: WhichCaptures) -> PikeVM {
+    let nfa = named(rt, alloc, "groups");
+    let kept = keep_captures(alloc, &nfa, which).expect(rt, "memory");
+    PikeVM::new_from_nfa(kept).expect(rt, "memory")
+}
+
+// Where the match is, and where the half match ends.
+fn found_by(
+    rt: &impl Abort,
+    alloc: Global,
+    vm: &PikeVM,
+) -> (Option<(usize, usize)>, Option<usize>) {
     let mut cache = vm.create_cache(alloc).expect(rt, "memory");
     let found = vm.find(&mut cache, Input::new(b"xacab"));
-    (found, vm.find_half(&mut cache, Input::new(b"xacab")))
+    let half = vm.find_half(&mut cache, Input::new(b"xacab"));
+    (bounds(found), end(half))
+}
+
+fn bounds(found: Option<Match>) -> Option<(usize, usize)> {
+    match found {
+        Some(found) => Some((found.start(), found.end())),
+        Option::None => Option::None,
+    }
+}
+
+fn end(half: Option<HalfMatch>) -> Option<usize> {
+    match half {
+        Some(half) => Some(half.offset()),
+        Option::None => Option::None,
+    }
 }

@@ -1,4 +1,5 @@
-//! Callers of the iterators over stored finders, as a user of the library would write them: finders that are functions.
+//! Callers of the iterators over stored finders, as a user of the library would write them: finders that are functions
+//! and never err.
 ghost use Rattle.std.specs.Prelude.{IfOk, Ok, map};
 ghost use Rattle.regex_search_core.specs.Found.{found_of, half_found_of};
 ghost use Rattle.regex_search_core.specs.Search.{search_of, whole};
@@ -60,19 +61,7 @@ fn kept_match(input: &Input<'_>, captures: &mut Captures) -> Result<(), SearchEr
     Ok(())
 }
 
-// All items, by `collect`.
-fn collected(alloc: Global, haystack: &[u8]) -> Result<Vec<Result<Match, SearchError>>, AllocError>
-    ensures { IfOk result (λ v. AreAllStoredMatches span_of (IsInfalliblyInside span_of) found_of
-        (fresh (whole haystack.now))
-        v.items) }
-{
-    let input = Input::new(haystack);
-    let searcher = Searcher::new(input);
-    let items = searcher.into_matches_iter(empty_at_start);
-    items.collect(alloc)
-}
-
-// The same of a finder that never errs.
+// All matches, by `collect`.
 fn surely_collected(alloc: Global, haystack: &[u8]) -> Result<Vec<Match>, AllocError>
     ensures { IfOk result (λ v. AreAllStoredMatches span_of (IsInfalliblyInside span_of) found_of
         (fresh (whole haystack.now))
@@ -85,19 +74,6 @@ fn surely_collected(alloc: Global, haystack: &[u8]) -> Result<Vec<Match>, AllocE
 }
 
 // The same of half matches.
-fn halves_collected(
-    alloc: Global,
-    haystack: &[u8],
-) -> Result<Vec<Result<HalfMatch, SearchError>>, AllocError>
-    ensures { IfOk result (λ v. AreAllStoredMatches half_span_of (IsInfalliblyInside half_span_of) half_found_of
-        (fresh (whole haystack.now)) v.items) }
-{
-    let input = Input::new(haystack);
-    let searcher = Searcher::new(input);
-    let items = searcher.into_half_matches_iter(half_at_start);
-    items.collect(alloc)
-}
-
 fn halves_surely_collected(alloc: Global, haystack: &[u8]) -> Result<Vec<HalfMatch>, AllocError>
     ensures { IfOk result (λ v. AreAllStoredMatches half_span_of (IsInfalliblyInside half_span_of) half_found_of
         (fresh (whole haystack.now)) (map (λ m. Ok m) v.items)) }
@@ -109,19 +85,6 @@ fn halves_surely_collected(alloc: Global, haystack: &[u8]) -> Result<Vec<HalfMat
 }
 
 // The captures that a finder leaves.
-fn captures_collected(
-    alloc: Global,
-    haystack: &[u8],
-    captures: Captures,
-) -> Result<Vec<Result<Captures, SearchError>>, AllocError>
-    ensures { IfOk result (λ v. AreAllStoredCaptures (IsInfalliblyInside row_span)
-        (fresh (whole haystack.now)) v.items) }
-{
-    let searcher = Searcher::new(Input::new(haystack));
-    let items = searcher.into_captures_iter(captures, kept_match);
-    items.collect(alloc)
-}
-
 fn captures_surely_collected(
     alloc: Global,
     haystack: &[u8],
@@ -162,30 +125,18 @@ fn expect_ends(rt: &impl Abort, halves: &[HalfMatch]) {
 
 #[test]
 fn functions_are_finders(rt: HostRuntime) -> Result<(), Fail> {
-    let alloc = rt.alloc();
-    expect_empty(&rt, &surely_collected(alloc, b"ab")?);
-    expect_eq(&rt, collected(alloc, b"ab")?.len(), 3);
+    expect_empty(&rt, &surely_collected(rt.alloc(), b"ab")?);
     Ok(())
 }
 
 #[test]
 fn functions_are_finders_of_ends(rt: HostRuntime) -> Result<(), Fail> {
-    let alloc = rt.alloc();
-    expect_ends(&rt, &halves_surely_collected(alloc, b"ab")?);
-    expect_eq(&rt, halves_collected(alloc, b"ab")?.len(), 3);
+    expect_ends(&rt, &halves_surely_collected(rt.alloc(), b"ab")?);
     Ok(())
 }
 
 #[test]
 fn functions_are_finders_of_captures(rt: HostRuntime) -> Result<(), Fail> {
-    let alloc = rt.alloc();
-    let all = captures_collected(alloc, b"ab", first_byte(&rt, alloc))?;
-    expect_eq(&rt, all.len(), 1);
-    Ok(())
-}
-
-#[test]
-fn functions_that_never_err_are_finders_of_captures(rt: HostRuntime) -> Result<(), Fail> {
     let alloc = rt.alloc();
     let all = captures_surely_collected(alloc, b"ab", first_byte(&rt, alloc))?;
     expect_eq(&rt, all.len(), 1);

@@ -1,63 +1,51 @@
 //! Tests of NFAs: how they are made and read.
-use super::fixtures::{id, pattern, plain_groups};
+use super::fixtures::{id, pattern};
 use super::shown::{expect, expect_eq, expect_number, expect_shown};
-use std::alloc::{AllocError, Global};
+use std::alloc::Global;
 use std::process::Abort;
-use thompson_nfa::{BuildError, Look, NFA, State, Transition};
+use test_support::machine::Machine;
+use test_support::made::MakeError;
+use thompson_nfa::{BuildError, Look, NFA, State};
 
 /// An NFA with a state of each kind, of two patterns that start at 1 and 2 and have no explicit
 /// groups; searches start at 0 and 8.
 fn one_of_each(rt: &impl Abort, alloc: Global) -> NFA {
-    let patterns = vec![in alloc; id(rt, 1), id(rt, 2)].expect(rt, "memory");
-    let groups = plain_groups(rt, alloc, 2);
-    let states = states_of_each_kind(rt, alloc).expect(rt, "memory");
-    NFA::from_states(states, id(rt, 0), id(rt, 8), patterns, groups, true, false).expect(
-        rt, "an NFA",
-    )
+    let mut machine = Machine::new(alloc);
+    add_each_kind(&mut machine).expect(rt, "memory");
+    machine.build(0, 8).expect(rt, "an NFA")
 }
 
-fn states_of_each_kind(rt: &impl Abort, alloc: Global) -> Result<Vec<State>, AllocError> {
-    let alternates = vec![in alloc; id(rt, 1), id(rt, 2)]?;
-    let targets = vec![in alloc; None, Some(id(rt, 9))]?;
-    let to_nine = Transition {
-        start: 0x61,
-        end: 0x7A,
-        next: id(rt, 9),
-    };
-    let transitions = vec![in alloc; to_nine]?;
-    Ok(vec![in alloc;
-        State::Union { alternates },
-        State::ByteRange { trans: to_nine },
-        State::Sparse(transitions),
-        State::Dense(targets),
-        State::Look {
-            look: Look::Start,
-            next: id(rt, 9)
-        },
-        State::BinaryUnion {
-            alt1: id(rt, 3),
-            alt2: id(rt, 4)
-        },
-        State::Capture {
-            next: id(rt, 9),
-            slot: 3
-        },
-        State::Fail,
-        State::BinaryUnion {
-            alt1: id(rt, 0),
-            alt2: id(rt, 5)
-        },
-        State::Match {
-            pattern_id: pattern(rt, 1)
-        },
-    ]?)
+fn add_each_kind(machine: &mut Machine) -> Result<(), MakeError> {
+    machine.set_flags(true, false);
+    machine.union(&[1, 2])?;
+    machine.bytes(0x61, 0x7A, 9)?;
+    machine.sparse(&[(0x61, 0x7A, 9)])?;
+    machine.dense(0, &[None, Some(9)])?;
+    machine.assert(Look::Start, 9)?;
+    machine.either(3, 4)?;
+    machine.capture(3, 9)?;
+    machine.fail()?;
+    machine.either(0, 5)?;
+    machine.accept(1)?;
+    add_two_patterns(machine)
+}
+
+fn add_two_patterns(machine: &mut Machine) -> Result<(), MakeError> {
+    machine.pattern(1)?;
+    machine.groups(0)?;
+    machine.pattern(2)?;
+    machine.groups(0)
 }
 
 #[test]
 fn reads(rt: HostRuntime) {
     let made = one_of_each(&rt, rt.alloc());
     expect_one_of_each(&rt, rt.alloc(), &made);
-    expect_one_of_each(&rt, rt.alloc(), &made.clone().expect(&rt, "memory"));
+    expect_one_of_each(&rt, rt.alloc(), &copy(&rt, &made));
+}
+
+fn copy(rt: &impl Abort, nfa: &NFA) -> NFA {
+    nfa.clone().expect(rt, "memory")
 }
 
 fn expect_one_of_each(rt: &impl Abort, alloc: Global, nfa: &NFA) {

@@ -245,19 +245,32 @@ fn chain(alloc: Global) -> Result<String, AllocError> {
     Ok(text)
 }
 
+fn start_of(nfa: &NFA, index: usize) -> Option<StateID> {
+    let pattern = PatternID::new(index)?;
+    nfa.start_pattern(pattern)
+}
+
 fn shown_head(alloc: Global, nfa: &NFA) -> Result<String, AllocError> {
     let anchored = nfa.start_anchored().as_usize();
     let unanchored = nfa.start_unanchored().as_usize();
     let mut text = format!(in alloc; "{anchored} {unanchored} [")?;
+    write_starts(&mut text, nfa)?;
+    write_flags(&mut text, nfa)?;
+    Ok(text)
+}
+
+fn write_starts(text: &mut String, nfa: &NFA) -> Result<(), AllocError> {
     for index in 0..nfa.pattern_len() {
-        if let Some(start) = PatternID::new(index).and_then(|pattern| nfa.start_pattern(pattern)) {
-            write_id(&mut text, if index == 0 { "" } else { "," }, start)?;
+        if let Some(start) = start_of(nfa, index) {
+            write_id(text, if index == 0 { "" } else { "," }, start)?;
         }
     }
-    write!(text, "] {}", nfa.group_info().slot_len())?;
+    write!(text, "] {}", nfa.group_info().slot_len())
+}
+
+fn write_flags(text: &mut String, nfa: &NFA) -> Result<(), AllocError> {
     text.push_str(if nfa.has_empty() { " empty" } else { "" })?;
-    text.push_str(if nfa.is_utf8() { " utf8" } else { "" })?;
-    Ok(text)
+    text.push_str(if nfa.is_utf8() { " utf8" } else { "" })
 }
 
 fn shown_states(alloc: Global, states: &[State]) -> Result<String, AllocError> {

@@ -52,17 +52,6 @@ fn patterns(alloc: Global, set: &PatternSet) -> Result<Vec<PatternID>, AllocErro
     set.iter().collect(alloc)
 }
 
-/// Their numbers, by `for`.
-fn numbers(alloc: Global, set: &PatternSet) -> Result<Vec<usize>, AllocError>
-    ensures { IfOk result (λ all. all.items ≡ patterns_of set.now) }
-{
-    let mut all = Vec::new(alloc);
-    for pattern in set.iter() {
-        all.push(pattern.as_usize())?;
-    }
-    Ok(all)
-}
-
 // A number, and whether it is one of a pattern and of a state.
 const NUMBERS: &[(usize, bool)] = &[
     (0, true),
@@ -71,18 +60,30 @@ const NUMBERS: &[(usize, bool)] = &[
     (usize::MAX, false),
 ];
 
+fn number_of_pattern(number: usize) -> Option<usize> {
+    let pattern = PatternID::new(number)?;
+    Some(pattern.as_usize())
+}
+
+fn number_of_state(number: usize) -> Option<usize> {
+    let state = StateID::new(number)?;
+    Some(state.as_usize())
+}
+
+fn offset(number: usize) -> Option<usize> {
+    let offset = NonMaxUsize::new(number)?;
+    Some(offset.get())
+}
+
 #[test]
 fn numbers_at_their_limits(rt: HostRuntime) {
     for &(number, fits) in NUMBERS {
         let want = if fits { Some(number) } else { None };
-        expect_eq(&rt, PatternID::new(number).map(|p| p.as_usize()), want);
-        expect_eq(&rt, StateID::new(number).map(|s| s.as_usize()), want);
+        expect_eq(&rt, number_of_pattern(number), want);
+        expect_eq(&rt, number_of_state(number), want);
     }
-    expect_eq(
-        &rt,
-        NonMaxUsize::new(usize::MAX - 1).map(|n| n.get()),
-        Some(usize::MAX - 1),
-    );
+    let last = usize::MAX - 1;
+    expect_eq(&rt, offset(last), Some(last));
     expect_eq(&rt, NonMaxUsize::new(usize::MAX), None);
 }
 
@@ -197,6 +198,11 @@ fn matches_of_slots(rt: HostRuntime) {
     expect_slots(&rt, 0, &row[..1], None);
 }
 
+fn ends(found: Option<Match>) -> Option<(usize, usize)> {
+    let found = found?;
+    Some((found.start(), found.end()))
+}
+
 fn expect_slots(
     rt: &impl Abort,
     number: usize,
@@ -204,8 +210,7 @@ fn expect_slots(
     want: Option<(usize, usize)>,
 ) {
     let found = Match::from_slots(pattern(rt, number), slots);
-    let ends = found.map(|found| (found.start(), found.end()));
-    expect_eq_of(rt, ends, want, &number);
+    expect_eq_of(rt, ends(found), want, &number);
 }
 
 #[test]
@@ -299,14 +304,9 @@ fn expect_insertions(rt: &impl Abort, set: &mut PatternSet) {
     expect(rt, !set.contains(pattern(rt, 3)), "no member");
 }
 
-// The set has these patterns, by `for` and by `collect`.
+// The set has these patterns.
 fn expect_members(rt: &impl Abort, alloc: Global, set: &PatternSet, want: &[usize]) {
-    expect_numbers(rt, &numbers(alloc, set).expect(rt, "memory"), want);
     expect_patterns(rt, &patterns(alloc, set).expect(rt, "memory"), want);
-}
-
-fn expect_numbers(rt: &impl Abort, found: &[usize], want: &[usize]) {
-    expect_eq(rt, found, want);
 }
 
 fn expect_patterns(rt: &impl Abort, found: &[PatternID], want: &[usize]) {
@@ -397,11 +397,20 @@ fn expect_blank(rt: &impl Abort, captures: &Captures) {
 
 #[test]
 fn captures_tell_what_was_written(rt: HostRuntime) {
-    let groups = two_patterns(&rt, rt.alloc());
-    let mut captures = Captures::all(rt.alloc(), groups).expect(&rt, "memory");
-    write_match(&rt, &mut captures);
-    expect_match(&rt, &mut captures.clone().expect(&rt, "memory"));
+    let mut captures = written(&rt, rt.alloc());
+    expect_match(&rt, &mut copy(&rt, &captures));
     expect_match(&rt, &mut captures);
+}
+
+fn written(rt: &impl Abort, alloc: Global) -> Captures {
+    let groups = two_patterns(rt, alloc);
+    let mut captures = Captures::all(alloc, groups).expect(rt, "memory");
+    write_match(rt, &mut captures);
+    captures
+}
+
+fn copy(rt: &impl Abort, captures: &Captures) -> Captures {
+    captures.clone().expect(rt, "memory")
 }
 
 const WRITTEN: &[(usize, usize)] = &[(0, 1), (1, 8), (6, 2), (7, 4)];

@@ -3,7 +3,6 @@
 mod callers;
 mod calls;
 mod engines;
-mod iteration;
 mod lengths;
 mod searches;
 mod texts;

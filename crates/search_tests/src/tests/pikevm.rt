@@ -2,10 +2,8 @@
 
 ghost use Rattle.nfa_pikevm.specs.Engines.{Fits};
 
-mod answers;
 mod caches;
 mod callers;
-mod halves;
 mod histories;
 mod searches;
 mod sets;

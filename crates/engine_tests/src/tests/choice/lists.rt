@@ -1,32 +1,27 @@
-//! All matches, all captures and the set of patterns of a `Choice`, next to those of the two engines over the same NFA.
-//! The functions that own an engine let others borrow it.
+//! All matches, all captures and the set of patterns of a `Choice`: the matches of the samples, and captures that are
+//! the same whichever engine runs. The functions that own a choice let others borrow it.
 
-ghost use Rattle.nfa_engines.specs.Engines.{Fits};
-
-use super::super::expected::{Case, expect_answer};
-use super::super::shapes::nfa_copy;
-use super::{captures_of, choice_by, marks, nfa, with_engine};
+use super::super::expected::{Case, expect, expect_answer};
+use super::{captures_of, configured, with_engine};
 use nfa_choice::{Choice, Engine};
-use nfa_engines::backtrack::{self, BoundedBacktracker};
-use nfa_engines::pikevm::{self, PikeVM};
-use regex_search_core::{Captures, Input, Match, MatchKind, PatternSet};
+use nfa_samples::answers::ALL;
+use regex_search_core::MatchKind::{self, LeftmostFirst};
+use regex_search_core::{Captures, Input, Match, PatternSet};
 use std::alloc::Global;
 use std::process::Abort;
 use test_support::text::{slots_text, write_item};
-use thompson_nfa::NFA;
 
-// A sample, a haystack, and bytes of marks: the default, none, or as many as only short spans have room in.
-const LISTS: &[(&str, &[u8], Option<usize>)] = &[
-    ("words_numbers", b"abc 1 foo 4567 0 quux", None),
-    ("words_numbers", b"abc 1 foo 4567 0 quux", Some(0)),
-    ("words_numbers", b"abc 1 foo 4567 0 quux", Some(10)),
-    ("groups", b"ab acab ad", None),
-    ("groups", b"ab acab ad", Some(0)),
-    ("empty", b"a\xE2\x98\x83z", None),
-    ("empty", b"a\xE2\x98\x83z", Some(0)),
-    ("a_star", b"aab aa", Some(10)),
-    ("a_bare", b"ba", None),
-    ("abc", b"", None),
+// Bytes of marks: the default, none, or as many as only short spans have room in.
+const CAPACITIES: &[Option<usize>] = &[None, Some(0), Some(10)];
+
+// A sample and a haystack.
+const LISTS: &[(&str, &[u8])] = &[
+    ("words_numbers", b"abc 1 foo 4567 0 quux"),
+    ("groups", b"ab acab ad"),
+    ("empty", b"a\xE2\x98\x83z"),
+    ("a_star", b"aab aa"),
+    ("a_bare", b"ba"),
+    ("abc", b""),
 ];
 
 fn matches_text(rt: &impl Abort, alloc: Global, all: &[Match]) -> String {
@@ -49,58 +44,6 @@ fn rows_text(rt: &impl Abort, alloc: Global, all: &[Captures]) -> String {
     }
     text
 }
-
-// ---- the engines
-
-fn piked(
-    rt: &impl Abort,
-    alloc: Global,
-    vm: &PikeVM,
-    cache: &mut pikevm::Cache,
-    input: Input<'_>,
-) -> [String; 2]
-    requires { Fits cache.old vm.now.nfa }
-{
-    let found = vm.find_all(alloc, cache, input).expect(rt, "memory");
-    let caught = vm.captures_all(alloc, cache, input).expect(rt, "memory");
-    [
-        matches_text(rt, alloc, &found),
-        rows_text(rt, alloc, &caught),
-    ]
-}
-
-fn piked_lists(rt: &impl Abort, alloc: Global, nfa: NFA, input: Input<'_>) -> [String; 2] {
-    let vm = PikeVM::new_from_nfa(nfa).expect(rt, "a PikeVM");
-    let mut cache = vm.create_cache(alloc).expect(rt, "memory");
-    piked(rt, alloc, &vm, &mut cache, input)
-}
-
-fn backtracked(
-    rt: &impl Abort,
-    alloc: Global,
-    engine: &BoundedBacktracker,
-    cache: &mut backtrack::Cache,
-    input: Input<'_>,
-) -> [String; 2] {
-    let found = engine
-        .try_find_all(alloc, cache, input)
-        .expect(rt, "memory");
-    let caught = engine
-        .try_captures_all(alloc, cache, input)
-        .expect(rt, "memory");
-    [
-        matches_text(rt, alloc, &found),
-        rows_text(rt, alloc, &caught),
-    ]
-}
-
-fn backtracked_lists(rt: &impl Abort, alloc: Global, nfa: NFA, input: Input<'_>) -> [String; 2] {
-    let engine = BoundedBacktracker::new_from_nfa(nfa).expect(rt, "a backtracker");
-    let mut cache = engine.create_cache(alloc);
-    backtracked(rt, alloc, &engine, &mut cache, input)
-}
-
-// ---- the choice
 
 fn chosen_matches(rt: &impl Abort, alloc: Global, choice: &mut Choice, input: Input<'_>) -> String {
     matches_text(
@@ -139,37 +82,60 @@ fn lent_rows(rt: &impl Abort, alloc: Global, choice: &mut Choice, input: Input<'
     text
 }
 
-fn expect_lists(
+fn expect_matches(
     rt: &impl Abort,
     alloc: Global,
-    choice: &mut Choice,
     case: &Case<'_>,
-    [matches, rows]: &[String; 2],
+    capacity: Option<usize>,
+    want: &str,
 ) {
-    let text = chosen_matches(rt, alloc, choice, case.input);
-    expect_answer(rt, case, text.as_str(), matches.as_str());
-    let text = chosen_rows(rt, alloc, choice, case.input);
-    expect_answer(rt, case, text.as_str(), rows.as_str());
-    let text = iterated_rows(rt, alloc, choice, case.input);
-    expect_answer(rt, case, text.as_str(), rows.as_str());
-    let text = lent_rows(rt, alloc, choice, case.input);
-    expect_answer(rt, case, text.as_str(), rows.as_str());
-}
-
-fn expect_same_lists(rt: &impl Abort, alloc: Global, case: &Case<'_>, capacity: Option<usize>) {
-    let nfa = nfa(rt, alloc, case.name);
-    let first = backtracked_lists(rt, alloc, nfa_copy(rt, &nfa), case.input);
-    let second = piked_lists(rt, alloc, nfa_copy(rt, &nfa), case.input);
-    let mut choice = choice_by(rt, alloc, nfa, marks(capacity), pikevm::Config::new());
-    expect_lists(rt, alloc, &mut choice, case, &first);
-    expect_lists(rt, alloc, &mut choice, case, &second);
+    let mut choice = configured(rt, alloc, case.name, capacity, LeftmostFirst);
+    let text = chosen_matches(rt, alloc, &mut choice, case.input);
+    expect_answer(rt, case, text.as_str(), want);
 }
 
 #[test]
-fn lists_are_those_of_both_engines(rt: HostRuntime) {
-    for &(name, haystack, capacity) in LISTS {
+fn lists_are_those_of_the_samples(rt: HostRuntime) {
+    for &(name, haystack, want) in ALL {
         let input = Input::new(haystack);
-        expect_same_lists(&rt, rt.alloc(), &Case { name, input }, capacity);
+        for &capacity in CAPACITIES {
+            expect_matches(&rt, rt.alloc(), &Case { name, input }, capacity, want);
+        }
+    }
+}
+
+// All captures, by a choice of the default capacity.
+fn all_rows(rt: &impl Abort, alloc: Global, case: &Case<'_>) -> String {
+    let mut choice = configured(rt, alloc, case.name, None, LeftmostFirst);
+    chosen_rows(rt, alloc, &mut choice, case.input)
+}
+
+fn expect_rows(rt: &impl Abort, alloc: Global, choice: &mut Choice, case: &Case<'_>, rows: &str) {
+    let text = iterated_rows(rt, alloc, choice, case.input);
+    expect_answer(rt, case, text.as_str(), rows);
+    let text = lent_rows(rt, alloc, choice, case.input);
+    expect_answer(rt, case, text.as_str(), rows);
+}
+
+fn expect_same_rows(
+    rt: &impl Abort,
+    alloc: Global,
+    case: &Case<'_>,
+    capacity: Option<usize>,
+    rows: &str,
+) {
+    let mut choice = configured(rt, alloc, case.name, capacity, LeftmostFirst);
+    expect_rows(rt, alloc, &mut choice, case, rows);
+}
+
+#[test]
+fn captures_are_those_of_any_engine(rt: HostRuntime) {
+    for &(name, haystack) in LISTS {
+        let input = Input::new(haystack);
+        let rows = all_rows(&rt, rt.alloc(), &Case { name, input });
+        for &capacity in CAPACITIES {
+            expect_same_rows(&rt, rt.alloc(), &Case { name, input }, capacity, &rows);
+        }
     }
 }
 
@@ -209,24 +175,33 @@ fn expect_caught(
     );
 }
 
+fn expect_groups(
+    rt: &impl Abort,
+    alloc: Global,
+    capacity: Option<usize>,
+    input: Input<'_>,
+    want: &str,
+) {
+    let mut choice = configured(rt, alloc, "groups", capacity, LeftmostFirst);
+    expect_caught(rt, alloc, &mut choice, input, want);
+}
+
 #[test]
 fn captures_of_an_input(rt: HostRuntime) {
     for &(haystack, capacity, want) in CAUGHT {
-        let nfa = nfa(&rt, rt.alloc(), "groups");
-        let mut choice = choice_by(&rt, rt.alloc(), nfa, marks(capacity), pikevm::Config::new());
-        expect_caught(&rt, rt.alloc(), &mut choice, Input::new(haystack), want);
+        expect_groups(&rt, rt.alloc(), capacity, Input::new(haystack), want);
     }
 }
 
 // ---- sets
 
-// A sample, a match kind and a haystack.
-const SETS: &[(&str, MatchKind, &[u8])] = &[
-    ("foo_bar", MatchKind::All, b"xbarfoo"),
-    ("foo_bar", MatchKind::LeftmostFirst, b"xbarfoo"),
-    ("abc_b", MatchKind::All, b"abc"),
-    ("abc_b", MatchKind::All, b"b"),
-    ("words_numbers", MatchKind::All, b" "),
+// A sample, a match kind, a haystack, and the set of patterns.
+const SETS: &[(&str, MatchKind, &[u8], &str)] = &[
+    ("foo_bar", MatchKind::All, b"foobar", "0, 1, 3, "),
+    ("abc_ab", MatchKind::LeftmostFirst, b"abc", "0, 1, "),
+    ("ab_abc", MatchKind::LeftmostFirst, b"abc", "0, "),
+    ("b_a", MatchKind::LeftmostFirst, b"axb", "1, "),
+    ("abc", MatchKind::All, b"xyz", ""),
 ];
 
 fn set_text(rt: &impl Abort, alloc: Global, set: &PatternSet) -> String {
@@ -237,55 +212,28 @@ fn set_text(rt: &impl Abort, alloc: Global, set: &PatternSet) -> String {
     text
 }
 
-fn piked_set(
-    rt: &impl Abort,
-    alloc: Global,
-    vm: &PikeVM,
-    cache: &mut pikevm::Cache,
-    input: &Input<'_>,
-) -> String
-    requires { Fits cache.old vm.now.nfa }
-{
-    let mut set = PatternSet::new(alloc, vm.pattern_len()).expect(rt, "memory");
-    vm.which_overlapping_matches(cache, input, &mut set);
-    set_text(rt, alloc, &set)
-}
-
-fn set_of(
-    rt: &impl Abort,
-    alloc: Global,
-    nfa: NFA,
-    config: pikevm::Config,
-    input: &Input<'_>,
-) -> String {
-    let mut builder = PikeVM::builder();
-    builder.configure(config);
-    let vm = builder.build_from_nfa(nfa).expect(rt, "a PikeVM");
-    let mut cache = vm.create_cache(alloc).expect(rt, "memory");
-    piked_set(rt, alloc, &vm, &mut cache, input)
-}
-
 fn chosen_set(rt: &impl Abort, alloc: Global, choice: &mut Choice, input: &Input<'_>) -> String {
     let patterns = choice.get_nfa().pattern_len();
     let mut set = PatternSet::new(alloc, patterns).expect(rt, "memory");
     choice.which_overlapping_matches(input, &mut set);
-    assert!(rt; choice.ran() == Some(Engine::PikeVM));
+    expect(
+        rt,
+        choice.ran() == Some(Engine::PikeVM),
+        "the engine that ran",
+    );
     set_text(rt, alloc, &set)
 }
 
-fn expect_same_set(rt: &impl Abort, alloc: Global, case: &Case<'_>, kind: MatchKind) {
-    let nfa = nfa(rt, alloc, case.name);
-    let config = pikevm::Config::new().match_kind(kind);
-    let want = set_of(rt, alloc, nfa_copy(rt, &nfa), config, &case.input);
-    let mut choice = choice_by(rt, alloc, nfa, marks(None), config);
+fn expect_set(rt: &impl Abort, alloc: Global, case: &Case<'_>, kind: MatchKind, want: &str) {
+    let mut choice = configured(rt, alloc, case.name, None, kind);
     let text = chosen_set(rt, alloc, &mut choice, &case.input);
-    expect_answer(rt, case, text.as_str(), want.as_str());
+    expect_answer(rt, case, text.as_str(), want);
 }
 
 #[test]
-fn sets_are_those_of_the_pikevm(rt: HostRuntime) {
-    for &(name, kind, haystack) in SETS {
+fn sets_gain_what_matches(rt: HostRuntime) {
+    for &(name, kind, haystack, want) in SETS {
         let input = Input::new(haystack);
-        expect_same_set(&rt, rt.alloc(), &Case { name, input }, kind);
+        expect_set(&rt, rt.alloc(), &Case { name, input }, kind, want);
     }
 }

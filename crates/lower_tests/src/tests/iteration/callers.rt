@@ -13,7 +13,7 @@ ghost use Rattle.nfa_search_base.specs.StoredRuns.{MayAnswer, MayAnswerRow};
 ghost use Rattle.nfa_search_base.specs.IterStates.{AnswerIsInside, IsInfalliblyInside, fresh, half_span_of, span_of};
 
 use crate::tests::fixtures::{plain_groups, set_slots};
-use crate::tests::shown::{expect_eq, expect_shown};
+use crate::tests::shown::{expect, expect_eq, expect_shown};
 use nfa_search_base::error::SearchError;
 use nfa_search_base::iter::Searcher;
 use regex_search_core::{
@@ -65,25 +65,6 @@ where
     searcher.into_matches_iter(finder).collect(alloc)
 }
 
-// The same of a finder that never errs.
-pub(super) fn surely_collected_by<F>(
-    alloc: Global,
-    searcher: Searcher<'_>,
-    finder: F,
-) -> Result<Vec<Match>, AllocError>
-where
-    F: FnMut(&Input<'_>) -> Result<Option<Match>, SearchError>,
-    requires inside { AnswersAlong found_of F.FnMut (AnswerIsInside span_of) finder (iter_state_of searcher).at }
-    requires surely { AnswersAlong found_of F.FnMut (IsInfalliblyInside span_of) finder (iter_state_of searcher).at }
-    ensures { IfOk result (λ v. AreAllStoredMatches span_of
-        (MayAnswer found_of span_of F.FnMut finder (iter_state_of searcher.entry).at) found_of
-        (iter_state_of searcher.entry)
-        (map (λ m. Ok m) v.items)) }
-{
-    let items = searcher.into_matches_iter(finder);
-    items.infallible().collect(alloc)
-}
-
 // The same of half matches.
 pub(super) fn halves_collected_by<F>(
     alloc: Global,
@@ -116,27 +97,6 @@ where
         (iter_state_of searcher.entry) v.items) }
 {
     searcher.into_captures_iter(captures, finder).collect(alloc)
-}
-
-// The same of a finder that never errs.
-fn captures_surely_collected_by<F>(
-    alloc: Global,
-    searcher: Searcher<'_>,
-    captures: Captures,
-    finder: F,
-) -> Result<Vec<Result<Captures, SearchError>>, AllocError>
-where
-    F: FnMut(&Input<'_>, &mut Captures) -> Result<(), SearchError>,
-    requires inside { FillsAlong F.FnMut (AnswerIsInside row_span) (record { finder = finder; captures = captures })
-        (iter_state_of searcher).at }
-    requires surely { FillsAlong F.FnMut (IsInfalliblyInside row_span) (record { finder = finder; captures = captures })
-        (iter_state_of searcher).at }
-    ensures { IfOk result (λ v. AreAllStoredCaptures
-        (MayAnswerRow F.FnMut (record { finder = finder; captures = captures }) (iter_state_of searcher.entry).at)
-        (iter_state_of searcher.entry) v.items) }
-{
-    let items = searcher.into_captures_iter(captures, finder);
-    items.infallible().collect(alloc)
 }
 
 // The greedy list of that finder, by a loop.
@@ -224,17 +184,6 @@ fn outcome(item: Option<Result<Captures, SearchError>>) -> &'static str {
     }
 }
 
-// What five calls give.
-fn outcomes(rt: &impl Abort, alloc: Global, captures: Captures) -> String {
-    let searcher = Searcher::new(Input::new(b"ab"));
-    let mut items = searcher.into_captures_iter(captures, captured_or_error);
-    let mut text = String::new(alloc);
-    for _ in 0..5 {
-        text.push_str(outcome(items.next())).expect(rt, "memory");
-    }
-    text
-}
-
 // What five calls give of the first byte alone, up to an error where a span starts at `fails`.
 fn outcomes_of_byte(rt: &impl Abort, alloc: Global, captures: Captures, fails: usize) -> String {
     let searcher = Searcher::new(Input::new(b"ab"));
@@ -263,12 +212,6 @@ fn collected_captures(
     let searcher = Searcher::new(input);
     let items = searcher.into_captures_iter(captures, captured_at_zero);
     items.collect(alloc)
-}
-
-#[test]
-fn an_error_ends_captures(rt: HostRuntime) {
-    let text = outcomes(&rt, rt.alloc(), no_captures(&rt, rt.alloc()));
-    expect_eq(&rt, text.as_str(), "match, error, none, none, none, ");
 }
 
 // Where a span starts that no search answers, and what five calls give: the error of the first call, of the second
@@ -345,11 +288,18 @@ fn lists(rt: HostRuntime) -> Result<(), Fail> {
     Ok(())
 }
 
+fn is_empty_at(item: &Result<Match, SearchError>, at: usize) -> bool {
+    match item {
+        Ok(found) => found.start() == at && found.end() == at,
+        Err(_) => false,
+    }
+}
+
 // An empty match at each offset of three bytes, and after them.
 fn expect_four(rt: &impl Abort, items: &[Result<Match, SearchError>]) {
     expect_eq(rt, items.len(), 4);
     for (at, item) in items.iter().enumerate() {
-        expect_eq(rt, item.map(|found| found.range()), Ok(at..at));
+        expect(rt, is_empty_at(item, at), "an empty match");
     }
 }
 
@@ -382,15 +332,5 @@ fn captures_that_a_finder_leaves_are_collected(rt: HostRuntime) -> Result<(), Fa
         |input, captures| captured_or_fails(input, captures, 1),
     )?;
     expect_eq(&rt, some.len(), 2);
-    let all = captures_surely_collected_by(
-        alloc,
-        Searcher::new(Input::new(b"ab")),
-        no_captures(&rt, alloc),
-        |input, captures| {
-            captures.set_pattern(None);
-            Ok(())
-        },
-    )?;
-    expect_eq(&rt, all.len(), 0);
     Ok(())
 }

@@ -5,7 +5,7 @@ ghost use Rattle.regex_search_core.specs.Search.{search_of};
 ghost use Rattle.nfa_search_base.specs.Finders.{answer_by, match_span, half_match_span};
 ghost use Rattle.nfa_search_base.specs.IterStates.{IsInfalliblyInside, LiesIn, half_span_of, span_of};
 
-use super::callers::{collected_by, halves_collected_by, surely_collected_by};
+use super::callers::{collected_by, halves_collected_by};
 use crate::tests::shown::{expect, expect_eq, expect_eq_of, expect_shown};
 use nfa_search_base::error::SearchError;
 use nfa_search_base::iter::{Offered, Searcher};
@@ -340,16 +340,10 @@ fn infallible_iterators(rt: HostRuntime) {
     expect_eq(&rt, infallible_half_matches(), (2, 0, 3));
 }
 
-// How many matches are collected of what that finder tells, of one that never errs, and how many half matches.
+// How many matches are collected of what that finder tells, and how many half matches.
 fn collected_len(alloc: Global) -> Result<usize, AllocError> {
     let searcher = Searcher::new(Input::new(b"ab"));
     let found = collected_by(alloc, searcher, at_start)?;
-    Ok(found.len())
-}
-
-fn surely_collected_len(alloc: Global) -> Result<usize, AllocError> {
-    let searcher = Searcher::new(Input::new(b"ab"));
-    let found = surely_collected_by(alloc, searcher, at_start)?;
     Ok(found.len())
 }
 
@@ -363,7 +357,6 @@ fn halves_collected_len(alloc: Global) -> Result<usize, AllocError> {
 fn what_a_finder_tells_is_collected(rt: HostRuntime) -> Result<(), Fail> {
     let alloc = rt.alloc();
     expect_eq(&rt, collected_len(alloc)?, 3);
-    expect_eq(&rt, surely_collected_len(alloc)?, 3);
     expect_eq(&rt, halves_collected_len(alloc)?, 3);
     Ok(())
 }

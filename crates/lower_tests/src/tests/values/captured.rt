@@ -2,7 +2,7 @@
 ghost use Rattle.std.specs.Prelude.{◌≡◌, IfOk};
 ghost use Rattle.regex_search_core.specs.Slots.{group_spans};
 
-use super::{span, two_patterns, write_match};
+use super::{span, two_patterns, written};
 use crate::tests::fixtures::pattern;
 use crate::tests::shown::{expect_eq, expect_eq_of};
 use regex_search_core::{Captures, Span};
@@ -17,22 +17,9 @@ fn collected(alloc: Global, captures: &Captures) -> Result<Vec<Option<Span>>, Al
     captures.iter().collect(alloc)
 }
 
-/// Where they are, by `for`.
-fn looped(alloc: Global, captures: &Captures) -> Result<Vec<Option<Span>>, AllocError>
-    ensures { IfOk result (λ all. all.items ≡ group_spans captures.now) }
-{
-    let mut all = Vec::new(alloc);
-    for group in captures.iter() {
-        all.push(group)?;
-    }
-    Ok(all)
-}
-
 #[test]
 fn captures_show_their_groups(rt: HostRuntime) {
-    let groups = two_patterns(&rt, rt.alloc());
-    let mut captures = Captures::all(rt.alloc(), groups).expect(&rt, "memory");
-    write_match(&rt, &mut captures);
+    let mut captures = written(&rt, rt.alloc());
     expect_all_groups(&rt, rt.alloc(), &mut captures);
 }
 
@@ -54,11 +41,10 @@ fn expect_all_groups(rt: &impl Abort, alloc: Global, captures: &mut Captures) {
     expect_groups(rt, alloc, captures, &[None, None, None]);
 }
 
-// The groups of the pattern that is set are these, counted, by `collect` and by `for`.
+// The groups of the pattern that is set are these, counted and by `collect`.
 fn expect_groups(rt: &impl Abort, alloc: Global, captures: &Captures, want: &[Option<Span>]) {
     expect_eq(rt, captures.group_len(), want.len());
     expect_spans(rt, &collected(alloc, captures).expect(rt, "memory"), want);
-    expect_spans(rt, &looped(alloc, captures).expect(rt, "memory"), want);
 }
 
 fn expect_spans(rt: &impl Abort, found: &[Option<Span>], want: &[Option<Span>]) {

@@ -1,11 +1,11 @@
 //! What an engine was made with, a cache that is reset, and configurations.
 
-use crate::tests::{expect_number, expect_shown, expect_text};
+use crate::tests::{engine_named, expect_number, expect_shown, expect_text};
 use nfa_engines::backtrack::{BoundedBacktracker, Builder, Cache, Config};
 use regex_search_core::Input;
 use std::alloc::Global;
 use std::process::Abort;
-use test_support::made::{backtracker, nfa_named};
+use test_support::made::nfa_named;
 use test_support::text::backtracked_match;
 
 fn expect_reads(rt: &impl Abort, engine: &BoundedBacktracker) {
@@ -15,16 +15,18 @@ fn expect_reads(rt: &impl Abort, engine: &BoundedBacktracker) {
     expect_number(rt, engine.max_haystack_len(), 174761);
 }
 
+// Made by a copy of a builder.
+fn built(rt: &impl Abort, alloc: Global) -> BoundedBacktracker {
+    let builder = BoundedBacktracker::builder().clone().expect(rt, "a copy");
+    let nfa = nfa_named(alloc, "ab_b").expect(rt, "an NFA");
+    builder.build_from_nfa(nfa).expect(rt, "an engine")
+}
+
 // Made with no builder, and by a copy of one.
 #[test]
 fn reads_what_it_was_made_with(rt: HostRuntime) {
-    let alloc = rt.alloc();
-    let engine = backtracker(alloc, "ab_b").expect(&rt, "an engine");
-    expect_reads(&rt, &engine);
-    let builder = BoundedBacktracker::builder().clone().expect(&rt, "a copy");
-    let nfa = nfa_named(alloc, "ab_b").expect(&rt, "an NFA");
-    let built = builder.build_from_nfa(nfa).expect(&rt, "an engine");
-    expect_reads(&rt, &built);
+    expect_reads(&rt, &engine_named(&rt, rt.alloc(), "ab_b"));
+    expect_reads(&rt, &built(&rt, rt.alloc()));
 }
 
 // A search, a reset, and a search again.
@@ -42,7 +44,7 @@ fn expect_reset(rt: &impl Abort, alloc: Global, engine: &BoundedBacktracker, cac
 #[test]
 fn a_cache_serves_after_a_reset(rt: HostRuntime) {
     let alloc = rt.alloc();
-    let engine = backtracker(alloc, "abc_a").expect(&rt, "an engine");
+    let engine = engine_named(&rt, alloc, "abc_a");
     let mut cache = Cache::new(alloc, &engine);
     expect_reset(&rt, alloc, &engine, &mut cache);
 }

@@ -1,13 +1,14 @@
 //! Engines that match always or never, captures, and copies.
 
 use super::{expect_match, expect_slots};
-use crate::tests::{expect_number, expect_six_unset, expect_text};
+use crate::tests::{engine_named, expect_number, expect_six_unset, expect_text, with_capacity};
 use nfa_engines::backtrack::{BoundedBacktracker, Cache};
 use regex_search_core::Input;
 use std::alloc::Global;
 use std::process::Abort;
-use test_support::made::{backtracker, with_capacity};
 use test_support::text::match_text;
+
+const TEXTS: &[&[u8]] = &[b"", b"foo"];
 
 // The engine has so many patterns, and finds this in any text.
 fn expect_everywhere(
@@ -18,9 +19,9 @@ fn expect_everywhere(
     want: &str,
 ) {
     expect_number(rt, engine.pattern_len(), pattern_len);
-    let mut cache = engine.create_cache(alloc);
-    for haystack in &["", "foo"] {
-        let input = Input::new(haystack.as_bytes());
+    for haystack in TEXTS {
+        let mut cache = engine.create_cache(alloc);
+        let input = Input::new(haystack);
         expect_match(rt, alloc, engine, &mut cache, input, want);
         expect_first_item(rt, alloc, engine, &mut cache, input, want);
     }
@@ -42,19 +43,25 @@ fn expect_first_item(
     expect_text(rt, &input, match_text(alloc, first), want);
 }
 
+fn always(rt: &impl Abort, alloc: Global) -> BoundedBacktracker {
+    BoundedBacktracker::always_match(alloc).expect(rt, "an engine")
+}
+
+pub(super) fn never(rt: &impl Abort, alloc: Global) -> BoundedBacktracker {
+    BoundedBacktracker::never_match(alloc).expect(rt, "an engine")
+}
+
 #[test]
 fn matches_always_or_never(rt: HostRuntime) {
     let alloc = rt.alloc();
-    let always = BoundedBacktracker::always_match(alloc).expect(&rt, "an engine");
-    expect_everywhere(&rt, alloc, &always, 1, "0 0..0");
-    let never = BoundedBacktracker::never_match(alloc).expect(&rt, "an engine");
-    expect_everywhere(&rt, alloc, &never, 0, "none");
+    expect_everywhere(&rt, alloc, &always(&rt, alloc), 1, "0 0..0");
+    expect_everywhere(&rt, alloc, &never(&rt, alloc), 0, "none");
 }
 
 #[test]
 fn makes_captures_of_all_groups(rt: HostRuntime) {
     let alloc = rt.alloc();
-    let engine = backtracker(alloc, "groups").expect(&rt, "an engine");
+    let engine = engine_named(&rt, alloc, "groups");
     let captures = engine.create_captures(alloc).expect(&rt, "captures");
     expect_six_unset(&rt, &captures);
 }
@@ -89,7 +96,7 @@ fn expect_same(
 #[test]
 fn a_clone_answers_as_its_original(rt: HostRuntime) {
     let alloc = rt.alloc();
-    let engine = with_capacity(alloc, "a_pair", 1).expect(&rt, "an engine");
+    let engine = with_capacity(&rt, alloc, "a_pair", 1);
     let mut cache = engine.create_cache(alloc);
     expect_same(&rt, alloc, &engine, &mut cache, &[b'a'; 31], "0 - -");
     let refusal = "HaystackTooLong { len: 32 } - -";
@@ -108,7 +115,7 @@ fn expect_memory(rt: &impl Abort, alloc: Global, engine: &BoundedBacktracker, ca
 #[test]
 fn a_cache_counts_its_memory(rt: HostRuntime) {
     let alloc = rt.alloc();
-    let engine = backtracker(alloc, "abc_a").expect(&rt, "an engine");
+    let engine = engine_named(&rt, alloc, "abc_a");
     let mut cache = engine.create_cache(alloc);
     expect_memory(&rt, alloc, &engine, &mut cache);
 }

@@ -1,12 +1,12 @@
 //! Which lengths are refused.
 
 use super::expect_slots;
-use crate::tests::expect_number;
+use crate::tests::{expect_number, with_capacity};
 use nfa_engines::backtrack::{BoundedBacktracker, Builder, Config, min_visited_capacity};
 use regex_search_core::{Anchored, Input, PatternID};
 use std::alloc::Global;
 use std::process::Abort;
-use test_support::made::{nfa_named, with_capacity};
+use test_support::made::nfa_named;
 
 // What an engine writes into two slots, with a new cache.
 fn expect_anew(
@@ -34,13 +34,13 @@ fn expect_lengths(rt: &impl Abort, alloc: Global, engine: &BoundedBacktracker) {
 #[test]
 fn refuses_lengths_above_the_greatest(rt: HostRuntime) {
     let alloc = rt.alloc();
-    let engine = with_capacity(alloc, "a_pair", 1).expect(&rt, "an engine");
+    let engine = with_capacity(&rt, alloc, "a_pair", 1);
     expect_lengths(&rt, alloc, &engine);
 }
 
 #[test]
 fn any_capacity_has_a_greatest_length(rt: HostRuntime) {
-    let engine = with_capacity(rt.alloc(), "a_pair", usize::MAX).expect(&rt, "an engine");
+    let engine = with_capacity(&rt, rt.alloc(), "a_pair", usize::MAX);
     expect_number(&rt, engine.max_haystack_len(), 9223372036854775806);
 }
 
@@ -60,14 +60,14 @@ fn expect_refusals(rt: &impl Abort, alloc: Global, engine: &BoundedBacktracker) 
 #[test]
 fn refuses_before_all_else(rt: HostRuntime) {
     let alloc = rt.alloc();
-    let engine = with_capacity(alloc, "alnum100", 10).expect(&rt, "an engine");
+    let engine = with_capacity(&rt, alloc, "alnum100", 10);
     expect_refusals(&rt, alloc, &engine);
 }
 
 #[test]
 fn no_capacity_refuses_each_length(rt: HostRuntime) {
     let alloc = rt.alloc();
-    let engine = with_capacity(alloc, "alnum100", 0).expect(&rt, "an engine");
+    let engine = with_capacity(&rt, alloc, "alnum100", 0);
     let done = Input::new(b"abc").range(2..1);
     expect_anew(&rt, alloc, &engine, done, "HaystackTooLong { len: 0 } - -");
 }

@@ -1,13 +1,12 @@
 //! Searches of the backtracker alone: `earliest` changes nothing, and one cache serves all engines.
 
 use super::expect_match;
-use crate::tests::expect_text;
+use crate::tests::{engine_named, expect_text};
 use nfa_engines::backtrack::{BoundedBacktracker, Cache};
 use nfa_samples::answers::FOUND;
 use regex_search_core::Input;
 use std::alloc::Global;
 use std::process::Abort;
-use test_support::made::backtracker;
 use test_support::text::backtracked_slots;
 
 // What a sample finds with the cache.
@@ -19,18 +18,22 @@ fn expect_sample(
     input: Input<'_>,
     want: &str,
 ) {
-    let engine = backtracker(alloc, name).expect(rt, name);
+    let engine = engine_named(rt, alloc, name);
     expect_match(rt, alloc, &engine, cache, input, want);
+}
+
+// What one finds with a new cache and `earliest`.
+fn expect_early(rt: &impl Abort, alloc: Global, name: &str, haystack: &str, want: &str) {
+    let engine = engine_named(rt, alloc, name);
+    let mut cache = engine.create_cache(alloc);
+    let input = Input::new(haystack.as_bytes()).earliest(true);
+    expect_match(rt, alloc, &engine, &mut cache, input, want);
 }
 
 #[test]
 fn earliest_changes_no_answer(rt: HostRuntime) {
-    let alloc = rt.alloc();
     for &(name, haystack, want) in FOUND {
-        let engine = backtracker(alloc, name).expect(&rt, name);
-        let mut cache = engine.create_cache(alloc);
-        let input = Input::new(haystack.as_bytes()).earliest(true);
-        expect_match(&rt, alloc, &engine, &mut cache, input, want);
+        expect_early(&rt, rt.alloc(), name, haystack, want);
     }
 }
 
@@ -47,7 +50,7 @@ fn expect_all(rt: &impl Abort, alloc: Global, groups: &BoundedBacktracker, cache
 #[test]
 fn one_cache_serves_all(rt: HostRuntime) {
     let alloc = rt.alloc();
-    let groups = backtracker(alloc, "groups").expect(&rt, "an engine");
+    let groups = engine_named(&rt, alloc, "groups");
     let mut cache = groups.create_cache(alloc);
     expect_all(&rt, alloc, &groups, &mut cache);
 }

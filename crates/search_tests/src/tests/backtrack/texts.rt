@@ -6,12 +6,13 @@ ghost use Rattle.nfa_search_base.specs.Finders.{half_match_span, match_span};
 ghost use Rattle.nfa_search_base.specs.IterStates.{LiesIn};
 
 use super::callers::next_piece;
-use crate::tests::expect_shown;
+use super::engines::never;
+use crate::tests::{expect_shown, expect_text};
 use nfa_engines::backtrack::{BoundedBacktracker, Cache};
 use nfa_engines::error::SearchError;
 use nfa_engines::iter::Searcher;
 use regex_search_core::{HalfMatch, Input, Match, PatternID};
-use std::alloc::Global;
+use std::alloc::{AllocError, Global};
 use std::fmt::Debug;
 use std::process::Abort;
 
@@ -23,36 +24,31 @@ const AFTER_THE_LAST: &str =
     "Searcher { input: Input { haystack: [97, 98], span: Span { start: 3, end: 2 }, anchored: No, \
     earliest: false }, last_match_end: Some(2) }";
 
-const NEVER: &str =
-    "NFA { states: [Fail], anchored: StateID(0), unanchored: StateID(0), patterns: [], \
-    groups: GroupInfo { names: [], slot_len: 0 }, has_empty: false, utf8: false }";
+// An iterator over an engine that never matches, with a cache that was not used.
+const MATCHES: &str = "TryFindMatches { cache: Cache { scratch: Scratch { stack: [], \
+    visited: Visited { blocks: [], used: 0, turns: Counter }, scans: Counter }, slots: [], answered: Counter, \
+    refused: Counter, past_scans: Counter, past_turns: Counter }, steps: Steps { searcher: Searcher { input: Input { \
+    haystack: [97, 98], span: Span { start: 0, end: 2 }, anchored: No, earliest: false }, last_match_end: None }, \
+    backend: Finder { engine: BoundedBacktracker { config: Config { visited_capacity: None }, mark_limit: 2097152, \
+    first: FirstBytes { .. }, nfa: NFA { states: [Fail], anchored: StateID(0), unanchored: StateID(0), patterns: [], \
+    groups: GroupInfo { names: [], slot_len: 0 }, has_empty: false, utf8: false } }, known: None }, done: false } }";
 
-const UNUSED: &str =
-    "Cache { scratch: Scratch { stack: [], visited: Visited { blocks: [], used: 0, turns: Counter }, \
-    scans: Counter }, slots: [], answered: Counter, refused: Counter, past_scans: Counter, past_turns: Counter }";
-
-fn expect_matches_shown(
-    rt: &impl Abort,
+fn matches_text(
     alloc: Global,
     engine: &BoundedBacktracker,
     cache: &mut Cache,
-) {
+) -> Result<String, AllocError> {
     let matches = engine.try_find_iter(cache, Input::new(b"ab"));
-    let want = format!(in alloc;
-        "TryFindMatches {{ cache: {UNUSED}, steps: Steps {{ searcher: {FRESH}, \
-        backend: Finder {{ engine: BoundedBacktracker {{ config: Config {{ visited_capacity: None }}, \
-        mark_limit: 2097152, first: FirstBytes {{ .. }}, nfa: {NEVER} }}, known: None }}, done: false }} }}"
-    );
-    let want = want.expect(rt, "memory for a text");
-    expect_shown(rt, alloc, &matches, &want);
+    format!(in alloc; "{matches:?}")
 }
 
 #[test]
 fn an_iterator_over_an_engine_is_shown(rt: HostRuntime) {
     let alloc = rt.alloc();
-    let engine = BoundedBacktracker::never_match(alloc).expect(&rt, "an engine");
+    let engine = never(&rt, alloc);
     let mut cache = engine.create_cache(alloc);
-    expect_matches_shown(&rt, alloc, &engine, &mut cache);
+    let text = matches_text(alloc, &engine, &mut cache);
+    expect_text(&rt, &"matches", text, MATCHES);
 }
 
 // The end of the next byte, or of the span where no byte is left.
@@ -129,15 +125,9 @@ fn iterators_over_a_finder_are_shown(rt: HostRuntime) {
 
 #[test]
 fn sure_iterators_over_a_finder_are_shown(rt: HostRuntime) {
-    let alloc = rt.alloc();
-    let names = ("MatchesIter", "TryMatchesIter");
     let tries = Searcher::new(Input::new(b"ab")).into_matches_iter(byte);
-    let mut sure = tries.infallible();
-    expect_sure(&rt, alloc, &sure, names, FIRST);
-    for _ in 0..3 {
-        sure.next();
-    }
-    expect_sure(&rt, alloc, &sure, names, LAST);
+    let names = ("MatchesIter", "TryMatchesIter");
+    expect_sure(&rt, rt.alloc(), &tries.infallible(), names, FIRST);
 }
 
 #[test]
@@ -153,13 +143,7 @@ fn iterators_over_a_half_finder_are_shown(rt: HostRuntime) {
 
 #[test]
 fn sure_iterators_over_a_half_finder_are_shown(rt: HostRuntime) {
-    let alloc = rt.alloc();
-    let names = ("HalfMatchesIter", "TryHalfMatchesIter");
     let tries = Searcher::new(Input::new(b"ab")).into_half_matches_iter(byte_end);
-    let mut sure = tries.infallible();
-    expect_sure(&rt, alloc, &sure, names, FIRST);
-    for _ in 0..3 {
-        sure.next();
-    }
-    expect_sure(&rt, alloc, &sure, names, LAST);
+    let names = ("HalfMatchesIter", "TryHalfMatchesIter");
+    expect_sure(&rt, rt.alloc(), &tries.infallible(), names, FIRST);
 }

@@ -1,16 +1,16 @@
-//! Callers that list captures, by `collect` and by loops, and are told what they have: the list of them, and by the
-//! laws that it is the one that others have. Where memory is refused, or a span is too long, they end the test.
-ghost use Rattle.std.specs.Prelude.{◌≡◌, false, length, map};
+//! Callers that list captures, and are told what they have: the list of them, and by the laws that it is the one that
+//! others have. Where memory is refused, they end the test.
+ghost use Rattle.std.specs.Prelude.{◌≡◌, false, length, map, IfOk};
 ghost use Rattle.regex_search_core.specs.Found.{found_of};
 ghost use Rattle.regex_search_core.specs.Search.{whole};
 ghost use Rattle.regex_search_core.specs.declared.search.MatchKind.TheVariants.{LeftmostFirst};
 ghost use Rattle.nfa_search_base.specs.WithCaptures.{row_of};
-ghost use Rattle.nfa_search_base.specs.CapturesLists.{AreAllCaptures, AreFirstRows, AreRows, AnswersRow, HasGroups};
+ghost use Rattle.nfa_search_base.specs.CapturesLists.{AreAllCaptures, AnswersRow, HasGroups};
 ghost use Rattle.nfa_search_base.specs.CapturesRuns.{match_in};
-ghost use Rattle.nfa_search_base.specs.Lists.{AreMatches};
 ghost use Rattle.nfa_pikevm.specs.Engines.{Fits, kind_of};
 ghost use Rattle.nfa_backtrack.specs.Finding.{IsTryCapturesAnswer};
 
+use crate::tests::{expect_number, threads};
 use nfa_engines::backtrack::{self, BoundedBacktracker};
 use nfa_engines::error::SearchError;
 use nfa_engines::laws::{one_list_of_captures, one_list_of_matches};
@@ -18,6 +18,7 @@ use nfa_engines::pikevm::{self, PikeVM};
 use nfa_engines::{Captures, Input, Match};
 use std::alloc::Global;
 use std::process::Abort;
+use test_support::made::nfa_named;
 
 // All captures of the text.
 pub(crate) fn collected(
@@ -88,192 +89,75 @@ pub(crate) fn tries_collected_with(
         .expect(rt, "memory")
 }
 
-// The captures of the matches of the text, by a loop that pushes.
-pub(crate) fn looped(
-    rt: &impl Abort,
-    vm: &PikeVM,
-    alloc: Global,
-    cache: &mut pikevm::Cache,
-    text: &[u8],
-) -> Vec<Captures>
-    requires { Fits cache.old vm.now.nfa }
-    ensures rows { AreRows vm.now.nfa (kind_of vm.now) false (whole text.now) (map row_of result.items) }
-    ensures matches { AreMatches vm.now.nfa (kind_of vm.now) false (whole text.now) (map match_in result.items) }
-{
-    let Ok(items) = vm.captures_iter(alloc, cache, Input::new(text)) else {
-        panic!(rt; "memory");
-    };
-    let mut all = Vec::new(alloc);
-    for item in items {
-        all.push(item.expect(rt, "memory")).expect(rt, "memory");
-    }
-    all
-}
-
-// The same of a backtracker.
-pub(crate) fn tries_looped(
-    rt: &impl Abort,
-    engine: &BoundedBacktracker,
-    alloc: Global,
-    cache: &mut backtrack::Cache,
-    text: &[u8],
-) -> Vec<Captures>
-    ensures rows { AreRows engine.now.nfa LeftmostFirst false (whole text.now) (map row_of result.items) }
-    ensures matches { AreMatches engine.now.nfa LeftmostFirst false (whole text.now) (map match_in result.items) }
-{
-    let Ok(items) = engine.try_captures_iter(alloc, cache, Input::new(text)) else {
-        panic!(rt; "memory");
-    };
-    let mut all = Vec::new(alloc);
-    for item in items {
-        all.push(item.expect(rt, "captures")).expect(rt, "memory");
-    }
-    all
-}
-
-// At most two of them, by a loop that breaks.
-pub(crate) fn first_two(
-    rt: &impl Abort,
-    vm: &PikeVM,
-    alloc: Global,
-    cache: &mut pikevm::Cache,
-    text: &[u8],
-) -> Vec<Captures>
-    requires { Fits cache.old vm.now.nfa }
-    ensures { AreFirstRows vm.now.nfa (kind_of vm.now) false (whole text.now) (map row_of result.items) }
-{
-    let Ok(items) = vm.captures_iter(alloc, cache, Input::new(text)) else {
-        panic!(rt; "memory");
-    };
-    let mut all = Vec::new(alloc);
-    for item in items {
-        all.push(item.expect(rt, "memory")).expect(rt, "memory");
-        if all.len() == 2 {
-            break;
-        }
-    }
-    all
-}
-
-// The same of a backtracker.
-pub(crate) fn tries_first_two(
-    rt: &impl Abort,
-    engine: &BoundedBacktracker,
-    alloc: Global,
-    cache: &mut backtrack::Cache,
-    text: &[u8],
-) -> Vec<Captures>
-    ensures { AreFirstRows engine.now.nfa LeftmostFirst false (whole text.now) (map row_of result.items) }
-{
-    let Ok(items) = engine.try_captures_iter(alloc, cache, Input::new(text)) else {
-        panic!(rt; "memory");
-    };
-    let mut all = Vec::new(alloc);
-    for item in items {
-        all.push(item.expect(rt, "captures")).expect(rt, "memory");
-        if all.len() == 2 {
-            break;
-        }
-    }
-    all
-}
-
-// The captures of one text by two caches, which hold the same.
-pub(crate) fn looped_twice(
-    rt: &impl Abort,
-    vm: &PikeVM,
-    alloc: Global,
-    cache: &mut pikevm::Cache,
-    other: &mut pikevm::Cache,
-    text: &[u8],
-) -> (Vec<Captures>, Vec<Captures>)
-    requires first { Fits cache.old vm.now.nfa }
-    requires second { Fits other.old vm.now.nfa }
-    ensures { map row_of result.0.items ≡ map row_of result.1.items }
-{
-    one_list_of_captures();
-    let first = looped(rt, vm, alloc, cache, text);
-    let second = looped(rt, vm, alloc, other, text);
-    (first, second)
-}
-
 // The captures of one text by both engines, which hold the same.
-pub(crate) fn looped_by_both(
-    rt: &impl Abort,
-    engines: (&PikeVM, &BoundedBacktracker),
+fn caught_by_both(
     alloc: Global,
+    engines: (&PikeVM, &BoundedBacktracker),
     cache: &mut pikevm::Cache,
     other: &mut backtrack::Cache,
     text: &[u8],
-) -> (Vec<Captures>, Vec<Captures>)
+) -> Result<(Vec<Captures>, Vec<Captures>), SearchError>
     requires fits { Fits cache.old engines.0.now.nfa }
     requires same { engines.0.now.nfa ≡ engines.1.now.nfa }
     requires kind { kind_of engines.0.now ≡ LeftmostFirst }
-    ensures { map row_of result.0.items ≡ map row_of result.1.items }
+    ensures { IfOk result (λ both. map row_of both.0.items ≡ map row_of both.1.items) }
 {
     let (vm, engine) = engines;
     one_list_of_captures();
-    let first = looped(rt, vm, alloc, cache, text);
-    let second = tries_looped(rt, engine, alloc, other, text);
-    (first, second)
-}
-
-// All matches of the text.
-fn found(
-    rt: &impl Abort,
-    vm: &PikeVM,
-    alloc: Global,
-    cache: &mut pikevm::Cache,
-    text: &[u8],
-) -> Vec<Match>
-    requires { Fits cache.old vm.now.nfa }
-    ensures { AreMatches vm.now.nfa (kind_of vm.now) false (whole text.now) (map found_of result.items) }
-{
-    vm.find_iter(cache, Input::new(text))
-        .collect(alloc)
-        .expect(rt, "memory")
+    let first = vm.captures_all(alloc, cache, Input::new(text))?;
+    let second = engine.try_captures_all(alloc, other, Input::new(text))?;
+    Ok((first, second))
 }
 
 // The captures of the text and its matches, by two caches: as many, and each in its place.
-pub(crate) fn captures_and_matches(
-    rt: &impl Abort,
-    vm: &PikeVM,
+fn captures_and_matches(
     alloc: Global,
+    vm: &PikeVM,
     cache: &mut pikevm::Cache,
     other: &mut pikevm::Cache,
     text: &[u8],
-) -> (Vec<Captures>, Vec<Match>)
+) -> Result<(Vec<Captures>, Vec<Match>), SearchError>
     requires first { Fits cache.old vm.now.nfa }
     requires second { Fits other.old vm.now.nfa }
-    ensures same { map match_in result.0.items ≡ map found_of result.1.items }
-    ensures count { length result.0.items ≡ length result.1.items }
+    ensures same { IfOk result (λ both. map match_in both.0.items ≡ map found_of both.1.items) }
+    ensures count { IfOk result (λ both. length both.0.items ≡ length both.1.items) }
 {
     one_list_of_matches();
-    let captures = looped(rt, vm, alloc, cache, text);
-    let matches = found(rt, vm, alloc, other, text);
-    (captures, matches)
+    let captures = vm.captures_all(alloc, cache, Input::new(text))?;
+    let matches = vm.find_all(alloc, other, Input::new(text))?;
+    Ok((captures, matches))
 }
 
-// What the text has at the match of each.
-pub(crate) fn texts<'t>(
-    rt: &impl Abort,
-    vm: &PikeVM,
-    alloc: Global,
-    cache: &mut pikevm::Cache,
-    text: &'t [u8],
-) -> Vec<&'t [u8]>
-    requires { Fits cache.old vm.now.nfa }
+const TEXT: &[u8] = b"abc 1 foo 4567 0 quux";
+
+fn expect_both(rt: &impl Abort, alloc: Global, vm: &PikeVM, engine: &BoundedBacktracker)
+    requires same { vm.now.nfa ≡ engine.now.nfa }
+    requires kind { kind_of vm.now ≡ LeftmostFirst }
 {
-    let Ok(items) = vm.captures_iter(alloc, cache, Input::new(text)) else {
-        panic!(rt; "memory");
-    };
-    let mut texts = Vec::new(alloc);
-    for item in items {
-        let captures = item.expect(rt, "memory");
-        if let Some(found) = captures.get_match() {
-            let part = &text[found.start()..found.end()];
-            texts.push(part).expect(rt, "memory");
-        }
-    }
-    texts
+    let mut cache = threads(rt, alloc, vm);
+    let mut other = engine.create_cache(alloc);
+    let both = caught_by_both(alloc, (vm, engine), &mut cache, &mut other, TEXT);
+    let (first, second) = both.expect(rt, "captures");
+    expect_number(rt, first.len(), 6);
+    expect_number(rt, second.len(), 6);
+}
+
+fn expect_beside_matches(rt: &impl Abort, alloc: Global, vm: &PikeVM) {
+    let mut cache = threads(rt, alloc, vm);
+    let mut other = threads(rt, alloc, vm);
+    let both = captures_and_matches(alloc, vm, &mut cache, &mut other, TEXT);
+    let (captures, matches) = both.expect(rt, "captures");
+    expect_number(rt, captures.len(), 6);
+    expect_number(rt, matches.len(), 6);
+}
+
+#[test]
+fn lists_of_captures_are_one(rt: HostRuntime) {
+    let alloc = rt.alloc();
+    let nfa = nfa_named(alloc, "words_numbers").expect(&rt, "an NFA");
+    let copy = nfa.clone().expect(&rt, "memory");
+    let vm = PikeVM::new_from_nfa(copy).expect(&rt, "memory");
+    let engine = BoundedBacktracker::new_from_nfa(nfa).expect(&rt, "memory");
+    expect_both(&rt, alloc, &vm, &engine);
+    expect_beside_matches(&rt, alloc, &vm);
 }

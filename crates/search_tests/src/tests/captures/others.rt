@@ -3,13 +3,15 @@
 ghost use Rattle.nfa_pikevm.specs.Engines.{Fits};
 
 use super::table::is_row;
-use super::{DATE_SLOTS, backtracker, expect, expect_len, nfa, pikevm, threads};
+use super::{DATE_SLOTS, expect_len};
+use crate::tests::{engine_named, expect, threads, vm_named};
 use nfa_engines::backtrack::{self, BoundedBacktracker};
 use nfa_engines::pikevm::{Cache, PikeVM};
 use nfa_engines::{Captures, Input};
 use regex_search_core::GroupInfo;
 use std::alloc::Global;
 use std::process::Abort;
+use test_support::made::nfa_named;
 
 // Which slots captures have: none, those of each match, or those of each group.
 #[derive(Clone, Copy, Debug)]
@@ -102,7 +104,7 @@ fn captures_of(rt: &impl Abort, alloc: Global, row: &Row) -> Captures {
 }
 
 fn groups_of(rt: &impl Abort, alloc: Global, name: &str) -> GroupInfo {
-    let nfa = nfa(rt, alloc, name);
+    let nfa = nfa_named(alloc, name).expect(rt, name);
     nfa.group_info().clone().expect(rt, "memory")
 }
 
@@ -157,14 +159,14 @@ fn expect_backtracked(
 }
 
 fn expect_pikevm(rt: &impl Abort, alloc: Global, row: &Row) {
-    let vm = pikevm(rt, alloc, row.0);
+    let vm = vm_named(rt, alloc, row.0);
     let mut cache = threads(rt, alloc, &vm);
     let mut captures = captures_of(rt, alloc, row);
     expect_piked(rt, &vm, &mut cache, &mut captures, row);
 }
 
 fn expect_backtracker(rt: &impl Abort, alloc: Global, row: &Row) {
-    let engine = backtracker(rt, alloc, row.0);
+    let engine = engine_named(rt, alloc, row.0);
     let mut cache = engine.create_cache(alloc);
     let mut captures = captures_of(rt, alloc, row);
     expect_backtracked(rt, &engine, &mut cache, &mut captures, row);

@@ -1,19 +1,12 @@
 //! A span that is too long.
 use super::callers::tries_collected;
-use super::{expect, expect_len, nfa};
-use nfa_engines::backtrack::{BoundedBacktracker, Cache, Config, TryCapturesMatches};
+use super::expect_len;
+use crate::tests::{expect, with_capacity};
+use nfa_engines::backtrack::{BoundedBacktracker, Cache, TryCapturesMatches};
 use nfa_engines::error::SearchError;
 use nfa_engines::{Captures, Input};
 use std::alloc::Global;
 use std::process::Abort;
-
-fn short(rt: &impl Abort, alloc: Global) -> BoundedBacktracker {
-    let mut builder = BoundedBacktracker::builder();
-    builder.configure(Config::new().visited_capacity(10));
-    builder
-        .build_from_nfa(nfa(rt, alloc, "alnum100"))
-        .expect(rt, "memory")
-}
 
 fn is_refusal(item: &Result<Captures, SearchError>) -> bool {
     matches!(item, Err(SearchError::HaystackTooLong { len: 3 }))
@@ -29,14 +22,6 @@ fn expect_one(rt: &impl Abort, items: &[Result<Captures, SearchError>]) {
 fn expect_item(rt: &impl Abort, alloc: Global, engine: &BoundedBacktracker, cache: &mut Cache) {
     let items = tries_collected(rt, engine, alloc, cache, b"abc");
     expect_one(rt, &items);
-}
-
-#[test]
-fn the_refusal_is_the_one_item(rt: HostRuntime) {
-    let alloc = rt.alloc();
-    let engine = short(&rt, alloc);
-    let mut cache = engine.create_cache(alloc);
-    expect_item(&rt, alloc, &engine, &mut cache);
 }
 
 fn refuses(items: &mut TryCapturesMatches<'_, '_, '_>) -> bool {
@@ -56,9 +41,10 @@ fn expect_no_more(rt: &impl Abort, alloc: Global, engine: &BoundedBacktracker, c
 }
 
 #[test]
-fn nothing_comes_after_it(rt: HostRuntime) {
+fn the_refusal_is_the_one_item(rt: HostRuntime) {
     let alloc = rt.alloc();
-    let engine = short(&rt, alloc);
+    let engine = with_capacity(&rt, alloc, "alnum100", 10);
     let mut cache = engine.create_cache(alloc);
+    expect_item(&rt, alloc, &engine, &mut cache);
     expect_no_more(&rt, alloc, &engine, &mut cache);
 }

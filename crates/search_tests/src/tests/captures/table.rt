@@ -1,6 +1,7 @@
 //! Lists of captures of the sample NFAs, of both engines.
 use super::callers::{collected, collected_with, tries_collected, tries_collected_with};
-use super::{DATE_SLOTS, backtracker, expect, expect_len, pikevm, threads};
+use super::{DATE_SLOTS, expect_len};
+use crate::tests::{engine_named, expect, threads, vm_named};
 use nfa_engines::backtrack::BoundedBacktracker;
 use nfa_engines::error::SearchError;
 use nfa_engines::pikevm::PikeVM;
@@ -117,7 +118,7 @@ fn pikevm_gives_the_lists(rt: HostRuntime) {
 }
 
 fn expect_piked(rt: &impl Abort, alloc: Global, name: &str, text: &[u8], rows: &[Row]) {
-    let vm = pikevm(rt, alloc, name);
+    let vm = vm_named(rt, alloc, name);
     assert_rows(rt, &piked(rt, alloc, &vm, text), rows, name);
     assert_caught(rt, &all_piked(rt, alloc, &vm, text), rows, name);
 }
@@ -132,7 +133,7 @@ fn piked(
     collected(rt, vm, alloc, &mut cache, text)
 }
 
-fn all_piked(rt: &impl Abort, alloc: Global, vm: &PikeVM, text: &[u8]) -> Vec<Captures> {
+pub(super) fn all_piked(rt: &impl Abort, alloc: Global, vm: &PikeVM, text: &[u8]) -> Vec<Captures> {
     let mut cache = threads(rt, alloc, vm);
     vm.captures_all(alloc, &mut cache, Input::new(text))
         .expect(rt, "memory")
@@ -146,7 +147,7 @@ fn backtracker_gives_the_lists(rt: HostRuntime) {
 }
 
 fn expect_backtracked(rt: &impl Abort, alloc: Global, name: &str, text: &[u8], rows: &[Row]) {
-    let engine = backtracker(rt, alloc, name);
+    let engine = engine_named(rt, alloc, name);
     assert_rows(rt, &backtracked(rt, alloc, &engine, text), rows, name);
     assert_caught(rt, &all_backtracked(rt, alloc, &engine, text), rows, name);
 }
@@ -161,7 +162,7 @@ fn backtracked(
     tries_collected(rt, engine, alloc, &mut cache, text)
 }
 
-fn all_backtracked(
+pub(super) fn all_backtracked(
     rt: &impl Abort,
     alloc: Global,
     engine: &BoundedBacktracker,
@@ -176,7 +177,7 @@ fn all_backtracked(
 #[test]
 fn pikevm_gives_them_with_captures_of_the_caller(rt: HostRuntime) {
     let alloc = rt.alloc();
-    let vm = pikevm(&rt, alloc, "foo_num");
+    let vm = vm_named(&rt, alloc, "foo_num");
     assert_rows(&rt, &piked_with(&rt, alloc, &vm, FOOS), FOO_ROWS, "foo_num");
 }
 
@@ -193,10 +194,18 @@ fn piked_with(
 
 #[test]
 fn backtracker_gives_them_with_captures_of_the_caller(rt: HostRuntime) {
-    let alloc = rt.alloc();
-    let engine = backtracker(&rt, alloc, "foo_num");
-    let mut cache = engine.create_cache(alloc);
-    let captures = engine.create_captures(alloc).expect(&rt, "captures");
-    let items = tries_collected_with(&rt, &engine, alloc, &mut cache, captures, FOOS);
+    let engine = engine_named(&rt, rt.alloc(), "foo_num");
+    let items = backtracked_with(&rt, rt.alloc(), &engine, FOOS);
     assert_rows(&rt, &items, FOO_ROWS, "foo_num");
+}
+
+fn backtracked_with(
+    rt: &impl Abort,
+    alloc: Global,
+    engine: &BoundedBacktracker,
+    text: &[u8],
+) -> Vec<Result<Captures, SearchError>> {
+    let mut cache = engine.create_cache(alloc);
+    let captures = engine.create_captures(alloc).expect(rt, "captures");
+    tries_collected_with(rt, engine, alloc, &mut cache, captures, text)
 }

@@ -1,7 +1,7 @@
 //! What iterators over captures are shown as.
 ghost use Rattle.nfa_pikevm.specs.Engines.{Fits};
 
-use super::{expect_text, threads};
+use crate::tests::{expect, threads};
 use nfa_engines::Input;
 use nfa_engines::backtrack::{self, BoundedBacktracker};
 use nfa_engines::pikevm::{self, PikeVM};
@@ -51,7 +51,7 @@ fn expect_tries(
     let shown = format!(in alloc; "{cache:?}").expect(rt, "memory");
     let want = wanted_tries(rt, alloc, engine, shown.as_str());
     let text = tries_text(rt, alloc, engine, cache);
-    expect_text(rt, text.as_str(), want.as_str());
+    expect(rt, text == want, "captures");
 }
 
 fn sure_text(rt: &impl Abort, alloc: Global, vm: &PikeVM, cache: &mut pikevm::Cache) -> String
@@ -77,7 +77,7 @@ fn expect_sure(rt: &impl Abort, alloc: Global, vm: &PikeVM, cache: &mut pikevm::
     let shown = format!(in alloc; "{cache:?}").expect(rt, "memory");
     let want = wanted_sure(rt, alloc, vm, shown.as_str());
     let text = sure_text(rt, alloc, vm, cache);
-    expect_text(rt, text.as_str(), want.as_str());
+    expect(rt, text == want, "captures");
 }
 
 #[test]

@@ -1,14 +1,14 @@
 //! Which caches fit which engines, and serve them.
 
 use super::expect_fits;
-use crate::tests::expect_text;
+use crate::tests::{expect, expect_text, threads, vm_named};
 use nfa_engines::pikevm::{Cache, PikeVM};
 use nfa_samples::answers::OF_SLOT_LENS;
 use regex_search_core::{Anchored, Input, PatternID};
 use std::alloc::Global;
 use std::process::Abort;
 use test_support::machine::Machine;
-use test_support::made::{MakeError, pikevm};
+use test_support::made::MakeError;
 use test_support::text::{piked_match, piked_slots};
 use thompson_nfa::NFA;
 
@@ -60,16 +60,16 @@ fn expect_smaller(
 #[test]
 fn a_cache_fits_smaller_engines(rt: HostRuntime) {
     let alloc = rt.alloc();
-    let groups = pikevm(alloc, "groups").expect(&rt, "an engine");
-    let abc = pikevm(alloc, "abc").expect(&rt, "an engine");
-    let mut cache = groups.create_cache(alloc).expect(&rt, "a cache");
+    let groups = vm_named(&rt, alloc, "groups");
+    let abc = vm_named(&rt, alloc, "abc");
+    let mut cache = threads(&rt, alloc, &groups);
     expect_smaller(&rt, alloc, &groups, &abc, &mut cache);
 }
 
 // A cache for the sample of that name.
 fn cache_for(rt: &impl Abort, alloc: Global, name: &str) -> Cache {
-    let vm = pikevm(alloc, name).expect(rt, name);
-    vm.create_cache(alloc).expect(rt, "a cache")
+    let vm = vm_named(rt, alloc, name);
+    threads(rt, alloc, &vm)
 }
 
 // What a cache is made for, what it is used with, and whether it fits.
@@ -89,7 +89,7 @@ const FITS: &[(&str, &str, bool)] = &[
 
 fn fits(rt: &impl Abort, alloc: Global, made_for: &str, used_with: &str) -> bool {
     let cache = cache_for(rt, alloc, made_for);
-    let vm = pikevm(alloc, used_with).expect(rt, used_with);
+    let vm = vm_named(rt, alloc, used_with);
     cache.fits(&vm)
 }
 
@@ -98,7 +98,7 @@ fn each_number_of_a_cache_counts(rt: HostRuntime) {
     let alloc = rt.alloc();
     for &(made_for, used_with, want) in FITS {
         let fits = fits(&rt, alloc, made_for, used_with);
-        assert_eq!(rt; fits, want, "{made_for} {used_with}");
+        expect(&rt, fits == want, made_for);
     }
 }
 
@@ -121,21 +121,24 @@ fn with_groups(rt: &impl Abort, alloc: Global, explicit: usize) -> PikeVM {
 // Whether a cache for an engine with so many explicit groups fits one with so many.
 fn fits_groups(rt: &impl Abort, alloc: Global, made_for: usize, used_with: usize) -> bool {
     let made_for = with_groups(rt, alloc, made_for);
-    let cache = made_for.create_cache(alloc).expect(rt, "a cache");
+    let cache = threads(rt, alloc, &made_for);
     cache.fits(&with_groups(rt, alloc, used_with))
 }
+
+// How many groups a cache is made for and used with, and whether it fits.
+const FITS_GROUPS: &[(usize, usize, bool)] = &[
+    (0, 0, true),
+    (1, 0, true),
+    (0, 1, false),
+    (1, 2, false),
+];
 
 #[test]
 fn the_number_of_slots_alone_counts(rt: HostRuntime) {
     let alloc = rt.alloc();
-    for &(made_for, used_with, want) in &[
-        (0, 0, true),
-        (1, 0, true),
-        (0, 1, false),
-        (1, 2, false),
-    ] {
+    for &(made_for, used_with, want) in FITS_GROUPS {
         let fits = fits_groups(&rt, alloc, made_for, used_with);
-        assert_eq!(rt; fits, want, "{made_for} {used_with}");
+        expect(&rt, fits == want, "groups");
     }
 }
 
@@ -153,7 +156,22 @@ const ONE_CACHE: &[(&str, &[(&str, &str, &str)])] = &[
     ("abc_a", &[("snowman", "a☃b", "0 1..4")]),
 ];
 
-// What samples find with a cache made for another.
+// What a sample finds with a cache made for another.
+fn expect_found(
+    rt: &impl Abort,
+    alloc: Global,
+    cache: &mut Cache,
+    name: &str,
+    haystack: &str,
+    want: &str,
+) {
+    let vm = vm_named(rt, alloc, name);
+    expect_fits(rt, &vm, cache);
+    let text = piked_match(alloc, &vm, cache, Input::new(haystack.as_bytes()));
+    expect_text(rt, &name, text, want);
+}
+
+// What samples find with one.
 fn expect_all_found(
     rt: &impl Abort,
     alloc: Global,
@@ -161,10 +179,7 @@ fn expect_all_found(
     searches: &[(&str, &str, &str)],
 ) {
     for &(name, haystack, want) in searches {
-        let vm = pikevm(alloc, name).expect(rt, name);
-        expect_fits(rt, &vm, cache);
-        let text = piked_match(alloc, &vm, cache, Input::new(haystack.as_bytes()));
-        expect_text(rt, &name, text, want);
+        expect_found(rt, alloc, cache, name, haystack, want);
     }
 }
 

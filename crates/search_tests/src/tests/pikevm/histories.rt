@@ -5,7 +5,7 @@ ghost use Rattle.regex_search_core.specs.Found.{found_of};
 ghost use Rattle.nfa_pikevm.specs.Engines.{Fits};
 
 use super::expect_fits;
-use crate::tests::expect_number;
+use crate::tests::{engine_named, expect, expect_number, expect_parts, threads, vm_named};
 use nfa_engines::backtrack::{self, BoundedBacktracker};
 use nfa_engines::error::SearchError;
 use nfa_engines::laws::cache_history_is_invisible;
@@ -13,8 +13,6 @@ use nfa_engines::pikevm::{Cache, PikeVM};
 use regex_search_core::{Input, Match};
 use std::alloc::Global;
 use std::process::Abort;
-use test_support::made::{backtracker, pikevm};
-use test_support::text::parts;
 
 // The match by each of two caches.
 fn found_twice(
@@ -56,14 +54,17 @@ fn tried_twice(
 const TEXT: &[u8] = b"x foo12 foo1";
 
 fn expect_seven(rt: &impl Abort, found: Option<Match>) {
-    assert_eq!(rt; found.map(parts), Some((0, 2, 7)));
+    match found {
+        Some(found) => expect_parts(rt, found, (0, 2, 7)),
+        None => expect(rt, false, "a match"),
+    }
 }
 
 fn expect_found(rt: &impl Abort, vm: &PikeVM, used: &mut Cache, fresh: &mut Cache) {
     expect_fits(rt, vm, used);
     expect_fits(rt, vm, fresh);
     let warmed = vm.is_match(used, Input::new(b"foo foo7"));
-    assert!(rt; warmed);
+    expect(rt, warmed, "a match");
     let (one, two) = found_twice(vm, used, fresh, TEXT);
     expect_seven(rt, one);
     expect_seven(rt, two);
@@ -72,9 +73,9 @@ fn expect_found(rt: &impl Abort, vm: &PikeVM, used: &mut Cache, fresh: &mut Cach
 #[test]
 fn a_used_cache_answers_as_a_fresh_one(rt: HostRuntime) {
     let alloc = rt.alloc();
-    let vm = pikevm(alloc, "foo_num").expect(&rt, "an engine");
-    let mut used = vm.create_cache(alloc).expect(&rt, "a cache");
-    let mut fresh = vm.create_cache(alloc).expect(&rt, "a cache");
+    let vm = vm_named(&rt, alloc, "foo_num");
+    let mut used = threads(&rt, alloc, &vm);
+    let mut fresh = threads(&rt, alloc, &vm);
     expect_found(&rt, &vm, &mut used, &mut fresh);
 }
 
@@ -85,7 +86,7 @@ fn expect_tried(
     fresh: &mut backtrack::Cache,
 ) {
     let warmed = engine.try_is_match(used, Input::new(b"foo foo7"));
-    assert_eq!(rt; warmed, Ok(true));
+    expect(rt, warmed.expect(rt, "a search"), "a match");
     let (one, two) = tried_twice(engine, used, fresh, TEXT);
     let (one, two) = (one.expect(rt, "a search"), two.expect(rt, "a search"));
     expect_seven(rt, one);
@@ -95,7 +96,7 @@ fn expect_tried(
 #[test]
 fn a_used_cache_of_a_backtracker_answers_as_a_fresh_one(rt: HostRuntime) {
     let alloc = rt.alloc();
-    let engine = backtracker(alloc, "foo_num").expect(&rt, "an engine");
+    let engine = engine_named(&rt, alloc, "foo_num");
     let mut used = engine.create_cache(alloc);
     let mut fresh = engine.create_cache(alloc);
     expect_tried(&rt, &engine, &mut used, &mut fresh);
@@ -142,7 +143,7 @@ fn expect_count(rt: &impl Abort, matcher: &mut Matcher<'_>) {
 #[test]
 fn one_cache_serves_many_texts(rt: HostRuntime) {
     let alloc = rt.alloc();
-    let vm = pikevm(alloc, "foo_num").expect(&rt, "an engine");
+    let vm = vm_named(&rt, alloc, "foo_num");
     let mut matcher = Matcher::new(alloc, &vm).expect(&rt, "a matcher");
     expect_count(&rt, &mut matcher);
 }

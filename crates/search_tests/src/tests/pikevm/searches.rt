@@ -1,17 +1,21 @@
 //! Searches of the PikeVM alone: its kinds, `earliest`, long matches, and what it was made with.
 
+ghost use Rattle.nfa_pikevm.specs.Engines.{Fits};
+
 use super::expect_fits;
-use crate::tests::{expect_number, expect_shown, expect_six_unset, expect_text};
+use crate::tests::{
+    expect, expect_number, expect_shown, expect_six_unset, expect_text, of_kind, threads, vm_named,
+};
 use nfa_engines::pikevm::{Builder, Cache, Config, PikeVM};
-use regex_search_core::{Input, Match, MatchKind};
+use regex_search_core::{Input, MatchKind};
 use std::alloc::Global;
 use std::process::Abort;
-use test_support::made::{nfa_named, of_kind, pikevm};
+use test_support::made::nfa_named;
 use test_support::text::{match_text, piked_match};
 
 // The match that an engine finds, with a new cache.
 fn expect_match(rt: &impl Abort, alloc: Global, vm: &PikeVM, input: Input<'_>, want: &str) {
-    let mut cache = vm.create_cache(alloc).expect(rt, "a cache");
+    let mut cache = threads(rt, alloc, vm);
     let text = piked_match(alloc, vm, &mut cache, input);
     expect_text(rt, &input, text, want);
 }
@@ -19,22 +23,22 @@ fn expect_match(rt: &impl Abort, alloc: Global, vm: &PikeVM, input: Input<'_>, w
 #[test]
 fn finds_long_matches(rt: HostRuntime) {
     let alloc = rt.alloc();
-    let vm = pikevm(alloc, "alnum100").expect(&rt, "an engine");
+    let vm = vm_named(&rt, alloc, "alnum100");
     expect_match(&rt, alloc, &vm, Input::new(&[b'.'; 19971]), "none");
     expect_match(&rt, alloc, &vm, Input::new(&[b'a'; 100]), "0 0..100");
     expect_match(&rt, alloc, &vm, Input::new(&[b'a'; 99]), "none");
 }
 
 // A name, a haystack, and the first match of each kind: leftmost first, with `earliest`; all, with `earliest`.
-const KINDS: &[(&str, &str, [&str; 4])] = &[
-    ("a_star", "aaa", ["0 0..3", "0 0..0", "0 0..3", "0 0..0"]),
-    ("ab_b", "ab", ["0 0..2", "0 0..2", "1 1..2", "1 1..2"]),
-    ("abc_a", "abca", ["0 0..3", "0 0..1", "0 3..4", "0 0..1"]),
-    ("abcd_b", "abcd", ["0 0..4", "0 1..2", "0 0..4", "0 1..2"]),
-    ("snowman", "a☃b", ["0 1..4", "none", "0 1..4", "none"]),
+const KINDS: &[(&str, &str, &[&str])] = &[
+    ("a_star", "aaa", &["0 0..3", "0 0..0", "0 0..3", "0 0..0"]),
+    ("ab_b", "ab", &["0 0..2", "0 0..2", "1 1..2", "1 1..2"]),
+    ("abc_a", "abca", &["0 0..3", "0 0..1", "0 3..4", "0 0..1"]),
+    ("abcd_b", "abcd", &["0 0..4", "0 1..2", "0 0..4", "0 1..2"]),
+    ("snowman", "a☃b", &["0 1..4", "none", "0 1..4", "none"]),
 ];
 
-const SEARCHES: &[(MatchKind, bool); 4] = &[
+const SEARCHES: &[(MatchKind, bool)] = &[
     (MatchKind::LeftmostFirst, false),
     (MatchKind::LeftmostFirst, true),
     (MatchKind::All, false),
@@ -49,12 +53,13 @@ fn expect_of_kind(
     input: Input<'_>,
     want: &str,
 ) {
-    let vm = of_kind(alloc, name, kind).expect(rt, name);
+    let vm = of_kind(rt, alloc, name, kind);
     expect_match(rt, alloc, &vm, input, want);
 }
 
 // The first match of each kind.
-fn expect_kinds(rt: &impl Abort, alloc: Global, name: &str, haystack: &str, wants: &[&str; 4]) {
+fn expect_kinds(rt: &impl Abort, alloc: Global, name: &str, haystack: &str, wants: &[&str]) {
+    expect_number(rt, wants.len(), SEARCHES.len());
     for (&(kind, earliest), want) in SEARCHES.iter().zip(wants) {
         let input = Input::new(haystack.as_bytes()).earliest(earliest);
         expect_of_kind(rt, alloc, name, kind, input, want);
@@ -69,32 +74,29 @@ fn finds_the_match_of_each_kind(rt: HostRuntime) {
     }
 }
 
-fn expect_found(rt: &impl Abort, item: Option<Match>, found: bool) {
-    assert_eq!(rt; item.is_some(), found);
-}
-
 // The iterator ends for good behind one match.
-fn expect_one(rt: &impl Abort, vm: &PikeVM, cache: &mut Cache) {
-    expect_fits(rt, vm, cache);
+fn is_one(vm: &PikeVM, cache: &mut Cache) -> bool
+    requires { Fits cache.old vm.now.nfa }
+{
     let mut matches = vm.find_iter(cache, Input::new(b""));
-    expect_found(rt, matches.next(), true);
-    expect_found(rt, matches.next(), false);
-    expect_found(rt, matches.next(), false);
+    matches.next().is_some() && matches.next().is_none() && matches.next().is_none()
 }
 
 #[test]
 fn ends_for_good(rt: HostRuntime) {
     let alloc = rt.alloc();
-    let vm = pikevm(alloc, "a_or_empty").expect(&rt, "an engine");
-    let mut cache = vm.create_cache(alloc).expect(&rt, "a cache");
-    expect_one(&rt, &vm, &mut cache);
+    let vm = vm_named(&rt, alloc, "a_or_empty");
+    let mut cache = threads(&rt, alloc, &vm);
+    expect(&rt, is_one(&vm, &mut cache), "one match");
 }
+
+const TEXTS: &[&[u8]] = &[b"", b"foo"];
 
 // The engine has so many patterns, and finds this in any text.
 fn expect_everywhere(rt: &impl Abort, alloc: Global, vm: &PikeVM, pattern_len: usize, want: &str) {
     expect_number(rt, vm.pattern_len(), pattern_len);
-    for haystack in &["", "foo"] {
-        let input = Input::new(haystack.as_bytes());
+    for haystack in TEXTS {
+        let input = Input::new(haystack);
         expect_match(rt, alloc, vm, input, want);
         expect_first_item(rt, alloc, vm, input, want);
     }
@@ -102,52 +104,57 @@ fn expect_everywhere(rt: &impl Abort, alloc: Global, vm: &PikeVM, pattern_len: u
 
 // The first item of an iteration is the first match.
 fn expect_first_item(rt: &impl Abort, alloc: Global, vm: &PikeVM, input: Input<'_>, want: &str) {
-    let mut cache = vm.create_cache(alloc).expect(rt, "a cache");
+    let mut cache = threads(rt, alloc, vm);
     let first = vm.find_iter(&mut cache, input).next();
     expect_text(rt, &input, match_text(alloc, first), want);
+}
+
+fn always(rt: &impl Abort, alloc: Global) -> PikeVM {
+    PikeVM::always_match(alloc).expect(rt, "an engine")
+}
+
+pub(super) fn never(rt: &impl Abort, alloc: Global) -> PikeVM {
+    PikeVM::never_match(alloc).expect(rt, "an engine")
 }
 
 #[test]
 fn matches_always_or_never(rt: HostRuntime) {
     let alloc = rt.alloc();
-    let always = PikeVM::always_match(alloc).expect(&rt, "an engine");
-    expect_everywhere(&rt, alloc, &always, 1, "0 0..0");
-    let never = PikeVM::never_match(alloc).expect(&rt, "an engine");
-    expect_everywhere(&rt, alloc, &never, 0, "none");
+    expect_everywhere(&rt, alloc, &always(&rt, alloc), 1, "0 0..0");
+    expect_everywhere(&rt, alloc, &never(&rt, alloc), 0, "none");
 }
 
 #[test]
 fn makes_captures_of_all_groups(rt: HostRuntime) {
     let alloc = rt.alloc();
-    let vm = pikevm(alloc, "groups").expect(&rt, "an engine");
+    let vm = vm_named(&rt, alloc, "groups");
     let captures = vm.create_captures(alloc).expect(&rt, "captures");
     expect_six_unset(&rt, &captures);
 }
 
 // The kind of an engine that the builder makes, once it has been given the configuration.
-fn expect_kind(
-    rt: &impl Abort,
-    alloc: Global,
-    builder: &mut Builder,
-    config: Config,
-    want: MatchKind,
-) {
+fn kind_after(rt: &impl Abort, alloc: Global, builder: &mut Builder, config: Config) -> MatchKind {
     builder.configure(config);
     let nfa = nfa_named(alloc, "abc_a").expect(rt, "an NFA");
     let vm = builder.build_from_nfa(nfa).expect(rt, "an engine");
-    let kind = vm.get_config().get_match_kind();
-    assert_eq!(rt; kind, want);
+    vm.get_config().get_match_kind()
+}
+
+fn expect_kind(rt: &impl Abort, kind: MatchKind, want: MatchKind) {
+    expect(rt, kind == want, "a kind");
 }
 
 #[test]
 fn keeps_the_kind_that_a_newer_configuration_leaves_unset(rt: HostRuntime) {
     let alloc = rt.alloc();
     let mut builder = PikeVM::builder();
-    let first = MatchKind::LeftmostFirst;
-    expect_kind(&rt, alloc, &mut builder, Config::default(), first);
+    let kind = kind_after(&rt, alloc, &mut builder, Config::default());
+    expect_kind(&rt, kind, MatchKind::LeftmostFirst);
     let all = Config::new().match_kind(MatchKind::All);
-    expect_kind(&rt, alloc, &mut builder, all, MatchKind::All);
-    expect_kind(&rt, alloc, &mut builder, PikeVM::config(), MatchKind::All);
+    let kind = kind_after(&rt, alloc, &mut builder, all);
+    expect_kind(&rt, kind, MatchKind::All);
+    let kind = kind_after(&rt, alloc, &mut builder, PikeVM::config());
+    expect_kind(&rt, kind, MatchKind::All);
 }
 
 // A copy of a cache has this size, and serves the engine.
@@ -172,8 +179,8 @@ fn expect_clone(rt: &impl Abort, alloc: Global, vm: &PikeVM, cache: &Cache) {
 #[test]
 fn a_clone_answers_as_its_original(rt: HostRuntime) {
     let alloc = rt.alloc();
-    let vm = of_kind(alloc, "abc_a", MatchKind::All).expect(&rt, "an engine");
-    let cache = vm.create_cache(alloc).expect(&rt, "a cache");
+    let vm = of_kind(&rt, alloc, "abc_a", MatchKind::All);
+    let cache = threads(&rt, alloc, &vm);
     expect_copy(&rt, alloc, &vm, &cache);
     expect_clone(&rt, alloc, &vm, &cache);
 }

@@ -1,13 +1,15 @@
 //! Sets of overlapping matches.
 
+ghost use Rattle.nfa_pikevm.specs.Engines.{Fits};
+
 use super::expect_fits;
-use crate::tests::expect_text;
+use crate::tests::{expect, expect_text, of_kind, threads};
 use nfa_engines::pikevm::{Cache, PikeVM};
 use regex_search_core::MatchKind::{All, LeftmostFirst};
 use regex_search_core::{Input, MatchKind, PatternID, PatternSet};
 use std::alloc::{AllocError, Global};
 use std::process::Abort;
-use test_support::made::{input_in, of_kind};
+use test_support::made::input_in;
 
 // A name, a kind, a haystack, the capacity of a set, and the patterns that an empty set gains: in a search, and in one
 // with `earliest`.
@@ -37,41 +39,41 @@ fn members(alloc: Global, set: &PatternSet) -> Result<String, AllocError> {
 
 // The patterns of the set after the search.
 fn searched(
-    rt: &impl Abort,
     alloc: Global,
     vm: &PikeVM,
     cache: &mut Cache,
     input: &Input<'_>,
     set: &mut PatternSet,
-) -> Result<String, AllocError> {
-    expect_fits(rt, vm, cache);
+) -> Result<String, AllocError>
+    requires { Fits cache.old vm.now.nfa }
+{
     vm.which_overlapping_matches(cache, input, set);
     members(alloc, set)
 }
 
-// What an empty set gains, in a search with a new cache.
+// What an empty set gains, in a search of the sample with a new cache.
 fn gained(
     rt: &impl Abort,
     alloc: Global,
-    vm: &PikeVM,
+    (name, kind): (&str, MatchKind),
     input: &Input<'_>,
     capacity: usize,
 ) -> Result<String, AllocError> {
-    let mut cache = vm.create_cache(alloc).expect(rt, "a cache");
+    let vm = of_kind(rt, alloc, name, kind);
+    let mut cache = threads(rt, alloc, &vm);
     let mut set = PatternSet::new(alloc, capacity).expect(rt, "a set");
-    searched(rt, alloc, vm, &mut cache, input, &mut set)
+    searched(alloc, &vm, &mut cache, input, &mut set)
 }
 
 #[test]
 fn an_empty_set_gains_what_matches(rt: HostRuntime) {
     let alloc = rt.alloc();
     for &(name, kind, haystack, capacity, [plainly, early]) in GAINED {
-        let vm = of_kind(alloc, name, kind).expect(&rt, name);
         let input = Input::new(haystack.as_bytes());
-        let text = gained(&rt, alloc, &vm, &input, capacity);
+        let text = gained(&rt, alloc, (name, kind), &input, capacity);
         expect_text(&rt, &(name, input), text, plainly);
         let input = input.earliest(true);
-        let text = gained(&rt, alloc, &vm, &input, capacity);
+        let text = gained(&rt, alloc, (name, kind), &input, capacity);
         expect_text(&rt, &(name, input), text, early);
     }
 }
@@ -81,20 +83,24 @@ fn second_alone(rt: &impl Abort, alloc: Global) -> PatternSet {
     let mut set = PatternSet::new(alloc, 2).expect(rt, "a set");
     let second = PatternID::new(1).expect(rt, "a pattern's number");
     let added = set.try_insert(second);
-    assert_eq!(rt; added, Some(true));
+    expect(rt, added == Some(true), "one more");
     set
+}
+
+// What is in a set with the second pattern, after a search of this kind.
+fn expect_gained(rt: &impl Abort, alloc: Global, kind: MatchKind, want: &str) {
+    let vm = of_kind(rt, alloc, "ab_abc", kind);
+    let mut cache = threads(rt, alloc, &vm);
+    let mut set = second_alone(rt, alloc);
+    let text = searched(alloc, &vm, &mut cache, &Input::new(b"abc"), &mut set);
+    expect_text(rt, &kind, text, want);
 }
 
 #[test]
 fn a_set_loses_nothing(rt: HostRuntime) {
     let alloc = rt.alloc();
-    for &(kind, want) in &[(LeftmostFirst, "1 "), (All, "0 1 ")] {
-        let vm = of_kind(alloc, "ab_abc", kind).expect(&rt, "an engine");
-        let mut cache = vm.create_cache(alloc).expect(&rt, "a cache");
-        let mut set = second_alone(&rt, alloc);
-        let text = searched(&rt, alloc, &vm, &mut cache, &Input::new(b"abc"), &mut set);
-        expect_text(&rt, &kind, text, want);
-    }
+    expect_gained(&rt, alloc, LeftmostFirst, "1 ");
+    expect_gained(&rt, alloc, All, "0 1 ");
 }
 
 // A name, a haystack, a span, whether the search is anchored, the capacity of a set, and the patterns that an empty set
@@ -111,24 +117,24 @@ const GAINED_IN_SPAN: &[(&str, &str, usize, usize, bool, usize, &str)] = &[
 fn an_empty_set_gains_what_matches_in_a_span(rt: HostRuntime) {
     let alloc = rt.alloc();
     for &(name, haystack, start, end, anchored, capacity, want) in GAINED_IN_SPAN {
-        let vm = of_kind(alloc, name, All).expect(&rt, name);
         let input = input_in(haystack.as_bytes(), start, end, anchored).expect(&rt, "a span");
-        let text = gained(&rt, alloc, &vm, &input, capacity);
+        let text = gained(&rt, alloc, (name, All), &input, capacity);
         expect_text(&rt, &(name, input), text, want);
     }
 }
 
 fn expect_two(rt: &impl Abort, alloc: Global, cache: &mut Cache) {
-    let vm = of_kind(alloc, "abc_ab", LeftmostFirst).expect(rt, "an engine");
+    let vm = of_kind(rt, alloc, "abc_ab", LeftmostFirst);
     let mut set = PatternSet::new(alloc, 2).expect(rt, "a set");
-    let text = searched(rt, alloc, &vm, cache, &Input::new(b"abc"), &mut set);
+    expect_fits(rt, &vm, cache);
+    let text = searched(alloc, &vm, cache, &Input::new(b"abc"), &mut set);
     expect_text(rt, &"abc", text, "0 1 ");
 }
 
 #[test]
 fn a_larger_cache_serves_as_well(rt: HostRuntime) {
     let alloc = rt.alloc();
-    let larger = of_kind(alloc, "foo_bar", All).expect(&rt, "an engine");
-    let mut cache = larger.create_cache(alloc).expect(&rt, "a cache");
+    let larger = of_kind(&rt, alloc, "foo_bar", All);
+    let mut cache = threads(&rt, alloc, &larger);
     expect_two(&rt, alloc, &mut cache);
 }

@@ -1,15 +1,17 @@
-//! Half matches, by a searcher that asks a PikeVM.
+//! Half matches, by a searcher that asks an engine: step by step, and by an iterator that stores the finder.
 
 ghost use Rattle.regex_search_core.specs.Search.{search_of};
 ghost use Rattle.nfa_search_base.specs.Finders.{half_match_span};
 ghost use Rattle.nfa_search_base.specs.IterStates.{LiesIn};
 
+use super::{engine_named, threads, vm_named};
+use nfa_engines::backtrack::{self, BoundedBacktracker};
 use nfa_engines::error::SearchError;
 use nfa_engines::iter::Searcher;
 use nfa_engines::pikevm::{Cache, PikeVM};
 use regex_search_core::{HalfMatch, Input};
+use std::alloc::Global;
 use std::process::Abort;
-use test_support::made::pikevm;
 
 // The end of the match that the engine finds. The cache fits: it is asked so that no `requires` is needed.
 fn half_found(
@@ -25,13 +27,24 @@ fn half_found(
     Ok(vm.find_half(cache, *input))
 }
 
+// The same of a backtracker.
+fn half_tried(
+    engine: &BoundedBacktracker,
+    cache: &mut backtrack::Cache,
+    input: &Input<'_>,
+) -> Result<Option<HalfMatch>, SearchError>
+    ensures { LiesIn (search_of input.now) (half_match_span result) }
+{
+    engine.try_find_half(cache, *input)
+}
+
 // What the next step of the searcher gives.
 fn half_step(
-    vm: &PikeVM,
-    cache: &mut Cache,
+    engine: &BoundedBacktracker,
+    cache: &mut backtrack::Cache,
     searcher: &mut Searcher<'_>,
 ) -> Result<Option<HalfMatch>, SearchError> {
-    searcher.try_advance_half(|input: &Input<'_>| half_found(vm, cache, input))
+    searcher.try_advance_half(|input: &Input<'_>| half_tried(engine, cache, input))
 }
 
 fn expect_offset(rt: &impl Abort, half: Option<HalfMatch>, want: Option<usize>) {
@@ -58,16 +71,20 @@ const ENDS: &[Ends] = &[
     ),
 ];
 
-fn expect_half_steps(rt: &impl Abort, vm: &PikeVM, cache: &mut Cache, row: &Ends) {
+fn expect_steps(
+    rt: &impl Abort,
+    engine: &BoundedBacktracker,
+    cache: &mut backtrack::Cache,
+    row: &Ends,
+) {
     let (_, haystack, wants) = *row;
     let mut searcher = Searcher::new(Input::new(haystack.as_bytes()));
     for &want in wants {
-        let half = half_step(vm, cache, &mut searcher).expect(rt, "an answer");
+        let half = half_step(engine, cache, &mut searcher).expect(rt, "an answer");
         expect_offset(rt, half, want);
     }
 }
 
-// The same, by an iterator that stores the finder.
 fn expect_halves(rt: &impl Abort, vm: &PikeVM, cache: &mut Cache, row: &Ends) {
     let (_, haystack, wants) = *row;
     let searcher = Searcher::new(Input::new(haystack.as_bytes()));
@@ -83,13 +100,22 @@ fn expect_halves(rt: &impl Abort, vm: &PikeVM, cache: &mut Cache, row: &Ends) {
     }
 }
 
+fn expect_backtracked(rt: &impl Abort, alloc: Global, row: &Ends) {
+    let engine = engine_named(rt, alloc, row.0);
+    let mut cache = engine.create_cache(alloc);
+    expect_steps(rt, &engine, &mut cache, row);
+}
+
+fn expect_piked(rt: &impl Abort, alloc: Global, row: &Ends) {
+    let vm = vm_named(rt, alloc, row.0);
+    let mut cache = threads(rt, alloc, &vm);
+    expect_halves(rt, &vm, &mut cache, row);
+}
+
 #[test]
 fn halves_are_the_ends_of_all_matches(rt: HostRuntime) {
-    let alloc = rt.alloc();
     for row in ENDS {
-        let vm = pikevm(alloc, row.0).expect(&rt, "an engine");
-        let mut cache = vm.create_cache(alloc).expect(&rt, "a cache");
-        expect_half_steps(&rt, &vm, &mut cache, row);
-        expect_halves(&rt, &vm, &mut cache, row);
+        expect_backtracked(&rt, rt.alloc(), row);
+        expect_piked(&rt, rt.alloc(), row);
     }
 }
