@@ -1,16 +1,19 @@
 -- A search of an input starts, goes on by a line, and ends.
-use Rattle.std.proofs.Common.{◌≡◌, ◌∙◌, ℕ, ◌+◌, ◌-◌, ◌<◌, ◌≤◌, Bool, true, false, inl, inr, List, [], ◌∷◌, ◌++◌}
-use Rattle.std.proofs.Common.{length, refl, sym, ap, subst, arith, append_assoc, append-nil, zero-add}
+use Rattle.std.proofs.Common.{◌≡◌, ◌∙◌, ℕ, zero, ◌+◌, ◌-◌, ◌<◌, ◌≤◌, Bool, true, false, All, inl, inr, List, [], ◌∷◌}
+use Rattle.std.proofs.Common.{◌++◌, length, refl, sym, ap, ap₂, subst, arith, append_assoc, append-nil, zero-add}
 use Rattle.std.specs.Prelude.{Option, None, Some, cond, if◌then◌else◌, not, ◌==◌, ◌&&◌, ◌⊎◌, nat_lt}
 use Rattle.std.specs.List.{concat}
 use Rattle.std.specs.Io.KnownBytes.{Appends, Keeps}
 use Rattle.std.proofs.KnownBytes.{Appends-nil, Appends-trans, Keeps-refl}
 use Rattle.std.proofs.lemmas.Bool.{and_parts, cases_lt, eq-eqb, eqb-true, le-ltb, lt-ltb, ltb-false, ne_eqb, not-true}
+use Rattle.std.proofs.lemmas.List.{length-append}
+use Rattle.std.proofs.lemmas.List.Elements.{All-cons, All-head, All-nil, All-tail}
 use Rattle.std.proofs.lemmas.List.Sums.{sum_by-cons}
 use Rattle.text_lines.specs.Lines.{HasNoRecord, TakesRecord, records_of}
 use Rattle.text_lines.proofs.LineLemmas.{first-record, no-records}
 use Rattle.regex_hir.specs.Re.{Re}
-use Rattle.nfa_grep.specs.Going.{HasPrinted, IsGoing, IsInOrder, PrintsLines, kept_items, kept_texts}
+use Rattle.nfa_grep.specs.Going.{HasPassed, HasPrinted, IsGoing, IsInOrder, PassesLines, PrintsLines, kept_items}
+use Rattle.nfa_grep.specs.Going.{kept_texts}
 use Rattle.nfa_grep.specs.Going.{PrintsOutput, StopsInTime, printed_later}
 use Rattle.nfa_grep.specs.Grouped.{Item, context_of, grouped, has_selected, left_after}
 use Rattle.nfa_grep.specs.Printed.{fewer, is_picked, is_selected, item_of, items, printed, read, read_in, searched}
@@ -19,8 +22,9 @@ use Rattle.nfa_grep.specs.declared.groups.Groups.{Groups}
 use Rattle.nfa_grep.specs.declared.options.Context.{Context}
 use Rattle.nfa_grep.specs.declared.options.Options.{Options}
 use Rattle.nfa_grep.specs.declared.options.Report.{Report}
+use Rattle.nfa_grep.specs.declared.search.LineStart.{LineStart}
 use Rattle.nfa_grep.proofs.GroupedLemmas.{kept-none, none-printed}
-use Rattle.nfa_grep.proofs.RecordLemmas.{text-of-first}
+use Rattle.text_lines.proofs.RecordLemmas.{text-of-first}
 
 -- what was left to write, and what was written of it
 three : (before here later all rest : List ℕ) → all ≡ before ++ rest → rest ≡ here ++ later
@@ -216,6 +220,141 @@ module _ (wanted : Bool) (options : Options) (res : List Re) (name : List ℕ) (
         count_is = count-step b _ count (left_count m lines)
             (going.count_is ∙ ap (λ (k : ℕ). count + k) counted);
         read_is = three going.taken line (left_read m new.left lines) _ _ going.read_is read-here;
+      }
+
+  -- lines that are not selected leave the limit as it is
+  picked-none : (n : ℕ) (line : List ℕ) → is_selected options res line ≡ false → is_picked options res n line ≡ false
+  picked-none n line none = of (n == 0)
+    where
+      of : (b : Bool) → (if b then false else is_selected options res line) ≡ false
+      of true = refl
+      of false = none
+
+  fewer-none : (n : ℕ) (line : List ℕ) → is_selected options res line ≡ false
+      → fewer n (is_picked options res n line) ≡ n
+  fewer-none n line none =
+      let same : n - 0 ≡ n = omega arith in
+      ap (fewer n) (picked-none n line none) ∙ same
+
+  abbrev IsPassed : List ℕ → Type 0
+  IsPassed line = is_selected options res line ≡ false
+
+  items-one : (n number offset : ℕ) (line : List ℕ) (lines : List (List ℕ)) → IsPassed line
+      → left_items n number offset (line ∷ lines)
+      ≡ item_of wanted options res name number offset false line
+      ∷ left_items n (number + 1) (offset + length line) lines
+  items-one n number offset line lines none =
+      items-step n number offset line lines
+      ∙ ap (λ (k : ℕ). item_of wanted options res name number offset (is_picked options res n line) line
+      ∷ left_items k (number + 1) (offset + length line) lines) (fewer-none n line none)
+      ∙ ap (λ (b : Bool). item_of wanted options res name number offset b line
+      ∷ left_items n (number + 1) (offset + length line) lines) (picked-none n line none)
+
+  -- what is printed of lines of which the first are passed
+  items-pass : (n number offset : ℕ) (passed lines : List (List ℕ)) → All IsPassed passed
+      → left_items n number offset (passed ++ lines)
+      ≡ left_items n number offset passed
+      ++ left_items n (number + length passed) (offset + length (concat passed)) lines
+  items-pass n number offset [] lines none =
+      let number-is : number ≡ number + 0 = omega arith in
+      let offset-is : offset ≡ offset + 0 = omega arith in
+      ap₂ (λ (k l : ℕ). left_items n k l lines) number-is offset-is
+      ∙ ap (λ (l : List Item). l ++ left_items n (number + 0) (offset + 0) lines) (sym (items-end n number offset))
+  items-pass n number offset (line ∷ passed) lines none =
+      let here = All-head IsPassed line passed none in
+      let rest = All-tail IsPassed line passed none in
+      let item = item_of wanted options res name number offset false line in
+      let number-is : number + 1 + length passed ≡ number + length (line ∷ passed) = omega arith in
+      let offset-is : offset + length line + length (concat passed) ≡ offset + length (concat (line ∷ passed)) =
+      omega (arith, length-append line (concat passed)) in
+      let later = left_items n (number + length (line ∷ passed)) (offset + length (concat (line ∷ passed))) lines in
+      items-one n number offset line (passed ++ lines) here
+      ∙ ap (λ (l : List Item). item ∷ l)
+      (items-pass n (number + 1) (offset + length line) passed lines rest
+      ∙ ap₂ (λ (k l : ℕ). left_items n (number + 1) (offset + length line) passed ++ left_items n k l lines)
+      number-is offset-is)
+      ∙ ap (λ (l : List Item). l ++ later) (sym (items-one n number offset line passed here))
+
+  items-passed : (n number offset : ℕ) (passed : List (List ℕ)) → All IsPassed passed
+      → (length passed ≡ length (left_items n number offset passed))
+      × All (λ item. item.selected ≡ false) (left_items n number offset passed)
+  items-passed n number offset [] none =
+      subst (λ (l : List Item). (zero ≡ length l) × All (λ item. item.selected ≡ false) l)
+      (sym (items-end n number offset)) (refl, All-nil (λ (item : Item). item.selected ≡ false))
+  items-passed n number offset (line ∷ passed) none =
+      let later = items-passed n (number + 1) (offset + length line) passed (All-tail IsPassed line passed none) in
+      let item = item_of wanted options res name number offset false line in
+      let items = left_items n (number + 1) (offset + length line) passed in
+      subst (λ (l : List Item). (length (line ∷ passed) ≡ length l) × All (λ item. item.selected ≡ false) l)
+      (sym (items-one n number offset line passed (All-head IsPassed line passed none)))
+      (omega (arith, later.0), All-cons (λ (item : Item). item.selected ≡ false) item items refl later.1)
+
+  -- none of the lines that are passed is selected
+  count-pass : (n : ℕ) (passed lines : List (List ℕ)) → All IsPassed passed
+      → left_count n (passed ++ lines) ≡ left_count n lines
+  count-pass n [] lines none = refl
+  count-pass n (line ∷ passed) lines none =
+      let here = All-head IsPassed line passed none in
+      count-line n line (passed ++ lines)
+      ∙ ap (λ (b : Bool). cond b 1 0 + left_count (fewer n (is_picked options res n line)) (passed ++ lines))
+      (picked-none n line here)
+      ∙ zero-add (left_count (fewer n (is_picked options res n line)) (passed ++ lines))
+      ∙ ap (λ (k : ℕ). left_count k (passed ++ lines)) (fewer-none n line here)
+      ∙ count-pass n passed lines (All-tail IsPassed line passed none)
+
+  -- the lines that are passed are read
+  read-pass : (n left : ℕ) (passed lines : List (List ℕ)) → ((n == 0) && (left == 0)) ≡ false
+      → (0 < length passed → left ≡ 0) → All IsPassed passed
+      → left_read n left (passed ++ lines) ≡ concat passed ++ left_read n left lines
+  read-pass n left [] lines more far none = refl
+  read-pass n left (line ∷ passed) lines more far none =
+      let here = All-head IsPassed line passed none in
+      let left-is : left ≡ 0 = far (omega arith) in
+      let same : left_after context left (is_picked options res n line) ≡ left =
+      ap (left_after context left) (picked-none n line here) ∙ omega (arith, left-is) in
+      read-step n left line (passed ++ lines) more
+      ∙ ap₂ (λ (k l : ℕ). line ++ left_read k l (passed ++ lines)) (fewer-none n line here) same
+      ∙ ap (λ l. line ++ l) (read-pass n left passed lines more (λ _. left-is) (All-tail IsPassed line passed none))
+      ∙ sym (append_assoc line (concat passed) (left_read n left lines))
+
+  -- lines were passed, and nothing is printed of them
+  pub going-pass : (before input after out-before out : Option (List ℕ)) (at next : LineStart) (count : ℕ)
+      (old new : Groups)
+      → (not (nat_lt count limit) && (old.left == 0)) ≡ false → new.left ≡ old.left
+      → PassesLines options res input after at next old new
+      → HasPrinted wanted options res name context used limit before input out-before out at.number at.offset count old
+      → HasPrinted wanted options res name context used limit before after out-before out next.number next.offset count
+      new
+  going-pass None input after out-before out at next count old new more left-is passes going = tt
+  going-pass (Some whole) input after out-before out at next count old new more left-is passes going =
+      let passed = subst (λ (o : Option (List ℕ)). PassesLines options res o after at next old new) going.rest_is passes in
+      let n = limit - count in
+      let lines = records_of options.end passed.rest in
+      let more-here : ((n == 0) && (old.left == 0)) ≡ false = rw (none-left count limit) more in
+      let own = items-passed n at.number at.offset passed.lines passed.unselected in
+      let later = left_items n next.number next.offset lines in
+      let listed : left_items n at.number at.offset (records_of options.end going.rest)
+      ≡ left_items n at.number at.offset passed.lines ++ later =
+      ap (left_items n at.number at.offset) passed.records_are
+      ∙ items-pass n at.number at.offset passed.lines lines passed.unselected
+      ∙ ap₂ (λ (k l : ℕ). left_items n at.number at.offset passed.lines ++ left_items n k l lines)
+      (sym passed.number_is) (sym passed.offset_is) in
+      record {
+        rest = passed.rest;
+        rest_is = passed.left_is;
+        written = going.written;
+        writes = going.writes;
+        taken = going.taken ++ concat passed.lines;
+        text_is = three going.taken (concat passed.lines) passed.rest whole going.rest going.text_is passed.text_is;
+        printed_is = going.printed_is ∙ ap (λ l. going.written ++ l)
+            (ap (printed_later old) listed
+            ∙ passed.printed_is (left_items n at.number at.offset passed.lines) own.0 own.1 later);
+        count_is = going.count_is ∙ ap (λ (k : ℕ). count + k)
+            (ap (left_count n) passed.records_are ∙ count-pass n passed.lines lines passed.unselected);
+        read_is = three going.taken (concat passed.lines) (left_read n new.left lines) _ _ going.read_is
+            (ap (left_read n old.left) passed.records_are
+            ∙ read-pass n old.left passed.lines lines more-here passed.none_left passed.unselected
+            ∙ ap (λ (l : ℕ). concat passed.lines ++ left_read n l lines) (sym left-is));
       }
 
   -- no line is left to read

@@ -1,10 +1,11 @@
 -- Which lines are printed, as lines are taken one by one.
 use Rattle.std.proofs.Common.{◌≡◌, ◌∙◌, ℕ, zero, suc, ◌-◌, ◌≤◌, ◌<◌, Bool, true, false, List, [], ◌∷◌, ◌++◌, ◌⊎◌, length}
-use Rattle.std.proofs.Common.{inl, inr, take, refl, sym, ap, arith, append_assoc}
+use Rattle.std.proofs.Common.{All, inl, inr, take, refl, sym, ap, arith, append_assoc}
 use Rattle.std.specs.Prelude.{◌||◌}
 use Rattle.std.specs.List.{flat_map}
 use Rattle.std.proofs.lemmas.Bool.{lt-ltb}
 use Rattle.std.proofs.lemmas.List.{length-append}
+use Rattle.std.proofs.lemmas.List.Elements.{All-head, All-tail}
 use Rattle.nfa_grep.specs.Going.{kept_items}
 use Rattle.nfa_grep.specs.Grouped.{Item, between, grouped, has_selected}
 use Rattle.nfa_grep.specs.declared.options.Context.{Context}
@@ -108,6 +109,37 @@ module _ (context : Context) where
       rw none (far-step used gap text later (rw zero-is refl))
   passes used gap left (first ∷ texts) text later none within zero-is = absurd (omega (arith, within, zero-is))
 
+  -- a line that is not selected is not printed
+  passes-one : (used gap : Bool) (item : Item) (later : List Item) → item.selected ≡ false → context.before ≡ 0
+      → grouped context used gap 0 (item ∷ later) ≡ grouped context used true 0 later
+  passes-one used gap item later none zero-is =
+      let same : item ≡ unselected item.text = λ i. record { selected = none i; text = item.text } in
+      ap (λ (it : Item). grouped context used gap 0 (it ∷ later)) same
+      ∙ far-step used gap item.text later (rw zero-is refl)
+
+  passes-some : (used gap : Bool) (items later : List Item) → All (λ item. item.selected ≡ false) items
+      → 0 < length items → context.before ≡ 0
+      → grouped context used gap 0 (items ++ later) ≡ grouped context used true 0 later
+  passes-some used gap [] later none some zero-is = absurd (omega arith)
+  passes-some used gap (item ∷ []) later none some zero-is =
+      passes-one used gap item later (All-head (λ item. item.selected ≡ false) item [] none) zero-is
+  passes-some used gap (item ∷ next ∷ items) later none some zero-is =
+      passes-one used gap item (next ∷ items ++ later)
+      (All-head (λ item. item.selected ≡ false) item (next ∷ items) none) zero-is
+      ∙ passes-some used true (next ∷ items) later
+      (All-tail (λ item. item.selected ≡ false) item (next ∷ items) none) (omega arith) zero-is
+
+  -- lines that are not selected are not printed, and none is kept
+  pub passes-all : (used gap : Bool) (left : ℕ) (texts : List (List ℕ)) (items later : List Item)
+      → left ≡ 0 → length texts ≤ context.before → context.before ≡ 0
+      → All (λ item. item.selected ≡ false) items → 0 < length items
+      → grouped context used gap left (kept_items texts ++ (items ++ later))
+      ≡ grouped context used true left (kept_items texts ++ later)
+  passes-all used gap left [] items later none within zero-is all some =
+      rw none (passes-some used gap items later all some zero-is)
+  passes-all used gap left (first ∷ texts) items later none within zero-is all some =
+      absurd (omega (arith, within, zero-is))
+
   -- the first line that is kept is not printed, if none of the next ones is selected
   pub drops : (used gap : Bool) (left : ℕ) (all : List (List ℕ)) (first : List ℕ) (texts : List (List ℕ))
       (text : List ℕ) (later : List Item) → left ≡ 0 → all ≡ first ∷ texts → context.before ≤ length all
@@ -151,3 +183,8 @@ kept-none (text ∷ texts) later none = kept-none texts later none
 pub begun : (before middle out line kept text rest : List ℕ) → middle ≡ before ++ line → out ≡ middle ++ kept
     → before ++ (line ++ (kept ++ (text ++ rest))) ≡ out ++ (text ++ rest)
 begun before middle out line kept text rest a b = rw (b, a) (simp append_assoc)
+
+-- no lines
+pub passes-none : (items later : List Item) → length items ≡ 0 → items ++ later ≡ later
+passes-none [] later none = refl
+passes-none (item ∷ items) later none = absurd (omega arith)

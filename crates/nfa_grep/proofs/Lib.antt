@@ -2,11 +2,11 @@ mod GoingLemmas
 mod GroupedLemmas
 mod JoinedLemmas
 mod MeantLemmas
+mod NeededLemmas
 mod NumbersLemmas
 mod PaintedLemmas
 mod PatternLemmas
 mod PrintedLemmas
-mod RecordLemmas
 mod RefusalLemmas
 mod UncolouredLemmas
 mod WhichLemmas

@@ -1,15 +1,18 @@
 -- A search of an input that is under way, and one that has ended.
-use Rattle.std.specs.Prelude.{◌≡◌, ℕ, ◌+◌, ◌-◌, ◌≤◌, ◌⊎◌, Bool, true, false, List, [], ◌++◌, Option, Some, IfSome, length, map}
+use Rattle.std.specs.Prelude.{◌≡◌, ℕ, ◌+◌, ◌-◌, ◌<◌, ◌≤◌, ◌⊎◌, All, Bool, true, false, List, [], ◌++◌, Option, Some, IfSome, length}
+use Rattle.std.specs.Prelude.{map}
 use Rattle.std.specs.List.{concat}
 use Rattle.std.specs.Io.KnownBytes.{Appends}
 use Rattle.regex_hir.specs.Re.{Re}
 use Rattle.text_lines.specs.Lines.{records_of}
 use Rattle.nfa_grep.specs.Grouped.{Item, context_of, grouped}
-use Rattle.nfa_grep.specs.Printed.{items, limit_of, output, printed, read, read_in, searched_in, selected_count}
+use Rattle.nfa_grep.specs.Printed.{is_selected, items, limit_of, output, printed, read, read_in, searched_in}
+use Rattle.nfa_grep.specs.Printed.{selected_count}
 use Rattle.nfa_grep.specs.declared.groups.Groups.{Groups}
 use Rattle.nfa_grep.specs.declared.options.Context.{Context}
 use Rattle.nfa_grep.specs.declared.options.Options.{Options}
 use Rattle.nfa_grep.specs.declared.options.Report.{Report}
+use Rattle.nfa_grep.specs.declared.search.LineStart.{LineStart}
 
 -- the reader has what comes after these lines of the text, and so it has not read beyond them
 pub record StopsAfter (text : List ℕ) (lines : List (List ℕ)) (input : Option (List ℕ)) : Type 0 where
@@ -35,6 +38,28 @@ pub record IsInOrder (groups : Groups) : Type 0 where
   pub within : length (kept_texts groups) ≤ groups.context.before
   pub printing : (groups.left ≡ 0) ⊎ ((kept_texts groups ≡ []) × (groups.used ≡ true) × (groups.gap ≡ false))
   pub unwanted : groups.wanted ≡ false → (groups.context.before ≡ 0) × (groups.context.after ≡ 0) × (groups.left ≡ 0)
+
+-- These lines were passed: none of them is selected, and the reader has the others left. What is printed of as many lines
+-- that are not selected, and of others, is what is printed of the others.
+pub record HasPassed (options : Options) (res : List Re) (text : List ℕ) (left : Option (List ℕ)) (at next : LineStart)
+    (old new : Groups) : Type 0 where
+  pub lines : List (List ℕ)
+  pub rest : List ℕ
+  pub left_is : left ≡ Some rest
+  pub text_is : text ≡ concat lines ++ rest
+  pub records_are : records_of options.end text ≡ lines ++ records_of options.end rest
+  pub number_is : next.number ≡ at.number + length lines
+  pub offset_is : next.offset ≡ at.offset + length (concat lines)
+  pub unselected : All (λ line. is_selected options res line ≡ false) lines
+  pub none_left : 0 < length lines → old.left ≡ 0
+  pub printed_is : (items : List Item) → length lines ≡ length items → All (λ item. item.selected ≡ false) items
+      → (later : List Item) → printed_later old (items ++ later) ≡ printed_later new later
+
+-- the same, if the bytes of the reader are known
+abbrev pub PassesLines : Options → List Re → Option (List ℕ) → Option (List ℕ) → LineStart → LineStart → Groups → Groups
+    → Type 0
+PassesLines options res before left at next old new =
+    IfSome before (λ text. HasPassed options res text left at next old new)
 
 module _ (wanted : Bool) (options : Options) (res : List Re) (name : List ℕ) (context : Context) (used : Bool)
     (limit : ℕ) where

@@ -1,11 +1,13 @@
 -- What is printed of the lines of an input.
-use Rattle.std.specs.Prelude.{ℕ, ◌+◌, ◌-◌, Bool, true, false, not, ◌&&◌, List, [], ◌∷◌, ◌++◌, length, map}
+use Rattle.std.specs.Prelude.{◌≡◌, ℕ, ◌+◌, ◌-◌, Bool, true, false, not, ◌&&◌, List, [], ◌∷◌, ◌++◌, length, map}
 use Rattle.std.specs.Prelude.{decimal, drop, min, if◌then◌else◌, ◌==◌, slice_range}
 use Rattle.std.specs.List.{count_by, flat_map, join_with_byte}
 use Rattle.regex_hir.specs.Re.{Re}
+use Rattle.required_literal.specs.Required.{OccursIn}
 use Rattle.text_lines.specs.Lines.{line_feed, record_content, records_of, with_end}
+use Rattle.text_lines.specs.Passed.{HasBytes}
 use Rattle.nfa_grep.specs.Grouped.{Item, context_of, grouped, left_after}
-use Rattle.nfa_grep.specs.Meant.{all_found, is_found, numbers_found, spans_of}
+use Rattle.nfa_grep.specs.Meant.{ArePatterns, all_found, is_found, numbers_found, spans_of}
 use Rattle.nfa_grep.specs.Painted.{label, painted, painted_text}
 use Rattle.nfa_grep.specs.declared.options.Context.{Context}
 use Rattle.nfa_grep.specs.declared.options.Options.{Options}
@@ -73,6 +75,15 @@ pieces options end name mark number offset line spans =
 abbrev pub is_selected : Options → List Re → List ℕ → Bool
 is_selected options res line =
     if options.inverted then not (is_found res (text_of options line)) else is_found res (text_of options line)
+
+-- the bytes are in each line that is selected
+abbrev pub IsNeeded : Options → List Re → List ℕ → Type 0
+IsNeeded options res bytes =
+    (line : List ℕ) → HasBytes line → is_selected options res line ≡ true → OccursIn line bytes
+
+-- the same of what the texts mean
+abbrev pub AreNeeded : Options → List (List ℕ) → List ℕ → Type 0
+AreNeeded options texts bytes = (res : List Re) → ArePatterns options texts res → IsNeeded options res bytes
 
 -- what is printed of the matches in a line
 abbrev pub shown_matches : Options → ℕ → List Re → List ℕ → ℕ → ℕ → List ℕ → List ℕ

@@ -7,6 +7,7 @@ ghost use Rattle.regex_search_core.specs.Search.{whole};
 ghost use Rattle.nfa_engines.specs.Lists.{AreDisjoint, IsInside};
 ghost use Rattle.nfa_compiler.specs.Compiled.{IsNfaOf, res_of};
 ghost use Rattle.nfa_grep.specs.Meant.{Mean, all_found, is_found, span_of, spans_of};
+ghost use Rattle.nfa_grep.specs.Printed.{IsNeeded};
 ghost use Rattle.nfa_grep.specs.Printed.{has_colours, is_selected, mark_of, painted_line, piece, pieces, shown};
 ghost use Rattle.nfa_grep.specs.Printed.{shown_if_selected, shown_line, shown_matches, shown_whole, text_of};
 ghost use Rattle.nfa_grep.specs.Refusals.{IsOfPatterns, IsTextRefusal, IsTreeRefusal};
@@ -15,6 +16,7 @@ ghost use Rattle.text_lines.specs.Lines.{with_end};
 use crate::fault::Fault;
 use crate::joined::nfa_of;
 use crate::line::{Place, append_head};
+use crate::needed::Needed;
 use crate::options::Options;
 use crate::paint::{Colour, append_matched, append_painted};
 use crate::pattern::read_patterns;
@@ -37,6 +39,7 @@ pub struct Grep<'p> {
     options: Options,
     regex: Regex,
     which: Option<Which>,
+    needed: Needed,
 }
 
 impl<'p> Model for Grep<'p> {
@@ -44,6 +47,7 @@ impl<'p> Model for Grep<'p> {
     ghost use Rattle.nfa_compiler.specs.AnyStart.{FindsFromAnyStart};
     ghost use Rattle.nfa_engines.specs.Paths.{is_utf8_empty};
     ghost use Rattle.nfa_grep.specs.Meant.{Grepping, IsBuilt, IsSearched};
+    ghost use Rattle.nfa_grep.specs.Needed.{KnowsNeeded};
 
     ghost Value = { Grepping };
 
@@ -53,7 +57,8 @@ impl<'p> Model for Grep<'p> {
         × (is_utf8_empty g.regex.nfa ≡ false) × FindsFromAnyStart g.regex.nfa
         × (g.regex.match_kind ≡ None)
         × MatchOption g.which (g.options.which ≡ false)
-        (λ nfa. (g.options.which ≡ true) × IsBuilt g.options (map (λ text. text.now) g.patterns.now) nfa) };
+        (λ nfa. (g.options.which ≡ true) × IsBuilt g.options (map (λ text. text.now) g.patterns.now) nfa)
+        × KnowsNeeded g.options (map (λ text. text.now) g.patterns.now) g.needed };
 }
 
 impl<'p> Grep<'p> {
@@ -68,12 +73,14 @@ impl<'p> Grep<'p> {
         let nfa = nfa_of(alloc, &trees)?;
         let regex = Regex::new_from_nfa(alloc, nfa)?;
         let which = which_of(alloc, options.which, &trees)?;
+        let needed = Needed::new(alloc, options, &trees)?;
         Ok(Grep {
             alloc,
             patterns,
             options,
             regex,
             which,
+            needed,
         })
     }
 
@@ -82,6 +89,14 @@ impl<'p> Grep<'p> {
         ensures { result ≡ self.now.options }
     {
         self.options
+    }
+
+    /// Returns bytes that are in each line that is selected. They are empty if there are no such bytes, or if none are
+    /// known.
+    pub fn needed(&self) -> &[u8]
+        ensures { (res : List Re) → Mean self.now res → IsNeeded self.now.options res result.now }
+    {
+        self.needed.bytes()
     }
 
     /// Returns the line without its end.

@@ -1,6 +1,6 @@
 //! Groups of lines: those that are selected, and those around them.
 ghost use Rattle.std.specs.Prelude.{◌≡◌, ◌+◌, ◌-◌, ◌<◌, ◌^◌, ◌++◌, ◌∷◌, [], IfOk, List, OnOk, false, if◌then◌else◌, length, true};
-ghost use Rattle.std.specs.Prelude.{◌≤◌, ◌&&◌, ◌==◌, not, ℕ};
+ghost use Rattle.std.specs.Prelude.{◌≤◌, ◌&&◌, ◌==◌, All, not, ℕ};
 ghost use Rattle.std.specs.List.{flat_map};
 ghost use Rattle.regex_hir.specs.Re.{Re};
 ghost use Rattle.nfa_grep.specs.Going.{IsInOrder, kept_texts, printed_later};
@@ -65,6 +65,31 @@ impl Groups {
         ensures { result ≡ (not searched && (self.now.left == 0)) }
     {
         !searched && self.left == 0
+    }
+
+    /// Returns whether the next line is not printed, if it is not selected.
+    pub fn prints_only_selected(&self) -> bool
+        ensures { result ≡ ((self.now.context.before == 0) && (self.now.left == 0)) }
+    {
+        self.context.before == 0 && self.left == 0
+    }
+
+    /// Takes this many lines, of which none is selected and none is printed.
+    pub fn pass_all(&mut self, count: usize)
+        requires in_order { IsInOrder self.old }
+        requires none_before { self.old.context.before ≡ 0 }
+        requires none_left { self.old.left ≡ 0 }
+        ensures printed { (lines : List Item) → count ≡ length lines → All (λ line. line.selected ≡ false) lines
+            → (later : List Item) → printed_later self.old (lines ++ later) ≡ printed_later self.new later }
+        ensures in_order { IsInOrder self.new }
+        ensures none_left { self.new.left ≡ 0 }
+        ensures same_context { self.new.context ≡ self.old.context }
+        ensures same_wanted { self.new.wanted ≡ self.old.wanted }
+    {
+        if count == 0 {
+            return;
+        }
+        self.gap = true;
     }
 
     /// Takes the next line, and returns whether it is selected. If it is not searched, it is not. What is printed then

@@ -11,6 +11,7 @@ mod grep;
 mod groups;
 mod joined;
 mod line;
+mod needed;
 mod options;
 mod paint;
 mod pattern;

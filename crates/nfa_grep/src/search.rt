@@ -1,7 +1,7 @@
 //! The search of one input, line by line.
-ghost use Rattle.std.specs.Prelude.{◌≡◌, IfOk, List};
+ghost use Rattle.std.specs.Prelude.{◌≡◌, ◌+◌, ◌<◌, ◌^◌, IfOk, IfSome, List, OnOk};
 ghost use Rattle.regex_hir.specs.Re.{Re};
-ghost use Rattle.nfa_grep.specs.Going.{PrintsLines, PrintsOutput, StopsInTime};
+ghost use Rattle.nfa_grep.specs.Going.{IsInOrder, PassesLines, PrintsLines, PrintsOutput, StopsInTime};
 ghost use Rattle.nfa_grep.specs.Grouped.{context_of};
 ghost use Rattle.nfa_grep.specs.Meant.{Mean};
 ghost use Rattle.nfa_grep.specs.Printed.{limit_of, shows};
@@ -13,7 +13,35 @@ use crate::options::Request;
 use std::alloc::Global;
 use std::io::{BufRead, Write};
 use text_lines::failure::Failure;
+use text_lines::passed::pass_records;
 use text_lines::stream::{read_record, write_bytes};
+
+/// Where a line is: its number, from 1, and the offset of its first byte.
+#[derive(Clone, Copy, Debug)]
+struct LineStart {
+    number: u64,
+    offset: u64,
+}
+
+/// Where the first line is.
+const FIRST: LineStart = LineStart {
+    number: 1,
+    offset: 0,
+};
+
+impl LineStart {
+    /// Returns where the line after this many lines of this many bytes is. There is none if a number is too large.
+    fn after(self, count: usize, len: usize) -> Option<LineStart>
+        ensures number { IfSome result (λ next. next.number ≡ self.number + count) }
+        ensures offset { IfSome result (λ next. next.offset ≡ self.offset + len) }
+        ensures counted { IfSome result (λ next. self.offset + len < 2 ^ 64) }
+    {
+        Some(LineStart {
+            number: self.number.checked_add(count as u64)?,
+            offset: self.offset.checked_add(len as u64)?,
+        })
+    }
+}
 
 /// Prints all that is to be printed of an input, and returns how many of the lines that were searched are selected.
 ///
@@ -50,8 +78,9 @@ pub fn print_matches<R: BufRead, W: Write>(
 /// Prints what is to be printed of the lines of an input, and returns how many of the lines that were searched are
 /// selected.
 ///
-/// The input is read a line at a time, so the memory is bounded by what is printed of one line more than are printed
-/// before a selected one. After an error, what was printed is a beginning of what is printed of the input.
+/// The input is read a line at a time, but for lines that are passed. So the memory is bounded by what is printed of one
+/// line more than are printed before a selected one. After an error, what was printed is a beginning of what is printed
+/// of the input.
 fn search<R: BufRead, W: Write>(
     alloc: Global,
     grep: &mut Grep<'_>,
@@ -70,33 +99,65 @@ fn search<R: BufRead, W: Write>(
     let mut line = Vec::new(alloc);
     let mut groups = Groups::new(alloc, request);
     let mut count = 0;
-    let mut offset = 0u64;
-    for before in 0..u64::MAX {
+    let mut at = FIRST;
+    for _ in 0..u64::MAX {
         let searched = count < limit;
         if groups.is_done(searched) {
             return Ok(count);
         }
-        if !read_record(input, grep.options().end, before + 1, &mut line)? {
+        at = pass_lines(grep, &mut groups, at, input)?;
+        if !read_record(input, grep.options().end, at.number, &mut line)? {
             return Ok(count);
         }
-        let Some(next) = offset.checked_add(line.len() as u64) else {
+        let Some(next) = at.after(1, line.len()) else {
             return Err(Failure::TooLong);
         };
         let place = Place {
             name: request.name.as_bytes(),
-            number: before + 1,
-            offset,
+            number: at.number,
+            offset: at.offset,
             end: b':',
         };
         let Ok(selected) = groups.take_line(grep, searched, place, &line) else {
-            return Err(Failure::Line(before + 1));
+            return Err(Failure::Line(at.number));
         };
         if selected {
             count += 1;
         }
         write_bytes(out, &groups.ahead)?;
         write_bytes(out, &groups.text)?;
-        offset = next;
+        at = next;
     }
     Err(Failure::TooLong)
+}
+
+/// Passes lines that come next, if they are not selected and not printed, and returns where the line after them is.
+fn pass_lines<R: BufRead>(
+    grep: &Grep<'_>,
+    groups: &mut Groups,
+    at: LineStart,
+    input: &mut R,
+) -> Result<LineStart, Failure>
+    requires { IsInOrder groups.old }
+    ensures passed { IfOk result (λ next. (res : List Re) → Mean grep.now res
+        → PassesLines grep.now.options res (R.remaining input.old) (R.remaining input.new) at next groups.old
+        groups.new) }
+    ensures in_order { OnOk result (IsInOrder groups.new) }
+    ensures same_left { OnOk result (groups.new.left ≡ groups.old.left) }
+    ensures same_context { OnOk result (groups.new.context ≡ groups.old.context) }
+    ensures same_wanted { OnOk result (groups.new.wanted ≡ groups.old.wanted) }
+{
+    let needed = grep.needed();
+    if needed.is_empty() {
+        return Ok(at);
+    }
+    if !groups.prints_only_selected() {
+        return Ok(at);
+    }
+    let passed = pass_records(input, grep.options().end, needed, at.number)?;
+    groups.pass_all(passed.count);
+    let Some(next) = at.after(passed.count, passed.len) else {
+        return Err(Failure::TooLong);
+    };
+    Ok(next)
 }

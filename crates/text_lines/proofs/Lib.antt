@@ -1,2 +1,5 @@
 pub mod LineLemmas
+pub mod OccurrenceLemmas
 pub mod PartLemmas
+pub mod PassedLemmas
+pub mod RecordLemmas

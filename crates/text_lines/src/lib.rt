@@ -3,4 +3,5 @@
 
 pub mod failure;
 pub mod line;
+pub mod passed;
 pub mod stream;

@@ -1,12 +1,39 @@
 -- What is printed of a line with `only` are its matches.
-use Rattle.std.proofs.Common.{◌≡◌, ◌∙◌, ◌++◌, ap, false, subst, sym, true}
+use Rattle.std.proofs.Common.{◌≡◌, ◌∙◌, ℕ, ◌++◌, Bool, List, [], ap, append-nil, false, inl, inr, refl, subst, sym, true}
+use Rattle.std.specs.Prelude.{◌⊎◌, if◌then◌else◌, not}
 use Rattle.std.proofs.lemmas.Bool.{not-true}
 use Rattle.std.proofs.lemmas.Result.{on_ok_weaker}
+use Rattle.regex_hir.specs.Re.{Re}
 use Rattle.nfa_grep.specs.Meant.{Grepping, Mean}
-use Rattle.nfa_grep.specs.Printed.{is_selected}
+use Rattle.nfa_grep.specs.Printed.{is_selected, shown, shown_if_selected}
 use Rattle.nfa_grep.specs.declared.options.Options.{Options}
 use Rattle.nfa_grep.proofs.PrintedLemmas.{shown-matches, shown-whole}
 use Rattle.nfa_grep.proofs.grep.Grep.append_line.Goals as goal
+use Rattle.nfa_grep.proofs.grep.Grep.append_line.Goals.{else-options-via-else-options, else-selected-via-else-selected}
+use Rattle.nfa_grep.proofs.grep.Grep.append_line.Goals.{else-options-via-then-options+else-not-options}
+use Rattle.nfa_grep.proofs.grep.Grep.append_line.Goals.{else-selected-via-then-selected+else-not-options-2}
+
+abbrev nothing : List ℕ
+nothing = []
+
+-- nothing is printed of a line that is not selected, or if the matches of lines without a match are printed
+unshown : (options : Options) (res : List Re) (name : List ℕ) (number offset : ℕ) (line : List ℕ)
+    → (is_selected options res line ≡ false) ⊎ ((options.only ≡ true) × (options.inverted ≡ true))
+    → shown_if_selected options res name number offset line ≡ []
+unshown options res name number offset line (inl none) =
+    ap (λ (b : Bool). if b then shown options res name number offset true line else []) none
+unshown options res name number offset line (inr both) =
+    let none : shown options res name number offset true line ≡ [] = rw (both.0, both.1) refl in
+    ap (λ (l : List ℕ). if is_selected options res line then l else []) none ∙ of (is_selected options res line)
+  where
+    of : (b : Bool) → (if b then nothing else nothing) ≡ nothing
+    of true = refl
+    of false = refl
+
+-- a test that fails
+failed : (b : Bool) → not b ≡ false → b ≡ true
+failed true e = refl
+failed false e = absurd (cc)
 
 pub returns-then-not-options-clause-shown : goal.returns-then-not-options-clause-shown
 returns-then-not-options-clause-shown c =
@@ -35,3 +62,29 @@ returns-in_ok-append_whole-clause-shown c = λ res meant.
     rw kept at (c.in_ok-append_whole.ensures.shown res meant-here)
     ∙ ap (λ l. c.args.out.now.items ++ l)
     (sym (shown-whole options res place.name.now place.number place.offset line only selected))
+
+pub returns-else-selected-clause-shown : goal.returns-else-selected-clause-shown
+returns-else-selected-clause-shown c = λ res meant.
+    let options = c.args.self.now.options in
+    let place = c.args.place in
+    let line = c.args.line.now in
+    let out = c.args.out.now.items in
+    let same : c.self.inside.options ≡ options = ap (λ (g : Grepping). g.options) c.self.view_is in
+    let only-is = ap (λ (o : Options). o.only) same in
+    let inverted-is = ap (λ (o : Options). o.inverted) same in
+    let cases : (is_selected options res line ≡ false) ⊎ ((options.only ≡ true) × (options.inverted ≡ true)) =
+    elim c.else-selected.branch [
+      | else-selected-via-else-selected w ↦
+          inl (sym (c.selects-selected.ensures.selected res meant) ∙ w.if-selected.false)
+      | else-selected-via-then-selected+else-not-options-2 w ↦
+          elim c.else-options.branch [
+            | else-options-via-then-options+else-not-options v ↦
+                inr (sym only-is ∙ v.if-options.true, sym inverted-is ∙ failed _ v.if-not-options.false)
+            | else-options-via-else-options v ↦
+                let only : c.self.inside.options.only ≡ true = failed _ w.if-not-options-2.false in
+                let both : false ≡ true = sym v.if-options.false ∙ only in
+                absurd (cc)
+          ]
+    ] in
+    sym (ap (λ (l : List ℕ). out ++ l) (unshown options res place.name.now place.number place.offset line cases)
+    ∙ append-nil out)

@@ -1,9 +1,24 @@
 -- The line is selected exactly if there are matches.
-use Rattle.std.proofs.Common.{rules, ◌≡◌, false, length, true}
-use Rattle.std.specs.Prelude.{nat_lt}
-use Rattle.nfa_grep.specs.Printed.{text_of}
+use Rattle.std.proofs.Common.{rules, ◌≡◌, ◌∙◌, ℕ, ◌<◌, ◌++◌, List, ap, arith, eq-eqb, false, inl, inr, length, map, subst}
+use Rattle.std.proofs.Common.{sym, true, vec_len}
+use Rattle.std.specs.Prelude.{nat_lt, ◌==◌}
+use Rattle.std.proofs.lemmas.Bool.{cases_lt, lt-ltb}
+use Rattle.regex_search_core.specs.Found.{found_of}
+use Rattle.regex_search_core.specs.declared.search.Match.{Match}
+use Rattle.nfa_grep.specs.Meant.{Grepping, Mean, all_found, spans_of}
+use Rattle.nfa_grep.specs.Printed.{mark_of, pieces, text_of}
+use Rattle.nfa_grep.specs.declared.options.Options.{Options}
 use Rattle.nfa_grep.proofs.MeantLemmas.{found-if-any}
 use Rattle.nfa_grep.proofs.grep.Grep.append_matches.Goals as goal
+
+positive : (n : ℕ) → (n == 0) ≡ false → 0 < n
+positive n other = elim (cases_lt 0 n) [
+  | inl some ↦ some
+  | inr none ↦
+      let zero-is : n ≡ 0 = omega (arith, none) in
+      let both : false ≡ true = sym other ∙ eq-eqb n 0 zero-is in
+      absurd (cc)
+]
 
 pub returns-then-is_empty-clause-found : goal.returns-then-is_empty-clause-found
 returns-then-is_empty-clause-found c = λ res meant.
@@ -15,6 +30,32 @@ returns-then-is_empty-clause-found c = λ res meant.
 pub returns-clause-found : goal.returns-clause-found
 returns-clause-found c = λ res meant.
     let ms = c.in_ok-matches.matches.items in
-    let some : true ≡ nat_lt 0 (length ms) = search rules in
+    let found = c.in_ok-matches.matches in
+    let more : 0 < vec_len found = positive (vec_len found) (sym c.if-is_empty.ensures) in
+    let some : true ≡ nat_lt 0 (length ms) = sym (lt-ltb 0 (length ms) (omega (arith, more, found.ok.0))) in
     let all = rw c.text_of.ensures at (c.in_ok-matches.ensures.all res meant) in
     found-if-any res (text_of c.args.self.now.options c.args.line.now) ms true all some
+
+pub returns-clause-shown : goal.returns-clause-shown
+returns-clause-shown c = λ res meant.
+    let options = c.args.self.now.options in
+    let place = c.args.place in
+    let line = c.args.line.now in
+    let before = c.args.out.now.items in
+    let spans = spans_of (map found_of c.deref-2.result.now) in
+    let kept = c.matches.ensures.kept in
+    let same : c.self.inside.options ≡ options =
+    ap (λ (g : Grepping). g.options) (c.self.view_is ∙ c.mark.ensures.kept ∙ kept) in
+    let meant-here = subst (λ (g : Grepping). Mean g res) (sym kept) meant in
+    let mark-is : c.deref.result.now ≡ mark_of options res line =
+    c.deref.ensures.value ∙ c.in_ok-mark.ensures.mark res meant-here
+    ∙ ap (λ (g : Grepping). mark_of g.options res line) kept in
+    let spans-are : spans ≡ spans_of (all_found res (text_of options line)) =
+    ap (λ (ms : List Match). spans_of (map found_of ms)) c.deref-2.ensures.value
+    ∙ (rw c.text_of.ensures at (c.in_ok-matches.ensures.all res meant)) in
+    c.in_ok-append_pieces.ensures
+    ∙ ap (λ (l : List ℕ). before ++ l)
+    (ap (λ (o : Options). pieces o place.end place.name.now c.deref.result.now place.number place.offset line spans) same
+    ∙ ap (λ (m : List ℕ). pieces options place.end place.name.now m place.number place.offset line spans) mark-is
+    ∙ ap (λ (ss : List (ℕ × ℕ)). pieces options place.end place.name.now (mark_of options res line) place.number
+    place.offset line ss) spans-are)

@@ -1,7 +1,7 @@
 -- Both NFAs are made of the trees that were read from the texts.
-use Rattle.std.proofs.Common.{inr, map, rules}
+use Rattle.std.proofs.Common.{inl, inr, map, rules}
 use Rattle.std.proofs.lemmas.Result.{err_from_is_err_and}
-use Rattle.nfa_grep.proofs.PatternLemmas.{searched, which-built}
+use Rattle.nfa_grep.proofs.PatternLemmas.{searched, trees-alike, which-built}
 use Rattle.nfa_grep.proofs.RefusalLemmas.{trees-refusal}
 use Rattle.nfa_grep.proofs.grep.Grep.new.Goals as goal
 
@@ -18,6 +18,10 @@ invariant_of-result c =
       search rules,
       which-built c.args.options texts trees read c.args.options.which c.in_ok-which.which
           (rw c.deref-2.ensures.value at c.in_ok-which.ensures.made),
+      record {
+        needed = λ res are. (rw c.deref-3.ensures.value at c.in_ok-needed.ensures) res
+            (trees-alike c.args.options texts trees res read are);
+      },
     )
 
 pub returns-in_err-nfa-clause-refused : goal.returns-in_err-nfa-clause-refused
@@ -37,3 +41,8 @@ returns-in_err-which-clause-refused c =
     let p = err_from_is_err_and c.from_residual-in_err-which.result c.from_residual-in_err-which.ensures.1 in
     rw (p.1, p.2)
     (inr (trees-refusal c.args.options texts trees _ c.in_ok-trees.ensures.read refused))
+
+pub returns-in_err-needed-clause-refused : goal.returns-in_err-needed-clause-refused
+returns-in_err-needed-clause-refused c =
+    let p = err_from_is_err_and c.from_residual-in_err-needed.result c.from_residual-in_err-needed.ensures.1 in
+    rw (p.1, p.2) (inl tt)

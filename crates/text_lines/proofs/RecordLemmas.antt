@@ -35,9 +35,9 @@ module _ (end : ℕ) where
       let less : length rest ≤ n = omega (arith, shorter x xs) in
       ap (λ l. take_through end (x ∷ xs) ++ l) (joined n rest less) ∙ both-parts (x ∷ xs)
 
-  all : (text : List ℕ) → concat (records_of end text) ≡ text
-  all text = joined (length text) text (omega arith)
+  pub all-records : (text : List ℕ) → concat (records_of end text) ≡ text
+  all-records text = joined (length text) text (omega arith)
 
   -- the text is its first record, and what is left
   pub text-of-first : (text rest line : List ℕ) → records_of end text ≡ line ∷ records_of end rest → text ≡ line ++ rest
-  text-of-first text rest line e = sym (all text) ∙ ap concat e ∙ ap (λ l. line ++ l) (all rest)
+  text-of-first text rest line e = sym (all-records text) ∙ ap concat e ∙ ap (λ l. line ++ l) (all-records rest)

@@ -1,0 +1,2 @@
+pub mod HitLemmas
+pub mod PartLemmas

@@ -1,0 +1,10 @@
+-- The bytes are in each match of the patterns so far.
+use Rattle.std.proofs.Common.{All, take}
+use Rattle.regex_hir.specs.Meaning.{meaning}
+use Rattle.regex_syntax.specs.declared.Parsed.{Parsed}
+use Rattle.required_literal.specs.Required.{IsRequired}
+use Rattle.required_literal.proofs.literal.required_literal.Given as goal
+
+abbrev pub invariant-loop-pattern : goal.invariant-loop-pattern
+invariant-loop-pattern l =
+    All (λ (p : Parsed). IsRequired l.bytes (meaning p.hir)) (take l.pattern-index l.patterns)

@@ -1,0 +1,12 @@
+-- The part is in the bytes, and in the needles so far.
+use Rattle.std.proofs.Common.{All, ℕ, take}
+use Rattle.std.specs.Prelude.{Vec}
+use Rattle.std.specs.declared.alloc.Global.{Global}
+use Rattle.required_literal.specs.Required.{OccursIn}
+use Rattle.required_literal.proofs.shared.shared_by_all.Given as goal
+
+abbrev pub invariant-loop-needle : goal.invariant-loop-needle
+invariant-loop-needle l = record {
+  inside : OccursIn l.bytes l.part;
+  each : All (λ (needle : Vec ℕ Global). OccursIn needle.items l.part) (take l.needle-index l.needles);
+}
