@@ -327,7 +327,8 @@ module _ (wanted : Bool) (options : Options) (res : List Re) (name : List ℕ) (
       new
   going-pass None input after out-before out at next count old new more left-is passes going = tt
   going-pass (Some whole) input after out-before out at next count old new more left-is passes going =
-      let passed = subst (λ (o : Option (List ℕ)). PassesLines options res o after at next old new) going.rest_is passes in
+      let passed = subst (λ (o : Option (List ℕ)). PassesLines options res o after at next old new) going.rest_is
+      passes in
       let n = limit - count in
       let lines = records_of options.end passed.rest in
       let more-here : ((n == 0) && (old.left == 0)) ≡ false = rw (none-left count limit) more in

@@ -51,18 +51,19 @@ module _ (options : Options) (res : List Re) where
       → (later : List Item) → printed_later old (items ++ later) ≡ printed_later new later)
       → PassesLines options res before left at next old new
   passes-lines None left bytes passed at next old new needed passes number-is offset-is none-left prints = tt
-  passes-lines (Some text) left bytes passed at next old new needed passes number-is offset-is none-left prints = record {
-    lines = passes.lines;
-    rest = passes.rest;
-    left_is = passes.left_is;
-    text_is = passes.text_is;
-    records_are = passes.records_are;
-    number_is = number-is ∙ ap (λ (n : ℕ). at.number + n) passes.count_is;
-    offset_is = offset-is ∙ ap (λ (n : ℕ). at.offset + n) passes.len_is;
-    unselected = λ k d less. lacking bytes _ needed (passes.bytes_are k d less) (passes.without k d less);
-    none_left = λ some. none-left;
-    printed_is = λ items same. prints items (passes.count_is ∙ same);
-  }
+  passes-lines (Some text) left bytes passed at next old new needed passes number-is offset-is none-left
+      prints = record {
+        lines = passes.lines;
+        rest = passes.rest;
+        left_is = passes.left_is;
+        text_is = passes.text_is;
+        records_are = passes.records_are;
+        number_is = number-is ∙ ap (λ (n : ℕ). at.number + n) passes.count_is;
+        offset_is = offset-is ∙ ap (λ (n : ℕ). at.offset + n) passes.len_is;
+        unselected = λ k d less. lacking bytes _ needed (passes.bytes_are k d less) (passes.without k d less);
+        none_left = λ some. none-left;
+        printed_is = λ items same. prints items (passes.count_is ∙ same);
+      }
 
   -- no line was passed
   pub passes-nothing : (input : Option (List ℕ)) (at : LineStart) (groups : Groups)

@@ -39,8 +39,8 @@ pub record IsInOrder (groups : Groups) : Type 0 where
   pub printing : (groups.left ≡ 0) ⊎ ((kept_texts groups ≡ []) × (groups.used ≡ true) × (groups.gap ≡ false))
   pub unwanted : groups.wanted ≡ false → (groups.context.before ≡ 0) × (groups.context.after ≡ 0) × (groups.left ≡ 0)
 
--- These lines were passed: none of them is selected, and the reader has the others left. What is printed of as many lines
--- that are not selected, and of others, is what is printed of the others.
+-- These lines were passed: none of them is selected, and the reader has the others left. What is printed of as many
+-- lines that are not selected, and of others, is what is printed of the others.
 pub record HasPassed (options : Options) (res : List Re) (text : List ℕ) (left : Option (List ℕ)) (at next : LineStart)
     (old new : Groups) : Type 0 where
   pub lines : List (List ℕ)

@@ -78,9 +78,9 @@ pub fn print_matches<R: BufRead, W: Write>(
 /// Prints what is to be printed of the lines of an input, and returns how many of the lines that were searched are
 /// selected.
 ///
-/// The input is read a line at a time, but for lines that are passed. So the memory is bounded by what is printed of one
-/// line more than are printed before a selected one. After an error, what was printed is a beginning of what is printed
-/// of the input.
+/// The input is read a line at a time, but for lines that are passed. So the memory is bounded by what is printed of
+/// one line more than are printed before a selected one. After an error, what was printed is a beginning of what is
+/// printed of the input.
 fn search<R: BufRead, W: Write>(
     alloc: Global,
     grep: &mut Grep<'_>,

@@ -14,8 +14,8 @@ const MAX_LENGTH: usize = 32;
 
 /// Returns bytes that each match of these patterns has, wherever it is in a text.
 ///
-/// They are empty if there are no such bytes, or if none are found. They have at most 32 bytes. The only error is that an
-/// allocation failed.
+/// They are empty if there are no such bytes, or if none are found. They have at most 32 bytes. The only error is that
+/// an allocation failed.
 ///
 /// ```
 /// // "(?:foo|bar)=[a-z]+"

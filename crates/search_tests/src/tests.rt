@@ -1,6 +1,6 @@
-//! Tests of each engine by itself, and of captures by both. What is asserted in many places is asserted by one function,
-//! and what is owned in many places is made by one: a check takes some seconds for each assertion and each way out in
-//! place, and less for a call.
+//! Tests of each engine by itself, and of captures by both. What is asserted in many places is asserted by one
+//! function, and what is owned in many places is made by one: a check takes some seconds for each assertion and each
+//! way out in place, and less for a call.
 
 ghost use Rattle.nfa_pikevm.specs.Engines.{Fits};
 

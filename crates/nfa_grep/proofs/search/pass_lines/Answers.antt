@@ -21,7 +21,8 @@ returns-clause-passed g c = λ res meant.
     let passed = c.in_ok-passed.passed in
     let bytes = c.needed-needed.result.now in
     let passes : PassesRecords options.end bytes before left passed =
-    subst (λ (o : Options). PassesRecords o.end bytes before left passed) c.options.ensures c.in_ok-passed.ensures.passed in
+    subst (λ (o : Options). PassesRecords o.end bytes before left passed) c.options.ensures
+    c.in_ok-passed.ensures.passed in
     passes-lines options res before left bytes passed c.args.at c.in-Some.next c.args.groups.now c.pass_all.new.self
     (c.needed-needed.ensures res meant) passes c.in-Some.ensures.number c.in-Some.ensures.offset (search rules)
     c.pass_all.ensures.printed

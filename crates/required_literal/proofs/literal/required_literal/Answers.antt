@@ -17,7 +17,8 @@ loop-pattern-preserved c =
     let new = c.in_ok-bytes.bytes.now in
     let patterns = c.args.patterns.now in
     let i = c.loop-pattern.pattern-index in
-    let before = All-weaker (λ (p : Parsed). IsRequired old (meaning p.hir)) (λ (p : Parsed). IsRequired new (meaning p.hir))
+    let before = All-weaker (λ (p : Parsed). IsRequired old (meaning p.hir))
+    (λ (p : Parsed). IsRequired new (meaning p.hir))
     (λ p required. required-part (meaning p.hir) old new c.in_ok-bytes.ensures.inside required) (take i patterns)
     c.loop-pattern.invariant in
     All-more (λ (p : Parsed). IsRequired new (meaning p.hir)) patterns i c.pattern-item.result c.loop-pattern-test.true

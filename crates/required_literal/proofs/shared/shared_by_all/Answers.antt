@@ -22,7 +22,8 @@ loop-needle-preserved c =
     let here = subst (λ (l : List ℕ). OccursIn l new) c.deref.ensures.value c.shared-part.ensures.needle in
     record {
       inside = occurs-trans c.args.bytes.now old new inv.inside c.shared-part.ensures.inside;
-      each = All-more (λ (n : Vec ℕ Global). OccursIn n.items new) needles i c.needle-item.result c.loop-needle-test.true
+      each = All-more (λ (n : Vec ℕ Global). OccursIn n.items new) needles i c.needle-item.result
+          c.loop-needle-test.true
           before (subst (λ (n : Vec ℕ Global). OccursIn n.items new) c.needle-item.is here);
     }
 

@@ -55,7 +55,8 @@ returns-clause-shown c = λ res meant.
     ∙ (rw c.text_of.ensures at (c.in_ok-matches.ensures.all res meant)) in
     c.in_ok-append_pieces.ensures
     ∙ ap (λ (l : List ℕ). before ++ l)
-    (ap (λ (o : Options). pieces o place.end place.name.now c.deref.result.now place.number place.offset line spans) same
+    (ap (λ (o : Options). pieces o place.end place.name.now c.deref.result.now place.number place.offset line spans)
+    same
     ∙ ap (λ (m : List ℕ). pieces options place.end place.name.now m place.number place.offset line spans) mark-is
     ∙ ap (λ (ss : List (ℕ × ℕ)). pieces options place.end place.name.now (mark_of options res line) place.number
     place.offset line ss) spans-are)
