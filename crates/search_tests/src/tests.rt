@@ -23,7 +23,7 @@ fn engine_named(rt: &impl Abort, alloc: Global, name: &str) -> BoundedBacktracke
     made::backtracker(alloc, name).expect(rt, name)
 }
 
-// One whose marks take so many bytes.
+// A backtracker with this visited capacity, in bytes.
 fn with_capacity(rt: &impl Abort, alloc: Global, name: &str, bytes: usize) -> BoundedBacktracker {
     made::with_capacity(alloc, name, bytes).expect(rt, name)
 }
@@ -33,7 +33,7 @@ fn vm_named(rt: &impl Abort, alloc: Global, name: &str) -> PikeVM {
     made::pikevm(alloc, name).expect(rt, name)
 }
 
-// One that searches by this kind.
+// A PikeVM with this match kind.
 fn of_kind(rt: &impl Abort, alloc: Global, name: &str, kind: MatchKind) -> PikeVM {
     made::of_kind(alloc, name, kind).expect(rt, name)
 }
@@ -45,7 +45,7 @@ fn threads(rt: &impl Abort, alloc: Global, vm: &PikeVM) -> pike::Cache
     vm.create_cache(alloc).expect(rt, "a cache")
 }
 
-// It is as it has to be with what has that name.
+// This holds for the sample of that name.
 fn expect(rt: &impl Abort, holds: bool, name: &str) {
     assert!(rt; holds, "{name}");
 }

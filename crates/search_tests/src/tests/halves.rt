@@ -1,4 +1,4 @@
-//! Half matches, by a searcher that asks an engine: step by step, and by an iterator that stores the finder.
+//! Half matches: a searcher calls an engine, step by step; and an iterator stores the finder.
 
 ghost use Rattle.regex_search_core.specs.Search.{search_of};
 ghost use Rattle.nfa_search_base.specs.Finders.{half_match_span};

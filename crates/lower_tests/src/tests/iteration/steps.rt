@@ -340,7 +340,7 @@ fn infallible_iterators(rt: HostRuntime) {
     expect_eq(&rt, infallible_half_matches(), (2, 0, 3));
 }
 
-// How many matches are collected of what that finder tells, and how many half matches.
+// The numbers of matches and of half matches that are collected with these finders.
 fn collected_len(alloc: Global) -> Result<usize, AllocError> {
     let searcher = Searcher::new(Input::new(b"ab"));
     let found = collected_by(alloc, searcher, at_start)?;

@@ -34,7 +34,7 @@ fn collected(
     engine.try_find_iter(cache, Input::new(text)).collect(alloc)
 }
 
-// How many bytes the text has in its matches: a loop that slices the text at each of them.
+// The number of bytes in all matches, by a loop that slices the text at each match.
 fn matched_len(
     engine: &BoundedBacktracker,
     cache: &mut Cache,
@@ -145,7 +145,7 @@ fn is_refusal<T>(answer: &Result<T, SearchError>) -> bool {
     matches!(answer, Err(SearchError::HaystackTooLong { len: 3 }))
 }
 
-// The refusal comes, and then nothing.
+// The first item is the refusal, and there is no other.
 fn is_refused_once(engine: &BoundedBacktracker, cache: &mut Cache) -> bool {
     let mut matches = engine.try_find_iter(cache, Input::new(b"abc"));
     let first = match matches.next() {

@@ -1,5 +1,5 @@
-//! Callers that list captures, and are told what they have: the list of them, and by the laws that it is the one that
-//! others have. Where memory is refused, they end the test.
+//! Callers that list captures. Their contracts say what the list is, and, by the laws, that it is the same for other
+//! callers. If allocation fails, they end the test.
 ghost use Rattle.std.specs.Prelude.{◌≡◌, false, length, map, IfOk};
 ghost use Rattle.regex_search_core.specs.Found.{found_of};
 ghost use Rattle.regex_search_core.specs.Search.{whole};

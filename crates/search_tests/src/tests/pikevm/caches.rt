@@ -125,7 +125,7 @@ fn fits_groups(rt: &impl Abort, alloc: Global, made_for: usize, used_with: usize
     cache.fits(&with_groups(rt, alloc, used_with))
 }
 
-// How many groups a cache is made for and used with, and whether it fits.
+// The number of groups that a cache is made for, the number that it is used with, and whether it fits.
 const FITS_GROUPS: &[(usize, usize, bool)] = &[
     (0, 0, true),
     (1, 0, true),

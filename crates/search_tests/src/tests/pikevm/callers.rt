@@ -1,4 +1,4 @@
-//! Callers that promise something of the PikeVM's lists, without a proof file, and what they answer.
+//! Callers whose contracts say what the lists of a PikeVM are, without a proof file, and what they return.
 
 ghost use Rattle.std.specs.Prelude.{false, ◌≡◌, List, All, IfOk, IfSome, length, map, [], ◌∷◌};
 ghost use Rattle.regex_search_core.specs.Found.{Found, found_of};
