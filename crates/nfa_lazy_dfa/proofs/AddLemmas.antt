@@ -1,5 +1,5 @@
 -- Patterns that are added to a set, one after the other.
-use Rattle.std.proofs.Common.{◌≡◌, ℕ, ◌<◌, ◌⊎◌, inl, inr, Bool, true, false, List, [], ◌∷◌, ◌++◌, length, refl, sym, ◌∙◌}
+use Rattle.std.proofs.Common.{◌≡◌, ℕ, ◌<◌, ◌⊎◌, ◌↔◌, inl, inr, Bool, true, false, List, [], ◌∷◌, ◌++◌, length, refl, sym, ◌∙◌}
 use Rattle.std.specs.Prelude.{Option, None, Some, if◌then◌else◌, is_some, nat_lt}
 use Rattle.std.proofs.lemmas.Bool.{cases_lt, le-ltb, lt-ltb}
 use Rattle.regex_search_core.specs.PatternSets.{with_pattern}
@@ -30,32 +30,31 @@ not-below k n r v is none less =
 
 module _ (hits : List ℕ) (old mid : List Bool) (met : Bool) (k : ℕ) (e : AddsEach hits old met mid) where
   gained : (j : ℕ) → HoldsPattern (with_pattern mid k) j
-      → HoldsPattern old j ⊎ ((j < length old) × In j (hits ++ k ∷ []))
-  gained j h =
-      elim ((holds-with mid k j).0 h) [
-        | inl m ↦ elim ((e.gained j).0 m) [
-          | inl o ↦ inl o
-          | inr w ↦ inr (w.0, In-append_left j hits (k ∷ []) w.1)
-        ]
-        | inr w ↦ inr (rw (← e.capacity) w.0, In-append_right j hits (k ∷ []) (inl (sym w.1)))
+      ↔ (HoldsPattern old j ⊎ ((j < length old) × In j (hits ++ k ∷ [])))
+  gained j = (
+    λ h. elim ((holds-with mid k j).0 h) [
+      | inl m ↦ elim ((e.gained j).0 m) [
+        | inl o ↦ inl o
+        | inr w ↦ inr (w.0, In-append_left j hits (k ∷ []) w.1)
       ]
+      | inr w ↦ inr (rw (← e.capacity) w.0, In-append_right j hits (k ∷ []) (inl (sym w.1)))
+    ],
+    λ s. elim s [
+      | inl o ↦ (holds-with mid k j).1 (inl ((e.gained j).1 (inl o)))
+      | inr w ↦ elim (In-append j hits (k ∷ []) w.1) [
+        | inl i ↦ (holds-with mid k j).1 (inl ((e.gained j).1 (inr (w.0, i))))
+        | inr i ↦ elim i [
+          | inl same ↦ (holds-with mid k j).1 (inr (rw e.capacity w.0, sym same))
+          | inr never ↦ absurd never
+        ]
+      ]
+    ],
+  )
 
   pub AddsEach-in : k < length mid → AddsEach (hits ++ k ∷ []) old true (with_pattern mid k)
   AddsEach-in less = record {
     capacity = length-with mid k ∙ e.capacity;
-    gained = λ j. (
-      gained j,
-      λ s. elim s [
-        | inl o ↦ (holds-with mid k j).1 (inl ((e.gained j).1 (inl o)))
-        | inr w ↦ elim (In-append j hits (k ∷ []) w.1) [
-          | inl i ↦ (holds-with mid k j).1 (inl ((e.gained j).1 (inr (w.0, i))))
-          | inr i ↦ elim i [
-            | inl same ↦ (holds-with mid k j).1 (inr (rw e.capacity w.0, sym same))
-            | inr never ↦ absurd never
-          ]
-        ]
-      ],
-    );
+    gained = gained;
     some = λ is. (k, rw (← e.capacity) less, In-append_right k hits (k ∷ []) (inl refl));
     none = λ never. absurd (cc never);
   }
@@ -63,19 +62,7 @@ module _ (hits : List ℕ) (old mid : List Bool) (met : Bool) (k : ℕ) (e : Add
   pub AddsEach-out : (k < length mid → ⊥) → AddsEach (hits ++ k ∷ []) old met (with_pattern mid k)
   AddsEach-out out = record {
     capacity = length-with mid k ∙ e.capacity;
-    gained = λ j. (
-      gained j,
-      λ s. elim s [
-        | inl o ↦ (holds-with mid k j).1 (inl ((e.gained j).1 (inl o)))
-        | inr w ↦ elim (In-append j hits (k ∷ []) w.1) [
-          | inl i ↦ (holds-with mid k j).1 (inl ((e.gained j).1 (inr (w.0, i))))
-          | inr i ↦ elim i [
-            | inl same ↦ (holds-with mid k j).1 (inr (rw e.capacity w.0, sym same))
-            | inr never ↦ absurd never
-          ]
-        ]
-      ],
-    );
+    gained = gained;
     some = λ is. let s = e.some is in (s.0, s.1, In-append_left s.0 hits (k ∷ []) s.2);
     none = λ is j less i.
         elim (In-append j hits (k ∷ []) i) [

@@ -1,7 +1,8 @@
 -- What a cache's rows are, by their numbers.
-use Rattle.std.proofs.Common.{◌≡◌, ℕ, ◌+◌, ◌*◌, ◌<◌, ◌≤◌, ◌≢◌, inl, inr, All, length, map, get_or, ap, sym, ◌∙◌, subst, arith}
+use Rattle.std.proofs.Common.{◌≡◌, ℕ, ◌+◌, ◌*◌, ◌/◌, ◌%◌, ◌<◌, ◌≤◌, ◌≢◌, inl, inr, All, length, map, get_or, ap, sym, ◌∙◌, subst, arith}
 use Rattle.std.specs.Prelude.{vec_len}
 use Rattle.std.specs.List.{sum_by}
+use Rattle.std.proofs.lemmas.Grind.{get_or_default_zero}
 use Rattle.std.proofs.lemmas.List.{length-map}
 use Rattle.std.proofs.lemmas.List.Sums.{get_or-le-sum_by}
 use Rattle.std.proofs.lemmas.Option.{get_or_from_slice_get, slice_get_cases, slice_get_within}
@@ -75,6 +76,32 @@ module _ (c : Cache) where
     leads-at row byte cell s was small is known =
         subst (Leads dfa.nfa dfa.kind (stances_of c.stands.items) s byte) (sym is)
         (rows.rows.cells_are row byte s was small (λ e. known (is ∙ e)))
+
+    -- the cell that is read at a place is that of the byte
+    pub cell-read : (row byte cell place : ℕ) → row < vec_len c.stands → byte < 256 → place ≡ row * 256 + byte
+        → cell ≡ get_or c.cells.items place cell → cell ≡ get_or c.cells.items (row * 256 + byte) 0
+    cell-read row byte cell place less small same read =
+        let within : row * 256 + byte < vec_len c.cells = cells-within row byte less small in
+        let inside : place < length c.cells.items = omega (arith, c.cells.ok.0) in
+        read ∙ get_or_default_zero c.cells.items place cell inside ∙ ap (λ (k : ℕ). get_or c.cells.items k 0) same
+
+    -- the same for a cell of the row that begins at `first`; it is in the table
+
+    pub cell-within : (first byte : ℕ) (s : Stance) → IsRowOf c (first / 256) s → first % 256 ≡ 0 → byte < 256
+        → first + byte < vec_len c.cells
+    cell-within first byte s is whole small =
+        let within : first / 256 * 256 + byte < vec_len c.cells =
+        cells-within (first / 256) byte (row-inside (first / 256) s is) small in
+        omega arith
+
+    pub leads-read : (first byte cell : ℕ) (s : Stance) → IsRowOf c (first / 256) s → first % 256 ≡ 0 → byte < 256
+        → cell ≡ get_or c.cells.items (first + byte) cell → cell ≢ 0xFFFF_FFFF
+        → Leads dfa.nfa dfa.kind (stances_of c.stands.items) s byte cell
+    leads-read first byte cell s is whole small read known =
+        let row = first / 256 in
+        let place : first + byte ≡ row * 256 + byte = omega arith in
+        leads-at row byte cell s is small
+        (cell-read row byte cell (first + byte) (row-inside row s is) small place read) known
 
     pub known-leads : (row byte cell : ℕ) → row < vec_len c.stands → byte < 256
         → cell ≡ get_or c.cells.items (row * 256 + byte) 0 → cell ≢ 0xFFFF_FFFF

@@ -185,23 +185,27 @@ module _ (nfa : Automaton) (x : Search) where
       none = λ e k h. elim ((g.gained k).0 h) [ inl o ↦ o | inr w ↦ absurd (g.none e k w.0 w.1) ];
     }
 
-  -- at the end of the span
-  pub Gaining-end : (earliest : Bool) (old : List Bool) (at : ℕ) (new : List Bool) → x.end < at
-      → Gaining earliest old at new → IsOverlapResult nfa x All earliest old new
-  Gaining-end false old at new past g = record {
+  -- a set that gained all patterns that are reached
+  Gaining-all : (old : List Bool) (at : ℕ) (new : List Bool) → Gaining false old at new
+      → ((k : ℕ) → k < length old → IsPatternOf nfa x (IsPermitted nfa x) k → HoldsPattern new k)
+      → IsOverlapResult nfa x All false old new
+  Gaining-all old at new g all = record {
     capacity = g.capacity;
     keeps = λ k h. (g.gained k).1 (inl h);
     sound = λ k h. elim ((g.gained k).0 h) [ inl o ↦ inl o | inr w ↦ inr (w.0, reached-sound nfa x at k w.1) ];
     gains = record {
       gained = λ k. (
         λ h. elim ((g.gained k).0 h) [ inl o ↦ inl o | inr w ↦ inr (w.0, reached-sound nfa x at k w.1) ],
-        λ s. elim s [
-          | inl o ↦ (g.gained k).1 (inl o)
-          | inr w ↦ (g.gained k).1 (inr (w.0, reached-end nfa x at k past w.1))
-        ],
+        λ s. elim s [ inl o ↦ (g.gained k).1 (inl o) | inr w ↦ all k w.0 w.1 ],
       );
     };
   }
+
+  -- at the end of the span
+  pub Gaining-end : (earliest : Bool) (old : List Bool) (at : ℕ) (new : List Bool) → x.end < at
+      → Gaining earliest old at new → IsOverlapResult nfa x All earliest old new
+  Gaining-end false old at new past g =
+      Gaining-all old at new g (λ k less r. (g.gained k).1 (inr (less, reached-end nfa x at k past r)))
   Gaining-end true old at new past g = record {
     capacity = g.capacity;
     keeps = λ k h. (g.gained k).1 (inl h);
@@ -231,20 +235,8 @@ module _ (nfa : Automaton) (x : Search) where
   -- a full set gains no more
   pub Gaining-full : (old : List Bool) (at : ℕ) (new : List Bool) → size_of_set new ≡ length new
       → Gaining false old at new → IsOverlapResult nfa x All false old new
-  Gaining-full old at new full g = record {
-    capacity = g.capacity;
-    keeps = λ k h. (g.gained k).1 (inl h);
-    sound = λ k h. elim ((g.gained k).0 h) [ inl o ↦ inl o | inr w ↦ inr (w.0, reached-sound nfa x at k w.1) ];
-    gains = record {
-      gained = λ k. (
-        λ h. elim ((g.gained k).0 h) [ inl o ↦ inl o | inr w ↦ inr (w.0, reached-sound nfa x at k w.1) ],
-        λ s. elim s [
-          | inl o ↦ (g.gained k).1 (inl o)
-          | inr w ↦ full-holds new full k (rw g.capacity w.0)
-        ],
-      );
-    };
-  }
+  Gaining-full old at new full g =
+      Gaining-all old at new g (λ k less r. full-holds new full k (rw g.capacity less))
 
   -- a match that ends the scan
   pub Gaining-over : (earliest : Bool) (old : List Bool) (at : ℕ) → x.start ≤ at → (mid new : List Bool) (hits : List ℕ)

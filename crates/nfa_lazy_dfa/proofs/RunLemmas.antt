@@ -1,16 +1,15 @@
 -- A scan over cells that are known.
-use Rattle.std.proofs.Common.{◌≡◌, ℕ, ◌+◌, ◌*◌, ◌/◌, ◌%◌, ◌<◌, ◌≤◌, ◌-◌, ◌≢◌, Bool, true, false}
-use Rattle.std.proofs.Common.{List, get_or, refl, ap, sym, ◌∙◌, subst, arith}
+use Rattle.std.proofs.Common.{◌≡◌, ℕ, ◌+◌, ◌*◌, ◌/◌, ◌%◌, ◌<◌, ◌≤◌, ◌-◌, Bool, true, false}
+use Rattle.std.proofs.Common.{List, get_or, length, refl, ap, sym, ◌∙◌, subst, arith}
 use Rattle.std.specs.Prelude.{Option, None, Some, is_some, option_map, slice_get}
 use Rattle.regex_search_core.specs.Found.{HalfFound, half_found_of}
 use Rattle.regex_search_core.specs.declared.search.HalfMatch.{HalfMatch}
 use Rattle.regex_search_core.specs.Search.{Search}
-use Rattle.nfa_paths.specs.Paths.{byte_at}
 use Rattle.nfa_determinize.specs.Configurations.{found_after, half_at}
 use Rattle.nfa_lazy_dfa.specs.Places.{IsFoundAt, IsMatchedAt}
 use Rattle.nfa_lazy_dfa.specs.Runs.{place_at}
 use Rattle.nfa_lazy_dfa.specs.Rows.{IsAt, IsFor, IsRowOf, Leads, LeadsTo, row_of, stances_of}
-use Rattle.nfa_lazy_dfa.proofs.CacheLemmas.{leads-at}
+use Rattle.nfa_lazy_dfa.proofs.CacheLemmas.{few-rows, row-inside}
 use Rattle.nfa_lazy_dfa.proofs.RowLemmas.{some-same}
 use Rattle.nfa_lazy_dfa.proofs.ScanLemmas.{IsAt-next, found_at}
 use Rattle.nfa_lazy_dfa.specs.Stances.{Stance}
@@ -39,44 +38,38 @@ IsFoundAt-same dfa x p old new same here = record {
   first = here.first;
 }
 
-module _ (dfa : DFA) (x : Search) (cache : Cache) (own : IsFor cache dfa)
-    (p : Place) (here : IsFoundAt dfa cache x p) (byte cell : ℕ) (inside : p.at < x.end)
-    (is : byte_at x p.at ≡ Some byte) (small : byte < 256)
-    (is_cell : cell ≡ get_or cache.cells.items (p.row * 256 + byte) 0) where
-  leads-from : cell ≢ 0xFFFF_FFFF → Leads dfa.nfa dfa.kind (stances_of cache.stands.items) here.at.stance byte cell
-  leads-from known = leads-at cache dfa own p.row byte cell here.at.stance here.at.is small is_cell known
+-- where a cell that is known leads
+pub leads-on : (dfa : DFA) (x : Search) (cache : Cache) (at row byte cell : ℕ) (here : IsAt dfa cache x at row)
+    → Leads dfa.nfa dfa.kind (stances_of cache.stands.items) here.stance byte cell
+    → LeadsTo dfa cache cache row byte (row_of cell)
+leads-on dfa x cache at row byte cell here leads = record {
+  from = here.stance;
+  was = here.is;
+  to = leads.target;
+  is = leads.is;
+  next = leads.next;
+}
 
-  pub whole-cell : cell ≢ 0xFFFF_FFFF → cell % 256 ≡ 0
-  whole-cell known = (leads-from known).whole
+small-mod : (cell : ℕ) → cell < 0x4000_0000 → cell % 0x4000_0000 ≡ cell
+small-mod cell low = omega arith
 
-  pub leads-on : cell ≢ 0xFFFF_FFFF → LeadsTo dfa cache cache p.row byte (row_of cell)
-  leads-on known = record {
-    from = here.at.stance;
-    was = here.at.is;
-    to = (leads-from known).target;
-    is = (leads-from known).is;
-    next = (leads-from known).next;
-  }
-
-  small-mod : cell < 0x4000_0000 → cell % 0x4000_0000 ≡ cell
-  small-mod low = omega arith
-
-  -- to a row that no match leads to
-  pub over-plain : cell < 0x4000_0000 → IsFoundAt dfa cache x (place_at (p.at + 1) cell p.found)
-  over-plain low =
-      let known : cell ≢ 0xFFFF_FFFF = λ e. absurd (omega arith) in
-      let leads = leads-from known in
-      let row : row_of cell ≡ cell / 256 = ap (λ (n : ℕ). n / 256) (small-mod low) in
-      let both = IsAt-next dfa x p.at byte inside is cache cache p.row (row_of cell) here.at (leads-on known)
-      leads.target leads.is in
-      record {
-        at = subst (λ (r : ℕ). IsAt dfa cache x (p.at + 1) r) row both.0;
-        found = here.found ∙ sym (both.1
-            ∙ ap (λ (o : Option ℕ). found_after x.earliest (found_at dfa x p.at) (option_map (half_at p.at) o))
-            (leads.plain low)
-            ∙ found-none x.earliest (found_at dfa x p.at));
-        first = here.first;
-      }
+-- over a byte, to a row that no match leads to
+pub over-plain : (dfa : DFA) (x : Search) (cache : Cache) (p : Place) (here : IsFoundAt dfa cache x p) (cell : ℕ)
+    → Leads dfa.nfa dfa.kind (stances_of cache.stands.items) here.at.stance (get_or x.haystack p.at 0) cell
+    → p.at < x.end → x.end ≤ length x.haystack → cell < 0x4000_0000
+    → IsFoundAt dfa cache x (place_at (p.at + 1) cell p.found)
+over-plain dfa x cache p here cell leads inside within low =
+    let row : row_of cell ≡ cell / 256 = ap (λ (n : ℕ). n / 256) (small-mod cell low) in
+    let both = IsAt-next dfa x cache cache p.at p.row (row_of cell) inside within here.at
+    (leads-on dfa x cache p.at p.row (get_or x.haystack p.at 0) cell here.at leads) leads.target leads.is in
+    record {
+      at = subst (λ (r : ℕ). IsAt dfa cache x (p.at + 1) r) row both.0;
+      found = here.found ∙ sym (both.1
+          ∙ ap (λ (o : Option ℕ). found_after x.earliest (found_at dfa x p.at) (option_map (half_at p.at) o))
+          (leads.plain low)
+          ∙ found-none x.earliest (found_at dfa x p.at));
+      first = here.first;
+    }
 
 found-first : (earliest : Bool) → earliest ≡ false → (found hit : Option HalfFound) → is_some hit ≡ true
     → found_after earliest found hit ≡ hit
@@ -89,22 +82,14 @@ half-some at None some = cc
 half-some at (Some p) some = refl
 
 -- over a byte, to a row that a match leads to, and that is not dead
-pub over-match : (dfa : DFA) (x : Search) (cache : Cache) → IsFor cache dfa → (at first byte cell : ℕ)
-    → IsAt dfa cache x at (first / 256) → at < x.end → byte_at x at ≡ Some byte → byte < 256
-    → cell ≡ get_or cache.cells.items (first / 256 * 256 + byte) 0 → 0x4000_0000 ≤ cell → cell < 0x8000_0000
+pub over-match : (dfa : DFA) (x : Search) (cache : Cache) (at first cell : ℕ)
+    (here : IsAt dfa cache x at (first / 256))
+    → Leads dfa.nfa dfa.kind (stances_of cache.stands.items) here.stance (get_or x.haystack at 0) cell → at < x.end
+    → x.end ≤ length x.haystack → 0x4000_0000 ≤ cell → cell < 0x8000_0000
     → x.earliest ≡ false → IsMatchedAt dfa cache x (at + 1) (cell - 0x4000_0000)
-over-match dfa x cache own at first byte cell here inside is small is_cell low high late =
-    let known : cell ≢ 0xFFFF_FFFF = λ e. absurd (omega arith) in
-    let leads = leads-at cache dfa own (first / 256) byte cell here.stance here.is small is_cell known in
-    let to : LeadsTo dfa cache cache (first / 256) byte (row_of cell) = record {
-      from = here.stance;
-      was = here.is;
-      to = leads.target;
-      is = leads.is;
-      next = leads.next;
-    } in
-    let both = IsAt-next dfa x at byte inside is cache cache (first / 256) (row_of cell) here to leads.target leads.is
-    in
+over-match dfa x cache at first cell here leads inside within low high late =
+    let both = IsAt-next dfa x cache cache at (first / 256) (row_of cell) inside within here
+    (leads-on dfa x cache at (first / 256) (get_or x.haystack at 0) cell here leads) leads.target leads.is in
     let row : row_of cell ≡ (cell - 0x4000_0000) / 256 = omega arith in
     let back : at ≡ at + 1 - 1 = omega arith in
     let hit = leads.target.hit in
@@ -138,3 +123,8 @@ place-first dfa cache x p here =
     let same : p.row ≡ p.row * 256 / 256 = omega arith in
     subst (λ (r : ℕ).
     let q : Place = record { at = p.at; row = r; found = p.found } in IsFoundAt dfa cache x q) same here
+
+-- it is one of few rows
+pub few-at : (dfa : DFA) (cache : Cache) (x : Search) (p : Place) → IsFor cache dfa → IsFoundAt dfa cache x p
+    → p.row < 0x40_0000
+few-at dfa cache x p own here = few-rows cache dfa own p.row (row-inside cache p.row here.at.stance here.at.is)

@@ -1,5 +1,5 @@
 -- The loop of a scan over the rows of a cache.
-use Rattle.std.proofs.Common.{◌≡◌, ℕ, zero, suc, ◌+◌, ◌-◌, ◌<◌, ◌≤◌, inl, inr, Bool, true, false, List, [], ◌∷◌, length}
+use Rattle.std.proofs.Common.{◌≡◌, ℕ, zero, suc, ◌+◌, ◌-◌, ◌<◌, ◌≤◌, inl, Bool, true, false, [], ◌∷◌, length}
 use Rattle.std.proofs.Common.{get_or, refl, ap, sym, ◌∙◌, subst, arith}
 use Rattle.std.specs.Prelude.{Option, None, Some, is_some, if◌then◌else◌, option_map, slice_get}
 use Rattle.std.specs.Option.{option_or, option_map_or}
@@ -14,7 +14,7 @@ use Rattle.nfa_determinize.specs.Configurations.{Configuration, IsDead, begin, c
 use Rattle.nfa_determinize.specs.Configurations.{half_at, position_count, scanned, scan_half, start_here}
 use Rattle.nfa_determinize.proofs.ScanHalfLemmas.{length-starts}
 use Rattle.nfa_determinize.proofs.SettledLemmas.{scanned-next, settled-found}
-use Rattle.nfa_lazy_dfa.specs.Places.{IsFoundAt}
+use Rattle.nfa_lazy_dfa.specs.Places.{IsFoundAt, IsNextPlace}
 use Rattle.nfa_lazy_dfa.specs.declared.scan.Place.{Place}
 use Rattle.nfa_lazy_dfa.specs.Rows.{IsAt, IsRowOf, LeadsTo, stances_of}
 use Rattle.nfa_lazy_dfa.specs.Assertions.{IsRead, SameLooks, byte_before, sees}
@@ -63,12 +63,11 @@ byte-there x at byte less is =
     sym (ap (λ (b : Bool). if b then slice_get x.haystack at else None) (lt-ltb at x.end less)) ∙ is
 
 -- the byte that a scan reads
-pub byte-here : (x : Search) (at : ℕ) (haystack : List ℕ) → haystack ≡ x.haystack → at < x.end
-    → x.end ≤ length x.haystack → byte_at x at ≡ Some (get_or haystack at 0)
-byte-here x at haystack same less within =
+pub byte-here : (x : Search) (at : ℕ) → at < x.end → x.end ≤ length x.haystack
+    → byte_at x at ≡ Some (get_or x.haystack at 0)
+byte-here x at less within =
     let inside : at < length x.haystack = omega arith in
-    rw (lt-ltb at x.end less)
-    (slice_get-get_or x.haystack at 0 inside ∙ ap (λ (h : List ℕ). Some (get_or h at 0)) (sym same))
+    rw (lt-ltb at x.end less) (slice_get-get_or x.haystack at 0 inside)
 
 module _ (dfa : DFA) (x : Search) where
   abbrev pub found_at : ℕ → Option HalfFound
@@ -146,37 +145,37 @@ module _ (dfa : DFA) (x : Search) where
               ∙ ap (λ (o : Option ℕ). found_after x.earliest (found_at at) (option_map (half_at at) o)) hit,
         )
 
-    -- over a byte, to a row of which the hit is known
-    pub IsAt-next : (old new : Cache) (row target : ℕ) → IsAt dfa old x at row → LeadsTo dfa old new row byte target
-        → (t : Stance) → IsRowOf new target t
-        → IsAt dfa new x (at + 1) target
-        × (found_at (at + 1) ≡ found_after x.earliest (found_at at) (option_map (half_at at) t.hit))
-    IsAt-next old new row target here leads t known =
-        let from : leads.from ≡ here.stance =
-        some-same (slice_get (stances_of old.stands.items) row) leads.from here.stance leads.was here.is in
-        let to : leads.to ≡ t = some-same (slice_get (stances_of new.stands.items) target) leads.to t leads.is known in
-        let next : IsNext dfa.nfa dfa.kind here.stance byte t =
-        subst (λ (s : Stance). IsNext dfa.nfa dfa.kind s byte t) from
-        (subst (IsNext dfa.nfa dfa.kind leads.from byte) to leads.next) in
-        let both = stance-next here.stance t here.low here.stands next in
-        let low : x.start ≤ at = here.low in
-        (record { stance = t; is = known; low = omega arith; high = omega arith; stands = both.0 }, both.1)
+  -- over a byte, to a row of which the hit is known
+  pub IsAt-next : (old new : Cache) (at row target : ℕ) → at < x.end → x.end ≤ length x.haystack
+      → IsAt dfa old x at row → LeadsTo dfa old new row (get_or x.haystack at 0) target
+      → (t : Stance) → IsRowOf new target t
+      → IsAt dfa new x (at + 1) target
+      × (found_at (at + 1) ≡ found_after x.earliest (found_at at) (option_map (half_at at) t.hit))
+  IsAt-next old new at row target inside within here leads t known =
+      let byte = get_or x.haystack at 0 in
+      let from : leads.from ≡ here.stance =
+      some-same (slice_get (stances_of old.stands.items) row) leads.from here.stance leads.was here.is in
+      let to : leads.to ≡ t = some-same (slice_get (stances_of new.stands.items) target) leads.to t leads.is known in
+      let next : IsNext dfa.nfa dfa.kind here.stance byte t =
+      subst (λ (s : Stance). IsNext dfa.nfa dfa.kind s byte t) from
+      (subst (IsNext dfa.nfa dfa.kind leads.from byte) to leads.next) in
+      let both = stance-next at byte inside (byte-here x at inside within) here.stance t here.low here.stands next in
+      let low : x.start ≤ at = here.low in
+      (record { stance = t; is = known; low = omega arith; high = omega arith; stands = both.0 }, both.1)
 
-    -- over a byte, with what is found
-    pub IsFoundAt-next : (old new : Cache) (p : Place) (target : ℕ) → IsFoundAt dfa old x p → p.at ≡ at
-        → LeadsTo dfa old new p.row byte target → (t : Stance) → IsRowOf new target t
-        → (half found : Option HalfMatch) → option_map half_found_of half ≡ option_map (half_at at) t.hit
-        → found ≡ option_or half p.found
-        → IsAt dfa new x (at + 1) target × (option_map half_found_of found ≡ found_at (at + 1))
-    IsFoundAt-next old new p target here same leads t known half found half_is is_found =
-        let there : IsAt dfa old x at p.row = subst (λ (n : ℕ). IsAt dfa old x n p.row) same here.at in
-        let was : option_map half_found_of p.found ≡ found_at at =
-        here.found ∙ ap (λ (n : ℕ). found_at n) same in
-        let both = IsAt-next old new p.row target there leads t known in (
-          both.0,
-          found-or x.earliest (found_at at) (found_at (at + 1)) (option_map (half_at at) t.hit) half p.found found
-              is_found half_is was here.first both.1,
-        )
+  -- over a byte, with what is found
+  pub IsFoundAt-next : (old new : Cache) (p : Place) (target : ℕ) → IsFoundAt dfa old x p → p.at < x.end
+      → x.end ≤ length x.haystack → LeadsTo dfa old new p.row (get_or x.haystack p.at 0) target
+      → (t : Stance) → IsRowOf new target t
+      → (half found : Option HalfMatch) → option_map half_found_of half ≡ option_map (half_at p.at) t.hit
+      → found ≡ option_or half p.found
+      → IsAt dfa new x (p.at + 1) target × (option_map half_found_of found ≡ found_at (p.at + 1))
+  IsFoundAt-next old new p target here inside within leads t known half found half_is is_found =
+      let both = IsAt-next old new p.at p.row target inside within here.at leads t known in (
+        both.0,
+        found-or x.earliest (found_at p.at) (found_at (p.at + 1)) (option_map (half_at p.at) t.hit) half p.found found
+            is_found half_is here.found here.first both.1,
+      )
 
   -- at the last position
   pub IsAt-end : (c : Cache) (row : ℕ) (hit : Option ℕ) → IsAt dfa c x x.end row
@@ -203,21 +202,18 @@ module _ (dfa : DFA) (x : Search) where
       (scanned dfa.nfa x dfa.kind x.earliest (at - x.start)) here.stands
       (ap (λ (s : Stance). s.states) (sym same) ∙ none)
 
-  -- in a dead row, or with the first match if it is enough
-  pub IsAt-dead : (c : Cache) (at row : ℕ) → IsAt dfa c x at row → (t : Stance) → IsRowOf c row t → t.states ≡ []
-      → found_at at ≡ scan_half dfa.nfa x dfa.kind x.earliest
-  IsAt-dead c at row here t is none =
-      let low : x.start ≤ at = here.low in
-      let high : at ≤ x.end = here.high in
-      settled-found dfa.nfa x dfa.kind x.earliest (at - x.start) (omega arith)
-      (inl (IsAt-is_dead c at row here t is none))
+  module _ (c : Cache) (p : Place) (over : Bool) (next : IsNextPlace dfa c x p over) where
+    -- a scan that is not over goes on
+    pub next-on : over ≡ false → IsFoundAt dfa c x p
+    next-on on = record { at = next.at; found = next.found; first = next.first on }
 
-  pub IsAt-first : (c : Cache) (at row : ℕ) → IsAt dfa c x at row → x.earliest ≡ true → is_some (found_at at) ≡ true
-      → found_at at ≡ scan_half dfa.nfa x dfa.kind x.earliest
-  IsAt-first c at row here earliest some =
-      let low : x.start ≤ at = here.low in
-      let high : at ≤ x.end = here.high in
-      settled-found dfa.nfa x dfa.kind x.earliest (at - x.start) (omega arith) (inr (earliest, some))
+    -- what a scan that is over found
+    pub next-over : over ≡ true → option_map half_found_of p.found ≡ scan_half dfa.nfa x dfa.kind x.earliest
+    next-over is =
+        let low : x.start ≤ p.at = next.at.low in
+        let high : p.at ≤ x.end = next.at.high in
+        next.found
+        ∙ settled-found dfa.nfa x dfa.kind x.earliest (p.at - x.start) (omega arith) (next.settled is)
 
   -- where no match may start
   pub no-starts : length (starts dfa.nfa x) ≡ 0 → None ≡ scan_half dfa.nfa x dfa.kind x.earliest

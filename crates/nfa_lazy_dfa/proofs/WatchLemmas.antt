@@ -1,6 +1,6 @@
 -- No match starts before a position at which the scan is in an idle row and found nothing.
 use Rattle.std.proofs.Common.{◌≡◌, ℕ, zero, suc, ◌+◌, ◌-◌, ◌*◌, ◌/◌, ◌≤◌, inl, inr, Bool, List, [], ◌∷◌}
-use Rattle.std.proofs.Common.{◌<◌, get_or, refl, ap, sym, ◌∙◌, subst, arith}
+use Rattle.std.proofs.Common.{refl, ap, sym, ◌∙◌, subst, arith}
 use Rattle.std.specs.Prelude.{Result, Ok, Err, IfOk, IfSome}
 use Rattle.std.specs.Prelude.{Option, None, Some, option_and_then, option_map, option_to_list, slice_get}
 use Rattle.regex_search_core.specs.Found.{half_found_of}
@@ -10,20 +10,18 @@ use Rattle.thompson_nfa.specs.Automaton.{Automaton}
 use Rattle.nfa_paths.specs.Graphs.{In}
 use Rattle.nfa_paths.specs.Paths.{IsHalfAnswer, byte_at, node_at, target_on}
 use Rattle.nfa_paths.proofs.InsideLemmas.{half-within}
-use Rattle.nfa_paths.proofs.OptionLemmas.{option_or-None}
 use Rattle.nfa_paths.proofs.MemberLemmas.{In-append}
 use Rattle.nfa_determinize.specs.Closures.{closure, explore, holding_at, kept, step}
-use Rattle.nfa_determinize.specs.Configurations.{closure_at, half_at, scan_half, scanned}
+use Rattle.nfa_determinize.specs.Configurations.{closure_at, scan_half, scanned}
 use Rattle.nfa_determinize.specs.Idles.{StartsFrom}
 use Rattle.nfa_determinize.proofs.IdleLemmas.{StartsFrom-start, half-after, idle-passes}
 use Rattle.nfa_lazy_dfa.specs.Apart.{IsStartApart}
 use Rattle.nfa_lazy_dfa.specs.Places.{IsFoundAt}
-use Rattle.nfa_lazy_dfa.specs.Rows.{IsAt, IsRowOf, LeadsTo, stances_of}
+use Rattle.nfa_lazy_dfa.specs.Rows.{IsAt, IsRowOf, stances_of}
 use Rattle.nfa_lazy_dfa.specs.Runs.{place_at}
 use Rattle.nfa_lazy_dfa.specs.Stances.{Stance}
 use Rattle.nfa_lazy_dfa.specs.Watches.{IsBegun, IsWatching}
 use Rattle.nfa_lazy_dfa.specs.Windows.{IsWindow, half_in, start_in}
-use Rattle.nfa_lazy_dfa.proofs.ScanLemmas.{IsFoundAt-next, found_at}
 use Rattle.nfa_lazy_dfa.proofs.RunLemmas.{IsFoundAt-same}
 use Rattle.nfa_lazy_dfa.specs.declared.cache.Cache.{Cache}
 use Rattle.nfa_lazy_dfa.specs.declared.dfa.DFA.{DFA}
@@ -130,18 +128,6 @@ IsFoundAt-place dfa c x p none here =
     subst (λ (r : ℕ). let q : Place = record { at = p.at; row = r; found = None } in IsFoundAt dfa c x q) same
     (subst (λ (o : Option HalfMatch).
     let q : Place = record { at = p.at; row = p.row; found = o } in IsFoundAt dfa c x q) none here)
-
--- over a byte, with what matches there
-pub watching-next : (dfa : DFA) (x : Search) (old new : Cache) (w : Watch) → IsWatching dfa old x w → w.at < x.end
-    → byte_at x w.at ≡ Some (get_or x.haystack w.at 0) → (p : Place) → p ≡ place_at w.at w.first None → (next : ℕ)
-    → LeadsTo dfa old new p.row (get_or x.haystack p.at 0) next → (t : Stance) → IsRowOf new next t
-    → (half : Option HalfMatch) → option_map half_found_of half ≡ option_map (half_at w.at) t.hit
-    → IsAt dfa new x (w.at + 1) next × (option_map half_found_of half ≡ found_at dfa x (w.at + 1))
-watching-next dfa x old new w here inside is p same next leads t known half half_is =
-    IsFoundAt-next dfa x w.at (get_or x.haystack w.at 0) inside is old new (place_at w.at w.first None) next here.at
-    refl (subst (λ (q : Place). LeadsTo dfa old new q.row (get_or x.haystack q.at 0) next) same leads) t known half half
-    half_is
-    (sym (option_or-None half))
 
 -- a window that starts where the search does, and one that starts at an idle position
 

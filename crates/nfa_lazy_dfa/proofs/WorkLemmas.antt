@@ -2,7 +2,7 @@
 use Rattle.std.proofs.Common.{◌≡◌, ℕ, ◌+◌, ◌-◌, ◌*◌, ◌≤◌, ◌∙◌, refl, arith}
 use Rattle.std.proofs.Math.Nat.{add-mul}
 use Rattle.regex_search_core.specs.Search.{Search}
-use Rattle.nfa_lazy_dfa.specs.Rows.{AllowsClears, CountsScan, IsBounded, Scans, ScansAtMost, Spends}
+use Rattle.nfa_lazy_dfa.specs.Rows.{AllowsClears, CountsScan, IsBounded, Scans, ScansAtMost, Spends, steps_of}
 use Rattle.nfa_lazy_dfa.specs.declared.cache.Cache.{Cache}
 use Rattle.nfa_lazy_dfa.specs.declared.dfa.DFA.{DFA}
 
@@ -24,6 +24,16 @@ module _ (a b c : Cache) where
     grows = omega (arith, spends.grows, counts.steps);
     rows = omega (arith, spends.rows, counts.rows, counts.steps);
     clears = omega (arith, spends.clears, counts.cleared, counts.clears);
+  }
+
+  -- one scan that took no step yet, and the rest of it
+  pub Scans-rest : (s n : ℕ) → Scans a b 1 n → steps_of b ≡ steps_of a → Spends b c s 0 → s ≤ n + 1 → Scans a c 1 n
+  Scans-rest s n scan same rest less = record {
+    scans = rest.scans ∙ scan.scans;
+    steps = omega (arith, rest.steps);
+    grows = omega (arith, rest.grows);
+    rows = omega (arith, rest.rows, scan.rows);
+    clears = rest.clears ∙ scan.clears;
   }
 
   -- one scan more, over no more bytes

@@ -1,15 +1,16 @@
 -- Where a scan is, and what it found so far.
-use Rattle.std.specs.Prelude.{◌≡◌, ℕ, ◌-◌, ◌/◌, Bool, true, Option, None, is_some, option_map}
+use Rattle.std.specs.Prelude.{◌≡◌, ℕ, ◌-◌, ◌/◌, Bool, false, true, [], ◌∷◌, Option, None, is_some, option_map}
 use Rattle.regex_search_core.specs.Found.{HalfFound, half_found_of}
 use Rattle.regex_search_core.specs.Search.{Search}
 use Rattle.regex_search_core.specs.declared.search.MatchKind.{MatchKind}
 use Rattle.thompson_nfa.specs.Automaton.{Automaton}
 use Rattle.nfa_paths.specs.Paths.{IsHalfAnswer}
-use Rattle.nfa_determinize.specs.Configurations.{half_at, scanned}
+use Rattle.nfa_determinize.specs.Configurations.{IsSettled, half_at, scanned}
 use Rattle.nfa_lazy_dfa.specs.Rows.{IsAt, IsRowOf}
 use Rattle.nfa_lazy_dfa.specs.Stances.{Stance}
 use Rattle.nfa_lazy_dfa.specs.declared.cache.Cache.{Cache}
 use Rattle.nfa_lazy_dfa.specs.declared.dfa.DFA.{DFA}
+use Rattle.nfa_lazy_dfa.specs.declared.scan.First.{First}
 use Rattle.nfa_lazy_dfa.specs.declared.scan.Place.{Place}
 
 -- the scan is at the place's position, in its row, with what it found; with `earliest` it found nothing yet
@@ -17,6 +18,21 @@ pub record IsFoundAt (dfa : DFA) (c : Cache) (x : Search) (p : Place) : Type 0 w
   pub at : IsAt dfa c x p.at p.row
   pub found : option_map half_found_of p.found ≡ (scanned dfa.nfa x dfa.kind x.earliest (p.at - x.start)).found
   pub first : x.earliest ≡ true → option_map half_found_of p.found ≡ None
+
+-- a scan is at its first position and found nothing, in a row that has only the state that it starts in
+pub record IsFirstAt (dfa : DFA) (c : Cache) (x : Search) (f : First) : Type 0 where
+  pub begins : f.place.at ≡ x.start
+  pub found : f.place.found ≡ None
+  pub at : IsFoundAt dfa c x f.place
+  pub alone : (s : Stance) → IsRowOf c f.place.row s → s.states ≡ f.start ∷ []
+
+-- A byte led the scan to the place. The scan is over if no later position changes what it found. Otherwise it goes on,
+-- and with `earliest` it found nothing yet.
+pub record IsNextPlace (dfa : DFA) (c : Cache) (x : Search) (p : Place) (over : Bool) : Type 0 where
+  pub at : IsAt dfa c x p.at p.row
+  pub found : option_map half_found_of p.found ≡ (scanned dfa.nfa x dfa.kind x.earliest (p.at - x.start)).found
+  pub first : over ≡ false → x.earliest ≡ true → option_map half_found_of p.found ≡ None
+  pub settled : over ≡ true → IsSettled x.earliest (scanned dfa.nfa x dfa.kind x.earliest (p.at - x.start))
 
 -- the scan is at a position, in the row whose cells begin at `first`, and the last match that it found is the row's
 pub record IsMatchedAt (dfa : DFA) (c : Cache) (x : Search) (to first : ℕ) : Type 0 where

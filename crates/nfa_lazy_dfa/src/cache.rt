@@ -36,7 +36,6 @@ const ROW_BYTES: usize = 1120;
 const FIRST_ROW_BYTES: usize = ROW_BYTES + 4;
 
 /// The rows that searches of one DFA built so far.
-#[derive(Drop)]
 pub struct Cache {
     /// For each row, where each byte leads: the place of the next row's first cell.
     pub(crate) cells: Vec<u32>,
@@ -61,6 +60,27 @@ pub struct Cache {
     cleared: Counter,
     /// The scans that all searches made.
     scans: Counter,
+}
+
+// Written out, so that a drop is one call in a proof, and not one for each field.
+impl Drop for Cache {
+    fn drop(self) {
+        let Cache {
+            cells: _,
+            stands: _,
+            ends: _,
+            index: _,
+            alloc: _,
+            taken: _,
+            clears: _,
+            firsts: _,
+            idles: _,
+            steps: _,
+            made: _,
+            cleared: _,
+            scans: _,
+        } = self;
+    }
 }
 
 impl Stand {

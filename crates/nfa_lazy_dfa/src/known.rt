@@ -4,14 +4,30 @@ ghost use Rattle.regex_search_core.specs.Search.{search_of};
 ghost use Rattle.nfa_lazy_dfa.specs.Places.{IsFoundAt, IsMatchedAt};
 ghost use Rattle.nfa_lazy_dfa.specs.Runs.{place_at};
 ghost use Rattle.nfa_lazy_dfa.specs.Rows as rows;
-ghost use Rattle.nfa_lazy_dfa.specs.Rows.{IsAt, IsFor, LeadsTo, Spends, steps_of};
+ghost use Rattle.nfa_lazy_dfa.specs.Rows.{IsAt, IsFor, IsRowOf, Leads, LeadsTo, Spends, stances_of, steps_of};
+ghost use Rattle.nfa_lazy_dfa.specs.Stances.{Stance};
 
 use crate::cache::{Cache, DEAD, MATCHED, ROW_CELLS, UNKNOWN};
 use crate::dfa::DFA;
 use crate::scan::{Place, half_at};
 use regex_search_core::{HalfMatch, Input};
 
-/// The cell of the byte at the position, in the row whose cells begin at `first`.
+/// The cell of the byte at the position. The cells of the row begin at `first`.
+#[inline(always)]
+fn read_cell(dfa: &DFA, cache: &Cache, input: &Input<'_>, at: usize, first: u32) -> u32
+    requires own { IsFor cache.now dfa.now }
+    requires inside { at < (search_of input.now).end }
+    requires whole { first % ROW_CELLS ≡ 0 }
+    requires at { IsAt dfa.now cache.now (search_of input.now) at (first / ROW_CELLS) }
+    ensures { result < UNKNOWN → (s : Stance) → IsRowOf cache.now (first / ROW_CELLS) s
+        → Leads dfa.now.nfa dfa.now.kind (stances_of cache.now.stands.items) s
+        (slice_index (search_of input.now).haystack at) result }
+{
+    let haystack = input.haystack();
+    cache.cells[first as usize + haystack[at] as usize]
+}
+
+/// The same, where a scan is that found this.
 #[inline(always)]
 pub fn cell_at(
     dfa: &DFA,
@@ -31,8 +47,7 @@ pub fn cell_at(
     ensures leads { result < UNKNOWN → LeadsTo dfa.now cache.now cache.now (first / ROW_CELLS)
         (slice_index (search_of input.now).haystack at) (rows.row_of result) }
 {
-    let haystack = input.haystack();
-    cache.cells[first as usize + haystack[at] as usize]
+    read_cell(dfa, cache, input, at, first)
 }
 
 /// Goes on over cells that lead to rows without a match, four bytes at a time. Returns the position and where the cells
@@ -92,8 +107,7 @@ fn over_match(dfa: &DFA, cache: &Cache, input: &Input<'_>, at: usize, first: u32
     ensures at { let x = search_of input.now in x.earliest ≡ false
         → IfSome result (IsMatchedAt dfa.now cache.now x (at + 1)) }
 {
-    let haystack = input.haystack();
-    let cell = cache.cells[first as usize + haystack[at] as usize];
+    let cell = read_cell(dfa, cache, input, at, first);
     if cell < MATCHED || cell >= DEAD {
         return None;
     }

@@ -1,6 +1,6 @@
 //! The patterns of all matches, including matches that overlap.
 ghost use Rattle.std.specs.Prelude.{◌≡◌, ◌+◌, ◌-◌, ◌<◌, ◌≤◌, ◌⊎◌, IfErr, IfOk, OnErr, OnOk, false, length, map, true};
-ghost use Rattle.std.specs.Prelude.{slice_get, vec_len};
+ghost use Rattle.std.specs.Prelude.{slice_get};
 ghost use Rattle.regex_search_core.specs.PatternSets.{size_of_set};
 ghost use Rattle.regex_search_core.specs.Patterns.{number_of};
 ghost use Rattle.regex_search_core.specs.Search.{search_of};
@@ -11,16 +11,16 @@ ghost use Rattle.nfa_lazy_dfa.specs.Capacities.{HasNoRoom, HasToScan, IsUsedUpAt
 ghost use Rattle.nfa_lazy_dfa.specs.Configs.{kind_of, nfa_of};
 ghost use Rattle.nfa_lazy_dfa.specs.Places.{IsFoundAt};
 ghost use Rattle.nfa_lazy_dfa.specs.Reads.{HasRead, IsSetOver};
-ghost use Rattle.nfa_lazy_dfa.specs.Rows.{IsBounded, IsFor, IsRowOf, Scans, Spends, capacity_of, memory_of, scans_of, steps_of};
+ghost use Rattle.nfa_lazy_dfa.specs.Rows.{IsAt, IsBounded, IsFor, IsRowOf, Scans, Spends, capacity_of, memory_of, scans_of, steps_of};
 ghost use Rattle.nfa_lazy_dfa.specs.Sets.{AddsEach, AddsHere, IsPartOfOverlap};
 ghost use Rattle.nfa_lazy_dfa.specs.Stances.{hits_here};
-ghost use Rattle.nfa_lazy_dfa.specs.Stops.{IsInSpan, IsStop};
+ghost use Rattle.nfa_lazy_dfa.specs.Stops.{IsStop};
 
 use crate::cache::{Cache, ROW_CELLS};
 use crate::dfa::DFA;
 use crate::error::StopError;
 use crate::known::pass;
-use crate::scan::{Place, first_row, half_at, next_row};
+use crate::scan::{Place, first_row, next_row, place_after};
 use nfa_scan_core::starts::{may_end_at, start_state};
 use regex_search_core::{Input, PatternID, PatternSet};
 
@@ -145,14 +145,13 @@ fn overlap_from(
         let next = next_row(dfa, cache, input, place)?;
         let stand = &cache.stands[next as usize];
         let met = add_here(dfa, input, place.at, &stand.hits, patterns);
-        if is_over(met, earliest, patterns) || stand.is_dead() {
+        if is_over(met, earliest, patterns) {
             return Ok(());
         }
-        let after = Place {
-            at: place.at + 1,
-            row: next,
-            found: half_at(stand.hit, place.at).or(place.found),
-        };
+        let (after, over) = place_after(dfa, cache, input, place, next);
+        if over {
+            return Ok(());
+        }
         place = skip(dfa, cache, input, after);
     }
     add_last(dfa, cache, input, place, patterns)?;
@@ -201,8 +200,7 @@ fn add_last(
     patterns: &mut PatternSet,
 ) -> Result<bool, StopError>
     requires own { IsFor cache.old dfa.now }
-    requires row { place.row < vec_len cache.old.stands }
-    requires span { IsInSpan (search_of input.now) place.at }
+    requires at { IsAt dfa.now cache.old (search_of input.now) place.at place.row }
     ensures own { IsFor cache.new dfa.now }
     ensures adds { let x = search_of input.now in IfOk result (λ met. (s : _) → IsRowOf cache.old place.row s
         → AddsHere dfa.now.nfa x place.at (hits_here dfa.now.nfa dfa.now.kind s (slice_get x.haystack place.at))

@@ -1,24 +1,25 @@
 //! A scan, row by row.
-ghost use Rattle.std.specs.Prelude.{◌≡◌, ℕ, ◌+◌, ◌-◌, ◌<◌, ◌≤◌, IfErr, IfOk, IfSome, OnErr, OnOk, Option, Some, true};
-ghost use Rattle.std.specs.Prelude.{◌∷◌, [], if◌then◌else◌, length, option_map, slice_get, slice_index, vec_len};
+ghost use Rattle.std.specs.Prelude.{◌≡◌, ℕ, ◌+◌, ◌-◌, ◌<◌, ◌≤◌, ◌⊎◌, IfErr, IfNone, IfOk, IfSome, OnErr, OnOk};
+ghost use Rattle.std.specs.Prelude.{Option, Some, ◌∷◌, [], false, if◌then◌else◌, is_some, length, option_map, slice_get};
+ghost use Rattle.std.specs.Prelude.{slice_index, true, vec_len};
 ghost use Rattle.regex_search_core.specs.Found.{half_found_of};
 ghost use Rattle.regex_search_core.specs.Patterns.{number_of};
 ghost use Rattle.regex_search_core.specs.Search.{search_of};
-ghost use Rattle.nfa_paths.specs.Paths.{start_count, start_state};
+ghost use Rattle.nfa_paths.specs.Paths.{start_count, start_state, starts};
 ghost use Rattle.nfa_determinize.specs.Configurations.{half_at, scan_half};
-ghost use Rattle.nfa_lazy_dfa.specs.Places.{IsFoundAt};
+ghost use Rattle.nfa_lazy_dfa.specs.Places.{IsFirstAt, IsFoundAt, IsNextPlace};
 ghost use Rattle.nfa_lazy_dfa.specs.Assertions.{IsRead, SameLooks, byte_before, sees};
 ghost use Rattle.nfa_lazy_dfa.specs.Capacities.{HasToScan, IsUsedUpAt, StopsAtStart, first_row_memory};
 ghost use Rattle.nfa_lazy_dfa.specs.Reads.{HasRead, IsOver};
 ghost use Rattle.nfa_lazy_dfa.specs.Rows.{IsAt, IsFor, IsRowOf, LeadsTo, Scans, Spends, steps_of};
-ghost use Rattle.nfa_lazy_dfa.specs.Stances.{Stance, hit_here};
-ghost use Rattle.nfa_lazy_dfa.specs.Stops.{IsInSpan, IsStop};
+ghost use Rattle.nfa_lazy_dfa.specs.Stances.{Stance, hit_here, stance_of};
+ghost use Rattle.nfa_lazy_dfa.specs.Stops.{IsStop};
 
 use crate::cache::{Cache, ROW_CELLS, UNKNOWN};
 use crate::dfa::DFA;
 use crate::error::StopError;
 use crate::fill::row_of;
-use crate::follow::before;
+use crate::follow::{Stand, before};
 use crate::known::{cell_at, walk};
 use nfa_scan_core::starts::start_state;
 use regex_search_core::{HalfMatch, Input, PatternID, StateID};
@@ -29,6 +30,13 @@ pub struct Place {
     pub at: usize,
     pub row: u32,
     pub found: Option<HalfMatch>,
+}
+
+/// Where a scan begins: its first place, and the NFA state that it starts in.
+#[derive(Clone, Copy)]
+pub struct First {
+    pub place: Place,
+    pub start: StateID,
 }
 
 /// Whether a match may start at more than one position.
@@ -47,6 +55,39 @@ pub fn half_at(pattern: Option<PatternID>, at: usize) -> Option<HalfMatch>
     ensures { option_map half_found_of result ≡ option_map (half_at at) (option_map number_of pattern) }
 {
     Some(HalfMatch::new(pattern?, at))
+}
+
+/// Counts a scan. Returns where it begins, or `None` if no match may start.
+#[inline(always)]
+pub fn begin(dfa: &DFA, cache: &mut Cache, input: &Input<'_>) -> Result<Option<First>, StopError>
+    requires { IsFor cache.old dfa.now }
+    ensures own { IsFor cache.new dfa.now }
+    ensures at { let x = search_of input.now in
+        IfOk result (λ first. IfSome first (IsFirstAt dfa.now cache.new x)) }
+    ensures none { let x = search_of input.now in
+        IfOk result (λ first. IfNone first (length (starts dfa.now.nfa x) ≡ 0)) }
+    ensures scan { let x = search_of input.now in Scans cache.old cache.new 1 (x.end - x.start) }
+    ensures same { steps_of cache.new ≡ steps_of cache.old }
+    ensures stops { IfErr result (IsStop dfa.now.nfa (search_of input.now)) }
+    ensures full { IfErr result (IsUsedUpAt cache.new dfa.now) }
+    ensures small { dfa.now.capacity < first_row_memory → HasToScan dfa.now.nfa (search_of input.now)
+        → StopsAtStart (search_of input.now) result }
+{
+    cache.count_scan(dfa);
+    let Some(start) = start_state(&dfa.nfa, input) else {
+        return Ok(None);
+    };
+    if input.is_done() {
+        return Ok(None);
+    }
+    let at = input.start();
+    let row = first_row(dfa, cache, input, start)?;
+    let place = Place {
+        at,
+        row,
+        found: None,
+    };
+    Ok(Some(First { place, start }))
 }
 
 /// The half match of one scan.
@@ -68,21 +109,10 @@ pub fn scan_half(
     ensures small { dfa.now.capacity < first_row_memory → HasToScan dfa.now.nfa (search_of input.now)
         → StopsAtStart (search_of input.now) result }
 {
-    cache.count_scan(dfa);
-    let Some(start) = start_state(&dfa.nfa, input) else {
+    let Some(first) = begin(dfa, cache, input)? else {
         return Ok(None);
     };
-    if input.is_done() {
-        return Ok(None);
-    }
-    let at = input.start();
-    let row = first_row(dfa, cache, input, start)?;
-    let from = Place {
-        at,
-        row,
-        found: None,
-    };
-    scan_from(dfa, cache, input, from)
+    scan_from(dfa, cache, input, first.place)
 }
 
 /// The row of a scan at its first position.
@@ -172,36 +202,63 @@ fn scan_on(
     dfa: &DFA,
     cache: &mut Cache,
     input: &Input<'_>,
-    from: Place,
+    mut place: Place,
 ) -> Result<Option<HalfMatch>, StopError>
     requires own { IsFor cache.old dfa.now }
-    requires at { IsFoundAt dfa.now cache.old (search_of input.now) from }
+    requires at { IsFoundAt dfa.now cache.old (search_of input.now) place }
     ensures own { IsFor cache.new dfa.now }
     ensures steps { let x = search_of input.now in IfOk result (λ half.
         option_map half_found_of half ≡ scan_half dfa.now.nfa x dfa.now.kind x.earliest) }
     ensures stops { IfErr result (IsStop dfa.now.nfa (search_of input.now)) }
-    ensures spends { Spends cache.old cache.new (((search_of input.now).end - from.at) + 1) 0 }
-    ensures reads { OnOk result (HasRead (IsOver dfa.now (search_of input.now)) cache.old cache.new from.at) }
+    ensures spends { Spends cache.old cache.new (((search_of input.now).end - place.at) + 1) 0 }
+    ensures reads { OnOk result (HasRead (IsOver dfa.now (search_of input.now)) cache.old cache.new place.at) }
     ensures full { IfErr result (IsUsedUpAt cache.new dfa.now) }
 {
-    let earliest = input.get_earliest();
-    let mut place = from;
     while place.at < input.end() {
         let next = next_row(dfa, cache, input, place)?;
-        let stand = &cache.stands[next as usize];
-        let found = half_at(stand.hit, place.at).or(place.found);
-        if stand.is_dead() || (earliest && found.is_some()) {
-            return Ok(found);
+        let (after, over) = place_after(dfa, cache, input, place, next);
+        if over {
+            return Ok(after.found);
         }
-        let after = Place {
-            at: place.at + 1,
-            row: next,
-            found,
-        };
         place = walk(dfa, cache, input, after);
     }
     let hit = last(dfa, cache, input, place)?;
     Ok(half_at(hit, place.at).or(place.found))
+}
+
+/// The place after the byte, if it leads to this row, and whether a scan is over there.
+pub fn place_after(
+    dfa: &DFA,
+    cache: &Cache,
+    input: &Input<'_>,
+    place: Place,
+    next: u32,
+) -> (Place, bool)
+    requires row { next < vec_len cache.now.stands }
+    requires inside { place.at < (search_of input.now).end }
+    ensures at { result.0.at ≡ place.at + 1 }
+    ensures leads { let x = search_of input.now in (old : Cache) → IsFoundAt dfa.now old x place
+        → LeadsTo dfa.now old cache.now place.row (slice_index x.haystack place.at) next
+        → IsNextPlace dfa.now cache.now x result.0 result.1 }
+{
+    let stand = &cache.stands[next as usize];
+    let found = half_at(stand.hit, place.at).or(place.found);
+    let over = ends_scan(stand, input.get_earliest(), found);
+    let after = Place {
+        at: place.at + 1,
+        row: next,
+        found,
+    };
+    (after, over)
+}
+
+/// Whether a scan that found this is over in the row of the stand: the row is dead, or the match is enough.
+fn ends_scan(stand: &Stand, earliest: bool, found: Option<HalfMatch>) -> bool
+    ensures over { result ≡ true → ((stance_of stand.now).states ≡ [])
+        ⊎ ((earliest ≡ true) × (is_some found ≡ true)) }
+    ensures goes_on { result ≡ false → earliest ≡ true → is_some found ≡ false }
+{
+    stand.is_dead() || (earliest && found.is_some())
 }
 
 /// The row after the byte at the place, which is in the span or just after it.
@@ -212,10 +269,10 @@ pub fn next_row(
     place: Place,
 ) -> Result<u32, StopError>
     requires own { IsFor cache.old dfa.now }
-    requires row { place.row < vec_len cache.old.stands }
+    requires at { IsAt dfa.now cache.old (search_of input.now) place.at place.row }
     requires inside { place.at < length (search_of input.now).haystack }
-    requires span { IsInSpan (search_of input.now) place.at }
     ensures own { IsFor cache.new dfa.now }
+    ensures row { IfOk result (λ row. row < vec_len cache.new.stands) }
     ensures leads { IfOk result (LeadsTo dfa.now cache.old cache.new place.row
         (slice_index (search_of input.now).haystack place.at)) }
     ensures stops { IfErr result (IsStop dfa.now.nfa (search_of input.now)) }
@@ -242,8 +299,7 @@ fn last(
     place: Place,
 ) -> Result<Option<PatternID>, StopError>
     requires own { IsFor cache.old dfa.now }
-    requires row { place.row < vec_len cache.old.stands }
-    requires span { IsInSpan (search_of input.now) place.at }
+    requires at { IsAt dfa.now cache.old (search_of input.now) place.at place.row }
     ensures own { IsFor cache.new dfa.now }
     ensures hit { IfOk result (λ hit. (s : _) → IsRowOf cache.old place.row s
         → option_map number_of hit ≡ hit_here dfa.now.nfa dfa.now.kind s

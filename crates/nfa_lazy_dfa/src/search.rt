@@ -3,7 +3,7 @@ ghost use Rattle.std.specs.Prelude.{◌≡◌, ◌↔◌, ◌<◌, ◌≤◌, If
 ghost use Rattle.regex_search_core.specs.Found.{half_found_of};
 ghost use Rattle.regex_search_core.specs.Search.{search_of};
 ghost use Rattle.nfa_paths.specs.Paths.{IsBoolAnswer, IsHalfAnswer, is_utf8_empty};
-ghost use Rattle.nfa_determinize.specs.Searches.{IsRestartedHalf, IsWholeHalf};
+ghost use Rattle.nfa_determinize.specs.Searches.{IsRestartedHalf, IsStepsHalf, IsWholeHalf};
 ghost use Rattle.nfa_lazy_dfa.specs.Capacities.{HasNoRoom, HasToScan, IsUsedUpAt, StopsAtStart, first_row_memory};
 ghost use Rattle.nfa_lazy_dfa.specs.Configs.{kind_of, nfa_of};
 ghost use Rattle.nfa_lazy_dfa.specs.Reads.{HasReadSpan};
@@ -123,8 +123,8 @@ fn find_on_boundary(
     requires own { IsFor cache.old dfa.now }
     requires utf8 { is_utf8_empty dfa.now.nfa ≡ true }
     ensures own { IsFor cache.new dfa.now }
-    ensures answer { let x = search_of input.now in IfOk result (λ half.
-        IsHalfAnswer dfa.now.nfa dfa.now.kind x.earliest x (option_map half_found_of half)) }
+    ensures steps { let x = search_of input.now in IfOk result (λ half.
+        IsStepsHalf dfa.now.nfa dfa.now.kind x.earliest x (option_map half_found_of half)) }
     ensures stops { IfErr result (IsStop dfa.now.nfa (search_of input.now)) }
     ensures work { ScansAtMost cache.old cache.new (search_of input.now) }
     ensures reads { OnOk result (HasReadSpan cache.old cache.new dfa.now (search_of input.now)) }
@@ -132,7 +132,6 @@ fn find_on_boundary(
     ensures small { dfa.now.capacity < first_row_memory → HasToScan dfa.now.nfa (search_of input.now)
         → StopsAtStart (search_of input.now) result }
 {
-    laws::steps_find_the_half();
     if !input.get_anchored().is_anchored() {
         return find_whole_half(dfa, cache, *input);
     }

@@ -7,17 +7,17 @@
 //! with that one if it is idle.
 ghost use Rattle.std.specs.Prelude.{◌≡◌, ◌+◌, ◌-◌, ◌%◌, ◌≤◌, ◌∷◌, [], IsTrue, None, true};
 ghost use Rattle.regex_search_core.specs.Search.{search_of};
-ghost use Rattle.nfa_lazy_dfa.specs.Places.{IsFoundAt};
-ghost use Rattle.nfa_lazy_dfa.specs.Rows.{IsFor, IsRowOf, Spends, steps_of};
+ghost use Rattle.nfa_lazy_dfa.specs.Places.{IsFirstAt, IsFoundAt};
+ghost use Rattle.nfa_lazy_dfa.specs.Rows.{IsFor, Spends, steps_of};
 ghost use Rattle.nfa_lazy_dfa.specs.Runs.{place_at};
-ghost use Rattle.nfa_lazy_dfa.specs.Stances.{Stance, stance_of};
+ghost use Rattle.nfa_lazy_dfa.specs.Stances.{stance_of};
 ghost use Rattle.nfa_lazy_dfa.specs.Watches.{IsBegun, IsIdlePlace, IsWatching};
 
 use crate::cache::{Cache, MATCHED, ROW_CELLS, UNKNOWN};
 use crate::dfa::DFA;
 use crate::follow::Stand;
 use crate::known::cell_at;
-use crate::scan::Place;
+use crate::scan::{First, Place};
 use regex_search_core::{Input, StateID};
 
 /// Where a scan is that has found nothing yet.
@@ -120,28 +120,19 @@ fn likely_idle(dfa: &DFA, cache: &Cache, input: &Input<'_>, at: usize, first: u3
     idle_place(dfa, cache, likely / ROW_CELLS as u32)
 }
 
-/// The watch at the start of a scan, in a row whose only state is `start`. An NFA without assertions has no other idle
-/// row that a scan comes to before a match.
+/// The watch where a scan begins. An NFA without assertions has no other idle row that a scan comes to before a match.
 #[inline(always)]
-pub fn first_watch(
-    dfa: &DFA,
-    cache: &Cache,
-    input: &Input<'_>,
-    place: Place,
-    start: StateID,
-) -> Watch
+pub fn first_watch(dfa: &DFA, cache: &Cache, input: &Input<'_>, begun: First) -> Watch
     requires own { IsFor cache.now dfa.now }
-    requires alone { (s : Stance) → IsRowOf cache.now place.row s → s.states ≡ start ∷ [] }
     requires apart { dfa.now.apart ≡ true }
-    requires found { place.found ≡ None }
-    requires start { place.at ≡ (search_of input.now).start }
-    requires at { IsFoundAt dfa.now cache.now (search_of input.now) place }
+    requires at { IsFirstAt dfa.now cache.now (search_of input.now) begun }
     ensures watching { IsWatching dfa.now cache.now (search_of input.now) result }
-    ensures at { result.at ≡ place.at }
+    ensures at { result.at ≡ begun.place.at }
 {
+    let place = begun.place;
     let at = place.at;
     let first = place.row * ROW_CELLS as u32;
-    if !dfa.looks && start == dfa.nfa.start_anchored() {
+    if !dfa.looks && begun.start == dfa.nfa.start_anchored() {
         return Watch {
             at,
             first,

@@ -19,10 +19,10 @@ ghost use Rattle.nfa_lazy_dfa.specs.Windows.{IsWindow, half_in, start_in};
 use crate::cache::Cache;
 use crate::dfa::DFA;
 use crate::error::StopError;
-use crate::scan::{Place, first_row, half_at, next_row, scan_from};
+use crate::scan::{begin, next_row, place_after, scan_from};
 use crate::watch::{Watch, first_watch, keep_left, pass_counted, watch_at};
 use nfa_determinize::laws;
-use nfa_scan_core::starts::{is_utf8_empty, start_state};
+use nfa_scan_core::starts::is_utf8_empty;
 use regex_search_core::{HalfMatch, Input, PatternID};
 
 /// A part of the haystack that holds the match of a search. It ends where the match ends, and the match starts at its
@@ -84,21 +84,15 @@ fn window_from(
     ensures reads { OnOk result (HasRead (IsOver dfa.now (search_of input.now)) cache.old cache.new from.at) }
     ensures full { IfErr result (IsUsedUpAt cache.new dfa.now) }
 {
-    let earliest = input.get_earliest();
     let mut w = pass_counted(dfa, cache, input, from);
     while w.at < input.end() {
-        let next = next_row(dfa, cache, input, w.place())?;
-        let stand = &cache.stands[next as usize];
-        let found = half_at(stand.hit, w.at);
-        if stand.is_dead() || (earliest && found.is_some()) {
-            return Ok(window_of(found, w.start));
+        let place = w.place();
+        let next = next_row(dfa, cache, input, place)?;
+        let (after, over) = place_after(dfa, cache, input, place, next);
+        if over {
+            return Ok(window_of(after.found, w.start));
         }
-        let after = Place {
-            at: w.at + 1,
-            row: next,
-            found,
-        };
-        if found.is_some() {
+        if after.found.is_some() {
             let half = scan_from(dfa, cache, input, after)?;
             return Ok(window_of(half, w.start));
         }
@@ -127,21 +121,10 @@ fn scan_window(dfa: &DFA, cache: &mut Cache, input: &Input<'_>) -> Result<Option
     ensures small { dfa.now.capacity < first_row_memory → HasToScan dfa.now.nfa (search_of input.now)
         → StopsAtStart (search_of input.now) result }
 {
-    cache.count_scan(dfa);
-    let Some(start) = start_state(&dfa.nfa, input) else {
+    let Some(begun) = begin(dfa, cache, input)? else {
         return Ok(None);
     };
-    if input.is_done() {
-        return Ok(None);
-    }
-    let at = input.start();
-    let row = first_row(dfa, cache, input, start)?;
-    let place = Place {
-        at,
-        row,
-        found: None,
-    };
-    let from = first_watch(dfa, cache, input, place, start);
+    let from = first_watch(dfa, cache, input, begun);
     window_from(dfa, cache, input, from)
 }
 

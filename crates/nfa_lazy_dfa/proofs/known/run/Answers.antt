@@ -1,10 +1,10 @@
 -- A cell leads to what the byte leads to; one with a match is followed only if later matches count.
-use Rattle.std.proofs.Common.{◌≡◌, ◌<◌, ◌/◌, ◌∙◌, false, sym, arith}
+use Rattle.std.proofs.Common.{◌≡◌, ◌/◌, ◌∙◌, false, sym, arith}
 use Rattle.nfa_lazy_dfa.specs.Rows.{IsRowOf}
 use Rattle.nfa_lazy_dfa.specs.Stances.{stance_of}
 use Rattle.regex_search_core.specs.Search.{search_of}
-use Rattle.nfa_lazy_dfa.proofs.CacheLemmas.{few-rows, row-inside, row-is}
-use Rattle.nfa_lazy_dfa.proofs.RunLemmas.{found-matched, place-first}
+use Rattle.nfa_lazy_dfa.proofs.CacheLemmas.{row-inside, row-is}
+use Rattle.nfa_lazy_dfa.proofs.RunLemmas.{few-at, found-matched, place-first}
 use Rattle.nfa_lazy_dfa.proofs.known.run.Goals as goal
 
 pub loop-at-init : goal.loop-at-init
@@ -40,9 +40,6 @@ index-requires c =
 
 pub overflow_mul-first : goal.overflow_mul-first
 overflow_mul-first c =
-    let cache = c.args.cache.now in
-    let here = c.requires.at.at in
-    let few : c.args.from.row < 0x40_0000 =
-    few-rows cache c.args.dfa.now c.requires.own c.args.from.row (row-inside cache c.args.from.row here.stance
-    here.is) in
+    let few = few-at c.args.dfa.now c.args.cache.now (search_of c.args.input.now) c.args.from c.requires.own
+    c.requires.at in
     omega arith

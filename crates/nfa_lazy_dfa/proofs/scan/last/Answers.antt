@@ -4,6 +4,7 @@ use Rattle.std.specs.Prelude.{length}
 use Rattle.std.proofs.lemmas.Option.{slice_get-get_or, slice_get_past}
 use Rattle.regex_search_core.specs.Search.{search_of}
 use Rattle.nfa_lazy_dfa.specs.Assertions.{IsRead}
+use Rattle.nfa_lazy_dfa.proofs.CacheLemmas.{row-inside}
 use Rattle.nfa_lazy_dfa.proofs.StopLemmas.{IsStop-gave_up, IsUsedUp-at}
 use Rattle.nfa_lazy_dfa.proofs.scan.last.Goals as goal
 
@@ -13,6 +14,9 @@ returns-then-at-haystack-clause-read c =
     let at = c.args.place.at in
     let less : at < length x.haystack = grind arith in
     subst (IsRead c.args.dfa.now.nfa) (sym (slice_get-get_or x.haystack at 0 less)) c.in_ok-next.ensures.leads.next.read
+
+pub end-requires-clause-row : goal.end-requires-clause-row
+end-requires-clause-row c = row-inside c.args.cache.now c.args.place.row c.requires.at.stance c.requires.at.is
 
 pub returns-in-Ok-clause-read : goal.returns-in-Ok-clause-read
 returns-in-Ok-clause-read c =
@@ -24,7 +28,7 @@ returns-in-Ok-clause-read c =
 pub returns-in-Err-clause-stops : goal.returns-in-Err-clause-stops
 returns-in-Err-clause-stops c =
     IsStop-gave_up c.args.dfa.now.nfa (search_of c.args.input.now) c.at.result c.in-Err.gave_up c.args.place.at
-    c.at.ensures c.requires.span
+    c.at.ensures (record { low = c.requires.at.low; high = c.requires.at.high })
 
 pub returns-in-Err-clause-full : goal.returns-in-Err-clause-full
 returns-in-Err-clause-full c =

@@ -9,9 +9,9 @@ abbrev pub invariant-loop-place : goal.invariant-loop-place
 invariant-loop-place l = record {
   own : IsFor l.cache l.dfa;
   at : IsFoundAt l.dfa l.cache (search_of l.input) l.place;
-  low : l.fn.from.at ≤ l.place.at;
-  spends : Spends l.fn.cache l.cache (l.place.at - l.fn.from.at) 0;
-  counts : steps_of l.cache ≡ steps_of l.fn.cache + (l.place.at - l.fn.from.at);
+  low : l.fn.place.at ≤ l.place.at;
+  spends : Spends l.fn.cache l.cache (l.place.at - l.fn.place.at) 0;
+  counts : steps_of l.cache ≡ steps_of l.fn.cache + (l.place.at - l.fn.place.at);
 }
 
 abbrev pub decreases-loop-place : goal.decreases-loop-place

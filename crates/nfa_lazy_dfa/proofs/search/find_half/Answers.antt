@@ -1,8 +1,23 @@
--- The only scan has counted what it read.
-use Rattle.std.proofs.lemmas.Result.{on_ok_weaker}
+-- The only scan has counted what it read. If a match has to end on a boundary, the search is one by steps.
+use Rattle.std.specs.Prelude.{option_map}
+use Rattle.std.proofs.lemmas.Result.{IfOk-weaker, on_ok_weaker}
+use Rattle.regex_search_core.specs.Found.{half_found_of}
 use Rattle.regex_search_core.specs.Search.{search_of}
+use Rattle.nfa_paths.specs.Paths.{IsHalfAnswer}
+use Rattle.nfa_determinize.specs.Searches.{IsStepsHalf}
 use Rattle.nfa_lazy_dfa.proofs.ReadLemmas.{HasReadSpan-one}
 use Rattle.nfa_lazy_dfa.proofs.search.find_half.Goals as goal
+
+pub returns-then-is_utf8_empty-clause-answer : goal.returns-then-is_utf8_empty-clause-answer
+returns-then-is_utf8_empty-clause-answer c =
+    let nfa = c.args.dfa.now.nfa in
+    let kind = c.args.dfa.now.kind in
+    let x = search_of c.args.input.now in
+    IfOk-weaker c.find_on_boundary.result
+    (λ half. IsStepsHalf nfa kind x.earliest x (option_map half_found_of half))
+    (λ half. IsHalfAnswer nfa kind x.earliest x (option_map half_found_of half))
+    (λ half steps. (c.steps_find_the_half.ensures nfa x kind x.earliest (option_map half_found_of half)).1 steps)
+    c.find_on_boundary.ensures.steps
 
 pub returns-clause-reads : goal.returns-clause-reads
 returns-clause-reads c =

@@ -1,11 +1,7 @@
 -- The rows stay.
-use Rattle.nfa_lazy_dfa.specs.Rows.{IsFor}
+use Rattle.std.proofs.Common.{refl}
+use Rattle.nfa_lazy_dfa.proofs.CacheLemmas.{IsFor-same}
 use Rattle.nfa_lazy_dfa.proofs.watch.keep_left.Goals as goal
 
 pub returns-then-from-newer-clause-own : goal.returns-then-from-newer-clause-own
-unfolding IsFor
-returns-then-from-newer-clause-own c = record {
-  rows = c.requires.rows;
-  taken = c.requires.taken;
-  fits = c.requires.fits;
-}
+returns-then-from-newer-clause-own c = IsFor-same c.args.dfa.now c.args.cache.now _ refl refl refl refl c.requires

@@ -1,20 +1,17 @@
 -- The row is idle, or the watch knows an older idle row.
-use Rattle.std.proofs.Common.{◌≡◌, ◌<◌, ◌*◌, ◌/◌, ◌%◌, ℕ, sym, ◌∙◌, ap, subst, arith}
+use Rattle.std.proofs.Common.{◌≡◌, ◌*◌, ◌/◌, ◌%◌, ℕ, sym, ◌∙◌, ap, subst, arith}
 use Rattle.std.specs.Prelude.{option_map}
 use Rattle.regex_search_core.specs.Found.{half_found_of}
 use Rattle.regex_search_core.specs.Search.{search_of}
 use Rattle.nfa_lazy_dfa.specs.Rows.{IsRowOf}
-use Rattle.nfa_lazy_dfa.proofs.CacheLemmas.{few-rows, row-inside}
+use Rattle.nfa_lazy_dfa.proofs.RunLemmas.{few-at}
 use Rattle.nfa_lazy_dfa.proofs.WatchLemmas.{IsFoundAt-place, idle-begun}
 use Rattle.nfa_lazy_dfa.proofs.watch.watch_at.Goals as goal
 
 pub overflow_mul-first : goal.overflow_mul-first
 overflow_mul-first c =
-    let cache = c.args.cache.now in
-    let here = c.requires.at.at in
-    let few : c.args.place.row < 0x40_0000 =
-    few-rows cache c.args.dfa.now c.requires.own c.args.place.row (row-inside cache c.args.place.row here.stance
-    here.is) in
+    let few = few-at c.args.dfa.now c.args.cache.now (search_of c.args.input.now) c.args.place c.requires.own
+    c.requires.at in
     omega arith
 
 pub returns-then-here-first-clause-watching : goal.returns-then-here-first-clause-watching

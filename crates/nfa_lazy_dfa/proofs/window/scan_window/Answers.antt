@@ -1,39 +1,50 @@
 -- No match may start, or the scan is at its first position.
-use Rattle.std.proofs.Common.{◌≡◌, ◌<◌, ◌≤◌, ◌∙◌, inl, sym, arith}
-use Rattle.regex_search_core.specs.Search.{search_of}
+use Rattle.std.proofs.Common.{◌≡◌, ◌∙◌, ◌+◌, ◌-◌, arith}
 use Rattle.std.proofs.lemmas.Result.{on_ok_weaker}
+use Rattle.regex_search_core.specs.Search.{search_of}
+use Rattle.nfa_lazy_dfa.specs.Places.{IsFirstAt}
 use Rattle.nfa_lazy_dfa.specs.Reads.{IsOver}
-use Rattle.nfa_lazy_dfa.specs.Rows.{steps_of}
 use Rattle.nfa_lazy_dfa.proofs.ReadLemmas.{HasRead-more, HasRead-none, IsOver-none}
-use Rattle.nfa_lazy_dfa.proofs.ScanLemmas.{no-starts, no-state}
+use Rattle.nfa_lazy_dfa.proofs.ScanLemmas.{no-starts}
+use Rattle.nfa_lazy_dfa.proofs.WorkLemmas.{Scans-rest}
 use Rattle.nfa_lazy_dfa.proofs.window.scan_window.Goals as goal
+use Rattle.nfa_lazy_dfa.proofs.window.scan_window.Goals.{After-first_watch-from}
 
 pub returns-in_default-clause-half : goal.returns-in_default-clause-half
 returns-in_default-clause-half c =
-    let x = search_of c.args.input.now in
-    no-starts c.args.dfa.now x (no-state c.args.dfa.now x (sym c.start_state.ensures.value ∙ c.in_default.is))
+    no-starts c.args.dfa.now (search_of c.args.input.now) (rw c.in_default.is at c.in_ok-begun.ensures.none)
 
 pub returns-in_default-clause-reads : goal.returns-in_default-clause-reads
 returns-in_default-clause-reads c =
+    let dfa = c.args.dfa.now in
     let x = search_of c.args.input.now in
-    HasRead-none (IsOver c.args.dfa.now x) c.args.cache.now c.count_scan.new.self x.start
-    (IsOver-none c.args.dfa.now x (no-state c.args.dfa.now x (sym c.start_state.ensures.value ∙ c.in_default.is)))
-    (omega (arith, c.count_scan.ensures.counts.steps))
+    let none = rw c.in_default.is at c.in_ok-begun.ensures.none in
+    HasRead-none (IsOver dfa x) c.args.cache.now c.begin.new.cache x.start (IsOver-none dfa x none)
+    (omega (arith, c.in_ok-begun.ensures.same))
 
-pub returns-then-is_done-clause-reads : goal.returns-then-is_done-clause-reads
-returns-then-is_done-clause-reads c =
+pub first_watch-from-requires-clause-at : goal.first_watch-from-requires-clause-at
+first_watch-from-requires-clause-at c = rw c.in-Some.is at c.in_ok-begun.ensures.at
+
+-- the watch is at the start of the span
+at-start : (c : After-first_watch-from) → c.first_watch-from.result.at ≡ (search_of c.args.input.now).start
+at-start c =
+    let begun : IsFirstAt c.args.dfa.now c.begin.new.cache (search_of c.args.input.now) c.in-Some.begun =
+    rw c.in-Some.is at c.in_ok-begun.ensures.at in
+    c.first_watch-from.ensures.at ∙ begun.begins
+
+pub returns-clause-scan : goal.returns-clause-scan
+returns-clause-scan c =
     let x = search_of c.args.input.now in
-    let past : x.end < x.start = c.is_done.ensures.0 c.if-is_done.true in
-    HasRead-none (IsOver c.args.dfa.now x) c.args.cache.now c.count_scan.new.self x.start (inl (omega arith))
-    (omega (arith, c.count_scan.ensures.counts.steps))
+    let start = at-start (goal.at.returns-clause-scan c).After-first_watch-from in
+    Scans-rest c.args.cache.now c.begin.new.cache c.window_from.new.cache
+    ((x.end - c.first_watch-from.result.at) + 1) (x.end - x.start) c.in_ok-begun.ensures.scan
+    c.in_ok-begun.ensures.same c.window_from.ensures.spends (omega (arith, start))
 
 pub returns-clause-reads : goal.returns-clause-reads
 returns-clause-reads c =
     let x = search_of c.args.input.now in
-    let at = c.first_watch-from.result.at in
-    let from : at ≡ x.start = c.first_watch-from.ensures.at ∙ c.start-at.ensures in
-    let grows : steps_of c.args.cache.now ≤ steps_of c.first_row.new.cache =
-    omega (arith, c.count_scan.ensures.counts.steps, c.first_row.ensures.spends.grows) in
+    let start = at-start (goal.at.returns-clause-reads c).After-first_watch-from in
     on_ok_weaker c.window_from.result
-    (HasRead-more (IsOver c.args.dfa.now x) c.args.cache.now c.first_row.new.cache c.window_from.new.cache x.start at
-    (omega arith) (omega arith)) c.window_from.ensures.reads
+    (HasRead-more (IsOver c.args.dfa.now x) c.args.cache.now c.begin.new.cache c.window_from.new.cache x.start
+    c.first_watch-from.result.at (omega (arith, start)) (omega (arith, start, c.in_ok-begun.ensures.same)))
+    c.window_from.ensures.reads

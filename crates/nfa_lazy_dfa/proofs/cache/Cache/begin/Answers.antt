@@ -1,9 +1,7 @@
 -- The rows are those that have the first one.
-use Rattle.nfa_lazy_dfa.specs.Rows.{IsFor}
+use Rattle.std.proofs.Common.{refl}
+use Rattle.nfa_lazy_dfa.proofs.CacheLemmas.{IsFor-same}
 use Rattle.nfa_lazy_dfa.proofs.cache.Cache.begin.Goals as goal
 
 pub returns-clause-own : goal.returns-clause-own
-unfolding IsFor
-returns-clause-own c =
-    let own = c.in_ok-row.ensures.own in
-    record { rows = own.rows; taken = own.taken; fits = own.fits }
+returns-clause-own c = IsFor-same c.args.dfa.now c.intern.new.self _ refl refl refl refl c.in_ok-row.ensures.own

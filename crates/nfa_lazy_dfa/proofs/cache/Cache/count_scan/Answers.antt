@@ -1,11 +1,7 @@
 -- The rows stay.
-use Rattle.nfa_lazy_dfa.specs.Rows.{IsFor}
+use Rattle.std.proofs.Common.{refl}
+use Rattle.nfa_lazy_dfa.proofs.CacheLemmas.{IsFor-same}
 use Rattle.nfa_lazy_dfa.proofs.cache.Cache.count_scan.Goals as goal
 
 pub returns-clause-own : goal.returns-clause-own
-unfolding IsFor
-returns-clause-own c = record {
-  rows = c.requires.rows;
-  taken = c.requires.taken;
-  fits = c.requires.fits;
-}
+returns-clause-own c = IsFor-same c.args.dfa.now c.args.self.now _ refl refl refl refl c.requires

@@ -14,6 +14,7 @@ use Rattle.nfa_lazy_dfa.specs.Stops.{IsStop}
 use Rattle.nfa_lazy_dfa.proofs.IsMatchLemmas.{found-free}
 use Rattle.nfa_lazy_dfa.proofs.StopLemmas.{IsStop-later}
 use Rattle.nfa_lazy_dfa.proofs.dfa.DFA.try_is_match.Goals as goal
+use Rattle.nfa_lazy_dfa.proofs.dfa.DFA.try_is_match.Goals.{After-try_find_half}
 
 is_some-map : (o : Option HalfMatch) → is_some (option_map half_found_of o) ≡ is_some o
 is_some-map None = refl
@@ -51,17 +52,18 @@ same-bounds a b dfa x y start end bounds =
       clears = bounds.clears;
     }
 
-pub returns-clause-work : goal.returns-clause-work
-returns-clause-work c =
+bounds : (c : After-try_find_half) → IsBounded c.args.cache.now c.try_find_half.new.cache c.args.self.now
+    (search_of c.args.input)
+bounds c =
     same-bounds c.args.cache.now c.try_find_half.new.cache c.args.self.now (search_of c.args.input)
     (search_of c.earliest-input.result) (ap (λ (s : Search). s.start) c.earliest-input.ensures)
     (ap (λ (s : Search). s.end) c.earliest-input.ensures) (search rules)
 
+pub returns-clause-work : goal.returns-clause-work
+returns-clause-work c = bounds (goal.at.returns-clause-work c).After-try_find_half
+
 pub returns-in_err-half-clause-work : goal.returns-in_err-half-clause-work
-returns-in_err-half-clause-work c =
-    same-bounds c.args.cache.now c.try_find_half.new.cache c.args.self.now (search_of c.args.input)
-    (search_of c.earliest-input.result) (ap (λ (s : Search). s.start) c.earliest-input.ensures)
-    (ap (λ (s : Search). s.end) c.earliest-input.ensures) (search rules)
+returns-in_err-half-clause-work c = bounds (goal.at.returns-in_err-half-clause-work c).After-try_find_half
 
 pub returns-clause-reads : goal.returns-clause-reads
 returns-clause-reads c =
