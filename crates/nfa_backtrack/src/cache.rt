@@ -16,7 +16,7 @@ use std::marker::Model;
 ///
 /// Contracts see the scans and turns of its last search and of all its searches, how many searches were answered and
 /// how many refused, and its frames, blocks and slots.
-#[derive(Debug, Drop)]
+#[derive(Debug)]
 pub struct Cache {
     pub(super) scratch: Scratch,
     pub(super) slots: Vec<Option<NonMaxUsize>>,
@@ -28,6 +28,20 @@ pub struct Cache {
     past_scans: Counter,
     /// Turns of all searches before the last one.
     past_turns: Counter,
+}
+
+// Written out, so that a drop is one call in a proof, and not one for each field.
+impl Drop for Cache {
+    fn drop(self) {
+        let Cache {
+            scratch: _,
+            slots: _,
+            answered: _,
+            refused: _,
+            past_scans: _,
+            past_turns: _,
+        } = self;
+    }
 }
 
 impl Model for Cache {

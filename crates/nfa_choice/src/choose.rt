@@ -56,13 +56,26 @@ pub enum Engine {
 /// [`BoundedBacktracker::max_haystack_len`] bytes long. If it refuses the search, and in all other cases, the PikeVM
 /// runs. Contracts see the NFA, the settings of both engines, what both caches show, and which engine gave the last
 /// answer.
-#[derive(Debug, Drop)]
+#[derive(Debug)]
 pub struct Choice {
     back: BoundedBacktracker,
     pike: PikeVM,
     back_cache: backtrack::Cache,
     pike_cache: pikevm::Cache,
     ran: Option<Engine>,
+}
+
+// Written out, so that a drop is one call in a proof, and not one for each field.
+impl Drop for Choice {
+    fn drop(self) {
+        let Choice {
+            back: _,
+            pike: _,
+            back_cache: _,
+            pike_cache: _,
+            ran: _,
+        } = self;
+    }
 }
 
 impl Model for Choice {

@@ -47,13 +47,25 @@ pub enum Engine {
 /// The lazy DFA searches first. If it stops without an answer, the PikeVM searches the same input. Both have the match
 /// kind of the configuration. Contracts see the NFA, the configuration, what the PikeVM's cache shows, and which engine
 /// gave the last answer.
-#[derive(Drop)]
 pub struct Hybrid {
     dfa: DFA,
     pike: PikeVM,
     dfa_cache: Cache,
     pike_cache: pikevm::Cache,
     ran: Option<Engine>,
+}
+
+// Written out, so that a drop is one call in a proof, and not one for each field.
+impl Drop for Hybrid {
+    fn drop(self) {
+        let Hybrid {
+            dfa: _,
+            pike: _,
+            dfa_cache: _,
+            pike_cache: _,
+            ran: _,
+        } = self;
+    }
 }
 
 impl Model for Hybrid {

@@ -17,7 +17,7 @@ use std::marker::Model;
 ///
 /// Contracts see the states, slots, patterns and stack frames that the cache has room for, the scans and turns of its
 /// last search, and their totals over all searches.
-#[derive(Debug, Drop)]
+#[derive(Debug)]
 pub struct Cache {
     pub(super) threads: Threads,
     pub(super) found: Vec<Slot>,
@@ -27,6 +27,20 @@ pub struct Cache {
     past_scans: Counter,
     /// Turns of all searches before the last one.
     past_turns: Counter,
+}
+
+// Written out, so that a drop is one call in a proof, and not one for each field.
+impl Drop for Cache {
+    fn drop(self) {
+        let Cache {
+            threads: _,
+            found: _,
+            slots: _,
+            patterns: _,
+            past_scans: _,
+            past_turns: _,
+        } = self;
+    }
 }
 
 impl Model for Cache {

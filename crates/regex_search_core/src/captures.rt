@@ -23,11 +23,22 @@ use std::marker::Model;
 /// A slot holds the byte offset of the start or the end of a group, or `None` if the group did not take part. Copies
 /// share the groups, so a copy takes memory for its slots only. A contract sees the groups, the pattern's number and the
 /// slots.
-#[derive(Debug, Drop)]
+#[derive(Debug)]
 pub struct Captures {
     group_info: HeldGroups,
     pattern: Option<PatternID>,
     slots: Vec<Option<NonMaxUsize>>,
+}
+
+// Written out, so that a drop is one call in a proof, and not one for each field.
+impl Drop for Captures {
+    fn drop(self) {
+        let Captures {
+            group_info: _,
+            pattern: _,
+            slots: _,
+        } = self;
+    }
 }
 
 impl Model for Captures {

@@ -93,7 +93,7 @@ impl<T: Drop> From<AllocFailed<T>> for BuildError {
 /// of its patterns. Its groups are given for each of its patterns, or for none.
 ///
 /// A contract sees the NFA as an `Automaton`.
-#[derive(Debug, Drop)]
+#[derive(Debug)]
 pub struct NFA {
     states: Vec<State>,
     anchored: StateID,
@@ -102,6 +102,21 @@ pub struct NFA {
     groups: GroupInfo,
     has_empty: bool,
     utf8: bool,
+}
+
+// Written out, so that a drop is one call in a proof, and not one for each field.
+impl Drop for NFA {
+    fn drop(self) {
+        let NFA {
+            states: _,
+            anchored: _,
+            unanchored: _,
+            patterns: _,
+            groups: _,
+            has_empty: _,
+            utf8: _,
+        } = self;
+    }
 }
 
 impl Model for NFA {
