@@ -1,11 +1,13 @@
-//! A text with stars in place of what a named group holds.
+//! A text with stars in place of what a named group holds, or with a mark in place of each match.
 ghost use Rattle.std.specs.Prelude.{◌≡◌, IfOk};
 ghost use Rattle.nfa_choice.specs.ChoiceState.{KeepsEngines};
+ghost use Rattle.nfa_meta.specs.Rewritten.{IsRewrittenBy};
 ghost use Rattle.callers.specs.Redacted.{IsRedacted, is_hidden, is_within, starred};
 
 use anyhow::Result;
 use nfa_choice::Choice;
 use nfa_engines::{Captures, Input, Span};
+use nfa_meta::Regex;
 use std::alloc::{AllocError, Global};
 
 /// Whether the offset is in the span, if there is one.
@@ -54,4 +56,16 @@ pub fn redact(alloc: Global, choice: &mut Choice, name: &str, text: &[u8]) -> Re
 {
     let caught = choice.captures_all(alloc, Input::new(text))?;
     Ok(starred(alloc, &caught, name, text)?)
+}
+
+/// Returns the text with the mark in place of each match. The only error is that allocation failed.
+pub fn masked(
+    alloc: Global,
+    regex: &mut Regex,
+    text: &[u8],
+    mark: &[u8],
+) -> Result<Vec<u8>, AllocError>
+    ensures { IfOk result (λ out. IsRewrittenBy regex.old text.now (λ _. mark.now) out.items) }
+{
+    regex.replace_all_with(alloc, text, |_, output| output.extend_from_slice(mark))
 }

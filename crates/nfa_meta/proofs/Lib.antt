@@ -7,5 +7,6 @@ pub mod MatchesLemmas
 pub mod MatchSlotLemmas
 pub mod PrefixLemmas
 pub mod RewriteLemmas
+pub mod Rewriting
 pub mod WindowLemmas
 pub mod WorkLemmas

@@ -3,7 +3,7 @@ use Rattle.std.specs.Prelude.{◌≡◌, ◌≤◌, ℕ, List, [], ◌∷◌, �
 use Rattle.std.specs.Borrow.{Bor, MutBor}
 use Rattle.std.specs.Fn.{Called, Mut}
 use Rattle.std.specs.Global.{Vec}
-use Rattle.std.specs.List.{AllByRecursion}
+use Rattle.std.specs.List.{AllByRecursion, FoldsTo}
 use Rattle.std.specs.declared.alloc.AllocError.{AllocError}
 use Rattle.regex_search_core.specs.Search.{whole}
 use Rattle.regex_search_core.specs.Slots.{Captured}
@@ -35,11 +35,6 @@ pub record IsRewrittenUpToBy (r : ChoiceState) (text : List ℕ) (limit : ℕ) (
 
 module _ {F : Type 0} (g : Mut F (Bor Captured × (MutBor (Vec ℕ) × Unit {0}))
     (Result (Unit {0}) AllocError × (MutBor (Vec ℕ) × Unit {0}))) where
-  -- the function may be called with the captures of any match of the text, and any output
-  abbrev pub TakesMatchesOf : List ℕ → Type 0
-  TakesMatchesOf text = (f : F) (p : Bor Captured) (q : MutBor (Vec ℕ)) → CapturesInside (whole text) p.now
-      → g.pre f (p, (q, tt))
-
   -- a call of f with these captures and this output returns `Ok`, and leaves f' and the output after it
   pub record Writes (f : F) (c : Captured) (before after : List ℕ) (f' : F) : Type 0 where
     pub shown : Bor Captured
@@ -50,10 +45,27 @@ module _ {F : Type 0} (g : Mut F (Bor Captured × (MutBor (Vec ℕ) × Unit {0})
     pub called : Called g f (shown, (lent, tt)) (Ok tt, (left, tt)) f'
     pub leaves : left.now.items ≡ after
 
-  -- each call that returns `Ok` for a match of the text appends what h gives for its captures
-  abbrev pub AppendsBy : List ℕ → (Captured → List ℕ) → Type 0
-  AppendsBy text h = (f f' : F) (c : Captured) (before after : List ℕ) → CapturesInside (whole text) c
-      → Writes f c before after f' → after ≡ before ++ h c
+  -- a call of f for the captures of a match of the text, with some output, returns `Ok` and leaves f'
+  abbrev pub WritesForMatch : List ℕ → F → Captured → F → Type 0
+  WritesForMatch text f c f' = CapturesInside (whole text) c × (before : List ℕ) × (after : List ℕ)
+      × Writes f c before after f'
+
+  -- calls that return `Ok`, for captures of matches of the text one after another, lead from f to f'
+  pub record WritesLead (text : List ℕ) (f f' : F) : Type 0 where
+    pub caught : List Captured
+    pub calls : FoldsTo (WritesForMatch text) f caught f'
+
+  -- In each state that calls lead to from f, the function may be called with the captures of any match of the text, and
+  -- any output.
+  abbrev pub TakesMatchesOf : List ℕ → F → Type 0
+  TakesMatchesOf text f = (f' : F) (p : Bor Captured) (q : MutBor (Vec ℕ)) → WritesLead text f f'
+      → CapturesInside (whole text) p.now → g.pre f' (p, (q, tt))
+
+  -- In each state that calls lead to from f, a call that returns `Ok` for a match of the text appends what h gives for
+  -- its captures.
+  abbrev pub AppendsBy : List ℕ → F → (Captured → List ℕ) → Type 0
+  AppendsBy text f h = (f' f'' : F) (c : Captured) (before after : List ℕ) → WritesLead text f f'
+      → CapturesInside (whole text) c → Writes f' c before after f'' → after ≡ before ++ h c
 
   -- The text from an offset on is appended, and for the match of each of these captures what a call appends: the calls,
   -- in their order, lead from f and the output before to the output after.
@@ -68,6 +80,7 @@ module _ {F : Type 0} (g : Mut F (Bor Captured × (MutBor (Vec ℕ) × Unit {0})
       (output : List ℕ) : Type 0 where
     pub goes_on : (after : List ℕ) → RewritesFrom text from left f output after
         → RewritesFrom text 0 caught f₀ [] after
+    pub leads : WritesLead text f₀ f
     pub begins : i ≡ 0 → from ≡ 0
     pub within : from ≤ length text
     pub inside : AllByRecursion (CapturesInside (whole text)) left

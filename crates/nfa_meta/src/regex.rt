@@ -50,7 +50,6 @@ use thompson_nfa::NFA;
 /// The DFA searches first. It gives the ends of matches, and for spans and groups a window in which the [`Choice`]
 /// finds the match. If the DFA stops without an answer, the [`Choice`] searches the whole input. Contracts see what
 /// they see of the [`Choice`], which does not change if the DFA answers.
-#[derive(Drop)]
 pub struct Regex {
     config: Config,
     dfa: DFA,
@@ -62,6 +61,21 @@ pub struct Regex {
     prefix: Vec<u8>,
     /// The last match was at the first start of its search, so the next one may be, too.
     matched_at_first: bool,
+}
+
+// Written out, so that a drop is one call in a proof, and not one for each field.
+impl Drop for Regex {
+    fn drop(self) {
+        let Regex {
+            config: _,
+            dfa: _,
+            cache: _,
+            choice: _,
+            records_spans: _,
+            prefix: _,
+            matched_at_first: _,
+        } = self;
+    }
 }
 
 impl Model for Regex {
@@ -114,6 +128,25 @@ impl Regex {
         ensures memory { IsOkUnless result SearchError.Memory }
     {
         Regex::from_parts(alloc, nfa, Config::new())
+    }
+
+    /// Returns a regex for the same NFA with the same settings and empty caches, for instance for another thread. The
+    /// only error is `Memory`.
+    ///
+    /// ```
+    /// // regex of "foo[0-9]+"
+    /// let mut copy = regex.clone(alloc)?;
+    /// let found = copy.find(Input::new(b"foo12345"));
+    /// assert_eq!(rt; found.expect(rt, "a match").range(), 0..8);
+    /// ```
+    pub fn clone(&self, alloc: Global) -> Result<Regex, SearchError>
+        ensures made { IfOk result (λ made. made ≡ engines_of self.now.nfa self.now.visited_capacity) }
+        ensures memory { IsOkUnless result SearchError.Memory }
+    {
+        let Ok(nfa) = self.get_nfa().clone() else {
+            return Err(SearchError::Memory);
+        };
+        Regex::from_parts(alloc, nfa, self.config)
     }
 
     /// Makes the engines for the NFA, with these settings and empty caches. The only error is `Memory`.

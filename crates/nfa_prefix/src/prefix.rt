@@ -21,7 +21,7 @@ const MAX_LENGTH: usize = 32;
 /// ```
 /// // NFA of "(foo)(?:bar|qux)": "foo"
 /// let prefix = literal_prefix(alloc, &nfa)?;
-/// assert!(rt; &prefix[..] == b"foo");
+/// assert!(rt; &prefix[..] == b"foo".as_slice());
 /// ```
 pub fn literal_prefix(alloc: Global, nfa: &NFA) -> Result<Vec<u8>, AllocError>
     ensures value { IfOk result (λ prefix. prefix.items ≡ prefix_of nfa.now) }

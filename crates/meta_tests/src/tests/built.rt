@@ -136,3 +136,25 @@ fn expect_rows_take_memory(rt: &impl Abort, regex: &mut Regex) {
     assert!(rt; regex.is_match(Input::new(b"a foo")));
     assert!(rt; regex.memory_usage() > before);
 }
+
+#[test]
+fn clones_have_the_settings_and_empty_caches(rt: HostRuntime) {
+    let alloc = rt.alloc();
+    let builder = Regex::builder().configure(Regex::config().hybrid(false));
+    let mut regex = built(&rt, alloc, builder, "fo+");
+    expect_span(&rt, &mut regex, "a foo", Some((2, 5)));
+    expect_ran(&rt, &regex, true);
+    expect_clone(&rt, alloc, &regex);
+}
+
+// Without the lazy DFA, each search runs another engine.
+fn expect_clone(rt: &impl Abort, alloc: Global, regex: &Regex) {
+    let mut copy = regex.clone(alloc).expect(rt, "a clone");
+    expect_ran(rt, &copy, false);
+    expect_span(rt, &mut copy, "a foo", Some((2, 5)));
+    expect_ran(rt, &copy, true);
+}
+
+fn expect_ran(rt: &impl Abort, regex: &Regex, ran: bool) {
+    assert_eq!(rt; regex.ran().is_some(), ran);
+}

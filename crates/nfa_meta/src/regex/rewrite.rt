@@ -36,12 +36,13 @@ impl Regex {
     ) -> Result<Vec<u8>, AllocError>
     where
         F: FnMut(&Captures, &mut Vec<u8>) -> Result<(), AllocError>,
-        requires { TakesMatchesOf F.FnMut haystack.now }
+        requires { TakesMatchesOf F.FnMut haystack.now replacement }
         ensures rewritten { IfOk result (λ output.
             IsRewritten F.FnMut self.old haystack.now replacement output.items) }
-        // If each call appends what a function `h` of the captures gives.
-        ensures appended { (h : Captured → List ℕ) → AppendsBy F.FnMut haystack.now h → IfOk result (λ output.
-            IsRewrittenBy self.old haystack.now h output.items) }
+        // If each call appends what a function `h` of the captures gives. `Rattle.nfa_meta.proofs.Rewriting` has lemmas
+        // for a closure that changes nothing that it captured.
+        ensures appended { (h : Captured → List ℕ) → AppendsBy F.FnMut haystack.now replacement h
+            → IfOk result (λ output. IsRewrittenBy self.old haystack.now h output.items) }
         ensures keeps { KeepsEngines self.old self.new }
     {
         let Ok(caught) = self.captures_all(alloc, Input::new(haystack)) else {
@@ -56,7 +57,7 @@ impl Regex {
     ///
     /// ```
     /// // regex of "[0-9]+"
-    /// let output = regex.replacen_with(alloc, b"1 and 23", 1, |_, output| output.push(b'#'))?;
+    /// let output = regex.replacen_with(alloc, b"1 and 23", 1, |_, output| output.extend_from_slice(b"#"))?;
     /// assert_eq!(rt; output.as_slice(), b"# and 23".as_slice());
     /// ```
     pub fn replacen_with<F>(
@@ -68,15 +69,15 @@ impl Regex {
     ) -> Result<Vec<u8>, AllocError>
     where
         F: FnMut(&Captures, &mut Vec<u8>) -> Result<(), AllocError>,
-        requires { TakesMatchesOf F.FnMut haystack.now }
+        requires { TakesMatchesOf F.FnMut haystack.now replacement }
         ensures all { limit ≡ 0 → IfOk result (λ output.
             IsRewritten F.FnMut self.old haystack.now replacement output.items) }
         ensures first { 0 < limit → IfOk result (λ output.
             IsRewrittenUpTo F.FnMut self.old haystack.now replacement limit output.items) }
         // If each call appends what a function `h` of the captures gives.
-        ensures all_appended { limit ≡ 0 → (h : Captured → List ℕ) → AppendsBy F.FnMut haystack.now h
+        ensures all_appended { limit ≡ 0 → (h : Captured → List ℕ) → AppendsBy F.FnMut haystack.now replacement h
             → IfOk result (λ output. IsRewrittenBy self.old haystack.now h output.items) }
-        ensures first_appended { 0 < limit → (h : Captured → List ℕ) → AppendsBy F.FnMut haystack.now h
+        ensures first_appended { 0 < limit → (h : Captured → List ℕ) → AppendsBy F.FnMut haystack.now replacement h
             → IfOk result (λ output. IsRewrittenUpToBy self.old haystack.now limit h output.items) }
         ensures keeps { KeepsEngines self.old self.new }
     {
@@ -99,7 +100,7 @@ fn rewrite<F>(
 ) -> Result<Vec<u8>, AllocError>
 where
     F: FnMut(&Captures, &mut Vec<u8>) -> Result<(), AllocError>,
-    requires takes { TakesMatchesOf F.FnMut haystack.now }
+    requires takes { TakesMatchesOf F.FnMut haystack.now replacement }
     requires inside { All (CapturesInside (whole haystack.now)) caught.items }
     requires apart { AreDisjoint (whole haystack.now) None (map match_in caught.items) }
     ensures { IfOk result (λ output.

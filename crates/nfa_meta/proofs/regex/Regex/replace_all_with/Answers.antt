@@ -16,6 +16,6 @@ returns-clause-appended g c = λ h appends.
       caught = cs;
       all = all-caught c.args.self.now text (search_of c.new.result) c.new.ensures cs c.in-Ok.ensures.rows
           c.in-Ok.ensures.groups;
-      output_is = rewritten-by g.F.FnMut text h appends cs (recursion_from_All (CapturesInside (whole text)) cs inside)
-          0 c.args.replacement [] c.in_ok-output.output.items c.in_ok-output.ensures;
+      output_is = rewritten-by g.F.FnMut text h cs (recursion_from_All (CapturesInside (whole text)) cs inside) 0
+          c.args.replacement [] c.in_ok-output.output.items appends c.in_ok-output.ensures;
     }

@@ -18,7 +18,7 @@ returns-clause-first_appended g c = λ some h appends.
     record {
       caught = first.all;
       all = all-caught c.args.self.now text (search_of c.new.result) c.new.ensures first.all first.rows first.groups;
-      output_is = rewritten-by g.F.FnMut text h appends cs (recursion_from_All (CapturesInside (whole text)) cs inside)
-          0 c.args.replacement [] c.in_ok-output.output.items c.in_ok-output.ensures
+      output_is = rewritten-by g.F.FnMut text h cs (recursion_from_All (CapturesInside (whole text)) cs inside) 0
+          c.args.replacement [] c.in_ok-output.output.items appends c.in_ok-output.ensures
           ∙ ap (λ (caught : List Captured). rewritten text h 0 caught) first.first;
     }

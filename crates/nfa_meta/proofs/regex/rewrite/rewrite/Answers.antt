@@ -1,11 +1,22 @@
 -- After one more call the output has what comes for one more match.
 use Rattle.std.proofs.Common.{rules, ◌≡◌, ◌++◌, ◌∷◌, arith, refl, slice_range}
 use Rattle.std.proofs.lemmas.Grind.{common_steps}
+use Rattle.std.proofs.lemmas.List.Elements.{recursion_from_All}
 use Rattle.std.specs.Vec.Iter.{into_iter_items}
 use Rattle.nfa_search_base.specs.CapturesRuns.{match_in}
 use Rattle.nfa_meta.specs.Rewritten.{Writes}
-use Rattle.nfa_meta.proofs.RewriteLemmas.{calls-go-on}
+use Rattle.nfa_meta.proofs.RewriteLemmas.{WritesLead-none, calls-go-on, calls-lead-on}
 use Rattle.nfa_meta.proofs.regex.rewrite.rewrite.Goals as goal
+
+pub loop-captures-init : goal.loop-captures-init
+loop-captures-init g c = record {
+  goes_on = first_of (search rules, grind (arith, common_steps));
+  leads = WritesLead-none g.F.FnMut c.args.haystack.now c.args.replacement;
+  begins = first_of (search rules, grind (arith, common_steps));
+  within = first_of (search rules, grind (arith, common_steps));
+  inside = first_of (search rules, grind (arith, common_steps, recursion_from_All));
+  apart = first_of (search rules, grind (arith, common_steps));
+}
 
 pub loop-captures-preserved : goal.loop-captures-preserved
 loop-captures-preserved g c =
@@ -13,10 +24,10 @@ loop-captures-preserved g c =
     let l = c.loop-captures in
     let left = into_iter_items l.captures-iterator in
     let rest = into_iter_items c.next.new.self in
+    let before = l.output.items ++ slice_range text l.from (match_in c.in-Some.captures).start in
+    let after = c.replacement.new.arg3.items in
     let is : left ≡ c.in-Some.captures ∷ rest = first_of (search rules, grind (arith, common_steps)) in
-    let w : Writes g.F.FnMut l.replacement c.in-Some.captures
-    (l.output.items ++ slice_range text l.from (match_in c.in-Some.captures).start) c.replacement.new.arg3.items
-    c.replacement.new.self =
+    let w : Writes g.F.FnMut l.replacement c.in-Some.captures before after c.replacement.new.self =
     record {
       shown = _;
       shows = refl;
@@ -29,8 +40,10 @@ loop-captures-preserved g c =
     record {
       goes_on =
           calls-go-on g.F.FnMut text c.args.caught.items left rest c.in-Some.captures c.args.replacement l.replacement
-          c.replacement.new.self _ l.from c.in_ok-end.end l.output.items c.replacement.new.arg3.items is
-          c.in_ok-end.ensures.end l.invariant w;
+          c.replacement.new.self _ l.from c.in_ok-end.end l.output.items after is c.in_ok-end.ensures.end l.invariant w;
+      leads =
+          calls-lead-on g.F.FnMut text c.args.caught.items left rest c.in-Some.captures c.args.replacement
+          l.replacement c.replacement.new.self _ l.from l.output.items before after is l.invariant w;
       begins = first_of (search rules, grind (arith, common_steps));
       within = first_of (search rules, grind (arith, common_steps));
       inside = first_of (search rules, grind (arith, common_steps));
