@@ -1,7 +1,6 @@
 pub mod Going
 pub mod Grouped
 pub mod Meant
-pub mod Needed
 pub mod Painted
 pub mod Printed
 pub mod Refusals

@@ -1,64 +1,38 @@
-//! The lines in which a pattern matches, and what is printed of them.
-ghost use Rattle.std.specs.Prelude.{◌≡◌, ◌≤◌, ◌<◌, ◌+◌, ◌^◌, ◌++◌, ◌⊎◌, All, IfErr, IfOk, List, MatchOption, OnOk, false, length};
-ghost use Rattle.std.specs.Prelude.{[], None, if◌then◌else◌, map, true};
+//! The lines in which a pattern matches.
+ghost use Rattle.std.specs.Prelude.{◌≡◌, ◌<◌, ◌+◌, ◌^◌, ◌++◌, ◌⊎◌, [], IfErr, IfOk, List, OnOk, false, if◌then◌else◌, length};
+ghost use Rattle.std.specs.Prelude.{map};
 ghost use Rattle.regex_hir.specs.Re.{Re};
-ghost use Rattle.regex_search_core.specs.Found.{found_of};
-ghost use Rattle.regex_search_core.specs.Search.{whole};
-ghost use Rattle.nfa_engines.specs.Lists.{AreDisjoint, IsInside};
-ghost use Rattle.nfa_compiler.specs.Compiled.{IsNfaOf, res_of};
-ghost use Rattle.nfa_grep.specs.Meant.{Mean, all_found, is_found, span_of, spans_of};
-ghost use Rattle.nfa_grep.specs.Printed.{IsNeeded};
-ghost use Rattle.nfa_grep.specs.Printed.{has_colours, is_selected, mark_of, painted_line, piece, pieces, shown};
-ghost use Rattle.nfa_grep.specs.Printed.{shown_if_selected, shown_line, shown_matches, shown_whole, text_of};
-ghost use Rattle.nfa_grep.specs.Refusals.{IsOfPatterns, IsTextRefusal, IsTreeRefusal};
-ghost use Rattle.text_lines.specs.Lines.{with_end};
+ghost use Rattle.nfa_grep.specs.Meant.{Mean};
+ghost use Rattle.nfa_grep.specs.Printed.{IsNeeded, is_selected, shown, shown_if_selected};
+ghost use Rattle.nfa_grep.specs.Refusals.{IsOfPatterns, IsTextRefusal};
 
 use crate::fault::Fault;
-use crate::joined::nfa_of;
-use crate::line::{Place, append_head};
-use crate::needed::Needed;
+use crate::line::Place;
+use crate::needed::needed_bytes;
 use crate::options::Options;
-use crate::paint::{Colour, append_matched, append_painted};
 use crate::pattern::read_patterns;
-use crate::which::Which;
-use nfa_compiler::{Parsed, laws};
-use nfa_meta::Regex;
-use regex_search_core::{Input, Match};
+use crate::printer::Printer;
 use std::alloc::{AllocError, Global};
 use std::marker::Model;
-use text_lines::line::{append_record, record_content};
 
-/// What is searched for in each line, and what is printed of a line that is selected. It owns the engine, and a second
-/// one that finds the numbers of the patterns that match, if they are wanted.
+/// What is searched for in each line, what is printed of a line that is selected, and bytes that each such line has.
 ///
 /// A contract sees the texts of the patterns and the options.
 #[derive(Drop)]
 pub struct Grep<'p> {
-    alloc: Global,
-    patterns: &'p [&'p str],
-    options: Options,
-    regex: Regex,
-    which: Option<Which>,
-    needed: Needed,
+    printer: Printer<'p>,
+    needed: Vec<u8>,
 }
 
 impl<'p> Model for Grep<'p> {
-    ghost use Rattle.std.specs.Prelude.{◌≡◌, MatchOption, None, false, map, true};
-    ghost use Rattle.nfa_compiler.specs.AnyStart.{FindsFromAnyStart};
-    ghost use Rattle.nfa_engines.specs.Paths.{is_utf8_empty};
-    ghost use Rattle.nfa_grep.specs.Meant.{Grepping, IsBuilt, IsSearched};
-    ghost use Rattle.nfa_grep.specs.Needed.{KnowsNeeded};
+    ghost use Rattle.nfa_grep.specs.Meant.{Grepping};
+    ghost use Rattle.nfa_grep.specs.Printed.{AreNeeded};
 
     ghost Value = { Grepping };
 
-    ghost view = { λ g. record { patterns = map (λ text. text.now) g.patterns.now; options = g.options } };
+    ghost view = { λ g. g.printer };
 
-    ghost invariant = { λ g. IsSearched g.options (map (λ text. text.now) g.patterns.now) g.regex.nfa
-        × (is_utf8_empty g.regex.nfa ≡ false) × FindsFromAnyStart g.regex.nfa
-        × (g.regex.match_kind ≡ None)
-        × MatchOption g.which (g.options.which ≡ false)
-        (λ nfa. (g.options.which ≡ true) × IsBuilt g.options (map (λ text. text.now) g.patterns.now) nfa)
-        × KnowsNeeded g.options (map (λ text. text.now) g.patterns.now) g.needed };
+    ghost invariant = { λ g. AreNeeded g.printer.options g.printer.patterns g.needed.items };
 }
 
 impl<'p> Grep<'p> {
@@ -70,25 +44,16 @@ impl<'p> Grep<'p> {
             ⊎ IsOfPatterns options (map (λ text. text.now) patterns.now) fault) }
     {
         let trees = read_patterns(alloc, options, patterns)?;
-        let nfa = nfa_of(alloc, &trees)?;
-        let regex = Regex::new_from_nfa(alloc, nfa)?;
-        let which = which_of(alloc, options.which, &trees)?;
-        let needed = Needed::new(alloc, options, &trees)?;
-        Ok(Grep {
-            alloc,
-            patterns,
-            options,
-            regex,
-            which,
-            needed,
-        })
+        let printer = Printer::new(alloc, patterns, options, &trees)?;
+        let needed = needed_bytes(alloc, options, &trees)?;
+        Ok(Grep { printer, needed })
     }
 
     /// Returns the options.
     pub fn options(&self) -> Options
         ensures { result ≡ self.now.options }
     {
-        self.options
+        self.printer.options()
     }
 
     /// Returns bytes that are in each line that is selected. They are empty if there are no such bytes, or if none are
@@ -96,99 +61,7 @@ impl<'p> Grep<'p> {
     pub fn needed(&self) -> &[u8]
         ensures { (res : List Re) → Mean self.now res → IsNeeded self.now.options res result.now }
     {
-        self.needed.bytes()
-    }
-
-    /// Returns the line without its end.
-    fn text_of<'l>(&self, line: &'l [u8]) -> &'l [u8]
-        ensures { result.now ≡ text_of self.now.options line.now }
-    {
-        record_content(line, self.options.end)
-    }
-
-    /// Returns whether some pattern matches somewhere in the text of a line, its end left out.
-    fn finds(&mut self, text: &[u8]) -> bool
-        ensures found { (res : List Re) → Mean self.old res → result ≡ is_found res text.now }
-        ensures kept { self.new ≡ self.old }
-    {
-        laws::searches_find_hits();
-        self.regex.is_match(Input::new(text))
-    }
-
-    /// Returns whether the line is selected: whether some pattern matches somewhere in it, or, if the options invert
-    /// that, whether none does. The line may have its end.
-    pub fn selects(&mut self, line: &[u8]) -> bool
-        ensures selected { (res : List Re) → Mean self.old res
-            → result ≡ is_selected self.old.options res line.now }
-        ensures kept { self.new ≡ self.old }
-    {
-        let found = self.finds(self.text_of(line));
-        if self.options.inverted { !found } else { found }
-    }
-
-    /// Returns all matches in the text of a line, from left to right.
-    fn matches(&mut self, text: &[u8]) -> Result<Vec<Match>, AllocError>
-        ensures all { IfOk result (λ found. (res : List Re) → Mean self.old res
-            → spans_of (map found_of found.items) ≡ spans_of (all_found res text.now)) }
-        ensures inside { IfOk result (λ found. All (λ m. IsInside (whole text.now) (found_of m)) found.items) }
-        ensures apart { IfOk result (λ found. AreDisjoint (whole text.now) None (map found_of found.items)) }
-        ensures kept { self.new ≡ self.old }
-    {
-        laws::iterations_find_all_hits();
-        let Ok(matches) = self.regex.find_all(self.alloc, Input::new(text)) else {
-            return Err(AllocError);
-        };
-        Ok(matches)
-    }
-
-    /// Appends what is printed of the line if it is selected, and returns whether it is.
-    pub fn append_line(
-        &mut self,
-        place: Place<'_>,
-        line: &[u8],
-        out: &mut Vec<u8>,
-    ) -> Result<bool, AllocError>
-        requires counted { place.offset + length line.now < 2 ^ 64 }
-        ensures selected { IfOk result (λ selected. (res : List Re) → Mean self.old res
-            → selected ≡ is_selected self.old.options res line.now) }
-        ensures shown { OnOk result ((res : List Re) → Mean self.old res → out.new.items
-            ≡ out.old.items ++ shown_if_selected self.old.options res place.entry.name.now place.entry.number
-            place.entry.offset line.now) }
-        ensures kept { self.new ≡ self.old }
-    {
-        let options = self.options;
-        let at = Place { end: b':', ..place };
-        if options.only && !options.inverted {
-            return self.append_matches(at, line, out);
-        }
-        let selected = self.selects(line);
-        if selected && !options.only {
-            self.append_whole(at, line, out)?;
-        }
-        Ok(selected)
-    }
-
-    /// Appends what is printed of a line because of one near it.
-    pub fn append_near(
-        &mut self,
-        place: Place<'_>,
-        line: &[u8],
-        out: &mut Vec<u8>,
-    ) -> Result<(), AllocError>
-        requires counted { place.offset + length line.now < 2 ^ 64 }
-        ensures shown { OnOk result ((res : List Re) → Mean self.old res → out.new.items
-            ≡ out.old.items ++ shown self.old.options res place.entry.name.now place.entry.number place.entry.offset
-            false line.now) }
-        ensures kept { self.new ≡ self.old }
-    {
-        let at = Place { end: b'-', ..place };
-        if !self.options.only {
-            return self.append_whole(at, line, out);
-        }
-        if self.options.inverted {
-            self.append_matches(at, line, out)?;
-        }
-        Ok(())
+        &self.needed
     }
 
     /// Returns whether the line is selected, and appends what is printed of it, if that is wanted.
@@ -207,161 +80,22 @@ impl<'p> Grep<'p> {
             place.entry.offset line.now else [])) }
         ensures kept { self.new ≡ self.old }
     {
-        if wanted {
-            self.append_line(place, line, out)
-        } else {
-            Ok(self.selects(line))
-        }
+        self.printer.take_line(wanted, place, line, out)
     }
 
-    /// Appends each match in the text of the line that is not empty, and returns whether there is any match, which may
-    /// be empty. The line is searched once.
-    fn append_matches(
-        &mut self,
-        place: Place<'_>,
-        line: &[u8],
-        out: &mut Vec<u8>,
-    ) -> Result<bool, AllocError>
-        requires counted { place.offset + length line.now < 2 ^ 64 }
-        ensures found { IfOk result (λ found. (res : List Re) → Mean self.old res
-            → found ≡ is_found res (text_of self.old.options line.now)) }
-        ensures shown { OnOk result ((res : List Re) → Mean self.old res → out.new.items
-            ≡ out.old.items ++ shown_matches self.old.options place.entry.end res place.entry.name.now
-            place.entry.number place.entry.offset line.now) }
-        ensures kept { self.new ≡ self.old }
-    {
-        let matches = self.matches(self.text_of(line))?;
-        if matches.is_empty() {
-            return Ok(false);
-        }
-        let mark = self.mark(line)?;
-        append_pieces(self.options, place, &mark, line, &matches, out)?;
-        Ok(true)
-    }
-
-    /// Appends the line, with what comes before it.
-    fn append_whole(
+    /// Appends what is printed of a line because of one near it.
+    pub fn append_near(
         &mut self,
         place: Place<'_>,
         line: &[u8],
         out: &mut Vec<u8>,
     ) -> Result<(), AllocError>
+        requires counted { place.offset + length line.now < 2 ^ 64 }
         ensures shown { OnOk result ((res : List Re) → Mean self.old res → out.new.items
-            ≡ out.old.items ++ shown_whole self.old.options place.entry.end res place.entry.name.now place.entry.number
-            place.entry.offset line.now) }
+            ≡ out.old.items ++ shown self.old.options res place.entry.name.now place.entry.number place.entry.offset
+            false line.now) }
         ensures kept { self.new ≡ self.old }
     {
-        let mark = self.mark(line)?;
-        append_head(self.options, place, &mark, out)?;
-        if has_colours(self.options, place.end) {
-            return self.append_painted(line, out);
-        }
-        append_record(line, self.options.end, out)
+        self.printer.append_near(place, line, out)
     }
-
-    /// Appends the line, with its matches in colour.
-    fn append_painted(&mut self, line: &[u8], out: &mut Vec<u8>) -> Result<(), AllocError>
-        ensures shown { OnOk result ((res : List Re) → Mean self.old res
-            → out.new.items ≡ out.old.items ++ painted_line self.old.options res line.now) }
-        ensures kept { self.new ≡ self.old }
-    {
-        let end = self.options().end;
-        let text = self.text_of(line);
-        let matches = self.matches(text)?;
-        append_matched(text, &matches, out)?;
-        append_record(&line[text.len()..], end, out)
-    }
-
-    /// Returns the numbers of the patterns that match in the line, as they are printed, or nothing if they are not
-    /// wanted.
-    fn mark(&mut self, line: &[u8]) -> Result<Vec<u8>, AllocError>
-        ensures mark { IfOk result (λ mark. (res : List Re) → Mean self.old res
-            → mark.items ≡ mark_of self.old.options res line.now) }
-        ensures kept { self.new ≡ self.old }
-    {
-        let mut mark = Vec::new(self.alloc);
-        if let Some(which) = &mut self.which {
-            which.append_numbers(
-                self.alloc,
-                record_content(line, self.options.end),
-                &mut mark,
-            )?;
-        }
-        Ok(mark)
-    }
-}
-
-/// Returns whether the matches of a whole line are in colour, if this byte is after its labels.
-fn has_colours(options: Options, end: u8) -> bool
-    ensures { result ≡ has_colours options end }
-{
-    options.coloured
-        && if options.inverted {
-            end != b':'
-        } else {
-            end == b':'
-        }
-}
-
-/// Makes the search for all patterns that match, if it is wanted.
-fn which_of(alloc: Global, wanted: bool, patterns: &[Parsed]) -> Result<Option<Which>, Fault>
-    ensures made { IfOk result (λ which. MatchOption which (wanted ≡ false)
-        (λ nfa. (wanted ≡ true) × IsNfaOf (res_of patterns.now) nfa)) }
-    ensures refused { IfErr result (IsTreeRefusal (length patterns.now) (res_of patterns.now)) }
-{
-    if wanted {
-        Ok(Some(Which::new(alloc, patterns)?))
-    } else {
-        Ok(None)
-    }
-}
-
-/// Appends each match that is not empty as a line of its own.
-fn append_pieces(
-    options: Options,
-    place: Place<'_>,
-    mark: &[u8],
-    line: &[u8],
-    matches: &[Match],
-    out: &mut Vec<u8>,
-) -> Result<(), AllocError>
-    requires counted { place.offset + length line.now < 2 ^ 64 }
-    requires inside { All (λ m. (found_of m).end ≤ length line.now) matches.now }
-    ensures { OnOk result (out.new.items ≡ out.old.items
-        ++ pieces options place.entry.end place.entry.name.now mark.now place.entry.number place.entry.offset line.now
-        (spans_of (map found_of matches.now))) }
-{
-    for found in matches {
-        append_piece(options, place, mark, line, *found, out)?;
-    }
-    Ok(())
-}
-
-/// Appends the match as a line of its own, if it is not empty.
-fn append_piece(
-    options: Options,
-    place: Place<'_>,
-    mark: &[u8],
-    line: &[u8],
-    found: Match,
-    out: &mut Vec<u8>,
-) -> Result<(), AllocError>
-    requires counted { place.offset + length line.now < 2 ^ 64 }
-    requires inside { (found_of found).end ≤ length line.now }
-    ensures { OnOk result (out.new.items ≡ out.old.items
-        ++ piece options place.entry.end place.entry.name.now mark.now place.entry.number place.entry.offset line.now
-        (span_of (found_of found))) }
-{
-    if found.start() == found.end() {
-        return Ok(());
-    }
-    let at = Place {
-        offset: place.offset + found.start() as u64,
-        ..place
-    };
-    append_head(options, at, mark, out)?;
-    let text = &line[found.start()..found.end()];
-    append_painted(options.coloured, Colour::Match, text, out)?;
-    out.push(options.end)?;
-    Ok(())
 }

@@ -16,6 +16,7 @@ mod options;
 mod paint;
 mod pattern;
 mod patterns;
+mod printer;
 mod search;
 mod walk;
 mod which;

@@ -9,7 +9,7 @@ use Rattle.nfa_grep.specs.Meant.{Grepping, Mean, all_found, spans_of}
 use Rattle.nfa_grep.specs.Printed.{mark_of, pieces, text_of}
 use Rattle.nfa_grep.specs.declared.options.Options.{Options}
 use Rattle.nfa_grep.proofs.MeantLemmas.{found-if-any}
-use Rattle.nfa_grep.proofs.grep.Grep.append_matches.Goals as goal
+use Rattle.nfa_grep.proofs.printer.Printer.append_matches.Goals as goal
 
 positive : (n : ℕ) → (n == 0) ≡ false → 0 < n
 positive n other = elim (cases_lt 0 n) [

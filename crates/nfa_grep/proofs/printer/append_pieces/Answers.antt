@@ -7,7 +7,7 @@ use Rattle.regex_search_core.specs.declared.search.Match.{Match}
 use Rattle.nfa_grep.specs.Meant.{span_of}
 use Rattle.nfa_grep.specs.Printed.{piece}
 use Rattle.nfa_grep.proofs.PrintedLemmas.{flat-of-found}
-use Rattle.nfa_grep.proofs.grep.append_pieces.Goals as goal
+use Rattle.nfa_grep.proofs.printer.append_pieces.Goals as goal
 
 pub returns : goal.returns
 returns c =

@@ -7,7 +7,7 @@ use Rattle.text_lines.specs.Lines.{with_end}
 use Rattle.nfa_grep.specs.Meant.{Grepping}
 use Rattle.nfa_grep.specs.Printed.{has_colours, head, mark_of, painted_line, shown_line, shown_whole}
 use Rattle.nfa_grep.specs.declared.options.Options.{Options}
-use Rattle.nfa_grep.proofs.grep.Grep.append_whole.Goals as goal
+use Rattle.nfa_grep.proofs.printer.Printer.append_whole.Goals as goal
 
 whole : (options used : Options) (end : ℕ) (res : List Re) (name : List ℕ) (number offset : ℕ)
     (line before middle after mark : List ℕ) → used ≡ options → mark ≡ mark_of options res line

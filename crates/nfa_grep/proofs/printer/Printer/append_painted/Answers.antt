@@ -6,7 +6,7 @@ use Rattle.regex_search_core.specs.declared.search.Match.{Match}
 use Rattle.nfa_grep.specs.Meant.{spans_of}
 use Rattle.nfa_grep.specs.declared.options.Options.{Options}
 use Rattle.nfa_grep.proofs.PaintedLemmas.{line-shown}
-use Rattle.nfa_grep.proofs.grep.Grep.append_painted.Goals as goal
+use Rattle.nfa_grep.proofs.printer.Printer.append_painted.Goals as goal
 
 pub returns-clause-shown : goal.returns-clause-shown
 returns-clause-shown c =

@@ -4,7 +4,7 @@ use Rattle.std.specs.List.{flat_map}
 use Rattle.regex_search_core.specs.Found.{found_of}
 use Rattle.nfa_grep.specs.Meant.{span_of}
 use Rattle.nfa_grep.specs.Printed.{piece}
-use Rattle.nfa_grep.proofs.grep.append_pieces.Given as goal
+use Rattle.nfa_grep.proofs.printer.append_pieces.Given as goal
 
 abbrev pub invariant-loop-found : goal.invariant-loop-found
 invariant-loop-found l = l.out.items ≡ l.fn.out.items

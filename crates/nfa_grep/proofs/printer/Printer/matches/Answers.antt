@@ -6,7 +6,7 @@ use Rattle.nfa_compiler.proofs.CallLemmas.{bytes-of}
 use Rattle.nfa_grep.specs.Meant.{Grepping, Mean, spans_of}
 use Rattle.nfa_grep.proofs.JoinedLemmas.{spans-of-all}
 use Rattle.nfa_grep.proofs.MeantLemmas.{all-found-same}
-use Rattle.nfa_grep.proofs.grep.Grep.matches.Goals as goal
+use Rattle.nfa_grep.proofs.printer.Printer.matches.Goals as goal
 
 pub returns-clause-all : goal.returns-clause-all
 returns-clause-all c = λ res meant.

@@ -8,10 +8,10 @@ use Rattle.nfa_grep.specs.Meant.{Grepping, Mean}
 use Rattle.nfa_grep.specs.Printed.{is_selected, shown, shown_if_selected}
 use Rattle.nfa_grep.specs.declared.options.Options.{Options}
 use Rattle.nfa_grep.proofs.PrintedLemmas.{shown-matches, shown-whole}
-use Rattle.nfa_grep.proofs.grep.Grep.append_line.Goals as goal
-use Rattle.nfa_grep.proofs.grep.Grep.append_line.Goals.{else-options-via-else-options, else-selected-via-else-selected}
-use Rattle.nfa_grep.proofs.grep.Grep.append_line.Goals.{else-options-via-then-options+else-not-options}
-use Rattle.nfa_grep.proofs.grep.Grep.append_line.Goals.{else-selected-via-then-selected+else-not-options-2}
+use Rattle.nfa_grep.proofs.printer.Printer.append_line.Goals as goal
+use Rattle.nfa_grep.proofs.printer.Printer.append_line.Goals.{else-options-via-else-options, else-selected-via-else-selected}
+use Rattle.nfa_grep.proofs.printer.Printer.append_line.Goals.{else-options-via-then-options+else-not-options}
+use Rattle.nfa_grep.proofs.printer.Printer.append_line.Goals.{else-selected-via-then-selected+else-not-options-2}
 
 abbrev nothing : List ℕ
 nothing = []
