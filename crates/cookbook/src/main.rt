@@ -20,8 +20,19 @@ use std::alloc::Global;
 const LOG: [&[u8]; 3] = [b"10:02 WARN disk", b"10:03 INFO up", b"10:05 WARN disk"];
 
 fn main(rt: HostRuntime) -> Result<()> {
-    let alloc = rt.alloc();
-    let mut validator = Validator::new(alloc)?;
+    shapes(&rt)?;
+    picked(&rt)?;
+    levels(&rt)?;
+    println!(rt; "tokens: {}", token_count(rt.alloc(), b"x1 = 20+y")?)?;
+    masked(&rt)
+}
+
+fn shapes(rt: &HostRuntime) -> Result<()> {
+    let mut validator = Validator::new(rt.alloc())?;
+    print_shapes(rt, &mut validator)
+}
+
+fn print_shapes(rt: &HostRuntime, validator: &mut Validator) -> Result<()> {
     println!(rt;
         "date: {} {}",
         validator.is_date(b"2026-11-27"),
@@ -37,23 +48,45 @@ fn main(rt: HostRuntime) -> Result<()> {
         validator.is_ipv4(b"10.0.0.255"),
         validator.is_ipv4(b"10.0.0.256")
     )?;
-    let mut matcher = Matcher::new(alloc, "WARN|ERROR")?;
-    println!(rt; "lines: {}", matcher.matching(alloc, &LOG)?.len())?;
-    let mut level = Field::new(alloc, r"\A\S+ (?<level>\w+)", "level")?;
-    let counts = counts(alloc, &mut level, &LOG)?;
+    Ok(())
+}
+
+fn picked(rt: &HostRuntime) -> Result<()> {
+    let mut matcher = Matcher::new(rt.alloc(), "WARN|ERROR")?;
+    print_picked(rt, &mut matcher)
+}
+
+fn print_picked(rt: &HostRuntime, matcher: &mut Matcher) -> Result<()> {
+    println!(rt; "lines: {}", matcher.matching(rt.alloc(), &LOG)?.len())?;
+    Ok(())
+}
+
+fn levels(rt: &HostRuntime) -> Result<()> {
+    let mut level = Field::new(rt.alloc(), r"\A\S+ (?<level>\w+)", "level")?;
+    print_levels(rt, &mut level)
+}
+
+fn print_levels(rt: &HostRuntime, level: &mut Field) -> Result<()> {
+    let counts = counts(rt.alloc(), level, &LOG)?;
     println!(rt;
         "WARN: {}, INFO: {}",
         count_of(&counts, "WARN"),
         count_of(&counts, "INFO")
     )?;
-    println!(rt; "tokens: {}", token_count(alloc, b"x1 = 20+y")?)?;
-    let masked = replace_all(
-        alloc,
-        &mut Matcher::new(alloc, "[0-9]+")?,
-        b"call 555 or 556",
-        b"#",
+    Ok(())
+}
+
+fn masked(rt: &HostRuntime) -> Result<()> {
+    let mut matcher = Matcher::new(rt.alloc(), "[0-9]+")?;
+    print_masked(rt, &mut matcher)
+}
+
+fn print_masked(rt: &HostRuntime, matcher: &mut Matcher) -> Result<()> {
+    let masked = replace_all(rt.alloc(), matcher, b"call 555 or 556", b"#")?;
+    println!(rt;
+        "replaced: {}",
+        String::from_utf8_lossy(rt.alloc(), &masked)?
     )?;
-    println!(rt; "replaced: {}", String::from_utf8_lossy(alloc, &masked)?)?;
     Ok(())
 }
 
