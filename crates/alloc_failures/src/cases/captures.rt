@@ -11,7 +11,7 @@ use nfa_engines::iter::Searcher;
 use nfa_engines::pikevm::{self, CapturesMatches, PikeVM};
 use regex_search_core::{Captures, Input, NonMaxUsize, PatternID};
 use std::alloc::Global;
-use test_support::text::parts;
+use sample_engines::parts;
 
 /// Iterations of both engines over captures, and of a stored finder.
 pub fn lists(alloc: Global, seen: &mut Seen) -> Result<(), Wrong> {

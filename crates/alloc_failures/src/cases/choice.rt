@@ -7,7 +7,7 @@ use nfa_choice::choose::Choice;
 use nfa_engines::error::SearchError;
 use regex_search_core::{Captures, Input, NonMaxUsize};
 use std::alloc::Global;
-use test_support::text::parts;
+use sample_engines::parts;
 
 /// Each search answers, whatever is refused.
 pub fn searches(alloc: Global, seen: &mut Seen) -> Result<(), Wrong> {

@@ -7,7 +7,7 @@ use nfa_engines::backtrack::{self, BoundedBacktracker};
 use nfa_engines::error::SearchError;
 use regex_search_core::Input;
 use std::alloc::Global;
-use test_support::text::parts;
+use sample_engines::parts;
 
 /// The stretches of a backtracker.
 pub fn backtracked(alloc: Global, seen: &mut Seen) -> Result<(), Wrong> {

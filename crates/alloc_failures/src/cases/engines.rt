@@ -8,8 +8,8 @@ use nfa_engines::pikevm::{self, PikeVM};
 use nfa_hybrid::{Hybrid, dfa};
 use regex_search_core::{Captures, GroupInfo, MatchKind, PatternSet, Refused};
 use std::alloc::Global;
-use test_support::made as samples;
-use test_support::made::MakeError;
+use sample_engines as samples;
+use sample_engines::MakeError;
 use thompson_nfa::NFA;
 
 /// The NFA of the sample.

@@ -6,7 +6,7 @@ use nfa_engines::error::SearchError;
 use nfa_engines::pikevm::{self, PikeVM};
 use regex_search_core::{Captures, Input, NonMaxUsize, PatternSet};
 use std::alloc::Global;
-use test_support::text::parts;
+use sample_engines::parts;
 
 // What `groups` answers with a cache that fits.
 fn expect_piked(groups: &PikeVM, cache: &mut pikevm::Cache) -> Result<(), Wrong> {

@@ -12,7 +12,7 @@ use nfa_engines::pikevm::{self, CapturesMatches, PikeVM};
 use regex_search_core::MatchKind::All;
 use regex_search_core::{Captures, Input, NonMaxUsize, PatternSet};
 use std::alloc::Global;
-use test_support::text::parts;
+use sample_engines::parts;
 use thompson_nfa::BuildError;
 
 /// All stretches but that of the PikeVM's searches leftmost first.

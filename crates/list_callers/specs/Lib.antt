@@ -1,0 +1,2 @@
+pub mod EmptyFinder
+pub mod Pieces

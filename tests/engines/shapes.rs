@@ -1,0 +1,150 @@
+//! NFAs that no regular expression is compiled to.
+
+use sample_engines::MakeError;
+use std::alloc::Global;
+use std::process::Abort;
+use test_support::engines::Engines;
+use test_support::machine::Machine;
+use thompson_nfa::NFA;
+
+/// What an NFA looks like.
+#[derive(Clone, Copy, Debug)]
+pub enum Shape {
+    /// Two patterns that match the same, and no captures.
+    TwoBare,
+    /// A loop of unions.
+    UnionLoop,
+    /// Two ways over each byte.
+    TwoWays,
+    /// A chain of so many states, each of which leads to the next one twice, without a byte. The last is the match.
+    Chain(usize),
+    /// The same chain, of captures.
+    Captures(usize),
+    /// A union of so many states, which all read one byte; the last one reads another, and is followed by the match.
+    Fan(usize),
+    /// A chain of so many states that reads a byte at each.
+    Word(usize),
+    /// Two patterns: one reads an `a`, the other is a loop of this many states that reads `c`s and never matches.
+    ByteOrLoop(usize),
+}
+
+/// The NFA of that shape. It starts at its first state.
+pub fn nfa_of(alloc: Global, shape: Shape) -> Result<NFA, MakeError> {
+    let mut machine = Machine::new(alloc);
+    add(alloc, &mut machine, shape)?;
+    machine.build(0, 0)
+}
+
+/// Both engines of the NFA of that shape.
+pub fn engines_of_shape(rt: &impl Abort, alloc: Global, shape: Shape) -> Engines {
+    let nfa = nfa_of(alloc, shape).expect(rt, "an NFA");
+    Engines::new(alloc, nfa).expect(rt, "memory")
+}
+
+/// The same NFA once more.
+pub fn nfa_copy(rt: &impl Abort, nfa: &NFA) -> NFA {
+    nfa.clone().expect(rt, "memory")
+}
+
+fn add(alloc: Global, machine: &mut Machine, shape: Shape) -> Result<(), MakeError> {
+    match shape {
+        Shape::TwoBare => add_two_bare(machine),
+        Shape::UnionLoop => add_union_loop(machine),
+        Shape::TwoWays => add_two_ways(machine),
+        Shape::Chain(len) => add_chain(machine, len),
+        Shape::Captures(len) => add_captures(machine, len),
+        Shape::Fan(len) => add_fan(alloc, machine, len),
+        Shape::Word(len) => add_word(machine, len),
+        Shape::ByteOrLoop(len) => add_byte_or_loop(machine, len),
+    }
+}
+
+fn add_two_bare(machine: &mut Machine) -> Result<(), MakeError> {
+    machine.either(1, 3)?;
+    machine.bytes(b'a', b'a', 2)?;
+    machine.accept(0)?;
+    machine.bytes(b'a', b'a', 4)?;
+    machine.accept(1)?;
+    machine.pattern(1)?;
+    machine.pattern(3)
+}
+
+fn add_union_loop(machine: &mut Machine) -> Result<(), MakeError> {
+    machine.either(1, 2)?;
+    machine.either(0, 1)?;
+    machine.accept(0)?;
+    machine.pattern(0)
+}
+
+fn add_two_ways(machine: &mut Machine) -> Result<(), MakeError> {
+    machine.union(&[1, 2, 3])?;
+    machine.bytes(b'a', b'a', 0)?;
+    machine.bytes(b'a', b'a', 0)?;
+    machine.bytes(b'b', b'b', 4)?;
+    machine.accept(0)?;
+    machine.pattern(0)
+}
+
+fn add_chain(machine: &mut Machine, len: usize) -> Result<(), MakeError> {
+    for next in 1..len {
+        machine.either(next, next)?;
+    }
+    machine.accept(0)?;
+    machine.pattern(0)?;
+    machine.groups(5)
+}
+
+fn add_captures(machine: &mut Machine, len: usize) -> Result<(), MakeError> {
+    for next in 1..len {
+        machine.capture(next % 12, next)?;
+    }
+    machine.accept(0)?;
+    machine.pattern(0)?;
+    machine.groups(5)
+}
+
+fn add_fan(alloc: Global, machine: &mut Machine, len: usize) -> Result<(), MakeError> {
+    let mut targets = Vec::new(alloc);
+    for target in 1..len {
+        targets.push(target)?;
+    }
+    machine.union(&targets)?;
+    add_ribs(machine, len)
+}
+
+fn add_ribs(machine: &mut Machine, len: usize) -> Result<(), MakeError> {
+    for _ in 2..len {
+        machine.bytes(b'b', b'b', 0)?;
+    }
+    machine.bytes(b'a', b'a', len)?;
+    machine.accept(0)?;
+    machine.pattern(0)
+}
+
+fn add_word(machine: &mut Machine, len: usize) -> Result<(), MakeError> {
+    for next in 1..len {
+        machine.bytes(b'a', b'a', next)?;
+    }
+    machine.accept(0)?;
+    machine.pattern(0)
+}
+
+fn add_byte_or_loop(machine: &mut Machine, len: usize) -> Result<(), MakeError> {
+    machine.either(1, 5)?;
+    machine.capture(0, 2)?;
+    machine.bytes(b'a', b'a', 3)?;
+    machine.capture(1, 4)?;
+    machine.accept(0)?;
+    add_loop(machine, len)?;
+    machine.pattern(1)?;
+    machine.groups(0)?;
+    machine.pattern(5)?;
+    machine.groups(0)
+}
+
+fn add_loop(machine: &mut Machine, len: usize) -> Result<(), MakeError> {
+    for next in 1..len {
+        machine.bytes(b'c', b'c', next.saturating_add(5))?;
+    }
+    machine.bytes(b'c', b'c', 5)
+}

@@ -1,0 +1,211 @@
+//! What the calls of a search answer, as one number, with caches and captures that all searches share.
+
+use super::shapes::{Shape, nfa_of};
+use nfa_choice::choose::Choice;
+use nfa_engines::backtrack::{self, BoundedBacktracker};
+use nfa_engines::pikevm::{self, PikeVM};
+use regex_search_core::{Captures, Input, Match, NonMaxUsize, PatternID, PatternSet};
+use std::alloc::Global;
+use std::process::Abort;
+
+/// The sum before any answer.
+pub const SEED: u64 = 7;
+
+/// The sum with one more number.
+pub fn fold(sum: u64, value: u64) -> u64 {
+    sum.wrapping_mul(31).wrapping_add(value)
+}
+
+// A pattern as one more than it is.
+fn fold_pattern(sum: u64, pattern: PatternID) -> u64 {
+    fold(sum, (pattern.as_usize() as u64).wrapping_add(1))
+}
+
+// A slot in the same way, none as 0.
+fn fold_slot(sum: u64, slot: Option<NonMaxUsize>) -> u64 {
+    match slot {
+        Some(offset) => fold(sum, (offset.get() as u64).wrapping_add(1)),
+        None => fold(sum, 0),
+    }
+}
+
+/// A pattern as one more than it is, none as 0; then each slot in the same way.
+pub fn fold_slots(sum: u64, pattern: Option<PatternID>, slots: &[Option<NonMaxUsize>]) -> u64 {
+    let mut sum = match pattern {
+        Some(pattern) => fold_pattern(sum, pattern),
+        None => fold(sum, 0),
+    };
+    for slot in slots {
+        sum = fold_slot(sum, *slot);
+    }
+    sum
+}
+
+/// One more than the pattern, the start and the end; none as 0.
+pub fn fold_match(sum: u64, found: Option<Match>) -> u64 {
+    match found {
+        Some(found) => {
+            let sum = fold_pattern(sum, found.pattern());
+            fold(fold(sum, found.start() as u64), found.end() as u64)
+        }
+        None => fold(sum, 0),
+    }
+}
+
+fn fold_is_match(sum: u64, is_match: bool) -> u64 {
+    fold(sum, if is_match { 1 } else { 0 })
+}
+
+/// It is as it has to be with the answers to the search.
+pub fn expect_on(rt: &impl Abort, input: &Input<'_>, holds: bool) {
+    assert!(rt; holds, "{input:?}");
+}
+
+/// What is made of the answers to the search is this number.
+pub fn expect_sum(rt: &impl Abort, input: &Input<'_>, sum: u64, want: u64) {
+    expect_on(rt, input, sum == want);
+}
+
+/// What all searches write to, whatever it was used for before: a cache for each engine, slots, and captures of
+/// another NFA.
+#[derive(Drop)]
+pub struct Shared {
+    /// What all memory is asked for.
+    pub alloc: Global,
+    /// The cache of the backtracker.
+    pub marks: backtrack::Cache,
+    /// The cache of the PikeVM.
+    pub threads: pikevm::Cache,
+    /// The captures of another NFA.
+    pub captures: Captures,
+    slots: [Option<NonMaxUsize>; 20],
+}
+
+impl Shared {
+    /// Things of an NFA with twelve slots.
+    pub fn new(rt: &impl Abort, alloc: Global) -> Shared {
+        let nfa = nfa_of(alloc, Shape::Captures(9)).expect(rt, "an NFA");
+        let vm = PikeVM::new_from_nfa(nfa).expect(rt, "memory");
+        Shared::of_pikevm(rt, alloc, &vm)
+    }
+
+    fn of_pikevm(rt: &impl Abort, alloc: Global, vm: &PikeVM) -> Shared {
+        let back = BoundedBacktracker::never_match(alloc).expect(rt, "memory");
+        Shared {
+            alloc,
+            marks: back.create_cache(alloc),
+            threads: vm.create_cache(alloc).expect(rt, "memory"),
+            captures: vm.create_captures(alloc).expect(rt, "memory"),
+            slots: [NonMaxUsize::new(7); 20],
+        }
+    }
+}
+
+/// What the backtracker answers to slots, to a match, to whether there is one, to captures, and as a list.
+pub fn sum_backtracked(
+    rt: &impl Abort,
+    engine: &BoundedBacktracker,
+    input: &Input<'_>,
+    shared: &mut Shared,
+) -> u64 {
+    let Shared {
+        marks,
+        captures,
+        slots,
+        ..
+    } = shared;
+    let pattern = engine
+        .try_search_slots(marks, input, slots)
+        .expect(rt, "an answer");
+    let sum = fold_slots(SEED, pattern, slots);
+    let found = engine.try_find(marks, *input).expect(rt, "an answer");
+    let sum = fold_match(sum, found);
+    let is_match = engine.try_is_match(marks, *input).expect(rt, "an answer");
+    let sum = fold_is_match(sum, is_match);
+    engine
+        .try_search(marks, input, captures)
+        .expect(rt, "an answer");
+    let mut sum = fold_slots(sum, captures.pattern(), captures.slots());
+    for found in engine.try_find_iter(marks, *input) {
+        sum = fold_match(sum, Some(found.expect(rt, "an answer")));
+    }
+    sum
+}
+
+/// What the PikeVM answers to the same. 0 where the cache does not fit.
+pub fn sum_piked(vm: &PikeVM, input: &Input<'_>, shared: &mut Shared) -> u64 {
+    let Shared {
+        threads,
+        captures,
+        slots,
+        ..
+    } = shared;
+    if !threads.fits(vm) {
+        return 0;
+    }
+    let pattern = vm.search_slots(threads, input, slots);
+    let sum = fold_slots(SEED, pattern, slots);
+    let sum = fold_match(sum, vm.find(threads, *input));
+    let sum = fold_is_match(sum, vm.is_match(threads, *input));
+    vm.search(threads, input, captures);
+    let sum = fold_slots(sum, captures.pattern(), captures.slots());
+    fold_piked_list(vm, threads, input, sum)
+}
+
+fn fold_piked_list(vm: &PikeVM, threads: &mut pikevm::Cache, input: &Input<'_>, sum: u64) -> u64 {
+    let mut sum = sum;
+    for found in vm.find_iter(threads, *input) {
+        sum = fold_match(sum, Some(found));
+    }
+    sum
+}
+
+/// What the engine that chooses answers to the same, by each of its searches.
+pub fn sum_chosen(choice: &mut Choice, input: &Input<'_>, shared: &mut Shared) -> u64 {
+    let Shared {
+        captures,
+        slots,
+        ..
+    } = shared;
+    let pattern = choice.search_slots(input, slots);
+    let sum = fold_slots(SEED, pattern, slots);
+    let sum = fold_match(sum, choice.find(*input));
+    let sum = fold_is_match(sum, choice.is_match(*input));
+    choice.search(input, captures);
+    let mut sum = fold_slots(sum, captures.pattern(), captures.slots());
+    for found in choice.find_iter(*input) {
+        sum = fold_match(sum, Some(found));
+    }
+    sum
+}
+
+/// What an empty set gains in a search for overlapping matches. 0 where the cache does not fit.
+pub fn sum_of_set(
+    rt: &impl Abort,
+    alloc: Global,
+    vm: &PikeVM,
+    threads: &mut pikevm::Cache,
+    input: &Input<'_>,
+) -> u64 {
+    let mut set = PatternSet::new(alloc, 4).expect(rt, "memory");
+    if threads.fits(vm) {
+        vm.which_overlapping_matches(threads, input, &mut set);
+        sum_of_patterns(&set)
+    } else {
+        0
+    }
+}
+
+fn sum_of_patterns(set: &PatternSet) -> u64 {
+    let mut sum = SEED;
+    for pattern in set.iter() {
+        sum = fold_pattern(sum, pattern);
+    }
+    sum
+}
+
+/// What an empty set gains with a cache that is no larger than it has to be.
+pub fn sum_of_own_set(rt: &impl Abort, alloc: Global, vm: &PikeVM, input: &Input<'_>) -> u64 {
+    let mut own = vm.create_cache(alloc).expect(rt, "memory");
+    sum_of_set(rt, alloc, vm, &mut own, input)
+}

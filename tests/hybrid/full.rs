@@ -1,0 +1,136 @@
+//! Caches with room for few rows. They stay within their capacity, and a search clears them as often as it may. If it
+//! needs more rows than that it gives up, and a hybrid then answers by the PikeVM.
+
+use super::pair::{Pair, pair_of};
+use nfa_compiler::Compiler;
+use nfa_engines::{HalfMatch, Input, NFA};
+use nfa_hybrid::dfa::{Cache, Config, DFA, StopError};
+use std::alloc::Global;
+use std::process::Abort;
+
+// How many bytes the rows may take: seven rows of one state at most.
+const CAPACITY: usize = 8400;
+
+// How many bytes a row takes, beside 4 for each of its states.
+const ROW: usize = 1120;
+
+// Texts of 36 bytes. As a pattern, each leads to other states at each byte, so that a scan of it needs 37 rows.
+const ASCII: &str = "abcdefghijklmnopqrstuvwxyz0123456789";
+
+const CYRILLIC: &str = "абвгдежзийклмнопрс";
+
+// A pattern, a text, how often a search may clear its cache, and whether it gives up. There is room for at most seven
+// rows before each clear and after the last one; with seven clears, for more than 37 even if each row has all states.
+const FULL: &[(&str, &str, Option<usize>, bool)] = &[
+    (ASCII, ASCII, Some(0), true),
+    (ASCII, ASCII, Some(1), true),
+    (ASCII, ASCII, Some(2), true),
+    (ASCII, ASCII, Some(3), true),
+    (ASCII, ASCII, Some(4), true),
+    (ASCII, ASCII, Some(7), false),
+    (ASCII, ASCII, None, false),
+    (CYRILLIC, CYRILLIC, Some(0), true),
+    (CYRILLIC, CYRILLIC, Some(4), true),
+    (CYRILLIC, CYRILLIC, Some(7), false),
+    // Few rows are enough for any text.
+    ("[a-z]+", ASCII, Some(0), false),
+    ("[^a]+9", ASCII, Some(0), false),
+];
+
+fn nfa_of(rt: &impl Abort, alloc: Global, pattern: &str) -> NFA {
+    Compiler::new().build(alloc, pattern).expect(rt, "an NFA")
+}
+
+fn config_of(clears: Option<usize>) -> Config {
+    Config::new()
+        .cache_capacity(CAPACITY)
+        .minimum_cache_clear_count(clears)
+}
+
+fn dfa_of(rt: &impl Abort, nfa: NFA, config: Config) -> DFA {
+    let mut builder = DFA::builder();
+    builder.configure(config);
+    builder.build_from_nfa(nfa).expect(rt, "a DFA")
+}
+
+// The first and the last offset at which a search of a new cache may give up. Then it has filled the cache once more
+// than it may clear it, with rows of all states at least and of one state at most. It makes no more rows than it takes
+// steps and one more, and for a text that is the pattern it needs a row at each offset.
+fn offsets_of(dfa: &DFA, clears: usize) -> (usize, usize) {
+    let times = clears.saturating_add(1);
+    let largest = ROW.saturating_add(dfa.get_nfa().states().len().saturating_mul(4));
+    let least = CAPACITY.checked_div(largest).unwrap_or(0);
+    let most = CAPACITY / (ROW + 4);
+    (
+        times.saturating_mul(least).saturating_sub(2),
+        times.saturating_mul(most),
+    )
+}
+
+// Whether a search ends so: with an answer, or at one of the offsets from the first to the last.
+fn ends_so(found: &Result<Option<HalfMatch>, StopError>, offsets: Option<(usize, usize)>) -> bool {
+    match (found, offsets) {
+        (Ok(_), None) => true,
+        (Err(StopError::GaveUp { offset }), Some((low, high))) => {
+            low <= *offset && *offset <= high
+        }
+        _ => false,
+    }
+}
+
+fn expect_search(
+    rt: &impl Abort,
+    dfa: &DFA,
+    cache: &mut Cache,
+    text: &str,
+    offsets: Option<(usize, usize)>,
+) {
+    let found = dfa.try_find_half(cache, Input::new(text.as_bytes()));
+    let taken = cache.memory_usage();
+    assert!(rt; taken <= CAPACITY, "{taken} bytes");
+    assert!(rt; ends_so(&found, offsets), "{found:?}, not {offsets:?}");
+}
+
+// A search of a new cache, two more with what it left, and one after a reset.
+fn expect_searches(
+    rt: &impl Abort,
+    dfa: &DFA,
+    cache: &mut Cache,
+    text: &str,
+    offsets: Option<(usize, usize)>,
+) {
+    expect_search(rt, dfa, cache, text, offsets);
+    let later = offsets.map(|(_, high)| (0, high));
+    expect_search(rt, dfa, cache, text, later);
+    expect_search(rt, dfa, cache, text, later);
+    cache.reset(dfa);
+    assert_eq!(rt; cache.memory_usage(), 0);
+    expect_search(rt, dfa, cache, text, offsets);
+}
+
+// The answers of a hybrid are those of a PikeVM. They are the lazy DFA's if it does not give up.
+fn expect_hybrid(rt: &impl Abort, pair: &mut Pair, text: &str, gives_up: bool) {
+    pair.expect_same(rt, &Input::new(text.as_bytes()));
+    let counts = pair.counts();
+    let want = if gives_up { (0, 2) } else { (2, 0) };
+    assert!(rt; counts == want, "{counts:?}");
+}
+
+fn expect_dfa(rt: &impl Abort, alloc: Global, dfa: &DFA, text: &str, clears: Option<usize>) {
+    let mut cache = dfa.create_cache(alloc).expect(rt, "memory");
+    let offsets = clears.map(|clears| offsets_of(dfa, clears));
+    expect_searches(rt, dfa, &mut cache, text, offsets);
+}
+
+#[test]
+fn full_caches_are_cleared_as_often_as_they_may_be(rt: HostRuntime) {
+    let alloc = rt.alloc();
+    for &(pattern, text, clears, gives_up) in FULL {
+        let nfa = nfa_of(&rt, alloc, pattern);
+        let mut pair = pair_of(&rt, alloc, &nfa, config_of(clears));
+        expect_hybrid(&rt, &mut pair, text, gives_up);
+        let dfa = dfa_of(&rt, nfa, config_of(clears));
+        let clears = if gives_up { clears } else { None };
+        expect_dfa(&rt, alloc, &dfa, text, clears);
+    }
+}

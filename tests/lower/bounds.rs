@@ -1,0 +1,152 @@
+//! The sample NFAs, and mistakes by hand.
+use super::fixtures::named;
+use super::shown::expect_eq_of;
+use Row::{Byte, Capture, Either, Match};
+use nfa_match_spans::records_match_spans;
+use sample_engines::MakeError;
+use std::alloc::Global;
+use std::process::Abort;
+use test_support::machine::Machine;
+use thompson_nfa::NFA;
+
+// Whether the tables of the samples write both slots of a pattern on each way to its match. Those of `a` have no
+// captures, and `backwards` writes the end before the byte and the start behind it. In `loop` a group lacks its end,
+// which is no bound of the match.
+const SAMPLES: &[(&str, bool)] = &[
+    ("abc", true),
+    ("ab_b", true),
+    ("ab_abc", true),
+    ("abc_ab", true),
+    ("abc_b", true),
+    ("foo_bar", true),
+    ("b_a", true),
+    ("abc_a", true),
+    ("a_or_empty", true),
+    ("empty_or_a", true),
+    ("empty", true),
+    ("empty_bytes", true),
+    ("empty_anchored", true),
+    ("a_star", true),
+    ("a_star_bytes", true),
+    ("groups", true),
+    ("loop", true),
+    ("a_bare", false),
+    ("a_pair", false),
+    ("backwards", false),
+    ("snowman", true),
+    ("three_digits", true),
+    ("alnum100", true),
+    ("words_numbers", true),
+    ("abcd_b", true),
+    ("foo_num", true),
+    ("date", true),
+    ("six", true),
+];
+
+#[test]
+fn samples_that_write_their_bounds(rt: HostRuntime) {
+    for &(name, want) in SAMPLES {
+        let nfa = named(&rt, rt.alloc(), name);
+        expect_told(&rt, rt.alloc(), &nfa, want, name);
+    }
+}
+
+fn expect_told(rt: &impl Abort, alloc: Global, nfa: &NFA, want: bool, name: &str) {
+    let found = records_match_spans(alloc, nfa).expect(rt, "memory");
+    expect_eq_of(rt, found, want, &name);
+}
+
+// A state: a byte, a slot that is written, or one of two, each with the numbers of the states behind it; or a match.
+#[derive(Clone, Copy)]
+enum Row {
+    Byte(u8, usize),
+    Capture(usize, usize),
+    Either(usize, usize),
+    Match(usize),
+}
+
+fn add(machine: &mut Machine, row: Row) -> Result<(), MakeError> {
+    match row {
+        Byte(byte, next) => machine.bytes(byte, byte, next),
+        Capture(slot, next) => machine.capture(slot, next),
+        Either(first, second) => machine.either(first, second),
+        Match(pattern) => machine.accept(pattern),
+    }
+}
+
+fn add_all(machine: &mut Machine, rows: &[Row], starts: &[usize]) -> Result<(), MakeError> {
+    machine.set_flags(false, true);
+    for row in rows {
+        add(machine, *row)?;
+    }
+    add_starts(machine, starts)
+}
+
+fn add_starts(machine: &mut Machine, starts: &[usize]) -> Result<(), MakeError> {
+    for &start in starts {
+        machine.pattern(start)?;
+        machine.groups(0)?;
+    }
+    Ok(())
+}
+
+// The NFA of these rows; state 0 is the start, and each of `starts` that of a pattern.
+fn nfa_of(rt: &impl Abort, alloc: Global, rows: &[Row], starts: &[usize]) -> NFA {
+    let mut machine = Machine::new(alloc);
+    add_all(&mut machine, rows, starts).expect(rt, "memory");
+    machine.build(0, 0).expect(rt, "an NFA")
+}
+
+// What an NFA is, whether it writes its bounds, its states, and the starts of its patterns.
+const BY_HAND: &[(&str, bool, &[Row], &[usize])] = &[
+    (
+        "`a|b`, whose second branch passes over the capture of the end",
+        false,
+        &[
+            Capture(0, 1),
+            Either(2, 3),
+            Byte(b'a', 4),
+            Byte(b'b', 5),
+            Capture(1, 5),
+            Match(0),
+        ],
+        &[0],
+    ),
+    (
+        "`a` and `b`, of which the second has its slots swapped",
+        false,
+        &[
+            Either(1, 5),
+            Capture(0, 2),
+            Byte(b'a', 3),
+            Capture(1, 4),
+            Match(0),
+            Capture(3, 6),
+            Byte(b'b', 7),
+            Capture(2, 8),
+            Match(1),
+        ],
+        &[1, 5],
+    ),
+    (
+        "`a`, with the start written twice before the byte, and a match behind it to which nothing leads",
+        true,
+        &[
+            Capture(0, 1),
+            Capture(0, 2),
+            Byte(b'a', 3),
+            Capture(1, 4),
+            Match(0),
+            Match(0),
+        ],
+        &[0],
+    ),
+];
+
+#[test]
+fn mistakes_by_hand_are_found(rt: HostRuntime) {
+    for &(what, want, rows, starts) in BY_HAND {
+        let nfa = nfa_of(&rt, rt.alloc(), rows, starts);
+        expect_told(&rt, rt.alloc(), &nfa, want, what);
+    }
+}

@@ -1,0 +1,113 @@
+//! Half matches: a searcher calls an engine, step by step; and an iterator stores the finder.
+
+use super::{engine_named, threads, vm_named};
+use nfa_engines::backtrack::{self, BoundedBacktracker};
+use nfa_engines::error::SearchError;
+use nfa_engines::iter::Searcher;
+use nfa_engines::pikevm::{Cache, PikeVM};
+use regex_search_core::{HalfMatch, Input};
+use std::alloc::Global;
+use std::process::Abort;
+
+// The end of the match that the engine finds. The cache fits: it is asked so that no `requires` is needed.
+fn half_found(
+    vm: &PikeVM,
+    cache: &mut Cache,
+    input: &Input<'_>,
+) -> Result<Option<HalfMatch>, SearchError> {
+    if !cache.fits(vm) {
+        return Ok(None);
+    }
+    Ok(vm.find_half(cache, *input))
+}
+
+// The same of a backtracker.
+fn half_tried(
+    engine: &BoundedBacktracker,
+    cache: &mut backtrack::Cache,
+    input: &Input<'_>,
+) -> Result<Option<HalfMatch>, SearchError> {
+    engine.try_find_half(cache, *input)
+}
+
+// What the next step of the searcher gives.
+fn half_step(
+    engine: &BoundedBacktracker,
+    cache: &mut backtrack::Cache,
+    searcher: &mut Searcher<'_>,
+) -> Result<Option<HalfMatch>, SearchError> {
+    searcher.try_advance_half(|input: &Input<'_>| half_tried(engine, cache, input))
+}
+
+fn expect_offset(rt: &impl Abort, half: Option<HalfMatch>, want: Option<usize>) {
+    let offset = match half {
+        Some(half) => Some(half.offset()),
+        None => None,
+    };
+    assert_eq!(rt; offset, want);
+}
+
+// A sample, a haystack, and the ends of all matches there, and then nothing.
+type Ends = (&'static str, &'static str, &'static [Option<usize>]);
+
+const ENDS: &[Ends] = &[
+    (
+        "a_or_empty",
+        "abba",
+        &[Some(1), Some(2), Some(4), None, None],
+    ),
+    (
+        "empty",
+        "a☃z",
+        &[Some(0), Some(1), Some(4), Some(5), None, None],
+    ),
+];
+
+fn expect_steps(
+    rt: &impl Abort,
+    engine: &BoundedBacktracker,
+    cache: &mut backtrack::Cache,
+    row: &Ends,
+) {
+    let (_, haystack, wants) = *row;
+    let mut searcher = Searcher::new(Input::new(haystack.as_bytes()));
+    for &want in wants {
+        let half = half_step(engine, cache, &mut searcher).expect(rt, "an answer");
+        expect_offset(rt, half, want);
+    }
+}
+
+fn expect_halves(rt: &impl Abort, vm: &PikeVM, cache: &mut Cache, row: &Ends) {
+    let (_, haystack, wants) = *row;
+    let searcher = Searcher::new(Input::new(haystack.as_bytes()));
+    let mut halves = searcher.into_half_matches_iter(|input: &Input<'_>| half_found(
+        vm, cache, input,
+    ));
+    for &want in wants {
+        let half = match halves.next() {
+            Some(half) => Some(half.expect(rt, "a half match")),
+            None => None,
+        };
+        expect_offset(rt, half, want);
+    }
+}
+
+fn expect_backtracked(rt: &impl Abort, alloc: Global, row: &Ends) {
+    let engine = engine_named(rt, alloc, row.0);
+    let mut cache = engine.create_cache(alloc);
+    expect_steps(rt, &engine, &mut cache, row);
+}
+
+fn expect_piked(rt: &impl Abort, alloc: Global, row: &Ends) {
+    let vm = vm_named(rt, alloc, row.0);
+    let mut cache = threads(rt, alloc, &vm);
+    expect_halves(rt, &vm, &mut cache, row);
+}
+
+#[test]
+fn halves_are_the_ends_of_all_matches(rt: HostRuntime) {
+    for row in ENDS {
+        expect_backtracked(&rt, rt.alloc(), row);
+        expect_piked(&rt, rt.alloc(), row);
+    }
+}

@@ -1,0 +1,136 @@
+//! Sets of overlapping matches.
+
+use super::expect_fits;
+use crate::tests::{expect, expect_text, of_kind, threads};
+use nfa_engines::pikevm::{Cache, PikeVM};
+use regex_search_core::MatchKind::{All, LeftmostFirst};
+use regex_search_core::{Input, MatchKind, PatternID, PatternSet};
+use sample_engines::input_in;
+use std::alloc::{AllocError, Global};
+use std::process::Abort;
+
+// A name, a kind, a haystack, the capacity of a set, and the patterns that an empty set gains: in a search, and in one
+// with `earliest`.
+const GAINED: &[(&str, MatchKind, &str, usize, [&str; 2])] = &[
+    ("foo_bar", All, "foobar", 4, ["0 1 3 ", "0 "]),
+    ("foo_bar", All, "foobar", 1, ["0 ", "0 "]),
+    ("ab_abc", LeftmostFirst, "abc", 2, ["0 ", "0 "]),
+    ("abc_ab", LeftmostFirst, "abc", 2, ["0 1 ", "1 "]),
+    ("b_a", LeftmostFirst, "ab", 2, ["1 ", "1 "]),
+    ("b_a", LeftmostFirst, "axb", 2, ["1 ", "1 "]),
+    ("b_a", LeftmostFirst, "axb", 1, ["0 ", "0 "]),
+    ("b_a", LeftmostFirst, "axb", 0, ["", ""]),
+    ("b_a", All, "axb", 0, ["", ""]),
+    ("empty", All, "a☃z", 1, ["0 ", "0 "]),
+    ("abc", All, "xyz", 2, ["", ""]),
+    ("abc", LeftmostFirst, "xyz", 2, ["", ""]),
+];
+
+// The patterns of a set, each with a blank behind it.
+fn members(alloc: Global, set: &PatternSet) -> Result<String, AllocError> {
+    let mut text = String::new(alloc);
+    for pattern in set.iter() {
+        write!(text, "{} ", pattern.as_usize())?;
+    }
+    Ok(text)
+}
+
+// The patterns of the set after the search.
+fn searched(
+    alloc: Global,
+    vm: &PikeVM,
+    cache: &mut Cache,
+    input: &Input<'_>,
+    set: &mut PatternSet,
+) -> Result<String, AllocError> {
+    vm.which_overlapping_matches(cache, input, set);
+    members(alloc, set)
+}
+
+// What an empty set gains, in a search of the sample with a new cache.
+fn gained(
+    rt: &impl Abort,
+    alloc: Global,
+    (name, kind): (&str, MatchKind),
+    input: &Input<'_>,
+    capacity: usize,
+) -> Result<String, AllocError> {
+    let vm = of_kind(rt, alloc, name, kind);
+    let mut cache = threads(rt, alloc, &vm);
+    let mut set = PatternSet::new(alloc, capacity).expect(rt, "a set");
+    searched(alloc, &vm, &mut cache, input, &mut set)
+}
+
+#[test]
+fn an_empty_set_gains_what_matches(rt: HostRuntime) {
+    let alloc = rt.alloc();
+    for &(name, kind, haystack, capacity, [plainly, early]) in GAINED {
+        let input = Input::new(haystack.as_bytes());
+        let text = gained(&rt, alloc, (name, kind), &input, capacity);
+        expect_text(&rt, &(name, input), text, plainly);
+        let input = input.earliest(true);
+        let text = gained(&rt, alloc, (name, kind), &input, capacity);
+        expect_text(&rt, &(name, input), text, early);
+    }
+}
+
+// A set that holds the second pattern alone.
+fn second_alone(rt: &impl Abort, alloc: Global) -> PatternSet {
+    let mut set = PatternSet::new(alloc, 2).expect(rt, "a set");
+    let second = PatternID::new(1).expect(rt, "a pattern's number");
+    let added = set.try_insert(second);
+    expect(rt, added == Some(true), "one more");
+    set
+}
+
+// What is in a set with the second pattern, after a search of this kind.
+fn expect_gained(rt: &impl Abort, alloc: Global, kind: MatchKind, want: &str) {
+    let vm = of_kind(rt, alloc, "ab_abc", kind);
+    let mut cache = threads(rt, alloc, &vm);
+    let mut set = second_alone(rt, alloc);
+    let text = searched(alloc, &vm, &mut cache, &Input::new(b"abc"), &mut set);
+    expect_text(rt, &kind, text, want);
+}
+
+#[test]
+fn a_set_loses_nothing(rt: HostRuntime) {
+    let alloc = rt.alloc();
+    expect_gained(&rt, alloc, LeftmostFirst, "1 ");
+    expect_gained(&rt, alloc, All, "0 1 ");
+}
+
+// A name, a haystack, a span, whether the search is anchored, the capacity of a set, and the patterns that an empty set
+// gains under `All`.
+const GAINED_IN_SPAN: &[(&str, &str, usize, usize, bool, usize, &str)] = &[
+    ("abc_b", "abx", 0, 3, true, 2, ""),
+    ("abc_b", "abx", 0, 3, false, 2, "1 "),
+    ("empty", "☃", 1, 3, false, 1, "0 "),
+    ("empty", "☃", 1, 2, false, 1, ""),
+    ("empty", "☃", 1, 3, true, 1, ""),
+];
+
+#[test]
+fn an_empty_set_gains_what_matches_in_a_span(rt: HostRuntime) {
+    let alloc = rt.alloc();
+    for &(name, haystack, start, end, anchored, capacity, want) in GAINED_IN_SPAN {
+        let input = input_in(haystack.as_bytes(), start, end, anchored).expect(&rt, "a span");
+        let text = gained(&rt, alloc, (name, All), &input, capacity);
+        expect_text(&rt, &(name, input), text, want);
+    }
+}
+
+fn expect_two(rt: &impl Abort, alloc: Global, cache: &mut Cache) {
+    let vm = of_kind(rt, alloc, "abc_ab", LeftmostFirst);
+    let mut set = PatternSet::new(alloc, 2).expect(rt, "a set");
+    expect_fits(rt, &vm, cache);
+    let text = searched(alloc, &vm, cache, &Input::new(b"abc"), &mut set);
+    expect_text(rt, &"abc", text, "0 1 ");
+}
+
+#[test]
+fn a_larger_cache_serves_as_well(rt: HostRuntime) {
+    let alloc = rt.alloc();
+    let larger = of_kind(&rt, alloc, "foo_bar", All);
+    let mut cache = threads(&rt, alloc, &larger);
+    expect_two(&rt, alloc, &mut cache);
+}

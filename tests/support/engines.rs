@@ -1,0 +1,105 @@
+//! Both engines over one NFA.
+
+use crate::text::{
+    backtracked_half, backtracked_list, backtracked_match, backtracked_slots, piked_half,
+    piked_list, piked_match, piked_slots,
+};
+use nfa_engines::backtrack::{self, BoundedBacktracker};
+use nfa_engines::error::SearchError;
+use nfa_engines::pikevm::{self, PikeVM};
+use regex_search_core::Input;
+use sample_engines::{MakeError, nfa_named};
+use std::alloc::{AllocError, Global};
+use thompson_nfa::NFA;
+
+/// Both engines over one NFA, each with a cache of its own that serves all searches: first the backtracker with its
+/// default capacity, then the PikeVM that searches leftmost first.
+#[derive(Drop)]
+pub struct Engines {
+    backtracker: BoundedBacktracker,
+    marks: backtrack::Cache,
+    vm: PikeVM,
+    threads: pikevm::Cache,
+}
+
+impl Engines {
+    /// Engines of the NFA, with new caches.
+    pub fn new(alloc: Global, nfa: NFA) -> Result<Engines, MakeError> {
+        let copy = nfa.clone()?;
+        let backtracker = BoundedBacktracker::new_from_nfa(copy)?;
+        let vm = PikeVM::new_from_nfa(nfa)?;
+        Ok(Engines {
+            marks: backtracker.create_cache(alloc),
+            threads: vm.create_cache(alloc)?,
+            backtracker,
+            vm,
+        })
+    }
+
+    /// Engines of the sample of that name.
+    pub fn of_sample(alloc: Global, name: &str) -> Result<Engines, MakeError> {
+        Engines::new(alloc, nfa_named(alloc, name)?)
+    }
+
+    /// How many slots the NFA has.
+    pub fn slot_len(&self) -> usize {
+        self.vm.get_nfa().group_info().slot_len()
+    }
+
+    /// What both answer and leave in slots that held 7 before.
+    pub fn slots_texts(
+        &mut self,
+        alloc: Global,
+        input: &Input<'_>,
+        slot_len: usize,
+    ) -> Result<[String; 2], AllocError> {
+        Ok([
+            backtracked_slots(alloc, &self.backtracker, &mut self.marks, input, slot_len)?,
+            piked_slots(alloc, &self.vm, &mut self.threads, input, slot_len)?,
+        ])
+    }
+
+    /// The match that both find, as text.
+    pub fn match_texts(
+        &mut self,
+        alloc: Global,
+        input: Input<'_>,
+    ) -> Result<[String; 2], AllocError> {
+        Ok([
+            backtracked_match(alloc, &self.backtracker, &mut self.marks, input)?,
+            piked_match(alloc, &self.vm, &mut self.threads, input)?,
+        ])
+    }
+
+    /// The pattern and the end of the match that both find, as text.
+    pub fn half_texts(
+        &mut self,
+        alloc: Global,
+        input: Input<'_>,
+    ) -> Result<[String; 2], AllocError> {
+        Ok([
+            backtracked_half(alloc, &self.backtracker, &mut self.marks, input)?,
+            piked_half(alloc, &self.vm, &mut self.threads, input)?,
+        ])
+    }
+
+    /// All matches of both, each with a comma and a blank behind it.
+    pub fn list_texts(
+        &mut self,
+        alloc: Global,
+        input: Input<'_>,
+    ) -> Result<[String; 2], AllocError> {
+        Ok([
+            backtracked_list(alloc, &self.backtracker, &mut self.marks, input)?,
+            piked_list(alloc, &self.vm, &mut self.threads, input)?,
+        ])
+    }
+
+    /// Whether both find a match.
+    pub fn are_matches(&mut self, input: Input<'_>) -> Result<[bool; 2], SearchError> {
+        Ok([
+            self.backtracker.try_is_match(&mut self.marks, input)?,
+            self.vm.is_match(&mut self.threads, input),
+        ])
+    }
+}

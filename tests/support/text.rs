@@ -1,0 +1,173 @@
+//! Answers of both engines as text.
+
+use nfa_engines::backtrack::{self, BoundedBacktracker};
+use nfa_engines::error::SearchError;
+use nfa_engines::pikevm::{self, PikeVM};
+use regex_search_core::{HalfMatch, Input, Match, NonMaxUsize, PatternID};
+use sample_engines::parts;
+use std::alloc::{AllocError, Global};
+
+/// The pattern and the span, as `0 1..4`, or `none`.
+pub fn match_text(alloc: Global, found: Option<Match>) -> Result<String, AllocError> {
+    match found {
+        Some(found) => {
+            let (pattern, start, end) = parts(found);
+            format!(in alloc; "{pattern} {start}..{end}")
+        }
+        None => String::from_str(alloc, "none"),
+    }
+}
+
+/// The pattern or `none`, and then each slot, which is `-` where it is None.
+pub fn slots_text(
+    alloc: Global,
+    pattern: Option<PatternID>,
+    slots: &[Option<NonMaxUsize>],
+) -> Result<String, AllocError> {
+    let mut text = match pattern {
+        Some(pattern) => format!(in alloc; "{}", pattern.as_usize())?,
+        None => String::from_str(alloc, "none")?,
+    };
+    write_slots(&mut text, slots)?;
+    Ok(text)
+}
+
+fn write_slots(text: &mut String, slots: &[Option<NonMaxUsize>]) -> Result<(), AllocError> {
+    for slot in slots {
+        match slot {
+            Some(offset) => write!(text, " {}", offset.get())?,
+            None => text.push_str(" -")?,
+        }
+    }
+    Ok(())
+}
+
+/// What the backtracker answers and leaves in slots that held 7 before: the error in place of the pattern, where there
+/// is one.
+pub fn backtracked_slots(
+    alloc: Global,
+    engine: &BoundedBacktracker,
+    cache: &mut backtrack::Cache,
+    input: &Input<'_>,
+    slot_len: usize,
+) -> Result<String, AllocError> {
+    let mut slots = vec![in alloc; NonMaxUsize::new(7); slot_len]?;
+    match engine.try_search_slots(cache, input, &mut slots) {
+        Ok(pattern) => slots_text(alloc, pattern, &slots),
+        Err(error) => {
+            let mut text = format!(in alloc; "{error:?}")?;
+            write_slots(&mut text, &slots)?;
+            Ok(text)
+        }
+    }
+}
+
+/// What the PikeVM answers and leaves in slots that held 7 before.
+pub fn piked_slots(
+    alloc: Global,
+    vm: &PikeVM,
+    cache: &mut pikevm::Cache,
+    input: &Input<'_>,
+    slot_len: usize,
+) -> Result<String, AllocError> {
+    let mut slots = vec![in alloc; NonMaxUsize::new(7); slot_len]?;
+    let pattern = vm.search_slots(cache, input, &mut slots);
+    slots_text(alloc, pattern, &slots)
+}
+
+/// The match that the backtracker finds, or its error.
+pub fn backtracked_match(
+    alloc: Global,
+    engine: &BoundedBacktracker,
+    cache: &mut backtrack::Cache,
+    input: Input<'_>,
+) -> Result<String, AllocError> {
+    match engine.try_find(cache, input) {
+        Ok(found) => match_text(alloc, found),
+        Err(error) => format!(in alloc; "{error:?}"),
+    }
+}
+
+/// The match that the PikeVM finds.
+pub fn piked_match(
+    alloc: Global,
+    vm: &PikeVM,
+    cache: &mut pikevm::Cache,
+    input: Input<'_>,
+) -> Result<String, AllocError> {
+    match_text(alloc, vm.find(cache, input))
+}
+
+/// The pattern and the end of the match that the backtracker finds, or its error.
+pub fn backtracked_half(
+    alloc: Global,
+    engine: &BoundedBacktracker,
+    cache: &mut backtrack::Cache,
+    input: Input<'_>,
+) -> Result<String, AllocError> {
+    match engine.try_find_half(cache, input) {
+        Ok(half) => half_text(alloc, half),
+        Err(error) => format!(in alloc; "{error:?}"),
+    }
+}
+
+/// The same of the PikeVM.
+pub fn piked_half(
+    alloc: Global,
+    vm: &PikeVM,
+    cache: &mut pikevm::Cache,
+    input: Input<'_>,
+) -> Result<String, AllocError> {
+    half_text(alloc, vm.find_half(cache, input))
+}
+
+/// The pattern and the offset, as `0 4`, or `none`.
+pub fn half_text(alloc: Global, half: Option<HalfMatch>) -> Result<String, AllocError> {
+    match half {
+        Some(half) => {
+            let pattern = half.pattern().as_usize();
+            let offset = half.offset();
+            format!(in alloc; "{pattern} {offset}")
+        }
+        None => String::from_str(alloc, "none"),
+    }
+}
+
+/// All items of the backtracker, each with a comma and a blank behind it: the pattern and the span, or the error.
+pub fn backtracked_list(
+    alloc: Global,
+    engine: &BoundedBacktracker,
+    cache: &mut backtrack::Cache,
+    input: Input<'_>,
+) -> Result<String, AllocError> {
+    let mut text = String::new(alloc);
+    for item in engine.try_find_iter(cache, input) {
+        write_item(&mut text, item)?;
+    }
+    Ok(text)
+}
+
+/// All matches of the PikeVM, each with a comma and a blank behind it.
+pub fn piked_list(
+    alloc: Global,
+    vm: &PikeVM,
+    cache: &mut pikevm::Cache,
+    input: Input<'_>,
+) -> Result<String, AllocError> {
+    let mut text = String::new(alloc);
+    for found in vm.find_iter(cache, input) {
+        write_item(&mut text, Ok(found))?;
+    }
+    Ok(text)
+}
+
+/// Writes the pattern and the span, or the error, and a comma and a blank behind it.
+pub fn write_item(text: &mut String, item: Result<Match, SearchError>) -> Result<(), AllocError> {
+    match item {
+        Ok(found) => {
+            let (pattern, start, end) = parts(found);
+            write!(text, "{pattern} {start}..{end}, ")
+        }
+        Err(error) => write!(text, "{error:?}, "),
+    }
+}
