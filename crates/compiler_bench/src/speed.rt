@@ -1,4 +1,4 @@
-//! The program with arguments: goes over all matches in its input, or their captures, over and over, with one of our
+//! What the program does: goes over all matches in its input, or their captures, over and over, with one of our
 //! engines or with the crate regex; or prints the number of states.
 ghost use Rattle.std.specs.Prelude.{◌≤◌, IfOk};
 
@@ -213,7 +213,7 @@ impl fmt::Display for Stop {
         match self {
             Stop::Usage => {
                 f.write_str(
-                    "usage: compiler-tests [back|pike|meta[-captures]|regex[-captures] PATTERN ROUNDS|states PATTERN]",
+                    "usage: compiler-bench [back|pike|meta[-captures]|regex[-captures] PATTERN ROUNDS|states PATTERN]",
                 )
             }
             Stop::Pattern(error) => write!(f, "{error}"),

@@ -1,15 +1,11 @@
-//! Compares what a PikeVM finds by a compiled NFA with what the crate regex finds; and rows of errors, of documented
-//! examples, and of large patterns. With arguments, searches standard input over and over, to be timed.
-#![tactic(auto)]
-
-ghost use Rattle.nfa_pikevm.specs.Engines.{Fits};
+//! What the compiler makes of a pattern: a PikeVM finds by it what the crate regex finds; and rows of errors, of
+//! documented examples, of prefixes and of large patterns.
 
 mod anchors;
 mod examples;
 mod hostile;
 mod prefixes;
 mod refused;
-mod speed;
 
 use anyhow::{Result, bail};
 use nfa_compiler::Compiler;
@@ -18,9 +14,6 @@ use regex::{Captures, Matcher, Regex};
 use regex_search_core::{Input, NonMaxUsize};
 use std::alloc::Global;
 use std::fmt::Write;
-use std::io::BufWriter;
-use std::process::ExitCode;
-use std::{env, io};
 
 /// Patterns, which are searched for in each of the haystacks.
 const PATTERNS: [&str; 44] = [
@@ -115,9 +108,12 @@ fn write_slots(slots: &[Option<NonMaxUsize>], text: &mut String) -> Result<()> {
     Ok(())
 }
 
-fn write_matches(vm: &PikeVM, cache: &mut Cache, input: Input<'_>, text: &mut String) -> Result<()>
-    requires { Fits cache.old vm.now.nfa }
-{
+fn write_matches(
+    vm: &PikeVM,
+    cache: &mut Cache,
+    input: Input<'_>,
+    text: &mut String,
+) -> Result<()> {
     for found in vm.find_iter(cache, input) {
         write!(text, "{}..{} ", found.start(), found.end())?;
     }
@@ -153,75 +149,60 @@ fn write_their_matches(matcher: &mut Matcher<'_>, haystack: &str, text: &mut Str
     Ok(())
 }
 
-// Memory that is refused for the arguments or for the buffer is reported as that of a search.
-fn main(rt: HostRuntime) -> Result<ExitCode> {
-    match answer(&rt) {
-        Ok(Some(status)) => Ok(ExitCode::from(status)),
-        Ok(None) => {
-            test(&rt)?;
-            Ok(ExitCode::SUCCESS)
-        }
-        Err(error) if error.kind() == io::ErrorKind::OutOfMemory => {
-            Ok(ExitCode::from(speed::refuse(&mut io::writer(&rt))))
-        }
-        Err(error) => Err(error.into()),
+/// Prints the rows that differ. Fails if one does, or if there is none at all.
+fn expect_none(rt: &HostRuntime, differences: Result<(Vec<String>, usize)>) -> Result<()> {
+    let (wrong, rows) = differences?;
+    for text in &wrong {
+        println!(rt; "{text}")?;
     }
+    if rows == 0 || !wrong.is_empty() {
+        bail!("there is a difference from what is expected, which the lines above show");
+    }
+    Ok(())
 }
 
-/// Does what the arguments say, and returns the status to end with. Returns `None` if there are no arguments.
-fn answer(rt: &HostRuntime) -> io::Result<Option<u8>> {
-    let alloc = rt.alloc();
-    let arguments: Vec<String> = env::args(rt)?.skip(1).collect(alloc)?;
-    if arguments.is_empty() {
-        return Ok(None);
-    }
-    let words: Vec<&str> = arguments.iter().map(|word| word.as_str()).collect(alloc)?;
-    let mut out = BufWriter::new(alloc, io::writer(rt))?;
-    Ok(Some(speed::run(alloc, &words, &mut rt.reader(), &mut out)))
+#[test]
+fn errors_are_as_expected(rt: HostRuntime) -> Result<()> {
+    expect_none(&rt, refused::differences(rt.alloc()))
 }
 
-fn test(rt: &HostRuntime) -> Result<()> {
-    compare(rt)?;
-    let (wrong, rows) = refused::differences(rt.alloc())?;
-    report(rt, &wrong, rows, "errors")?;
-    let (wrong, rows) = examples::differences(rt.alloc())?;
-    report(rt, &wrong, rows, "examples")?;
-    let (wrong, rows) = examples::byte_differences(rt.alloc())?;
-    report(rt, &wrong, rows, "examples of bytes")?;
-    let (wrong, rows) = anchors::differences(rt.alloc())?;
-    report(rt, &wrong, rows, "anchors")?;
-    let (wrong, rows) = prefixes::differences(rt.alloc())?;
-    report(rt, &wrong, rows, "prefixes")?;
+#[test]
+fn documented_examples_hold(rt: HostRuntime) -> Result<()> {
+    expect_none(&rt, examples::differences(rt.alloc()))?;
+    expect_none(&rt, examples::byte_differences(rt.alloc()))
+}
+
+#[test]
+fn patterns_that_begin_with_the_start_are_bound_to_it(rt: HostRuntime) -> Result<()> {
+    expect_none(&rt, anchors::differences(rt.alloc()))?;
     anchors::expect_lists(rt.alloc())?;
-    anchors::expect_later_spans(rt.alloc())?;
+    anchors::expect_later_spans(rt.alloc())
+}
+
+#[test]
+fn prefixes_are_as_expected(rt: HostRuntime) -> Result<()> {
+    expect_none(&rt, prefixes::differences(rt.alloc()))
+}
+
+#[test]
+fn large_patterns_are_compiled_or_refused(rt: HostRuntime) -> Result<()> {
     hostile::expect_large(rt.alloc())?;
-    hostile::expect_refused(rt.alloc())?;
+    hostile::expect_refused(rt.alloc())
+}
+
+#[test]
+fn many_patterns_texts_and_trees_are_compiled(rt: HostRuntime) -> Result<()> {
     hostile::expect_texts(rt.alloc())?;
     hostile::expect_many(rt.alloc())?;
     hostile::expect_trees(rt.alloc())
 }
 
-/// Prints each row that differs, and how many of all rows do. Fails if one does.
-fn report(rt: &HostRuntime, wrong: &[String], rows: usize, what: &str) -> Result<()> {
-    for text in wrong {
-        println!(rt; "{text}")?;
-    }
-    println!(rt; "{} of {rows} {what} differ", wrong.len())?;
-    if !wrong.is_empty() {
-        bail!("some {what} differ from what is expected, which the lines above show");
-    }
-    Ok(())
-}
-
-fn compare(rt: &HostRuntime) -> Result<()> {
+#[test]
+fn answers_are_those_of_the_crate_regex(rt: HostRuntime) -> Result<()> {
     let mut different = 0usize;
     for pattern in &PATTERNS {
-        let nfa = Compiler::new().build(rt.alloc(), pattern)?;
-        println!(rt; "{pattern}: {} states", nfa.states().len())?;
-        different = different.saturating_add(compare_haystacks(rt, pattern)?);
+        different = different.saturating_add(count_different(&rt, pattern)?);
     }
-    let same = (PATTERNS.len() * HAYSTACKS.len()).saturating_sub(different);
-    println!(rt; "{same} the same, {different} different")?;
     if different > 0 {
         bail!("some answers differ from those of regex, which the lines above show");
     }
@@ -229,7 +210,7 @@ fn compare(rt: &HostRuntime) -> Result<()> {
 }
 
 /// Returns in how many haystacks the answers differ, and prints these.
-fn compare_haystacks(rt: &HostRuntime, pattern: &str) -> Result<usize> {
+fn count_different(rt: &HostRuntime, pattern: &str) -> Result<usize> {
     let mut different = 0usize;
     for haystack in &HAYSTACKS {
         if differs(rt, pattern, haystack)? {

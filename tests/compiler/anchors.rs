@@ -1,6 +1,6 @@
 //! Patterns that begin with the assertion `Start`: their NFAs bind searches to their start, and find the same.
 
-use crate::{ours, theirs};
+use super::{ours, theirs};
 use anyhow::{Result, bail};
 use nfa_compiler::Compiler;
 use nfa_engines::pikevm::PikeVM;

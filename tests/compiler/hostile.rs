@@ -1,6 +1,6 @@
 //! Patterns that are large, deep or many, and each way to compile.
 
-use crate::refused::{nests_too_deep, out_of_memory, too_big, too_deep};
+use super::refused::{nests_too_deep, out_of_memory, too_big, too_deep};
 use anyhow::{Result, bail};
 use nfa_compiler::{Compiler, Config};
 use regex_syntax::{Parsed, parse};
