@@ -10,8 +10,8 @@ use nfa_engines::error::SearchError;
 use nfa_engines::iter::Searcher;
 use nfa_engines::pikevm::{self, CapturesMatches, PikeVM};
 use regex_search_core::{Captures, Input, NonMaxUsize, PatternID};
-use std::alloc::Global;
 use sample_engines::parts;
+use std::alloc::Global;
 
 /// Iterations of both engines over captures, and of a stored finder.
 pub fn lists(alloc: Global, seen: &mut Seen) -> Result<(), Wrong> {

@@ -6,8 +6,8 @@ use super::{Seen, Wrong, engines, expect};
 use nfa_choice::choose::Choice;
 use nfa_engines::error::SearchError;
 use regex_search_core::{Captures, Input, NonMaxUsize};
-use std::alloc::Global;
 use sample_engines::parts;
+use std::alloc::Global;
 
 /// Each search answers, whatever is refused.
 pub fn searches(alloc: Global, seen: &mut Seen) -> Result<(), Wrong> {

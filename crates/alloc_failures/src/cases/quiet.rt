@@ -11,8 +11,8 @@ use nfa_engines::iter::Searcher;
 use nfa_engines::pikevm::{self, CapturesMatches, PikeVM};
 use regex_search_core::MatchKind::All;
 use regex_search_core::{Captures, Input, NonMaxUsize, PatternSet};
-use std::alloc::Global;
 use sample_engines::parts;
+use std::alloc::Global;
 use thompson_nfa::BuildError;
 
 /// All stretches but that of the PikeVM's searches leftmost first.
