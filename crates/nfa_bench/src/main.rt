@@ -2,8 +2,6 @@
 #![tactic(auto)]
 
 mod run;
-#[cfg(test)]
-mod tests;
 
 use std::io::BufWriter;
 use std::process::ExitCode;

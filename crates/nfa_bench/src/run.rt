@@ -48,7 +48,7 @@ fn print<W: Write>(alloc: Global, words: &[&str], out: &mut W) -> io::Result<u8>
 
 /// Prints what comes after the matches: `end`, or one line that says why there are no more. Returns the status to end
 /// with, or the error of a write, also of one that stopped the search.
-pub fn print_end<W: Write>(searched: Result<(), Stop>, out: &mut W) -> io::Result<u8>
+fn print_end<W: Write>(searched: Result<(), Stop>, out: &mut W) -> io::Result<u8>
     ensures { IfOk result (λ status. status ≤ 2) }
 {
     let status = match searched {
