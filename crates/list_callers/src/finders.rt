@@ -33,7 +33,7 @@ pub fn empty_at_start(input: &Input<'_>) -> Result<Option<Match>, SearchError>
     }
 }
 
-/// All items, by `collect`, as that finder tells them.
+/// All items, by `collect`, of that finder.
 pub fn collected(
     alloc: Global,
     haystack: &[u8],
@@ -61,7 +61,7 @@ pub fn looped(alloc: Global, haystack: &[u8]) -> Result<Vec<Result<Match, Search
     Ok(found)
 }
 
-/// What any finder tells, collected: the list of it.
+/// All items of any finder.
 pub fn collected_by<F>(
     alloc: Global,
     searcher: Searcher<'_>,

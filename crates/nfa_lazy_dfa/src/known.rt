@@ -27,7 +27,7 @@ fn read_cell(dfa: &DFA, cache: &Cache, input: &Input<'_>, at: usize, first: u32)
     cache.cells[first as usize + haystack[at] as usize]
 }
 
-/// The same, where a scan is that found this.
+/// The same, for a scan at this position that has found this end.
 #[inline(always)]
 pub fn cell_at(
     dfa: &DFA,

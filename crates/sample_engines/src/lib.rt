@@ -67,7 +67,7 @@ impl From<BuildError> for MakeError {
 }
 
 impl From<SearchError> for MakeError {
-    // An engine and its cache are wanting for memory alone.
+    // Making an engine or its cache fails only for memory.
     fn from(_: SearchError) -> MakeError {
         MakeError::Memory
     }
@@ -103,7 +103,7 @@ pub fn backtracker(alloc: Global, name: &str) -> Result<BoundedBacktracker, Make
     Ok(BoundedBacktracker::new_from_nfa(nfa_named(alloc, name)?)?)
 }
 
-/// A backtracker of the sample whose marks take so many bytes.
+/// A backtracker of the sample with this visited capacity, in bytes.
 pub fn with_capacity(
     alloc: Global,
     name: &str,
