@@ -1,4 +1,4 @@
-//! What the compiler makes of a pattern: a PikeVM finds by it what the crate regex finds; and rows of errors, of
+//! Tests of the compiler: a PikeVM of a compiled pattern finds what the crate regex finds; and rows of errors, of
 //! documented examples, of prefixes and of large patterns.
 
 mod anchors;
@@ -15,7 +15,7 @@ use regex_search_core::{Input, NonMaxUsize};
 use std::alloc::Global;
 use std::fmt::Write;
 
-/// Patterns, which are searched for in each of the haystacks.
+/// Patterns that are searched for in each haystack.
 const PATTERNS: [&str; 44] = [
     "abc",
     "[0-9]{4}-[0-9]{2}-[0-9]{2}",
@@ -57,7 +57,7 @@ const PATTERNS: [&str; 44] = [
     r"\p{Greek}+",
     "a??(b)",
     "(a|b|ab)*c",
-    // Loops whose part may match the empty string: `find` of `regex_hir` says that a round has to read a byte.
+    // Loops over what may match the empty string. Each iteration has to read a byte, as `find` of `regex_hir` says.
     "(?:a?b??)+",
     "(?:a*(?:|b))*",
     r"(?:\w* ??)+",
@@ -81,7 +81,7 @@ const HAYSTACKS: [&str; 14] = [
     "xyz\na\nb",
 ];
 
-/// What our search gives for the first match, and the spans of all matches.
+/// The slots of the first match that a PikeVM finds, and the spans of all matches.
 fn ours(alloc: Global, pattern: &str, haystack: &str) -> Result<String> {
     let nfa = Compiler::new().build(alloc, pattern)?;
     let slot_len = nfa.group_info().slot_len();
@@ -120,7 +120,7 @@ fn write_matches(
     Ok(())
 }
 
-/// What the crate regex gives.
+/// The same by the crate regex.
 fn theirs(alloc: Global, pattern: &str, haystack: &str) -> Result<String> {
     let regex = Regex::new(alloc, pattern)?;
     let mut matcher = regex.matcher(alloc)?;
@@ -149,7 +149,7 @@ fn write_their_matches(matcher: &mut Matcher<'_>, haystack: &str, text: &mut Str
     Ok(())
 }
 
-/// Prints the rows that differ. Fails if one does, or if there is none at all.
+/// Prints the rows that differ. Fails if a row differs, or if there are no rows.
 fn expect_none(rt: &HostRuntime, differences: Result<(Vec<String>, usize)>) -> Result<()> {
     let (wrong, rows) = differences?;
     for text in &wrong {
@@ -209,7 +209,7 @@ fn answers_are_those_of_the_crate_regex(rt: HostRuntime) -> Result<()> {
     Ok(())
 }
 
-/// Returns in how many haystacks the answers differ, and prints these.
+/// Prints the haystacks in which the answers differ, and returns their number.
 fn count_different(rt: &HostRuntime, pattern: &str) -> Result<usize> {
     let mut different = 0usize;
     for haystack in &HAYSTACKS {

@@ -1,5 +1,4 @@
-//! A hybrid beside a PikeVM: over the samples, over patterns, over NFAs made by chance, over long haystacks, and with
-//! caches that are full.
+//! A hybrid compared with a PikeVM: over samples, patterns, random NFAs and long haystacks, and with full caches.
 
 mod full;
 mod long;

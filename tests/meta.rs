@@ -1,5 +1,5 @@
-//! A regex beside a choice over the samples, the windows of the lazy DFA, captures and half matches of patterns, texts
-//! that are split or replaced, templates, functions that replace, and what the settings of a regex change.
+//! A regex compared with a choice over the samples; windows of the lazy DFA; captures and half matches; texts that are
+//! split or replaced, also by templates and functions; and settings of a regex.
 
 mod built;
 mod captures;
@@ -14,7 +14,6 @@ use nfa_meta::Regex;
 use std::alloc::{AllocError, Global};
 use std::process::Abort;
 
-// A test makes a regex, and functions that borrow it assert: each way out of what owns one takes a check seconds.
 fn regex(rt: &impl Abort, alloc: Global, pattern: &str) -> Regex {
     Regex::new(alloc, pattern).expect(rt, "a regex")
 }

@@ -1,6 +1,4 @@
-//! Tests of each engine by itself, and of captures by both. What is asserted in many places is asserted by one
-//! function, and what is owned in many places is made by one: a check takes some seconds for each assertion and each
-//! way out in place, and less for a call.
+//! Tests of each engine by itself, and of the captures of both.
 
 mod backtrack;
 mod captures;
@@ -36,33 +34,32 @@ fn of_kind(rt: &impl Abort, alloc: Global, name: &str, kind: MatchKind) -> PikeV
     made::of_kind(alloc, name, kind).expect(rt, name)
 }
 
-// A cache for it.
+// A cache for the PikeVM.
 fn threads(rt: &impl Abort, alloc: Global, vm: &PikeVM) -> pike::Cache {
     vm.create_cache(alloc).expect(rt, "a cache")
 }
 
-// This holds for the sample of that name.
+// Fails with the name if this does not hold.
 fn expect(rt: &impl Abort, holds: bool, name: &str) {
     assert!(rt; holds, "{name}");
 }
 
-// The text was made, and is this. What it is of tells its row from the others.
+// Expects this text. `of` identifies its row in the message.
 fn expect_text(rt: &impl Abort, of: &impl Debug, text: Result<String, AllocError>, want: &str) {
     let text = text.expect(rt, "memory for a text");
     assert_eq!(rt; text.as_str(), want, "{of:?}");
 }
 
-// The value is shown as this.
+// Expects this `Debug` text.
 fn expect_shown(rt: &impl Abort, alloc: Global, value: &impl Debug, want: &str) {
     expect_text(rt, &"a value", format!(in alloc; "{value:?}"), want);
 }
 
-// In a call of its own, since all that follows a comparison in place is far dearer to prove.
 fn expect_number(rt: &impl Abort, number: usize, want: usize) {
     assert_eq!(rt; number, want);
 }
 
-// No group has matched, of three.
+// None of three groups has matched.
 fn expect_six_unset(rt: &impl Abort, captures: &Captures) {
     assert_eq!(rt; captures.slots(), [None; 6].as_slice());
     assert!(rt; !captures.is_match());
@@ -73,7 +70,6 @@ fn expect_parts(rt: &impl Abort, found: Match, want: (usize, usize, usize)) {
     assert_eq!(rt; parts(found), want);
 }
 
-// The matches are those that are wanted.
 fn expect_matches(rt: &impl Abort, all: &[Match], wants: &[(usize, usize, usize)]) {
     expect_number(rt, all.len(), wants.len());
     for (found, want) in all.iter().zip(wants) {

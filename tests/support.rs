@@ -1,5 +1,5 @@
-//! What the crates of tests share: samples by name, NFAs by chance, both engines side by side, searches of each span,
-//! and answers as text.
+//! What the crates of tests share: both engines over one NFA, NFAs that are written by hand or random, searches of each
+//! span, and answers as text.
 
 pub mod engines;
 pub mod machine;

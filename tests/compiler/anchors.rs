@@ -1,4 +1,4 @@
-//! Patterns that begin with the assertion `Start`: their NFAs bind searches to their start, and find the same.
+//! Patterns that begin with the assertion `Start`: their NFAs are always anchored, and find the same matches.
 
 use super::{ours, theirs};
 use anyhow::{Result, bail};
@@ -44,8 +44,8 @@ const LISTS: [(&[&str], bool); 5] = [
     (&["^a"], true),
 ];
 
-/// Returns a line for each row whose NFA binds searches and should not, or the other way round, and for each haystack
-/// in which something else is found than by the crate regex; and the number of rows.
+/// Returns a line for each row whose NFA is anchored and should not be, or the other way round, and for each haystack
+/// in which the crate regex finds something else; and the number of rows.
 pub fn differences(alloc: Global) -> Result<(Vec<String>, usize)> {
     let mut wrong = Vec::new(alloc);
     for (pattern, wanted) in ROWS.iter() {
@@ -60,7 +60,7 @@ pub fn differences(alloc: Global) -> Result<(Vec<String>, usize)> {
     Ok((wrong, ROWS.len()))
 }
 
-/// Adds a line for each haystack in which something else is found than by the crate regex.
+/// Adds a line for each haystack in which the crate regex finds something else.
 fn compare(alloc: Global, pattern: &str, wrong: &mut Vec<String>) -> Result<()> {
     for haystack in &HAYSTACKS {
         let (a, b) = (
@@ -76,7 +76,7 @@ fn compare(alloc: Global, pattern: &str, wrong: &mut Vec<String>) -> Result<()> 
     Ok(())
 }
 
-/// An NFA of many patterns is bound only if each of them begins so.
+/// An NFA of many patterns is anchored only if each of them begins with `Start`.
 pub fn expect_lists(alloc: Global) -> Result<()> {
     for (patterns, wanted) in LISTS.iter() {
         let nfa = Compiler::new().build_many(alloc, patterns)?;
@@ -87,7 +87,7 @@ pub fn expect_lists(alloc: Global) -> Result<()> {
     Ok(())
 }
 
-/// A span that begins later has no start of the haystack, so nothing is found in it.
+/// A span that begins after the start of the haystack has no match.
 pub fn expect_later_spans(alloc: Global) -> Result<()> {
     let vm = PikeVM::new_from_nfa(Compiler::new().build(alloc, "^a")?)?;
     let later = is_in(alloc, &vm, Input::new(b"aa").range(1..2))?;

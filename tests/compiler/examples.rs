@@ -7,7 +7,7 @@ use regex_search_core::{Input, NonMaxUsize};
 use std::alloc::Global;
 use std::fmt::Write;
 
-/// A pattern, a haystack, and the spans of the groups of the first match; nothing if there is no match.
+/// A pattern, a haystack, and the spans of the groups of the first match; empty if there is no match.
 const ROWS: [(&str, &str, &str); 57] = [
     (
         "(?<y>[0-9]{4})-(?<m>[0-9]{2})-(?<d>[0-9]{2})",
@@ -66,12 +66,13 @@ const ROWS: [(&str, &str, &str); 57] = [
     (r"(?-u:\b{start-half})a", "ba éa", "5..6 "),
     (r"a(?-u:\b{end-half})", "ab aé", "3..4 "),
     (r"\<a\>", "ab a", "3..4 "),
-    // Each round of a loop has to read a byte. Rust's regex, RE2, Perl and Python find 0..1, 0..2, 0..2 and 0..1.
+    // Each iteration of a loop has to read a byte. Rust's regex, RE2, Perl and Python all find 0..1, 0..2, 0..2 and
+    // 0..1 in these four rows.
     ("(?:a?b??)+", "ab", "0..2 "),
     ("(?:a*(?:|b))*", "aab", "0..3 "),
     (r"(?:\w* ??)+", "ab cd", "0..5 "),
     ("(a?(b)??)*c?", "abc", "0..3 1..2 1..2 "),
-    // A group under `{0}` is not in the pattern, but a later group keeps its number.
+    // A group that is repeated `{0}` times is left out, but a later group keeps its number.
     ("(?<x>a){0}(b)", "ab", "1..2 - 1..2 "),
     ("(b)(?<x>a){0}", "ab", "1..2 1..2 "),
     ("(?:(a){0}b)+", "bb", "0..2 "),
@@ -79,7 +80,7 @@ const ROWS: [(&str, &str, &str); 57] = [
     (r"\w+a|\w+b", "xab", "0..2 "),
 ];
 
-/// The same, if patterns may match bytes that are not UTF-8.
+/// The same for patterns that may match bytes that are not UTF-8.
 const BYTE_ROWS: [(&str, &[u8], &str); 4] = [
     (r"(?-u:\xFF)", b"a\xFF", "1..2 "),
     (r"(?-u:.)", b"\x80", "0..1 "),
@@ -135,7 +136,7 @@ pub fn differences(alloc: Global) -> Result<(Vec<String>, usize)> {
     Ok((wrong, ROWS.len()))
 }
 
-/// The same of the rows whose patterns may match bytes that are not UTF-8.
+/// The same for `BYTE_ROWS`.
 pub fn byte_differences(alloc: Global) -> Result<(Vec<String>, usize)> {
     let mut wrong = Vec::new(alloc);
     let compiler = Compiler::new().configure(Config::new().utf8(false));

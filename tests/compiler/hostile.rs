@@ -6,7 +6,7 @@ use nfa_compiler::{Compiler, Config};
 use regex_syntax::{Parsed, parse};
 use std::alloc::Global;
 
-/// How many states the NFA of this pattern has.
+/// The number of states of the pattern's NFA.
 fn states(alloc: Global, pattern: &str) -> Result<usize> {
     let nfa = Compiler::new().build(alloc, pattern)?;
     Ok(nfa.states().len())
@@ -36,8 +36,8 @@ fn expect(is: bool, what: &'static str) -> Result<()> {
     Ok(())
 }
 
-/// Compiles large patterns: counts inside counts, a text of ten thousand characters, classes of all of Unicode, and
-/// two hundred groups inside one another.
+/// Compiles large patterns: nested repetitions, a text of ten thousand characters, classes of all of Unicode, and two
+/// hundred nested groups.
 pub fn expect_large(alloc: Global) -> Result<()> {
     expect_states(alloc, "(a{100}){100}", 10000, "counts in counts")?;
     expect_states(alloc, "a{1000}", 1000, "a count")?;
@@ -48,7 +48,7 @@ pub fn expect_large(alloc: Global) -> Result<()> {
     expect_states(alloc, &deep, 400, "groups in groups")
 }
 
-/// The NFA has more than this many states.
+/// The NFA has more than `count` states.
 fn expect_states(alloc: Global, pattern: &str, count: usize, what: &'static str) -> Result<()> {
     expect(states(alloc, pattern)? > count, what)
 }
@@ -67,7 +67,7 @@ pub fn expect_refused(alloc: Global) -> Result<()> {
     expect(nests_too_deep(alloc, deep.as_str()), "ten thousand groups")
 }
 
-/// The texts of errors of depth and of memory.
+/// The texts of errors about depth and memory.
 pub fn expect_texts(alloc: Global) -> Result<()> {
     let text = too_deep(alloc, "a((b))", 1)?;
     let wanted = concat!(
@@ -99,7 +99,7 @@ fn pattern_len(alloc: Global, patterns: &[&str]) -> Result<usize> {
     Ok(nfa.pattern_len())
 }
 
-/// Trees that were read before, with settings of syntax and of the NFA.
+/// Syntax trees that were parsed before, with settings of syntax and of the NFA.
 pub fn expect_trees(alloc: Global) -> Result<()> {
     let syntax = nfa_compiler::Syntax::default();
     let compiler = Compiler::new()

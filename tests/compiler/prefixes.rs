@@ -1,4 +1,4 @@
-//! Patterns whose matches all begin with some bytes: their NFAs have these as prefix.
+//! Patterns whose matches all begin with the same bytes: these are the prefix of the NFA.
 
 use anyhow::Result;
 use nfa_compiler::Compiler;
@@ -6,8 +6,8 @@ use nfa_prefix::{find_prefix, literal_prefix};
 use std::alloc::Global;
 use std::fmt::Write;
 
-/// Patterns, each with its prefix. It ends before a class of bytes, an alternation and a part that may be left out. Two
-/// characters that begin with the same byte have that byte as prefix.
+/// Patterns, each with its prefix. It ends before a class of bytes, an alternation and an optional part. Two characters
+/// that begin with the same byte have that byte as prefix.
 const PREFIXES: [(&str, &[u8]); 18] = [
     ("ERROR", b"ERROR"),
     ("^abc[0-9]", b"abc"),
@@ -32,7 +32,7 @@ const PREFIXES: [(&str, &[u8]); 18] = [
     ),
 ];
 
-/// Haystacks with a start and an end, and where the bytes `foo` are first between them.
+/// A haystack, a start, an end, and the first position of `foo` between them.
 const PLACES: [(&str, usize, usize, Option<usize>); 9] = [
     ("x foo1", 0, 6, Some(2)),
     ("foo foo", 0, 7, Some(0)),

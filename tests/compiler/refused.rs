@@ -1,12 +1,12 @@
-//! The texts of errors: what is wrong, and where in the text.
+//! The texts of errors: what is wrong, and where in the pattern.
 
 use anyhow::Result;
 use nfa_compiler::{CompileError, Compiler, Config, Syntax};
 use std::alloc::Global;
 use std::fmt::Write;
 
-/// A text that is not a pattern, the span at fault, why, the line that is shown, and the marks below it. The spans are
-/// those of the crate regex-syntax.
+/// A text that is not a pattern, the span at fault, the reason, the line that is shown, and the marks below it. The
+/// spans are those of the crate regex-syntax.
 const ROWS: [(&str, (usize, usize), &str, &str, &str); 35] = [
     ("ab(c", (2, 3), "unclosed group", "ab(c", "  ^"),
     ("a)", (1, 2), "unopened group", "a)", " ^"),
@@ -207,7 +207,7 @@ fn wanted(alloc: Global, number: usize, row: usize) -> Result<String> {
     Ok(text)
 }
 
-/// Returns the text of the pattern's error, or that there is none. It is the second of two patterns; the first is good.
+/// Returns the text of the pattern's error, or `no error`. The pattern is the second of two, and the first is valid.
 fn given(alloc: Global, pattern: &str) -> Result<String> {
     let compiler = Compiler::new();
     error_text(alloc, compiler.build_many(alloc, &["good", pattern]).err())
@@ -254,7 +254,7 @@ pub fn out_of_memory(alloc: Global) -> Result<String> {
     error_text(alloc, Some(CompileError::Memory))
 }
 
-/// Whether the error of this text is that it nests too deep.
+/// Whether the pattern is refused because it nests too deep.
 pub fn nests_too_deep(alloc: Global, pattern: &str) -> bool {
     match Compiler::new().build(alloc, pattern) {
         Err(CompileError::Syntax(error)) => {

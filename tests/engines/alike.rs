@@ -1,4 +1,4 @@
-//! The lists that are made at once, over what the grids search: all matches, and all captures, whose matches are those.
+//! Lists of all matches and of all captures over the searches of the grids. Both lists have the same matches.
 
 use super::sums::{SEED, Shared, expect_sum, fold_match, fold_slots};
 use nfa_engines::backtrack::{self, BoundedBacktracker};
@@ -26,7 +26,7 @@ fn sums_of_captures(all: &[Captures]) -> (u64, u64) {
     (matches, slots)
 }
 
-// What `find_all` gives.
+// The sum of what `find_all` gives.
 fn piked_all(
     rt: &impl Abort,
     alloc: Global,
@@ -38,7 +38,7 @@ fn piked_all(
     sum_of_matches(&all)
 }
 
-// What `captures_all` gives.
+// The sums of what `captures_all` gives.
 fn piked_captures_all(
     rt: &impl Abort,
     alloc: Global,
@@ -50,7 +50,7 @@ fn piked_captures_all(
     sums_of_captures(&all)
 }
 
-/// Both lists of the PikeVM have the same matches. The sum of the slots of all captures. The cache has to fit.
+/// The cache fits, and both lists of the PikeVM have the same matches. Returns the sum of the slots of all captures.
 pub fn expect_piked_alike(
     rt: &impl Abort,
     vm: &PikeVM,
@@ -65,7 +65,7 @@ pub fn expect_piked_alike(
     slots
 }
 
-// What `try_find_all` gives.
+// The sum of what `try_find_all` gives.
 fn backtracked_all(
     rt: &impl Abort,
     alloc: Global,
@@ -79,7 +79,7 @@ fn backtracked_all(
     sum_of_matches(&all)
 }
 
-// What `try_captures_all` gives.
+// The sums of what `try_captures_all` gives.
 fn backtracked_captures_all(
     rt: &impl Abort,
     alloc: Global,
@@ -93,7 +93,7 @@ fn backtracked_captures_all(
     sums_of_captures(&all)
 }
 
-/// Both lists of the backtracker have the same matches. The sum of the slots of all captures.
+/// Both lists of the backtracker have the same matches. Returns the sum of the slots of all captures.
 pub fn expect_backtracked_alike(
     rt: &impl Abort,
     engine: &BoundedBacktracker,

@@ -1,5 +1,4 @@
-//! Rows of the engine that chooses. What owns a choice lends it to what asks it: a check is slow where an engine is
-//! owned by a function with many ways out.
+//! Searches of `Choice`, with the engine that runs.
 
 mod grid;
 mod lists;
@@ -19,7 +18,7 @@ fn nfa(rt: &impl Abort, alloc: Global, name: &str) -> NFA {
     nfa_named(alloc, name).expect(rt, "a sample")
 }
 
-/// The engine that chooses, of that NFA.
+/// A `Choice` of this NFA.
 pub fn choice_by(
     rt: &impl Abort,
     alloc: Global,
@@ -40,7 +39,7 @@ fn choice_of(
     choice_by(rt, alloc, nfa(rt, alloc, name), back, pike)
 }
 
-// Marks of so many bytes, or of the default.
+// Marks of this number of bytes, or of the default.
 fn marks(capacity: Option<usize>) -> backtrack::Config {
     match capacity {
         Some(bytes) => backtrack::Config::new().visited_capacity(bytes),
@@ -75,13 +74,13 @@ fn with_engine(rt: &impl Abort, mut text: String, choice: &Choice) -> String {
     text
 }
 
-// What `find` answers, the pattern and the span or `none`, and which engine ran.
+// The pattern and the span that `find` gives, or `none`, and which engine ran.
 fn found_text(rt: &impl Abort, alloc: Global, choice: &mut Choice, input: Input<'_>) -> String {
     let text = match_text(alloc, choice.find(input)).expect(rt, "memory");
     with_engine(rt, text, choice)
 }
 
-// What `search_slots` answers with six slots, and which engine ran.
+// The answer of `search_slots` with six slots, and which engine ran.
 fn six_slots_text(rt: &impl Abort, alloc: Global, choice: &mut Choice, input: Input<'_>) -> String {
     let mut slots = [NonMaxUsize::new(7); 6];
     let pattern = choice.search_slots(&input, &mut slots);
@@ -103,7 +102,7 @@ fn captures_text(rt: &impl Abort, alloc: Global, choice: &mut Choice, input: Inp
     with_engine(rt, text, choice)
 }
 
-// A choice, what it searches, and what it then answers: `find` with the engine that ran, and `is_match`.
+// A choice, a search, and its answers: by `find`, with the engine that ran, and by `is_match`.
 struct Row {
     name: &'static str,
     capacity: Option<usize>,
@@ -215,7 +214,7 @@ fn finds_a_pattern_without_a_span(rt: HostRuntime) {
     );
 }
 
-// The matches of `words_numbers` in this text: each one's pattern, start and end.
+// A text with six matches of `words_numbers`.
 const WORDS_AND_NUMBERS: &[u8] = b"abc 1 foo 4567 0 quux";
 
 fn list_text(rt: &impl Abort, alloc: Global, choice: &mut Choice) -> String {
@@ -251,7 +250,7 @@ fn expect_found(
     expect_answer(rt, &Case { name, input }, text.as_str(), want);
 }
 
-// Another NFA is searched from a replacement on, which is no search.
+// A replacement changes the NFA, but not which engine ran last.
 fn expect_replaced(rt: &impl Abort, alloc: Global, choice: &mut Choice) {
     replace(rt, alloc, choice, "abc");
     expect(rt, choice.ran().is_none(), "a replacement");
@@ -270,7 +269,7 @@ fn replace(rt: &impl Abort, alloc: Global, choice: &mut Choice, name: &str) {
     choice.replace(nfa(rt, alloc, name)).expect(rt, "memory");
 }
 
-// An NFA of more slots and states takes the place of one of fewer; where memory is refused the old one stays.
+// An NFA with more slots and states replaces a smaller one. If allocation fails, the old one stays.
 fn expect_larger(rt: &impl Abort, alloc: Global, choice: &mut Choice) {
     match choice.replace(nfa(rt, alloc, "groups")) {
         Ok(()) => expect_groups(rt, alloc, choice),
@@ -298,7 +297,7 @@ fn searches_another_nfa(rt: HostRuntime) {
     expect_larger(&rt, alloc, &mut choice);
 }
 
-// What a choice is shown as before any search, of the NFA that matches nothing.
+// The `Debug` text of a new choice of the NFA that never matches.
 const NEVER: &str = "Choice { \
 back: BoundedBacktracker { config: Config { visited_capacity: None }, mark_limit: 2097152, first: FirstBytes { .. }, \
 nfa: NFA { states: [Fail], anchored: StateID(0), unanchored: StateID(0), patterns: [], \
@@ -320,13 +319,13 @@ fn shown(rt: &impl Abort, alloc: Global, choice: &Choice) -> String {
     format!(in alloc; "{choice:?}").expect(rt, "memory")
 }
 
-// What an iterator of the choice is shown as.
+// The `Debug` text of an iterator of the choice.
 fn shown_matches(rt: &impl Abort, alloc: Global, choice: &mut Choice) -> String {
     let matches = choice.find_iter(Input::new(b"a"));
     format!(in alloc; "{matches:?}").expect(rt, "memory")
 }
 
-// What it is to be shown as, over a choice that is shown so.
+// The text that is expected, given that of the choice.
 fn wanted_matches(rt: &impl Abort, alloc: Global, shown: &str) -> String {
     format!(in alloc;
         "ChoiceMatches {{ choice: {shown}, steps: Steps {{ searcher: Searcher {{ input: {:?}, \
@@ -341,7 +340,7 @@ fn expect_shown_fresh(rt: &impl Abort, alloc: Global, choice: &Choice) {
     expect(rt, text.as_str() == NEVER, text.as_str());
 }
 
-// A choice shows both engines, their caches and which one ran; an iterator shows the choice, and where it stands.
+// A choice shows both engines, their caches and which one ran. An iterator shows the choice and its own state.
 fn expect_shown(rt: &impl Abort, alloc: Global, choice: &mut Choice) {
     choice.is_match(Input::new(b"a"));
     let text = shown(rt, alloc, choice);

@@ -1,30 +1,29 @@
-//! What both engines have to answer. What owns an engine only makes it and lends it to one of these. What is asserted
-//! in many places is asserted by one function: a check takes some seconds for each assertion, and less for a call.
+//! Assertions about the answers of both engines.
 
 use regex_search_core::Input;
 use std::alloc::Global;
 use std::process::Abort;
 use test_support::engines::Engines;
 
-/// A search, and the name of what is searched for.
+/// A search, and the name of its NFA.
 #[derive(Clone, Copy, Debug)]
 pub struct Case<'a> {
     pub name: &'a str,
     pub input: Input<'a>,
 }
 
-/// Both engines of the sample of that name.
+/// Both engines of the sample of this name.
 pub fn engines_of(rt: &impl Abort, alloc: Global, name: &str) -> Engines {
     Engines::of_sample(alloc, name).expect(rt, "engines of a sample")
 }
 
-/// The answer to the search is this.
+/// Expects this answer to the search.
 pub fn expect_answer(rt: &impl Abort, case: &Case<'_>, text: &str, want: &str) {
     let Case { name, input } = case;
     assert!(rt; text == want, "{name} {input:?}: {text}, not {want}");
 }
 
-/// It is as it has to be with what has that name.
+/// Fails with the name if this does not hold.
 pub fn expect(rt: &impl Abort, holds: bool, name: &str) {
     assert!(rt; holds, "{name}");
 }
@@ -35,7 +34,7 @@ fn expect_texts(rt: &impl Abort, case: &Case<'_>, texts: &[String; 2], want: &st
     expect_answer(rt, case, second.as_str(), want);
 }
 
-/// Both answer this, and leave it in so many slots.
+/// Both find this pattern, and leave these `slot_len` slots.
 pub fn expect_slots(
     rt: &impl Abort,
     alloc: Global,
@@ -74,7 +73,7 @@ pub fn expect_half(
     expect_texts(rt, case, &texts, want);
 }
 
-/// Both give these matches, each with a comma and a blank behind it.
+/// Both give these matches, each followed by a comma and a space.
 pub fn expect_list(
     rt: &impl Abort,
     alloc: Global,
@@ -86,29 +85,29 @@ pub fn expect_list(
     expect_texts(rt, case, &texts, want);
 }
 
-/// Both tell that there is a match, or that there is none.
+/// Both say whether there is a match.
 pub fn expect_is_match(rt: &impl Abort, engines: &mut Engines, case: &Case<'_>, want: bool) {
     let [first, second] = engines.are_matches(case.input).expect(rt, "memory");
     expect(rt, first == want, case.name);
     expect(rt, second == want, case.name);
 }
 
-/// What both engines are asked.
+/// What both engines search for.
 #[derive(Clone, Copy, Debug)]
 pub enum Ask {
-    /// As many slots as the NFA has.
+    /// All slots of the NFA.
     AllSlots,
-    /// So many slots.
+    /// This number of slots.
     Slots(usize),
     /// The first match.
     Match,
-    /// Its end.
+    /// The end of the first match.
     Half,
     /// All matches.
     List,
 }
 
-/// Both engines of the sample that the case names answer this.
+/// Both engines of the sample that the case names give this answer.
 pub fn expect_asked(rt: &impl Abort, alloc: Global, case: &Case<'_>, ask: Ask, want: &str) {
     let mut engines = engines_of(rt, alloc, case.name);
     expect_asked_of(rt, alloc, &mut engines, case, ask, want);
@@ -132,7 +131,7 @@ fn expect_asked_of(
     }
 }
 
-/// What is answered in so many slots where there is no match.
+/// The answer in `slot_len` slots if there is no match.
 pub fn none_text(rt: &impl Abort, alloc: Global, slot_len: usize) -> String {
     let mut text = String::from_str(alloc, "none").expect(rt, "memory");
     for _ in 0..slot_len {

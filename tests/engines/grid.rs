@@ -1,5 +1,5 @@
-//! Both engines and the one that chooses over each sample, each span of some haystacks, four ways to search it, and
-//! both match kinds; by each call that searches, with caches and captures that all of them share.
+//! Both engines and `Choice` over each sample: each span of some haystacks, four ways to search it, both match kinds,
+//! and each call that searches. All searches share caches and captures.
 
 use super::alike::{expect_backtracked_alike, expect_piked_alike};
 use super::choice::choice_by;
@@ -18,8 +18,8 @@ use std::process::Abort;
 use test_support::searches::searches_of;
 use thompson_nfa::NFA;
 
-// A name, and the number that is made of the answers of all searches. The numbers were made of the answers of
-// regex-automata 0.4.18 to single searches. Where two numbers are one, both NFAs answer the same in all these searches.
+// A name, and the sum of the answers to all searches. The sums come from the answers of regex-automata 0.4.18 to single
+// searches. If two sums are equal, both NFAs give the same answers to all these searches.
 const SUMS: &[(&str, u64)] = &[
     ("abc", 17516175631079300615),
     ("ab_b", 6894780911169050394),
@@ -74,8 +74,8 @@ impl<'a> Pair<'a> {
         self.vm.get_config().get_match_kind() == MatchKind::LeftmostFirst
     }
 
-    // Whether regex-automata means another set of overlapping matches by the search: it means all of them in an
-    // unanchored search of the kind `All` without `earliest`.
+    // Whether regex-automata may give another set of overlapping matches. It gives all of them in an unanchored
+    // search of the kind `All` without `earliest`.
     fn is_unlike(&self, input: &Input<'_>) -> bool {
         self.is_leftmost()
             || input.get_earliest()
@@ -84,7 +84,7 @@ impl<'a> Pair<'a> {
     }
 }
 
-// The sum with the answers of one search, which are those of all.
+// Adds the answers to one search to the sum. All engines have to agree.
 fn fold_search(
     rt: &impl Abort,
     pair: &Pair<'_>,
@@ -105,7 +105,7 @@ fn fold_search(
     fold_set(rt, pair, shared, fold(sum, piked), input)
 }
 
-// A cache that is no larger than it has to be makes no other set. The set counts where regex-automata means the same.
+// Adds the set to the sum if regex-automata gives the same. A cache of the least size has to give the same set too.
 fn fold_set(
     rt: &impl Abort,
     pair: &Pair<'_>,
@@ -154,7 +154,7 @@ fn fold_haystacks(
     sum
 }
 
-// No marks, or 64 or 128 of them, so that `Choice` asks one engine, or the other, or each for its lengths.
+// No marks, or 64 or 128 of them, so that `Choice` runs one engine, or the other, or each for its lengths.
 fn choice_of(rt: &impl Abort, alloc: Global, pair: &Pair<'_>) -> Choice {
     let nfa = pair.back.get_nfa();
     let bytes = (nfa.states().len() % 3).saturating_mul(8);
@@ -201,7 +201,7 @@ fn fold_kind(
     fold_pair(rt, &pair, shared, sum, haystacks)
 }
 
-/// The sum with the answers of all searches of the NFA: leftmost first, then those of the kind `All`.
+/// Adds the answers to all searches of the NFA to the sum: leftmost first, then those of the kind `All`.
 pub fn fold_nfa(
     rt: &impl Abort,
     nfa: NFA,
@@ -227,7 +227,7 @@ fn expect_samples(rt: &impl Abort, alloc: Global, sums: &[(&str, u64)]) {
     }
 }
 
-// The samples in parts: a test has a minute.
+// In parts, since a test may run for at most a minute.
 #[test]
 fn all_calls_answer_as_upstream_over_words(rt: HostRuntime) {
     expect_samples(&rt, rt.alloc(), &SUMS[..4]);

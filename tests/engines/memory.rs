@@ -1,4 +1,4 @@
-//! Searches, copies and makers that have their memory say no `Memory`: each row refuses a body that gives up too early.
+//! Nothing returns `Memory` while there is memory. Each row catches code that gives up too early.
 
 use super::expected::{
     Ask, Case, engines_of, expect, expect_asked, expect_is_match, expect_match, expect_slots,
@@ -42,7 +42,7 @@ fn expect_lengths(rt: &impl Abort, alloc: Global, engine: &BoundedBacktracker) {
     expect_in(rt, alloc, engine, &dots, 209715, want);
 }
 
-// What is answered to a search of so many of the bytes, with a new cache.
+// Expects this answer to a search of the first `len` bytes, with a new cache.
 fn expect_in(
     rt: &impl Abort,
     alloc: Global,
@@ -57,7 +57,7 @@ fn expect_in(
     expect(rt, text.as_str() == want, text.as_str());
 }
 
-// So many matches of one byte.
+// `len` matches of one byte each.
 fn ones_text(rt: &impl Abort, alloc: Global, len: usize) -> String {
     let mut text = String::new(alloc);
     for at in 0..len {
@@ -82,7 +82,7 @@ fn no_number_of_matches_wants_memory(rt: HostRuntime) {
     expect_asked(&rt, alloc, &case, Ask::List, "0 8..8, ");
 }
 
-// 262144 bytes of marks are the default.
+// The default is 262144 bytes of marks.
 #[test]
 fn a_greater_capacity_is_used(rt: HostRuntime) {
     let alloc = rt.alloc();
@@ -250,7 +250,7 @@ fn expect_threads_copy(rt: &impl Abort, vm: &PikeVM, same: &PikeVM, cache: &mut 
     expect_fit(rt, vm, same, &mut copy);
 }
 
-// The copy of a cache fits the engine that it was made for and its copy, which finds no match.
+// The copy of a cache fits the engine that it was made for, and the engine's copy, which finds no match.
 fn expect_fit(rt: &impl Abort, vm: &PikeVM, same: &PikeVM, copy: &mut pikevm::Cache) {
     expect(rt, copy.fits(vm), "a copy of a cache");
     let finds_none = copy.fits(same) && !same.is_match(copy, Input::new(LONG));

@@ -12,7 +12,7 @@ use std::alloc::Global;
 use std::process::Abort;
 use test_support::engines::Engines;
 
-// Which pattern alone the search is anchored for; a number above the patterns is for none.
+// Anchored to the pattern of this number, which need not exist, or unanchored.
 fn mode(pattern: Option<usize>) -> Anchored {
     let Some(pattern) = pattern else {
         return Anchored::No;
@@ -23,8 +23,8 @@ fn mode(pattern: Option<usize>) -> Anchored {
     }
 }
 
-// A shape, a haystack, the pattern that the search is anchored for, and of four slots the pattern and the slots, the
-// match, all matches, and whether there is a match.
+// A shape, a haystack, the pattern that the search is anchored to, the pattern and four slots, the match, all matches,
+// and whether there is a match.
 type Row<'a> = (
     Shape,
     &'a [u8],
@@ -35,7 +35,7 @@ type Row<'a> = (
     bool,
 );
 
-// Of `TwoWays` there are 2 to the power 60 paths and more, so the test ends only where none is walked twice.
+// `TwoWays` has more than 2 to the power 60 paths here, so the test ends only if no pair is tried twice.
 const ROWS: &[Row<'static>] = &[
     (Shape::TwoBare, b"a", None, "0 - - - -", "none", "", true),
     (Shape::TwoBare, b"a", Some(0), "0 - - - -", "none", "", true),
@@ -83,7 +83,7 @@ fn expect_answers(rt: &impl Abort, alloc: Global, engines: &mut Engines, row: &R
     expect_is_match(rt, engines, &case, is_match);
 }
 
-// A PikeVM that searches for all matches.
+// A PikeVM of the match kind `All`.
 fn greedy(rt: &impl Abort, alloc: Global, shape: Shape) -> PikeVM {
     let mut builder = PikeVM::builder();
     builder.configure(Config::new().match_kind(All));
@@ -113,7 +113,7 @@ fn a_done_input_has_no_match(rt: HostRuntime) {
     }
 }
 
-// Of a haystack that has a byte at least.
+// The haystack has at least one byte.
 fn expect_none(rt: &impl Abort, alloc: Global, name: &str, haystack: &[u8]) {
     let mut engines = engines_of(rt, alloc, name);
     let input = Input::new(haystack).range(2..1);
@@ -204,7 +204,7 @@ fn expect_cut(
     expect(rt, is_cut(second.as_str(), slot_len, want), case.name);
 }
 
-// The pattern and so many slots begin the answer.
+// Whether the text is the beginning of the answer, with the pattern and `slot_len` slots.
 fn is_cut(text: &str, slot_len: usize, want: &str) -> bool {
     let slots = text.split(' ').count().saturating_sub(1);
     slots == slot_len && want.starts_with(text)

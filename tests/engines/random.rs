@@ -1,4 +1,4 @@
-//! All calls over NFAs that are made by chance, from a fixed seed.
+//! All calls over random NFAs, from a fixed seed.
 
 use super::grid::fold_nfa;
 use super::sums::{SEED, Shared};
@@ -9,13 +9,13 @@ use thompson_nfa::NFA;
 
 const HAYSTACKS: &[&[u8]] = &[b"", b"ab", b"abca", b"a\xE2\x98\x83", b"\x80b a"];
 
-// Each of the ten parts has this many NFAs.
+// The number of NFAs in each of the ten parts.
 const PART: usize = 10;
 
 const SEED_OF_NFAS: u64 = 2010;
 
 // The sum of the answers to all searches so far, after each part. The sums come from the answers of regex-automata
-// 0.4.18 to single searches, over the NFAs that the same generator made in another language.
+// 0.4.18 to single searches, over NFAs of the same generator, written in another language.
 const SUMS: &[u64] = &[
     SEED,
     1861892410165724649,
@@ -44,7 +44,7 @@ fn fold_part(rt: &impl Abort, shared: &mut Shared, chance: &mut Chance, sum: u64
     sum
 }
 
-// Makes the NFAs of the parts before this one, and searches none.
+// Makes the NFAs of the parts before this one, without searching them.
 fn skip_parts(rt: &impl Abort, alloc: Global, chance: &mut Chance, part: usize) {
     for _ in 0..part.saturating_mul(PART) {
         made(rt, alloc, chance);
@@ -68,7 +68,7 @@ fn expect_sums(rt: &impl Abort, shared: &mut Shared, chance: &mut Chance, part: 
     assert!(rt; sum == want, "{part}: {sum}");
 }
 
-// The NFAs in ten parts: a test has a minute.
+// In ten parts, since a test may run for at most a minute.
 #[test]
 fn all_calls_search_what_chance_makes_from_0(rt: HostRuntime) {
     expect_part(&rt, rt.alloc(), 0);

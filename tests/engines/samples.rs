@@ -1,4 +1,4 @@
-//! What both engines answer over the samples.
+//! Answers of both engines over the samples.
 
 use super::expected::{Ask, Case, engines_of, expect_asked, expect_is_match, expect_slots};
 use nfa_samples::answers::{
@@ -42,7 +42,7 @@ fn both_find_the_first_match_in_a_span(rt: HostRuntime) {
     }
 }
 
-// A name, a haystack, a span, whether the search may end at the earliest match, and whether there is one.
+// A name, a haystack, a span, whether the search is `earliest`, and whether there is a match.
 const IS_MATCH: &[(&str, &str, usize, usize, bool, bool)] = &[
     ("a_star", "☃", 1, 2, false, false),
     ("a_star_bytes", "☃", 1, 2, false, true),

@@ -16,32 +16,31 @@ pub enum Shape {
     UnionLoop,
     /// Two ways over each byte.
     TwoWays,
-    /// A chain of so many states, each of which leads to the next one twice, without a byte. The last is the match.
+    /// A chain of this many states. Each leads twice to the next one, without reading a byte. The last is the match.
     Chain(usize),
     /// The same chain, of captures.
     Captures(usize),
-    /// A union of so many states, which all read one byte; the last one reads another, and is followed by the match.
+    /// A union and its alternatives: this many states. The last reads an `a` and leads to the match, others a `b`.
     Fan(usize),
-    /// A chain of so many states that reads a byte at each.
+    /// A chain of this many states. Each but the last reads an `a`. The last is the match.
     Word(usize),
     /// Two patterns: one reads an `a`, the other is a loop of this many states that reads `c`s and never matches.
     ByteOrLoop(usize),
 }
 
-/// The NFA of that shape. It starts at its first state.
+/// The NFA of this shape. It starts at its first state.
 pub fn nfa_of(alloc: Global, shape: Shape) -> Result<NFA, MakeError> {
     let mut machine = Machine::new(alloc);
     add(alloc, &mut machine, shape)?;
     machine.build(0, 0)
 }
 
-/// Both engines of the NFA of that shape.
+/// Both engines of the NFA of this shape.
 pub fn engines_of_shape(rt: &impl Abort, alloc: Global, shape: Shape) -> Engines {
     let nfa = nfa_of(alloc, shape).expect(rt, "an NFA");
     Engines::new(alloc, nfa).expect(rt, "memory")
 }
 
-/// The same NFA once more.
 pub fn nfa_copy(rt: &impl Abort, nfa: &NFA) -> NFA {
     nfa.clone().expect(rt, "memory")
 }

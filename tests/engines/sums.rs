@@ -1,4 +1,4 @@
-//! What the calls of a search answer, as one number, with caches and captures that all searches share.
+//! The answers of the calls that search, as one number, with caches and captures that all searches share.
 
 use super::shapes::{Shape, nfa_of};
 use nfa_choice::choose::Choice;
@@ -11,17 +11,17 @@ use std::process::Abort;
 /// The sum before any answer.
 pub const SEED: u64 = 7;
 
-/// The sum with one more number.
+/// Adds a number to the sum.
 pub fn fold(sum: u64, value: u64) -> u64 {
     sum.wrapping_mul(31).wrapping_add(value)
 }
 
-// A pattern as one more than it is.
+// Adds one more than the pattern's number.
 fn fold_pattern(sum: u64, pattern: PatternID) -> u64 {
     fold(sum, (pattern.as_usize() as u64).wrapping_add(1))
 }
 
-// A slot in the same way, none as 0.
+// Adds one more than the slot, or 0 for none.
 fn fold_slot(sum: u64, slot: Option<NonMaxUsize>) -> u64 {
     match slot {
         Some(offset) => fold(sum, (offset.get() as u64).wrapping_add(1)),
@@ -29,7 +29,7 @@ fn fold_slot(sum: u64, slot: Option<NonMaxUsize>) -> u64 {
     }
 }
 
-/// A pattern as one more than it is, none as 0; then each slot in the same way.
+/// Adds one more than the pattern's number, or 0 for none; then each slot in the same way.
 pub fn fold_slots(sum: u64, pattern: Option<PatternID>, slots: &[Option<NonMaxUsize>]) -> u64 {
     let mut sum = match pattern {
         Some(pattern) => fold_pattern(sum, pattern),
@@ -41,7 +41,7 @@ pub fn fold_slots(sum: u64, pattern: Option<PatternID>, slots: &[Option<NonMaxUs
     sum
 }
 
-/// One more than the pattern, the start and the end; none as 0.
+/// Adds one more than the pattern's number, the start and the end, or 0 for none.
 pub fn fold_match(sum: u64, found: Option<Match>) -> u64 {
     match found {
         Some(found) => {
@@ -56,12 +56,12 @@ fn fold_is_match(sum: u64, is_match: bool) -> u64 {
     fold(sum, if is_match { 1 } else { 0 })
 }
 
-/// It is as it has to be with the answers to the search.
+/// Fails if this does not hold, and shows the search.
 pub fn expect_on(rt: &impl Abort, input: &Input<'_>, holds: bool) {
     assert!(rt; holds, "{input:?}");
 }
 
-/// What is made of the answers to the search is this number.
+/// Expects this sum of the answers to the search.
 pub fn expect_sum(rt: &impl Abort, input: &Input<'_>, sum: u64, want: u64) {
     expect_on(rt, input, sum == want);
 }
@@ -70,7 +70,7 @@ pub fn expect_sum(rt: &impl Abort, input: &Input<'_>, sum: u64, want: u64) {
 /// another NFA.
 #[derive(Drop)]
 pub struct Shared {
-    /// What all memory is asked for.
+    /// The allocator of all memory.
     pub alloc: Global,
     /// The cache of the backtracker.
     pub marks: backtrack::Cache,
@@ -82,7 +82,7 @@ pub struct Shared {
 }
 
 impl Shared {
-    /// Things of an NFA with twelve slots.
+    /// Made for an NFA with twelve slots.
     pub fn new(rt: &impl Abort, alloc: Global) -> Shared {
         let nfa = nfa_of(alloc, Shape::Captures(9)).expect(rt, "an NFA");
         let vm = PikeVM::new_from_nfa(nfa).expect(rt, "memory");
@@ -101,7 +101,7 @@ impl Shared {
     }
 }
 
-/// What the backtracker answers to slots, to a match, to whether there is one, to captures, and as a list.
+/// The sum of the backtracker's answers: slots, the match, whether there is one, captures, and the list.
 pub fn sum_backtracked(
     rt: &impl Abort,
     engine: &BoundedBacktracker,
@@ -132,7 +132,7 @@ pub fn sum_backtracked(
     sum
 }
 
-/// What the PikeVM answers to the same. 0 where the cache does not fit.
+/// The same sum by the PikeVM, or 0 if the cache does not fit.
 pub fn sum_piked(vm: &PikeVM, input: &Input<'_>, shared: &mut Shared) -> u64 {
     let Shared {
         threads,
@@ -160,7 +160,7 @@ fn fold_piked_list(vm: &PikeVM, threads: &mut pikevm::Cache, input: &Input<'_>, 
     sum
 }
 
-/// What the engine that chooses answers to the same, by each of its searches.
+/// The same sum by `Choice`.
 pub fn sum_chosen(choice: &mut Choice, input: &Input<'_>, shared: &mut Shared) -> u64 {
     let Shared {
         captures,
@@ -179,7 +179,7 @@ pub fn sum_chosen(choice: &mut Choice, input: &Input<'_>, shared: &mut Shared) -
     sum
 }
 
-/// What an empty set gains in a search for overlapping matches. 0 where the cache does not fit.
+/// The sum of what an empty set gains in a search for overlapping matches, or 0 if the cache does not fit.
 pub fn sum_of_set(
     rt: &impl Abort,
     alloc: Global,
@@ -204,7 +204,7 @@ fn sum_of_patterns(set: &PatternSet) -> u64 {
     sum
 }
 
-/// What an empty set gains with a cache that is no larger than it has to be.
+/// The same with a cache of the least size.
 pub fn sum_of_own_set(rt: &impl Abort, alloc: Global, vm: &PikeVM, input: &Input<'_>) -> u64 {
     let mut own = vm.create_cache(alloc).expect(rt, "memory");
     sum_of_set(rt, alloc, vm, &mut own, input)

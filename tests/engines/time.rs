@@ -1,4 +1,4 @@
-//! Time that no count of turns shows: a search takes time only for the states that it reaches.
+//! Time that the count of turns does not show: a search takes time only for the states that it reaches.
 
 use super::expected::expect;
 use super::shapes::{Shape, nfa_of};
@@ -7,7 +7,7 @@ use regex_search_core::Input;
 use std::alloc::Global;
 use std::process::Abort;
 
-// A position reaches only a few of these half a million states.
+// At each position, the search reaches only a few of half a million states.
 #[test]
 fn states_out_of_reach_take_no_time(rt: HostRuntime) {
     let alloc = rt.alloc();

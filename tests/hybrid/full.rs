@@ -1,5 +1,5 @@
 //! Caches with room for few rows. They stay within their capacity, and a search clears them as often as it may. If it
-//! needs more rows than that it gives up, and a hybrid then answers by the PikeVM.
+//! needs still more rows, it gives up, and a hybrid then runs the PikeVM.
 
 use super::pair::{Pair, pair_of};
 use nfa_compiler::Compiler;
@@ -8,19 +8,19 @@ use nfa_hybrid::dfa::{Cache, Config, DFA, StopError};
 use std::alloc::Global;
 use std::process::Abort;
 
-// How many bytes the rows may take: seven rows of one state at most.
+// The capacity of a cache in bytes: room for at most seven rows of one state.
 const CAPACITY: usize = 8400;
 
-// How many bytes a row takes, beside 4 for each of its states.
+// The bytes of a row, without the 4 for each of its states.
 const ROW: usize = 1120;
 
-// Texts of 36 bytes. As a pattern, each leads to other states at each byte, so that a scan of it needs 37 rows.
+// Texts of 36 bytes. As a pattern, each leads to new states at each byte, so its scan needs 37 rows.
 const ASCII: &str = "abcdefghijklmnopqrstuvwxyz0123456789";
 
 const CYRILLIC: &str = "абвгдежзийклмнопрс";
 
 // A pattern, a text, how often a search may clear its cache, and whether it gives up. There is room for at most seven
-// rows before each clear and after the last one; with seven clears, for more than 37 even if each row has all states.
+// rows between clears. With seven clears, there is room for more than 37 rows even if each has all states.
 const FULL: &[(&str, &str, Option<usize>, bool)] = &[
     (ASCII, ASCII, Some(0), true),
     (ASCII, ASCII, Some(1), true),
@@ -53,9 +53,9 @@ fn dfa_of(rt: &impl Abort, nfa: NFA, config: Config) -> DFA {
     builder.build_from_nfa(nfa).expect(rt, "a DFA")
 }
 
-// The first and the last offset at which a search of a new cache may give up. Then it has filled the cache once more
-// than it may clear it, with rows of all states at least and of one state at most. It makes no more rows than it takes
-// steps and one more, and for a text that is the pattern it needs a row at each offset.
+// The first and the last offset at which a search with a new cache may give up. It has then filled the cache once more
+// than it may clear it: with the fewest rows if each has all states, with the most if each has one. It makes at most
+// one row more than steps, and needs a row at each offset if the text is the pattern.
 fn offsets_of(dfa: &DFA, clears: usize) -> (usize, usize) {
     let times = clears.saturating_add(1);
     let largest = ROW.saturating_add(dfa.get_nfa().states().len().saturating_mul(4));
@@ -67,7 +67,7 @@ fn offsets_of(dfa: &DFA, clears: usize) -> (usize, usize) {
     )
 }
 
-// Whether a search ends so: with an answer, or at one of the offsets from the first to the last.
+// Whether the search gives up at one of these offsets, or answers if there are none.
 fn ends_so(found: &Result<Option<HalfMatch>, StopError>, offsets: Option<(usize, usize)>) -> bool {
     match (found, offsets) {
         (Ok(_), None) => true,
@@ -91,7 +91,7 @@ fn expect_search(
     assert!(rt; ends_so(&found, offsets), "{found:?}, not {offsets:?}");
 }
 
-// A search of a new cache, two more with what it left, and one after a reset.
+// A search with a new cache, two more with the same cache, and one after a reset.
 fn expect_searches(
     rt: &impl Abort,
     dfa: &DFA,
@@ -108,7 +108,7 @@ fn expect_searches(
     expect_search(rt, dfa, cache, text, offsets);
 }
 
-// The answers of a hybrid are those of a PikeVM. They are the lazy DFA's if it does not give up.
+// The hybrid answers as the PikeVM does. The answers are the lazy DFA's unless it gives up.
 fn expect_hybrid(rt: &impl Abort, pair: &mut Pair, text: &str, gives_up: bool) {
     pair.expect_same(rt, &Input::new(text.as_bytes()));
     let counts = pair.counts();

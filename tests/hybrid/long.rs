@@ -1,4 +1,4 @@
-//! Haystacks of ten million bytes: the only match at the end, none, and one in each hundred bytes.
+//! Haystacks of ten million bytes: with one match at the end, with none, and with one in each hundred bytes.
 
 use nfa_compiler::Compiler;
 use nfa_engines::Input;
@@ -14,7 +14,7 @@ fn hybrid(rt: &impl Abort, alloc: Global, pattern: &str) -> Hybrid {
     Hybrid::new(alloc, nfa, Config::new()).expect(rt, "memory")
 }
 
-// This number of parts, each of zeros and then an `x`.
+// A haystack of `parts` parts, each with `zeros` zeros and an `x`.
 fn haystack(rt: &impl Abort, alloc: Global, parts: usize, zeros: usize) -> Vec<u8> {
     let mut part = vec![in alloc; b'0'; zeros].expect(rt, "memory");
     part.push(b'x').expect(rt, "memory");
@@ -25,7 +25,7 @@ fn haystack(rt: &impl Abort, alloc: Global, parts: usize, zeros: usize) -> Vec<u
     bytes
 }
 
-// The lazy DFA finds this number of matches, the last of which ends there.
+// The lazy DFA finds `want.0` matches, and the last ends at `want.1`.
 fn expect_matches(
     rt: &impl Abort,
     alloc: Global,
@@ -39,7 +39,7 @@ fn expect_matches(
     assert_eq!(rt; hybrid.ran(), Some(Engine::LazyDFA));
 }
 
-// How many matches there are, and where the last one ends.
+// The number of matches, and the end of the last one.
 fn matches(hybrid: &mut Hybrid, bytes: &[u8]) -> (usize, usize) {
     let mut count: usize = 0;
     let mut end = 0;

@@ -8,7 +8,7 @@ use nfa_hybrid::{Engine, Hybrid, dfa};
 use std::alloc::Global;
 use std::process::Abort;
 
-/// Both, and how often each engine of the hybrid gave an answer.
+/// A hybrid and a PikeVM, and the number of answers that each engine of the hybrid gave.
 #[derive(Drop)]
 pub struct Pair {
     hybrid: Hybrid,
@@ -35,7 +35,7 @@ fn paired(rt: &impl Abort, alloc: Global, hybrid: Hybrid, vm: PikeVM) -> Pair {
     }
 }
 
-/// Makes both engines of the NFA.
+/// Makes both from the NFA.
 pub fn pair_of(rt: &impl Abort, alloc: Global, nfa: &NFA, config: dfa::Config) -> Pair {
     let copy = nfa.clone().expect(rt, "memory");
     let vm = pikevm_of(rt, nfa.clone().expect(rt, "memory"), config);
@@ -43,7 +43,7 @@ pub fn pair_of(rt: &impl Abort, alloc: Global, nfa: &NFA, config: dfa::Config) -
     paired(rt, alloc, hybrid, vm)
 }
 
-// The end of the match that the PikeVM finds. The cache fits: this is tested so that no `requires` is needed.
+// The half match that the PikeVM finds, or none if the cache does not fit.
 fn half_found(
     vm: &PikeVM,
     threads: &mut pikevm::Cache,
@@ -70,7 +70,7 @@ fn next_found(
     }
 }
 
-// The set that the PikeVM makes.
+// The set that the PikeVM fills.
 fn set_by(
     rt: &impl Abort,
     alloc: Global,
@@ -102,12 +102,12 @@ impl Pair {
         }
     }
 
-    /// Returns how many answers the lazy DFA gave, and how many the PikeVM of the hybrid.
+    /// Returns the number of answers of the lazy DFA, and that of the hybrid's PikeVM.
     pub fn counts(&self) -> (usize, usize) {
         (self.by_dfa, self.by_pike)
     }
 
-    /// Both find the same half match, and say the same of whether there is one.
+    /// Both answer `find_half` and `is_match` alike.
     pub fn expect_same(&mut self, rt: &impl Abort, input: &Input<'_>) {
         let half = self.hybrid.find_half(*input);
         self.count();
@@ -119,7 +119,7 @@ impl Pair {
         expect_on(rt, input, found == wanted);
     }
 
-    /// Both make the same set, also in sets with room for fewer patterns.
+    /// Both fill a set alike, also a set with room for fewer patterns.
     pub fn expect_same_set(&mut self, rt: &impl Abort, alloc: Global, input: &Input<'_>) {
         let patterns = self.hybrid.pattern_len();
         for capacity in [0, patterns / 2, patterns] {
@@ -142,7 +142,7 @@ impl Pair {
         set
     }
 
-    /// Both give the same half matches from left to right. Returns how many there are.
+    /// Both give the same half matches from left to right. Returns their number.
     pub fn expect_same_list(&mut self, rt: &impl Abort, input: Input<'_>) -> usize {
         let mut searcher = Searcher::new(input);
         let mut count: usize = 0;

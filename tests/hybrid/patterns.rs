@@ -8,7 +8,7 @@ use std::alloc::Global;
 use std::process::Abort;
 use test_support::searches::searches_of;
 
-// Patterns with assertions of Unicode words, and with others.
+// Patterns with assertions of Unicode words, and others.
 const WORDS: &[&str] = &[
     r"\bfoo\b",
     r"\B",
@@ -22,7 +22,7 @@ const WORDS: &[&str] = &[
     r"\w+",
 ];
 
-// Bytes of 128 or more before a span, in it and after it, next to an assertion or not.
+// Texts with and without bytes of 128 or more. Each span of them is searched.
 const TEXTS: &[&str] = &["", "a foo", "☃foo", "foo☃", "o\r\nfoo\n", "fo é o"];
 
 fn nfa(rt: &impl Abort, alloc: Global, pattern: &str) -> NFA {
@@ -43,7 +43,7 @@ fn expect_texts(rt: &impl Abort, alloc: Global, pair: &mut Pair) {
     }
 }
 
-// The lazy DFA answers wherever no such assertion meets such a byte, else the PikeVM.
+// The lazy DFA answers unless an assertion of Unicode words meets a byte of 128 or more. Then the PikeVM does.
 #[test]
 fn hybrids_answer_for_unicode_words(rt: HostRuntime) {
     let alloc = rt.alloc();
@@ -63,7 +63,7 @@ fn expect_config(rt: &impl Abort, alloc: Global, nfa: &NFA, config: Config) {
     expect_texts(rt, alloc, &mut pair);
 }
 
-// The engines that answered: the PikeVM if and only if the pattern is one with such an assertion.
+// Expects these numbers of answers of the lazy DFA and of the PikeVM.
 fn expect_counts(rt: &impl Abort, alloc: Global, pattern: &str, text: &str, want: (usize, usize)) {
     let nfa = nfa(rt, alloc, pattern);
     let mut pair = pair_of(rt, alloc, &nfa, Config::new());
@@ -85,7 +85,7 @@ fn a_hybrid_says_which_engine_ran(rt: HostRuntime) {
     expect_counts(&rt, alloc, r"\w+", "é ☃", (2, 0));
 }
 
-// So many bytes of `0` and `1`, by a linear congruential generator.
+// `len` bytes, each `0` or `1`, from a linear congruential generator.
 fn digits(rt: &impl Abort, alloc: Global, len: usize) -> Vec<u8> {
     let mut bytes = Vec::new(alloc);
     let mut state: u64 = 2010;
@@ -100,7 +100,7 @@ fn digits(rt: &impl Abort, alloc: Global, len: usize) -> Vec<u8> {
     bytes
 }
 
-// Caches that are full again and again.
+// The capacity of a cache that fills up again and again, and how often a search may clear it.
 const CACHES: &[(usize, Option<usize>)] = &[
     (20_000, Some(0)),
     (20_000, Some(3)),

@@ -1,4 +1,4 @@
-//! A hybrid over NFAs that are made by chance, from a fixed seed.
+//! A hybrid over random NFAs, from fixed seeds.
 
 use super::pair::{Pair, pair_of};
 use nfa_engines::{Input, MatchKind, NFA};
@@ -10,10 +10,10 @@ use test_support::searches::searches_of;
 
 const HAYSTACKS: &[&[u8]] = &[b"", b"ab", b"abcab", b"a\xE2\x98\x83", b"\x80b a"];
 
-// How many NFAs a test makes.
+// The number of NFAs of a test.
 const PART: usize = 40;
 
-// The match kind, how many bytes the rows may take, and how often a search may clear them.
+// The match kind, the capacity of the cache in bytes, and how often a search may clear it.
 const CONFIGS: &[(MatchKind, usize, Option<usize>)] = &[
     (MatchKind::LeftmostFirst, 2_097_152, Some(3)),
     (MatchKind::All, 2_097_152, Some(3)),
@@ -58,7 +58,7 @@ fn expect_part(rt: &impl Abort, alloc: Global, seed: u64) {
     }
 }
 
-// The NFAs in parts: a test has a minute.
+// In parts, since a test may run for at most a minute.
 #[test]
 fn hybrids_answer_as_a_pikevm_by_chance(rt: HostRuntime) {
     expect_part(&rt, rt.alloc(), 2010);

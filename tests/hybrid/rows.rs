@@ -1,4 +1,4 @@
-//! The rows that a lazy DFA makes: each once, and none again by a search of the same haystack.
+//! The rows that a lazy DFA makes: each once, and none in a second search of the same haystack.
 
 use nfa_compiler::Compiler;
 use nfa_engines::Input;
@@ -6,7 +6,7 @@ use nfa_hybrid::dfa::{Cache, DFA, StopError};
 use std::alloc::Global;
 use std::process::Abort;
 
-// How many bytes this number of rows takes at most, if each has few states.
+// The most bytes that this number of rows takes, if each has few states.
 fn bytes_of(rows: usize) -> usize {
     rows.saturating_mul(1200)
 }
@@ -22,7 +22,7 @@ fn end_of(dfa: &DFA, cache: &mut Cache, text: &[u8]) -> Result<Option<usize>, St
     Ok(half.map(|half| half.offset()))
 }
 
-// The search ends there, and the cache then has at most that number of rows.
+// The match ends at `want.0`, and the cache then has at most `want.1` rows.
 fn expect_end(
     rt: &impl Abort,
     dfa: &DFA,
@@ -57,15 +57,15 @@ fn expect_rows(
     expect_copy(rt, dfa, &cache, text, want.0);
 }
 
-// A copy has the rows too.
+// A copy of the cache has the rows too.
 fn expect_copy(rt: &impl Abort, dfa: &DFA, cache: &Cache, text: &[u8], end: Option<usize>) {
     let mut copy = cache.clone().expect(rt, "memory");
     assert_eq!(rt; copy.memory_usage(), cache.memory_usage());
     expect_no_more(rt, dfa, &mut copy, text, end);
 }
 
-// A pattern, a text, the end of its match, and the number of rows. A row that is not found is made again at each byte,
-// or at each second one.
+// A pattern, a text, the end of its match, and the number of rows. If rows were not found again, there would be a new
+// one at each byte, or at each second one.
 const ROWS: &[(&str, &str, Option<usize>, usize)] = &[
     ("a+b", "aaaaaaaaaaaaaaaaaaaaaaaaaaaaaaaaaaaaaaaa", None, 2),
     (

@@ -13,8 +13,8 @@ const ASCII: &[&[u8]] = &[b"", b"abba", b"abcab", b"foo 12"];
 
 const WIDE: &[&[u8]] = &[b"a\xE2\x98\x83b", b"\x80a\xE2\x98"];
 
-// How many bytes the rows may take, and how often a search may clear them: the defaults, no row, a number close to one
-// row, to two and to three, and no limit of clears.
+// The capacity of a cache in bytes, and how often a search may clear it: the defaults, no row, and about one row, two
+// and three. `None` is no limit.
 const CACHES: &[(usize, Option<usize>)] = &[
     (2_097_152, Some(3)),
     (0, Some(3)),
@@ -44,7 +44,7 @@ fn expect_haystacks(rt: &impl Abort, alloc: Global, pair: &mut Pair, haystacks: 
     }
 }
 
-// With the default cache, and without bytes of 128 or more, each answer is that of the lazy DFA.
+// With the default cache, and without bytes of 128 or more, the lazy DFA gives each answer.
 fn expect_by_dfa(rt: &impl Abort, pair: &Pair) {
     let (by_dfa, by_pike) = pair.counts();
     assert!(rt; by_dfa > 0 && by_pike == 0, "{by_dfa} and {by_pike}");
@@ -81,7 +81,7 @@ fn expect_nfa(rt: &impl Abort, alloc: Global, nfa: &NFA) {
     expect_kind(rt, alloc, nfa, MatchKind::All);
 }
 
-// The samples in parts: a test has a minute.
+// In parts, since a test may run for at most a minute.
 #[test]
 fn hybrids_answer_as_a_pikevm_over_words(rt: HostRuntime) {
     expect_samples(&rt, rt.alloc(), &NAMES[..8]);

@@ -28,7 +28,7 @@ fn expect_config(rt: &impl Abort, alloc: Global, nfa: &NFA, config: Config) {
 fn expect_nfa(rt: &impl Abort, alloc: Global, nfa: &NFA) {
     let all = Config::new().match_kind(MatchKind::All);
     expect_config(rt, alloc, nfa, all);
-    // A cache that is full again and again, so that the PikeVM has to go on with the set of the lazy DFA.
+    // A cache that fills up again and again, so the PikeVM has to go on with the set of the lazy DFA.
     let small = all.cache_capacity(2450).minimum_cache_clear_count(Some(1));
     expect_config(rt, alloc, nfa, small);
     expect_config(rt, alloc, nfa, Config::new());
@@ -58,7 +58,7 @@ fn expect_set(rt: &impl Abort, alloc: Global, nfa: &NFA, kind: MatchKind, want: 
     expect_counts(rt, &pair, want);
 }
 
-// Sets of capacity 0, of half of the patterns and of all: with `All` by the lazy DFA, else by the PikeVM.
+// Sets for none, half and all of the patterns. The lazy DFA fills them under `All`, otherwise the PikeVM does.
 #[test]
 fn a_hybrid_says_which_engine_made_a_set(rt: HostRuntime) {
     let alloc = rt.alloc();

@@ -1,4 +1,4 @@
-//! The sample NFAs, and mistakes by hand.
+//! Whether NFAs record the bounds of their matches: the samples, and NFAs with mistakes.
 use super::fixtures::named;
 use super::shown::expect_eq_of;
 use Row::{Byte, Capture, Either, Match};
@@ -9,9 +9,9 @@ use std::process::Abort;
 use test_support::machine::Machine;
 use thompson_nfa::NFA;
 
-// Whether the tables of the samples write both slots of a pattern on each way to its match. Those of `a` have no
-// captures, and `backwards` writes the end before the byte and the start behind it. In `loop` a group lacks its end,
-// which is no bound of the match.
+// A sample, and whether it writes both slots of a pattern on each path to its match. `a_bare` and `a_pair` have no
+// captures, and `backwards` writes the end before the byte and the start after it. In `loop` a group lacks its end,
+// which is not a bound of the match.
 const SAMPLES: &[(&str, bool)] = &[
     ("abc", true),
     ("ab_b", true),
@@ -56,7 +56,7 @@ fn expect_told(rt: &impl Abort, alloc: Global, nfa: &NFA, want: bool, name: &str
     expect_eq_of(rt, found, want, &name);
 }
 
-// A state: a byte, a slot that is written, or one of two, each with the numbers of the states behind it; or a match.
+// A state: a byte, a slot that is written, or one of two, each with the numbers of its next states; or a match.
 #[derive(Clone, Copy)]
 enum Row {
     Byte(u8, usize),
@@ -90,14 +90,14 @@ fn add_starts(machine: &mut Machine, starts: &[usize]) -> Result<(), MakeError> 
     Ok(())
 }
 
-// The NFA of these rows; state 0 is the start, and each of `starts` that of a pattern.
+// The NFA of these rows. State 0 is the start, and each of `starts` is the start of a pattern.
 fn nfa_of(rt: &impl Abort, alloc: Global, rows: &[Row], starts: &[usize]) -> NFA {
     let mut machine = Machine::new(alloc);
     add_all(&mut machine, rows, starts).expect(rt, "memory");
     machine.build(0, 0).expect(rt, "an NFA")
 }
 
-// What an NFA is, whether it writes its bounds, its states, and the starts of its patterns.
+// What an NFA is, whether it records its bounds, its states, and the starts of its patterns.
 const BY_HAND: &[(&str, bool, &[Row], &[usize])] = &[
     (
         "`a|b`, whose second branch passes over the capture of the end",

@@ -9,7 +9,7 @@ use std::alloc::Global;
 use std::process::Abort;
 use thompson_nfa::{NFA, State};
 
-// A sample, and how many slots it has with these captures. As many states are captures.
+// A sample, the captures that are kept, and the number of slots, which is the number of capture states too.
 const SLOTS: &[(&str, WhichCaptures, usize)] = &[
     ("abc", All, 2),
     ("abc", Implicit, 2),
@@ -45,7 +45,7 @@ fn expect_slots(rt: &impl Abort, alloc: Global, name: &str, which: WhichCaptures
     expect_eq_of(rt, captures_of(&kept), slots, &row);
 }
 
-// How many states of the NFA are captures.
+// The number of capture states of the NFA.
 fn captures_of(nfa: &NFA) -> usize {
     let mut count = 0usize;
     for state in nfa.states() {
@@ -56,7 +56,7 @@ fn captures_of(nfa: &NFA) -> usize {
     count
 }
 
-// Captures that `groups` keeps, its match in `xacab`, and its half match.
+// Captures that `groups` keeps, its match in `xacab`, and the end of its half match.
 const FOUND: &[(WhichCaptures, Option<(usize, usize)>, usize)] = &[
     (All, Some((1, 3)), 3),
     (Implicit, Some((1, 3)), 3),
@@ -79,7 +79,7 @@ fn vm_of(rt: &impl Abort, alloc: Global, which: WhichCaptures) -> PikeVM {
     PikeVM::new_from_nfa(kept).expect(rt, "memory")
 }
 
-// Where the match is, and where the half match ends.
+// The span of the match, and the end of the half match.
 fn found_by(
     rt: &impl Abort,
     alloc: Global,

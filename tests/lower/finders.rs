@@ -1,5 +1,4 @@
-//! Callers of the iterators over stored finders, as a user of the library would write them: finders that are functions
-//! and never err.
+//! Callers of iterators over stored finders, as a user would write them. The finders are functions and never err.
 
 use super::fixtures::{plain_groups, set_slots};
 use super::shown::expect_eq;
@@ -19,7 +18,7 @@ fn first_byte(rt: &impl Abort, alloc: Global) -> Captures {
     captures
 }
 
-// At each offset of two bytes, and behind them, there is one.
+// Expects an empty match at each offset of two bytes, and after them.
 fn expect_empty(rt: &impl Abort, matches: &[Match]) {
     expect_eq(rt, matches.len(), 3);
     for (at, found) in matches.iter().enumerate() {

@@ -1,4 +1,4 @@
-//! Numbers, groups and NFAs that several tests take.
+//! Numbers, groups and NFAs that several tests use.
 
 use nfa_samples::sample;
 use regex_search_core::{GroupInfo, NonMaxUsize, PatternID, StateID};
@@ -14,7 +14,7 @@ pub fn pattern(rt: &impl Abort, number: usize) -> PatternID {
     PatternID::new(number).expect(rt, "a pattern's number")
 }
 
-/// Groups of this many patterns, with no explicit groups.
+/// Groups of this many patterns, without explicit groups.
 pub fn plain_groups(rt: &impl Abort, alloc: Global, patterns: usize) -> GroupInfo {
     let mut names = Vec::new(alloc);
     for _ in 0..patterns {

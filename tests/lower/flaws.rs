@@ -1,11 +1,11 @@
-//! Tests of what refuses an NFA.
+//! Tests of the flaws for which an NFA is refused.
 use super::fixtures::{id, pattern, plain_groups};
 use super::shown::{expect_eq, expect_told};
 use std::alloc::Global;
 use std::process::Abort;
 use thompson_nfa::{BuildError, Flaw, NFA, Referrer, State, Transition, first_flaw};
 
-/// A state by the one number that matters.
+/// A state, by the only number that matters.
 enum One {
     Fail,
     /// A `ByteRange` to this state.
@@ -17,10 +17,10 @@ enum One {
 }
 
 /// The parts of an NFA of one pattern: its states; the anchored start, the unanchored one and that of the pattern; and
-/// of how many patterns the groups are.
+/// the number of patterns that groups are given for.
 type Parts = (&'static [One], [usize; 3], usize);
 
-// Parts of an NFA, the error that refuses them, their first flaw, and its text.
+// Parts of an NFA, the error, the first flaw, and its text.
 const REFUSALS: &[(Parts, BuildError, Flaw, &str)] = &[
     (
         (&[], [0, 0, 0], 0),
@@ -52,7 +52,7 @@ const REFUSALS: &[(Parts, BuildError, Flaw, &str)] = &[
         Flaw::State(Referrer::State(0)),
         "state 0 refers to a state that does not exist",
     ),
-    // The slot of the first state is out of range too, but the numbers of all states come first.
+    // The slot of the first state is out of range too, but the numbers of all states are checked first.
     (
         (&[One::Capture(4), One::Byte(2)], [0, 0, 0], 1),
         BuildError::State,

@@ -43,7 +43,7 @@ const HOLDS: &[(Look, &[u8], &[bool])] = &[
     (Look::WordAsciiNegate, b"\xC3\xA9", &[true, true, true]),
     (Look::WordUnicode, b"a ", &[true, true, false]),
     (Look::WordUnicode, b"9_", &[true, false, true]),
-    // "é", alone and before digits
+    // "é", by itself and before digits
     (Look::WordUnicode, b"\xC3\xA9", &[true, false, true]),
     (
         Look::WordUnicode,
@@ -56,7 +56,7 @@ const HOLDS: &[(Look, &[u8], &[bool])] = &[
     (Look::WordUnicode, b"\x80\x80", &[false, false, false]),
     // the letter a in two bytes, which is not UTF-8
     (Look::WordUnicode, b"\xC1\xA1", &[false, false, false]),
-    // a surrogate's three bytes, and four bytes past the last character, are no characters
+    // a surrogate's three bytes, and four bytes above the last codepoint, which are not UTF-8
     (
         Look::WordUnicode,
         b"\xED\xA0\x80",
@@ -71,7 +71,7 @@ const HOLDS: &[(Look, &[u8], &[bool])] = &[
     (Look::WordUnicode, b"", &[false]),
     (Look::WordUnicodeNegate, b"aa ", &[false, true, false, true]),
     (Look::WordUnicodeNegate, b"", &[true]),
-    // "é", U+1D6C3, which is of words, and U+10180, which is not
+    // "é", U+1D6C3, which is a word character, and U+10180, which is not
     (Look::WordUnicodeNegate, b"\xC3\xA9", &[false, false, false]),
     (
         Look::WordUnicodeNegate,
@@ -83,7 +83,7 @@ const HOLDS: &[(Look, &[u8], &[bool])] = &[
         b"\xF0\x90\x86\x80",
         &[true, false, false, false, true],
     ),
-    // "é" cut short, and a byte that is never of UTF-8
+    // "é" cut short, and a byte that is never in UTF-8
     (Look::WordUnicodeNegate, b"a\xC3", &[false, false, false]),
     (Look::WordUnicodeNegate, b"\xFF", &[false, false]),
     (
@@ -159,9 +159,9 @@ fn expect_holds(rt: &impl Abort, look: Look, haystack: &[u8], at: usize, want: b
     expect_eq_of(rt, holds, want, &(look, haystack, at));
 }
 
-// Whether a text begins and ends with a character of words.
+// A text, and whether it begins and ends with a word character.
 const WORDS: &[(&str, bool)] = &[
-    // a letter of four bytes, a mark, a decimal number, connector punctuation, the joiners
+    // a letter of four bytes, marks, a decimal number, connector punctuation, the joiners
     ("𐐷", true),
     ("\u{0301}", true),
     ("\u{20DD}", true),
@@ -169,7 +169,7 @@ const WORDS: &[(&str, bool)] = &[
     ("‿", true),
     ("\u{200C}", true),
     ("\u{200D}", true),
-    // their neighbors, a number that is no decimal one, a symbol, a dash
+    // neighbors of the joiners, a number that is not decimal, symbols, a dash
     ("\u{200B}", false),
     ("\u{200E}", false),
     ("½", false),

@@ -7,8 +7,8 @@ use std::process::Abort;
 use test_support::machine::Machine;
 use thompson_nfa::{BuildError, Look, NFA, State};
 
-/// An NFA with a state of each kind, of two patterns that start at 1 and 2 and have no explicit
-/// groups; searches start at 0 and 8.
+/// An NFA with a state of each kind. Its two patterns start at 1 and 2 and have no explicit groups. Searches start at 0
+/// and 8.
 fn one_of_each(rt: &impl Abort, alloc: Global) -> NFA {
     let mut machine = Machine::new(alloc);
     add_each_kind(&mut machine).expect(rt, "memory");
@@ -96,7 +96,7 @@ fn expect_never(rt: &impl Abort, alloc: Global, never: &NFA) {
     expect_shown(rt, alloc, never, NEVER);
 }
 
-// An NFA that is anchored and not in UTF-8 mode, with so many patterns of two slots, the first from state 0.
+// An anchored NFA that is not in UTF-8 mode, with `patterns` patterns of two slots. The first starts at state 0.
 fn expect_simple(rt: &impl Abort, nfa: &NFA, has_empty: bool, patterns: usize) {
     expect(
         rt,

@@ -7,7 +7,7 @@ use std::alloc::{AllocError, Global};
 use std::process::Abort;
 use thompson_nfa::{NFA, State, Transition};
 
-// A name, how many states there are, and the names of the explicit groups of each pattern.
+// A name, the number of states, and the names of the explicit groups of each pattern.
 const STATE_COUNTS: &[(&str, usize, &str)] = &[
     ("abc", 8, "[[]]"),
     ("ab_b", 12, "[[], []]"),
@@ -39,8 +39,8 @@ const STATE_COUNTS: &[(&str, usize, &str)] = &[
     ("six", 21, "[[], []]"),
 ];
 
-// Of each name the two starts, the pattern starts, the number of slots and the flags; then the
-// states, as `write_state` writes them.
+// A name; the two starts, the pattern starts, the number of slots and the flags; and the states, as `write_state`
+// writes them.
 const SHAPES: &[(&str, &str, &str)] = &[
     (
         "abc",
@@ -173,7 +173,7 @@ const SHAPES: &[(&str, &str, &str)] = &[
     ),
 ];
 
-// The NFA has so many states, and its groups these names.
+// The NFA has `count` states, and its groups have these names.
 fn expect_counts(rt: &impl Abort, alloc: Global, nfa: &NFA, count: usize, groups: &str) {
     expect_eq_of(rt, nfa.states().len(), count, &groups);
     let shown = format!(in alloc; "{:?}", nfa.group_info()).expect(rt, "memory");
@@ -187,7 +187,7 @@ fn expect_names(rt: &impl Abort, shown: &str, groups: &str) {
     }
 }
 
-// What stands before the number of slots.
+// The part before the number of slots.
 fn first_part(names: &str) -> &str {
     match names.split_once(", slot_len: ") {
         Some((names, _)) => names,
@@ -282,8 +282,8 @@ fn shown_states(alloc: Global, states: &[State]) -> Result<String, AllocError> {
     Ok(text)
 }
 
-// A byte or a range in hexadecimal, `c` and a slot, or an assertion, each with `>` and the state
-// after it; `e` for either of two states and `u` for a union; `m` and a pattern.
+// A byte or a range in hexadecimal, `c` and a slot, or an assertion, each followed by `>` and the next state; `e` for
+// either of two states and `u` for a union; `m` and a pattern.
 fn write_state(text: &mut String, state: &State) -> Result<(), AllocError> {
     match state {
         State::ByteRange { trans } => write_transition(text, "", trans),

@@ -1,4 +1,4 @@
-//! Half matches by steps over lists of states, against those of the samples.
+//! Half matches by steps over lists of states, compared with those of the samples.
 use super::fixtures::named;
 use super::shown::expect_text;
 use nfa_determinize::scan::find_half;
@@ -7,8 +7,8 @@ use regex_search_core::{Anchored, HalfMatch, Input, MatchKind};
 use std::alloc::{AllocError, Global};
 use std::process::Abort;
 
-// A haystack, the start of the span, which reaches to the end of the haystack, and the pattern and the end of the first
-// match, which does not split a codepoint.
+// A sample, a haystack, the start of the span, which reaches to the end of the haystack, and the pattern and the end of
+// the first match. In UTF-8 mode it splits no codepoint.
 const SPLIT_HALVES: &[(&str, &str, usize, &str)] = &[
     ("empty", "☃", 1, "0 3"),
     ("empty_anchored", "☃", 1, "0 3"),

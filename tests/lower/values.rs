@@ -1,4 +1,4 @@
-//! Tests of the values that every engine speaks of.
+//! Tests of the values that all engines use.
 mod captured;
 mod texts;
 
@@ -16,7 +16,7 @@ fn span(start: usize, end: usize) -> Span {
     Span { start, end }
 }
 
-/// Two patterns: two explicit groups, the second named; and two of one name.
+/// Two patterns of two explicit groups. The first names only its second group, the second gives both the same name.
 fn two_patterns(rt: &impl Abort, alloc: Global) -> GroupInfo {
     let first = vec![in alloc; None, Some(text(rt, alloc, "numbers"))].expect(rt, "memory");
     let second = vec![in alloc; Some(text(rt, alloc, "a")), Some(text(rt, alloc, "a"))].expect(
@@ -30,7 +30,7 @@ fn text(rt: &impl Abort, alloc: Global, text: &str) -> String {
     String::from_str(alloc, text).expect(rt, "memory")
 }
 
-/// Writes through the lent slots.
+/// Sets the slot to 7.
 fn set_seven(captures: &mut Captures, slot: usize) {
     let slots = captures.slots_mut();
     slots[slot] = NonMaxUsize::new(7);
@@ -41,7 +41,7 @@ fn patterns(alloc: Global, set: &PatternSet) -> Result<Vec<PatternID>, AllocErro
     set.iter().collect(alloc)
 }
 
-// A number, and whether it is one of a pattern and of a state.
+// A number, and whether it is that of a pattern and of a state.
 const NUMBERS: &[(usize, bool)] = &[
     (0, true),
     (2147483646, true),
@@ -140,7 +140,7 @@ fn spans(rt: HostRuntime) {
     }
 }
 
-// A haystack, and which offsets, those behind it among them, are boundaries of characters.
+// A haystack, and whether each offset is a boundary, also past its end.
 const BOUNDARIES: &[(&[u8], &[bool])] = &[
     (
         b"a\xE2\x98\x83b",
@@ -165,10 +165,10 @@ fn expect_boundaries(rt: &impl Abort, input: &Input<'_>, wants: &[bool]) {
     }
 }
 
-// The slots of four patterns; usize::MAX stands for one that is not set.
+// The slots of four patterns. `usize::MAX` is a slot that is not set.
 const SLOTS: [usize; 8] = [1, 3, 4, usize::MAX, 6, 5, 2, 2];
 
-// Of each pattern the ends of its match.
+// A pattern, and the ends of its match.
 const SLOT_ENDS: &[(usize, Option<(usize, usize)>)] = &[
     (0, Some((1, 3))),
     (1, None),
@@ -221,7 +221,7 @@ fn matches_have_their_parts(rt: HostRuntime) {
     expect_eq(&rt, (half.pattern(), half.offset()), (pattern(&rt, 5), 4));
 }
 
-// A pattern, and what its insertion tells.
+// A pattern, and the result of its insertion.
 const INSERTED: &[(usize, Option<bool>)] = &[
     (2, Some(true)),
     (0, Some(true)),
@@ -293,7 +293,6 @@ fn expect_insertions(rt: &impl Abort, set: &mut PatternSet) {
     expect(rt, !set.contains(pattern(rt, 3)), "no member");
 }
 
-// The set has these patterns.
 fn expect_members(rt: &impl Abort, alloc: Global, set: &PatternSet, want: &[usize]) {
     expect_patterns(rt, &patterns(alloc, set).expect(rt, "memory"), want);
 }
@@ -325,7 +324,7 @@ const GROUP_SLOTS: &[(usize, usize, Option<usize>)] = &[
     (2, 0, None),
 ];
 
-// A pattern, a name, and the group that has it.
+// A pattern, a name, and the group of this name.
 const NAMED: &[(usize, &str, Option<usize>)] = &[
     (0, "numbers", Some(2)),
     (1, "a", Some(1)),
@@ -404,7 +403,7 @@ fn copy(rt: &impl Abort, captures: &Captures) -> Captures {
 
 const WRITTEN: &[(usize, usize)] = &[(0, 1), (1, 8), (6, 2), (7, 4)];
 
-// A match of the first pattern from 1 to 8, with its second group from 2 to 4.
+// Writes a match of the first pattern from 1 to 8, with its second group from 2 to 4.
 fn write_match(rt: &impl Abort, captures: &mut Captures) {
     captures.set_pattern(Some(pattern(rt, 0)));
     for &(slot, offset) in WRITTEN {
@@ -414,7 +413,7 @@ fn write_match(rt: &impl Abort, captures: &mut Captures) {
     }
 }
 
-// That match is told, and no longer once its group starts behind its end.
+// The captures have that match, and no second group once its start is after its end.
 fn expect_match(rt: &impl Abort, captures: &mut Captures) {
     expect_groups(rt, captures);
     assert!(rt; captures.slots().len() == 12);

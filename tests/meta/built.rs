@@ -1,4 +1,4 @@
-//! Regexes of texts: what their settings change, and why they are not made.
+//! Building regexes: what the settings change, and which patterns are refused.
 
 use super::regex;
 use nfa_engines::Input;
@@ -6,7 +6,7 @@ use nfa_meta::{Builder, Config, Regex, Syntax};
 use std::alloc::Global;
 use std::process::Abort;
 
-/// The settings, a pattern, a haystack, and where it matches.
+/// The settings, a pattern, a haystack, and the bounds of the match.
 type Row = (Config, &'static str, &'static str, Option<(usize, usize)>);
 
 fn built(rt: &impl Abort, alloc: Global, builder: Builder, pattern: &str) -> Regex {

@@ -1,4 +1,4 @@
-//! Captures of the matches of patterns, with windows and without. The spans are those that regex-automata gives.
+//! Captures of matches, with windows of the lazy DFA and without. The spans are those that regex-automata gives.
 
 use super::{expect_text, regex};
 use nfa_engines::{Captures, Input};

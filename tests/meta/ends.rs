@@ -1,4 +1,4 @@
-//! Half matches of patterns, one after the other.
+//! Lists of all half matches.
 
 use super::regex;
 use nfa_engines::Input;

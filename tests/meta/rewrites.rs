@@ -1,4 +1,4 @@
-//! Texts that have what a function appends in place of the matches of a pattern.
+//! Texts in which the output of a function replaces the matches of a pattern.
 
 use super::{expect_output, regex};
 use nfa_meta::Regex;
@@ -7,7 +7,7 @@ use std::alloc::{AllocError, Global};
 use std::process::Abort;
 use std::rt::HostRuntime;
 
-/// A pattern, a haystack, a limit or 0 for none, and the output, if a function puts the second group before the first.
+/// A pattern, a haystack, a limit or 0 for none, and the output if a function puts the second group before the first.
 type Row = (&'static str, &'static str, usize, &'static str);
 
 const SWAPPED: &[Row] = &[

@@ -150,7 +150,6 @@ fn expect_nfa(rt: &impl Abort, alloc: Global, nfa: &NFA) {
     expect_nfa_by(rt, alloc, nfa, &mut regex);
 }
 
-// A function that owns both engines takes a minute of a check.
 fn expect_nfa_by(rt: &impl Abort, alloc: Global, nfa: &NFA, regex: &mut Regex) {
     let mut choice = choice_of(rt, alloc, nfa);
     expect_haystacks(rt, alloc, regex, &mut choice);

@@ -1,4 +1,4 @@
-//! Texts that have a template, filled by captures, in place of the matches of a pattern.
+//! Texts in which a template, filled by captures, replaces the matches of a pattern.
 
 use super::{expect_output, regex};
 use nfa_engines::Input;
@@ -58,7 +58,7 @@ const FILLED: &[Row] = &[
     ("(b)", "abc", 0, "x$", "ax$c"),
     ("(b)", "abc", 0, "$ $.$", "a$ $.$c"),
     ("(b)", "abc", 0, "", "ac"),
-    // Groups that took no part.
+    // Groups that did not take part.
     ("(a)|(b)", "ab", 0, "<$1$2>", "<a><b>"),
     ("a(x)?", "aax", 0, "[$1]", "[][x]"),
     // Limits, and no match.
@@ -77,7 +77,7 @@ const FILLED: &[Row] = &[
     ("(?<δ>b)", "abc", 0, "$δ", "a$δc"),
 ];
 
-/// A template for the pattern `(?<n>b)(c)?`, and why it is not one.
+/// A text that is not a template for the pattern `(?<n>b)(c)?`, and the reason.
 const REFUSED: &[(&str, &str)] = &[
     ("$3", "bytes 1 to 2 of the template name no group"),
     ("$1a", "bytes 1 to 3 of the template name no group"),

@@ -1,4 +1,4 @@
-//! Texts that are split at the matches of a pattern, or have other bytes in place of them.
+//! Texts that are split at the matches of a pattern, or in which other bytes replace the matches.
 
 use super::{expect_output, regex};
 use nfa_engines::Span;

@@ -1,5 +1,5 @@
-//! Where the windows of the lazy DFA begin, and that the engines search no more. No contract says how near they are to
-//! the match, nor that the DFA answers where it can.
+//! Where the windows of the lazy DFA begin, and that the engines search only these. No contract says how close they are
+//! to the match, or that the lazy DFA answers if it can.
 
 use super::regex;
 use nfa_compiler::Compiler;
@@ -13,7 +13,7 @@ use std::process::Abort;
 /// A pattern, a haystack, and the window of the first match.
 type Row = (&'static str, &'static str, (usize, usize));
 
-// The windows are the matches, but where a path of an earlier start is alive up to the match.
+// A window is the match, unless a path from an earlier start is alive up to the match.
 const WINDOWS: &[Row] = &[
     ("foo[0-9]+", "some text, foo12 and foo345", (11, 16)),
     ("[0-9]{3}", "x12 1 1234", (6, 9)),
@@ -48,7 +48,6 @@ fn the_lazy_dfa_answers_if_it_can(rt: HostRuntime) {
     expect_answers(&rt, &mut regex);
 }
 
-// A test makes a regex, and a function that borrows it asserts: the check is faster so.
 fn expect_answers(rt: &impl Abort, regex: &mut Regex) {
     assert!(rt; regex.is_match(Input::new(b"a foo12")));
     let half = regex.find_half(Input::new(b"a foo12"));
@@ -106,7 +105,7 @@ fn expect_group(
     assert_eq!(rt; found, span);
 }
 
-// A pattern that matches the empty string matches at the start of each search, up to a byte that splits a codepoint.
+// A pattern that matches the empty string matches at the start of each search, or at the next boundary.
 #[test]
 fn the_lazy_dfa_finds_empty_matches(rt: HostRuntime) {
     let alloc = rt.alloc();
@@ -132,7 +131,7 @@ fn expect_ranges(
     assert_eq!(rt; ranges.as_slice(), wanted);
 }
 
-// Each match begins with `foo`, and what comes before that is passed over.
+// Each match begins with `foo`, so the search skips to the next `foo`.
 #[test]
 fn matches_begin_with_a_prefix(rt: HostRuntime) {
     let mut regex = regex(&rt, rt.alloc(), "(foo)(bar|[0-9]+)");
@@ -145,7 +144,7 @@ fn matches_begin_with_a_prefix(rt: HostRuntime) {
 
 const FILL: usize = 1_000_000;
 
-// The haystack is too long for the backtracker, and the window is not. The lazy DFA finds the start without the choice.
+// The haystack is too long for the backtracker, and the window is not. The lazy DFA finds the bounds by itself.
 #[test]
 fn the_choice_searches_the_window(rt: HostRuntime) {
     let alloc = rt.alloc();

@@ -14,7 +14,7 @@ use std::alloc::Global;
 use std::process::Abort;
 use test_support::text::{backtracked_match, backtracked_slots};
 
-// What the engine finds with the cache.
+// Expects this match with the cache.
 fn expect_match(
     rt: &impl Abort,
     alloc: Global,
@@ -31,7 +31,7 @@ fn expect_match(
     );
 }
 
-// What it answers and writes into two slots.
+// Expects this answer with the cache, in two slots.
 fn expect_slots(
     rt: &impl Abort,
     alloc: Global,

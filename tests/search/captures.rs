@@ -1,5 +1,4 @@
-//! Tests of searches that fill captures, and of the iterators over captures: lists, refusals, and callers that use what
-//! is promised of them.
+//! Tests of searches that fill captures, and of the iterators over captures: lists, refusals, and callers.
 
 mod callers;
 mod groups;
@@ -10,7 +9,7 @@ mod texts;
 
 use std::process::Abort;
 
-// The slots of `date` on `2010-03-14`.
+// The slots of `date` in `2010-03-14`.
 const DATE_SLOTS: &[Option<usize>] = &[
     Some(0),
     Some(10),
@@ -22,7 +21,6 @@ const DATE_SLOTS: &[Option<usize>] = &[
     Some(10),
 ];
 
-// There are so many.
 fn expect_len(rt: &impl Abort, len: usize, want: usize, name: &str) {
     assert!(rt; len == want, "{name}: {len}, not {want}");
 }

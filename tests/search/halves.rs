@@ -1,4 +1,4 @@
-//! Half matches: a searcher calls an engine, step by step; and an iterator stores the finder.
+//! Half matches: by a searcher that calls an engine at each step, and by an iterator that stores the finder.
 
 use super::{engine_named, threads, vm_named};
 use nfa_engines::backtrack::{self, BoundedBacktracker};
@@ -9,7 +9,7 @@ use regex_search_core::{HalfMatch, Input};
 use std::alloc::Global;
 use std::process::Abort;
 
-// The end of the match that the engine finds. The cache fits: it is asked so that no `requires` is needed.
+// The half match that the engine finds, or none if the cache does not fit.
 fn half_found(
     vm: &PikeVM,
     cache: &mut Cache,
@@ -21,7 +21,7 @@ fn half_found(
     Ok(vm.find_half(cache, *input))
 }
 
-// The same of a backtracker.
+// The half match that a backtracker finds.
 fn half_tried(
     engine: &BoundedBacktracker,
     cache: &mut backtrack::Cache,
@@ -30,7 +30,7 @@ fn half_tried(
     engine.try_find_half(cache, *input)
 }
 
-// What the next step of the searcher gives.
+// The result of the searcher's next step.
 fn half_step(
     engine: &BoundedBacktracker,
     cache: &mut backtrack::Cache,
@@ -47,7 +47,7 @@ fn expect_offset(rt: &impl Abort, half: Option<HalfMatch>, want: Option<usize>) 
     assert_eq!(rt; offset, want);
 }
 
-// A sample, a haystack, and the ends of all matches there, and then nothing.
+// A sample, a haystack, and the ends of all matches, followed by `None`.
 type Ends = (&'static str, &'static str, &'static [Option<usize>]);
 
 const ENDS: &[Ends] = &[

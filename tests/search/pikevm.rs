@@ -11,7 +11,6 @@ mod texts;
 use nfa_engines::pikevm::{Cache, PikeVM};
 use std::process::Abort;
 
-// The cache fits the engine.
 fn expect_fits(rt: &impl Abort, vm: &PikeVM, cache: &Cache) {
     let fits = cache.fits(vm);
     assert!(rt; fits);

@@ -12,8 +12,8 @@ use sample_engines::{MakeError, nfa_named};
 use std::alloc::{AllocError, Global};
 use thompson_nfa::NFA;
 
-/// Both engines over one NFA, each with a cache of its own that serves all searches: first the backtracker with its
-/// default capacity, then the PikeVM that searches leftmost first.
+/// Both engines over one NFA, each with one cache for all searches: first the backtracker with its default capacity,
+/// then the PikeVM that searches leftmost first.
 #[derive(Drop)]
 pub struct Engines {
     backtracker: BoundedBacktracker,
@@ -23,7 +23,7 @@ pub struct Engines {
 }
 
 impl Engines {
-    /// Engines of the NFA, with new caches.
+    /// Makes engines of the NFA, with new caches.
     pub fn new(alloc: Global, nfa: NFA) -> Result<Engines, MakeError> {
         let copy = nfa.clone()?;
         let backtracker = BoundedBacktracker::new_from_nfa(copy)?;
@@ -36,17 +36,17 @@ impl Engines {
         })
     }
 
-    /// Engines of the sample of that name.
+    /// Makes engines of the sample of this name.
     pub fn of_sample(alloc: Global, name: &str) -> Result<Engines, MakeError> {
         Engines::new(alloc, nfa_named(alloc, name)?)
     }
 
-    /// How many slots the NFA has.
+    /// The number of slots of the NFA.
     pub fn slot_len(&self) -> usize {
         self.vm.get_nfa().group_info().slot_len()
     }
 
-    /// What both answer and leave in slots that held 7 before.
+    /// The pattern that each finds and the slots that it leaves, as text. Each slot held 7 before.
     pub fn slots_texts(
         &mut self,
         alloc: Global,
@@ -59,7 +59,7 @@ impl Engines {
         ])
     }
 
-    /// The match that both find, as text.
+    /// The match that each finds, as text.
     pub fn match_texts(
         &mut self,
         alloc: Global,
@@ -71,7 +71,7 @@ impl Engines {
         ])
     }
 
-    /// The pattern and the end of the match that both find, as text.
+    /// The pattern and the end of the match that each finds, as text.
     pub fn half_texts(
         &mut self,
         alloc: Global,
@@ -83,7 +83,7 @@ impl Engines {
         ])
     }
 
-    /// All matches of both, each with a comma and a blank behind it.
+    /// All matches of each, as text, each followed by a comma and a space.
     pub fn list_texts(
         &mut self,
         alloc: Global,
@@ -95,7 +95,7 @@ impl Engines {
         ])
     }
 
-    /// Whether both find a match.
+    /// Whether each finds a match.
     pub fn are_matches(&mut self, input: Input<'_>) -> Result<[bool; 2], SearchError> {
         Ok([
             self.backtracker.try_is_match(&mut self.marks, input)?,

@@ -1,12 +1,12 @@
-//! NFAs that no sample is, written state by state.
+//! NFAs other than the samples, written state by state.
 
 use regex_search_core::{GroupInfo, PatternID, StateID};
 use sample_engines::MakeError;
 use std::alloc::Global;
 use thompson_nfa::{Look, NFA, State, Transition};
 
-/// An NFA in the making: its states in the order of their numbers, and its patterns. It is not in UTF-8 mode and said
-/// to have no empty match, until that is changed.
+/// Builds an NFA from its states, in the order of their numbers, and its patterns. It is not in UTF-8 mode and has no
+/// empty match, unless `set_flags` says otherwise.
 #[derive(Drop)]
 pub struct Machine {
     alloc: Global,
@@ -18,7 +18,7 @@ pub struct Machine {
 }
 
 impl Machine {
-    /// No state and no pattern.
+    /// Begins without states and patterns.
     pub fn new(alloc: Global) -> Machine {
         Machine {
             alloc,
@@ -30,30 +30,30 @@ impl Machine {
         }
     }
 
-    /// How many states there are.
+    /// The number of states.
     pub fn len(&self) -> usize {
         self.states.len()
     }
 
-    /// Whether there is no state.
+    /// Whether there are no states.
     pub fn is_empty(&self) -> bool {
         self.states.is_empty()
     }
 
-    /// Whether the NFA may match the empty text, and whether text is UTF-8.
+    /// Sets whether the NFA may match the empty string, and whether it is in UTF-8 mode.
     pub fn set_flags(&mut self, has_empty: bool, utf8: bool) {
         self.has_empty = has_empty;
         self.utf8 = utf8;
     }
 
-    /// Adds a state on a byte from the first to the second.
+    /// Adds a state that reads a byte from `start` to `end`.
     pub fn bytes(&mut self, start: u8, end: u8, next: usize) -> Result<(), MakeError> {
         let trans = transition(start, end, next)?;
         self.states.push(State::ByteRange { trans })?;
         Ok(())
     }
 
-    /// Adds a state of several ranges of bytes, each with the state behind it.
+    /// Adds a state of several ranges of bytes, each with its next state.
     pub fn sparse(&mut self, ranges: &[(u8, u8, usize)]) -> Result<(), MakeError> {
         let mut transitions = Vec::new(self.alloc);
         for &(start, end, next) in ranges {
@@ -63,7 +63,7 @@ impl Machine {
         Ok(())
     }
 
-    /// Adds a state that has these targets at the bytes from `first` on, and none elsewhere.
+    /// Adds a state that has these targets for the bytes from `first` on, and none for other bytes.
     pub fn dense(&mut self, first: usize, targets: &[Option<usize>]) -> Result<(), MakeError> {
         let mut all = vec![in self.alloc; None; first]?;
         for target in targets {
@@ -76,14 +76,14 @@ impl Machine {
         Ok(())
     }
 
-    /// Adds a state that goes on where the assertion holds.
+    /// Adds a state that goes on if the assertion holds.
     pub fn assert(&mut self, look: Look, next: usize) -> Result<(), MakeError> {
         let next = state_id(next)?;
         self.states.push(State::Look { look, next })?;
         Ok(())
     }
 
-    /// Adds a state that goes on to any of these, the first preferred.
+    /// Adds a state that goes on to any of these, and prefers the first.
     pub fn union(&mut self, targets: &[usize]) -> Result<(), MakeError> {
         let mut alternates = Vec::new(self.alloc);
         for &target in targets {
@@ -93,7 +93,7 @@ impl Machine {
         Ok(())
     }
 
-    /// Adds a state that goes on to either of two, the first preferred.
+    /// Adds a state that goes on to either of two, and prefers the first.
     pub fn either(&mut self, first: usize, second: usize) -> Result<(), MakeError> {
         let (alt1, alt2) = (state_id(first)?, state_id(second)?);
         self.states.push(State::BinaryUnion { alt1, alt2 })?;
@@ -120,13 +120,13 @@ impl Machine {
         Ok(())
     }
 
-    /// The next pattern begins at that state. Where no pattern has groups, no pattern has slots.
+    /// Adds a pattern that starts at this state. If no pattern has groups, none has slots.
     pub fn pattern(&mut self, start: usize) -> Result<(), MakeError> {
         self.starts.push(state_id(start)?)?;
         Ok(())
     }
 
-    /// The next of all patterns has so many explicit groups, none with a name.
+    /// Gives the next pattern `explicit` explicit groups without names.
     pub fn groups(&mut self, explicit: usize) -> Result<(), MakeError> {
         let mut names = Vec::new(self.alloc);
         for _ in 0..explicit {
@@ -136,7 +136,7 @@ impl Machine {
         Ok(())
     }
 
-    /// The NFA with these two starts.
+    /// Makes the NFA with these two starts.
     pub fn build(self, anchored: usize, unanchored: usize) -> Result<NFA, MakeError> {
         let groups = GroupInfo::new(self.groups).ok_or(MakeError::TooLarge)?;
         Ok(NFA::from_states(

@@ -1,4 +1,4 @@
-//! NFAs that are made by chance, from a seed. Numbers of `engine_tests` come from what this generator makes.
+//! Random NFAs from a seed. The sums in `tests/engines/random.rs` depend on what this generator makes.
 
 use crate::machine::Machine;
 use sample_engines::MakeError;
@@ -17,7 +17,7 @@ impl Chance {
         Chance { state: seed }
     }
 
-    // The next number below the bound, which is not 0.
+    // The next number below the bound, or 0 if that is 0.
     fn below(&mut self, bound: usize) -> usize {
         self.state = self
             .state
@@ -52,7 +52,7 @@ impl Chance {
     }
 }
 
-// How many states, patterns and slots an NFA has.
+// The numbers of states, patterns and slots of an NFA.
 #[derive(Clone, Copy, Debug)]
 struct Size {
     states: usize,
@@ -87,7 +87,7 @@ fn add(machine: &mut Machine, chance: &mut Chance) -> Result<usize, MakeError> {
     Ok(states)
 }
 
-// One in four has no groups. The answer is the number of slots.
+// One NFA in four has no groups. Returns the number of slots.
 fn add_patterns(
     machine: &mut Machine,
     chance: &mut Chance,

@@ -3,7 +3,7 @@
 use regex_search_core::{Anchored, Input, PatternID};
 use std::alloc::{AllocError, Global};
 
-/// The searches of each span of the haystack: unanchored, also with `earliest`, anchored, and anchored for the first
+/// The searches of each span of the haystack: unanchored, also with `earliest`, anchored, and anchored to the first
 /// pattern.
 pub fn searches_of<'h>(alloc: Global, haystack: &'h [u8]) -> Result<Vec<Input<'h>>, AllocError> {
     let mut searches = Vec::new(alloc);

@@ -18,7 +18,7 @@ pub fn match_text(alloc: Global, found: Option<Match>) -> Result<String, AllocEr
     }
 }
 
-/// The pattern or `none`, and then each slot, which is `-` where it is None.
+/// The pattern or `none`, and then each slot, or `-` if it is not set.
 pub fn slots_text(
     alloc: Global,
     pattern: Option<PatternID>,
@@ -42,8 +42,7 @@ fn write_slots(text: &mut String, slots: &[Option<NonMaxUsize>]) -> Result<(), A
     Ok(())
 }
 
-/// What the backtracker answers and leaves in slots that held 7 before: the error in place of the pattern, where there
-/// is one.
+/// The pattern that the backtracker finds or its error, and the slots that it leaves. Each slot held 7 before.
 pub fn backtracked_slots(
     alloc: Global,
     engine: &BoundedBacktracker,
@@ -62,7 +61,7 @@ pub fn backtracked_slots(
     }
 }
 
-/// What the PikeVM answers and leaves in slots that held 7 before.
+/// The pattern that the PikeVM finds, and the slots that it leaves. Each slot held 7 before.
 pub fn piked_slots(
     alloc: Global,
     vm: &PikeVM,
@@ -111,7 +110,7 @@ pub fn backtracked_half(
     }
 }
 
-/// The same of the PikeVM.
+/// The same by the PikeVM.
 pub fn piked_half(
     alloc: Global,
     vm: &PikeVM,
@@ -133,7 +132,7 @@ pub fn half_text(alloc: Global, half: Option<HalfMatch>) -> Result<String, Alloc
     }
 }
 
-/// All items of the backtracker, each with a comma and a blank behind it: the pattern and the span, or the error.
+/// All items of the backtracker, each followed by a comma and a space: the pattern and the span, or the error.
 pub fn backtracked_list(
     alloc: Global,
     engine: &BoundedBacktracker,
@@ -147,7 +146,7 @@ pub fn backtracked_list(
     Ok(text)
 }
 
-/// All matches of the PikeVM, each with a comma and a blank behind it.
+/// All matches of the PikeVM, each followed by a comma and a space.
 pub fn piked_list(
     alloc: Global,
     vm: &PikeVM,
@@ -161,7 +160,7 @@ pub fn piked_list(
     Ok(text)
 }
 
-/// Writes the pattern and the span, or the error, and a comma and a blank behind it.
+/// Writes the pattern and the span, or the error, and then a comma and a space.
 pub fn write_item(text: &mut String, item: Result<Match, SearchError>) -> Result<(), AllocError> {
     match item {
         Ok(found) => {

@@ -1,4 +1,4 @@
-//! Which engine `Choice` asks over each sample: each span of some haystacks, four ways to search it, and three
+//! Which engine `Choice` runs over each sample: each span of some haystacks, four ways to search it, and three
 //! capacities. Both engines have ample memory, so neither refuses a search. The other grid compares the answers.
 
 use super::super::sums::expect_on;
@@ -21,7 +21,7 @@ const HAYSTACKS: &[&[u8]] = &[
     b"\x80a\xE2\x98",
 ];
 
-// Bytes of marks, and how many marks these are: none, ten bytes, which make two blocks, and the default.
+// The bytes of marks, and the number of marks: none, ten bytes, which make two blocks, and the default.
 const CAPACITIES: &[(Option<usize>, usize)] = &[(Some(0), 0), (Some(10), 128), (None, 2097152)];
 
 // `Choice`, and the number of its marks.
@@ -32,8 +32,8 @@ struct Chooser {
 }
 
 impl Chooser {
-    // The engine whose answer the search has: the backtracker, but for a span that is too long for its marks, and for
-    // the end of the earliest match.
+    // The engine that has to answer: the backtracker, unless the span is too long for its marks or the search is
+    // `earliest`.
     fn engine_for(&self, input: &Input<'_>) -> Engine {
         let places = input.end().saturating_sub(input.start()).saturating_add(1);
         let pairs = self.choice.get_nfa().states().len().saturating_mul(places);
@@ -49,7 +49,7 @@ impl Chooser {
     }
 }
 
-// Which engine answers slots, a match, and whether there is one.
+// The right engine answers `search_slots`, `find` and `is_match`.
 fn expect_engine(rt: &impl Abort, chooser: &mut Chooser, input: &Input<'_>) {
     chooser.choice.search_slots(input, &mut []);
     expect_on(rt, input, chooser.ran(input));
@@ -92,7 +92,7 @@ fn expect_samples(rt: &impl Abort, alloc: Global, names: &[&str]) {
     }
 }
 
-// The samples in two parts: a test has a minute.
+// In two parts, since a test may run for at most a minute.
 #[test]
 fn the_engine_that_suits_runs_over_the_first_samples(rt: HostRuntime) {
     expect_samples(&rt, rt.alloc(), &NAMES[..16]);

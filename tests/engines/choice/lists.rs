@@ -1,5 +1,5 @@
 //! All matches, all captures and the set of patterns of a `Choice`: the matches of the samples, and captures that are
-//! the same whichever engine runs. The functions that own a choice let others borrow it.
+//! the same whichever engine runs.
 
 use super::super::expected::{Case, expect, expect_answer};
 use super::{captures_of, configured, with_engine};
@@ -11,7 +11,7 @@ use std::alloc::Global;
 use std::process::Abort;
 use test_support::text::{slots_text, write_item};
 
-// Bytes of marks: the default, none, or as many as only short spans have room in.
+// Bytes of marks: the default, none, and room for short spans only.
 const CAPACITIES: &[Option<usize>] = &[None, Some(0), Some(10)];
 
 // A sample and a haystack.
@@ -71,7 +71,7 @@ fn iterated_rows(rt: &impl Abort, alloc: Global, choice: &mut Choice, input: Inp
     text
 }
 
-// The same, with captures that the choice made before.
+// The same, with captures that are passed in.
 fn lent_rows(rt: &impl Abort, alloc: Global, choice: &mut Choice, input: Input<'_>) -> String {
     let captures = choice.create_captures(alloc).expect(rt, "memory");
     let mut text = String::new(alloc);

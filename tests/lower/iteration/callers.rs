@@ -1,4 +1,4 @@
-//! Callers of the iterators over stored finders, as a user would write them.
+//! Callers of iterators over stored finders, as a user would write them.
 
 use crate::tests::fixtures::{plain_groups, set_slots};
 use crate::tests::shown::{expect, expect_eq, expect_shown};
@@ -12,7 +12,7 @@ use std::alloc::{AllocError, Global};
 use std::process::Abort;
 use std::test::Fail;
 
-// Captures of an empty match of the first pattern at the start of the haystack, and an error anywhere else.
+// Finds an empty match of the first pattern at the start of the haystack, and errs anywhere else.
 fn captured_or_error(input: &Input<'_>, captures: &mut Captures) -> Result<(), SearchError> {
     if input.start() > 0 {
         return Err(SearchError::Finder(MatchError::GaveUp { offset: 7 }));
@@ -22,7 +22,7 @@ fn captured_or_error(input: &Input<'_>, captures: &mut Captures) -> Result<(), S
     Ok(())
 }
 
-// The captures have a match, which lies in the span.
+// Whether the captures have a match in the span.
 fn match_is_inside(captures: &Captures, input: &Input<'_>) -> bool {
     match captures.get_match() {
         Some(found) => found.start() >= input.start() && found.end() <= input.end(),
@@ -30,7 +30,7 @@ fn match_is_inside(captures: &Captures, input: &Input<'_>) -> bool {
     }
 }
 
-// The match that the slots tell, where it lies in the span, or none; and an error where the span starts at `fails`.
+// Finds the match of the slots if it is in the span, or none. Errs if the span starts at `fails`.
 fn captured_or_fails(
     input: &Input<'_>,
     captures: &mut Captures,
@@ -61,7 +61,7 @@ fn outcome(item: Option<Result<Captures, SearchError>>) -> &'static str {
     }
 }
 
-// What five calls give of the first byte alone, up to an error where a span starts at `fails`.
+// The outcomes of five calls. The only match is that of the captures, and the finder errs if a span starts at `fails`.
 fn outcomes_of_byte(rt: &impl Abort, alloc: Global, captures: Captures, fails: usize) -> String {
     let searcher = Searcher::new(Input::new(b"ab"));
     let mut items = searcher.into_captures_iter(
@@ -75,8 +75,7 @@ fn outcomes_of_byte(rt: &impl Abort, alloc: Global, captures: Captures, fails: u
     text
 }
 
-// Where a span starts that no search answers, and what five calls give: the error of the first call, of the second
-// one, and none.
+// The start at which the finder errs, and the outcomes of five calls: an error of the first, of the second, and none.
 const ERRORS: &[(usize, &str)] = &[
     (0, "error, none, none, none, none, "),
     (1, "match, error, none, none, none, "),
@@ -105,13 +104,13 @@ const TRIES_OF_SURE: &str = concat!(
     "slots: [None, None] }, done: false, .. } }"
 );
 
-// How an iterator over captures is shown.
+// The `Debug` text of an iterator over captures.
 fn expect_tries(rt: &impl Abort, alloc: Global, captures: Captures) {
     let items = Searcher::new(Input::new(b"a")).into_captures_iter(captures, captured_or_error);
     expect_shown(rt, alloc, &items, TRIES);
 }
 
-// How one is shown whose finder never errs, and that it gives no item.
+// The `Debug` text of one whose finder never errs. It gives no item.
 fn expect_sure(rt: &impl Abort, alloc: Global, captures: Captures) {
     let items = Searcher::new(Input::new(b"a")).into_captures_iter(captures, |input, captures| {
         captures.set_pattern(None);
@@ -126,7 +125,7 @@ fn no_captures(rt: &impl Abort, alloc: Global) -> Captures {
     Captures::matches(alloc, plain_groups(rt, alloc, 1)).expect(rt, "captures")
 }
 
-// Captures of one pattern without a match, whose slots are these two.
+// Captures of one pattern with these two slots, but without a match.
 fn captures_at(rt: &impl Abort, alloc: Global, start: usize, end: usize) -> Captures {
     let mut captures = no_captures(rt, alloc);
     set_slots(captures.slots_mut(), start, end);
@@ -156,7 +155,7 @@ fn is_empty_at(item: &Result<Match, SearchError>, at: usize) -> bool {
     }
 }
 
-// An empty match at each offset of three bytes, and after them.
+// Expects an empty match at each offset of three bytes, and after them.
 fn expect_four(rt: &impl Abort, items: &[Result<Match, SearchError>]) {
     expect_eq(rt, items.len(), 4);
     for (at, item) in items.iter().enumerate() {
@@ -164,7 +163,7 @@ fn expect_four(rt: &impl Abort, items: &[Result<Match, SearchError>]) {
     }
 }
 
-// Both slots, of which there are two, are 0.
+// Whether there are two slots, and both are 0.
 fn are_zeros(captures: &Captures) -> bool {
     match captures.slots() {
         [Some(first), Some(second)] => first.get() == 0 && second.get() == 0,

@@ -1,4 +1,4 @@
-//! Tests of the skipping of matches that split a character.
+//! Tests of skipping matches that split a codepoint.
 
 use crate::tests::shown::{expect_eq, expect_eq_of};
 use nfa_search_base::empty::{skip_splits_fwd, skip_splits_rev};
@@ -10,8 +10,7 @@ const SNOWMAN: &[u8] = b"\xE2\x98\x83";
 
 const ERROR: SearchError = SearchError::Finder(MatchError::GaveUp { offset: 7 });
 
-// The offset of the input's span that is nearest to `place`, with 40 more as its value; and an error where that is
-// asked for.
+// The offset of the input's span that is nearest to `place`, with 40 more as its value; or an error if `fails`.
 fn nearest(
     input: &Input<'_>,
     place: usize,
@@ -27,7 +26,7 @@ fn nearest(
     Ok(Some((at.wrapping_add(40), at)))
 }
 
-// One more digit, behind those that were seen.
+// Appends a digit to those that were seen.
 fn noted(seen: usize, digit: usize) -> usize {
     seen.wrapping_mul(10).wrapping_add(digit)
 }
@@ -40,8 +39,8 @@ fn anchoring(is_anchored: bool) -> Anchored {
     }
 }
 
-// Whether it is anchored, the offset of the match that is skipped, the start that is not searched, what comes, which is
-// the error where it is none, and a 1 and after it the starts of the inputs that the calls were given.
+// Whether the search is anchored, the offset of the first match, the start at which the finder errs, the result (`None`
+// for the error), and a 1 followed by the starts of the finder's inputs.
 type Forward = (bool, usize, usize, Option<Option<usize>>, usize);
 
 const FORWARD: &[Forward] = &[
@@ -74,9 +73,9 @@ fn forward(rt: HostRuntime) {
     }
 }
 
-// The haystack, whether it is anchored, the end of the span, the offset of the match that is skipped, the place that
-// the finder looks for, the end that is not searched, what comes, which is the error where it is none, and a 1 and
-// after it the ends of the inputs that the calls were given.
+// The haystack, whether the search is anchored, the end of the span, the offset of the first match, the offset that the
+// finder looks for, the end at which it errs, the result (`None` for the error), and a 1 followed by the ends of the
+// finder's inputs.
 type Backward = (
     &'static [u8],
     bool,

@@ -35,17 +35,17 @@ fn nearest_half(input: &Input<'_>, place: usize) -> Option<HalfMatch> {
     }
 }
 
-// The same as a finder that never errs, of the start of the span.
+// A finder that never errs: the empty match at the start of the span.
 fn at_start(input: &Input<'_>) -> Result<Option<Match>, SearchError> {
     Ok(nearest(input, 0))
 }
 
-// The same as a half match.
+// The same, as a half match.
 fn half_at_start(input: &Input<'_>) -> Result<Option<HalfMatch>, SearchError> {
     Ok(nearest_half(input, 0))
 }
 
-// The empty match that is nearest to `place`, and an error where the span starts at `fails`.
+// The empty match that is nearest to `place`, or an error if the span starts at `fails`.
 fn found_or_error(
     input: &Input<'_>,
     place: usize,
@@ -57,7 +57,7 @@ fn found_or_error(
     Ok(nearest(input, place))
 }
 
-// The same as a half match, and an error where the span starts at `fails`.
+// The same, as a half match.
 fn half_or_error(
     input: &Input<'_>,
     place: usize,
@@ -69,7 +69,7 @@ fn half_or_error(
     Ok(nearest_half(input, place))
 }
 
-// Where the match lies.
+// The bounds of the match.
 fn ends(found: Result<Option<Match>, SearchError>) -> Result<Option<(usize, usize)>, SearchError> {
     match found {
         Ok(Some(found)) => Ok(Some((found.start(), found.end()))),
@@ -88,8 +88,8 @@ fn half_place_of(
     }
 }
 
-// The start that is not searched, the place that the finder looks for, what comes, which is the error where it is none,
-// and where the searcher then starts.
+// The start at which the finder errs, the offset that it looks for, the result (`None` for the error), and the start of
+// the searcher's input after the step.
 type Step = (usize, usize, Option<Option<(usize, usize)>>, usize);
 
 const STEPS: &[Step] = &[
@@ -114,7 +114,7 @@ fn searcher_after_errors(rt: HostRuntime) {
     }
 }
 
-// The same of half matches.
+// The same for half matches.
 type HalfStep = (usize, usize, Option<Option<usize>>, usize);
 
 const HALF_STEPS: &[HalfStep] = &[
@@ -138,13 +138,12 @@ fn half_searcher_after_errors(rt: HostRuntime) {
     }
 }
 
-// One more digit, behind those that were seen.
+// Appends a digit to those that were seen.
 fn noted(seen: usize, digit: usize) -> usize {
     seen.wrapping_mul(10).wrapping_add(digit)
 }
 
-// What two steps give by one finder that is lent to both, and what it keeps: a 1, and after it the starts of the inputs
-// that it was given.
+// The results of two steps that borrow one finder, and what it keeps: a 1 followed by the starts of its inputs.
 fn lent_steps(
     searcher: &mut Searcher<'_>,
 ) -> (Result<Option<Match>, SearchError>, Option<Match>, usize) {
@@ -193,7 +192,7 @@ fn lent_half_finders_stay(rt: HostRuntime) {
     expect_eq(&rt, seen, 1001);
 }
 
-// What a call of an iterator gives: an empty match, by its place, the finder's error, or nothing.
+// The result of a call of an iterator: an empty match at this offset, the finder's error, or nothing.
 #[derive(Clone, Copy)]
 enum Call {
     Match(usize),
@@ -201,7 +200,7 @@ enum Call {
     Nothing,
 }
 
-// The start that is not searched, and what the calls give.
+// The start at which the finder errs, and the results of the calls.
 const CALLS: &[(usize, &[Call])] = &[
     (0, &[Call::Error, Call::Nothing, Call::Nothing]),
     (
@@ -230,7 +229,7 @@ const CALLS: &[(usize, &[Call])] = &[
     ),
 ];
 
-// The call gave this: the ends of a match, or the offset of a half match twice.
+// Expects this result: the bounds of a match, or the offset of a half match twice.
 fn expect_call(rt: &impl Abort, item: Option<Result<(usize, usize), SearchError>>, call: Call) {
     let want = match call {
         Call::Match(at) => Some(Ok((at, at))),
@@ -301,8 +300,8 @@ fn infallible_steps(rt: HostRuntime) {
     expect_eq(&rt, half_place_of(Ok(none)), Ok(None));
 }
 
-// Where the span of an iterator over matches ends, where the one of its form that never errs starts, and how many
-// matches that gives.
+// The end of the span of an iterator over matches, the start of that of its infallible form, and the number of its
+// matches.
 fn infallible_matches() -> (usize, usize, usize) {
     let full = Searcher::new(Input::new(b"ab")).into_matches_iter(at_start);
     let end = full.input().end();
@@ -323,7 +322,7 @@ fn infallible_iterators(rt: HostRuntime) {
     expect_eq(&rt, infallible_half_matches(), (2, 0, 3));
 }
 
-// The numbers of matches and of half matches that are collected with these finders.
+// The number of matches that are collected with this finder.
 fn collected_len(alloc: Global) -> Result<usize, AllocError> {
     let searcher = Searcher::new(Input::new(b"ab"));
     let found = collected_by(alloc, searcher, at_start)?;
@@ -357,7 +356,7 @@ const AFTER_OFFERS: &str =
     "Searcher { input: Input { haystack: [97], span: Span { start: 1, end: 1 }, anchored: No, \
     earliest: false }, last_match_end: Some(0) }";
 
-// How an iterator over that searcher is shown.
+// The `Debug` text of an iterator over that searcher.
 fn matches_text(alloc: Global, searcher: Searcher<'_>) -> Result<String, AllocError> {
     let items = searcher.into_matches_iter(at_start);
     format!(in alloc; "{items:?}")

@@ -1,4 +1,4 @@
-//! Tests of the groups that captures show.
+//! Tests of the groups of captures.
 
 use super::{span, two_patterns, written};
 use crate::tests::fixtures::pattern;
@@ -8,7 +8,7 @@ use std::alloc::{AllocError, Global};
 use std::process::Abort;
 use std::test::Fail;
 
-/// Where the groups are, by `collect`.
+/// The spans of the groups, by `collect`.
 fn collected(alloc: Global, captures: &Captures) -> Result<Vec<Option<Span>>, AllocError> {
     captures.iter().collect(alloc)
 }
@@ -37,7 +37,7 @@ fn expect_all_groups(rt: &impl Abort, alloc: Global, captures: &mut Captures) {
     expect_groups(rt, alloc, captures, &[None, None, None]);
 }
 
-// The groups of the pattern that is set are these, counted and by `collect`.
+// The pattern that is set has these groups, by `group_len` and by `collect`.
 fn expect_groups(rt: &impl Abort, alloc: Global, captures: &Captures, want: &[Option<Span>]) {
     expect_eq(rt, captures.group_len(), want.len());
     expect_spans(rt, &collected(alloc, captures).expect(rt, "memory"), want);

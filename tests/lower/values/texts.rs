@@ -1,4 +1,4 @@
-//! Tests of the texts that values are shown and told by.
+//! Tests of the `Debug` texts of values, and of the texts of errors.
 use super::{span, text};
 use crate::tests::fixtures::pattern;
 use crate::tests::shown::{expect_shown, expect_told};

@@ -1,4 +1,4 @@
-//! Callers that promise something of the backtracker's lists, most of them without a proof file.
+//! The callers in `list_callers` that use the lists of a backtracker, or list the pieces of a text.
 
 use crate::tests::{
     engine_named, expect, expect_matches, expect_number, expect_text, with_capacity,
@@ -25,7 +25,7 @@ const MATCHES: &[(usize, usize, usize)] = &[
     (0, 17, 21),
 ];
 
-// All items, each with a comma and a blank behind it.
+// All items, each followed by a comma and a space.
 fn items_text(alloc: Global, items: &[Result<Match, SearchError>]) -> Result<String, AllocError> {
     let mut text = String::new(alloc);
     for item in items {
@@ -77,7 +77,7 @@ fn is_refusal<T>(answer: &Result<T, SearchError>) -> bool {
     matches!(answer, Err(SearchError::HaystackTooLong { len: 3 }))
 }
 
-// The first item is the refusal, and there is no other.
+// Whether the first item is the refusal, and there is no other.
 fn is_refused_once(engine: &BoundedBacktracker, cache: &mut Cache) -> bool {
     let mut matches = engine.try_find_iter(cache, Input::new(b"abc"));
     let first = match matches.next() {

@@ -1,4 +1,4 @@
-//! What an engine was made with, a cache that is reset, and configurations.
+//! The settings of an engine, a cache that is reset, and configurations.
 
 use crate::tests::{engine_named, expect_number, expect_shown, expect_text};
 use nfa_engines::backtrack::{BoundedBacktracker, Builder, Cache, Config};
@@ -15,14 +15,14 @@ fn expect_reads(rt: &impl Abort, engine: &BoundedBacktracker) {
     expect_number(rt, engine.max_haystack_len(), 174761);
 }
 
-// Made by a copy of a builder.
+// An engine made by a copy of a builder.
 fn built(rt: &impl Abort, alloc: Global) -> BoundedBacktracker {
     let builder = BoundedBacktracker::builder().clone().expect(rt, "a copy");
     let nfa = nfa_named(alloc, "ab_b").expect(rt, "an NFA");
     builder.build_from_nfa(nfa).expect(rt, "an engine")
 }
 
-// Made with no builder, and by a copy of one.
+// Once made without a builder, and once by a copy of a builder.
 #[test]
 fn reads_what_it_was_made_with(rt: HostRuntime) {
     expect_reads(&rt, &engine_named(&rt, rt.alloc(), "ab_b"));

@@ -10,7 +10,7 @@ use test_support::text::match_text;
 
 const TEXTS: &[&[u8]] = &[b"", b"foo"];
 
-// The engine has so many patterns, and finds this in any text.
+// The engine has `pattern_len` patterns, and finds this in any text.
 fn expect_everywhere(
     rt: &impl Abort,
     alloc: Global,
@@ -66,7 +66,7 @@ fn makes_captures_of_all_groups(rt: HostRuntime) {
     expect_six_unset(&rt, &captures);
 }
 
-// A copy of an engine and a copy of its cache answer as they do.
+// Copies of an engine and of its cache answer as the originals do.
 fn expect_copies(
     rt: &impl Abort,
     alloc: Global,

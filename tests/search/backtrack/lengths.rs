@@ -8,7 +8,7 @@ use sample_engines::nfa_named;
 use std::alloc::Global;
 use std::process::Abort;
 
-// What an engine writes into two slots, with a new cache.
+// Expects this answer in two slots, with a new cache.
 fn expect_anew(
     rt: &impl Abort,
     alloc: Global,
@@ -44,7 +44,7 @@ fn any_capacity_has_a_greatest_length(rt: HostRuntime) {
     expect_number(&rt, engine.max_haystack_len(), 9223372036854775806);
 }
 
-// The length is tested before the pattern that is asked for, and before the input is found to be done.
+// The length is checked before the pattern, and before whether the input is done.
 fn expect_refusals(rt: &impl Abort, alloc: Global, engine: &BoundedBacktracker) {
     expect_number(rt, engine.max_haystack_len(), 0);
     let pattern = PatternID::new(5).expect(rt, "a pattern's number");
@@ -72,7 +72,7 @@ fn no_capacity_refuses_each_length(rt: HostRuntime) {
     expect_anew(&rt, alloc, &engine, done, "HaystackTooLong { len: 0 } - -");
 }
 
-// The capacity of an engine that the builder makes, once it has been given the configuration.
+// Expects this capacity of an engine that the builder makes after this configuration.
 fn expect_capacity(
     rt: &impl Abort,
     alloc: Global,

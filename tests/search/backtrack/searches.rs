@@ -1,4 +1,4 @@
-//! Searches of the backtracker alone: `earliest` changes nothing, and one cache serves all engines.
+//! Searches of the backtracker only: `earliest` changes nothing, and one cache works with all engines.
 
 use super::expect_match;
 use crate::tests::{engine_named, expect_text};
@@ -9,7 +9,7 @@ use std::alloc::Global;
 use std::process::Abort;
 use test_support::text::backtracked_slots;
 
-// What a sample finds with the cache.
+// Expects this match of a sample with the cache.
 fn expect_sample(
     rt: &impl Abort,
     alloc: Global,
@@ -22,7 +22,7 @@ fn expect_sample(
     expect_match(rt, alloc, &engine, cache, input, want);
 }
 
-// What one finds with a new cache and `earliest`.
+// The same with a new cache and `earliest`.
 fn expect_early(rt: &impl Abort, alloc: Global, name: &str, haystack: &str, want: &str) {
     let engine = engine_named(rt, alloc, name);
     let mut cache = engine.create_cache(alloc);
@@ -37,7 +37,7 @@ fn earliest_changes_no_answer(rt: HostRuntime) {
     }
 }
 
-// Slots of one engine between searches of others, with one cache.
+// Searches of several engines, with one cache.
 fn expect_all(rt: &impl Abort, alloc: Global, groups: &BoundedBacktracker, cache: &mut Cache) {
     let (dots, letters) = (Input::new(&[b'.'; 19971]), Input::new(&[b'a'; 100]));
     expect_sample(rt, alloc, cache, "alnum100", dots, "none");

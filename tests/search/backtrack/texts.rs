@@ -1,4 +1,4 @@
-//! What iterators are shown as.
+//! The `Debug` texts of iterators.
 
 use super::engines::never;
 use crate::tests::{expect_shown, expect_text};
@@ -19,7 +19,7 @@ const AFTER_THE_LAST: &str =
     "Searcher { input: Input { haystack: [97, 98], span: Span { start: 3, end: 2 }, anchored: No, \
     earliest: false }, last_match_end: Some(2) }";
 
-// An iterator over an engine that never matches, with a cache that was not used.
+// An iterator over an engine that never matches, with a new cache.
 const MATCHES: &str = "TryFindMatches { cache: Cache { scratch: Scratch { stack: [], \
     visited: Visited { blocks: [], used: 0, turns: Counter }, scans: Counter }, slots: [], answered: Counter, \
     refused: Counter, past_scans: Counter, past_turns: Counter }, steps: Steps { searcher: Searcher { input: Input { \
@@ -46,7 +46,7 @@ fn an_iterator_over_an_engine_is_shown(rt: HostRuntime) {
     expect_text(&rt, &"matches", text, MATCHES);
 }
 
-// The end of the next byte, or of the span where no byte is left.
+// The end of the next byte, or of the span if no byte is left.
 fn next_end(input: &Input<'_>) -> Option<HalfMatch> {
     if input.is_done() {
         return None;
@@ -63,17 +63,17 @@ fn byte(input: &Input<'_>) -> Result<Option<Match>, SearchError> {
     Ok(next_piece(input, 1))
 }
 
-// Its end.
+// The same, as a half match.
 fn byte_end(input: &Input<'_>) -> Result<Option<HalfMatch>, SearchError> {
     Ok(next_end(input))
 }
 
-// Where the searcher stands, and whether the iterator is done: at first, and after three steps.
+// The state of the searcher, and whether the iterator is done: at first, and after three steps.
 const FIRST: (&str, bool) = (FRESH, false);
 
 const LAST: (&str, bool) = (AFTER_THE_LAST, true);
 
-// An iterator that tries is shown by where it stands.
+// An iterator that may err shows its searcher, and whether it is done.
 fn expect_tries(
     rt: &impl Abort,
     alloc: Global,
@@ -85,7 +85,7 @@ fn expect_tries(
     expect_shown(rt, alloc, tries, &want.expect(rt, "memory for a text"));
 }
 
-// One that is sure is shown by the one that it tries with.
+// An infallible iterator shows the one that it wraps.
 fn expect_sure(
     rt: &impl Abort,
     alloc: Global,

@@ -1,5 +1,4 @@
-//! Callers that list captures. Their contracts say what the list is, and, by the laws, that it is the same for other
-//! callers. If allocation fails, they end the test.
+//! The callers in `list_callers` that list captures of both engines, or captures and matches.
 
 use crate::tests::{expect_number, threads};
 use list_callers::captures::{captures_and_matches, caught_by_both};

@@ -16,7 +16,7 @@ fn is_numbered(captures: &Captures, want: &(usize, usize)) -> bool {
 
 const FOOS: &[u8] = b"foo1 foo12 foo123";
 
-// Where the group of the name lies in each item of that text.
+// The span of the group `numbers` in each match in that text.
 const NUMBERS: &[(usize, usize)] = &[(3, 4), (8, 10), (14, 17)];
 
 fn expect_each_numbered(rt: &impl Abort, all: &[Captures]) {
@@ -28,7 +28,7 @@ fn expect_each_numbered(rt: &impl Abort, all: &[Captures]) {
 
 const DATE: &[u8] = b"2010-03-14";
 
-// The groups of `date` there: the whole, the year, the month and the day, and no more.
+// The groups of `date` in it: the whole, the year, the month and the day, and no more.
 const DATE_GROUPS: &[Option<(usize, usize)>] = &[
     Some((0, 10)),
     Some((0, 4)),

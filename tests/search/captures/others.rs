@@ -1,5 +1,5 @@
-//! Single searches that fill captures: those of another NFA than the one that is searched, with all their slots, with
-//! those of the matches alone, and with none.
+//! Single searches that fill captures, also those of another NFA: with all slots, with only those of the matches, and
+//! with none.
 
 use super::table::is_row;
 use super::{DATE_SLOTS, expect_len};
@@ -22,8 +22,8 @@ enum Kept {
 
 use Kept::{Groups, Matches, Nothing};
 
-// The sample that is searched, the one whose captures are filled, which of their slots they have, the haystack, and the
-// pattern and the slots that they show then.
+// The sample that is searched, the one that the captures are of, which slots they have, the haystack, and the pattern
+// and the slots after the search.
 type Row = (
     &'static str,
     &'static str,
@@ -33,7 +33,7 @@ type Row = (
     &'static [Option<usize>],
 );
 
-// The slots are the first ones of the search; those that the NFA does not have are not set.
+// The slots are the first ones of the search. Slots that the NFA does not have are not set.
 const ROWS: &[Row] = &[
     (
         "abc",
@@ -81,7 +81,7 @@ const ROWS: &[Row] = &[
     ),
     ("groups", "groups", Nothing, b"ab", Some(0), &[]),
     ("date", "date", Groups, b"2010-03-14", Some(0), DATE_SLOTS),
-    // The second pattern matches, and the captures have slots for the first one alone.
+    // The second pattern matches, and the captures have slots only for the first one.
     (
         "words_numbers",
         "abc",
@@ -115,7 +115,7 @@ fn expect_row(rt: &impl Abort, captures: &Captures, row: &Row) {
     }
 }
 
-// No pattern, and so many slots of which none is set.
+// Expects no pattern, and `count` slots that are not set.
 fn expect_no_match(rt: &impl Abort, captures: &Captures, count: usize, name: &str) {
     expect(rt, !captures.is_match(), name);
     expect_len(rt, captures.slots().len(), count, name);
@@ -124,7 +124,7 @@ fn expect_no_match(rt: &impl Abort, captures: &Captures, count: usize, name: &st
     }
 }
 
-// By a search that is lent its input, and by one that is given it, with one that finds nothing between them.
+// Searches with the input by reference and by value, and between them one that finds nothing.
 fn expect_piked(
     rt: &impl Abort,
     vm: &PikeVM,

@@ -1,4 +1,4 @@
-//! A span that is too long.
+//! Captures in a span that is too long.
 use super::expect_len;
 use crate::tests::{expect, with_capacity};
 use list_callers::captures::tries_collected;

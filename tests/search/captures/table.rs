@@ -20,7 +20,7 @@ const FOO_ROWS: &[Row] = &[
     (0, &[Some(11), Some(17), Some(14), Some(17)]),
 ];
 
-// A name, a haystack, and the list of the captures that come of it.
+// A name, a haystack, and the list of its captures.
 const LISTS: &[(&str, &[u8], &[Row])] = &[
     ("a_bare", b"a", &[]),
     ("foo_num", FOOS, FOO_ROWS),
@@ -109,7 +109,7 @@ fn assert_caught(rt: &impl Abort, all: &[Captures], rows: &[Row], name: &str) {
     }
 }
 
-// The list of each row, by an engine and a cache that are made for it, item by item and as one value.
+// The list of each row, with a new engine and cache, item by item and as one value.
 #[test]
 fn pikevm_gives_the_lists(rt: HostRuntime) {
     for &(name, text, rows) in LISTS {

@@ -1,4 +1,4 @@
-//! What iterators over captures are shown as.
+//! The `Debug` texts of iterators over captures.
 
 use crate::tests::{expect, threads};
 use nfa_engines::Input;
@@ -14,7 +14,7 @@ const FRESH: &str =
 const NEVER: &str =
     "Captures { group_info: GroupInfo { names: [], slot_len: 0 }, pattern: None, slots: [] }";
 
-// What an iterator of the backtracker is shown as.
+// The `Debug` text of an iterator of the backtracker.
 fn tries_text(
     rt: &impl Abort,
     alloc: Global,
@@ -27,7 +27,7 @@ fn tries_text(
     format!(in alloc; "{items:?}").expect(rt, "memory")
 }
 
-// What it is to be shown as, over a cache that is shown so.
+// The text that is expected, given that of the cache.
 fn wanted_tries(
     rt: &impl Abort,
     alloc: Global,

@@ -1,4 +1,4 @@
-//! Which caches fit which engines, and serve them.
+//! Which caches fit which engines, and searches with them.
 
 use super::expect_fits;
 use crate::tests::{expect, expect_text, threads, vm_named};
@@ -12,7 +12,7 @@ use test_support::machine::Machine;
 use test_support::text::{piked_match, piked_slots};
 use thompson_nfa::NFA;
 
-// What an engine answers with this cache, in so many slots.
+// Expects this answer with the cache, in `slot_len` slots.
 fn expect_slots(
     rt: &impl Abort,
     alloc: Global,
@@ -41,7 +41,7 @@ fn expect_unfit(rt: &impl Abort, vm: &PikeVM, cache: &Cache) {
     assert!(rt; !fits);
 }
 
-// A cache for `groups` serves `abc` too, also after a reset for it.
+// A cache for `groups` works with `abc` too, also after a reset for `abc`.
 fn expect_smaller(
     rt: &impl Abort,
     alloc: Global,
@@ -66,13 +66,13 @@ fn a_cache_fits_smaller_engines(rt: HostRuntime) {
     expect_smaller(&rt, alloc, &groups, &abc, &mut cache);
 }
 
-// A cache for the sample of that name.
+// A cache for the sample of this name.
 fn cache_for(rt: &impl Abort, alloc: Global, name: &str) -> Cache {
     let vm = vm_named(rt, alloc, name);
     threads(rt, alloc, &vm)
 }
 
-// What a cache is made for, what it is used with, and whether it fits.
+// The sample that a cache is made for, the one that it is used with, and whether it fits.
 const FITS: &[(&str, &str, bool)] = &[
     ("loop", "a_star", true),
     ("a_star", "loop", false),
@@ -81,7 +81,7 @@ const FITS: &[(&str, &str, bool)] = &[
     ("snowman", "three_digits", true),
     ("abc_a", "snowman", true),
     ("abc", "groups", false),
-    // Short of patterns, of places on the stack, and of states alone; of slots alone no sample is.
+    // Each lacks only one thing: patterns, stack frames, or states. No cache of a sample lacks only slots.
     ("date", "b_a", false),
     ("alnum100", "a_star", false),
     ("loop", "abc", false),
@@ -102,7 +102,7 @@ fn each_number_of_a_cache_counts(rt: HostRuntime) {
     }
 }
 
-// Three states, and a pattern with so many explicit groups.
+// Three states, and a pattern with `explicit` explicit groups.
 fn nfa_with_groups(alloc: Global, explicit: usize) -> Result<NFA, MakeError> {
     let mut machine = Machine::new(alloc);
     machine.capture(0, 1)?;
@@ -118,7 +118,7 @@ fn with_groups(rt: &impl Abort, alloc: Global, explicit: usize) -> PikeVM {
     PikeVM::new_from_nfa(nfa).expect(rt, "memory")
 }
 
-// Whether a cache for an engine with so many explicit groups fits one with so many.
+// Whether a cache for an engine with `made_for` explicit groups fits one with `used_with`.
 fn fits_groups(rt: &impl Abort, alloc: Global, made_for: usize, used_with: usize) -> bool {
     let made_for = with_groups(rt, alloc, made_for);
     let cache = threads(rt, alloc, &made_for);
@@ -142,7 +142,7 @@ fn the_number_of_slots_alone_counts(rt: HostRuntime) {
     }
 }
 
-// What a cache is made for; then what searches with it, on which haystack, and the match.
+// The sample that a cache is made for; then samples that search with it, each with a haystack and the match.
 const ONE_CACHE: &[(&str, &[(&str, &str, &str)])] = &[
     ("loop", &[("a_star", "aaa", "0 0..3")]),
     (
@@ -156,7 +156,7 @@ const ONE_CACHE: &[(&str, &[(&str, &str, &str)])] = &[
     ("abc_a", &[("snowman", "a☃b", "0 1..4")]),
 ];
 
-// What a sample finds with a cache made for another.
+// Expects this match of a sample, with a cache made for another.
 fn expect_found(
     rt: &impl Abort,
     alloc: Global,
@@ -171,7 +171,6 @@ fn expect_found(
     expect_text(rt, &name, text, want);
 }
 
-// What samples find with one.
 fn expect_all_found(
     rt: &impl Abort,
     alloc: Global,

@@ -1,4 +1,4 @@
-//! Callers whose contracts say what the lists of a PikeVM are, without a proof file, and what they return.
+//! The callers in `list_callers` that use the lists of a PikeVM, and what they return.
 
 use super::expect_fits;
 use crate::tests::{expect, expect_matches, expect_number, expect_parts, threads, vm_named};
@@ -10,7 +10,7 @@ use std::process::Abort;
 
 const HAYSTACK: &[u8] = b"foo1 foo12 foo123";
 
-// Its matches: each one's pattern, start and end.
+// The matches of `foo_num` in it: each one's pattern, start and end.
 const MATCHES: &[(usize, usize, usize)] = &[(0, 0, 4), (0, 5, 10), (0, 11, 17)];
 
 fn expect_list(rt: &impl Abort, list: Result<Vec<Match>, AllocError>) {

@@ -1,4 +1,4 @@
-//! What a cache did before does not show: two caches give one answer, by a law alone.
+//! Earlier searches with a cache do not show: a used cache and a fresh one give the same answer.
 
 use super::expect_fits;
 use crate::tests::{engine_named, expect, expect_number, expect_parts, threads, vm_named};
@@ -62,7 +62,7 @@ fn a_used_cache_of_a_backtracker_answers_as_a_fresh_one(rt: HostRuntime) {
     expect_tried(&rt, &engine, &mut used, &mut fresh);
 }
 
-// A PikeVM, and a cache that fits it: a fact of the type.
+// A PikeVM, and a cache that fits it.
 #[derive(Drop)]
 struct Matcher<'v> {
     vm: &'v PikeVM,
@@ -75,7 +75,7 @@ impl<'v> Matcher<'v> {
         Ok(Matcher { vm, cache })
     }
 
-    // How many matches the text has.
+    // The number of matches in the text.
     fn count(&mut self, text: &[u8]) -> usize {
         let mut count = 0usize;
         for _ in self.vm.find_iter(&mut self.cache, Input::new(text)) {
@@ -85,7 +85,7 @@ impl<'v> Matcher<'v> {
     }
 }
 
-// How many all texts have together, with one cache and no proof file.
+// The number of matches in all texts, with one cache.
 fn count_in_texts(matcher: &mut Matcher<'_>, texts: &[&[u8]]) -> usize {
     let mut count = 0usize;
     for text in texts {

@@ -1,4 +1,4 @@
-//! Searches of the PikeVM alone: its kinds, `earliest`, long matches, and what it was made with.
+//! Searches of the PikeVM only: match kinds, `earliest`, long matches, and its settings.
 
 use super::expect_fits;
 use crate::tests::{
@@ -11,7 +11,7 @@ use std::alloc::Global;
 use std::process::Abort;
 use test_support::text::{match_text, piked_match};
 
-// The match that an engine finds, with a new cache.
+// Expects this match, with a new cache.
 fn expect_match(rt: &impl Abort, alloc: Global, vm: &PikeVM, input: Input<'_>, want: &str) {
     let mut cache = threads(rt, alloc, vm);
     let text = piked_match(alloc, vm, &mut cache, input);
@@ -27,7 +27,7 @@ fn finds_long_matches(rt: HostRuntime) {
     expect_match(&rt, alloc, &vm, Input::new(&[b'a'; 99]), "none");
 }
 
-// A name, a haystack, and the first match of each kind: leftmost first, with `earliest`; all, with `earliest`.
+// A name, a haystack, and the first match by each of `SEARCHES`.
 const KINDS: &[(&str, &str, &[&str])] = &[
     ("a_star", "aaa", &["0 0..3", "0 0..0", "0 0..3", "0 0..0"]),
     ("ab_b", "ab", &["0 0..2", "0 0..2", "1 1..2", "1 1..2"]),
@@ -55,7 +55,7 @@ fn expect_of_kind(
     expect_match(rt, alloc, &vm, input, want);
 }
 
-// The first match of each kind.
+// Expects these first matches by each of `SEARCHES`.
 fn expect_kinds(rt: &impl Abort, alloc: Global, name: &str, haystack: &str, wants: &[&str]) {
     expect_number(rt, wants.len(), SEARCHES.len());
     for (&(kind, earliest), want) in SEARCHES.iter().zip(wants) {
@@ -72,7 +72,7 @@ fn finds_the_match_of_each_kind(rt: HostRuntime) {
     }
 }
 
-// The iterator ends for good behind one match.
+// Whether the iterator ends permanently after one match.
 fn is_one(vm: &PikeVM, cache: &mut Cache) -> bool {
     let mut matches = vm.find_iter(cache, Input::new(b""));
     matches.next().is_some() && matches.next().is_none() && matches.next().is_none()
@@ -88,7 +88,7 @@ fn ends_for_good(rt: HostRuntime) {
 
 const TEXTS: &[&[u8]] = &[b"", b"foo"];
 
-// The engine has so many patterns, and finds this in any text.
+// The engine has `pattern_len` patterns, and finds this in any text.
 fn expect_everywhere(rt: &impl Abort, alloc: Global, vm: &PikeVM, pattern_len: usize, want: &str) {
     expect_number(rt, vm.pattern_len(), pattern_len);
     for haystack in TEXTS {
@@ -128,7 +128,7 @@ fn makes_captures_of_all_groups(rt: HostRuntime) {
     expect_six_unset(&rt, &captures);
 }
 
-// The kind of an engine that the builder makes, once it has been given the configuration.
+// The kind of an engine that the builder makes after this configuration.
 fn kind_after(rt: &impl Abort, alloc: Global, builder: &mut Builder, config: Config) -> MatchKind {
     builder.configure(config);
     let nfa = nfa_named(alloc, "abc_a").expect(rt, "an NFA");
@@ -153,7 +153,7 @@ fn keeps_the_kind_that_a_newer_configuration_leaves_unset(rt: HostRuntime) {
     expect_kind(&rt, kind, MatchKind::All);
 }
 
-// A copy of a cache has this size, and serves the engine.
+// A copy of a cache has this size, and works with the engine.
 fn expect_serves(rt: &impl Abort, alloc: Global, vm: &PikeVM, copy: &mut Cache, size: usize) {
     expect_number(rt, copy.memory_usage(), size);
     expect_fits(rt, vm, copy);
@@ -166,7 +166,7 @@ fn expect_copy(rt: &impl Abort, alloc: Global, vm: &PikeVM, cache: &Cache) {
     expect_serves(rt, alloc, vm, &mut copy, cache.memory_usage());
 }
 
-// A copy of the engine takes the cache's copy too.
+// A copy of the engine works with the cache's copy too.
 fn expect_clone(rt: &impl Abort, alloc: Global, vm: &PikeVM, cache: &Cache) {
     let same = vm.clone().expect(rt, "a copy of an engine");
     expect_copy(rt, alloc, &same, cache);

@@ -9,8 +9,8 @@ use sample_engines::input_in;
 use std::alloc::{AllocError, Global};
 use std::process::Abort;
 
-// A name, a kind, a haystack, the capacity of a set, and the patterns that an empty set gains: in a search, and in one
-// with `earliest`.
+// A name, a kind, a haystack, the capacity of a set, and the patterns that an empty set gains, without and with
+// `earliest`.
 const GAINED: &[(&str, MatchKind, &str, usize, [&str; 2])] = &[
     ("foo_bar", All, "foobar", 4, ["0 1 3 ", "0 "]),
     ("foo_bar", All, "foobar", 1, ["0 ", "0 "]),
@@ -26,7 +26,7 @@ const GAINED: &[(&str, MatchKind, &str, usize, [&str; 2])] = &[
     ("abc", LeftmostFirst, "xyz", 2, ["", ""]),
 ];
 
-// The patterns of a set, each with a blank behind it.
+// The patterns of a set, each followed by a space.
 fn members(alloc: Global, set: &PatternSet) -> Result<String, AllocError> {
     let mut text = String::new(alloc);
     for pattern in set.iter() {
@@ -47,7 +47,7 @@ fn searched(
     members(alloc, set)
 }
 
-// What an empty set gains, in a search of the sample with a new cache.
+// The patterns that an empty set gains in a search of the sample, with a new cache.
 fn gained(
     rt: &impl Abort,
     alloc: Global,
@@ -74,7 +74,7 @@ fn an_empty_set_gains_what_matches(rt: HostRuntime) {
     }
 }
 
-// A set that holds the second pattern alone.
+// A set that holds only the second pattern.
 fn second_alone(rt: &impl Abort, alloc: Global) -> PatternSet {
     let mut set = PatternSet::new(alloc, 2).expect(rt, "a set");
     let second = PatternID::new(1).expect(rt, "a pattern's number");
@@ -83,7 +83,7 @@ fn second_alone(rt: &impl Abort, alloc: Global) -> PatternSet {
     set
 }
 
-// What is in a set with the second pattern, after a search of this kind.
+// Expects these patterns in a set that held the second one, after a search of this kind.
 fn expect_gained(rt: &impl Abort, alloc: Global, kind: MatchKind, want: &str) {
     let vm = of_kind(rt, alloc, "ab_abc", kind);
     let mut cache = threads(rt, alloc, &vm);

@@ -1,4 +1,4 @@
-//! Skips of empty matches that split a codepoint, of an engine that finds them.
+//! Skipping empty matches that split a codepoint, with a PikeVM that finds them.
 
 use crate::tests::{of_kind, threads, vm_named};
 use nfa_engines::empty::{skip_splits_fwd, skip_splits_rev};
@@ -11,7 +11,7 @@ use std::process::Abort;
 // The answer of a search: a value and its offset, which are the same here.
 type Placed = Result<Option<(usize, usize)>, SearchError>;
 
-// The end of the match that the engine finds. The cache fits: it is asked so that no `requires` is needed.
+// The end of the match that the engine finds, or none if the cache does not fit.
 fn placed(vm: &PikeVM, cache: &mut Cache, input: &Input<'_>) -> Placed {
     if !cache.fits(vm) {
         return Ok(None);
@@ -60,7 +60,7 @@ fn backward(
     }
 }
 
-// The snowman is the bytes 1 to 3.
+// The snowman is in bytes 1 to 3.
 const HAYSTACK: &str = "a☃z";
 
 // A span, whether the search is anchored, and the end of the first empty match in it that splits no codepoint.

@@ -1,4 +1,4 @@
-//! What an engine, its cache and an iterator are shown as.
+//! The `Debug` texts of an engine, its cache and an iterator.
 
 use super::searches::never;
 use crate::tests::{expect_shown, expect_text, threads};
@@ -11,14 +11,14 @@ const NEVER: &str =
     anchored: StateID(0), unanchored: StateID(0), patterns: [], groups: GroupInfo { names: [], slot_len: 0 }, \
     has_empty: false, utf8: false } }";
 
-// A cache for it, before any search.
+// A cache for this engine, before any search.
 const CACHE: &str = "Cache { threads: Threads { frames: [Explore { sid: StateID(0) }], \
 curr: ActiveStates { parts: Parts { kept: [StateID(0), StateID(0)], rows: [], len: 0, width: 0 } }, \
 reached: ClosureOutput { seen: Seen { stamps: [0], newest: 1, turns: Counter }, \
 next: ActiveStates { parts: Parts { kept: [StateID(0), StateID(0)], rows: [], len: 0, width: 0 } } }, \
 scans: Counter }, found: [], slots: 0, patterns: 0, past_scans: Counter, past_turns: Counter }";
 
-// The iterator shows the cache as it is, then where the iteration stands, and the engine.
+// The iterator shows the cache, the state of the iteration, and the engine.
 const MATCHES: &str =
     "FindMatches { cache: Cache { threads: Threads { frames: [Explore { sid: StateID(0) }], \
 curr: ActiveStates { parts: Parts { kept: [StateID(0), StateID(0)], rows: [], len: 0, width: 0 } }, \
