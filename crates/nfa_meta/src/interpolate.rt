@@ -6,7 +6,7 @@
 //! let output = regex.replace_all_template(alloc, b"Bilbo Baggins", &template)?;
 //! assert_eq!(rt; output.as_slice(), b"Baggins, Bilbo".as_slice());
 //! ```
-ghost use Rattle.std.specs.Prelude.{◌≡◌, ◌≤◌, ◌++◌, All, IfErr, IfOk, None, OnOk, length, map};
+ghost use Rattle.std.specs.Prelude.{◌≡◌, ◌≤◌, ◌++◌, All, IfErr, IfOk, None, OnOk, length, map, slice_range};
 ghost use Rattle.regex_search_core.specs.Patterns.{number_of};
 ghost use Rattle.regex_search_core.specs.Search.{whole};
 ghost use Rattle.nfa_search_base.specs.CapturesRuns.{CapturesInside, match_in};
@@ -157,13 +157,30 @@ impl<'t> Template<'t> {
             ≡ output.old.items ++ filled_one haystack.now self.now.parts.items from captures.now) }
         ensures end { IfOk result (λ end. end ≡ (match_in captures.now).end) }
     {
-        let Some(found) = captures.get_match() else {
-            unreachable!()
-        };
-        output.extend_from_slice(&haystack[from..found.start()])?;
+        let end = copy_to_match(haystack, from, captures, output)?;
         self.fill(haystack, captures, output)?;
-        Ok(found.end())
+        Ok(end)
     }
+}
+
+/// Appends the haystack from an offset to the match of these captures. Returns the end of the match.
+pub(crate) fn copy_to_match(
+    haystack: &[u8],
+    from: usize,
+    captures: &Captures,
+    output: &mut Vec<u8>,
+) -> Result<usize, AllocError>
+    requires inside { CapturesInside (whole haystack.now) captures.now }
+    requires before { from ≤ (match_in captures.now).start }
+    ensures output { OnOk result (output.new.items
+        ≡ output.old.items ++ slice_range haystack.now from (match_in captures.now).start) }
+    ensures end { IfOk result (λ end. end ≡ (match_in captures.now).end) }
+{
+    let Some(found) = captures.get_match() else {
+        unreachable!()
+    };
+    output.extend_from_slice(&haystack[from..found.start()])?;
+    Ok(found.end())
 }
 
 /// Returns the text of the part for a match with these captures.

@@ -195,6 +195,15 @@ pub const ONE_PATTERN: StateTable<'static> = StateTable {
     utf8: true,
 };
 
+/// The same, of two patterns.
+pub const TWO_PATTERNS: StateTable<'static> = StateTable {
+    rows: &[],
+    starts: &[0, 0],
+    groups: &[&[], &[]],
+    has_empty: false,
+    utf8: true,
+};
+
 impl StateTable<'_> {
     /// Makes an NFA whose matches start at the start of the search.
     pub fn anchored(&self, alloc: Global) -> Result<NFA, BuildError>

@@ -6,7 +6,7 @@ ghost use Rattle.nfa_samples.specs.StateTables.{is_row};
 
 use crate::some;
 use crate::state_table::StateRow::{self, Assert, Byte, Capture, Either, Match, Range, Ranges};
-use crate::state_table::{ONE_PATTERN, StateTable};
+use crate::state_table::{ONE_PATTERN, StateTable, TWO_PATTERNS};
 use std::alloc::{AllocError, Global};
 use thompson_nfa::{BuildError, Look, NFA};
 
@@ -161,9 +161,7 @@ fn words_numbers(alloc: Global) -> Result<NFA, BuildError>
             Match(1),
         ],
         starts: &[1, 6],
-        groups: &[&[], &[]],
-        has_empty: false,
-        utf8: true,
+        ..TWO_PATTERNS
     }
     .with_prefix(alloc)
 }
@@ -254,9 +252,7 @@ fn six(alloc: Global) -> Result<NFA, BuildError>
             Match(1),
         ],
         starts: &[1, 10],
-        groups: &[&[], &[]],
-        has_empty: false,
-        utf8: true,
+        ..TWO_PATTERNS
     }
     .with_prefix(alloc)
 }

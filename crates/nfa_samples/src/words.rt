@@ -4,7 +4,7 @@ ghost use Rattle.nfa_samples.specs.Names.{IsNoneOf, word_names};
 
 use crate::some;
 use crate::state_table::StateRow::{Byte, Capture, Either, Match, Union};
-use crate::state_table::{ONE_PATTERN, StateTable};
+use crate::state_table::{ONE_PATTERN, StateTable, TWO_PATTERNS};
 use std::alloc::Global;
 use thompson_nfa::{BuildError, NFA};
 
@@ -64,9 +64,7 @@ fn ab_b(alloc: Global) -> Result<NFA, BuildError>
             Match(1),
         ],
         starts: &[1, 6],
-        groups: &[&[], &[]],
-        has_empty: false,
-        utf8: true,
+        ..TWO_PATTERNS
     }
     .with_prefix(alloc)
 }
@@ -91,9 +89,7 @@ fn ab_abc(alloc: Global) -> Result<NFA, BuildError>
             Match(1),
         ],
         starts: &[1, 6],
-        groups: &[&[], &[]],
-        has_empty: false,
-        utf8: true,
+        ..TWO_PATTERNS
     }
     .with_prefix(alloc)
 }
@@ -118,9 +114,7 @@ fn abc_ab(alloc: Global) -> Result<NFA, BuildError>
             Match(1),
         ],
         starts: &[1, 7],
-        groups: &[&[], &[]],
-        has_empty: false,
-        utf8: true,
+        ..TWO_PATTERNS
     }
     .with_prefix(alloc)
 }
@@ -144,9 +138,7 @@ fn abc_b(alloc: Global) -> Result<NFA, BuildError>
             Match(1),
         ],
         starts: &[1, 7],
-        groups: &[&[], &[]],
-        has_empty: false,
-        utf8: true,
+        ..TWO_PATTERNS
     }
     .with_prefix(alloc)
 }
@@ -214,9 +206,7 @@ fn b_a(alloc: Global) -> Result<NFA, BuildError>
             Match(1),
         ],
         starts: &[1, 5],
-        groups: &[&[], &[]],
-        has_empty: false,
-        utf8: true,
+        ..TWO_PATTERNS
     }
     .with_prefix(alloc)
 }

@@ -1,5 +1,5 @@
 //! A text with what a function appends in place of its matches.
-ghost use Rattle.std.specs.Prelude.{◌≡◌, ◌<◌, ◌≤◌, ◌++◌, All, IfOk, List, None, OnOk, [], map, slice_range, ℕ};
+ghost use Rattle.std.specs.Prelude.{◌≡◌, ◌<◌, ◌≤◌, ◌++◌, All, IfOk, List, None, OnOk, [], map, ℕ};
 ghost use Rattle.regex_search_core.specs.Search.{whole};
 ghost use Rattle.regex_search_core.specs.Slots.{Captured};
 ghost use Rattle.nfa_search_base.specs.CapturesRuns.{CapturesInside, match_in};
@@ -8,6 +8,7 @@ ghost use Rattle.nfa_choice.specs.ChoiceState.{KeepsEngines};
 ghost use Rattle.nfa_meta.specs.Rewritten.{AppendsBy, IsRewritten, IsRewrittenBy, IsRewrittenUpTo};
 ghost use Rattle.nfa_meta.specs.Rewritten.{IsRewrittenUpToBy, RewritesFrom, TakesMatchesOf};
 
+use crate::interpolate::copy_to_match;
 use crate::regex::Regex;
 use regex_search_core::{Captures, Input};
 use std::alloc::{AllocError, Global};
@@ -115,24 +116,4 @@ where
     }
     output.extend_from_slice(&haystack[from..])?;
     Ok(output)
-}
-
-/// Appends the haystack from an offset to the match of these captures. Returns the end of the match.
-fn copy_to_match(
-    haystack: &[u8],
-    from: usize,
-    captures: &Captures,
-    output: &mut Vec<u8>,
-) -> Result<usize, AllocError>
-    requires inside { CapturesInside (whole haystack.now) captures.now }
-    requires before { from ≤ (match_in captures.now).start }
-    ensures output { OnOk result (output.new.items
-        ≡ output.old.items ++ slice_range haystack.now from (match_in captures.now).start) }
-    ensures end { IfOk result (λ end. end ≡ (match_in captures.now).end) }
-{
-    let Some(found) = captures.get_match() else {
-        unreachable!()
-    };
-    output.extend_from_slice(&haystack[from..found.start()])?;
-    Ok(found.end())
 }
