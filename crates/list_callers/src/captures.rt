@@ -16,76 +16,71 @@ use nfa_engines::error::SearchError;
 use nfa_engines::laws::{one_list_of_captures, one_list_of_matches};
 use nfa_engines::pikevm::{self, PikeVM};
 use nfa_engines::{Captures, Input, Match};
-use std::alloc::Global;
-use std::process::Abort;
+use std::alloc::{AllocError, Global};
 
 /// All captures of the text.
 pub fn collected(
-    rt: &impl Abort,
-    vm: &PikeVM,
     alloc: Global,
+    vm: &PikeVM,
     cache: &mut pikevm::Cache,
     text: &[u8],
-) -> Vec<Result<Captures, SearchError>>
+) -> Result<Vec<Result<Captures, SearchError>>, AllocError>
     requires { Fits cache.old vm.now.nfa }
-    ensures { AreAllCaptures (AnswersRow vm.now.nfa (kind_of vm.now) false) (whole text.now) result.items }
+    ensures { IfOk result
+        (λ v. AreAllCaptures (AnswersRow vm.now.nfa (kind_of vm.now) false) (whole text.now) v.items) }
 {
     let Ok(items) = vm.captures_iter(alloc, cache, Input::new(text)) else {
-        panic!(rt; "memory");
+        return Err(AllocError);
     };
-    items.collect(alloc).expect(rt, "memory")
+    items.collect(alloc)
 }
 
 /// The same of a backtracker.
 pub fn tries_collected(
-    rt: &impl Abort,
-    engine: &BoundedBacktracker,
     alloc: Global,
+    engine: &BoundedBacktracker,
     cache: &mut backtrack::Cache,
     text: &[u8],
-) -> Vec<Result<Captures, SearchError>>
-    ensures { AreAllCaptures (IsTryCapturesAnswer engine.now) (whole text.now) result.items }
+) -> Result<Vec<Result<Captures, SearchError>>, AllocError>
+    ensures { IfOk result (λ v. AreAllCaptures (IsTryCapturesAnswer engine.now) (whole text.now) v.items) }
 {
     let Ok(items) = engine.try_captures_iter(alloc, cache, Input::new(text)) else {
-        panic!(rt; "memory");
+        return Err(AllocError);
     };
-    items.collect(alloc).expect(rt, "memory")
+    items.collect(alloc)
 }
 
 /// All captures of the text, searched with captures of the caller.
 pub fn collected_with(
-    rt: &impl Abort,
-    vm: &PikeVM,
     alloc: Global,
+    vm: &PikeVM,
     cache: &mut pikevm::Cache,
     captures: Captures,
     text: &[u8],
-) -> Vec<Result<Captures, SearchError>>
+) -> Result<Vec<Result<Captures, SearchError>>, AllocError>
     requires fits { Fits cache.old vm.now.nfa }
     requires holds { HasGroups vm.now.nfa captures }
-    ensures { AreAllCaptures (AnswersRow vm.now.nfa (kind_of vm.now) false) (whole text.now) result.items }
+    ensures { IfOk result
+        (λ v. AreAllCaptures (AnswersRow vm.now.nfa (kind_of vm.now) false) (whole text.now) v.items) }
 {
     vm.captures_iter_with(cache, Input::new(text), captures)
         .collect(alloc)
-        .expect(rt, "memory")
 }
 
 /// The same of a backtracker.
 pub fn tries_collected_with(
-    rt: &impl Abort,
-    engine: &BoundedBacktracker,
     alloc: Global,
+    engine: &BoundedBacktracker,
     cache: &mut backtrack::Cache,
     captures: Captures,
     text: &[u8],
-) -> Vec<Result<Captures, SearchError>>
+) -> Result<Vec<Result<Captures, SearchError>>, AllocError>
     requires { HasGroups engine.now.nfa captures }
-    ensures { AreAllCaptures (IsTryCapturesAnswer engine.now) (whole text.now) result.items }
+    ensures { IfOk result (λ v. AreAllCaptures (IsTryCapturesAnswer engine.now) (whole text.now) v.items) }
 {
     engine
         .try_captures_iter_with(cache, Input::new(text), captures)
         .collect(alloc)
-        .expect(rt, "memory")
 }
 
 /// The captures of one text by both engines, which hold the same.
