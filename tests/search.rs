@@ -10,38 +10,33 @@ use nfa_engines::pikevm::{self as pike, PikeVM};
 use regex_search_core::{Captures, Match, MatchKind};
 use sample_engines as made;
 use sample_engines::parts;
-use std::alloc::{AllocError, Global};
+use std::alloc::AllocError;
 use std::fmt::Debug;
 use std::process::Abort;
 
 // A backtracker of the sample.
-fn engine_named(rt: &impl Abort, alloc: Global, name: &str) -> BoundedBacktracker {
-    made::backtracker(alloc, name).expect(rt, name)
+fn engine_named(rt: &(impl Abort + AllocGlobal), name: &str) -> BoundedBacktracker {
+    made::backtracker(rt.alloc(), name).expect(rt, name)
 }
 
 // A backtracker with this visited capacity, in bytes.
-fn with_capacity(rt: &impl Abort, alloc: Global, name: &str, bytes: usize) -> BoundedBacktracker {
-    made::with_capacity(alloc, name, bytes).expect(rt, name)
+fn with_capacity(rt: &(impl Abort + AllocGlobal), name: &str, bytes: usize) -> BoundedBacktracker {
+    made::with_capacity(rt.alloc(), name, bytes).expect(rt, name)
 }
 
 // A PikeVM of the sample.
-fn vm_named(rt: &impl Abort, alloc: Global, name: &str) -> PikeVM {
-    made::pikevm(alloc, name).expect(rt, name)
+fn vm_named(rt: &(impl Abort + AllocGlobal), name: &str) -> PikeVM {
+    made::pikevm(rt.alloc(), name).expect(rt, name)
 }
 
 // A PikeVM with this match kind.
-fn of_kind(rt: &impl Abort, alloc: Global, name: &str, kind: MatchKind) -> PikeVM {
-    made::of_kind(alloc, name, kind).expect(rt, name)
+fn of_kind(rt: &(impl Abort + AllocGlobal), name: &str, kind: MatchKind) -> PikeVM {
+    made::of_kind(rt.alloc(), name, kind).expect(rt, name)
 }
 
 // A cache for the PikeVM.
-fn threads(rt: &impl Abort, alloc: Global, vm: &PikeVM) -> pike::Cache {
-    vm.create_cache(alloc).expect(rt, "a cache")
-}
-
-// Fails with the name if this does not hold.
-fn expect(rt: &impl Abort, holds: bool, name: &str) {
-    assert!(rt; holds, "{name}");
+fn threads(rt: &(impl Abort + AllocGlobal), vm: &PikeVM) -> pike::Cache {
+    vm.create_cache(rt.alloc()).expect(rt, "a cache")
 }
 
 // Expects this text. `of` identifies its row in the message.
@@ -51,12 +46,9 @@ fn expect_text(rt: &impl Abort, of: &impl Debug, text: Result<String, AllocError
 }
 
 // Expects this `Debug` text.
-fn expect_shown(rt: &impl Abort, alloc: Global, value: &impl Debug, want: &str) {
-    expect_text(rt, &"a value", format!(in alloc; "{value:?}"), want);
-}
-
-fn expect_number(rt: &impl Abort, number: usize, want: usize) {
-    assert_eq!(rt; number, want);
+fn expect_shown(rt: &(impl Abort + AllocGlobal), value: &impl Debug, want: &str) {
+    let text = format!(in rt.alloc(); "{value:?}").expect(rt, "memory for a text");
+    assert_eq!(rt; text.as_str(), want);
 }
 
 // None of three groups has matched.
@@ -65,14 +57,10 @@ fn expect_six_unset(rt: &impl Abort, captures: &Captures) {
     assert!(rt; !captures.is_match());
 }
 
-// The match has this pattern, start and end.
-fn expect_parts(rt: &impl Abort, found: Match, want: (usize, usize, usize)) {
-    assert_eq!(rt; parts(found), want);
-}
-
+// The matches have these patterns, starts and ends.
 fn expect_matches(rt: &impl Abort, all: &[Match], wants: &[(usize, usize, usize)]) {
-    expect_number(rt, all.len(), wants.len());
+    assert_eq!(rt; all.len(), wants.len());
     for (found, want) in all.iter().zip(wants) {
-        expect_parts(rt, *found, *want);
+        assert_eq!(rt; parts(*found), *want);
     }
 }

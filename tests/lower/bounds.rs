@@ -1,11 +1,10 @@
 //! Whether NFAs record the bounds of their matches: the samples, and NFAs with mistakes.
 use super::fixtures::named;
-use super::shown::expect_eq_of;
 use Row::{Byte, Capture, Either, Match};
 use nfa_match_spans::records_match_spans;
 use sample_engines::MakeError;
 use std::alloc::Global;
-use std::process::Abort;
+use std::test::Fail;
 use test_support::machine::Machine;
 use thompson_nfa::NFA;
 
@@ -44,16 +43,13 @@ const SAMPLES: &[(&str, bool)] = &[
 ];
 
 #[test]
-fn samples_that_write_their_bounds(rt: HostRuntime) {
+fn samples_that_write_their_bounds(rt: HostRuntime) -> Result<(), Fail> {
+    let alloc = rt.alloc();
     for &(name, want) in SAMPLES {
-        let nfa = named(&rt, rt.alloc(), name);
-        expect_told(&rt, rt.alloc(), &nfa, want, name);
+        let nfa = named(&rt, name);
+        assert_eq!(rt; records_match_spans(alloc, &nfa)?, want, "{name}");
     }
-}
-
-fn expect_told(rt: &impl Abort, alloc: Global, nfa: &NFA, want: bool, name: &str) {
-    let found = records_match_spans(alloc, nfa).expect(rt, "memory");
-    expect_eq_of(rt, found, want, &name);
+    Ok(())
 }
 
 // A state: a byte, a slot that is written, or one of two, each with the numbers of its next states; or a match.
@@ -65,36 +61,23 @@ enum Row {
     Match(usize),
 }
 
-fn add(machine: &mut Machine, row: Row) -> Result<(), MakeError> {
-    match row {
-        Byte(byte, next) => machine.bytes(byte, byte, next),
-        Capture(slot, next) => machine.capture(slot, next),
-        Either(first, second) => machine.either(first, second),
-        Match(pattern) => machine.accept(pattern),
-    }
-}
-
-fn add_all(machine: &mut Machine, rows: &[Row], starts: &[usize]) -> Result<(), MakeError> {
+// The NFA of these rows. State 0 is the start, and each of `starts` is the start of a pattern.
+fn nfa_of(alloc: Global, rows: &[Row], starts: &[usize]) -> Result<NFA, MakeError> {
+    let mut machine = Machine::new(alloc);
     machine.set_flags(false, true);
-    for row in rows {
-        add(machine, *row)?;
+    for &row in rows {
+        match row {
+            Byte(byte, next) => machine.bytes(byte, byte, next)?,
+            Capture(slot, next) => machine.capture(slot, next)?,
+            Either(first, second) => machine.either(first, second)?,
+            Match(pattern) => machine.accept(pattern)?,
+        }
     }
-    add_starts(machine, starts)
-}
-
-fn add_starts(machine: &mut Machine, starts: &[usize]) -> Result<(), MakeError> {
     for &start in starts {
         machine.pattern(start)?;
         machine.groups(0)?;
     }
-    Ok(())
-}
-
-// The NFA of these rows. State 0 is the start, and each of `starts` is the start of a pattern.
-fn nfa_of(rt: &impl Abort, alloc: Global, rows: &[Row], starts: &[usize]) -> NFA {
-    let mut machine = Machine::new(alloc);
-    add_all(&mut machine, rows, starts).expect(rt, "memory");
-    machine.build(0, 0).expect(rt, "an NFA")
+    machine.build(0, 0)
 }
 
 // What an NFA is, whether it records its bounds, its states, and the starts of its patterns.
@@ -144,9 +127,11 @@ const BY_HAND: &[(&str, bool, &[Row], &[usize])] = &[
 ];
 
 #[test]
-fn mistakes_by_hand_are_found(rt: HostRuntime) {
+fn mistakes_by_hand_are_found(rt: HostRuntime) -> Result<(), Fail> {
+    let alloc = rt.alloc();
     for &(what, want, rows, starts) in BY_HAND {
-        let nfa = nfa_of(&rt, rt.alloc(), rows, starts);
-        expect_told(&rt, rt.alloc(), &nfa, want, what);
+        let nfa = nfa_of(alloc, rows, starts)?;
+        assert_eq!(rt; records_match_spans(alloc, &nfa)?, want, "{what}");
     }
+    Ok(())
 }

@@ -1,8 +1,7 @@
-//! Numbers, groups and NFAs that several tests use.
+//! Numbers, groups, captures and NFAs that several tests use.
 
 use nfa_samples::sample;
-use regex_search_core::{GroupInfo, NonMaxUsize, PatternID, StateID};
-use std::alloc::Global;
+use regex_search_core::{Captures, GroupInfo, NonMaxUsize, PatternID, StateID};
 use std::process::Abort;
 use thompson_nfa::NFA;
 
@@ -15,7 +14,8 @@ pub fn pattern(rt: &impl Abort, number: usize) -> PatternID {
 }
 
 /// Groups of this many patterns, without explicit groups.
-pub fn plain_groups(rt: &impl Abort, alloc: Global, patterns: usize) -> GroupInfo {
+pub fn plain_groups(rt: &(impl Abort + AllocGlobal), patterns: usize) -> GroupInfo {
+    let alloc = rt.alloc();
     let mut names = Vec::new(alloc);
     for _ in 0..patterns {
         names.push(Vec::new(alloc)).expect(rt, "memory");
@@ -23,15 +23,18 @@ pub fn plain_groups(rt: &impl Abort, alloc: Global, patterns: usize) -> GroupInf
     GroupInfo::new(names).expect(rt, "groups")
 }
 
-/// Writes the two slots of a match.
-pub fn set_slots(slots: &mut [Option<NonMaxUsize>], start: usize, end: usize) {
-    if let [first, second] = slots {
-        *first = NonMaxUsize::new(start);
-        *second = NonMaxUsize::new(end);
-    }
+/// Captures of one pattern with these two slots, but without a match.
+pub fn captures_at(rt: &(impl Abort + AllocGlobal), start: usize, end: usize) -> Captures {
+    let mut captures = Captures::matches(rt.alloc(), plain_groups(rt, 1)).expect(rt, "captures");
+    let slots = captures.slots_mut();
+    slots[0] = NonMaxUsize::new(start);
+    slots[1] = NonMaxUsize::new(end);
+    captures
 }
 
 /// The sample of this name.
-pub fn named(rt: &impl Abort, alloc: Global, name: &str) -> NFA {
-    sample(alloc, name).expect(rt, "memory").expect(rt, name)
+pub fn named(rt: &(impl Abort + AllocGlobal), name: &str) -> NFA {
+    sample(rt.alloc(), name)
+        .expect(rt, "memory")
+        .expect(rt, name)
 }

@@ -1,7 +1,6 @@
 //! Tests of the flaws for which an NFA is refused.
 use super::fixtures::{id, pattern, plain_groups};
-use super::shown::{expect_eq, expect_told};
-use std::alloc::Global;
+use super::shown::expect_told;
 use std::process::Abort;
 use thompson_nfa::{BuildError, Flaw, NFA, Referrer, State, Transition, first_flaw};
 
@@ -103,8 +102,8 @@ const REFUSALS: &[(Parts, BuildError, Flaw, &str)] = &[
 #[test]
 fn refusals(rt: HostRuntime) {
     for (parts, error, flaw, want) in REFUSALS {
-        expect_made(&rt, rt.alloc(), parts, Some(*error), Some(*flaw));
-        expect_told(&rt, rt.alloc(), flaw, want);
+        expect_made(&rt, parts, Some(*error), Some(*flaw));
+        expect_told(&rt, flaw, want);
     }
 }
 
@@ -116,57 +115,50 @@ const FLAWLESS: &[Parts] = &[
 #[test]
 fn no_flaw(rt: HostRuntime) {
     for parts in FLAWLESS {
-        expect_made(&rt, rt.alloc(), parts, None, None);
+        expect_made(&rt, parts, None, None);
     }
 }
 
 fn state_of(rt: &impl Abort, one: &One) -> State {
-    let next = id(rt, 0);
     match one {
         One::Fail => State::Fail,
-        One::Byte(to) => {
-            let next = id(rt, *to);
-            State::ByteRange {
-                trans: Transition {
-                    start: 0x61,
-                    end: 0x61,
-                    next,
-                },
-            }
-        }
-        One::Capture(slot) => State::Capture { next, slot: *slot },
+        One::Byte(to) => State::ByteRange {
+            trans: Transition {
+                start: 0x61,
+                end: 0x61,
+                next: id(rt, *to),
+            },
+        },
+        One::Capture(slot) => State::Capture {
+            next: id(rt, 0),
+            slot: *slot,
+        },
         One::Match(number) => State::Match {
             pattern_id: pattern(rt, *number),
         },
     }
 }
 
-fn states_of(rt: &impl Abort, alloc: Global, ones: &[One]) -> Vec<State> {
-    let mut states = Vec::new(alloc);
-    for one in ones {
-        states.push(state_of(rt, one)).expect(rt, "memory");
-    }
-    states
-}
-
 // Makes an NFA of these parts, and compares the error and the first flaw.
 fn expect_made(
-    rt: &impl Abort,
-    alloc: Global,
+    rt: &(impl Abort + AllocGlobal),
     parts: &Parts,
     error: Option<BuildError>,
     flaw: Option<Flaw>,
 ) {
-    let (ones, starts, groups) = *parts;
-    let [anchored, unanchored, start] = starts;
-    let states = states_of(rt, alloc, ones);
+    let alloc = rt.alloc();
+    let (ones, [anchored, unanchored, start], groups) = *parts;
+    let mut states = Vec::new(alloc);
+    for one in ones {
+        states.push(state_of(rt, one)).expect(rt, "memory");
+    }
     let (anchored, unanchored) = (id(rt, anchored), id(rt, unanchored));
     let patterns = vec![in alloc; id(rt, start)].expect(rt, "memory");
-    let groups = plain_groups(rt, alloc, groups);
+    let groups = plain_groups(rt, groups);
     let found = first_flaw(&states, anchored, unanchored, &patterns, &groups);
-    expect_eq(rt, found, flaw);
+    assert_eq!(rt; found, flaw);
     let made = NFA::from_states(states, anchored, unanchored, patterns, groups, false, false);
-    expect_eq(rt, made.err(), error);
+    assert_eq!(rt; made.err(), error);
 }
 
 const TOLD: &[(BuildError, &str)] = &[
@@ -193,6 +185,6 @@ const TOLD: &[(BuildError, &str)] = &[
 #[test]
 fn errors_are_told(rt: HostRuntime) {
     for (error, want) in TOLD {
-        expect_told(&rt, rt.alloc(), error, want);
+        expect_told(&rt, error, want);
     }
 }

@@ -1,5 +1,4 @@
 //! Tests of where assertions hold.
-use super::shown::{expect_eq, expect_eq_of};
 use std::process::Abort;
 use thompson_nfa::{Look, look_matches};
 
@@ -141,22 +140,17 @@ const HOLDS: &[(Look, &[u8], &[bool])] = &[
 
 #[test]
 fn assertions(rt: HostRuntime) {
-    for (look, haystack, places) in HOLDS {
-        expect_eq(&rt, places.len().checked_sub(1), Some(haystack.len()));
-        expect_places(&rt, *look, haystack, places);
-    }
-}
-
-fn expect_places(rt: &impl Abort, look: Look, haystack: &[u8], places: &[bool]) {
-    for (at, want) in places.iter().enumerate() {
-        expect_holds(rt, look, haystack, at, *want);
+    for &(look, haystack, places) in HOLDS {
+        assert_eq!(rt; places.len(), haystack.len() + 1, "{look:?}, {haystack:?}");
+        for (at, want) in places.iter().enumerate() {
+            expect_holds(&rt, look, haystack, at, *want);
+        }
     }
 }
 
 fn expect_holds(rt: &impl Abort, look: Look, haystack: &[u8], at: usize, want: bool) {
-    assert!(rt; at <= haystack.len());
     let holds = look_matches(look, haystack, at);
-    expect_eq_of(rt, holds, want, &(look, haystack, at));
+    assert_eq!(rt; holds, want, "{look:?}, {haystack:?}, {at}");
 }
 
 // A text, and whether it begins and ends with a word character.

@@ -1,10 +1,10 @@
 //! Tests of the tables of the samples.
 use super::fixtures::named;
-use super::shown::{expect, expect_eq_of, expect_text};
 use nfa_samples::sample;
-use regex_search_core::{PatternID, StateID};
+use regex_search_core::PatternID;
 use std::alloc::{AllocError, Global};
 use std::process::Abort;
+use std::test::Fail;
 use thompson_nfa::{NFA, State, Transition};
 
 // A name, the number of states, and the names of the explicit groups of each pattern.
@@ -173,104 +173,78 @@ const SHAPES: &[(&str, &str, &str)] = &[
     ),
 ];
 
-// The NFA has `count` states, and its groups have these names.
-fn expect_counts(rt: &impl Abort, alloc: Global, nfa: &NFA, count: usize, groups: &str) {
-    expect_eq_of(rt, nfa.states().len(), count, &groups);
-    let shown = format!(in alloc; "{:?}", nfa.group_info()).expect(rt, "memory");
-    expect_names(rt, &shown, groups);
-}
-
-fn expect_names(rt: &impl Abort, shown: &str, groups: &str) {
-    match shown.strip_prefix("GroupInfo { names: ") {
-        Some(names) => expect_text(rt, groups, first_part(names), groups),
-        None => panic!(rt; "{shown}"),
-    }
-}
-
-// The part before the number of slots.
-fn first_part(names: &str) -> &str {
-    match names.split_once(", slot_len: ") {
-        Some((names, _)) => names,
-        None => names,
-    }
-}
-
 #[test]
-fn each_name_has_so_many_states_and_these_groups(rt: HostRuntime) {
+fn each_name_has_so_many_states_and_these_groups(rt: HostRuntime) -> Result<(), Fail> {
     for &(name, count, groups) in STATE_COUNTS {
-        let nfa = named(&rt, rt.alloc(), name);
-        expect_counts(&rt, rt.alloc(), &nfa, count, groups);
+        let nfa = named(&rt, name);
+        assert_eq!(rt; nfa.states().len(), count, "{name}");
+        let shown = format!(in rt.alloc(); "{:?}", nfa.group_info())?;
+        let start = format!(in rt.alloc(); "GroupInfo {{ names: {groups}, slot_len: ")?;
+        assert!(rt;
+            shown.as_str().starts_with(start.as_str()),
+            "{name}: {shown}"
+        );
     }
+    Ok(())
 }
 
 const UNKNOWN: &[&str] = &["", "nothing", "ABC", "abc ", "ab"];
 
 #[test]
-fn other_names_are_unknown(rt: HostRuntime) {
+fn other_names_are_unknown(rt: HostRuntime) -> Result<(), Fail> {
     for &name in UNKNOWN {
-        let found = sample(rt.alloc(), name).expect(&rt, "memory");
-        expect(&rt, found.is_none(), name);
+        assert!(rt; sample(rt.alloc(), name)?.is_none(), "{name}");
     }
+    Ok(())
 }
 
 #[test]
-fn each_name_has_these_states(rt: HostRuntime) {
+fn each_name_has_these_states(rt: HostRuntime) -> Result<(), Fail> {
     for &(name, head, states) in SHAPES {
-        let nfa = named(&rt, rt.alloc(), name);
-        expect_shape(&rt, rt.alloc(), &nfa, name, head, states);
+        expect_shape(&rt, name, head, states)?;
     }
-}
-
-fn expect_shape(rt: &impl Abort, alloc: Global, nfa: &NFA, name: &str, head: &str, states: &str) {
-    let shown = shown_head(alloc, nfa).expect(rt, "memory");
-    expect_text(rt, name, &shown, head);
-    let shown = shown_states(alloc, nfa.states()).expect(rt, "memory");
-    expect_text(rt, name, &shown, states);
+    Ok(())
 }
 
 #[test]
-fn alnum100_is_a_chain(rt: HostRuntime) {
-    let alloc = rt.alloc();
-    let nfa = named(&rt, alloc, "alnum100");
-    let want = chain(alloc).expect(&rt, "memory");
-    expect_shape(&rt, alloc, &nfa, "alnum100", "0 103 [0] 2 utf8", &want);
-}
-
-fn chain(alloc: Global) -> Result<String, AllocError> {
-    let mut text = String::from_str(alloc, "c0>1")?;
+fn alnum100_is_a_chain(rt: HostRuntime) -> Result<(), Fail> {
+    let mut want = String::from_str(rt.alloc(), "c0>1")?;
     for next in 2..102 {
-        write!(text, " 30-39>{next}|41-5A>{next}|61-7A>{next}")?;
+        write!(want, " 30-39>{next}|41-5A>{next}|61-7A>{next}")?;
     }
-    text.push_str(" c1>102 m0 e0|104 00-FF>103")?;
-    Ok(text)
+    want.push_str(" c1>102 m0 e0|104 00-FF>103")?;
+    expect_shape(&rt, "alnum100", "0 103 [0] 2 utf8", want.as_str())
 }
 
-fn start_of(nfa: &NFA, index: usize) -> Option<StateID> {
-    let pattern = PatternID::new(index)?;
-    nfa.start_pattern(pattern)
+fn expect_shape(
+    rt: &(impl Abort + AllocGlobal),
+    name: &str,
+    head: &str,
+    states: &str,
+) -> Result<(), Fail> {
+    let nfa = named(rt, name);
+    let shown = shown_head(rt.alloc(), &nfa)?;
+    assert_eq!(rt; shown.as_str(), head, "{name}");
+    let shown = shown_states(rt.alloc(), nfa.states())?;
+    assert_eq!(rt; shown.as_str(), states, "{name}");
+    Ok(())
 }
 
 fn shown_head(alloc: Global, nfa: &NFA) -> Result<String, AllocError> {
     let anchored = nfa.start_anchored().as_usize();
     let unanchored = nfa.start_unanchored().as_usize();
     let mut text = format!(in alloc; "{anchored} {unanchored} [")?;
-    write_starts(&mut text, nfa)?;
-    write_flags(&mut text, nfa)?;
-    Ok(text)
-}
-
-fn write_starts(text: &mut String, nfa: &NFA) -> Result<(), AllocError> {
     for index in 0..nfa.pattern_len() {
-        if let Some(start) = start_of(nfa, index) {
-            write_id(text, if index == 0 { "" } else { "," }, start)?;
+        let pattern = PatternID::new(index);
+        if let Some(start) = pattern.and_then(|pattern| nfa.start_pattern(pattern)) {
+            text.push_str(if index == 0 { "" } else { "," })?;
+            write!(text, "{}", start.as_usize())?;
         }
     }
-    write!(text, "] {}", nfa.group_info().slot_len())
-}
-
-fn write_flags(text: &mut String, nfa: &NFA) -> Result<(), AllocError> {
+    write!(text, "] {}", nfa.group_info().slot_len())?;
     text.push_str(if nfa.has_empty() { " empty" } else { "" })?;
-    text.push_str(if nfa.is_utf8() { " utf8" } else { "" })
+    text.push_str(if nfa.is_utf8() { " utf8" } else { "" })?;
+    Ok(text)
 }
 
 fn shown_states(alloc: Global, states: &[State]) -> Result<String, AllocError> {
@@ -286,51 +260,35 @@ fn shown_states(alloc: Global, states: &[State]) -> Result<String, AllocError> {
 // either of two states and `u` for a union; `m` and a pattern.
 fn write_state(text: &mut String, state: &State) -> Result<(), AllocError> {
     match state {
-        State::ByteRange { trans } => write_transition(text, "", trans),
+        State::ByteRange { trans } => write_transition(text, trans),
         State::Sparse(transitions) => {
             for (index, trans) in transitions.iter().enumerate() {
-                write_transition(text, if index == 0 { "" } else { "|" }, trans)?;
+                text.push_str(if index == 0 { "" } else { "|" })?;
+                write_transition(text, trans)?;
             }
             Ok(())
         }
         State::BinaryUnion { alt1, alt2 } => {
-            write_id(text, "e", *alt1)?;
-            write_id(text, "|", *alt2)
+            write!(text, "e{}|{}", alt1.as_usize(), alt2.as_usize())
         }
         State::Union { alternates } => {
             for (index, id) in alternates.iter().enumerate() {
-                write_id(text, if index == 0 { "u" } else { "|" }, *id)?;
+                text.push_str(if index == 0 { "u" } else { "|" })?;
+                write!(text, "{}", id.as_usize())?;
             }
             Ok(())
         }
-        State::Capture { next, slot } => {
-            write!(text, "c{slot}")?;
-            write_id(text, ">", *next)
-        }
-        State::Look { look, next } => {
-            write!(text, "{look:?}")?;
-            write_id(text, ">", *next)
-        }
+        State::Capture { next, slot } => write!(text, "c{slot}>{}", next.as_usize()),
+        State::Look { look, next } => write!(text, "{look:?}>{}", next.as_usize()),
         State::Match { pattern_id } => write!(text, "m{}", pattern_id.as_usize()),
         State::Dense(_) | State::Fail => text.push_str("in no sample"),
     }
 }
 
-fn write_transition(text: &mut String, before: &str, trans: &Transition) -> Result<(), AllocError> {
-    text.push_str(before)?;
-    if trans.start == trans.end {
-        write!(text, "{:02X}", trans.start)?;
-    } else {
-        write!(text, "{:02X}-{:02X}", trans.start, trans.end)?;
+fn write_transition(text: &mut String, trans: &Transition) -> Result<(), AllocError> {
+    write!(text, "{:02X}", trans.start)?;
+    if trans.start != trans.end {
+        write!(text, "-{:02X}", trans.end)?;
     }
-    write_id(text, ">", trans.next)
-}
-
-fn write_id(text: &mut String, before: &str, id: StateID) -> Result<(), AllocError> {
-    text.push_str(before)?;
-    write_number(text, id.as_usize())
-}
-
-fn write_number(text: &mut String, number: usize) -> Result<(), AllocError> {
-    write!(text, "{number}")
+    write!(text, ">{}", trans.next.as_usize())
 }

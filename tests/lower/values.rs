@@ -3,12 +3,10 @@ mod captured;
 mod texts;
 
 use super::fixtures::pattern;
-use super::shown::{expect, expect_eq, expect_eq_of, expect_number};
 use regex_search_core::{
     Anchored, Captures, GroupInfo, HalfMatch, Input, Match, MatchKind, NonMaxUsize, PatternID,
     PatternSet, Span, StateID,
 };
-use std::alloc::{AllocError, Global};
 use std::process::Abort;
 use std::test::Fail;
 
@@ -17,28 +15,16 @@ fn span(start: usize, end: usize) -> Span {
 }
 
 /// Two patterns of two explicit groups. The first names only its second group, the second gives both the same name.
-fn two_patterns(rt: &impl Abort, alloc: Global) -> GroupInfo {
-    let first = vec![in alloc; None, Some(text(rt, alloc, "numbers"))].expect(rt, "memory");
-    let second = vec![in alloc; Some(text(rt, alloc, "a")), Some(text(rt, alloc, "a"))].expect(
-        rt, "memory",
-    );
+fn two_patterns(rt: &(impl Abort + AllocGlobal)) -> GroupInfo {
+    let alloc = rt.alloc();
+    let first = vec![in alloc; None, Some(text(rt, "numbers"))].expect(rt, "memory");
+    let second = vec![in alloc; Some(text(rt, "a")), Some(text(rt, "a"))].expect(rt, "memory");
     let names = vec![in alloc; first, second].expect(rt, "memory");
     GroupInfo::new(names).expect(rt, "groups")
 }
 
-fn text(rt: &impl Abort, alloc: Global, text: &str) -> String {
-    String::from_str(alloc, text).expect(rt, "memory")
-}
-
-/// Sets the slot to 7.
-fn set_seven(captures: &mut Captures, slot: usize) {
-    let slots = captures.slots_mut();
-    slots[slot] = NonMaxUsize::new(7);
-}
-
-/// The patterns of a set, by `collect`.
-fn patterns(alloc: Global, set: &PatternSet) -> Result<Vec<PatternID>, AllocError> {
-    set.iter().collect(alloc)
+fn text(rt: &(impl Abort + AllocGlobal), text: &str) -> String {
+    String::from_str(rt.alloc(), text).expect(rt, "memory")
 }
 
 // A number, and whether it is that of a pattern and of a state.
@@ -49,82 +35,51 @@ const NUMBERS: &[(usize, bool)] = &[
     (usize::MAX, false),
 ];
 
-fn number_of_pattern(number: usize) -> Option<usize> {
-    let pattern = PatternID::new(number)?;
-    Some(pattern.as_usize())
-}
-
-fn number_of_state(number: usize) -> Option<usize> {
-    let state = StateID::new(number)?;
-    Some(state.as_usize())
-}
-
-fn offset(number: usize) -> Option<usize> {
-    let offset = NonMaxUsize::new(number)?;
-    Some(offset.get())
-}
-
 #[test]
 fn numbers_at_their_limits(rt: HostRuntime) {
     for &(number, fits) in NUMBERS {
         let want = if fits { Some(number) } else { None };
-        expect_eq(&rt, number_of_pattern(number), want);
-        expect_eq(&rt, number_of_state(number), want);
+        assert_eq!(rt; PatternID::new(number).map(PatternID::as_usize), want);
+        assert_eq!(rt; StateID::new(number).map(StateID::as_usize), want);
     }
     let last = usize::MAX - 1;
-    expect_eq(&rt, offset(last), Some(last));
-    expect_eq(&rt, NonMaxUsize::new(usize::MAX), None);
+    assert_eq!(rt; NonMaxUsize::new(last).map(NonMaxUsize::get), Some(last));
+    assert_eq!(rt; NonMaxUsize::new(usize::MAX), None);
 }
 
 #[test]
 fn inputs(rt: HostRuntime) {
     let input = Input::new(b"abc");
-    expect_eq(&rt, input.haystack(), b"abc".as_slice());
-    expect_eq(&rt, input.get_span(), span(0, 3));
-    expect_eq(&rt, input.get_anchored(), Anchored::No);
-    expect(&rt, !input.get_earliest() && !input.is_done(), "new");
+    assert_eq!(rt; input.haystack(), b"abc".as_slice());
+    assert_eq!(rt; input.get_span(), span(0, 3));
+    assert_eq!(rt; input.get_anchored(), Anchored::No);
+    assert!(rt; !input.get_earliest() && !input.is_done());
 
     let mut input = input
         .span(span(1, 2))
         .anchored(Anchored::Yes)
         .earliest(true);
-    expect_eq(&rt, input.get_span(), span(1, 2));
-    expect(
-        &rt,
-        input.get_anchored().is_anchored() && input.get_earliest(),
-        "set",
-    );
+    assert_eq!(rt; input.get_span(), span(1, 2));
+    assert!(rt; input.get_anchored().is_anchored() && input.get_earliest());
     input = input.range(1..3);
-    expect_eq(&rt, (input.start(), input.end()), (1, 3));
+    assert_eq!(rt; (input.start(), input.end()), (1, 3));
     input.set_end(2);
     input.set_start(3);
-    expect(&rt, input.is_done(), "done");
-    expect_eq(&rt, input.get_span().len(), 0);
-    expect_eq(&rt, span(1, 3).len(), 2);
+    assert!(rt; input.is_done());
+    assert_eq!(rt; input.get_span().len(), 0);
+    assert_eq!(rt; span(1, 3).len(), 2);
     input.set_span(span(0, 1));
-    expect_eq(&rt, input.get_range(), 0..1);
+    assert_eq!(rt; input.get_range(), 0..1);
     input.set_range(2..3);
-    expect_eq(&rt, input.get_span(), span(2, 3));
+    assert_eq!(rt; input.get_span(), span(2, 3));
     input.set_anchored(Anchored::Pattern(pattern(&rt, 1)));
     input.set_earliest(false);
-    expect_eq(&rt, input.get_anchored().pattern(), Some(pattern(&rt, 1)));
-    expect(
-        &rt,
-        !input.get_earliest() && Anchored::Yes.pattern().is_none(),
-        "no pattern",
-    );
-    expect(
-        &rt,
-        Anchored::Pattern(pattern(&rt, 1)).is_anchored(),
-        "anchored",
-    );
-    expect(&rt, !Anchored::No.is_anchored(), "unanchored");
-    expect(&rt, MatchKind::All.continue_past_first_match(), "all");
-    expect(
-        &rt,
-        !MatchKind::LeftmostFirst.continue_past_first_match(),
-        "first",
-    );
+    assert_eq!(rt; input.get_anchored().pattern(), Some(pattern(&rt, 1)));
+    assert!(rt; !input.get_earliest() && Anchored::Yes.pattern().is_none());
+    assert!(rt; Anchored::Pattern(pattern(&rt, 1)).is_anchored());
+    assert!(rt; !Anchored::No.is_anchored());
+    assert!(rt; MatchKind::All.continue_past_first_match());
+    assert!(rt; !MatchKind::LeftmostFirst.continue_past_first_match());
 }
 
 // A span, and whether it is empty.
@@ -134,9 +89,9 @@ const EMPTY_SPANS: &[(usize, usize, bool)] = &[(1, 3, false), (3, 3, true), (3, 
 fn spans(rt: HostRuntime) {
     for &(start, end, empty) in EMPTY_SPANS {
         let span = span(start, end);
-        expect_eq(&rt, span.is_empty(), empty);
-        expect_eq(&rt, span.range(), start..end);
-        expect_eq(&rt, span.offset(4).range(), start + 4..end + 4);
+        assert_eq!(rt; span.is_empty(), empty);
+        assert_eq!(rt; span.range(), start..end);
+        assert_eq!(rt; span.offset(4).range(), start + 4..end + 4);
     }
 }
 
@@ -155,13 +110,14 @@ const BOUNDARIES: &[(&[u8], &[bool])] = &[
 #[test]
 fn boundaries(rt: HostRuntime) {
     for (haystack, wants) in BOUNDARIES {
-        expect_boundaries(&rt, &Input::new(haystack), wants);
-    }
-}
-
-fn expect_boundaries(rt: &impl Abort, input: &Input<'_>, wants: &[bool]) {
-    for (offset, want) in wants.iter().enumerate() {
-        expect_eq_of(rt, input.is_char_boundary(offset), *want, &offset);
+        let input = Input::new(haystack);
+        for (offset, want) in wants.iter().enumerate() {
+            assert_eq!(rt;
+                input.is_char_boundary(offset),
+                *want,
+                "{haystack:?}, {offset}"
+            );
+        }
     }
 }
 
@@ -182,43 +138,26 @@ const SLOT_ENDS: &[(usize, Option<(usize, usize)>)] = &[
 fn matches_of_slots(rt: HostRuntime) {
     let row = SLOTS.map(|offset| NonMaxUsize::new(offset));
     for &(number, want) in SLOT_ENDS {
-        expect_slots(&rt, number, &row, want);
+        let found = Match::from_slots(pattern(&rt, number), &row);
+        assert_eq!(rt;
+            found.map(|found| (found.start(), found.end())),
+            want,
+            "{number}"
+        );
     }
-    expect_slots(&rt, 0, &row[..1], None);
-}
-
-fn ends(found: Option<Match>) -> Option<(usize, usize)> {
-    let found = found?;
-    Some((found.start(), found.end()))
-}
-
-fn expect_slots(
-    rt: &impl Abort,
-    number: usize,
-    slots: &[Option<NonMaxUsize>],
-    want: Option<(usize, usize)>,
-) {
-    let found = Match::from_slots(pattern(rt, number), slots);
-    expect_eq_of(rt, ends(found), want, &number);
+    assert_eq!(rt; Match::from_slots(pattern(&rt, 0), &row[..1]), None);
 }
 
 #[test]
 fn matches_have_their_parts(rt: HostRuntime) {
     let found = Match::new(pattern(&rt, 5), span(2, 4));
-    expect_eq(&rt, found.pattern(), pattern(&rt, 5));
-    expect_eq(
-        &rt,
-        (found.start(), found.end(), found.is_empty()),
-        (2, 4, false),
-    );
-    expect_eq(&rt, (found.range(), found.len()), (2..4, 2));
-    expect(
-        &rt,
-        Match::new(pattern(&rt, 5), span(2, 2)).is_empty(),
-        "empty",
-    );
+    assert_eq!(rt; found.pattern(), pattern(&rt, 5));
+    assert_eq!(rt; (found.start(), found.end()), (2, 4));
+    assert!(rt; !found.is_empty());
+    assert_eq!(rt; (found.range(), found.len()), (2..4, 2));
+    assert!(rt; Match::new(pattern(&rt, 5), span(2, 2)).is_empty());
     let half = HalfMatch::new(pattern(&rt, 5), 4);
-    expect_eq(&rt, (half.pattern(), half.offset()), (pattern(&rt, 5), 4));
+    assert_eq!(rt; (half.pattern(), half.offset()), (pattern(&rt, 5), 4));
 }
 
 // A pattern, and the result of its insertion.
@@ -229,86 +168,58 @@ const INSERTED: &[(usize, Option<bool>)] = &[
     (3, None),
 ];
 
-#[test]
-fn sets(rt: HostRuntime) {
-    let alloc = rt.alloc();
-    let mut set = PatternSet::new(alloc, 3).expect(&rt, "memory");
-    expect_insertions(&rt, &mut set);
-    expect_members(&rt, alloc, &set, &[0, 2]);
-    expect_last_insertion(&rt, &mut set);
-    expect_members(&rt, alloc, &set, &[0, 1, 2]);
-    expect_removals(&rt, &mut set);
-    expect_members(&rt, alloc, &set, &[0, 2]);
-    set.clear();
-    expect_members(&rt, alloc, &set, &[]);
-}
-
 // A pattern, and whether it was in the set.
 const REMOVED: &[(usize, bool)] = &[(1, true), (1, false), (2147483646, false)];
 
-fn expect_removals(rt: &impl Abort, set: &mut PatternSet) {
-    for &(number, want) in REMOVED {
-        expect_eq_of(rt, set.remove(pattern(rt, number)), want, &number);
-    }
-    expect_eq(rt, (set.len(), set.capacity()), (2, 3));
-}
-
 #[test]
-fn a_set_takes_patterns_below_its_capacity(rt: HostRuntime) {
-    let mut set = PatternSet::new(rt.alloc(), 1).expect(&rt, "memory");
-    expect_insertion(&rt, &mut set);
-}
-
-fn expect_insertion(rt: &impl Abort, set: &mut PatternSet) {
-    assert!(rt; set.capacity() == 1);
-    expect_eq(
-        rt,
-        (set.insert(pattern(rt, 0)), set.insert(pattern(rt, 0))),
-        (true, false),
-    );
-}
-
-#[test]
-fn a_set_of_no_patterns_is_full(rt: HostRuntime) {
-    let set = PatternSet::new(rt.alloc(), 0).expect(&rt, "memory");
-    expect(&rt, set.is_full(), "full");
-}
-
-fn expect_last_insertion(rt: &impl Abort, set: &mut PatternSet) {
-    expect_eq(rt, set.try_insert(pattern(rt, 1)), Some(true));
-    expect(rt, set.is_full() && !set.is_empty(), "full");
-}
-
-fn expect_insertions(rt: &impl Abort, set: &mut PatternSet) {
-    expect(rt, set.is_empty() && !set.is_full(), "empty");
+fn sets(rt: HostRuntime) -> Result<(), Fail> {
+    let mut set = PatternSet::new(rt.alloc(), 3)?;
+    assert!(rt; set.is_empty() && !set.is_full());
     for &(number, want) in INSERTED {
-        expect_eq_of(rt, set.try_insert(pattern(rt, number)), want, &number);
+        assert_eq!(rt; set.try_insert(pattern(&rt, number)), want, "{number}");
     }
-    expect_eq(rt, (set.len(), set.capacity()), (2, 3));
-    expect(
-        rt,
-        set.contains(pattern(rt, 2)) && !set.contains(pattern(rt, 1)),
-        "members",
-    );
-    expect(rt, !set.contains(pattern(rt, 3)), "no member");
+    assert_eq!(rt; (set.len(), set.capacity()), (2, 3));
+    assert!(rt; set.contains(pattern(&rt, 2)) && !set.contains(pattern(&rt, 1)));
+    assert!(rt; !set.contains(pattern(&rt, 3)));
+    expect_members(&rt, &set, &[0, 2]);
+
+    assert_eq!(rt; set.try_insert(pattern(&rt, 1)), Some(true));
+    assert!(rt; set.is_full() && !set.is_empty());
+    expect_members(&rt, &set, &[0, 1, 2]);
+
+    for &(number, want) in REMOVED {
+        assert_eq!(rt; set.remove(pattern(&rt, number)), want, "{number}");
+    }
+    assert_eq!(rt; (set.len(), set.capacity()), (2, 3));
+    expect_members(&rt, &set, &[0, 2]);
+    set.clear();
+    expect_members(&rt, &set, &[]);
+    Ok(())
 }
 
-fn expect_members(rt: &impl Abort, alloc: Global, set: &PatternSet, want: &[usize]) {
-    expect_patterns(rt, &patterns(alloc, set).expect(rt, "memory"), want);
-}
-
-fn expect_patterns(rt: &impl Abort, found: &[PatternID], want: &[usize]) {
-    expect_number(rt, found.len(), want.len());
+// The set has these patterns, by `collect`.
+fn expect_members(rt: &(impl Abort + AllocGlobal), set: &PatternSet, want: &[usize]) {
+    let found: Vec<PatternID> = set.iter().collect(rt.alloc()).expect(rt, "memory");
+    assert_eq!(rt; found.len(), want.len());
     for (found, want) in found.iter().zip(want) {
-        expect_number(rt, found.as_usize(), *want);
+        assert_eq!(rt; found.as_usize(), *want);
     }
 }
 
 #[test]
-fn groups(rt: HostRuntime) {
-    let made = two_patterns(&rt, rt.alloc());
-    expect_two_patterns(&rt, &made);
-    expect_two_patterns(&rt, &made.clone().expect(&rt, "memory"));
+fn a_set_takes_patterns_below_its_capacity(rt: HostRuntime) -> Result<(), Fail> {
+    let mut set = PatternSet::new(rt.alloc(), 1)?;
+    assert_eq!(rt; set.capacity(), 1);
+    assert!(rt; set.insert(pattern(&rt, 0)));
+    assert!(rt; !set.insert(pattern(&rt, 0)));
+    Ok(())
+}
+
+#[test]
+fn a_set_of_no_patterns_is_full(rt: HostRuntime) -> Result<(), Fail> {
+    let set = PatternSet::new(rt.alloc(), 0)?;
+    assert!(rt; set.is_full());
+    Ok(())
 }
 
 // A pattern, a group, and the slot of its start.
@@ -333,109 +244,81 @@ const NAMED: &[(usize, &str, Option<usize>)] = &[
     (2, "a", None),
 ];
 
+#[test]
+fn groups(rt: HostRuntime) -> Result<(), Fail> {
+    let made = two_patterns(&rt);
+    expect_two_patterns(&rt, &made);
+    expect_two_patterns(&rt, &made.clone()?);
+    Ok(())
+}
+
 fn expect_two_patterns(rt: &impl Abort, groups: &GroupInfo) {
-    expect_eq(rt, groups.pattern_len(), 2);
-    expect_eq(rt, groups.implicit_slot_len(), 4);
-    expect_eq(rt, groups.slot_len(), 12);
+    assert_eq!(rt; groups.pattern_len(), 2);
+    assert_eq!(rt; groups.implicit_slot_len(), 4);
+    assert_eq!(rt; groups.slot_len(), 12);
     for &(number, group, want) in GROUP_SLOTS {
         let slot = groups.slot(pattern(rt, number), group);
-        expect_eq_of(rt, slot, want, &(number, group));
+        assert_eq!(rt; slot, want, "{number}, {group}");
     }
     for (number, want) in [3, 3, 0].iter().enumerate() {
-        expect_eq(rt, groups.group_len(pattern(rt, number)), *want);
+        assert_eq!(rt; groups.group_len(pattern(rt, number)), *want, "{number}");
     }
     for &(number, name, want) in NAMED {
         let group = groups.to_index(pattern(rt, number), name);
-        expect_eq_of(rt, group, want, &(number, name));
+        assert_eq!(rt; group, want, "{number}, {name}");
     }
 }
 
 #[test]
 fn captures_have_their_slots(rt: HostRuntime) -> Result<(), Fail> {
-    let groups = two_patterns(&rt, rt.alloc());
-    expect_slot_lens(&rt, rt.alloc(), &groups)
-}
-
-fn expect_slot_lens(rt: &impl Abort, alloc: Global, groups: &GroupInfo) -> Result<(), Fail> {
-    expect_eq(
-        rt,
-        Captures::matches(alloc, groups.clone()?)?.slots().len(),
-        4,
-    );
-    expect_eq(
-        rt,
-        Captures::empty(alloc, groups.clone()?)?.slots().len(),
-        0,
-    );
-    expect_blank(rt, &Captures::all(alloc, groups.clone()?)?);
+    let alloc = rt.alloc();
+    let groups = two_patterns(&rt);
+    assert_eq!(rt; Captures::matches(alloc, groups.clone()?)?.slots().len(), 4);
+    assert_eq!(rt; Captures::empty(alloc, groups.clone()?)?.slots().len(), 0);
+    let captures = Captures::all(alloc, groups)?;
+    assert_eq!(rt; captures.slots().len(), 12);
+    assert_eq!(rt; captures.group_info().slot_len(), 12);
+    assert!(rt; !captures.is_match());
+    assert_eq!(rt; captures.pattern(), None);
+    assert_eq!(rt; captures.get_match(), None);
+    assert_eq!(rt; captures.get_group(0), None);
     Ok(())
 }
 
-fn expect_blank(rt: &impl Abort, captures: &Captures) {
-    expect_eq(rt, captures.slots().len(), 12);
-    expect_eq(rt, captures.group_info().slot_len(), 12);
-    expect(rt, !captures.is_match(), "no match");
-    expect_eq(rt, captures.pattern(), None);
-    expect_eq(
-        rt,
-        (captures.get_match(), captures.get_group(0)),
-        (None, None),
-    );
-}
-
 #[test]
-fn captures_tell_what_was_written(rt: HostRuntime) {
-    let mut captures = written(&rt, rt.alloc());
-    expect_match(&rt, &mut copy(&rt, &captures));
-    expect_match(&rt, &mut captures);
-}
-
-fn written(rt: &impl Abort, alloc: Global) -> Captures {
-    let groups = two_patterns(rt, alloc);
-    let mut captures = Captures::all(alloc, groups).expect(rt, "memory");
-    write_match(rt, &mut captures);
-    captures
-}
-
-fn copy(rt: &impl Abort, captures: &Captures) -> Captures {
-    captures.clone().expect(rt, "memory")
+fn captures_tell_what_was_written(rt: HostRuntime) -> Result<(), Fail> {
+    let captures = written(&rt);
+    expect_match(&rt, captures.clone()?);
+    expect_match(&rt, captures);
+    Ok(())
 }
 
 const WRITTEN: &[(usize, usize)] = &[(0, 1), (1, 8), (6, 2), (7, 4)];
 
-// Writes a match of the first pattern from 1 to 8, with its second group from 2 to 4.
-fn write_match(rt: &impl Abort, captures: &mut Captures) {
+// Captures with a match of the first pattern from 1 to 8, and its second group from 2 to 4.
+fn written(rt: &(impl Abort + AllocGlobal)) -> Captures {
+    let mut captures = Captures::all(rt.alloc(), two_patterns(rt)).expect(rt, "memory");
     captures.set_pattern(Some(pattern(rt, 0)));
+    let slots = captures.slots_mut();
     for &(slot, offset) in WRITTEN {
-        let slots = captures.slots_mut();
-        assert!(rt; slot < slots.len());
         slots[slot] = NonMaxUsize::new(offset);
     }
+    captures
 }
 
 // The captures have that match, and no second group once its start is after its end.
-fn expect_match(rt: &impl Abort, captures: &mut Captures) {
-    expect_groups(rt, captures);
-    assert!(rt; captures.slots().len() == 12);
-    set_seven(captures, 6);
-    expect_eq(rt, captures.get_group(2), None);
-}
-
-fn expect_groups(rt: &impl Abort, captures: &Captures) {
-    expect(rt, captures.is_match(), "a match");
-    expect_eq(rt, captures.pattern(), Some(pattern(rt, 0)));
-    expect_eq(
-        rt,
-        captures.get_match(),
-        Some(Match::new(pattern(rt, 0), span(1, 8))),
-    );
-    expect_eq(rt, captures.get_group(0), Some(span(1, 8)));
-    expect_eq(
-        rt,
-        (captures.get_group(1), captures.get_group(3)),
-        (None, None),
-    );
-    expect_eq(rt, captures.get_group(2), Some(span(2, 4)));
-    expect_eq(rt, captures.get_group_by_name("numbers"), Some(span(2, 4)));
-    expect_eq(rt, captures.get_group_by_name("a"), None);
+fn expect_match(rt: &impl Abort, mut captures: Captures) {
+    assert!(rt; captures.is_match());
+    assert_eq!(rt; captures.pattern(), Some(pattern(rt, 0)));
+    let found = Match::new(pattern(rt, 0), span(1, 8));
+    assert_eq!(rt; captures.get_match(), Some(found));
+    assert_eq!(rt; captures.get_group(0), Some(span(1, 8)));
+    assert_eq!(rt; captures.get_group(1), None);
+    assert_eq!(rt; captures.get_group(2), Some(span(2, 4)));
+    assert_eq!(rt; captures.get_group(3), None);
+    assert_eq!(rt; captures.get_group_by_name("numbers"), Some(span(2, 4)));
+    assert_eq!(rt; captures.get_group_by_name("a"), None);
+    assert_eq!(rt; captures.slots().len(), 12);
+    captures.slots_mut()[6] = NonMaxUsize::new(7);
+    assert_eq!(rt; captures.get_group(2), None);
 }

@@ -7,6 +7,7 @@ mod refused;
 mod table;
 mod texts;
 
+use regex_search_core::Captures;
 use std::process::Abort;
 
 // The slots of `date` in `2010-03-14`.
@@ -21,6 +22,21 @@ const DATE_SLOTS: &[Option<usize>] = &[
     Some(10),
 ];
 
-fn expect_len(rt: &impl Abort, len: usize, want: usize, name: &str) {
-    assert!(rt; len == want, "{name}: {len}, not {want}");
+// Expects this pattern and these slots. The name is that of the row.
+fn expect_captures(
+    rt: &(impl Abort + AllocGlobal),
+    captures: &Captures,
+    pattern: Option<usize>,
+    slots: &[Option<usize>],
+    name: &str,
+) {
+    let found = captures.pattern().map(|pattern| pattern.as_usize());
+    assert_eq!(rt; found, pattern, "{name}");
+    let found: Vec<Option<usize>> = captures
+        .slots()
+        .iter()
+        .map(|slot| slot.map(|offset| offset.get()))
+        .collect(rt.alloc())
+        .expect(rt, "memory");
+    assert_eq!(rt; found.as_slice(), slots, "{name}");
 }

@@ -1,10 +1,8 @@
 //! Tests of skipping matches that split a codepoint.
 
-use crate::tests::shown::{expect_eq, expect_eq_of};
 use nfa_search_base::empty::{skip_splits_fwd, skip_splits_rev};
 use nfa_search_base::error::SearchError;
 use regex_search_core::{Anchored, Input, MatchError, Span};
-use std::process::Abort;
 
 const SNOWMAN: &[u8] = b"\xE2\x98\x83";
 
@@ -23,12 +21,7 @@ fn nearest(
         return Ok(None);
     }
     let at = place.max(input.start()).min(input.end());
-    Ok(Some((at.wrapping_add(40), at)))
-}
-
-// Appends a digit to those that were seen.
-fn noted(seen: usize, digit: usize) -> usize {
-    seen.wrapping_mul(10).wrapping_add(digit)
+    Ok(Some((at + 40, at)))
 }
 
 fn anchoring(is_anchored: bool) -> Anchored {
@@ -53,23 +46,17 @@ const FORWARD: &[Forward] = &[
     (false, 1, 1, None, 11),
 ];
 
-fn expect_forward(rt: &impl Abort, row: &Forward) {
-    let (is_anchored, offset, fails, want, starts) = *row;
-    assert!(rt; offset <= SNOWMAN.len());
-    let input = Input::new(SNOWMAN).anchored(anchoring(is_anchored));
-    let mut seen = 1usize;
-    let found = skip_splits_fwd(&input, 41, offset, |input: &Input<'_>| {
-        seen = noted(seen, input.start());
-        nearest(input, 0, input.start() == fails)
-    });
-    expect_eq_of(rt, found, want.ok_or(ERROR), &starts);
-    expect_eq(rt, seen, starts);
-}
-
 #[test]
 fn forward(rt: HostRuntime) {
-    for row in FORWARD {
-        expect_forward(&rt, row);
+    for &(is_anchored, offset, fails, want, starts) in FORWARD {
+        let input = Input::new(SNOWMAN).anchored(anchoring(is_anchored));
+        let mut seen = 1usize;
+        let found = skip_splits_fwd(&input, 41, offset, |input: &Input<'_>| {
+            seen = seen * 10 + input.start();
+            nearest(input, 0, input.start() == fails)
+        });
+        assert_eq!(rt; found, want.ok_or(ERROR), "{starts}");
+        assert_eq!(rt; seen, starts);
     }
 }
 
@@ -97,24 +84,18 @@ const BACKWARD: &[Backward] = &[
     (b"\x80", false, 0, 0, 9, 9, Some(None), 1),
 ];
 
-fn expect_backward(rt: &impl Abort, row: &Backward) {
-    let (haystack, is_anchored, end, offset, place, fails, want, ends) = *row;
-    assert!(rt; offset <= end && end <= haystack.len());
-    let input = Input::new(haystack)
-        .span(Span { start: 0, end })
-        .anchored(anchoring(is_anchored));
-    let mut seen = 1usize;
-    let found = skip_splits_rev(&input, 42, offset, |input: &Input<'_>| {
-        seen = noted(seen, input.end());
-        nearest(input, place, input.end() == fails)
-    });
-    expect_eq_of(rt, found, want.ok_or(ERROR), &ends);
-    expect_eq(rt, seen, ends);
-}
-
 #[test]
 fn backward(rt: HostRuntime) {
-    for row in BACKWARD {
-        expect_backward(&rt, row);
+    for &(haystack, is_anchored, end, offset, place, fails, want, ends) in BACKWARD {
+        let input = Input::new(haystack)
+            .span(Span { start: 0, end })
+            .anchored(anchoring(is_anchored));
+        let mut seen = 1usize;
+        let found = skip_splits_rev(&input, 42, offset, |input: &Input<'_>| {
+            seen = seen * 10 + input.end();
+            nearest(input, place, input.end() == fails)
+        });
+        assert_eq!(rt; found, want.ok_or(ERROR), "{ends}");
+        assert_eq!(rt; seen, ends);
     }
 }

@@ -1,15 +1,14 @@
 //! The `Debug` texts of iterators.
 
-use super::engines::never;
-use crate::tests::{expect_shown, expect_text};
+use crate::tests::expect_shown;
 use list_callers::pieces::next_piece;
-use nfa_engines::backtrack::{BoundedBacktracker, Cache};
+use nfa_engines::backtrack::BoundedBacktracker;
 use nfa_engines::error::SearchError;
 use nfa_engines::iter::Searcher;
-use regex_search_core::{HalfMatch, Input, Match, PatternID};
-use std::alloc::{AllocError, Global};
+use regex_search_core::{HalfMatch, Input, Match};
 use std::fmt::Debug;
 use std::process::Abort;
+use std::test::Fail;
 
 const FRESH: &str =
     "Searcher { input: Input { haystack: [97, 98], span: Span { start: 0, end: 2 }, anchored: No, \
@@ -28,34 +27,13 @@ const MATCHES: &str = "TryFindMatches { cache: Cache { scratch: Scratch { stack:
     first: FirstBytes { .. }, nfa: NFA { states: [Fail], anchored: StateID(0), unanchored: StateID(0), patterns: [], \
     groups: GroupInfo { names: [], slot_len: 0 }, has_empty: false, utf8: false } }, known: None }, done: false } }";
 
-fn matches_text(
-    alloc: Global,
-    engine: &BoundedBacktracker,
-    cache: &mut Cache,
-) -> Result<String, AllocError> {
-    let matches = engine.try_find_iter(cache, Input::new(b"ab"));
-    format!(in alloc; "{matches:?}")
-}
-
 #[test]
-fn an_iterator_over_an_engine_is_shown(rt: HostRuntime) {
-    let alloc = rt.alloc();
-    let engine = never(&rt, alloc);
-    let mut cache = engine.create_cache(alloc);
-    let text = matches_text(alloc, &engine, &mut cache);
-    expect_text(&rt, &"matches", text, MATCHES);
-}
-
-// The end of the next byte, or of the span if no byte is left.
-fn next_end(input: &Input<'_>) -> Option<HalfMatch> {
-    if input.is_done() {
-        return None;
-    }
-    let end = (input.start() + 1).min(input.end());
-    match PatternID::new(0) {
-        Some(pattern) => Some(HalfMatch::new(pattern, end)),
-        None => None,
-    }
+fn an_iterator_over_an_engine_is_shown(rt: HostRuntime) -> Result<(), Fail> {
+    let engine = BoundedBacktracker::never_match(rt.alloc())?;
+    let mut cache = engine.create_cache(rt.alloc());
+    let matches = engine.try_find_iter(&mut cache, Input::new(b"ab"));
+    expect_shown(&rt, &matches, MATCHES);
+    Ok(())
 }
 
 // The next byte, or the empty rest of the span.
@@ -63,9 +41,10 @@ fn byte(input: &Input<'_>) -> Result<Option<Match>, SearchError> {
     Ok(next_piece(input, 1))
 }
 
-// The same, as a half match.
+// Its end.
 fn byte_end(input: &Input<'_>) -> Result<Option<HalfMatch>, SearchError> {
-    Ok(next_end(input))
+    let found = next_piece(input, 1);
+    Ok(found.map(|found| HalfMatch::new(found.pattern(), found.end())))
 }
 
 // The state of the searcher, and whether the iterator is done: at first, and after three steps.
@@ -75,62 +54,64 @@ const LAST: (&str, bool) = (AFTER_THE_LAST, true);
 
 // An iterator that may err shows its searcher, and whether it is done.
 fn expect_tries(
-    rt: &impl Abort,
-    alloc: Global,
+    rt: &(impl Abort + AllocGlobal),
     tries: &impl Debug,
     name: &str,
     (searcher, done): (&str, bool),
-) {
-    let want = format!(in alloc; "{name} {{ searcher: {searcher}, done: {done}, .. }}");
-    expect_shown(rt, alloc, tries, &want.expect(rt, "memory for a text"));
+) -> Result<(), Fail> {
+    let want = format!(in rt.alloc(); "{name} {{ searcher: {searcher}, done: {done}, .. }}")?;
+    expect_shown(rt, tries, want.as_str());
+    Ok(())
 }
 
-// An infallible iterator shows the one that it wraps.
+// An infallible iterator shows the one that it wraps, before its first step.
 fn expect_sure(
-    rt: &impl Abort,
-    alloc: Global,
+    rt: &(impl Abort + AllocGlobal),
     sure: &impl Debug,
-    (name, tries): (&str, &str),
-    (searcher, done): (&str, bool),
-) {
-    let want = format!(in alloc;
+    name: &str,
+    tries: &str,
+) -> Result<(), Fail> {
+    let (searcher, done) = FIRST;
+    let want = format!(in rt.alloc();
         "{name} {{ tries: {tries} {{ searcher: {searcher}, done: {done}, .. }} }}"
-    );
-    expect_shown(rt, alloc, sure, &want.expect(rt, "memory for a text"));
+    )?;
+    expect_shown(rt, sure, want.as_str());
+    Ok(())
 }
 
 #[test]
-fn iterators_over_a_finder_are_shown(rt: HostRuntime) {
-    let alloc = rt.alloc();
+fn iterators_over_a_finder_are_shown(rt: HostRuntime) -> Result<(), Fail> {
     let mut tries = Searcher::new(Input::new(b"ab")).into_matches_iter(byte);
-    expect_tries(&rt, alloc, &tries, "TryMatchesIter", FIRST);
+    expect_tries(&rt, &tries, "TryMatchesIter", FIRST)?;
     for _ in 0..3 {
         tries.next();
     }
-    expect_tries(&rt, alloc, &tries, "TryMatchesIter", LAST);
+    expect_tries(&rt, &tries, "TryMatchesIter", LAST)
 }
 
 #[test]
-fn sure_iterators_over_a_finder_are_shown(rt: HostRuntime) {
+fn sure_iterators_over_a_finder_are_shown(rt: HostRuntime) -> Result<(), Fail> {
     let tries = Searcher::new(Input::new(b"ab")).into_matches_iter(byte);
-    let names = ("MatchesIter", "TryMatchesIter");
-    expect_sure(&rt, rt.alloc(), &tries.infallible(), names, FIRST);
+    expect_sure(&rt, &tries.infallible(), "MatchesIter", "TryMatchesIter")
 }
 
 #[test]
-fn iterators_over_a_half_finder_are_shown(rt: HostRuntime) {
-    let alloc = rt.alloc();
+fn iterators_over_a_half_finder_are_shown(rt: HostRuntime) -> Result<(), Fail> {
     let mut tries = Searcher::new(Input::new(b"ab")).into_half_matches_iter(byte_end);
-    expect_tries(&rt, alloc, &tries, "TryHalfMatchesIter", FIRST);
+    expect_tries(&rt, &tries, "TryHalfMatchesIter", FIRST)?;
     for _ in 0..3 {
         tries.next();
     }
-    expect_tries(&rt, alloc, &tries, "TryHalfMatchesIter", LAST);
+    expect_tries(&rt, &tries, "TryHalfMatchesIter", LAST)
 }
 
 #[test]
-fn sure_iterators_over_a_half_finder_are_shown(rt: HostRuntime) {
+fn sure_iterators_over_a_half_finder_are_shown(rt: HostRuntime) -> Result<(), Fail> {
     let tries = Searcher::new(Input::new(b"ab")).into_half_matches_iter(byte_end);
-    let names = ("HalfMatchesIter", "TryHalfMatchesIter");
-    expect_sure(&rt, rt.alloc(), &tries.infallible(), names, FIRST);
+    expect_sure(
+        &rt,
+        &tries.infallible(),
+        "HalfMatchesIter",
+        "TryHalfMatchesIter",
+    )
 }

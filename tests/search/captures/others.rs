@@ -1,16 +1,12 @@
 //! Single searches that fill captures, also those of another NFA: with all slots, with only those of the matches, and
 //! with none.
 
-use super::table::is_row;
-use super::{DATE_SLOTS, expect_len};
-use crate::tests::{engine_named, expect, threads, vm_named};
-use nfa_engines::backtrack::{self, BoundedBacktracker};
-use nfa_engines::pikevm::{Cache, PikeVM};
+use super::{DATE_SLOTS, expect_captures};
+use crate::tests::{engine_named, threads, vm_named};
 use nfa_engines::{Captures, Input};
-use regex_search_core::GroupInfo;
 use sample_engines::nfa_named;
-use std::alloc::Global;
 use std::process::Abort;
+use std::test::Fail;
 
 // Which slots captures have: none, those of each match, or those of each group.
 #[derive(Clone, Copy, Debug)]
@@ -92,9 +88,11 @@ const ROWS: &[Row] = &[
     ),
 ];
 
-fn captures_of(rt: &impl Abort, alloc: Global, row: &Row) -> Captures {
-    let groups = groups_of(rt, alloc, row.1);
-    let captures = match row.2 {
+fn captures_of(rt: &(impl Abort + AllocGlobal), name: &str, kept: Kept) -> Captures {
+    let alloc = rt.alloc();
+    let nfa = nfa_named(alloc, name).expect(rt, name);
+    let groups = nfa.group_info().clone().expect(rt, "memory");
+    let captures = match kept {
         Nothing => Captures::empty(alloc, groups),
         Matches => Captures::matches(alloc, groups),
         Groups => Captures::all(alloc, groups),
@@ -102,89 +100,44 @@ fn captures_of(rt: &impl Abort, alloc: Global, row: &Row) -> Captures {
     captures.expect(rt, "memory")
 }
 
-fn groups_of(rt: &impl Abort, alloc: Global, name: &str) -> GroupInfo {
-    let nfa = nfa_named(alloc, name).expect(rt, name);
-    nfa.group_info().clone().expect(rt, "memory")
-}
-
-fn expect_row(rt: &impl Abort, captures: &Captures, row: &Row) {
-    let (name, _, _, _, pattern, slots) = *row;
-    match pattern {
-        Some(pattern) => expect(rt, is_row(captures, &(pattern, slots)), name),
-        None => expect_no_match(rt, captures, slots.len(), name),
-    }
-}
-
 // Expects no pattern, and `count` slots that are not set.
 fn expect_no_match(rt: &impl Abort, captures: &Captures, count: usize, name: &str) {
-    expect(rt, !captures.is_match(), name);
-    expect_len(rt, captures.slots().len(), count, name);
-    for slot in captures.slots() {
-        expect(rt, slot.is_none(), name);
-    }
+    assert!(rt; !captures.is_match(), "{name}");
+    assert_eq!(rt; captures.slots().len(), count, "{name}");
+    assert!(rt;
+        captures.slots().iter().all(|slot| slot.is_none()),
+        "{name}"
+    );
 }
 
 // Searches with the input by reference and by value, and between them one that finds nothing.
-fn expect_piked(
-    rt: &impl Abort,
-    vm: &PikeVM,
-    cache: &mut Cache,
-    captures: &mut Captures,
-    row: &Row,
-) {
-    vm.search(cache, &Input::new(row.3), captures);
-    expect_row(rt, captures, row);
-    vm.search(cache, &Input::new(b""), captures);
-    expect_no_match(rt, captures, row.5.len(), row.0);
-    vm.captures(cache, Input::new(row.3), captures);
-    expect_row(rt, captures, row);
-}
-
-fn expect_backtracked(
-    rt: &impl Abort,
-    engine: &BoundedBacktracker,
-    cache: &mut backtrack::Cache,
-    captures: &mut Captures,
-    row: &Row,
-) {
-    engine
-        .try_search(cache, &Input::new(row.3), captures)
-        .expect(rt, "an answer");
-    expect_row(rt, captures, row);
-    engine
-        .try_search(cache, &Input::new(b""), captures)
-        .expect(rt, "an answer");
-    expect_no_match(rt, captures, row.5.len(), row.0);
-    engine
-        .try_captures(cache, Input::new(row.3), captures)
-        .expect(rt, "an answer");
-    expect_row(rt, captures, row);
-}
-
-fn expect_pikevm(rt: &impl Abort, alloc: Global, row: &Row) {
-    let vm = vm_named(rt, alloc, row.0);
-    let mut cache = threads(rt, alloc, &vm);
-    let mut captures = captures_of(rt, alloc, row);
-    expect_piked(rt, &vm, &mut cache, &mut captures, row);
-}
-
-fn expect_backtracker(rt: &impl Abort, alloc: Global, row: &Row) {
-    let engine = engine_named(rt, alloc, row.0);
-    let mut cache = engine.create_cache(alloc);
-    let mut captures = captures_of(rt, alloc, row);
-    expect_backtracked(rt, &engine, &mut cache, &mut captures, row);
-}
-
 #[test]
 fn the_pikevm_fills_them(rt: HostRuntime) {
-    for row in ROWS {
-        expect_pikevm(&rt, rt.alloc(), row);
+    for &(name, of, kept, haystack, pattern, slots) in ROWS {
+        let vm = vm_named(&rt, name);
+        let mut cache = threads(&rt, &vm);
+        let mut captures = captures_of(&rt, of, kept);
+        vm.search(&mut cache, &Input::new(haystack), &mut captures);
+        expect_captures(&rt, &captures, pattern, slots, name);
+        vm.search(&mut cache, &Input::new(b""), &mut captures);
+        expect_no_match(&rt, &captures, slots.len(), name);
+        vm.captures(&mut cache, Input::new(haystack), &mut captures);
+        expect_captures(&rt, &captures, pattern, slots, name);
     }
 }
 
 #[test]
-fn the_backtracker_fills_them(rt: HostRuntime) {
-    for row in ROWS {
-        expect_backtracker(&rt, rt.alloc(), row);
+fn the_backtracker_fills_them(rt: HostRuntime) -> Result<(), Fail> {
+    for &(name, of, kept, haystack, pattern, slots) in ROWS {
+        let engine = engine_named(&rt, name);
+        let mut cache = engine.create_cache(rt.alloc());
+        let mut captures = captures_of(&rt, of, kept);
+        engine.try_search(&mut cache, &Input::new(haystack), &mut captures)?;
+        expect_captures(&rt, &captures, pattern, slots, name);
+        engine.try_search(&mut cache, &Input::new(b""), &mut captures)?;
+        expect_no_match(&rt, &captures, slots.len(), name);
+        engine.try_captures(&mut cache, Input::new(haystack), &mut captures)?;
+        expect_captures(&rt, &captures, pattern, slots, name);
     }
+    Ok(())
 }

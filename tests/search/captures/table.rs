@@ -1,13 +1,11 @@
 //! Lists of captures of the sample NFAs, of both engines.
-use super::{DATE_SLOTS, expect_len};
-use crate::tests::{engine_named, expect, threads, vm_named};
+use super::{DATE_SLOTS, expect_captures};
+use crate::tests::{engine_named, threads, vm_named};
 use list_callers::captures::{collected, collected_with, tries_collected, tries_collected_with};
-use nfa_engines::backtrack::BoundedBacktracker;
 use nfa_engines::error::SearchError;
-use nfa_engines::pikevm::PikeVM;
-use nfa_engines::{Captures, Input, NonMaxUsize};
-use std::alloc::Global;
+use nfa_engines::{Captures, Input};
 use std::process::Abort;
+use std::test::Fail;
 
 // A pattern, and its slots.
 type Row = (usize, &'static [Option<usize>]);
@@ -65,47 +63,23 @@ const LISTS: &[(&str, &[u8], &[Row])] = &[
     ("a_or_empty", b"\x80a", &[(0, &[Some(1), Some(2)])]),
 ];
 
-pub(crate) fn is_row(captures: &Captures, row: &Row) -> bool {
-    let (pattern, slots) = *row;
-    match captures.pattern() {
-        Some(found) => found.as_usize() == pattern && have_slots(captures, slots),
-        None => false,
+fn expect_items(
+    rt: &(impl Abort + AllocGlobal),
+    items: &[Result<Captures, SearchError>],
+    rows: &[Row],
+    name: &str,
+) {
+    assert_eq!(rt; items.len(), rows.len(), "{name}");
+    for (item, &(pattern, slots)) in items.iter().zip(rows) {
+        let captures = item.as_ref().expect(rt, name);
+        expect_captures(rt, captures, Some(pattern), slots, name);
     }
 }
 
-fn have_slots(captures: &Captures, slots: &[Option<usize>]) -> bool {
-    let mut same = captures.slots().len() == slots.len();
-    for (offset, wanted) in captures.slots().iter().zip(slots) {
-        same = same && is_offset(*offset, *wanted);
-    }
-    same
-}
-
-fn is_offset(offset: Option<NonMaxUsize>, wanted: Option<usize>) -> bool {
-    match offset {
-        Some(offset) => wanted == Some(offset.get()),
-        None => wanted.is_none(),
-    }
-}
-
-fn is_caught(item: &Result<Captures, SearchError>, row: &Row) -> bool {
-    match item {
-        Ok(captures) => is_row(captures, row),
-        Err(_) => false,
-    }
-}
-
-fn assert_rows(rt: &impl Abort, items: &[Result<Captures, SearchError>], rows: &[Row], name: &str) {
-    expect_len(rt, items.len(), rows.len(), name);
-    for (item, row) in items.iter().zip(rows) {
-        expect(rt, is_caught(item, row), name);
-    }
-}
-
-fn assert_caught(rt: &impl Abort, all: &[Captures], rows: &[Row], name: &str) {
-    expect_len(rt, all.len(), rows.len(), name);
-    for (captures, row) in all.iter().zip(rows) {
-        expect(rt, is_row(captures, row), name);
+fn expect_all(rt: &(impl Abort + AllocGlobal), all: &[Captures], rows: &[Row], name: &str) {
+    assert_eq!(rt; all.len(), rows.len(), "{name}");
+    for (captures, &(pattern, slots)) in all.iter().zip(rows) {
+        expect_captures(rt, captures, Some(pattern), slots, name);
     }
 }
 
@@ -113,99 +87,62 @@ fn assert_caught(rt: &impl Abort, all: &[Captures], rows: &[Row], name: &str) {
 #[test]
 fn pikevm_gives_the_lists(rt: HostRuntime) {
     for &(name, text, rows) in LISTS {
-        expect_piked(&rt, rt.alloc(), name, text, rows);
+        let vm = vm_named(&rt, name);
+        let mut cache = threads(&rt, &vm);
+        let items = collected(&rt, &vm, rt.alloc(), &mut cache, text);
+        expect_items(&rt, &items, rows, name);
+        expect_all(&rt, &all_piked(&rt, name, text), rows, name);
     }
 }
 
-fn expect_piked(rt: &impl Abort, alloc: Global, name: &str, text: &[u8], rows: &[Row]) {
-    let vm = vm_named(rt, alloc, name);
-    assert_rows(rt, &piked(rt, alloc, &vm, text), rows, name);
-    assert_caught(rt, &all_piked(rt, alloc, &vm, text), rows, name);
-}
-
-fn piked(
-    rt: &impl Abort,
-    alloc: Global,
-    vm: &PikeVM,
-    text: &[u8],
-) -> Vec<Result<Captures, SearchError>> {
-    let mut cache = threads(rt, alloc, vm);
-    collected(rt, vm, alloc, &mut cache, text)
-}
-
-pub(super) fn all_piked(rt: &impl Abort, alloc: Global, vm: &PikeVM, text: &[u8]) -> Vec<Captures> {
-    let mut cache = threads(rt, alloc, vm);
-    vm.captures_all(alloc, &mut cache, Input::new(text))
+pub(super) fn all_piked(rt: &(impl Abort + AllocGlobal), name: &str, text: &[u8]) -> Vec<Captures> {
+    let vm = vm_named(rt, name);
+    let mut cache = threads(rt, &vm);
+    vm.captures_all(rt.alloc(), &mut cache, Input::new(text))
         .expect(rt, "memory")
 }
 
 #[test]
 fn backtracker_gives_the_lists(rt: HostRuntime) {
     for &(name, text, rows) in LISTS {
-        expect_backtracked(&rt, rt.alloc(), name, text, rows);
+        let engine = engine_named(&rt, name);
+        let mut cache = engine.create_cache(rt.alloc());
+        let items = tries_collected(&rt, &engine, rt.alloc(), &mut cache, text);
+        expect_items(&rt, &items, rows, name);
+        expect_all(&rt, &all_backtracked(&rt, name, text), rows, name);
     }
 }
 
-fn expect_backtracked(rt: &impl Abort, alloc: Global, name: &str, text: &[u8], rows: &[Row]) {
-    let engine = engine_named(rt, alloc, name);
-    assert_rows(rt, &backtracked(rt, alloc, &engine, text), rows, name);
-    assert_caught(rt, &all_backtracked(rt, alloc, &engine, text), rows, name);
-}
-
-fn backtracked(
-    rt: &impl Abort,
-    alloc: Global,
-    engine: &BoundedBacktracker,
-    text: &[u8],
-) -> Vec<Result<Captures, SearchError>> {
-    let mut cache = engine.create_cache(alloc);
-    tries_collected(rt, engine, alloc, &mut cache, text)
-}
-
 pub(super) fn all_backtracked(
-    rt: &impl Abort,
-    alloc: Global,
-    engine: &BoundedBacktracker,
+    rt: &(impl Abort + AllocGlobal),
+    name: &str,
     text: &[u8],
 ) -> Vec<Captures> {
-    let mut cache = engine.create_cache(alloc);
+    let engine = engine_named(rt, name);
+    let mut cache = engine.create_cache(rt.alloc());
     engine
-        .try_captures_all(alloc, &mut cache, Input::new(text))
+        .try_captures_all(rt.alloc(), &mut cache, Input::new(text))
         .expect(rt, "captures")
 }
 
 #[test]
-fn pikevm_gives_them_with_captures_of_the_caller(rt: HostRuntime) {
+fn pikevm_gives_them_with_captures_of_the_caller(rt: HostRuntime) -> Result<(), Fail> {
     let alloc = rt.alloc();
-    let vm = vm_named(&rt, alloc, "foo_num");
-    assert_rows(&rt, &piked_with(&rt, alloc, &vm, FOOS), FOO_ROWS, "foo_num");
-}
-
-fn piked_with(
-    rt: &impl Abort,
-    alloc: Global,
-    vm: &PikeVM,
-    text: &[u8],
-) -> Vec<Result<Captures, SearchError>> {
-    let mut cache = threads(rt, alloc, vm);
-    let captures = vm.create_captures(alloc).expect(rt, "captures");
-    collected_with(rt, vm, alloc, &mut cache, captures, text)
+    let vm = vm_named(&rt, "foo_num");
+    let mut cache = threads(&rt, &vm);
+    let captures = vm.create_captures(alloc)?;
+    let items = collected_with(&rt, &vm, alloc, &mut cache, captures, FOOS);
+    expect_items(&rt, &items, FOO_ROWS, "foo_num");
+    Ok(())
 }
 
 #[test]
-fn backtracker_gives_them_with_captures_of_the_caller(rt: HostRuntime) {
-    let engine = engine_named(&rt, rt.alloc(), "foo_num");
-    let items = backtracked_with(&rt, rt.alloc(), &engine, FOOS);
-    assert_rows(&rt, &items, FOO_ROWS, "foo_num");
-}
-
-fn backtracked_with(
-    rt: &impl Abort,
-    alloc: Global,
-    engine: &BoundedBacktracker,
-    text: &[u8],
-) -> Vec<Result<Captures, SearchError>> {
+fn backtracker_gives_them_with_captures_of_the_caller(rt: HostRuntime) -> Result<(), Fail> {
+    let alloc = rt.alloc();
+    let engine = engine_named(&rt, "foo_num");
     let mut cache = engine.create_cache(alloc);
-    let captures = engine.create_captures(alloc).expect(rt, "captures");
-    tries_collected_with(rt, engine, alloc, &mut cache, captures, text)
+    let captures = engine.create_captures(alloc)?;
+    let items = tries_collected_with(&rt, &engine, alloc, &mut cache, captures, FOOS);
+    expect_items(&rt, &items, FOO_ROWS, "foo_num");
+    Ok(())
 }

@@ -1,13 +1,13 @@
 //! Sets of overlapping matches.
 
-use super::expect_fits;
-use crate::tests::{expect, expect_text, of_kind, threads};
+use crate::tests::{expect_text, of_kind, threads};
 use nfa_engines::pikevm::{Cache, PikeVM};
 use regex_search_core::MatchKind::{All, LeftmostFirst};
 use regex_search_core::{Input, MatchKind, PatternID, PatternSet};
 use sample_engines::input_in;
 use std::alloc::{AllocError, Global};
 use std::process::Abort;
+use std::test::Fail;
 
 // A name, a kind, a haystack, the capacity of a set, and the patterns that an empty set gains, without and with
 // `earliest`.
@@ -26,16 +26,7 @@ const GAINED: &[(&str, MatchKind, &str, usize, [&str; 2])] = &[
     ("abc", LeftmostFirst, "xyz", 2, ["", ""]),
 ];
 
-// The patterns of a set, each followed by a space.
-fn members(alloc: Global, set: &PatternSet) -> Result<String, AllocError> {
-    let mut text = String::new(alloc);
-    for pattern in set.iter() {
-        write!(text, "{} ", pattern.as_usize())?;
-    }
-    Ok(text)
-}
-
-// The patterns of the set after the search.
+// The patterns of the set after the search, each followed by a space.
 fn searched(
     alloc: Global,
     vm: &PikeVM,
@@ -44,59 +35,52 @@ fn searched(
     set: &mut PatternSet,
 ) -> Result<String, AllocError> {
     vm.which_overlapping_matches(cache, input, set);
-    members(alloc, set)
+    let mut text = String::new(alloc);
+    for pattern in set.iter() {
+        write!(text, "{} ", pattern.as_usize())?;
+    }
+    Ok(text)
 }
 
 // The patterns that an empty set gains in a search of the sample, with a new cache.
 fn gained(
-    rt: &impl Abort,
-    alloc: Global,
+    rt: &(impl Abort + AllocGlobal),
     (name, kind): (&str, MatchKind),
     input: &Input<'_>,
     capacity: usize,
 ) -> Result<String, AllocError> {
-    let vm = of_kind(rt, alloc, name, kind);
-    let mut cache = threads(rt, alloc, &vm);
-    let mut set = PatternSet::new(alloc, capacity).expect(rt, "a set");
-    searched(alloc, &vm, &mut cache, input, &mut set)
+    let vm = of_kind(rt, name, kind);
+    let mut cache = threads(rt, &vm);
+    let mut set = PatternSet::new(rt.alloc(), capacity).expect(rt, "a set");
+    searched(rt.alloc(), &vm, &mut cache, input, &mut set)
 }
 
 #[test]
 fn an_empty_set_gains_what_matches(rt: HostRuntime) {
-    let alloc = rt.alloc();
     for &(name, kind, haystack, capacity, [plainly, early]) in GAINED {
         let input = Input::new(haystack.as_bytes());
-        let text = gained(&rt, alloc, (name, kind), &input, capacity);
+        let text = gained(&rt, (name, kind), &input, capacity);
         expect_text(&rt, &(name, input), text, plainly);
         let input = input.earliest(true);
-        let text = gained(&rt, alloc, (name, kind), &input, capacity);
+        let text = gained(&rt, (name, kind), &input, capacity);
         expect_text(&rt, &(name, input), text, early);
     }
 }
 
-// A set that holds only the second pattern.
-fn second_alone(rt: &impl Abort, alloc: Global) -> PatternSet {
-    let mut set = PatternSet::new(alloc, 2).expect(rt, "a set");
-    let second = PatternID::new(1).expect(rt, "a pattern's number");
-    let added = set.try_insert(second);
-    expect(rt, added == Some(true), "one more");
-    set
-}
-
-// Expects these patterns in a set that held the second one, after a search of this kind.
-fn expect_gained(rt: &impl Abort, alloc: Global, kind: MatchKind, want: &str) {
-    let vm = of_kind(rt, alloc, "ab_abc", kind);
-    let mut cache = threads(rt, alloc, &vm);
-    let mut set = second_alone(rt, alloc);
-    let text = searched(alloc, &vm, &mut cache, &Input::new(b"abc"), &mut set);
-    expect_text(rt, &kind, text, want);
-}
-
+// The set holds only the second pattern at first.
 #[test]
-fn a_set_loses_nothing(rt: HostRuntime) {
+fn a_set_loses_nothing(rt: HostRuntime) -> Result<(), Fail> {
     let alloc = rt.alloc();
-    expect_gained(&rt, alloc, LeftmostFirst, "1 ");
-    expect_gained(&rt, alloc, All, "0 1 ");
+    let second = PatternID::new(1).expect(&rt, "a pattern's number");
+    for (kind, want) in [(LeftmostFirst, "1 "), (All, "0 1 ")] {
+        let vm = of_kind(&rt, "ab_abc", kind);
+        let mut cache = threads(&rt, &vm);
+        let mut set = PatternSet::new(alloc, 2)?;
+        assert_eq!(rt; set.try_insert(second), Some(true));
+        let text = searched(alloc, &vm, &mut cache, &Input::new(b"abc"), &mut set);
+        expect_text(&rt, &kind, text, want);
+    }
+    Ok(())
 }
 
 // A name, a haystack, a span, whether the search is anchored, the capacity of a set, and the patterns that an empty set
@@ -111,26 +95,21 @@ const GAINED_IN_SPAN: &[(&str, &str, usize, usize, bool, usize, &str)] = &[
 
 #[test]
 fn an_empty_set_gains_what_matches_in_a_span(rt: HostRuntime) {
-    let alloc = rt.alloc();
     for &(name, haystack, start, end, anchored, capacity, want) in GAINED_IN_SPAN {
         let input = input_in(haystack.as_bytes(), start, end, anchored).expect(&rt, "a span");
-        let text = gained(&rt, alloc, (name, All), &input, capacity);
+        let text = gained(&rt, (name, All), &input, capacity);
         expect_text(&rt, &(name, input), text, want);
     }
 }
 
-fn expect_two(rt: &impl Abort, alloc: Global, cache: &mut Cache) {
-    let vm = of_kind(rt, alloc, "abc_ab", LeftmostFirst);
-    let mut set = PatternSet::new(alloc, 2).expect(rt, "a set");
-    expect_fits(rt, &vm, cache);
-    let text = searched(alloc, &vm, cache, &Input::new(b"abc"), &mut set);
-    expect_text(rt, &"abc", text, "0 1 ");
-}
-
 #[test]
-fn a_larger_cache_serves_as_well(rt: HostRuntime) {
+fn a_larger_cache_serves_as_well(rt: HostRuntime) -> Result<(), Fail> {
     let alloc = rt.alloc();
-    let larger = of_kind(&rt, alloc, "foo_bar", All);
-    let mut cache = threads(&rt, alloc, &larger);
-    expect_two(&rt, alloc, &mut cache);
+    let mut cache = threads(&rt, &of_kind(&rt, "foo_bar", All));
+    let vm = of_kind(&rt, "abc_ab", LeftmostFirst);
+    assert!(rt; cache.fits(&vm));
+    let mut set = PatternSet::new(alloc, 2)?;
+    let text = searched(alloc, &vm, &mut cache, &Input::new(b"abc"), &mut set);
+    expect_text(&rt, &"abc", text, "0 1 ");
+    Ok(())
 }
