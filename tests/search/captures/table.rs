@@ -89,7 +89,7 @@ fn pikevm_gives_the_lists(rt: HostRuntime) {
     for &(name, text, rows) in LISTS {
         let vm = vm_named(&rt, name);
         let mut cache = threads(&rt, &vm);
-        let items = collected(&rt, &vm, rt.alloc(), &mut cache, text);
+        let items = collected(rt.alloc(), &vm, &mut cache, text).expect(&rt, "memory");
         expect_items(&rt, &items, rows, name);
         expect_all(&rt, &all_piked(&rt, name, text), rows, name);
     }
@@ -107,7 +107,7 @@ fn backtracker_gives_the_lists(rt: HostRuntime) {
     for &(name, text, rows) in LISTS {
         let engine = engine_named(&rt, name);
         let mut cache = engine.create_cache(rt.alloc());
-        let items = tries_collected(&rt, &engine, rt.alloc(), &mut cache, text);
+        let items = tries_collected(rt.alloc(), &engine, &mut cache, text).expect(&rt, "memory");
         expect_items(&rt, &items, rows, name);
         expect_all(&rt, &all_backtracked(&rt, name, text), rows, name);
     }
@@ -131,7 +131,7 @@ fn pikevm_gives_them_with_captures_of_the_caller(rt: HostRuntime) -> Result<(), 
     let vm = vm_named(&rt, "foo_num");
     let mut cache = threads(&rt, &vm);
     let captures = vm.create_captures(alloc)?;
-    let items = collected_with(&rt, &vm, alloc, &mut cache, captures, FOOS);
+    let items = collected_with(alloc, &vm, &mut cache, captures, FOOS).expect(&rt, "memory");
     expect_items(&rt, &items, FOO_ROWS, "foo_num");
     Ok(())
 }
@@ -142,7 +142,9 @@ fn backtracker_gives_them_with_captures_of_the_caller(rt: HostRuntime) -> Result
     let engine = engine_named(&rt, "foo_num");
     let mut cache = engine.create_cache(alloc);
     let captures = engine.create_captures(alloc)?;
-    let items = tries_collected_with(&rt, &engine, alloc, &mut cache, captures, FOOS);
+    let items = tries_collected_with(alloc, &engine, &mut cache, captures, FOOS).expect(
+        &rt, "memory",
+    );
     expect_items(&rt, &items, FOO_ROWS, "foo_num");
     Ok(())
 }
