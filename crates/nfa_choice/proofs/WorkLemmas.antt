@@ -1,4 +1,5 @@
--- What the lists of a choice add to the totals of both its caches.
+-- What lists add to the totals of both caches of a choice, whichever searches it does for them; and what its own lists
+-- add.
 use Rattle.std.proofs.Common.{◌≡◌, ◌∙◌, ◌+◌, ◌*◌, ◌⊎◌, Bool, true, false, List, length, refl, ap, subst, inl, inr}
 use Rattle.std.specs.Prelude.{not}
 use Rattle.std.proofs.lemmas.Bool.{and_parts}
@@ -8,7 +9,7 @@ use Rattle.regex_search_core.specs.declared.search.MatchKind.{MatchKind}
 use Rattle.regex_search_core.specs.declared.search.MatchKind.TheVariants.{All, LeftmostFirst}
 use Rattle.nfa_paths.specs.Paths.{span_len}
 use Rattle.nfa_search_base.specs.WithCaptures.{Row, row_span}
-use Rattle.nfa_search_base.specs.Leaving.{DoesSearch}
+use Rattle.nfa_search_base.specs.Leaving.{DoesSearch, Leaves, LeavesAtEnd}
 use Rattle.nfa_search_base.specs.IterStates.{span_of}
 use Rattle.nfa_search_base.proofs.StepLemmas.{chosen}
 use Rattle.nfa_engines.specs.WorkLaws.{AddsAtMost, Totals, backtracker_totals, list_scan_limit, pike_totals}
@@ -32,17 +33,18 @@ not-asked false is = refl
 not-asked true is = cc
 
 -- the totals of either cache
-abbrev back_in : ChoiceState → Totals
+abbrev pub back_in : ChoiceState → Totals
 back_in c = backtracker_totals c.back
 
-abbrev pike_in : ChoiceState → Totals
+abbrev pub pike_in : ChoiceState → Totals
 pike_in c = pike_totals c.pike
 
-module _ (y : Search) (s t : ChoiceState) (runs : RunsByRule s y y.earliest t) where
-  abbrev Does : (ChoiceState → Totals) → Type 0
-  Does totals = Worked s.nfa (kind_in s) y.earliest y (totals s) (totals t) ⊎ (totals t ≡ totals s)
+-- a search is work of one search, or none, by these totals
+abbrev pub Does : (ChoiceState → Totals) → Search → ChoiceState → ChoiceState → Type 0
+Does totals y s t = Worked s.nfa (kind_in s) y.earliest y (totals s) (totals t) ⊎ (totals t ≡ totals s)
 
-  back-runs : Does back_in
+module _ (y : Search) (s t : ChoiceState) (runs : RunsByRule s y y.earliest t) where
+  pub back-runs : Does back_in y s t
   back-runs = elim (chosen (is_for_backtracker s y) runs) [
     | inl p ↦
         let parts = and_parts _ _ p.0 in
@@ -61,7 +63,7 @@ module _ (y : Search) (s t : ChoiceState) (runs : RunsByRule s y y.earliest t) w
       of (inr h) = worked-within s.nfa LeftmostFirst false y (back_in s) (back_in t) t.back.scans t.back.turns
           h.tried_within h.tried_bounded.scans h.tried_bounded.turns h.tried.scans h.tried.turns
 
-  pike-runs : Does pike_in
+  pub pike-runs : Does pike_in y s t
   pike-runs = elim (chosen (is_for_backtracker s y) runs) [
     | inl p ↦ of p.1
     | inr p ↦
@@ -70,7 +72,7 @@ module _ (y : Search) (s t : ChoiceState) (runs : RunsByRule s y y.earliest t) w
         p.1.bounded.scans p.1.bounded.turns p.1.work.scans p.1.work.turns)
   ]
     where
-      of : BacktrackerRan y y.earliest s t ⊎ FellBackToPike y y.earliest s t → Does pike_in
+      of : BacktrackerRan y y.earliest s t ⊎ FellBackToPike y y.earliest s t → Does pike_in y s t
       of (inl h) = inr (ap pike_totals h.pike)
       of (inr h) =
           inl
@@ -85,10 +87,12 @@ from-first c s t y old new is (inr same) = inr same
 from-first c s t y old new is (inl w) =
     inl (subst (λ (vm : Pike). Worked vm.nfa (kind_of vm) y.earliest y old new) is w)
 
--- Each search answers a match or a row, and runs by the rule, which is work for one or both of the caches.
-module _ (totals : ChoiceState → Totals)
-    (runs : (y : Search) (s t : ChoiceState) → RunsByRule s y y.earliest t
-    → Worked s.nfa (kind_in s) y.earliest y (totals s) (totals t) ⊎ (totals t ≡ totals s))
+-- each search keeps the engines, and is such work
+abbrev pub DoesBy : (ChoiceState → Totals) → (Search → ChoiceState → ChoiceState → Type 0) → Type 0
+DoesBy totals By = (y : Search) (s t : ChoiceState) → By y s t → Does totals y s t × KeepsEngines s t
+
+-- Each search answers a match or a row, and does work by these totals.
+module _ (totals : ChoiceState → Totals) (By : Search → ChoiceState → ChoiceState → Type 0) (does : DoesBy totals By)
     (x : Search) (c d : ChoiceState) where
   -- it answers as c does
   abbrev IsOf : ChoiceState → Type 0
@@ -97,11 +101,11 @@ module _ (totals : ChoiceState → Totals)
   abbrev WorksOf : ChoiceState → Search → ChoiceState → Type 0
   WorksOf s y t = (Worked c.nfa (kind_in c) y.earliest y (totals s) (totals t) ⊎ (totals t ≡ totals s)) × IsOf t
 
-  works : (y : Search) (s t : ChoiceState) → IsOf s → RunsByRule s y y.earliest t → KeepsEngines s t → WorksOf s y t
-  works y s t is rule keeps =
-      (from-first c s t y (totals s) (totals t) is (runs y s t rule), pike-kept s t keeps ∙ is)
+  works : (y : Search) (s t : ChoiceState) → IsOf s → Does totals y s t × KeepsEngines s t → WorksOf s y t
+  works y s t is done =
+      (from-first c s t y (totals s) (totals t) is done.0, pike-kept s t done.1 ∙ is)
 
-  abbrev finds_work : WorkOf span_of (DoesSearch (ChoiceTells c) (λ y a. FindsByRule y))
+  abbrev finds_work : WorkOf span_of (DoesSearch (ChoiceTells c) (λ y a. By y))
   finds_work = record {
     nfa = c.nfa;
     kind = kind_in c;
@@ -109,10 +113,10 @@ module _ (totals : ChoiceState → Totals)
     totals = totals;
     Good = IsOf;
     hits = λ s y a t asked. match-hit c.nfa (kind_in c) y.earliest y a asked.tells;
-    works = λ s y a t is asked. works y s t is asked.work.runs asked.work.keeps;
+    works = λ s y a t is asked. works y s t is (does y s t asked.work);
   }
 
-  abbrev catches_work : WorkOf row_span (DoesSearch (ChoiceTellsRow c) (λ y a. CatchesByRule y))
+  abbrev catches_work : WorkOf row_span (DoesSearch (ChoiceTellsRow c) (λ y a. By y))
   catches_work = record {
     nfa = c.nfa;
     kind = kind_in c;
@@ -120,47 +124,66 @@ module _ (totals : ChoiceState → Totals)
     totals = totals;
     Good = IsOf;
     hits = λ s y a t asked. row-hit c.nfa (kind_in c) y.earliest y a asked.tells;
-    works = λ s y a t is asked. works y s t is asked.work.runs asked.work.keeps;
+    works = λ s y a t is asked. works y s t is (does y s t asked.work);
   }
 
-  matches-add : (ms : List Found) → ChoiceFindsToEnd x ms c d
-      → AddsAtMost (list_scan_limit c.nfa x (length ms)) c.nfa x (totals c) (totals d)
-  matches-add ms h = list-adds finds_work x ms c d refl h
+-- So it does by those of both caches.
+module _ (By : Search → ChoiceState → ChoiceState → Type 0) (back : DoesBy back_in By) (pike : DoesBy pike_in By)
+    (x : Search) where
+  pub matches-within : (ms : List Found) (c d : ChoiceState)
+      → LeavesAtEnd span_of (DoesSearch (ChoiceTells c) (λ y a. By y)) x ms c d
+      → ChoiceAddsAtMost (list_scan_limit c.nfa x (length ms)) x c d
+  matches-within ms c d h = record {
+    back = list-adds (finds_work back_in By back x c d) x ms c d refl h;
+    pike = list-adds (finds_work pike_in By pike x c d) x ms c d refl h;
+  }
 
-  finds-add : ChoiceFindsOn x c d → AddsAtMost (2 * span_len x + 3) c.nfa x (totals c) (totals d)
-  finds-add h = calls-add finds_work x c d refl h
+  pub rows-within : (rows : List Row) (c d : ChoiceState)
+      → LeavesAtEnd row_span (DoesSearch (ChoiceTellsRow c) (λ y a. By y)) x rows c d
+      → ChoiceAddsAtMost (list_scan_limit c.nfa x (length rows)) x c d
+  rows-within rows c d h = record {
+    back = list-adds (catches_work back_in By back x c d) x rows c d refl h;
+    pike = list-adds (catches_work pike_in By pike x c d) x rows c d refl h;
+  }
 
-  rows-add : (rows : List Row) → ChoiceCatchesToEnd x rows c d
-      → AddsAtMost (list_scan_limit c.nfa x (length rows)) c.nfa x (totals c) (totals d)
-  rows-add rows h = list-adds catches_work x rows c d refl h
+  pub finds-within : (c d : ChoiceState) → Leaves span_of (DoesSearch (ChoiceTells c) (λ y a. By y)) x c d
+      → ChoiceAddsAtMost (2 * span_len x + 3) x c d
+  finds-within c d h = record {
+    back = calls-add (finds_work back_in By back x c d) x c d refl h;
+    pike = calls-add (finds_work pike_in By pike x c d) x c d refl h;
+  }
 
-  catches-add : ChoiceCatchesOn x c d → AddsAtMost (2 * span_len x + 3) c.nfa x (totals c) (totals d)
-  catches-add h = calls-add catches_work x c d refl h
+  pub catches-within : (c d : ChoiceState) → Leaves row_span (DoesSearch (ChoiceTellsRow c) (λ y a. By y)) x c d
+      → ChoiceAddsAtMost (2 * span_len x + 3) x c d
+  catches-within c d h = record {
+    back = calls-add (catches_work back_in By back x c d) x c d refl h;
+    pike = calls-add (catches_work pike_in By pike x c d) x c d refl h;
+  }
 
--- So it is of both caches.
+-- the searches of a choice by its rule
+finds-back : DoesBy back_in FindsByRule
+finds-back y s t w = (back-runs y s t w.runs, w.keeps)
+
+finds-pike : DoesBy pike_in FindsByRule
+finds-pike y s t w = (pike-runs y s t w.runs, w.keeps)
+
+catches-back : DoesBy back_in CatchesByRule
+catches-back y s t w = (back-runs y s t w.runs, w.keeps)
+
+catches-pike : DoesBy pike_in CatchesByRule
+catches-pike y s t w = (pike-runs y s t w.runs, w.keeps)
+
 module _ (x : Search) where
   pub choice-matches : (ms : List Found) (c d : ChoiceState) → ChoiceFindsToEnd x ms c d
       → ChoiceAddsAtMost (list_scan_limit c.nfa x (length ms)) x c d
-  choice-matches ms c d h = record {
-    back = matches-add back_in back-runs x c d ms h;
-    pike = matches-add pike_in pike-runs x c d ms h;
-  }
+  choice-matches = matches-within FindsByRule finds-back finds-pike x
 
   pub choice-rows : (rows : List Row) (c d : ChoiceState) → ChoiceCatchesToEnd x rows c d
       → ChoiceAddsAtMost (list_scan_limit c.nfa x (length rows)) x c d
-  choice-rows rows c d h = record {
-    back = rows-add back_in back-runs x c d rows h;
-    pike = rows-add pike_in pike-runs x c d rows h;
-  }
+  choice-rows = rows-within CatchesByRule catches-back catches-pike x
 
   pub choice-finds : (c d : ChoiceState) → ChoiceFindsOn x c d → ChoiceAddsAtMost (2 * span_len x + 3) x c d
-  choice-finds c d h = record {
-    back = finds-add back_in back-runs x c d h;
-    pike = finds-add pike_in pike-runs x c d h;
-  }
+  choice-finds = finds-within FindsByRule finds-back finds-pike x
 
   pub choice-catches : (c d : ChoiceState) → ChoiceCatchesOn x c d → ChoiceAddsAtMost (2 * span_len x + 3) x c d
-  choice-catches c d h = record {
-    back = catches-add back_in back-runs x c d h;
-    pike = catches-add pike_in pike-runs x c d h;
-  }
+  choice-catches = catches-within CatchesByRule catches-back catches-pike x
