@@ -7,13 +7,14 @@ mod hostile;
 mod prefixes;
 mod refused;
 
-use anyhow::{Result, bail};
+use anyhow::Result;
 use nfa_compiler::Compiler;
-use nfa_engines::pikevm::{Cache, PikeVM};
-use regex::{Captures, Matcher, Regex};
+use nfa_engines::pikevm::PikeVM;
+use regex::Regex;
 use regex_search_core::{Input, NonMaxUsize};
 use std::alloc::Global;
 use std::fmt::Write;
+use std::process::Abort;
 
 /// Patterns that are searched for in each haystack.
 const PATTERNS: [&str; 44] = [
@@ -92,32 +93,17 @@ fn ours(alloc: Global, pattern: &str, haystack: &str) -> Result<String> {
     let found = vm.search_slots(&mut cache, &input, &mut slots);
     let mut text = String::new(alloc);
     if found.is_some() {
-        write_slots(&slots, &mut text)?;
-    }
-    write_matches(&vm, &mut cache, input, &mut text)?;
-    Ok(text)
-}
-
-fn write_slots(slots: &[Option<NonMaxUsize>], text: &mut String) -> Result<()> {
-    for slot in slots {
-        match slot {
-            Some(at) => write!(text, "{} ", at.get())?,
-            None => write!(text, "- ")?,
+        for slot in &slots {
+            match slot {
+                Some(at) => write!(text, "{} ", at.get())?,
+                None => write!(text, "- ")?,
+            }
         }
     }
-    Ok(())
-}
-
-fn write_matches(
-    vm: &PikeVM,
-    cache: &mut Cache,
-    input: Input<'_>,
-    text: &mut String,
-) -> Result<()> {
-    for found in vm.find_iter(cache, input) {
+    for found in vm.find_iter(&mut cache, input) {
         write!(text, "{}..{} ", found.start(), found.end())?;
     }
-    Ok(())
+    Ok(text)
 }
 
 /// The same by the crate regex.
@@ -126,106 +112,32 @@ fn theirs(alloc: Global, pattern: &str, haystack: &str) -> Result<String> {
     let mut matcher = regex.matcher(alloc)?;
     let mut text = String::new(alloc);
     if let Some(captures) = matcher.captures(haystack) {
-        write_groups(&captures, &mut text)?;
-    }
-    write_their_matches(&mut matcher, haystack, &mut text)?;
-    Ok(text)
-}
-
-fn write_groups(captures: &Captures<'_, '_>, text: &mut String) -> Result<()> {
-    for group in 0..captures.len() {
-        match captures.get(group) {
-            Some(span) => write!(text, "{} {} ", span.start(), span.end())?,
-            None => write!(text, "- - ")?,
+        for group in 0..captures.len() {
+            match captures.get(group) {
+                Some(span) => write!(text, "{} {} ", span.start(), span.end())?,
+                None => write!(text, "- - ")?,
+            }
         }
     }
-    Ok(())
-}
-
-fn write_their_matches(matcher: &mut Matcher<'_>, haystack: &str, text: &mut String) -> Result<()> {
     for found in matcher.find_iter(haystack) {
         write!(text, "{}..{} ", found.start(), found.end())?;
     }
+    Ok(text)
+}
+
+fn expect_same(rt: &impl Abort, alloc: Global, pattern: &str, haystack: &str) -> Result<()> {
+    let ours = ours(alloc, pattern, haystack)?;
+    let theirs = theirs(alloc, pattern, haystack)?;
+    assert_eq!(rt; ours, theirs, "{pattern} in {haystack:?}");
     Ok(())
-}
-
-/// Prints the rows that differ. Fails if a row differs, or if there are no rows.
-fn expect_none(rt: &HostRuntime, differences: Result<(Vec<String>, usize)>) -> Result<()> {
-    let (wrong, rows) = differences?;
-    for text in &wrong {
-        println!(rt; "{text}")?;
-    }
-    if rows == 0 || !wrong.is_empty() {
-        bail!("there is a difference from what is expected, which the lines above show");
-    }
-    Ok(())
-}
-
-#[test]
-fn errors_are_as_expected(rt: HostRuntime) -> Result<()> {
-    expect_none(&rt, refused::differences(rt.alloc()))
-}
-
-#[test]
-fn documented_examples_hold(rt: HostRuntime) -> Result<()> {
-    expect_none(&rt, examples::differences(rt.alloc()))?;
-    expect_none(&rt, examples::byte_differences(rt.alloc()))
-}
-
-#[test]
-fn patterns_that_begin_with_the_start_are_bound_to_it(rt: HostRuntime) -> Result<()> {
-    expect_none(&rt, anchors::differences(rt.alloc()))?;
-    anchors::expect_lists(rt.alloc())?;
-    anchors::expect_later_spans(rt.alloc())
-}
-
-#[test]
-fn prefixes_are_as_expected(rt: HostRuntime) -> Result<()> {
-    expect_none(&rt, prefixes::differences(rt.alloc()))
-}
-
-#[test]
-fn large_patterns_are_compiled_or_refused(rt: HostRuntime) -> Result<()> {
-    hostile::expect_large(rt.alloc())?;
-    hostile::expect_refused(rt.alloc())
-}
-
-#[test]
-fn many_patterns_texts_and_trees_are_compiled(rt: HostRuntime) -> Result<()> {
-    hostile::expect_texts(rt.alloc())?;
-    hostile::expect_many(rt.alloc())?;
-    hostile::expect_trees(rt.alloc())
 }
 
 #[test]
 fn answers_are_those_of_the_crate_regex(rt: HostRuntime) -> Result<()> {
-    let mut different = 0usize;
     for pattern in &PATTERNS {
-        different = different.saturating_add(count_different(&rt, pattern)?);
-    }
-    if different > 0 {
-        bail!("some answers differ from those of regex, which the lines above show");
-    }
-    Ok(())
-}
-
-/// Prints the haystacks in which the answers differ, and returns their number.
-fn count_different(rt: &HostRuntime, pattern: &str) -> Result<usize> {
-    let mut different = 0usize;
-    for haystack in &HAYSTACKS {
-        if differs(rt, pattern, haystack)? {
-            different = different.saturating_add(1);
+        for haystack in &HAYSTACKS {
+            expect_same(&rt, rt.alloc(), pattern, haystack)?;
         }
     }
-    Ok(different)
-}
-
-fn differs(rt: &HostRuntime, pattern: &str, haystack: &str) -> Result<bool> {
-    let ours = ours(rt.alloc(), pattern, haystack)?;
-    let theirs = theirs(rt.alloc(), pattern, haystack)?;
-    let same = ours == theirs;
-    if !same {
-        println!(rt; "{pattern} in {haystack:?}: {ours}; regex: {theirs}")?;
-    }
-    Ok(!same)
+    Ok(())
 }

@@ -6,3 +6,11 @@ pub mod machine;
 pub mod random;
 pub mod searches;
 pub mod text;
+
+use std::alloc::AllocGlobal;
+use std::process::Abort;
+
+/// The runtime of a test, for helpers of tests: it fails the test, and gives the allocator.
+pub trait TestRuntime: Abort + AllocGlobal {}
+
+impl<R: Abort + AllocGlobal> TestRuntime for R {}

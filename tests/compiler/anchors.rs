@@ -1,12 +1,10 @@
 //! Patterns that begin with the assertion `Start`: their NFAs are always anchored, and find the same matches.
 
-use super::{ours, theirs};
-use anyhow::{Result, bail};
+use super::expect_same;
+use anyhow::Result;
 use nfa_compiler::Compiler;
 use nfa_engines::pikevm::PikeVM;
 use regex_search_core::Input;
-use std::alloc::Global;
-use std::fmt::Write;
 
 /// Patterns, each with whether every way through it begins with `Start`.
 const ROWS: [(&str, bool); 20] = [
@@ -44,68 +42,25 @@ const LISTS: [(&[&str], bool); 5] = [
     (&["^a"], true),
 ];
 
-/// Returns a line for each row whose NFA is anchored and should not be, or the other way round, and for each haystack
-/// in which the crate regex finds something else; and the number of rows.
-pub fn differences(alloc: Global) -> Result<(Vec<String>, usize)> {
-    let mut wrong = Vec::new(alloc);
-    for (pattern, wanted) in ROWS.iter() {
+#[test]
+fn patterns_that_begin_with_the_start_are_bound_to_it(rt: HostRuntime) -> Result<()> {
+    let alloc = rt.alloc();
+    for &(pattern, wanted) in &ROWS {
         let nfa = Compiler::new().build(alloc, pattern)?;
-        if nfa.is_always_start_anchored() != *wanted {
-            let mut text = String::new(alloc);
-            write!(text, "{pattern}: bound to the start: {}", !*wanted)?;
-            wrong.push(text)?;
-        }
-        compare(alloc, pattern, &mut wrong)?;
-    }
-    Ok((wrong, ROWS.len()))
-}
-
-/// Adds a line for each haystack in which the crate regex finds something else.
-fn compare(alloc: Global, pattern: &str, wrong: &mut Vec<String>) -> Result<()> {
-    for haystack in &HAYSTACKS {
-        let (a, b) = (
-            ours(alloc, pattern, haystack)?,
-            theirs(alloc, pattern, haystack)?,
-        );
-        if a != b {
-            let mut text = String::new(alloc);
-            write!(text, "{pattern} in {haystack:?}: {a}; regex: {b}")?;
-            wrong.push(text)?;
+        assert_eq!(rt; nfa.is_always_start_anchored(), wanted, "{pattern}");
+        for haystack in &HAYSTACKS {
+            expect_same(&rt, alloc, pattern, haystack)?;
         }
     }
-    Ok(())
-}
-
-/// An NFA of many patterns is anchored only if each of them begins with `Start`.
-pub fn expect_lists(alloc: Global) -> Result<()> {
-    for (patterns, wanted) in LISTS.iter() {
+    for &(patterns, wanted) in &LISTS {
         let nfa = Compiler::new().build_many(alloc, patterns)?;
-        if nfa.is_always_start_anchored() != *wanted {
-            bail!("a list of patterns is bound to the start, or is not, against its row");
-        }
+        assert_eq!(rt; nfa.is_always_start_anchored(), wanted, "{patterns:?}");
     }
-    Ok(())
-}
-
-/// A span that begins after the start of the haystack has no match.
-pub fn expect_later_spans(alloc: Global) -> Result<()> {
+    // A span that begins after the start of the haystack has no match.
     let vm = PikeVM::new_from_nfa(Compiler::new().build(alloc, "^a")?)?;
-    let later = is_in(alloc, &vm, Input::new(b"aa").range(1..2))?;
-    let first = is_in(alloc, &vm, Input::new(b"aa").range(0..1))?;
-    expect_first(first, later)
-}
-
-fn is_in(alloc: Global, vm: &PikeVM, input: Input<'_>) -> Result<bool> {
     let mut cache = vm.create_cache(alloc)?;
-    Ok(vm.is_match(&mut cache, input))
-}
-
-fn expect_first(first: bool, later: bool) -> Result<()> {
-    if later {
-        bail!("a pattern that begins with the start was found after it");
-    }
-    if !first {
-        bail!("a pattern that begins with the start was not found there");
-    }
+    let input = Input::new(b"aa");
+    assert!(rt; vm.is_match(&mut cache, input.range(0..1)));
+    assert!(rt; !vm.is_match(&mut cache, input.range(1..2)));
     Ok(())
 }

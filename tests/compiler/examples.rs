@@ -88,7 +88,7 @@ const BYTE_ROWS: [(&str, &[u8], &str); 4] = [
     (r"\xFF", b"\xFF\xC3\xBF", "1..3 "),
 ];
 
-/// The spans of the groups of the first match.
+/// The spans of the groups of the first match, or `-` for a group that is not set.
 fn spans(alloc: Global, compiler: &Compiler, pattern: &str, haystack: &[u8]) -> Result<String> {
     let nfa = compiler.build(alloc, pattern)?;
     let slot_len = nfa.group_info().slot_len();
@@ -98,55 +98,27 @@ fn spans(alloc: Global, compiler: &Compiler, pattern: &str, haystack: &[u8]) -> 
     let found = vm.search_slots(&mut cache, &Input::new(haystack), &mut slots);
     let mut text = String::new(alloc);
     if found.is_some() {
-        write_spans(&slots, &mut text)?;
+        for pair in slots.chunks(2) {
+            match pair {
+                [Some(start), Some(end)] => write!(text, "{}..{} ", start.get(), end.get())?,
+                _ => write!(text, "- ")?,
+            }
+        }
     }
     Ok(text)
 }
 
-/// Writes the span of each group, or `-` for a group that is not set.
-fn write_spans(slots: &[Option<NonMaxUsize>], text: &mut String) -> Result<()> {
-    for pair in slots.chunks(2) {
-        write_span(pair, text)?;
-    }
-    Ok(())
-}
-
-fn write_span(pair: &[Option<NonMaxUsize>], text: &mut String) -> Result<()> {
-    let start = pair.first().copied().flatten();
-    let end = pair.get(1).copied().flatten();
-    match start.zip(end) {
-        Some((start, end)) => write!(text, "{}..{} ", start.get(), end.get())?,
-        None => write!(text, "- ")?,
-    }
-    Ok(())
-}
-
-/// Returns a line for each row that finds something else, and the number of rows.
-pub fn differences(alloc: Global) -> Result<(Vec<String>, usize)> {
-    let mut wrong = Vec::new(alloc);
+#[test]
+fn documented_examples_hold(rt: HostRuntime) -> Result<()> {
     let compiler = Compiler::new();
-    for (pattern, haystack, wanted) in ROWS.iter() {
-        let found = spans(alloc, &compiler, pattern, haystack.as_bytes())?;
-        if found.as_str() != *wanted {
-            let mut text = String::new(alloc);
-            write!(text, "{pattern} in {haystack:?}: {found}, not {wanted}")?;
-            wrong.push(text)?;
-        }
+    for &(pattern, haystack, wanted) in &ROWS {
+        let found = spans(rt.alloc(), &compiler, pattern, haystack.as_bytes())?;
+        assert_eq!(rt; found.as_str(), wanted, "{pattern} in {haystack:?}");
     }
-    Ok((wrong, ROWS.len()))
-}
-
-/// The same for `BYTE_ROWS`.
-pub fn byte_differences(alloc: Global) -> Result<(Vec<String>, usize)> {
-    let mut wrong = Vec::new(alloc);
     let compiler = Compiler::new().configure(Config::new().utf8(false));
-    for (pattern, haystack, wanted) in BYTE_ROWS.iter() {
-        let found = spans(alloc, &compiler, pattern, haystack)?;
-        if found.as_str() != *wanted {
-            let mut text = String::new(alloc);
-            write!(text, "{pattern} in {haystack:?}: {found}, not {wanted}")?;
-            wrong.push(text)?;
-        }
+    for &(pattern, haystack, wanted) in &BYTE_ROWS {
+        let found = spans(rt.alloc(), &compiler, pattern, haystack)?;
+        assert_eq!(rt; found.as_str(), wanted, "{pattern} in {haystack:?}");
     }
-    Ok((wrong, BYTE_ROWS.len()))
+    Ok(())
 }

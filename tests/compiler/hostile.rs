@@ -1,127 +1,103 @@
 //! Patterns that are large, deep or many, and each way to compile.
 
-use super::refused::{nests_too_deep, out_of_memory, too_big, too_deep};
-use anyhow::{Result, bail};
-use nfa_compiler::{Compiler, Config};
-use regex_syntax::{Parsed, parse};
+use super::refused::error_text;
+use anyhow::Result;
+use nfa_compiler::{CompileError, Compiler, Config, ErrorKind, Syntax};
+use regex_syntax::parse;
 use std::alloc::Global;
-
-/// The number of states of the pattern's NFA.
-fn states(alloc: Global, pattern: &str) -> Result<usize> {
-    let nfa = Compiler::new().build(alloc, pattern)?;
-    Ok(nfa.states().len())
-}
-
-/// Returns the text, `count` times.
-fn repeated(alloc: Global, text: &str, count: usize) -> Result<String> {
-    let mut all = String::new(alloc);
-    for _ in 0..count {
-        all.push_str(text)?;
-    }
-    Ok(all)
-}
+use std::process::Abort;
 
 /// Returns a pattern of `depth` groups, each inside another.
 fn nested(alloc: Global, depth: usize) -> Result<String> {
-    let mut text = repeated(alloc, "(", depth)?;
-    text.push('a')?;
-    text.push_str(repeated(alloc, ")", depth)?.as_str())?;
-    Ok(text)
+    let (open, close) = ("(".repeat(alloc, depth)?, ")".repeat(alloc, depth)?);
+    Ok(format!(in alloc; "{open}a{close}")?)
 }
 
-fn expect(is: bool, what: &'static str) -> Result<()> {
-    if !is {
-        bail!(what);
+/// Nested repetitions, classes of all of Unicode, a text of ten thousand characters, and nested groups.
+#[test]
+fn large_patterns_are_compiled_or_refused(rt: HostRuntime) -> Result<()> {
+    let alloc = rt.alloc();
+    let long = "0123456789".repeat(alloc, 1000)?;
+    let deep = nested(alloc, 200)?;
+    for (pattern, count) in [
+        ("(a{100}){100}", 10000),
+        ("a{1000}", 1000),
+        (r"[^a]\p{L}(?s:.)", 100),
+        (long.as_str(), 10000),
+        (deep.as_str(), 400),
+    ] {
+        let nfa = Compiler::new().build(alloc, pattern)?;
+        assert!(rt; nfa.states().len() > count, "{pattern}");
+    }
+    for (pattern, limit) in [("a{1000}", 1000), (r"\w{1000}{1000}", 10485760)] {
+        let compiler = Compiler::new().configure(Config::new().size_limit(limit));
+        let text = error_text(alloc, compiler.build(alloc, pattern).err())?;
+        let wanted = format!(in alloc; "pattern 0 exceeds the size limit of {limit} bytes")?;
+        assert_eq!(rt; text, wanted, "{pattern}");
+    }
+    for depth in [1000, 10000] {
+        let built = Compiler::new().build(alloc, nested(alloc, depth)?.as_str());
+        let is_refused = match &built {
+            Err(CompileError::Syntax(error)) => error.kind() == ErrorKind::NestLimitExceeded,
+            _ => false,
+        };
+        assert!(rt; is_refused, "{depth} groups");
     }
     Ok(())
 }
 
-/// Compiles large patterns: nested repetitions, a text of ten thousand characters, classes of all of Unicode, and two
-/// hundred nested groups.
-pub fn expect_large(alloc: Global) -> Result<()> {
-    expect_states(alloc, "(a{100}){100}", 10000, "counts in counts")?;
-    expect_states(alloc, "a{1000}", 1000, "a count")?;
-    expect_states(alloc, r"[^a]\p{L}(?s:.)", 100, "classes of Unicode")?;
-    let long = repeated(alloc, "0123456789", 1000)?;
-    expect_states(alloc, &long, 10000, "a long pattern")?;
-    let deep = nested(alloc, 200)?;
-    expect_states(alloc, &deep, 400, "groups in groups")
-}
-
-/// The NFA has more than `count` states.
-fn expect_states(alloc: Global, pattern: &str, count: usize, what: &'static str) -> Result<()> {
-    expect(states(alloc, pattern)? > count, what)
-}
-
-/// Patterns that are refused for their size, or for their depth.
-pub fn expect_refused(alloc: Global) -> Result<()> {
-    let text = too_big(alloc, "a{1000}", 1000)?;
-    let wanted = "pattern 0 exceeds the size limit of 1000 bytes";
-    expect(text.as_str() == wanted, "a small limit")?;
-    let text = too_big(alloc, r"\w{1000}{1000}", 10485760)?;
-    let wanted = "pattern 0 exceeds the size limit of 10485760 bytes";
-    expect(text.as_str() == wanted, "the limit")?;
-    let deep = nested(alloc, 1000)?;
-    expect(nests_too_deep(alloc, deep.as_str()), "a thousand groups")?;
-    let deep = nested(alloc, 10000)?;
-    expect(nests_too_deep(alloc, deep.as_str()), "ten thousand groups")
+#[test]
+fn many_patterns_texts_and_trees_are_compiled(rt: HostRuntime) -> Result<()> {
+    expect_texts(&rt, rt.alloc())?;
+    expect_many(&rt, rt.alloc())?;
+    expect_trees(&rt, rt.alloc())
 }
 
 /// The texts of errors about depth and memory.
-pub fn expect_texts(alloc: Global) -> Result<()> {
-    let text = too_deep(alloc, "a((b))", 1)?;
+fn expect_texts(rt: &impl Abort, alloc: Global) -> Result<()> {
+    let syntax = Syntax {
+        nest_limit: 1,
+        ..Syntax::default()
+    };
+    let built = Compiler::new().syntax(syntax).build(alloc, "a((b))");
     let wanted = concat!(
         "pattern 0, at 2..3: groups, classes or repetitions nest deeper than the nesting limit allows\n",
         "    a((b))\n      ^",
     );
-    expect(text.as_str() == wanted, "a small depth")?;
-    let text = out_of_memory(alloc)?;
-    expect(text.as_str() == "out of memory", "no memory")
+    assert_eq!(rt; error_text(alloc, built.err())?.as_str(), wanted);
+    let text = error_text(alloc, Some(CompileError::Memory))?;
+    assert_eq!(rt; text.as_str(), "out of memory");
+    Ok(())
 }
 
 /// A hundred patterns in one NFA.
-pub fn expect_many(alloc: Global) -> Result<()> {
-    let texts = numbered(alloc, 100)?;
-    let patterns: Vec<&str> = texts.iter().map(|text| text.as_str()).collect(alloc)?;
-    expect(pattern_len(alloc, &patterns)? == 100, "a hundred patterns")
-}
-
-fn numbered(alloc: Global, count: usize) -> Result<Vec<String>> {
+fn expect_many(rt: &impl Abort, alloc: Global) -> Result<()> {
     let mut texts = Vec::new(alloc);
-    for number in 0..count {
+    for number in 0..100usize {
         texts.push(format!(in alloc; "number {number}")?)?;
     }
-    Ok(texts)
-}
-
-fn pattern_len(alloc: Global, patterns: &[&str]) -> Result<usize> {
-    let nfa = Compiler::new().build_many(alloc, patterns)?;
-    Ok(nfa.pattern_len())
+    let patterns: Vec<&str> = texts.iter().map(|text| text.as_str()).collect(alloc)?;
+    let nfa = Compiler::new().build_many(alloc, &patterns)?;
+    assert_eq!(rt; nfa.pattern_len(), 100);
+    Ok(())
 }
 
 /// Syntax trees that were parsed before, with settings of syntax and of the NFA.
-pub fn expect_trees(alloc: Global) -> Result<()> {
-    let syntax = nfa_compiler::Syntax::default();
+fn expect_trees(rt: &impl Abort, alloc: Global) -> Result<()> {
+    let syntax = Syntax::default();
     let compiler = Compiler::new()
         .syntax(syntax)
         .configure(Config::new().anchored(true).utf8(false));
-    let mut trees = Vec::new(alloc);
-    trees.push(parse(alloc, "(?<a>b)", &syntax)?)?;
-    trees.push(parse(alloc, "c", &syntax)?)?;
-    expect_first(alloc, &compiler, &trees)?;
+    let trees = [
+        parse(alloc, "(?<a>b)", &syntax)?,
+        parse(alloc, "c", &syntax)?,
+    ];
+    let nfa = compiler.build_from_hir(alloc, &trees[0])?;
+    assert_eq!(rt; nfa.start_anchored(), nfa.start_unanchored());
+    assert_eq!(rt; nfa.group_info().slot_len(), 4);
     let nfa = compiler.build_many_from_hir(alloc, &trees)?;
-    let is_both = !nfa.is_utf8() && nfa.pattern_len() == 2 && nfa.group_info().slot_len() == 6;
-    expect(is_both, "an NFA of two trees")
-}
-
-fn expect_first(alloc: Global, compiler: &Compiler, trees: &[Parsed]) -> Result<()> {
-    let Some(tree) = trees.first() else {
-        bail!("no tree");
-    };
-    let nfa = compiler.build_from_hir(alloc, tree)?;
-    let is_anchored = nfa.start_anchored() == nfa.start_unanchored();
-    expect(
-        is_anchored && nfa.group_info().slot_len() == 4,
-        "an anchored NFA",
-    )
+    assert!(rt; !nfa.is_utf8());
+    assert_eq!(rt; nfa.pattern_len(), 2);
+    assert_eq!(rt; nfa.group_info().slot_len(), 6);
+    Ok(())
 }

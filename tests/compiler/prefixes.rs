@@ -3,8 +3,6 @@
 use anyhow::Result;
 use nfa_compiler::Compiler;
 use nfa_prefix::{find_prefix, literal_prefix};
-use std::alloc::Global;
-use std::fmt::Write;
 
 /// Patterns, each with its prefix. It ends before a class of bytes, an alternation and an optional part. Two characters
 /// that begin with the same byte have that byte as prefix.
@@ -45,24 +43,16 @@ const PLACES: [(&str, usize, usize, Option<usize>); 9] = [
     ("foo", 3, 2, None),
 ];
 
-/// Returns a line for each row that differs, and the number of rows.
-pub fn differences(alloc: Global) -> Result<(Vec<String>, usize)> {
-    let mut wrong = Vec::new(alloc);
-    for (pattern, wanted) in PREFIXES.iter() {
-        let prefix = literal_prefix(alloc, &Compiler::new().build(alloc, pattern)?)?;
-        if &prefix[..] != *wanted {
-            let mut text = String::new(alloc);
-            write!(text, "{pattern}: {prefix:?}")?;
-            wrong.push(text)?;
-        }
+#[test]
+fn prefixes_are_as_expected(rt: HostRuntime) -> Result<()> {
+    for &(pattern, wanted) in &PREFIXES {
+        let nfa = Compiler::new().build(rt.alloc(), pattern)?;
+        let prefix = literal_prefix(rt.alloc(), &nfa)?;
+        assert_eq!(rt; prefix.as_slice(), wanted, "{pattern}");
     }
-    for (haystack, from, end, wanted) in PLACES.iter() {
-        let found = find_prefix(haystack.as_bytes(), *from, *end, b"foo");
-        if found != *wanted {
-            let mut text = String::new(alloc);
-            write!(text, "{haystack} {from}..{end}: {found:?}")?;
-            wrong.push(text)?;
-        }
+    for &(haystack, from, end, wanted) in &PLACES {
+        let found = find_prefix(haystack.as_bytes(), from, end, b"foo");
+        assert_eq!(rt; found, wanted, "{haystack} {from}..{end}");
     }
-    Ok((wrong, PREFIXES.len() + PLACES.len()))
+    Ok(())
 }

@@ -1,9 +1,8 @@
 //! The texts of errors: what is wrong, and where in the pattern.
 
 use anyhow::Result;
-use nfa_compiler::{CompileError, Compiler, Config, Syntax};
+use nfa_compiler::{CompileError, Compiler};
 use std::alloc::Global;
-use std::fmt::Write;
 
 /// A text that is not a pattern, the span at fault, the reason, the line that is shown, and the marks below it. The
 /// spans are those of the crate regex-syntax.
@@ -195,25 +194,8 @@ const ROWS: [(&str, (usize, usize), &str, &str, &str); 35] = [
     ("\ta)", (2, 3), "unopened group", "\ta)", "\t ^"),
 ];
 
-/// Returns the error text of this row, for the pattern of this number.
-fn wanted(alloc: Global, number: usize, row: usize) -> Result<String> {
-    let mut text = String::new(alloc);
-    if let Some((_, (start, end), reason, line, marks)) = ROWS.get(row) {
-        write!(
-            text,
-            "pattern {number}, at {start}..{end}: {reason}\n    {line}\n    {marks}"
-        )?;
-    }
-    Ok(text)
-}
-
-/// Returns the text of the pattern's error, or `no error`. The pattern is the second of two, and the first is valid.
-fn given(alloc: Global, pattern: &str) -> Result<String> {
-    let compiler = Compiler::new();
-    error_text(alloc, compiler.build_many(alloc, &["good", pattern]).err())
-}
-
-fn error_text(alloc: Global, error: Option<CompileError>) -> Result<String> {
+/// Returns the text of the error, or `no error`.
+pub fn error_text(alloc: Global, error: Option<CompileError>) -> Result<String> {
     let text = match &error {
         Some(error) => format!(in alloc; "{error}"),
         None => String::from_str(alloc, "no error"),
@@ -221,46 +203,16 @@ fn error_text(alloc: Global, error: Option<CompileError>) -> Result<String> {
     Ok(text?)
 }
 
-/// Returns the error texts that differ from their rows, and the number of rows.
-pub fn differences(alloc: Global) -> Result<(Vec<String>, usize)> {
-    let mut wrong = Vec::new(alloc);
-    for (row, (pattern, _, _, _, _)) in ROWS.iter().enumerate() {
-        let text = given(alloc, pattern)?;
-        if text != wanted(alloc, 1, row)? {
-            wrong.push(text)?;
-        }
+/// The pattern is the second of two, and the first is valid.
+#[test]
+fn errors_are_as_expected(rt: HostRuntime) -> Result<()> {
+    let alloc = rt.alloc();
+    for &(pattern, (start, end), reason, line, marks) in &ROWS {
+        let error = Compiler::new().build_many(alloc, &["good", pattern]).err();
+        let wanted = format!(in alloc;
+            "pattern 1, at {start}..{end}: {reason}\n    {line}\n    {marks}"
+        )?;
+        assert_eq!(rt; error_text(alloc, error)?, wanted, "{pattern:?}");
     }
-    Ok((wrong, ROWS.len()))
-}
-
-/// Returns the text of the error of a pattern that exceeds this limit.
-pub fn too_big(alloc: Global, pattern: &str, limit: usize) -> Result<String> {
-    let compiler = Compiler::new().configure(Config::new().size_limit(limit));
-    error_text(alloc, compiler.build(alloc, pattern).err())
-}
-
-/// Returns the text of the error of a pattern that nests deeper than this.
-pub fn too_deep(alloc: Global, pattern: &str, limit: u32) -> Result<String> {
-    let syntax = Syntax {
-        nest_limit: limit,
-        ..Syntax::default()
-    };
-    let compiler = Compiler::new().syntax(syntax);
-    error_text(alloc, compiler.build(alloc, pattern).err())
-}
-
-/// Returns the text of the error that allocation failed.
-pub fn out_of_memory(alloc: Global) -> Result<String> {
-    error_text(alloc, Some(CompileError::Memory))
-}
-
-/// Whether the pattern is refused because it nests too deep.
-pub fn nests_too_deep(alloc: Global, pattern: &str) -> bool {
-    match Compiler::new().build(alloc, pattern) {
-        Err(CompileError::Syntax(error)) => {
-            error.kind() == nfa_compiler::ErrorKind::NestLimitExceeded
-        }
-        Err(_) => false,
-        Ok(_) => false,
-    }
+    Ok(())
 }

@@ -3,103 +3,58 @@
 mod grid;
 mod lists;
 
-use super::expected::{Case, expect, expect_answer};
 use nfa_choice::choose::{Choice, Engine};
 use nfa_engines::error::SearchError;
 use nfa_engines::{backtrack, pikevm};
 use regex_search_core::{Captures, Input, MatchKind, NonMaxUsize};
 use sample_engines::nfa_named;
-use std::alloc::Global;
-use std::process::Abort;
+use std::test::Fail;
+use test_support::TestRuntime;
 use test_support::text::{match_text, slots_text, write_item};
 use thompson_nfa::NFA;
 
-fn nfa(rt: &impl Abort, alloc: Global, name: &str) -> NFA {
-    nfa_named(alloc, name).expect(rt, "a sample")
+fn choice_of(rt: &impl TestRuntime, nfa: NFA) -> Choice {
+    let (back, pike) = (backtrack::Config::new(), pikevm::Config::new());
+    Choice::new(rt.alloc(), nfa, back, pike).expect(rt, "memory")
 }
 
-/// A `Choice` of this NFA.
-pub fn choice_by(
-    rt: &impl Abort,
-    alloc: Global,
-    nfa: NFA,
-    back: backtrack::Config,
-    pike: pikevm::Config,
-) -> Choice {
-    Choice::new(alloc, nfa, back, pike).expect(rt, "memory")
-}
-
-fn choice_of(
-    rt: &impl Abort,
-    alloc: Global,
-    name: &str,
-    back: backtrack::Config,
-    pike: pikevm::Config,
-) -> Choice {
-    choice_by(rt, alloc, nfa(rt, alloc, name), back, pike)
-}
-
-// Marks of this number of bytes, or of the default.
-fn marks(capacity: Option<usize>) -> backtrack::Config {
-    match capacity {
+// A `Choice` of the sample, with this number of bytes of marks, or the default.
+fn configured(rt: &impl TestRuntime, name: &str, marks: Option<usize>, kind: MatchKind) -> Choice {
+    let nfa = nfa_named(rt.alloc(), name).expect(rt, "a sample");
+    let back = match marks {
         Some(bytes) => backtrack::Config::new().visited_capacity(bytes),
         None => backtrack::Config::new(),
-    }
-}
-
-fn choice(rt: &impl Abort, alloc: Global, name: &str) -> Choice {
-    choice_of(
-        rt,
-        alloc,
-        name,
-        backtrack::Config::new(),
-        pikevm::Config::new(),
-    )
-}
-
-fn configured(
-    rt: &impl Abort,
-    alloc: Global,
-    name: &str,
-    capacity: Option<usize>,
-    kind: MatchKind,
-) -> Choice {
+    };
     let pike = pikevm::Config::new().match_kind(kind);
-    choice_of(rt, alloc, name, marks(capacity), pike)
-}
-
-// The text, and which engine ran.
-fn with_engine(rt: &impl Abort, mut text: String, choice: &Choice) -> String {
-    write!(text, " {:?}", choice.ran()).expect(rt, "memory");
-    text
-}
-
-// The pattern and the span that `find` gives, or `none`, and which engine ran.
-fn found_text(rt: &impl Abort, alloc: Global, choice: &mut Choice, input: Input<'_>) -> String {
-    let text = match_text(alloc, choice.find(input)).expect(rt, "memory");
-    with_engine(rt, text, choice)
-}
-
-// The answer of `search_slots` with six slots, and which engine ran.
-fn six_slots_text(rt: &impl Abort, alloc: Global, choice: &mut Choice, input: Input<'_>) -> String {
-    let mut slots = [NonMaxUsize::new(7); 6];
-    let pattern = choice.search_slots(&input, &mut slots);
-    let text = slots_text(alloc, pattern, &slots).expect(rt, "memory");
-    with_engine(rt, text, choice)
+    Choice::new(rt.alloc(), nfa, back, pike).expect(rt, "memory")
 }
 
 // Captures of all groups.
-fn captures_of(rt: &impl Abort, alloc: Global, choice: &Choice) -> Captures {
+fn captures_of(rt: &impl TestRuntime, choice: &Choice) -> Captures {
     let groups = choice.get_nfa().group_info().clone().expect(rt, "memory");
-    Captures::all(alloc, groups).expect(rt, "memory")
+    Captures::all(rt.alloc(), groups).expect(rt, "memory")
 }
 
-// What `search` leaves in captures of all groups, and which engine ran.
-fn captures_text(rt: &impl Abort, alloc: Global, choice: &mut Choice, input: Input<'_>) -> String {
-    let mut captures = captures_of(rt, alloc, choice);
-    choice.search(&input, &mut captures);
-    let text = slots_text(alloc, captures.pattern(), captures.slots()).expect(rt, "memory");
-    with_engine(rt, text, choice)
+// The pattern and the slots of the captures, and which engine ran.
+fn captures_text(rt: &impl TestRuntime, captures: &Captures, choice: &Choice) -> String {
+    let row = slots_text(rt.alloc(), captures.pattern(), captures.slots()).expect(rt, "memory");
+    format!(in rt.alloc(); "{row} {:?}", choice.ran()).expect(rt, "memory")
+}
+
+// Expects this pattern and span of `find`, or `none`, and then which engine ran.
+fn expect_found(rt: &impl TestRuntime, choice: &mut Choice, input: Input<'_>, want: &str) {
+    let found = match_text(rt.alloc(), choice.find(input)).expect(rt, "memory");
+    let text = format!(in rt.alloc(); "{found} {:?}", choice.ran()).expect(rt, "memory");
+    assert_eq!(rt; text.as_str(), want, "{input:?}");
+}
+
+// Expects this answer of `search_slots` with six slots, and then which engine ran.
+fn expect_six_slots(rt: &impl TestRuntime, choice: &mut Choice, input: Input<'_>, want: &str) {
+    let mut slots = [NonMaxUsize::new(7); 6];
+    let pattern = choice.search_slots(&input, &mut slots);
+    let row = slots_text(rt.alloc(), pattern, &slots).expect(rt, "memory");
+    let text = format!(in rt.alloc(); "{row} {:?}", choice.ran()).expect(rt, "memory");
+    assert_eq!(rt; text.as_str(), want, "{input:?}");
 }
 
 // A choice, a search, and its answers: by `find`, with the engine that ran, and by `is_match`.
@@ -168,133 +123,70 @@ const ROWS: &[Row] = &[
     },
 ];
 
-fn expect_row(rt: &impl Abort, alloc: Global, choice: &mut Choice, row: &Row) {
-    let input = Input::new(row.haystack).earliest(row.earliest);
-    expect(rt, choice.ran().is_none(), row.name);
-    expect_found(rt, alloc, choice, row.name, input, row.found);
-    expect(rt, choice.is_match(input) == row.is_match, row.name);
-}
-
-fn expect_choice(rt: &impl Abort, alloc: Global, row: &Row) {
-    let mut choice = configured(rt, alloc, row.name, row.capacity, row.kind);
-    expect_row(rt, alloc, &mut choice, row);
-}
-
 #[test]
 fn answers_whichever_engine_runs(rt: HostRuntime) {
     for row in ROWS {
-        expect_choice(&rt, rt.alloc(), row);
+        let mut choice = configured(&rt, row.name, row.capacity, row.kind);
+        assert!(rt; choice.ran().is_none(), "{}", row.name);
+        let input = Input::new(row.haystack).earliest(row.earliest);
+        expect_found(&rt, &mut choice, input, row.found);
+        assert_eq!(rt; choice.is_match(input), row.is_match, "{}", row.name);
     }
-}
-
-fn expect_six_slots(
-    rt: &impl Abort,
-    alloc: Global,
-    choice: &mut Choice,
-    name: &str,
-    input: Input<'_>,
-    want: &str,
-) {
-    let text = six_slots_text(rt, alloc, choice, input);
-    expect_answer(rt, &Case { name, input }, text.as_str(), want);
 }
 
 #[test]
 fn finds_a_pattern_without_a_span(rt: HostRuntime) {
-    let alloc = rt.alloc();
-    let mut pair = configured(&rt, alloc, "a_pair", Some(1), MatchKind::LeftmostFirst);
+    let mut pair = configured(&rt, "a_pair", Some(1), MatchKind::LeftmostFirst);
     let input = Input::new(&[b'a'; 32]);
-    expect_six_slots(
-        &rt,
-        alloc,
-        &mut pair,
-        "a_pair",
-        input,
-        "0 - - - - - - Some(PikeVM)",
-    );
+    expect_six_slots(&rt, &mut pair, input, "0 - - - - - - Some(PikeVM)");
 }
 
 // A text with six matches of `words_numbers`.
 const WORDS_AND_NUMBERS: &[u8] = b"abc 1 foo 4567 0 quux";
 
-fn list_text(rt: &impl Abort, alloc: Global, choice: &mut Choice) -> String {
-    let mut text = String::new(alloc);
-    for found in choice.find_iter(Input::new(WORDS_AND_NUMBERS)) {
-        write_item(&mut text, Ok(found)).expect(rt, "memory");
-    }
-    with_engine(rt, text, choice)
-}
-
 #[test]
-fn gives_all_matches(rt: HostRuntime) {
-    let alloc = rt.alloc();
-    let mut words = choice(&rt, alloc, "words_numbers");
-    expect_list(&rt, alloc, &mut words);
-}
-
-fn expect_list(rt: &impl Abort, alloc: Global, words: &mut Choice) {
-    let text = list_text(rt, alloc, words);
+fn gives_all_matches(rt: HostRuntime) -> Result<(), Fail> {
+    let mut words = choice_of(&rt, nfa_named(rt.alloc(), "words_numbers")?);
+    let mut text = String::new(rt.alloc());
+    for found in words.find_iter(Input::new(WORDS_AND_NUMBERS)) {
+        write_item(&mut text, Ok(found))?;
+    }
+    write!(text, " {:?}", words.ran())?;
     let want = "0 0..3, 1 4..5, 0 6..9, 1 10..14, 1 15..16, 0 17..21,  Some(Backtracker)";
-    expect(rt, text.as_str() == want, text.as_str());
-}
-
-fn expect_found(
-    rt: &impl Abort,
-    alloc: Global,
-    choice: &mut Choice,
-    name: &str,
-    input: Input<'_>,
-    want: &str,
-) {
-    let text = found_text(rt, alloc, choice, input);
-    expect_answer(rt, &Case { name, input }, text.as_str(), want);
+    assert_eq!(rt; text.as_str(), want);
+    Ok(())
 }
 
 // A replacement changes the NFA, but not which engine ran last.
-fn expect_replaced(rt: &impl Abort, alloc: Global, choice: &mut Choice) {
-    replace(rt, alloc, choice, "abc");
-    expect(rt, choice.ran().is_none(), "a replacement");
+#[test]
+fn searches_another_nfa(rt: HostRuntime) -> Result<(), Fail> {
+    let alloc = rt.alloc();
+    let mut choice = choice_of(&rt, nfa_named(alloc, "groups")?);
+    choice.replace(nfa_named(alloc, "abc")?)?;
+    assert_eq!(rt; choice.ran(), None);
     let whole = Input::new(b"abc");
-    expect_found(rt, alloc, choice, "abc", whole, "0 0..3 Some(Backtracker)");
+    expect_found(&rt, &mut choice, whole, "0 0..3 Some(Backtracker)");
     let part = Input::new(b"ab");
-    expect_found(rt, alloc, choice, "abc", part, "none Some(Backtracker)");
-    let part = part.earliest(true);
-    expect_found(rt, alloc, choice, "abc", part, "none Some(PikeVM)");
-    replace(rt, alloc, choice, "abc");
-    let ran = choice.ran() == Some(Engine::PikeVM);
-    expect(rt, ran, "a replacement");
-}
-
-fn replace(rt: &impl Abort, alloc: Global, choice: &mut Choice, name: &str) {
-    choice.replace(nfa(rt, alloc, name)).expect(rt, "memory");
-}
-
-// An NFA with more slots and states replaces a smaller one. If allocation fails, the old one stays.
-fn expect_larger(rt: &impl Abort, alloc: Global, choice: &mut Choice) {
-    match choice.replace(nfa(rt, alloc, "groups")) {
-        Ok(()) => expect_groups(rt, alloc, choice),
+    expect_found(&rt, &mut choice, part, "none Some(Backtracker)");
+    expect_found(&rt, &mut choice, part.earliest(true), "none Some(PikeVM)");
+    choice.replace(nfa_named(alloc, "abc")?)?;
+    assert_eq!(rt; choice.ran(), Some(Engine::PikeVM));
+    // An NFA with more slots and states replaces a smaller one. If allocation fails, the old one stays.
+    match choice.replace(nfa_named(alloc, "groups")?) {
+        Ok(()) => {
+            let want = "0 0 2 - - 0 2 Some(Backtracker)";
+            expect_six_slots(&rt, &mut choice, part, want);
+            let mut captures = captures_of(&rt, &choice);
+            choice.search(&part, &mut captures);
+            let text = captures_text(&rt, &captures, &choice);
+            assert_eq!(rt; text.as_str(), want);
+        }
         Err(error) => {
-            expect(rt, error == SearchError::Memory, "a replacement");
-            let input = Input::new(b"abc");
-            expect_found(rt, alloc, choice, "abc", input, "0 0..3 Some(Backtracker)");
+            assert_eq!(rt; error, SearchError::Memory);
+            expect_found(&rt, &mut choice, whole, "0 0..3 Some(Backtracker)");
         }
     }
-}
-
-fn expect_groups(rt: &impl Abort, alloc: Global, choice: &mut Choice) {
-    let input = Input::new(b"ab");
-    let want = "0 0 2 - - 0 2 Some(Backtracker)";
-    expect_six_slots(rt, alloc, choice, "groups", input, want);
-    let text = captures_text(rt, alloc, choice, input);
-    expect(rt, text.as_str() == want, "captures of groups");
-}
-
-#[test]
-fn searches_another_nfa(rt: HostRuntime) {
-    let alloc = rt.alloc();
-    let mut choice = choice(&rt, alloc, "groups");
-    expect_replaced(&rt, alloc, &mut choice);
-    expect_larger(&rt, alloc, &mut choice);
+    Ok(())
 }
 
 // The `Debug` text of a new choice of the NFA that never matches.
@@ -315,58 +207,23 @@ next: ActiveStates { parts: Parts { kept: [StateID(0), StateID(0)], rows: [], le
 scans: Counter }, found: [], slots: 0, patterns: 0, past_scans: Counter, past_turns: Counter }, \
 ran: None }";
 
-fn shown(rt: &impl Abort, alloc: Global, choice: &Choice) -> String {
-    format!(in alloc; "{choice:?}").expect(rt, "memory")
-}
-
-// The `Debug` text of an iterator of the choice.
-fn shown_matches(rt: &impl Abort, alloc: Global, choice: &mut Choice) -> String {
-    let matches = choice.find_iter(Input::new(b"a"));
-    format!(in alloc; "{matches:?}").expect(rt, "memory")
-}
-
-// The text that is expected, given that of the choice.
-fn wanted_matches(rt: &impl Abort, alloc: Global, shown: &str) -> String {
-    format!(in alloc;
-        "ChoiceMatches {{ choice: {shown}, steps: Steps {{ searcher: Searcher {{ input: {:?}, \
-        last_match_end: None }}, backend: ByRule, done: false }} }}",
-        Input::new(b"a")
-    )
-    .expect(rt, "memory")
-}
-
-fn expect_shown_fresh(rt: &impl Abort, alloc: Global, choice: &Choice) {
-    let text = shown(rt, alloc, choice);
-    expect(rt, text.as_str() == NEVER, text.as_str());
-}
-
 // A choice shows both engines, their caches and which one ran. An iterator shows the choice and its own state.
-fn expect_shown(rt: &impl Abort, alloc: Global, choice: &mut Choice) {
-    choice.is_match(Input::new(b"a"));
-    let text = shown(rt, alloc, choice);
-    let want = wanted_matches(rt, alloc, text.as_str());
-    let matches = shown_matches(rt, alloc, choice);
-    let ran = text.as_str().ends_with(" }, ran: Some(Backtracker) }");
-    expect(rt, ran, text.as_str());
-    let same = matches.as_str() == want.as_str();
-    expect(rt, same, matches.as_str());
-}
-
-fn never(rt: &impl Abort, alloc: Global) -> Choice {
-    let nfa = NFA::never_match(alloc).expect(rt, "memory");
-    choice_by(
-        rt,
-        alloc,
-        nfa,
-        backtrack::Config::new(),
-        pikevm::Config::new(),
-    )
-}
-
 #[test]
-fn a_choice_and_its_matches_are_shown(rt: HostRuntime) {
+fn a_choice_and_its_matches_are_shown(rt: HostRuntime) -> Result<(), Fail> {
     let alloc = rt.alloc();
-    let mut choice = never(&rt, alloc);
-    expect_shown_fresh(&rt, alloc, &choice);
-    expect_shown(&rt, alloc, &mut choice);
+    let mut choice = choice_of(&rt, NFA::never_match(alloc)?);
+    let shown = format!(in alloc; "{choice:?}")?;
+    assert_eq!(rt; shown.as_str(), NEVER);
+    let input = Input::new(b"a");
+    choice.is_match(input);
+    let shown = format!(in alloc; "{choice:?}")?;
+    let ran = shown.as_str().ends_with(" }, ran: Some(Backtracker) }");
+    assert!(rt; ran, "{shown}");
+    let want = format!(in alloc;
+        "ChoiceMatches {{ choice: {shown}, steps: Steps {{ searcher: Searcher {{ input: {input:?}, \
+        last_match_end: None }}, backend: ByRule, done: false }} }}"
+    )?;
+    let matches = format!(in alloc; "{:?}", choice.find_iter(input))?;
+    assert_eq!(rt; matches, want);
+    Ok(())
 }

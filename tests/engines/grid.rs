@@ -2,19 +2,13 @@
 //! and each call that searches. All searches share caches and captures.
 
 use super::alike::{expect_backtracked_alike, expect_piked_alike};
-use super::choice::choice_by;
-use super::shapes::nfa_copy;
-use super::sums::{
-    SEED, Shared, expect_sum, fold, sum_backtracked, sum_chosen, sum_of_own_set, sum_of_set,
-    sum_piked,
-};
+use super::sums::{SEED, Shared, fold, sum_backtracked, sum_chosen, sum_of_set, sum_piked};
 use nfa_choice::choose::Choice;
 use nfa_engines::backtrack::{self, BoundedBacktracker};
 use nfa_engines::pikevm::{self, PikeVM};
 use regex_search_core::{Input, MatchKind};
 use sample_engines::nfa_named;
-use std::alloc::Global;
-use std::process::Abort;
+use test_support::TestRuntime;
 use test_support::searches::searches_of;
 use thompson_nfa::NFA;
 
@@ -62,14 +56,30 @@ const HAYSTACKS: &[&[u8]] = &[
     b"\x80a\xE2\x98",
 ];
 
-// Both engines over one NFA.
-#[derive(Clone, Copy, Debug)]
-struct Pair<'a> {
+// The engines over one NFA, which have to give the same answers.
+#[derive(Drop)]
+struct Trio<'a> {
     back: &'a BoundedBacktracker,
-    vm: &'a PikeVM,
+    vm: PikeVM,
+    choice: Choice,
 }
 
-impl<'a> Pair<'a> {
+impl<'a> Trio<'a> {
+    fn new(rt: &impl TestRuntime, back: &'a BoundedBacktracker, kind: MatchKind) -> Trio<'a> {
+        let nfa = back.get_nfa();
+        let pike = pikevm::Config::new().match_kind(kind);
+        // No marks, or 64 or 128 of them, so that `Choice` runs one engine, or the other, or each for its lengths.
+        let marks = backtrack::Config::new().visited_capacity(nfa.states().len() % 3 * 8);
+        let copy = nfa.clone().expect(rt, "memory");
+        let vm = PikeVM::builder().configure(pike).build_from_nfa(copy);
+        let copy = nfa.clone().expect(rt, "memory");
+        Trio {
+            back,
+            vm: vm.expect(rt, "memory"),
+            choice: Choice::new(rt.alloc(), copy, marks, pike).expect(rt, "memory"),
+        }
+    }
+
     fn is_leftmost(&self) -> bool {
         self.vm.get_config().get_match_kind() == MatchKind::LeftmostFirst
     }
@@ -86,184 +96,108 @@ impl<'a> Pair<'a> {
 
 // Adds the answers to one search to the sum. All engines have to agree.
 fn fold_search(
-    rt: &impl Abort,
-    pair: &Pair<'_>,
-    choice: &mut Choice,
+    rt: &impl TestRuntime,
+    trio: &mut Trio<'_>,
     shared: &mut Shared,
     sum: u64,
     input: &Input<'_>,
 ) -> u64 {
-    let piked = sum_piked(pair.vm, input, shared);
-    expect_sum(rt, input, sum_chosen(choice, input, shared), piked);
-    let captured = expect_piked_alike(rt, pair.vm, input, shared);
-    if pair.is_leftmost() && !input.get_earliest() {
-        let backtracked = sum_backtracked(rt, pair.back, input, shared);
-        expect_sum(rt, input, backtracked, piked);
-        let backtracked = expect_backtracked_alike(rt, pair.back, input, shared);
-        expect_sum(rt, input, backtracked, captured);
+    assert!(rt; shared.threads.fits(&trio.vm), "{input:?}");
+    let piked = sum_piked(&trio.vm, input, shared);
+    let chosen = sum_chosen(&mut trio.choice, input, shared);
+    assert_eq!(rt; chosen, piked, "{input:?}");
+    let captured = expect_piked_alike(rt, &trio.vm, input, shared);
+    if trio.is_leftmost() && !input.get_earliest() {
+        let backtracked = sum_backtracked(rt, trio.back, input, shared);
+        assert_eq!(rt; backtracked, piked, "{input:?}");
+        let backtracked = expect_backtracked_alike(rt, trio.back, input, shared);
+        assert_eq!(rt; backtracked, captured, "{input:?}");
     }
-    fold_set(rt, pair, shared, fold(sum, piked), input)
-}
-
-// Adds the set to the sum if regex-automata gives the same. A cache of the least size has to give the same set too.
-fn fold_set(
-    rt: &impl Abort,
-    pair: &Pair<'_>,
-    shared: &mut Shared,
-    sum: u64,
-    input: &Input<'_>,
-) -> u64 {
-    let set = sum_of_set(rt, shared.alloc, pair.vm, &mut shared.threads, input);
-    let own = sum_of_own_set(rt, shared.alloc, pair.vm, input);
-    expect_sum(rt, input, set, own);
-    if pair.is_unlike(input) {
+    let sum = fold(sum, piked);
+    let set = sum_of_set(rt, &trio.vm, &mut shared.threads, input);
+    // A cache of the least size has to give the same set.
+    let mut own = trio.vm.create_cache(rt.alloc()).expect(rt, "memory");
+    let by_own = sum_of_set(rt, &trio.vm, &mut own, input);
+    assert_eq!(rt; by_own, set, "{input:?}");
+    if trio.is_unlike(input) {
         sum
     } else {
         fold(sum, set)
     }
 }
 
-fn fold_searches(
-    rt: &impl Abort,
-    pair: &Pair<'_>,
-    choice: &mut Choice,
-    shared: &mut Shared,
-    sum: u64,
-    inputs: &[Input<'_>],
-) -> u64 {
-    let mut sum = sum;
-    for input in inputs {
-        sum = fold_search(rt, pair, choice, shared, sum, input);
-    }
-    sum
-}
-
-fn fold_haystacks(
-    rt: &impl Abort,
-    pair: &Pair<'_>,
-    choice: &mut Choice,
-    shared: &mut Shared,
-    sum: u64,
-    haystacks: &[&[u8]],
-) -> u64 {
-    let mut sum = sum;
-    for haystack in haystacks {
-        let inputs = searches_of(shared.alloc, haystack).expect(rt, "memory");
-        sum = fold_searches(rt, pair, choice, shared, sum, &inputs);
-    }
-    sum
-}
-
-// No marks, or 64 or 128 of them, so that `Choice` runs one engine, or the other, or each for its lengths.
-fn choice_of(rt: &impl Abort, alloc: Global, pair: &Pair<'_>) -> Choice {
-    let nfa = pair.back.get_nfa();
-    let bytes = (nfa.states().len() % 3).saturating_mul(8);
-    let back = backtrack::Config::new().visited_capacity(bytes);
-    choice_by(rt, alloc, nfa_copy(rt, nfa), back, *pair.vm.get_config())
-}
-
-fn fold_pair(
-    rt: &impl Abort,
-    pair: &Pair<'_>,
-    shared: &mut Shared,
-    sum: u64,
-    haystacks: &[&[u8]],
-) -> u64 {
-    let mut choice = choice_of(rt, shared.alloc, pair);
-    fold_haystacks(rt, pair, &mut choice, shared, sum, haystacks)
-}
-
-fn pikevm_of(rt: &impl Abort, nfa: &NFA, kind: MatchKind) -> PikeVM {
-    let mut builder = PikeVM::builder();
-    builder.configure(pikevm::Config::new().match_kind(kind));
-    builder
-        .build_from_nfa(nfa_copy(rt, nfa))
-        .expect(rt, "memory")
-}
-
-fn fit(rt: &impl Abort, vm: &PikeVM, threads: &mut pikevm::Cache) {
-    if !threads.fits(vm) {
-        vm.reset_cache(threads).expect(rt, "memory");
-    }
-}
-
-fn fold_kind(
-    rt: &impl Abort,
-    back: &BoundedBacktracker,
-    kind: MatchKind,
-    shared: &mut Shared,
-    sum: u64,
-    haystacks: &[&[u8]],
-) -> u64 {
-    let vm = pikevm_of(rt, back.get_nfa(), kind);
-    fit(rt, &vm, &mut shared.threads);
-    let pair = Pair { back, vm: &vm };
-    fold_pair(rt, &pair, shared, sum, haystacks)
-}
-
 /// Adds the answers to all searches of the NFA to the sum: leftmost first, then those of the kind `All`.
 pub fn fold_nfa(
-    rt: &impl Abort,
+    rt: &impl TestRuntime,
     nfa: NFA,
     shared: &mut Shared,
-    sum: u64,
+    mut sum: u64,
     haystacks: &[&[u8]],
 ) -> u64 {
     let back = BoundedBacktracker::new_from_nfa(nfa).expect(rt, "memory");
-    let sum = fold_kind(rt, &back, MatchKind::LeftmostFirst, shared, sum, haystacks);
-    fold_kind(rt, &back, MatchKind::All, shared, sum, haystacks)
+    for kind in [MatchKind::LeftmostFirst, MatchKind::All] {
+        let mut trio = Trio::new(rt, &back, kind);
+        if !shared.threads.fits(&trio.vm) {
+            trio.vm
+                .reset_cache(&mut shared.threads)
+                .expect(rt, "memory");
+        }
+        for &haystack in haystacks {
+            let inputs = searches_of(rt.alloc(), haystack).expect(rt, "memory");
+            for input in &inputs {
+                sum = fold_search(rt, &mut trio, shared, sum, input);
+            }
+        }
+    }
+    sum
 }
 
-fn expect_sample(rt: &impl Abort, shared: &mut Shared, name: &str, want: u64) {
-    let nfa = nfa_named(shared.alloc, name).expect(rt, "a sample");
-    let sum = fold_nfa(rt, nfa, shared, SEED, HAYSTACKS);
-    assert!(rt; sum == want, "{name}: {sum}, not {want}");
-}
-
-fn expect_samples(rt: &impl Abort, alloc: Global, sums: &[(&str, u64)]) {
-    let mut shared = Shared::new(rt, alloc);
+fn expect_samples(rt: &impl TestRuntime, sums: &[(&str, u64)]) {
+    let mut shared = Shared::new(rt);
     for &(name, want) in sums {
-        expect_sample(rt, &mut shared, name, want);
+        let nfa = nfa_named(rt.alloc(), name).expect(rt, "a sample");
+        let sum = fold_nfa(rt, nfa, &mut shared, SEED, HAYSTACKS);
+        assert_eq!(rt; sum, want, "{name}");
     }
 }
 
 // In parts, since a test may run for at most a minute.
 #[test]
 fn all_calls_answer_as_upstream_over_words(rt: HostRuntime) {
-    expect_samples(&rt, rt.alloc(), &SUMS[..4]);
+    expect_samples(&rt, &SUMS[..4]);
 }
 
 #[test]
 fn all_calls_answer_as_upstream_over_more_words(rt: HostRuntime) {
-    expect_samples(&rt, rt.alloc(), &SUMS[4..8]);
+    expect_samples(&rt, &SUMS[4..8]);
 }
 
 #[test]
 fn all_calls_answer_as_upstream_over_empty_matches(rt: HostRuntime) {
-    expect_samples(&rt, rt.alloc(), &SUMS[8..12]);
+    expect_samples(&rt, &SUMS[8..12]);
 }
 
 #[test]
 fn all_calls_answer_as_upstream_over_more_empty_matches(rt: HostRuntime) {
-    expect_samples(&rt, rt.alloc(), &SUMS[12..15]);
+    expect_samples(&rt, &SUMS[12..15]);
 }
 
 #[test]
 fn all_calls_answer_as_upstream_over_slots(rt: HostRuntime) {
-    expect_samples(&rt, rt.alloc(), &SUMS[15..18]);
+    expect_samples(&rt, &SUMS[15..18]);
 }
 
 #[test]
 fn all_calls_answer_as_upstream_over_odd_slots(rt: HostRuntime) {
-    expect_samples(&rt, rt.alloc(), &SUMS[18..22]);
+    expect_samples(&rt, &SUMS[18..22]);
 }
 
 #[test]
 fn all_calls_answer_as_upstream_over_long_matches(rt: HostRuntime) {
-    expect_samples(&rt, rt.alloc(), &SUMS[22..25]);
+    expect_samples(&rt, &SUMS[22..25]);
 }
 
 #[test]
 fn all_calls_answer_as_upstream_over_the_last(rt: HostRuntime) {
-    expect_samples(&rt, rt.alloc(), &SUMS[25..]);
+    expect_samples(&rt, &SUMS[25..]);
 }

@@ -2,10 +2,8 @@
 
 use super::grid::fold_nfa;
 use super::sums::{SEED, Shared};
-use std::alloc::Global;
-use std::process::Abort;
+use test_support::TestRuntime;
 use test_support::random::{Chance, random_nfa};
-use thompson_nfa::NFA;
 
 const HAYSTACKS: &[&[u8]] = &[b"", b"ab", b"abca", b"a\xE2\x98\x83", b"\x80b a"];
 
@@ -30,91 +28,68 @@ const SUMS: &[u64] = &[
     10572554243172587508,
 ];
 
-fn made(rt: &impl Abort, alloc: Global, chance: &mut Chance) -> NFA {
-    random_nfa(alloc, chance).expect(rt, "an NFA")
-}
-
-// The sum after the NFAs of one part.
-fn fold_part(rt: &impl Abort, shared: &mut Shared, chance: &mut Chance, sum: u64) -> u64 {
-    let mut sum = sum;
-    for _ in 0..PART {
-        let nfa = made(rt, shared.alloc, chance);
-        sum = fold_nfa(rt, nfa, shared, sum, HAYSTACKS);
-    }
-    sum
-}
-
-// Makes the NFAs of the parts before this one, without searching them.
-fn skip_parts(rt: &impl Abort, alloc: Global, chance: &mut Chance, part: usize) {
-    for _ in 0..part.saturating_mul(PART) {
-        made(rt, alloc, chance);
-    }
-}
-
-fn expect_part(rt: &impl Abort, alloc: Global, part: usize) {
+fn expect_part(rt: &impl TestRuntime, part: usize) {
     let mut chance = Chance::new(SEED_OF_NFAS);
-    skip_parts(rt, alloc, &mut chance, part);
-    let mut shared = Shared::new(rt, alloc);
-    expect_sums(rt, &mut shared, &mut chance, part);
-}
-
-fn expect_sums(rt: &impl Abort, shared: &mut Shared, chance: &mut Chance, part: usize) {
-    let before = SUMS.get(part).copied().expect(rt, "a part");
-    let want = SUMS
-        .get(part.saturating_add(1))
-        .copied()
-        .expect(rt, "a part");
-    let sum = fold_part(rt, shared, chance, before);
-    assert!(rt; sum == want, "{part}: {sum}");
+    // The NFAs of the parts before this one.
+    for _ in 0..part * PART {
+        random_nfa(rt.alloc(), &mut chance).expect(rt, "an NFA");
+    }
+    let mut shared = Shared::new(rt);
+    let mut sum = SUMS[part];
+    for _ in 0..PART {
+        let nfa = random_nfa(rt.alloc(), &mut chance).expect(rt, "an NFA");
+        sum = fold_nfa(rt, nfa, &mut shared, sum, HAYSTACKS);
+    }
+    assert_eq!(rt; sum, SUMS[part + 1]);
 }
 
 // In ten parts, since a test may run for at most a minute.
 #[test]
 fn all_calls_search_what_chance_makes_from_0(rt: HostRuntime) {
-    expect_part(&rt, rt.alloc(), 0);
+    expect_part(&rt, 0);
 }
 
 #[test]
 fn all_calls_search_what_chance_makes_from_10(rt: HostRuntime) {
-    expect_part(&rt, rt.alloc(), 1);
+    expect_part(&rt, 1);
 }
 
 #[test]
 fn all_calls_search_what_chance_makes_from_20(rt: HostRuntime) {
-    expect_part(&rt, rt.alloc(), 2);
+    expect_part(&rt, 2);
 }
 
 #[test]
 fn all_calls_search_what_chance_makes_from_30(rt: HostRuntime) {
-    expect_part(&rt, rt.alloc(), 3);
+    expect_part(&rt, 3);
 }
 
 #[test]
 fn all_calls_search_what_chance_makes_from_40(rt: HostRuntime) {
-    expect_part(&rt, rt.alloc(), 4);
+    expect_part(&rt, 4);
 }
 
 #[test]
 fn all_calls_search_what_chance_makes_from_50(rt: HostRuntime) {
-    expect_part(&rt, rt.alloc(), 5);
+    expect_part(&rt, 5);
 }
 
 #[test]
 fn all_calls_search_what_chance_makes_from_60(rt: HostRuntime) {
-    expect_part(&rt, rt.alloc(), 6);
+    expect_part(&rt, 6);
 }
 
 #[test]
 fn all_calls_search_what_chance_makes_from_70(rt: HostRuntime) {
-    expect_part(&rt, rt.alloc(), 7);
+    expect_part(&rt, 7);
 }
 
 #[test]
 fn all_calls_search_what_chance_makes_from_80(rt: HostRuntime) {
-    expect_part(&rt, rt.alloc(), 8);
+    expect_part(&rt, 8);
 }
 
 #[test]
 fn all_calls_search_what_chance_makes_from_90(rt: HostRuntime) {
-    expect_part(&rt, rt.alloc(), 9);
+    expect_part(&rt, 9);
 }

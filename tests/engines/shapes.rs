@@ -2,8 +2,6 @@
 
 use sample_engines::MakeError;
 use std::alloc::Global;
-use std::process::Abort;
-use test_support::engines::Engines;
 use test_support::machine::Machine;
 use thompson_nfa::NFA;
 
@@ -31,31 +29,17 @@ pub enum Shape {
 /// The NFA of this shape. It starts at its first state.
 pub fn nfa_of(alloc: Global, shape: Shape) -> Result<NFA, MakeError> {
     let mut machine = Machine::new(alloc);
-    add(alloc, &mut machine, shape)?;
-    machine.build(0, 0)
-}
-
-/// Both engines of the NFA of this shape.
-pub fn engines_of_shape(rt: &impl Abort, alloc: Global, shape: Shape) -> Engines {
-    let nfa = nfa_of(alloc, shape).expect(rt, "an NFA");
-    Engines::new(alloc, nfa).expect(rt, "memory")
-}
-
-pub fn nfa_copy(rt: &impl Abort, nfa: &NFA) -> NFA {
-    nfa.clone().expect(rt, "memory")
-}
-
-fn add(alloc: Global, machine: &mut Machine, shape: Shape) -> Result<(), MakeError> {
     match shape {
-        Shape::TwoBare => add_two_bare(machine),
-        Shape::UnionLoop => add_union_loop(machine),
-        Shape::TwoWays => add_two_ways(machine),
-        Shape::Chain(len) => add_chain(machine, len),
-        Shape::Captures(len) => add_captures(machine, len),
-        Shape::Fan(len) => add_fan(alloc, machine, len),
-        Shape::Word(len) => add_word(machine, len),
-        Shape::ByteOrLoop(len) => add_byte_or_loop(machine, len),
+        Shape::TwoBare => add_two_bare(&mut machine)?,
+        Shape::UnionLoop => add_union_loop(&mut machine)?,
+        Shape::TwoWays => add_two_ways(&mut machine)?,
+        Shape::Chain(len) => add_chain(&mut machine, len)?,
+        Shape::Captures(len) => add_captures(&mut machine, len)?,
+        Shape::Fan(len) => add_fan(&mut machine, alloc, len)?,
+        Shape::Word(len) => add_word(&mut machine, len)?,
+        Shape::ByteOrLoop(len) => add_byte_or_loop(&mut machine, len)?,
     }
+    machine.build(0, 0)
 }
 
 fn add_two_bare(machine: &mut Machine) -> Result<(), MakeError> {
@@ -102,16 +86,9 @@ fn add_captures(machine: &mut Machine, len: usize) -> Result<(), MakeError> {
     machine.groups(5)
 }
 
-fn add_fan(alloc: Global, machine: &mut Machine, len: usize) -> Result<(), MakeError> {
-    let mut targets = Vec::new(alloc);
-    for target in 1..len {
-        targets.push(target)?;
-    }
+fn add_fan(machine: &mut Machine, alloc: Global, len: usize) -> Result<(), MakeError> {
+    let targets: Vec<usize> = (1..len).collect(alloc)?;
     machine.union(&targets)?;
-    add_ribs(machine, len)
-}
-
-fn add_ribs(machine: &mut Machine, len: usize) -> Result<(), MakeError> {
     for _ in 2..len {
         machine.bytes(b'b', b'b', 0)?;
     }
@@ -134,16 +111,12 @@ fn add_byte_or_loop(machine: &mut Machine, len: usize) -> Result<(), MakeError> 
     machine.bytes(b'a', b'a', 3)?;
     machine.capture(1, 4)?;
     machine.accept(0)?;
-    add_loop(machine, len)?;
+    for next in 1..len {
+        machine.bytes(b'c', b'c', next + 5)?;
+    }
+    machine.bytes(b'c', b'c', 5)?;
     machine.pattern(1)?;
     machine.groups(0)?;
     machine.pattern(5)?;
     machine.groups(0)
-}
-
-fn add_loop(machine: &mut Machine, len: usize) -> Result<(), MakeError> {
-    for next in 1..len {
-        machine.bytes(b'c', b'c', next.saturating_add(5))?;
-    }
-    machine.bytes(b'c', b'c', 5)
 }

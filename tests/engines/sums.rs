@@ -5,8 +5,7 @@ use nfa_choice::choose::Choice;
 use nfa_engines::backtrack::{self, BoundedBacktracker};
 use nfa_engines::pikevm::{self, PikeVM};
 use regex_search_core::{Captures, Input, Match, NonMaxUsize, PatternID, PatternSet};
-use std::alloc::Global;
-use std::process::Abort;
+use test_support::TestRuntime;
 
 /// The sum before any answer.
 pub const SEED: u64 = 7;
@@ -18,15 +17,7 @@ pub fn fold(sum: u64, value: u64) -> u64 {
 
 // Adds one more than the pattern's number.
 fn fold_pattern(sum: u64, pattern: PatternID) -> u64 {
-    fold(sum, (pattern.as_usize() as u64).wrapping_add(1))
-}
-
-// Adds one more than the slot, or 0 for none.
-fn fold_slot(sum: u64, slot: Option<NonMaxUsize>) -> u64 {
-    match slot {
-        Some(offset) => fold(sum, (offset.get() as u64).wrapping_add(1)),
-        None => fold(sum, 0),
-    }
+    fold(sum, pattern.as_usize() as u64 + 1)
 }
 
 /// Adds one more than the pattern's number, or 0 for none; then each slot in the same way.
@@ -36,13 +27,16 @@ pub fn fold_slots(sum: u64, pattern: Option<PatternID>, slots: &[Option<NonMaxUs
         None => fold(sum, 0),
     };
     for slot in slots {
-        sum = fold_slot(sum, *slot);
+        sum = match slot {
+            Some(offset) => fold(sum, offset.get() as u64 + 1),
+            None => fold(sum, 0),
+        };
     }
     sum
 }
 
-/// Adds one more than the pattern's number, the start and the end, or 0 for none.
-pub fn fold_match(sum: u64, found: Option<Match>) -> u64 {
+// Adds one more than the pattern's number, the start and the end, or 0 for none.
+fn fold_match(sum: u64, found: Option<Match>) -> u64 {
     match found {
         Some(found) => {
             let sum = fold_pattern(sum, found.pattern());
@@ -56,43 +50,26 @@ fn fold_is_match(sum: u64, is_match: bool) -> u64 {
     fold(sum, if is_match { 1 } else { 0 })
 }
 
-/// Fails if this does not hold, and shows the search.
-pub fn expect_on(rt: &impl Abort, input: &Input<'_>, holds: bool) {
-    assert!(rt; holds, "{input:?}");
-}
-
-/// Expects this sum of the answers to the search.
-pub fn expect_sum(rt: &impl Abort, input: &Input<'_>, sum: u64, want: u64) {
-    expect_on(rt, input, sum == want);
-}
-
 /// What all searches write to, whatever it was used for before: a cache for each engine, slots, and captures of
 /// another NFA.
 #[derive(Drop)]
 pub struct Shared {
-    /// The allocator of all memory.
-    pub alloc: Global,
     /// The cache of the backtracker.
     pub marks: backtrack::Cache,
     /// The cache of the PikeVM.
     pub threads: pikevm::Cache,
-    /// The captures of another NFA.
-    pub captures: Captures,
+    captures: Captures,
     slots: [Option<NonMaxUsize>; 20],
 }
 
 impl Shared {
     /// Made for an NFA with twelve slots.
-    pub fn new(rt: &impl Abort, alloc: Global) -> Shared {
+    pub fn new(rt: &impl TestRuntime) -> Shared {
+        let alloc = rt.alloc();
         let nfa = nfa_of(alloc, Shape::Captures(9)).expect(rt, "an NFA");
         let vm = PikeVM::new_from_nfa(nfa).expect(rt, "memory");
-        Shared::of_pikevm(rt, alloc, &vm)
-    }
-
-    fn of_pikevm(rt: &impl Abort, alloc: Global, vm: &PikeVM) -> Shared {
         let back = BoundedBacktracker::never_match(alloc).expect(rt, "memory");
         Shared {
-            alloc,
             marks: back.create_cache(alloc),
             threads: vm.create_cache(alloc).expect(rt, "memory"),
             captures: vm.create_captures(alloc).expect(rt, "memory"),
@@ -103,7 +80,7 @@ impl Shared {
 
 /// The sum of the backtracker's answers: slots, the match, whether there is one, captures, and the list.
 pub fn sum_backtracked(
-    rt: &impl Abort,
+    rt: &impl TestRuntime,
     engine: &BoundedBacktracker,
     input: &Input<'_>,
     shared: &mut Shared,
@@ -114,17 +91,14 @@ pub fn sum_backtracked(
         slots,
         ..
     } = shared;
-    let pattern = engine
-        .try_search_slots(marks, input, slots)
-        .expect(rt, "an answer");
-    let sum = fold_slots(SEED, pattern, slots);
+    let pattern = engine.try_search_slots(marks, input, slots);
+    let sum = fold_slots(SEED, pattern.expect(rt, "an answer"), slots);
     let found = engine.try_find(marks, *input).expect(rt, "an answer");
     let sum = fold_match(sum, found);
     let is_match = engine.try_is_match(marks, *input).expect(rt, "an answer");
     let sum = fold_is_match(sum, is_match);
-    engine
-        .try_search(marks, input, captures)
-        .expect(rt, "an answer");
+    let searched = engine.try_search(marks, input, captures);
+    searched.expect(rt, "an answer");
     let mut sum = fold_slots(sum, captures.pattern(), captures.slots());
     for found in engine.try_find_iter(marks, *input) {
         sum = fold_match(sum, Some(found.expect(rt, "an answer")));
@@ -132,7 +106,7 @@ pub fn sum_backtracked(
     sum
 }
 
-/// The same sum by the PikeVM, or 0 if the cache does not fit.
+/// The same sum by the PikeVM.
 pub fn sum_piked(vm: &PikeVM, input: &Input<'_>, shared: &mut Shared) -> u64 {
     let Shared {
         threads,
@@ -140,20 +114,12 @@ pub fn sum_piked(vm: &PikeVM, input: &Input<'_>, shared: &mut Shared) -> u64 {
         slots,
         ..
     } = shared;
-    if !threads.fits(vm) {
-        return 0;
-    }
     let pattern = vm.search_slots(threads, input, slots);
     let sum = fold_slots(SEED, pattern, slots);
     let sum = fold_match(sum, vm.find(threads, *input));
     let sum = fold_is_match(sum, vm.is_match(threads, *input));
     vm.search(threads, input, captures);
-    let sum = fold_slots(sum, captures.pattern(), captures.slots());
-    fold_piked_list(vm, threads, input, sum)
-}
-
-fn fold_piked_list(vm: &PikeVM, threads: &mut pikevm::Cache, input: &Input<'_>, sum: u64) -> u64 {
-    let mut sum = sum;
+    let mut sum = fold_slots(sum, captures.pattern(), captures.slots());
     for found in vm.find_iter(threads, *input) {
         sum = fold_match(sum, Some(found));
     }
@@ -179,33 +145,14 @@ pub fn sum_chosen(choice: &mut Choice, input: &Input<'_>, shared: &mut Shared) -
     sum
 }
 
-/// The sum of what an empty set gains in a search for overlapping matches, or 0 if the cache does not fit.
+/// The sum of what an empty set gains in a search for overlapping matches.
 pub fn sum_of_set(
-    rt: &impl Abort,
-    alloc: Global,
+    rt: &impl TestRuntime,
     vm: &PikeVM,
     threads: &mut pikevm::Cache,
     input: &Input<'_>,
 ) -> u64 {
-    let mut set = PatternSet::new(alloc, 4).expect(rt, "memory");
-    if threads.fits(vm) {
-        vm.which_overlapping_matches(threads, input, &mut set);
-        sum_of_patterns(&set)
-    } else {
-        0
-    }
-}
-
-fn sum_of_patterns(set: &PatternSet) -> u64 {
-    let mut sum = SEED;
-    for pattern in set.iter() {
-        sum = fold_pattern(sum, pattern);
-    }
-    sum
-}
-
-/// The same with a cache of the least size.
-pub fn sum_of_own_set(rt: &impl Abort, alloc: Global, vm: &PikeVM, input: &Input<'_>) -> u64 {
-    let mut own = vm.create_cache(alloc).expect(rt, "memory");
-    sum_of_set(rt, alloc, vm, &mut own, input)
+    let mut set = PatternSet::new(rt.alloc(), 4).expect(rt, "memory");
+    vm.which_overlapping_matches(threads, input, &mut set);
+    set.iter().fold(SEED, fold_pattern)
 }

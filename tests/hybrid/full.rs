@@ -1,12 +1,12 @@
 //! Caches with room for few rows. They stay within their capacity, and a search clears them as often as it may. If it
 //! needs still more rows, it gives up, and a hybrid then runs the PikeVM.
 
-use super::pair::{Pair, pair_of};
+use super::pair::Pair;
 use nfa_compiler::Compiler;
-use nfa_engines::{HalfMatch, Input, NFA};
+use nfa_engines::Input;
 use nfa_hybrid::dfa::{Cache, Config, DFA, StopError};
-use std::alloc::Global;
-use std::process::Abort;
+use std::test::Fail;
+use test_support::TestRuntime;
 
 // The capacity of a cache in bytes: room for at most seven rows of one state.
 const CAPACITY: usize = 8400;
@@ -37,49 +37,19 @@ const FULL: &[(&str, &str, Option<usize>, bool)] = &[
     ("[^a]+9", ASCII, Some(0), false),
 ];
 
-fn nfa_of(rt: &impl Abort, alloc: Global, pattern: &str) -> NFA {
-    Compiler::new().build(alloc, pattern).expect(rt, "an NFA")
-}
-
-fn config_of(clears: Option<usize>) -> Config {
-    Config::new()
-        .cache_capacity(CAPACITY)
-        .minimum_cache_clear_count(clears)
-}
-
-fn dfa_of(rt: &impl Abort, nfa: NFA, config: Config) -> DFA {
-    let mut builder = DFA::builder();
-    builder.configure(config);
-    builder.build_from_nfa(nfa).expect(rt, "a DFA")
-}
-
 // The first and the last offset at which a search with a new cache may give up. It has then filled the cache once more
 // than it may clear it: with the fewest rows if each has all states, with the most if each has one. It makes at most
 // one row more than steps, and needs a row at each offset if the text is the pattern.
 fn offsets_of(dfa: &DFA, clears: usize) -> (usize, usize) {
-    let times = clears.saturating_add(1);
-    let largest = ROW.saturating_add(dfa.get_nfa().states().len().saturating_mul(4));
-    let least = CAPACITY.checked_div(largest).unwrap_or(0);
+    let times = clears + 1;
+    let least = CAPACITY / (ROW + dfa.get_nfa().states().len() * 4);
     let most = CAPACITY / (ROW + 4);
-    (
-        times.saturating_mul(least).saturating_sub(2),
-        times.saturating_mul(most),
-    )
+    (times * least - 2, times * most)
 }
 
-// Whether the search gives up at one of these offsets, or answers if there are none.
-fn ends_so(found: &Result<Option<HalfMatch>, StopError>, offsets: Option<(usize, usize)>) -> bool {
-    match (found, offsets) {
-        (Ok(_), None) => true,
-        (Err(StopError::GaveUp { offset }), Some((low, high))) => {
-            low <= *offset && *offset <= high
-        }
-        _ => false,
-    }
-}
-
+// The search gives up at one of these offsets, or answers if there are none.
 fn expect_search(
-    rt: &impl Abort,
+    rt: &impl TestRuntime,
     dfa: &DFA,
     cache: &mut Cache,
     text: &str,
@@ -88,49 +58,44 @@ fn expect_search(
     let found = dfa.try_find_half(cache, Input::new(text.as_bytes()));
     let taken = cache.memory_usage();
     assert!(rt; taken <= CAPACITY, "{taken} bytes");
-    assert!(rt; ends_so(&found, offsets), "{found:?}, not {offsets:?}");
-}
-
-// A search with a new cache, two more with the same cache, and one after a reset.
-fn expect_searches(
-    rt: &impl Abort,
-    dfa: &DFA,
-    cache: &mut Cache,
-    text: &str,
-    offsets: Option<(usize, usize)>,
-) {
-    expect_search(rt, dfa, cache, text, offsets);
-    let later = offsets.map(|(_, high)| (0, high));
-    expect_search(rt, dfa, cache, text, later);
-    expect_search(rt, dfa, cache, text, later);
-    cache.reset(dfa);
-    assert_eq!(rt; cache.memory_usage(), 0);
-    expect_search(rt, dfa, cache, text, offsets);
-}
-
-// The hybrid answers as the PikeVM does. The answers are the lazy DFA's unless it gives up.
-fn expect_hybrid(rt: &impl Abort, pair: &mut Pair, text: &str, gives_up: bool) {
-    pair.expect_same(rt, &Input::new(text.as_bytes()));
-    let counts = pair.counts();
-    let want = if gives_up { (0, 2) } else { (2, 0) };
-    assert!(rt; counts == want, "{counts:?}");
-}
-
-fn expect_dfa(rt: &impl Abort, alloc: Global, dfa: &DFA, text: &str, clears: Option<usize>) {
-    let mut cache = dfa.create_cache(alloc).expect(rt, "memory");
-    let offsets = clears.map(|clears| offsets_of(dfa, clears));
-    expect_searches(rt, dfa, &mut cache, text, offsets);
+    let ends_so = match (&found, offsets) {
+        (Ok(_), None) => true,
+        (Err(StopError::GaveUp { offset }), Some((low, high))) => {
+            low <= *offset && *offset <= high
+        }
+        _ => false,
+    };
+    assert!(rt; ends_so, "{found:?}, not {offsets:?}");
 }
 
 #[test]
-fn full_caches_are_cleared_as_often_as_they_may_be(rt: HostRuntime) {
-    let alloc = rt.alloc();
+fn full_caches_are_cleared_as_often_as_they_may_be(rt: HostRuntime) -> Result<(), Fail> {
     for &(pattern, text, clears, gives_up) in FULL {
-        let nfa = nfa_of(&rt, alloc, pattern);
-        let mut pair = pair_of(&rt, alloc, &nfa, config_of(clears));
-        expect_hybrid(&rt, &mut pair, text, gives_up);
-        let dfa = dfa_of(&rt, nfa, config_of(clears));
-        let clears = if gives_up { clears } else { None };
-        expect_dfa(&rt, alloc, &dfa, text, clears);
+        let nfa = Compiler::new().build(rt.alloc(), pattern)?;
+        let config = Config::new()
+            .cache_capacity(CAPACITY)
+            .minimum_cache_clear_count(clears);
+
+        // The hybrid answers as the PikeVM does. The answers are the lazy DFA's unless it gives up.
+        let mut pair = Pair::new(&rt, &nfa, config);
+        pair.expect_same(&rt, &Input::new(text.as_bytes()));
+        let counts = if gives_up { (0, 2) } else { (2, 0) };
+        assert_eq!(rt; pair.counts(), counts, "{pattern} {clears:?}");
+
+        // A search with a new cache, two more with the same cache, and one after a reset.
+        let dfa = DFA::builder().configure(config).build_from_nfa(nfa)?;
+        let mut cache = dfa.create_cache(rt.alloc())?;
+        let offsets = match clears {
+            Some(clears) if gives_up => Some(offsets_of(&dfa, clears)),
+            _ => None,
+        };
+        expect_search(&rt, &dfa, &mut cache, text, offsets);
+        let later = offsets.map(|(_, high)| (0, high));
+        expect_search(&rt, &dfa, &mut cache, text, later);
+        expect_search(&rt, &dfa, &mut cache, text, later);
+        cache.reset(&dfa);
+        assert_eq!(rt; cache.memory_usage(), 0);
+        expect_search(&rt, &dfa, &mut cache, text, offsets);
     }
+    Ok(())
 }

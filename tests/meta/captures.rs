@@ -1,10 +1,9 @@
 //! Captures of matches, with windows of the lazy DFA and without. The spans are those that regex-automata gives.
 
-use super::{expect_text, regex};
 use nfa_engines::{Captures, Input};
 use nfa_meta::Regex;
-use std::alloc::{AllocError, Global};
-use std::process::Abort;
+use std::alloc::AllocError;
+use std::test::Fail;
 
 /// A pattern, a haystack, and the spans of the groups of each match.
 type Row = (&'static str, &'static str, &'static str);
@@ -35,63 +34,41 @@ fn write_groups(text: &mut String, captures: &Captures) -> Result<(), AllocError
     text.push_str("| ")
 }
 
-fn groups_of(rt: &impl Abort, alloc: Global, all: &[Captures]) -> String {
-    let mut text = String::new(alloc);
-    for captures in all {
-        write_groups(&mut text, captures).expect(rt, "memory");
-    }
-    text
-}
+#[test]
+fn captures_have_the_spans_of_each_group(rt: HostRuntime) -> Result<(), Fail> {
+    let alloc = rt.alloc();
+    for &(pattern, haystack, wanted) in ROWS {
+        let mut regex = Regex::new(alloc, pattern)?;
+        let input = Input::new(haystack.as_bytes());
+        let mut text = String::new(alloc);
+        for captures in &regex.captures_all(alloc, input)? {
+            write_groups(&mut text, captures)?;
+        }
+        assert_eq!(rt; text.as_str(), wanted, "{pattern}");
 
-fn iterated(rt: &impl Abort, alloc: Global, regex: &mut Regex, input: Input<'_>) -> Vec<Captures> {
-    let mut all = Vec::new(alloc);
-    for captures in regex.captures_iter(alloc, input).expect(rt, "memory") {
-        all.push(captures.expect(rt, "memory")).expect(rt, "memory");
-    }
-    all
-}
+        let mut text = String::new(alloc);
+        for captures in regex.captures_iter(alloc, input)? {
+            write_groups(&mut text, &captures?)?;
+        }
+        assert_eq!(rt; text.as_str(), wanted, "{pattern}");
 
-fn iterated_with(
-    rt: &impl Abort,
-    alloc: Global,
-    regex: &mut Regex,
-    input: Input<'_>,
-) -> Vec<Captures> {
-    let mut all = Vec::new(alloc);
-    let captures = regex.create_captures(alloc).expect(rt, "memory");
-    for captures in regex.captures_iter_with(input, captures) {
-        all.push(captures.expect(rt, "memory")).expect(rt, "memory");
+        let mut text = String::new(alloc);
+        let captures = regex.create_captures(alloc)?;
+        for captures in regex.captures_iter_with(input, captures) {
+            write_groups(&mut text, &captures?)?;
+        }
+        assert_eq!(rt; text.as_str(), wanted, "{pattern}");
     }
-    all
-}
-
-fn expect_row(rt: &impl Abort, alloc: Global, regex: &mut Regex, (_, haystack, wanted): Row) {
-    let input = Input::new(haystack.as_bytes());
-    let all = regex.captures_all(alloc, input).expect(rt, "memory");
-    expect_text(rt, &groups_of(rt, alloc, &all), wanted);
-    let all = iterated(rt, alloc, regex, input);
-    expect_text(rt, &groups_of(rt, alloc, &all), wanted);
-    let all = iterated_with(rt, alloc, regex, input);
-    expect_text(rt, &groups_of(rt, alloc, &all), wanted);
+    Ok(())
 }
 
 #[test]
-fn captures_have_the_spans_of_each_group(rt: HostRuntime) {
-    for &row in ROWS {
-        let mut regex = regex(&rt, rt.alloc(), row.0);
-        expect_row(&rt, rt.alloc(), &mut regex, row);
-    }
-}
-
-#[test]
-fn captures_take_an_input_by_value(rt: HostRuntime) {
-    let mut regex = regex(&rt, rt.alloc(), "foo([0-9]+)");
-    let text = earliest_groups(&rt, rt.alloc(), &mut regex, b"a foo12");
-    expect_text(&rt, &text, "2..6 5..6 | ");
-}
-
-fn earliest_groups(rt: &impl Abort, alloc: Global, regex: &mut Regex, text: &[u8]) -> String {
-    let mut captures = regex.create_captures(alloc).expect(rt, "memory");
-    regex.captures(Input::new(text).earliest(true), &mut captures);
-    groups_of(rt, alloc, &[captures])
+fn captures_take_an_input_by_value(rt: HostRuntime) -> Result<(), Fail> {
+    let mut regex = Regex::new(rt.alloc(), "foo([0-9]+)")?;
+    let mut captures = regex.create_captures(rt.alloc())?;
+    regex.captures(Input::new(b"a foo12").earliest(true), &mut captures);
+    let mut text = String::new(rt.alloc());
+    write_groups(&mut text, &captures)?;
+    assert_eq!(rt; text.as_str(), "2..6 5..6 | ");
+    Ok(())
 }

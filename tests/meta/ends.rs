@@ -1,10 +1,8 @@
 //! Lists of all half matches.
 
-use super::regex;
 use nfa_engines::Input;
 use nfa_meta::Regex;
-use std::alloc::Global;
-use std::process::Abort;
+use std::test::Fail;
 
 /// A pattern, a haystack, and the offsets of all half matches.
 type Row = (&'static str, &'static str, &'static [usize]);
@@ -18,18 +16,15 @@ const ROWS: &[Row] = &[
     ("a", "xyz", &[]),
 ];
 
-fn expect_row(rt: &impl Abort, alloc: Global, regex: &mut Regex, (pattern, haystack, wanted): Row) {
-    let mut ends = Vec::new(alloc);
-    for half in regex.half_matches(Input::new(haystack.as_bytes())) {
-        ends.push(half.offset()).expect(rt, "memory");
-    }
-    assert_eq!(rt; ends.as_slice(), wanted, "{pattern}");
-}
-
 #[test]
-fn half_matches_have_the_ends(rt: HostRuntime) {
-    for &row in ROWS {
-        let mut regex = regex(&rt, rt.alloc(), row.0);
-        expect_row(&rt, rt.alloc(), &mut regex, row);
+fn half_matches_have_the_ends(rt: HostRuntime) -> Result<(), Fail> {
+    for &(pattern, haystack, wanted) in ROWS {
+        let mut regex = Regex::new(rt.alloc(), pattern)?;
+        let ends: Vec<usize> = regex
+            .half_matches(Input::new(haystack.as_bytes()))
+            .map(|half| half.offset())
+            .collect(rt.alloc())?;
+        assert_eq!(rt; ends.as_slice(), wanted, "{pattern}");
     }
+    Ok(())
 }

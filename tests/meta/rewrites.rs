@@ -1,11 +1,9 @@
 //! Texts in which the output of a function replaces the matches of a pattern.
 
-use super::{expect_output, regex};
 use nfa_meta::Regex;
 use regex_search_core::{Captures, Span};
-use std::alloc::{AllocError, Global};
-use std::process::Abort;
-use std::rt::HostRuntime;
+use std::alloc::AllocError;
+use std::test::Fail;
 
 /// A pattern, a haystack, a limit or 0 for none, and the output if a function puts the second group before the first.
 type Row = (&'static str, &'static str, usize, &'static str);
@@ -36,7 +34,7 @@ const SWAPPED: &[Row] = &[
 /// Returns the text in the span, or nothing.
 fn text_in(text: &[u8], span: Option<Span>) -> &[u8] {
     match span {
-        Some(span) => text.get(span.start..span.end).unwrap_or(b""),
+        Some(span) => &text[span.start..span.end],
         None => b"",
     }
 }
@@ -50,58 +48,40 @@ fn swap(text: &[u8], captures: &Captures, output: &mut Vec<u8>) -> Result<(), Al
 }
 
 #[test]
-fn functions_replace_matches(rt: HostRuntime) {
-    let alloc = rt.alloc();
+fn functions_replace_matches(rt: HostRuntime) -> Result<(), Fail> {
     for &(pattern, haystack, limit, wanted) in SWAPPED {
-        let mut regex = regex(&rt, alloc, pattern);
-        let output = swapped(alloc, &mut regex, haystack.as_bytes(), limit);
-        expect_output(&rt, output, wanted);
+        let mut regex = Regex::new(rt.alloc(), pattern)?;
+        let text = haystack.as_bytes();
+        let output = regex.replacen_with(
+            rt.alloc(),
+            text,
+            limit,
+            |captures, output| swap(text, captures, output),
+        )?;
+        assert_eq!(rt; output.as_slice(), wanted.as_bytes(), "{pattern}");
     }
-}
-
-fn swapped(
-    alloc: Global,
-    regex: &mut Regex,
-    text: &[u8],
-    limit: usize,
-) -> Result<Vec<u8>, AllocError> {
-    regex.replacen_with(
-        alloc,
-        text,
-        limit,
-        |captures, output| swap(text, captures, output),
-    )
+    Ok(())
 }
 
 #[test]
-fn functions_are_called_in_order(rt: HostRuntime) {
-    let mut regex = regex(&rt, rt.alloc(), "[a-z]+");
-    let output = numbered(rt.alloc(), &mut regex, b"one, two and three");
-    expect_output(&rt, output, "1, 2 3 4");
-}
-
-fn numbered(alloc: Global, regex: &mut Regex, text: &[u8]) -> Result<Vec<u8>, AllocError> {
+fn functions_are_called_in_order(rt: HostRuntime) -> Result<(), Fail> {
+    let mut regex = Regex::new(rt.alloc(), "[a-z]+")?;
     let mut count = b'0';
-    regex.replace_all_with(alloc, text, |_, output| {
-        count = count.wrapping_add(1);
+    let output = regex.replace_all_with(rt.alloc(), b"one, two and three", |_, output| {
+        count += 1;
         output.push(count)?;
         Ok(())
-    })
+    })?;
+    assert_eq!(rt; output.as_slice(), b"1, 2 3 4".as_slice());
+    Ok(())
 }
 
 #[test]
-fn errors_of_functions_are_returned(rt: HostRuntime) {
-    let mut regex = regex(&rt, rt.alloc(), "[0-9]");
-    let output = refused(rt.alloc(), &mut regex, b"a1");
-    expect_error(&rt, output.err());
-    let output = refused(rt.alloc(), &mut regex, b"a");
-    expect_output(&rt, output, "a");
-}
-
-fn expect_error(rt: &impl Abort, error: Option<AllocError>) {
-    assert!(rt; error.is_some());
-}
-
-fn refused(alloc: Global, regex: &mut Regex, text: &[u8]) -> Result<Vec<u8>, AllocError> {
-    regex.replacen_with(alloc, text, 1, |_, _| Err(AllocError))
+fn errors_of_functions_are_returned(rt: HostRuntime) -> Result<(), Fail> {
+    let mut regex = Regex::new(rt.alloc(), "[0-9]")?;
+    let refused = regex.replacen_with(rt.alloc(), b"a1", 1, |_, _| Err(AllocError));
+    assert!(rt; refused.is_err());
+    let output = regex.replacen_with(rt.alloc(), b"a", 1, |_, _| Err(AllocError))?;
+    assert_eq!(rt; output.as_slice(), b"a".as_slice());
+    Ok(())
 }

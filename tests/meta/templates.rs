@@ -1,11 +1,8 @@
 //! Texts in which a template, filled by captures, replaces the matches of a pattern.
 
-use super::{expect_output, regex};
 use nfa_engines::Input;
 use nfa_meta::Regex;
-use nfa_meta::interpolate::TemplateError;
-use std::alloc::Global;
-use std::process::Abort;
+use std::test::Fail;
 
 /// A pattern, a haystack, a limit or 0 for none, a template, and the output.
 type Row = (
@@ -89,69 +86,47 @@ const REFUSED: &[(&str, &str)] = &[
     ),
 ];
 
-fn expect_filled(rt: &impl Abort, alloc: Global, regex: &mut Regex, row: Row) {
-    let (_, haystack, limit, text, wanted) = row;
-    let template = regex.parse_template(alloc, text.as_bytes());
-    let template = template.expect(rt, "a template");
-    let output = regex.replacen_template(alloc, haystack.as_bytes(), limit, &template);
-    expect_output(rt, output, wanted);
-}
-
 #[test]
-fn templates_are_filled(rt: HostRuntime) {
-    for &row in FILLED {
-        let mut regex = regex(&rt, rt.alloc(), row.0);
-        expect_filled(&rt, rt.alloc(), &mut regex, row);
-    }
-}
-
-fn expect_refused(rt: &impl Abort, alloc: Global, regex: &Regex, (text, wanted): (&str, &str)) {
-    let error = regex.parse_template(alloc, text.as_bytes()).err();
-    expect_why(rt, alloc, error.expect(rt, "an error"), wanted);
-}
-
-fn expect_why(rt: &impl Abort, alloc: Global, error: TemplateError, wanted: &str) {
-    let text = format!(in alloc; "{error}").expect(rt, "memory");
-    assert!(rt; text.starts_with(wanted), "{text}");
-}
-
-#[test]
-fn mistakes_in_templates_are_named(rt: HostRuntime) {
-    let regex = regex(&rt, rt.alloc(), "(?<n>b)(c)?");
-    expect_all_refused(&rt, rt.alloc(), &regex);
-}
-
-fn expect_all_refused(rt: &impl Abort, alloc: Global, regex: &Regex) {
-    for &row in REFUSED {
-        expect_refused(rt, alloc, regex, row);
-    }
-}
-
-#[test]
-fn groups_are_those_of_the_pattern_that_matched(rt: HostRuntime) {
+fn templates_are_filled(rt: HostRuntime) -> Result<(), Fail> {
     let alloc = rt.alloc();
-    let mut regex = Regex::new_many(alloc, &["(a)(d)?", "(b)c"]).expect(&rt, "a regex");
-    expect_all_filled(&rt, alloc, &mut regex);
-}
-
-fn expect_all_filled(rt: &impl Abort, alloc: Global, regex: &mut Regex) {
-    let template = regex.parse_template(alloc, b"<$1$2>");
-    let template = template.expect(rt, "a template");
-    let output = regex.replace_all_template(alloc, b"abcad", &template);
-    expect_output(rt, output, "<a><b><ad>");
+    for &(pattern, haystack, limit, text, wanted) in FILLED {
+        let mut regex = Regex::new(alloc, pattern)?;
+        let template = regex.parse_template(alloc, text.as_bytes())?;
+        let output = regex.replacen_template(alloc, haystack.as_bytes(), limit, &template)?;
+        assert_eq!(rt; output.as_slice(), wanted.as_bytes(), "{pattern}: {text}");
+    }
+    Ok(())
 }
 
 #[test]
-fn first_captures_are_as_many_as_wanted(rt: HostRuntime) {
+fn mistakes_in_templates_are_named(rt: HostRuntime) -> Result<(), Fail> {
     let alloc = rt.alloc();
-    let mut regex = regex(&rt, alloc, "foo([0-9]+)");
-    for &(count, wanted) in &[(0, 0), (1, 1), (2, 2), (3, 3), (9, 3)] {
-        expect_first(&rt, alloc, &mut regex, count, wanted);
+    let regex = Regex::new(alloc, "(?<n>b)(c)?")?;
+    for &(text, wanted) in REFUSED {
+        let error = regex.parse_template(alloc, text.as_bytes()).err();
+        let why = format!(in alloc; "{}", error.expect(&rt, text))?;
+        assert!(rt; why.starts_with(wanted), "{why}");
     }
+    Ok(())
 }
 
-fn expect_first(rt: &impl Abort, alloc: Global, regex: &mut Regex, count: usize, wanted: usize) {
-    let input = Input::new(b"foo1 foo12 foo123");
-    let first = regex.first_captures(alloc, input, count);
-    assert_eq!(rt; first.expect(rt, "memory").len(), wanted);
+#[test]
+fn groups_are_those_of_the_pattern_that_matched(rt: HostRuntime) -> Result<(), Fail> {
+    let alloc = rt.alloc();
+    let mut regex = Regex::new_many(alloc, &["(a)(d)?", "(b)c"])?;
+    let template = regex.parse_template(alloc, b"<$1$2>")?;
+    let output = regex.replace_all_template(alloc, b"abcad", &template)?;
+    assert_eq!(rt; output.as_slice(), b"<a><b><ad>".as_slice());
+    Ok(())
+}
+
+#[test]
+fn first_captures_are_as_many_as_wanted(rt: HostRuntime) -> Result<(), Fail> {
+    let mut regex = Regex::new(rt.alloc(), "foo([0-9]+)")?;
+    for (count, wanted) in [(0, 0), (1, 1), (2, 2), (3, 3), (9, 3)] {
+        let input = Input::new(b"foo1 foo12 foo123");
+        let first = regex.first_captures(rt.alloc(), input, count)?;
+        assert_eq!(rt; first.len(), wanted);
+    }
+    Ok(())
 }

@@ -1,9 +1,9 @@
 //! Texts that are split at the matches of a pattern, or in which other bytes replace the matches.
 
-use super::{expect_output, regex};
 use nfa_engines::Span;
-use std::alloc::{AllocError, Global};
-use std::process::Abort;
+use nfa_meta::Regex;
+use std::test::Fail;
+use test_support::TestRuntime;
 
 /// A pattern, a haystack, and the texts around all matches.
 type Fields = (&'static str, &'static str, &'static [&'static str]);
@@ -58,60 +58,37 @@ const REPLACED: &[Replacing] = &[
     ("a", "xyz", 0, "b", "xyz"),
 ];
 
-fn expect_texts(
-    rt: &impl Abort,
-    haystack: &str,
-    spans: Result<Vec<Span>, AllocError>,
-    wanted: &[&str],
-) {
-    let spans = spans.expect(rt, "memory");
-    expect(rt, spans.len() == wanted.len(), haystack);
+fn expect_texts(rt: &impl TestRuntime, haystack: &str, spans: &[Span], wanted: &[&str]) {
+    assert_eq!(rt; spans.len(), wanted.len(), "{haystack}");
     for (span, text) in spans.iter().zip(wanted) {
-        let found = haystack.as_bytes().get(span.range());
-        expect(rt, found == Some(text.as_bytes()), haystack);
-    }
-}
-
-fn expect(rt: &impl Abort, holds: bool, haystack: &str) {
-    assert!(rt; holds, "{haystack}");
-}
-
-fn expect_fields(rt: &impl Abort, alloc: Global, (pattern, haystack, wanted): Fields) {
-    let mut regex = regex(rt, alloc, pattern);
-    let spans = regex.split_all(alloc, haystack.as_bytes());
-    expect_texts(rt, haystack, spans, wanted);
-}
-
-fn expect_first_fields(
-    rt: &impl Abort,
-    alloc: Global,
-    (pattern, haystack, limit, wanted): FirstFields,
-) {
-    let mut regex = regex(rt, alloc, pattern);
-    let spans = regex.splitn_all(alloc, haystack.as_bytes(), limit);
-    expect_texts(rt, haystack, spans, wanted);
-}
-
-fn expect_replaced(rt: &impl Abort, alloc: Global, row: Replacing) {
-    let (pattern, haystack, limit, bytes, wanted) = row;
-    let mut regex = regex(rt, alloc, pattern);
-    let output = regex.replacen(alloc, haystack.as_bytes(), limit, bytes.as_bytes());
-    expect_output(rt, output, wanted);
-}
-
-#[test]
-fn fields_are_around_the_matches(rt: HostRuntime) {
-    for &row in FIELDS {
-        expect_fields(&rt, rt.alloc(), row);
-    }
-    for &row in FIRST_FIELDS {
-        expect_first_fields(&rt, rt.alloc(), row);
+        let found = &haystack.as_bytes()[span.start..span.end];
+        assert_eq!(rt; found, text.as_bytes(), "{haystack}");
     }
 }
 
 #[test]
-fn bytes_are_in_place_of_the_matches(rt: HostRuntime) {
-    for &row in REPLACED {
-        expect_replaced(&rt, rt.alloc(), row);
+fn fields_are_around_the_matches(rt: HostRuntime) -> Result<(), Fail> {
+    let alloc = rt.alloc();
+    for &(pattern, haystack, wanted) in FIELDS {
+        let mut regex = Regex::new(alloc, pattern)?;
+        let spans = regex.split_all(alloc, haystack.as_bytes())?;
+        expect_texts(&rt, haystack, &spans, wanted);
     }
+    for &(pattern, haystack, limit, wanted) in FIRST_FIELDS {
+        let mut regex = Regex::new(alloc, pattern)?;
+        let spans = regex.splitn_all(alloc, haystack.as_bytes(), limit)?;
+        expect_texts(&rt, haystack, &spans, wanted);
+    }
+    Ok(())
+}
+
+#[test]
+fn bytes_are_in_place_of_the_matches(rt: HostRuntime) -> Result<(), Fail> {
+    let alloc = rt.alloc();
+    for &(pattern, haystack, limit, bytes, wanted) in REPLACED {
+        let mut regex = Regex::new(alloc, pattern)?;
+        let output = regex.replacen(alloc, haystack.as_bytes(), limit, bytes.as_bytes())?;
+        assert_eq!(rt; output.as_slice(), wanted.as_bytes(), "{pattern}");
+    }
+    Ok(())
 }

@@ -66,11 +66,8 @@ impl Machine {
     /// Adds a state that has these targets for the bytes from `first` on, and none for other bytes.
     pub fn dense(&mut self, first: usize, targets: &[Option<usize>]) -> Result<(), MakeError> {
         let mut all = vec![in self.alloc; None; first]?;
-        for target in targets {
-            all.push(match target {
-                Some(next) => Some(state_id(*next)?),
-                None => None,
-            })?;
+        for &target in targets {
+            all.push(target.map(state_id).transpose()?)?;
         }
         self.states.push(State::Dense(all))?;
         Ok(())
@@ -128,11 +125,7 @@ impl Machine {
 
     /// Gives the next pattern `explicit` explicit groups without names.
     pub fn groups(&mut self, explicit: usize) -> Result<(), MakeError> {
-        let mut names = Vec::new(self.alloc);
-        for _ in 0..explicit {
-            names.push(None)?;
-        }
-        self.groups.push(names)?;
+        self.groups.push(vec![in self.alloc; None; explicit]?)?;
         Ok(())
     }
 

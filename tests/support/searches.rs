@@ -6,20 +6,16 @@ use std::alloc::{AllocError, Global};
 /// The searches of each span of the haystack: unanchored, also with `earliest`, anchored, and anchored to the first
 /// pattern.
 pub fn searches_of<'h>(alloc: Global, haystack: &'h [u8]) -> Result<Vec<Input<'h>>, AllocError> {
+    let first = PatternID::new(0).unwrap();
     let mut searches = Vec::new(alloc);
-    for start in 0..haystack.len() + 1 {
-        for end in start..haystack.len() + 1 {
-            add_modes(&mut searches, Input::new(haystack).range(start..end))?;
+    for start in 0..=haystack.len() {
+        for end in start..=haystack.len() {
+            let input = Input::new(haystack).range(start..end);
+            searches.push(input)?;
+            searches.push(input.earliest(true))?;
+            searches.push(input.anchored(Anchored::Yes))?;
+            searches.push(input.anchored(Anchored::Pattern(first)))?;
         }
     }
     Ok(searches)
-}
-
-fn add_modes<'h>(searches: &mut Vec<Input<'h>>, input: Input<'h>) -> Result<(), AllocError> {
-    let first = PatternID::new(0).unwrap();
-    searches.push(input)?;
-    searches.push(input.earliest(true))?;
-    searches.push(input.anchored(Anchored::Yes))?;
-    searches.push(input.anchored(Anchored::Pattern(first)))?;
-    Ok(())
 }

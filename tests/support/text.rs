@@ -123,11 +123,7 @@ pub fn piked_half(
 /// The pattern and the offset, as `0 4`, or `none`.
 pub fn half_text(alloc: Global, half: Option<HalfMatch>) -> Result<String, AllocError> {
     match half {
-        Some(half) => {
-            let pattern = half.pattern().as_usize();
-            let offset = half.offset();
-            format!(in alloc; "{pattern} {offset}")
-        }
+        Some(half) => format!(in alloc; "{} {}", half.pattern().as_usize(), half.offset()),
         None => String::from_str(alloc, "none"),
     }
 }

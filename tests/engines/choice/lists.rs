@@ -1,14 +1,13 @@
 //! All matches, all captures and the set of patterns of a `Choice`: the matches of the samples, and captures that are
 //! the same whichever engine runs.
 
-use super::super::expected::{Case, expect, expect_answer};
-use super::{captures_of, configured, with_engine};
-use nfa_choice::{Choice, Engine};
+use super::{captures_of, captures_text, configured};
+use nfa_choice::Engine;
 use nfa_samples::answers::ALL;
 use regex_search_core::MatchKind::{self, LeftmostFirst};
-use regex_search_core::{Captures, Input, Match, PatternSet};
-use std::alloc::Global;
-use std::process::Abort;
+use regex_search_core::{Captures, Input, PatternSet};
+use std::alloc::{AllocError, Global};
+use std::test::Fail;
 use test_support::text::{slots_text, write_item};
 
 // Bytes of marks: the default, none, and room for short spans only.
@@ -24,129 +23,54 @@ const LISTS: &[(&str, &[u8])] = &[
     ("abc", b""),
 ];
 
-fn matches_text(rt: &impl Abort, alloc: Global, all: &[Match]) -> String {
-    let mut text = String::new(alloc);
-    for found in all {
-        write_item(&mut text, Ok(*found)).expect(rt, "memory");
-    }
-    text
-}
-
-fn add_row(rt: &impl Abort, alloc: Global, text: &mut String, captures: &Captures) {
-    let row = slots_text(alloc, captures.pattern(), captures.slots()).expect(rt, "memory");
-    write!(text, "{row}, ").expect(rt, "memory");
-}
-
-fn rows_text(rt: &impl Abort, alloc: Global, all: &[Captures]) -> String {
-    let mut text = String::new(alloc);
-    for captures in all {
-        add_row(rt, alloc, &mut text, captures);
-    }
-    text
-}
-
-fn chosen_matches(rt: &impl Abort, alloc: Global, choice: &mut Choice, input: Input<'_>) -> String {
-    matches_text(
-        rt,
-        alloc,
-        &choice.find_all(alloc, input).expect(rt, "memory"),
-    )
-}
-
-fn chosen_rows(rt: &impl Abort, alloc: Global, choice: &mut Choice, input: Input<'_>) -> String {
-    rows_text(
-        rt,
-        alloc,
-        &choice.captures_all(alloc, input).expect(rt, "memory"),
-    )
-}
-
-// The captures that the iterator gives.
-fn iterated_rows(rt: &impl Abort, alloc: Global, choice: &mut Choice, input: Input<'_>) -> String {
-    let mut text = String::new(alloc);
-    for item in choice.captures_iter(alloc, input).expect(rt, "memory") {
-        let captures = item.expect(rt, "memory");
-        add_row(rt, alloc, &mut text, &captures);
-    }
-    text
-}
-
-// The same, with captures that are passed in.
-fn lent_rows(rt: &impl Abort, alloc: Global, choice: &mut Choice, input: Input<'_>) -> String {
-    let captures = choice.create_captures(alloc).expect(rt, "memory");
-    let mut text = String::new(alloc);
-    for item in choice.captures_iter_with(input, captures) {
-        let captures = item.expect(rt, "memory");
-        add_row(rt, alloc, &mut text, &captures);
-    }
-    text
-}
-
-fn expect_matches(
-    rt: &impl Abort,
-    alloc: Global,
-    case: &Case<'_>,
-    capacity: Option<usize>,
-    want: &str,
-) {
-    let mut choice = configured(rt, alloc, case.name, capacity, LeftmostFirst);
-    let text = chosen_matches(rt, alloc, &mut choice, case.input);
-    expect_answer(rt, case, text.as_str(), want);
-}
-
 #[test]
-fn lists_are_those_of_the_samples(rt: HostRuntime) {
+fn lists_are_those_of_the_samples(rt: HostRuntime) -> Result<(), Fail> {
+    let alloc = rt.alloc();
     for &(name, haystack, want) in ALL {
-        let input = Input::new(haystack);
         for &capacity in CAPACITIES {
-            expect_matches(&rt, rt.alloc(), &Case { name, input }, capacity, want);
+            let mut choice = configured(&rt, name, capacity, LeftmostFirst);
+            let mut text = String::new(alloc);
+            for found in &choice.find_all(alloc, Input::new(haystack))? {
+                write_item(&mut text, Ok(*found))?;
+            }
+            assert_eq!(rt; text.as_str(), want, "{name} {haystack:?}");
         }
     }
+    Ok(())
 }
 
-// All captures, by a choice of the default capacity.
-fn all_rows(rt: &impl Abort, alloc: Global, case: &Case<'_>) -> String {
-    let mut choice = configured(rt, alloc, case.name, None, LeftmostFirst);
-    chosen_rows(rt, alloc, &mut choice, case.input)
-}
-
-fn expect_rows(rt: &impl Abort, alloc: Global, choice: &mut Choice, case: &Case<'_>, rows: &str) {
-    let text = iterated_rows(rt, alloc, choice, case.input);
-    expect_answer(rt, case, text.as_str(), rows);
-    let text = lent_rows(rt, alloc, choice, case.input);
-    expect_answer(rt, case, text.as_str(), rows);
-}
-
-fn expect_same_rows(
-    rt: &impl Abort,
-    alloc: Global,
-    case: &Case<'_>,
-    capacity: Option<usize>,
-    rows: &str,
-) {
-    let mut choice = configured(rt, alloc, case.name, capacity, LeftmostFirst);
-    expect_rows(rt, alloc, &mut choice, case, rows);
+// Writes the pattern and the slots, and then a comma and a space.
+fn write_row(text: &mut String, alloc: Global, captures: &Captures) -> Result<(), AllocError> {
+    let row = slots_text(alloc, captures.pattern(), captures.slots())?;
+    write!(text, "{row}, ")
 }
 
 #[test]
-fn captures_are_those_of_any_engine(rt: HostRuntime) {
+fn captures_are_those_of_any_engine(rt: HostRuntime) -> Result<(), Fail> {
+    let alloc = rt.alloc();
     for &(name, haystack) in LISTS {
         let input = Input::new(haystack);
-        let rows = all_rows(&rt, rt.alloc(), &Case { name, input });
+        let mut rows = String::new(alloc);
+        let mut choice = configured(&rt, name, None, LeftmostFirst);
+        for captures in &choice.captures_all(alloc, input)? {
+            write_row(&mut rows, alloc, captures)?;
+        }
         for &capacity in CAPACITIES {
-            expect_same_rows(&rt, rt.alloc(), &Case { name, input }, capacity, &rows);
+            let mut choice = configured(&rt, name, capacity, LeftmostFirst);
+            let mut text = String::new(alloc);
+            for captures in choice.captures_iter(alloc, input)? {
+                write_row(&mut text, alloc, &captures?)?;
+            }
+            assert_eq!(rt; text, rows, "{name} {input:?}");
+            let captures = choice.create_captures(alloc)?;
+            let mut text = String::new(alloc);
+            for captures in choice.captures_iter_with(input, captures) {
+                write_row(&mut text, alloc, &captures?)?;
+            }
+            assert_eq!(rt; text, rows, "{name} {input:?}");
         }
     }
-}
-
-// ---- one search
-
-// What `captures` leaves in captures of all groups, and which engine ran.
-fn owned_text(rt: &impl Abort, alloc: Global, choice: &mut Choice, input: Input<'_>) -> String {
-    let mut captures = captures_of(rt, alloc, choice);
-    choice.captures(input, &mut captures);
-    let text = slots_text(alloc, captures.pattern(), captures.slots()).expect(rt, "memory");
-    with_engine(rt, text, choice)
+    Ok(())
 }
 
 // A haystack, bytes of marks, and the captures of `groups` with the engine that ran.
@@ -156,44 +80,16 @@ const CAUGHT: &[(&[u8], Option<usize>, &str)] = &[
     (b"ad", None, "none - - - - - - Some(Backtracker)"),
 ];
 
-fn expect_caught(
-    rt: &impl Abort,
-    alloc: Global,
-    choice: &mut Choice,
-    input: Input<'_>,
-    want: &str,
-) {
-    let text = owned_text(rt, alloc, choice, input);
-    expect_answer(
-        rt,
-        &Case {
-            name: "groups",
-            input,
-        },
-        text.as_str(),
-        want,
-    );
-}
-
-fn expect_groups(
-    rt: &impl Abort,
-    alloc: Global,
-    capacity: Option<usize>,
-    input: Input<'_>,
-    want: &str,
-) {
-    let mut choice = configured(rt, alloc, "groups", capacity, LeftmostFirst);
-    expect_caught(rt, alloc, &mut choice, input, want);
-}
-
 #[test]
 fn captures_of_an_input(rt: HostRuntime) {
     for &(haystack, capacity, want) in CAUGHT {
-        expect_groups(&rt, rt.alloc(), capacity, Input::new(haystack), want);
+        let mut choice = configured(&rt, "groups", capacity, LeftmostFirst);
+        let mut captures = captures_of(&rt, &choice);
+        choice.captures(Input::new(haystack), &mut captures);
+        let text = captures_text(&rt, &captures, &choice);
+        assert_eq!(rt; text.as_str(), want, "{haystack:?}");
     }
 }
-
-// ---- sets
 
 // A sample, a match kind, a haystack, and the set of patterns.
 const SETS: &[(&str, MatchKind, &[u8], &str)] = &[
@@ -204,36 +100,19 @@ const SETS: &[(&str, MatchKind, &[u8], &str)] = &[
     ("abc", MatchKind::All, b"xyz", ""),
 ];
 
-fn set_text(rt: &impl Abort, alloc: Global, set: &PatternSet) -> String {
-    let mut text = String::new(alloc);
-    for pattern in set.iter() {
-        write!(text, "{}, ", pattern.as_usize()).expect(rt, "memory");
-    }
-    text
-}
-
-fn chosen_set(rt: &impl Abort, alloc: Global, choice: &mut Choice, input: &Input<'_>) -> String {
-    let patterns = choice.get_nfa().pattern_len();
-    let mut set = PatternSet::new(alloc, patterns).expect(rt, "memory");
-    choice.which_overlapping_matches(input, &mut set);
-    expect(
-        rt,
-        choice.ran() == Some(Engine::PikeVM),
-        "the engine that ran",
-    );
-    set_text(rt, alloc, &set)
-}
-
-fn expect_set(rt: &impl Abort, alloc: Global, case: &Case<'_>, kind: MatchKind, want: &str) {
-    let mut choice = configured(rt, alloc, case.name, None, kind);
-    let text = chosen_set(rt, alloc, &mut choice, &case.input);
-    expect_answer(rt, case, text.as_str(), want);
-}
-
 #[test]
-fn sets_gain_what_matches(rt: HostRuntime) {
+fn sets_gain_what_matches(rt: HostRuntime) -> Result<(), Fail> {
+    let alloc = rt.alloc();
     for &(name, kind, haystack, want) in SETS {
-        let input = Input::new(haystack);
-        expect_set(&rt, rt.alloc(), &Case { name, input }, kind, want);
+        let mut choice = configured(&rt, name, None, kind);
+        let mut set = PatternSet::new(alloc, choice.get_nfa().pattern_len())?;
+        choice.which_overlapping_matches(&Input::new(haystack), &mut set);
+        assert_eq!(rt; choice.ran(), Some(Engine::PikeVM), "{name}");
+        let mut text = String::new(alloc);
+        for pattern in set.iter() {
+            write!(text, "{}, ", pattern.as_usize())?;
+        }
+        assert_eq!(rt; text.as_str(), want, "{name} {haystack:?}");
     }
+    Ok(())
 }
