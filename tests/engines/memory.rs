@@ -68,8 +68,8 @@ const DEEP: &[(Shape, &[u8], &str)] = &[
     (Shape::Chain(10000), b"", BARE),
     (Shape::Captures(300), b"", FULL),
     (Shape::Captures(10000), b"", FULL),
-    // The backtracker's stack then has more than a million frames.
-    (Shape::Captures(1100000), b"", FULL),
+    // The backtracker's stack then has more than 300,000 frames.
+    (Shape::Captures(300000), b"", FULL),
     (Shape::Fan(10000), b"a", BARE),
     (Shape::Word(1000), &[b'a'; 999], BARE),
 ];
