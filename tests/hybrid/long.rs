@@ -1,4 +1,4 @@
-//! Haystacks of ten million bytes: with one match at the end, with none, and with one in each hundred bytes.
+//! Haystacks of two million bytes: with one match at the end, with none, and with one in each hundred bytes.
 
 use nfa_compiler::Compiler;
 use nfa_engines::Input;
@@ -8,7 +8,7 @@ use std::alloc::{AllocError, Global};
 use std::test::Fail;
 use test_support::TestRuntime;
 
-const LEN: usize = 10_000_000;
+const LEN: usize = 2_000_000;
 
 // A haystack of `parts` parts, each with `zeros` zeros and an `x`.
 fn haystack(alloc: Global, parts: usize, zeros: usize) -> Result<Vec<u8>, AllocError> {
