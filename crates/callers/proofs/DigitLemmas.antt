@@ -1,6 +1,5 @@
 -- The class of the ASCII digits.
-use Rattle.std.proofs.Common.{◌≡◌, ℕ, ◌≤◌, true, List, [], ◌∷◌, codes, arith, subst, sym}
-use Rattle.std.specs.Prelude.{IsSomeAnd, ◌↔◌}
+use Rattle.std.proofs.Common.{◌≡◌, ℕ, ◌≤◌, true, List, [], ◌∷◌, codes, arith, subst, sym, IsSomeAnd, ◌↔◌}
 use Rattle.std.proofs.lemmas.Bool.Decides.{nat_tests}
 use Rattle.std.specs.Char.{is_ascii_digit}
 use Rattle.regex_hir.specs.Re.{Re, byte_in, cat, empty, literal}

@@ -1,6 +1,5 @@
 -- The half matches of a search are the ends of its matches, if the NFA records its bounds: from the laws.
-use Rattle.std.proofs.Common.{◌≡◌, ◌∙◌, ℕ, ◌+◌, ◌≤◌, Bool, Option, None, Some, Ok, Err, List, [], ◌∷◌, map, refl, sym, ap, subst, arith}
-use Rattle.std.specs.Prelude.{option_and_then, option_map}
+use Rattle.std.proofs.Common.{◌≡◌, ◌∙◌, ℕ, ◌+◌, ◌≤◌, Bool, Option, None, Some, Ok, Err, List, [], ◌∷◌, map, refl, sym, ap, subst, arith, option_and_then, option_map}
 use Rattle.nfa_engines.specs.Agreement.{FindsEnds, HalfAndFullAgree, IsFoundIn, end_answer, end_item, end_of}
 use Rattle.nfa_engines.specs.Automaton.{Automaton, IsAutomaton}
 use Rattle.nfa_engines.specs.LastEnd.{EndsBy}

@@ -1,6 +1,5 @@
 -- What lines hold, and the search of a line.
-use Rattle.std.specs.Prelude.{◌≡◌, ℕ, ◌+◌, ◌<◌, true, List, Some, IsSomeAnd, slice_get}
-use Rattle.std.specs.Prelude.{false}
+use Rattle.std.specs.Prelude.{◌≡◌, ℕ, ◌+◌, ◌<◌, true, List, Some, IsSomeAnd, slice_get, false}
 use Rattle.std.specs.Char.{is_ascii_digit}
 use Rattle.nfa_engines.specs.Anchored.TheVariants.{No}
 use Rattle.nfa_engines.specs.Search.{Search}

@@ -1,6 +1,5 @@
 -- From the searches of a lexer to the tokens that the meanings of the patterns give.
-use Rattle.std.proofs.Common.{◌≡◌, ◌∙◌, ℕ, zero, suc, false, ◌≤◌, ◌<◌, Bool, List, [], ◌∷◌, ◌++◌, All, length, drop, arith, refl, sym, ap, ap₂, inl, inr, subst, append_assoc, append-nil, eq-eqb, ne_eqb}
-use Rattle.std.specs.Prelude.{Option, None, Some, flat_map, slice_range, ◌==◌}
+use Rattle.std.proofs.Common.{◌≡◌, ◌∙◌, ℕ, zero, suc, false, ◌≤◌, ◌<◌, Bool, List, [], ◌∷◌, ◌++◌, All, length, drop, arith, refl, sym, ap, ap₂, inl, inr, subst, append_assoc, append-nil, eq-eqb, ne_eqb, Option, None, Some, flat_map, slice_range, ◌==◌}
 use Rattle.std.proofs.lemmas.Bool.{cases_lt, le-ltb, lt-ltb}
 use Rattle.std.proofs.lemmas.List.Folds.{drop_split}
 use Rattle.regex_hir.specs.Re.{Re}

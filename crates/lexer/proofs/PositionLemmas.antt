@@ -1,11 +1,9 @@
 -- The position of a place follows from that of the place before it, and is no greater than the place.
-use Rattle.std.proofs.Common.{◌≡◌, ◌∙◌, ℕ, zero, suc, ◌+◌, ◌≤◌, ◌<◌, Bool, true, false, List, [], ◌∷◌, ◌++◌, All, length, take, refl, sym, ap, subst, arith, inl, inr, get_or}
-use Rattle.std.specs.Prelude.{Option, None, Some, IfSome, not, option_map, if◌then◌else◌}
+use Rattle.std.proofs.Common.{◌≡◌, ◌∙◌, ℕ, zero, suc, ◌+◌, ◌≤◌, ◌<◌, Bool, true, false, List, [], ◌∷◌, ◌++◌, All, length, take, refl, sym, ap, subst, arith, inl, inr, get_or, Option, None, Some, IfSome, not, option_map, if◌then◌else◌}
 use Rattle.std.specs.List.{filter}
 use Rattle.std.proofs.lemmas.Bool.{cases_Bool}
 use Rattle.std.proofs.lemmas.List.{take_more}
-use Rattle.lexer.specs.Positions.{continues_character, first_position, is_feed, position_past_all, position_at}
-use Rattle.lexer.specs.Positions.{position_past}
+use Rattle.lexer.specs.Positions.{continues_character, first_position, is_feed, position_past_all, position_at, position_past}
 use Rattle.lexer.specs.Printed.{position_if}
 use Rattle.lexer.specs.declared.position.Position.{Position}
 

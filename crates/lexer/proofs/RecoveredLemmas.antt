@@ -1,6 +1,5 @@
 -- The pieces of a text are its tokens and the longest stretches at which none starts, and they are the text.
-use Rattle.std.proofs.Common.{◌≡◌, ◌∙◌, ℕ, zero, suc, true, false, ◌+◌, ◌-◌, ◌≤◌, ◌<◌, List, [], ◌∷◌, ◌++◌, All, length, drop, arith, refl, sym, ap, ap₂, inl, inr, subst}
-use Rattle.std.specs.Prelude.{Option, None, Some, IsSome, flat_map, is_none, is_some, option_map, slice_range, if◌then◌else◌}
+use Rattle.std.proofs.Common.{◌≡◌, ◌∙◌, ℕ, zero, suc, true, false, ◌+◌, ◌-◌, ◌≤◌, ◌<◌, List, [], ◌∷◌, ◌++◌, All, length, drop, arith, refl, sym, ap, ap₂, inl, inr, subst, Option, None, Some, IsSome, flat_map, is_none, is_some, option_map, slice_range, if◌then◌else◌}
 use Rattle.std.proofs.lemmas.Bool.{cases_lt, le-ltb, lt-ltb}
 use Rattle.std.proofs.lemmas.List.{drop_all}
 use Rattle.std.proofs.lemmas.List.Elements.{All-cons}
@@ -9,8 +8,7 @@ use Rattle.regex_hir.specs.Re.{Re}
 use Rattle.regex_search_core.specs.Found.{Found}
 use Rattle.lexer.specs.Lexed.{token_there}
 use Rattle.lexer.specs.Lexing.{ArePiecesAt}
-use Rattle.lexer.specs.Recovered.{IsPiece, TextPiece, piece_of, piece_there, pieces_from, recovered}
-use Rattle.lexer.specs.Recovered.{stretch_end}
+use Rattle.lexer.specs.Recovered.{IsPiece, TextPiece, piece_of, piece_there, pieces_from, recovered, stretch_end}
 use Rattle.lexer.proofs.LexedLemmas.{token-lies}
 
 -- a call found something, or nothing

@@ -1,6 +1,5 @@
 -- That an error of the patterns of rules is one of a rule.
-use Rattle.std.proofs.Common.{◌≡◌, ◌∙◌, ℕ, ◌+◌, ◌-◌, ◌^◌, ◌<◌, List, [], length, take, min, chars, ap, arith, refl, subst, sym}
-use Rattle.std.specs.Prelude.{slice_index_or, string_bytes}
+use Rattle.std.proofs.Common.{◌≡◌, ◌∙◌, ℕ, ◌+◌, ◌-◌, ◌^◌, ◌<◌, List, [], length, take, min, chars, ap, arith, refl, subst, sym, slice_index_or, string_bytes}
 use Rattle.std.proofs.lemmas.List.{get_or-map, length-map}
 use Rattle.std.proofs.lemmas.Option.{slice_get-get_or}
 use Rattle.std.proofs.lemmas.Slice.Zip.{AllZip-long}

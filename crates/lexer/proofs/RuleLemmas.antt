@@ -1,6 +1,5 @@
 -- That the rules of lines are made one after the other.
-use Rattle.std.proofs.Common.{◌≡◌, ◌∙◌, ℕ, ◌+◌, ◌<◌, true, false, List, [], ◌∷◌, ◌++◌, length, drop, arith, refl, sym, add-one, append_assoc, append-nil, below_more, drop-cons}
-use Rattle.std.specs.Prelude.{cond, not, slice_index_or}
+use Rattle.std.proofs.Common.{◌≡◌, ◌∙◌, ℕ, ◌+◌, ◌<◌, true, false, List, [], ◌∷◌, ◌++◌, length, drop, arith, refl, sym, add-one, append_assoc, append-nil, below_more, drop-cons, cond, not, slice_index_or}
 use Rattle.std.proofs.lemmas.List.{drop_all}
 use Rattle.lexer.specs.Rules.{AreRulesOf, HasParsed, HasRule, IsFirstWrong, IsRuleAt, is_left_out, rule_lines}
 use Rattle.lexer.specs.declared.rules.Rule.{Rule}

@@ -1,6 +1,5 @@
 -- How values are counted, and how the counts are listed.
-use Rattle.std.proofs.Common.{◌≡◌, ◌∙◌, ℕ, zero, suc, ◌+◌, ◌<◌, ◌≤◌, Bool, true, false, cond, List, [], ◌∷◌, ◌++◌, All, length, map, refl, sym, ap, subst, arith, inl, inr, get_or, append_assoc, append-nil}
-use Rattle.std.specs.Prelude.{◌⊎◌, Option, String, None, Some, IfSome, flat_map, slice_get, string_bytes, unwrap_or}
+use Rattle.std.proofs.Common.{◌≡◌, ◌∙◌, ℕ, zero, suc, ◌+◌, ◌<◌, ◌≤◌, Bool, true, false, cond, List, [], ◌∷◌, ◌++◌, All, length, map, refl, sym, ap, subst, arith, inl, inr, get_or, append_assoc, append-nil, ◌⊎◌, Option, String, None, Some, IfSome, flat_map, slice_get, string_bytes, unwrap_or}
 use Rattle.std.specs.Borrow.{Bor}
 use Rattle.std.specs.BTreeMap.{BTreeMap, IsEmpty, IsOrdered, UpdatesBy, is_at}
 use Rattle.std.specs.Cmp.Lexicographic.{slice_cmp, bytes_decides, nat_list_cmp_total, nat_list_eq_equiv}
@@ -24,8 +23,7 @@ use Rattle.std.proofs.lemmas.Map.Keys.{IsDistinct-IsPermutation, sorted_head, so
 use Rattle.std.proofs.lemmas.Map.Text.{is_eq-slice_cmp}
 use Rattle.text_lines.specs.Lines.{HasNoLine, TakesLine}
 use Rattle.text_lines.proofs.LineLemmas.{first-line, none-left}
-use Rattle.log_extractor.specs.Counts.{IsCountList, IsFound, IsTally, MayPrecede, count_in, count_of, counted}
-use Rattle.log_extractor.specs.Counts.{entry_counted, key_cmp, occurrences, positive, value_in, values_in}
+use Rattle.log_extractor.specs.Counts.{IsCountList, IsFound, IsTally, MayPrecede, count_in, count_of, counted, entry_counted, key_cmp, occurrences, positive, value_in, values_in}
 use Rattle.log_extractor.specs.Several.{LabelledPattern}
 
 -- One more value is counted.

@@ -1,6 +1,5 @@
 -- From the laws on searches of texts to the fields of a line.
-use Rattle.std.proofs.Common.{◌≡◌, ◌∙◌, ℕ, ◌+◌, ◌≤◌, ◌<◌, true, false, List, [], ◌∷◌, map, length, drop, refl, sym, ap, subst, arith, eq-eqb}
-use Rattle.std.specs.Prelude.{Option, None, Some, IsSome, option_map}
+use Rattle.std.proofs.Common.{◌≡◌, ◌∙◌, ℕ, ◌+◌, ◌≤◌, ◌<◌, true, false, List, [], ◌∷◌, map, length, drop, refl, sym, ap, subst, arith, eq-eqb, Option, None, Some, IsSome, option_map}
 use Rattle.std.specs.Option.{option_or}
 use Rattle.std.proofs.lemmas.Bool.{le-ltb}
 use Rattle.regex_hir.specs.Find.{Match}

@@ -1,6 +1,5 @@
 -- The named groups of some names and one more.
-use Rattle.std.proofs.Common.{◌≡◌, ◌∙◌, ℕ, ◌+◌, ◌<◌, ◌≤◌, List, [], ◌∷◌, ◌++◌, map, take, drop, length, option_map, refl, sym, ap, arith}
-use Rattle.std.specs.Prelude.{Option, None, Some, IsSomeAnd, String, chars, string_bytes, slice_get}
+use Rattle.std.proofs.Common.{◌≡◌, ◌∙◌, ℕ, ◌+◌, ◌<◌, ◌≤◌, List, [], ◌∷◌, ◌++◌, map, take, drop, length, option_map, refl, sym, ap, arith, Option, None, Some, IsSomeAnd, String, chars, string_bytes, slice_get}
 use Rattle.std.specs.List.{AllZip}
 use Rattle.std.specs.declared.alloc.Global.{Global}
 use Rattle.std.proofs.lemmas.List.{length-map, length-take, map-append}

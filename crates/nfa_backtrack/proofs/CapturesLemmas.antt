@@ -1,12 +1,7 @@
 -- A backtracker as the engine of an iteration over captures: when its iterator may search, and what it gives.
-use Rattle.std.proofs.Common.{◌≡◌, false, Option, Result, Ok, Err, ap, length}
-use Rattle.std.proofs.Common.{◌↔◌, ◌⊎◌, inl, inr}
-use Rattle.std.specs.Prelude.{IfErr, IsErrOf, OnErr, OnOk}
-use Rattle.regex_search_core.specs.Groups.{slot_count}
-use Rattle.regex_search_core.specs.Search.{Search}
-use Rattle.regex_search_core.specs.Slots.{Captured}
+use Rattle.std.proofs.Common.{◌≡◌, false, Option, Result, Ok, Err, ap, length, ◌↔◌, ◌⊎◌, inl, inr, IfErr, IsErrOf, OnErr, OnOk}
+use Rattle.nfa_paths.specs.Common.{slot_count, Search, Captured, IsAnswer, IsWithinScans, IsWork, span_len}
 use Rattle.regex_search_core.specs.declared.search.MatchKind.TheVariants.{LeftmostFirst}
-use Rattle.nfa_paths.specs.Paths.{IsAnswer, IsWithinScans, IsWork, span_len}
 use Rattle.nfa_search_base.specs.CapturesGiven.{CapturesGiven}
 use Rattle.nfa_search_base.specs.WithCaptures.{WithCaptures, GivesCaptures, Row, filled_answer, row_span}
 use Rattle.nfa_search_base.specs.Drained.{DrainsToError}
@@ -18,8 +13,7 @@ use Rattle.nfa_search_base.specs.declared.error.SearchError.{SearchError}
 use Rattle.nfa_search_base.specs.declared.error.SearchError.TheVariants.{HaystackTooLong, Memory}
 use Rattle.nfa_search_base.specs.declared.iter.steps.Steps.{Steps}
 use Rattle.nfa_search_base.proofs.CapturesLemmas.{stored_captures-tells, row-lies}
-use Rattle.nfa_search_base.proofs.CapturesRunLemmas.{CapturesSteps, RowsOf, captures-given, captures-memory}
-use Rattle.nfa_search_base.proofs.CapturesRunLemmas.{results_of}
+use Rattle.nfa_search_base.proofs.CapturesRunLemmas.{CapturesSteps, RowsOf, captures-given, captures-memory, results_of}
 use Rattle.nfa_search_base.proofs.DrainedLemmas.{error-captures}
 use Rattle.nfa_search_base.proofs.EngineLemmas.{SearchesAs, SearchesOf, fills_by, searches-serve, step-may}
 use Rattle.nfa_search_base.proofs.ItemLemmas.{ItemsOf, copies_of}
@@ -28,9 +22,7 @@ use Rattle.nfa_search_base.proofs.OkItemLemmas.{only-item}
 use Rattle.nfa_search_base.proofs.RunLemmas.{Begins}
 use Rattle.nfa_search_base.proofs.ShellLemmas.{ShellOf, plain_shell, steps_in}
 use Rattle.nfa_backtrack.specs.Backtrack.{Backtracker, CountsAnswer, CountsRefusal, IsTooLong, BacktrackCache}
-use Rattle.nfa_backtrack.specs.CapturesMatches.{AsksBacktrackerRow, CatchesBySearches}
-use Rattle.nfa_backtrack.specs.CapturesMatches.{CatchesRefused, MayCatchByBacktracker}
-use Rattle.nfa_backtrack.specs.CapturesMatches.{backtrack_captures, backtrack_captures_next}
+use Rattle.nfa_backtrack.specs.CapturesMatches.{AsksBacktrackerRow, CatchesBySearches, CatchesRefused, MayCatchByBacktracker, backtrack_captures, backtrack_captures_next}
 use Rattle.nfa_backtrack.specs.Finding.{AnswersByLength, Counts, DoesWork, IsTryCapturesAnswer}
 use Rattle.nfa_backtrack.specs.declared.captures_iter.TryCapturesMatches.{TryCapturesMatches}
 use Rattle.nfa_backtrack.proofs.FindLemmas.{back_engine, memory-alone, refused-alone}

@@ -1,16 +1,9 @@
 -- From the results of a search to the answers that its callers get.
-use Rattle.std.proofs.Common.{◌≡◌, ℕ, [], ◌∷◌, arith, length, refl, ap, ◌∙◌}
-use Rattle.std.specs.Prelude.{Option, Some, None, Result, Ok, Err, false, option_map, ◌<◌, replicate, IfOk, IfSome}
-use Rattle.std.specs.Prelude.{◌≤◌, IfNone}
+use Rattle.std.proofs.Common.{◌≡◌, ℕ, [], ◌∷◌, arith, length, refl, ap, ◌∙◌, Option, Some, None, Result, Ok, Err, false, option_map, ◌<◌, replicate, IfOk, IfSome, ◌≤◌, IfNone}
 use Rattle.std.specs.List.{refill}
-use Rattle.regex_search_core.specs.Found.{half_found_of}
-use Rattle.regex_search_core.specs.Search.{Search}
+use Rattle.nfa_paths.specs.Common.{half_found_of, Search, HalfMatch, Automaton, IsAutomaton, IsAnswer, IsHalfAnswer, Slots}
 use Rattle.regex_search_core.specs.declared.refused.Refused.{Refused}
-use Rattle.regex_search_core.specs.declared.search.HalfMatch.{HalfMatch}
 use Rattle.regex_search_core.specs.declared.search.MatchKind.TheVariants.{LeftmostFirst}
-use Rattle.thompson_nfa.specs.Automaton.{Automaton, IsAutomaton}
-use Rattle.nfa_paths.specs.Paths.{IsAnswer, IsHalfAnswer}
-use Rattle.nfa_paths.specs.Exploring.{Slots}
 use Rattle.nfa_paths.specs.Restarts.{SearchGives}
 use Rattle.nfa_paths.proofs.PatternLemmas.{slots-unset}
 use Rattle.nfa_paths.proofs.RestartLemmas.{half-of, pattern-among}

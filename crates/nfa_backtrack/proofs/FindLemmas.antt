@@ -1,13 +1,8 @@
 -- A backtracker as the engine of an iteration over matches: when its iterator may search, and what it gives and keeps.
-use Rattle.std.proofs.Common.{◌≡◌, ◌∙◌, ℕ, ◌+◌, ◌-◌, ◌*◌, ◌≤◌, refl, false, Option, None, Some, Result, Ok, Err, arith, length}
-use Rattle.std.proofs.Common.{List, ◌∷◌, MatchBool, ap, inl, inr}
-use Rattle.std.specs.Prelude.{IfOk, IfSome, OnOk, OnErr}
+use Rattle.std.proofs.Common.{◌≡◌, ◌∙◌, ℕ, ◌+◌, ◌-◌, ◌*◌, ◌≤◌, refl, false, Option, None, Some, Result, Ok, Err, arith, length, List, ◌∷◌, MatchBool, ap, inl, inr, IfOk, IfSome, OnOk, OnErr}
 use Rattle.std.proofs.Math.Nat.{mul-le-mul_left}
-use Rattle.regex_search_core.specs.Found.{Found, found_of}
-use Rattle.regex_search_core.specs.Search.{Search}
-use Rattle.regex_search_core.specs.declared.search.Match.{Match}
+use Rattle.nfa_paths.specs.Common.{Found, found_of, Search, Match, IsWithinScans, IsWork, raised, span_len}
 use Rattle.regex_search_core.specs.declared.search.MatchKind.TheVariants.{LeftmostFirst}
-use Rattle.nfa_paths.specs.Paths.{IsWithinScans, IsWork, raised, span_len}
 use Rattle.nfa_paths.proofs.KnownLemmas.{match-sure, sure-match}
 use Rattle.nfa_search_base.specs.EngineSearches.{AnswersBy, Keeping, found_in, if_ends_at}
 use Rattle.nfa_search_base.specs.Finders.{answer_by}
@@ -16,13 +11,11 @@ use Rattle.nfa_search_base.specs.WithCache.{WithCache}
 use Rattle.nfa_search_base.specs.StepsWith.{TakesStepWith, steps_with_state, steps_with_iter_state}
 use Rattle.nfa_search_base.specs.Steps.{GivesItem}
 use Rattle.nfa_search_base.specs.Stored.{steps_iter_state, can_step, takes_steps}
-use Rattle.nfa_search_base.specs.IterStates.{Advances, Answer, AnswerIsInside, IterState, after, fresh, answer_span}
-use Rattle.nfa_search_base.specs.IterStates.{repeats, shifted, span_of}
+use Rattle.nfa_search_base.specs.IterStates.{Advances, Answer, AnswerIsInside, IterState, after, fresh, answer_span, repeats, shifted, span_of}
 use Rattle.nfa_search_base.specs.declared.error.SearchError.{SearchError}
 use Rattle.nfa_search_base.specs.declared.error.SearchError.TheVariants.{HaystackTooLong, Memory}
 use Rattle.nfa_search_base.specs.declared.iter.steps.Steps.{Steps}
-use Rattle.nfa_search_base.proofs.EngineLemmas.{EngineOf, FinderOf, KeptBy, SearchesAs, SearchesOf, answers_as}
-use Rattle.nfa_search_base.proofs.EngineLemmas.{calls-kept, finds_by, searches-serve, step-may}
+use Rattle.nfa_search_base.proofs.EngineLemmas.{EngineOf, FinderOf, KeptBy, SearchesAs, SearchesOf, answers_as, calls-kept, finds_by, searches-serve, step-may}
 use Rattle.nfa_search_base.proofs.ItemLemmas.{ItemsOf, items_as}
 use Rattle.nfa_search_base.proofs.LastStartLemmas.{match-from-scan}
 use Rattle.nfa_search_base.proofs.LeavingLemmas.{calls-lead, calls-leave, finds-leave, finds-to_end}
@@ -30,13 +23,9 @@ use Rattle.nfa_search_base.proofs.ListLemmas.{match-lies}
 use Rattle.nfa_search_base.proofs.IterStateLemmas.{IsOrdered}
 use Rattle.nfa_search_base.proofs.RunLemmas.{AnswersOf, Begins}
 use Rattle.nfa_search_base.proofs.ShellLemmas.{ShellOf, plain_shell, same-items, steps_in}
-use Rattle.nfa_backtrack.specs.Backtrack.{Backtracker, CountsAnswer, CountsRefusal, IsTooLong, BacktrackCache}
-use Rattle.nfa_backtrack.specs.Backtrack.{refused_early}
-use Rattle.nfa_backtrack.specs.FindMatches.{AsksBacktracker, FindsBySearches}
-use Rattle.nfa_backtrack.specs.FindMatches.{MayFindByBacktracker, backtrack_matches, backtrack_matches_next}
-use Rattle.nfa_backtrack.specs.FindMatches.{backtracker_knowing, fits_always}
-use Rattle.nfa_backtrack.specs.Finding.{Counts, DoesWork, IsRefusal, IsTryFindAnswer, IsSureAt, SearchesOnce}
-use Rattle.nfa_backtrack.specs.Finding.{backtracker_scans}
+use Rattle.nfa_backtrack.specs.Backtrack.{Backtracker, CountsAnswer, CountsRefusal, IsTooLong, BacktrackCache, refused_early}
+use Rattle.nfa_backtrack.specs.FindMatches.{AsksBacktracker, FindsBySearches, MayFindByBacktracker, backtrack_matches, backtrack_matches_next, backtracker_knowing, fits_always}
+use Rattle.nfa_backtrack.specs.Finding.{Counts, DoesWork, IsRefusal, IsTryFindAnswer, IsSureAt, SearchesOnce, backtracker_scans}
 use Rattle.nfa_backtrack.specs.declared.find_iter.Finder.{Finder}
 use Rattle.nfa_backtrack.specs.declared.find_iter.TryFindMatches.{TryFindMatches}
 

@@ -1,35 +1,24 @@
 -- The calls of an iterator over a backtracker's matches give the items of its search.
-use Rattle.std.proofs.Common.{◌≡◌, arith, false, None, Some, Result, Ok, Err}
-use Rattle.std.proofs.Common.{refl, ap}
-use Rattle.std.proofs.Common.{List, [], ◌∷◌, ◌++◌, map, MatchBool, inl, inr}
-use Rattle.regex_search_core.specs.Found.{Found, found_of}
-use Rattle.regex_search_core.specs.Search.{Search}
-use Rattle.regex_search_core.specs.declared.search.Match.{Match}
+use Rattle.std.proofs.Common.{◌≡◌, arith, false, None, Some, Result, Ok, Err, refl, ap, List, [], ◌∷◌, ◌++◌, map, MatchBool, inl, inr}
+use Rattle.nfa_paths.specs.Common.{Found, found_of, Search, Match, span_len}
 use Rattle.regex_search_core.specs.declared.search.MatchKind.TheVariants.{LeftmostFirst}
-use Rattle.nfa_paths.specs.Paths.{span_len}
-use Rattle.nfa_search_base.specs.Lists.{IsStep, AnswersMatch, AreFirstMatches, AreMatches}
-use Rattle.nfa_search_base.specs.Lists.{IsInside}
+use Rattle.nfa_search_base.specs.Lists.{IsStep, AnswersMatch, AreFirstMatches, AreMatches, IsInside}
 use Rattle.nfa_search_base.specs.StepsWith.{steps_with_iter_state}
 use Rattle.nfa_search_base.specs.IterStates.{IterState, Answer, fresh, after, repeats, shifted, span_of, answer_span}
 use Rattle.nfa_search_base.specs.declared.error.SearchError.{SearchError}
 use Rattle.nfa_search_base.specs.declared.error.SearchError.TheVariants.{HaystackTooLong}
 use Rattle.nfa_search_base.proofs.ItemLemmas.{Last, Next}
 use Rattle.nfa_search_base.proofs.ListLemmas.{match-lies, matches-disjoint, step-lies}
-use Rattle.nfa_search_base.proofs.OkItemLemmas.{GoesOnIn, OkedAs, ResultsOf, error-memory, errors-memory, last-clean}
-use Rattle.nfa_search_base.proofs.OkItemLemmas.{next-clean, no-items, oked, oked-all, oked-first, oked-next, oked-run}
-use Rattle.nfa_search_base.proofs.OkItemLemmas.{only-item, only-step, values-hold}
+use Rattle.nfa_search_base.proofs.OkItemLemmas.{GoesOnIn, OkedAs, ResultsOf, error-memory, errors-memory, last-clean, next-clean, no-items, oked, oked-all, oked-first, oked-next, oked-run, only-item, only-step, values-hold}
 use Rattle.nfa_search_base.proofs.RunLemmas.{Given, given, items-given}
 use Rattle.nfa_search_base.proofs.ShellLemmas.{same-items, steps_in}
 use Rattle.nfa_search_base.proofs.StepLemmas.{chosen}
 use Rattle.nfa_backtrack.specs.Backtrack.{Backtracker, IsTooLong}
 use Rattle.nfa_backtrack.specs.FindMatches.{backtrack_matches, backtrack_matches_next}
 use Rattle.nfa_backtrack.specs.Finding.{AnswersByLength, IsTryFindAnswer, IsRefusal}
-use Rattle.nfa_backtrack.specs.Runs.{RunsMatch, RunsInside, RunsDisjoint, RunsRefused}
-use Rattle.nfa_backtrack.specs.Runs.{GivesFirstMatches, GivesAllMatches, GivesNextMatch, AreFirstItems, AreAllItems}
-use Rattle.nfa_backtrack.specs.Runs.{GivesByLength, EndsByLength}
+use Rattle.nfa_backtrack.specs.Runs.{RunsMatch, RunsInside, RunsDisjoint, RunsRefused, GivesFirstMatches, GivesAllMatches, GivesNextMatch, AreFirstItems, AreAllItems, GivesByLength, EndsByLength}
 use Rattle.nfa_backtrack.specs.declared.find_iter.TryFindMatches.{TryFindMatches}
-use Rattle.nfa_backtrack.proofs.FindLemmas.{back_answers, back_items, find-lies, find_shell, finds-begin, memory-alone}
-use Rattle.nfa_backtrack.proofs.FindLemmas.{refused-alone, still-fits}
+use Rattle.nfa_backtrack.proofs.FindLemmas.{back_answers, back_items, find-lies, find_shell, finds-begin, memory-alone, refused-alone, still-fits}
 
 module _ (e : Backtracker) where
   abbrev tells : Search → Answer Found → Type 0

@@ -1,8 +1,6 @@
 -- A backtracker and its cache as values, and how many pairs it may mark.
 use Rattle.std.specs.Prelude.{◌≡◌, ℕ, ◌+◌, ◌*◌, ◌/◌, ◌-◌, ◌<◌, ◌≤◌, max, length, Option, unwrap_or}
-use Rattle.regex_search_core.specs.Search.{Search}
-use Rattle.thompson_nfa.specs.Automaton.{Automaton}
-use Rattle.nfa_paths.specs.Paths.{span_len}
+use Rattle.nfa_paths.specs.Common.{Search, Automaton, span_len}
 use Rattle.nfa_scan_core.specs.Numbers.{saturated}
 
 -- an NFA, and the capacity in bytes, if one was set

@@ -2,8 +2,7 @@
 use Rattle.std.specs.Prelude.{◌≡◌, true, Option, Result, Bool}
 use Rattle.std.specs.Borrow.{MutBor}
 use Rattle.std.specs.Iterator.Runs.{EachRunFrom}
-use Rattle.regex_search_core.specs.Search.{Search}
-use Rattle.regex_search_core.specs.Slots.{Captured}
+use Rattle.nfa_paths.specs.Common.{Search, Captured}
 use Rattle.nfa_search_base.specs.WithCaptures.{WithCaptures, GivesCaptures, Row, row_span}
 use Rattle.nfa_search_base.specs.EngineSearches.{AsksEngineRow, MayFill}
 use Rattle.nfa_search_base.specs.WithCache.{WithCache}

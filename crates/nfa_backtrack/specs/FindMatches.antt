@@ -2,9 +2,7 @@
 use Rattle.std.specs.Prelude.{◌≡◌, List, map, Option, None, Result, Ok, option_map, ⊤, Bool}
 use Rattle.std.specs.Borrow.{MutBor}
 use Rattle.std.specs.Iterator.{Yields}
-use Rattle.regex_search_core.specs.Found.{Found, found_of}
-use Rattle.regex_search_core.specs.Search.{Search}
-use Rattle.regex_search_core.specs.declared.search.Match.{Match}
+use Rattle.nfa_paths.specs.Common.{Found, found_of, Search, Match}
 use Rattle.nfa_search_base.specs.EngineSearches.{AsksEngine, Knowing, MayFind}
 use Rattle.nfa_search_base.specs.WithCache.{WithCache}
 use Rattle.nfa_search_base.specs.StepsWith.{StepsWith, TakesStepWith}
@@ -14,8 +12,7 @@ use Rattle.nfa_search_base.specs.Searchers.{iter_state_of}
 use Rattle.nfa_search_base.specs.IterStates.{Answer, IterState, span_of}
 use Rattle.nfa_search_base.specs.declared.error.SearchError.{SearchError}
 use Rattle.nfa_backtrack.specs.Backtrack.{Backtracker, IsTooLong, BacktrackCache, refused_early}
-use Rattle.nfa_backtrack.specs.Finding.{BacktrackerFindsOn, BacktrackerFindsToEnd, IsTryFindAnswer, IsSureAt}
-use Rattle.nfa_backtrack.specs.Finding.{SearchesOnce, backtracker_scans}
+use Rattle.nfa_backtrack.specs.Finding.{BacktrackerFindsOn, BacktrackerFindsToEnd, IsTryFindAnswer, IsSureAt, SearchesOnce, backtracker_scans}
 use Rattle.nfa_backtrack.specs.declared.find_iter.Finder.{Finder}
 use Rattle.nfa_backtrack.specs.declared.find_iter.TryFindMatches.{TryFindMatches}
 

@@ -1,11 +1,8 @@
 -- The answers of a backtracker to searches for a match or for captures.
-use Rattle.std.specs.Prelude.{◌≡◌, ◌≤◌, ◌*◌, ◌+◌, ℕ, ◌⊎◌, ◌↔◌, false, length, List, Result, Ok, Err, IfErr, IsErrOf}
-use Rattle.std.specs.Prelude.{OnErr, OnOk}
-use Rattle.regex_search_core.specs.Found.{Found}
-use Rattle.regex_search_core.specs.Search.{Search}
+use Rattle.std.specs.Prelude.{◌≡◌, ◌≤◌, ◌*◌, ◌+◌, ℕ, ◌⊎◌, ◌↔◌, false, length, List, Result, Ok, Err, IfErr, IsErrOf, OnErr, OnOk}
+use Rattle.nfa_paths.specs.Common.{Found, Search, IsFindAnswer, IsWithinScans, IsWork, max_scans, span_len, total_degree}
 use Rattle.regex_search_core.specs.declared.search.MatchKind.TheVariants.{LeftmostFirst}
 use Rattle.nfa_paths.specs.Known.{IsSureMatch}
-use Rattle.nfa_paths.specs.Paths.{IsFindAnswer, IsWithinScans, IsWork, max_scans, span_len, total_degree}
 use Rattle.nfa_paths.specs.Restarts.{max_scan_turns}
 use Rattle.nfa_search_base.specs.WithCaptures.{Row, row_span}
 use Rattle.nfa_search_base.specs.CapturesLists.{AnswersRow}
@@ -13,8 +10,7 @@ use Rattle.nfa_search_base.specs.Leaving.{DoesSearch, FindsLeave, FindsLeaveAtEn
 use Rattle.nfa_search_base.specs.IterStates.{Answer}
 use Rattle.nfa_search_base.specs.declared.error.SearchError.{SearchError}
 use Rattle.nfa_search_base.specs.declared.error.SearchError.TheVariants.{HaystackTooLong, Memory}
-use Rattle.nfa_backtrack.specs.Backtrack.{Backtracker, BacktrackCache, AddsBacktrackWork, CountsAnswer, CountsRefusal, GrowsBlocks}
-use Rattle.nfa_backtrack.specs.Backtrack.{HoldsNoMore, IsTooLong, refused_early}
+use Rattle.nfa_backtrack.specs.Backtrack.{Backtracker, BacktrackCache, AddsBacktrackWork, CountsAnswer, CountsRefusal, GrowsBlocks, HoldsNoMore, IsTooLong, refused_early}
 
 -- the error of a search: `HaystackTooLong` if it is too long, otherwise `Memory`
 abbrev pub IsRefusal : Backtracker → Search → SearchError → Type 0

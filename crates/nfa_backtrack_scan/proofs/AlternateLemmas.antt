@@ -1,25 +1,18 @@
 -- Alternatives that are pushed, and those that lead nowhere.
-use Rattle.std.proofs.Common.{◌≡◌, ℕ, ◌<◌, inl, inr, List, [], ◌∷◌, ◌++◌, length, map, drop, refl, ap, arith}
-use Rattle.std.specs.Prelude.{Some, None}
+use Rattle.std.proofs.Common.{◌≡◌, ℕ, ◌<◌, inl, inr, List, [], ◌∷◌, ◌++◌, length, map, drop, refl, ap, arith, Some, None}
 use Rattle.std.specs.List.{slice_get}
 use Rattle.std.proofs.lemmas.List.Elements.{All-push}
 use Rattle.std.proofs.lemmas.List.Sums.{sum_by_push}
-use Rattle.regex_search_core.specs.Search.{Search}
-use Rattle.thompson_nfa.specs.Automaton.{Automaton}
+use Rattle.nfa_paths.specs.Common.{Search, Automaton, Pair, edges_of, Slots, Task, ExploresTo}
 use Rattle.thompson_nfa.specs.Automaton.Node.{Capture, Union}
-use Rattle.nfa_paths.specs.Graphs.{Pair}
-use Rattle.nfa_paths.specs.Paths.{edges_of}
-use Rattle.nfa_paths.specs.Exploring.{Slots, Task, ExploresTo}
 use Rattle.nfa_paths.specs.Exploring.Task.{Explore}
 use Rattle.nfa_scan_core.specs.Marks.{Marks}
-use Rattle.nfa_backtrack_scan.specs.Walk.{frame_tries, stacked, IsFrame, IsByteStep, IsStatePos, Carries}
-use Rattle.nfa_backtrack_scan.specs.Walk.{Taken, TurnsLead, Walk, WalkAnswer}
+use Rattle.nfa_backtrack_scan.specs.Walk.{frame_tries, stacked, IsFrame, IsByteStep, IsStatePos, Carries, Taken, TurnsLead, Walk, WalkAnswer}
 use Rattle.nfa_backtrack_scan.specs.Alternates.{IsDeadEnd, HasAnswersOf, PushesLive}
 use Rattle.nfa_backtrack_scan.specs.declared.frame.StatePos.{StatePos}
 use Rattle.nfa_backtrack_scan.specs.declared.frame.Frame.{Frame}
 use Rattle.nfa_backtrack_scan.specs.declared.frame.Frame.TheVariants.{Step}
-use Rattle.nfa_backtrack_scan.proofs.StepLemmas.{reads-plain, stacked-push, step-edges, Carries-edges}
-use Rattle.nfa_backtrack_scan.proofs.StepLemmas.{PaidFor-step}
+use Rattle.nfa_backtrack_scan.proofs.StepLemmas.{reads-plain, stacked-push, step-edges, Carries-edges, PaidFor-step}
 use Rattle.nfa_backtrack_scan.proofs.WalkLemmas.{no_path, Carries-then}
 use Rattle.nfa_scan_core.proofs.AlternateLemmas.{first-drop}
 use Rattle.nfa_paths.proofs.StartLemmas.{node_at-get}

@@ -1,16 +1,11 @@
 -- Applying frames of the stack.
-use Rattle.std.proofs.Common.{◌≡◌, ℕ, ◌+◌, List, [], ◌∷◌, ◌++◌, length, refl, arith, length-set}
-use Rattle.std.specs.Prelude.{Option, Some, None, All}
+use Rattle.std.proofs.Common.{◌≡◌, ℕ, ◌+◌, List, [], ◌∷◌, ◌++◌, length, refl, arith, length-set, Option, Some, None, All}
 use Rattle.std.specs.List.{sum_by}
 use Rattle.std.proofs.lemmas.List.Elements.{All-pop}
 use Rattle.std.proofs.lemmas.List.Sums.{sum_by_push}
-use Rattle.regex_search_core.specs.Search.{Search}
-use Rattle.thompson_nfa.specs.Automaton.{Automaton}
-use Rattle.nfa_paths.specs.Graphs.{Pair}
-use Rattle.nfa_paths.specs.Exploring.{Task, Slots}
+use Rattle.nfa_paths.specs.Common.{Search, Automaton, Pair, Task, Slots}
 use Rattle.nfa_scan_core.specs.Marks.{Marks}
-use Rattle.nfa_backtrack_scan.specs.Walk.{work_item, stacked, frame_tries, tries_of_state_pos, with_state_pos, WritesSlot, AppliesFrame, IsStatePosOr}
-use Rattle.nfa_backtrack_scan.specs.Walk.{Carries, HasFrames, IsFrame, Resumes, TurnsLead, Walk}
+use Rattle.nfa_backtrack_scan.specs.Walk.{work_item, stacked, frame_tries, tries_of_state_pos, with_state_pos, WritesSlot, AppliesFrame, IsStatePosOr, Carries, HasFrames, IsFrame, Resumes, TurnsLead, Walk}
 use Rattle.nfa_backtrack_scan.specs.declared.frame.StatePos.{StatePos}
 use Rattle.nfa_backtrack_scan.specs.declared.frame.Frame.{Frame}
 use Rattle.nfa_backtrack_scan.specs.declared.frame.Frame.TheVariants.{Step, Restore, Clear}

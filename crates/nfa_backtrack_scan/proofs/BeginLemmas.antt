@@ -1,24 +1,16 @@
 -- The first turn of a walk, and the starts after a walk that failed.
-use Rattle.std.proofs.Common.{◌≡◌, ◌∙◌, ℕ, suc, zero, ◌+◌, ◌<◌, ◌≤◌, inl, inr, List, length, get_or, set, rules}
-use Rattle.std.proofs.Common.{set-set, arith, refl}
-use Rattle.std.specs.Prelude.{Option, Some, None}
+use Rattle.std.proofs.Common.{◌≡◌, ◌∙◌, ℕ, suc, zero, ◌+◌, ◌<◌, ◌≤◌, inl, inr, List, length, get_or, set, rules, set-set, arith, refl, Option, Some, None}
 use Rattle.std.specs.List.{slice_get}
 use Rattle.std.specs.Option.{ForSome}
-use Rattle.regex_search_core.specs.Search.{Search}
-use Rattle.thompson_nfa.specs.Automaton.{Automaton}
+use Rattle.nfa_paths.specs.Common.{Search, Automaton, Path, Pair, capture, edges, is_match, node_at, slot_of, space, Hit, Slots, ExploresTo, found}
 use Rattle.thompson_nfa.specs.Automaton.Node.{Capture}
-use Rattle.nfa_paths.specs.FirstPaths.{Path}
 use Rattle.nfa_paths.specs.FirstPaths.Path.{stop, go}
-use Rattle.nfa_paths.specs.Graphs.{Pair}
-use Rattle.nfa_paths.specs.Paths.{capture, edges, is_match, node_at, slot_of, space}
-use Rattle.nfa_paths.specs.Exploring.{Hit, Slots, ExploresTo, found}
 use Rattle.nfa_paths.specs.Turns.{marked_sum}
 use Rattle.nfa_scan_core.specs.Marks.{Marks}
 use Rattle.nfa_backtrack_scan.specs.Begin.{kept_onto, start_tasks, without_frames, BeginsAt}
 use Rattle.nfa_backtrack_scan.specs.Walk.{pair_of, weights, IsStatePos, Carries, Taken, WalkAnswer}
 use Rattle.nfa_backtrack_scan.specs.declared.frame.StatePos.{StatePos}
-use Rattle.nfa_backtrack_scan.proofs.WalkLemmas.{marked_sum-weights, Carries-none, Carries-restore}
-use Rattle.nfa_backtrack_scan.proofs.WalkLemmas.{Carries-then, Carries-unkept, Carries-write}
+use Rattle.nfa_backtrack_scan.proofs.WalkLemmas.{marked_sum-weights, Carries-none, Carries-restore, Carries-then, Carries-unkept, Carries-write}
 use Rattle.nfa_paths.proofs.StartLemmas.{node_at-get}
 
 module _ (nfa : Automaton) (x : Search) where

@@ -1,16 +1,12 @@
 -- Turns one after another, and those that lead nowhere.
-use Rattle.std.proofs.Common.{◌≡◌, ℕ, ◌+◌, List, ◌∷◌, arith, rules}
-use Rattle.std.specs.Prelude.{Option, Some, None, Result, Ok, Err, OnErr}
+use Rattle.std.proofs.Common.{◌≡◌, ℕ, ◌+◌, List, ◌∷◌, arith, rules, Option, Some, None, Result, Ok, Err, OnErr}
 use Rattle.std.specs.List.{slice_get}
-use Rattle.regex_search_core.specs.Search.{Search}
-use Rattle.thompson_nfa.specs.Automaton.{Automaton}
+use Rattle.nfa_paths.specs.Common.{Search, Automaton, Pair}
 use Rattle.thompson_nfa.specs.Automaton.Node.{Fail}
 use Rattle.nfa_paths.specs.Exploring.Task.{Explore}
-use Rattle.nfa_paths.specs.Graphs.{Pair}
 use Rattle.nfa_paths.proofs.TurnLemmas.{marked_sum-le}
 use Rattle.nfa_scan_core.specs.Marks.{Marks}
-use Rattle.nfa_backtrack_scan.specs.Walk.{pair_of, stacked, weights, IsAfforded, IsByteStep, IsStatePos, TurnsLead}
-use Rattle.nfa_backtrack_scan.specs.Walk.{Walk, WasMarked}
+use Rattle.nfa_backtrack_scan.specs.Walk.{pair_of, stacked, weights, IsAfforded, IsByteStep, IsStatePos, TurnsLead, Walk, WasMarked}
 use Rattle.nfa_backtrack_scan.specs.declared.frame.StatePos.{StatePos}
 use Rattle.nfa_backtrack_scan.specs.declared.frame.Frame.{Frame}
 use Rattle.nfa_backtrack_scan.proofs.WalkLemmas.{Carries-none, Carries-then, Carries-marked, Carries-dead, Fails-at}

@@ -1,13 +1,7 @@
 -- The starts that are passed over.
-use Rattle.std.proofs.Common.{◌≡◌, ℕ, suc, zero, ◌+◌, ◌-◌, ◌<◌, ◌≤◌, inl, inr, List, ◌∷◌, map, sym, arith, subst}
-use Rattle.std.specs.Prelude.{Some, None, Bool}
+use Rattle.std.proofs.Common.{◌≡◌, ℕ, suc, zero, ◌+◌, ◌-◌, ◌<◌, ◌≤◌, inl, inr, List, ◌∷◌, map, sym, arith, subst, Some, None, Bool}
 use Rattle.std.proofs.lemmas.Bool.{cases_lt}
-use Rattle.regex_search_core.specs.Search.{Search}
-use Rattle.thompson_nfa.specs.Automaton.{Automaton}
-use Rattle.nfa_paths.specs.Graphs.{Pair}
-use Rattle.nfa_paths.specs.FirstPaths.{IsFirst}
-use Rattle.nfa_paths.specs.Paths.{start_state, starts, pairs_from, edges, is_match, space}
-use Rattle.nfa_paths.specs.Exploring.{Task, Slots, ExploresTo}
+use Rattle.nfa_paths.specs.Common.{Search, Automaton, Pair, IsFirst, start_state, starts, pairs_from, edges, is_match, space, Task, Slots, ExploresTo}
 use Rattle.nfa_paths.specs.Exploring.Task.{Explore}
 use Rattle.nfa_paths.proofs.StartLemmas.{pairs_from-step}
 use Rattle.nfa_scan_core.specs.Marks.{Marks}

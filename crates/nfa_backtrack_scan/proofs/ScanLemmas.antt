@@ -1,12 +1,7 @@
 -- From the result of a walk to the result of the search from all starts.
-use Rattle.std.proofs.Common.{◌≡◌, ℕ, ◌+◌, ◌-◌, ◌≤◌, List, [], length, map, replicate, arith, sum}
-use Rattle.std.specs.Prelude.{None, false, Bool}
-use Rattle.regex_search_core.specs.Found.{half_found_of}
-use Rattle.regex_search_core.specs.Search.{Search}
-use Rattle.regex_search_core.specs.declared.search.HalfMatch.{HalfMatch}
+use Rattle.std.proofs.Common.{◌≡◌, ℕ, ◌+◌, ◌-◌, ◌≤◌, List, [], length, map, replicate, arith, sum, None, false, Bool}
+use Rattle.nfa_paths.specs.Common.{half_found_of, Search, HalfMatch, Automaton, span_len, raised, starts, IsScanAnswer}
 use Rattle.regex_search_core.specs.declared.search.MatchKind.TheVariants.{LeftmostFirst}
-use Rattle.thompson_nfa.specs.Automaton.{Automaton}
-use Rattle.nfa_paths.specs.Paths.{span_len, raised, starts, IsScanAnswer}
 use Rattle.nfa_paths.specs.Restarts.{max_scan_turns, GivesPath}
 use Rattle.nfa_paths.specs.Exploring.Task.{Explore}
 use Rattle.nfa_paths.specs.Turns.{marked_sum}

@@ -1,35 +1,22 @@
 -- What each kind of state leads to, after the turn that marked its place.
-use Rattle.std.proofs.Common.{◌≡◌, ℕ, ◌+◌, ◌-◌, ◌*◌, ◌<◌, ◌≤◌, List, [], ◌∷◌, ◌++◌, length, get_or, set, map, rules}
-use Rattle.std.proofs.Common.{refl, ap, sym, arith, length-set}
-use Rattle.std.specs.Prelude.{Option, Some, None, true, false, Bool, All, option_map, option_and_then, option_to_list}
+use Rattle.std.proofs.Common.{◌≡◌, ℕ, ◌+◌, ◌-◌, ◌*◌, ◌<◌, ◌≤◌, List, [], ◌∷◌, ◌++◌, length, get_or, set, map, rules, refl, ap, sym, arith, length-set, Option, Some, None, true, false, Bool, All, option_map, option_and_then, option_to_list}
 use Rattle.std.specs.List.{slice_get, sum_by}
 use Rattle.std.proofs.lemmas.List.{length-map}
 use Rattle.std.proofs.lemmas.List.Elements.{All-push}
 use Rattle.std.proofs.lemmas.List.Sums.{sum_by_push}
-use Rattle.regex_search_core.specs.Search.{Search}
-use Rattle.regex_search_core.specs.Patterns.{number_of}
-use Rattle.regex_search_core.specs.declared.primitives.PatternID.{PatternID}
-use Rattle.thompson_nfa.specs.Automaton.{Automaton, Node, node_of}
+use Rattle.nfa_paths.specs.Common.{Search, number_of, PatternID, Automaton, Node, node_of, look_holds, Pair, span_len, degree, pattern_of, slot_of, edges_of, byte_at, target_on, Task, Slots}
 use Rattle.thompson_nfa.specs.Automaton.Node.{ByteRange, Sparse, Dense, Look, Union, BinaryUnion, Capture, Match}
-use Rattle.thompson_nfa.specs.Looks.{look_holds}
 use Rattle.thompson_nfa.specs.declared.look.Look as looks
 use Rattle.thompson_nfa.specs.declared.state.State.{State}
-use Rattle.nfa_paths.specs.Graphs.{Pair}
-use Rattle.nfa_paths.specs.Paths.{span_len, degree, pattern_of, slot_of, edges_of, byte_at, target_on}
-use Rattle.nfa_paths.specs.Exploring.{Task, Slots}
 use Rattle.nfa_paths.specs.Exploring.Task.{Explore, Restore}
 use Rattle.nfa_scan_core.proofs.TargetLemmas.{target-below, target-degree}
 use Rattle.nfa_scan_core.specs.Marks.{Marks}
-use Rattle.nfa_backtrack_scan.specs.Walk.{pair_of, work_item, stacked, restoring, move_to, frame_tries}
-use Rattle.nfa_backtrack_scan.specs.Walk.{tries_of_state_pos, with_state_pos, bit_of, HasBits, HasFrames, IsStatePos}
-use Rattle.nfa_backtrack_scan.specs.Walk.{IsStatePosOr, IsFrame, IsByteStep, PaidFor, ReadsByte, Carries, Goes, Taken}
-use Rattle.nfa_backtrack_scan.specs.Walk.{TurnsLead, Walk, WasMarked}
+use Rattle.nfa_backtrack_scan.specs.Walk.{pair_of, work_item, stacked, restoring, move_to, frame_tries, tries_of_state_pos, with_state_pos, bit_of, HasBits, HasFrames, IsStatePos, IsStatePosOr, IsFrame, IsByteStep, PaidFor, ReadsByte, Carries, Goes, Taken, TurnsLead, Walk, WasMarked}
 use Rattle.nfa_backtrack_scan.specs.declared.walk.Move.TheVariants.{Matched}
 use Rattle.nfa_backtrack_scan.specs.declared.frame.StatePos.{StatePos}
 use Rattle.nfa_backtrack_scan.specs.declared.frame.Frame.{Frame}
 use Rattle.nfa_backtrack_scan.specs.declared.frame.Frame.TheVariants.{Step}
-use Rattle.nfa_backtrack_scan.proofs.WalkLemmas.{marked_sum-weights, Carries-plain}
-use Rattle.nfa_backtrack_scan.proofs.WalkLemmas.{Carries-write, Carries-unkept, Ends-match}
+use Rattle.nfa_backtrack_scan.proofs.WalkLemmas.{marked_sum-weights, Carries-plain, Carries-write, Carries-unkept, Ends-match}
 use Rattle.nfa_scan_core.proofs.AlternateLemmas.{none-nil}
 use Rattle.nfa_paths.proofs.StartLemmas.{node_at-get}
 

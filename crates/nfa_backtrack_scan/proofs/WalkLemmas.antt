@@ -1,29 +1,19 @@
 -- The steps of a walk, one for each kind of state.
-use Rattle.std.proofs.Common.{◌≡◌, ℕ, suc, ◌+◌, ◌-◌, ◌*◌, ◌<◌, ◌≤◌, ◌⊎◌, List, [], ◌∷◌, ◌++◌, length, rules}
-use Rattle.std.proofs.Common.{get_or, set, map, replicate, refl, arith}
-use Rattle.std.specs.Prelude.{Option, Some, None, true, false, Bool, sum}
+use Rattle.std.proofs.Common.{◌≡◌, ℕ, suc, ◌+◌, ◌-◌, ◌*◌, ◌<◌, ◌≤◌, ◌⊎◌, List, [], ◌∷◌, ◌++◌, length, rules, get_or, set, map, replicate, refl, arith, Option, Some, None, true, false, Bool, sum}
 use Rattle.std.specs.List.{slice_get}
 use Rattle.std.proofs.Math.Decide.{ℕ_discrete}
 use Rattle.std.proofs.lemmas.Nat.{same_from_place}
 use Rattle.std.proofs.lemmas.Option.{slice_get-map, get_or_from_slice_get}
 use Rattle.std.proofs.lemmas.List.{length-map}
 use Rattle.std.proofs.lemmas.List.Sums.{sum-map}
-use Rattle.regex_search_core.specs.Search.{Search}
-use Rattle.thompson_nfa.specs.Automaton.{Automaton, Node}
+use Rattle.nfa_paths.specs.Common.{Search, Automaton, Node, Path, Pair, In, Space, span_len, degree, pattern_of, slot_of, edges_of, is_match, space, total_degree, Task, Slots, Hit, ExploresTo, HalfMatch}
 use Rattle.thompson_nfa.specs.Automaton.Node.{Capture, Fail, Match}
-use Rattle.nfa_paths.specs.FirstPaths.{Path}
 use Rattle.nfa_paths.specs.FirstPaths.Path.{stop, go}
-use Rattle.nfa_paths.specs.Graphs.{Pair, In, Space}
-use Rattle.nfa_paths.specs.Paths.{span_len, degree, pattern_of, slot_of, edges_of, is_match, space}
-use Rattle.nfa_paths.specs.Paths.{total_degree}
-use Rattle.nfa_paths.specs.Exploring.{Task, Slots, Hit, ExploresTo}
 use Rattle.nfa_paths.specs.Exploring.Task.{Explore, Restore}
 use Rattle.nfa_paths.specs.Turns.{marked_sum}
-use Rattle.nfa_paths.proofs.SearchLemmas.{Answer-more, Answer-none, Answer-restore, Answer-marked, Answer-target, Answer-plain}
-use Rattle.nfa_paths.proofs.SearchLemmas.{Answer-write, Answer-unkept}
+use Rattle.nfa_paths.proofs.SearchLemmas.{Answer-more, Answer-none, Answer-restore, Answer-marked, Answer-target, Answer-plain, Answer-write, Answer-unkept}
 use Rattle.nfa_paths.proofs.TurnLemmas.{marked_sum-set, sum-repeated, get_or-repeated}
 use Rattle.nfa_scan_core.specs.Marks.{Marks}
-use Rattle.regex_search_core.specs.declared.search.HalfMatch.{HalfMatch}
 use Rattle.nfa_backtrack_scan.specs.Walk.{bit_of, IsMarked, Agrees, weights, Walk, WalkAnswer, Carries, Ends, EndsAt}
 use Rattle.nfa_paths.proofs.StartLemmas.{node_at-get}
 use Rattle.nfa_scan_core.proofs.SeenLemmas.{none-set}

@@ -1,12 +1,7 @@
 -- The alternatives of a union that are pushed.
 use Rattle.std.specs.Prelude.{ℕ, ◌+◌, ◌≤◌, List, ◌++◌, None, length, map, All}
 use Rattle.std.specs.List.{sum_by}
-use Rattle.regex_search_core.specs.Search.{Search}
-use Rattle.thompson_nfa.specs.Automaton.{Automaton}
-use Rattle.nfa_paths.specs.FirstPaths.{Path}
-use Rattle.nfa_paths.specs.Graphs.{Pair}
-use Rattle.nfa_paths.specs.Paths.{edges, is_match, space}
-use Rattle.nfa_paths.specs.Exploring.{Hit, Slots, Task, ExploresTo}
+use Rattle.nfa_paths.specs.Common.{Search, Automaton, Path, Pair, edges, is_match, space, Hit, Slots, Task, ExploresTo}
 use Rattle.nfa_paths.specs.Exploring.Task.{Explore as ToExplore}
 use Rattle.nfa_backtrack_scan.specs.Walk.{stacked, frame_tries, IsFrame}
 use Rattle.nfa_backtrack_scan.specs.declared.frame.StatePos.{StatePos}

@@ -1,12 +1,7 @@
 -- The first turn of a walk, which pushes no frame for its slot, and a walk that keeps what that turn wrote.
 use Rattle.std.specs.Prelude.{◌≡◌, ℕ, ◌+◌, ◌≤◌, List, [], ◌∷◌, Option, None, Some, map}
 use Rattle.std.specs.Option.{ForSome}
-use Rattle.regex_search_core.specs.Search.{Search}
-use Rattle.regex_search_core.specs.declared.search.HalfMatch.{HalfMatch}
-use Rattle.thompson_nfa.specs.Automaton.{Automaton}
-use Rattle.nfa_paths.specs.Graphs.{Pair}
-use Rattle.nfa_paths.specs.Paths.{node_at, slot_of, pairs_from}
-use Rattle.nfa_paths.specs.Exploring.{Slots, Task}
+use Rattle.nfa_paths.specs.Common.{Search, HalfMatch, Automaton, Pair, node_at, slot_of, pairs_from, Slots, Task}
 use Rattle.nfa_paths.specs.Exploring.Task.{Explore as ToExplore, Restore as ToRestore}
 use Rattle.nfa_paths.specs.Turns.{marked_sum}
 use Rattle.nfa_scan_core.specs.Marks.{Marks}

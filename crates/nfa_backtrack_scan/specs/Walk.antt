@@ -1,21 +1,13 @@
 -- The walk of a backtracker in the words of its proof: its stack as work that is left, its marks as pairs that were
 -- seen.
-use Rattle.std.specs.Prelude.{◌≡◌, ◌↔◌, ℕ, ◌+◌, ◌-◌, ◌*◌, ◌^◌, ◌<◌, ◌≤◌, Bool, true, false, List, [], ◌∷◌, Option, None}
-use Rattle.std.specs.Prelude.{is_some, option_and_then, replicate, Some, length, map, sum, All, slice_get, slice_index_or, slice_set}
+use Rattle.std.specs.Prelude.{◌≡◌, ◌↔◌, ℕ, ◌+◌, ◌-◌, ◌*◌, ◌^◌, ◌<◌, ◌≤◌, Bool, true, false, List, [], ◌∷◌, Option, None, is_some, option_and_then, replicate, Some, length, map, sum, All, slice_get, slice_index_or, slice_set}
 use Rattle.std.specs.List.{sum_by}
-use Rattle.regex_search_core.specs.Search.{Search}
-use Rattle.regex_search_core.specs.Patterns.{number_of}
-use Rattle.regex_search_core.specs.Found.{half_found_of}
-use Rattle.regex_search_core.specs.declared.search.HalfMatch.{HalfMatch}
+use Rattle.nfa_paths.specs.Common.{Search, number_of, half_found_of, HalfMatch, Automaton, IsAutomaton, LeadsBelow, Node, node_of, Pair, In, span_len, degree, node_at, pattern_of, is_match, byte_at, target_on, IsScanAnswer, space, Slots, Hit, Task, ExploresTo}
 use Rattle.regex_search_core.specs.declared.search.MatchKind.TheVariants.{LeftmostFirst}
-use Rattle.thompson_nfa.specs.Automaton.{Automaton, IsAutomaton, LeadsBelow, Node, node_of}
 use Rattle.thompson_nfa.specs.Automaton.Node.{ByteRange, Sparse, Dense, BinaryUnion}
 use Rattle.thompson_nfa.specs.declared.state.State.{State}
 use Rattle.thompson_nfa.specs.declared.state.Transition.{Transition}
-use Rattle.nfa_paths.specs.Graphs.{Pair, In}
-use Rattle.nfa_paths.specs.Paths.{span_len, degree, node_at, pattern_of, is_match, byte_at, target_on, IsScanAnswer, space}
 use Rattle.nfa_paths.specs.Restarts.{GivesPath}
-use Rattle.nfa_paths.specs.Exploring.{Slots, Hit, Task, ExploresTo}
 use Rattle.nfa_paths.specs.Exploring.Task.{Explore as ToExplore, Restore as ToRestore}
 use Rattle.nfa_paths.specs.Turns.{marked_sum, repeated}
 use Rattle.nfa_scan_core.specs.FirstBytes.{IsFirstBytes}

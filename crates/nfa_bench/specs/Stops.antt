@@ -2,8 +2,7 @@
 use Rattle.std.specs.Prelude.{ℕ, List, ◌++◌, Option, Some, None, codes}
 use Rattle.std.specs.Fmt.{decimal}
 use Rattle.nfa_search_base.specs.declared.error.SearchError.{SearchError}
-use Rattle.nfa_search_base.specs.declared.error.SearchError.TheVariants.{Finder, HaystackTooLong}
-use Rattle.nfa_search_base.specs.declared.error.SearchError.TheVariants.{Memory as NoMemory}
+use Rattle.nfa_search_base.specs.declared.error.SearchError.TheVariants.{Finder, HaystackTooLong, Memory as NoMemory}
 use Rattle.nfa_bench.specs.declared.run.Stop.{Stop}
 use Rattle.nfa_bench.specs.declared.run.Stop.TheVariants.{Usage, UnknownName, TooLong, Memory, Write}
 

@@ -1,15 +1,7 @@
 -- Two NFAs with the same edges, starts and matches make the same of a set of patterns.
-use Rattle.std.proofs.Common.{◌≡◌, ◌∙◌, ℕ, inl, inr, Bool, true, false, List, length, rules, subst}
-use Rattle.std.specs.Prelude.{Option, None, Some, is_some}
-use Rattle.regex_search_core.specs.Search.{Search}
-use Rattle.regex_search_core.specs.declared.search.MatchKind.{MatchKind}
+use Rattle.std.proofs.Common.{◌≡◌, ◌∙◌, ℕ, inl, inr, Bool, true, false, List, length, rules, subst, Option, None, Some, is_some}
+use Rattle.nfa_paths.specs.Common.{Search, MatchKind, Automaton, Pair, WantedAt, IsEnd, IsFirstTo, IsLeastEnd, NoPath, IsReached, WantedBefore, Gains, HoldsOnly, HoldsPath, HoldsUpTo, IsFirstBefore, IsInsertable, IsOverlapResult, IsPatternOf, IsPermitted, IsSelectedByAll, IsSelectedPath, pattern_at, edges, last_of, path_pattern, starts}
 use Rattle.regex_search_core.specs.declared.search.MatchKind.TheVariants.{All, LeftmostFirst}
-use Rattle.thompson_nfa.specs.Automaton.{Automaton}
-use Rattle.nfa_paths.specs.Graphs.{Pair, WantedAt, IsEnd, IsFirstTo, IsLeastEnd, NoPath}
-use Rattle.nfa_paths.specs.Kinds.{IsReached, WantedBefore}
-use Rattle.nfa_paths.specs.Overlaps.{Gains, HoldsOnly, HoldsPath, HoldsUpTo, IsFirstBefore, IsInsertable, IsOverlapResult}
-use Rattle.nfa_paths.specs.Overlaps.{IsPatternOf, IsPermitted, IsSelectedByAll, IsSelectedPath, pattern_at}
-use Rattle.nfa_paths.specs.Paths.{edges, last_of, path_pattern, starts}
 use Rattle.nfa_paths.proofs.PathToLemmas.{IsFirstTo-along}
 use Rattle.nfa_paths.proofs.ReachedLemmas.{IsReached-along}
 use Rattle.nfa_captures.proofs.WaysLemmas.{HaveSameWays, back, carried, pattern-same}

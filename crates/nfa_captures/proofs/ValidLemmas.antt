@@ -1,12 +1,10 @@
 -- An NFA with fewer captures is one that `NFA::from_states` accepts.
-use Rattle.std.proofs.Common.{◌≡◌, ◌∙◌, ℕ, ◌+◌, ◌*◌, ◌≤◌, ◌<◌, inl, inr, List, [], ◌∷◌, ap, arith, length, map, refl, replicate, subst, sym}
-use Rattle.std.specs.Prelude.{All, Option, None, Some, nat_lt, slice_index_or}
+use Rattle.std.proofs.Common.{◌≡◌, ◌∙◌, ℕ, ◌+◌, ◌*◌, ◌≤◌, ◌<◌, inl, inr, List, [], ◌∷◌, ap, arith, length, map, refl, replicate, subst, sym, All, Option, None, Some, nat_lt, slice_index_or}
 use Rattle.std.proofs.lemmas.Bool.{cases_Bool, cases_lt, le-ltb, lt-ltb}
 use Rattle.std.proofs.lemmas.List.{get_or_past, length-map, length-replicate}
 use Rattle.std.proofs.lemmas.List.Elements.{All-cons, All-head, All-map, All-nil, All-tail}
-use Rattle.regex_search_core.specs.Groups.{slot_count}
-use Rattle.thompson_nfa.specs.Automaton.{Automaton, AreGroupsOfPatterns, IsAutomaton, LeadsBelow, Node, PatternBelow}
-use Rattle.thompson_nfa.specs.Automaton.{SlotBelow}
+use Rattle.nfa_paths.specs.Common.{slot_count, Automaton, IsAutomaton, LeadsBelow, Node, PatternBelow, SlotBelow}
+use Rattle.thompson_nfa.specs.Automaton.{AreGroupsOfPatterns}
 use Rattle.thompson_nfa.specs.Automaton.Node.{ByteRange, Sparse, Dense, Look, Union, BinaryUnion, Capture, Fail, Match}
 use Rattle.thompson_nfa.specs.Flaws.{IsFirstFlaw}
 use Rattle.thompson_nfa.specs.declared.flaw.Flaw.{Flaw}

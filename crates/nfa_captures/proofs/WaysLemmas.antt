@@ -1,18 +1,7 @@
 -- Two NFAs with the same edges, starts and matches have the same answers.
-use Rattle.std.proofs.Common.{◌≡◌, ◌∙◌, ℕ, inl, inr, Bool, true, false, MatchBool, List, ap, length, subst, sym}
-use Rattle.std.specs.Prelude.{Option, None, Some, is_some, option_and_then, option_map}
-use Rattle.regex_search_core.specs.Found.{Found, HalfFound}
-use Rattle.regex_search_core.specs.Groups.{slot_count}
-use Rattle.regex_search_core.specs.Search.{Search, is_anchored}
-use Rattle.regex_search_core.specs.Slots.{match_of}
-use Rattle.regex_search_core.specs.declared.search.MatchKind.{MatchKind}
+use Rattle.std.proofs.Common.{◌≡◌, ◌∙◌, ℕ, inl, inr, Bool, true, false, MatchBool, List, ap, length, subst, sym, Option, None, Some, is_some, option_and_then, option_map}
+use Rattle.nfa_paths.specs.Common.{Found, HalfFound, slot_count, Search, is_anchored, match_of, MatchKind, Automaton, Pair, IsFirstPath, IsEarliestPath, IsLastPath, IsEarliestLastPath, pattern_at, edges, is_utf8_empty, last_of, path_half, path_pattern, raised, slot_row, starts, IsAnswer, IsBoolAnswer, IsFindAnswer, IsHalfAnswer, IsKeptAnswer, IsMatch, IsRestartedAnswer, IsScanAnswer, IsSearchAnswer, SplitsCharacter}
 use Rattle.regex_search_core.specs.declared.search.MatchKind.TheVariants.{All, LeftmostFirst}
-use Rattle.thompson_nfa.specs.Automaton.{Automaton}
-use Rattle.nfa_paths.specs.Graphs.{Pair, IsFirstPath, IsEarliestPath, IsLastPath, IsEarliestLastPath}
-use Rattle.nfa_paths.specs.Overlaps.{pattern_at}
-use Rattle.nfa_paths.specs.Paths.{edges, is_utf8_empty, last_of, path_half, path_pattern, raised, slot_row, starts}
-use Rattle.nfa_paths.specs.Paths.{IsAnswer, IsBoolAnswer, IsFindAnswer, IsHalfAnswer}
-use Rattle.nfa_paths.specs.Paths.{IsKeptAnswer, IsMatch, IsRestartedAnswer, IsScanAnswer, IsSearchAnswer, SplitsCharacter}
 
 -- the two NFAs differ only in what their paths write
 pub record HaveSameWays (a b : Automaton) : Type 0 where

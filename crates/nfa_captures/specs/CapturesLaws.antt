@@ -1,12 +1,6 @@
 -- What an NFA with fewer captures answers is what the NFA does.
 use Rattle.std.specs.Prelude.{◌≡◌, ◌≤◌, ℕ, Bool, List, Option, length}
-use Rattle.regex_search_core.specs.Found.{Found, HalfFound}
-use Rattle.regex_search_core.specs.Groups.{slot_count}
-use Rattle.regex_search_core.specs.Search.{Search}
-use Rattle.regex_search_core.specs.declared.search.MatchKind.{MatchKind}
-use Rattle.thompson_nfa.specs.Automaton.{Automaton, IsAutomaton}
-use Rattle.nfa_paths.specs.Overlaps.{IsOverlapResult}
-use Rattle.nfa_paths.specs.Paths.{IsAnswer, IsBoolAnswer, IsFindAnswer, IsHalfAnswer}
+use Rattle.nfa_paths.specs.Common.{Found, HalfFound, slot_count, Search, MatchKind, Automaton, IsAutomaton, IsOverlapResult, IsAnswer, IsBoolAnswer, IsFindAnswer, IsHalfAnswer}
 use Rattle.nfa_captures.specs.Kept.{with_captures}
 use Rattle.nfa_captures.specs.declared.which.WhichCaptures.{WhichCaptures}
 use Rattle.nfa_captures.specs.declared.which.WhichCaptures.TheVariants as which

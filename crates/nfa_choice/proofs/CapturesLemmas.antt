@@ -1,7 +1,6 @@
 -- A choice as the engine of an iteration over captures: when its iterator may search, and what it gives and keeps.
 use Rattle.std.proofs.Common.{◌≡◌, Bool, false, Option, Result, refl, subst}
-use Rattle.regex_search_core.specs.Search.{Search}
-use Rattle.regex_search_core.specs.Slots.{Captured}
+use Rattle.nfa_paths.specs.Common.{Search, Captured}
 use Rattle.nfa_search_base.specs.CapturesGiven.{CapturesGiven}
 use Rattle.nfa_search_base.specs.WithCaptures.{WithCaptures, GivesCaptures, Row, row_span}
 use Rattle.nfa_search_base.specs.CapturesLists.{HasGroups, AnswersRow}
@@ -21,8 +20,7 @@ use Rattle.nfa_search_base.proofs.RunLemmas.{Begins}
 use Rattle.nfa_search_base.proofs.ShellLemmas.{ShellOf, plain_shell, steps_in}
 use Rattle.nfa_pikevm.specs.Engines.{Pike, kind_of}
 use Rattle.nfa_pikevm.specs.Finding.{PikeAnswersRow}
-use Rattle.nfa_choice.specs.CapturesMatches.{AsksRowByRule, CatchesByRule, ChoiceCatchesBySearches, ChoiceCatchesGiveKept}
-use Rattle.nfa_choice.specs.CapturesMatches.{MayCatchByRule, choice_catches, choice_catches_next}
+use Rattle.nfa_choice.specs.CapturesMatches.{AsksRowByRule, CatchesByRule, ChoiceCatchesBySearches, ChoiceCatchesGiveKept, MayCatchByRule, choice_catches, choice_catches_next}
 use Rattle.nfa_choice.specs.ChoiceState.{ChoiceState, KeepsEngines, kind_in, pike_of}
 use Rattle.nfa_choice.specs.declared.choose.captures_iter.ChoiceCaptures.{ChoiceCaptures}
 use Rattle.nfa_choice.proofs.FindLemmas.{keeps-self, keeps-then, pike-kept}

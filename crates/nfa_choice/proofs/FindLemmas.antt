@@ -1,8 +1,6 @@
 -- A choice as the engine of an iteration over matches: when its iterator may search, and what it gives and keeps.
 use Rattle.std.proofs.Common.{◌≡◌, ◌∙◌, Bool, false, Ok, refl, subst}
-use Rattle.regex_search_core.specs.Found.{Found, found_of}
-use Rattle.regex_search_core.specs.Search.{Search}
-use Rattle.regex_search_core.specs.declared.search.Match.{Match}
+use Rattle.nfa_paths.specs.Common.{Found, found_of, Search, Match}
 use Rattle.nfa_search_base.specs.WithCache.{WithCache}
 use Rattle.nfa_search_base.specs.StepsWith.{TakesStepWith, steps_with_state, steps_with_iter_state}
 use Rattle.nfa_search_base.specs.Lists.{AnswersMatch}
@@ -11,8 +9,7 @@ use Rattle.nfa_search_base.specs.Steps.{GivesItem}
 use Rattle.nfa_search_base.specs.Stored.{steps_iter_state, can_step_infallibly}
 use Rattle.nfa_search_base.specs.IterStates.{fresh, span_of, IsInfalliblyInside}
 use Rattle.nfa_search_base.specs.declared.iter.steps.Steps.{Steps}
-use Rattle.nfa_search_base.proofs.EngineLemmas.{KeptBy, SearchesAs, SearchesOf, answers_as, calls-kept, find-lies}
-use Rattle.nfa_search_base.proofs.EngineLemmas.{searches-serve}
+use Rattle.nfa_search_base.proofs.EngineLemmas.{KeptBy, SearchesAs, SearchesOf, answers_as, calls-kept, find-lies, searches-serve}
 use Rattle.nfa_search_base.proofs.ItemLemmas.{ItemsOf, items_as}
 use Rattle.nfa_search_base.proofs.LeavingLemmas.{shell-leaves, shell-to_end}
 use Rattle.nfa_search_base.proofs.MatchRunLemmas.{MatchesGiven, matches-given}
@@ -22,8 +19,7 @@ use Rattle.nfa_pikevm.specs.Engines.{Pike, kind_of}
 use Rattle.nfa_pikevm.specs.Finding.{PikeAnswersMatch}
 use Rattle.nfa_engines.proofs.LoopLemmas.{sizes-none, sizes-two}
 use Rattle.nfa_choice.specs.ChoiceState.{ChoiceState, KeepsEngines, kind_in, pike_of}
-use Rattle.nfa_choice.specs.Matches.{AsksByRule, ChoiceFindsBySearches, ChoiceGivesKept, FindsByRule}
-use Rattle.nfa_choice.specs.Matches.{choice_matches, choice_matches_next}
+use Rattle.nfa_choice.specs.Matches.{AsksByRule, ChoiceFindsBySearches, ChoiceGivesKept, FindsByRule, choice_matches, choice_matches_next}
 use Rattle.nfa_choice.specs.declared.choose.find_iter.ByRule.{ByRule}
 use Rattle.nfa_choice.specs.declared.choose.find_iter.ChoiceMatches.{ChoiceMatches}
 

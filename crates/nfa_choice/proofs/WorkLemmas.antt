@@ -1,24 +1,18 @@
 -- What lists add to the totals of both caches of a choice, whichever searches it does for them; and what its own lists
 -- add.
-use Rattle.std.proofs.Common.{◌≡◌, ◌∙◌, ◌+◌, ◌*◌, ◌⊎◌, Bool, true, false, List, length, refl, ap, subst, inl, inr}
-use Rattle.std.specs.Prelude.{not}
+use Rattle.std.proofs.Common.{◌≡◌, ◌∙◌, ◌+◌, ◌*◌, ◌⊎◌, Bool, true, false, List, length, refl, ap, subst, inl, inr, not}
 use Rattle.std.proofs.lemmas.Bool.{and_parts}
-use Rattle.regex_search_core.specs.Found.{Found}
-use Rattle.regex_search_core.specs.Search.{Search}
-use Rattle.regex_search_core.specs.declared.search.MatchKind.{MatchKind}
+use Rattle.nfa_paths.specs.Common.{Found, Search, MatchKind, span_len}
 use Rattle.regex_search_core.specs.declared.search.MatchKind.TheVariants.{All, LeftmostFirst}
-use Rattle.nfa_paths.specs.Paths.{span_len}
 use Rattle.nfa_search_base.specs.WithCaptures.{Row, row_span}
 use Rattle.nfa_search_base.specs.Leaving.{DoesSearch, Leaves, LeavesAtEnd}
 use Rattle.nfa_search_base.specs.IterStates.{span_of}
 use Rattle.nfa_search_base.proofs.StepLemmas.{chosen}
 use Rattle.nfa_engines.specs.WorkLaws.{AddsAtMost, Totals, backtracker_totals, list_scan_limit, pike_totals}
-use Rattle.nfa_engines.proofs.EngineWorkLemmas.{WorkOf, Worked, calls-add, list-adds, match-hit, row-hit, worked}
-use Rattle.nfa_engines.proofs.EngineWorkLemmas.{worked-within}
+use Rattle.nfa_engines.proofs.EngineWorkLemmas.{WorkOf, Worked, calls-add, list-adds, match-hit, row-hit, worked, worked-within}
 use Rattle.nfa_pikevm.specs.Engines.{Pike, kind_of}
 use Rattle.nfa_choice.specs.CapturesMatches.{CatchesByRule, ChoiceCatchesOn, ChoiceCatchesToEnd, ChoiceTellsRow}
-use Rattle.nfa_choice.specs.ChoiceState.{BacktrackerRan, ChoiceState, KeepsEngines, FellBackToPike, RunsByRule}
-use Rattle.nfa_choice.specs.ChoiceState.{is_for_backtracker, is_leftmost_first, kind_in, pike_of}
+use Rattle.nfa_choice.specs.ChoiceState.{BacktrackerRan, ChoiceState, KeepsEngines, FellBackToPike, RunsByRule, is_for_backtracker, is_leftmost_first, kind_in, pike_of}
 use Rattle.nfa_choice.specs.Matches.{ChoiceFindsOn, ChoiceFindsToEnd, ChoiceTells, FindsByRule}
 use Rattle.nfa_choice.specs.WorkLaws.{ChoiceAddsAtMost}
 use Rattle.nfa_choice.proofs.FindLemmas.{pike-kept}

@@ -1,13 +1,8 @@
 -- An engine over two others as a value, and the rule that picks one of the two for a search.
-use Rattle.std.specs.Prelude.{◌≡◌, ◌⊎◌, ◌+◌, ◌*◌, ◌≤◌, ℕ, Bool, true, false, ◌&&◌, not, nat_le, MatchBool, Option, Some}
-use Rattle.std.specs.Prelude.{◌-◌, ◌^◌, min}
-use Rattle.regex_search_core.specs.Search.{Search}
-use Rattle.regex_search_core.specs.declared.search.MatchKind.{MatchKind}
+use Rattle.std.specs.Prelude.{◌≡◌, ◌⊎◌, ◌+◌, ◌*◌, ◌≤◌, ℕ, Bool, true, false, ◌&&◌, not, nat_le, MatchBool, Option, Some, ◌-◌, ◌^◌, min}
+use Rattle.nfa_paths.specs.Common.{Search, MatchKind, Automaton, span_len, max_scans, total_degree, IsWork, IsWithinScans}
 use Rattle.regex_search_core.specs.declared.search.MatchKind.TheVariants.{All, LeftmostFirst}
-use Rattle.thompson_nfa.specs.Automaton.{Automaton}
-use Rattle.nfa_paths.specs.Paths.{span_len, max_scans, total_degree, IsWork, IsWithinScans}
-use Rattle.nfa_backtrack.specs.Backtrack.{Backtracker, BacktrackCache, AddsBacktrackWork, CountsAnswer, CountsRefusal, GrowsBlocks}
-use Rattle.nfa_backtrack.specs.Backtrack.{max_haystack_len_of, memory_of}
+use Rattle.nfa_backtrack.specs.Backtrack.{Backtracker, BacktrackCache, AddsBacktrackWork, CountsAnswer, CountsRefusal, GrowsBlocks, max_haystack_len_of, memory_of}
 use Rattle.nfa_search_base.specs.Finds.{finds}
 use Rattle.nfa_pikevm.specs.Engines.{Pike, PikeCache, AddsPikeWork, SameCapacities, kind_of, pike_memory_of}
 use Rattle.nfa_choice.specs.declared.choose.Engine.{Engine}

@@ -1,7 +1,6 @@
 -- Laws of loops of searches by a choice: its engines are kept, and answer as before.
 use Rattle.std.specs.Prelude.{◌≡◌}
-use Rattle.regex_search_core.specs.Search.{Search}
-use Rattle.thompson_nfa.specs.Automaton.{Automaton}
+use Rattle.nfa_paths.specs.Common.{Search, Automaton}
 use Rattle.nfa_pikevm.specs.Engines.{Fits}
 use Rattle.nfa_choice.specs.ChoiceState.{ChoiceState, KeepsEngines, is_for_backtracker}
 

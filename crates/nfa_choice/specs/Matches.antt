@@ -2,9 +2,7 @@
 use Rattle.std.specs.Prelude.{◌*◌, length, List, map, None, Ok, Option, option_map, Bool}
 use Rattle.std.specs.Borrow.{MutBor}
 use Rattle.std.specs.Iterator.{Yields}
-use Rattle.regex_search_core.specs.Found.{Found, found_of}
-use Rattle.regex_search_core.specs.Search.{Search}
-use Rattle.regex_search_core.specs.declared.search.Match.{Match}
+use Rattle.nfa_paths.specs.Common.{Found, found_of, Search, Match}
 use Rattle.nfa_backtrack.specs.Backtrack.{HoldsNoMore}
 use Rattle.nfa_search_base.specs.Leaving.{DoesSearch, Leaves, LeavesAtEnd}
 use Rattle.nfa_search_base.specs.WithCache.{WithCache}

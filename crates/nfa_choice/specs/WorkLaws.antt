@@ -1,9 +1,6 @@
 -- Laws of the work of a whole iteration by a choice, by the totals of both its caches.
 use Rattle.std.specs.Prelude.{ℕ, ◌+◌, ◌*◌, List, length}
-use Rattle.regex_search_core.specs.Found.{Found}
-use Rattle.regex_search_core.specs.Search.{Search}
-use Rattle.thompson_nfa.specs.Automaton.{Automaton}
-use Rattle.nfa_paths.specs.Paths.{span_len}
+use Rattle.nfa_paths.specs.Common.{Found, Search, Automaton, span_len}
 use Rattle.nfa_search_base.specs.WithCaptures.{Row}
 use Rattle.nfa_engines.specs.WorkLaws.{AddsAtMost, backtracker_totals, pike_totals}
 use Rattle.nfa_choice.specs.CapturesMatches.{ChoiceCatchesOn, ChoiceCatchesToEnd}

@@ -1,15 +1,14 @@
 -- What states that are added after others keep and add.
-use Rattle.std.proofs.Common.{◌≡◌, ℕ, ◌+◌, ◌-◌, ◌≤◌, ◌<◌, inl, inr, List, [], ◌∷◌, ◌++◌, map, length, refl, sym, ap, ap₂, ◌∙◌, subst, arith, length-append, append_assoc, vec_len}
-use Rattle.std.specs.Prelude.{slice_index_or, Option, Vec}
+use Rattle.std.proofs.Common.{◌≡◌, ℕ, ◌+◌, ◌-◌, ◌≤◌, ◌<◌, inl, inr, List, [], ◌∷◌, ◌++◌, map, length, refl, sym, ap, ap₂, ◌∙◌, subst, arith, length-append, append_assoc, vec_len, slice_index_or, Option, Vec}
 use Rattle.std.specs.declared.alloc.Global.{Global}
 use Rattle.std.proofs.lemmas.Bool.{cases_lt}
 use Rattle.std.proofs.lemmas.List.{get_or_append_left, get_or-append_right, length-map, map-append}
-use Rattle.regex_search_core.specs.Patterns.{number_of}
+use Rattle.nfa_paths.specs.Common.{number_of, Node, node_of}
 use Rattle.regex_nfa.specs.States.{state_at}
 use Rattle.regex_nfa.specs.declared.nfa.Nfa.{Nfa}
 use Rattle.regex_hir.specs.Re.{Re, empty}
 use Rattle.thompson_nfa.specs.declared.state.State.{State}
-use Rattle.thompson_nfa.specs.Automaton.{Node, Fail, Match, Capture, node_of}
+use Rattle.thompson_nfa.specs.Automaton.{Fail, Match, Capture}
 use Rattle.nfa_compiler.specs.declared.block.Site.{Site}
 use Rattle.nfa_compiler.specs.Blocks.{Stands, IsBlock, match_at, slot_in}
 use Rattle.nfa_compiler.specs.Added.{Adds, HoldsStates}

@@ -1,12 +1,8 @@
 -- All matches and all captures of a search in UTF-8 mode are those of all hits that end on a boundary.
-use Rattle.std.proofs.Common.{◌≡◌, ℕ, ◌+◌, true, List, map, length}
-use Rattle.std.specs.Prelude.{Option, Some, false, ◌==◌}
+use Rattle.std.proofs.Common.{◌≡◌, ℕ, ◌+◌, true, List, map, length, Option, Some, false, ◌==◌}
 use Rattle.regex_hir.specs.Re.{Re}
-use Rattle.regex_search_core.specs.Found.{Found}
-use Rattle.regex_search_core.specs.Search.{Search}
+use Rattle.nfa_paths.specs.Common.{Found, Search, Automaton, is_utf8_empty}
 use Rattle.regex_search_core.specs.declared.search.MatchKind.TheVariants.{LeftmostFirst}
-use Rattle.thompson_nfa.specs.Automaton.{Automaton}
-use Rattle.nfa_paths.specs.Paths.{is_utf8_empty}
 use Rattle.nfa_search_base.specs.WithCaptures.{Row}
 use Rattle.nfa_search_base.specs.CapturesLists.{AreRows}
 use Rattle.nfa_search_base.specs.Lists.{AreMatches}

@@ -1,11 +1,10 @@
 -- The items of an iteration whose searches have the hits of patterns are all hits of these, in order.
-use Rattle.std.proofs.Common.{◌≡◌, ℕ, zero, suc, ◌+◌, ◌≤◌, ◌<◌, inl, inr, Bool, true, false, List, [], ◌∷◌, map, length, refl, sym, ap, ap₂, ◌∙◌, subst, arith, eq-eqb, ne_eqb}
-use Rattle.std.specs.Prelude.{Option, None, Some, Ok, Err, option_map, MatchBool, if◌then◌else◌, ◌==◌, ◌&&◌, ⊤}
+use Rattle.std.proofs.Common.{◌≡◌, ℕ, zero, suc, ◌+◌, ◌≤◌, ◌<◌, inl, inr, Bool, true, false, List, [], ◌∷◌, map, length, refl, sym, ap, ap₂, ◌∙◌, subst, arith, eq-eqb, ne_eqb, Option, None, Some, Ok, Err, option_map, MatchBool, if◌then◌else◌, ◌==◌, ◌&&◌}
+use Rattle.std.specs.Prelude.{⊤}
 use Rattle.std.proofs.lemmas.Bool.Decides.{eqb_tells}
 use Rattle.regex_hir.specs.Text.{is_some_and}
 use Rattle.regex_hir.specs.Find.{Match, find_after, matches_from}
-use Rattle.regex_search_core.specs.Search.{Search}
-use Rattle.regex_search_core.specs.declared.search.Span.{Span}
+use Rattle.nfa_paths.specs.Common.{Search, Span}
 use Rattle.nfa_search_base.specs.Lists.{Fails, IsStep, ItemsLast}
 use Rattle.nfa_search_base.specs.IterStates.{Answer, IterState, fresh, answer_span, repeats, shifted}
 use Rattle.nfa_compiler.specs.AllHits.{hit_after, hits_from}

@@ -1,17 +1,11 @@
 -- All matches and all captures of a search of a compiled NFA are those of all hits of its patterns.
-use Rattle.std.proofs.Common.{◌≡◌, ℕ, ◌+◌, ◌<◌, false, List, [], ◌∷◌, map, length, sym, ap, ap₂, ◌∙◌}
-use Rattle.std.specs.Prelude.{Option, None, Some, Ok, Err, All, option_map, option_and_then, ◌==◌}
+use Rattle.std.proofs.Common.{◌≡◌, ℕ, ◌+◌, ◌<◌, false, List, [], ◌∷◌, map, length, sym, ap, ap₂, ◌∙◌, Option, None, Some, Ok, Err, All, option_map, option_and_then, ◌==◌}
 use Rattle.regex_hir.specs.Re.{Re}
 use Rattle.regex_hir.specs.Find.{find, find_all}
-use Rattle.regex_search_core.specs.Found.{Found}
-use Rattle.regex_search_core.specs.Groups.{slot_count}
-use Rattle.regex_search_core.specs.Search.{Search}
-use Rattle.regex_search_core.specs.Slots.{match_of}
+use Rattle.nfa_paths.specs.Common.{Found, slot_count, Search, match_of, Automaton, is_utf8_empty, path_pattern, slot_row, IsAnswer, IsFindAnswer}
 use Rattle.regex_search_core.specs.declared.search.Anchored.TheVariants.{No}
 use Rattle.regex_search_core.specs.declared.search.MatchKind.TheVariants.{LeftmostFirst}
 use Rattle.regex_syntax.specs.declared.Config.{Config}
-use Rattle.thompson_nfa.specs.Automaton.{Automaton}
-use Rattle.nfa_paths.specs.Paths.{is_utf8_empty, path_pattern, slot_row, IsAnswer, IsFindAnswer}
 use Rattle.nfa_search_base.specs.WithCaptures.{Row, row_found, row_span}
 use Rattle.nfa_search_base.specs.CapturesLists.{AreRows, AnswersRow}
 use Rattle.nfa_search_base.specs.Lists.{AreMatches, AnswersMatch}

@@ -1,10 +1,8 @@
 -- From each pair of a pattern's states the first accepting path is what the pattern's own NFA does from there.
-use Rattle.std.proofs.Common.{◌≡◌, ℕ, suc, ◌+◌, ◌≤◌, ◌<◌, inl, inr, Bool, true, false, List, [], ◌∷◌, ◌++◌, map, length, refl, sym, ap, ◌∙◌, subst, arith}
-use Rattle.std.specs.Prelude.{Option, None, Some, is_some, All, slice_range, option_map, option_and_then, option_to_list, if◌then◌else◌, slice_index_or}
+use Rattle.std.proofs.Common.{◌≡◌, ℕ, suc, ◌+◌, ◌≤◌, ◌<◌, inl, inr, Bool, true, false, List, [], ◌∷◌, ◌++◌, map, length, refl, sym, ap, ◌∙◌, subst, arith, Option, None, Some, is_some, All, slice_range, option_map, option_and_then, option_to_list, if◌then◌else◌, slice_index_or}
 use Rattle.std.specs.Option.{option_or}
 use Rattle.std.proofs.lemmas.Bool.{cases_Bool}
-use Rattle.regex_search_core.specs.Patterns.{number_of}
-use Rattle.regex_search_core.specs.Search.{Search}
+use Rattle.nfa_paths.specs.Common.{number_of, Search, Automaton, Node, look_holds, Pair, In, EndsWith, IsFirst, FirstAmong, pattern_of, slot_of, node_at, is_match, capture, edges_of, edges, byte_at, target_on, first_target}
 use Rattle.regex_hir.specs.Re.{Trace, Rest, write}
 use Rattle.regex_hir.specs.Looks.{holds}
 use Rattle.regex_nfa.specs.States.{covers, target_in, next_on, byte_below, visit, read}
@@ -14,12 +12,7 @@ use Rattle.regex_nfa.specs.declared.state.Transition as their_transition
 use Rattle.regex_nfa.specs.declared.state.State as their_state
 use Rattle.regex_nfa.specs.declared.state.State.TheVariants as their
 use Rattle.regex_nfa.specs.declared.nfa.Nfa.{Nfa}
-use Rattle.thompson_nfa.specs.Automaton.{Automaton, Node}
 use Rattle.thompson_nfa.specs.Automaton.Node.{ByteRange, Sparse, Look, Fail, Match}
-use Rattle.thompson_nfa.specs.Looks.{look_holds}
-use Rattle.nfa_paths.specs.Graphs.{Pair, In, EndsWith}
-use Rattle.nfa_paths.specs.FirstPaths.{IsFirst, FirstAmong}
-use Rattle.nfa_paths.specs.Paths.{pattern_of, slot_of, node_at, is_match, capture, edges_of, edges, byte_at, target_on, first_target}
 use Rattle.nfa_paths.proofs.PathLemmas.{IsFirst-dead, IsFirst-target, IsFirst-step}
 use Rattle.nfa_compiler.specs.declared.block.Site.{Site}
 use Rattle.nfa_compiler.specs.Blocks.{look_of, match_at, slot_in, moved, Stands, IsBlock}

@@ -1,16 +1,12 @@
 -- The place of a hit: it starts where the search may start, and ends within the haystack.
-use Rattle.std.proofs.Common.{◌≡◌, ℕ, zero, suc, ◌+◌, ◌-◌, ◌≤◌, inl, inr, Bool, true, false, List, [], ◌∷◌, length, refl, arith}
-use Rattle.std.specs.Prelude.{Option, None, Some, option_and_then, slice_get, if◌then◌else◌, ◌==◌}
+use Rattle.std.proofs.Common.{◌≡◌, ℕ, zero, suc, ◌+◌, ◌-◌, ◌≤◌, inl, inr, Bool, true, false, List, [], ◌∷◌, length, refl, arith, Option, None, Some, option_and_then, slice_get, if◌then◌else◌, ◌==◌}
 use Rattle.std.proofs.lemmas.Bool.{cases_lt, lt-ltb, le-ltb}
-use Rattle.regex_search_core.specs.Patterns.{number_of}
-use Rattle.regex_search_core.specs.Search.{Search}
-use Rattle.regex_search_core.specs.declared.search.Anchored.{Anchored}
+use Rattle.nfa_paths.specs.Common.{number_of, Search, Anchored, Automaton}
 use Rattle.regex_search_core.specs.declared.search.Anchored.TheVariants.{No, Yes, Pattern}
 use Rattle.regex_hir.specs.Re.{Re, Trace, accept, attempt}
 use Rattle.regex_hir.proofs.AttemptLemmas.{attempt_sound}
 use Rattle.regex_hir.proofs.MatchesLemmas.{Matches-IsSpan}
 use Rattle.regex_hir.proofs.OptionLemmas.{option_or_cases}
-use Rattle.thompson_nfa.specs.Automaton.{Automaton}
 use Rattle.nfa_compiler.specs.Laws.{hit}
 use Rattle.nfa_compiler.specs.Patterns.{PatternHit, expected, first_hit, hit_at_start, hit_of, pick, pick_one}
 

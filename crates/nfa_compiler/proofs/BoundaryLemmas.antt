@@ -1,7 +1,6 @@
 -- What a search is to find in UTF-8 mode, step by step: what a scan finds counts if it ends on a boundary; if not, the
 -- search is to find what it is to find from one byte further on.
-use Rattle.std.proofs.Common.{◌≡◌, ℕ, zero, suc, ◌+◌, ◌-◌, ◌≤◌, ◌⊎◌, inl, inr, Bool, true, false, List, length, refl, ap, ◌∙◌, arith}
-use Rattle.std.specs.Prelude.{Option, None, Some, if◌then◌else◌, not, nat_lt, slice_index}
+use Rattle.std.proofs.Common.{◌≡◌, ℕ, zero, suc, ◌+◌, ◌-◌, ◌≤◌, ◌⊎◌, inl, inr, Bool, true, false, List, length, refl, ap, ◌∙◌, arith, Option, None, Some, if◌then◌else◌, not, nat_lt, slice_index}
 use Rattle.std.specs.Int.{is_in_range}
 use Rattle.std.specs.Option.{option_or}
 use Rattle.std.proofs.lemmas.Bool.{cases_lt, lt-ltb, le-ltb}
@@ -9,11 +8,8 @@ use Rattle.std.proofs.lemmas.Bool.Decides.{nat_tests}
 use Rattle.std.proofs.lemmas.Option.{slice_get_past, slice_get-get_or}
 use Rattle.regex_hir.specs.Re.{Re}
 use Rattle.regex_hir.specs.Text.{is_boundary, is_none_or}
-use Rattle.regex_search_core.specs.Boundary.{IsBoundary}
-use Rattle.regex_search_core.specs.Search.{Search, is_anchored}
-use Rattle.regex_search_core.specs.declared.search.Anchored.{Anchored}
+use Rattle.nfa_paths.specs.Common.{IsBoundary, Search, is_anchored, Anchored, raised}
 use Rattle.regex_search_core.specs.declared.search.Anchored.TheVariants.{No, Yes, Pattern}
-use Rattle.nfa_paths.specs.Paths.{raised}
 use Rattle.nfa_compiler.specs.BoundaryHits.{boundary_hit_at_start, ends_on_boundary, expected_on_boundary, on_boundary, restarted_hit}
 use Rattle.nfa_compiler.specs.Patterns.{PatternHit, expected, first_hit, hit_at_start, pick}
 

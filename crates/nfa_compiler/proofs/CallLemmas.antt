@@ -1,14 +1,10 @@
 -- What a search of a whole haystack finds of one text, in the words of `regex_hir`.
-use Rattle.std.proofs.Common.{◌≡◌, ℕ, zero, suc, ◌<◌, false, List, [], ◌∷◌, map, length, refl, ap, ◌∙◌, arith}
-use Rattle.std.specs.Prelude.{Option, None, Some, All, option_map, slice_index_or}
+use Rattle.std.proofs.Common.{◌≡◌, ℕ, zero, suc, ◌<◌, false, List, [], ◌∷◌, map, length, refl, ap, ◌∙◌, arith, Option, None, Some, All, option_map, slice_index_or}
 use Rattle.regex_hir.specs.Find.{Match, find, find_all}
 use Rattle.regex_hir.specs.Re.{Re}
-use Rattle.regex_search_core.specs.Found.{Found}
-use Rattle.regex_search_core.specs.Search.{whole}
+use Rattle.nfa_paths.specs.Common.{Found, whole, Automaton, is_utf8_empty, IsFindAnswer}
 use Rattle.regex_search_core.specs.declared.search.MatchKind.TheVariants.{LeftmostFirst}
 use Rattle.regex_syntax.specs.declared.Config.{Config}
-use Rattle.thompson_nfa.specs.Automaton.{Automaton}
-use Rattle.nfa_paths.specs.Paths.{is_utf8_empty, IsFindAnswer}
 use Rattle.nfa_search_base.specs.Lists.{AreMatches}
 use Rattle.nfa_compiler.specs.AnyStart.{FindsFromAnyStart, LosesNoHit}
 use Rattle.nfa_compiler.specs.Compiled.{IsCompiled, IsMeant}

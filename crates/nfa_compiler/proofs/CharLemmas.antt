@@ -1,6 +1,5 @@
 -- The codepoints next to a position are those that `regex_hir` sees there.
-use Rattle.std.proofs.Common.{◌≡◌, ℕ, ◌+◌, ◌-◌, ◌<◌, ◌≤◌, Bool, true, false, cond, ◌==◌, inl, inr, List, [], ◌∷◌, ◌++◌, length, take, drop, refl, sym, ap, ap₂, ◌∙◌, arith, chars, encode_utf8, append-nil, length-drop, eq-eqb, le-leb}
-use Rattle.std.specs.Prelude.{Option, None, Some, slice_range}
+use Rattle.std.proofs.Common.{◌≡◌, ℕ, ◌+◌, ◌-◌, ◌<◌, ◌≤◌, Bool, true, false, cond, ◌==◌, inl, inr, List, [], ◌∷◌, ◌++◌, length, take, drop, refl, sym, ap, ap₂, ◌∙◌, arith, chars, encode_utf8, append-nil, length-drop, eq-eqb, le-leb, Option, None, Some, slice_range}
 use Rattle.std.specs.Char.{IsScalar, len_utf8}
 use Rattle.std.specs.Option.{option_or}
 use Rattle.std.specs.Str.{IsUtf8, is_utf8, encode_utf8_all}

@@ -1,6 +1,5 @@
 -- How an NFA of patterns comes about, pattern by pattern.
-use Rattle.std.proofs.Common.{◌≡◌, ℕ, ◌+◌, ◌*◌, ◌≤◌, ◌<◌, Bool, List, [], ◌∷◌, ◌++◌, map, take, length, sym, ap, ◌∙◌, subst, arith}
-use Rattle.std.specs.Prelude.{slice_index_or, All, Option}
+use Rattle.std.proofs.Common.{◌≡◌, ℕ, ◌+◌, ◌*◌, ◌≤◌, ◌<◌, Bool, List, [], ◌∷◌, ◌++◌, map, take, length, sym, ap, ◌∙◌, subst, arith, slice_index_or, All, Option}
 use Rattle.std.specs.List.{AllZip}
 use Rattle.std.proofs.lemmas.List.{get_or-map, length-map, map-append, take_more}
 use Rattle.std.proofs.lemmas.Slice.Zip.{all_zipped_more}
@@ -9,7 +8,7 @@ use Rattle.std.proofs.lemmas.List.Sums.{sum_by_more}
 use Rattle.regex_hir.specs.Re.{empty}
 use Rattle.regex_hir.specs.Meaning.{meaning}
 use Rattle.regex_syntax.specs.declared.Parsed.{Parsed}
-use Rattle.thompson_nfa.specs.Automaton.{Automaton, Node}
+use Rattle.nfa_paths.specs.Common.{Automaton, Node}
 use Rattle.nfa_compiler.specs.Added.{Adds}
 use Rattle.nfa_compiler.specs.Compiled.{IsPatternAt, ArePatterns, Chooses, IsNfaOf, explicit_names, first_slot, groups_of, res_of}
 use Rattle.nfa_compiler.proofs.AddLemmas.{chooses-kept, patterns-kept, patterns-more, adds-trans}

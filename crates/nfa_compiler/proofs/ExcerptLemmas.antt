@@ -1,6 +1,5 @@
 -- the last line of a text
-use Rattle.std.proofs.Common.{◌≡◌, ◌∙◌, ℕ, zero, suc, ◌+◌, ◌<◌, ◌++◌, Bool, false, true, List, [], ◌∷◌, ap, arith, drop, get_or, length, refl, sym, take}
-use Rattle.std.specs.Prelude.{◌==◌, ◌||◌, ◌≢◌, cond, if◌then◌else◌}
+use Rattle.std.proofs.Common.{◌≡◌, ◌∙◌, ℕ, zero, suc, ◌+◌, ◌<◌, ◌++◌, Bool, false, true, List, [], ◌∷◌, ap, arith, drop, get_or, length, refl, sym, take, ◌==◌, ◌||◌, ◌≢◌, cond, if◌then◌else◌}
 use Rattle.std.specs.List.{list_any}
 use Rattle.std.proofs.lemmas.Bool.{ne_eqb, or_from, or_parts, or_right}
 use Rattle.std.proofs.lemmas.List.{take-append-drop}

@@ -1,22 +1,14 @@
 -- Some accepting path is one of pattern k exactly if that pattern matches from a position where the search may start. A
 -- scan of any kind finds a path exactly if some pattern does.
-use Rattle.std.proofs.Common.{◌≡◌, ℕ, zero, suc, ◌≤◌, ◌<◌, inl, inr, Bool, true, false, List, [], ◌∷◌, map, length, refl, sym, ap, ◌∙◌, subst, arith}
-use Rattle.std.specs.Prelude.{Option, None, Some, is_some, All, option_and_then, slice_get, slice_index, slice_index_or, ◌↔◌}
+use Rattle.std.proofs.Common.{◌≡◌, ℕ, zero, suc, ◌≤◌, ◌<◌, inl, inr, Bool, true, false, List, [], ◌∷◌, map, length, refl, sym, ap, ◌∙◌, subst, arith, Option, None, Some, is_some, All, option_and_then, slice_get, slice_index, slice_index_or, ◌↔◌}
 use Rattle.std.proofs.lemmas.Option.{slice_get-get_or, slice_get_within, get_or_from_slice_get}
-use Rattle.regex_search_core.specs.Patterns.{number_of}
-use Rattle.regex_search_core.specs.Search.{Search}
-use Rattle.regex_search_core.specs.declared.search.MatchKind.{MatchKind}
-use Rattle.regex_search_core.specs.declared.search.Anchored.{Anchored}
+use Rattle.nfa_paths.specs.Common.{number_of, Search, MatchKind, Anchored, Automaton, Pair, In, HeadIs, PathTo, Accepts, IsFirst, IsPermitted, IsPermittedEnd, IsPatternOf, IsScanAnswer, path_pattern, pattern_of, node_at, is_match, IsMatch, edges_of, edges, start_state, starts, is_utf8_empty}
 use Rattle.regex_search_core.specs.declared.search.Anchored.TheVariants.{No, Yes, Pattern}
 use Rattle.regex_hir.specs.Re.{Re, Trace, accept, attempt, empty}
 use Rattle.regex_hir.specs.Matches.{Matches}
 use Rattle.regex_hir.proofs.AttemptLemmas.{attempt_complete, attempt_sound}
 use Rattle.regex_hir.proofs.OptionLemmas.{value_of_IsSome}
-use Rattle.thompson_nfa.specs.Automaton.{Automaton, Union, Fail}
-use Rattle.nfa_paths.specs.Graphs.{Pair, In, HeadIs, PathTo}
-use Rattle.nfa_paths.specs.FirstPaths.{Accepts, IsFirst}
-use Rattle.nfa_paths.specs.Overlaps.{IsPermitted, IsPermittedEnd, IsPatternOf}
-use Rattle.nfa_paths.specs.Paths.{IsScanAnswer, path_pattern, pattern_of, node_at, is_match, IsMatch, edges_of, edges, start_state, starts, is_utf8_empty}
+use Rattle.thompson_nfa.specs.Automaton.{Union, Fail}
 use Rattle.nfa_paths.proofs.PathLemmas.{Path-plain}
 use Rattle.nfa_paths.proofs.PathToLemmas.{EndsWith-last, PathTo-accepts, EndsWith-cons}
 use Rattle.nfa_paths.proofs.PatternLemmas.{some-pattern}

@@ -1,16 +1,14 @@
 -- The span that captures of a hit give for an explicit group is that of the positions last written for it.
-use Rattle.std.proofs.Common.{◌≡◌, ℕ, ◌+◌, ◌*◌, ◌-◌, ◌≤◌, ◌<◌, inl, inr, Bool, List, map, take, length, refl, sym, ap, ap₂, ◌∙◌, arith, ne_eqb}
-use Rattle.std.specs.Prelude.{Option, None, Some, [], option_and_then, option_map, position}
+use Rattle.std.proofs.Common.{◌≡◌, ℕ, ◌+◌, ◌*◌, ◌-◌, ◌≤◌, ◌<◌, inl, inr, Bool, List, map, take, length, refl, sym, ap, ap₂, ◌∙◌, arith, ne_eqb, Option, None, Some, [], option_and_then, option_map, position}
 use Rattle.std.specs.List.{position_or_len, sum_by, range_with_len}
 use Rattle.std.specs.Option.{option_or}
 use Rattle.std.proofs.lemmas.Bool.{cases_lt, le-ltb, lt-ltb}
 use Rattle.std.proofs.lemmas.List.Sums.{sum_by_more, sum_by-take-le}
 use Rattle.std.proofs.lemmas.Option.{slice_get-get_or}
 use Rattle.std.proofs.lemmas.List.FromFn.{get_or-map-range_with_len, length-map-range_with_len}
-use Rattle.regex_search_core.specs.Groups.{group_named, groups_at, is_named, slot_at, slot_count}
-use Rattle.regex_search_core.specs.Slots.{group_span, named_span, offset_at, span_at}
+use Rattle.nfa_paths.specs.Common.{group_named, groups_at, slot_at, slot_count, group_span, named_span, offset_at, span_at, Automaton}
+use Rattle.regex_search_core.specs.Groups.{is_named}
 use Rattle.regex_hir.specs.Find.{last_write}
-use Rattle.thompson_nfa.specs.Automaton.{Automaton}
 use Rattle.nfa_compiler.specs.NameLaws.{captures_of, span_between}
 use Rattle.nfa_compiler.specs.Patterns.{PatternHit, place_of, slots_of, writes_of}
 use Rattle.nfa_compiler.proofs.MeantLemmas.{place-high, written-at}

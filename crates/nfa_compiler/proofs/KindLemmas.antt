@@ -1,18 +1,11 @@
 -- Searches of all kinds in UTF-8 mode: what they find shows that a pattern matches. If no position splits a codepoint,
 -- the first scan gives the answer.
-use Rattle.std.proofs.Common.{◌≡◌, ℕ, zero, suc, ◌+◌, ◌≤◌, ◌<◌, ◌||◌, inl, inr, Bool, true, false, List, [], ◌∷◌, length, refl, sym, ap, subst, arith}
-use Rattle.std.specs.Prelude.{All, Option, None, Some, is_some, MatchBool, option_and_then, if◌then◌else◌, slice_index_or}
+use Rattle.std.proofs.Common.{◌≡◌, ℕ, zero, suc, ◌+◌, ◌≤◌, ◌<◌, ◌||◌, inl, inr, Bool, true, false, List, [], ◌∷◌, length, refl, sym, ap, subst, arith, All, Option, None, Some, is_some, MatchBool, option_and_then, if◌then◌else◌, slice_index_or}
 use Rattle.std.proofs.lemmas.Bool.{cases_lt}
 use Rattle.regex_hir.specs.Matches.{Matches}
 use Rattle.regex_hir.specs.Re.{Re, empty}
 use Rattle.regex_hir.proofs.MatchesLemmas.{Matches-IsSpan}
-use Rattle.regex_search_core.specs.Boundary.{IsBoundary}
-use Rattle.regex_search_core.specs.Search.{Search, is_anchored}
-use Rattle.regex_search_core.specs.declared.search.MatchKind.{MatchKind}
-use Rattle.thompson_nfa.specs.Automaton.{Automaton}
-use Rattle.nfa_paths.specs.Graphs.{Pair, In, EndsWith, Linked, PathTo}
-use Rattle.nfa_paths.specs.Overlaps.{IsPermittedEnd}
-use Rattle.nfa_paths.specs.Paths.{edges, starts, is_utf8_empty, raised, IsKeptAnswer, IsRestartedAnswer, IsScanAnswer, IsSearchAnswer, SplitsCharacter, path_pattern}
+use Rattle.nfa_paths.specs.Common.{IsBoundary, Search, is_anchored, MatchKind, Automaton, Pair, In, EndsWith, Linked, PathTo, IsPermittedEnd, edges, starts, is_utf8_empty, raised, IsKeptAnswer, IsRestartedAnswer, IsScanAnswer, IsSearchAnswer, SplitsCharacter, path_pattern}
 use Rattle.nfa_paths.proofs.AnswerLemmas.{ends_on_boundary as ends_where, scan_answer-leads}
 use Rattle.nfa_paths.proofs.PathToLemmas.{EndsWith-last}
 use Rattle.nfa_paths.proofs.ScanAnswerLemmas.{edges-within, starts-within}

@@ -1,12 +1,9 @@
 -- The places of the hits in UTF-8 mode: as those of all searches.
-use Rattle.std.proofs.Common.{◌≡◌, ℕ, zero, suc, ◌+◌, ◌-◌, ◌≤◌, inl, inr, Bool, true, false, List, length, arith}
-use Rattle.std.specs.Prelude.{Option, None, Some, if◌then◌else◌}
+use Rattle.std.proofs.Common.{◌≡◌, ℕ, zero, suc, ◌+◌, ◌-◌, ◌≤◌, inl, inr, Bool, true, false, List, length, arith, Option, None, Some, if◌then◌else◌}
 use Rattle.std.proofs.lemmas.Bool.{cases_lt, lt-ltb, le-ltb}
 use Rattle.regex_hir.specs.Re.{Re}
 use Rattle.regex_hir.specs.Text.{is_boundary, is_none_or}
-use Rattle.regex_search_core.specs.Patterns.{number_of}
-use Rattle.regex_search_core.specs.Search.{Search}
-use Rattle.regex_search_core.specs.declared.search.Anchored.{Anchored}
+use Rattle.nfa_paths.specs.Common.{number_of, Search, Anchored}
 use Rattle.regex_search_core.specs.declared.search.Anchored.TheVariants.{No, Yes, Pattern}
 use Rattle.nfa_compiler.specs.BoundaryHits.{boundary_hit_at_start, ends_on_boundary, expected_on_boundary, on_boundary, restarted_hit}
 use Rattle.nfa_compiler.specs.Patterns.{PatternHit, first_hit, pick, pick_one}

@@ -1,6 +1,5 @@
 -- An assertion holds exactly if its counterpart does.
-use Rattle.std.proofs.Common.{◌≡◌, ℕ, zero, suc, ◌-◌, ◌<◌, ◌≤◌, not, ◌==◌, inl, inr, List, length, refl, sym, ap, ap₂, ◌∙◌, arith, slice_index, eq-eqb, ne_eqb, lt-ltb, le-ltb, add-one}
-use Rattle.std.specs.Prelude.{Bool, ◌&&◌, ◌||◌, nat_lt, Option, None, Some, is_some, slice_get}
+use Rattle.std.proofs.Common.{◌≡◌, ℕ, zero, suc, ◌-◌, ◌<◌, ◌≤◌, not, ◌==◌, inl, inr, List, length, refl, sym, ap, ap₂, ◌∙◌, arith, slice_index, eq-eqb, ne_eqb, lt-ltb, le-ltb, add-one, Bool, ◌&&◌, ◌||◌, nat_lt, Option, None, Some, is_some, slice_get}
 use Rattle.std.proofs.lemmas.Bool.{cases_lt}
 use Rattle.std.proofs.lemmas.Bool.Decides.{nat_tests}
 use Rattle.std.proofs.lemmas.Option.{slice_get_past, slice_get-get_or}
@@ -11,8 +10,8 @@ use Rattle.regex_hir.specs.Looks.{holds, holds_between, is_whole, side_before, s
 use Rattle.regex_hir.proofs.TextLemmas.{byte_before-add-one}
 use Rattle.regex_hir.specs.declared.look.Look as theirs
 use Rattle.regex_hir.specs.declared.look.Look.TheVariants as their_look
-use Rattle.thompson_nfa.specs.Looks.{look_holds, is_word_byte, is_byte_before, is_byte_at, is_word_before, is_word_after}
-use Rattle.thompson_nfa.specs.Looks.{is_whole_before, is_whole_after, is_word_char_before, is_word_char_after, differ}
+use Rattle.nfa_paths.specs.Common.{look_holds}
+use Rattle.thompson_nfa.specs.Looks.{is_word_byte, is_byte_before, is_byte_at, is_word_before, is_word_after, is_whole_before, is_whole_after, is_word_char_before, is_word_char_after, differ}
 use Rattle.thompson_nfa.specs.Characters.{is_some_word}
 use Rattle.nfa_compiler.specs.Blocks.{look_of}
 use Rattle.nfa_compiler.proofs.CharLemmas.{char-before-same, char-after-same, word-same}

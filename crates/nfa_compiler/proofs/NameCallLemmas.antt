@@ -1,15 +1,10 @@
 -- What captures of a search of a whole haystack give for a name, in the words of `regex_hir`.
-use Rattle.std.proofs.Common.{◌≡◌, ℕ, ◌<◌, false, All, List, [], ◌∷◌, length, refl, ap, arith, ◌∙◌}
-use Rattle.std.specs.Prelude.{Option, None, Some, drop, option_and_then, option_map}
+use Rattle.std.proofs.Common.{◌≡◌, ℕ, ◌<◌, false, All, List, [], ◌∷◌, length, refl, ap, arith, ◌∙◌, Option, None, Some, drop, option_and_then, option_map}
 use Rattle.regex_hir.specs.Find.{Match, find}
 use Rattle.regex_hir.specs.Re.{Re}
-use Rattle.regex_search_core.specs.Groups.{group_named, slot_count}
-use Rattle.regex_search_core.specs.Search.{whole}
-use Rattle.regex_search_core.specs.Slots.{Captured, group_span, named_span}
+use Rattle.nfa_paths.specs.Common.{group_named, slot_count, whole, Captured, group_span, named_span, Automaton, is_utf8_empty, IsAnswer}
 use Rattle.regex_search_core.specs.declared.search.MatchKind.TheVariants.{LeftmostFirst}
 use Rattle.regex_syntax.specs.declared.Config.{Config}
-use Rattle.thompson_nfa.specs.Automaton.{Automaton}
-use Rattle.nfa_paths.specs.Paths.{is_utf8_empty, IsAnswer}
 use Rattle.nfa_compiler.specs.AnyStart.{FindsFromAnyStart}
 use Rattle.nfa_compiler.specs.Compiled.{IsCompiled, IsMeant}
 use Rattle.nfa_compiler.specs.Laws.{hit}

@@ -1,6 +1,5 @@
 -- The names of the groups of a compiled NFA are those that the grammar reads in the texts.
-use Rattle.std.proofs.Common.{◌≡◌, ℕ, suc, ◌≤◌, List, [], ◌∷◌, map, length, refl, ap, ap₂, ◌∙◌}
-use Rattle.std.specs.Prelude.{Option, None, Some, IsSomeAnd, chars, drop, option_map, string_bytes}
+use Rattle.std.proofs.Common.{◌≡◌, ℕ, suc, ◌≤◌, List, [], ◌∷◌, map, length, refl, ap, ap₂, ◌∙◌, Option, None, Some, IsSomeAnd, chars, drop, option_map, string_bytes}
 use Rattle.std.specs.List.{AllZip}
 use Rattle.regex_hir.specs.Meaning.{meaning}
 use Rattle.regex_hir.specs.Re.{Re}
@@ -9,8 +8,7 @@ use Rattle.regex_syntax.specs.Brackets.{Nested}
 use Rattle.regex_syntax.specs.Captures.{SameCaptures}
 use Rattle.regex_syntax.specs.declared.Config.{Config}
 use Rattle.regex_syntax.specs.declared.Parsed.{Parsed}
-use Rattle.regex_syntax.specs.Grammar.{Names, group_count}
-use Rattle.regex_syntax.specs.Grammar.{read as read_text}
+use Rattle.regex_syntax.specs.Grammar.{Names, group_count, read as read_text}
 use Rattle.regex_syntax.specs.Verdict.{Reads}
 use Rattle.nfa_compiler.specs.Compiled.{IsTreeOf, explicit_names, groups_of}
 use Rattle.nfa_compiler.specs.NameLaws.{AreNamed, IsNamed}

@@ -1,22 +1,14 @@
 -- A path from the start of a pattern stays among the states of the pattern, which are before the choice between all.
-use Rattle.std.proofs.Common.{◌≡◌, ◌∙◌, ℕ, ◌+◌, ◌*◌, ◌-◌, ◌≤◌, ◌<◌, inl, inr, List, [], ◌∷◌, length}
-use Rattle.std.proofs.Common.{refl, sym, ap, subst, arith, slice_get}
-use Rattle.std.specs.Prelude.{Option, None, Some, All, option_and_then, slice_index}
+use Rattle.std.proofs.Common.{◌≡◌, ◌∙◌, ℕ, ◌+◌, ◌*◌, ◌-◌, ◌≤◌, ◌<◌, inl, inr, List, [], ◌∷◌, length, refl, sym, ap, subst, arith, slice_get, Option, None, Some, All, option_and_then, slice_index}
 use Rattle.std.specs.Option.{option_map_or}
 use Rattle.std.proofs.lemmas.Bool.{cases_eq, cases_lt}
 use Rattle.std.proofs.lemmas.Option.{slice_get_within, get_or_from_slice_get}
-use Rattle.regex_search_core.specs.Patterns.{number_of}
-use Rattle.regex_search_core.specs.Search.{Search}
-use Rattle.regex_search_core.specs.declared.search.Anchored.{Anchored}
+use Rattle.nfa_paths.specs.Common.{number_of, Search, Anchored, Automaton, Pair, In, HeadIs, Linked, EndsWith, PathTo, edges, node_at, pairs_from, path_pattern, pattern_of, start_count, start_state, starts}
 use Rattle.regex_search_core.specs.declared.search.Anchored.TheVariants.{No, Yes, Pattern}
 use Rattle.regex_hir.specs.Re.{Re}
 use Rattle.regex_nfa.specs.States.{state_at}
 use Rattle.regex_nfa.specs.declared.nfa.Nfa.{Nfa}
-use Rattle.thompson_nfa.specs.Automaton.{Automaton}
 use Rattle.thompson_nfa.specs.Automaton.Node.{Capture, Match}
-use Rattle.nfa_paths.specs.Graphs.{Pair, In, HeadIs, Linked, EndsWith, PathTo}
-use Rattle.nfa_paths.specs.Paths.{edges, node_at, pairs_from, path_pattern, pattern_of, start_count, start_state}
-use Rattle.nfa_paths.specs.Paths.{starts}
 use Rattle.nfa_paths.proofs.PathToLemmas.{EndsWith-last}
 use Rattle.nfa_engines.specs.PatternLaws.{alternates_of, started_at, StartsMatchTheirPatterns, TriesPatternsInOrder}
 use Rattle.nfa_engines.proofs.AloneLemmas.{pattern-alone}

@@ -1,18 +1,15 @@
 -- Each number in the states of an NFA of patterns is in range, so `NFA::from_states` finds no flaw in them.
-use Rattle.std.proofs.Common.{◌≡◌, ℕ, ◌+◌, ◌*◌, ◌-◌, ◌≤◌, ◌<◌, inl, inr, Bool, List, map, length, refl, sym, ap, ◌∙◌, subst, arith}
-use Rattle.std.specs.Prelude.{Option, None, Some, All, IfSome, option_map, slice_index_or, slice_range, string_bytes}
+use Rattle.std.proofs.Common.{◌≡◌, ℕ, ◌+◌, ◌*◌, ◌-◌, ◌≤◌, ◌<◌, inl, inr, Bool, List, map, length, refl, sym, ap, ◌∙◌, subst, arith, Option, None, Some, All, IfSome, option_map, slice_index_or, slice_range, string_bytes}
 use Rattle.std.proofs.lemmas.Bool.{cases_lt, le-ltb, cond-false}
 use Rattle.std.proofs.lemmas.List.{get_or_default, get_or_past, length-drop, length-map}
 use Rattle.std.proofs.lemmas.List.Elements.{All-map}
-use Rattle.regex_search_core.specs.Groups.{slot_count}
-use Rattle.regex_search_core.specs.Patterns.{number_of}
+use Rattle.nfa_paths.specs.Common.{slot_count, number_of, Automaton, IsAutomaton, Node, LeadsBelow, SlotBelow, PatternBelow}
 use Rattle.regex_nfa.specs.States.{state_at}
 use Rattle.regex_nfa.specs.Run.{state_of}
 use Rattle.regex_nfa.proofs.RunLemmas.{sound_of}
 use Rattle.regex_nfa.specs.declared.state.State as their_state
 use Rattle.regex_nfa.specs.declared.state.State.TheVariants as their
 use Rattle.regex_nfa.specs.declared.nfa.Nfa.{Nfa}
-use Rattle.thompson_nfa.specs.Automaton.{Automaton, IsAutomaton, Node, LeadsBelow, SlotBelow, PatternBelow}
 use Rattle.thompson_nfa.specs.Automaton.Node.{Sparse, Dense, Union, BinaryUnion, Capture, Fail, Match}
 use Rattle.regex_syntax.specs.declared.Parsed.{Parsed}
 use Rattle.thompson_nfa.specs.Flaws.{IsFirstFlaw}

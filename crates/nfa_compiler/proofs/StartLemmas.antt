@@ -1,19 +1,14 @@
 -- From the start of a pattern, and from the start of all, the first accepting path is the hit that has to be found.
-use Rattle.std.proofs.Common.{◌≡◌, ℕ, suc, ◌+◌, ◌*◌, ◌-◌, ◌≤◌, ◌<◌, inl, inr, List, [], ◌∷◌, ◌++◌, map, length, refl, sym, ap, ap₂, ◌∙◌, subst, arith, add-zero, nat_lt, ne_eqb, eq-eqb}
-use Rattle.std.specs.Prelude.{Option, None, Some, is_some, slice_index, slice_index_or, option_map, if◌then◌else◌, ◌==◌}
+use Rattle.std.proofs.Common.{◌≡◌, ℕ, suc, ◌+◌, ◌*◌, ◌-◌, ◌≤◌, ◌<◌, inl, inr, List, [], ◌∷◌, ◌++◌, map, length, refl, sym, ap, ap₂, ◌∙◌, subst, arith, add-zero, nat_lt, ne_eqb, eq-eqb, Option, None, Some, is_some, slice_index, slice_index_or, option_map, if◌then◌else◌, ◌==◌}
 use Rattle.std.specs.Option.{option_or}
 use Rattle.std.proofs.lemmas.Bool.{le-ltb, cond-false}
 use Rattle.std.proofs.lemmas.Bool.Decides.{eqb_tells}
-use Rattle.regex_search_core.specs.Patterns.{number_of}
-use Rattle.regex_search_core.specs.Search.{Search}
+use Rattle.nfa_paths.specs.Common.{number_of, Search, Automaton, Pair, In, EndsWith, IsFirst, FirstAmong, pattern_of, slot_of, node_at, is_match, capture, edges_of, edges, slot_among}
 use Rattle.regex_hir.specs.Re.{Re, empty, Trace, accept, attempt}
 use Rattle.regex_hir.specs.Find.{last_write}
 use Rattle.regex_nfa.specs.Run.{run}
 use Rattle.regex_nfa.proofs.PathsLemmas.{run_span}
-use Rattle.thompson_nfa.specs.Automaton.{Automaton, Capture, Match}
-use Rattle.nfa_paths.specs.Graphs.{Pair, In, EndsWith}
-use Rattle.nfa_paths.specs.FirstPaths.{IsFirst, FirstAmong}
-use Rattle.nfa_paths.specs.Paths.{pattern_of, slot_of, node_at, is_match, capture, edges_of, edges, slot_among}
+use Rattle.thompson_nfa.specs.Automaton.{Capture, Match}
 use Rattle.nfa_paths.proofs.PathLemmas.{IsFirst-step}
 use Rattle.nfa_compiler.specs.declared.block.Site.{Site}
 use Rattle.nfa_compiler.specs.Blocks.{match_at, slot_in}

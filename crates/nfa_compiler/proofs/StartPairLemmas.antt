@@ -1,12 +1,8 @@
 -- The pairs at which the paths of a search start, exactly.
-use Rattle.std.proofs.Common.{◌≡◌, ℕ, zero, suc, ◌+◌, ◌-◌, ◌≤◌, ◌<◌, inl, inr, Bool, true, false, [], refl, sym, ap, ◌∙◌, subst, arith}
-use Rattle.std.specs.Prelude.{Option, None, Some, if◌then◌else◌, ◌↔◌, ◌==◌, ◌||◌}
+use Rattle.std.proofs.Common.{◌≡◌, ℕ, zero, suc, ◌+◌, ◌-◌, ◌≤◌, ◌<◌, inl, inr, Bool, true, false, [], refl, sym, ap, ◌∙◌, subst, arith, Option, None, Some, if◌then◌else◌, ◌↔◌, ◌==◌, ◌||◌}
 use Rattle.std.specs.Option.{option_map_or}
 use Rattle.std.proofs.lemmas.Bool.{cases_lt, lt-ltb, le-ltb}
-use Rattle.regex_search_core.specs.Search.{Search, is_anchored}
-use Rattle.thompson_nfa.specs.Automaton.{Automaton}
-use Rattle.nfa_paths.specs.Graphs.{Pair, In}
-use Rattle.nfa_paths.specs.Paths.{pairs_from, start_state, start_count, starts}
+use Rattle.nfa_paths.specs.Common.{Search, is_anchored, Automaton, Pair, In, pairs_from, start_state, start_count, starts}
 use Rattle.nfa_paths.proofs.StartLemmas.{pairs_from-has}
 
 -- the pairs of a state at n positions from one on

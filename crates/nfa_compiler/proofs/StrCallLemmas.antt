@@ -1,16 +1,10 @@
 -- What a search of a whole `str` finds of one pattern, in the words of `regex_hir`.
-use Rattle.std.proofs.Common.{◌≡◌, ℕ, ◌<◌, true, false, List, [], ◌∷◌, map, length, refl, ap, arith, ◌∙◌, IsUtf8}
-use Rattle.std.specs.Prelude.{Option, None, Some, drop, option_and_then, option_map}
+use Rattle.std.proofs.Common.{◌≡◌, ℕ, ◌<◌, true, false, List, [], ◌∷◌, map, length, refl, ap, arith, ◌∙◌, IsUtf8, Option, None, Some, drop, option_and_then, option_map}
 use Rattle.regex_hir.specs.Find.{Match, find_all_str, find_str}
 use Rattle.regex_hir.specs.Re.{Re}
-use Rattle.regex_search_core.specs.Found.{Found}
-use Rattle.regex_search_core.specs.Groups.{group_named, slot_count}
-use Rattle.regex_search_core.specs.Search.{whole}
-use Rattle.regex_search_core.specs.Slots.{Captured, group_span, named_span}
+use Rattle.nfa_paths.specs.Common.{Found, group_named, slot_count, whole, Captured, group_span, named_span, Automaton, IsAnswer, IsFindAnswer}
 use Rattle.regex_search_core.specs.declared.search.MatchKind.TheVariants.{LeftmostFirst}
 use Rattle.regex_syntax.specs.declared.Config.{Config}
-use Rattle.thompson_nfa.specs.Automaton.{Automaton}
-use Rattle.nfa_paths.specs.Paths.{IsAnswer, IsFindAnswer}
 use Rattle.nfa_search_base.specs.Lists.{AreMatches}
 use Rattle.nfa_compiler.specs.AnyStart.{FindsFromAnyStart, LosesNoHit}
 use Rattle.nfa_compiler.specs.Compiled.{IsCompiled, IsMeant}

@@ -1,6 +1,5 @@
 -- In a `str`, the hits of patterns that match whole characters end on a boundary exactly if they start on one.
-use Rattle.std.proofs.Common.{◌≡◌, ℕ, zero, suc, ◌+◌, ◌-◌, ◌/◌, ◌%◌, ◌≤◌, ◌<◌, inl, inr, Bool, true, false, List, [], ◌∷◌, refl, sym, ap, ap₂, ◌∙◌, subst, arith, IsUtf8, encode_utf8_all}
-use Rattle.std.specs.Prelude.{Option, None, Some, All, IsTrue, encode_utf8, if◌then◌else◌, option_and_then, slice_get}
+use Rattle.std.proofs.Common.{◌≡◌, ℕ, zero, suc, ◌+◌, ◌-◌, ◌/◌, ◌%◌, ◌≤◌, ◌<◌, inl, inr, Bool, true, false, List, [], ◌∷◌, refl, sym, ap, ap₂, ◌∙◌, subst, arith, IsUtf8, encode_utf8_all, Option, None, Some, All, IsTrue, encode_utf8, if◌then◌else◌, option_and_then, slice_get}
 use Rattle.std.specs.Char.{IsScalar}
 use Rattle.std.specs.Option.{option_or}
 use Rattle.std.specs.Str.{all_scalars}
@@ -15,10 +14,7 @@ use Rattle.regex_hir.specs.Text.{is_boundary, is_none_or}
 use Rattle.regex_hir.proofs.AttemptLemmas.{attempt_sound}
 use Rattle.regex_hir.proofs.OptionLemmas.{option_or_cases}
 use Rattle.regex_hir.proofs.Utf8Lemmas.{encode_two, encode_three, encode_four}
-use Rattle.regex_search_core.specs.Boundary.{IsBoundary}
-use Rattle.regex_search_core.specs.Patterns.{number_of}
-use Rattle.regex_search_core.specs.Search.{Search}
-use Rattle.regex_search_core.specs.declared.search.Anchored.{Anchored}
+use Rattle.nfa_paths.specs.Common.{IsBoundary, number_of, Search, Anchored}
 use Rattle.regex_search_core.specs.declared.search.Anchored.TheVariants.{No, Yes, Pattern}
 use Rattle.nfa_compiler.specs.BoundaryHits.{boundary_hit_at_start, ends_on_boundary, expected_on_boundary, on_boundary, restarted_hit}
 use Rattle.nfa_compiler.specs.Patterns.{PatternHit, expected, first_hit, hit_at_start, hit_of, pick, pick_one}

@@ -1,6 +1,5 @@
 -- What a search in UTF-8 mode finds in a `str`, of texts of patterns, and of one pattern.
-use Rattle.std.proofs.Common.{◌≡◌, ℕ, zero, suc, ◌+◌, ◌-◌, ◌<◌, inl, inr, Bool, true, false, List, [], ◌∷◌, map, length, refl, sym, ap, ◌∙◌, subst, arith, IsUtf8}
-use Rattle.std.specs.Prelude.{Option, None, Some, All, IsTrue, option_map, if◌then◌else◌, ◌&&◌, ◌==◌}
+use Rattle.std.proofs.Common.{◌≡◌, ℕ, zero, suc, ◌+◌, ◌-◌, ◌<◌, inl, inr, Bool, true, false, List, [], ◌∷◌, map, length, refl, sym, ap, ◌∙◌, subst, arith, IsUtf8, Option, None, Some, All, IsTrue, option_map, if◌then◌else◌, ◌&&◌, ◌==◌}
 use Rattle.std.specs.List.{AllZip}
 use Rattle.std.specs.Option.{option_or}
 use Rattle.std.proofs.lemmas.Bool.{cases_lt, lt-ltb, le-ltb}
@@ -10,18 +9,12 @@ use Rattle.regex_hir.specs.Meaning.{meaning}
 use Rattle.regex_hir.specs.Re.{Re, Trace, accept, attempt}
 use Rattle.regex_hir.specs.Reads.{always_reads}
 use Rattle.regex_hir.specs.Text.{is_boundary}
-use Rattle.regex_search_core.specs.Boundary.{IsBoundary}
-use Rattle.regex_search_core.specs.Found.{Found}
-use Rattle.regex_search_core.specs.Patterns.{number_of}
-use Rattle.regex_search_core.specs.Search.{Search}
-use Rattle.regex_search_core.specs.declared.search.Anchored.{Anchored}
+use Rattle.nfa_paths.specs.Common.{IsBoundary, Found, number_of, Search, Anchored, Automaton, is_utf8_empty, IsAnswer, IsFindAnswer}
 use Rattle.regex_search_core.specs.declared.search.Anchored.TheVariants.{No, Yes, Pattern}
 use Rattle.regex_search_core.specs.declared.search.MatchKind.TheVariants.{LeftmostFirst}
 use Rattle.regex_syntax.specs.Captures.{SameCaptures}
 use Rattle.regex_syntax.specs.declared.Config.{Config}
 use Rattle.regex_syntax.specs.declared.Parsed.{Parsed}
-use Rattle.thompson_nfa.specs.Automaton.{Automaton}
-use Rattle.nfa_paths.specs.Paths.{is_utf8_empty, IsAnswer, IsFindAnswer}
 use Rattle.nfa_search_base.specs.WithCaptures.{Row}
 use Rattle.nfa_search_base.specs.CapturesLists.{AreRows}
 use Rattle.nfa_search_base.specs.Lists.{AreMatches}

@@ -1,7 +1,6 @@
 -- A search of a `str` in UTF-8 mode finds something exactly if a pattern matches from a boundary as which its text is
 -- read.
-use Rattle.std.proofs.Common.{◌≡◌, ℕ, Bool, true, false, List, [], ◌∷◌, length, refl, sym, ap, ◌∙◌, arith, IsUtf8}
-use Rattle.std.specs.Prelude.{Option, None, Some, All, is_some, option_map, if◌then◌else◌, ◌↔◌}
+use Rattle.std.proofs.Common.{◌≡◌, ℕ, Bool, true, false, List, [], ◌∷◌, length, refl, sym, ap, ◌∙◌, arith, IsUtf8, Option, None, Some, All, is_some, option_map, if◌then◌else◌, ◌↔◌}
 use Rattle.std.specs.List.{AllZip}
 use Rattle.regex_hir.specs.Find.{Match, find_str}
 use Rattle.regex_hir.specs.Meaning.{meaning}
@@ -10,16 +9,13 @@ use Rattle.regex_hir.specs.Text.{is_boundary}
 use Rattle.regex_hir.proofs.AttemptLemmas.{attempt_complete, attempt_sound, cond_some}
 use Rattle.regex_hir.proofs.FindLemmas.{IsFirst-of_first_between, none_of_first_between}
 use Rattle.regex_hir.proofs.OptionLemmas.{value_of_IsSome}
-use Rattle.regex_search_core.specs.Boundary.{IsBoundary}
-use Rattle.regex_search_core.specs.Search.{whole}
+use Rattle.nfa_paths.specs.Common.{IsBoundary, whole, Automaton, is_utf8_empty, IsBoolAnswer}
 use Rattle.regex_search_core.specs.declared.search.Anchored.TheVariants.{No}
 use Rattle.regex_search_core.specs.declared.search.MatchKind.TheVariants.{LeftmostFirst}
 use Rattle.regex_syntax.specs.Captures.{SameCaptures}
 use Rattle.regex_syntax.specs.declared.Config.{Config}
 use Rattle.regex_syntax.specs.declared.Parsed.{Parsed}
 use Rattle.regex_syntax.proofs.CapturesLemmas.{alike_sym}
-use Rattle.thompson_nfa.specs.Automaton.{Automaton}
-use Rattle.nfa_paths.specs.Paths.{is_utf8_empty, IsBoolAnswer}
 use Rattle.nfa_compiler.specs.AnyStart.{FindsFromAnyStart, LosesNoHit}
 use Rattle.nfa_compiler.specs.Compiled.{IsCompiled, IsTreeOf, res_of}
 use Rattle.nfa_compiler.specs.Patterns.{hit_by}

@@ -1,17 +1,13 @@
 -- What a search finds of texts, and of one pattern.
-use Rattle.std.proofs.Common.{◌≡◌, ℕ, zero, suc, ◌+◌, ◌-◌, ◌<◌, inl, inr, false, List, [], ◌∷◌, length, refl, ◌∙◌, arith}
-use Rattle.std.specs.Prelude.{Option, None, Some, All, option_map, ◌==◌}
+use Rattle.std.proofs.Common.{◌≡◌, ℕ, zero, suc, ◌+◌, ◌-◌, ◌<◌, inl, inr, false, List, [], ◌∷◌, length, refl, ◌∙◌, arith, Option, None, Some, All, option_map, ◌==◌}
 use Rattle.std.specs.Option.{option_or}
 use Rattle.std.proofs.lemmas.Bool.{cases_lt, lt-ltb, le-ltb}
-use Rattle.regex_search_core.specs.Found.{Found}
-use Rattle.regex_search_core.specs.Search.{Search}
+use Rattle.nfa_paths.specs.Common.{Found, Search, Automaton, is_utf8_empty, IsAnswer, IsFindAnswer}
 use Rattle.regex_search_core.specs.declared.search.Anchored.TheVariants.{No}
 use Rattle.regex_search_core.specs.declared.search.MatchKind.TheVariants.{LeftmostFirst}
 use Rattle.regex_hir.specs.Re.{Re, accept, attempt}
 use Rattle.regex_hir.specs.Find.{first_from, find}
 use Rattle.regex_syntax.specs.declared.Config.{Config}
-use Rattle.thompson_nfa.specs.Automaton.{Automaton}
-use Rattle.nfa_paths.specs.Paths.{is_utf8_empty, IsAnswer, IsFindAnswer}
 use Rattle.nfa_compiler.specs.AnyStart.{LosesNoHit}
 use Rattle.nfa_compiler.specs.Compiled.{AreMeant, IsCompiled, res_of}
 use Rattle.nfa_compiler.specs.Laws.{hit}

@@ -1,7 +1,6 @@
 -- A pattern that begins with `Start` matches only from the start of a haystack, so a search for such patterns that is
 -- bound to its start loses no hit.
-use Rattle.std.proofs.Common.{◌≡◌, ℕ, zero, suc, ◌+◌, ◌-◌, ◌≤◌, ◌<◌, inl, inr, ⊎_elim, Bool, true, false, List, [], ◌∷◌, length, refl, sym, ap, ◌∙◌, subst, arith, ne_eqb, true≢false}
-use Rattle.std.specs.Prelude.{Option, None, Some, All, is_some, slice_get, slice_index_or, if◌then◌else◌, not, ◌&&◌, ◌||◌, ◌==◌, ◌↔◌}
+use Rattle.std.proofs.Common.{◌≡◌, ℕ, zero, suc, ◌+◌, ◌-◌, ◌≤◌, ◌<◌, inl, inr, ⊎_elim, Bool, true, false, List, [], ◌∷◌, length, refl, sym, ap, ◌∙◌, subst, arith, ne_eqb, true≢false, Option, None, Some, All, is_some, slice_get, slice_index_or, if◌then◌else◌, not, ◌&&◌, ◌||◌, ◌==◌, ◌↔◌}
 use Rattle.std.specs.List.{AllZip}
 use Rattle.std.specs.Option.{option_or}
 use Rattle.std.proofs.lemmas.Bool.{and_parts, cases_lt, le-ltb, lt-ltb, or_cases}
@@ -14,15 +13,11 @@ use Rattle.regex_hir.specs.declared.look.Look.{Look}
 use Rattle.regex_hir.specs.declared.look.Look.TheVariants.{Start}
 use Rattle.regex_hir.proofs.AttemptLemmas.{attempt_complete}
 use Rattle.regex_class.specs.Ranges.{in_ranges}
-use Rattle.regex_search_core.specs.Search.{Search, is_anchored}
-use Rattle.regex_search_core.specs.declared.search.Anchored.{Anchored}
+use Rattle.nfa_paths.specs.Common.{Search, is_anchored, Anchored, Automaton, Pair, IsScanAnswer, node_at}
 use Rattle.regex_search_core.specs.declared.search.Anchored.TheVariants.{No, Yes, Pattern}
 use Rattle.regex_search_core.specs.declared.search.MatchKind.TheVariants.{LeftmostFirst}
 use Rattle.regex_syntax.specs.Captures.{SameCaptures}
 use Rattle.regex_syntax.specs.declared.Config.{Config}
-use Rattle.thompson_nfa.specs.Automaton.{Automaton}
-use Rattle.nfa_paths.specs.Graphs.{Pair}
-use Rattle.nfa_paths.specs.Paths.{IsScanAnswer, node_at}
 use Rattle.nfa_paths.proofs.AnswerLemmas.{scan_answer-leads}
 use Rattle.nfa_paths.proofs.PatternLemmas.{some-pattern}
 use Rattle.nfa_compiler.specs.BoundaryHits.{boundary_hit_at_start, ends_on_boundary, expected_on_boundary, on_boundary, restarted_hit}

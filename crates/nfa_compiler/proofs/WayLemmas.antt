@@ -1,11 +1,9 @@
 -- Each way of an NFA of patterns writes its start and its end.
-use Rattle.std.proofs.Common.{◌≡◌, ℕ, suc, ◌+◌, ◌*◌, ◌-◌, ◌≤◌, ◌<◌, ◌⊎◌, inl, inr, Bool, true, false, List, [], ◌∷◌, map, length, refl, sym, ap, ap₂, ◌∙◌, subst, arith, ne_eqb, eq-eqb}
-use Rattle.std.specs.Prelude.{None, Some, is_some, All, slice_index, slice_range, option_and_then, if◌then◌else◌, ◌==◌}
+use Rattle.std.proofs.Common.{◌≡◌, ℕ, suc, ◌+◌, ◌*◌, ◌-◌, ◌≤◌, ◌<◌, ◌⊎◌, inl, inr, Bool, true, false, List, [], ◌∷◌, map, length, refl, sym, ap, ap₂, ◌∙◌, subst, arith, ne_eqb, eq-eqb, None, Some, is_some, All, slice_index, slice_range, option_and_then, if◌then◌else◌, ◌==◌}
 use Rattle.std.specs.Option.{option_or, option_map_or}
 use Rattle.std.proofs.lemmas.Bool.{le-ltb, cond-false}
 use Rattle.std.proofs.lemmas.Option.{slice_get_within, get_or_from_slice_get}
-use Rattle.regex_search_core.specs.Patterns.{number_of}
-use Rattle.regex_search_core.specs.declared.search.Anchored.{Anchored}
+use Rattle.nfa_paths.specs.Common.{number_of, Anchored, Automaton, Node, Pair, In, Linked, EndsWith, pattern_of, slot_of, node_at, start_state, slot_among, IsMatch}
 use Rattle.regex_search_core.specs.declared.search.Anchored.TheVariants.{No, Yes, Pattern}
 use Rattle.regex_hir.specs.Re.{Re}
 use Rattle.regex_nfa.specs.States.{state_at}
@@ -13,10 +11,7 @@ use Rattle.regex_nfa.specs.declared.state.Transition as their_transition
 use Rattle.regex_nfa.specs.declared.state.State as their_state
 use Rattle.regex_nfa.specs.declared.state.State.TheVariants as their
 use Rattle.regex_nfa.specs.declared.nfa.Nfa.{Nfa}
-use Rattle.thompson_nfa.specs.Automaton.{Automaton, Node}
 use Rattle.thompson_nfa.specs.Automaton.Node.{ByteRange, Sparse, Look, Union, BinaryUnion, Capture, Fail, Match}
-use Rattle.nfa_paths.specs.Graphs.{Pair, In, Linked, EndsWith}
-use Rattle.nfa_paths.specs.Paths.{pattern_of, slot_of, node_at, start_state, slot_among, IsMatch}
 use Rattle.nfa_paths.proofs.PathToLemmas.{EndsWith-last}
 use Rattle.nfa_match_spans.specs.StatePaths.{targets, reads, position_after, open_edges, RecordsMatchSpans}
 use Rattle.nfa_compiler.specs.declared.block.Site.{Site}

@@ -1,11 +1,8 @@
 -- The writes of a path, and the slots that they give.
-use Rattle.std.proofs.Common.{◌≡◌, ℕ, false, List, [], ◌∷◌, ◌++◌, refl, ap, sym, ◌∙◌}
-use Rattle.std.specs.Prelude.{Option, None, Some, if◌then◌else◌, ◌==◌}
+use Rattle.std.proofs.Common.{◌≡◌, ℕ, false, List, [], ◌∷◌, ◌++◌, refl, ap, sym, ◌∙◌, Option, None, Some, if◌then◌else◌, ◌==◌}
 use Rattle.std.specs.Option.{option_or, option_map_or}
 use Rattle.regex_hir.specs.Find.{last_write}
-use Rattle.thompson_nfa.specs.Automaton.{Automaton}
-use Rattle.nfa_paths.specs.Graphs.{Pair}
-use Rattle.nfa_paths.specs.Paths.{capture, slot_among}
+use Rattle.nfa_paths.specs.Common.{Automaton, Pair, capture, slot_among}
 use Rattle.nfa_paths.proofs.OptionLemmas.{option_or-None, option_or-assoc}
 
 -- what a pair writes

@@ -1,9 +1,8 @@
 -- A pattern that is written out matches exactly where the tree that is compiled for its text does.
-use Rattle.std.proofs.Common.{◌≡◌, ℕ, ◌≤◌, ◌<◌, inl, inr, Bool, true, false, List, [], ◌∷◌, length, refl, sym, ap, ◌∙◌, subst, arith, true≢false, eq-eqb}
-use Rattle.std.specs.Prelude.{Option, None, Some, All, IsSomeAnd, is_some, string_bytes, map, option_map, slice_index_or, if◌then◌else◌, ◌==◌, ◌↔◌, chars}
+use Rattle.std.proofs.Common.{◌≡◌, ℕ, ◌≤◌, ◌<◌, inl, inr, Bool, true, false, List, [], ◌∷◌, length, refl, sym, ap, ◌∙◌, subst, arith, true≢false, eq-eqb, Option, None, Some, All, IsSomeAnd, is_some, string_bytes, map, option_map, slice_index_or, if◌then◌else◌, ◌==◌, ◌↔◌, chars}
 use Rattle.std.specs.List.{AllZip}
 use Rattle.std.proofs.lemmas.Bool.Decides.{eqb_tells}
-use Rattle.regex_search_core.specs.Search.{whole}
+use Rattle.nfa_paths.specs.Common.{whole, Automaton, is_utf8_empty, IsBoolAnswer, IsScanAnswer}
 use Rattle.regex_search_core.specs.declared.search.MatchKind.TheVariants.{LeftmostFirst}
 use Rattle.regex_hir.specs.Matches.{Matches}
 use Rattle.regex_hir.specs.Meaning.{meaning}
@@ -13,15 +12,12 @@ use Rattle.regex_hir.proofs.AttemptLemmas.{attempt_complete, attempt_sound, cond
 use Rattle.regex_hir.proofs.OptionLemmas.{value_of_IsSome}
 use Rattle.regex_syntax.specs.Brackets.{Nested}
 use Rattle.regex_syntax.specs.Captures.{SameCaptures, outcome}
-use Rattle.regex_syntax.specs.Grammar.{Names, group_count}
-use Rattle.regex_syntax.specs.Grammar.{read as read_text}
+use Rattle.regex_syntax.specs.Grammar.{Names, group_count, read as read_text}
 use Rattle.regex_syntax.specs.Same.{SameTree}
 use Rattle.regex_syntax.specs.Verdict.{Reads}
 use Rattle.regex_syntax.specs.declared.Config.{Config}
 use Rattle.regex_syntax.specs.declared.Parsed.{Parsed}
 use Rattle.regex_syntax.proofs.CapturesLemmas.{◌also◌, alike_of_same, alike_sym}
-use Rattle.thompson_nfa.specs.Automaton.{Automaton}
-use Rattle.nfa_paths.specs.Paths.{is_utf8_empty, IsBoolAnswer, IsScanAnswer}
 use Rattle.nfa_compiler.specs.AnyStart.{FindsFromAnyStart, LosesNoHit}
 use Rattle.nfa_compiler.specs.Compiled.{IsCompiled, IsTreeOf, res_of}
 use Rattle.nfa_compiler.specs.KindLaws.{MatchesSomewhere}

@@ -2,7 +2,8 @@
 use Rattle.std.specs.Prelude.{◌≡◌, ℕ, ◌+◌, ◌<◌, All, List, ◌++◌, length, slice_index_or}
 use Rattle.regex_nfa.specs.States.{state_at}
 use Rattle.regex_nfa.specs.declared.nfa.Nfa.{Nfa}
-use Rattle.thompson_nfa.specs.Automaton.{Node, Fail, LeadsBelow, SlotBelow, PatternBelow}
+use Rattle.nfa_paths.specs.Common.{Node, LeadsBelow, SlotBelow, PatternBelow}
+use Rattle.thompson_nfa.specs.Automaton.{Fail}
 use Rattle.nfa_compiler.specs.declared.block.Site.{Site}
 use Rattle.nfa_compiler.specs.Blocks.{Stands}
 

@@ -2,9 +2,7 @@
 use Rattle.std.specs.Prelude.{ℕ, zero, suc, ◌+◌, List, [], ◌∷◌, length, Option, Some, None, if◌then◌else◌, ◌==◌}
 use Rattle.regex_hir.specs.Text.{is_some_and}
 use Rattle.regex_hir.specs.Re.{Re}
-use Rattle.regex_search_core.specs.Groups.{slot_count}
-use Rattle.regex_search_core.specs.Search.{Search}
-use Rattle.thompson_nfa.specs.Automaton.{Automaton}
+use Rattle.nfa_paths.specs.Common.{slot_count, Search, Automaton}
 use Rattle.nfa_search_base.specs.WithCaptures.{Row}
 use Rattle.nfa_compiler.specs.Patterns.{PatternHit, slots_of}
 use Rattle.nfa_compiler.specs.Laws.{hit}

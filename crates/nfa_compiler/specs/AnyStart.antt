@@ -2,10 +2,9 @@
 use Rattle.std.specs.Prelude.{◌≡◌, ℕ, ◌<◌, ◌≤◌, ◌⊎◌, ◌||◌, ◌==◌, Bool, false, List, length, None}
 use Rattle.std.specs.List.{AllZip}
 use Rattle.regex_hir.specs.Re.{Re}
-use Rattle.regex_search_core.specs.Search.{Search}
+use Rattle.nfa_paths.specs.Common.{Search, Automaton}
 use Rattle.regex_syntax.specs.declared.Config.{Config}
 use Rattle.regex_syntax.specs.declared.Parsed.{Parsed}
-use Rattle.thompson_nfa.specs.Automaton.{Automaton}
 use Rattle.nfa_engines.specs.Accepting.{MatchesNothing}
 use Rattle.nfa_compiler.specs.Compiled.{IsTreeOf, res_of}
 use Rattle.nfa_compiler.specs.Loops.{all_begin_at_start}

@@ -1,6 +1,6 @@
 -- The states of one pattern in an NFA: those of an NFA of `regex_nfa`, moved.
 use Rattle.std.specs.Prelude.{◌≡◌, ℕ, ◌+◌, ◌-◌, ◌*◌, ◌<◌, ◌≤◌, List, length, map, All, if◌then◌else◌, nat_lt, slice_range, slice_index_or}
-use Rattle.regex_search_core.specs.Patterns.{number_of}
+use Rattle.nfa_paths.specs.Common.{number_of, Node}
 use Rattle.regex_hir.specs.declared.look.Look as theirs
 use Rattle.regex_hir.specs.declared.look.Look.TheVariants as their_look
 use Rattle.regex_nfa.specs.States.{state_at}
@@ -11,7 +11,6 @@ use Rattle.regex_nfa.specs.declared.nfa.Nfa.{Nfa}
 use Rattle.thompson_nfa.specs.declared.look.Look as ours
 use Rattle.thompson_nfa.specs.declared.look.Look.TheVariants as our_look
 use Rattle.thompson_nfa.specs.declared.state.Transition.{Transition}
-use Rattle.thompson_nfa.specs.Automaton.{Node}
 use Rattle.thompson_nfa.specs.Automaton.Node.{ByteRange, Sparse, Look, BinaryUnion, Capture, Fail, Match}
 use Rattle.nfa_compiler.specs.declared.block.Site.{Site}
 

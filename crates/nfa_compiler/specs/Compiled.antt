@@ -1,7 +1,7 @@
 -- The parts of an NFA of patterns.
 use Rattle.std.specs.Prelude.{◌≡◌, false, ℕ, ◌+◌, ◌*◌, ◌<◌, ◌⊎◌, List, [], ◌∷◌, length, map, drop, take, All, Option, IsSomeAnd, IsTrue, chars, option_map, string_bytes, slice_index, slice_index_or}
 use Rattle.std.specs.List.{AllZip, sum_by}
-use Rattle.regex_search_core.specs.Patterns.{number_of}
+use Rattle.nfa_paths.specs.Common.{number_of, Automaton, Node}
 use Rattle.regex_hir.specs.Re.{Re, empty}
 use Rattle.regex_hir.specs.Meaning.{meaning}
 use Rattle.regex_hir.specs.Reads.{always_reads}
@@ -12,7 +12,7 @@ use Rattle.regex_syntax.specs.declared.Config.{Config}
 use Rattle.regex_syntax.specs.declared.Parsed.{Parsed}
 use Rattle.regex_nfa.specs.declared.nfa.Nfa.{Nfa}
 use Rattle.regex_compile.specs.Implements.{Implements}
-use Rattle.thompson_nfa.specs.Automaton.{Automaton, Node, Fail, Union}
+use Rattle.thompson_nfa.specs.Automaton.{Fail, Union}
 use Rattle.nfa_compiler.specs.declared.block.Site.{Site}
 use Rattle.nfa_compiler.specs.Blocks.{match_at, IsBlock}
 

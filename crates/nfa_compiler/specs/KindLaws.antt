@@ -2,13 +2,8 @@
 use Rattle.std.specs.Prelude.{◌≡◌, ◌↔◌, ℕ, ◌≤◌, ◌<◌, All, Bool, true, false, ◌||◌, ◌==◌, List, length, Option, is_some, if◌then◌else◌, slice_index_or, ⊤}
 use Rattle.regex_hir.specs.Re.{Re, empty}
 use Rattle.regex_hir.specs.Matches.{Matches}
-use Rattle.regex_search_core.specs.Patterns.{number_of}
-use Rattle.regex_search_core.specs.Search.{Search, is_anchored}
-use Rattle.regex_search_core.specs.declared.search.Anchored.{Anchored}
+use Rattle.nfa_paths.specs.Common.{number_of, Search, is_anchored, Anchored, MatchKind, Automaton, is_utf8_empty, IsAnswer, IsBoolAnswer}
 use Rattle.regex_search_core.specs.declared.search.Anchored.TheVariants.{No, Yes, Pattern}
-use Rattle.regex_search_core.specs.declared.search.MatchKind.{MatchKind}
-use Rattle.thompson_nfa.specs.Automaton.{Automaton}
-use Rattle.nfa_paths.specs.Paths.{is_utf8_empty, IsAnswer, IsBoolAnswer}
 use Rattle.nfa_compiler.specs.Compiled.{IsNfaOf}
 
 -- a search in this mode tries the pattern of this number

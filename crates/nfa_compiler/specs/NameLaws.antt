@@ -3,13 +3,9 @@ use Rattle.std.specs.Prelude.{◌≡◌, ℕ, ◌+◌, ◌*◌, ◌≤◌, List,
 use Rattle.std.specs.List.{AllZip}
 use Rattle.regex_hir.specs.Re.{Re}
 use Rattle.regex_hir.specs.Find.{Match, last_write}
-use Rattle.regex_search_core.specs.Groups.{group_named, groups_at, slot_count}
-use Rattle.regex_search_core.specs.Search.{Search}
-use Rattle.regex_search_core.specs.Slots.{Captured, group_span, named_span}
-use Rattle.regex_search_core.specs.declared.search.Span.{Span}
+use Rattle.nfa_paths.specs.Common.{group_named, groups_at, slot_count, Search, Captured, group_span, named_span, Span, Automaton}
 use Rattle.regex_syntax.specs.declared.Config.{Config}
 use Rattle.regex_syntax.specs.Grammar.{read}
-use Rattle.thompson_nfa.specs.Automaton.{Automaton}
 use Rattle.nfa_compiler.specs.Compiled.{IsCompiled}
 use Rattle.nfa_compiler.specs.Patterns.{PatternHit, slots_of}
 

@@ -1,10 +1,9 @@
 -- A compiled NFA tries its patterns in their order: it meets the premises of the laws of `nfa_engines` on patterns.
 use Rattle.std.specs.Prelude.{◌≡◌, ℕ, List}
 use Rattle.regex_hir.specs.Re.{Re}
-use Rattle.regex_search_core.specs.Search.{Search}
+use Rattle.nfa_paths.specs.Common.{Search, Automaton}
 use Rattle.regex_search_core.specs.declared.search.Anchored.TheVariants.{Yes}
 use Rattle.regex_syntax.specs.declared.Config.{Config}
-use Rattle.thompson_nfa.specs.Automaton.{Automaton}
 use Rattle.nfa_engines.specs.PatternLaws.{StartsMatchTheirPatterns, TriesPatternsInOrder}
 use Rattle.nfa_compiler.specs.Compiled.{IsCompiled, IsNfaOf}
 

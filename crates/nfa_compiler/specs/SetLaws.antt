@@ -1,14 +1,8 @@
 -- The contents of a set of overlapping matches, in terms of the patterns.
-use Rattle.std.specs.Prelude.{◌≡◌, ◌↔◌, ◌⊎◌, ℕ, ◌<◌, Bool, false, ◌==◌, IsUtf8, List, length, slice_index_or}
-use Rattle.std.specs.Prelude.{All as EachIn}
+use Rattle.std.specs.Prelude.{◌≡◌, ◌↔◌, ◌⊎◌, ℕ, ◌<◌, Bool, false, ◌==◌, IsUtf8, List, length, slice_index_or, All as EachIn}
 use Rattle.regex_hir.specs.Re.{Re, empty}
-use Rattle.regex_search_core.specs.Boundary.{IsBoundary}
-use Rattle.regex_search_core.specs.Search.{Search}
-use Rattle.regex_search_core.specs.declared.search.MatchKind.{MatchKind}
+use Rattle.nfa_paths.specs.Common.{IsBoundary, Search, MatchKind, Automaton, HoldsPattern, IsOverlapResult, is_utf8_empty}
 use Rattle.regex_search_core.specs.declared.search.MatchKind.TheVariants.{All}
-use Rattle.thompson_nfa.specs.Automaton.{Automaton}
-use Rattle.nfa_paths.specs.Overlaps.{HoldsPattern, IsOverlapResult}
-use Rattle.nfa_paths.specs.Paths.{is_utf8_empty}
 use Rattle.nfa_compiler.specs.Compiled.{IsNfaOf}
 use Rattle.nfa_compiler.specs.KindLaws.{PatternMatches}
 use Rattle.nfa_compiler.specs.StrHits.{MatchesCharacters}

@@ -3,12 +3,8 @@ use Rattle.std.specs.Prelude.{◌≡◌, ℕ, ◌+◌, ◌-◌, Bool, true, fals
 use Rattle.regex_hir.specs.Matches.{Matches}
 use Rattle.regex_hir.specs.Re.{Re}
 use Rattle.regex_hir.specs.Text.{is_boundary}
-use Rattle.regex_search_core.specs.Boundary.{IsBoundary}
-use Rattle.regex_search_core.specs.Patterns.{number_of}
-use Rattle.regex_search_core.specs.Search.{Search}
-use Rattle.regex_search_core.specs.declared.search.Anchored.{Anchored}
+use Rattle.nfa_paths.specs.Common.{IsBoundary, number_of, Search, Anchored, Automaton}
 use Rattle.regex_search_core.specs.declared.search.Anchored.TheVariants.{No, Yes, Pattern}
-use Rattle.thompson_nfa.specs.Automaton.{Automaton}
 use Rattle.nfa_compiler.specs.AllHits.{hits_from}
 use Rattle.nfa_compiler.specs.Patterns.{PatternHit, first_hit, pick, pick_one}
 

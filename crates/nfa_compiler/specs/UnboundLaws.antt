@@ -2,9 +2,8 @@
 use Rattle.std.specs.Prelude.{◌≡◌, ◌↔◌, ℕ, ◌<◌, ◌≤◌, ◌==◌, All, true, false, List, length}
 use Rattle.regex_hir.specs.Matches.{Matches}
 use Rattle.regex_hir.specs.Re.{Re}
-use Rattle.regex_search_core.specs.Search.{Search}
+use Rattle.nfa_paths.specs.Common.{Search, Automaton}
 use Rattle.regex_syntax.specs.declared.Config.{Config}
-use Rattle.thompson_nfa.specs.Automaton.{Automaton}
 use Rattle.nfa_compiler.specs.AnyStart.{FindsFromAnyStart, LosesNoHit}
 use Rattle.nfa_compiler.specs.BoundaryHits.{boundary_hit, expected_on_boundary}
 use Rattle.nfa_compiler.specs.Compiled.{AreMeant, IsCompiled, IsNfaOf}

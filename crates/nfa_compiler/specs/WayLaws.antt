@@ -2,7 +2,7 @@
 use Rattle.std.specs.Prelude.{ℕ, List}
 use Rattle.regex_hir.specs.Re.{Re}
 use Rattle.regex_syntax.specs.declared.Config.{Config}
-use Rattle.thompson_nfa.specs.Automaton.{Automaton}
+use Rattle.nfa_paths.specs.Common.{Automaton}
 use Rattle.nfa_match_spans.specs.StatePaths.{RecordsMatchSpans}
 use Rattle.nfa_compiler.specs.Compiled.{IsCompiled, IsNfaOf}
 

@@ -1,13 +1,7 @@
 -- What is found at the end of the span is the scan's answer.
-use Rattle.std.proofs.Common.{◌≡◌, ℕ, ◌+◌, ◌-◌, ◌<◌, arith, inl, inr, Bool, true, false, List, [], ◌++◌, refl, ap, sym, ◌∙◌, subst}
-use Rattle.std.specs.Prelude.{Option, None, option_map, option_and_then}
-use Rattle.regex_search_core.specs.Search.{Search}
-use Rattle.regex_search_core.specs.declared.search.MatchKind.{MatchKind}
+use Rattle.std.proofs.Common.{◌≡◌, ℕ, ◌+◌, ◌-◌, ◌<◌, arith, inl, inr, Bool, true, false, List, [], ◌++◌, refl, ap, sym, ◌∙◌, subst, Option, None, option_map, option_and_then}
+use Rattle.nfa_paths.specs.Common.{Search, MatchKind, Automaton, Pair, NoPath, is_resting, byte_at, edges, starts, is_match, IsMatch, IsScanAnswer, path_half}
 use Rattle.regex_search_core.specs.declared.search.MatchKind.TheVariants.{All, LeftmostFirst}
-use Rattle.thompson_nfa.specs.Automaton.{Automaton}
-use Rattle.nfa_paths.specs.Graphs.{Pair, NoPath}
-use Rattle.nfa_paths.specs.Kinds.{is_resting}
-use Rattle.nfa_paths.specs.Paths.{byte_at, edges, starts, is_match, IsMatch, IsScanAnswer, path_half}
 use Rattle.nfa_paths.proofs.AnswerLemmas.{scan_answer-unique}
 use Rattle.nfa_paths.proofs.SearchingLemmas.{Searching-done}
 use Rattle.nfa_paths.proofs.ScanLemmas.{NoneBefore-end, LastBefore-end, IsFirstPath-found}

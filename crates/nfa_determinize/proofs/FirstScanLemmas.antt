@@ -1,14 +1,8 @@
 -- The scan for the first path, position by position.
-use Rattle.std.proofs.Common.{◌≡◌, ℕ, zero, suc, ◌+◌, ◌-◌, ◌≤◌, inl, inr, Bool, true, false, List, [], ◌∷◌, ◌++◌, length, map, refl, ap, sym, ◌∙◌, subst, arith}
-use Rattle.std.specs.Prelude.{None, Some, is_some}
+use Rattle.std.proofs.Common.{◌≡◌, ℕ, zero, suc, ◌+◌, ◌-◌, ◌≤◌, inl, inr, Bool, true, false, List, [], ◌∷◌, ◌++◌, length, map, refl, ap, sym, ◌∙◌, subst, arith, None, Some, is_some}
 use Rattle.std.proofs.lemmas.List.{map-append}
-use Rattle.regex_search_core.specs.Search.{Search}
+use Rattle.nfa_paths.specs.Common.{Search, Automaton, Pair, In, Slots, Hit, rests, node_at, is_match, byte_at}
 use Rattle.regex_search_core.specs.declared.search.MatchKind.TheVariants.{LeftmostFirst}
-use Rattle.thompson_nfa.specs.Automaton.{Automaton}
-use Rattle.nfa_paths.specs.Graphs.{Pair, In}
-use Rattle.nfa_paths.specs.Exploring.{Slots, Hit}
-use Rattle.nfa_paths.specs.Kinds.{rests}
-use Rattle.nfa_paths.specs.Paths.{node_at, is_match, byte_at}
 use Rattle.nfa_paths.proofs.MemberLemmas.{In-append_left}
 use Rattle.nfa_paths.proofs.PathToLemmas.{is_false}
 use Rattle.nfa_paths.proofs.ScanningLemmas.{Searching-cut}

@@ -1,28 +1,17 @@
 -- An accepting path goes through the states of each position after its start, as long as nothing was found.
-use Rattle.std.proofs.Common.{◌≡◌, ℕ, zero, suc, ◌+◌, ◌-◌, ◌<◌, ◌≤◌, ◌⊎◌, inl, inr, Bool, true, false, List, [], ◌∷◌}
-use Rattle.std.proofs.Common.{◌++◌, length, replicate, get_or, set, refl, ap, sym, ◌∙◌, subst, arith, get_or-set_other}
-use Rattle.std.specs.Prelude.{Option, None, Some, is_some, option_and_then, option_map, option_to_list}
+use Rattle.std.proofs.Common.{◌≡◌, ℕ, zero, suc, ◌+◌, ◌-◌, ◌<◌, ◌≤◌, ◌⊎◌, inl, inr, Bool, true, false, List, [], ◌∷◌, ◌++◌, length, replicate, get_or, set, refl, ap, sym, ◌∙◌, subst, arith, get_or-set_other, Option, None, Some, is_some, option_and_then, option_map, option_to_list}
 use Rattle.std.specs.Option.{option_or, option_map_or}
 use Rattle.std.proofs.Math.Decide.{ℕ_discrete}
 use Rattle.std.proofs.lemmas.Bool.{cases_Bool, cases_lt}
 use Rattle.std.proofs.lemmas.List.{get_or-replicate}
-use Rattle.regex_search_core.specs.Found.{HalfFound}
-use Rattle.regex_search_core.specs.Search.{Search}
-use Rattle.regex_search_core.specs.declared.search.MatchKind.{MatchKind}
+use Rattle.nfa_paths.specs.Common.{HalfFound, Search, MatchKind, Automaton, Pair, In, HeadIs, NoRepeats, Linked, EndsWith, PathTo, rests, IsScanAnswer, path_half, pattern_of, IsMatch, node_at, byte_at, target_on, edges, pairs_from, start_count, start_state, starts}
 use Rattle.regex_search_core.specs.declared.search.MatchKind.TheVariants.{All, LeftmostFirst}
-use Rattle.thompson_nfa.specs.Automaton.{Automaton}
-use Rattle.nfa_paths.specs.Graphs.{Pair, In, HeadIs, NoRepeats, Linked, EndsWith, PathTo}
-use Rattle.nfa_paths.specs.Kinds.{rests}
-use Rattle.nfa_paths.specs.Paths.{IsScanAnswer, path_half, pattern_of}
-use Rattle.nfa_paths.specs.Paths.{IsMatch, node_at, byte_at, target_on, edges, pairs_from, start_count, start_state, starts}
 use Rattle.nfa_paths.proofs.MemberLemmas.{In-append_left, In-append_right}
 use Rattle.nfa_paths.proofs.PathToLemmas.{EndsWith-last, In-cases}
 use Rattle.nfa_paths.proofs.AnswerLemmas.{scan_answer-leads}
 use Rattle.nfa_paths.proofs.ScanAnswerLemmas.{edges-onward, starts-from}
-use Rattle.nfa_determinize.specs.Closures.{closure, holding_at, epsilon_states, explore, step, kept, pattern_by_kind}
-use Rattle.nfa_determinize.specs.Closures.{state_pattern, last_pattern}
-use Rattle.nfa_determinize.specs.Configurations.{closure_at, found_after, half_at, scanned, start_here}
-use Rattle.nfa_determinize.specs.Configurations.{scan_half, starts_after}
+use Rattle.nfa_determinize.specs.Closures.{closure, holding_at, epsilon_states, explore, step, kept, pattern_by_kind, state_pattern, last_pattern}
+use Rattle.nfa_determinize.specs.Configurations.{closure_at, found_after, half_at, scanned, start_here, scan_half, starts_after}
 use Rattle.nfa_determinize.specs.Idles.{IsIdle, StartsFrom}
 use Rattle.nfa_determinize.proofs.AnswerLemmas.{scan-answered}
 use Rattle.nfa_determinize.proofs.ExploreLemmas.{unseen, unseen-set, unseen-none, unseen-all}

@@ -1,17 +1,9 @@
 -- The scans for the last path and for the paths with the least end, position by position.
-use Rattle.std.proofs.Common.{◌≡◌, ◌⊎◌, ℕ, zero, suc, ◌+◌, ◌≤◌, inl, inr, Bool, true, false, List, [], ◌∷◌, ◌++◌, map, refl, ap, sym, ◌∙◌, subst, arith}
-use Rattle.std.specs.Prelude.{Option, None, Some, is_some, option_map, option_and_then}
+use Rattle.std.proofs.Common.{◌≡◌, ◌⊎◌, ℕ, zero, suc, ◌+◌, ◌≤◌, inl, inr, Bool, true, false, List, [], ◌∷◌, ◌++◌, map, refl, ap, sym, ◌∙◌, subst, arith, Option, None, Some, is_some, option_map, option_and_then}
 use Rattle.std.specs.Option.{option_or}
 use Rattle.std.proofs.lemmas.List.{map-append}
-use Rattle.regex_search_core.specs.Found.{HalfFound}
-use Rattle.regex_search_core.specs.Search.{Search}
-use Rattle.regex_search_core.specs.declared.search.MatchKind.{MatchKind}
+use Rattle.nfa_paths.specs.Common.{HalfFound, Search, MatchKind, Automaton, Pair, In, IsFirstPath, WantedAt, Slots, Hit, Passes, IsFoundBy, NoneBefore, LastBefore, last_match, is_resting, is_match, IsScanAnswer, path_half}
 use Rattle.regex_search_core.specs.declared.search.MatchKind.TheVariants.{All, LeftmostFirst}
-use Rattle.thompson_nfa.specs.Automaton.{Automaton}
-use Rattle.nfa_paths.specs.Graphs.{Pair, In, IsFirstPath, WantedAt}
-use Rattle.nfa_paths.specs.Exploring.{Slots, Hit}
-use Rattle.nfa_paths.specs.Kinds.{Passes, IsFoundBy, NoneBefore, LastBefore, last_match, is_resting}
-use Rattle.nfa_paths.specs.Paths.{is_match, IsScanAnswer, path_half}
 use Rattle.nfa_paths.proofs.FrontierMatchLemmas.{FirstMatch, last_match-is}
 use Rattle.nfa_paths.proofs.KindsLemmas.{IsFrontier-first_match}
 use Rattle.nfa_paths.proofs.ScanAnswerLemmas.{starts-from}

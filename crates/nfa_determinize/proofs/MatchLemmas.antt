@@ -1,14 +1,8 @@
 -- The matches among the states at a position, and what was found of them.
-use Rattle.std.proofs.Common.{◌≡◌, ℕ, ◌⊎◌, inl, inr, true, false, List, [], ◌∷◌, ◌++◌, map, refl, ap, ◌∙◌}
-use Rattle.std.specs.Prelude.{Option, None, Some, cond, is_some, option_map, option_and_then}
+use Rattle.std.proofs.Common.{◌≡◌, ℕ, ◌⊎◌, inl, inr, true, false, List, [], ◌∷◌, ◌++◌, map, refl, ap, ◌∙◌, Option, None, Some, cond, is_some, option_map, option_and_then}
 use Rattle.std.specs.List.{last_or}
 use Rattle.std.specs.Option.{option_or}
-use Rattle.regex_search_core.specs.Found.{HalfFound}
-use Rattle.thompson_nfa.specs.Automaton.{Automaton}
-use Rattle.nfa_paths.specs.Graphs.{Pair, In}
-use Rattle.nfa_paths.specs.Exploring.{Hit, apply}
-use Rattle.nfa_paths.specs.Kinds.{found_along, last_match}
-use Rattle.nfa_paths.specs.Paths.{node_at, pattern_of, is_match, path_half}
+use Rattle.nfa_paths.specs.Common.{HalfFound, Automaton, Pair, In, Hit, apply, found_along, last_match, node_at, pattern_of, is_match, path_half}
 use Rattle.nfa_determinize.specs.Closures.{state_pattern, first_pattern, last_pattern, before_first_match}
 use Rattle.nfa_determinize.specs.Configurations.{half_at}
 use Rattle.nfa_determinize.proofs.FollowLemmas.{place}

@@ -1,13 +1,7 @@
 -- On to the next position: what was put aside is followed from the states that the byte leads to.
-use Rattle.std.proofs.Common.{◌≡◌, ℕ, ◌+◌, ◌<◌, ◌≤◌, inl, inr, Bool, true, false, List, [], ◌∷◌, ◌++◌, replicate, map, refl, ap, sym, ◌∙◌, subst, arith}
-use Rattle.std.specs.Prelude.{None, option_and_then, option_to_list}
-use Rattle.regex_search_core.specs.Search.{Search}
-use Rattle.thompson_nfa.specs.Automaton.{Automaton}
-use Rattle.nfa_paths.specs.Graphs.{Pair, In}
-use Rattle.nfa_paths.specs.Exploring.{Slots, Hit, Task, ExploresTo, ExploresAfter, Searching, next_tasks}
+use Rattle.std.proofs.Common.{◌≡◌, ℕ, ◌+◌, ◌<◌, ◌≤◌, inl, inr, Bool, true, false, List, [], ◌∷◌, ◌++◌, replicate, map, refl, ap, sym, ◌∙◌, subst, arith, None, option_and_then, option_to_list}
+use Rattle.nfa_paths.specs.Common.{Search, Automaton, Pair, In, Slots, Hit, Task, ExploresTo, ExploresAfter, Searching, next_tasks, rests, node_at, byte_at, target_on, edges, starts}
 use Rattle.nfa_paths.specs.Exploring.Task.{Explore, Load}
-use Rattle.nfa_paths.specs.Kinds.{rests}
-use Rattle.nfa_paths.specs.Paths.{node_at, byte_at, target_on, edges, starts}
 use Rattle.nfa_paths.proofs.SearchLemmas.{AnswerBehind-along}
 use Rattle.nfa_paths.proofs.SearchingLemmas.{Searching-round}
 use Rattle.nfa_paths.proofs.ScanAnswerLemmas.{edges-onward, edges-rise}

@@ -1,18 +1,10 @@
 -- A state that a list has a second time adds nothing to the closure of the list.
-use Rattle.std.proofs.Common.{◌≡◌, ℕ, zero, suc, ◌≤◌, ◌⊎◌, inl, inr, Bool, true, false, List, [], ◌∷◌, ◌++◌, length}
-use Rattle.std.proofs.Common.{replicate, get_or, set, refl, ap, sym, ◌∙◌, arith, append_assoc}
-use Rattle.std.proofs.Common.{get_or-set_same, get_or-set_other}
+use Rattle.std.proofs.Common.{◌≡◌, ℕ, zero, suc, ◌≤◌, ◌⊎◌, inl, inr, Bool, true, false, List, [], ◌∷◌, ◌++◌, length, replicate, get_or, set, refl, ap, sym, ◌∙◌, arith, append_assoc, get_or-set_same, get_or-set_other}
 use Rattle.std.proofs.Math.Decide.{ℕ_discrete}
 use Rattle.std.proofs.lemmas.Bool.{cases_Bool}
 use Rattle.std.proofs.lemmas.Bool.Decides.{eqb_tells}
-use Rattle.regex_search_core.specs.Search.{Search}
-use Rattle.regex_search_core.specs.declared.search.MatchKind.{MatchKind}
-use Rattle.thompson_nfa.specs.Automaton.{Automaton}
-use Rattle.nfa_paths.specs.Graphs.{In}
-use Rattle.nfa_paths.specs.Kinds.{rests}
-use Rattle.nfa_paths.specs.Paths.{node_at}
-use Rattle.nfa_determinize.specs.Closures.{EachOnce, Holding, closure, epsilon_states, explore, first_of_each}
-use Rattle.nfa_determinize.specs.Closures.{holding_at, without}
+use Rattle.nfa_paths.specs.Common.{Search, MatchKind, Automaton, In, rests, node_at}
+use Rattle.nfa_determinize.specs.Closures.{EachOnce, Holding, closure, epsilon_states, explore, first_of_each, holding_at, without}
 use Rattle.nfa_determinize.specs.Configurations.{Configuration, advance, next_configuration, start_here, with_each_once}
 use Rattle.nfa_determinize.proofs.ExploreLemmas.{explore-none, unseen-inside}
 

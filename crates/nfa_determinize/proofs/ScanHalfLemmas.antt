@@ -1,20 +1,10 @@
 -- The loop over positions, and the loop over starts, of a half match by steps.
-use Rattle.std.proofs.Common.{◌≡◌, ℕ, ◌+◌, ◌-◌, ◌<◌, ◌≤◌, inl, inr, Bool, true, false, List, [], length, ap}
-use Rattle.std.proofs.Common.{sym, ◌∙◌, subst, arith}
-use Rattle.std.specs.Prelude.{MatchBool, Option, None, Some, is_some, option_map}
+use Rattle.std.proofs.Common.{◌≡◌, ℕ, ◌+◌, ◌-◌, ◌<◌, ◌≤◌, inl, inr, Bool, true, false, List, [], length, ap, sym, ◌∙◌, subst, arith, MatchBool, Option, None, Some, is_some, option_map}
 use Rattle.std.specs.Option.{option_map_or}
 use Rattle.std.proofs.lemmas.Bool.{cases_lt}
-use Rattle.regex_search_core.specs.Boundary.{IsBoundary}
-use Rattle.regex_search_core.specs.Found.{HalfFound}
-use Rattle.regex_search_core.specs.Search.{Search, is_anchored}
-use Rattle.regex_search_core.specs.declared.search.MatchKind.{MatchKind}
-use Rattle.thompson_nfa.specs.Automaton.{Automaton}
-use Rattle.nfa_paths.specs.Paths.{IsHalfAnswer, byte_at, is_utf8_empty, pairs_from, raised, start_count, start_state}
-use Rattle.nfa_paths.specs.Paths.{starts}
+use Rattle.nfa_paths.specs.Common.{IsBoundary, HalfFound, Search, is_anchored, MatchKind, Automaton, IsHalfAnswer, byte_at, is_utf8_empty, pairs_from, raised, start_count, start_state, starts}
 use Rattle.nfa_determinize.specs.Closures.{kept, pattern_by_kind, step}
-use Rattle.nfa_determinize.specs.Configurations.{Configuration, advance, closure_at, found_after, half_at}
-use Rattle.nfa_determinize.specs.Configurations.{next_configuration}
-use Rattle.nfa_determinize.specs.Configurations.{position_count, scanned, scan_half, starts_after}
+use Rattle.nfa_determinize.specs.Configurations.{Configuration, advance, closure_at, found_after, half_at, next_configuration, position_count, scanned, scan_half, starts_after}
 use Rattle.nfa_determinize.specs.Laws.{StepsFindTheHalf}
 use Rattle.nfa_determinize.specs.Searches.{FindsSplit, IsKeptHalf, IsRestartedHalf, IsWholeHalf}
 use Rattle.nfa_determinize.proofs.PositionLemmas.{length-pairs_from}

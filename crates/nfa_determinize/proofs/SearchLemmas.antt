@@ -1,14 +1,6 @@
 -- What the steps find is the half match of a search, with its restarts.
-use Rattle.std.proofs.Common.{◌≡◌, ◌↔◌, ℕ, inl, inr, Bool, true, false, List, [], ◌∷◌, refl, sym, ◌∙◌, subst}
-use Rattle.std.specs.Prelude.{Option, None, Some, MatchBool, is_some, option_and_then}
-use Rattle.regex_search_core.specs.Boundary.{IsBoundary}
-use Rattle.regex_search_core.specs.Found.{HalfFound}
-use Rattle.regex_search_core.specs.Search.{Search, is_anchored}
-use Rattle.regex_search_core.specs.declared.search.MatchKind.{MatchKind}
-use Rattle.thompson_nfa.specs.Automaton.{Automaton}
-use Rattle.nfa_paths.specs.Graphs.{Pair}
-use Rattle.nfa_paths.specs.Paths.{node_at, pattern_of, last_of, path_half, is_utf8_empty, raised, EndsOnBoundary, IsWhole}
-use Rattle.nfa_paths.specs.Paths.{IsScanAnswer, SplitsCharacter, IsKeptAnswer, IsRestartedAnswer, IsHalfAnswer}
+use Rattle.std.proofs.Common.{◌≡◌, ◌↔◌, ℕ, inl, inr, Bool, true, false, List, [], ◌∷◌, refl, sym, ◌∙◌, subst, Option, None, Some, MatchBool, is_some, option_and_then}
+use Rattle.nfa_paths.specs.Common.{IsBoundary, HalfFound, Search, is_anchored, MatchKind, Automaton, Pair, node_at, pattern_of, last_of, path_half, is_utf8_empty, raised, EndsOnBoundary, IsWhole, IsScanAnswer, SplitsCharacter, IsKeptAnswer, IsRestartedAnswer, IsHalfAnswer}
 use Rattle.nfa_paths.proofs.PathToLemmas.{EndsWith-last}
 use Rattle.nfa_paths.proofs.AnswerLemmas.{ends_on_boundary, scan_answer-leads}
 use Rattle.nfa_determinize.specs.Configurations.{scan_half}

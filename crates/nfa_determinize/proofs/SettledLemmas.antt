@@ -1,12 +1,7 @@
 -- What was found in a settled configuration stays up to the end of the scan.
-use Rattle.std.proofs.Common.{◌≡◌, ℕ, zero, suc, ◌+◌, ◌-◌, ◌≤◌, inl, inr, Bool, true, false, refl, ap, sym, ◌∙◌, arith}
-use Rattle.std.specs.Prelude.{Option, None, Some, is_some}
-use Rattle.regex_search_core.specs.Found.{HalfFound}
-use Rattle.regex_search_core.specs.Search.{Search}
-use Rattle.regex_search_core.specs.declared.search.MatchKind.{MatchKind}
-use Rattle.thompson_nfa.specs.Automaton.{Automaton}
-use Rattle.nfa_determinize.specs.Configurations.{Configuration, IsSettled, advance, found_after, position_count}
-use Rattle.nfa_determinize.specs.Configurations.{scanned, scan_half}
+use Rattle.std.proofs.Common.{◌≡◌, ℕ, zero, suc, ◌+◌, ◌-◌, ◌≤◌, inl, inr, Bool, true, false, refl, ap, sym, ◌∙◌, arith, Option, None, Some, is_some}
+use Rattle.nfa_paths.specs.Common.{HalfFound, Search, MatchKind, Automaton}
+use Rattle.nfa_determinize.specs.Configurations.{Configuration, IsSettled, advance, found_after, position_count, scanned, scan_half}
 use Rattle.nfa_determinize.proofs.AnswerLemmas.{dead-stays}
 
 -- the earlier match stays

@@ -1,12 +1,8 @@
 -- Steps and matches of a list, a state at a time.
-use Rattle.std.proofs.Common.{◌≡◌, ℕ, ◌+◌, ◌<◌, List, [], ◌∷◌, ◌++◌, length, get_or, take, drop, refl, ap, sym, ◌∙◌, append_assoc}
-use Rattle.std.specs.Prelude.{Option, None, Some, is_some, true, false, option_and_then, option_map, option_to_list}
+use Rattle.std.proofs.Common.{◌≡◌, ℕ, ◌+◌, ◌<◌, List, [], ◌∷◌, ◌++◌, length, get_or, take, drop, refl, ap, sym, ◌∙◌, append_assoc, Option, None, Some, is_some, true, false, option_and_then, option_map, option_to_list}
 use Rattle.std.specs.Option.{option_or}
 use Rattle.std.proofs.lemmas.List.{drop_more, take_more}
-use Rattle.regex_search_core.specs.Patterns.{number_of}
-use Rattle.regex_search_core.specs.declared.primitives.PatternID.{PatternID}
-use Rattle.thompson_nfa.specs.Automaton.{Automaton, Node, LeadsBelow}
-use Rattle.nfa_paths.specs.Paths.{node_at, target_on}
+use Rattle.nfa_paths.specs.Common.{number_of, PatternID, Automaton, Node, LeadsBelow, node_at, target_on}
 use Rattle.nfa_scan_core.proofs.TargetLemmas.{target-below}
 use Rattle.nfa_determinize.specs.Closures.{state_pattern, first_pattern, last_pattern, before_first_match, step}
 

@@ -1,16 +1,10 @@
 -- The NFA states that a search is in at a position, in order of priority: what one state of a DFA stands for.
-use Rattle.std.specs.Prelude.{ℕ, zero, suc, Bool, true, false, List, [], ◌∷◌, ◌++◌, ◌==◌, length, replicate, is_some, if◌then◌else◌, ⊤}
-use Rattle.std.specs.Prelude.{Option, None, option_and_then, option_to_list, slice_index_or, slice_set}
+use Rattle.std.specs.Prelude.{ℕ, zero, suc, Bool, true, false, List, [], ◌∷◌, ◌++◌, ◌==◌, length, replicate, is_some, if◌then◌else◌, ⊤, Option, None, option_and_then, option_to_list, slice_index_or, slice_set}
 use Rattle.std.specs.Option.{option_or}
-use Rattle.regex_search_core.specs.declared.search.MatchKind.{MatchKind}
+use Rattle.nfa_paths.specs.Common.{MatchKind, Automaton, Node, look_holds, In, rests, node_at, pattern_of, target_on}
 use Rattle.regex_search_core.specs.declared.search.MatchKind.TheVariants.{All, LeftmostFirst}
-use Rattle.thompson_nfa.specs.Automaton.{Automaton, Node}
 use Rattle.thompson_nfa.specs.Automaton.Node.{Look, Union, BinaryUnion, Capture}
-use Rattle.thompson_nfa.specs.Looks.{look_holds}
 use Rattle.thompson_nfa.specs.declared.look.Look as looks
-use Rattle.nfa_paths.specs.Graphs.{In}
-use Rattle.nfa_paths.specs.Kinds.{rests}
-use Rattle.nfa_paths.specs.Paths.{node_at, pattern_of, target_on}
 
 -- which assertions hold at a position
 abbrev pub Holding : Type 0

@@ -1,13 +1,8 @@
 -- A scan as steps over lists of states, position by position.
-use Rattle.std.specs.Prelude.{◌≡◌, ℕ, zero, suc, ◌+◌, ◌-◌, ◌⊎◌, Bool, true, List, [], ◌++◌, length}
-use Rattle.std.specs.Prelude.{Option, None, Some, is_some, option_map, option_to_list, if◌then◌else◌}
+use Rattle.std.specs.Prelude.{◌≡◌, ℕ, zero, suc, ◌+◌, ◌-◌, ◌⊎◌, Bool, true, List, [], ◌++◌, length, Option, None, Some, is_some, option_map, option_to_list, if◌then◌else◌}
 use Rattle.std.specs.Option.{option_or}
-use Rattle.regex_search_core.specs.Found.{HalfFound}
-use Rattle.regex_search_core.specs.Search.{Search}
-use Rattle.regex_search_core.specs.declared.search.MatchKind.{MatchKind}
+use Rattle.nfa_paths.specs.Common.{HalfFound, Search, MatchKind, Automaton, byte_at, start_state, starts}
 use Rattle.regex_search_core.specs.declared.search.MatchKind.TheVariants.{All, LeftmostFirst}
-use Rattle.thompson_nfa.specs.Automaton.{Automaton}
-use Rattle.nfa_paths.specs.Paths.{byte_at, start_state, starts}
 use Rattle.nfa_determinize.specs.Closures.{holding_at, first_of_each, closure, step, pattern_by_kind, kept}
 
 -- What a scan knows at a position: the states that the bytes so far led to, before their closure; at how many positions

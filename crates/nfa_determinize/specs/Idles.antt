@@ -1,10 +1,6 @@
 -- Positions of a scan at which no path that began before is left, and what follows for where its answer starts.
 use Rattle.std.specs.Prelude.{◌≡◌, ℕ, ◌+◌, ◌≤◌, Bool, List, [], None}
-use Rattle.regex_search_core.specs.Search.{Search}
-use Rattle.regex_search_core.specs.declared.search.MatchKind.{MatchKind}
-use Rattle.thompson_nfa.specs.Automaton.{Automaton}
-use Rattle.nfa_paths.specs.Graphs.{Pair, PathTo}
-use Rattle.nfa_paths.specs.Paths.{IsMatch, edges, starts}
+use Rattle.nfa_paths.specs.Common.{Search, MatchKind, Automaton, Pair, PathTo, IsMatch, edges, starts}
 use Rattle.nfa_determinize.specs.Closures.{Holding, closure, holding_at}
 use Rattle.nfa_determinize.specs.Configurations.{Configuration, scanned}
 

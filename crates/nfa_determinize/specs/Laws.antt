@@ -1,13 +1,7 @@
 -- What steps over lists of states say of the answers of scans and searches, and what their lists hold.
 use Rattle.std.specs.Prelude.{◌≡◌, ℕ, ◌<◌, ◌≤◌, ◌↔◌, Bool, true, List, ◌∷◌, ◌++◌, length, Option, option_and_then}
-use Rattle.regex_search_core.specs.Found.{HalfFound}
-use Rattle.regex_search_core.specs.Search.{Search}
-use Rattle.regex_search_core.specs.declared.search.MatchKind.{MatchKind}
-use Rattle.thompson_nfa.specs.Automaton.{Automaton}
+use Rattle.nfa_paths.specs.Common.{HalfFound, Search, MatchKind, Automaton, Pair, In, rests, IsScanAnswer, IsHalfAnswer, node_at, path_half}
 use Rattle.thompson_nfa.specs.declared.look.Look as looks
-use Rattle.nfa_paths.specs.Graphs.{Pair, In}
-use Rattle.nfa_paths.specs.Kinds.{rests}
-use Rattle.nfa_paths.specs.Paths.{IsScanAnswer, IsHalfAnswer, node_at, path_half}
 use Rattle.nfa_determinize.specs.Closures.{EachOnce, Holding, closure, first_of_each}
 use Rattle.nfa_determinize.specs.Configurations.{Configuration, IsDead, IsSettled, advance, scan_half, with_each_once}
 use Rattle.nfa_determinize.specs.Searches.{IsStepsHalf}

@@ -1,12 +1,7 @@
 -- A search as scans by steps: a match that ends inside a codepoint does not count if the NFA is in UTF-8 mode and can
 -- match the empty string.
 use Rattle.std.specs.Prelude.{◌≡◌, ℕ, ◌<◌, ◌⊎◌, Bool, MatchBool, Option, None, Some, ⊤}
-use Rattle.regex_search_core.specs.Boundary.{IsBoundary}
-use Rattle.regex_search_core.specs.Found.{HalfFound}
-use Rattle.regex_search_core.specs.Search.{Search, is_anchored}
-use Rattle.regex_search_core.specs.declared.search.MatchKind.{MatchKind}
-use Rattle.thompson_nfa.specs.Automaton.{Automaton}
-use Rattle.nfa_paths.specs.Paths.{is_utf8_empty, raised}
+use Rattle.nfa_paths.specs.Common.{IsBoundary, HalfFound, Search, is_anchored, MatchKind, Automaton, is_utf8_empty, raised}
 use Rattle.nfa_determinize.specs.Configurations.{scan_half}
 
 -- there is no match, or it ends on a boundary

@@ -1,23 +1,14 @@
 -- Assertions that read no more than the byte on each side of a position hold alike if these bytes are the same.
-use Rattle.std.proofs.Common.{◌≡◌, ◌∙◌, ℕ, ◌+◌, ◌-◌, ◌==◌, ◌&&◌, ◌||◌, ◌≤◌, ◌<◌, inl, inr, Bool, true}
-use Rattle.std.proofs.Common.{false, not, List, drop, length, length-drop, get_or, refl, sym, ap, arith, le-ltb, lt-ltb}
-use Rattle.std.specs.Prelude.{Option, None, Some, is_none, slice_get}
+use Rattle.std.proofs.Common.{◌≡◌, ◌∙◌, ℕ, ◌+◌, ◌-◌, ◌==◌, ◌&&◌, ◌||◌, ◌≤◌, ◌<◌, inl, inr, Bool, true, false, not, List, drop, length, length-drop, get_or, refl, sym, ap, arith, le-ltb, lt-ltb, Option, None, Some, is_none, slice_get}
 use Rattle.std.specs.Option.{option_map_or}
 use Rattle.std.proofs.lemmas.Bool.{cases_lt, eq-eqb, ne_eqb}
 use Rattle.std.proofs.lemmas.List.{length-take-le}
 use Rattle.std.proofs.lemmas.Option.{slice_get-get_or, slice_get_past}
-use Rattle.regex_search_core.specs.Search.{Search}
-use Rattle.thompson_nfa.specs.Automaton.{Automaton}
+use Rattle.nfa_paths.specs.Common.{Search, Automaton, look_holds}
 use Rattle.thompson_nfa.specs.Looks.{differ, is_byte_at, is_byte_before, is_word_after, is_word_before, is_word_byte}
-use Rattle.thompson_nfa.specs.Looks.{look_holds}
 use Rattle.thompson_nfa.specs.declared.look.Look as looks
-use Rattle.thompson_nfa.specs.declared.look.Look.TheVariants.{Start, End, StartLF, EndLF, StartCRLF, EndCRLF, WordAscii}
-use Rattle.thompson_nfa.specs.declared.look.Look.TheVariants.{WordAsciiNegate, WordUnicode, WordUnicodeNegate}
-use Rattle.thompson_nfa.specs.declared.look.Look.TheVariants.{WordStartAscii, WordEndAscii, WordStartUnicode}
-use Rattle.thompson_nfa.specs.declared.look.Look.TheVariants.{WordEndUnicode, WordStartHalfAscii, WordEndHalfAscii}
-use Rattle.thompson_nfa.specs.declared.look.Look.TheVariants.{WordStartHalfUnicode, WordEndHalfUnicode}
-use Rattle.nfa_engines.specs.AlikeLaws.{byte_before, AreSidesSame, EachLook, IsLineEdge, IsOfLines}
-use Rattle.nfa_engines.specs.AlikeLaws.{IsOfWholeLines, ReadsBytes}
+use Rattle.thompson_nfa.specs.declared.look.Look.TheVariants.{Start, End, StartLF, EndLF, StartCRLF, EndCRLF, WordAscii, WordAsciiNegate, WordUnicode, WordUnicodeNegate, WordStartAscii, WordEndAscii, WordStartUnicode, WordEndUnicode, WordStartHalfAscii, WordEndHalfAscii, WordStartHalfUnicode, WordEndHalfUnicode}
+use Rattle.nfa_engines.specs.AlikeLaws.{byte_before, AreSidesSame, EachLook, IsLineEdge, IsOfLines, IsOfWholeLines, ReadsBytes}
 use Rattle.nfa_engines.specs.SpanLaws.{cut_out, AreBytesMoved, HoldAlike, IsSpanMoved, LookHoldsAlike}
 use Rattle.nfa_engines.proofs.SpanLemmas.{cut-bytes, cut-moved, each-look}
 

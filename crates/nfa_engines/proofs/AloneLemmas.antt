@@ -1,25 +1,10 @@
 -- A search that is anchored to a pattern is the search of only this pattern.
-use Rattle.std.proofs.Common.{◌≡◌, ◌∙◌, ℕ, inl, inr, Bool, true, false, MatchBool, List, [], ◌∷◌}
-use Rattle.std.proofs.Common.{length}
-use Rattle.std.proofs.Common.{map, refl, sym, ap, subst, nat_lt, if◌then◌else◌, slice_get}
-use Rattle.std.specs.Prelude.{Option, None, Some, option_and_then}
+use Rattle.std.proofs.Common.{◌≡◌, ◌∙◌, ℕ, inl, inr, Bool, true, false, MatchBool, List, [], ◌∷◌, length, map, refl, sym, ap, subst, nat_lt, if◌then◌else◌, slice_get, Option, None, Some, option_and_then}
 use Rattle.std.specs.List.{range_with_len}
 use Rattle.std.specs.Option.{option_map_or}
-use Rattle.regex_search_core.specs.Found.{Found}
-use Rattle.regex_search_core.specs.Groups.{slot_count}
-use Rattle.regex_search_core.specs.Patterns.{number_of}
-use Rattle.regex_search_core.specs.Search.{Search}
-use Rattle.regex_search_core.specs.Slots.{match_of}
-use Rattle.regex_search_core.specs.declared.primitives.PatternID.{PatternID}
-use Rattle.regex_search_core.specs.declared.search.Anchored.{Anchored}
+use Rattle.nfa_paths.specs.Common.{Found, slot_count, number_of, Search, match_of, PatternID, Anchored, MatchKind, Automaton, Pair, IsFirstPath, IsEarliestPath, IsLastPath, IsEarliestLastPath, edges, is_utf8_empty, node_at, pairs_from, path_pattern, slot_among, slot_row, starts, EndsOnBoundary, IsAnswer, IsKeptAnswer, IsMatch, IsFindAnswer, IsScanAnswer, IsSearchAnswer}
 use Rattle.regex_search_core.specs.declared.search.Anchored.TheVariants.{Pattern, Yes}
-use Rattle.regex_search_core.specs.declared.search.MatchKind.{MatchKind}
 use Rattle.regex_search_core.specs.declared.search.MatchKind.TheVariants.{All, LeftmostFirst}
-use Rattle.thompson_nfa.specs.Automaton.{Automaton}
-use Rattle.nfa_paths.specs.Graphs.{Pair, IsFirstPath, IsEarliestPath, IsLastPath, IsEarliestLastPath}
-use Rattle.nfa_paths.specs.Paths.{edges, is_utf8_empty, node_at, pairs_from, path_pattern, slot_among}
-use Rattle.nfa_paths.specs.Paths.{slot_row, starts, EndsOnBoundary, IsAnswer, IsKeptAnswer, IsMatch, IsFindAnswer}
-use Rattle.nfa_paths.specs.Paths.{IsScanAnswer, IsSearchAnswer}
 use Rattle.nfa_engines.specs.PatternLaws.{started_at}
 use Rattle.nfa_engines.proofs.FirstStartLemmas.{same_edges}
 

@@ -1,17 +1,7 @@
 -- The answer of the anchored search at a first start is that of the search, also if it has to end on a boundary.
-use Rattle.std.proofs.Common.{◌≡◌, ℕ, ◌&&◌, Bool, true, false, List, [], ◌∷◌, refl, sym, subst, arith}
-use Rattle.std.specs.Prelude.{Option, None, Some, MatchBool, option_and_then}
-use Rattle.regex_search_core.specs.Boundary.{IsBoundary}
-use Rattle.regex_search_core.specs.Found.{Found}
-use Rattle.regex_search_core.specs.Groups.{slot_count}
-use Rattle.regex_search_core.specs.Search.{Search, is_anchored}
-use Rattle.regex_search_core.specs.Slots.{match_of}
-use Rattle.regex_search_core.specs.declared.search.Anchored.{Anchored}
+use Rattle.std.proofs.Common.{◌≡◌, ℕ, ◌&&◌, Bool, true, false, List, [], ◌∷◌, refl, sym, subst, arith, Option, None, Some, MatchBool, option_and_then}
+use Rattle.nfa_paths.specs.Common.{IsBoundary, Found, slot_count, Search, is_anchored, match_of, Anchored, Automaton, Pair, EndsOnBoundary, IsFindAnswer, IsKeptAnswer, IsRestartedAnswer, IsScanAnswer, IsSearchAnswer, is_utf8_empty, node_at, path_pattern, slot_row, starts}
 use Rattle.regex_search_core.specs.declared.search.MatchKind.TheVariants.{LeftmostFirst}
-use Rattle.thompson_nfa.specs.Automaton.{Automaton}
-use Rattle.nfa_paths.specs.Graphs.{Pair}
-use Rattle.nfa_paths.specs.Paths.{EndsOnBoundary, IsFindAnswer, IsKeptAnswer, IsRestartedAnswer, IsScanAnswer}
-use Rattle.nfa_paths.specs.Paths.{IsSearchAnswer, is_utf8_empty, node_at, path_pattern, slot_row, starts}
 use Rattle.nfa_paths.proofs.StartLemmas.{raised-zero}
 use Rattle.nfa_engines.specs.StartLaws.{IsFirstStart, IsUnbound, StartsAnywhere, anchored_at}
 use Rattle.nfa_engines.proofs.StartAnswerLemmas.{first-answers}

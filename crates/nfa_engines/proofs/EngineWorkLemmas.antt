@@ -1,17 +1,7 @@
 -- What an iteration adds to the totals of a cache, where each search does the work that an engine's contract says.
-use Rattle.std.proofs.Common.{◌≡◌, ◌∙◌, ℕ, ◌+◌, ◌*◌, ◌≤◌, ◌⊎◌, Bool, List, length, refl, sym, ap, subst}
-use Rattle.std.proofs.Common.{Option, None, Some, Ok, Err, inl, inr, arith}
-use Rattle.std.specs.Prelude.{not, ◌&&◌}
+use Rattle.std.proofs.Common.{◌≡◌, ◌∙◌, ℕ, ◌+◌, ◌*◌, ◌≤◌, ◌⊎◌, Bool, List, length, refl, sym, ap, subst, Option, None, Some, Ok, Err, inl, inr, arith, not, ◌&&◌}
 use Rattle.std.proofs.Math.Nat.{mul-le-mul_left}
-use Rattle.regex_search_core.specs.Found.{Found}
-use Rattle.regex_search_core.specs.Search.{Search, is_anchored}
-use Rattle.regex_search_core.specs.declared.search.Anchored.{Anchored}
-use Rattle.regex_search_core.specs.declared.search.MatchKind.{MatchKind}
-use Rattle.regex_search_core.specs.declared.search.Span.{Span}
-use Rattle.thompson_nfa.specs.Automaton.{Automaton}
-use Rattle.nfa_paths.specs.Graphs.{Pair}
-use Rattle.nfa_paths.specs.Paths.{IsFindAnswer, IsSearchAnswer, IsWithinScans, IsWork, max_scans, span_len, total_degree}
-use Rattle.nfa_paths.specs.Paths.{is_utf8_empty}
+use Rattle.nfa_paths.specs.Common.{Found, Search, is_anchored, Anchored, MatchKind, Span, Automaton, Pair, IsFindAnswer, IsSearchAnswer, IsWithinScans, IsWork, max_scans, span_len, total_degree, is_utf8_empty}
 use Rattle.nfa_paths.proofs.ExistenceLemmas.{search_answer-exists}
 use Rattle.nfa_paths.proofs.InsideLemmas.{match-within}
 use Rattle.nfa_search_base.specs.WithCaptures.{Row, row_found, row_span}
@@ -25,8 +15,7 @@ use Rattle.nfa_search_base.proofs.IterStateLemmas.{IsOrdered}
 use Rattle.nfa_engines.specs.WorkLaws.{AddsAtMost, Totals, list_scan_limit}
 use Rattle.nfa_engines.proofs.IterationLemmas.{first-ends}
 use Rattle.nfa_engines.proofs.ReachLemmas.{Reaches, few-scans, match-known, match-reaches, one-scan, restarts_in}
-use Rattle.nfa_engines.proofs.WorkLemmas.{Adds, Costs, CostsOf, Led, adds-none, calls-within, few-found, found_count}
-use Rattle.nfa_engines.proofs.WorkLemmas.{found_count-to_end, is_of-fresh, led, list-within, turns_in}
+use Rattle.nfa_engines.proofs.WorkLemmas.{Adds, Costs, CostsOf, Led, adds-none, calls-within, few-found, found_count, found_count-to_end, is_of-fresh, led, list-within, turns_in}
 
 module _ (nfa : Automaton) (kind : MatchKind) (earliest : Bool) where
   -- the match of a search lies there, if there is one

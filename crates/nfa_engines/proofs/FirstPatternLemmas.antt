@@ -1,16 +1,9 @@
 -- If the anchored start tries the patterns in order, the first pattern that has an accepting path answers.
-use Rattle.std.proofs.Common.{◌≡◌, ◌∙◌, ℕ, zero, suc, ◌≤◌, ◌<◌, ◌⊎◌, inl, inr, true, false, List, [], ◌∷◌}
-use Rattle.std.proofs.Common.{map, refl, sym, ap, subst, arith, le-ltb, slice_get}
-use Rattle.std.specs.Prelude.{None, Some, is_some}
+use Rattle.std.proofs.Common.{◌≡◌, ◌∙◌, ℕ, zero, suc, ◌≤◌, ◌<◌, ◌⊎◌, inl, inr, true, false, List, [], ◌∷◌, map, refl, sym, ap, subst, arith, le-ltb, slice_get, None, Some, is_some}
 use Rattle.std.proofs.lemmas.Bool.{cases_eq, cases_lt}
-use Rattle.regex_search_core.specs.Search.{Search}
+use Rattle.nfa_paths.specs.Common.{Search, Automaton, Node, Pair, In, Earlier, HeadIs, NoRepeats, Linked, EndsWith, ComesBefore, PathTo, capture, edges, edges_of, node_at, pattern_of, slot_of, starts, is_match, IsMatch}
 use Rattle.regex_search_core.specs.declared.search.Anchored.TheVariants.{Yes}
-use Rattle.thompson_nfa.specs.Automaton.{Automaton, Node}
 use Rattle.thompson_nfa.specs.Automaton.Node.{Union, BinaryUnion, Capture, Match}
-use Rattle.nfa_paths.specs.Graphs.{Pair, In, Earlier, HeadIs, NoRepeats, Linked, EndsWith, ComesBefore}
-use Rattle.nfa_paths.specs.Graphs.{PathTo}
-use Rattle.nfa_paths.specs.Paths.{capture, edges, edges_of, node_at, pattern_of, slot_of}
-use Rattle.nfa_paths.specs.Paths.{starts, is_match, IsMatch}
 use Rattle.nfa_paths.proofs.StartLemmas.{starts-none}
 use Rattle.nfa_engines.specs.PatternLaws.{alternates_of, started_at, IsUnionOfPatterns}
 use Rattle.nfa_paths.proofs.OptionLemmas.{same_some}

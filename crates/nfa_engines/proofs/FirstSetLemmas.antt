@@ -1,17 +1,10 @@
 -- What a leftmost first search makes of a set is one, and with room for each pattern all permitted paths count.
-use Rattle.std.proofs.Common.{◌≡◌, ℕ, ◌∙◌, ◌↔◌, ◌<◌, ◌≤◌, inl, inr, Bool, true, false, List, length, sym, ap, subst}
-use Rattle.std.proofs.Common.{arith}
-use Rattle.std.specs.Prelude.{Option, None, Some, slice_index_or}
+use Rattle.std.proofs.Common.{◌≡◌, ℕ, ◌∙◌, ◌↔◌, ◌<◌, ◌≤◌, inl, inr, Bool, true, false, List, length, sym, ap, subst, arith, Option, None, Some, slice_index_or}
 use Rattle.std.proofs.lemmas.Bool.{cases_lt}
 use Rattle.std.proofs.lemmas.List.{ext_get_or}
 use Rattle.regex_search_core.specs.PatternSets.{size_of_set}
-use Rattle.regex_search_core.specs.Search.{Search}
+use Rattle.nfa_paths.specs.Common.{Search, Automaton, IsAutomaton, Pair, WantedAt, IsFirstPath, IsEarliestPath, IsLeastEnd, HoldsPattern, HoldsSelected, HoldsPath, IsFirstBefore, IsFirstInsertable, IsEarliestInsertable, IsInsertable, IsSelectedPath, IsOverlapResult, IsPermitted, edges, starts, node_at, path_pattern}
 use Rattle.regex_search_core.specs.declared.search.MatchKind.TheVariants.{LeftmostFirst}
-use Rattle.thompson_nfa.specs.Automaton.{Automaton, IsAutomaton}
-use Rattle.nfa_paths.specs.Graphs.{Pair, WantedAt, IsFirstPath, IsEarliestPath, IsLeastEnd}
-use Rattle.nfa_paths.specs.Overlaps.{HoldsPattern, HoldsSelected, HoldsPath, IsFirstBefore, IsFirstInsertable, IsEarliestInsertable}
-use Rattle.nfa_paths.specs.Overlaps.{IsInsertable, IsSelectedPath, IsOverlapResult, IsPermitted}
-use Rattle.nfa_paths.specs.Paths.{edges, starts, node_at, path_pattern}
 use Rattle.nfa_paths.proofs.PathToLemmas.{IsEarliestPath-unique, IsFirstTo-along}
 use Rattle.nfa_paths.proofs.PatternLemmas.{node-pattern, some-pattern, ends-pattern}
 use Rattle.nfa_paths.proofs.SetLemmas.{size-none}

@@ -1,12 +1,7 @@
 -- The paths of an unanchored search are those of the anchored searches at each start.
-use Rattle.std.proofs.Common.{◌≡◌, ℕ, zero, suc, ◌+◌, ◌-◌, ◌≤◌, ◌<◌, ◌⊎◌, inl, inr, List, [], ◌∷◌}
-use Rattle.std.proofs.Common.{refl, sym, ap, subst, arith, le-ltb}
+use Rattle.std.proofs.Common.{◌≡◌, ℕ, zero, suc, ◌+◌, ◌-◌, ◌≤◌, ◌<◌, ◌⊎◌, inl, inr, List, [], ◌∷◌, refl, sym, ap, subst, arith, le-ltb}
 use Rattle.std.proofs.lemmas.Bool.{cases_lt}
-use Rattle.regex_search_core.specs.Search.{Search}
-use Rattle.regex_search_core.specs.declared.search.Anchored.{Anchored}
-use Rattle.thompson_nfa.specs.Automaton.{Automaton}
-use Rattle.nfa_paths.specs.Graphs.{Pair, In, HeadIs, ComesBefore, PathTo}
-use Rattle.nfa_paths.specs.Paths.{edges, pairs_from, starts}
+use Rattle.nfa_paths.specs.Common.{Search, Anchored, Automaton, Pair, In, HeadIs, ComesBefore, PathTo, edges, pairs_from, starts}
 use Rattle.nfa_paths.proofs.StartLemmas.{starts-none, edges-alike, pairs_from-has}
 use Rattle.nfa_engines.specs.StartLaws.{anchored_at, from_start, IsUnbound}
 

@@ -1,14 +1,7 @@
 -- A statement with an `earliest` of its own is the same for searches with other flags.
-use Rattle.std.proofs.Common.{◌≡◌, ℕ, Bool, true, false, MatchBool, Option, None, Some, Ok, Err, List, [], ◌∷◌, map}
-use Rattle.std.proofs.Common.{length, refl, subst}
-use Rattle.std.specs.Prelude.{is_some}
-use Rattle.regex_search_core.specs.Found.{Found}
-use Rattle.regex_search_core.specs.Search.{Search}
-use Rattle.regex_search_core.specs.declared.search.MatchKind.{MatchKind}
+use Rattle.std.proofs.Common.{◌≡◌, ℕ, Bool, true, false, MatchBool, Option, None, Some, Ok, Err, List, [], ◌∷◌, map, length, refl, subst, is_some}
+use Rattle.nfa_paths.specs.Common.{Found, Search, MatchKind, Span, Automaton, IsAnswer, IsBoolAnswer, IsFindAnswer}
 use Rattle.regex_search_core.specs.declared.search.MatchKind.TheVariants.{LeftmostFirst}
-use Rattle.regex_search_core.specs.declared.search.Span.{Span}
-use Rattle.thompson_nfa.specs.Automaton.{Automaton}
-use Rattle.nfa_paths.specs.Paths.{IsAnswer, IsBoolAnswer, IsFindAnswer}
 use Rattle.nfa_paths.proofs.EarliestLemmas.{asked, search_answer-asked}
 use Rattle.nfa_paths.proofs.KnownLemmas.{match-unique}
 use Rattle.nfa_search_base.specs.WithCaptures.{Row, row_span}

@@ -1,20 +1,10 @@
 -- A leftmost first answer starts at the least start of its end, and is that of the search cut to its span.
-use Rattle.std.proofs.Common.{◌≡◌, ◌∙◌, ℕ, ◌+◌, ◌-◌, ◌==◌, ◌||◌, ◌≤◌, ◌<◌, ◌⊎◌, inl, inr, Bool, true, false, List, [], ◌∷◌}
-use Rattle.std.proofs.Common.{length, refl, sym, ap, subst, arith, le-ltb, lt-ltb}
-use Rattle.std.specs.Prelude.{MatchBool, Option, None, Some, option_and_then}
+use Rattle.std.proofs.Common.{◌≡◌, ◌∙◌, ℕ, ◌+◌, ◌-◌, ◌==◌, ◌||◌, ◌≤◌, ◌<◌, ◌⊎◌, inl, inr, Bool, true, false, List, [], ◌∷◌, length, refl, sym, ap, subst, arith, le-ltb, lt-ltb, MatchBool, Option, None, Some, option_and_then}
 use Rattle.std.specs.Option.{option_map_or}
 use Rattle.std.proofs.lemmas.Bool.{cases_lt, cases_Bool}
-use Rattle.regex_search_core.specs.Search.{Search, is_anchored}
-use Rattle.regex_search_core.specs.declared.search.Anchored.{Anchored}
+use Rattle.nfa_paths.specs.Common.{Search, is_anchored, Anchored, Automaton, Node, Pair, In, Earlier, BeforeAfter, ComesBefore, EndsWith, HeadIs, Linked, PathTo, IsFirstTo, WantedAt, rests, byte_at, edges, edges_of, is_utf8_empty, node_at, pairs_from, path_pattern, slot_row, start_count, start_state, starts, EndsOnBoundary, IsAnswer, IsMatch, IsScanAnswer, raised, IsKeptAnswer, IsRestartedAnswer, IsSearchAnswer}
 use Rattle.regex_search_core.specs.declared.search.MatchKind.TheVariants.{LeftmostFirst}
-use Rattle.thompson_nfa.specs.Automaton.{Automaton, Node}
 use Rattle.thompson_nfa.specs.Automaton.Node.{Look, Union, BinaryUnion, Capture}
-use Rattle.nfa_paths.specs.Graphs.{Pair, In, Earlier, BeforeAfter, ComesBefore, EndsWith, HeadIs, Linked, PathTo}
-use Rattle.nfa_paths.specs.Graphs.{IsFirstTo, WantedAt}
-use Rattle.nfa_paths.specs.Kinds.{rests}
-use Rattle.nfa_paths.specs.Paths.{byte_at, edges, edges_of, is_utf8_empty, node_at, pairs_from, path_pattern, slot_row}
-use Rattle.nfa_paths.specs.Paths.{start_count, start_state, starts, EndsOnBoundary, IsAnswer, IsMatch, IsScanAnswer}
-use Rattle.nfa_paths.specs.Paths.{raised, IsKeptAnswer, IsRestartedAnswer, IsSearchAnswer}
 use Rattle.nfa_paths.proofs.PathToLemmas.{EndsWith-last}
 use Rattle.nfa_paths.proofs.ScanAnswerLemmas.{edges-onward, edges-rise, edges-within, starts-from, starts-within}
 use Rattle.nfa_paths.proofs.StartLemmas.{byte_pairs, pairs_from-has, raised-zero, resting-edges}

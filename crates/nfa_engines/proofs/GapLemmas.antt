@@ -1,19 +1,9 @@
 -- If each accepting path writes its start and its end, the leftmost match is that of the first path, and there is none
 -- if there is no path.
-use Rattle.std.proofs.Common.{◌≡◌, ℕ, ◌+◌, ◌*◌, ◌≤◌, ◌<◌, ◌⊎◌, ◌↔◌, ◌∙◌, inl, inr, Bool, false, List, [], ◌∷◌}
-use Rattle.std.proofs.Common.{refl, sym, ap, arith}
-use Rattle.std.specs.Prelude.{Option, None, Some, IfSome, option_and_then}
+use Rattle.std.proofs.Common.{◌≡◌, ℕ, ◌+◌, ◌*◌, ◌≤◌, ◌<◌, ◌⊎◌, ◌↔◌, ◌∙◌, inl, inr, Bool, false, List, [], ◌∷◌, refl, sym, ap, arith, Option, None, Some, IfSome, option_and_then}
 use Rattle.std.proofs.lemmas.Bool.{cases_lt, le-leb}
-use Rattle.regex_search_core.specs.Found.{Found}
-use Rattle.regex_search_core.specs.Groups.{slot_count}
-use Rattle.regex_search_core.specs.Search.{Search}
-use Rattle.regex_search_core.specs.Slots.{offset_at, match_of}
-use Rattle.regex_search_core.specs.declared.search.MatchKind.{MatchKind}
+use Rattle.nfa_paths.specs.Common.{Found, slot_count, Search, offset_at, match_of, MatchKind, Automaton, IsAutomaton, Pair, HeadIs, Linked, EndsWith, ComesBefore, PathTo, NoPath, edges, starts, is_utf8_empty, IsMatch, IsScanAnswer, IsSearchAnswer, IsFindAnswer, path_pattern, slot_among, slot_row}
 use Rattle.regex_search_core.specs.declared.search.MatchKind.TheVariants.{LeftmostFirst}
-use Rattle.thompson_nfa.specs.Automaton.{Automaton, IsAutomaton}
-use Rattle.nfa_paths.specs.Graphs.{Pair, HeadIs, Linked, EndsWith, ComesBefore, PathTo, NoPath}
-use Rattle.nfa_paths.specs.Paths.{edges, starts, is_utf8_empty, IsMatch, IsScanAnswer, IsSearchAnswer, IsFindAnswer}
-use Rattle.nfa_paths.specs.Paths.{path_pattern, slot_among, slot_row}
 use Rattle.nfa_paths.proofs.AnswerLemmas.{scan_answer-leads, never_none}
 use Rattle.nfa_paths.proofs.ExistenceLemmas.{scan_answer-none}
 use Rattle.nfa_paths.proofs.PatternLemmas.{offset_at-slot_row, slot_among-past}

@@ -1,11 +1,6 @@
 -- The half match of a search is one, and has the pattern that the search answers.
-use Rattle.std.proofs.Common.{◌≡◌, ◌∙◌, ℕ, Bool, List, ap, sym}
-use Rattle.std.specs.Prelude.{Option, option_and_then, option_map}
-use Rattle.regex_search_core.specs.Found.{HalfFound}
-use Rattle.regex_search_core.specs.Search.{Search}
-use Rattle.regex_search_core.specs.declared.search.MatchKind.{MatchKind}
-use Rattle.thompson_nfa.specs.Automaton.{Automaton}
-use Rattle.nfa_paths.specs.Paths.{IsAnswer, IsHalfAnswer, path_half, path_pattern}
+use Rattle.std.proofs.Common.{◌≡◌, ◌∙◌, ℕ, Bool, List, ap, sym, Option, option_and_then, option_map}
+use Rattle.nfa_paths.specs.Common.{HalfFound, Search, MatchKind, Automaton, IsAnswer, IsHalfAnswer, path_half, path_pattern}
 use Rattle.nfa_paths.proofs.AnswerLemmas.{search_answer-unique}
 use Rattle.nfa_paths.proofs.RestartLemmas.{half-pattern}
 

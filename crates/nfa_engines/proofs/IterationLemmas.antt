@@ -1,10 +1,6 @@
 -- The calls of one iteration give matches whose ends increase, and a bounded number of them.
-use Rattle.std.proofs.Common.{◌≡◌, ℕ, ◌+◌, ◌<◌, ◌≤◌, inl, inr, List, [], ◌∷◌, length, subst}
-use Rattle.std.proofs.Common.{ap, arith}
-use Rattle.std.specs.Prelude.{Option, None, Some}
-use Rattle.regex_search_core.specs.Search.{Search}
-use Rattle.regex_search_core.specs.declared.search.Span.{Span}
-use Rattle.nfa_paths.specs.Paths.{span_len}
+use Rattle.std.proofs.Common.{◌≡◌, ℕ, ◌+◌, ◌<◌, ◌≤◌, inl, inr, List, [], ◌∷◌, length, subst, ap, arith, Option, None, Some}
+use Rattle.nfa_paths.specs.Common.{Search, Span, span_len}
 use Rattle.nfa_search_base.specs.IterStates.{IterState, fresh, ends_left}
 use Rattle.nfa_engines.specs.IterationLaws.{IsCall, AreCalls, match_spans_of, EndsRise}
 

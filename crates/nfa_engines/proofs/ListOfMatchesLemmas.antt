@@ -1,9 +1,6 @@
 -- A search has few matches.
-use Rattle.std.proofs.Common.{ℕ, ◌+◌, ◌-◌, ◌<◌, ◌≤◌, List, [], ◌∷◌, length, refl, arith}
-use Rattle.std.specs.Prelude.{None, Some}
-use Rattle.regex_search_core.specs.Found.{Found}
-use Rattle.regex_search_core.specs.Search.{Search}
-use Rattle.nfa_paths.specs.Paths.{span_len}
+use Rattle.std.proofs.Common.{ℕ, ◌+◌, ◌-◌, ◌<◌, ◌≤◌, List, [], ◌∷◌, length, refl, arith, None, Some}
+use Rattle.nfa_paths.specs.Common.{Found, Search, span_len}
 use Rattle.nfa_search_base.specs.Lists.{AreDisjoint}
 
 -- matches that are apart end one after another, so there are few

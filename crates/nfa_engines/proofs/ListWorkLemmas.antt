@@ -1,24 +1,17 @@
 -- What the lists of both engines add to the totals of their caches.
-use Rattle.std.proofs.Common.{◌+◌, ◌*◌, false, List, length, ap, inl, inr}
-use Rattle.std.proofs.Common.{None, Ok, Err}
-use Rattle.regex_search_core.specs.Found.{Found}
-use Rattle.regex_search_core.specs.Search.{Search}
+use Rattle.std.proofs.Common.{◌+◌, ◌*◌, false, List, length, ap, inl, inr, None, Ok, Err}
+use Rattle.nfa_paths.specs.Common.{Found, Search, span_len}
 use Rattle.regex_search_core.specs.declared.search.MatchKind.TheVariants.{LeftmostFirst}
-use Rattle.nfa_paths.specs.Paths.{span_len}
 use Rattle.nfa_search_base.specs.WithCaptures.{Row, row_span}
 use Rattle.nfa_search_base.specs.Leaving.{DoesSearch, asks_keeping}
 use Rattle.nfa_search_base.specs.IterStates.{Answer, answer_span, span_of}
 use Rattle.nfa_search_base.proofs.EngineLemmas.{same-or-made}
 use Rattle.nfa_backtrack.specs.Backtrack.{Backtracker, BacktrackCache}
-use Rattle.nfa_backtrack.specs.Finding.{BacktrackerCatchesOn, BacktrackerCatchesToEnd, BacktrackerFindsOn}
-use Rattle.nfa_backtrack.specs.Finding.{BacktrackerFindsToEnd, IsTryCapturesAnswer, IsTryFindAnswer, SearchesOnce}
-use Rattle.nfa_backtrack.specs.Finding.{backtracker_scans}
+use Rattle.nfa_backtrack.specs.Finding.{BacktrackerCatchesOn, BacktrackerCatchesToEnd, BacktrackerFindsOn, BacktrackerFindsToEnd, IsTryCapturesAnswer, IsTryFindAnswer, SearchesOnce, backtracker_scans}
 use Rattle.nfa_pikevm.specs.Engines.{Pike, PikeCache, kind_of}
-use Rattle.nfa_pikevm.specs.Finding.{PikeCatchesOn, PikeCatchesToEnd, PikeFindsOn, PikeFindsToEnd}
-use Rattle.nfa_pikevm.specs.Finding.{PikeSearches, PikeAnswersMatch, PikeAnswersRow, pike_scans}
+use Rattle.nfa_pikevm.specs.Finding.{PikeCatchesOn, PikeCatchesToEnd, PikeFindsOn, PikeFindsToEnd, PikeSearches, PikeAnswersMatch, PikeAnswersRow, pike_scans}
 use Rattle.nfa_engines.specs.WorkLaws.{AddsAtMost, backtracker_totals, list_scan_limit, pike_totals}
-use Rattle.nfa_engines.proofs.EngineWorkLemmas.{Hit, WorkOf, Worked, calls-add, list-adds, match-hit, row-hit, worked}
-use Rattle.nfa_engines.proofs.EngineWorkLemmas.{worked-within}
+use Rattle.nfa_engines.proofs.EngineWorkLemmas.{Hit, WorkOf, Worked, calls-add, list-adds, match-hit, row-hit, worked, worked-within}
 
 -- ---- the PikeVM
 

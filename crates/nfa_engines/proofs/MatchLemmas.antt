@@ -1,20 +1,11 @@
 -- What the slots of an answer give, and what the answer says of accepting paths.
-use Rattle.std.proofs.Common.{◌≡◌, ◌∙◌, ℕ, ◌+◌, ◌*◌, ◌<◌, ◌≤◌, ◌⊎◌, inl, inr, Bool, true, false, List, [], ◌∷◌, length, map, refl}
-use Rattle.std.proofs.Common.{sym, ap, arith}
-use Rattle.std.specs.Prelude.{Option, None, Some, is_some, option_and_then}
+use Rattle.std.proofs.Common.{◌≡◌, ◌∙◌, ℕ, ◌+◌, ◌*◌, ◌<◌, ◌≤◌, ◌⊎◌, inl, inr, Bool, true, false, List, [], ◌∷◌, length, map, refl, sym, ap, arith, Option, None, Some, is_some, option_and_then}
 use Rattle.std.specs.List.{range_with_len}
 use Rattle.std.proofs.lemmas.Bool.{cases_lt}
 use Rattle.std.proofs.lemmas.List.FromFn.{length-map-range_with_len}
 use Rattle.std.proofs.lemmas.Option.{slice_get_past}
-use Rattle.regex_search_core.specs.Found.{Found}
-use Rattle.regex_search_core.specs.Groups.{slot_count}
-use Rattle.regex_search_core.specs.Search.{Search}
-use Rattle.regex_search_core.specs.Slots.{offset_at, match_of}
-use Rattle.regex_search_core.specs.declared.search.MatchKind.{MatchKind}
-use Rattle.thompson_nfa.specs.Automaton.{Automaton, AreGroupsOfPatterns, IsAutomaton}
-use Rattle.nfa_paths.specs.Graphs.{Pair}
-use Rattle.nfa_paths.specs.Paths.{is_utf8_empty, path_pattern, slot_among, slot_row, IsAnswer, IsBoolAnswer}
-use Rattle.nfa_paths.specs.Paths.{IsFindAnswer, IsScanAnswer, IsSearchAnswer}
+use Rattle.nfa_paths.specs.Common.{Found, slot_count, Search, offset_at, match_of, MatchKind, Automaton, IsAutomaton, Pair, is_utf8_empty, path_pattern, slot_among, slot_row, IsAnswer, IsBoolAnswer, IsFindAnswer, IsScanAnswer, IsSearchAnswer}
+use Rattle.thompson_nfa.specs.Automaton.{AreGroupsOfPatterns}
 use Rattle.nfa_paths.proofs.AnswerLemmas.{scan_answer-leads}
 use Rattle.nfa_paths.proofs.ExistenceLemmas.{scan_answer-none}
 use Rattle.nfa_paths.proofs.KnownLemmas.{match-unique}

@@ -1,27 +1,14 @@
 -- If the accepting paths of one search are those of another, moved, so is its answer.
-use Rattle.std.proofs.Common.{◌≡◌, ◌∙◌, ℕ, ◌+◌, ◌*◌, ◌==◌, ◌≤◌, ◌<◌, inl, inr, Bool, true, false, List, [], ◌∷◌, map}
-use Rattle.std.proofs.Common.{replicate, zero, suc}
-use Rattle.std.proofs.Common.{length, refl, sym, ap, arith, nat_le, leb, if◌then◌else◌}
-use Rattle.std.specs.Prelude.{Option, None, Some, option_map, option_and_then, slice_get}
+use Rattle.std.proofs.Common.{◌≡◌, ◌∙◌, ℕ, ◌+◌, ◌*◌, ◌==◌, ◌≤◌, ◌<◌, inl, inr, Bool, true, false, List, [], ◌∷◌, map, replicate, zero, suc, length, refl, sym, ap, arith, nat_le, leb, if◌then◌else◌, Option, None, Some, option_map, option_and_then, slice_get}
 use Rattle.std.specs.List.{last_or, range_with_len}
 use Rattle.std.specs.Option.{option_or, option_map_or}
 use Rattle.std.proofs.lemmas.Bool.Decides.{leb_tells}
 use Rattle.std.proofs.lemmas.List.{length-map}
 use Rattle.std.proofs.lemmas.Option.{slice_get-map}
-use Rattle.regex_search_core.specs.Found.{Found}
-use Rattle.regex_search_core.specs.Groups.{slot_count}
-use Rattle.regex_search_core.specs.Search.{Search}
-use Rattle.regex_search_core.specs.Slots.{offset_at, match_of}
-use Rattle.regex_search_core.specs.declared.search.Span.{Span}
-use Rattle.regex_search_core.specs.declared.search.MatchKind.{MatchKind}
+use Rattle.nfa_paths.specs.Common.{Found, slot_count, Search, offset_at, match_of, Span, MatchKind, Automaton, Pair, capture, edges, is_utf8_empty, node_at, path_pattern, pattern_of, slot_among, slot_row, starts, IsAnswer, IsMatch, IsFindAnswer, IsScanAnswer, IsSearchAnswer}
 use Rattle.regex_search_core.specs.declared.search.MatchKind.TheVariants.{All, LeftmostFirst}
-use Rattle.thompson_nfa.specs.Automaton.{Automaton}
-use Rattle.nfa_paths.specs.Graphs.{Pair}
-use Rattle.nfa_paths.specs.Paths.{capture, edges, is_utf8_empty, node_at, path_pattern, pattern_of, slot_among}
-use Rattle.nfa_paths.specs.Paths.{slot_row, starts, IsAnswer, IsMatch, IsFindAnswer, IsScanAnswer, IsSearchAnswer}
 use Rattle.nfa_engines.specs.SpanLaws.{moved_match, moved_slots}
-use Rattle.nfa_engines.proofs.MovedLemmas.{moved, moved_path, ArePathsMoved, first_path-moved, earliest_path-moved}
-use Rattle.nfa_engines.proofs.MovedLemmas.{last_path-moved, earliest_last_path-moved}
+use Rattle.nfa_engines.proofs.MovedLemmas.{moved, moved_path, ArePathsMoved, first_path-moved, earliest_path-moved, last_path-moved, earliest_last_path-moved}
 
 -- the match at slots
 

@@ -1,7 +1,7 @@
 -- A graph whose edges and starts are those of another, moved by a distance, has the same paths, moved. Only the pairs
 -- that are inside count: those that a path may lead through.
 use Rattle.std.proofs.Common.{◌≡◌, ℕ, ◌↔◌, inl, inr, List, [], ◌∷◌, refl, sym, ap, subst, arith}
-use Rattle.nfa_paths.specs.Graphs.{Pair, In, Earlier, HeadIs, NoRepeats, Linked, EndsWith, BeforeAfter, ComesBefore}
+use Rattle.nfa_paths.specs.Common.{Pair, In, Earlier, HeadIs, NoRepeats, Linked, EndsWith, BeforeAfter, ComesBefore}
 use Rattle.nfa_engines.proofs.MovedLemmas.{moved, moved_path, moved-injective, ArePathsMoved}
 
 module _ (k : ℕ) where

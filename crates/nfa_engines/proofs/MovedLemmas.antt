@@ -1,9 +1,6 @@
 -- Two graphs whose paths to wanted pairs are the same, but for a distance, have the same answers of each kind.
-use Rattle.std.proofs.Common.{◌≡◌, ℕ, ◌+◌, ◌≤◌, ◌↔◌, ◌∙◌, inl, inr, List, [], ◌∷◌, map, refl, sym, ap, subst, arith}
-use Rattle.std.specs.Prelude.{Option, None, Some, option_map}
-use Rattle.nfa_paths.specs.Graphs.{Pair, ComesBefore, WantedAt, PathTo, NoPath, IsFirstTo, IsEnd, IsLeastEnd}
-use Rattle.nfa_paths.specs.Graphs.{IsGreatestEnd, IsLastOfFirsts, IsFirstPath, IsEarliestPath, IsLastPath}
-use Rattle.nfa_paths.specs.Graphs.{IsEarliestLastPath}
+use Rattle.std.proofs.Common.{◌≡◌, ℕ, ◌+◌, ◌≤◌, ◌↔◌, ◌∙◌, inl, inr, List, [], ◌∷◌, map, refl, sym, ap, subst, arith, Option, None, Some, option_map}
+use Rattle.nfa_paths.specs.Common.{Pair, ComesBefore, WantedAt, PathTo, NoPath, IsFirstTo, IsEnd, IsLeastEnd, IsGreatestEnd, IsLastOfFirsts, IsFirstPath, IsEarliestPath, IsLastPath, IsEarliestLastPath}
 use Rattle.nfa_paths.proofs.PathToLemmas.{PathTo-along}
 
 -- the pair, this many positions to the right

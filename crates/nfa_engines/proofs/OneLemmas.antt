@@ -1,14 +1,8 @@
 -- What a search finds, and the set that it makes of a set, is one.
-use Rattle.std.proofs.Common.{◌≡◌, ℕ, ◌∙◌, ◌↔◌, ◌⊎◌, ◌≤◌, inl, inr, Bool, false, List, length, sym, ap}
-use Rattle.std.proofs.Common.{arith}
-use Rattle.std.specs.Prelude.{Option, is_some}
+use Rattle.std.proofs.Common.{◌≡◌, ℕ, ◌∙◌, ◌↔◌, ◌⊎◌, ◌≤◌, inl, inr, Bool, false, List, length, sym, ap, arith, Option, is_some}
 use Rattle.std.proofs.lemmas.List.{ext_get_or}
-use Rattle.regex_search_core.specs.Search.{Search}
-use Rattle.regex_search_core.specs.declared.search.MatchKind.{MatchKind}
+use Rattle.nfa_paths.specs.Common.{Search, MatchKind, Automaton, IsAutomaton, HoldsPattern, IsPermitted, IsPatternOf, IsOverlapResult, IsAnswer, IsBoolAnswer}
 use Rattle.regex_search_core.specs.declared.search.MatchKind.TheVariants.{All}
-use Rattle.thompson_nfa.specs.Automaton.{Automaton, IsAutomaton}
-use Rattle.nfa_paths.specs.Overlaps.{HoldsPattern, IsPermitted, IsPatternOf, IsOverlapResult}
-use Rattle.nfa_paths.specs.Paths.{IsAnswer, IsBoolAnswer}
 use Rattle.nfa_paths.proofs.AnswerLemmas.{search_answer-unique}
 use Rattle.nfa_paths.proofs.PatternLemmas.{node-pattern, found-of}
 use Rattle.nfa_paths.proofs.TestLemmas.{same_test}

@@ -1,25 +1,15 @@
 -- The answer of a search that tries patterns in order is that of the first pattern that has one.
-use Rattle.std.proofs.Common.{◌≡◌, ◌∙◌, ℕ, zero, suc, ◌==◌, ◌<◌, ◌⊎◌, ◌↔◌, inl, inr, false, List, [], ◌∷◌}
-use Rattle.std.proofs.Common.{length}
-use Rattle.std.proofs.Common.{map, refl, sym, ap, subst, arith, slice_get, if◌then◌else◌}
-use Rattle.std.specs.Prelude.{Option, None, Some, option_and_then}
+use Rattle.std.proofs.Common.{◌≡◌, ◌∙◌, ℕ, zero, suc, ◌==◌, ◌<◌, ◌⊎◌, ◌↔◌, inl, inr, false, List, [], ◌∷◌, length, map, refl, sym, ap, subst, arith, slice_get, if◌then◌else◌, Option, None, Some, option_and_then}
 use Rattle.std.specs.List.{range_with_len}
 use Rattle.std.specs.Option.{option_or, option_map_or}
 use Rattle.std.proofs.lemmas.Bool.{cases_eq}
-use Rattle.regex_search_core.specs.Search.{Search}
+use Rattle.nfa_paths.specs.Common.{Search, Automaton, Pair, Earlier, HeadIs, ComesBefore, PathTo, IsFirstTo, edges, is_utf8_empty, node_at, path_pattern, slot_among, slot_row, starts, IsAnswer, IsMatch, IsScanAnswer, IsSearchAnswer}
 use Rattle.regex_search_core.specs.declared.search.Anchored.TheVariants.{Yes}
 use Rattle.regex_search_core.specs.declared.search.MatchKind.TheVariants.{LeftmostFirst}
-use Rattle.thompson_nfa.specs.Automaton.{Automaton}
-use Rattle.nfa_paths.specs.Graphs.{Pair, Earlier, HeadIs, ComesBefore, PathTo, IsFirstTo}
-use Rattle.nfa_paths.specs.Paths.{edges, is_utf8_empty, node_at, path_pattern, slot_among, slot_row, starts}
-use Rattle.nfa_paths.specs.Paths.{IsAnswer, IsMatch, IsScanAnswer, IsSearchAnswer}
 use Rattle.nfa_engines.specs.Accepting.{MatchesNothing}
-use Rattle.nfa_engines.specs.PatternLaws.{started_at, IsFirstPattern, IsOfPattern, IsUnionOfPatterns}
-use Rattle.nfa_engines.specs.PatternLaws.{TriesPatternsInOrder}
+use Rattle.nfa_engines.specs.PatternLaws.{started_at, IsFirstPattern, IsOfPattern, IsUnionOfPatterns, TriesPatternsInOrder}
 use Rattle.nfa_engines.proofs.AloneLemmas.{edges-alone, pattern-alone, row-alone}
-use Rattle.nfa_engines.proofs.FirstPatternLemmas.{comes, earlier, goes, head-of, not-earlier}
-use Rattle.nfa_engines.proofs.FirstPatternLemmas.{order-apart, order-back, order-same, top, top-edges}
-use Rattle.nfa_engines.proofs.FirstPatternLemmas.{top-writes, GoesOn}
+use Rattle.nfa_engines.proofs.FirstPatternLemmas.{comes, earlier, goes, head-of, not-earlier, order-apart, order-back, order-same, top, top-edges, top-writes, GoesOn}
 use Rattle.nfa_paths.proofs.OptionLemmas.{same_some, option_or-None}
 use Rattle.nfa_paths.proofs.PathLemmas.{Earlier-irreflexive}
 

@@ -1,24 +1,13 @@
 -- The match of a search that tries patterns in order is that of the first pattern that has one.
-use Rattle.std.proofs.Common.{◌≡◌, ◌∙◌, ℕ, ◌↔◌, inl, inr, Bool, false, List, length}
-use Rattle.std.proofs.Common.{refl, sym, ap, subst, arith}
-use Rattle.std.specs.Prelude.{Option, None, Some, option_map, option_and_then}
+use Rattle.std.proofs.Common.{◌≡◌, ◌∙◌, ℕ, ◌↔◌, inl, inr, Bool, false, List, length, refl, sym, ap, subst, arith, Option, None, Some, option_map, option_and_then}
 use Rattle.std.proofs.lemmas.Bool.{cases_eq, cases_lt}
-use Rattle.regex_search_core.specs.Found.{Found}
-use Rattle.regex_search_core.specs.Groups.{slot_count}
-use Rattle.regex_search_core.specs.Search.{Search}
-use Rattle.regex_search_core.specs.Slots.{match_of}
+use Rattle.nfa_paths.specs.Common.{Found, slot_count, Search, match_of, MatchKind, Automaton, IsAutomaton, Pair, is_utf8_empty, path_pattern, slot_row, IsAnswer, IsFindAnswer, IsScanAnswer, IsSearchAnswer}
 use Rattle.regex_search_core.specs.declared.search.Anchored.TheVariants.{Yes}
-use Rattle.regex_search_core.specs.declared.search.MatchKind.{MatchKind}
 use Rattle.regex_search_core.specs.declared.search.MatchKind.TheVariants.{LeftmostFirst}
-use Rattle.thompson_nfa.specs.Automaton.{Automaton, IsAutomaton}
-use Rattle.nfa_paths.specs.Graphs.{Pair}
-use Rattle.nfa_paths.specs.Paths.{is_utf8_empty, path_pattern, slot_row}
-use Rattle.nfa_paths.specs.Paths.{IsAnswer, IsFindAnswer, IsScanAnswer, IsSearchAnswer}
 use Rattle.nfa_paths.proofs.AnswerLemmas.{scan_answer-leads, never_none}
 use Rattle.nfa_engines.specs.Accepting.{MatchesNothing, MatchesPattern, MatchesSomething}
 use Rattle.nfa_engines.specs.GapLaws.{PathsWriteTheirEnds}
-use Rattle.nfa_engines.specs.PatternLaws.{started_at, IsFirstPattern, IsFirstThatMatches, IsMatchOfPattern}
-use Rattle.nfa_engines.specs.PatternLaws.{StartsMatchTheirPatterns, TriesPatternsInOrder}
+use Rattle.nfa_engines.specs.PatternLaws.{started_at, IsFirstPattern, IsFirstThatMatches, IsMatchOfPattern, StartsMatchTheirPatterns, TriesPatternsInOrder}
 use Rattle.nfa_engines.proofs.GapLemmas.{path-match}
 use Rattle.nfa_engines.proofs.MatchLemmas.{no_pattern-nothing, pattern-matched}
 use Rattle.nfa_engines.proofs.PatternAnswerLemmas.{answers-pattern, pattern-answers, pattern-nothing}

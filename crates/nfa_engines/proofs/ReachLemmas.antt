@@ -1,15 +1,6 @@
 -- A search that restarts finds its match after the starts that it passed, and restarts only where a start is left.
-use Rattle.std.proofs.Common.{◌≡◌, ℕ, zero, suc, ◌+◌, ◌-◌, ◌<◌, ◌≤◌, Bool, true, false, MatchBool, List}
-use Rattle.std.proofs.Common.{arith}
-use Rattle.std.specs.Prelude.{Option, None, Some, ◌&&◌, not}
-use Rattle.regex_search_core.specs.Found.{Found}
-use Rattle.regex_search_core.specs.Search.{Search, is_anchored}
-use Rattle.regex_search_core.specs.declared.search.MatchKind.{MatchKind}
-use Rattle.regex_search_core.specs.declared.search.Span.{Span}
-use Rattle.thompson_nfa.specs.Automaton.{Automaton}
-use Rattle.nfa_paths.specs.Graphs.{Pair}
-use Rattle.nfa_paths.specs.Paths.{IsKeptAnswer, IsFindAnswer, IsRestartedAnswer, IsScanAnswer}
-use Rattle.nfa_paths.specs.Paths.{IsSearchAnswer, SplitsCharacter, is_utf8_empty, raised, max_scans}
+use Rattle.std.proofs.Common.{◌≡◌, ℕ, zero, suc, ◌+◌, ◌-◌, ◌<◌, ◌≤◌, Bool, true, false, MatchBool, List, arith, Option, None, Some, ◌&&◌, not}
+use Rattle.nfa_paths.specs.Common.{Found, Search, is_anchored, MatchKind, Span, Automaton, Pair, IsKeptAnswer, IsFindAnswer, IsRestartedAnswer, IsScanAnswer, IsSearchAnswer, SplitsCharacter, is_utf8_empty, raised, max_scans}
 use Rattle.nfa_paths.proofs.AnswerLemmas.{scan_answer-within, search_answer-unique}
 use Rattle.nfa_paths.proofs.InsideLemmas.{match-within}
 use Rattle.nfa_search_base.specs.IterStates.{span_of}

@@ -1,24 +1,13 @@
 -- An NFA reads only the bytes of the span and whether its assertions hold there, and not the place of the span.
-use Rattle.std.proofs.Common.{◌≡◌, ◌∙◌, ℕ, zero, suc, ◌+◌, ◌-◌, ◌==◌, ◌||◌, ◌≤◌, ◌<◌, inl, inr, Bool, true, false, List}
-use Rattle.std.proofs.Common.{[], ◌∷◌, length}
-use Rattle.std.proofs.Common.{map, take, drop, get_or, refl, sym, ap, subst, arith, le-ltb, lt-ltb, if◌then◌else◌}
-use Rattle.std.specs.Prelude.{All, Option, None, Some, option_map, option_and_then, option_to_list, slice_get}
+use Rattle.std.proofs.Common.{◌≡◌, ◌∙◌, ℕ, zero, suc, ◌+◌, ◌-◌, ◌==◌, ◌||◌, ◌≤◌, ◌<◌, inl, inr, Bool, true, false, List, [], ◌∷◌, length, map, take, drop, get_or, refl, sym, ap, subst, arith, le-ltb, lt-ltb, if◌then◌else◌, All, Option, None, Some, option_map, option_and_then, option_to_list, slice_get}
 use Rattle.std.specs.Option.{option_map_or}
 use Rattle.std.proofs.lemmas.Bool.{cases_lt}
 use Rattle.std.proofs.lemmas.List.{get_or_past}
-use Rattle.regex_search_core.specs.Found.{Found}
-use Rattle.regex_search_core.specs.Search.{Search, is_anchored}
-use Rattle.regex_search_core.specs.declared.search.MatchKind.{MatchKind}
-use Rattle.thompson_nfa.specs.Automaton.{Automaton, Node}
+use Rattle.nfa_paths.specs.Common.{Found, Search, is_anchored, MatchKind, Automaton, Node, look_holds, Pair, In, byte_at, edges, edges_of, is_utf8_empty, node_at, pairs_from, start_count, start_state, starts, target_on, IsAnswer, IsMatch, IsFindAnswer}
 use Rattle.thompson_nfa.specs.Automaton.Node.{Look, Union, BinaryUnion, Capture, Fail}
-use Rattle.thompson_nfa.specs.Looks.{look_holds}
 use Rattle.thompson_nfa.specs.declared.look.Look as looks
-use Rattle.nfa_paths.specs.Graphs.{Pair, In}
-use Rattle.nfa_paths.specs.Paths.{byte_at, edges, edges_of, is_utf8_empty, node_at, pairs_from, start_count}
-use Rattle.nfa_paths.specs.Paths.{start_state, starts, target_on, IsAnswer, IsMatch, IsFindAnswer}
 use Rattle.nfa_paths.proofs.ScanAnswerLemmas.{edges-onward, edges-within, starts-from, starts-within}
-use Rattle.nfa_engines.specs.SpanLaws.{cut_out, moved_match, moved_slots, AreBytesMoved, HasNoLook, HoldAlike}
-use Rattle.nfa_engines.specs.SpanLaws.{HoldsAlike, IfLook, IsSameSpan, IsSpanMoved, LookHoldsAlike}
+use Rattle.nfa_engines.specs.SpanLaws.{cut_out, moved_match, moved_slots, AreBytesMoved, HasNoLook, HoldAlike, HoldsAlike, IfLook, IsSameSpan, IsSpanMoved, LookHoldsAlike}
 use Rattle.nfa_engines.proofs.MovedLemmas.{moved_path, ArePathsMoved}
 use Rattle.nfa_engines.proofs.MovedAnswerLemmas.{answer-moved, match_answer-moved, moved_match-none, moved_slots-none}
 use Rattle.nfa_engines.proofs.MovedGraphLemmas.{paths-moved}

@@ -1,25 +1,14 @@
 -- The answer of an unanchored search is that of the anchored search at the first start that has one.
-use Rattle.std.proofs.Common.{◌≡◌, ℕ, ◌+◌, ◌≤◌, ◌⊎◌, ◌↔◌, inl, inr, Bool, false, List, length}
-use Rattle.std.proofs.Common.{refl, sym, ap, subst, arith}
-use Rattle.std.specs.Prelude.{Option, None, Some, option_and_then}
+use Rattle.std.proofs.Common.{◌≡◌, ℕ, ◌+◌, ◌≤◌, ◌⊎◌, ◌↔◌, inl, inr, Bool, false, List, length, refl, sym, ap, subst, arith, Option, None, Some, option_and_then}
 use Rattle.std.proofs.lemmas.Bool.{cases_lt}
-use Rattle.regex_search_core.specs.Found.{Found}
-use Rattle.regex_search_core.specs.Groups.{slot_count}
-use Rattle.regex_search_core.specs.Search.{Search}
-use Rattle.regex_search_core.specs.Slots.{match_of}
+use Rattle.nfa_paths.specs.Common.{Found, slot_count, Search, match_of, MatchKind, Automaton, Pair, ComesBefore, PathTo, IsFirstTo, edges, path_pattern, slot_row, starts, IsAnswer, IsMatch, IsFindAnswer, IsScanAnswer, IsSearchAnswer}
 use Rattle.regex_search_core.specs.declared.search.Anchored.TheVariants.{Yes}
-use Rattle.regex_search_core.specs.declared.search.MatchKind.{MatchKind}
 use Rattle.regex_search_core.specs.declared.search.MatchKind.TheVariants.{LeftmostFirst}
-use Rattle.thompson_nfa.specs.Automaton.{Automaton}
-use Rattle.nfa_paths.specs.Graphs.{Pair, ComesBefore, PathTo, IsFirstTo}
-use Rattle.nfa_paths.specs.Paths.{edges, path_pattern, slot_row, starts, IsAnswer, IsMatch}
-use Rattle.nfa_paths.specs.Paths.{IsFindAnswer, IsScanAnswer, IsSearchAnswer}
 use Rattle.nfa_engines.specs.Accepting.{MatchesNothing}
 use Rattle.nfa_engines.specs.StartLaws.{anchored_at, from_start, IsAnswerStart, IsFirstStart, IsUnbound}
 use Rattle.nfa_engines.proofs.MovedLemmas.{moved, moved_path, moved_path-none, ArePathsMoved}
 use Rattle.nfa_engines.proofs.MovedAnswerLemmas.{answer-moved, match_answer-moved, moved_match-none, moved_slots-none}
-use Rattle.nfa_engines.proofs.FirstStartLemmas.{anchored-start, heads-less, heads-order, same_edges, start-anchored}
-use Rattle.nfa_engines.proofs.FirstStartLemmas.{start-unbound, unbound-start, with-starts}
+use Rattle.nfa_engines.proofs.FirstStartLemmas.{anchored-start, heads-less, heads-order, same_edges, start-anchored, start-unbound, unbound-start, with-starts}
 
 moved-none : (v : Pair) → moved 0 v ≡ v
 moved-none v = let at : v.1 + 0 ≡ v.1 = omega arith in λ i. (v.0, at i)

@@ -1,18 +1,12 @@
 -- What a whole iteration adds to the totals of what answers its searches.
-use Rattle.std.proofs.Common.{◌≡◌, ℕ, ◌+◌, ◌*◌, ◌<◌, ◌≤◌, Bool, true, false, List, [], ◌∷◌, length}
-use Rattle.std.proofs.Common.{Option, None, Some, Ok, Err, refl, sym, ap, subst, inl, inr, arith}
-use Rattle.std.specs.Prelude.{cond, ◌==◌}
+use Rattle.std.proofs.Common.{◌≡◌, ℕ, ◌+◌, ◌*◌, ◌<◌, ◌≤◌, Bool, true, false, List, [], ◌∷◌, length, Option, None, Some, Ok, Err, refl, sym, ap, subst, inl, inr, arith, cond, ◌==◌}
 use Rattle.std.proofs.Math.Nat.{mul-le-mul_right}
 use Rattle.std.proofs.lemmas.Bool.{and_parts, eqb-true}
-use Rattle.regex_search_core.specs.Search.{Search}
-use Rattle.regex_search_core.specs.declared.search.Span.{Span}
-use Rattle.thompson_nfa.specs.Automaton.{Automaton}
-use Rattle.nfa_paths.specs.Paths.{span_len, total_degree}
+use Rattle.nfa_paths.specs.Common.{Search, Span, Automaton, span_len, total_degree}
 use Rattle.nfa_search_base.specs.LastEnd.{EndsBy}
 use Rattle.nfa_search_base.specs.Leaving.{StepsLead, answers_to_end}
 use Rattle.nfa_search_base.specs.SameBut.{SameButStart}
-use Rattle.nfa_search_base.specs.IterStates.{Advances, Answer, AnswerIsInside, IterState, after, ends_left, fresh}
-use Rattle.nfa_search_base.specs.IterStates.{answer_span, repeats, shifted}
+use Rattle.nfa_search_base.specs.IterStates.{Advances, Answer, AnswerIsInside, IterState, after, ends_left, fresh, answer_span, repeats, shifted}
 use Rattle.nfa_search_base.proofs.AskingLemmas.{same_start-self, same_start-then}
 use Rattle.nfa_search_base.proofs.StepLemmas.{Advances-fewer, chosen, same_start-after, same_start-shifted}
 use Rattle.nfa_search_base.proofs.IterStateLemmas.{IsOrdered}

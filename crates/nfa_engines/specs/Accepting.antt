@@ -1,9 +1,6 @@
 -- Whether a search has an accepting path. These are records, so that a conclusion shows the NFA and the search.
 use Rattle.std.specs.Prelude.{◌≡◌, ℕ, List, Some}
-use Rattle.regex_search_core.specs.Search.{Search}
-use Rattle.thompson_nfa.specs.Automaton.{Automaton}
-use Rattle.nfa_paths.specs.Graphs.{Pair, PathTo, NoPath}
-use Rattle.nfa_paths.specs.Paths.{edges, starts, path_pattern, IsMatch}
+use Rattle.nfa_paths.specs.Common.{Search, Automaton, Pair, PathTo, NoPath, edges, starts, path_pattern, IsMatch}
 
 -- the search has no accepting path
 pub record MatchesNothing (nfa : Automaton) (x : Search) : Type 0 where

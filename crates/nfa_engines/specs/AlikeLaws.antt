@@ -1,12 +1,8 @@
 -- Laws of assertions that hold alike in two spans, since they read no more than the byte on each side of a position.
-use Rattle.std.specs.Prelude.{◌≡◌, ℕ, ◌-◌, ◌≤◌, ◌⊎◌, All, List, length, Option, None, Some, if◌then◌else◌, nat_lt}
-use Rattle.std.specs.Prelude.{slice_get, ⊤}
-use Rattle.regex_search_core.specs.Search.{Search}
-use Rattle.thompson_nfa.specs.Automaton.{Automaton}
+use Rattle.std.specs.Prelude.{◌≡◌, ℕ, ◌-◌, ◌≤◌, ◌⊎◌, All, List, length, Option, None, Some, if◌then◌else◌, nat_lt, slice_get, ⊤}
+use Rattle.nfa_paths.specs.Common.{Search, Automaton}
 use Rattle.thompson_nfa.specs.declared.look.Look as looks
-use Rattle.thompson_nfa.specs.declared.look.Look.TheVariants.{StartLF, EndLF, WordUnicode, WordUnicodeNegate}
-use Rattle.thompson_nfa.specs.declared.look.Look.TheVariants.{WordStartUnicode, WordEndUnicode, WordStartHalfUnicode}
-use Rattle.thompson_nfa.specs.declared.look.Look.TheVariants.{WordEndHalfUnicode}
+use Rattle.thompson_nfa.specs.declared.look.Look.TheVariants.{StartLF, EndLF, WordUnicode, WordUnicodeNegate, WordStartUnicode, WordEndUnicode, WordStartHalfUnicode, WordEndHalfUnicode}
 use Rattle.nfa_engines.specs.SpanLaws.{cut_out, AreBytesMoved, HoldAlike, IfLook, IsSpanMoved}
 
 -- the byte just before the position, if there is one

@@ -1,12 +1,6 @@
 -- Laws of what one answer says: of the match that its slots give, and of whether there is an accepting path.
 use Rattle.std.specs.Prelude.{◌≡◌, ℕ, ◌*◌, ◌≤◌, Bool, false, true, List, Option, None, Some, length}
-use Rattle.regex_search_core.specs.Found.{Found}
-use Rattle.regex_search_core.specs.Groups.{slot_count}
-use Rattle.regex_search_core.specs.Search.{Search}
-use Rattle.regex_search_core.specs.Slots.{match_of}
-use Rattle.regex_search_core.specs.declared.search.MatchKind.{MatchKind}
-use Rattle.thompson_nfa.specs.Automaton.{Automaton, IsAutomaton}
-use Rattle.nfa_paths.specs.Paths.{is_utf8_empty, IsAnswer, IsBoolAnswer, IsFindAnswer}
+use Rattle.nfa_paths.specs.Common.{Found, slot_count, Search, match_of, MatchKind, Automaton, IsAutomaton, is_utf8_empty, IsAnswer, IsBoolAnswer, IsFindAnswer}
 use Rattle.nfa_engines.specs.Accepting.{MatchesNothing, MatchesPattern, MatchesSomething}
 
 -- the match that the pattern and slots of an answer give is that of the search, if all slots of the NFA were given

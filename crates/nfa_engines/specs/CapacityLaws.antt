@@ -1,9 +1,7 @@
 -- Laws of the lengths that a backtracker refuses, about the definitions only.
 use Rattle.std.specs.Prelude.{ℕ, ◌+◌, ◌*◌, ◌^◌, ◌<◌, ◌≤◌, length, unwrap_or}
-use Rattle.regex_search_core.specs.Search.{Search}
-use Rattle.nfa_paths.specs.Paths.{span_len}
-use Rattle.nfa_backtrack.specs.Backtrack.{Backtracker, IsTooLong, capacity_of, default_capacity, max_haystack_len_of}
-use Rattle.nfa_backtrack.specs.Backtrack.{min_capacity_of}
+use Rattle.nfa_paths.specs.Common.{Search, span_len}
+use Rattle.nfa_backtrack.specs.Backtrack.{Backtracker, IsTooLong, capacity_of, default_capacity, max_haystack_len_of, min_capacity_of}
 
 -- A search with the least capacity of its input, less `less` bytes, is not refused for its length. The pairs of the
 -- search have to fit a `usize`; otherwise its input has no least capacity.

@@ -1,11 +1,7 @@
 -- Laws of the list of the captures of a search, about the definitions only.
 use Rattle.std.specs.Prelude.{◌≡◌, Bool, false, List, map, Ok, Result}
-use Rattle.regex_search_core.specs.Found.{Found}
-use Rattle.regex_search_core.specs.Search.{Search}
-use Rattle.regex_search_core.specs.Slots.{Captured}
-use Rattle.regex_search_core.specs.declared.search.MatchKind.{MatchKind}
+use Rattle.nfa_paths.specs.Common.{Found, Search, Captured, MatchKind, Automaton}
 use Rattle.regex_search_core.specs.declared.search.MatchKind.TheVariants.{LeftmostFirst}
-use Rattle.thompson_nfa.specs.Automaton.{Automaton}
 use Rattle.nfa_search_base.specs.WithCaptures.{Row, UpToRefusal, row_found, row_of}
 use Rattle.nfa_search_base.specs.CapturesLists.{AreAllCaptures, AreFirstRows, AreRows, AnswersRow}
 use Rattle.nfa_search_base.specs.Items.{item_by}

@@ -1,14 +1,8 @@
 -- Laws of the `earliest` flag of an input. A statement with an `earliest` of its own does not read the flag: it holds
 -- for a search exactly if it holds for the same search with this flag.
 use Rattle.std.specs.Prelude.{◌≡◌, ◌↔◌, ℕ, Bool, false, List, Option, is_some, length}
-use Rattle.regex_search_core.specs.Found.{Found}
-use Rattle.regex_search_core.specs.Search.{Search}
-use Rattle.regex_search_core.specs.declared.search.MatchKind.{MatchKind}
+use Rattle.nfa_paths.specs.Common.{Found, Search, MatchKind, Automaton, Pair, IsOverlapResult, IsSearchAnswer, IsAnswer, IsBoolAnswer, IsFindAnswer}
 use Rattle.regex_search_core.specs.declared.search.MatchKind.TheVariants.{LeftmostFirst}
-use Rattle.thompson_nfa.specs.Automaton.{Automaton}
-use Rattle.nfa_paths.specs.Graphs.{Pair}
-use Rattle.nfa_paths.specs.Overlaps.{IsOverlapResult}
-use Rattle.nfa_paths.specs.Paths.{IsSearchAnswer, IsAnswer, IsBoolAnswer, IsFindAnswer}
 use Rattle.nfa_search_base.specs.WithCaptures.{Row}
 use Rattle.nfa_search_base.specs.CapturesLists.{AreRows}
 use Rattle.nfa_search_base.specs.Lists.{AreMatches}

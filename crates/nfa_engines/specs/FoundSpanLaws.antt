@@ -1,12 +1,7 @@
 -- Laws of the span that a leftmost first answer has, about the definitions only.
 use Rattle.std.specs.Prelude.{◌≡◌, ℕ, ◌≤◌, Bool, List, Option, Some}
-use Rattle.regex_search_core.specs.Search.{Search}
-use Rattle.regex_search_core.specs.declared.search.Anchored.{Anchored}
+use Rattle.nfa_paths.specs.Common.{Search, Anchored, MatchKind, Automaton, Pair, EndsWith, HeadIs, PathTo, edges, starts, IsAnswer, IsMatch, IsScanAnswer, IsSearchAnswer}
 use Rattle.regex_search_core.specs.declared.search.Anchored.TheVariants.{No, Yes}
-use Rattle.regex_search_core.specs.declared.search.MatchKind.{MatchKind}
-use Rattle.thompson_nfa.specs.Automaton.{Automaton}
-use Rattle.nfa_paths.specs.Graphs.{Pair, EndsWith, HeadIs, PathTo}
-use Rattle.nfa_paths.specs.Paths.{edges, starts, IsAnswer, IsMatch, IsScanAnswer, IsSearchAnswer}
 
 -- an accepting path starts at s and ends at e, and none that ends at e starts before s
 pub record IsLeastStart (nfa : Automaton) (x : Search) (s e : ℕ) : Type 0 where

@@ -1,11 +1,6 @@
 -- The law that no match is missed, about the definitions only.
 use Rattle.std.specs.Prelude.{◌≡◌, ◌↔◌, ℕ, ◌+◌, ◌*◌, ◌≤◌, Bool, false, List, Option, None, Some, IfSome}
-use Rattle.regex_search_core.specs.Found.{Found}
-use Rattle.regex_search_core.specs.Search.{Search}
-use Rattle.regex_search_core.specs.declared.search.MatchKind.{MatchKind}
-use Rattle.thompson_nfa.specs.Automaton.{Automaton, IsAutomaton}
-use Rattle.nfa_paths.specs.Graphs.{Pair, HeadIs, PathTo, NoPath}
-use Rattle.nfa_paths.specs.Paths.{edges, starts, is_utf8_empty, IsMatch, IsFindAnswer, path_pattern, slot_among}
+use Rattle.nfa_paths.specs.Common.{Found, Search, MatchKind, Automaton, IsAutomaton, Pair, HeadIs, PathTo, NoPath, edges, starts, is_utf8_empty, IsMatch, IsFindAnswer, path_pattern, slot_among}
 
 -- the path writes its start and its end into the two slots of its pattern
 pub record WritesItsEnds (nfa : Automaton) (end : Pair) (p : List Pair) : Type 0 where

@@ -1,10 +1,6 @@
 -- The pattern and the end of an answer, which `find_half` returns.
 use Rattle.std.specs.Prelude.{◌≡◌, ℕ, Bool, List, Option, option_map}
-use Rattle.regex_search_core.specs.Found.{HalfFound}
-use Rattle.regex_search_core.specs.Search.{Search}
-use Rattle.regex_search_core.specs.declared.search.MatchKind.{MatchKind}
-use Rattle.thompson_nfa.specs.Automaton.{Automaton}
-use Rattle.nfa_paths.specs.Paths.{IsAnswer, IsHalfAnswer}
+use Rattle.nfa_paths.specs.Common.{HalfFound, Search, MatchKind, Automaton, IsAnswer, IsHalfAnswer}
 
 -- two half matches of one search are equal
 abbrev pub OneHalfMatch : Type 0

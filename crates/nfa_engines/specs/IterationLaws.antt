@@ -1,9 +1,7 @@
 -- Laws of iterations over matches, about the definitions only.
 use Rattle.std.specs.Prelude.{◌≡◌, ◌⊎◌, ℕ, ◌+◌, ◌<◌, ◌≤◌, List, [], ◌∷◌, length, Option, None, Some, ⊤}
 use Rattle.std.specs.Option.{ForSome}
-use Rattle.regex_search_core.specs.Search.{Search}
-use Rattle.regex_search_core.specs.declared.search.Span.{Span}
-use Rattle.nfa_paths.specs.Paths.{span_len}
+use Rattle.nfa_paths.specs.Common.{Search, Span, span_len}
 use Rattle.nfa_search_base.specs.IterStates.{IterState, fresh, after, shifted, ComesAfter, LeavesFewer}
 
 -- What each call that gets the next match from a `Searcher` ensures of its state before the call, of the span of its

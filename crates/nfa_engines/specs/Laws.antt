@@ -1,15 +1,7 @@
 -- Laws of scans, of searches and of their answers, about the definitions only.
-use Rattle.std.specs.Prelude.{◌≡◌, ℕ, ◌⊎◌, ◌-◌, ◌≤◌, Bool, false, List, Option, None, is_some, length, take, drop}
-use Rattle.std.specs.Prelude.{replicate}
-use Rattle.regex_search_core.specs.Groups.{slot_count}
-use Rattle.regex_search_core.specs.Search.{Search}
-use Rattle.regex_search_core.specs.declared.search.MatchKind.{MatchKind}
-use Rattle.thompson_nfa.specs.Automaton.{Automaton, IsAutomaton}
-use Rattle.nfa_paths.specs.Graphs.{Pair, PathTo, ComesBefore}
-use Rattle.regex_search_core.specs.Found.{Found}
+use Rattle.std.specs.Prelude.{◌≡◌, ℕ, ◌⊎◌, ◌-◌, ◌≤◌, Bool, false, List, Option, None, is_some, length, take, drop, replicate}
+use Rattle.nfa_paths.specs.Common.{slot_count, Search, MatchKind, Automaton, IsAutomaton, Pair, PathTo, ComesBefore, Found, edges, starts, IsMatch, is_utf8_empty, IsScanAnswer, IsSearchAnswer, IsAnswer, IsBoolAnswer, IsFindAnswer}
 use Rattle.regex_search_core.specs.declared.search.MatchKind.TheVariants.{LeftmostFirst}
-use Rattle.nfa_paths.specs.Paths.{edges, starts, IsMatch, is_utf8_empty, IsScanAnswer, IsSearchAnswer, IsAnswer}
-use Rattle.nfa_paths.specs.Paths.{IsBoolAnswer, IsFindAnswer}
 
 -- two answers of one scan are equal
 abbrev pub OneScanAnswer : Type 0

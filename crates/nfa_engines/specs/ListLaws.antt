@@ -1,11 +1,7 @@
 -- Laws of the list of the matches of a search, about the definitions only.
 use Rattle.std.specs.Prelude.{◌≡◌, ℕ, ◌+◌, ◌≤◌, Bool, false, List, length, None}
-use Rattle.regex_search_core.specs.Found.{Found}
-use Rattle.regex_search_core.specs.Search.{Search}
-use Rattle.regex_search_core.specs.declared.search.MatchKind.{MatchKind}
+use Rattle.nfa_paths.specs.Common.{Found, Search, MatchKind, Automaton, span_len}
 use Rattle.regex_search_core.specs.declared.search.MatchKind.TheVariants.{LeftmostFirst}
-use Rattle.thompson_nfa.specs.Automaton.{Automaton}
-use Rattle.nfa_paths.specs.Paths.{span_len}
 use Rattle.nfa_search_base.specs.Lists.{AreDisjoint, AreFirstMatches, AreMatches}
 
 -- two lists of the matches of a search are equal

@@ -1,6 +1,6 @@
 -- Laws of loops of searches: a loop keeps what each of its searches keeps.
 use Rattle.std.specs.Prelude.{ℕ, ◌+◌, ◌<◌}
-use Rattle.thompson_nfa.specs.Automaton.{Automaton}
+use Rattle.nfa_paths.specs.Common.{Automaton}
 use Rattle.nfa_backtrack.specs.Backtrack.{HoldsNoMore}
 use Rattle.nfa_pikevm.specs.Engines.{Fits, PikeCache, SameCapacities}
 

@@ -1,16 +1,8 @@
 -- Laws of an NFA whose anchored start tries the starts of its patterns in their order, about the definitions only.
-use Rattle.std.specs.Prelude.{◌≡◌, ◌↔◌, ◌⊎◌, ℕ, ◌<◌, Bool, false, List, [], ◌∷◌, Option, None, Some, option_map}
-use Rattle.std.specs.Prelude.{slice_get}
-use Rattle.regex_search_core.specs.Found.{Found}
-use Rattle.regex_search_core.specs.Patterns.{number_of}
-use Rattle.regex_search_core.specs.Search.{Search}
-use Rattle.regex_search_core.specs.declared.primitives.PatternID.{PatternID}
+use Rattle.std.specs.Prelude.{◌≡◌, ◌↔◌, ◌⊎◌, ℕ, ◌<◌, Bool, false, List, [], ◌∷◌, Option, None, Some, option_map, slice_get}
+use Rattle.nfa_paths.specs.Common.{Found, number_of, Search, PatternID, MatchKind, Automaton, IsAutomaton, Node, Pair, PathTo, edges, is_utf8_empty, node_at, starts, IsAnswer, IsFindAnswer}
 use Rattle.regex_search_core.specs.declared.search.Anchored.TheVariants.{Yes, Pattern}
-use Rattle.regex_search_core.specs.declared.search.MatchKind.{MatchKind}
-use Rattle.thompson_nfa.specs.Automaton.{Automaton, IsAutomaton, Node}
 use Rattle.thompson_nfa.specs.Automaton.Node.{Union, BinaryUnion}
-use Rattle.nfa_paths.specs.Graphs.{Pair, PathTo}
-use Rattle.nfa_paths.specs.Paths.{edges, is_utf8_empty, node_at, starts, IsAnswer, IsFindAnswer}
 use Rattle.nfa_engines.specs.Accepting.{MatchesNothing, MatchesPattern, MatchesSomething}
 use Rattle.nfa_engines.specs.GapLaws.{PathsWriteTheirEnds}
 

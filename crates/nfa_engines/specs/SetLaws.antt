@@ -1,14 +1,8 @@
 -- Laws of the sets of patterns that overlapping searches fill, about the definitions only.
 use Rattle.std.specs.Prelude.{◌≡◌, ◌↔◌, ◌⊎◌, ℕ, ◌<◌, ◌≤◌, Bool, false, true, List, length, Option, Some}
 use Rattle.regex_search_core.specs.PatternSets.{size_of_set}
-use Rattle.regex_search_core.specs.Search.{Search}
-use Rattle.regex_search_core.specs.declared.search.MatchKind.{MatchKind}
+use Rattle.nfa_paths.specs.Common.{Search, MatchKind, Automaton, IsAutomaton, Pair, IsFirstPath, IsEarliestPath, HoldsPattern, IsEarliestInsertable, IsFirstBefore, IsFirstInsertable, IsPermitted, IsPatternOf, IsOverlapResult, edges, starts, path_pattern}
 use Rattle.regex_search_core.specs.declared.search.MatchKind.TheVariants.{All, LeftmostFirst}
-use Rattle.thompson_nfa.specs.Automaton.{Automaton, IsAutomaton}
-use Rattle.nfa_paths.specs.Graphs.{Pair, IsFirstPath, IsEarliestPath}
-use Rattle.nfa_paths.specs.Overlaps.{HoldsPattern, IsEarliestInsertable, IsFirstBefore, IsFirstInsertable, IsPermitted}
-use Rattle.nfa_paths.specs.Overlaps.{IsPatternOf, IsOverlapResult}
-use Rattle.nfa_paths.specs.Paths.{edges, starts, path_pattern}
 
 -- a search of the kind makes one set from a set
 abbrev pub OneSet : MatchKind → Type 0

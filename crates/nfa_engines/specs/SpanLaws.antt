@@ -1,15 +1,9 @@
 -- Laws of what an answer depends on: the bytes of the span and the assertions that hold there, and not the place of the
 -- span.
-use Rattle.std.specs.Prelude.{◌≡◌, ℕ, ◌+◌, ◌-◌, ◌<◌, ◌≤◌, Bool, false, List, map, All, take, drop}
-use Rattle.std.specs.Prelude.{Option, option_map, slice_get, ⊤}
-use Rattle.regex_search_core.specs.Found.{Found}
-use Rattle.regex_search_core.specs.Search.{Search}
-use Rattle.regex_search_core.specs.declared.search.MatchKind.{MatchKind}
-use Rattle.thompson_nfa.specs.Automaton.{Automaton, Node}
+use Rattle.std.specs.Prelude.{◌≡◌, ℕ, ◌+◌, ◌-◌, ◌<◌, ◌≤◌, Bool, false, List, map, All, take, drop, Option, option_map, slice_get, ⊤}
+use Rattle.nfa_paths.specs.Common.{Found, Search, MatchKind, Automaton, Node, look_holds, is_utf8_empty, IsAnswer, IsFindAnswer}
 use Rattle.thompson_nfa.specs.Automaton.Node.{Look}
-use Rattle.thompson_nfa.specs.Looks.{look_holds}
 use Rattle.thompson_nfa.specs.declared.look.Look as looks
-use Rattle.nfa_paths.specs.Paths.{is_utf8_empty, IsAnswer, IsFindAnswer}
 
 -- each slot that is set, this many positions to the right
 abbrev pub moved_slots : ℕ → List (Option ℕ) → List (Option ℕ)

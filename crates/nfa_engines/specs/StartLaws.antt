@@ -1,11 +1,7 @@
 -- Laws of where the answer of a search starts, about the definitions only.
 use Rattle.std.specs.Prelude.{◌≡◌, ◌↔◌, ◌==◌, ℕ, ◌+◌, ◌<◌, ◌≤◌, Bool, false, List, Option, Some}
-use Rattle.regex_search_core.specs.Found.{Found}
-use Rattle.regex_search_core.specs.Search.{Search}
+use Rattle.nfa_paths.specs.Common.{Found, Search, MatchKind, Automaton, byte_at, is_utf8_empty, IsAnswer, IsFindAnswer}
 use Rattle.regex_search_core.specs.declared.search.Anchored.TheVariants.{No, Yes}
-use Rattle.regex_search_core.specs.declared.search.MatchKind.{MatchKind}
-use Rattle.thompson_nfa.specs.Automaton.{Automaton}
-use Rattle.nfa_paths.specs.Paths.{byte_at, is_utf8_empty, IsAnswer, IsFindAnswer}
 use Rattle.nfa_search_base.specs.Beginnings.{NoMatchBegins}
 use Rattle.nfa_engines.specs.Accepting.{MatchesNothing}
 

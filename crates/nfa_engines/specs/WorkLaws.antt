@@ -1,13 +1,9 @@
 -- Laws of the work of a whole iteration, over the matches or the captures of a search, by the totals of a cache.
 use Rattle.std.specs.Prelude.{ℕ, ◌+◌, ◌*◌, ◌≤◌, ◌&&◌, not, if◌then◌else◌, List, length}
-use Rattle.regex_search_core.specs.Found.{Found}
-use Rattle.regex_search_core.specs.Search.{Search, is_anchored}
-use Rattle.thompson_nfa.specs.Automaton.{Automaton}
-use Rattle.nfa_paths.specs.Paths.{is_utf8_empty, span_len, total_degree}
+use Rattle.nfa_paths.specs.Common.{Found, Search, is_anchored, Automaton, is_utf8_empty, span_len, total_degree}
 use Rattle.nfa_search_base.specs.WithCaptures.{Row}
 use Rattle.nfa_backtrack.specs.Backtrack.{Backtracker, BacktrackCache}
-use Rattle.nfa_backtrack.specs.Finding.{BacktrackerCatchesOn, BacktrackerCatchesToEnd}
-use Rattle.nfa_backtrack.specs.Finding.{BacktrackerFindsOn, BacktrackerFindsToEnd}
+use Rattle.nfa_backtrack.specs.Finding.{BacktrackerCatchesOn, BacktrackerCatchesToEnd, BacktrackerFindsOn, BacktrackerFindsToEnd}
 use Rattle.nfa_pikevm.specs.Engines.{Pike, PikeCache}
 use Rattle.nfa_pikevm.specs.Finding.{PikeCatchesOn, PikeCatchesToEnd, PikeFindsOn, PikeFindsToEnd}
 

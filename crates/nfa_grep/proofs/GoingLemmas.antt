@@ -1,7 +1,5 @@
 -- A search of an input starts, goes on by a line, and ends.
-use Rattle.std.proofs.Common.{◌≡◌, ◌∙◌, ℕ, zero, ◌+◌, ◌-◌, ◌<◌, ◌≤◌, Bool, true, false, All, inl, inr, List, [], ◌∷◌}
-use Rattle.std.proofs.Common.{◌++◌, length, refl, sym, ap, ap₂, subst, arith, append_assoc, append-nil, zero-add}
-use Rattle.std.specs.Prelude.{Option, None, Some, cond, if◌then◌else◌, not, ◌==◌, ◌&&◌, ◌⊎◌, nat_lt}
+use Rattle.std.proofs.Common.{◌≡◌, ◌∙◌, ℕ, zero, ◌+◌, ◌-◌, ◌<◌, ◌≤◌, Bool, true, false, All, inl, inr, List, [], ◌∷◌, ◌++◌, length, refl, sym, ap, ap₂, subst, arith, append_assoc, append-nil, zero-add, Option, None, Some, cond, if◌then◌else◌, not, ◌==◌, ◌&&◌, ◌⊎◌, nat_lt}
 use Rattle.std.specs.List.{concat}
 use Rattle.std.specs.Io.KnownBytes.{Appends, Keeps}
 use Rattle.std.proofs.KnownBytes.{Appends-nil, Appends-trans, Keeps-refl}
@@ -12,12 +10,9 @@ use Rattle.std.proofs.lemmas.List.Sums.{sum_by-cons}
 use Rattle.text_lines.specs.Lines.{HasNoRecord, TakesRecord, records_of}
 use Rattle.text_lines.proofs.LineLemmas.{first-record, no-records}
 use Rattle.regex_hir.specs.Re.{Re}
-use Rattle.nfa_grep.specs.Going.{HasPassed, HasPrinted, IsGoing, IsInOrder, PassesLines, PrintsLines, kept_items}
-use Rattle.nfa_grep.specs.Going.{kept_texts}
-use Rattle.nfa_grep.specs.Going.{PrintsOutput, StopsInTime, printed_later}
+use Rattle.nfa_grep.specs.Going.{HasPassed, HasPrinted, IsGoing, IsInOrder, PassesLines, PrintsLines, kept_items, kept_texts, PrintsOutput, StopsInTime, printed_later}
 use Rattle.nfa_grep.specs.Grouped.{Item, context_of, grouped, has_selected, left_after}
-use Rattle.nfa_grep.specs.Printed.{fewer, is_picked, is_selected, item_of, items, printed, read, read_in, searched}
-use Rattle.nfa_grep.specs.Printed.{limit_of, searched_in, selected_count, shows, summary}
+use Rattle.nfa_grep.specs.Printed.{fewer, is_picked, is_selected, item_of, items, printed, read, read_in, searched, limit_of, searched_in, selected_count, shows, summary}
 use Rattle.nfa_grep.specs.declared.groups.Groups.{Groups}
 use Rattle.nfa_grep.specs.declared.options.Context.{Context}
 use Rattle.nfa_grep.specs.declared.options.Options.{Options}

@@ -1,7 +1,5 @@
 -- The hits of an alternation are those of its branches, but for the numbers of the patterns.
-use Rattle.std.proofs.Common.{◌≡◌, ◌∙◌, ℕ, zero, suc, ◌+◌, ◌-◌, ◌≤◌, Bool, inl, inr, List, [], ◌∷◌, length}
-use Rattle.std.proofs.Common.{map, refl, ap, ap₂, arith}
-use Rattle.std.specs.Prelude.{Option, None, Some, is_some, option_map, if◌then◌else◌, nat_lt, ◌==◌}
+use Rattle.std.proofs.Common.{◌≡◌, ◌∙◌, ℕ, zero, suc, ◌+◌, ◌-◌, ◌≤◌, Bool, inl, inr, List, [], ◌∷◌, length, map, refl, ap, ap₂, arith, Option, None, Some, is_some, option_map, if◌then◌else◌, nat_lt, ◌==◌}
 use Rattle.std.specs.Option.{option_or}
 use Rattle.std.proofs.lemmas.Bool.{cases_Bool}
 use Rattle.regex_hir.specs.Matches.{IsMinLen, Matches}
@@ -11,9 +9,7 @@ use Rattle.regex_hir.specs.Text.{is_some_and}
 use Rattle.regex_hir.proofs.AttemptLemmas.{attempt_sound}
 use Rattle.regex_hir.proofs.MatchesLemmas.{IsMinLen-no_byte}
 use Rattle.regex_hir.proofs.OptionLemmas.{option_or-None}
-use Rattle.regex_search_core.specs.Found.{Found}
-use Rattle.regex_search_core.specs.Search.{whole}
-use Rattle.thompson_nfa.specs.Automaton.{Automaton}
+use Rattle.nfa_paths.specs.Common.{Found, whole, Automaton}
 use Rattle.nfa_compiler.specs.AllHits.{all_hits, hit_after, hits_from}
 use Rattle.nfa_compiler.specs.AnyStart.{FindsFromAnyStart}
 use Rattle.nfa_compiler.specs.Compiled.{IsNfaOf}

@@ -1,17 +1,12 @@
 -- From the laws on searches of texts to what the patterns find in a line.
-use Rattle.std.proofs.Common.{◌≡◌, ◌∙◌, ℕ, zero, suc, ◌+◌, ◌<◌, Bool, false, inl, inr, List, [], ◌∷◌, length, map}
-use Rattle.std.proofs.Common.{refl, sym, subst, ap, ap₂, add-one, arith}
-use Rattle.std.specs.Prelude.{All, Option, None, Some, is_some, nat_lt, if◌then◌else◌, ◌==◌}
+use Rattle.std.proofs.Common.{◌≡◌, ◌∙◌, ℕ, zero, suc, ◌+◌, ◌<◌, Bool, false, inl, inr, List, [], ◌∷◌, length, map, refl, sym, subst, ap, ap₂, add-one, arith, All, Option, None, Some, is_some, nat_lt, if◌then◌else◌, ◌==◌}
 use Rattle.std.specs.List.{AllZip}
 use Rattle.std.proofs.lemmas.Bool.{cases_Bool, lt-ltb}
 use Rattle.std.proofs.lemmas.List.{length-map}
 use Rattle.regex_hir.specs.Re.{Re}
 use Rattle.regex_hir.specs.Text.{is_some_and}
-use Rattle.regex_search_core.specs.Found.{Found, found_of}
-use Rattle.regex_search_core.specs.declared.search.Match.{Match}
-use Rattle.regex_search_core.specs.Search.{whole}
+use Rattle.nfa_paths.specs.Common.{Found, found_of, Match, whole, Automaton}
 use Rattle.regex_syntax.specs.Captures.{SameCaptures}
-use Rattle.thompson_nfa.specs.Automaton.{Automaton}
 use Rattle.nfa_compiler.specs.AllHits.{all_hits, hit_after, hits_from}
 use Rattle.nfa_compiler.specs.AnyStart.{FindsFromAnyStart}
 use Rattle.nfa_compiler.specs.Compiled.{IsNfaOf}

@@ -1,8 +1,6 @@
 -- A pattern matches somewhere in a text exactly if the reference matcher finds it by itself. So a set of the patterns
 -- that match holds those that are found.
-use Rattle.std.proofs.Common.{◌≡◌, ◌∙◌, ℕ, zero, suc, ◌+◌, ◌-◌, ◌≤◌, ◌<◌, Bool, true, false, List, [], ◌∷◌}
-use Rattle.std.proofs.Common.{length, refl, sym, ap, arith, get_or}
-use Rattle.std.specs.Prelude.{◌↔◌, All, Option, None, Some, is_some, slice_index_or}
+use Rattle.std.proofs.Common.{◌≡◌, ◌∙◌, ℕ, zero, suc, ◌+◌, ◌-◌, ◌≤◌, ◌<◌, Bool, true, false, List, [], ◌∷◌, length, refl, sym, ap, arith, get_or, ◌↔◌, All, Option, None, Some, is_some, slice_index_or}
 use Rattle.std.specs.List.{AllZip}
 use Rattle.std.specs.Option.{option_or}
 use Rattle.std.proofs.lemmas.Bool.{le-ltb}
@@ -12,11 +10,10 @@ use Rattle.regex_syntax.specs.Captures.{SameCaptures}
 use Rattle.regex_hir.specs.Re.{Re, Trace, accept, attempt, empty}
 use Rattle.regex_hir.proofs.AttemptLemmas.{attempt_complete, attempt_sound}
 use Rattle.regex_hir.proofs.OptionLemmas.{value_of_IsSome}
-use Rattle.regex_search_core.specs.Search.{whole}
+use Rattle.nfa_paths.specs.Common.{whole, HoldsPattern}
 use Rattle.nfa_compiler.specs.KindLaws.{PatternMatches}
 use Rattle.nfa_compiler.specs.Patterns.{PatternHit, expected, first_hit, hit_of, pick}
 use Rattle.nfa_compiler.specs.Written.{MatchesIn}
-use Rattle.nfa_paths.specs.Overlaps.{HoldsPattern}
 use Rattle.nfa_grep.specs.Meant.{is_found, which_found}
 use Rattle.nfa_grep.proofs.MeantLemmas.{found-same}
 use Rattle.nfa_paths.proofs.TestLemmas.{same_test}

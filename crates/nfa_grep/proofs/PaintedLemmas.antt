@@ -1,11 +1,7 @@
 -- The matches of a text are printed one by one.
-use Rattle.std.proofs.Common.{◌≡◌, ◌∙◌, ℕ, ◌+◌, ◌-◌, ◌<◌, Bool, false, List, [], ◌∷◌, ◌++◌, append_assoc}
-use Rattle.std.proofs.Common.{ap, arith, drop, get_or, length, map, ne_eqb, refl, subst, sym}
-use Rattle.std.specs.Prelude.{Option, None, Some, ◌==◌, if◌then◌else◌, not, slice_range}
+use Rattle.std.proofs.Common.{◌≡◌, ◌∙◌, ℕ, ◌+◌, ◌-◌, ◌<◌, Bool, false, List, [], ◌∷◌, ◌++◌, append_assoc, ap, arith, drop, get_or, length, map, ne_eqb, refl, subst, sym, Option, None, Some, ◌==◌, if◌then◌else◌, not, slice_range}
 use Rattle.std.proofs.lemmas.List.{drop_more, length-drop, take_all}
-use Rattle.regex_search_core.specs.Found.{Found, found_of}
-use Rattle.regex_search_core.specs.Search.{whole}
-use Rattle.regex_search_core.specs.declared.search.Match.{Match}
+use Rattle.nfa_paths.specs.Common.{Found, found_of, whole, Match}
 use Rattle.nfa_engines.specs.Lists.{AreDisjoint}
 use Rattle.nfa_meta.specs.Gaps.{last_end}
 use Rattle.text_lines.specs.Lines.{with_end}
@@ -13,8 +9,7 @@ use Rattle.regex_hir.specs.Re.{Re}
 use Rattle.nfa_grep.specs.Meant.{all_found, span_of, spans_of}
 use Rattle.nfa_grep.specs.Printed.{painted_line, text_of}
 use Rattle.nfa_grep.specs.declared.options.Options.{Options}
-use Rattle.nfa_grep.specs.Painted.{HasPainted, Part, bare_part, in_colours, matched_from, painted, painted_text, part_of}
-use Rattle.nfa_grep.specs.Painted.{parts_from}
+use Rattle.nfa_grep.specs.Painted.{HasPainted, Part, bare_part, in_colours, matched_from, painted, painted_text, part_of, parts_from}
 use Rattle.nfa_grep.specs.declared.paint.Colour.TheVariants as paint
 
 -- one more match was printed

@@ -1,6 +1,5 @@
 -- From what the parser returns to what texts mean.
-use Rattle.std.proofs.Common.{◌≡◌, Bool, List, [], ◌∷◌, false, true, ℕ}
-use Rattle.std.specs.Prelude.{MatchOption, None, Option, Some}
+use Rattle.std.proofs.Common.{◌≡◌, Bool, List, [], ◌∷◌, false, true, ℕ, MatchOption, None, Option, Some}
 use Rattle.std.specs.List.{AllZip}
 use Rattle.regex_hir.specs.Meaning.{meaning}
 use Rattle.regex_hir.specs.Re.{Re, look}
@@ -9,7 +8,7 @@ use Rattle.regex_syntax.proofs.CapturesLemmas.{alike_cat, alike_refl}
 use Rattle.regex_syntax.specs.Captures.{SameCaptures}
 use Rattle.regex_syntax.specs.declared.Config.{Config}
 use Rattle.regex_syntax.specs.declared.Parsed.{Parsed}
-use Rattle.thompson_nfa.specs.Automaton.{Automaton}
+use Rattle.nfa_paths.specs.Common.{Automaton}
 use Rattle.nfa_compiler.specs.Compiled.{IsMeant, IsNfaOf, IsTreeOf, res_of}
 use Rattle.nfa_compiler.proofs.MeantLemmas.{all-meant}
 use Rattle.nfa_grep.specs.Meant.{ArePatterns, IsBuilt, IsOfAll, IsReadFrom, IsSearched, bounded}

@@ -1,16 +1,12 @@
 -- What is printed of matches, and of numbers.
-use Rattle.std.proofs.Common.{◌≡◌, ◌∙◌, ℕ, ◌<◌, inl, inr, true, false, List, [], ◌∷◌, ◌++◌, map, length}
-use Rattle.std.proofs.Common.{refl, sym, ap, arith, append_assoc}
-use Rattle.std.specs.Prelude.{Bool, decimal, if◌then◌else◌}
+use Rattle.std.proofs.Common.{◌≡◌, ◌∙◌, ℕ, ◌<◌, inl, inr, true, false, List, [], ◌∷◌, ◌++◌, map, length, refl, sym, ap, arith, append_assoc, Bool, decimal, if◌then◌else◌}
 use Rattle.std.specs.List.{flat_map, join_with_byte}
 use Rattle.std.proofs.lemmas.Bool.{cases_Bool}
 use Rattle.std.proofs.lemmas.List.{length-map, map-append}
 use Rattle.regex_hir.specs.Re.{Re}
-use Rattle.regex_search_core.specs.Found.{Found, found_of}
-use Rattle.regex_search_core.specs.declared.search.Match.{Match}
+use Rattle.nfa_paths.specs.Common.{Found, found_of, Match}
 use Rattle.nfa_grep.specs.Meant.{is_found, span_of, spans_of}
-use Rattle.nfa_grep.specs.Printed.{colon, comma, is_selected, mark_of, pieces, shown, shown_if_selected}
-use Rattle.nfa_grep.specs.Printed.{shown_matches, shown_whole, text_of}
+use Rattle.nfa_grep.specs.Printed.{colon, comma, is_selected, mark_of, pieces, shown, shown_if_selected, shown_matches, shown_whole, text_of}
 use Rattle.nfa_grep.specs.declared.options.Options.{Options}
 use Rattle.nfa_grep.proofs.MeantLemmas.{all-none}
 

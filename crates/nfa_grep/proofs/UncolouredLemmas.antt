@@ -1,14 +1,10 @@
 -- The parts of a text are in order, with nothing between them, and escape sequences are around them.
-use Rattle.std.proofs.Common.{◌≡◌, ◌∙◌, ℕ, ◌-◌, Bool, true, false, List, [], ◌∷◌, ◌++◌, append-nil, append_assoc}
-use Rattle.std.proofs.Common.{ap, arith, drop, refl, sym}
-use Rattle.std.specs.Prelude.{None, Some, ◌==◌, not, slice_range}
+use Rattle.std.proofs.Common.{◌≡◌, ◌∙◌, ℕ, ◌-◌, Bool, true, false, List, [], ◌∷◌, ◌++◌, append-nil, append_assoc, ap, arith, drop, refl, sym, None, Some, ◌==◌, not, slice_range}
 use Rattle.std.proofs.lemmas.List.Elements.{All-drop, All-head, All-tail, All-take}
 use Rattle.std.proofs.lemmas.List.Folds.{drop_split}
-use Rattle.regex_search_core.specs.Found.{Found}
-use Rattle.regex_search_core.specs.Search.{whole}
+use Rattle.nfa_paths.specs.Common.{Found, whole}
 use Rattle.nfa_engines.specs.Lists.{AreDisjoint}
-use Rattle.nfa_grep.specs.Painted.{end_of_colour, escape, in_colours, painted, painted_text}
-use Rattle.nfa_grep.specs.Painted.{parts_from, start_of}
+use Rattle.nfa_grep.specs.Painted.{end_of_colour, escape, in_colours, painted, painted_text, parts_from, start_of}
 use Rattle.nfa_grep.specs.Uncoloured.{HasNoSequence, outside, uncoloured}
 use Rattle.nfa_grep.specs.declared.paint.Colour.{Colour}
 use Rattle.nfa_grep.specs.declared.paint.Colour.TheVariants as paint

@@ -1,11 +1,8 @@
 -- From the law on sets of patterns to which patterns match in a line.
-use Rattle.std.proofs.Common.{◌≡◌, ℕ, zero, suc, ◌<◌, ◌⊎◌, inr, ⊎_elim, Bool, true, false, List, length}
-use Rattle.std.proofs.Common.{refl, subst, arith}
-use Rattle.std.specs.Prelude.{◌↔◌, ◌==◌, replicate}
+use Rattle.std.proofs.Common.{◌≡◌, ℕ, zero, suc, ◌<◌, ◌⊎◌, inr, ⊎_elim, Bool, true, false, List, length, refl, subst, arith, ◌↔◌, ◌==◌, replicate}
 use Rattle.std.proofs.lemmas.List.{length-replicate}
 use Rattle.regex_hir.specs.Re.{Re}
-use Rattle.regex_search_core.specs.Search.{Search, whole}
-use Rattle.regex_search_core.specs.declared.search.MatchKind.{MatchKind}
+use Rattle.nfa_paths.specs.Common.{Search, whole, MatchKind}
 use Rattle.regex_search_core.specs.declared.search.MatchKind.TheVariants.{All}
 use Rattle.nfa_engines.specs.Automaton.{Automaton}
 use Rattle.nfa_engines.specs.Overlaps.{HoldsPattern, IsOverlapResult}

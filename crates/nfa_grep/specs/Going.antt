@@ -1,13 +1,11 @@
 -- A search of an input that is under way, and one that has ended.
-use Rattle.std.specs.Prelude.{◌≡◌, ℕ, ◌+◌, ◌-◌, ◌<◌, ◌≤◌, ◌⊎◌, All, Bool, true, false, List, [], ◌++◌, Option, Some, IfSome, length}
-use Rattle.std.specs.Prelude.{map}
+use Rattle.std.specs.Prelude.{◌≡◌, ℕ, ◌+◌, ◌-◌, ◌<◌, ◌≤◌, ◌⊎◌, All, Bool, true, false, List, [], ◌++◌, Option, Some, IfSome, length, map}
 use Rattle.std.specs.List.{concat}
 use Rattle.std.specs.Io.KnownBytes.{Appends}
 use Rattle.regex_hir.specs.Re.{Re}
 use Rattle.text_lines.specs.Lines.{records_of}
 use Rattle.nfa_grep.specs.Grouped.{Item, context_of, grouped}
-use Rattle.nfa_grep.specs.Printed.{is_selected, items, limit_of, output, printed, read, read_in, searched_in}
-use Rattle.nfa_grep.specs.Printed.{selected_count}
+use Rattle.nfa_grep.specs.Printed.{is_selected, items, limit_of, output, printed, read, read_in, searched_in, selected_count}
 use Rattle.nfa_grep.specs.declared.groups.Groups.{Groups}
 use Rattle.nfa_grep.specs.declared.options.Context.{Context}
 use Rattle.nfa_grep.specs.declared.options.Options.{Options}

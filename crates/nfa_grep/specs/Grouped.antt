@@ -1,6 +1,5 @@
 -- Which lines are printed around those that are selected, and what is printed between groups of them.
-use Rattle.std.specs.Prelude.{ℕ, ◌-◌, Bool, true, false, ◌&&◌, ◌||◌, List, [], ◌∷◌, ◌++◌, if◌then◌else◌, nat_lt}
-use Rattle.std.specs.Prelude.{take}
+use Rattle.std.specs.Prelude.{ℕ, ◌-◌, Bool, true, false, ◌&&◌, ◌||◌, List, [], ◌∷◌, ◌++◌, if◌then◌else◌, nat_lt, take}
 use Rattle.std.specs.List.{list_any}
 use Rattle.text_lines.specs.Lines.{line_feed}
 use Rattle.nfa_grep.specs.Painted.{painted}

@@ -1,18 +1,15 @@
 -- What patterns mean, and what they find in a line, in the words of the reference matcher.
-use Rattle.std.specs.Prelude.{◌≡◌, ℕ, ◌+◌, ◌⊎◌, Bool, false, List, [], ◌∷◌, length, map, Option, is_some, chars}
-use Rattle.std.specs.Prelude.{encode_utf8_all, if◌then◌else◌}
+use Rattle.std.specs.Prelude.{◌≡◌, ℕ, ◌+◌, ◌⊎◌, Bool, false, List, [], ◌∷◌, length, map, Option, is_some, chars, encode_utf8_all, if◌then◌else◌}
 use Rattle.std.specs.List.{AllZip}
 use Rattle.regex_hir.specs.Meaning.{alt_all, cat_all, meaning}
 use Rattle.regex_hir.specs.Re.{Re, look}
 use Rattle.regex_hir.specs.declared.look.Look.TheVariants.{Start, End, WordStartHalfUnicode, WordEndHalfUnicode}
-use Rattle.regex_search_core.specs.Found.{Found}
+use Rattle.nfa_paths.specs.Common.{Found, whole, Automaton}
 use Rattle.regex_search_core.specs.PatternSets.{patterns_of}
-use Rattle.regex_search_core.specs.Search.{whole}
 use Rattle.regex_syntax.specs.Captures.{SameCaptures}
 use Rattle.regex_syntax.specs.Verdict.{default_flags, escaped_text}
 use Rattle.regex_syntax.specs.declared.Config.{Config}
 use Rattle.regex_syntax.specs.declared.Parsed.{Parsed}
-use Rattle.thompson_nfa.specs.Automaton.{Automaton}
 use Rattle.nfa_compiler.specs.AllHits.{hits_from}
 use Rattle.nfa_compiler.specs.Compiled.{IsMeant, IsNfaOf}
 use Rattle.nfa_compiler.specs.Patterns.{PatternHit, expected, found_at}

@@ -1,10 +1,7 @@
 -- What is printed in colours: texts between two escape sequences of a terminal.
-use Rattle.std.specs.Prelude.{◌≡◌, ℕ, ◌≤◌, Bool, false, not, ◌==◌, List, [], ◌∷◌, ◌++◌, codes, drop, if◌then◌else◌, length, map}
-use Rattle.std.specs.Prelude.{slice_range}
+use Rattle.std.specs.Prelude.{◌≡◌, ℕ, ◌≤◌, Bool, false, not, ◌==◌, List, [], ◌∷◌, ◌++◌, codes, drop, if◌then◌else◌, length, map, slice_range}
 use Rattle.std.specs.List.{flat_map}
-use Rattle.regex_search_core.specs.Found.{Found, found_of}
-use Rattle.regex_search_core.specs.Search.{whole}
-use Rattle.regex_search_core.specs.declared.search.Match.{Match}
+use Rattle.nfa_paths.specs.Common.{Found, found_of, whole, Match}
 use Rattle.nfa_engines.specs.Lists.{AreDisjoint}
 use Rattle.nfa_meta.specs.Gaps.{last_end}
 use Rattle.nfa_grep.specs.declared.paint.Colour.{Colour}

@@ -1,6 +1,5 @@
 -- Why patterns are refused, and what is said of it.
-use Rattle.std.specs.Prelude.{◌≡◌, ℕ, ◌<◌, ◌++◌, List, [], Option, None, Some, codes, decimal, false, length, ⊤}
-use Rattle.std.specs.Prelude.{if◌then◌else◌, ◌==◌, slice_index_or}
+use Rattle.std.specs.Prelude.{◌≡◌, ℕ, ◌<◌, ◌++◌, List, [], Option, None, Some, codes, decimal, false, length, ⊤, if◌then◌else◌, ◌==◌, slice_index_or}
 use Rattle.std.specs.List.{AllZip}
 use Rattle.regex_hir.specs.Re.{Re}
 use Rattle.regex_syntax.specs.declared.Parsed.{Parsed}

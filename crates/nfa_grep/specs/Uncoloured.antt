@@ -1,8 +1,7 @@
 -- A painted text without its colours is the text.
 use Rattle.std.specs.Prelude.{◌≡◌, ℕ, Bool, true, false, not, ◌==◌, ◌||◌, List, [], ◌∷◌, All, None, if◌then◌else◌}
 use Rattle.std.specs.List.{flat_map}
-use Rattle.regex_search_core.specs.Found.{Found}
-use Rattle.regex_search_core.specs.Search.{whole}
+use Rattle.nfa_paths.specs.Common.{Found, whole}
 use Rattle.nfa_engines.specs.Lists.{AreDisjoint}
 use Rattle.nfa_grep.specs.Painted.{Part, escape, painted_text, parts_from}
 

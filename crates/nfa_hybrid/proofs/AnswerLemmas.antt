@@ -1,12 +1,6 @@
 -- The pattern of a half match is one of the NFA's.
-use Rattle.std.proofs.Common.{◌∙◌, Bool, ap, sym}
-use Rattle.std.specs.Prelude.{◌<◌, IfSome, None, Option, Some, length, option_map}
-use Rattle.regex_search_core.specs.Found.{HalfFound, half_found_of}
-use Rattle.regex_search_core.specs.Search.{Search}
-use Rattle.regex_search_core.specs.declared.search.HalfMatch.{HalfMatch}
-use Rattle.regex_search_core.specs.declared.search.MatchKind.{MatchKind}
-use Rattle.thompson_nfa.specs.Automaton.{Automaton, IsAutomaton}
-use Rattle.nfa_paths.specs.Paths.{IsHalfAnswer, slot_row}
+use Rattle.std.proofs.Common.{◌∙◌, Bool, ap, sym, ◌<◌, IfSome, None, Option, Some, length, option_map}
+use Rattle.nfa_paths.specs.Common.{HalfFound, half_found_of, Search, HalfMatch, MatchKind, Automaton, IsAutomaton, IsHalfAnswer, slot_row}
 use Rattle.nfa_paths.proofs.InsideLemmas.{pattern-within}
 use Rattle.nfa_paths.proofs.PatternLemmas.{length-slot_row}
 use Rattle.nfa_paths.proofs.RestartLemmas.{half-pattern}

@@ -1,16 +1,8 @@
 -- The list of the half matches of an NFA: there is at most one, its offsets rise, and the calls of an iterator give it.
-use Rattle.std.proofs.Common.{◌≡◌, ℕ, ◌≤◌, Bool, ap, arith, refl, subst}
-use Rattle.std.proofs.Common.{Option, None, Some, Ok, Err, List, [], ◌∷◌, ◌++◌, map}
-use Rattle.std.specs.Prelude.{All}
+use Rattle.std.proofs.Common.{◌≡◌, ℕ, ◌≤◌, Bool, ap, arith, refl, subst, Option, None, Some, Ok, Err, List, [], ◌∷◌, ◌++◌, map, All}
 use Rattle.std.specs.Option.{option_map}
 use Rattle.std.proofs.lemmas.List.Elements.{All-nil, All-cons}
-use Rattle.regex_search_core.specs.Found.{HalfFound, half_found_of}
-use Rattle.regex_search_core.specs.Search.{Search}
-use Rattle.regex_search_core.specs.declared.search.HalfMatch.{HalfMatch}
-use Rattle.regex_search_core.specs.declared.search.MatchKind.{MatchKind}
-use Rattle.regex_search_core.specs.declared.search.Span.{Span}
-use Rattle.thompson_nfa.specs.Automaton.{Automaton}
-use Rattle.nfa_paths.specs.Paths.{IsHalfAnswer}
+use Rattle.nfa_paths.specs.Common.{HalfFound, half_found_of, Search, HalfMatch, MatchKind, Span, Automaton, IsHalfAnswer}
 use Rattle.nfa_paths.proofs.InsideLemmas.{half-within}
 use Rattle.nfa_paths.proofs.OptionLemmas.{same_some}
 use Rattle.nfa_engines.proofs.HalfLemmas.{half-unique}

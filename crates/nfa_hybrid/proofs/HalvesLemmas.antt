@@ -1,8 +1,6 @@
 -- A hybrid as the engine of an iteration over half matches: when its iterator may search, and what it gives and keeps.
 use Rattle.std.proofs.Common.{◌≡◌, ◌∙◌, Bool, false, Ok, refl, subst}
-use Rattle.regex_search_core.specs.Found.{HalfFound, half_found_of}
-use Rattle.regex_search_core.specs.Search.{Search}
-use Rattle.regex_search_core.specs.declared.search.HalfMatch.{HalfMatch}
+use Rattle.nfa_paths.specs.Common.{HalfFound, half_found_of, Search, HalfMatch}
 use Rattle.nfa_search_base.specs.WithCache.{WithCache}
 use Rattle.nfa_search_base.specs.StepsWith.{TakesStepWith, steps_with_state, steps_with_iter_state}
 use Rattle.nfa_search_base.specs.Serving.{may_ask}
@@ -19,8 +17,7 @@ use Rattle.nfa_pikevm.specs.Engines.{Pike, kind_of}
 use Rattle.nfa_engines.proofs.LoopLemmas.{sizes-none, sizes-two}
 use Rattle.nfa_hybrid.specs.HalfLists.{AnswersHalf}
 use Rattle.nfa_hybrid.specs.HybridState.{HybridState, KeepsHybrid, kind_in}
-use Rattle.nfa_hybrid.specs.Halves.{AsksInTurn, FindsHalfInTurn, HalvesBySearches, HalvesGiveKept}
-use Rattle.nfa_hybrid.specs.Halves.{half_steps, halves_next}
+use Rattle.nfa_hybrid.specs.Halves.{AsksInTurn, FindsHalfInTurn, HalvesBySearches, HalvesGiveKept, half_steps, halves_next}
 use Rattle.nfa_hybrid.specs.declared.hybrid.half_matches.HalfMatches.{HalfMatches}
 use Rattle.nfa_hybrid.specs.declared.hybrid.half_matches.InTurn.{InTurn}
 use Rattle.nfa_hybrid.proofs.HalfListLemmas.{HalvesGiven, half-lies_infallibly, halves-given}

@@ -1,11 +1,7 @@
 -- The half matches of a search as one list, from left to right. It is defined by the steps only.
 use Rattle.std.specs.Prelude.{ℕ, ◌<◌, ◌≤◌, Bool, List, [], ◌∷◌, map, Option, Some, Ok, Err, ⊤}
 use Rattle.std.specs.Option.{ForSome}
-use Rattle.regex_search_core.specs.Found.{HalfFound}
-use Rattle.regex_search_core.specs.Search.{Search}
-use Rattle.regex_search_core.specs.declared.search.MatchKind.{MatchKind}
-use Rattle.thompson_nfa.specs.Automaton.{Automaton}
-use Rattle.nfa_paths.specs.Paths.{IsHalfAnswer}
+use Rattle.nfa_paths.specs.Common.{HalfFound, Search, MatchKind, Automaton, IsHalfAnswer}
 use Rattle.nfa_search_base.specs.Lists.{Fails, ItemsLast, ItemsNext}
 use Rattle.nfa_search_base.specs.IterStates.{Answer, IterState, fresh, half_span_of}
 

@@ -1,10 +1,7 @@
 -- An engine over a lazy DFA and a PikeVM as a value, and which of the two ran.
 use Rattle.std.specs.Prelude.{◌≡◌, ◌⊎◌, ◌+◌, ◌*◌, ◌≤◌, Bool, false, List, Option, Some}
-use Rattle.regex_search_core.specs.Search.{Search}
-use Rattle.regex_search_core.specs.declared.search.MatchKind.{MatchKind}
+use Rattle.nfa_paths.specs.Common.{Search, MatchKind, Automaton, IsWork, max_scans, span_len, total_degree}
 use Rattle.regex_search_core.specs.declared.search.MatchKind.TheVariants.{All}
-use Rattle.thompson_nfa.specs.Automaton.{Automaton}
-use Rattle.nfa_paths.specs.Paths.{IsWork, max_scans, span_len, total_degree}
 use Rattle.nfa_search_base.specs.Finds.{finds}
 use Rattle.nfa_pikevm.specs.Engines.{AddsPikeWork, PikeCache, SameCapacities}
 use Rattle.nfa_pikevm.specs.Needs.{overlap_scans}

@@ -1,28 +1,18 @@
 -- Assertions hold alike wherever the bytes on both sides of a position are alike. Those of Unicode words do so only
 -- between bytes below 128.
-use Rattle.std.proofs.Common.{◌≡◌, ◌∙◌, ℕ, ◌-◌, ◌==◌, ◌&&◌, ◌||◌, ◌≤◌, ◌<◌, ◌⊎◌, inl, inr, Bool, true, ◌++◌}
-use Rattle.std.proofs.Common.{false, not, List, length, get_or, refl, sym, ap, subst, arith, le-ltb, lt-ltb, lit<}
-use Rattle.std.specs.Prelude.{Option, None, Some, is_none, option_to_list, slice_get}
+use Rattle.std.proofs.Common.{◌≡◌, ◌∙◌, ℕ, ◌-◌, ◌==◌, ◌&&◌, ◌||◌, ◌≤◌, ◌<◌, ◌⊎◌, inl, inr, Bool, true, ◌++◌, false, not, List, length, get_or, refl, sym, ap, subst, arith, le-ltb, lt-ltb, lit<, Option, None, Some, is_none, option_to_list, slice_get}
 use Rattle.std.specs.Option.{option_map_or}
 use Rattle.std.proofs.lemmas.Bool.{cases_Bool, cases_lt, eq-eqb, ne_eqb}
 use Rattle.std.proofs.lemmas.Bool.Decides.{eqb_tells}
 use Rattle.std.proofs.lemmas.Option.{slice_get-get_or, slice_get_past}
-use Rattle.thompson_nfa.specs.Automaton.{Automaton, Node}
+use Rattle.nfa_paths.specs.Common.{Automaton, Node, look_holds, node_at}
 use Rattle.thompson_nfa.specs.Automaton.Node.{Look}
 use Rattle.thompson_nfa.specs.Looks.{differ, is_byte_at, is_byte_before, is_word_after, is_word_before, is_word_byte}
-use Rattle.thompson_nfa.specs.Looks.{look_holds}
 use Rattle.thompson_nfa.specs.declared.look.Look as looks
-use Rattle.thompson_nfa.specs.declared.look.Look.TheVariants.{Start, End, StartLF, EndLF, StartCRLF, EndCRLF, WordAscii}
-use Rattle.thompson_nfa.specs.declared.look.Look.TheVariants.{WordAsciiNegate, WordUnicode, WordUnicodeNegate}
-use Rattle.thompson_nfa.specs.declared.look.Look.TheVariants.{WordStartAscii, WordEndAscii, WordStartUnicode}
-use Rattle.thompson_nfa.specs.declared.look.Look.TheVariants.{WordEndUnicode, WordStartHalfAscii, WordEndHalfAscii}
-use Rattle.thompson_nfa.specs.declared.look.Look.TheVariants.{WordStartHalfUnicode, WordEndHalfUnicode}
-use Rattle.nfa_paths.specs.Paths.{node_at}
+use Rattle.thompson_nfa.specs.declared.look.Look.TheVariants.{Start, End, StartLF, EndLF, StartCRLF, EndCRLF, WordAscii, WordAsciiNegate, WordUnicode, WordUnicodeNegate, WordStartAscii, WordEndAscii, WordStartUnicode, WordEndUnicode, WordStartHalfAscii, WordEndHalfAscii, WordStartHalfUnicode, WordEndHalfUnicode}
 use Rattle.nfa_determinize.specs.Closures.{Holding, holding_at}
 use Rattle.thompson_nfa.proofs.AsciiWordLemmas.{ascii_look, look_holds-ascii}
-use Rattle.nfa_lazy_dfa.specs.Assertions.{HasNoLook, IsRead, HasNoUnicodeWord, SameLooks, byte_before, is_look, like}
-use Rattle.nfa_lazy_dfa.specs.Assertions.{may_follow, reads_bytes}
-use Rattle.nfa_lazy_dfa.specs.Assertions.{sees}
+use Rattle.nfa_lazy_dfa.specs.Assertions.{HasNoLook, IsRead, HasNoUnicodeWord, SameLooks, byte_before, is_look, like, may_follow, reads_bytes, sees}
 
 -- there is such a byte, and it is this one
 abbrev is : ℕ → Option ℕ → Bool

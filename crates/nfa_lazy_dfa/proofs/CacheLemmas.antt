@@ -1,6 +1,5 @@
 -- What a cache's rows are, by their numbers.
-use Rattle.std.proofs.Common.{◌≡◌, ℕ, ◌+◌, ◌*◌, ◌/◌, ◌%◌, ◌<◌, ◌≤◌, ◌≢◌, inl, inr, All, length, map, get_or, ap, sym, ◌∙◌, subst, arith}
-use Rattle.std.specs.Prelude.{vec_len}
+use Rattle.std.proofs.Common.{◌≡◌, ℕ, ◌+◌, ◌*◌, ◌/◌, ◌%◌, ◌<◌, ◌≤◌, ◌≢◌, inl, inr, All, length, map, get_or, ap, sym, ◌∙◌, subst, arith, vec_len}
 use Rattle.std.specs.List.{sum_by}
 use Rattle.std.proofs.lemmas.Grind.{get_or_default_zero}
 use Rattle.std.proofs.lemmas.List.{length-map}

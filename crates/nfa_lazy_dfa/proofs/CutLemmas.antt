@@ -1,12 +1,8 @@
 -- Bytes that are treated alike lead to the same row.
-use Rattle.std.proofs.Common.{inl, ◌≡◌, ℕ, suc, ◌+◌, ◌<◌, ◌≢◌, ◌&&◌, Bool, List, [], ◌∷◌, ◌++◌, length, get_or, refl, ap, sym, ◌∙◌, subst, arith}
-use Rattle.std.specs.Prelude.{Option, Some, option_to_list, slice_get}
+use Rattle.std.proofs.Common.{inl, ◌≡◌, ℕ, suc, ◌+◌, ◌<◌, ◌≢◌, ◌&&◌, Bool, List, [], ◌∷◌, ◌++◌, length, get_or, refl, ap, sym, ◌∙◌, subst, arith, Option, Some, option_to_list, slice_get}
 use Rattle.std.proofs.lemmas.Bool.Decides.{nat_tests}
-use Rattle.regex_search_core.specs.declared.search.MatchKind.{MatchKind}
-use Rattle.thompson_nfa.specs.Automaton.{Automaton}
+use Rattle.nfa_paths.specs.Common.{MatchKind, Automaton, In, first_target, holds_byte, node_at, target_on}
 use Rattle.thompson_nfa.specs.declared.state.Transition.{Transition}
-use Rattle.nfa_paths.specs.Graphs.{In}
-use Rattle.nfa_paths.specs.Paths.{first_target, holds_byte, node_at, target_on}
 use Rattle.nfa_determinize.specs.Closures.{kept, pattern_by_kind, step}
 use Rattle.nfa_lazy_dfa.specs.Assertions.{HasNoLook, sees}
 use Rattle.nfa_lazy_dfa.specs.Cuts.{IsAlike}

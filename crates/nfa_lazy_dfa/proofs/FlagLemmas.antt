@@ -1,11 +1,7 @@
 -- The `earliest` flag of an input changes no path, and so no set of patterns.
 use Rattle.std.proofs.Common.{ℕ, inl, inr, Bool, true, false, List, length}
-use Rattle.regex_search_core.specs.Search.{Search}
+use Rattle.nfa_paths.specs.Common.{Search, Automaton, IsLeastEnd, Pair, WantedAt, IsInsertable, IsOverlapResult, IsPatternOf, IsPermitted, IsSelectedByAll, edges, edges_of, starts}
 use Rattle.regex_search_core.specs.declared.search.MatchKind.TheVariants.{All}
-use Rattle.thompson_nfa.specs.Automaton.{Automaton}
-use Rattle.nfa_paths.specs.Graphs.{IsLeastEnd, Pair, WantedAt}
-use Rattle.nfa_paths.specs.Overlaps.{IsInsertable, IsOverlapResult, IsPatternOf, IsPermitted, IsSelectedByAll}
-use Rattle.nfa_paths.specs.Paths.{edges, edges_of, starts}
 use Rattle.nfa_paths.proofs.ReachedLemmas.{IsReached-along}
 use Rattle.nfa_lazy_dfa.specs.Sets.{IsPartOfOverlap}
 

@@ -1,22 +1,15 @@
 -- What a set of patterns gains of all matches, position by position.
-use Rattle.std.proofs.Common.{◌≡◌, ℕ, ◌+◌, ◌-◌, ◌<◌, ◌≤◌, ◌⊎◌, ◌↔◌, inl, inr, Bool, true, false, List, length}
-use Rattle.std.proofs.Common.{refl, sym, ◌∙◌, subst, arith}
+use Rattle.std.proofs.Common.{◌≡◌, ℕ, ◌+◌, ◌-◌, ◌<◌, ◌≤◌, ◌⊎◌, ◌↔◌, inl, inr, Bool, true, false, List, length, refl, sym, ◌∙◌, subst, arith}
 use Rattle.std.proofs.lemmas.Bool.{cases_lt}
 use Rattle.regex_search_core.specs.PatternSets.{size_of_set}
-use Rattle.regex_search_core.specs.Search.{Search}
+use Rattle.nfa_paths.specs.Common.{Search, Automaton, In, IsLeastEnd, WantedAt, HoldsPattern, IsInsertable, IsOverlapResult, IsPatternOf, IsPermitted, IsPermittedEnd, edges, starts}
 use Rattle.regex_search_core.specs.declared.search.MatchKind.TheVariants.{All}
-use Rattle.thompson_nfa.specs.Automaton.{Automaton}
-use Rattle.nfa_paths.specs.Graphs.{In, IsLeastEnd, WantedAt}
-use Rattle.nfa_paths.specs.Overlaps.{HoldsPattern, IsInsertable, IsOverlapResult, IsPatternOf, IsPermitted, IsPermittedEnd}
-use Rattle.nfa_paths.specs.Paths.{edges, starts}
 use Rattle.nfa_paths.proofs.PathToLemmas.{IsLeastEnd-unique}
 use Rattle.nfa_paths.proofs.SetLemmas.{full-holds}
 use Rattle.nfa_determinize.proofs.PositionLemmas.{ends-there}
 use Rattle.nfa_lazy_dfa.specs.Sets.{AddsHere, IsPartOfOverlap}
 use Rattle.nfa_lazy_dfa.specs.Stances.{patterns_in}
-use Rattle.nfa_lazy_dfa.proofs.ReachLemmas.{Quiet, ReachedSoFar, all_found, here_at, quiet-between, reached-begin}
-use Rattle.nfa_lazy_dfa.proofs.ReachLemmas.{reached-end, reached-later, reached-now, reached-quiet, reached-sound}
-use Rattle.nfa_lazy_dfa.proofs.ReachLemmas.{reached-step}
+use Rattle.nfa_lazy_dfa.proofs.ReachLemmas.{Quiet, ReachedSoFar, all_found, here_at, quiet-between, reached-begin, reached-end, reached-later, reached-now, reached-quiet, reached-sound, reached-step}
 
 module _ (nfa : Automaton) (x : Search) where
   -- The set before a position: it gained the patterns below its capacity that are reached before. With `earliest` there

@@ -1,11 +1,9 @@
 -- A list of states without those that it has further left: the same closures.
-use Rattle.std.proofs.Common.{◌≡◌, ℕ, ◌+◌, ◌<◌, inl, inr, Bool, true, false, List, [], ◌∷◌, ◌++◌, length, get_or, set, drop}
-use Rattle.std.proofs.Common.{replicate, refl, ap, sym, ◌∙◌, arith, append_assoc, get_or-set_other, length-append, length-set}
+use Rattle.std.proofs.Common.{◌≡◌, ℕ, ◌+◌, ◌<◌, inl, inr, Bool, true, false, List, [], ◌∷◌, ◌++◌, length, get_or, set, drop, replicate, refl, ap, sym, ◌∙◌, arith, append_assoc, get_or-set_other, length-append, length-set}
 use Rattle.std.proofs.Math.Decide.{ℕ_discrete}
 use Rattle.std.proofs.Math.Seq.{drop-length}
 use Rattle.std.proofs.lemmas.List.{drop_more, get_or-replicate, length-replicate}
-use Rattle.thompson_nfa.specs.Automaton.{Automaton}
-use Rattle.nfa_paths.specs.Graphs.{In}
+use Rattle.nfa_paths.specs.Common.{Automaton, In}
 use Rattle.nfa_determinize.specs.Closures.{Holding, closure}
 use Rattle.nfa_determinize.proofs.ExploreLemmas.{unseen, unseen-all, unseen-set}
 use Rattle.nfa_determinize.proofs.RepeatLemmas.{closure-repeat}

@@ -1,19 +1,9 @@
 -- Which patterns are reached before a position, by the matches in the closures there.
-use Rattle.std.proofs.Common.{◌≡◌, ℕ, zero, suc, ◌+◌, ◌-◌, ◌<◌, ◌≤◌, ◌⊎◌, ◌↔◌, inl, inr, Bool, false, List, [], ◌∷◌, ◌++◌}
-use Rattle.std.proofs.Common.{map, refl, ap, sym, ◌∙◌, subst, arith}
-use Rattle.std.specs.Prelude.{Option, None, Some, is_some, option_map, option_to_list}
+use Rattle.std.proofs.Common.{◌≡◌, ℕ, zero, suc, ◌+◌, ◌-◌, ◌<◌, ◌≤◌, ◌⊎◌, ◌↔◌, inl, inr, Bool, false, List, [], ◌∷◌, ◌++◌, map, refl, ap, sym, ◌∙◌, subst, arith, Option, None, Some, is_some, option_map, option_to_list}
 use Rattle.std.specs.Option.{option_or}
 use Rattle.std.proofs.lemmas.Bool.{cases_lt}
-use Rattle.regex_search_core.specs.Found.{HalfFound}
-use Rattle.regex_search_core.specs.Search.{Search}
-use Rattle.regex_search_core.specs.declared.search.MatchKind.{MatchKind}
+use Rattle.nfa_paths.specs.Common.{HalfFound, Search, MatchKind, Automaton, Pair, In, WantedAt, Slots, HoldsMatch, IsFrontier, IsReached, WantedBefore, is_resting, IsPatternOf, IsPermitted, IsPermittedEnd, pattern_at, edges, is_match, starts}
 use Rattle.regex_search_core.specs.declared.search.MatchKind.TheVariants.{All, LeftmostFirst}
-use Rattle.thompson_nfa.specs.Automaton.{Automaton}
-use Rattle.nfa_paths.specs.Graphs.{Pair, In, WantedAt}
-use Rattle.nfa_paths.specs.Exploring.{Slots}
-use Rattle.nfa_paths.specs.Kinds.{HoldsMatch, IsFrontier, IsReached, WantedBefore, is_resting}
-use Rattle.nfa_paths.specs.Overlaps.{IsPatternOf, IsPermitted, IsPermittedEnd, pattern_at}
-use Rattle.nfa_paths.specs.Paths.{edges, is_match, starts}
 use Rattle.nfa_paths.proofs.MemberLemmas.{In-append_right}
 use Rattle.nfa_paths.proofs.ReachedLemmas.{IsReached-along, IsReached-at, ReachedBefore-start}
 use Rattle.nfa_paths.proofs.ScanAnswerLemmas.{starts-from}

@@ -1,17 +1,11 @@
 -- The loop of a scan over the rows of a cache.
-use Rattle.std.proofs.Common.{◌≡◌, ℕ, zero, suc, ◌+◌, ◌-◌, ◌<◌, ◌≤◌, inl, Bool, true, false, [], ◌∷◌, length}
-use Rattle.std.proofs.Common.{get_or, refl, ap, sym, ◌∙◌, subst, arith}
-use Rattle.std.specs.Prelude.{Option, None, Some, is_some, if◌then◌else◌, option_map, slice_get}
+use Rattle.std.proofs.Common.{◌≡◌, ℕ, zero, suc, ◌+◌, ◌-◌, ◌<◌, ◌≤◌, inl, Bool, true, false, [], ◌∷◌, length, get_or, refl, ap, sym, ◌∙◌, subst, arith, Option, None, Some, is_some, if◌then◌else◌, option_map, slice_get}
 use Rattle.std.specs.Option.{option_or, option_map_or}
 use Rattle.std.proofs.lemmas.Bool.{lt-ltb}
 use Rattle.std.proofs.lemmas.Option.{slice_get-get_or}
-use Rattle.regex_search_core.specs.Found.{HalfFound, half_found_of}
-use Rattle.regex_search_core.specs.declared.search.HalfMatch.{HalfMatch}
-use Rattle.regex_search_core.specs.Search.{Search}
-use Rattle.nfa_paths.specs.Paths.{byte_at, pairs_from, start_count, start_state, starts}
+use Rattle.nfa_paths.specs.Common.{HalfFound, half_found_of, HalfMatch, Search, byte_at, pairs_from, start_count, start_state, starts}
 use Rattle.nfa_determinize.specs.Closures.{pattern_by_kind}
-use Rattle.nfa_determinize.specs.Configurations.{Configuration, IsDead, begin, closure_at, found_after}
-use Rattle.nfa_determinize.specs.Configurations.{half_at, position_count, scanned, scan_half, start_here}
+use Rattle.nfa_determinize.specs.Configurations.{Configuration, IsDead, begin, closure_at, found_after, half_at, position_count, scanned, scan_half, start_here}
 use Rattle.nfa_determinize.proofs.ScanHalfLemmas.{length-starts}
 use Rattle.nfa_determinize.proofs.SettledLemmas.{scanned-next, settled-found}
 use Rattle.nfa_lazy_dfa.specs.Places.{IsFoundAt, IsNextPlace}

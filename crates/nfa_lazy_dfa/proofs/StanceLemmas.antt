@@ -1,25 +1,16 @@
 -- A row stands for the configuration of a scan, and the row that a byte leads to for the next one.
-use Rattle.std.proofs.Common.{◌≡◌, ℕ, zero, suc, ◌+◌, ◌-◌, ◌<◌, inl, inr, Bool, true, false, List, [], ◌∷◌, ◌++◌}
-use Rattle.std.proofs.Common.{get_or, set, replicate, length, refl, ap, sym, ◌∙◌, subst, arith}
-use Rattle.std.specs.Prelude.{Option, None, Some, is_some, ◌&&◌, if◌then◌else◌, option_to_list, slice_get}
-use Rattle.std.proofs.lemmas.Bool.{cases_Bool}
-use Rattle.regex_search_core.specs.Search.{Search}
-use Rattle.regex_search_core.specs.declared.search.MatchKind.{MatchKind}
+use Rattle.std.proofs.Common.{◌≡◌, ℕ, zero, suc, ◌+◌, ◌-◌, ◌<◌, inl, inr, Bool, true, false, List, [], ◌∷◌, ◌++◌, get_or, set, replicate, length, refl, ap, sym, ◌∙◌, subst, arith, Option, None, Some, is_some, ◌&&◌, if◌then◌else◌, option_to_list, slice_get}
+use Rattle.std.proofs.lemmas.Bool.{cases_Bool, lt-ltb}
+use Rattle.nfa_paths.specs.Common.{Search, MatchKind, Automaton, Node, In, rests, byte_at, node_at, start_state}
 use Rattle.regex_search_core.specs.declared.search.MatchKind.TheVariants.{All, LeftmostFirst}
-use Rattle.thompson_nfa.specs.Automaton.{Automaton, Node}
 use Rattle.thompson_nfa.specs.Automaton.Node.{ByteRange, Sparse, Dense, Look, Union, BinaryUnion, Capture, Fail, Match}
-use Rattle.nfa_paths.specs.Graphs.{In}
-use Rattle.nfa_paths.specs.Kinds.{rests}
-use Rattle.nfa_paths.specs.Paths.{byte_at, node_at, start_state}
 use Rattle.nfa_determinize.specs.Closures.{Holding, closure, epsilon_states, explore, holding_at, kept, pattern_by_kind, step}
-use Rattle.nfa_determinize.specs.Configurations.{Configuration, IsDead, advance, closure_at}
-use Rattle.nfa_determinize.specs.Configurations.{start_here, starts_after}
+use Rattle.nfa_determinize.specs.Configurations.{Configuration, IsDead, advance, closure_at, start_here, starts_after}
 use Rattle.nfa_determinize.proofs.ExploreLemmas.{explore-none}
 use Rattle.nfa_lazy_dfa.specs.Assertions.{IsRead, SameLooks, byte_before, sees}
 use Rattle.nfa_lazy_dfa.specs.Stances.{Covers, IsNext, StandsFor, Stance, goes_on, here, hit_here, start_if}
 use Rattle.nfa_lazy_dfa.proofs.AssertionLemmas.{same-at}
 use Rattle.thompson_nfa.specs.declared.look.Look as looks
-use Rattle.std.proofs.lemmas.Bool.{lt-ltb}
 use Rattle.std.proofs.lemmas.Option.{slice_get_within}
 
 -- a state leads on alike if its assertion holds alike

@@ -1,14 +1,6 @@
 -- No match starts before a position at which the scan is in an idle row and found nothing.
-use Rattle.std.proofs.Common.{◌≡◌, ℕ, zero, suc, ◌+◌, ◌-◌, ◌*◌, ◌/◌, ◌≤◌, inl, inr, Bool, List, [], ◌∷◌}
-use Rattle.std.proofs.Common.{refl, ap, sym, ◌∙◌, subst, arith}
-use Rattle.std.specs.Prelude.{Result, Ok, Err, IfOk, IfSome}
-use Rattle.std.specs.Prelude.{Option, None, Some, option_and_then, option_map, option_to_list, slice_get}
-use Rattle.regex_search_core.specs.Found.{half_found_of}
-use Rattle.regex_search_core.specs.Search.{Search}
-use Rattle.regex_search_core.specs.declared.search.MatchKind.{MatchKind}
-use Rattle.thompson_nfa.specs.Automaton.{Automaton}
-use Rattle.nfa_paths.specs.Graphs.{In}
-use Rattle.nfa_paths.specs.Paths.{IsHalfAnswer, byte_at, node_at, target_on}
+use Rattle.std.proofs.Common.{◌≡◌, ℕ, zero, suc, ◌+◌, ◌-◌, ◌*◌, ◌/◌, ◌≤◌, inl, inr, Bool, List, [], ◌∷◌, refl, ap, sym, ◌∙◌, subst, arith, Result, Ok, Err, IfOk, IfSome, Option, None, Some, option_and_then, option_map, option_to_list, slice_get}
+use Rattle.nfa_paths.specs.Common.{half_found_of, Search, MatchKind, Automaton, In, IsHalfAnswer, byte_at, node_at, target_on, HalfMatch}
 use Rattle.nfa_paths.proofs.InsideLemmas.{half-within}
 use Rattle.nfa_paths.proofs.MemberLemmas.{In-append}
 use Rattle.nfa_determinize.specs.Closures.{closure, explore, holding_at, kept, step}
@@ -30,7 +22,6 @@ use Rattle.nfa_lazy_dfa.specs.declared.scan.Place.{Place}
 use Rattle.nfa_lazy_dfa.specs.declared.error.StopError.{StopError}
 use Rattle.nfa_lazy_dfa.specs.declared.watch.Watch.{Watch}
 use Rattle.nfa_lazy_dfa.specs.declared.window.Window.{Window}
-use Rattle.regex_search_core.specs.declared.search.HalfMatch.{HalfMatch}
 
 -- some state leads to this one over a byte
 record IsLedTo (nfa : Automaton) (q : ℕ) : Type 0 where

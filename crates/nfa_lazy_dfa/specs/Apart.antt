@@ -1,7 +1,6 @@
 -- Whether a path is at the start state only where it begins.
 use Rattle.std.specs.Prelude.{◌≡◌, ℕ, Some}
-use Rattle.thompson_nfa.specs.Automaton.{Automaton}
-use Rattle.nfa_paths.specs.Paths.{node_at, target_on}
+use Rattle.nfa_paths.specs.Common.{Automaton, node_at, target_on}
 
 -- no state leads to the start over a byte
 pub record IsStartApart (nfa : Automaton) : Type 0 where

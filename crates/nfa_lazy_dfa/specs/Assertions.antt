@@ -1,15 +1,10 @@
 -- Assertions that read no more than the byte on each side of a position, and the bytes that a lazy DFA may read.
-use Rattle.std.specs.Prelude.{◌≡◌, ℕ, ◌-◌, ◌<◌, ◌≤◌, ◌⊎◌, Bool, true, false, ◌||◌, ◌==◌, List, ◌++◌, length, nat_lt}
-use Rattle.std.specs.Prelude.{Option, None, Some, ⊤, option_to_list, slice_get, if◌then◌else◌}
-use Rattle.thompson_nfa.specs.Automaton.{Automaton, Node}
+use Rattle.std.specs.Prelude.{◌≡◌, ℕ, ◌-◌, ◌<◌, ◌≤◌, ◌⊎◌, Bool, true, false, ◌||◌, ◌==◌, List, ◌++◌, length, nat_lt, Option, None, Some, ⊤, option_to_list, slice_get, if◌then◌else◌}
+use Rattle.nfa_paths.specs.Common.{Automaton, Node, node_at}
 use Rattle.thompson_nfa.specs.Automaton.Node.{Look}
 use Rattle.thompson_nfa.specs.Looks.{is_word_byte}
 use Rattle.thompson_nfa.specs.declared.look.Look as looks
-use Rattle.thompson_nfa.specs.declared.look.Look.TheVariants.{WordUnicode, WordUnicodeNegate}
-use Rattle.thompson_nfa.specs.declared.look.Look.TheVariants.{WordStartUnicode}
-use Rattle.thompson_nfa.specs.declared.look.Look.TheVariants.{WordEndUnicode}
-use Rattle.thompson_nfa.specs.declared.look.Look.TheVariants.{WordStartHalfUnicode, WordEndHalfUnicode}
-use Rattle.nfa_paths.specs.Paths.{node_at}
+use Rattle.thompson_nfa.specs.declared.look.Look.TheVariants.{WordUnicode, WordUnicodeNegate, WordStartUnicode, WordEndUnicode, WordStartHalfUnicode, WordEndHalfUnicode}
 use Rattle.nfa_determinize.specs.Closures.{Holding, holding_at}
 
 -- the assertion is not one of a Unicode word

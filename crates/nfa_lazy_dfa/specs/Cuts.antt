@@ -1,7 +1,6 @@
 -- Bytes that an NFA treats alike.
 use Rattle.std.specs.Prelude.{◌≡◌, ℕ, ◌+◌, ◌<◌, Bool, false, List, slice_index_or}
-use Rattle.thompson_nfa.specs.Automaton.{Automaton}
-use Rattle.nfa_paths.specs.Paths.{node_at, target_on}
+use Rattle.nfa_paths.specs.Common.{Automaton, node_at, target_on}
 
 -- no cut is between the byte and the next one
 pub record IsUncut (cuts : List Bool) (k : ℕ) : Type 0 where

@@ -1,6 +1,6 @@
 -- The options of a lazy DFA that were set.
 use Rattle.std.specs.Prelude.{ℕ, Option}
-use Rattle.regex_search_core.specs.declared.search.MatchKind.{MatchKind}
+use Rattle.nfa_paths.specs.Common.{MatchKind}
 
 -- The match kind, the bytes that the rows of a cache may take, and how often a search may clear them. `None` there is
 -- no limit.

@@ -1,10 +1,6 @@
 -- Where a scan is, and what it found so far.
 use Rattle.std.specs.Prelude.{◌≡◌, ℕ, ◌-◌, ◌/◌, Bool, false, true, [], ◌∷◌, Option, None, is_some, option_map}
-use Rattle.regex_search_core.specs.Found.{HalfFound, half_found_of}
-use Rattle.regex_search_core.specs.Search.{Search}
-use Rattle.regex_search_core.specs.declared.search.MatchKind.{MatchKind}
-use Rattle.thompson_nfa.specs.Automaton.{Automaton}
-use Rattle.nfa_paths.specs.Paths.{IsHalfAnswer}
+use Rattle.nfa_paths.specs.Common.{HalfFound, half_found_of, Search, MatchKind, Automaton, IsHalfAnswer}
 use Rattle.nfa_determinize.specs.Configurations.{IsSettled, half_at, scanned}
 use Rattle.nfa_lazy_dfa.specs.Rows.{IsAt, IsRowOf}
 use Rattle.nfa_lazy_dfa.specs.Stances.{Stance}

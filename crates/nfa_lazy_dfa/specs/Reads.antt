@@ -1,8 +1,7 @@
 -- Which bytes a scan has counted.
 use Rattle.std.specs.Prelude.{◌≡◌, ℕ, ◌+◌, ◌-◌, ◌≤◌, ◌⊎◌, Bool, true, false, List, length}
 use Rattle.regex_search_core.specs.PatternSets.{size_of_set}
-use Rattle.regex_search_core.specs.Search.{Search}
-use Rattle.nfa_paths.specs.Overlaps.{HoldsPattern}
+use Rattle.nfa_paths.specs.Common.{Search, HoldsPattern}
 use Rattle.nfa_determinize.specs.Configurations.{IsSettled, scanned}
 use Rattle.nfa_lazy_dfa.specs.Configs.{kind_of, nfa_of}
 use Rattle.nfa_lazy_dfa.specs.Rows.{steps_of}

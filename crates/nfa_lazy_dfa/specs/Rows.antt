@@ -1,12 +1,7 @@
 -- The rows of a cache, and what each cell says.
-use Rattle.std.specs.Prelude.{◌≡◌, ℕ, ◌+◌, ◌-◌, ◌*◌, ◌/◌, ◌%◌, ◌<◌, ◌≤◌, ◌≢◌, List, All, length, map, replicate}
-use Rattle.std.specs.Prelude.{Option, None, Some, is_some, option_map, slice_get, slice_index_or, true}
+use Rattle.std.specs.Prelude.{◌≡◌, ℕ, ◌+◌, ◌-◌, ◌*◌, ◌/◌, ◌%◌, ◌<◌, ◌≤◌, ◌≢◌, List, All, length, map, replicate, Option, None, Some, is_some, option_map, slice_get, slice_index_or, true}
 use Rattle.std.specs.List.{sum_by}
-use Rattle.regex_search_core.specs.Patterns.{number_of}
-use Rattle.regex_search_core.specs.Search.{Search}
-use Rattle.regex_search_core.specs.declared.primitives.PatternID.{PatternID}
-use Rattle.regex_search_core.specs.declared.search.MatchKind.{MatchKind}
-use Rattle.thompson_nfa.specs.Automaton.{Automaton}
+use Rattle.nfa_paths.specs.Common.{number_of, Search, PatternID, MatchKind, Automaton}
 use Rattle.nfa_determinize.specs.Configurations.{scanned}
 use Rattle.nfa_lazy_dfa.specs.Stances.{Stance, IsNext, StandsFor, hit_here, stance_of}
 use Rattle.nfa_lazy_dfa.specs.declared.cache.Cache.{Cache}

@@ -1,6 +1,6 @@
 -- Places by where the cells of a row begin.
 use Rattle.std.specs.Prelude.{ℕ, ◌/◌, Option}
-use Rattle.regex_search_core.specs.declared.search.HalfMatch.{HalfMatch}
+use Rattle.nfa_paths.specs.Common.{HalfMatch}
 use Rattle.nfa_lazy_dfa.specs.declared.scan.Place.{Place}
 
 -- the place at a position, in the row whose cells begin at `first`

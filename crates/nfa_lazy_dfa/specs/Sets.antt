@@ -1,9 +1,6 @@
 -- What a search for the patterns of all matches adds to a set of patterns.
 use Rattle.std.specs.Prelude.{◌≡◌, ◌↔◌, ◌⊎◌, ℕ, ◌<◌, Bool, true, false, List, length}
-use Rattle.regex_search_core.specs.Search.{Search}
-use Rattle.thompson_nfa.specs.Automaton.{Automaton}
-use Rattle.nfa_paths.specs.Graphs.{In}
-use Rattle.nfa_paths.specs.Overlaps.{HoldsPattern, IsPatternOf, IsPermitted, IsPermittedEnd}
+use Rattle.nfa_paths.specs.Common.{Search, Automaton, In, HoldsPattern, IsPatternOf, IsPermitted, IsPermittedEnd}
 
 -- The set gains these patterns, but for those at or above its capacity. `met` says whether one was below it.
 pub record AddsEach (hits : List ℕ) (old : List Bool) (met : Bool) (new : List Bool) : Type 0 where

@@ -1,13 +1,7 @@
 -- What a row of a lazy DFA stands for, and where a byte leads.
-use Rattle.std.specs.Prelude.{◌≡◌, ℕ, ◌-◌, Bool, true, not, ◌&&◌, List, [], ◌∷◌, ◌++◌, Option, None, Some, is_some}
-use Rattle.std.specs.Prelude.{map, option_map, option_to_list, slice_get, if◌then◌else◌}
-use Rattle.regex_search_core.specs.Patterns.{number_of}
-use Rattle.regex_search_core.specs.Search.{Search}
-use Rattle.regex_search_core.specs.declared.search.MatchKind.{MatchKind}
+use Rattle.std.specs.Prelude.{◌≡◌, ℕ, ◌-◌, Bool, true, not, ◌&&◌, List, [], ◌∷◌, ◌++◌, Option, None, Some, is_some, map, option_map, option_to_list, slice_get, if◌then◌else◌}
+use Rattle.nfa_paths.specs.Common.{number_of, Search, MatchKind, Automaton, In, start_state}
 use Rattle.regex_search_core.specs.declared.search.MatchKind.TheVariants.{All, LeftmostFirst}
-use Rattle.thompson_nfa.specs.Automaton.{Automaton}
-use Rattle.nfa_paths.specs.Graphs.{In}
-use Rattle.nfa_paths.specs.Paths.{start_state}
 use Rattle.nfa_determinize.specs.Closures.{Holding, closure, holding_at, kept, pattern_by_kind, state_pattern, step}
 use Rattle.nfa_determinize.specs.Configurations.{Configuration, start_here}
 use Rattle.nfa_lazy_dfa.specs.Assertions.{IsRead, SameLooks, sees}

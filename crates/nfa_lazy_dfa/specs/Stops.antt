@@ -1,7 +1,6 @@
 -- Why a search of a lazy DFA stops without an answer.
 use Rattle.std.specs.Prelude.{◌≡◌, ℕ, ◌+◌, ◌≤◌, Some, ⊤, slice_get}
-use Rattle.regex_search_core.specs.Search.{Search}
-use Rattle.thompson_nfa.specs.Automaton.{Automaton}
+use Rattle.nfa_paths.specs.Common.{Search, Automaton}
 use Rattle.nfa_lazy_dfa.specs.Assertions.{IsQuit}
 use Rattle.nfa_lazy_dfa.specs.declared.error.StopError.{StopError}
 use Rattle.nfa_lazy_dfa.specs.declared.error.StopError.TheVariants.{GaveUp, Quit, Memory}

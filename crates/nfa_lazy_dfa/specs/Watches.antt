@@ -1,7 +1,6 @@
 -- A scan that found nothing yet, and the last position at which no path of an earlier start was left.
 use Rattle.std.specs.Prelude.{◌≡◌, ℕ, ◌%◌, ◌/◌, ◌≤◌, [], ◌∷◌, None}
-use Rattle.regex_search_core.specs.Search.{Search}
-use Rattle.thompson_nfa.specs.Automaton.{Automaton}
+use Rattle.nfa_paths.specs.Common.{Search, Automaton}
 use Rattle.nfa_determinize.specs.Idles.{StartsFrom}
 use Rattle.nfa_lazy_dfa.specs.Places.{IsFoundAt}
 use Rattle.nfa_lazy_dfa.specs.Rows.{IsRowOf}

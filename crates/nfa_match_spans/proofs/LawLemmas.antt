@@ -1,17 +1,9 @@
 -- Each accepting path of a search is a way, and so writes its bounds if each way does.
-use Rattle.std.proofs.Common.{◌≡◌, ℕ, suc, zero, ◌+◌, ◌-◌, inl, inr, List, [], ◌∷◌, map, refl, ap, sym, arith}
-use Rattle.std.proofs.Common.{◌∙◌, subst}
-use Rattle.std.specs.Prelude.{Option, Some, None, true, false, Bool, ◌||◌, ◌==◌, option_map}
-use Rattle.std.specs.Prelude.{option_and_then, option_to_list, filter_map, if◌then◌else◌, nat_lt, slice_get}
+use Rattle.std.proofs.Common.{◌≡◌, ℕ, suc, zero, ◌+◌, ◌-◌, inl, inr, List, [], ◌∷◌, map, refl, ap, sym, arith, ◌∙◌, subst, Option, Some, None, true, false, Bool, ◌||◌, ◌==◌, option_map, option_and_then, option_to_list, filter_map, if◌then◌else◌, nat_lt, slice_get}
 use Rattle.std.specs.Option.{option_map_or}
-use Rattle.regex_search_core.specs.Search.{Search, is_anchored}
+use Rattle.nfa_paths.specs.Common.{Search, is_anchored, Automaton, Node, look_holds, Pair, In, Linked, PathTo, node_at, start_state, start_count, starts, pairs_from, edges, edges_of, byte_at, target_on, first_target, holds_byte}
 use Rattle.thompson_nfa.specs.declared.state.Transition.{Transition}
-use Rattle.thompson_nfa.specs.Automaton.{Automaton, Node}
 use Rattle.thompson_nfa.specs.Automaton.Node.{ByteRange, Sparse, Dense, Look}
-use Rattle.thompson_nfa.specs.Looks.{look_holds}
-use Rattle.nfa_paths.specs.Graphs.{Pair, In, Linked, PathTo}
-use Rattle.nfa_paths.specs.Paths.{node_at, start_state, start_count, starts, pairs_from, edges, edges_of, byte_at}
-use Rattle.nfa_paths.specs.Paths.{target_on, first_target, holds_byte}
 use Rattle.nfa_engines.specs.GapLaws.{PathsWriteTheirEnds}
 use Rattle.nfa_match_spans.specs.StatePaths.{targets, reads, position_after, open_edges, IsStart, IsStatePath, RecordsMatchSpans}
 use Rattle.nfa_paths.proofs.MemberLemmas.{In-map}

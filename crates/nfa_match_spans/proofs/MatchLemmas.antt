@@ -1,24 +1,13 @@
 -- Where each way writes its bounds, a match is that of the path which its search answers.
-use Rattle.std.proofs.Common.{◌≡◌, ℕ, ◌<◌, List, refl, sym, ap, ◌∙◌, subst, arith, rules}
-use Rattle.std.specs.Prelude.{Option, Some, None, IfSome, true, false, Bool, MatchBool, option_and_then, option_map}
-use Rattle.regex_search_core.specs.Found.{Found, HalfFound}
-use Rattle.regex_search_core.specs.Groups.{slot_count}
-use Rattle.regex_search_core.specs.Search.{Search, is_anchored}
-use Rattle.regex_search_core.specs.Slots.{match_of}
-use Rattle.regex_search_core.specs.declared.search.MatchKind.{MatchKind}
-use Rattle.thompson_nfa.specs.Automaton.{Automaton, IsAutomaton}
-use Rattle.nfa_paths.specs.Graphs.{Pair, EndsWith}
-use Rattle.nfa_paths.specs.Paths.{raised, is_utf8_empty, path_half, path_pattern, slot_row}
-use Rattle.nfa_paths.specs.Paths.{IsScanAnswer, IsKeptAnswer, IsRestartedAnswer, IsSearchAnswer, IsFindAnswer}
-use Rattle.nfa_paths.specs.Paths.{IsHalfAnswer}
+use Rattle.std.proofs.Common.{◌≡◌, ℕ, ◌<◌, List, refl, sym, ap, ◌∙◌, subst, arith, rules, Option, Some, None, IfSome, true, false, Bool, MatchBool, option_and_then, option_map}
+use Rattle.nfa_paths.specs.Common.{Found, HalfFound, slot_count, Search, is_anchored, match_of, MatchKind, Automaton, IsAutomaton, Pair, EndsWith, raised, is_utf8_empty, path_half, path_pattern, slot_row, IsScanAnswer, IsKeptAnswer, IsRestartedAnswer, IsSearchAnswer, IsFindAnswer, IsHalfAnswer}
 use Rattle.nfa_paths.proofs.StartLemmas.{raised-zero}
 use Rattle.nfa_paths.proofs.AnswerLemmas.{scan_answer-leads, search_answer-unique, never_none}
 use Rattle.nfa_paths.proofs.ExistenceLemmas.{scan_answer-none}
 use Rattle.nfa_paths.proofs.PathToLemmas.{EndsWith-last}
 use Rattle.nfa_engines.specs.Agreement.{end_of}
 use Rattle.nfa_engines.proofs.GapLemmas.{path-match}
-use Rattle.nfa_match_spans.specs.Matches.{AnswersBytes, AnswersNoBytes, AreOneMatch, HasNoByteAt, MatchesNothing}
-use Rattle.nfa_match_spans.specs.Matches.{PathsReadBytes}
+use Rattle.nfa_match_spans.specs.Matches.{AnswersBytes, AnswersNoBytes, AreOneMatch, HasNoByteAt, MatchesNothing, PathsReadBytes}
 use Rattle.nfa_match_spans.specs.StatePaths.{RecordsMatchSpans}
 use Rattle.nfa_match_spans.proofs.LawLemmas.{paths-recorded, start-anchored}
 

@@ -1,22 +1,14 @@
 -- The steps of a search for a way that does not write its bounds.
-use Rattle.std.proofs.Common.{◌≡◌, ℕ, suc, zero, ◌+◌, ◌<◌, ◌≤◌, inl, inr, List, [], ◌∷◌, ◌++◌, length, get_or, take}
-use Rattle.std.proofs.Common.{refl, ap, sym, ◌∙◌, arith, subst, below_more}
-use Rattle.std.specs.Prelude.{Option, Some, None, true, false, Bool, All, IfSome, IsTrue, ◌↔◌, filter_map, slice_get}
+use Rattle.std.proofs.Common.{◌≡◌, ℕ, suc, zero, ◌+◌, ◌<◌, ◌≤◌, inl, inr, List, [], ◌∷◌, ◌++◌, length, get_or, take, refl, ap, sym, ◌∙◌, arith, subst, below_more, Option, Some, None, true, false, Bool, All, IfSome, IsTrue, ◌↔◌, filter_map, slice_get}
 use Rattle.std.proofs.lemmas.List.{take_more, take_all, take-append-le, length-append}
 use Rattle.std.proofs.lemmas.Option.{get_or_from_slice_get}
 use Rattle.regex_search_core.specs.declared.search.Anchored.TheVariants.{No, Yes, Pattern}
-use Rattle.regex_search_core.specs.Patterns.{number_of}
-use Rattle.regex_search_core.specs.declared.primitives.PatternID.{PatternID}
+use Rattle.nfa_paths.specs.Common.{number_of, PatternID, Automaton, Node, LeadsBelow, In, node_at, pattern_of}
 use Rattle.thompson_nfa.specs.declared.state.Transition.{Transition}
-use Rattle.thompson_nfa.specs.Automaton.{Automaton, Node, LeadsBelow}
 use Rattle.thompson_nfa.specs.Automaton.Node.{Sparse, Dense, Union, BinaryUnion, Fail, Match}
-use Rattle.nfa_paths.specs.Graphs.{In}
-use Rattle.nfa_paths.specs.Paths.{node_at, pattern_of}
 use Rattle.nfa_paths.proofs.MemberLemmas.{In-append, In-append_left, All-In}
 use Rattle.nfa_match_spans.specs.StatePaths.{targets, IsStart}
-use Rattle.nfa_match_spans.specs.PathStates.{fresh_path_state, at_state, after_node, next_places, is_recorded}
-use Rattle.nfa_match_spans.specs.PathStates.{IsFresh, GainsPathStates, IsFine}
-use Rattle.nfa_match_spans.specs.PathStates.{IsClosed, IsUnderWay, IsLedTo}
+use Rattle.nfa_match_spans.specs.PathStates.{fresh_path_state, at_state, after_node, next_places, is_recorded, IsFresh, GainsPathStates, IsFine, IsClosed, IsUnderWay, IsLedTo}
 use Rattle.nfa_match_spans.proofs.StatePathLemmas.{In-mapped, IsLedTo-fresh, IsLedTo-next}
 use Rattle.nfa_match_spans.specs.declared.path_state.PathState.{PathState}
 

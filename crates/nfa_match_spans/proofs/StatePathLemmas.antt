@@ -1,19 +1,12 @@
 -- Ways, and the places that they lead to.
-use Rattle.std.proofs.Common.{◌≡◌, ℕ, ◌+◌, ◌*◌, ◌<◌, length, List, [], ◌∷◌, ◌++◌, map, refl, sym, ◌∙◌, rules, arith}
-use Rattle.std.proofs.Common.{subst}
-use Rattle.std.specs.Prelude.{Option, Some, None, true, false, ◌&&◌}
+use Rattle.std.proofs.Common.{◌≡◌, ℕ, ◌+◌, ◌*◌, ◌<◌, length, List, [], ◌∷◌, ◌++◌, map, refl, sym, ◌∙◌, rules, arith, subst, Option, Some, None, true, false, ◌&&◌}
 use Rattle.std.specs.Option.{option_or}
-use Rattle.thompson_nfa.specs.Automaton.{Automaton, IsAutomaton}
-use Rattle.nfa_paths.specs.Graphs.{Pair, In, HeadIs, Linked, EndsWith}
-use Rattle.nfa_paths.specs.Paths.{node_at, pattern_of, slot_among}
+use Rattle.nfa_paths.specs.Common.{Automaton, IsAutomaton, Pair, In, HeadIs, Linked, EndsWith, node_at, pattern_of, slot_among}
 use Rattle.nfa_paths.proofs.PathToLemmas.{EndsWith-last}
 use Rattle.nfa_paths.proofs.PatternLemmas.{node-pattern}
 use Rattle.nfa_match_spans.specs.StatePaths.{targets, position_after, open_edges, IsStatePath, PatternRecordsMatchSpans, RecordsMatchSpans}
-use Rattle.nfa_match_spans.specs.PathStates.{fresh_path_state, at_state, after_node, next_places, is_recorded}
-use Rattle.nfa_match_spans.specs.PathStates.{IsFresh, Describes, IsLedTo}
-use Rattle.nfa_match_spans.specs.PathStates.{IsClosed}
-use Rattle.nfa_match_spans.proofs.PathStateLemmas.{written, slot_among-append}
-use Rattle.nfa_match_spans.proofs.PathStateLemmas.{Describes-fresh, Describes-after}
+use Rattle.nfa_match_spans.specs.PathStates.{fresh_path_state, at_state, after_node, next_places, is_recorded, IsFresh, Describes, IsLedTo, IsClosed}
+use Rattle.nfa_match_spans.proofs.PathStateLemmas.{written, slot_among-append, Describes-fresh, Describes-after}
 use Rattle.nfa_match_spans.specs.declared.path_state.PathState.{PathState}
 use Rattle.nfa_paths.proofs.OptionLemmas.{option_or-None, option_or-assoc}
 use Rattle.nfa_paths.proofs.MemberLemmas.{In-map}

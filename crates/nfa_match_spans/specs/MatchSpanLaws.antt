@@ -1,11 +1,6 @@
 -- What follows if each way of an NFA writes its bounds.
 use Rattle.std.specs.Prelude.{◌≡◌, ◌↔◌, ℕ, ◌<◌, Bool, List, false, true, Option, None, Some, IfSome, option_map}
-use Rattle.regex_search_core.specs.Found.{Found, HalfFound}
-use Rattle.regex_search_core.specs.Search.{Search, is_anchored}
-use Rattle.regex_search_core.specs.declared.search.MatchKind.{MatchKind}
-use Rattle.thompson_nfa.specs.Automaton.{Automaton, IsAutomaton}
-use Rattle.nfa_paths.specs.Graphs.{Pair, NoPath}
-use Rattle.nfa_paths.specs.Paths.{edges, starts, raised, is_utf8_empty, IsMatch, IsHalfAnswer, IsSearchAnswer, IsFindAnswer}
+use Rattle.nfa_paths.specs.Common.{Found, HalfFound, Search, is_anchored, MatchKind, Automaton, IsAutomaton, Pair, NoPath, edges, starts, raised, is_utf8_empty, IsMatch, IsHalfAnswer, IsSearchAnswer, IsFindAnswer}
 use Rattle.nfa_engines.specs.Agreement.{end_of}
 use Rattle.nfa_engines.specs.GapLaws.{PathsWriteTheirEnds, StartsBeforePaths}
 use Rattle.nfa_match_spans.specs.Matches.{AnswersBytes, AnswersNoBytes, AreOneMatch, HasNoByteAt, MatchesNothing}

@@ -1,11 +1,6 @@
 -- What a match says about the path that its search answers, if each way of the NFA writes its bounds.
 use Rattle.std.specs.Prelude.{◌≡◌, ℕ, ◌<◌, ◌≤◌, Bool, false, List, Option, None, Some, IfSome, ⊤}
-use Rattle.regex_search_core.specs.Found.{Found}
-use Rattle.regex_search_core.specs.Search.{Search}
-use Rattle.regex_search_core.specs.declared.search.MatchKind.{MatchKind}
-use Rattle.thompson_nfa.specs.Automaton.{Automaton}
-use Rattle.nfa_paths.specs.Graphs.{Pair, EndsWith, PathTo}
-use Rattle.nfa_paths.specs.Paths.{edges, starts, is_utf8_empty, path_pattern, IsMatch, IsSearchAnswer}
+use Rattle.nfa_paths.specs.Common.{Found, Search, MatchKind, Automaton, Pair, EndsWith, PathTo, edges, starts, is_utf8_empty, path_pattern, IsMatch, IsSearchAnswer}
 pub use Rattle.nfa_engines.specs.Accepting.{MatchesNothing}
 
 -- the match is that of this accepting path: its pattern, its start and its end

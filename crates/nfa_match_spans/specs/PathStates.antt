@@ -1,11 +1,8 @@
 -- States with what the ways to them have done. A test of all ways visits these.
-use Rattle.std.specs.Prelude.{◌≡◌, ℕ, ◌+◌, ◌*◌, ◌≤◌, ◌<◌, ◌↔◌, Bool, true, false, not, ◌&&◌, ◌==◌, List, [], ◌∷◌}
-use Rattle.std.specs.Prelude.{◌++◌, map, take, length, slice_index_or, Option, Some, if◌then◌else◌}
+use Rattle.std.specs.Prelude.{◌≡◌, ℕ, ◌+◌, ◌*◌, ◌≤◌, ◌<◌, ◌↔◌, Bool, true, false, not, ◌&&◌, ◌==◌, List, [], ◌∷◌, ◌++◌, map, take, length, slice_index_or, Option, Some, if◌then◌else◌}
 use Rattle.std.specs.List.{sum_by}
-use Rattle.thompson_nfa.specs.Automaton.{Automaton, Node}
+use Rattle.nfa_paths.specs.Common.{Automaton, Node, Pair, In, HeadIs, Linked, node_at, pattern_of, slot_among}
 use Rattle.thompson_nfa.specs.Automaton.Node.{Capture}
-use Rattle.nfa_paths.specs.Graphs.{Pair, In, HeadIs, Linked}
-use Rattle.nfa_paths.specs.Paths.{node_at, pattern_of, slot_among}
 use Rattle.nfa_match_spans.specs.StatePaths.{targets, reads, open_edges, IsStart}
 use Rattle.nfa_match_spans.specs.declared.path_state.PathState.{PathState}
 

@@ -1,10 +1,7 @@
 -- The ways through the states of an NFA, for any haystack, and whether each way writes its bounds.
 use Rattle.std.specs.Prelude.{◌≡◌, ℕ, ◌+◌, Bool, true, false, List, [], ◌∷◌, map, filter_map, Some, if◌then◌else◌}
-use Rattle.regex_search_core.specs.declared.search.Anchored.{Anchored}
-use Rattle.thompson_nfa.specs.Automaton.{Automaton, Node}
+use Rattle.nfa_paths.specs.Common.{Anchored, Automaton, Node, Pair, HeadIs, Linked, EndsWith, node_at, pattern_of, start_state, IsMatch}
 use Rattle.thompson_nfa.specs.Automaton.Node.{ByteRange, Sparse, Dense, Look, Union, BinaryUnion, Capture, Fail, Match}
-use Rattle.nfa_paths.specs.Graphs.{Pair, HeadIs, Linked, EndsWith}
-use Rattle.nfa_paths.specs.Paths.{node_at, pattern_of, start_state, IsMatch}
 use Rattle.nfa_engines.specs.GapLaws.{WritesItsEnds}
 
 -- each state that the state may lead to

@@ -1,18 +1,9 @@
 -- The match of an anchored search, from its half match.
-use Rattle.std.proofs.Common.{◌≡◌, ◌∙◌, ℕ, Bool, true, false, refl, sym, ap, subst}
-use Rattle.std.proofs.Common.{arith, get_or, inl, inr, ◌+◌}
+use Rattle.std.proofs.Common.{◌≡◌, ◌∙◌, ℕ, Bool, true, false, refl, sym, ap, subst, arith, get_or, inl, inr, ◌+◌, Option, None, Some, IfNone, IfSome, ◌<◌, ◌≤◌, length, option_and_then, option_map}
 use Rattle.std.proofs.lemmas.Bool.{cases_lt, lt-ltb}
 use Rattle.std.proofs.lemmas.Option.{slice_get-get_or}
-use Rattle.std.specs.Prelude.{Option, None, Some, IfNone, IfSome, ◌<◌, ◌≤◌, length, option_and_then, option_map}
-use Rattle.regex_search_core.specs.Found.{Found, HalfFound, found_of}
-use Rattle.regex_search_core.specs.Groups.{slot_count}
-use Rattle.regex_search_core.specs.Search.{Search, is_anchored}
-use Rattle.regex_search_core.specs.Slots.{match_of}
-use Rattle.regex_search_core.specs.declared.search.Match.{Match}
-use Rattle.regex_search_core.specs.declared.search.MatchKind.{MatchKind}
+use Rattle.nfa_paths.specs.Common.{Found, HalfFound, found_of, slot_count, Search, is_anchored, match_of, Match, MatchKind, Automaton, IsAutomaton, IsFindAnswer, IsHalfAnswer, byte_at, is_utf8_empty, path_pattern, slot_row}
 use Rattle.regex_search_core.specs.declared.search.MatchKind.TheVariants.{LeftmostFirst}
-use Rattle.thompson_nfa.specs.Automaton.{Automaton, IsAutomaton}
-use Rattle.nfa_paths.specs.Paths.{IsFindAnswer, IsHalfAnswer, byte_at, is_utf8_empty, path_pattern, slot_row}
 use Rattle.nfa_paths.proofs.InsideLemmas.{match-within}
 use Rattle.nfa_search_base.proofs.CallerLemmas.{pattern-of}
 use Rattle.nfa_engines.specs.Accepting.{MatchesNothing}

@@ -1,9 +1,6 @@
 -- The captures of a whole text, and the first of them.
-use Rattle.std.proofs.Common.{◌≡◌, ℕ, zero, suc, List, [], ◌∷◌, map, take, refl, ap, subst}
-use Rattle.std.specs.Prelude.{All, Option, None, Some}
-use Rattle.regex_search_core.specs.Found.{Found}
-use Rattle.regex_search_core.specs.Search.{Search, whole}
-use Rattle.regex_search_core.specs.Slots.{Captured}
+use Rattle.std.proofs.Common.{◌≡◌, ℕ, zero, suc, List, [], ◌∷◌, map, take, refl, ap, subst, All, Option, None, Some}
+use Rattle.nfa_paths.specs.Common.{Found, Search, whole, Captured}
 use Rattle.nfa_search_base.specs.CapturesLists.{AreRows, HasGroups}
 use Rattle.nfa_search_base.specs.CapturesRuns.{match_in}
 use Rattle.nfa_search_base.specs.Lists.{AreDisjoint}

@@ -1,9 +1,7 @@
 -- The first matches of an input that is a whole text, in the words of texts.
 use Rattle.std.proofs.Common.{◌≡◌, ◌∙◌, ◌⊎◌, ◌<◌, ◌+◌, ◌-◌, ℕ, List, arith, inl, inr, length, map, subst}
 use Rattle.std.proofs.lemmas.List.{length-map}
-use Rattle.regex_search_core.specs.Found.{found_of}
-use Rattle.regex_search_core.specs.Search.{Search, whole}
-use Rattle.regex_search_core.specs.declared.search.Match.{Match}
+use Rattle.nfa_paths.specs.Common.{found_of, Search, whole, Match}
 use Rattle.nfa_search_base.specs.Lists.{AreFirstMatches, AreMatches}
 use Rattle.nfa_choice.specs.ChoiceState.{ChoiceState, kind_in}
 use Rattle.nfa_meta.specs.Gaps.{AreAllOf, AreFirstOf}

@@ -1,8 +1,6 @@
 -- A regex as the engine of an iteration over half matches: when its iterator may search, and what it gives and keeps.
 use Rattle.std.proofs.Common.{◌≡◌, Bool, false, Ok, refl, subst}
-use Rattle.regex_search_core.specs.Found.{HalfFound, half_found_of}
-use Rattle.regex_search_core.specs.Search.{Search}
-use Rattle.regex_search_core.specs.declared.search.HalfMatch.{HalfMatch}
+use Rattle.nfa_paths.specs.Common.{HalfFound, half_found_of, Search, HalfMatch}
 use Rattle.nfa_search_base.specs.WithCache.{WithCache}
 use Rattle.nfa_search_base.specs.StepsWith.{TakesStepWith, steps_with_state, steps_with_iter_state}
 use Rattle.nfa_search_base.specs.Serving.{may_ask}
@@ -20,8 +18,7 @@ use Rattle.nfa_hybrid.specs.HalfLists.{AnswersHalf}
 use Rattle.nfa_choice.specs.ChoiceState.{ChoiceState, KeepsEngines, kind_in, pike_of}
 use Rattle.nfa_choice.proofs.FindLemmas.{keeps-self, keeps-then, pike-kept}
 use Rattle.nfa_hybrid.proofs.HalfListLemmas.{HalvesGiven, half-lies_infallibly, halves-given}
-use Rattle.nfa_meta.specs.Halves.{AsksByEnds, FindsHalfAfterDfa, HalvesBySearches, HalvesGiveKept}
-use Rattle.nfa_meta.specs.Halves.{half_steps, halves_next}
+use Rattle.nfa_meta.specs.Halves.{AsksByEnds, FindsHalfAfterDfa, HalvesBySearches, HalvesGiveKept, half_steps, halves_next}
 use Rattle.nfa_meta.specs.declared.regex.half_matches.ByEnds.{ByEnds}
 use Rattle.nfa_meta.specs.declared.regex.half_matches.HalfMatches.{HalfMatches}
 

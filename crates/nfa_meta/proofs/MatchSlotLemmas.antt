@@ -1,17 +1,8 @@
 -- The slots of a search whose NFA has only those of one match.
-use Rattle.std.proofs.Common.{◌≡◌, ◌∙◌, ℕ, zero, suc, ◌*◌, ◌<◌, Bool, true, false, List, [], ◌∷◌, length, nat_le, ap, arith, refl, sym}
-use Rattle.std.specs.Prelude.{◌≤◌, All, if◌then◌else◌, Option, None, Some, option_and_then, option_map, slice_get, slice_set}
+use Rattle.std.proofs.Common.{◌≡◌, ◌∙◌, ℕ, zero, suc, ◌*◌, ◌<◌, Bool, true, false, List, [], ◌∷◌, length, nat_le, ap, arith, refl, sym, ◌≤◌, All, if◌then◌else◌, Option, None, Some, option_and_then, option_map, slice_get, slice_set}
 use Rattle.std.proofs.lemmas.List.Elements.{All-cons, All-nil}
 use Rattle.std.proofs.lemmas.Option.{slice_get_within}
-use Rattle.regex_search_core.specs.Found.{Found}
-use Rattle.regex_search_core.specs.Groups.{slot_count}
-use Rattle.regex_search_core.specs.Search.{Search}
-use Rattle.regex_search_core.specs.Slots.{match_of, span_at}
-use Rattle.regex_search_core.specs.declared.search.MatchKind.{MatchKind}
-use Rattle.regex_search_core.specs.declared.search.Span.{Span}
-use Rattle.thompson_nfa.specs.Automaton.{Automaton}
-use Rattle.nfa_paths.specs.Graphs.{Pair}
-use Rattle.nfa_paths.specs.Paths.{IsAnswer, IsFindAnswer, path_pattern, slot_among, slot_row}
+use Rattle.nfa_paths.specs.Common.{Found, slot_count, Search, match_of, span_at, MatchKind, Span, Automaton, Pair, IsAnswer, IsFindAnswer, path_pattern, slot_among, slot_row}
 use Rattle.nfa_search_base.specs.Lists.{IsInside, IsSlotInside}
 use Rattle.nfa_meta.specs.MatchSlots.{match_slots}
 

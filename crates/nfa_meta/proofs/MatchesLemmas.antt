@@ -1,9 +1,7 @@
 -- A regex as the engine of an iteration over matches: when its iterator may search, and what it gives and keeps.
 use Rattle.std.proofs.Common.{◌≡◌, ◌*◌, Bool, false, Ok, Option, Result, arith, inl, length, refl, subst}
 use Rattle.std.proofs.Math.Nat.{le-max_left}
-use Rattle.regex_search_core.specs.Found.{Found, found_of}
-use Rattle.regex_search_core.specs.Search.{Search}
-use Rattle.regex_search_core.specs.declared.search.Match.{Match}
+use Rattle.nfa_paths.specs.Common.{Found, found_of, Search, Match}
 use Rattle.nfa_search_base.specs.Asking.{SameButStart}
 use Rattle.nfa_search_base.specs.EngineSearches.{IsKnownFrom}
 use Rattle.nfa_search_base.specs.WithCache.{WithCache}
@@ -14,8 +12,7 @@ use Rattle.nfa_search_base.specs.Stored.{steps_iter_state, can_step_infallibly, 
 use Rattle.nfa_search_base.specs.IterStates.{fresh, span_of, IsInfalliblyInside}
 use Rattle.nfa_search_base.specs.declared.error.SearchError.{SearchError}
 use Rattle.nfa_search_base.specs.declared.iter.steps.Steps.{Steps}
-use Rattle.nfa_search_base.proofs.EngineLemmas.{KeptBy, SearchesAs, SearchesOf, answers_as, calls-kept, find-lies}
-use Rattle.nfa_search_base.proofs.EngineLemmas.{searches-serve, step-may}
+use Rattle.nfa_search_base.proofs.EngineLemmas.{KeptBy, SearchesAs, SearchesOf, answers_as, calls-kept, find-lies, searches-serve, step-may}
 use Rattle.nfa_search_base.proofs.ItemLemmas.{ItemsOf, items_as}
 use Rattle.nfa_search_base.proofs.LeavingLemmas.{shell-leaves, shell-to_end}
 use Rattle.nfa_search_base.proofs.MatchRunLemmas.{MatchesGiven, matches-given}
@@ -25,8 +22,7 @@ use Rattle.nfa_pikevm.specs.Engines.{Pike, kind_of}
 use Rattle.nfa_pikevm.specs.Finding.{IsSureOf, PikeAnswersMatch}
 use Rattle.nfa_choice.specs.ChoiceState.{ChoiceState, KeepsEngines, kind_in, pike_of}
 use Rattle.nfa_choice.proofs.FindLemmas.{keeps-self, keeps-then, pike-kept}
-use Rattle.nfa_meta.specs.Matches.{AsksByWindow, FindsBySearches, FindsByWindow, FindsGiveKept, MayFindByWindow}
-use Rattle.nfa_meta.specs.Matches.{finds_next, finds_steps}
+use Rattle.nfa_meta.specs.Matches.{AsksByWindow, FindsBySearches, FindsByWindow, FindsGiveKept, MayFindByWindow, finds_next, finds_steps}
 use Rattle.nfa_meta.specs.declared.regex.find_iter.ByWindow.{ByWindow}
 use Rattle.nfa_meta.specs.declared.regex.find_iter.FindMatches.{FindMatches}
 

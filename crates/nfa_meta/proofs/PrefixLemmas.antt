@@ -1,8 +1,6 @@
 -- What is left of a search from a first start on, and that nothing is if the prefix does not occur.
 use Rattle.std.proofs.Common.{◌≡◌, ℕ, refl, sym, subst, arith}
-use Rattle.regex_search_core.specs.Search.{Search}
-use Rattle.regex_search_core.specs.declared.search.MatchKind.{MatchKind}
-use Rattle.thompson_nfa.specs.Automaton.{Automaton}
+use Rattle.nfa_paths.specs.Common.{Search, MatchKind, Automaton}
 use Rattle.nfa_engines.specs.Accepting.{MatchesNothing}
 use Rattle.nfa_engines.specs.StartLaws.{IsFirstStart, MatchStartsArePassed, StartsArePassed, from_start}
 use Rattle.nfa_prefix.specs.PrefixLaws.{NothingIsNoAnswer, NothingIsNoMatch}

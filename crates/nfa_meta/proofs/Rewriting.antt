@@ -5,8 +5,7 @@ use Rattle.std.specs.Fn.{Called, Mut}
 use Rattle.std.specs.Global.{Vec}
 use Rattle.std.specs.List.{FoldsTo}
 use Rattle.std.specs.declared.alloc.AllocError.{AllocError}
-use Rattle.regex_search_core.specs.Search.{whole}
-use Rattle.regex_search_core.specs.Slots.{Captured}
+use Rattle.nfa_paths.specs.Common.{whole, Captured}
 use Rattle.nfa_search_base.specs.CapturesRuns.{CapturesInside}
 use Rattle.nfa_meta.specs.Rewritten.{AppendsBy, TakesMatchesOf, Writes, WritesForMatch, WritesLead}
 

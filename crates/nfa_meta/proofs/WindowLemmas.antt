@@ -1,19 +1,11 @@
 -- The path that answers a search answers the search of a window.
-use Rattle.std.proofs.Common.{Err, Ok, Result, ◌≡◌, ◌⊎◌, inl, inr, ℕ, ◌≤◌, Bool, true, false, List, [], ◌∷◌, refl, ap, sym, ◌∙◌, subst, arith}
-use Rattle.std.specs.Prelude.{IfNone, IfOk, IfSome, Option, None, Some, MatchBool, is_some, replicate, option_and_then, option_map}
+use Rattle.std.proofs.Common.{Err, Ok, Result, ◌≡◌, ◌⊎◌, inl, inr, ℕ, ◌≤◌, Bool, true, false, List, [], ◌∷◌, refl, ap, sym, ◌∙◌, subst, arith, IfNone, IfOk, IfSome, Option, None, Some, MatchBool, is_some, replicate, option_and_then, option_map}
 use Rattle.std.specs.Option.{option_map_or}
 use Rattle.std.proofs.lemmas.List.{length-replicate}
-use Rattle.regex_search_core.specs.Found.{Found, HalfFound}
-use Rattle.regex_search_core.specs.Search.{Search, is_anchored, search_of}
+use Rattle.nfa_paths.specs.Common.{Found, HalfFound, Search, is_anchored, search_of, MatchKind, Automaton, Pair, HeadIs, PathTo, IsFirstTo, IsAnswer, IsFindAnswer, IsHalfAnswer, IsKeptAnswer, IsMatch, IsRestartedAnswer, IsScanAnswer, IsSearchAnswer, edges, is_utf8_empty, node_at, path_half, pattern_of, slot_row, starts}
 use Rattle.regex_search_core.specs.declared.search.Anchored.TheVariants.{Yes}
 use Rattle.regex_search_core.specs.declared.search.Input.{Input}
-use Rattle.regex_search_core.specs.declared.search.MatchKind.{MatchKind}
 use Rattle.regex_search_core.specs.declared.search.MatchKind.TheVariants.{LeftmostFirst}
-use Rattle.thompson_nfa.specs.Automaton.{Automaton}
-use Rattle.nfa_paths.specs.Graphs.{Pair, HeadIs, PathTo, IsFirstTo}
-use Rattle.nfa_paths.specs.Paths.{IsAnswer, IsFindAnswer, IsHalfAnswer, IsKeptAnswer, IsMatch, IsRestartedAnswer}
-use Rattle.nfa_paths.specs.Paths.{IsScanAnswer, IsSearchAnswer, edges, is_utf8_empty, node_at, path_half}
-use Rattle.nfa_paths.specs.Paths.{pattern_of, slot_row, starts}
 use Rattle.nfa_paths.proofs.AnswerLemmas.{scan_answer-leads, scan_answer-unique}
 use Rattle.nfa_paths.proofs.PathToLemmas.{EndsWith-last}
 use Rattle.nfa_determinize.specs.Idles.{StartsFrom}

@@ -1,12 +1,7 @@
 -- What the lists of a regex add to the totals of both caches of its choice.
-use Rattle.std.proofs.Common.{◌≡◌, ℕ, ◌+◌, ◌*◌, ◌≤◌, ◌⊎◌, Bool, List, length, ap, inl, inr, arith}
-use Rattle.std.specs.Prelude.{◌&&◌, not}
+use Rattle.std.proofs.Common.{◌≡◌, ℕ, ◌+◌, ◌*◌, ◌≤◌, ◌⊎◌, Bool, List, length, ap, inl, inr, arith, ◌&&◌, not}
 use Rattle.std.proofs.Math.Nat.{mul-le-mul_left}
-use Rattle.regex_search_core.specs.Found.{Found}
-use Rattle.regex_search_core.specs.Search.{Search, is_anchored}
-use Rattle.regex_search_core.specs.declared.search.MatchKind.{MatchKind}
-use Rattle.thompson_nfa.specs.Automaton.{Automaton}
-use Rattle.nfa_paths.specs.Paths.{span_len, total_degree}
+use Rattle.nfa_paths.specs.Common.{Found, Search, is_anchored, MatchKind, Automaton, span_len, total_degree}
 use Rattle.nfa_paths.proofs.ExistenceLemmas.{search_answer-exists}
 use Rattle.nfa_search_base.specs.WithCaptures.{Row}
 use Rattle.nfa_engines.specs.WorkLaws.{Totals, list_scan_limit}
@@ -14,8 +9,7 @@ use Rattle.nfa_engines.proofs.EngineWorkLemmas.{Worked}
 use Rattle.nfa_engines.proofs.ReachLemmas.{one-scan}
 use Rattle.nfa_choice.specs.ChoiceState.{ChoiceState, RunsByRule, kind_in}
 use Rattle.nfa_choice.specs.WorkLaws.{ChoiceAddsAtMost}
-use Rattle.nfa_choice.proofs.WorkLemmas.{Does, DoesBy, back_in, back-runs, pike_in, pike-runs}
-use Rattle.nfa_choice.proofs.WorkLemmas.{catches-within, finds-within, matches-within, rows-within}
+use Rattle.nfa_choice.proofs.WorkLemmas.{Does, DoesBy, back_in, back-runs, pike_in, pike-runs, catches-within, finds-within, matches-within, rows-within}
 use Rattle.nfa_meta.specs.CapturesMatches.{CatchesByWindow, RegexCatchesOn, RegexCatchesToEnd}
 use Rattle.nfa_meta.specs.Matches.{FindsByWindow, RegexFindsOn, RegexFindsToEnd}
 use Rattle.nfa_meta.specs.WindowRuns.{IsWindowOf, RunsByWindow}

@@ -1,7 +1,6 @@
 -- What a builder makes of the texts of patterns, and why it fails.
 use Rattle.std.specs.Prelude.{◌≡◌, ℕ, true, false, List, Option, None, codes, ⊤}
-use Rattle.thompson_nfa.specs.Automaton.{Automaton, IsAutomaton}
-use Rattle.nfa_paths.specs.Paths.{is_utf8_empty}
+use Rattle.nfa_paths.specs.Common.{Automaton, IsAutomaton, is_utf8_empty}
 use Rattle.nfa_backtrack.specs.Backtrack.{empty_cache}
 use Rattle.nfa_pikevm.specs.Engines.{cache_for}
 use Rattle.nfa_choice.specs.ChoiceState.{ChoiceState}

@@ -1,8 +1,7 @@
 -- The iterator over the captures of a regex.
 use Rattle.std.specs.Prelude.{Bool, List, Option, Result}
 use Rattle.std.specs.Borrow.{MutBor}
-use Rattle.regex_search_core.specs.Search.{Search}
-use Rattle.regex_search_core.specs.Slots.{Captured}
+use Rattle.nfa_paths.specs.Common.{Search, Captured}
 use Rattle.nfa_backtrack.specs.Backtrack.{HoldsNoMore}
 use Rattle.nfa_search_base.specs.WithCaptures.{WithCaptures, GivesCaptures, Row, row_span}
 use Rattle.nfa_search_base.specs.CapturesLists.{HasGroups, AnswersRow}

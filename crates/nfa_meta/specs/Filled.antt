@@ -1,8 +1,7 @@
 -- A text with a template, filled by captures, in place of its matches.
 use Rattle.std.specs.Prelude.{◌≡◌, ◌≤◌, ℕ, false, List, [], ◌∷◌, ◌++◌, All, drop, length, map, slice_range, take}
 use Rattle.std.specs.List.{AllByRecursion}
-use Rattle.regex_search_core.specs.Search.{Search, whole}
-use Rattle.regex_search_core.specs.Slots.{Captured}
+use Rattle.nfa_paths.specs.Common.{Search, whole, Captured}
 use Rattle.nfa_search_base.specs.CapturesLists.{AreRows, HasGroups}
 use Rattle.nfa_search_base.specs.CapturesRuns.{CapturesInside, match_in}
 use Rattle.nfa_search_base.specs.Lists.{AreDisjoint}

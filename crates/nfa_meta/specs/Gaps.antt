@@ -1,10 +1,6 @@
 -- The spans around the matches of a text.
-use Rattle.std.specs.Prelude.{◌≡◌, ◌⊎◌, ◌+◌, ◌≤◌, ◌==◌, ℕ, false, List, [], ◌∷◌, ◌++◌, All, Option, None, Some, drop, length, map}
-use Rattle.std.specs.Prelude.{if◌then◌else◌}
-use Rattle.regex_search_core.specs.Found.{Found, found_of}
-use Rattle.regex_search_core.specs.Search.{whole}
-use Rattle.regex_search_core.specs.declared.search.Match.{Match}
-use Rattle.regex_search_core.specs.declared.search.Span.{Span}
+use Rattle.std.specs.Prelude.{◌≡◌, ◌⊎◌, ◌+◌, ◌≤◌, ◌==◌, ℕ, false, List, [], ◌∷◌, ◌++◌, All, Option, None, Some, drop, length, map, if◌then◌else◌}
+use Rattle.nfa_paths.specs.Common.{Found, found_of, whole, Match, Span}
 use Rattle.nfa_search_base.specs.Lists.{AreDisjoint, AreFirstMatches, AreMatches}
 use Rattle.nfa_choice.specs.ChoiceState.{ChoiceState, kind_in}
 

@@ -2,7 +2,7 @@
 use Rattle.std.specs.Prelude.{ℕ, ◌≡◌, ◌⊎◌, ◌<◌, ◌≤◌, ◌^◌, List, Option, None, option_map}
 use Rattle.std.specs.Str.{IsUtf8}
 use Rattle.std.specs.Str.Parse.{IsNumeral, digits_value, without_leading_plus}
-use Rattle.regex_search_core.specs.Groups.{group_named, slot_at}
+use Rattle.nfa_paths.specs.Common.{group_named, slot_at}
 
 -- a letter, a digit or an underscore
 abbrev pub IsWord : ℕ → Type 0

@@ -2,9 +2,7 @@
 use Rattle.std.specs.Prelude.{List, map, None, Ok, Option, option_map, Bool}
 use Rattle.std.specs.Borrow.{MutBor}
 use Rattle.std.specs.Iterator.{Yields}
-use Rattle.regex_search_core.specs.Found.{HalfFound, half_found_of}
-use Rattle.regex_search_core.specs.Search.{Search}
-use Rattle.regex_search_core.specs.declared.search.HalfMatch.{HalfMatch}
+use Rattle.nfa_paths.specs.Common.{HalfFound, half_found_of, Search, HalfMatch}
 use Rattle.nfa_backtrack.specs.Backtrack.{HoldsNoMore}
 use Rattle.nfa_search_base.specs.Leaving.{DoesSearch, Leaves, LeavesAtEnd}
 use Rattle.nfa_search_base.specs.WithCache.{WithCache}

@@ -1,6 +1,6 @@
 -- The slots of a match.
 use Rattle.std.specs.Prelude.{ℕ, List, [], ◌∷◌, Option, Some}
-use Rattle.regex_search_core.specs.Found.{Found}
+use Rattle.nfa_paths.specs.Common.{Found}
 
 -- the two slots of a match
 abbrev pub match_slots : Found → List (Option ℕ)

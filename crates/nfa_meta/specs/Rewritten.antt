@@ -5,8 +5,7 @@ use Rattle.std.specs.Fn.{Called, Mut}
 use Rattle.std.specs.Global.{Vec}
 use Rattle.std.specs.List.{AllByRecursion, FoldsTo}
 use Rattle.std.specs.declared.alloc.AllocError.{AllocError}
-use Rattle.regex_search_core.specs.Search.{whole}
-use Rattle.regex_search_core.specs.Slots.{Captured}
+use Rattle.nfa_paths.specs.Common.{whole, Captured}
 use Rattle.nfa_search_base.specs.CapturesRuns.{CapturesInside, match_in}
 use Rattle.nfa_search_base.specs.Lists.{AreDisjoint}
 use Rattle.nfa_choice.specs.ChoiceState.{ChoiceState}

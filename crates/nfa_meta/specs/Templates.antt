@@ -1,7 +1,6 @@
 -- A template that captures fill.
 use Rattle.std.specs.Prelude.{ℕ, List, [], flat_map, slice_range, Option, None, Some}
-use Rattle.regex_search_core.specs.Slots.{Captured, group_span}
-use Rattle.regex_search_core.specs.declared.search.Span.{Span}
+use Rattle.nfa_paths.specs.Common.{Captured, group_span, Span}
 use Rattle.nfa_meta.specs.declared.interpolate.Part.{Part}
 use Rattle.nfa_meta.specs.declared.interpolate.Part.TheVariants.{Text, Group}
 

@@ -1,10 +1,6 @@
 -- What of a regex searched: its lazy DFA, or the choice in a window or in the whole span.
 use Rattle.std.specs.Prelude.{◌≡◌, ◌≤◌, ◌⊎◌, ℕ, Bool, List, None, Option, replicate}
-use Rattle.regex_search_core.specs.Found.{Found}
-use Rattle.regex_search_core.specs.Search.{Search}
-use Rattle.regex_search_core.specs.declared.search.MatchKind.{MatchKind}
-use Rattle.thompson_nfa.specs.Automaton.{Automaton}
-use Rattle.nfa_paths.specs.Paths.{IsAnswer, IsFindAnswer}
+use Rattle.nfa_paths.specs.Common.{Found, Search, MatchKind, Automaton, IsAnswer, IsFindAnswer}
 use Rattle.nfa_choice.specs.ChoiceState.{ChoiceState, RunsByRule}
 use Rattle.nfa_meta.specs.Windowed.{IsWindowed}
 

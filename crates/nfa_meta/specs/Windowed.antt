@@ -1,7 +1,6 @@
 -- Searches whose match is in a window of the lazy DFA.
 use Rattle.std.specs.Prelude.{◌≡◌, false}
-use Rattle.regex_search_core.specs.Search.{Search}
-use Rattle.thompson_nfa.specs.Automaton.{Automaton}
+use Rattle.nfa_paths.specs.Common.{Search, Automaton}
 use Rattle.nfa_engines.specs.StartLaws.{IsUnbound}
 
 -- a match may start anywhere in the span and end anywhere, and the first of all paths counts

@@ -1,9 +1,6 @@
 -- Laws of the work of a whole iteration by a regex, by the totals of both caches of its choice.
 use Rattle.std.specs.Prelude.{ℕ, ◌+◌, ◌*◌, List, length}
-use Rattle.regex_search_core.specs.Found.{Found}
-use Rattle.regex_search_core.specs.Search.{Search}
-use Rattle.thompson_nfa.specs.Automaton.{Automaton}
-use Rattle.nfa_paths.specs.Paths.{span_len}
+use Rattle.nfa_paths.specs.Common.{Found, Search, Automaton, span_len}
 use Rattle.nfa_search_base.specs.WithCaptures.{Row}
 use Rattle.nfa_choice.specs.ChoiceState.{ChoiceState}
 use Rattle.nfa_choice.specs.WorkLaws.{ChoiceAddsAtMost}

@@ -1,11 +1,8 @@
 -- The first match pair of a front, also if a search did not follow the pairs after it.
-use Rattle.std.proofs.Common.{◌≡◌, ℕ, suc, ◌≤◌, inl, inr, Bool, true, List, [], ◌∷◌, length, refl, sym, ◌∙◌, arith, rules}
-use Rattle.std.specs.Prelude.{Option, None, Some}
+use Rattle.std.proofs.Common.{◌≡◌, ℕ, suc, ◌≤◌, inl, inr, Bool, true, List, [], ◌∷◌, length, refl, sym, ◌∙◌, arith, rules, Option, None, Some}
 use Rattle.std.specs.Option.{option_map_or}
 use Rattle.std.proofs.lemmas.Bool.{cases_Bool}
-use Rattle.nfa_paths.specs.Graphs.{Pair, Space, In, IsFirstPath, WantedAt}
-use Rattle.nfa_paths.specs.Exploring.{Slots, Task, found, ExploresAfter}
-use Rattle.nfa_paths.specs.Kinds.{Passes, IsFoundBy, found_along, first_match, Scanned, Scanning}
+use Rattle.nfa_paths.specs.Common.{Pair, Space, In, IsFirstPath, WantedAt, Slots, Task, found, ExploresAfter, Passes, IsFoundBy, found_along, first_match, Scanned, Scanning}
 use Rattle.nfa_paths.proofs.PathLemmas.{IsFirst-target}
 use Rattle.nfa_paths.proofs.PathToLemmas.{IsFirstTo-along}
 use Rattle.nfa_paths.proofs.MemberLemmas.{In-middle}

@@ -1,12 +1,7 @@
 -- The `earliest` flag of an input changes no path. Only the kind of the answer does. Also whether there is a match.
-use Rattle.std.proofs.Common.{◌≡◌, ℕ, inl, inr, Bool, true, false, List, refl, subst, rules, arith}
-use Rattle.std.specs.Prelude.{Option, is_some, not}
+use Rattle.std.proofs.Common.{◌≡◌, ℕ, inl, inr, Bool, true, false, List, refl, subst, rules, arith, Option, is_some, not}
 use Rattle.std.proofs.lemmas.Bool.{cases_Bool}
-use Rattle.regex_search_core.specs.Search.{Search}
-use Rattle.regex_search_core.specs.declared.search.MatchKind.{MatchKind}
-use Rattle.thompson_nfa.specs.Automaton.{Automaton}
-use Rattle.nfa_paths.specs.Graphs.{Pair}
-use Rattle.nfa_paths.specs.Paths.{raised, is_utf8_empty, edges_of, IsScanAnswer, SplitsCharacter, IsRestartedAnswer, IsSearchAnswer, IsBoolAnswer}
+use Rattle.nfa_paths.specs.Common.{Search, MatchKind, Automaton, Pair, raised, is_utf8_empty, edges_of, IsScanAnswer, SplitsCharacter, IsRestartedAnswer, IsSearchAnswer, IsBoolAnswer}
 use Rattle.nfa_paths.proofs.ExistenceLemmas.{is_match-agrees}
 
 -- the search with this `earliest` flag

@@ -1,9 +1,7 @@
 -- Where finitely many pairs lead on, each kind of scan has its path, or no path leads to a match.
-use Rattle.std.proofs.Common.{◌≡◌, ℕ, zero, suc, ◌+◌, ◌≤◌, ◌<◌, ◌⊎◌, inl, inr, Bool, true, List, [], ◌∷◌, refl, sym, ◌∙◌, subst, arith, rules}
-use Rattle.std.specs.Prelude.{Option, None, Some}
+use Rattle.std.proofs.Common.{◌≡◌, ℕ, zero, suc, ◌+◌, ◌≤◌, ◌<◌, ◌⊎◌, inl, inr, Bool, true, List, [], ◌∷◌, refl, sym, ◌∙◌, subst, arith, rules, Option, None, Some}
 use Rattle.std.proofs.lemmas.Bool.{cases_lt}
-use Rattle.nfa_paths.specs.Graphs.{Pair, In, Earlier, BeforeAfter, Before, ComesBefore, WantedAt, PathTo, NoPath, IsFirstTo, IsEnd, IsLeastEnd, IsGreatestEnd, IsLastOfFirsts, IsFirstPath, IsEarliestPath, IsLastPath, IsEarliestLastPath}
-use Rattle.nfa_paths.specs.Kinds.{Passes}
+use Rattle.nfa_paths.specs.Common.{Pair, In, Earlier, BeforeAfter, Before, ComesBefore, WantedAt, PathTo, NoPath, IsFirstTo, IsEnd, IsLeastEnd, IsGreatestEnd, IsLastOfFirsts, IsFirstPath, IsEarliestPath, IsLastPath, IsEarliestLastPath, Passes}
 use Rattle.nfa_paths.proofs.PathLemmas.{same}
 use Rattle.nfa_paths.proofs.PathToLemmas.{PathTo-along, PathTo-order, IsFirstTo-unique}
 use Rattle.nfa_paths.proofs.TestLemmas.{tell_at}

@@ -1,10 +1,7 @@
 -- Where finitely many pairs lead on, there is a first path to a set, or no path to it.
-use Rattle.std.proofs.Common.{◌≡◌, ℕ, zero, suc, ◌≤◌, ◌⊎◌, inl, inr, Bool, true, List, [], ◌∷◌, length, refl, sym, ap, ◌∙◌, arith, rules}
-use Rattle.std.specs.Prelude.{Option, None, Some}
+use Rattle.std.proofs.Common.{◌≡◌, ℕ, zero, suc, ◌≤◌, ◌⊎◌, inl, inr, Bool, true, List, [], ◌∷◌, length, refl, sym, ap, ◌∙◌, arith, rules, Option, None, Some}
 use Rattle.std.proofs.lemmas.Bool.{cases_Bool}
-use Rattle.nfa_paths.specs.Graphs.{Pair, In, NoPath, IsFirstTo, IsFirstPath}
-use Rattle.nfa_paths.specs.FirstPaths.{IsFirst, FirstAmong, Increasing, IsLeast}
-use Rattle.nfa_paths.specs.Kinds.{Passes}
+use Rattle.nfa_paths.specs.Common.{Pair, In, NoPath, IsFirstTo, IsFirstPath, IsFirst, FirstAmong, Increasing, IsLeast, Passes}
 use Rattle.nfa_paths.proofs.PathLemmas.{IsFirst-marked, IsFirst-dead, IsFirst-target, IsFirst-step, IsFirstOfAll-from_among, IsLeast-from_first}
 use Rattle.nfa_paths.proofs.PathToLemmas.{In-cases, IsFirstTo-along, IsLeast-none, IsLeast-first}
 use Rattle.nfa_paths.proofs.TestLemmas.{test, test-true, true-test}

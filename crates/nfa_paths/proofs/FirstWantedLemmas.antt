@@ -1,13 +1,6 @@
 -- A set of patterns under LeftmostFirst, by the first wanted pair of a front, even if a search drops what follows it.
-use Rattle.std.proofs.Common.{◌≡◌, ℕ, ◌↔◌, Bool, true, List, length, sym, ◌∙◌, ◌<◌, inl, inr, false, arith, rules}
-use Rattle.std.specs.Prelude.{Option, None, Some}
-use Rattle.regex_search_core.specs.Search.{Search}
-use Rattle.thompson_nfa.specs.Automaton.{Automaton}
-use Rattle.nfa_paths.specs.Graphs.{Pair, In, IsFirstPath, IsFirstTo, WantedAt, NoPath}
-use Rattle.nfa_paths.specs.Exploring.{Slots, Task, apply}
-use Rattle.nfa_paths.specs.Kinds.{Passes, found_along, first_match, Scanned, Scanning, rests, is_resting, NoneBefore}
-use Rattle.nfa_paths.specs.Paths.{space, capture, edges, starts}
-use Rattle.nfa_paths.specs.Overlaps.{IsInsertable, HoldsPattern, pattern_at, IsSelectedPath, IsOverlapResult}
+use Rattle.std.proofs.Common.{◌≡◌, ℕ, ◌↔◌, Bool, true, List, length, sym, ◌∙◌, ◌<◌, inl, inr, false, arith, rules, Option, None, Some}
+use Rattle.nfa_paths.specs.Common.{Search, Automaton, Pair, In, IsFirstPath, IsFirstTo, WantedAt, NoPath, Slots, Task, apply, Passes, found_along, first_match, Scanned, Scanning, rests, is_resting, NoneBefore, space, capture, edges, starts, IsInsertable, HoldsPattern, pattern_at, IsSelectedPath, IsOverlapResult}
 use Rattle.nfa_paths.proofs.AnswerLemmas.{same_parts}
 use Rattle.nfa_paths.proofs.GainLemmas.{wanted-shape}
 use Rattle.nfa_paths.proofs.PathToLemmas.{found-end, EndsWith-last, IsFirstTo-along}

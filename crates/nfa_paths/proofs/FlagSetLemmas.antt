@@ -1,15 +1,7 @@
 -- Nor does what an overlapping search makes of a set read the flag `earliest` of its input.
-use Rattle.std.proofs.Common.{ℕ, inl, inr, Bool, true, false, List, length, arith, rules}
-use Rattle.std.specs.Prelude.{Option, None, Some}
-use Rattle.regex_search_core.specs.Search.{Search}
-use Rattle.regex_search_core.specs.declared.search.MatchKind.{MatchKind}
+use Rattle.std.proofs.Common.{ℕ, inl, inr, Bool, true, false, List, length, arith, rules, Option, None, Some}
+use Rattle.nfa_paths.specs.Common.{Search, MatchKind, Automaton, Pair, WantedAt, NoPath, IsFirstTo, IsLeastEnd, WantedBefore, IsPermitted, IsInsertable, IsPatternOf, IsSelectedByAll, IsSelectedPath, HoldsPath, Gains, IsFirstBefore, IsOverlapResult, edges, edges_of, starts}
 use Rattle.regex_search_core.specs.declared.search.MatchKind.TheVariants.{All, LeftmostFirst}
-use Rattle.thompson_nfa.specs.Automaton.{Automaton}
-use Rattle.nfa_paths.specs.Graphs.{Pair, WantedAt, NoPath, IsFirstTo, IsLeastEnd}
-use Rattle.nfa_paths.specs.Kinds.{WantedBefore}
-use Rattle.nfa_paths.specs.Overlaps.{IsPermitted, IsInsertable, IsPatternOf, IsSelectedByAll, IsSelectedPath, HoldsPath, Gains, IsFirstBefore}
-use Rattle.nfa_paths.specs.Overlaps.{IsOverlapResult}
-use Rattle.nfa_paths.specs.Paths.{edges, edges_of, starts}
 use Rattle.nfa_paths.proofs.EarliestLemmas.{asked}
 use Rattle.nfa_paths.proofs.PathToLemmas.{IsFirstTo-along}
 use Rattle.nfa_paths.proofs.ReachedLemmas.{IsReached-along}

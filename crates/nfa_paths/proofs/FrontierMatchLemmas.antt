@@ -1,10 +1,7 @@
 -- The first and the last match pair of a front.
-use Rattle.std.proofs.Common.{◌≡◌, ◌⊎◌, inl, inr, Bool, true, List, [], ◌∷◌, ◌++◌, refl, ap, sym, arith}
-use Rattle.std.specs.Prelude.{None, Some}
+use Rattle.std.proofs.Common.{◌≡◌, ◌⊎◌, inl, inr, Bool, true, List, [], ◌∷◌, ◌++◌, refl, ap, sym, arith, None, Some}
 use Rattle.std.proofs.lemmas.Bool.{cases_Bool}
-use Rattle.nfa_paths.specs.Graphs.{Pair, In}
-use Rattle.nfa_paths.specs.Exploring.{Slots, Hit}
-use Rattle.nfa_paths.specs.Kinds.{NoMatch, first_match, before_match, last_match}
+use Rattle.nfa_paths.specs.Common.{Pair, In, Slots, Hit, NoMatch, first_match, before_match, last_match}
 
 module _ (is_match : Pair → Bool) where
   -- a match pair of the list, with none before it

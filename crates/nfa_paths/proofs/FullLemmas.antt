@@ -1,16 +1,10 @@
 -- A set of patterns is the result under LeftmostFirst if it holds exactly the patterns of the first paths before each
 -- limit.
-use Rattle.std.proofs.Common.{◌≡◌, ℕ, ◌+◌, ◌<◌, ◌↔◌, ◌∙◌, inl, inr, Bool, true, false, List, length, sym, ap, arith}
-use Rattle.std.specs.Prelude.{Option, None, Some}
+use Rattle.std.proofs.Common.{◌≡◌, ℕ, ◌+◌, ◌<◌, ◌↔◌, ◌∙◌, inl, inr, Bool, true, false, List, length, sym, ap, arith, Option, None, Some}
 use Rattle.std.proofs.lemmas.Bool.{cases_lt}
 use Rattle.regex_search_core.specs.PatternSets.{size_of_set}
-use Rattle.regex_search_core.specs.Search.{Search}
+use Rattle.nfa_paths.specs.Common.{Search, Automaton, Pair, IsFirstTo, IsFirstPath, Passes, WantedBefore, edges, starts, last_of, path_pattern, HoldsPattern, HoldsUpTo, IsInsertable, IsFirstBefore, HoldsPath, IsOverlapResult, pattern_at}
 use Rattle.regex_search_core.specs.declared.search.MatchKind.TheVariants.{LeftmostFirst}
-use Rattle.thompson_nfa.specs.Automaton.{Automaton}
-use Rattle.nfa_paths.specs.Graphs.{Pair, IsFirstTo, IsFirstPath}
-use Rattle.nfa_paths.specs.Kinds.{Passes, WantedBefore}
-use Rattle.nfa_paths.specs.Paths.{edges, starts, last_of, path_pattern}
-use Rattle.nfa_paths.specs.Overlaps.{HoldsPattern, HoldsUpTo, IsInsertable, IsFirstBefore, HoldsPath, IsOverlapResult, pattern_at}
 use Rattle.nfa_paths.proofs.ExistenceLemmas.{first_wanted-exists}
 use Rattle.nfa_paths.proofs.PathToLemmas.{EndsWith-last, IsFirstTo-along, IsFirstTo-unique}
 use Rattle.nfa_paths.proofs.PatternLemmas.{ends-pattern}

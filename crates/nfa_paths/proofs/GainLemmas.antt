@@ -1,16 +1,9 @@
 -- What a set of patterns gains under All, position by position.
-use Rattle.std.proofs.Common.{◌≡◌, ℕ, ◌+◌, ◌<◌, ◌⊎◌, ◌↔◌, inl, inr, Bool, true, false, List, [], length, refl, ◌∙◌, subst, arith, rules}
-use Rattle.std.specs.Prelude.{Some}
+use Rattle.std.proofs.Common.{◌≡◌, ℕ, ◌+◌, ◌<◌, ◌⊎◌, ◌↔◌, inl, inr, Bool, true, false, List, [], length, refl, ◌∙◌, subst, arith, rules, Some}
 use Rattle.std.proofs.lemmas.Bool.{cases_lt}
 use Rattle.regex_search_core.specs.PatternSets.{size_of_set}
-use Rattle.regex_search_core.specs.Search.{Search}
+use Rattle.nfa_paths.specs.Common.{Search, Automaton, Pair, IsLeastEnd, WantedAt, Slots, ReachedBefore, EndsBefore, HoldsMatch, Scanned, IsFrontier, is_resting, space, edges, starts, HoldsPattern, pattern_at, IsPermitted, IsInsertable, IsPatternOf, IsOverlapResult}
 use Rattle.regex_search_core.specs.declared.search.MatchKind.TheVariants.{All}
-use Rattle.thompson_nfa.specs.Automaton.{Automaton}
-use Rattle.nfa_paths.specs.Graphs.{Pair, IsLeastEnd, WantedAt}
-use Rattle.nfa_paths.specs.Exploring.{Slots}
-use Rattle.nfa_paths.specs.Kinds.{ReachedBefore, EndsBefore, HoldsMatch, Scanned, IsFrontier, is_resting}
-use Rattle.nfa_paths.specs.Paths.{space, edges, starts}
-use Rattle.nfa_paths.specs.Overlaps.{HoldsPattern, pattern_at, IsPermitted, IsInsertable, IsPatternOf, IsOverlapResult}
 use Rattle.nfa_paths.proofs.ReachedLemmas.{IsReached-at, ReachedBefore-start, ReachedBefore-step, IsReached-along}
 use Rattle.nfa_paths.proofs.SetLemmas.{full-holds}
 use Rattle.nfa_paths.proofs.PathToLemmas.{IsLeastEnd-unique}

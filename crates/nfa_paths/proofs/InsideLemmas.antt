@@ -1,18 +1,9 @@
 -- The match of a search's answer is in its span.
-use Rattle.std.proofs.Common.{◌∙◌, ◌≡◌, ℕ, ◌+◌, ◌*◌, ◌≤◌, inl, inr, Bool, true, false, List, [], ◌∷◌, map, refl, sym, subst, arith, rules}
-use Rattle.std.specs.Prelude.{◌<◌, length, All, IfSome, Option, None, Some, cond, option_and_then}
+use Rattle.std.proofs.Common.{◌∙◌, ◌≡◌, ℕ, ◌+◌, ◌*◌, ◌≤◌, inl, inr, Bool, true, false, List, [], ◌∷◌, map, refl, sym, subst, arith, rules, ◌<◌, length, All, IfSome, Option, None, Some, cond, option_and_then}
 use Rattle.std.specs.Option.{option_or}
 use Rattle.std.specs.List.{range_with_len}
 use Rattle.std.proofs.lemmas.Option.{slice_get-map}
-use Rattle.regex_search_core.specs.Found.{Found, HalfFound}
-use Rattle.regex_search_core.specs.Groups.{slot_count}
-use Rattle.regex_search_core.specs.Search.{Search}
-use Rattle.regex_search_core.specs.Slots.{offset_at, match_of}
-use Rattle.regex_search_core.specs.declared.search.MatchKind.{MatchKind}
-use Rattle.thompson_nfa.specs.Automaton.{Automaton, IsAutomaton}
-use Rattle.nfa_paths.specs.Graphs.{Pair, In, EndsWith, Linked, PathTo}
-use Rattle.nfa_paths.specs.Paths.{edges, starts, path_pattern, slot_among, slot_row, IsScanAnswer, IsSearchAnswer, IsAnswer, IsFindAnswer}
-use Rattle.nfa_paths.specs.Paths.{path_half, IsHalfAnswer}
+use Rattle.nfa_paths.specs.Common.{Found, HalfFound, slot_count, Search, offset_at, match_of, MatchKind, Automaton, IsAutomaton, Pair, In, EndsWith, Linked, PathTo, edges, starts, path_pattern, slot_among, slot_row, IsScanAnswer, IsSearchAnswer, IsAnswer, IsFindAnswer, path_half, IsHalfAnswer}
 use Rattle.nfa_paths.proofs.AnswerLemmas.{scan_answer-leads}
 use Rattle.std.proofs.lemmas.List.Elements.{All-map, All-replicate}
 use Rattle.nfa_paths.proofs.PathToLemmas.{EndsWith-last}

@@ -1,12 +1,8 @@
 -- What the front of a position says of the paths that end there.
-use Rattle.std.proofs.Common.{◌≡◌, ℕ, suc, ◌≤◌, ◌<◌, ◌⊎◌, ◌↔◌, inl, inr, Bool, true, List, [], ◌∷◌, ◌++◌, map, length, refl, sym, ap, ◌∙◌, subst, append_assoc, arith}
-use Rattle.std.specs.Prelude.{None, Some}
-use Rattle.nfa_paths.specs.Graphs.{Pair, Space, In, NoRepeats, ComesBefore, PathTo, NoPath, IsFirstTo, WantedAt, IsLastOfFirsts}
-use Rattle.nfa_paths.specs.FirstPaths.{Path, IsFirst}
+use Rattle.std.proofs.Common.{◌≡◌, ℕ, suc, ◌≤◌, ◌<◌, ◌⊎◌, ◌↔◌, inl, inr, Bool, true, List, [], ◌∷◌, ◌++◌, map, length, refl, sym, ap, ◌∙◌, subst, append_assoc, arith, None, Some}
+use Rattle.nfa_paths.specs.Common.{Pair, Space, In, NoRepeats, ComesBefore, PathTo, NoPath, IsFirstTo, WantedAt, IsLastOfFirsts, Path, IsFirst, Slots, Task, apply, found, ExploresTo, ExploresAfter, Passes, MatchesAt, NoMatch, Scanned, IsFrontier}
 use Rattle.nfa_paths.specs.FirstPaths.Path.{stop, go}
-use Rattle.nfa_paths.specs.Exploring.{Slots, Task, apply, found, ExploresTo, ExploresAfter}
 use Rattle.nfa_paths.specs.Exploring.Task.{Explore, Restore, Load}
-use Rattle.nfa_paths.specs.Kinds.{Passes, MatchesAt, NoMatch, Scanned, IsFrontier}
 use Rattle.nfa_paths.proofs.PathLemmas.{same, IsFirst-target, IsLeast-from_first}
 use Rattle.nfa_paths.proofs.SearchLemmas.{Answer-starts, found-Some}
 use Rattle.nfa_paths.proofs.PathToLemmas.{found-end, IsFirstTo-along, IsFirstTo-unique, IsLeast-none, IsLeast-first}

@@ -1,7 +1,6 @@
 -- Elements of lists.
-use Rattle.std.proofs.Common.{◌⊎◌, inl, inr, suc, List, [], ◌∷◌, ◌++◌, map, refl, sym, ap, subst, arith}
-use Rattle.std.specs.Prelude.{All}
-use Rattle.nfa_paths.specs.Graphs.{In}
+use Rattle.std.proofs.Common.{◌⊎◌, inl, inr, suc, List, [], ◌∷◌, ◌++◌, map, refl, sym, ap, subst, arith, All}
+use Rattle.nfa_paths.specs.Common.{In}
 
 -- the elements of the first of two lists
 pub In-append_left : {A : Type 0} (x : A) (xs ys : List A) → In x xs → In x (xs ++ ys)

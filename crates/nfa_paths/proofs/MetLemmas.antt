@@ -1,19 +1,11 @@
 -- The first path that ends before a limit, as a search that drops what is after a match finds it, and the set of the
 -- patterns of such paths.
-use Rattle.std.proofs.Common.{◌≡◌, ℕ, ◌+◌, ◌<◌, ◌≤◌, ◌↔◌, ◌∙◌, inl, inr, Bool, true, List, [], ◌∷◌, map, length, refl, sym, ap, subst, arith, rules}
-use Rattle.std.specs.Prelude.{Option, None, Some}
+use Rattle.std.proofs.Common.{◌≡◌, ℕ, ◌+◌, ◌<◌, ◌≤◌, ◌↔◌, ◌∙◌, inl, inr, Bool, true, List, [], ◌∷◌, map, length, refl, sym, ap, subst, arith, rules, Option, None, Some}
 use Rattle.std.proofs.lemmas.Bool.{cases_lt}
 use Rattle.regex_search_core.specs.PatternSets.{with_pattern, size_of_set}
-use Rattle.regex_search_core.specs.Search.{Search}
-use Rattle.thompson_nfa.specs.Automaton.{Automaton}
-use Rattle.nfa_paths.specs.Graphs.{Pair, In, Space, NoPath, IsFirstTo, IsFirstPath}
-use Rattle.nfa_paths.specs.FirstPaths.{Path}
+use Rattle.nfa_paths.specs.Common.{Search, Automaton, Pair, In, Space, NoPath, IsFirstTo, IsFirstPath, Path, Slots, Hit, Task, ExploresTo, Passes, WantedBefore, found_along, first_match, before_match, is_resting, space, capture, edges, starts, last_of, path_pattern, HoldsPattern, IsFirstBefore, IsInsertable, pattern_at}
 use Rattle.nfa_paths.specs.FirstPaths.Path.{stop, go}
-use Rattle.nfa_paths.specs.Exploring.{Slots, Hit, Task, ExploresTo}
 use Rattle.nfa_paths.specs.Exploring.Task.{Explore, Restore, Load}
-use Rattle.nfa_paths.specs.Kinds.{Passes, WantedBefore, found_along, first_match, before_match, is_resting}
-use Rattle.nfa_paths.specs.Paths.{space, capture, edges, starts, last_of, path_pattern}
-use Rattle.nfa_paths.specs.Overlaps.{HoldsPattern, IsFirstBefore, IsInsertable, pattern_at}
 use Rattle.nfa_paths.proofs.AnswerLemmas.{same_parts}
 use Rattle.nfa_paths.proofs.GainLemmas.{wanted-shape}
 use Rattle.nfa_paths.proofs.PathToLemmas.{EndsWith-last, found-end, IsFirstTo-along, IsFirstTo-unique}

@@ -1,6 +1,5 @@
 -- What an option holds.
-use Rattle.std.proofs.Common.{◌≡◌, refl}
-use Rattle.std.specs.Prelude.{Option, None, Some}
+use Rattle.std.proofs.Common.{◌≡◌, refl, Option, None, Some}
 use Rattle.std.specs.Option.{option_or}
 
 -- two values that an option holds are one

@@ -1,12 +1,8 @@
 -- The first accepting path, and what marks change of it.
-use Rattle.std.proofs.Common.{◌≡◌, ◌<◌, ◌⊎◌, inl, inr, ◌↔◌, Bool, true, false, List, [], ◌∷◌, refl, sym, subst, arith}
-use Rattle.std.specs.Prelude.{Option, None, Some}
+use Rattle.std.proofs.Common.{◌≡◌, ◌<◌, ◌⊎◌, inl, inr, ◌↔◌, Bool, true, false, List, [], ◌∷◌, refl, sym, subst, arith, Option, None, Some}
 use Rattle.std.specs.Option.{option_map}
-use Rattle.nfa_paths.specs.Graphs.{Pair, In, Earlier, BeforeAfter, Before}
-use Rattle.nfa_paths.specs.FirstPaths.{Path, Accepts, IsFirst, FirstAmong, IsFirstOfAll, Increasing, IsLeast}
+use Rattle.nfa_paths.specs.Common.{Pair, In, Earlier, BeforeAfter, Before, Path, Accepts, IsFirst, FirstAmong, IsFirstOfAll, Increasing, IsLeast, HeadIs, NoRepeats, Linked, StopsAtTarget}
 use Rattle.nfa_paths.specs.FirstPaths.Path.{stop, go}
-use Rattle.nfa_paths.specs.Graphs.{HeadIs, NoRepeats, Linked}
-use Rattle.nfa_paths.specs.FirstPaths.{StopsAtTarget}
 
 -- two pairs are one, or they differ
 pub same : (a b : Pair) → (a ≡ b) ⊎ ¬ (a ≡ b)

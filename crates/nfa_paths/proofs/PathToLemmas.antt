@@ -1,10 +1,7 @@
 -- Paths from the starts in plain words: which comes first, and that each kind of scan has one answer.
-use Rattle.std.proofs.Common.{◌≡◌, ℕ, ◌≤◌, ◌<◌, ◌⊎◌, inl, inr, Bool, true, false, List, [], ◌∷◌, refl, sym, ap, subst, arith}
-use Rattle.std.specs.Prelude.{Option, None, Some}
+use Rattle.std.proofs.Common.{◌≡◌, ℕ, ◌≤◌, ◌<◌, ◌⊎◌, inl, inr, Bool, true, false, List, [], ◌∷◌, refl, sym, ap, subst, arith, Option, None, Some}
 use Rattle.std.specs.List.{last_or}
-use Rattle.nfa_paths.specs.Graphs.{Pair, In, Before, ComesBefore, HeadIs, NoRepeats, Linked, EndsWith, WantedAt, PathTo, NoPath, IsFirstTo, IsEnd, IsLeastEnd, IsGreatestEnd, IsLastOfFirsts, IsFirstPath, IsEarliestPath, IsLastPath, IsEarliestLastPath}
-use Rattle.nfa_paths.specs.FirstPaths.{Accepts, IsLeast, StopsAtTarget, Increasing}
-use Rattle.nfa_paths.specs.Exploring.{Slots, apply, found}
+use Rattle.nfa_paths.specs.Common.{Pair, In, Before, ComesBefore, HeadIs, NoRepeats, Linked, EndsWith, WantedAt, PathTo, NoPath, IsFirstTo, IsEnd, IsLeastEnd, IsGreatestEnd, IsLastOfFirsts, IsFirstPath, IsEarliestPath, IsLastPath, IsEarliestLastPath, Accepts, IsLeast, StopsAtTarget, Increasing, Slots, apply, found}
 use Rattle.nfa_paths.proofs.PathLemmas.{same, Before-asymmetric, Before-total, Earlier-increasing, Earlier-total, Path-plain}
 
 -- a test that cannot succeed fails

@@ -1,23 +1,14 @@
 -- What an accepting path says about its pattern and its slots.
-use Rattle.std.proofs.Common.{◌≡◌, ℕ, zero, suc, ◌+◌, ◌*◌, ◌<◌, ◌≤◌, ◌==◌, List, [], ◌∷◌, ◌++◌, length, map, take, replicate, refl, ap, sym, ◌∙◌, arith, rules}
-use Rattle.std.specs.Prelude.{Option, Some, None, true, false, Bool, option_and_then, is_some, if◌then◌else◌}
+use Rattle.std.proofs.Common.{◌≡◌, ℕ, zero, suc, ◌+◌, ◌*◌, ◌<◌, ◌≤◌, ◌==◌, List, [], ◌∷◌, ◌++◌, length, map, take, replicate, refl, ap, sym, ◌∙◌, arith, rules, Option, Some, None, true, false, Bool, option_and_then, is_some, if◌then◌else◌}
 use Rattle.std.specs.List.{range_with_len}
 use Rattle.std.specs.Option.{option_map_or}
 use Rattle.std.proofs.lemmas.List.FromFn.{length-map-range_with_len, get_or-map-range_with_len, map-range_with_len_more, take-map-range_with_len}
 use Rattle.std.proofs.lemmas.Option.{slice_get-get_or}
 use Rattle.std.proofs.lemmas.List.{get_or_past, replicate-append-replicate, append_assoc, take-replicate, length-replicate}
-use Rattle.regex_search_core.specs.Groups.{slot_count}
-use Rattle.regex_search_core.specs.Search.{Search}
-use Rattle.regex_search_core.specs.Slots.{offset_at, match_of}
-use Rattle.regex_search_core.specs.declared.search.MatchKind.{MatchKind}
-use Rattle.thompson_nfa.specs.Automaton.{Automaton, Node, IsAutomaton}
+use Rattle.nfa_paths.specs.Common.{slot_count, Search, offset_at, match_of, MatchKind, Automaton, Node, IsAutomaton, Pair, pattern_of, slot_of, node_at, path_pattern, last_of, slot_among, slot_row, IsScanAnswer, IsSearchAnswer, IsAnswer, IsBoolAnswer, Slots, pattern_at}
 use Rattle.thompson_nfa.specs.Automaton.Node.{Match}
-use Rattle.nfa_paths.specs.Graphs.{Pair}
-use Rattle.nfa_paths.specs.Paths.{pattern_of, slot_of, node_at, path_pattern, last_of, slot_among, slot_row, IsScanAnswer, IsSearchAnswer, IsAnswer, IsBoolAnswer}
-use Rattle.nfa_paths.specs.Exploring.{Slots}
 use Rattle.nfa_paths.proofs.AnswerLemmas.{scan_answer-leads}
 use Rattle.nfa_paths.proofs.PathToLemmas.{EndsWith-last}
-use Rattle.nfa_paths.specs.Overlaps.{pattern_at}
 
 -- a Match has a pattern
 pub some-pattern : (node : Node) → is_some (pattern_of node) ≡ true → (k : ℕ) × (pattern_of node ≡ Some k)

@@ -1,10 +1,7 @@
 -- The patterns of the match pairs that are reached, position by position.
-use Rattle.std.proofs.Common.{◌≡◌, ℕ, ◌+◌, ◌≤◌, ◌<◌, ◌⊎◌, ◌↔◌, inl, inr, Bool, true, List, refl, arith}
-use Rattle.std.specs.Prelude.{Option}
+use Rattle.std.proofs.Common.{◌≡◌, ℕ, ◌+◌, ◌≤◌, ◌<◌, ◌⊎◌, ◌↔◌, inl, inr, Bool, true, List, refl, arith, Option}
 use Rattle.std.proofs.lemmas.Bool.{cases_lt}
-use Rattle.nfa_paths.specs.Graphs.{Pair, Space, In, WantedAt}
-use Rattle.nfa_paths.specs.Exploring.{Slots}
-use Rattle.nfa_paths.specs.Kinds.{Passes, IsReached, ReachedBefore, HoldsMatch, Scanned, IsFrontier}
+use Rattle.nfa_paths.specs.Common.{Pair, Space, In, WantedAt, Slots, Passes, IsReached, ReachedBefore, HoldsMatch, Scanned, IsFrontier}
 use Rattle.nfa_paths.proofs.KindsLemmas.{IsFrontier-pairs}
 use Rattle.nfa_paths.proofs.ScanLemmas.{NoneBefore-start}
 

@@ -1,20 +1,7 @@
 -- A search scans. While the answer ends inside a codepoint, it scans again from one byte further on. These lemmas say
 -- what holds at each scan, what the result of the search is, and what its contract says.
-use Rattle.std.proofs.Common.{◌≡◌, ℕ, zero, suc, ◌+◌, ◌*◌, ◌<◌, ◌≤◌, List, length, replicate, refl, ap, sym, ◌∙◌, arith, subst, below_more, rules}
-use Rattle.std.specs.Prelude.{Option, Some, None, true, false, Bool, MatchBool, IfSome, option_map, option_and_then}
-use Rattle.std.proofs.Common.{inr}
-use Rattle.regex_search_core.specs.Boundary.{IsBoundary}
-use Rattle.regex_search_core.specs.Found.{Found, HalfFound, half_found_of}
-use Rattle.regex_search_core.specs.Search.{Search, is_anchored}
-use Rattle.regex_search_core.specs.Slots.{match_of}
-use Rattle.regex_search_core.specs.declared.search.HalfMatch.{HalfMatch}
-use Rattle.regex_search_core.specs.declared.search.MatchKind.{MatchKind}
-use Rattle.thompson_nfa.specs.Automaton.{Automaton, IsAutomaton}
-use Rattle.nfa_paths.specs.Graphs.{Pair}
-use Rattle.nfa_paths.specs.Exploring.{Slots}
-use Rattle.nfa_paths.specs.Paths.{IsAnswer, IsHalfAnswer, IsFindAnswer, raised, is_utf8_empty, slot_row, max_scans}
-use Rattle.nfa_paths.specs.Paths.{path_half, path_pattern}
-use Rattle.nfa_paths.specs.Paths.{EndsOnBoundary, SplitsCharacter, IsKeptAnswer, IsRestartedAnswer, IsScanAnswer, IsSearchAnswer, IsWhole, IsWithinScans}
+use Rattle.std.proofs.Common.{◌≡◌, ℕ, zero, suc, ◌+◌, ◌*◌, ◌<◌, ◌≤◌, List, length, replicate, refl, ap, sym, ◌∙◌, arith, subst, below_more, rules, Option, Some, None, true, false, Bool, MatchBool, IfSome, option_map, option_and_then, inr}
+use Rattle.nfa_paths.specs.Common.{IsBoundary, Found, HalfFound, half_found_of, Search, is_anchored, match_of, HalfMatch, MatchKind, Automaton, IsAutomaton, Pair, Slots, IsAnswer, IsHalfAnswer, IsFindAnswer, raised, is_utf8_empty, slot_row, max_scans, path_half, path_pattern, EndsOnBoundary, SplitsCharacter, IsKeptAnswer, IsRestartedAnswer, IsScanAnswer, IsSearchAnswer, IsWhole, IsWithinScans}
 use Rattle.nfa_paths.specs.Restarts.{max_scan_turns, AreUnset, GivesPath, ScanGives, SearchGives, Restarts}
 use Rattle.nfa_paths.proofs.AnswerLemmas.{ends_on_boundary, split-within_scans, split-bound, one_scan-bound, scan_answer-within}
 use Rattle.nfa_paths.proofs.InsideLemmas.{pattern-within}

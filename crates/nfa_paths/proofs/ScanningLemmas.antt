@@ -1,10 +1,7 @@
 -- The steps of a scan, as a loop takes them: each is the step of the search for every set of match pairs at once.
-use Rattle.std.proofs.Common.{◌≡◌, ℕ, suc, ◌+◌, ◌≤◌, ◌<◌, ◌⊎◌, inl, inr, Bool, true, List, [], ◌∷◌, ◌++◌, map, length, refl, arith, rules}
-use Rattle.std.specs.Prelude.{None, Some}
-use Rattle.nfa_paths.specs.Graphs.{Pair, Space, In, NoRepeats}
-use Rattle.nfa_paths.specs.Exploring.{Slots, Hit, Task, next_tasks, found, Searching, ExploresTo, ExploresAfter}
+use Rattle.std.proofs.Common.{◌≡◌, ℕ, suc, ◌+◌, ◌≤◌, ◌<◌, ◌⊎◌, inl, inr, Bool, true, List, [], ◌∷◌, ◌++◌, map, length, refl, arith, rules, None, Some}
+use Rattle.nfa_paths.specs.Common.{Pair, Space, In, NoRepeats, Slots, Hit, Task, next_tasks, found, Searching, ExploresTo, ExploresAfter, before_match, IsFrontier, IsOver, Scanning}
 use Rattle.nfa_paths.specs.Exploring.Task.{Explore, Load}
-use Rattle.nfa_paths.specs.Kinds.{before_match, IsFrontier, IsOver, Scanning}
 use Rattle.nfa_paths.proofs.FrontierMatchLemmas.{before_match-plain, before_match-among}
 use Rattle.nfa_paths.proofs.PathLemmas.{IsFirst-target}
 use Rattle.nfa_paths.proofs.SearchLemmas.{AnswerBehind-along}

@@ -1,13 +1,10 @@
 -- The steps of the search: from its answer after a step follows its answer before.
-use Rattle.std.proofs.Common.{◌≡◌, ℕ, suc, ◌≤◌, arith, ◌⊎◌, ◌↔◌, inl, inr, Bool, true, false, List, [], ◌∷◌, ◌++◌, map, length, get_or, set, refl, set-set, append-nil, rules}
+use Rattle.std.proofs.Common.{◌≡◌, ℕ, suc, ◌≤◌, arith, ◌⊎◌, ◌↔◌, inl, inr, Bool, true, false, List, [], ◌∷◌, ◌++◌, map, length, get_or, set, refl, set-set, append-nil, rules, Option, None, Some}
 use Rattle.std.proofs.lemmas.List.{set-get_or, set_past}
-use Rattle.std.specs.Prelude.{Option, None, Some}
 use Rattle.std.specs.Option.{option_map}
 use Rattle.std.specs.List.{last_or}
-use Rattle.nfa_paths.specs.Graphs.{Pair, Space, In}
-use Rattle.nfa_paths.specs.FirstPaths.{Path, IsFirst, FirstAmong, IsFirstOfAll}
+use Rattle.nfa_paths.specs.Common.{Pair, Space, In, Path, IsFirst, FirstAmong, IsFirstOfAll, Slots, Hit, Task, write, apply, found, ExploresTo, ExploresAfter, next_tasks, seeds}
 use Rattle.nfa_paths.specs.FirstPaths.Path.{stop, go}
-use Rattle.nfa_paths.specs.Exploring.{Slots, Hit, Task, write, apply, found, ExploresTo, ExploresAfter, next_tasks, seeds}
 use Rattle.nfa_paths.specs.Exploring.Task.{Explore, Restore, Load}
 use Rattle.nfa_paths.proofs.PathLemmas.{IsFirst-target, IsFirstOfAll-from_among, IsFirst-step, IsFirst-mark, IsFirst-ahead, IsFirst-resting}
 

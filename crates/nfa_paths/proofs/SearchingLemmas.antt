@@ -1,8 +1,6 @@
 -- The steps of the search, forwards, as a loop takes them.
-use Rattle.std.proofs.Common.{◌≡◌, ℕ, suc, ◌+◌, ◌≤◌, arith, ◌⊎◌, ◌↔◌, Bool, false, List, [], ◌∷◌, ◌++◌, map, length, get_or, set, refl, rules}
-use Rattle.std.specs.Prelude.{Option, None, Some}
-use Rattle.nfa_paths.specs.Graphs.{Pair, Space, In}
-use Rattle.nfa_paths.specs.Exploring.{Slots, Hit, Task, ExploresTo, ExploresAfter, next_tasks, Searching}
+use Rattle.std.proofs.Common.{◌≡◌, ℕ, suc, ◌+◌, ◌≤◌, arith, ◌⊎◌, ◌↔◌, Bool, false, List, [], ◌∷◌, ◌++◌, map, length, get_or, set, refl, rules, Option, None, Some}
+use Rattle.nfa_paths.specs.Common.{Pair, Space, In, Slots, Hit, Task, ExploresTo, ExploresAfter, next_tasks, Searching}
 use Rattle.nfa_paths.specs.Exploring.Task.{Explore, Restore, Load}
 use Rattle.nfa_paths.proofs.SearchLemmas.{Answer-restore, Answer-load, Answer-marked, Answer-plain, Answer-write, Answer-unkept, AnswerBehind-along, AnswerBehind-keep, AnswerBehind-round}
 

@@ -1,12 +1,9 @@
 -- What a set of patterns holds, and full sets.
-use Rattle.std.proofs.Common.{◌≡◌, ℕ, zero, suc, ◌+◌, ◌<◌, ◌⊎◌, ◌↔◌, Bool, true, false, List, [], ◌∷◌, length, refl, arith, set, rules}
-use Rattle.std.specs.Prelude.{cond}
+use Rattle.std.proofs.Common.{◌≡◌, ℕ, zero, suc, ◌+◌, ◌<◌, ◌⊎◌, ◌↔◌, Bool, true, false, List, [], ◌∷◌, length, refl, arith, set, rules, cond}
 use Rattle.std.proofs.lemmas.List.Sums.{sum_by-cons, count_by-le-length}
 use Rattle.regex_search_core.specs.PatternSets.{with_pattern, size_of_set}
-use Rattle.regex_search_core.specs.Search.{Search}
+use Rattle.nfa_paths.specs.Common.{Search, Automaton, HoldsPattern, IsOverlapResult}
 use Rattle.regex_search_core.specs.declared.search.MatchKind.TheVariants.{All, LeftmostFirst}
-use Rattle.thompson_nfa.specs.Automaton.{Automaton}
-use Rattle.nfa_paths.specs.Overlaps.{HoldsPattern, IsOverlapResult}
 
 size-cons : (b : Bool) (bs : List Bool) → size_of_set (b ∷ bs) ≡ cond b 1 0 + size_of_set bs
 size-cons b bs = sum_by-cons (λ (c : Bool). cond c 1 0) b bs

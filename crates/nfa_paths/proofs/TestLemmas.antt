@@ -1,7 +1,6 @@
 -- Sets of pairs as tests.
 use Rattle.std.proofs.Common.{◌≡◌, ℕ, ◌⊎◌, inl, inr, Bool, true, false, refl, sym, arith}
-use Rattle.nfa_paths.specs.Graphs.{Pair, WantedAt}
-use Rattle.nfa_paths.specs.Kinds.{Passes}
+use Rattle.nfa_paths.specs.Common.{Pair, WantedAt, Passes}
 
 -- a property that can be tested
 abbrev pub Tested : (Pair → Type 0) → Type 0

@@ -16,3 +16,4 @@ pub use Rattle.regex_search_core.specs.Search
 pub use Rattle.regex_search_core.specs.Slots
 pub use Rattle.thompson_nfa.specs.Automaton
 pub use Rattle.thompson_nfa.specs.Looks
+pub mod Common

@@ -1,6 +1,5 @@
 -- The results of a scan and of a search by either engine: the match, the slots, and the work.
-use Rattle.std.specs.Prelude.{◌≡◌, ℕ, ◌+◌, ◌*◌, ◌<◌, ◌≤◌, Bool, true, false, List, Option, None, Some}
-use Rattle.std.specs.Prelude.{length, replicate, option_map, option_and_then}
+use Rattle.std.specs.Prelude.{◌≡◌, ℕ, ◌+◌, ◌*◌, ◌<◌, ◌≤◌, Bool, true, false, List, Option, None, Some, length, replicate, option_map, option_and_then}
 use Rattle.std.specs.Option.{option_map_or}
 use Rattle.regex_search_core.specs.Found.{half_found_of}
 use Rattle.regex_search_core.specs.Search.{Search, is_anchored}
@@ -9,8 +8,7 @@ use Rattle.regex_search_core.specs.declared.search.MatchKind.{MatchKind}
 use Rattle.thompson_nfa.specs.Automaton.{Automaton}
 use Rattle.nfa_paths.specs.Graphs.{Pair}
 use Rattle.nfa_paths.specs.Exploring.{Slots}
-use Rattle.nfa_paths.specs.Paths.{span_len, total_degree, raised, node_at, pattern_of, last_of, path_half, slot_row}
-use Rattle.nfa_paths.specs.Paths.{is_utf8_empty, IsScanAnswer, IsSearchAnswer, SplitsCharacter}
+use Rattle.nfa_paths.specs.Paths.{span_len, total_degree, raised, node_at, pattern_of, last_of, path_half, slot_row, is_utf8_empty, IsScanAnswer, IsSearchAnswer, SplitsCharacter}
 
 -- the maximum number of turns of one scan
 abbrev pub max_scan_turns : Automaton → Search → ℕ

@@ -1,7 +1,6 @@
 -- A PikeVM as the engine of an iteration over captures: when its iterator may search, and what it gives and keeps.
 use Rattle.std.proofs.Common.{◌≡◌, Bool, false, Option, Result, subst}
-use Rattle.regex_search_core.specs.Search.{Search}
-use Rattle.regex_search_core.specs.Slots.{Captured}
+use Rattle.nfa_paths.specs.Common.{Search, Captured}
 use Rattle.nfa_search_base.specs.CapturesGiven.{CapturesGiven}
 use Rattle.nfa_search_base.specs.WithCaptures.{WithCaptures, GivesCaptures, Row, row_span}
 use Rattle.nfa_search_base.specs.CapturesLists.{AnswersRow}
@@ -14,14 +13,12 @@ use Rattle.nfa_search_base.specs.declared.error.SearchError.{SearchError}
 use Rattle.nfa_search_base.specs.declared.iter.steps.Steps.{Steps}
 use Rattle.nfa_search_base.proofs.CapturesLemmas.{row-lies}
 use Rattle.nfa_search_base.proofs.CapturesRunLemmas.{RowsOf, captures-given, captures-memory}
-use Rattle.nfa_search_base.proofs.EngineLemmas.{KeptBy, SearchesAs, SearchesOf, calls-kept, fills_by, searches-serve}
-use Rattle.nfa_search_base.proofs.EngineLemmas.{step-may}
+use Rattle.nfa_search_base.proofs.EngineLemmas.{KeptBy, SearchesAs, SearchesOf, calls-kept, fills_by, searches-serve, step-may}
 use Rattle.nfa_search_base.proofs.ItemLemmas.{ItemsOf, copies_of}
 use Rattle.nfa_search_base.proofs.LeavingLemmas.{shell-leaves}
 use Rattle.nfa_search_base.proofs.RunLemmas.{Begins}
 use Rattle.nfa_search_base.proofs.ShellLemmas.{ShellOf, plain_shell, steps_in}
-use Rattle.nfa_pikevm.specs.CapturesMatches.{AsksPikeRow, CatchesBySearches, CatchesGiveCache, MayCatchByPike}
-use Rattle.nfa_pikevm.specs.CapturesMatches.{pike_captures, pike_captures_next}
+use Rattle.nfa_pikevm.specs.CapturesMatches.{AsksPikeRow, CatchesBySearches, CatchesGiveCache, MayCatchByPike, pike_captures, pike_captures_next}
 use Rattle.nfa_pikevm.specs.Engines.{Pike, PikeCache, SameCapacities, kind_of}
 use Rattle.nfa_pikevm.specs.Finding.{PikeAnswersRow}
 use Rattle.nfa_pikevm.specs.declared.captures_iter.CapturesMatches.{CapturesMatches}

@@ -1,13 +1,8 @@
 -- From the row that a search fills to the slots that its callers get.
-use Rattle.std.proofs.Common.{◌≡◌, ℕ, ◌+◌, ◌-◌, ◌≤◌, min, take, inl, inr, List, [], ◌∷◌, ◌++◌, length, refl, ap, sym, ◌∙◌, arith, length-append}
-use Rattle.std.specs.Prelude.{Option}
+use Rattle.std.proofs.Common.{◌≡◌, ℕ, ◌+◌, ◌-◌, ◌≤◌, min, take, inl, inr, List, [], ◌∷◌, ◌++◌, length, refl, ap, sym, ◌∙◌, arith, length-append, Option}
 use Rattle.std.proofs.lemmas.Bool.{cases_lt}
 use Rattle.std.proofs.lemmas.List.{append-nil, length-take}
-use Rattle.regex_search_core.specs.Groups.{slot_count}
-use Rattle.thompson_nfa.specs.Automaton.{Automaton, IsAutomaton}
-use Rattle.nfa_paths.specs.Graphs.{Pair}
-use Rattle.nfa_paths.specs.Paths.{slot_row}
-use Rattle.nfa_paths.specs.Exploring.{Slots}
+use Rattle.nfa_paths.specs.Common.{slot_count, Automaton, IsAutomaton, Pair, slot_row, Slots}
 use Rattle.nfa_paths.proofs.PatternLemmas.{slot_row-more}
 use Rattle.nfa_pikevm_scan.specs.Scans.{blank}
 use Rattle.nfa_pikevm_scan.proofs.RowLemmas.{length-blank}

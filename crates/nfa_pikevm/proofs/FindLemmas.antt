@@ -1,10 +1,7 @@
 -- A PikeVM as the engine of an iteration over matches: when its iterator may search, and what it gives and keeps.
 use Rattle.std.proofs.Common.{◌≡◌, ◌∙◌, Bool, false, Option, None, Some, Result, Ok, refl, sym, subst, inl, inr}
-use Rattle.regex_search_core.specs.Found.{Found, found_of}
-use Rattle.regex_search_core.specs.Search.{Search}
-use Rattle.regex_search_core.specs.declared.search.Match.{Match}
+use Rattle.nfa_paths.specs.Common.{Found, found_of, Search, Match, Automaton}
 use Rattle.nfa_paths.proofs.KnownLemmas.{match-sure, sure-match}
-use Rattle.thompson_nfa.specs.Automaton.{Automaton}
 use Rattle.nfa_search_base.specs.EngineSearches.{Keeping}
 use Rattle.nfa_search_base.specs.WithCache.{WithCache}
 use Rattle.nfa_search_base.specs.StepsWith.{TakesStepWith, steps_with_state, steps_with_iter_state}
@@ -14,16 +11,14 @@ use Rattle.nfa_search_base.specs.Stored.{steps_iter_state, can_step_infallibly, 
 use Rattle.nfa_search_base.specs.IterStates.{Answer, IsInfalliblyInside, fresh, span_of}
 use Rattle.nfa_search_base.specs.declared.error.SearchError.{SearchError}
 use Rattle.nfa_search_base.specs.declared.iter.steps.Steps.{Steps}
-use Rattle.nfa_search_base.proofs.EngineLemmas.{EngineOf, FinderOf, KeptBy, SearchesAs, SearchesOf, answers_as}
-use Rattle.nfa_search_base.proofs.EngineLemmas.{calls-kept, find-lies, finds_by, same-or-made, searches-serve, step-may}
+use Rattle.nfa_search_base.proofs.EngineLemmas.{EngineOf, FinderOf, KeptBy, SearchesAs, SearchesOf, answers_as, calls-kept, find-lies, finds_by, same-or-made, searches-serve, step-may}
 use Rattle.nfa_search_base.proofs.ItemLemmas.{items_as}
 use Rattle.nfa_search_base.proofs.LeavingLemmas.{finds-leave, finds-to_end}
 use Rattle.nfa_search_base.proofs.MatchRunLemmas.{MatchesGiven, matches-given}
 use Rattle.nfa_search_base.proofs.RunLemmas.{AnswersOf, Begins}
 use Rattle.nfa_search_base.proofs.ShellLemmas.{ShellOf, steps_in}
 use Rattle.nfa_pikevm.specs.Engines.{Fits, Pike, PikeCache, SameCapacities, kind_of}
-use Rattle.nfa_pikevm.specs.FindMatches.{AsksPike, FindsBySearches, GivesCache, MayFindByPike, fits_pike, pike_matches}
-use Rattle.nfa_pikevm.specs.FindMatches.{pike_matches_next, pike_knowing}
+use Rattle.nfa_pikevm.specs.FindMatches.{AsksPike, FindsBySearches, GivesCache, MayFindByPike, fits_pike, pike_matches, pike_matches_next, pike_knowing}
 use Rattle.nfa_pikevm.specs.Finding.{IsSureOf, PikeSearches, PikeAnswersMatch, pike_scans}
 use Rattle.nfa_pikevm.specs.declared.find_iter.FindMatches.{FindMatches}
 use Rattle.nfa_pikevm.specs.declared.find_iter.Finder.{Finder}

@@ -1,11 +1,6 @@
 -- If a match may end anywhere, the earliest match shows whether there is a match.
-use Rattle.std.proofs.Common.{◌≡◌, ℕ}
-use Rattle.std.specs.Prelude.{Option, Bool, false, not, is_some}
-use Rattle.regex_search_core.specs.Search.{Search}
-use Rattle.regex_search_core.specs.declared.search.MatchKind.{MatchKind}
-use Rattle.thompson_nfa.specs.Automaton.{Automaton}
-use Rattle.nfa_paths.specs.Exploring.{Slots}
-use Rattle.nfa_paths.specs.Paths.{is_utf8_empty, IsAnswer, IsBoolAnswer, IsWork}
+use Rattle.std.proofs.Common.{◌≡◌, ℕ, Option, Bool, false, not, is_some}
+use Rattle.nfa_paths.specs.Common.{Search, MatchKind, Automaton, Slots, is_utf8_empty, IsAnswer, IsBoolAnswer, IsWork}
 use Rattle.nfa_paths.proofs.EarliestLemmas.{search_answer-asked, found_answer-earliest}
 use Rattle.nfa_paths.proofs.PatternLemmas.{found-of}
 

@@ -1,10 +1,7 @@
 -- The answers of a PikeVM to searches for a match or for captures.
 use Rattle.std.specs.Prelude.{◌≤◌, ◌*◌, ◌+◌, ℕ, List, Option, Ok}
-use Rattle.regex_search_core.specs.Found.{Found, found_of}
-use Rattle.regex_search_core.specs.Search.{Search}
-use Rattle.regex_search_core.specs.declared.search.Match.{Match}
+use Rattle.nfa_paths.specs.Common.{Found, found_of, Search, Match, IsWork, max_scans, span_len, total_degree}
 use Rattle.nfa_paths.specs.Known.{IsSureMatch}
-use Rattle.nfa_paths.specs.Paths.{IsWork, max_scans, span_len, total_degree}
 use Rattle.nfa_search_base.specs.WithCaptures.{Row, row_span}
 use Rattle.nfa_search_base.specs.CapturesLists.{AnswersRow}
 use Rattle.nfa_search_base.specs.Finders.{answer_by}

@@ -1,16 +1,9 @@
 -- From one position to the next of a scan for all sets of matches.
 use Rattle.std.proofs.Common.{◌≡◌, ℕ, ◌+◌, ◌-◌, ◌≤◌, inl, inr, ◌∷◌, length, replicate, refl, arith, Bool, true, false, Option, Some, None, cond, is_some}
 use Rattle.std.specs.Option.{option_or}
-use Rattle.regex_search_core.specs.Search.{Search}
-use Rattle.regex_search_core.specs.declared.primitives.PatternID.{PatternID}
-use Rattle.regex_search_core.specs.declared.search.HalfMatch.{HalfMatch}
+use Rattle.nfa_paths.specs.Common.{Search, PatternID, HalfMatch, Automaton, Pair, Slots, Hit, is_resting, NoMatch, IsFoundBy, NoneBefore, LastBefore, last_match, IsFrontier, Scanning, is_match, capture, starts, IsScanAnswer, space}
 use Rattle.regex_search_core.specs.declared.search.MatchKind.TheVariants.{All as AllMatches, LeftmostFirst}
-use Rattle.thompson_nfa.specs.Automaton.{Automaton}
-use Rattle.nfa_paths.specs.Graphs.{Pair}
-use Rattle.nfa_paths.specs.Exploring.{Slots, Hit}
 use Rattle.nfa_paths.specs.Exploring.Task.{Load}
-use Rattle.nfa_paths.specs.Kinds.{is_resting, NoMatch, IsFoundBy, NoneBefore, LastBefore, last_match, IsFrontier, Scanning}
-use Rattle.nfa_paths.specs.Paths.{is_match, capture, starts, IsScanAnswer, space}
 use Rattle.nfa_paths.proofs.FrontierMatchLemmas.{first_match-is, last_match-is}
 use Rattle.nfa_paths.proofs.ScanLemmas.{NoneBefore-step, LastBefore-step}
 use Rattle.nfa_paths.proofs.ScanAnswerLemmas.{edges-onward, seeds-later, Scanned-matches, scan_earliest-cut, scan_earliest_last-found}

@@ -3,9 +3,7 @@ use Rattle.std.proofs.Common.{◌≡◌, ℕ, ◌+◌, ◌-◌, ◌<◌, ◌≤�
 use Rattle.std.proofs.lemmas.List.{length-append, take_more, take-take}
 use Rattle.std.proofs.lemmas.List.Elements.{All-pop, All-take}
 use Rattle.std.proofs.lemmas.List.Sums.{sum_by_push}
-use Rattle.regex_search_core.specs.Search.{Search}
-use Rattle.thompson_nfa.specs.Automaton.{Automaton}
-use Rattle.nfa_paths.specs.Exploring.{Task, Slots}
+use Rattle.nfa_paths.specs.Common.{Search, Automaton, Task, Slots}
 use Rattle.nfa_scan_core.specs.Marks.{Marks}
 use Rattle.nfa_pikevm_scan.specs.States.{Frontier, work_item_of, work_onto, with_state, tries, tries_of, undone, state_of, HasSlot, IsWithin, Follows, Resumes}
 use Rattle.nfa_pikevm_scan.specs.declared.frame.FollowEpsilon.{FollowEpsilon}

@@ -1,14 +1,8 @@
 -- The turns of a closure, one after the other.
 use Rattle.std.proofs.Common.{◌≡◌, ℕ, ◌+◌, ◌-◌, ◌<◌, ◌≤◌, inl, inr, List, [], ◌∷◌, ◌++◌, length, map, take, refl, ap, sym, ◌∙◌, arith, append_assoc, append-nil, Bool, true, false, Option, Some, None, sum, sum_by}
 use Rattle.std.proofs.lemmas.List.{length-take-le}
-use Rattle.regex_search_core.specs.Search.{Search}
-use Rattle.regex_search_core.specs.declared.primitives.PatternID.{PatternID}
-use Rattle.thompson_nfa.specs.Automaton.{Automaton}
-use Rattle.nfa_paths.specs.Graphs.{Pair}
-use Rattle.nfa_paths.specs.Paths.{degree, edges, is_match}
-use Rattle.nfa_paths.specs.Exploring.{Slots}
+use Rattle.nfa_paths.specs.Common.{Search, PatternID, Automaton, Pair, degree, edges, is_match, Slots, NoMatch}
 use Rattle.nfa_paths.specs.Exploring.Task.{Explore as ToExplore, Load as ToLoad}
-use Rattle.nfa_paths.specs.Kinds.{NoMatch}
 use Rattle.nfa_paths.specs.Turns.{marked_sum}
 use Rattle.nfa_paths.proofs.TurnLemmas.{marked_sum-le}
 use Rattle.nfa_pikevm_scan.specs.Rows.{Active}

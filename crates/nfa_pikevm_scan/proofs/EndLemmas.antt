@@ -1,19 +1,9 @@
 -- How a scan begins, joins its starts, and ends.
 use Rattle.std.proofs.Common.{sym, ◌≡◌, ℕ, ◌+◌, ◌-◌, ◌<◌, ◌≤◌, inl, inr, List, [], ◌∷◌, length, refl, arith, subst, Bool, true, false, Option, Some, None, cond, is_some}
-use Rattle.regex_search_core.specs.Search.{Search}
-use Rattle.regex_search_core.specs.Found.{half_found_of}
-use Rattle.regex_search_core.specs.declared.primitives.PatternID.{PatternID}
-use Rattle.regex_search_core.specs.declared.search.HalfMatch.{HalfMatch}
-use Rattle.regex_search_core.specs.declared.search.MatchKind.{MatchKind}
+use Rattle.nfa_paths.specs.Common.{Search, half_found_of, PatternID, HalfMatch, MatchKind, Automaton, Pair, IsFirst, Task, Slots, Hit, seeds, is_resting, IsFoundBy, NoneBefore, EndsBefore, Scanning, edges, is_match, capture, starts, IsScanAnswer, space}
 use Rattle.regex_search_core.specs.declared.search.MatchKind.TheVariants.{All as AllMatches, LeftmostFirst}
-use Rattle.thompson_nfa.specs.Automaton.{Automaton}
-use Rattle.nfa_paths.specs.Graphs.{Pair}
-use Rattle.nfa_paths.specs.FirstPaths.{IsFirst}
-use Rattle.nfa_paths.specs.Exploring.{Task, Slots, Hit, seeds}
 use Rattle.nfa_paths.specs.Exploring.Task.{Load}
-use Rattle.nfa_paths.specs.Kinds.{is_resting, IsFoundBy, NoneBefore, EndsBefore, Scanning}
 use Rattle.nfa_paths.specs.Restarts.{ScanGives}
-use Rattle.nfa_paths.specs.Paths.{edges, is_match, capture, starts, IsScanAnswer, space}
 use Rattle.nfa_paths.proofs.SearchingLemmas.{Searching-load, Searching-done}
 use Rattle.nfa_paths.proofs.ScanAnswerLemmas.{Scanned-matches, starts-from, EndsBefore-span, IsFoundBy-none, IsFoundBy-some, scan_first-found, scan_all-found}
 use Rattle.nfa_paths.proofs.ScanLemmas.{IsFoundBy-more, NoneBefore-start, LastBefore-start, EndsBefore-over}

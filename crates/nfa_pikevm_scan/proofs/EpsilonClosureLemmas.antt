@@ -1,14 +1,9 @@
 -- The steps of a closure, each for the searches of all sets of match pairs at once.
 use Rattle.std.proofs.Common.{◌≡◌, ℕ, ◌<◌, ◌≤◌, List, [], ◌∷◌, ◌++◌, length, get_or, set, map, refl, arith, Bool, true, false, Option, Some, None}
 use Rattle.std.proofs.lemmas.Bool.{both_ways, false_from_ne_true}
-use Rattle.regex_search_core.specs.Search.{Search}
-use Rattle.thompson_nfa.specs.Automaton.{Automaton, Node}
-use Rattle.nfa_paths.specs.Graphs.{Pair, Space}
-use Rattle.nfa_paths.specs.Paths.{edges, edges_of, is_match, pattern_of, slot_of, space}
-use Rattle.nfa_paths.specs.Kinds.{rests}
+use Rattle.nfa_paths.specs.Common.{Search, Automaton, Node, Pair, Space, edges, edges_of, is_match, pattern_of, slot_of, space, rests, Task, Slots, Hit, ExploresTo, Searching}
 use Rattle.nfa_paths.proofs.ScanAnswerLemmas.{edges-onward, edges-rise}
 use Rattle.nfa_paths.proofs.StartLemmas.{node_at-get}
-use Rattle.nfa_paths.specs.Exploring.{Task, Slots, Hit, ExploresTo, Searching}
 use Rattle.nfa_paths.specs.Exploring.Task.{Explore, Restore, Load}
 use Rattle.nfa_paths.proofs.SearchLemmas.{Answer-load, AnswerBehind-along}
 use Rattle.nfa_paths.proofs.SearchingLemmas.{Searching-restore, Searching-load, Searching-marked, Searching-plain, Searching-write, Searching-unkept, Searching-keep}

@@ -4,13 +4,8 @@ use Rattle.std.specs.Option.{option_or}
 use Rattle.std.proofs.Math.Nat.{mul-le-mul_right}
 use Rattle.std.proofs.lemmas.List.Elements.{All-cons, All-nil}
 use Rattle.std.proofs.lemmas.List.Sums.{sum-map, sum_by-cons}
-use Rattle.regex_search_core.specs.Search.{Search}
-use Rattle.thompson_nfa.specs.Automaton.{Automaton, Node, LeadsBelow}
+use Rattle.nfa_paths.specs.Common.{Search, Automaton, Node, LeadsBelow, Pair, In, Slots, Hit, rests, is_resting, last_match, degree, node_at, edges, edges_of, byte_at, target_on, capture, total_degree, span_len}
 use Rattle.thompson_nfa.specs.Automaton.Node.{Fail}
-use Rattle.nfa_paths.specs.Graphs.{Pair, In}
-use Rattle.nfa_paths.specs.Exploring.{Slots, Hit}
-use Rattle.nfa_paths.specs.Kinds.{rests, is_resting, last_match}
-use Rattle.nfa_paths.specs.Paths.{degree, node_at, edges, edges_of, byte_at, target_on, capture, total_degree, span_len}
 use Rattle.nfa_paths.proofs.ScanAnswerLemmas.{edges-rise}
 use Rattle.nfa_paths.proofs.StartLemmas.{resting-capture, resting-edges, byte_pairs, byte_at-within}
 use Rattle.nfa_paths.proofs.TurnLemmas.{marked_sum-le}

@@ -3,12 +3,7 @@
 use Rattle.std.proofs.Common.{◌≡◌, ℕ, ◌+◌, ◌<◌, ◌≤◌, ◌⊎◌, inl, inr, List, [], ◌∷◌, length, refl, arith, subst, ap, ◌∙◌, Bool, true, false, Option, Some, None, is_some, All}
 use Rattle.std.proofs.lemmas.Bool.{cases_lt}
 use Rattle.std.proofs.lemmas.List.Elements.{All-push}
-use Rattle.regex_search_core.specs.Search.{Search}
-use Rattle.regex_search_core.specs.declared.primitives.PatternID.{PatternID}
-use Rattle.regex_search_core.specs.declared.search.HalfMatch.{HalfMatch}
-use Rattle.thompson_nfa.specs.Automaton.{Automaton}
-use Rattle.nfa_paths.specs.Exploring.{Task, Slots, Hit}
-use Rattle.nfa_paths.specs.Paths.{is_match, starts}
+use Rattle.nfa_paths.specs.Common.{Search, PatternID, HalfMatch, Automaton, Task, Slots, Hit, is_match, starts}
 use Rattle.nfa_scan_core.specs.FirstBytes.{IsFirstBytes}
 use Rattle.nfa_pikevm_scan.specs.States.{Moment, between, unmarked, SearchingAt, NextsGive}
 use Rattle.nfa_pikevm_scan.specs.Scans.{blank, held, AddsStart, AreStarts, HaveRows, KeepsThreads, MayCross, MayScan, PassesOver, ScansFirst, SearchesFirst, SearchingFrom}

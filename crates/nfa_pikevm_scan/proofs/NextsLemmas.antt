@@ -5,12 +5,7 @@ use Rattle.std.proofs.lemmas.List.Elements.{All-nil, All-cons, All-head, All-tai
 use Rattle.std.proofs.lemmas.Slice.{drop-put_mid}
 use Rattle.std.proofs.Math.Nat.{mul-le-mul_right}
 use borrow.Rule.Slice.PartMut.{put_mid}
-use Rattle.regex_search_core.specs.Search.{Search, search_of}
-use Rattle.regex_search_core.specs.declared.primitives.PatternID.{PatternID}
-use Rattle.thompson_nfa.specs.Automaton.{Automaton}
-use Rattle.nfa_paths.specs.Graphs.{Pair}
-use Rattle.nfa_paths.specs.Paths.{degree, edges}
-use Rattle.nfa_paths.specs.Exploring.{Task, Slots}
+use Rattle.nfa_paths.specs.Common.{Search, search_of, PatternID, Automaton, Pair, degree, edges, Task, Slots}
 use Rattle.nfa_paths.specs.Exploring.Task.{Explore, Load}
 use Rattle.nfa_paths.specs.Turns.{marked_sum}
 use Rattle.nfa_paths.proofs.TurnLemmas.{marked_sum-clear}

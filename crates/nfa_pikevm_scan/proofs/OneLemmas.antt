@@ -1,14 +1,8 @@
 -- One state of a position, followed to its first match.
 use Rattle.std.proofs.Common.{◌≡◌, ℕ, inl, inr, List, [], ◌∷◌, ◌++◌, length, get_or, take, refl, ap, sym, ◌∙◌, replicate, arith, append-nil, Bool, true, false, Option, Some, None, is_some, not}
 use Rattle.nfa_pikevm_scan.specs.Rows.{items_of}
-use Rattle.regex_search_core.specs.Search.{Search}
-use Rattle.regex_search_core.specs.declared.primitives.PatternID.{PatternID}
-use Rattle.thompson_nfa.specs.Automaton.{Automaton}
-use Rattle.nfa_paths.specs.Graphs.{Pair}
-use Rattle.nfa_paths.specs.Paths.{edges, is_match}
-use Rattle.nfa_paths.specs.Exploring.{Slots}
+use Rattle.nfa_paths.specs.Common.{Search, PatternID, Automaton, Pair, edges, is_match, Slots, first_match, before_match, NoMatch}
 use Rattle.nfa_paths.specs.Exploring.Task.{Explore, Load}
-use Rattle.nfa_paths.specs.Kinds.{first_match, before_match, NoMatch}
 use Rattle.nfa_paths.proofs.StartLemmas.{IsMatch-edges}
 use Rattle.std.proofs.lemmas.Bool.{false_from_ne_true}
 use Rattle.std.proofs.lemmas.List.Elements.{All-nil}

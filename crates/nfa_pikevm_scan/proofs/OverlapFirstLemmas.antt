@@ -1,15 +1,9 @@
 -- The positions of the scan for the first match: the states after a match are dropped.
 use Rattle.std.proofs.Common.{◌≡◌, ℕ, ◌+◌, ◌-◌, ◌<◌, ◌≤◌, ◌↔◌, inl, inr, Bool, true, false, List, [], ◌∷◌, length, map, refl, sym, ap, ◌∙◌, subst, arith, None, Some}
 use Rattle.regex_search_core.specs.PatternSets.{size_of_set}
-use Rattle.regex_search_core.specs.Search.{Search}
+use Rattle.nfa_paths.specs.Common.{Search, Automaton, Pair, In, edges, starts, pairs_from, space, Slots, Hit, Task, seeds, ExploresTo, ExploresAfter, before_match, first_match, is_resting, IsInsertable, IsOverlapResult, pattern_at}
 use Rattle.regex_search_core.specs.declared.search.MatchKind.TheVariants.{LeftmostFirst}
-use Rattle.thompson_nfa.specs.Automaton.{Automaton}
-use Rattle.nfa_paths.specs.Graphs.{Pair, In}
-use Rattle.nfa_paths.specs.Paths.{edges, starts, pairs_from, space}
-use Rattle.nfa_paths.specs.Exploring.{Slots, Hit, Task, seeds, ExploresTo, ExploresAfter}
 use Rattle.nfa_paths.specs.Exploring.Task.{Explore as ToExplore, Load as ToLoad}
-use Rattle.nfa_paths.specs.Kinds.{before_match, first_match, is_resting}
-use Rattle.nfa_paths.specs.Overlaps.{IsInsertable, IsOverlapResult, pattern_at}
 use Rattle.nfa_paths.proofs.FrontierMatchLemmas.{first_match-cut}
 use Rattle.nfa_paths.proofs.StartLemmas.{pairs_from-end}
 use Rattle.nfa_paths.proofs.MetLemmas.{Between, Between-before, Between-less, Between-same, Best, Best-found, Exact, Exact-start, Exact-next, Exact-match, Exact-end, Answer-ahead, before_target, before_is, before_match-same, first_match-same}

@@ -1,15 +1,8 @@
 -- What the loops over the positions keep.
 use Rattle.std.proofs.Common.{◌≡◌, ℕ, ◌+◌, ◌≤◌, ◌↔◌, inl, inr, Bool, true, false, List, [], length, refl, subst, cond}
 use Rattle.regex_search_core.specs.PatternSets.{size_of_set}
-use Rattle.regex_search_core.specs.Search.{Search}
-use Rattle.regex_search_core.specs.declared.search.MatchKind.{MatchKind}
+use Rattle.nfa_paths.specs.Common.{Search, MatchKind, Automaton, IsAutomaton, Pair, space, Slots, is_resting, NoneBefore, EndsBefore, IsFrontier, first_match, IsInsertable, IsOverlapResult}
 use Rattle.regex_search_core.specs.declared.search.MatchKind.TheVariants.{All as AllMatches, LeftmostFirst}
-use Rattle.thompson_nfa.specs.Automaton.{Automaton, IsAutomaton}
-use Rattle.nfa_paths.specs.Graphs.{Pair}
-use Rattle.nfa_paths.specs.Paths.{space}
-use Rattle.nfa_paths.specs.Exploring.{Slots}
-use Rattle.nfa_paths.specs.Kinds.{is_resting, NoneBefore, EndsBefore, IsFrontier, first_match}
-use Rattle.nfa_paths.specs.Overlaps.{IsInsertable, IsOverlapResult}
 use Rattle.nfa_paths.proofs.ScanAnswerLemmas.{starts-from}
 use Rattle.nfa_paths.proofs.FrontierMatchLemmas.{before_match-all, before_match-plain}
 use Rattle.nfa_paths.proofs.ScanLemmas.{NoneBefore-start, NoneBefore-step, NoneBefore-end}

@@ -3,15 +3,8 @@ use Rattle.std.proofs.Common.{◌≡◌, ℕ, ◌<◌, ◌⊎◌, ◌↔◌, inl
 use Rattle.std.proofs.lemmas.Bool.{and_parts, cases_Bool, lt-ltb, ltb-true}
 use Rattle.std.proofs.lemmas.List.{ext_get_or}
 use Rattle.std.proofs.lemmas.Bool.Decides.{nat_tests}
-use Rattle.regex_search_core.specs.Boundary.{IsBoundary}
+use Rattle.nfa_paths.specs.Common.{IsBoundary, Search, Automaton, Pair, node_at, pattern_of, is_match, is_utf8_empty, Slots, Hit, HoldsMatch, NoMatch, first_match, pattern_at, IsPermittedEnd, IsInsertable}
 use Rattle.regex_search_core.specs.PatternSets.{with_pattern}
-use Rattle.regex_search_core.specs.Search.{Search}
-use Rattle.thompson_nfa.specs.Automaton.{Automaton}
-use Rattle.nfa_paths.specs.Graphs.{Pair}
-use Rattle.nfa_paths.specs.Paths.{node_at, pattern_of, is_match, is_utf8_empty}
-use Rattle.nfa_paths.specs.Exploring.{Slots, Hit}
-use Rattle.nfa_paths.specs.Kinds.{HoldsMatch, NoMatch, first_match}
-use Rattle.nfa_paths.specs.Overlaps.{pattern_at, IsPermittedEnd, IsInsertable}
 use Rattle.nfa_paths.proofs.MemberLemmas.{In-append_left, In-append_right, In-append}
 use Rattle.nfa_paths.proofs.SetLemmas.{holds-with, length-with}
 use Rattle.nfa_paths.proofs.TestLemmas.{same_test}

@@ -2,7 +2,7 @@
 use Rattle.std.proofs.Common.{◌≡◌, ℕ, suc, zero, ◌+◌, ◌*◌, ◌<◌, ◌≤◌, ◌==◌, List, [], ◌∷◌, ◌++◌, length, get_or, set, take, drop, replicate, refl, ap, sym, ◌∙◌, arith, Bool, true, false, eq-eqb, ne_eqb, length-drop, length-set, All, Option, None}
 use Rattle.std.proofs.lemmas.List.{take-take, take-append-le, drop-append-le, drop-take, drop-drop, length-take-le, get_or-map, map-set, length-map, take_more_set, length-replicate}
 use Rattle.std.proofs.lemmas.List.Elements.{All-head, All-tail}
-use Rattle.nfa_paths.specs.Exploring.{Slots}
+use Rattle.nfa_paths.specs.Common.{Slots}
 use Rattle.std.proofs.Math.Nat.{mul-le-mul_right}
 use Rattle.nfa_scan_core.specs.Marks.{Marks}
 use Rattle.nfa_pikevm_scan.specs.Rows.{Active, items_of, marks_of}

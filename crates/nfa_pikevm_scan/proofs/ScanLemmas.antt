@@ -1,16 +1,7 @@
 -- From one position of a scan to the next.
 use Rattle.std.proofs.Common.{◌≡◌, ℕ, ◌+◌, ◌-◌, ◌<◌, ◌≤◌, inl, inr, List, [], ◌∷◌, length, replicate, refl, ap, sym, ◌∙◌, arith, subst, Bool, true, false, Option, Some, None, All, is_some, option_map}
-use Rattle.regex_search_core.specs.Search.{Search}
-use Rattle.regex_search_core.specs.Found.{HalfFound, half_found_of}
-use Rattle.regex_search_core.specs.Patterns.{number_of}
-use Rattle.regex_search_core.specs.declared.primitives.PatternID.{PatternID}
-use Rattle.regex_search_core.specs.declared.search.HalfMatch.{HalfMatch}
-use Rattle.thompson_nfa.specs.Automaton.{Automaton, LeadsBelow}
-use Rattle.nfa_paths.specs.Graphs.{Pair, In}
-use Rattle.nfa_paths.specs.Exploring.{Task, Slots, Hit, next_tasks}
+use Rattle.nfa_paths.specs.Common.{Search, HalfFound, half_found_of, number_of, PatternID, HalfMatch, Automaton, LeadsBelow, Pair, In, Task, Slots, Hit, next_tasks, first_match, before_match, edges, is_match, starts, space}
 use Rattle.nfa_paths.specs.Exploring.Task.{Explore, Load}
-use Rattle.nfa_paths.specs.Kinds.{first_match, before_match}
-use Rattle.nfa_paths.specs.Paths.{edges, is_match, starts, space}
 use Rattle.nfa_paths.proofs.FrontierMatchLemmas.{before_match-among, before_match-all, first_match-cut, last_match-is}
 use Rattle.nfa_paths.proofs.MemberLemmas.{In-middle}
 use Rattle.nfa_paths.proofs.OptionLemmas.{same_some}

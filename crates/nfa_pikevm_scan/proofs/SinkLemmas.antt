@@ -1,14 +1,7 @@
 -- The matches of a front, taken in order.
 use Rattle.std.proofs.Common.{◌≡◌, ℕ, inl, inr, Bool, true, false, [], ◌∷◌, ◌++◌, refl, sym, subst, Some, None}
 use Rattle.std.proofs.lemmas.Bool.{false_from_ne_true}
-use Rattle.regex_search_core.specs.Search.{Search}
-use Rattle.regex_search_core.specs.Patterns.{number_of}
-use Rattle.regex_search_core.specs.declared.primitives.PatternID.{PatternID}
-use Rattle.thompson_nfa.specs.Automaton.{Automaton}
-use Rattle.nfa_paths.specs.Graphs.{Pair}
-use Rattle.nfa_paths.specs.Paths.{node_at, pattern_of, is_match}
-use Rattle.nfa_paths.specs.Exploring.{Slots}
-use Rattle.nfa_paths.specs.Kinds.{NoMatch, first_match}
+use Rattle.nfa_paths.specs.Common.{Search, number_of, PatternID, Automaton, Pair, node_at, pattern_of, is_match, Slots, NoMatch, first_match}
 use Rattle.nfa_paths.proofs.FrontierMatchLemmas.{first_match-is, first_match-cut}
 use Rattle.nfa_pikevm_scan.specs.States.{Frontier, Moment, EndsInMatch, PositionGives}
 use Rattle.nfa_pikevm_scan.specs.Sinks.{Takes}

@@ -1,6 +1,6 @@
 -- Rows that are copied slot by slot.
 use Rattle.std.proofs.Common.{◌≡◌, ℕ, suc, zero, ◌<◌, [], ◌∷◌, ◌++◌, length, get_or, set, take, replicate, ap, arith, Option, None}
-use Rattle.nfa_paths.specs.Exploring.{Slots}
+use Rattle.nfa_paths.specs.Common.{Slots}
 
 -- two slots are copied at once
 pub copied-two : (to from : Slots) (x y : Option ℕ) → length to ≡ length from → length from ≡ 2 → x ≡ get_or from 0 x

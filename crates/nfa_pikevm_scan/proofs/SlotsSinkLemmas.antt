@@ -1,10 +1,6 @@
 -- What the last row is when the matches of a position were taken.
 use Rattle.std.proofs.Common.{◌≡◌, ℕ, inl, inr, Bool, true, false, [], ◌++◌, map, refl, sym, ap, ◌∙◌, subst, None, Some, not}
-use Rattle.regex_search_core.specs.Search.{Search}
-use Rattle.thompson_nfa.specs.Automaton.{Automaton}
-use Rattle.nfa_paths.specs.Paths.{edges, is_match}
-use Rattle.nfa_paths.specs.Exploring.{Slots, Hit}
-use Rattle.nfa_paths.specs.Kinds.{first_match, before_match, last_match}
+use Rattle.nfa_paths.specs.Common.{Search, Automaton, edges, is_match, Slots, Hit, first_match, before_match, last_match}
 use Rattle.nfa_paths.proofs.StartLemmas.{IsMatch-edges}
 use Rattle.nfa_pikevm_scan.specs.States.{Frontier, Moment, moves, meant, IsHit, GoesOn, NextsGive}
 use Rattle.nfa_pikevm_scan.specs.Sinks.{SlotsSinkTakes, Takes, ClosuresGive}

@@ -1,11 +1,8 @@
 -- What a scan for a set keeps at a position, for all matches or the first one, with the least end or with any.
 use Rattle.std.proofs.Common.{◌≡◌, ◌⊎◌, ℕ, ◌+◌, ◌≤◌, inl, inr, Bool, true, false, List, [], length, refl, ap, arith, cond, not, ◌&&◌}
 use Rattle.regex_search_core.specs.PatternSets.{size_of_set}
-use Rattle.regex_search_core.specs.Search.{Search}
+use Rattle.nfa_paths.specs.Common.{Search, Automaton, IsAutomaton, Slots, IsOverlapResult}
 use Rattle.regex_search_core.specs.declared.search.MatchKind.TheVariants.{All as AllMatches, LeftmostFirst}
-use Rattle.thompson_nfa.specs.Automaton.{Automaton, IsAutomaton}
-use Rattle.nfa_paths.specs.Exploring.{Slots}
-use Rattle.nfa_paths.specs.Overlaps.{IsOverlapResult}
 use Rattle.nfa_scan_core.specs.Marks.{Marks}
 use Rattle.nfa_pikevm_scan.specs.Scans.{start_joined, with_start, AreStarts, AreAt, max_scan_turns}
 use Rattle.nfa_pikevm_scan.specs.States.{Moment, between}

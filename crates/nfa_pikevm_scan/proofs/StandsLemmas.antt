@@ -1,11 +1,6 @@
 -- What a scan for all wanted pairs keeps at a position where it has followed no state yet.
 use Rattle.std.proofs.Common.{◌≡◌, ℕ, ◌+◌, ◌<◌, ◌≤◌, Bool, List, [], length, ◌∙◌, All}
-use Rattle.regex_search_core.specs.Search.{Search}
-use Rattle.thompson_nfa.specs.Automaton.{Automaton, LeadsBelow}
-use Rattle.nfa_paths.specs.Graphs.{Pair}
-use Rattle.nfa_paths.specs.Paths.{space, is_match}
-use Rattle.nfa_paths.specs.Exploring.{Slots}
-use Rattle.nfa_paths.specs.Kinds.{is_resting, IsFrontier}
+use Rattle.nfa_paths.specs.Common.{Search, Automaton, LeadsBelow, Pair, space, is_match, Slots, is_resting, IsFrontier}
 use Rattle.nfa_scan_core.specs.Marks.{Marks}
 use Rattle.nfa_pikevm_scan.specs.States.{Frontier, Moment, between, AreMatchPairs, PositionGives}
 use Rattle.nfa_pikevm_scan.specs.Scans.{blank, held, start_joined, AreStarts, AreAt, JoinsStart, KeepsThreads, MayCross, ScansAll, MayScan}

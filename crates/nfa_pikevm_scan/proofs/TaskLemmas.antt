@@ -1,9 +1,7 @@
 -- The work of a position: what may be left out of it, and how the start joins it.
 use Rattle.std.proofs.Common.{◌≡◌, ℕ, suc, zero, ◌+◌, ◌<◌, ◌≤◌, ◌⊎◌, ◌↔◌, inl, inr, List, [], ◌∷◌, ◌++◌, map, refl, ap, sym, ◌∙◌, arith, Bool, None}
 use Rattle.std.proofs.lemmas.Bool.{cases_lt, lt-ltb, le-ltb}
-use Rattle.nfa_paths.specs.Graphs.{Pair, In, Space}
-use Rattle.nfa_paths.specs.FirstPaths.{IsFirst}
-use Rattle.nfa_paths.specs.Exploring.{Task, Slots, Hit, ExploresTo, ExploresAfter, Searching, next_tasks, seeds}
+use Rattle.nfa_paths.specs.Common.{Pair, In, Space, IsFirst, Task, Slots, Hit, ExploresTo, ExploresAfter, Searching, next_tasks, seeds}
 use Rattle.nfa_paths.specs.Exploring.Task.{Explore, Load}
 use Rattle.nfa_paths.proofs.SearchLemmas.{Answer-more, Answer-seeds, AnswerBehind-along}
 use Rattle.nfa_paths.proofs.StartLemmas.{pairs_from-step, pairs_from-end}

@@ -6,18 +6,10 @@ use Rattle.std.proofs.lemmas.Bool.{both_ways}
 use Rattle.std.proofs.lemmas.List.Elements.{All-push, All-weaker}
 use Rattle.std.proofs.lemmas.List.Sums.{sum_by_push, sum-map}
 use Rattle.std.proofs.lemmas.Grind.{reverse_onto}
-use Rattle.regex_search_core.specs.Search.{Search}
-use Rattle.regex_search_core.specs.Patterns.{number_of}
-use Rattle.regex_search_core.specs.declared.primitives.PatternID.{PatternID}
-use Rattle.thompson_nfa.specs.Automaton.{Automaton, Node}
+use Rattle.nfa_paths.specs.Common.{Search, number_of, PatternID, Automaton, Node, look_holds, Pair, degree, node_at, pattern_of, slot_of, edges, edges_of, byte_at, target_on, is_match, Task, Slots, rests}
 use Rattle.thompson_nfa.specs.Automaton.Node.{Look, Union, BinaryUnion, Capture, Fail, Match}
-use Rattle.thompson_nfa.specs.Looks.{look_holds}
 use Rattle.thompson_nfa.specs.declared.look.Look as looks
-use Rattle.nfa_paths.specs.Graphs.{Pair}
-use Rattle.nfa_paths.specs.Paths.{degree, node_at, pattern_of, slot_of, edges, edges_of, byte_at, target_on, is_match}
-use Rattle.nfa_paths.specs.Exploring.{Task, Slots}
 use Rattle.nfa_paths.specs.Exploring.Task.{Explore, Load}
-use Rattle.nfa_paths.specs.Kinds.{rests}
 use Rattle.nfa_paths.specs.Turns.{marked_sum}
 use Rattle.nfa_paths.proofs.MemberLemmas.{All-In}
 use Rattle.nfa_paths.proofs.TurnLemmas.{marked_sum-set, marked_sum-le}

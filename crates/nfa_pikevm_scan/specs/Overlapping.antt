@@ -1,13 +1,7 @@
 -- What a PikeVM adds to a set of patterns, at each position and in all.
 use Rattle.std.specs.Prelude.{◌≡◌, ◌↔◌, ◌⊎◌, ℕ, ◌<◌, ◌==◌, ◌&&◌, ◌||◌, not, Bool, true, false, List, [], Option, None, Some, length, All, slice_index, nat_lt, nat_le}
 use Rattle.regex_search_core.specs.PatternSets.{with_pattern}
-use Rattle.regex_search_core.specs.Search.{Search}
-use Rattle.thompson_nfa.specs.Automaton.{Automaton}
-use Rattle.nfa_paths.specs.Graphs.{Pair}
-use Rattle.nfa_paths.specs.Paths.{edges, is_utf8_empty}
-use Rattle.nfa_paths.specs.Exploring.{Hit}
-use Rattle.nfa_paths.specs.Kinds.{HoldsMatch, first_match, before_match}
-use Rattle.nfa_paths.specs.Overlaps.{HoldsPattern, pattern_at}
+use Rattle.nfa_paths.specs.Common.{Search, Automaton, Pair, edges, is_utf8_empty, Hit, HoldsMatch, first_match, before_match, HoldsPattern, pattern_at}
 use Rattle.nfa_pikevm_scan.specs.States.{Frontier, Moment, moves, PositionGives}
 
 -- whether the position does not split a codepoint

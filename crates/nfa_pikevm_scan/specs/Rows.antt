@@ -1,6 +1,6 @@
 -- The layout of kept states and their rows in memory.
 use Rattle.std.specs.Prelude.{ℕ, ◌-◌, ◌^◌, ◌==◌, Bool, List, [], ◌∷◌, Option, None, Some, cond, map, take, drop}
-use Rattle.nfa_paths.specs.Exploring.{Slots}
+use Rattle.nfa_paths.specs.Common.{Slots}
 
 -- the offset that a slot of a row holds: the greatest `usize` means none
 abbrev pub offset_of : ℕ → Option ℕ

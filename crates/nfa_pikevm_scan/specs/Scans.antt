@@ -1,14 +1,7 @@
 -- The results of the scans and the search of a PikeVM, in terms of the theory of paths.
 use Rattle.std.specs.Prelude.{◌≡◌, ◌⊎◌, ℕ, ◌++◌, ◌+◌, ◌-◌, ◌*◌, ◌<◌, ◌≤◌, Bool, List, [], ◌∷◌, Option, None, Some, length, replicate, nat_lt, if◌then◌else◌, All}
-use Rattle.regex_search_core.specs.Found.{HalfFound, half_found_of}
-use Rattle.regex_search_core.specs.Search.{Search}
-use Rattle.regex_search_core.specs.declared.search.HalfMatch.{HalfMatch}
-use Rattle.thompson_nfa.specs.Automaton.{Automaton, LeadsBelow}
-use Rattle.nfa_paths.specs.Graphs.{Pair}
-use Rattle.nfa_paths.specs.Paths.{node_at, pattern_of, is_match, starts, pairs_from, total_degree, space}
-use Rattle.nfa_paths.specs.Exploring.{Slots, Hit, Task, seeds}
+use Rattle.nfa_paths.specs.Common.{HalfFound, half_found_of, Search, HalfMatch, Automaton, LeadsBelow, Pair, node_at, pattern_of, is_match, starts, pairs_from, total_degree, space, Slots, Hit, Task, seeds, Scanning}
 use Rattle.nfa_paths.specs.Exploring.Task.{Load}
-use Rattle.nfa_paths.specs.Kinds.{Scanning}
 pub use Rattle.nfa_paths.specs.Restarts.{max_scan_turns}
 use Rattle.nfa_scan_core.specs.FirstBytes.{IsRefused}
 use Rattle.nfa_pikevm_scan.specs.Needs.{stack_frames}

@@ -1,7 +1,6 @@
 -- The sizes of the parts of a cache, and the sizes that an engine needs.
 use Rattle.std.specs.Prelude.{◌≡◌, ◌⊎◌, ℕ, ◌+◌, ◌*◌, ◌^◌, ◌<◌, ◌≤◌, length}
-use Rattle.regex_search_core.specs.Groups.{slot_count}
-use Rattle.thompson_nfa.specs.Automaton.{Automaton}
+use Rattle.nfa_paths.specs.Common.{slot_count, Automaton}
 use Rattle.nfa_pikevm_scan.specs.Needs.{stack_frames}
 use Rattle.nfa_pikevm_scan.specs.Scans.{Sizes, sizes_of}
 use Rattle.nfa_pikevm_scan.specs.declared.threads.Threads.{Threads}

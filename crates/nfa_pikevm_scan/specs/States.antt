@@ -2,15 +2,8 @@
 -- that is left, the states that it keeps for the next position as a front.
 use Rattle.std.specs.Prelude.{◌≡◌, ◌⊎◌, ℕ, ◌+◌, ◌<◌, ◌≤◌, Bool, true, false, List, [], ◌∷◌, ◌++◌, Option, None, Some, cond, length, map, replicate, All, slice_get, slice_index_or, slice_set}
 use Rattle.std.specs.List.{sum_by}
-use Rattle.regex_search_core.specs.Search.{Search, search_of}
-use Rattle.regex_search_core.specs.Patterns.{number_of}
-use Rattle.regex_search_core.specs.declared.primitives.PatternID.{PatternID}
-use Rattle.thompson_nfa.specs.Automaton.{Automaton, Node}
-use Rattle.nfa_paths.specs.Graphs.{Pair, NoRepeats}
-use Rattle.nfa_paths.specs.Paths.{degree, node_at, pattern_of, edges, is_match, byte_at, space}
-use Rattle.nfa_paths.specs.Exploring.{Slots, Hit, Task, ExploresTo, Searching}
+use Rattle.nfa_paths.specs.Common.{Search, search_of, number_of, PatternID, Automaton, Node, Pair, NoRepeats, degree, node_at, pattern_of, edges, is_match, byte_at, space, Slots, Hit, Task, ExploresTo, Searching, rests, first_match, before_match, last_match, NoMatch}
 use Rattle.nfa_paths.specs.Exploring.Task.{Explore as ToExplore, Restore as ToRestore, Load as ToLoad}
-use Rattle.nfa_paths.specs.Kinds.{rests, first_match, before_match, last_match, NoMatch}
 use Rattle.nfa_paths.specs.Turns.{marked_sum}
 use Rattle.nfa_scan_core.specs.Marks.{Marks}
 pub use Rattle.nfa_scan_core.specs.Marks.{SeenAt}

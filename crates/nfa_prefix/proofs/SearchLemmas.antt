@@ -1,14 +1,9 @@
 -- What bytes that each match begins with mean for a search, and what it means that nothing matches.
-use Rattle.std.proofs.Common.{◌≡◌, ℕ, zero, ◌<◌, ◌≤◌, Bool, true, false, inl, inr, List, refl, sym, ap, subst, arith}
-use Rattle.std.specs.Prelude.{None, MatchBool, replicate}
+use Rattle.std.proofs.Common.{◌≡◌, ℕ, zero, ◌<◌, ◌≤◌, Bool, true, false, inl, inr, List, refl, sym, ap, subst, arith, None, MatchBool, replicate}
 use Rattle.std.proofs.lemmas.Bool.{cases_lt}
 use Rattle.std.proofs.lemmas.List.{length-replicate}
-use Rattle.regex_search_core.specs.Search.{Search, is_anchored}
-use Rattle.regex_search_core.specs.declared.search.MatchKind.{MatchKind}
+use Rattle.nfa_paths.specs.Common.{Search, is_anchored, MatchKind, Automaton, IsAnswer, IsBoolAnswer, IsFindAnswer, IsHalfAnswer, IsKeptAnswer, IsRestartedAnswer, IsScanAnswer, IsSearchAnswer, is_utf8_empty, slot_row}
 use Rattle.regex_search_core.specs.declared.search.MatchKind.TheVariants.{All, LeftmostFirst}
-use Rattle.thompson_nfa.specs.Automaton.{Automaton}
-use Rattle.nfa_paths.specs.Paths.{IsAnswer, IsBoolAnswer, IsFindAnswer, IsHalfAnswer, IsKeptAnswer}
-use Rattle.nfa_paths.specs.Paths.{IsRestartedAnswer, IsScanAnswer, IsSearchAnswer, is_utf8_empty, slot_row}
 use Rattle.nfa_paths.proofs.StartLemmas.{raised-zero}
 use Rattle.nfa_engines.specs.Accepting.{MatchesNothing}
 use Rattle.nfa_engines.specs.StartLaws.{anchored_at, IsFirstStart, IsUnbound}

@@ -1,9 +1,6 @@
 -- Laws of the bytes that each match begins with, about the definitions only.
 use Rattle.std.specs.Prelude.{ℕ, ◌<◌, ◌≤◌, Bool, false, List, None, replicate}
-use Rattle.regex_search_core.specs.Search.{Search}
-use Rattle.regex_search_core.specs.declared.search.MatchKind.{MatchKind}
-use Rattle.thompson_nfa.specs.Automaton.{Automaton}
-use Rattle.nfa_paths.specs.Paths.{IsAnswer, IsBoolAnswer, IsFindAnswer, IsHalfAnswer}
+use Rattle.nfa_paths.specs.Common.{Search, MatchKind, Automaton, IsAnswer, IsBoolAnswer, IsFindAnswer, IsHalfAnswer}
 use Rattle.nfa_engines.specs.Accepting.{MatchesNothing}
 use Rattle.nfa_engines.specs.StartLaws.{anchored_at, IsFirstStart, IsUnbound}
 use Rattle.nfa_prefix.specs.Occurrences.{IsFirstOccurrence, OccursBefore, OccursNowhere}

@@ -1,7 +1,5 @@
 -- A name in a list is one of its names, and what two lists of names say together.
-use Rattle.std.proofs.Common.{◌≡◌, ℕ, zero, suc, ◌<◌, ◌↔◌, List, [], ◌∷◌, Option, None, Some, Result, Ok, Err, length}
-use Rattle.std.proofs.Common.{◌++◌, slice_index_or, arith, rules}
-use Rattle.std.specs.Prelude.{IsNone, IsSome, IfOk, IfErr}
+use Rattle.std.proofs.Common.{◌≡◌, ℕ, zero, suc, ◌<◌, ◌↔◌, List, [], ◌∷◌, Option, None, Some, Result, Ok, Err, length, ◌++◌, slice_index_or, arith, rules, IsNone, IsSome, IfOk, IfErr}
 use Rattle.nfa_samples.specs.Names.{IsNoneOf}
 
 -- the name at a place

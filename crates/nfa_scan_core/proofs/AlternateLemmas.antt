@@ -1,6 +1,5 @@
 -- The first of the alternatives of a union, and those after it.
-use Rattle.std.proofs.Common.{◌≡◌, ℕ, zero, suc, ◌≤◌, List, [], ◌∷◌, length, drop, refl, arith}
-use Rattle.std.specs.Prelude.{Some, None}
+use Rattle.std.proofs.Common.{◌≡◌, ℕ, zero, suc, ◌≤◌, List, [], ◌∷◌, length, drop, refl, arith, Some, None}
 use Rattle.std.specs.List.{slice_get}
 
 -- the first of a list that is not empty

@@ -1,12 +1,8 @@
 -- From what the table of first bytes promises to what a contract says.
-use Rattle.std.proofs.Common.{◌≡◌, ◌<◌, ℕ, inl, inr, Bool, true, false, not, List, [], ◌∷◌, subst}
-use Rattle.std.specs.Prelude.{slice_index_or}
+use Rattle.std.proofs.Common.{◌≡◌, ◌<◌, ℕ, inl, inr, Bool, true, false, not, List, [], ◌∷◌, subst, slice_index_or}
 use Rattle.std.proofs.lemmas.Bool.{not-false, not-true}
-use Rattle.thompson_nfa.specs.Automaton.{Automaton}
-use Rattle.nfa_paths.specs.Graphs.{Pair}
+use Rattle.nfa_paths.specs.Common.{Automaton, Pair, Accepts, edges, is_match}
 use Rattle.nfa_paths.specs.Beginnings.{NoMatchBegins}
-use Rattle.nfa_paths.specs.FirstPaths.{Accepts}
-use Rattle.nfa_paths.specs.Paths.{edges, is_match}
 use Rattle.nfa_paths.proofs.PathToLemmas.{PathTo-accepts}
 use Rattle.nfa_paths.proofs.StartLemmas.{IsMatch-edges}
 use Rattle.nfa_scan_core.specs.FirstBytes.{Admits, IsFirstBytes, MayBegin}

@@ -1,14 +1,11 @@
 -- A table admits only bytes that a match may begin with.
-use Rattle.std.proofs.Common.{◌≡◌, ℕ, suc, zero, ◌+◌, ◌<◌, ◌≤◌, inl, inr, List, [], ◌∷◌, length, get_or, replicate, refl, sym, arith}
-use Rattle.std.specs.Prelude.{Some, true, false, Bool, All}
+use Rattle.std.proofs.Common.{◌≡◌, ℕ, suc, zero, ◌+◌, ◌<◌, ◌≤◌, inl, inr, List, [], ◌∷◌, length, get_or, replicate, refl, sym, arith, Some, true, false, Bool, All}
 use Rattle.std.specs.List.{slice_get}
 use Rattle.std.proofs.lemmas.List.{get_or_default, get_or-replicate}
 use Rattle.std.proofs.lemmas.Option.{get_or_from_slice_get}
-use Rattle.thompson_nfa.specs.Automaton.{Automaton, Node}
+use Rattle.nfa_paths.specs.Common.{Automaton, Node, In, node_at}
 use Rattle.thompson_nfa.specs.Automaton.Node.{ByteRange, Sparse}
 use Rattle.thompson_nfa.specs.declared.state.Transition.{Transition}
-use Rattle.nfa_paths.specs.Graphs.{In}
-use Rattle.nfa_paths.specs.Paths.{node_at}
 use Rattle.nfa_scan_core.specs.FirstBytes.{Admits, WasReached, Extends, GrowsBy, Reads, Stops, AddsOnly, LacksRoom, Differ, AreDistinct, epsilon_targets, IsReachedAtStart, IsRead, MayBegin}
 use Rattle.nfa_scan_core.specs.FirstBytes.IsReachedAtStart.{on}
 use Rattle.nfa_scan_core.specs.FirstBytes.MayBegin.{matches, many}

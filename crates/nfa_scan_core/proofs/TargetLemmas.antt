@@ -1,12 +1,10 @@
 -- The targets of byte states.
-use Rattle.std.proofs.Common.{◌≡◌, ℕ, suc, zero, ◌<◌, ◌≤◌, List, [], ◌∷◌, length, refl, arith, rules}
-use Rattle.std.specs.Prelude.{Option, Some, None, true, false, Bool, All, IfSome, option_and_then, is_some, count_by, cond, if◌then◌else◌}
+use Rattle.std.proofs.Common.{◌≡◌, ℕ, suc, zero, ◌<◌, ◌≤◌, List, [], ◌∷◌, length, refl, arith, rules, Option, Some, None, true, false, Bool, All, IfSome, option_and_then, is_some, count_by, cond, if◌then◌else◌}
 use Rattle.std.specs.List.{slice_get}
 use Rattle.std.proofs.lemmas.List.Sums.{sum_by-cons}
-use Rattle.thompson_nfa.specs.Automaton.{Node, LeadsBelow}
+use Rattle.nfa_paths.specs.Common.{Node, LeadsBelow, degree, target_on, first_target, holds_byte}
 use Rattle.thompson_nfa.specs.Automaton.Node.{ByteRange, Sparse, Dense}
 use Rattle.thompson_nfa.specs.declared.state.Transition.{Transition}
-use Rattle.nfa_paths.specs.Paths.{degree, target_on, first_target, holds_byte}
 
 -- the properties of an optional value that is chosen by a condition
 then-some : {A : Type 0} (c : Bool) (a u : A) → (if c then Some a else None) ≡ Some u → (c ≡ true) × (a ≡ u)

@@ -1,6 +1,6 @@
 -- The marks of a search, which both engines keep.
 use Rattle.std.specs.Prelude.{◌≡◌, ℕ, Bool, true, false, List, slice_index_or}
-use Rattle.nfa_paths.specs.Graphs.{Pair}
+use Rattle.nfa_paths.specs.Common.{Pair}
 
 -- whether each pair, or each state at a position, is marked, and the number of tries to mark one
 pub record Marks : Type 0 where

@@ -1,8 +1,7 @@
 -- half and full iteration give the same ends
 use Rattle.std.proofs.Common.{◌≡◌, ℕ, zero, suc, ◌≤◌, true, false, Bool, ◌==◌, ◌&&◌, List, map, Option, None, Some, Ok, Err, refl, ◌∙◌, ap, arith}
 use Rattle.std.proofs.lemmas.Bool.Decides.{nat_tests}
-use Rattle.regex_search_core.specs.Found.{Found, HalfFound}
-use Rattle.regex_search_core.specs.Search.{Search}
+use Rattle.nfa_paths.specs.Common.{Found, HalfFound, Search}
 use Rattle.nfa_search_base.specs.Agreement.{end_answer, end_item, IsFoundIn, IsIterState, FindsEnds, HalfAndFullAgree}
 use Rattle.nfa_search_base.specs.Asking.{SameButStart}
 use Rattle.nfa_search_base.specs.LastEnd.{EndsBy}

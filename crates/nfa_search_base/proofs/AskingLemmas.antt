@@ -1,6 +1,6 @@
 -- what holds along the calls of a finder
 use Rattle.std.proofs.Common.{List, [], ◌∷◌, refl, ◌∙◌}
-use Rattle.regex_search_core.specs.Search.{Search}
+use Rattle.nfa_paths.specs.Common.{Search}
 use Rattle.nfa_search_base.specs.Asking.{SameButStart}
 use Rattle.nfa_search_base.specs.Serving.{ServesOn, LeadsOn, ServesOnAlong}
 

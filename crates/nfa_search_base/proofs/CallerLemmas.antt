@@ -1,15 +1,6 @@
 -- What callers of an engine learn of the numbers in an answer.
-use Rattle.std.proofs.Common.{◌≡◌, ℕ, List, length, ap, ◌∙◌}
-use Rattle.std.specs.Prelude.{Option, Some, None, Bool, option_map, replicate, IfSome, IfNone, ◌<◌, ◌≤◌}
-use Rattle.regex_search_core.specs.Found.{found_of, half_found_of}
-use Rattle.regex_search_core.specs.Patterns.{number_of}
-use Rattle.regex_search_core.specs.Search.{Search}
-use Rattle.regex_search_core.specs.declared.primitives.PatternID.{PatternID}
-use Rattle.regex_search_core.specs.declared.search.HalfMatch.{HalfMatch}
-use Rattle.regex_search_core.specs.declared.search.Match.{Match}
-use Rattle.regex_search_core.specs.declared.search.MatchKind.{MatchKind}
-use Rattle.thompson_nfa.specs.Automaton.{Automaton, IsAutomaton}
-use Rattle.nfa_paths.specs.Paths.{IsAnswer, IsHalfAnswer, IsFindAnswer}
+use Rattle.std.proofs.Common.{◌≡◌, ℕ, List, length, ap, ◌∙◌, Option, Some, None, Bool, option_map, replicate, IfSome, IfNone, ◌<◌, ◌≤◌}
+use Rattle.nfa_paths.specs.Common.{found_of, half_found_of, number_of, Search, PatternID, HalfMatch, Match, MatchKind, Automaton, IsAutomaton, IsAnswer, IsHalfAnswer, IsFindAnswer}
 use Rattle.nfa_paths.proofs.InsideLemmas.{half-within, match-within, match-pattern, pattern-within}
 use Rattle.nfa_paths.proofs.PatternLemmas.{slots-unset}
 use Rattle.nfa_search_base.specs.Lists.{IsInside}

@@ -1,29 +1,17 @@
 -- The captures of a search of an NFA: there is one list of them, and their matches are those of the search.
-use Rattle.std.proofs.Common.{◌≡◌, ◌∙◌, ℕ, inl, inr, Bool}
-use Rattle.std.proofs.Common.{List, [], ◌∷◌, map, length}
-use Rattle.std.proofs.Common.{Option, None, Some, Ok, Err, refl, sym, ap}
+use Rattle.std.proofs.Common.{◌≡◌, ◌∙◌, ℕ, inl, inr, Bool, List, [], ◌∷◌, map, length, Option, None, Some, Ok, Err, refl, sym, ap}
 use Rattle.std.specs.Option.{option_and_then, option_map}
-use Rattle.regex_search_core.specs.Found.{Found}
-use Rattle.regex_search_core.specs.Groups.{slot_count}
-use Rattle.regex_search_core.specs.Search.{Search}
-use Rattle.regex_search_core.specs.Slots.{Captured, match_of}
-use Rattle.regex_search_core.specs.declared.search.MatchKind.{MatchKind}
-use Rattle.thompson_nfa.specs.Automaton.{Automaton}
-use Rattle.nfa_paths.specs.Graphs.{Pair}
-use Rattle.nfa_paths.specs.Paths.{path_pattern, slot_row, IsAnswer, IsFindAnswer}
+use Rattle.nfa_paths.specs.Common.{Found, slot_count, Search, Captured, match_of, MatchKind, Automaton, Pair, path_pattern, slot_row, IsAnswer, IsFindAnswer}
 use Rattle.nfa_paths.proofs.AnswerLemmas.{search_answer-unique}
 use Rattle.nfa_paths.proofs.ExistenceLemmas.{search_answer-exists}
 use Rattle.nfa_paths.proofs.KnownLemmas.{match-unique}
 use Rattle.nfa_search_base.specs.WithCaptures.{Row, filled_answer, row_found, row_of, row_span, UpToRefusal}
 use Rattle.nfa_search_base.specs.CapturesLists.{IsRow, AnswersRow, AreFirstRows, AreRows}
 use Rattle.nfa_search_base.specs.Items.{Item, matches_in, greedy}
-use Rattle.nfa_search_base.specs.Lists.{IsStep, Fails, FailsOrIsRefused, ItemsNext, ItemsLast}
-use Rattle.nfa_search_base.specs.Lists.{AnswersMatch, ComeNext, ComeLast, AreFirstMatches, AreMatches}
-use Rattle.nfa_search_base.specs.IterStates.{IterState, Answer, AnswerIsInside}
-use Rattle.nfa_search_base.specs.IterStates.{fresh, after, answer_span, span_of}
+use Rattle.nfa_search_base.specs.Lists.{IsStep, Fails, FailsOrIsRefused, ItemsNext, ItemsLast, AnswersMatch, ComeNext, ComeLast, AreFirstMatches, AreMatches}
+use Rattle.nfa_search_base.specs.IterStates.{IterState, Answer, AnswerIsInside, fresh, after, answer_span, span_of}
 use Rattle.nfa_search_base.specs.declared.error.SearchError.{SearchError}
-use Rattle.nfa_search_base.proofs.ListLemmas.{as_items, last-matches, last-unique, match-lies, matches_in-as_items, never-fails}
-use Rattle.nfa_search_base.proofs.ListLemmas.{matches-unique, step-as, step-unique, items-greedy}
+use Rattle.nfa_search_base.proofs.ListLemmas.{as_items, last-matches, last-unique, match-lies, matches_in-as_items, never-fails, matches-unique, step-as, step-unique, items-greedy}
 use Rattle.nfa_search_base.proofs.IterStateLemmas.{IsOrdered}
 use Rattle.nfa_paths.proofs.PatternLemmas.{length-slot_row}
 

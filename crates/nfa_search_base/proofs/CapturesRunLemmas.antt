@@ -1,24 +1,16 @@
 -- The calls of an iterator over captures by an engine give the captures of the engine's NFA.
-use Rattle.std.proofs.Common.{◌≡◌, ℕ, ◌≤◌, inl, inr, Bool, refl, sym, ap, subst}
-use Rattle.std.proofs.Common.{Option, None, Some, Result, Ok, Err, List, [], ◌∷◌, map, arith}
-use Rattle.std.specs.Prelude.{All, IfOk}
+use Rattle.std.proofs.Common.{◌≡◌, ℕ, ◌≤◌, inl, inr, Bool, refl, sym, ap, subst, Option, None, Some, Result, Ok, Err, List, [], ◌∷◌, map, arith, All, IfOk}
 use Rattle.std.specs.Iterator.{Yields}
 use Rattle.std.specs.Iterator.Runs.{EachRunFrom, YieldsRun}
 use Rattle.std.proofs.lemmas.List.Elements.{All-nil, All-cons, All-weaker}
-use Rattle.regex_search_core.specs.Found.{Found}
-use Rattle.regex_search_core.specs.Search.{Search}
-use Rattle.regex_search_core.specs.Slots.{Captured}
-use Rattle.regex_search_core.specs.declared.search.MatchKind.{MatchKind}
-use Rattle.thompson_nfa.specs.Automaton.{Automaton}
+use Rattle.nfa_paths.specs.Common.{Found, Search, Captured, MatchKind, Automaton}
 use Rattle.nfa_paths.proofs.InsideLemmas.{slots-within}
 use Rattle.nfa_search_base.specs.Asking.{SameButStart}
 use Rattle.nfa_search_base.specs.CapturesGiven.{CapturesGiven}
 use Rattle.nfa_search_base.specs.WithCaptures.{Row, row_found, row_of, row_span}
-use Rattle.nfa_search_base.specs.CapturesLists.{IsRow, AnswersRow, AreFirstRows, AreRows, AreFirstCaptures, AreAllCaptures}
-use Rattle.nfa_search_base.specs.CapturesLists.{HasGroups}
+use Rattle.nfa_search_base.specs.CapturesLists.{IsRow, AnswersRow, AreFirstRows, AreRows, AreFirstCaptures, AreAllCaptures, HasGroups}
 use Rattle.nfa_search_base.specs.CapturesRuns.{match_in, CapturesInside, CapturesMemory}
-use Rattle.nfa_search_base.specs.Lists.{AreFirstMatches, AreMatches}
-use Rattle.nfa_search_base.specs.Lists.{IsStep, IsSlotInside}
+use Rattle.nfa_search_base.specs.Lists.{AreFirstMatches, AreMatches, IsStep, IsSlotInside}
 use Rattle.nfa_search_base.specs.Stored.{steps_iter_state}
 use Rattle.nfa_search_base.specs.IterStates.{IterState, Answer, fresh, repeats, shifted, answer_span}
 use Rattle.nfa_search_base.specs.declared.error.SearchError.{SearchError}
@@ -28,8 +20,7 @@ use Rattle.nfa_search_base.proofs.CapturesLemmas.{row-lies, rows-first_matches, 
 use Rattle.nfa_search_base.proofs.EngineLemmas.{SearchesAs, SearchesOf, answers_as, step-may, step-stays}
 use Rattle.nfa_search_base.proofs.ItemLemmas.{ItemsOf, StepsBy, copies_of, copy-of}
 use Rattle.nfa_search_base.proofs.ListLemmas.{matches-disjoint, step-lies}
-use Rattle.nfa_search_base.proofs.OkItemLemmas.{GoesOnIn, OkedAs, ResultsOf, next-clean, last-clean, oked-run, oked-first}
-use Rattle.nfa_search_base.proofs.OkItemLemmas.{oked-all, oked-next, values-hold, errors-memory}
+use Rattle.nfa_search_base.proofs.OkItemLemmas.{GoesOnIn, OkedAs, ResultsOf, next-clean, last-clean, oked-run, oked-first, oked-all, oked-next, values-hold, errors-memory}
 use Rattle.nfa_search_base.proofs.RunLemmas.{Begins, Given, given, items-given}
 use Rattle.nfa_search_base.proofs.ShellLemmas.{ShellOf, same-items}
 use Rattle.nfa_search_base.proofs.SpanLemmas.{spans-inside}

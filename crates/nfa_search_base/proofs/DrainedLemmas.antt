@@ -1,16 +1,9 @@
 -- What an engine's steps over captures give, if they go on until `None` or an error.
-use Rattle.std.proofs.Common.{◌≡◌, ◌≤◌, Bool, refl, Option, None}
-use Rattle.std.proofs.Common.{◌⊎◌, inl, inr, replicate}
-use Rattle.std.proofs.Common.{Result, Ok, Err, List, [], ◌∷◌, ◌++◌, map}
-use Rattle.std.specs.Prelude.{All, IfErr, IfOk}
+use Rattle.std.proofs.Common.{◌≡◌, ◌≤◌, Bool, refl, Option, None, ◌⊎◌, inl, inr, replicate, Result, Ok, Err, List, [], ◌∷◌, ◌++◌, map, All, IfErr, IfOk}
 use Rattle.std.proofs.iter.runs.Made.{run_of_exit, run_of_turn}
 use Rattle.std.proofs.lemmas.List.{length-replicate}
 use Rattle.std.proofs.lemmas.List.Elements.{All-cons, All-head, All-nil, All-tail}
-use Rattle.regex_search_core.specs.Groups.{slot_count}
-use Rattle.regex_search_core.specs.Search.{Search}
-use Rattle.regex_search_core.specs.Slots.{Captured}
-use Rattle.regex_search_core.specs.declared.search.MatchKind.{MatchKind}
-use Rattle.thompson_nfa.specs.Automaton.{Automaton}
+use Rattle.nfa_paths.specs.Common.{slot_count, Search, Captured, MatchKind, Automaton}
 use Rattle.nfa_search_base.specs.WithCaptures.{Row, row_of}
 use Rattle.nfa_search_base.specs.CapturesLists.{AreRows, HasGroups}
 use Rattle.nfa_search_base.specs.CapturesGiven.{CapturesGiven}

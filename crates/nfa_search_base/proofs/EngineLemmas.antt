@@ -1,20 +1,10 @@
 -- An engine that answers the searches of an iteration, as one value: what its searches need, answer and leave.
-use Rattle.std.proofs.Common.{◌≡◌, ◌∙◌, ℕ, Bool, true, false, Option, None, Some, Result, Ok, Err, refl, sym, ap, subst}
-use Rattle.std.proofs.Common.{◌⊎◌, inl, inr}
-use Rattle.std.specs.Prelude.{IfErr, IfOk, IsTrue, is_some}
+use Rattle.std.proofs.Common.{◌≡◌, ◌∙◌, ℕ, Bool, true, false, Option, None, Some, Result, Ok, Err, refl, sym, ap, subst, ◌⊎◌, inl, inr, IfErr, IfOk, IsTrue, is_some}
 use Rattle.std.specs.Option.{ForSome, option_map}
-use Rattle.regex_search_core.specs.Found.{Found, found_of}
-use Rattle.regex_search_core.specs.Search.{Search}
-use Rattle.regex_search_core.specs.declared.search.Match.{Match}
-use Rattle.regex_search_core.specs.declared.search.MatchKind.{MatchKind}
-use Rattle.regex_search_core.specs.declared.search.Span.{Span}
-use Rattle.thompson_nfa.specs.Automaton.{Automaton}
-use Rattle.nfa_paths.specs.Paths.{IsFindAnswer}
+use Rattle.nfa_paths.specs.Common.{Found, found_of, Search, Match, MatchKind, Span, Automaton, IsFindAnswer}
 use Rattle.nfa_search_base.specs.Asking.{SameButStart}
 use Rattle.nfa_search_base.specs.WithCaptures.{WithCaptures, Row}
-use Rattle.nfa_search_base.specs.EngineSearches.{AnswersBy, AsksEngine, AsksEngineRow, IsKnownFrom, Keeping, Knowing}
-use Rattle.nfa_search_base.specs.EngineSearches.{MayFill, MayFind, SearchesUnlessKnown, found_in, if_ends_at, keeping}
-use Rattle.nfa_search_base.specs.EngineSearches.{last_start}
+use Rattle.nfa_search_base.specs.EngineSearches.{AnswersBy, AsksEngine, AsksEngineRow, IsKnownFrom, Keeping, Knowing, MayFill, MayFind, SearchesUnlessKnown, found_in, if_ends_at, keeping, last_start}
 use Rattle.nfa_search_base.specs.Finders.{answer_by}
 use Rattle.nfa_search_base.specs.WithCache.{WithCache}
 use Rattle.nfa_search_base.specs.StepsWith.{KeepsStepsWith, TakesStepWith, steps_with_state}

@@ -1,10 +1,6 @@
 -- What a search finds is what the function says.
-use Rattle.std.proofs.Common.{◌≡◌, ◌∙◌, Bool, refl, sym, ap}
-use Rattle.std.specs.Prelude.{is_some}
-use Rattle.regex_search_core.specs.Search.{Search}
-use Rattle.regex_search_core.specs.declared.search.MatchKind.{MatchKind}
-use Rattle.thompson_nfa.specs.Automaton.{Automaton}
-use Rattle.nfa_paths.specs.Paths.{IsBoolAnswer}
+use Rattle.std.proofs.Common.{◌≡◌, ◌∙◌, Bool, refl, sym, ap, is_some}
+use Rattle.nfa_paths.specs.Common.{Search, MatchKind, Automaton, IsBoolAnswer}
 use Rattle.nfa_paths.proofs.AnswerLemmas.{search_answer-unique}
 use Rattle.nfa_paths.proofs.ExistenceLemmas.{search_answer-exists}
 use Rattle.nfa_search_base.specs.Finds.{finds}

@@ -1,15 +1,12 @@
 -- the steps of a search that is a function give its greedy list
-use Rattle.std.proofs.Common.{◌≡◌, ℕ, zero, suc, ◌+◌, ◌<◌, true, false, Bool, Option, None, Some, Result, Ok, Err}
-use Rattle.std.proofs.Common.{List, [], refl, ◌∙◌, ap, subst, inl, inr, arith}
+use Rattle.std.proofs.Common.{◌≡◌, ℕ, zero, suc, ◌+◌, ◌<◌, true, false, Bool, Option, None, Some, Result, Ok, Err, List, [], refl, ◌∙◌, ap, subst, inl, inr, arith}
 use Rattle.std.specs.Option.{option_map}
 use Rattle.std.specs.Iterator.{AlwaysYields}
 use Rattle.std.proofs.lemmas.Iterator.{YieldsList}
-use Rattle.regex_search_core.specs.Search.{Search}
-use Rattle.regex_search_core.specs.declared.search.Span.{Span}
+use Rattle.nfa_paths.specs.Common.{Search, Span}
 use Rattle.nfa_search_base.specs.Asking.{SameButStart}
 use Rattle.nfa_search_base.specs.IterStates.{IterState, Answer, answer_span, Advances, repeats, shifted, ends_left}
-use Rattle.nfa_search_base.specs.Items.{Item, item_by, item_of, items_left, step_answer, step_iter_state, items_from}
-use Rattle.nfa_search_base.specs.Items.{items_within, greedy, greedy_unless}
+use Rattle.nfa_search_base.specs.Items.{Item, item_by, item_of, items_left, step_answer, step_iter_state, items_from, items_within, greedy, greedy_unless}
 use Rattle.nfa_search_base.specs.Serving.{ServesOnAlong}
 use Rattle.nfa_search_base.specs.Steps.{TakesStep, GivesItem, ends_at}
 use Rattle.nfa_search_base.specs.Stored.{steps_iter_state, takes_steps}

@@ -1,9 +1,6 @@
 -- The items that the steps of an iteration give, as one value, and what each says about the answer of its step.
-use Rattle.std.proofs.Common.{◌≡◌, ◌∙◌, ◌⊎◌, inl, inr, refl, sym, ap}
-use Rattle.std.proofs.Common.{Option, None, Some, Result, Ok, Err, List, map}
-use Rattle.regex_search_core.specs.Search.{Search}
-use Rattle.regex_search_core.specs.Slots.{Captured}
-use Rattle.regex_search_core.specs.declared.search.Span.{Span}
+use Rattle.std.proofs.Common.{◌≡◌, ◌∙◌, ◌⊎◌, inl, inr, refl, sym, ap, Option, None, Some, Result, Ok, Err, List, map}
+use Rattle.nfa_paths.specs.Common.{Search, Captured, Span}
 use Rattle.nfa_search_base.specs.Items.{item_by}
 use Rattle.nfa_search_base.specs.Lists.{IsStep, ItemsLast, ItemsNext}
 use Rattle.nfa_search_base.specs.Steps.{GivesItem}

@@ -1,13 +1,6 @@
 -- A search that restarts has the answer of a search from where its last scan started.
-use Rattle.std.proofs.Common.{◌≡◌, ℕ, ◌+◌, ◌-◌, ◌*◌, ◌≤◌, Bool, true, false, MatchBool, List, [], ◌∷◌, ap, arith, refl, subst}
-use Rattle.std.specs.Prelude.{Option, None, Some}
-use Rattle.regex_search_core.specs.Found.{Found}
-use Rattle.regex_search_core.specs.Search.{Search, is_anchored}
-use Rattle.regex_search_core.specs.declared.search.MatchKind.{MatchKind}
-use Rattle.thompson_nfa.specs.Automaton.{Automaton}
-use Rattle.nfa_paths.specs.Graphs.{Pair}
-use Rattle.nfa_paths.specs.Paths.{EndsOnBoundary, IsFindAnswer, IsKeptAnswer, IsRestartedAnswer, IsScanAnswer}
-use Rattle.nfa_paths.specs.Paths.{IsSearchAnswer, IsWhole, IsWithinScans, IsWork, is_utf8_empty, max_scans, raised}
+use Rattle.std.proofs.Common.{◌≡◌, ℕ, ◌+◌, ◌-◌, ◌*◌, ◌≤◌, Bool, true, false, MatchBool, List, [], ◌∷◌, ap, arith, refl, subst, Option, None, Some}
+use Rattle.nfa_paths.specs.Common.{Found, Search, is_anchored, MatchKind, Automaton, Pair, EndsOnBoundary, IsFindAnswer, IsKeptAnswer, IsRestartedAnswer, IsScanAnswer, IsSearchAnswer, IsWhole, IsWithinScans, IsWork, is_utf8_empty, max_scans, raised}
 use Rattle.nfa_paths.specs.Restarts.{Restarts, max_scan_turns}
 use Rattle.nfa_paths.proofs.AnswerLemmas.{search_answer-unique}
 use Rattle.nfa_paths.proofs.RestartLemmas.{scans-bound, scans-within, turns-after}

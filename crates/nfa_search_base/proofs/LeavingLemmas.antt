@@ -1,15 +1,10 @@
 -- What the calls of an iterator leave of what its searches change, seen as less than the iterator keeps.
-use Rattle.std.proofs.Common.{◌≡◌, ◌∙◌, true, false, refl, ap, inl, inr}
-use Rattle.std.proofs.Common.{Option, None, Some, Result, Ok, Err, List, [], ◌∷◌, map}
+use Rattle.std.proofs.Common.{◌≡◌, ◌∙◌, true, false, refl, ap, inl, inr, Option, None, Some, Result, Ok, Err, List, [], ◌∷◌, map, IfOk}
 use Rattle.std.specs.Iterator.{Yields}
 use Rattle.std.specs.Option.{option_map}
-use Rattle.std.specs.Prelude.{IfOk}
-use Rattle.regex_search_core.specs.Found.{found_of}
-use Rattle.regex_search_core.specs.Search.{Search}
-use Rattle.regex_search_core.specs.declared.search.Match.{Match}
+use Rattle.nfa_paths.specs.Common.{found_of, Search, Match}
 use Rattle.nfa_search_base.specs.Drained.{CallsLead, DrainsAll}
-use Rattle.nfa_search_base.specs.Leaving.{DoesSearch, FindsLeave, FindsLeaveAtEnd, Leaves, LeavesAtEnd, StepsLead}
-use Rattle.nfa_search_base.specs.Leaving.{answers_to_end}
+use Rattle.nfa_search_base.specs.Leaving.{DoesSearch, FindsLeave, FindsLeaveAtEnd, Leaves, LeavesAtEnd, StepsLead, answers_to_end}
 use Rattle.nfa_search_base.specs.Runs.{GivesKept}
 use Rattle.nfa_search_base.specs.Steps.{TakesStep}
 use Rattle.nfa_search_base.specs.Stored.{steps_iter_state}

@@ -1,35 +1,20 @@
 -- The list of an iteration's items. There is at most one, and exactly one if each search has an answer. Its matches do
 -- not overlap, and are in the span. The same for the list of the matches of an NFA.
-use Rattle.std.proofs.Common.{◌≡◌, ◌∙◌, ℕ, zero, suc, ◌≤◌, ◌<◌, inl, inr, Bool, true, false}
-use Rattle.std.proofs.Common.{if◌then◌else◌, MatchBool}
-use Rattle.std.proofs.Common.{Option, None, Some, Ok, Err, List, [], ◌∷◌, ◌++◌, map, length, refl, sym, ap, subst}
-use Rattle.std.proofs.Common.{arith, append-nil, length-append}
+use Rattle.std.proofs.Common.{◌≡◌, ◌∙◌, ℕ, zero, suc, ◌≤◌, ◌<◌, inl, inr, Bool, true, false, if◌then◌else◌, MatchBool, Option, None, Some, Ok, Err, List, [], ◌∷◌, ◌++◌, map, length, refl, sym, ap, subst, arith, append-nil, length-append}
 use Rattle.std.proofs.lemmas.List.{length-map}
-use Rattle.std.specs.Option.{ForSome}
-use Rattle.regex_search_core.specs.Found.{Found, found_of}
-use Rattle.regex_search_core.specs.Search.{Search}
-use Rattle.regex_search_core.specs.declared.search.Match.{Match}
-use Rattle.regex_search_core.specs.declared.search.MatchKind.{MatchKind}
-use Rattle.regex_search_core.specs.declared.search.Span.{Span}
-use Rattle.thompson_nfa.specs.Automaton.{Automaton}
+use Rattle.std.specs.Option.{ForSome, option_and_then}
+use Rattle.nfa_paths.specs.Common.{Found, found_of, Search, Match, MatchKind, Span, Automaton, slot_row, path_pattern, slot_count, match_of}
 use Rattle.nfa_paths.proofs.InsideLemmas.{match-within}
 use Rattle.nfa_paths.proofs.KnownLemmas.{match-unique}
 use Rattle.nfa_paths.proofs.ExistenceLemmas.{search_answer-exists}
-use Rattle.nfa_paths.specs.Paths.{slot_row, path_pattern}
-use Rattle.regex_search_core.specs.Groups.{slot_count}
-use Rattle.regex_search_core.specs.Slots.{match_of}
-use Rattle.std.specs.Option.{option_and_then}
 use Rattle.nfa_search_base.specs.Asking.{SameButStart}
 use Rattle.nfa_search_base.specs.LastEnd.{EndsBy}
 use Rattle.nfa_search_base.specs.Items.{Item, item_by, matches_in, items_from, items_within, greedy}
-use Rattle.nfa_search_base.specs.Lists.{IsStep, Fails, ItemsNext, ItemsLast, AreDisjoint, AreSpansDisjoint}
-use Rattle.nfa_search_base.specs.Lists.{AnswersMatch, AreFirstMatches, AreMatches}
-use Rattle.nfa_search_base.specs.IterStates.{IterState, Answer, Advances, AnswerIsInside}
-use Rattle.nfa_search_base.specs.IterStates.{fresh, repeats, shifted, after, answer_span, span_of, ends_left}
+use Rattle.nfa_search_base.specs.Lists.{IsStep, Fails, ItemsNext, ItemsLast, AreDisjoint, AreSpansDisjoint, AnswersMatch, AreFirstMatches, AreMatches}
+use Rattle.nfa_search_base.specs.IterStates.{IterState, Answer, Advances, AnswerIsInside, fresh, repeats, shifted, after, answer_span, span_of, ends_left}
 use Rattle.nfa_search_base.specs.declared.error.SearchError.{SearchError}
 use Rattle.nfa_search_base.proofs.AskingLemmas.{same_start-self, same_start-then}
-use Rattle.nfa_search_base.proofs.StepLemmas.{chosen, same_start-after, same_start-shifted, Advances-rises}
-use Rattle.nfa_search_base.proofs.StepLemmas.{Advances-fewer}
+use Rattle.nfa_search_base.proofs.StepLemmas.{chosen, same_start-after, same_start-shifted, Advances-rises, Advances-fewer}
 use Rattle.nfa_search_base.proofs.IterStateLemmas.{IsOrdered}
 use Rattle.nfa_paths.proofs.OptionLemmas.{same_some}
 

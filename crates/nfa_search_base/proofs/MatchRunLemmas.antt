@@ -1,18 +1,11 @@
 -- The calls of an iterator over matches by an engine give the matches of the engine's NFA.
-use Rattle.std.proofs.Common.{◌≡◌, ◌∙◌, ℕ, ap, arith}
-use Rattle.std.proofs.Common.{Option, None, Some, Ok, List, [], ◌∷◌, ◌++◌, map, length, length-append}
-use Rattle.std.specs.Prelude.{All}
+use Rattle.std.proofs.Common.{◌≡◌, ◌∙◌, ℕ, ap, arith, Option, None, Some, Ok, List, [], ◌∷◌, ◌++◌, map, length, length-append, All}
 use Rattle.std.specs.Iterator.Runs.{EachRunFrom, ItemsMapTo}
 use Rattle.std.proofs.lemmas.List.Elements.{All-nil, All-cons}
 use Rattle.std.proofs.iter.runs.Sources.{lists}
-use Rattle.regex_search_core.specs.Found.{found_of}
-use Rattle.regex_search_core.specs.Search.{Search}
-use Rattle.regex_search_core.specs.declared.search.Match.{Match}
-use Rattle.regex_search_core.specs.declared.search.MatchKind.{MatchKind}
-use Rattle.thompson_nfa.specs.Automaton.{Automaton}
+use Rattle.nfa_paths.specs.Common.{found_of, Search, Match, MatchKind, Automaton}
 use Rattle.nfa_search_base.specs.Lists.{AnswersMatch, AreDisjoint, AreFirstMatches, AreMatches, IsInside}
-use Rattle.nfa_search_base.specs.MatchRuns.{AreFirst, AreAll, MatchesRun, MatchesFirst, MatchesNext, MatchesAre}
-use Rattle.nfa_search_base.specs.MatchRuns.{MatchesDisjoint}
+use Rattle.nfa_search_base.specs.MatchRuns.{AreFirst, AreAll, MatchesRun, MatchesFirst, MatchesNext, MatchesAre, MatchesDisjoint}
 use Rattle.nfa_search_base.specs.Runs.{RunsGive}
 use Rattle.nfa_search_base.specs.IterStates.{span_of}
 use Rattle.nfa_search_base.proofs.ItemLemmas.{StepsBy, items_as}

@@ -1,22 +1,19 @@
 -- What a stored finder may answer, its iterator gives, and so it gives the answers of a search.
-use Rattle.std.proofs.Common.{◌≡◌, ◌∙◌, false, List, [], ◌∷◌, map, refl, sym, subst, ap, ◌≤◌}
-use Rattle.std.proofs.Common.{Option, None, Some, Result, Ok, Err, IfOk}
+use Rattle.std.proofs.Common.{◌≡◌, ◌∙◌, false, List, [], ◌∷◌, map, refl, sym, subst, ap, ◌≤◌, Option, None, Some, Result, Ok, Err, IfOk}
 use Rattle.std.specs.Fn.{Mut}
 use Rattle.std.specs.Borrow.{Bor}
 use Rattle.std.specs.declared.vec.Vec.{Vec}
 use Rattle.std.specs.Vec.{vec_items}
 use Rattle.std.proofs.lemmas.Iterator.{IsCollectResult}
-use Rattle.regex_search_core.specs.Search.{Search}
+use Rattle.nfa_paths.specs.Common.{Search, Span}
 use Rattle.regex_search_core.specs.declared.search.Input.{Input}
-use Rattle.regex_search_core.specs.declared.search.Span.{Span}
 use Rattle.nfa_search_base.specs.Asking.{IsCallableOn, SameButStart}
 use Rattle.nfa_search_base.specs.Finders.{Finds, AnswersAlong, answer_by}
 use Rattle.nfa_search_base.specs.Items.{item_by, matches_in}
 use Rattle.nfa_search_base.specs.Lists.{Fails, AreFirstStoredMatches, AreAllStoredMatches, AreSpansDisjoint}
 use Rattle.nfa_search_base.specs.Serving.{LeadsOn}
 use Rattle.nfa_search_base.specs.Stored.{steps_iter_state}
-use Rattle.nfa_search_base.specs.StoredRuns.{MayAnswer, stored_match_steps, infallible_match_steps, StoredMatchesAll}
-use Rattle.nfa_search_base.specs.StoredRuns.{StoredMatchesDisjoint, InfallibleMatchesDisjoint, InfallibleMatchesAll}
+use Rattle.nfa_search_base.specs.StoredRuns.{MayAnswer, stored_match_steps, infallible_match_steps, StoredMatchesAll, StoredMatchesDisjoint, InfallibleMatchesDisjoint, InfallibleMatchesAll}
 use Rattle.nfa_search_base.specs.IterStates.{Answer, IterState, answer_span, AnswerIsInside, IsInfalliblyInside}
 use Rattle.nfa_search_base.specs.declared.error.SearchError.{SearchError}
 use Rattle.nfa_search_base.specs.declared.iter.steps.Steps.{Steps}

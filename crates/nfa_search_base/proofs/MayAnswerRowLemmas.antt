@@ -1,7 +1,5 @@
 -- What a stored finder of captures may answer, its iterator gives.
-use Rattle.std.proofs.Common.{◌≡◌, ℕ, ◌≤◌, inl, inr, false, List, [], ◌∷◌, map, refl, sym, ap, subst}
-use Rattle.std.proofs.Common.{Option, None, Some, Result, Ok, Err, IfOk}
-use Rattle.std.specs.Prelude.{unwrap_or}
+use Rattle.std.proofs.Common.{◌≡◌, ℕ, ◌≤◌, inl, inr, false, List, [], ◌∷◌, map, refl, sym, ap, subst, Option, None, Some, Result, Ok, Err, IfOk, unwrap_or}
 use Rattle.std.specs.Option.{option_map}
 use Rattle.std.specs.Fn.{Mut}
 use Rattle.std.specs.Borrow.{Bor, MutBor}
@@ -9,28 +7,22 @@ use Rattle.std.specs.Iterator.{Yields}
 use Rattle.std.specs.Vec.{vec_items}
 use Rattle.std.specs.declared.vec.Vec.{Vec}
 use Rattle.std.proofs.lemmas.Iterator.{IsCollectResult}
-use Rattle.regex_search_core.specs.Search.{Search}
-use Rattle.regex_search_core.specs.Found.{Found}
-use Rattle.regex_search_core.specs.Slots.{Captured, match_of}
+use Rattle.nfa_paths.specs.Common.{Search, Found, Captured, match_of, Span}
 use Rattle.regex_search_core.specs.declared.search.Input.{Input}
-use Rattle.regex_search_core.specs.declared.search.Span.{Span}
 use Rattle.nfa_paths.proofs.InsideLemmas.{offsets}
-use Rattle.nfa_search_base.specs.WithCaptures.{Row, WithCaptures, CanFill, Fills, FillsAlong, row_of, row_span}
-use Rattle.nfa_search_base.specs.WithCaptures.{filled_answer, row_found}
+use Rattle.nfa_search_base.specs.WithCaptures.{Row, WithCaptures, CanFill, Fills, FillsAlong, row_of, row_span, filled_answer, row_found}
 use Rattle.nfa_search_base.specs.Items.{item_by}
 use Rattle.nfa_search_base.specs.CapturesLists.{AreFirstStoredCaptures, AreAllStoredCaptures}
 use Rattle.nfa_search_base.specs.Lists.{FailsOrIsRefused}
 use Rattle.nfa_search_base.specs.Stored.{steps_iter_state}
-use Rattle.nfa_search_base.specs.StoredRuns.{MayAnswerRow, stored_captures_steps, StoredCapturesAll}
-use Rattle.nfa_search_base.specs.StoredRuns.{StoredCapturesDisjoint, InfallibleCapturesDisjoint, InfallibleCapturesAll}
+use Rattle.nfa_search_base.specs.StoredRuns.{MayAnswerRow, stored_captures_steps, StoredCapturesAll, StoredCapturesDisjoint, InfallibleCapturesDisjoint, InfallibleCapturesAll}
 use Rattle.nfa_search_base.specs.CapturesSteps.{takes_infallible_captures}
 use Rattle.nfa_search_base.specs.IterStates.{Answer, IterState, AnswerIsInside, IsInfalliblyInside, answer_span}
 use Rattle.nfa_search_base.specs.declared.error.SearchError.{SearchError}
 use Rattle.nfa_search_base.specs.declared.iter.steps.Steps.{Steps}
 use Rattle.nfa_search_base.proofs.IterStateLemmas.{IsOrdered}
 use Rattle.nfa_search_base.proofs.ItemLemmas.{ItemsOf, copies_of}
-use Rattle.nfa_search_base.proofs.MayReplyLemmas.{may-first, may-all, may-disjoint, step-answered, last-answered}
-use Rattle.nfa_search_base.proofs.MayReplyLemmas.{collected_all}
+use Rattle.nfa_search_base.proofs.MayReplyLemmas.{may-first, may-all, may-disjoint, step-answered, last-answered, collected_all}
 use Rattle.nfa_search_base.proofs.RunLemmas.{Given, given}
 use Rattle.nfa_paths.proofs.OptionLemmas.{same_some}
 

@@ -1,13 +1,11 @@
 -- What may be answered along the calls of an iterator that keeps its finder, the iterator gives.
-use Rattle.std.proofs.Common.{◌≡◌, false, List, [], ◌∷◌, ◌++◌, map, refl, sym, subst, arith}
-use Rattle.std.proofs.Common.{Option, None, Some, Result, Ok, Err, IfOk}
+use Rattle.std.proofs.Common.{◌≡◌, false, List, [], ◌∷◌, ◌++◌, map, refl, sym, subst, arith, Option, None, Some, Result, Ok, Err, IfOk}
 use Rattle.std.specs.Iterator.{Yields}
 use Rattle.std.specs.Vec.{vec_items}
 use Rattle.std.specs.declared.vec.Vec.{Vec}
 use Rattle.std.proofs.lemmas.Fn.{FoldsTo-push}
 use Rattle.std.proofs.lemmas.Iterator.{IsCollectResult}
-use Rattle.regex_search_core.specs.Search.{Search}
-use Rattle.regex_search_core.specs.declared.search.Span.{Span}
+use Rattle.nfa_paths.specs.Common.{Search, Span}
 use Rattle.nfa_search_base.specs.Asking.{SameButStart}
 use Rattle.nfa_search_base.specs.Items.{Item, item_by, matches_in}
 use Rattle.nfa_search_base.specs.Lists.{IsStep, ItemsLast, AreSpansDisjoint}

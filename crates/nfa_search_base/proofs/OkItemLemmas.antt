@@ -1,12 +1,9 @@
 -- Items that are all `Ok`, and the one error that may end them.
-use Rattle.std.proofs.Common.{◌≡◌, ◌∙◌, ◌≤◌, inl, inr, true, MatchBool, refl, ap, subst, arith}
-use Rattle.std.proofs.Common.{Option, None, Some, Result, Ok, Err, List, [], ◌∷◌, ◌++◌, map}
-use Rattle.std.specs.Prelude.{All, IfOk, IfErr}
+use Rattle.std.proofs.Common.{◌≡◌, ◌∙◌, ◌≤◌, inl, inr, true, MatchBool, refl, ap, subst, arith, Option, None, Some, Result, Ok, Err, List, [], ◌∷◌, ◌++◌, map, All, IfOk, IfErr}
 use Rattle.std.specs.Iterator.{Yields}
 use Rattle.std.specs.Iterator.Runs.{EachRunFrom}
 use Rattle.std.proofs.lemmas.List.Elements.{All-nil, All-cons}
-use Rattle.regex_search_core.specs.Search.{Search}
-use Rattle.regex_search_core.specs.declared.search.Span.{Span}
+use Rattle.nfa_paths.specs.Common.{Search, Span}
 use Rattle.nfa_search_base.specs.Items.{item_by}
 use Rattle.nfa_search_base.specs.Lists.{IsStep, Fails, ItemsNext, ItemsLast}
 use Rattle.nfa_search_base.specs.IterStates.{IterState, Answer, AnswerIsInside, fresh, after, repeats, shifted, answer_span}

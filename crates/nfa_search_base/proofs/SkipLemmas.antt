@@ -1,18 +1,14 @@
 -- The answers that a skipping of split characters has gone through, up to the one that it ends with.
-use Rattle.std.proofs.Common.{◌≡◌, ℕ, suc, ◌+◌, ◌-◌, ◌≤◌, nat_le, true, false, List, [], ◌∷◌, ◌++◌, length}
-use Rattle.std.proofs.Common.{length-append, Option, None, Some}
-use Rattle.std.proofs.Common.{Result, Ok, refl, add-zero, arith, Bool}
+use Rattle.std.proofs.Common.{◌≡◌, ℕ, suc, ◌+◌, ◌-◌, ◌≤◌, nat_le, true, false, List, [], ◌∷◌, ◌++◌, length, length-append, Option, None, Some, Result, Ok, refl, add-zero, arith, Bool}
 use Rattle.std.proofs.lemmas.Bool.{le-leb, lt-leb}
 use Rattle.std.specs.Fn.{Mut}
 use Rattle.std.specs.Borrow.{Bor}
-use Rattle.regex_search_core.specs.Search.{Search, search_of}
+use Rattle.nfa_paths.specs.Common.{Search, search_of}
 use Rattle.regex_search_core.specs.declared.search.Input.{Input}
 use Rattle.nfa_search_base.specs.Asking.{Asks, IsCallableOn}
 use Rattle.nfa_search_base.specs.Serving.{ServesOn}
 use Rattle.nfa_search_base.specs.declared.error.SearchError.{SearchError}
-use Rattle.nfa_search_base.specs.Skipping.{WithOffset, value_of, HasOffsetIn, IsInCharacter, IsWholeReply}
-use Rattle.nfa_search_base.specs.Skipping.{start_raised, lowered, Answers}
-use Rattle.nfa_search_base.specs.Skipping.{LeadsTo, Reaches, ServesSkips, SkipsTo}
+use Rattle.nfa_search_base.specs.Skipping.{WithOffset, value_of, HasOffsetIn, IsInCharacter, IsWholeReply, start_raised, lowered, Answers, LeadsTo, Reaches, ServesSkips, SkipsTo}
 
 module _ {T F : Type 0} (g : Mut F (Bor Input × Unit {0}) (WithOffset T))
     (haystack : List ℕ) (moved : ℕ → Option Search) where

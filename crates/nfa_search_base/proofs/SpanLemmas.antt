@@ -1,13 +1,9 @@
 -- If all slots are in a span, so is each span that they give.
-use Rattle.std.proofs.Common.{ℕ, ◌+◌, ◌*◌, inl, inr, List, Option, None, Some, sym, subst}
-use Rattle.std.specs.Prelude.{All, IfSome, cond, nat_le, option_and_then, option_map}
+use Rattle.std.proofs.Common.{ℕ, ◌+◌, ◌*◌, inl, inr, List, Option, None, Some, sym, subst, All, IfSome, cond, nat_le, option_and_then, option_map}
 use Rattle.std.proofs.lemmas.Bool.{cases_lt, le-leb, lt-leb}
 use Rattle.std.proofs.lemmas.List.Elements.{All-get_or}
 use Rattle.std.proofs.lemmas.Option.{slice_get_cases}
-use Rattle.regex_search_core.specs.Groups.{group_named, slot_at}
-use Rattle.regex_search_core.specs.Search.{Search}
-use Rattle.regex_search_core.specs.Slots.{Captured, group_span, match_of, named_span, offset_at, span_at}
-use Rattle.regex_search_core.specs.declared.search.Span.{Span}
+use Rattle.nfa_paths.specs.Common.{group_named, slot_at, Search, Captured, group_span, match_of, named_span, offset_at, span_at, Span}
 use Rattle.nfa_search_base.specs.Lists.{IsInside, IsSlotInside}
 use Rattle.nfa_search_base.specs.Spans.{IsSpanInside, SpansInside}
 

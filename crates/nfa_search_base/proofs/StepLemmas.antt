@@ -2,9 +2,8 @@
 use Rattle.std.proofs.Common.{◌≡◌, true, false, Bool, Option, None, Some, Result, IsOk, refl, ap, ◌⊎◌, inl, inr, MatchBool, List, [], ◌∷◌, arith}
 use Rattle.std.specs.Fn.{Called, Mut}
 use Rattle.std.specs.Borrow.{Bor}
-use Rattle.regex_search_core.specs.Search.{Search, search_of}
+use Rattle.nfa_paths.specs.Common.{Search, search_of, Span}
 use Rattle.regex_search_core.specs.declared.search.Input.{Input}
-use Rattle.regex_search_core.specs.declared.search.Span.{Span}
 use Rattle.nfa_search_base.specs.Asking.{SameButStart}
 use Rattle.nfa_search_base.specs.LastEnd.{EndsBy}
 use Rattle.nfa_search_base.specs.IterStates.{IterState, Answer, answer_span, AnswerIsInside, IsInfalliblyInside, LiesIn, repeats, after, shifted, Advances, ComesAfter, LeavesFewer}

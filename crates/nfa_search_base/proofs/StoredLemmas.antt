@@ -2,8 +2,7 @@
 use Rattle.std.proofs.Common.{◌≡◌, ◌+◌, ◌<◌, true, false, Bool, Option, None, Some, Result, Ok, Err, IsOk, OnSome, MatchBool, List, [], ◌∷◌, sym, ◌∙◌, ap, inl, inr, arith}
 use Rattle.std.specs.Iterator.{AlwaysYields, MakesProgress}
 use Rattle.std.proofs.lemmas.Iterator.{YieldsList}
-use Rattle.regex_search_core.specs.Search.{Search}
-use Rattle.regex_search_core.specs.declared.search.Span.{Span}
+use Rattle.nfa_paths.specs.Common.{Search, Span}
 use Rattle.nfa_search_base.specs.Asking.{SameButStart}
 use Rattle.nfa_search_base.specs.IterStates.{Answer, AnswerIsInside, ends_left}
 use Rattle.nfa_search_base.specs.Items.{Item, item_by, item_of, items_left, matches_left, matches_in, greedy_unless}

@@ -6,8 +6,7 @@ use Rattle.std.specs.Iterator.{Yields}
 use Rattle.std.specs.declared.vec.Vec.{Vec}
 use Rattle.std.specs.Vec.{vec_items}
 use Rattle.std.proofs.lemmas.Iterator.{IsCollectResult}
-use Rattle.regex_search_core.specs.Search.{Search, search_of}
-use Rattle.regex_search_core.specs.Slots.{Captured}
+use Rattle.nfa_paths.specs.Common.{Search, search_of, Captured}
 use Rattle.regex_search_core.specs.declared.search.Input.{Input}
 use Rattle.nfa_search_base.specs.Asking.{SameButStart}
 use Rattle.nfa_search_base.specs.IterStates.{IterState, Answer, ends_left}

@@ -1,7 +1,6 @@
 -- half matches as the ends of matches
 use Rattle.std.specs.Prelude.{◌≡◌, ◌+◌, ◌≤◌, map, None, Some, Ok, Err}
-use Rattle.regex_search_core.specs.Found.{Found, HalfFound}
-use Rattle.regex_search_core.specs.Search.{Search}
+use Rattle.nfa_paths.specs.Common.{Found, HalfFound, Search}
 use Rattle.nfa_search_base.specs.Asking.{SameButStart}
 use Rattle.nfa_search_base.specs.LastEnd.{EndsBy}
 use Rattle.nfa_search_base.specs.Items.{Item, greedy}

@@ -2,7 +2,7 @@
 use Rattle.std.specs.Prelude.{◌≡◌}
 use Rattle.std.specs.Fn.{Called, Mut}
 use Rattle.std.specs.Borrow.{Bor}
-use Rattle.regex_search_core.specs.Search.{Search, search_of}
+use Rattle.nfa_paths.specs.Common.{Search, search_of}
 use Rattle.regex_search_core.specs.declared.search.Input.{Input}
 pub use Rattle.nfa_search_base.specs.SameBut.{SameButStart}
 use Rattle.nfa_search_base.specs.Serving.{ServesOnAlong}

@@ -1,13 +1,8 @@
 -- All that the calls of an engine's iterator over captures have given so far.
 use Rattle.std.specs.Prelude.{Bool, Option, Result}
-use Rattle.regex_search_core.specs.Search.{Search}
-use Rattle.regex_search_core.specs.Slots.{Captured}
-use Rattle.regex_search_core.specs.declared.search.MatchKind.{MatchKind}
-use Rattle.thompson_nfa.specs.Automaton.{Automaton}
+use Rattle.nfa_paths.specs.Common.{Search, Captured, MatchKind, Automaton}
 use Rattle.nfa_search_base.specs.WithCaptures.{Row}
-use Rattle.nfa_search_base.specs.CapturesRuns.{CapturesRun, CapturesFirst, CapturesNext, CapturesGroups, CapturesWithin}
-use Rattle.nfa_search_base.specs.CapturesRuns.{CapturesDisjoint, RowsRun, RowsFirst, RowsNext, RowsAll}
-use Rattle.nfa_search_base.specs.CapturesRuns.{MatchesInRun, MatchesInFirst, MatchesInNext, MatchesInAll}
+use Rattle.nfa_search_base.specs.CapturesRuns.{CapturesRun, CapturesFirst, CapturesNext, CapturesGroups, CapturesWithin, CapturesDisjoint, RowsRun, RowsFirst, RowsNext, RowsAll, MatchesInRun, MatchesInFirst, MatchesInNext, MatchesInAll}
 use Rattle.nfa_search_base.specs.IterStates.{Answer}
 use Rattle.nfa_search_base.specs.declared.error.SearchError.{SearchError}
 

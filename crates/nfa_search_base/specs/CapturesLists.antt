@@ -1,11 +1,6 @@
 -- The captures of a search, and of a search of an NFA, as one list. It is defined by the steps only.
 use Rattle.std.specs.Prelude.{◌≡◌, Bool, List, length, map, None, Some, Result, Ok, Err}
-use Rattle.regex_search_core.specs.Groups.{slot_count}
-use Rattle.regex_search_core.specs.Search.{Search}
-use Rattle.regex_search_core.specs.Slots.{Captured, match_of}
-use Rattle.regex_search_core.specs.declared.search.MatchKind.{MatchKind}
-use Rattle.thompson_nfa.specs.Automaton.{Automaton}
-use Rattle.nfa_paths.specs.Paths.{IsAnswer, IsFindAnswer}
+use Rattle.nfa_paths.specs.Common.{slot_count, Search, Captured, match_of, MatchKind, Automaton, IsAnswer, IsFindAnswer}
 use Rattle.nfa_search_base.specs.WithCaptures.{Row, row_found, row_of, row_span}
 use Rattle.nfa_search_base.specs.Items.{item_by}
 use Rattle.nfa_search_base.specs.Lists.{Fails, FailsOrIsRefused, ItemsNext, ItemsLast}

@@ -1,13 +1,8 @@
 -- What the calls of an iterator over captures have given so far.
-use Rattle.std.specs.Prelude.{◌≡◌, true, Bool, List, [], ◌∷◌, ◌++◌, map, All, Option, None, Some, Result, Ok, IfOk}
-use Rattle.std.specs.Prelude.{IfErr}
+use Rattle.std.specs.Prelude.{◌≡◌, true, Bool, List, [], ◌∷◌, ◌++◌, map, All, Option, None, Some, Result, Ok, IfOk, IfErr}
 use Rattle.std.specs.Iterator.{Yields}
 use Rattle.std.specs.Iterator.Runs.{EachRunFrom}
-use Rattle.regex_search_core.specs.Found.{Found}
-use Rattle.regex_search_core.specs.Search.{Search}
-use Rattle.regex_search_core.specs.Slots.{Captured, match_of}
-use Rattle.regex_search_core.specs.declared.search.MatchKind.{MatchKind}
-use Rattle.thompson_nfa.specs.Automaton.{Automaton}
+use Rattle.nfa_paths.specs.Common.{Found, Search, Captured, match_of, MatchKind, Automaton}
 use Rattle.nfa_search_base.specs.WithCaptures.{Row, row_found, row_of}
 use Rattle.nfa_search_base.specs.CapturesLists.{AreFirstCaptures, AreAllCaptures, AreFirstRows, AreRows, HasGroups}
 use Rattle.nfa_search_base.specs.Lists.{AreFirstMatches, AreMatches, AreDisjoint, IsInside, IsSlotInside}

@@ -2,7 +2,7 @@
 use Rattle.std.specs.Prelude.{Option, Result}
 use Rattle.std.specs.Fn.{Mut}
 use Rattle.std.specs.Borrow.{Bor, MutBor}
-use Rattle.regex_search_core.specs.Slots.{Captured}
+use Rattle.nfa_paths.specs.Common.{Captured}
 use Rattle.regex_search_core.specs.declared.search.Input.{Input}
 use Rattle.nfa_search_base.specs.WithCaptures.{WithCaptures, Fills, row_span, GivesCaptures, IsAtMostMemory}
 use Rattle.nfa_search_base.specs.Stored.{takes_steps}

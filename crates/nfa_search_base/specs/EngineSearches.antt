@@ -1,10 +1,7 @@
 -- The searches of an iteration by an engine: what they need, answer and leave.
 use Rattle.std.specs.Prelude.{◌≡◌, ◌==◌, ◌+◌, ◌-◌, ℕ, Option, None, Some, Ok, Err, if◌then◌else◌, option_map}
 use Rattle.std.specs.Option.{ForSome}
-use Rattle.regex_search_core.specs.Found.{Found, found_of}
-use Rattle.regex_search_core.specs.Search.{Search}
-use Rattle.regex_search_core.specs.declared.search.Match.{Match}
-use Rattle.thompson_nfa.specs.Automaton.{Automaton}
+use Rattle.nfa_paths.specs.Common.{Found, found_of, Search, Match, Automaton}
 use Rattle.nfa_search_base.specs.WithCaptures.{WithCaptures, Row}
 use Rattle.nfa_search_base.specs.CapturesLists.{HasGroups}
 use Rattle.nfa_search_base.specs.WithCache.{WithCache}

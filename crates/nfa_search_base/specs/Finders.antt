@@ -2,12 +2,8 @@
 use Rattle.std.specs.Prelude.{◌≡◌, Option, None, Some, Result, Ok, Err}
 use Rattle.std.specs.Fn.{Mut}
 use Rattle.std.specs.Borrow.{Bor}
-use Rattle.regex_search_core.specs.Found.{found_of, half_found_of}
-use Rattle.regex_search_core.specs.Search.{Search}
-use Rattle.regex_search_core.specs.declared.search.HalfMatch.{HalfMatch}
+use Rattle.nfa_paths.specs.Common.{found_of, half_found_of, Search, HalfMatch, Match, Span}
 use Rattle.regex_search_core.specs.declared.search.Input.{Input}
-use Rattle.regex_search_core.specs.declared.search.Match.{Match}
-use Rattle.regex_search_core.specs.declared.search.Span.{Span}
 use Rattle.nfa_search_base.specs.Asking.{Asks, IsCallableOn, SameButStart}
 use Rattle.nfa_search_base.specs.Serving.{ServesOnAlong, ServesAdvance}
 use Rattle.nfa_search_base.specs.IterStates.{Answer, IterState, answer_span, AnswerIsInside, IsInfalliblyInside, span_of, half_span_of, Advances}

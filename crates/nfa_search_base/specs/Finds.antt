@@ -1,8 +1,6 @@
 -- whether a search finds a match, as a function
 use Rattle.std.specs.Prelude.{Bool, is_some}
-use Rattle.regex_search_core.specs.Search.{Search}
-use Rattle.regex_search_core.specs.declared.search.MatchKind.{MatchKind}
-use Rattle.thompson_nfa.specs.Automaton.{Automaton}
+use Rattle.nfa_paths.specs.Common.{Search, MatchKind, Automaton}
 use Rattle.nfa_paths.proofs.ExistenceLemmas.{search_answer-exists}
 
 -- Each search has exactly one answer, which is a path or none. So `IsBoolAnswer nfa kind earliest x b` holds for this

@@ -2,9 +2,7 @@
 use Rattle.std.specs.Prelude.{◌≡◌, ℕ, ◌+◌, ◌-◌, ◌<◌, ◌≤◌, max, Bool, false, ◌==◌, ◌&&◌, Option, None, Some, Result, Ok, Err, IsOk}
 use Rattle.std.specs.Bool.{MatchBool}
 use Rattle.std.specs.Option.{ForSome}
-use Rattle.regex_search_core.specs.Found.{Found, HalfFound}
-use Rattle.regex_search_core.specs.Search.{Search}
-use Rattle.regex_search_core.specs.declared.search.Span.{Span}
+use Rattle.nfa_paths.specs.Common.{Found, HalfFound, Search, Span}
 use Rattle.nfa_search_base.specs.declared.error.SearchError.{SearchError}
 
 -- the answer of a search for an X: one, none, or an error

@@ -1,8 +1,6 @@
 -- The state that an iteration leaves, such as a cache, whatever else its iterator keeps.
 use Rattle.std.specs.Prelude.{◌≡◌, ℕ, List, [], ◌∷◌, Option, None, Some, Ok, Err}
-use Rattle.regex_search_core.specs.Found.{Found}
-use Rattle.regex_search_core.specs.Search.{Search}
-use Rattle.regex_search_core.specs.declared.search.Span.{Span}
+use Rattle.nfa_paths.specs.Common.{Found, Search, Span}
 use Rattle.nfa_search_base.specs.EngineSearches.{Keeping, SearchesUnlessKnown}
 use Rattle.nfa_search_base.specs.IterStates.{Advances, Answer, IterState, fresh, span_of}
 

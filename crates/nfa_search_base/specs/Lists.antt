@@ -1,14 +1,8 @@
 -- The items of an iteration as one list, from left to right. It is defined by the steps only. The list of the matches
 -- of a search of an NFA is such a list.
-use Rattle.std.specs.Prelude.{ℕ, ◌≡◌, ◌⊎◌, ◌<◌, ◌≤◌, Bool, List, [], ◌∷◌, map, Option, None, Some, Result, Ok, Err, MatchBool}
-use Rattle.std.specs.Prelude.{IfSome, ⊤}
+use Rattle.std.specs.Prelude.{ℕ, ◌≡◌, ◌⊎◌, ◌<◌, ◌≤◌, Bool, List, [], ◌∷◌, map, Option, None, Some, Result, Ok, Err, MatchBool, IfSome, ⊤}
 use Rattle.std.specs.Option.{ForSome}
-use Rattle.regex_search_core.specs.Found.{Found}
-use Rattle.regex_search_core.specs.Search.{Search}
-use Rattle.regex_search_core.specs.declared.search.MatchKind.{MatchKind}
-use Rattle.regex_search_core.specs.declared.search.Span.{Span}
-use Rattle.thompson_nfa.specs.Automaton.{Automaton}
-use Rattle.nfa_paths.specs.Paths.{IsFindAnswer}
+use Rattle.nfa_paths.specs.Common.{Found, Search, MatchKind, Span, Automaton, IsFindAnswer}
 use Rattle.nfa_search_base.specs.Items.{Item, item_by}
 use Rattle.nfa_search_base.specs.IterStates.{Answer, IterState, fresh, after, answer_span, repeats, shifted, span_of}
 use Rattle.nfa_search_base.specs.declared.error.SearchError.{SearchError}

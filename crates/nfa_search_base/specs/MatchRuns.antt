@@ -1,11 +1,7 @@
 -- What the calls of an iterator over the matches of an NFA have given so far.
 use Rattle.std.specs.Prelude.{List, map, All, None, Option}
 use Rattle.std.specs.Iterator.Runs.{EachRunFrom, ItemsMapTo}
-use Rattle.regex_search_core.specs.Found.{Found, found_of}
-use Rattle.regex_search_core.specs.Search.{Search}
-use Rattle.regex_search_core.specs.declared.search.Match.{Match}
-use Rattle.regex_search_core.specs.declared.search.MatchKind.{MatchKind}
-use Rattle.thompson_nfa.specs.Automaton.{Automaton}
+use Rattle.nfa_paths.specs.Common.{Found, found_of, Search, Match, MatchKind, Automaton}
 use Rattle.nfa_search_base.specs.Lists.{AreFirstMatches, AreMatches, AreDisjoint, IsInside}
 use Rattle.nfa_search_base.specs.Runs.{RunsGive, GivesFirst, GivesNext}
 

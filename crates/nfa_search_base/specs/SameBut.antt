@@ -1,6 +1,6 @@
 -- searches that are the same except for their start
 use Rattle.std.specs.Prelude.{◌≡◌}
-use Rattle.regex_search_core.specs.Search.{Search}
+use Rattle.nfa_paths.specs.Common.{Search}
 
 -- t is s, except for its start
 pub record SameButStart (s t : Search) : Type 0 where

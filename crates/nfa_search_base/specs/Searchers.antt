@@ -1,8 +1,6 @@
 -- the iteration of a `Searcher`
 use Rattle.std.specs.Prelude.{◌≡◌, true, false, Option, None, Ok}
-use Rattle.regex_search_core.specs.Search.{search_of}
-use Rattle.regex_search_core.specs.declared.search.Match.{Match}
-use Rattle.regex_search_core.specs.declared.search.Span.{Span}
+use Rattle.nfa_paths.specs.Common.{search_of, Match, Span}
 use Rattle.nfa_search_base.specs.IterStates.{IterState, IsPast, repeats, after, shifted}
 use Rattle.nfa_search_base.specs.Finders.{match_span}
 use Rattle.nfa_search_base.specs.declared.iter.searcher.Searcher.{Searcher}

@@ -1,8 +1,7 @@
 -- what answers searches
 use Rattle.std.specs.Prelude.{◌≡◌, true, List, ⊤}
 use Rattle.std.specs.List.{FoldsTo}
-use Rattle.regex_search_core.specs.Search.{Search}
-use Rattle.regex_search_core.specs.declared.search.Span.{Span}
+use Rattle.nfa_paths.specs.Common.{Search, Span}
 use Rattle.nfa_search_base.specs.SameBut.{SameButStart}
 use Rattle.nfa_search_base.specs.IterStates.{Answer, IterState, answer_span, repeats, shifted, Advances, LiesIn, ComesAfter, LeavesFewer}
 

@@ -1,8 +1,6 @@
 -- the spans that captures give
 use Rattle.std.specs.Prelude.{ℕ, ◌≤◌, List, IfSome}
-use Rattle.regex_search_core.specs.Search.{Search}
-use Rattle.regex_search_core.specs.Slots.{Captured, group_span, match_of, named_span}
-use Rattle.regex_search_core.specs.declared.search.Span.{Span}
+use Rattle.nfa_paths.specs.Common.{Search, Captured, group_span, match_of, named_span, Span}
 use Rattle.nfa_search_base.specs.Lists.{IsInside}
 
 -- the span is in that of the search

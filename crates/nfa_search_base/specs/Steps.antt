@@ -1,7 +1,6 @@
 -- the steps of an iterator that keeps its finder or engine
 use Rattle.std.specs.Prelude.{◌≡◌, ◌<◌, Bool, true, false, Option, None, Some, Result, Ok, Err, OnSome, option_map}
-use Rattle.regex_search_core.specs.Search.{Search}
-use Rattle.regex_search_core.specs.declared.search.Span.{Span}
+use Rattle.nfa_paths.specs.Common.{Search, Span}
 use Rattle.nfa_search_base.specs.SameBut.{SameButStart}
 use Rattle.nfa_search_base.specs.IterStates.{Answer, IterState, answer_span, ComesAfter, Advances}
 use Rattle.nfa_search_base.specs.Items.{item_by, item_of, items_left}

@@ -1,8 +1,7 @@
 -- the iterators that keep their finder or engine
 use Rattle.std.specs.Prelude.{◌≡◌, false, Option, None, Result, Ok, MatchBool, option_map}
 use Rattle.std.specs.Iterator.{Count, at_most}
-use Rattle.regex_search_core.specs.Search.{Search}
-use Rattle.regex_search_core.specs.declared.search.Span.{Span}
+use Rattle.nfa_paths.specs.Common.{Search, Span}
 use Rattle.nfa_search_base.specs.SameBut.{SameButStart}
 use Rattle.nfa_search_base.specs.IterStates.{Answer, IterState, AnswerIsInside, IsInfalliblyInside}
 use Rattle.nfa_search_base.specs.Items.{items_left, matches_left}

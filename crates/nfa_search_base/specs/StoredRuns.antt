@@ -3,10 +3,8 @@ use Rattle.std.specs.Prelude.{map, Option, Result, Ok}
 use Rattle.std.specs.Fn.{Mut}
 use Rattle.std.specs.Iterator.Runs.{EachRunFrom}
 use Rattle.std.specs.Borrow.{Bor, MutBor}
-use Rattle.regex_search_core.specs.Search.{Search}
-use Rattle.regex_search_core.specs.Slots.{Captured}
+use Rattle.nfa_paths.specs.Common.{Search, Captured, Span}
 use Rattle.regex_search_core.specs.declared.search.Input.{Input}
-use Rattle.regex_search_core.specs.declared.search.Span.{Span}
 use Rattle.nfa_search_base.specs.Asking.{IsCallableOn, SameButStart}
 use Rattle.nfa_search_base.specs.WithCaptures.{Row, WithCaptures, CanFill, Fills, GivesCaptures, row_of, row_span}
 use Rattle.nfa_search_base.specs.CapturesLists.{AreFirstStoredCaptures, AreAllStoredCaptures}

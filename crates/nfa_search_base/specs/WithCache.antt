@@ -1,5 +1,5 @@
 -- An iterator that borrows a cache for each call.
-use Rattle.regex_search_core.specs.Search.{Search}
+use Rattle.nfa_paths.specs.Common.{Search}
 use Rattle.nfa_search_base.specs.declared.iter.steps.Steps.{Steps}
 
 -- the engine, with the cache that it borrows

@@ -1,7 +1,5 @@
 -- The split of a command line goes on by a word, and ends if no word is left.
-use Rattle.std.proofs.Common.{◌≡◌, ◌∙◌, ◌≤◌, ◌<◌, ℕ, ◌+◌, List, ◌∷◌, ◌++◌, length, map, drop, ap, sym, refl}
-use Rattle.std.proofs.Common.{add-one, append_assoc, append-nil, drop-cons, Bor}
-use Rattle.std.specs.Prelude.{slice_index_or}
+use Rattle.std.proofs.Common.{◌≡◌, ◌∙◌, ◌≤◌, ◌<◌, ℕ, ◌+◌, List, ◌∷◌, ◌++◌, length, map, drop, ap, sym, refl, add-one, append_assoc, append-nil, drop-cons, Bor, slice_index_or}
 use Rattle.std.proofs.lemmas.List.{drop_all}
 use Rattle.option_values.specs.Splitting.{mode_after, split_from, words_of}
 use Rattle.option_values.specs.declared.Mode.{Mode}

@@ -1,6 +1,5 @@
 -- the groups of captures, and their slots
-use Rattle.std.specs.Prelude.{◌≡◌, ℕ, zero, suc, ◌+◌, ◌*◌, ◌<◌, ◌≤◌, length, Some, slice_get}
-use Rattle.std.proofs.Common.{refl, ap, arith, tests, add-one}
+use Rattle.std.proofs.Common.{◌≡◌, ℕ, zero, suc, ◌+◌, ◌*◌, ◌<◌, ◌≤◌, length, Some, slice_get, refl, ap, arith, tests, add-one}
 use Rattle.regex_search_core.specs.CapturesIters.{spans_at}
 use Rattle.regex_search_core.specs.Groups.{explicit_slot, groups_at, slot_at}
 use Rattle.regex_search_core.specs.Slots.{Captured, captured_count, group_span, group_spans, spans_from}

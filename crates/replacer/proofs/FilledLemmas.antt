@@ -1,6 +1,5 @@
 -- What is printed goes to a file through a buffer.
-use Rattle.std.proofs.Common.{◌≡◌, ◌∙◌, ℕ, List, [], ◌++◌, append-nil, ap}
-use Rattle.std.specs.Prelude.{Option, None, Some, IfSome, ◌==◌, if◌then◌else◌}
+use Rattle.std.proofs.Common.{◌≡◌, ◌∙◌, ℕ, List, [], ◌++◌, append-nil, ap, Option, None, Some, IfSome, ◌==◌, if◌then◌else◌}
 use Rattle.std.specs.Io.KnownBytes.{Appends, Keeps, append_known, prepend_known}
 use Rattle.std.proofs.KnownBytes.{Appends-kept, prepend_known-nil}
 use Rattle.replacer.specs.Printed.{Prints}

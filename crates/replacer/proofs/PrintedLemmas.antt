@@ -1,6 +1,5 @@
 -- From the text that was read to the reader, and from the groups of the NFA to those of the pattern.
-use Rattle.std.proofs.Common.{◌≡◌, ◌∙◌, ℕ, ◌-◌, ◌<◌, List, [], ◌∷◌, map, take, arith, ne_eqb, refl, subst}
-use Rattle.std.specs.Prelude.{Option, None, Some, IfSome}
+use Rattle.std.proofs.Common.{◌≡◌, ◌∙◌, ℕ, ◌-◌, ◌<◌, List, [], ◌∷◌, map, take, arith, ne_eqb, refl, subst, Option, None, Some, IfSome}
 use Rattle.std.specs.Io.KnownBytes.{Appends}
 use Rattle.regex_hir.specs.Re.{Re}
 use Rattle.nfa_engines.specs.Paths.{is_utf8_empty}
@@ -10,8 +9,7 @@ use Rattle.nfa_meta.specs.Built.{HasNotSearched, IsBuiltFrom, default_builder}
 use Rattle.nfa_meta.specs.ChoiceState.{ChoiceState, KeepsEngines}
 use Rattle.nfa_meta.specs.declared.builder.Builder.{Builder}
 use Rattle.replacer.specs.Hits.{AreHitsOf, HasNames, IsSearchOf, SearchesFor, Sought, groups_named_by, syntax_of}
-use Rattle.replacer.specs.Printed.{Groups, IsActionOf, IsMisused, IsPatternMistake, IsTemplateMistake, Prints, printed}
-use Rattle.replacer.specs.Printed.{sought}
+use Rattle.replacer.specs.Printed.{Groups, IsActionOf, IsMisused, IsPatternMistake, IsTemplateMistake, Prints, printed, sought}
 use Rattle.replacer.specs.Separated.{first_fields_by, gaps}
 use Rattle.replacer.specs.declared.action.Action.{Action}
 use Rattle.replacer.specs.declared.command.Command.{Command}

@@ -1,6 +1,5 @@
 -- What is printed for a text.
-use Rattle.std.specs.Prelude.{ℕ, ◌≡◌, Bool, List, [], ◌∷◌, ◌++◌, Option, IfSome, chars, encode_utf8_all, flat_map}
-use Rattle.std.specs.Prelude.{length, if◌then◌else◌, true, ⊤}
+use Rattle.std.specs.Prelude.{ℕ, ◌≡◌, Bool, List, [], ◌∷◌, ◌++◌, Option, IfSome, chars, encode_utf8_all, flat_map, length, if◌then◌else◌, true, ⊤}
 use Rattle.std.specs.Io.KnownBytes.{Appends}
 use Rattle.regex_hir.specs.Re.{Re}
 use Rattle.regex_syntax.specs.Verdict.{ReadsAsText, escaped_text}

@@ -1,7 +1,5 @@
 -- A text with a hit has the bytes that each match has.
-use Rattle.std.proofs.Common.{◌≡◌, ◌∙◌, ℕ, zero, suc, ◌+◌, ◌-◌, ◌<◌, Bool, true, false, All, inl, inr, List, [], ◌∷◌}
-use Rattle.std.proofs.Common.{length, refl, sym, ap, subst, arith}
-use Rattle.std.specs.Prelude.{Option, None, Some, is_some, if◌then◌else◌, nat_lt, option_and_then, option_map, slice_get}
+use Rattle.std.proofs.Common.{◌≡◌, ◌∙◌, ℕ, zero, suc, ◌+◌, ◌-◌, ◌<◌, Bool, true, false, All, inl, inr, List, [], ◌∷◌, length, refl, sym, ap, subst, arith, Option, None, Some, is_some, if◌then◌else◌, nat_lt, option_and_then, option_map, slice_get}
 use Rattle.std.specs.Option.{option_or}
 use Rattle.std.proofs.lemmas.List.Elements.{All-head, All-tail}
 use Rattle.regex_hir.specs.Matches.{Matches}

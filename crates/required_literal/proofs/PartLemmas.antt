@@ -1,7 +1,5 @@
 -- Bytes that are in bytes, and in all matches of a pattern.
-use Rattle.std.proofs.Common.{◌≡◌, ◌∙◌, ℕ, ◌+◌, ◌-◌, ◌<◌, ◌≤◌, All, List, [], length, map, take, drop, get_or}
-use Rattle.std.proofs.Common.{ap, sym, subst, arith}
-use Rattle.std.specs.Prelude.{Option, None, Some, Vec, is_some, slice_range, true}
+use Rattle.std.proofs.Common.{◌≡◌, ◌∙◌, ℕ, ◌+◌, ◌-◌, ◌<◌, ◌≤◌, All, List, [], length, map, take, drop, get_or, ap, sym, subst, arith, Option, None, Some, Vec, is_some, slice_range, true}
 use Rattle.std.specs.declared.alloc.Global.{Global}
 use Rattle.std.proofs.lemmas.List.Edits.{get_or-between, length-between}
 use Rattle.std.proofs.lemmas.List.Elements.{All-map}

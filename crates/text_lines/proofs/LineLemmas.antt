@@ -1,12 +1,10 @@
 -- What a read up to a line feed gives.
-use Rattle.std.proofs.Common.{◌≡◌, ◌∙◌, ℕ, ◌<◌, List, [], ◌∷◌, length, sym, ap, subst}
-use Rattle.std.specs.Prelude.{Option, None, Some, IfSome}
+use Rattle.std.proofs.Common.{◌≡◌, ◌∙◌, ℕ, ◌<◌, List, [], ◌∷◌, length, sym, ap, subst, Option, None, Some, IfSome}
 use Rattle.std.specs.Io.BufRead.{take_through, drop_through, DropsThrough}
 use Rattle.std.specs.Io.KnownBytes.{IsAtEnd, Keeps}
 use Rattle.std.proofs.BufReadLemmas.{take_through_nonempty}
 use Rattle.bstr.proofs.lemmas.RecordLemmas.{records-nil, records-step}
-use Rattle.text_lines.specs.Lines.{HasNoLine, HasNoRecord, IsFirstLine, IsFirstRecord, TakesLine, TakesRecord, line_feed}
-use Rattle.text_lines.specs.Lines.{lines_of, records_of}
+use Rattle.text_lines.specs.Lines.{HasNoLine, HasNoRecord, IsFirstLine, IsFirstRecord, TakesLine, TakesRecord, line_feed, lines_of, records_of}
 
 module _ (end : ℕ) where
   -- a record that has a byte

@@ -1,7 +1,5 @@
 -- Where bytes occur in parts of a text, and that they occur in none of its records.
-use Rattle.std.proofs.Common.{◌≡◌, ◌∙◌, ℕ, ◌+◌, ◌-◌, ◌<◌, ◌≤◌, Bool, true, false, All, List, [], ◌∷◌, ◌++◌, length, take}
-use Rattle.std.proofs.Common.{drop, get_or, sym, ap, subst, arith, length-append, take-append-drop}
-use Rattle.std.specs.Prelude.{if◌then◌else◌, ◌==◌}
+use Rattle.std.proofs.Common.{◌≡◌, ◌∙◌, ℕ, ◌+◌, ◌-◌, ◌<◌, ◌≤◌, Bool, true, false, All, List, [], ◌∷◌, ◌++◌, length, take, drop, get_or, sym, ap, subst, arith, length-append, take-append-drop, if◌then◌else◌, ◌==◌}
 use Rattle.std.specs.List.{concat}
 use Rattle.std.specs.Io.BufRead.{ends_with_byte, strip_last}
 use Rattle.std.proofs.lemmas.List.{get_or-append-add, get_or_append_left}

@@ -1,7 +1,5 @@
 -- The records of a text that is cut after the end of one.
-use Rattle.std.proofs.Common.{◌≡◌, ◌≢◌, ◌∙◌, ℕ, ◌+◌, ◌<◌, ⊎_elim, inl, inr, List, [], ◌∷◌, ◌++◌, length}
-use Rattle.std.proofs.Common.{refl, sym, ap, ap₂, subst, arith, eq-eqb, ne_eqb, length-append}
-use Rattle.std.specs.Prelude.{Bool, cond, ◌==◌}
+use Rattle.std.proofs.Common.{◌≡◌, ◌≢◌, ◌∙◌, ℕ, ◌+◌, ◌<◌, ⊎_elim, inl, inr, List, [], ◌∷◌, ◌++◌, length, refl, sym, ap, ap₂, subst, arith, eq-eqb, ne_eqb, length-append, Bool, cond, ◌==◌}
 use Rattle.std.specs.List.{count_by}
 use Rattle.std.specs.Io.BufRead.{take_through, drop_through}
 use Rattle.std.proofs.lemmas.Bool.{cond-false, cond-true, cases_eq}

@@ -1,7 +1,5 @@
 -- The records of a text, one after the other, are the text.
-use Rattle.std.proofs.Common.{◌≡◌, ◌≢◌, ◌∙◌, ℕ, zero, suc, ◌≤◌, inl, inr, List, [], ◌∷◌, ◌++◌, length}
-use Rattle.std.proofs.Common.{refl, sym, ap, arith}
-use Rattle.std.specs.Prelude.{◌==◌}
+use Rattle.std.proofs.Common.{◌≡◌, ◌≢◌, ◌∙◌, ℕ, zero, suc, ◌≤◌, inl, inr, List, [], ◌∷◌, ◌++◌, length, refl, sym, ap, arith, ◌==◌}
 use Rattle.std.specs.List.{concat}
 use Rattle.std.specs.Io.BufRead.{drop_through, take_through}
 use Rattle.std.proofs.BufReadLemmas.{take_through-nil}

@@ -1,7 +1,6 @@
 -- assertions of Unicode's words between ASCII bytes
-use Rattle.std.specs.Prelude.{◌≡◌, ℕ, ◌+◌, ◌-◌, ◌<◌, ◌≤◌, true, List, length, Some, None, slice_index, slice_range}
+use Rattle.std.proofs.Common.{◌≡◌, ℕ, ◌+◌, ◌-◌, ◌<◌, ◌≤◌, true, List, length, Some, None, slice_index, slice_range, refl, sym, ◌∙◌, arith, rules, inl, inr, le-leb, lt-ltb, le-ltb}
 use Rattle.std.specs.Bool.{beq}
-use Rattle.std.proofs.Common.{refl, sym, ◌∙◌, arith, rules, inl, inr, le-leb, lt-ltb, le-ltb}
 use Rattle.std.proofs.lemmas.Bool.{cases_lt, eq-eqb, ne_eqb, lt-leb}
 use Rattle.std.proofs.lemmas.List.{places}
 use Rattle.unicode.specs.Perl as perl
@@ -9,14 +8,9 @@ use Rattle.unicode.proofs.Facts.{Stepped-below, same_from_beq}
 use Rattle.unicode.proofs.PerlLemmas.{is_word_char_stepped}
 use Rattle.unicode.proofs.TableComputing.{tables}
 use Rattle.thompson_nfa.specs.Characters.{char_before, char_after, is_word_char}
-use Rattle.thompson_nfa.specs.Looks.{is_word_byte, is_word_before, is_word_after, is_whole_before, is_whole_after}
-use Rattle.thompson_nfa.specs.Looks.{is_word_char_before, is_word_char_after, look_holds}
+use Rattle.thompson_nfa.specs.Looks.{is_word_byte, is_word_before, is_word_after, is_whole_before, is_whole_after, is_word_char_before, is_word_char_after, look_holds}
 use Rattle.thompson_nfa.specs.declared.look.Look.{Look}
-use Rattle.thompson_nfa.specs.declared.look.Look.TheVariants.{WordAscii, WordAsciiNegate, WordUnicode}
-use Rattle.thompson_nfa.specs.declared.look.Look.TheVariants.{WordUnicodeNegate, WordStartAscii, WordEndAscii}
-use Rattle.thompson_nfa.specs.declared.look.Look.TheVariants.{WordStartUnicode, WordEndUnicode, WordStartHalfAscii}
-use Rattle.thompson_nfa.specs.declared.look.Look.TheVariants.{WordEndHalfAscii, WordStartHalfUnicode}
-use Rattle.thompson_nfa.specs.declared.look.Look.TheVariants.{WordEndHalfUnicode}
+use Rattle.thompson_nfa.specs.declared.look.Look.TheVariants.{WordAscii, WordAsciiNegate, WordUnicode, WordUnicodeNegate, WordStartAscii, WordEndAscii, WordStartUnicode, WordEndUnicode, WordStartHalfAscii, WordEndHalfAscii, WordStartHalfUnicode, WordEndHalfUnicode}
 use Rattle.thompson_nfa.proofs.CharacterLemmas.{char_of_ascii}
 use Rattle.thompson_nfa.proofs.WordLemmas.{is_word_char_as_classed}
 

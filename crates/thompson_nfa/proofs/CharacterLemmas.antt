@@ -1,7 +1,6 @@
 -- strings of one character
-use Rattle.std.specs.Prelude.{◌≡◌, ℕ, zero, suc, ◌<◌, List, [], ◌∷◌, ◌++◌, length, slice_index, Bool, true, false, Some, None, chars, encode_utf8}
+use Rattle.std.proofs.Common.{◌≡◌, ℕ, zero, suc, ◌<◌, List, [], ◌∷◌, ◌++◌, length, slice_index, Bool, true, false, Some, None, chars, encode_utf8, refl, ap, ◌∙◌, arith}
 use Rattle.std.specs.Str.{IsUtf8, is_utf8, encode_utf8_all}
-use Rattle.std.proofs.Common.{refl, ap, ◌∙◌, arith}
 use Rattle.std.proofs.lemmas.List.{length-append}
 use Rattle.std.proofs.lemmas.Str.{chars-nil, encodes-chars, encode_same, length-encode, length-le-encodes, len_utf8_bounds, encode_ascii, IsUtf8-from_ascii, is_utf8-from_IsUtf8, IsUtf8-from_is_utf8}
 use Rattle.thompson_nfa.specs.Characters.{only, char_of}

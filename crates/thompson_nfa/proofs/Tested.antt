@@ -1,6 +1,5 @@
 -- facts of each element of a list
-use Rattle.std.specs.Prelude.{◌≡◌, ℕ, ◌+◌, ◌<◌, ◌≤◌, List, length, map, take, All, slice_index_or}
-use Rattle.std.proofs.Common.{subst, ap, sym, ◌∙◌}
+use Rattle.std.proofs.Common.{◌≡◌, ℕ, ◌+◌, ◌<◌, ◌≤◌, List, length, map, take, All, slice_index_or, subst, ap, sym, ◌∙◌}
 use Rattle.std.proofs.lemmas.List.{take_all, take-map, length-map, get_or-map}
 use Rattle.std.proofs.lemmas.List.Elements.{All-more, All-map}
 

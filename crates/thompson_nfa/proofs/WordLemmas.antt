@@ -1,6 +1,5 @@
 -- word characters, as the table of them has it
-use Rattle.std.specs.Prelude.{◌≡◌, ℕ, ◌||◌, ◌==◌}
-use Rattle.std.proofs.Common.{refl, ◌∙◌, arith}
+use Rattle.std.proofs.Common.{◌≡◌, ℕ, ◌||◌, ◌==◌, refl, ◌∙◌, arith}
 use Rattle.std.proofs.lemmas.Bool.Decides.{nat_tests}
 use Rattle.unicode.specs.Binary.{is_join_control}
 use Rattle.unicode.specs.Perl as perl

@@ -1,10 +1,7 @@
 -- the first flaw in the parts of an NFA
-use Rattle.std.specs.Prelude.{◌≡◌, ℕ, ◌<◌, List, length, take, All, slice_index_or}
-use Rattle.std.specs.Prelude.{◌++◌, Option, None, Some, codes, decimal}
+use Rattle.std.specs.Prelude.{◌≡◌, ℕ, ◌<◌, List, length, take, All, slice_index_or, ◌++◌, Option, None, Some, codes, decimal}
 use Rattle.regex_search_core.specs.Groups.{slot_count}
-use Rattle.thompson_nfa.specs.Automaton.{Node, Capture, Match, Fail, LeadsBelow, SlotBelow, PatternBelow}
-use Rattle.thompson_nfa.specs.Automaton.{Automaton, IsAutomaton, AreStatesNumbered, IsNumbered}
-use Rattle.thompson_nfa.specs.Automaton.{AreSlotsWithin, ArePatternsWithin, AreGroupsOfPatterns}
+use Rattle.thompson_nfa.specs.Automaton.{Node, Capture, Match, Fail, LeadsBelow, SlotBelow, PatternBelow, Automaton, IsAutomaton, AreStatesNumbered, IsNumbered, AreSlotsWithin, ArePatternsWithin, AreGroupsOfPatterns}
 use Rattle.thompson_nfa.specs.declared.flaw.Referrer.{Referrer}
 use Rattle.thompson_nfa.specs.declared.flaw.Referrer.TheVariants as holder
 use Rattle.thompson_nfa.specs.declared.flaw.Flaw.{Flaw}

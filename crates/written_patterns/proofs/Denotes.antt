@@ -1,6 +1,5 @@
 -- For callers whose pattern is written out: what the grammar reads in it, part by part, and which texts that matches.
-use Rattle.std.proofs.Common.{◌≡◌, ◌∙◌, ℕ, zero, suc, ◌+◌, ◌-◌, ◌<◌, ◌≤◌, Bool, true, List, [], ◌∷◌, ◌++◌, ◌==◌, map, length, drop, Option, None, Some, refl, sym, ap, subst, arith, slice_get, append-nil, length-drop, inl, inr}
-use Rattle.std.specs.Prelude.{◌↔◌, All, IsSomeAnd, chars, is_some, option_and_then}
+use Rattle.std.proofs.Common.{◌≡◌, ◌∙◌, ℕ, zero, suc, ◌+◌, ◌-◌, ◌<◌, ◌≤◌, Bool, true, List, [], ◌∷◌, ◌++◌, ◌==◌, map, length, drop, Option, None, Some, refl, sym, ap, subst, arith, slice_get, append-nil, length-drop, inl, inr, ◌↔◌, All, IsSomeAnd, chars, is_some, option_and_then}
 use Rattle.regex_hir.specs.Find.{find}
 use Rattle.std.specs.Char.{is_ascii_digit}
 use Rattle.std.specs.Int.{is_in_range}

@@ -1,6 +1,5 @@
 -- What searches find, as functions of the pattern and the text.
-use Rattle.std.proofs.Common.{◌≡◌, ◌∙◌, ℕ, ◌<◌, All, Bool, true, false, List, [], ◌∷◌, drop, length, map, Option, None, Some, refl, sym, ap, subst, arith, chars}
-use Rattle.std.specs.Prelude.{◌↔◌, IsSomeAnd, is_some, option_and_then, option_map}
+use Rattle.std.proofs.Common.{◌≡◌, ◌∙◌, ℕ, ◌<◌, All, Bool, true, false, List, [], ◌∷◌, drop, length, map, Option, None, Some, refl, sym, ap, subst, arith, chars, ◌↔◌, IsSomeAnd, is_some, option_and_then, option_map}
 use Rattle.std.specs.List.{AllZip}
 use Rattle.nfa_paths.proofs.TestLemmas.{same_test}
 use Rattle.regex_hir.specs.Find.{Match, find, find_all}

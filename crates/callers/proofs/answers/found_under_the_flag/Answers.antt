@@ -1,5 +1,5 @@
 -- The law, of this answer.
-use Rattle.std.specs.Prelude.{true, false}
+use Rattle.std.proofs.Common.{true, false}
 use Rattle.nfa_engines.specs.Search.{search_of}
 use Rattle.nfa_engines.specs.Engines.{kind_of}
 use Rattle.callers.proofs.answers.found_under_the_flag.Goals as goal

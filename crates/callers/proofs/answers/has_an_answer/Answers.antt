@@ -1,5 +1,5 @@
 -- The law, of this search.
-use Rattle.std.specs.Prelude.{false}
+use Rattle.std.proofs.Common.{false}
 use Rattle.nfa_engines.specs.Search.{search_of}
 use Rattle.nfa_engines.specs.Engines.{kind_of}
 use Rattle.callers.proofs.answers.has_an_answer.Goals as goal

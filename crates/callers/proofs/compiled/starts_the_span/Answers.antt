@@ -1,6 +1,5 @@
 -- The law, of this match.
-use Rattle.std.proofs.Common.{◌≡◌, ℕ, None, Some, Option, option_map}
-use Rattle.std.specs.Prelude.{IfSome}
+use Rattle.std.proofs.Common.{◌≡◌, ℕ, None, Some, Option, option_map, IfSome}
 use Rattle.nfa_engines.specs.Found.{Found, found_of}
 use Rattle.nfa_engines.specs.Match.{Match}
 use Rattle.nfa_engines.specs.Search.{search_of}

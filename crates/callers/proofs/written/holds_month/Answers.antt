@@ -1,6 +1,5 @@
 -- The text is read as four digits, a dash and two digits, and these match where they stand.
-use Rattle.std.proofs.Common.{◌≡◌, ◌+◌, Some, arith, refl, subst}
-use Rattle.std.specs.Prelude.{slice_get}
+use Rattle.std.proofs.Common.{◌≡◌, ◌+◌, Some, arith, refl, subst, slice_get}
 use Rattle.std.proofs.lemmas.Option.{slice_get_within}
 use Rattle.std.specs.Char.{is_ascii_digit}
 use Rattle.nfa_compiler.proofs.Literals.{byte-match, class-match}

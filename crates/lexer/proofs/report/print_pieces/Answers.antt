@@ -6,8 +6,7 @@ use Rattle.lexer.specs.Patterns.{rule_syntax}
 use Rattle.lexer.specs.Printed.{position_if}
 use Rattle.lexer.specs.Recovered.{TextPiece}
 use Rattle.lexer.specs.Tokens.{piece_span}
-use Rattle.lexer.proofs.PieceLemmas.{line-of, recovered-all, recovered-more, recovered-none, start-same}
-use Rattle.lexer.proofs.PieceLemmas.{whole-if-tokens}
+use Rattle.lexer.proofs.PieceLemmas.{line-of, recovered-all, recovered-more, recovered-none, start-same, whole-if-tokens}
 use Rattle.lexer.proofs.PositionLemmas.{position-given, position-moved, position-start}
 use Rattle.lexer.proofs.RecoveredLemmas.{piece-lies}
 use Rattle.lexer.proofs.report.print_pieces.Goals as goal

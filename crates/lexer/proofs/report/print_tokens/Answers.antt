@@ -1,6 +1,5 @@
 -- A token more was printed, or none starts where the last one ends.
-use Rattle.std.proofs.Common.{rules, ◌≡◌, ◌∙◌, ℕ, List, ap, arith, subst, sym}
-use Rattle.std.specs.Prelude.{None}
+use Rattle.std.proofs.Common.{rules, ◌≡◌, ◌∙◌, ℕ, List, ap, arith, subst, sym, None}
 use Rattle.std.proofs.KnownBytes.{Appends-kept}
 use Rattle.nfa_compiler.specs.Compiled.{AreMeant}
 use Rattle.lexer.specs.Patterns.{rule_syntax}
@@ -8,8 +7,7 @@ use Rattle.lexer.specs.Printed.{position_if}
 use Rattle.lexer.specs.Tokens.{token_found}
 use Rattle.lexer.proofs.LexedLemmas.{token-lies}
 use Rattle.lexer.proofs.PositionLemmas.{position-given, position-moved, position-start}
-use Rattle.lexer.proofs.PrintedLemmas.{printed-all, printed-more, printed-none, printed-stuck, stuck-not-whole}
-use Rattle.lexer.proofs.PrintedLemmas.{whole-if-all}
+use Rattle.lexer.proofs.PrintedLemmas.{printed-all, printed-more, printed-none, printed-stuck, stuck-not-whole, whole-if-all}
 use Rattle.lexer.proofs.report.print_tokens.Goals as goal
 
 pub loop-at-init : goal.loop-at-init

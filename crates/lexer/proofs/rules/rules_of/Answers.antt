@@ -1,6 +1,5 @@
 -- One more line was left out, or its rule was made; or there are no more.
-use Rattle.std.proofs.Common.{◌≡◌, ◌∙◌, ◌+◌, ◌<◌, List, ℕ, [], arith, ap, length, map, subst, sym}
-use Rattle.std.specs.Prelude.{slice_index_or}
+use Rattle.std.proofs.Common.{◌≡◌, ◌∙◌, ◌+◌, ◌<◌, List, ℕ, [], arith, ap, length, map, subst, sym, slice_index_or}
 use Rattle.std.specs.Borrow.{Bor}
 use Rattle.std.proofs.lemmas.List.{get_or-map, length-map}
 use Rattle.lexer.specs.Rules.{HasParsed, IsRuleOf, is_left_out}

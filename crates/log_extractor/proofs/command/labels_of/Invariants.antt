@@ -1,6 +1,5 @@
 -- The labels so far are those of the first patterns.
-use Rattle.std.proofs.Common.{◌≡◌, map, take}
-use Rattle.std.specs.Prelude.{string_bytes}
+use Rattle.std.proofs.Common.{◌≡◌, map, take, string_bytes}
 use Rattle.log_extractor.specs.Several.{labels_from}
 use Rattle.log_extractor.proofs.command.labels_of.Given as goal
 

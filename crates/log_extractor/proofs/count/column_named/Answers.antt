@@ -1,6 +1,5 @@
 -- The column has the name, or none has.
-use Rattle.std.proofs.Common.{◌∙◌, ap, arith, sym}
-use Rattle.std.specs.Prelude.{Some}
+use Rattle.std.proofs.Common.{◌∙◌, ap, arith, sym, Some}
 use Rattle.std.specs.Cmp.Lexicographic.{bytes_decides}
 use Rattle.log_extractor.proofs.CountLemmas.{names-at, not-named-end, not-named-init, not-named-step}
 use Rattle.log_extractor.proofs.count.column_named.Goals as goal

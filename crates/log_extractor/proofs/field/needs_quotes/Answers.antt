@@ -1,6 +1,5 @@
 -- Some byte is special.
-use Rattle.std.proofs.Common.{rules, tests, ◌≡◌, false, length}
-use Rattle.std.specs.Prelude.{◌==◌}
+use Rattle.std.proofs.Common.{rules, tests, ◌≡◌, false, length, ◌==◌}
 use Rattle.std.proofs.lemmas.Iterator.{YieldsList-from_slice}
 use Rattle.std.proofs.lemmas.Iterator.Search.{any_from_yields_List}
 use Rattle.log_extractor.specs.Written.{is_special}

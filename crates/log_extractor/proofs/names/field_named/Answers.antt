@@ -1,6 +1,5 @@
 -- The column has the name, or another one, or none is left.
-use Rattle.std.proofs.Common.{◌≡◌, ◌∙◌, ap, arith, false, sym, true}
-use Rattle.std.specs.Prelude.{string_bytes}
+use Rattle.std.proofs.Common.{◌≡◌, ◌∙◌, ap, arith, false, sym, true, string_bytes}
 use Rattle.std.specs.Str.{bytes_eq}
 use Rattle.log_extractor.specs.Fields.{fields_now}
 use Rattle.log_extractor.proofs.SeveralLemmas.{field-after, field-found, no-more-columns}

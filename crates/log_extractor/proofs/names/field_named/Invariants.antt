@@ -1,6 +1,5 @@
 -- The first columns have other names.
-use Rattle.std.proofs.Common.{◌≡◌, ◌≤◌, drop, length, map}
-use Rattle.std.specs.Prelude.{string_bytes}
+use Rattle.std.proofs.Common.{◌≡◌, ◌≤◌, drop, length, map, string_bytes}
 use Rattle.log_extractor.specs.Fields.{fields_now, group_of}
 use Rattle.log_extractor.specs.Several.{field_named}
 use Rattle.log_extractor.proofs.names.field_named.Given as goal

@@ -1,6 +1,5 @@
 -- The first names are others.
-use Rattle.std.proofs.Common.{◌≡◌, List, ℕ, map, drop}
-use Rattle.std.specs.Prelude.{string_bytes}
+use Rattle.std.proofs.Common.{◌≡◌, List, ℕ, map, drop, string_bytes}
 use Rattle.std.specs.List.{list_any}
 use Rattle.std.specs.Str.{bytes_eq}
 use Rattle.log_extractor.proofs.names.has_name.Given as goal

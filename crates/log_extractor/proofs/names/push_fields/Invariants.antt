@@ -1,6 +1,5 @@
 -- The fields of the first names were added.
-use Rattle.std.proofs.Common.{◌≡◌, ◌++◌, map, take}
-use Rattle.std.specs.Prelude.{string_bytes}
+use Rattle.std.proofs.Common.{◌≡◌, ◌++◌, map, take, string_bytes}
 use Rattle.log_extractor.specs.Fields.{fields_now, group_of}
 use Rattle.log_extractor.specs.Several.{fields_named}
 use Rattle.log_extractor.proofs.names.push_fields.Given as goal

@@ -1,6 +1,5 @@
 -- One more name was added, unless it was there.
-use Rattle.std.proofs.Common.{map}
-use Rattle.std.specs.Prelude.{string_bytes}
+use Rattle.std.proofs.Common.{map, string_bytes}
 use Rattle.log_extractor.proofs.SeveralLemmas.{names-step}
 use Rattle.log_extractor.proofs.names.push_names.Goals as goal
 

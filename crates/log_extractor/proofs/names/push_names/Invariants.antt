@@ -1,6 +1,5 @@
 -- The names of the first columns were added.
-use Rattle.std.proofs.Common.{◌≡◌, map, take}
-use Rattle.std.specs.Prelude.{string_bytes}
+use Rattle.std.proofs.Common.{◌≡◌, map, take, string_bytes}
 use Rattle.log_extractor.specs.Fields.{column_names, group_of}
 use Rattle.log_extractor.specs.Several.{with_names}
 use Rattle.log_extractor.proofs.names.push_names.Given as goal

@@ -1,6 +1,5 @@
 -- The names of one more pattern were added, and at last of all.
-use Rattle.std.proofs.Common.{◌∙◌, List, [], ap, arith, map}
-use Rattle.std.specs.Prelude.{string_bytes}
+use Rattle.std.proofs.Common.{◌∙◌, List, [], ap, arith, map, string_bytes}
 use Rattle.log_extractor.specs.Fields.{group_of}
 use Rattle.log_extractor.specs.Several.{LabelledPattern, with_columns}
 use Rattle.log_extractor.proofs.SeveralLemmas.{all-before, columns-step, pattern-at}

@@ -1,6 +1,5 @@
 -- The names so far are those of the first patterns.
-use Rattle.std.proofs.Common.{◌≡◌, List, [], map, take}
-use Rattle.std.specs.Prelude.{string_bytes}
+use Rattle.std.proofs.Common.{◌≡◌, List, [], map, take, string_bytes}
 use Rattle.log_extractor.specs.Several.{AreLinePatterns, LabelledPattern, labelled_text, with_columns}
 use Rattle.log_extractor.proofs.names.union_of.Given as goal
 

@@ -1,6 +1,5 @@
 -- One more member was appended, and at last all.
-use Rattle.std.proofs.Common.{rules, ◌∙◌, ℕ, ◌++◌, List, [], ◌∷◌, ap, arith, length, length-append, map, option_map, refl, flat_map}
-use Rattle.std.specs.Prelude.{string_bytes}
+use Rattle.std.proofs.Common.{rules, ◌∙◌, ℕ, ◌++◌, List, [], ◌∷◌, ap, arith, length, length-append, map, option_map, refl, flat_map, string_bytes}
 use Rattle.std.specs.Borrow.{Bor}
 use Rattle.std.proofs.lemmas.List.{length-map}
 use Rattle.std.proofs.lemmas.Slice.Zip.{zip_end, zip_turn}

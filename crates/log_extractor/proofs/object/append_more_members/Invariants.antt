@@ -1,6 +1,5 @@
 -- The members so far were appended.
-use Rattle.std.proofs.Common.{◌≡◌, ◌∷◌, ◌++◌, length, map, take}
-use Rattle.std.specs.Prelude.{flat_map, string_bytes}
+use Rattle.std.proofs.Common.{◌≡◌, ◌∷◌, ◌++◌, length, map, take, flat_map, string_bytes}
 use Rattle.log_extractor.specs.Fields.{fields_now}
 use Rattle.log_extractor.specs.Printed.{members}
 use Rattle.log_extractor.proofs.object.append_more_members.Given as goal

@@ -1,6 +1,5 @@
 -- The row is that of the first pattern that matches, or none does.
-use Rattle.std.proofs.Common.{◌≡◌, ◌∙◌, ◌<◌, ◌≤◌, List, ap, arith, false, get_or, length, map, refl, subst, sym, true}
-use Rattle.std.specs.Prelude.{is_some, option_map, string_bytes}
+use Rattle.std.proofs.Common.{◌≡◌, ◌∙◌, ◌<◌, ◌≤◌, List, ap, arith, false, get_or, length, map, refl, subst, sym, true, is_some, option_map, string_bytes}
 use Rattle.log_extractor.specs.Fields.{fields_now}
 use Rattle.log_extractor.specs.Several.{AreLinePatterns, LabelledPattern, row_of_first, labelled_text}
 use Rattle.log_extractor.specs.declared.parsers.LabelledParser.{LabelledParser}

@@ -1,6 +1,5 @@
 -- The first patterns do not match the line.
-use Rattle.std.proofs.Common.{◌≡◌, List, drop, map}
-use Rattle.std.specs.Prelude.{string_bytes}
+use Rattle.std.proofs.Common.{◌≡◌, List, drop, map, string_bytes}
 use Rattle.log_extractor.specs.Several.{AreLinePatterns, LabelledPattern, row_of_first, labelled_text}
 use Rattle.log_extractor.proofs.parsers.first_row.Given as goal
 

@@ -1,6 +1,5 @@
 -- The row of the line by this pattern.
-use Rattle.std.proofs.Common.{◌∙◌, ◌++◌, ap, map, subst, sym}
-use Rattle.std.specs.Prelude.{Option, List, ℕ, option_map, string_bytes}
+use Rattle.std.proofs.Common.{◌∙◌, ◌++◌, ap, map, subst, sym, Option, List, ℕ, option_map, string_bytes}
 use Rattle.std.specs.Borrow.{Bor}
 use Rattle.log_extractor.specs.Fields.{IsLinePattern, columns_of, fields_now, group_of}
 use Rattle.log_extractor.specs.Several.{fields_named, label_field}

@@ -1,6 +1,5 @@
 -- The columns so far are those of the first names.
-use Rattle.std.proofs.Common.{◌≡◌, map, option_map, take}
-use Rattle.std.specs.Prelude.{string_bytes}
+use Rattle.std.proofs.Common.{◌≡◌, map, option_map, take, string_bytes}
 use Rattle.log_extractor.specs.Fields.{group_of, named_groups}
 use Rattle.log_extractor.proofs.pattern.named_columns.Given as goal
 

@@ -1,6 +1,5 @@
 -- The row is that of the line.
-use Rattle.std.proofs.Common.{◌∙◌, ◌++◌, List, ap, ap₂, subst, sym}
-use Rattle.std.specs.Prelude.{is_some}
+use Rattle.std.proofs.Common.{◌∙◌, ◌++◌, List, ap, ap₂, subst, sym, is_some}
 use Rattle.log_extractor.specs.Several.{AreLinePatterns, LabelledText, row_by_first}
 use Rattle.log_extractor.specs.Printed.{shown_as}
 use Rattle.log_extractor.proofs.GoingLemmas.{is_some-map}

@@ -1,7 +1,6 @@
 -- The run goes on by a line, and ends if nothing is left to read.
-use Rattle.std.proofs.Common.{rules, ◌≡◌, List, false, subst, sym, true}
+use Rattle.std.proofs.Common.{rules, ◌≡◌, List, false, subst, sym, true, is_some}
 use Rattle.std.specs.Io.KnownBytes.{Appends}
-use Rattle.std.specs.Prelude.{is_some}
 use Rattle.text_lines.specs.Lines.{content}
 use Rattle.log_extractor.specs.Several.{AreLinePatterns, LabelledText, row_by_first}
 use Rattle.log_extractor.specs.Printed.{shown_line}

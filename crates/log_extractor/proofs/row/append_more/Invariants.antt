@@ -1,6 +1,5 @@
 -- The fields so far were appended.
-use Rattle.std.proofs.Common.{◌≡◌, ◌∷◌, ◌++◌, map, take}
-use Rattle.std.specs.Prelude.{flat_map}
+use Rattle.std.proofs.Common.{◌≡◌, ◌∷◌, ◌++◌, map, take, flat_map}
 use Rattle.log_extractor.specs.Fields.{fields_now}
 use Rattle.log_extractor.specs.Printed.{field_texts}
 use Rattle.log_extractor.specs.Written.{separator, written}

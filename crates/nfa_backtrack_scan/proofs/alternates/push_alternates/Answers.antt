@@ -1,6 +1,5 @@
 -- All alternatives but the first are pushed, or lead nowhere.
-use Rattle.std.proofs.Common.{◌≡◌, ◌<◌, ℕ, suc, List, [], ◌∷◌, length, drop, drop-cons, get_or}
-use Rattle.std.proofs.Common.{arith, refl}
+use Rattle.std.proofs.Common.{◌≡◌, ◌<◌, ℕ, suc, List, [], ◌∷◌, length, drop, drop-cons, get_or, arith, refl}
 use Rattle.nfa_backtrack_scan.proofs.AlternateLemmas.{PushesLive-none}
 use Rattle.nfa_backtrack_scan.proofs.alternates.push_alternates.Goals as goal
 use Rattle.nfa_scan_core.proofs.AlternateLemmas.{drop-low}

@@ -1,7 +1,6 @@
 -- The alternatives from `left` on are pushed.
 use Rattle.std.proofs.Common.{◌≡◌, ◌≤◌, length, drop}
-use Rattle.regex_search_core.specs.Search.{Search}
-use Rattle.nfa_paths.specs.Paths.{byte_at}
+use Rattle.nfa_paths.specs.Common.{Search, byte_at}
 use Rattle.nfa_backtrack_scan.specs.Walk.{IsStatePos}
 use Rattle.nfa_backtrack_scan.specs.Alternates.{PushesLive}
 use Rattle.nfa_backtrack_scan.proofs.alternates.push_alternates.Given as goal

@@ -1,5 +1,5 @@
 -- A turn at a union goes on at its first alternative, with the second one pushed, or finds its place marked.
-use Rattle.regex_search_core.specs.Search.{search_of}
+use Rattle.nfa_paths.specs.Common.{search_of}
 use Rattle.nfa_backtrack_scan.proofs.ByteLoopLemmas.{OnErr-always, IsAfforded-turn, TurnsLead-marked}
 use Rattle.nfa_backtrack_scan.proofs.StepLemmas.{TurnsLead-union}
 use Rattle.nfa_backtrack_scan.specs.Walk.{walk_of}

@@ -1,6 +1,6 @@
 -- Rounds one after another, up to a turn that leads nowhere.
 use Rattle.std.proofs.Common.{[], ◌∙◌, arith, refl}
-use Rattle.regex_search_core.specs.Search.{search_of}
+use Rattle.nfa_paths.specs.Common.{search_of}
 use Rattle.nfa_backtrack_scan.proofs.ByteLoopLemmas.{OnErr-always, IsAfforded-then, TurnsLead-none, TurnsLead-then}
 use Rattle.nfa_backtrack_scan.specs.Walk.{walk_of}
 use Rattle.nfa_backtrack_scan.proofs.byte_loop.run_byte_loop.Goals as goal

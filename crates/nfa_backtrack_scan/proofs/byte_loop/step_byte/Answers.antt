@@ -1,6 +1,6 @@
 -- A turn at a byte state goes on where the byte leads, or stops there, or finds its place marked.
 use Rattle.std.proofs.Common.{length}
-use Rattle.regex_search_core.specs.Search.{search_of}
+use Rattle.nfa_paths.specs.Common.{search_of}
 use Rattle.thompson_nfa.specs.Automaton.Node.{ByteRange}
 use Rattle.nfa_backtrack_scan.proofs.StepLemmas.{same_size, TurnsLead-byte, TurnsLead-stop}
 use Rattle.nfa_backtrack_scan.proofs.ByteLoopLemmas.{TurnsLead-marked}

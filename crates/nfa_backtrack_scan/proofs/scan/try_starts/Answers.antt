@@ -1,8 +1,6 @@
 -- The result of the search from all starts, and the most turns that it takes.
-use Rattle.std.proofs.Common.{◌≡◌, ◌∙◌, ◌+◌, ◌-◌, ◌<◌, ◌≤◌, length, replicate, map, arith, sym, ap, refl}
-use Rattle.std.specs.Prelude.{None}
-use Rattle.regex_search_core.specs.Search.{search_of}
-use Rattle.nfa_paths.specs.Paths.{pairs_from}
+use Rattle.std.proofs.Common.{◌≡◌, ◌∙◌, ◌+◌, ◌-◌, ◌<◌, ◌≤◌, length, replicate, map, arith, sym, ap, refl, None}
+use Rattle.nfa_paths.specs.Common.{search_of, pairs_from}
 use Rattle.nfa_paths.specs.Exploring.Task.{Explore}
 use Rattle.nfa_paths.proofs.StartLemmas.{pairs_from-step, pairs_from-end}
 use Rattle.nfa_backtrack_scan.specs.Walk.{walk_of}

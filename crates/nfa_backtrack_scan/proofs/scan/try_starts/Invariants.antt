@@ -1,7 +1,6 @@
 -- At each start the answer from there is the answer from all starts, and the turns so far are bounded.
 use Rattle.std.proofs.Common.{◌≡◌, ◌+◌, ◌-◌, ◌<◌, ◌≤◌, [], length, map}
-use Rattle.regex_search_core.specs.Search.{search_of}
-use Rattle.nfa_paths.specs.Paths.{starts, start_count, pairs_from}
+use Rattle.nfa_paths.specs.Common.{search_of, starts, start_count, pairs_from}
 use Rattle.nfa_paths.specs.Exploring.Task.{Explore}
 use Rattle.nfa_paths.specs.Turns.{marked_sum}
 use Rattle.nfa_scan_core.specs.FirstBytes.{IsRefused}

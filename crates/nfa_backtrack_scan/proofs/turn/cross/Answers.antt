@@ -1,6 +1,6 @@
 -- A turn at a byte state goes on where the byte leads, or finds its place marked. If the byte leads nowhere, it stops.
 use Rattle.std.proofs.Common.{refl}
-use Rattle.regex_search_core.specs.Search.{search_of}
+use Rattle.nfa_paths.specs.Common.{search_of}
 use Rattle.nfa_backtrack_scan.proofs.StepLemmas.{TurnsLead-byte}
 use Rattle.nfa_backtrack_scan.proofs.ByteLoopLemmas.{TurnsLead-dead, TurnsLead-marked}
 use Rattle.nfa_backtrack_scan.proofs.turn.cross.Goals as goal

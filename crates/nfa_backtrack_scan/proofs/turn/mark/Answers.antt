@@ -1,5 +1,5 @@
 -- The bit of a place is in the table, and the try to set it says whether it was clear.
-use Rattle.regex_search_core.specs.Search.{search_of}
+use Rattle.nfa_paths.specs.Common.{search_of}
 use Rattle.nfa_backtrack_scan.proofs.StepLemmas.{bit_of-place, Taken-place, WasMarked-place}
 use Rattle.nfa_backtrack_scan.proofs.turn.mark.Goals as goal
 

@@ -1,8 +1,6 @@
 -- After a turn that leads nowhere, frames are popped.
-use Rattle.std.proofs.Common.{◌∙◌, ap, refl, sym}
-use Rattle.std.specs.Prelude.{Some}
-use Rattle.regex_search_core.specs.Found.{HalfFound}
-use Rattle.regex_search_core.specs.Search.{search_of}
+use Rattle.std.proofs.Common.{◌∙◌, ap, refl, sym, Some}
+use Rattle.nfa_paths.specs.Common.{HalfFound, search_of}
 use Rattle.nfa_backtrack_scan.proofs.ApplyFrameLemmas.{TurnsLead-resumed}
 use Rattle.nfa_backtrack_scan.proofs.walk.advance.Goals as goal
 

@@ -1,6 +1,6 @@
 -- The first turn of a walk: it goes on from the place that it leads to, or fails if its place was marked.
 use Rattle.std.proofs.Common.{arith, refl}
-use Rattle.regex_search_core.specs.Search.{search_of}
+use Rattle.nfa_paths.specs.Common.{search_of}
 use Rattle.nfa_backtrack_scan.proofs.WalkLemmas.{Carries-marked}
 use Rattle.nfa_backtrack_scan.proofs.BeginLemmas.{BeginsAt-write, BeginsAt-unkept, BeginsAt-none}
 use Rattle.nfa_backtrack_scan.proofs.walk.begin.Goals as goal

@@ -1,6 +1,5 @@
 -- While frames are applied, what is left of any search does not change.
-use Rattle.std.proofs.Common.{length}
-use Rattle.std.specs.Prelude.{All, None, vec_len}
+use Rattle.std.proofs.Common.{length, All, None, vec_len}
 use Rattle.nfa_backtrack_scan.specs.Walk.{Resumes, WritesSlot}
 use Rattle.nfa_backtrack_scan.proofs.walk.resume.Given as goal
 

@@ -1,15 +1,12 @@
 -- Where a turn leads, for each kind of state; its mark pays for what it pushes.
 use Rattle.std.proofs.Common.{◌<◌, ◌∙◌, length, drop, arith, refl, sym}
-use Rattle.regex_search_core.specs.Search.{search_of}
+use Rattle.nfa_paths.specs.Common.{search_of}
 use Rattle.thompson_nfa.specs.Automaton.Node.{ByteRange, Sparse, Dense}
 use Rattle.nfa_scan_core.proofs.AlternateLemmas.{first-drop}
 use Rattle.nfa_backtrack_scan.specs.Walk.{walk_of}
 use Rattle.nfa_backtrack_scan.specs.Alternates.{PushesLive}
-use Rattle.nfa_backtrack_scan.proofs.StepLemmas.{beside, same_size, Goes-leads, Goes-match, TurnsLead-look}
-use Rattle.nfa_backtrack_scan.proofs.StepLemmas.{TurnsLead-no_look, TurnsLead-no_union, TurnsLead-union}
-use Rattle.nfa_backtrack_scan.proofs.StepLemmas.{TurnsLead-unkept, TurnsLead-write}
-use Rattle.nfa_backtrack_scan.proofs.ByteLoopLemmas.{OnErr-always, IsAfforded-turn, IsAfforded-then, TurnsLead-fail}
-use Rattle.nfa_backtrack_scan.proofs.ByteLoopLemmas.{TurnsLead-marked, TurnsLead-then}
+use Rattle.nfa_backtrack_scan.proofs.StepLemmas.{beside, same_size, Goes-leads, Goes-match, TurnsLead-look, TurnsLead-no_look, TurnsLead-no_union, TurnsLead-union, TurnsLead-unkept, TurnsLead-write}
+use Rattle.nfa_backtrack_scan.proofs.ByteLoopLemmas.{OnErr-always, IsAfforded-turn, IsAfforded-then, TurnsLead-fail, TurnsLead-marked, TurnsLead-then}
 use Rattle.nfa_backtrack_scan.proofs.AlternateLemmas.{TurnsLead-live}
 use Rattle.nfa_backtrack_scan.proofs.walk.step.Goals as goal
 use Rattle.nfa_backtrack_scan.proofs.walk.step.Goals.{then-slot-slots+in_ok-save-in-Capture, else-slot-slots}

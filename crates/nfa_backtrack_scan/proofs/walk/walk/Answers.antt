@@ -1,6 +1,6 @@
 -- A walk is its first turn and the rest.
 use Rattle.std.proofs.Common.{arith}
-use Rattle.regex_search_core.specs.Search.{search_of}
+use Rattle.nfa_paths.specs.Common.{search_of}
 use Rattle.nfa_paths.proofs.TurnLemmas.{marked_sum-le}
 use Rattle.nfa_backtrack_scan.specs.Begin.{kept_onto, start_tasks}
 use Rattle.nfa_backtrack_scan.specs.Walk.{walk_of, weights}

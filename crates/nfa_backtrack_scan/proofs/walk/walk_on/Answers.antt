@@ -1,6 +1,6 @@
 -- A walk that goes on turn by turn ends at its answer, within its turns.
 use Rattle.std.proofs.Common.{◌∙◌, arith, refl}
-use Rattle.regex_search_core.specs.Search.{search_of}
+use Rattle.nfa_paths.specs.Common.{search_of}
 use Rattle.nfa_paths.proofs.TurnLemmas.{marked_sum-le}
 use Rattle.nfa_backtrack_scan.specs.Walk.{walk_of, weights}
 use Rattle.nfa_backtrack_scan.proofs.ByteLoopLemmas.{TurnsLead-none, TurnsLead-then}

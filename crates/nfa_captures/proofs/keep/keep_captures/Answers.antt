@@ -1,7 +1,6 @@
 -- What was made is the NFA with fewer captures, in which there is no flaw.
 use Rattle.std.proofs.Common.{◌≡◌, ◌∙◌, ℕ, List, [], ◌∷◌, Option, ap, map, refl, subst, sym}
-use Rattle.regex_search_core.specs.Groups.{slot_count}
-use Rattle.thompson_nfa.specs.Automaton.{Automaton, IsAutomaton, node_of}
+use Rattle.nfa_paths.specs.Common.{slot_count, Automaton, IsAutomaton, node_of}
 use Rattle.thompson_nfa.specs.declared.state.State.{State}
 use Rattle.nfa_captures.specs.Kept.{kept_groups, kept_node, with_captures}
 use Rattle.nfa_captures.proofs.ValidLemmas.{captures-valid, no-flaw}

@@ -1,7 +1,6 @@
 -- Paths do not depend on what they write.
 use Rattle.std.proofs.Common.{subst}
-use Rattle.nfa_paths.specs.Overlaps.{IsOverlapResult}
-use Rattle.nfa_paths.specs.Paths.{IsBoolAnswer, IsHalfAnswer}
+use Rattle.nfa_paths.specs.Common.{IsOverlapResult, IsBoolAnswer, IsHalfAnswer}
 use Rattle.nfa_captures.specs.Kept.{kept_groups, with_captures}
 use Rattle.nfa_captures.proofs.KeptLemmas.{same-ways}
 use Rattle.nfa_captures.proofs.SetLemmas.{set-same}

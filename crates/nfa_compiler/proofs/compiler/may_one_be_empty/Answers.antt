@@ -1,6 +1,5 @@
 -- a match of one pattern more has a byte
-use Rattle.std.proofs.Common.{arith, subst}
-use Rattle.std.specs.Prelude.{All}
+use Rattle.std.proofs.Common.{arith, subst, All}
 use Rattle.std.proofs.lemmas.List.{take_all}
 use Rattle.thompson_nfa.proofs.Tested.{all-take-suc}
 use Rattle.nfa_compiler.specs.Compiled.{AlwaysReads}

@@ -1,6 +1,5 @@
 -- none so far may
-use Rattle.std.proofs.Common.{take}
-use Rattle.std.specs.Prelude.{All}
+use Rattle.std.proofs.Common.{take, All}
 use Rattle.nfa_compiler.specs.Compiled.{AlwaysReads}
 use Rattle.nfa_compiler.proofs.compiler.may_one_be_empty.Given as goal
 

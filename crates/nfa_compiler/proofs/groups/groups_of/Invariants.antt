@@ -1,6 +1,6 @@
 -- the names so far are those of the explicit groups
 use Rattle.std.proofs.Common.{◌≡◌, map, take}
-use Rattle.regex_search_core.specs.Groups.{names_of}
+use Rattle.nfa_paths.specs.Common.{names_of}
 use Rattle.nfa_compiler.specs.Compiled.{explicit_names}
 use Rattle.nfa_compiler.proofs.groups.groups_of.Given as goal
 

@@ -1,6 +1,5 @@
 -- the names so far are equal
-use Rattle.std.proofs.Common.{◌≡◌, map, take}
-use Rattle.std.specs.Prelude.{option_map, string_bytes}
+use Rattle.std.proofs.Common.{◌≡◌, map, take, option_map, string_bytes}
 use Rattle.nfa_compiler.proofs.groups.names_of.Given as goal
 
 abbrev pub invariant-loop-name : goal.invariant-loop-name

@@ -1,6 +1,5 @@
 -- The first scan finds a path exactly if some pattern matches, and each path counts.
-use Rattle.std.proofs.Common.{inl, inr, ◌∙◌, ap, sym}
-use Rattle.std.specs.Prelude.{is_some}
+use Rattle.std.proofs.Common.{inl, inr, ◌∙◌, ap, sym, is_some}
 use Rattle.nfa_compiler.proofs.ExistsLemmas.{path-iff, path-patterned, pattern-iff}
 use Rattle.nfa_compiler.proofs.KindLemmas.{ascii-ends, ascii-scan}
 use Rattle.nfa_compiler.proofs.laws.ascii_searches_find_if_patterns_match.Goals as goal

@@ -1,5 +1,5 @@
 -- A match ends on a boundary exactly if it starts on one.
-use Rattle.std.specs.Prelude.{◌==◌}
+use Rattle.std.proofs.Common.{◌==◌}
 use Rattle.nfa_compiler.proofs.StrLemmas.{boundary-is-str}
 use Rattle.nfa_compiler.proofs.laws.boundary_hits_are_str_hits.Goals as goal
 

@@ -1,6 +1,5 @@
 -- Each step of an iteration finds the next hit that ends on a boundary.
-use Rattle.std.proofs.Common.{subst}
-use Rattle.std.specs.Prelude.{false}
+use Rattle.std.proofs.Common.{subst, false}
 use Rattle.nfa_search_base.specs.CapturesLists.{AreRows}
 use Rattle.nfa_search_base.specs.Lists.{AreMatches}
 use Rattle.nfa_compiler.proofs.AllBoundaryLemmas.{all-boundary-matches, all-boundary-rows}

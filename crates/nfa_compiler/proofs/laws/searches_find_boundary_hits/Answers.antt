@@ -1,7 +1,6 @@
 -- The search's answer is the first path of its last scan, which is the path of the hit.
-use Rattle.std.proofs.Common.{subst}
-use Rattle.std.specs.Prelude.{false}
-use Rattle.nfa_paths.specs.Paths.{IsAnswer, IsFindAnswer, IsBoolAnswer}
+use Rattle.std.proofs.Common.{subst, false}
+use Rattle.nfa_paths.specs.Common.{IsAnswer, IsFindAnswer, IsBoolAnswer}
 use Rattle.nfa_compiler.proofs.BoundarySearchLemmas.{boundary-answer, boundary-match, boundary-found}
 use Rattle.nfa_compiler.proofs.laws.searches_find_boundary_hits.Goals as goal
 

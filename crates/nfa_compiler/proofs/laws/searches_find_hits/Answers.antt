@@ -1,7 +1,6 @@
 -- The search's answer is the first path, which is that of the hit.
-use Rattle.std.proofs.Common.{subst}
-use Rattle.std.specs.Prelude.{false}
-use Rattle.nfa_paths.specs.Paths.{IsAnswer, IsFindAnswer, IsBoolAnswer}
+use Rattle.std.proofs.Common.{subst, false}
+use Rattle.nfa_paths.specs.Common.{IsAnswer, IsFindAnswer, IsBoolAnswer}
 use Rattle.nfa_compiler.proofs.SearchLemmas.{answer-is, match-is, found-is}
 use Rattle.nfa_compiler.proofs.laws.searches_find_hits.Goals as goal
 

@@ -1,7 +1,6 @@
 -- Scans of all kinds find a path exactly if some pattern matches.
-use Rattle.std.proofs.Common.{◌≡◌, ◌∙◌, ap, sym}
-use Rattle.std.specs.Prelude.{is_some}
-use Rattle.nfa_paths.specs.Paths.{IsScanAnswer}
+use Rattle.std.proofs.Common.{◌≡◌, ◌∙◌, ap, sym, is_some}
+use Rattle.nfa_paths.specs.Common.{IsScanAnswer}
 use Rattle.nfa_compiler.proofs.ExistsLemmas.{anywhere-ends, path-iff, path-patterned}
 use Rattle.nfa_compiler.proofs.laws.searches_find_if_patterns_match.Goals as goal
 

@@ -1,6 +1,5 @@
 -- A path that is found shows that a pattern matches. In a `str` a match from a boundary ends on one.
-use Rattle.std.proofs.Common.{inl, inr, ap, sym, ◌∙◌, arith}
-use Rattle.std.specs.Prelude.{is_some, slice_index_or}
+use Rattle.std.proofs.Common.{inl, inr, ap, sym, ◌∙◌, arith, is_some, slice_index_or}
 use Rattle.regex_hir.specs.Re.{empty}
 use Rattle.regex_hir.proofs.MatchesLemmas.{Matches-IsSpan}
 use Rattle.nfa_compiler.proofs.BoundaryLemmas.{boundary-is, boundary-true}

@@ -1,7 +1,6 @@
 -- The trees and what the grammar reads have hits that a caller cannot tell apart.
-use Rattle.std.proofs.Common.{subst}
-use Rattle.std.specs.Prelude.{false}
-use Rattle.nfa_paths.specs.Paths.{IsAnswer, IsFindAnswer}
+use Rattle.std.proofs.Common.{subst, false}
+use Rattle.nfa_paths.specs.Common.{IsAnswer, IsFindAnswer}
 use Rattle.nfa_compiler.proofs.TextLemmas.{text-answer, text-match}
 use Rattle.nfa_compiler.proofs.laws.searches_find_texts.Goals as goal
 

@@ -1,7 +1,6 @@
 -- What is found ends on a boundary, so it starts on one.
-use Rattle.std.proofs.Common.{subst}
-use Rattle.std.specs.Prelude.{false}
-use Rattle.nfa_paths.specs.Paths.{IsAnswer, IsFindAnswer}
+use Rattle.std.proofs.Common.{subst, false}
+use Rattle.nfa_paths.specs.Common.{IsAnswer, IsFindAnswer}
 use Rattle.nfa_compiler.proofs.StrSearchLemmas.{str-answer, str-match}
 use Rattle.nfa_compiler.proofs.laws.searches_of_strs_find_texts.Goals as goal
 

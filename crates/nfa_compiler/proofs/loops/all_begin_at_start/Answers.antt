@@ -1,6 +1,5 @@
 -- one pattern more, from the last one back
-use Rattle.std.proofs.Common.{◌≡◌, ℕ, suc, ◌-◌, ◌<◌, ◌≤◌, Bool, List, ◌∷◌, length, drop, get_or, refl, ap, sym, ◌∙◌, arith, drop-cons, drop_of_length-le}
-use Rattle.std.specs.Prelude.{◌&&◌}
+use Rattle.std.proofs.Common.{◌≡◌, ℕ, suc, ◌-◌, ◌<◌, ◌≤◌, Bool, List, ◌∷◌, length, drop, get_or, refl, ap, sym, ◌∙◌, arith, drop-cons, drop_of_length-le, ◌&&◌}
 use Rattle.regex_hir.specs.Meaning.{meaning}
 use Rattle.regex_syntax.specs.declared.Parsed.{Parsed}
 use Rattle.nfa_compiler.specs.declared.loops.Form.{Form}

@@ -1,12 +1,8 @@
 -- Each state that is taken from the stack is passed over, kept, or gives way to the states that it leads to.
-use Rattle.std.proofs.Common.{◌≡◌, ◌∙◌, ◌<◌, ◌++◌, ◌-◌, List, [], ℕ, Bool, true, ap, sym, subst, arith, reverse, take}
-use Rattle.std.specs.Prelude.{Option, option_to_list}
-use Rattle.thompson_nfa.specs.Automaton.{node_of}
-use Rattle.nfa_paths.specs.Kinds.{rests}
-use Rattle.nfa_paths.specs.Paths.{node_at}
+use Rattle.std.proofs.Common.{◌≡◌, ◌∙◌, ◌<◌, ◌++◌, ◌-◌, List, [], ℕ, Bool, true, ap, sym, subst, arith, reverse, take, Option, option_to_list}
+use Rattle.nfa_paths.specs.Common.{node_of, rests, node_at}
 use Rattle.nfa_determinize.specs.Closures.{closure, holding_at, epsilon_states}
-use Rattle.nfa_determinize.proofs.ClosureLemmas.{takes_left, IsUnderWay, IsUnderWay-begin, IsUnderWay-done}
-use Rattle.nfa_determinize.proofs.ClosureLemmas.{IsUnderWay-seen, IsUnderWay-kept, IsUnderWay-left, takes-seen, takes-kept, takes-left}
+use Rattle.nfa_determinize.proofs.ClosureLemmas.{takes_left, IsUnderWay, IsUnderWay-begin, IsUnderWay-done, IsUnderWay-seen, IsUnderWay-kept, IsUnderWay-left, takes-seen, takes-kept, takes-left}
 use Rattle.nfa_determinize.proofs.closure.closure.Goals as goal
 use Rattle.nfa_paths.proofs.StartLemmas.{node_at-get}
 

@@ -1,9 +1,6 @@
 -- The first Match is the answer.
-use Rattle.std.proofs.Common.{◌≡◌, ◌∙◌, ap, sym}
-use Rattle.std.specs.Prelude.{None, is_some, true, option_map}
-use Rattle.regex_search_core.specs.Patterns.{number_of}
-use Rattle.thompson_nfa.specs.Automaton.{node_of}
-use Rattle.nfa_paths.specs.Paths.{pattern_of}
+use Rattle.std.proofs.Common.{◌≡◌, ◌∙◌, ap, sym, None, is_some, true, option_map}
+use Rattle.nfa_paths.specs.Common.{number_of, node_of, pattern_of}
 use Rattle.nfa_determinize.specs.Closures.{state_pattern}
 use Rattle.nfa_determinize.proofs.StepLemmas.{number-some, number-none, first-some, first-none}
 use Rattle.nfa_determinize.proofs.closure.first_pattern.Goals as goal

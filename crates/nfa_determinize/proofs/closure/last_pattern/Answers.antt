@@ -1,10 +1,7 @@
 -- A later Match takes the place of the one before.
-use Rattle.std.proofs.Common.{◌≡◌, ◌∙◌, ◌+◌, ap, sym, drop}
-use Rattle.std.specs.Prelude.{option_map}
+use Rattle.std.proofs.Common.{◌≡◌, ◌∙◌, ◌+◌, ap, sym, drop, option_map}
 use Rattle.std.specs.Option.{option_or}
-use Rattle.regex_search_core.specs.Patterns.{number_of}
-use Rattle.thompson_nfa.specs.Automaton.{node_of}
-use Rattle.nfa_paths.specs.Paths.{pattern_of}
+use Rattle.nfa_paths.specs.Common.{number_of, node_of, pattern_of}
 use Rattle.nfa_determinize.specs.Closures.{state_pattern, last_pattern}
 use Rattle.nfa_determinize.proofs.StepLemmas.{number-or, last-more}
 use Rattle.nfa_determinize.proofs.closure.last_pattern.Goals as goal

@@ -1,9 +1,7 @@
 -- One start for each position up to the limit.
-use Rattle.std.proofs.Common.{◌≡◌, ◌+◌, arith, sym, ap, ◌∙◌}
-use Rattle.std.specs.Prelude.{is_some, not, true}
-use Rattle.regex_search_core.specs.Search.{search_of}
+use Rattle.std.proofs.Common.{◌≡◌, ◌+◌, arith, sym, ap, ◌∙◌, is_some, not, true}
+use Rattle.nfa_paths.specs.Common.{search_of, start_count, start_state}
 use Rattle.nfa_determinize.proofs.ScanHalfLemmas.{length-starts}
-use Rattle.nfa_paths.specs.Paths.{start_count, start_state}
 use Rattle.nfa_determinize.proofs.scan.count_starts.Goals as goal
 
 pub returns : goal.returns

@@ -1,8 +1,6 @@
 -- Each start so far finds a match that splits a codepoint.
-use Rattle.std.proofs.Common.{◌≡◌, ◌+◌, ◌-◌}
-use Rattle.std.specs.Prelude.{option_map}
-use Rattle.regex_search_core.specs.Found.{half_found_of}
-use Rattle.regex_search_core.specs.Search.{search_of}
+use Rattle.std.proofs.Common.{◌≡◌, ◌+◌, ◌-◌, option_map}
+use Rattle.nfa_paths.specs.Common.{half_found_of, search_of}
 use Rattle.nfa_determinize.specs.Configurations.{scan_half}
 use Rattle.nfa_determinize.proofs.ScanHalfLemmas.{Skipping}
 use Rattle.nfa_determinize.proofs.scan.find_whole_half.Given as goal

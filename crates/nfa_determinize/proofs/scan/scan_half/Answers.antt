@@ -1,13 +1,8 @@
 -- A settled configuration ends the scan, and any other leads to the next one.
-use Rattle.std.proofs.Common.{◌≡◌, ◌≤◌, ◌-◌, ◌∙◌, ℕ, Bool, List, ap, sym, subst, arith}
-use Rattle.std.specs.Prelude.{Option, option_map}
-use Rattle.regex_search_core.specs.Found.{HalfFound, half_found_of}
-use Rattle.regex_search_core.specs.Patterns.{number_of}
-use Rattle.regex_search_core.specs.Search.{search_of}
-use Rattle.nfa_paths.specs.Paths.{byte_at}
+use Rattle.std.proofs.Common.{◌≡◌, ◌≤◌, ◌-◌, ◌∙◌, ℕ, Bool, List, ap, sym, subst, arith, Option, option_map}
+use Rattle.nfa_paths.specs.Common.{HalfFound, half_found_of, number_of, search_of, byte_at}
 use Rattle.nfa_determinize.specs.Closures.{kept, pattern_by_kind, step}
-use Rattle.nfa_determinize.specs.Configurations.{Configuration, IsSettled, found_after, half_at}
-use Rattle.nfa_determinize.specs.Configurations.{position_count, starts_after}
+use Rattle.nfa_determinize.specs.Configurations.{Configuration, IsSettled, found_after, half_at, position_count, starts_after}
 use Rattle.nfa_determinize.proofs.ScanHalfLemmas.{next-is, scanned-more}
 use Rattle.nfa_determinize.proofs.SettledLemmas.{settled-found}
 use Rattle.nfa_determinize.proofs.scan.scan_half.Goals as goal

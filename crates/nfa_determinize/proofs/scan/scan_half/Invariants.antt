@@ -1,8 +1,6 @@
 -- The configuration of the positions so far.
-use Rattle.std.proofs.Common.{◌≡◌, ◌<◌, ◌-◌, All, length}
-use Rattle.std.specs.Prelude.{option_map}
-use Rattle.regex_search_core.specs.Found.{half_found_of}
-use Rattle.regex_search_core.specs.Search.{search_of}
+use Rattle.std.proofs.Common.{◌≡◌, ◌<◌, ◌-◌, All, length, option_map}
+use Rattle.nfa_paths.specs.Common.{half_found_of, search_of}
 use Rattle.nfa_determinize.specs.Configurations.{Configuration, scanned}
 use Rattle.nfa_determinize.proofs.scan.scan_half.Given as goal
 

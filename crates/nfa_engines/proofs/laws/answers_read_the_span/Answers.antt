@@ -1,7 +1,6 @@
 -- Only the bytes of the span matter, and not where it is: without assertions, all that hold, hold alike.
 use Rattle.nfa_engines.specs.SpanLaws.{cut_out}
-use Rattle.nfa_engines.proofs.SpanLemmas.{cut-answer, cut-match, no-look-alike, same-answer, same-match, span-answer}
-use Rattle.nfa_engines.proofs.SpanLemmas.{span-match}
+use Rattle.nfa_engines.proofs.SpanLemmas.{cut-answer, cut-match, no-look-alike, same-answer, same-match, span-answer, span-match}
 use Rattle.nfa_engines.proofs.laws.answers_read_the_span.Goals as goal
 
 pub returns-clause-same : goal.returns-clause-same

@@ -1,7 +1,7 @@
 -- A line that is selected has a match, unless the selected lines are those without one.
 use Rattle.std.proofs.Common.{◌≡◌, List, ℕ, false, subst, sym}
 use Rattle.std.proofs.lemmas.Result.{IfOk-weaker}
-use Rattle.regex_search_core.specs.Search.{whole}
+use Rattle.nfa_paths.specs.Common.{whole}
 use Rattle.nfa_compiler.specs.Compiled.{res_of}
 use Rattle.required_literal.specs.Required.{AreRequired, OccursIn}
 use Rattle.required_literal.proofs.PartLemmas.{occurs-none}

@@ -2,8 +2,7 @@
 use Rattle.std.proofs.Common.{◌∙◌, ◌++◌, List, ap, arith}
 use Rattle.std.proofs.lemmas.List.{take_all}
 use Rattle.std.specs.List.{flat_map}
-use Rattle.regex_search_core.specs.Found.{found_of}
-use Rattle.regex_search_core.specs.declared.search.Match.{Match}
+use Rattle.nfa_paths.specs.Common.{found_of, Match}
 use Rattle.nfa_grep.specs.Meant.{span_of}
 use Rattle.nfa_grep.specs.Printed.{piece}
 use Rattle.nfa_grep.proofs.PrintedLemmas.{flat-of-found}

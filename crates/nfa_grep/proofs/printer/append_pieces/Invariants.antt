@@ -1,7 +1,7 @@
 -- What is printed of the matches so far was appended.
 use Rattle.std.proofs.Common.{◌≡◌, ◌++◌, take}
 use Rattle.std.specs.List.{flat_map}
-use Rattle.regex_search_core.specs.Found.{found_of}
+use Rattle.nfa_paths.specs.Common.{found_of}
 use Rattle.nfa_grep.specs.Meant.{span_of}
 use Rattle.nfa_grep.specs.Printed.{piece}
 use Rattle.nfa_grep.proofs.printer.append_pieces.Given as goal

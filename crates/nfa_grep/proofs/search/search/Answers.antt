@@ -1,8 +1,6 @@
 -- The search goes on by a line, and ends where nothing is left to read, or the limit is reached and nothing is left to
 -- print.
-use Rattle.std.proofs.Common.{rules, ◌≡◌, ◌∙◌, ℕ, ◌+◌, ◌++◌, Bool, List, ◌∷◌, false, length, true}
-use Rattle.std.proofs.Common.{ap, arith, subst, sym}
-use Rattle.std.specs.Prelude.{◌&&◌, ◌==◌, cond, if◌then◌else◌, nat_lt, not}
+use Rattle.std.proofs.Common.{rules, ◌≡◌, ◌∙◌, ℕ, ◌+◌, ◌++◌, Bool, List, ◌∷◌, false, length, true, ap, arith, subst, sym, ◌&&◌, ◌==◌, cond, if◌then◌else◌, nat_lt, not}
 use Rattle.std.specs.Io.KnownBytes.{Appends}
 use Rattle.text_lines.specs.Lines.{HasNoRecord, TakesRecord}
 use Rattle.nfa_grep.specs.Going.{printed_later}

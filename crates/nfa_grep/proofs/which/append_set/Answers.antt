@@ -1,12 +1,9 @@
 -- One more number was appended, and all were.
-use Rattle.std.proofs.Common.{rules, ◌≡◌, ◌∙◌, ℕ, List, [], ◌∷◌, ◌++◌, map}
-use Rattle.std.proofs.Common.{ap, ap₂, arith, sym, append-nil}
-use Rattle.std.specs.Prelude.{decimal}
+use Rattle.std.proofs.Common.{rules, ◌≡◌, ◌∙◌, ℕ, List, [], ◌∷◌, ◌++◌, map, ap, ap₂, arith, sym, append-nil, decimal}
 use Rattle.std.specs.List.{join_with_byte}
 use Rattle.std.proofs.lemmas.Iterator.Consumers.{YieldsList-end, YieldsList-from_first}
 use Rattle.std.proofs.lemmas.List.{length-append}
-use Rattle.regex_search_core.specs.Patterns.{number_of}
-use Rattle.regex_search_core.specs.declared.primitives.PatternID.{PatternID}
+use Rattle.nfa_paths.specs.Common.{number_of, PatternID}
 use Rattle.regex_search_core.specs.PatternSets.{patterns_of}
 use Rattle.regex_search_core.specs.PatternSetIters.{patterns_left}
 use Rattle.nfa_grep.specs.Printed.{comma}

@@ -1,8 +1,7 @@
 -- The numbers so far were appended.
-use Rattle.std.proofs.Common.{◌≡◌, ◌<◌, ◌++◌, [], false, length, map, true}
-use Rattle.std.specs.Prelude.{decimal}
+use Rattle.std.proofs.Common.{◌≡◌, ◌<◌, ◌++◌, [], false, length, map, true, decimal}
 use Rattle.std.specs.List.{join_with_byte}
-use Rattle.regex_search_core.specs.Patterns.{number_of}
+use Rattle.nfa_paths.specs.Common.{number_of}
 use Rattle.nfa_grep.specs.Printed.{comma}
 use Rattle.nfa_grep.proofs.which.append_set.Given as goal
 

@@ -1,6 +1,5 @@
 -- None of the targets so far is the state.
-use Rattle.std.proofs.Common.{◌≡◌, ◌<◌, ℕ, get_or}
-use Rattle.std.specs.Prelude.{Option, Some}
+use Rattle.std.proofs.Common.{◌≡◌, ◌<◌, ℕ, get_or, Option, Some}
 use Rattle.nfa_lazy_dfa.proofs.apart.has_target.Given as goal
 
 abbrev pub invariant-loop-target : goal.invariant-loop-target

@@ -1,6 +1,5 @@
 -- None of the states leads to the start.
-use Rattle.std.proofs.Common.{sym, ◌∙◌, ap, arith}
-use Rattle.std.specs.Prelude.{Some}
+use Rattle.std.proofs.Common.{sym, ◌∙◌, ap, arith, Some}
 use Rattle.nfa_lazy_dfa.proofs.ApartLemmas.{states-apart}
 use Rattle.nfa_lazy_dfa.proofs.apart.is_start_apart.Goals as goal
 

@@ -1,15 +1,13 @@
 -- Each state treats bytes next to each other alike, if no cut is between them.
-use Rattle.std.proofs.Common.{◌≡◌, ◌<◌, ◌+◌, ℕ, List, false, length, map, get_or, refl, ap, sym, ◌∙◌, inl, inr, arith}
-use Rattle.std.specs.Prelude.{Some}
+use Rattle.std.proofs.Common.{◌≡◌, ◌<◌, ◌+◌, ℕ, List, false, length, map, get_or, refl, ap, sym, ◌∙◌, inl, inr, arith, Some}
 use Rattle.std.proofs.lemmas.Bool.{cases_lt}
 use Rattle.std.proofs.lemmas.List.{get_or-replicate, get_or_past}
 use Rattle.std.proofs.lemmas.Option.{get_or_from_slice_get, slice_get-get_or}
 use Rattle.std.proofs.Math.ListN.{get_or-map}
-use Rattle.thompson_nfa.specs.Automaton.{Automaton, Node, node_of}
+use Rattle.nfa_paths.specs.Common.{Automaton, Node, node_of, node_at, target_on}
 use Rattle.thompson_nfa.specs.Automaton.Node.{Fail}
 use Rattle.thompson_nfa.specs.declared.state.State.{State}
 use Rattle.thompson_nfa.specs.declared.state.State.TheVariants as variant
-use Rattle.nfa_paths.specs.Paths.{node_at, target_on}
 use Rattle.nfa_lazy_dfa.proofs.cuts.cuts_of.Goals as goal
 
 targets-at : (nfa : Automaton) (states : List State) (k : ℕ) → map node_of states ≡ nfa.states

@@ -1,8 +1,7 @@
 -- The states so far are cut for.
 use Rattle.std.proofs.Common.{◌≡◌, ℕ, ◌+◌, ◌<◌, false, get_or}
-use Rattle.thompson_nfa.specs.Automaton.{node_of}
+use Rattle.nfa_paths.specs.Common.{node_of, target_on}
 use Rattle.thompson_nfa.specs.declared.state.State.{State}
-use Rattle.nfa_paths.specs.Paths.{target_on}
 use Rattle.nfa_lazy_dfa.specs.Cuts.{IsUncut}
 use Rattle.nfa_lazy_dfa.proofs.cuts.cuts_of.Given as goal
 

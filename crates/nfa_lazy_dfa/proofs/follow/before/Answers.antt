@@ -1,6 +1,5 @@
 -- A byte like the last one is read alike.
-use Rattle.std.proofs.Common.{ℕ, sym, subst}
-use Rattle.std.specs.Prelude.{Some}
+use Rattle.std.proofs.Common.{ℕ, sym, subst, Some}
 use Rattle.nfa_lazy_dfa.specs.Assertions.{IsRead, SameLooks, sees}
 use Rattle.nfa_lazy_dfa.proofs.AssertionLemmas.{same-like}
 use Rattle.nfa_lazy_dfa.proofs.follow.before.Goals as goal

@@ -1,12 +1,7 @@
 -- The pattern of a Match is added.
-use Rattle.std.proofs.Common.{◌≡◌, ◌≤◌, ◌+◌, ◌∷◌, ◌++◌, ℕ, List, [], ap, append_assoc, arith, drop, length}
-use Rattle.std.proofs.Common.{length-append, map, sym, ◌∙◌}
-use Rattle.std.specs.Prelude.{None, Some, option_map, option_to_list}
+use Rattle.std.proofs.Common.{◌≡◌, ◌≤◌, ◌+◌, ◌∷◌, ◌++◌, ℕ, List, [], ap, append_assoc, arith, drop, length, length-append, map, sym, ◌∙◌, None, Some, option_map, option_to_list}
 use Rattle.std.proofs.lemmas.List.{drop_more, map-append}
-use Rattle.regex_search_core.specs.Patterns.{number_of}
-use Rattle.regex_search_core.specs.declared.primitives.PatternID.{PatternID}
-use Rattle.thompson_nfa.specs.Automaton.{node_of}
-use Rattle.nfa_paths.specs.Paths.{pattern_of}
+use Rattle.nfa_paths.specs.Common.{number_of, PatternID, node_of, pattern_of}
 use Rattle.nfa_paths.proofs.StartLemmas.{node_at-get}
 use Rattle.nfa_determinize.specs.Closures.{state_pattern}
 use Rattle.nfa_lazy_dfa.specs.Stances.{patterns_in}

@@ -2,7 +2,7 @@
 use Rattle.std.proofs.Common.{◌≡◌, ◌<◌, ℕ, inl, inr, get_or, length, map, ap, sym, ◌∙◌, subst, arith}
 use Rattle.std.proofs.lemmas.Bool.{cases_lt}
 use Rattle.std.proofs.lemmas.List.{ext_get_or, get_or-map, length-map}
-use Rattle.regex_search_core.specs.Patterns.{number_of}
+use Rattle.nfa_paths.specs.Common.{number_of}
 use Rattle.nfa_lazy_dfa.proofs.index.same_hits.Goals as goal
 
 pub loop-index-preserved : goal.loop-index-preserved

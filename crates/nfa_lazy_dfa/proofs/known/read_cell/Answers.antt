@@ -1,6 +1,5 @@
 -- The cell is in the table, and a known one leads on.
-use Rattle.std.proofs.Common.{◌<◌, ◌+◌, ℕ, List, get_or, subst, arith}
-use Rattle.std.specs.Prelude.{vec_len}
+use Rattle.std.proofs.Common.{◌<◌, ◌+◌, ℕ, List, get_or, subst, arith, vec_len}
 use Rattle.nfa_lazy_dfa.specs.Rows.{Leads, stances_of}
 use Rattle.nfa_lazy_dfa.proofs.CacheLemmas.{cell-within, leads-read}
 use Rattle.nfa_lazy_dfa.proofs.known.read_cell.Goals as goal

@@ -2,7 +2,7 @@
 use Rattle.std.proofs.Common.{◌≡◌, ◌/◌, ◌∙◌, false, sym, arith}
 use Rattle.nfa_lazy_dfa.specs.Rows.{IsRowOf}
 use Rattle.nfa_lazy_dfa.specs.Stances.{stance_of}
-use Rattle.regex_search_core.specs.Search.{search_of}
+use Rattle.nfa_paths.specs.Common.{search_of}
 use Rattle.nfa_lazy_dfa.proofs.CacheLemmas.{row-inside, row-is}
 use Rattle.nfa_lazy_dfa.proofs.RunLemmas.{few-at, found-matched, place-first}
 use Rattle.nfa_lazy_dfa.proofs.known.run.Goals as goal

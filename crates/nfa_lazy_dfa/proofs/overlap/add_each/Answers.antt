@@ -1,8 +1,7 @@
 -- A pattern below the capacity is added.
 use Rattle.std.proofs.Common.{◌≡◌, ◌+◌, ◌∷◌, ◌++◌, [], length, map, take, ap, sym, ◌∙◌}
 use Rattle.std.proofs.lemmas.List.{map-append, take_more}
-use Rattle.regex_search_core.specs.Patterns.{number_of}
-use Rattle.regex_search_core.specs.declared.primitives.PatternID.{PatternID}
+use Rattle.nfa_paths.specs.Common.{number_of, PatternID}
 use Rattle.nfa_lazy_dfa.proofs.AddLemmas.{AddsEach-in, AddsEach-out, below-of, not-below}
 use Rattle.nfa_lazy_dfa.proofs.overlap.add_each.Goals as goal
 use Rattle.nfa_lazy_dfa.proofs.overlap.add_each.Goals.{then-is_some, else-is_some}

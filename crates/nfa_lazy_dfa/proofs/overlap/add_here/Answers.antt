@@ -1,7 +1,6 @@
 -- A match may end at the position.
 use Rattle.std.proofs.Common.{inl, inr}
-use Rattle.regex_search_core.specs.Search.{search_of}
-use Rattle.nfa_paths.specs.Overlaps.{IsPermittedEnd}
+use Rattle.nfa_paths.specs.Common.{search_of, IsPermittedEnd}
 use Rattle.nfa_lazy_dfa.proofs.overlap.add_here.Goals as goal
 
 pub returns : goal.returns

@@ -1,6 +1,6 @@
 -- No match may start, or the set is full.
 use Rattle.std.proofs.Common.{◌≡◌, ◌<◌, ◌≤◌, ◌∙◌, inl, inr, sym, arith}
-use Rattle.regex_search_core.specs.Search.{search_of}
+use Rattle.nfa_paths.specs.Common.{search_of}
 use Rattle.nfa_paths.proofs.SetLemmas.{full-gains}
 use Rattle.std.proofs.lemmas.Result.{on_ok_weaker}
 use Rattle.nfa_lazy_dfa.specs.Reads.{IsSetOver}

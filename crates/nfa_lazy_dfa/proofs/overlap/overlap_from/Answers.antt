@@ -1,15 +1,12 @@
 -- A row leads to the next one, whose patterns are added; a dead row ends the scan, as does a match if it is enough.
-use Rattle.std.proofs.Common.{rules, ◌≡◌, ◌<◌, ◌≤◌, ◌+◌, ◌-◌, ℕ, inl, inr, false, true, sym, subst, arith}
-use Rattle.std.specs.Prelude.{map, slice_get}
-use Rattle.regex_search_core.specs.Patterns.{number_of}
-use Rattle.regex_search_core.specs.Search.{search_of}
+use Rattle.std.proofs.Common.{rules, ◌≡◌, ◌<◌, ◌≤◌, ◌+◌, ◌-◌, ℕ, inl, inr, false, true, sym, subst, arith, map, slice_get}
+use Rattle.nfa_paths.specs.Common.{number_of, search_of}
 use Rattle.nfa_lazy_dfa.specs.Places.{IsFoundAt, IsNextPlace}
 use Rattle.nfa_lazy_dfa.specs.Reads.{IsSetOver}
 use Rattle.nfa_lazy_dfa.specs.Rows.{IsRowOf, Spends}
 use Rattle.nfa_lazy_dfa.specs.Stances.{hits_here, patterns_in, stance_of}
 use Rattle.nfa_lazy_dfa.proofs.CacheLemmas.{row-is}
-use Rattle.nfa_lazy_dfa.proofs.GainLemmas.{Gaining, Gaining-begin, Gaining-end, Gaining-last, Gaining-next, Gaining-over}
-use Rattle.nfa_lazy_dfa.proofs.GainLemmas.{Gaining-part, Gaining-skip}
+use Rattle.nfa_lazy_dfa.proofs.GainLemmas.{Gaining, Gaining-begin, Gaining-end, Gaining-last, Gaining-next, Gaining-over, Gaining-part, Gaining-skip}
 use Rattle.nfa_lazy_dfa.proofs.HitLemmas.{found-over, found-same, hits-at, hits-next}
 use Rattle.nfa_lazy_dfa.proofs.ReachLemmas.{here_at}
 use Rattle.nfa_lazy_dfa.proofs.ReadLemmas.{IsOver-late}

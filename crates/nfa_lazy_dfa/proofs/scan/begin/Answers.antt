@@ -1,7 +1,6 @@
 -- No match may start, or the scan is at its first position.
-use Rattle.std.proofs.Common.{◌<◌, ◌∙◌, ◌-◌, ap, lt-ltb, refl, rules, sym, arith}
-use Rattle.std.specs.Prelude.{is_some}
-use Rattle.regex_search_core.specs.Search.{search_of}
+use Rattle.std.proofs.Common.{◌<◌, ◌∙◌, ◌-◌, ap, lt-ltb, refl, rules, sym, arith, is_some}
+use Rattle.nfa_paths.specs.Common.{search_of}
 use Rattle.nfa_lazy_dfa.proofs.ScanLemmas.{IsFoundAt-begin, no-span, no-state}
 use Rattle.nfa_lazy_dfa.proofs.WorkLemmas.{Scans-one, Spends-none}
 use Rattle.nfa_lazy_dfa.proofs.scan.begin.Goals as goal

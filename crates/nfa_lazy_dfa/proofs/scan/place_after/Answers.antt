@@ -1,7 +1,6 @@
 -- The byte leads on to the row. If the row is dead, or its match is the first one and enough, the scan is over.
-use Rattle.std.proofs.Common.{◌+◌, ◌∙◌, inl, inr, ap, sym}
-use Rattle.std.specs.Prelude.{is_some}
-use Rattle.regex_search_core.specs.Search.{search_of}
+use Rattle.std.proofs.Common.{◌+◌, ◌∙◌, inl, inr, ap, sym, is_some}
+use Rattle.nfa_paths.specs.Common.{search_of}
 use Rattle.nfa_lazy_dfa.specs.Rows.{IsRowOf}
 use Rattle.nfa_lazy_dfa.specs.Stances.{stance_of}
 use Rattle.nfa_lazy_dfa.proofs.CacheLemmas.{row-is}

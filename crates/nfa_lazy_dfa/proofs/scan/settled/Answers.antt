@@ -1,8 +1,6 @@
 -- A dead row ends the scan, as does the first match if it is enough.
-use Rattle.std.proofs.Common.{◌≡◌, ◌≤◌, ◌<◌, ◌/◌, ◌*◌, ◌∙◌, ◌+◌, ◌-◌, ℕ, inl, inr, true, get_or, ap, sym, subst, arith}
-use Rattle.std.specs.Prelude.{is_some, option_map, vec_len}
-use Rattle.regex_search_core.specs.Found.{half_found_of}
-use Rattle.regex_search_core.specs.Search.{search_of}
+use Rattle.std.proofs.Common.{◌≡◌, ◌≤◌, ◌<◌, ◌/◌, ◌*◌, ◌∙◌, ◌+◌, ◌-◌, ℕ, inl, inr, true, get_or, ap, sym, subst, arith, is_some, option_map, vec_len}
+use Rattle.nfa_paths.specs.Common.{half_found_of, search_of}
 use Rattle.nfa_determinize.specs.Configurations.{IsSettled, scanned}
 use Rattle.nfa_determinize.proofs.SettledLemmas.{settled-found}
 use Rattle.nfa_lazy_dfa.specs.Rows.{IsAt, IsRowOf, LeadsTo}
@@ -12,9 +10,7 @@ use Rattle.nfa_lazy_dfa.proofs.CacheLemmas.{row-inside, row-is}
 use Rattle.nfa_lazy_dfa.proofs.RunLemmas.{few-at, place-first}
 use Rattle.nfa_lazy_dfa.proofs.ScanLemmas.{IsAt-is_dead, IsFoundAt-next, found_at, some-map}
 use Rattle.nfa_lazy_dfa.proofs.scan.settled.Goals as goal
-use Rattle.nfa_lazy_dfa.proofs.scan.settled.Goals.{After-or-found, Joined-then-is_dead}
-use Rattle.nfa_lazy_dfa.proofs.scan.settled.Goals.{then-is_dead-via-then-is_dead, then-is_dead-via-else-is_dead+then-is_some}
-use Rattle.nfa_lazy_dfa.proofs.scan.settled.Goals.{then-earliest, else-earliest}
+use Rattle.nfa_lazy_dfa.proofs.scan.settled.Goals.{After-or-found, Joined-then-is_dead, then-is_dead-via-then-is_dead, then-is_dead-via-else-is_dead+then-is_some, then-earliest, else-earliest}
 
 pub overflow_mul-first : goal.overflow_mul-first
 overflow_mul-first c =

@@ -1,6 +1,5 @@
 -- The row has only the start.
-use Rattle.std.proofs.Common.{rules, ◌≡◌, ◌<◌, ◌*◌, ◌/◌, ◌∷◌, [], ap, ◌∙◌, arith}
-use Rattle.std.specs.Prelude.{slice_get, vec_len}
+use Rattle.std.proofs.Common.{rules, ◌≡◌, ◌<◌, ◌*◌, ◌/◌, ◌∷◌, [], ap, ◌∙◌, arith, slice_get, vec_len}
 use Rattle.nfa_lazy_dfa.specs.Rows.{IsRowOf, stances_of}
 use Rattle.nfa_lazy_dfa.specs.Stances.{Stance, stance_of}
 use Rattle.nfa_lazy_dfa.proofs.CacheLemmas.{few-rows, row-is}

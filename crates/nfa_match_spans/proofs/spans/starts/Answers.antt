@@ -2,12 +2,10 @@
 use Rattle.std.proofs.Common.{◌≡◌, ◌∙◌, ◌<◌, ◌*◌, [], ◌∷◌, length, inl, refl, ap, sym, arith, subst}
 use Rattle.std.proofs.lemmas.List.{length-map}
 use Rattle.regex_search_core.specs.declared.search.Anchored.TheVariants.{Yes}
-use Rattle.thompson_nfa.specs.Automaton.{node_of}
-use Rattle.nfa_paths.specs.Graphs.{In}
+use Rattle.nfa_paths.specs.Common.{node_of, In}
 use Rattle.nfa_match_spans.specs.PathStates.{fresh_path_state, GainsPathStates, Reach}
 use Rattle.nfa_match_spans.specs.declared.path_state.PathState.{PathState}
-use Rattle.nfa_match_spans.proofs.SearchLemmas.{GainsPathStates-kept, starts-only, starts-below, starts-all, patterns-more}
-use Rattle.nfa_match_spans.proofs.SearchLemmas.{patterns-same}
+use Rattle.nfa_match_spans.proofs.SearchLemmas.{GainsPathStates-kept, starts-only, starts-below, starts-all, patterns-more, patterns-same}
 use Rattle.nfa_match_spans.proofs.spans.starts.Goals as goal
 use Rattle.nfa_match_spans.proofs.spans.starts.Goals.{in-Some+in_ok-add-2, in_default}
 

@@ -1,14 +1,6 @@
 -- A search that scans again while its answer ends inside a codepoint: what holds at each scan, and the result.
-use Rattle.std.proofs.Common.{◌≡◌, ◌∙◌, ℕ, ◌+◌, ◌≤◌, ap, arith, refl, replicate, subst, sym, true, false, List}
-use Rattle.std.specs.Prelude.{Option, None, Some}
-use Rattle.regex_search_core.specs.Boundary.{IsBoundary}
-use Rattle.regex_search_core.specs.Search.{Search, is_anchored, search_of}
-use Rattle.regex_search_core.specs.declared.search.Anchored.{Anchored}
-use Rattle.regex_search_core.specs.declared.search.HalfMatch.{HalfMatch}
-use Rattle.regex_search_core.specs.declared.search.MatchKind.{MatchKind}
-use Rattle.thompson_nfa.specs.Automaton.{Automaton}
-use Rattle.nfa_paths.specs.Exploring.{Slots}
-use Rattle.nfa_paths.specs.Paths.{is_utf8_empty, raised}
+use Rattle.std.proofs.Common.{◌≡◌, ◌∙◌, ℕ, ◌+◌, ◌≤◌, ap, arith, refl, replicate, subst, sym, true, false, List, Option, None, Some}
+use Rattle.nfa_paths.specs.Common.{IsBoundary, Search, is_anchored, search_of, Anchored, HalfMatch, MatchKind, Automaton, Slots, is_utf8_empty, raised}
 use Rattle.nfa_paths.specs.Restarts.{ScanGives}
 use Rattle.nfa_paths.proofs.RestartLemmas.{restarts-begin, settled-none, settled-some, discarded, restarted, start-left}
 use Rattle.nfa_search_base.proofs.LastStartLemmas.{scan-start, scans-few, turns-few}

@@ -1,6 +1,6 @@
 -- What holds at each scan of a search.
 use Rattle.std.proofs.Common.{◌≡◌, ◌+◌, ◌-◌}
-use Rattle.regex_search_core.specs.Search.{search_of}
+use Rattle.nfa_paths.specs.Common.{search_of}
 use Rattle.nfa_paths.specs.Restarts.{Restarts}
 use Rattle.nfa_pikevm_scan.specs.Scans.{SameSizes}
 use Rattle.nfa_pikevm.proofs.search.search.Given as goal

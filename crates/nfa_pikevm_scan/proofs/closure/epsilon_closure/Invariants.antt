@@ -1,7 +1,6 @@
 -- All that a root leads to without reading a byte is followed from match to match, until the position ends.
 use Rattle.std.proofs.Common.{◌≡◌, ◌≤◌, ◌<◌, ◌+◌, ◌-◌, [], false, length, map, take, All, Some, sum, sum_by}
-use Rattle.regex_search_core.specs.Search.{search_of}
-use Rattle.nfa_paths.specs.Paths.{degree}
+use Rattle.nfa_paths.specs.Common.{search_of, degree}
 use Rattle.nfa_paths.specs.Turns.{marked_sum}
 use Rattle.nfa_pikevm_scan.specs.Needs.{stack_frames}
 use Rattle.nfa_pikevm_scan.specs.States.{moment_of, tries, IsWithin, KeepsRoom}

@@ -1,8 +1,6 @@
 -- All that a state leads to without reading a byte is entered in order, up to the next match.
 use Rattle.std.proofs.Common.{◌≤◌, ◌<◌, ◌+◌, ◌-◌, length, map, take, All, Some, sum, sum_by}
-use Rattle.regex_search_core.specs.Search.{search_of}
-use Rattle.nfa_paths.specs.Paths.{degree, is_match}
-use Rattle.nfa_paths.specs.Kinds.{NoMatch}
+use Rattle.nfa_paths.specs.Common.{search_of, degree, is_match, NoMatch}
 use Rattle.nfa_paths.specs.Turns.{marked_sum}
 use Rattle.nfa_pikevm_scan.specs.Needs.{stack_frames}
 use Rattle.nfa_pikevm_scan.specs.States.{moment_of, tries, IsWithin, KeepsRoom}

@@ -1,8 +1,6 @@
 -- The start state is followed with the slots as its row.
 use Rattle.std.proofs.Common.{◌≡◌, ◌∙◌, [], ◌∷◌, take, refl, sym, ap, subst, rules, false, None, Some, replicate}
-use Rattle.regex_search_core.specs.Search.{search_of}
-use Rattle.regex_search_core.specs.declared.primitives.PatternID.{PatternID}
-use Rattle.nfa_paths.specs.Exploring.{Slots}
+use Rattle.nfa_paths.specs.Common.{search_of, PatternID, Slots}
 use Rattle.nfa_pikevm_scan.specs.States.{between, moment_of, NextsGive}
 use Rattle.nfa_pikevm_scan.proofs.OneLemmas.{none-is, some-is, NextsGive-start}
 use Rattle.nfa_pikevm_scan.proofs.nexts.nexts_of_start.Goals as goal

@@ -1,6 +1,6 @@
 -- The states of a position are followed in order, up to the match that ends it.
 use Rattle.std.proofs.Common.{◌≡◌, ◌*◌, ◌≤◌, [], drop}
-use Rattle.regex_search_core.specs.Search.{search_of}
+use Rattle.nfa_paths.specs.Common.{search_of}
 use Rattle.nfa_pikevm_scan.specs.Rows.{items_of}
 use Rattle.nfa_pikevm_scan.specs.States.{between, moment_of, KeepsRoom}
 use Rattle.nfa_pikevm_scan.proofs.NextsLemmas.{NextsLeadTo}

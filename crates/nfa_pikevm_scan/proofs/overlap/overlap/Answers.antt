@@ -1,7 +1,7 @@
 -- A set with no room gains nothing.
 use Rattle.std.proofs.Common.{◌≡◌, rules}
 use Rattle.regex_search_core.specs.PatternSets.{size_of_set}
-use Rattle.regex_search_core.specs.Search.{search_of}
+use Rattle.nfa_paths.specs.Common.{search_of}
 use Rattle.regex_search_core.specs.declared.search.MatchKind.TheVariants.{LeftmostFirst}
 use Rattle.nfa_pikevm_scan.proofs.OverlapLoopLemmas.{full-result}
 use Rattle.nfa_pikevm_scan.proofs.overlap.overlap.Goals as goal

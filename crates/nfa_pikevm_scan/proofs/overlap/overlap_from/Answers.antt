@@ -1,7 +1,7 @@
 -- The set gains what the matches mean that are met, from position to position.
 use Rattle.std.proofs.Common.{◌≤◌, ◌+◌, ◌∙◌, ℕ, Bool, true, false, inl, inr, sym, arith, length, refl, cond}
 use Rattle.std.proofs.lemmas.Bool.{cases_Bool, le-ltb}
-use Rattle.regex_search_core.specs.Search.{search_of}
+use Rattle.nfa_paths.specs.Common.{search_of}
 use Rattle.nfa_pikevm_scan.proofs.OverlapLoopLemmas.{crosses-joined, set-stays}
 use Rattle.nfa_pikevm_scan.proofs.SoFarLemmas.{SoFar-start, SoFar-over, SoFar-turns, SoFar-next, SoFar-found}
 use Rattle.nfa_pikevm_scan.proofs.RoomLemmas.{KeepsThreads-none, KeepsThreads-then, none_of}

@@ -1,6 +1,6 @@
 -- The set has gained what the positions before this one mean.
 use Rattle.std.proofs.Common.{◌≡◌, ◌≤◌, ◌<◌, ◌+◌, [], length}
-use Rattle.regex_search_core.specs.Search.{search_of}
+use Rattle.nfa_paths.specs.Common.{search_of}
 use Rattle.regex_search_core.specs.PatternSets.{size_of_set}
 use Rattle.nfa_pikevm_scan.specs.Scans.{held, KeepsThreads}
 use Rattle.nfa_pikevm_scan.proofs.SoFarLemmas.{SoFar}

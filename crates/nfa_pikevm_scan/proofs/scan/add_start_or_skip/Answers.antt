@@ -1,6 +1,6 @@
 -- The start joins the states, or starts that are refused are passed over.
 use Rattle.std.proofs.Common.{◌<◌, ◌≤◌, length, get_or, arith, refl, ap, inr}
-use Rattle.regex_search_core.specs.Search.{search_of}
+use Rattle.nfa_paths.specs.Common.{search_of}
 use Rattle.nfa_scan_core.specs.FirstBytes.{IsRefused}
 use Rattle.nfa_scan_core.proofs.FirstLemmas.{byte_at-inside}
 use Rattle.nfa_pikevm_scan.specs.Rows.{Active}

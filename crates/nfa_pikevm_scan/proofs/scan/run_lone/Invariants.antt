@@ -1,6 +1,6 @@
 -- A lone state is followed from position to position.
 use Rattle.std.proofs.Common.{◌-◌, ◌+◌, ◌≤◌, length}
-use Rattle.regex_search_core.specs.Search.{search_of}
+use Rattle.nfa_paths.specs.Common.{search_of}
 use Rattle.nfa_pikevm_scan.specs.Scans.{KeepsThreads, ScansFirst}
 use Rattle.nfa_pikevm_scan.specs.declared.threads.Threads.{Threads}
 use Rattle.nfa_pikevm_scan.proofs.scan.run_lone.Given as goal

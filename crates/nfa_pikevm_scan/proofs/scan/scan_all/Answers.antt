@@ -1,6 +1,6 @@
 -- A scan of all matches answers the last one that is seen.
 use Rattle.std.proofs.Common.{◌∙◌, ◌+◌, ◌≤◌, length, arith, refl, sym, inl}
-use Rattle.regex_search_core.specs.Search.{search_of}
+use Rattle.nfa_paths.specs.Common.{search_of}
 use Rattle.nfa_pikevm_scan.proofs.AllLemmas.{HasLast-cross}
 use Rattle.nfa_pikevm_scan.proofs.EndLemmas.{HasLast-begin, ScansAll-joined, ScansAll-over, last-over, ends-at}
 use Rattle.nfa_pikevm_scan.proofs.StandsLemmas.{MayCross-joins, Stands-next, Stands-ready}

@@ -1,7 +1,6 @@
 -- A scan of all matches answers the last one that is seen.
 use Rattle.std.proofs.Common.{◌≡◌, [], length}
-use Rattle.regex_search_core.specs.Search.{search_of}
-use Rattle.nfa_paths.specs.Paths.{is_match}
+use Rattle.nfa_paths.specs.Common.{search_of, is_match}
 use Rattle.nfa_pikevm_scan.specs.Scans.{held, KeepsThreads}
 use Rattle.nfa_pikevm_scan.proofs.AllLemmas.{HasLast}
 use Rattle.nfa_pikevm_scan.proofs.StandsLemmas.{Stands}

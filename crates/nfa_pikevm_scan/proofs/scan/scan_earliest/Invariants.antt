@@ -1,8 +1,6 @@
 -- A scan that ends at the first match that is seen answers the path with the least end.
 use Rattle.std.proofs.Common.{◌≡◌, [], length}
-use Rattle.regex_search_core.specs.Search.{search_of}
-use Rattle.nfa_paths.specs.Kinds.{NoneBefore}
-use Rattle.nfa_paths.specs.Paths.{is_match, space}
+use Rattle.nfa_paths.specs.Common.{search_of, NoneBefore, is_match, space}
 use Rattle.nfa_pikevm_scan.specs.Scans.{held, KeepsThreads}
 use Rattle.nfa_pikevm_scan.proofs.StandsLemmas.{Stands}
 use Rattle.nfa_pikevm_scan.proofs.scan.scan_earliest.Given as goal

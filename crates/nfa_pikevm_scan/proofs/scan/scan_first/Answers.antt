@@ -1,6 +1,6 @@
 -- A scan that is leftmost first answers the first accepting path.
 use Rattle.std.proofs.Common.{◌≡◌, ◌∙◌, length, arith, refl, sym}
-use Rattle.regex_search_core.specs.Search.{search_of}
+use Rattle.nfa_paths.specs.Common.{search_of}
 use Rattle.nfa_pikevm_scan.proofs.EndLemmas.{first-over}
 use Rattle.nfa_pikevm_scan.proofs.FrontierLemmas.{AreAt-turns}
 use Rattle.nfa_pikevm_scan.proofs.LoneLemmas.{Joined-first, Joined-start, MayCross-joined, ScansFirst-begin, ScansFirst-match, ScansFirst-miss, half-none}

@@ -1,6 +1,6 @@
 -- A scan that is leftmost first answers the first accepting path.
 use Rattle.std.proofs.Common.{◌-◌, ◌+◌, length}
-use Rattle.regex_search_core.specs.Search.{search_of}
+use Rattle.nfa_paths.specs.Common.{search_of}
 use Rattle.nfa_pikevm_scan.specs.Scans.{ScansFirst}
 use Rattle.nfa_pikevm_scan.proofs.scan.scan_first.Given as goal
 

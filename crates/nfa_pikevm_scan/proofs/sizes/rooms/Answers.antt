@@ -2,7 +2,7 @@
 use Rattle.std.proofs.Common.{◌≡◌, ℕ, ◌+◌, ◌^◌, ◌<◌, ◌≤◌, List, length, take, get_or, inl, inr, arith, sum_by}
 use Rattle.std.proofs.lemmas.Bool.{cases_lt}
 use Rattle.std.proofs.lemmas.List.Sums.{sum_by_more_le}
-use Rattle.thompson_nfa.specs.Automaton.{node_of}
+use Rattle.nfa_paths.specs.Common.{node_of}
 use Rattle.thompson_nfa.specs.declared.state.State.{State}
 use Rattle.nfa_pikevm_scan.specs.Needs.{room_of}
 use Rattle.nfa_pikevm_scan.proofs.sizes.rooms.Goals as goal

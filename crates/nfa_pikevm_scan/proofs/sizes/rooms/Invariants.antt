@@ -1,6 +1,6 @@
 -- The room of all states, or none if it exceeds the limit.
 use Rattle.std.proofs.Common.{◌≡◌, take, sum_by}
-use Rattle.thompson_nfa.specs.Automaton.{node_of}
+use Rattle.nfa_paths.specs.Common.{node_of}
 use Rattle.nfa_pikevm_scan.specs.Needs.{room_of}
 use Rattle.nfa_pikevm_scan.proofs.sizes.rooms.Given as goal
 

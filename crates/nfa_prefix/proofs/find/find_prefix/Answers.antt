@@ -1,6 +1,5 @@
 -- The part of the haystack is searched.
-use Rattle.std.proofs.Common.{◌≤◌, length, subst, arith}
-use Rattle.std.specs.Prelude.{Option, None, Some, IfNone, slice_range}
+use Rattle.std.proofs.Common.{◌≤◌, length, subst, arith, Option, None, Some, IfNone, slice_range}
 use Rattle.memchr.specs.Find.{FindsNeedle}
 use Rattle.nfa_prefix.proofs.OccurrenceLemmas.{part-first, part-nowhere}
 use Rattle.nfa_prefix.proofs.find.find_prefix.Goals as goal

@@ -1,6 +1,5 @@
 -- The names so far are those of the groups.
-use Rattle.std.proofs.Common.{◌≡◌, map, take, string_bytes}
-use Rattle.std.specs.Prelude.{option_map}
+use Rattle.std.proofs.Common.{◌≡◌, map, take, string_bytes, option_map}
 use Rattle.nfa_samples.specs.StateTables.{names_in}
 use Rattle.nfa_samples.proofs.state_table.owned_names.Given as goal
 

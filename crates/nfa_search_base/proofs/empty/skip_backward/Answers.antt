@@ -1,9 +1,7 @@
 -- A search of ends is repeated, with its end one byte less each time, until the answer counts.
 use Rattle.std.proofs.Common.{rules, refl, arith}
-use Rattle.regex_search_core.specs.Search.{search_of}
-use Rattle.nfa_search_base.proofs.SkipLemmas.{HasCome-start, HasCome-callable, HasCome-placed, HasCome-next}
-use Rattle.nfa_search_base.proofs.SkipLemmas.{HasCome-last, HasCome-none, HasCome-end}
-use Rattle.nfa_search_base.proofs.SkipLemmas.{lowered-start, lowered-down, lowered-none}
+use Rattle.nfa_paths.specs.Common.{search_of}
+use Rattle.nfa_search_base.proofs.SkipLemmas.{HasCome-start, HasCome-callable, HasCome-placed, HasCome-next, HasCome-last, HasCome-none, HasCome-end, lowered-start, lowered-down, lowered-none}
 use Rattle.nfa_search_base.proofs.empty.skip_backward.Goals as goal
 
 pub loop-input-init : goal.loop-input-init

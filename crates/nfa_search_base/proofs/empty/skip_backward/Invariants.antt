@@ -1,6 +1,6 @@
 -- A search of ends is repeated, with its end one byte less each time, until the answer counts.
 use Rattle.std.proofs.Common.{Some, Ok}
-use Rattle.regex_search_core.specs.Search.{search_of}
+use Rattle.nfa_paths.specs.Common.{search_of}
 use Rattle.nfa_search_base.specs.Skipping.{IsInSpan, lowered}
 use Rattle.nfa_search_base.proofs.SkipLemmas.{HasCome}
 use Rattle.nfa_search_base.proofs.empty.skip_backward.Given as goal

@@ -1,9 +1,7 @@
 -- A search is repeated, from one byte further on each time, until the answer counts.
 use Rattle.std.proofs.Common.{rules, refl}
-use Rattle.regex_search_core.specs.Search.{search_of}
-use Rattle.nfa_search_base.proofs.SkipLemmas.{HasCome-start, HasCome-callable, HasCome-placed, HasCome-next}
-use Rattle.nfa_search_base.proofs.SkipLemmas.{HasCome-last, HasCome-end}
-use Rattle.nfa_search_base.proofs.SkipLemmas.{start_raised-start, start_raised-up}
+use Rattle.nfa_paths.specs.Common.{search_of}
+use Rattle.nfa_search_base.proofs.SkipLemmas.{HasCome-start, HasCome-callable, HasCome-placed, HasCome-next, HasCome-last, HasCome-end, start_raised-start, start_raised-up}
 use Rattle.nfa_search_base.proofs.empty.skip_forward.Goals as goal
 
 pub loop-input-init : goal.loop-input-init

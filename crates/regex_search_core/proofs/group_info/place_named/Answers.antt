@@ -1,6 +1,5 @@
 -- The place is that of the first group of the name.
-use Rattle.std.specs.Prelude.{option_map, string_bytes}
-use Rattle.std.proofs.Common.{rules, tests, ◌∙◌, sym}
+use Rattle.std.proofs.Common.{option_map, string_bytes, rules, tests, ◌∙◌, sym}
 use Rattle.std.proofs.lemmas.Iterator.{YieldsList-from_slice}
 use Rattle.std.proofs.lemmas.Iterator.Search.{position_from_yields_List}
 use Rattle.regex_search_core.specs.Groups.{is_named}

@@ -1,7 +1,6 @@
 -- The buffers hold nothing before and after.
 use Rattle.std.proofs.Common.{◌≡◌, ap, subst}
-use Rattle.std.specs.Io.Buffered.{reader_buffer, reader_capacity, reader_inner, reader_remaining, writer_buffer}
-use Rattle.std.specs.Io.Buffered.{writer_contents, writer_inner}
+use Rattle.std.specs.Io.Buffered.{reader_buffer, reader_capacity, reader_inner, reader_remaining, writer_buffer, writer_contents, writer_inner}
 use Rattle.std.specs.Io.KnownBytes.{Keeps}
 use Rattle.replacer.specs.Printed.{Prints}
 use Rattle.replacer.proofs.FilledLemmas.{all-left, nothing-held, prints-through}

@@ -1,6 +1,5 @@
 -- The captures are those of the first hits, by the laws on iterations.
-use Rattle.std.proofs.Common.{◌∙◌, List, All, ap, arith, map, subst, sym}
-use Rattle.std.specs.Prelude.{None}
+use Rattle.std.proofs.Common.{◌∙◌, List, All, ap, arith, map, subst, sym, None}
 use Rattle.regex_search_core.specs.Search.{Search, search_of, whole}
 use Rattle.regex_search_core.specs.Slots.{Captured}
 use Rattle.nfa_engines.specs.CapturesRuns.{CapturesInside, match_in}

@@ -1,6 +1,5 @@
 -- Bytes of which a part is taken stay required by the patterns before.
-use Rattle.std.proofs.Common.{◌≡◌, All, List, ℕ, subst, sym, take, take_all}
-use Rattle.std.specs.Prelude.{Vec}
+use Rattle.std.proofs.Common.{◌≡◌, All, List, ℕ, subst, sym, take, take_all, Vec}
 use Rattle.std.specs.declared.alloc.Global.{Global}
 use Rattle.std.proofs.lemmas.List.Elements.{All-map, All-more, All-weaker}
 use Rattle.std.proofs.lemmas.Result.{IfOk-weaker}

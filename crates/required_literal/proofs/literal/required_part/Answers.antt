@@ -1,6 +1,5 @@
 -- The part is in all needles, of which each match has one.
-use Rattle.std.proofs.Common.{All, List, ℕ, subst}
-use Rattle.std.specs.Prelude.{IfSome, Option, Vec}
+use Rattle.std.proofs.Common.{All, List, ℕ, subst, IfSome, Option, Vec}
 use Rattle.std.specs.declared.alloc.Global.{Global}
 use Rattle.regex_extract.specs.Needles.{ContainsNeedle, needles_of}
 use Rattle.regex_hir.specs.Meaning.{meaning}

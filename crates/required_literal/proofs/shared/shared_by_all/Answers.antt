@@ -1,6 +1,5 @@
 -- A part of a part is in all needles in which the part is.
-use Rattle.std.proofs.Common.{All, List, ℕ, arith, subst, take, take_all}
-use Rattle.std.specs.Prelude.{Vec}
+use Rattle.std.proofs.Common.{All, List, ℕ, arith, subst, take, take_all, Vec}
 use Rattle.std.specs.declared.alloc.Global.{Global}
 use Rattle.std.proofs.lemmas.List.Elements.{All-more, All-weaker}
 use Rattle.required_literal.specs.Required.{OccursIn}

@@ -1,6 +1,5 @@
 -- The part is in the bytes, and in the needles so far.
-use Rattle.std.proofs.Common.{All, ℕ, take}
-use Rattle.std.specs.Prelude.{Vec}
+use Rattle.std.proofs.Common.{All, ℕ, take, Vec}
 use Rattle.std.specs.declared.alloc.Global.{Global}
 use Rattle.required_literal.specs.Required.{OccursIn}
 use Rattle.required_literal.proofs.shared.shared_by_all.Given as goal

@@ -1,6 +1,5 @@
 -- The search found the part.
-use Rattle.std.proofs.Common.{◌+◌, rules}
-use Rattle.std.specs.Prelude.{slice_range}
+use Rattle.std.proofs.Common.{◌+◌, rules, slice_range}
 use Rattle.required_literal.proofs.PartLemmas.{occurs-found}
 use Rattle.required_literal.proofs.shared.start_of_shared.Goals as goal
 

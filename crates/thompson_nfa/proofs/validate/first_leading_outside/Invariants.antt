@@ -1,6 +1,5 @@
 -- none so far is outside
-use Rattle.std.proofs.Common.{take}
-use Rattle.std.specs.Prelude.{All}
+use Rattle.std.proofs.Common.{take, All}
 use Rattle.thompson_nfa.specs.Automaton.{LeadsBelow, node_of}
 use Rattle.thompson_nfa.proofs.validate.first_leading_outside.Given as goal
 

@@ -1,6 +1,5 @@
 -- The states so far lead to states in range.
-use Rattle.std.proofs.Common.{take, ◌<◌}
-use Rattle.std.specs.Prelude.{All, IfSome}
+use Rattle.std.proofs.Common.{take, ◌<◌, All, IfSome}
 use Rattle.thompson_nfa.proofs.validate.targets_below.Given as goal
 
 abbrev pub invariant-loop-target : goal.invariant-loop-target

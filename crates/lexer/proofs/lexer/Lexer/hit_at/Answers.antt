@@ -1,7 +1,6 @@
 -- The law, of this search.
-use Rattle.std.proofs.Common.{rules, ◌≡◌, ℕ, List, arith, subst, sym}
+use Rattle.std.proofs.Common.{rules, ◌≡◌, ℕ, List, arith, subst, sym, option_map}
 use Rattle.std.proofs.lemmas.Grind.{common_steps}
-use Rattle.std.specs.Prelude.{option_map}
 use Rattle.regex_search_core.specs.Found.{found_of}
 use Rattle.regex_search_core.specs.Search.{Search, search_of}
 use Rattle.nfa_engines.specs.Paths.{IsFindAnswer}

@@ -1,6 +1,5 @@
 -- A token starts here, or the stretch goes on.
-use Rattle.std.proofs.Common.{rules, ◌≡◌, ◌∙◌, ℕ, ◌-◌, List, arith, false, length, subst, sym, true}
-use Rattle.std.specs.Prelude.{is_some}
+use Rattle.std.proofs.Common.{rules, ◌≡◌, ◌∙◌, ℕ, ◌-◌, List, arith, false, length, subst, sym, true, is_some}
 use Rattle.nfa_compiler.specs.Compiled.{AreMeant}
 use Rattle.lexer.specs.Lexed.{token_there}
 use Rattle.lexer.specs.Patterns.{rule_syntax}

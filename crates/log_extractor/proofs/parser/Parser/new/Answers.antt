@@ -1,6 +1,5 @@
 -- The columns are those of the NFA.
-use Rattle.std.proofs.Common.{rules, ◌≡◌, ◌∙◌, ap, true, false, arith, length, map, sym}
-use Rattle.std.specs.Prelude.{None}
+use Rattle.std.proofs.Common.{rules, ◌≡◌, ◌∙◌, ap, true, false, arith, length, map, sym, None}
 use Rattle.std.proofs.lemmas.List.{length-map, length-replicate}
 use Rattle.std.proofs.lemmas.Result.{err_from_is_err_and}
 use Rattle.regex_search_core.specs.Groups.{slot_count}

@@ -1,6 +1,5 @@
 -- The laws, of these captures.
-use Rattle.std.proofs.Common.{rules, ◌≡◌, ◌∙◌, ℕ, List, [], ◌∷◌, ap, arith, map, refl, subst, sym}
-use Rattle.std.specs.Prelude.{Option, None, Some, IsSome}
+use Rattle.std.proofs.Common.{rules, ◌≡◌, ◌∙◌, ℕ, List, [], ◌∷◌, ap, arith, map, refl, subst, sym, Option, None, Some, IsSome}
 use Rattle.regex_search_core.specs.Groups.{groups_at}
 use Rattle.regex_search_core.specs.Search.{Search, whole}
 use Rattle.regex_search_core.specs.Slots.{group_span}

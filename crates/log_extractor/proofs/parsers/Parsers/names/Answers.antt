@@ -1,6 +1,5 @@
 -- The names, with that of the column of labels if there are several patterns.
-use Rattle.std.proofs.Common.{◌∙◌, ◌<◌, ◌≤◌, List, ap, arith, drop, length, map, subst, sym}
-use Rattle.std.specs.Prelude.{string_bytes}
+use Rattle.std.proofs.Common.{◌∙◌, ◌<◌, ◌≤◌, List, ap, arith, drop, length, map, subst, sym, string_bytes}
 use Rattle.log_extractor.specs.Several.{AreLinePatterns, LabelledText}
 use Rattle.log_extractor.proofs.SeveralLemmas.{names-several, names-single}
 use Rattle.log_extractor.proofs.parsers.Parsers.names.Goals as goal

@@ -1,6 +1,5 @@
 -- The names are that of the column of labels, and those of all columns.
-use Rattle.std.proofs.Common.{List, map, subst, sym}
-use Rattle.std.specs.Prelude.{codes}
+use Rattle.std.proofs.Common.{List, map, subst, sym, codes}
 use Rattle.log_extractor.specs.Several.{AreLinePatterns, labelled_text, union_names}
 use Rattle.log_extractor.specs.declared.parsers.LabelledParser.{LabelledParser}
 use Rattle.log_extractor.proofs.SeveralLemmas.{label-first}

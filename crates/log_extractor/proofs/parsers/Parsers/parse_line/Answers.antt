@@ -1,8 +1,7 @@
 -- The row is that of the first pattern that matches, and the parsers are as they were.
-use Rattle.std.proofs.Common.{◌≡◌, ◌∙◌, List, ap, arith, drop, length, map, subst, sym}
+use Rattle.std.proofs.Common.{◌≡◌, ◌∙◌, List, ap, arith, drop, length, map, subst, sym, option_map}
 use Rattle.std.proofs.lemmas.Bool.{le-ltb, lt-ltb}
 use Rattle.std.proofs.lemmas.Result.{IfOk-weaker}
-use Rattle.std.specs.Prelude.{option_map}
 use Rattle.log_extractor.specs.Fields.{fields_now}
 use Rattle.log_extractor.specs.Several.{AreLinePatterns, LabelledText, labelled_text}
 use Rattle.log_extractor.specs.declared.parsers.LabelledParser.{LabelledParser}

@@ -1,6 +1,6 @@
 -- The search is made once, and answers what its captures hold.
 use Rattle.std.proofs.Common.{◌∙◌, arith}
-use Rattle.regex_search_core.specs.Search.{search_of}
+use Rattle.nfa_paths.specs.Common.{search_of}
 use Rattle.nfa_backtrack.proofs.CapturesLemmas.{stored_captures-answer, counts-captures, work-captures}
 use Rattle.nfa_backtrack.proofs.engine.BoundedBacktracker.fill_at.Goals as goal
 

@@ -1,5 +1,5 @@
 -- The search is made once, and counted as what it answers.
-use Rattle.regex_search_core.specs.Search.{search_of}
+use Rattle.nfa_paths.specs.Common.{search_of}
 use Rattle.nfa_backtrack.proofs.FindLemmas.{counts-by, work-by}
 use Rattle.nfa_backtrack.proofs.engine.BoundedBacktracker.find_at.Goals as goal
 

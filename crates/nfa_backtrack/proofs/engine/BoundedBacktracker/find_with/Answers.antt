@@ -1,11 +1,8 @@
 -- The match of a search, its pattern, and its span.
-use Rattle.std.specs.Prelude.{false}
-use Rattle.std.proofs.Common.{◌≡◌, ◌∙◌, ◌*◌, ap, arith, length}
+use Rattle.std.proofs.Common.{false, ◌≡◌, ◌∙◌, ◌*◌, ap, arith, length}
 use Rattle.std.proofs.lemmas.List.{length-take}
-use Rattle.regex_search_core.specs.Patterns.{number_of}
-use Rattle.regex_search_core.specs.Search.{search_of}
+use Rattle.nfa_paths.specs.Common.{number_of, search_of, IsAutomaton}
 use Rattle.regex_search_core.specs.declared.search.MatchKind.TheVariants.{LeftmostFirst}
-use Rattle.thompson_nfa.specs.Automaton.{IsAutomaton}
 use Rattle.nfa_paths.proofs.RestartLemmas.{match-some}
 use Rattle.nfa_search_base.proofs.CallerLemmas.{inside-of, pattern-of}
 use Rattle.nfa_backtrack.specs.Backtrack.{Backtracker}

@@ -1,7 +1,6 @@
 -- The pattern that a search answers is one of the NFA's.
 use Rattle.std.proofs.Common.{ap}
-use Rattle.regex_search_core.specs.Search.{search_of}
-use Rattle.thompson_nfa.specs.Automaton.{IsAutomaton}
+use Rattle.nfa_paths.specs.Common.{search_of, IsAutomaton}
 use Rattle.nfa_backtrack.specs.Backtrack.{Backtracker}
 use Rattle.nfa_backtrack.proofs.EngineLemmas.{pattern-of-search}
 use Rattle.nfa_backtrack.proofs.engine.BoundedBacktracker.search.Goals as goal

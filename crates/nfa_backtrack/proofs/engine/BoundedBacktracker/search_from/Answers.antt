@@ -1,7 +1,6 @@
 -- A search that scans again while its answer ends inside a codepoint: what holds at each scan, and the result.
-use Rattle.std.proofs.Common.{◌∙◌, ◌+◌, ◌≤◌, ap, arith, refl, replicate, sym}
-use Rattle.std.specs.Prelude.{None, false}
-use Rattle.regex_search_core.specs.Search.{Search, search_of}
+use Rattle.std.proofs.Common.{◌∙◌, ◌+◌, ◌≤◌, ap, arith, refl, replicate, sym, None, false}
+use Rattle.nfa_paths.specs.Common.{Search, search_of}
 use Rattle.regex_search_core.specs.declared.search.MatchKind.TheVariants.{LeftmostFirst}
 use Rattle.nfa_paths.proofs.RestartLemmas.{restarts-begin, settled-none, settled-some, discarded, restarted, start-left}
 use Rattle.nfa_search_base.proofs.LastStartLemmas.{scan-start, scans-few, scans-needed, turns-few}

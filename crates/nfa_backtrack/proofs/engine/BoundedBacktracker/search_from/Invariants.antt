@@ -1,6 +1,6 @@
 -- What holds at each scan of a search.
 use Rattle.std.proofs.Common.{◌≡◌, ◌+◌, ◌-◌, length, false}
-use Rattle.regex_search_core.specs.Search.{search_of}
+use Rattle.nfa_paths.specs.Common.{search_of}
 use Rattle.regex_search_core.specs.declared.search.MatchKind.TheVariants.{LeftmostFirst}
 use Rattle.nfa_paths.specs.Restarts.{Restarts}
 use Rattle.nfa_backtrack.proofs.engine.BoundedBacktracker.search_from.Given as goal

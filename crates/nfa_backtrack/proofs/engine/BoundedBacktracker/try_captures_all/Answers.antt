@@ -1,6 +1,6 @@
 -- The steps may be made, and give the captures of the input.
 use Rattle.std.proofs.Common.{◌≡◌, [], ap, false, refl, true}
-use Rattle.regex_search_core.specs.Search.{search_of}
+use Rattle.nfa_paths.specs.Common.{search_of}
 use Rattle.nfa_search_base.specs.WithCache.{with_cache}
 use Rattle.nfa_search_base.proofs.DrainedLemmas.{all-captures, made-holds}
 use Rattle.nfa_search_base.proofs.EngineLemmas.{SearchesAs}

@@ -1,6 +1,6 @@
 -- The iterator gives the captures of its input.
 use Rattle.std.proofs.Common.{refl}
-use Rattle.regex_search_core.specs.Search.{search_of}
+use Rattle.nfa_paths.specs.Common.{search_of}
 use Rattle.nfa_backtrack.proofs.CapturesLemmas.{catches-given, catches-refused, catches-searches}
 use Rattle.nfa_backtrack.proofs.engine.BoundedBacktracker.try_captures_iter_with.Goals as goal
 

@@ -1,7 +1,6 @@
 -- The matches are inside the span. An item that is an error is `HaystackTooLong` or `Memory`.
 use Rattle.std.proofs.Common.{rules, false, map, None, subst, sym}
-use Rattle.regex_search_core.specs.Found.{found_of}
-use Rattle.regex_search_core.specs.Search.{search_of}
+use Rattle.nfa_paths.specs.Common.{found_of, search_of}
 use Rattle.regex_search_core.specs.declared.search.MatchKind.TheVariants.{LeftmostFirst}
 use Rattle.nfa_search_base.specs.Lists.{AreFirstMatches}
 use Rattle.nfa_search_base.proofs.ListLemmas.{matches-disjoint}

@@ -1,5 +1,5 @@
 -- The pattern and the end are those of the answer.
-use Rattle.regex_search_core.specs.Search.{search_of}
+use Rattle.nfa_paths.specs.Common.{search_of}
 use Rattle.nfa_backtrack.proofs.EngineLemmas.{half-inside, half-of-search}
 use Rattle.nfa_backtrack.proofs.engine.BoundedBacktracker.try_find_half.Goals as goal
 

@@ -1,10 +1,8 @@
 -- The iterator gives the items of its input.
 use Rattle.std.proofs.Common.{refl}
-use Rattle.regex_search_core.specs.Search.{search_of}
+use Rattle.nfa_paths.specs.Common.{search_of}
 use Rattle.nfa_backtrack.proofs.FindLemmas.{finds-searches}
-use Rattle.nfa_backtrack.proofs.RunLemmas.{finds-given, runs-match, runs-inside, runs-disjoint, runs-refused}
-use Rattle.nfa_backtrack.proofs.RunLemmas.{gives-first-matches, gives-matches, gives-next-match}
-use Rattle.nfa_backtrack.proofs.RunLemmas.{gives-by-length, ends-by-length}
+use Rattle.nfa_backtrack.proofs.RunLemmas.{finds-given, runs-match, runs-inside, runs-disjoint, runs-refused, gives-first-matches, gives-matches, gives-next-match, gives-by-length, ends-by-length}
 use Rattle.nfa_backtrack.proofs.engine.BoundedBacktracker.try_find_iter.Goals as goal
 
 pub returns : goal.returns

@@ -1,7 +1,6 @@
 -- A search that answers no pattern has no answer.
-use Rattle.std.specs.Prelude.{None, Some, false, true}
-use Rattle.regex_search_core.specs.Patterns.{number_of}
-use Rattle.regex_search_core.specs.Search.{search_of}
+use Rattle.std.proofs.Common.{None, Some, false, true}
+use Rattle.nfa_paths.specs.Common.{number_of, search_of}
 use Rattle.regex_search_core.specs.declared.search.MatchKind.TheVariants.{LeftmostFirst}
 use Rattle.nfa_paths.proofs.PatternLemmas.{found-of}
 use Rattle.nfa_search_base.proofs.FindsLemmas.{found-finds}

@@ -1,10 +1,7 @@
 -- After no match no slot is set. If the slots are inside the span, so are the spans.
-use Rattle.std.proofs.Common.{◌∙◌, ap, arith, length}
+use Rattle.std.proofs.Common.{◌∙◌, ap, arith, length, option_map}
 use Rattle.std.proofs.lemmas.Grind.{common_steps}
-use Rattle.std.specs.Prelude.{option_map}
-use Rattle.regex_search_core.specs.Patterns.{number_of}
-use Rattle.regex_search_core.specs.Search.{search_of}
-use Rattle.regex_search_core.specs.Slots.{Captured}
+use Rattle.nfa_paths.specs.Common.{number_of, search_of, Captured}
 use Rattle.nfa_search_base.proofs.SpanLemmas.{spans-inside}
 use Rattle.nfa_backtrack.proofs.EngineLemmas.{unmatched-slots}
 use Rattle.nfa_backtrack.proofs.engine.BoundedBacktracker.try_search.Goals as goal

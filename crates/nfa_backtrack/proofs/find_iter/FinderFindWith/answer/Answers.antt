@@ -1,8 +1,6 @@
 -- A known match is the answer. Otherwise it is the search's, which gives the match that is known then.
-use Rattle.std.proofs.Common.{rules, ◌≡◌, ◌∙◌, refl, ap, subst, Option, Result}
-use Rattle.std.specs.Prelude.{IfOk, IfSome}
-use Rattle.regex_search_core.specs.Search.{search_of}
-use Rattle.regex_search_core.specs.declared.search.Match.{Match}
+use Rattle.std.proofs.Common.{rules, ◌≡◌, ◌∙◌, refl, ap, subst, Option, Result, IfOk, IfSome}
+use Rattle.nfa_paths.specs.Common.{search_of, Match}
 use Rattle.nfa_search_base.specs.declared.error.SearchError.{SearchError}
 use Rattle.nfa_search_base.specs.EngineSearches.{if_ends_at, last_start}
 use Rattle.nfa_search_base.proofs.EngineLemmas.{known-answer, known-is, known-kept, search-made}

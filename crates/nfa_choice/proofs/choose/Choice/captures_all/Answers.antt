@@ -1,7 +1,7 @@
 -- The steps may be made, give the captures of the input, and keep the engines.
 use Rattle.std.proofs.Common.{[], refl}
 use Rattle.std.proofs.lemmas.Result.{IfErr-weaker}
-use Rattle.regex_search_core.specs.Search.{search_of}
+use Rattle.nfa_paths.specs.Common.{search_of}
 use Rattle.nfa_search_base.specs.WithCache.{with_cache}
 use Rattle.nfa_search_base.proofs.DrainedLemmas.{all-captures, calls-cache, error-captures, made-holds}
 use Rattle.nfa_search_base.proofs.EngineLemmas.{SearchesAs}

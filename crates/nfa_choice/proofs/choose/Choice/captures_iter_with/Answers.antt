@@ -1,6 +1,6 @@
 -- The iterator gives the captures of its input, and keeps the choice.
 use Rattle.std.proofs.Common.{refl}
-use Rattle.regex_search_core.specs.Search.{search_of}
+use Rattle.nfa_paths.specs.Common.{search_of}
 use Rattle.nfa_choice.proofs.CapturesLemmas.{catches-choice, catches-given, catches-memory, catches-searches}
 use Rattle.nfa_choice.proofs.choose.Choice.captures_iter_with.Goals as goal
 

@@ -1,6 +1,6 @@
 -- The iterator gives the matches of its input, and keeps the choice.
 use Rattle.std.proofs.Common.{refl}
-use Rattle.regex_search_core.specs.Search.{search_of}
+use Rattle.nfa_paths.specs.Common.{search_of}
 use Rattle.nfa_choice.proofs.FindLemmas.{finds-given, finds-searches, gives-choice}
 use Rattle.nfa_choice.proofs.choose.Choice.find_iter.Goals as goal
 

@@ -1,6 +1,5 @@
 -- the transitions so far are moved, and lead to states that are
-use Rattle.std.proofs.Common.{◌≡◌, ◌<◌, map, take}
-use Rattle.std.specs.Prelude.{All}
+use Rattle.std.proofs.Common.{◌≡◌, ◌<◌, map, take, All}
 use Rattle.nfa_compiler.specs.Blocks.{moved}
 use Rattle.nfa_compiler.proofs.block.Site.transitions.Given as goal
 

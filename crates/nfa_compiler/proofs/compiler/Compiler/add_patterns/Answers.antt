@@ -1,7 +1,7 @@
 -- one more pattern is there
 use Rattle.std.proofs.Common.{◌+◌, ◌∙◌, ap, arith, length, map, rules, subst, sym, vec_len}
 use Rattle.std.proofs.lemmas.List.{length_push}
-use Rattle.thompson_nfa.specs.Automaton.{node_of}
+use Rattle.nfa_paths.specs.Common.{node_of}
 use Rattle.nfa_compiler.specs.Compiled.{res_of}
 use Rattle.nfa_compiler.specs.Rejected.{NamesPattern}
 use Rattle.nfa_compiler.specs.Added.{AreInRange}

@@ -1,8 +1,7 @@
 -- the patterns so far are at their starts
-use Rattle.std.proofs.Common.{◌≡◌, ℕ, ◌<◌, map, length, vec_len}
-use Rattle.std.specs.Prelude.{All, slice_index_or}
+use Rattle.std.proofs.Common.{◌≡◌, ℕ, ◌<◌, map, length, vec_len, All, slice_index_or}
 use Rattle.regex_hir.specs.Re.{empty}
-use Rattle.thompson_nfa.specs.Automaton.{node_of}
+use Rattle.nfa_paths.specs.Common.{node_of}
 use Rattle.nfa_compiler.specs.Added.{AreInRange}
 use Rattle.nfa_compiler.specs.Rejected.{FitsIn}
 use Rattle.nfa_compiler.specs.Compiled.{ArePatterns, first_slot, groups_of, res_of}

@@ -1,6 +1,5 @@
 -- the list of the one pattern
-use Rattle.std.proofs.Common.{List, subst}
-use Rattle.std.specs.Prelude.{All, IfOk, ◌≡◌, ◌==◌, ◌||◌}
+use Rattle.std.proofs.Common.{List, subst, All, IfOk, ◌≡◌, ◌==◌, ◌||◌}
 use Rattle.regex_syntax.specs.declared.Parsed.{Parsed}
 use Rattle.nfa_compiler.specs.Compiled.{res_of}
 use Rattle.nfa_compiler.specs.Loops.{all_begin_at_start}

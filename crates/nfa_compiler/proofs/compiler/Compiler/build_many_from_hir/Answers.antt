@@ -1,8 +1,7 @@
 -- what was made of the patterns is the NFA
-use Rattle.std.proofs.Common.{◌≡◌, ◌∙◌, ◌<◌, ℕ, Bool, true, false, inl, inr, ap, arith, eq-eqb, ne_eqb, refl, subst, sym}
-use Rattle.std.specs.Prelude.{All, ◌==◌, ◌||◌}
+use Rattle.std.proofs.Common.{◌≡◌, ◌∙◌, ◌<◌, ℕ, Bool, true, false, inl, inr, ap, arith, eq-eqb, ne_eqb, refl, subst, sym, All, ◌==◌, ◌||◌}
 use Rattle.std.proofs.lemmas.Bool.{and_right, cases_Bool}
-use Rattle.thompson_nfa.specs.Automaton.{Automaton}
+use Rattle.nfa_paths.specs.Common.{Automaton}
 use Rattle.nfa_compiler.specs.Compiled.{res_of}
 use Rattle.nfa_compiler.specs.Loops.{all_begin_at_start}
 use Rattle.nfa_compiler.proofs.AddLemmas.{nodes-length}

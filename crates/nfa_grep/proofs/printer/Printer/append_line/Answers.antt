@@ -1,6 +1,5 @@
 -- What is printed of a line with `only` are its matches.
-use Rattle.std.proofs.Common.{◌≡◌, ◌∙◌, ℕ, ◌++◌, Bool, List, [], ap, append-nil, false, inl, inr, refl, subst, sym, true}
-use Rattle.std.specs.Prelude.{◌⊎◌, if◌then◌else◌, not}
+use Rattle.std.proofs.Common.{◌≡◌, ◌∙◌, ℕ, ◌++◌, Bool, List, [], ap, append-nil, false, inl, inr, refl, subst, sym, true, ◌⊎◌, if◌then◌else◌, not}
 use Rattle.std.proofs.lemmas.Bool.{not-true}
 use Rattle.std.proofs.lemmas.Result.{on_ok_weaker}
 use Rattle.regex_hir.specs.Re.{Re}
@@ -9,9 +8,7 @@ use Rattle.nfa_grep.specs.Printed.{is_selected, shown, shown_if_selected}
 use Rattle.nfa_grep.specs.declared.options.Options.{Options}
 use Rattle.nfa_grep.proofs.PrintedLemmas.{shown-matches, shown-whole}
 use Rattle.nfa_grep.proofs.printer.Printer.append_line.Goals as goal
-use Rattle.nfa_grep.proofs.printer.Printer.append_line.Goals.{else-options-via-else-options, else-selected-via-else-selected}
-use Rattle.nfa_grep.proofs.printer.Printer.append_line.Goals.{else-options-via-then-options+else-not-options}
-use Rattle.nfa_grep.proofs.printer.Printer.append_line.Goals.{else-selected-via-then-selected+else-not-options-2}
+use Rattle.nfa_grep.proofs.printer.Printer.append_line.Goals.{else-options-via-else-options, else-selected-via-else-selected, else-options-via-then-options+else-not-options, else-selected-via-then-selected+else-not-options-2}
 
 abbrev nothing : List ℕ
 nothing = []

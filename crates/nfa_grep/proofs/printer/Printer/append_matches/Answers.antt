@@ -1,10 +1,7 @@
 -- The line is selected exactly if there are matches.
-use Rattle.std.proofs.Common.{rules, ◌≡◌, ◌∙◌, ℕ, ◌<◌, ◌++◌, List, ap, arith, eq-eqb, false, inl, inr, length, map, subst}
-use Rattle.std.proofs.Common.{sym, true, vec_len}
-use Rattle.std.specs.Prelude.{nat_lt, ◌==◌}
+use Rattle.std.proofs.Common.{rules, ◌≡◌, ◌∙◌, ℕ, ◌<◌, ◌++◌, List, ap, arith, eq-eqb, false, inl, inr, length, map, subst, sym, true, vec_len, nat_lt, ◌==◌}
 use Rattle.std.proofs.lemmas.Bool.{cases_lt, lt-ltb}
-use Rattle.regex_search_core.specs.Found.{found_of}
-use Rattle.regex_search_core.specs.declared.search.Match.{Match}
+use Rattle.nfa_paths.specs.Common.{found_of, Match}
 use Rattle.nfa_grep.specs.Meant.{Grepping, Mean, all_found, spans_of}
 use Rattle.nfa_grep.specs.Printed.{mark_of, pieces, text_of}
 use Rattle.nfa_grep.specs.declared.options.Options.{Options}

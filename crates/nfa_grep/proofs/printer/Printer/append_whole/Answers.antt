@@ -1,6 +1,5 @@
 -- The line is printed after its head, without colours.
-use Rattle.std.proofs.Common.{◌≡◌, ◌∙◌, ℕ, ◌++◌, Bool, List, ap, append_assoc, false, sym}
-use Rattle.std.specs.Prelude.{if◌then◌else◌}
+use Rattle.std.proofs.Common.{◌≡◌, ◌∙◌, ℕ, ◌++◌, Bool, List, ap, append_assoc, false, sym, if◌then◌else◌}
 use Rattle.std.proofs.lemmas.Result.{on_ok_weaker}
 use Rattle.regex_hir.specs.Re.{Re}
 use Rattle.text_lines.specs.Lines.{with_end}

@@ -1,7 +1,6 @@
 -- The law, of these matches.
 use Rattle.std.proofs.Common.{◌∙◌, ap, arith, map, refl, subst, sym}
-use Rattle.regex_search_core.specs.Found.{found_of}
-use Rattle.regex_search_core.specs.Search.{Search, whole}
+use Rattle.nfa_paths.specs.Common.{found_of, Search, whole}
 use Rattle.nfa_compiler.proofs.CallLemmas.{bytes-of}
 use Rattle.nfa_grep.specs.Meant.{Grepping, Mean, spans_of}
 use Rattle.nfa_grep.proofs.JoinedLemmas.{spans-of-all}

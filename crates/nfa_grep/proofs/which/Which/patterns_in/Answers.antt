@@ -1,7 +1,7 @@
 -- The law, of this set.
 use Rattle.std.proofs.Common.{◌≡◌, ◌∙◌, ap, arith, false, length, refl, subst, sym}
 use Rattle.std.proofs.lemmas.List.{length-replicate}
-use Rattle.regex_search_core.specs.Search.{Search, search_of, whole}
+use Rattle.nfa_paths.specs.Common.{Search, search_of, whole}
 use Rattle.nfa_engines.specs.Automaton.{Automaton}
 use Rattle.nfa_compiler.specs.Compiled.{IsNfaOf}
 use Rattle.nfa_compiler.proofs.CallLemmas.{bytes-of}

@@ -1,6 +1,6 @@
 -- The iterator gives the half matches of its input, and keeps the hybrid.
 use Rattle.std.proofs.Common.{refl}
-use Rattle.regex_search_core.specs.Search.{search_of}
+use Rattle.nfa_paths.specs.Common.{search_of}
 use Rattle.nfa_hybrid.proofs.HalvesLemmas.{gives-hybrid, halves-searches, hybrid-given}
 use Rattle.nfa_hybrid.proofs.hybrid.Hybrid.half_matches.Goals as goal
 

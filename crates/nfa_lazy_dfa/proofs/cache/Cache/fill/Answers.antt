@@ -1,6 +1,5 @@
 -- The row that was followed is still there, or all rows are new.
-use Rattle.std.proofs.Common.{List, ap, ◌∙◌}
-use Rattle.std.specs.Prelude.{slice_get}
+use Rattle.std.proofs.Common.{List, ap, ◌∙◌, slice_get}
 use Rattle.nfa_lazy_dfa.specs.Rows.{LeadsTo, stances_of}
 use Rattle.nfa_lazy_dfa.specs.Stances.{stance_of}
 use Rattle.nfa_lazy_dfa.proofs.CutLemmas.{leads-same}

@@ -1,6 +1,5 @@
 -- A cell that is known leads on; any other one is filled.
-use Rattle.std.proofs.Common.{◌<◌, ◌*◌, ◌+◌, refl, sym, subst, arith}
-use Rattle.std.specs.Prelude.{vec_len}
+use Rattle.std.proofs.Common.{◌<◌, ◌*◌, ◌+◌, refl, sym, subst, arith, vec_len}
 use Rattle.nfa_lazy_dfa.specs.Rows.{LeadsTo}
 use Rattle.nfa_lazy_dfa.proofs.CacheLemmas.{IsFor-same, cell-read, cells-within, known-leads}
 use Rattle.nfa_lazy_dfa.proofs.cache.Cache.next.Goals as goal

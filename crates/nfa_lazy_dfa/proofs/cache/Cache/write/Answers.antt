@@ -1,6 +1,5 @@
 -- The cell of the byte leads to the row that the byte leads to.
-use Rattle.std.proofs.Common.{◌≡◌, ◌<◌, ℕ, set, ap, sym, ◌∙◌, subst, arith}
-use Rattle.std.specs.Prelude.{is_some, slice_get}
+use Rattle.std.proofs.Common.{◌≡◌, ◌<◌, ℕ, set, ap, sym, ◌∙◌, subst, arith, is_some, slice_get}
 use Rattle.nfa_lazy_dfa.specs.Rows.{AreRows, IsFor, Leads, stances_of}
 use Rattle.nfa_lazy_dfa.specs.Stances.{Stance, stance_of}
 use Rattle.nfa_lazy_dfa.proofs.RowLemmas.{AreRows-write, some-same}

@@ -1,9 +1,7 @@
 -- The window starts where the search does, or at an idle position.
-use Rattle.std.proofs.Common.{rules}
-use Rattle.std.specs.Prelude.{IfOk, option_map}
+use Rattle.std.proofs.Common.{rules, IfOk, option_map}
 use Rattle.std.proofs.lemmas.Result.{IfErr-weaker, on_ok_weaker}
-use Rattle.regex_search_core.specs.Search.{search_of}
-use Rattle.nfa_paths.specs.Paths.{IsHalfAnswer}
+use Rattle.nfa_paths.specs.Common.{search_of, IsHalfAnswer}
 use Rattle.nfa_lazy_dfa.specs.Capacities.{HasNoRoom, IsUsedUpAt}
 use Rattle.nfa_lazy_dfa.specs.Rows.{IsFor}
 use Rattle.nfa_lazy_dfa.specs.Windows.{half_in}

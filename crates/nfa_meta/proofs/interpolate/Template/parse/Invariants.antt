@@ -1,6 +1,6 @@
 -- The text so far says the parts so far.
 use Rattle.std.proofs.Common.{◌≤◌, ◌-◌, length}
-use Rattle.regex_search_core.specs.Patterns.{number_of}
+use Rattle.nfa_paths.specs.Common.{number_of}
 use Rattle.nfa_meta.specs.TemplateTexts.{AreParts}
 use Rattle.nfa_meta.proofs.interpolate.Template.parse.Given as goal
 

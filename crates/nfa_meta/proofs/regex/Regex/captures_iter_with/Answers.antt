@@ -1,6 +1,6 @@
 -- The iterator gives the captures of its input, and keeps the engine.
 use Rattle.std.proofs.Common.{refl}
-use Rattle.regex_search_core.specs.Search.{search_of}
+use Rattle.nfa_paths.specs.Common.{search_of}
 use Rattle.nfa_meta.proofs.CapturesLemmas.{catches-kept, catches-given, catches-memory, catches-searches}
 use Rattle.nfa_meta.proofs.regex.Regex.captures_iter_with.Goals as goal
 

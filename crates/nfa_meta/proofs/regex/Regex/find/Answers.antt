@@ -1,9 +1,7 @@
 -- A match that the lazy DFA finds is inside the span, and names a pattern.
 use Rattle.std.proofs.Common.{rules, Some, arith}
 use Rattle.std.proofs.lemmas.Grind.{common_steps}
-use Rattle.regex_search_core.specs.Found.{found_of}
-use Rattle.regex_search_core.specs.Search.{search_of}
-use Rattle.nfa_paths.specs.Paths.{IsFindAnswer}
+use Rattle.nfa_paths.specs.Common.{found_of, search_of, IsFindAnswer}
 use Rattle.nfa_search_base.proofs.CallerLemmas.{inside-of}
 use Rattle.nfa_choice.specs.ChoiceState.{kind_in}
 use Rattle.nfa_meta.proofs.regex.Regex.find.Goals as goal

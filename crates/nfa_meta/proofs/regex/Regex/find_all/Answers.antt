@@ -1,6 +1,6 @@
 -- It allocates only if there was a match.
 use Rattle.std.proofs.Common.{subst, sym}
-use Rattle.regex_search_core.specs.Search.{search_of}
+use Rattle.nfa_paths.specs.Common.{search_of}
 use Rattle.nfa_search_base.specs.MatchRuns.{MatchesNext}
 use Rattle.nfa_search_base.proofs.ListLemmas.{none-before}
 use Rattle.nfa_choice.specs.ChoiceState.{kind_in}

@@ -1,11 +1,7 @@
 -- The match starts with the span, and ends as the half match.
-use Rattle.std.proofs.Common.{rules, ◌≡◌, ◌≤◌, Some, arith, true}
+use Rattle.std.proofs.Common.{rules, ◌≡◌, ◌≤◌, Some, arith, true, None}
 use Rattle.std.proofs.lemmas.Grind.{common_steps}
-use Rattle.std.specs.Prelude.{None}
-use Rattle.regex_search_core.specs.Found.{half_found_of}
-use Rattle.regex_search_core.specs.Search.{is_anchored, search_of}
-use Rattle.thompson_nfa.specs.Automaton.{IsAutomaton}
-use Rattle.nfa_paths.specs.Paths.{IsHalfAnswer}
+use Rattle.nfa_paths.specs.Common.{half_found_of, is_anchored, search_of, IsAutomaton, IsHalfAnswer}
 use Rattle.nfa_choice.specs.ChoiceState.{kind_in}
 use Rattle.nfa_match_spans.specs.StatePaths.{RecordsMatchSpans}
 use Rattle.nfa_meta.proofs.AnchoredLemmas.{half-after, match-of-half, nothing-of, patterns-of}

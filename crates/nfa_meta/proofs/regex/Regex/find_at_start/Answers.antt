@@ -1,11 +1,8 @@
 -- The match of the anchored search at a start before which nothing matches is that of the search.
-use Rattle.std.proofs.Common.{rules, ◌≡◌, arith, option_map}
+use Rattle.std.proofs.Common.{rules, ◌≡◌, arith, option_map, IfNone, IfSome}
 use Rattle.std.proofs.lemmas.Grind.{common_steps}
-use Rattle.std.specs.Prelude.{IfNone, IfSome}
-use Rattle.regex_search_core.specs.Found.{found_of}
-use Rattle.regex_search_core.specs.Search.{search_of}
+use Rattle.nfa_paths.specs.Common.{found_of, search_of, IsFindAnswer}
 use Rattle.regex_search_core.specs.declared.search.MatchKind.TheVariants.{LeftmostFirst}
-use Rattle.nfa_paths.specs.Paths.{IsFindAnswer}
 use Rattle.nfa_choice.specs.ChoiceState.{kind_in}
 use Rattle.nfa_engines.specs.Accepting.{MatchesNothing}
 use Rattle.nfa_engines.specs.StartLaws.{anchored_at}

@@ -1,11 +1,7 @@
 -- The half match is in the span, and its pattern is one of the NFA's.
-use Rattle.std.proofs.Common.{arith, rules}
+use Rattle.std.proofs.Common.{arith, rules, option_map}
 use Rattle.std.proofs.lemmas.Grind.{common_steps}
-use Rattle.std.specs.Prelude.{option_map}
-use Rattle.regex_search_core.specs.Found.{half_found_of}
-use Rattle.regex_search_core.specs.Search.{search_of}
-use Rattle.thompson_nfa.specs.Automaton.{IsAutomaton}
-use Rattle.nfa_paths.specs.Paths.{IsHalfAnswer}
+use Rattle.nfa_paths.specs.Common.{half_found_of, search_of, IsAutomaton, IsHalfAnswer}
 use Rattle.nfa_search_base.proofs.CallerLemmas.{half-lies}
 use Rattle.nfa_choice.specs.ChoiceState.{kind_in}
 use Rattle.nfa_hybrid.proofs.AnswerLemmas.{half-pattern-within}

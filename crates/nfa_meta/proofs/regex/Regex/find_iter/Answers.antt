@@ -1,6 +1,6 @@
 -- The iterator gives the matches of its input, and keeps the engine.
 use Rattle.std.proofs.Common.{refl}
-use Rattle.regex_search_core.specs.Search.{search_of}
+use Rattle.nfa_paths.specs.Common.{search_of}
 use Rattle.nfa_meta.proofs.MatchesLemmas.{finds-given, finds-searches, gives-regex}
 use Rattle.nfa_meta.proofs.regex.Regex.find_iter.Goals as goal
 

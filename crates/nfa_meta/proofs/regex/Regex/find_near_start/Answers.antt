@@ -1,7 +1,7 @@
 -- Nothing matches before the start of a window.
 use Rattle.std.proofs.Common.{rules, ℕ, ◌≤◌, ◌+◌, arith, refl, subst, sym}
 use Rattle.std.proofs.lemmas.Grind.{common_steps}
-use Rattle.regex_search_core.specs.Search.{search_of}
+use Rattle.nfa_paths.specs.Common.{search_of}
 use Rattle.nfa_engines.specs.StartLaws.{IsFirstStart}
 use Rattle.nfa_meta.proofs.regex.Regex.find_near_start.Goals as goal
 

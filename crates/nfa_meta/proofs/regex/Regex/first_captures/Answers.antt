@@ -1,9 +1,7 @@
 -- The first captures are a part of all.
-use Rattle.std.proofs.Common.{List, All, map, subst, sym}
-use Rattle.std.specs.Prelude.{None}
+use Rattle.std.proofs.Common.{List, All, map, subst, sym, None}
 use Rattle.std.proofs.lemmas.List.Elements.{All-take}
-use Rattle.regex_search_core.specs.Search.{search_of}
-use Rattle.regex_search_core.specs.Slots.{Captured}
+use Rattle.nfa_paths.specs.Common.{search_of, Captured}
 use Rattle.nfa_search_base.specs.CapturesRuns.{CapturesInside, match_in}
 use Rattle.nfa_search_base.specs.Lists.{AreDisjoint}
 use Rattle.nfa_meta.proofs.CaughtLemmas.{first-apart}

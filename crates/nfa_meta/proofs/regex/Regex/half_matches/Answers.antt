@@ -1,6 +1,6 @@
 -- The iterator gives the half matches of its input, and keeps the engine.
 use Rattle.std.proofs.Common.{refl}
-use Rattle.regex_search_core.specs.Search.{search_of}
+use Rattle.nfa_paths.specs.Common.{search_of}
 use Rattle.nfa_meta.proofs.HalvesLemmas.{gives-regex, halves-searches, halves-of}
 use Rattle.nfa_meta.proofs.regex.Regex.half_matches.Goals as goal
 

@@ -1,8 +1,7 @@
 -- Whether there is a match is what the function says.
 use Rattle.std.proofs.Common.{arith, false, rules}
 use Rattle.std.proofs.lemmas.Grind.{common_steps}
-use Rattle.regex_search_core.specs.Search.{search_of}
-use Rattle.nfa_paths.specs.Paths.{IsBoolAnswer}
+use Rattle.nfa_paths.specs.Common.{search_of, IsBoolAnswer}
 use Rattle.nfa_search_base.proofs.FindsLemmas.{found-finds}
 use Rattle.nfa_choice.specs.ChoiceState.{kind_in}
 use Rattle.nfa_meta.proofs.regex.Regex.is_match.Goals as goal

@@ -2,9 +2,7 @@
 use Rattle.std.proofs.Common.{rules, ◌≡◌, Some, arith}
 use Rattle.std.proofs.lemmas.Grind.{common_steps}
 use Rattle.std.proofs.lemmas.Result.{IfOk-weaker}
-use Rattle.regex_search_core.specs.Found.{found_of}
-use Rattle.regex_search_core.specs.Groups.{slot_count}
-use Rattle.regex_search_core.specs.Search.{search_of}
+use Rattle.nfa_paths.specs.Common.{found_of, slot_count, search_of}
 use Rattle.nfa_search_base.proofs.CallerLemmas.{inside-of}
 use Rattle.nfa_choice.specs.ChoiceState.{kind_in}
 use Rattle.nfa_meta.proofs.MatchSlotLemmas.{plain-answer}

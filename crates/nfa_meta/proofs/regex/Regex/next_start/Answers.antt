@@ -1,6 +1,6 @@
 -- A position with a byte that no match begins with is skipped.
 use Rattle.std.proofs.Common.{◌<◌, ◌≤◌, length, get_or, arith}
-use Rattle.regex_search_core.specs.Search.{search_of}
+use Rattle.nfa_paths.specs.Common.{search_of}
 use Rattle.nfa_meta.proofs.AnchoredLemmas.{read-inside}
 use Rattle.nfa_meta.proofs.regex.Regex.next_start.Goals as goal
 

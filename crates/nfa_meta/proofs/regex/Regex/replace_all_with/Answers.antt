@@ -1,7 +1,7 @@
 -- The calls append what h gives for the captures of each match.
 use Rattle.std.proofs.Common.{[], All, subst}
 use Rattle.std.proofs.lemmas.List.Elements.{recursion_from_All}
-use Rattle.regex_search_core.specs.Search.{Search, search_of, whole}
+use Rattle.nfa_paths.specs.Common.{Search, search_of, whole}
 use Rattle.nfa_search_base.specs.CapturesRuns.{CapturesInside}
 use Rattle.nfa_meta.proofs.CaughtLemmas.{all-caught}
 use Rattle.nfa_meta.proofs.RewriteLemmas.{rewritten-by}

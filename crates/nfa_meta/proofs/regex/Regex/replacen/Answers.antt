@@ -1,9 +1,7 @@
 -- The matches that were replaced are the first ones of the text.
 use Rattle.std.proofs.Common.{◌∙◌, List, ap, arith, map}
 use Rattle.std.proofs.lemmas.List.{length-map}
-use Rattle.regex_search_core.specs.Found.{found_of}
-use Rattle.regex_search_core.specs.Search.{search_of}
-use Rattle.regex_search_core.specs.declared.search.Match.{Match}
+use Rattle.nfa_paths.specs.Common.{found_of, search_of, Match}
 use Rattle.nfa_meta.specs.Replaced.{replaced}
 use Rattle.nfa_meta.proofs.GapLemmas.{as-many, first-of}
 use Rattle.nfa_meta.proofs.regex.Regex.replacen.Goals as goal

@@ -1,8 +1,7 @@
 -- The calls append what h gives for the captures of the first matches.
 use Rattle.std.proofs.Common.{◌∙◌, [], All, List, ap, subst}
 use Rattle.std.proofs.lemmas.List.Elements.{recursion_from_All}
-use Rattle.regex_search_core.specs.Search.{Search, search_of, whole}
-use Rattle.regex_search_core.specs.Slots.{Captured}
+use Rattle.nfa_paths.specs.Common.{Search, search_of, whole, Captured}
 use Rattle.nfa_search_base.specs.CapturesRuns.{CapturesInside}
 use Rattle.nfa_meta.specs.Rewritten.{rewritten}
 use Rattle.nfa_meta.proofs.CaughtLemmas.{all-caught}

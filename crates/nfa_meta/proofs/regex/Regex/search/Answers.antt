@@ -1,8 +1,6 @@
 -- The groups in the part are those of the search.
 use Rattle.std.proofs.Common.{◌∙◌, Bool, subst}
-use Rattle.regex_search_core.specs.Found.{found_of}
-use Rattle.regex_search_core.specs.Search.{search_of}
-use Rattle.nfa_paths.specs.Paths.{IsAnswer}
+use Rattle.nfa_paths.specs.Common.{found_of, search_of, IsAnswer}
 use Rattle.nfa_choice.specs.ChoiceState.{kind_in}
 use Rattle.nfa_search_base.proofs.SpanLemmas.{spans-inside}
 use Rattle.nfa_meta.proofs.MatchSlotLemmas.{match_slots-inside}

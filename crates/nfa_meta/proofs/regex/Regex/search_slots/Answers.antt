@@ -1,9 +1,6 @@
 -- The slots of the part are those of the search.
-use Rattle.std.proofs.Common.{◌∙◌, Bool, subst}
-use Rattle.std.specs.Prelude.{option_map}
-use Rattle.regex_search_core.specs.Patterns.{number_of}
-use Rattle.regex_search_core.specs.Search.{search_of}
-use Rattle.nfa_paths.specs.Paths.{IsAnswer}
+use Rattle.std.proofs.Common.{◌∙◌, Bool, subst, option_map}
+use Rattle.nfa_paths.specs.Common.{number_of, search_of, IsAnswer}
 use Rattle.nfa_choice.specs.ChoiceState.{kind_in}
 use Rattle.nfa_meta.proofs.WindowLemmas.{part-earliest}
 use Rattle.nfa_meta.proofs.regex.Regex.search_slots.Goals as goal

@@ -1,8 +1,6 @@
 -- The spans are those around the first matches of the text.
 use Rattle.std.proofs.Common.{◌∙◌, List, ap, length, map}
-use Rattle.regex_search_core.specs.Found.{found_of}
-use Rattle.regex_search_core.specs.Search.{search_of}
-use Rattle.regex_search_core.specs.declared.search.Match.{Match}
+use Rattle.nfa_paths.specs.Common.{found_of, search_of, Match}
 use Rattle.nfa_meta.specs.Gaps.{gap_spans}
 use Rattle.nfa_meta.proofs.GapLemmas.{first-of, one-fewer}
 use Rattle.nfa_meta.proofs.regex.Regex.splitn_all.Goals as goal

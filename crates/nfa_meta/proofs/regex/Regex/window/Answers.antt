@@ -1,5 +1,5 @@
 -- The window of what is left of the input is that of the input.
-use Rattle.regex_search_core.specs.Search.{search_of}
+use Rattle.nfa_paths.specs.Common.{search_of}
 use Rattle.nfa_choice.specs.ChoiceState.{kind_in}
 use Rattle.nfa_meta.specs.WindowRuns.{AnswersAs, IsWindowOf}
 use Rattle.nfa_meta.proofs.WindowLemmas.{answers-on, nothing-on, part-on}

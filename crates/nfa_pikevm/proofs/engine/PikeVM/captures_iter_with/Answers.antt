@@ -1,6 +1,6 @@
 -- The iterator gives the captures of its input, and keeps the cache.
 use Rattle.std.proofs.Common.{refl}
-use Rattle.regex_search_core.specs.Search.{search_of}
+use Rattle.nfa_paths.specs.Common.{search_of}
 use Rattle.nfa_pikevm.proofs.CapturesLemmas.{catches-cache, catches-given, catches-memory, catches-searches}
 use Rattle.nfa_pikevm.proofs.engine.PikeVM.captures_iter_with.Goals as goal
 

@@ -1,6 +1,6 @@
 -- It allocates only if there was a match.
 use Rattle.std.proofs.Common.{subst, sym}
-use Rattle.regex_search_core.specs.Search.{search_of}
+use Rattle.nfa_paths.specs.Common.{search_of}
 use Rattle.nfa_search_base.specs.MatchRuns.{MatchesNext}
 use Rattle.nfa_pikevm.specs.Engines.{kind_of}
 use Rattle.nfa_pikevm.specs.FindMatches.{pike_matches_next}

@@ -1,5 +1,5 @@
 -- The pattern and the end are those of the answer.
-use Rattle.regex_search_core.specs.Search.{search_of}
+use Rattle.nfa_paths.specs.Common.{search_of}
 use Rattle.nfa_paths.proofs.RestartLemmas.{half-of, pattern-among}
 use Rattle.nfa_pikevm.specs.Engines.{kind_of}
 use Rattle.nfa_search_base.proofs.CallerLemmas.{half-lies}

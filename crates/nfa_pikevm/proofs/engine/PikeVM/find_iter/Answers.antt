@@ -1,6 +1,6 @@
 -- The iterator gives the matches of its input, and keeps the cache.
 use Rattle.std.proofs.Common.{refl}
-use Rattle.regex_search_core.specs.Search.{search_of}
+use Rattle.nfa_paths.specs.Common.{search_of}
 use Rattle.nfa_pikevm.proofs.FindLemmas.{finds-given, finds-searches, gives-cache}
 use Rattle.nfa_pikevm.proofs.engine.PikeVM.find_iter.Goals as goal
 

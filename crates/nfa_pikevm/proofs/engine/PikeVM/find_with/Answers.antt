@@ -1,9 +1,7 @@
 -- The match is that of the pattern and the slots of the answer.
 use Rattle.std.proofs.Common.{◌≡◌, ◌∙◌, ◌*◌, ap, arith, length}
 use Rattle.std.proofs.lemmas.List.{length-take}
-use Rattle.regex_search_core.specs.Patterns.{number_of}
-use Rattle.regex_search_core.specs.Search.{search_of}
-use Rattle.thompson_nfa.specs.Automaton.{IsAutomaton}
+use Rattle.nfa_paths.specs.Common.{number_of, search_of, IsAutomaton}
 use Rattle.nfa_paths.proofs.RestartLemmas.{match-some}
 use Rattle.nfa_pikevm.specs.Engines.{kind_of}
 use Rattle.nfa_search_base.proofs.CallerLemmas.{pattern-of}

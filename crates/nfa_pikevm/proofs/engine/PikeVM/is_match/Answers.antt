@@ -1,10 +1,6 @@
 -- There is a match exactly if a search with no slots finds a pattern.
-use Rattle.std.proofs.Common.{◌≡◌, ap, refl}
-use Rattle.std.specs.Prelude.{Option, None, Some, false, not, is_some, option_map}
-use Rattle.regex_search_core.specs.Search.{search_of}
-use Rattle.regex_search_core.specs.Patterns.{number_of}
-use Rattle.regex_search_core.specs.declared.primitives.PatternID.{PatternID}
-use Rattle.nfa_paths.specs.Paths.{is_utf8_empty}
+use Rattle.std.proofs.Common.{◌≡◌, ap, refl, Option, None, Some, false, not, is_some, option_map}
+use Rattle.nfa_paths.specs.Common.{search_of, number_of, PatternID, is_utf8_empty}
 use Rattle.nfa_search_base.proofs.FindsLemmas.{found-finds}
 use Rattle.nfa_pikevm.specs.Engines.{kind_of}
 use Rattle.nfa_pikevm.proofs.IsMatchLemmas.{found-free, work-free}

@@ -1,11 +1,7 @@
 -- Pattern and slots are those of the answer, for as many slots as there are.
-use Rattle.std.proofs.Common.{◌≤◌, refl, length, ap, ◌∙◌}
-use Rattle.std.specs.Prelude.{None, Some}
-use Rattle.regex_search_core.specs.Search.{search_of}
-use Rattle.regex_search_core.specs.Groups.{slot_count}
-use Rattle.regex_search_core.specs.Patterns.{number_of}
+use Rattle.std.proofs.Common.{◌≤◌, refl, length, ap, ◌∙◌, None, Some}
+use Rattle.nfa_paths.specs.Common.{search_of, slot_count, number_of, IsAutomaton}
 use Rattle.nfa_paths.proofs.RestartLemmas.{answer-of}
-use Rattle.thompson_nfa.specs.Automaton.{IsAutomaton}
 use Rattle.nfa_pikevm.specs.Engines.{kind_of}
 use Rattle.nfa_search_base.proofs.CallerLemmas.{slots-pattern}
 use Rattle.nfa_pikevm.proofs.EngineLemmas.{row-found}

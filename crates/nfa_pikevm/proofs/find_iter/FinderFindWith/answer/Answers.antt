@@ -1,9 +1,6 @@
 -- A known match is the answer. Otherwise it is the search's, which gives the match that is known then.
 use Rattle.std.proofs.Common.{rules, ◌≡◌, ◌∙◌, ◌-◌, refl, ap, subst, Option, Ok, option_map}
-use Rattle.regex_search_core.specs.Found.{found_of}
-use Rattle.regex_search_core.specs.Search.{Search, search_of}
-use Rattle.regex_search_core.specs.declared.search.Match.{Match}
-use Rattle.nfa_paths.specs.Paths.{IsFindAnswer, raised}
+use Rattle.nfa_paths.specs.Common.{found_of, Search, search_of, Match, IsFindAnswer, raised}
 use Rattle.nfa_search_base.specs.EngineSearches.{if_ends_at, last_start}
 use Rattle.nfa_search_base.proofs.EngineLemmas.{find-answered, found-by, known-answer, known-is, known-kept, search-made}
 use Rattle.nfa_search_base.proofs.LastStartLemmas.{match-from-scan}

@@ -1,6 +1,5 @@
 -- The states so far were reached.
-use Rattle.std.proofs.Common.{ℕ, ◌<◌, ◌≤◌, get_or}
-use Rattle.std.specs.Prelude.{All}
+use Rattle.std.proofs.Common.{ℕ, ◌<◌, ◌≤◌, get_or, All}
 use Rattle.nfa_scan_core.specs.FirstBytes.{WasReached, Extends, AreBelow, AddsOnly, Differ}
 use Rattle.nfa_scan_core.proofs.first_bytes.ReachedStates.add_all.Given as goal
 

@@ -1,6 +1,5 @@
 -- The number of a state that another leads to is in range.
-use Rattle.std.specs.Prelude.{◌<◌, length, map}
-use Rattle.std.proofs.Common.{arith}
+use Rattle.std.proofs.Common.{◌<◌, length, map, arith}
 use Rattle.std.proofs.lemmas.List.{length-map}
 use Rattle.regex_search_core.specs.Groups.{slot_count}
 use Rattle.thompson_nfa.specs.Automaton.{LeadsBelow, SlotBelow, PatternBelow, node_of}

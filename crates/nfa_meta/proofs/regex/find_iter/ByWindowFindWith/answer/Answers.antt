@@ -1,9 +1,6 @@
 -- A known match is the answer. Otherwise it is the search's, which may give the match that is known then.
 use Rattle.std.proofs.Common.{rules, ◌∙◌, Option, option_map, subst, sym}
-use Rattle.regex_search_core.specs.Found.{found_of}
-use Rattle.regex_search_core.specs.Search.{search_of}
-use Rattle.regex_search_core.specs.declared.search.Match.{Match}
-use Rattle.nfa_paths.specs.Paths.{IsFindAnswer}
+use Rattle.nfa_paths.specs.Common.{found_of, search_of, Match, IsFindAnswer}
 use Rattle.nfa_search_base.proofs.EngineLemmas.{find-answered, known-answer, known-kept}
 use Rattle.nfa_search_base.specs.EngineSearches.{IsKnownFrom}
 use Rattle.nfa_pikevm.specs.Engines.{Pike}

@@ -1,5 +1,5 @@
 -- A step may be made, and never errs.
-use Rattle.regex_search_core.specs.Found.{half_found_of}
+use Rattle.nfa_paths.specs.Common.{half_found_of}
 use Rattle.nfa_search_base.specs.Serving.{may_ask}
 use Rattle.nfa_search_base.specs.StepsWith.{steps_with_state}
 use Rattle.nfa_search_base.specs.IterStates.{half_span_of}

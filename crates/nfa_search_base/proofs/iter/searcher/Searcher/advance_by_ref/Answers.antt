@@ -1,7 +1,6 @@
 -- A finder that never errs gives no error to a step.
 use Rattle.std.proofs.Common.{◌≡◌, true, false, subst, IsOk, Option, Result}
-use Rattle.regex_search_core.specs.Found.{found_of}
-use Rattle.regex_search_core.specs.declared.search.Match.{Match}
+use Rattle.nfa_paths.specs.Common.{found_of, Match}
 use Rattle.nfa_search_base.specs.Finders.{answer_by}
 use Rattle.nfa_search_base.specs.declared.error.SearchError.{SearchError}
 use Rattle.nfa_search_base.proofs.StepLemmas.{ServesAdvance-surely, step-surely}

@@ -1,7 +1,6 @@
 -- The items are the list of the finder.
 use Rattle.std.proofs.Common.{refl, arith}
-use Rattle.regex_search_core.specs.Found.{HalfFound, half_found_of}
-use Rattle.regex_search_core.specs.Search.{Search}
+use Rattle.nfa_paths.specs.Common.{HalfFound, half_found_of, Search}
 use Rattle.nfa_search_base.specs.Asking.{IsCallableOn}
 use Rattle.nfa_search_base.specs.Finders.{Finds}
 use Rattle.nfa_search_base.specs.IterStates.{Answer, half_span_of}

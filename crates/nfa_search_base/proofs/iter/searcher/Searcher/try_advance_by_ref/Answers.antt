@@ -1,5 +1,5 @@
 -- A step by the borrowed finder is one by the finder.
-use Rattle.regex_search_core.specs.Found.{found_of}
+use Rattle.nfa_paths.specs.Common.{found_of}
 use Rattle.nfa_search_base.specs.Asking.{IsCallableOn}
 use Rattle.nfa_search_base.specs.Finders.{Finds}
 use Rattle.nfa_search_base.specs.Searchers.{iter_state_of}
