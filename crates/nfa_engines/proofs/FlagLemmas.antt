@@ -2,7 +2,8 @@
 use Rattle.std.proofs.Common.{◌≡◌, ℕ, Bool, true, false, MatchBool, Option, None, Some, Ok, Err, List, [], ◌∷◌, map, length, refl, subst, is_some}
 use Rattle.nfa_paths.specs.Common.{Found, Search, MatchKind, Span, Automaton, IsAnswer, IsBoolAnswer, IsFindAnswer}
 use Rattle.regex_search_core.specs.declared.search.MatchKind.TheVariants.{LeftmostFirst}
-use Rattle.nfa_paths.proofs.EarliestLemmas.{asked, search_answer-asked}
+use Rattle.nfa_paths.proofs.EarliestLemmas.{asked, same-asked}
+use Rattle.nfa_paths.proofs.SameScanLemmas.{answer-same, found-same, match-same}
 use Rattle.nfa_paths.proofs.KnownLemmas.{match-unique}
 use Rattle.nfa_search_base.specs.WithCaptures.{Row, row_span}
 use Rattle.nfa_search_base.specs.CapturesLists.{AreRows, AnswersRow}
@@ -47,47 +48,16 @@ module _ {X : Type 0} (span : X → Span) (tells : Search → Answer X → Type 
   last-flagged w flag (Err e ∷ items) h = (step-flagged w flag (Err e) h.0, h.1)
 
 module _ (nfa : Automaton) (kind : MatchKind) (earliest : Bool) where
-  -- pattern and slots
-  pub answer-asked : (x : Search) (flag : Bool) (pattern : Option ℕ) (slots : List (Option ℕ))
-      → IsAnswer nfa kind earliest (asked x flag) pattern slots → IsAnswer nfa kind earliest x pattern slots
-  answer-asked x flag pattern slots h = record {
-    restarts = h.restarts;
-    path = h.path;
-    answers = search_answer-asked nfa kind earliest x flag h.restarts h.path h.answers;
-    pattern_is = h.pattern_is;
-    slots_are = h.slots_are;
-  }
-
-  -- whether there is a match
-  pub found-asked : (x : Search) (flag found : Bool) → IsBoolAnswer nfa kind earliest (asked x flag) found
-      → IsBoolAnswer nfa kind earliest x found
-  found-asked x flag found h = record {
-    restarts = h.restarts;
-    path = h.path;
-    answers = search_answer-asked nfa kind earliest x flag h.restarts h.path h.answers;
-    found_is = h.found_is;
-  }
-
-  -- the match
-  pub match-asked : (x : Search) (flag : Bool) (found : Option Found)
-      → IsFindAnswer nfa kind earliest (asked x flag) found → IsFindAnswer nfa kind earliest x found
-  match-asked x flag found h = record {
-    restarts = h.restarts;
-    path = h.path;
-    answers = search_answer-asked nfa kind earliest x flag h.restarts h.path h.answers;
-    found_is = h.found_is;
-  }
-
   tells_match-asked : (t : Search) (flag : Bool) (a : Answer Found) → AnswersMatch nfa kind earliest (asked t flag) a
       → AnswersMatch nfa kind earliest t a
-  tells_match-asked t flag (Ok found) h = match-asked t flag found h
+  tells_match-asked t flag (Ok found) h = match-same (same-asked nfa t flag) kind earliest found h
   tells_match-asked t flag (Err e) h = h
 
   tells_row-asked : (t : Search) (flag : Bool) (a : Answer Row) → AnswersRow nfa kind earliest (asked t flag) a
       → AnswersRow nfa kind earliest t a
-  tells_row-asked t flag (Ok None) h = match-asked t flag None h
+  tells_row-asked t flag (Ok None) h = match-same (same-asked nfa t flag) kind earliest None h
   tells_row-asked t flag (Ok (Some row)) h = record {
-    answer = answer-asked t flag row.pattern row.slots h.answer;
+    answer = answer-same (same-asked nfa t flag) kind earliest row.pattern row.slots h.answer;
     count = h.count;
     is_match = h.is_match;
   }
@@ -116,7 +86,7 @@ module _ (nfa : Automaton) (x y : Search) (flag : Bool) (same : y ≡ asked x fl
   found-under kind found pattern slots h k =
       found-pattern nfa x kind false pattern slots found
       (subst (λ (b : Bool). IsAnswer nfa kind b x pattern slots) off k)
-      (found-asked nfa kind false x flag found (subst (λ (z : Search). IsBoolAnswer nfa kind false z found) same h))
+      (found-same (same-asked nfa x flag) kind false found (subst (λ (z : Search). IsBoolAnswer nfa kind false z found) same h))
 
   module _ (other : Automaton) (is_nfa : other ≡ nfa) (kind : MatchKind) (leftmost : kind ≡ LeftmostFirst) where
     pub answers-under : (p q : Option ℕ) (s t : List (Option ℕ)) → IsAnswer nfa kind x.earliest x p s
@@ -125,7 +95,7 @@ module _ (nfa : Automaton) (x y : Search) (flag : Bool) (same : y ≡ asked x fl
         same-slots nfa x LeftmostFirst false p q s t
         (subst (λ (b : Bool). IsAnswer nfa LeftmostFirst b x p s) off
         (subst (λ (n : MatchKind). IsAnswer nfa n x.earliest x p s) leftmost h))
-        (answer-asked nfa LeftmostFirst false x flag q t
+        (answer-same (same-asked nfa x flag) LeftmostFirst false q t
         (subst (λ (z : Search). IsAnswer nfa LeftmostFirst false z q t) same
         (subst (λ (n : Automaton). IsAnswer n LeftmostFirst false y q t) is_nfa k)))
 
@@ -135,6 +105,6 @@ module _ (nfa : Automaton) (x y : Search) (flag : Bool) (same : y ≡ asked x fl
         match-unique nfa LeftmostFirst false x a b
         (subst (λ (e : Bool). IsFindAnswer nfa LeftmostFirst e x a) off
         (subst (λ (n : MatchKind). IsFindAnswer nfa n x.earliest x a) leftmost h))
-        (match-asked nfa LeftmostFirst false x flag b
+        (match-same (same-asked nfa x flag) LeftmostFirst false b
         (subst (λ (z : Search). IsFindAnswer nfa LeftmostFirst false z b) same
         (subst (λ (n : Automaton). IsFindAnswer n LeftmostFirst false y b) is_nfa k)))

@@ -8,7 +8,7 @@ use Rattle.regex_search_core.specs.declared.search.Anchored.TheVariants.{Yes}
 use Rattle.regex_search_core.specs.declared.search.MatchKind.TheVariants.{LeftmostFirst}
 use Rattle.nfa_engines.specs.Accepting.{MatchesNothing}
 use Rattle.nfa_engines.specs.PatternLaws.{started_at, IsFirstPattern, IsOfPattern, IsUnionOfPatterns, TriesPatternsInOrder}
-use Rattle.nfa_engines.proofs.AloneLemmas.{edges-alone, pattern-alone, row-alone}
+use Rattle.nfa_paths.proofs.OneScanLemmas.{has-path, path-has}
 use Rattle.nfa_engines.proofs.FirstPatternLemmas.{comes, earlier, goes, head-of, not-earlier, order-apart, order-back, order-same, top, top-edges, top-writes, GoesOn}
 use Rattle.nfa_paths.proofs.OptionLemmas.{same_some, option_or-None}
 use Rattle.nfa_paths.proofs.PathLemmas.{Earlier-irreflexive}
@@ -17,46 +17,7 @@ heads-same : (s t : Pair) (q r : List Pair) → HeadIs s q → HeadIs t r → r 
 heads-same s t [] r hq hr e = absurd hq
 heads-same s t (a ∷ q) r hq hr e = sym hq ∙ subst (HeadIs t) e hr
 
--- only the anchored start differs
-module _ (nfa : Automaton) (x : Search) (state : ℕ) where
-  alone-match : (m : Pair) → IsMatch (started_at nfa state) m → IsMatch nfa m
-  unfolding node_at
-  alone-match m t = t
-
-  match-alone : (m : Pair) → IsMatch nfa m → IsMatch (started_at nfa state) m
-  unfolding node_at
-  match-alone m t = t
-
-  alone-path : (m : Pair) (q : List Pair)
-      → PathTo (edges (started_at nfa state) x) (starts (started_at nfa state) x) m q
-      → PathTo (edges nfa x) (starts (started_at nfa state) x) m q
-  alone-path m q w = subst (λ es. PathTo es (starts (started_at nfa state) x) m q) (edges-alone nfa state x) w
-
-  path-alone : (m : Pair) (q : List Pair) → PathTo (edges nfa x) (starts (started_at nfa state) x) m q
-      → PathTo (edges (started_at nfa state) x) (starts (started_at nfa state) x) m q
-  path-alone m q w = subst (λ es. PathTo es (starts (started_at nfa state) x) m q) (sym (edges-alone nfa state x)) w
-
-  alone-first : (q : List Pair)
-      → IsFirstTo (edges (started_at nfa state) x) (starts (started_at nfa state) x) (IsMatch (started_at nfa state)) q
-      → IsFirstTo (edges nfa x) (starts (started_at nfa state) x) (IsMatch nfa) q
-  unfolding node_at
-  alone-first q h = h
-
-  first-alone : (q : List Pair) → IsFirstTo (edges nfa x) (starts (started_at nfa state) x) (IsMatch nfa) q
-      → IsFirstTo (edges (started_at nfa state) x) (starts (started_at nfa state) x) (IsMatch (started_at nfa state)) q
-  unfolding node_at
-  first-alone q h = h
-
--- if a match may end anywhere, the first path is the answer
-search-first : (nfa : Automaton) (x : Search) (p : List Pair) → is_utf8_empty nfa ≡ false
-    → IsFirstTo (edges nfa x) (starts nfa x) (IsMatch nfa) p → IsSearchAnswer nfa LeftmostFirst false x 0 (Some p)
-search-first nfa x p anywhere h = rw anywhere (refl, h)
-
-scan-first : (nfa : Automaton) (x : Search) (restarts : ℕ) (r : Option (List Pair)) → is_utf8_empty nfa ≡ false
-    → IsSearchAnswer nfa LeftmostFirst false x restarts r → IsScanAnswer nfa x LeftmostFirst false r
-scan-first nfa x restarts r anywhere h =
-    let scan : (restarts ≡ 0) × IsScanAnswer nfa x LeftmostFirst false r = rw anywhere at h in scan.1
-
+-- Only the anchored start differs between the NFA and the NFA of one pattern, so both have the same edges and matches.
 module _ (nfa : Automaton) (x : Search) (bound : x.anchored ≡ Yes) (h : IsUnionOfPatterns nfa x) where
   -- the pattern and the slots of a path are those of its rest
 
@@ -84,25 +45,23 @@ module _ (nfa : Automaton) (x : Search) (bound : x.anchored ≡ Yes) (h : IsUnio
 
   nothing-each : MatchesNothing nfa x → (k state : ℕ) → slice_get nfa.patterns k ≡ Some state
       → MatchesNothing (started_at nfa state) x
+  unfolding node_at
   nothing-each none k state at = record {
-    no_path = λ m q w t.
-        none.no_path m (top nfa x bound h ∷ q) (comes nfa x bound h k state at m q (alone-path nfa x state m q w))
-        (alone-match nfa x state m t);
+    no_path = λ m q w t. none.no_path m (top nfa x bound h ∷ q) (comes nfa x bound h k state at m q w) t;
   }
 
   nothing-all : ((k state : ℕ) → slice_get nfa.patterns k ≡ Some state → MatchesNothing (started_at nfa state) x)
       → MatchesNothing nfa x
+  unfolding node_at
   nothing-all none = record {
-    no_path = λ m p w t.
-        let g = goes nfa x bound h m p w t in
-        (none g.k g.state g.at).no_path m g.rest (path-alone nfa x g.state m g.rest g.path)
-        (match-alone nfa x g.state m t);
+    no_path = λ m p w t. let g = goes nfa x bound h m p w t in (none g.k g.state g.at).no_path m g.rest g.path t;
   }
 
   -- the first path of the first pattern is the first of all
   first-of : (k state : ℕ) → IsFirstPattern nfa x k state → (q : List Pair)
       → IsFirstTo (edges nfa x) (starts (started_at nfa state) x) (IsMatch nfa) q
       → IsFirstTo (edges nfa x) (starts nfa x) (IsMatch nfa) (top nfa x bound h ∷ q)
+  unfolding node_at
   first-of k state first q f = record {
     end = f.end;
     path = comes nfa x bound h k state first.starts_at f.end q f.path;
@@ -121,8 +80,7 @@ module _ (nfa : Automaton) (x : Search) (bound : x.anchored ≡ Yes) (h : IsUnio
               inr (order-apart nfa x bound h (state, x.start) (g.state, x.start) q g.rest head g.head
               (subst (λ es. Earlier es (state, x.start) (g.state, x.start)) (sym (top-edges nfa x bound h))
               (earlier x.start nfa.patterns k state g.state first.starts_at apart
-              (λ j less at. (first.nothing j g.state less at).no_path m g.rest
-              (path-alone nfa x g.state m g.rest g.path) (match-alone nfa x g.state m t)))))
+              (λ j less at. (first.nothing j g.state less at).no_path m g.rest g.path t))))
         ]);
   }
 
@@ -145,16 +103,16 @@ module _ (nfa : Automaton) (x : Search) (bound : x.anchored ≡ Yes) (h : IsUnio
         g.before j less (at ∙ ap Some (sym (ap (λ (z : Pair). z.0) e)))
 
     first-pattern : IsFirstPattern nfa x g.k g.state
+    unfolding node_at
     first-pattern = record {
       starts_at = g.at;
       nothing = λ j other less at. record {
         no_path = λ m r w t.
-            let plain = alone-path nfa x other m r w in
-            elim (order-of j other at m r plain (alone-match nfa x other m t)) [
+            elim (order-of j other at m r w t) [
               | inl same ↦
                   not-there j other less at
-                  (heads-same (g.state, x.start) (other, x.start) g.rest r g.head
-                  (head-of nfa x bound h other m r plain) same)
+                  (heads-same (g.state, x.start) (other, x.start) g.rest r g.head (head-of nfa x bound h other m r w)
+                  same)
               | inr order ↦ elim order [
                 | inl sooner ↦
                     not-earlier x.start nfa.patterns j g.state other at
@@ -186,52 +144,35 @@ module _ (nfa : Automaton) (x : Search) (bound : x.anchored ≡ Yes) (h : IsUnio
     answer-of : (k state pattern : ℕ) (slots : List (Option ℕ)) → IsFirstPattern nfa x k state
         → IsAnswer (started_at nfa state) LeftmostFirst false x (Some pattern) slots
         → IsAnswer nfa LeftmostFirst false x (Some pattern) slots
+    unfolding node_at slot_row
     answer-of k state pattern slots first a =
-        of a.path (scan-first (started_at nfa state) x a.restarts a.path anywhere a.answers) a.pattern_is a.slots_are
-      where
-        of : (r : Option (List Pair)) → IsScanAnswer (started_at nfa state) x LeftmostFirst false r
-            → Some pattern ≡ option_and_then (path_pattern (started_at nfa state)) r
-            → slots ≡ slot_row (started_at nfa state) (length slots) r
-            → IsAnswer nfa LeftmostFirst false x (Some pattern) slots
-        of None scan is row = cc
-        of (Some q) scan is row =
-            let f = alone-first nfa x state q scan in
-            let head = head-of nfa x bound h state f.end q f.path in
-            record {
-              restarts = 0;
-              path = Some (top nfa x bound h ∷ q);
-              answers = search-first nfa x (top nfa x bound h ∷ q) anywhere (first-of k state first q f);
-              pattern_is =
-                  is ∙ pattern-alone nfa state (Some q) ∙ sym (pattern-rest (state, x.start) q head);
-              slots_are = row ∙ row-alone nfa state (length slots) (Some q) ∙ sym (row-rest (length slots) q);
-            }
+        let q = has-path (started_at nfa state) anywhere LeftmostFirst false x pattern slots a in
+        let head = head-of nfa x bound h state q.scan.end q.path q.scan.path in
+        path-has nfa anywhere LeftmostFirst false x pattern slots (record {
+          path = top nfa x bound h ∷ q.path;
+          scan = first-of k state first q.path q.scan;
+          pattern_is = q.pattern_is ∙ sym (pattern-rest (state, x.start) q.path head);
+          slots_are = q.slots_are ∙ sym (row-rest (length slots) q.path);
+        })
 
     of-pattern : (pattern : ℕ) (slots : List (Option ℕ)) → IsAnswer nfa LeftmostFirst false x (Some pattern) slots
         → IsOfPattern nfa LeftmostFirst false x pattern slots
+    unfolding node_at slot_row
     of-pattern pattern slots a =
-        of a.path (scan-first nfa x a.restarts a.path anywhere a.answers) a.pattern_is a.slots_are
-      where
-        of : (r : Option (List Pair)) → IsScanAnswer nfa x LeftmostFirst false r
-            → Some pattern ≡ option_and_then (path_pattern nfa) r → slots ≡ slot_row nfa (length slots) r
-            → IsOfPattern nfa LeftmostFirst false x pattern slots
-        of None scan is row = cc
-        of (Some p) scan is row =
-            let g = goes nfa x bound h scan.end p scan.path scan.wanted in
-            record {
-              k = g.k;
-              state = g.state;
-              first = first-pattern p scan g;
-              answers = record {
-                restarts = 0;
-                path = Some g.rest;
-                answers = search-first (started_at nfa g.state) x g.rest anywhere
-                    (first-alone nfa x g.state g.rest (first-rest p scan g));
-                pattern_is = is ∙ ap (path_pattern nfa) g.is ∙ pattern-rest (g.state, x.start) g.rest g.head
-                    ∙ sym (pattern-alone nfa g.state (Some g.rest));
-                slots_are = row ∙ ap (λ (z : List Pair). slot_row nfa (length slots) (Some z)) g.is
-                    ∙ row-rest (length slots) g.rest ∙ sym (row-alone nfa g.state (length slots) (Some g.rest));
-              };
-            }
+        let p = has-path nfa anywhere LeftmostFirst false x pattern slots a in
+        let g = goes nfa x bound h p.scan.end p.path p.scan.path p.scan.wanted in
+        record {
+          k = g.k;
+          state = g.state;
+          first = first-pattern p.path p.scan g;
+          answers = path-has (started_at nfa g.state) anywhere LeftmostFirst false x pattern slots (record {
+            path = g.rest;
+            scan = first-rest p.path p.scan g;
+            pattern_is = p.pattern_is ∙ ap (path_pattern nfa) g.is ∙ pattern-rest (g.state, x.start) g.rest g.head;
+            slots_are = p.slots_are ∙ ap (λ (z : List Pair). slot_row nfa (length slots) (Some z)) g.is
+                ∙ row-rest (length slots) g.rest;
+          });
+        }
 
 -- one pattern, whose start is the anchored start
 module _ (nfa : Automaton) (one : nfa.patterns ≡ nfa.anchored ∷ []) where

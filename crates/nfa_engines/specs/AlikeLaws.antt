@@ -1,13 +1,10 @@
 -- Laws of assertions that hold alike in two spans, since they read no more than the byte on each side of a position.
-use Rattle.std.specs.Prelude.{◌≡◌, ℕ, ◌-◌, ◌≤◌, ◌⊎◌, All, List, length, Option, None, Some, if◌then◌else◌, nat_lt, slice_get, ⊤}
+use Rattle.std.specs.Prelude.{◌≡◌, ℕ, ◌≤◌, ◌⊎◌, All, length, Option, None, Some, slice_get, ⊤}
 use Rattle.nfa_paths.specs.Common.{Search, Automaton}
+pub use Rattle.thompson_nfa.specs.Looks.{byte_before}
 use Rattle.thompson_nfa.specs.declared.look.Look as looks
 use Rattle.thompson_nfa.specs.declared.look.Look.TheVariants.{StartLF, EndLF, WordUnicode, WordUnicodeNegate, WordStartUnicode, WordEndUnicode, WordStartHalfUnicode, WordEndHalfUnicode}
 use Rattle.nfa_engines.specs.SpanLaws.{cut_out, AreBytesMoved, HoldAlike, IfLook, IsSpanMoved}
-
--- the byte just before the position, if there is one
-abbrev pub byte_before : List ℕ → ℕ → Option ℕ
-byte_before haystack at = if nat_lt 0 at then slice_get haystack (at - 1) else None
 
 -- the assertion reads no more than the byte on each side of a position: it is not one of a Unicode word
 abbrev pub ReadsBytes : looks.Look → Type 0

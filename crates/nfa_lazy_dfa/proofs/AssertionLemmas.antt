@@ -1,126 +1,18 @@
 -- Assertions hold alike wherever the bytes on both sides of a position are alike. Those of Unicode words do so only
 -- between bytes below 128.
-use Rattle.std.proofs.Common.{◌≡◌, ◌∙◌, ℕ, ◌-◌, ◌==◌, ◌&&◌, ◌||◌, ◌≤◌, ◌<◌, ◌⊎◌, inl, inr, Bool, true, ◌++◌, false, not, List, length, get_or, refl, sym, ap, subst, arith, le-ltb, lt-ltb, lit<, Option, None, Some, is_none, option_to_list, slice_get}
-use Rattle.std.specs.Option.{option_map_or}
-use Rattle.std.proofs.lemmas.Bool.{cases_Bool, cases_lt, eq-eqb, ne_eqb}
+use Rattle.std.proofs.Common.{◌≡◌, ◌∙◌, ℕ, ◌==◌, ◌||◌, ◌≤◌, ◌<◌, ◌⊎◌, inl, inr, true, ◌++◌, false, List, length, refl, sym, ap, subst, arith, lit<, Option, None, Some, option_to_list, slice_get}
+use Rattle.std.proofs.lemmas.Bool.{cases_Bool}
 use Rattle.std.proofs.lemmas.Bool.Decides.{eqb_tells}
-use Rattle.std.proofs.lemmas.Option.{slice_get-get_or, slice_get_past}
+use Rattle.std.proofs.lemmas.Option.{slice_get-get_or}
 use Rattle.nfa_paths.specs.Common.{Automaton, Node, look_holds, node_at}
 use Rattle.thompson_nfa.specs.Automaton.Node.{Look}
-use Rattle.thompson_nfa.specs.Looks.{differ, is_byte_at, is_byte_before, is_word_after, is_word_before, is_word_byte}
+use Rattle.thompson_nfa.specs.Looks.{is_word_byte}
 use Rattle.thompson_nfa.specs.declared.look.Look as looks
 use Rattle.thompson_nfa.specs.declared.look.Look.TheVariants.{Start, End, StartLF, EndLF, StartCRLF, EndCRLF, WordAscii, WordAsciiNegate, WordUnicode, WordUnicodeNegate, WordStartAscii, WordEndAscii, WordStartUnicode, WordEndUnicode, WordStartHalfAscii, WordEndHalfAscii, WordStartHalfUnicode, WordEndHalfUnicode}
 use Rattle.nfa_determinize.specs.Closures.{Holding, holding_at}
 use Rattle.thompson_nfa.proofs.AsciiWordLemmas.{ascii_look, look_holds-ascii}
+use Rattle.thompson_nfa.proofs.BetweenLemmas.{before-some, holds_between, holds-between}
 use Rattle.nfa_lazy_dfa.specs.Assertions.{HasNoLook, IsRead, HasNoUnicodeWord, SameLooks, byte_before, is_look, like, may_follow, reads_bytes, sees}
-
--- there is such a byte, and it is this one
-abbrev is : ℕ → Option ℕ → Bool
-is c byte = option_map_or (λ b. b == c) byte false
-
--- there is such a byte, and it is one of a word
-abbrev is_word : Option ℕ → Bool
-is_word byte = option_map_or is_word_byte byte false
-
--- whether the assertion holds between two bytes
-abbrev holds_between : looks.Look → Option ℕ → Option ℕ → Bool
-holds_between Start before after = is_none before
-holds_between End before after = is_none after
-holds_between StartLF before after = is_none before || is 10 before
-holds_between EndLF before after = is_none after || is 10 after
-holds_between StartCRLF before after = is_none before || is 10 before || (is 13 before && not (is 10 after))
-holds_between EndCRLF before after = is_none after || is 13 after || (is 10 after && not (is 13 before))
-holds_between WordAscii before after = differ (is_word before) (is_word after)
-holds_between WordAsciiNegate before after = not (differ (is_word before) (is_word after))
-holds_between WordStartAscii before after = not (is_word before) && is_word after
-holds_between WordEndAscii before after = is_word before && not (is_word after)
-holds_between WordStartHalfAscii before after = not (is_word before)
-holds_between WordEndHalfAscii before after = not (is_word after)
-holds_between _ before after = false
-
-module _ (h : List ℕ) (at : ℕ) where
-  -- the byte before a position that is not the first
-  before-some : 0 < at → at ≤ length h → byte_before h at ≡ Some (get_or h (at - 1) 0)
-  before-some past within =
-      let inside : at - 1 < length h = omega arith in
-      rw (lt-ltb 0 at past) (slice_get-get_or h (at - 1) 0 inside)
-
-  -- no byte is before the first one
-  before-none : at ≤ 0 → byte_before h at ≡ None
-  before-none none = rw (le-ltb 0 at none) refl
-
-module _ (h : List ℕ) (at : ℕ) (within : at ≤ length h) where
-  start-between : (at == 0) ≡ is_none (byte_before h at)
-  start-between =
-      elim (cases_lt 0 at) [
-        | inl past ↦ ne_eqb at 0 (λ (e : at ≡ 0). omega arith) ∙ sym (ap is_none (before-some h at past within))
-        | inr none ↦ eq-eqb at 0 (omega arith) ∙ sym (ap is_none (before-none h at none))
-      ]
-
-  byte_before-between : (c : ℕ) → is_byte_before h at c ≡ is c (byte_before h at)
-  byte_before-between c =
-      elim (cases_lt 0 at) [
-        | inl past ↦
-            let inside : at - 1 < length h = omega arith in
-            rw (lt-ltb 0 at past) (sym (ap (is c) (slice_get-get_or h (at - 1) 0 inside)))
-        | inr none ↦ rw (le-ltb 0 at none) refl
-      ]
-
-  word_before-between : is_word_before h at ≡ is_word (byte_before h at)
-  word_before-between =
-      elim (cases_lt 0 at) [
-        | inl past ↦
-            let inside : at - 1 < length h = omega arith in
-            rw (lt-ltb 0 at past) (sym (ap is_word (slice_get-get_or h (at - 1) 0 inside)))
-        | inr none ↦ rw (le-ltb 0 at none) refl
-      ]
-
-  end-between : (at == length h) ≡ is_none (slice_get h at)
-  end-between =
-      elim (cases_lt at (length h)) [
-        | inl less ↦
-            ne_eqb at (length h) (λ (e : at ≡ length h). omega arith)
-            ∙ sym (ap is_none (slice_get-get_or h at 0 less))
-        | inr past ↦ eq-eqb at (length h) (omega arith) ∙ sym (ap is_none (slice_get_past h at past))
-      ]
-
-  byte_at-between : (c : ℕ) → is_byte_at h at c ≡ is c (slice_get h at)
-  byte_at-between c =
-      elim (cases_lt at (length h)) [
-        | inl less ↦ rw (lt-ltb at (length h) less) (sym (ap (is c) (slice_get-get_or h at 0 less)))
-        | inr past ↦ rw (le-ltb at (length h) past) (sym (ap (is c) (slice_get_past h at past)))
-      ]
-
-  word_after-between : is_word_after h at ≡ is_word (slice_get h at)
-  word_after-between =
-      elim (cases_lt at (length h)) [
-        | inl less ↦ rw (lt-ltb at (length h) less) (sym (ap is_word (slice_get-get_or h at 0 less)))
-        | inr past ↦ rw (le-ltb at (length h) past) (sym (ap is_word (slice_get_past h at past)))
-      ]
-
-  -- an assertion of bytes holds exactly if it holds between the bytes on both sides
-  pub holds-between : (look : looks.Look) → reads_bytes look ≡ true
-      → look_holds look h at ≡ holds_between look (byte_before h at) (slice_get h at)
-  holds-between Start r = start-between
-  holds-between End r = end-between
-  holds-between StartLF r = rw (start-between, byte_before-between 10) refl
-  holds-between EndLF r = rw (end-between, byte_at-between 10) refl
-  holds-between StartCRLF r =
-      rw (start-between, byte_before-between 10, byte_before-between 13, byte_at-between 10) refl
-  holds-between EndCRLF r =
-      rw (end-between, byte_at-between 13, byte_at-between 10, byte_before-between 13) refl
-  holds-between WordAscii r = rw (word_before-between, word_after-between) refl
-  holds-between WordAsciiNegate r = rw (word_before-between, word_after-between) refl
-  holds-between WordUnicode r = absurd (cc r)
-  holds-between WordUnicodeNegate r = absurd (cc r)
-  holds-between WordStartAscii r = rw (word_before-between, word_after-between) refl
-  holds-between WordEndAscii r = rw (word_before-between, word_after-between) refl
-  holds-between WordStartUnicode r = absurd (cc r)
-  holds-between WordEndUnicode r = absurd (cc r)
-  holds-between WordStartHalfAscii r = rw word_before-between refl
-  holds-between WordEndHalfAscii r = rw word_after-between refl
-  holds-between WordStartHalfUnicode r = absurd (cc r)
-  holds-between WordEndHalfUnicode r = absurd (cc r)
 
 -- between two bytes there are these two
 
@@ -148,15 +40,6 @@ IsAscii (Some b) = b < 128
 abbrev IsKnown : looks.Look → Option ℕ → Option ℕ → Type 0
 IsKnown look before after = (reads_bytes look ≡ true) ⊎ (IsAscii before × IsAscii after)
 
-ascii-reads : (look : looks.Look) → reads_bytes (ascii_look look) ≡ true
-ascii-reads WordUnicode = refl
-ascii-reads WordUnicodeNegate = refl
-ascii-reads WordStartUnicode = refl
-ascii-reads WordEndUnicode = refl
-ascii-reads WordStartHalfUnicode = refl
-ascii-reads WordEndHalfUnicode = refl
-ascii-reads _ = refl
-
 ascii-same : (look : looks.Look) → reads_bytes look ≡ true → ascii_look look ≡ look
 ascii-same WordUnicode r = absurd (cc r)
 ascii-same WordUnicodeNegate r = absurd (cc r)
@@ -166,28 +49,27 @@ ascii-same WordStartHalfUnicode r = absurd (cc r)
 ascii-same WordEndHalfUnicode r = absurd (cc r)
 ascii-same _ r = refl
 
--- an assertion that is known holds exactly if its ASCII form holds between the bytes on both sides
+-- an assertion that is known holds exactly if it holds between the bytes on both sides
 holds-known : (h : List ℕ) (at : ℕ) → at ≤ length h → (look : looks.Look)
     → IsKnown look (byte_before h at) (slice_get h at)
-    → look_holds look h at ≡ holds_between (ascii_look look) (byte_before h at) (slice_get h at)
+    → look_holds look h at ≡ holds_between look (byte_before h at) (slice_get h at)
 holds-known h at within look (inl r) =
-    ap (λ (l : looks.Look). look_holds l h at) (sym (ascii-same look r))
-    ∙ holds-between h at within (ascii_look look) (ascii-reads look)
+    ap (λ (l : looks.Look). look_holds l h at) (sym (ascii-same look r)) ∙ holds-between h at within look
 holds-known h at within look (inr ascii) =
     look_holds-ascii h at within (λ past. subst IsAscii (before-some h at past within) ascii.0)
     (λ less. subst IsAscii (slice_get-get_or h at 0 less) ascii.1) look
-    ∙ holds-between h at within (ascii_look look) (ascii-reads look)
+    ∙ holds-between h at within look
 
 sees-between : (b a : Option ℕ) (look : looks.Look) → IsKnown look b a
-    → sees b a look ≡ holds_between (ascii_look look) b a
+    → sees b a look ≡ holds_between look b a
 sees-between b a look known =
     let h : List ℕ = option_to_list b ++ option_to_list a in
     let at : ℕ = length (option_to_list b) in
     holds-known h at (local-within b a) look
     (subst (λ (o : Option ℕ). IsKnown look o (slice_get h at)) (sym (local-before b a))
     (subst (IsKnown look b) (sym (local-after b a)) known))
-    ∙ ap (λ (o : Option ℕ). holds_between (ascii_look look) o (slice_get h at)) (local-before b a)
-    ∙ ap (holds_between (ascii_look look) b) (local-after b a)
+    ∙ ap (λ (o : Option ℕ). holds_between look o (slice_get h at)) (local-before b a)
+    ∙ ap (holds_between look b) (local-after b a)
 
 sees-at : (h : List ℕ) (at : ℕ) → at ≤ length h → (look : looks.Look)
     → IsKnown look (byte_before h at) (slice_get h at)
@@ -213,26 +95,26 @@ like-tells b =
           ]
     ]
 
-like-between : (b : ℕ) (after : Option ℕ) (look : looks.Look) → reads_bytes look ≡ true
+like-between : (b : ℕ) (after : Option ℕ) (look : looks.Look)
     → holds_between look (Some (like b)) after ≡ holds_between look (Some b) after
-like-between b after Start r = refl
-like-between b after End r = refl
-like-between b after StartLF r = (like-tells b).0
-like-between b after EndLF r = refl
-like-between b after StartCRLF r = rw ((like-tells b).0, (like-tells b).1) refl
-like-between b after EndCRLF r = rw (like-tells b).1 refl
-like-between b after WordAscii r = rw (like-tells b).2 refl
-like-between b after WordAsciiNegate r = rw (like-tells b).2 refl
-like-between b after WordUnicode r = absurd (cc r)
-like-between b after WordUnicodeNegate r = absurd (cc r)
-like-between b after WordStartAscii r = rw (like-tells b).2 refl
-like-between b after WordEndAscii r = rw (like-tells b).2 refl
-like-between b after WordStartUnicode r = absurd (cc r)
-like-between b after WordEndUnicode r = absurd (cc r)
-like-between b after WordStartHalfAscii r = rw (like-tells b).2 refl
-like-between b after WordEndHalfAscii r = refl
-like-between b after WordStartHalfUnicode r = absurd (cc r)
-like-between b after WordEndHalfUnicode r = absurd (cc r)
+like-between b after Start = refl
+like-between b after End = refl
+like-between b after StartLF = (like-tells b).0
+like-between b after EndLF = refl
+like-between b after StartCRLF = rw ((like-tells b).0, (like-tells b).1) refl
+like-between b after EndCRLF = rw (like-tells b).1 refl
+like-between b after WordAscii = rw (like-tells b).2 refl
+like-between b after WordAsciiNegate = rw (like-tells b).2 refl
+like-between b after WordUnicode = rw (like-tells b).2 refl
+like-between b after WordUnicodeNegate = rw (like-tells b).2 refl
+like-between b after WordStartAscii = rw (like-tells b).2 refl
+like-between b after WordEndAscii = rw (like-tells b).2 refl
+like-between b after WordStartUnicode = rw (like-tells b).2 refl
+like-between b after WordEndUnicode = rw (like-tells b).2 refl
+like-between b after WordStartHalfAscii = rw (like-tells b).2 refl
+like-between b after WordEndHalfAscii = refl
+like-between b after WordStartHalfUnicode = rw (like-tells b).2 refl
+like-between b after WordEndHalfUnicode = refl
 
 -- a byte that is one of two is below 128
 small : (b : ℕ) → (b == 10 || b == 13) ≡ true → b < 128
@@ -304,7 +186,7 @@ module _ (nfa : Automaton) where
   same-like b after read next_read = record {
     same = λ s look next e.
         sees-between (Some (like b)) after look (known-look (Some (like b)) after (read-like b) next_read s look next e)
-        ∙ like-between b after (ascii_look look) (ascii-reads look)
+        ∙ like-between b after look
         ∙ sym (sees-between (Some b) after look (known-look (Some b) after read next_read s look next e));
   }
 

@@ -1,7 +1,8 @@
 -- Assertions that read no more than the byte on each side of a position, and the bytes that a lazy DFA may read.
-use Rattle.std.specs.Prelude.{◌≡◌, ℕ, ◌-◌, ◌<◌, ◌≤◌, ◌⊎◌, Bool, true, false, ◌||◌, ◌==◌, List, ◌++◌, length, nat_lt, Option, None, Some, ⊤, option_to_list, slice_get, if◌then◌else◌}
+use Rattle.std.specs.Prelude.{◌≡◌, ℕ, ◌<◌, ◌≤◌, ◌⊎◌, Bool, true, false, ◌||◌, ◌==◌, ◌++◌, length, Option, None, Some, ⊤, option_to_list, if◌then◌else◌}
 use Rattle.nfa_paths.specs.Common.{Automaton, Node, node_at}
 use Rattle.thompson_nfa.specs.Automaton.Node.{Look}
+pub use Rattle.thompson_nfa.specs.Looks.{byte_before}
 use Rattle.thompson_nfa.specs.Looks.{is_word_byte}
 use Rattle.thompson_nfa.specs.declared.look.Look as looks
 use Rattle.thompson_nfa.specs.declared.look.Look.TheVariants.{WordUnicode, WordUnicodeNegate, WordStartUnicode, WordEndUnicode, WordStartHalfUnicode, WordEndHalfUnicode}
@@ -48,10 +49,6 @@ is_look _ = false
 -- no state of the NFA is an assertion
 pub record HasNoLook (nfa : Automaton) : Type 0 where
   pub all : (s : ℕ) → is_look (node_at nfa s) ≡ false
-
--- the byte just before the position, if there is one
-abbrev pub byte_before : List ℕ → ℕ → Option ℕ
-byte_before haystack at = if nat_lt 0 at then slice_get haystack (at - 1) else None
 
 -- which assertions hold between the two bytes, or at an end of the haystack
 abbrev pub sees : Option ℕ → Option ℕ → Holding

@@ -6,6 +6,8 @@ pub mod MemberLemmas
 pub mod OptionLemmas
 pub mod TestLemmas
 pub mod FlagSetLemmas
+pub mod SameScanLemmas
+pub mod OneScanLemmas
 pub mod FrontierMatchLemmas
 pub mod KindsLemmas
 pub mod ScanLemmas

@@ -1,5 +1,5 @@
 -- the positions at which each assertion holds
-use Rattle.std.specs.Prelude.{ℕ, ◌-◌, Bool, not, ◌&&◌, ◌||◌, ◌==◌, nat_lt, nat_le, List, length, slice_index, if◌then◌else◌, is_some}
+use Rattle.std.specs.Prelude.{ℕ, ◌-◌, Bool, not, ◌&&◌, ◌||◌, ◌==◌, nat_lt, nat_le, List, length, slice_index, slice_get, if◌then◌else◌, is_some, Option, None}
 use Rattle.thompson_nfa.specs.Characters.{char_before, char_after, is_some_word}
 use Rattle.thompson_nfa.specs.declared.look.Look.{Look}
 use Rattle.thompson_nfa.specs.declared.look.Look.TheVariants.{Start, End, StartLF, EndLF, StartCRLF, EndCRLF, WordAscii, WordAsciiNegate, WordUnicode, WordUnicodeNegate, WordStartAscii, WordEndAscii, WordStartUnicode, WordEndUnicode, WordStartHalfAscii, WordEndHalfAscii, WordStartHalfUnicode, WordEndHalfUnicode}
@@ -8,6 +8,10 @@ use Rattle.thompson_nfa.specs.declared.look.Look.TheVariants.{Start, End, StartL
 abbrev pub is_word_byte : ℕ → Bool
 is_word_byte b =
     (nat_le 48 b && nat_le b 57) || (nat_le 65 b && nat_le b 90) || (nat_le 97 b && nat_le b 122) || b == 95
+
+-- the byte just before the position, if there is one
+abbrev pub byte_before : List ℕ → ℕ → Option ℕ
+byte_before haystack at = if nat_lt 0 at then slice_get haystack (at - 1) else None
 
 -- this byte is just before the position
 abbrev pub is_byte_before : List ℕ → ℕ → ℕ → Bool
