@@ -19,9 +19,9 @@ module _ (nfa : Automaton) (x : Search) where
   pub start-first : IsFirstStart nfa x x.start
   start-first = record { from = omega arith; nothing = λ i low less. absurd (omega arith) }
 
-  pub first-moves : (s byte : ℕ) → IsFirstStart nfa x s → byte_at x s ≡ Some byte → NoMatchBegins nfa byte
-      → IsFirstStart nfa x (s + 1)
-  first-moves s byte first read none =
+  -- if nothing matches at a start before which nothing does, the next position is one, too
+  pub next-first : (s : ℕ) → IsFirstStart nfa x s → MatchesNothing nfa (anchored_at x s) → IsFirstStart nfa x (s + 1)
+  next-first s first none =
       let low : x.start ≤ s = first.from in
       record {
         from = omega arith;
@@ -30,6 +30,6 @@ module _ (nfa : Automaton) (x : Search) where
               | inl before ↦ first.nothing i from before
               | inr past ↦
                   let here : s ≡ i = omega arith in
-                  subst (λ (k : ℕ). MatchesNothing nfa (anchored_at x k)) here (nothing-at-byte s byte none read)
+                  subst (λ (k : ℕ). MatchesNothing nfa (anchored_at x k)) here none
             ];
       }

@@ -1,10 +1,10 @@
 -- If the anchored start tries the patterns in order, the first pattern that has an accepting path answers.
-use Rattle.std.proofs.Common.{◌≡◌, ◌∙◌, ℕ, zero, suc, ◌≤◌, ◌<◌, ◌⊎◌, inl, inr, true, false, List, [], ◌∷◌, map, refl, sym, ap, subst, arith, le-ltb, slice_get, None, Some, is_some}
-use Rattle.std.proofs.lemmas.Bool.{cases_eq, cases_lt}
-use Rattle.nfa_paths.specs.Common.{Search, Automaton, Node, Pair, In, Earlier, HeadIs, NoRepeats, Linked, EndsWith, ComesBefore, PathTo, capture, edges, edges_of, node_at, pattern_of, slot_of, starts, is_match, IsMatch}
+use Rattle.std.proofs.Common.{◌≡◌, ◌∙◌, ℕ, zero, suc, ◌≤◌, ◌<◌, ◌⊎◌, inl, inr, true, false, List, [], ◌∷◌, map, refl, sym, ap, subst, arith, slice_get, None, Some, is_some}
+use Rattle.std.proofs.lemmas.Bool.{cases_eq}
+use Rattle.nfa_paths.specs.Common.{Search, Anchored, Automaton, Node, Pair, In, Earlier, HeadIs, NoRepeats, Linked, EndsWith, ComesBefore, PathTo, capture, edges, edges_of, node_at, pattern_of, slot_of, starts, is_match, IsMatch}
 use Rattle.regex_search_core.specs.declared.search.Anchored.TheVariants.{Yes}
 use Rattle.thompson_nfa.specs.Automaton.Node.{Union, BinaryUnion, Capture, Match}
-use Rattle.nfa_paths.proofs.StartLemmas.{starts-none}
+use Rattle.nfa_engines.proofs.FirstStartLemmas.{anchored-start, start-anchored, StartsAt}
 use Rattle.nfa_engines.specs.PatternLaws.{alternates_of, started_at, IsUnionOfPatterns}
 use Rattle.nfa_paths.proofs.OptionLemmas.{same_some}
 use Rattle.nfa_paths.proofs.PathToLemmas.{EndsWith-cons}
@@ -153,24 +153,14 @@ union-writes _ ps e = refl
 module _ (nfa : Automaton) (x : Search) (bound : x.anchored ≡ Yes) where
   -- the one start of an anchored search of an NFA
 
-  pub record StartsThere (n : Automaton) (v : Pair) : Type 0 where
-    pub is : v ≡ (n.anchored, x.start)
-    pub within : x.start ≤ x.end
-
-  starts-there : (n : Automaton) → x.start ≤ x.end → starts n x ≡ (n.anchored, x.start) ∷ []
-  starts-there n within = rw (bound, le-ltb x.end x.start within) refl
-
-  pub start-there : (n : Automaton) (v : Pair) → In v (starts n x) → StartsThere n v
+  pub start-there : (n : Automaton) (v : Pair) → In v (starts n x) → StartsAt n x x.start v
   start-there n v i =
-      elim (cases_lt x.end x.start) [
-        | inl past ↦ absurd (rw (starts-none n x past) at i)
-        | inr within ↦
-            let one : In v ((n.anchored, x.start) ∷ []) = rw (starts-there n within) at i in
-            elim one [ inl e ↦ record { is = e; within = within } | inr never ↦ absurd never ]
-      ]
+      start-anchored n x x.start v (subst (λ (a : Anchored). In v (starts n (record x { anchored = a }))) bound i)
 
   pub there-start : (n : Automaton) (v : Pair) → v ≡ (n.anchored, x.start) → x.start ≤ x.end → In v (starts n x)
-  there-start n v e within = rw (starts-there n within) (inl e)
+  there-start n v e within =
+      subst (λ (a : Anchored). In v (starts n (record x { anchored = a }))) (sym bound)
+      (anchored-start n x x.start v e within)
 
   module _ (h : IsUnionOfPatterns nfa x) where
     -- the anchored start
@@ -205,7 +195,7 @@ module _ (nfa : Automaton) (x : Search) (bound : x.anchored ≡ Yes) where
     pub goes : (m : Pair) (p : List Pair) → PathTo (edges nfa x) (starts nfa x) m p → IsMatch nfa m → GoesOn m p
     goes m p w t = of p w.head w.once w.linked w.ends
       where
-        from : StartsThere nfa w.start
+        from : StartsAt nfa x x.start w.start
         from = start-there nfa w.start w.among
 
         of : (p : List Pair) → HeadIs w.start p → NoRepeats p → Linked (edges nfa x) p → EndsWith m p → GoesOn m p

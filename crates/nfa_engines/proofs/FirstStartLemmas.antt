@@ -1,7 +1,8 @@
 -- The paths of an unanchored search are those of the anchored searches at each start.
 use Rattle.std.proofs.Common.{◌≡◌, ℕ, zero, suc, ◌+◌, ◌-◌, ◌≤◌, ◌<◌, ◌⊎◌, inl, inr, List, [], ◌∷◌, refl, sym, ap, subst, arith, le-ltb}
 use Rattle.std.proofs.lemmas.Bool.{cases_lt}
-use Rattle.nfa_paths.specs.Common.{Search, Anchored, Automaton, Pair, In, HeadIs, ComesBefore, PathTo, edges, pairs_from, starts}
+use Rattle.nfa_paths.specs.Common.{Search, Anchored, Automaton, Pair, In, EndsWith, HeadIs, Linked, ComesBefore, PathTo, edges, pairs_from, starts}
+use Rattle.nfa_paths.proofs.ScanAnswerLemmas.{edges-onward, edges-within}
 use Rattle.nfa_paths.proofs.StartLemmas.{starts-none, edges-alike, pairs_from-has}
 use Rattle.nfa_engines.specs.StartLaws.{anchored_at, from_start, IsUnbound}
 
@@ -70,6 +71,20 @@ with-starts w among = record {
 }
 
 module _ (nfa : Automaton) (x : Search) where
+  -- a path ends at its start or after it, and within the span if it starts there
+  pub path-order : (v m : Pair) (p : List Pair) → HeadIs v p → Linked (edges nfa x) p → EndsWith m p
+      → (v.1 ≤ m.1) × (v.1 ≤ x.end → m.1 ≤ x.end)
+  path-order v m [] head linked ends = absurd head
+  path-order v m (a ∷ []) head linked ends =
+      let from : a.1 ≡ v.1 = ap (λ (z : Pair). z.1) head in
+      let to : a.1 ≡ m.1 = ap (λ (z : Pair). z.1) ends in
+      (omega arith, λ within. omega arith)
+  path-order v m (a ∷ (b ∷ p)) head linked ends =
+      let from : a.1 ≡ v.1 = ap (λ (z : Pair). z.1) head in
+      let on : a.1 ≤ b.1 = edges-onward nfa x a b linked.0 in
+      let rest : (b.1 ≤ m.1) × (b.1 ≤ x.end → m.1 ≤ x.end) = path-order b m (b ∷ p) refl linked.1 ends in
+      (omega (arith, rest.0), λ within. rest.1 (edges-within nfa x a b linked.0 (omega arith)))
+
   -- the one start of an anchored search
   starts-anchored : (s : ℕ) → s ≤ x.end → starts nfa (anchored_at x s) ≡ (nfa.anchored, s) ∷ []
   starts-anchored s within = rw (le-ltb x.end s within) refl

@@ -1,16 +1,17 @@
 -- A leftmost first answer starts at the least start of its end, and is that of the search cut to its span.
-use Rattle.std.proofs.Common.{◌≡◌, ◌∙◌, ℕ, ◌+◌, ◌-◌, ◌==◌, ◌||◌, ◌≤◌, ◌<◌, ◌⊎◌, inl, inr, Bool, true, false, List, [], ◌∷◌, length, refl, sym, ap, subst, arith, le-ltb, lt-ltb, MatchBool, Option, None, Some, option_and_then}
+use Rattle.std.proofs.Common.{◌≡◌, ◌∙◌, ℕ, ◌+◌, ◌-◌, ◌==◌, ◌||◌, ◌≤◌, ◌<◌, ◌⊎◌, inl, inr, Bool, true, false, List, [], ◌∷◌, refl, sym, ap, subst, arith, le-ltb, lt-ltb, Option, None, Some}
 use Rattle.std.specs.Option.{option_map_or}
 use Rattle.std.proofs.lemmas.Bool.{cases_lt, cases_Bool}
-use Rattle.nfa_paths.specs.Common.{Search, is_anchored, Anchored, Automaton, Node, Pair, In, Earlier, BeforeAfter, ComesBefore, EndsWith, HeadIs, Linked, PathTo, IsFirstTo, WantedAt, rests, byte_at, edges, edges_of, is_utf8_empty, node_at, pairs_from, path_pattern, slot_row, start_count, start_state, starts, EndsOnBoundary, IsAnswer, IsMatch, IsScanAnswer, raised, IsKeptAnswer, IsRestartedAnswer, IsSearchAnswer}
+use Rattle.nfa_paths.specs.Common.{Search, is_anchored, Anchored, Automaton, Node, Pair, In, Earlier, BeforeAfter, ComesBefore, EndsWith, HeadIs, Linked, PathTo, IsFirstTo, WantedAt, rests, byte_at, edges, edges_of, node_at, pairs_from, start_count, start_state, starts, IsAnswer, IsMatch, IsScanAnswer, raised, IsSearchAnswer}
 use Rattle.regex_search_core.specs.declared.search.MatchKind.TheVariants.{LeftmostFirst}
 use Rattle.thompson_nfa.specs.Automaton.Node.{Look, Union, BinaryUnion, Capture}
 use Rattle.nfa_paths.proofs.PathToLemmas.{EndsWith-last}
-use Rattle.nfa_paths.proofs.ScanAnswerLemmas.{edges-onward, edges-rise, edges-within, starts-from, starts-within}
-use Rattle.nfa_paths.proofs.StartLemmas.{byte_pairs, pairs_from-has, raised-zero, resting-edges}
+use Rattle.nfa_paths.proofs.OneScanLemmas.{first-scan, has-path, last-scan}
+use Rattle.nfa_paths.proofs.ScanAnswerLemmas.{edges-rise, starts-from, starts-within}
+use Rattle.nfa_paths.proofs.StartLemmas.{byte_pairs, pairs_from-has, resting-edges}
 use Rattle.nfa_engines.specs.FoundSpanLaws.{cut_to, IsAnswerSpan, IsLeastStart, MayCut}
 use Rattle.nfa_engines.specs.FoundSpanLaws.MayCut.{same, tied}
-use Rattle.nfa_engines.proofs.FirstStartLemmas.{heads-order, pairs_from-in}
+use Rattle.nfa_engines.proofs.FirstStartLemmas.{heads-order, pairs_from-in, path-order}
 
 -- a list has one last pair
 some_one : (a b : Pair) → Some a ≡ Some b → a ≡ b
@@ -163,37 +164,6 @@ cut-tied nfa a b tied t = refl
 never_both : (b : Bool) → b ≡ true → b ≡ false → ⊥
 never_both b t f = cc
 
--- the positions of a path
-
-module _ (nfa : Automaton) (x : Search) where
-  -- no pair of a path is after its end
-  path-low : (v m : Pair) (p : List Pair) → Linked (edges nfa x) (v ∷ p) → EndsWith m (v ∷ p) → v.1 ≤ m.1
-  path-low v m [] l ends = let at : v.1 ≡ m.1 = ap (λ (z : Pair). z.1) ends in omega arith
-  path-low v m (w ∷ p) l ends =
-      let on : v.1 ≤ w.1 = edges-onward nfa x v w l.0 in
-      let low : w.1 ≤ m.1 = path-low w m p l.1 ends in
-      omega arith
-
-  path-order : (v m : Pair) (p : List Pair) → HeadIs v p → Linked (edges nfa x) p → EndsWith m p → v.1 ≤ m.1
-  path-order v m [] head l ends = absurd head
-  path-order v m (w ∷ p) head l ends =
-      let at : w.1 ≡ v.1 = ap (λ (z : Pair). z.1) head in
-      let low : w.1 ≤ m.1 = path-low w m p l ends in
-      omega arith
-
-  -- nor after the end of the span
-  path-high : (v m : Pair) (p : List Pair) → v.1 ≤ x.end → Linked (edges nfa x) (v ∷ p) → EndsWith m (v ∷ p)
-      → m.1 ≤ x.end
-  path-high v m [] high l ends = let at : v.1 ≡ m.1 = ap (λ (z : Pair). z.1) ends in omega arith
-  path-high v m (w ∷ p) high l ends = path-high w m p (edges-within nfa x v w l.0 high) l.1 ends
-
-  path-within : (v m : Pair) (p : List Pair) → v.1 ≤ x.end → HeadIs v p → Linked (edges nfa x) p → EndsWith m p
-      → m.1 ≤ x.end
-  path-within v m [] high head l ends = absurd head
-  path-within v m (w ∷ p) high head l ends =
-      let at : w.1 ≡ v.1 = ap (λ (z : Pair). z.1) head in
-      path-high w m p (omega arith) l ends
-
 -- sums
 
 one-after : (b s n : ℕ) → b ≡ s → n ≡ 1 → b < s + n
@@ -248,40 +218,82 @@ module _ (nfa : Automaton) (x : Search) (s e : ℕ) (anchored : Anchored) (withi
   cut-linked m high [] l ends = l
   cut-linked m high (v ∷ []) l ends = l
   cut-linked m high (v ∷ (w ∷ p)) l ends =
-      let low : w.1 ≤ m.1 = path-low nfa x w m p l.1 ends in
+      let low : w.1 ≤ m.1 = (path-order nfa x w m (w ∷ p) refl l.1 ends).0 in
       (cut-in v w l.0 (omega arith), cut-linked m high (w ∷ p) l.1 ends)
 
-  module _ (may : MayCut x.anchored anchored) (ordered : s ≤ e) (b : Pair) (among : In b (starts nfa x))
-      (low : x.start ≤ s) (past : s ≤ b.1) (high : b.1 ≤ e) (near : is_tied nfa anchored ≡ true → b.1 ≡ s) where
-    start-here : IsStart (start_state nfa x.anchored) x.start (start_count nfa x) b
-    start-here = start-is (start_state nfa x.anchored) x.start (start_count nfa x) b among
+-- the path of a scan
+
+module _ (nfa : Automaton) (x : Search) (anchored : Anchored) (may : MayCut x.anchored anchored) (p : List Pair)
+    (Wanted : Pair → Type 0) (h : IsFirstTo (edges nfa x) (starts nfa x) Wanted p) where
+  -- the span from s to e has the path, and if the cut search has one start, the path begins there
+  record IsSpan (s e : ℕ) : Type 0 where
+    low : x.start ≤ s
+    past : s ≤ h.path.start.1
+    near : is_tied nfa anchored ≡ true → h.path.start.1 ≡ s
+    last : h.end.1 ≡ e
+
+  -- the path's own span does
+  own-span : (v m : Pair) → HeadIs v p → EndsWith m p → IsSpan v.1 m.1
+  own-span v m head ends =
+      let first : h.path.start.1 ≡ v.1 = ap (λ (z : Pair). z.1) (heads-one h.path.start v p h.path.head head) in
+      let from : x.start ≤ h.path.start.1 = starts-from nfa x h.path.start h.path.among in
+      record {
+        low = omega arith;
+        past = omega arith;
+        near = λ t. first;
+        last = ap (λ (z : Pair). z.1) (ends-one h.end m p h.path.ends ends);
+      }
+
+  module _ (s e : ℕ) (at : IsSpan s e) where
+    abbrev part : Search
+    part = cut_to x s e anchored
+
+    high : h.path.start.1 ≤ e
+    high =
+        let order = path-order nfa x h.path.start h.end p h.path.head h.path.linked h.path.ends in
+        let last : h.end.1 ≡ e = at.last in
+        omega (arith, order.0)
+
+    within : e ≤ x.end
+    within =
+        let order = path-order nfa x h.path.start h.end p h.path.head h.path.linked h.path.ends in
+        let last : h.end.1 ≡ e = at.last in
+        omega (arith, order.1 (starts-within nfa x h.path.start h.path.among))
+
+    ordered : s ≤ e
+    ordered = omega (arith, high, at.past)
+
+    start-here : IsStart (start_state nfa x.anchored) x.start (start_count nfa x) h.path.start
+    start-here = start-is (start_state nfa x.anchored) x.start (start_count nfa x) h.path.start h.path.among
 
     -- the start of the path is left
-    cut-has : In b (starts nfa cut)
+    cut-has : In h.path.start (starts nfa part)
     cut-has =
-        is-start (start_state nfa anchored) s (start_count nfa cut) b (record {
+        is-start (start_state nfa anchored) s (start_count nfa part) h.path.start (record {
           state_is = cut-state nfa x.anchored anchored may ∙ start-here.state_is;
-          from = past;
-          before = elim (counts nfa cut ordered) [
-            | inl one ↦ one-after b.1 s (start_count nfa cut) (near one.0) one.1
-            | inr many ↦ below-end b.1 s e (start_count nfa cut) high many.1
+          from = at.past;
+          before = elim (counts nfa part ordered) [
+            | inl one ↦ one-after h.path.start.1 s (start_count nfa part) (at.near one.0) one.1
+            | inr many ↦ below-end h.path.start.1 s e (start_count nfa part) high many.1
           ];
         })
 
     -- and there is no new one
-    cut-sub : (w : Pair) → In w (starts nfa cut) → In w (starts nfa x)
+    cut-sub : (w : Pair) → In w (starts nfa part) → In w (starts nfa x)
     cut-sub w i =
-        let r = start-is (start_state nfa anchored) s (start_count nfa cut) w i in
+        let r = start-is (start_state nfa anchored) s (start_count nfa part) w i in
         let from_s : s ≤ w.1 = r.from in
-        let to_e : w.1 ≤ e = starts-within nfa cut w i in
+        let to_e : w.1 ≤ e = starts-within nfa part w i in
+        let low : x.start ≤ s = at.low in
+        let high : e ≤ x.end = within in
         is-start (start_state nfa x.anchored) x.start (start_count nfa x) w (record {
           state_is = sym (cut-state nfa x.anchored anchored may) ∙ r.state_is;
           from = omega arith;
           before = elim (counts nfa x (omega arith)) [
-            | inl one ↦ elim (counts nfa cut ordered) [
+            | inl one ↦ elim (counts nfa part ordered) [
               | inl single ↦
-                  one-below w.1 b.1 s x.start (start_count nfa cut) (start_count nfa x) r.before single.1
-                  start-here.before one.1 past
+                  one-below w.1 h.path.start.1 s x.start (start_count nfa part) (start_count nfa x) r.before single.1
+                  start-here.before one.1 at.past
               | inr many ↦
                   absurd (never_both (is_tied nfa anchored) (cut-tied nfa x.anchored anchored may one.0) many.0)
             ]
@@ -289,64 +301,32 @@ module _ (nfa : Automaton) (x : Search) (s e : ℕ) (anchored : Anchored) (withi
           ];
         })
 
--- the path of a scan
+    cut-first : IsFirstTo (edges nfa part) (starts nfa part) Wanted p
+    cut-first =
+        let last : h.end.1 ≡ e = at.last in
+        fewer-first (edges nfa x) (edges nfa part) (cut-agree nfa x s e anchored within) (starts nfa x)
+        (starts nfa part) Wanted p cut-sub h
+        (cut-linked nfa x s e anchored within h.end (omega arith) p h.path.linked h.path.ends) cut-has
 
-module _ (nfa : Automaton) (x : Search) (anchored : Anchored) (may : MayCut x.anchored anchored) (p : List Pair)
-    (Wanted : Pair → Type 0) (h : IsFirstTo (edges nfa x) (starts nfa x) Wanted p) where
-  cut-first : (s e : ℕ) → x.start ≤ s → s ≤ h.path.start.1 → (is_tied nfa anchored ≡ true → h.path.start.1 ≡ s)
-      → h.end.1 ≡ e
-      → IsFirstTo (edges nfa (cut_to x s e anchored)) (starts nfa (cut_to x s e anchored)) Wanted p
-  cut-first s e low past near last =
-      let order : h.path.start.1 ≤ h.end.1 =
-      path-order nfa x h.path.start h.end p h.path.head h.path.linked h.path.ends in
-      let top : h.end.1 ≤ x.end =
-      path-within nfa x h.path.start h.end p (starts-within nfa x h.path.start h.path.among) h.path.head
-      h.path.linked h.path.ends in
-      let within : e ≤ x.end = omega arith in
-      let ordered : s ≤ e = omega arith in
-      let high : h.path.start.1 ≤ e = omega arith in
-      fewer-first (edges nfa x) (edges nfa (cut_to x s e anchored)) (cut-agree nfa x s e anchored within)
-      (starts nfa x) (starts nfa (cut_to x s e anchored)) Wanted p
-      (cut-sub nfa x s e anchored within may ordered h.path.start h.path.among low past high near) h
-      (cut-linked nfa x s e anchored within h.end (omega arith) p h.path.linked h.path.ends)
-      (cut-has nfa x s e anchored within may ordered h.path.start h.path.among low past high near)
-
-  -- a path of the cut search is one of the search
-  cut-back : (s e : ℕ) → x.start ≤ s → s ≤ h.path.start.1 → (is_tied nfa anchored ≡ true → h.path.start.1 ≡ s)
-      → h.end.1 ≡ e → (n : Pair) (q : List Pair)
-      → PathTo (edges nfa (cut_to x s e anchored)) (starts nfa (cut_to x s e anchored)) n q
-      → PathTo (edges nfa x) (starts nfa x) n q
-  cut-back s e low past near last n q w =
-      let order : h.path.start.1 ≤ h.end.1 =
-      path-order nfa x h.path.start h.end p h.path.head h.path.linked h.path.ends in
-      let top : h.end.1 ≤ x.end =
-      path-within nfa x h.path.start h.end p (starts-within nfa x h.path.start h.path.among) h.path.head
-      h.path.linked h.path.ends in
-      let within : e ≤ x.end = omega arith in
-      let ordered : s ≤ e = omega arith in
-      let high : h.path.start.1 ≤ e = omega arith in
-      record {
-        start = w.start;
-        among = cut-sub nfa x s e anchored within may ordered h.path.start h.path.among low past high near w.start
-            w.among;
-        head = w.head;
-        once = w.once;
-        linked = fewer-linked (edges nfa x) (edges nfa (cut_to x s e anchored)) (cut-agree nfa x s e anchored within) q
-            w.linked;
-        ends = w.ends;
-      }
+    -- a path of the cut search is one of the search
+    cut-back : (n : Pair) (q : List Pair) → PathTo (edges nfa part) (starts nfa part) n q
+        → PathTo (edges nfa x) (starts nfa x) n q
+    cut-back n q w = record {
+      start = w.start;
+      among = cut-sub w.start w.among;
+      head = w.head;
+      once = w.once;
+      linked = fewer-linked (edges nfa x) (edges nfa part) (cut-agree nfa x s e anchored within) q w.linked;
+      ends = w.ends;
+    }
 
 pub span-earliest : (nfa : Automaton) (x : Search) (anchored : Anchored) (p : List Pair) (v m : Pair)
     → MayCut x.anchored anchored → IsScanAnswer nfa x LeftmostFirst true (Some p) → HeadIs v p → EndsWith m p
     → IsScanAnswer nfa (cut_to x v.1 m.1 anchored) LeftmostFirst true (Some p)
 span-earliest nfa x anchored p v m may h head ends =
-    let f = h.2 in
-    let at : f.end.1 ≡ h.0 = f.wanted.at in
-    let first : f.path.start.1 ≡ v.1 = ap (λ (z : Pair). z.1) (heads-one f.path.start v p f.path.head head) in
-    let last : f.end.1 ≡ m.1 = ap (λ (z : Pair). z.1) (ends-one f.end m p f.path.ends ends) in
-    let from : x.start ≤ f.path.start.1 = starts-from nfa x f.path.start f.path.among in
-    let cut_path = cut-first nfa x anchored may p (WantedAt (IsMatch nfa) h.0) f v.1 m.1 (omega arith) (omega arith)
-    (λ t. first) last in (
+    let Wanted = WantedAt (IsMatch nfa) h.0 in
+    let at = own-span nfa x anchored may p Wanted h.2 v m head ends in
+    let cut_path = cut-first nfa x anchored may p Wanted h.2 v.1 m.1 at in (
       h.0,
       record {
         is_end = record {
@@ -356,9 +336,7 @@ span-earliest nfa x anchored p v m may h head ends =
           wanted = cut_path.wanted.wanted;
           at = cut_path.wanted.at;
         };
-        least = λ n q w t.
-            h.1.least n q (cut-back nfa x anchored may p (WantedAt (IsMatch nfa) h.0) f v.1 m.1 (omega arith)
-            (omega arith) (λ t. first) last n q w) t;
+        least = λ n q w t. h.1.least n q (cut-back nfa x anchored may p Wanted h.2 v.1 m.1 at n q w) t;
       },
       cut_path,
     )
@@ -367,151 +345,65 @@ pub span-cut : (nfa : Automaton) (x : Search) (anchored : Anchored) (p : List Pa
     → MayCut x.anchored anchored → IsScanAnswer nfa x LeftmostFirst false (Some p) → HeadIs v p → EndsWith m p
     → IsScanAnswer nfa (cut_to x v.1 m.1 anchored) LeftmostFirst false (Some p)
 span-cut nfa x anchored p v m may h head ends =
-    let first : h.path.start.1 ≡ v.1 = ap (λ (z : Pair). z.1) (heads-one h.path.start v p h.path.head head) in
-    let last : h.end.1 ≡ m.1 = ap (λ (z : Pair). z.1) (ends-one h.end m p h.path.ends ends) in
-    let from : x.start ≤ h.path.start.1 = starts-from nfa x h.path.start h.path.among in
-    cut-first nfa x anchored may p (IsMatch nfa) h v.1 m.1 (omega arith) (omega arith) (λ t. first) last
+    cut-first nfa x anchored may p (IsMatch nfa) h v.1 m.1
+    (own-span nfa x anchored may p (IsMatch nfa) h v m head ends)
 
 pub end-cut : (nfa : Automaton) (x : Search) (p : List Pair) (m : Pair)
     → IsScanAnswer nfa x LeftmostFirst false (Some p) → EndsWith m p
     → IsScanAnswer nfa (cut_to x x.start m.1 x.anchored) LeftmostFirst false (Some p)
 end-cut nfa x p m h ends =
-    let last : h.end.1 ≡ m.1 = ap (λ (z : Pair). z.1) (ends-one h.end m p h.path.ends ends) in
     let from : x.start ≤ h.path.start.1 = starts-from nfa x h.path.start h.path.among in
     let high : h.path.start.1 ≤ x.end = starts-within nfa x h.path.start h.path.among in
-    let within : x.start ≤ x.end = omega arith in
-    cut-first nfa x x.anchored same p (IsMatch nfa) h x.start m.1 (omega arith) from
-    (λ t. elim (counts nfa x within) [
-      | inl one ↦
-          at-one h.path.start.1 x.start (start_count nfa x) from
-          (start-is (start_state nfa x.anchored) x.start (start_count nfa x) h.path.start h.path.among).before one.1
-      | inr many ↦ absurd (never_both (is_tied nfa x.anchored) t many.0)
-    ])
-    last
+    let begin = start-is (start_state nfa x.anchored) x.start (start_count nfa x) h.path.start h.path.among in
+    cut-first nfa x x.anchored same p (IsMatch nfa) h x.start m.1 (record {
+      low = omega arith;
+      past = from;
+      near = λ t. elim (counts nfa x (omega arith)) [
+        | inl one ↦ at-one h.path.start.1 x.start (start_count nfa x) from begin.before one.1
+        | inr many ↦ absurd (never_both (is_tied nfa x.anchored) t many.0)
+      ];
+      last = ap (λ (z : Pair). z.1) (ends-one h.end m p h.path.ends ends);
+    })
   where
     at-one : (b s n : ℕ) → s ≤ b → b < s + n → n ≡ 1 → b ≡ s
     at-one b s n low less is = omega arith
 
--- a search
+-- A search. Whether a path ends on a boundary depends on the haystack only.
 
--- of three cases, the one that holds
-
-kept-of : (A B C : Type 0) (b c : Bool) → b ≡ true → c ≡ true → MatchBool b (MatchBool c A B) C → A
-kept-of A B C b c e d h = rw (e, d) at h
-
-restarted-of : (A B C : Type 0) (b c : Bool) → b ≡ true → c ≡ false → MatchBool b (MatchBool c A B) C → B
-restarted-of A B C b c e d h = rw (e, d) at h
-
-plain-of : (D C : Type 0) (b : Bool) → b ≡ false → MatchBool b D C → C
-plain-of D C b e h = rw e at h
-
-of-kept : (A B C : Type 0) (b c : Bool) → b ≡ true → c ≡ true → A → MatchBool b (MatchBool c A B) C
-of-kept A B C b c e d h = rw (e, d) h
-
-of-restarted : (A B C : Type 0) (b c : Bool) → b ≡ true → c ≡ false → B → MatchBool b (MatchBool c A B) C
-of-restarted A B C b c e d h = rw (e, d) h
-
-of-plain : (D C : Type 0) (b : Bool) → b ≡ false → C → MatchBool b D C
-of-plain D C b e h = rw e h
-
--- whether a path ends on a boundary depends on the haystack only
-boundary-cut : (x : Search) (s e : ℕ) (anchored : Anchored) (p : List Pair) → EndsOnBoundary x p
-    → EndsOnBoundary (cut_to x s e anchored) p
-boundary-cut x s e anchored [] b = b
-boundary-cut x s e anchored (v ∷ []) b = b
-boundary-cut x s e anchored (v ∷ (w ∷ p)) b = boundary-cut x s e anchored (w ∷ p) b
-
-boundary-raised : (x : Search) (i : ℕ) (p : List Pair) → EndsOnBoundary (raised x i) p → EndsOnBoundary x p
-boundary-raised x i [] b = b
-boundary-raised x i (v ∷ []) b = b
-boundary-raised x i (v ∷ (w ∷ p)) b = boundary-raised x i (w ∷ p) b
-
-module _ (nfa : Automaton) (x : Search) (restarts : ℕ) (p : List Pair)
-    (h : IsSearchAnswer nfa LeftmostFirst false x restarts (Some p)) where
-  not-raised : restarts ≡ 0 → IsScanAnswer nfa x LeftmostFirst false (Some p)
-      → IsScanAnswer nfa (raised x restarts) LeftmostFirst false (Some p)
-  not-raised none scan =
-      subst (λ (n : ℕ). IsScanAnswer nfa (raised x n) LeftmostFirst false (Some p)) (sym none)
-      (subst (λ (z : Search). IsScanAnswer nfa z LeftmostFirst false (Some p)) (sym (raised-zero x)) scan)
-
-  -- the last scan of the search, and if matches end on boundaries, the end of its path
-  record HasScan : Type 0 where
-    scan : IsScanAnswer nfa (raised x restarts) LeftmostFirst false (Some p)
-    whole : is_utf8_empty nfa ≡ true → EndsOnBoundary x p
-
-  has-scan : HasScan
-  has-scan =
-      elim (cases_Bool (is_utf8_empty nfa)) [
-        | inl utf8 ↦ elim (cases_Bool (is_anchored x.anchored)) [
-          | inl on ↦
-              let k : (restarts ≡ 0) × IsKeptAnswer nfa LeftmostFirst false x (Some p) =
-              kept-of _ _ _ (is_utf8_empty nfa) (is_anchored x.anchored) utf8 on h in
-              record { scan = not-raised k.0 k.1.0; whole = λ t. k.1.1 }
-          | inr off ↦
-              let k : IsRestartedAnswer nfa LeftmostFirst false x restarts (Some p) =
-              restarted-of _ _ _ (is_utf8_empty nfa) (is_anchored x.anchored) utf8 off h in
-              record { scan = k.answers; whole = λ t. k.whole }
-        ]
-        | inr plain ↦
-            let k : (restarts ≡ 0) × IsScanAnswer nfa x LeftmostFirst false (Some p) =
-            plain-of _ _ (is_utf8_empty nfa) plain h in
-            record { scan = not-raised k.0 k.1; whole = λ t. absurd (never_both (is_utf8_empty nfa) t plain) }
-      ]
-
-  pub search-cut : (anchored : Anchored) (v m : Pair) → MayCut x.anchored anchored → HeadIs v p → EndsWith m p
-      → IsSearchAnswer nfa LeftmostFirst false (cut_to x v.1 m.1 anchored) 0 (Some p)
-  search-cut anchored v m may head ends =
-      let k = has-scan in
-      let scan : IsScanAnswer nfa (cut_to x v.1 m.1 anchored) LeftmostFirst false (Some p) =
-      span-cut nfa (raised x restarts) anchored p v m may k.scan head ends in
-      elim (cases_Bool (is_utf8_empty nfa)) [
-        | inl utf8 ↦
-            let whole = boundary-cut x v.1 m.1 anchored p (k.whole utf8) in
-            elim (cases_Bool (is_anchored anchored)) [
-              | inl on ↦ of-kept _ _ _ (is_utf8_empty nfa) (is_anchored anchored) utf8 on (refl, (scan, whole))
-              | inr off ↦
-                  let k : IsRestartedAnswer nfa LeftmostFirst false (cut_to x v.1 m.1 anchored) 0 (Some p) =
-                  record {
-                    skipped = λ i less. absurd (omega arith);
-                    answers = subst (λ (z : Search). IsScanAnswer nfa z LeftmostFirst false (Some p))
-                        (sym (raised-zero (cut_to x v.1 m.1 anchored))) scan;
-                    whole = whole;
-                  } in
-                  of-restarted _ _ _ (is_utf8_empty nfa) (is_anchored anchored) utf8 off k
-            ]
-        | inr plain ↦ of-plain _ _ (is_utf8_empty nfa) plain (refl, scan)
-      ]
+pub search-cut : (nfa : Automaton) (x : Search) (restarts : ℕ) (p : List Pair)
+    → IsSearchAnswer nfa LeftmostFirst false x restarts (Some p) → (anchored : Anchored) (v m : Pair)
+    → MayCut x.anchored anchored → HeadIs v p → EndsWith m p
+    → IsSearchAnswer nfa LeftmostFirst false (cut_to x v.1 m.1 anchored) 0 (Some p)
+search-cut nfa x restarts p h anchored v m may head ends =
+    let k = last-scan nfa LeftmostFirst false x restarts p h in
+    first-scan nfa LeftmostFirst false (cut_to x v.1 m.1 anchored) p
+    (span-cut nfa (raised x restarts) anchored p v m may k.scan head ends) k.whole
 
 -- the answer of a search
 
 pub answer-span : (nfa : Automaton) (x : Search) (anchored : Anchored) (pattern : ℕ) (slots : List (Option ℕ))
     → MayCut x.anchored anchored → IsAnswer nfa LeftmostFirst false x (Some pattern) slots
     → IsAnswerSpan nfa LeftmostFirst false x anchored pattern slots
-answer-span nfa x anchored pattern slots may h = of h.path h.answers h.pattern_is h.slots_are
-  where
-    of : (r : Option (List Pair)) → IsSearchAnswer nfa LeftmostFirst false x h.restarts r
-        → Some pattern ≡ option_and_then (path_pattern nfa) r → slots ≡ slot_row nfa (length slots) r
-        → IsAnswerSpan nfa LeftmostFirst false x anchored pattern slots
-    of None answers is row = cc
-    of (Some p) answers is row =
-        let scan = (has-scan nfa x h.restarts p answers).scan in
-        record {
-          restarts = h.restarts;
-          path = p;
-          first = scan.path.start;
-          last = scan.end;
-          is_path = answers;
-          starts_with = scan.path.head;
-          ends_with = scan.path.ends;
-          answers = record {
-            restarts = 0;
-            path = Some p;
-            answers = search-cut nfa x h.restarts p answers anchored scan.path.start scan.end may scan.path.head
-                scan.path.ends;
-            pattern_is = is;
-            slots_are = row;
-          };
-        }
+answer-span nfa x anchored pattern slots may h =
+    let a = has-path nfa LeftmostFirst false x pattern slots h in
+    let scan = (last-scan nfa LeftmostFirst false x a.restarts a.path a.answers).scan in
+    record {
+      restarts = a.restarts;
+      path = a.path;
+      first = scan.path.start;
+      last = scan.end;
+      is_path = a.answers;
+      starts_with = scan.path.head;
+      ends_with = scan.path.ends;
+      answers = record {
+        restarts = 0;
+        path = Some a.path;
+        answers = search-cut nfa x a.restarts a.path a.answers anchored scan.path.start scan.end may scan.path.head
+            scan.path.ends;
+        pattern_is = a.pattern_is;
+        slots_are = a.slots_are;
+      };
+    }
 
 -- of all accepting paths
 pub least-of-all : (nfa : Automaton) (x : Search) (p : List Pair) (v m : Pair) (q : List Pair)

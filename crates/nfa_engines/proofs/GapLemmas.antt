@@ -1,30 +1,17 @@
 -- If each accepting path writes its start and its end, the leftmost match is that of the first path, and there is none
 -- if there is no path.
-use Rattle.std.proofs.Common.{◌≡◌, ℕ, ◌+◌, ◌*◌, ◌≤◌, ◌<◌, ◌⊎◌, ◌↔◌, ◌∙◌, inl, inr, Bool, false, List, [], ◌∷◌, refl, sym, ap, arith, Option, None, Some, IfSome, option_and_then}
+use Rattle.std.proofs.Common.{◌≡◌, ℕ, ◌+◌, ◌*◌, ◌≤◌, ◌<◌, ◌↔◌, ◌∙◌, inl, inr, Bool, false, List, refl, sym, ap, arith, Option, None, Some, IfSome, option_and_then}
 use Rattle.std.proofs.lemmas.Bool.{cases_lt, le-leb}
-use Rattle.nfa_paths.specs.Common.{Found, slot_count, Search, offset_at, match_of, MatchKind, Automaton, IsAutomaton, Pair, HeadIs, Linked, EndsWith, ComesBefore, PathTo, NoPath, edges, starts, is_utf8_empty, IsMatch, IsScanAnswer, IsSearchAnswer, IsFindAnswer, path_pattern, slot_among, slot_row}
+use Rattle.nfa_paths.specs.Common.{Found, slot_count, Search, offset_at, match_of, MatchKind, Automaton, IsAutomaton, Pair, HeadIs, PathTo, NoPath, edges, starts, is_utf8_empty, IsMatch, IsScanAnswer, IsFindAnswer, path_pattern, slot_among, slot_row}
 use Rattle.regex_search_core.specs.declared.search.MatchKind.TheVariants.{LeftmostFirst}
 use Rattle.nfa_paths.proofs.AnswerLemmas.{scan_answer-leads, never_none}
 use Rattle.nfa_paths.proofs.ExistenceLemmas.{scan_answer-none}
 use Rattle.nfa_paths.proofs.PatternLemmas.{offset_at-slot_row, slot_among-past}
-use Rattle.nfa_paths.proofs.ScanAnswerLemmas.{edges-onward}
+use Rattle.nfa_paths.proofs.OneScanLemmas.{scan-of}
+use Rattle.nfa_engines.proofs.FirstStartLemmas.{heads-order, path-order}
 use Rattle.nfa_engines.specs.GapLaws.{WritesItsEnds, PathsWriteTheirEnds, StartsBeforePaths}
 
 module _ (nfa : Automaton) where
-  -- a path does not end before its start
-  onward : (x : Search) (start end : Pair) (p : List Pair) → HeadIs start p → Linked (edges nfa x) p → EndsWith end p
-      → start.1 ≤ end.1
-  onward x start end [] head linked ends = absurd head
-  onward x start end (v ∷ []) head linked ends =
-      let from : v.1 ≡ start.1 = ap (λ (z : Pair). z.1) head in
-      let to : v.1 ≡ end.1 = ap (λ (z : Pair). z.1) ends in
-      omega arith
-  onward x start end (v ∷ (w ∷ p)) head linked ends =
-      let from : v.1 ≡ start.1 = ap (λ (z : Pair). z.1) head in
-      let on : v.1 ≤ w.1 = edges-onward nfa x v w linked.0 in
-      let rest : w.1 ≤ end.1 = onward x w end (w ∷ p) refl linked.1 ends in
-      omega arith
-
   -- a slot that a path writes is one of the NFA's
   written-below : IsAutomaton nfa → (p : List Pair) (slot at : ℕ) → slot_among nfa p slot ≡ Some at
       → slot < slot_count nfa.groups
@@ -53,23 +40,16 @@ module _ (nfa : Automaton) where
       ∙ match-made (slot_row nfa (slot_count nfa.groups) (Some p)) writes.pattern writes.start.1 end.1
       (offset_at-slot_row nfa p (slot_count nfa.groups) (2 * writes.pattern) low ∙ writes.start_slot)
       (offset_at-slot_row nfa p (slot_count nfa.groups) (2 * writes.pattern + 1) high ∙ writes.end_slot)
-      (onward x writes.start end p writes.head path.linked path.ends)
+      (path-order nfa x writes.start end p writes.head path.linked path.ends).0
 
   module _ (valid : IsAutomaton nfa) (x : Search) (anywhere : is_utf8_empty nfa ≡ false)
       (write : PathsWriteTheirEnds nfa x) where
-    -- if a match may end anywhere, a search's answer is that of one scan
-    scanned : (kind : MatchKind) (earliest : Bool) (restarts : ℕ) (path : Option (List Pair))
-        → IsSearchAnswer nfa kind earliest x restarts path
-        → IsScanAnswer nfa x kind earliest path
-    scanned kind earliest restarts path h =
-        let scan : (restarts ≡ 0) × IsScanAnswer nfa x kind earliest path = rw anywhere at h in scan.1
-
     -- there is no match exactly if there is no accepting path
     pub none-is_no_path : (kind : MatchKind) (earliest : Bool) (found : Option Found)
         → IsFindAnswer nfa kind earliest x found
         → (found ≡ None) ↔ NoPath (edges nfa x) (starts nfa x) (IsMatch nfa)
     none-is_no_path kind earliest found answer =
-        of answer.path (scanned kind earliest answer.restarts answer.path answer.answers) answer.found_is
+        of answer.path (scan-of nfa kind earliest x anywhere answer.restarts answer.path answer.answers) answer.found_is
       where
         of : (path : Option (List Pair)) → IsScanAnswer nfa x kind earliest path
             → found ≡ match_of (option_and_then (path_pattern nfa) path) (slot_row nfa (slot_count nfa.groups) path)
@@ -80,28 +60,13 @@ module _ (nfa : Automaton) where
             let some = is ∙ path-match valid x to.end p to.path (write to.end p to.path to.matches) in
             (λ e. absurd (never_none _ (sym some ∙ e)), λ h. absurd (h to.end p to.path to.matches))
 
-    -- of two paths the first does not start after the other
-    first-starts : (start other : Pair) (p q : List Pair) → HeadIs start p → HeadIs other q
-        → (q ≡ p) ⊎ ComesBefore (edges nfa x) p q → start.1 ≤ other.1
-    first-starts start other [] q head k order = absurd head
-    first-starts start other (v ∷ p) [] head k order = absurd k
-    first-starts start other (v ∷ p) (w ∷ q) head k order =
-        let from : v.1 ≡ start.1 = ap (λ (z : Pair). z.1) head in
-        let to : w.1 ≡ other.1 = ap (λ (z : Pair). z.1) k in
-        elim order [
-          | inl same ↦ let heads : w ≡ v = cc in let e : w.1 ≡ v.1 = ap (λ (z : Pair). z.1) heads in omega arith
-          | inr before ↦ elim before [
-            | inl less ↦ omega arith
-            | inr edge ↦ let e : v.1 ≡ w.1 = ap (λ (z : Pair). z.1) edge.0 in omega arith
-          ]
-        ]
-
     -- the match starts not after any accepting path
     pub none-starts_before : (found : Option Found) → IsFindAnswer nfa LeftmostFirst false x found
         → IfSome found (StartsBeforePaths nfa x)
     none-starts_before None answer = tt
     none-starts_before (Some m) answer =
-        of answer.path (scanned LeftmostFirst false answer.restarts answer.path answer.answers) answer.found_is
+        of answer.path (scan-of nfa LeftmostFirst false x anywhere answer.restarts answer.path answer.answers)
+        answer.found_is
       where
         of : (path : Option (List Pair)) → IsScanAnswer nfa x LeftmostFirst false path
             → Some m ≡ match_of (option_and_then (path_pattern nfa) path) (slot_row nfa (slot_count nfa.groups) path)
@@ -115,5 +80,6 @@ module _ (nfa : Automaton) where
             let at : m ≡ record { pattern = writes.pattern; start = writes.start.1; end = scan.end.1 } = cc in
             let low : m.start ≡ writes.start.1 = ap (λ (g : Found). g.start) at in
             let order = scan.first end q path matches in
-            let first : writes.start.1 ≤ start.1 = first-starts writes.start start p q writes.head head order in
+            let first : writes.start.1 ≤ start.1 =
+            heads-order (edges nfa x) writes.start start p q writes.head head order in
             omega arith

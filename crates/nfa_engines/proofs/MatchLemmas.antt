@@ -4,11 +4,12 @@ use Rattle.std.specs.List.{range_with_len}
 use Rattle.std.proofs.lemmas.Bool.{cases_lt}
 use Rattle.std.proofs.lemmas.List.FromFn.{length-map-range_with_len}
 use Rattle.std.proofs.lemmas.Option.{slice_get_past}
-use Rattle.nfa_paths.specs.Common.{Found, slot_count, Search, offset_at, match_of, MatchKind, Automaton, IsAutomaton, Pair, is_utf8_empty, path_pattern, slot_among, slot_row, IsAnswer, IsBoolAnswer, IsFindAnswer, IsScanAnswer, IsSearchAnswer}
+use Rattle.nfa_paths.specs.Common.{Found, slot_count, Search, offset_at, match_of, MatchKind, Automaton, IsAutomaton, Pair, is_utf8_empty, path_pattern, slot_among, slot_row, IsAnswer, IsBoolAnswer, IsFindAnswer, IsScanAnswer}
 use Rattle.thompson_nfa.specs.Automaton.{AreGroupsOfPatterns}
 use Rattle.nfa_paths.proofs.AnswerLemmas.{scan_answer-leads}
 use Rattle.nfa_paths.proofs.ExistenceLemmas.{scan_answer-none}
 use Rattle.nfa_paths.proofs.KnownLemmas.{match-unique}
+use Rattle.nfa_paths.proofs.OneScanLemmas.{given, has-path, scan-of}
 use Rattle.nfa_paths.proofs.PatternLemmas.{found-of, offset_at-slot_row, pattern-within, slot_among-past}
 use Rattle.nfa_engines.specs.Accepting.{MatchesNothing, MatchesPattern, MatchesSomething}
 
@@ -75,16 +76,7 @@ module _ (nfa : Automaton) where
         → length slots ≡ slot_count nfa.groups → IsAnswer nfa kind earliest x pattern slots
         → IsFindAnswer nfa kind earliest x found → match_of pattern slots ≡ found
     all-match pattern slots found count a h =
-        match-unique nfa kind earliest x (match_of pattern slots) found
-        (record {
-          restarts = a.restarts;
-          path = a.path;
-          answers = a.answers;
-          found_is = ap (λ (o : Option ℕ). match_of o slots) a.pattern_is
-              ∙ ap (λ (s : List (Option ℕ)). match_of (option_and_then (path_pattern nfa) a.path) s)
-              (a.slots_are ∙ ap (λ (n : ℕ). slot_row nfa n a.path) count);
-        })
-        h
+        match-unique nfa kind earliest x (match_of pattern slots) found (given nfa kind earliest x pattern slots count a) h
 
     -- so do the slots that each pattern has
     pub two-match : (pattern : Option ℕ) (slots : List (Option ℕ)) (found : Option Found)
@@ -116,18 +108,12 @@ module _ (nfa : Automaton) where
 
   -- if a match may end anywhere
   module _ (kind : MatchKind) (earliest : Bool) (x : Search) (anywhere : is_utf8_empty nfa ≡ false) where
-    -- a search's answer is that of one scan
-    scanned : (restarts : ℕ) (path : Option (List Pair)) → IsSearchAnswer nfa kind earliest x restarts path
-        → IsScanAnswer nfa x kind earliest path
-    scanned restarts path h = let scan : (restarts ≡ 0) × IsScanAnswer nfa x kind earliest path = rw anywhere at h in
-        scan.1
-
     none-nothing : IsScanAnswer nfa x kind earliest None → MatchesNothing nfa x
     none-nothing h = record { no_path = scan_answer-none nfa x kind earliest h }
 
     pub found-something : (found : Bool) → found ≡ true → IsBoolAnswer nfa kind earliest x found
         → MatchesSomething nfa x
-    found-something found is_true h = of h.path (scanned h.restarts h.path h.answers) (sym is_true ∙ h.found_is)
+    found-something found is_true h = of h.path (scan-of nfa kind earliest x anywhere h.restarts h.path h.answers) (sym is_true ∙ h.found_is)
       where
         of : (path : Option (List Pair)) → IsScanAnswer nfa x kind earliest path → true ≡ is_some path
             → MatchesSomething nfa x
@@ -138,7 +124,7 @@ module _ (nfa : Automaton) where
 
     pub not_found-nothing : (found : Bool) → found ≡ false → IsBoolAnswer nfa kind earliest x found
         → MatchesNothing nfa x
-    not_found-nothing found is_false h = of h.path (scanned h.restarts h.path h.answers) (sym is_false ∙ h.found_is)
+    not_found-nothing found is_false h = of h.path (scan-of nfa kind earliest x anywhere h.restarts h.path h.answers) (sym is_false ∙ h.found_is)
       where
         of : (path : Option (List Pair)) → IsScanAnswer nfa x kind earliest path → false ≡ is_some path
             → MatchesNothing nfa x
@@ -147,14 +133,11 @@ module _ (nfa : Automaton) where
 
     pub pattern-matched : (pattern : ℕ) (slots : List (Option ℕ)) → IsAnswer nfa kind earliest x (Some pattern) slots
         → MatchesPattern nfa x pattern
-    pattern-matched pattern slots h = of h.path (scanned h.restarts h.path h.answers) h.pattern_is
-      where
-        of : (path : Option (List Pair)) → IsScanAnswer nfa x kind earliest path
-            → Some pattern ≡ option_and_then (path_pattern nfa) path → MatchesPattern nfa x pattern
-        of None scan e = cc
-        of (Some p) scan e =
-            let to = scan_answer-leads nfa x kind earliest p scan in
-            record { end = to.end; along = p; path = to.path; accepts = to.matches; pattern_is = sym e }
+    pattern-matched pattern slots h =
+        let p = has-path nfa kind earliest x pattern slots h in
+        let to = scan_answer-leads nfa x kind earliest p.path
+        (scan-of nfa kind earliest x anywhere p.restarts (Some p.path) p.answers) in
+        record { end = to.end; along = p.path; path = to.path; accepts = to.matches; pattern_is = sym p.pattern_is }
 
     pub no_pattern-nothing : (slots : List (Option ℕ)) → IsAnswer nfa kind earliest x None slots
         → MatchesNothing nfa x

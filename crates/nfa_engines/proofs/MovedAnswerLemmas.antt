@@ -1,12 +1,13 @@
 -- If the accepting paths of one search are those of another, moved, so is its answer.
-use Rattle.std.proofs.Common.{◌≡◌, ◌∙◌, ℕ, ◌+◌, ◌*◌, ◌==◌, ◌≤◌, ◌<◌, inl, inr, Bool, true, false, List, [], ◌∷◌, map, replicate, zero, suc, length, refl, sym, ap, arith, nat_le, leb, if◌then◌else◌, Option, None, Some, option_map, option_and_then, slice_get}
+use Rattle.std.proofs.Common.{◌≡◌, ◌∙◌, ℕ, ◌+◌, ◌*◌, ◌==◌, ◌≤◌, ◌<◌, inl, inr, Bool, true, false, List, [], ◌∷◌, map, replicate, zero, suc, length, refl, sym, subst, ap, arith, nat_le, leb, if◌then◌else◌, Option, None, Some, option_map, option_and_then, slice_get}
 use Rattle.std.specs.List.{last_or, range_with_len}
 use Rattle.std.specs.Option.{option_or, option_map_or}
 use Rattle.std.proofs.lemmas.Bool.Decides.{leb_tells}
 use Rattle.std.proofs.lemmas.List.{length-map}
 use Rattle.std.proofs.lemmas.Option.{slice_get-map}
-use Rattle.nfa_paths.specs.Common.{Found, slot_count, Search, offset_at, match_of, Span, MatchKind, Automaton, Pair, capture, edges, is_utf8_empty, node_at, path_pattern, pattern_of, slot_among, slot_row, starts, IsAnswer, IsMatch, IsFindAnswer, IsScanAnswer, IsSearchAnswer}
+use Rattle.nfa_paths.specs.Common.{Found, Search, offset_at, match_of, Span, MatchKind, Automaton, Pair, capture, edges, is_utf8_empty, node_at, path_pattern, pattern_of, slot_among, slot_row, starts, IsAnswer, IsMatch, IsFindAnswer, IsScanAnswer, IsSearchAnswer}
 use Rattle.regex_search_core.specs.declared.search.MatchKind.TheVariants.{All, LeftmostFirst}
+use Rattle.nfa_paths.proofs.OneScanLemmas.{given, gives, scan-of, search-of}
 use Rattle.nfa_engines.specs.SpanLaws.{moved_match, moved_slots}
 use Rattle.nfa_engines.proofs.MovedLemmas.{moved, moved_path, ArePathsMoved, first_path-moved, earliest_path-moved, last_path-moved, earliest_last_path-moved}
 
@@ -61,7 +62,7 @@ spans-moved k p (Some a) None = refl
 spans-moved k p (Some a) (Some b) = rw (order-moved k a b) (span-moved k p a b (leb a b))
 
 -- the match of moved slots is the match of the slots, moved
-pub match-moved : (k : ℕ) (pattern : Option ℕ) (slots : List (Option ℕ))
+match-moved : (k : ℕ) (pattern : Option ℕ) (slots : List (Option ℕ))
     → match_of pattern (moved_slots k slots) ≡ option_map (moved_match k) (match_of pattern slots)
 match-moved k None slots = refl
 match-moved k (Some p) slots =
@@ -69,7 +70,7 @@ match-moved k (Some p) slots =
     (spans-moved k p (offset_at slots (2 * p)) (offset_at slots (2 * p + 1)))
 
 -- by no distance, slots and matches stay
-pub moved_slots-none : (slots : List (Option ℕ)) → moved_slots 0 slots ≡ slots
+moved_slots-none : (slots : List (Option ℕ)) → moved_slots 0 slots ≡ slots
 moved_slots-none [] = refl
 moved_slots-none (o ∷ slots) = let e = of o in let f = moved_slots-none slots in λ i. e i ∷ f i
   where
@@ -77,7 +78,7 @@ moved_slots-none (o ∷ slots) = let e = of o in let f = moved_slots-none slots 
     of None = refl
     of (Some at) = let e : at + 0 ≡ at = omega arith in ap Some e
 
-pub moved_match-none : (found : Option Found) → option_map (moved_match 0) found ≡ found
+moved_match-none : (found : Option Found) → option_map (moved_match 0) found ≡ found
 moved_match-none None = refl
 moved_match-none (Some m) =
     let start : m.start + 0 ≡ m.start = omega arith in
@@ -149,8 +150,8 @@ module _ (nfa : Automaton) (k : ℕ) where
       search-moved : (restarts : ℕ) (r : Option (List Pair)) → IsSearchAnswer nfa kind earliest x restarts r
           → IsSearchAnswer nfa kind earliest y 0 (option_map (moved_path k) r)
       search-moved restarts r h =
-          let scan : (restarts ≡ 0) × IsScanAnswer nfa x kind earliest r = rw anywhere at h in
-          rw anywhere (refl, scan-moved kind earliest r scan.1)
+          search-of nfa kind earliest y anywhere (option_map (moved_path k) r)
+          (scan-moved kind earliest r (scan-of nfa kind earliest x anywhere restarts r h))
 
       -- pattern and slots
       pub answer-moved : (pattern : Option ℕ) (slots : List (Option ℕ)) → IsAnswer nfa kind earliest x pattern slots
@@ -168,15 +169,26 @@ module _ (nfa : Automaton) (k : ℕ) where
       -- the match
       pub match_answer-moved : (found : Option Found) → IsFindAnswer nfa kind earliest x found
           → IsFindAnswer nfa kind earliest y (option_map (moved_match k) found)
-      match_answer-moved found h = record {
-        restarts = 0;
-        path = option_map (moved_path k) h.path;
-        answers = search-moved h.restarts h.path h.answers;
-        found_is = ap (option_map (moved_match k)) h.found_is
-            ∙ sym (match-moved k (option_and_then (path_pattern nfa) h.path)
-            (slot_row nfa (slot_count nfa.groups) h.path))
-            ∙ ap (match_of (option_and_then (path_pattern nfa) h.path))
-            (sym (row-moved (slot_count nfa.groups) h.path))
-            ∙ ap (λ o. match_of o (slot_row nfa (slot_count nfa.groups) (option_map (moved_path k) h.path)))
-            (sym (pattern-moved h.path));
-      }
+      match_answer-moved found h =
+          let g = gives nfa kind earliest x found h in
+          let long = length-map g.slots (option_map (λ (at : ℕ). at + k)) in
+          subst (IsFindAnswer nfa kind earliest y)
+          (match-moved k g.pattern g.slots ∙ ap (option_map (moved_match k)) (sym g.is))
+          (given nfa kind earliest y g.pattern (moved_slots k g.slots) (long ∙ g.count)
+          (answer-moved g.pattern g.slots g.answers))
+
+-- if they move by no distance, the answer stays
+module _ (nfa : Automaton) (x y : Search)
+    (same : ArePathsMoved (edges nfa x) (edges nfa y) (starts nfa x) (starts nfa y) (IsMatch nfa) 0)
+    (anywhere : is_utf8_empty nfa ≡ false) (kind : MatchKind) (earliest : Bool) where
+  pub answer-stays : (pattern : Option ℕ) (slots : List (Option ℕ)) → IsAnswer nfa kind earliest x pattern slots
+      → IsAnswer nfa kind earliest y pattern slots
+  answer-stays pattern slots h =
+      subst (IsAnswer nfa kind earliest y pattern) (moved_slots-none slots)
+      (answer-moved nfa 0 x y same anywhere kind earliest pattern slots h)
+
+  pub match-stays : (found : Option Found) → IsFindAnswer nfa kind earliest x found
+      → IsFindAnswer nfa kind earliest y found
+  match-stays found h =
+      subst (IsFindAnswer nfa kind earliest y) (moved_match-none found)
+      (match_answer-moved nfa 0 x y same anywhere kind earliest found h)

@@ -2,6 +2,7 @@
 -- that are inside count: those that a path may lead through.
 use Rattle.std.proofs.Common.{◌≡◌, ℕ, ◌↔◌, inl, inr, List, [], ◌∷◌, refl, sym, ap, subst, arith}
 use Rattle.nfa_paths.specs.Common.{Pair, In, Earlier, HeadIs, NoRepeats, Linked, EndsWith, BeforeAfter, ComesBefore}
+use Rattle.nfa_engines.proofs.FirstPatternLemmas.{put-linked}
 use Rattle.nfa_engines.proofs.MovedLemmas.{moved, moved_path, moved-injective, ArePathsMoved}
 
 module _ (k : ℕ) where
@@ -84,10 +85,6 @@ module _ (edges edges_to : Pair → List Pair) (starts starts_to : List Pair) (k
     linked : Linked edges along
     is : q ≡ moved_path k along
 
-  put : (v w : Pair) (p : List Pair) → In w (edges v) → HeadIs w p → Linked edges p → Linked edges (v ∷ p)
-  put v w [] edge head linked = tt
-  put v w (a ∷ p) edge head linked = (subst (λ z. In z (edges v)) (sym head) edge, linked)
-
   Linked-back : (v : Pair) (q : List Pair) → Inside v → HeadIs (moved k v) q → Linked edges_to q → ComesOf v q
   Linked-back v [] inside head linked = absurd head
   Linked-back v (a ∷ []) inside head linked =
@@ -100,7 +97,7 @@ module _ (edges edges_to : Pair → List Pair) (starts starts_to : List Pair) (k
       record {
         along = v ∷ rest.along;
         head = refl;
-        linked = put v from.0 rest.along from.1 rest.head rest.linked;
+        linked = put-linked edges v from.0 rest.along from.1 rest.head rest.linked;
         is = λ i. head i ∷ rest.is i;
       }
 

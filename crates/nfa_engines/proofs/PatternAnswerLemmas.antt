@@ -1,14 +1,14 @@
 -- The answer of a search that tries patterns in order is that of the first pattern that has one.
-use Rattle.std.proofs.Common.{◌≡◌, ◌∙◌, ℕ, zero, suc, ◌==◌, ◌<◌, ◌⊎◌, ◌↔◌, inl, inr, false, List, [], ◌∷◌, length, map, refl, sym, ap, subst, arith, slice_get, if◌then◌else◌, Option, None, Some, option_and_then}
+use Rattle.std.proofs.Common.{◌≡◌, ◌∙◌, ℕ, zero, suc, ◌==◌, ◌<◌, ◌⊎◌, ◌↔◌, inl, inr, false, List, [], ◌∷◌, length, map, refl, sym, ap, subst, arith, slice_get, if◌then◌else◌, Option, None, Some}
 use Rattle.std.specs.List.{range_with_len}
 use Rattle.std.specs.Option.{option_or, option_map_or}
 use Rattle.std.proofs.lemmas.Bool.{cases_eq}
-use Rattle.nfa_paths.specs.Common.{Search, Automaton, Pair, Earlier, HeadIs, ComesBefore, PathTo, IsFirstTo, edges, is_utf8_empty, node_at, path_pattern, slot_among, slot_row, starts, IsAnswer, IsMatch, IsScanAnswer, IsSearchAnswer}
+use Rattle.nfa_paths.specs.Common.{Search, Automaton, Pair, Earlier, HeadIs, ComesBefore, PathTo, IsFirstTo, edges, is_utf8_empty, node_at, path_pattern, slot_among, slot_row, starts, IsAnswer, IsMatch}
 use Rattle.regex_search_core.specs.declared.search.Anchored.TheVariants.{Yes}
 use Rattle.regex_search_core.specs.declared.search.MatchKind.TheVariants.{LeftmostFirst}
 use Rattle.nfa_engines.specs.Accepting.{MatchesNothing}
 use Rattle.nfa_engines.specs.PatternLaws.{started_at, IsFirstPattern, IsOfPattern, IsUnionOfPatterns, TriesPatternsInOrder}
-use Rattle.nfa_paths.proofs.OneScanLemmas.{has-path, path-has}
+use Rattle.nfa_paths.proofs.OneScanLemmas.{has-path, scan-of, search-of}
 use Rattle.nfa_engines.proofs.FirstPatternLemmas.{comes, earlier, goes, head-of, not-earlier, order-apart, order-back, order-same, top, top-edges, top-writes, GoesOn}
 use Rattle.nfa_paths.proofs.OptionLemmas.{same_some, option_or-None}
 use Rattle.nfa_paths.proofs.PathLemmas.{Earlier-irreflexive}
@@ -146,32 +146,38 @@ module _ (nfa : Automaton) (x : Search) (bound : x.anchored ≡ Yes) (h : IsUnio
         → IsAnswer nfa LeftmostFirst false x (Some pattern) slots
     unfolding node_at slot_row
     answer-of k state pattern slots first a =
-        let q = has-path (started_at nfa state) anywhere LeftmostFirst false x pattern slots a in
-        let head = head-of nfa x bound h state q.scan.end q.path q.scan.path in
-        path-has nfa anywhere LeftmostFirst false x pattern slots (record {
-          path = top nfa x bound h ∷ q.path;
-          scan = first-of k state first q.path q.scan;
+        let q = has-path (started_at nfa state) LeftmostFirst false x pattern slots a in
+        let f = scan-of (started_at nfa state) LeftmostFirst false x anywhere q.restarts (Some q.path) q.answers in
+        let head = head-of nfa x bound h state f.end q.path f.path in
+        record {
+          restarts = 0;
+          path = Some (top nfa x bound h ∷ q.path);
+          answers = search-of nfa LeftmostFirst false x anywhere (Some (top nfa x bound h ∷ q.path))
+              (first-of k state first q.path f);
           pattern_is = q.pattern_is ∙ sym (pattern-rest (state, x.start) q.path head);
           slots_are = q.slots_are ∙ sym (row-rest (length slots) q.path);
-        })
+        }
 
     of-pattern : (pattern : ℕ) (slots : List (Option ℕ)) → IsAnswer nfa LeftmostFirst false x (Some pattern) slots
         → IsOfPattern nfa LeftmostFirst false x pattern slots
     unfolding node_at slot_row
     of-pattern pattern slots a =
-        let p = has-path nfa anywhere LeftmostFirst false x pattern slots a in
-        let g = goes nfa x bound h p.scan.end p.path p.scan.path p.scan.wanted in
+        let p = has-path nfa LeftmostFirst false x pattern slots a in
+        let f = scan-of nfa LeftmostFirst false x anywhere p.restarts (Some p.path) p.answers in
+        let g = goes nfa x bound h f.end p.path f.path f.wanted in
         record {
           k = g.k;
           state = g.state;
-          first = first-pattern p.path p.scan g;
-          answers = path-has (started_at nfa g.state) anywhere LeftmostFirst false x pattern slots (record {
-            path = g.rest;
-            scan = first-rest p.path p.scan g;
+          first = first-pattern p.path f g;
+          answers = record {
+            restarts = 0;
+            path = Some g.rest;
+            answers = search-of (started_at nfa g.state) LeftmostFirst false x anywhere (Some g.rest)
+                (first-rest p.path f g);
             pattern_is = p.pattern_is ∙ ap (path_pattern nfa) g.is ∙ pattern-rest (g.state, x.start) g.rest g.head;
             slots_are = p.slots_are ∙ ap (λ (z : List Pair). slot_row nfa (length slots) (Some z)) g.is
                 ∙ row-rest (length slots) g.rest;
-          });
+          };
         }
 
 -- one pattern, whose start is the anchored start

@@ -1,7 +1,7 @@
 -- The match of a search that tries patterns in order is that of the first pattern that has one.
-use Rattle.std.proofs.Common.{◌≡◌, ◌∙◌, ℕ, ◌↔◌, inl, inr, Bool, false, List, length, refl, sym, ap, subst, arith, Option, None, Some, option_map, option_and_then}
+use Rattle.std.proofs.Common.{◌≡◌, ◌∙◌, ℕ, ◌↔◌, inl, inr, false, List, length, refl, sym, ap, subst, arith, Option, None, Some, option_map, option_and_then}
 use Rattle.std.proofs.lemmas.Bool.{cases_eq, cases_lt}
-use Rattle.nfa_paths.specs.Common.{Found, slot_count, Search, match_of, MatchKind, Automaton, IsAutomaton, Pair, is_utf8_empty, path_pattern, slot_row, IsAnswer, IsFindAnswer, IsScanAnswer, IsSearchAnswer}
+use Rattle.nfa_paths.specs.Common.{Found, slot_count, Search, match_of, Automaton, IsAutomaton, Pair, is_utf8_empty, path_pattern, slot_row, IsAnswer, IsFindAnswer, IsScanAnswer}
 use Rattle.regex_search_core.specs.declared.search.Anchored.TheVariants.{Yes}
 use Rattle.regex_search_core.specs.declared.search.MatchKind.TheVariants.{LeftmostFirst}
 use Rattle.nfa_paths.proofs.AnswerLemmas.{scan_answer-leads, never_none}
@@ -12,67 +12,18 @@ use Rattle.nfa_engines.proofs.GapLemmas.{path-match}
 use Rattle.nfa_engines.proofs.MatchLemmas.{no_pattern-nothing, pattern-matched}
 use Rattle.nfa_engines.proofs.PatternAnswerLemmas.{answers-pattern, pattern-answers, pattern-nothing}
 use Rattle.nfa_paths.proofs.OptionLemmas.{same_some}
-use Rattle.nfa_paths.proofs.PatternLemmas.{length-slot_row}
+use Rattle.nfa_paths.proofs.OneScanLemmas.{gives, given, match-by, scan-of}
 
 no_match : (m : Found) (slots : List (Option ℕ)) → Some m ≡ match_of None slots → ⊥
 no_match m slots e = cc
-
-module _ (nfa : Automaton) (kind : MatchKind) (earliest : Bool) (x : Search) where
-  -- the answer of a search for all slots, which gives the match
-  record GivesMatch (found : Option Found) : Type 0 where
-    pattern : Option ℕ
-    slots : List (Option ℕ)
-    answers : IsAnswer nfa kind earliest x pattern slots
-    count : length slots ≡ slot_count nfa.groups
-    is : found ≡ match_of pattern slots
-
-  gives : (found : Option Found) → IsFindAnswer nfa kind earliest x found → GivesMatch found
-  gives found a =
-      let n = slot_count nfa.groups in
-      let long = length-slot_row nfa n a.path in
-      record {
-        pattern = option_and_then (path_pattern nfa) a.path;
-        slots = slot_row nfa n a.path;
-        answers = record {
-          restarts = a.restarts;
-          path = a.path;
-          answers = a.answers;
-          pattern_is = refl;
-          slots_are = ap (λ (c : ℕ). slot_row nfa c a.path) (sym long);
-        };
-        count = long;
-        is = a.found_is;
-      }
-
-  given : (pattern : Option ℕ) (slots : List (Option ℕ)) → length slots ≡ slot_count nfa.groups
-      → IsAnswer nfa kind earliest x pattern slots → IsFindAnswer nfa kind earliest x (match_of pattern slots)
-  given pattern slots count a = record {
-    restarts = a.restarts;
-    path = a.path;
-    answers = a.answers;
-    found_is = ap (λ (o : Option ℕ). match_of o slots) a.pattern_is
-        ∙ ap (λ (s : List (Option ℕ)). match_of (option_and_then (path_pattern nfa) a.path) s)
-        (a.slots_are ∙ ap (λ (c : ℕ). slot_row nfa c a.path) count);
-  }
 
 -- the match of the first pattern is that of all, and the other way round
 module _ (nfa : Automaton) (x : Search) (bound : x.anchored ≡ Yes) where
   pub pattern-match : (k state : ℕ) (m : Found) → is_utf8_empty nfa ≡ false → TriesPatternsInOrder nfa x
       → IsFirstPattern nfa x k state → IsFindAnswer (started_at nfa state) LeftmostFirst false x (Some m)
       → IsFindAnswer nfa LeftmostFirst false x (Some m)
-  pattern-match k state m anywhere tries first h =
-      let g = gives (started_at nfa state) LeftmostFirst false x (Some m) h in
-      of g.pattern g.slots g.answers g.count g.is
-    where
-      of : (pattern : Option ℕ) (slots : List (Option ℕ))
-          → IsAnswer (started_at nfa state) LeftmostFirst false x pattern slots
-          → length slots ≡ slot_count nfa.groups → Some m ≡ match_of pattern slots
-          → IsFindAnswer nfa LeftmostFirst false x (Some m)
-      of None slots a count is = absurd (no_match m slots is)
-      of (Some pattern) slots a count is =
-          subst (IsFindAnswer nfa LeftmostFirst false x) (sym is)
-          (given nfa LeftmostFirst false x (Some pattern) slots count
-          (pattern-answers nfa x bound k state pattern slots anywhere tries first a))
+  pattern-match k state m anywhere tries first =
+      match-by refl (λ pattern slots. pattern-answers nfa x bound k state pattern slots anywhere tries first)
 
   pub match-pattern : (m : Found) → is_utf8_empty nfa ≡ false → TriesPatternsInOrder nfa x
       → IsFindAnswer nfa LeftmostFirst false x (Some m) → IsMatchOfPattern nfa LeftmostFirst false x m
@@ -161,16 +112,12 @@ module _ (nfa : Automaton) (x : Search) (anywhere : is_utf8_empty nfa ≡ false)
           ap (option_map (λ (m : Found). m.pattern)) (is ∙ path-match nfa valid x to.end p to.path writes)
           ∙ sym writes.pattern_is
 
-      scanned : (restarts : ℕ) (path : Option (List Pair)) → IsSearchAnswer nfa LeftmostFirst false x restarts path
-          → IsScanAnswer nfa x LeftmostFirst false path
-      scanned restarts path h =
-          let scan : (restarts ≡ 0) × IsScanAnswer nfa x LeftmostFirst false path = rw anywhere at h in scan.1
-
       pub match-first-pattern : (k : ℕ) (found : Option Found) → IsFindAnswer nfa LeftmostFirst false x found
           → (option_map (λ (m : Found). m.pattern) found ≡ Some k) ↔ IsFirstThatMatches nfa x k
       unfolding gives
       match-first-pattern k found a =
           let g = gives nfa LeftmostFirst false x found a in
-          let same = match-has_pattern a.path found (scanned a.restarts a.path a.answers) a.found_is in
+          let same = match-has_pattern a.path found (scan-of nfa LeftmostFirst false x anywhere a.restarts a.path a.answers)
+          a.found_is in
           let of_answer = answer-first k g.pattern g.slots g.answers in
           (λ e. of_answer.0 (sym same ∙ e), λ f. same ∙ of_answer.1 f)

@@ -3,13 +3,12 @@ use Rattle.std.proofs.Common.{◌≡◌, ◌∙◌, ℕ, zero, suc, ◌+◌, ◌
 use Rattle.std.specs.Option.{option_map_or}
 use Rattle.std.proofs.lemmas.Bool.{cases_lt}
 use Rattle.std.proofs.lemmas.List.{get_or_past}
-use Rattle.nfa_paths.specs.Common.{Found, Search, is_anchored, MatchKind, Automaton, Node, look_holds, Pair, In, byte_at, edges, edges_of, is_utf8_empty, node_at, pairs_from, start_count, start_state, starts, target_on, IsAnswer, IsMatch, IsFindAnswer}
+use Rattle.nfa_paths.specs.Common.{Search, is_anchored, Automaton, Node, look_holds, Pair, In, byte_at, edges, edges_of, node_at, pairs_from, start_count, start_state, starts, target_on, IsMatch}
 use Rattle.thompson_nfa.specs.Automaton.Node.{Look, Union, BinaryUnion, Capture, Fail}
 use Rattle.thompson_nfa.specs.declared.look.Look as looks
 use Rattle.nfa_paths.proofs.ScanAnswerLemmas.{edges-onward, edges-within, starts-from, starts-within}
-use Rattle.nfa_engines.specs.SpanLaws.{cut_out, moved_match, moved_slots, AreBytesMoved, HasNoLook, HoldAlike, HoldsAlike, IfLook, IsSameSpan, IsSpanMoved, LookHoldsAlike}
+use Rattle.nfa_engines.specs.SpanLaws.{cut_out, AreBytesMoved, HasNoLook, HoldAlike, HoldsAlike, IfLook, IsSameSpan, IsSpanMoved, LookHoldsAlike}
 use Rattle.nfa_engines.proofs.MovedLemmas.{moved_path, ArePathsMoved}
-use Rattle.nfa_engines.proofs.MovedAnswerLemmas.{answer-moved, match_answer-moved, moved_match-none, moved_slots-none}
 use Rattle.nfa_engines.proofs.MovedGraphLemmas.{paths-moved}
 use Rattle.nfa_paths.proofs.StartLemmas.{resting-edges}
 
@@ -143,9 +142,11 @@ module _ (nfa : Automaton) (k : ℕ) (x y : Search) (alike : HoldAlike nfa k x y
       let on : v.1 ≤ w.1 = edges-onward nfa x v w edge in
       (omega arith, edges-within nfa x v w edge inside.1)
 
-  span-paths : ArePathsMoved (edges nfa x) (edges nfa there) (starts nfa x) (starts nfa there) (IsMatch nfa) k
+  pub span-paths : ArePathsMoved (edges nfa x) (edges nfa y) (starts nfa x) (starts nfa y) (IsMatch nfa) k
   span-paths =
-      paths-moved (edges nfa x) (edges nfa there) (starts nfa x) (starts nfa there) k Inside
+      subst (λ (z : Search). ArePathsMoved (edges nfa x) (edges nfa z) (starts nfa x) (starts nfa z) (IsMatch nfa) k)
+      (sym is_there)
+      (paths-moved (edges nfa x) (edges nfa there) (starts nfa x) (starts nfa there) k Inside
       (record {
         onward = inside-onward;
         from = λ v i. (starts-from nfa x v i, starts-within nfa x v i);
@@ -153,20 +154,7 @@ module _ (nfa : Automaton) (k : ℕ) (x y : Search) (alike : HoldAlike nfa k x y
             edges-at (node_at nfa v.0) (all-at nfa (HoldsAlike k x y) tt alike v.0) v.1 inside.0 inside.1;
         starts_are = starts-moved;
       })
-      (IsMatch nfa) (λ m. (λ h. h, λ h. h))
-
-  module _ (anywhere : is_utf8_empty nfa ≡ false) (kind : MatchKind) (earliest : Bool) where
-    pub span-answer : (pattern : Option ℕ) (slots : List (Option ℕ)) → IsAnswer nfa kind earliest x pattern slots
-        → IsAnswer nfa kind earliest y pattern (moved_slots k slots)
-    span-answer pattern slots h =
-        subst (λ (z : Search). IsAnswer nfa kind earliest z pattern (moved_slots k slots)) (sym is_there)
-        (answer-moved nfa k x there span-paths anywhere kind earliest pattern slots h)
-
-    pub span-match : (found : Option Found) → IsFindAnswer nfa kind earliest x found
-        → IsFindAnswer nfa kind earliest y (option_map (moved_match k) found)
-    span-match found h =
-        subst (λ (z : Search). IsFindAnswer nfa kind earliest z (option_map (moved_match k) found)) (sym is_there)
-        (match_answer-moved nfa k x there span-paths anywhere kind earliest found h)
+      (IsMatch nfa) (λ m. (λ h. h, λ h. h)))
 
 -- the same span is moved by nothing
 
@@ -181,19 +169,9 @@ same-bytes x y h = λ i past below.
     let at : i + 0 ≡ i = omega arith in
     ap (slice_get y.haystack) at ∙ h.bytes i past below
 
-pub same-answer : (nfa : Automaton) (x y : Search) (kind : MatchKind) (earliest : Bool)
-    (pattern : Option ℕ) (slots : List (Option ℕ)) → HoldAlike nfa 0 x y → is_utf8_empty nfa ≡ false → IsSameSpan x y
-    → IsAnswer nfa kind earliest x pattern slots → IsAnswer nfa kind earliest y pattern slots
-same-answer nfa x y kind earliest pattern slots alike anywhere same h =
-    subst (IsAnswer nfa kind earliest y pattern) (moved_slots-none slots)
-    (span-answer nfa 0 x y alike (same-moved x y same) (same-bytes x y same) anywhere kind earliest pattern slots h)
-
-pub same-match : (nfa : Automaton) (x y : Search) (kind : MatchKind) (earliest : Bool) (found : Option Found)
-    → HoldAlike nfa 0 x y → is_utf8_empty nfa ≡ false → IsSameSpan x y
-    → IsFindAnswer nfa kind earliest x found → IsFindAnswer nfa kind earliest y found
-same-match nfa x y kind earliest found alike anywhere same h =
-    subst (IsFindAnswer nfa kind earliest y) (moved_match-none found)
-    (span-match nfa 0 x y alike (same-moved x y same) (same-bytes x y same) anywhere kind earliest found h)
+pub same-paths : (nfa : Automaton) (x y : Search) → HoldAlike nfa 0 x y → IsSameSpan x y
+    → ArePathsMoved (edges nfa x) (edges nfa y) (starts nfa x) (starts nfa y) (IsMatch nfa) 0
+same-paths nfa x y alike same = span-paths nfa 0 x y alike (same-moved x y same) (same-bytes x y same)
 
 -- the span cut out
 
@@ -217,18 +195,6 @@ pub cut-bytes : (x : Search) → AreBytesMoved x.start (cut_out x) x
 cut-bytes x = λ i past below.
     sym (get-take (drop x.start x.haystack) (x.end - x.start) i below ∙ get-drop x.haystack x.start i)
 
-pub cut-answer : (nfa : Automaton) (x : Search) (kind : MatchKind) (earliest : Bool)
-    (pattern : Option ℕ) (slots : List (Option ℕ))
-    → HoldAlike nfa x.start (cut_out x) x → is_utf8_empty nfa ≡ false → x.start ≤ x.end
-    → IsAnswer nfa kind earliest (cut_out x) pattern slots
-    → IsAnswer nfa kind earliest x pattern (moved_slots x.start slots)
-cut-answer nfa x kind earliest pattern slots alike anywhere ordered h =
-    span-answer nfa x.start (cut_out x) x alike (cut-moved x ordered) (cut-bytes x) anywhere kind earliest pattern slots
-    h
-
-pub cut-match : (nfa : Automaton) (x : Search) (kind : MatchKind) (earliest : Bool) (found : Option Found)
-    → HoldAlike nfa x.start (cut_out x) x → is_utf8_empty nfa ≡ false → x.start ≤ x.end
-    → IsFindAnswer nfa kind earliest (cut_out x) found
-    → IsFindAnswer nfa kind earliest x (option_map (moved_match x.start) found)
-cut-match nfa x kind earliest found alike anywhere ordered h =
-    span-match nfa x.start (cut_out x) x alike (cut-moved x ordered) (cut-bytes x) anywhere kind earliest found h
+pub cut-paths : (nfa : Automaton) (x : Search) → HoldAlike nfa x.start (cut_out x) x → x.start ≤ x.end
+    → ArePathsMoved (edges nfa (cut_out x)) (edges nfa x) (starts nfa (cut_out x)) (starts nfa x) (IsMatch nfa) x.start
+cut-paths nfa x alike ordered = span-paths nfa x.start (cut_out x) x alike (cut-moved x ordered) (cut-bytes x)

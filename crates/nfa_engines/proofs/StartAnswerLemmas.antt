@@ -1,14 +1,14 @@
 -- The answer of an unanchored search is that of the anchored search at the first start that has one.
-use Rattle.std.proofs.Common.{◌≡◌, ℕ, ◌+◌, ◌≤◌, ◌⊎◌, ◌↔◌, inl, inr, Bool, false, List, length, refl, sym, ap, subst, arith, Option, None, Some, option_and_then}
+use Rattle.std.proofs.Common.{◌≡◌, ℕ, ◌+◌, ◌≤◌, ◌↔◌, inl, inr, Bool, false, List, refl, sym, ap, subst, arith, Option, Some}
 use Rattle.std.proofs.lemmas.Bool.{cases_lt}
-use Rattle.nfa_paths.specs.Common.{Found, slot_count, Search, match_of, MatchKind, Automaton, Pair, ComesBefore, PathTo, IsFirstTo, edges, path_pattern, slot_row, starts, IsAnswer, IsMatch, IsFindAnswer, IsScanAnswer, IsSearchAnswer}
-use Rattle.regex_search_core.specs.declared.search.Anchored.TheVariants.{Yes}
+use Rattle.nfa_paths.specs.Common.{Found, Search, MatchKind, Automaton, Pair, PathTo, IsFirstTo, edges, edges_of, starts, IsAnswer, IsMatch, IsFindAnswer}
 use Rattle.regex_search_core.specs.declared.search.MatchKind.TheVariants.{LeftmostFirst}
+use Rattle.nfa_paths.proofs.OneScanLemmas.{has-path, match-by, scan-of, search-of}
 use Rattle.nfa_engines.specs.Accepting.{MatchesNothing}
 use Rattle.nfa_engines.specs.StartLaws.{anchored_at, from_start, IsAnswerStart, IsFirstStart, IsUnbound}
 use Rattle.nfa_engines.proofs.MovedLemmas.{moved, moved_path, moved_path-none, ArePathsMoved}
-use Rattle.nfa_engines.proofs.MovedAnswerLemmas.{answer-moved, match_answer-moved, moved_match-none, moved_slots-none}
-use Rattle.nfa_engines.proofs.FirstStartLemmas.{anchored-start, heads-less, heads-order, same_edges, start-anchored, start-unbound, unbound-start, with-starts}
+use Rattle.nfa_engines.proofs.MovedAnswerLemmas.{answer-stays, match-stays}
+use Rattle.nfa_engines.proofs.FirstStartLemmas.{anchored-start, heads-less, heads-order, start-anchored, start-unbound, unbound-start, with-starts}
 
 moved-none : (v : Pair) → moved 0 v ≡ v
 moved-none v = let at : v.1 + 0 ≡ v.1 = omega arith in λ i. (v.0, at i)
@@ -37,23 +37,23 @@ module _ (nfa : Automaton) (x : Search) (free : IsUnbound nfa x) where
   -- a path of the search is one of the anchored search at its start
   anchored-path : (m : Pair) (p : List Pair) (w : PathTo (edges nfa x) (starts nfa x) m p)
       → PathTo (edges nfa (anchored_at x w.start.1)) (starts nfa (anchored_at x w.start.1)) m p
+  unfolding edges_of
   anchored-path m p w =
       let at = start-unbound nfa x free x.start w.start w.among in
       let state : w.start.0 ≡ nfa.anchored = at.state_is in
-      subst (λ es. PathTo es (starts nfa (anchored_at x w.start.1)) m p) (sym (same_edges nfa x w.start.1 Yes))
-      (with-starts w (anchored-start nfa x w.start.1 w.start (λ i. (state i, w.start.1)) at.within))
+      with-starts w (anchored-start nfa x w.start.1 w.start (λ i. (state i, w.start.1)) at.within)
 
   -- and one of an anchored search in the span is one of the search
   unbound-path : (i : ℕ) → x.start ≤ i → (m : Pair) (p : List Pair)
       → PathTo (edges nfa (anchored_at x i)) (starts nfa (anchored_at x i)) m p
       → PathTo (edges nfa x) (starts nfa x) m p
+  unfolding edges_of
   unbound-path i low m p w =
       let at = start-anchored nfa x i w.start w.among in
       let position : w.start.1 ≡ i = ap (λ (z : Pair). z.1) at.is in
       let high : i ≤ x.end = at.within in
-      subst (λ es. PathTo es (starts nfa x) m p) (same_edges nfa x i Yes)
-      (with-starts w (unbound-start nfa x free x.start w.start
-      (record { state_is = ap (λ (z : Pair). z.0) at.is; from = omega arith; within = omega arith })))
+      with-starts w (unbound-start nfa x free x.start w.start
+      (record { state_is = ap (λ (z : Pair). z.0) at.is; from = omega arith; within = omega arith }))
 
   -- a search matches nothing if no anchored search in its span does
   pub nothing-at : MatchesNothing nfa x → (i : ℕ) → x.start ≤ i → MatchesNothing nfa (anchored_at x i)
@@ -96,41 +96,34 @@ module _ (nfa : Automaton) (x : Search) (free : IsUnbound nfa x) where
 
     on : ArePathsMoved (edges nfa x) (edges nfa (from_start x s)) (starts nfa x) (starts nfa (from_start x s))
         (IsMatch nfa) 0
-    on = subst
-        (λ es. ArePathsMoved (edges nfa x) es (starts nfa x) (starts nfa (from_start x s)) (IsMatch nfa) 0)
-        (sym (same_edges nfa x s x.anchored))
-        (paths-stay (edges nfa x) (starts nfa x) (starts nfa (from_start x s)) (IsMatch nfa) path-on path-back)
+    unfolding edges_of
+    on = paths-stay (edges nfa x) (starts nfa x) (starts nfa (from_start x s)) (IsMatch nfa) path-on path-back
 
     back : ArePathsMoved (edges nfa (from_start x s)) (edges nfa x) (starts nfa (from_start x s)) (starts nfa x)
         (IsMatch nfa) 0
-    back = subst
-        (λ es. ArePathsMoved es (edges nfa x) (starts nfa (from_start x s)) (starts nfa x) (IsMatch nfa) 0)
-        (sym (same_edges nfa x s x.anchored))
-        (paths-stay (edges nfa x) (starts nfa (from_start x s)) (starts nfa x) (IsMatch nfa) path-back path-on)
+    unfolding edges_of
+    back = paths-stay (edges nfa x) (starts nfa (from_start x s)) (starts nfa x) (IsMatch nfa) path-back path-on
 
     -- so starts before it may be passed over
     pub answer-passed : (kind : MatchKind) (earliest : Bool) (pattern : Option ℕ) (slots : List (Option ℕ))
         → IsAnswer nfa kind earliest x pattern slots ↔ IsAnswer nfa kind earliest (from_start x s) pattern slots
     answer-passed kind earliest pattern slots = (
-      λ h. subst (IsAnswer nfa kind earliest (from_start x s) pattern) (moved_slots-none slots)
-          (answer-moved nfa 0 x (from_start x s) on free.anywhere kind earliest pattern slots h),
-      λ h. subst (IsAnswer nfa kind earliest x pattern) (moved_slots-none slots)
-          (answer-moved nfa 0 (from_start x s) x back free.anywhere kind earliest pattern slots h),
+      answer-stays nfa x (from_start x s) on free.anywhere kind earliest pattern slots,
+      answer-stays nfa (from_start x s) x back free.anywhere kind earliest pattern slots,
     )
 
     pub match-passed : (kind : MatchKind) (earliest : Bool) (found : Option Found)
         → IsFindAnswer nfa kind earliest x found ↔ IsFindAnswer nfa kind earliest (from_start x s) found
     match-passed kind earliest found = (
-      λ h. subst (IsFindAnswer nfa kind earliest (from_start x s)) (moved_match-none found)
-          (match_answer-moved nfa 0 x (from_start x s) on free.anywhere kind earliest found h),
-      λ h. subst (IsFindAnswer nfa kind earliest x) (moved_match-none found)
-          (match_answer-moved nfa 0 (from_start x s) x back free.anywhere kind earliest found h),
+      match-stays nfa x (from_start x s) on free.anywhere kind earliest found,
+      match-stays nfa (from_start x s) x back free.anywhere kind earliest found,
     )
 
     -- the first path of the anchored search there is the first of all
     pub first-answers : (p : List Pair)
         → IsFirstTo (edges nfa (anchored_at x s)) (starts nfa (anchored_at x s)) (IsMatch nfa) p
         → IsFirstTo (edges nfa x) (starts nfa x) (IsMatch nfa) p
+    unfolding edges_of
     first-answers p h =
         let at = start-anchored nfa x s h.path.start h.path.among in
         let position : h.path.start.1 ≡ s = ap (λ (z : Pair). z.1) at.is in
@@ -144,58 +137,31 @@ module _ (nfa : Automaton) (x : Search) (free : IsUnbound nfa x) where
                 | inl later ↦ inr (heads-less (edges nfa x) h.path.start w.start p q h.path.head w.head (omega arith))
                 | inr same ↦
                     let e : w.start.1 ≡ s = omega arith in
-                    subst (λ es. (q ≡ p) ⊎ ComesBefore es p q) (same_edges nfa x s Yes)
-                    (h.first m q (subst
+                    h.first m q (subst
                     (λ i. PathTo (edges nfa (anchored_at x i)) (starts nfa (anchored_at x i)) m q) e
-                    (anchored-path m q w)) t)
+                    (anchored-path m q w)) t
               ];
         }
-
-  -- a path's search answers
-  search-of : (y : Search) (p : List Pair) → IsScanAnswer nfa y LeftmostFirst false (Some p)
-      → IsSearchAnswer nfa LeftmostFirst false y 0 (Some p)
-  search-of y p h = let anywhere = free.anywhere in rw anywhere (refl, h)
-
-  scan-of : (y : Search) (restarts : ℕ) (r : Option (List Pair))
-      → IsSearchAnswer nfa LeftmostFirst false y restarts r → IsScanAnswer nfa y LeftmostFirst false r
-  scan-of y restarts r h =
-      let anywhere = free.anywhere in
-      let scan : (restarts ≡ 0) × IsScanAnswer nfa y LeftmostFirst false r = rw anywhere at h in
-      scan.1
 
   pub answer-first : (s pattern : ℕ) (slots : List (Option ℕ)) → IsFirstStart nfa x s
       → IsAnswer nfa LeftmostFirst false (anchored_at x s) (Some pattern) slots
       → IsAnswer nfa LeftmostFirst false x (Some pattern) slots
   answer-first s pattern slots first h =
-      of h.path (scan-of (anchored_at x s) h.restarts h.path h.answers) h.pattern_is h.slots_are
-    where
-      of : (r : Option (List Pair)) → IsScanAnswer nfa (anchored_at x s) LeftmostFirst false r
-          → Some pattern ≡ option_and_then (path_pattern nfa) r → slots ≡ slot_row nfa (length slots) r
-          → IsAnswer nfa LeftmostFirst false x (Some pattern) slots
-      of None scan is row = cc
-      of (Some p) scan is row = record {
+      let a = has-path nfa LeftmostFirst false (anchored_at x s) pattern slots h in
+      record {
         restarts = 0;
-        path = Some p;
-        answers = search-of x p (first-answers s first p scan);
-        pattern_is = is;
-        slots_are = row;
+        path = Some a.path;
+        answers = search-of nfa LeftmostFirst false x free.anywhere (Some a.path)
+            (first-answers s first a.path
+            (scan-of nfa LeftmostFirst false (anchored_at x s) free.anywhere a.restarts (Some a.path) a.answers));
+        pattern_is = a.pattern_is;
+        slots_are = a.slots_are;
       }
 
   pub match-first : (s : ℕ) (m : Found) → IsFirstStart nfa x s
       → IsFindAnswer nfa LeftmostFirst false (anchored_at x s) (Some m)
       → IsFindAnswer nfa LeftmostFirst false x (Some m)
-  match-first s m first h = of h.path (scan-of (anchored_at x s) h.restarts h.path h.answers) h.found_is
-    where
-      of : (r : Option (List Pair)) → IsScanAnswer nfa (anchored_at x s) LeftmostFirst false r
-          → Some m ≡ match_of (option_and_then (path_pattern nfa) r) (slot_row nfa (slot_count nfa.groups) r)
-          → IsFindAnswer nfa LeftmostFirst false x (Some m)
-      of None scan is = cc
-      of (Some p) scan is = record {
-        restarts = 0;
-        path = Some p;
-        answers = search-of x p (first-answers s first p scan);
-        found_is = is;
-      }
+  match-first s m first = match-by refl (λ pattern slots. answer-first s pattern slots first)
 
   -- the first path of all is the first of the anchored search at its start
   module _ (p : List Pair) (h : IsFirstTo (edges nfa x) (starts nfa x) (IsMatch nfa) p) where
@@ -215,35 +181,31 @@ module _ (nfa : Automaton) (x : Search) (free : IsUnbound nfa x) where
 
     first-anchored : IsFirstTo (edges nfa (anchored_at x h.path.start.1)) (starts nfa (anchored_at x h.path.start.1))
         (IsMatch nfa) p
+    unfolding edges_of
     first-anchored = record {
       end = h.end;
       path = anchored-path h.end p h.path;
       wanted = h.wanted;
-      first = λ m q w t.
-          subst (λ es. (q ≡ p) ⊎ ComesBefore es p q) (sym (same_edges nfa x h.path.start.1 Yes))
-          (h.first m q (unbound-path h.path.start.1 first-start.from m q w) t);
+      first = λ m q w t. h.first m q (unbound-path h.path.start.1 first-start.from m q w) t;
     }
 
   pub answer-start : (pattern : ℕ) (slots : List (Option ℕ))
       → IsAnswer nfa LeftmostFirst false x (Some pattern) slots
       → (s : ℕ) × IsAnswerStart nfa LeftmostFirst false x pattern slots s
-  answer-start pattern slots h = of h.path (scan-of x h.restarts h.path h.answers) h.pattern_is h.slots_are
-    where
-      of : (r : Option (List Pair)) → IsScanAnswer nfa x LeftmostFirst false r
-          → Some pattern ≡ option_and_then (path_pattern nfa) r → slots ≡ slot_row nfa (length slots) r
-          → (s : ℕ) × IsAnswerStart nfa LeftmostFirst false x pattern slots s
-      of None scan is row = cc
-      of (Some p) scan is row = (
+  answer-start pattern slots h =
+      let a = has-path nfa LeftmostFirst false x pattern slots h in
+      let scan = scan-of nfa LeftmostFirst false x free.anywhere a.restarts (Some a.path) a.answers in (
         scan.path.start.1,
         record {
-          first = first-start p scan;
+          first = first-start a.path scan;
           within = (start-unbound nfa x free x.start scan.path.start scan.path.among).within;
           answers = record {
             restarts = 0;
-            path = Some p;
-            answers = search-of (anchored_at x scan.path.start.1) p (first-anchored p scan);
-            pattern_is = is;
-            slots_are = row;
+            path = Some a.path;
+            answers = search-of nfa LeftmostFirst false (anchored_at x scan.path.start.1) free.anywhere (Some a.path)
+                (first-anchored a.path scan);
+            pattern_is = a.pattern_is;
+            slots_are = a.slots_are;
           };
         },
       )

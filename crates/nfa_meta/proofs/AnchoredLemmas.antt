@@ -1,11 +1,12 @@
 -- The match of an anchored search, from its half match.
-use Rattle.std.proofs.Common.{◌≡◌, ◌∙◌, ℕ, Bool, true, false, refl, sym, ap, subst, arith, get_or, inl, inr, ◌+◌, Option, None, Some, IfNone, IfSome, ◌<◌, ◌≤◌, length, option_and_then, option_map}
-use Rattle.std.proofs.lemmas.Bool.{cases_lt, lt-ltb}
+use Rattle.std.proofs.Common.{◌≡◌, ◌∙◌, ℕ, Bool, true, false, refl, sym, ap, subst, arith, get_or, ◌+◌, Option, None, Some, IfNone, IfSome, ◌<◌, ◌≤◌, length, option_and_then, option_map}
+use Rattle.std.proofs.lemmas.Bool.{lt-ltb}
 use Rattle.std.proofs.lemmas.Option.{slice_get-get_or}
 use Rattle.nfa_paths.specs.Common.{Found, HalfFound, found_of, slot_count, Search, is_anchored, match_of, Match, MatchKind, Automaton, IsAutomaton, IsFindAnswer, IsHalfAnswer, byte_at, is_utf8_empty, path_pattern, slot_row}
 use Rattle.regex_search_core.specs.declared.search.MatchKind.TheVariants.{LeftmostFirst}
 use Rattle.nfa_paths.proofs.InsideLemmas.{match-within}
 use Rattle.nfa_search_base.proofs.CallerLemmas.{pattern-of}
+use Rattle.nfa_engines.proofs.ByteLemmas.{next-first}
 use Rattle.nfa_engines.specs.Accepting.{MatchesNothing}
 use Rattle.nfa_engines.specs.Agreement.{end_of}
 use Rattle.nfa_engines.specs.StartLaws.{FirstStartMatchesAnywhere, IsFirstStart, StartsAnywhere, anchored_at}
@@ -61,22 +62,6 @@ nothing-of nfa kind earliest x valid records none anywhere None answers = tt
 nothing-of nfa kind earliest x valid records none anywhere (Some None) answers =
     none nfa kind earliest x valid anywhere records answers
 nothing-of nfa kind earliest x valid records none anywhere (Some (Some m)) answers = tt
-
--- if nothing matches at a start before which nothing does, the next position is one, too
-pub next-first : (nfa : Automaton) (x : Search) (s : ℕ) → IsFirstStart nfa x s → MatchesNothing nfa (anchored_at x s)
-    → IsFirstStart nfa x (s + 1)
-next-first nfa x s first none =
-    let low : x.start ≤ s = first.from in
-    record {
-      from = omega arith;
-      nothing = λ i from less.
-          elim (cases_lt i s) [
-            | inl before ↦ first.nothing i from before
-            | inr past ↦
-                let here : s ≡ i = omega arith in
-                subst (λ (k : ℕ). MatchesNothing nfa (anchored_at x k)) here none
-          ];
-    }
 
 -- what is known of the anchored search at such a start of a window is what is known of the next one
 pub next-of : (nfa : Automaton) (x : Search) (s : ℕ) → IsFirstStart nfa x s → (known : Option (Option Match))

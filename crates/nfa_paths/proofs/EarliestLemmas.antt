@@ -29,11 +29,11 @@ module _ (nfa : Automaton) where
         | inr anywhere ↦
             let sooner : IsSearchAnswer nfa kind true x n p =
             subst (λ b. IsSearchAnswer nfa kind (not b) x n p) anywhere h in
-            let meant = is_match-agrees nfa x kind anywhere p (scan-of nfa anywhere kind true x n p sooner) in
+            let meant = is_match-agrees nfa x kind anywhere p (scan-of nfa kind true x anywhere n p sooner) in
             record {
               restarts = 0;
               path = meant.0;
-              answers = search-of nfa anywhere kind false x meant.0 meant.1;
+              answers = search-of nfa kind false x anywhere meant.0 meant.1;
               found_is = meant.2;
             }
       ]

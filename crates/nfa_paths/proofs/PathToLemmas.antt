@@ -1,7 +1,7 @@
 -- Paths from the starts in plain words: which comes first, and that each kind of scan has one answer.
 use Rattle.std.proofs.Common.{◌≡◌, ℕ, ◌≤◌, ◌<◌, ◌⊎◌, inl, inr, Bool, true, false, List, [], ◌∷◌, refl, sym, ap, subst, arith, Option, None, Some}
 use Rattle.std.specs.List.{last_or}
-use Rattle.nfa_paths.specs.Common.{Pair, In, Before, ComesBefore, HeadIs, NoRepeats, Linked, EndsWith, WantedAt, PathTo, NoPath, IsFirstTo, IsEnd, IsLeastEnd, IsGreatestEnd, IsLastOfFirsts, IsFirstPath, IsEarliestPath, IsLastPath, IsEarliestLastPath, Accepts, IsLeast, StopsAtTarget, Increasing, Slots, apply, found}
+use Rattle.nfa_paths.specs.Common.{Pair, In, Before, ComesBefore, HeadIs, Linked, EndsWith, WantedAt, PathTo, NoPath, IsFirstTo, IsEnd, IsLeastEnd, IsGreatestEnd, IsLastOfFirsts, IsFirstPath, IsEarliestPath, IsLastPath, IsEarliestLastPath, Accepts, IsLeast, StopsAtTarget, Increasing, Slots, apply, found}
 use Rattle.nfa_paths.proofs.PathLemmas.{same, Before-asymmetric, Before-total, Earlier-increasing, Earlier-total, Path-plain}
 
 -- a test that cannot succeed fails
@@ -76,16 +76,6 @@ module _ (edges : Pair → List Pair) where
 pub In-cases : (x : Pair) (p : List Pair) → In x p ⊎ ¬ (In x p)
 In-cases x [] = inr (λ i. i)
 In-cases x (y ∷ p) = grind (arith, In-cases x p)
-
-module _ (edges : Pair → List Pair) where
-  -- a list of a path's shape, from s to w, of pairs of p
-  record Leads (s w : Pair) (p : List Pair) : Type 0 where
-    along : List Pair
-    head : HeadIs s along
-    once : NoRepeats along
-    linked : Linked edges along
-    ends : EndsWith w along
-    within : (z : Pair) → In z along → In z p
 
 module _ (edges : Pair → List Pair) (starts : List Pair) where
   -- a path to the same pair, under another name
