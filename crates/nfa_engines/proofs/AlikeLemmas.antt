@@ -1,5 +1,5 @@
 -- Assertions that read no more than the byte on each side of a position hold alike if these bytes are the same.
-use Rattle.std.proofs.Common.{◌≡◌, ◌∙◌, ℕ, ◌+◌, ◌-◌, ◌≤◌, ◌<◌, inl, inr, Bool, true, List, drop, length, length-drop, refl, sym, ap, arith, lt-ltb, Option, None, slice_get}
+use Rattle.std.proofs.Common.{◌≡◌, ◌∙◌, ℕ, ◌+◌, ◌-◌, ◌≤◌, inl, inr, Bool, true, List, drop, length, length-drop, refl, sym, ap, arith, lt-ltb, Option, None, slice_get}
 use Rattle.std.proofs.lemmas.Bool.{cases_lt}
 use Rattle.std.proofs.lemmas.List.{length-take-le}
 use Rattle.std.proofs.lemmas.Option.{slice_get_past}
@@ -28,46 +28,49 @@ reads-between : (h : List ℕ) (at : ℕ) → at ≤ length h → (look : looks.
 reads-between h at within look reads =
     ap (λ l. look_holds l h at) (sym (reads-ascii look reads)) ∙ holds-between h at within look
 
-module _ (k : ℕ) (x y : Search) (span : IsSpanMoved k x y) (bytes : AreBytesMoved k x y) where
-  -- the byte before a position after the start of the span
-  before-inside : (at : ℕ) → x.start < at → at ≤ x.end → byte_before y.haystack (at + k) ≡ byte_before x.haystack at
-  before-inside at past within =
-      let at_moved : at + k - 1 ≡ at - 1 + k = omega arith in
-      rw (lt-ltb 0 at (omega arith), lt-ltb 0 (at + k) (omega arith), at_moved)
-      (bytes (at - 1) (omega arith) (omega arith))
+-- What is read of the bytes on both sides of a position of the span is the same, if it is at the ends of the span.
+module _ (k : ℕ) (x y : Search) (span : IsSpanMoved k x y) (bytes : AreBytesMoved k x y) {A : Type 0}
+    (read : Option ℕ → A) where
+  before-same : read (byte_before y.haystack y.start) ≡ read (byte_before x.haystack x.start)
+      → (at : ℕ) → x.start ≤ at → at ≤ x.end
+      → read (byte_before y.haystack (at + k)) ≡ read (byte_before x.haystack at)
+  before-same first at past within =
+      elim (cases_lt x.start at) [
+        | inl after ↦
+            let at_moved : at + k - 1 ≡ at - 1 + k = omega arith in
+            rw (lt-ltb 0 at (omega arith), lt-ltb 0 (at + k) (omega arith), at_moved)
+            (ap read (bytes (at - 1) (omega arith) (omega arith)))
+        | inr none ↦
+            let here : at ≡ x.start = omega arith in
+            let there : at + k ≡ y.start = let start : y.start ≡ x.start + k = span.start in omega arith in
+            ap (λ (p : ℕ). read (byte_before y.haystack p)) there ∙ first
+            ∙ sym (ap (λ (p : ℕ). read (byte_before x.haystack p)) here)
+      ]
 
-  module _ (sides : AreSidesSame x y) where
-    -- the bytes on both sides of a position of the span
+  after-same : read (slice_get y.haystack y.end) ≡ read (slice_get x.haystack x.end)
+      → (at : ℕ) → x.start ≤ at → at ≤ x.end → read (slice_get y.haystack (at + k)) ≡ read (slice_get x.haystack at)
+  after-same last at past within =
+      elim (cases_lt at x.end) [
+        | inl less ↦ ap read (bytes at past less)
+        | inr none ↦
+            let here : at ≡ x.end = omega arith in
+            let there : at + k ≡ y.end = let end : y.end ≡ x.end + k = span.end in omega arith in
+            ap (λ (p : ℕ). read (slice_get y.haystack p)) there ∙ last
+            ∙ sym (ap (λ (p : ℕ). read (slice_get x.haystack p)) here)
+      ]
 
-    before-same : (at : ℕ) → x.start ≤ at → at ≤ x.end → byte_before y.haystack (at + k) ≡ byte_before x.haystack at
-    before-same at past within =
-        elim (cases_lt x.start at) [
-          | inl after ↦ before-inside at after within
-          | inr first ↦
-              let here : at ≡ x.start = omega arith in
-              let there : at + k ≡ y.start = let start : y.start ≡ x.start + k = span.start in omega arith in
-              ap (byte_before y.haystack) there ∙ sides.before ∙ sym (ap (byte_before x.haystack) here)
-        ]
-
-    after-same : (at : ℕ) → x.start ≤ at → at ≤ x.end → slice_get y.haystack (at + k) ≡ slice_get x.haystack at
-    after-same at past within =
-        elim (cases_lt at x.end) [
-          | inl less ↦ bytes at past less
-          | inr last ↦
-              let here : at ≡ x.end = omega arith in
-              let there : at + k ≡ y.end = let end : y.end ≡ x.end + k = span.end in omega arith in
-              ap (slice_get y.haystack) there ∙ sides.after ∙ sym (ap (slice_get x.haystack) here)
-        ]
-
-    same-holds : x.end ≤ length x.haystack → y.end ≤ length y.haystack
-        → (look : looks.Look) → ReadsBytes look → (at : ℕ) → x.start ≤ at → at ≤ x.end
-        → look_holds look y.haystack (at + k) ≡ look_holds look x.haystack at
-    same-holds x_within y_within look reads at past within =
-        let end : y.end ≡ x.end + k = span.end in
-        reads-between y.haystack (at + k) (omega arith) look reads
-        ∙ ap (λ (o : Option ℕ). holds_between look o (slice_get y.haystack (at + k))) (before-same at past within)
-        ∙ ap (holds_between look (byte_before x.haystack at)) (after-same at past within)
-        ∙ sym (reads-between x.haystack at (omega arith) look reads)
+module _ (k : ℕ) (x y : Search) (span : IsSpanMoved k x y) (bytes : AreBytesMoved k x y) (sides : AreSidesSame x y)
+    (x_within : x.end ≤ length x.haystack) (y_within : y.end ≤ length y.haystack) where
+  same-holds : (look : looks.Look) → ReadsBytes look → (at : ℕ) → x.start ≤ at → at ≤ x.end
+      → look_holds look y.haystack (at + k) ≡ look_holds look x.haystack at
+  same-holds look reads at past within =
+      let end : y.end ≡ x.end + k = span.end in
+      reads-between y.haystack (at + k) (omega arith) look reads
+      ∙ ap (λ (o : Option ℕ). holds_between look o (slice_get y.haystack (at + k)))
+      (before-same k x y span bytes (λ o. o) sides.before at past within)
+      ∙ ap (holds_between look (byte_before x.haystack at))
+      (after-same k x y span bytes (λ o. o) sides.after at past within)
+      ∙ sym (reads-between x.haystack at (omega arith) look reads)
 
 pub same-sides : (nfa : Automaton) (k : ℕ) (x y : Search) → EachLook ReadsBytes nfa → x.end ≤ length x.haystack
     → y.end ≤ length y.haystack → IsSpanMoved k x y → AreBytesMoved k x y → AreSidesSame x y → HoldAlike nfa k x y
@@ -86,30 +89,6 @@ edge-true byte (inr e) = ap is_edge e
 
 module _ (k : ℕ) (x y : Search) (span : IsSpanMoved k x y) (bytes : AreBytesMoved k x y)
     (x_lines : IsOfWholeLines x) (y_lines : IsOfWholeLines y) where
-  start-alike : (at : ℕ) → x.start ≤ at → at ≤ x.end
-      → is_edge (byte_before y.haystack (at + k)) ≡ is_edge (byte_before x.haystack at)
-  start-alike at past within =
-      elim (cases_lt x.start at) [
-        | inl after ↦ ap is_edge (before-inside k x y span bytes at after within)
-        | inr first ↦
-            let here : at ≡ x.start = omega arith in
-            let there : at + k ≡ y.start = let start : y.start ≡ x.start + k = span.start in omega arith in
-            ap (λ (p : ℕ). is_edge (byte_before y.haystack p)) there ∙ edge-true _ y_lines.before
-            ∙ sym (ap (λ (p : ℕ). is_edge (byte_before x.haystack p)) here ∙ edge-true _ x_lines.before)
-      ]
-
-  end-alike : (at : ℕ) → x.start ≤ at → at ≤ x.end
-      → is_edge (slice_get y.haystack (at + k)) ≡ is_edge (slice_get x.haystack at)
-  end-alike at past within =
-      elim (cases_lt at x.end) [
-        | inl less ↦ ap is_edge (bytes at past less)
-        | inr last ↦
-            let here : at ≡ x.end = omega arith in
-            let there : at + k ≡ y.end = let end : y.end ≡ x.end + k = span.end in omega arith in
-            ap (λ (p : ℕ). is_edge (slice_get y.haystack p)) there ∙ edge-true _ y_lines.after
-            ∙ sym (ap (λ (p : ℕ). is_edge (slice_get x.haystack p)) here ∙ edge-true _ x_lines.after)
-      ]
-
   x_inside : (at : ℕ) → at ≤ x.end → at ≤ length x.haystack
   x_inside at within = let fits : x.end ≤ length x.haystack = x_lines.within in omega arith
 
@@ -122,10 +101,13 @@ module _ (k : ℕ) (x y : Search) (span : IsSpanMoved k x y) (bytes : AreBytesMo
   lines-hold : (look : looks.Look) → IsOfLines look → (at : ℕ) → x.start ≤ at → at ≤ x.end
       → look_holds look y.haystack (at + k) ≡ look_holds look x.haystack at
   lines-hold StartLF of_lines at past within =
-      holds-between y.haystack (at + k) (y_inside at within) StartLF ∙ start-alike at past within
+      holds-between y.haystack (at + k) (y_inside at within) StartLF
+      ∙ before-same k x y span bytes is_edge (edge-true _ y_lines.before ∙ sym (edge-true _ x_lines.before)) at past
+      within
       ∙ sym (holds-between x.haystack at (x_inside at within) StartLF)
   lines-hold EndLF of_lines at past within =
-      holds-between y.haystack (at + k) (y_inside at within) EndLF ∙ end-alike at past within
+      holds-between y.haystack (at + k) (y_inside at within) EndLF
+      ∙ after-same k x y span bytes is_edge (edge-true _ y_lines.after ∙ sym (edge-true _ x_lines.after)) at past within
       ∙ sym (holds-between x.haystack at (x_inside at within) EndLF)
   lines-hold _ of_lines at past within = absurd of_lines
 

@@ -3,9 +3,10 @@ use Rattle.std.proofs.Common.{◌≡◌, ℕ, ◌∙◌, ◌↔◌, ◌<◌, ◌
 use Rattle.std.proofs.lemmas.Bool.{cases_lt}
 use Rattle.std.proofs.lemmas.List.{ext_get_or}
 use Rattle.regex_search_core.specs.PatternSets.{size_of_set}
-use Rattle.nfa_paths.specs.Common.{Search, Automaton, IsAutomaton, Pair, WantedAt, IsFirstPath, IsEarliestPath, IsLeastEnd, HoldsPattern, HoldsSelected, HoldsPath, IsFirstBefore, IsFirstInsertable, IsEarliestInsertable, IsInsertable, IsSelectedPath, IsOverlapResult, IsPermitted, edges, starts, node_at, path_pattern}
+use Rattle.nfa_paths.specs.Common.{Search, Automaton, IsAutomaton, Pair, IsFirstPath, IsEarliestPath, HoldsPattern, HoldsSelected, HoldsPath, IsFirstBefore, IsFirstInsertable, IsEarliestInsertable, IsInsertable, IsSelectedPath, IsOverlapResult, IsPermitted, edges, starts, node_at, path_pattern}
 use Rattle.regex_search_core.specs.declared.search.MatchKind.TheVariants.{LeftmostFirst}
-use Rattle.nfa_paths.proofs.PathToLemmas.{IsEarliestPath-unique, IsFirstTo-along}
+use Rattle.nfa_paths.proofs.AlongLemmas.{earliest-along, first-along}
+use Rattle.nfa_paths.proofs.PathToLemmas.{IsEarliestPath-unique}
 use Rattle.nfa_paths.proofs.PatternLemmas.{node-pattern, some-pattern, ends-pattern}
 use Rattle.nfa_paths.proofs.SetLemmas.{size-none}
 use Rattle.nfa_engines.specs.SetLaws.{IsPatternOfEarliest}
@@ -95,42 +96,16 @@ module _ (nfa : Automaton) (x : Search) where
     permitted : (v : Pair) → IsInsertable nfa x capacity v → IsPermitted nfa x v
     permitted v h = h.permitted
 
-    -- a path that is meant of some paths is meant of the same ones under another name
-    module _ (P Q : Pair → Type 0) (to : (v : Pair) → P v → Q v) (back : (v : Pair) → Q v → P v) where
-      first-along : (path : Option (List Pair)) → IsFirstPath (edges nfa x) (starts nfa x) P path
-          → IsFirstPath (edges nfa x) (starts nfa x) Q path
-      first-along None h = λ m p w q. h m p w (back m q)
-      first-along (Some p) h = IsFirstTo-along (edges nfa x) (starts nfa x) P Q to back h
-
-      least-along : (e : ℕ) → IsLeastEnd (edges nfa x) (starts nfa x) P e
-          → IsLeastEnd (edges nfa x) (starts nfa x) Q e
-      least-along e h = record {
-        is_end = record {
-          end = h.is_end.end;
-          along = h.is_end.along;
-          path = h.is_end.path;
-          wanted = to h.is_end.end h.is_end.wanted;
-          at = h.is_end.at;
-        };
-        least = λ m p w q. h.least m p w (back m q);
-      }
-
-      earliest-along : (path : Option (List Pair)) → IsEarliestPath (edges nfa x) (starts nfa x) P path
-          → IsEarliestPath (edges nfa x) (starts nfa x) Q path
-      earliest-along None h = λ m p w q. h m p w (back m q)
-      earliest-along (Some p) h = (
-        h.0,
-        least-along h.0 h.1,
-        IsFirstTo-along (edges nfa x) (starts nfa x) (WantedAt P h.0) (WantedAt Q h.0)
-            (λ v w. record { wanted = to v w.wanted; at = w.at })
-            (λ v w. record { wanted = back v w.wanted; at = w.at })
-            h.2,
-      )
-
     pub first-room : (path : Option (List Pair)) → IsFirstInsertable nfa x capacity path
         ↔ IsFirstPath (edges nfa x) (starts nfa x) (IsPermitted nfa x) path
-    first-room path = (first-along _ _ permitted has-room path, first-along _ _ has-room permitted path)
+    first-room path = (
+      first-along (edges nfa x) (starts nfa x) permitted has-room path,
+      first-along (edges nfa x) (starts nfa x) has-room permitted path,
+    )
 
     pub earliest-room : (path : Option (List Pair)) → IsEarliestInsertable nfa x capacity path
         ↔ IsEarliestPath (edges nfa x) (starts nfa x) (IsPermitted nfa x) path
-    earliest-room path = (earliest-along _ _ permitted has-room path, earliest-along _ _ has-room permitted path)
+    earliest-room path = (
+      earliest-along (edges nfa x) (starts nfa x) permitted has-room path,
+      earliest-along (edges nfa x) (starts nfa x) has-room permitted path,
+    )

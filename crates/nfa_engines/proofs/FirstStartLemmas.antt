@@ -1,5 +1,5 @@
 -- The paths of an unanchored search are those of the anchored searches at each start.
-use Rattle.std.proofs.Common.{◌≡◌, ℕ, zero, suc, ◌+◌, ◌-◌, ◌≤◌, ◌<◌, ◌⊎◌, inl, inr, List, [], ◌∷◌, refl, sym, ap, subst, arith, le-ltb}
+use Rattle.std.proofs.Common.{◌≡◌, ℕ, zero, suc, ◌+◌, ◌-◌, ◌≤◌, ◌<◌, ◌⊎◌, inl, inr, List, [], ◌∷◌, refl, sym, ap, ◌∙◌, subst, arith, le-ltb}
 use Rattle.std.proofs.lemmas.Bool.{cases_lt}
 use Rattle.nfa_paths.specs.Common.{Search, Anchored, Automaton, Pair, In, EndsWith, HeadIs, Linked, ComesBefore, PathTo, edges, pairs_from, starts}
 use Rattle.nfa_paths.proofs.ScanAnswerLemmas.{edges-onward, edges-within}
@@ -31,6 +31,11 @@ pairs_from-in state at (suc count) v (inr later) =
     let low : at + 1 ≤ v.1 = r.from in
     let high : v.1 < at + 1 + count = r.before in
     record { state_is = r.state_is; from = omega arith; before = omega arith }
+
+-- a list has one first pair
+pub heads-one : (v w : Pair) (p : List Pair) → HeadIs v p → HeadIs w p → v ≡ w
+heads-one v w [] h k = absurd h
+heads-one v w (a ∷ p) h k = sym h ∙ k
 
 -- of two lists that begin with these pairs, the first that comes first starts not after the other
 pub heads-order : (edges : Pair → List Pair) (start other : Pair) (p q : List Pair) → HeadIs start p → HeadIs other q

@@ -86,7 +86,8 @@ module _ (nfa : Automaton) (x y : Search) (flag : Bool) (same : y ≡ asked x fl
   found-under kind found pattern slots h k =
       found-pattern nfa x kind false pattern slots found
       (subst (λ (b : Bool). IsAnswer nfa kind b x pattern slots) off k)
-      (found-same (same-asked nfa x flag) kind false found (subst (λ (z : Search). IsBoolAnswer nfa kind false z found) same h))
+      (found-same (same-asked nfa x flag) kind false found
+      (subst (λ (z : Search). IsBoolAnswer nfa kind false z found) same h))
 
   module _ (other : Automaton) (is_nfa : other ≡ nfa) (kind : MatchKind) (leftmost : kind ≡ LeftmostFirst) where
     pub answers-under : (p q : Option ℕ) (s t : List (Option ℕ)) → IsAnswer nfa kind x.earliest x p s

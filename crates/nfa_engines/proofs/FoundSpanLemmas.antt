@@ -5,25 +5,18 @@ use Rattle.std.proofs.lemmas.Bool.{cases_lt, cases_Bool}
 use Rattle.nfa_paths.specs.Common.{Search, is_anchored, Anchored, Automaton, Node, Pair, In, Earlier, BeforeAfter, ComesBefore, EndsWith, HeadIs, Linked, PathTo, IsFirstTo, WantedAt, rests, byte_at, edges, edges_of, node_at, pairs_from, start_count, start_state, starts, IsAnswer, IsMatch, IsScanAnswer, raised, IsSearchAnswer}
 use Rattle.regex_search_core.specs.declared.search.MatchKind.TheVariants.{LeftmostFirst}
 use Rattle.thompson_nfa.specs.Automaton.Node.{Look, Union, BinaryUnion, Capture}
+use Rattle.nfa_paths.proofs.OptionLemmas.{same_some}
 use Rattle.nfa_paths.proofs.PathToLemmas.{EndsWith-last}
 use Rattle.nfa_paths.proofs.OneScanLemmas.{first-scan, has-path, last-scan}
 use Rattle.nfa_paths.proofs.ScanAnswerLemmas.{edges-rise, starts-from, starts-within}
 use Rattle.nfa_paths.proofs.StartLemmas.{byte_pairs, pairs_from-has, resting-edges}
 use Rattle.nfa_engines.specs.FoundSpanLaws.{cut_to, IsAnswerSpan, IsLeastStart, MayCut}
 use Rattle.nfa_engines.specs.FoundSpanLaws.MayCut.{same, tied}
-use Rattle.nfa_engines.proofs.FirstStartLemmas.{heads-order, pairs_from-in, path-order}
+use Rattle.nfa_engines.proofs.FirstStartLemmas.{heads-one, heads-order, pairs_from-in, path-order}
 
 -- a list has one last pair
-some_one : (a b : Pair) → Some a ≡ Some b → a ≡ b
-some_one a b e = cc
-
 ends-one : (m n : Pair) (p : List Pair) → EndsWith m p → EndsWith n p → m ≡ n
-ends-one m n p e d = some_one m n (sym (EndsWith-last None m p e) ∙ EndsWith-last None n p d)
-
--- and one first
-heads-one : (v w : Pair) (p : List Pair) → HeadIs v p → HeadIs w p → v ≡ w
-heads-one v w [] h k = absurd h
-heads-one v w (a ∷ p) h k = sym h ∙ k
+ends-one m n p e d = same_some m n (sym (EndsWith-last None m p e) ∙ EndsWith-last None n p d)
 
 -- the start
 

@@ -76,7 +76,8 @@ module _ (nfa : Automaton) where
         → length slots ≡ slot_count nfa.groups → IsAnswer nfa kind earliest x pattern slots
         → IsFindAnswer nfa kind earliest x found → match_of pattern slots ≡ found
     all-match pattern slots found count a h =
-        match-unique nfa kind earliest x (match_of pattern slots) found (given nfa kind earliest x pattern slots count a) h
+        match-unique nfa kind earliest x (match_of pattern slots) found
+        (given nfa kind earliest x pattern slots count a) h
 
     -- so do the slots that each pattern has
     pub two-match : (pattern : Option ℕ) (slots : List (Option ℕ)) (found : Option Found)
@@ -113,7 +114,8 @@ module _ (nfa : Automaton) where
 
     pub found-something : (found : Bool) → found ≡ true → IsBoolAnswer nfa kind earliest x found
         → MatchesSomething nfa x
-    found-something found is_true h = of h.path (scan-of nfa kind earliest x anywhere h.restarts h.path h.answers) (sym is_true ∙ h.found_is)
+    found-something found is_true h =
+        of h.path (scan-of nfa kind earliest x anywhere h.restarts h.path h.answers) (sym is_true ∙ h.found_is)
       where
         of : (path : Option (List Pair)) → IsScanAnswer nfa x kind earliest path → true ≡ is_some path
             → MatchesSomething nfa x
@@ -124,7 +126,8 @@ module _ (nfa : Automaton) where
 
     pub not_found-nothing : (found : Bool) → found ≡ false → IsBoolAnswer nfa kind earliest x found
         → MatchesNothing nfa x
-    not_found-nothing found is_false h = of h.path (scan-of nfa kind earliest x anywhere h.restarts h.path h.answers) (sym is_false ∙ h.found_is)
+    not_found-nothing found is_false h =
+        of h.path (scan-of nfa kind earliest x anywhere h.restarts h.path h.answers) (sym is_false ∙ h.found_is)
       where
         of : (path : Option (List Pair)) → IsScanAnswer nfa x kind earliest path → false ≡ is_some path
             → MatchesNothing nfa x

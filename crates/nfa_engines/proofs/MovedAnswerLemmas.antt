@@ -1,8 +1,8 @@
 -- If the accepting paths of one search are those of another, moved, so is its answer.
-use Rattle.std.proofs.Common.{◌≡◌, ◌∙◌, ℕ, ◌+◌, ◌*◌, ◌==◌, ◌≤◌, ◌<◌, inl, inr, Bool, true, false, List, [], ◌∷◌, map, replicate, zero, suc, length, refl, sym, subst, ap, arith, nat_le, leb, if◌then◌else◌, Option, None, Some, option_map, option_and_then, slice_get}
+use Rattle.std.proofs.Common.{◌≡◌, ◌∙◌, ℕ, ◌+◌, ◌*◌, ◌==◌, Bool, true, false, List, [], ◌∷◌, map, replicate, zero, suc, length, refl, sym, subst, ap, arith, nat_le, leb, if◌then◌else◌, Option, None, Some, option_map, option_and_then, slice_get}
 use Rattle.std.specs.List.{last_or, range_with_len}
 use Rattle.std.specs.Option.{option_or, option_map_or}
-use Rattle.std.proofs.lemmas.Bool.Decides.{leb_tells}
+use Rattle.std.proofs.lemmas.Bool.Decides.{nat_tests}
 use Rattle.std.proofs.lemmas.List.{length-map}
 use Rattle.std.proofs.lemmas.Option.{slice_get-map}
 use Rattle.nfa_paths.specs.Common.{Found, Search, offset_at, match_of, Span, MatchKind, Automaton, Pair, capture, edges, is_utf8_empty, node_at, path_pattern, pattern_of, slot_among, slot_row, starts, IsAnswer, IsMatch, IsFindAnswer, IsScanAnswer, IsSearchAnswer}
@@ -26,17 +26,7 @@ offset-moved k slots i = rw (slice_get-map (option_map (λ (at : ℕ). at + k)) 
 
 -- an order does not change if both sides move
 order-moved : (k a b : ℕ) → leb (a + k) (b + k) ≡ leb a b
-order-moved k a b =
-    elim (leb_tells a b) [
-      | inl t ↦ elim (leb_tells (a + k) (b + k)) [
-        | inl u ↦ u.0 ∙ sym t.0
-        | inr u ↦ let less : a ≤ b = t.1 in let more : b + k < a + k = u.1 in absurd (omega arith)
-      ]
-      | inr t ↦ elim (leb_tells (a + k) (b + k)) [
-        | inl u ↦ let less : a + k ≤ b + k = u.1 in let more : b < a = t.1 in absurd (omega arith)
-        | inr u ↦ u.0 ∙ sym t.0
-      ]
-    ]
+order-moved k a b = grind (arith, nat_tests)
 
 -- the span from one offset to the next, if both are set and in order
 abbrev spans : Option ℕ → Option ℕ → Option Span

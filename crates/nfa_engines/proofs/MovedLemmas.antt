@@ -19,33 +19,25 @@ moved-injective k v w e =
     let at : v.1 ≡ w.1 = omega arith in
     λ i. (state i, at i)
 
-same_cons : (a b : Pair) (p q : List Pair) → a ≡ b → p ≡ q → a ∷ p ≡ b ∷ q
-same_cons a b p q e f = cc
-
-same_head : (a b : Pair) (p q : List Pair) → a ∷ p ≡ b ∷ q → a ≡ b
-same_head a b p q e = cc
-
-same_tail : (a b : Pair) (p q : List Pair) → a ∷ p ≡ b ∷ q → p ≡ q
-same_tail a b p q e = cc
-
-never_empty : (b : Pair) (q : List Pair) → [] ≡ b ∷ q → ⊥
-never_empty b q e = cc
-
 -- and so two paths
 pub moved_path-injective : (k : ℕ) (p q : List Pair) → moved_path k p ≡ moved_path k q → p ≡ q
 moved_path-injective k [] [] e = refl
-moved_path-injective k [] (b ∷ q) e = absurd (never_empty _ _ e)
-moved_path-injective k (a ∷ p) [] e = absurd (never_empty _ _ (sym e))
+moved_path-injective k [] (b ∷ q) e = cc
+moved_path-injective k (a ∷ p) [] e = cc
 moved_path-injective k (a ∷ p) (b ∷ q) e =
-    same_cons a b p q (moved-injective k a b (same_head _ _ _ _ e))
-    (moved_path-injective k p q (same_tail _ _ _ _ e))
+    let head : moved k a ≡ moved k b = cc in
+    let tail : moved_path k p ≡ moved_path k q = cc in
+    let one = moved-injective k a b head in
+    let rest = moved_path-injective k p q tail in
+    λ i. one i ∷ rest i
 
 -- by no distance each path moves to itself
 pub moved_path-none : (p : List Pair) → moved_path 0 p ≡ p
 moved_path-none [] = refl
 moved_path-none (v ∷ p) =
     let at : v.1 + 0 ≡ v.1 = omega arith in
-    same_cons (moved 0 v) v (moved_path 0 p) p (λ i. (v.0, at i)) (moved_path-none p)
+    let rest = moved_path-none p in
+    λ i. (v.0, at i) ∷ rest i
 
 module _ (edges edges_to : Pair → List Pair) (starts starts_to : List Pair) (Wanted : Pair → Type 0) (k : ℕ) where
   -- a path of the first graph that moves to the one of the second

@@ -9,13 +9,10 @@ use Rattle.regex_search_core.specs.declared.search.MatchKind.TheVariants.{Leftmo
 use Rattle.nfa_engines.specs.Accepting.{MatchesNothing}
 use Rattle.nfa_engines.specs.PatternLaws.{started_at, IsFirstPattern, IsOfPattern, IsUnionOfPatterns, TriesPatternsInOrder}
 use Rattle.nfa_paths.proofs.OneScanLemmas.{has-path, scan-of, search-of}
+use Rattle.nfa_engines.proofs.FirstStartLemmas.{heads-one}
 use Rattle.nfa_engines.proofs.FirstPatternLemmas.{comes, earlier, goes, head-of, not-earlier, order-apart, order-back, order-same, top, top-edges, top-writes, GoesOn}
 use Rattle.nfa_paths.proofs.OptionLemmas.{same_some, option_or-None}
 use Rattle.nfa_paths.proofs.PathLemmas.{Earlier-irreflexive}
-
-heads-same : (s t : Pair) (q r : List Pair) → HeadIs s q → HeadIs t r → r ≡ q → s ≡ t
-heads-same s t [] r hq hr e = absurd hq
-heads-same s t (a ∷ q) r hq hr e = sym hq ∙ subst (HeadIs t) e hr
 
 -- Only the anchored start differs between the NFA and the NFA of one pattern, so both have the same edges and matches.
 module _ (nfa : Automaton) (x : Search) (bound : x.anchored ≡ Yes) (h : IsUnionOfPatterns nfa x) where
@@ -111,8 +108,8 @@ module _ (nfa : Automaton) (x : Search) (bound : x.anchored ≡ Yes) (h : IsUnio
             elim (order-of j other at m r w t) [
               | inl same ↦
                   not-there j other less at
-                  (heads-same (g.state, x.start) (other, x.start) g.rest r g.head (head-of nfa x bound h other m r w)
-                  same)
+                  (heads-one (g.state, x.start) (other, x.start) g.rest g.head
+                  (subst (HeadIs (other, x.start)) same (head-of nfa x bound h other m r w)))
               | inr order ↦ elim order [
                 | inl sooner ↦
                     not-earlier x.start nfa.patterns j g.state other at

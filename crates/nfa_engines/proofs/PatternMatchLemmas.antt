@@ -117,7 +117,7 @@ module _ (nfa : Automaton) (x : Search) (anywhere : is_utf8_empty nfa ≡ false)
       unfolding gives
       match-first-pattern k found a =
           let g = gives nfa LeftmostFirst false x found a in
-          let same = match-has_pattern a.path found (scan-of nfa LeftmostFirst false x anywhere a.restarts a.path a.answers)
-          a.found_is in
+          let scan = scan-of nfa LeftmostFirst false x anywhere a.restarts a.path a.answers in
+          let same = match-has_pattern a.path found scan a.found_is in
           let of_answer = answer-first k g.pattern g.slots g.answers in
           (λ e. of_answer.0 (sym same ∙ e), λ f. same ∙ of_answer.1 f)

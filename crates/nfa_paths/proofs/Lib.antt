@@ -8,6 +8,7 @@ pub mod TestLemmas
 pub mod FlagSetLemmas
 pub mod SameScanLemmas
 pub mod OneScanLemmas
+pub mod AlongLemmas
 pub mod FrontierMatchLemmas
 pub mod KindsLemmas
 pub mod ScanLemmas

@@ -1,101 +1,139 @@
--- Two searches of one haystack that explore the same have the same answers. Their NFAs may differ in the anchored
--- start, and the searches in the anchoring and the `earliest` flag of the input, which no path reads.
-use Rattle.std.proofs.Common.{◌≡◌, ℕ, ◌+◌, inl, inr, Bool, true, false, MatchBool, List, subst, Option, None, Some}
-use Rattle.nfa_paths.specs.Common.{Found, Search, is_anchored, Anchored, MatchKind, Automaton, Pair, edges, edges_of, is_utf8_empty, node_at, slot_row, starts, IsAnswer, IsBoolAnswer, IsFindAnswer, IsFirstPath, IsEarliestPath, IsLastPath, IsEarliestLastPath, IsKeptAnswer, IsMatch, IsRestartedAnswer, IsScanAnswer, IsSearchAnswer, SplitsCharacter}
+-- Two searches of one haystack that explore the same have the same answers. Their NFAs may differ in what their paths
+-- write and in the anchored start, and the searches in the anchoring and the `earliest` flag, which no path reads.
+use Rattle.std.proofs.Common.{◌≡◌, ℕ, ◌+◌, inl, inr, Bool, true, false, MatchBool, List, refl, subst, Option, None, Some}
+use Rattle.nfa_paths.specs.Common.{Found, Search, is_anchored, Anchored, MatchKind, Automaton, Pair, edges, edges_of, is_match, is_utf8_empty, node_at, slot_row, starts, IsAnswer, IsBoolAnswer, IsFindAnswer, IsFirstPath, IsEarliestPath, IsLastPath, IsEarliestLastPath, IsKeptAnswer, IsRestartedAnswer, IsScanAnswer, IsSearchAnswer, Passes, SplitsCharacter}
 use Rattle.regex_search_core.specs.declared.search.MatchKind.TheVariants.{All, LeftmostFirst}
 
--- the search from another start
-abbrev from : Search → ℕ → Search
-from x s = record x { start = s }
+-- what a scan explores, and the pairs that it is for
+pub record Explored : Type 0 where
+  pub edges : Pair → List Pair
+  pub starts : List Pair
+  pub is_match : Pair → Bool
+
+abbrev pub explored : Automaton → Search → Explored
+explored nfa x = record { edges = edges nfa x; starts = starts nfa x; is_match = is_match nfa }
+
+-- scans that explore the same have the same answers
+pub scan-alike : (n m : Automaton) (x y : Search) → explored n x ≡ explored m y → (kind : MatchKind) (earliest : Bool)
+    (r : Option (List Pair)) → IsScanAnswer n x kind earliest r
+    → IsScanAnswer m y kind earliest r
+scan-alike n m x y e LeftmostFirst false r h =
+    subst (λ (g : Explored). IsFirstPath g.edges g.starts (Passes g.is_match) r) e h
+scan-alike n m x y e LeftmostFirst true r h =
+    subst (λ (g : Explored). IsEarliestPath g.edges g.starts (Passes g.is_match) r) e h
+scan-alike n m x y e All false r h =
+    subst (λ (g : Explored). IsLastPath g.edges g.starts (Passes g.is_match) r) e h
+scan-alike n m x y e All true r h =
+    subst (λ (g : Explored). IsEarliestLastPath g.edges g.starts (Passes g.is_match) r) e h
+
+-- the search with this start, anchoring and flag
+abbrev pub turned : Search → ℕ → Anchored → Bool → Search
+turned x s anchored flag = record x { start = s; anchored = anchored; earliest = flag }
+
+-- The scans of the search have answers of those of another NFA with this anchoring and flag, from each start on.
+pub record ScansCarry (n m : Automaton) (x : Search) (anchored : Anchored) (flag : Bool) (kind : MatchKind)
+    (earliest : Bool) : Type 0 where
+  pub utf8 : is_utf8_empty n ≡ is_utf8_empty m
+  pub bound : is_anchored x.anchored ≡ is_anchored anchored
+  pub scans : (s : ℕ) (r : Option (List Pair)) → IsScanAnswer n (record x { start = s }) kind earliest r
+      → IsScanAnswer m (turned x s anchored flag) kind earliest r
+
+module _ {n m : Automaton} {x : Search} {anchored : Anchored} {flag : Bool} {kind : MatchKind} {earliest : Bool}
+    (carry : ScansCarry n m x anchored flag kind earliest) where
+  abbrev there : Search
+  there = turned x x.start anchored flag
+
+  split-carried : (s : ℕ) → SplitsCharacter n kind earliest (record x { start = s })
+      → SplitsCharacter m kind earliest (turned x s anchored flag)
+  split-carried s h = record { path = h.path; answers = carry.scans s (Some h.path) h.answers; splits = h.splits }
+
+  kept-carried : (r : Option (List Pair)) → IsKeptAnswer n kind earliest x r → IsKeptAnswer m kind earliest there r
+  kept-carried None (inl none) = inl (carry.scans x.start None none)
+  kept-carried None (inr split) = inr (split-carried x.start split)
+  kept-carried (Some p) h = (carry.scans x.start (Some p) h.0, h.1)
+
+  restarted-carried : (i : ℕ) (r : Option (List Pair)) → IsRestartedAnswer n kind earliest x i r
+      → IsRestartedAnswer m kind earliest there i r
+  restarted-carried i r h = record {
+    skipped = λ j below. split-carried (x.start + j) (h.skipped j below);
+    answers = carry.scans (x.start + i) r h.answers;
+    whole = h.whole;
+  }
+
+  -- so do their searches
+  pub search-carried : (i : ℕ) (r : Option (List Pair)) → IsSearchAnswer n kind earliest x i r
+      → IsSearchAnswer m kind earliest there i r
+  search-carried i r h = of (is_utf8_empty m) (is_anchored anchored) (rw (carry.utf8, carry.bound) at h)
+    where
+      of : (u a : Bool)
+          → MatchBool u (MatchBool a ((i ≡ 0) × IsKeptAnswer n kind earliest x r)
+          (IsRestartedAnswer n kind earliest x i r)) ((i ≡ 0) × IsScanAnswer n x kind earliest r)
+          → MatchBool u (MatchBool a ((i ≡ 0) × IsKeptAnswer m kind earliest there r)
+          (IsRestartedAnswer m kind earliest there i r)) ((i ≡ 0) × IsScanAnswer m there kind earliest r)
+      of true true k = (k.0, kept-carried r k.1)
+      of true false k = restarted-carried i r k
+      of false a k = (k.0, carry.scans x.start r k.1)
+
+  -- and whether there is a match
+  pub found-carried : (found : Bool) → IsBoolAnswer n kind earliest x found → IsBoolAnswer m kind earliest there found
+  found-carried found h = record {
+    restarts = h.restarts;
+    path = h.path;
+    answers = search-carried h.restarts h.path h.answers;
+    found_is = h.found_is;
+  }
 
 -- The NFA with this anchored start and the search with this anchoring and flag explore the same, from each start on.
 pub record ExploresSame (nfa : Automaton) (x : Search) (state : ℕ) (anchored : Anchored) (flag : Bool) : Type 0 where
   pub bound : is_anchored x.anchored ≡ is_anchored anchored
   pub starts_are : (s : ℕ) → starts nfa (record x { start = s })
-      ≡ starts (record nfa { anchored = state }) (record x { start = s; anchored = anchored; earliest = flag })
+      ≡ starts (record nfa { anchored = state }) (turned x s anchored flag)
 
 module _ {nfa : Automaton} {x : Search} {state : ℕ} {anchored : Anchored} {flag : Bool}
-    (same : ExploresSame nfa x state anchored flag) where
+    (same : ExploresSame nfa x state anchored flag) (kind : MatchKind) (earliest : Bool) where
   abbrev other : Automaton
   other = record nfa { anchored = state }
 
-  abbrev there : Search
-  there = record x { anchored = anchored; earliest = flag }
+  abbrev elsewhere : Search
+  elsewhere = turned x x.start anchored flag
 
-  scan-same : (s : ℕ) (kind : MatchKind) (earliest : Bool) (r : Option (List Pair))
-      → IsScanAnswer nfa (from x s) kind earliest r → IsScanAnswer other (from there s) kind earliest r
+  carries : ScansCarry nfa other x anchored flag kind earliest
   unfolding edges_of node_at
-  scan-same s LeftmostFirst false r h =
-      subst (λ ss. IsFirstPath (edges nfa x) ss (IsMatch nfa) r) (same.starts_are s) h
-  scan-same s LeftmostFirst true r h =
-      subst (λ ss. IsEarliestPath (edges nfa x) ss (IsMatch nfa) r) (same.starts_are s) h
-  scan-same s All false r h = subst (λ ss. IsLastPath (edges nfa x) ss (IsMatch nfa) r) (same.starts_are s) h
-  scan-same s All true r h = subst (λ ss. IsEarliestLastPath (edges nfa x) ss (IsMatch nfa) r) (same.starts_are s) h
+  carries = record {
+    utf8 = refl;
+    bound = same.bound;
+    scans = λ s. scan-alike nfa other (record x { start = s }) (turned x s anchored flag)
+        (λ i. record { edges = edges nfa x; starts = same.starts_are s i; is_match = is_match nfa }) kind earliest;
+  }
 
-  module _ (kind : MatchKind) (earliest : Bool) where
-    split-same : (s : ℕ) → SplitsCharacter nfa kind earliest (from x s)
-        → SplitsCharacter other kind earliest (from there s)
-    split-same s h = record {
-      path = h.path;
-      answers = scan-same s kind earliest (Some h.path) h.answers;
-      splits = h.splits;
-    }
+  pub search-same : (i : ℕ) (r : Option (List Pair)) → IsSearchAnswer nfa kind earliest x i r
+      → IsSearchAnswer other kind earliest elsewhere i r
+  search-same = search-carried carries
 
-    kept-same : (r : Option (List Pair)) → IsKeptAnswer nfa kind earliest x r
-        → IsKeptAnswer other kind earliest there r
-    kept-same None (inl none) = inl (scan-same x.start kind earliest None none)
-    kept-same None (inr split) = inr (split-same x.start split)
-    kept-same (Some p) h = (scan-same x.start kind earliest (Some p) h.0, h.1)
+  -- whether there is a match
+  pub found-same : (found : Bool) → IsBoolAnswer nfa kind earliest x found
+      → IsBoolAnswer other kind earliest elsewhere found
+  found-same = found-carried carries
 
-    restarted-same : (n : ℕ) (r : Option (List Pair)) → IsRestartedAnswer nfa kind earliest x n r
-        → IsRestartedAnswer other kind earliest there n r
-    restarted-same n r h = record {
-      skipped = λ i below. split-same (x.start + i) (h.skipped i below);
-      answers = scan-same (x.start + n) kind earliest r h.answers;
-      whole = h.whole;
-    }
+  -- pattern and slots
+  pub answer-same : (pattern : Option ℕ) (slots : List (Option ℕ)) → IsAnswer nfa kind earliest x pattern slots
+      → IsAnswer other kind earliest elsewhere pattern slots
+  unfolding node_at slot_row
+  answer-same pattern slots h = record {
+    restarts = h.restarts;
+    path = h.path;
+    answers = search-same h.restarts h.path h.answers;
+    pattern_is = h.pattern_is;
+    slots_are = h.slots_are;
+  }
 
-    pub search-same : (n : ℕ) (r : Option (List Pair)) → IsSearchAnswer nfa kind earliest x n r
-        → IsSearchAnswer other kind earliest there n r
-    search-same n r h = of (is_utf8_empty nfa) (is_anchored anchored) (rw same.bound at h)
-      where
-        of : (u a : Bool)
-            → MatchBool u (MatchBool a ((n ≡ 0) × IsKeptAnswer nfa kind earliest x r)
-            (IsRestartedAnswer nfa kind earliest x n r)) ((n ≡ 0) × IsScanAnswer nfa x kind earliest r)
-            → MatchBool u (MatchBool a ((n ≡ 0) × IsKeptAnswer other kind earliest there r)
-            (IsRestartedAnswer other kind earliest there n r)) ((n ≡ 0) × IsScanAnswer other there kind earliest r)
-        of true true k = (k.0, kept-same r k.1)
-        of true false k = restarted-same n r k
-        of false a k = (k.0, scan-same x.start kind earliest r k.1)
-
-    -- pattern and slots
-    pub answer-same : (pattern : Option ℕ) (slots : List (Option ℕ)) → IsAnswer nfa kind earliest x pattern slots
-        → IsAnswer other kind earliest there pattern slots
-    unfolding node_at slot_row
-    answer-same pattern slots h = record {
-      restarts = h.restarts;
-      path = h.path;
-      answers = search-same h.restarts h.path h.answers;
-      pattern_is = h.pattern_is;
-      slots_are = h.slots_are;
-    }
-
-    -- whether there is a match
-    pub found-same : (found : Bool) → IsBoolAnswer nfa kind earliest x found → IsBoolAnswer other kind earliest there found
-    found-same found h = record {
-      restarts = h.restarts;
-      path = h.path;
-      answers = search-same h.restarts h.path h.answers;
-      found_is = h.found_is;
-    }
-
-    -- the match
-    pub match-same : (found : Option Found) → IsFindAnswer nfa kind earliest x found
-        → IsFindAnswer other kind earliest there found
-    unfolding node_at slot_row
-    match-same found h = record {
-      restarts = h.restarts;
-      path = h.path;
-      answers = search-same h.restarts h.path h.answers;
-      found_is = h.found_is;
-    }
+  -- the match
+  pub match-same : (found : Option Found) → IsFindAnswer nfa kind earliest x found
+      → IsFindAnswer other kind earliest elsewhere found
+  unfolding node_at slot_row
+  match-same found h = record {
+    restarts = h.restarts;
+    path = h.path;
+    answers = search-same h.restarts h.path h.answers;
+    found_is = h.found_is;
+  }

@@ -7,7 +7,8 @@ use Rattle.nfa_lazy_dfa.specs.Reads.{HasRead, IsSetOver}
 use Rattle.nfa_lazy_dfa.specs.Rows.{IsFor}
 use Rattle.nfa_lazy_dfa.specs.Sets.{IsPartOfOverlap}
 use Rattle.nfa_lazy_dfa.proofs.ReadLemmas.{HasRead-more}
-use Rattle.nfa_lazy_dfa.proofs.FlagLemmas.{overlap-same, part-same}
+use Rattle.nfa_paths.proofs.FlagSetLemmas.{set-asked}
+use Rattle.nfa_lazy_dfa.proofs.FlagLemmas.{part-same}
 use Rattle.nfa_lazy_dfa.proofs.dfa.DFA.try_which_overlapping_matches.Goals as goal
 
 pub returns-clause-memory : goal.returns-clause-memory
@@ -24,7 +25,7 @@ returns-clause-result c =
     IfOk-weaker _ (λ t. IsOverlapResult nfa (search_of c.earliest-whole.result) All e old new)
     (λ t. IsOverlapResult nfa x All x.earliest old new)
     (λ t r. subst (λ (b : Bool). IsOverlapResult nfa x All b old new) c.get_earliest.ensures
-    (overlap-same nfa x false e old new
+    (set-asked nfa x false All e old new
     (subst (λ (y : Search). IsOverlapResult nfa y All e old new) c.earliest-whole.ensures r)))
     c.overlap.ensures.result
 
