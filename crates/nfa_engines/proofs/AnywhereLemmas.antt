@@ -48,7 +48,7 @@ module _ (nfa : Automaton) (x : Search) (starts : StartsAnywhere nfa x) (s : ℕ
       record {
         restarts = 0;
         path = Some a.path;
-        answers = first-scan nfa LeftmostFirst false x a.path (scan-first a.path (k.only refl)) k.whole;
+        answers = first-scan nfa LeftmostFirst false x (Some a.path) (scan-first a.path (k.only refl)) k.whole;
         pattern_is = a.pattern_is;
         slots_are = a.slots_are;
       }

@@ -369,7 +369,7 @@ pub search-cut : (nfa : Automaton) (x : Search) (restarts : ℕ) (p : List Pair)
     → IsSearchAnswer nfa LeftmostFirst false (cut_to x v.1 m.1 anchored) 0 (Some p)
 search-cut nfa x restarts p h anchored v m may head ends =
     let k = last-scan nfa LeftmostFirst false x restarts p h in
-    first-scan nfa LeftmostFirst false (cut_to x v.1 m.1 anchored) p
+    first-scan nfa LeftmostFirst false (cut_to x v.1 m.1 anchored) (Some p)
     (span-cut nfa (raised x restarts) anchored p v m may k.scan head ends) k.whole
 
 -- the answer of a search

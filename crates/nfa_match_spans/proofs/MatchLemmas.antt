@@ -4,6 +4,7 @@ use Rattle.nfa_paths.specs.Common.{Found, HalfFound, slot_count, Search, is_anch
 use Rattle.nfa_paths.proofs.StartLemmas.{raised-zero}
 use Rattle.nfa_paths.proofs.AnswerLemmas.{scan_answer-leads, search_answer-unique, never_none}
 use Rattle.nfa_paths.proofs.ExistenceLemmas.{scan_answer-none}
+use Rattle.nfa_paths.proofs.OneScanLemmas.{last-scan}
 use Rattle.nfa_paths.proofs.PathToLemmas.{EndsWith-last}
 use Rattle.nfa_engines.specs.Agreement.{end_of}
 use Rattle.nfa_engines.proofs.GapLemmas.{path-match}
@@ -15,24 +16,6 @@ ends : (a b : Pair) (p : List Pair) → EndsWith a p → EndsWith b p → a ≡ 
 ends a b p h k = let same : Some a ≡ Some b = sym (EndsWith-last None a p h) ∙ EndsWith-last None b p k in cc
 
 module _ (nfa : Automaton) (kind : MatchKind) (earliest : Bool) (x : Search) where
-  -- the path of a search's answer is that of its last scan
-  search-scan : (restarts : ℕ) (p : List Pair) → IsSearchAnswer nfa kind earliest x restarts (Some p)
-      → IsScanAnswer nfa (raised x restarts) kind earliest (Some p)
-  search-scan restarts p = of (is_utf8_empty nfa) (is_anchored x.anchored)
-    where
-      first : restarts ≡ 0 → IsScanAnswer nfa x kind earliest (Some p)
-          → IsScanAnswer nfa (raised x restarts) kind earliest (Some p)
-      first none scan = rw none (subst (λ y. IsScanAnswer nfa y kind earliest (Some p)) (sym (raised-zero x)) scan)
-
-      of : (b c : Bool)
-          → MatchBool b (MatchBool c ((restarts ≡ 0) × IsKeptAnswer nfa kind earliest x (Some p))
-          (IsRestartedAnswer nfa kind earliest x restarts (Some p)))
-          ((restarts ≡ 0) × IsScanAnswer nfa x kind earliest (Some p))
-          → IsScanAnswer nfa (raised x restarts) kind earliest (Some p)
-      of true true h = first h.0 h.1.0
-      of true false h = h.answers
-      of false c h = first h.0 h.1
-
   -- an anchored search does not start again
   anchored-once : is_anchored x.anchored ≡ true → (restarts : ℕ) (path : Option (List Pair))
       → IsSearchAnswer nfa kind earliest x restarts path → restarts ≡ 0
@@ -85,7 +68,7 @@ module _ (nfa : Automaton) (kind : MatchKind) (earliest : Bool) (x : Search) whe
     match-of-path restarts path found h answer =
         let one = search_answer-unique nfa kind earliest x answer.restarts restarts answer.path path answer.answers h in
         told (raised x restarts) path found
-        (λ p e. search-scan restarts p (subst (IsSearchAnswer nfa kind earliest x restarts) e h))
+        (λ p e. (last-scan nfa kind earliest x restarts p (subst (IsSearchAnswer nfa kind earliest x restarts) e h)).scan)
         (grind arith)
 
     -- the end of the path that a search answers is that of its match

@@ -1,7 +1,7 @@
 -- What a search answers, from its scans: the last one, and the only one if a match may end anywhere. The match of a
 -- search is what its answer for all slots gives.
-use Rattle.std.proofs.Common.{◌≡◌, ◌∙◌, ℕ, Bool, true, false, MatchBool, List, length, refl, ap, sym, subst, arith, Option, None, Some, option_and_then}
-use Rattle.nfa_paths.specs.Common.{Found, slot_count, Search, is_anchored, match_of, MatchKind, Automaton, Pair, is_utf8_empty, path_pattern, raised, slot_row, EndsOnBoundary, IsAnswer, IsFindAnswer, IsKeptAnswer, IsRestartedAnswer, IsScanAnswer, IsSearchAnswer}
+use Rattle.std.proofs.Common.{◌≡◌, ◌∙◌, ℕ, inl, Bool, true, false, MatchBool, List, length, refl, ap, sym, subst, arith, Option, None, Some, option_and_then}
+use Rattle.nfa_paths.specs.Common.{Found, slot_count, Search, is_anchored, match_of, MatchKind, Automaton, Pair, is_utf8_empty, path_pattern, raised, slot_row, EndsOnBoundary, IsAnswer, IsFindAnswer, IsKeptAnswer, IsRestartedAnswer, IsScanAnswer, IsSearchAnswer, IsWhole}
 use Rattle.nfa_paths.proofs.PatternLemmas.{length-slot_row}
 use Rattle.nfa_paths.proofs.StartLemmas.{raised-zero}
 
@@ -29,16 +29,19 @@ module _ (nfa : Automaton) (kind : MatchKind) (earliest : Bool) (x : Search) whe
       of false b u a h = record { scan = here h.0 h.1; whole = λ t. cc; only = λ t. h.1 }
 
   -- a scan whose path is whole, if it has to be, answers its search
-  pub first-scan : (p : List Pair) → IsScanAnswer nfa x kind earliest (Some p)
-      → (is_utf8_empty nfa ≡ true → EndsOnBoundary x p)
-      → IsSearchAnswer nfa kind earliest x 0 (Some p)
-  first-scan p scan = of (is_utf8_empty nfa) (is_anchored x.anchored)
+  pub first-scan : (r : Option (List Pair)) → IsScanAnswer nfa x kind earliest r
+      → (is_utf8_empty nfa ≡ true → IsWhole x r) → IsSearchAnswer nfa kind earliest x 0 r
+  first-scan r scan = of (is_utf8_empty nfa) (is_anchored x.anchored)
     where
-      of : (u a : Bool) → (u ≡ true → EndsOnBoundary x p)
-          → MatchBool u (MatchBool a ((◌≡◌ {A = ℕ} 0 0) × IsKeptAnswer nfa kind earliest x (Some p))
-          (IsRestartedAnswer nfa kind earliest x 0 (Some p)))
-          ((◌≡◌ {A = ℕ} 0 0) × IsScanAnswer nfa x kind earliest (Some p))
-      of true true whole = (refl, (scan, whole refl))
+      kept : (r : Option (List Pair)) → IsScanAnswer nfa x kind earliest r → IsWhole x r
+          → IsKeptAnswer nfa kind earliest x r
+      kept None scan whole = inl scan
+      kept (Some p) scan whole = (scan, whole)
+
+      of : (u a : Bool) → (u ≡ true → IsWhole x r)
+          → MatchBool u (MatchBool a ((◌≡◌ {A = ℕ} 0 0) × IsKeptAnswer nfa kind earliest x r)
+          (IsRestartedAnswer nfa kind earliest x 0 r)) ((◌≡◌ {A = ℕ} 0 0) × IsScanAnswer nfa x kind earliest r)
+      of true true whole = (refl, kept r scan (whole refl))
       of true false whole = record {
         skipped = λ i less. absurd (omega (arith, less));
         answers = rw (raised-zero x) scan;

@@ -1,10 +1,10 @@
 -- What bytes that each match begins with mean for a search, and what it means that nothing matches.
-use Rattle.std.proofs.Common.{◌≡◌, ℕ, zero, ◌<◌, ◌≤◌, Bool, true, false, inl, inr, List, refl, sym, ap, subst, arith, None, MatchBool, replicate}
+use Rattle.std.proofs.Common.{ℕ, ◌<◌, ◌≤◌, Bool, true, false, inl, inr, List, refl, sym, ap, arith, None, replicate}
 use Rattle.std.proofs.lemmas.Bool.{cases_lt}
 use Rattle.std.proofs.lemmas.List.{length-replicate}
-use Rattle.nfa_paths.specs.Common.{Search, is_anchored, MatchKind, Automaton, IsAnswer, IsBoolAnswer, IsFindAnswer, IsHalfAnswer, IsKeptAnswer, IsRestartedAnswer, IsScanAnswer, IsSearchAnswer, is_utf8_empty, slot_row}
+use Rattle.nfa_paths.specs.Common.{Search, MatchKind, Automaton, IsAnswer, IsBoolAnswer, IsFindAnswer, IsHalfAnswer, IsScanAnswer, IsSearchAnswer, slot_row}
 use Rattle.regex_search_core.specs.declared.search.MatchKind.TheVariants.{All, LeftmostFirst}
-use Rattle.nfa_paths.proofs.StartLemmas.{raised-zero}
+use Rattle.nfa_paths.proofs.OneScanLemmas.{first-scan}
 use Rattle.nfa_engines.specs.Accepting.{MatchesNothing}
 use Rattle.nfa_engines.specs.StartLaws.{anchored_at, IsFirstStart, IsUnbound}
 use Rattle.nfa_engines.proofs.StartAnswerLemmas.{nothing-of}
@@ -53,18 +53,7 @@ module _ (nfa : Automaton) (kind : MatchKind) (earliest : Bool) (x : Search) (no
 
   -- the first scan answers no path
   search-nothing : IsSearchAnswer nfa kind earliest x 0 None
-  search-nothing = of (is_utf8_empty nfa) (is_anchored x.anchored)
-    where
-      of : (b c : Bool)
-          → MatchBool b (MatchBool c ((zero ≡ 0) × IsKeptAnswer nfa kind earliest x None)
-          (IsRestartedAnswer nfa kind earliest x 0 None)) ((zero ≡ 0) × IsScanAnswer nfa x kind earliest None)
-      of true true = (refl, inl scan-nothing)
-      of true false = record {
-        skipped = λ i less. absurd (omega arith);
-        answers = subst (λ y. IsScanAnswer nfa y kind earliest None) (sym (raised-zero x)) scan-nothing;
-        whole = tt;
-      }
-      of false c = (refl, scan-nothing)
+  search-nothing = first-scan nfa kind earliest x None scan-nothing (λ t. tt)
 
   pub nothing-answer : (n : ℕ) → IsAnswer nfa kind earliest x None (replicate n None)
   unfolding slot_row
