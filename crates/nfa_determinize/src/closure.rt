@@ -1,16 +1,15 @@
 //! The closure of a list of states, and the step over a byte.
 ghost use Rattle.std.specs.Prelude.{◌≡◌, ◌<◌, ◌≤◌, ◌++◌, All, IfOk, OnOk, length, reverse, take, replicate, true};
 ghost use Rattle.std.specs.Prelude.{false};
-ghost use Rattle.std.specs.Prelude.{option_and_then, option_map, slice_index_or, slice_set};
+ghost use Rattle.std.specs.Prelude.{option_map, slice_index_or, slice_set};
 ghost use Rattle.regex_search_core.specs.Patterns.{number_of};
 ghost use Rattle.thompson_nfa.specs.Automaton.{node_of};
-ghost use Rattle.nfa_paths.specs.Kinds.{rests};
-ghost use Rattle.nfa_paths.specs.Paths.{pattern_of, target_on};
+ghost use Rattle.nfa_paths.specs.Paths.{pattern_of, rests};
 ghost use Rattle.nfa_determinize.specs.Closures.{before_first_match, closure, epsilon_states, first_pattern};
 ghost use Rattle.nfa_determinize.specs.Closures.{holding_at, kept};
 ghost use Rattle.nfa_determinize.specs.Closures.{last_pattern, pattern_by_kind, step};
 
-use nfa_scan_core::transitions::{dense_target, range_target, sparse_target};
+use nfa_scan_core::transitions::target;
 use regex_search_core::{MatchKind, PatternID, StateID};
 use std::alloc::{AllocError, Global};
 use thompson_nfa::{NFA, State, look_matches};
@@ -146,18 +145,6 @@ pub fn step(
         }
     }
     Ok(next)
-}
-
-/// Where the state leads on the byte.
-fn target(state: &State, byte: Option<u8>) -> Option<StateID>
-    ensures { result ≡ option_and_then (target_on (node_of state.now)) byte }
-{
-    match state {
-        State::ByteRange { trans } => range_target(trans, byte),
-        State::Sparse(transitions) => sparse_target(transitions, byte),
-        State::Dense(targets) => dense_target(targets, byte),
-        _ => None,
-    }
 }
 
 /// Returns the pattern that matches at a position with this closure: of the first `Match`, or for `All` of the last.
