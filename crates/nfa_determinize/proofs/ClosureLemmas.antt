@@ -6,7 +6,7 @@ use Rattle.std.proofs.lemmas.List.Elements.{All-append, All-cons, All-head, All-
 use Rattle.std.proofs.lemmas.Option.{get_or_from_slice_get, slice_get-map}
 use Rattle.nfa_paths.specs.Common.{Automaton, Node, LeadsBelow, rests, degree, node_at}
 use Rattle.nfa_paths.specs.Turns.{marked_sum}
-use Rattle.nfa_paths.proofs.StartLemmas.{epsilon-all}
+use Rattle.nfa_paths.proofs.StartLemmas.{epsilon-all, epsilon-few}
 use Rattle.nfa_paths.proofs.TurnLemmas.{marked_sum-set, marked_sum-le}
 use Rattle.nfa_determinize.specs.Closures.{Holding, closure, epsilon_states, explore}
 use Rattle.nfa_determinize.proofs.ExploreLemmas.{unseen, unseen-all, unseen-set, explore-none}
@@ -29,9 +29,6 @@ epsilon-below holding n node leads = epsilon-all (λ s. s < n) holding node (of 
   where
     of : (node : Node) → LeadsBelow n node → AreBelow n (epsilon_states (λ look. true) node)
     of _ leads = grind arith
-
-epsilon-few : (holding : Holding) (node : Node) → length (epsilon_states holding node) ≤ degree node
-epsilon-few holding _ = grind arith
 
 -- how many states may still be taken from the stack
 abbrev pub takes_left : Automaton → List Bool → List ℕ → ℕ

@@ -1,9 +1,9 @@
 -- The starts of the paths of an NFA, and the edges of its pairs.
-use Rattle.std.proofs.Common.{◌≡◌, ℕ, zero, suc, ◌+◌, ◌-◌, ◌≤◌, ◌<◌, inl, inr, Bool, true, false, List, [], ◌∷◌, map, All, if◌then◌else◌, refl, ap, arith, Option, None, Some, is_some, option_and_then, option_map, option_to_list, slice_get}
+use Rattle.std.proofs.Common.{◌≡◌, ℕ, zero, suc, ◌+◌, ◌-◌, ◌≤◌, ◌<◌, inl, inr, Bool, true, false, List, [], ◌∷◌, map, length, All, if◌then◌else◌, refl, ap, arith, Option, None, Some, is_some, option_and_then, option_map, option_to_list, slice_get}
 use Rattle.std.proofs.lemmas.Bool.{cases_lt}
 use Rattle.std.proofs.lemmas.List.Elements.{All-nil}
 use Rattle.std.proofs.lemmas.Option.{get_or_from_slice_get}
-use Rattle.nfa_paths.specs.Common.{Search, Automaton, Node, Pair, In, Increasing, rests, is_resting, Holding, holding_at, epsilon_states, pattern_of, slot_of, target_on, byte_at, pairs_from, raised, node_at, is_match, capture, edges_of, edges, starts}
+use Rattle.nfa_paths.specs.Common.{Search, Automaton, Node, Pair, In, Increasing, rests, is_resting, Holding, holding_at, epsilon_states, degree, pattern_of, slot_of, target_on, byte_at, pairs_from, raised, node_at, is_match, capture, edges_of, edges, starts}
 use Rattle.thompson_nfa.specs.Automaton.Node.{Look, Capture, Fail, Match}
 
 -- the pairs from a position on are at it or after it
@@ -102,6 +102,10 @@ epsilon-all P holding (Look look next) all = of (holding look)
     of true = all
     of false = All-nil P
 epsilon-all P holding _ all = all
+
+-- they are at most as many as the state has edges
+pub epsilon-few : (holding : Holding) (node : Node) → length (epsilon_states holding node) ≤ degree node
+epsilon-few holding _ = grind arith
 
 -- the edges depend on the haystack and on the end of the span only
 pub edges-alike : (nfa : Automaton) (x y : Search) → x.haystack ≡ y.haystack → x.end ≡ y.end
