@@ -4,14 +4,14 @@ use Rattle.std.specs.List.{slice_get, sum_by}
 use Rattle.std.proofs.lemmas.List.{length-map}
 use Rattle.std.proofs.lemmas.List.Elements.{All-push}
 use Rattle.std.proofs.lemmas.List.Sums.{sum_by_push}
-use Rattle.nfa_paths.specs.Common.{Search, number_of, PatternID, Automaton, Node, node_of, look_holds, Pair, span_len, degree, pattern_of, slot_of, edges_of, byte_at, target_on, Task, Slots}
-use Rattle.thompson_nfa.specs.Automaton.Node.{ByteRange, Sparse, Dense, Look, Union, BinaryUnion, Capture, Match}
+use Rattle.nfa_paths.specs.Common.{Search, number_of, PatternID, Automaton, Node, node_of, look_holds, Pair, span_len, degree, reads_byte, pattern_of, slot_of, edges_of, byte_at, target_on, Task, Slots}
+use Rattle.thompson_nfa.specs.Automaton.Node.{Look, Union, BinaryUnion, Capture, Match}
 use Rattle.thompson_nfa.specs.declared.look.Look as looks
 use Rattle.thompson_nfa.specs.declared.state.State.{State}
 use Rattle.nfa_paths.specs.Exploring.Task.{Explore, Restore}
 use Rattle.nfa_scan_core.proofs.TargetLemmas.{target-below, target-degree}
 use Rattle.nfa_scan_core.specs.Marks.{Marks}
-use Rattle.nfa_backtrack_scan.specs.Walk.{pair_of, work_item, stacked, restoring, move_to, frame_tries, tries_of_state_pos, with_state_pos, bit_of, HasBits, HasFrames, IsStatePos, IsStatePosOr, IsFrame, IsByteStep, PaidFor, ReadsByte, Carries, Goes, Taken, TurnsLead, Walk, WasMarked}
+use Rattle.nfa_backtrack_scan.specs.Walk.{pair_of, work_item, stacked, restoring, move_to, frame_tries, tries_of_state_pos, with_state_pos, bit_of, HasBits, HasFrames, IsStatePos, IsStatePosOr, IsFrame, IsByteStep, PaidFor, Carries, Goes, Taken, TurnsLead, Walk, WasMarked}
 use Rattle.nfa_backtrack_scan.specs.declared.walk.Move.TheVariants.{Matched}
 use Rattle.nfa_backtrack_scan.specs.declared.frame.StatePos.{StatePos}
 use Rattle.nfa_backtrack_scan.specs.declared.frame.Frame.{Frame}
@@ -71,26 +71,21 @@ tries-restoring slot None = refl
 tries-restoring slot (Some offset) = refl
 
 -- a state that reads a byte is no match, and writes no slot
-pub reads-plain : (node : Node) → ReadsByte node → pattern_of node ≡ None
-reads-plain (Match pattern) r = absurd r
-reads-plain _ r = refl
+pub reads-plain : (node : Node) → reads_byte node ≡ true → pattern_of node ≡ None
+reads-plain _ r = grind arith
 
-pub reads-unwritten : (node : Node) → ReadsByte node → slot_of node ≡ None
-reads-unwritten (Capture next slot) r = absurd r
-reads-unwritten _ r = refl
+pub reads-unwritten : (node : Node) → reads_byte node ≡ true → slot_of node ≡ None
+reads-unwritten _ r = grind arith
 
 -- a state at the next position
 abbrev next_pair : ℕ → ℕ → Pair
 next_pair at next = (next, at + 1)
 
 -- its edges
-reads-edges : (x : Search) (node : Node) (at : ℕ) → ReadsByte node → edges_of x node at ≡ option_to_list
+reads-edges : (x : Search) (node : Node) (at : ℕ) → reads_byte node ≡ true → edges_of x node at ≡ option_to_list
     (option_and_then (λ b. option_map (next_pair at) (target_on node b)) (byte_at x at))
 unfolding edges_of
-reads-edges x (ByteRange trans) at r = refl
-reads-edges x (Sparse transitions) at r = refl
-reads-edges x (Dense targets) at r = refl
-reads-edges x _ at r = absurd r
+reads-edges x _ at r = grind arith
 
 pub step-edges : (nfa : Automaton) (x : Search) (s at : ℕ) (target : Option ℕ)
     → (b : IsByteStep nfa x (s, at) target)

@@ -2,9 +2,9 @@
 -- seen.
 use Rattle.std.specs.Prelude.{◌≡◌, ◌↔◌, ℕ, ◌+◌, ◌-◌, ◌*◌, ◌^◌, ◌<◌, ◌≤◌, Bool, true, false, List, [], ◌∷◌, Option, None, is_some, option_and_then, replicate, Some, length, map, sum, All, slice_get, slice_index_or, slice_set}
 use Rattle.std.specs.List.{sum_by}
-use Rattle.nfa_paths.specs.Common.{Search, number_of, half_found_of, HalfMatch, Automaton, IsAutomaton, LeadsBelow, Node, node_of, Pair, In, span_len, degree, node_at, pattern_of, is_match, byte_at, target_on, IsScanAnswer, space, Slots, Hit, Task, ExploresTo}
+use Rattle.nfa_paths.specs.Common.{Search, number_of, half_found_of, HalfMatch, Automaton, IsAutomaton, LeadsBelow, Node, node_of, Pair, In, span_len, degree, reads_byte, node_at, pattern_of, is_match, byte_at, target_on, IsScanAnswer, space, Slots, Hit, Task, ExploresTo}
 use Rattle.regex_search_core.specs.declared.search.MatchKind.TheVariants.{LeftmostFirst}
-use Rattle.thompson_nfa.specs.Automaton.Node.{ByteRange, Sparse, Dense, BinaryUnion}
+use Rattle.thompson_nfa.specs.Automaton.Node.{ByteRange, BinaryUnion}
 use Rattle.thompson_nfa.specs.declared.state.State.{State}
 use Rattle.thompson_nfa.specs.declared.state.Transition.{Transition}
 use Rattle.nfa_paths.specs.Restarts.{GivesPath}
@@ -51,13 +51,6 @@ abbrev pub move_to : Option StatePos → Move
 move_to None = DeadEnd
 move_to (Some place) = On place
 
--- a state that reads a byte
-abbrev pub ReadsByte : Node → Type 0
-ReadsByte (ByteRange trans) = Unit {0}
-ReadsByte (Sparse transitions) = Unit {0}
-ReadsByte (Dense targets) = Unit {0}
-ReadsByte _ = ⊥
-
 -- the turns that a frame still has to take
 abbrev pub frame_tries : Frame → ℕ
 frame_tries (Step sid at row) = 1
@@ -101,7 +94,7 @@ outcome_of (Some half) = Matched half
 pub record IsByteStep (nfa : Automaton) (x : Search) (v : Pair) (target : Option ℕ) : Type 0 where
   pub node : Node
   pub is : slice_get nfa.states v.0 ≡ Some node
-  pub reads : ReadsByte node
+  pub reads : reads_byte node ≡ true
   pub below : LeadsBelow (length nfa.states) node
   pub leads : target ≡ option_and_then (target_on node) (byte_at x v.1)
 

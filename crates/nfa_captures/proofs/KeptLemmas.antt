@@ -5,7 +5,7 @@ use Rattle.std.specs.Option.{option_map_or, option_or}
 use Rattle.std.proofs.lemmas.Bool.{cases_Bool, cases_lt, le-ltb, lt-ltb}
 use Rattle.std.proofs.lemmas.List.{length-replicate}
 use Rattle.nfa_paths.specs.Common.{Found, slot_count, Search, match_of, Automaton, Node, IsAutomaton, Pair, pattern_at, capture, edges, edges_of, node_at, path_pattern, pattern_of, slot_among, slot_of, slot_row}
-use Rattle.thompson_nfa.specs.Automaton.Node.{ByteRange, Sparse, Dense, Look, Union, BinaryUnion, Capture, Fail, Match}
+use Rattle.thompson_nfa.specs.Automaton.Node.{Capture, Fail}
 use Rattle.nfa_paths.proofs.PatternLemmas.{length-slot_row, match-along-path}
 use Rattle.nfa_captures.specs.Kept.{kept_node, with_groups}
 use Rattle.nfa_captures.proofs.WaysLemmas.{HaveSameWays, pattern-same}
@@ -28,14 +28,7 @@ module _ (count : ℕ) where
     | inl below ↦ rw below refl
     | inr past ↦ rw past refl
   ]
-  edges-kept x (ByteRange t) at = refl
-  edges-kept x (Sparse ts) at = refl
-  edges-kept x (Dense targets) at = refl
-  edges-kept x (Look look next) at = refl
-  edges-kept x (Union alternates) at = refl
-  edges-kept x (BinaryUnion alt1 alt2) at = refl
-  edges-kept x Fail at = refl
-  edges-kept x (Match pattern) at = refl
+  edges-kept x _ at = refl
 
   -- what it matches
   pattern-kept : (n : Node) → pattern_of (kept_node count n) ≡ pattern_of n
@@ -43,14 +36,7 @@ module _ (count : ℕ) where
     | inl below ↦ rw below refl
     | inr past ↦ rw past refl
   ]
-  pattern-kept (ByteRange t) = refl
-  pattern-kept (Sparse ts) = refl
-  pattern-kept (Dense targets) = refl
-  pattern-kept (Look look next) = refl
-  pattern-kept (Union alternates) = refl
-  pattern-kept (BinaryUnion alt1 alt2) = refl
-  pattern-kept Fail = refl
-  pattern-kept (Match pattern) = refl
+  pattern-kept _ = refl
 
   -- whether it writes a slot that is kept
   slot-kept : (slot : ℕ) → slot < count → (n : Node)
@@ -62,14 +48,7 @@ module _ (count : ℕ) where
         let other : (own == slot) ≡ false = ne_eqb own slot (λ (e : own ≡ slot). omega arith) in
         rw (le-ltb own count past) (sym other)
   ]
-  slot-kept slot less (ByteRange t) = refl
-  slot-kept slot less (Sparse ts) = refl
-  slot-kept slot less (Dense targets) = refl
-  slot-kept slot less (Look look next) = refl
-  slot-kept slot less (Union alternates) = refl
-  slot-kept slot less (BinaryUnion alt1 alt2) = refl
-  slot-kept slot less Fail = refl
-  slot-kept slot less (Match pattern) = refl
+  slot-kept slot less _ = refl
 
 module _ (groups : Groups) (nfa : Automaton) where
   abbrev kept : Automaton

@@ -58,9 +58,6 @@ before-end : (P Q : Pair → Type 0) → ((v : Pair) → P v → Q v) → (e : �
 before-end P Q to e v h = record { wanted = to v h.wanted; before = h.before }
 
 module _ (a b : Automaton) (w : HaveSameWays a b) (x : Search) where
-  abbrev w-back : HaveSameWays b a
-  w-back = back a b w
-
   -- what is meant by All
   selected : (earliest : Bool) (capacity k : ℕ) → IsSelectedByAll a x earliest capacity k
       → IsSelectedByAll b x earliest capacity k

@@ -5,7 +5,7 @@ use Rattle.std.proofs.lemmas.List.{get_or_past, length-map, length-replicate}
 use Rattle.std.proofs.lemmas.List.Elements.{All-cons, All-head, All-map, All-nil, All-tail}
 use Rattle.nfa_paths.specs.Common.{slot_count, Automaton, IsAutomaton, LeadsBelow, Node, PatternBelow, SlotBelow}
 use Rattle.thompson_nfa.specs.Automaton.{AreGroupsOfPatterns}
-use Rattle.thompson_nfa.specs.Automaton.Node.{ByteRange, Sparse, Dense, Look, Union, BinaryUnion, Capture, Fail, Match}
+use Rattle.thompson_nfa.specs.Automaton.Node.{Capture, Fail}
 use Rattle.thompson_nfa.specs.Flaws.{IsFirstFlaw}
 use Rattle.thompson_nfa.specs.declared.flaw.Flaw.{Flaw}
 use Rattle.thompson_nfa.specs.declared.flaw.Flaw.TheVariants as flaw
@@ -21,14 +21,7 @@ module _ (count : ℕ) where
     | inl below ↦ rw below h
     | inr past ↦ rw past (All-cons (λ s. s < n) next [] h (All-nil (λ s. s < n)))
   ]
-  leads-kept n (ByteRange t) h = h
-  leads-kept n (Sparse ts) h = h
-  leads-kept n (Dense targets) h = h
-  leads-kept n (Look look next) h = h
-  leads-kept n (Union alternates) h = h
-  leads-kept n (BinaryUnion alt1 alt2) h = h
-  leads-kept n Fail h = h
-  leads-kept n (Match pattern) h = h
+  leads-kept n _ h = h
 
   -- a state writes only slots that are kept
   slot-below : (node : Node) → SlotBelow count (kept_node count node)
@@ -36,40 +29,19 @@ module _ (count : ℕ) where
     | inl below ↦ rw (lt-ltb slot count below) below
     | inr past ↦ rw (le-ltb slot count past) tt
   ]
-  slot-below (ByteRange t) = tt
-  slot-below (Sparse ts) = tt
-  slot-below (Dense targets) = tt
-  slot-below (Look look next) = tt
-  slot-below (Union alternates) = tt
-  slot-below (BinaryUnion alt1 alt2) = tt
-  slot-below Fail = tt
-  slot-below (Match pattern) = tt
+  slot-below _ = tt
 
   pattern-below : (n : ℕ) (node : Node) → PatternBelow n node → PatternBelow n (kept_node count node)
   pattern-below n (Capture next slot) h = elim (cases_Bool (nat_lt slot count)) [
     | inl below ↦ rw below tt
     | inr past ↦ rw past tt
   ]
-  pattern-below n (ByteRange t) h = h
-  pattern-below n (Sparse ts) h = h
-  pattern-below n (Dense targets) h = h
-  pattern-below n (Look look next) h = h
-  pattern-below n (Union alternates) h = h
-  pattern-below n (BinaryUnion alt1 alt2) h = h
-  pattern-below n Fail h = h
-  pattern-below n (Match pattern) h = h
+  pattern-below n _ h = h
 
   -- a state that writes no other slot is as it was
   node-same : (node : Node) → SlotBelow count node → kept_node count node ≡ node
   node-same (Capture next slot) h = rw (lt-ltb slot count h) refl
-  node-same (ByteRange t) h = refl
-  node-same (Sparse ts) h = refl
-  node-same (Dense targets) h = refl
-  node-same (Look look next) h = refl
-  node-same (Union alternates) h = refl
-  node-same (BinaryUnion alt1 alt2) h = refl
-  node-same Fail h = refl
-  node-same (Match pattern) h = refl
+  node-same _ h = refl
 
   nodes-same : (nodes : List Node) → All (SlotBelow count) nodes → map (kept_node count) nodes ≡ nodes
   nodes-same [] h = refl

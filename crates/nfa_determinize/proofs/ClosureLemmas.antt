@@ -5,8 +5,8 @@ use Rattle.std.proofs.lemmas.List.{length-append, length-replicate, length-rever
 use Rattle.std.proofs.lemmas.List.Elements.{All-append, All-cons, All-head, All-nil, All-pop, All-push, All-tail}
 use Rattle.std.proofs.lemmas.Option.{get_or_from_slice_get, slice_get-map}
 use Rattle.nfa_paths.specs.Common.{Automaton, Node, LeadsBelow, rests, degree, node_at}
-use Rattle.thompson_nfa.specs.Automaton.Node.{Look, Union, BinaryUnion, Capture}
 use Rattle.nfa_paths.specs.Turns.{marked_sum}
+use Rattle.nfa_paths.proofs.StartLemmas.{epsilon-all, epsilon-few}
 use Rattle.nfa_paths.proofs.TurnLemmas.{marked_sum-set, marked_sum-le}
 use Rattle.nfa_determinize.specs.Closures.{Holding, closure, epsilon_states, explore}
 use Rattle.nfa_determinize.proofs.ExploreLemmas.{unseen, unseen-all, unseen-set, explore-none}
@@ -25,24 +25,10 @@ AreBelow-reverse n (s ∷ states) below =
 -- the states that a state leads to without a byte
 epsilon-below : (holding : Holding) (n : ℕ) (node : Node) → LeadsBelow n node
     → AreBelow n (epsilon_states holding node)
-epsilon-below holding n (Look look next) leads = of (holding look)
+epsilon-below holding n node leads = epsilon-all (λ s. s < n) holding node (of node leads)
   where
-    of : (b : Bool) → AreBelow n (cond b (next ∷ []) [])
-    of true = All-cons (λ s. s < n) next [] leads (All-nil (λ s. s < n))
-    of false = All-nil (λ s. s < n)
-epsilon-below holding n (Union alternates) leads = leads
-epsilon-below holding n (BinaryUnion a b) leads =
-    All-cons (λ s. s < n) a (b ∷ []) leads.0 (All-cons (λ s. s < n) b [] leads.1 (All-nil (λ s. s < n)))
-epsilon-below holding n (Capture next slot) leads = All-cons (λ s. s < n) next [] leads (All-nil (λ s. s < n))
-epsilon-below holding n _ leads = All-nil (λ s. s < n)
-
-epsilon-few : (holding : Holding) (node : Node) → length (epsilon_states holding node) ≤ degree node
-epsilon-few holding (Look look next) = of (holding look)
-  where
-    of : (b : Bool) → length (cond b (next ∷ []) []) ≤ 1
-    of true = omega arith
-    of false = omega arith
-epsilon-few holding _ = omega arith
+    of : (node : Node) → LeadsBelow n node → AreBelow n (epsilon_states (λ look. true) node)
+    of _ leads = grind arith
 
 -- how many states may still be taken from the stack
 abbrev pub takes_left : Automaton → List Bool → List ℕ → ℕ

@@ -3,7 +3,7 @@ use Rattle.std.proofs.Common.{◌≡◌, ℕ, zero, suc, ◌+◌, ◌<◌, ◌�
 use Rattle.std.proofs.lemmas.Bool.{cases_Bool}
 use Rattle.std.proofs.lemmas.List.{get_or_past}
 use Rattle.nfa_paths.specs.Common.{Search, Automaton, Node, look_holds, Pair, Space, In, Path, Slots, Hit, Task, ExploresTo, Searching, rests, node_at, pattern_of, is_match, byte_at, target_on, edges, edges_of, starts}
-use Rattle.thompson_nfa.specs.Automaton.Node.{Look, Union, BinaryUnion, Capture, Fail, Match}
+use Rattle.thompson_nfa.specs.Automaton.Node.{Fail, Match}
 use Rattle.nfa_paths.specs.FirstPaths.Path.{stop, go}
 use Rattle.nfa_paths.specs.Exploring.Task.{Explore}
 use Rattle.nfa_paths.proofs.PathToLemmas.{is_false}
@@ -14,7 +14,7 @@ use Rattle.nfa_determinize.specs.Closures.{holding_at, epsilon_states, explore}
 use Rattle.nfa_determinize.proofs.ExploreLemmas.{unseen, unseen-set, unseen-none, unseen-inside, seen-past, explore-none}
 use Rattle.nfa_scan_core.proofs.SeenLemmas.{SeenAt-set, SeenAt-clear}
 use Rattle.nfa_scan_core.specs.Marks.{SeenAt}
-use Rattle.nfa_paths.proofs.StartLemmas.{resting-edges}
+use Rattle.nfa_paths.proofs.StartLemmas.{resting-edges, epsilon-edges}
 
 -- the states at a position
 abbrev pub pairs : ℕ → List ℕ → List Pair
@@ -50,20 +50,6 @@ pairs-append at (s ∷ states) more rest = ap (λ (ps : List Pair). (s, at) ∷ 
 pub work-append : (states more : List Pair) → map Explore states ++ map Explore more ≡ map Explore (states ++ more)
 work-append [] more = refl
 work-append (v ∷ states) more = ap (λ (w : List Task). Explore v ∷ w) (work-append states more)
-
--- a state that does not rest leads to the states that it leads to without a byte
-pub epsilon-edges : (x : Search) (at : ℕ) (node : Node) → rests node ≡ false
-    → edges_of x node at ≡ pairs at (epsilon_states (holding_at x.haystack at) node)
-unfolding edges_of
-epsilon-edges x at (Look look next) r = of (look_holds look x.haystack at)
-  where
-    of : (b : Bool) → cond b ((next, at) ∷ []) [] ≡ pairs at (cond b (next ∷ []) [])
-    of true = refl
-    of false = refl
-epsilon-edges x at (Union alternates) r = refl
-epsilon-edges x at (BinaryUnion a b) r = refl
-epsilon-edges x at (Capture next slot) r = refl
-epsilon-edges x at _ r = cc
 
 -- a state that rests leads to its target
 byte-edges : (at : ℕ) (on : ℕ → Option ℕ) (byte : Option ℕ)
@@ -208,7 +194,7 @@ module _ (nfa : Automaton) (x : Search) (at : ℕ) where
           let next = epsilon_states (holding_at x.haystack at) (node_at nfa s) in
           let plain = Searching-plain (bare nfa x) target h (SeenAt-clear at s seen inside clear)
           (SeenAt-set at s seen inside) (unrested target ok s r) (pairs at next)
-          (epsilon-edges x at (node_at nfa s) r) refl in
+          (epsilon-edges x (node_at nfa s) at r) refl in
           let joined : map Explore (pairs at next) ++ map Explore (pairs at waiting ++ rest)
           ≡ map Explore (pairs at (next ++ waiting) ++ rest) =
           work-append (pairs at next) (pairs at waiting ++ rest)

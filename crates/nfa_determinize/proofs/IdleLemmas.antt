@@ -15,7 +15,8 @@ use Rattle.nfa_determinize.specs.Configurations.{closure_at, found_after, half_a
 use Rattle.nfa_determinize.specs.Idles.{IsIdle, StartsFrom}
 use Rattle.nfa_determinize.proofs.AnswerLemmas.{scan-answered}
 use Rattle.nfa_determinize.proofs.ExploreLemmas.{unseen, unseen-set, unseen-none, unseen-all}
-use Rattle.nfa_determinize.proofs.FollowLemmas.{pairs, epsilon-edges, match-rests, past-edges, past-plain, rests-edges}
+use Rattle.nfa_paths.proofs.StartLemmas.{epsilon-edges}
+use Rattle.nfa_determinize.proofs.FollowLemmas.{pairs, match-rests, past-edges, past-plain, rests-edges}
 use Rattle.nfa_determinize.proofs.MatchLemmas.{NoneMatches, first-is}
 
 -- a pair of a list of states at one position
@@ -147,7 +148,7 @@ module _ (nfa : Automaton) (x : Search) (m : Pair) where
       goes-on s (w ∷ p) h r =
           let both = way-next (s, at) w p h in
           let h2 = pairs-among at (epsilon_states (holding_at x.haystack at) (node_at nfa s)) w
-          (rw (epsilon-edges x at (node_at nfa s) r) at both.0) in
+          (rw (epsilon-edges x (node_at nfa s) at r) at both.0) in
           record {
             next = h2.0;
             among = h2.1;

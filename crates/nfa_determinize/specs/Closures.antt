@@ -1,18 +1,9 @@
 -- The NFA states that a search is in at a position, in order of priority: what one state of a DFA stands for.
 use Rattle.std.specs.Prelude.{ℕ, zero, suc, Bool, true, false, List, [], ◌∷◌, ◌++◌, ◌==◌, length, replicate, is_some, if◌then◌else◌, ⊤, Option, None, option_and_then, option_to_list, slice_index_or, slice_set}
 use Rattle.std.specs.Option.{option_or}
-use Rattle.nfa_paths.specs.Common.{MatchKind, Automaton, Node, look_holds, In, rests, node_at, pattern_of, target_on}
+use Rattle.nfa_paths.specs.Common.{MatchKind, Automaton, In, rests, node_at, pattern_of, target_on}
 use Rattle.regex_search_core.specs.declared.search.MatchKind.TheVariants.{All, LeftmostFirst}
-use Rattle.thompson_nfa.specs.Automaton.Node.{Look, Union, BinaryUnion, Capture}
-use Rattle.thompson_nfa.specs.declared.look.Look as looks
-
--- which assertions hold at a position
-abbrev pub Holding : Type 0
-Holding = looks.Look → Bool
-
--- those that hold at a position of the haystack: all that a closure reads of it
-abbrev pub holding_at : List ℕ → ℕ → Holding
-holding_at haystack at look = look_holds look haystack at
+pub use Rattle.nfa_paths.specs.Common.{Holding, holding_at, epsilon_states}
 
 -- no state is in the list twice
 abbrev pub EachOnce : List ℕ → Type 0
@@ -28,14 +19,6 @@ without s (t ∷ states) = if t == s then without s states else t ∷ without s 
 abbrev pub first_of_each : List ℕ → List ℕ
 first_of_each [] = []
 first_of_each (s ∷ states) = s ∷ without s (first_of_each states)
-
--- the states that a state leads to without a byte, in order of preference
-abbrev pub epsilon_states : Holding → Node → List ℕ
-epsilon_states holding (Look look next) = if holding look then next ∷ [] else []
-epsilon_states holding (Union alternates) = alternates
-epsilon_states holding (BinaryUnion alt1 alt2) = alt1 ∷ (alt2 ∷ [])
-epsilon_states holding (Capture next slot) = next ∷ []
-epsilon_states holding _ = []
 
 module _ (nfa : Automaton) where
   module _ (holding : Holding) where

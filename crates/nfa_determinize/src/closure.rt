@@ -1,16 +1,14 @@
 //! The closure of a list of states, and the step over a byte.
-ghost use Rattle.std.specs.Prelude.{◌≡◌, ◌<◌, ◌≤◌, ◌++◌, All, IfOk, OnOk, length, reverse, take, replicate, true};
-ghost use Rattle.std.specs.Prelude.{false};
-ghost use Rattle.std.specs.Prelude.{option_and_then, option_map, slice_index_or, slice_set};
+ghost use Rattle.std.specs.Prelude.{◌≡◌, ◌<◌, ◌≤◌, ◌++◌, All, IfOk, OnOk, length, option_map, reverse, take};
 ghost use Rattle.regex_search_core.specs.Patterns.{number_of};
 ghost use Rattle.thompson_nfa.specs.Automaton.{node_of};
-ghost use Rattle.nfa_paths.specs.Kinds.{rests};
-ghost use Rattle.nfa_paths.specs.Paths.{pattern_of, target_on};
+ghost use Rattle.nfa_paths.specs.Paths.{pattern_of, rests};
 ghost use Rattle.nfa_determinize.specs.Closures.{before_first_match, closure, epsilon_states, first_pattern};
 ghost use Rattle.nfa_determinize.specs.Closures.{holding_at, kept};
 ghost use Rattle.nfa_determinize.specs.Closures.{last_pattern, pattern_by_kind, step};
 
-use nfa_scan_core::transitions::{dense_target, range_target, sparse_target};
+use nfa_scan_core::marks::{none_seen, see};
+use nfa_scan_core::transitions::target;
 use regex_search_core::{MatchKind, PatternID, StateID};
 use std::alloc::{AllocError, Global};
 use thompson_nfa::{NFA, State, look_matches};
@@ -48,36 +46,14 @@ pub fn closure(
     Ok(kept)
 }
 
-/// A mark for each state, none of them set.
-fn none_seen(alloc: Global, nfa: &NFA) -> Result<Vec<bool>, AllocError>
-    ensures { IfOk result (λ made. made.items ≡ replicate (length nfa.now.states) false) }
-{
-    Ok(vec![in alloc; false; nfa.states().len()]?)
-}
-
-/// Marks the state, and says whether it was not marked before.
-fn see(seen: &mut Vec<bool>, sid: StateID) -> bool
-    requires { sid < length seen.old.items }
-    ensures fresh { result ≡ true → slice_index_or seen.old.items sid true ≡ false }
-    ensures marked { result ≡ true → seen.new.items ≡ slice_set seen.old.items sid true }
-    ensures again { result ≡ false → slice_index_or seen.old.items sid true ≡ true }
-    ensures same { result ≡ false → seen.new.items ≡ seen.old.items }
-{
-    if seen[sid.as_usize()] {
-        return false;
-    }
-    seen[sid.as_usize()] = true;
-    true
-}
-
 /// Whether the state is a byte state, a `Fail` or a `Match`.
 fn rests(state: &State) -> bool
     ensures { result ≡ rests (node_of state.now) }
 {
     match state {
-        State::ByteRange { .. } | State::Sparse(_) | State::Dense(_) => true,
-        State::Fail | State::Match { .. } => true,
-        _ => false,
+        State::Look { .. } | State::Capture { .. } => false,
+        State::Union { .. } | State::BinaryUnion { .. } => false,
+        _ => true,
     }
 }
 
@@ -146,18 +122,6 @@ pub fn step(
         }
     }
     Ok(next)
-}
-
-/// Where the state leads on the byte.
-fn target(state: &State, byte: Option<u8>) -> Option<StateID>
-    ensures { result ≡ option_and_then (target_on (node_of state.now)) byte }
-{
-    match state {
-        State::ByteRange { trans } => range_target(trans, byte),
-        State::Sparse(transitions) => sparse_target(transitions, byte),
-        State::Dense(targets) => dense_target(targets, byte),
-        _ => None,
-    }
 }
 
 /// Returns the pattern that matches at a position with this closure: of the first `Match`, or for `All` of the last.

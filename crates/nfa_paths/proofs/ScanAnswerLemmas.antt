@@ -1,12 +1,12 @@
 -- An NFA's pairs as what a scan goes over, and what a scan finds as the answer that its contract means.
 use Rattle.std.proofs.Common.{◌≡◌, ℕ, zero, suc, ◌+◌, ◌≤◌, ◌<◌, ◌⊎◌, inl, inr, Bool, true, false, List, [], ◌∷◌, map, length, replicate, refl, sym, ap, subst, arith, rules, Option, None, Some, option_and_then, option_map, option_to_list}
 use Rattle.std.specs.Option.{option_map_or}
-use Rattle.nfa_paths.specs.Common.{Search, MatchKind, Automaton, Node, Pair, In, NoPath, Task, Slots, Hit, ExploresTo, seeds, Scanning, IsFoundBy, found_along, NoneBefore, LastBefore, EndsBefore, first_match, last_match, Scanned, IsFrontier, rests, is_resting, space, target_on, pairs_from, is_match, IsMatch, capture, byte_at, edges_of, edges, start_count, starts, IsScanAnswer, last_of, slot_row}
+use Rattle.std.proofs.lemmas.Bool.{cases_Bool}
+use Rattle.nfa_paths.specs.Common.{Search, MatchKind, Automaton, Node, Pair, In, NoPath, Task, Slots, Hit, ExploresTo, seeds, Scanning, IsFoundBy, found_along, NoneBefore, LastBefore, EndsBefore, first_match, last_match, Scanned, IsFrontier, rests, is_resting, holding_at, epsilon_states, space, target_on, pairs_from, is_match, IsMatch, capture, byte_at, edges_of, edges, start_count, starts, IsScanAnswer, last_of, slot_row}
 use Rattle.regex_search_core.specs.declared.search.MatchKind.TheVariants.{All, LeftmostFirst}
-use Rattle.thompson_nfa.specs.Automaton.Node.{Look, Union, BinaryUnion, Capture}
 use Rattle.nfa_paths.specs.Exploring.Task.{Explore}
 use Rattle.nfa_paths.proofs.PathToLemmas.{found-end}
-use Rattle.nfa_paths.proofs.StartLemmas.{pairs_from-ahead, starts-increase, IsMatch-edges, IsMatch-capture, resting-edges}
+use Rattle.nfa_paths.proofs.StartLemmas.{pairs_from-ahead, starts-increase, IsMatch-edges, IsMatch-capture, resting-edges, epsilon-edges}
 use Rattle.nfa_paths.proofs.AnswerLemmas.{apply-slot_row, never_none}
 use Rattle.nfa_paths.proofs.CutLemmas.{first_match-cut}
 use Rattle.nfa_paths.proofs.ScanLemmas.{EndsBefore-within, IsEarliestPath-found, IsEarliestLastPath-found, LastBefore-end, IsFirstPath-found}
@@ -28,13 +28,11 @@ module _ (nfa : Automaton) (x : Search) where
   -- an edge stays at its position, if the state does not rest, or leads to the next one within the span
   pub edges_of-next : (n : Node) (p : ℕ) (y : Pair) → In y (edges_of x n p)
       → ((rests n ≡ false) × (y.1 ≡ p)) ⊎ ((y.1 ≡ p + 1) × (p < x.end))
-  unfolding edges_of
-  edges_of-next (Look look next) p y i = grind arith
-  edges_of-next (Union alternates) p y i = inl (refl, stays p alternates y i)
-  edges_of-next (BinaryUnion a b) p y i = inl (refl, stays p (a ∷ b ∷ []) y i)
-  edges_of-next (Capture next slot) p y i = inl (refl, stays p (next ∷ []) y i)
-  edges_of-next node p y i =
-      inr (byte_edge p (target_on node) y (subst (In y) (resting-edges x node p refl) i))
+  edges_of-next n p y i =
+      elim (cases_Bool (rests n)) [
+        | inl r ↦ inr (byte_edge p (target_on n) y (rw (resting-edges x n p r) at i))
+        | inr f ↦ inl (f, stays p (epsilon_states (holding_at x.haystack p) n) y (rw (epsilon-edges x n p f) at i))
+      ]
 
   -- positions never fall along an edge
   pub edges-onward : (v y : Pair) → In y (edges nfa x v) → v.1 ≤ y.1

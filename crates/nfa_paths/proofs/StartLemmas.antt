@@ -1,9 +1,10 @@
 -- The starts of the paths of an NFA, and the edges of its pairs.
-use Rattle.std.proofs.Common.{◌≡◌, ℕ, zero, suc, ◌+◌, ◌-◌, ◌≤◌, ◌<◌, inl, inr, true, List, [], ◌∷◌, refl, ap, arith, Option, None, Some, is_some, option_and_then, option_map, option_to_list, slice_get}
+use Rattle.std.proofs.Common.{◌≡◌, ℕ, zero, suc, ◌+◌, ◌-◌, ◌≤◌, ◌<◌, inl, inr, Bool, true, false, List, [], ◌∷◌, map, length, All, if◌then◌else◌, refl, ap, arith, Option, None, Some, is_some, option_and_then, option_map, option_to_list, slice_get}
 use Rattle.std.proofs.lemmas.Bool.{cases_lt}
+use Rattle.std.proofs.lemmas.List.Elements.{All-nil}
 use Rattle.std.proofs.lemmas.Option.{get_or_from_slice_get}
-use Rattle.nfa_paths.specs.Common.{Search, Automaton, Node, Pair, In, Increasing, rests, is_resting, pattern_of, slot_of, target_on, byte_at, pairs_from, raised, node_at, is_match, capture, edges_of, edges, starts}
-use Rattle.thompson_nfa.specs.Automaton.Node.{ByteRange, Sparse, Dense, Capture, Fail, Match}
+use Rattle.nfa_paths.specs.Common.{Search, Automaton, Node, Pair, In, Increasing, rests, is_resting, Holding, holding_at, epsilon_states, degree, pattern_of, slot_of, target_on, byte_at, pairs_from, raised, node_at, is_match, capture, edges_of, edges, starts}
+use Rattle.thompson_nfa.specs.Automaton.Node.{Look, Capture, Fail, Match}
 
 -- the pairs from a position on are at it or after it
 pub pairs_from-ahead : (state at count : ℕ) (d : Pair) → In d (pairs_from state at count) → at ≤ d.1
@@ -84,12 +85,27 @@ byte_pairs node p byte = option_to_list (option_and_then (λ b. option_map (λ n
 pub resting-edges : (x : Search) (node : Node) (p : ℕ) → rests node ≡ true
     → edges_of x node p ≡ byte_pairs node p (byte_at x p)
 unfolding edges_of
-resting-edges x (ByteRange t) p r = refl
-resting-edges x (Sparse ts) p r = refl
-resting-edges x (Dense targets) p r = refl
-resting-edges x Fail p r = grind arith
-resting-edges x (Match pattern) p r = grind arith
-resting-edges x _ p r = cc
+resting-edges x _ p r = grind arith
+
+-- and any other to the states that it leads to without a byte
+pub epsilon-edges : (x : Search) (node : Node) (p : ℕ) → rests node ≡ false
+    → edges_of x node p ≡ map (λ s. (s, p)) (epsilon_states (holding_at x.haystack p) node)
+unfolding edges_of
+epsilon-edges x _ p r = grind arith
+
+-- which are among those that it would lead to if every assertion held
+pub epsilon-all : (P : ℕ → Type 0) (holding : Holding) (node : Node) → All P (epsilon_states (λ look. true) node)
+    → All P (epsilon_states holding node)
+epsilon-all P holding (Look look next) all = of (holding look)
+  where
+    of : (b : Bool) → All P (if b then next ∷ [] else [])
+    of true = all
+    of false = All-nil P
+epsilon-all P holding _ all = all
+
+-- they are at most as many as the state has edges
+pub epsilon-few : (holding : Holding) (node : Node) → length (epsilon_states holding node) ≤ degree node
+epsilon-few holding _ = grind arith
 
 -- the edges depend on the haystack and on the end of the span only
 pub edges-alike : (nfa : Automaton) (x y : Search) → x.haystack ≡ y.haystack → x.end ≡ y.end

@@ -1,13 +1,12 @@
 -- What a search that goes position by position finds for each kind of scan, and what it keeps at a position.
 use Rattle.std.specs.Prelude.{◌≡◌, ℕ, ◌≤◌, ◌<◌, Bool, true, false, cond, List, [], ◌∷◌, map, length, Option, None, Some}
 use Rattle.std.specs.Option.{option_map_or}
-use Rattle.thompson_nfa.specs.Automaton.{Automaton, Node}
-use Rattle.thompson_nfa.specs.Automaton.Node.{ByteRange, Sparse, Dense, Fail, Match}
+use Rattle.thompson_nfa.specs.Automaton.{Automaton}
 use Rattle.nfa_paths.specs.Graphs.{Pair, In, Space, NoRepeats, WantedAt, PathTo, NoPath, IsLastOfFirsts, IsLastPath}
 use Rattle.nfa_paths.specs.FirstPaths.{Increasing}
 use Rattle.nfa_paths.specs.Exploring.{Slots, Hit, Task, found, ExploresTo, ExploresAfter, Searching}
 use Rattle.nfa_paths.specs.Exploring.Task.{Explore}
-use Rattle.nfa_paths.specs.Paths.{node_at}
+use Rattle.nfa_paths.specs.Paths.{node_at, rests}
 
 -- the pair passes the test
 abbrev pub Passes : (Pair → Bool) → Pair → Type 0
@@ -139,15 +138,6 @@ pub record Scanning (space : Space) (is_match : Pair → Bool) (slots : Slots) (
   pub searching : (target : Pair → Bool) → MatchesFrom is_match e target
       → Searching space target (λ g total. ExploresTo space target total None [] (map Explore space.starts) slots g)
       Seen spent front None work current
-
--- a state that leads to the next position or nowhere, and writes nothing: a byte state, a Fail or a Match
-abbrev pub rests : Node → Bool
-rests (ByteRange trans) = true
-rests (Sparse transitions) = true
-rests (Dense targets) = true
-rests Fail = true
-rests (Match pattern) = true
-rests _ = false
 
 -- the pair's state rests
 abbrev pub is_resting : Automaton → Pair → Bool

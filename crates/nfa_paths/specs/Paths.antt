@@ -13,6 +13,7 @@ use Rattle.regex_search_core.specs.declared.search.Anchored.TheVariants.{No, Yes
 use Rattle.regex_search_core.specs.declared.search.MatchKind.{MatchKind}
 use Rattle.regex_search_core.specs.declared.search.MatchKind.TheVariants.{All, LeftmostFirst}
 use Rattle.thompson_nfa.specs.declared.state.Transition.{Transition}
+use Rattle.thompson_nfa.specs.declared.look.Look as looks
 use Rattle.thompson_nfa.specs.Automaton.{Automaton, Node}
 use Rattle.thompson_nfa.specs.Automaton.Node.{ByteRange, Sparse, Dense, Look, Union, BinaryUnion, Capture, Fail, Match}
 use Rattle.thompson_nfa.specs.Looks.{look_holds}
@@ -59,6 +60,35 @@ degree (BinaryUnion alt1 alt2) = 2
 degree (Capture next slot) = 1
 degree Fail = 0
 degree (Match pattern) = 0
+
+-- the state reads a byte
+abbrev pub reads_byte : Node → Bool
+reads_byte (ByteRange t) = true
+reads_byte (Sparse ts) = true
+reads_byte (Dense targets) = true
+reads_byte _ = false
+
+-- a state that leads to the next position or nowhere, and writes nothing: a byte state, a Fail or a Match
+abbrev pub rests : Node → Bool
+rests Fail = true
+rests (Match pattern) = true
+rests node = reads_byte node
+
+-- which assertions hold at a position
+abbrev pub Holding : Type 0
+Holding = looks.Look → Bool
+
+-- those that hold at a position of the haystack: all that a closure reads of it
+abbrev pub holding_at : List ℕ → ℕ → Holding
+holding_at haystack at look = look_holds look haystack at
+
+-- the states that a state leads to without a byte, in order of preference
+abbrev pub epsilon_states : Holding → Node → List ℕ
+epsilon_states holding (Look look next) = if holding look then next ∷ [] else []
+epsilon_states holding (Union alternates) = alternates
+epsilon_states holding (BinaryUnion alt1 alt2) = alt1 ∷ alt2 ∷ []
+epsilon_states holding (Capture next slot) = next ∷ []
+epsilon_states holding _ = []
 
 module _ (x : Search) where
   -- the byte at p, if p is before the end of the span

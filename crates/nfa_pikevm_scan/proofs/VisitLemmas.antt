@@ -6,9 +6,8 @@ use Rattle.std.proofs.lemmas.Bool.{both_ways}
 use Rattle.std.proofs.lemmas.List.Elements.{All-push, All-weaker}
 use Rattle.std.proofs.lemmas.List.Sums.{sum_by_push, sum-map}
 use Rattle.std.proofs.lemmas.Grind.{reverse_onto}
-use Rattle.nfa_paths.specs.Common.{Search, number_of, PatternID, Automaton, Node, look_holds, Pair, degree, node_at, pattern_of, slot_of, edges, edges_of, byte_at, target_on, is_match, Task, Slots, rests}
-use Rattle.thompson_nfa.specs.Automaton.Node.{Look, Union, BinaryUnion, Capture, Fail, Match}
-use Rattle.thompson_nfa.specs.declared.look.Look as looks
+use Rattle.nfa_paths.specs.Common.{Search, number_of, PatternID, Automaton, Node, Pair, degree, node_at, pattern_of, slot_of, edges, edges_of, byte_at, target_on, is_match, Task, Slots, rests, Holding, holding_at, epsilon_states}
+use Rattle.thompson_nfa.specs.Automaton.Node.{Capture, Fail, Match}
 use Rattle.nfa_paths.specs.Exploring.Task.{Explore, Load}
 use Rattle.nfa_paths.specs.Turns.{marked_sum}
 use Rattle.nfa_paths.proofs.MemberLemmas.{All-In}
@@ -26,8 +25,8 @@ use Rattle.nfa_pikevm_scan.specs.declared.frame.FollowEpsilon.TheVariants.{Explo
 use Rattle.nfa_pikevm_scan.proofs.EpsilonClosureLemmas.{Follows-then, Follows-marked, Follows-plain, Follows-write, Follows-unkept, Follows-keep, Follows-unrestored}
 use Rattle.nfa_pikevm_scan.proofs.ApplyFrameLemmas.{work_onto-push}
 use Rattle.nfa_pikevm_scan.proofs.FrontierLemmas.{sum-ones, edges-move, moves-one}
-use Rattle.nfa_scan_core.proofs.AlternateLemmas.{first-drop, none-nil}
-use Rattle.nfa_paths.proofs.StartLemmas.{node_at-get}
+use Rattle.nfa_scan_core.proofs.AlternateLemmas.{first-drop}
+use Rattle.nfa_paths.proofs.StartLemmas.{node_at-get, epsilon-edges, epsilon-few}
 
 module _ {nfa : Automaton} {s : ℕ} {node : Node} {m n : Marks} (e : Entered nfa s node m n) where
   -- the state's weight is added
@@ -205,55 +204,32 @@ onto-tries : (es : List ℕ) → length (drop 1 es) + tries_of (state_on (onto (
 onto-tries [] = refl
 onto-tries (e ∷ es) = omega arith
 
--- The result of a turn that marks its state and goes on to its edges, with all but the first pushed.
-module _ {nfa : Automaton} {x : Search} {at s : ℕ} {a : Moment} {n : Marks} where
-  VisitsState-edges : {node : Node} → Entered nfa s node a.met n → pattern_of node ≡ None → slot_of node ≡ None
-      → (es : List ℕ) → edges_of x node at ≡ map (λ q. (q, at)) es → length es ≤ degree node
-      → length es ≤ room_of node + 1 → (turn : Move) → turn ≡ onto (slice_get es 0)
-      → (above : List FollowEpsilon) → above ≡ a.stack ++ put (drop 1 es)
-      → VisitsState nfa x at s a turn (record a { met = n; stack = above })
-  VisitsState-edges {node} e plain writes es leads few room turn goes above puts =
-      rw (goes, puts) (VisitsState-bare (onto-plain nfa x (s, at) a.slots (slice_get es 0)) refl
-      (λ before f. Formed-marked e at before f)
-      (λ before below work. rw (onto-work at a.stack es (Load below ∷ work))
-      (Follows-plain nfa x at a.met before (work_onto at a.stack (Load below ∷ work)) a.slots e plain
-      (map (λ q. (q, at)) es) leads writes))
-      (Paid-entered e a (record a { stack = a.stack ++ put (drop 1 es) })
-      (tries_of (state_on (onto (slice_get es 0)))) (omega (arith, tries-put a.stack (drop 1 es), onto-tries es))
-      (omega (arith, length-put a.stack (drop 1 es), length-drop 1 es)) (omega arith)))
+-- A state that leads on without a byte is no match, and pushes all but the first, unless it writes a slot.
+leads-plain : (node : Node) → rests node ≡ false → pattern_of node ≡ None
+leads-plain _ r = grind arith
 
-  pub VisitsState-look : {look : looks.Look} {next : ℕ} → Entered nfa s (Look look next) a.met n
-      → look_holds look x.haystack at ≡ true → VisitsState nfa x at s a (On next) (record a { met = n })
-  unfolding edges_of
-  VisitsState-look {next = next} e holds = VisitsState-edges e refl refl (next ∷ []) (rw holds refl) (omega arith)
-      (omega arith) (On next) refl a.stack (sym (append-nil a.stack))
+epsilon-room : (holding : Holding) (node : Node) → slot_of node ≡ None
+    → length (epsilon_states holding node) ≤ room_of node + 1
+epsilon-room holding _ writes = grind arith
 
-  pub VisitsState-no_look : {look : looks.Look} {next : ℕ} → Entered nfa s (Look look next) a.met n
-      → look_holds look x.haystack at ≡ false → VisitsState nfa x at s a DeadEnd (record a { met = n })
-  unfolding edges_of
-  VisitsState-no_look e fails = VisitsState-edges e refl refl [] (rw fails refl) (omega arith) (omega arith) DeadEnd
-      refl a.stack (sym (append-nil a.stack))
-
-  pub VisitsState-no_union : {alternates : List ℕ} → Entered nfa s (Union alternates) a.met n
-      → slice_get alternates 0 ≡ None → VisitsState nfa x at s a DeadEnd (record a { met = n })
-  unfolding edges_of
-  VisitsState-no_union {alternates} e none =
-      VisitsState-edges e refl refl [] (ap (map (λ q. (q, at))) (none-nil alternates none)) (omega arith) (omega arith)
-      DeadEnd refl a.stack (sym (append-nil a.stack))
-
-  pub VisitsState-union : {alternates : List ℕ} → Entered nfa s (Union alternates) a.met n → {f : ℕ}
-      → slice_get alternates 0 ≡ Some f → {above : List FollowEpsilon} → above ≡ a.stack ++ put (drop 1 alternates)
-      → VisitsState nfa x at s a (On f) (record a { met = n; stack = above })
-  unfolding edges_of
-  VisitsState-union {alternates} e {f} first {above} is = VisitsState-edges e refl refl alternates refl (omega arith)
-      (omega arith) (On f) (ap onto (sym first)) above is
-
-  pub VisitsState-both : {alt1 alt2 : ℕ} → Entered nfa s (BinaryUnion alt1 alt2) a.met n → {above : List FollowEpsilon}
-      → above ≡ a.stack ++ ToExplore alt2 ∷ []
-      → VisitsState nfa x at s a (On alt1) (record a { met = n; stack = above })
-  unfolding edges_of
-  VisitsState-both {alt1} {alt2} e {above} is =
-      VisitsState-edges e refl refl (alt1 ∷ alt2 ∷ []) refl (omega arith) (omega arith) (On alt1) refl above is
+-- The result of a turn that marks such a state and goes on to the first that it leads to, with the others pushed.
+pub VisitsState-leads : {nfa : Automaton} {x : Search} {at s : ℕ} {a : Moment} {n : Marks} {node : Node}
+    → Entered nfa s node a.met n → rests node ≡ false → slot_of node ≡ None
+    → {es : List ℕ} → epsilon_states (holding_at x.haystack at) node ≡ es → {turn : Move} → turn ≡ onto (slice_get es 0)
+    → {above : List FollowEpsilon} → above ≡ a.stack ++ put (drop 1 es)
+    → VisitsState nfa x at s a turn (record a { met = n; stack = above })
+VisitsState-leads {nfa} {x} {at} {s} {a} {n} {node} e leads writes {es} is goes puts =
+    let few : length es ≤ degree node = rw is at (epsilon-few (holding_at x.haystack at) node) in
+    let room : length es ≤ room_of node + 1 = rw is at (epsilon-room (holding_at x.haystack at) node writes) in
+    let plain = leads-plain node leads in
+    rw (goes, puts) (VisitsState-bare (onto-plain nfa x (s, at) a.slots (slice_get es 0)) refl
+    (λ before f. Formed-marked e at before f)
+    (λ before below work. rw (onto-work at a.stack es (Load below ∷ work))
+    (Follows-plain nfa x at a.met before (work_onto at a.stack (Load below ∷ work)) a.slots e plain
+    (map (λ q. (q, at)) es) (epsilon-edges x node at leads ∙ ap (map (λ q. (q, at))) is) writes))
+    (Paid-entered e a (record a { stack = a.stack ++ put (drop 1 es) })
+    (tries_of (state_on (onto (slice_get es 0)))) (omega (arith, tries-put a.stack (drop 1 es), onto-tries es))
+    (omega (arith, length-put a.stack (drop 1 es), length-drop 1 es)) (omega arith)))
 
 pub IsPut-made : (top after : ℕ) (frames new : List FollowEpsilon) (f : FollowEpsilon) → (top ≡ 0 → after ≡ 0)
     → (0 < top → take after new ≡ take top frames ++ f ∷ [])

@@ -1,4 +1,10 @@
 //! All states side by side, from one position to the next.
+//!
+//! [`nexts`] is the step of a search, and hands [`nexts_with`] a sink that writes slots; `overlap` hands it one that
+//! gathers patterns. `nexts_with` reads the byte, and [`nexts_of_states`] loops over the states. A search for the first
+//! match has two steps without that loop: [`nexts_of_start`], where only the start is followed, and [`nexts_of_lone`],
+//! where one state is left after a match; it goes through [`nexts_of_one_with`] and [`nexts_of_one`], as `nexts` does
+//! through the other two.
 ghost use Rattle.std.specs.Prelude.{◌≡◌, ◌*◌, ◌<◌, ◌≤◌, [], ◌∷◌, false, length, All};
 ghost use Rattle.regex_search_core.specs.Search.{search_of};
 ghost use Rattle.nfa_scan_core.specs.FirstBytes.{IsRefused};

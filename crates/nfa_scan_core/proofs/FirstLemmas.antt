@@ -1,12 +1,13 @@
 -- What is reached before a byte is read.
 use Rattle.std.proofs.Common.{◌≡◌, ℕ, suc, zero, ◌+◌, ◌<◌, ◌≤◌, inl, inr, List, [], ◌∷◌, length, get_or, map, replicate, refl, ap, sym, arith, subst, Some, true, false, Bool, All, option_map, option_and_then, option_to_list, is_some, if◌then◌else◌}
 use Rattle.std.specs.List.{slice_get}
+use Rattle.std.proofs.lemmas.Bool.{cases_Bool}
 use Rattle.std.proofs.lemmas.List.{get_or_default}
 use Rattle.std.proofs.lemmas.Option.{get_or_from_slice_get, slice_get-get_or}
-use Rattle.nfa_paths.specs.Common.{Search, Automaton, Node, look_holds, Pair, In, Path, node_at, pattern_of, edges, edges_of, is_match, byte_at, target_on, first_target, holds_byte}
-use Rattle.thompson_nfa.specs.Automaton.Node.{ByteRange, Sparse, Dense, Look, Union, BinaryUnion, Capture, Fail, Match}
+use Rattle.nfa_paths.specs.Common.{Search, Automaton, Node, Pair, In, Path, node_at, pattern_of, edges, edges_of, rests, holding_at, is_match, byte_at, target_on, first_target, holds_byte}
 use Rattle.thompson_nfa.specs.declared.state.Transition.{Transition}
 use Rattle.nfa_paths.specs.FirstPaths.Path.{stop, go}
+use Rattle.nfa_paths.proofs.StartLemmas.{resting-edges, epsilon-edges, epsilon-all}
 use Rattle.nfa_scan_core.specs.FirstBytes.{Admits, Grows, WasReached, Extends, Covers, IsRefused, MayBegin, IsFirstBytes}
 use Rattle.nfa_scan_core.specs.declared.first_bytes.ReachedStates.{ReachedStates}
 
@@ -36,15 +37,7 @@ WasReached-extends f r = grind arith
 -- what is covered stays covered
 pub Covers-more : (a b : ReachedStates) (t u : List Bool) → Extends a b → Grows t u → (node : Node) → Covers a t node
     → Covers b u node
-Covers-more a b t u f g (ByteRange trans) c = λ k s e. g.still k (c k s e)
-Covers-more a b t u f g (Sparse ts) c = λ k s e. g.still k (c k s e)
-Covers-more a b t u f g (Dense targets) c = λ k s e. g.still k (c k s e)
-Covers-more a b t u f g (Look look next) c = WasReached-extends f c
-Covers-more a b t u f g (Union alternates) c = λ k d h. WasReached-extends f (c k d h)
-Covers-more a b t u f g (BinaryUnion alt1 alt2) c = (WasReached-extends f c.0, WasReached-extends f c.1)
-Covers-more a b t u f g (Capture next slot) c = WasReached-extends f c
-Covers-more a b t u f g Fail c = tt
-Covers-more a b t u f g (Match pattern) c = c
+Covers-more a b t u f g node c = grind (arith, WasReached-extends)
 
 module _ (nfa : Automaton) where
   -- one state more is followed
@@ -81,12 +74,6 @@ lands-among r at w [] all i = absurd i
 lands-among r at w (e ∷ es) all (inl same) = lands r e at w same (all 0 e (omega arith))
 lands-among r at w (e ∷ es) all (inr i) = lands-among r at w es (λ k d h. all (suc k) d (omega arith)) i
 
-lands-if : (r : ReachedStates) (next at : ℕ) (w : Pair) (holds : Bool) → In w (if holds then (next, at) ∷ [] else [])
-    → WasReached r next → (w.1 ≡ at) × WasReached r w.0
-lands-if r next at w true (inl e) reached = lands r next at w e reached
-lands-if r next at w true (inr never) reached = absurd never
-lands-if r next at w false i reached = absurd i
-
 -- a state that reads only admitted bytes leads nowhere on a byte that is refused
 no-target : (table : List Bool) (x : Search) (node : Node) (at : ℕ) → IsRefused table x at
     → ((b t : ℕ) → target_on node b ≡ Some t → Admits table b)
@@ -98,21 +85,17 @@ no-target table x node at f admits w i =
 module _ (r : ReachedStates) (table : List Bool) (x : Search) (at : ℕ) (f : IsRefused table x at) where
   edge-lands : (node : Node) → Covers r table node → (w : Pair) → In w (edges_of x node at)
       → (w.1 ≡ at) × WasReached r w.0
-  unfolding edges_of
-  edge-lands (ByteRange trans) c w i = absurd (no-target table x (ByteRange trans) at f c w i)
-  edge-lands (Sparse ts) c w i = absurd (no-target table x (Sparse ts) at f c w i)
-  edge-lands (Dense targets) c w i = absurd (no-target table x (Dense targets) at f c w i)
-  edge-lands (Look look next) c w i = lands-if r next at w (look_holds look x.haystack at) i c
-  edge-lands (Union alternates) c w i = lands-among r at w alternates c i
-  edge-lands (BinaryUnion alt1 alt2) c w i = grind arith
-  edge-lands (Capture next slot) c w i = elim i [ inl e ↦ lands r next at w e c | inr never ↦ absurd never ]
-  edge-lands Fail c w i = absurd i
-  edge-lands (Match pattern) c w i = absurd i
+  edge-lands node c w i =
+      elim (cases_Bool (rests node)) [
+        | inl r ↦ absurd (no-target table x node at f c.admits w (rw (resting-edges x node at r) at i))
+        | inr leads ↦
+            let all = epsilon-all (WasReached r) (holding_at x.haystack at) node c.leads in
+            lands-among r at w _ all (rw (epsilon-edges x node at leads) at i)
+      ]
 
 no-match : (r : ReachedStates) (table : List Bool) (node : Node) → Covers r table node
     → is_some (pattern_of node) ≡ true → ⊥
-no-match r table (Match pattern) c e = c
-no-match r table _ c e = cc
+no-match r table node c e = let never : false ≡ true = rw c.plain at e in cc
 
 module _ (nfa : Automaton) (table : List Bool) where
   -- if all states that were reached are covered, no path from them on a refused byte ends at a match

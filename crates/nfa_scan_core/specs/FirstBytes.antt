@@ -1,7 +1,6 @@
 -- The bytes that a match may begin with, and the states that are reached before a byte is read.
 use Rattle.std.specs.Prelude.{◌≡◌, ℕ, ◌<◌, ◌≤◌, ◌⊎◌, Bool, true, false, List, [], ◌∷◌, length, None, Some, is_some, All, ⊤, slice_index, slice_index_or}
-use Rattle.nfa_paths.specs.Common.{Search, Automaton, Node, Pair, In, IsFirst, byte_at, target_on, node_at, pattern_of, edges, is_match}
-use Rattle.thompson_nfa.specs.Automaton.Node.{ByteRange, Sparse, Dense, Look, Union, BinaryUnion, Capture, Fail, Match}
+use Rattle.nfa_paths.specs.Common.{Search, Automaton, Node, Pair, In, IsFirst, byte_at, epsilon_states, target_on, node_at, pattern_of, edges, is_match}
 use Rattle.nfa_scan_core.specs.declared.first_bytes.ReachedStates.{ReachedStates}
 
 -- the table admits the byte
@@ -28,26 +27,16 @@ pub record Extends (reached after : ReachedStates) : Type 0 where
 abbrev pub AreBelow : ℕ → ReachedStates → Type 0
 AreBelow n reached = (k : ℕ) → k < reached.len → slice_index reached.states k < n
 
--- the state is not a match, the states that it leads to without a byte were reached, and the bytes that it reads are
--- admitted
-abbrev pub Covers : ReachedStates → List Bool → Node → Type 0
-Covers reached table (ByteRange trans) = (b t : ℕ) → target_on (ByteRange trans) b ≡ Some t → Admits table b
-Covers reached table (Sparse transitions) = (b t : ℕ) → target_on (Sparse transitions) b ≡ Some t → Admits table b
-Covers reached table (Dense targets) = (b t : ℕ) → target_on (Dense targets) b ≡ Some t → Admits table b
-Covers reached table (Look look next) = WasReached reached next
-Covers reached table (Union alternates) = All (WasReached reached) alternates
-Covers reached table (BinaryUnion alt1 alt2) = WasReached reached alt1 × WasReached reached alt2
-Covers reached table (Capture next slot) = WasReached reached next
-Covers reached table Fail = ⊤
-Covers reached table (Match pattern) = ⊥
-
 -- the states that the state leads to without a byte, whether or not its assertion holds
 abbrev pub epsilon_targets : Node → List ℕ
-epsilon_targets (Look look next) = next ∷ []
-epsilon_targets (Union alternates) = alternates
-epsilon_targets (BinaryUnion alt1 alt2) = alt1 ∷ (alt2 ∷ [])
-epsilon_targets (Capture next slot) = next ∷ []
-epsilon_targets _ = []
+epsilon_targets node = epsilon_states (λ look. true) node
+
+-- the state is not a match, the states that it leads to without a byte were reached, and the bytes that it reads are
+-- admitted
+pub record Covers (reached : ReachedStates) (table : List Bool) (node : Node) : Type 0 where
+  pub plain : pattern_of node ≡ None
+  pub leads : All (WasReached reached) (epsilon_targets node)
+  pub admits : (b t : ℕ) → target_on node b ≡ Some t → Admits table b
 
 -- the state has a target on the byte
 abbrev pub Reads : Node → ℕ → Type 0

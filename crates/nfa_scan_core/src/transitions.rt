@@ -1,11 +1,12 @@
 //! The target of a state on a byte.
 ghost use Rattle.std.specs.Prelude.{◌≡◌, [], ◌∷◌, option_and_then};
 ghost use Rattle.regex_search_core.specs.Search.{search_of};
+ghost use Rattle.thompson_nfa.specs.Automaton.{node_of};
 ghost use Rattle.thompson_nfa.specs.Automaton.Node.{ByteRange, Sparse, Dense};
 ghost use Rattle.nfa_paths.specs.Paths.{byte_at, first_target, holds_byte, target_on};
 
 use regex_search_core::{Input, StateID};
-use thompson_nfa::Transition;
+use thompson_nfa::{State, Transition};
 
 /// Returns the byte at the position, if it is before the end of the span.
 #[inline(always)]
@@ -109,4 +110,16 @@ pub fn dense_target(targets: &[Option<StateID>], byte: Option<u8>) -> Option<Sta
     ensures { result ≡ option_and_then (target_on (Dense targets.now)) byte }
 {
     *targets.get(byte? as usize)?
+}
+
+/// Returns the target of the state on the byte; none if it is no byte state.
+pub fn target(state: &State, byte: Option<u8>) -> Option<StateID>
+    ensures { result ≡ option_and_then (target_on (node_of state.now)) byte }
+{
+    match state {
+        State::ByteRange { trans } => range_target(trans, byte),
+        State::Sparse(transitions) => sparse_target(transitions, byte),
+        State::Dense(targets) => dense_target(targets, byte),
+        _ => None,
+    }
 }

@@ -1,5 +1,5 @@
 -- A turn at a byte state goes on where the byte leads, or stops there, or finds its place marked.
-use Rattle.std.proofs.Common.{length}
+use Rattle.std.proofs.Common.{length, refl}
 use Rattle.nfa_paths.specs.Common.{search_of}
 use Rattle.thompson_nfa.specs.Automaton.Node.{ByteRange}
 use Rattle.nfa_backtrack_scan.proofs.StepLemmas.{same_size, TurnsLead-byte, TurnsLead-stop}
@@ -18,7 +18,7 @@ returns-in-Some-clause-leads c =
     (record {
       node = ByteRange c.args.trans.now;
       is = c.requires.state;
-      reads = tt;
+      reads = refl;
       below = c.requires.onto;
       leads = rw (← c.byte_at-byte.ensures) c.in-Some.ensures;
     })
@@ -31,7 +31,7 @@ returns-in-None-clause-leads c =
     (record {
       node = ByteRange c.args.trans.now;
       is = c.requires.state;
-      reads = tt;
+      reads = refl;
       below = c.requires.onto;
       leads = rw (← c.byte_at-byte.ensures) c.in-None.ensures;
     })

@@ -16,7 +16,7 @@ cross-next-requires-clause-step c =
     record {
       node = ByteRange c.in-ByteRange.trans;
       is = rw c.in-ByteRange.is at c.state_at.ensures.node;
-      reads = tt;
+      reads = refl;
       below = rw c.in-ByteRange.is at c.state_at.ensures.leads;
       leads = rw (← c.byte_at.ensures) c.range_target-target.ensures;
     }
@@ -36,7 +36,7 @@ cross-next-requires-in-Sparse-clause-step c =
     record {
       node = Sparse c.in-Sparse.transitions.items;
       is = rw c.in-Sparse.is at c.state_at.ensures.node;
-      reads = tt;
+      reads = refl;
       below = rw c.in-Sparse.is at c.state_at.ensures.leads;
       leads = rw (← c.byte_at-in-Sparse.ensures) (rw list at c.sparse_target-target.ensures);
     }
@@ -56,7 +56,7 @@ cross-next-requires-in-Dense-clause-step c =
     record {
       node = Dense c.in-Dense.targets.items;
       is = rw c.in-Dense.is at c.state_at.ensures.node;
-      reads = tt;
+      reads = refl;
       below = rw c.in-Dense.is at c.state_at.ensures.leads;
       leads = rw (← c.byte_at-in-Dense.ensures) (rw list at c.dense_target-target.ensures);
     }

@@ -1,7 +1,8 @@
 -- A turn enters a state: it marks it, and keeps the state that its byte leads to, or gives the state to go on with.
-use Rattle.std.proofs.Common.{◌∙◌, take, slice_set, arith, sym, ap, refl, inl, inr}
+use Rattle.std.proofs.Common.{[], ◌∷◌, ◌∙◌, append-nil, take, slice_set, arith, sym, ap, refl, inl, inr}
 use Rattle.std.proofs.lemmas.List.{length-drop}
-use Rattle.nfa_pikevm_scan.proofs.VisitLemmas.{frames-entered, states-entered, within-union, within-saved, IsPut-made, offset-some, top-put, VisitsState-marked, VisitsState-byte, VisitsState-look, VisitsState-no_look, VisitsState-no_union, VisitsState-union, VisitsState-both, VisitsState-capture, VisitsState-fail, VisitsState-match}
+use Rattle.nfa_scan_core.proofs.AlternateLemmas.{none-nil}
+use Rattle.nfa_pikevm_scan.proofs.VisitLemmas.{frames-entered, states-entered, within-union, within-saved, IsPut-made, offset-some, onto, top-put, VisitsState-marked, VisitsState-byte, VisitsState-leads, VisitsState-capture, VisitsState-fail, VisitsState-match}
 use Rattle.nfa_pikevm_scan.specs.States.{IsSaved}
 use Rattle.nfa_pikevm_scan.proofs.closure.visit_state.Goals as goal
 use Rattle.nfa_pikevm_scan.proofs.closure.visit_state.Goals.{then-slot-row, else-slot-row}
@@ -35,13 +36,15 @@ returns-in-Dense-clause-enters c =
 
 pub returns-then-look_matches-clause-enters : goal.returns-then-look_matches-clause-enters
 returns-then-look_matches-clause-enters c =
-    VisitsState-look (rw c.in-Look.is at c.in-Some.ensures.entered)
-    (sym (rw c.haystack.ensures at c.look_matches.ensures) ∙ c.if-look_matches.true)
+    VisitsState-leads (rw c.in-Look.is at c.in-Some.ensures.entered) refl refl {es = c.in-Look.next ∷ []}
+    (rw (sym (rw c.haystack.ensures at c.look_matches.ensures) ∙ c.if-look_matches.true) refl) refl
+    (sym (append-nil (take c.args.top.now c.args.frames.now)))
 
 pub returns-else-look_matches-clause-enters : goal.returns-else-look_matches-clause-enters
 returns-else-look_matches-clause-enters c =
-    VisitsState-no_look (rw c.in-Look.is at c.in-Some.ensures.entered)
-    (sym (rw c.haystack.ensures at c.look_matches.ensures) ∙ c.if-look_matches.false)
+    VisitsState-leads (rw c.in-Look.is at c.in-Some.ensures.entered) refl refl {es = []}
+    (rw (sym (rw c.haystack.ensures at c.look_matches.ensures) ∙ c.if-look_matches.false) refl) refl
+    (sym (append-nil (take c.args.top.now c.args.frames.now)))
 
 pub returns-in-Fail-clause-enters : goal.returns-in-Fail-clause-enters
 returns-in-Fail-clause-enters c = VisitsState-fail (rw c.in-Fail.is at c.in-Some.ensures.entered)
@@ -57,8 +60,9 @@ push_alternates-requires c =
 
 pub returns-in_default-first-clause-enters : goal.returns-in_default-first-clause-enters
 returns-in_default-first-clause-enters c =
-    VisitsState-no_union (rw c.in-Union.is at c.in-Some.ensures.entered)
-    (sym (rw c.deref-in-Union.ensures.value at c.in_default-first.ensures.value))
+    VisitsState-leads (rw c.in-Union.is at c.in-Some.ensures.entered) refl refl
+    (none-nil c.in-Union.alternates.items (sym (rw c.deref-in-Union.ensures.value at c.in_default-first.ensures.value)))
+    refl (sym (append-nil (take c.args.top.now c.args.frames.now)))
 
 pub returns-in-Some-first-clause-top : goal.returns-in-Some-first-clause-top
 returns-in-Some-first-clause-top c =
@@ -75,8 +79,8 @@ returns-in-Some-first-clause-within c =
 
 pub returns-in-Some-first-clause-enters : goal.returns-in-Some-first-clause-enters
 returns-in-Some-first-clause-enters c =
-    VisitsState-union (rw c.in-Union.is at c.in-Some.ensures.entered)
-    (sym (rw c.deref-in-Union.ensures.value at c.in-Some-first.ensures.value))
+    VisitsState-leads (rw c.in-Union.is at c.in-Some.ensures.entered) refl refl refl
+    (ap onto (rw c.deref-in-Union.ensures.value at c.in-Some-first.ensures.value))
     (rw c.deref-in-Union-2.ensures.value at c.push_alternates.ensures.stack)
 
 pub push-requires : goal.push-requires
@@ -91,7 +95,7 @@ returns-in-BinaryUnion-clause-top c =
 
 pub returns-in-BinaryUnion-clause-enters : goal.returns-in-BinaryUnion-clause-enters
 returns-in-BinaryUnion-clause-enters c =
-    VisitsState-both (rw c.in-BinaryUnion.is at c.in-Some.ensures.entered) c.push.ensures.stack
+    VisitsState-leads (rw c.in-BinaryUnion.is at c.in-Some.ensures.entered) refl refl refl refl c.push.ensures.stack
 
 pub push_restore-requires-clause-room : goal.push_restore-requires-clause-room
 push_restore-requires-clause-room c =
