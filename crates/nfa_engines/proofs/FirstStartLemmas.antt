@@ -1,9 +1,12 @@
 -- The paths of an unanchored search are those of the anchored searches at each start.
-use Rattle.std.proofs.Common.{◌≡◌, ℕ, zero, suc, ◌+◌, ◌-◌, ◌≤◌, ◌<◌, ◌⊎◌, inl, inr, List, [], ◌∷◌, refl, sym, ap, ◌∙◌, subst, arith, le-ltb}
-use Rattle.std.proofs.lemmas.Bool.{cases_lt}
-use Rattle.nfa_paths.specs.Common.{Search, Anchored, Automaton, Pair, In, EndsWith, HeadIs, Linked, ComesBefore, PathTo, edges, pairs_from, starts}
-use Rattle.nfa_paths.proofs.ScanAnswerLemmas.{edges-onward, edges-within}
-use Rattle.nfa_paths.proofs.StartLemmas.{starts-none, edges-alike, pairs_from-has}
+use Rattle.std.proofs.Common.{Bool, true, false, ◌==◌, ◌||◌, Option, None, Some, ◌≡◌, ℕ, zero, suc, ◌+◌, ◌-◌, ◌≤◌, ◌<◌, ◌⊎◌, inl, inr, List, [], ◌∷◌, refl, sym, ap, ◌∙◌, subst, arith, le-ltb}
+use Rattle.std.specs.Option.{option_map_or}
+use Rattle.std.proofs.lemmas.Bool.{cases_Bool}
+use Rattle.nfa_paths.specs.Common.{is_anchored, start_count, start_state, Search, Anchored, Automaton, Pair, In, EndsWith, HeadIs, Linked, ComesBefore, PathTo, edges, pairs_from, starts}
+use Rattle.regex_search_core.specs.declared.search.Anchored.TheVariants.{No}
+use Rattle.nfa_paths.proofs.OptionLemmas.{same_some}
+use Rattle.nfa_paths.proofs.ScanAnswerLemmas.{edges-onward, edges-within, starts-within}
+use Rattle.nfa_paths.proofs.StartLemmas.{edges-alike, pairs_from-has}
 use Rattle.nfa_engines.specs.StartLaws.{anchored_at, from_start, IsUnbound}
 
 -- the search from another start, anchored or not
@@ -90,10 +93,61 @@ module _ (nfa : Automaton) (x : Search) where
       let rest : (b.1 ≤ m.1) × (b.1 ≤ x.end → m.1 ≤ x.end) = path-order b m (b ∷ p) refl linked.1 ends in
       (omega (arith, rest.0), λ within. rest.1 (edges-within nfa x a b linked.0 (omega arith)))
 
-  -- the one start of an anchored search
-  starts-anchored : (s : ℕ) → s ≤ x.end → starts nfa (anchored_at x s) ≡ (nfa.anchored, s) ∷ []
-  starts-anchored s within = rw (le-ltb x.end s within) refl
+-- the starts of a search
 
+-- the search or the NFA is anchored
+abbrev pub is_tied : Automaton → Anchored → Bool
+is_tied nfa anchored = is_anchored anchored || nfa.anchored == nfa.unanchored
+
+module _ (nfa : Automaton) (x : Search) where
+  -- A start has the state of the anchoring and lies in the span. It is at the start of the span if it is the only one.
+  pub record StartOf (v : Pair) : Type 0 where
+    pub state_is : start_state nfa x.anchored ≡ Some v.0
+    pub from : x.start ≤ v.1
+    pub within : v.1 ≤ x.end
+    pub tied : is_tied nfa x.anchored ≡ true → v.1 ≡ x.start
+
+  count-tied : x.start ≤ x.end → is_tied nfa x.anchored ≡ true → start_count nfa x ≡ 1
+  count-tied within t = rw (le-ltb x.end x.start within, t) refl
+
+  count-free : x.start ≤ x.end → is_tied nfa x.anchored ≡ false → start_count nfa x ≡ x.end - x.start + 1
+  count-free within f = rw (le-ltb x.end x.start within, f) refl
+
+  pub start-of : (v : Pair) → In v (starts nfa x) → StartOf v
+  start-of v i = of (start_state nfa x.anchored) refl i
+    where
+      one : (n : ℕ) → x.start ≤ v.1 → v.1 < x.start + n → n ≡ 1 → v.1 ≡ x.start
+      one n from before is = omega arith
+
+      of : (o : Option ℕ) → start_state nfa x.anchored ≡ o
+          → In v (option_map_or (λ state. pairs_from state x.start (start_count nfa x)) o []) → StartOf v
+      of None is j = absurd j
+      of (Some state) is j =
+          let r = pairs_from-in state x.start (start_count nfa x) v j in
+          let within : v.1 ≤ x.end = starts-within nfa x v i in
+          record {
+            state_is = is ∙ ap Some (sym r.state_is);
+            from = r.from;
+            within = within;
+            tied = λ t. one (start_count nfa x) r.from r.before (count-tied (omega (arith, within, r.from)) t);
+          }
+
+  pub of-start : (v : Pair) → StartOf v → In v (starts nfa x)
+  of-start v h =
+      subst (λ o. In v (option_map_or (λ state. pairs_from state x.start (start_count nfa x)) o [])) (sym h.state_is)
+      (pairs_from-has v.0 x.start (start_count nfa x) v.1 h.from
+      (elim (cases_Bool (is_tied nfa x.anchored)) [
+        | inl t ↦ least (start_count nfa x) (h.tied t) (count-tied (omega (arith, h.from, h.within)) t)
+        | inr f ↦ most (start_count nfa x) h.within (count-free (omega (arith, h.from, h.within)) f)
+      ]))
+    where
+      least : (n : ℕ) → v.1 ≡ x.start → n ≡ 1 → v.1 < x.start + n
+      least n at is = omega arith
+
+      most : (n : ℕ) → v.1 ≤ x.end → n ≡ x.end - x.start + 1 → v.1 < x.start + n
+      most n within is = omega arith
+
+module _ (nfa : Automaton) (x : Search) where
   -- a path of an anchored search starts there, within the span
   pub record StartsAt (s : ℕ) (v : Pair) : Type 0 where
     pub is : v ≡ (nfa.anchored, s)
@@ -101,24 +155,22 @@ module _ (nfa : Automaton) (x : Search) where
 
   pub start-anchored : (s : ℕ) (v : Pair) → In v (starts nfa (anchored_at x s)) → StartsAt s v
   start-anchored s v i =
-      elim (cases_lt x.end s) [
-        | inl past ↦ absurd (rw (starts-none nfa (anchored_at x s) past) at i)
-        | inr within ↦
-            let one : In v ((nfa.anchored, s) ∷ []) = rw (starts-anchored s within) at i in
-            elim one [ inl e ↦ record { is = e; within = within } | inr never ↦ absurd never ]
-      ]
+      let r = start-of nfa (anchored_at x s) v i in
+      let state : v.0 ≡ nfa.anchored = sym (same_some nfa.anchored v.0 r.state_is) in
+      let position : v.1 ≡ s = r.tied refl in
+      record { is = λ j. (state j, position j); within = omega (arith, r.from, r.within) }
 
   pub anchored-start : (s : ℕ) (v : Pair) → v ≡ (nfa.anchored, s) → s ≤ x.end → In v (starts nfa (anchored_at x s))
-  anchored-start s v e within = rw (starts-anchored s within) (inl e)
+  anchored-start s v e within =
+      let position : v.1 ≡ s = ap (λ (z : Pair). z.1) e in
+      of-start nfa (anchored_at x s) v (record {
+        state_is = ap (λ (z : Pair). Some z.0) (sym e);
+        from = omega arith;
+        within = omega arith;
+        tied = λ t. position;
+      })
 
   module _ (free : IsUnbound nfa x) where
-    -- the starts of an unanchored search
-    starts-unbound : (s : ℕ) → s ≤ x.end → starts nfa (from_start x s) ≡ pairs_from nfa.anchored s (x.end - s + 1)
-    starts-unbound s within =
-        let no = free.unanchored in
-        let prefixed = free.prefixed in
-        rw (no, prefixed, le-ltb x.end s within) refl
-
     pub record StartsFrom (s : ℕ) (v : Pair) : Type 0 where
       pub state_is : v.0 ≡ nfa.anchored
       pub from : s ≤ v.1
@@ -126,19 +178,22 @@ module _ (nfa : Automaton) (x : Search) where
 
     pub start-unbound : (s : ℕ) (v : Pair) → In v (starts nfa (from_start x s)) → StartsFrom s v
     start-unbound s v i =
-        elim (cases_lt x.end s) [
-          | inl past ↦ absurd (rw (starts-none nfa (from_start x s) past) at i)
-          | inr within ↦
-              let r = pairs_from-in nfa.anchored s (x.end - s + 1) v (rw (starts-unbound s within) at i) in
-              let high : v.1 < s + (x.end - s + 1) = r.before in
-              record { state_is = r.state_is; from = r.from; within = omega arith }
-        ]
+        let r = start-of nfa (from_start x s) v i in
+        record {
+          state_is = sym (same_some nfa.anchored v.0
+              (subst (λ (a : Anchored). start_state nfa a ≡ Some v.0) free.unanchored r.state_is));
+          from = r.from;
+          within = r.within;
+        }
 
     pub unbound-start : (s : ℕ) (v : Pair) → StartsFrom s v → In v (starts nfa (from_start x s))
     unbound-start s v h =
-        let low : s ≤ v.1 = h.from in
-        let high : v.1 ≤ x.end = h.within in
-        let within : s ≤ x.end = omega arith in
-        rw (starts-unbound s within)
-        (subst (λ z. In (z, v.1) (pairs_from nfa.anchored s (x.end - s + 1))) (sym h.state_is)
-        (pairs_from-has nfa.anchored s (x.end - s + 1) v.1 low (omega arith)))
+        of-start nfa (from_start x s) v (record {
+          state_is = ap (start_state nfa) free.unanchored ∙ ap Some (sym h.state_is);
+          from = h.from;
+          within = h.within;
+          tied = λ t.
+              let bound : is_tied nfa No ≡ true = subst (λ (a : Anchored). is_tied nfa a ≡ true) free.unanchored t in
+              let never : false ≡ true = sym free.prefixed ∙ bound in
+              cc;
+        })

@@ -1,18 +1,17 @@
 -- A leftmost first answer starts at the least start of its end, and is that of the search cut to its span.
-use Rattle.std.proofs.Common.{◌≡◌, ◌∙◌, ℕ, ◌+◌, ◌-◌, ◌==◌, ◌||◌, ◌≤◌, ◌<◌, ◌⊎◌, inl, inr, Bool, true, false, List, [], ◌∷◌, refl, sym, ap, subst, arith, le-ltb, lt-ltb, Option, None, Some}
-use Rattle.std.specs.Option.{option_map_or}
-use Rattle.std.proofs.lemmas.Bool.{cases_lt, cases_Bool}
-use Rattle.nfa_paths.specs.Common.{Search, is_anchored, Anchored, Automaton, Node, Pair, In, Earlier, BeforeAfter, ComesBefore, EndsWith, HeadIs, Linked, PathTo, IsFirstTo, WantedAt, rests, byte_at, edges, edges_of, node_at, pairs_from, start_count, start_state, starts, IsAnswer, IsMatch, IsScanAnswer, raised, IsSearchAnswer}
+use Rattle.std.proofs.Common.{◌≡◌, ◌∙◌, ℕ, ◌≤◌, ◌<◌, ◌⊎◌, inl, inr, true, false, List, [], ◌∷◌, refl, sym, ap, subst, arith, le-ltb, lt-ltb, Option, None, Some}
+use Rattle.std.proofs.lemmas.Bool.{cases_lt}
+use Rattle.nfa_paths.specs.Common.{Search, Anchored, Automaton, Node, Pair, In, Earlier, BeforeAfter, ComesBefore, EndsWith, HeadIs, Linked, PathTo, IsFirstTo, WantedAt, rests, byte_at, edges, edges_of, node_at, start_state, starts, IsAnswer, IsMatch, IsScanAnswer, raised, IsSearchAnswer}
 use Rattle.regex_search_core.specs.declared.search.MatchKind.TheVariants.{LeftmostFirst}
 use Rattle.thompson_nfa.specs.Automaton.Node.{Look, Union, BinaryUnion, Capture}
 use Rattle.nfa_paths.proofs.OptionLemmas.{same_some}
 use Rattle.nfa_paths.proofs.PathToLemmas.{EndsWith-last}
 use Rattle.nfa_paths.proofs.OneScanLemmas.{first-scan, has-path, last-scan}
 use Rattle.nfa_paths.proofs.ScanAnswerLemmas.{edges-rise, starts-from, starts-within}
-use Rattle.nfa_paths.proofs.StartLemmas.{byte_pairs, pairs_from-has, resting-edges}
+use Rattle.nfa_paths.proofs.StartLemmas.{byte_pairs, resting-edges}
 use Rattle.nfa_engines.specs.FoundSpanLaws.{cut_to, IsAnswerSpan, IsLeastStart, MayCut}
 use Rattle.nfa_engines.specs.FoundSpanLaws.MayCut.{same, tied}
-use Rattle.nfa_engines.proofs.FirstStartLemmas.{heads-one, heads-order, pairs_from-in, path-order}
+use Rattle.nfa_engines.proofs.FirstStartLemmas.{heads-one, heads-order, is_tied, of-start, path-order, start-of, StartOf}
 
 -- a list has one last pair
 ends-one : (m n : Pair) (p : List Pair) → EndsWith m p → EndsWith n p → m ≡ n
@@ -86,9 +85,10 @@ module _ (edges fewer : Pair → List Pair) (agree : (v : Pair) → (fewer v ≡
 
   -- a first path that is left is the first of those that are left
   fewer-first : (begins others : List Pair) (Wanted : Pair → Type 0) (p : List Pair)
-      → ((v : Pair) → In v others → In v begins) → (h : IsFirstTo edges begins Wanted p) → Linked fewer p
-      → In h.path.start others → IsFirstTo fewer others Wanted p
-  fewer-first begins others Wanted p sub h linked among = record {
+      → ((m : Pair) (q : List Pair) → PathTo fewer others m q → PathTo edges begins m q)
+      → (h : IsFirstTo edges begins Wanted p) → Linked fewer p → In h.path.start others
+      → IsFirstTo fewer others Wanted p
+  fewer-first begins others Wanted p back h linked among = record {
     end = h.end;
     path = record {
       start = h.path.start;
@@ -100,73 +100,18 @@ module _ (edges fewer : Pair → List Pair) (agree : (v : Pair) → (fewer v ≡
     };
     wanted = h.wanted;
     first = λ m q w t.
-        elim (h.first m q (record {
-          start = w.start;
-          among = sub w.start w.among;
-          head = w.head;
-          once = w.once;
-          linked = fewer-linked q w.linked;
-          ends = w.ends;
-        }) t) [ inl e ↦ inl e | inr c ↦ inr (fewer-before p q linked c) ];
+        elim (h.first m q (back m q w) t) [ inl e ↦ inl e | inr c ↦ inr (fewer-before p q linked c) ];
   }
 
 -- the starts
-
--- a start has the state of the anchoring, and one of the positions
-record IsStart (o : Option ℕ) (at count : ℕ) (v : Pair) : Type 0 where
-  state_is : o ≡ Some v.0
-  from : at ≤ v.1
-  before : v.1 < at + count
-
-start-is : (o : Option ℕ) (at count : ℕ) (v : Pair) → In v (option_map_or (λ state. pairs_from state at count) o [])
-    → IsStart o at count v
-start-is None at count v i = absurd i
-start-is (Some state) at count v i =
-    let r = pairs_from-in state at count v i in
-    record { state_is = ap Some (sym r.state_is); from = r.from; before = r.before }
-
-is-start : (o : Option ℕ) (at count : ℕ) (v : Pair) → IsStart o at count v
-    → In v (option_map_or (λ state. pairs_from state at count) o [])
-is-start o at count v h =
-    subst (λ z. In v (option_map_or (λ state. pairs_from state at count) z [])) (sym h.state_is)
-    (pairs_from-has v.0 at count v.1 h.from h.before)
-
--- the search or the NFA is anchored
-is_tied : Automaton → Anchored → Bool
-is_tied nfa anchored = is_anchored anchored || nfa.anchored == nfa.unanchored
-
-counts : (nfa : Automaton) (x : Search) → x.start ≤ x.end
-    → ((is_tied nfa x.anchored ≡ true) × (start_count nfa x ≡ 1))
-    ⊎ ((is_tied nfa x.anchored ≡ false) × (start_count nfa x ≡ x.end - x.start + 1))
-unfolding is_tied
-counts nfa x within =
-    elim (cases_Bool (is_anchored x.anchored || nfa.anchored == nfa.unanchored)) [
-      | inl on ↦ inl (on, rw (le-ltb x.end x.start within, on) refl)
-      | inr off ↦ inr (off, rw (le-ltb x.end x.start within, off) refl)
-    ]
 
 cut-state : (nfa : Automaton) (a b : Anchored) → MayCut a b → start_state nfa b ≡ start_state nfa a
 cut-state nfa a b same = refl
 cut-state nfa a b tied = refl
 
 cut-tied : (nfa : Automaton) (a b : Anchored) → MayCut a b → is_tied nfa a ≡ true → is_tied nfa b ≡ true
-unfolding is_tied
 cut-tied nfa a b same t = t
 cut-tied nfa a b tied t = refl
-
-never_both : (b : Bool) → b ≡ true → b ≡ false → ⊥
-never_both b t f = cc
-
--- sums
-
-one-after : (b s n : ℕ) → b ≡ s → n ≡ 1 → b < s + n
-one-after b s n at is = omega arith
-
-below-end : (b s e n : ℕ) → b ≤ e → n ≡ e - s + 1 → b < s + n
-below-end b s e n high is = omega arith
-
-one-below : (w b s r n k : ℕ) → w < s + n → n ≡ 1 → b < r + k → k ≡ 1 → s ≤ b → w < r + k
-one-below w b s r n k less is under one past = omega arith
 
 -- the cut
 
@@ -253,65 +198,46 @@ module _ (nfa : Automaton) (x : Search) (anchored : Anchored) (may : MayCut x.an
         let last : h.end.1 ≡ e = at.last in
         omega (arith, order.1 (starts-within nfa x h.path.start h.path.among))
 
-    ordered : s ≤ e
-    ordered = omega (arith, high, at.past)
-
-    start-here : IsStart (start_state nfa x.anchored) x.start (start_count nfa x) h.path.start
-    start-here = start-is (start_state nfa x.anchored) x.start (start_count nfa x) h.path.start h.path.among
+    start-here : StartOf nfa x h.path.start
+    start-here = start-of nfa x h.path.start h.path.among
 
     -- the start of the path is left
     cut-has : In h.path.start (starts nfa part)
-    cut-has =
-        is-start (start_state nfa anchored) s (start_count nfa part) h.path.start (record {
-          state_is = cut-state nfa x.anchored anchored may ∙ start-here.state_is;
-          from = at.past;
-          before = elim (counts nfa part ordered) [
-            | inl one ↦ one-after h.path.start.1 s (start_count nfa part) (at.near one.0) one.1
-            | inr many ↦ below-end h.path.start.1 s e (start_count nfa part) high many.1
-          ];
-        })
+    cut-has = of-start nfa part h.path.start (record {
+      state_is = cut-state nfa x.anchored anchored may ∙ start-here.state_is;
+      from = at.past;
+      within = high;
+      tied = at.near;
+    })
 
-    -- and there is no new one
-    cut-sub : (w : Pair) → In w (starts nfa part) → In w (starts nfa x)
-    cut-sub w i =
-        let r = start-is (start_state nfa anchored) s (start_count nfa part) w i in
-        let from_s : s ≤ w.1 = r.from in
-        let to_e : w.1 ≤ e = starts-within nfa part w i in
-        let low : x.start ≤ s = at.low in
-        let high : e ≤ x.end = within in
-        is-start (start_state nfa x.anchored) x.start (start_count nfa x) w (record {
-          state_is = sym (cut-state nfa x.anchored anchored may) ∙ r.state_is;
-          from = omega arith;
-          before = elim (counts nfa x (omega arith)) [
-            | inl one ↦ elim (counts nfa part ordered) [
-              | inl single ↦
-                  one-below w.1 h.path.start.1 s x.start (start_count nfa part) (start_count nfa x) r.before single.1
-                  start-here.before one.1 at.past
-              | inr many ↦
-                  absurd (never_both (is_tied nfa anchored) (cut-tied nfa x.anchored anchored may one.0) many.0)
-            ]
-            | inr many ↦ below-end w.1 x.start x.end (start_count nfa x) (omega arith) many.1
-          ];
-        })
+    -- a path of the cut search is one of the search, from a start that is not new
+    cut-back : (n : Pair) (q : List Pair) → PathTo (edges nfa part) (starts nfa part) n q
+        → PathTo (edges nfa x) (starts nfa x) n q
+    cut-back n q w =
+        let r = start-of nfa part w.start w.among in
+        record {
+          start = w.start;
+          among = of-start nfa x w.start (record {
+            state_is = sym (cut-state nfa x.anchored anchored may) ∙ r.state_is;
+            from = omega (arith, r.from, at.low);
+            within = omega (arith, r.within, within);
+            tied = λ t.
+                let here = start-here.tied t in
+                let there = r.tied (cut-tied nfa x.anchored anchored may t) in
+                omega (arith, here, there, at.past, at.low);
+          });
+          head = w.head;
+          once = w.once;
+          linked = fewer-linked (edges nfa x) (edges nfa part) (cut-agree nfa x s e anchored within) q w.linked;
+          ends = w.ends;
+        }
 
     cut-first : IsFirstTo (edges nfa part) (starts nfa part) Wanted p
     cut-first =
         let last : h.end.1 ≡ e = at.last in
         fewer-first (edges nfa x) (edges nfa part) (cut-agree nfa x s e anchored within) (starts nfa x)
-        (starts nfa part) Wanted p cut-sub h
+        (starts nfa part) Wanted p cut-back h
         (cut-linked nfa x s e anchored within h.end (omega arith) p h.path.linked h.path.ends) cut-has
-
-    -- a path of the cut search is one of the search
-    cut-back : (n : Pair) (q : List Pair) → PathTo (edges nfa part) (starts nfa part) n q
-        → PathTo (edges nfa x) (starts nfa x) n q
-    cut-back n q w = record {
-      start = w.start;
-      among = cut-sub w.start w.among;
-      head = w.head;
-      once = w.once;
-      linked = fewer-linked (edges nfa x) (edges nfa part) (cut-agree nfa x s e anchored within) q w.linked;
-      ends = w.ends;
-    }
 
 pub span-earliest : (nfa : Automaton) (x : Search) (anchored : Anchored) (p : List Pair) (v m : Pair)
     → MayCut x.anchored anchored → IsScanAnswer nfa x LeftmostFirst true (Some p) → HeadIs v p → EndsWith m p
@@ -345,21 +271,13 @@ pub end-cut : (nfa : Automaton) (x : Search) (p : List Pair) (m : Pair)
     → IsScanAnswer nfa x LeftmostFirst false (Some p) → EndsWith m p
     → IsScanAnswer nfa (cut_to x x.start m.1 x.anchored) LeftmostFirst false (Some p)
 end-cut nfa x p m h ends =
-    let from : x.start ≤ h.path.start.1 = starts-from nfa x h.path.start h.path.among in
-    let high : h.path.start.1 ≤ x.end = starts-within nfa x h.path.start h.path.among in
-    let begin = start-is (start_state nfa x.anchored) x.start (start_count nfa x) h.path.start h.path.among in
+    let begin = start-of nfa x h.path.start h.path.among in
     cut-first nfa x x.anchored same p (IsMatch nfa) h x.start m.1 (record {
       low = omega arith;
-      past = from;
-      near = λ t. elim (counts nfa x (omega arith)) [
-        | inl one ↦ at-one h.path.start.1 x.start (start_count nfa x) from begin.before one.1
-        | inr many ↦ absurd (never_both (is_tied nfa x.anchored) t many.0)
-      ];
+      past = begin.from;
+      near = begin.tied;
       last = ap (λ (z : Pair). z.1) (ends-one h.end m p h.path.ends ends);
     })
-  where
-    at-one : (b s n : ℕ) → s ≤ b → b < s + n → n ≡ 1 → b ≡ s
-    at-one b s n low less is = omega arith
 
 -- A search. Whether a path ends on a boundary depends on the haystack only.
 
