@@ -3,7 +3,7 @@ use Rattle.std.proofs.Common.{◌≡◌, ℕ, zero, suc, ◌+◌, ◌-◌, ◌<�
 use Rattle.std.proofs.lemmas.Bool.{cases_Bool, lt-ltb}
 use Rattle.nfa_paths.specs.Common.{Search, MatchKind, Automaton, Node, In, rests, byte_at, node_at, start_state}
 use Rattle.regex_search_core.specs.declared.search.MatchKind.TheVariants.{All, LeftmostFirst}
-use Rattle.thompson_nfa.specs.Automaton.Node.{ByteRange, Sparse, Dense, Look, Union, BinaryUnion, Capture, Fail, Match}
+use Rattle.thompson_nfa.specs.Automaton.Node.{Look}
 use Rattle.nfa_determinize.specs.Closures.{Holding, closure, epsilon_states, explore, holding_at, kept, pattern_by_kind, step}
 use Rattle.nfa_determinize.specs.Configurations.{Configuration, IsDead, advance, closure_at, start_here, starts_after}
 use Rattle.nfa_determinize.proofs.ExploreLemmas.{explore-none}
@@ -18,14 +18,7 @@ epsilon-same : (a b : Holding) (node : Node)
     → ((look : looks.Look) (next : ℕ) → node ≡ Look look next → a look ≡ b look)
     → epsilon_states a node ≡ epsilon_states b node
 epsilon-same a b (Look look next) e = ap (λ (v : Bool). if v then next ∷ [] else []) (e look next refl)
-epsilon-same a b (ByteRange trans) e = refl
-epsilon-same a b (Sparse ts) e = refl
-epsilon-same a b (Dense ts) e = refl
-epsilon-same a b (Union ts) e = refl
-epsilon-same a b (BinaryUnion s t) e = refl
-epsilon-same a b (Capture next slot) e = refl
-epsilon-same a b Fail e = refl
-epsilon-same a b (Match pattern) e = refl
+epsilon-same a b _ e = refl
 
 module _ (nfa : Automaton) (a b : Holding) (alike : SameLooks nfa a b) where
   explore-same : (left : ℕ) (seen : List Bool) (waiting : List ℕ)

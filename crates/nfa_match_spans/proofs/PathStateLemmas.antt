@@ -2,7 +2,7 @@
 use Rattle.std.proofs.Common.{◌≡◌, ℕ, ◌+◌, ◌*◌, ◌<◌, ◌≤◌, ◌==◌, List, [], ◌∷◌, ◌++◌, refl, ap, sym, arith, Option, Some, None, true, false, Bool, ◌↔◌, not, if◌then◌else◌}
 use Rattle.std.specs.Option.{option_or, option_map_or}
 use Rattle.nfa_paths.specs.Common.{Automaton, Node, Pair, pattern_of, slot_of, slot_among}
-use Rattle.thompson_nfa.specs.Automaton.Node.{ByteRange, Sparse, Dense, Capture, Match}
+use Rattle.thompson_nfa.specs.Automaton.Node.{Capture}
 use Rattle.nfa_match_spans.specs.StatePaths.{reads, position_after}
 use Rattle.nfa_match_spans.specs.PathStates.{fresh_path_state, at_state, after_node, Describes}
 use Rattle.nfa_match_spans.specs.declared.path_state.PathState.{PathState}
@@ -48,8 +48,5 @@ module _ {start position : ℕ} {start_slot end_slot : Option ℕ} {v : PathStat
       → Describes start (position_after node position) (written node (2 * pattern) position start_slot)
       (written node (2 * pattern + 1) position end_slot) (at_state (after_node pattern node v) s)
   unfolding after_node reads
-  Describes-after pattern (ByteRange trans) s h = Describes-read s h
-  Describes-after pattern (Sparse ts) s h = Describes-read s h
-  Describes-after pattern (Dense targets) s h = Describes-read s h
   Describes-after pattern (Capture next slot) s h = Describes-captured pattern next slot s h
-  Describes-after pattern _ s h = Describes-at s h
+  Describes-after pattern _ s h = grind arith

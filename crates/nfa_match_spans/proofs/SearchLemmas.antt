@@ -5,7 +5,7 @@ use Rattle.std.proofs.lemmas.Option.{get_or_from_slice_get}
 use Rattle.regex_search_core.specs.declared.search.Anchored.TheVariants.{No, Yes, Pattern}
 use Rattle.nfa_paths.specs.Common.{number_of, PatternID, Automaton, Node, LeadsBelow, In, node_at, pattern_of}
 use Rattle.thompson_nfa.specs.declared.state.Transition.{Transition}
-use Rattle.thompson_nfa.specs.Automaton.Node.{Sparse, Dense, Union, BinaryUnion, Fail, Match}
+use Rattle.thompson_nfa.specs.Automaton.Node.{Sparse, Dense, Union}
 use Rattle.nfa_paths.proofs.MemberLemmas.{In-append, In-append_left, All-In}
 use Rattle.nfa_match_spans.specs.StatePaths.{targets, IsStart}
 use Rattle.nfa_match_spans.specs.PathStates.{fresh_path_state, at_state, after_node, next_places, is_recorded, IsFresh, GainsPathStates, IsFine, IsClosed, IsUnderWay, IsLedTo}
@@ -47,10 +47,7 @@ targets-below n s (Sparse ts) leads i =
     rw of.2 (All-In (λ (t : Transition). t.next < n) ts leads of.0 of.1)
 targets-below n s (Dense places) leads i = present-below n s places leads i
 targets-below n s (Union alternates) leads i = All-In (λ t. t < n) alternates leads s i
-targets-below n s (BinaryUnion alt1 alt2) leads i = grind arith
-targets-below n s Fail leads i = absurd i
-targets-below n s (Match pattern) leads i = absurd i
-targets-below n s _ leads i = elim i [ inl e ↦ rw e leads | inr never ↦ absurd never ]
+targets-below n s _ leads i = grind arith
 
 -- starts
 

@@ -1,7 +1,7 @@
 -- The ways through the states of an NFA, for any haystack, and whether each way writes its bounds.
-use Rattle.std.specs.Prelude.{◌≡◌, ℕ, ◌+◌, Bool, true, false, List, [], ◌∷◌, map, filter_map, Some, if◌then◌else◌}
-use Rattle.nfa_paths.specs.Common.{Anchored, Automaton, Node, Pair, HeadIs, Linked, EndsWith, node_at, pattern_of, start_state, IsMatch}
-use Rattle.thompson_nfa.specs.Automaton.Node.{ByteRange, Sparse, Dense, Look, Union, BinaryUnion, Capture, Fail, Match}
+use Rattle.std.specs.Prelude.{◌≡◌, ℕ, ◌+◌, Bool, true, List, [], ◌∷◌, map, filter_map, Some, if◌then◌else◌}
+use Rattle.nfa_paths.specs.Common.{Anchored, Automaton, Node, Pair, HeadIs, Linked, EndsWith, reads_byte, epsilon_states, node_at, pattern_of, start_state, IsMatch}
+use Rattle.thompson_nfa.specs.Automaton.Node.{ByteRange, Sparse, Dense}
 use Rattle.nfa_engines.specs.GapLaws.{WritesItsEnds}
 
 -- each state that the state may lead to
@@ -9,19 +9,11 @@ unfoldable pub targets : Node → List ℕ
 targets (ByteRange trans) = trans.next ∷ []
 targets (Sparse transitions) = map (λ t. t.next) transitions
 targets (Dense places) = filter_map (λ target. target) places
-targets (Look look next) = next ∷ []
-targets (Union alternates) = alternates
-targets (BinaryUnion alt1 alt2) = alt1 ∷ alt2 ∷ []
-targets (Capture next slot) = next ∷ []
-targets Fail = []
-targets (Match pattern) = []
+targets node = epsilon_states (λ look. true) node
 
 -- the state reads a byte
 unfoldable pub reads : Node → Bool
-reads (ByteRange trans) = true
-reads (Sparse transitions) = true
-reads (Dense places) = true
-reads _ = false
+reads node = reads_byte node
 
 -- the position after the state
 abbrev pub position_after : Node → ℕ → ℕ

@@ -1,5 +1,5 @@
 -- What a search that goes position by position finds for each kind of scan, and what it keeps at a position.
-use Rattle.std.specs.Prelude.{◌≡◌, ℕ, ◌≤◌, ◌<◌, Bool, true, false, cond, List, [], ◌∷◌, map, length, Option, None, Some}
+use Rattle.std.specs.Prelude.{◌≡◌, ℕ, ◌≤◌, ◌<◌, Bool, true, cond, List, [], ◌∷◌, map, length, Option, None, Some}
 use Rattle.std.specs.Option.{option_map_or}
 use Rattle.thompson_nfa.specs.Automaton.{Automaton}
 use Rattle.nfa_paths.specs.Graphs.{Pair, In, Space, NoRepeats, WantedAt, PathTo, NoPath, IsLastOfFirsts, IsLastPath}
