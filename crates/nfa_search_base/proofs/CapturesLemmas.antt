@@ -7,6 +7,7 @@ use Rattle.nfa_paths.proofs.ExistenceLemmas.{search_answer-exists}
 use Rattle.nfa_paths.proofs.KnownLemmas.{match-unique}
 use Rattle.nfa_search_base.specs.WithCaptures.{Row, filled_answer, row_found, row_of, row_span, UpToRefusal}
 use Rattle.nfa_search_base.specs.CapturesLists.{IsRow, AnswersRow, AreFirstRows, AreRows}
+use Rattle.nfa_search_base.specs.Finders.{answer_by}
 use Rattle.nfa_search_base.specs.Items.{Item, matches_in, greedy}
 use Rattle.nfa_search_base.specs.Lists.{IsStep, Fails, FailsOrIsRefused, ItemsNext, ItemsLast, AnswersMatch, ComeNext, ComeLast, AreFirstMatches, AreMatches}
 use Rattle.nfa_search_base.specs.IterStates.{IterState, Answer, AnswerIsInside, fresh, after, answer_span, span_of}
@@ -39,10 +40,8 @@ module _ (nfa : Automaton) (kind : MatchKind) (earliest : Bool) where
   row-match t row h = slots-match t row.pattern row.slots (Some (row_found row)) h.answer h.count h.is_match
 
   -- a row as a match
-  abbrev pub as_match : Answer Row → Answer Found
-  as_match (Ok (Some row)) = Ok (Some (row_found row))
-  as_match (Ok None) = Ok None
-  as_match (Err e) = Err e
+  abbrev as_match : Answer Row → Answer Found
+  as_match = answer_by row_found
 
   -- a search that gives a row gives its match
   pub row-tells : (t : Search) (a : Answer Row) → tells t a → AnswersMatch nfa kind earliest t (as_match a)
@@ -100,8 +99,7 @@ module _ (nfa : Automaton) (kind : MatchKind) (earliest : Bool) where
   -- a step over rows is one over matches
   ok-match : (w : IterState) (o : Option Row) → IsStep row_span tells w (Ok o)
       → IsStep span_of (AnswersMatch nfa kind earliest) w (as_match (Ok o))
-  ok-match w o h = step-as row_span span_of tells (AnswersMatch nfa kind earliest) as_match span-as_match row-tells w
-      (Ok o) h
+  ok-match w o h = step-as (record { shown = as_match; same = span-as_match; so = row-tells }) h
 
   -- so rows are matches
   come-next : (rows : List Row) (w : IterState) → ItemsNext row_span tells (Fails row_span tells) w (as_items rows)

@@ -21,7 +21,7 @@ use Rattle.nfa_search_base.proofs.EngineLemmas.{SearchesAs, SearchesOf, answers_
 use Rattle.nfa_search_base.proofs.ItemLemmas.{ItemsOf, StepsBy, copies_of, copy-of}
 use Rattle.nfa_search_base.proofs.ListLemmas.{matches-disjoint, step-lies}
 use Rattle.nfa_search_base.proofs.OkItemLemmas.{GoesOnIn, OkedAs, ResultsOf, next-clean, last-clean, oked-run, oked-first, oked-all, oked-next, values-hold, errors-memory}
-use Rattle.nfa_search_base.proofs.RunLemmas.{Begins, Given, given, items-given}
+use Rattle.nfa_search_base.proofs.RunLemmas.{Begins, Given, given-as, items-given}
 use Rattle.nfa_search_base.proofs.ShellLemmas.{ShellOf, same-items}
 use Rattle.nfa_search_base.proofs.SpanLemmas.{spans-inside}
 use Rattle.nfa_search_base.proofs.StepLemmas.{chosen}
@@ -156,11 +156,9 @@ module _ {E C S : Type 0} {searches : SearchesOf E C S Row} {captures : S → Ca
       Whole xs = AreAllCaptures rows.tells x xs
 
       caught : Given shell.calls First Whole s
-      caught =
-          let k = items-given copies (answers_as searches e x rows.tells rows.given) shell s begins in
-          given shell.calls First Whole s
-          (λ xs t ran. record { come = rw (same-items xs) at (k.first xs t ran) })
-          (λ xs t u ran st. record { come = rw (same-items xs) at (k.all xs t u ran st) })
+      caught = given-as shell.calls
+          (items-given copies (answers_as searches e x rows.tells rows.given) shell s begins)
+          (λ xs h. record { come = rw (same-items xs) at h }) (λ xs h. record { come = rw (same-items xs) at h })
 
       -- the only error is `Memory`, if no search has another
       pub captures-memory

@@ -6,7 +6,6 @@ use Rattle.nfa_paths.specs.Common.{found_of, Search, Match}
 use Rattle.nfa_search_base.specs.Drained.{CallsLead, DrainsAll}
 use Rattle.nfa_search_base.specs.Leaving.{DoesSearch, FindsLeave, FindsLeaveAtEnd, Leaves, LeavesAtEnd, StepsLead, answers_to_end}
 use Rattle.nfa_search_base.specs.Runs.{GivesKept}
-use Rattle.nfa_search_base.specs.Steps.{TakesStep}
 use Rattle.nfa_search_base.specs.Stored.{steps_iter_state}
 use Rattle.nfa_search_base.specs.IterStates.{Advances, Answer, IterState, answer_span, repeats, shifted, span_of}
 use Rattle.nfa_search_base.specs.declared.error.SearchError.{SearchError}
@@ -15,7 +14,7 @@ use Rattle.nfa_search_base.proofs.EngineLemmas.{FinderOf, SearchesAs, SearchesOf
 use Rattle.nfa_search_base.proofs.ItemLemmas.{ItemsOf, StepsBy, items_as}
 use Rattle.nfa_search_base.proofs.RunLemmas.{Begins}
 use Rattle.nfa_search_base.proofs.ShellLemmas.{ShellOf, yields-inner}
-use Rattle.nfa_search_base.proofs.StepLemmas.{chosen}
+use Rattle.nfa_search_base.proofs.StepLemmas.{chosen, step-taken}
 
 -- The engine e searches.
 module _ {E C S X Y : Type 0} (searches : SearchesOf E C S X) (items : ItemsOf S X Y) (e : E) where
@@ -84,12 +83,6 @@ module _ {E C S X Y : Type 0} (searches : SearchesOf E C S X) (items : ItemsOf S
       let same : ran.0 ≡ s = still s ran.0 (Some y) d ran.1 in
       all-still ys ran.0 t u r (rw same d) ran.2 st ∙ same
 
-  -- any other call is a step
-  turn : (s : Steps S) (r : Option (Result Y SearchError)) (u : Steps S) → s.done ≡ false → steps s r u
-      → TakesStep items.span searches.asks items.gives s.backend (steps_iter_state s) r u.backend (steps_iter_state u)
-      u.done
-  turn s r u going st = rw going at st
-
   only : (w : IterState) (a : Answer X) (p q : C) (v : IterState) → Advances items.span Does p w a q v
       → Leads w p (a ∷ []) q
   only w (Ok (Some x)) p q v step = (q, v, step, refl)
@@ -101,10 +94,10 @@ module _ {E C S X Y : Type 0} (searches : SearchesOf E C S X) (items : ItemsOf S
   IsGoing s = (s.done ≡ false) × SearchesAs searches e s.backend
 
   advance-in : (s : Steps S) (on : IsGoing s) (r : Option (Result Y SearchError)) (u : Steps S) (st : steps s r u)
-      → Advances items.span Does (cache_in s) (steps_iter_state s) (turn s r u on.0 st).answer (cache_in u)
+      → Advances items.span Does (cache_in s) (steps_iter_state s) (step-taken on.0 st).answer (cache_in u)
       (steps_iter_state u) × SearchesAs searches e u.backend
   advance-in s on r u st =
-      let one = turn s r u on.0 st in
+      let one = step-taken on.0 st in
       advance-cache s.backend (steps_iter_state s) one.answer u.backend (steps_iter_state u) on.1 one.step
 
   from : (xs : List (Result Y SearchError)) (s t u : Steps S) (r : Option (Result Y SearchError)) → IsGoing s
@@ -112,19 +105,20 @@ module _ {E C S X Y : Type 0} (searches : SearchesOf E C S X) (items : ItemsOf S
       → (first : Answer X) × (rest : List (Answer X)) × Leads (steps_iter_state s) (cache_in s) (first ∷ rest)
       (cache_in u)
   from [] s t u r on ran st =
-      let a = (turn s r u on.0 (rw ran st)).answer in
-      let k = advance-in s on r u (rw ran st) in
+      let last : steps s r u = rw ran st in
+      let a = (step-taken on.0 last).answer in
+      let k = advance-in s on r u last in
       (a, [], only (steps_iter_state s) a (cache_in s) (cache_in u) (steps_iter_state u) k.0)
   from (Ok y ∷ xs) s t u r on ran st =
       let q = ran.0 in
-      let one = turn s (Some (Ok y)) q on.0 ran.1 in
+      let one = step-taken on.0 ran.1 in
       let k = advance-in s on (Some (Ok y)) q ran.1 in
       let rest = from xs q t u r (one.ends, k.1) ran.2 st in
       let is : one.answer ≡ Ok (Some (items.view y)) = says q.backend one.answer y one.item in
       (Ok (Some (items.view y)), rest.0 ∷ rest.1, (cache_in q, steps_iter_state q, rw is at k.0, rest.2))
   from (Err error ∷ xs) s t u r on ran st =
       let q = ran.0 in
-      let one = turn s (Some (Err error)) q on.0 ran.1 in
+      let one = step-taken on.0 ran.1 in
       let k = advance-in s on (Some (Err error)) q ran.1 in
       let same : u ≡ q = all-still xs q t u r one.ends ran.2 st in
       let leads = only (steps_iter_state s) one.answer (cache_in s) (cache_in q) (steps_iter_state q) k.0 in
@@ -140,12 +134,13 @@ module _ {E C S X Y : Type 0} (searches : SearchesOf E C S X) (items : ItemsOf S
   pub all-leave : (ys : List Y) (s t u : Steps S) → IsGoing s → Yields steps s (map Ok ys) t → steps t None u
       → Leads (steps_iter_state s) (cache_in s) (answers_to_end (map items.view ys)) (cache_in u)
   all-leave [] s t u on ran st =
-      let one = turn s None u on.0 (rw ran st) in
+      let last : steps s None u = rw ran st in
+      let one = step-taken on.0 last in
       let is : one.answer ≡ Ok None = items.says (λ b. Unit {0}) u.backend one.answer None one.item tt in
-      (steps_iter_state u, rw is at (advance-in s on None u (rw ran st)).0, refl)
+      (steps_iter_state u, rw is at (advance-in s on None u last).0, refl)
   all-leave (y ∷ ys) s t u on ran st =
       let q = ran.0 in
-      let one = turn s (Some (Ok y)) q on.0 ran.1 in
+      let one = step-taken on.0 ran.1 in
       let k = advance-in s on (Some (Ok y)) q ran.1 in
       let is : one.answer ≡ Ok (Some (items.view y)) = says q.backend one.answer y one.item in
       (cache_in q, steps_iter_state q, rw is at k.0, all-leave ys q t u (one.ends, k.1) ran.2 st)
@@ -214,25 +209,25 @@ module _ {E C S X Y T R : Type 0} (searches : SearchesOf E C S X) (items : Items
 
 module _ {E A C T R : Type 0} (finder : FinderOf E A C) {item : R → Result Match SearchError}
     (shell : ShellOf (StepsBy (items_as span_of found_of) (finds_by finder).asks) item T) (e : E) {x : Search} (s : T)
-    (begins : Begins (SearchesAs (finds_by finder) e) x (shell.inner s))
-    (known : (finder.shown (shell.inner s).backend.backend).known ≡ None) where
-  -- an iteration that knew nothing leaves the cache of its searches
-  pub finds-leave : GivesKept shell.calls (λ p q. FindsLeave (finder.engine.Tells e) (finder.engine.Work e)
-      finder.engine.scans x (shell.inner p).backend.cache (shell.inner q).backend.cache) s
-  finds-leave = λ xs t r u ran st.
-      let leaves = shell-leaves (finds_by finder) (items_as span_of found_of) shell e s begins in
-      record {
-        known = option_map found_of (finder.shown (shell.inner u).backend.backend).known;
-        left = rw known at (leaves xs t r u ran st);
-      }
+    (begins : Begins (SearchesAs (finds_by finder) e) x (shell.inner s)) where
+  -- the cache, and the match that is known, in an iterator
+  abbrev cache_of : T → C
+  cache_of q = (shell.inner q).backend.cache
 
-  pub finds-to_end : (xs : List R) (ms : List Match) (t u : T) → map item xs ≡ map (λ m. Ok m) ms
+  abbrev known_to : T → Option Match
+  known_to q = (finder.shown (shell.inner q).backend.backend).known
+
+  -- an iteration that knew nothing leaves the cache of its searches
+  pub finds-leave : known_to s ≡ None → GivesKept shell.calls (λ p q. FindsLeave (finder.engine.Tells e)
+      (finder.engine.Work e) finder.engine.scans x (cache_of p) (cache_of q)) s
+  finds-leave known = λ xs t r u ran st.
+      let leaves = shell-leaves (finds_by finder) (items_as span_of found_of) shell e s begins in
+      record { known = option_map found_of (known_to u); left = rw known at (leaves xs t r u ran st) }
+
+  pub finds-to_end : known_to s ≡ None → (xs : List R) (ms : List Match) (t u : T) → map item xs ≡ map (λ m. Ok m) ms
       → Yields shell.calls s xs t → shell.calls t None u
       → FindsLeaveAtEnd (finder.engine.Tells e) (finder.engine.Work e) finder.engine.scans x (map found_of ms)
-      (shell.inner s).backend.cache (shell.inner u).backend.cache
-  finds-to_end xs ms t u same ran st =
+      (cache_of s) (cache_of u)
+  finds-to_end known xs ms t u same ran st =
       let to_end = shell-to_end (finds_by finder) (items_as span_of found_of) shell e s begins in
-      record {
-        known = option_map found_of (finder.shown (shell.inner u).backend.backend).known;
-        left = rw known at (to_end xs ms t u same ran st);
-      }
+      record { known = option_map found_of (known_to u); left = rw known at (to_end xs ms t u same ran st) }
