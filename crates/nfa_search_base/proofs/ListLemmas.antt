@@ -299,17 +299,6 @@ AreDisjoint-spans x last [] h = tt
 AreDisjoint-spans x last (m ∷ ms) h =
     (record { from = h.0.0; ordered = h.0.1; to = h.0.2 }, h.1, AreDisjoint-spans x (Some m.end) ms h.2)
 
--- The matches of a search are in its span, so the matches of an iteration do not overlap.
-module _ (tells : Search → Answer Found → Type 0)
-    (lies : (t : Search) (a : Answer Found) → tells t a → AnswerIsInside span_of t a
-    × IsOrdered (answer_span span_of a))
-    (ends : IterState → SearchError → Type 0) where
-  -- the matches among the first items of a search are in its span, in order and without overlap
-  pub items-disjoint : (x : Search) (items : List (Item Found)) → ItemsNext span_of tells ends (fresh x) items
-      → AreDisjoint x None (matches_in items)
-  items-disjoint x items h = AreDisjoint-spans x None (matches_in items)
-      (fresh-disjoint span_of tells lies ends x items h)
-
 module _ (nfa : Automaton) (kind : MatchKind) (earliest : Bool) where
   abbrev tells : Search → Answer Found → Type 0
   tells = AnswersMatch nfa kind earliest
@@ -371,4 +360,5 @@ module _ (nfa : Automaton) (kind : MatchKind) (earliest : Bool) where
   pub matches-disjoint : (x : Search) (ms : List Found) → AreFirstMatches nfa kind earliest x ms → AreDisjoint x None ms
   matches-disjoint x ms h =
       subst (λ (l : List Found). AreDisjoint x None l) (matches_in-as_items ms)
-      (items-disjoint tells match-lies (Fails span_of tells) x (as_items ms) h.come)
+      (AreDisjoint-spans x None (matches_in (as_items ms))
+      (fresh-disjoint span_of tells match-lies (Fails span_of tells) x (as_items ms) h.come))

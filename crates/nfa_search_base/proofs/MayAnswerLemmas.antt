@@ -10,10 +10,10 @@ use Rattle.regex_search_core.specs.declared.search.Input.{Input}
 use Rattle.nfa_search_base.specs.Asking.{IsCallableOn, SameButStart}
 use Rattle.nfa_search_base.specs.Finders.{Finds, AnswersAlong, answer_by}
 use Rattle.nfa_search_base.specs.Items.{item_by, matches_in}
-use Rattle.nfa_search_base.specs.Lists.{Fails, AreFirstStoredMatches, AreAllStoredMatches, AreSpansDisjoint}
+use Rattle.nfa_search_base.specs.Lists.{Fails, AreAllStoredMatches, AreSpansDisjoint}
 use Rattle.nfa_search_base.specs.Serving.{LeadsOn}
 use Rattle.nfa_search_base.specs.Stored.{steps_iter_state}
-use Rattle.nfa_search_base.specs.StoredRuns.{MayAnswer, stored_match_steps, infallible_match_steps, StoredMatchesAll, StoredMatchesDisjoint, InfallibleMatchesDisjoint, InfallibleMatchesAll}
+use Rattle.nfa_search_base.specs.StoredRuns.{AllFound, FirstFound, MayAnswer, stored_match_steps, infallible_match_steps, StoredMatchesAll, StoredMatchesDisjoint, InfallibleMatchesDisjoint, InfallibleMatchesAll}
 use Rattle.nfa_search_base.specs.IterStates.{Answer, IterState, answer_span, AnswerIsInside, IsInfalliblyInside}
 use Rattle.nfa_search_base.specs.declared.error.SearchError.{SearchError}
 use Rattle.nfa_search_base.specs.declared.iter.steps.Steps.{Steps}
@@ -31,24 +31,16 @@ module _ {A X F : Type 0} (view : A → X) (span : X → Span)
   answers = record { accepts = IsCallableOn g; asks = Finds view g; items = items_as span view }
 
   module _ (s : Steps F) (going : s.done ≡ false) where
-    -- what the finder of an iterator may answer
-    abbrev May : Search → Answer X → Type 0
-    May = MayAnswer view span g s.backend (steps_iter_state s).at
-
-    abbrev First : List (Result A SearchError) → Type 0
-    First = AreFirstStoredMatches span May view (steps_iter_state s)
-
-    abbrev Whole : List (Result A SearchError) → Type 0
-    Whole = AreAllStoredMatches span May view (steps_iter_state s)
-
     -- its calls give
-    pub found : Given (stored_match_steps view span g) First Whole s
+    pub found : Given (stored_match_steps view span g) (FirstFound view span g s.backend (steps_iter_state s))
+        (AllFound view span g s.backend (steps_iter_state s)) s
     found = given-as (stored_match_steps view span g) (may-given answers s going)
         (λ xs h. record { come = h }) (λ xs h. record { come = h })
 
     -- and so do those of the iterator whose finder never errs
-    pub sure : Given (infallible_match_steps view span g) (λ ms. First (map (λ m. Ok m) ms))
-        (λ ms. Whole (map (λ m. Ok m) ms)) s
+    pub sure : Given (infallible_match_steps view span g)
+        (λ ms. FirstFound view span g s.backend (steps_iter_state s) (map (λ m. Ok m) ms))
+        (λ ms. AllFound view span g s.backend (steps_iter_state s) (map (λ m. Ok m) ms)) s
     sure = given-oked (stored_match_steps view span g) found
 
   sure-spans : (ms : List A)
@@ -58,27 +50,20 @@ module _ {A X F : Type 0} (view : A → X) (span : X → Span)
 
   -- Its matches are in the spans of its searches.
   module _ (ordered : (m : A) → (span (view m)).start ≤ (span (view m)).end) where
-    view-ordered : (reply : Result (Option A) SearchError) (a : Answer X) → a ≡ answer_by view reply
+    answer-ordered : (q : F) (t : Search) (a : Answer X) (q' : F) → Finds view g q t a q'
         → IsOrdered (answer_span span a)
-    view-ordered (Ok (Some m)) a is = rw is (λ p same.
-        subst (λ (q : Span). q.start ≤ q.end) (same_some _ _ same) (ordered m))
-    view-ordered (Ok None) a is = rw is (λ p same. let never : None ≡ Some p = same in cc)
-    view-ordered (Err e) a is = rw is (λ p same. let never : None ≡ Some p = same in cc)
-
-    -- of any promise on its answers by which they are
-    apart : (s : Steps F) {P : Search → Answer X → Type 0}
-        → ((t : Search) (a : Answer X) → P t a → AnswerIsInside span t a) → AnswersAlong view g P s.backend (steps_iter_state s).at → (going : s.done ≡ false)
-        → (xs : List (Result A SearchError)) → First s going xs
-        → AreSpansDisjoint (steps_iter_state s).at (steps_iter_state s).last
-        (map span (matches_in (map (item_by view) xs)))
-    apart s lies serves going xs first = may-disjoint answers s lies
-        (λ q t a q' k. view-ordered k.reply a k.shows) serves xs first.come
+    answer-ordered q t a q' k = of k.reply k.shows
+      where
+        of : (reply : Result (Option A) SearchError) → a ≡ answer_by view reply → IsOrdered (answer_span span a)
+        of (Ok (Some m)) is = rw is (λ p same. subst (λ (q : Span). q.start ≤ q.end) (same_some _ _ same) (ordered m))
+        of (Ok None) is = rw is (λ p same. let never : None ≡ Some p = same in cc)
+        of (Err e) is = rw is (λ p same. let never : None ≡ Some p = same in cc)
 
     pub found-disjoint : (s : Steps F) → s.done ≡ false
         → AnswersAlong view g (AnswerIsInside span) s.backend (steps_iter_state s).at
         → StoredMatchesDisjoint view span g (steps_iter_state s) s
     found-disjoint s going serves = λ p seen from.
-        apart s (λ t a k. k) serves going p.items ((found s going).run p seen from).0
+        may-disjoint answers s (λ t a k. k) answer-ordered serves p.items ((found s going).run p seen from).0.come
 
     pub sure-disjoint : (s : Steps F) → s.done ≡ false
         → AnswersAlong view g (IsInfalliblyInside span) s.backend (steps_iter_state s).at
@@ -86,7 +71,8 @@ module _ {A X F : Type 0} (view : A → X) (span : X → Span)
     sure-disjoint s going serves = λ p seen from.
         subst (λ (l : List Span). AreSpansDisjoint (steps_iter_state s).at (steps_iter_state s).last l)
         (sure-spans p.items)
-        (apart s (λ t a k. k.0) serves going (map (λ m. Ok m) p.items) ((sure s going).run p seen from).0)
+        (may-disjoint answers s (λ t a k. k.0) answer-ordered serves (map (λ m. Ok m) p.items)
+        ((sure s going).run p seen from).0.come)
 
 -- If each call leaves the finder as it was, what it answers on one search it may answer along all calls.
 module _ {A X F : Type 0} {view : A → X} {g : Mut F (Bor Input × Unit {0}) (Result (Option A) SearchError)} {f : F}

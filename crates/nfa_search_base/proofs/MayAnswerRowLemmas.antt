@@ -11,11 +11,11 @@ use Rattle.nfa_paths.specs.Common.{Search, Found, Captured, match_of, Span}
 use Rattle.regex_search_core.specs.declared.search.Input.{Input}
 use Rattle.nfa_paths.proofs.InsideLemmas.{offsets}
 use Rattle.nfa_search_base.specs.WithCaptures.{Row, WithCaptures, CanFill, Fills, FillsAlong, row_of, row_span, filled_answer, row_found}
-use Rattle.nfa_search_base.specs.Items.{item_by, matches_in}
-use Rattle.nfa_search_base.specs.CapturesLists.{AreFirstStoredCaptures, AreAllStoredCaptures}
-use Rattle.nfa_search_base.specs.Lists.{AreSpansDisjoint, FailsOrIsRefused}
+use Rattle.nfa_search_base.specs.Items.{item_by}
+use Rattle.nfa_search_base.specs.CapturesLists.{AreAllStoredCaptures}
+use Rattle.nfa_search_base.specs.Lists.{FailsOrIsRefused}
 use Rattle.nfa_search_base.specs.Stored.{steps_iter_state}
-use Rattle.nfa_search_base.specs.StoredRuns.{MayAnswerRow, stored_captures_steps, StoredCapturesDisjoint, InfallibleCapturesDisjoint, InfallibleCapturesAll}
+use Rattle.nfa_search_base.specs.StoredRuns.{AllFilled, FirstFilled, MayAnswerRow, stored_captures_steps, StoredCapturesDisjoint, InfallibleCapturesDisjoint, InfallibleCapturesAll}
 use Rattle.nfa_search_base.specs.CapturesSteps.{takes_infallible_captures}
 use Rattle.nfa_search_base.specs.IterStates.{Answer, IterState, AnswerIsInside, IsInfalliblyInside, answer_span}
 use Rattle.nfa_search_base.specs.declared.error.SearchError.{SearchError}
@@ -63,16 +63,16 @@ module _ {F : Type 0} (g : Mut F (Bor Input × (MutBor Captured × Unit {0}))
   sure_caught [] q t ran = ran
   sure_caught (y ∷ ys) q t ran = (ran.0, ran.1.0, sure_caught ys ran.0 t ran.2)
 
-  module _ (s : Steps (WithCaptures F)) (going : s.done ≡ false) where
-    -- what the finder of an iterator may answer
-    abbrev May : Search → Answer Row → Type 0
-    May = MayAnswerRow g s.backend (steps_iter_state s).at
+  answer-ordered : (q : WithCaptures F) (t : Search) (a : Answer Row) (q' : WithCaptures F) → Fills g q t a q'
+      → IsOrdered (answer_span row_span a)
+  answer-ordered q t a q' k = row-ordered q'.captures k.reply a k.answers
 
+  module _ (s : Steps (WithCaptures F)) (going : s.done ≡ false) where
     abbrev First : List (Result Captured SearchError) → Type 0
-    First = AreFirstStoredCaptures May (steps_iter_state s)
+    First = FirstFilled g s.backend (steps_iter_state s)
 
     abbrev Whole : List (Result Captured SearchError) → Type 0
-    Whole = AreAllStoredCaptures May (steps_iter_state s)
+    Whole = AllFilled g s.backend (steps_iter_state s)
 
     -- its calls give
     pub caught : Given (stored_captures_steps g) First Whole s
@@ -86,20 +86,15 @@ module _ {F : Type 0} (g : Mut F (Bor Input × (MutBor Captured × Unit {0}))
         (λ xs t u ran st. caught.all xs t u (sure_caught xs s t ran) st.0)
 
     -- Their matches are in the spans of the finder's searches.
-    apart : {P : Search → Answer Row → Type 0} → ((t : Search) (a : Answer Row) → P t a → AnswerIsInside row_span t a)
-        → FillsAlong g P s.backend (steps_iter_state s).at → (xs : List (Result Captured SearchError)) → First xs
-        → AreSpansDisjoint (steps_iter_state s).at (steps_iter_state s).last
-        (map row_span (matches_in (map (item_by row_of) xs)))
-    apart lies serves xs first = may-disjoint copies s lies
-        (λ q t a q' k. row-ordered q'.captures k.reply a k.answers) serves xs first.come
-
     pub caught-disjoint : FillsAlong g (AnswerIsInside row_span) s.backend (steps_iter_state s).at
         → StoredCapturesDisjoint g (steps_iter_state s) s
-    caught-disjoint serves = λ p seen from. apart (λ t a k. k) serves p.items (caught.run p seen from).0
+    caught-disjoint serves = λ p seen from.
+        may-disjoint copies s (λ t a k. k) answer-ordered serves p.items (caught.run p seen from).0.come
 
     pub sure-caught_disjoint : FillsAlong g (IsInfalliblyInside row_span) s.backend (steps_iter_state s).at
         → InfallibleCapturesDisjoint g (steps_iter_state s) s
-    sure-caught_disjoint serves = λ p seen from. apart (λ t a k. k.0) serves p.items (sure-caught.run p seen from).0
+    sure-caught_disjoint serves = λ p seen from.
+        may-disjoint copies s (λ t a k. k.0) answer-ordered serves p.items (sure-caught.run p seen from).0.come
 
 -- If each answer of `under` is one of `tells`, the captures are the same.
 module _ {under tells : Search → Answer Row → Type 0} (so : (t : Search) (a : Answer Row) → under t a → tells t a)

@@ -10,7 +10,7 @@ use Rattle.nfa_search_base.specs.declared.error.SearchError.{SearchError}
 use Rattle.nfa_search_base.specs.declared.error.SearchError.TheVariants.{Memory}
 use Rattle.nfa_search_base.proofs.IterStateLemmas.{IsOrdered}
 use Rattle.nfa_search_base.proofs.ItemLemmas.{EndsAt, ItemsOf, Last, Next}
-use Rattle.nfa_search_base.proofs.ListLemmas.{as_items, items-view, step-lies}
+use Rattle.nfa_search_base.proofs.ListLemmas.{as_items, step-lies}
 use Rattle.nfa_search_base.proofs.RunLemmas.{Given}
 use Rattle.nfa_search_base.proofs.StepLemmas.{chosen}
 
@@ -90,25 +90,17 @@ module _ {S X Y : Type 0} (items : ItemsOf S X Y) (results : ResultsOf items.spa
       ]
 
   -- so items that are all `Ok` are those of clean searches
-  next-values : (xs : List X) (w : IterState)
-      → ItemsNext items.span results.tells (EndsAt items results.tells) w (as_items xs)
-      → ItemsNext items.span results.clean (Fails items.span results.clean) w (as_items xs)
-  next-values [] w h = tt
-  next-values (x ∷ xs) w h = (ok-step w (Some x) h.0, next-values xs (after w (Some (items.span x))) h.1)
-
-  last-values : (xs : List X) (w : IterState)
-      → ItemsLast items.span results.tells (EndsAt items results.tells) w (as_items xs)
-      → ItemsLast items.span results.clean (Fails items.span results.clean) w (as_items xs)
-  last-values [] w h = ok-step w None h
-  last-values (x ∷ xs) w h = (ok-step w (Some x) h.0, last-values xs (after w (Some (items.span x))) h.1)
-
   pub next-clean : (w : IterState) (ys : List Y) → Next items results.tells w (oked ys)
       → ItemsNext items.span results.clean (Fails items.span results.clean) w (as_items (map items.view ys))
-  next-clean w ys h = next-values (map items.view ys) w (rw (items-view items.view ys) at h)
+  next-clean w [] h = tt
+  next-clean w (y ∷ ys) h =
+      (ok-step w (Some (items.view y)) h.0, next-clean (after w (Some (items.span (items.view y)))) ys h.1)
 
   pub last-clean : (w : IterState) (ys : List Y) → Last items results.tells w (oked ys)
       → ItemsLast items.span results.clean (Fails items.span results.clean) w (as_items (map items.view ys))
-  last-clean w ys h = last-values (map items.view ys) w (rw (items-view items.view ys) at h)
+  last-clean w [] h = ok-step w None h
+  last-clean w (y ∷ ys) h =
+      (ok-step w (Some (items.view y)) h.0, last-clean (after w (Some (items.span (items.view y)))) ys h.1)
 
   -- if the search can only give one error, so can its first step
   module _ (x : Search) (error : SearchError) (only : (a : Answer X) → results.tells x a → a ≡ Err error) where

@@ -1,5 +1,5 @@
 -- The calls of an iterator that keeps its finder or engine give the items of its list.
-use Rattle.std.proofs.Common.{◌≡◌, ◌⊎◌, inl, inr, true, false, refl, ap, Option, None, Some, Result, Ok, Err, List, [], ◌∷◌, ◌++◌, map}
+use Rattle.std.proofs.Common.{◌≡◌, ◌⊎◌, inl, inr, true, false, refl, sym, ◌∙◌, ap, Option, None, Some, Result, Ok, Err, List, [], ◌∷◌, ◌++◌, map}
 use Rattle.std.specs.Iterator.{Yields}
 use Rattle.std.specs.Option.{option_map}
 use Rattle.std.specs.Iterator.Runs.{YieldsRun}
@@ -16,7 +16,7 @@ use Rattle.nfa_search_base.specs.declared.iter.steps.Steps.{Steps}
 use Rattle.nfa_search_base.proofs.AskingLemmas.{same_start-self, same_start-then}
 use Rattle.nfa_search_base.proofs.ItemLemmas.{EndsAt, ItemsOf, Last, Next, Says, StepsBy}
 use Rattle.nfa_search_base.proofs.ShellLemmas.{ShellOf, yields-inner}
-use Rattle.nfa_search_base.proofs.StepLemmas.{chosen, same_start-shifted, same_start-after, step-taken}
+use Rattle.nfa_search_base.proofs.StepLemmas.{chosen, same_start-after, step-shown, step-taken}
 
 -- What is shown of the items of calls, as clauses.
 module _ {T R : Type 0} (steps : T → Option R → T → Type 0) where
@@ -83,6 +83,16 @@ given-oked steps {First = First} {Whole = Whole} {s = s} k =
     (λ ys t ran. k.first (map (λ y. Ok y) ys) t (yields-oked steps ys s t ran))
     (λ ys t u ran st. k.all (map (λ y. Ok y) ys) t u (yields-oked steps ys s t ran) st)
 
+-- an iterator that has ended gives nothing, and stays as it is
+pub no-more : {S X Y : Type 0} (items : ItemsOf S X Y) (asks : S → Search → Answer X → S → Type 0)
+    (xs : List (Result Y SearchError)) (s t : Steps S) → s.done ≡ true → Yields (StepsBy items asks) s xs t
+    → (xs ≡ []) × (t ≡ s)
+no-more items asks [] s t d ran = (refl, sym ran)
+no-more items asks (y ∷ ys) s t d ran = elim (chosen s.done ran.1) [
+  | inl p ↦ let never : Some y ≡ None = p.1.0 in cc
+  | inr p ↦ let never : true ≡ false = sym d ∙ p.0 in cc
+]
+
 -- What answers the searches of an iteration over x, whose state is an S. It stays `Good`, and on searches like x it
 -- answers as `tells` says.
 pub record AnswersOf (S : Type 0) {X : Type 0} (x : Search) (tells : Search → Answer X → Type 0) : Type 1 where
@@ -117,18 +127,13 @@ module _ {S X Y : Type 0} (items : ItemsOf S X Y) {x : Search} {tells : Search �
       → Advances items.span answers.asks s w a s' w'
       → IsStep items.span tells w a × answers.Good s' × ((w' ≡ after w (answer_span items.span a))
       ⊎ (w' ≡ after (shifted w) (answer_span items.span a)))
-  advance {w = w} {s = s} {s' = s'} {a = a} like good step =
-      let one = answers.acts s w.at step.answer step.between like good step.first in
-      elim (chosen (repeats w (answer_span items.span step.answer)) step.rest) [
-        | inl p ↦
-            let on = same_start-then x w.at (shifted w).at like (same_start-shifted w) in
-            let two = answers.acts step.between (shifted w).at a s' on one.1 p.1.0 in
-            (record { first = step.answer; is_first = one.0; rest = rw p.0 two.0 }, two.1, inr p.1.1)
-        | inr p ↦ (
-          record { first = step.answer; is_first = one.0; rest = rw p.0 p.1.0 },
-          rw p.1.1 one.1,
-          inl p.1.2,
-        )
+  advance {w = w} {w' = w'} {s' = s'} {a = a} like good step =
+      let k : Advances items.span (λ (u : Unit {0}) t b (v : Unit {0}). tells t b) tt w a tt w' × answers.Good s' =
+      step-shown (λ (q : S). tt) answers.Good
+      (λ q t b q' same good asked. answers.acts q t b q' (same_start-then x w.at t like same) good asked) good step in
+      elim (chosen (repeats w (answer_span items.span k.0.answer)) k.0.rest) [
+        | inl p ↦ (record { first = k.0.answer; is_first = k.0.first; rest = rw p.0 p.1.0 }, k.1, inr p.1.1)
+        | inr p ↦ (record { first = k.0.answer; is_first = k.0.first; rest = rw p.0 p.1.0 }, k.1, inl p.1.2)
       ]
 
   -- the result of a call
@@ -164,11 +169,6 @@ module _ {S X Y : Type 0} (items : ItemsOf S X Y) {x : Search} {tells : Search �
       )
       of (Some (Err e)) a step good moved done is = (is, done)
 
-  -- an iterator that has ended gives nothing
-  ended : (s t : Steps S) (xs : List (Result Y SearchError)) → s.done ≡ true → Yields steps s xs t → xs ≡ []
-  ended s t [] d h = refl
-  ended s t (y ∷ ys) d h = let k = rw d at h.1 in let never : Some y ≡ None = k.0 in cc
-
   -- the items so far are the next ones
   first-from : (xs : List (Result Y SearchError)) (w : IterState) (s t : Steps S) → IsAt w s → Yields steps s xs t
       → Next items tells w xs
@@ -178,7 +178,7 @@ module _ {S X Y : Type 0} (items : ItemsOf S X Y) {x : Search} {tells : Search �
       (k.0, first-from xs (after w (Some (items.span (items.view y)))) ran.0 t k.1 ran.2)
   first-from (Err e ∷ xs) w s t at ran =
       let k = leads w s (Some (Err e)) ran.0 at ran.1 in
-      (k.0, ap (map (item_by items.view)) (ended ran.0 t xs k.1 ran.2))
+      (k.0, ap (map (item_by items.view)) (no-more items answers.asks xs ran.0 t k.1 ran.2).0)
 
   -- and at `None` the last ones
   all-from : (xs : List (Result Y SearchError)) (w : IterState) (s t u : Steps S) → IsAt w s → Yields steps s xs t
@@ -189,7 +189,7 @@ module _ {S X Y : Type 0} (items : ItemsOf S X Y) {x : Search} {tells : Search �
       (k.0, all-from xs (after w (Some (items.span (items.view y)))) ran.0 t u k.1 ran.2 st)
   all-from (Err e ∷ xs) w s t u at ran st =
       let k = leads w s (Some (Err e)) ran.0 at ran.1 in
-      (k.0, ap (map (item_by items.view)) (ended ran.0 t xs k.1 ran.2))
+      (k.0, ap (map (item_by items.view)) (no-more items answers.asks xs ran.0 t k.1 ran.2).0)
 
   -- so the calls of an iterator at w give them
   pub given-at : (w : IterState) (s : Steps S) → IsAt w s → Given steps (Next items tells w) (Last items tells w) s
@@ -222,8 +222,6 @@ module _ {S X : Type 0} {span : X → Span} {asks : S → Search → Answer X �
       : ((q : S) (t : Search) (b : Answer X) (q' : S) → SameButStart w.at t → Holds q → asks q t b q' → Holds q')
       → Holds s → Advances span asks s w a s' w' → Holds s'
   step-holds leaves holds step =
-      let one = leaves s w.at step.answer step.between (same_start-self w.at) holds step.first in
-      elim (chosen (repeats w (answer_span span step.answer)) step.rest) [
-        | inl p ↦ leaves step.between (shifted w).at a s' (same_start-shifted w) one p.1.0
-        | inr p ↦ rw p.1.1 one
-      ]
+      let k : Advances span asks s w a s' w' × Holds s' =
+      step-shown (λ (q : S). q) Holds (λ q t b q' same good asked. (asked, leaves q t b q' same good asked)) holds step in
+      k.1

@@ -8,7 +8,7 @@ use Rattle.regex_search_core.specs.declared.search.Input.{Input}
 use Rattle.nfa_search_base.specs.Asking.{Asks, IsCallableOn}
 use Rattle.nfa_search_base.specs.Serving.{ServesOn}
 use Rattle.nfa_search_base.specs.declared.error.SearchError.{SearchError}
-use Rattle.nfa_search_base.specs.Skipping.{CallLeft, Follows, WithOffset, value_of, HasOffsetIn, IsInCharacter, IsWholeReply, start_raised, lowered, Answers, Reaches, ServesSkips, SkipsTo}
+use Rattle.nfa_search_base.specs.Skipping.{CallLeft, SkipsOn, WithOffset, value_of, HasOffsetIn, IsInCharacter, IsWholeReply, start_raised, lowered, Answers, Reaches, ServesSkips, SkipsTo}
 
 -- A skipping: what its finder is, the haystack, and the searches that it moves to.
 pub record SkipOf (T F : Type 0) : Type 1 where
@@ -18,7 +18,7 @@ pub record SkipOf (T F : Type 0) : Type 1 where
 
 module _ {T F : Type 0} (skip : SkipOf T F) where
   abbrev Next : CallLeft T F → ℕ → CallLeft T F → Type 0
-  Next = Follows skip.finder skip.haystack skip.moved
+  Next = SkipsOn skip.finder skip.haystack skip.moved
 
   abbrev Reached : ℕ → CallLeft T F → List (CallLeft T F) → CallLeft T F → Type 0
   Reached = Reaches skip.finder skip.haystack skip.moved

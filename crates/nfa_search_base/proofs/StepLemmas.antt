@@ -48,6 +48,32 @@ pub same_start-after_shifted : (w : IterState) (reply_span : Option Span)
 same_start-after_shifted w None = record { haystack = refl; end = refl; anchored = refl; earliest = refl }
 same_start-after_shifted w (Some p) = record { haystack = refl; end = refl; anchored = refl; earliest = refl }
 
+-- If calls from good states are calls of another, as `shown`, and lead to good states, so do steps.
+pub step-shown : {S T X : Type 0} {span : X → Span} {asks : S → Search → Answer X → S → Type 0}
+    {asks' : T → Search → Answer X → T → Type 0} {s s' : S} {w w' : IterState} {a : Answer X} (shown : S → T)
+    (Good : S → Type 0)
+    → ((q : S) (t : Search) (b : Answer X) (q' : S) → SameButStart w.at t → Good q → asks q t b q'
+    → asks' (shown q) t b (shown q') × Good q')
+    → Good s → Advances span asks s w a s' w' → Advances span asks' (shown s) w a (shown s') w' × Good s'
+step-shown {span = span} {s = s} {s' = s'} {w = w} {a = a} shown Good acts good step =
+    let one = acts s w.at step.answer step.between (same_start-self w.at) good step.first in
+    elim (chosen (repeats w (answer_span span step.answer)) step.rest) [
+      | inl p ↦
+          let two = acts step.between (shifted w).at a s' (same_start-shifted w) one.1 p.1.0 in (
+            record { answer = step.answer; between = shown step.between; first = one.0; rest = rw p.0 (two.0, p.1.1) },
+            two.1,
+          )
+      | inr p ↦ (
+        record {
+          answer = step.answer;
+          between = shown step.between;
+          first = one.0;
+          rest = rw p.0 (p.1.0, ap shown p.1.1, p.1.2);
+        },
+        rw p.1.1 one.1,
+      )
+    ]
+
 -- A step from the state f and the iteration w.
 module _ {S X : Type 0} {accepts : S → Search → Type 0} {asks : S → Search → Answer X → S → Type 0} {span : X → Span}
     {f : S} where
@@ -243,12 +269,7 @@ module _ {S C T X Y : Type 0} (whole : WithCache S C → T) (calls : CallsOf T X
   pub step-whole : {s t : WithCache S C} {w v : IterState} {r : Answer X}
       → Advances calls.span asks_in s w r t v
       → Advances calls.span calls.asks (whole s) w r (whole t) v
-  step-whole {w = w} h = record {
-    answer = h.answer;
-    between = whole h.between;
-    first = h.first;
-    rest = elim (chosen (repeats w (answer_span calls.span h.answer)) h.rest) [
-      | inl p ↦ rw p.0 p.1
-      | inr p ↦ rw p.0 (p.1.0, ap whole p.1.1, p.1.2)
-    ];
-  }
+  step-whole {s = s} {t = t} {w = w} {v = v} {r = r} h =
+      let k : Advances calls.span calls.asks (whole s) w r (whole t) v × Unit {0} =
+      step-shown whole (λ q. Unit {0}) (λ q u b q' same any asked. (asked, tt)) tt h in
+      k.0

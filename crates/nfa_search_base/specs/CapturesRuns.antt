@@ -22,6 +22,20 @@ pub record CapturesInside (x : Search) (c : Captured) : Type 0 where
   pub slots : All (IsSlotInside x) c.slots
   pub spans : SpansInside x c
 
+-- captures whose rows and matches are those of x, from the first on
+module _ (nfa : Automaton) (kind : MatchKind) (earliest : Bool) (x : Search) where
+  abbrev pub RowsAreFirst : List Captured → Type 0
+  RowsAreFirst cs = AreFirstRows nfa kind earliest x (map row_of cs)
+
+  abbrev pub RowsAreAll : List Captured → Type 0
+  RowsAreAll cs = AreRows nfa kind earliest x (map row_of cs)
+
+  abbrev pub MatchesAreFirst : List Captured → Type 0
+  MatchesAreFirst cs = AreFirstMatches nfa kind earliest x (map match_in cs)
+
+  abbrev pub MatchesAreAll : List Captured → Type 0
+  MatchesAreAll cs = AreMatches nfa kind earliest x (map match_in cs)
+
 -- A call of the iterator `steps`.
 module _ {T : Type 0} (steps : T → Option (Result Captured SearchError) → T → Type 0) where
   module _ (tells : Search → Answer Row → Type 0) (x : Search) where
@@ -55,45 +69,31 @@ module _ {T : Type 0} (steps : T → Option (Result Captured SearchError) → T 
   CapturesMemory s = EachRunFrom steps s (λ p. All (λ item. IfErr item (λ error. error ≡ Memory)) p.items)
 
   module _ (nfa : Automaton) (kind : MatchKind) (earliest : Bool) (x : Search) where
-    -- rows that are the first rows of x, and all rows
-    abbrev HaveFirstRows : List Captured → Type 0
-    HaveFirstRows cs = AreFirstRows nfa kind earliest x (map row_of cs)
-
-    abbrev HaveRows : List Captured → Type 0
-    HaveRows cs = AreRows nfa kind earliest x (map row_of cs)
-
-    -- matches that are the first matches of x, and all matches
-    abbrev HaveFirstMatches : List Captured → Type 0
-    HaveFirstMatches cs = AreFirstMatches nfa kind earliest x (map match_in cs)
-
-    abbrev HaveMatches : List Captured → Type 0
-    HaveMatches cs = AreMatches nfa kind earliest x (map match_in cs)
-
     -- if the items are all `Ok`, their rows are the first rows of x, and all of them if the run reaches `None`
     abbrev pub RowsRun : T → Type 0
-    RowsRun = OksRun steps HaveFirstRows HaveRows
+    RowsRun = OksRun steps (RowsAreFirst nfa kind earliest x) (RowsAreAll nfa kind earliest x)
 
     -- if the items so far are all `Ok`, their rows are the first rows of x
     abbrev pub RowsFirst : T → Type 0
-    RowsFirst = OksFirst steps HaveFirstRows
+    RowsFirst = OksFirst steps (RowsAreFirst nfa kind earliest x)
 
     -- at `None`, their rows are all rows of x
     abbrev pub RowsAll : T → Type 0
-    RowsAll = OksAll steps HaveFirstRows HaveRows
+    RowsAll = OksAll steps (RowsAreFirst nfa kind earliest x) (RowsAreAll nfa kind earliest x)
 
     -- after an item, the rows so far with the row of that item are the first rows
     abbrev pub RowsNext : T → Type 0
-    RowsNext = OksNext steps HaveFirstRows
+    RowsNext = OksNext steps (RowsAreFirst nfa kind earliest x)
 
     -- the same for the matches
     abbrev pub MatchesInRun : T → Type 0
-    MatchesInRun = OksRun steps HaveFirstMatches HaveMatches
+    MatchesInRun = OksRun steps (MatchesAreFirst nfa kind earliest x) (MatchesAreAll nfa kind earliest x)
 
     abbrev pub MatchesInFirst : T → Type 0
-    MatchesInFirst = OksFirst steps HaveFirstMatches
+    MatchesInFirst = OksFirst steps (MatchesAreFirst nfa kind earliest x)
 
     abbrev pub MatchesInAll : T → Type 0
-    MatchesInAll = OksAll steps HaveFirstMatches HaveMatches
+    MatchesInAll = OksAll steps (MatchesAreFirst nfa kind earliest x) (MatchesAreAll nfa kind earliest x)
 
     abbrev pub MatchesInNext : T → Type 0
-    MatchesInNext = OksNext steps HaveFirstMatches
+    MatchesInNext = OksNext steps (MatchesAreFirst nfa kind earliest x)

@@ -61,13 +61,13 @@ module _ {T F : Type 0} (g : Mut F (Bor Input × Unit {0}) (WithOffset T)) where
 
   module _ (haystack : List ℕ) (moved : ℕ → Option Search) where
     -- p splits a codepoint, and the next call, on the search moved by n, left q
-    abbrev pub Follows : CallLeft T F → ℕ → CallLeft T F → Type 0
-    Follows p n q = IsInCharacter haystack p.answer × Answers p.finder (moved n) q.answer q.finder
+    abbrev pub SkipsOn : CallLeft T F → ℕ → CallLeft T F → Type 0
+    SkipsOn p n q = IsInCharacter haystack p.answer × Answers p.finder (moved n) q.answer q.finder
 
     -- From p on, which a call on the search moved by n left, these calls followed, and the last one left q.
     abbrev pub Reaches : ℕ → CallLeft T F → List (CallLeft T F) → CallLeft T F → Type 0
     Reaches n p [] q = q ≡ p
-    Reaches n p (c ∷ calls) q = Follows p (n + 1) c × Reaches (n + 1) c calls q
+    Reaches n p (c ∷ calls) q = SkipsOn p (n + 1) c × Reaches (n + 1) c calls q
 
     -- The finder may be called if the last answer splits a codepoint and the search can be moved once more. It then
     -- answers an offset in the span.

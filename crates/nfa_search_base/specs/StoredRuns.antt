@@ -46,46 +46,42 @@ module _ {A X F : Type 0} (view : A → X) (span : X → Span)
 
   module _ (f : F) (w : IterState) where
     -- the first items from w on, as f answers, and all items
-    abbrev First : List (Result A SearchError) → Type 0
-    First = AreFirstStoredMatches span (MayAnswer f w.at) view w
+    abbrev pub FirstFound : List (Result A SearchError) → Type 0
+    FirstFound = AreFirstStoredMatches span (MayAnswer f w.at) view w
 
-    abbrev Whole : List (Result A SearchError) → Type 0
-    Whole = AreAllStoredMatches span (MayAnswer f w.at) view w
-
-    abbrev FirstOks : List A → Type 0
-    FirstOks found = First (map (λ m. Ok m) found)
-
-    abbrev WholeOks : List A → Type 0
-    WholeOks found = Whole (map (λ m. Ok m) found)
+    abbrev pub AllFound : List (Result A SearchError) → Type 0
+    AllFound = AreAllStoredMatches span (MayAnswer f w.at) view w
 
     -- the items of each run of calls are the first items, and all of them if the run reaches `None`
     abbrev pub StoredMatchesRun : Steps F → Type 0
-    StoredMatchesRun = RunsGive stored_match_steps First Whole
+    StoredMatchesRun = RunsGive stored_match_steps FirstFound AllFound
 
     -- the items so far are the first items
     abbrev pub StoredMatchesFirst : Steps F → Type 0
-    StoredMatchesFirst = GivesFirst stored_match_steps First
+    StoredMatchesFirst = GivesFirst stored_match_steps FirstFound
 
     -- with the next item, they are too
     abbrev pub StoredMatchesNext : Steps F → Type 0
-    StoredMatchesNext = GivesNext stored_match_steps First
+    StoredMatchesNext = GivesNext stored_match_steps FirstFound
 
     -- at `None`, they are all items
     abbrev pub StoredMatchesAll : Steps F → Type 0
-    StoredMatchesAll = GivesAll stored_match_steps First Whole
+    StoredMatchesAll = GivesAll stored_match_steps FirstFound AllFound
 
     -- the same for the iterator whose finder never fails
     abbrev pub InfallibleMatchesRun : Steps F → Type 0
-    InfallibleMatchesRun = RunsGive infallible_match_steps FirstOks WholeOks
+    InfallibleMatchesRun = RunsGive infallible_match_steps (λ ms. FirstFound (map (λ m. Ok m) ms))
+        (λ ms. AllFound (map (λ m. Ok m) ms))
 
     abbrev pub InfallibleMatchesFirst : Steps F → Type 0
-    InfallibleMatchesFirst = GivesFirst infallible_match_steps FirstOks
+    InfallibleMatchesFirst = GivesFirst infallible_match_steps (λ ms. FirstFound (map (λ m. Ok m) ms))
 
     abbrev pub InfallibleMatchesNext : Steps F → Type 0
-    InfallibleMatchesNext = GivesNext infallible_match_steps FirstOks
+    InfallibleMatchesNext = GivesNext infallible_match_steps (λ ms. FirstFound (map (λ m. Ok m) ms))
 
     abbrev pub InfallibleMatchesAll : Steps F → Type 0
-    InfallibleMatchesAll = GivesAll infallible_match_steps FirstOks WholeOks
+    InfallibleMatchesAll = GivesAll infallible_match_steps (λ ms. FirstFound (map (λ m. Ok m) ms))
+        (λ ms. AllFound (map (λ m. Ok m) ms))
 
 -- A finder fills captures that it borrows.
 module _ {F : Type 0} (g : Mut F (Bor Input × (MutBor Captured × Unit {0}))
@@ -110,10 +106,10 @@ module _ {F : Type 0} (g : Mut F (Bor Input × (MutBor Captured × Unit {0}))
 
   module _ (c : WithCaptures F) (w : IterState) where
     -- the first captures from w on, as c answers, and all captures
-    abbrev FirstFilled : List (Result Captured SearchError) → Type 0
+    abbrev pub FirstFilled : List (Result Captured SearchError) → Type 0
     FirstFilled = AreFirstStoredCaptures (MayAnswerRow c w.at) w
 
-    abbrev AllFilled : List (Result Captured SearchError) → Type 0
+    abbrev pub AllFilled : List (Result Captured SearchError) → Type 0
     AllFilled = AreAllStoredCaptures (MayAnswerRow c w.at) w
 
     -- the items of each run of calls are the first captures, and all of them if the run reaches `None`
