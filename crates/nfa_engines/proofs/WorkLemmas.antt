@@ -250,8 +250,7 @@ module _ {S X : Type 0} {span : X → Span} {asks : S → Search → Answer X �
     few-found w s (Ok (Some m) ∷ rest) t h good steps =
         let one = stepped s w (Ok (Some m)) steps.0 steps.1 h good steps.2 in
         let more = few-found steps.1 steps.0 rest t one.onward.0 one.good steps.3 in
-        let fewer : ends_left steps.1 < ends_left w =
-        Advances-fewer span asks lies s w (Ok (Some m)) steps.0 steps.1 h.behind steps.2 in
+        let fewer : ends_left steps.1 < ends_left w = (Advances-fewer lies h.behind steps.2).1 in
         omega (arith, more, fewer)
     few-found w s (Ok None ∷ rest) t h good steps = rw steps.2 (omega arith)
     few-found w s (Err e ∷ rest) t h good steps = rw steps.2 (omega arith)

@@ -57,21 +57,22 @@ module _ {S R : Type 0} {accepts : S → Search → Type 0} {asks : S → Search
   }
 
 -- if an invariant of the state holds now and after each call, what it implies holds along the calls
-pub ServesOnAlong-by : {S R : Type 0} {accepts : S → Search → Type 0} {asks : S → Search → R → S → Type 0}
-    {P : Search → R → Type 0} (Inv : S → Type 0) (f : S) (s : Search) → Inv f
-    → ((q : S) (t : Search) → SameButStart s t → Inv q → accepts q t)
-    → ((q : S) (t : Search) (reply : R) (q' : S) → SameButStart s t → Inv q → asks q t reply q' → P t reply × Inv q')
-    → ServesOnAlong accepts asks SameButStart P f s
-ServesOnAlong-by {S} {R} {accepts} {asks} Inv f s now may says = record {
-  at = λ calls f' t leads same.
-      let inv : Inv f' = kept calls f f' now leads in
-      record {
-        callable = may f' t same inv;
-        replies = λ reply q asked. (says f' t reply q same inv asked).0;
-      };
-}
-  where
-    kept : (calls : List (Search × R)) (q q' : S) → Inv q → LeadsOn accepts asks SameButStart s q calls q' → Inv q'
-    kept [] q q' inv leads = rw (← leads) inv
-    kept (x ∷ calls) q q' inv leads =
-        kept calls leads.0 q' (says q x.0 x.1 leads.0 leads.1.0 inv leads.1.1).1 leads.2
+module _ {S R : Type 0} {accepts : S → Search → Type 0} {asks : S → Search → R → S → Type 0}
+    {P : Search → R → Type 0} where
+  pub ServesOnAlong-by : (Inv : S → Type 0) (f : S) (s : Search) → Inv f
+      → ((q : S) (t : Search) → SameButStart s t → Inv q → accepts q t)
+      → ((q : S) (t : Search) (reply : R) (q' : S) → SameButStart s t → Inv q → asks q t reply q' → P t reply × Inv q')
+      → ServesOnAlong accepts asks SameButStart P f s
+  ServesOnAlong-by Inv f s now may says = record {
+    at = λ calls f' t leads same.
+        let inv : Inv f' = kept calls f f' now leads in
+        record {
+          callable = may f' t same inv;
+          replies = λ reply q asked. (says f' t reply q same inv asked).0;
+        };
+  }
+    where
+      kept : (calls : List (Search × R)) (q q' : S) → Inv q → LeadsOn accepts asks SameButStart s q calls q' → Inv q'
+      kept [] q q' inv leads = rw (← leads) inv
+      kept (x ∷ calls) q q' inv leads =
+          kept calls leads.0 q' (says q x.0 x.1 leads.0 leads.1.0 inv leads.1.1).1 leads.2

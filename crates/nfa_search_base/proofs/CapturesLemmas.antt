@@ -7,11 +7,12 @@ use Rattle.nfa_paths.proofs.ExistenceLemmas.{search_answer-exists}
 use Rattle.nfa_paths.proofs.KnownLemmas.{match-unique}
 use Rattle.nfa_search_base.specs.WithCaptures.{Row, filled_answer, row_found, row_of, row_span, UpToRefusal}
 use Rattle.nfa_search_base.specs.CapturesLists.{IsRow, AnswersRow, AreFirstRows, AreRows}
-use Rattle.nfa_search_base.specs.Items.{Item, matches_in, greedy}
+use Rattle.nfa_search_base.specs.Finders.{answer_by}
+use Rattle.nfa_search_base.specs.Items.{Item, greedy}
 use Rattle.nfa_search_base.specs.Lists.{IsStep, Fails, FailsOrIsRefused, ItemsNext, ItemsLast, AnswersMatch, ComeNext, ComeLast, AreFirstMatches, AreMatches}
 use Rattle.nfa_search_base.specs.IterStates.{IterState, Answer, AnswerIsInside, fresh, after, answer_span, span_of}
 use Rattle.nfa_search_base.specs.declared.error.SearchError.{SearchError}
-use Rattle.nfa_search_base.proofs.ListLemmas.{as_items, last-matches, last-unique, match-lies, matches_in-as_items, never-fails, matches-unique, step-as, step-unique, items-greedy}
+use Rattle.nfa_search_base.proofs.ListLemmas.{as_items, items-greedy, last-matches, match-lies, matches-unique, never-fails, step-as, step-unique, values-unique}
 use Rattle.nfa_search_base.proofs.IterStateLemmas.{IsOrdered}
 use Rattle.nfa_paths.proofs.PatternLemmas.{length-slot_row}
 
@@ -39,10 +40,8 @@ module _ (nfa : Automaton) (kind : MatchKind) (earliest : Bool) where
   row-match t row h = slots-match t row.pattern row.slots (Some (row_found row)) h.answer h.count h.is_match
 
   -- a row as a match
-  abbrev pub as_match : Answer Row → Answer Found
-  as_match (Ok (Some row)) = Ok (Some (row_found row))
-  as_match (Ok None) = Ok None
-  as_match (Err e) = Err e
+  abbrev as_match : Answer Row → Answer Found
+  as_match = answer_by row_found
 
   -- a search that gives a row gives its match
   pub row-tells : (t : Search) (a : Answer Row) → tells t a → AnswersMatch nfa kind earliest t (as_match a)
@@ -100,8 +99,7 @@ module _ (nfa : Automaton) (kind : MatchKind) (earliest : Bool) where
   -- a step over rows is one over matches
   ok-match : (w : IterState) (o : Option Row) → IsStep row_span tells w (Ok o)
       → IsStep span_of (AnswersMatch nfa kind earliest) w (as_match (Ok o))
-  ok-match w o h = step-as row_span span_of tells (AnswersMatch nfa kind earliest) as_match span-as_match row-tells w
-      (Ok o) h
+  ok-match w o h = step-as (record { shown = as_match; same = span-as_match; so = row-tells }) h
 
   -- so rows are matches
   come-next : (rows : List Row) (w : IterState) → ItemsNext row_span tells (Fails row_span tells) w (as_items rows)
@@ -127,10 +125,7 @@ module _ (nfa : Automaton) (kind : MatchKind) (earliest : Bool) where
   -- a search has one list of rows at most
   pub rows-unique : (x : Search) (xs ys : List Row) → AreRows nfa kind earliest x xs → AreRows nfa kind earliest x ys
       → xs ≡ ys
-  rows-unique x xs ys h k =
-      sym (matches_in-as_items xs)
-      ∙ ap matches_in (last-unique row_span tells one-row (fresh x) (as_items xs) (as_items ys) h.come k.come)
-      ∙ matches_in-as_items ys
+  rows-unique x xs ys h k = values-unique row_span tells one-row (fresh x) xs ys h.come k.come
 
   -- and its matches are the list of the matches
   pub rows-list : (x : Search) (rows : List Row) (ms : List Found) → AreRows nfa kind earliest x rows

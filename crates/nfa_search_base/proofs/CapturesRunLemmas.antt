@@ -8,8 +8,8 @@ use Rattle.nfa_paths.proofs.InsideLemmas.{slots-within}
 use Rattle.nfa_search_base.specs.Asking.{SameButStart}
 use Rattle.nfa_search_base.specs.CapturesGiven.{CapturesGiven}
 use Rattle.nfa_search_base.specs.WithCaptures.{Row, row_found, row_of, row_span}
-use Rattle.nfa_search_base.specs.CapturesLists.{IsRow, AnswersRow, AreFirstRows, AreRows, AreFirstCaptures, AreAllCaptures, HasGroups}
-use Rattle.nfa_search_base.specs.CapturesRuns.{match_in, CapturesInside, CapturesMemory}
+use Rattle.nfa_search_base.specs.CapturesLists.{IsRow, AnswersRow, AreFirstCaptures, AreAllCaptures, HasGroups}
+use Rattle.nfa_search_base.specs.CapturesRuns.{match_in, CapturesInside, CapturesMemory, MatchesAreFirst, RowsAreFirst, MatchesAreAll, RowsAreAll}
 use Rattle.nfa_search_base.specs.Lists.{AreFirstMatches, AreMatches, IsStep, IsSlotInside}
 use Rattle.nfa_search_base.specs.Stored.{steps_iter_state}
 use Rattle.nfa_search_base.specs.IterStates.{IterState, Answer, fresh, repeats, shifted, answer_span}
@@ -21,7 +21,7 @@ use Rattle.nfa_search_base.proofs.EngineLemmas.{SearchesAs, SearchesOf, answers_
 use Rattle.nfa_search_base.proofs.ItemLemmas.{ItemsOf, StepsBy, copies_of, copy-of}
 use Rattle.nfa_search_base.proofs.ListLemmas.{matches-disjoint, step-lies}
 use Rattle.nfa_search_base.proofs.OkItemLemmas.{GoesOnIn, OkedAs, ResultsOf, next-clean, last-clean, oked-run, oked-first, oked-all, oked-next, values-hold, errors-memory}
-use Rattle.nfa_search_base.proofs.RunLemmas.{Begins, Given, given, items-given}
+use Rattle.nfa_search_base.proofs.RunLemmas.{Begins, Given, given-as, items-given}
 use Rattle.nfa_search_base.proofs.ShellLemmas.{ShellOf, same-items}
 use Rattle.nfa_search_base.proofs.SpanLemmas.{spans-inside}
 use Rattle.nfa_search_base.proofs.StepLemmas.{chosen}
@@ -156,11 +156,9 @@ module _ {E C S : Type 0} {searches : SearchesOf E C S Row} {captures : S → Ca
       Whole xs = AreAllCaptures rows.tells x xs
 
       caught : Given shell.calls First Whole s
-      caught =
-          let k = items-given copies (answers_as searches e x rows.tells rows.given) shell s begins in
-          given shell.calls First Whole s
-          (λ xs t ran. record { come = rw (same-items xs) at (k.first xs t ran) })
-          (λ xs t u ran st. record { come = rw (same-items xs) at (k.all xs t u ran st) })
+      caught = given-as shell.calls
+          (items-given copies (answers_as searches e x rows.tells rows.given) shell s begins)
+          (λ xs h. record { come = rw (same-items xs) at h }) (λ xs h. record { come = rw (same-items xs) at h })
 
       -- the only error is `Memory`, if no search has another
       pub captures-memory
@@ -171,25 +169,15 @@ module _ {E C S : Type 0} {searches : SearchesOf E C S Row} {captures : S → Ca
           errors-memory copies results_of x memory p.items (caught.run p seen from).0.come
 
       -- captures that are all `Ok`, as rows and as matches
-      abbrev FirstRows : List Captured → Type 0
-      FirstRows cs = AreFirstRows rows.nfa rows.kind rows.earliest x (map row_of cs)
-
-      abbrev WholeRows : List Captured → Type 0
-      WholeRows cs = AreRows rows.nfa rows.kind rows.earliest x (map row_of cs)
-
-      abbrev FirstMatches : List Captured → Type 0
-      FirstMatches cs = AreFirstMatches rows.nfa rows.kind rows.earliest x (map match_in cs)
-
-      abbrev WholeMatches : List Captured → Type 0
-      WholeMatches cs = AreMatches rows.nfa rows.kind rows.earliest x (map match_in cs)
-
-      as_rows : OkedAs First Whole FirstRows WholeRows
+      as_rows : OkedAs First Whole (RowsAreFirst rows.nfa rows.kind rows.earliest x)
+          (RowsAreAll rows.nfa rows.kind rows.earliest x)
       as_rows = record {
         first = λ cs h. record { come = next-clean copies results_of (fresh x) cs h.come };
         whole = λ cs h. record { come = last-clean copies results_of (fresh x) cs h.come };
       }
 
-      as_matches : OkedAs First Whole FirstMatches WholeMatches
+      as_matches : OkedAs First Whole (MatchesAreFirst rows.nfa rows.kind rows.earliest x)
+          (MatchesAreAll rows.nfa rows.kind rows.earliest x)
       as_matches = record {
         first = λ cs h. subst (λ (ms : List Found). AreFirstMatches rows.nfa rows.kind rows.earliest x ms)
             (found-rows cs)

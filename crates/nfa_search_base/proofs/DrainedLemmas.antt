@@ -1,12 +1,11 @@
 -- What an engine's steps over captures give, if they go on until `None` or an error.
-use Rattle.std.proofs.Common.{◌≡◌, ◌≤◌, Bool, refl, Option, None, ◌⊎◌, inl, inr, replicate, Result, Ok, Err, List, [], ◌∷◌, ◌++◌, map, All, IfErr, IfOk}
+use Rattle.std.proofs.Common.{◌≡◌, ◌≤◌, refl, None, ◌⊎◌, inl, inr, replicate, Result, Ok, Err, List, [], ◌∷◌, ◌++◌, map, All, IfErr, IfOk}
 use Rattle.std.proofs.iter.runs.Made.{run_of_exit, run_of_turn}
 use Rattle.std.proofs.lemmas.List.{length-replicate}
 use Rattle.std.proofs.lemmas.List.Elements.{All-cons, All-head, All-nil, All-tail}
-use Rattle.nfa_paths.specs.Common.{slot_count, Search, Captured, MatchKind, Automaton}
+use Rattle.nfa_paths.specs.Common.{slot_count, Search, Captured, Automaton}
 use Rattle.nfa_search_base.specs.WithCaptures.{Row, row_of}
 use Rattle.nfa_search_base.specs.CapturesLists.{AreRows, HasGroups}
-use Rattle.nfa_search_base.specs.CapturesGiven.{CapturesGiven}
 use Rattle.nfa_search_base.specs.CapturesRuns.{CapturesInside, match_in}
 use Rattle.nfa_search_base.specs.Drained.{CallsLead, DrainsAll, DrainsToError}
 use Rattle.nfa_search_base.specs.Lists.{AreDisjoint, AreMatches}
@@ -53,46 +52,38 @@ module _ {A C X Y : Type 0} {asks : WithCache A C → Search → Answer X → Wi
       (steps-keep kept items.span items.gives) in
       keep s lead.items lead.last lead.item t lead.ran lead.over
 
--- An iterator that gives the captures of x: the items of calls that go on to none are the captures of all matches of x,
--- which are in its span, one after the other.
-module _ {T : Type 0} {calls : T → Option (Result Captured SearchError) → T → Type 0} {nfa : Automaton}
-    {kind : MatchKind} {earliest : Bool} {tells : Search → Answer Row → Type 0} {x : Search} {s : T}
-    (gives : CapturesGiven calls nfa kind earliest tells x s) where
-  pub drained : (cs : List Captured) (t : T) → DrainsAll calls s cs t
-      → AreRows nfa kind earliest x (map row_of cs) × AreMatches nfa kind earliest x (map match_in cs)
-      × All (HasGroups nfa) cs × All (CapturesInside x) cs × AreDisjoint x None (map match_in cs)
-  drained cs t all =
-      let run = run_of_exit calls s (map Ok cs) all.last all.ran t all.over in
-      let items = run.3.0 in (
-        gives.all_rows (map Ok cs) all.last t cs all.ran all.over refl,
-        gives.all_matches (map Ok cs) all.last t cs all.ran all.over refl,
-        all_ok (HasGroups nfa) cs (rw items at (gives.groups run.0 run.0.seen run.1)),
-        all_ok (CapturesInside x) cs (rw items at (gives.inside run.0 run.0.seen run.1)),
-        matches-disjoint nfa kind earliest x (map match_in cs)
-            (gives.first_matches (map Ok cs) all.last cs all.ran refl),
-      )
-
-  -- and so if a result holds them
-  pub all-drained : {V : Type 0} (r : Result V SearchError) (items : V → List Captured) (t : T)
-      → IfOk r (λ v. DrainsAll calls s (items v) t)
-      → IfOk r (λ v. AreRows nfa kind earliest x (map row_of (items v)))
-      × IfOk r (λ v. AreMatches nfa kind earliest x (map match_in (items v)))
-      × IfOk r (λ v. All (HasGroups nfa) (items v)) × IfOk r (λ v. All (CapturesInside x) (items v))
-      × IfOk r (λ v. AreDisjoint x None (map match_in (items v)))
-  all-drained (Ok v) items t all = drained (items v) t all
-  all-drained (Err error) items t all = (tt, tt, tt, tt, tt)
-
 -- Steps of an engine that begin at x.
 module _ {E C S : Type 0} {searches : SearchesOf E C S Row} {captures : S → Captured} {e : E} {x : Search}
     (rows : RowsOf searches captures e x) {s : Steps S} (begins : Begins (SearchesAs searches e) x s) where
-  -- they give all captures of the NFA, if a result holds them
+  -- the items of calls that go on to none are the captures of all matches of x, which are in its span, one after the
+  -- other
+  drained : searches.May s.backend (steps_iter_state s).at → (cs : List Captured) (t : Steps S)
+      → DrainsAll (CapturesSteps rows) s cs t
+      → AreRows rows.nfa rows.kind rows.earliest x (map row_of cs)
+      × AreMatches rows.nfa rows.kind rows.earliest x (map match_in cs)
+      × All (HasGroups rows.nfa) cs × All (CapturesInside x) cs × AreDisjoint x None (map match_in cs)
+  drained may cs t all =
+      let steps = CapturesSteps rows in
+      let gives = captures-given rows (no_shell steps) s begins may in
+      let run = run_of_exit steps s (map Ok cs) all.last all.ran t all.over in
+      let items = run.3.0 in (
+        gives.all_rows (map Ok cs) all.last t cs all.ran all.over refl,
+        gives.all_matches (map Ok cs) all.last t cs all.ran all.over refl,
+        all_ok (HasGroups rows.nfa) cs (rw items at (gives.groups run.0 run.0.seen run.1)),
+        all_ok (CapturesInside x) cs (rw items at (gives.inside run.0 run.0.seen run.1)),
+        matches-disjoint rows.nfa rows.kind rows.earliest x (map match_in cs)
+            (gives.first_matches (map Ok cs) all.last cs all.ran refl),
+      )
+
+  -- so they are if a result holds them
   pub all-captures : {V : Type 0} → searches.May s.backend (steps_iter_state s).at → (r : Result V SearchError)
       (items : V → List Captured) (t : Steps S) → IfOk r (λ v. DrainsAll (CapturesSteps rows) s (items v) t)
       → IfOk r (λ v. AreRows rows.nfa rows.kind rows.earliest x (map row_of (items v)))
       × IfOk r (λ v. AreMatches rows.nfa rows.kind rows.earliest x (map match_in (items v)))
       × IfOk r (λ v. All (HasGroups rows.nfa) (items v)) × IfOk r (λ v. All (CapturesInside x) (items v))
       × IfOk r (λ v. AreDisjoint x None (map match_in (items v)))
-  all-captures may = all-drained (captures-given rows (no_shell (CapturesSteps rows)) s begins may)
+  all-captures may (Ok v) items t all = drained may (items v) t all
+  all-captures may (Err error) items t all = (tt, tt, tt, tt, tt)
 
   -- an error is that of memory, if no search has another
   pub error-captures

@@ -8,19 +8,19 @@ use Rattle.nfa_search_base.specs.Asking.{SameButStart}
 use Rattle.nfa_search_base.specs.IterStates.{IterState, Answer, answer_span, Advances, repeats, shifted, ends_left}
 use Rattle.nfa_search_base.specs.Items.{Item, item_by, item_of, items_left, step_answer, step_iter_state, items_from, items_within, greedy, greedy_unless}
 use Rattle.nfa_search_base.specs.Serving.{ServesOnAlong}
-use Rattle.nfa_search_base.specs.Steps.{TakesStep, GivesItem, ends_at}
+use Rattle.nfa_search_base.specs.Steps.{GivesItem, ends_at}
 use Rattle.nfa_search_base.specs.Stored.{steps_iter_state, takes_steps}
 use Rattle.nfa_search_base.specs.declared.error.SearchError.{SearchError}
 use Rattle.nfa_search_base.specs.declared.iter.steps.Steps.{Steps}
 use Rattle.nfa_search_base.proofs.AskingLemmas.{same_start-self, Along-call, Along-now}
-use Rattle.nfa_search_base.proofs.StepLemmas.{chosen, same_start-shifted, Along-turn}
+use Rattle.nfa_search_base.proofs.StepLemmas.{chosen, same_start-shifted, step-taken, Along-turn}
 
 -- If calls answer as h does, a step is the step of h.
 pub step-computes : {S X : Type 0} {accepts : S → Search → Type 0} {asks : S → Search → Answer X → S → Type 0}
-    {span : X → Span} {h : Search → Answer X} {s : S} {w : IterState} {r : Answer X} {s' : S} {w' : IterState}
+    {span : X → Span} {h : Search → Answer X} {s s' : S} {w w' : IterState} {r : Answer X}
     → ServesOnAlong accepts asks SameButStart (λ t a. a ≡ h t) s w.at → Advances span asks s w r s' w'
     → (r ≡ step_answer span h w) × (w' ≡ step_iter_state span h w)
-step-computes {span = span} {h = h} {w = w} {r = r} {s' = s'} serves step =
+step-computes {span = span} {h = h} {s' = s'} {w = w} {r = r} serves step =
     let e : step.answer ≡ h w.at =
     (Along-now serves (same_start-self w.at)).replies step.answer step.between step.first in
     elim (chosen (repeats w (answer_span span step.answer)) step.rest) [
@@ -49,10 +49,6 @@ module _ {S X Y : Type 0} (accepts : S → Search → Type 0) (asks : S → Sear
 
   abbrev Good : Steps S → Type 0
   Good s = ServesOnAlong accepts asks SameButStart (λ t a. a ≡ h t) s.backend (steps_iter_state s).at
-
-  turn : (s : Steps S) (r : Option (Result Y SearchError)) (t : Steps S) → s.done ≡ false → steps s r t
-      → TakesStep span asks (λ q. GivesItem view) s.backend (steps_iter_state s) r t.backend (steps_iter_state t) t.done
-  turn s r t d st = rw d at st
 
   ended : (s : Steps S) → s.done ≡ true → AlwaysYields steps (item_by view) s []
   ended s d = λ x j st. let k = rw d at st in let e : Some x ≡ None = k.0 in cc
@@ -87,11 +83,11 @@ module _ {S X Y : Type 0} (accepts : S → Search → Type 0) (asks : S → Sear
   within (suc n) s good d lt = by_answer (step_answer span h (steps_iter_state s)) s
       (items_within span h n (step_iter_state span h (steps_iter_state s)))
       (λ r t st.
-      let k = turn s r t d st in
+      let k = step-taken d st in
       let is = k.item ∙ ap item_of (step-computes good k.step).0 in
       (is, k.ends ∙ ends-by view r ∙ ap ends_at is))
       (λ r t going st.
-      let k = turn s (Some r) t d st in
+      let k = step-taken d st in
       let less : items_left t.done (steps_iter_state t) < items_left false (steps_iter_state s) = k.fewer in
       let fewer : ends_left (steps_iter_state t) + 1 < ends_left (steps_iter_state s) + 1 = rw going at less in
       subst (λ (w : IterState). AlwaysYields steps (item_by view) t (items_within span h n w))

@@ -1,21 +1,20 @@
 -- What the calls of an iterator leave of what its searches change, seen as less than the iterator keeps.
-use Rattle.std.proofs.Common.{◌≡◌, ◌∙◌, true, false, refl, ap, inl, inr, Option, None, Some, Result, Ok, Err, List, [], ◌∷◌, map, IfOk}
+use Rattle.std.proofs.Common.{◌≡◌, ◌∙◌, true, false, refl, sym, inl, inr, Option, None, Some, Result, Ok, Err, List, [], ◌∷◌, map, IfOk}
 use Rattle.std.specs.Iterator.{Yields}
 use Rattle.std.specs.Option.{option_map}
 use Rattle.nfa_paths.specs.Common.{found_of, Search, Match}
 use Rattle.nfa_search_base.specs.Drained.{CallsLead, DrainsAll}
 use Rattle.nfa_search_base.specs.Leaving.{DoesSearch, FindsLeave, FindsLeaveAtEnd, Leaves, LeavesAtEnd, StepsLead, answers_to_end}
 use Rattle.nfa_search_base.specs.Runs.{GivesKept}
-use Rattle.nfa_search_base.specs.Steps.{TakesStep}
 use Rattle.nfa_search_base.specs.Stored.{steps_iter_state}
-use Rattle.nfa_search_base.specs.IterStates.{Advances, Answer, IterState, answer_span, repeats, shifted, span_of}
+use Rattle.nfa_search_base.specs.IterStates.{Advances, Answer, IterState, span_of}
 use Rattle.nfa_search_base.specs.declared.error.SearchError.{SearchError}
 use Rattle.nfa_search_base.specs.declared.iter.steps.Steps.{Steps}
 use Rattle.nfa_search_base.proofs.EngineLemmas.{FinderOf, SearchesAs, SearchesOf, finds_by, searches-as}
 use Rattle.nfa_search_base.proofs.ItemLemmas.{ItemsOf, StepsBy, items_as}
-use Rattle.nfa_search_base.proofs.RunLemmas.{Begins}
+use Rattle.nfa_search_base.proofs.RunLemmas.{Begins, no-more}
 use Rattle.nfa_search_base.proofs.ShellLemmas.{ShellOf, yields-inner}
-use Rattle.nfa_search_base.proofs.StepLemmas.{chosen}
+use Rattle.nfa_search_base.proofs.StepLemmas.{chosen, step-shown, step-taken}
 
 -- The engine e searches.
 module _ {E C S X Y : Type 0} (searches : SearchesOf E C S X) (items : ItemsOf S X Y) (e : E) where
@@ -46,89 +45,44 @@ module _ {E C S X Y : Type 0} (searches : SearchesOf E C S X) (items : ItemsOf S
   says : (s : S) (a : Answer X) (y : Y) → items.gives s a (Some (Ok y)) → a ≡ Ok (Some (items.view y))
   says s a y gives = items.says (λ b. Unit {0}) s a (Some (Ok y)) gives tt
 
-  advance-cache : (s : S) (w : IterState) (a : Answer X) (s' : S) (w' : IterState) → SearchesAs searches e s
+  advance-cache : {s s' : S} {w w' : IterState} {a : Answer X} → SearchesAs searches e s
       → Advances items.span searches.asks s w a s' w'
       → Advances items.span Does (searches.cache s) w a (searches.cache s') w' × SearchesAs searches e s'
-  advance-cache s w a s' w' good step =
-      let one = acts s w.at step.answer step.between good step.first in
-      elim (chosen (repeats w (answer_span items.span step.answer)) step.rest) [
-        | inl p ↦
-            let two = acts step.between (shifted w).at a s' one.1 p.1.0 in (
-              record {
-                answer = step.answer;
-                between = searches.cache step.between;
-                first = one.0;
-                rest = rw p.0 (two.0, p.1.1);
-              },
-              two.1,
-            )
-        | inr p ↦ (
-          record {
-            answer = step.answer;
-            between = searches.cache step.between;
-            first = one.0;
-            rest = rw p.0 (p.1.0, ap searches.cache p.1.1, p.1.2);
-          },
-          rw p.1.1 one.1,
-        )
-      ]
+  advance-cache = step-shown searches.cache (SearchesAs searches e) (λ q t b q' same. acts q t b q')
 
-  -- a call of an iterator that has ended changes nothing
-  still : (s u : Steps S) (r : Option (Result Y SearchError)) → s.done ≡ true → steps s r u → u ≡ s
-  still s u r d st = let k = rw d at st in rw (← d) at k.1
-
-  all-still : (xs : List (Result Y SearchError)) (s t u : Steps S) (r : Option (Result Y SearchError))
-      → s.done ≡ true → Yields steps s xs t → steps t r u → u ≡ s
-  all-still [] s t u r d ran st = still s u r d (rw ran st)
-  all-still (y ∷ ys) s t u r d ran st =
-      let same : ran.0 ≡ s = still s ran.0 (Some y) d ran.1 in
-      all-still ys ran.0 t u r (rw same d) ran.2 st ∙ same
-
-  -- any other call is a step
-  turn : (s : Steps S) (r : Option (Result Y SearchError)) (u : Steps S) → s.done ≡ false → steps s r u
-      → TakesStep items.span searches.asks items.gives s.backend (steps_iter_state s) r u.backend (steps_iter_state u)
-      u.done
-  turn s r u going st = rw going at st
-
-  only : (w : IterState) (a : Answer X) (p q : C) (v : IterState) → Advances items.span Does p w a q v
-      → Leads w p (a ∷ []) q
-  only w (Ok (Some x)) p q v step = (q, v, step, refl)
-  only w (Ok None) p q v step = (v, step, refl)
-  only w (Err error) p q v step = (v, step, refl)
+  only : {w v : IterState} {p q : C} (a : Answer X) → Advances items.span Does p w a q v → Leads w p (a ∷ []) q
+  only {v = v} {q = q} (Ok (Some x)) step = (q, v, step, refl)
+  only {v = v} (Ok None) step = (v, step, refl)
+  only {v = v} (Err error) step = (v, step, refl)
 
   -- the iterator has not ended
   abbrev pub IsGoing : Steps S → Type 0
   IsGoing s = (s.done ≡ false) × SearchesAs searches e s.backend
-
-  advance-in : (s : Steps S) (on : IsGoing s) (r : Option (Result Y SearchError)) (u : Steps S) (st : steps s r u)
-      → Advances items.span Does (cache_in s) (steps_iter_state s) (turn s r u on.0 st).answer (cache_in u)
-      (steps_iter_state u) × SearchesAs searches e u.backend
-  advance-in s on r u st =
-      let one = turn s r u on.0 st in
-      advance-cache s.backend (steps_iter_state s) one.answer u.backend (steps_iter_state u) on.1 one.step
 
   from : (xs : List (Result Y SearchError)) (s t u : Steps S) (r : Option (Result Y SearchError)) → IsGoing s
       → Yields steps s xs t → steps t r u
       → (first : Answer X) × (rest : List (Answer X)) × Leads (steps_iter_state s) (cache_in s) (first ∷ rest)
       (cache_in u)
   from [] s t u r on ran st =
-      let a = (turn s r u on.0 (rw ran st)).answer in
-      let k = advance-in s on r u (rw ran st) in
-      (a, [], only (steps_iter_state s) a (cache_in s) (cache_in u) (steps_iter_state u) k.0)
+      let last : steps s r u = rw ran st in
+      let one = step-taken on.0 last in
+      (one.answer, [], only one.answer (advance-cache on.1 one.step).0)
   from (Ok y ∷ xs) s t u r on ran st =
       let q = ran.0 in
-      let one = turn s (Some (Ok y)) q on.0 ran.1 in
-      let k = advance-in s on (Some (Ok y)) q ran.1 in
+      let one = step-taken on.0 ran.1 in
+      let k = advance-cache on.1 one.step in
       let rest = from xs q t u r (one.ends, k.1) ran.2 st in
       let is : one.answer ≡ Ok (Some (items.view y)) = says q.backend one.answer y one.item in
       (Ok (Some (items.view y)), rest.0 ∷ rest.1, (cache_in q, steps_iter_state q, rw is at k.0, rest.2))
   from (Err error ∷ xs) s t u r on ran st =
       let q = ran.0 in
-      let one = turn s (Some (Err error)) q on.0 ran.1 in
-      let k = advance-in s on (Some (Err error)) q ran.1 in
-      let same : u ≡ q = all-still xs q t u r one.ends ran.2 st in
-      let leads = only (steps_iter_state s) one.answer (cache_in s) (cache_in q) (steps_iter_state q) k.0 in
-      (one.answer, [], rw same leads)
+      let one = step-taken on.0 ran.1 in
+      let over = no-more items searches.asks xs q t one.ends ran.2 in
+      let same : u ≡ q = elim (chosen q.done (rw over.1 at st)) [
+        | inl p ↦ p.1.1
+        | inr p ↦ let never : true ≡ false = sym one.ends ∙ p.0 in cc
+      ] in
+      (one.answer, [], rw same (only one.answer (advance-cache on.1 one.step).0))
 
   -- what calls leave of an iterator that goes on
   pub calls-leave : (s u : Steps S) → IsGoing s → CallsLead steps s u
@@ -140,13 +94,14 @@ module _ {E C S X Y : Type 0} (searches : SearchesOf E C S X) (items : ItemsOf S
   pub all-leave : (ys : List Y) (s t u : Steps S) → IsGoing s → Yields steps s (map Ok ys) t → steps t None u
       → Leads (steps_iter_state s) (cache_in s) (answers_to_end (map items.view ys)) (cache_in u)
   all-leave [] s t u on ran st =
-      let one = turn s None u on.0 (rw ran st) in
+      let last : steps s None u = rw ran st in
+      let one = step-taken on.0 last in
       let is : one.answer ≡ Ok None = items.says (λ b. Unit {0}) u.backend one.answer None one.item tt in
-      (steps_iter_state u, rw is at (advance-in s on None u (rw ran st)).0, refl)
+      (steps_iter_state u, rw is at (advance-cache on.1 one.step).0, refl)
   all-leave (y ∷ ys) s t u on ran st =
       let q = ran.0 in
-      let one = turn s (Some (Ok y)) q on.0 ran.1 in
-      let k = advance-in s on (Some (Ok y)) q ran.1 in
+      let one = step-taken on.0 ran.1 in
+      let k = advance-cache on.1 one.step in
       let is : one.answer ≡ Ok (Some (items.view y)) = says q.backend one.answer y one.item in
       (cache_in q, steps_iter_state q, rw is at k.0, all-leave ys q t u (one.ends, k.1) ran.2 st)
 
@@ -214,25 +169,25 @@ module _ {E C S X Y T R : Type 0} (searches : SearchesOf E C S X) (items : Items
 
 module _ {E A C T R : Type 0} (finder : FinderOf E A C) {item : R → Result Match SearchError}
     (shell : ShellOf (StepsBy (items_as span_of found_of) (finds_by finder).asks) item T) (e : E) {x : Search} (s : T)
-    (begins : Begins (SearchesAs (finds_by finder) e) x (shell.inner s))
-    (known : (finder.shown (shell.inner s).backend.backend).known ≡ None) where
-  -- an iteration that knew nothing leaves the cache of its searches
-  pub finds-leave : GivesKept shell.calls (λ p q. FindsLeave (finder.engine.Tells e) (finder.engine.Work e)
-      finder.engine.scans x (shell.inner p).backend.cache (shell.inner q).backend.cache) s
-  finds-leave = λ xs t r u ran st.
-      let leaves = shell-leaves (finds_by finder) (items_as span_of found_of) shell e s begins in
-      record {
-        known = option_map found_of (finder.shown (shell.inner u).backend.backend).known;
-        left = rw known at (leaves xs t r u ran st);
-      }
+    (begins : Begins (SearchesAs (finds_by finder) e) x (shell.inner s)) where
+  -- the cache, and the match that is known, in an iterator
+  abbrev cache_of : T → C
+  cache_of q = (shell.inner q).backend.cache
 
-  pub finds-to_end : (xs : List R) (ms : List Match) (t u : T) → map item xs ≡ map (λ m. Ok m) ms
+  abbrev known_to : T → Option Match
+  known_to q = (finder.shown (shell.inner q).backend.backend).known
+
+  -- an iteration that knew nothing leaves the cache of its searches
+  pub finds-leave : known_to s ≡ None → GivesKept shell.calls (λ p q. FindsLeave (finder.engine.Tells e)
+      (finder.engine.Work e) finder.engine.scans x (cache_of p) (cache_of q)) s
+  finds-leave known = λ xs t r u ran st.
+      let leaves = shell-leaves (finds_by finder) (items_as span_of found_of) shell e s begins in
+      record { known = option_map found_of (known_to u); left = rw known at (leaves xs t r u ran st) }
+
+  pub finds-to_end : known_to s ≡ None → (xs : List R) (ms : List Match) (t u : T) → map item xs ≡ map (λ m. Ok m) ms
       → Yields shell.calls s xs t → shell.calls t None u
       → FindsLeaveAtEnd (finder.engine.Tells e) (finder.engine.Work e) finder.engine.scans x (map found_of ms)
-      (shell.inner s).backend.cache (shell.inner u).backend.cache
-  finds-to_end xs ms t u same ran st =
+      (cache_of s) (cache_of u)
+  finds-to_end known xs ms t u same ran st =
       let to_end = shell-to_end (finds_by finder) (items_as span_of found_of) shell e s begins in
-      record {
-        known = option_map found_of (finder.shown (shell.inner u).backend.backend).known;
-        left = rw known at (to_end xs ms t u same ran st);
-      }
+      record { known = option_map found_of (known_to u); left = rw known at (to_end xs ms t u same ran st) }

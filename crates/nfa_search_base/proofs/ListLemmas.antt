@@ -14,7 +14,7 @@ use Rattle.nfa_search_base.specs.Lists.{IsStep, Fails, ItemsNext, ItemsLast, Are
 use Rattle.nfa_search_base.specs.IterStates.{IterState, Answer, Advances, AnswerIsInside, fresh, repeats, shifted, after, answer_span, span_of, ends_left}
 use Rattle.nfa_search_base.specs.declared.error.SearchError.{SearchError}
 use Rattle.nfa_search_base.proofs.AskingLemmas.{same_start-self, same_start-then}
-use Rattle.nfa_search_base.proofs.StepLemmas.{chosen, same_start-after, same_start-shifted, Advances-rises, Advances-fewer}
+use Rattle.nfa_search_base.proofs.StepLemmas.{chosen, same_start-after, same_start-shifted, Advances-fewer}
 use Rattle.nfa_search_base.proofs.IterStateLemmas.{IsOrdered}
 use Rattle.nfa_paths.proofs.OptionLemmas.{same_some}
 
@@ -24,6 +24,12 @@ behind-none n = λ e is. let never : None ≡ Some e = is in cc
 
 behind-after : (end : ℕ) → EndsBy (Some end) end
 behind-after end = λ e is. let same : end ≡ e = same_some end e is in omega (arith, same)
+
+-- an iteration over x has come to w
+pub record IsOnward (x : Search) (w : IterState) : Type 0 where
+  pub from : x.start ≤ w.at.start
+  pub to : w.at.end ≡ x.end
+  pub behind : EndsBy w.last w.at.start
 
 -- a list of matches as items
 abbrev pub as_items : {X : Type 0} → List X → List (Item X)
@@ -51,25 +57,25 @@ as_items-rest {X} (x ∷ xs) (y ∷ ys) more e =
     let rest = as_items-rest xs ys more tail in
     (rest.0, ap (λ (z : X). z ∷ ys) same ∙ ap (λ (l : List X). x ∷ l) rest.1)
 
--- If answers of `under` are answers of `tells` as f shows them, so are the steps.
-module _ {X Y : Type 0} (span : X → Span) (span' : Y → Span) (under : Search → Answer X → Type 0)
-    (tells : Search → Answer Y → Type 0) (f : Answer X → Answer Y)
-    (same : (a : Answer X) → answer_span span a ≡ answer_span span' (f a))
-    (so : (t : Search) (a : Answer X) → under t a → tells t (f a)) where
-  pub step-as : (w : IterState) (a : Answer X) → IsStep span under w a → IsStep span' tells w (f a)
-  step-as w a h = record {
-    first = f h.first;
-    is_first = so w.at h.first h.is_first;
-    rest = of (repeats w (answer_span span h.first)) (repeats w (answer_span span' (f h.first)))
-        (ap (repeats w) (same h.first)) h.rest;
-  }
-    where
-      of : (b c : Bool) → b ≡ c → MatchBool b (under (shifted w).at a) (a ≡ h.first)
-          → MatchBool c (tells (shifted w).at (f a)) (f a ≡ f h.first)
-      of true true e k = so (shifted w).at a k
-      of true false e k = cc
-      of false true e k = cc
-      of false false e k = ap f k
+-- Answers of `under`, as they are shown, are answers of `tells`.
+pub record ShownAs {X Y : Type 0} (span : X → Span) (span' : Y → Span) (under : Search → Answer X → Type 0)
+    (tells : Search → Answer Y → Type 0) : Type 0 where
+  pub shown : Answer X → Answer Y
+  pub same : (a : Answer X) → answer_span span a ≡ answer_span span' (shown a)
+  pub so : (t : Search) (a : Answer X) → under t a → tells t (shown a)
+
+-- so are the steps
+pub step-as : {X Y : Type 0} {span : X → Span} {span' : Y → Span} {under : Search → Answer X → Type 0}
+    {tells : Search → Answer Y → Type 0} {w : IterState} {a : Answer X} (shows : ShownAs span span' under tells)
+    → IsStep span under w a → IsStep span' tells w (shows.shown a)
+step-as {span = span} {w = w} {a = a} shows h = record {
+  first = shows.shown h.first;
+  is_first = shows.so w.at h.first h.is_first;
+  rest = rw (← shows.same h.first) (elim (chosen (repeats w (answer_span span h.first)) h.rest) [
+    | inl p ↦ rw p.0 (shows.so (shifted w).at a p.1)
+    | inr p ↦ rw p.0 (ap shows.shown p.1)
+  ]);
+}
 
 -- lists that go on as each other are equal
 none-left : {A : Type 0} (xs ys more less : List A) → ys ≡ xs ++ more → xs ≡ ys ++ less → xs ≡ ys
@@ -178,15 +184,11 @@ module _ {X : Type 0} (span : X → Span) (tells : Search → Answer X → Type 
       answer = h.first;
       between = tt;
       first = h.is_first;
-      rest = of tt (repeats w (answer_span span h.first)) h.rest;
+      rest = elim (chosen (repeats w (answer_span span h.first)) h.rest) [
+        | inl p ↦ rw p.0 (p.1, refl)
+        | inr p ↦ rw p.0 (p.1, refl, refl)
+      ];
     }
-      where
-        of : (u : Unit {0}) (again : Bool)
-            → MatchBool again (tells (shifted w).at (Ok (Some x))) (Ok (Some x) ≡ h.first)
-            → MatchBool again (tells (shifted w).at (Ok (Some x)) × (past w x ≡ after (shifted w) (Some (span x))))
-            ((Ok (Some x) ≡ h.first) × (u ≡ u) × (past w x ≡ past w x))
-        of u true k = (k, refl)
-        of u false k = (k, refl, refl)
 
     -- the match of a step is in the span of its search
     pub step-lies : (w : IterState) (x : X) → Step w (Ok (Some x))
@@ -200,36 +202,34 @@ module _ {X : Type 0} (span : X → Span) (tells : Search → Answer X → Type 
           (k.0.0, k.1 (span x) refl, k.0.1)
     ]
 
-    -- it comes after the last end
-    pub step-behind : (w : IterState) (x : X) → EndsBy w.last w.at.start → Step w (Ok (Some x))
-        → ForSome w.last (λ e. (e ≤ (span x).start) × (e < (span x).end))
-    step-behind w x behind h =
-        Advances-rises span asks (λ s t a s' k. lies t a k) tt w (Ok (Some x)) tt (past w x) behind (advances w x h)
-
-    -- and leaves fewer ends
-    pub step-fewer : (w : IterState) (x : X) → EndsBy w.last w.at.start → Step w (Ok (Some x))
-        → ends_left (past w x) < ends_left w
-    step-fewer w x behind h =
-        Advances-fewer span asks (λ s t a s' k. lies t a k) tt w (Ok (Some x)) tt (past w x) behind (advances w x h)
+    -- it comes after the last end, and leaves fewer ends
+    step-fewer : (w : IterState) (x : X) → EndsBy w.last w.at.start → Step w (Ok (Some x))
+        → ForSome w.last (λ e. (e ≤ (span x).start) × (e < (span x).end)) × (ends_left (past w x) < ends_left w)
+    step-fewer w x behind h = Advances-fewer (λ s t a s' k. lies t a k) behind (advances w x h)
 
     -- so the matches are in the span of any search that began before, in order and without overlap
-    pub spans-disjoint : (ends : IterState → SearchError → Type 0) (x : Search) (w : IterState) (items : List (Item X))
-        → x.start ≤ w.at.start → w.at.end ≡ x.end → EndsBy w.last w.at.start → ItemsNext span tells ends w items
-        → AreSpansDisjoint x w.last (map span (matches_in items))
-    spans-disjoint ends x w [] from to behind h = tt
-    spans-disjoint ends x w (Err e ∷ items) from to behind h = rw h.1 tt
-    spans-disjoint ends x w (Ok m ∷ items) from to behind h =
-        let k = step-lies w m h.0 in (
-          (omega (arith, k.0, from), k.1, omega (arith, k.2, to)),
-          step-behind w m behind h.0,
-          spans-disjoint ends x (past w m) items (omega (arith, k.0, k.1, from)) to (behind-after (span m).end) h.1,
+    pub spans-disjoint : (ends : IterState → SearchError → Type 0) {x : Search} {w : IterState} (items : List (Item X))
+        → IsOnward x w → ItemsNext span tells ends w items → AreSpansDisjoint x w.last (map span (matches_in items))
+    spans-disjoint ends [] on h = tt
+    spans-disjoint ends (Err e ∷ items) on h = rw h.1 tt
+    spans-disjoint ends {x = x} {w = w} (Ok m ∷ items) on h =
+        let k = step-lies w m h.0 in
+        let onward : IsOnward x (past w m) = record {
+          from = omega (arith, k.0, k.1, on.from);
+          to = on.to;
+          behind = behind-after (span m).end;
+        } in (
+          (omega (arith, k.0, on.from), k.1, omega (arith, k.2, on.to)),
+          (step-fewer w m on.behind h.0).0,
+          spans-disjoint ends {w = past w m} items onward h.1,
         )
 
     -- the same for all matches of a search
     pub fresh-disjoint : (ends : IterState → SearchError → Type 0) (x : Search) (items : List (Item X))
         → ItemsNext span tells ends (fresh x) items → AreSpansDisjoint x None (map span (matches_in items))
     fresh-disjoint ends x items h =
-        let disjoint = spans-disjoint ends x (fresh x) items in disjoint (omega arith) refl (behind-none x.start) h
+        let on : IsOnward x (fresh x) = record { from = omega arith; to = refl; behind = behind-none x.start } in
+        spans-disjoint ends items on h
 
     -- If h gives the answers of a search, the greedy walk by h gives the list.
     module _ (h : Search → Answer X) where
@@ -259,7 +259,7 @@ module _ {X : Type 0} (span : X → Span) (tells : Search → Answer X → Type 
               → Last (past w x) (items_within span h n (past w x))
           onward rec a step x e =
               let fewer = step-fewer w x behind (rw e at step) in
-              rec (past w x) (omega (arith, fewer)) (behind-after (span x).end)
+              rec (past w x) (omega (arith, fewer.1)) (behind-after (span x).end)
               (λ t alike. gives t (same_start-then w.at (past w x).at t (same_start-after w (Some (span x))) alike))
 
           of : Rest → (again : Bool) → repeats w (answer_span span (h w.at)) ≡ again
@@ -298,17 +298,6 @@ AreDisjoint-spans : (x : Search) (last : Option ℕ) (ms : List Found) → AreSp
 AreDisjoint-spans x last [] h = tt
 AreDisjoint-spans x last (m ∷ ms) h =
     (record { from = h.0.0; ordered = h.0.1; to = h.0.2 }, h.1, AreDisjoint-spans x (Some m.end) ms h.2)
-
--- The matches of a search are in its span, so the matches of an iteration do not overlap.
-module _ (tells : Search → Answer Found → Type 0)
-    (lies : (t : Search) (a : Answer Found) → tells t a → AnswerIsInside span_of t a
-    × IsOrdered (answer_span span_of a))
-    (ends : IterState → SearchError → Type 0) where
-  -- the matches among the first items of a search are in its span, in order and without overlap
-  pub items-disjoint : (x : Search) (items : List (Item Found)) → ItemsNext span_of tells ends (fresh x) items
-      → AreDisjoint x None (matches_in items)
-  items-disjoint x items h = AreDisjoint-spans x None (matches_in items)
-      (fresh-disjoint span_of tells lies ends x items h)
 
 module _ (nfa : Automaton) (kind : MatchKind) (earliest : Bool) where
   abbrev tells : Search → Answer Found → Type 0
@@ -371,4 +360,5 @@ module _ (nfa : Automaton) (kind : MatchKind) (earliest : Bool) where
   pub matches-disjoint : (x : Search) (ms : List Found) → AreFirstMatches nfa kind earliest x ms → AreDisjoint x None ms
   matches-disjoint x ms h =
       subst (λ (l : List Found). AreDisjoint x None l) (matches_in-as_items ms)
-      (items-disjoint tells match-lies (Fails span_of tells) x (as_items ms) h.come)
+      (AreDisjoint-spans x None (matches_in (as_items ms))
+      (fresh-disjoint span_of tells match-lies (Fails span_of tells) x (as_items ms) h.come))

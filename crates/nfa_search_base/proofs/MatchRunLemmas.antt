@@ -10,7 +10,7 @@ use Rattle.nfa_search_base.specs.Runs.{RunsGive}
 use Rattle.nfa_search_base.specs.IterStates.{span_of}
 use Rattle.nfa_search_base.proofs.ItemLemmas.{StepsBy, items_as}
 use Rattle.nfa_search_base.proofs.ListLemmas.{items-view, matches-disjoint, matches-rest, matches-unique}
-use Rattle.nfa_search_base.proofs.RunLemmas.{AnswersOf, Begins, Given, given, items-given}
+use Rattle.nfa_search_base.proofs.RunLemmas.{AnswersOf, Begins, Given, given-as, items-given}
 use Rattle.nfa_search_base.proofs.ShellLemmas.{ShellOf}
 
 -- If the rest of a list follows first values, and there is one list, the items of each run are its first elements.
@@ -51,11 +51,9 @@ module _ (nfa : Automaton) (kind : MatchKind) {S T : Type 0} {x : Search}
     (begins : Begins answers.Good x (shell.inner s)) where
   -- its items are those of x
   found : Given shell.calls (AreFirst nfa kind x) (AreAll nfa kind x) s
-  found =
-      let k = items-given (items_as span_of found_of) answers shell s begins in
-      given shell.calls (AreFirst nfa kind x) (AreAll nfa kind x) s
-      (λ xs t ran. record { come = rw (items-view found_of xs) at (k.first xs t ran) })
-      (λ xs t u ran st. record { come = rw (items-view found_of xs) at (k.all xs t u ran st) })
+  found = given-as shell.calls (items-given (items_as span_of found_of) answers shell s begins)
+      (λ xs h. record { come = rw (items-view found_of xs) at h })
+      (λ xs h. record { come = rw (items-view found_of xs) at h })
 
   -- all that its calls give
   pub matches-given : MatchesGiven nfa kind x shell.calls s

@@ -17,81 +17,72 @@ use Rattle.nfa_search_base.specs.declared.iter.steps.Steps.{Steps}
 use Rattle.nfa_search_base.proofs.AskingLemmas.{same_start-self}
 use Rattle.nfa_search_base.proofs.IterStateLemmas.{IsOrdered}
 use Rattle.nfa_search_base.proofs.ItemLemmas.{EndsAt, ItemsOf, Last, Next, StepsBy}
-use Rattle.nfa_search_base.proofs.ListLemmas.{spans-disjoint, step-as}
-use Rattle.nfa_search_base.proofs.RunLemmas.{AnswersOf, GoesOn, first-from, all-from}
+use Rattle.nfa_search_base.proofs.ListLemmas.{IsOnward, spans-disjoint, step-as}
+use Rattle.nfa_search_base.proofs.RunLemmas.{AnswersOf, Given, given-at}
 
-module _ {S X Y : Type 0} (accepts : S → Search → Type 0) (asks : S → Search → Answer X → S → Type 0)
-    (items : ItemsOf S X Y) where
-  -- calls on searches like x led from f to q
-  Reached : S → Search → S → Type 0
-  Reached f x q = (calls : List (Search × Answer X)) × LeadsOn accepts asks SameButStart x f calls q
+-- What an iteration that keeps its finder asks: when the finder may be called, a call, and the items of the answers.
+pub record AskerOf (S X Y : Type 0) : Type 1 where
+  pub accepts : S → Search → Type 0
+  pub asks : S → Search → Answer X → S → Type 0
+  pub items : ItemsOf S X Y
 
-  acts : (f : S) (x : Search) (q : S) (t : Search) (a : Answer X) (q' : S) → SameButStart x t
-      → Reached f x q → asks q t a q' → MayReply accepts asks SameButStart f x t a × Reached f x q'
-  unfolding Reached
-  acts f x q t a q' same reached found = (
-    record { calls = reached.0; between = q; left = q'; leads = reached.1; same = same; asked = found },
-    (
-      reached.0 ++ (t, a) ∷ [],
-      FoldsTo-push (λ p c r. SameButStart x c.0 × asks p c.0 c.1 r) f reached.0 q (t, a) q' reached.1 (same, found),
-    ),
-  )
+module _ {S X Y : Type 0} (asker : AskerOf S X Y) where
+  open asker use {accepts, asks, items}
 
-  -- what the finder of an iterator may answer
-  abbrev May : Steps S → Search → Answer X → Type 0
-  May s = MayReply accepts asks SameButStart s.backend (steps_iter_state s).at
+  module _ (f : S) (x : Search) where
+    -- calls on searches like x led from f to q
+    Reached : S → Type 0
+    Reached q = (calls : List (Search × Answer X)) × LeadsOn accepts asks SameButStart x f calls q
 
-  -- an iterator that has not ended goes on where it is
-  abbrev asked : (s : Steps S) → AnswersOf S (steps_iter_state s).at (May s)
-  asked s = record {
-    asks = asks;
-    Good = Reached s.backend (steps_iter_state s).at;
-    acts = λ q t a q' same good found. acts s.backend (steps_iter_state s).at q t a q' same good found;
-  }
+    acts : (q : S) (t : Search) (a : Answer X) (q' : S) → SameButStart x t → Reached q → asks q t a q'
+        → MayReply accepts asks SameButStart f x t a × Reached q'
+    unfolding Reached
+    acts q t a q' same reached found = (
+      record { calls = reached.0; between = q; left = q'; leads = reached.1; same = same; asked = found },
+      (
+        reached.0 ++ (t, a) ∷ [],
+        FoldsTo-push (λ p c r. SameButStart x c.0 × asks p c.0 c.1 r) f reached.0 q (t, a) q' reached.1 (same, found),
+      ),
+    )
 
-  goes : (s : Steps S) → s.done ≡ false
-      → GoesOn (Reached s.backend (steps_iter_state s).at) (steps_iter_state s).at (steps_iter_state s) s
-  unfolding Reached
-  goes s going = record {
-    iter_state = refl;
-    going = going;
-    good = ([], refl);
-    like = same_start-self (steps_iter_state s).at;
-  }
+  module _ (s : Steps S) where
+    abbrev w : IterState
+    w = steps_iter_state s
 
-  -- the first items
-  pub may-first : (s : Steps S) → s.done ≡ false → (xs : List (Result Y SearchError)) (t : Steps S)
-      → Yields (StepsBy items asks) s xs t → Next items (May s) (steps_iter_state s) xs
-  may-first s going xs t ran = first-from items (asked s) xs (steps_iter_state s) s t (goes s going) ran
+    -- what the finder of an iterator may answer
+    abbrev May : Search → Answer X → Type 0
+    May = MayReply accepts asks SameButStart s.backend w.at
 
-  -- and at `None` all
-  pub may-all : (s : Steps S) → s.done ≡ false → (xs : List (Result Y SearchError)) (t u : Steps S)
-      → Yields (StepsBy items asks) s xs t → StepsBy items asks t None u → Last items (May s) (steps_iter_state s) xs
-  may-all s going xs t u ran st =
-      let all = all-from items (asked s) xs (steps_iter_state s) s t u in all (goes s going) ran st
+    -- an iterator that has not ended gives
+    pub may-given : s.done ≡ false → Given (StepsBy items asks) (Next items May w) (Last items May w) s
+    unfolding Reached
+    may-given going =
+        let answers : AnswersOf S w.at May =
+        record { asks = asks; Good = Reached s.backend w.at; acts = acts s.backend w.at } in
+        given-at items answers w s
+        (record { iter_state = refl; going = going; good = ([], refl); like = same_start-self w.at })
 
-  -- Their matches do not overlap if those of the finder are in the spans of its searches.
-  pub may-disjoint : (P : Search → Answer X → Type 0)
-      → ((t : Search) (a : Answer X) → P t a → AnswerIsInside items.span t a)
-      → ((q : S) (t : Search) (a : Answer X) (q' : S) → asks q t a q' → IsOrdered (answer_span items.span a))
-      → (s : Steps S) → ServesOnAlong accepts asks SameButStart P s.backend (steps_iter_state s).at
-      → (xs : List (Result Y SearchError)) → Next items (May s) (steps_iter_state s) xs
-      → AreSpansDisjoint (steps_iter_state s).at (steps_iter_state s).last
-      (map items.span (matches_in (map (item_by items.view) xs)))
-  may-disjoint P lies ordered s serves xs come =
-      spans-disjoint items.span (May s)
-      (λ t a k. (
-        lies t a ((serves.at k.calls k.between t k.leads k.same).replies a k.left k.asked),
-        ordered k.between t a k.left k.asked,
-      ))
-      (EndsAt items (May s)) (steps_iter_state s).at (steps_iter_state s) (map (item_by items.view) xs) (omega arith)
-      refl s.searcher.ends_by come
+    -- Their matches do not overlap if those of the finder are in the spans of its searches.
+    pub may-disjoint : {P : Search → Answer X → Type 0}
+        → ((t : Search) (a : Answer X) → P t a → AnswerIsInside items.span t a)
+        → ((q : S) (t : Search) (a : Answer X) (q' : S) → asks q t a q' → IsOrdered (answer_span items.span a))
+        → ServesOnAlong accepts asks SameButStart P s.backend w.at → (xs : List (Result Y SearchError))
+        → Next items May w xs
+        → AreSpansDisjoint w.at w.last (map items.span (matches_in (map (item_by items.view) xs)))
+    may-disjoint lies ordered serves xs come =
+        let on : IsOnward w.at w = record { from = omega arith; to = refl; behind = s.searcher.ends_by } in
+        spans-disjoint items.span May
+        (λ t a k. (
+          lies t a ((serves.at k.calls k.between t k.leads k.same).replies a k.left k.asked),
+          ordered k.between t a k.left k.asked,
+        ))
+        (EndsAt items May) (map (item_by items.view) xs) on come
 
 -- If each answer of `under` is one of `tells`, the items are the same.
-module _ {X : Type 0} (span : X → Span) (under tells : Search → Answer X → Type 0)
+module _ {X : Type 0} (span : X → Span) {under tells : Search → Answer X → Type 0}
     (so : (t : Search) (a : Answer X) → under t a → tells t a) where
   pub step-answered : (w : IterState) (a : Answer X) → IsStep span under w a → IsStep span tells w a
-  step-answered w a h = step-as span span under tells (λ b. b) (λ b. refl) so w a h
+  step-answered w a h = step-as (record { shown = λ b. b; same = λ b. refl; so = so }) h
 
   pub last-answered : (ends ends' : IterState → SearchError → Type 0)
       → ((w : IterState) (e : SearchError) → ends w e → ends' w e) → (w : IterState) (items : List (Item X))

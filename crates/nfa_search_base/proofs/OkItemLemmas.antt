@@ -1,17 +1,16 @@
 -- Items that are all `Ok`, and the one error that may end them.
-use Rattle.std.proofs.Common.{◌≡◌, ◌∙◌, ◌≤◌, inl, inr, true, MatchBool, refl, ap, subst, arith, Option, None, Some, Result, Ok, Err, List, [], ◌∷◌, ◌++◌, map, All, IfOk, IfErr}
-use Rattle.std.specs.Iterator.{Yields}
-use Rattle.std.specs.Iterator.Runs.{EachRunFrom}
+use Rattle.std.proofs.Common.{◌≡◌, ◌∙◌, ◌≤◌, inl, inr, MatchBool, refl, ap, subst, arith, Option, None, Some, Result, Ok, Err, List, [], ◌∷◌, ◌++◌, map, All, IfOk, IfErr}
 use Rattle.std.proofs.lemmas.List.Elements.{All-nil, All-cons}
 use Rattle.nfa_paths.specs.Common.{Search, Span}
 use Rattle.nfa_search_base.specs.Items.{item_by}
 use Rattle.nfa_search_base.specs.Lists.{IsStep, Fails, ItemsNext, ItemsLast}
+use Rattle.nfa_search_base.specs.Runs.{OksAll, OksFirst, OksNext, OksRun}
 use Rattle.nfa_search_base.specs.IterStates.{IterState, Answer, AnswerIsInside, fresh, after, repeats, shifted, answer_span}
 use Rattle.nfa_search_base.specs.declared.error.SearchError.{SearchError}
 use Rattle.nfa_search_base.specs.declared.error.SearchError.TheVariants.{Memory}
 use Rattle.nfa_search_base.proofs.IterStateLemmas.{IsOrdered}
 use Rattle.nfa_search_base.proofs.ItemLemmas.{EndsAt, ItemsOf, Last, Next}
-use Rattle.nfa_search_base.proofs.ListLemmas.{as_items, items-view, step-lies}
+use Rattle.nfa_search_base.proofs.ListLemmas.{as_items, step-lies}
 use Rattle.nfa_search_base.proofs.RunLemmas.{Given}
 use Rattle.nfa_search_base.proofs.StepLemmas.{chosen}
 
@@ -40,23 +39,19 @@ pub record OkedAs {Y : Type 0} (First Whole : List (Result Y SearchError) → Ty
 module _ {T Y : Type 0} {First Whole : List (Result Y SearchError) → Type 0} {FirstOk WholeOk : List Y → Type 0}
     (taken : OkedAs First Whole FirstOk WholeOk) (steps : T → Option (Result Y SearchError) → T → Type 0) (s : T)
     (given : Given steps First Whole s) where
-  pub oked-run : EachRunFrom steps s (λ p. (ys : List Y) → p.items ≡ map Ok ys
-      → FirstOk ys × (p.whole ≡ true → WholeOk ys))
+  pub oked-run : OksRun steps FirstOk WholeOk s
   oked-run = λ p seen from ys are.
       let k = given.run p seen from in
       (taken.first ys (subst First are k.0), λ whole. taken.whole ys (subst Whole are (k.1 whole)))
 
-  pub oked-first : (xs : List (Result Y SearchError)) (t : T) (ys : List Y) → Yields steps s xs t → xs ≡ map Ok ys
-      → FirstOk ys
-  oked-first xs t ys ran are = taken.first ys (subst First are (given.first xs t ran))
+  pub oked-first : OksFirst steps FirstOk s
+  oked-first = λ xs t ys ran are. taken.first ys (subst First are (given.first xs t ran))
 
-  pub oked-all : (xs : List (Result Y SearchError)) (t u : T) (ys : List Y) → Yields steps s xs t → steps t None u
-      → xs ≡ map Ok ys → WholeOk ys
-  oked-all xs t u ys ran st are = taken.whole ys (subst Whole are (given.all xs t u ran st))
+  pub oked-all : OksAll steps FirstOk WholeOk s
+  oked-all = λ xs t u ys ran st are. taken.whole ys (subst Whole are (given.all xs t u ran st))
 
-  pub oked-next : (xs : List (Result Y SearchError)) (t : T) (i : Result Y SearchError) (u : T) (ys : List Y) (y : Y)
-      → Yields steps s xs t → steps t (Some i) u → xs ≡ map Ok ys → i ≡ Ok y → FirstOk (ys ++ y ∷ [])
-  oked-next xs t i u ys y ran st are ok =
+  pub oked-next : OksNext steps FirstOk s
+  oked-next = λ xs t i u ys y ran st are ok.
       taken.first (ys ++ y ∷ []) (subst First (oks xs ys i y are ok) (given.next xs t i u ran st))
 
 -- What searches answer, as their contracts say. Without an error, that is the answer of a `clean` search, which is in
@@ -95,25 +90,17 @@ module _ {S X Y : Type 0} (items : ItemsOf S X Y) (results : ResultsOf items.spa
       ]
 
   -- so items that are all `Ok` are those of clean searches
-  next-values : (xs : List X) (w : IterState)
-      → ItemsNext items.span results.tells (EndsAt items results.tells) w (as_items xs)
-      → ItemsNext items.span results.clean (Fails items.span results.clean) w (as_items xs)
-  next-values [] w h = tt
-  next-values (x ∷ xs) w h = (ok-step w (Some x) h.0, next-values xs (after w (Some (items.span x))) h.1)
-
-  last-values : (xs : List X) (w : IterState)
-      → ItemsLast items.span results.tells (EndsAt items results.tells) w (as_items xs)
-      → ItemsLast items.span results.clean (Fails items.span results.clean) w (as_items xs)
-  last-values [] w h = ok-step w None h
-  last-values (x ∷ xs) w h = (ok-step w (Some x) h.0, last-values xs (after w (Some (items.span x))) h.1)
-
   pub next-clean : (w : IterState) (ys : List Y) → Next items results.tells w (oked ys)
       → ItemsNext items.span results.clean (Fails items.span results.clean) w (as_items (map items.view ys))
-  next-clean w ys h = next-values (map items.view ys) w (rw (items-view items.view ys) at h)
+  next-clean w [] h = tt
+  next-clean w (y ∷ ys) h =
+      (ok-step w (Some (items.view y)) h.0, next-clean (after w (Some (items.span (items.view y)))) ys h.1)
 
   pub last-clean : (w : IterState) (ys : List Y) → Last items results.tells w (oked ys)
       → ItemsLast items.span results.clean (Fails items.span results.clean) w (as_items (map items.view ys))
-  last-clean w ys h = last-values (map items.view ys) w (rw (items-view items.view ys) at h)
+  last-clean w [] h = ok-step w None h
+  last-clean w (y ∷ ys) h =
+      (ok-step w (Some (items.view y)) h.0, last-clean (after w (Some (items.span (items.view y)))) ys h.1)
 
   -- if the search can only give one error, so can its first step
   module _ (x : Search) (error : SearchError) (only : (a : Answer X) → results.tells x a → a ≡ Err error) where
@@ -150,24 +137,26 @@ module _ {S X Y : Type 0} (items : ItemsOf S X Y) (results : ResultsOf items.spa
         let k = step-lies items.span results.clean results.lies w (items.view y) step in
         (omega (arith, in_span.0, k.0, k.1), in_span.1)
 
-    -- what a step in the span shows of its value is true of all values
-    module _ (Holds : Y → Type 0)
-        (shows : (w : IterState) (y : Y) → GoesOnIn w → Clean w (Ok (Some (items.view y))) → Holds y) where
-      abbrev Held : Result Y SearchError → Type 0
-      Held item = IfOk item Holds
-
+    -- what steps in the span show of their items is true of all items
+    module _ (Holds : Result Y SearchError → Type 0)
+        (shows : (w : IterState) (y : Y) → GoesOnIn w → Clean w (Ok (Some (items.view y))) → Holds (Ok y))
+        (ends : (w : IterState) (r : SearchError) → GoesOnIn w → EndsAt items results.tells w r → Holds (Err r)) where
       items-hold : (xs : List (Result Y SearchError)) (w : IterState) → GoesOnIn w → Next items results.tells w xs
-          → All Held xs
-      items-hold [] w in_span h = All-nil Held
+          → All Holds xs
+      items-hold [] w in_span h = All-nil Holds
       items-hold (Ok y ∷ xs) w in_span h =
           let step = ok-step w (Some (items.view y)) h.0 in
-          All-cons Held (Ok y) xs (shows w y in_span step)
+          All-cons Holds (Ok y) xs (shows w y in_span step)
           (items-hold xs (after w (Some (items.span (items.view y)))) (after-step w y in_span step) h.1)
-      items-hold (Err r ∷ xs) w in_span h = rw (no-items items.view xs h.1) (All-cons Held (Err r) [] tt (All-nil Held))
+      items-hold (Err r ∷ xs) w in_span h = rw (no-items items.view xs h.1)
+          (All-cons Holds (Err r) [] (ends w r in_span h.0) (All-nil Holds))
 
-      pub values-hold : (xs : List (Result Y SearchError)) → Next items results.tells (fresh x) xs
-          → All (λ item. IfOk item Holds) xs
-      values-hold xs h = items-hold xs (fresh x) (omega arith, refl) h
+    -- and so is what they show of values
+    pub values-hold : (Holds : Y → Type 0)
+        → ((w : IterState) (y : Y) → GoesOnIn w → Clean w (Ok (Some (items.view y))) → Holds y)
+        → (xs : List (Result Y SearchError)) → Next items results.tells (fresh x) xs → All (λ item. IfOk item Holds) xs
+    values-hold Holds shows xs h =
+        items-hold (λ item. IfOk item Holds) shows (λ w r in_span ends. tt) xs (fresh x) (omega arith, refl) h
 
     -- if the only error of a search in the span is `Memory`, it is the only error of an item
     module _ (memory : (t : Search) (e : SearchError) → x.start ≤ t.start → t.end ≡ x.end → results.tells t (Err e)
@@ -181,19 +170,7 @@ module _ {S X Y : Type 0} (items : ItemsOf S X Y) (results : ResultsOf items.spa
         | inr other ↦ other.0
       ]
 
-      abbrev OnlyMemory : Result Y SearchError → Type 0
-      OnlyMemory item = IfErr item (λ error. error ≡ Memory)
-
-      memory-from : (xs : List (Result Y SearchError)) (w : IterState) → GoesOnIn w → Next items results.tells w xs
-          → All OnlyMemory xs
-      memory-from [] w in_span h = All-nil OnlyMemory
-      memory-from (Ok y ∷ xs) w in_span h =
-          All-cons OnlyMemory (Ok y) xs tt
-          (memory-from xs (after w (Some (items.span (items.view y))))
-          (after-step w y in_span (ok-step w (Some (items.view y)) h.0)) h.1)
-      memory-from (Err r ∷ xs) w in_span h = rw (no-items items.view xs h.1)
-          (All-cons OnlyMemory (Err r) [] (error-memory w r in_span h.0) (All-nil OnlyMemory))
-
       pub errors-memory : (xs : List (Result Y SearchError)) → Next items results.tells (fresh x) xs
           → All (λ item. IfErr item (λ error. error ≡ Memory)) xs
-      errors-memory xs h = memory-from xs (fresh x) (omega arith, refl) h
+      errors-memory xs h = items-hold (λ item. IfErr item (λ error. error ≡ Memory)) (λ w y in_span step. tt)
+          error-memory xs (fresh x) (omega arith, refl) h

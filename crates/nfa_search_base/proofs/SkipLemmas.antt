@@ -8,111 +8,112 @@ use Rattle.regex_search_core.specs.declared.search.Input.{Input}
 use Rattle.nfa_search_base.specs.Asking.{Asks, IsCallableOn}
 use Rattle.nfa_search_base.specs.Serving.{ServesOn}
 use Rattle.nfa_search_base.specs.declared.error.SearchError.{SearchError}
-use Rattle.nfa_search_base.specs.Skipping.{WithOffset, value_of, HasOffsetIn, IsInCharacter, IsWholeReply, start_raised, lowered, Answers, LeadsTo, Reaches, ServesSkips, SkipsTo}
+use Rattle.nfa_search_base.specs.Skipping.{CallLeft, SkipsOn, WithOffset, value_of, HasOffsetIn, IsInCharacter, IsWholeReply, start_raised, lowered, Answers, Reaches, ServesSkips, SkipsTo}
 
-module _ {T F : Type 0} (g : Mut F (Bor Input × Unit {0}) (WithOffset T))
-    (haystack : List ℕ) (moved : ℕ → Option Search) where
-  -- one more call, after an answer that splits a codepoint
-  Reaches-more : (n : ℕ) (r : WithOffset T) (f : F) (answers : List (WithOffset T)) (last : WithOffset T) (left : F)
-      (a : WithOffset T) (f' : F)
-      → IsInCharacter haystack last → Answers g left (moved (n + length answers + 1)) a f'
-      → Reaches g haystack moved n r f answers last left → Reaches g haystack moved n r f (answers ++ a ∷ []) a f'
-  Reaches-more n r f [] last left a f' split answered reaches =
-      let e : n + 0 + 1 ≡ n + 1 = omega arith in
-      (rw reaches.0 at split, (f', rw (e, reaches.1) at answered, (refl, refl)))
-  Reaches-more n r f (b ∷ answers) last left a f' split answered reaches =
-      let e : n + suc (length answers) + 1 ≡ n + 1 + length answers + 1 = omega arith in
-      let rest = Reaches-more (n + 1) b reaches.1.0 answers last left a f' split (rw e at answered) reaches.1.2 in
-      (reaches.0, (reaches.1.0, reaches.1.1, rest))
+-- A skipping: what its finder is, the haystack, and the searches that it moves to.
+pub record SkipOf (T F : Type 0) : Type 1 where
+  pub finder : Mut F (Bor Input × Unit {0}) (WithOffset T)
+  pub haystack : List ℕ
+  pub moved : ℕ → Option Search
 
-  -- an answer that splits no codepoint ends it
-  Reaches-whole : (n : ℕ) (r : WithOffset T) (f : F) (answers : List (WithOffset T)) (last : WithOffset T) (left : F)
-      → IsWholeReply haystack last
-      → Reaches g haystack moved n r f answers last left → LeadsTo g haystack moved n r f answers last left
-  Reaches-whole n r f [] last left whole reaches = (rw reaches.0 at whole, reaches.0, reaches.1)
-  Reaches-whole n r f (b ∷ answers) last left whole reaches =
-      let rest = Reaches-whole (n + 1) b reaches.1.0 answers last left whole reaches.1.2 in
-      (reaches.0, (reaches.1.0, reaches.1.1, rest))
+module _ {T F : Type 0} (skip : SkipOf T F) where
+  abbrev Next : CallLeft T F → ℕ → CallLeft T F → Type 0
+  Next = SkipsOn skip.finder skip.haystack skip.moved
 
-  -- and is the result
-  skips-to : (r : WithOffset T) (f : F) (answers : List (WithOffset T)) (last : WithOffset T) (left : F)
-      (result : Result (Option T) SearchError) → Reaches g haystack moved 0 r f answers last left
-      → IsWholeReply haystack last → result ≡ value_of last → SkipsTo g haystack moved r f result left
-  skips-to r f answers last left result reaches whole gives = record {
-    answers = answers;
-    last = last;
-    leads = Reaches-whole 0 r f answers last left whole reaches;
-    gives = gives;
-  }
+  abbrev Reached : ℕ → CallLeft T F → List (CallLeft T F) → CallLeft T F → Type 0
+  Reached = Reaches skip.finder skip.haystack skip.moved
 
-  -- the skipping that began with the answer r0 and the finder f0 is now at the search t, its answer r and the finder f
-  pub record HasCome (r0 : WithOffset T) (f0 : F) (t : Search) (r : WithOffset T) (f : F) : Type 0 where
-    pub text : t.haystack ≡ haystack
-    pub serves : ServesSkips g haystack moved r0 f0
-    pub answers : List (WithOffset T)
-    pub at : moved (length answers) ≡ Some t
-    pub reached : Reaches g haystack moved 0 r0 f0 answers r f
+  -- one more call
+  Reaches-more : (n : ℕ) (p : CallLeft T F) (calls : List (CallLeft T F)) (q u : CallLeft T F)
+      → Next q (n + length calls + 1) u → Reached n p calls q → Reached n p (calls ++ u ∷ []) u
+  Reaches-more n p [] q u next reached =
+      let e : n + 0 + 1 ≡ n + 1 = omega arith in (rw (reached, e) at next, refl)
+  Reaches-more n p (c ∷ calls) q u next reached =
+      let e : n + suc (length calls) + 1 ≡ n + 1 + length calls + 1 = omega arith in
+      (reached.0, Reaches-more (n + 1) c calls q u (rw e at next) reached.1)
 
-module _ {T F : Type 0} {g : Mut F (Bor Input × Unit {0}) (WithOffset T)}
-    {haystack : List ℕ} {moved : ℕ → Option Search} where
+  -- the skipping that began with p is now at the search t, with q
+  pub record HasCome (p : CallLeft T F) (t : Search) (q : CallLeft T F) : Type 0 where
+    pub text : t.haystack ≡ skip.haystack
+    pub serves : ServesSkips skip.finder skip.haystack skip.moved p.answer p.finder
+    pub calls : List (CallLeft T F)
+    pub at : skip.moved (length calls) ≡ Some t
+    pub reached : Reached 0 p calls q
+
+module _ {T F : Type 0} {skip : SkipOf T F} where
   -- before the first call
-  pub HasCome-start : {t : Search} {r : WithOffset T} {f : F} → moved 0 ≡ Some t → t.haystack ≡ haystack
-      → ServesSkips g haystack moved r f → HasCome g haystack moved r f t r f
-  HasCome-start at text serves =
-      record { text = text; serves = serves; answers = []; at = at; reached = (refl, refl) }
+  pub HasCome-start : {t : Search} {p : CallLeft T F} → skip.moved 0 ≡ Some t → t.haystack ≡ skip.haystack
+      → ServesSkips skip.finder skip.haystack skip.moved p.answer p.finder → HasCome skip p t p
+  HasCome-start at text serves = record { text = text; serves = serves; calls = []; at = at; reached = refl }
 
-  module _ {r0 : WithOffset T} {f0 : F} {t : Search} {r : WithOffset T} {f : F}
-      (come : HasCome g haystack moved r0 f0 t r f) where
-    -- one answer more
-    more : (o : Option Search) (a : WithOffset T) (f' : F) → ((n : ℕ) → moved n ≡ Some t → moved (n + 1) ≡ o)
-        → IsInCharacter haystack r → Answers g f o a f'
-        → Reaches g haystack moved 0 r0 f0 (come.answers ++ a ∷ []) a f'
-    more o a f' up split answered =
-        let e : 0 + length come.answers + 1 ≡ length come.answers + 1 = omega arith in
-        Reaches-more g haystack moved 0 r0 f0 come.answers r f a f' split
-        (rw (e, up (length come.answers) come.at) answered) come.reached
+  module _ {p q : CallLeft T F} {t : Search} (come : HasCome skip p t q) where
+    -- one call more, on the search moved once more
+    more : (o : Option Search) (u : CallLeft T F) → ((n : ℕ) → skip.moved n ≡ Some t → skip.moved (n + 1) ≡ o)
+        → IsInCharacter skip.haystack q.answer → Answers skip.finder q.finder o u.answer u.finder
+        → Reached skip 0 p (come.calls ++ u ∷ []) u
+    more o u up split answered =
+        let e : 0 + length come.calls + 1 ≡ length come.calls + 1 = omega arith in
+        let next : Next skip q (0 + length come.calls + 1) u =
+        (split, rw (e, up (length come.calls) come.at) answered) in
+        Reaches-more skip 0 p come.calls q u next come.reached
 
-    module _ {u : Search} (up : (n : ℕ) → moved n ≡ Some t → moved (n + 1) ≡ Some u) (split : IsInCharacter haystack r)
-      where
-        -- if an answer splits a codepoint, the next call may be made
-        next : ServesOn (IsCallableOn g) (Asks g) HasOffsetIn f u
-        next = come.serves.at come.answers r f u come.reached split (up (length come.answers) come.at)
+    module _ {u : Search} (up : (n : ℕ) → skip.moved n ≡ Some t → skip.moved (n + 1) ≡ Some u)
+        (split : IsInCharacter skip.haystack q.answer) where
+      -- if an answer splits a codepoint, the next call may be made
+      next : ServesOn (IsCallableOn skip.finder) (Asks skip.finder) HasOffsetIn q.finder u
+      next = come.serves.at come.calls q u come.reached split (up (length come.calls) come.at)
 
-        pub HasCome-callable : (p : Bor Input) → search_of p.now ≡ u → g.pre f (p, tt)
-        HasCome-callable = next.callable
+      pub HasCome-callable : (b : Bor Input) → search_of b.now ≡ u → skip.finder.pre q.finder (b, tt)
+      HasCome-callable = next.callable
 
-        module _ {a : WithOffset T} {f' : F} (asked : Asks g f u a f') where
-          -- its answer is in the span
-          pub HasCome-placed : HasOffsetIn u a
-          HasCome-placed = next.replies a f' asked
+      module _ {a : WithOffset T} {f : F} (asked : Asks skip.finder q.finder u a f) where
+        abbrev left : CallLeft T F
+        left = record { answer = a; finder = f }
 
-          -- and after it the skipping has come there
-          pub HasCome-next : u.haystack ≡ haystack → HasCome g haystack moved r0 f0 u a f'
-          HasCome-next text = record {
-            text = text;
-            serves = come.serves;
-            answers = come.answers ++ a ∷ [];
-            at = rw length-append (up (length come.answers) come.at);
-            reached = more (Some u) a f' up split asked;
-          }
+        -- its answer is in the span
+        pub HasCome-placed : HasOffsetIn u a
+        HasCome-placed = next.replies a f asked
 
-          -- it is the result, if it splits none
-          pub HasCome-last : {result : Result (Option T) SearchError} → IsWholeReply haystack a → result ≡ value_of a
-              → SkipsTo g haystack moved r0 f0 result f'
-          HasCome-last {result = result} =
-              skips-to g haystack moved r0 f0 (come.answers ++ a ∷ []) a f' result (more (Some u) a f' up split asked)
+        -- and after it the skipping has come there
+        pub HasCome-next : u.haystack ≡ skip.haystack → HasCome skip p u left
+        HasCome-next text = record {
+          text = text;
+          serves = come.serves;
+          calls = come.calls ++ left ∷ [];
+          at = rw length-append (up (length come.calls) come.at);
+          reached = more (Some u) left up split asked;
+        }
+
+        -- it is the result, if it splits none
+        pub HasCome-last : {result : Result (Option T) SearchError} → IsWholeReply skip.haystack a → result ≡ value_of a
+            → SkipsTo skip.finder skip.haystack skip.moved p.answer p.finder result f
+        HasCome-last whole gives = record {
+          calls = come.calls ++ left ∷ [];
+          last = a;
+          reached = more (Some u) left up split asked;
+          whole = whole;
+          gives = gives;
+        }
 
     -- if nothing is left to search, the answer is none
-    pub HasCome-none : {result : Result (Option T) SearchError} → ((n : ℕ) → moved n ≡ Some t → moved (n + 1) ≡ None)
-        → IsInCharacter haystack r → result ≡ Ok None → SkipsTo g haystack moved r0 f0 result f
-    HasCome-none {result = result} out split =
-        skips-to g haystack moved r0 f0 (come.answers ++ Ok None ∷ []) (Ok None) f result
-        (more None (Ok None) f out split (refl, refl)) tt
+    pub HasCome-none : {result : Result (Option T) SearchError}
+        → ((n : ℕ) → skip.moved n ≡ Some t → skip.moved (n + 1) ≡ None) → IsInCharacter skip.haystack q.answer
+        → result ≡ Ok None → SkipsTo skip.finder skip.haystack skip.moved p.answer p.finder result q.finder
+    HasCome-none out split gives =
+        let none : CallLeft T F = record { answer = Ok None; finder = q.finder } in
+        record {
+          calls = come.calls ++ none ∷ [];
+          last = Ok None;
+          reached = more None none out split (refl, refl);
+          whole = tt;
+          gives = gives;
+        }
 
     -- an answer that splits no codepoint is the result
-    pub HasCome-end : {result : Result (Option T) SearchError} → IsWholeReply haystack r → result ≡ value_of r
-        → SkipsTo g haystack moved r0 f0 result f
-    HasCome-end {result = result} = skips-to g haystack moved r0 f0 come.answers r f result come.reached
+    pub HasCome-end : {result : Result (Option T) SearchError} → IsWholeReply skip.haystack q.answer
+        → result ≡ value_of q.answer → SkipsTo skip.finder skip.haystack skip.moved p.answer p.finder result q.finder
+    HasCome-end whole gives =
+        record { calls = come.calls; last = q.answer; reached = come.reached; whole = whole; gives = gives }
 
 -- the search one further up
 pub start_raised-up : (s t u : Search) → u ≡ record t { start = t.start + 1 }

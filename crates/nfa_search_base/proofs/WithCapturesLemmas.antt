@@ -2,7 +2,7 @@
 use Rattle.std.proofs.Common.{◌≡◌, ℕ, zero, suc, ◌+◌, ◌<◌, true, false, Bool, Option, None, Some, Result, Ok, Err, IsOk, IfOk, List, [], ◌∷◌, map, refl, sym, ◌∙◌, ap, subst, inl, inr, arith}
 use Rattle.std.specs.Fn.{Called, Mut}
 use Rattle.std.specs.Borrow.{Bor, MutBor}
-use Rattle.std.specs.Iterator.{Yields}
+use Rattle.std.specs.Iterator.{Drains, Yields}
 use Rattle.std.specs.declared.vec.Vec.{Vec}
 use Rattle.std.specs.Vec.{vec_items}
 use Rattle.std.proofs.lemmas.Iterator.{IsCollectResult}
@@ -11,7 +11,7 @@ use Rattle.regex_search_core.specs.declared.search.Input.{Input}
 use Rattle.nfa_search_base.specs.Asking.{SameButStart}
 use Rattle.nfa_search_base.specs.IterStates.{IterState, Answer, ends_left}
 use Rattle.nfa_search_base.specs.Items.{Item, item_by, items_left, items_from, items_within, step_answer, step_iter_state, greedy, greedy_unless}
-use Rattle.nfa_search_base.specs.Steps.{TakesStep, ends_at}
+use Rattle.nfa_search_base.specs.Steps.{ends_at}
 use Rattle.nfa_search_base.specs.Stored.{steps_iter_state, can_step_infallibly, takes_steps}
 use Rattle.nfa_search_base.specs.WithCaptures.{Row, row_of, row_span, WithCaptures, GivesCaptures, IsAtMostMemory, UpToRefusal, YieldsUpToRefusal, filled_answer, CanFill, Fills, FillsAlong, FillsBy}
 use Rattle.nfa_search_base.specs.CapturesSteps.{takes_infallible_captures}
@@ -19,7 +19,7 @@ use Rattle.nfa_search_base.specs.declared.error.SearchError.{SearchError}
 use Rattle.nfa_search_base.specs.declared.error.SearchError.TheVariants.{Memory}
 use Rattle.nfa_search_base.specs.declared.iter.steps.Steps.{Steps}
 use Rattle.nfa_search_base.proofs.AskingLemmas.{ServesOnAlong-by}
-use Rattle.nfa_search_base.proofs.StepLemmas.{chosen, Along-answer, Along-turn}
+use Rattle.nfa_search_base.proofs.StepLemmas.{chosen, step-taken, Along-answer, Along-turn}
 use Rattle.nfa_search_base.proofs.GreedyLemmas.{step-computes}
 
 abbrev Caught : Type 0
@@ -67,12 +67,6 @@ module _ {F : Type 0} (g : Mut F (Bor Input × (MutBor Captured × Unit {0}))
   abbrev steps : Steps (WithCaptures F) → Option Caught → Steps (WithCaptures F) → Type 0
   steps s r t = takes_steps row_span (Fills g) GivesCaptures s r t
 
-  -- a step of a state that goes on
-  turn : (s t : Steps (WithCaptures F)) (r : Option Caught) → s.done ≡ false → steps s r t
-      → TakesStep row_span (Fills g) GivesCaptures s.backend (steps_iter_state s) r t.backend (steps_iter_state t)
-      t.done
-  turn s t r d st = rw d at st
-
   -- if the finder never fails, the only error of a step is `Memory`
   pub sure-step : (s t : Steps (WithCaptures F)) (r : Option Caught)
       → can_step_infallibly (CanFill g) (Fills g) row_span s
@@ -95,45 +89,43 @@ module _ {F : Type 0} (g : Mut F (Bor Input × (MutBor Captured × Unit {0}))
       after_end s t (x ∷ xs) d ran =
           let st = rw d at (takes s (Some x) ran.0 ran.1) in let e : Some x ≡ None = st.0 in cc
 
-      within : (n : ℕ) (s : Steps (WithCaptures F)) (xs : List Caught) (t u : Steps (WithCaptures F))
-          → FillsBy g h s.backend (steps_iter_state s).at → s.done ≡ false → ends_left (steps_iter_state s) < n
-          → Yields R s xs t → R t None u → UpToRefusal (items_within row_span h n (steps_iter_state s)) (map value xs)
-      within zero s xs t u computes d lt ran over = absurd (omega arith)
-      within (suc n) s [] t u computes d lt ran over =
-          let x = turn s u None d (takes s None u (rw ran over)) in
-          at_none u.backend (step_answer row_span h (steps_iter_state s))
+      within : (n : ℕ) (s : Steps (WithCaptures F)) (xs : List Caught) → FillsBy g h s.backend (steps_iter_state s).at
+          → s.done ≡ false → ends_left (steps_iter_state s) < n → Drains R s xs
+          → UpToRefusal (items_within row_span h n (steps_iter_state s)) (map value xs)
+      within zero s xs computes d lt drains = absurd (omega arith)
+      within (suc n) s [] computes d lt drains =
+          let x = step-taken d (takes s None drains.0 (rw drains.1.1 drains.1.2)) in
+          at_none drains.0.backend (step_answer row_span h (steps_iter_state s))
           (items_within row_span h n (step_iter_state row_span h (steps_iter_state s)))
           (rw (step-computes computes x.step).0 at x.item)
-      within (suc n) s (y ∷ xs) t u computes d lt ran over =
+      within (suc n) s (y ∷ xs) computes d lt drains =
+          let ran = drains.1.1 in
           let q = ran.0 in
-          let x = turn s q (Some y) d (takes s (Some y) q ran.1) in
+          let x = step-taken d (takes s (Some y) q ran.1) in
           let e = step-computes computes x.step in
           at_some q.backend (step_answer row_span h (steps_iter_state s))
           (items_within row_span h n (step_iter_state row_span h (steps_iter_state s))) y (map value xs)
           (rw e.0 at x.item)
-          (λ ends. ap (map value) (after_end q t xs (x.ends ∙ ends) ran.2))
+          (λ ends. ap (map value) (after_end q drains.1.0 xs (x.ends ∙ ends) ran.2))
           (λ on.
           let going : q.done ≡ false = x.ends ∙ on in
           let less : items_left q.done (steps_iter_state q) < items_left false (steps_iter_state s) = x.fewer in
           let fewer : ends_left (steps_iter_state q) + 1 < ends_left (steps_iter_state s) + 1 = rw going at less in
           subst (λ (w : IterState). UpToRefusal (items_within row_span h n w) (map value xs)) e.1
-          (within n q xs t u (Along-turn x.step computes x.same) going (omega arith) ran.2 over))
+          (within n q xs (Along-turn x.step computes x.same) going (omega arith)
+          (drains.0, (drains.1.0, ran.2, drains.1.2))))
 
       -- an iterator that runs to its end gives the greedy list, up to a failed allocation
       pub catches-list : (s : Steps (WithCaptures F)) → FillsBy g h s.backend (steps_iter_state s).at
           → YieldsUpToRefusal R value s (greedy_unless row_span s.done h (steps_iter_state s))
       unfolding greedy
-      catches-list s computes = record {
-        at = λ xs drains. at_done s.done refl xs drains.1.0 drains.0
-            drains.1.1 drains.1.2;
-      }
+      catches-list s computes = record { at = λ xs drains. at_done s.done refl xs drains }
         where
-          at_done : (b : Bool) → s.done ≡ b → (xs : List Caught) (t u : Steps (WithCaptures F)) → Yields R s xs t
-              → R t None u → UpToRefusal (greedy_unless row_span b h (steps_iter_state s)) (map value xs)
-          at_done true d xs t u ran over = subst (λ (zs : List Caught). UpToRefusal [] (map value zs))
-              (sym (after_end s t xs d ran)) tt
-          at_done false d xs t u ran over = within (suc (ends_left (steps_iter_state s))) s xs t u computes d
-              (omega arith) ran over
+          at_done : (b : Bool) → s.done ≡ b → (xs : List Caught) → Drains R s xs
+              → UpToRefusal (greedy_unless row_span b h (steps_iter_state s)) (map value xs)
+          at_done true d xs drains = subst (λ (zs : List Caught). UpToRefusal [] (map value zs))
+              (sym (after_end s drains.1.0 xs d drains.1.1)) tt
+          at_done false d xs drains = within (suc (ends_left (steps_iter_state s))) s xs computes d (omega arith) drains
 
 -- if an invariant of the finder and its captures holds now and after each call, what it implies holds along the calls
 module _ {F : Type 0} (g : Mut F (Bor Input × (MutBor Captured × Unit {0}))

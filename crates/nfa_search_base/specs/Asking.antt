@@ -5,7 +5,6 @@ use Rattle.std.specs.Borrow.{Bor}
 use Rattle.nfa_paths.specs.Common.{Search, search_of}
 use Rattle.regex_search_core.specs.declared.search.Input.{Input}
 pub use Rattle.nfa_search_base.specs.SameBut.{SameButStart}
-use Rattle.nfa_search_base.specs.Serving.{ServesOnAlong}
 
 module _ {F R : Type 0} (g : Mut F (Bor Input × Unit {0}) R) where
   -- a call of the finder f on this search gave the reply, and left the finder as f'
@@ -17,8 +16,3 @@ module _ {F R : Type 0} (g : Mut F (Bor Input × Unit {0}) R) where
   -- the finder may be called on this search
   abbrev pub IsCallableOn : F → Search → Type 0
   IsCallableOn f s = (p : Bor Input) → search_of p.now ≡ s → g.pre f (p, tt)
-
-  module _ (Same : Search → Search → Type 0) where
-    -- after any calls on searches that are the same as s, the next call may be made, and P holds of its reply
-    abbrev pub ServesAlong : (Search → R → Type 0) → F → Search → Type 0
-    ServesAlong P f s = ServesOnAlong IsCallableOn Asks Same P f s

@@ -1,12 +1,11 @@
 -- What the calls of an iterator over captures have given so far.
-use Rattle.std.specs.Prelude.{◌≡◌, true, Bool, List, [], ◌∷◌, ◌++◌, map, All, Option, None, Some, Result, Ok, IfOk, IfErr}
-use Rattle.std.specs.Iterator.{Yields}
+use Rattle.std.specs.Prelude.{◌≡◌, Bool, List, map, All, Option, None, Some, Result, Ok, IfOk, IfErr}
 use Rattle.std.specs.Iterator.Runs.{EachRunFrom}
 use Rattle.nfa_paths.specs.Common.{Found, Search, Captured, match_of, MatchKind, Automaton}
 use Rattle.nfa_search_base.specs.WithCaptures.{Row, row_found, row_of}
 use Rattle.nfa_search_base.specs.CapturesLists.{AreFirstCaptures, AreAllCaptures, AreFirstRows, AreRows, HasGroups}
 use Rattle.nfa_search_base.specs.Lists.{AreFirstMatches, AreMatches, AreDisjoint, IsInside, IsSlotInside}
-use Rattle.nfa_search_base.specs.Runs.{RunsGive, GivesFirst, GivesNext}
+use Rattle.nfa_search_base.specs.Runs.{RunsGive, GivesFirst, GivesNext, OksAll, OksFirst, OksNext, OksRun}
 use Rattle.nfa_search_base.specs.Spans.{SpansInside}
 use Rattle.nfa_search_base.specs.IterStates.{Answer}
 use Rattle.nfa_search_base.specs.declared.error.SearchError.{SearchError}
@@ -22,6 +21,20 @@ pub record CapturesInside (x : Search) (c : Captured) : Type 0 where
   pub inside : IsInside x (match_in c)
   pub slots : All (IsSlotInside x) c.slots
   pub spans : SpansInside x c
+
+-- captures whose rows and matches are those of x, from the first on
+module _ (nfa : Automaton) (kind : MatchKind) (earliest : Bool) (x : Search) where
+  abbrev pub RowsAreFirst : List Captured → Type 0
+  RowsAreFirst cs = AreFirstRows nfa kind earliest x (map row_of cs)
+
+  abbrev pub RowsAreAll : List Captured → Type 0
+  RowsAreAll cs = AreRows nfa kind earliest x (map row_of cs)
+
+  abbrev pub MatchesAreFirst : List Captured → Type 0
+  MatchesAreFirst cs = AreFirstMatches nfa kind earliest x (map match_in cs)
+
+  abbrev pub MatchesAreAll : List Captured → Type 0
+  MatchesAreAll cs = AreMatches nfa kind earliest x (map match_in cs)
 
 -- A call of the iterator `steps`.
 module _ {T : Type 0} (steps : T → Option (Result Captured SearchError) → T → Type 0) where
@@ -58,44 +71,29 @@ module _ {T : Type 0} (steps : T → Option (Result Captured SearchError) → T 
   module _ (nfa : Automaton) (kind : MatchKind) (earliest : Bool) (x : Search) where
     -- if the items are all `Ok`, their rows are the first rows of x, and all of them if the run reaches `None`
     abbrev pub RowsRun : T → Type 0
-    RowsRun s = EachRunFrom steps s (λ p. (cs : List Captured) → p.items ≡ map Ok cs
-        → AreFirstRows nfa kind earliest x (map row_of cs)
-        × (p.whole ≡ true → AreRows nfa kind earliest x (map row_of cs)))
+    RowsRun = OksRun steps (RowsAreFirst nfa kind earliest x) (RowsAreAll nfa kind earliest x)
 
     -- if the items so far are all `Ok`, their rows are the first rows of x
     abbrev pub RowsFirst : T → Type 0
-    RowsFirst s = (xs : List (Result Captured SearchError)) (t : T) (cs : List Captured) → Yields steps s xs t
-        → xs ≡ map Ok cs → AreFirstRows nfa kind earliest x (map row_of cs)
+    RowsFirst = OksFirst steps (RowsAreFirst nfa kind earliest x)
 
     -- at `None`, their rows are all rows of x
     abbrev pub RowsAll : T → Type 0
-    RowsAll s = (xs : List (Result Captured SearchError)) (t u : T) (cs : List Captured) → Yields steps s xs t
-        → steps t None u → xs ≡ map Ok cs → AreRows nfa kind earliest x (map row_of cs)
+    RowsAll = OksAll steps (RowsAreFirst nfa kind earliest x) (RowsAreAll nfa kind earliest x)
 
     -- after an item, the rows so far with the row of that item are the first rows
     abbrev pub RowsNext : T → Type 0
-    RowsNext s = (xs : List (Result Captured SearchError)) (t : T) (i : Result Captured SearchError) (u : T)
-        (cs : List Captured) (c : Captured) → Yields steps s xs t → steps t (Some i) u → xs ≡ map Ok cs → i ≡ Ok c
-        → AreFirstRows nfa kind earliest x (map row_of (cs ++ c ∷ []))
+    RowsNext = OksNext steps (RowsAreFirst nfa kind earliest x)
 
-    -- if the items are all `Ok`, their matches are the first matches of x, and all of them if the run reaches `None`
+    -- the same for the matches
     abbrev pub MatchesInRun : T → Type 0
-    MatchesInRun s = EachRunFrom steps s (λ p. (cs : List Captured) → p.items ≡ map Ok cs
-        → AreFirstMatches nfa kind earliest x (map match_in cs)
-        × (p.whole ≡ true → AreMatches nfa kind earliest x (map match_in cs)))
+    MatchesInRun = OksRun steps (MatchesAreFirst nfa kind earliest x) (MatchesAreAll nfa kind earliest x)
 
-    -- if the items so far are all `Ok`, their matches are the first matches of x
     abbrev pub MatchesInFirst : T → Type 0
-    MatchesInFirst s = (xs : List (Result Captured SearchError)) (t : T) (cs : List Captured) → Yields steps s xs t
-        → xs ≡ map Ok cs → AreFirstMatches nfa kind earliest x (map match_in cs)
+    MatchesInFirst = OksFirst steps (MatchesAreFirst nfa kind earliest x)
 
-    -- at `None`, their matches are all matches of x
     abbrev pub MatchesInAll : T → Type 0
-    MatchesInAll s = (xs : List (Result Captured SearchError)) (t u : T) (cs : List Captured) → Yields steps s xs t
-        → steps t None u → xs ≡ map Ok cs → AreMatches nfa kind earliest x (map match_in cs)
+    MatchesInAll = OksAll steps (MatchesAreFirst nfa kind earliest x) (MatchesAreAll nfa kind earliest x)
 
-    -- after an item, the matches so far with the match of that item are the first matches
     abbrev pub MatchesInNext : T → Type 0
-    MatchesInNext s = (xs : List (Result Captured SearchError)) (t : T) (i : Result Captured SearchError) (u : T)
-        (cs : List Captured) (c : Captured) → Yields steps s xs t → steps t (Some i) u → xs ≡ map Ok cs → i ≡ Ok c
-        → AreFirstMatches nfa kind earliest x (map match_in (cs ++ c ∷ []))
+    MatchesInNext = OksNext steps (MatchesAreFirst nfa kind earliest x)

@@ -23,11 +23,6 @@ module _ {A X F : Type 0} (view : A → X) (g : Mut F (Bor Input × Unit {0}) (R
     pub asked : Asks g f s reply f'
     pub shows : a ≡ answer_by view reply
 
-  -- P holds of the answers of f for a step of the iteration w. The step may call f once, and again one byte on if the
-  -- first answer is an empty match at the last end.
-  abbrev pub ServesStep : (X → Span) → (Search → Answer X → Type 0) → F → IterState → Type 0
-  ServesStep span P f w = ServesAdvance (IsCallableOn g) Finds span P f w
-
   -- after any calls of f on searches that differ from s only in their start, the next call may be made, and P holds of
   -- its answer
   abbrev pub AnswersAlong : (Search → Answer X → Type 0) → F → Search → Type 0
@@ -49,11 +44,11 @@ half_match_span reply = answer_span half_span_of (answer_by half_found_of reply)
 module _ {F : Type 0} (g : Mut F (Bor Input × Unit {0}) (Result (Option Match) SearchError)) where
   -- the finder may be called for a step, and answers matches in the span
   abbrev pub FindsStep : F → IterState → Type 0
-  FindsStep f w = ServesStep found_of g span_of (AnswerIsInside span_of) f w
+  FindsStep = ServesAdvance (IsCallableOn g) (Finds found_of g) span_of (AnswerIsInside span_of)
 
   -- and it never fails
   abbrev pub FindsStepInfallibly : F → IterState → Type 0
-  FindsStepInfallibly f w = ServesStep found_of g span_of (IsInfalliblyInside span_of) f w
+  FindsStepInfallibly = ServesAdvance (IsCallableOn g) (Finds found_of g) span_of (IsInfalliblyInside span_of)
 
   -- a step by the finder
   abbrev pub StepsBy : F → IterState → Result (Option Match) SearchError → F → IterState → Type 0
@@ -63,11 +58,12 @@ module _ {F : Type 0} (g : Mut F (Bor Input × Unit {0}) (Result (Option Match) 
 module _ {F : Type 0} (g : Mut F (Bor Input × Unit {0}) (Result (Option HalfMatch) SearchError)) where
   -- the finder may be called for a step, and answers offsets in the span
   abbrev pub FindsHalfStep : F → IterState → Type 0
-  FindsHalfStep f w = ServesStep half_found_of g half_span_of (AnswerIsInside half_span_of) f w
+  FindsHalfStep = ServesAdvance (IsCallableOn g) (Finds half_found_of g) half_span_of (AnswerIsInside half_span_of)
 
   -- and it never fails
   abbrev pub FindsHalfStepInfallibly : F → IterState → Type 0
-  FindsHalfStepInfallibly f w = ServesStep half_found_of g half_span_of (IsInfalliblyInside half_span_of) f w
+  FindsHalfStepInfallibly = ServesAdvance (IsCallableOn g) (Finds half_found_of g) half_span_of
+      (IsInfalliblyInside half_span_of)
 
   -- a step by the finder
   abbrev pub HalfStepsBy : F → IterState → Result (Option HalfMatch) SearchError → F → IterState → Type 0

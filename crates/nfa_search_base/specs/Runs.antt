@@ -1,5 +1,5 @@
 -- What the calls of an iterator have given so far, as clauses that a caller's loops and folds can use.
-use Rattle.std.specs.Prelude.{◌≡◌, true, List, [], ◌∷◌, ◌++◌, Option, None, Some}
+use Rattle.std.specs.Prelude.{◌≡◌, true, List, [], ◌∷◌, ◌++◌, map, Option, None, Some, Result, Ok}
 use Rattle.std.specs.Iterator.{Yields}
 use Rattle.std.specs.Iterator.Runs.{EachRunFrom}
 
@@ -27,3 +27,22 @@ module _ {T R : Type 0} (steps : T → Option R → T → Type 0) where
   -- calls lead only to states that `Keeps` relates to s
   abbrev pub GivesKept : (T → T → Type 0) → T → Type 0
   GivesKept Keeps s = (xs : List R) (t : T) (r : Option R) (u : T) → Yields steps s xs t → steps t r u → Keeps s u
+
+-- The same for an iterator whose items may be errors, if they are all `Ok`. `First` and `Whole` are of their values.
+module _ {T Y E : Type 0} (steps : T → Option (Result Y E) → T → Type 0) where
+  module _ (First Whole : List Y → Type 0) where
+    abbrev pub OksRun : T → Type 0
+    OksRun s = EachRunFrom steps s (λ p. (ys : List Y) → p.items ≡ map Ok ys
+        → First ys × (p.whole ≡ true → Whole ys))
+
+    abbrev pub OksAll : T → Type 0
+    OksAll s = (xs : List (Result Y E)) (t u : T) (ys : List Y) → Yields steps s xs t → steps t None u → xs ≡ map Ok ys
+        → Whole ys
+
+  module _ (First : List Y → Type 0) where
+    abbrev pub OksFirst : T → Type 0
+    OksFirst s = (xs : List (Result Y E)) (t : T) (ys : List Y) → Yields steps s xs t → xs ≡ map Ok ys → First ys
+
+    abbrev pub OksNext : T → Type 0
+    OksNext s = (xs : List (Result Y E)) (t : T) (i : Result Y E) (u : T) (ys : List Y) (y : Y) → Yields steps s xs t
+        → steps t (Some i) u → xs ≡ map Ok ys → i ≡ Ok y → First (ys ++ y ∷ [])

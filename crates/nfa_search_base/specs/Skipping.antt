@@ -12,6 +12,11 @@ use Rattle.nfa_search_base.specs.declared.error.SearchError.{SearchError}
 abbrev pub WithOffset : Type 0 → Type 0
 WithOffset T = Result (Option (T × ℕ)) SearchError
 
+-- what a call left: its answer, and the finder
+pub record CallLeft (T F : Type 0) : Type 0 where
+  pub answer : WithOffset T
+  pub finder : F
+
 -- the answer without the offset
 abbrev pub value_of : {T : Type 0} → WithOffset T → Result (Option T) SearchError
 value_of (Ok (Some x)) = Ok (Some x.0)
@@ -55,30 +60,26 @@ module _ {T F : Type 0} (g : Mut F (Bor Input × Unit {0}) (WithOffset T)) where
   Answers f None a f' = (a ≡ Ok None) × (f' ≡ f)
 
   module _ (haystack : List ℕ) (moved : ℕ → Option Search) where
-    -- r is the answer of the search moved by n, and `answers` follow it. Each of these but the last splits a codepoint,
-    -- and the last does not.
-    abbrev pub LeadsTo : ℕ → WithOffset T → F → List (WithOffset T) → WithOffset T → F → Type 0
-    LeadsTo n r f [] last left = IsWholeReply haystack r × (last ≡ r) × (left ≡ f)
-    LeadsTo n r f (a ∷ answers) last left =
-        IsInCharacter haystack r × ((f' : F) × Answers f (moved (n + 1)) a f' × LeadsTo (n + 1) a f' answers last left)
+    -- p splits a codepoint, and the next call, on the search moved by n, left q
+    abbrev pub SkipsOn : CallLeft T F → ℕ → CallLeft T F → Type 0
+    SkipsOn p n q = IsInCharacter haystack p.answer × Answers p.finder (moved n) q.answer q.finder
 
-    -- From the answer r of the search moved by n, and the finder f on, calls gave `answers`. They left the last answer
-    -- and a finder. Each answer before the last splits a codepoint.
-    abbrev pub Reaches : ℕ → WithOffset T → F → List (WithOffset T) → WithOffset T → F → Type 0
-    Reaches n r f [] last left = (last ≡ r) × (left ≡ f)
-    Reaches n r f (a ∷ answers) last left =
-        IsInCharacter haystack r × ((f' : F) × Answers f (moved (n + 1)) a f' × Reaches (n + 1) a f' answers last left)
+    -- From p on, which a call on the search moved by n left, these calls followed, and the last one left q.
+    abbrev pub Reaches : ℕ → CallLeft T F → List (CallLeft T F) → CallLeft T F → Type 0
+    Reaches n p [] q = q ≡ p
+    Reaches n p (c ∷ calls) q = SkipsOn p (n + 1) c × Reaches (n + 1) c calls q
 
     -- The finder may be called if the last answer splits a codepoint and the search can be moved once more. It then
     -- answers an offset in the span.
     pub record ServesSkips (r : WithOffset T) (f : F) : Type 0 where
-      pub at : (answers : List (WithOffset T)) (last : WithOffset T) (left : F) (s : Search)
-          → Reaches 0 r f answers last left → IsInCharacter haystack last → moved (length answers + 1) ≡ Some s
-          → ServesOn (IsCallableOn g) (Asks g) HasOffsetIn left s
+      pub at : (calls : List (CallLeft T F)) (q : CallLeft T F) (s : Search)
+          → Reaches 0 (record { answer = r; finder = f }) calls q → IsInCharacter haystack q.answer
+          → moved (length calls + 1) ≡ Some s → ServesOn (IsCallableOn g) (Asks g) HasOffsetIn q.finder s
 
     -- from the finder f and the first answer r, the result is the first answer that splits no codepoint
     pub record SkipsTo (r : WithOffset T) (f : F) (result : Result (Option T) SearchError) (left : F) : Type 0 where
-      pub answers : List (WithOffset T)
+      pub calls : List (CallLeft T F)
       pub last : WithOffset T
-      pub leads : LeadsTo 0 r f answers last left
+      pub reached : Reaches 0 (record { answer = r; finder = f }) calls (record { answer = last; finder = left })
+      pub whole : IsWholeReply haystack last
       pub gives : result ≡ value_of last

@@ -1,13 +1,13 @@
 -- the iterators that keep their finder or engine
-use Rattle.std.specs.Prelude.{◌≡◌, false, Option, None, Result, Ok, MatchBool, option_map}
+use Rattle.std.specs.Prelude.{◌≡◌, ◌<◌, false, Option, None, Result, Ok, MatchBool, OnSome, option_map}
 use Rattle.std.specs.Iterator.{Count, at_most}
 use Rattle.nfa_paths.specs.Common.{Search, Span}
 use Rattle.nfa_search_base.specs.SameBut.{SameButStart}
-use Rattle.nfa_search_base.specs.IterStates.{Answer, IterState, AnswerIsInside, IsInfalliblyInside}
+use Rattle.nfa_search_base.specs.IterStates.{Advances, Answer, IterState, AnswerIsInside, ComesAfter, IsInfalliblyInside, answer_span}
 use Rattle.nfa_search_base.specs.Items.{items_left, matches_left}
 use Rattle.nfa_search_base.specs.Searchers.{iter_state_of}
 use Rattle.nfa_search_base.specs.Serving.{ServesOnAlong}
-use Rattle.nfa_search_base.specs.Steps.{TakesStep}
+use Rattle.nfa_search_base.specs.Steps.{ends_at}
 use Rattle.nfa_search_base.specs.declared.error.SearchError.{SearchError}
 use Rattle.nfa_search_base.specs.declared.iter.searcher.Searcher.{Searcher}
 use Rattle.nfa_search_base.specs.declared.iter.steps.Steps.{Steps}
@@ -39,13 +39,23 @@ module _ {S X : Type 0} (accepts : S → Search → Type 0) (asks : S → Search
   can_step_infallibly s = ServesOnAlong accepts asks SameButStart (IsInfalliblyInside span) s.backend
       (steps_iter_state s).at
 
+-- A match is an X, and `span` gives its span. `asks` is a call. An item is a Y, and `gives` says which item an answer
+-- gives in the state that the call left.
 module _ {S X Y : Type 0} (span : X → Span) (asks : S → Search → Answer X → S → Type 0)
     (gives : S → Answer X → Option (Result Y SearchError) → Type 0) where
+  -- a step of an iterator that has not ended
+  pub record TakesStep (s : Steps S) (r : Option (Result Y SearchError)) (t : Steps S) : Type 0 where
+    pub answer : Answer X
+    pub step : Advances span asks s.backend (steps_iter_state s) answer t.backend (steps_iter_state t)
+    pub item : gives t.backend answer r
+    pub ends : t.done ≡ ends_at r
+    pub rises : ComesAfter (steps_iter_state s) (answer_span span answer)
+    pub same : SameButStart (steps_iter_state s).at (steps_iter_state t).at
+    pub fewer : OnSome r (items_left t.done (steps_iter_state t) < items_left false (steps_iter_state s))
+
   -- if the iterator has ended, it gives nothing and nothing changes; otherwise it takes a step
   abbrev pub takes_steps : Steps S → Option (Result Y SearchError) → Steps S → Type 0
-  takes_steps s r t = MatchBool s.done
-      ((r ≡ None) × (t ≡ s))
-      (TakesStep span asks gives s.backend (steps_iter_state s) r t.backend (steps_iter_state t) t.done)
+  takes_steps s r t = MatchBool s.done ((r ≡ None) × (t ≡ s)) (TakesStep s r t)
 
   -- a step without an error
   abbrev pub takes_infallible_steps : Steps S → Option Y → Steps S → Type 0

@@ -1,5 +1,5 @@
 -- What the calls of an iterator over a stored finder have given so far.
-use Rattle.std.specs.Prelude.{map, Option, Result, Ok}
+use Rattle.std.specs.Prelude.{List, map, Option, Result, Ok}
 use Rattle.std.specs.Fn.{Mut}
 use Rattle.std.specs.Iterator.Runs.{EachRunFrom}
 use Rattle.std.specs.Borrow.{Bor, MutBor}
@@ -45,43 +45,43 @@ module _ {A X F : Type 0} (view : A → X) (span : X → Span)
       (λ p. AreSpansDisjoint w.at w.last (map (λ m. span (view m)) p.items))
 
   module _ (f : F) (w : IterState) where
-    -- the items of each run of calls are the first items from w on, as f answers, and all of them if the run reaches
-    -- `None`
+    -- the first items from w on, as f answers, and all items
+    abbrev pub FirstFound : List (Result A SearchError) → Type 0
+    FirstFound = AreFirstStoredMatches span (MayAnswer f w.at) view w
+
+    abbrev pub AllFound : List (Result A SearchError) → Type 0
+    AllFound = AreAllStoredMatches span (MayAnswer f w.at) view w
+
+    -- the items of each run of calls are the first items, and all of them if the run reaches `None`
     abbrev pub StoredMatchesRun : Steps F → Type 0
-    StoredMatchesRun s = RunsGive stored_match_steps (AreFirstStoredMatches span (MayAnswer f w.at) view w)
-        (AreAllStoredMatches span (MayAnswer f w.at) view w) s
+    StoredMatchesRun = RunsGive stored_match_steps FirstFound AllFound
 
     -- the items so far are the first items
     abbrev pub StoredMatchesFirst : Steps F → Type 0
-    StoredMatchesFirst s = GivesFirst stored_match_steps (AreFirstStoredMatches span (MayAnswer f w.at) view w) s
+    StoredMatchesFirst = GivesFirst stored_match_steps FirstFound
 
     -- with the next item, they are too
     abbrev pub StoredMatchesNext : Steps F → Type 0
-    StoredMatchesNext s = GivesNext stored_match_steps (AreFirstStoredMatches span (MayAnswer f w.at) view w) s
+    StoredMatchesNext = GivesNext stored_match_steps FirstFound
 
     -- at `None`, they are all items
     abbrev pub StoredMatchesAll : Steps F → Type 0
-    StoredMatchesAll s = GivesAll stored_match_steps (AreFirstStoredMatches span (MayAnswer f w.at) view w)
-        (AreAllStoredMatches span (MayAnswer f w.at) view w) s
+    StoredMatchesAll = GivesAll stored_match_steps FirstFound AllFound
 
     -- the same for the iterator whose finder never fails
     abbrev pub InfallibleMatchesRun : Steps F → Type 0
-    InfallibleMatchesRun s = RunsGive infallible_match_steps
-        (λ found. AreFirstStoredMatches span (MayAnswer f w.at) view w (map (λ m. Ok m) found))
-        (λ found. AreAllStoredMatches span (MayAnswer f w.at) view w (map (λ m. Ok m) found)) s
+    InfallibleMatchesRun = RunsGive infallible_match_steps (λ ms. FirstFound (map (λ m. Ok m) ms))
+        (λ ms. AllFound (map (λ m. Ok m) ms))
 
     abbrev pub InfallibleMatchesFirst : Steps F → Type 0
-    InfallibleMatchesFirst s = GivesFirst infallible_match_steps
-        (λ found. AreFirstStoredMatches span (MayAnswer f w.at) view w (map (λ m. Ok m) found)) s
+    InfallibleMatchesFirst = GivesFirst infallible_match_steps (λ ms. FirstFound (map (λ m. Ok m) ms))
 
     abbrev pub InfallibleMatchesNext : Steps F → Type 0
-    InfallibleMatchesNext s = GivesNext infallible_match_steps
-        (λ found. AreFirstStoredMatches span (MayAnswer f w.at) view w (map (λ m. Ok m) found)) s
+    InfallibleMatchesNext = GivesNext infallible_match_steps (λ ms. FirstFound (map (λ m. Ok m) ms))
 
     abbrev pub InfallibleMatchesAll : Steps F → Type 0
-    InfallibleMatchesAll s = GivesAll infallible_match_steps
-        (λ found. AreFirstStoredMatches span (MayAnswer f w.at) view w (map (λ m. Ok m) found))
-        (λ found. AreAllStoredMatches span (MayAnswer f w.at) view w (map (λ m. Ok m) found)) s
+    InfallibleMatchesAll = GivesAll infallible_match_steps (λ ms. FirstFound (map (λ m. Ok m) ms))
+        (λ ms. AllFound (map (λ m. Ok m) ms))
 
 -- A finder fills captures that it borrows.
 module _ {F : Type 0} (g : Mut F (Bor Input × (MutBor Captured × Unit {0}))
@@ -105,38 +105,38 @@ module _ {F : Type 0} (g : Mut F (Bor Input × (MutBor Captured × Unit {0}))
       (λ p. AreSpansDisjoint w.at w.last (map row_span (matches_in (map (item_by row_of) p.items))))
 
   module _ (c : WithCaptures F) (w : IterState) where
-    -- the items of each run of calls are the first captures from w on, as c answers, and all of them if the run reaches
-    -- `None`
+    -- the first captures from w on, as c answers, and all captures
+    abbrev pub FirstFilled : List (Result Captured SearchError) → Type 0
+    FirstFilled = AreFirstStoredCaptures (MayAnswerRow c w.at) w
+
+    abbrev pub AllFilled : List (Result Captured SearchError) → Type 0
+    AllFilled = AreAllStoredCaptures (MayAnswerRow c w.at) w
+
+    -- the items of each run of calls are the first captures, and all of them if the run reaches `None`
     abbrev pub StoredCapturesRun : Steps (WithCaptures F) → Type 0
-    StoredCapturesRun s = RunsGive stored_captures_steps (AreFirstStoredCaptures (MayAnswerRow c w.at) w)
-        (AreAllStoredCaptures (MayAnswerRow c w.at) w) s
+    StoredCapturesRun = RunsGive stored_captures_steps FirstFilled AllFilled
 
     -- the items so far are the first captures
     abbrev pub StoredCapturesFirst : Steps (WithCaptures F) → Type 0
-    StoredCapturesFirst s = GivesFirst stored_captures_steps (AreFirstStoredCaptures (MayAnswerRow c w.at) w) s
+    StoredCapturesFirst = GivesFirst stored_captures_steps FirstFilled
 
     -- with the next item, they are too
     abbrev pub StoredCapturesNext : Steps (WithCaptures F) → Type 0
-    StoredCapturesNext s = GivesNext stored_captures_steps (AreFirstStoredCaptures (MayAnswerRow c w.at) w) s
+    StoredCapturesNext = GivesNext stored_captures_steps FirstFilled
 
     -- at `None`, they are all captures
     abbrev pub StoredCapturesAll : Steps (WithCaptures F) → Type 0
-    StoredCapturesAll s = GivesAll stored_captures_steps (AreFirstStoredCaptures (MayAnswerRow c w.at) w)
-        (AreAllStoredCaptures (MayAnswerRow c w.at) w) s
+    StoredCapturesAll = GivesAll stored_captures_steps FirstFilled AllFilled
 
     -- the same for the iterator whose finder never fails
     abbrev pub InfallibleCapturesRun : Steps (WithCaptures F) → Type 0
-    InfallibleCapturesRun s = RunsGive (takes_infallible_captures g) (AreFirstStoredCaptures (MayAnswerRow c w.at) w)
-        (AreAllStoredCaptures (MayAnswerRow c w.at) w) s
+    InfallibleCapturesRun = RunsGive (takes_infallible_captures g) FirstFilled AllFilled
 
     abbrev pub InfallibleCapturesFirst : Steps (WithCaptures F) → Type 0
-    InfallibleCapturesFirst s = GivesFirst (takes_infallible_captures g)
-        (AreFirstStoredCaptures (MayAnswerRow c w.at) w) s
+    InfallibleCapturesFirst = GivesFirst (takes_infallible_captures g) FirstFilled
 
     abbrev pub InfallibleCapturesNext : Steps (WithCaptures F) → Type 0
-    InfallibleCapturesNext s = GivesNext (takes_infallible_captures g)
-        (AreFirstStoredCaptures (MayAnswerRow c w.at) w) s
+    InfallibleCapturesNext = GivesNext (takes_infallible_captures g) FirstFilled
 
     abbrev pub InfallibleCapturesAll : Steps (WithCaptures F) → Type 0
-    InfallibleCapturesAll s = GivesAll (takes_infallible_captures g) (AreFirstStoredCaptures (MayAnswerRow c w.at) w)
-        (AreAllStoredCaptures (MayAnswerRow c w.at) w) s
+    InfallibleCapturesAll = GivesAll (takes_infallible_captures g) FirstFilled AllFilled

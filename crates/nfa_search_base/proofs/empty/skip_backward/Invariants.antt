@@ -8,8 +8,12 @@ use Rattle.nfa_search_base.proofs.empty.skip_backward.Given as goal
 abbrev pub invariant-loop-input : goal.invariant-loop-input
 invariant-loop-input g l =
     IsInSpan (search_of l.input) l.place
-    × HasCome g.F.FnMut (search_of l.fn.input).haystack (lowered (search_of l.fn.input))
-    (Ok (Some (l.fn.init, l.fn.offset))) l.fn.find (search_of l.input) (Ok (Some (l.value, l.place))) l.find
+    × HasCome (record {
+      finder = g.F.FnMut;
+      haystack = (search_of l.fn.input).haystack;
+      moved = lowered (search_of l.fn.input);
+    }) (record { answer = Ok (Some (l.fn.init, l.fn.offset)); finder = l.fn.find }) (search_of l.input)
+    (record { answer = Ok (Some (l.value, l.place)); finder = l.find })
 
 abbrev pub decreases-loop-input : goal.decreases-loop-input
 decreases-loop-input g l = l.input.span.end

@@ -1,7 +1,8 @@
 -- A step whose finder never errs gives captures, nothing, or a refusal.
-use Rattle.nfa_search_base.specs.WithCaptures.{row_span, CanFill, Fills, GivesCaptures}
+use Rattle.nfa_search_base.specs.WithCaptures.{row_span}
 use Rattle.nfa_search_base.specs.IterStates.{IsInfalliblyInside}
 use Rattle.nfa_search_base.proofs.AskingLemmas.{Along-weaker}
+use Rattle.nfa_search_base.proofs.StepLemmas.{filler_calls}
 use Rattle.nfa_search_base.proofs.StoredLemmas.{takes-progress}
 use Rattle.nfa_search_base.proofs.WithCapturesLemmas.{sure-step}
 use Rattle.nfa_search_base.proofs.iter.captures_matches.CapturesIterIterator.next.Goals as goal
@@ -17,5 +18,5 @@ returns-clause-steps g c =
 pub returns-clause-goes : goal.returns-clause-goes
 returns-clause-goes g c =
     rw c.self.view_is at
-    (takes-progress (CanFill g.F.FnMut) (Fills g.F.FnMut) row_span GivesCaptures (IsInfalliblyInside row_span)
-    c.self.inside.tries c.next.new.self c.next.result (rw (← c.self.view_is) at c.requires) c.next.ensures.steps)
+    (takes-progress (filler_calls g.F.FnMut) (IsInfalliblyInside row_span) c.self.inside.tries _ _
+    (rw (← c.self.view_is) at c.requires) c.next.ensures.steps)

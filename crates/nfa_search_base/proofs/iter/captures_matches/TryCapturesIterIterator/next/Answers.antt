@@ -1,29 +1,25 @@
 -- A step by calls of the finder is a step of the iterator that keeps it.
 use Rattle.std.proofs.Common.{subst}
-use Rattle.nfa_search_base.specs.IterStates.{AnswerIsInside}
+use Rattle.nfa_search_base.specs.StoredRuns.{stored_captures_steps}
 use Rattle.nfa_search_base.specs.WithCache.{steps_whole, with_cache}
-use Rattle.nfa_search_base.specs.Stored.{takes_steps}
+use Rattle.nfa_search_base.specs.WithCaptures.{WithCaptures, with_finder}
 use Rattle.nfa_search_base.specs.declared.iter.steps.Steps.{Steps}
-use Rattle.nfa_search_base.specs.WithCaptures.{WithCaptures, row_span, with_finder, CanFill, Fills, GivesCaptures}
-use Rattle.nfa_search_base.proofs.StepLemmas.{Along-whole}
+use Rattle.nfa_search_base.proofs.StepLemmas.{Along-whole, filler_calls}
 use Rattle.nfa_search_base.proofs.StoredLemmas.{takes-whole, progress-whole}
 use Rattle.nfa_search_base.proofs.iter.captures_matches.TryCapturesIterIterator.next.Goals as goal
 
 pub next_with-requires : goal.next_with-requires
-next_with-requires g c =
-    Along-whole with_finder (CanFill g.F.FnMut) (Fills g.F.FnMut) row_span (AnswerIsInside row_span) _ _
-    (rw (← c.self.view_is) at c.requires)
+next_with-requires g c = Along-whole with_finder (filler_calls g.F.FnMut) (rw (← c.self.view_is) at c.requires)
 
 pub returns-clause-steps : goal.returns-clause-steps
 returns-clause-steps g c =
     let left = with_cache c.next_with.new.self c.next_with.new.cache in
-    subst (λ (s : Steps (WithCaptures g.row.F.Denot)). takes_steps row_span (Fills g.F.FnMut) GivesCaptures s
-    c.next_with.result (steps_whole with_finder left)) c.self.view_is
-    (takes-whole with_finder (CanFill g.F.FnMut) (Fills g.F.FnMut) row_span GivesCaptures
-    (with_cache c.self.inside.steps c.self.inside.finder) left c.next_with.result c.next_with.ensures)
+    subst (λ (s : Steps (WithCaptures g.row.F.Denot)). stored_captures_steps g.F.FnMut s c.next_with.result
+    (steps_whole with_finder left)) c.self.view_is
+    (takes-whole with_finder (filler_calls g.F.FnMut) _ left c.next_with.result c.next_with.ensures)
 
 pub returns-clause-goes : goal.returns-clause-goes
 returns-clause-goes g c =
-    rw c.self.view_is at (progress-whole with_finder (CanFill g.F.FnMut) (Fills g.F.FnMut) row_span GivesCaptures
-    (with_cache c.self.inside.steps c.self.inside.finder) (with_cache c.next_with.new.self c.next_with.new.cache)
-    c.next_with.result c.next_with.ensures (rw (← c.self.view_is) at c.requires))
+    rw c.self.view_is at
+    (progress-whole with_finder (filler_calls g.F.FnMut) _ _ c.next_with.result c.next_with.ensures
+    (rw (← c.self.view_is) at c.requires))

@@ -18,8 +18,12 @@ loop-item-preserved g c =
     let item = c.in_ok-item.field-0 in
     let more = yields-more calls (map Ok c.loop-item.all.items) (with_cache c.args.self.now c.args.cache.now) from to
     (Ok item) c.loop-item.invariant.ran (rw c.in_ok-item.was at c.in-Some.ensures) in
-    let goes = takes-progress a.accepts a.asks a.span (λ q. a.gives q.backend) (AnswerIsInside a.span) from to
-    (Some c.in-Some.item) c.loop-item.invariant.can c.in-Some.ensures in
+    let goes = takes-progress (record {
+      accepts = a.accepts;
+      asks = a.asks;
+      span = a.span;
+      gives = λ q. a.gives q.backend;
+    }) (AnswerIsInside a.span) from to (Some c.in-Some.item) c.loop-item.invariant.can c.in-Some.ensures in
     record {
       ran = rw (c.in_ok-push.ensures.items, ← oked-more c.loop-item.all.items item) more;
       can = goes.keeps;
