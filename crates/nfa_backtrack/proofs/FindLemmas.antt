@@ -55,18 +55,17 @@ pub sure-finds : (e : Backtracker) (t : Search) (m : Found) → IsSureAt e t m �
 sure-finds e t m sure = (sure.0, sure-match e.nfa LeftmostFirst false t m sure.1)
 
 -- a match that is found is sure for the search from where the last scan started
-pub found-sure : (e : Backtracker) (t : Search) (r : Result (Option Match) SearchError) (old new : BacktrackCache)
+pub found-sure : {e : Backtracker} {t : Search} {old new : BacktrackCache} (r : Result (Option Match) SearchError)
     (m : Match) → r ≡ Ok (Some m) → IsTryFindAnswer e t (answer_by found_of r)
     → SearchesOnce e t (answer_by found_of r) old new
     → IsSureAt e (raised t (new.scans - 1)) (found_of m)
-found-sure e t r old new m is finds once =
+found-sure {e} {t} {new = new} r m is finds once =
     let found = rw is at finds in
     let exact = once.exact in
     let work = rw is at exact in
     let last = raised t (new.scans - 1) in (
       still-fits e t last refl (omega arith) found.0,
-      match-sure e.nfa LeftmostFirst false last (found_of m)
-          (match-from-scan e.nfa LeftmostFirst false t (Some (found_of m)) _ _ found.1 work),
+      match-sure e.nfa LeftmostFirst false last (found_of m) (match-from-scan found.1 work),
     )
 
 -- and what is known after it is the match that ends where that scan started

@@ -9,9 +9,9 @@ ghost use Rattle.regex_search_core.specs.Patterns.{number_of};
 ghost use Rattle.regex_search_core.specs.Found.{found_of, half_found_of};
 ghost use Rattle.regex_search_core.specs.declared.search.MatchKind.TheVariants.{LeftmostFirst};
 ghost use Rattle.thompson_nfa.specs.Simple.{always, never};
-ghost use Rattle.nfa_paths.specs.Paths.{span_len, max_scans, IsAnswer, IsFindAnswer, IsBoolAnswer};
-ghost use Rattle.nfa_paths.specs.Paths.{IsWork, IsWithinScans};
-ghost use Rattle.nfa_paths.specs.Restarts.{max_scan_turns};
+ghost use Rattle.nfa_paths.specs.Paths.{span_len, IsAnswer, IsFindAnswer, IsBoolAnswer};
+ghost use Rattle.nfa_paths.specs.Paths.{IsWork};
+ghost use Rattle.nfa_paths.specs.Restarts.{IsBounded};
 ghost use Rattle.nfa_backtrack.specs.Backtrack.{IsTooLong, GrowsBlocks};
 ghost use Rattle.nfa_backtrack.specs.Backtrack.{empty_cache, capacity_of, rounded_bits};
 ghost use Rattle.nfa_backtrack.specs.Backtrack.{max_haystack_len_of};
@@ -418,7 +418,6 @@ impl BoundedBacktracker {
             (λ m. (found_of m).pattern < length self.now.nfa.patterns)) }
         ensures work { OnOk result (IsWork self.now.nfa LeftmostFirst false (search_of input.now) scratch.new.scans
             scratch.new.visited.turns) }
-        ensures within { IsWithinScans self.now.nfa LeftmostFirst false (search_of input.now) scratch.new.scans }
         ensures blocks { GrowsBlocks self.now.nfa (search_of input.now) (length scratch.old.visited.bits / 64)
             (length scratch.new.visited.bits / 64) }
         ensures stack { length scratch.new.stack.items ≤ length scratch.old.stack.items }
@@ -427,9 +426,8 @@ impl BoundedBacktracker {
         ensures few { vec_len slots.new ≤ max (vec_len slots.old) (2 * length self.now.nfa.groups) }
         ensures last { IfOk result (λ found. IfSome found (λ m.
             start.new ≡ last_start (search_of input.now) scratch.new.scans)) }
-        ensures scans { scratch.new.scans ≤ max_scans self.now.nfa (search_of input.now) }
-        ensures turns { scratch.new.visited.turns ≤ scratch.new.scans * max_scan_turns self.now.nfa
-            (search_of input.now) }
+        ensures bounds { IsBounded self.now.nfa LeftmostFirst false (search_of input.now) scratch.new.scans
+            scratch.new.visited.turns }
     {
         let slot_len = self.nfa.group_info().implicit_slot_len();
         grow(slots, slot_len)?;

@@ -5,8 +5,8 @@ ghost use Rattle.std.specs.Prelude.{IfOk, IfSome, OnErr};
 ghost use Rattle.regex_search_core.specs.Found.{half_found_of};
 ghost use Rattle.regex_search_core.specs.Search.{search_of};
 ghost use Rattle.regex_search_core.specs.declared.search.MatchKind.TheVariants.{LeftmostFirst};
-ghost use Rattle.nfa_paths.specs.Paths.{span_len, starts, max_scans, IsWithinScans};
-ghost use Rattle.nfa_paths.specs.Restarts.{max_scan_turns, ScanGives, SearchGives};
+ghost use Rattle.nfa_paths.specs.Paths.{span_len};
+ghost use Rattle.nfa_paths.specs.Restarts.{max_scan_turns, IsBounded, ScanGives, SearchGives};
 ghost use Rattle.nfa_backtrack.specs.Backtrack.{GrowsBlocks};
 ghost use Rattle.nfa_backtrack.specs.Finding.{IsCounted};
 ghost use Rattle.nfa_backtrack_scan.specs.Walk.{HasBits};
@@ -59,13 +59,11 @@ impl BoundedBacktracker {
             slots.new scratch.new.scans scratch.new.visited.turns) }
         ensures refused { OnErr result (slots.new ≡ replicate (length slots.old) None) }
         ensures stack { scratch.new.stack.items ≡ [] }
-        ensures within { IsWithinScans self.now.nfa LeftmostFirst false (search_of input.now) scratch.new.scans }
         ensures size { length scratch.new.visited.bits ≡ length scratch.old.visited.bits }
         ensures last { IfOk result (λ half. IfSome half (λ h.
             start.new ≡ last_start (search_of input.now) scratch.new.scans)) }
-        ensures scans { scratch.new.scans ≤ max_scans self.now.nfa (search_of input.now) }
-        ensures turns { scratch.new.visited.turns
-            ≤ scratch.new.scans * max_scan_turns self.now.nfa (search_of input.now) }
+        ensures bounds { IsBounded self.now.nfa LeftmostFirst false (search_of input.now) scratch.new.scans
+            scratch.new.visited.turns }
     {
         let mut search = *input;
         loop {
@@ -102,14 +100,12 @@ impl BoundedBacktracker {
         ensures pattern { IfOk result (λ half. IfSome half (λ h.
             (half_found_of h).pattern < length self.now.nfa.patterns)) }
         ensures stack { length scratch.new.stack.items ≤ length scratch.old.stack.items }
-        ensures within { IsWithinScans self.now.nfa LeftmostFirst false (search_of input.now) scratch.new.scans }
         ensures blocks { GrowsBlocks self.now.nfa (search_of input.now) (length scratch.old.visited.bits / 64)
             (length scratch.new.visited.bits / 64) }
         ensures last { IfOk result (λ half. IfSome half (λ h.
             start.new ≡ last_start (search_of input.now) scratch.new.scans)) }
-        ensures scans { scratch.new.scans ≤ max_scans self.now.nfa (search_of input.now) }
-        ensures turns { scratch.new.visited.turns
-            ≤ scratch.new.scans * max_scan_turns self.now.nfa (search_of input.now) }
+        ensures bounds { IsBounded self.now.nfa LeftmostFirst false (search_of input.now) scratch.new.scans
+            scratch.new.visited.turns }
     {
         let pairs = self.nfa.states().len() * (input.get_span().len() + 1);
         if let Err(refused) = scratch.visited.reserve(pairs) {

@@ -1,8 +1,8 @@
 -- A search scans. While the answer ends inside a codepoint, it scans again from one byte further on. These lemmas say
 -- what holds at each scan, what the result of the search is, and what its contract says.
-use Rattle.std.proofs.Common.{◌≡◌, ℕ, zero, suc, ◌+◌, ◌*◌, ◌<◌, ◌≤◌, List, length, replicate, refl, ap, sym, ◌∙◌, arith, subst, below_more, rules, Option, Some, None, true, false, Bool, MatchBool, IfSome, option_map, option_and_then, inr}
+use Rattle.std.proofs.Common.{◌≡◌, ℕ, zero, suc, ◌+◌, ◌-◌, ◌*◌, ◌<◌, ◌≤◌, List, length, replicate, refl, ap, sym, ◌∙◌, arith, subst, below_more, rules, Option, Some, None, true, false, Bool, MatchBool, IfSome, option_map, option_and_then, inr}
 use Rattle.nfa_paths.specs.Common.{IsBoundary, Found, HalfFound, half_found_of, Search, is_anchored, match_of, HalfMatch, MatchKind, Automaton, IsAutomaton, Pair, Slots, IsAnswer, IsHalfAnswer, IsFindAnswer, raised, is_utf8_empty, slot_row, max_scans, path_half, path_pattern, EndsOnBoundary, SplitsCharacter, IsKeptAnswer, IsRestartedAnswer, IsScanAnswer, IsSearchAnswer, IsWhole, IsWithinScans}
-use Rattle.nfa_paths.specs.Restarts.{max_scan_turns, AreUnset, GivesPath, ScanGives, SearchGives, Restarts}
+use Rattle.nfa_paths.specs.Restarts.{max_scan_turns, AreUnset, GivesPath, ScanGives, SearchGives, IsBounded, Restarts}
 use Rattle.nfa_paths.proofs.AnswerLemmas.{ends_on_boundary, split-within_scans, split-bound, one_scan-bound, scan_answer-within}
 use Rattle.nfa_paths.proofs.InsideLemmas.{pattern-within}
 use Rattle.nfa_paths.proofs.PatternLemmas.{match-along-path}
@@ -26,145 +26,141 @@ raised-start : (x y : Search) (i start : ℕ) → y ≡ raised x i → start ≡
     → record y { start = start } ≡ raised x (i + 1)
 raised-start x y i start is next = grind arith
 
-module _ (nfa : Automaton) (kind : MatchKind) (earliest : Bool) where
-  -- the pattern and the end of what a scan finds are those of the path
-  half-found : (y : Search) {half : HalfMatch} {slots : Slots} {turns : ℕ}
-      (f : GivesPath nfa kind earliest y half slots turns)
-      → Some (half_found_of half) ≡ path_half nfa f.path
-  half-found y f = rw (f.ends, f.matches) refl
+-- the pattern and the end of what a scan finds are those of the path
+half-found : {nfa : Automaton} {kind : MatchKind} {earliest : Bool} {y : Search} {half : HalfMatch} {slots : Slots}
+    {turns : ℕ} (f : GivesPath nfa kind earliest y half slots turns) → Some (half_found_of half) ≡ path_half nfa f.path
+half-found f = rw (f.ends, f.matches) refl
 
-  module _ (x : Search) where
-    -- before the first scan
-    pub restarts-begin : (turns : ℕ) → turns ≡ 0 → Restarts nfa kind earliest x x 0 turns
-    restarts-begin turns none = grind arith
+-- before the first scan
+pub restarts-begin : {nfa : Automaton} {kind : MatchKind} {earliest : Bool} {x : Search} {turns : ℕ} → turns ≡ 0
+    → Restarts nfa kind earliest x x 0 turns
+restarts-begin none = grind arith
 
-    module _ (y : Search) (scans turns : ℕ) (s : Restarts nfa kind earliest x y scans turns) where
-      -- an answer that counts is the search's
-      settled : (path : Option (List Pair)) → IsScanAnswer nfa y kind earliest path
-          → (is_utf8_empty nfa ≡ true → IsWhole x path)
-          → IsSearchAnswer nfa kind earliest x scans path
-      settled path answers whole = of (is_utf8_empty nfa) (is_anchored x.anchored) refl refl
-        where
-          here : IsScanAnswer nfa (raised x scans) kind earliest path
-          here = subst (λ z. IsScanAnswer nfa z kind earliest path) s.is answers
+-- A search x has restarted `scans` times, in `turns` turns, and makes one scan more, of y.
+module _ {nfa : Automaton} {kind : MatchKind} {earliest : Bool} {x y : Search} {scans turns : ℕ}
+    (begun : Restarts nfa kind earliest x y scans turns) where
+  -- an answer that counts is the search's
+  settled : (path : Option (List Pair)) → IsScanAnswer nfa y kind earliest path
+      → (is_utf8_empty nfa ≡ true → IsWhole x path)
+      → IsSearchAnswer nfa kind earliest x scans path
+  settled path answers whole = of (is_utf8_empty nfa) (is_anchored x.anchored) refl refl
+    where
+      here : IsScanAnswer nfa (raised x scans) kind earliest path
+      here = subst (λ z. IsScanAnswer nfa z kind earliest path) begun.is answers
 
-          first : (scans ≡ 0) → IsScanAnswer nfa x kind earliest path
-          first none = subst (λ z. IsScanAnswer nfa z kind earliest path) (sym (raised-none x)) (rw none at here)
+      first : (scans ≡ 0) → IsScanAnswer nfa x kind earliest path
+      first none = subst (λ z. IsScanAnswer nfa z kind earliest path) (sym (raised-none x)) (rw none at here)
 
-          of : (utf8 anchored : Bool) → is_utf8_empty nfa ≡ utf8 → is_anchored x.anchored ≡ anchored
-              → MatchBool utf8 (MatchBool anchored ((scans ≡ 0) × IsKeptAnswer nfa kind earliest x path)
-              (IsRestartedAnswer nfa kind earliest x scans path))
-              ((scans ≡ 0) × IsScanAnswer nfa x kind earliest path)
-          of true true u a =
-              (grind (arith, first))
-          of true false u a = record { skipped = s.split; answers = here; whole = whole u }
-          of false a u b = grind (arith, first)
+      of : (utf8 anchored : Bool) → is_utf8_empty nfa ≡ utf8 → is_anchored x.anchored ≡ anchored
+          → MatchBool utf8 (MatchBool anchored ((scans ≡ 0) × IsKeptAnswer nfa kind earliest x path)
+          (IsRestartedAnswer nfa kind earliest x scans path))
+          ((scans ≡ 0) × IsScanAnswer nfa x kind earliest path)
+      of true true u a = (grind (arith, first))
+      of true false u a = record { skipped = begun.split; answers = here; whole = whole u }
+      of false a u b = grind (arith, first)
 
-      -- the scan found nothing
-      pub settled-none : (slots : Slots) (after last total : ℕ) → ScanGives nfa kind earliest y None slots last
-          → after ≡ scans + 1
-          → SearchGives nfa kind earliest x None slots after total
-      settled-none slots after last total gives counted = grind (arith, settled, slot_row-none)
+  -- the scan found nothing
+  pub settled-none : {slots : Slots} {after total : ℕ} → ScanGives nfa kind earliest y None slots 0
+      → after ≡ scans + 1 → SearchGives nfa kind earliest x None slots after total
+  settled-none gives counted = grind (arith, settled, slot_row-none)
 
-      -- its end is the end of the path
-      whole-found : {half : HalfMatch} {slots : Slots} {last : ℕ} (f : GivesPath nfa kind earliest y half slots last)
-          → (IsBoundary x.haystack (half_found_of half).offset → EndsOnBoundary x f.path)
-          × (EndsOnBoundary (raised x scans) f.path → IsBoundary x.haystack (half_found_of half).offset)
-      whole-found f = let b = ends_on_boundary x f.path f.ends in search rules
+  -- its end is the end of the path
+  whole-found : {half : HalfMatch} {slots : Slots} {last : ℕ} (f : GivesPath nfa kind earliest y half slots last)
+      → (IsBoundary x.haystack (half_found_of half).offset → EndsOnBoundary x f.path)
+      × (EndsOnBoundary (raised x scans) f.path → IsBoundary x.haystack (half_found_of half).offset)
+  whole-found f = let b = ends_on_boundary x f.path f.ends in search rules
 
-      -- what was found does not split a codepoint, or need not be whole
-      pub settled-some : (half : HalfMatch) (slots : Slots) (after last total : ℕ)
-          → GivesPath nfa kind earliest y half slots last
-          → (is_utf8_empty nfa ≡ true → IsBoundary x.haystack (half_found_of half).offset)
-          → after ≡ scans + 1 → last ≤ total
-          → SearchGives nfa kind earliest x (Some half) slots after total
-      settled-some half slots after last total f boundary counted all = record {
-        restarts = scans;
-        path = Some f.path;
-        answers = settled (Some f.path) f.answers (λ mode. (whole-found f).0 (boundary mode));
-        half_is = half-found y f;
-        slots_are = f.row;
-        scans_are = counted;
-        turns_reach = omega (arith, f.short);
-      }
+  -- what was found does not split a codepoint, or need not be whole
+  pub settled-some : {half : HalfMatch} {slots : Slots} {after last total : ℕ}
+      → GivesPath nfa kind earliest y half slots last
+      → (is_utf8_empty nfa ≡ true → IsBoundary x.haystack (half_found_of half).offset)
+      → after ≡ scans + 1 → last ≤ total
+      → SearchGives nfa kind earliest x (Some half) slots after total
+  settled-some f boundary counted all = record {
+    restarts = scans;
+    path = Some f.path;
+    answers = settled (Some f.path) f.answers (λ mode. (whole-found f).0 (boundary mode));
+    half_is = half-found f;
+    slots_are = f.row;
+    scans_are = counted;
+    turns_reach = omega (arith, f.short);
+  }
 
-      -- what was found splits a codepoint
-      splits : {half : HalfMatch} {slots : Slots} {last : ℕ} → GivesPath nfa kind earliest y half slots last
-          → (IsBoundary x.haystack (half_found_of half).offset → ⊥) → SplitsCharacter nfa kind earliest (raised x scans)
-      splits f off = record {
-        path = f.path;
-        answers = subst (λ z. IsScanAnswer nfa z kind earliest (Some f.path)) s.is f.answers;
-        splits = λ whole. off ((whole-found f).1 whole);
-      }
+  -- what was found splits a codepoint
+  pub splits : {half : HalfMatch} {slots : Slots} {last : ℕ} → GivesPath nfa kind earliest y half slots last
+      → (IsBoundary x.haystack (half_found_of half).offset → ⊥) → SplitsCharacter nfa kind earliest (raised x scans)
+  splits f off = record {
+    path = f.path;
+    answers = subst (λ z. IsScanAnswer nfa z kind earliest (Some f.path)) begun.is f.answers;
+    splits = λ whole. off ((whole-found f).1 whole);
+  }
 
-      -- an anchored search is over then
-      pub discarded : (half : HalfMatch) (found slots : Slots) (after last total : ℕ)
-          → GivesPath nfa kind earliest y half found last
-          → is_utf8_empty nfa ≡ true → is_anchored x.anchored ≡ true
-          → (IsBoundary x.haystack (half_found_of half).offset → ⊥)
-          → after ≡ scans + 1 → AreUnset slots → SearchGives nfa kind earliest x None slots after total
-      discarded half found slots after last total f mode anchored off counted unset =
-          let split = splits f off in
-          record {
-            restarts = scans;
-            path = None;
-            answers = rw (mode, anchored) (
-              once,
-              inr
-                  (subst (SplitsCharacter nfa kind earliest) (sym (raised-none x)) (rw once at split)),
-            );
-            half_is = refl;
-            slots_are = unset ∙ sym (slot_row-none nfa (length slots));
-            scans_are = counted;
-            turns_reach = omega arith;
-          }
-        where
-          once : scans ≡ 0
-          once = grind arith
+  -- an anchored search is over then
+  pub discarded : {slots : Slots} {after total : ℕ} → SplitsCharacter nfa kind earliest (raised x scans)
+      → is_utf8_empty nfa ≡ true → is_anchored x.anchored ≡ true → after ≡ scans + 1 → AreUnset slots
+      → SearchGives nfa kind earliest x None slots after total
+  discarded {slots} split mode anchored counted unset = record {
+    restarts = scans;
+    path = None;
+    answers = rw (mode, anchored) (
+      once,
+      inr (subst (SplitsCharacter nfa kind earliest) (sym (raised-none x)) (rw once at split)),
+    );
+    half_is = refl;
+    slots_are = unset ∙ sym (slot_row-none nfa (length slots));
+    scans_are = counted;
+    turns_reach = omega arith;
+  }
+    where
+      once : scans ≡ 0
+      once = grind arith
 
-      -- the turns after one scan more
-      pub turns-after : (after : ℕ) → after ≤ turns + max_scan_turns nfa y → after ≤ (scans + 1) * max_scan_turns nfa x
-      turns-after after more = grind arith
+  -- the turns after one scan more
+  turns-after : (after : ℕ) → after ≤ turns + max_scan_turns nfa y → after ≤ (scans + 1) * max_scan_turns nfa x
+  turns-after after more = grind arith
 
-      -- any other search scans again
-      pub restarted : (half : HalfMatch) (found : Slots) (last after start : ℕ) (z : Search)
-          → GivesPath nfa kind earliest y half found last
-          → is_utf8_empty nfa ≡ true → is_anchored x.anchored ≡ false
-          → (IsBoundary x.haystack (half_found_of half).offset → ⊥)
-          → after ≤ turns + max_scan_turns nfa y → start ≡ y.start + 1 → z ≡ record y { start = start }
-          → Restarts nfa kind earliest x z (scans + 1) after
-      restarted half found last after start z f mode free off more next moved = record {
-        is = moved ∙ raised-start x y scans start s.is next;
-        split = below_more (λ i. SplitsCharacter nfa kind earliest (raised x i)) scans s.split (splits f off);
-        free = λ some. (mode, free);
-        turned = turns-after after more;
-      }
+  -- any other search scans again
+  pub restarted : {after start : ℕ} {z : Search} → SplitsCharacter nfa kind earliest (raised x scans)
+      → is_utf8_empty nfa ≡ true → is_anchored x.anchored ≡ false
+      → after ≤ turns + max_scan_turns nfa y → start ≡ y.start + 1 → z ≡ record y { start = start }
+      → Restarts nfa kind earliest x z (scans + 1) after
+  restarted {after} {start} split mode free more next moved = record {
+    is = moved ∙ raised-start x y scans start begun.is next;
+    split = below_more (λ i. SplitsCharacter nfa kind earliest (raised x i)) scans begun.split split;
+    free = λ some. (mode, free);
+    turned = turns-after after more;
+  }
 
-      -- there is a start left for it
-      pub start-left : (half : HalfMatch) (found : Slots) (last : ℕ) → GivesPath nfa kind earliest y half found last
-          → y.start ≤ y.end
-      start-left half found last f = scan_answer-within nfa y kind earliest f.path f.answers
+  -- there is a start left for it
+  pub start-left : {half : HalfMatch} {found : Slots} {last : ℕ} → GivesPath nfa kind earliest y half found last
+      → y.start ≤ y.end
+  start-left f = scan_answer-within nfa y kind earliest f.path f.answers
 
-      -- one more scan is at most what the answer takes
-      pub scans-within : IsWithinScans nfa kind earliest x (scans + 1)
-      scans-within = of scans s.split s.free
-        where
-          of : (n : ℕ) → ((i : ℕ) → i < n → SplitsCharacter nfa kind earliest (raised x i))
-              → (0 < n → (is_utf8_empty nfa ≡ true) × (is_anchored x.anchored ≡ false))
-              → IsWithinScans nfa kind earliest x (n + 1)
-          of zero split free = λ restarts path answers. omega arith
-          of (suc n) split free = let modes = free (omega arith) in
-              split-within_scans nfa kind earliest x modes.0 modes.1 (suc n) split
+  -- the scans so far do not end the search, so one more is within what its answer takes, and within the limit
+  pub bounded : {after total : ℕ} → after ≡ scans + 1 → total ≤ turns + max_scan_turns nfa y
+      → IsBounded nfa kind earliest x after total
+  bounded {after} {total} counted more = rw counted (record {
+    within = within scans begun.split begun.free;
+    scans = few scans begun.split begun.free;
+    turns = turns-after total more;
+  })
+    where
+      within : (n : ℕ) → ((i : ℕ) → i < n → SplitsCharacter nfa kind earliest (raised x i))
+          → (0 < n → (is_utf8_empty nfa ≡ true) × (is_anchored x.anchored ≡ false))
+          → IsWithinScans nfa kind earliest x (n + 1)
+      within zero split free = λ restarts path answers. omega arith
+      within (suc n) split free = let modes = free (omega arith) in
+          split-within_scans nfa kind earliest x modes.0 modes.1 (suc n) split
 
-      -- and within the limit
-      pub scans-bound : scans + 1 ≤ max_scans nfa x
-      scans-bound = of scans s.split s.free
-        where
-          of : (n : ℕ) → ((i : ℕ) → i < n → SplitsCharacter nfa kind earliest (raised x i))
-              → (0 < n → (is_utf8_empty nfa ≡ true) × (is_anchored x.anchored ≡ false)) → n + 1 ≤ max_scans nfa x
-          of zero split free = one_scan-bound nfa x (omega arith)
-          of (suc n) split free = let modes = free (omega arith) in
-              split-bound nfa kind earliest x modes.0 modes.1 (suc n) split
+      few : (n : ℕ) → ((i : ℕ) → i < n → SplitsCharacter nfa kind earliest (raised x i))
+          → (0 < n → (is_utf8_empty nfa ≡ true) × (is_anchored x.anchored ≡ false)) → n + 1 ≤ max_scans nfa x
+      few zero split free = one_scan-bound nfa x (omega arith)
+      few (suc n) split free = let modes = free (omega arith) in
+          split-bound nfa kind earliest x modes.0 modes.1 (suc n) split
+
+  -- it starts as far on as there were scans before it
+  pub scan-start : {after : ℕ} → after ≡ scans + 1 → y ≡ raised x (after - 1)
+  scan-start {after} counted = let same : scans ≡ after - 1 = omega (arith, counted) in rw (← same) begun.is
 
 -- From the result of a search to what its contract says.
 
@@ -175,20 +171,19 @@ pub half-pattern : (nfa : Automaton) (path : Option (List Pair))
 half-pattern nfa None = refl
 half-pattern nfa (Some p) = grind arith
 
-module _ (nfa : Automaton) (kind : MatchKind) (earliest : Bool) (x : Search) {slots : Slots} {scans turns : ℕ} where
+module _ {nfa : Automaton} {kind : MatchKind} {earliest : Bool} {x : Search} {slots : Slots} {scans turns : ℕ} where
   -- the pattern and the end
-  pub half-of : (half : Option HalfMatch) → SearchGives nfa kind earliest x half slots scans turns
+  pub half-of : {half : Option HalfMatch} → SearchGives nfa kind earliest x half slots scans turns
       → IsHalfAnswer nfa kind earliest x (option_map half_found_of half)
-  half-of half s = record { restarts = s.restarts; path = s.path; answers = s.answers; found_is = s.half_is }
+  half-of s = record { restarts = s.restarts; path = s.path; answers = s.answers; found_is = s.half_is }
 
   -- the pattern and the slots, given a part of the slots
-  pub answer-of : (half : Option HalfMatch) (pattern : Option ℕ)
+  pub answer-of : {half : Option HalfMatch} {pattern : Option ℕ} {all : Slots}
       → pattern ≡ option_map (λ h. (half_found_of h).pattern) half
       → SearchGives nfa kind earliest x half slots scans turns
-      → (all : Slots) → ((path : Option (List Pair)) → slots ≡ slot_row nfa (length slots) path
-      → all ≡ slot_row nfa (length all) path)
+      → ((path : Option (List Pair)) → slots ≡ slot_row nfa (length slots) path → all ≡ slot_row nfa (length all) path)
       → IsAnswer nfa kind earliest x pattern all
-  answer-of half pattern is s all whole = search rules
+  answer-of is s whole = search rules
 
   -- its pattern is one of the NFA's
   pub pattern-among : IsAutomaton nfa → (half : Option HalfMatch)
@@ -197,11 +192,11 @@ module _ (nfa : Automaton) (kind : MatchKind) (earliest : Bool) (x : Search) {sl
   pattern-among valid None s = tt
   pattern-among valid (Some h) s =
       pattern-within nfa kind earliest valid x (Some (half_found_of h).pattern) slots
-      (answer-of (Some h) (Some (half_found_of h).pattern) refl s slots (λ path are. are))
+      (answer-of {all = slots} refl s (λ path are. are))
 
   -- the match
-  pub match-some : IsAutomaton nfa → (half : HalfMatch) (k : ℕ) → k ≡ (half_found_of half).pattern
+  pub match-some : IsAutomaton nfa → {half : HalfMatch} {k : ℕ} → k ≡ (half_found_of half).pattern
       → length slots ≡ 2 * length nfa.groups
-      → (s : SearchGives nfa kind earliest x (Some half) slots scans turns)
-      → (found : Option Found) → found ≡ match_of (Some k) slots → IsFindAnswer nfa kind earliest x found
-  match-some valid half k is size s found leads = search (rules, match-along-path)
+      → SearchGives nfa kind earliest x (Some half) slots scans turns
+      → {found : Option Found} → found ≡ match_of (Some k) slots → IsFindAnswer nfa kind earliest x found
+  match-some valid is size s leads = search (rules, match-along-path)

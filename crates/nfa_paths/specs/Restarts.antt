@@ -8,7 +8,7 @@ use Rattle.regex_search_core.specs.declared.search.MatchKind.{MatchKind}
 use Rattle.thompson_nfa.specs.Automaton.{Automaton}
 use Rattle.nfa_paths.specs.Graphs.{Pair}
 use Rattle.nfa_paths.specs.Exploring.{Slots}
-use Rattle.nfa_paths.specs.Paths.{span_len, total_degree, raised, node_at, pattern_of, last_of, path_half, slot_row, is_utf8_empty, IsScanAnswer, IsSearchAnswer, SplitsCharacter}
+use Rattle.nfa_paths.specs.Paths.{span_len, total_degree, raised, node_at, pattern_of, last_of, path_half, slot_row, is_utf8_empty, IsScanAnswer, IsSearchAnswer, SplitsCharacter, IsWithinScans, max_scans}
 
 -- the maximum number of turns of one scan
 abbrev pub max_scan_turns : Automaton → Search → ℕ
@@ -43,6 +43,12 @@ module _ (nfa : Automaton) (kind : MatchKind) (earliest : Bool) (x : Search) whe
     pub slots_are : slots ≡ slot_row nfa (length slots) path
     pub scans_are : scans ≡ restarts + 1
     pub turns_reach : option_map_or length path 0 ≤ turns
+
+  -- n scans and m turns of a search are within their bounds, and an answer takes no fewer scans
+  pub record IsBounded (n m : ℕ) : Type 0 where
+    pub within : IsWithinScans nfa kind earliest x n
+    pub scans : n ≤ max_scans nfa x
+    pub turns : m ≤ n * max_scan_turns nfa x
 
   -- A search in progress. It scans y next, after `scans` scans, each with an answer that ends inside a codepoint.
   pub record Restarts (y : Search) (scans turns : ℕ) : Type 0 where

@@ -4,12 +4,12 @@ use Rattle.nfa_paths.specs.Common.{Search, MatchKind, Automaton, Slots, is_utf8_
 use Rattle.nfa_paths.proofs.EarliestLemmas.{search_answer-asked, found_answer-earliest}
 use Rattle.nfa_paths.proofs.PatternLemmas.{found-of}
 
-module _ (nfa : Automaton) (kind : MatchKind) (x y : Search) (e : Bool) (is_e : e ≡ not (is_utf8_empty nfa))
+module _ {nfa : Automaton} {kind : MatchKind} {x y : Search} {e : Bool} (is_e : e ≡ not (is_utf8_empty nfa))
     (is_y : y ≡ record x { earliest = e }) where
   -- the work for the answer
-  pub work-free : (scans turns : ℕ) → IsWork nfa kind y.earliest y scans turns
+  pub work-free : {scans turns : ℕ} → IsWork nfa kind y.earliest y scans turns
       → IsWork nfa kind (not (is_utf8_empty nfa)) x scans turns
-  work-free scans turns w = of (rw is_y at w)
+  work-free {scans} {turns} w = of (rw is_y at w)
     where
       of : IsWork nfa kind e (record x { earliest = e }) scans turns
           → IsWork nfa kind (not (is_utf8_empty nfa)) x scans turns
@@ -23,9 +23,9 @@ module _ (nfa : Automaton) (kind : MatchKind) (x y : Search) (e : Bool) (is_e : 
           })
 
   -- whether there is a match
-  pub found-free : (slots : Slots) (pattern : Option ℕ) → IsAnswer nfa kind y.earliest y pattern slots
+  pub found-free : {slots : Slots} {pattern : Option ℕ} → IsAnswer nfa kind y.earliest y pattern slots
       → IsBoolAnswer nfa kind false x (is_some pattern)
-  found-free slots pattern a = of (found-of nfa kind e (record x { earliest = e }) slots pattern (rw is_y at a))
+  found-free {slots} {pattern} a = of (found-of nfa kind e (record x { earliest = e }) slots pattern (rw is_y at a))
     where
       of : IsBoolAnswer nfa kind e (record x { earliest = e }) (is_some pattern)
           → IsBoolAnswer nfa kind false x (is_some pattern)

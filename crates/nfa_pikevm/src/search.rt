@@ -1,8 +1,8 @@
 //! A search: a scan, and further scans while the answer ends inside a codepoint.
 ghost use Rattle.std.specs.Prelude.{◌≡◌, ◌-◌, ◌*◌, ◌≤◌, length};
 ghost use Rattle.regex_search_core.specs.Search.{search_of};
-ghost use Rattle.nfa_paths.specs.Paths.{max_scans, raised};
-ghost use Rattle.nfa_paths.specs.Restarts.{max_scan_turns, SearchGives};
+ghost use Rattle.nfa_paths.specs.Paths.{raised};
+ghost use Rattle.nfa_paths.specs.Restarts.{IsBounded, SearchGives};
 ghost use Rattle.nfa_scan_core.specs.FirstBytes.{IsFirstBytes};
 ghost use Rattle.nfa_pikevm_scan.specs.Scans.{HaveRoom, SameSizes};
 
@@ -33,8 +33,8 @@ pub fn search(
         threads.new.scans threads.new.reached.seen.turns }
     ensures last { search_of input.new ≡ raised (search_of input.old) (threads.new.scans - 1) }
     ensures sizes { SameSizes threads.old threads.new }
-    ensures scans { threads.new.scans ≤ max_scans nfa.now (search_of input.old) }
-    ensures turns { threads.new.reached.seen.turns ≤ threads.new.scans * max_scan_turns nfa.now (search_of input.old) }
+    ensures bounds { IsBounded nfa.now kind (search_of input.old).earliest (search_of input.old) threads.new.scans
+        threads.new.reached.seen.turns }
 {
     loop {
         let half = scan(nfa, first, kind, input, threads, slots)?;

@@ -22,21 +22,20 @@ module _ (nfa : Automaton) (kind : MatchKind) (earliest : Bool) (x : Search) whe
   pattern-of valid None h = tt
   pattern-of valid (Some m) h = match-pattern nfa kind earliest valid x (found_of m) h
 
-  pub slots-pattern : IsAutomaton nfa → (r : Option PatternID) (slots : List (Option ℕ))
-      → IsAnswer nfa kind earliest x (option_map number_of r) slots
-      → IfSome r (λ p. number_of p < length nfa.patterns)
-  slots-pattern valid None slots a = tt
-  slots-pattern valid (Some p) slots a = pattern-within nfa kind earliest valid x (Some (number_of p)) slots a
+module _ {nfa : Automaton} {kind : MatchKind} {earliest : Bool} {x : Search} {slots : List (Option ℕ)} where
+  pub slots-pattern : IsAutomaton nfa → (r : Option PatternID)
+      → IsAnswer nfa kind earliest x (option_map number_of r) slots → IfSome r (λ p. number_of p < length nfa.patterns)
+  slots-pattern valid None a = tt
+  slots-pattern valid (Some p) a = pattern-within nfa kind earliest valid x (Some (number_of p)) slots a
 
   -- after no match no slot is set
-  pub slots-none : (n : ℕ) (pattern : Option ℕ) (slots : List (Option ℕ)) → IsAnswer nfa kind earliest x pattern slots
-      → length slots ≡ n → IfNone pattern (slots ≡ replicate n None)
-  slots-none n None slots a size = slots-unset nfa kind earliest x slots a ∙ ap (λ k. replicate k None) size
-  slots-none n (Some p) slots a size = tt
+  pub slots-none : {n : ℕ} (pattern : Option ℕ) → IsAnswer nfa kind earliest x pattern slots → length slots ≡ n
+      → IfNone pattern (slots ≡ replicate n None)
+  slots-none None a size = slots-unset nfa kind earliest x slots a ∙ ap (λ k. replicate k None) size
+  slots-none (Some p) a size = tt
 
   -- the same for a pattern that is not yet a number
-  pub slots-none_of : (n : ℕ) (r : Option PatternID) (slots : List (Option ℕ))
-      → IsAnswer nfa kind earliest x (option_map number_of r) slots → length slots ≡ n
-      → IfNone r (slots ≡ replicate n None)
-  slots-none_of n None slots a size = slots-none n None slots a size
-  slots-none_of n (Some p) slots a size = tt
+  pub slots-none_of : {n : ℕ} (r : Option PatternID) → IsAnswer nfa kind earliest x (option_map number_of r) slots
+      → length slots ≡ n → IfNone r (slots ≡ replicate n None)
+  slots-none_of None a size = slots-none None a size
+  slots-none_of (Some p) a size = tt

@@ -1,9 +1,7 @@
 -- A search that restarts has the answer of a search from where its last scan started.
-use Rattle.std.proofs.Common.{◌≡◌, ℕ, ◌+◌, ◌-◌, ◌*◌, ◌≤◌, Bool, true, false, MatchBool, List, [], ◌∷◌, ap, arith, refl, subst, Option, None, Some}
-use Rattle.nfa_paths.specs.Common.{Found, Search, is_anchored, MatchKind, Automaton, Pair, EndsOnBoundary, IsFindAnswer, IsKeptAnswer, IsRestartedAnswer, IsScanAnswer, IsSearchAnswer, IsWhole, IsWithinScans, IsWork, is_utf8_empty, max_scans, raised}
-use Rattle.nfa_paths.specs.Restarts.{Restarts, max_scan_turns}
+use Rattle.std.proofs.Common.{◌≡◌, ℕ, ◌+◌, ◌-◌, Bool, true, false, MatchBool, List, [], ◌∷◌, ap, arith, refl, subst, Option, None, Some}
+use Rattle.nfa_paths.specs.Common.{Found, Search, is_anchored, MatchKind, Automaton, Pair, EndsOnBoundary, IsFindAnswer, IsKeptAnswer, IsRestartedAnswer, IsScanAnswer, IsSearchAnswer, IsWhole, IsWork, is_utf8_empty, raised}
 use Rattle.nfa_paths.proofs.AnswerLemmas.{search_answer-unique}
-use Rattle.nfa_paths.proofs.RestartLemmas.{scans-bound, scans-within, turns-after}
 
 -- no restart
 unmoved : (x : Search) (i : ℕ) → i ≡ 0 → x ≡ raised x i
@@ -19,24 +17,6 @@ whole-raised : (x : Search) (i : ℕ) (r : Option (List Pair)) → IsWhole x r �
 whole-raised x i None h = h
 whole-raised x i (Some p) h = boundary-raised x i p h
 
--- A search x has restarted this often, and makes one scan more, of y. It has then made n scans.
-module _ {nfa : Automaton} {kind : MatchKind} {earliest : Bool} {x y : Search} {restarts turns n : ℕ}
-    (begun : Restarts nfa kind earliest x y restarts turns) (counted : n ≡ restarts + 1) where
-  -- where the scan starts
-  pub scan-start : y ≡ raised x (n - 1)
-  scan-start = let same : restarts ≡ n - 1 = omega (arith, counted) in rw (← same) begun.is
-
-  -- an answer takes no fewer scans
-  pub scans-needed : IsWithinScans nfa kind earliest x n
-  scans-needed = rw counted (scans-within nfa kind earliest x y restarts turns begun)
-
-  -- and the scans and turns are within their bounds
-  pub scans-few : n ≤ max_scans nfa x
-  scans-few = rw counted (scans-bound nfa kind earliest x y restarts turns begun)
-
-  pub turns-few : {m : ℕ} → m ≤ turns + max_scan_turns nfa y → m ≤ n * max_scan_turns nfa x
-  turns-few {m = m} more = rw counted (turns-after nfa kind earliest x y restarts turns begun m more)
-
 module _ (nfa : Automaton) (kind : MatchKind) (earliest : Bool) (x : Search) where
   -- what a search answers, by whether it may end anywhere and whether it is anchored
   abbrev AnswersBy : Bool → Bool → Search → ℕ → Option (List Pair) → Type 0
@@ -45,7 +25,7 @@ module _ (nfa : Automaton) (kind : MatchKind) (earliest : Bool) (x : Search) whe
       ((restarts ≡ 0) × IsScanAnswer nfa y kind earliest path)
 
   -- a search has the answer of the one that starts where its last scan does
-  pub from-scan : (restarts : ℕ) (path : Option (List Pair)) → IsSearchAnswer nfa kind earliest x restarts path
+  from-scan : (restarts : ℕ) (path : Option (List Pair)) → IsSearchAnswer nfa kind earliest x restarts path
       → IsSearchAnswer nfa kind earliest (raised x restarts) 0 path
   from-scan restarts path = of (is_utf8_empty nfa) (is_anchored x.anchored)
     where
@@ -58,17 +38,18 @@ module _ (nfa : Automaton) (kind : MatchKind) (earliest : Bool) (x : Search) whe
       }
       of false c h = (refl, subst (λ y. IsScanAnswer nfa y kind earliest path) (unmoved x restarts h.0) h.1)
 
-  -- so it has the match of that one
-  pub match-from-scan : (found : Option Found) (scans turns : ℕ) → IsFindAnswer nfa kind earliest x found
-      → IsWork nfa kind earliest x scans turns → IsFindAnswer nfa kind earliest (raised x (scans - 1)) found
-  match-from-scan found scans turns h work =
-      let one = search_answer-unique nfa kind earliest x h.restarts work.restarts h.path work.path h.answers
-      work.answers in
-      let same : h.restarts ≡ scans - 1 = omega (arith, one.0, work.scans_are) in
-      record {
-        restarts = 0;
-        path = h.path;
-        answers = subst (λ (n : ℕ). IsSearchAnswer nfa kind earliest (raised x n) 0 h.path) same
-            (from-scan h.restarts h.path h.answers);
-        found_is = h.found_is;
-      }
+-- so it has the match of that one
+pub match-from-scan : {nfa : Automaton} {kind : MatchKind} {earliest : Bool} {x : Search} {found : Option Found}
+    {scans turns : ℕ} → IsFindAnswer nfa kind earliest x found → IsWork nfa kind earliest x scans turns
+    → IsFindAnswer nfa kind earliest (raised x (scans - 1)) found
+match-from-scan {nfa} {kind} {earliest} {x} {scans = scans} h work =
+    let one = search_answer-unique nfa kind earliest x h.restarts work.restarts h.path work.path h.answers
+    work.answers in
+    let same : h.restarts ≡ scans - 1 = omega (arith, one.0, work.scans_are) in
+    record {
+      restarts = 0;
+      path = h.path;
+      answers = subst (λ (n : ℕ). IsSearchAnswer nfa kind earliest (raised x n) 0 h.path) same
+          (from-scan nfa kind earliest x h.restarts h.path h.answers);
+      found_is = h.found_is;
+    }

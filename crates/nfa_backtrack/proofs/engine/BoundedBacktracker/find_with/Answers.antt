@@ -1,7 +1,7 @@
 -- The match of a search, its pattern, and its span.
 use Rattle.std.proofs.Common.{false, ◌≡◌, ◌∙◌, ◌*◌, ap, arith, length}
 use Rattle.std.proofs.lemmas.List.{length-take}
-use Rattle.nfa_paths.specs.Common.{number_of, search_of, IsAutomaton}
+use Rattle.nfa_paths.specs.Common.{search_of, IsAutomaton}
 use Rattle.regex_search_core.specs.declared.search.MatchKind.TheVariants.{LeftmostFirst}
 use Rattle.nfa_paths.proofs.RestartLemmas.{match-some}
 use Rattle.nfa_search_base.proofs.CallerLemmas.{inside-of, pattern-of}
@@ -23,9 +23,7 @@ returns-clause-answer c =
       c.implicit_slot_len-slot_len.ensures,
       ap length c.group_info.ensures.value,
     )) in
-    match-some c.args.self.now.nfa LeftmostFirst false (search_of c.args.input.now) valid c.in-Some.half
-    (number_of c.pattern.result) c.pattern.ensures size (rw c.in-Some.is at c.in_ok-half.ensures.answer) _
-    c.from_slots.ensures
+    match-some valid c.pattern.ensures size (rw c.in-Some.is at c.in_ok-half.ensures.answer) c.from_slots.ensures
 
 pub returns-clause-inside : goal.returns-clause-inside
 returns-clause-inside c = inside-of c.args.self.now.nfa LeftmostFirst false (search_of c.args.input.now)

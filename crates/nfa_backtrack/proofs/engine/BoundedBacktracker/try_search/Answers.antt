@@ -9,8 +9,7 @@ use Rattle.nfa_backtrack.proofs.engine.BoundedBacktracker.try_search.Goals as go
 pub returns-clause-unmatched : goal.returns-clause-unmatched
 returns-clause-unmatched c =
     rw c.set_pattern-2.ensures
-    (unmatched-slots c.args.self.now.nfa (search_of c.args.input.now) (option_map number_of c.in_ok-pattern.pattern)
-    c.set_pattern.new.self.slots c.try_search_slots.new.slots (length c.args.captures.now.slots)
+    (unmatched-slots (option_map number_of c.in_ok-pattern.pattern) c.set_pattern.new.self.slots
     (ap (λ (k : Captured). length k.slots) c.set_pattern.ensures)
     (c.try_search_slots.auto.slots ∙ ap length c.slots_mut.ensures.value) c.in_ok-pattern.ensures.answer)
 

@@ -9,13 +9,11 @@ use Rattle.nfa_backtrack.proofs.engine.BoundedBacktracker.try_search_slots.Goals
 
 pub returns-clause-answer : goal.returns-clause-answer
 returns-clause-answer c =
-    answer-of c.args.self.now.nfa LeftmostFirst false (search_of c.args.input.now) c.in_ok-half.half _
-    c.pattern_of.ensures c.in_ok-half.ensures.answer _ (λ path are. are)
+    answer-of c.pattern_of.ensures c.in_ok-half.ensures.answer (λ path are. are)
 
 pub returns-clause-unmatched : goal.returns-clause-unmatched
 returns-clause-unmatched c =
-    slots-none_of c.args.self.now.nfa LeftmostFirst false (search_of c.args.input.now) _ _ _ (returns-clause-answer c)
-    c.search_counted.auto.slots
+    slots-none_of c.pattern_of.result (returns-clause-answer c) c.search_counted.auto.slots
 
 pub returns-clause-inside : goal.returns-clause-inside
 returns-clause-inside c =

@@ -35,7 +35,7 @@ returns c =
           let some = c.found_in.ensures.found m k.0 in
           let same = subst (λ (r : Result (Option Match) SearchError). IfOk r
           (λ o. IfSome o (λ n. c.find_at-reply.new.start ≡ last))) some found.last in
-          (found-sure e x reply _ _ m some found.finds found.once, k.1 ∙ same));
+          (found-sure reply m some found.finds found.once, k.1 ∙ same));
       work = search-made c.ending_at-known.result
           (rw (← c.start.ensures) c.ending_at-known.ensures.exactly) (search rules) found.once
           (c.ending_at-self.ensures.exactly

@@ -8,14 +8,12 @@ use Rattle.nfa_pikevm.proofs.engine.PikeVM.find_half.Goals as goal
 pub returns-clause-answer : goal.returns-clause-answer
 returns-clause-answer c =
     rw (← c.self.view_is, ← c.get_match_kind-match_kind.ensures)
-    (half-of c.self.inside.nfa c.get_match_kind-match_kind.result _ (search_of c.args.input) c.search.result
-    c.search.ensures.answer)
+    (half-of c.search.ensures.answer)
 
 pub returns-clause-pattern : goal.returns-clause-pattern
 returns-clause-pattern c =
     rw (← c.self.view_is)
-    (pattern-among c.self.inside.nfa c.get_match_kind-match_kind.result _ (search_of c.args.input)
-    c.states.ensures.valid c.search.result c.search.ensures.answer)
+    (pattern-among c.states.ensures.valid c.search.result c.search.ensures.answer)
 
 pub returns-clause-inside : goal.returns-clause-inside
 returns-clause-inside c = half-lies c.args.self.now.nfa (kind_of c.args.self.now) _ (search_of c.args.input)

@@ -1,7 +1,7 @@
 -- The match is that of the pattern and the slots of the answer.
 use Rattle.std.proofs.Common.{◌≡◌, ◌∙◌, ◌*◌, ap, arith, length}
 use Rattle.std.proofs.lemmas.List.{length-take}
-use Rattle.nfa_paths.specs.Common.{number_of, search_of, IsAutomaton}
+use Rattle.nfa_paths.specs.Common.{search_of, IsAutomaton}
 use Rattle.nfa_paths.proofs.RestartLemmas.{match-some}
 use Rattle.nfa_pikevm.specs.Engines.{kind_of}
 use Rattle.nfa_search_base.proofs.CallerLemmas.{pattern-of}
@@ -19,9 +19,7 @@ returns-clause-answer c =
       ap length c.group_info.ensures.value,
     ) in
     rw (← c.self.view_is, ← c.get_match_kind.ensures)
-    (match-some c.self.inside.nfa c.get_match_kind.result _ (search_of c.args.input.now) c.group_info.ensures.valid
-    c.in_ok-half.half (number_of c.pattern.result) c.pattern.ensures size
-    c.in_ok-half.ensures.answer _ c.match_in.ensures)
+    (match-some c.group_info.ensures.valid c.pattern.ensures size c.in_ok-half.ensures.answer c.match_in.ensures)
 
 pub returns-clause-pattern : goal.returns-clause-pattern
 returns-clause-pattern c =

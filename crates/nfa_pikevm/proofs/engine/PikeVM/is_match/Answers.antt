@@ -16,15 +16,13 @@ returns-clause-answer c =
     let mode : c.is_utf8_empty-earliest.result ≡ is_utf8_empty c.args.self.now.nfa =
     rw (← c.self.view_is) c.is_utf8_empty-earliest.ensures in
     rw (c.is_some.ensures, ← is_some-map c.search_slots.result)
-    (found-free c.args.self.now.nfa (kind_of c.args.self.now) (search_of c.args.input)
-    (search_of c.earliest-input.result) _ (ap not mode) c.earliest-input.ensures _ _ c.search_slots.ensures.answer)
+    (found-free (ap not mode) c.earliest-input.ensures c.search_slots.ensures.answer)
 
 pub returns-clause-work : goal.returns-clause-work
 returns-clause-work c =
     let mode : c.is_utf8_empty-earliest.result ≡ is_utf8_empty c.args.self.now.nfa =
     rw (← c.self.view_is) c.is_utf8_empty-earliest.ensures in
-    work-free c.args.self.now.nfa (kind_of c.args.self.now) (search_of c.args.input) (search_of c.earliest-input.result)
-    _ (ap not mode) c.earliest-input.ensures _ _ c.search_slots.ensures.counts.work
+    work-free (ap not mode) c.earliest-input.ensures c.search_slots.ensures.counts.work
 
 pub returns-clause-finds : goal.returns-clause-finds
 returns-clause-finds c =

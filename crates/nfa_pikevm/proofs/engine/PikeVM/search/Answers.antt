@@ -1,9 +1,8 @@
 -- After no match no slot of the captures is set. If the slots are inside the span, so are the spans.
-use Rattle.std.proofs.Common.{arith, length}
+use Rattle.std.proofs.Common.{arith}
 use Rattle.std.proofs.lemmas.Grind.{common_steps}
 use Rattle.nfa_paths.specs.Common.{search_of}
 use Rattle.nfa_search_base.proofs.SpanLemmas.{spans-inside}
-use Rattle.nfa_pikevm.specs.Engines.{kind_of}
 use Rattle.nfa_search_base.proofs.CallerLemmas.{slots-none}
 use Rattle.nfa_pikevm.proofs.engine.PikeVM.search.Goals as goal
 
@@ -15,10 +14,7 @@ returns-clause-count c = grind (arith, common_steps)
 
 pub returns-clause-unmatched : goal.returns-clause-unmatched
 returns-clause-unmatched c =
-    let vm = c.args.self.now in
-    let x = search_of c.args.input.now in
-    slots-none vm.nfa (kind_of vm) x.earliest x (length c.args.captures.now.slots) _ _ (returns-clause-answer c)
-    (returns-clause-count c)
+    slots-none _ (returns-clause-answer c) (returns-clause-count c)
 
 pub returns-clause-spans : goal.returns-clause-spans
 returns-clause-spans c =

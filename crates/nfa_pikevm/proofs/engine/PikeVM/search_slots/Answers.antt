@@ -6,8 +6,8 @@ use Rattle.nfa_search_base.proofs.CallerLemmas.{slots-none_of}
 use Rattle.nfa_pikevm.proofs.engine.PikeVM.search_slots.Goals as goal
 
 pub returns-clause-unmatched : goal.returns-clause-unmatched
-returns-clause-unmatched c = slots-none_of c.args.self.now.nfa (kind_of c.args.self.now) _ (search_of c.args.input.now)
-    _ _ _ c.search_with.ensures.answer c.search_with.auto.slots
+returns-clause-unmatched c =
+    slots-none_of c.search_with.result c.search_with.ensures.answer c.search_with.auto.slots
 
 pub returns-clause-inside : goal.returns-clause-inside
 returns-clause-inside c = slots-within c.args.self.now.nfa (kind_of c.args.self.now) _ (search_of c.args.input.now) _ _

@@ -28,7 +28,7 @@ returns c =
     let e = c.find_with_start-found.ensures in
     let cache = c.find_with_start-found.new.cache in
     let start : c.start-2.result ≡ last_start x cache.scans = c.start-2.ensures ∙ ap (λ (z : Search). z.start) e.last in
-    let last = match-from-scan vm.nfa (kind_of vm) x.earliest x _ _ _ e.answer e.searches.work in
+    let last = match-from-scan e.answer e.searches.work in
     record {
       finds = find-answered vm.nfa (kind_of vm) x.earliest x c.find_with_start-found.result e.answer;
       engine = refl;
