@@ -1,15 +1,11 @@
 -- An NFA with fewer captures is one that `NFA::from_states` accepts.
-use Rattle.std.proofs.Common.{◌≡◌, ◌∙◌, ℕ, ◌+◌, ◌*◌, ◌≤◌, ◌<◌, inl, inr, List, [], ◌∷◌, ap, arith, length, map, refl, replicate, subst, sym, All, Option, None, Some, nat_lt, slice_index_or}
+use Rattle.std.proofs.Common.{◌≡◌, ◌∙◌, ℕ, ◌<◌, inl, inr, List, [], ◌∷◌, ap, length, map, refl, subst, sym, All, Option, None, nat_lt, slice_index_or}
 use Rattle.std.proofs.lemmas.Bool.{cases_Bool, cases_lt, le-ltb, lt-ltb}
-use Rattle.std.proofs.lemmas.List.{get_or_past, length-map, length-replicate}
+use Rattle.std.proofs.lemmas.List.{length-map, length-replicate}
 use Rattle.std.proofs.lemmas.List.Elements.{All-cons, All-head, All-map, All-nil, All-tail}
 use Rattle.nfa_paths.specs.Common.{slot_count, Automaton, IsAutomaton, LeadsBelow, Node, PatternBelow, SlotBelow}
 use Rattle.thompson_nfa.specs.Automaton.{AreGroupsOfPatterns}
-use Rattle.thompson_nfa.specs.Automaton.Node.{Capture, Fail}
-use Rattle.thompson_nfa.specs.Flaws.{IsFirstFlaw}
-use Rattle.thompson_nfa.specs.declared.flaw.Flaw.{Flaw}
-use Rattle.thompson_nfa.specs.declared.flaw.Flaw.TheVariants as flaw
-use Rattle.thompson_nfa.specs.declared.flaw.Referrer.TheVariants as holder
+use Rattle.thompson_nfa.specs.Automaton.Node.{Capture}
 use Rattle.nfa_captures.specs.Kept.{kept_groups, kept_node, with_captures, with_groups}
 use Rattle.nfa_captures.specs.declared.which.WhichCaptures.{WhichCaptures}
 use Rattle.nfa_captures.specs.declared.which.WhichCaptures.TheVariants as which
@@ -97,25 +93,3 @@ unfolding with_captures
 all-kept nfa is =
     ap (λ (states : List Node). (let made : Automaton = record nfa { states = states } in made))
     (nodes-same (slot_count nfa.groups) nfa.states is.slots)
-
--- of all elements and of a default, so of each place
-at-place : {X : Type 0} (P : X → Type 0) (xs : List X) (i : ℕ) (x : X) → All P xs → P x → P (slice_index_or xs i x)
-at-place P xs i x all default = elim (cases_lt i (length xs)) [
-  | inl inside ↦ all i x inside
-  | inr past ↦ subst P (sym (get_or_past xs i x past)) default
-]
-
--- an NFA has no flaw
-pub no-flaw : (a : Automaton) (f : Flaw) → IsAutomaton a → IsFirstFlaw a (Some f) → ⊥
-no-flaw a flaw.Empty is first = let filled = is.filled in omega arith
-no-flaw a (flaw.State holder.Anchored) is first = first.1 is.numbered.anchored_in
-no-flaw a (flaw.State holder.Unanchored) is first = first.1.1 is.numbered.unanchored_in
-no-flaw a (flaw.State (holder.Pattern i)) is first =
-    first.1.2.1 (at-place (λ s. s < length a.states) a.patterns i 0 is.numbered.patterns_in is.filled)
-no-flaw a (flaw.State (holder.State i)) is first =
-    first.1.3.1 (at-place (LeadsBelow (length a.states)) a.states i Fail is.numbered.targets_in tt)
-no-flaw a (flaw.Slot state slot) is first =
-    first.1.0.1 (at-place (SlotBelow (slot_count a.groups)) a.states state Fail is.slots tt)
-no-flaw a (flaw.Pattern state pattern) is first =
-    first.2.0.1 (at-place (PatternBelow (length a.patterns)) a.states state Fail is.patterns tt)
-no-flaw a (flaw.Groups groups patterns) is first = first.3 is.groups

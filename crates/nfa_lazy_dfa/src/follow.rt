@@ -1,6 +1,6 @@
 //! One step of the DFA, from a row over a byte to the next one.
-ghost use Rattle.std.specs.Prelude.{◌≡◌, ℕ, ◌<◌, ◌≤◌, [], Option, None, Some, false, true};
-ghost use Rattle.std.specs.Prelude.{All, IfOk, IsTrue, length, map, option_map, replicate, slice_index_or, slice_set};
+ghost use Rattle.std.specs.Prelude.{◌≡◌, ℕ, ◌<◌, ◌≤◌, [], Option, None, Some};
+ghost use Rattle.std.specs.Prelude.{All, IfOk, length, map, option_map};
 ghost use Rattle.regex_search_core.specs.Patterns.{number_of};
 ghost use Rattle.regex_search_core.specs.declared.search.MatchKind.TheVariants.{LeftmostFirst};
 ghost use Rattle.thompson_nfa.specs.Automaton.{node_of};
@@ -14,6 +14,7 @@ ghost use Rattle.nfa_lazy_dfa.specs.Stances.{Covers, IsNext, goes_on, here, hit_
 use crate::dfa::DFA;
 use nfa_determinize::closure::{closure, kept, pattern_by_kind, step};
 use nfa_determinize::laws;
+use nfa_scan_core::marks::{none_seen, see};
 use regex_search_core::{MatchKind, PatternID, StateID};
 use std::alloc::{AllocError, Global};
 use thompson_nfa::{NFA, State};
@@ -197,26 +198,4 @@ fn each_once(alloc: Global, nfa: &NFA, states: &[StateID]) -> Result<Vec<StateID
         }
     }
     Ok(once)
-}
-
-/// A mark for each state, none of them set.
-fn none_seen(alloc: Global, nfa: &NFA) -> Result<Vec<bool>, AllocError>
-    ensures { IfOk result (λ made. made.items ≡ replicate (length nfa.now.states) false) }
-{
-    Ok(vec![in alloc; false; nfa.states().len()]?)
-}
-
-/// Marks the state, and says whether it was not marked before.
-fn see(seen: &mut Vec<bool>, sid: StateID) -> bool
-    requires { sid < length seen.old.items }
-    ensures fresh { result ≡ true → slice_index_or seen.old.items sid true ≡ false }
-    ensures marked { result ≡ true → seen.new.items ≡ slice_set seen.old.items sid true }
-    ensures again { result ≡ false → slice_index_or seen.old.items sid true ≡ true }
-    ensures same { result ≡ false → seen.new.items ≡ seen.old.items }
-{
-    if seen[sid.as_usize()] {
-        return false;
-    }
-    seen[sid.as_usize()] = true;
-    true
 }

@@ -1,21 +1,18 @@
 -- A draft that is sound makes an NFA.
-use Rattle.std.proofs.Common.{◌≡◌, ◌⊎◌, inl, inr, ℕ, ◌+◌, ◌<◌, ◌≤◌, Bool, true, false, ◌&&◌, ◌||◌, nat_lt, nat_le, nat_eq, List, [], ◌∷◌, ◌++◌, map, length, Result, Ok, Err, refl, subst, sym, ap, arith, append-nil, append_assoc, All, IsOkUnless, IsTrue, Some, slice_index_or}
+use Rattle.std.proofs.Common.{◌≡◌, ◌⊎◌, inl, inr, ℕ, ◌+◌, ◌<◌, ◌≤◌, Bool, true, false, ◌&&◌, ◌||◌, nat_lt, nat_le, nat_eq, List, [], ◌∷◌, ◌++◌, map, length, Result, Ok, Err, refl, subst, sym, ap, arith, append-nil, append_assoc, All, IsOkUnless, IsTrue, slice_index_or}
 use Rattle.std.specs.List.{list_all}
 use Rattle.std.proofs.lemmas.List.Elements.{All-append, All-cons, All-map}
 use Rattle.std.proofs.lemmas.List.Sums.{AllPass-from_list_all}
-use Rattle.std.proofs.lemmas.Bool.{cases_lt, eqb-true, leb-true, ltb-true}
-use Rattle.std.proofs.lemmas.List.{length-append, length-map, map-append, get_or_past}
+use Rattle.std.proofs.lemmas.Bool.{eqb-true, leb-true, ltb-true}
+use Rattle.std.proofs.lemmas.List.{length-append, length-map, map-append}
 use Rattle.regex_search_core.specs.Groups.{slot_count}
 use Rattle.thompson_nfa.specs.declared.nfa.BuildError.{BuildError}
 use Rattle.thompson_nfa.specs.declared.nfa.BuildError.TheVariants as error
-use Rattle.thompson_nfa.specs.declared.flaw.Flaw.{Flaw}
-use Rattle.thompson_nfa.specs.declared.flaw.Flaw.TheVariants as flaw
-use Rattle.thompson_nfa.specs.declared.flaw.Referrer.TheVariants as holder
 use Rattle.thompson_nfa.specs.declared.state.State.{State}
 use Rattle.thompson_nfa.specs.Automaton as nfa
 use Rattle.thompson_nfa.specs.Automaton.{Node, node_of, Automaton, IsAutomaton, LeadsBelow, SlotBelow, PatternBelow}
 use Rattle.thompson_nfa.specs.Built.{IsBuilt}
-use Rattle.thompson_nfa.specs.Flaws.{IsFirstFlaw}
+use Rattle.thompson_nfa.proofs.FlawLemmas.{no-flaw}
 use Rattle.nfa_samples.specs.declared.state_table.StateRow.{StateRow}
 use Rattle.nfa_samples.specs.declared.state_table.StateRow.TheVariants.{Byte, Range, Ranges, Either, Union, Capture, Assert, Match}
 use Rattle.nfa_samples.specs.declared.state_table.StateTable.{StateTable}
@@ -142,28 +139,6 @@ module _ (more : ℕ) (d : StateTable) (is : Sound more d) where
       patterns = all-nodes (PatternBelow _) (all-rows (λ r. PatternBelow _ (node_in r)) (matches _ _ _)) match;
       groups = simp length-map is.groups;
     }
-
--- of all elements and of a default, so of each place
-at-place : {X : Type 0} (P : X → Type 0) (xs : List X) (i : ℕ) (x : X) → All P xs → P x → P (slice_index_or xs i x)
-at-place P xs i x all default = elim (cases_lt i (length xs)) [
-  | inl inside ↦ all i x inside
-  | inr past ↦ subst P (sym (get_or_past xs i x past)) default
-]
-
--- an NFA that has all that an NFA keeps has no flaw
-no-flaw : (a : Automaton) (f : Flaw) → IsAutomaton a → IsFirstFlaw a (Some f) → ⊥
-no-flaw a flaw.Empty is first = let filled = is.filled in omega arith
-no-flaw a (flaw.State holder.Anchored) is first = first.1 is.numbered.anchored_in
-no-flaw a (flaw.State holder.Unanchored) is first = first.1.1 is.numbered.unanchored_in
-no-flaw a (flaw.State (holder.Pattern i)) is first =
-    first.1.2.1 (at-place (λ s. s < length a.states) a.patterns i 0 is.numbered.patterns_in is.filled)
-no-flaw a (flaw.State (holder.State i)) is first =
-    first.1.3.1 (at-place (LeadsBelow (length a.states)) a.states i nfa.Fail is.numbered.targets_in tt)
-no-flaw a (flaw.Slot state slot) is first =
-    first.1.0.1 (at-place (SlotBelow (slot_count a.groups)) a.states state nfa.Fail is.slots tt)
-no-flaw a (flaw.Pattern state pattern) is first =
-    first.2.0.1 (at-place (PatternBelow (length a.patterns)) a.states state nfa.Fail is.patterns tt)
-no-flaw a (flaw.Groups groups patterns) is first = first.3 is.groups
 
 -- so it is made
 pub IsBuilt-made : (a : Automaton) (r : Result Automaton BuildError) → IsAutomaton a → IsBuilt a r → r ≡ Ok a

@@ -3,7 +3,8 @@ use Rattle.std.proofs.Common.{◌≡◌, ◌∙◌, ℕ, List, [], ◌∷◌, Op
 use Rattle.nfa_paths.specs.Common.{slot_count, Automaton, IsAutomaton, node_of}
 use Rattle.thompson_nfa.specs.declared.state.State.{State}
 use Rattle.nfa_captures.specs.Kept.{kept_groups, kept_node, with_captures}
-use Rattle.nfa_captures.proofs.ValidLemmas.{captures-valid, no-flaw}
+use Rattle.thompson_nfa.proofs.FlawLemmas.{no-flaw}
+use Rattle.nfa_captures.proofs.ValidLemmas.{captures-valid}
 use Rattle.nfa_captures.proofs.keep.keep_captures.Goals as goal
 
 -- the parts of an NFA
