@@ -2,7 +2,7 @@
 use Rattle.std.proofs.Common.{◌≡◌, ℕ, suc, ◌+◌, ◌≤◌, ◌<◌, inl, inr, Bool, true, false, List, [], ◌∷◌, ◌++◌, map, length, refl, sym, ap, ◌∙◌, subst, arith, Option, None, Some, is_some, All, slice_range, option_map, option_and_then, option_to_list, if◌then◌else◌, slice_index_or}
 use Rattle.std.specs.Option.{option_or}
 use Rattle.std.proofs.lemmas.Bool.{cases_Bool}
-use Rattle.nfa_paths.specs.Common.{number_of, Search, Automaton, Node, look_holds, Pair, In, EndsWith, IsFirst, FirstAmong, pattern_of, slot_of, node_at, is_match, capture, edges_of, edges, byte_at, target_on, first_target}
+use Rattle.nfa_paths.specs.Common.{number_of, Search, Automaton, Node, Pair, In, EndsWith, IsFirst, FirstAmong, pattern_of, slot_of, node_at, is_match, capture, edges_of, edges, byte_at, target_on, first_target}
 use Rattle.regex_hir.specs.Re.{Trace, Rest, write}
 use Rattle.regex_hir.specs.Looks.{holds}
 use Rattle.regex_nfa.specs.States.{covers, target_in, next_on, byte_below, visit, read}
@@ -13,12 +13,24 @@ use Rattle.regex_nfa.specs.declared.state.State as their_state
 use Rattle.regex_nfa.specs.declared.state.State.TheVariants as their
 use Rattle.regex_nfa.specs.declared.nfa.Nfa.{Nfa}
 use Rattle.thompson_nfa.specs.Automaton.Node.{ByteRange, Sparse, Look, Fail, Match}
-use Rattle.nfa_paths.proofs.PathLemmas.{IsFirst-dead, IsFirst-target, IsFirst-step}
+use Rattle.nfa_paths.proofs.PathLemmas.{IsFirst-target, IsFirst-step}
 use Rattle.nfa_compiler.specs.declared.block.Site.{Site}
-use Rattle.nfa_compiler.specs.Blocks.{look_of, match_at, slot_in, moved, Stands, IsBlock}
+use Rattle.nfa_compiler.specs.Blocks.{look_of, match_at, slot_in, moved, node_for, Stands, IsBlock}
 use Rattle.nfa_compiler.proofs.WriteLemmas.{write_of, writes_along}
 use Rattle.nfa_compiler.proofs.LookLemmas.{look-same}
+use Rattle.nfa_paths.proofs.OptionLemmas.{option_or-None}
 use Rattle.nfa_paths.proofs.PathToLemmas.{EndsWith-cons}
+
+-- the node for a state is no Match
+pub node-plain : (ts : List their_transition.Transition) (s : Site) (state : their_state.State)
+    → is_some (pattern_of (node_for ts s state)) ≡ false
+node-plain ts s (their.ByteRange t) = refl
+node-plain ts s (their.Sparse from to) = refl
+node-plain ts s (their.Split first second) = refl
+node-plain ts s (their.Save slot next) = refl
+node-plain ts s (their.Look l next) = refl
+node-plain ts s their.Match = refl
+node-plain ts s their.Fail = refl
 
 -- trying in turn
 
@@ -123,6 +135,14 @@ module _ (a : Automaton) (x : Search) (nfa : Nfa) (s : Site) (block : IsBlock a.
   abbrev left : ℕ → ℕ → ℕ
   left q i = measure nfa x.haystack x.end q i
 
+  -- the first that is found from these in turn, and their pairs in the NFA of all
+  abbrev first_of : List (ℕ × ℕ) → Option Trace
+  first_of [] = None
+  first_of (n ∷ ns) = option_or (go n.0 n.1) (first_of ns)
+
+  abbrev placed : List (ℕ × ℕ) → List Pair
+  placed ns = map (λ n. (s.base + n.0, n.1)) ns
+
   -- no mark is a pair that a walk from below n may reach
   pub record IsClear (marks : List Pair) (n : ℕ) : Type 0 where
     pub states : (r j : ℕ) → r < s.size → left r j < n → In (s.base + r, j) marks → ⊥
@@ -182,132 +202,117 @@ module _ (a : Automaton) (x : Search) (nfa : Nfa) (s : Site) (block : IsBlock a.
     IterState = (r : Option (List Pair)) × Tells a s (go q i) r
         × ((marks : List Pair) → IsClear marks (suc (left q i)) → IsFirst (edges a x) (is_match a) marks v r)
 
-    -- nothing leads on
-    walk-dead : go q i ≡ None → is_match a v ≡ false → edges a x v ≡ [] → IterState
-    walk-dead none plain dead = (
-      None,
-      subst (λ o. Tells a s o None) (sym none) tt,
-      λ marks clear. IsFirst-dead (edges a x) (is_match a) marks v plain dead,
-    )
-
-    -- one edge leads on
-    walk-one : (r j : ℕ) → is_match a v ≡ false → edges a x v ≡ (s.base + r, j) ∷ [] → left r j < left q i
-        → (w : (p : Option (List Pair)) × Tells a s (go r j) p
-        × ((marks : List Pair) → IsClear marks (suc (left r j))
-        → IsFirst (edges a x) (is_match a) marks (s.base + r, j) p))
-        → Tells a s (go q i) (option_map (λ p. v ∷ p) w.0) → IterState
-    walk-one r j plain one less w tells = (
-      option_map (λ p. v ∷ p) w.0,
-      tells,
-      λ marks clear. IsFirst-step (edges a x) (is_match a) marks v (free marks q i below clear) plain w.0
-          (subst (λ es. FirstAmong (edges a x) (is_match a) (v ∷ marks) es w.0) (sym one)
-          (among-one (edges a x) (is_match a) (v ∷ marks) (s.base + r, j) w.0
-          (w.2 (v ∷ marks) (clear-less marks q i r j below less clear)))),
-    )
-
-    -- two edges lead on, and nothing is written
-    walk-two : (r u : ℕ) → is_match a v ≡ false → capture a v ≡ None
-        → edges a x v ≡ (s.base + r, i) ∷ (s.base + u, i) ∷ [] → left r i < left q i → left u i < left q i
-        → go q i ≡ option_or (go r i) (go u i)
-        → (w : (p : Option (List Pair)) × Tells a s (go r i) p
-        × ((marks : List Pair) → IsClear marks (suc (left r i))
-        → IsFirst (edges a x) (is_match a) marks (s.base + r, i) p))
-        → (z : (p : Option (List Pair)) × Tells a s (go u i) p
-        × ((marks : List Pair) → IsClear marks (suc (left u i))
-        → IsFirst (edges a x) (is_match a) marks (s.base + u, i) p)) → IterState
-    walk-two r u plain none two less small gives w z = (
-      option_map (λ p. v ∷ p) (option_or w.0 z.0),
-      Tells-cons a s v (go q i) (option_or w.0 z.0) none
-          (subst (λ o. Tells a s o (option_or w.0 z.0)) (sym gives) (Tells-or a s (go r i) (go u i) w.0 z.0 w.1 z.1)),
-      λ marks clear. IsFirst-step (edges a x) (is_match a) marks v (free marks q i below clear) plain
-          (option_or w.0 z.0)
-          (subst (λ es. FirstAmong (edges a x) (is_match a) (v ∷ marks) es (option_or w.0 z.0)) (sym two)
-          (among-cons (edges a x) (is_match a) (v ∷ marks) (s.base + r, i) ((s.base + u, i) ∷ []) w.0 z.0
-          (w.2 (v ∷ marks) (clear-less marks q i r i below less clear))
-          (among-one (edges a x) (is_match a) (v ∷ marks) (s.base + u, i) z.0
-          (z.2 (v ∷ marks) (clear-less marks q i u i below small clear))))),
-    )
-
     -- the walks from what is below this pair
     abbrev Below : Type 0
     Below = (r j : ℕ) → left r j < left q i → IterStates r j
 
-    -- what is known of a node for a state that reads a byte
-    record Reads (state : their_state.State) (n : Node) : Type 0 where
-      visits : visit nfa.transitions.items x.haystack x.end go state i
-          ≡ read nfa.transitions.items x.haystack x.end go state i
-      leads_on : edges_of x n i
-          ≡ option_to_list (option_and_then (λ b. option_map (λ next. (next, i + 1)) (target_on n b)) (byte_at x i))
-      targets : (b : ℕ) → target_on n b ≡ option_map (λ r. s.base + r) (next_on nfa.transitions.items state b)
-      small : (b r : ℕ) → next_on nfa.transitions.items state b ≡ Some r → r < s.size
-      plain : is_some (pattern_of n) ≡ false
-      writes_nothing : slot_of n ≡ None
+    -- these are pairs of the pattern's states, from which less is left
+    abbrev AreBelow : List (ℕ × ℕ) → Type 0
+    AreBelow [] = Unit {0}
+    AreBelow (n ∷ ns) = (n.0 < s.size) × (n.1 ≤ x.end) × (left n.0 n.1 < left q i) × AreBelow ns
 
-    -- a state that reads a byte
-    walk-read : Below → (state : their_state.State) (n : Node) → state_of nfa q ≡ state → node_at a (s.base + q) ≡ n
-        → Reads state n → IterState
-    unfolding byte_below
-    walk-read under state n is node reads = by_byte (byte_below x.haystack x.end i) refl
-      where
-        gives : go q i ≡ read nfa.transitions.items x.haystack x.end go state i
-        gives = run_at nfa x.haystack x.end q i state is ∙ reads.visits
+    -- the walks from them in turn
+    walk-among : Below → (ns : List (ℕ × ℕ)) → AreBelow ns → (r : Option (List Pair)) × Tells a s (first_of ns) r
+        × ((marks : List Pair) → IsClear marks (suc (left q i))
+        → FirstAmong (edges a x) (is_match a) (v ∷ marks) (placed ns) r)
+    walk-among under [] low = (None, tt, λ marks clear. refl)
+    walk-among under (n ∷ ns) low =
+        let w = under n.0 n.1 low.2 low.0 low.1 in
+        let rest = walk-among under ns low.3 in (
+          option_or w.0 rest.0,
+          Tells-or a s (go n.0 n.1) (first_of ns) w.0 rest.0 w.1 rest.1,
+          λ marks clear. among-cons (edges a x) (is_match a) (v ∷ marks) (s.base + n.0, n.1) (placed ns) w.0 rest.0
+              (w.2 (v ∷ marks) (clear-less marks q i n.0 n.1 below low.2 clear)) (rest.2 marks clear),
+        )
 
-        unmatched : is_match a v ≡ false
-        unmatched = ap (λ k. is_some (pattern_of k)) node ∙ reads.plain
+    module _ (under : Below) (state : their_state.State) (is : state_of nfa q ≡ state)
+        (stands : Stands nfa.transitions.items s state (node_at a (s.base + q))) where
+      abbrev n : Node
+      n = node_for nfa.transitions.items s state
 
-        unwritten : capture a v ≡ None
-        unwritten = ap slot_of node ∙ reads.writes_nothing
+      gives : go q i ≡ visit nfa.transitions.items x.haystack x.end go state i
+      gives = run_at nfa x.haystack x.end q i state is
 
-        by_target : (b : ℕ) → byte_below x.haystack x.end i ≡ Some b → (o : Option ℕ)
-            → next_on nfa.transitions.items state b ≡ o → IterState
-        by_target b byte None next =
-            walk-dead
-            (gives ∙ ap (λ o. option_and_then (λ r. go r (i + 1))
-            (option_and_then (next_on nfa.transitions.items state) o)) byte
-            ∙ ap (option_and_then (λ r. go r (i + 1))) next)
-            unmatched
-            (ap (λ k. edges_of x k i) node ∙ reads.leads_on
-            ∙ ap (λ o. option_to_list (option_and_then (λ c. option_map (λ k. (k, i + 1)) (target_on n c)) o)) byte
-            ∙ ap (λ o. option_to_list (option_map (λ k. (k, i + 1)) o)) (reads.targets b
-            ∙ ap (option_map (λ r. s.base + r)) next))
-        by_target b byte (Some r) next =
-            let inner = byte_below_some x.haystack x.end i b byte in
-            let bound = next_on_within nfa q b r (ap (λ st. next_on nfa.transitions.items st b) is ∙ next) in
-            let less : left r (i + 1) < left q i = measure_falls_byte nfa x.haystack x.end r q i inner.0 bound in
-            let w = under r (i + 1) less (reads.small b r next) (omega (arith, inner.0)) in
-            let same : go q i ≡ go r (i + 1) =
-            gives ∙ ap (λ o. option_and_then (λ k. go k (i + 1))
-            (option_and_then (next_on nfa.transitions.items state) o)) byte
-            ∙ ap (option_and_then (λ k. go k (i + 1))) next in
-            walk-one r (i + 1) unmatched
-            (ap (λ k. edges_of x k i) node ∙ reads.leads_on
-            ∙ ap (λ o. option_to_list (option_and_then (λ c. option_map (λ k. (k, i + 1)) (target_on n c)) o)) byte
-            ∙ ap (λ o. option_to_list (option_map (λ k. (k, i + 1)) o)) (reads.targets b
-            ∙ ap (option_map (λ k. s.base + k)) next))
-            less w
-            (Tells-cons a s v (go q i) w.0 unwritten (subst (λ o. Tells a s o w.0) (sym same) w.1))
+      plain : is_match a v ≡ false
+      plain = ap (λ k. is_some (pattern_of k)) stands.1 ∙ node-plain nfa.transitions.items s state
 
-        by_byte : (o : Option ℕ) → byte_below x.haystack x.end i ≡ o → IterState
-        by_byte None byte =
-            walk-dead
-            (gives ∙ ap (λ o. option_and_then (λ r. go r (i + 1))
-            (option_and_then (next_on nfa.transitions.items state) o)) byte)
-            unmatched
-            (ap (λ k. edges_of x k i) node ∙ reads.leads_on
-            ∙ ap (λ o. option_to_list (option_and_then (λ c. option_map (λ k. (k, i + 1)) (target_on n c)) o)) byte)
-        by_byte (Some b) byte = by_target b byte (next_on nfa.transitions.items state b) refl
+      -- the walk that goes on with one of these
+      walk-on : (ns : List (ℕ × ℕ)) → AreBelow ns → edges_of x n i ≡ placed ns
+          → ((r : Option (List Pair)) → Tells a s (first_of ns) r
+          → Tells a s (visit nfa.transitions.items x.haystack x.end go state i) (option_map (λ p. v ∷ p) r))
+          → IterState
+      walk-on ns low leads tells =
+          let w = walk-among under ns low in (
+            option_map (λ p. v ∷ p) w.0,
+            subst (λ o. Tells a s o (option_map (λ p. v ∷ p) w.0)) (sym gives) (tells w.0 w.1),
+            λ marks clear. IsFirst-step (edges a x) (is_match a) marks v (free marks q i below clear) plain w.0
+                (subst (λ es. FirstAmong (edges a x) (is_match a) (v ∷ marks) es w.0)
+                (sym (ap (λ k. edges_of x k i) stands.1 ∙ leads)) (w.2 marks clear)),
+          )
+
+      -- and writes nothing
+      walk-plain : (ns : List (ℕ × ℕ)) → AreBelow ns → slot_of n ≡ None → edges_of x n i ≡ placed ns
+          → visit nfa.transitions.items x.haystack x.end go state i ≡ first_of ns → IterState
+      walk-plain ns low none leads same =
+          walk-on ns low leads (λ r t. Tells-cons a s v (visit nfa.transitions.items x.haystack x.end go state i) r
+          (ap slot_of stands.1 ∙ none) (subst (λ o. Tells a s o r) (sym same) t))
+
+      -- what is known of a state that reads a byte
+      record Reads : Type 0 where
+        visits : visit nfa.transitions.items x.haystack x.end go state i
+            ≡ read nfa.transitions.items x.haystack x.end go state i
+        leads_on : edges_of x n i
+            ≡ option_to_list (option_and_then (λ b. option_map (λ next. (next, i + 1)) (target_on n b)) (byte_at x i))
+        targets : (b : ℕ) → target_on n b ≡ option_map (λ r. s.base + r) (next_on nfa.transitions.items state b)
+        small : (b r : ℕ) → next_on nfa.transitions.items state b ≡ Some r → r < s.size
+        writes_nothing : slot_of n ≡ None
+
+      walk-read : Reads → IterState
+      unfolding byte_below
+      walk-read reads = by_byte (byte_below x.haystack x.end i) refl
+        where
+          -- what is read, and where it leads
+          gone : (o : Option ℕ) → byte_below x.haystack x.end i ≡ o
+              → visit nfa.transitions.items x.haystack x.end go state i
+              ≡ option_and_then (λ r. go r (i + 1)) (option_and_then (next_on nfa.transitions.items state) o)
+          gone o byte =
+              reads.visits ∙ ap (λ b. option_and_then (λ r. go r (i + 1))
+              (option_and_then (next_on nfa.transitions.items state) b)) byte
+
+          led : (o : Option ℕ) → byte_below x.haystack x.end i ≡ o → edges_of x n i
+              ≡ option_to_list (option_and_then (λ b. option_map (λ next. (next, i + 1)) (target_on n b)) o)
+          led o byte =
+              reads.leads_on ∙ ap (λ b. option_to_list (option_and_then
+              (λ c. option_map (λ next. (next, i + 1)) (target_on n c)) b)) byte
+
+          by_target : (b : ℕ) → byte_below x.haystack x.end i ≡ Some b → (o : Option ℕ)
+              → next_on nfa.transitions.items state b ≡ o → IterState
+          by_target b byte None next =
+              walk-plain [] tt reads.writes_nothing (led (Some b) byte ∙ rw (reads.targets b, next) refl)
+              (gone (Some b) byte ∙ rw next refl)
+          by_target b byte (Some r) next =
+              let inner = byte_below_some x.haystack x.end i b byte in
+              let bound = next_on_within nfa q b r (ap (λ st. next_on nfa.transitions.items st b) is ∙ next) in
+              let less : left r (i + 1) < left q i = measure_falls_byte nfa x.haystack x.end r q i inner.0 bound in
+              walk-plain ((r, i + 1) ∷ [])
+              (reads.small b r next, omega (arith, inner.0), less, tt)
+              reads.writes_nothing (led (Some b) byte ∙ rw (reads.targets b, next) refl)
+              (gone (Some b) byte ∙ rw next (sym (option_or-None (go r (i + 1)))))
+
+          by_byte : (o : Option ℕ) → byte_below x.haystack x.end i ≡ o → IterState
+          by_byte None byte = walk-plain [] tt reads.writes_nothing (led None byte) (gone None byte)
+          by_byte (Some b) byte = by_target b byte (next_on nfa.transitions.items state b) refl
 
     -- the walk from here, by the state at this place
     walk-from : Below → (state : their_state.State) → state_of nfa q ≡ state
         → Stands nfa.transitions.items s state (node_at a (s.base + q)) → IterState
     unfolding edges_of next_on
     walk-from under (their.ByteRange t) is stands =
-        walk-read under (their.ByteRange t) (ByteRange (moved s t)) is stands.1 (record {
+        walk-read under (their.ByteRange t) is stands (record {
           visits = refl;
           leads_on = refl;
           targets = λ b. range-target b (covers t b);
           small = λ b r e. range-small b r (covers t b) e;
-          plain = refl;
           writes_nothing = refl;
         })
       where
@@ -320,83 +325,53 @@ module _ (a : Automaton) (x : Search) (nfa : Nfa) (s : Site) (block : IsBlock a.
         range-small b r true e = let same : t.next ≡ r = cc in subst (λ k. k < s.size) same stands.0
         range-small b r false e = cc
     walk-from under (their.Sparse from to) is stands =
-        walk-read under (their.Sparse from to) (Sparse (map (moved s) (slice_range nfa.transitions.items from to)))
-        is stands.1
-        (record {
+        walk-read under (their.Sparse from to) is stands (record {
           visits = refl;
           leads_on = refl;
           targets = first-moved s (slice_range nfa.transitions.items from to);
           small = λ b r e. first-within s.size (slice_range nfa.transitions.items from to) b r stands.0 e;
-          plain = refl;
           writes_nothing = refl;
         })
     walk-from under (their.Split first second) is stands =
         let sound = sound_of nfa q (their.Split first second) is in
-        let less : left first i < left q i = measure_falls_empty nfa x.haystack x.end first q i sound.0 in
-        let small : left second i < left q i = measure_falls_empty nfa x.haystack x.end second q i sound.1 in
-        walk-two first second
-        (ap (λ k. is_some (pattern_of k)) stands.2)
-        (ap slot_of stands.2)
-        (ap (λ k. edges_of x k i) stands.2)
-        less small
-        (run_at nfa x.haystack x.end q i (their.Split first second) is)
-        (under first i less stands.0 within)
-        (under second i small stands.1 within)
+        let less = measure_falls_empty nfa x.haystack x.end first q i sound.0 in
+        let small = measure_falls_empty nfa x.haystack x.end second q i sound.1 in
+        walk-plain under (their.Split first second) is stands ((first, i) ∷ (second, i) ∷ [])
+        (stands.0.0, within, less, (stands.0.1, within, small, tt)) refl refl
+        (ap (option_or (go first i)) (sym (option_or-None (go second i))))
     walk-from under (their.Save slot next) is stands =
         let sound = sound_of nfa q (their.Save slot next) is in
-        let less : left next i < left q i = measure_falls_empty nfa x.haystack x.end next q i sound.1 in
-        let w = under next i less stands.1 within in
-        walk-one next i
-        (ap (λ k. is_some (pattern_of k)) stands.2)
-        (ap (λ k. edges_of x k i) stands.2)
-        less w
-        (subst (λ o. Tells a s o (option_map (λ p. v ∷ p) w.0))
-        (sym (run_at nfa x.haystack x.end q i (their.Save slot next) is))
-        (Tells-write a s v slot i (go next i) w.0 (ap slot_of stands.2) refl stands.0 w.1))
-    walk-from under (their.Look l next) is stands =
-        by_holds (holds l x.haystack i) refl
+        walk-on under (their.Save slot next) is stands ((next, i) ∷ [])
+        (stands.0.1, within, measure_falls_empty nfa x.haystack x.end next q i sound.1, tt) refl
+        (λ r t. Tells-write a s v slot i (go next i) r (ap slot_of stands.1) refl stands.0.0
+        (subst (λ o. Tells a s o r) (option_or-None (go next i)) t))
+    walk-from under (their.Look l next) is stands = by_holds (holds l x.haystack i) refl
       where
-        node : node_at a (s.base + q) ≡ Look (look_of l) (s.base + next)
-        node = stands.1
-
-        same : look_holds (look_of l) x.haystack i ≡ holds l x.haystack i
-        same = look-same l x.haystack i (omega arith)
-
-        leads_on : edges a x v ≡ (if holds l x.haystack i then (s.base + next, i) ∷ [] else [])
-        leads_on = ap (λ k. edges_of x k i) node ∙ ap (λ b. if b then (s.base + next, i) ∷ [] else []) same
-
-        gives : go q i ≡ (if holds l x.haystack i then go next i else None)
-        gives = run_at nfa x.haystack x.end q i (their.Look l next) is
+        leads : (b : Bool) → holds l x.haystack i ≡ b
+            → edges_of x (Look (look_of l) (s.base + next)) i ≡ (if b then (s.base + next, i) ∷ [] else [])
+        leads b e = ap (λ c. if c then (s.base + next, i) ∷ [] else []) (look-same l x.haystack i (omega arith) ∙ e)
 
         by_holds : (b : Bool) → holds l x.haystack i ≡ b → IterState
         by_holds false fails =
-            walk-dead
-            (gives ∙ ap (λ b. if b then go next i else None) fails)
-            (ap (λ k. is_some (pattern_of k)) node)
-            (leads_on ∙ ap (λ b. if b then (s.base + next, i) ∷ [] else []) fails)
+            walk-plain under (their.Look l next) is stands [] tt refl (leads false fails) (rw fails refl)
         by_holds true ok =
             let less : left next i < left q i =
             measure_falls_empty nfa x.haystack x.end next q i (sound_of nfa q (their.Look l next) is) in
-            let w = under next i less stands.0 within in
-            walk-one next i
-            (ap (λ k. is_some (pattern_of k)) node)
-            (leads_on ∙ ap (λ b. if b then (s.base + next, i) ∷ [] else []) ok)
-            less w
-            (Tells-cons a s v (go q i) w.0 (ap slot_of node)
-            (subst (λ o. Tells a s o w.0) (sym (gives ∙ ap (λ b. if b then go next i else None) ok)) w.1))
+            walk-plain under (their.Look l next) is stands ((next, i) ∷ []) (stands.0, within, less, tt)
+            refl (leads true ok) (rw ok (sym (option_or-None (go next i))))
     walk-from under their.Match is stands = (
       Some (v ∷ (match_at s, i) ∷ []),
       subst (λ o. Tells a s o (Some (v ∷ (match_at s, i) ∷ []))) (sym (run_at nfa x.haystack x.end q i their.Match is))
           (record {
             ends = refl;
-            writes = ap (λ c. write_of c i ++ (write_of (capture a (match_at s, i)) i ++ [])) (ap slot_of stands)
+            writes = ap (λ c. write_of c i ++ (write_of (capture a (match_at s, i)) i ++ [])) (ap slot_of stands.1)
                 ∙ ap (λ c. (slot_in s 1, i) ∷ (write_of c i ++ [])) (ap slot_of match_here);
             explicit = tt;
           }),
       λ marks clear. IsFirst-step (edges a x) (is_match a) marks v (free marks q i below clear)
-          (ap (λ k. is_some (pattern_of k)) stands) (Some ((match_at s, i) ∷ []))
+          (ap (λ k. is_some (pattern_of k)) stands.1) (Some ((match_at s, i) ∷ []))
           (subst (λ es. FirstAmong (edges a x) (is_match a) (v ∷ marks) es (Some ((match_at s, i) ∷ [])))
-          (sym (ap (λ k. edges_of x k i) stands))
+          (sym (ap (λ k. edges_of x k i) stands.1))
           (among-one (edges a x) (is_match a) (v ∷ marks) (match_at s, i) (Some ((match_at s, i) ∷ []))
           (IsFirst-target (edges a x) (is_match a) (v ∷ marks) (match_at s, i) (unmarked marks clear)
           (ap (λ k. is_some (pattern_of k)) match_here)))),
@@ -408,9 +383,7 @@ module _ (a : Automaton) (x : Search) (nfa : Nfa) (s : Site) (block : IsBlock a.
               | inl e ↦ let two : s.base + s.size ≡ s.base + q = ap (λ (w : Pair). w.0) e in omega arith
               | inr later ↦ clear.match i later
             ]
-    walk-from under their.Fail is stands =
-        walk-dead (run_at nfa x.haystack x.end q i their.Fail is) (ap (λ k. is_some (pattern_of k)) stands)
-        (ap (λ k. edges_of x k i) stands)
+    walk-from under their.Fail is stands = walk-plain under their.Fail is stands [] tt refl refl refl
 
   -- from each pair of the pattern's states
   pub walks : (q i : ℕ) → IterStates q i

@@ -8,10 +8,11 @@ use Rattle.std.proofs.lemmas.Bool.Decides.{nat_tests}
 use Rattle.std.proofs.lemmas.Option.{slice_get_past, slice_get-get_or}
 use Rattle.regex_hir.specs.Re.{Re}
 use Rattle.regex_hir.specs.Text.{is_boundary, is_none_or}
-use Rattle.nfa_paths.specs.Common.{IsBoundary, Search, is_anchored, Anchored, raised}
-use Rattle.regex_search_core.specs.declared.search.Anchored.TheVariants.{No, Yes, Pattern}
-use Rattle.nfa_compiler.specs.BoundaryHits.{boundary_hit_at_start, ends_on_boundary, expected_on_boundary, on_boundary, restarted_hit}
-use Rattle.nfa_compiler.specs.Patterns.{PatternHit, expected, first_hit, hit_at_start, pick}
+use Rattle.nfa_paths.specs.Common.{IsBoundary, Search, is_anchored, raised}
+use Rattle.regex_search_core.specs.declared.search.Anchored.TheVariants.{No}
+use Rattle.nfa_compiler.specs.BoundaryHits.{ends_on_boundary, expected_on_boundary, on_boundary, restarted_hit}
+use Rattle.nfa_compiler.specs.Patterns.{PatternHit, expected, first_hit, pick, pick_one}
+use Rattle.nfa_compiler.proofs.EachLemmas.{in-each-mode}
 
 -- the two definitions of a boundary agree within the haystack
 
@@ -78,16 +79,9 @@ module _ (res : List Re) (bound : Bool) (x : Search) where
   pub anchored-kept : is_anchored x.anchored ≡ true
       → expected_on_boundary res bound x ≡ on_boundary x.haystack (expected res bound x)
   unfolding expected expected_on_boundary
-  anchored-kept anchored = elim (cases_lt x.end x.start) [
-    | inl past ↦ rw (lt-ltb x.end x.start past) refl
-    | inr inside ↦ rw (le-ltb x.end x.start inside) (of x.anchored anchored)
-  ]
-    where
-      of : (mode : Anchored) → is_anchored mode ≡ true
-          → boundary_hit_at_start res bound x mode ≡ on_boundary x.haystack (hit_at_start res bound x mode)
-      of No never = absurd (cc)
-      of Yes a = refl
-      of (Pattern pattern) a = refl
+  anchored-kept anchored =
+      in-each-mode x (λ o u. o ≡ on_boundary x.haystack u) refl {two = λ k. pick_one x.haystack res k x.start}
+      (λ inside free. absurd (let never = rw free at anchored in (cc))) (λ inside. refl) (λ inside k. refl)
 
   -- what a scan of n positions from i on finds, and what the search does
   abbrev scanned : Bool → ℕ → ℕ → Option PatternHit

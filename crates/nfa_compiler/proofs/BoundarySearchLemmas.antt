@@ -1,19 +1,20 @@
 -- The answer of a leftmost first search in UTF-8 mode is the hit that ends on a boundary.
-use Rattle.std.proofs.Common.{◌≡◌, ℕ, zero, suc, ◌+◌, ◌<◌, inl, inr, Bool, true, false, List, length, refl, sym, ap, ◌∙◌, subst, arith, Option, None, Some, is_some, option_map, MatchBool}
+use Rattle.std.proofs.Common.{◌≡◌, ℕ, zero, suc, ◌+◌, inl, inr, Bool, true, false, List, length, refl, sym, ap, subst, arith, Option, None, Some, MatchBool}
 use Rattle.std.proofs.lemmas.Bool.{false_from_ne_true}
 use Rattle.regex_hir.specs.Re.{Re}
 use Rattle.regex_hir.specs.Text.{is_none_or}
-use Rattle.nfa_paths.specs.Common.{IsBoundary, Found, Search, is_anchored, Anchored, Automaton, Pair, is_utf8_empty, raised, EndsOnBoundary, IsWhole, SplitsCharacter, IsKeptAnswer, IsRestartedAnswer, IsScanAnswer, IsSearchAnswer, IsAnswer, IsFindAnswer, IsBoolAnswer}
+use Rattle.nfa_paths.specs.Common.{IsBoundary, Search, is_anchored, Anchored, Automaton, Pair, is_utf8_empty, raised, EndsOnBoundary, IsWhole, SplitsCharacter, IsKeptAnswer, IsRestartedAnswer, IsScanAnswer, IsSearchAnswer}
 use Rattle.regex_search_core.specs.declared.search.Anchored.TheVariants.{No, Yes, Pattern}
 use Rattle.regex_search_core.specs.declared.search.MatchKind.TheVariants.{LeftmostFirst}
-use Rattle.nfa_paths.proofs.AnswerLemmas.{ends_on_boundary as ends_where, scan_answer-unique}
+use Rattle.nfa_paths.proofs.AnswerLemmas.{ends_on_boundary as ends_where}
 use Rattle.nfa_paths.proofs.PathToLemmas.{EndsWith-last}
 use Rattle.nfa_compiler.specs.BoundaryHits.{ends_on_boundary, expected_on_boundary, on_boundary}
 use Rattle.nfa_compiler.specs.Compiled.{IsNfaOf}
-use Rattle.nfa_compiler.specs.Patterns.{PatternHit, expected, found_of_hit, slots_of}
+use Rattle.nfa_compiler.specs.Patterns.{PatternHit, expected}
+use Rattle.nfa_compiler.proofs.AnswerLemmas.{IsAnsweredBy}
 use Rattle.nfa_compiler.proofs.BoundLemmas.{hit-lies}
 use Rattle.nfa_compiler.proofs.BoundaryLemmas.{anchored-kept, boundary-is, boundary-true, free-kept, free-split}
-use Rattle.nfa_compiler.proofs.SearchLemmas.{is_bound, scan, told-found, told-match, told-pattern, told-slots}
+use Rattle.nfa_compiler.proofs.SearchLemmas.{is_bound, told-scan}
 use Rattle.nfa_compiler.proofs.StartLemmas.{TellsHit, ToldHit}
 
 -- a search that is not anchored
@@ -40,10 +41,8 @@ module _ (res : List Re) (a : Automaton) (made : IsNfaOf res a) (mode : is_utf8_
 
   module _ (x : Search) (whole : x.end ≡ length x.haystack) where
     -- the answer of a scan is the path of the hit
-    told-scan : (path : Option (List Pair)) → IsScanAnswer a x LeftmostFirst false path → TellsHit a (scanned x) path
-    told-scan path answers =
-        let s = scan res a made x whole in
-        subst (TellsHit a (scanned x)) (scan_answer-unique a x LeftmostFirst false s.0 path s.2 answers) s.1
+    told-first : (path : Option (List Pair)) → IsScanAnswer a x LeftmostFirst false path → TellsHit a (scanned x) path
+    told-first = told-scan res a made x whole
 
     -- the path ends on a boundary exactly if the hit does
     told-end : (h : PatternHit) (p : List Pair) → ToldHit a h p
@@ -61,14 +60,14 @@ module _ (res : List Re) (a : Automaton) (made : IsNfaOf res a) (mode : is_utf8_
     on-false : (h : PatternHit) (p : List Pair) → scanned x ≡ Some h → ToldHit a h p → (EndsOnBoundary x p → ⊥)
         → ends_on_boundary x.haystack h ≡ false
     on-false h p is t off =
-        let within = (hit-lies res a x h whole is).inside in
+        let within = (hit-lies res (is_bound res a made) x h whole is).inside in
         false_from_ne_true (ends_on_boundary x.haystack h)
         (λ on. off ((told-end h p t).1 (boundary-is x.haystack h.trace.end within on)))
 
     -- the scan's answer counts
     kept : (path : Option (List Pair)) → IsScanAnswer a x LeftmostFirst false path → IsWhole x path
         → is_none_or (scanned x) (ends_on_boundary x.haystack) ≡ true
-    kept path answers on = of (scanned x) path (told-scan path answers) on
+    kept path answers on = of (scanned x) path (told-first path answers) on
       where
         of : (o : Option PatternHit) (path : Option (List Pair)) → TellsHit a o path → IsWhole x path
             → is_none_or o (ends_on_boundary x.haystack) ≡ true
@@ -79,7 +78,7 @@ module _ (res : List Re) (a : Automaton) (made : IsNfaOf res a) (mode : is_utf8_
     -- it does not
     split : SplitsCharacter a LeftmostFirst false x
         → (h : PatternHit) × (scanned x ≡ Some h) × (ends_on_boundary x.haystack h ≡ false)
-    split s = of (scanned x) refl (told-scan (Some s.path) s.answers)
+    split s = of (scanned x) refl (told-first (Some s.path) s.answers)
       where
         of : (o : Option PatternHit) → scanned x ≡ o → TellsHit a o (Some s.path)
             → (h : PatternHit) × (scanned x ≡ Some h) × (ends_on_boundary x.haystack h ≡ false)
@@ -99,9 +98,9 @@ module _ (res : List Re) (a : Automaton) (made : IsNfaOf res a) (mode : is_utf8_
 
         of : (path : Option (List Pair)) → IsKeptAnswer a LeftmostFirst false x path
             → TellsHit a (on_boundary x.haystack (scanned x)) path
-        of None (inl answers) = on (scanned x) None (told-scan None answers) (kept None answers tt)
+        of None (inl answers) = on (scanned x) None (told-first None answers) (kept None answers tt)
         of None (inr s) = let h = split s in rw (h.1, h.2) tt
-        of (Some p) answer = on (scanned x) (Some p) (told-scan (Some p) answer.0) (kept (Some p) answer.0 answer.1)
+        of (Some p) answer = on (scanned x) (Some p) (told-first (Some p) answer.0) (kept (Some p) answer.0 answer.1)
 
   -- the answer of one that starts again
   told-restarted : (restarts : ℕ) (x : Search) → x.end ≡ length x.haystack → x.anchored ≡ No
@@ -111,7 +110,7 @@ module _ (res : List Re) (a : Automaton) (made : IsNfaOf res a) (mode : is_utf8_
       let here : IsScanAnswer a x LeftmostFirst false path =
       subst (λ y. IsScanAnswer a y LeftmostFirst false path) (sym (raised-none x)) answer.answers in
       rw (free-kept res (is_bound res a made) x free (kept x whole path here answer.whole))
-      (told-scan x whole path here)
+      (told-first x whole path here)
   told-restarted (suc n) x whole free path answer =
       let first : SplitsCharacter a LeftmostFirst false x =
       subst (SplitsCharacter a LeftmostFirst false) (sym (raised-none x)) (answer.skipped 0 (omega arith)) in
@@ -136,34 +135,6 @@ module _ (res : List Re) (a : Automaton) (made : IsNfaOf res a) (mode : is_utf8_
         of true is answer = told-kept x whole is path answer.1
         of false is answer = told-restarted restarts x whole (unanchored x.anchored is) path answer
 
-    -- the pattern of its hit is one of the patterns
-    pub boundary-known : (restarts : ℕ) (path : Option (List Pair))
-        → IsSearchAnswer a LeftmostFirst false x restarts path → (h : PatternHit) → searched x ≡ Some h
-        → h.pattern < length a.groups
-    boundary-known restarts path answers h is =
-        of path (subst (λ o. TellsHit a o path) is (told-search restarts path answers))
-      where
-        of : (path : Option (List Pair)) → TellsHit a (Some h) path → h.pattern < length a.groups
-        of None t = absurd t
-        of (Some p) t = t.known
-
-    pub boundary-answer : (pattern : Option ℕ) (slots : List (Option ℕ))
-        → IsAnswer a LeftmostFirst false x pattern slots
-        → (pattern ≡ option_map (λ (h : PatternHit). h.pattern) (searched x))
-        × (slots ≡ slots_of a.groups (length slots) (searched x))
-    boundary-answer pattern slots answer =
-        let t = told-search answer.restarts answer.path answer.answers in (
-          answer.pattern_is ∙ told-pattern res a made x whole (searched x) answer.path t,
-          answer.slots_are ∙ told-slots res a made x whole (length slots) (searched x) answer.path t,
-        )
-
-    pub boundary-match : (found : Option Found) → IsFindAnswer a LeftmostFirst false x found
-        → found ≡ found_of_hit (searched x)
-    boundary-match found answer =
-        answer.found_is ∙ told-match res a made x whole (searched x) answer.path
-        (told-search answer.restarts answer.path answer.answers)
-
-    pub boundary-found : (found : Bool) → IsBoolAnswer a LeftmostFirst false x found → found ≡ is_some (searched x)
-    boundary-found found answer =
-        answer.found_is ∙ told-found res a made x whole (searched x) answer.path
-        (told-search answer.restarts answer.path answer.answers)
+    -- the search's answer is the hit
+    pub boundary-answered : IsAnsweredBy a x (searched x)
+    boundary-answered = record { told = told-search }

@@ -1,17 +1,23 @@
--- What a search of a whole haystack finds of one text, in the words of `regex_hir`.
-use Rattle.std.proofs.Common.{◌≡◌, ℕ, zero, suc, ◌<◌, false, List, [], ◌∷◌, map, length, refl, ap, ◌∙◌, arith, Option, None, Some, All, option_map, slice_index_or}
-use Rattle.regex_hir.specs.Find.{Match, find, find_all}
+-- What a search of a whole haystack finds of one text, and what its captures give for a name, in the words of
+-- `regex_hir`.
+use Rattle.std.proofs.Common.{◌≡◌, ℕ, zero, suc, ◌<◌, true, false, List, [], ◌∷◌, map, length, refl, ap, ◌∙◌, subst, arith, IsUtf8, Option, None, Some, All, option_map, slice_index_or, drop, option_and_then}
+use Rattle.regex_hir.specs.Find.{Match, find, find_all, find_all_str, find_str}
 use Rattle.regex_hir.specs.Re.{Re}
-use Rattle.nfa_paths.specs.Common.{Found, whole, Automaton, is_utf8_empty, IsFindAnswer}
+use Rattle.nfa_paths.specs.Common.{Found, Search, whole, Automaton, is_utf8_empty, IsFindAnswer, group_named, slot_count, Captured, group_span, named_span}
 use Rattle.regex_search_core.specs.declared.search.MatchKind.TheVariants.{LeftmostFirst}
 use Rattle.regex_syntax.specs.declared.Config.{Config}
 use Rattle.nfa_search_base.specs.Lists.{AreMatches}
 use Rattle.nfa_compiler.specs.AnyStart.{FindsFromAnyStart, LosesNoHit}
 use Rattle.nfa_compiler.specs.Compiled.{IsCompiled, IsMeant}
-use Rattle.nfa_compiler.specs.Patterns.{found_at, found_by, found_of_hit, hit_by}
-use Rattle.nfa_compiler.proofs.AllSearchLemmas.{all-of-one, all-text-matches}
-use Rattle.nfa_compiler.proofs.TextLemmas.{one-hit, text-match}
+use Rattle.nfa_compiler.specs.Patterns.{found_at, found_by, found_of_hit, hit_by, AreOfHit, slots_of}
+use Rattle.nfa_compiler.proofs.AllSearchLemmas.{all-matches, all-of-one, all-str-of-one, strs-answered, texts-answered}
+use Rattle.nfa_compiler.proofs.AnswerLemmas.{IsAnsweredBy, match-is}
+use Rattle.nfa_compiler.proofs.StrSearchLemmas.{free-str-answered, str-kept}
+use Rattle.nfa_compiler.proofs.TextLemmas.{one-hit, one-str-hit, text-answered}
 use Rattle.nfa_compiler.proofs.UnboundLemmas.{texts-lose-none}
+use Rattle.nfa_compiler.specs.NameLaws.{IsNamed, captures_of, written_span}
+use Rattle.nfa_compiler.proofs.GroupLemmas.{name-written}
+use Rattle.nfa_compiler.proofs.NameLemmas.{groups-named}
 
 -- the bytes of a slice
 default-same : (xs : List ℕ) (k d : ℕ) → k < length xs → slice_index_or xs k d ≡ slice_index_or xs k 0
@@ -31,23 +37,77 @@ pub hits-found : (ms : List Match) → map found_at (map (hit_by 0) ms) ≡ map 
 hits-found [] = refl
 hits-found (m ∷ ms) = ap (λ fs. found_by m ∷ fs) (hits-found ms)
 
+-- the match of a search that has the hit of this match
+pub match-found : {nfa : Automaton} {x : Search} (m : Option Match) → IsAnsweredBy nfa x (option_map (hit_by 0) m)
+    → (found : Option Found) → IsFindAnswer nfa LeftmostFirst false x found → found ≡ option_map found_by m
+match-found m by found answer = match-is by found answer ∙ hit-found m
+
 module _ (syntax : Config) (text : List ℕ) (nfa : Automaton) (haystack : List ℕ)
-    (compiled : IsCompiled syntax (text ∷ []) nfa) (anywhere : is_utf8_empty nfa ≡ false)
-    (free : FindsFromAnyStart nfa) (bytes : All (λ b. b < 256) haystack) (re : Re)
-    (meant : IsMeant syntax text re) where
-  kept : LosesNoHit (re ∷ []) nfa haystack
-  kept = texts-lose-none syntax (text ∷ []) (re ∷ []) nfa haystack compiled (meant, tt) free bytes
+    (compiled : IsCompiled syntax (text ∷ []) nfa) where
+  -- in bytes
+  module _ (anywhere : is_utf8_empty nfa ≡ false) (free : FindsFromAnyStart nfa) (bytes : All (λ b. b < 256) haystack)
+      (re : Re) (meant : IsMeant syntax text re) where
+    kept : LosesNoHit (re ∷ []) nfa haystack
+    kept = texts-lose-none syntax (text ∷ []) (re ∷ []) nfa haystack compiled (meant, tt) free bytes
 
-  pub call-match : (found : Option Found) → IsFindAnswer nfa LeftmostFirst false (whole haystack) found
-      → found ≡ option_map found_by (find re haystack 0)
-  call-match found answer =
-      text-match syntax (text ∷ []) (re ∷ []) nfa (whole haystack) compiled (meant, tt) anywhere refl bytes found answer
-      ∙ ap found_of_hit (one-hit re nfa (whole haystack) kept refl refl)
-      ∙ hit-found (find re haystack 0)
+    pub call-answered : IsAnsweredBy nfa (whole haystack) (option_map (hit_by 0) (find re haystack 0))
+    call-answered =
+        subst (IsAnsweredBy nfa (whole haystack)) (one-hit re nfa (whole haystack) kept refl refl)
+        (text-answered syntax (text ∷ []) (re ∷ []) nfa (whole haystack) compiled (meant, tt) anywhere refl bytes)
 
-  pub call-matches : (ms : List Found) → AreMatches nfa LeftmostFirst false (whole haystack) ms
-      → ms ≡ map found_by (find_all re haystack)
-  call-matches ms are =
-      all-text-matches syntax (text ∷ []) (re ∷ []) nfa (whole haystack) compiled (meant, tt) anywhere refl bytes ms are
-      ∙ ap (map found_at) (all-of-one re nfa (whole haystack) kept refl refl refl)
-      ∙ hits-found (find_all re haystack)
+    pub call-matches : (ms : List Found) → AreMatches nfa LeftmostFirst false (whole haystack) ms
+        → ms ≡ map found_by (find_all re haystack)
+    call-matches ms are =
+        all-matches
+        (texts-answered (re ∷ []) nfa (whole haystack) refl syntax (text ∷ []) compiled (meant, tt) anywhere bytes) ms
+        are
+        ∙ ap (map found_at) (all-of-one re nfa (whole haystack) kept refl refl refl)
+        ∙ hits-found (find_all re haystack)
+
+  -- in a `str`
+  module _ (mode : nfa.utf8 ≡ true) (free : FindsFromAnyStart nfa) (valid : IsUtf8 haystack) (re : Re)
+      (meant : IsMeant syntax text re) where
+    kept-in-str : LosesNoHit (re ∷ []) nfa haystack
+    kept-in-str =
+        str-kept syntax (text ∷ []) nfa compiled mode (whole haystack) refl valid free (re ∷ []) (meant, tt)
+
+    pub call-answered-in-str : IsAnsweredBy nfa (whole haystack) (option_map (hit_by 0) (find_str re haystack 0))
+    call-answered-in-str =
+        subst (IsAnsweredBy nfa (whole haystack)) (one-str-hit re nfa (whole haystack) kept-in-str refl refl)
+        (free-str-answered syntax (text ∷ []) nfa compiled mode (whole haystack) refl valid free (re ∷ []) (meant, tt))
+
+    pub call-matches-in-str : (ms : List Found) → AreMatches nfa LeftmostFirst false (whole haystack) ms
+        → ms ≡ map found_by (find_all_str re haystack)
+    call-matches-in-str ms are =
+        all-matches
+        (strs-answered (re ∷ []) nfa (whole haystack) refl syntax (text ∷ []) compiled (meant, tt) mode free valid) ms
+        are
+        ∙ ap (map found_at) (all-str-of-one re nfa (whole haystack) kept-in-str refl refl refl)
+        ∙ hits-found (find_all_str re haystack)
+
+-- captures
+
+module _ (syntax : Config) (text : List ℕ) (nfa : Automaton) (compiled : IsCompiled syntax (text ∷ []) nfa)
+    (names : List (Option (List ℕ))) (named : IsNamed syntax text names) where
+  -- the groups of an NFA of one text are those that are read in it
+  pub groups-of-one : nfa.groups ≡ drop 1 names ∷ []
+  groups-of-one =
+      compiled.groups ∙ groups-named syntax (text ∷ []) compiled.trees (names ∷ []) compiled.read (named, tt)
+
+  -- the captures of the hit of the only pattern, at a name
+  pub call-name : (captures : Captured) (name : List ℕ) (group : ℕ) (o : Option Match)
+      → captures.groups ≡ nfa.groups → length captures.slots ≡ slot_count nfa.groups
+      → group_named (drop 1 names ∷ []) 0 name ≡ Some group
+      → AreOfHit nfa.groups (option_map (hit_by 0) o) captures.pattern captures.slots
+      → named_span captures name ≡ option_and_then (written_span group) o
+  call-name captures name group None same room is hit =
+      ap (option_and_then (λ pattern. option_and_then (λ g. group_span captures g)
+      (group_named captures.groups pattern name))) hit.0
+  call-name captures name group (Some m) same room is hit =
+      let slots = hit.1 ∙ ap (λ n. slots_of nfa.groups n (Some (hit_by 0 m))) room in
+      let all : captures ≡ captures_of nfa (hit_by 0 m) =
+      λ i. record { groups = same i; pattern = hit.0 i; slots = slots i } in
+      let one = ap (λ gs. length gs) groups-of-one in
+      ap (λ c. named_span c name) all
+      ∙ name-written nfa (hit_by 0 m) name group (omega (arith, one))
+      (ap (λ gs. group_named gs 0 name) groups-of-one ∙ is)

@@ -6,7 +6,7 @@ use Rattle.nfa_paths.specs.Common.{number_of, Search, MatchKind, Anchored, Autom
 use Rattle.regex_search_core.specs.declared.search.Anchored.TheVariants.{No, Yes, Pattern}
 use Rattle.regex_hir.specs.Re.{Re, Trace, accept, attempt, empty}
 use Rattle.regex_hir.specs.Matches.{Matches}
-use Rattle.regex_hir.proofs.AttemptLemmas.{attempt_complete, attempt_sound}
+use Rattle.regex_hir.proofs.AttemptLemmas.{attempt_complete}
 use Rattle.regex_hir.proofs.OptionLemmas.{value_of_IsSome}
 use Rattle.thompson_nfa.specs.Automaton.{Union, Fail}
 use Rattle.nfa_paths.proofs.PathLemmas.{Path-plain}
@@ -20,29 +20,12 @@ use Rattle.nfa_compiler.specs.Compiled.{IsNfaOf}
 use Rattle.nfa_compiler.specs.KindLaws.{IsTried, MatchesSomewhere, PatternMatches}
 use Rattle.nfa_compiler.specs.Patterns.{hit_of}
 use Rattle.nfa_engines.proofs.FirstPatternLemmas.{put-linked}
-use Rattle.nfa_compiler.proofs.SearchLemmas.{is_bound, told-found}
+use Rattle.nfa_compiler.proofs.EachLemmas.{attempt-matches}
+use Rattle.nfa_compiler.proofs.SearchLemmas.{is_bound}
 use Rattle.nfa_compiler.proofs.StartPairLemmas.{starts-sound, starts-complete, within-end}
 use Rattle.nfa_compiler.proofs.StartLemmas.{EndsBy, TellsHit, pattern-first}
 use Rattle.nfa_compiler.proofs.WayLemmas.{from-pattern, start-among}
 use Rattle.nfa_paths.proofs.MemberLemmas.{In-map}
-
-module _ (haystack : List ℕ) where
-  -- there is a hit of one pattern exactly if it matches
-
-  one-sound : (re : Re) (k i : ℕ) → is_some (hit_of k i (attempt haystack re accept i)) ≡ true
-      → (j : ℕ) × Matches haystack re i j
-  one-sound re k i e = of (attempt haystack re accept i) refl e
-    where
-      of : (o : Option Trace) → attempt haystack re accept i ≡ o → is_some (hit_of k i o) ≡ true
-          → (j : ℕ) × Matches haystack re i j
-      of None at never = absurd (cc)
-      of (Some t) at some = let c = attempt_sound haystack re accept i t at in (c.at, c.leads)
-
-  one-complete : (re : Re) (k i j : ℕ) → Matches haystack re i j
-      → is_some (hit_of k i (attempt haystack re accept i)) ≡ true
-  one-complete re k i j m =
-      let v = value_of_IsSome (attempt haystack re accept i) (attempt_complete haystack re accept i j m refl) in
-      ap (λ o. is_some (hit_of k i o)) v.1
 
 -- lists and edges
 
@@ -86,7 +69,11 @@ module _ (res : List Re) (a : Automaton) (made : IsNfaOf res a) (x : Search) (wh
       let first = first-of j known v.1 within in (
         (from-pattern res a made j (omega (arith, made.patterns)) rest v m at
             (linked-open a x (v ∷ rest) path.linked) path.ends matches).pattern,
-        (known, of first.0 first.1 (first.2 [] (λ w member. absurd member))),
+        (
+          known,
+          of (attempt x.haystack (slice_index_or res j empty) accept v.1) refl first.0 first.1
+              (first.2 [] (λ w member. absurd member)),
+        ),
       )
     where
       accepts : Accepts (edges a x) (is_match a) [] (start_of j, v.1) (v ∷ rest)
@@ -94,15 +81,14 @@ module _ (res : List Re) (a : Automaton) (made : IsNfaOf res a) (x : Search) (wh
           (sym path.head ∙ ap (λ state. (state, v.1)) at)
           (PathTo-accepts (edges a x) (v ∷ []) (is_match a) (IsMatch-edges a x) path matches)
 
-      of : (r : Option (List Pair))
-          → TellsHit a (hit_of j v.1 (attempt x.haystack (slice_index_or res j empty) accept v.1)) r
+      of : (o : Option Trace) → attempt x.haystack (slice_index_or res j empty) accept v.1 ≡ o
+          → (r : Option (List Pair)) → TellsHit a (hit_of j v.1 o) r
           → IsFirst (edges a x) (is_match a) [] (start_of j, v.1) r
           → (e : ℕ) × Matches x.haystack (slice_index_or res j empty) v.1 e
-      of None tells none = absurd (none (v ∷ rest) accepts)
-      of (Some p) tells is =
-          one-sound x.haystack (slice_index_or res j empty) j v.1
-          (sym (told-found res a made x whole
-          (hit_of j v.1 (attempt x.haystack (slice_index_or res j empty) accept v.1)) (Some p) tells))
+      of None tried None tells none = absurd (none (v ∷ rest) accepts)
+      of None tried (Some p) tells is = absurd tells
+      of (Some t) tried r tells is =
+          (t.end, attempt-matches x.haystack (slice_index_or res j empty) v.1 t tried)
 
   -- a path from the pair to a Match of pattern k, which matches up to there
   record LeadsTo (v : Pair) (k : ℕ) : Type 0 where
@@ -117,22 +103,18 @@ module _ (res : List Re) (a : Automaton) (made : IsNfaOf res a) (x : Search) (wh
       → EndsBy a x whole (start_of k) marks
       → (p : LeadsTo (start_of k, i) k) × ((w : Pair) → In w p.along → In w marks → ⊥)
   match-leads k i within m marks behind =
+      let re = slice_index_or res k empty in
+      let v = value_of_IsSome (attempt x.haystack re accept i)
+      (attempt_complete x.haystack re accept i m.1.0 m.1.1 refl) in
       let first = first-of k m.0 i within in
-      of (attempt x.haystack (slice_index_or res k empty) accept i) refl
-      (one-complete x.haystack (slice_index_or res k empty) k i m.1.0 m.1.1) first.0 first.1 (first.2 marks behind)
+      of v.0 v.1 first.0 (subst (λ o. TellsHit a (hit_of k i o) first.0) v.1 first.1) (first.2 marks behind)
     where
-      of : (o : Option Trace) → attempt x.haystack (slice_index_or res k empty) accept i ≡ o
-          → is_some (hit_of k i o) ≡ true → (r : Option (List Pair)) → TellsHit a (hit_of k i o) r
-          → IsFirst (edges a x) (is_match a) marks (start_of k, i) r
+      of : (t : Trace) → attempt x.haystack (slice_index_or res k empty) accept i ≡ Some t → (r : Option (List Pair))
+          → TellsHit a (hit_of k i (Some t)) r → IsFirst (edges a x) (is_match a) marks (start_of k, i) r
           → (p : LeadsTo (start_of k, i) k) × ((w : Pair) → In w p.along → In w marks → ⊥)
-      of None tried never r tells is = absurd (cc)
-      of (Some t) tried some None tells is = absurd tells
-      of (Some t) tried some (Some p) tells is =
-          let words = (Path-plain (edges a x) (is_match a) (start_of k, i) p).0 is.0.path in
-          let c = attempt_sound x.haystack (slice_index_or res k empty) accept i t tried in
-          let rest : accept c.at ≡ Some c.rest = c.gave in
-          let last : c.rest.end ≡ c.at = (cc) in
-          let up-to : c.at ≡ tells.end.1 = omega (arith, last, c.same_end, tells.at) in (
+      of t tried None tells is = absurd tells
+      of t tried (Some p) tells is =
+          let words = (Path-plain (edges a x) (is_match a) (start_of k, i) p).0 is.0.path in (
             record {
               end = tells.end;
               along = p;
@@ -145,7 +127,8 @@ module _ (res : List Re) (a : Automaton) (made : IsNfaOf res a) (x : Search) (wh
                 ends = tells.ends;
               };
               pattern_is = tells.pattern_is;
-              matched = subst (Matches x.haystack (slice_index_or res k empty) i) up-to c.leads;
+              matched = subst (Matches x.haystack (slice_index_or res k empty) i) (sym tells.at)
+                  (attempt-matches x.haystack (slice_index_or res k empty) i t tried);
             },
             is.0.clear,
           )

@@ -1,17 +1,16 @@
 -- The span that captures of a hit give for an explicit group is that of the positions last written for it.
-use Rattle.std.proofs.Common.{◌≡◌, ℕ, ◌+◌, ◌*◌, ◌-◌, ◌≤◌, ◌<◌, inl, inr, Bool, List, map, take, length, refl, sym, ap, ap₂, ◌∙◌, arith, ne_eqb, Option, None, Some, [], option_and_then, option_map, position}
-use Rattle.std.specs.List.{position_or_len, sum_by, range_with_len}
+use Rattle.std.proofs.Common.{◌≡◌, ℕ, ◌+◌, ◌*◌, ◌-◌, ◌≤◌, ◌<◌, inl, inr, Bool, List, take, length, refl, sym, ap, ap₂, ◌∙◌, arith, ne_eqb, Option, None, Some, [], option_and_then, option_map, position}
+use Rattle.std.specs.List.{position_or_len, sum_by}
 use Rattle.std.specs.Option.{option_or}
 use Rattle.std.proofs.lemmas.Bool.{cases_lt, le-ltb, lt-ltb}
 use Rattle.std.proofs.lemmas.List.Sums.{sum_by_more, sum_by-take-le}
-use Rattle.std.proofs.lemmas.Option.{slice_get-get_or}
-use Rattle.std.proofs.lemmas.List.FromFn.{get_or-map-range_with_len, length-map-range_with_len}
 use Rattle.nfa_paths.specs.Common.{group_named, groups_at, slot_at, slot_count, group_span, named_span, offset_at, span_at, Automaton}
 use Rattle.regex_search_core.specs.Groups.{is_named}
 use Rattle.regex_hir.specs.Find.{last_write}
 use Rattle.nfa_compiler.specs.NameLaws.{captures_of, span_between}
 use Rattle.nfa_compiler.specs.Patterns.{PatternHit, place_of, slots_of, writes_of}
 use Rattle.nfa_compiler.proofs.MeantLemmas.{place-high, written-at}
+use Rattle.nfa_compiler.proofs.WriteLemmas.{offset-at}
 use Rattle.nfa_paths.proofs.OptionLemmas.{same_some}
 
 module _ (groups : List (List (Option (List ℕ)))) (h : PatternHit) (known : h.pattern < length groups) where
@@ -31,12 +30,7 @@ module _ (groups : List (List (Option (List ℕ)))) (h : PatternHit) (known : h.
   slot-holds : (k : ℕ) → k < slot_count groups
       → offset_at (slots_of groups (slot_count groups) (Some h)) k ≡ last_write (writes_of groups h) k
   unfolding slots_of
-  slot-holds k less =
-      let f = last_write (writes_of groups h) in
-      let long : k < length (map f (range_with_len 0 (slot_count groups))) =
-      omega (arith, length-map-range_with_len f 0 (slot_count groups)) in
-      rw (slice_get-get_or (map f (range_with_len 0 (slot_count groups))) k None long)
-      (get_or-map-range_with_len f 0 (slot_count groups) k k None less (omega arith))
+  slot-holds k = offset-at (last_write (writes_of groups h)) (slot_count groups) k
 
   -- at the place of a slot of an explicit group
   written : (slot : ℕ) → 2 ≤ slot → last_write (writes_of groups h) (place_of groups h.pattern slot)

@@ -9,7 +9,9 @@ pub mod CompiledLemmas
 pub mod ErrorLemmas
 pub mod CharLemmas
 pub mod MeantLemmas
+pub mod AnswerLemmas
 pub mod TextLemmas
+pub mod EachLemmas
 pub mod BoundLemmas
 pub mod WayLemmas
 pub mod OrderLemmas
@@ -17,7 +19,6 @@ pub mod StartPairLemmas
 pub mod ExistsLemmas
 pub mod UnboundLemmas
 pub mod NameLemmas
-pub mod KnownLemmas
 pub mod GroupLemmas
 pub mod AllLemmas
 pub mod AllSearchLemmas
@@ -27,13 +28,8 @@ pub mod BoundarySearchLemmas
 pub mod KindLemmas
 pub mod CharacterLemmas
 pub mod StrLemmas
-pub mod LiesLemmas
 pub mod StrSearchLemmas
-pub mod AllBoundaryLemmas
-pub mod NameCallLemmas
-pub mod StrCallLemmas
 pub mod WrittenLemmas
-pub mod StrWrittenLemmas
 pub mod Literals
 pub mod LoopLemmas
 pub mod ExcerptLemmas

@@ -1,11 +1,10 @@
 -- Patterns that a caller cannot tell apart have hits that a caller cannot tell apart.
 use Rattle.std.proofs.Common.{◌≡◌, ℕ, zero, suc, ◌+◌, ◌*◌, ◌-◌, ◌≤◌, ◌<◌, ◌⊎◌, inl, inr, Bool, List, [], ◌∷◌, map, take, length, refl, sym, ap, ◌∙◌, subst, arith, eq-eqb, ne_eqb, Option, None, Some, IsSomeAnd, All, string_bytes, option_map, option_and_then, slice_get, if◌then◌else◌, ◌==◌, chars}
-use Rattle.std.specs.List.{AllZip, sum_by, range_with_len}
+use Rattle.std.specs.List.{AllZip, sum_by}
 use Rattle.std.specs.Option.{option_or}
 use Rattle.std.proofs.lemmas.Bool.{cases_lt, lt-ltb, le-ltb}
 use Rattle.std.proofs.lemmas.Bool.Decides.{eqb_tells}
-use Rattle.nfa_paths.specs.Common.{number_of, Search, Anchored}
-use Rattle.regex_search_core.specs.declared.search.Anchored.TheVariants.{No, Yes, Pattern}
+use Rattle.nfa_paths.specs.Common.{Search}
 use Rattle.regex_hir.specs.Re.{Re, Trace, accept, attempt}
 use Rattle.regex_hir.specs.Find.{last_write}
 use Rattle.regex_hir.specs.Meaning.{meaning}
@@ -17,7 +16,8 @@ use Rattle.regex_syntax.specs.Verdict.{Reads}
 use Rattle.regex_syntax.specs.declared.Config.{Config}
 use Rattle.regex_syntax.specs.declared.Parsed.{Parsed}
 use Rattle.nfa_compiler.specs.Compiled.{IsTreeOf, IsMeant, res_of}
-use Rattle.nfa_compiler.specs.Patterns.{PatternHit, hit_of, pick, first_hit, hit_at_start, expected, place_of, writes_of, slots_of, found_of_hit}
+use Rattle.nfa_compiler.specs.Patterns.{PatternHit, hit_of, pick, first_hit, expected, place_of, writes_of}
+use Rattle.nfa_compiler.proofs.EachLemmas.{in-each-mode}
 
 -- hits that a caller cannot tell apart
 pub record Alike (h g : PatternHit) : Type 0 where
@@ -88,41 +88,18 @@ module _ (hay : List ℕ) (bytes : All (λ b. b < 256) hay) where
       alike-hit k i (attempt hay a accept i) (attempt hay b accept i) (same.0.at hay bytes accept i)
   one-alike (a ∷ res) (b ∷ others) (suc place) k i same = one-alike res others place k i same.1
 
-module _ (x : Search) (bytes : All (λ b. b < 256) x.haystack) (res others : List Re) (bound : Bool)
-    (same : AllZip SameCaptures res others) where
-  at-alike : (mode : Anchored) → AreAlike (hit_at_start res bound x mode) (hit_at_start others bound x mode)
-  at-alike No = first-alike x.haystack bytes (pick x.haystack res 0) (pick x.haystack others 0)
-      (λ i. pick-alike x.haystack bytes res others 0 i same) (if bound then 1 else (x.end - x.start + 1)) x.start
-  at-alike Yes = pick-alike x.haystack bytes res others 0 x.start same
-  at-alike (Pattern pattern) =
-      one-alike x.haystack bytes res others (number_of pattern) (number_of pattern) x.start same
+-- what is to be found
+pub expected-alike : (x : Search) → All (λ b. b < 256) x.haystack → (res others : List Re) (bound : Bool)
+    → AllZip SameCaptures res others → AreAlike (expected res bound x) (expected others bound x)
+unfolding expected
+expected-alike x bytes res others bound same =
+    in-each-mode x AreAlike tt
+    (λ inside free. first-alike x.haystack bytes (pick x.haystack res 0) (pick x.haystack others 0)
+    (λ i. pick-alike x.haystack bytes res others 0 i same) (if bound then 1 else (x.end - x.start + 1)) x.start)
+    (λ inside. pick-alike x.haystack bytes res others 0 x.start same)
+    (λ inside k. one-alike x.haystack bytes res others k k x.start same)
 
-  -- what is to be found
-  pub expected-alike : AreAlike (expected res bound x) (expected others bound x)
-  unfolding expected
-  expected-alike =
-      elim (cases_lt x.end x.start) [
-        | inl past ↦ rw (lt-ltb x.end x.start past) tt
-        | inr inside ↦ rw (le-ltb x.end x.start inside) (at-alike x.anchored)
-      ]
-
--- what a caller sees of alike hits
-
-pub found-alike : (h g : Option PatternHit) → AreAlike h g → found_of_hit h ≡ found_of_hit g
-found-alike None None a = refl
-found-alike None (Some g) a = absurd a
-found-alike (Some h) None a = absurd a
-found-alike (Some h) (Some g) a =
-    λ i. Some (record { pattern = a.pattern i; start = a.start i; end = a.end i })
-
-pub pattern-alike : (h g : Option PatternHit) → AreAlike h g
-    → option_map (λ (x : PatternHit). x.pattern) h ≡ option_map (λ (x : PatternHit). x.pattern) g
-pattern-alike None None a = refl
-pattern-alike None (Some g) a = absurd a
-pattern-alike (Some h) None a = absurd a
-pattern-alike (Some h) (Some g) a = ap Some a.pattern
-
--- the slots, which have other numbers among those of all patterns
+-- the slots of alike hits, which have other numbers among those of all patterns
 
 module _ (groups : List (List (Option (List ℕ)))) (p : ℕ) (known : p < length groups) where
   abbrev behind : ℕ
@@ -218,26 +195,13 @@ module _ (groups : List (List (Option (List ℕ)))) (p : ℕ) (known : p < lengt
       (if 2 * p == k then Some start else None))
       (placed-alike ws vs same k)
 
-hit-writes : (groups : List (List (Option (List ℕ)))) (h g : PatternHit) → h.pattern < length groups → Alike h g
+pub hit-writes : (groups : List (List (Option (List ℕ)))) (h g : PatternHit) → h.pattern < length groups → Alike h g
     → (k : ℕ)
     → last_write (writes_of groups h) k ≡ last_write (writes_of groups g) k
 hit-writes groups h g known a k =
     writes-alike groups h.pattern known h.start h.trace.end h.trace.writes g.trace.writes a.writes k
     ∙ (λ i. last_write ((2 * a.pattern i, a.start i) ∷ (2 * a.pattern i + 1, a.end i)
     ∷ map {B = ℕ × ℕ} (λ w. (place_of groups (a.pattern i) w.0, w.1)) g.trace.writes) k)
-
--- the slots of alike hits are the same
-pub slots-alike : (groups : List (List (Option (List ℕ)))) (count : ℕ) (h g : Option PatternHit)
-    → ((x : PatternHit) → h ≡ Some x → x.pattern < length groups) → AreAlike h g
-    → slots_of groups count h ≡ slots_of groups count g
-unfolding slots_of
-slots-alike groups count None None known a = refl
-slots-alike groups count None (Some g) known a = absurd a
-slots-alike groups count (Some h) None known a = absurd a
-slots-alike groups count (Some h) (Some g) known a =
-    let same : last_write (writes_of groups h) ≡ last_write (writes_of groups g) =
-    λ i k. hit-writes groups h g (known h refl) a k i in
-    ap (λ f. map f (range_with_len 0 count)) same
 
 -- what texts mean
 

@@ -17,7 +17,7 @@ use Rattle.thompson_nfa.specs.declared.flaw.Flaw.{Flaw}
 use Rattle.thompson_nfa.specs.declared.flaw.Flaw.TheVariants as flaw
 use Rattle.thompson_nfa.specs.declared.flaw.Referrer.TheVariants as holder
 use Rattle.nfa_compiler.specs.declared.block.Site.{Site}
-use Rattle.nfa_compiler.specs.Blocks.{Stands, IsBlock, match_at, moved, slot_in}
+use Rattle.nfa_compiler.specs.Blocks.{IsBlock, IsInside, match_at, moved, node_for, slot_in}
 use Rattle.nfa_compiler.specs.Added.{Adds, IsInRange, AreInRange, KeepsInRange}
 use Rattle.nfa_compiler.specs.Compiled.{explicit_names, groups_of}
 use Rattle.nfa_compiler.proofs.AddLemmas.{kept-at, adds-length}
@@ -65,24 +65,22 @@ module _ (nodes : List Node) (nfa : Nfa) (s : Site) (block : IsBlock nodes nfa s
   abbrev Fits : Node → Type 0
   Fits = IsInRange (length nodes) slots (number_of s.pattern + 1)
 
-  state-fits : (q : ℕ) (state : their_state.State) (n : Node) → state_of nfa q ≡ state
-      → Stands nfa.transitions.items s state n → Fits n
-  state-fits q (their.Sparse from to) n is stands =
-      subst Fits (sym stands.1) (
-        All-map (λ t. t.next < length nodes) (moved s) (slice_range nfa.transitions.items from to)
-            (λ i d inside. omega (arith, stands.0 i d inside)),
-        tt,
-        tt,
-      )
-  state-fits q (their.Split first second) n is stands =
-      subst Fits (sym stands.2) ((omega (arith, stands.0), omega (arith, stands.1)), tt, tt)
-  state-fits q (their.Save slot next) n is stands =
+  node-fits : (q : ℕ) (state : their_state.State) → state_of nfa q ≡ state → IsInside nfa.transitions.items s state
+      → Fits (node_for nfa.transitions.items s state)
+  node-fits q (their.Sparse from to) is inside = (
+    All-map (λ t. t.next < length nodes) (moved s) (slice_range nfa.transitions.items from to)
+        (λ i d less. omega (arith, inside i d less)),
+    tt,
+    tt,
+  )
+  node-fits q (their.Split first second) is inside = ((omega (arith, inside.0), omega (arith, inside.1)), tt, tt)
+  node-fits q (their.Save slot next) is inside =
       let sound = sound_of nfa q (their.Save slot next) is in
-      let place : slot_in s slot ≡ s.slots + (slot - 2) = cond-false _ _ _ (le-ltb slot 2 stands.0) in
-      subst Fits (sym stands.2) (omega (arith, stands.1), omega (arith, stands.0, sound.0), tt)
-  state-fits q their.Match n is stands = subst Fits (sym stands) (omega arith, omega arith, tt)
-  state-fits q their.Fail n is stands = subst Fits (sym stands) (tt, tt, tt)
-  state-fits q _ n is stands = subst Fits (sym stands.1) (omega (arith, stands.0), tt, tt)
+      let place : slot_in s slot ≡ s.slots + (slot - 2) = cond-false _ _ _ (le-ltb slot 2 inside.0) in
+      (omega (arith, inside.1), omega (arith, inside.0, sound.0), tt)
+  node-fits q their.Match is inside = (omega arith, omega arith, tt)
+  node-fits q their.Fail is inside = (tt, tt, tt)
+  node-fits q _ is inside = (omega (arith, inside), tt, tt)
 
   pub block-fits : (i : ℕ) → s.base ≤ i → i < length nodes → Fits (slice_index_or nodes i Fail)
   block-fits i from to = elim (cases_lt i (match_at s)) [
@@ -90,9 +88,9 @@ module _ (nodes : List Node) (nfa : Nfa) (s : Site) (block : IsBlock nodes nfa s
         let q : ℕ = i - s.base in
         let below : q < s.size = omega arith in
         let at : s.base + q ≡ i = omega arith in
+        let stands = block.states q below in
         subst (λ j. Fits (slice_index_or nodes j Fail)) at
-        (state-fits q (state_at nfa.states.items q) (slice_index_or nodes (s.base + q) Fail) refl
-        (block.states q below))
+        (subst Fits (sym stands.1) (node-fits q (state_at nfa.states.items q) refl stands.0))
     | inr behind ↦ elim (cases_lt (match_at s) i) [
       | inl past ↦
           let at : match_at s + 1 ≡ i = omega arith in

@@ -1,21 +1,19 @@
 -- The answer of a leftmost first search of a compiled NFA is the hit that is to be found.
-use Rattle.std.proofs.Common.{◌≡◌, ℕ, zero, suc, ◌+◌, ◌*◌, ◌-◌, ◌≤◌, ◌<◌, ◌⊎◌, inl, inr, Bool, true, false, List, [], ◌∷◌, map, length, refl, sym, ap, ◌∙◌, subst, arith, le-leb, Option, None, Some, is_some, All, slice_get, slice_index, slice_index_or, option_map, option_and_then, if◌then◌else◌, ◌==◌, ◌||◌}
-use Rattle.std.specs.List.{range_with_len}
+use Rattle.std.proofs.Common.{◌≡◌, ℕ, zero, suc, ◌+◌, ◌-◌, ◌≤◌, ◌<◌, ◌⊎◌, inl, inr, Bool, true, false, List, [], ◌∷◌, map, length, refl, sym, ap, subst, arith, Option, None, Some, is_some, All, slice_get, slice_index, slice_index_or, option_map, if◌then◌else◌, ◌==◌, ◌||◌}
 use Rattle.std.specs.Option.{option_or, option_map_or}
 use Rattle.std.proofs.lemmas.Bool.{cases_lt, lt-ltb, le-ltb}
 use Rattle.std.proofs.lemmas.Option.{slice_get_past, slice_get-get_or}
-use Rattle.std.proofs.lemmas.List.FromFn.{get_or-map-range_with_len, length-map-range_with_len}
-use Rattle.nfa_paths.specs.Common.{Found, slot_count, number_of, Search, is_anchored, match_of, offset_at, Anchored, Automaton, Pair, IsFirstPath, IsFirst, FirstAmong, IsLeast, pattern_of, slot_of, node_at, is_match, IsMatch, edges_of, edges, pairs_from, start_state, starts, slot_among, slot_row, path_pattern, is_utf8_empty, IsScanAnswer, IsSearchAnswer, IsAnswer, IsFindAnswer, IsBoolAnswer}
+use Rattle.nfa_paths.specs.Common.{number_of, Search, is_anchored, Anchored, Automaton, Pair, IsFirstPath, IsFirst, FirstAmong, IsLeast, pattern_of, slot_of, node_at, is_match, IsMatch, edges_of, edges, pairs_from, start_state, starts, is_utf8_empty, IsScanAnswer}
 use Rattle.regex_search_core.specs.declared.search.Anchored.TheVariants.{No, Yes, Pattern}
 use Rattle.regex_search_core.specs.declared.search.MatchKind.TheVariants.{LeftmostFirst}
 use Rattle.regex_hir.specs.Re.{Re, empty}
-use Rattle.regex_hir.specs.Find.{last_write}
 use Rattle.thompson_nfa.specs.Automaton.{Union, Fail}
 use Rattle.nfa_paths.proofs.PathLemmas.{IsFirst-step, IsFirstOfAll-from_among, IsLeast-from_first}
-use Rattle.nfa_paths.proofs.PathToLemmas.{EndsWith-last, IsLeast-none, IsLeast-first, IsFirstPath-unique}
+use Rattle.nfa_paths.proofs.PathToLemmas.{IsLeast-none, IsLeast-first, IsFirstPath-unique}
 use Rattle.nfa_paths.proofs.StartLemmas.{IsMatch-edges, starts-increase}
 use Rattle.nfa_compiler.specs.Compiled.{IsPattern, IsNfaOf}
-use Rattle.nfa_compiler.specs.Patterns.{PatternHit, pick, pick_one, first_hit, hit_at_start, expected, writes_of, slots_of, found_of_hit}
+use Rattle.nfa_compiler.specs.Patterns.{PatternHit, expected, first_hit, hit_in_mode, pick, pick_one}
+use Rattle.nfa_compiler.proofs.AnswerLemmas.{IsAnsweredBy}
 use Rattle.nfa_compiler.proofs.BlockLemmas.{among-one, among-cons}
 use Rattle.nfa_compiler.proofs.StartLemmas.{TellsHit, TellsHit-or, TellsHit-cons, EndsBy, pattern-first, patterns-among}
 
@@ -102,7 +100,9 @@ module _ (res : List Re) (a : Automaton) (made : IsNfaOf res a) where
         (here.0, here.1, among-one (edges a x) (is_match a) [] (a.anchored, x.start) here.0 here.2)
 
     finds-at : x.start ≤ x.end → (mode : Anchored)
-        → Finds (hit_at_start res is_bound x mode)
+        → Finds (hit_in_mode
+        (first_hit (pick x.haystack res 0) (if is_bound then 1 else (x.end - x.start + 1)) x.start)
+        (pick x.haystack res 0 x.start) (λ k. pick_one x.haystack res k x.start) mode)
         (option_map_or (λ state. pairs_from state x.start
         (if is_anchored mode || is_bound then 1 else (x.end - x.start + 1))) (start_state a mode) [])
     finds-at inside No = by_bound is_bound
@@ -153,7 +153,7 @@ module _ (res : List Re) (a : Automaton) (made : IsNfaOf res a) where
         ahead : x.start ≤ x.end → Finds (expected res is_bound x) (starts a x)
         ahead inside = rw (le-ltb x.end x.start inside) (finds-at inside x.anchored)
 
-    -- the scan's answer
+    -- the scan's answer, which is the only one
     pub scan : (r : Option (List Pair)) × TellsHit a (expected res is_bound x) r
         × IsScanAnswer a x LeftmostFirst false r
     scan = let f = finds in (
@@ -169,91 +169,16 @@ module _ (res : List Re) (a : Automaton) (made : IsNfaOf res a) where
         of None least = IsLeast-none (edges a x) (starts a x) (is_match a) (IsMatch-edges a x) least
         of (Some p) least = IsLeast-first (edges a x) (starts a x) (is_match a) (IsMatch-edges a x) p least
 
-    -- the pattern of a hit is one of the patterns
-    pub expected-known : (h : PatternHit) → expected res is_bound x ≡ Some h → h.pattern < length a.groups
-    expected-known h e = let f = finds in of f.0 (subst (λ o. TellsHit a o f.0) e f.1)
-      where
-        of : (r : Option (List Pair)) → TellsHit a (Some h) r → h.pattern < length a.groups
-        of None t = absurd t
-        of (Some p) t = t.known
+    pub told-scan : (path : Option (List Pair)) → IsScanAnswer a x LeftmostFirst false path
+        → TellsHit a (expected res is_bound x) path
+    told-scan path answer =
+        subst (TellsHit a (expected res is_bound x))
+        (IsFirstPath-unique (edges a x) (starts a x) (IsMatch a) scan.0 path scan.2 answer) scan.1
 
-    -- a path of the hit has its pattern, its slots and its match, and exists exactly if there is a hit
-    pub told-pattern : (h : Option PatternHit) (path : Option (List Pair)) → TellsHit a h path
-        → option_and_then (path_pattern a) path ≡ option_map (λ (g : PatternHit). g.pattern) h
-    told-pattern None None t = refl
-    told-pattern None (Some p) t = absurd t
-    told-pattern (Some h) None t = absurd t
-    told-pattern (Some h) (Some p) t =
-        ap (option_and_then (λ (v : Pair). pattern_of (node_at a v.0))) (EndsWith-last None t.end p t.ends)
-        ∙ t.pattern_is
-
-    pub told-slots : (count : ℕ) (h : Option PatternHit) (path : Option (List Pair)) → TellsHit a h path
-        → slot_row a count path ≡ slots_of a.groups count h
-    unfolding slot_row slots_of
-    told-slots count None None t = refl
-    told-slots count None (Some p) t = absurd t
-    told-slots count (Some h) None t = absurd t
-    told-slots count (Some h) (Some p) t =
-        let same : slot_among a p ≡ last_write (writes_of a.groups h) = λ i k. t.slots k i in
-        ap (λ f. map f (range_with_len 0 count)) same
-
-    -- a row of slots at one of them
-    row-at : (count slot : ℕ) (p : List Pair) → slot < count
-        → offset_at (slot_row a count (Some p)) slot ≡ slot_among a p slot
-    unfolding slot_row
-    row-at count slot p less =
-        let long : slot < length (map (slot_among a p) (range_with_len 0 count)) =
-        omega (arith, length-map-range_with_len (slot_among a p) 0 count) in
-        rw (slice_get-get_or (map (slot_among a p) (range_with_len 0 count)) slot None long)
-        (get_or-map-range_with_len (slot_among a p) 0 count slot slot None less (omega arith))
-
-    pub told-match : (h : Option PatternHit) (path : Option (List Pair)) → TellsHit a h path
-        → match_of (option_and_then (path_pattern a) path) (slot_row a (slot_count a.groups) path) ≡ found_of_hit h
-    told-match None None t = refl
-    told-match None (Some p) t = absurd t
-    told-match (Some h) None t = absurd t
-    told-match (Some h) (Some p) t =
-        let known : h.pattern < length a.groups = t.known in
-        rw (
-          told-pattern (Some h) (Some p) t,
-          row-at (slot_count a.groups) (2 * h.pattern) p (omega arith) ∙ t.start_slot,
-          row-at (slot_count a.groups) (2 * h.pattern + 1) p (omega arith) ∙ t.end_slot,
-          le-leb h.start h.trace.end t.onward,
-        ) refl
-
-    pub told-found : (h : Option PatternHit) (path : Option (List Pair)) → TellsHit a h path → is_some path ≡ is_some h
-    told-found None None t = refl
-    told-found None (Some p) t = absurd t
-    told-found (Some h) None t = absurd t
-    told-found (Some h) (Some p) t = refl
-
-    module _ (anywhere : is_utf8_empty a ≡ false) where
-      -- the search's answer, which is the only one
-      told : (restarts : ℕ) (path : Option (List Pair)) → IsSearchAnswer a LeftmostFirst false x restarts path
-          → TellsHit a (expected res is_bound x) path
-      told restarts path answers =
-          let own : (restarts ≡ 0) × IsScanAnswer a x LeftmostFirst false path = rw anywhere at answers in
-          let s = scan in
-          subst (TellsHit a (expected res is_bound x))
-          (IsFirstPath-unique (edges a x) (starts a x) (IsMatch a) s.0 path s.2 own.1) s.1
-
-      pub answer-is : (pattern : Option ℕ) (slots : List (Option ℕ)) → IsAnswer a LeftmostFirst false x pattern slots
-          → (pattern ≡ option_map (λ (h : PatternHit). h.pattern) (expected res is_bound x))
-          × (slots ≡ slots_of a.groups (length slots) (expected res is_bound x))
-      answer-is pattern slots answer =
-          let t = told answer.restarts answer.path answer.answers in (
-            answer.pattern_is ∙ told-pattern (expected res is_bound x) answer.path t,
-            answer.slots_are ∙ told-slots (length slots) (expected res is_bound x) answer.path t,
-          )
-
-      pub match-is : (found : Option Found) → IsFindAnswer a LeftmostFirst false x found
-          → found ≡ found_of_hit (expected res is_bound x)
-      match-is found answer =
-          answer.found_is ∙ told-match (expected res is_bound x) answer.path
-          (told answer.restarts answer.path answer.answers)
-
-      pub found-is : (found : Bool) → IsBoolAnswer a LeftmostFirst false x found
-          → found ≡ is_some (expected res is_bound x)
-      found-is found answer =
-          answer.found_is ∙ told-found (expected res is_bound x) answer.path
-          (told answer.restarts answer.path answer.answers)
+    -- so is the search's
+    pub hit-answered : is_utf8_empty a ≡ false → IsAnsweredBy a x (expected res is_bound x)
+    hit-answered anywhere = record {
+      told = λ restarts path answers.
+          let answer : (restarts ≡ 0) × IsScanAnswer a x LeftmostFirst false path = rw anywhere at answers in
+          told-scan path answer.1;
+    }

@@ -1,26 +1,25 @@
 -- In a `str`, the hits of patterns that match whole characters end on a boundary exactly if they start on one.
-use Rattle.std.proofs.Common.{◌≡◌, ℕ, zero, suc, ◌+◌, ◌-◌, ◌/◌, ◌%◌, ◌≤◌, ◌<◌, inl, inr, Bool, true, false, List, [], ◌∷◌, refl, sym, ap, ap₂, ◌∙◌, subst, arith, IsUtf8, encode_utf8_all, Option, None, Some, All, IsTrue, encode_utf8, if◌then◌else◌, option_and_then, slice_get}
+use Rattle.std.proofs.Common.{◌≡◌, ℕ, zero, suc, ◌+◌, ◌-◌, ◌/◌, ◌%◌, ◌≤◌, ◌<◌, inl, inr, Bool, true, false, List, [], ◌∷◌, refl, sym, ap, ap₂, ◌∙◌, subst, arith, IsUtf8, encode_utf8_all, Option, None, Some, All, IsTrue, encode_utf8, if◌then◌else◌}
 use Rattle.std.specs.Char.{IsScalar}
 use Rattle.std.specs.Option.{option_or}
 use Rattle.std.specs.Str.{all_scalars}
-use Rattle.std.proofs.lemmas.Bool.{and_parts, cases_lt, lt-ltb, le-ltb}
+use Rattle.std.proofs.lemmas.Bool.{and_parts, cases_lt}
 use Rattle.std.proofs.lemmas.Bool.Decides.{nat_tests}
-use Rattle.std.proofs.lemmas.List.Elements.{All-nil, All-cons, All-head, All-tail, All-append}
+use Rattle.std.proofs.lemmas.List.Elements.{All-nil, All-cons, All-append}
 use Rattle.std.proofs.lemmas.Str.{encode_ascii}
 use Rattle.regex_hir.specs.Matches.{Matches}
-use Rattle.regex_hir.specs.Re.{Re, Trace, accept, attempt}
+use Rattle.regex_hir.specs.Re.{Re}
 use Rattle.regex_hir.specs.Reads.{always_reads}
 use Rattle.regex_hir.specs.Text.{is_boundary, is_none_or}
-use Rattle.regex_hir.proofs.AttemptLemmas.{attempt_sound}
-use Rattle.regex_hir.proofs.OptionLemmas.{option_or_cases}
 use Rattle.regex_hir.proofs.Utf8Lemmas.{encode_two, encode_three, encode_four}
-use Rattle.nfa_paths.specs.Common.{IsBoundary, number_of, Search, Anchored}
-use Rattle.regex_search_core.specs.declared.search.Anchored.TheVariants.{No, Yes, Pattern}
-use Rattle.nfa_compiler.specs.BoundaryHits.{boundary_hit_at_start, ends_on_boundary, expected_on_boundary, on_boundary, restarted_hit}
-use Rattle.nfa_compiler.specs.Patterns.{PatternHit, expected, first_hit, hit_at_start, hit_of, pick, pick_one}
-use Rattle.nfa_compiler.specs.StrHits.{MatchesCharacters, at_boundary, expected_in_str, str_hit_at_start}
+use Rattle.nfa_paths.specs.Common.{IsBoundary, Search}
+use Rattle.regex_search_core.specs.declared.search.Anchored.TheVariants.{No}
+use Rattle.nfa_compiler.specs.BoundaryHits.{ends_on_boundary, expected_on_boundary, on_boundary, restarted_hit}
+use Rattle.nfa_compiler.specs.Patterns.{PatternHit, expected, first_hit, pick, pick_one}
+use Rattle.nfa_compiler.specs.StrHits.{MatchesCharacters, at_boundary, expected_in_str}
 use Rattle.nfa_compiler.proofs.BoundaryLemmas.{boundary-true}
 use Rattle.nfa_compiler.proofs.CharacterLemmas.{reads-on}
+use Rattle.nfa_compiler.proofs.EachLemmas.{Each, in-each-mode, pick-each, pick_one-each}
 
 -- the bytes of a `str`
 
@@ -82,7 +81,7 @@ either o false = refl
 module _ (haystack : List ℕ) (text : IsUtf8 haystack) where
   -- the hit ends on a boundary exactly if the position is one
   abbrev EndsAs : ℕ → Option PatternHit → Type 0
-  EndsAs i o = (h : PatternHit) → o ≡ Some h → ends_on_boundary haystack h ≡ is_boundary haystack i
+  EndsAs i = Each (λ h. ends_on_boundary haystack h ≡ is_boundary haystack i)
 
   same-boundary : (re : Re) → MatchesCharacters re → (i j : ℕ) → Matches haystack re i j
       → is_boundary haystack j ≡ is_boundary haystack i
@@ -92,34 +91,15 @@ module _ (haystack : List ℕ) (text : IsUtf8 haystack) where
       of true on = chars.whole haystack i j text m on ∙ sym on
       of false off = ap (is_boundary haystack) (chars.split haystack i j text m off)
 
-  of-one : (re : Re) → MatchesCharacters re → (k i : ℕ) → EndsAs i (hit_of k i (attempt haystack re accept i))
-  of-one re chars k i h e = of (attempt haystack re accept i) refl e
-    where
-      of : (o : Option Trace) → attempt haystack re accept i ≡ o → hit_of k i o ≡ Some h
-          → ends_on_boundary haystack h ≡ is_boundary haystack i
-      of None none never = absurd (cc)
-      of (Some t) some is =
-          let c = attempt_sound haystack re accept i t some in
-          let rest : accept c.at ≡ Some c.rest = c.gave in
-          let at : c.rest.end ≡ c.at = (cc) in
-          let trace : h.trace.end ≡ t.end = (cc) in
-          let same : h.trace.end ≡ c.at = trace ∙ c.same_end ∙ at in
-          ap (is_boundary haystack) same ∙ same-boundary re chars i c.at c.leads
-
   pick-ends : (res : List Re) → All MatchesCharacters res → (k i : ℕ) → EndsAs i (pick haystack res k i)
-  pick-ends [] all k i h never = absurd (cc)
-  pick-ends (re ∷ res) all k i h e =
-      elim (option_or_cases (hit_of k i (attempt haystack re accept i)) (pick haystack res (k + 1) i) h e) [
-        | inl here ↦ of-one re (All-head MatchesCharacters re res all) k i h here
-        | inr later ↦ pick-ends res (All-tail MatchesCharacters re res all) (k + 1) i h later.1
-      ]
+  pick-ends res all k i =
+      pick-each haystack i MatchesCharacters (λ h. ends_on_boundary haystack h ≡ is_boundary haystack i)
+      (λ re chars h start m. same-boundary re chars i h.trace.end m) res all k
 
-  pick_one-ends : (res : List Re) → All MatchesCharacters res → (place k i : ℕ)
-      → EndsAs i (option_and_then (λ re. hit_of k i (attempt haystack re accept i)) (slice_get res place))
-  pick_one-ends [] all place k i h never = absurd (cc)
-  pick_one-ends (re ∷ res) all zero k i h e = of-one re (All-head MatchesCharacters re res all) k i h e
-  pick_one-ends (re ∷ res) all (suc place) k i h e =
-      pick_one-ends res (All-tail MatchesCharacters re res all) place k i h e
+  pick_one-ends : (res : List Re) → All MatchesCharacters res → (k i : ℕ) → EndsAs i (pick_one haystack res k i)
+  pick_one-ends res all k i =
+      pick_one-each haystack i MatchesCharacters (λ h. ends_on_boundary haystack h ≡ is_boundary haystack i)
+      (λ re chars h start m. same-boundary re chars i h.trace.end m) res all k k
 
   -- a hit that ends on a boundary is one at a boundary
   kept-at : (at : ℕ → Option PatternHit) (i : ℕ) → EndsAs i (at i) → on_boundary haystack (at i)
@@ -132,41 +112,29 @@ module _ (haystack : List ℕ) (text : IsUtf8 haystack) where
 
   -- inside a codepoint no pattern that always reads a byte has a hit
 
-  one-none : (re : Re) → MatchesCharacters re → IsTrue (always_reads re) → (k i : ℕ) → is_boundary haystack i ≡ false
-      → hit_of k i (attempt haystack re accept i) ≡ None
-  one-none re chars reads k i off = of (attempt haystack re accept i) refl
-    where
-      of : (o : Option Trace) → attempt haystack re accept i ≡ o → hit_of k i o ≡ None
-      of None none = refl
-      of (Some t) some =
-          let c = attempt_sound haystack re accept i t some in
-          let same = chars.split haystack i c.at text c.leads off in
-          absurd (omega (arith, reads-on haystack re reads i c.at c.leads, same))
+  none-of : (o : Option PatternHit) → Each (λ h. ⊥) o → o ≡ None
+  none-of None never = refl
+  none-of (Some h) never = absurd (never h refl)
 
-  abbrev AlwaysRead : List Re → Type 0
-  AlwaysRead res = All (λ re. IsTrue (always_reads re)) res
+  module _ (res : List Re) (all : All MatchesCharacters res) (reads : All (λ re. IsTrue (always_reads re)) res)
+      (i : ℕ) (off : is_boundary haystack i ≡ false) where
+    abbrev ReadsOn : Re → Type 0
+    ReadsOn re = MatchesCharacters re × IsTrue (always_reads re)
 
-  pick-none : (res : List Re) → All MatchesCharacters res → AlwaysRead res → (k i : ℕ)
-      → is_boundary haystack i ≡ false → pick haystack res k i ≡ None
-  pick-none [] all reads k i off = refl
-  pick-none (re ∷ res) all reads k i off =
-      rw (
-        one-none re (All-head MatchesCharacters re res all)
-            (All-head (λ r. IsTrue (always_reads r)) re res reads) k i off,
-        pick-none res (All-tail MatchesCharacters re res all)
-            (All-tail (λ r. IsTrue (always_reads r)) re res reads) (k + 1) i off,
-      ) refl
+    both : All ReadsOn res
+    both = λ j d less. (all j d less, reads j d less)
 
-  pick_one-none : (res : List Re) → All MatchesCharacters res → AlwaysRead res → (place k i : ℕ)
-      → is_boundary haystack i ≡ false
-      → option_and_then (λ re. hit_of k i (attempt haystack re accept i)) (slice_get res place) ≡ None
-  pick_one-none [] all reads place k i off = refl
-  pick_one-none (re ∷ res) all reads zero k i off =
-      one-none re (All-head MatchesCharacters re res all)
-      (All-head (λ r. IsTrue (always_reads r)) re res reads) k i off
-  pick_one-none (re ∷ res) all reads (suc place) k i off =
-      pick_one-none res (All-tail MatchesCharacters re res all)
-      (All-tail (λ r. IsTrue (always_reads r)) re res reads) place k i off
+    never : (re : Re) → ReadsOn re → (h : PatternHit) → h.start ≡ i → Matches haystack re i h.trace.end → ⊥
+    never re q h start m =
+        let same = q.0.split haystack i h.trace.end text m off in
+        omega (arith, reads-on haystack re q.1 i h.trace.end m, same)
+
+    pick-none : (k : ℕ) → pick haystack res k i ≡ None
+    pick-none k = none-of (pick haystack res k i) (pick-each haystack i ReadsOn (λ h. ⊥) never res both k)
+
+    pick_one-none : (k : ℕ) → pick_one haystack res k i ≡ None
+    pick_one-none k =
+        none-of (pick_one haystack res k i) (pick_one-each haystack i ReadsOn (λ h. ⊥) never res both k k)
 
   every-at : (at : ℕ → Option PatternHit) (i : ℕ) → (is_boundary haystack i ≡ false → at i ≡ None)
       → at i ≡ at_boundary haystack at i
@@ -187,10 +155,10 @@ module _ (res : List Re) (all : All MatchesCharacters res) (bound : Bool) (x : S
   pub boundary-is-str : (bound ≡ true → x.anchored ≡ No → IsBoundary x.haystack x.start)
       → expected_on_boundary res bound x ≡ expected_in_str res bound x
   unfolding expected_on_boundary expected_in_str
-  boundary-is-str starts = elim (cases_lt x.end x.start) [
-    | inl past ↦ rw (lt-ltb x.end x.start past) refl
-    | inr inside ↦ rw (le-ltb x.end x.start inside) (of x.anchored refl)
-  ]
+  boundary-is-str starts =
+      in-each-mode x (λ o u. o ≡ u) refl (λ inside. free bound refl) (λ inside. each x.start)
+      (λ inside k. kept-at x.haystack text (pick_one x.haystack res k) x.start
+      (pick_one-ends x.haystack text res all k x.start))
     where
       each : (i : ℕ) → on_boundary x.haystack (pick x.haystack res 0 i)
           ≡ at_boundary x.haystack (pick x.haystack res 0) i
@@ -222,30 +190,17 @@ module _ (res : List Re) (all : All MatchesCharacters res) (bound : Bool) (x : S
           first-same (λ i. on_boundary x.haystack (pick x.haystack res 0 i))
           (at_boundary x.haystack (pick x.haystack res 0)) each (x.end - x.start + 1) x.start
 
-      of : (mode : Anchored) → x.anchored ≡ mode
-          → boundary_hit_at_start res bound x mode ≡ str_hit_at_start res bound x mode
-      of No is = free bound refl is
-      of Yes is = each x.start
-      of (Pattern pattern) is =
-          kept-at x.haystack text (pick_one x.haystack res (number_of pattern)) x.start
-          (pick_one-ends x.haystack text res all (number_of pattern) (number_of pattern) x.start)
-
   -- if each pattern always reads a byte, every hit starts on a boundary
   pub hit-is-str : All (λ re. IsTrue (always_reads re)) res → expected res bound x ≡ expected_in_str res bound x
   unfolding expected expected_in_str
-  hit-is-str reads = elim (cases_lt x.end x.start) [
-    | inl past ↦ rw (lt-ltb x.end x.start past) refl
-    | inr inside ↦ rw (le-ltb x.end x.start inside) (of x.anchored)
-  ]
+  hit-is-str reads =
+      in-each-mode x (λ o u. o ≡ u) refl
+      (λ inside free. first-same (pick x.haystack res 0) (at_boundary x.haystack (pick x.haystack res 0)) each
+      (if bound then 1 else (x.end - x.start + 1)) x.start)
+      (λ inside. each x.start)
+      (λ inside k. every-at x.haystack text (pick_one x.haystack res k) x.start
+      (λ off. pick_one-none x.haystack text res all reads x.start off k))
     where
       each : (i : ℕ) → pick x.haystack res 0 i ≡ at_boundary x.haystack (pick x.haystack res 0) i
-      each i = every-at x.haystack text (pick x.haystack res 0) i (pick-none x.haystack text res all reads 0 i)
-
-      of : (mode : Anchored) → hit_at_start res bound x mode ≡ str_hit_at_start res bound x mode
-      of No =
-          first-same (pick x.haystack res 0) (at_boundary x.haystack (pick x.haystack res 0)) each
-          (if bound then 1 else (x.end - x.start + 1)) x.start
-      of Yes = each x.start
-      of (Pattern pattern) =
-          every-at x.haystack text (pick_one x.haystack res (number_of pattern)) x.start
-          (pick_one-none x.haystack text res all reads (number_of pattern) (number_of pattern) x.start)
+      each i =
+          every-at x.haystack text (pick x.haystack res 0) i (λ off. pick-none x.haystack text res all reads i off 0)

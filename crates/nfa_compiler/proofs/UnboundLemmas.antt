@@ -1,7 +1,6 @@
 -- A pattern that begins with `Start` matches only from the start of a haystack, so a search for such patterns that is
 -- bound to its start loses no hit.
-use Rattle.std.proofs.Common.{◌≡◌, ℕ, zero, suc, ◌+◌, ◌-◌, ◌≤◌, ◌<◌, inl, inr, ⊎_elim, Bool, true, false, List, [], ◌∷◌, length, refl, sym, ap, ◌∙◌, subst, arith, ne_eqb, true≢false, Option, None, Some, All, is_some, slice_get, slice_index_or, if◌then◌else◌, not, ◌&&◌, ◌||◌, ◌==◌, ◌↔◌}
-use Rattle.std.specs.List.{AllZip}
+use Rattle.std.proofs.Common.{◌≡◌, ℕ, zero, suc, ◌+◌, ◌-◌, ◌≤◌, ◌<◌, inl, inr, ⊎_elim, Bool, true, false, List, [], ◌∷◌, length, refl, sym, ap, ◌∙◌, subst, arith, ne_eqb, true≢false, Option, None, Some, All, is_some, slice_index_or, if◌then◌else◌, not, ◌&&◌, ◌||◌, ◌==◌, ◌↔◌}
 use Rattle.std.specs.Option.{option_or}
 use Rattle.std.proofs.lemmas.Bool.{and_parts, cases_lt, le-ltb, lt-ltb, or_cases}
 use Rattle.std.proofs.lemmas.Option.{slice_get-get_or}
@@ -16,17 +15,17 @@ use Rattle.regex_class.specs.Ranges.{in_ranges}
 use Rattle.nfa_paths.specs.Common.{Search, is_anchored, Anchored, Automaton, Pair, IsScanAnswer, node_at}
 use Rattle.regex_search_core.specs.declared.search.Anchored.TheVariants.{No, Yes, Pattern}
 use Rattle.regex_search_core.specs.declared.search.MatchKind.TheVariants.{LeftmostFirst}
-use Rattle.regex_syntax.specs.Captures.{SameCaptures}
 use Rattle.regex_syntax.specs.declared.Config.{Config}
 use Rattle.nfa_paths.proofs.AnswerLemmas.{scan_answer-leads}
 use Rattle.nfa_paths.proofs.PatternLemmas.{some-pattern}
-use Rattle.nfa_compiler.specs.BoundaryHits.{boundary_hit_at_start, ends_on_boundary, expected_on_boundary, on_boundary, restarted_hit}
+use Rattle.nfa_compiler.specs.BoundaryHits.{ends_on_boundary, expected_on_boundary, on_boundary, restarted_hit}
 use Rattle.nfa_compiler.specs.Compiled.{AreMeant, IsCompiled, IsNfaOf, res_of}
 use Rattle.nfa_compiler.specs.KindLaws.{PatternMatches}
 use Rattle.nfa_compiler.specs.Loops.{all_begin_at_start, begins_at_start, is_start, never_reads}
-use Rattle.nfa_compiler.specs.Patterns.{PatternHit, expected, first_hit, hit_at_start, hit_of, pick}
-use Rattle.nfa_compiler.specs.StrHits.{at_boundary, expected_in_str, str_hit_at_start}
+use Rattle.nfa_compiler.specs.Patterns.{PatternHit, expected, first_hit, hit_of, pick, pick_one}
+use Rattle.nfa_compiler.specs.StrHits.{at_boundary, expected_in_str}
 use Rattle.nfa_compiler.specs.AnyStart.{FindsFromAnyStart, LosesNoHit, MatchesOnlyAtStart}
+use Rattle.nfa_compiler.proofs.EachLemmas.{in-each-mode}
 use Rattle.nfa_compiler.proofs.ExistsLemmas.{path-sound}
 use Rattle.nfa_compiler.proofs.MeantLemmas.{AreAlike, all-meant, pick-alike}
 use Rattle.nfa_compiler.proofs.SearchLemmas.{scan}
@@ -58,9 +57,9 @@ still hay (plus greedy a) i j e m = still-rounds (Matches hay a) (λ l k. still 
 
 -- `Start` holds only at the start
 
-edge-is : (hay : List ℕ) (i : ℕ) → i ≤ length hay → holds Start hay i ≡ true → i ≡ 0
+pub holds-at-start : (hay : List ℕ) (i : ℕ) → i ≤ length hay → holds Start hay i ≡ true → i ≡ 0
 unfolding holds holds_between byte_before
-edge-is hay i within h = elim (cases_lt 0 i) [
+holds-at-start hay i within h = elim (cases_lt 0 i) [
   | inl after ↦ (
       let other : (i == 0) ≡ false = ne_eqb i 0 (λ e. omega arith) in
       absurd (true≢false (sym (rw (other, slice_get-get_or hay (i - 1) 0 (omega arith)) at h)))
@@ -69,7 +68,7 @@ edge-is hay i within h = elim (cases_lt 0 i) [
 ]
 
 look-is : (l : Look) (hay : List ℕ) (i : ℕ) → is_start l ≡ true → i ≤ length hay → holds l hay i ≡ true → i ≡ 0
-look-is Start hay i e within h = edge-is hay i within h
+look-is Start hay i e within h = holds-at-start hay i within h
 look-is _ hay i e within h = absurd (cc)
 
 begun-rounds : (hay : List ℕ) (R : ℕ → ℕ → Type 0) → ((i j : ℕ) → i ≤ length hay → R i j → i ≡ 0) → (i j : ℕ)
@@ -209,108 +208,77 @@ module _ (haystack : List ℕ) (at : ℕ → Option PatternHit) where
   restarted-only : (n i : ℕ) → ((l : ℕ) → i < l → l < i + suc n → at l ≡ None)
       → restarted_hit haystack at (suc n) i ≡ first_hit (λ l. on_boundary haystack (at l)) (suc n) i
   restarted-only n i none =
-      of (at i) (restarted_hit haystack at n (i + 1)) (first_hit (λ l. on_boundary haystack (at l)) n (i + 1))
-      (restarted-nothing n (i + 1) later) (kept-nothing n (i + 1) later)
+      rw (restarted-nothing n (i + 1) later, kept-nothing n (i + 1) later) (of (at i))
     where
       later : (l : ℕ) → i + 1 ≤ l → l < i + 1 + n → at l ≡ None
       later l from to = none l (omega arith) (omega arith)
 
-      by : (b : Bool) (h : PatternHit) (r f : Option PatternHit) → r ≡ None → f ≡ None
-          → (if b then Some h else r) ≡ option_or (if b then Some h else None) f
-      by true h r f p q = refl
-      by false h r f p q = p ∙ sym q
-
-      of : (o r f : Option PatternHit) → r ≡ None → f ≡ None
-          → (if is_none_or o (ends_on_boundary haystack) then o else r) ≡ option_or (on_boundary haystack o) f
-      of None r f p q = sym q
-      of (Some h) r f p q = by (ends_on_boundary haystack h) h r f p q
+      of : (o : Option PatternHit) → (if is_none_or o (ends_on_boundary haystack) then o else None)
+          ≡ option_or (on_boundary haystack o) None
+      of None = refl
+      of (Some h) = by (ends_on_boundary haystack h)
+        where
+          by : (b : Bool) → (if b then Some h else None) ≡ option_or (if b then Some h else None) None
+          by true = refl
+          by false = refl
 
 module _ (res : List Re) (x : Search) (none : (l : ℕ) → 0 < l → l ≤ x.end → pick x.haystack res 0 l ≡ None) where
   abbrev at_place : ℕ → Option PatternHit
   at_place = pick x.haystack res 0
 
-  module _ (inside : x.start ≤ x.end) where
-    abbrev room : ℕ
-    room = x.end - x.start
+  -- the positions after the first
+  later : x.start ≤ x.end → (l : ℕ) → x.start < l → l < x.start + suc (x.end - x.start) → at_place l ≡ None
+  later inside l from to = none l (omega arith) (omega arith)
 
-    count : suc room ≡ room + 1
-    count = omega arith
+  count : x.end - x.start + 1 ≡ suc (x.end - x.start)
+  count = omega arith
 
-    later : (l : ℕ) → x.start < l → l < x.start + suc room → at_place l ≡ None
-    later l from to = none l (omega arith) (omega arith)
-
-    hit-mode : (mode : Anchored) → hit_at_start res true x mode ≡ hit_at_start res false x mode
-    hit-mode No =
-        subst (λ n. first_hit at_place 1 x.start ≡ first_hit at_place n x.start) count
-        (first-only at_place room x.start later)
-    hit-mode Yes = refl
-    hit-mode (Pattern pattern) = refl
-
-    boundary-mode : (mode : Anchored) → boundary_hit_at_start res true x mode ≡ boundary_hit_at_start res false x mode
-    boundary-mode No =
-        subst (λ n. restarted_hit x.haystack at_place n x.start
-        ≡ first_hit (λ l. on_boundary x.haystack (at_place l)) n x.start) count
-        (restarted-only x.haystack at_place room x.start later)
-    boundary-mode Yes = refl
-    boundary-mode (Pattern pattern) = refl
-
-    str-mode : (mode : Anchored) → str_hit_at_start res true x mode ≡ str_hit_at_start res false x mode
-    str-mode No =
-        subst (λ n. first_hit (at_boundary x.haystack at_place) 1 x.start
-        ≡ first_hit (at_boundary x.haystack at_place) n x.start) count
-        (first-only (at_boundary x.haystack at_place) room x.start
-        (λ l from to. both-none (is_boundary x.haystack l) (at_place l) (later l from to)))
-    str-mode Yes = refl
-    str-mode (Pattern pattern) = refl
-
-  hit-free : (b : Bool) → expected res b x ≡ expected res false x
+  hit-free : expected res true x ≡ expected res false x
   unfolding expected
-  hit-free false = refl
-  hit-free true = elim (cases_lt x.end x.start) [
-    | inl past ↦ rw (lt-ltb x.end x.start past) refl
-    | inr inside ↦ rw (le-ltb x.end x.start inside) (hit-mode inside x.anchored)
-  ]
+  hit-free = in-each-mode x (λ o u. o ≡ u) refl {one = λ k. pick_one x.haystack res k x.start}
+      (λ inside free. rw count (first-only at_place (x.end - x.start) x.start (later inside)))
+      (λ inside. refl) (λ inside k. refl)
 
-  boundary-free : (b : Bool) → expected_on_boundary res b x ≡ expected_on_boundary res false x
+  boundary-free : expected_on_boundary res true x ≡ expected_on_boundary res false x
   unfolding expected_on_boundary
-  boundary-free false = refl
-  boundary-free true = elim (cases_lt x.end x.start) [
-    | inl past ↦ rw (lt-ltb x.end x.start past) refl
-    | inr inside ↦ rw (le-ltb x.end x.start inside) (boundary-mode inside x.anchored)
-  ]
+  boundary-free = in-each-mode x (λ o u. o ≡ u) refl
+      {one = λ k. on_boundary x.haystack (pick_one x.haystack res k x.start)}
+      (λ inside free. rw count (restarted-only x.haystack at_place (x.end - x.start) x.start (later inside)))
+      (λ inside. refl) (λ inside k. refl)
 
-  str-free : (b : Bool) → expected_in_str res b x ≡ expected_in_str res false x
+  str-free : expected_in_str res true x ≡ expected_in_str res false x
   unfolding expected_in_str
-  str-free false = refl
-  str-free true = elim (cases_lt x.end x.start) [
-    | inl past ↦ rw (lt-ltb x.end x.start past) refl
-    | inr inside ↦ rw (le-ltb x.end x.start inside) (str-mode inside x.anchored)
-  ]
+  str-free = in-each-mode x (λ o u. o ≡ u) refl
+      {one = λ k. at_boundary x.haystack (pick_one x.haystack res k) x.start}
+      (λ inside free. rw count (first-only (at_boundary x.haystack at_place) (x.end - x.start) x.start
+      (λ l from to. both-none (is_boundary x.haystack l) (at_place l) (later inside l from to))))
+      (λ inside. refl) (λ inside k. refl)
 
--- so it does for an NFA that loses no hit
+-- An NFA that loses no hit finds the same.
 module _ (res : List Re) (nfa : Automaton) (x : Search) (whole : x.end ≡ length x.haystack)
     (kept : LosesNoHit res nfa x.haystack) where
-  abbrev binds : Bool
-  binds = nfa.anchored == nfa.unanchored
+  -- what does not depend on whether a search is bound, if there is no later hit
+  unbound : (f : Bool → Option PatternHit)
+      → (((l : ℕ) → 0 < l → l ≤ x.end → pick x.haystack res 0 l ≡ None) → f true ≡ f false)
+      → f (nfa.anchored == nfa.unanchored) ≡ f false
+  unbound f same = elim kept [
+    | inl e ↦ ap f e
+    | inr none ↦ of (nfa.anchored == nfa.unanchored) (same (λ l after to. none l after (omega arith)))
+  ]
+    where
+      of : (b : Bool) → f true ≡ f false → f b ≡ f false
+      of true e = e
+      of false e = refl
 
   pub hit-unbound : expected res (nfa.anchored == nfa.unanchored) x ≡ expected res false x
-  hit-unbound = elim kept [
-    | inl f ↦ ap (λ (b : Bool). expected res b x) f
-    | inr none ↦ hit-free res x (λ l after to. none l after (omega arith)) binds
-  ]
+  hit-unbound = unbound (λ b. expected res b x) (hit-free res x)
 
   pub boundary-unbound : expected_on_boundary res (nfa.anchored == nfa.unanchored) x
       ≡ expected_on_boundary res false x
-  boundary-unbound = elim kept [
-    | inl f ↦ ap (λ (b : Bool). expected_on_boundary res b x) f
-    | inr none ↦ boundary-free res x (λ l after to. none l after (omega arith)) binds
-  ]
+  boundary-unbound = unbound (λ b. expected_on_boundary res b x) (boundary-free res x)
 
   pub str-unbound : expected_in_str res (nfa.anchored == nfa.unanchored) x ≡ expected_in_str res false x
-  str-unbound = elim kept [
-    | inl f ↦ ap (λ (b : Bool). expected_in_str res b x) f
-    | inr none ↦ str-free res x (λ l after to. none l after (omega arith)) binds
-  ]
+  str-unbound = unbound (λ b. expected_in_str res b x) (str-free res x)
 
 -- where a pattern matches
 
@@ -341,18 +309,24 @@ matches-unbound res nfa x k whole kept =
       | inr none ↦ (λ m. wide (nfa.anchored == nfa.unanchored) m, λ m. narrow none (nfa.anchored == nfa.unanchored) m)
     ]
   where
-    wide : (b : Bool) → PatternMatches res b x k → PatternMatches res false x k
-    wide false m = m
-    wide true m = record {
+    -- the same match, if it starts early enough
+    moved : {b c : Bool} (m : PatternMatches res b x k)
+        → (m.start ≤ (if is_anchored x.anchored || b then x.start else x.end)
+        → m.start ≤ (if is_anchored x.anchored || c then x.start else x.end)) → PatternMatches res c x k
+    moved m early = record {
       start = m.start;
       end = m.end;
       known = m.known;
       tried = m.tried;
       from = m.from;
-      to = of x.anchored m.to;
+      to = early m.to;
       inside = m.inside;
       matches = m.matches;
     }
+
+    wide : (b : Bool) → PatternMatches res b x k → PatternMatches res false x k
+    wide false m = m
+    wide true m = moved m (of x.anchored)
       where
         of : (mode : Anchored) → m.start ≤ (if is_anchored mode || true then x.start else x.end)
             → m.start ≤ (if is_anchored mode || false then x.start else x.end)
@@ -363,16 +337,7 @@ matches-unbound res nfa x k whole kept =
     narrow : ((i : ℕ) → 0 < i → i ≤ length x.haystack → pick x.haystack res 0 i ≡ None) → (b : Bool)
         → PatternMatches res false x k → PatternMatches res b x k
     narrow none false m = m
-    narrow none true m = record {
-      start = m.start;
-      end = m.end;
-      known = m.known;
-      tried = m.tried;
-      from = m.from;
-      to = of x.anchored m.to;
-      inside = m.inside;
-      matches = m.matches;
-    }
+    narrow none true m = moved m (of x.anchored)
       where
         of : (mode : Anchored) → m.start ≤ (if is_anchored mode || false then x.start else x.end)
             → m.start ≤ (if is_anchored mode || true then x.start else x.end)

@@ -11,12 +11,13 @@ use Rattle.regex_nfa.specs.declared.state.Transition as their_transition
 use Rattle.regex_nfa.specs.declared.state.State as their_state
 use Rattle.regex_nfa.specs.declared.state.State.TheVariants as their
 use Rattle.regex_nfa.specs.declared.nfa.Nfa.{Nfa}
-use Rattle.thompson_nfa.specs.Automaton.Node.{ByteRange, Sparse, Look, Union, BinaryUnion, Capture, Fail, Match}
+use Rattle.thompson_nfa.specs.Automaton.Node.{ByteRange, Sparse, Look, Union, Capture, Fail, Match}
 use Rattle.nfa_paths.proofs.PathToLemmas.{EndsWith-last}
 use Rattle.nfa_match_spans.specs.StatePaths.{targets, reads, position_after, open_edges, RecordsMatchSpans}
 use Rattle.nfa_compiler.specs.declared.block.Site.{Site}
-use Rattle.nfa_compiler.specs.Blocks.{look_of, match_at, slot_in, moved, Stands, IsBlock}
+use Rattle.nfa_compiler.specs.Blocks.{match_at, slot_in, moved, node_for, IsInside, Stands, IsBlock}
 use Rattle.nfa_compiler.specs.Compiled.{IsNfaOf, first_slot}
+use Rattle.nfa_compiler.proofs.BlockLemmas.{node-plain}
 
 -- the pairs that may follow a state at position i
 abbrev pub after : Node → ℕ → List Pair
@@ -61,95 +62,58 @@ module _ (s : Site) (k : ℕ) (is : number_of s.pattern ≡ k) (behind : 2 * k +
     pub same : y.1 ≡ i
     pub slot : slot_of n ≡ Some (2 * k + 1)
 
-  -- targets of moved transitions
-  transitions-inside : (n : Node) (ts : List their_transition.Transition) (j : ℕ) (y : Pair) → slot_of n ≡ None
-      → All (λ t. t.next < s.size) ts
-      → In y (map (λ t. (t, j)) (map (λ t. t.next) (map (moved s) ts))) → StaysInside n y
-  transitions-inside n [] j y none all i = absurd i
-  transitions-inside n (t ∷ ts) j y none all i = elim i [
-    | inl e ↦ record {
-      state = t.next;
-      below = all 0 t (omega arith);
-      at = ap (λ (w : Pair). w.0) e;
-      spares = λ slot less. ap (λ o. option_map_or (λ k. k == slot) o false) none;
-    }
-    | inr later ↦ transitions-inside n ts j y none (λ i d h. all (suc i) d (omega arith)) later
-  ]
-
-  inside : (n : Node) (q j : ℕ) (y : Pair) → slot_of n ≡ None → q < s.size → y ≡ (s.base + q, j) → StaysInside n y
-  inside n q j y none below e = record {
+  inside : (n : Node) (q j : ℕ) (y : Pair) → slot_of n ≡ None → q < s.size → In y ((s.base + q, j) ∷ [])
+      → StaysInside n y
+  inside n q j y none below (inl e) = record {
     state = q;
     below = below;
     at = ap (λ (w : Pair). w.0) e;
     spares = λ slot less. ap (λ o. option_map_or (λ k. k == slot) o false) none;
   }
+  inside n q j y none below (inr never) = absurd never
+
+  -- targets of moved transitions
+  transitions-inside : (n : Node) (ts : List their_transition.Transition) (j : ℕ) (y : Pair) → slot_of n ≡ None
+      → All (λ t. t.next < s.size) ts
+      → In y (map (λ t. (t, j)) (map (λ t. t.next) (map (moved s) ts))) → StaysInside n y
+  transitions-inside n [] j y none all never = absurd never
+  transitions-inside n (t ∷ ts) j y none all (inl e) = inside n t.next j y none (all 0 t (omega arith)) (inl e)
+  transitions-inside n (t ∷ ts) j y none all (inr later) =
+      transitions-inside n ts j y none (λ i d h. all (suc i) d (omega arith)) later
 
   -- what follows a state of the pattern
+  node-follows : (ts : List their_transition.Transition) (state : their_state.State) (i : ℕ) (y : Pair)
+      → IsInside ts s state → In y (after (node_for ts s state) i)
+      → StaysInside (node_for ts s state) y ⊎ ReachesMatch (node_for ts s state) i y
+  unfolding targets reads
+  node-follows ts (their.ByteRange t) i y below edge = inl (inside _ t.next (i + 1) y refl below edge)
+  node-follows ts (their.Sparse from to) i y below edge =
+      inl (transitions-inside _ (slice_range ts from to) (i + 1) y refl below edge)
+  node-follows ts (their.Split first second) i y below (inl e) = inl (inside _ first i y refl below.0 (inl e))
+  node-follows ts (their.Split first second) i y below (inr later) = inl (inside _ second i y refl below.1 later)
+  node-follows ts (their.Save slot next) i y below (inl e) = inl (record {
+    state = next;
+    below = below.1;
+    at = ap (λ (w : Pair). w.0) e;
+    spares = λ other less.
+        let place : slot_in s slot ≡ s.slots + (slot - 2) = cond-false _ _ _ (le-ltb slot 2 below.0) in
+        ne_eqb (slot_in s slot) other (λ same. omega arith);
+  })
+  node-follows ts (their.Save slot next) i y below (inr never) = absurd never
+  node-follows ts (their.Look l next) i y below edge = inl (inside _ next i y refl below edge)
+  node-follows ts their.Match i y below (inl e) = inr (record {
+    at = ap (λ (w : Pair). w.0) e;
+    same = ap (λ (w : Pair). w.1) e;
+    slot = ap (λ m. Some (2 * m + 1)) is;
+  })
+  node-follows ts their.Match i y below (inr never) = absurd never
+  node-follows ts their.Fail i y below never = absurd never
+
   pub follows : (ts : List their_transition.Transition) (state : their_state.State) (n : Node) (i : ℕ) (y : Pair)
       → Stands ts s state n → In y (after n i) → StaysInside n y ⊎ ReachesMatch n i y
-  unfolding targets reads
-  follows ts (their.ByteRange t) n i y stands edge =
-      let there : In y (after (ByteRange (moved s t)) i) = subst (λ w. In y (after w i)) stands.1 edge in
-      inl (elim there [
-        | inl e ↦ inside n t.next (i + 1) y (ap slot_of stands.1) stands.0 e
-        | inr never ↦ absurd never
-      ])
-  follows ts (their.Sparse from to) n i y stands edge =
-      let there : In y (after (Sparse (map (moved s) (slice_range ts from to))) i) =
-      subst (λ w. In y (after w i)) stands.1 edge in
-      inl (transitions-inside n (slice_range ts from to) (i + 1) y (ap slot_of stands.1) stands.0 there)
-  follows ts (their.Split first second) n i y stands edge =
-      let there : In y (after (BinaryUnion (s.base + first) (s.base + second)) i) =
-      subst (λ w. In y (after w i)) stands.2 edge in
-      inl (elim there [
-        | inl e ↦ inside n first i y (ap slot_of stands.2) stands.0 e
-        | inr (inl e) ↦ inside n second i y (ap slot_of stands.2) stands.1 e
-        | inr (inr never) ↦ absurd never
-      ])
-  follows ts (their.Save slot next) n i y stands edge =
-      let there : In y (after (Capture (s.base + next) (slot_in s slot)) i) =
-      subst (λ w. In y (after w i)) stands.2 edge in
-      elim there [
-        | inl e ↦ inl (record {
-          state = next;
-          below = stands.1;
-          at = ap (λ (w : Pair). w.0) e;
-          spares = λ other less.
-              let place : slot_in s slot ≡ s.slots + (slot - 2) = cond-false _ _ _ (le-ltb slot 2 stands.0) in
-              ap (λ o. option_map_or (λ k. k == other) o false) (ap slot_of stands.2)
-              ∙ ne_eqb (slot_in s slot) other (λ same. omega arith);
-        })
-        | inr never ↦ absurd never
-      ]
-  follows ts (their.Look l next) n i y stands edge =
-      let there : In y (after (Look (look_of l) (s.base + next)) i) = subst (λ w. In y (after w i)) stands.1 edge in
-      inl (elim there [
-        | inl e ↦ inside n next i y (ap slot_of stands.1) stands.0 e
-        | inr never ↦ absurd never
-      ])
-  follows ts their.Match n i y stands edge =
-      let there : In y (after (Capture (match_at s) (slot_in s 1)) i) = subst (λ w. In y (after w i)) stands edge in
-      elim there [
-        | inl e ↦ inr (record {
-          at = ap (λ (w : Pair). w.0) e;
-          same = ap (λ (w : Pair). w.1) e;
-          slot = ap slot_of stands ∙ ap (λ m. Some (2 * m + 1)) is;
-        })
-        | inr never ↦ absurd never
-      ]
-  follows ts their.Fail n i y stands edge =
-      let there : In y (after Fail i) = subst (λ w. In y (after w i)) stands edge in absurd there
-
-  -- none of them is a Match
-  plain : (ts : List their_transition.Transition) (state : their_state.State) (n : Node) → Stands ts s state n
-      → is_some (pattern_of n) ≡ false
-  plain ts (their.ByteRange t) n stands = ap (λ w. is_some (pattern_of w)) stands.1
-  plain ts (their.Sparse from to) n stands = ap (λ w. is_some (pattern_of w)) stands.1
-  plain ts (their.Split first second) n stands = ap (λ w. is_some (pattern_of w)) stands.2
-  plain ts (their.Save slot next) n stands = ap (λ w. is_some (pattern_of w)) stands.2
-  plain ts (their.Look l next) n stands = ap (λ w. is_some (pattern_of w)) stands.1
-  plain ts their.Match n stands = ap (λ w. is_some (pattern_of w)) stands
-  plain ts their.Fail n stands = ap (λ w. is_some (pattern_of w)) stands
+  follows ts state n i y stands =
+      subst (λ m. In y (after m i) → StaysInside m y ⊎ ReachesMatch m i y) (sym stands.1)
+      (node-follows ts state i y stands.0)
 
   module _ (a : Automaton) (nfa : Nfa) (block : IsBlock a.states nfa s) where
     -- the list ends with the Match, and of the two slots writes only the end
@@ -202,10 +166,9 @@ module _ (s : Site) (k : ℕ) (is : number_of s.pattern ≡ k) (behind : 2 * k +
     from-inside : (rest : List Pair) (v m : Pair) (q : ℕ) → q < s.size → v.0 ≡ s.base + q
         → Linked (open_edges a) (v ∷ rest) → EndsWith m (v ∷ rest) → IsMatch a m → WritesEnd (v ∷ rest) m
     from-inside [] v m q below at linked ends matches =
-        let none = plain nfa.transitions.items (state_at nfa.states.items q) (node_at a (s.base + q))
-        (stands_here q below) in
         let same : is_some (pattern_of (node_at a v.0)) ≡ false =
-        ap (λ n. is_some (pattern_of (node_at a n))) at ∙ none in
+        ap (λ n. is_some (pattern_of (node_at a n))) at ∙ ap (λ n. is_some (pattern_of n)) (stands_here q below).1
+        ∙ node-plain nfa.transitions.items s (state_at nfa.states.items q) in
         let is_match : is_some (pattern_of (node_at a v.0)) ≡ true =
         ap (λ (w : Pair). is_some (pattern_of (node_at a w.0))) ends ∙ matches in
         absurd (cc)

@@ -1,8 +1,11 @@
 -- The writes of a path, and the slots that they give.
-use Rattle.std.proofs.Common.{◌≡◌, ℕ, false, List, [], ◌∷◌, ◌++◌, refl, ap, sym, ◌∙◌, Option, None, Some, if◌then◌else◌, ◌==◌}
+use Rattle.std.proofs.Common.{◌≡◌, ℕ, ◌<◌, false, List, [], ◌∷◌, ◌++◌, length, map, refl, ap, sym, ◌∙◌, arith, Option, None, Some, if◌then◌else◌, ◌==◌}
+use Rattle.std.specs.List.{range_with_len}
 use Rattle.std.specs.Option.{option_or, option_map_or}
+use Rattle.std.proofs.lemmas.Option.{slice_get-get_or}
+use Rattle.std.proofs.lemmas.List.FromFn.{get_or-map-range_with_len, length-map-range_with_len}
 use Rattle.regex_hir.specs.Find.{last_write}
-use Rattle.nfa_paths.specs.Common.{Automaton, Pair, capture, slot_among}
+use Rattle.nfa_paths.specs.Common.{Automaton, Pair, capture, offset_at, slot_among}
 use Rattle.nfa_paths.proofs.OptionLemmas.{option_or-None, option_or-assoc}
 
 -- what a pair writes
@@ -38,3 +41,11 @@ last_write-append [] vs slot = sym (option_or-None (last_write vs slot))
 last_write-append (w ∷ ws) vs slot =
     ap (λ o. option_or o (if w.0 == slot then Some w.1 else None)) (last_write-append ws vs slot)
     ∙ option_or-assoc (last_write vs slot) (last_write ws slot) (if w.0 == slot then Some w.1 else None)
+
+-- a row of slots at one of them
+pub offset-at : (f : ℕ → Option ℕ) (count slot : ℕ) → slot < count
+    → offset_at (map f (range_with_len 0 count)) slot ≡ f slot
+offset-at f count slot less =
+    let long : slot < length (map f (range_with_len 0 count)) = omega (arith, length-map-range_with_len f 0 count) in
+    rw (slice_get-get_or (map f (range_with_len 0 count)) slot None long)
+    (get_or-map-range_with_len f 0 count slot slot None less (omega arith))

@@ -1,5 +1,5 @@
 -- The states of one pattern in an NFA: those of an NFA of `regex_nfa`, moved.
-use Rattle.std.specs.Prelude.{◌≡◌, ℕ, ◌+◌, ◌-◌, ◌*◌, ◌<◌, ◌≤◌, List, length, map, All, if◌then◌else◌, nat_lt, slice_range, slice_index_or}
+use Rattle.std.specs.Prelude.{◌≡◌, ℕ, ◌+◌, ◌-◌, ◌*◌, ◌<◌, ◌≤◌, List, length, map, All, if◌then◌else◌, nat_lt, slice_range, slice_index_or, ⊤}
 use Rattle.nfa_paths.specs.Common.{number_of, Node}
 use Rattle.regex_hir.specs.declared.look.Look as theirs
 use Rattle.regex_hir.specs.declared.look.Look.TheVariants as their_look
@@ -47,19 +47,28 @@ slot_in s slot = if nat_lt slot 2 then (2 * number_of s.pattern + slot) else (s.
 abbrev pub moved : Site → their_transition.Transition → Transition
 moved s t = record { start = t.start; end = t.end; next = s.base + t.next }
 
--- the node is that state with its targets moved; for their Match, ours writes the end first
+-- the node for a state, with its targets moved; for their Match, ours writes the end first
+abbrev pub node_for : List their_transition.Transition → Site → their_state.State → Node
+node_for ts s (their.ByteRange t) = ByteRange (moved s t)
+node_for ts s (their.Sparse from to) = Sparse (map (moved s) (slice_range ts from to))
+node_for ts s (their.Split first second) = BinaryUnion (s.base + first) (s.base + second)
+node_for ts s (their.Save slot next) = Capture (s.base + next) (slot_in s slot)
+node_for ts s (their.Look l next) = Look (look_of l) (s.base + next)
+node_for ts s their.Match = Capture (match_at s) (slot_in s 1)
+node_for ts s their.Fail = Fail
+
+-- its targets are states of the pattern, and its slot is one of an explicit group
+abbrev pub IsInside : List their_transition.Transition → Site → their_state.State → Type 0
+IsInside ts s (their.ByteRange t) = t.next < s.size
+IsInside ts s (their.Sparse from to) = All (λ t. t.next < s.size) (slice_range ts from to)
+IsInside ts s (their.Split first second) = (first < s.size) × (second < s.size)
+IsInside ts s (their.Save slot next) = (2 ≤ slot) × (next < s.size)
+IsInside ts s (their.Look l next) = next < s.size
+IsInside ts s _ = ⊤
+
+-- the node is that of the state
 abbrev pub Stands : List their_transition.Transition → Site → their_state.State → Node → Type 0
-Stands ts s (their.ByteRange t) node = (t.next < s.size) × (node ≡ ByteRange (moved s t))
-Stands ts s (their.Sparse from to) node =
-    All (λ t. t.next < s.size) (slice_range ts from to) × (node ≡ Sparse (map (moved s) (slice_range ts from to)))
-Stands ts s (their.Split first second) node =
-    (first < s.size) × (second < s.size) × (node ≡ BinaryUnion (s.base + first) (s.base + second))
-Stands ts s (their.Save slot next) node =
-    (2 ≤ slot) × (next < s.size) × (node ≡ Capture (s.base + next) (slot_in s slot))
-Stands ts s (their.Look l next) node =
-    (next < s.size) × (node ≡ Look (look_of l) (s.base + next))
-Stands ts s their.Match node = node ≡ Capture (match_at s) (slot_in s 1)
-Stands ts s their.Fail node = node ≡ Fail
+Stands ts s state node = IsInside ts s state × (node ≡ node_for ts s state)
 
 -- the states of the pattern: from `base` on the moved ones, then its Match, then its start, which writes slot 0
 pub record IsBlock (nodes : List Node) (nfa : Nfa) (s : Site) : Type 0 where

@@ -1,11 +1,10 @@
 -- The hits of searches in UTF-8 mode, in which a match that splits a codepoint does not count.
-use Rattle.std.specs.Prelude.{ℕ, zero, suc, ◌+◌, ◌-◌, Bool, List, length, Option, None, if◌then◌else◌, nat_lt, ◌==◌}
+use Rattle.std.specs.Prelude.{ℕ, zero, suc, ◌+◌, ◌-◌, Bool, List, length, Option, None, if◌then◌else◌, ◌==◌}
 use Rattle.regex_hir.specs.Re.{Re}
 use Rattle.regex_hir.specs.Text.{is_boundary, is_none_or, is_some_and}
-use Rattle.nfa_paths.specs.Common.{number_of, Search, Anchored, Automaton}
-use Rattle.regex_search_core.specs.declared.search.Anchored.TheVariants.{No, Yes, Pattern}
+use Rattle.nfa_paths.specs.Common.{Search, Automaton}
 use Rattle.nfa_compiler.specs.AllHits.{hits_from}
-use Rattle.nfa_compiler.specs.Patterns.{PatternHit, first_hit, pick, pick_one}
+use Rattle.nfa_compiler.specs.Patterns.{PatternHit, first_hit, hit_of_search, pick, pick_one}
 
 -- the hit ends on a boundary of the haystack: its end is not at a continuation byte
 abbrev pub ends_on_boundary : List ℕ → PatternHit → Bool
@@ -24,18 +23,13 @@ restarted_hit haystack at (suc n) i =
 
 -- What a search for the patterns finds. `bound` says that each scan is bound to its start. That does not anchor the
 -- search: it starts again after a hit that splits a codepoint, and ends with none at the first start without a hit.
-abbrev pub boundary_hit_at_start : List Re → Bool → Search → Anchored → Option PatternHit
-boundary_hit_at_start res bound x No =
-    if bound then restarted_hit x.haystack (pick x.haystack res 0) (x.end - x.start + 1) x.start
-    else first_hit (λ i. on_boundary x.haystack (pick x.haystack res 0 i)) (x.end - x.start + 1) x.start
-boundary_hit_at_start res bound x Yes = on_boundary x.haystack (pick x.haystack res 0 x.start)
-boundary_hit_at_start res bound x (Pattern pattern) =
-    on_boundary x.haystack (pick_one x.haystack res (number_of pattern) x.start)
-
--- the same; none if the span starts after its end
 unfoldable pub expected_on_boundary : List Re → Bool → Search → Option PatternHit
 expected_on_boundary res bound x =
-    if nat_lt x.end x.start then None else boundary_hit_at_start res bound x x.anchored
+    hit_of_search x
+    (if bound then restarted_hit x.haystack (pick x.haystack res 0) (x.end - x.start + 1) x.start
+    else first_hit (λ i. on_boundary x.haystack (pick x.haystack res 0 i)) (x.end - x.start + 1) x.start)
+    (on_boundary x.haystack (pick x.haystack res 0 x.start))
+    (λ k. on_boundary x.haystack (pick_one x.haystack res k x.start))
 
 -- what a search of the NFA finds: without an anchor, the first hit that ends on a boundary
 abbrev pub boundary_hit : List Re → Automaton → Search → Option PatternHit

@@ -11,7 +11,7 @@ use Rattle.nfa_compiler.specs.Compiled.{AreMeant, IsCompiled, IsNfaOf}
 use Rattle.regex_hir.specs.Find.{find}
 use Rattle.regex_search_core.specs.declared.search.Anchored.TheVariants.{No}
 use Rattle.regex_syntax.specs.declared.Config.{Config}
-use Rattle.nfa_compiler.specs.Patterns.{PatternHit, expected, slots_of, found_of_hit, hit_by}
+use Rattle.nfa_compiler.specs.Patterns.{AreOfHit, PatternHit, expected, found_of_hit, hit_by}
 
 -- each assertion holds exactly if its counterpart does
 abbrev pub LooksAgree : Type 0
@@ -32,9 +32,7 @@ abbrev pub AnswersAreHits : Type 0
 AnswersAreHits =
     (res : List Re) (nfa : Automaton) (kind : MatchKind) (earliest : Bool) (x : Search) (pattern : Option ℕ)
     (slots : List (Option ℕ)) → IsNfaOf res nfa → is_utf8_empty nfa ≡ false → IsLeftmostToTheEnd kind earliest x
-    → IsAnswer nfa kind earliest x pattern slots
-    → (pattern ≡ option_map (λ (h : PatternHit). h.pattern) (hit res nfa x))
-    × (slots ≡ slots_of nfa.groups (length slots) (hit res nfa x))
+    → IsAnswer nfa kind earliest x pattern slots → AreOfHit nfa.groups (hit res nfa x) pattern slots
 
 -- its match is that of the hit
 abbrev pub MatchesAreHits : Type 0
@@ -57,9 +55,7 @@ TextsAreAnswered =
     (x : Search) (pattern : Option ℕ) (slots : List (Option ℕ)) → IsCompiled syntax texts nfa
     → AreMeant syntax texts res → is_utf8_empty nfa ≡ false → IsLeftmostToTheEnd kind earliest x
     → All (λ b. b < 256) x.haystack
-    → IsAnswer nfa kind earliest x pattern slots
-    → (pattern ≡ option_map (λ (h : PatternHit). h.pattern) (hit res nfa x))
-    × (slots ≡ slots_of nfa.groups (length slots) (hit res nfa x))
+    → IsAnswer nfa kind earliest x pattern slots → AreOfHit nfa.groups (hit res nfa x) pattern slots
 
 abbrev pub TextsAreMatched : Type 0
 TextsAreMatched =

@@ -1,5 +1,5 @@
 -- What a search for patterns finds, in the words of the matcher of `regex_hir`.
-use Rattle.std.specs.Prelude.{ℕ, zero, suc, ◌+◌, ◌-◌, ◌*◌, Bool, List, [], ◌∷◌, length, map, take, replicate, Option, Some, None, option_map, option_and_then, if◌then◌else◌, nat_lt, slice_get}
+use Rattle.std.specs.Prelude.{◌≡◌, ℕ, zero, suc, ◌+◌, ◌-◌, ◌*◌, Bool, List, [], ◌∷◌, length, map, take, replicate, Option, Some, None, option_map, option_and_then, if◌then◌else◌, nat_lt, slice_get}
 use Rattle.std.specs.List.{sum_by, range_with_len}
 use Rattle.std.specs.Option.{option_or}
 use Rattle.regex_hir.specs.Re.{Re, Trace, accept, attempt}
@@ -31,16 +31,21 @@ first_hit at (suc n) i = option_or (at i) (first_hit at n (i + 1))
 abbrev pub pick_one : List ℕ → List Re → ℕ → ℕ → Option PatternHit
 pick_one haystack res k i = option_and_then (λ re. hit_of k i (attempt haystack re accept i)) (slice_get res k)
 
--- The hit that a search for the patterns has to find. `bound` says that each search is bound to its start.
-abbrev pub hit_at_start : List Re → Bool → Search → Anchored → Option PatternHit
-hit_at_start res bound x No =
-    first_hit (pick x.haystack res 0) (if bound then 1 else (x.end - x.start + 1)) x.start
-hit_at_start res bound x Yes = pick x.haystack res 0 x.start
-hit_at_start res bound x (Pattern pattern) = pick_one x.haystack res (number_of pattern) x.start
+-- The hit of a search; none if its span starts after its end. `free` is the hit of a search without an anchor, `at`
+-- that of all patterns at its start, and `one` that of a single pattern there.
+abbrev pub hit_in_mode : Option PatternHit → Option PatternHit → (ℕ → Option PatternHit) → Anchored → Option PatternHit
+hit_in_mode free at one No = free
+hit_in_mode free at one Yes = at
+hit_in_mode free at one (Pattern pattern) = one (number_of pattern)
 
--- the same; none if the span starts after its end
+abbrev pub hit_of_search : Search → Option PatternHit → Option PatternHit → (ℕ → Option PatternHit) → Option PatternHit
+hit_of_search x free at one = if nat_lt x.end x.start then None else hit_in_mode free at one x.anchored
+
+-- The hit that a search for the patterns has to find. `bound` says that each search is bound to its start.
 unfoldable pub expected : List Re → Bool → Search → Option PatternHit
-expected res bound x = if nat_lt x.end x.start then None else hit_at_start res bound x x.anchored
+expected res bound x =
+    hit_of_search x (first_hit (pick x.haystack res 0) (if bound then 1 else (x.end - x.start + 1)) x.start)
+    (pick x.haystack res 0 x.start) (λ k. pick_one x.haystack res k x.start)
 
 -- the number of the pattern's slot among those of all: group n of a pattern has the slots 2n and 2n + 1
 abbrev pub place_of : List (List (Option (List ℕ))) → ℕ → ℕ → ℕ
@@ -58,6 +63,11 @@ writes_of groups h =
 unfoldable pub slots_of : List (List (Option (List ℕ))) → ℕ → Option PatternHit → List (Option ℕ)
 slots_of groups count None = replicate count None
 slots_of groups count (Some h) = map (last_write (writes_of groups h)) (range_with_len 0 count)
+
+-- the pattern and the slots are those of the hit
+abbrev pub AreOfHit : List (List (Option (List ℕ))) → Option PatternHit → Option ℕ → List (Option ℕ) → Type 0
+AreOfHit groups h pattern slots =
+    (pattern ≡ option_map (λ (g : PatternHit). g.pattern) h) × (slots ≡ slots_of groups (length slots) h)
 
 -- the pattern and the span of the hit
 abbrev pub found_at : PatternHit → Found

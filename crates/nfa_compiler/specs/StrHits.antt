@@ -1,12 +1,12 @@
 -- The hits of searches of a `str`: a haystack that is UTF-8, in which no match starts inside a codepoint.
-use Rattle.std.specs.Prelude.{◌≡◌, ℕ, ◌+◌, ◌-◌, Bool, true, false, List, length, Option, None, IsUtf8, if◌then◌else◌, nat_lt, ◌==◌}
+use Rattle.std.specs.Prelude.{◌≡◌, ℕ, ◌+◌, ◌-◌, Bool, true, false, List, length, Option, None, IsUtf8, if◌then◌else◌, ◌==◌}
 use Rattle.regex_hir.specs.Matches.{Matches}
 use Rattle.regex_hir.specs.Re.{Re}
 use Rattle.regex_hir.specs.Text.{is_boundary}
-use Rattle.nfa_paths.specs.Common.{IsBoundary, number_of, Search, Anchored, Automaton}
-use Rattle.regex_search_core.specs.declared.search.Anchored.TheVariants.{No, Yes, Pattern}
+use Rattle.nfa_paths.specs.Common.{IsBoundary, Search, Automaton}
+use Rattle.regex_search_core.specs.declared.search.Anchored.TheVariants.{No}
 use Rattle.nfa_compiler.specs.AllHits.{hits_from}
-use Rattle.nfa_compiler.specs.Patterns.{PatternHit, first_hit, pick, pick_one}
+use Rattle.nfa_compiler.specs.Patterns.{PatternHit, first_hit, hit_of_search, pick, pick_one}
 
 -- In a `str` the pattern matches whole characters: a match that starts on a boundary ends on one, and one that starts
 -- inside a codepoint is empty.
@@ -25,16 +25,12 @@ abbrev pub at_boundary : List ℕ → (ℕ → Option PatternHit) → ℕ → Op
 at_boundary haystack at i = if is_boundary haystack i then at i else None
 
 -- What a search for the patterns finds. `bound` says that each search is bound to its start.
-abbrev pub str_hit_at_start : List Re → Bool → Search → Anchored → Option PatternHit
-str_hit_at_start res bound x No =
-    first_hit (at_boundary x.haystack (pick x.haystack res 0)) (if bound then 1 else (x.end - x.start + 1)) x.start
-str_hit_at_start res bound x Yes = at_boundary x.haystack (pick x.haystack res 0) x.start
-str_hit_at_start res bound x (Pattern pattern) =
-    at_boundary x.haystack (pick_one x.haystack res (number_of pattern)) x.start
-
--- the same; none if the span starts after its end
 unfoldable pub expected_in_str : List Re → Bool → Search → Option PatternHit
-expected_in_str res bound x = if nat_lt x.end x.start then None else str_hit_at_start res bound x x.anchored
+expected_in_str res bound x =
+    hit_of_search x
+    (first_hit (at_boundary x.haystack (pick x.haystack res 0)) (if bound then 1 else (x.end - x.start + 1)) x.start)
+    (at_boundary x.haystack (pick x.haystack res 0) x.start)
+    (λ k. at_boundary x.haystack (pick_one x.haystack res k) x.start)
 
 -- what a search of the NFA finds in a `str`
 abbrev pub str_hit : List Re → Automaton → Search → Option PatternHit

@@ -13,7 +13,7 @@ use Rattle.nfa_compiler.specs.AnyStart.{FindsFromAnyStart, LosesNoHit}
 use Rattle.nfa_compiler.specs.AllHits.{row_of_hit}
 use Rattle.nfa_compiler.specs.Compiled.{AreMeant, IsCompiled}
 use Rattle.nfa_compiler.specs.Laws.{IsLeftmostToTheEnd}
-use Rattle.nfa_compiler.specs.Patterns.{PatternHit, found_at, found_of_hit, hit_by, slots_of}
+use Rattle.nfa_compiler.specs.Patterns.{AreOfHit, found_at, found_of_hit, hit_by}
 use Rattle.nfa_compiler.specs.StrHits.{StartsOnBoundary, all_str_hits, str_hit}
 
 -- the pattern and the slots of a search are those of the hit
@@ -23,8 +23,7 @@ StrsAreAnswered =
     (x : Search) (pattern : Option ℕ) (slots : List (Option ℕ)) → IsCompiled syntax texts nfa
     → AreMeant syntax texts res → nfa.utf8 ≡ true → IsLeftmostToTheEnd kind earliest x → IsUtf8 x.haystack
     → StartsOnBoundary nfa x → IsAnswer nfa kind earliest x pattern slots
-    → (pattern ≡ option_map (λ (h : PatternHit). h.pattern) (str_hit res nfa x))
-    × (slots ≡ slots_of nfa.groups (length slots) (str_hit res nfa x))
+    → AreOfHit nfa.groups (str_hit res nfa x) pattern slots
 
 -- its match is that of the hit
 abbrev pub StrsAreMatched : Type 0

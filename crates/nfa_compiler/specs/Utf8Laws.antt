@@ -1,5 +1,5 @@
 -- What searches of a compiled NFA find in UTF-8 mode, in which a match that splits a codepoint does not count.
-use Rattle.std.specs.Prelude.{◌≡◌, ℕ, All, Bool, true, List, length, map, IsUtf8, Option, is_some, option_map}
+use Rattle.std.specs.Prelude.{◌≡◌, ℕ, All, Bool, true, List, map, IsUtf8, Option, is_some}
 use Rattle.regex_hir.specs.Meaning.{meaning}
 use Rattle.regex_hir.specs.Re.{Re}
 use Rattle.nfa_paths.specs.Common.{Found, Search, MatchKind, Automaton, is_utf8_empty, IsAnswer, IsFindAnswer, IsBoolAnswer}
@@ -12,7 +12,7 @@ use Rattle.nfa_compiler.specs.AllHits.{row_of_hit}
 use Rattle.nfa_compiler.specs.BoundaryHits.{all_boundary_hits, boundary_hit}
 use Rattle.nfa_compiler.specs.Compiled.{IsNfaOf}
 use Rattle.nfa_compiler.specs.Laws.{IsLeftmostToTheEnd}
-use Rattle.nfa_compiler.specs.Patterns.{PatternHit, slots_of, found_at, found_of_hit}
+use Rattle.nfa_compiler.specs.Patterns.{AreOfHit, found_at, found_of_hit}
 use Rattle.nfa_compiler.specs.StrHits.{MatchesCharacters, StartsOnBoundary, str_hit}
 
 -- In any haystack, for patterns that may match the empty string: the pattern and the slots of a search are those of the
@@ -21,9 +21,7 @@ abbrev pub AnswersAreBoundaryHits : Type 0
 AnswersAreBoundaryHits =
     (res : List Re) (nfa : Automaton) (kind : MatchKind) (earliest : Bool) (x : Search) (pattern : Option ℕ)
     (slots : List (Option ℕ)) → IsNfaOf res nfa → is_utf8_empty nfa ≡ true → IsLeftmostToTheEnd kind earliest x
-    → IsAnswer nfa kind earliest x pattern slots
-    → (pattern ≡ option_map (λ (h : PatternHit). h.pattern) (boundary_hit res nfa x))
-    × (slots ≡ slots_of nfa.groups (length slots) (boundary_hit res nfa x))
+    → IsAnswer nfa kind earliest x pattern slots → AreOfHit nfa.groups (boundary_hit res nfa x) pattern slots
 
 -- its match is that of the hit
 abbrev pub MatchesAreBoundaryHits : Type 0

@@ -1,5 +1,5 @@
 -- From the matches and captures of a text to the hits of what the pattern means.
-use Rattle.std.proofs.Common.{◌≡◌, ◌∙◌, ℕ, ◌+◌, ◌-◌, ◌≤◌, ◌<◌, ◌⊎◌, inl, inr, Bool, true, false, List, [], ◌∷◌, length, map, take, All, arith, refl, sym, ap, ap₂, subst, Option, None, Some, option_map, if◌then◌else◌}
+use Rattle.std.proofs.Common.{◌≡◌, ◌∙◌, ℕ, ◌+◌, ◌-◌, ◌≤◌, ◌<◌, ◌⊎◌, inl, inr, Bool, true, false, List, [], ◌∷◌, length, map, take, All, arith, refl, sym, ap, ap₂, subst, Option, None, Some, if◌then◌else◌}
 use Rattle.std.specs.List.{AllByRecursion}
 use Rattle.std.proofs.lemmas.Bool.{cases_lt, lt-ltb, le-ltb}
 use Rattle.std.proofs.lemmas.List.{take-append-le, take_all}
@@ -9,12 +9,11 @@ use Rattle.regex_hir.specs.Text.{is_boundary}
 use Rattle.regex_search_core.specs.Found.{Found}
 use Rattle.regex_search_core.specs.Search.{Search, whole}
 use Rattle.regex_search_core.specs.Slots.{Captured}
-use Rattle.regex_search_core.specs.declared.search.MatchKind.TheVariants.{LeftmostFirst}
 use Rattle.nfa_engines.specs.Automaton.{Automaton}
 use Rattle.nfa_engines.specs.WithCaptures.{Row, row_of}
 use Rattle.nfa_engines.specs.CapturesLists.{AreRows, HasGroups}
 use Rattle.nfa_engines.specs.Lists.{AreFirstMatches, AreMatches}
-use Rattle.nfa_engines.specs.Paths.{IsAnswer, IsFindAnswer, is_utf8_empty}
+use Rattle.nfa_engines.specs.Paths.{is_utf8_empty}
 use Rattle.nfa_search_base.proofs.ListLemmas.{matches-exist, matches-rest}
 use Rattle.nfa_compiler.specs.AllHits.{all_hits, hits_from, row_of_hit}
 use Rattle.nfa_compiler.specs.AllLaws.{MatchesAreAllOfTexts, RowsAreAllOfTexts}
@@ -22,13 +21,13 @@ use Rattle.nfa_compiler.specs.AnyStart.{LosesNoHit}
 use Rattle.nfa_compiler.specs.BoundaryHits.{boundary_hit, expected_on_boundary, on_boundary}
 use Rattle.nfa_compiler.specs.Compiled.{res_of}
 use Rattle.nfa_compiler.specs.Laws.{IsLeftmostToTheEnd, hit}
-use Rattle.nfa_compiler.specs.Patterns.{PatternHit, found_at, found_of_hit, pick, slots_of}
+use Rattle.nfa_compiler.specs.Patterns.{PatternHit, found_at, pick}
 use Rattle.nfa_compiler.specs.StrLaws.{AllHitsAreFindAllStr, MatchesAreAllOfStrs, RowsAreAllOfStrs}
-use Rattle.nfa_compiler.proofs.AllSearchLemmas.{matches-of, rows-of}
-use Rattle.nfa_compiler.proofs.BoundLemmas.{LiesFrom}
-use Rattle.nfa_compiler.proofs.BoundarySearchLemmas.{boundary-answer, boundary-known, boundary-match}
-use Rattle.nfa_compiler.proofs.LiesLemmas.{boundary-lies}
-use Rattle.nfa_compiler.proofs.MeantLemmas.{AreAlike, all-meant, first-alike, found-alike, pattern-alike, pick-alike, slots-alike}
+use Rattle.nfa_compiler.proofs.AllSearchLemmas.{AreAnsweredBy, all-matches, all-rows}
+use Rattle.nfa_compiler.proofs.AnswerLemmas.{answered-alike}
+use Rattle.nfa_compiler.proofs.BoundLemmas.{boundary-lies}
+use Rattle.nfa_compiler.proofs.BoundarySearchLemmas.{boundary-answered}
+use Rattle.nfa_compiler.proofs.MeantLemmas.{AreAlike, all-meant, first-alike, pick-alike}
 use Rattle.nfa_compiler.proofs.UnboundLemmas.{boundary-unbound, hit-unbound, loses-none, texts-lose-none}
 use Rattle.nfa_meta.specs.ChoiceState.{ChoiceState, kind_in}
 use Rattle.replacer.specs.Hits.{AreAllHits, SearchesFor, captured_by, Sought, hits_in, next_hit, syntax_of}
@@ -94,36 +93,12 @@ module _ (pattern : Sought) (re : Re) (r : ChoiceState) (text : List ℕ) (bytes
         (loses-none trees r.nfa of.search.compiled.made of.search.free text)))
         (free-alike i)
 
-    has-matches : (i : ℕ) (found : Option Found) → IsFindAnswer r.nfa LeftmostFirst false (at_place i) found
-        → found ≡ found_of_hit (next_hit re true text i)
-    has-matches i found answer =
-        boundary-match trees r.nfa of.search.compiled.made mode (at_place i) refl found answer
-        ∙ found-alike (boundary_hit trees r.nfa (at_place i)) (next_hit re true text i) (next-alike i)
-
-    has-answers : (i : ℕ) (found : Option ℕ) (slots : List (Option ℕ))
-        → IsAnswer r.nfa LeftmostFirst false (at_place i) found slots
-        → (found ≡ option_map (λ (h : PatternHit). h.pattern) (next_hit re true text i))
-        × (slots ≡ slots_of r.nfa.groups (length slots) (next_hit re true text i))
-    has-answers i found slots answer =
-        let a = boundary-answer trees r.nfa of.search.compiled.made mode (at_place i) refl found slots answer in
-        let known = boundary-known trees r.nfa of.search.compiled.made mode (at_place i) refl answer.restarts
-        answer.path
-        answer.answers in
-        let hit = boundary_hit trees r.nfa (at_place i) in (
-          a.0 ∙ pattern-alike hit (next_hit re true text i) (next-alike i),
-          a.1 ∙ slots-alike r.nfa.groups (length slots) hit (next_hit re true text i) known (next-alike i),
-        )
-
-    lies : (i : ℕ) (h : PatternHit) → next_hit re true text i ≡ Some h → LiesFrom text i (length text + 1) h
-    lies i h is = boundary-lies (re ∷ []) false (at_place i) h refl is
-
-    empty-matches : (ms : List Found) → AreMatches r.nfa LeftmostFirst false (whole text) ms
-        → ms ≡ map found_at (hits_in re true text)
-    empty-matches ms are = matches-of r.nfa (whole text) (next_hit re true text) lies has-matches ms are
-
-    empty-rows : (rows : List Row) → AreRows r.nfa LeftmostFirst false (whole text) rows
-        → rows ≡ map (row_of_hit r.nfa) (hits_in re true text)
-    empty-rows rows are = rows-of r.nfa (whole text) (next_hit re true text) lies has-matches has-answers rows are
+    answered : AreAnsweredBy r.nfa (whole text) (next_hit re true text)
+    answered = record {
+      lies = λ i h. boundary-lies (re ∷ []) false (at_place i) h refl;
+      each = λ i. answered-alike (boundary-answered trees r.nfa of.search.compiled.made mode (at_place i) refl)
+          (next_hit re true text i) (next-alike i);
+    }
 
   abbrev leftmost : IsLeftmostToTheEnd (kind_in r) false (whole text)
   leftmost = record { leftmost = of.search.leftmost; latest = refl; whole = refl }
@@ -151,7 +126,7 @@ module _ (pattern : Sought) (re : Re) (r : ChoiceState) (text : List ℕ) (bytes
     matches-are ms are hits (inl e) = by-mode (is_utf8_empty r.nfa) refl ∙ ap (map found_at) (sym e)
       where
         by-mode : (b : Bool) → is_utf8_empty r.nfa ≡ b → ms ≡ map found_at (hits_in re b text)
-        by-mode true mode = empty-matches mode ms (rw of.search.leftmost at are)
+        by-mode true mode = all-matches (answered mode) ms (rw of.search.leftmost at are)
         by-mode false mode =
             texts (syntax_of pattern) (pattern.text ∷ []) (re ∷ []) r.nfa (kind_in r) false (whole text) ms
             of.search.compiled (of.meant, tt) mode leftmost bytes are
@@ -181,7 +156,7 @@ module _ (pattern : Sought) (re : Re) (r : ChoiceState) (text : List ℕ) (bytes
     rows-are rows are hits (inl e) = by-mode (is_utf8_empty r.nfa) refl ∙ ap (map (row_of_hit r.nfa)) (sym e)
       where
         by-mode : (b : Bool) → is_utf8_empty r.nfa ≡ b → rows ≡ map (row_of_hit r.nfa) (hits_in re b text)
-        by-mode true mode = empty-rows mode rows (rw of.search.leftmost at are)
+        by-mode true mode = all-rows (answered mode) rows (rw of.search.leftmost at are)
         by-mode false mode =
             texts (syntax_of pattern) (pattern.text ∷ []) (re ∷ []) r.nfa (kind_in r) false (whole text) rows
             of.search.compiled (of.meant, tt) mode leftmost bytes are

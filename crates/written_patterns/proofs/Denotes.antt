@@ -1,10 +1,10 @@
 -- For callers whose pattern is written out: what the grammar reads in it, part by part, and which texts that matches.
-use Rattle.std.proofs.Common.{◌≡◌, ◌∙◌, ℕ, zero, suc, ◌+◌, ◌-◌, ◌<◌, ◌≤◌, Bool, true, List, [], ◌∷◌, ◌++◌, ◌==◌, map, length, drop, Option, None, Some, refl, sym, ap, subst, arith, slice_get, append-nil, length-drop, inl, inr, ◌↔◌, All, IsSomeAnd, chars, is_some, option_and_then}
+use Rattle.std.proofs.Common.{◌≡◌, ◌∙◌, ℕ, zero, suc, ◌+◌, ◌<◌, ◌≤◌, Bool, true, List, [], ◌∷◌, ◌++◌, ◌==◌, map, length, drop, Option, None, Some, refl, sym, ap, subst, arith, append-nil, length-drop, inl, inr, ◌↔◌, All, IsSomeAnd, chars, is_some, option_and_then}
 use Rattle.regex_hir.specs.Find.{find}
 use Rattle.std.specs.Char.{is_ascii_digit}
 use Rattle.std.specs.Int.{is_in_range}
 use Rattle.std.specs.List.{list_any}
-use Rattle.std.proofs.lemmas.Bool.{cases_lt, cond-false, ne_eqb, true≢false}
+use Rattle.std.proofs.lemmas.Bool.{cases_lt, true≢false}
 use Rattle.std.proofs.lemmas.Bool.Decides.{nat_tests}
 use Rattle.std.proofs.lemmas.List.{drop_all}
 use Rattle.std.proofs.lemmas.Option.{slice_get-get_or, slice_get_past}
@@ -28,6 +28,7 @@ use Rattle.written_patterns.specs.Patterns.{first_match, has_match}
 use Rattle.written_patterns.specs.Texts.{Bytes, BytesOrMore, Exactly, Times, ◌followed_by◌, ◌or_else◌}
 pub use Rattle.nfa_compiler.proofs.CallLemmas.{bytes-of}
 unfoldable pub use Rattle.nfa_compiler.proofs.Literals.{on_literals}
+use Rattle.nfa_compiler.proofs.UnboundLemmas.{holds-at-start}
 use Rattle.written_patterns.proofs.ReadLemmas.{find-same, finds-iff}
 use Rattle.written_patterns.proofs.Spelling.{IsAt, Spells, spells-alt, spells-byte, spells-cat, spells-group, spells-iff, spells-literal, spells-optional, spells-plus, spells-run, spells-star, spells-times, at-front, within}
 
@@ -165,16 +166,6 @@ in_words same p = record { re = p.re; same = p.same; spells = spells-iff same p.
 
 -- where the haystack begins and ends
 
-holds_start : (hay : List ℕ) (i : ℕ) → i ≤ length hay → holds Start hay i ≡ true → i ≡ 0
-unfolding holds holds_between byte_before
-holds_start hay zero le h = refl
-holds_start hay (suc i) le h =
-    let inside : i < length hay = omega arith in
-    let back : suc i - 1 ≡ i = omega arith in
-    let byte = cond-false (suc i == 0) None (slice_get hay (suc i - 1)) (ne_eqb (suc i) 0 (omega arith))
-    ∙ ap (slice_get hay) back ∙ slice_get-get_or hay i 0 inside in
-    absurd (true≢false (sym h ∙ rw byte refl))
-
 start_holds : (hay : List ℕ) → holds Start hay 0 ≡ true
 unfolding holds holds_between byte_before
 start_holds hay = refl
@@ -259,7 +250,7 @@ whole {a} {P} e = record {
   means = λ hay. (
     λ m.
         let p = m.matches in
-        let start : p.0 ≡ 0 = p.1.1 ∙ holds_start hay m.start m.within p.1.0 in
+        let start : p.0 ≡ 0 = p.1.1 ∙ holds-at-start hay m.start m.within p.1.0 in
         subst (λ n. P (drop n hay)) start (e.to hay p.0 m.end (omega (arith, start)) p.2),
     λ is. record {
       start = 0;

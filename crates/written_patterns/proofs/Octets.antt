@@ -1,5 +1,5 @@
 -- The numbers below 256 in decimal, as `25[0-5]|2[0-4][0-9]|1[0-9]{2}|[1-9]?[0-9]`.
-use Rattle.std.proofs.Common.{◌≡◌, ◌∙◌, ℕ, zero, suc, ◌+◌, ◌-◌, ◌*◌, ◌/◌, ◌%◌, ◌^◌, ◌<◌, ◌≤◌, Bool, true, List, [], ◌∷◌, ◌++◌, codes, length, refl, sym, ap, ap₂, subst, arith, inl, inr, ◌↔◌, All, decimal}
+use Rattle.std.proofs.Common.{◌≡◌, ◌∙◌, ℕ, zero, suc, ◌+◌, ◌-◌, ◌*◌, ◌/◌, ◌%◌, ◌<◌, ◌≤◌, Bool, true, List, [], ◌∷◌, ◌++◌, codes, refl, sym, ap, ap₂, subst, arith, inl, inr, ◌↔◌, decimal}
 use Rattle.std.specs.Char.{is_ascii_digit}
 use Rattle.std.specs.Int.{is_in_range}
 use Rattle.std.proofs.lemmas.Bool.{cases_lt}
@@ -105,9 +105,6 @@ range-in low high b from to = grind (arith, nat_tests)
 digit-is : (b : ℕ) → is_ascii_digit b ≡ true → (48 ≤ b) × (b ≤ 57)
 digit-is b h = grind (arith, nat_tests)
 
-is-digit : (b : ℕ) → 48 ≤ b → b ≤ 57 → is_ascii_digit b ≡ true
-is-digit b from to = grind (arith, nat_tests)
-
 -- the four alternatives in words of the text
 
 abbrev TopFive : List ℕ → Type 0
@@ -172,44 +169,43 @@ small t is =
           subst (DecimalBelow 256) (sym e) (dec-one b.0 k.0 k.1)
     ]
 
+-- a text in these words
+
+module _ {P Q : List ℕ → Type 0} where
+  left : {t : List ℕ} → P t → (P or_else Q) t
+  left is = record { either = inl is }
+
+  right : {t : List ℕ} → Q t → (P or_else Q) t
+  right is = record { either = inr is }
+
+  joined : (a b : List ℕ) → P a → Q b → (P followed_by Q) (a ++ b)
+  joined a b p q = record { first = a; second = b; text_is = refl; first_is = p; second_is = q }
+
+exact : (t : List ℕ) → Exactly t t
+exact t = record { text_is = refl }
+
+byte-in : (low high b : ℕ) → low ≤ b → b ≤ high → Bytes (is_in_range low high) 1 1 (b ∷ [])
+byte-in low high b from to = a-byte (is_in_range low high) b (range-in low high b from to)
+
+is-digit : (x : ℕ) → x < 10 → is_ascii_digit (48 + x) ≡ true
+is-digit x less = grind (arith, nat_tests)
+
+digit-byte : (x : ℕ) → x < 10 → Bytes is_ascii_digit 1 1 ((48 + x) ∷ [])
+digit-byte x less = a-byte is_ascii_digit (48 + x) (is-digit x less)
+
 written-from : (n : ℕ) → n < 256 → Written (decimal n)
 written-from n less = elim (cases_lt n 10) [
-  | inl one_digit ↦ subst Written (sym (decimal_digit n one_digit)) (record {
-    either = inr (record {
-      either = inr
-          (record {
-            either = inr (record {
-              first = [];
-              second = (48 + n) ∷ [];
-              text_is = refl;
-              first_is = record { either = inr (record { text_is = refl }) };
-              second_is = a-byte is_ascii_digit (48 + n) (is-digit (48 + n) (omega arith) (omega arith));
-            });
-          });
-    });
-  })
+  | inl one_digit ↦
+      subst Written (sym (decimal_digit n one_digit))
+      (right (right (right (joined [] ((48 + n) ∷ []) (right (exact [])) (digit-byte n one_digit)))))
   | inr more ↦ elim (cases_lt n 100) [
     | inl two ↦
         let x = n / 10 in
         let y = n % 10 in
         let e : n ≡ 10 * x + y = omega arith in
-        subst Written (sym (ap decimal e ∙ two-digits x y (omega arith) (omega arith) (omega arith))) (record {
-          either =
-              inr (record {
-                either = inr (record {
-                  either = inr (record {
-                    first = (48 + x) ∷ [];
-                    second = (48 + y) ∷ [];
-                    text_is = refl;
-                    first_is = record {
-                      either = inl (a-byte (is_in_range 49 57) (48 + x)
-                          (range-in 49 57 (48 + x) (omega arith) (omega arith)));
-                    };
-                    second_is = a-byte is_ascii_digit (48 + y) (is-digit (48 + y) (omega arith) (omega arith));
-                  });
-                });
-              });
-        })
+        subst Written (sym (ap decimal e ∙ two-digits x y (omega arith) (omega arith) (omega arith)))
+        (right (right (right (joined ((48 + x) ∷ []) ((48 + y) ∷ [])
+        (left (byte-in 49 57 (48 + x) (omega arith) (omega arith))) (digit-byte y (omega arith))))))
     | inr three ↦
         let x = n / 10 / 10 in
         let y = (n / 10) % 10 in
@@ -223,56 +219,20 @@ written-from n less = elim (cases_lt n 10) [
     of-three : (x y z : ℕ) → 0 < x → y < 10 → z < 10 → 100 * x + 10 * y + z < 256
         → Written ((48 + x) ∷ (48 + y) ∷ (48 + z) ∷ [])
     of-three zero y z some two three below = absurd (omega arith)
-    of-three (suc zero) y z some two three below = record {
-      either = inr (record {
-        either = inr (record {
-          either = inl
-              (record {
-                first = codes "1";
-                second = (48 + y) ∷ (48 + z) ∷ [];
-                text_is = refl;
-                first_is = record { text_is = refl };
-                second_is = two-bytes is_ascii_digit (48 + y) (48 + z) (is-digit (48 + y) (omega arith) (omega arith))
-                    (is-digit (48 + z) (omega arith) (omega arith));
-              });
-        });
-      });
-    }
+    of-three (suc zero) y z some two three below =
+        right (right (left (joined (codes "1") ((48 + y) ∷ (48 + z) ∷ []) (exact (codes "1"))
+        (two-bytes is_ascii_digit (48 + y) (48 + z) (is-digit y two) (is-digit z three)))))
     of-three (suc (suc zero)) y z some two three below = elim (cases_lt y 5) [
-      | inl low ↦ record {
-        either = inr (record {
-          either = inl (record {
-            first = codes "2";
-            second = (48 + y) ∷ (48 + z) ∷ [];
-            text_is = refl;
-            first_is = record { text_is = refl };
-            second_is = record {
-              first = (48 + y) ∷ [];
-              second = (48 + z) ∷ [];
-              text_is = refl;
-              first_is = a-byte (is_in_range 48 52) (48 + y) (range-in 48 52 (48 + y) (omega arith) (omega arith));
-              second_is = a-byte is_ascii_digit (48 + z) (is-digit (48 + z) (omega arith) (omega arith));
-            };
-          });
-        });
-      }
+      | inl low ↦
+          right (left (joined (codes "2") ((48 + y) ∷ (48 + z) ∷ []) (exact (codes "2"))
+          (joined ((48 + y) ∷ []) ((48 + z) ∷ []) (byte-in 48 52 (48 + y) (omega arith) (omega arith))
+          (digit-byte z three))))
       | inr high ↦
           let five : 48 + y ≡ 53 = omega arith in
-          subst (λ d. Written (50 ∷ d ∷ (48 + z) ∷ [])) (sym five) (record {
-            either = inl (record {
-              first = codes "2";
-              second = 53 ∷ (48 + z) ∷ [];
-              text_is = refl;
-              first_is = record { text_is = refl };
-              second_is = record {
-                first = codes "5";
-                second = (48 + z) ∷ [];
-                text_is = refl;
-                first_is = record { text_is = refl };
-                second_is = a-byte (is_in_range 48 53) (48 + z) (range-in 48 53 (48 + z) (omega arith) (omega arith));
-              };
-            });
-          })
+          subst (λ d. Written (50 ∷ d ∷ (48 + z) ∷ [])) (sym five)
+          (left (joined (codes "2") (53 ∷ (48 + z) ∷ []) (exact (codes "2"))
+          (joined (codes "5") ((48 + z) ∷ []) (exact (codes "5"))
+          (byte-in 48 53 (48 + z) (omega arith) (omega arith)))))
     ]
     of-three (suc (suc (suc x))) y z some two three below = absurd (omega arith)
 

@@ -21,12 +21,10 @@ use Rattle.nfa_engines.specs.Search.{whole}
 use Rattle.nfa_engines.specs.Slots.{Captured, group_span, named_span}
 use Rattle.nfa_compiler.specs.Compiled.{IsCompiled, IsMeant, IsTreeOf}
 use Rattle.nfa_compiler.specs.NameLaws.{IsNamed, written_span}
-use Rattle.nfa_compiler.specs.Patterns.{PatternHit, found_by, hit_by}
+use Rattle.nfa_compiler.specs.Patterns.{AreOfHit, PatternHit, found_by, hit_by}
 use Rattle.nfa_compiler.specs.Written.{IsReadAs, MatchesIn, byte_syntax}
-use Rattle.nfa_compiler.proofs.CallLemmas.{call-match, call-matches}
-use Rattle.nfa_compiler.proofs.NameCallLemmas.{call-name, groups-of-one}
-use Rattle.nfa_compiler.proofs.TextLemmas.{one-hit, text-answer}
-use Rattle.nfa_compiler.proofs.UnboundLemmas.{texts-lose-none}
+use Rattle.nfa_compiler.proofs.AnswerLemmas.{answer-is}
+use Rattle.nfa_compiler.proofs.CallLemmas.{call-answered, call-matches, call-name, groups-of-one, match-found}
 use Rattle.nfa_compiler.proofs.WrittenLemmas.{found-as-read}
 use Rattle.written_patterns.specs.Patterns.{IsOfPattern, all_matches, first_match, has_match, named_span_in}
 
@@ -97,8 +95,8 @@ module _ (pattern : List ℕ) (nfa : Automaton) (own : IsOfPattern pattern nfa) 
   pub match-is : (found : Option Found) → IsFindAnswer nfa LeftmostFirst false (whole text) found
       → found ≡ option_map found_by (first_match pattern text)
   match-is found answer =
-      call-match byte_syntax pattern nfa text own.compiled own.anywhere own.free bytes (re_of pattern nfa own.compiled)
-      (meant pattern nfa own.compiled) found answer
+      match-found _ (call-answered byte_syntax pattern nfa text own.compiled own.anywhere own.free bytes
+      (re_of pattern nfa own.compiled) (meant pattern nfa own.compiled)) found answer
       ∙ ap (option_map found_by) (sym (first-is pattern nfa own.compiled text))
 
   pub matches-are : (found : List Found) → AreMatches nfa LeftmostFirst false (whole text) found
@@ -147,20 +145,18 @@ module _ (pattern : List ℕ) (nfa : Automaton) (own : IsOfPattern pattern nfa) 
   named =
       subst (λ o. IsSomeAnd o (λ (found, given). given ≡ names)) (sym (read-is pattern nfa own.compiled).1) refl
 
+  hit : AreOfHit nfa.groups (option_map (hit_by 0) (find re text 0)) captures.pattern captures.slots
+  unfolding re
+  hit = answer-is (call-answered byte_syntax pattern nfa text own.compiled own.anywhere own.free bytes re
+      (meant pattern nfa own.compiled)) captures.pattern captures.slots answer
+
   by-group : (o : Option ℕ) → group_named (drop 1 names ∷ []) 0 name ≡ o
       → named_span captures name ≡ option_and_then (λ group. option_and_then (written_span group) (find re text 0)) o
   unfolding re
   by-group (Some group) is =
-      call-name byte_syntax pattern nfa text own.compiled own.anywhere own.free bytes re
-      (meant pattern nfa own.compiled) captures name names group answer same room named is
+      call-name byte_syntax pattern nfa own.compiled names named captures name group (find re text 0) same room is hit
   by-group None is =
-      let hits = text-answer byte_syntax (pattern ∷ []) (re ∷ []) nfa (whole text) own.compiled
-      (meant pattern nfa own.compiled, tt) own.anywhere refl bytes captures.pattern captures.slots answer in
-      none-name captures name (find re text 0)
-      (hits.0 ∙ ap (option_map (λ (h : PatternHit). h.pattern)) (one-hit re nfa (whole text)
-      (texts-lose-none byte_syntax (pattern ∷ []) (re ∷ []) nfa text own.compiled (meant pattern nfa own.compiled, tt)
-      own.free bytes) refl refl)
-      ∙ zero-hit (find re text 0))
+      none-name captures name (find re text 0) (hit.0 ∙ zero-hit (find re text 0))
       (ap (λ gs. group_named gs 0 name) (same ∙ groups-of-one byte_syntax pattern nfa own.compiled names named) ∙ is)
 
   pub name-is : named_span captures name ≡ named_span_in pattern name text

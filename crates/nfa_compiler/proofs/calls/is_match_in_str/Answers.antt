@@ -1,6 +1,6 @@
 -- The search finds something exactly if the tree matches that is read, from a boundary.
 use Rattle.nfa_compiler.specs.Settings.{syntax_of}
-use Rattle.nfa_compiler.proofs.StrWrittenLemmas.{found-as-read-in-str}
+use Rattle.nfa_compiler.proofs.WrittenLemmas.{found-as-read-in-str}
 use Rattle.nfa_compiler.proofs.calls.is_match_in_str.Goals as goal
 
 pub returns : goal.returns

@@ -1,6 +1,6 @@
 -- Each step of the iteration finds the next hit, in the `str`, of the pattern that is read.
 use Rattle.nfa_compiler.specs.Settings.{syntax_of}
-use Rattle.nfa_compiler.proofs.StrCallLemmas.{call-matches-in-str}
+use Rattle.nfa_compiler.proofs.CallLemmas.{call-matches-in-str}
 use Rattle.nfa_compiler.proofs.calls.matches_in_str.Goals as goal
 
 pub returns : goal.returns

@@ -1,7 +1,7 @@
 -- The trees have the names that are read, and the groups of the NFA are theirs. A hit is one of the patterns.
 use Rattle.std.proofs.Common.{◌∙◌, ap, arith, length}
 use Rattle.nfa_compiler.proofs.GroupLemmas.{group-written, name-written}
-use Rattle.nfa_compiler.proofs.KnownLemmas.{boundary-pattern, hit-pattern, str-pattern}
+use Rattle.nfa_compiler.proofs.BoundLemmas.{boundary-pattern, hit-pattern, str-pattern}
 use Rattle.nfa_compiler.proofs.NameLemmas.{groups-counted, groups-named}
 use Rattle.nfa_compiler.proofs.laws.groups_are_those_of_texts.Goals as goal
 

@@ -1,18 +1,11 @@
 -- Each step of an iteration finds the next hit.
-use Rattle.std.proofs.Common.{subst, false}
-use Rattle.nfa_search_base.specs.CapturesLists.{AreRows}
-use Rattle.nfa_search_base.specs.Lists.{AreMatches}
-use Rattle.nfa_compiler.proofs.AllSearchLemmas.{all-matches, all-rows}
+use Rattle.nfa_compiler.proofs.AllSearchLemmas.{all-matches, all-rows, hits-answered}
 use Rattle.nfa_compiler.proofs.laws.iterations_find_all_hits.Goals as goal
 
 pub returns-clause-matches : goal.returns-clause-matches
 returns-clause-matches c = λ res nfa kind earliest x ms made anywhere how are.
-    all-matches res nfa made x how.whole anywhere ms
-    (subst (λ k. AreMatches nfa k false x ms) how.leftmost
-    (subst (λ e. AreMatches nfa kind e x ms) how.latest are))
+    all-matches (hits-answered res nfa x how.whole made anywhere) ms (rw (how.leftmost, how.latest) at are)
 
 pub returns-clause-captures : goal.returns-clause-captures
 returns-clause-captures c = λ res nfa kind earliest x rows made anywhere how are.
-    all-rows res nfa made x how.whole anywhere rows
-    (subst (λ k. AreRows nfa k false x rows) how.leftmost
-    (subst (λ e. AreRows nfa kind e x rows) how.latest are))
+    all-rows (hits-answered res nfa x how.whole made anywhere) rows (rw (how.leftmost, how.latest) at are)

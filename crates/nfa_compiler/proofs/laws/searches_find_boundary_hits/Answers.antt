@@ -1,23 +1,16 @@
 -- The search's answer is the first path of its last scan, which is the path of the hit.
-use Rattle.std.proofs.Common.{subst, false}
-use Rattle.nfa_paths.specs.Common.{IsAnswer, IsFindAnswer, IsBoolAnswer}
-use Rattle.nfa_compiler.proofs.BoundarySearchLemmas.{boundary-answer, boundary-match, boundary-found}
+use Rattle.nfa_compiler.proofs.AnswerLemmas.{answer-is, found-is, match-is}
+use Rattle.nfa_compiler.proofs.BoundarySearchLemmas.{boundary-answered}
 use Rattle.nfa_compiler.proofs.laws.searches_find_boundary_hits.Goals as goal
 
 pub returns-clause-answers : goal.returns-clause-answers
 returns-clause-answers c = λ res nfa kind earliest x pattern slots made mode how answer.
-    boundary-answer res nfa made mode x how.whole pattern slots
-    (subst (λ k. IsAnswer nfa k false x pattern slots) how.leftmost
-    (subst (λ e. IsAnswer nfa kind e x pattern slots) how.latest answer))
+    answer-is (boundary-answered res nfa made mode x how.whole) pattern slots (rw (how.leftmost, how.latest) at answer)
 
 pub returns-clause-matches : goal.returns-clause-matches
 returns-clause-matches c = λ res nfa kind earliest x found made mode how answer.
-    boundary-match res nfa made mode x how.whole found
-    (subst (λ k. IsFindAnswer nfa k false x found) how.leftmost
-    (subst (λ e. IsFindAnswer nfa kind e x found) how.latest answer))
+    match-is (boundary-answered res nfa made mode x how.whole) found (rw (how.leftmost, how.latest) at answer)
 
 pub returns-clause-found : goal.returns-clause-found
 returns-clause-found c = λ res nfa kind earliest x found made mode how answer.
-    boundary-found res nfa made mode x how.whole found
-    (subst (λ k. IsBoolAnswer nfa k false x found) how.leftmost
-    (subst (λ e. IsBoolAnswer nfa kind e x found) how.latest answer))
+    found-is (boundary-answered res nfa made mode x how.whole) found (rw (how.leftmost, how.latest) at answer)
