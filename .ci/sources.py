@@ -267,7 +267,7 @@ class Definition(NamedTuple):
     declared: str
 
 
-DEFINES = re.compile(r' *(?:(?:abbrev|unfoldable) pub|pub (?:abbrev|unfoldable|record|data)) ([^\s:({]+)')
+DEFINES = re.compile(r' *(?:(?:abbrev|unfoldable) pub|pub (?:abbrev|unfoldable|record|data)) (?!use )([^\s:({]+)')
 
 
 @kept
