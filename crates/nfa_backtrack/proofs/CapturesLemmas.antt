@@ -1,6 +1,6 @@
 -- A backtracker as the engine of an iteration over captures: when its iterator may search, and what it gives.
-use Rattle.std.proofs.Common.{◌≡◌, false, Option, Result, Ok, Err, ap, length, ◌↔◌, ◌⊎◌, inl, inr, IfErr, IsErrOf, OnErr, OnOk}
-use Rattle.nfa_paths.specs.Common.{slot_count, Search, Captured, IsAnswer, IsWithinScans, IsWork, span_len}
+use Rattle.std.proofs.Common.{◌≡◌, false, Option, Result, Ok, Err, ap, arith, length, ◌⊎◌, inr, IfErr, OnOk}
+use Rattle.nfa_paths.specs.Common.{slot_count, Search, Captured, IsAnswer, span_len}
 use Rattle.regex_search_core.specs.declared.search.MatchKind.TheVariants.{LeftmostFirst}
 use Rattle.nfa_search_base.specs.CapturesGiven.{CapturesGiven}
 use Rattle.nfa_search_base.specs.WithCaptures.{WithCaptures, GivesCaptures, Row, filled_answer, row_span}
@@ -21,38 +21,27 @@ use Rattle.nfa_search_base.proofs.LeavingLemmas.{shell-leaves}
 use Rattle.nfa_search_base.proofs.OkItemLemmas.{only-item}
 use Rattle.nfa_search_base.proofs.RunLemmas.{Begins}
 use Rattle.nfa_search_base.proofs.ShellLemmas.{ShellOf, plain_shell, steps_in}
-use Rattle.nfa_backtrack.specs.Backtrack.{Backtracker, CountsAnswer, CountsRefusal, IsTooLong, BacktrackCache}
+use Rattle.nfa_backtrack.specs.Backtrack.{Backtracker, IsTooLong, BacktrackCache}
 use Rattle.nfa_backtrack.specs.CapturesMatches.{AsksBacktrackerRow, CatchesBySearches, CatchesRefused, MayCatchByBacktracker, backtrack_captures, backtrack_captures_next}
-use Rattle.nfa_backtrack.specs.Finding.{AnswersByLength, Counts, DoesWork, IsTryCapturesAnswer}
+use Rattle.nfa_backtrack.specs.Finding.{AnswersByLength, IsCounted, IsTryCapturesAnswer, SearchesOnce}
 use Rattle.nfa_backtrack.specs.declared.captures_iter.TryCapturesMatches.{TryCapturesMatches}
-use Rattle.nfa_backtrack.proofs.FindLemmas.{back_engine, memory-alone, refused-alone}
+use Rattle.nfa_backtrack.proofs.FindLemmas.{back_engine, counted-fits, counted-refusal, memory-alone, once-by, refused-alone}
 
--- what captures with all slots hold after a search is what it answers
-pub stored_captures-answer : (e : Backtracker) (t : Search) (c : Captured) (r : Result (Unit {0}) SearchError)
-    → OnOk r (IsAnswer e.nfa LeftmostFirst false t c.pattern c.slots) → length c.slots ≡ slot_count e.nfa.groups
-    → (IsErrOf r (HaystackTooLong (span_len t)) ↔ IsTooLong e t)
-    → IfErr r (λ q. (q ≡ Memory) ⊎ (q ≡ HaystackTooLong (span_len t))) → IsTryCapturesAnswer e t (filled_answer c r)
-stored_captures-answer e t c (Ok u) answer count long errors =
-    (λ is. let k = long.1 is in cc, stored_captures-tells e.nfa LeftmostFirst false t c answer count)
-stored_captures-answer e t c (Err q) answer count long errors = elim errors [
-  | inl memory ↦ inr (λ is. let k = long.1 is in cc, memory)
-  | inr refused ↦
-      inl (long.0 (ap (λ (z : SearchError). let b : Result (Unit {0}) SearchError = Err z in b) refused), refused)
-]
+-- A search that fills captures with all slots.
+module _ {e : Backtracker} {x : Search} {old new : BacktrackCache} where
+  -- what they hold after it is what it answers
+  pub filled-tells : (c : Captured) (r : Result (Unit {0}) SearchError)
+      → OnOk r (IsAnswer e.nfa LeftmostFirst false x c.pattern c.slots) → length c.slots ≡ slot_count e.nfa.groups
+      → IsCounted e x 0 r old new → IsTryCapturesAnswer e x (filled_answer c r)
+  filled-tells c (Ok u) answer count counts =
+      (counted-fits counts, stored_captures-tells e.nfa LeftmostFirst false x c answer count)
+  filled-tells c (Err error) answer count counts = counted-refusal counts
 
--- a reply is counted as what it is
-pub counts-captures : (c : Captured) (r : Result (Unit {0}) SearchError) (old new : BacktrackCache)
-    → OnOk r (CountsAnswer old new)
-    → OnErr r (CountsRefusal old new) → Counts (filled_answer c r) old new
-counts-captures c (Ok u) old new answered refused = answered
-counts-captures c (Err error) old new answered refused = refused
-
-pub work-captures : (e : Backtracker) (x : Search) (c : Captured) (r : Result (Unit {0}) SearchError)
-    (new : BacktrackCache)
-    → OnOk r (IsWork e.nfa LeftmostFirst false x new.scans new.turns)
-    → OnErr r (IsWithinScans e.nfa LeftmostFirst false x new.scans) → DoesWork e x (filled_answer c r) new
-work-captures e x c (Ok u) new work within = work
-work-captures e x c (Err error) new work within = within
+  -- and it is counted as what it is
+  pub filled-once : (c : Captured) (r : Result (Unit {0}) SearchError) → IsCounted e x 0 r old new
+      → SearchesOnce e x (filled_answer c r) old new
+  filled-once c (Ok u) k = once-by k k.answered k.work (omega arith)
+  filled-once c (Err error) k = once-by k k.refused k.within (omega arith)
 
 -- an answer is inside the span
 catch-lies : (e : Backtracker) (t : Search) (a : Answer Row) → IsTryCapturesAnswer e t a → AnswerIsInside row_span t a

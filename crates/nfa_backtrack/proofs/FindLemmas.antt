@@ -1,7 +1,7 @@
 -- A backtracker as the engine of an iteration over matches: when its iterator may search, and what it gives and keeps.
-use Rattle.std.proofs.Common.{◌≡◌, ◌∙◌, ℕ, ◌+◌, ◌-◌, ◌*◌, ◌≤◌, refl, false, Option, None, Some, Result, Ok, Err, arith, length, List, ◌∷◌, MatchBool, ap, inl, inr, IfOk, IfSome, OnOk, OnErr}
+use Rattle.std.proofs.Common.{◌≡◌, ◌∙◌, ℕ, ◌+◌, ◌-◌, ◌*◌, ◌≤◌, refl, false, Option, None, Some, Result, Ok, Err, arith, length, List, ◌∷◌, MatchBool, ap, inl, inr, IfOk, IfSome, option_map}
 use Rattle.std.proofs.Math.Nat.{mul-le-mul_left}
-use Rattle.nfa_paths.specs.Common.{Found, found_of, Search, Match, IsWithinScans, IsWork, raised, span_len}
+use Rattle.nfa_paths.specs.Common.{Found, found_of, Search, Match, IsFindAnswer, raised, span_len}
 use Rattle.regex_search_core.specs.declared.search.MatchKind.TheVariants.{LeftmostFirst}
 use Rattle.nfa_paths.proofs.KnownLemmas.{match-sure, sure-match}
 use Rattle.nfa_search_base.specs.EngineSearches.{AnswersBy, Keeping, found_in, if_ends_at}
@@ -23,9 +23,9 @@ use Rattle.nfa_search_base.proofs.ListLemmas.{match-lies}
 use Rattle.nfa_search_base.proofs.IterStateLemmas.{IsOrdered}
 use Rattle.nfa_search_base.proofs.RunLemmas.{AnswersOf, Begins}
 use Rattle.nfa_search_base.proofs.ShellLemmas.{ShellOf, plain_shell, same-items, steps_in}
-use Rattle.nfa_backtrack.specs.Backtrack.{Backtracker, CountsAnswer, CountsRefusal, IsTooLong, BacktrackCache, refused_early}
+use Rattle.nfa_backtrack.specs.Backtrack.{Backtracker, IsTooLong, BacktrackCache, refused_early}
 use Rattle.nfa_backtrack.specs.FindMatches.{AsksBacktracker, FindsBySearches, MayFindByBacktracker, backtrack_matches, backtrack_matches_next, backtracker_knowing, fits_always}
-use Rattle.nfa_backtrack.specs.Finding.{Counts, DoesWork, IsRefusal, IsTryFindAnswer, IsSureAt, SearchesOnce, backtracker_scans}
+use Rattle.nfa_backtrack.specs.Finding.{Counts, DoesWork, IsCounted, IsRefusal, IsTryFindAnswer, IsSureAt, SearchesOnce, backtracker_scans}
 use Rattle.nfa_backtrack.specs.declared.find_iter.Finder.{Finder}
 use Rattle.nfa_backtrack.specs.declared.find_iter.TryFindMatches.{TryFindMatches}
 
@@ -76,20 +76,54 @@ known-last (Ok (Some m)) start last same = ap (λ (n : ℕ). if_ends_at n (Some 
 known-last (Ok None) start last same = refl
 known-last (Err error) start last same = refl
 
--- a reply is counted as what it is
-pub counts-by : (r : Result (Option Match) SearchError) (old new : BacktrackCache) → OnOk r (CountsAnswer old new)
-    → OnErr r (CountsRefusal old new) → Counts (answer_by found_of r) old new
-counts-by (Ok (Some m)) old new answered refused = answered
-counts-by (Ok None) old new answered refused = answered
-counts-by (Err error) old new answered refused = refused
+-- What a search refuses, counts and grows.
+module _ {e : Backtracker} {x : Search} {needed : ℕ} {old new : BacktrackCache} where
+  -- it answers only if the span is not too long
+  pub counted-fits : {Y : Type 0} {y : Y} → IsCounted e x needed (Ok y) old new → ¬ (IsTooLong e x)
+  counted-fits c = λ long. let k = c.too_long.1 long in cc
 
--- and its work is that of what it answers
-pub work-by : (e : Backtracker) (x : Search) (r : Result (Option Match) SearchError) (new : BacktrackCache)
-    → OnOk r (IsWork e.nfa LeftmostFirst false x new.scans new.turns)
-    → OnErr r (IsWithinScans e.nfa LeftmostFirst false x new.scans) → DoesWork e x (answer_by found_of r) new
-work-by e x (Ok (Some m)) new work within = work
-work-by e x (Ok None) new work within = work
-work-by e x (Err error) new work within = within
+  -- and an error is a refusal
+  pub counted-refusal : {Y : Type 0} {error : SearchError} → IsCounted {Y = Y} e x needed (Err error) old new
+      → IsRefusal e x error
+  counted-refusal {Y} c = elim c.errors [
+    | inl memory ↦ inr (λ long. let k = c.too_long.1 long in cc, memory)
+    | inr refused ↦
+        inl (c.too_long.0 (ap (λ (q : SearchError). let r : Result Y SearchError = Err q in r) refused), refused)
+  ]
+
+  -- so a reply is the answer of a search
+  pub found-tells : (r : Result (Option Match) SearchError)
+      → IfOk r (λ found. IsFindAnswer e.nfa LeftmostFirst false x (option_map found_of found))
+      → IsCounted e x needed r old new → IsTryFindAnswer e x (answer_by found_of r)
+  found-tells (Ok (Some m)) answer c = (counted-fits c, answer)
+  found-tells (Ok None) answer c = (counted-fits c, answer)
+  found-tells (Err error) answer c = counted-refusal c
+
+-- what is counted of a reply, for the answer that it shows
+pub once-by : {X Y : Type 0} {e : Backtracker} {x : Search} {needed : ℕ} {r : Result Y SearchError}
+    {old new : BacktrackCache} {a : Answer X} → IsCounted e x needed r old new → Counts a old new → DoesWork e x a new
+    → needed ≤ 2 * length e.nfa.groups → SearchesOnce e x a old new
+once-by c counts exact few = record {
+  total = c.total;
+  counts = counts;
+  exact = exact;
+  scans = c.scans;
+  turns = c.turns;
+  blocks = c.blocks;
+  holds = record {
+    frames = c.holds.frames;
+    slots_kept = c.holds.slots_kept;
+    slots = let kept = c.holds.slots in omega (arith, kept);
+  };
+  early = c.early;
+}
+
+-- a match is counted as what it is
+pub found-once : {e : Backtracker} {x : Search} {old new : BacktrackCache} (r : Result (Option Match) SearchError)
+    → IsCounted e x (2 * length e.nfa.groups) r old new → SearchesOnce e x (answer_by found_of r) old new
+found-once (Ok (Some m)) c = once-by c c.answered c.work (omega arith)
+found-once (Ok None) c = once-by c c.answered c.work (omega arith)
+found-once (Err error) c = once-by c c.refused c.within (omega arith)
 
 -- a match that is found is inside the span
 pub find-lies : (e : Backtracker) (t : Search) (a : Answer Found) → IsTryFindAnswer e t a

@@ -3,7 +3,7 @@ ghost use Rattle.std.specs.Prelude.{◌≡◌, Ok, Some, option_map};
 ghost use Rattle.std.specs.Option.{ForSome};
 ghost use Rattle.regex_search_core.specs.Found.{found_of};
 ghost use Rattle.regex_search_core.specs.Search.{search_of};
-ghost use Rattle.nfa_search_base.specs.EngineSearches.{IsKnownFrom, found_in, last_start};
+ghost use Rattle.nfa_search_base.specs.EngineSearches.{IsKnownFrom, found_in};
 ghost use Rattle.nfa_search_base.specs.Finders.{answer_by};
 ghost use Rattle.nfa_search_base.specs.Stored.{steps_iter_state};
 ghost use Rattle.nfa_backtrack.specs.Finding.{IsSureAt};
@@ -39,15 +39,12 @@ struct Finder<'r> {
 }
 
 impl BoundedBacktracker {
-    ghost use Rattle.std.specs.Prelude.{false, All, IfOk, IfSome, None, map};
+    ghost use Rattle.std.specs.Prelude.{false, All, IfOk, None, map};
     ghost use Rattle.regex_search_core.specs.Found.{found_of};
     ghost use Rattle.regex_search_core.specs.declared.search.MatchKind.TheVariants.{LeftmostFirst};
-    ghost use Rattle.nfa_search_base.specs.Finders.{answer_by};
     ghost use Rattle.nfa_search_base.specs.Lists.{AreMatches, AreDisjoint, IsInside};
     ghost use Rattle.nfa_backtrack.specs.Backtrack.{IsTooLong, refused_early};
     ghost use Rattle.nfa_backtrack.specs.Finding.{AnswersByLength, BacktrackerFindsOn, BacktrackerFindsToEnd};
-    ghost use Rattle.nfa_backtrack.specs.Finding.{IsTryFindAnswer};
-    ghost use Rattle.nfa_backtrack.specs.Finding.{SearchesOnce};
     ghost use Rattle.nfa_search_base.specs.Runs.{GivesFirst, GivesNext, RunsGive};
     ghost use Rattle.nfa_search_base.specs.IterStates.{fresh};
     ghost use Rattle.nfa_backtrack.specs.FindMatches.{backtrack_matches_cache, backtrack_matches_done};
@@ -153,23 +150,6 @@ impl BoundedBacktracker {
         }
         Ok(found)
     }
-
-    // Returns the match of one search, and states its work. If there is one, `start` becomes the start of the last
-    // scan.
-    #[inline]
-    fn find_at(
-        &self,
-        cache: &mut Cache,
-        input: &Input<'_>,
-        start: &mut usize,
-    ) -> Result<Option<Match>, SearchError>
-        ensures finds { IsTryFindAnswer self.now (search_of input.now) (answer_by found_of result) }
-        ensures once { SearchesOnce self.now (search_of input.now) (answer_by found_of result) cache.old cache.new }
-        ensures last { IfOk result (λ found. IfSome found (λ m.
-            start.new ≡ last_start (search_of input.now) cache.new.scans)) }
-    {
-        self.find_with_start(cache, input, start)
-    }
 }
 
 impl<'r> FindWith for Finder<'r> {
@@ -208,7 +188,7 @@ impl<'r> FindWith for Finder<'r> {
             return Ok(known);
         }
         let mut start = input.start();
-        let reply = self.engine.find_at(cache, input, &mut start);
+        let reply = self.engine.find_with_start(cache, input, &mut start);
         self.known = ending_at(start, found_in(reply));
         reply
     }
