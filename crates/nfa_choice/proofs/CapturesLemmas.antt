@@ -1,118 +1,178 @@
--- A choice as the engine of an iteration over captures: when its iterator may search, and what it gives and keeps.
-use Rattle.std.proofs.Common.{◌≡◌, Bool, false, Option, Result, refl, subst}
-use Rattle.nfa_paths.specs.Common.{Search, Captured}
+-- Iterators over captures that search with a choice, or with an engine that shows itself as one: when they may search,
+-- and what they give and keep.
+use Rattle.std.proofs.Common.{◌≡◌, ◌⊎◌, Bool, false, None, Option, Result, IfErr, IfOk, List, refl, replicate, subst, map, All}
+use Rattle.std.proofs.lemmas.Result.{IfErr-weaker}
+use Rattle.nfa_paths.specs.Common.{Search, Captured, slot_count}
 use Rattle.nfa_search_base.specs.CapturesGiven.{CapturesGiven}
-use Rattle.nfa_search_base.specs.WithCaptures.{WithCaptures, GivesCaptures, Row, row_span}
-use Rattle.nfa_search_base.specs.CapturesLists.{HasGroups, AnswersRow}
-use Rattle.nfa_search_base.specs.CapturesRuns.{CapturesMemory}
-use Rattle.nfa_search_base.specs.WithCache.{WithCache}
-use Rattle.nfa_search_base.specs.StepsWith.{TakesStepWith, steps_with_state, steps_with_iter_state}
+use Rattle.nfa_search_base.specs.WithCaptures.{WithCaptures, GivesCaptures, Row, row_of, row_span}
+use Rattle.nfa_search_base.specs.CapturesLists.{HasGroups, AnswersRow, AreRows}
+use Rattle.nfa_search_base.specs.CapturesRuns.{CapturesInside, CapturesMemory, match_in}
+use Rattle.nfa_search_base.specs.Drained.{CallsLead, DrainsAll, DrainsToError}
+use Rattle.nfa_search_base.specs.Lists.{AreDisjoint, AreMatches}
+use Rattle.nfa_search_base.specs.WithCache.{WithCache, with_cache}
+use Rattle.nfa_search_base.specs.StepsWith.{GivesStepsWith, StepsWith, TakesStepWith, steps_with_state, steps_with_iter_state}
 use Rattle.nfa_search_base.specs.Stored.{can_step, steps_iter_state, takes_steps}
 use Rattle.nfa_search_base.specs.IterStates.{AnswerIsInside, fresh}
 use Rattle.nfa_search_base.specs.declared.error.SearchError.{SearchError}
+use Rattle.nfa_search_base.specs.declared.error.SearchError.TheVariants.{Memory}
 use Rattle.nfa_search_base.specs.declared.iter.steps.Steps.{Steps}
 use Rattle.nfa_search_base.proofs.CapturesLemmas.{row-lies}
 use Rattle.nfa_search_base.proofs.CapturesRunLemmas.{RowsOf, captures-given, captures-memory}
+use Rattle.nfa_search_base.proofs.DrainedLemmas.{all-captures, calls-cache, error-captures, made-holds}
 use Rattle.nfa_search_base.proofs.EngineLemmas.{KeptBy, SearchesAs, SearchesOf, calls-kept, searches-serve, step-may}
 use Rattle.nfa_search_base.proofs.ItemLemmas.{ItemsOf, copies_of}
-use Rattle.nfa_search_base.proofs.LeavingLemmas.{shell-leaves}
+use Rattle.nfa_search_base.proofs.LeavingLemmas.{all-to_end, shell-leaves, steps-leave}
 use Rattle.nfa_search_base.proofs.RunLemmas.{Begins}
 use Rattle.nfa_search_base.proofs.ShellLemmas.{ShellOf, plain_shell, steps_in}
 use Rattle.nfa_pikevm.specs.Engines.{Pike, kind_of}
 use Rattle.nfa_pikevm.specs.Finding.{PikeAnswersRow}
-use Rattle.nfa_choice.specs.CapturesMatches.{AsksRowByRule, CatchesByRule, ChoiceCatchesBySearches, ChoiceCatchesGiveKept, MayCatchByRule, choice_catches, choice_catches_next}
 use Rattle.nfa_choice.specs.ChoiceState.{ChoiceState, KeepsEngines, kind_in, pike_of}
-use Rattle.nfa_choice.specs.declared.choose.captures_iter.ChoiceCaptures.{ChoiceCaptures}
+use Rattle.nfa_choice.specs.Iterations.{AsksRowBy, CatchesLead, CatchesNextBy, CatchesOn, CatchesToEnd, MayCatch, SearchesBy}
 use Rattle.nfa_choice.proofs.FindLemmas.{keeps-self, keeps-then, pike-kept}
 
--- the choice, whose answers are those of its PikeVM
-abbrev pub choice_fills : SearchesOf Pike ChoiceState (WithCache (WithCaptures (Unit {0})) ChoiceState) Row
-choice_fills = record {
-  engine = λ s. pike_of s.cache;
-  cache = λ s. s.cache;
-  asks = AsksRowByRule;
-  May = λ s x. MayCatchByRule s;
-  Tells = PikeAnswersRow;
-  Work = λ vm x a. CatchesByRule x;
-  tells = λ s t a s' asked. asked.tells;
-  works = λ s t a s' asked. asked.work;
-  stays = λ s t a s' asked. pike-kept s.cache s'.cache asked.work.keeps;
-  like = λ s x t same may. may;
-  goes = λ s t a s' may asked. rw asked.work.keeps.nfa asked.holds;
-}
+-- the state of an iteration over captures
+abbrev Catching : Type 0
+Catching = WithCache (WithCaptures (Unit {0})) ChoiceState
 
--- its items
-abbrev pub choice_copies : ItemsOf (WithCache (WithCaptures (Unit {0})) ChoiceState) Row Captured
-choice_copies = copies_of (λ q. q.backend.captures)
-
--- what it answers to searches like x: the rows of the NFA, with the same `earliest`
-abbrev pub choice_rows : (c : ChoiceState) (x : Search)
-    → RowsOf choice_fills (λ q. q.backend.captures) (pike_of c) x
-choice_rows c x = record {
-  nfa = c.nfa;
-  kind = kind_in c;
-  earliest = x.earliest;
-  tells = AnswersRow c.nfa (kind_in c) x.earliest;
-  given = λ t a same h. subst (λ (b : Bool). AnswersRow c.nfa (kind_in c) b t a) same.earliest h;
-  row = λ t o h. h;
-  groups = λ s t is may. subst (λ (vm : Pike). HasGroups vm.nfa s.backend.captures) is may;
-}
-
--- its iterator
-abbrev captures_shell
-    : ShellOf (TakesStepWith row_span AsksRowByRule GivesCaptures) (λ (i : Result Captured SearchError). i)
-    ChoiceCaptures
-captures_shell = plain_shell choice_catches_next choice_catches (λ s r t st. st.takes)
-
--- steps may search in every state
-pub steps-serve : (s : Steps (WithCache (WithCaptures (Unit {0})) ChoiceState)) → MayCatchByRule s.backend
-    → can_step (λ q x. MayCatchByRule q) AsksRowByRule row_span s
-steps-serve s may = searches-serve choice_fills (AnswerIsInside row_span)
-    (λ vm t a h. (row-lies vm.nfa (kind_of vm) t.earliest t a h).0) s.backend (steps_iter_state s).at may
-
--- so the iterator may
-pub catch-serves : (s : ChoiceCaptures)
-    → can_step (λ q x. MayCatchByRule q) AsksRowByRule row_span (steps_with_state (choice_catches s))
-catch-serves s = steps-serve (steps_with_state (choice_catches s)) s.holds
-
--- and after a step
-pub step-goes : (s : ChoiceCaptures) (r : Option (Result Captured SearchError))
-    (t : Steps (WithCache (WithCaptures (Unit {0})) ChoiceState))
-    → takes_steps row_span AsksRowByRule (λ q. GivesCaptures q.backend) (steps_with_state (choice_catches s)) r t
-    → MayCatchByRule t.backend
-step-goes s r t st = step-may choice_fills choice_copies (steps_with_state (choice_catches s)) r t st s.holds
-
--- An iterator that begins at x.
-module _ (x : Search) (s : ChoiceCaptures) (iter_state : steps_with_iter_state (choice_catches s) ≡ fresh x)
-    (going : (choice_catches s).steps.done ≡ false) where
-  begins : Begins (SearchesAs choice_fills (pike_of s.choice.now)) x (steps_with_state (choice_catches s))
-  begins = record { iter_state = iter_state; going = going; good = refl }
-
-  -- the calls give the captures of the NFA
-  pub catches-given : CapturesGiven choice_catches_next s.choice.now.nfa (kind_in s.choice.now) x.earliest
-      (AnswersRow s.choice.now.nfa (kind_in s.choice.now) x.earliest) x s
-  catches-given = captures-given (choice_rows s.choice.now x) (steps_in captures_shell) s begins s.holds
-
-  -- and no error but `Memory`
-  pub catches-memory : CapturesMemory choice_catches_next s
-  catches-memory = captures-memory (choice_rows s.choice.now x) (steps_in captures_shell) s begins
-      (λ t e from to never. absurd never)
-
-  -- they change the choice only by their searches
-  pub catches-searches : ChoiceCatchesBySearches x s
-  catches-searches = record {
-    on = shell-leaves choice_fills choice_copies (steps_in captures_shell) (pike_of s.choice.now) s begins;
+-- `Runs` says which engines a search ran.
+module _ (Runs : Search → ChoiceState → ChoiceState → Type 0) where
+  -- the engine, whose answers are those of the PikeVM
+  abbrev fills : SearchesOf Pike ChoiceState Catching Row
+  fills = record {
+    engine = λ s. pike_of s.cache;
+    cache = λ s. s.cache;
+    asks = AsksRowBy Runs;
+    May = λ s x. MayCatch s;
+    Tells = PikeAnswersRow;
+    Work = λ vm x a. SearchesBy Runs x;
+    tells = λ s t a s' asked. asked.tells;
+    works = λ s t a s' asked. asked.work;
+    stays = λ s t a s' asked. pike-kept s.cache s'.cache asked.work.keeps;
+    like = λ s x t same may. may;
+    goes = λ s t a s' may asked. rw asked.work.keeps.nfa asked.holds;
   }
 
--- each search keeps the engines
-abbrev pub captures_kept : KeptBy AsksRowByRule
-captures_kept = record {
-  Keeps = KeepsEngines;
-  self = keeps-self;
-  then = keeps-then;
-  asked = λ s x a t asked. asked.work.keeps;
-}
+  -- its items
+  abbrev copies : ItemsOf Catching Row Captured
+  copies = copies_of (λ q. q.backend.captures)
 
--- so the calls keep the choice, and what its answers depend on
-pub catches-choice : (s : ChoiceCaptures) → ChoiceCatchesGiveKept s
-catches-choice = calls-kept captures_kept captures_shell
+  -- what it answers to searches like x: the rows of the NFA, with the same `earliest`
+  abbrev rows_of : (c : ChoiceState) (x : Search) → RowsOf fills (λ q. q.backend.captures) (pike_of c) x
+  rows_of c x = record {
+    nfa = c.nfa;
+    kind = kind_in c;
+    earliest = x.earliest;
+    tells = AnswersRow c.nfa (kind_in c) x.earliest;
+    given = λ t a same h. subst (λ (b : Bool). AnswersRow c.nfa (kind_in c) b t a) same.earliest h;
+    row = λ t o h. h;
+    groups = λ s t is may. subst (λ (vm : Pike). HasGroups vm.nfa s.backend.captures) is may;
+  }
+
+  -- each search keeps the engines
+  abbrev captures_kept : KeptBy (AsksRowBy Runs)
+  captures_kept = record {
+    Keeps = KeepsEngines;
+    self = keeps-self;
+    then = keeps-then;
+    asked = λ s x a t asked. asked.work.keeps;
+  }
+
+  -- steps may search in every state
+  pub steps-serve : (s : Steps Catching) → MayCatch s.backend → can_step (λ q x. MayCatch q) (AsksRowBy Runs) row_span s
+  steps-serve s may = searches-serve fills (AnswerIsInside row_span)
+      (λ vm t a h. (row-lies vm.nfa (kind_of vm) t.earliest t a h).0) s.backend (steps_iter_state s).at may
+
+  -- and after a step
+  pub step-goes : (s : Steps Catching) (r : Option (Result Captured SearchError)) (t : Steps Catching)
+      → takes_steps row_span (AsksRowBy Runs) (λ q. GivesCaptures q.backend) s r t → MayCatch s.backend
+      → MayCatch t.backend
+  step-goes s r t st may = step-may fills copies s r t st may
+
+  -- An iterator T.
+  module _ {T : Type 0} (steps : T → StepsWith (WithCaptures (Unit {0})) ChoiceState) where
+    abbrev shell
+        : ShellOf (TakesStepWith row_span (AsksRowBy Runs) GivesCaptures) (λ (i : Result Captured SearchError). i) T
+    shell = plain_shell (CatchesNextBy Runs steps) steps (λ s r t st. st.takes)
+
+    -- its calls keep the engine, and what its answers depend on
+    pub catches-kept : (s : T) → GivesStepsWith (CatchesNextBy Runs steps) steps KeepsEngines s
+    catches-kept = calls-kept captures_kept shell
+
+    -- It begins at x.
+    module _ (x : Search) (s : T) (iter_state : steps_with_iter_state (steps s) ≡ fresh x)
+        (going : (steps s).steps.done ≡ false) where
+      begins : Begins (SearchesAs fills (pike_of (steps s).cache.now)) x (steps_with_state (steps s))
+      begins = record { iter_state = iter_state; going = going; good = refl }
+
+      -- its calls give the captures of the NFA
+      pub catches-given : MayCatch (steps_with_state (steps s)).backend
+          → CapturesGiven (CatchesNextBy Runs steps) (steps s).cache.now.nfa (kind_in (steps s).cache.now) x.earliest
+          (AnswersRow (steps s).cache.now.nfa (kind_in (steps s).cache.now) x.earliest) x s
+      catches-given may = captures-given (rows_of (steps s).cache.now x) (steps_in shell) s begins may
+
+      -- and no error but `Memory`
+      pub catches-memory : CapturesMemory (CatchesNextBy Runs steps) s
+      catches-memory = captures-memory (rows_of (steps s).cache.now x) (steps_in shell) s begins
+          (λ t e from to never. absurd never)
+
+      -- they change the engine only by their searches
+      pub catches-searches : CatchesLead Runs steps x s
+      catches-searches = record {
+        on = shell-leaves fills copies (steps_in shell) (pike_of (steps s).cache.now) s begins;
+      }
+
+  -- The list of the captures of x: its steps begin with captures that were made for the engine c.
+  module _ (c : ChoiceState) {x : Search} {captures : Captured}
+      (made : captures
+      ≡ record { groups = c.nfa.groups; pattern = None; slots = replicate (slot_count c.nfa.groups) None })
+      (steps : Steps (WithCaptures (Unit {0})))
+      (begins : record {
+        iter_state : steps_iter_state steps ≡ fresh x;
+        backend : steps.backend ≡ record { finder = tt; captures = captures };
+        going : steps.done ≡ false;
+      }) where
+    made-may : MayCatch (with_cache steps c).backend
+    made-may = rw begins.backend (made-holds c.nfa captures made)
+
+    -- they may search
+    pub made-serves : can_step (λ q x. MayCatch q) (AsksRowBy Runs) row_span (with_cache steps c)
+    made-serves = steps-serve (with_cache steps c) made-may
+
+    begun : Begins (SearchesAs fills (pike_of c)) x (with_cache steps c)
+    begun = record { iter_state = begins.iter_state; going = begins.going; good = refl }
+
+    abbrev Calls : Steps Catching → Option (Result Captured SearchError) → Steps Catching → Type 0
+    Calls = takes_steps row_span (AsksRowBy Runs) (λ q. GivesCaptures q.backend)
+
+    -- What the calls that made the list leave, and its items.
+    pub all-caught : {V : Type 0} (r : Result V SearchError) (items : V → List Captured) {left : Steps Catching}
+        → record {
+          all : IfOk r (λ v. DrainsAll Calls (with_cache steps c) (items v) left);
+          errors : IfErr r (λ e. (e ≡ Memory) ⊎ DrainsToError Calls (with_cache steps c) e left);
+          calls : CallsLead Calls (with_cache steps c) left;
+        } → record {
+          memory : IfErr r (λ e. e ≡ Memory);
+          rows : IfOk r (λ v. AreRows c.nfa (kind_in c) x.earliest x (map row_of (items v)));
+          matches : IfOk r (λ v. AreMatches c.nfa (kind_in c) x.earliest x (map match_in (items v)));
+          groups : IfOk r (λ v. All (HasGroups c.nfa) (items v));
+          inside : IfOk r (λ v. All (CapturesInside x) (items v));
+          disjoint : IfOk r (λ v. AreDisjoint x None (map match_in (items v)));
+          keeps : KeepsEngines c left.backend.cache;
+          searches : CatchesOn Runs x c left.backend.cache;
+          to_end : IfOk r (λ v. CatchesToEnd Runs x (map row_of (items v)) c left.backend.cache);
+        }
+    all-caught r items {left} given =
+        let rows = all-captures (rows_of c x) begun made-may r items left given.all in
+        record {
+          memory = IfErr-weaker r _ _
+              (λ error h. error-captures (rows_of c x) begun (λ t e from to never. absurd never) error left h)
+              given.errors;
+          rows = rows.0;
+          matches = rows.1;
+          groups = rows.2;
+          inside = rows.3;
+          disjoint = rows.4;
+          keeps = calls-cache captures_kept copies (with_cache steps c) left given.calls;
+          searches = steps-leave fills copies (pike_of c) begun left given.calls;
+          to_end = all-to_end fills copies (pike_of c) begun r items left given.all;
+        }

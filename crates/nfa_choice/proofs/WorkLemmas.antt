@@ -1,20 +1,18 @@
--- What lists add to the totals of both caches of a choice, whichever searches it does for them; and what its own lists
--- add.
-use Rattle.std.proofs.Common.{◌≡◌, ◌∙◌, ◌+◌, ◌*◌, ◌⊎◌, Bool, true, false, List, length, refl, ap, subst, inl, inr, not}
+-- What lists add to the totals of both caches of a choice, whichever engines its searches run.
+use Rattle.std.proofs.Common.{◌≡◌, ◌∙◌, ◌⊎◌, Bool, true, false, refl, ap, subst, inl, inr, not}
 use Rattle.std.proofs.lemmas.Bool.{and_parts}
-use Rattle.nfa_paths.specs.Common.{Found, Search, MatchKind, span_len}
+use Rattle.nfa_paths.specs.Common.{Search, MatchKind}
 use Rattle.regex_search_core.specs.declared.search.MatchKind.TheVariants.{All, LeftmostFirst}
-use Rattle.nfa_search_base.specs.WithCaptures.{Row, row_span}
-use Rattle.nfa_search_base.specs.Leaving.{DoesSearch, Leaves, LeavesAtEnd}
+use Rattle.nfa_search_base.specs.WithCaptures.{row_span}
+use Rattle.nfa_search_base.specs.Leaving.{DoesSearch}
 use Rattle.nfa_search_base.specs.IterStates.{span_of}
 use Rattle.nfa_search_base.proofs.StepLemmas.{chosen}
-use Rattle.nfa_engines.specs.WorkLaws.{AddsAtMost, Totals, backtracker_totals, list_scan_limit, pike_totals}
+use Rattle.nfa_engines.specs.WorkLaws.{Totals, backtracker_totals, list_scan_limit, pike_totals}
 use Rattle.nfa_engines.proofs.EngineWorkLemmas.{WorkOf, Worked, calls-add, list-adds, match-hit, row-hit, worked, worked-within}
 use Rattle.nfa_pikevm.specs.Engines.{Pike, kind_of}
-use Rattle.nfa_choice.specs.CapturesMatches.{CatchesByRule, ChoiceCatchesOn, ChoiceCatchesToEnd, ChoiceTellsRow}
-use Rattle.nfa_choice.specs.ChoiceState.{BacktrackerRan, ChoiceState, KeepsEngines, FellBackToPike, RunsByRule, is_for_backtracker, is_leftmost_first, kind_in, pike_of}
-use Rattle.nfa_choice.specs.Matches.{ChoiceFindsOn, ChoiceFindsToEnd, ChoiceTells, FindsByRule}
-use Rattle.nfa_choice.specs.WorkLaws.{ChoiceAddsAtMost}
+use Rattle.nfa_choice.specs.ChoiceState.{BacktrackerRan, ChoiceState, KeepsEngines, FellBackToPike, SearchedByRule, is_for_backtracker, is_leftmost_first, kind_in, pike_of}
+use Rattle.nfa_choice.specs.Iterations.{FindsBy, SearchesBy, TellsMatch, TellsRow}
+use Rattle.nfa_choice.specs.WorkLaws.{CatchesWithin, FindsWithin, MatchesAreWithin, RowsAreWithin}
 use Rattle.nfa_choice.proofs.FindLemmas.{pike-kept}
 
 -- what a search for the backtracker asks
@@ -37,7 +35,8 @@ pike_in c = pike_totals c.pike
 abbrev pub Does : (ChoiceState → Totals) → Search → ChoiceState → ChoiceState → Type 0
 Does totals y s t = Worked s.nfa (kind_in s) y.earliest y (totals s) (totals t) ⊎ (totals t ≡ totals s)
 
-module _ (y : Search) (s t : ChoiceState) (runs : RunsByRule s y y.earliest t) where
+-- such is the work of a search by the rule
+module _ (y : Search) (s t : ChoiceState) (runs : SearchedByRule y s t) where
   pub back-runs : Does back_in y s t
   back-runs = elim (chosen (is_for_backtracker s y) runs) [
     | inl p ↦
@@ -81,25 +80,23 @@ from-first c s t y old new is (inr same) = inr same
 from-first c s t y old new is (inl w) =
     inl (subst (λ (vm : Pike). Worked vm.nfa (kind_of vm) y.earliest y old new) is w)
 
--- each search keeps the engines, and is such work
+-- each search that runs so is such work
 abbrev pub DoesBy : (ChoiceState → Totals) → (Search → ChoiceState → ChoiceState → Type 0) → Type 0
-DoesBy totals By = (y : Search) (s t : ChoiceState) → By y s t → Does totals y s t × KeepsEngines s t
+DoesBy totals Runs = (y : Search) (s t : ChoiceState) → Runs y s t → Does totals y s t
 
 -- Each search answers a match or a row, and does work by these totals.
-module _ (totals : ChoiceState → Totals) (By : Search → ChoiceState → ChoiceState → Type 0) (does : DoesBy totals By)
-    (x : Search) (c d : ChoiceState) where
+module _ (totals : ChoiceState → Totals) (Runs : Search → ChoiceState → ChoiceState → Type 0)
+    (does : DoesBy totals Runs) (c : ChoiceState) where
   -- it answers as c does
   abbrev IsOf : ChoiceState → Type 0
   IsOf s = pike_of s ≡ pike_of c
 
-  abbrev WorksOf : ChoiceState → Search → ChoiceState → Type 0
-  WorksOf s y t = (Worked c.nfa (kind_in c) y.earliest y (totals s) (totals t) ⊎ (totals t ≡ totals s)) × IsOf t
+  works : (y : Search) (s t : ChoiceState) → IsOf s → Runs y s t → KeepsEngines s t
+      → (Worked c.nfa (kind_in c) y.earliest y (totals s) (totals t) ⊎ (totals t ≡ totals s)) × IsOf t
+  works y s t is runs keeps =
+      (from-first c s t y (totals s) (totals t) is (does y s t runs), pike-kept s t keeps ∙ is)
 
-  works : (y : Search) (s t : ChoiceState) → IsOf s → Does totals y s t × KeepsEngines s t → WorksOf s y t
-  works y s t is done =
-      (from-first c s t y (totals s) (totals t) is done.0, pike-kept s t done.1 ∙ is)
-
-  abbrev finds_work : WorkOf span_of (DoesSearch (ChoiceTells c) (λ y a. By y))
+  abbrev finds_work : WorkOf span_of (DoesSearch (TellsMatch c) (λ y a. FindsBy Runs y))
   finds_work = record {
     nfa = c.nfa;
     kind = kind_in c;
@@ -107,10 +104,10 @@ module _ (totals : ChoiceState → Totals) (By : Search → ChoiceState → Choi
     totals = totals;
     Good = IsOf;
     hits = λ s y a t asked. match-hit c.nfa (kind_in c) y.earliest y a asked.tells;
-    works = λ s y a t is asked. works y s t is (does y s t asked.work);
+    works = λ s y a t is asked. works y s t is asked.work.runs asked.work.keeps;
   }
 
-  abbrev catches_work : WorkOf row_span (DoesSearch (ChoiceTellsRow c) (λ y a. By y))
+  abbrev catches_work : WorkOf row_span (DoesSearch (TellsRow c) (λ y a. SearchesBy Runs y))
   catches_work = record {
     nfa = c.nfa;
     kind = kind_in c;
@@ -118,66 +115,32 @@ module _ (totals : ChoiceState → Totals) (By : Search → ChoiceState → Choi
     totals = totals;
     Good = IsOf;
     hits = λ s y a t asked. row-hit c.nfa (kind_in c) y.earliest y a asked.tells;
-    works = λ s y a t is asked. works y s t is (does y s t asked.work);
+    works = λ s y a t is asked. works y s t is asked.work.runs asked.work.keeps;
   }
 
 -- So it does by those of both caches.
-module _ (By : Search → ChoiceState → ChoiceState → Type 0) (back : DoesBy back_in By) (pike : DoesBy pike_in By)
-    (x : Search) where
-  pub matches-within : (ms : List Found) (c d : ChoiceState)
-      → LeavesAtEnd span_of (DoesSearch (ChoiceTells c) (λ y a. By y)) x ms c d
-      → ChoiceAddsAtMost (list_scan_limit c.nfa x (length ms)) x c d
-  matches-within ms c d h = record {
-    back = list-adds (finds_work back_in By back x c d) x ms c d refl h;
-    pike = list-adds (finds_work pike_in By pike x c d) x ms c d refl h;
-  }
+module _ (Runs : Search → ChoiceState → ChoiceState → Type 0) (back : DoesBy back_in Runs) (pike : DoesBy pike_in Runs)
+  where
+    pub matches-within : MatchesAreWithin Runs list_scan_limit
+    matches-within x ms c d h = record {
+      back = list-adds (finds_work back_in Runs back c) x ms c d refl h;
+      pike = list-adds (finds_work pike_in Runs pike c) x ms c d refl h;
+    }
 
-  pub rows-within : (rows : List Row) (c d : ChoiceState)
-      → LeavesAtEnd row_span (DoesSearch (ChoiceTellsRow c) (λ y a. By y)) x rows c d
-      → ChoiceAddsAtMost (list_scan_limit c.nfa x (length rows)) x c d
-  rows-within rows c d h = record {
-    back = list-adds (catches_work back_in By back x c d) x rows c d refl h;
-    pike = list-adds (catches_work pike_in By pike x c d) x rows c d refl h;
-  }
+    pub rows-within : RowsAreWithin Runs list_scan_limit
+    rows-within x rows c d h = record {
+      back = list-adds (catches_work back_in Runs back c) x rows c d refl h;
+      pike = list-adds (catches_work pike_in Runs pike c) x rows c d refl h;
+    }
 
-  pub finds-within : (c d : ChoiceState) → Leaves span_of (DoesSearch (ChoiceTells c) (λ y a. By y)) x c d
-      → ChoiceAddsAtMost (2 * span_len x + 3) x c d
-  finds-within c d h = record {
-    back = calls-add (finds_work back_in By back x c d) x c d refl h;
-    pike = calls-add (finds_work pike_in By pike x c d) x c d refl h;
-  }
+    pub finds-within : FindsWithin Runs 3
+    finds-within x c d h = record {
+      back = calls-add (finds_work back_in Runs back c) x c d refl h;
+      pike = calls-add (finds_work pike_in Runs pike c) x c d refl h;
+    }
 
-  pub catches-within : (c d : ChoiceState) → Leaves row_span (DoesSearch (ChoiceTellsRow c) (λ y a. By y)) x c d
-      → ChoiceAddsAtMost (2 * span_len x + 3) x c d
-  catches-within c d h = record {
-    back = calls-add (catches_work back_in By back x c d) x c d refl h;
-    pike = calls-add (catches_work pike_in By pike x c d) x c d refl h;
-  }
-
--- the searches of a choice by its rule
-finds-back : DoesBy back_in FindsByRule
-finds-back y s t w = (back-runs y s t w.runs, w.keeps)
-
-finds-pike : DoesBy pike_in FindsByRule
-finds-pike y s t w = (pike-runs y s t w.runs, w.keeps)
-
-catches-back : DoesBy back_in CatchesByRule
-catches-back y s t w = (back-runs y s t w.runs, w.keeps)
-
-catches-pike : DoesBy pike_in CatchesByRule
-catches-pike y s t w = (pike-runs y s t w.runs, w.keeps)
-
-module _ (x : Search) where
-  pub choice-matches : (ms : List Found) (c d : ChoiceState) → ChoiceFindsToEnd x ms c d
-      → ChoiceAddsAtMost (list_scan_limit c.nfa x (length ms)) x c d
-  choice-matches = matches-within FindsByRule finds-back finds-pike x
-
-  pub choice-rows : (rows : List Row) (c d : ChoiceState) → ChoiceCatchesToEnd x rows c d
-      → ChoiceAddsAtMost (list_scan_limit c.nfa x (length rows)) x c d
-  choice-rows = rows-within CatchesByRule catches-back catches-pike x
-
-  pub choice-finds : (c d : ChoiceState) → ChoiceFindsOn x c d → ChoiceAddsAtMost (2 * span_len x + 3) x c d
-  choice-finds = finds-within FindsByRule finds-back finds-pike x
-
-  pub choice-catches : (c d : ChoiceState) → ChoiceCatchesOn x c d → ChoiceAddsAtMost (2 * span_len x + 3) x c d
-  choice-catches = catches-within CatchesByRule catches-back catches-pike x
+    pub catches-within : CatchesWithin Runs 3
+    catches-within x c d h = record {
+      back = calls-add (catches_work back_in Runs back c) x c d refl h;
+      pike = calls-add (catches_work pike_in Runs pike c) x c d refl h;
+    }

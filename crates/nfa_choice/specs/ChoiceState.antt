@@ -1,10 +1,11 @@
 -- An engine over two others as a value, and the rule that picks one of the two for a search.
-use Rattle.std.specs.Prelude.{◌≡◌, ◌⊎◌, ◌+◌, ◌*◌, ◌≤◌, ℕ, Bool, true, false, ◌&&◌, not, nat_le, MatchBool, Option, Some, ◌-◌, ◌^◌, min}
+use Rattle.std.specs.Prelude.{◌≡◌, ◌⊎◌, ◌+◌, ◌*◌, ◌≤◌, ℕ, List, Bool, true, false, ◌&&◌, not, nat_le, MatchBool, Option, Some, ◌-◌, ◌^◌, min}
 use Rattle.nfa_paths.specs.Common.{Search, MatchKind, Automaton, span_len, max_scans, total_degree, IsWork, IsWithinScans}
 use Rattle.regex_search_core.specs.declared.search.MatchKind.TheVariants.{All, LeftmostFirst}
 use Rattle.nfa_backtrack.specs.Backtrack.{Backtracker, BacktrackCache, AddsBacktrackWork, CountsAnswer, CountsRefusal, GrowsBlocks, max_haystack_len_of, memory_of}
 use Rattle.nfa_search_base.specs.Finds.{finds}
 use Rattle.nfa_pikevm.specs.Engines.{Pike, PikeCache, AddsPikeWork, SameCapacities, kind_of, pike_memory_of}
+use Rattle.nfa_pikevm.specs.Needs.{overlap_scans}
 use Rattle.nfa_choice.specs.declared.choose.Engine.{Engine}
 use Rattle.nfa_choice.specs.declared.choose.Engine.TheVariants as engine
 
@@ -88,6 +89,19 @@ abbrev pub RunsByRule : ChoiceState → Search → Bool → ChoiceState → Type
 RunsByRule old x earliest new = MatchBool (is_for_backtracker old x)
     (BacktrackerRan x earliest old new ⊎ FellBackToPike x earliest old new)
     (PikeRan x earliest old new)
+
+-- the same, for a search with its own flag
+abbrev pub SearchedByRule : Search → ChoiceState → ChoiceState → Type 0
+SearchedByRule x old new = RunsByRule old x x.earliest new
+
+-- The PikeVM added the patterns of x to a set that was `set`: by one scan, or under leftmost first by none if the set
+-- held a pattern.
+pub record AddsByPike (x : Search) (set : List Bool) (old new : ChoiceState) : Type 0 where
+  pub ran : new.ran ≡ Some engine.PikeVM
+  pub back : new.back ≡ old.back
+  pub total : AddsPikeWork old.pike new.pike
+  pub scans : new.pike.scans ≡ overlap_scans (kind_in old) set
+  pub turns : new.pike.turns ≤ new.pike.scans * ((1 + total_degree old.nfa) * (span_len x + 1))
 
 -- all that a search leaves unchanged
 pub record KeepsEngines (old new : ChoiceState) : Type 0 where

@@ -17,7 +17,7 @@ use Rattle.nfa_search_base.proofs.MatchRunLemmas.{runs-are}
 use Rattle.nfa_search_base.proofs.RunLemmas.{AnswersOf, Begins, Given, given, items-given}
 use Rattle.nfa_search_base.proofs.ShellLemmas.{ShellOf}
 use Rattle.nfa_hybrid.specs.HalfLists.{AnswersHalf, AreFirstHalves, AreHalves, AreRising, IsHalfInside}
-use Rattle.nfa_hybrid.specs.HalfRuns.{AreFirst, AreAll, HalvesAre, HalvesFirst, HalvesNext, HalvesRise, HalvesRun}
+use Rattle.nfa_hybrid.specs.HalfRuns.{AreFirst, AreAll, HalvesGiven}
 
 -- ---- the list
 
@@ -85,15 +85,6 @@ module _ (nfa : Automaton) (kind : MatchKind) (earliest : Bool) where
       (fresh-disjoint half_span_of tells half-lies (Fails half_span_of tells) x (as_items ms) h.come))
 
 -- ---- the calls
-
--- all that the calls of an iterator over the half matches of x give
-pub record HalvesGiven (nfa : Automaton) (kind : MatchKind) (x : Search) {T : Type 0}
-    (steps : T → Option HalfMatch → T → Type 0) (s : T) : Type 0 where
-  pub runs : HalvesRun nfa kind x steps s
-  pub first : HalvesFirst nfa kind x steps s
-  pub next : HalvesNext nfa kind x steps s
-  pub rise : HalvesRise nfa kind x steps s
-  pub are : HalvesAre nfa kind x steps s
 
 -- What answers the searches gives the half matches of searches like x. A shell's calls are those of the iterator in it.
 module _ (nfa : Automaton) (kind : MatchKind) {S T : Type 0} {x : Search}

@@ -1,12 +1,12 @@
--- A hybrid as the engine of an iteration over half matches: when its iterator may search, and what it gives and keeps.
-use Rattle.std.proofs.Common.{◌≡◌, ◌∙◌, Bool, false, Ok, refl, subst}
+-- Iterators over half matches that search with an engine: when they may search, and what they give and keep.
+use Rattle.std.proofs.Common.{◌≡◌, ◌∙◌, Bool, false, Ok, Option, refl, subst}
 use Rattle.nfa_paths.specs.Common.{HalfFound, half_found_of, Search, HalfMatch}
 use Rattle.nfa_search_base.specs.WithCache.{WithCache}
-use Rattle.nfa_search_base.specs.StepsWith.{TakesStepWith, steps_with_state, steps_with_iter_state}
+use Rattle.nfa_search_base.specs.StepsWith.{GivesStepsWith, StepsWith, TakesStepWith, steps_with_state, steps_with_iter_state}
 use Rattle.nfa_search_base.specs.Serving.{may_ask}
 use Rattle.nfa_search_base.specs.Steps.{GivesItem}
 use Rattle.nfa_search_base.specs.Stored.{steps_iter_state, can_step_infallibly}
-use Rattle.nfa_search_base.specs.IterStates.{fresh, half_span_of, IsInfalliblyInside}
+use Rattle.nfa_search_base.specs.IterStates.{Answer, fresh, half_span_of, IsInfalliblyInside}
 use Rattle.nfa_search_base.specs.declared.iter.steps.Steps.{Steps}
 use Rattle.nfa_search_base.proofs.EngineLemmas.{KeptBy, SearchesAs, SearchesOf, answers_as, calls-kept, searches-serve}
 use Rattle.nfa_search_base.proofs.ItemLemmas.{ItemsOf, items_as}
@@ -15,21 +15,100 @@ use Rattle.nfa_search_base.proofs.RunLemmas.{AnswersOf, Begins}
 use Rattle.nfa_search_base.proofs.ShellLemmas.{ShellOf, steps_in}
 use Rattle.nfa_pikevm.specs.Engines.{Pike, kind_of}
 use Rattle.nfa_engines.proofs.LoopLemmas.{sizes-none, sizes-two}
+use Rattle.nfa_hybrid.specs.HalfIterations.{AsksHalf, HalvesLead, HalvesNextBy, TellsHalf}
 use Rattle.nfa_hybrid.specs.HalfLists.{AnswersHalf}
-use Rattle.nfa_hybrid.specs.HybridState.{HybridState, KeepsHybrid, kind_in}
-use Rattle.nfa_hybrid.specs.Halves.{AsksInTurn, FindsHalfInTurn, HalvesBySearches, HalvesGiveKept, half_steps, halves_next}
-use Rattle.nfa_hybrid.specs.declared.hybrid.half_matches.HalfMatches.{HalfMatches}
-use Rattle.nfa_hybrid.specs.declared.hybrid.half_matches.InTurn.{InTurn}
-use Rattle.nfa_hybrid.proofs.HalfListLemmas.{HalvesGiven, half-lies_infallibly, halves-given}
+use Rattle.nfa_hybrid.specs.HalfRuns.{HalvesGiven}
+use Rattle.nfa_hybrid.specs.HybridState.{HybridState, KeepsHybrid, pike_of}
+use Rattle.nfa_hybrid.specs.Halves.{FindsHalfInTurn}
+use Rattle.nfa_hybrid.proofs.HalfListLemmas.{half-lies_infallibly, halves-given}
 
--- ---- what stays
+-- An engine for half matches, whose value is a C.
+pub record HalfEngine (C : Type 0) : Type 1 where
+  -- the PikeVM that answers as it does, and what a search does
+  pub engine : C → Pike
+  pub Work : Search → C → C → Type 0
+  -- what a search keeps, and so any searches
+  pub Keeps : C → C → Type 0
+  pub keeps : (x : Search) (a b : C) → Work x a b → Keeps a b
+  pub self : (c : C) → Keeps c c
+  pub then : (a b c : C) → Keeps a b → Keeps b c → Keeps a c
+  pub stays : (a b : C) → Keeps a b → engine b ≡ engine a
 
--- the PikeVM that answers as the hybrid does
-abbrev pike_in : HybridState → Pike
-pike_in h = record { nfa = h.nfa; match_kind = h.config.match_kind }
+module _ {C : Type 0} (e : HalfEngine C) {A : Type 0} where
+  abbrev Asks : WithCache A C → Search → Answer HalfFound → WithCache A C → Type 0
+  Asks = AsksHalf e.engine e.Work
 
-pike-kept : (c d : HybridState) → KeepsHybrid c d → pike_in d ≡ pike_in c
-pike-kept c d keeps = rw (keeps.nfa, keeps.config) refl
+  -- its searches, by an iterator with an A
+  abbrev halves : SearchesOf Pike C (WithCache A C) HalfFound
+  halves = record {
+    engine = λ s. e.engine s.cache;
+    cache = λ s. s.cache;
+    asks = Asks;
+    May = may_ask;
+    Tells = TellsHalf;
+    Work = λ vm x a. e.Work x;
+    tells = λ s t a s' asked. asked.tells;
+    works = λ s t a s' asked. asked.work;
+    stays = λ s t a s' asked. e.stays s.cache s'.cache (e.keeps t s.cache s'.cache asked.work);
+    like = λ s x t same may. tt;
+    goes = λ s t a s' may asked. tt;
+  }
+
+  abbrev items : ItemsOf (WithCache A C) HalfFound HalfMatch
+  items = items_as half_span_of half_found_of
+
+  -- what it answers on searches like x
+  abbrev answers : (vm : Pike) (x : Search) → AnswersOf (WithCache A C) x (AnswersHalf vm.nfa (kind_of vm) x.earliest)
+  answers vm x = answers_as halves vm x (AnswersHalf vm.nfa (kind_of vm) x.earliest)
+      (λ t a same found. subst (λ (b : Bool). AnswersHalf vm.nfa (kind_of vm) b t a) same.earliest found)
+
+  -- a step may always search, and never errs
+  pub halves-serve : (s : Steps (WithCache A C)) → can_step_infallibly may_ask Asks half_span_of s
+  halves-serve s = searches-serve halves (IsInfalliblyInside half_span_of)
+      (λ vm t a h. half-lies_infallibly vm.nfa (kind_of vm) t.earliest t a h) s.backend (steps_iter_state s).at tt
+
+  abbrev kept : KeptBy Asks
+  kept = record {
+    Keeps = e.Keeps;
+    self = e.self;
+    then = e.then;
+    asked = λ s x a t asked. e.keeps x s.cache t.cache asked.work;
+  }
+
+  -- An iterator T.
+  module _ {T : Type 0} (steps : T → StepsWith A C) where
+    abbrev Next : T → Option HalfMatch → T → Type 0
+    Next = HalvesNextBy e.engine e.Work steps
+
+    abbrev shell : ShellOf (TakesStepWith half_span_of Asks (λ _. GivesItem half_found_of)) (λ (m : HalfMatch). Ok m) T
+    shell = record { calls = Next; inner = steps; is = λ s r t st. st.takes }
+
+    -- its calls keep the engine
+    pub halves-kept : (s : T) → GivesStepsWith Next steps e.Keeps s
+    halves-kept = calls-kept kept shell
+
+    -- It begins at x.
+    module _ (x : Search) (s : T) (iter_state : steps_with_iter_state (steps s) ≡ fresh x)
+        (going : (steps s).steps.done ≡ false) where
+      abbrev vm : Pike
+      vm = e.engine (steps s).cache.now
+
+      begins : Begins (SearchesAs halves vm) x (steps_with_state (steps s))
+      begins = record { iter_state = iter_state; going = going; good = refl }
+
+      -- its calls give the half matches of the NFA
+      pub halves-of : HalvesGiven vm.nfa (kind_of vm) x Next s
+      halves-of = halves-given vm.nfa (kind_of vm) (answers vm x) (steps_in shell) s begins
+
+      -- they change the engine only by their searches
+      pub halves-searches : HalvesLead e.engine e.Work steps x s
+      halves-searches = record {
+        on = shell-leaves halves items (steps_in shell) vm s begins;
+        to_end = λ xs t u ran st.
+            let to_end = shell-to_end halves items (steps_in shell) vm s begins in to_end xs xs t u refl ran st;
+      }
+
+-- ---- a hybrid
 
 pub keeps-self : (c : HybridState) → KeepsHybrid c c
 keeps-self c = record { nfa = refl; config = refl; capacities = sizes-none c.pike }
@@ -41,71 +120,14 @@ keeps-then a b c f g = record {
   capacities = sizes-two a.pike b.pike c.pike f.capacities g.capacities;
 }
 
--- ---- the engine
-
--- the hybrid, whose answers are those of a PikeVM
-abbrev hybrid_finds : SearchesOf Pike HybridState (WithCache InTurn HybridState) HalfFound
-hybrid_finds = record {
-  engine = λ s. pike_in s.cache;
-  cache = λ s. s.cache;
-  asks = AsksInTurn;
-  May = may_ask;
-  Tells = λ vm x a. AnswersHalf vm.nfa (kind_of vm) x.earliest x a;
-  Work = λ vm x a. FindsHalfInTurn x;
-  tells = λ s t a s' asked. asked.tells;
-  works = λ s t a s' asked. asked.work;
-  stays = λ s t a s' asked. pike-kept s.cache s'.cache asked.work.keeps;
-  like = λ s x t same may. tt;
-  goes = λ s t a s' may asked. tt;
-}
-
-abbrev half_items : ItemsOf (WithCache InTurn HybridState) HalfFound HalfMatch
-half_items = items_as half_span_of half_found_of
-
--- what it answers on searches like x
-abbrev half_answers : (h : HybridState) (x : Search)
-    → AnswersOf (WithCache InTurn HybridState) x (AnswersHalf h.nfa (kind_in h) x.earliest)
-half_answers h x = answers_as hybrid_finds (pike_in h) x (AnswersHalf h.nfa (kind_in h) x.earliest)
-    (λ t a same found. subst (λ (b : Bool). AnswersHalf h.nfa (kind_in h) b t a) same.earliest found)
-
--- its iterator
-abbrev half_shell : ShellOf (TakesStepWith half_span_of AsksInTurn (λ _. GivesItem half_found_of))
-    (λ (m : HalfMatch). Ok m) HalfMatches
-half_shell = record { calls = halves_next; inner = half_steps; is = λ s r t st. st.takes }
-
--- it may always search, and never errs
-pub hybrid-serves : (s : Steps (WithCache InTurn HybridState)) → can_step_infallibly may_ask AsksInTurn half_span_of s
-hybrid-serves s = searches-serve hybrid_finds (IsInfalliblyInside half_span_of)
-    (λ vm t a h. half-lies_infallibly vm.nfa (kind_of vm) t.earliest t a h) s.backend (steps_iter_state s).at tt
-
-abbrev half_kept : KeptBy AsksInTurn
-half_kept = record {
+-- whose engines search in turn
+abbrev pub hybrid_engine : HalfEngine HybridState
+hybrid_engine = record {
+  engine = pike_of;
+  Work = FindsHalfInTurn;
   Keeps = KeepsHybrid;
+  keeps = λ x a b work. work.keeps;
   self = keeps-self;
   then = keeps-then;
-  asked = λ s x a t asked. asked.work.keeps;
+  stays = λ a b keeps. rw (keeps.nfa, keeps.config) refl;
 }
-
--- all calls keep the hybrid
-pub gives-hybrid : (s : HalfMatches) → HalvesGiveKept s
-gives-hybrid = calls-kept half_kept half_shell
-
--- An iterator that begins at x.
-module _ (x : Search) (s : HalfMatches) (iter_state : steps_with_iter_state (half_steps s) ≡ fresh x)
-    (going : s.steps.done ≡ false) where
-  begins : Begins (SearchesAs hybrid_finds (pike_in s.hybrid.now)) x (steps_with_state (half_steps s))
-  begins = record { iter_state = iter_state; going = going; good = refl }
-
-  -- the calls give the half matches of the NFA
-  pub hybrid-given : HalvesGiven s.hybrid.now.nfa (kind_in s.hybrid.now) x halves_next s
-  hybrid-given = halves-given s.hybrid.now.nfa (kind_in s.hybrid.now) (half_answers s.hybrid.now x)
-      (steps_in half_shell) s begins
-
-  -- they change the hybrid only by their searches
-  pub halves-searches : HalvesBySearches x s
-  halves-searches = record {
-    on = shell-leaves hybrid_finds half_items (steps_in half_shell) (pike_in s.hybrid.now) s begins;
-    to_end = λ xs t u ran st.
-        let to_end = shell-to_end hybrid_finds half_items (steps_in half_shell) (pike_in s.hybrid.now) s begins in
-        to_end xs xs t u refl ran st;
-  }

@@ -37,3 +37,11 @@ module _ (nfa : Automaton) (kind : MatchKind) (x : Search) where
     abbrev pub HalvesRise : T → Type 0
     HalvesRise s = EachRunFrom steps s (λ p. AreRising x None (map half_found_of p.items)
         × All (λ m. IsHalfInside x (half_found_of m)) p.items)
+
+    -- all that the calls of an iterator over the half matches of x give
+    pub record HalvesGiven (s : T) : Type 0 where
+      pub runs : HalvesRun s
+      pub first : HalvesFirst s
+      pub next : HalvesNext s
+      pub are : HalvesAre s
+      pub rise : HalvesRise s

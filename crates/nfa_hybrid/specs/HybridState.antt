@@ -3,7 +3,7 @@ use Rattle.std.specs.Prelude.{◌≡◌, ◌⊎◌, ◌+◌, ◌*◌, ◌≤◌,
 use Rattle.nfa_paths.specs.Common.{Search, MatchKind, Automaton, IsWork, max_scans, span_len, total_degree}
 use Rattle.regex_search_core.specs.declared.search.MatchKind.TheVariants.{All}
 use Rattle.nfa_search_base.specs.Finds.{finds}
-use Rattle.nfa_pikevm.specs.Engines.{AddsPikeWork, PikeCache, SameCapacities}
+use Rattle.nfa_pikevm.specs.Engines.{AddsPikeWork, Pike, PikeCache, SameCapacities}
 use Rattle.nfa_pikevm.specs.Needs.{overlap_scans}
 use Rattle.nfa_lazy_dfa.specs.Configs.{kind_in as kind_set}
 use Rattle.nfa_lazy_dfa.specs.Options.{Options}
@@ -16,6 +16,10 @@ pub record HybridState : Type 0 where
   pub config : Options
   pub pike : PikeCache
   pub ran : Option Engine
+
+-- its PikeVM, which answers as it does
+abbrev pub pike_of : HybridState → Pike
+pike_of h = record { nfa = h.nfa; match_kind = h.config.match_kind }
 
 -- the match kind that both engines search with
 abbrev pub kind_in : HybridState → MatchKind

@@ -1,3 +1,4 @@
+pub mod HalfIterations
 pub mod HalfLists
 pub mod HalfRuns
 pub mod Halves

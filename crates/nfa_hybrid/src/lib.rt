@@ -13,6 +13,7 @@
 #![tactic(auto)]
 
 pub mod dfa;
+pub mod half_items;
 pub mod hybrid;
 
 pub use hybrid::{Engine, HalfMatches, Hybrid};

@@ -1,5 +1,4 @@
 pub mod AnchoredLemmas
-pub mod CapturesLemmas
 pub mod CaughtLemmas
 pub mod GapLemmas
 pub mod HalvesLemmas

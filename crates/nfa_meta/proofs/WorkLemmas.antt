@@ -1,17 +1,13 @@
 -- What the lists of a regex add to the totals of both caches of its choice.
-use Rattle.std.proofs.Common.{◌≡◌, ℕ, ◌+◌, ◌*◌, ◌≤◌, ◌⊎◌, Bool, List, length, ap, inl, inr, arith, ◌&&◌, not}
+use Rattle.std.proofs.Common.{◌≡◌, ℕ, ◌+◌, ◌*◌, ◌≤◌, ◌⊎◌, Bool, ap, inl, inr, arith, ◌&&◌, not}
 use Rattle.std.proofs.Math.Nat.{mul-le-mul_left}
-use Rattle.nfa_paths.specs.Common.{Found, Search, is_anchored, MatchKind, Automaton, span_len, total_degree}
+use Rattle.nfa_paths.specs.Common.{Search, is_anchored, MatchKind, Automaton, span_len, total_degree}
 use Rattle.nfa_paths.proofs.ExistenceLemmas.{search_answer-exists}
-use Rattle.nfa_search_base.specs.WithCaptures.{Row}
-use Rattle.nfa_engines.specs.WorkLaws.{Totals, list_scan_limit}
+use Rattle.nfa_engines.specs.WorkLaws.{Totals}
 use Rattle.nfa_engines.proofs.EngineWorkLemmas.{Worked}
 use Rattle.nfa_engines.proofs.ReachLemmas.{one-scan}
-use Rattle.nfa_choice.specs.ChoiceState.{ChoiceState, RunsByRule, kind_in}
-use Rattle.nfa_choice.specs.WorkLaws.{ChoiceAddsAtMost}
-use Rattle.nfa_choice.proofs.WorkLemmas.{Does, DoesBy, back_in, back-runs, pike_in, pike-runs, catches-within, finds-within, matches-within, rows-within}
-use Rattle.nfa_meta.specs.CapturesMatches.{CatchesByWindow, RegexCatchesOn, RegexCatchesToEnd}
-use Rattle.nfa_meta.specs.Matches.{FindsByWindow, RegexFindsOn, RegexFindsToEnd}
+use Rattle.nfa_choice.specs.ChoiceState.{ChoiceState, SearchedByRule, kind_in}
+use Rattle.nfa_choice.proofs.WorkLemmas.{DoesBy, back_in, back-runs, pike_in, pike-runs}
 use Rattle.nfa_meta.specs.WindowRuns.{IsWindowOf, RunsByWindow}
 
 by-more : (a b c : ℕ) → a ≤ b → b ≤ c → a ≤ c
@@ -47,37 +43,15 @@ module _ (nfa : Automaton) (kind : MatchKind) (y v : Search) (is : IsWindowOf nf
   window-does (inr same) = inr same
 
 -- so is what a search by windows does
-by-windows : (totals : ChoiceState → Totals)
-    → ((y : Search) (s t : ChoiceState) → RunsByRule s y y.earliest t → Does totals y s t) → (y : Search)
-    → (s t : ChoiceState) → RunsByWindow y s t → Does totals y s t
+by-windows : (totals : ChoiceState → Totals) → DoesBy totals SearchedByRule → DoesBy totals RunsByWindow
 by-windows totals runs y s t (inl (inl same)) = inr (ap totals same)
 by-windows totals runs y s t (inl (inr rule)) = runs y s t rule
 by-windows totals runs y s t (inr w) =
     window-does s.nfa (kind_in s) y w.window w.is (totals s) (totals t) (runs w.window s t w.runs)
 
-finds-back : DoesBy back_in FindsByWindow
-finds-back y s t w = (by-windows back_in back-runs y s t w.runs, w.keeps)
+-- by the totals of either cache
+pub back-windows : DoesBy back_in RunsByWindow
+back-windows = by-windows back_in back-runs
 
-finds-pike : DoesBy pike_in FindsByWindow
-finds-pike y s t w = (by-windows pike_in pike-runs y s t w.runs, w.keeps)
-
-catches-back : DoesBy back_in CatchesByWindow
-catches-back y s t w = (by-windows back_in back-runs y s t w.runs, w.keeps)
-
-catches-pike : DoesBy pike_in CatchesByWindow
-catches-pike y s t w = (by-windows pike_in pike-runs y s t w.runs, w.keeps)
-
-module _ (x : Search) where
-  pub regex-matches : (ms : List Found) (c d : ChoiceState) → RegexFindsToEnd x ms c d
-      → ChoiceAddsAtMost (list_scan_limit c.nfa x (length ms)) x c d
-  regex-matches = matches-within FindsByWindow finds-back finds-pike x
-
-  pub regex-rows : (rows : List Row) (c d : ChoiceState) → RegexCatchesToEnd x rows c d
-      → ChoiceAddsAtMost (list_scan_limit c.nfa x (length rows)) x c d
-  regex-rows = rows-within CatchesByWindow catches-back catches-pike x
-
-  pub regex-finds : (c d : ChoiceState) → RegexFindsOn x c d → ChoiceAddsAtMost (2 * span_len x + 3) x c d
-  regex-finds = finds-within FindsByWindow finds-back finds-pike x
-
-  pub regex-catches : (c d : ChoiceState) → RegexCatchesOn x c d → ChoiceAddsAtMost (2 * span_len x + 3) x c d
-  regex-catches = catches-within CatchesByWindow catches-back catches-pike x
+pub pike-windows : DoesBy pike_in RunsByWindow
+pike-windows = by-windows pike_in pike-runs

@@ -1,23 +1,28 @@
 -- The iterator over the matches of a regex.
-use Rattle.std.specs.Prelude.{◌*◌, length, List, map, None, Ok, Option, option_map, Bool}
+use Rattle.std.specs.Prelude.{List, map, None, Option, Bool}
 use Rattle.std.specs.Borrow.{MutBor}
 use Rattle.std.specs.Iterator.{Yields}
 use Rattle.nfa_paths.specs.Common.{Found, found_of, Search, Match}
-use Rattle.nfa_backtrack.specs.Backtrack.{HoldsNoMore}
 use Rattle.nfa_search_base.specs.EngineSearches.{IsKnownFrom}
-use Rattle.nfa_search_base.specs.Leaving.{DoesSearch, Leaves, LeavesAtEnd}
 use Rattle.nfa_search_base.specs.WithCache.{WithCache}
-use Rattle.nfa_search_base.specs.StepsWith.{GivesStepsWith, StepsWith, TakesStepWith}
-use Rattle.nfa_search_base.specs.Lists.{AnswersMatch}
+use Rattle.nfa_search_base.specs.StepsWith.{GivesStepsWith, StepsWith}
 use Rattle.nfa_search_base.specs.Runs.{GivesKept}
-use Rattle.nfa_search_base.specs.Steps.{GivesItem}
 use Rattle.nfa_search_base.specs.Searchers.{iter_state_of}
-use Rattle.nfa_search_base.specs.IterStates.{Answer, IterState, span_of}
+use Rattle.nfa_search_base.specs.IterStates.{Answer, IterState}
 use Rattle.nfa_pikevm.specs.Finding.{IsSureOf}
-use Rattle.nfa_choice.specs.ChoiceState.{ChoiceState, kind_in, KeepsEngines, pike_of}
+use Rattle.nfa_choice.specs.ChoiceState.{ChoiceState, KeepsEngines, pike_of}
+use Rattle.nfa_choice.specs.Iterations.{FindsBy, FindsNextBy, FindsOn, FindsToEnd, TellsMatch}
 use Rattle.nfa_meta.specs.WindowRuns.{RunsByWindow}
 use Rattle.nfa_meta.specs.declared.regex.find_iter.ByWindow.{ByWindow}
 use Rattle.nfa_meta.specs.declared.regex.find_iter.FindMatches.{FindMatches}
+
+-- an iteration over the matches of x led from one regex to the other only by its searches, as far as it went
+abbrev pub RegexFindsOn : Search → ChoiceState → ChoiceState → Type 0
+RegexFindsOn = FindsOn RunsByWindow
+
+-- the same, and the iteration went to its end, past these matches
+abbrev pub RegexFindsToEnd : Search → List Found → ChoiceState → ChoiceState → Type 0
+RegexFindsToEnd = FindsToEnd RunsByWindow
 
 -- the steps of the iterator, and the engine that it borrows
 abbrev pub finds_steps : FindMatches → StepsWith ByWindow ChoiceState
@@ -34,24 +39,6 @@ finds_iter_state s = iter_state_of s.steps.searcher
 abbrev pub finds_done : FindMatches → Bool
 finds_done s = s.steps.done
 
--- one search for a match, in a window or in the whole span
-pub record FindsByWindow (x : Search) (old new : ChoiceState) : Type 0 where
-  pub runs : RunsByWindow x old new
-  pub holds : HoldsNoMore (2 * length old.nfa.groups) old.back new.back
-  pub keeps : KeepsEngines old new
-
--- the answer of one search for a match: the match of the kind and its `earliest`, and never an error
-abbrev pub RegexTells : ChoiceState → Search → Answer Found → Type 0
-RegexTells e x a = AnswersMatch e.nfa (kind_in e) x.earliest x a
-
--- an iteration over the matches of x led from one regex to the other only by its searches, as far as it went
-abbrev pub RegexFindsOn : Search → ChoiceState → ChoiceState → Type 0
-RegexFindsOn x old new = Leaves span_of (DoesSearch (RegexTells old) (λ y a. FindsByWindow y)) x old new
-
--- the same, and the iteration went to its end, past these matches
-abbrev pub RegexFindsToEnd : Search → List Found → ChoiceState → ChoiceState → Type 0
-RegexFindsToEnd x ms old new = LeavesAtEnd span_of (DoesSearch (RegexTells old) (λ y a. FindsByWindow y)) x ms old new
-
 -- what is known of searches like this one is right
 abbrev pub MayFindByWindow : WithCache ByWindow ChoiceState → Search → Type 0
 MayFindByWindow s x = IsKnownFrom IsSureOf (pike_of s.cache) x s.backend.known
@@ -59,17 +46,13 @@ MayFindByWindow s x = IsKnownFrom IsSureOf (pike_of s.cache) x s.backend.known
 -- One search for a match may answer this: what was known of it, or what the engine finds. What is known then is right.
 pub record AsksByWindow (s : WithCache ByWindow ChoiceState) (x : Search) (a : Answer Found)
     (t : WithCache ByWindow ChoiceState) : Type 0 where
-  pub tells : RegexTells s.cache x a
-  pub work : FindsByWindow x s.cache t.cache
+  pub tells : TellsMatch s.cache x a
+  pub work : FindsBy RunsByWindow x s.cache t.cache
   pub knows : MayFindByWindow t x
 
 -- a call
-pub record FindsNext (s : FindMatches) (r : Option Match) (t : FindMatches) : Type 0 where
-  pub takes : TakesStepWith span_of AsksByWindow (λ _. GivesItem found_of) (finds_steps s)
-      (option_map (λ m. Ok m) r) (finds_steps t)
-
 abbrev pub finds_next : FindMatches → Option Match → FindMatches → Type 0
-finds_next s r t = FindsNext s r t
+finds_next s r t = FindsNextBy AsksByWindow finds_steps s r t
 
 -- the calls keep the engine, and what its answers depend on
 abbrev pub FindsGiveKept : FindMatches → Type 0

@@ -179,7 +179,8 @@ impl Choice {
 
 impl FindWith for CapturesFinder {
     ghost use Rattle.nfa_search_base.specs.WithCaptures.{Row, filled_answer, row_span, GivesCaptures};
-    ghost use Rattle.nfa_choice.specs.CapturesMatches.{AsksRowByRule, MayCatchByRule};
+    ghost use Rattle.nfa_choice.specs.ChoiceState.{SearchedByRule};
+    ghost use Rattle.nfa_choice.specs.Iterations.{AsksRowBy, MayCatch};
 
     type Cache = Choice;
 
@@ -191,13 +192,13 @@ impl FindWith for CapturesFinder {
 
     ghost span = { row_span };
 
-    ghost accepts = { λ s _. MayCatchByRule s };
+    ghost accepts = { λ s _. MayCatch s };
 
     type Item = Captures;
 
     ghost gives = { GivesCaptures };
 
-    ghost asks = { AsksRowByRule };
+    ghost asks = { AsksRowBy SearchedByRule };
 
     #[inline]
     fn answer(&mut self, choice: &mut Choice, input: &Input<'_>) -> Result<(), SearchError> {

@@ -179,7 +179,8 @@ impl Regex {
 
 impl FindWith for CapturesFinder {
     ghost use Rattle.nfa_search_base.specs.WithCaptures.{Row, filled_answer, row_span, GivesCaptures};
-    ghost use Rattle.nfa_meta.specs.CapturesMatches.{AsksRowByWindow, MayCatch};
+    ghost use Rattle.nfa_choice.specs.Iterations.{AsksRowBy, MayCatch};
+    ghost use Rattle.nfa_meta.specs.WindowRuns.{RunsByWindow};
 
     type Cache = Regex;
 
@@ -197,7 +198,7 @@ impl FindWith for CapturesFinder {
 
     ghost gives = { GivesCaptures };
 
-    ghost asks = { AsksRowByWindow };
+    ghost asks = { AsksRowBy RunsByWindow };
 
     #[inline]
     fn answer(&mut self, regex: &mut Regex, input: &Input<'_>) -> Result<(), SearchError> {

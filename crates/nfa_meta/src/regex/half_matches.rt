@@ -1,13 +1,9 @@
 //! Iteration over the half matches of an input.
-ghost use Rattle.std.specs.Prelude.{◌≡◌, ◌≤◌, Ok, Some, option_map};
-ghost use Rattle.std.specs.Option.{ForSome};
-ghost use Rattle.regex_search_core.specs.Found.{half_found_of};
-ghost use Rattle.nfa_search_base.specs.Finders.{answer_by, half_match_span};
-ghost use Rattle.nfa_search_base.specs.Steps.{ComesOfMatch, GivesItem};
 
 use crate::regex::Regex;
 use nfa_engines::error::SearchError;
 use nfa_engines::iter::{FindWith, Searcher, Steps};
+use nfa_hybrid::half_items::{half_item, half_span};
 use regex_search_core::{HalfMatch, Input, Span};
 
 /// An iterator over all half matches of an input, from left to right. [`Regex::half_matches`] returns it.
@@ -23,38 +19,11 @@ pub struct HalfMatches<'r, 'h> {
 #[derive(Debug, Drop)]
 struct ByEnds;
 
-/// Returns the span of the half match: its offset, without bytes.
-#[inline]
-fn half_span(half: Option<HalfMatch>) -> Option<Span>
-    ensures span { result ≡ half_match_span (Ok half) }
-    ensures ordered { ForSome result (λ p. p.start ≤ p.end) }
-{
-    match half {
-        Some(half) => Some(Span {
-            start: half.offset(),
-            end: half.offset(),
-        }),
-        None => None,
-    }
-}
-
-/// Returns the half match as an item.
-#[inline]
-fn half_item(half: Option<HalfMatch>) -> Option<Result<HalfMatch, SearchError>>
-    ensures gives { GivesItem half_found_of (answer_by half_found_of (Ok half)) result }
-    ensures found { ComesOfMatch (answer_by half_found_of (Ok half)) result }
-{
-    match half {
-        Some(half) => Some(Ok(half)),
-        None => None,
-    }
-}
-
 impl Regex {
     ghost use Rattle.std.specs.Prelude.{◌≡◌, false};
     ghost use Rattle.regex_search_core.specs.Search.{search_of};
     ghost use Rattle.nfa_search_base.specs.IterStates.{fresh};
-    ghost use Rattle.nfa_hybrid.specs.HalfRuns.{HalvesAre, HalvesFirst, HalvesNext, HalvesRise, HalvesRun};
+    ghost use Rattle.nfa_hybrid.specs.HalfRuns.{HalvesGiven};
     ghost use Rattle.nfa_choice.specs.ChoiceState.{kind_in};
     ghost use Rattle.nfa_meta.specs.Halves.{HalvesBySearches, HalvesGiveKept};
     ghost use Rattle.nfa_meta.specs.Halves.{halves_done, halves_regex, halves_iter_state, halves_next};
@@ -79,16 +48,8 @@ impl Regex {
         ensures iter_state { halves_iter_state result ≡ fresh (search_of input.entry) }
         ensures going { halves_done result ≡ false }
         // Each run of calls gives the first half matches of the input, and all of them if it goes on to `None`.
-        ensures runs { HalvesRun self.entry.now.nfa (kind_in self.entry.now)
-            (search_of input.entry) halves_next result }
-        ensures are { HalvesAre self.entry.now.nfa (kind_in self.entry.now)
-            (search_of input.entry) halves_next result }
-        ensures rise { HalvesRise self.entry.now.nfa (kind_in self.entry.now)
-            (search_of input.entry) halves_next result }
-        ensures first { HalvesFirst self.entry.now.nfa (kind_in self.entry.now)
-            (search_of input.entry) halves_next result }
-        ensures next { HalvesNext self.entry.now.nfa (kind_in self.entry.now)
-            (search_of input.entry) halves_next result }
+        ensures given { HalvesGiven self.entry.now.nfa (kind_in self.entry.now) (search_of input.entry) halves_next
+            result }
         // The engines change only by the searches of the steps.
         ensures searches { HalvesBySearches (search_of input.entry) result }
         ensures keeps { HalvesGiveKept result }
@@ -110,7 +71,9 @@ impl FindWith for ByEnds {
     ghost use Rattle.nfa_search_base.specs.Steps.{GivesItem};
     ghost use Rattle.nfa_search_base.specs.IterStates.{half_span_of};
     ghost use Rattle.nfa_search_base.specs.Serving.{may_ask};
-    ghost use Rattle.nfa_meta.specs.Halves.{AsksByEnds};
+    ghost use Rattle.nfa_choice.specs.ChoiceState.{pike_of};
+    ghost use Rattle.nfa_hybrid.specs.HalfIterations.{AsksHalf};
+    ghost use Rattle.nfa_meta.specs.Halves.{FindsHalfAfterDfa};
     ghost use Rattle.std.specs.Prelude.{Ok};
 
     type Cache = Regex;
@@ -129,7 +92,7 @@ impl FindWith for ByEnds {
 
     ghost gives = { λ _. GivesItem half_found_of };
 
-    ghost asks = { AsksByEnds };
+    ghost asks = { AsksHalf pike_of FindsHalfAfterDfa };
 
     #[inline]
     fn answer(&mut self, regex: &mut Regex, input: &Input<'_>) -> Option<HalfMatch> {

@@ -1,16 +1,22 @@
 -- The iterator gives the matches of its input, and keeps the choice.
 use Rattle.std.proofs.Common.{refl}
 use Rattle.nfa_paths.specs.Common.{search_of}
-use Rattle.nfa_choice.proofs.FindLemmas.{finds-given, finds-searches, gives-choice}
+use Rattle.nfa_choice.specs.Matches.{choice_matches}
+use Rattle.nfa_choice.proofs.FindLemmas.{finds-given, finds-kept, finds-on, finds-to_end, rule_finder}
 use Rattle.nfa_choice.proofs.choose.Choice.find_iter.Goals as goal
 
 pub returns : goal.returns
 returns c =
     let x = search_of c.args.input in
-    let given = finds-given x _ c.new.ensures refl in
+    let given = finds-given rule_finder choice_matches x _ c.new.ensures refl in
     record {
       same_reference = refl;
       same_choice = refl;
+      searches = record {
+        on = finds-on rule_finder choice_matches x _ c.new.ensures refl;
+        to_end = finds-to_end rule_finder choice_matches x _ c.new.ensures refl;
+      };
+      keeps = finds-kept rule_finder choice_matches _;
       iter_state = c.new.ensures;
       going = refl;
       runs = given.runs;
@@ -18,6 +24,4 @@ returns c =
       disjoint = given.disjoint;
       first = given.first;
       next = given.next;
-      searches = finds-searches x _ c.new.ensures refl;
-      keeps = gives-choice _;
     }

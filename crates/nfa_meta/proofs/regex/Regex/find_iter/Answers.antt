@@ -1,16 +1,23 @@
 -- The iterator gives the matches of its input, and keeps the engine.
 use Rattle.std.proofs.Common.{refl}
 use Rattle.nfa_paths.specs.Common.{search_of}
-use Rattle.nfa_meta.proofs.MatchesLemmas.{finds-given, finds-searches, gives-regex}
+use Rattle.nfa_choice.proofs.FindLemmas.{finds-given, finds-kept, finds-on, finds-to_end}
+use Rattle.nfa_meta.specs.Matches.{finds_steps}
+use Rattle.nfa_meta.proofs.MatchesLemmas.{regex_finder}
 use Rattle.nfa_meta.proofs.regex.Regex.find_iter.Goals as goal
 
 pub returns : goal.returns
 returns c =
     let x = search_of c.args.input in
-    let given = finds-given x _ c.new.ensures refl in
+    let given = finds-given regex_finder finds_steps x _ c.new.ensures refl in
     record {
       same_reference = refl;
       same_regex = refl;
+      searches = record {
+        on = finds-on regex_finder finds_steps x _ c.new.ensures refl;
+        to_end = finds-to_end regex_finder finds_steps x _ c.new.ensures refl;
+      };
+      keeps = finds-kept regex_finder finds_steps _;
       iter_state = c.new.ensures;
       going = refl;
       runs = given.runs;
@@ -18,6 +25,4 @@ returns c =
       disjoint = given.disjoint;
       first = given.first;
       next = given.next;
-      searches = finds-searches x _ c.new.ensures refl;
-      keeps = gives-regex _;
     }

@@ -1,23 +1,20 @@
 -- The iterator gives the half matches of its input, and keeps the engine.
 use Rattle.std.proofs.Common.{refl}
 use Rattle.nfa_paths.specs.Common.{search_of}
-use Rattle.nfa_meta.proofs.HalvesLemmas.{gives-regex, halves-searches, halves-of}
+use Rattle.nfa_hybrid.proofs.HalvesLemmas.{halves-kept, halves-of, halves-searches}
+use Rattle.nfa_meta.specs.Halves.{half_steps}
+use Rattle.nfa_meta.proofs.HalvesLemmas.{regex_engine}
 use Rattle.nfa_meta.proofs.regex.Regex.half_matches.Goals as goal
 
 pub returns : goal.returns
 returns c =
     let x = search_of c.args.input in
-    let given = halves-of x _ c.new.ensures refl in
     record {
       same_reference = refl;
       same_regex = refl;
       iter_state = c.new.ensures;
       going = refl;
-      runs = given.runs;
-      are = given.are;
-      rise = given.rise;
-      first = given.first;
-      next = given.next;
-      searches = halves-searches x _ c.new.ensures refl;
-      keeps = gives-regex _;
+      given = halves-of regex_engine half_steps x _ c.new.ensures refl;
+      searches = halves-searches regex_engine half_steps x _ c.new.ensures refl;
+      keeps = halves-kept regex_engine half_steps _;
     }

@@ -5,10 +5,10 @@ use Rattle.nfa_search_base.specs.StepsWith.{steps_with_state}
 use Rattle.nfa_search_base.specs.IterStates.{span_of}
 use Rattle.nfa_search_base.proofs.StoredLemmas.{surely-inside}
 use Rattle.nfa_choice.specs.Matches.{AsksByRule, choice_matches}
-use Rattle.nfa_choice.proofs.FindLemmas.{choice-serves}
+use Rattle.nfa_choice.proofs.FindLemmas.{finder-serves, rule_finder}
 use Rattle.nfa_choice.proofs.choose.find_iter.ChoiceMatchesIterator.next.Goals as goal
 
 pub next_with-requires : goal.next_with-requires
-next_with-requires c = surely-inside may_ask AsksByRule span_of found_of
-    (steps_with_state (choice_matches c.args.self.now))
-    (choice-serves (steps_with_state (choice_matches c.args.self.now)))
+next_with-requires c =
+    let s = steps_with_state (choice_matches c.args.self.now) in
+    surely-inside may_ask AsksByRule span_of found_of s (finder-serves rule_finder s tt)

@@ -4,11 +4,13 @@ use Rattle.nfa_search_base.specs.Serving.{may_ask}
 use Rattle.nfa_search_base.specs.StepsWith.{steps_with_state}
 use Rattle.nfa_search_base.specs.IterStates.{half_span_of}
 use Rattle.nfa_search_base.proofs.StoredLemmas.{surely-inside}
-use Rattle.nfa_hybrid.specs.Halves.{AsksInTurn, half_steps}
-use Rattle.nfa_hybrid.proofs.HalvesLemmas.{hybrid-serves}
+use Rattle.nfa_hybrid.specs.HalfIterations.{AsksHalf}
+use Rattle.nfa_hybrid.specs.HybridState.{pike_of}
+use Rattle.nfa_hybrid.specs.Halves.{FindsHalfInTurn, half_steps}
+use Rattle.nfa_hybrid.proofs.HalvesLemmas.{halves-serve, hybrid_engine}
 use Rattle.nfa_hybrid.proofs.hybrid.half_matches.HalfMatchesIterator.next.Goals as goal
 
 pub next_with-requires : goal.next_with-requires
-next_with-requires c = surely-inside may_ask AsksInTurn half_span_of half_found_of
-    (steps_with_state (half_steps c.args.self.now))
-    (hybrid-serves (steps_with_state (half_steps c.args.self.now)))
+next_with-requires c =
+    let s = steps_with_state (half_steps c.args.self.now) in
+    surely-inside may_ask (AsksHalf pike_of FindsHalfInTurn) half_span_of half_found_of s (halves-serve hybrid_engine s)
