@@ -49,30 +49,35 @@ same_start-after_shifted w None = record { haystack = refl; end = refl; anchored
 same_start-after_shifted w (Some p) = record { haystack = refl; end = refl; anchored = refl; earliest = refl }
 
 -- If calls from good states are calls of another, as `shown`, and lead to good states, so do steps.
-pub step-shown : {S T X : Type 0} {span : X → Span} {asks : S → Search → Answer X → S → Type 0}
-    {asks' : T → Search → Answer X → T → Type 0} {s s' : S} {w w' : IterState} {a : Answer X} (shown : S → T)
-    (Good : S → Type 0)
-    → ((q : S) (t : Search) (b : Answer X) (q' : S) → SameButStart w.at t → Good q → asks q t b q'
-    → asks' (shown q) t b (shown q') × Good q')
-    → Good s → Advances span asks s w a s' w' → Advances span asks' (shown s) w a (shown s') w' × Good s'
-step-shown {span = span} {s = s} {s' = s'} {w = w} {a = a} shown Good acts good step =
-    let one = acts s w.at step.answer step.between (same_start-self w.at) good step.first in
-    elim (chosen (repeats w (answer_span span step.answer)) step.rest) [
-      | inl p ↦
-          let two = acts step.between (shifted w).at a s' (same_start-shifted w) one.1 p.1.0 in (
-            record { answer = step.answer; between = shown step.between; first = one.0; rest = rw p.0 (two.0, p.1.1) },
-            two.1,
-          )
-      | inr p ↦ (
-        record {
-          answer = step.answer;
-          between = shown step.between;
-          first = one.0;
-          rest = rw p.0 (p.1.0, ap shown p.1.1, p.1.2);
-        },
-        rw p.1.1 one.1,
-      )
-    ]
+module _ {S T X : Type 0} {span : X → Span} {asks : S → Search → Answer X → S → Type 0}
+    {asks' : T → Search → Answer X → T → Type 0} (shown : S → T) (Good : S → Type 0) where
+  pub step-shown : {s s' : S} {w w' : IterState} {a : Answer X}
+      → ((q : S) (t : Search) (b : Answer X) (q' : S) → SameButStart w.at t → Good q → asks q t b q'
+      → asks' (shown q) t b (shown q') × Good q')
+      → Good s → Advances span asks s w a s' w' → Advances span asks' (shown s) w a (shown s') w' × Good s'
+  step-shown {s = s} {s' = s'} {w = w} {a = a} acts good step =
+      let one = acts s w.at step.answer step.between (same_start-self w.at) good step.first in
+      elim (chosen (repeats w (answer_span span step.answer)) step.rest) [
+        | inl p ↦
+            let two = acts step.between (shifted w).at a s' (same_start-shifted w) one.1 p.1.0 in (
+              record {
+                answer = step.answer;
+                between = shown step.between;
+                first = one.0;
+                rest = rw p.0 (two.0, p.1.1);
+              },
+              two.1,
+            )
+        | inr p ↦ (
+          record {
+            answer = step.answer;
+            between = shown step.between;
+            first = one.0;
+            rest = rw p.0 (p.1.0, ap shown p.1.1, p.1.2);
+          },
+          rw p.1.1 one.1,
+        )
+      ]
 
 -- A step from the state f and the iteration w.
 module _ {S X : Type 0} {accepts : S → Search → Type 0} {asks : S → Search → Answer X → S → Type 0} {span : X → Span}
