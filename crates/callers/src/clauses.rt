@@ -1,5 +1,5 @@
 //! Callers that state the promises of one word in a contract as clauses of their own, with no proof file.
-ghost use Rattle.std.specs.Prelude.{◌≡◌, ◌⊎◌, ◌↔◌, ◌≤◌, ◌*◌, ◌+◌, false, length, IfErr, IfOk, IsErrOf, OnErr, OnOk};
+ghost use Rattle.std.specs.Prelude.{◌≡◌, ◌⊎◌, ◌↔◌, ◌≤◌, ◌*◌, ◌+◌, Some, false, length, IfErr, IfOk, IsErrOf, OnErr, OnOk};
 ghost use Rattle.nfa_engines.specs.Backtrack.{AddsBacktrackWork, CountsAnswer, CountsRefusal, GrowsBlocks, HoldsNoMore};
 ghost use Rattle.nfa_engines.specs.Backtrack.{IsTooLong, refused_early};
 ghost use Rattle.nfa_engines.specs.BacktrackCapturesMatches.{backtrack_captures_next};
@@ -10,21 +10,25 @@ ghost use Rattle.nfa_engines.specs.CapturesRuns.{CapturesRun, MatchesInAll, Matc
 ghost use Rattle.nfa_engines.specs.CapturesRuns.{MatchesInRun, RowsAll, RowsFirst, RowsNext, RowsRun};
 ghost use Rattle.nfa_engines.specs.Engines.{AddsPikeWork, Fits, SameCapacities, kind_of};
 ghost use Rattle.nfa_engines.specs.MatchKind.TheVariants.{LeftmostFirst};
+ghost use Rattle.nfa_engines.specs.Needs.{overlap_scans};
 ghost use Rattle.nfa_engines.specs.Paths.{IsWithinScans, IsWork, max_scans, span_len, total_degree};
 ghost use Rattle.nfa_engines.specs.PikeVMCapturesMatches.{pike_captures_next};
 ghost use Rattle.nfa_engines.specs.Search.{search_of};
 ghost use Rattle.nfa_choice.specs.CapturesMatches.{choice_catches_next};
 ghost use Rattle.nfa_choice.specs.ChoiceState.{kind_in};
+ghost use Rattle.nfa_choice.specs.declared.choose.Engine.TheVariants as engine;
+ghost use Rattle.nfa_hybrid.specs.HalfRuns.{HalvesAre, HalvesFirst, HalvesNext, HalvesRise, HalvesRun};
 ghost use Rattle.nfa_meta.specs.CapturesMatches.{catches_next};
+ghost use Rattle.nfa_meta.specs.Halves.{halves_next};
 
 use nfa_choice::Choice;
 use nfa_choice::choose::ChoiceCaptures;
 use nfa_engines::backtrack::{self, BoundedBacktracker, TryCapturesMatches};
 use nfa_engines::error::SearchError;
 use nfa_engines::pikevm::{self, CapturesMatches, PikeVM};
-use nfa_engines::{Input, NonMaxUsize, PatternID};
+use nfa_engines::{Input, NonMaxUsize, PatternID, PatternSet};
 use nfa_meta::Regex;
-use nfa_meta::regex::CapturesMatches as RegexCaptures;
+use nfa_meta::regex::{CapturesMatches as RegexCaptures, HalfMatches};
 use std::alloc::Global;
 
 /// Returns the answer of a PikeVM. What it counted and what it kept are a clause each.
@@ -187,4 +191,30 @@ pub fn captured_by_regex<'r, 'h>(
     ensures disjoint { IfOk result (CapturesDisjoint catches_next (search_of input.entry)) }
 {
     regex.captures_iter(alloc, input)
+}
+
+/// Returns the half matches that a regex iterates over. What they are is a clause for each way to go through them.
+pub fn halves_by_regex<'r, 'h>(regex: &'r mut Regex, input: Input<'h>) -> HalfMatches<'r, 'h>
+    ensures runs { HalvesRun regex.entry.now.nfa (kind_in regex.entry.now) (search_of input.entry) halves_next result }
+    ensures are { HalvesAre regex.entry.now.nfa (kind_in regex.entry.now) (search_of input.entry) halves_next result }
+    ensures rise { HalvesRise regex.entry.now.nfa (kind_in regex.entry.now) (search_of input.entry) halves_next
+        result }
+    ensures first { HalvesFirst regex.entry.now.nfa (kind_in regex.entry.now) (search_of input.entry) halves_next
+        result }
+    ensures next { HalvesNext regex.entry.now.nfa (kind_in regex.entry.now) (search_of input.entry) halves_next
+        result }
+{
+    regex.half_matches(input)
+}
+
+/// Adds the patterns of all matches to the set, by a choice. What it ran and counted are a clause each.
+pub fn set_by_choice(choice: &mut Choice, input: &Input<'_>, patterns: &mut PatternSet)
+    ensures ran { choice.new.ran ≡ Some engine.PikeVM }
+    ensures back { choice.new.back ≡ choice.old.back }
+    ensures total { AddsPikeWork choice.old.pike choice.new.pike }
+    ensures scans { choice.new.pike.scans ≡ overlap_scans (kind_in choice.old) patterns.old }
+    ensures turns { choice.new.pike.turns ≤ choice.new.pike.scans * ((1 + total_degree choice.old.nfa)
+        * (span_len (search_of input.now) + 1)) }
+{
+    choice.which_overlapping_matches(input, patterns);
 }

@@ -67,10 +67,10 @@ pub position-moved : (b : Bool) (o : Option Position) (text : List ℕ) (from to
 position-moved true o text from to is = rw is refl
 position-moved false o text from to is = rw is refl
 
-pub position-given : (b : Bool) (o : Option Position) (text : List ℕ) (at : ℕ) → o ≡ position_if b text at
+pub position_given : (b : Bool) (o : Option Position) (text : List ℕ) (at : ℕ) → o ≡ position_if b text at
     → IfSome o (λ p. p ≡ position_at text at)
-position-given true o text at is = rw is refl
-position-given false o text at is = rw is tt
+position_given true o text at is = rw is refl
+position_given false o text at is = rw is tt
 
 -- What a line and a column count.
 

@@ -1,7 +1,7 @@
 -- That the rules of lines are made one after the other.
 use Rattle.std.proofs.Common.{◌≡◌, ◌∙◌, ℕ, ◌+◌, ◌<◌, true, false, List, [], ◌∷◌, ◌++◌, length, drop, arith, refl, sym, add-one, append_assoc, append-nil, below_more, drop-cons, cond, not, slice_index_or}
 use Rattle.std.proofs.lemmas.List.{drop_all}
-use Rattle.lexer.specs.Rules.{AreRulesOf, HasParsed, HasRule, IsFirstWrong, IsRuleAt, is_left_out, rule_lines}
+use Rattle.lexer.specs.Rules.{AreRulesOf, HasParsed, IsRuleAt, is_left_out, rule_lines}
 use Rattle.lexer.specs.declared.rules.Rule.{Rule}
 
 module _ (lines : List (List ℕ)) where
@@ -14,9 +14,6 @@ module _ (lines : List (List ℕ)) where
   cut : (i : ℕ) → i < length lines → lines_from i
       ≡ cond (not (is_left_out (line_at i))) ((i + 1, line_at i) ∷ lines_from (i + 1)) (lines_from (i + 1))
   cut i within = rw (drop-cons lines i [], add-one) refl
-
-  pub parsed-none : HasParsed lines 0 []
-  parsed-none = record { so_far = λ more h. h; fine = λ k less. absurd (omega arith) }
 
   pub parsed-left-out : (i : ℕ) (rules : List Rule) → i < length lines → is_left_out (line_at i) ≡ true
       → HasParsed lines i rules → HasParsed lines (i + 1) rules
@@ -37,12 +34,3 @@ module _ (lines : List (List ℕ)) where
   parsed-all i rules end p =
       let none : drop i lines ≡ [] = drop_all i lines (omega (arith, end)) in
       rw append-nil at (p.so_far [] (rw none tt))
-
-  pub parsed-wrong : (i : ℕ) (rules : List Rule) → i < length lines → is_left_out (line_at i) ≡ false
-      → ¬ HasRule (line_at i) → HasParsed lines i rules → IsFirstWrong lines (i + 1)
-  parsed-wrong i rules within kept none p = record {
-    index = i;
-    number_is = refl;
-    wrong = record { within = within; kept = kept; no_rule = none };
-    first = p.fine;
-  }

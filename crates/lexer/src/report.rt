@@ -2,17 +2,15 @@
 ghost use Rattle.std.specs.Prelude.{◌≡◌, IfOk, IfSome, List, OnOk, is_none};
 ghost use Rattle.std.specs.Io.KnownBytes.{Appends};
 ghost use Rattle.regex_hir.specs.Re.{Re};
-ghost use Rattle.nfa_compiler.specs.Compiled.{AreMeant};
 ghost use Rattle.lexer.specs.Lexed.{stuck_in};
-ghost use Rattle.lexer.specs.Patterns.{rule_patterns, rule_syntax};
-ghost use Rattle.lexer.specs.Printed.{piece_lines};
-ghost use Rattle.lexer.specs.Printed.{printed_text, printed_tokens};
+ghost use Rattle.lexer.specs.Patterns.{Mean, rule_patterns};
+ghost use Rattle.lexer.specs.Printed.{piece_lines, printed_text, printed_tokens};
 ghost use Rattle.lexer.specs.Recovered.{recovered};
 
 use crate::lexer::Lexer;
 use crate::position::moved;
 use crate::rules::Rule;
-use crate::shown::{first_shown, shown_at, write_piece, write_stuck, write_token};
+use crate::shown::{first_shown, shown_at, write_stuck};
 use std::alloc::Global;
 use std::io;
 use std::io::{Read, Write};
@@ -28,6 +26,15 @@ pub struct Style<'s> {
     pub recover: bool,
     /// Whether the line and the column of each token are printed.
     pub positions: bool,
+}
+
+/// A text, the rules of its tokens, and how they are printed.
+#[derive(Clone, Copy)]
+pub struct Report<'r, 't, 's> {
+    pub alloc: Global,
+    pub rules: &'r [Rule<'t>],
+    pub style: Style<'s>,
+    pub text: &'r [u8],
 }
 
 /// Reads the text to its end and prints its tokens but those of the rules to skip, and returns whether they are the
@@ -48,98 +55,89 @@ pub fn run<R: Read + Drop, W: Write>(
     out: &mut W,
 ) -> io::Result<bool>
     requires { lexer.old ≡ rule_patterns rules.now }
-    ensures printed { OnOk result ((res : List Re) → AreMeant rule_syntax (rule_patterns rules.now) res
+    ensures printed { OnOk result ((res : List Re) → Mean rules.now res
         → IfSome (R.remaining input) (λ text. Appends (W.contents out.old) (W.contents out.new)
         (printed_text style.entry rules.now res text))) }
-    ensures whole { IfOk result (λ whole. (res : List Re) → AreMeant rule_syntax (rule_patterns rules.now) res
+    ensures whole { IfOk result (λ whole. (res : List Re) → Mean rules.now res
         → IfSome (R.remaining input) (λ text. whole ≡ is_none (stuck_in res text))) }
 {
     let mut text = Vec::new(alloc);
     input.read_to_end(&mut text)?;
-    print_text(alloc, lexer, rules, style, &text, out)
+    let report = Report {
+        alloc,
+        rules,
+        style,
+        text: &text,
+    };
+    report.print(lexer, out)
 }
 
-/// Prints the tokens of the text, or its pieces, and returns whether the tokens are the whole text.
-fn print_text<W: Write>(
-    alloc: Global,
-    lexer: &mut Lexer<'_>,
-    rules: &[Rule<'_>],
-    style: Style<'_>,
-    text: &[u8],
-    out: &mut W,
-) -> io::Result<bool>
-    requires { lexer.old ≡ rule_patterns rules.now }
-    ensures printed { OnOk result ((res : List Re) → AreMeant rule_syntax (rule_patterns rules.now) res
-        → Appends (W.contents out.old) (W.contents out.new) (printed_text style.entry rules.now res text.now)) }
-    ensures whole { IfOk result (λ whole. (res : List Re) → AreMeant rule_syntax (rule_patterns rules.now) res
-        → whole ≡ is_none (stuck_in res text.now)) }
-{
-    if style.recover {
-        return print_pieces(alloc, lexer, rules, style, text, out);
+impl Report<'_, '_, '_> {
+    /// Prints the tokens of the text, or its pieces, and returns whether the tokens are the whole text.
+    fn print<W: Write>(&self, lexer: &mut Lexer<'_>, out: &mut W) -> io::Result<bool>
+        requires { lexer.old ≡ rule_patterns self.now.rules.now }
+        ensures printed { OnOk result ((res : List Re) → Mean self.now.rules.now res
+            → Appends (W.contents out.old) (W.contents out.new)
+            (printed_text self.now.style self.now.rules.now res self.now.text.now)) }
+        ensures whole { IfOk result (λ whole. (res : List Re) → Mean self.now.rules.now res
+            → whole ≡ is_none (stuck_in res self.now.text.now)) }
+    {
+        if self.style.recover {
+            return self.print_pieces(lexer, out);
+        }
+        self.print_tokens(lexer, out)
     }
-    print_tokens(alloc, lexer, rules, style, text, out)
-}
 
-/// Prints the pieces of the text, and returns whether all are tokens.
-fn print_pieces<W: Write>(
-    alloc: Global,
-    lexer: &mut Lexer<'_>,
-    rules: &[Rule<'_>],
-    style: Style<'_>,
-    text: &[u8],
-    out: &mut W,
-) -> io::Result<bool>
-    requires { lexer.old ≡ rule_patterns rules.now }
-    ensures printed { OnOk result ((res : List Re) → AreMeant rule_syntax (rule_patterns rules.now) res
-        → Appends (W.contents out.old) (W.contents out.new)
-        (piece_lines style.entry rules.now text.now (recovered res text.now))) }
-    ensures whole { IfOk result (λ whole. (res : List Re) → AreMeant rule_syntax (rule_patterns rules.now) res
-        → whole ≡ is_none (stuck_in res text.now)) }
-{
-    let mut whole = true;
-    let mut position = first_shown(style.positions);
-    let mut at = 0;
-    while at < text.len() {
-        let piece = lexer.piece_at(text, at);
-        let span = piece.span();
-        let shown = shown_at(text, span, position);
-        write_piece(alloc, out, rules, &style, piece, &shown)?;
-        whole &= piece.is_token();
-        position = moved(position, text, at, span.end);
-        at = span.end;
+    /// Prints the pieces of the text, and returns whether all are tokens.
+    #[tactic(auto, using(crate::proofs::PositionLemmas::position_given))]
+    fn print_pieces<W: Write>(&self, lexer: &mut Lexer<'_>, out: &mut W) -> io::Result<bool>
+        requires { lexer.old ≡ rule_patterns self.now.rules.now }
+        ensures printed { OnOk result ((res : List Re) → Mean self.now.rules.now res
+            → Appends (W.contents out.old) (W.contents out.new)
+            (piece_lines self.now.style self.now.rules.now self.now.text.now (recovered res self.now.text.now))) }
+        ensures whole { IfOk result (λ whole. (res : List Re) → Mean self.now.rules.now res
+            → whole ≡ is_none (stuck_in res self.now.text.now)) }
+    {
+        let mut whole = true;
+        let mut position = first_shown(self.style.positions);
+        let mut at = 0;
+        while at < self.text.len() {
+            let piece = lexer.piece_at(self.text, at);
+            let span = piece.span();
+            let shown = shown_at(self.text, span, position);
+            self.write_piece(out, piece, &shown)?;
+            whole &= piece.is_token();
+            position = moved(position, self.text, at, span.end);
+            at = span.end;
+        }
+        out.flush()?;
+        Ok(whole)
     }
-    out.flush()?;
-    Ok(whole)
-}
 
-/// Prints the tokens of the text, and returns whether they are the whole text.
-fn print_tokens<W: Write>(
-    alloc: Global,
-    lexer: &mut Lexer<'_>,
-    rules: &[Rule<'_>],
-    style: Style<'_>,
-    text: &[u8],
-    out: &mut W,
-) -> io::Result<bool>
-    requires { lexer.old ≡ rule_patterns rules.now }
-    ensures printed { OnOk result ((res : List Re) → AreMeant rule_syntax (rule_patterns rules.now) res
-        → Appends (W.contents out.old) (W.contents out.new) (printed_tokens style.entry rules.now res text.now)) }
-    ensures whole { IfOk result (λ whole. (res : List Re) → AreMeant rule_syntax (rule_patterns rules.now) res
-        → whole ≡ is_none (stuck_in res text.now)) }
-{
-    let mut position = first_shown(style.positions);
-    let mut at = 0;
-    while at < text.len() {
-        let Some(token) = lexer.token_at(text, at) else {
-            write_stuck(out, style.json, at, position)?;
-            out.flush()?;
-            return Ok(false);
-        };
-        let shown = shown_at(text, token.span, position);
-        write_token(alloc, out, rules, &style, token.pattern, &shown)?;
-        position = moved(position, text, at, token.span.end);
-        at = token.span.end;
+    /// Prints the tokens of the text, and returns whether they are the whole text.
+    #[tactic(auto, using(crate::proofs::PositionLemmas::position_given))]
+    fn print_tokens<W: Write>(&self, lexer: &mut Lexer<'_>, out: &mut W) -> io::Result<bool>
+        requires { lexer.old ≡ rule_patterns self.now.rules.now }
+        ensures printed { OnOk result ((res : List Re) → Mean self.now.rules.now res
+            → Appends (W.contents out.old) (W.contents out.new)
+            (printed_tokens self.now.style self.now.rules.now res self.now.text.now)) }
+        ensures whole { IfOk result (λ whole. (res : List Re) → Mean self.now.rules.now res
+            → whole ≡ is_none (stuck_in res self.now.text.now)) }
+    {
+        let mut position = first_shown(self.style.positions);
+        let mut at = 0;
+        while at < self.text.len() {
+            let Some(token) = lexer.token_at(self.text, at) else {
+                write_stuck(out, self.style.json, at, position)?;
+                out.flush()?;
+                return Ok(false);
+            };
+            let shown = shown_at(self.text, token.span, position);
+            self.write_token(out, token.pattern, &shown)?;
+            position = moved(position, self.text, at, token.span.end);
+            at = token.span.end;
+        }
+        out.flush()?;
+        Ok(true)
     }
-    out.flush()?;
-    Ok(true)
 }

@@ -16,7 +16,7 @@ ghost use Rattle.regex_search_core.specs.Patterns.{number_of};
 use crate::lexer::Piece;
 use crate::names::is_in;
 use crate::position::Position;
-use crate::report::Style;
+use crate::report::Report;
 use crate::rules::Rule;
 use regex_search_core::{PatternID, Span};
 use serde_json::Value;
@@ -99,57 +99,69 @@ fn write_stuck_line<W: Write>(out: &mut W, at: usize, position: Option<Position>
     Ok(())
 }
 
-/// Writes the line of the piece, if pieces of its kind are printed.
-pub fn write_piece<W: Write>(
-    alloc: Global,
-    out: &mut W,
-    rules: &[Rule<'_>],
-    style: &Style<'_>,
-    piece: Piece,
-    shown: &Shown<'_>,
-) -> io::Result<()>
-    ensures { OnOk result (Appends (W.contents out.old) (W.contents out.new)
-        (kind_line style.now rules.now (piece_found piece).pattern shown.now.span shown.now.position
-        shown.now.text.now)) }
-{
-    match piece {
-        Piece::Token(token) => write_token(alloc, out, rules, style, token.pattern, shown),
-        Piece::Error(_) => write_error(alloc, out, style, shown),
+impl Report<'_, '_, '_> {
+    /// Writes the line of the piece, if pieces of its kind are printed.
+    pub fn write_piece<W: Write>(
+        &self,
+        out: &mut W,
+        piece: Piece,
+        shown: &Shown<'_>,
+    ) -> io::Result<()>
+        ensures { OnOk result (Appends (W.contents out.old) (W.contents out.new)
+            (kind_line self.now.style self.now.rules.now (piece_found piece).pattern shown.now.span shown.now.position
+            shown.now.text.now)) }
+    {
+        match piece {
+            Piece::Token(token) => self.write_token(out, token.pattern, shown),
+            Piece::Error(_) => self.write_error(out, shown),
+        }
     }
-}
 
-/// Writes the line of a stretch at which no token starts.
-fn write_error<W: Write>(
-    alloc: Global,
-    out: &mut W,
-    style: &Style<'_>,
-    shown: &Shown<'_>,
-) -> io::Result<()>
-    ensures { OnOk result (Appends (W.contents out.old) (W.contents out.new)
-        (error_line style.now shown.now.span shown.now.position shown.now.text.now)) }
-{
-    if style.json {
-        return write_object(alloc, out, ERROR, shown);
+    /// Writes the line of a stretch at which no token starts.
+    fn write_error<W: Write>(&self, out: &mut W, shown: &Shown<'_>) -> io::Result<()>
+        ensures { OnOk result (Appends (W.contents out.old) (W.contents out.new)
+            (error_line self.now.style shown.now.span shown.now.position shown.now.text.now)) }
+    {
+        if self.style.json {
+            return write_object(self.alloc, out, ERROR, shown);
+        }
+        write_named(out, ERROR, shown)
     }
-    write_named(out, ERROR, shown)
-}
 
-/// Writes the line of a token of this pattern, if tokens of its rule are printed.
-pub fn write_token<W: Write>(
-    alloc: Global,
-    out: &mut W,
-    rules: &[Rule<'_>],
-    style: &Style<'_>,
-    pattern: PatternID,
-    shown: &Shown<'_>,
-) -> io::Result<()>
-    ensures { OnOk result (Appends (W.contents out.old) (W.contents out.new)
-        (pattern_line style.now rules.now (number_of pattern) shown.now.span shown.now.position
-        shown.now.text.now)) }
-{
-    match rule_at(rules, pattern.as_usize()) {
-        Some(rule) => write_unless_skipped(alloc, out, rule, style, shown),
-        None => write_named(out, "?", shown),
+    /// Writes the line of a token of this pattern, if tokens of its rule are printed.
+    pub fn write_token<W: Write>(
+        &self,
+        out: &mut W,
+        pattern: PatternID,
+        shown: &Shown<'_>,
+    ) -> io::Result<()>
+        ensures { OnOk result (Appends (W.contents out.old) (W.contents out.new)
+            (pattern_line self.now.style self.now.rules.now (number_of pattern) shown.now.span shown.now.position
+            shown.now.text.now)) }
+    {
+        match rule_at(self.rules, pattern.as_usize()) {
+            Some(rule) => self.write_unless_skipped(out, rule, shown),
+            None => write_named(out, "?", shown),
+        }
+    }
+
+    /// Writes the line of a token of this rule, if tokens of the rule are printed.
+    fn write_unless_skipped<W: Write>(
+        &self,
+        out: &mut W,
+        rule: &Rule<'_>,
+        shown: &Shown<'_>,
+    ) -> io::Result<()>
+        ensures { OnOk result (Appends (W.contents out.old) (W.contents out.new)
+            (shown_unless_skipped self.now.style rule.now shown.now.span shown.now.position shown.now.text.now)) }
+    {
+        if is_in(self.style.skip, rule.name) {
+            return Ok(());
+        }
+        if self.style.json {
+            return write_object(self.alloc, out, rule.name, shown);
+        }
+        write_rule(out, rule, shown)
     }
 }
 
@@ -158,26 +170,6 @@ fn rule_at<'s, 't>(rules: &'s [Rule<'t>], number: usize) -> Option<&'s Rule<'t>>
     ensures { option_map (λ rule. rule.now) result ≡ slice_get rules.now number }
 {
     rules.get(number)
-}
-
-/// Writes the line of a token of this rule, if tokens of the rule are printed.
-fn write_unless_skipped<W: Write>(
-    alloc: Global,
-    out: &mut W,
-    rule: &Rule<'_>,
-    style: &Style<'_>,
-    shown: &Shown<'_>,
-) -> io::Result<()>
-    ensures { OnOk result (Appends (W.contents out.old) (W.contents out.new)
-        (shown_unless_skipped style.now rule.now shown.now.span shown.now.position shown.now.text.now)) }
-{
-    if is_in(style.skip, rule.name) {
-        return Ok(());
-    }
-    if style.json {
-        return write_object(alloc, out, rule.name, shown);
-    }
-    write_rule(out, rule, shown)
 }
 
 /// Writes a token as a JSON object. Bytes of its text that are not UTF-8 are replaced by U+FFFD.

@@ -15,7 +15,7 @@ use Rattle.std.specs.declared.cmp.Ordering.{Ordering}
 use Rattle.std.specs.declared.cmp.Ordering.TheVariants.{Less}
 use Rattle.std.specs.declared.cmp.Reverse.{Reverse}
 use Rattle.std.proofs.lemmas.Bool.{cases_Bool, cases_lt, cond-false, cond-true, le-ltb, lt-ltb, eq-eqb}
-use Rattle.std.proofs.lemmas.List.{get_or-map, length-map, map-append}
+use Rattle.std.proofs.lemmas.List.{get_or-map, length-map}
 use Rattle.std.proofs.lemmas.List.Elements.{All-map}
 use Rattle.std.proofs.lemmas.List.Sorted.{All-permutation, Contains-permutation, IsPermutation-map}
 use Rattle.std.proofs.lemmas.List.Sums.{sum_by_push}
@@ -159,19 +159,6 @@ Pair = Reverse ℕ × Bor (List ℕ)
 
 abbrev second : ℕ × List ℕ → List ℕ
 second c = c.1
-
-abbrev bytes_of : Vec ℕ → List ℕ
-bytes_of k = k.items
-
-pub listed-more : (xs : List Pair) (pair : Pair) (e : Vec ℕ × ℕ) (s t : List (Vec ℕ × ℕ)) (all : List (ℕ × List ℕ))
-    → map counted xs ++ map entry_counted s ≡ all → s ≡ e ∷ t → counted pair ≡ entry_counted e
-    → map counted (xs ++ pair ∷ []) ++ map entry_counted t ≡ all
-listed-more xs pair e s t all so-far is same =
-    ap (λ (cs : List (ℕ × List ℕ)). cs ++ map entry_counted t) (map-append counted xs (pair ∷ []))
-    ∙ append_assoc (map counted xs) (counted pair ∷ []) (map entry_counted t)
-    ∙ ap (λ (c : ℕ × List ℕ). map counted xs ++ c ∷ map entry_counted t) same
-    ∙ ap (λ (es : List (Vec ℕ × ℕ)). map counted xs ++ map entry_counted es) (sym is)
-    ∙ so-far
 
 positive-is : (n k : ℕ) → positive n ≡ Some k → (k ≡ n) × (0 < k)
 positive-is zero k h = absurd (cc)

@@ -1,5 +1,5 @@
 -- From the laws on searches of texts to the fields of a line.
-use Rattle.std.proofs.Common.{◌≡◌, ◌∙◌, ℕ, ◌+◌, ◌≤◌, ◌<◌, true, false, List, [], ◌∷◌, map, length, drop, refl, sym, ap, subst, arith, eq-eqb, Option, None, Some, IsSome, option_map}
+use Rattle.std.proofs.Common.{◌≡◌, ◌∙◌, ℕ, ◌+◌, ◌≤◌, ◌<◌, List, [], ◌∷◌, map, length, drop, refl, ap, arith, eq-eqb, Option, None, Some, option_map}
 use Rattle.std.specs.Option.{option_or}
 use Rattle.std.proofs.lemmas.Bool.{le-ltb}
 use Rattle.regex_hir.specs.Find.{Match}
@@ -15,9 +15,6 @@ use Rattle.nfa_compiler.specs.Patterns.{PatternHit, expected, hit_by, hit_of, sl
 use Rattle.nfa_meta.specs.ChoiceState.{ChoiceState, KeepsEngines}
 use Rattle.log_extractor.specs.declared.pattern.Column.{Column}
 use Rattle.log_extractor.specs.Fields.{IsRegexOf, LinePattern, NamedGroup, columns_of, cut, fields_of, group_of, match_at_start, named_groups, row}
-
-no : false ≡ true → ⊥
-no e = cc
 
 -- a search keeps what a regex is made of
 pub regex-kept : (text : List ℕ) (old new : ChoiceState) → IsRegexOf text old → KeepsEngines old new
@@ -72,28 +69,18 @@ module _ (p : LinePattern) (nfa : Automaton) (line : List ℕ) (captures : Captu
     (pattern : captures.pattern ≡ option_map (λ (h : PatternHit). h.pattern) (hit (p.tree ∷ []) nfa (whole line)))
     (slots : captures.slots ≡ slots_of nfa.groups (slot_count nfa.groups) (hit (p.tree ∷ []) nfa (whole line)))
   where
-    -- there is no row if no pattern was captured
-    pub row-none : captures.pattern ≡ None → row p line ≡ None
-    row-none none = of (match_at_start p line) (sym pattern ∙ none) (bound-hit p nfa line bound)
+    -- what the captures give for the columns, if a pattern was captured, is the row
+    pub row-is : GroupsAreWritten hit
+        → option_map (λ (k : ℕ). map (λ (group : NamedGroup). cut line (group_span captures group.number))
+        (columns_of p)) captures.pattern ≡ row p line
+    row-is law = of (match_at_start p line) (bound-hit p nfa line bound)
       where
-        of : (o : Option Match) → option_map (λ (h : PatternHit). h.pattern) (hit (p.tree ∷ []) nfa (whole line)) ≡ None
-            → hit (p.tree ∷ []) nfa (whole line) ≡ option_map (hit_by 0) o
-            → option_map (fields_of p line) o ≡ None
-        of None e h = refl
-        of (Some m) e h =
-            let bad : Some 0 ≡ None = ap (option_map (λ (one : PatternHit). one.pattern)) (sym h) ∙ e in cc
+        cuts : List (Option (List ℕ))
+        cuts = map (λ (group : NamedGroup). cut line (group_span captures group.number)) (columns_of p)
 
-    -- what the captures give for the columns is the row
-    pub row-some : IsSome captures.pattern → GroupsAreWritten hit
-        → Some (map (λ (group : NamedGroup). cut line (group_span captures group.number)) (columns_of p)) ≡ row p line
-    row-some some law = of (match_at_start p line) (bound-hit p nfa line bound)
-      where
         of : (o : Option Match) → hit (p.tree ∷ []) nfa (whole line) ≡ option_map (hit_by 0) o
-            → Some (map (λ (group : NamedGroup). cut line (group_span captures group.number)) (columns_of p))
-            ≡ option_map (fields_of p line) o
-        of None h =
-            absurd (no (subst (λ (o : Option ℕ). IsSome o)
-            (pattern ∙ ap (option_map (λ (one : PatternHit). one.pattern)) h) some))
+            → option_map (λ (k : ℕ). cuts) captures.pattern ≡ option_map (fields_of p line) o
+        of None h = ap (option_map (λ (k : ℕ). cuts)) (pattern ∙ ap (option_map (λ (one : PatternHit). one.pattern)) h)
         of (Some m) h =
             let is : captures.pattern ≡ Some 0 = pattern ∙ ap (option_map (λ (one : PatternHit). one.pattern)) h in
             let are : captures.slots ≡ slots_of nfa.groups (slot_count nfa.groups) (Some (hit_by 0 m)) =
@@ -102,7 +89,8 @@ module _ (p : LinePattern) (nfa : Automaton) (line : List ℕ) (captures : Captu
             λ i. record { groups = same i; pattern = is i; slots = are i } in
             let counted : length nfa.groups ≡ 1 = ap length groups in
             let explicit : groups_at nfa.groups 0 ≡ drop 1 p.names = ap (λ gs. groups_at gs 0) groups in
-            ap Some (between (drop 1 p.names) 1 (λ k. cut line (group_span captures k))
+            ap (option_map (λ (k : ℕ). cuts)) is
+            ∙ ap Some (between (drop 1 p.names) 1 (λ k. cut line (group_span captures k))
             (λ k. cut line (written_span k m))
             (λ k low high. ap (cut line) (ap (λ c. group_span c k) all
             ∙ law (p.tree ∷ []) nfa (whole line) (hit_by 0 m) k counted h low

@@ -73,10 +73,6 @@ pub record IsLooking (ps : List LabelledPattern) (text : List ℕ) (input : Opti
 abbrev pub HasLooked : List LabelledPattern → Option (List ℕ) → Option (List ℕ) → Bool → Type 0
 HasLooked ps before input found = IfSome before (λ text. IsLooking ps text input found)
 
-pub looking-init : (ps : List LabelledPattern) (input : Option (List ℕ)) → HasLooked ps input input false
-looking-init ps None = tt
-looking-init ps (Some text) = record { rest = text; rest_is = refl; found_is = refl }
-
 pub looking-step : (ps : List LabelledPattern) (before input after : Option (List ℕ)) (line : List ℕ) (found : Bool)
     → TakesLine input after line → HasLooked ps before input found
     → HasLooked ps before after (found || is_some (row_by_first ps (content line)))

@@ -91,30 +91,31 @@ impl<'p> Parser<'p> {
         laws::searches_find_texts();
         laws::groups_are_those_of_texts();
         self.regex.search(&Input::new(line), &mut self.captures);
-        if !self.captures.is_match() {
-            return Ok(None);
-        }
         let fields = cut_fields(self.alloc, line, &self.captures, &self.columns)?;
-        Ok(Some(fields))
+        Ok(fields)
     }
 }
 
-/// Returns what the captures give for each column.
+/// Returns what the captures give for each column, or `None` if they are those of no match.
 fn cut_fields<'l>(
     alloc: Global,
     line: &'l [u8],
     captures: &Captures,
     columns: &[Column],
-) -> Result<Vec<Option<&'l [u8]>>, AllocError>
+) -> Result<Option<Vec<Option<&'l [u8]>>>, AllocError>
     requires { SpansInside (whole line.now) captures.now }
-    ensures { IfOk result (λ fields. fields_now fields.items
-        ≡ map (λ column. cut line.now (group_span captures.now column.group)) columns.now) }
+    ensures { IfOk result (λ found. option_map (λ fields. fields_now fields.items) found
+        ≡ option_map (λ _. map (λ column. cut line.now (group_span captures.now column.group)) columns.now)
+        captures.now.pattern) }
 {
+    if !captures.is_match() {
+        return Ok(None);
+    }
     let mut fields = Vec::with_capacity(alloc, columns.len())?;
     for column in columns {
         fields.push(cut_field(line, captures, column.group))?;
     }
-    Ok(fields)
+    Ok(Some(fields))
 }
 
 /// Returns what the captures give for a group.

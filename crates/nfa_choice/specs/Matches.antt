@@ -53,5 +53,6 @@ ChoiceGivesKept s = GivesStepsWith choice_matches_next choice_matches KeepsEngin
 -- past the matches so far.
 pub record ChoiceFindsBySearches (x : Search) (s : ChoiceMatches) : Type 0 where
   pub on : GivesKept choice_matches_next (λ p q. ChoiceFindsOn x p.choice.now q.choice.now) s
-  pub to_end : (xs : List Match) (t u : ChoiceMatches) → Yields choice_matches_next s xs t → choice_matches_next t None u
+  pub to_end : (xs : List Match) (t u : ChoiceMatches) → Yields choice_matches_next s xs t
+      → choice_matches_next t None u
       → ChoiceFindsToEnd x (map found_of xs) s.choice.now u.choice.now

@@ -1,9 +1,9 @@
 -- Each number in the states of an NFA of patterns is in range, so `NFA::from_states` finds no flaw in them.
 use Rattle.std.proofs.Common.{◌≡◌, ℕ, ◌+◌, ◌*◌, ◌-◌, ◌≤◌, ◌<◌, inl, inr, Bool, List, map, length, refl, sym, ap, ◌∙◌, subst, arith, Option, None, Some, All, IfSome, option_map, slice_index_or, slice_range, string_bytes}
 use Rattle.std.proofs.lemmas.Bool.{cases_lt, le-ltb, cond-false}
-use Rattle.std.proofs.lemmas.List.{get_or_default, get_or_past, length-drop, length-map}
+use Rattle.std.proofs.lemmas.List.{get_or_default, length-drop, length-map}
 use Rattle.std.proofs.lemmas.List.Elements.{All-map}
-use Rattle.nfa_paths.specs.Common.{slot_count, number_of, Automaton, IsAutomaton, Node, LeadsBelow, SlotBelow, PatternBelow}
+use Rattle.nfa_paths.specs.Common.{slot_count, number_of, IsAutomaton, Node}
 use Rattle.regex_nfa.specs.States.{state_at}
 use Rattle.regex_nfa.specs.Run.{state_of}
 use Rattle.regex_nfa.proofs.RunLemmas.{sound_of}
@@ -12,12 +12,8 @@ use Rattle.regex_nfa.specs.declared.state.State.TheVariants as their
 use Rattle.regex_nfa.specs.declared.nfa.Nfa.{Nfa}
 use Rattle.thompson_nfa.specs.Automaton.Node.{Sparse, Dense, Union, BinaryUnion, Capture, Fail, Match}
 use Rattle.regex_syntax.specs.declared.Parsed.{Parsed}
-use Rattle.thompson_nfa.specs.Flaws.{IsFirstFlaw}
-use Rattle.thompson_nfa.specs.declared.flaw.Flaw.{Flaw}
-use Rattle.thompson_nfa.specs.declared.flaw.Flaw.TheVariants as flaw
-use Rattle.thompson_nfa.specs.declared.flaw.Referrer.TheVariants as holder
 use Rattle.nfa_compiler.specs.declared.block.Site.{Site}
-use Rattle.nfa_compiler.specs.Blocks.{IsBlock, IsInside, match_at, moved, node_for, slot_in}
+use Rattle.nfa_compiler.specs.Blocks.{IsBlock, LeadsInside, match_at, moved, node_for, slot_in}
 use Rattle.nfa_compiler.specs.Added.{Adds, IsInRange, AreInRange, KeepsInRange}
 use Rattle.nfa_compiler.specs.Compiled.{explicit_names, groups_of}
 use Rattle.nfa_compiler.proofs.AddLemmas.{kept-at, adds-length}
@@ -65,7 +61,7 @@ module _ (nodes : List Node) (nfa : Nfa) (s : Site) (block : IsBlock nodes nfa s
   abbrev Fits : Node → Type 0
   Fits = IsInRange (length nodes) slots (number_of s.pattern + 1)
 
-  node-fits : (q : ℕ) (state : their_state.State) → state_of nfa q ≡ state → IsInside nfa.transitions.items s state
+  node-fits : (q : ℕ) (state : their_state.State) → state_of nfa q ≡ state → LeadsInside nfa.transitions.items s state
       → Fits (node_for nfa.transitions.items s state)
   node-fits q (their.Sparse from to) is inside = (
     All-map (λ t. t.next < length nodes) (moved s) (slice_range nfa.transitions.items from to)
@@ -172,25 +168,3 @@ built-valid one two three patterns starts anchored unanchored groups has_empty u
     (omega arith) free
     (λ i d h. omega (arith, inside i d h))
     (ap length are ∙ same ∙ sym count)
-
--- of all elements and of a default, so of each place
-at-place : {X : Type 0} (P : X → Type 0) (xs : List X) (i : ℕ) (x : X) → All P xs → P x → P (slice_index_or xs i x)
-at-place P xs i x all default = elim (cases_lt i (length xs)) [
-  | inl inside ↦ all i x inside
-  | inr past ↦ subst P (sym (get_or_past xs i x past)) default
-]
-
--- so they have no flaw
-pub no-flaw : (a : Automaton) (f : Flaw) → IsAutomaton a → IsFirstFlaw a (Some f) → ⊥
-no-flaw a flaw.Empty is first = let filled = is.filled in omega arith
-no-flaw a (flaw.State holder.Anchored) is first = first.1 is.numbered.anchored_in
-no-flaw a (flaw.State holder.Unanchored) is first = first.1.1 is.numbered.unanchored_in
-no-flaw a (flaw.State (holder.Pattern i)) is first =
-    first.1.2.1 (at-place (λ s. s < length a.states) a.patterns i 0 is.numbered.patterns_in is.filled)
-no-flaw a (flaw.State (holder.State i)) is first =
-    first.1.3.1 (at-place (LeadsBelow (length a.states)) a.states i Fail is.numbered.targets_in tt)
-no-flaw a (flaw.Slot state slot) is first =
-    first.1.0.1 (at-place (SlotBelow (slot_count a.groups)) a.states state Fail is.slots tt)
-no-flaw a (flaw.Pattern state pattern) is first =
-    first.2.0.1 (at-place (PatternBelow (length a.patterns)) a.states state Fail is.patterns tt)
-no-flaw a (flaw.Groups groups patterns) is first = first.3 is.groups

@@ -15,7 +15,7 @@ use Rattle.thompson_nfa.specs.Automaton.Node.{ByteRange, Sparse, Look, Union, Ca
 use Rattle.nfa_paths.proofs.PathToLemmas.{EndsWith-last}
 use Rattle.nfa_match_spans.specs.StatePaths.{targets, reads, position_after, open_edges, RecordsMatchSpans}
 use Rattle.nfa_compiler.specs.declared.block.Site.{Site}
-use Rattle.nfa_compiler.specs.Blocks.{match_at, slot_in, moved, node_for, IsInside, Stands, IsBlock}
+use Rattle.nfa_compiler.specs.Blocks.{match_at, slot_in, moved, node_for, LeadsInside, Stands, IsBlock}
 use Rattle.nfa_compiler.specs.Compiled.{IsNfaOf, first_slot}
 use Rattle.nfa_compiler.proofs.BlockLemmas.{node-plain}
 
@@ -83,7 +83,7 @@ module _ (s : Site) (k : ℕ) (is : number_of s.pattern ≡ k) (behind : 2 * k +
 
   -- what follows a state of the pattern
   node-follows : (ts : List their_transition.Transition) (state : their_state.State) (i : ℕ) (y : Pair)
-      → IsInside ts s state → In y (after (node_for ts s state) i)
+      → LeadsInside ts s state → In y (after (node_for ts s state) i)
       → StaysInside (node_for ts s state) y ⊎ ReachesMatch (node_for ts s state) i y
   unfolding targets reads
   node-follows ts (their.ByteRange t) i y below edge = inl (inside _ t.next (i + 1) y refl below edge)

@@ -58,17 +58,17 @@ node_for ts s their.Match = Capture (match_at s) (slot_in s 1)
 node_for ts s their.Fail = Fail
 
 -- its targets are states of the pattern, and its slot is one of an explicit group
-abbrev pub IsInside : List their_transition.Transition → Site → their_state.State → Type 0
-IsInside ts s (their.ByteRange t) = t.next < s.size
-IsInside ts s (their.Sparse from to) = All (λ t. t.next < s.size) (slice_range ts from to)
-IsInside ts s (their.Split first second) = (first < s.size) × (second < s.size)
-IsInside ts s (their.Save slot next) = (2 ≤ slot) × (next < s.size)
-IsInside ts s (their.Look l next) = next < s.size
-IsInside ts s _ = ⊤
+abbrev pub LeadsInside : List their_transition.Transition → Site → their_state.State → Type 0
+LeadsInside ts s (their.ByteRange t) = t.next < s.size
+LeadsInside ts s (their.Sparse from to) = All (λ t. t.next < s.size) (slice_range ts from to)
+LeadsInside ts s (their.Split first second) = (first < s.size) × (second < s.size)
+LeadsInside ts s (their.Save slot next) = (2 ≤ slot) × (next < s.size)
+LeadsInside ts s (their.Look l next) = next < s.size
+LeadsInside ts s _ = ⊤
 
 -- the node is that of the state
 abbrev pub Stands : List their_transition.Transition → Site → their_state.State → Node → Type 0
-Stands ts s state node = IsInside ts s state × (node ≡ node_for ts s state)
+Stands ts s state node = LeadsInside ts s state × (node ≡ node_for ts s state)
 
 -- the states of the pattern: from `base` on the moved ones, then its Match, then its start, which writes slot 0
 pub record IsBlock (nodes : List Node) (nfa : Nfa) (s : Site) : Type 0 where

@@ -1,8 +1,8 @@
 -- How an exploration goes on when a state is taken from the stack, and what steps and matches are of a longer list.
-use Rattle.std.proofs.Common.{◌≡◌, ℕ, zero, suc, ◌+◌, ◌-◌, ◌<◌, ◌≤◌, Bool, true, false, List, [], ◌∷◌, ◌++◌, length, replicate, get_or, set, length-set, map, reverse, refl, ap, sym, ◌∙◌, subst, arith, append_assoc, append-nil, Some, cond, All, sum}
+use Rattle.std.proofs.Common.{◌≡◌, ℕ, zero, suc, ◌+◌, ◌-◌, ◌<◌, Bool, true, false, List, [], ◌∷◌, ◌++◌, length, replicate, get_or, set, length-set, map, reverse, refl, ap, sym, ◌∙◌, subst, arith, append_assoc, append-nil, Some, All, sum}
 use Rattle.std.specs.List.{slice_get}
 use Rattle.std.proofs.lemmas.List.{length-append, length-replicate, length-reverse, reverse-append, reverse-reverse}
-use Rattle.std.proofs.lemmas.List.Elements.{All-append, All-cons, All-head, All-nil, All-pop, All-push, All-tail}
+use Rattle.std.proofs.lemmas.List.Elements.{All-append, All-head, All-nil, All-pop, All-push, All-tail}
 use Rattle.std.proofs.lemmas.Option.{get_or_from_slice_get, slice_get-map}
 use Rattle.nfa_paths.specs.Common.{Automaton, Node, LeadsBelow, rests, degree, node_at}
 use Rattle.nfa_paths.specs.Turns.{marked_sum}

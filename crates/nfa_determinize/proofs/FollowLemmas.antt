@@ -1,8 +1,8 @@
 -- The search for paths, without slots, goes through the closure of the states at a position, and on to the next one.
-use Rattle.std.proofs.Common.{◌≡◌, ℕ, zero, suc, ◌+◌, ◌<◌, ◌≤◌, inl, inr, Bool, true, false, List, [], ◌∷◌, ◌++◌, length, get_or, set, length-set, map, refl, ap, sym, ◌∙◌, subst, arith, append_assoc, append-nil, Option, None, Some, cond, is_some, option_and_then, option_map, option_to_list}
+use Rattle.std.proofs.Common.{◌≡◌, ℕ, zero, suc, ◌+◌, ◌<◌, ◌≤◌, inl, inr, Bool, true, false, List, [], ◌∷◌, ◌++◌, length, get_or, set, length-set, map, refl, ap, sym, ◌∙◌, subst, arith, append_assoc, append-nil, Option, None, Some, is_some, option_and_then, option_map, option_to_list}
 use Rattle.std.proofs.lemmas.Bool.{cases_Bool}
 use Rattle.std.proofs.lemmas.List.{get_or_past}
-use Rattle.nfa_paths.specs.Common.{Search, Automaton, Node, look_holds, Pair, Space, In, Path, Slots, Hit, Task, ExploresTo, Searching, rests, node_at, pattern_of, is_match, byte_at, target_on, edges, edges_of, starts}
+use Rattle.nfa_paths.specs.Common.{Search, Automaton, Node, Pair, Space, In, Path, Slots, Hit, Task, ExploresTo, Searching, rests, node_at, pattern_of, is_match, byte_at, target_on, edges, edges_of, starts}
 use Rattle.thompson_nfa.specs.Automaton.Node.{Fail, Match}
 use Rattle.nfa_paths.specs.FirstPaths.Path.{stop, go}
 use Rattle.nfa_paths.specs.Exploring.Task.{Explore}

@@ -36,23 +36,28 @@ pub enum Command<'w> {
 
 /// Reads the arguments, the first of which is the name of the program.
 pub fn parse<'w>(alloc: Global, words: &'w [&'w str]) -> Result<Command<'w>> {
+    let mut args = Vec::new(alloc);
+    args.push(pattern_argument(alloc))?;
+    args.push(words_argument(alloc)?)?;
     let command = clap::Command::new(alloc, "nfa_dot")
         .about("Prints an NFA as a graph for Graphviz.")
         .override_usage(USAGE)
         .after_help(AFTER)
-        .arg(
-            Arg::new(alloc, "pattern")
-                .short('p')
-                .long("pattern")
-                .action(ArgAction::Set)
-                .value_name("TEXT")
-                .help("Draw the NFA that this pattern is compiled to"),
-        )?
-        .arg(words_argument(alloc)?)?;
+        .args(args)?;
     match command.try_get_matches_from(words) {
         Ok(matches) => read_matches(alloc, &matches),
         Err(error) => Ok(Command::Say(error)),
     }
+}
+
+/// The option with a pattern.
+fn pattern_argument<'w>(alloc: Global) -> Arg<'w> {
+    Arg::new(alloc, "pattern")
+        .short('p')
+        .long("pattern")
+        .action(ArgAction::Set)
+        .value_name("TEXT")
+        .help("Draw the NFA that this pattern is compiled to")
 }
 
 /// The arguments that belong to no option: the name of a sample if there is no pattern, and the haystack.

@@ -1,15 +1,25 @@
 -- An NFA reads only the bytes of the span and whether its assertions hold there, and not the place of the span.
-use Rattle.std.proofs.Common.{◌≡◌, ◌∙◌, ℕ, zero, suc, ◌+◌, ◌-◌, ◌==◌, ◌||◌, ◌≤◌, ◌<◌, inl, inr, Bool, true, false, List, [], ◌∷◌, map, take, drop, get_or, refl, sym, ap, subst, arith, le-ltb, lt-ltb, if◌then◌else◌, All, Option, None, Some, option_map, option_and_then, option_to_list, slice_get}
+use Rattle.std.proofs.Common.{◌≡◌, ◌∙◌, ℕ, zero, suc, ◌+◌, ◌-◌, ◌==◌, ◌||◌, ◌≤◌, ◌<◌, inl, inr, Bool, true, false, List, [], ◌∷◌, length, map, take, drop, get_or, refl, sym, ap, subst, arith, le-ltb, lt-ltb, if◌then◌else◌, All, Option, None, Some, option_map, option_and_then, option_to_list, slice_get}
 use Rattle.std.specs.Option.{option_map_or}
 use Rattle.std.proofs.lemmas.Bool.{cases_lt}
+use Rattle.std.proofs.lemmas.List.{get_or_past}
 use Rattle.nfa_paths.specs.Common.{Search, is_anchored, Automaton, Node, look_holds, Pair, In, byte_at, edges, edges_of, node_at, pairs_from, start_count, start_state, starts, target_on, IsMatch}
-use Rattle.thompson_nfa.specs.Automaton.Node.{Look, Union, BinaryUnion, Capture}
+use Rattle.thompson_nfa.specs.Automaton.Node.{Look, Union, BinaryUnion, Capture, Fail}
 use Rattle.thompson_nfa.specs.declared.look.Look as looks
 use Rattle.nfa_paths.proofs.ScanAnswerLemmas.{edges-onward, edges-within, starts-from, starts-within}
 use Rattle.nfa_engines.specs.SpanLaws.{cut_out, AreBytesMoved, HasNoLook, HoldAlike, HoldsAlike, IfLook, IsSameSpan, IsSpanMoved, LookHoldsAlike}
 use Rattle.nfa_engines.proofs.MovedLemmas.{moved_path, ArePathsMoved}
 use Rattle.nfa_engines.proofs.MovedGraphLemmas.{paths-moved}
-use Rattle.nfa_paths.proofs.StartLemmas.{node_at-all, resting-edges}
+use Rattle.nfa_paths.proofs.StartLemmas.{resting-edges}
+
+-- what holds of each state of the NFA holds at each number
+all-at : (nfa : Automaton) (P : Node → Type 0) → P Fail → All P nfa.states → (state : ℕ) → P (node_at nfa state)
+unfolding node_at
+all-at nfa P none all state =
+    elim (cases_lt state (length nfa.states)) [
+      | inl inside ↦ all state Fail inside
+      | inr past ↦ subst P (sym (get_or_past nfa.states state Fail past)) none
+    ]
 
 -- what follows from what is true of each assertion of the NFA is true of each
 pub each-look : (P Q : looks.Look → Type 0) (nfa : Automaton) → ((look : looks.Look) → P look → Q look)
@@ -141,7 +151,7 @@ module _ (nfa : Automaton) (k : ℕ) (x y : Search) (alike : HoldAlike nfa k x y
         onward = inside-onward;
         from = λ v i. (starts-from nfa x v i, starts-within nfa x v i);
         edges_are = λ v inside.
-            edges-at (node_at nfa v.0) (node_at-all nfa (HoldsAlike k x y) tt alike v.0) v.1 inside.0 inside.1;
+            edges-at (node_at nfa v.0) (all-at nfa (HoldsAlike k x y) tt alike v.0) v.1 inside.0 inside.1;
         starts_are = starts-moved;
       })
       (IsMatch nfa) (λ m. (λ h. h, λ h. h)))

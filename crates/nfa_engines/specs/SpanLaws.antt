@@ -1,8 +1,8 @@
 -- Laws of what an answer depends on: the bytes of the span and the assertions that hold there, and not the place of the
 -- span.
-use Rattle.std.specs.Prelude.{◌≡◌, ℕ, ◌+◌, ◌-◌, ◌<◌, ◌≤◌, Bool, false, List, map, All, take, drop, Option, option_map, slice_get}
+use Rattle.std.specs.Prelude.{◌≡◌, ℕ, ◌+◌, ◌-◌, ◌<◌, ◌≤◌, Bool, false, List, map, All, take, drop, Option, option_map, slice_get, ⊤}
 use Rattle.nfa_paths.specs.Common.{Found, Search, MatchKind, Automaton, Node, look_holds, is_utf8_empty, IsAnswer, IsFindAnswer}
-pub use Rattle.thompson_nfa.specs.Asserting.{IfLook, AssertsNothing, HasNoLook}
+use Rattle.thompson_nfa.specs.Automaton.Node.{Look}
 use Rattle.thompson_nfa.specs.declared.look.Look as looks
 
 -- each slot that is set, this many positions to the right
@@ -12,6 +12,19 @@ moved_slots k slots = map (option_map (λ at. at + k)) slots
 -- the match, this many positions to the right
 abbrev pub moved_match : ℕ → Found → Found
 moved_match k m = record m { start = m.start + k; end = m.end + k }
+
+-- if the state is an assertion, this is true of it
+abbrev pub IfLook : (looks.Look → Type 0) → Node → Type 0
+IfLook P (Look look next) = P look
+IfLook P _ = ⊤
+
+-- the state asserts nothing of what is around a position
+abbrev pub AssertsNothing : Node → Type 0
+AssertsNothing node = IfLook (λ look. ⊥) node
+
+-- no state of the NFA asserts anything
+abbrev pub HasNoLook : Automaton → Type 0
+HasNoLook nfa = All AssertsNothing nfa.states
 
 -- the second search has the span of the first, this many positions to the right, and the same anchoring
 pub record IsSpanMoved (k : ℕ) (x y : Search) : Type 0 where

@@ -5,7 +5,6 @@ use Rattle.std.proofs.lemmas.Bool.{cases_Bool}
 use Rattle.std.proofs.lemmas.Bool.Decides.{eqb_tells}
 use Rattle.std.proofs.lemmas.Option.{slice_get-get_or}
 use Rattle.nfa_paths.specs.Common.{Automaton, Node, look_holds, node_at}
-use Rattle.thompson_nfa.specs.Asserting.{AssertsNothing}
 use Rattle.thompson_nfa.specs.Automaton.Node.{Look}
 use Rattle.thompson_nfa.specs.Looks.{is_word_byte}
 use Rattle.thompson_nfa.specs.declared.look.Look as looks
@@ -13,8 +12,7 @@ use Rattle.thompson_nfa.specs.declared.look.Look.TheVariants.{Start, End, StartL
 use Rattle.nfa_determinize.specs.Closures.{Holding, holding_at}
 use Rattle.thompson_nfa.proofs.AsciiWordLemmas.{ascii_look, look_holds-ascii}
 use Rattle.thompson_nfa.proofs.BetweenLemmas.{before-some, holds_between, holds-between}
-use Rattle.nfa_paths.proofs.StartLemmas.{node_at-all}
-use Rattle.nfa_lazy_dfa.specs.Assertions.{HasNoLook, IsRead, HasNoUnicodeWord, SameLooks, byte_before, like, may_follow, reads_bytes, sees}
+use Rattle.nfa_lazy_dfa.specs.Assertions.{HasNoLook, IsRead, HasNoUnicodeWord, SameLooks, byte_before, is_look, like, may_follow, reads_bytes, sees}
 
 -- between two bytes there are these two
 
@@ -144,20 +142,18 @@ like-small b =
 
 module _ (nfa : Automaton) where
   pub same-none : HasNoLook nfa → (a b : Holding) → SameLooks nfa a b
-  same-none none a b = record {
-    same = λ s look next e. absurd (subst AssertsNothing e (node_at-all nfa AssertsNothing tt none s));
-  }
+  same-none none a b = record { same = λ s look next e. absurd (cc (none.all s, ap is_look e)) }
 
   pub same-self : (a : Holding) → SameLooks nfa a a
   same-self a = record { same = λ s look next e. refl }
 
   -- without assertions there are none of Unicode words
   pub reads-none : HasNoLook nfa → HasNoUnicodeWord nfa
-  reads-none none = record { all = λ s. of (node_at nfa s) (node_at-all nfa AssertsNothing tt none s) }
+  reads-none none = record { all = λ s. of (node_at nfa s) (none.all s) }
     where
-      of : (node : Node) → AssertsNothing node → may_follow node ≡ true
-      of (Look look next) h = absurd h
-      of _ h = refl
+      of : (node : Node) → is_look node ≡ false → may_follow node ≡ true
+      of (Look look next) e = absurd (cc e)
+      of _ e = refl
 
   reads-look : HasNoUnicodeWord nfa → (s : ℕ) (look : looks.Look) (next : ℕ) → node_at nfa s ≡ Look look next
       → reads_bytes look ≡ true

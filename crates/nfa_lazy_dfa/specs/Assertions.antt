@@ -2,7 +2,6 @@
 use Rattle.std.specs.Prelude.{◌≡◌, ℕ, ◌<◌, ◌≤◌, ◌⊎◌, Bool, true, false, ◌||◌, ◌==◌, ◌++◌, length, Option, None, Some, ⊤, option_to_list, if◌then◌else◌}
 use Rattle.nfa_paths.specs.Common.{Automaton, Node, node_at}
 use Rattle.thompson_nfa.specs.Automaton.Node.{Look}
-pub use Rattle.thompson_nfa.specs.Asserting.{HasNoLook}
 pub use Rattle.thompson_nfa.specs.Looks.{byte_before}
 use Rattle.thompson_nfa.specs.Looks.{is_word_byte}
 use Rattle.thompson_nfa.specs.declared.look.Look as looks
@@ -46,6 +45,10 @@ pub record IsQuit (nfa : Automaton) (byte : ℕ) : Type 0 where
 abbrev pub is_look : Node → Bool
 is_look (Look look next) = true
 is_look _ = false
+
+-- no state of the NFA is an assertion
+pub record HasNoLook (nfa : Automaton) : Type 0 where
+  pub all : (s : ℕ) → is_look (node_at nfa s) ≡ false
 
 -- which assertions hold between the two bytes, or at an end of the haystack
 abbrev pub sees : Option ℕ → Option ℕ → Holding

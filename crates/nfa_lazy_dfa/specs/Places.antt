@@ -1,6 +1,6 @@
 -- Where a scan is, and what it found so far.
-use Rattle.std.specs.Prelude.{◌≡◌, ℕ, ◌-◌, ◌/◌, Bool, false, true, [], ◌∷◌, Option, None, is_some, option_map}
-use Rattle.nfa_paths.specs.Common.{HalfFound, half_found_of, Search, MatchKind, Automaton, IsHalfAnswer}
+use Rattle.std.specs.Prelude.{◌≡◌, ℕ, ◌-◌, ◌/◌, Bool, false, true, [], ◌∷◌, None, option_map}
+use Rattle.nfa_paths.specs.Common.{half_found_of, Search}
 use Rattle.nfa_determinize.specs.Configurations.{IsSettled, half_at, scanned}
 use Rattle.nfa_lazy_dfa.specs.Rows.{IsAt, IsRowOf}
 use Rattle.nfa_lazy_dfa.specs.Stances.{Stance}
@@ -35,9 +35,3 @@ pub record IsMatchedAt (dfa : DFA) (c : Cache) (x : Search) (to first : ℕ) : T
   pub at : IsAt dfa c x to (first / 256)
   pub found : (s : Stance) → IsRowOf c (first / 256) s
       → option_map (half_at (to - 1)) s.hit ≡ (scanned dfa.nfa x dfa.kind x.earliest (to - x.start)).found
-
--- an `earliest` search finds a match, or none
-pub record IsFoundEarly (nfa : Automaton) (kind : MatchKind) (x : Search) (found : Bool) : Type 0 where
-  pub half : Option HalfFound
-  pub answers : IsHalfAnswer nfa kind true (record x { earliest = true }) half
-  pub found_is : found ≡ is_some half

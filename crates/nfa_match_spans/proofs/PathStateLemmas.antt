@@ -1,7 +1,7 @@
 -- What a place says about the two slots.
-use Rattle.std.proofs.Common.{◌≡◌, ℕ, ◌+◌, ◌*◌, ◌<◌, ◌≤◌, ◌==◌, List, [], ◌∷◌, ◌++◌, refl, ap, sym, arith, Option, Some, None, true, false, Bool, ◌↔◌, not, if◌then◌else◌}
+use Rattle.std.proofs.Common.{◌≡◌, ℕ, ◌+◌, ◌*◌, ◌==◌, List, [], ◌∷◌, ◌++◌, sym, arith, Option, Some, None, true, false, if◌then◌else◌}
 use Rattle.std.specs.Option.{option_or, option_map_or}
-use Rattle.nfa_paths.specs.Common.{Automaton, Node, Pair, pattern_of, slot_of, slot_among}
+use Rattle.nfa_paths.specs.Common.{Automaton, Node, Pair, slot_of, slot_among}
 use Rattle.thompson_nfa.specs.Automaton.Node.{Capture}
 use Rattle.nfa_match_spans.specs.StatePaths.{reads, position_after}
 use Rattle.nfa_match_spans.specs.PathStates.{fresh_path_state, at_state, after_node, Describes}

@@ -21,8 +21,10 @@ module _ (r : ChoiceState) (text : List ℕ) (x : Search) (is : x ≡ whole text
   as-many n (inl e) = inl (length-map ms found_of ∙ e)
   as-many n (inr h) = inr (all-of h)
 
-  -- they are one fewer than n, or all
-  pub one-fewer : (n : ℕ) → 0 < n → (length ms ≡ n - 1) ⊎ AreMatches r.nfa (kind_in r) x.earliest x (map found_of ms)
-      → (length (map found_of ms) + 1 ≡ n) ⊎ AreAllOf r text (map found_of ms)
-  one-fewer n some (inl e) = inl (omega (arith, some, e, length-map ms found_of))
-  one-fewer n some (inr h) = inr (all-of h)
+  -- they are the first ones, and one fewer than n, or all
+  pub first-fewer : (n : ℕ) → 0 < n → AreFirstMatches r.nfa (kind_in r) x.earliest x (map found_of ms)
+      → (length ms ≡ n - 1) ⊎ AreMatches r.nfa (kind_in r) x.earliest x (map found_of ms)
+      → AreFirstOf r text (map found_of ms)
+      × ((length (map found_of ms) + 1 ≡ n) ⊎ AreAllOf r text (map found_of ms))
+  first-fewer n some first (inl e) = (first-of first, inl (omega (arith, some, e, length-map ms found_of)))
+  first-fewer n some first (inr h) = (first-of first, inr (all-of h))

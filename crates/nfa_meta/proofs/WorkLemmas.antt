@@ -1,5 +1,5 @@
 -- What the lists of a regex add to the totals of both caches of its choice.
-use Rattle.std.proofs.Common.{◌≡◌, ℕ, ◌+◌, ◌*◌, ◌≤◌, ◌⊎◌, Bool, ap, inl, inr, arith, ◌&&◌, not}
+use Rattle.std.proofs.Common.{◌≡◌, ℕ, ◌+◌, ◌≤◌, ◌⊎◌, Bool, ap, inl, inr, arith, ◌&&◌, not}
 use Rattle.std.proofs.Math.Nat.{mul-le-mul_left}
 use Rattle.nfa_paths.specs.Common.{Search, is_anchored, MatchKind, Automaton, span_len, total_degree}
 use Rattle.nfa_paths.proofs.ExistenceLemmas.{search_answer-exists}

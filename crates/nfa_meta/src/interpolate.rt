@@ -11,7 +11,7 @@ ghost use Rattle.regex_search_core.specs.Patterns.{number_of};
 ghost use Rattle.regex_search_core.specs.Search.{whole};
 ghost use Rattle.nfa_search_base.specs.CapturesRuns.{CapturesInside, match_in};
 ghost use Rattle.nfa_search_base.specs.Lists.{AreDisjoint};
-ghost use Rattle.nfa_meta.specs.Filled.{filled_from, filled_one};
+ghost use Rattle.nfa_meta.specs.Filled.{filled_from};
 ghost use Rattle.nfa_meta.specs.Templates.{filled, part_text};
 ghost use Rattle.nfa_meta.specs.TemplateTexts.{AreParts, IsMistake};
 
@@ -136,30 +136,11 @@ impl<'t> Template<'t> {
         let mut output = Vec::new(alloc);
         let mut from = 0;
         for captures in caught {
-            from = self.fill_one(haystack, from, &captures, &mut output)?;
+            from = copy_to_match(haystack, from, &captures, &mut output)?;
+            self.fill(haystack, &captures, &mut output)?;
         }
         output.extend_from_slice(&haystack[from..])?;
         Ok(output)
-    }
-
-    /// Appends the haystack from an offset to the match of these captures, and then the template filled by them.
-    /// Returns the end of the match.
-    fn fill_one(
-        &self,
-        haystack: &[u8],
-        from: usize,
-        captures: &Captures,
-        output: &mut Vec<u8>,
-    ) -> Result<usize, AllocError>
-        requires inside { CapturesInside (whole haystack.now) captures.now }
-        requires before { from ≤ (match_in captures.now).start }
-        ensures output { OnOk result (output.new.items
-            ≡ output.old.items ++ filled_one haystack.now self.now.parts.items from captures.now) }
-        ensures end { IfOk result (λ end. end ≡ (match_in captures.now).end) }
-    {
-        let end = copy_to_match(haystack, from, captures, output)?;
-        self.fill(haystack, captures, output)?;
-        Ok(end)
     }
 }
 

@@ -1,8 +1,7 @@
 -- The starts of the paths of an NFA, and the edges of its pairs.
-use Rattle.std.proofs.Common.{◌≡◌, ℕ, zero, suc, ◌+◌, ◌-◌, ◌≤◌, ◌<◌, inl, inr, Bool, true, false, List, [], ◌∷◌, map, length, All, if◌then◌else◌, refl, ap, arith, Option, None, Some, is_some, option_and_then, option_map, option_to_list, slice_get, sym, subst}
+use Rattle.std.proofs.Common.{◌≡◌, ℕ, zero, suc, ◌+◌, ◌-◌, ◌≤◌, ◌<◌, inl, inr, Bool, true, false, List, [], ◌∷◌, map, length, All, if◌then◌else◌, refl, ap, arith, Option, None, Some, is_some, option_and_then, option_map, option_to_list, slice_get}
 use Rattle.std.proofs.lemmas.Bool.{cases_lt}
 use Rattle.std.proofs.lemmas.List.Elements.{All-nil}
-use Rattle.std.proofs.lemmas.List.{get_or_past}
 use Rattle.std.proofs.lemmas.Option.{get_or_from_slice_get}
 use Rattle.nfa_paths.specs.Common.{Search, Automaton, Node, Pair, In, Increasing, rests, is_resting, Holding, holding_at, epsilon_states, degree, pattern_of, slot_of, target_on, byte_at, pairs_from, raised, node_at, is_match, capture, edges_of, edges, starts}
 use Rattle.thompson_nfa.specs.Automaton.Node.{Look, Capture, Fail, Match}
@@ -118,15 +117,6 @@ edges-alike nfa x y haystack end = λ i. edges nfa (record x { haystack = haysta
 pub node_at-get : (nfa : Automaton) (s : ℕ) (node : Node) → slice_get nfa.states s ≡ Some node → node_at nfa s ≡ node
 unfolding node_at
 node_at-get nfa s node is = get_or_from_slice_get nfa.states s node Fail is
-
--- what is true of each state, and of a Fail, is true at each number
-pub node_at-all : (nfa : Automaton) (P : Node → Type 0) → P Fail → All P nfa.states → (s : ℕ) → P (node_at nfa s)
-unfolding node_at
-node_at-all nfa P none all s =
-    elim (cases_lt s (length nfa.states)) [
-      | inl inside ↦ all s Fail inside
-      | inr past ↦ subst P (sym (get_or_past nfa.states s Fail past)) none
-    ]
 
 -- raised starts
 

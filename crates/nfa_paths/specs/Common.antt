@@ -18,6 +18,6 @@ unfoldable pub use Rattle.nfa_paths.specs.Paths.{edges_of, node_at, slot_row}
 pub use Rattle.nfa_paths.specs.Paths.{pattern_of, slot_of, holds_byte, first_target, target_on, pairs_from, raised, span_len, degree, reads_byte, rests, Holding, holding_at, epsilon_states, byte_at, last_of, is_match, IsMatch, capture, is_utf8_empty, start_state, total_degree, edges, start_count, starts, space, path_pattern, path_half, slot_among, EndsOnBoundary, IsWhole, SplitsCharacter, IsScanAnswer, IsKeptAnswer, IsRestartedAnswer, IsSearchAnswer, IsAnswer, IsBoolAnswer, IsFindAnswer, IsHalfAnswer, IsWork, IsWithinScans, max_scans}
 unfoldable pub use Rattle.nfa_paths.specs.Exploring.{next_tasks, seeds, ExploresTo, ExploresAfter}
 pub use Rattle.nfa_paths.specs.Exploring.{Slots, Hit, Task, Searching, found, apply, write}
-pub use Rattle.nfa_paths.specs.Kinds.{Passes, WantedBefore, IsLastAt, found_along, IsFoundBy, IsReached, NoneBefore, LastBefore, ReachedBefore, EndsBefore, first_match, before_match, after_match, last_match, NoMatch, HoldsMatch, Scanned, MatchesAt, MatchesFrom, IsFrontier, IsOver, Scanning, is_resting}
+pub use Rattle.nfa_paths.specs.Kinds.{Passes, WantedBefore, found_along, IsFoundBy, IsReached, NoneBefore, LastBefore, ReachedBefore, EndsBefore, first_match, before_match, last_match, NoMatch, HoldsMatch, Scanned, MatchesAt, MatchesFrom, IsFrontier, IsOver, Scanning, is_resting}
 pub use Rattle.nfa_paths.specs.Overlaps.{HoldsPattern, pattern_at, IsPermittedEnd, IsPermitted, IsInsertable, IsPatternOf, IsFirstInsertable, IsEarliestInsertable, IsSelectedByAll, IsFirstBefore, HoldsUpTo, HoldsOnly, HoldsPath, IsSelectedPath, HoldsSelected, Gains, IsOverlapResult}
 pub use Rattle.nfa_paths.specs.FirstPaths.{Increasing, Path, Accepts, IsFirst, FirstAmong, IsFirstOfAll, IsLeast, StopsAtTarget}

@@ -2,7 +2,7 @@
 use Rattle.std.specs.Prelude.{◌≡◌, ℕ, ◌≤◌, ◌<◌, Bool, true, cond, List, [], ◌∷◌, map, length, Option, None, Some}
 use Rattle.std.specs.Option.{option_map_or}
 use Rattle.thompson_nfa.specs.Automaton.{Automaton}
-use Rattle.nfa_paths.specs.Graphs.{Pair, In, Space, NoRepeats, WantedAt, PathTo, NoPath, IsLastOfFirsts, IsLastPath}
+use Rattle.nfa_paths.specs.Graphs.{Pair, In, Space, NoRepeats, PathTo, NoPath, IsLastPath}
 use Rattle.nfa_paths.specs.FirstPaths.{Increasing}
 use Rattle.nfa_paths.specs.Exploring.{Slots, Hit, Task, found, ExploresTo, ExploresAfter, Searching}
 use Rattle.nfa_paths.specs.Exploring.Task.{Explore}
@@ -16,11 +16,6 @@ Passes test m = test m ≡ true
 pub record WantedBefore (Wanted : Pair → Type 0) (e : ℕ) (m : Pair) : Type 0 where
   pub wanted : Wanted m
   pub before : m.1 < e
-
--- the last of the first paths to the wanted pairs at e, or none if no path leads to one
-abbrev pub IsLastAt : (Pair → List Pair) → List Pair → (Pair → Type 0) → ℕ → Option (List Pair) → Type 0
-IsLastAt edges starts Wanted e None = NoPath edges starts (WantedAt Wanted e)
-IsLastAt edges starts Wanted e (Some p) = IsLastOfFirsts edges starts Wanted e p
 
 -- the result along a path, if there is one
 abbrev pub found_along : (Pair → Option ℕ) → Option (List Pair) → Slots → Hit
@@ -72,11 +67,6 @@ first_match is_match (a ∷ front) = cond (is_match a.0) (Some a) (first_match i
 abbrev pub before_match : (Pair → Bool) → List (Pair × Slots) → List (Pair × Slots)
 before_match is_match [] = []
 before_match is_match (a ∷ front) = cond (is_match a.0) [] (a ∷ before_match is_match front)
-
--- the work that waits after a front, if the front has no match pair
-abbrev pub after_match : Hit → List Task → List Task
-after_match None waiting = waiting
-after_match (Some a) waiting = []
 
 -- the last match pair of a front, or the result g from before
 abbrev pub last_match : (Pair → Bool) → Hit → List (Pair × Slots) → Hit

@@ -1,5 +1,5 @@
 -- The bytes that a match may begin with, and the states that are reached before a byte is read.
-use Rattle.std.specs.Prelude.{◌≡◌, ℕ, ◌<◌, ◌≤◌, ◌⊎◌, Bool, true, false, List, [], length, None, Some, is_some, All, slice_index, slice_index_or}
+use Rattle.std.specs.Prelude.{◌≡◌, ℕ, ◌<◌, ◌≤◌, ◌⊎◌, Bool, true, false, List, length, None, Some, is_some, All, slice_index, slice_index_or}
 use Rattle.nfa_paths.specs.Common.{Search, Automaton, Node, Pair, In, IsFirst, byte_at, epsilon_states, target_on, node_at, pattern_of, edges, is_match}
 use Rattle.nfa_scan_core.specs.declared.first_bytes.ReachedStates.{ReachedStates}
 

@@ -25,7 +25,7 @@ module _ (nfa : Automaton) (kind : MatchKind) (earliest : Bool) (x : Search) whe
       ((restarts ≡ 0) × IsScanAnswer nfa y kind earliest path)
 
   -- a search has the answer of the one that starts where its last scan does
-  from-scan : (restarts : ℕ) (path : Option (List Pair)) → IsSearchAnswer nfa kind earliest x restarts path
+  pub from-scan : (restarts : ℕ) (path : Option (List Pair)) → IsSearchAnswer nfa kind earliest x restarts path
       → IsSearchAnswer nfa kind earliest (raised x restarts) 0 path
   from-scan restarts path = of (is_utf8_empty nfa) (is_anchored x.anchored)
     where

@@ -5,9 +5,7 @@ use Rattle.regex_hir.specs.Re.{Re}
 use Rattle.nfa_engines.specs.Paths.{is_utf8_empty}
 use Rattle.nfa_compiler.specs.NameLaws.{GroupsAreNamed}
 use Rattle.nfa_compiler.specs.Patterns.{PatternHit, found_at}
-use Rattle.nfa_meta.specs.Built.{HasNotSearched, IsBuiltFrom, default_builder}
 use Rattle.nfa_meta.specs.ChoiceState.{ChoiceState, KeepsEngines}
-use Rattle.nfa_meta.specs.declared.builder.Builder.{Builder}
 use Rattle.replacer.specs.Hits.{AreHitsOf, HasNames, IsSearchOf, SearchesFor, Sought, groups_named_by, syntax_of}
 use Rattle.replacer.specs.Printed.{Groups, IsActionOf, IsMisused, IsPatternMistake, IsTemplateMistake, Prints, printed, sought}
 use Rattle.replacer.specs.Separated.{first_fields_by, gaps}
@@ -23,19 +21,6 @@ pub at-read : (all : Option (List ℕ)) (read text : List ℕ) (P : List ℕ →
     → IfSome all (λ bytes. text ≡ bytes) → P read → IfSome all P
 at-read None read text P same is p = tt
 at-read (Some bytes) read text P same is p = subst P (same ∙ is) p
-
--- the builder of a pattern's syntax
-abbrev pub builder_of : Sought → Builder
-builder_of pattern = record default_builder { syntax = syntax_of pattern }
-
--- the regex that is built from a pattern searches for it
-pub built-search : (pattern : Sought) (r : ChoiceState) → IsBuiltFrom (builder_of pattern) (pattern.text ∷ []) r.nfa
-    → HasNotSearched None r → IsSearchOf pattern r
-built-search pattern r built engines = record {
-  compiled = built.compiled;
-  leftmost = rw engines.match_kind refl;
-  free = built.free refl;
-}
 
 -- after searches the regex searches for the same
 pub search-kept : (pattern : Sought) (old new : ChoiceState) → KeepsEngines old new → IsSearchOf pattern old

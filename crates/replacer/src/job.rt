@@ -100,34 +100,16 @@ impl<'w> Job<'w> {
     {
         laws::groups_are_those_of_texts();
         let limit = self.request.limit;
-        if self.request.whole {
-            print_whole(alloc, &mut self.regex, &self.action, limit, input, out)?;
+        if !self.request.whole {
+            print_lines(alloc, &mut self.regex, &self.action, limit, input, out)?;
             return Ok(());
         }
-        print_lines(alloc, &mut self.regex, &self.action, limit, input, out)?;
+        let text = whole_text(alloc, input)?;
+        let line = Line::whole(&text);
+        let printed = show(alloc, &mut self.regex, &self.action, limit, line)?;
+        write_bytes(out, &printed.text)?;
         Ok(())
     }
-}
-
-/// Prints what is printed of an input as one text.
-fn print_whole<R: BufRead, W: Write>(
-    alloc: Global,
-    regex: &mut Regex,
-    action: &Action<'_>,
-    limit: Option<usize>,
-    input: &mut R,
-    out: &mut W,
-) -> Result<(), Failure>
-    ensures printed { OnOk result ((pattern : Sought) (re : Re) (hits : List ℕ → List PatternHit)
-        → SearchesFor pattern re regex.old → AreHitsOf re (is_utf8_empty regex.old.nfa) hits
-        → IfSome (R.remaining input.old) (λ text. Appends (W.contents out.old) (W.contents out.new)
-        (shown regex.old.nfa.groups action.now limit text [] (hits text)))) }
-    ensures keeps { KeepsEngines regex.old regex.new }
-{
-    let text = whole_text(alloc, input)?;
-    let shown = show(alloc, regex, action, limit, Line::whole(&text))?;
-    write_bytes(out, &shown.text)?;
-    Ok(())
 }
 
 /// Reads an input to its end.

@@ -5,7 +5,7 @@ use Rattle.regex_search_core.specs.Found.{found_of}
 use Rattle.regex_search_core.specs.Search.{search_of}
 use Rattle.regex_search_core.specs.declared.search.Match.{Match}
 use Rattle.nfa_compiler.proofs.CallLemmas.{bytes-of}
-use Rattle.nfa_meta.proofs.GapLemmas.{as-many, first-of, one-fewer}
+use Rattle.nfa_meta.proofs.GapLemmas.{as-many, first-fewer, first-of}
 use Rattle.replacer.specs.Separated.{AreAround, gaps, texts}
 use Rattle.replacer.proofs.MeantLemmas.{first-are}
 use Rattle.replacer.proofs.PrintedLemmas.{first-by}
@@ -31,15 +31,14 @@ returns-clause-meant c = λ pattern re hits of all.
 
 pub returns-clause-fields : goal.returns-clause-fields
 returns-clause-fields c = λ some.
-    let r = c.args.regex.now in
-    let text = c.args.haystack.now in
-    let x = search_of c.new-2.result in
     let items = c.in_ok-matches.matches.items in
     let found = c.in_ok-matches.ensures in
+    let firsts = first-fewer c.args.regex.now c.args.haystack.now _ c.new-2.ensures items c.args.limit some found.first
+    found.as_many in
     record {
       matches = map found_of items;
-      first = first-of r text x c.new-2.ensures items found.first;
-      as_many = one-fewer r text x c.new-2.ensures items c.args.limit some found.as_many;
-      around = subst (λ (ms : List Match). AreAround text (map found_of ms) (texts c.in_ok-fields.fields.items))
-          c.deref.ensures.value c.in_ok-fields.ensures.around;
+      first = firsts.0;
+      as_many = firsts.1;
+      around = subst (λ (ms : List Match). AreAround c.args.haystack.now (map found_of ms)
+          (texts c.in_ok-fields.fields.items)) c.deref.ensures.value c.in_ok-fields.ensures.around;
     }

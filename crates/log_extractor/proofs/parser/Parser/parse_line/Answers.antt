@@ -1,5 +1,5 @@
 -- The laws, of these captures.
-use Rattle.std.proofs.Common.{rules, ◌≡◌, ◌∙◌, ℕ, List, [], ◌∷◌, ap, arith, map, refl, subst, sym, Option, None, Some, IsSome}
+use Rattle.std.proofs.Common.{◌∙◌, ℕ, List, [], ◌∷◌, ap, arith, map, refl, subst, sym, Option, option_map}
 use Rattle.regex_search_core.specs.Groups.{groups_at}
 use Rattle.regex_search_core.specs.Search.{Search, whole}
 use Rattle.regex_search_core.specs.Slots.{group_span}
@@ -7,7 +7,7 @@ use Rattle.nfa_compiler.specs.Laws.{hit}
 use Rattle.nfa_compiler.specs.Patterns.{slots_of}
 use Rattle.nfa_compiler.proofs.CallLemmas.{bytes-of}
 use Rattle.log_extractor.specs.Fields.{IsLinePattern, NamedGroup, cut, group_of, line_syntax, named_groups}
-use Rattle.log_extractor.proofs.FieldLemmas.{of-groups, regex-kept, row-none, row-some}
+use Rattle.log_extractor.proofs.FieldLemmas.{of-groups, regex-kept, row-is}
 use Rattle.log_extractor.proofs.parser.Parser.parse_line.Goals as goal
 
 pub invariant_of-self : goal.invariant_of-self
@@ -19,28 +19,6 @@ invariant_of-self c =
       rw kept.nfa (c.search.ensures.count ∙ inv.2),
       rw kept.nfa inv.3,
     )
-
-pub returns-then-not-is_match-clause-fields : goal.returns-then-not-is_match-clause-fields
-returns-then-not-is_match-clause-fields c = λ p is.
-    let line = c.args.line.now in
-    let inv = c.self.invariant in
-    let of = inv.0 in
-    let nfa = c.self.inside.regex.nfa in
-    let bytes = bytes-of line (λ k. omega (arith, c.type_inv.line k)) in
-    let inside = subst (λ (text : List ℕ). IsLinePattern text p) (sym c.self.view_is) is in
-    let groups = c.groups_are_those_of_texts.ensures.names line_syntax _ (p.names ∷ []) nfa of.compiled
-    (inside.names, tt) in
-    let hits = c.searches_find_texts.ensures.answers line_syntax _ (p.tree ∷ []) nfa _ _ (whole line) _ _ of.compiled
-    (inside.tree, tt) of.anywhere
-    (record {
-      leftmost = rw of.leftmost refl;
-      latest = ap (λ (s : Search). s.earliest) c.new.ensures;
-      whole = refl;
-    }) bytes (rw c.new.ensures at c.search.ensures.answer) in
-    let none : c.search.new.captures.pattern ≡ None = search rules in
-    sym (row-none p nfa line c.search.new.captures of.bound groups (c.search.ensures.groups ∙ inv.1) hits.0
-    (hits.1 ∙ ap (λ n. slots_of nfa.groups n (hit (p.tree ∷ []) nfa (whole line))) (c.search.ensures.count ∙ inv.2))
-    none)
 
 pub returns-clause-fields : goal.returns-clause-fields
 returns-clause-fields c = λ p is.
@@ -60,13 +38,13 @@ returns-clause-fields c = λ p is.
       latest = ap (λ (s : Search). s.earliest) c.new.ensures;
       whole = refl;
     }) bytes (rw c.new.ensures at c.search.ensures.answer) in
-    let some : IsSome captures.pattern = search rules in
     let one : ℕ → Option (List ℕ) = λ k. cut line (group_span captures k) in
-    let fields = c.in_ok-fields.ensures ∙ of-groups one c.deref.result.now
+    let fields = of-groups one c.deref.result.now
     ∙ ap (λ cs. map (λ (g : NamedGroup). one g.number) (map group_of cs)) c.deref.ensures.value
     ∙ ap (λ gs. map (λ (g : NamedGroup). one g.number) gs)
     (inv.3 ∙ ap (λ gs. named_groups 1 (groups_at gs 0)) groups) in
-    ap Some fields
-    ∙ row-some p nfa line captures of.bound groups (c.search.ensures.groups ∙ inv.1) hits.0
+    c.in_ok-fields.ensures
+    ∙ ap (λ fs. option_map (λ (k : ℕ). fs) captures.pattern) fields
+    ∙ row-is p nfa line captures of.bound groups (c.search.ensures.groups ∙ inv.1) hits.0
     (hits.1 ∙ ap (λ n. slots_of nfa.groups n (hit (p.tree ∷ []) nfa (whole line))) (c.search.ensures.count ∙ inv.2))
-    some c.groups_are_those_of_texts.ensures.spans
+    c.groups_are_those_of_texts.ensures.spans

@@ -1,12 +1,13 @@
 -- what was made of the patterns is the NFA
-use Rattle.std.proofs.Common.{◌≡◌, ◌∙◌, ◌<◌, ℕ, Bool, true, false, inl, inr, ap, arith, eq-eqb, ne_eqb, refl, subst, sym, All, ◌==◌, ◌||◌}
+use Rattle.std.proofs.Common.{◌≡◌, ◌∙◌, ◌<◌, ℕ, Bool, true, false, inl, inr, ap, arith, eq-eqb, ne_eqb, refl, subst, sym, All, ◌==◌}
 use Rattle.std.proofs.lemmas.Bool.{and_right, cases_Bool}
 use Rattle.nfa_paths.specs.Common.{Automaton}
 use Rattle.nfa_compiler.specs.Compiled.{res_of}
 use Rattle.nfa_compiler.specs.Loops.{all_begin_at_start}
 use Rattle.nfa_compiler.proofs.AddLemmas.{nodes-length}
 use Rattle.nfa_compiler.proofs.CompiledLemmas.{nfa-made}
-use Rattle.nfa_compiler.proofs.RangeLemmas.{built-valid, no-flaw}
+use Rattle.thompson_nfa.proofs.FlawLemmas.{no-flaw}
+use Rattle.nfa_compiler.proofs.RangeLemmas.{built-valid}
 use Rattle.nfa_compiler.proofs.UnboundLemmas.{only-at-start}
 use Rattle.nfa_compiler.proofs.compiler.Compiler.build_many_from_hir.Goals as goal
 

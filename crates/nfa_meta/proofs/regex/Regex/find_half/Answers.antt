@@ -8,7 +8,7 @@ use Rattle.nfa_meta.proofs.regex.Regex.find_half.Goals as goal
 
 pub returns-in-Ok-clause-pattern : goal.returns-in-Ok-clause-pattern
 returns-in-Ok-clause-pattern c =
-    let within = half-pattern-within _ _ _ (search_of c.args.input) (search rules) c.in-Ok.half c.in-Ok.ensures.answer in
+    let fact = half-pattern-within _ _ _ (search_of c.args.input) (search rules) c.in-Ok.half c.in-Ok.ensures.answer in
     first_of (search rules, grind (arith, common_steps))
 
 pub returns-in-Ok-clause-inside : goal.returns-in-Ok-clause-inside

@@ -14,4 +14,5 @@ use Rattle.nfa_meta.proofs.regex.half_matches.HalfMatchesIterator.next.Goals as 
 pub next_with-requires : goal.next_with-requires
 next_with-requires c =
     let s = steps_with_state (half_steps c.args.self.now) in
-    surely-inside may_ask (AsksHalf pike_of FindsHalfAfterDfa) half_span_of half_found_of s (halves-serve regex_engine s)
+    surely-inside may_ask (AsksHalf pike_of FindsHalfAfterDfa) half_span_of half_found_of s
+    (halves-serve regex_engine s)

@@ -1,20 +1,21 @@
--- The tokens up to this place were printed.
+-- The pieces up to this place were printed.
 use Rattle.std.proofs.Common.{◌≡◌, ◌≤◌, ◌-◌, List, length}
 use Rattle.regex_hir.specs.Re.{Re}
 use Rattle.nfa_compiler.specs.Compiled.{AreMeant}
-use Rattle.lexer.specs.Lexing.{HasPrinted}
+use Rattle.lexer.specs.Lexing.{HasRecovered}
 use Rattle.lexer.specs.Patterns.{rule_syntax}
 use Rattle.lexer.specs.Printed.{position_if}
-use Rattle.lexer.proofs.report.print_tokens.Given as goal
+use Rattle.lexer.proofs.report.Report.print_pieces.Given as goal
 
 abbrev pub invariant-loop-at : goal.invariant-loop-at
 invariant-loop-at g l = record {
-  within : l.at ≤ length l.text;
+  within : l.at ≤ length l.self.text.now;
   printed : (res : List Re) → AreMeant rule_syntax l.fn.lexer res
-      → HasPrinted res l.text l.style l.rules l.at (g.W.Write.contents l.fn.out) (g.W.Write.contents l.out);
-  position : l.position ≡ position_if l.style.positions l.text l.at;
+      → HasRecovered res l.self.text.now l.self.style l.self.rules.now l.at l.whole
+      (g.W.Write.contents l.fn.out) (g.W.Write.contents l.out);
+  position : l.position ≡ position_if l.self.style.positions l.self.text.now l.at;
   kept : l.lexer ≡ l.fn.lexer;
 }
 
 abbrev pub decreases-loop-at : goal.decreases-loop-at
-decreases-loop-at g l = length l.text - l.at
+decreases-loop-at g l = length l.self.text.now - l.at
