@@ -14,11 +14,11 @@ ghost use Rattle.nfa_engines.specs.Needs.{overlap_scans};
 ghost use Rattle.nfa_engines.specs.Paths.{IsWithinScans, IsWork, max_scans, span_len, total_degree};
 ghost use Rattle.nfa_engines.specs.PikeVMCapturesMatches.{pike_captures_next};
 ghost use Rattle.nfa_engines.specs.Search.{search_of};
-ghost use Rattle.nfa_choice.specs.CapturesMatches.{choice_catches_next};
+ghost use Rattle.nfa_choice.specs.CapturesMatches.{choice_captures_next};
 ghost use Rattle.nfa_choice.specs.ChoiceState.{kind_in};
 ghost use Rattle.nfa_choice.specs.declared.choose.Engine.TheVariants as engine;
 ghost use Rattle.nfa_hybrid.specs.HalfRuns.{HalvesAre, HalvesFirst, HalvesNext, HalvesRise, HalvesRun};
-ghost use Rattle.nfa_meta.specs.CapturesMatches.{catches_next};
+ghost use Rattle.nfa_meta.specs.CapturesMatches.{captures_next};
 ghost use Rattle.nfa_meta.specs.Halves.{halves_next};
 
 use nfa_choice::Choice;
@@ -155,18 +155,18 @@ pub fn captured_by_choice<'c, 'h>(
     alloc: Global,
     input: Input<'h>,
 ) -> Result<ChoiceCaptures<'c, 'h>, SearchError>
-    ensures runs { IfOk result (λ made. CapturesRun choice_catches_next (AnswersRow choice.entry.now.nfa
+    ensures runs { IfOk result (λ made. CapturesRun choice_captures_next (AnswersRow choice.entry.now.nfa
         (kind_in choice.entry.now) (search_of input.entry).earliest) (search_of input.entry) made) }
-    ensures first { IfOk result (λ made. CapturesFirst choice_catches_next (AnswersRow choice.entry.now.nfa
+    ensures first { IfOk result (λ made. CapturesFirst choice_captures_next (AnswersRow choice.entry.now.nfa
         (kind_in choice.entry.now) (search_of input.entry).earliest) (search_of input.entry) made) }
-    ensures next { IfOk result (λ made. CapturesNext choice_catches_next (AnswersRow choice.entry.now.nfa
+    ensures next { IfOk result (λ made. CapturesNext choice_captures_next (AnswersRow choice.entry.now.nfa
         (kind_in choice.entry.now) (search_of input.entry).earliest) (search_of input.entry) made) }
-    ensures all_rows { IfOk result (RowsAll choice_catches_next choice.entry.now.nfa (kind_in choice.entry.now)
+    ensures all_rows { IfOk result (RowsAll choice_captures_next choice.entry.now.nfa (kind_in choice.entry.now)
         (search_of input.entry).earliest (search_of input.entry)) }
-    ensures all_matches { IfOk result (MatchesInAll choice_catches_next choice.entry.now.nfa
+    ensures all_matches { IfOk result (MatchesInAll choice_captures_next choice.entry.now.nfa
         (kind_in choice.entry.now) (search_of input.entry).earliest (search_of input.entry)) }
-    ensures groups { IfOk result (CapturesGroups choice_catches_next choice.entry.now.nfa) }
-    ensures disjoint { IfOk result (CapturesDisjoint choice_catches_next (search_of input.entry)) }
+    ensures groups { IfOk result (CapturesGroups choice_captures_next choice.entry.now.nfa) }
+    ensures disjoint { IfOk result (CapturesDisjoint choice_captures_next (search_of input.entry)) }
 {
     choice.captures_iter(alloc, input)
 }
@@ -177,18 +177,18 @@ pub fn captured_by_regex<'r, 'h>(
     alloc: Global,
     input: Input<'h>,
 ) -> Result<RegexCaptures<'r, 'h>, SearchError>
-    ensures runs { IfOk result (λ made. CapturesRun catches_next (AnswersRow regex.entry.now.nfa
+    ensures runs { IfOk result (λ made. CapturesRun captures_next (AnswersRow regex.entry.now.nfa
         (kind_in regex.entry.now) (search_of input.entry).earliest) (search_of input.entry) made) }
-    ensures first { IfOk result (λ made. CapturesFirst catches_next (AnswersRow regex.entry.now.nfa
+    ensures first { IfOk result (λ made. CapturesFirst captures_next (AnswersRow regex.entry.now.nfa
         (kind_in regex.entry.now) (search_of input.entry).earliest) (search_of input.entry) made) }
-    ensures next { IfOk result (λ made. CapturesNext catches_next (AnswersRow regex.entry.now.nfa
+    ensures next { IfOk result (λ made. CapturesNext captures_next (AnswersRow regex.entry.now.nfa
         (kind_in regex.entry.now) (search_of input.entry).earliest) (search_of input.entry) made) }
-    ensures all_rows { IfOk result (RowsAll catches_next regex.entry.now.nfa (kind_in regex.entry.now)
+    ensures all_rows { IfOk result (RowsAll captures_next regex.entry.now.nfa (kind_in regex.entry.now)
         (search_of input.entry).earliest (search_of input.entry)) }
-    ensures all_matches { IfOk result (MatchesInAll catches_next regex.entry.now.nfa
+    ensures all_matches { IfOk result (MatchesInAll captures_next regex.entry.now.nfa
         (kind_in regex.entry.now) (search_of input.entry).earliest (search_of input.entry)) }
-    ensures groups { IfOk result (CapturesGroups catches_next regex.entry.now.nfa) }
-    ensures disjoint { IfOk result (CapturesDisjoint catches_next (search_of input.entry)) }
+    ensures groups { IfOk result (CapturesGroups captures_next regex.entry.now.nfa) }
+    ensures disjoint { IfOk result (CapturesDisjoint captures_next (search_of input.entry)) }
 {
     regex.captures_iter(alloc, input)
 }

@@ -83,7 +83,8 @@ fn count_one(
     counts: &mut Counts,
 ) -> Result<(), Failure>
     ensures counted { OnOk result ((ps : List LabelledPattern) → AreLinePatterns parsers.old ps
-        → (values : List (List ℕ)) → IsTally values counts.old → IsTally (values ++ value_in ps column line.now) counts.new) }
+        → (values : List (List ℕ)) → IsTally values counts.old
+        → IsTally (values ++ value_in ps column line.now) counts.new) }
     ensures kept { parsers.new ≡ parsers.old }
 {
     let Ok(row) = parsers.parse_line(content(line)) else {

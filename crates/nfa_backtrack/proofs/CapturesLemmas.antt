@@ -22,7 +22,7 @@ use Rattle.nfa_search_base.proofs.OkItemLemmas.{only-item}
 use Rattle.nfa_search_base.proofs.RunLemmas.{Begins}
 use Rattle.nfa_search_base.proofs.ShellLemmas.{ShellOf, plain_shell, steps_in}
 use Rattle.nfa_backtrack.specs.Backtrack.{Backtracker, IsTooLong, BacktrackCache}
-use Rattle.nfa_backtrack.specs.CapturesMatches.{AsksBacktrackerRow, CatchesBySearches, CatchesRefused, MayCatchByBacktracker, backtrack_captures, backtrack_captures_next}
+use Rattle.nfa_backtrack.specs.CapturesMatches.{AsksBacktrackerRow, CapturesBySearches, CapturesRefused, MayFillByBacktracker, backtrack_captures, backtrack_captures_next}
 use Rattle.nfa_backtrack.specs.Finding.{AnswersByLength, IsCounted, IsTryCapturesAnswer, SearchesOnce}
 use Rattle.nfa_backtrack.specs.declared.captures_iter.TryCapturesMatches.{TryCapturesMatches}
 use Rattle.nfa_backtrack.proofs.FindLemmas.{back_engine, counted-fits, counted-refusal, memory-alone, once-by, refused-alone}
@@ -44,9 +44,9 @@ module _ {e : Backtracker} {x : Search} {old new : BacktrackCache} where
   filled-once c (Err error) k = once-by k k.refused k.within (omega arith)
 
 -- an answer is inside the span
-catch-lies : (e : Backtracker) (t : Search) (a : Answer Row) → IsTryCapturesAnswer e t a → AnswerIsInside row_span t a
-catch-lies e t (Ok o) h = (row-lies e.nfa LeftmostFirst false t (Ok o) h.1).0
-catch-lies e t (Err error) h = tt
+captures-lie : (e : Backtracker) (t : Search) (a : Answer Row) → IsTryCapturesAnswer e t a → AnswerIsInside row_span t a
+captures-lie e t (Ok o) h = (row-lies e.nfa LeftmostFirst false t (Ok o) h.1).0
+captures-lie e t (Err error) h = tt
 
 -- ---- the engine
 
@@ -76,21 +76,22 @@ abbrev captures_shell
 captures_shell = plain_shell backtrack_captures_next backtrack_captures (λ s r t st. st.takes)
 
 -- steps may search in every state
-pub steps-serve : (s : Steps (WithCache (WithCaptures Backtracker) BacktrackCache)) → MayCatchByBacktracker s.backend
-    → can_step (λ q x. MayCatchByBacktracker q) AsksBacktrackerRow row_span s
-steps-serve s may = searches-serve back_fills (AnswerIsInside row_span) catch-lies s.backend (steps_iter_state s).at may
+pub steps-serve : (s : Steps (WithCache (WithCaptures Backtracker) BacktrackCache)) → MayFillByBacktracker s.backend
+    → can_step (λ q x. MayFillByBacktracker q) AsksBacktrackerRow row_span s
+steps-serve s may =
+    searches-serve back_fills (AnswerIsInside row_span) captures-lie s.backend (steps_iter_state s).at may
 
 -- so the iterator may
-pub catch-serves : (s : TryCapturesMatches)
-    → can_step (λ q x. MayCatchByBacktracker q) AsksBacktrackerRow row_span (steps_with_state (backtrack_captures s))
-catch-serves s = steps-serve (steps_with_state (backtrack_captures s)) (record { fits = tt; holds = s.holds })
+pub captures-serve : (s : TryCapturesMatches)
+    → can_step (λ q x. MayFillByBacktracker q) AsksBacktrackerRow row_span (steps_with_state (backtrack_captures s))
+captures-serve s = steps-serve (steps_with_state (backtrack_captures s)) (record { fits = tt; holds = s.holds })
 
 -- and after a step
 pub step-goes : (s : TryCapturesMatches) (r : Option (Result Captured SearchError))
     (t : Steps (WithCache (WithCaptures Backtracker) BacktrackCache))
     → takes_steps row_span AsksBacktrackerRow (λ q. GivesCaptures q.backend)
     (steps_with_state (backtrack_captures s)) r t
-    → MayCatchByBacktracker t.backend
+    → MayFillByBacktracker t.backend
 step-goes s r t st = step-may back_fills back_copies (steps_with_state (backtrack_captures s)) r t st
     (record { fits = tt; holds = s.holds })
 
@@ -103,16 +104,16 @@ module _ (e : Backtracker) (x : Search) (s : TryCapturesMatches)
   begins = record { iter_state = iter_state; going = going; good = engine }
 
   -- the calls give the captures of the NFA
-  pub catches-given : CapturesGiven backtrack_captures_next e.nfa LeftmostFirst false (IsTryCapturesAnswer e) x s
-  catches-given = captures-given (back_rows e x) (steps_in captures_shell) s begins
+  pub captures-are-given : CapturesGiven backtrack_captures_next e.nfa LeftmostFirst false (IsTryCapturesAnswer e) x s
+  captures-are-given = captures-given (back_rows e x) (steps_in captures_shell) s begins
       (record { fits = tt; holds = s.holds })
 
   -- and errors by the rule of refusals
-  pub catches-refused : CatchesRefused e x s
-  catches-refused = λ p seen from.
+  pub captures-refused : CapturesRefused e x s
+  captures-refused = λ p seen from.
       record {
         long = λ long whole. only-item back_copies (results_of (back_rows e x)) x (HaystackTooLong (span_len x))
-            (only-refused long) p.items ((catches-given.runs p seen from).1 whole).come;
+            (only-refused long) p.items ((captures-are-given.runs p seen from).1 whole).come;
         memory = λ fits.
             captures-memory (back_rows e x) (steps_in captures_shell) s begins (memory-alone e x fits) p seen from;
       }
@@ -124,8 +125,8 @@ module _ (e : Backtracker) (x : Search) (s : TryCapturesMatches)
           ap (λ (r : SearchError). let b : Answer Row = Err r in b) (refused-alone e x q long h)
 
   -- they change the cache only by their searches
-  pub catches-searches : CatchesBySearches e x s
-  catches-searches = record { on = shell-leaves back_fills back_copies (steps_in captures_shell) e s begins }
+  pub captures-by-searches : CapturesBySearches e x s
+  captures-by-searches = record { on = shell-leaves back_fills back_copies (steps_in captures_shell) e s begins }
 
 -- the only error of steps that begin at x is `Memory` if the span is not too long
 pub captures-by_length : (e : Backtracker) (x : Search)

@@ -13,7 +13,7 @@ use Rattle.nfa_search_base.specs.IterStates.{Answer, IterState}
 use Rattle.nfa_search_base.specs.declared.error.SearchError.{SearchError}
 use Rattle.nfa_backtrack.specs.Backtrack.{Backtracker, BacktrackCache}
 use Rattle.nfa_backtrack.specs.FindMatches.{fits_always}
-use Rattle.nfa_backtrack.specs.Finding.{BacktrackerCatchesOn, IsTryCapturesAnswer, SearchesOnce}
+use Rattle.nfa_backtrack.specs.Finding.{BacktrackerCapturesOn, IsTryCapturesAnswer, SearchesOnce}
 use Rattle.nfa_backtrack.specs.Runs.{AreRefused}
 use Rattle.nfa_backtrack.specs.declared.captures_iter.TryCapturesMatches.{TryCapturesMatches}
 
@@ -37,8 +37,8 @@ abbrev pub backtrack_captures_done : TryCapturesMatches → Bool
 backtrack_captures_done s = s.steps.done
 
 -- the backtracker may search if its captures have the groups of the NFA
-abbrev pub MayCatchByBacktracker : WithCache (WithCaptures Backtracker) BacktrackCache → Type 0
-MayCatchByBacktracker = MayFill (λ e. e.nfa) fits_always
+abbrev pub MayFillByBacktracker : WithCache (WithCaptures Backtracker) BacktrackCache → Type 0
+MayFillByBacktracker = MayFill (λ e. e.nfa) fits_always
 
 -- a search by the backtracker may answer this
 abbrev pub AsksBacktrackerRow : WithCache (WithCaptures Backtracker) BacktrackCache → Search → Answer Row
@@ -46,18 +46,18 @@ abbrev pub AsksBacktrackerRow : WithCache (WithCaptures Backtracker) BacktrackCa
 AsksBacktrackerRow = AsksEngineRow (λ e. e.nfa) IsTryCapturesAnswer (λ e x a. SearchesOnce e x a)
 
 -- a call
-pub record BacktrackerCatchesNext (s : TryCapturesMatches) (r : Option (Result Captured SearchError))
+pub record BacktrackerCapturesNext (s : TryCapturesMatches) (r : Option (Result Captured SearchError))
     (t : TryCapturesMatches) : Type 0 where
   pub takes : TakesStepWith row_span AsksBacktrackerRow GivesCaptures (backtrack_captures s) r (backtrack_captures t)
 
 abbrev pub backtrack_captures_next : TryCapturesMatches → Option (Result Captured SearchError)
     → TryCapturesMatches → Type 0
-backtrack_captures_next s r t = BacktrackerCatchesNext s r t
+backtrack_captures_next s r t = BacktrackerCapturesNext s r t
 
 -- the calls change the cache only by the searches of an iteration over x
-pub record CatchesBySearches (e : Backtracker) (x : Search) (s : TryCapturesMatches) : Type 0 where
-  pub on : GivesKept backtrack_captures_next (λ p q. BacktrackerCatchesOn e x p.cache.now q.cache.now) s
+pub record CapturesBySearches (e : Backtracker) (x : Search) (s : TryCapturesMatches) : Type 0 where
+  pub on : GivesKept backtrack_captures_next (λ p q. BacktrackerCapturesOn e x p.cache.now q.cache.now) s
 
 -- in each run errors follow the rule of refusals
-abbrev pub CatchesRefused : Backtracker → Search → TryCapturesMatches → Type 0
-CatchesRefused e x s = EachRunFrom backtrack_captures_next s (λ p. AreRefused e x (p.whole ≡ true) p.items)
+abbrev pub CapturesRefused : Backtracker → Search → TryCapturesMatches → Type 0
+CapturesRefused e x s = EachRunFrom backtrack_captures_next s (λ p. AreRefused e x (p.whole ≡ true) p.items)

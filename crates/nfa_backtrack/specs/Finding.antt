@@ -99,10 +99,10 @@ BacktrackerFindsToEnd e x ms old new =
     FindsLeaveAtEnd (IsTryFindAnswer e) (λ y a. SearchesOnce e y a) backtracker_scans x ms old new
 
 -- the same for an iteration over captures
-abbrev pub BacktrackerCatchesOn : Backtracker → Search → BacktrackCache → BacktrackCache → Type 0
-BacktrackerCatchesOn e x old new = Leaves row_span (DoesSearch (IsTryCapturesAnswer e)
+abbrev pub BacktrackerCapturesOn : Backtracker → Search → BacktrackCache → BacktrackCache → Type 0
+BacktrackerCapturesOn e x old new = Leaves row_span (DoesSearch (IsTryCapturesAnswer e)
     (λ y a. SearchesOnce e y a)) x old new
 
-abbrev pub BacktrackerCatchesToEnd : Backtracker → Search → List Row → BacktrackCache → BacktrackCache → Type 0
-BacktrackerCatchesToEnd e x rows old new =
+abbrev pub BacktrackerCapturesToEnd : Backtracker → Search → List Row → BacktrackCache → BacktrackCache → Type 0
+BacktrackerCapturesToEnd e x rows old new =
     LeavesAtEnd row_span (DoesSearch (IsTryCapturesAnswer e) (λ y a. SearchesOnce e y a)) x rows old new

@@ -49,12 +49,12 @@ impl BoundedBacktracker {
     ghost use Rattle.nfa_search_base.specs.CapturesRuns.{CapturesInside, CapturesWithin, match_in};
     ghost use Rattle.nfa_search_base.specs.Lists.{AreDisjoint, AreMatches};
     ghost use Rattle.nfa_search_base.specs.IterStates.{fresh};
-    ghost use Rattle.nfa_backtrack.specs.CapturesMatches.{CatchesBySearches, CatchesRefused};
+    ghost use Rattle.nfa_backtrack.specs.CapturesMatches.{CapturesBySearches, CapturesRefused};
     ghost use Rattle.nfa_backtrack.specs.CapturesMatches.{backtrack_captures_cache};
     ghost use Rattle.nfa_backtrack.specs.CapturesMatches.{backtrack_captures_done, backtrack_captures_engine};
     ghost use Rattle.nfa_backtrack.specs.CapturesMatches.{backtrack_captures_next, backtrack_captures_iter_state};
     ghost use Rattle.nfa_backtrack.specs.Backtrack.{IsTooLong};
-    ghost use Rattle.nfa_backtrack.specs.Finding.{AnswersByLength, BacktrackerCatchesOn, BacktrackerCatchesToEnd};
+    ghost use Rattle.nfa_backtrack.specs.Finding.{AnswersByLength, BacktrackerCapturesOn, BacktrackerCapturesToEnd};
     ghost use Rattle.nfa_backtrack.specs.Finding.{IsTryCapturesAnswer, SearchesOnce};
 
     /// Returns an iterator over the captures of all matches that do not overlap, from left to right, each with all
@@ -92,9 +92,9 @@ impl BoundedBacktracker {
         ensures given { IfOk result (CapturesGiven backtrack_captures_next self.now.nfa LeftmostFirst false
             (IsTryCapturesAnswer self.now) (search_of input.entry)) }
         ensures inside { IfOk result (CapturesWithin backtrack_captures_next (search_of input.entry)) }
-        ensures refused { IfOk result (CatchesRefused self.now (search_of input.entry)) }
+        ensures refused { IfOk result (CapturesRefused self.now (search_of input.entry)) }
         // The cache changes only by the searches of the steps.
-        ensures searches { IfOk result (CatchesBySearches self.now (search_of input.entry)) }
+        ensures searches { IfOk result (CapturesBySearches self.now (search_of input.entry)) }
     {
         let captures = self.create_captures(alloc)?;
         Ok(self.try_captures_iter_with(cache, input, captures))
@@ -131,9 +131,9 @@ impl BoundedBacktracker {
         ensures given { CapturesGiven backtrack_captures_next self.now.nfa LeftmostFirst false (IsTryCapturesAnswer
             self.now) (search_of input.entry) result }
         ensures inside { CapturesWithin backtrack_captures_next (search_of input.entry) result }
-        ensures refused { CatchesRefused self.now (search_of input.entry) result }
+        ensures refused { CapturesRefused self.now (search_of input.entry) result }
         // The cache changes only by the searches of the steps.
-        ensures searches { CatchesBySearches self.now (search_of input.entry) result }
+        ensures searches { CapturesBySearches self.now (search_of input.entry) result }
     {
         TryCapturesMatches {
             cache,
@@ -178,9 +178,9 @@ impl BoundedBacktracker {
         ensures by_length { AnswersByLength self.now (search_of input.entry) result }
         // The cache changes only by the searches of an iteration. If all captures are returned, these searches go to
         // its end.
-        ensures searches { BacktrackerCatchesOn self.now (search_of input.entry) cache.old cache.new }
+        ensures searches { BacktrackerCapturesOn self.now (search_of input.entry) cache.old cache.new }
         ensures to_end { IfOk result (λ all.
-            BacktrackerCatchesToEnd self.now (search_of input.entry) (map row_of all.items) cache.old cache.new) }
+            BacktrackerCapturesToEnd self.now (search_of input.entry) (map row_of all.items) cache.old cache.new) }
         // If the span is too long, no search is made, and the cache is unchanged.
         ensures early { IsTooLong self.now (search_of input.entry) → cache.new ≡ cache.old }
     {
@@ -189,11 +189,11 @@ impl BoundedBacktracker {
                 len: input.get_span().len(),
             });
         }
-        let catcher = CapturesFinder {
+        let finder = CapturesFinder {
             engine: self,
             captures: self.create_captures(alloc)?,
         };
-        Steps::new(input, catcher).all_with(alloc, cache)
+        Steps::new(input, finder).all_with(alloc, cache)
     }
 
     // Returns the captures of one search, and states its work.
@@ -216,7 +216,7 @@ impl BoundedBacktracker {
 
 impl<'r> FindWith for CapturesFinder<'r> {
     ghost use Rattle.nfa_search_base.specs.WithCaptures.{Row, filled_answer, row_span, GivesCaptures};
-    ghost use Rattle.nfa_backtrack.specs.CapturesMatches.{AsksBacktrackerRow, MayCatchByBacktracker};
+    ghost use Rattle.nfa_backtrack.specs.CapturesMatches.{AsksBacktrackerRow, MayFillByBacktracker};
 
     type Cache = Cache;
 
@@ -228,7 +228,7 @@ impl<'r> FindWith for CapturesFinder<'r> {
 
     ghost span = { row_span };
 
-    ghost accepts = { λ s _. MayCatchByBacktracker s };
+    ghost accepts = { λ s _. MayFillByBacktracker s };
 
     type Item = Captures;
 

@@ -135,7 +135,8 @@ module _ {nfa : Automaton} {x : Search} {s at : ℕ} {m n : Marks} (t : Taken nf
   Carries-edges node is plain writes es leads rest slots = search (rules, Carries-plain)
 
   -- a state that pushes nothing and writes no slot, with one edge or none
-  pub TurnsLead-plain : (node : Node) → slice_get nfa.states s ≡ Some node → pattern_of node ≡ None → slot_of node ≡ None
+  pub TurnsLead-plain : (node : Node) → slice_get nfa.states s ≡ Some node → pattern_of node ≡ None
+      → slot_of node ≡ None
       → (place : Option StatePos) → edges_of x node at ≡ option_to_list (option_map pair_of place)
       → IsStatePosOr nfa x place → tries_of_state_pos place ≤ degree node → (w : Walk)
       → TurnsLead nfa x (s, at) place (record w { marks = m }) (record w { marks = n })

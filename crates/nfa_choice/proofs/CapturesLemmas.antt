@@ -27,22 +27,22 @@ use Rattle.nfa_search_base.proofs.ShellLemmas.{ShellOf, plain_shell, steps_in}
 use Rattle.nfa_pikevm.specs.Engines.{Pike, kind_of}
 use Rattle.nfa_pikevm.specs.Finding.{PikeAnswersRow}
 use Rattle.nfa_choice.specs.ChoiceState.{ChoiceState, KeepsEngines, kind_in, pike_of}
-use Rattle.nfa_choice.specs.Iterations.{AsksRowBy, CatchesLead, CatchesNextBy, CatchesOn, CatchesToEnd, MayCatch, SearchesBy}
+use Rattle.nfa_choice.specs.Iterations.{AsksRowBy, CapturesLead, CapturesNextBy, CapturesOn, CapturesToEnd, MayFillCaptures, SearchesBy}
 use Rattle.nfa_choice.proofs.FindLemmas.{keeps-self, keeps-then, pike-kept}
 
 -- the state of an iteration over captures
-abbrev Catching : Type 0
-Catching = WithCache (WithCaptures (Unit {0})) ChoiceState
+abbrev Capturing : Type 0
+Capturing = WithCache (WithCaptures (Unit {0})) ChoiceState
 
 -- `Runs` says which engines a search ran.
 module _ (Runs : Search → ChoiceState → ChoiceState → Type 0) where
   -- the engine, whose answers are those of the PikeVM
-  abbrev fills : SearchesOf Pike ChoiceState Catching Row
+  abbrev fills : SearchesOf Pike ChoiceState Capturing Row
   fills = record {
     engine = λ s. pike_of s.cache;
     cache = λ s. s.cache;
     asks = AsksRowBy Runs;
-    May = λ s x. MayCatch s;
+    May = λ s x. MayFillCaptures s;
     Tells = PikeAnswersRow;
     Work = λ vm x a. SearchesBy Runs x;
     tells = λ s t a s' asked. asked.tells;
@@ -53,7 +53,7 @@ module _ (Runs : Search → ChoiceState → ChoiceState → Type 0) where
   }
 
   -- its items
-  abbrev copies : ItemsOf Catching Row Captured
+  abbrev copies : ItemsOf Capturing Row Captured
   copies = copies_of (λ q. q.backend.captures)
 
   -- what it answers to searches like x: the rows of the NFA, with the same `earliest`
@@ -78,25 +78,26 @@ module _ (Runs : Search → ChoiceState → ChoiceState → Type 0) where
   }
 
   -- steps may search in every state
-  pub steps-serve : (s : Steps Catching) → MayCatch s.backend → can_step (λ q x. MayCatch q) (AsksRowBy Runs) row_span s
+  pub steps-serve : (s : Steps Capturing) → MayFillCaptures s.backend
+      → can_step (λ q x. MayFillCaptures q) (AsksRowBy Runs) row_span s
   steps-serve s may = searches-serve fills (AnswerIsInside row_span)
       (λ vm t a h. (row-lies vm.nfa (kind_of vm) t.earliest t a h).0) s.backend (steps_iter_state s).at may
 
   -- and after a step
-  pub step-goes : (s : Steps Catching) (r : Option (Result Captured SearchError)) (t : Steps Catching)
-      → takes_steps row_span (AsksRowBy Runs) (λ q. GivesCaptures q.backend) s r t → MayCatch s.backend
-      → MayCatch t.backend
+  pub step-goes : (s : Steps Capturing) (r : Option (Result Captured SearchError)) (t : Steps Capturing)
+      → takes_steps row_span (AsksRowBy Runs) (λ q. GivesCaptures q.backend) s r t → MayFillCaptures s.backend
+      → MayFillCaptures t.backend
   step-goes s r t st may = step-may fills copies s r t st may
 
   -- An iterator T.
   module _ {T : Type 0} (steps : T → StepsWith (WithCaptures (Unit {0})) ChoiceState) where
     abbrev shell
         : ShellOf (TakesStepWith row_span (AsksRowBy Runs) GivesCaptures) (λ (i : Result Captured SearchError). i) T
-    shell = plain_shell (CatchesNextBy Runs steps) steps (λ s r t st. st.takes)
+    shell = plain_shell (CapturesNextBy Runs steps) steps (λ s r t st. st.takes)
 
     -- its calls keep the engine, and what its answers depend on
-    pub catches-kept : (s : T) → GivesStepsWith (CatchesNextBy Runs steps) steps KeepsEngines s
-    catches-kept = calls-kept captures_kept shell
+    pub captures-stay-kept : (s : T) → GivesStepsWith (CapturesNextBy Runs steps) steps KeepsEngines s
+    captures-stay-kept = calls-kept captures_kept shell
 
     -- It begins at x.
     module _ (x : Search) (s : T) (iter_state : steps_with_iter_state (steps s) ≡ fresh x)
@@ -105,19 +106,19 @@ module _ (Runs : Search → ChoiceState → ChoiceState → Type 0) where
       begins = record { iter_state = iter_state; going = going; good = refl }
 
       -- its calls give the captures of the NFA
-      pub catches-given : MayCatch (steps_with_state (steps s)).backend
-          → CapturesGiven (CatchesNextBy Runs steps) (steps s).cache.now.nfa (kind_in (steps s).cache.now) x.earliest
+      pub captures-are-given : MayFillCaptures (steps_with_state (steps s)).backend
+          → CapturesGiven (CapturesNextBy Runs steps) (steps s).cache.now.nfa (kind_in (steps s).cache.now) x.earliest
           (AnswersRow (steps s).cache.now.nfa (kind_in (steps s).cache.now) x.earliest) x s
-      catches-given may = captures-given (rows_of (steps s).cache.now x) (steps_in shell) s begins may
+      captures-are-given may = captures-given (rows_of (steps s).cache.now x) (steps_in shell) s begins may
 
       -- and no error but `Memory`
-      pub catches-memory : CapturesMemory (CatchesNextBy Runs steps) s
-      catches-memory = captures-memory (rows_of (steps s).cache.now x) (steps_in shell) s begins
+      pub captures-take-memory : CapturesMemory (CapturesNextBy Runs steps) s
+      captures-take-memory = captures-memory (rows_of (steps s).cache.now x) (steps_in shell) s begins
           (λ t e from to never. absurd never)
 
       -- they change the engine only by their searches
-      pub catches-searches : CatchesLead Runs steps x s
-      catches-searches = record {
+      pub captures-by-searches : CapturesLead Runs steps x s
+      captures-by-searches = record {
         on = shell-leaves fills copies (steps_in shell) (pike_of (steps s).cache.now) s begins;
       }
 
@@ -131,21 +132,21 @@ module _ (Runs : Search → ChoiceState → ChoiceState → Type 0) where
         backend : steps.backend ≡ record { finder = tt; captures = captures };
         going : steps.done ≡ false;
       }) where
-    made-may : MayCatch (with_cache steps c).backend
+    made-may : MayFillCaptures (with_cache steps c).backend
     made-may = rw begins.backend (made-holds c.nfa captures made)
 
     -- they may search
-    pub made-serves : can_step (λ q x. MayCatch q) (AsksRowBy Runs) row_span (with_cache steps c)
+    pub made-serves : can_step (λ q x. MayFillCaptures q) (AsksRowBy Runs) row_span (with_cache steps c)
     made-serves = steps-serve (with_cache steps c) made-may
 
     begun : Begins (SearchesAs fills (pike_of c)) x (with_cache steps c)
     begun = record { iter_state = begins.iter_state; going = begins.going; good = refl }
 
-    abbrev Calls : Steps Catching → Option (Result Captured SearchError) → Steps Catching → Type 0
+    abbrev Calls : Steps Capturing → Option (Result Captured SearchError) → Steps Capturing → Type 0
     Calls = takes_steps row_span (AsksRowBy Runs) (λ q. GivesCaptures q.backend)
 
     -- What the calls that made the list leave, and its items.
-    pub all-caught : {V : Type 0} (r : Result V SearchError) (items : V → List Captured) {left : Steps Catching}
+    pub all-caught : {V : Type 0} (r : Result V SearchError) (items : V → List Captured) {left : Steps Capturing}
         → record {
           all : IfOk r (λ v. DrainsAll Calls (with_cache steps c) (items v) left);
           errors : IfErr r (λ e. (e ≡ Memory) ⊎ DrainsToError Calls (with_cache steps c) e left);
@@ -158,8 +159,8 @@ module _ (Runs : Search → ChoiceState → ChoiceState → Type 0) where
           inside : IfOk r (λ v. All (CapturesInside x) (items v));
           disjoint : IfOk r (λ v. AreDisjoint x None (map match_in (items v)));
           keeps : KeepsEngines c left.backend.cache;
-          searches : CatchesOn Runs x c left.backend.cache;
-          to_end : IfOk r (λ v. CatchesToEnd Runs x (map row_of (items v)) c left.backend.cache);
+          searches : CapturesOn Runs x c left.backend.cache;
+          to_end : IfOk r (λ v. CapturesToEnd Runs x (map row_of (items v)) c left.backend.cache);
         }
     all-caught r items {left} given =
         let rows = all-captures (rows_of c x) begun made-may r items left given.all in

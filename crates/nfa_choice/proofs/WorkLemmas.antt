@@ -12,7 +12,7 @@ use Rattle.nfa_engines.proofs.EngineWorkLemmas.{WorkOf, Worked, calls-add, list-
 use Rattle.nfa_pikevm.specs.Engines.{Pike, kind_of}
 use Rattle.nfa_choice.specs.ChoiceState.{BacktrackerRan, ChoiceState, KeepsEngines, FellBackToPike, SearchedByRule, is_for_backtracker, is_leftmost_first, kind_in, pike_of}
 use Rattle.nfa_choice.specs.Iterations.{FindsBy, SearchesBy, TellsMatch, TellsRow}
-use Rattle.nfa_choice.specs.WorkLaws.{CatchesWithin, FindsWithin, MatchesAreWithin, RowsAreWithin}
+use Rattle.nfa_choice.specs.WorkLaws.{CapturesCostWithin, FindsWithin, MatchesAreWithin, RowsAreWithin}
 use Rattle.nfa_choice.proofs.FindLemmas.{pike-kept}
 
 -- what a search for the backtracker asks
@@ -107,8 +107,8 @@ module _ (totals : ChoiceState → Totals) (Runs : Search → ChoiceState → Ch
     works = λ s y a t is asked. works y s t is asked.work.runs asked.work.keeps;
   }
 
-  abbrev catches_work : WorkOf row_span (DoesSearch (TellsRow c) (λ y a. SearchesBy Runs y))
-  catches_work = record {
+  abbrev captures_work : WorkOf row_span (DoesSearch (TellsRow c) (λ y a. SearchesBy Runs y))
+  captures_work = record {
     nfa = c.nfa;
     kind = kind_in c;
     early = λ y. y.earliest;
@@ -129,8 +129,8 @@ module _ (Runs : Search → ChoiceState → ChoiceState → Type 0) (back : Does
 
     pub rows-within : RowsAreWithin Runs list_scan_limit
     rows-within x rows c d h = record {
-      back = list-adds (catches_work back_in Runs back c) x rows c d refl h;
-      pike = list-adds (catches_work pike_in Runs pike c) x rows c d refl h;
+      back = list-adds (captures_work back_in Runs back c) x rows c d refl h;
+      pike = list-adds (captures_work pike_in Runs pike c) x rows c d refl h;
     }
 
     pub finds-within : FindsWithin Runs 3
@@ -139,8 +139,8 @@ module _ (Runs : Search → ChoiceState → ChoiceState → Type 0) (back : Does
       pike = calls-add (finds_work pike_in Runs pike c) x c d refl h;
     }
 
-    pub catches-within : CatchesWithin Runs 3
-    catches-within x c d h = record {
-      back = calls-add (catches_work back_in Runs back c) x c d refl h;
-      pike = calls-add (catches_work pike_in Runs pike c) x c d refl h;
+    pub captures-stay-within : CapturesCostWithin Runs 3
+    captures-stay-within x c d h = record {
+      back = calls-add (captures_work back_in Runs back c) x c d refl h;
+      pike = calls-add (captures_work pike_in Runs pike c) x c d refl h;
     }

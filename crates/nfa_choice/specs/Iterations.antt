@@ -24,8 +24,8 @@ abbrev pub TellsRow : ChoiceState → Search → Answer Row → Type 0
 TellsRow c x a = AnswersRow c.nfa (kind_in c) x.earliest x a
 
 -- an iterator over captures may search if these have the groups of the NFA
-abbrev pub MayCatch : WithCache (WithCaptures (Unit {0})) ChoiceState → Type 0
-MayCatch s = HasGroups s.cache.nfa s.backend.captures
+abbrev pub MayFillCaptures : WithCache (WithCaptures (Unit {0})) ChoiceState → Type 0
+MayFillCaptures s = HasGroups s.cache.nfa s.backend.captures
 
 module _ (Runs : Search → ChoiceState → ChoiceState → Type 0) where
   -- one search for a match
@@ -49,12 +49,12 @@ module _ (Runs : Search → ChoiceState → ChoiceState → Type 0) where
   FindsToEnd x ms old new = LeavesAtEnd span_of (DoesSearch (TellsMatch old) (λ y a. FindsBy y)) x ms old new
 
   -- an iteration over the captures of x led from one engine to the other only by its searches, as far as it went
-  abbrev pub CatchesOn : Search → ChoiceState → ChoiceState → Type 0
-  CatchesOn x old new = Leaves row_span (DoesSearch (TellsRow old) (λ y a. SearchesBy y)) x old new
+  abbrev pub CapturesOn : Search → ChoiceState → ChoiceState → Type 0
+  CapturesOn x old new = Leaves row_span (DoesSearch (TellsRow old) (λ y a. SearchesBy y)) x old new
 
   -- the same, and the iteration went to its end, past these rows
-  abbrev pub CatchesToEnd : Search → List Row → ChoiceState → ChoiceState → Type 0
-  CatchesToEnd x rows old new = LeavesAtEnd row_span (DoesSearch (TellsRow old) (λ y a. SearchesBy y)) x rows old new
+  abbrev pub CapturesToEnd : Search → List Row → ChoiceState → ChoiceState → Type 0
+  CapturesToEnd x rows old new = LeavesAtEnd row_span (DoesSearch (TellsRow old) (λ y a. SearchesBy y)) x rows old new
 
   -- One search for captures may answer this. It keeps their groups.
   pub record AsksRowBy (s : WithCache (WithCaptures (Unit {0})) ChoiceState) (x : Search) (a : Answer Row)
@@ -66,12 +66,12 @@ module _ (Runs : Search → ChoiceState → ChoiceState → Type 0) where
   -- An iterator T over captures, with its steps.
   module _ {T : Type 0} (steps : T → StepsWith (WithCaptures (Unit {0})) ChoiceState) where
     -- a call
-    pub record CatchesNextBy (s : T) (r : Option (Result Captured SearchError)) (t : T) : Type 0 where
+    pub record CapturesNextBy (s : T) (r : Option (Result Captured SearchError)) (t : T) : Type 0 where
       pub takes : TakesStepWith row_span AsksRowBy GivesCaptures (steps s) r (steps t)
 
     -- the calls change the engine only by the searches of an iteration over x
-    pub record CatchesLead (x : Search) (s : T) : Type 0 where
-      pub on : GivesKept CatchesNextBy (λ p q. CatchesOn x (steps p).cache.now (steps q).cache.now) s
+    pub record CapturesLead (x : Search) (s : T) : Type 0 where
+      pub on : GivesKept CapturesNextBy (λ p q. CapturesOn x (steps p).cache.now (steps q).cache.now) s
 
 -- An iterator T over matches, with its steps. `asks` is a search.
 module _ {A T : Type 0} (asks : WithCache A ChoiceState → Search → Answer Found → WithCache A ChoiceState → Type 0)

@@ -5,7 +5,7 @@ use Rattle.nfa_paths.specs.Common.{Found, Search, Automaton, span_len}
 use Rattle.nfa_search_base.specs.WithCaptures.{Row}
 use Rattle.nfa_engines.specs.WorkLaws.{AddsAtMost, backtracker_totals, pike_totals}
 use Rattle.nfa_choice.specs.ChoiceState.{ChoiceState, SearchedByRule}
-use Rattle.nfa_choice.specs.Iterations.{CatchesOn, CatchesToEnd, FindsOn, FindsToEnd}
+use Rattle.nfa_choice.specs.Iterations.{CapturesOn, CapturesToEnd, FindsOn, FindsToEnd}
 
 -- the totals of each cache rose by at most `limit` scans of the span of x, and by no more turns than these may make
 pub record ChoiceAddsAtMost (limit : ℕ) (x : Search) (old new : ChoiceState) : Type 0 where
@@ -24,7 +24,7 @@ module _ (Runs : Search → ChoiceState → ChoiceState → Type 0) where
     -- all rows of captures are found within it
     abbrev pub RowsAreWithin : Type 0
     RowsAreWithin =
-        (x : Search) (rows : List Row) (old new : ChoiceState) → CatchesToEnd Runs x rows old new
+        (x : Search) (rows : List Row) (old new : ChoiceState) → CapturesToEnd Runs x rows old new
         → ChoiceAddsAtMost (limit old.nfa x (length rows)) x old new
 
   -- At most two scans for each byte of the span, and `more` besides.
@@ -36,9 +36,9 @@ module _ (Runs : Search → ChoiceState → ChoiceState → Type 0) where
         → ChoiceAddsAtMost (2 * span_len x + more) x old new
 
     -- nor by one over captures
-    abbrev pub CatchesWithin : Type 0
-    CatchesWithin =
-        (x : Search) (old new : ChoiceState) → CatchesOn Runs x old new
+    abbrev pub CapturesCostWithin : Type 0
+    CapturesCostWithin =
+        (x : Search) (old new : ChoiceState) → CapturesOn Runs x old new
         → ChoiceAddsAtMost (2 * span_len x + more) x old new
 
 -- these words for a choice
@@ -51,5 +51,5 @@ ChoiceRowsAreWithin = RowsAreWithin SearchedByRule
 abbrev pub ChoiceFindsWithin : ℕ → Type 0
 ChoiceFindsWithin = FindsWithin SearchedByRule
 
-abbrev pub ChoiceCatchesWithin : ℕ → Type 0
-ChoiceCatchesWithin = CatchesWithin SearchedByRule
+abbrev pub ChoiceCapturesWithin : ℕ → Type 0
+ChoiceCapturesWithin = CapturesCostWithin SearchedByRule

@@ -6,7 +6,7 @@ ghost use Rattle.nfa_engines.specs.LoopLaws.{IsKeptByLoop, IsKeptByNone, IsKeptB
 ghost use Rattle.nfa_engines.specs.WorkLaws.{list_scan_limit};
 ghost use Rattle.nfa_choice.specs.ChoiceState.{KeepsEngines, backtracker_of, pike_of};
 ghost use Rattle.nfa_choice.specs.LoopLaws.{ChoiceFitsAsBefore, IsAsBefore, RuleIsAsBefore};
-ghost use Rattle.nfa_choice.specs.WorkLaws.{ChoiceCatchesWithin, ChoiceFindsWithin, ChoiceMatchesAreWithin};
+ghost use Rattle.nfa_choice.specs.WorkLaws.{ChoiceCapturesWithin, ChoiceFindsWithin, ChoiceMatchesAreWithin};
 ghost use Rattle.nfa_choice.specs.WorkLaws.{ChoiceRowsAreWithin};
 
 /// A whole list takes little more than one search. Over the calls that find all k matches in a span of n bytes, or
@@ -26,7 +26,7 @@ pub fn lists_are_bounded()
 /// The premises are what all lists and iterators ensure (`searches`).
 pub fn iterations_are_bounded()
     ensures matches { ChoiceFindsWithin 3 }
-    ensures rows { ChoiceCatchesWithin 3 }
+    ensures rows { ChoiceCapturesWithin 3 }
 {}
 
 /// A loop of searches keeps the engines of a choice, and they answer after the loop as before it: the PikeVM, which

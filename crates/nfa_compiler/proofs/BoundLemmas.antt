@@ -1,5 +1,5 @@
--- The place of a hit, and its pattern: it starts where the search may start, ends within the haystack, and is one of the
--- patterns.
+-- The place of a hit, and its pattern: it starts where the search may start, ends within the haystack, and is one of
+-- the patterns.
 use Rattle.std.proofs.Common.{◌≡◌, ℕ, ◌+◌, ◌≤◌, Bool, List, length, arith, Some, ◌<◌, inl, inr, [], ◌∷◌, refl, Option, None, option_and_then, slice_get}
 use Rattle.std.specs.Prelude.{⊤}
 use Rattle.nfa_paths.specs.Common.{Search}

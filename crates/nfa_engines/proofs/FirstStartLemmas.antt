@@ -176,8 +176,8 @@ module _ (nfa : Automaton) (x : Search) where
       pub from : s ≤ v.1
       pub within : v.1 ≤ x.end
 
-    pub start-unbound : (s : ℕ) (v : Pair) → In v (starts nfa (from_start x s)) → StartsFrom s v
-    start-unbound s v i =
+    pub start-unanchored : (s : ℕ) (v : Pair) → In v (starts nfa (from_start x s)) → StartsFrom s v
+    start-unanchored s v i =
         let r = start-of nfa (from_start x s) v i in
         record {
           state_is = sym (same_some nfa.anchored v.0
@@ -186,8 +186,8 @@ module _ (nfa : Automaton) (x : Search) where
           within = r.within;
         }
 
-    pub unbound-start : (s : ℕ) (v : Pair) → StartsFrom s v → In v (starts nfa (from_start x s))
-    unbound-start s v h =
+    pub unanchored-start : (s : ℕ) (v : Pair) → StartsFrom s v → In v (starts nfa (from_start x s))
+    unanchored-start s v h =
         of-start nfa (from_start x s) v (record {
           state_is = ap (start_state nfa) free.unanchored ∙ ap Some (sym h.state_is);
           from = h.from;

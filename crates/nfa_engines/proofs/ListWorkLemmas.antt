@@ -7,9 +7,9 @@ use Rattle.nfa_search_base.specs.Leaving.{DoesSearch, asks_keeping}
 use Rattle.nfa_search_base.specs.IterStates.{Answer, answer_span, span_of}
 use Rattle.nfa_search_base.proofs.EngineLemmas.{same-or-made}
 use Rattle.nfa_backtrack.specs.Backtrack.{Backtracker, BacktrackCache}
-use Rattle.nfa_backtrack.specs.Finding.{BacktrackerCatchesOn, BacktrackerCatchesToEnd, BacktrackerFindsOn, BacktrackerFindsToEnd, IsTryCapturesAnswer, IsTryFindAnswer, SearchesOnce, backtracker_scans}
+use Rattle.nfa_backtrack.specs.Finding.{BacktrackerCapturesOn, BacktrackerCapturesToEnd, BacktrackerFindsOn, BacktrackerFindsToEnd, IsTryCapturesAnswer, IsTryFindAnswer, SearchesOnce, backtracker_scans}
 use Rattle.nfa_pikevm.specs.Engines.{Pike, PikeCache, kind_of}
-use Rattle.nfa_pikevm.specs.Finding.{PikeCatchesOn, PikeCatchesToEnd, PikeFindsOn, PikeFindsToEnd, PikeSearches, PikeAnswersMatch, PikeAnswersRow, pike_scans}
+use Rattle.nfa_pikevm.specs.Finding.{PikeCapturesOn, PikeCapturesToEnd, PikeFindsOn, PikeFindsToEnd, PikeSearches, PikeAnswersMatch, PikeAnswersRow, pike_scans}
 use Rattle.nfa_engines.specs.WorkLaws.{AddsAtMost, backtracker_totals, list_scan_limit, pike_totals}
 use Rattle.nfa_engines.proofs.EngineWorkLemmas.{Hit, WorkOf, Worked, calls-add, list-adds, match-hit, row-hit, worked, worked-within}
 
@@ -61,13 +61,13 @@ module _ (vm : Pike) where
     pike-finds old new h = calls-add pike_found x (record { cache = old; known = None })
         (record { cache = new; known = h.known }) tt h.left
 
-    pub pike-rows : (rows : List Row) (old new : PikeCache) → PikeCatchesToEnd vm x rows old new
+    pub pike-rows : (rows : List Row) (old new : PikeCache) → PikeCapturesToEnd vm x rows old new
         → AddsAtMost (list_scan_limit vm.nfa x (length rows)) vm.nfa x (pike_totals old) (pike_totals new)
     pike-rows rows old new h = list-adds pike_filled x rows old new tt h
 
-    pub pike-catches : (old new : PikeCache) → PikeCatchesOn vm x old new
+    pub pike-captures : (old new : PikeCache) → PikeCapturesOn vm x old new
         → AddsAtMost (2 * span_len x + 3) vm.nfa x (pike_totals old) (pike_totals new)
-    pike-catches old new h = calls-add pike_filled x old new tt h
+    pike-captures old new h = calls-add pike_filled x old new tt h
 
 -- ---- the backtracker
 
@@ -84,10 +84,10 @@ module _ (e : Backtracker) where
   find-hit y (Ok found) h = match-hit e.nfa LeftmostFirst false y (Ok found) h.1
   find-hit y (Err error) h = tt
 
-  catch-hit : (y : Search) (a : Answer Row) → IsTryCapturesAnswer e y a
+  captures-hit : (y : Search) (a : Answer Row) → IsTryCapturesAnswer e y a
       → Hit e.nfa LeftmostFirst false y (answer_span row_span a)
-  catch-hit y (Ok row) h = row-hit e.nfa LeftmostFirst false y (Ok row) h.1
-  catch-hit y (Err error) h = tt
+  captures-hit y (Ok row) h = row-hit e.nfa LeftmostFirst false y (Ok row) h.1
+  captures-hit y (Err error) h = tt
 
   -- its searches for matches, unless a match is known, and for captures
   abbrev back_found : WorkOf span_of (asks_keeping (IsTryFindAnswer e) (λ y a. SearchesOnce e y a) backtracker_scans)
@@ -114,7 +114,7 @@ module _ (e : Backtracker) where
     early = λ y. false;
     totals = backtracker_totals;
     Good = λ s. Unit {0};
-    hits = λ s y a t asked. catch-hit y a asked.tells;
+    hits = λ s y a t asked. captures-hit y a asked.tells;
     works = λ s y a t good asked. (inl (back-worked y a s t asked.work), tt);
   }
 
@@ -129,10 +129,10 @@ module _ (e : Backtracker) where
     backtracker-finds old new h = calls-add back_found x (record { cache = old; known = None })
         (record { cache = new; known = h.known }) tt h.left
 
-    pub backtracker-rows : (rows : List Row) (old new : BacktrackCache) → BacktrackerCatchesToEnd e x rows old new
+    pub backtracker-rows : (rows : List Row) (old new : BacktrackCache) → BacktrackerCapturesToEnd e x rows old new
         → AddsAtMost (list_scan_limit e.nfa x (length rows)) e.nfa x (backtracker_totals old) (backtracker_totals new)
     backtracker-rows rows old new h = list-adds back_filled x rows old new tt h
 
-    pub backtracker-catches : (old new : BacktrackCache) → BacktrackerCatchesOn e x old new
+    pub backtracker-captures : (old new : BacktrackCache) → BacktrackerCapturesOn e x old new
         → AddsAtMost (2 * span_len x + 3) e.nfa x (backtracker_totals old) (backtracker_totals new)
-    backtracker-catches old new h = calls-add back_filled x old new tt h
+    backtracker-captures old new h = calls-add back_filled x old new tt h

@@ -8,7 +8,7 @@ use Rattle.nfa_engines.specs.Accepting.{MatchesNothing}
 use Rattle.nfa_engines.specs.StartLaws.{anchored_at, from_start, IsAnswerStart, IsFirstStart, IsUnbound}
 use Rattle.nfa_engines.proofs.MovedLemmas.{moved, moved_path, moved_path-none, ArePathsMoved}
 use Rattle.nfa_engines.proofs.MovedAnswerLemmas.{answer-stays, match-stays}
-use Rattle.nfa_engines.proofs.FirstStartLemmas.{anchored-start, heads-less, heads-order, start-anchored, start-unbound, unbound-start, with-starts}
+use Rattle.nfa_engines.proofs.FirstStartLemmas.{anchored-start, heads-less, heads-order, start-anchored, start-unanchored, unanchored-start, with-starts}
 
 moved-none : (v : Pair) → moved 0 v ≡ v
 moved-none v = let at : v.1 + 0 ≡ v.1 = omega arith in λ i. (v.0, at i)
@@ -39,30 +39,30 @@ module _ (nfa : Automaton) (x : Search) (free : IsUnbound nfa x) where
       → PathTo (edges nfa (anchored_at x w.start.1)) (starts nfa (anchored_at x w.start.1)) m p
   unfolding edges_of
   anchored-path m p w =
-      let at = start-unbound nfa x free x.start w.start w.among in
+      let at = start-unanchored nfa x free x.start w.start w.among in
       let state : w.start.0 ≡ nfa.anchored = at.state_is in
       with-starts w (anchored-start nfa x w.start.1 w.start (λ i. (state i, w.start.1)) at.within)
 
   -- and one of an anchored search in the span is one of the search
-  unbound-path : (i : ℕ) → x.start ≤ i → (m : Pair) (p : List Pair)
+  unanchored-path : (i : ℕ) → x.start ≤ i → (m : Pair) (p : List Pair)
       → PathTo (edges nfa (anchored_at x i)) (starts nfa (anchored_at x i)) m p
       → PathTo (edges nfa x) (starts nfa x) m p
   unfolding edges_of
-  unbound-path i low m p w =
+  unanchored-path i low m p w =
       let at = start-anchored nfa x i w.start w.among in
       let position : w.start.1 ≡ i = ap (λ (z : Pair). z.1) at.is in
       let high : i ≤ x.end = at.within in
-      with-starts w (unbound-start nfa x free x.start w.start
+      with-starts w (unanchored-start nfa x free x.start w.start
       (record { state_is = ap (λ (z : Pair). z.0) at.is; from = omega arith; within = omega arith }))
 
   -- a search matches nothing if no anchored search in its span does
   pub nothing-at : MatchesNothing nfa x → (i : ℕ) → x.start ≤ i → MatchesNothing nfa (anchored_at x i)
-  nothing-at none i low = record { no_path = λ m p w t. none.no_path m p (unbound-path i low m p w) t }
+  nothing-at none i low = record { no_path = λ m p w t. none.no_path m p (unanchored-path i low m p w) t }
 
   pub nothing-of : ((i : ℕ) → x.start ≤ i → MatchesNothing nfa (anchored_at x i)) → MatchesNothing nfa x
   nothing-of none = record {
     no_path = λ m p w t.
-        let at = start-unbound nfa x free x.start w.start w.among in
+        let at = start-unanchored nfa x free x.start w.start w.among in
         (none w.start.1 at.from).no_path m p (anchored-path m p w) t;
   }
 
@@ -73,7 +73,7 @@ module _ (nfa : Automaton) (x : Search) (free : IsUnbound nfa x) where
     starts-past m p w t =
         elim (cases_lt w.start.1 s) [
           | inl before ↦
-              let at = start-unbound nfa x free x.start w.start w.among in
+              let at = start-unanchored nfa x free x.start w.start w.among in
               absurd ((first.nothing w.start.1 at.from before).no_path m p (anchored-path m p w) t)
           | inr past ↦ past
         ]
@@ -81,17 +81,17 @@ module _ (nfa : Automaton) (x : Search) (free : IsUnbound nfa x) where
     path-on : (m : Pair) (p : List Pair) → PathTo (edges nfa x) (starts nfa x) m p → IsMatch nfa m
         → PathTo (edges nfa x) (starts nfa (from_start x s)) m p
     path-on m p w t =
-        let at = start-unbound nfa x free x.start w.start w.among in
-        with-starts w (unbound-start nfa x free s w.start
+        let at = start-unanchored nfa x free x.start w.start w.among in
+        with-starts w (unanchored-start nfa x free s w.start
         (record { state_is = at.state_is; from = starts-past m p w t; within = at.within }))
 
     path-back : (m : Pair) (p : List Pair) → PathTo (edges nfa x) (starts nfa (from_start x s)) m p → IsMatch nfa m
         → PathTo (edges nfa x) (starts nfa x) m p
     path-back m p w t =
-        let at = start-unbound nfa x free s w.start w.among in
+        let at = start-unanchored nfa x free s w.start w.among in
         let low : x.start ≤ s = first.from in
         let past : s ≤ w.start.1 = at.from in
-        with-starts w (unbound-start nfa x free x.start w.start
+        with-starts w (unanchored-start nfa x free x.start w.start
         (record { state_is = at.state_is; from = omega arith; within = at.within }))
 
     on : ArePathsMoved (edges nfa x) (edges nfa (from_start x s)) (starts nfa x) (starts nfa (from_start x s))
@@ -129,7 +129,7 @@ module _ (nfa : Automaton) (x : Search) (free : IsUnbound nfa x) where
         let position : h.path.start.1 ≡ s = ap (λ (z : Pair). z.1) at.is in
         record {
           end = h.end;
-          path = unbound-path s first.from h.end p h.path;
+          path = unanchored-path s first.from h.end p h.path;
           wanted = h.wanted;
           first = λ m q w t.
               let past : s ≤ w.start.1 = starts-past m q w t in
@@ -167,14 +167,14 @@ module _ (nfa : Automaton) (x : Search) (free : IsUnbound nfa x) where
   module _ (p : List Pair) (h : IsFirstTo (edges nfa x) (starts nfa x) (IsMatch nfa) p) where
     first-start : IsFirstStart nfa x h.path.start.1
     first-start = record {
-      from = (start-unbound nfa x free x.start h.path.start h.path.among).from;
+      from = (start-unanchored nfa x free x.start h.path.start h.path.among).from;
       nothing = λ i low less. record {
         no_path = λ m q w t.
             let at = start-anchored nfa x i w.start w.among in
             let position : w.start.1 ≡ i = ap (λ (z : Pair). z.1) at.is in
             let order : h.path.start.1 ≤ w.start.1 =
             heads-order (edges nfa x) h.path.start w.start p q h.path.head w.head
-            (h.first m q (unbound-path i low m q w) t) in
+            (h.first m q (unanchored-path i low m q w) t) in
             absurd (omega arith);
       };
     }
@@ -186,7 +186,7 @@ module _ (nfa : Automaton) (x : Search) (free : IsUnbound nfa x) where
       end = h.end;
       path = anchored-path h.end p h.path;
       wanted = h.wanted;
-      first = λ m q w t. h.first m q (unbound-path h.path.start.1 first-start.from m q w) t;
+      first = λ m q w t. h.first m q (unanchored-path h.path.start.1 first-start.from m q w) t;
     }
 
   pub answer-start : (pattern : ℕ) (slots : List (Option ℕ))
@@ -198,7 +198,7 @@ module _ (nfa : Automaton) (x : Search) (free : IsUnbound nfa x) where
         scan.path.start.1,
         record {
           first = first-start a.path scan;
-          within = (start-unbound nfa x free x.start scan.path.start scan.path.among).within;
+          within = (start-unanchored nfa x free x.start scan.path.start scan.path.among).within;
           answers = record {
             restarts = 0;
             path = Some a.path;

@@ -3,9 +3,9 @@ use Rattle.std.specs.Prelude.{ℕ, ◌+◌, ◌*◌, ◌≤◌, ◌&&◌, not, i
 use Rattle.nfa_paths.specs.Common.{Found, Search, is_anchored, Automaton, is_utf8_empty, span_len, total_degree}
 use Rattle.nfa_search_base.specs.WithCaptures.{Row}
 use Rattle.nfa_backtrack.specs.Backtrack.{Backtracker, BacktrackCache}
-use Rattle.nfa_backtrack.specs.Finding.{BacktrackerCatchesOn, BacktrackerCatchesToEnd, BacktrackerFindsOn, BacktrackerFindsToEnd}
+use Rattle.nfa_backtrack.specs.Finding.{BacktrackerCapturesOn, BacktrackerCapturesToEnd, BacktrackerFindsOn, BacktrackerFindsToEnd}
 use Rattle.nfa_pikevm.specs.Engines.{Pike, PikeCache}
-use Rattle.nfa_pikevm.specs.Finding.{PikeCatchesOn, PikeCatchesToEnd, PikeFindsOn, PikeFindsToEnd}
+use Rattle.nfa_pikevm.specs.Finding.{PikeCapturesOn, PikeCapturesToEnd, PikeFindsOn, PikeFindsToEnd}
 
 -- the totals of a cache: the scans and turns of all its searches
 pub record Totals : Type 0 where
@@ -38,7 +38,7 @@ module _ (limit : Automaton → Search → ℕ → ℕ) where
 
   abbrev pub PikeRowsAreWithin : Type 0
   PikeRowsAreWithin =
-      (vm : Pike) (x : Search) (rows : List Row) (old new : PikeCache) → PikeCatchesToEnd vm x rows old new
+      (vm : Pike) (x : Search) (rows : List Row) (old new : PikeCache) → PikeCapturesToEnd vm x rows old new
       → AddsAtMost (limit vm.nfa x (length rows)) vm.nfa x (pike_totals old) (pike_totals new)
 
   abbrev pub BacktrackerMatchesAreWithin : Type 0
@@ -49,7 +49,7 @@ module _ (limit : Automaton → Search → ℕ → ℕ) where
   abbrev pub BacktrackerRowsAreWithin : Type 0
   BacktrackerRowsAreWithin =
       (e : Backtracker) (x : Search) (rows : List Row) (old new : BacktrackCache)
-      → BacktrackerCatchesToEnd e x rows old new
+      → BacktrackerCapturesToEnd e x rows old new
       → AddsAtMost (limit e.nfa x (length rows)) e.nfa x (backtracker_totals old) (backtracker_totals new)
 
 -- However far an iteration goes, and also if it ends with an error, it makes at most two scans for each byte of the
@@ -60,9 +60,9 @@ module _ (more : ℕ) where
       (vm : Pike) (x : Search) (old new : PikeCache) → PikeFindsOn vm x old new
       → AddsAtMost (2 * span_len x + more) vm.nfa x (pike_totals old) (pike_totals new)
 
-  abbrev pub PikeCatchesWithin : Type 0
-  PikeCatchesWithin =
-      (vm : Pike) (x : Search) (old new : PikeCache) → PikeCatchesOn vm x old new
+  abbrev pub PikeCapturesWithin : Type 0
+  PikeCapturesWithin =
+      (vm : Pike) (x : Search) (old new : PikeCache) → PikeCapturesOn vm x old new
       → AddsAtMost (2 * span_len x + more) vm.nfa x (pike_totals old) (pike_totals new)
 
   abbrev pub BacktrackerFindsWithin : Type 0
@@ -70,7 +70,7 @@ module _ (more : ℕ) where
       (e : Backtracker) (x : Search) (old new : BacktrackCache) → BacktrackerFindsOn e x old new
       → AddsAtMost (2 * span_len x + more) e.nfa x (backtracker_totals old) (backtracker_totals new)
 
-  abbrev pub BacktrackerCatchesWithin : Type 0
-  BacktrackerCatchesWithin =
-      (e : Backtracker) (x : Search) (old new : BacktrackCache) → BacktrackerCatchesOn e x old new
+  abbrev pub BacktrackerCapturesWithin : Type 0
+  BacktrackerCapturesWithin =
+      (e : Backtracker) (x : Search) (old new : BacktrackCache) → BacktrackerCapturesOn e x old new
       → AddsAtMost (2 * span_len x + more) e.nfa x (backtracker_totals old) (backtracker_totals new)

@@ -44,8 +44,8 @@ ghost use Rattle.nfa_engines.specs.SpanLaws.{MatchesReadTheSpan};
 ghost use Rattle.nfa_engines.specs.StartLaws.{AnswersHaveAStart, FirstStartAnswers, FirstStartMatches};
 ghost use Rattle.nfa_engines.specs.StartLaws.{FirstStartMatchesAnywhere, FirstStartMoves, NothingAtByte, StartIsFirst};
 ghost use Rattle.nfa_engines.specs.StartLaws.{MatchStartsArePassed, NothingAtEachStart, StartsArePassed};
-ghost use Rattle.nfa_engines.specs.WorkLaws.{list_scan_limit, BacktrackerCatchesWithin, BacktrackerFindsWithin};
-ghost use Rattle.nfa_engines.specs.WorkLaws.{BacktrackerMatchesAreWithin, BacktrackerRowsAreWithin, PikeCatchesWithin};
+ghost use Rattle.nfa_engines.specs.WorkLaws.{list_scan_limit, BacktrackerCapturesWithin, BacktrackerFindsWithin};
+ghost use Rattle.nfa_engines.specs.WorkLaws.{BacktrackerMatchesAreWithin, BacktrackerRowsAreWithin, PikeCapturesWithin};
 ghost use Rattle.nfa_engines.specs.WorkLaws.{PikeFindsWithin, PikeMatchesAreWithin, PikeRowsAreWithin};
 ghost use Rattle.nfa_pikevm.specs.Engines.{SameCapacities};
 
@@ -383,9 +383,9 @@ pub fn lists_are_bounded()
 /// The premises are what all lists and iterators ensure of the cache (`searches`).
 pub fn iterations_are_bounded()
     ensures pike { PikeFindsWithin 3 }
-    ensures pike_rows { PikeCatchesWithin 3 }
+    ensures pike_rows { PikeCapturesWithin 3 }
     ensures backtracker { BacktrackerFindsWithin 3 }
-    ensures backtracker_rows { BacktrackerCatchesWithin 3 }
+    ensures backtracker_rows { BacktrackerCapturesWithin 3 }
 {}
 
 /// A loop keeps what each of its searches keeps: the sizes of a PikeVM's cache, so the cache fits the same NFAs after

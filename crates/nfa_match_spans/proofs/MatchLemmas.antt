@@ -68,7 +68,8 @@ module _ (nfa : Automaton) (kind : MatchKind) (earliest : Bool) (x : Search) whe
     match-of-path restarts path found h answer =
         let one = search_answer-unique nfa kind earliest x answer.restarts restarts answer.path path answer.answers h in
         told (raised x restarts) path found
-        (λ p e. (last-scan nfa kind earliest x restarts p (subst (IsSearchAnswer nfa kind earliest x restarts) e h)).scan)
+        (λ p e.
+        (last-scan nfa kind earliest x restarts p (subst (IsSearchAnswer nfa kind earliest x restarts) e h)).scan)
         (grind arith)
 
     -- the end of the path that a search answers is that of its match

@@ -11,7 +11,7 @@ use Rattle.nfa_paths.proofs.PathToLemmas.{EndsWith-last}
 use Rattle.nfa_determinize.specs.Idles.{StartsFrom}
 use Rattle.nfa_engines.specs.FoundSpanLaws.{EndMayBeCut}
 use Rattle.nfa_engines.specs.StartLaws.{IsFirstStart, IsUnbound, from_start}
-use Rattle.nfa_engines.proofs.FirstStartLemmas.{same_edges, start-anchored, start-unbound, unbound-start, with-starts}
+use Rattle.nfa_engines.proofs.FirstStartLemmas.{same_edges, start-anchored, start-unanchored, unanchored-start, with-starts}
 use Rattle.nfa_lazy_dfa.specs.Windows.{IsWindow, half_in, start_in}
 use Rattle.nfa_lazy_dfa.specs.declared.window.Window.{Window}
 use Rattle.nfa_meta.specs.WindowLaws.{WindowHasTheAnswer, WindowHasTheMatch, within}
@@ -61,7 +61,7 @@ module _ (nfa : Automaton) (x : Search) (free : IsUnbound nfa x) (s : ℕ) (low 
           let high : i ≤ x.end = at.within in
           let path : PathTo (edges nfa x) (starts nfa x) m p =
           subst (λ es. PathTo es (starts nfa x) m p) (same_edges nfa x i Yes)
-          (with-starts w (unbound-start nfa x free x.start w.start
+          (with-starts w (unanchored-start nfa x free x.start w.start
           (record { state_is = ap (λ (v : Pair). v.0) at.is; from = omega arith; within = omega arith }))) in
           let past : s ≤ path.start.1 = from.from m p path accepts in
           let same : path.start.1 ≡ w.start.1 =
@@ -74,16 +74,16 @@ module _ (nfa : Automaton) (x : Search) (free : IsUnbound nfa x) (s : ℕ) (low 
   path-on : (m : Pair) (p : List Pair) → PathTo (edges nfa x) (starts nfa x) m p → IsMatch nfa m
       → PathTo (edges nfa x) (starts nfa (from_start x s)) m p
   path-on m p w accepts =
-      let at = start-unbound nfa x free x.start w.start w.among in
-      with-starts w (unbound-start nfa x free s w.start
+      let at = start-unanchored nfa x free x.start w.start w.among in
+      with-starts w (unanchored-start nfa x free s w.start
       (record { state_is = at.state_is; from = from.from m p w accepts; within = at.within }))
 
   path-back : (m : Pair) (p : List Pair) → PathTo (edges nfa x) (starts nfa (from_start x s)) m p
       → PathTo (edges nfa x) (starts nfa x) m p
   path-back m p w =
-      let at = start-unbound nfa x free s w.start w.among in
+      let at = start-unanchored nfa x free s w.start w.among in
       let past : s ≤ w.start.1 = at.from in
-      with-starts w (unbound-start nfa x free x.start w.start
+      with-starts w (unanchored-start nfa x free x.start w.start
       (record { state_is = at.state_is; from = omega arith; within = at.within }))
 
   -- the first one stays the first

@@ -1,7 +1,7 @@
 -- Laws of the work of a whole iteration by a regex, by the totals of both caches of its choice.
 use Rattle.std.specs.Prelude.{ℕ}
 use Rattle.nfa_paths.specs.Common.{Search, Automaton}
-use Rattle.nfa_choice.specs.WorkLaws.{CatchesWithin, FindsWithin, MatchesAreWithin, RowsAreWithin}
+use Rattle.nfa_choice.specs.WorkLaws.{CapturesCostWithin, FindsWithin, MatchesAreWithin, RowsAreWithin}
 use Rattle.nfa_meta.specs.WindowRuns.{RunsByWindow}
 
 -- all matches are found within a limit on scans
@@ -17,5 +17,5 @@ abbrev pub RegexFindsWithin : ℕ → Type 0
 RegexFindsWithin = FindsWithin RunsByWindow
 
 -- and so does one over captures
-abbrev pub RegexCatchesWithin : ℕ → Type 0
-RegexCatchesWithin = CatchesWithin RunsByWindow
+abbrev pub RegexCapturesWithin : ℕ → Type 0
+RegexCapturesWithin = CapturesCostWithin RunsByWindow

@@ -1,7 +1,7 @@
 //! Laws of windows, and of the work of an iteration. Each function is empty: its contract is the theorem.
 ghost use Rattle.nfa_engines.specs.WorkLaws.{list_scan_limit};
 ghost use Rattle.nfa_meta.specs.WindowLaws.{WindowHasTheAnswer, WindowHasTheMatch, WindowsAreFirstStarts};
-ghost use Rattle.nfa_meta.specs.WorkLaws.{RegexCatchesWithin, RegexFindsWithin, RegexMatchesAreWithin};
+ghost use Rattle.nfa_meta.specs.WorkLaws.{RegexCapturesWithin, RegexFindsWithin, RegexMatchesAreWithin};
 ghost use Rattle.nfa_meta.specs.WorkLaws.{RegexRowsAreWithin};
 
 use nfa_engines::laws::answer_is_that_of_the_cut_span;
@@ -41,5 +41,5 @@ pub fn lists_are_bounded()
 /// The premises are what the lists and the iterators over matches and captures ensure (`searches`).
 pub fn iterations_are_bounded()
     ensures matches { RegexFindsWithin 3 }
-    ensures rows { RegexCatchesWithin 3 }
+    ensures rows { RegexCapturesWithin 3 }
 {}

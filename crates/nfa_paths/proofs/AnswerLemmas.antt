@@ -161,10 +161,10 @@ module _ (nfa : Automaton) where
     SplitsCharacter-within {x} h = scan_answer-within x kind earliest h.path h.answers
 
     -- at most as many scans split a codepoint as starts are left
-    skipped-bound : (x : Search) (n : ℕ) → ((i : ℕ) → i < n → SplitsCharacter nfa kind earliest (raised x i))
+    skipped-anchored : (x : Search) (n : ℕ) → ((i : ℕ) → i < n → SplitsCharacter nfa kind earliest (raised x i))
         → n + 1 ≤ span_len x + 2
-    skipped-bound x zero skipped = omega arith
-    skipped-bound x (suc n) skipped =
+    skipped-anchored x zero skipped = omega arith
+    skipped-anchored x (suc n) skipped =
         let last : x.start + n ≤ x.end = SplitsCharacter-within (skipped n (omega arith)) in omega arith
 
     -- a scan whose answer splits a codepoint has no answer that is whole
@@ -197,8 +197,8 @@ module _ (nfa : Automaton) where
       split-within_scans restarts path answers = grind (arith, SplitsCharacter-whole)
 
       -- and within the limit
-      pub split-bound : k + 1 ≤ max_scans nfa x
-      split-bound = rw (empty, free) (skipped-bound x k skipped)
+      pub split-anchored : k + 1 ≤ max_scans nfa x
+      split-anchored = rw (empty, free) (skipped-anchored x k skipped)
 
 -- one scan is within the limit
 pub one_scan-bound : (nfa : Automaton) (x : Search) {scans : ℕ} → scans ≤ 1 → scans ≤ max_scans nfa x

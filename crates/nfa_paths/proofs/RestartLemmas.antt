@@ -3,7 +3,7 @@
 use Rattle.std.proofs.Common.{◌≡◌, ℕ, zero, suc, ◌+◌, ◌-◌, ◌*◌, ◌<◌, ◌≤◌, List, length, replicate, refl, ap, sym, ◌∙◌, arith, subst, below_more, rules, Option, Some, None, true, false, Bool, MatchBool, IfSome, option_map, option_and_then, inr}
 use Rattle.nfa_paths.specs.Common.{IsBoundary, Found, HalfFound, half_found_of, Search, is_anchored, match_of, HalfMatch, MatchKind, Automaton, IsAutomaton, Pair, Slots, IsAnswer, IsHalfAnswer, IsFindAnswer, raised, is_utf8_empty, slot_row, max_scans, path_half, path_pattern, EndsOnBoundary, SplitsCharacter, IsKeptAnswer, IsRestartedAnswer, IsScanAnswer, IsSearchAnswer, IsWhole, IsWithinScans}
 use Rattle.nfa_paths.specs.Restarts.{max_scan_turns, AreUnset, GivesPath, ScanGives, SearchGives, IsBounded, Restarts}
-use Rattle.nfa_paths.proofs.AnswerLemmas.{ends_on_boundary, split-within_scans, split-bound, one_scan-bound, scan_answer-within}
+use Rattle.nfa_paths.proofs.AnswerLemmas.{ends_on_boundary, split-within_scans, split-anchored, one_scan-bound, scan_answer-within}
 use Rattle.nfa_paths.proofs.InsideLemmas.{pattern-within}
 use Rattle.nfa_paths.proofs.PatternLemmas.{match-along-path}
 
@@ -156,7 +156,7 @@ module _ {nfa : Automaton} {kind : MatchKind} {earliest : Bool} {x y : Search} {
           → (0 < n → (is_utf8_empty nfa ≡ true) × (is_anchored x.anchored ≡ false)) → n + 1 ≤ max_scans nfa x
       few zero split free = one_scan-bound nfa x (omega arith)
       few (suc n) split free = let modes = free (omega arith) in
-          split-bound nfa kind earliest x modes.0 modes.1 (suc n) split
+          split-anchored nfa kind earliest x modes.0 modes.1 (suc n) split
 
   -- it starts as far on as there were scans before it
   pub scan-start : {after : ℕ} → after ≡ scans + 1 → y ≡ raised x (after - 1)

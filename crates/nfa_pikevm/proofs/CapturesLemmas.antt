@@ -18,7 +18,7 @@ use Rattle.nfa_search_base.proofs.ItemLemmas.{ItemsOf, copies_of}
 use Rattle.nfa_search_base.proofs.LeavingLemmas.{shell-leaves}
 use Rattle.nfa_search_base.proofs.RunLemmas.{Begins}
 use Rattle.nfa_search_base.proofs.ShellLemmas.{ShellOf, plain_shell, steps_in}
-use Rattle.nfa_pikevm.specs.CapturesMatches.{AsksPikeRow, CatchesBySearches, CatchesGiveCache, MayCatchByPike, pike_captures, pike_captures_next}
+use Rattle.nfa_pikevm.specs.CapturesMatches.{AsksPikeRow, CapturesBySearches, CapturesGiveCache, MayFillByPike, pike_captures, pike_captures_next}
 use Rattle.nfa_pikevm.specs.Engines.{Pike, PikeCache, SameCapacities, kind_of}
 use Rattle.nfa_pikevm.specs.Finding.{PikeAnswersRow}
 use Rattle.nfa_pikevm.specs.declared.captures_iter.CapturesMatches.{CapturesMatches}
@@ -49,25 +49,25 @@ abbrev pub captures_shell
     CapturesMatches
 captures_shell = plain_shell pike_captures_next pike_captures (λ s r t st. st.takes)
 
-may-now : (s : CapturesMatches) → MayCatchByPike (steps_with_state (pike_captures s)).backend
+may-now : (s : CapturesMatches) → MayFillByPike (steps_with_state (pike_captures s)).backend
 may-now s = record { fits = s.fits; holds = s.holds }
 
 -- steps may search in every state
-pub steps-serve : (s : Steps (WithCache (WithCaptures Pike) PikeCache)) → MayCatchByPike s.backend
-    → can_step (λ q x. MayCatchByPike q) AsksPikeRow row_span s
+pub steps-serve : (s : Steps (WithCache (WithCaptures Pike) PikeCache)) → MayFillByPike s.backend
+    → can_step (λ q x. MayFillByPike q) AsksPikeRow row_span s
 steps-serve s may = searches-serve pike_fills (AnswerIsInside row_span)
     (λ vm t a h. (row-lies vm.nfa (kind_of vm) t.earliest t a h).0) s.backend (steps_iter_state s).at may
 
 -- so the iterator may
-pub catch-serves : (s : CapturesMatches)
-    → can_step (λ q x. MayCatchByPike q) AsksPikeRow row_span (steps_with_state (pike_captures s))
-catch-serves s = steps-serve (steps_with_state (pike_captures s)) (may-now s)
+pub captures-serve : (s : CapturesMatches)
+    → can_step (λ q x. MayFillByPike q) AsksPikeRow row_span (steps_with_state (pike_captures s))
+captures-serve s = steps-serve (steps_with_state (pike_captures s)) (may-now s)
 
 -- and after a step
 pub step-goes : (s : CapturesMatches) (r : Option (Result Captured SearchError))
     (t : Steps (WithCache (WithCaptures Pike) PikeCache))
     → takes_steps row_span AsksPikeRow (λ q. GivesCaptures q.backend) (steps_with_state (pike_captures s)) r t
-    → MayCatchByPike t.backend
+    → MayFillByPike t.backend
 step-goes s r t st = step-may pike_fills pike_copies (steps_with_state (pike_captures s)) r t st (may-now s)
 
 -- An iterator of vm that begins at x.
@@ -78,18 +78,18 @@ module _ (vm : Pike) (x : Search) (s : CapturesMatches) (engine : (pike_captures
     begins = record { iter_state = iter_state; going = going; good = engine }
 
     -- the calls give the captures of the NFA
-    pub catches-given : CapturesGiven pike_captures_next vm.nfa (kind_of vm) x.earliest
+    pub captures-are-given : CapturesGiven pike_captures_next vm.nfa (kind_of vm) x.earliest
         (AnswersRow vm.nfa (kind_of vm) x.earliest) x s
-    catches-given = captures-given (pike_rows vm x) (steps_in captures_shell) s begins (may-now s)
+    captures-are-given = captures-given (pike_rows vm x) (steps_in captures_shell) s begins (may-now s)
 
     -- and no error but `Memory`
-    pub catches-memory : CapturesMemory pike_captures_next s
-    catches-memory = captures-memory (pike_rows vm x) (steps_in captures_shell) s begins
+    pub captures-take-memory : CapturesMemory pike_captures_next s
+    captures-take-memory = captures-memory (pike_rows vm x) (steps_in captures_shell) s begins
         (λ t e from to never. absurd never)
 
     -- they change the cache only by their searches
-    pub catches-searches : CatchesBySearches vm x s
-    catches-searches = record { on = shell-leaves pike_fills pike_copies (steps_in captures_shell) vm s begins }
+    pub captures-by-searches : CapturesBySearches vm x s
+    captures-by-searches = record { on = shell-leaves pike_fills pike_copies (steps_in captures_shell) vm s begins }
 
 -- each search keeps the numbers of the cache
 abbrev pub captures_kept : KeptBy AsksPikeRow
@@ -101,5 +101,5 @@ captures_kept = record {
 }
 
 -- the calls keep the cache, and its numbers
-pub catches-cache : (s : CapturesMatches) → CatchesGiveCache s
-catches-cache = calls-kept captures_kept captures_shell
+pub captures-keep-cache : (s : CapturesMatches) → CapturesGiveCache s
+captures-keep-cache = calls-kept captures_kept captures_shell

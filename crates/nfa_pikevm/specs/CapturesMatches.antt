@@ -12,7 +12,7 @@ use Rattle.nfa_search_base.specs.IterStates.{Answer, IterState}
 use Rattle.nfa_search_base.specs.declared.error.SearchError.{SearchError}
 use Rattle.nfa_pikevm.specs.Engines.{Pike, PikeCache, SameCapacities}
 use Rattle.nfa_pikevm.specs.FindMatches.{fits_pike}
-use Rattle.nfa_pikevm.specs.Finding.{PikeCatchesOn, PikeSearches, PikeAnswersRow}
+use Rattle.nfa_pikevm.specs.Finding.{PikeCapturesOn, PikeSearches, PikeAnswersRow}
 use Rattle.nfa_pikevm.specs.declared.captures_iter.CapturesMatches.{CapturesMatches}
 
 -- the steps of the iterator, and the cache that it borrows
@@ -35,8 +35,8 @@ abbrev pub pike_captures_done : CapturesMatches → Bool
 pike_captures_done s = s.steps.done
 
 -- the PikeVM may search if the cache fits and the captures have the groups of the NFA
-abbrev pub MayCatchByPike : WithCache (WithCaptures Pike) PikeCache → Type 0
-MayCatchByPike = MayFill (λ vm. vm.nfa) fits_pike
+abbrev pub MayFillByPike : WithCache (WithCaptures Pike) PikeCache → Type 0
+MayFillByPike = MayFill (λ vm. vm.nfa) fits_pike
 
 -- a search by the PikeVM may answer this
 abbrev pub AsksPikeRow : WithCache (WithCaptures Pike) PikeCache → Search → Answer Row
@@ -44,17 +44,17 @@ abbrev pub AsksPikeRow : WithCache (WithCaptures Pike) PikeCache → Search → 
 AsksPikeRow = AsksEngineRow (λ vm. vm.nfa) PikeAnswersRow (λ vm x a. PikeSearches vm x)
 
 -- a call
-pub record PikeCatchesNext (s : CapturesMatches) (r : Option (Result Captured SearchError))
+pub record PikeCapturesNext (s : CapturesMatches) (r : Option (Result Captured SearchError))
     (t : CapturesMatches) : Type 0 where
   pub takes : TakesStepWith row_span AsksPikeRow GivesCaptures (pike_captures s) r (pike_captures t)
 
 abbrev pub pike_captures_next : CapturesMatches → Option (Result Captured SearchError) → CapturesMatches → Type 0
-pike_captures_next s r t = PikeCatchesNext s r t
+pike_captures_next s r t = PikeCapturesNext s r t
 
 -- the calls keep the cache, and its sizes
-abbrev pub CatchesGiveCache : CapturesMatches → Type 0
-CatchesGiveCache s = GivesStepsWith pike_captures_next pike_captures SameCapacities s
+abbrev pub CapturesGiveCache : CapturesMatches → Type 0
+CapturesGiveCache s = GivesStepsWith pike_captures_next pike_captures SameCapacities s
 
 -- the calls change the cache only by the searches of an iteration over x
-pub record CatchesBySearches (vm : Pike) (x : Search) (s : CapturesMatches) : Type 0 where
-  pub on : GivesKept pike_captures_next (λ p q. PikeCatchesOn vm x p.cache.now q.cache.now) s
+pub record CapturesBySearches (vm : Pike) (x : Search) (s : CapturesMatches) : Type 0 where
+  pub on : GivesKept pike_captures_next (λ p q. PikeCapturesOn vm x p.cache.now q.cache.now) s

@@ -52,9 +52,9 @@ PikeFindsToEnd vm x ms old new =
     FindsLeaveAtEnd (PikeAnswersMatch vm) (λ y a. PikeSearches vm y) pike_scans x ms old new
 
 -- the same for an iteration over captures
-abbrev pub PikeCatchesOn : Pike → Search → PikeCache → PikeCache → Type 0
-PikeCatchesOn vm x old new = Leaves row_span (DoesSearch (PikeAnswersRow vm) (λ y a. PikeSearches vm y)) x old new
+abbrev pub PikeCapturesOn : Pike → Search → PikeCache → PikeCache → Type 0
+PikeCapturesOn vm x old new = Leaves row_span (DoesSearch (PikeAnswersRow vm) (λ y a. PikeSearches vm y)) x old new
 
-abbrev pub PikeCatchesToEnd : Pike → Search → List Row → PikeCache → PikeCache → Type 0
-PikeCatchesToEnd vm x rows old new =
+abbrev pub PikeCapturesToEnd : Pike → Search → List Row → PikeCache → PikeCache → Type 0
+PikeCapturesToEnd vm x rows old new =
     LeavesAtEnd row_span (DoesSearch (PikeAnswersRow vm) (λ y a. PikeSearches vm y)) x rows old new

@@ -50,12 +50,12 @@ impl PikeVM {
     ghost use Rattle.nfa_search_base.specs.CapturesRuns.{CapturesInside, CapturesMemory, CapturesWithin, match_in};
     ghost use Rattle.nfa_search_base.specs.Lists.{AreDisjoint, AreMatches};
     ghost use Rattle.nfa_search_base.specs.IterStates.{fresh};
-    ghost use Rattle.nfa_pikevm.specs.CapturesMatches.{CatchesBySearches, CatchesGiveCache};
+    ghost use Rattle.nfa_pikevm.specs.CapturesMatches.{CapturesBySearches, CapturesGiveCache};
     ghost use Rattle.nfa_pikevm.specs.CapturesMatches.{pike_captures_cache, pike_captures_done};
     ghost use Rattle.nfa_pikevm.specs.CapturesMatches.{pike_captures_engine, pike_captures_next};
     ghost use Rattle.nfa_pikevm.specs.CapturesMatches.{pike_captures_iter_state};
     ghost use Rattle.nfa_pikevm.specs.Engines.{SameCapacities, kind_of};
-    ghost use Rattle.nfa_pikevm.specs.Finding.{PikeCatchesOn, PikeCatchesToEnd};
+    ghost use Rattle.nfa_pikevm.specs.Finding.{PikeCapturesOn, PikeCapturesToEnd};
 
     /// Returns an iterator over the captures of all matches that do not overlap, from left to right, each with all
     /// groups of the NFA.
@@ -97,8 +97,8 @@ impl PikeVM {
         ensures inside { IfOk result (CapturesWithin pike_captures_next (search_of input.entry)) }
         ensures errors { IfOk result (CapturesMemory pike_captures_next) }
         // The cache changes only by the searches of the steps.
-        ensures searches { IfOk result (CatchesBySearches self.now (search_of input.entry)) }
-        ensures keeps { IfOk result CatchesGiveCache }
+        ensures searches { IfOk result (CapturesBySearches self.now (search_of input.entry)) }
+        ensures keeps { IfOk result CapturesGiveCache }
     {
         let captures = self.create_captures(alloc)?;
         Ok(self.captures_iter_with(cache, input, captures))
@@ -138,8 +138,8 @@ impl PikeVM {
         ensures inside { CapturesWithin pike_captures_next (search_of input.entry) result }
         ensures errors { CapturesMemory pike_captures_next result }
         // The cache changes only by the searches of the steps.
-        ensures searches { CatchesBySearches self.now (search_of input.entry) result }
-        ensures keeps { CatchesGiveCache result }
+        ensures searches { CapturesBySearches self.now (search_of input.entry) result }
+        ensures keeps { CapturesGiveCache result }
     {
         CapturesMatches {
             cache,
@@ -182,21 +182,21 @@ impl PikeVM {
         ensures capacities { SameCapacities cache.old cache.new }
         // The cache changes only by the searches of an iteration. If all captures are returned, these searches go to
         // its end.
-        ensures searches { PikeCatchesOn self.now (search_of input.entry) cache.old cache.new }
+        ensures searches { PikeCapturesOn self.now (search_of input.entry) cache.old cache.new }
         ensures to_end { IfOk result (λ all.
-            PikeCatchesToEnd self.now (search_of input.entry) (map row_of all.items) cache.old cache.new) }
+            PikeCapturesToEnd self.now (search_of input.entry) (map row_of all.items) cache.old cache.new) }
     {
-        let catcher = CapturesFinder {
+        let finder = CapturesFinder {
             engine: self,
             captures: self.create_captures(alloc)?,
         };
-        Steps::new(input, catcher).all_with(alloc, cache)
+        Steps::new(input, finder).all_with(alloc, cache)
     }
 }
 
 impl<'r> FindWith for CapturesFinder<'r> {
     ghost use Rattle.nfa_search_base.specs.WithCaptures.{Row, filled_answer, row_span, GivesCaptures};
-    ghost use Rattle.nfa_pikevm.specs.CapturesMatches.{AsksPikeRow, MayCatchByPike};
+    ghost use Rattle.nfa_pikevm.specs.CapturesMatches.{AsksPikeRow, MayFillByPike};
 
     type Cache = Cache;
 
@@ -208,7 +208,7 @@ impl<'r> FindWith for CapturesFinder<'r> {
 
     ghost span = { row_span };
 
-    ghost accepts = { λ s _. MayCatchByPike s };
+    ghost accepts = { λ s _. MayFillByPike s };
 
     type Item = Captures;
 

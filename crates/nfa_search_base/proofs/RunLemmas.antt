@@ -223,5 +223,6 @@ module _ {S X : Type 0} {span : X → Span} {asks : S → Search → Answer X �
       → Holds s → Advances span asks s w a s' w' → Holds s'
   step-holds leaves holds step =
       let k : Advances span asks s w a s' w' × Holds s' =
-      step-shown (λ (q : S). q) Holds (λ q t b q' same good asked. (asked, leaves q t b q' same good asked)) holds step in
+      step-shown (λ (q : S). q) Holds (λ q t b q' same good asked. (asked, leaves q t b q' same good asked)) holds
+      step in
       k.1

@@ -116,10 +116,10 @@ module _ {F : Type 0} (g : Mut F (Bor Input × (MutBor Captured × Unit {0}))
           (drains.0, (drains.1.0, ran.2, drains.1.2))))
 
       -- an iterator that runs to its end gives the greedy list, up to a failed allocation
-      pub catches-list : (s : Steps (WithCaptures F)) → FillsBy g h s.backend (steps_iter_state s).at
+      pub captures-listed : (s : Steps (WithCaptures F)) → FillsBy g h s.backend (steps_iter_state s).at
           → YieldsUpToRefusal R value s (greedy_unless row_span s.done h (steps_iter_state s))
       unfolding greedy
-      catches-list s computes = record { at = λ xs drains. at_done s.done refl xs drains }
+      captures-listed s computes = record { at = λ xs drains. at_done s.done refl xs drains }
         where
           at_done : (b : Bool) → s.done ≡ b → (xs : List Caught) → Drains R s xs
               → UpToRefusal (greedy_unless row_span b h (steps_iter_state s)) (map value xs)

@@ -21,8 +21,8 @@ use std::marker::Model;
 /// The pattern that a search matched, if any, and the slots of its groups.
 ///
 /// A slot holds the byte offset of the start or the end of a group, or `None` if the group did not take part. Copies
-/// share the groups, so a copy takes memory for its slots only. A contract sees the groups, the pattern's number and the
-/// slots.
+/// share the groups, so a copy takes memory for its slots only. A contract sees the groups, the pattern's number and
+/// the slots.
 #[derive(Debug)]
 pub struct Captures {
     group_info: HeldGroups,

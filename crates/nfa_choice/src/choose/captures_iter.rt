@@ -45,10 +45,10 @@ impl Choice {
     ghost use Rattle.nfa_search_base.specs.CapturesRuns.{CapturesInside, CapturesMemory, CapturesWithin, match_in};
     ghost use Rattle.nfa_search_base.specs.Lists.{AreDisjoint, AreMatches};
     ghost use Rattle.nfa_search_base.specs.IterStates.{fresh};
-    ghost use Rattle.nfa_choice.specs.CapturesMatches.{ChoiceCatchesBySearches, ChoiceCatchesGiveKept};
-    ghost use Rattle.nfa_choice.specs.CapturesMatches.{ChoiceCatchesOn, ChoiceCatchesToEnd, choice_catches_choice};
-    ghost use Rattle.nfa_choice.specs.CapturesMatches.{choice_captures_iter_state, choice_catches_done};
-    ghost use Rattle.nfa_choice.specs.CapturesMatches.{choice_catches_next};
+    ghost use Rattle.nfa_choice.specs.CapturesMatches.{ChoiceCapturesBySearches, ChoiceCapturesGiveKept};
+    ghost use Rattle.nfa_choice.specs.CapturesMatches.{ChoiceCapturesOn, ChoiceCapturesToEnd, choice_captures_choice};
+    ghost use Rattle.nfa_choice.specs.CapturesMatches.{choice_captures_iter_state, choice_captures_done};
+    ghost use Rattle.nfa_choice.specs.CapturesMatches.{choice_captures_next};
     ghost use Rattle.nfa_choice.specs.ChoiceState.{kind_in, KeepsEngines};
 
     /// Returns an iterator over the captures of all matches that do not overlap, from left to right, each with all
@@ -74,21 +74,21 @@ impl Choice {
         input: Input<'h>,
     ) -> Result<ChoiceCaptures<'c, 'h>, SearchError>
         ensures memory { IsOkUnless result SearchError.Memory }
-        ensures same_reference { IfOk result (λ made. (choice_catches_choice made).ghost_name
+        ensures same_reference { IfOk result (λ made. (choice_captures_choice made).ghost_name
             ≡ self.entry.ghost_name) }
-        ensures same_choice { IfOk result (λ made. (choice_catches_choice made).now ≡ self.entry.now) }
+        ensures same_choice { IfOk result (λ made. (choice_captures_choice made).now ≡ self.entry.now) }
         ensures iter_state { IfOk result (λ made. choice_captures_iter_state made ≡ fresh (search_of input.entry)) }
-        ensures going { IfOk result (λ made. choice_catches_done made ≡ false) }
+        ensures going { IfOk result (λ made. choice_captures_done made ≡ false) }
         // Each run of calls gives the first captures of the input, and all of them if it goes on to `None`. If no copy
         // fails, their rows and their matches are those of the input.
-        ensures given { IfOk result (CapturesGiven choice_catches_next self.entry.now.nfa (kind_in self.entry.now)
+        ensures given { IfOk result (CapturesGiven choice_captures_next self.entry.now.nfa (kind_in self.entry.now)
             (search_of input.entry).earliest (AnswersRow self.entry.now.nfa (kind_in self.entry.now)
             (search_of input.entry).earliest) (search_of input.entry)) }
-        ensures inside { IfOk result (CapturesWithin choice_catches_next (search_of input.entry)) }
-        ensures errors { IfOk result (CapturesMemory choice_catches_next) }
+        ensures inside { IfOk result (CapturesWithin choice_captures_next (search_of input.entry)) }
+        ensures errors { IfOk result (CapturesMemory choice_captures_next) }
         // The choice changes only by the searches of the steps.
-        ensures searches { IfOk result (ChoiceCatchesBySearches (search_of input.entry)) }
-        ensures keeps { IfOk result ChoiceCatchesGiveKept }
+        ensures searches { IfOk result (ChoiceCapturesBySearches (search_of input.entry)) }
+        ensures keeps { IfOk result ChoiceCapturesGiveKept }
     {
         let captures = self.create_captures(alloc)?;
         Ok(self.captures_iter_with(input, captures))
@@ -113,20 +113,20 @@ impl Choice {
         captures: Captures,
     ) -> ChoiceCaptures<'c, 'h>
         requires { HasGroups self.old.nfa captures }
-        ensures same_reference { (choice_catches_choice result).ghost_name ≡ self.entry.ghost_name }
-        ensures same_choice { (choice_catches_choice result).now ≡ self.entry.now }
+        ensures same_reference { (choice_captures_choice result).ghost_name ≡ self.entry.ghost_name }
+        ensures same_choice { (choice_captures_choice result).now ≡ self.entry.now }
         ensures iter_state { choice_captures_iter_state result ≡ fresh (search_of input.entry) }
-        ensures going { choice_catches_done result ≡ false }
+        ensures going { choice_captures_done result ≡ false }
         // Each run of calls gives the first captures of the input, and all of them if it goes on to `None`. If no copy
         // fails, their rows and their matches are those of the input.
-        ensures given { CapturesGiven choice_catches_next self.entry.now.nfa (kind_in self.entry.now)
+        ensures given { CapturesGiven choice_captures_next self.entry.now.nfa (kind_in self.entry.now)
             (search_of input.entry).earliest (AnswersRow self.entry.now.nfa (kind_in self.entry.now)
             (search_of input.entry).earliest) (search_of input.entry) result }
-        ensures inside { CapturesWithin choice_catches_next (search_of input.entry) result }
-        ensures errors { CapturesMemory choice_catches_next result }
+        ensures inside { CapturesWithin choice_captures_next (search_of input.entry) result }
+        ensures errors { CapturesMemory choice_captures_next result }
         // The choice changes only by the searches of the steps.
-        ensures searches { ChoiceCatchesBySearches (search_of input.entry) result }
-        ensures keeps { ChoiceCatchesGiveKept result }
+        ensures searches { ChoiceCapturesBySearches (search_of input.entry) result }
+        ensures keeps { ChoiceCapturesGiveKept result }
     {
         ChoiceCaptures {
             choice: self,
@@ -166,21 +166,21 @@ impl Choice {
         ensures keeps { KeepsEngines self.old self.new }
         // The choice changes only by the searches of an iteration. If all captures are returned, these searches go to
         // its end.
-        ensures searches { ChoiceCatchesOn (search_of input.entry) self.old self.new }
+        ensures searches { ChoiceCapturesOn (search_of input.entry) self.old self.new }
         ensures to_end { IfOk result (λ all.
-            ChoiceCatchesToEnd (search_of input.entry) (map row_of all.items) self.old self.new) }
+            ChoiceCapturesToEnd (search_of input.entry) (map row_of all.items) self.old self.new) }
     {
-        let catcher = CapturesFinder {
+        let finder = CapturesFinder {
             captures: self.create_captures(alloc)?,
         };
-        Steps::new(input, catcher).all_with(alloc, self)
+        Steps::new(input, finder).all_with(alloc, self)
     }
 }
 
 impl FindWith for CapturesFinder {
     ghost use Rattle.nfa_search_base.specs.WithCaptures.{Row, filled_answer, row_span, GivesCaptures};
     ghost use Rattle.nfa_choice.specs.ChoiceState.{SearchedByRule};
-    ghost use Rattle.nfa_choice.specs.Iterations.{AsksRowBy, MayCatch};
+    ghost use Rattle.nfa_choice.specs.Iterations.{AsksRowBy, MayFillCaptures};
 
     type Cache = Choice;
 
@@ -192,7 +192,7 @@ impl FindWith for CapturesFinder {
 
     ghost span = { row_span };
 
-    ghost accepts = { λ s _. MayCatch s };
+    ghost accepts = { λ s _. MayFillCaptures s };
 
     type Item = Captures;
 
@@ -219,13 +219,13 @@ impl FindWith for CapturesFinder {
 
 impl<'c, 'h> Iterator for ChoiceCaptures<'c, 'h> {
     ghost use Rattle.nfa_search_base.specs.StepsWith.{steps_with_left};
-    ghost use Rattle.nfa_choice.specs.CapturesMatches.{choice_catches, choice_catches_next};
+    ghost use Rattle.nfa_choice.specs.CapturesMatches.{choice_captures_steps, choice_captures_next};
 
     type Item = Result<Captures, SearchError>;
 
-    ghost next_gives = { choice_catches_next };
+    ghost next_gives = { choice_captures_next };
 
-    ghost remaining = { λ s. steps_with_left (choice_catches s) };
+    ghost remaining = { λ s. steps_with_left (choice_captures_steps s) };
 
     fn next(&mut self) -> Option<Result<Captures, SearchError>> {
         self.steps.next_with(self.choice)

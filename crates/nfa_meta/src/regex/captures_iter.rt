@@ -45,10 +45,10 @@ impl Regex {
     ghost use Rattle.nfa_search_base.specs.CapturesRuns.{CapturesInside, CapturesMemory, CapturesWithin, match_in};
     ghost use Rattle.nfa_search_base.specs.Lists.{AreDisjoint, AreMatches};
     ghost use Rattle.nfa_search_base.specs.IterStates.{fresh};
-    ghost use Rattle.nfa_meta.specs.CapturesMatches.{CatchesBySearches, CatchesGiveKept};
-    ghost use Rattle.nfa_meta.specs.CapturesMatches.{RegexCatchesOn, RegexCatchesToEnd, catches_regex};
-    ghost use Rattle.nfa_meta.specs.CapturesMatches.{catches_iter_state, catches_done};
-    ghost use Rattle.nfa_meta.specs.CapturesMatches.{catches_next};
+    ghost use Rattle.nfa_meta.specs.CapturesMatches.{CapturesBySearches, CapturesGiveKept};
+    ghost use Rattle.nfa_meta.specs.CapturesMatches.{RegexCapturesOn, RegexCapturesToEnd, captures_regex};
+    ghost use Rattle.nfa_meta.specs.CapturesMatches.{captures_iter_state, captures_done};
+    ghost use Rattle.nfa_meta.specs.CapturesMatches.{captures_next};
     ghost use Rattle.nfa_choice.specs.ChoiceState.{kind_in, KeepsEngines};
 
     /// Returns an iterator over the captures of all matches that do not overlap, from left to right, each with all
@@ -74,21 +74,21 @@ impl Regex {
         input: Input<'h>,
     ) -> Result<CapturesMatches<'r, 'h>, SearchError>
         ensures memory { IsOkUnless result SearchError.Memory }
-        ensures same_reference { IfOk result (λ made. (catches_regex made).ghost_name
+        ensures same_reference { IfOk result (λ made. (captures_regex made).ghost_name
             ≡ self.entry.ghost_name) }
-        ensures same_regex { IfOk result (λ made. (catches_regex made).now ≡ self.entry.now) }
-        ensures iter_state { IfOk result (λ made. catches_iter_state made ≡ fresh (search_of input.entry)) }
-        ensures going { IfOk result (λ made. catches_done made ≡ false) }
+        ensures same_regex { IfOk result (λ made. (captures_regex made).now ≡ self.entry.now) }
+        ensures iter_state { IfOk result (λ made. captures_iter_state made ≡ fresh (search_of input.entry)) }
+        ensures going { IfOk result (λ made. captures_done made ≡ false) }
         // Each run of calls gives the first captures of the input, and all of them if it goes on to `None`. If no copy
         // fails, their rows and their matches are those of the input.
-        ensures given { IfOk result (CapturesGiven catches_next self.entry.now.nfa (kind_in self.entry.now)
+        ensures given { IfOk result (CapturesGiven captures_next self.entry.now.nfa (kind_in self.entry.now)
             (search_of input.entry).earliest (AnswersRow self.entry.now.nfa (kind_in self.entry.now)
             (search_of input.entry).earliest) (search_of input.entry)) }
-        ensures inside { IfOk result (CapturesWithin catches_next (search_of input.entry)) }
-        ensures errors { IfOk result (CapturesMemory catches_next) }
+        ensures inside { IfOk result (CapturesWithin captures_next (search_of input.entry)) }
+        ensures errors { IfOk result (CapturesMemory captures_next) }
         // The engines change only by the searches of the steps.
-        ensures searches { IfOk result (CatchesBySearches (search_of input.entry)) }
-        ensures keeps { IfOk result CatchesGiveKept }
+        ensures searches { IfOk result (CapturesBySearches (search_of input.entry)) }
+        ensures keeps { IfOk result CapturesGiveKept }
     {
         let captures = self.create_captures(alloc)?;
         Ok(self.captures_iter_with(input, captures))
@@ -113,20 +113,20 @@ impl Regex {
         captures: Captures,
     ) -> CapturesMatches<'r, 'h>
         requires { HasGroups self.old.nfa captures }
-        ensures same_reference { (catches_regex result).ghost_name ≡ self.entry.ghost_name }
-        ensures same_regex { (catches_regex result).now ≡ self.entry.now }
-        ensures iter_state { catches_iter_state result ≡ fresh (search_of input.entry) }
-        ensures going { catches_done result ≡ false }
+        ensures same_reference { (captures_regex result).ghost_name ≡ self.entry.ghost_name }
+        ensures same_regex { (captures_regex result).now ≡ self.entry.now }
+        ensures iter_state { captures_iter_state result ≡ fresh (search_of input.entry) }
+        ensures going { captures_done result ≡ false }
         // Each run of calls gives the first captures of the input, and all of them if it goes on to `None`. If no copy
         // fails, their rows and their matches are those of the input.
-        ensures given { CapturesGiven catches_next self.entry.now.nfa (kind_in self.entry.now)
+        ensures given { CapturesGiven captures_next self.entry.now.nfa (kind_in self.entry.now)
             (search_of input.entry).earliest (AnswersRow self.entry.now.nfa (kind_in self.entry.now)
             (search_of input.entry).earliest) (search_of input.entry) result }
-        ensures inside { CapturesWithin catches_next (search_of input.entry) result }
-        ensures errors { CapturesMemory catches_next result }
+        ensures inside { CapturesWithin captures_next (search_of input.entry) result }
+        ensures errors { CapturesMemory captures_next result }
         // The engines change only by the searches of the steps.
-        ensures searches { CatchesBySearches (search_of input.entry) result }
-        ensures keeps { CatchesGiveKept result }
+        ensures searches { CapturesBySearches (search_of input.entry) result }
+        ensures keeps { CapturesGiveKept result }
     {
         CapturesMatches {
             regex: self,
@@ -166,20 +166,20 @@ impl Regex {
         ensures keeps { KeepsEngines self.old self.new }
         // The engines change only by the searches of an iteration. If all captures are returned, these searches go to
         // its end.
-        ensures searches { RegexCatchesOn (search_of input.entry) self.old self.new }
+        ensures searches { RegexCapturesOn (search_of input.entry) self.old self.new }
         ensures to_end { IfOk result (λ all.
-            RegexCatchesToEnd (search_of input.entry) (map row_of all.items) self.old self.new) }
+            RegexCapturesToEnd (search_of input.entry) (map row_of all.items) self.old self.new) }
     {
-        let catcher = CapturesFinder {
+        let finder = CapturesFinder {
             captures: self.create_captures(alloc)?,
         };
-        Steps::new(input, catcher).all_with(alloc, self)
+        Steps::new(input, finder).all_with(alloc, self)
     }
 }
 
 impl FindWith for CapturesFinder {
     ghost use Rattle.nfa_search_base.specs.WithCaptures.{Row, filled_answer, row_span, GivesCaptures};
-    ghost use Rattle.nfa_choice.specs.Iterations.{AsksRowBy, MayCatch};
+    ghost use Rattle.nfa_choice.specs.Iterations.{AsksRowBy, MayFillCaptures};
     ghost use Rattle.nfa_meta.specs.WindowRuns.{RunsByWindow};
 
     type Cache = Regex;
@@ -192,7 +192,7 @@ impl FindWith for CapturesFinder {
 
     ghost span = { row_span };
 
-    ghost accepts = { λ s _. MayCatch s };
+    ghost accepts = { λ s _. MayFillCaptures s };
 
     type Item = Captures;
 
@@ -219,13 +219,13 @@ impl FindWith for CapturesFinder {
 
 impl<'r, 'h> Iterator for CapturesMatches<'r, 'h> {
     ghost use Rattle.nfa_search_base.specs.StepsWith.{steps_with_left};
-    ghost use Rattle.nfa_meta.specs.CapturesMatches.{catches_steps, catches_next};
+    ghost use Rattle.nfa_meta.specs.CapturesMatches.{captures_steps, captures_next};
 
     type Item = Result<Captures, SearchError>;
 
-    ghost next_gives = { catches_next };
+    ghost next_gives = { captures_next };
 
-    ghost remaining = { λ s. steps_with_left (catches_steps s) };
+    ghost remaining = { λ s. steps_with_left (captures_steps s) };
 
     fn next(&mut self) -> Option<Result<Captures, SearchError>> {
         self.steps.next_with(self.regex)

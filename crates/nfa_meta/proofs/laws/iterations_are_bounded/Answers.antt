@@ -1,5 +1,5 @@
 -- The totals of both caches rise by at most 2n + 3 scans, wherever an iteration stops.
-use Rattle.nfa_choice.proofs.WorkLemmas.{catches-within, finds-within}
+use Rattle.nfa_choice.proofs.WorkLemmas.{captures-stay-within, finds-within}
 use Rattle.nfa_meta.specs.WindowRuns.{RunsByWindow}
 use Rattle.nfa_meta.proofs.WorkLemmas.{back-windows, pike-windows}
 use Rattle.nfa_meta.proofs.laws.iterations_are_bounded.Goals as goal
@@ -8,4 +8,4 @@ pub returns-clause-matches : goal.returns-clause-matches
 returns-clause-matches c = finds-within RunsByWindow back-windows pike-windows
 
 pub returns-clause-rows : goal.returns-clause-rows
-returns-clause-rows c = catches-within RunsByWindow back-windows pike-windows
+returns-clause-rows c = captures-stay-within RunsByWindow back-windows pike-windows

@@ -39,7 +39,8 @@ loop-at-preserved g c =
           printed-more report.style report.rules.now res report.text.now _ c.loop-at.at (token_found c.in-Some.token)
           _ _ inv.within (inv.printed res meant) is writes;
       position = c.moved-position.ensures
-          ∙ position-moved report.style.positions c.loop-at.position report.text.now c.loop-at.at c.in-Some.token.span.end
+          ∙ position-moved report.style.positions c.loop-at.position report.text.now c.loop-at.at
+              c.in-Some.token.span.end
           inv.position;
       kept = search rules;
     }

@@ -1,10 +1,10 @@
 -- A step may be made, and leaves what the iterator keeps.
 use Rattle.nfa_search_base.specs.WithCache.{with_cache}
-use Rattle.nfa_backtrack.proofs.CapturesLemmas.{catch-serves, step-goes}
+use Rattle.nfa_backtrack.proofs.CapturesLemmas.{captures-serve, step-goes}
 use Rattle.nfa_backtrack.proofs.captures_iter.TryCapturesMatchesIterator.next.Goals as goal
 
 pub next_with-requires : goal.next_with-requires
-next_with-requires c = catch-serves c.args.self.now
+next_with-requires c = captures-serve c.args.self.now
 
 pub invariant_of-self : goal.invariant_of-self
 invariant_of-self c =

@@ -6,7 +6,7 @@ use Rattle.nfa_search_base.proofs.DrainedLemmas.{all-captures, made-holds}
 use Rattle.nfa_search_base.proofs.EngineLemmas.{SearchesAs}
 use Rattle.nfa_search_base.proofs.LeavingLemmas.{all-to_end, steps-leave}
 use Rattle.nfa_search_base.proofs.RunLemmas.{Begins}
-use Rattle.nfa_backtrack.specs.CapturesMatches.{MayCatchByBacktracker}
+use Rattle.nfa_backtrack.specs.CapturesMatches.{MayFillByBacktracker}
 use Rattle.nfa_backtrack.specs.Backtrack.{IsTooLong}
 use Rattle.nfa_backtrack.proofs.CapturesLemmas.{back_copies, back_fills, back_rows, captures-by_length, steps-serve}
 use Rattle.nfa_backtrack.proofs.engine.BoundedBacktracker.try_captures_all.Goals as goal
@@ -15,7 +15,7 @@ pub all_with-requires : goal.all_with-requires
 all_with-requires c =
     let captures = c.in_ok-create_captures in
     let begun = with_cache c.new.result c.args.cache.now in
-    let may : MayCatchByBacktracker begun.backend = rw c.new.ensures.backend (record {
+    let may : MayFillByBacktracker begun.backend = rw c.new.ensures.backend (record {
       fits = tt;
       holds = made-holds c.args.self.now.nfa captures.field-0 captures.ensures.made;
     }) in
@@ -34,7 +34,7 @@ returns c =
     let captures = c.in_ok-create_captures in
     let begun = with_cache c.new.result c.args.cache.now in
     let left = with_cache c.all_with.new.self c.all_with.new.cache in
-    let may : MayCatchByBacktracker begun.backend = rw c.new.ensures.backend (record {
+    let may : MayFillByBacktracker begun.backend = rw c.new.ensures.backend (record {
       fits = tt;
       holds = made-holds e.nfa captures.field-0 captures.ensures.made;
     }) in

@@ -1,17 +1,17 @@
 -- The iterator gives the captures of its input.
 use Rattle.std.proofs.Common.{refl}
 use Rattle.nfa_paths.specs.Common.{search_of}
-use Rattle.nfa_backtrack.proofs.CapturesLemmas.{catches-given, catches-refused, catches-searches}
+use Rattle.nfa_backtrack.proofs.CapturesLemmas.{captures-are-given, captures-refused, captures-by-searches}
 use Rattle.nfa_backtrack.proofs.engine.BoundedBacktracker.try_captures_iter_with.Goals as goal
 
 pub returns-clause-given : goal.returns-clause-given
-returns-clause-given c = catches-given c.args.self.now (search_of c.args.input) _ refl c.new.ensures refl
+returns-clause-given c = captures-are-given c.args.self.now (search_of c.args.input) _ refl c.new.ensures refl
 
 pub returns-clause-inside : goal.returns-clause-inside
-returns-clause-inside c = (catches-given c.args.self.now (search_of c.args.input) _ refl c.new.ensures refl).inside
+returns-clause-inside c = (captures-are-given c.args.self.now (search_of c.args.input) _ refl c.new.ensures refl).inside
 
 pub returns-clause-refused : goal.returns-clause-refused
-returns-clause-refused c = catches-refused c.args.self.now (search_of c.args.input) _ refl c.new.ensures refl
+returns-clause-refused c = captures-refused c.args.self.now (search_of c.args.input) _ refl c.new.ensures refl
 
 pub returns-clause-searches : goal.returns-clause-searches
-returns-clause-searches c = catches-searches c.args.self.now (search_of c.args.input) _ refl c.new.ensures refl
+returns-clause-searches c = captures-by-searches c.args.self.now (search_of c.args.input) _ refl c.new.ensures refl

@@ -7,7 +7,7 @@ use Rattle.nfa_search_base.proofs.DrainedLemmas.{all-captures, calls-cache, erro
 use Rattle.nfa_search_base.proofs.EngineLemmas.{SearchesAs}
 use Rattle.nfa_search_base.proofs.LeavingLemmas.{all-to_end, steps-leave}
 use Rattle.nfa_search_base.proofs.RunLemmas.{Begins}
-use Rattle.nfa_pikevm.specs.CapturesMatches.{MayCatchByPike}
+use Rattle.nfa_pikevm.specs.CapturesMatches.{MayFillByPike}
 use Rattle.nfa_pikevm.proofs.CapturesLemmas.{captures_kept, pike_copies, pike_fills, pike_rows, steps-serve}
 use Rattle.nfa_pikevm.proofs.engine.PikeVM.captures_all.Goals as goal
 
@@ -15,7 +15,7 @@ pub all_with-requires : goal.all_with-requires
 all_with-requires c =
     let captures = c.in_ok-create_captures in
     let begun = with_cache c.new.result c.args.cache.now in
-    let may : MayCatchByPike begun.backend = rw c.new.ensures.backend (record {
+    let may : MayFillByPike begun.backend = rw c.new.ensures.backend (record {
       fits = c.requires;
       holds = made-holds c.args.self.now.nfa captures.field-0 captures.ensures.made;
     }) in
@@ -31,7 +31,7 @@ returns c =
     let captures = c.in_ok-create_captures in
     let begun = with_cache c.new.result c.args.cache.now in
     let left = with_cache c.all_with.new.self c.all_with.new.cache in
-    let may : MayCatchByPike begun.backend = rw c.new.ensures.backend (record {
+    let may : MayFillByPike begun.backend = rw c.new.ensures.backend (record {
       fits = c.requires;
       holds = made-holds vm.nfa captures.field-0 captures.ensures.made;
     }) in

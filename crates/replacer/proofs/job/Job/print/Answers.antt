@@ -1,4 +1,5 @@
--- What is printed by the NFA is what the pattern means. A text that was read as a whole is the one line, without an end.
+-- What is printed by the NFA is what the pattern means. A text that was read as a whole is the one line, without an
+-- end.
 use Rattle.std.proofs.Common.{rules, ◌≡◌, ℕ, List, [], false, subst, true}
 use Rattle.std.specs.Io.KnownBytes.{Appends}
 use Rattle.replacer.specs.Printed.{Prints, shown}

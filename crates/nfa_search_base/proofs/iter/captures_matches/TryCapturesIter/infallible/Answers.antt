@@ -1,6 +1,6 @@
 -- The items are those of the iterator that it was.
 use Rattle.std.proofs.Common.{refl}
-use Rattle.nfa_search_base.proofs.WithCapturesLemmas.{catches-list}
+use Rattle.nfa_search_base.proofs.WithCapturesLemmas.{captures-listed}
 use Rattle.nfa_search_base.proofs.MayAnswerRowLemmas.{sure-caught, sure-caught_disjoint}
 use Rattle.nfa_search_base.proofs.iter.captures_matches.TryCapturesIter.infallible.Goals as goal
 
@@ -15,5 +15,5 @@ returns g c =
       next = λ going. (given going).next;
       all = λ going. (given going).all;
       disjoint = λ going. sure-caught_disjoint g.F.FnMut c.args.self going c.requires;
-      list = λ h. catches-list g.F.FnMut h _ (λ s r t st. st.0) c.args.self;
+      list = λ h. captures-listed g.F.FnMut h _ (λ s r t st. st.0) c.args.self;
     }

@@ -1,7 +1,7 @@
 -- The items are the list of the finder, up to a refusal.
 use Rattle.std.proofs.Common.{refl}
 use Rattle.nfa_search_base.specs.Stored.{steps_from}
-use Rattle.nfa_search_base.proofs.WithCapturesLemmas.{catches-list}
+use Rattle.nfa_search_base.proofs.WithCapturesLemmas.{captures-listed}
 use Rattle.nfa_search_base.proofs.MayAnswerRowLemmas.{caught, caught-disjoint}
 use Rattle.nfa_search_base.proofs.iter.searcher.Searcher.into_captures_iter.Goals as goal
 
@@ -19,5 +19,5 @@ returns g c =
       next = given.next;
       all = given.all;
       disjoint = caught-disjoint g.F.FnMut s refl c.requires;
-      list = λ h. catches-list g.F.FnMut h _ (λ s r t st. st) s;
+      list = λ h. captures-listed g.F.FnMut h _ (λ s r t st. st) s;
     })
