@@ -87,17 +87,15 @@ pub fn help_below(alloc: Global) -> Result<String, AllocError> {
 /// Reads the split arguments, the first of which is the name of the program. The help ends with `below`. The only error
 /// is that allocation failed.
 pub fn parse<'w>(alloc: Global, below: &'w str, words: &'w [&'w str]) -> Result<Command<'w>> {
-    let mut args = Vec::new(alloc);
-    args.push(pattern_argument(alloc))?;
-    args.push(format_argument(alloc))?;
-    push_output(alloc, &mut args)?;
-    args.push(count_argument(alloc)?)?;
-    args.push(files_argument(alloc))?;
     let command = clap::Command::new(alloc, "log_extractor")
         .about("Prints the fields of log lines.")
         .override_usage(USAGE)
         .after_help(below)
-        .args(args)?;
+        .arg(pattern_argument(alloc))?
+        .arg(format_argument(alloc))?;
+    let command = with_output(alloc, command)?
+        .arg(count_argument(alloc)?)?
+        .arg(files_argument(alloc))?;
     match command.try_get_matches_from(words) {
         Ok(matches) => Ok(Command::Extract(read_matches(alloc, &matches)?)),
         Err(error) => Ok(Command::Say(error)),
@@ -137,30 +135,33 @@ fn count_argument<'w>(alloc: Global) -> Result<Arg<'w>, AllocError> {
         .conflicts_with("rejects")
 }
 
-/// Appends the options that say what is printed.
-fn push_output<'w>(alloc: Global, args: &mut Vec<Arg<'w>>) -> Result<(), AllocError> {
-    args.push(
-        flag(alloc, "rows")?
-            .conflicts_with("json")?
-            .conflicts_with("rejects")?
-            .help("Print no line with the names of the columns"),
-    )?;
-    args.push(
-        flag(alloc, "csv")?
-            .conflicts_with("json")?
-            .conflicts_with("rejects")?
-            .help("Separate fields by commas"),
-    )?;
-    args.push(
-        flag(alloc, "json")?
-            .conflicts_with("rejects")?
-            .help("Print a JSON object for each row"),
-    )?;
-    args.push(flag(alloc, "rejects")?.help("Print the lines that have no row, and no rows"))?;
-    args.push(flag(alloc, "line-buffered")?.help(
-        "Write the output for a line before reading on, as to a terminal",
-    ))?;
-    Ok(())
+/// Adds the options that say what is printed.
+fn with_output<'w>(
+    alloc: Global,
+    command: clap::Command<'w>,
+) -> Result<clap::Command<'w>, AllocError> {
+    command
+        .arg(
+            flag(alloc, "rows")?
+                .conflicts_with("json")?
+                .conflicts_with("rejects")?
+                .help("Print no line with the names of the columns"),
+        )?
+        .arg(
+            flag(alloc, "csv")?
+                .conflicts_with("json")?
+                .conflicts_with("rejects")?
+                .help("Separate fields by commas"),
+        )?
+        .arg(
+            flag(alloc, "json")?
+                .conflicts_with("rejects")?
+                .help("Print a JSON object for each row"),
+        )?
+        .arg(flag(alloc, "rejects")?.help("Print the lines that have no row, and no rows"))?
+        .arg(flag(alloc, "line-buffered")?.help(
+            "Write the output for a line before reading on, as to a terminal",
+        ))
 }
 
 /// The arguments that belong to no option: the files.

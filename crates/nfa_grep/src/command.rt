@@ -1,6 +1,6 @@
 //! What the arguments of the command line ask for.
 use crate::fault::Fault;
-use crate::flags::push_flags;
+use crate::flags::with_flags;
 use crate::options::{Bounds, Context, Options, Report, When};
 use clap::{Arg, ArgAction, ArgMatches, Error};
 use std::alloc::{AllocError, Global};
@@ -60,9 +60,6 @@ pub enum Command<'w> {
 /// Reads the split arguments, the first of which is the name of the program. Fails if the value of `-m` is not a
 /// number, or if allocation failed.
 pub fn parse<'w>(alloc: Global, words: &'w [&'w str]) -> Result<Command<'w>, Fault> {
-    let mut args = Vec::new(alloc);
-    push_flags(alloc, &mut args)?;
-    args.push(words_argument(alloc)?)?;
     let command = clap::Command::new(alloc, "nfa_grep")
         .about("Prints the lines in which a pattern matches.")
         .version(VERSION)
@@ -71,8 +68,8 @@ pub fn parse<'w>(alloc: Global, words: &'w [&'w str]) -> Result<Command<'w>, Fau
         // -h has a meaning of its own.
         .disable_help_flag(true)
         // An option may be given several times.
-        .args_override_self(true)
-        .args(args)?;
+        .args_override_self(true);
+    let command = with_flags(alloc, command)?.arg(words_argument(alloc)?)?;
     match command.try_get_matches_from(words) {
         Ok(matches) => Ok(Command::Search(read_matches(alloc, &matches)?)),
         Err(error) => Ok(Command::Say(error)),

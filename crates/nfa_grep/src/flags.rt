@@ -1,5 +1,5 @@
 //! The options that the command line has, as `clap` reads them.
-use clap::{Arg, ArgAction};
+use clap::{Arg, ArgAction, Command};
 use std::alloc::{AllocError, Global};
 
 /// When colours are printed.
@@ -19,13 +19,13 @@ struct Entry {
     help: &'static str,
 }
 
-/// Appends all options, in the order of the help.
-pub fn push_flags<'w>(alloc: Global, args: &mut Vec<Arg<'w>>) -> Result<(), AllocError> {
-    push_patterns(alloc, args)?;
-    push_reports(alloc, args)?;
-    push_limits(alloc, args)?;
-    push_lines(alloc, args)?;
-    push_colours(alloc, args)
+/// Adds all options.
+pub fn with_flags<'w>(alloc: Global, command: Command<'w>) -> Result<Command<'w>, AllocError> {
+    let command = with_patterns(alloc, command)?;
+    let command = with_reports(alloc, command)?;
+    let command = with_limits(alloc, command)?;
+    let command = with_lines(alloc, command)?;
+    with_colours(alloc, command)
 }
 
 /// An option without a value, of this name and this letter.
@@ -72,16 +72,17 @@ fn listed(name: &'static str, letter: char, value: &'static str, help: &'static 
     }
 }
 
-/// Appends these options.
-fn push_each<'w>(
+/// Adds these options.
+fn with_each<'w>(
     alloc: Global,
-    args: &mut Vec<Arg<'w>>,
+    command: Command<'w>,
     flags: &[Entry],
-) -> Result<(), AllocError> {
+) -> Result<Command<'w>, AllocError> {
+    let mut command = command;
     for flag in flags {
-        args.push(arg_of(alloc, *flag)?)?;
+        command = command.arg(arg_of(alloc, *flag)?)?;
     }
-    Ok(())
+    Ok(command)
 }
 
 /// Returns the option, as `clap` has it.
@@ -113,11 +114,11 @@ fn with_value<'w>(arg: Arg<'w>, flag: Entry) -> Arg<'w> {
     }
 }
 
-/// Appends the options that give the patterns, and say how they are read and which lines are selected.
-fn push_patterns<'w>(alloc: Global, args: &mut Vec<Arg<'w>>) -> Result<(), AllocError> {
-    push_each(
+/// Adds the options that give the patterns, and say how they are read and which lines are selected.
+fn with_patterns<'w>(alloc: Global, command: Command<'w>) -> Result<Command<'w>, AllocError> {
+    with_each(
         alloc,
-        args,
+        command,
         &[
             listed(
                 "regexp",
@@ -163,11 +164,11 @@ fn push_patterns<'w>(alloc: Global, args: &mut Vec<Arg<'w>>) -> Result<(), Alloc
     )
 }
 
-/// Appends the options that say what is printed of a file instead of its lines.
-fn push_reports<'w>(alloc: Global, args: &mut Vec<Arg<'w>>) -> Result<(), AllocError> {
-    push_each(
+/// Adds the options that say what is printed of a file instead of its lines.
+fn with_reports<'w>(alloc: Global, command: Command<'w>) -> Result<Command<'w>, AllocError> {
+    with_each(
         alloc,
-        args,
+        command,
         &[
             flag("count", 'c', "Print only the number of selected lines"),
             rival(
@@ -186,17 +187,17 @@ fn push_reports<'w>(alloc: Global, args: &mut Vec<Arg<'w>>) -> Result<(), AllocE
     )
 }
 
-/// Appends the options that end a search early, and those that say which lines around a selected one are printed.
-fn push_limits<'w>(alloc: Global, args: &mut Vec<Arg<'w>>) -> Result<(), AllocError> {
+/// Adds the options that end a search early, and those that say which lines around a selected one are printed.
+fn with_limits<'w>(alloc: Global, command: Command<'w>) -> Result<Command<'w>, AllocError> {
     let quiet = flag(
         "quiet",
         'q',
         "Print nothing, and end at the first selected line",
     );
-    args.push(arg_of(alloc, quiet)?.alias("silent")?)?;
-    push_each(
+    let command = command.arg(arg_of(alloc, quiet)?.alias("silent")?)?;
+    with_each(
         alloc,
-        args,
+        command,
         &[
             valued(
                 "max-count",
@@ -226,11 +227,11 @@ fn push_limits<'w>(alloc: Global, args: &mut Vec<Arg<'w>>) -> Result<(), AllocEr
     )
 }
 
-/// Appends the options that say what is printed of a line, and which files are searched.
-fn push_lines<'w>(alloc: Global, args: &mut Vec<Arg<'w>>) -> Result<(), AllocError> {
-    push_each(
+/// Adds the options that say what is printed of a line, and which files are searched.
+fn with_lines<'w>(alloc: Global, command: Command<'w>) -> Result<Command<'w>, AllocError> {
+    with_each(
         alloc,
-        args,
+        command,
         &[
             flag(
                 "only-matching",
@@ -276,16 +277,14 @@ fn push_lines<'w>(alloc: Global, args: &mut Vec<Arg<'w>>) -> Result<(), AllocErr
     )
 }
 
-/// Appends the option for colours, and the help.
-fn push_colours<'w>(alloc: Global, args: &mut Vec<Arg<'w>>) -> Result<(), AllocError> {
-    args.push(colour(alloc)?)?;
-    args.push(
+/// Adds the option for colours, and the help.
+fn with_colours<'w>(alloc: Global, command: Command<'w>) -> Result<Command<'w>, AllocError> {
+    command.arg(colour(alloc)?)?.arg(
         Arg::new(alloc, "help")
             .long("help")
             .action(ArgAction::Help)
             .help("Print help"),
-    )?;
-    Ok(())
+    )
 }
 
 /// The option that says when colours are printed.
