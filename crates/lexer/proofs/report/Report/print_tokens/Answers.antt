@@ -40,7 +40,7 @@ loop-at-preserved g c =
           _ _ inv.within (inv.printed res meant) is writes;
       position = c.moved-position.ensures
           ∙ position-moved report.style.positions c.loop-at.position report.text.now c.loop-at.at
-              c.in-Some.token.span.end
+          c.in-Some.token.span.end
           inv.position;
       kept = search rules;
     }
