@@ -12,7 +12,7 @@ RegexMatchesAreWithin = MatchesAreWithin RunsByWindow
 abbrev pub RegexRowsAreWithin : (Automaton → Search → ℕ → ℕ) → Type 0
 RegexRowsAreWithin = RowsAreWithin RunsByWindow
 
--- an iteration over matches makes at most two scans for each byte of the span, and so many besides
+-- an iteration over matches makes at most two scans for each byte of the span, and N besides
 abbrev pub RegexFindsWithin : ℕ → Type 0
 RegexFindsWithin = FindsWithin RunsByWindow
 

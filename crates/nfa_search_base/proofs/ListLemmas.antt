@@ -57,7 +57,7 @@ as_items-rest {X} (x ∷ xs) (y ∷ ys) more e =
     let rest = as_items-rest xs ys more tail in
     (rest.0, ap (λ (z : X). z ∷ ys) same ∙ ap (λ (l : List X). x ∷ l) rest.1)
 
--- Answers of `under`, as they are shown, are answers of `tells`.
+-- Each answer of `under` is shown as an answer with the same span, of the second relation.
 pub record ShownAs {X Y : Type 0} (span : X → Span) (span' : Y → Span) (under : Search → Answer X → Type 0)
     (tells : Search → Answer Y → Type 0) : Type 0 where
   pub shown : Answer X → Answer Y
