@@ -60,16 +60,21 @@ class Runner:
     def run(self, program, arguments, text=b'', out=subprocess.PIPE, path=None, limit=60, user=None, **settings):
         """Runs a program with this input, which is a text, a file, or one that cannot be read; and with the library, if
         there are settings for it. The environment has nothing else."""
-        stdin = {'stdin': subprocess.PIPE if isinstance(text, bytes) else text}
-        if text is CLOSED:
-            stdin = {'stdin': subprocess.DEVNULL, 'preexec_fn': lambda: os.close(0)}
         command = path or built(program)
         if not pathlib.Path(command).exists():
             self.stop(f'there is no {command}, which `rt ci` builds')
         environment = {name: str(value) for name, value in settings.items()}
         if settings:
             environment['LD_PRELOAD'] = faults()
-        with tempfile.TemporaryFile() as told:
+        with tempfile.TemporaryFile() as told, tempfile.TemporaryFile() as held:
+            if 'READS' in settings and isinstance(text, bytes):
+                # A read of a pipe may take a part of what will come, and a read of a file does not.
+                held.write(text)
+                held.seek(0)
+                text = held
+            stdin = {'stdin': subprocess.PIPE if isinstance(text, bytes) else text}
+            if text is CLOSED:
+                stdin = {'stdin': subprocess.DEVNULL, 'preexec_fn': lambda: os.close(0)}
             with starting:
                 self.runs += 1
                 os.dup2(told.fileno(), TOLD)
