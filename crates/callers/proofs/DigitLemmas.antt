@@ -2,10 +2,7 @@
 use Rattle.std.proofs.Common.{◌≡◌, ℕ, ◌≤◌, true, List, [], ◌∷◌, codes, arith, subst, sym, IsSomeAnd, ◌↔◌}
 use Rattle.std.proofs.lemmas.Bool.Decides.{nat_tests}
 use Rattle.std.specs.Char.{is_ascii_digit}
-use Rattle.regex_hir.specs.Re.{Re, byte_in, cat, empty, literal}
-use Rattle.regex_hir.specs.Meaning.{copies}
-use Rattle.regex_syntax.specs.Verdict.{default_config}
-use Rattle.nfa_compiler.specs.Written.{IsReadAs, MatchesIn, MatchesInStr, byte_syntax}
+use Rattle.nfa_compiler.specs.Common.{Re, byte_in, cat, empty, literal, copies, default_config, IsReadAs, MatchesIn, MatchesInStr, byte_syntax}
 use Rattle.nfa_compiler.proofs.Literals.{Range, in_ranges, on_literals, alone, alt-fail, ascii-class, cat-empty, cat_cong, from-boundaries, same-copies, same_refl, ◌then◌}
 
 abbrev pub digits : List Range

@@ -1,20 +1,14 @@
 -- The half matches of a search are the ends of its matches, if the NFA records its bounds: from the laws.
-use Rattle.std.proofs.Common.{◌≡◌, ◌∙◌, ℕ, ◌+◌, ◌≤◌, Bool, Option, None, Some, Ok, Err, List, [], ◌∷◌, map, refl, sym, ap, subst, arith, option_and_then, option_map}
-use Rattle.nfa_engines.specs.Agreement.{FindsEnds, HalfAndFullAgree, IsFoundIn, end_answer, end_item, end_of}
+use Rattle.std.proofs.Common.{◌≡◌, ◌∙◌, ℕ, ◌+◌, ◌≤◌, Bool, Option, None, Some, Ok, Err, List, [], ◌∷◌, map, refl, sym, ap, arith, option_and_then, option_map}
+use Rattle.nfa_search_base.specs.Common.{FindsEnds, HalfAndFullAgree, IsFoundIn, answer_by, end_of, item_by, EndsBy, Item, greedy, matches_in, AreMatches, AnswersMatch, Answer, AnswerIsInside, fresh, half_span_of, answer_span, span_of}
 use Rattle.nfa_engines.specs.Automaton.{Automaton, IsAutomaton}
-use Rattle.nfa_engines.specs.LastEnd.{EndsBy}
 use Rattle.nfa_engines.specs.Found.{Found, HalfFound}
 use Rattle.nfa_engines.specs.Groups.{slot_count}
-use Rattle.nfa_engines.specs.HalfLaws.{OneHalfMatch}
-use Rattle.nfa_engines.specs.Items.{Item, greedy, matches_in}
-use Rattle.nfa_engines.specs.Laws.{EverySearchHasAnAnswer, OneMatch}
-use Rattle.nfa_engines.specs.Lists.{AreMatches, AnswersMatch}
+use Rattle.nfa_engines.specs.Laws.{AtMostOne, EverySearchHasAnAnswer}
 use Rattle.nfa_engines.specs.MatchKind.{MatchKind}
-use Rattle.nfa_engines.specs.Paths.{path_half, path_pattern, slot_row}
+use Rattle.nfa_engines.specs.Paths.{path_half, path_pattern, slot_row, IsFindAnswer, IsHalfAnswer}
 use Rattle.nfa_engines.specs.Search.{Search}
 use Rattle.nfa_engines.specs.Slots.{match_of}
-use Rattle.nfa_engines.specs.Span.{Span}
-use Rattle.nfa_engines.specs.IterStates.{Answer, AnswerIsInside, fresh, half_span_of, answer_span, span_of}
 use Rattle.nfa_match_spans.specs.MatchSpanLaws.{HalfMatchesAreEnds}
 use Rattle.nfa_match_spans.specs.StatePaths.{RecordsMatchSpans}
 use Rattle.nfa_search_base.proofs.ListLemmas.{as_items, items-greedy, last-unique, match-lies, matches_in-as_items}
@@ -22,21 +16,20 @@ use Rattle.nfa_search_base.proofs.IterStateLemmas.{IsOrdered}
 use Rattle.nfa_hybrid.specs.HalfLists.{AnswersHalf, AreHalves}
 
 -- the ends of matches as items
-ends-in : (ms : List Found) → matches_in (map end_item (as_items ms)) ≡ map end_of ms
+ends-in : (ms : List Found) → matches_in (map (item_by end_of) (as_items ms)) ≡ map end_of ms
 ends-in [] = refl
 ends-in (m ∷ ms) = ap (λ (l : List HalfFound). end_of m ∷ l) (ends-in ms)
 
 -- the end as an answer
 end-answered : (half : Option HalfFound) (found : Option Found) → half ≡ option_map end_of found
-    → (let a : Answer HalfFound = Ok half in a ≡ end_answer (Ok found))
-end-answered half None is = rw is refl
-end-answered half (Some m) is = rw is refl
+    → (let a : Answer HalfFound = Ok half in a ≡ answer_by end_of (Ok found))
+end-answered half found is = grind arith
 
 behind-none : (n : ℕ) → EndsBy None n
-behind-none n = λ e is. let never : None ≡ Some e = is in cc
+behind-none n = grind arith
 
-module _ (answered : EverySearchHasAnAnswer) (one : OneMatch) (one_half : OneHalfMatch) (agree : HalfAndFullAgree)
-    (ends : HalfMatchesAreEnds) (nfa : Automaton) (kind : MatchKind) (earliest : Bool) where
+module _ (answered : EverySearchHasAnAnswer) (one : AtMostOne IsFindAnswer) (one_half : AtMostOne IsHalfAnswer)
+    (agree : HalfAndFullAgree) (ends : HalfMatchesAreEnds) (nfa : Automaton) (kind : MatchKind) (earliest : Bool) where
   abbrev tells : Search → Answer HalfFound → Type 0
   tells = AnswersHalf nfa kind earliest
 
@@ -64,16 +57,10 @@ module _ (answered : EverySearchHasAnAnswer) (one : OneMatch) (one_half : OneHal
 
   -- a search gives one of each
   half-one : (t : Search) (a b : Answer HalfFound) → tells t a → tells t b → a ≡ b
-  half-one t (Ok p) (Ok q) h k =
-      ap (λ (o : Option HalfFound). let a : Answer HalfFound = Ok o in a) (one_half nfa t kind earliest p q h k)
-  half-one t (Ok p) (Err e) h k = absurd k
-  half-one t (Err e) b h k = absurd h
+  half-one t a b h k = grind (arith, one_half)
 
   match-one : (t : Search) (a b : Answer Found) → tells_match t a → tells_match t b → a ≡ b
-  match-one t (Ok p) (Ok q) h k =
-      ap (λ (o : Option Found). let a : Answer Found = Ok o in a) (one nfa t kind earliest p q h k)
-  match-one t (Ok p) (Err e) h k = absurd k
-  match-one t (Err e) b h k = absurd h
+  match-one t a b h k = grind (arith, one)
 
   -- the match is in the span
   found-in : (t : Search) (found : Option Found) → tells_match t (Ok found) → IsFoundIn t (Ok found)
@@ -89,22 +76,15 @@ module _ (answered : EverySearchHasAnAnswer) (one : OneMatch) (one_half : OneHal
     -- so is the end of it
     end-in : (t : Search) (half : HalfFound) (found : Option Found) → IsFoundIn t (Ok found)
         → Some half ≡ option_map end_of found → (t.start ≤ half.offset) × (half.offset ≤ t.end)
-    end-in t half None h is = absurd (let never : Some half ≡ None = is in cc)
-    end-in t half (Some m) h is =
-        let some : Some half ≡ Some (end_of m) = is in
-        let same : half ≡ end_of m = cc in
-        rw same (omega (arith, h.0, h.1), h.2)
+    end-in t half found h is = grind arith
 
     half-lies : (t : Search) (a : Answer HalfFound) → tells t a
         → AnswerIsInside half_span_of t a × IsOrdered (answer_span half_span_of a)
     half-lies t (Ok (Some half)) h = (
       end-in t half (match_at t) (found-in t (match_at t) (match_at-answered t)) (half-end t (Some half) h),
-      λ p is.
-          let some : Some (half_span_of half) ≡ Some p = is in
-          let same : half_span_of half ≡ p = cc in
-          subst (λ (q : Span). q.start ≤ q.end) same (omega arith),
+      grind arith,
     )
-    half-lies t (Ok None) h = (tt, λ p is. let never : None ≡ Some p = is in cc)
+    half-lies t (Ok None) h = (tt, grind arith)
     half-lies t (Err e) h = absurd h
 
     -- the list of the half matches is that of the ends
@@ -129,5 +109,5 @@ module _ (answered : EverySearchHasAnAnswer) (one : OneMatch) (one_half : OneHal
         let both = agree h k (fresh x) (record { behind = behind-none x.start; ordered = ordered }) finds in
         sym (matches_in-as_items halves)
         ∙ ap (λ (l : List (Item HalfFound)). matches_in l)
-        (half_items ∙ both ∙ ap (λ (l : List (Item Found)). map end_item l) match_items)
+        (half_items ∙ both ∙ ap (λ (l : List (Item Found)). map (item_by end_of) l) match_items)
         ∙ ends-in ms

@@ -8,14 +8,9 @@ use Rattle.nfa_engines.specs.Search.{Search, whole}
 use Rattle.nfa_engines.specs.Anchored.TheVariants.{No}
 use Rattle.nfa_engines.specs.MatchKind.{MatchKind}
 use Rattle.nfa_engines.specs.Automaton.{Automaton}
-use Rattle.nfa_engines.specs.Paths.{byte_at, IsAnswer, IsFindAnswer}
+use Rattle.nfa_engines.specs.Paths.{byte_at, IsFindAnswer}
 use Rattle.nfa_engines.specs.SpanLaws.{cut_out}
 use Rattle.callers.specs.Written.{line_of}
-
-pub answer_of : (nfa : Automaton) (kind : MatchKind) (x y : Search) (pattern : Option ℕ) (slots : List (Option ℕ))
-    → y ≡ x → IsAnswer nfa kind y.earliest y pattern slots → IsAnswer nfa kind x.earliest x pattern slots
-answer_of nfa kind x y pattern slots same h =
-    subst (λ (z : Search). IsAnswer nfa kind z.earliest z pattern slots) same h
 
 pub match_of_search : (nfa : Automaton) (kind : MatchKind) (x y : Search) (found : Option Found) → y ≡ x
     → IsFindAnswer nfa kind y.earliest y found → IsFindAnswer nfa kind x.earliest x found

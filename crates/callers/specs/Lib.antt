@@ -1,5 +1,3 @@
-pub mod Classes
-pub mod Finding
 pub mod Lines
 pub mod Loops
 pub mod Redacted

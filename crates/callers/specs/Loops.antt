@@ -3,7 +3,7 @@ use Rattle.std.specs.Prelude.{ℕ, ◌≡◌, ◌&&◌, ◌<◌, Bool, false, tr
 use Rattle.nfa_engines.specs.Anchored.TheVariants.{Yes}
 use Rattle.nfa_engines.specs.Backtrack.{Backtracker}
 use Rattle.nfa_engines.specs.Engines.{Pike, kind_of}
-use Rattle.nfa_engines.specs.Finds.{finds}
+use Rattle.nfa_engines.specs.Lists.{finds}
 use Rattle.nfa_engines.specs.MatchKind.TheVariants.{LeftmostFirst}
 use Rattle.nfa_engines.specs.Search.{Search, whole}
 

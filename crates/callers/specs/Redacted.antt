@@ -1,8 +1,7 @@
 -- A text with stars in place of what a group holds.
 use Rattle.std.specs.Prelude.{ℕ, ◌≡◌, Bool, false, ◌&&◌, nat_le, nat_lt, All, List, map, Option, None, Some, if◌then◌else◌}
 use Rattle.std.specs.List.{enumerate_from, list_any}
-use Rattle.nfa_engines.specs.WithCaptures.{row_of}
-use Rattle.nfa_engines.specs.CapturesLists.{AreRows, HasGroups}
+use Rattle.nfa_search_base.specs.Common.{row_of, AreRows, HasGroups}
 use Rattle.nfa_engines.specs.Search.{whole}
 use Rattle.nfa_engines.specs.Slots.{Captured, named_span}
 use Rattle.nfa_engines.specs.Span.{Span}

@@ -10,11 +10,11 @@ ghost use Rattle.nfa_engines.specs.Accepting.{MatchesNothing, MatchesPattern, Ma
 ghost use Rattle.nfa_engines.specs.Backtrack.{capacity_of, max_haystack_len_of};
 ghost use Rattle.nfa_engines.specs.Engines.{Fits, kind_of};
 ghost use Rattle.nfa_engines.specs.Graphs.{Pair};
-ghost use Rattle.nfa_engines.specs.IterationLaws.{IsCall};
+ghost use Rattle.nfa_engines.specs.ListLaws.{IsCall};
 ghost use Rattle.nfa_engines.specs.Paths.{IsBoolAnswer, IsScanAnswer, IsSearchAnswer, is_utf8_empty, path_pattern};
 ghost use Rattle.nfa_engines.specs.Paths.{span_len};
 ghost use Rattle.nfa_engines.specs.Finders.{match_span};
-ghost use Rattle.nfa_engines.specs.Searchers.{iter_state_of};
+ghost use Rattle.nfa_engines.specs.Stored.{iter_state_of};
 ghost use Rattle.nfa_engines.specs.IterStates.{LiesIn};
 
 use nfa_engines::backtrack::{self, BoundedBacktracker};

@@ -28,8 +28,8 @@ impl Model for Classifier {
 
 impl Classifier {
     ghost use Rattle.std.specs.Prelude.{◌≡◌, ◌↔◌, ℕ, IfOk, length};
-    ghost use Rattle.nfa_engines.specs.Overlaps.{HoldsPattern};
-    ghost use Rattle.callers.specs.Classes.{IsClassOf};
+    ghost use Rattle.nfa_engines.specs.Overlaps.{HoldsPattern, IsPatternOf, IsPermitted};
+    ghost use Rattle.nfa_engines.specs.Search.{whole};
 
     /// Makes a classifier by the patterns of this NFA. Fails only if allocation fails.
     pub fn new(alloc: Global, nfa: NFA) -> Result<Classifier>
@@ -45,7 +45,8 @@ impl Classifier {
     /// Returns the classes of the line: each pattern that matches somewhere in it, and no other. Fails only if
     /// allocation fails.
     pub fn classes(&mut self, alloc: Global, line: &[u8]) -> Result<PatternSet>
-        ensures exact { IfOk result (λ set. (k : ℕ) → HoldsPattern set k ↔ IsClassOf self.old line.now k) }
+        ensures exact { IfOk result (λ set. (k : ℕ) → HoldsPattern set k
+            ↔ IsPatternOf self.old (whole line.now) (IsPermitted self.old (whole line.now)) k) }
         ensures room { IfOk result (λ set. length set ≡ length self.old.patterns) }
         ensures keeps { self.new ≡ self.old }
     {

@@ -12,12 +12,10 @@ ghost use Rattle.nfa_engines.specs.GapLaws.{PathsWriteTheirEnds};
 ghost use Rattle.nfa_engines.specs.Graphs.{Pair};
 ghost use Rattle.nfa_engines.specs.Overlaps.{HoldsPattern};
 ghost use Rattle.nfa_engines.specs.Paths.{IsFindAnswer, IsSearchAnswer, is_utf8_empty, raised};
-ghost use Rattle.nfa_match_spans.specs.Matches.{AreOneMatch};
+ghost use Rattle.nfa_match_spans.specs.MatchSpanLaws.{AreOneMatch};
 ghost use Rattle.nfa_compiler.specs.Blocks.{look_of};
-ghost use Rattle.nfa_compiler.specs.Compiled.{IsCompiled, IsNfaOf, res_of};
-ghost use Rattle.nfa_compiler.specs.KindLaws.{MatchesSomewhere, PatternMatches};
-ghost use Rattle.nfa_compiler.specs.NameLaws.{AreNamed};
-ghost use Rattle.nfa_compiler.specs.Settings.{syntax_of};
+ghost use Rattle.nfa_compiler.specs.Compiled.{AreNamed, IsCompiled, IsNfaOf, res_of};
+ghost use Rattle.nfa_compiler.specs.Written.{MatchesSomewhere, PatternMatches, syntax_of};
 
 use anyhow::Result;
 use nfa_compiler::{Compiler, Parsed, laws};

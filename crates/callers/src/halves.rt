@@ -2,7 +2,7 @@
 ghost use Rattle.std.specs.Prelude.{◌≡◌, map, option_map, IfOk, List, Option};
 ghost use Rattle.nfa_engines.specs.Found.{Found, HalfFound, found_of, half_found_of};
 ghost use Rattle.nfa_engines.specs.Search.{search_of};
-ghost use Rattle.nfa_engines.specs.Agreement.{end_of};
+ghost use Rattle.nfa_engines.specs.Items.{end_of};
 ghost use Rattle.nfa_engines.specs.Engines.{Fits, kind_of};
 ghost use Rattle.nfa_engines.specs.Paths.{IsFindAnswer};
 ghost use Rattle.nfa_match_spans.specs.StatePaths.{RecordsMatchSpans};

@@ -10,14 +10,10 @@ ghost use Rattle.nfa_engines.specs.Anchored.TheVariants.{No};
 ghost use Rattle.regex_syntax.specs.WellFormed.{IsWellFormed};
 ghost use Rattle.nfa_engines.specs.WithCaptures.{row_of};
 ghost use Rattle.nfa_engines.specs.Paths.{is_utf8_empty};
-ghost use Rattle.nfa_compiler.specs.AllHits.{all_hits, row_of_hit};
-ghost use Rattle.nfa_compiler.specs.AnyStart.{FindsFromAnyStart};
-ghost use Rattle.nfa_compiler.specs.BoundaryHits.{all_boundary_hits, boundary_hit};
-ghost use Rattle.nfa_compiler.specs.Compiled.{AreMeant, IsCompiled, IsMeant, IsNfaOf, res_of};
-ghost use Rattle.nfa_compiler.specs.Laws.{hit};
-ghost use Rattle.nfa_compiler.specs.Patterns.{found_at, found_of_hit, hit_by};
-ghost use Rattle.nfa_compiler.specs.Settings.{syntax_of};
-ghost use Rattle.nfa_compiler.specs.StrHits.{StartsOnBoundary, all_str_hits, str_hit};
+ghost use Rattle.nfa_compiler.specs.Compiled.{AreMeant, FindsFromAnyStart, IsCompiled, IsMeant, IsNfaOf, res_of};
+ghost use Rattle.nfa_compiler.specs.Patterns.{StartsOnBoundary, all_boundary_hits, all_hits, all_str_hits};
+ghost use Rattle.nfa_compiler.specs.Patterns.{boundary_hit, found_at, found_of_hit, hit, hit_by, row_of_hit, str_hit};
+ghost use Rattle.nfa_compiler.specs.Written.{syntax_of};
 
 use nfa_compiler::{Compiler, Parsed, laws};
 use nfa_engines::backtrack::{BoundedBacktracker, Cache};

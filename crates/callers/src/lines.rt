@@ -1,8 +1,7 @@
 //! The lines of a text, and those that match.
 ghost use Rattle.std.specs.Prelude.{◌≡◌, ◌≤◌, All, IfOk, length};
 ghost use Rattle.std.specs.List.{filter};
-ghost use Rattle.callers.specs.Lines.{AreLines, IsLine, IsLineEnd};
-ghost use Rattle.callers.specs.Finding.{AreThoseThatMatch, matches};
+ghost use Rattle.callers.specs.Lines.{AreLines, AreThoseThatMatch, IsLine, IsLineEnd, matches};
 ghost use Rattle.nfa_choice.specs.ChoiceState.{KeepsEngines};
 
 use nfa_choice::choose::Choice;

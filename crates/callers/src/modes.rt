@@ -8,8 +8,7 @@ ghost use Rattle.nfa_engines.specs.MatchKind.TheVariants.{All};
 ghost use Rattle.nfa_engines.specs.Engines.{Fits, kind_of};
 ghost use Rattle.nfa_engines.specs.Overlaps.{HoldsPattern};
 ghost use Rattle.nfa_compiler.specs.Compiled.{IsNfaOf, res_of};
-ghost use Rattle.nfa_compiler.specs.KindLaws.{MatchesSomewhere, PatternMatches};
-ghost use Rattle.nfa_compiler.specs.StrHits.{MatchesCharacters};
+ghost use Rattle.nfa_compiler.specs.Written.{MatchesCharacters, MatchesSomewhere, PatternMatches};
 
 use nfa_compiler::{Parsed, laws};
 use nfa_engines::pikevm::{Cache, PikeVM};

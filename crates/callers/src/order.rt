@@ -8,7 +8,7 @@ ghost use Rattle.nfa_engines.specs.Engines.{Fits, kind_of};
 ghost use Rattle.nfa_engines.specs.Paths.{is_utf8_empty};
 ghost use Rattle.nfa_engines.specs.PatternLaws.{IsFirstThatMatches, TriesPatternsInOrder};
 ghost use Rattle.nfa_compiler.specs.Compiled.{IsCompiled};
-ghost use Rattle.nfa_compiler.specs.Settings.{syntax_of};
+ghost use Rattle.nfa_compiler.specs.Written.{syntax_of};
 
 use anyhow::Result;
 use nfa_compiler::{Compiler, laws};

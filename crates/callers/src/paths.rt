@@ -7,12 +7,11 @@ ghost use Rattle.nfa_engines.specs.Accepting.{MatchesNothing};
 ghost use Rattle.nfa_engines.specs.Engines.{Fits, kind_of};
 ghost use Rattle.nfa_engines.specs.GapLaws.{PathsWriteTheirEnds, StartsBeforePaths};
 ghost use Rattle.nfa_engines.specs.Graphs.{ComesBefore, Pair, PathTo};
-ghost use Rattle.nfa_engines.specs.Items.{greedy};
+ghost use Rattle.nfa_engines.specs.Items.{greedy, IsFoundIn, answer_by, end_of, item_by};
 ghost use Rattle.nfa_engines.specs.Paths.{edges, is_utf8_empty, span_len, starts, IsMatch};
 ghost use Rattle.nfa_engines.specs.IterStates.{Answer, half_span_of, span_of};
-ghost use Rattle.nfa_engines.specs.Agreement.{IsFoundIn, end_answer, end_item};
 ghost use Rattle.nfa_engines.specs.Lists.{AreDisjoint, AreFirstMatches};
-ghost use Rattle.nfa_engines.specs.Searchers.{iter_state_of};
+ghost use Rattle.nfa_engines.specs.Stored.{iter_state_of};
 
 use nfa_engines::iter::Searcher;
 use nfa_engines::iter::laws::half_and_full_agree;
@@ -91,8 +90,8 @@ pub fn first_two(
 /// each match is in the span of its search.
 pub fn ends_are_those_of_matches(searcher: &Searcher<'_>)
     ensures { (h : Search → Answer Found) → ((t : Search) → IsFoundIn t (h t))
-        → greedy half_span_of (λ t. end_answer (h t)) (iter_state_of searcher.now)
-        ≡ map end_item (greedy span_of h (iter_state_of searcher.now)) }
+        → greedy half_span_of (λ t. answer_by end_of (h t)) (iter_state_of searcher.now)
+        ≡ map (item_by end_of) (greedy span_of h (iter_state_of searcher.now)) }
 {
     half_and_full_agree();
 }

@@ -6,11 +6,9 @@ ghost use Rattle.regex_hir.specs.Re.{Re};
 ghost use Rattle.nfa_engines.specs.Found.{found_of};
 ghost use Rattle.nfa_engines.specs.Groups.{group_named};
 ghost use Rattle.nfa_engines.specs.Paths.{is_utf8_empty};
-ghost use Rattle.nfa_compiler.specs.AnyStart.{FindsFromAnyStart};
-ghost use Rattle.nfa_compiler.specs.Compiled.{IsCompiled, IsMeant};
-ghost use Rattle.nfa_compiler.specs.NameLaws.{IsNamed, written_span};
-ghost use Rattle.nfa_compiler.specs.Patterns.{found_by};
-ghost use Rattle.nfa_compiler.specs.Settings.{syntax_of};
+ghost use Rattle.nfa_compiler.specs.Compiled.{FindsFromAnyStart, IsCompiled, IsMeant, IsNamed};
+ghost use Rattle.nfa_compiler.specs.Patterns.{found_by, written_span};
+ghost use Rattle.nfa_compiler.specs.Written.{syntax_of};
 
 use anyhow::Result;
 use nfa_compiler::Compiler;

@@ -5,12 +5,11 @@ ghost use Rattle.nfa_engines.specs.Patterns.{number_of};
 ghost use Rattle.nfa_engines.specs.Search.{search_of};
 ghost use Rattle.nfa_engines.specs.Anchored.TheVariants.{Yes};
 ghost use Rattle.nfa_engines.specs.MatchKind.TheVariants.{LeftmostFirst};
-ghost use Rattle.nfa_engines.specs.AlikeLaws.{byte_before, AreSidesSame, EachLook, IsLineEdge, IsOfLines};
-ghost use Rattle.nfa_engines.specs.AlikeLaws.{ReadsBytes};
 ghost use Rattle.nfa_engines.specs.Engines.{Fits, kind_of};
 ghost use Rattle.nfa_engines.specs.Paths.{is_utf8_empty, IsAnswer, IsFindAnswer};
 ghost use Rattle.nfa_engines.specs.PatternLaws.{IsMatchOfPattern, IsOfPattern, TriesPatternsInOrder};
-ghost use Rattle.nfa_engines.specs.SpanLaws.{cut_out, moved_match, HasNoLook, IsSameSpan};
+ghost use Rattle.nfa_engines.specs.SpanLaws.{byte_before, cut_out, moved_match, AreSidesSame, EachLook, HasNoLook};
+ghost use Rattle.nfa_engines.specs.SpanLaws.{IsLineEdge, IsOfLines, IsSameSpan, ReadsBytes};
 ghost use Rattle.nfa_engines.specs.StartLaws.{IsFirstStart, IsUnbound};
 ghost use Rattle.callers.specs.Written.{line_of};
 

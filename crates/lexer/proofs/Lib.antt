@@ -1,10 +1,8 @@
 -- The lemmas on tokens, on pieces, on positions, on rules and on writes.
 pub mod LexedLemmas
-pub mod NameLemmas
 pub mod PieceLemmas
 pub mod PositionLemmas
 pub mod PrintedLemmas
-pub mod RecoveredLemmas
 pub mod RuleLemmas
 pub mod Writes
 pub mod RuleErrorLemmas

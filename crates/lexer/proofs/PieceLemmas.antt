@@ -1,111 +1,194 @@
--- That the lines of pieces are written one after the other.
-use Rattle.std.proofs.Common.{◌≡◌, ◌∙◌, ℕ, ◌≤◌, ◌<◌, Bool, true, false, List, [], ◌∷◌, ◌++◌, length, arith, refl, sym, ap, subst, append-nil, append_assoc, ◌&&◌, Option, None, Some, is_none, is_some, slice_range}
-use Rattle.std.specs.Io.KnownBytes.{Appends}
-use Rattle.std.proofs.KnownBytes.{Appends-nil, Appends-trans}
-use Rattle.std.proofs.lemmas.List.Concat.{flat_map-append}
-use Rattle.regex_hir.specs.Re.{Re}
+-- The pieces of a text are its tokens and the longest stretches at which none starts, and they are the text.
+use Rattle.std.proofs.Common.{◌≡◌, ◌∙◌, ℕ, zero, suc, Bool, not, ◌+◌, ◌-◌, ◌≤◌, ◌<◌, List, [], ◌∷◌, ◌++◌, All, length, drop, arith, refl, sym, ap, inl, inr, append_assoc, Option, None, Some, IsSome, is_none, is_some, option_map, slice_range, take_while, if◌then◌else◌}
+use Rattle.std.proofs.lemmas.Bool.{cases_Bool, cases_lt, le-ltb, lt-ltb}
+use Rattle.std.proofs.lemmas.Bool.Decides.{nat_tests}
+use Rattle.std.proofs.lemmas.List.{drop_all}
+use Rattle.std.proofs.lemmas.List.Elements.{All-cons}
+use Rattle.std.proofs.lemmas.List.Folds.{drop_split}
+use Rattle.std.proofs.lemmas.List.Sums.{take_while-cons}
+use Rattle.nfa_compiler.specs.Common.{Re}
+use Rattle.nfa_compiler.proofs.EachLemmas.{of-pick}
 use Rattle.regex_search_core.specs.Found.{Found}
-use Rattle.lexer.specs.Lexed.{stuck_in, token_there}
-use Rattle.lexer.specs.Lexing.{HasRecovered, IsWholeTo}
-use Rattle.lexer.specs.Printed.{kind_line, piece_line, piece_lines, position_if}
-use Rattle.lexer.specs.Recovered.{TextPiece, piece_of, piece_there, recovered, stretch_end}
-use Rattle.lexer.specs.Tokens.{is_token, piece_found, piece_span}
-use Rattle.lexer.specs.declared.lexer.Piece.{Piece}
-use Rattle.lexer.specs.declared.lexer.Piece.TheVariants as piece
-use Rattle.lexer.specs.declared.report.Style.{Style}
-use Rattle.lexer.specs.declared.rules.Rule.{Rule}
-use Rattle.lexer.proofs.LexedLemmas.{lexed-more, lexed-none, not-stuck, stuck-there}
-use Rattle.lexer.proofs.RecoveredLemmas.{pieces-more, pieces-none}
+use Rattle.lexer.specs.Lexed.{IsPiece, TextPiece, end_after, is_token, joined, lexed, piece_of, piece_there, pieces_from, recovered, stretch_end, token_there}
 
-token-same : (p : Piece) → is_token p ≡ is_some (piece_found p).pattern
-token-same (piece.Token token) = refl
-token-same (piece.Error span) = refl
+-- a call found something, or nothing
+pub is-found : {A B : Type 0} (f : A → B) (o : Option A) (p : Option B) (b : Bool) → option_map f o ≡ p
+    → is_some o ≡ b → is_none p ≡ not b
+is-found f o p b same is = grind arith
 
-end-same : (p : Piece) → (piece_span p).end ≡ (piece_found p).end
-end-same (piece.Token token) = refl
-end-same (piece.Error span) = refl
+-- no token starts here and the stretch goes on, or one does
+pub stretch-from : (token_at : ℕ → Option Found) (size at : ℕ) → at < size
+    → stretch_end token_at (size - at) at
+    ≡ (if is_none (token_at at) then stretch_end token_at (size - (at + 1)) (at + 1) else at)
+unfolding stretch_end
+stretch-from token_at size at less =
+    let more : size - at ≡ suc (size - (at + 1)) = omega (arith, less) in
+    rw more refl
 
-pub start-same : (p : Piece) → (piece_span p).start ≡ (piece_found p).start
-start-same (piece.Token token) = refl
-start-same (piece.Error span) = refl
+pub stretch-end : (token_at : ℕ → Option Found) (size : ℕ) → size ≡ stretch_end token_at (size - size) size
+unfolding stretch_end
+stretch-end token_at size = let none : size - size ≡ zero = omega arith in rw none refl
 
--- what is written of a piece is its line
-pub line-of : (style : Style) (rules : List Rule) (text : List ℕ) (p : Piece)
-    → kind_line style rules (piece_found p).pattern (piece_span p)
-    (position_if style.positions text (piece_span p).start)
-    (slice_range text (piece_span p).start (piece_span p).end) ≡ piece_line style rules text (piece_found p)
-line-of style rules text (piece.Token token) = refl
-line-of style rules text (piece.Error span) = refl
+module _ (res : List Re) (text : List ℕ) where
+  -- where a token is
+  record LiesAt (at : ℕ) (m : Found) : Type 0 where
+    start : m.start ≡ at
+    after : at < m.end
+    inside : m.end ≤ length text
 
-module _ (style : Style) (rules : List Rule) (res : List Re) (text : List ℕ) (before : Option (List ℕ)) where
-  abbrev Printed : ℕ → Bool → Option (List ℕ) → Type 0
-  Printed at whole out = HasRecovered res text style rules at whole before out
-
-  pub recovered-none : Printed 0 true before
-  recovered-none = record {
-    pieces = [];
-    goes_on = λ rest more. more;
-    written = Appends-nil before;
-    is_whole = ([], lexed-none res text);
+  token-lies : (at : ℕ) → at ≤ length text → (m : Found) → token_there res text at ≡ Some m → LiesAt at m
+  token-lies at within m is = record {
+    start = grind (arith, nat_tests, of-pick);
+    after = grind (arith, nat_tests, of-pick);
+    inside = grind (arith, nat_tests, of-pick);
   }
 
-  whole-more : (whole : Bool) (at : ℕ) → at < length text → IsWholeTo res text whole at → (o : Option Found)
-      → token_there res text at ≡ o → (end : ℕ)
-      → IsWholeTo res text (whole && is_some (piece_of o at end).pattern) (piece_of o at end).end
-  whole-more false at less is o there end = is
-  whole-more true at less is None there end = (at, stuck-there res text at is.0 less there is.1)
-  whole-more true at less is (Some m) there end =
-      (is.0 ++ m ∷ [], lexed-more res text at is.0 m (omega (arith, less)) there is.1)
+  record EndsStretch (n at end : ℕ) : Type 0 where
+    from : at ≤ end
+    within : end ≤ n + at
+    no_token : (k : ℕ) → at ≤ k → k < end → token_there res text k ≡ None
+    ends : end < n + at → IsSome (token_there res text end)
 
-  lines-more : (ps : List TextPiece) (p : TextPiece)
-      → piece_lines style rules text (ps ++ p ∷ []) ≡ piece_lines style rules text ps ++ piece_line style rules text p
-  lines-more ps p =
-      flat_map-append (piece_line style rules text) ps (p ∷ [])
-      ∙ ap (λ l. piece_lines style rules text ps ++ l) (append-nil (piece_line style rules text p))
+  stretch-more : (n at end : ℕ) → token_there res text at ≡ None → EndsStretch n (at + 1) end
+      → EndsStretch (suc n) at end
+  stretch-more n at end none rest = record {
+    from = omega (arith, rest.from);
+    within = omega (arith, rest.within);
+    no_token = λ k low high. grind (arith, rest.no_token k);
+    ends = λ less. rest.ends (omega (arith, less));
+  }
 
-  recovered-step : (at : ℕ) (whole : Bool) (out next : Option (List ℕ)) → at < length text → Printed at whole out
-      → Appends out next (piece_line style rules text (piece_there res text at))
-      → Printed (piece_there res text at).end (whole && is_some (piece_there res text at).pattern) next
-  recovered-step at whole out next less so-far writes =
-      let p = piece_there res text at in
-      record {
-        pieces = so-far.pieces ++ p ∷ [];
-        goes_on = λ rest more. rw (append_assoc so-far.pieces (p ∷ []) rest)
-            (so-far.goes_on (p ∷ rest) (pieces-more res text at less rest more));
-        written = rw (lines-more so-far.pieces p) (Appends-trans before out next _ _ so-far.written writes);
-        is_whole = whole-more whole at less so-far.is_whole (token_there res text at) refl _;
-      }
+  stretch-stops : (n at : ℕ) → (at < n + at → IsSome (token_there res text at)) → EndsStretch n at at
+  stretch-stops n at ends = record {
+    from = omega arith;
+    within = omega arith;
+    no_token = λ k low high. absurd (omega (arith, low, high));
+    ends = ends;
+  }
 
-  pub recovered-more : (at : ℕ) (whole : Bool) (p : Piece) (out next : Option (List ℕ)) → at < length text
-      → Printed at whole out → piece_found p ≡ piece_there res text at
-      → Appends out next (piece_line style rules text (piece_found p))
-      → Printed ((piece_span p).end) (whole && is_token p) next
-  recovered-more at whole p out next less so-far is writes =
-      rw (end-same p, token-same p)
-      (subst (λ (q : TextPiece). Printed q.end (whole && is_some q.pattern) next) (sym is)
-      (recovered-step at whole out next less so-far
-      (subst (λ (q : TextPiece). Appends out next (piece_line style rules text q)) is writes)))
+  stretch-ends : (n at : ℕ) → EndsStretch n at (stretch_end (token_there res text) n at)
+  unfolding stretch_end
+  stretch-ends zero at = stretch-stops zero at (λ less. absurd (omega (arith, less)))
+  stretch-ends (suc n) at = of (token_there res text at) refl (stretch-ends n (at + 1))
+    where
+      of : (o : Option Found) → token_there res text at ≡ o
+          → EndsStretch n (at + 1) (stretch_end (token_there res text) n (at + 1))
+          → EndsStretch (suc n) at (if is_none o then stretch_end (token_there res text) n (at + 1) else at)
+      of None is rest = stretch-more n at _ is rest
+      of (Some m) is rest = stretch-stops (suc n) at (λ less. rw is refl)
 
-  at-end : (at : ℕ) (whole : Bool) (out : Option (List ℕ)) → at ≤ length text → length text ≤ at
-      → Printed at whole out → Printed (length text) whole out
-  at-end at whole out within end so-far =
-      let there : at ≡ length text = omega (arith, within, end) in
-      subst (λ (k : ℕ). Printed k whole out) there so-far
+  abbrev next : ℕ → ℕ
+  next at = stretch_end (token_there res text) (length text - (at + 1)) (at + 1)
 
-  pub recovered-all : (at : ℕ) (whole : Bool) (out : Option (List ℕ)) → at ≤ length text → length text ≤ at
-      → Printed at whole out → Appends before out (piece_lines style rules text (recovered res text))
-  recovered-all at whole out within end so-far =
-      let last = at-end at whole out within end so-far in
-      let all : last.pieces ≡ recovered res text =
-      sym (append-nil last.pieces)
-      ∙ sym (last.goes_on [] (pieces-none res text) (length text) (omega arith)) in
-      subst (λ (ps : List TextPiece). Appends before out (piece_lines style rules text ps)) all last.written
+  -- where a piece is
+  pub record PieceLiesAt (at : ℕ) (p : TextPiece) : Type 0 where
+    pub start : p.start ≡ at
+    pub after : at < p.end
+    pub inside : p.end ≤ length text
+    pub is : IsPiece res text p
 
-  whole-at-end : (whole : Bool) → IsWholeTo res text whole (length text) → whole ≡ is_none (stuck_in res text)
-  whole-at-end true is = ap is_none (not-stuck res text is.0 is.1)
-  whole-at-end false is = ap is_none is.1
+  pub piece-lies : (at : ℕ) → at < length text → PieceLiesAt at (piece_there res text at)
+  piece-lies at less = of (token_there res text at) refl (stretch-ends (length text - (at + 1)) (at + 1))
+    where
+      of : (o : Option Found) → token_there res text at ≡ o
+          → EndsStretch (length text - (at + 1)) (at + 1) (next at) → PieceLiesAt at (piece_of o at (next at))
+      of None is rest =
+          let all = stretch-more (length text - (at + 1)) at (next at) is rest in
+          record {
+            start = refl;
+            after = omega (arith, rest.from);
+            inside = omega (arith, rest.within, less);
+            is = record {
+              some_bytes = omega (arith, rest.from);
+              no_token = all.no_token;
+              ends = λ before. rest.ends (omega (arith, before, less));
+            };
+          }
+      of (Some m) is rest =
+          let lies = token-lies at (omega (arith, less)) m is in
+          record {
+            start = lies.start;
+            after = lies.after;
+            inside = lies.inside;
+            is = ap (token_there res text) lies.start ∙ is;
+          }
 
-  pub whole-if-tokens : (at : ℕ) (whole : Bool) (out : Option (List ℕ)) → at ≤ length text → length text ≤ at
-      → Printed at whole out → whole ≡ is_none (stuck_in res text)
-  whole-if-tokens at whole out within end so-far =
-      whole-at-end whole (at-end at whole out within end so-far).is_whole
+  abbrev pieces_at : ℕ → ℕ → List TextPiece
+  pieces_at n at = pieces_from (piece_there res text) (length text) n at
+
+  -- the token there is the piece
+  pub token-piece : (at : ℕ) (m : Found) → Some m ≡ token_there res text at
+      → piece_of (Some m) at (next at) ≡ piece_there res text at
+  token-piece at m is = ap (λ o. piece_of o at (next at)) is
+
+  pub pieces-none : (n : ℕ) → pieces_at n (length text) ≡ []
+  unfolding pieces_from
+  pieces-none zero = refl
+  pieces-none (suc n) = rw (le-ltb (length text) (length text) (omega arith)) refl
+
+  -- a piece is there, and the others are from its end on
+  pub pieces-more : (n at : ℕ) → at < length text → length text ≤ n + at
+      → (left : ℕ) × (length text ≤ left + (piece_there res text at).end)
+      × (pieces_at n at ≡ piece_there res text at ∷ pieces_at left (piece_there res text at).end)
+  unfolding pieces_from
+  pieces-more zero at less room = absurd (omega (arith, less, room))
+  pieces-more (suc n) at less room =
+      let after = (piece-lies at less).after in
+      (n, omega (arith, after, room), rw (lt-ltb at (length text) less) refl)
+
+  -- The texts of pieces are joined.
+
+  piece-then : (at : ℕ) → at < length text → (tail : List ℕ) → tail ≡ drop (piece_there res text at).end text
+      → slice_range text (piece_there res text at).start (piece_there res text at).end ++ tail ≡ drop at text
+  piece-then at less tail is =
+      let lies = piece-lies at less in
+      rw (lies.start, is) (sym (drop_split text at (piece_there res text at).end (omega (arith, lies.after))))
+
+  joined-from : (n at : ℕ) → at ≤ length text → length text ≤ n + at → joined text (pieces_at n at) ≡ drop at text
+  unfolding pieces_from
+  joined-from zero at within room = sym (drop_all at text (omega (arith, room)))
+  joined-from (suc n) at within room = elim (cases_lt at (length text)) [
+    | inl less ↦
+        let lies = piece-lies at less in
+        rw (lt-ltb at (length text) less) (piece-then at less _
+        (joined-from n (piece_there res text at).end lies.inside (omega (arith, lies.after, room))))
+    | inr more ↦ rw (le-ltb at (length text) more) (sym (drop_all at text more))
+  ]
+
+  pub pieces-joined : joined text (recovered res text) ≡ text
+  pieces-joined = joined-from (length text) 0 (omega arith) (omega arith)
+
+  tokens-from : (n at : ℕ) → at ≤ length text
+      → joined text (take_while is_token (pieces_at n at))
+      ++ drop (end_after at (take_while is_token (pieces_at n at))) text
+      ≡ drop at text
+  unfolding pieces_from
+  tokens-from zero at within = refl
+  tokens-from (suc n) at within = elim (cases_lt at (length text)) [
+    | inl less ↦
+        let piece = piece_there res text at in
+        let rest = pieces_at n piece.end in
+        rw (lt-ltb at (length text) less, take_while-cons is_token piece rest) (elim (cases_Bool (is_token piece)) [
+          | inl token ↦
+              rw (token, append_assoc) (piece-then at less _ (tokens-from n piece.end (piece-lies at less).inside))
+          | inr stretch ↦ rw stretch refl
+        ])
+    | inr more ↦ rw (le-ltb at (length text) more) refl
+  ]
+
+  pub tokens-joined : joined text (lexed res text) ++ drop (end_after 0 (lexed res text)) text ≡ text
+  tokens-joined = tokens-from (length text) 0 (omega arith)
+
+  all-from : (n at : ℕ) → All (IsPiece res text) (pieces_at n at)
+  unfolding pieces_from
+  all-from zero at = λ k d inside. absurd (omega (arith, inside))
+  all-from (suc n) at = elim (cases_lt at (length text)) [
+    | inl less ↦
+        rw (lt-ltb at (length text) less)
+        (All-cons (IsPiece res text) (piece_there res text at) (pieces_at n (piece_there res text at).end)
+        (piece-lies at less).is (all-from n (piece_there res text at).end))
+    | inr more ↦ rw (le-ltb at (length text) more) (λ k d inside. absurd (omega (arith, inside)))
+  ]
+
+  pub all-pieces : All (IsPiece res text) (recovered res text)
+  all-pieces = all-from (length text) 0

@@ -1,76 +1,107 @@
--- That the lines of tokens are written one after the other.
-use Rattle.std.proofs.Common.{◌≡◌, ◌∙◌, ℕ, ◌≤◌, ◌<◌, true, false, List, [], ◌∷◌, ◌++◌, length, arith, refl, sym, ap, ap₂, subst, append-nil, Option, None, Some, is_none, flat_map}
+-- That the lines of pieces are written one after the other.
+use Rattle.std.proofs.Common.{◌≡◌, ◌∙◌, ℕ, ◌<◌, Bool, true, false, not, ◌&&◌, List, [], ◌∷◌, ◌++◌, length, arith, refl, sym, ap, append-nil, append_assoc, Option, None, Some, find, option_map, slice_range, take_while}
 use Rattle.std.specs.Io.KnownBytes.{Appends}
+use Rattle.std.specs.List.{list_all}
 use Rattle.std.proofs.KnownBytes.{Appends-nil, Appends-trans}
-use Rattle.std.proofs.lemmas.List.Concat.{flat_map-append}
+use Rattle.std.proofs.Math.Bool.{and-true}
+use Rattle.std.proofs.lemmas.Bool.{and_parts}
+use Rattle.std.proofs.lemmas.List.{flat_map_more}
+use Rattle.std.proofs.lemmas.List.Folds.{list_all-append}
+use Rattle.std.proofs.lemmas.List.Sums.{take_while-cons}
 use Rattle.regex_hir.specs.Re.{Re}
-use Rattle.regex_search_core.specs.Found.{Found}
-use Rattle.lexer.specs.Lexed.{lexed, stuck_in, token_there}
-use Rattle.lexer.specs.Lexing.{HasPrinted, IsLexedTo}
-use Rattle.lexer.specs.Printed.{position_if, printed_tokens, stuck_at, stuck_line, token_line, token_lines}
+use Rattle.lexer.specs.Lexed.{TextPiece, is_token, lexed, piece_there, pieces_from, recovered, stuck_in, token_there}
+use Rattle.lexer.specs.Printed.{HasPrinted, kind_line, piece_line, piece_lines, position_if, printed_tokens, stuck_at}
+use Rattle.lexer.specs.declared.position.Position.{Position}
 use Rattle.lexer.specs.declared.report.Style.{Style}
 use Rattle.lexer.specs.declared.rules.Rule.{Rule}
-use Rattle.lexer.proofs.LexedLemmas.{all-lexed, lexed-more, lexed-none, none-at-end, not-stuck, stuck-there}
+use Rattle.lexer.proofs.PieceLemmas.{piece-lies, pieces-more, pieces-none}
+
+-- what comes first after elements that all pass
+passing : {X : Type 0} (p : X → Bool) (xs ys : List X) → list_all p xs ≡ true
+    → (take_while p (xs ++ ys) ≡ xs ++ take_while p ys)
+    × (find (λ x. not (p x)) (xs ++ ys) ≡ find (λ x. not (p x)) ys)
+passing p [] ys all = (refl, refl)
+passing p (x ∷ xs) ys all =
+    let parts = and_parts (p x) (list_all p xs) all in
+    let rest = passing p xs ys parts.1 in
+    (rw (take_while-cons p x (xs ++ ys), parts.0) (ap (λ l. x ∷ l) rest.0), rw parts.0 rest.1)
 
 module _ (style : Style) (rules : List Rule) (res : List Re) (text : List ℕ) (before : Option (List ℕ)) where
-  abbrev Printed : ℕ → Option (List ℕ) → Type 0
-  Printed at out = HasPrinted res text style rules at before out
+  abbrev Printed : ℕ → Bool → Option (List ℕ) → Type 0
+  Printed at whole out = HasPrinted res text style rules at whole before out
 
-  lines-more : (ms : List Found) (m : Found)
-      → token_lines style rules text (ms ++ m ∷ []) ≡ token_lines style rules text ms ++ token_line style rules text m
-  lines-more ms m =
-      flat_map-append (token_line style rules text) ms (m ∷ [])
-      ∙ ap (λ l. token_lines style rules text ms ++ l) (append-nil (token_line style rules text m))
-
-  pub printed-none : Printed 0 before
-  printed-none = record { tokens = []; lexed = lexed-none res text; written = Appends-nil before }
-
-  pub printed-more : (at : ℕ) (m : Found) (out next : Option (List ℕ)) → at ≤ length text → Printed at out
-      → Some m ≡ token_there res text at → Appends out next (token_line style rules text m) → Printed m.end next
-  printed-more at m out next within so-far is writes = record {
-    tokens = so-far.tokens ++ m ∷ [];
-    lexed = lexed-more res text at so-far.tokens m within (sym is) so-far.lexed;
-    written = rw (lines-more so-far.tokens m) (Appends-trans before out next _ _ so-far.written writes);
+  pub printed-none : Printed 0 true before
+  printed-none = record {
+    pieces = [];
+    left = length text;
+    enough = omega arith;
+    goes_on = refl;
+    written = Appends-nil before;
+    whole_is = refl;
   }
 
+  -- the line of the next piece was written, with the position of this place
+  pub printed-more : (at : ℕ) (whole : Bool) (p : TextPiece) (position : Option Position) (out next : Option (List ℕ))
+      → at < length text → Printed at whole out → p ≡ piece_there res text at
+      → position ≡ position_if style.positions text at
+      → Appends out next (kind_line style rules p.pattern (record { start = p.start; end = p.end }) position
+      (slice_range text p.start p.end))
+      → Printed p.end (whole && is_token p) next
+  printed-more at whole p position out next less so-far is place writes =
+      let there = piece_there res text at in
+      let lies = piece-lies res text at less in
+      let more = pieces-more res text so-far.left at less so-far.enough in
+      let here : position ≡ position_if style.positions text there.start = rw lies.start place in
+      let line : Appends out next (piece_line style rules text there) = rw (is, here) at writes in
+      rw is (record {
+        pieces = so-far.pieces ++ there ∷ [];
+        left = more.0;
+        enough = more.1;
+        goes_on = so-far.goes_on ∙ ap (λ ps. so-far.pieces ++ ps) more.2
+            ∙ sym (append_assoc so-far.pieces (there ∷ []) _);
+        written = rw (← flat_map_more (piece_line style rules text) [] so-far.pieces there)
+            (Appends-trans before out next _ _ so-far.written line);
+        whole_is = rw (list_all-append is_token so-far.pieces (there ∷ []), and-true, ← so-far.whole_is) refl;
+      })
+
+  -- the pieces are the whole text
+  pub printed-all : (whole : Bool) (out : Option (List ℕ)) (so-far : Printed (length text) whole out)
+      → recovered res text ≡ so-far.pieces
+  printed-all whole out so-far =
+      so-far.goes_on ∙ ap (λ ps. so-far.pieces ++ ps) (pieces-none res text so-far.left) ∙ append-nil so-far.pieces
+
+  pub pieces-printed : (whole : Bool) (out : Option (List ℕ)) → Printed (length text) whole out
+      → Appends before out (piece_lines style rules text (recovered res text))
+      × (whole ≡ list_all is_token (recovered res text))
+  pieces-printed whole out so-far = rw (printed-all whole out so-far) (so-far.written, so-far.whole_is)
+
+  -- These pieces come after tokens that were printed. So they say where the tokens end.
+  after : (at : ℕ) (out : Option (List ℕ)) (so-far : Printed at true out) (rest : List TextPiece)
+      → recovered res text ≡ so-far.pieces ++ rest
+      → (lexed res text ≡ so-far.pieces ++ take_while is_token rest)
+      × (stuck_in res text ≡ option_map (λ p. p.start) (find (λ p. not (is_token p)) rest))
+      × (list_all is_token (recovered res text) ≡ list_all is_token rest)
+  after at out so-far rest is =
+      let split = passing is_token so-far.pieces rest (sym so-far.whole_is) in (
+        rw is split.0,
+        rw is (ap (option_map (λ p. p.start)) split.1),
+        rw (is, list_all-append is_token so-far.pieces rest, ← so-far.whole_is) refl,
+      )
+
+  pub tokens-printed : (out : Option (List ℕ)) → Printed (length text) true out
+      → Appends before out (printed_tokens style rules res text)
+      × (true ≡ list_all is_token (recovered res text))
+  tokens-printed out so-far =
+      let end = after (length text) out so-far [] (printed-all true out so-far ∙ sym (append-nil so-far.pieces)) in
+      (rw (end.0, end.1, append-nil, append-nil) so-far.written, sym end.2)
+
   -- no token starts here
-  pub printed-stuck : (at : ℕ) (out next : Option (List ℕ)) → at < length text → Printed at out
+  pub stuck-printed : (at : ℕ) (out next : Option (List ℕ)) → at < length text → Printed at true out
       → None ≡ token_there res text at
       → Appends out next (stuck_at style.json at (position_if style.positions text at))
       → Appends before next (printed_tokens style rules res text)
-  printed-stuck at out next less so-far none writes =
-      let all = all-lexed res text at so-far.tokens (sym none) so-far.lexed in
-      let place = stuck-there res text at so-far.tokens less (sym none) so-far.lexed in
-      let whole : token_lines style rules text so-far.tokens ++ stuck_line style text (Some at)
-      ≡ printed_tokens style rules res text =
-      ap₂ (λ (ms : List Found) (o : Option ℕ). token_lines style rules text ms ++ stuck_line style text o) all place in
-      subst (λ (l : List ℕ). Appends before next l) whole (Appends-trans before out next _ _ so-far.written writes)
-
-  pub stuck-not-whole : (at : ℕ) (out : Option (List ℕ)) → at < length text → Printed at out
-      → None ≡ token_there res text at → false ≡ is_none (stuck_in res text)
-  stuck-not-whole at out less so-far none =
-      ap is_none (stuck-there res text at so-far.tokens less (sym none) so-far.lexed)
-
-  -- the tokens are the whole text
-  at-end : (at : ℕ) (out : Option (List ℕ)) → at ≤ length text → length text ≤ at → Printed at out
-      → Printed (length text) out
-  at-end at out within end so-far =
-      let there : at ≡ length text = omega (arith, within, end) in
-      subst (λ (k : ℕ). Printed k out) there so-far
-
-  pub printed-all : (at : ℕ) (out : Option (List ℕ)) → at ≤ length text → length text ≤ at → Printed at out
-      → Appends before out (printed_tokens style rules res text)
-  printed-all at out within end so-far =
-      let last = at-end at out within end so-far in
-      let all = all-lexed res text (length text) last.tokens (none-at-end res text) last.lexed in
-      let place = not-stuck res text last.tokens last.lexed in
-      let whole : token_lines style rules text last.tokens ++ stuck_line style text None
-      ≡ printed_tokens style rules res text =
-      ap₂ (λ (ms : List Found) (o : Option ℕ). token_lines style rules text ms ++ stuck_line style text o) all place in
-      subst (λ (l : List ℕ). Appends before out l) whole (rw (append-nil _) last.written)
-
-  pub whole-if-all : (at : ℕ) (out : Option (List ℕ)) → at ≤ length text → length text ≤ at → Printed at out
-      → true ≡ is_none (stuck_in res text)
-  whole-if-all at out within end so-far =
-      let last = at-end at out within end so-far in
-      ap is_none (not-stuck res text last.tokens last.lexed)
+      × (false ≡ list_all is_token (recovered res text))
+  stuck-printed at out next less so-far none writes =
+      let more = pieces-more res text so-far.left at less so-far.enough in
+      let end = after at out so-far _ (so-far.goes_on ∙ ap (λ ps. so-far.pieces ++ ps) (rw (← none) at more.2)) in
+      (rw (end.0, end.1, append-nil) (Appends-trans before out next _ _ so-far.written writes), sym end.2)

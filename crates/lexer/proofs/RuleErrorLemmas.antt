@@ -3,13 +3,10 @@ use Rattle.std.proofs.Common.{◌≡◌, ◌∙◌, ℕ, ◌+◌, ◌-◌, ◌^�
 use Rattle.std.proofs.lemmas.List.{get_or-map, length-map}
 use Rattle.std.proofs.lemmas.Option.{slice_get-get_or}
 use Rattle.std.proofs.lemmas.Slice.Zip.{AllZip-long}
-use Rattle.regex_hir.specs.Meaning.{meaning}
-use Rattle.regex_syntax.specs.declared.Parsed.{Parsed}
-use Rattle.nfa_compiler.specs.Compiled.{IsTreeOf}
-use Rattle.nfa_compiler.specs.Rejected.{IsFirstTooBigOf, IsOfOneText, IsRejection}
+use Rattle.nfa_compiler.specs.Common.{meaning, Parsed, IsTreeOf, IsFirstTooBigOf, IsOfOneText, IsRejection}
 use Rattle.nfa_compiler.specs.declared.error.CompileError.TheVariants.{Syntax}
 use Rattle.nfa_compiler.specs.declared.syntax_error.SyntaxError.{SyntaxError}
-use Rattle.lexer.specs.Patterns.{rule_patterns, rule_syntax}
+use Rattle.lexer.specs.Rules.{rule_patterns, rule_syntax}
 use Rattle.lexer.specs.RuleErrors.{IsSyntaxMistake, IsTooLarge}
 use Rattle.lexer.specs.declared.rules.Rule.{Rule}
 

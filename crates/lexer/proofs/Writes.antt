@@ -1,4 +1,4 @@
--- What a writer holds after one write and another.
-use Rattle.std.proofs.KnownBytes.{Appends-trans}
+-- What a writer holds after no write, and after one and another.
+use Rattle.std.proofs.KnownBytes.{Appends-nil, Appends-trans}
 
-pub ruleset writes = (Appends-trans)
+pub ruleset writes = (Appends-nil, Appends-trans)

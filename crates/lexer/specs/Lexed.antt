@@ -1,24 +1,44 @@
--- The tokens of a text, in the words of the reference matcher: what the meanings of the rules say of it.
-use Rattle.std.specs.Prelude.{ℕ, zero, suc, ◌≡◌, ◌==◌, List, [], ◌∷◌, ◌++◌, drop, flat_map, length, Option, Some, None, if◌then◌else◌, nat_lt, slice_range}
-use Rattle.regex_hir.specs.Re.{Re}
+-- The pieces of a text, in the words of the reference matcher: its tokens, and the stretches at which no token starts.
+use Rattle.std.specs.Prelude.{ℕ, zero, suc, ◌+◌, ◌-◌, ◌≡◌, ◌≤◌, ◌<◌, Bool, not, List, [], ◌∷◌, ◌++◌, All, drop, find, flat_map, length, Option, Some, None, IsSome, MatchOption, is_none, is_some, option_map, take_while, if◌then◌else◌, nat_lt, slice_range}
+use Rattle.nfa_compiler.specs.Common.{Re, found_of_hit, pick}
 use Rattle.regex_search_core.specs.Found.{Found}
-use Rattle.nfa_compiler.specs.Patterns.{found_of_hit, pick}
 
 -- the match, if it has a byte at least
 abbrev pub with_bytes : Option Found → Option Found
 with_bytes None = None
 with_bytes (Some m) = if nat_lt m.start m.end then Some m else None
 
--- This token, if there is one, and those after it, at most n in all: `token_at` gives the token that starts at a place.
-unfoldable pub tokens_from : (ℕ → Option Found) → ℕ → Option Found → List Found
-tokens_from token_at zero token = []
-tokens_from token_at (suc n) None = []
-tokens_from token_at (suc n) (Some m) = m ∷ tokens_from token_at n (token_at m.end)
+-- A piece of a text: a token of the pattern of this number, or a stretch of no pattern.
+pub record TextPiece : Type 0 where
+  pub pattern : Option ℕ
+  pub start : ℕ
+  pub end : ℕ
 
--- where the last of these tokens ends; at this place, if there is none
-abbrev pub end_after : ℕ → List Found → ℕ
+-- whether the piece is a token
+abbrev pub is_token : TextPiece → Bool
+is_token piece = is_some piece.pattern
+
+-- The first place from this one on at which a token starts, or the place that is n bytes on if there is none before it:
+-- `token_at` gives the token that starts at a place.
+unfoldable pub stretch_end : (ℕ → Option Found) → ℕ → ℕ → ℕ
+stretch_end token_at zero at = at
+stretch_end token_at (suc n) at = if is_none (token_at at) then stretch_end token_at n (at + 1) else at
+
+-- this token or, if there is none, the stretch from this place to that one
+abbrev pub piece_of : Option Found → ℕ → ℕ → TextPiece
+piece_of None at end = record { pattern = None; start = at; end = end }
+piece_of (Some m) at end = record { pattern = Some m.pattern; start = m.start; end = m.end }
+
+-- The pieces from this place to the end of a text of this size, at most n: `piece_at` gives the piece at a place.
+unfoldable pub pieces_from : (ℕ → TextPiece) → ℕ → ℕ → ℕ → List TextPiece
+pieces_from piece_at size zero at = []
+pieces_from piece_at size (suc n) at =
+    if nat_lt at size then (piece_at at ∷ pieces_from piece_at size n (piece_at at).end) else []
+
+-- where the last of these pieces ends; at this place, if there is none
+abbrev pub end_after : ℕ → List TextPiece → ℕ
 end_after at [] = at
-end_after at (m ∷ ms) = end_after m.end ms
+end_after at (piece ∷ pieces) = end_after piece.end pieces
 
 -- The rules mean `res`.
 module _ (res : List Re) (text : List ℕ) where
@@ -31,17 +51,49 @@ module _ (res : List Re) (text : List ℕ) where
   abbrev pub token_there : ℕ → Option Found
   token_there at = with_bytes (hit_there at)
 
-  -- The tokens from the start of the text on. Each starts where the one before it ends, up to where no token starts.
-  abbrev pub lexed : List Found
-  lexed = tokens_from token_there (length text) (token_there 0)
+  -- The piece at this place: the token there or, if there is none, the stretch up to the next place at which a token
+  -- starts, or to the end of the text.
+  abbrev pub piece_there : ℕ → TextPiece
+  piece_there at =
+      piece_of (token_there at) at (stretch_end token_there (length text - (at + 1)) (at + 1))
 
-  -- the place where no token starts; none if the tokens are the whole text
+  -- The pieces of the text. Each starts where the one before it ends.
+  abbrev pub recovered : List TextPiece
+  recovered = pieces_from piece_there (length text) (length text) 0
+
+  -- The tokens from the start of the text on, each where the one before it ends, up to where no token starts: the
+  -- pieces before the first stretch.
+  abbrev pub lexed : List TextPiece
+  lexed = take_while is_token recovered
+
+  -- the place where no token starts, that of the first stretch; none if the tokens are the whole text
   abbrev pub stuck_in : Option ℕ
-  stuck_in = if end_after 0 lexed == length text then None else Some (end_after 0 lexed)
+  stuck_in = option_map (λ piece. piece.start) (find (λ piece. not (is_token piece)) recovered)
+
+  -- The stretch ends where a token starts, or at the end of the text, and no token starts in it.
+  pub record IsLongest (start end : ℕ) : Type 0 where
+    pub some_bytes : start < end
+    pub no_token : (at : ℕ) → start ≤ at → at < end → token_there at ≡ None
+    pub ends : end < length text → IsSome (token_there end)
+
+  -- what a piece is: of a pattern, the token that starts there; of none, a longest stretch
+  abbrev pub IsPiece : TextPiece → Type 0
+  IsPiece piece = MatchOption piece.pattern (IsLongest piece.start piece.end)
+      (λ n. token_there piece.start ≡ Some (record { pattern = n; start = piece.start; end = piece.end }))
+
+-- the texts of these pieces, one after the other
+abbrev pub joined : List ℕ → List TextPiece → List ℕ
+joined text pieces = flat_map (λ piece. slice_range text piece.start piece.end) pieces
 
 -- the texts of the tokens, and what is after the last one, are the text
 abbrev pub TokensAreJoined : Type 0
 TokensAreJoined =
-    (res : List Re) (text : List ℕ)
-    → flat_map (λ (m : Found). slice_range text m.start m.end) (lexed res text)
-    ++ drop (end_after 0 (lexed res text)) text ≡ text
+    (res : List Re) (text : List ℕ) → joined text (lexed res text) ++ drop (end_after 0 (lexed res text)) text ≡ text
+
+-- the texts of the pieces are the text
+abbrev pub PiecesAreTheText : Type 0
+PiecesAreTheText = (res : List Re) (text : List ℕ) → joined text (recovered res text) ≡ text
+
+-- each piece is a token, or a longest stretch
+abbrev pub PiecesAreLongest : Type 0
+PiecesAreLongest = (res : List Re) (text : List ℕ) → All (IsPiece res text) (recovered res text)

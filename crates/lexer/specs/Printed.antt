@@ -1,15 +1,16 @@
 -- What is printed for the tokens of a text.
-use Rattle.std.specs.Prelude.{ℕ, Bool, true, false, List, [], ◌∷◌, ◌++◌, Option, None, Some, codes, flat_map, map, option_map, slice_get, slice_range, unwrap_or, if◌then◌else◌}
+use Rattle.std.specs.Prelude.{ℕ, ◌+◌, ◌≡◌, ◌≤◌, Bool, true, false, List, [], ◌++◌, Option, None, Some, codes, flat_map, length, option_map, slice_get, slice_range, unwrap_or, if◌then◌else◌}
+use Rattle.std.specs.Borrow.{Bor}
 use Rattle.std.specs.Fmt.{decimal}
+use Rattle.std.specs.Io.KnownBytes.{Appends}
+use Rattle.std.specs.List.{list_all, list_any}
 use Rattle.std.specs.Str.{bytes_eq}
 use Rattle.std.specs.Str.Lossy.{utf8_lossy}
 use Rattle.json.specs.Print.{quoted}
 use Rattle.regex_hir.specs.Re.{Re}
-use Rattle.regex_search_core.specs.Found.{Found}
 use Rattle.regex_search_core.specs.declared.search.Span.{Span}
-use Rattle.lexer.specs.Lexed.{lexed, stuck_in}
+use Rattle.lexer.specs.Lexed.{TextPiece, is_token, lexed, piece_there, pieces_from, recovered, stuck_in}
 use Rattle.lexer.specs.Positions.{position_at}
-use Rattle.lexer.specs.Recovered.{TextPiece, recovered}
 use Rattle.lexer.specs.declared.position.Position.{Position}
 use Rattle.lexer.specs.declared.report.Style.{Style}
 use Rattle.lexer.specs.declared.rules.Rule.{Rule}
@@ -37,9 +38,8 @@ rule_line rule span position text =
     shown_place rule.name.now span position ++ (if rule.hidden then codes "\n" else shown_text text)
 
 -- whether the name is one of these
-unfoldable pub is_in : List (List ℕ) → List ℕ → Bool
-is_in [] name = false
-is_in (other ∷ names) name = if bytes_eq other name then true else is_in names name
+abbrev pub is_in : List (Bor (List ℕ)) → List ℕ → Bool
+is_in names name = list_any (λ other. bytes_eq other.now name) names
 
 -- the members of a position, if it is printed
 abbrev pub position_members : Option Position → List ℕ
@@ -54,25 +54,17 @@ object_line name span position text =
     ++ decimal span.end
     ++ (position_members position ++ (codes ",\"text\":" ++ quoted (utf8_lossy text) ++ codes "}\n"))
 
--- the line of a token of this rule in a style
-abbrev pub styled_line : Style → Rule → Span → Option Position → List ℕ → List ℕ
-styled_line style rule span position text =
-    if style.json then object_line rule.name.now span position text else rule_line rule span position text
-
--- the same line, but nothing if the name of the rule is one of those to skip
+-- the line of a token of this rule in a style, but nothing if the name of the rule is one of those to skip
 abbrev pub shown_unless_skipped : Style → Rule → Span → Option Position → List ℕ → List ℕ
 shown_unless_skipped style rule span position text =
-    if is_in (map (λ name. name.now) style.skip.now) rule.name.now
+    if is_in style.skip.now rule.name.now
     then []
-    else styled_line style rule span position text
+    else if style.json then object_line rule.name.now span position text
+    else rule_line rule span position text
 
 -- the line of a piece of this name that is no token of a rule
 abbrev pub named_line : List ℕ → Span → Option Position → List ℕ → List ℕ
 named_line name span position text = shown_place name span position ++ shown_text text
-
--- the line of a token of no rule
-abbrev pub unknown_line : Span → Option Position → List ℕ → List ℕ
-unknown_line span position text = named_line (codes "?") span position text
 
 -- the line of a stretch at which no token starts
 abbrev pub error_line : Style → Span → Option Position → List ℕ → List ℕ
@@ -80,11 +72,11 @@ error_line style span position text =
     if style.json then object_line (codes "error") span position text
     else named_line (codes "error") span position text
 
--- the line of a token of the pattern of this number, of which those to skip have none
+-- the line of a token of the pattern of this number, of which those to skip have none; of no rule, its name is `?`
 abbrev pub pattern_line : Style → List Rule → ℕ → Span → Option Position → List ℕ → List ℕ
 pattern_line style rules number span position text =
     unwrap_or (option_map (λ rule. shown_unless_skipped style rule span position text) (slice_get rules number))
-    (unknown_line span position text)
+    (named_line (codes "?") span position text)
 
 -- the line of a token of this pattern, or of a stretch of none
 abbrev pub kind_line : Style → List Rule → Option ℕ → Span → Option Position → List ℕ → List ℕ
@@ -94,36 +86,6 @@ kind_line style rules (Some number) span position text = pattern_line style rule
 -- the position of a place in the text, if positions are printed
 abbrev pub position_if : Bool → List ℕ → ℕ → Option Position
 position_if positions text at = if positions then Some (position_at text at) else None
-
--- the span of a token
-abbrev pub found_span : Found → Span
-found_span m = record { start = m.start; end = m.end }
-
--- the line of a token by these rules
-abbrev pub token_line : Style → List Rule → List ℕ → Found → List ℕ
-token_line style rules text m =
-    pattern_line style rules m.pattern (found_span m) (position_if style.positions text m.start)
-    (slice_range text m.start m.end)
-
--- the lines of these tokens
-abbrev pub token_lines : Style → List Rule → List ℕ → List Found → List ℕ
-token_lines style rules text ms = flat_map (token_line style rules text) ms
-
--- the line of this place, where no token starts
-abbrev pub stuck_text : ℕ → Option Position → List ℕ
-stuck_text at position = codes "no token at " ++ decimal at ++ (shown_position position ++ codes "\n")
-
--- the same as a JSON object
-abbrev pub stuck_object : ℕ → Option Position → List ℕ
-stuck_object at position = codes "{\"no_token_at\":" ++ decimal at ++ (position_members position ++ codes "}\n")
-
-abbrev pub stuck_at : Bool → ℕ → Option Position → List ℕ
-stuck_at json at position = if json then stuck_object at position else stuck_text at position
-
--- the line of the place where no token starts, or nothing
-abbrev pub stuck_line : Style → List ℕ → Option ℕ → List ℕ
-stuck_line style text None = []
-stuck_line style text (Some at) = stuck_at style.json at (position_if style.positions text at)
 
 -- the line of a piece of the text
 abbrev pub piece_line : Style → List Rule → List ℕ → TextPiece → List ℕ
@@ -135,12 +97,33 @@ piece_line style rules text piece =
 abbrev pub piece_lines : Style → List Rule → List ℕ → List TextPiece → List ℕ
 piece_lines style rules text pieces = flat_map (piece_line style rules text) pieces
 
+-- the line of this place, where no token starts, or the same as a JSON object
+abbrev pub stuck_at : Bool → ℕ → Option Position → List ℕ
+stuck_at false at position = codes "no token at " ++ decimal at ++ (shown_position position ++ codes "\n")
+stuck_at true at position = codes "{\"no_token_at\":" ++ decimal at ++ (position_members position ++ codes "}\n")
+
+-- the line of the place where no token starts, or nothing
+abbrev pub stuck_line : Style → List ℕ → Option ℕ → List ℕ
+stuck_line style text None = []
+stuck_line style text (Some at) = stuck_at style.json at (position_if style.positions text at)
+
 -- what is printed of the tokens of a text by these rules, which mean `res`
 abbrev pub printed_tokens : Style → List Rule → List Re → List ℕ → List ℕ
 printed_tokens style rules res text =
-    token_lines style rules text (lexed res text) ++ stuck_line style text (stuck_in res text)
+    piece_lines style rules text (lexed res text) ++ stuck_line style text (stuck_in res text)
 
 -- what is printed of a text: its pieces if the lexer goes on after errors, and otherwise its tokens
 abbrev pub printed_text : Style → List Rule → List Re → List ℕ → List ℕ
 printed_text style rules res text =
     if style.recover then piece_lines style rules text (recovered res text) else printed_tokens style rules res text
+
+-- How far a text was printed: the lines of its pieces up to this place were written, all of tokens if the text is
+-- `whole` so far. At most `left` pieces are from there on, and with them they are the pieces of the text.
+pub record HasPrinted (res : List Re) (text : List ℕ) (style : Style) (rules : List Rule) (at : ℕ) (whole : Bool)
+    (out-before out : Option (List ℕ)) : Type 0 where
+  pub pieces : List TextPiece
+  pub left : ℕ
+  pub enough : length text ≤ left + at
+  pub goes_on : recovered res text ≡ pieces ++ pieces_from (piece_there res text) (length text) left at
+  pub written : Appends out-before out (piece_lines style rules text pieces)
+  pub whole_is : whole ≡ list_all is_token pieces

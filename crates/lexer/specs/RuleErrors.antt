@@ -1,19 +1,12 @@
 -- Why rules cannot be compiled, and what is printed of it.
 use Rattle.std.specs.Prelude.{◌≡◌, ℕ, ◌+◌, ◌-◌, ◌^◌, ◌++◌, Bool, List, Some, false, true, ⊤, chars, codes, decimal, length, min, slice_get, take}
-use Rattle.nfa_compiler.specs.ErrorTexts.{compile_error_text}
-use Rattle.nfa_compiler.specs.Rejected.{IsFirstTooBigOf, IsOfOneText, IsRejection, NamesText}
-use Rattle.nfa_compiler.specs.declared.error.CompileError.{CompileError}
+use Rattle.nfa_compiler.specs.Common.{compile_error_text, IsFirstTooBigOf, IsOfOneText, IsRejection, NamesText}
 use Rattle.nfa_compiler.specs.declared.error.CompileError.TheVariants.{Memory, Syntax, TooBig}
 use Rattle.nfa_compiler.specs.declared.syntax_error.SyntaxError.{SyntaxError}
-use Rattle.lexer.specs.Patterns.{rule_patterns, rule_syntax}
+use Rattle.lexer.specs.Rules.{rule_patterns, rule_syntax}
 use Rattle.lexer.specs.declared.rules.Rule.{Rule}
 use Rattle.lexer.specs.declared.rules.RulesError.{RulesError}
 use Rattle.lexer.specs.declared.rules.RulesError.TheVariants.{NoRule, NoPattern, TooLarge, Compile}
-
--- the compiler refuses these patterns with the error
-pub record IsRefusal (patterns : List (List ℕ)) (error : CompileError) : Type 0 where
-  pub rejected : IsOfOneText rule_syntax patterns error
-  pub named : NamesText rule_syntax 10485760 patterns error
 
 -- The pattern of the rule of this line is none, by the grammar. The column counts the characters of the line before the
 -- error, and the largest number stands for larger ones.
@@ -35,18 +28,14 @@ pub record IsTooLarge (rules : List Rule) (line limit : ℕ) : Type 0 where
   pub line_is : line ≡ rule.line
   pub limit_is : limit ≡ 10485760
 
--- the error is not of one pattern's text or size
-abbrev pub IsOfAllRules : CompileError → Type 0
-IsOfAllRules (Syntax e) = ⊥
-IsOfAllRules (TooBig pattern limit) = ⊥
-IsOfAllRules _ = ⊤
-
--- why these rules cannot be compiled
+-- why these rules cannot be compiled: one of them is wrong, or the error is of all
 abbrev pub IsCompileMistake : List Rule → RulesError → Type 0
 IsCompileMistake rules (NoRule line) = ⊥
 IsCompileMistake rules (NoPattern line column reason) = IsSyntaxMistake rules line column reason.now
 IsCompileMistake rules (TooLarge line limit) = IsTooLarge rules line limit
-IsCompileMistake rules (Compile e) = IsOfAllRules e
+IsCompileMistake rules (Compile (Syntax e)) = ⊥
+IsCompileMistake rules (Compile (TooBig pattern limit)) = ⊥
+IsCompileMistake rules (Compile _) = ⊤
 
 -- the reason is that allocation failed
 abbrev pub is_memory : RulesError → Bool

@@ -1,11 +1,11 @@
 -- The tokens of a text.
-use Rattle.std.specs.Prelude.{ℕ, ◌<◌, ◌≤◌, Bool, true, false, List, None, Some, length}
+use Rattle.std.specs.Prelude.{ℕ, ◌<◌, ◌≤◌, false, List, Option, None, Some, length}
 use Rattle.regex_search_core.specs.Found.{Found}
 use Rattle.regex_search_core.specs.Patterns.{number_of}
 use Rattle.regex_search_core.specs.Search.{Search}
 use Rattle.regex_search_core.specs.declared.search.Anchored.TheVariants.{Yes}
 use Rattle.regex_search_core.specs.declared.search.Span.{Span}
-use Rattle.lexer.specs.Recovered.{TextPiece}
+use Rattle.lexer.specs.Lexed.{TextPiece}
 use Rattle.lexer.specs.declared.lexer.Piece.{Piece}
 use Rattle.lexer.specs.declared.lexer.Piece.TheVariants as piece
 use Rattle.lexer.specs.declared.lexer.Token.{Token}
@@ -18,28 +18,21 @@ search_at text at = record { haystack = text; start = at; end = length text; anc
 abbrev pub token_found : Token → Found
 token_found token = record { pattern = number_of token.pattern; start = token.span.start; end = token.span.end }
 
--- the token has a byte at least, and lies in the text
-pub record LiesInText (text : List ℕ) (token : Token) : Type 0 where
-  pub some_bytes : token.span.start < token.span.end
-  pub within : token.span.end ≤ length text
-
--- the piece of the text that it is
-abbrev pub piece_found : Piece → TextPiece
-piece_found (piece.Token token) =
-    record { pattern = Some (number_of token.pattern); start = token.span.start; end = token.span.end }
-piece_found (piece.Error span) = record { pattern = None; start = span.start; end = span.end }
-
--- whether the piece is a token
-abbrev pub is_token : Piece → Bool
-is_token (piece.Token token) = true
-is_token (piece.Error span) = false
+-- the number of the pattern of a token; none of a stretch
+abbrev pub piece_pattern : Piece → Option ℕ
+piece_pattern (piece.Token token) = Some (number_of token.pattern)
+piece_pattern (piece.Error span) = None
 
 -- where the piece is
 abbrev pub piece_span : Piece → Span
 piece_span (piece.Token token) = token.span
 piece_span (piece.Error span) = span
 
+-- the piece of the text that it is
+abbrev pub piece_found : Piece → TextPiece
+piece_found p = record { pattern = piece_pattern p; start = (piece_span p).start; end = (piece_span p).end }
+
 -- the span has a byte at least, and lies in the text
-pub record SpanLiesInText (text : List ℕ) (span : Span) : Type 0 where
+pub record LiesInText (text : List ℕ) (span : Span) : Type 0 where
   pub some_bytes : span.start < span.end
   pub within : span.end ≤ length text

@@ -5,12 +5,11 @@ ghost use Rattle.regex_search_core.specs.Found.{found_of};
 ghost use Rattle.nfa_engines.specs.Lists.{IsInside};
 ghost use Rattle.nfa_compiler.specs.Compiled.{AreMeant};
 ghost use Rattle.nfa_compiler.specs.Rejected.{TextsFitIn};
-ghost use Rattle.lexer.specs.Lexed.{TokensAreJoined, hit_there, token_there, with_bytes};
-ghost use Rattle.lexer.specs.Patterns.{rule_patterns, rule_syntax};
-ghost use Rattle.lexer.specs.Recovered.{PiecesAreLongest, PiecesAreTheText, piece_there, stretch_end};
+ghost use Rattle.lexer.specs.Lexed.{PiecesAreLongest, PiecesAreTheText, TokensAreJoined, hit_there, is_token};
+ghost use Rattle.lexer.specs.Lexed.{piece_there, stretch_end, token_there, with_bytes};
+ghost use Rattle.lexer.specs.Rules.{rule_patterns, rule_syntax};
 ghost use Rattle.lexer.specs.RuleErrors.{IsCompileMistake};
-ghost use Rattle.lexer.specs.Tokens.{LiesInText, SpanLiesInText, is_token, piece_span, piece_found, search_at};
-ghost use Rattle.lexer.specs.Tokens.{token_found};
+ghost use Rattle.lexer.specs.Tokens.{LiesInText, piece_span, piece_found, search_at, token_found};
 
 use crate::rules::{Rule, RulesError, compile};
 use nfa_compiler::laws;
@@ -37,7 +36,7 @@ pub enum Piece {
 impl Piece {
     /// Returns whether the piece is a token.
     pub fn is_token(self) -> bool
-        ensures { result ≡ is_token self }
+        ensures { result ≡ is_token (piece_found self) }
     {
         matches!(self, Piece::Token(_))
     }
@@ -64,7 +63,7 @@ pub struct Lexer<'r> {
 
 impl<'r> Model for Lexer<'r> {
     ghost use Rattle.std.specs.Prelude.{List, ℕ};
-    ghost use Rattle.lexer.specs.Patterns.{IsRegexOf, rule_patterns};
+    ghost use Rattle.lexer.specs.Rules.{IsRegexOf, rule_patterns};
 
     ghost Value = { List (List ℕ) };
 
@@ -122,7 +121,7 @@ impl<'r> Lexer<'r> {
         ensures token { (res : List Re) → AreMeant rule_syntax self.old res
             → option_map token_found result ≡ token_there res text.now at }
         ensures after { IfSome result (λ token. at < token.span.end) }
-        ensures inside { IfSome result (LiesInText text.now) }
+        ensures inside { IfSome result (λ token. LiesInText text.now token.span) }
         ensures kept { self.new ≡ self.old }
     {
         token_of(self.hit_at(text, at)?)
@@ -135,7 +134,7 @@ impl<'r> Lexer<'r> {
         ensures piece { (res : List Re) → AreMeant rule_syntax self.old res
             → piece_found result ≡ piece_there res text.now at }
         ensures after { at < (piece_span result).end }
-        ensures inside { SpanLiesInText text.now (piece_span result) }
+        ensures inside { LiesInText text.now (piece_span result) }
         ensures kept { self.new ≡ self.old }
     {
         match self.token_at(text, at) {

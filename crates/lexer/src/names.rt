@@ -1,13 +1,14 @@
 //! Names of rules whose tokens are not printed.
-ghost use Rattle.std.specs.Prelude.{◌≡◌, map};
+ghost use Rattle.std.specs.Prelude.{◌≡◌};
 ghost use Rattle.std.specs.Str.{bytes_eq};
 ghost use Rattle.lexer.specs.Printed.{is_in};
 
 use crate::rules::Rule;
 
 /// Returns whether the name is one of these.
+#[tactic(auto, using(std::proofs::lemmas::List::Folds::list_any_at))]
 pub fn is_in(names: &[&str], name: &str) -> bool
-    ensures { result ≡ is_in (map (λ other. other.now) names.now) name.now }
+    ensures { result ≡ is_in names.now name.now }
 {
     for other in names {
         if is_same(other, name) {

@@ -1,11 +1,11 @@
 //! A line for each token.
-ghost use Rattle.std.specs.Prelude.{◌≡◌, IfOk, IfSome, List, OnOk, is_none};
+ghost use Rattle.std.specs.Prelude.{◌≡◌, IfOk, IfSome, List, OnOk};
 ghost use Rattle.std.specs.Io.KnownBytes.{Appends};
+ghost use Rattle.std.specs.List.{list_all};
 ghost use Rattle.regex_hir.specs.Re.{Re};
-ghost use Rattle.lexer.specs.Lexed.{stuck_in};
-ghost use Rattle.lexer.specs.Patterns.{Mean, rule_patterns};
+ghost use Rattle.lexer.specs.Lexed.{is_token, recovered};
+ghost use Rattle.lexer.specs.Rules.{Mean, rule_patterns};
 ghost use Rattle.lexer.specs.Printed.{piece_lines, printed_text, printed_tokens};
-ghost use Rattle.lexer.specs.Recovered.{recovered};
 
 use crate::lexer::Lexer;
 use crate::position::moved;
@@ -59,7 +59,7 @@ pub fn run<R: Read + Drop, W: Write>(
         → IfSome (R.remaining input) (λ text. Appends (W.contents out.old) (W.contents out.new)
         (printed_text style.entry rules.now res text))) }
     ensures whole { IfOk result (λ whole. (res : List Re) → Mean rules.now res
-        → IfSome (R.remaining input) (λ text. whole ≡ is_none (stuck_in res text))) }
+        → IfSome (R.remaining input) (λ text. whole ≡ list_all is_token (recovered res text))) }
 {
     let mut text = Vec::new(alloc);
     input.read_to_end(&mut text)?;
@@ -80,7 +80,7 @@ impl Report<'_, '_, '_> {
             → Appends (W.contents out.old) (W.contents out.new)
             (printed_text self.now.style self.now.rules.now res self.now.text.now)) }
         ensures whole { IfOk result (λ whole. (res : List Re) → Mean self.now.rules.now res
-            → whole ≡ is_none (stuck_in res self.now.text.now)) }
+            → whole ≡ list_all is_token (recovered res self.now.text.now)) }
     {
         if self.style.recover {
             return self.print_pieces(lexer, out);
@@ -96,7 +96,7 @@ impl Report<'_, '_, '_> {
             → Appends (W.contents out.old) (W.contents out.new)
             (piece_lines self.now.style self.now.rules.now self.now.text.now (recovered res self.now.text.now))) }
         ensures whole { IfOk result (λ whole. (res : List Re) → Mean self.now.rules.now res
-            → whole ≡ is_none (stuck_in res self.now.text.now)) }
+            → whole ≡ list_all is_token (recovered res self.now.text.now)) }
     {
         let mut whole = true;
         let mut position = first_shown(self.style.positions);
@@ -122,7 +122,7 @@ impl Report<'_, '_, '_> {
             → Appends (W.contents out.old) (W.contents out.new)
             (printed_tokens self.now.style self.now.rules.now res self.now.text.now)) }
         ensures whole { IfOk result (λ whole. (res : List Re) → Mean self.now.rules.now res
-            → whole ≡ is_none (stuck_in res self.now.text.now)) }
+            → whole ≡ list_all is_token (recovered res self.now.text.now)) }
     {
         let mut position = first_shown(self.style.positions);
         let mut at = 0;

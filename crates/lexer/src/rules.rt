@@ -4,9 +4,9 @@ ghost use Rattle.std.specs.Str.{trim_start};
 ghost use Rattle.std.specs.Str.Lines.{lines};
 ghost use Rattle.nfa_compiler.specs.Rejected.{IsOfOneText, NamesText, TextsFitIn};
 ghost use Rattle.nfa_compiler.specs.declared.error.CompileError.TheVariants.{Syntax, TooBig};
-ghost use Rattle.lexer.specs.Patterns.{IsRegexOf, rule_patterns, rule_syntax};
-ghost use Rattle.lexer.specs.RuleErrors.{IsCompileMistake, IsRefusal};
-ghost use Rattle.lexer.specs.Rules.{AreRulesOf, HasRule, IsRuleOf, IsRulesError, is_left_out};
+ghost use Rattle.lexer.specs.RuleErrors.{IsCompileMistake};
+ghost use Rattle.lexer.specs.Rules.{AreRulesOf, HasRule, IsRegexOf, IsRuleOf, IsRulesError, is_left_out};
+ghost use Rattle.lexer.specs.Rules.{rule_patterns, rule_syntax};
 
 use nfa_compiler::{CompileError, SyntaxError};
 use nfa_meta::{BuildError, Regex};
@@ -229,7 +229,8 @@ pub fn compile(alloc: Global, rules: &[Rule<'_>]) -> Result<Regex, RulesError>
 
 /// Returns the error of the compiler as one of the rules.
 fn refusal(rules: &[Rule<'_>], error: CompileError) -> RulesError
-    requires { IsRefusal (rule_patterns rules.now) error }
+    requires rejected { IsOfOneText rule_syntax (rule_patterns rules.now) error }
+    requires named { NamesText rule_syntax 10485760 (rule_patterns rules.now) error }
     ensures { IsCompileMistake rules.now result }
 {
     match error {

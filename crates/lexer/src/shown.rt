@@ -1,6 +1,6 @@
 //! The line of a token, of a stretch at which no token starts, and of the place where the lexer is stuck.
 ghost use Rattle.std.specs.Prelude.{◌≡◌, ◌≤◌, ◌++◌, IfOk, OnOk, codes, if◌then◌else◌};
-ghost use Rattle.std.specs.Prelude.{length, option_map, slice_get, slice_range, string_bytes};
+ghost use Rattle.std.specs.Prelude.{false, length, option_map, slice_get, slice_range, string_bytes, true};
 ghost use Rattle.std.specs.Fmt.{decimal};
 ghost use Rattle.std.specs.Io.KnownBytes.{Appends};
 ghost use Rattle.std.specs.Str.Lossy.{utf8_lossy};
@@ -8,7 +8,6 @@ ghost use Rattle.lexer.specs.Positions.{first_position};
 ghost use Rattle.lexer.specs.Printed.{error_line, kind_line, named_line, object_line, pattern_line};
 ghost use Rattle.lexer.specs.Printed.{position_members, rule_line, shown_place};
 ghost use Rattle.lexer.specs.Printed.{shown_position, shown_span, shown_text, shown_unless_skipped, stuck_at};
-ghost use Rattle.lexer.specs.Printed.{stuck_object, stuck_text};
 ghost use Rattle.lexer.specs.Tokens.{piece_found};
 ghost use Rattle.json.specs.Print.{quoted};
 ghost use Rattle.regex_search_core.specs.Patterns.{number_of};
@@ -77,12 +76,13 @@ pub fn write_stuck<W: Write>(
     write_stuck_line(out, at, position)
 }
 
+#[tactic(auto, using(crate::proofs::Writes::writes))]
 fn write_stuck_object<W: Write>(
     out: &mut W,
     at: usize,
     position: Option<Position>,
 ) -> io::Result<()>
-    ensures { OnOk result (Appends (W.contents out.old) (W.contents out.new) (stuck_object at position)) }
+    ensures { OnOk result (Appends (W.contents out.old) (W.contents out.new) (stuck_at true at position)) }
 {
     write!(out, "{{\"no_token_at\":{at}")?;
     write_members(out, position)?;
@@ -90,8 +90,9 @@ fn write_stuck_object<W: Write>(
     Ok(())
 }
 
+#[tactic(auto, using(crate::proofs::Writes::writes))]
 fn write_stuck_line<W: Write>(out: &mut W, at: usize, position: Option<Position>) -> io::Result<()>
-    ensures { OnOk result (Appends (W.contents out.old) (W.contents out.new) (stuck_text at position)) }
+    ensures { OnOk result (Appends (W.contents out.old) (W.contents out.new) (stuck_at false at position)) }
 {
     write!(out, "no token at {at}")?;
     write_position(out, position)?;
@@ -146,6 +147,7 @@ impl Report<'_, '_, '_> {
     }
 
     /// Writes the line of a token of this rule, if tokens of the rule are printed.
+    #[tactic(auto, using(crate::proofs::Writes::writes))]
     fn write_unless_skipped<W: Write>(
         &self,
         out: &mut W,
@@ -173,6 +175,7 @@ fn rule_at<'s, 't>(rules: &'s [Rule<'t>], number: usize) -> Option<&'s Rule<'t>>
 }
 
 /// Writes a token as a JSON object. Bytes of its text that are not UTF-8 are replaced by U+FFFD.
+#[tactic(auto, using(crate::proofs::Writes::writes))]
 fn write_object<W: Write>(
     alloc: Global,
     out: &mut W,

@@ -5,9 +5,7 @@ use Rattle.regex_search_core.specs.Found.{Found, found_of}
 use Rattle.regex_search_core.specs.Search.{Search}
 use Rattle.regex_search_core.specs.declared.search.Match.{Match}
 use Rattle.list_callers.specs.EmptyFinder.{empty_answer, zero_row}
-use Rattle.nfa_search_base.specs.WithCaptures.{Row, row_span}
-use Rattle.nfa_search_base.specs.Finders.{answer_by}
-use Rattle.nfa_search_base.specs.IterStates.{Answer, AnswerIsInside, LiesIn, answer_span}
+use Rattle.nfa_search_base.specs.Common.{Row, row_span, answer_by, Answer, AnswerIsInside, LiesIn, answer_span}
 
 pub empty_found : (s : Search) (m : Match) → found_of m ≡ record { pattern = 0; start = s.start; end = s.start }
     → s.start ≤ s.end → answer_by found_of (Ok (Some m)) ≡ empty_answer s

@@ -2,8 +2,7 @@
 use Rattle.std.specs.Prelude.{◌≡◌, nat_le, nat_eq, [], ◌∷◌, if◌then◌else◌, None, Some, Ok}
 use Rattle.regex_search_core.specs.Found.{Found}
 use Rattle.regex_search_core.specs.Search.{Search}
-use Rattle.nfa_search_base.specs.WithCaptures.{Row}
-use Rattle.nfa_search_base.specs.IterStates.{Answer}
+use Rattle.nfa_search_base.specs.Common.{Row, Answer}
 
 -- an empty match of the first pattern at the start of the span, if the span has one
 abbrev pub empty_answer : Search → Answer Found

@@ -3,7 +3,7 @@ ghost use Rattle.std.specs.Prelude.{◌≡◌, IfOk, true, false};
 ghost use Rattle.regex_search_core.specs.Search.{search_of};
 ghost use Rattle.nfa_engines.specs.Engines.{Fits};
 ghost use Rattle.nfa_engines.specs.Paths.{is_utf8_empty};
-ghost use Rattle.nfa_match_spans.specs.Matches.{MatchesNothing};
+ghost use Rattle.nfa_match_spans.specs.MatchSpanLaws.{MatchesNothing};
 
 use nfa_engines::Input;
 use nfa_engines::pikevm::{Cache, PikeVM};

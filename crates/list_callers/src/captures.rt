@@ -6,8 +6,8 @@ ghost use Rattle.regex_search_core.specs.Found.{found_of};
 ghost use Rattle.regex_search_core.specs.Search.{whole};
 ghost use Rattle.regex_search_core.specs.declared.search.MatchKind.TheVariants.{LeftmostFirst};
 ghost use Rattle.nfa_engines.specs.WithCaptures.{row_of};
-ghost use Rattle.nfa_engines.specs.CapturesLists.{AreAllCaptures, AnswersRow, HasGroups};
-ghost use Rattle.nfa_engines.specs.CapturesRuns.{match_in};
+ghost use Rattle.nfa_engines.specs.Lists.{AreAllCaptures, AnswersRow, HasGroups};
+ghost use Rattle.nfa_engines.specs.Runs.{match_in};
 ghost use Rattle.nfa_engines.specs.Engines.{Fits, kind_of};
 ghost use Rattle.nfa_engines.specs.BacktrackFinding.{IsTryCapturesAnswer};
 

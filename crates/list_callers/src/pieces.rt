@@ -3,8 +3,8 @@
 ghost use Rattle.std.specs.Prelude.{◌≡◌, IfOk, Ok, map};
 ghost use Rattle.regex_search_core.specs.Found.{found_of};
 ghost use Rattle.regex_search_core.specs.Search.{search_of, whole};
-ghost use Rattle.nfa_engines.specs.Finders.{answer_by, match_span};
-ghost use Rattle.nfa_engines.specs.Items.{item_by, greedy};
+ghost use Rattle.nfa_engines.specs.Finders.{match_span};
+ghost use Rattle.nfa_engines.specs.Items.{item_by, greedy, answer_by};
 ghost use Rattle.nfa_engines.specs.IterStates.{fresh, span_of, LiesIn};
 ghost use Rattle.list_callers.specs.Pieces.{piece_answer};
 

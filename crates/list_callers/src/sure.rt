@@ -4,9 +4,8 @@ ghost use Rattle.std.specs.Prelude.{IfOk, Ok, map};
 ghost use Rattle.regex_search_core.specs.Found.{found_of, half_found_of};
 ghost use Rattle.regex_search_core.specs.Search.{search_of, whole};
 ghost use Rattle.nfa_engines.specs.WithCaptures.{filled_answer, row_span};
-ghost use Rattle.nfa_engines.specs.CapturesLists.{AreAllStoredCaptures};
-ghost use Rattle.nfa_engines.specs.Finders.{answer_by};
-ghost use Rattle.nfa_engines.specs.Lists.{AreAllStoredMatches};
+ghost use Rattle.nfa_engines.specs.Lists.{AreAllStoredCaptures, AreAllStoredMatches};
+ghost use Rattle.nfa_engines.specs.Items.{answer_by};
 ghost use Rattle.nfa_engines.specs.IterStates.{IsInfalliblyInside, fresh, half_span_of, span_of};
 
 use nfa_engines::error::SearchError;

@@ -1,11 +1,12 @@
 -- How values are counted, and how the counts are listed.
-use Rattle.std.proofs.Common.{◌≡◌, ◌∙◌, ℕ, zero, suc, ◌+◌, ◌<◌, ◌≤◌, Bool, true, false, cond, List, [], ◌∷◌, ◌++◌, All, length, map, refl, sym, ap, subst, arith, inl, inr, get_or, append_assoc, append-nil, ◌⊎◌, Option, String, None, Some, IfSome, flat_map, slice_get, string_bytes, unwrap_or}
+use Rattle.nfa_paths.proofs.Common.{◌≡◌, ◌∙◌, ℕ, ◌+◌, ◌<◌, Bool, true, false, cond, List, [], ◌∷◌, ◌++◌, All, length, map, refl, sym, ap, subst, arith, inl, inr, get_or, ◌⊎◌, Option, Some, option_map, slice_get, string_bytes, unwrap_or, AllByRecursion, cases_Bool, cond-false, get_or-map, length-map, All-map, sum_by_push, slice_get-map, slice_get_read, nat_tests}
+use Rattle.std.proofs.Common.{String}
 use Rattle.std.specs.Borrow.{Bor}
-use Rattle.std.specs.BTreeMap.{BTreeMap, IsEmpty, IsOrdered, UpdatesBy, is_at}
+use Rattle.std.specs.BTreeMap.{BTreeMap, IsOrdered, UpdatesBy, is_at}
 use Rattle.std.specs.Cmp.Lexicographic.{slice_cmp, bytes_decides, nat_list_cmp_total, nat_list_eq_equiv}
 use Rattle.std.specs.Cmp.{eq_by_cmp_equiv}
 use Rattle.std.specs.Global.{Vec}
-use Rattle.std.specs.List.{AllAdjacentBelow, AllByRecursion, Contains, IsDistinct}
+use Rattle.std.specs.List.{AllAdjacentBelow, Contains, IsDistinct}
 use Rattle.std.specs.List.Sorted.{IsPermutation, IsSorted, IsStrictlySortedBy}
 use Rattle.std.specs.Map.{KeepsOthers, AreApart, IsKeyTest, keys_of, lookup}
 use Rattle.std.specs.Ordering.{is_eq, is_lt, nat_cmp, ordering_then}
@@ -14,26 +15,18 @@ use Rattle.std.specs.declared.alloc.Global.{Global}
 use Rattle.std.specs.declared.cmp.Ordering.{Ordering}
 use Rattle.std.specs.declared.cmp.Ordering.TheVariants.{Less}
 use Rattle.std.specs.declared.cmp.Reverse.{Reverse}
-use Rattle.std.proofs.lemmas.Bool.{cases_Bool, cases_lt, cond-false, cond-true, le-ltb, lt-ltb, eq-eqb}
-use Rattle.std.proofs.lemmas.List.{get_or-map, length-map}
-use Rattle.std.proofs.lemmas.List.Elements.{All-map}
+use Rattle.std.proofs.lemmas.Bool.{cond-true}
+use Rattle.std.proofs.lemmas.List.Elements.{Contains-append_right}
 use Rattle.std.proofs.lemmas.List.Sorted.{All-permutation, Contains-permutation, IsPermutation-map}
-use Rattle.std.proofs.lemmas.List.Sums.{sum_by_push}
 use Rattle.std.proofs.lemmas.Map.Keys.{IsDistinct-IsPermutation, sorted_head, sorted_tail}
 use Rattle.std.proofs.lemmas.Map.Text.{is_eq-slice_cmp}
-use Rattle.text_lines.specs.Lines.{HasNoLine, TakesLine}
-use Rattle.text_lines.proofs.LineLemmas.{first-line, none-left}
-use Rattle.log_extractor.specs.Counts.{IsCountList, IsFound, IsTally, MayPrecede, count_in, count_of, counted, entry_counted, key_cmp, occurrences, positive, value_in, values_in}
-use Rattle.log_extractor.specs.Several.{LabelledPattern}
+use Rattle.log_extractor.specs.Counts.{IsCountList, IsFound, IsTally, MayPrecede, count_in, count_of, counted, entry_counted, key_cmp, occurrences, positive}
 
 -- One more value is counted.
 
-apart : (bs cs ks : List ℕ) → bytes_eq bs cs ≡ false → bytes_eq bs ks ≡ true → bytes_eq cs ks ≡ false
-apart bs cs ks n y = nat_list_eq_equiv.symm cs ks ∙ sym (nat_list_eq_equiv.congr bs ks cs y) ∙ n
-
 apart-in-order : (bs cs ks : List ℕ) → bytes_eq bs cs ≡ false → is_eq (slice_cmp nat_cmp bs ks) ≡ true
     → is_eq (slice_cmp nat_cmp cs ks) ≡ false
-apart-in-order bs cs ks n y = is_eq-slice_cmp cs ks ∙ apart bs cs ks n (sym (is_eq-slice_cmp bs ks) ∙ y)
+apart-in-order bs cs ks n y = grind (arith, is_eq-slice_cmp, bytes_decides, n, y)
 
 module _ (eq : Vec ℕ → Vec ℕ → Bool) (test : Vec ℕ → Bool) where
   other-entries : (old new : List (Vec ℕ × ℕ)) → KeepsOthers eq test old new → (other : Vec ℕ → Bool)
@@ -56,15 +49,11 @@ updated bs m n w h cs = elim (cases_Bool (bytes_eq bs cs)) [
       ∙ sym (cond-false (bytes_eq bs cs) w (count_in m cs) differs)
 ]
 
-pub tally-none : (m : BTreeMap (Vec ℕ) ℕ) → IsEmpty m → IsTally [] m
-tally-none m empty = λ value. rw empty refl
-
 positive-more : (n : ℕ) → positive (n + 1) ≡ Some (n + 1)
-positive-more n = let e : n + 1 ≡ suc n = omega arith in rw e refl
+positive-more n = grind arith
 
 number-of : (n : ℕ) → unwrap_or (positive n) 0 ≡ n
-number-of zero = refl
-number-of (suc n) = refl
+number-of n = grind arith
 
 one-more : (v : List ℕ) (values : List (List ℕ)) (w : List ℕ)
     → occurrences v (values ++ w ∷ []) ≡ occurrences v values + cond (bytes_eq v w) 1 0
@@ -91,67 +80,6 @@ tally-more values value key m n next tally same next-is updates = λ v.
           now ∙ rw (same, differs) (tally v) ∙ sym (ap positive more)
     ]
 
-pub tally-same : (values : List (List ℕ)) (m : BTreeMap (Vec ℕ) ℕ) → IsTally values m → IsTally (values ++ []) m
-tally-same values m tally = rw (append-nil values) tally
-
--- A run over the lines of an input.
-
--- the values of the lines so far were counted
-pub record IsCounting (ps : List LabelledPattern) (column : ℕ) (values : List (List ℕ)) (text : List ℕ)
-    (input : Option (List ℕ)) (counts : BTreeMap (Vec ℕ) ℕ) : Type 0 where
-  pub rest : List ℕ
-  pub rest_is : input ≡ Some rest
-  pub so_far : List (List ℕ)
-  pub tally : IsTally (values ++ so_far) counts
-  pub values_are : values_in ps column text ≡ so_far ++ values_in ps column rest
-
-abbrev pub HasCounted : List LabelledPattern → ℕ → List (List ℕ) → Option (List ℕ) → Option (List ℕ)
-    → BTreeMap (Vec ℕ) ℕ → Type 0
-HasCounted ps column values before input counts =
-    IfSome before (λ text. IsCounting ps column values text input counts)
-
-module _ (ps : List LabelledPattern) (column : ℕ) (values : List (List ℕ)) where
-  pub counting-init : (input : Option (List ℕ)) (m : BTreeMap (Vec ℕ) ℕ) → IsTally values m
-      → HasCounted ps column values input input m
-  counting-init None m tally = tt
-  counting-init (Some text) m tally = record {
-    rest = text;
-    rest_is = refl;
-    so_far = [];
-    tally = tally-same values m tally;
-    values_are = refl;
-  }
-
-  pub counting-step : (before input after : Option (List ℕ)) (line : List ℕ) (m n : BTreeMap (Vec ℕ) ℕ)
-      → TakesLine input after line
-      → ((seen : List (List ℕ)) → IsTally seen m → IsTally (seen ++ value_in ps column line) n)
-      → HasCounted ps column values before input m → HasCounted ps column values before after n
-  counting-step None input after line m n takes adds going = tt
-  counting-step (Some text) input after line m n takes adds going =
-      let first = first-line input going.rest going.rest_is after line takes in
-      let here = value_in ps column line in
-      record {
-        rest = first.rest;
-        rest_is = first.left_is;
-        so_far = going.so_far ++ here;
-        tally = rw (← append_assoc values going.so_far here) (adds (values ++ going.so_far) going.tally);
-        values_are = going.values_are
-            ∙ ap (λ (ls : List (List ℕ)). going.so_far ++ flat_map (value_in ps column) ls) first.lines_are
-            ∙ sym (append_assoc going.so_far here (values_in ps column first.rest));
-      }
-
-  pub counting-end : (before input : Option (List ℕ)) (m : BTreeMap (Vec ℕ) ℕ) → HasNoLine input
-      → HasCounted ps column values before input m
-      → IfSome before (λ text. IsTally (values ++ values_in ps column text) m)
-  counting-end None input m end going = tt
-  counting-end (Some text) input m end going =
-      let done : values_in ps column text ≡ going.so_far =
-      going.values_are
-      ∙ ap (λ (ls : List (List ℕ)). going.so_far ++ flat_map (value_in ps column) ls)
-      (none-left input going.rest going.rest_is end)
-      ∙ append-nil going.so_far in
-      subst (λ (vs : List (List ℕ)). IsTally (values ++ vs) m) (sym done) going.tally
-
 -- The list of the counts.
 
 abbrev Pair : Type 0
@@ -161,9 +89,7 @@ abbrev second : ℕ × List ℕ → List ℕ
 second c = c.1
 
 positive-is : (n k : ℕ) → positive n ≡ Some k → (k ≡ n) × (0 < k)
-positive-is zero k h = absurd (cc)
-positive-is (suc n) k h =
-    let same : suc n ≡ k = cc in (sym same, omega (arith, same))
+positive-is n k h = grind arith
 
 abbrev IsCounted : List (List ℕ) → ℕ × List ℕ → Type 0
 IsCounted values c = (c.0 ≡ occurrences c.1 values) × (0 < c.0)
@@ -174,35 +100,27 @@ list-counts values m tally found =
     All-map (IsCounted values) entry_counted m.entries
     (λ k d inside. positive-is _ _ (sym (tally (get_or m.entries k d).0.items) ∙ found k d inside))
 
-contains-head : (x : List ℕ) (xs : List (List ℕ)) → Contains (x ∷ xs) x
-contains-head x xs = (0, omega arith, refl)
-
-contains-tail : (x y : List ℕ) (xs : List (List ℕ)) → Contains xs y → Contains (x ∷ xs) y
-contains-tail x y xs c = (suc c.0, omega (arith, c.1), c.2)
-
 has-value : (v : List ℕ) (es : List (Vec ℕ × ℕ)) (n : ℕ)
     → lookup (is_at (λ (k : Vec ℕ). slice_cmp nat_cmp v k.items)) es ≡ Some n
     → Contains (map second (map entry_counted es)) v
 has-value v [] n there = absurd (cc)
 has-value v (e ∷ es) n there = elim (cases_Bool (is_eq (slice_cmp nat_cmp v e.0.items))) [
-  | inl y ↦
-      let same : e.0.items ≡ v = sym ((bytes_decides v e.0.items).0 (sym (is_eq-slice_cmp v e.0.items) ∙ y)) in
-      subst (λ (x : List ℕ). Contains (e.0.items ∷ map second (map entry_counted es)) x) same
-      (contains-head e.0.items _)
-  | inr differs ↦ contains-tail e.0.items v _ (has-value v es n (rw differs at there))
+  | inl y ↦ (0, omega arith, sym ((bytes_decides v e.0.items).0 (sym (is_eq-slice_cmp v e.0.items) ∙ y)))
+  | inr differs ↦
+      Contains-append_right (e.0.items ∷ []) (map second (map entry_counted es)) v
+      (has-value v es n (rw differs at there))
 ]
 
 positive-some : (n : ℕ) → 0 < n → positive n ≡ Some n
-positive-some zero none = absurd (omega (arith, none))
-positive-some (suc n) some = refl
-
-less-apart : (a b : List ℕ) → slice_cmp nat_cmp a b ≡ Less → bytes_eq a b ≡ false
-less-apart a b less = sym (is_eq-slice_cmp a b) ∙ ap is_eq less
+positive-some n some = grind arith
 
 all-apart : (k : Vec ℕ) (es : List (Vec ℕ × ℕ)) → AllByRecursion (λ y. key_cmp k y ≡ Less) (keys_of es)
     → AllByRecursion (λ y. bytes_eq k.items y ≡ false) (map second (map entry_counted es))
 all-apart k [] less = tt
-all-apart k (e ∷ es) less = (less-apart k.items e.0.items less.0, all-apart k es less.1)
+all-apart k (e ∷ es) less = (
+  sym (is_eq-slice_cmp k.items e.0.items) ∙ ap is_eq less.0,
+  all-apart k es less.1,
+)
 
 distinct-values : (es : List (Vec ℕ × ℕ)) → IsStrictlySortedBy key_cmp (keys_of es)
     → IsDistinct bytes_eq (map second (map entry_counted es))
@@ -218,15 +136,7 @@ pair_cmp x y = ordering_then (nat_cmp y.0.0 x.0.0) (slice_cmp nat_cmp x.1.now y.
 
 order-of : (x y : ℕ) (o : Ordering) → is_lt (ordering_then (nat_cmp x y) o) ≡ false
     → (y < x) ⊎ ((x ≡ y) × (is_lt o ≡ false))
-order-of x y o h = elim (cases_lt x y) [
-  | inl less ↦ let wrong : true ≡ false = rw (lt-ltb x y less) at h in absurd (cc)
-  | inr more ↦ elim (cases_lt y x) [
-    | inl less ↦ inl less
-    | inr other ↦
-        let same : x ≡ y = omega (arith, more, other) in
-        inr (same, rw (le-ltb x y more, eq-eqb x y same) at h)
-  ]
-]
+order-of x y o h = grind (arith, nat_tests, h)
 
 may-precede : (a b : Pair) → is_lt (pair_cmp b a) ≡ false → MayPrecede (counted a) (counted b)
 may-precede a b h = order-of a.0.0 b.0.0 (slice_cmp nat_cmp b.1.now a.1.now) h
@@ -268,51 +178,6 @@ count-list values m xs ys tally ordered found same moved sorted =
 -- The column of a name.
 
 pub names-at : (names : List (String Global)) (k : ℕ) (other : String Global) → k < length names
-    → other ≡ get_or names k other
-    → slice_get (map string_bytes names) k ≡ Some (string_bytes other)
-names-at [] k other inside at = absurd (omega (arith, inside))
-names-at (c ∷ cs) zero other inside at = ap (λ (x : String Global). Some (string_bytes x)) (sym at)
-names-at (c ∷ cs) (suc k) other inside at = names-at cs k other (omega (arith, inside)) at
-
-none-past : (names : List (String Global)) (k : ℕ) → length names ≤ k
-    → slice_get (map string_bytes names) k ≡ None
-none-past [] k past = refl
-none-past (c ∷ cs) zero past = absurd (omega (arith, past))
-none-past (c ∷ cs) (suc k) past = none-past cs k (omega (arith, past))
-
--- of the first names none has this name
-pub record AreNotNamed (names : List (String Global)) (name : List ℕ) (count : ℕ) : Type 0 where
-  pub within : count ≤ length names
-  pub none : (k : ℕ) → k < count → ¬ (slice_get (map string_bytes names) k ≡ Some name)
-
-pub not-named-init : (names : List (String Global)) (name : List ℕ) → AreNotNamed names name 0
-not-named-init names name = record { within = omega arith; none = λ k none. absurd (omega (arith, none)) }
-
-pub not-named-step : (names : List (String Global)) (name : List ℕ) (n : ℕ) (other : String Global) → n < length names
-    → other ≡ get_or names n other → bytes_eq (string_bytes other) name ≡ false
-    → AreNotNamed names name n → AreNotNamed names name (n + 1)
-not-named-step names name n other inside at differs so-far = record {
-  within = omega (arith, inside);
-  none = λ k below named. elim (cases_lt k n) [
-    | inl less ↦ so-far.none k less named
-    | inr more ↦
-        let here : k ≡ n = omega (arith, below, more) in
-        let has : slice_get (map string_bytes names) n ≡ Some name = rw here at named in
-        let is : string_bytes other ≡ name = of (sym (names-at names n other inside at) ∙ has) in
-        let yes : true ≡ false = sym ((bytes_decides (string_bytes other) name).1 is) ∙ differs in
-        absurd (cc)
-  ];
-}
-  where
-    of : Some (string_bytes other) ≡ Some name → string_bytes other ≡ name
-    of e = cc
-
-pub not-named-end : (names : List (String Global)) (name : List ℕ) (n : ℕ) → length names ≤ n → AreNotNamed names name n
-    → (k : ℕ) → ¬ (slice_get (map string_bytes names) k ≡ Some name)
-not-named-end names name n past none = λ k named. elim (cases_lt k n) [
-  | inl less ↦ none.none k less named
-  | inr more ↦ no-some (sym (none-past names k (omega (arith, past, more))) ∙ named)
-]
-  where
-    no-some : ¬ (None ≡ Some name)
-    no-some e = absurd (cc)
+    → other ≡ get_or names k other → slice_get (map string_bytes names) k ≡ Some (string_bytes other)
+names-at names k other inside at =
+    slice_get-map string_bytes names k ∙ ap (option_map string_bytes) (slice_get_read names _ k other refl inside at)

@@ -1,17 +1,8 @@
 -- From the laws on searches of texts to the fields of a line.
-use Rattle.std.proofs.Common.{◌≡◌, ◌∙◌, ℕ, ◌+◌, ◌≤◌, ◌<◌, List, [], ◌∷◌, map, length, drop, refl, ap, arith, eq-eqb, Option, None, Some, option_map}
-use Rattle.std.specs.Option.{option_or}
-use Rattle.std.proofs.lemmas.Bool.{le-ltb}
-use Rattle.regex_hir.specs.Find.{Match}
-use Rattle.regex_hir.specs.Re.{Re, Trace, accept, attempt}
-use Rattle.regex_search_core.specs.Groups.{groups_at, slot_count}
-use Rattle.regex_search_core.specs.Search.{Search, whole}
-use Rattle.regex_search_core.specs.declared.search.Anchored.TheVariants.{No}
-use Rattle.regex_search_core.specs.Slots.{Captured, group_span}
+use Rattle.nfa_paths.proofs.Common.{◌≡◌, ◌∙◌, ℕ, ◌+◌, ◌≤◌, ◌<◌, List, [], ◌∷◌, map, length, drop, refl, ap, arith, eq-eqb, Option, None, Some, option_map, option_or, groups_at, slot_count, Search, whole, No, Captured, group_span, le-ltb}
+use Rattle.nfa_compiler.specs.Common.{Match, Re, Trace, accept, attempt, hit, captures_of, written_span, PatternHit, expected, hit_by, hit_of, slots_of}
+use Rattle.nfa_compiler.specs.Laws.{GroupsAreWritten}
 use Rattle.nfa_engines.specs.Automaton.{Automaton}
-use Rattle.nfa_compiler.specs.Laws.{hit}
-use Rattle.nfa_compiler.specs.NameLaws.{GroupsAreWritten, captures_of, written_span}
-use Rattle.nfa_compiler.specs.Patterns.{PatternHit, expected, hit_by, hit_of, slots_of}
 use Rattle.nfa_meta.specs.ChoiceState.{ChoiceState, KeepsEngines}
 use Rattle.log_extractor.specs.declared.pattern.Column.{Column}
 use Rattle.log_extractor.specs.Fields.{IsRegexOf, LinePattern, NamedGroup, columns_of, cut, fields_of, group_of, match_at_start, named_groups, row}
@@ -56,12 +47,8 @@ between : (names : List (Option (List ℕ))) (n : ℕ) (f g : ℕ → Option (Li
     → map (λ (group : NamedGroup). f group.number) (named_groups n names)
     ≡ map (λ (group : NamedGroup). g group.number) (named_groups n names)
 between [] n f g same = refl
-between (None ∷ names) n f g same = between names (n + 1) f g (λ k low high. same k (omega arith) (omega arith))
-between (Some name ∷ names) n f g same =
-    let here = same n (omega arith) (omega arith) in
-    let later = between names (n + 1) f g (λ k low high. same k (omega arith) (omega arith)) in
-    ap (λ fields. f n ∷ fields) later ∙ ap (λ field. field ∷ map (λ (group : NamedGroup). g group.number)
-    (named_groups (n + 1) names)) here
+between (name ∷ names) n f g same =
+    grind (arith, same n, between names (n + 1) f g (λ k low high. same k (omega arith) (omega arith)))
 
 module _ (p : LinePattern) (nfa : Automaton) (line : List ℕ) (captures : Captured)
     (bound : nfa.anchored ≡ nfa.unanchored) (groups : nfa.groups ≡ drop 1 p.names ∷ [])
@@ -100,4 +87,4 @@ module _ (p : LinePattern) (nfa : Automaton) (line : List ℕ) (captures : Captu
 pub of-groups : {A : Type 0} (f : ℕ → A) (columns : List Column)
     → map (λ (column : Column). f column.group) columns ≡ map (λ (g : NamedGroup). f g.number) (map group_of columns)
 of-groups f [] = refl
-of-groups f (column ∷ columns) = ap (λ l. f column.group ∷ l) (of-groups f columns)
+of-groups f (column ∷ columns) = grind (arith, of-groups f columns)

@@ -3,6 +3,5 @@ mod EscapeLemmas
 mod FieldLemmas
 mod GoingLemmas
 mod NameLemmas
-mod ObjectLemmas
 mod RowLemmas
 mod SeveralLemmas

@@ -1,19 +1,19 @@
 -- How often each value of a column occurs, and what is printed of that.
-use Rattle.std.specs.Prelude.{◌≡◌, ◌⊎◌, ℕ, zero, suc, ◌<◌, false, List, [], ◌∷◌, ◌++◌, All, codes, flat_map, length, map, Option, None, Some, option_map, slice_get, unwrap_or, count_by}
+use Rattle.std.specs.Prelude.{◌≡◌, ◌⊎◌, ℕ, zero, suc, ◌<◌, false, List, [], ◌∷◌, ◌++◌, All, codes, length, map, Option, None, Some, option_map, slice_get, unwrap_or, count_by}
 use Rattle.std.specs.Borrow.{Bor}
 use Rattle.std.specs.BTreeMap.{BTreeMap, get, get_by}
 use Rattle.std.specs.Cmp.Lexicographic.{slice_cmp}
 use Rattle.std.specs.Fmt.{decimal}
 use Rattle.std.specs.Global.{Vec}
 use Rattle.std.specs.List.{AllAdjacentBelow, Contains, IsDistinct}
+use Rattle.std.specs.Option.{option_to_list}
 use Rattle.std.specs.Ordering.{is_lt, nat_cmp}
 use Rattle.std.specs.Str.{bytes_eq}
 use Rattle.std.specs.declared.cmp.Ordering.{Ordering}
 use Rattle.std.specs.declared.cmp.Reverse.{Reverse}
-use Rattle.text_lines.specs.Lines.{content, line_feed, lines_of}
-use Rattle.log_extractor.specs.Printed.{field_text}
+use Rattle.text_lines.specs.Lines.{content, line_feed}
 use Rattle.log_extractor.specs.Several.{LabelledPattern, row_by_first}
-use Rattle.log_extractor.specs.Written.{separator, written}
+use Rattle.log_extractor.specs.Printed.{field_text, separator, written}
 use Rattle.log_extractor.specs.declared.output.Form.{Form}
 
 -- the text of the field of this number; none if there are no fields, or not as many
@@ -21,18 +21,9 @@ abbrev pub value_at : ℕ → Option (List (Option (List ℕ))) → Option (List
 value_at column None = None
 value_at column (Some fields) = option_map field_text (slice_get fields column)
 
--- an option as a list of one element at most
-abbrev pub listed_option : Option (List ℕ) → List (List ℕ)
-listed_option None = []
-listed_option (Some value) = value ∷ []
-
 -- the value of the column in the row of a line, if the line has a row
 abbrev pub value_in : List LabelledPattern → ℕ → List ℕ → List (List ℕ)
-value_in ps column line = listed_option (value_at column (row_by_first ps (content line)))
-
--- the values of the column in the rows of a text, in order
-abbrev pub values_in : List LabelledPattern → ℕ → List ℕ → List (List ℕ)
-values_in ps column text = flat_map (value_in ps column) (lines_of text)
+value_in ps column line = option_to_list (value_at column (row_by_first ps (content line)))
 
 -- how often the value occurs
 abbrev pub occurrences : List ℕ → List (List ℕ) → ℕ
@@ -85,9 +76,6 @@ pub record IsCountList (values : List (List ℕ)) (listed : List (ℕ × List �
 -- the row of a value: its count, and the value as a field
 abbrev pub tally_line : Form → ℕ × List ℕ → List ℕ
 tally_line form c = decimal c.0 ++ separator form ∷ written form c.1 ++ line_feed ∷ []
-
-abbrev pub tally_lines : Form → List (ℕ × List ℕ) → List ℕ
-tally_lines form listed = flat_map (tally_line form) listed
 
 -- the line with the names of the columns
 abbrev pub count_head : Form → List ℕ → List ℕ

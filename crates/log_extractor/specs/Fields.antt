@@ -1,15 +1,9 @@
 -- The columns of a pattern and the fields of a line, in the words of the reference matcher.
 use Rattle.std.specs.Prelude.{◌≡◌, ℕ, ◌+◌, false, List, [], ◌∷◌, drop, map, Option, None, Some, option_map, slice_range, string_bytes, ⊤}
 use Rattle.std.specs.Borrow.{Bor}
-use Rattle.regex_hir.specs.Find.{Match}
-use Rattle.regex_hir.specs.Re.{Re, accept, attempt}
+use Rattle.nfa_compiler.specs.Common.{Match, Re, accept, attempt, default_config, Config, IsCompiled, IsMeant, IsNamed, written_span, IsOfOneText, NamesText}
 use Rattle.regex_search_core.specs.declared.search.Span.{Span}
-use Rattle.regex_syntax.specs.Verdict.{default_config}
-use Rattle.regex_syntax.specs.declared.Config.{Config}
 use Rattle.nfa_engines.specs.Paths.{is_utf8_empty}
-use Rattle.nfa_compiler.specs.Compiled.{IsCompiled, IsMeant}
-use Rattle.nfa_compiler.specs.NameLaws.{IsNamed, written_span}
-use Rattle.nfa_compiler.specs.Rejected.{IsOfOneText, NamesText}
 use Rattle.nfa_meta.specs.ChoiceState.{ChoiceState}
 use Rattle.log_extractor.specs.declared.pattern.Column.{Column}
 use Rattle.log_extractor.specs.declared.pattern.PatternError.{PatternError}

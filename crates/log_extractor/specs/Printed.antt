@@ -1,15 +1,89 @@
--- What is printed of the lines of an input.
-use Rattle.std.specs.Prelude.{◌≡◌, ◌≢◌, ◌==◌, ℕ, Bool, List, [], ◌∷◌, ◌++◌, All, Option, None, Some, codes, flat_map, is_some, map, unwrap_or, if◌then◌else◌}
+-- What is printed of the lines of an input, and how the text of a field is written.
+use Rattle.std.specs.Prelude.{◌≡◌, ◌≢◌, ◌==◌, ◌||◌, ℕ, Bool, List, [], ◌∷◌, ◌++◌, All, Option, None, Some, codes, flat_map, is_some, length, map, unwrap_or, if◌then◌else◌}
 use Rattle.std.specs.List.{list_any}
 use Rattle.std.specs.Str.Lossy.{utf8_lossy}
 use Rattle.json.specs.Print.{quoted}
-use Rattle.text_lines.specs.Lines.{content, line_feed, lines_of, with_feed}
+use Rattle.text_lines.specs.Lines.{carriage_return, content, line_feed, lines_of, with_end}
 use Rattle.log_extractor.specs.Several.{LabelledPattern, shown_names, row_by_first}
-use Rattle.log_extractor.specs.Written.{carriage_return, feed, separator, tab, unescaped, written}
 use Rattle.log_extractor.specs.declared.output.Form.{Form}
-use Rattle.log_extractor.specs.declared.output.Form.TheVariants.{Tabs}
+use Rattle.log_extractor.specs.declared.output.Form.TheVariants.{Tabs, Commas}
 use Rattle.log_extractor.specs.declared.output.Output.{Output}
 use Rattle.log_extractor.specs.declared.output.Output.TheVariants.{Table, Rows, Objects, Rejects}
+
+abbrev pub tab : ℕ
+tab = 9
+
+abbrev pub quote : ℕ
+quote = 34
+
+abbrev pub comma : ℕ
+comma = 44
+
+abbrev pub backslash : ℕ
+backslash = 92
+
+-- the byte between the fields of a row
+abbrev pub separator : Form → ℕ
+separator Tabs = tab
+separator Commas = comma
+
+-- a byte of a field between tabs: one that could be taken for an end, or for an escape, is escaped
+abbrev pub escaped_byte : ℕ → List ℕ
+escaped_byte byte =
+    if byte == tab then codes "\\t"
+    else if byte == line_feed then codes "\\n"
+    else if byte == carriage_return then codes "\\r"
+    else if byte == backslash then codes "\\\\"
+    else (byte ∷ [])
+
+-- a field between tabs
+abbrev pub escaped : List ℕ → List ℕ
+escaped text = flat_map escaped_byte text
+
+-- the byte that an escape means, by the byte after the backslash
+abbrev pub meant_by : ℕ → ℕ
+meant_by letter =
+    if letter == 116 then tab
+    else if letter == 110 then line_feed
+    else if letter == 114 then carriage_return
+    else letter
+
+-- the text that a field between tabs means
+abbrev pub unescaped : List ℕ → List ℕ
+unescaped [] = []
+unescaped (byte ∷ []) = byte ∷ []
+unescaped (byte ∷ letter ∷ bytes) =
+    if byte == backslash then (meant_by letter ∷ unescaped bytes) else (byte ∷ unescaped (letter ∷ bytes))
+
+-- no field between tabs has a byte that ends a field or a line
+abbrev pub HaveNoSeparator : Type 0
+HaveNoSeparator =
+    (text : List ℕ) → All (λ byte. (byte ≢ tab) × (byte ≢ line_feed) × (byte ≢ carriage_return)) (escaped text)
+
+-- a field between tabs means its text
+abbrev pub AreReadBack : Type 0
+AreReadBack = (text : List ℕ) → unescaped (escaped text) ≡ text
+
+-- whether the byte has a meaning between commas
+abbrev pub is_special : ℕ → Bool
+is_special byte = (byte == quote) || ((byte == comma) || ((byte == line_feed) || (byte == carriage_return)))
+
+-- whether a field between commas has quotes around it
+abbrev pub needs_quotes : List ℕ → Bool
+needs_quotes text = (length text == 0) || list_any is_special text
+
+-- the text, with each quote doubled
+abbrev pub doubled : List ℕ → List ℕ
+doubled text = flat_map (λ byte. if byte == quote then (quote ∷ quote ∷ []) else (byte ∷ [])) text
+
+-- the text in quotes
+abbrev pub quoted_text : List ℕ → List ℕ
+quoted_text text = quote ∷ doubled text ++ quote ∷ []
+
+-- the text as a field of a row of this form
+abbrev pub written : Form → List ℕ → List ℕ
+written Tabs text = escaped text
+written Commas text = if needs_quotes text then quoted_text text else text
 
 -- these pieces, with this byte before each one but the first
 abbrev pub separated : ℕ → List (List ℕ) → List ℕ
@@ -36,7 +110,8 @@ cut_at_tabs (byte ∷ bytes) = if byte == tab then ([] ∷ cut_at_tabs bytes) el
 
 -- a row with tabs is a single line
 abbrev pub RowsAreLines : Type 0
-RowsAreLines = (texts : List (List ℕ)) → All (λ byte. (byte ≢ feed) × (byte ≢ carriage_return)) (row_text Tabs texts)
+RowsAreLines =
+    (texts : List (List ℕ)) → All (λ byte. (byte ≢ line_feed) × (byte ≢ carriage_return)) (row_text Tabs texts)
 
 -- what is between its tabs means the texts
 abbrev pub RowsAreReadBack : Type 0
@@ -48,21 +123,11 @@ RowsAreReadBack =
 abbrev pub field_text : Option (List ℕ) → List ℕ
 field_text field = unwrap_or field []
 
-abbrev pub field_texts : List (Option (List ℕ)) → List (List ℕ)
-field_texts fields = map field_text fields
-
--- the line of a row
-abbrev pub field_line : Form → List (Option (List ℕ)) → List ℕ
-field_line form fields = row_line form (field_texts fields)
-
--- A field as a JSON value: null if there is none. Bytes that are not UTF-8 become U+FFFD.
-abbrev pub value_text : Option (List ℕ) → List ℕ
-value_text None = codes "null"
-value_text (Some text) = quoted (utf8_lossy text)
-
--- the name of the column, a colon and the value
+-- The name of the column, a colon and the field as a JSON value: null if there is none. Bytes that are not UTF-8 become
+-- U+FFFD.
 abbrev pub member_text : List ℕ → Option (List ℕ) → List ℕ
-member_text name field = quoted name ++ 58 ∷ value_text field
+member_text name None = quoted name ++ 58 ∷ codes "null"
+member_text name (Some text) = quoted name ++ 58 ∷ quoted (utf8_lossy text)
 
 abbrev pub members : List (List ℕ) → List (Option (List ℕ)) → List (List ℕ)
 members [] fields = []
@@ -75,17 +140,15 @@ object_line names fields = 123 ∷ separated 44 (members names fields) ++ 125 �
 
 -- what is printed of a line that has these fields
 abbrev pub shown_fields : Output → List (List ℕ) → List (Option (List ℕ)) → List ℕ
-shown_fields (Table form) names fields = field_line form fields
-shown_fields (Rows form) names fields = field_line form fields
+shown_fields (Table form) names fields = row_line form (map field_text fields)
+shown_fields (Rows form) names fields = row_line form (map field_text fields)
 shown_fields Objects names fields = object_line names fields
 shown_fields Rejects names fields = []
 
 -- what is printed of a line that has none: of rejects, the line itself
 abbrev pub shown_reject : Output → List ℕ → List ℕ
-shown_reject (Table form) line = []
-shown_reject (Rows form) line = []
-shown_reject Objects line = []
-shown_reject Rejects line = with_feed line
+shown_reject Rejects line = with_end line_feed line
+shown_reject _ line = []
 
 -- what is printed of a line that has this row
 abbrev pub shown_as : Output → List (List ℕ) → List ℕ → Option (List (Option (List ℕ))) → List ℕ
@@ -99,9 +162,7 @@ shown_line output ps line = shown_as output (shown_names ps) line (row_by_first 
 -- what is printed before the lines: of a table, the names of the columns
 abbrev pub table_head : Output → List (List ℕ) → List ℕ
 table_head (Table form) names = row_line form names
-table_head (Rows form) names = []
-table_head Objects names = []
-table_head Rejects names = []
+table_head _ names = []
 
 -- whether one of these lines has a row
 abbrev pub has_row : List LabelledPattern → List (List ℕ) → Bool

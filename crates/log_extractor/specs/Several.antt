@@ -1,5 +1,5 @@
 -- The rows of lines by several patterns.
-use Rattle.std.specs.Prelude.{◌≡◌, ℕ, ◌+◌, Bool, true, false, if◌then◌else◌, List, [], ◌∷◌, ◌++◌, codes, drop, map, Option, None, Some, option_map, slice_get, unwrap_or}
+use Rattle.std.specs.Prelude.{◌≡◌, ℕ, ◌+◌, Bool, if◌then◌else◌, List, [], ◌∷◌, ◌++◌, codes, drop, length, map, nat_lt, Option, None, Some, option_map, slice_get, unwrap_or}
 use Rattle.std.specs.List.{AllZip, list_any}
 use Rattle.std.specs.Option.{option_or}
 use Rattle.std.specs.Str.{bytes_eq}
@@ -66,28 +66,18 @@ field_named [] fields name = None
 field_named (column ∷ columns) fields name =
     if bytes_eq column.name name then field_at fields 0 else field_named columns (drop 1 fields) name
 
--- the fields of the columns of these names
-abbrev pub fields_named : List (List ℕ) → List NamedGroup → List (Option (List ℕ)) → List (Option (List ℕ))
-fields_named names columns fields = map (field_named columns fields) names
-
 -- whether there is more than one
 abbrev pub is_several : {A : Type 0} → List A → Bool
-is_several [] = false
-is_several (x ∷ []) = false
-is_several (x ∷ y ∷ ys) = true
+is_several xs = nat_lt 1 (length xs)
 
--- the name of the column with the label, if there are several patterns
-abbrev pub label_name : Bool → List (List ℕ)
-label_name several = if several then (codes "pattern" ∷ []) else []
-
--- the field of that column
+-- the field of the column of labels, if there are several patterns
 abbrev pub label_field : Bool → List ℕ → List (Option (List ℕ))
 label_field several label = if several then (Some label ∷ []) else []
 
 -- the row of a line by one of the patterns: after the label the fields of the columns of these names
 abbrev pub row_of_one : Bool → List (List ℕ) → LabelledPattern → List ℕ → Option (List (Option (List ℕ)))
 row_of_one several names p line =
-    option_map (λ fields. label_field several p.0 ++ fields_named names (columns_of p.1) fields) (row p.1 line)
+    option_map (λ fields. label_field several p.0 ++ map (field_named (columns_of p.1) fields) names) (row p.1 line)
 
 -- the row of a line by the first of the patterns that matches it
 abbrev pub row_of_first : Bool → List (List ℕ) → List LabelledPattern → List ℕ → Option (List (Option (List ℕ)))
@@ -95,9 +85,9 @@ row_of_first several names [] line = None
 row_of_first several names (p ∷ ps) line =
     option_or (row_of_one several names p line) (row_of_first several names ps line)
 
--- the names of the columns: of several patterns first that of the label
+-- the names of the columns: of several patterns first that of the column of labels
 abbrev pub shown_names : List LabelledPattern → List (List ℕ)
-shown_names ps = label_name (is_several ps) ++ union_names ps
+shown_names ps = (if is_several ps then (codes "pattern" ∷ []) else []) ++ union_names ps
 
 -- The row of a line by the patterns: it has one exactly if one of them matches it from its start.
 abbrev pub row_by_first : List LabelledPattern → List ℕ → Option (List (Option (List ℕ)))

@@ -1,10 +1,9 @@
 //! How often each value of a column occurs.
-ghost use Rattle.std.specs.Prelude.{◌≡◌, ◌++◌, ◌∷◌, [], IfErr, IfNone, IfOk, IfSome, List, OnOk, map, option_map, slice_get, string_bytes, ℕ};
+ghost use Rattle.std.specs.Prelude.{◌≡◌, ◌++◌, ◌∷◌, [], IfErr, IfNone, IfOk, IfSome, List, OnOk, map, option_map, slice_get, string_bytes, ℕ, flat_map};
 ghost use Rattle.std.specs.Io.KnownBytes.{Appends};
-ghost use Rattle.text_lines.specs.Lines.{content};
+ghost use Rattle.text_lines.specs.Lines.{content, lines_of};
 ghost use Rattle.std.specs.BTreeMap.{IsOrdered};
-ghost use Rattle.log_extractor.specs.Counts.{IsCountList, IsFound, IsTally, count_head, count_of, tally_line, tally_lines};
-ghost use Rattle.log_extractor.specs.Counts.{counted, entry_counted, key_cmp, value_at, value_in, values_in};
+ghost use Rattle.log_extractor.specs.Counts.{IsCountList, IsFound, IsTally, count_head, count_of, tally_line, counted, entry_counted, key_cmp, value_at, value_in};
 ghost use Rattle.log_extractor.specs.Fields.{fields_now};
 ghost use Rattle.log_extractor.specs.Several.{AreLinePatterns, LabelledPattern};
 
@@ -59,7 +58,7 @@ pub fn count_lines<R: BufRead>(
 ) -> Result<(), Failure>
     ensures counted { OnOk result ((ps : List LabelledPattern) → AreLinePatterns parsers.old ps
         → (values : List (List ℕ)) → IsTally values counts.old → IfSome (R.remaining input.old)
-        (λ text. IsTally (values ++ values_in ps column text) counts.new)) }
+        (λ text. IsTally (values ++ flat_map (value_in ps column) (lines_of text)) counts.new)) }
     ensures kept { parsers.new ≡ parsers.old }
 {
     let mut line = Vec::new(alloc);
@@ -173,7 +172,7 @@ pub fn print_counts<W: Write>(
 ) -> Result<(), Failure>
     ensures { OnOk result ((values : List (List ℕ)) → IsTally values counts.now
         → (listed : List (ℕ × List ℕ)) × IsCountList values listed
-        × Appends (W.contents out.old) (W.contents out.new) (tally_lines form listed)) }
+        × Appends (W.contents out.old) (W.contents out.new) (flat_map (tally_line form) listed)) }
 {
     let mut listed = listed_values(alloc, counts)?;
     listed.sort()?;
@@ -203,7 +202,7 @@ fn append_counts(
     listed: &[Counted<'_>],
     out: &mut Vec<u8>,
 ) -> Result<(), AllocError>
-    ensures { OnOk result (out.new.items ≡ out.old.items ++ tally_lines form (map counted listed.now)) }
+    ensures { OnOk result (out.new.items ≡ out.old.items ++ flat_map (tally_line form) (map counted listed.now)) }
 {
     for (count, value) in listed {
         append_count(alloc, form, count.0, value, out)?;

@@ -1,7 +1,6 @@
 //! The text of a field in a row.
 ghost use Rattle.std.specs.Prelude.{◌≡◌, ◌++◌, OnOk};
-ghost use Rattle.log_extractor.specs.Written.{AreReadBack, HaveNoSeparator, doubled, escaped, escaped_byte};
-ghost use Rattle.log_extractor.specs.Written.{is_special, needs_quotes, quoted_text, written};
+ghost use Rattle.log_extractor.specs.Printed.{AreReadBack, HaveNoSeparator, doubled, escaped, escaped_byte, is_special, needs_quotes, quoted_text, written};
 
 use crate::output::Form;
 use std::alloc::AllocError;

@@ -3,8 +3,7 @@ ghost use Rattle.std.specs.Prelude.{◌≡◌, ◌++◌, IfOk, List, OnOk, map, 
 ghost use Rattle.std.specs.List.{list_any};
 ghost use Rattle.std.specs.Str.{bytes_eq};
 ghost use Rattle.log_extractor.specs.Fields.{column_names, fields_now, group_of};
-ghost use Rattle.log_extractor.specs.Several.{AreLinePatterns, LabelledPattern, field_at, field_named, fields_named, labelled_text};
-ghost use Rattle.log_extractor.specs.Several.{union_names, with_name, with_names};
+ghost use Rattle.log_extractor.specs.Several.{AreLinePatterns, LabelledPattern, field_at, field_named, labelled_text, union_names, with_name, with_names};
 
 use crate::parsers::LabelledParser;
 use crate::pattern::Column;
@@ -71,7 +70,7 @@ pub fn push_fields<'l>(
     row: &mut Vec<Option<&'l [u8]>>,
 ) -> Result<(), AllocError>
     ensures { OnOk result (fields_now row.new.items ≡ fields_now row.old.items
-        ++ fields_named (map string_bytes names.now) (map group_of columns.now) (fields_now fields.now)) }
+        ++ map (field_named (map group_of columns.now) (fields_now fields.now)) (map string_bytes names.now)) }
 {
     for name in names {
         row.push(field_named(columns, fields, name))?;

@@ -25,7 +25,7 @@ pub fn append_object(
 }
 
 /// Appends a member for each name, with commas between them.
-#[tactic(auto, using(crate::proofs::ObjectLemmas::members_none))]
+#[tactic(auto, using(crate::proofs::RowLemmas::members_none))]
 fn append_members(
     alloc: Global,
     names: &[String],

@@ -2,7 +2,7 @@
 ghost use Rattle.std.specs.Prelude.{◌≡◌, IfOk, map, option_map};
 ghost use Rattle.regex_search_core.specs.Search.{whole};
 ghost use Rattle.regex_search_core.specs.Slots.{group_span};
-ghost use Rattle.nfa_engines.specs.Spans.{SpansInside};
+ghost use Rattle.nfa_engines.specs.Lists.{SpansInside};
 ghost use Rattle.log_extractor.specs.Fields.{cut, fields_now};
 
 use crate::pattern::{Column, PatternError, columns, compile};
@@ -40,8 +40,7 @@ impl<'p> Model for Parser<'p> {
 
 impl<'p> Parser<'p> {
     ghost use Rattle.std.specs.Prelude.{◌≢◌, [], IfErr, OnOk};
-    ghost use Rattle.log_extractor.specs.Fields.{IsPatternMistake, IsLinePattern, LinePattern, columns_of, group_of};
-    ghost use Rattle.log_extractor.specs.Fields.{row};
+    ghost use Rattle.log_extractor.specs.Fields.{IsPatternMistake, IsLinePattern, LinePattern, columns_of, group_of, row};
 
     /// Makes a parser of lines of this pattern. Its columns are the named groups, in the order of their numbers.
     ///

@@ -1,8 +1,7 @@
 //! The rows of lines by the first of several patterns that matches.
 ghost use Rattle.std.specs.Prelude.{◌≡◌, ◌++◌, IfOk, List, OnOk, drop, map, option_map, string_bytes};
 ghost use Rattle.log_extractor.specs.Fields.{fields_now, group_of};
-ghost use Rattle.log_extractor.specs.Several.{AreLinePatterns, IsLabelledPattern, LabelledPattern, fields_named};
-ghost use Rattle.log_extractor.specs.Several.{label_field, row_of_first, row_of_one, labelled_text};
+ghost use Rattle.log_extractor.specs.Several.{AreLinePatterns, IsLabelledPattern, LabelledPattern, label_field, row_of_first, row_of_one, labelled_text};
 
 use crate::names::{push_fields, union_of};
 use crate::parser::Parser;
@@ -32,8 +31,7 @@ pub struct Parsers<'p> {
 
 impl<'p> Model for Parsers<'p> {
     ghost use Rattle.std.specs.Prelude.{◌≡◌, ◌∷◌, List, codes, map, string_bytes};
-    ghost use Rattle.log_extractor.specs.Several.{AreLinePatterns, LabelledPattern, LabelledText};
-    ghost use Rattle.log_extractor.specs.Several.{labelled_text, union_names};
+    ghost use Rattle.log_extractor.specs.Several.{AreLinePatterns, LabelledPattern, LabelledText, labelled_text, union_names};
 
     ghost Value = { List LabelledText };
 

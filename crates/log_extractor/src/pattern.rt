@@ -1,10 +1,9 @@
 //! The pattern of a line: its columns and its NFA.
 ghost use Rattle.std.specs.Prelude.{◌≡◌, ◌∷◌, ◌++◌, [], IfErr, IfOk, List, OnOk, Option, map, option_map};
 ghost use Rattle.std.specs.Prelude.{string_bytes, ℕ};
-ghost use Rattle.nfa_compiler.specs.NameLaws.{IsNamed};
+ghost use Rattle.nfa_compiler.specs.Compiled.{IsNamed};
 ghost use Rattle.nfa_compiler.specs.Rejected.{TextsFitIn};
-ghost use Rattle.log_extractor.specs.Fields.{IsPatternMistake, IsRegexOf, columns_in, group_of, line_syntax};
-ghost use Rattle.log_extractor.specs.Fields.{named_groups};
+ghost use Rattle.log_extractor.specs.Fields.{IsPatternMistake, IsRegexOf, columns_in, group_of, line_syntax, named_groups};
 
 use nfa_compiler::{OnlyPattern, Syntax};
 use nfa_meta::{BuildError, Regex};

@@ -3,10 +3,8 @@ ghost use Rattle.std.specs.Prelude.{◌≡◌, ◌++◌, IfOk, IfSome, List, OnO
 ghost use Rattle.std.specs.Io.KnownBytes.{Appends};
 ghost use Rattle.text_lines.specs.Lines.{content, lines_of};
 ghost use Rattle.log_extractor.specs.Fields.{fields_now};
-ghost use Rattle.log_extractor.specs.Going.{Writes};
-ghost use Rattle.log_extractor.specs.Printed.{PartsAreJoined, table_head, extracted_lines, has_row};
-ghost use Rattle.log_extractor.specs.Printed.{shown_line, shown_as, shown_fields, shown_reject};
 ghost use Rattle.log_extractor.specs.Several.{AreLinePatterns, LabelledPattern, shown_names, row_by_first};
+ghost use Rattle.log_extractor.specs.Printed.{PartsAreJoined, table_head, extracted_lines, has_row, shown_line, shown_as, shown_fields, shown_reject};
 ghost use Rattle.log_extractor.specs.declared.output.Form.{Form};
 ghost use Rattle.log_extractor.specs.declared.output.Output.TheVariants as output;
 
@@ -65,9 +63,9 @@ pub fn print_lines<R: BufRead, W: Write>(
     input: &mut R,
     out: &mut W,
 ) -> Result<bool, Failure>
-    ensures printed { OnOk result (Writes (extracted_lines output) parsers.old (R.remaining input.old)
-        (W.contents out.old)
-        (W.contents out.new)) }
+    ensures printed { OnOk result ((ps : List LabelledPattern) → AreLinePatterns parsers.old ps
+        → IfSome (R.remaining input.old) (λ text.
+        Appends (W.contents out.old) (W.contents out.new) (extracted_lines output ps text))) }
     ensures rows { IfOk result (λ rows. (ps : List LabelledPattern) → AreLinePatterns parsers.old ps
         → IfSome (R.remaining input.old) (λ text. rows ≡ has_row ps (lines_of text))) }
     ensures kept { parsers.new ≡ parsers.old }

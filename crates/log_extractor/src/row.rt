@@ -1,9 +1,7 @@
 //! Rows as lines, with a byte between the fields.
 ghost use Rattle.std.specs.Prelude.{◌≡◌, ◌∷◌, ◌++◌, OnOk, flat_map, map, option_map, string_bytes};
 ghost use Rattle.log_extractor.specs.Fields.{fields_now};
-ghost use Rattle.log_extractor.specs.Printed.{RowsAreLines, RowsAreReadBack, field_line, field_text};
-ghost use Rattle.log_extractor.specs.Printed.{field_texts, row_line, separated};
-ghost use Rattle.log_extractor.specs.Written.{separator, written};
+ghost use Rattle.log_extractor.specs.Printed.{RowsAreLines, RowsAreReadBack, field_text, row_line, separated, separator, written};
 
 use crate::field::append_text;
 use crate::output::Form;
@@ -62,7 +60,7 @@ fn append_more_names(form: Form, names: &[String], out: &mut Vec<u8>) -> Result<
 
 /// Appends a line with the fields. A field that is `None` is empty.
 pub fn append_row(form: Form, fields: &[Option<&[u8]>], out: &mut Vec<u8>) -> Result<(), AllocError>
-    ensures { OnOk result (out.new.items ≡ out.old.items ++ field_line form (fields_now fields.now)) }
+    ensures { OnOk result (out.new.items ≡ out.old.items ++ row_line form (map field_text (fields_now fields.now))) }
 {
     append_joined(form, fields, out)?;
     out.push(b'\n')?;
@@ -72,7 +70,7 @@ pub fn append_row(form: Form, fields: &[Option<&[u8]>], out: &mut Vec<u8>) -> Re
 /// Appends the fields, separated.
 fn append_joined(form: Form, fields: &[Option<&[u8]>], out: &mut Vec<u8>) -> Result<(), AllocError>
     ensures { OnOk result (out.new.items ≡ out.old.items
-        ++ separated (separator form) (map (written form) (field_texts (fields_now fields.now)))) }
+        ++ separated (separator form) (map (written form) (map field_text (fields_now fields.now)))) }
 {
     let [field, fields @ ..] = fields else {
         return Ok(());
@@ -85,7 +83,7 @@ fn append_joined(form: Form, fields: &[Option<&[u8]>], out: &mut Vec<u8>) -> Res
 /// Appends each field, with a separator before it.
 fn append_more(form: Form, fields: &[Option<&[u8]>], out: &mut Vec<u8>) -> Result<(), AllocError>
     ensures { OnOk result (out.new.items ≡ out.old.items ++ flat_map (λ text. separator form ∷ text)
-        (map (written form) (field_texts (fields_now fields.now)))) }
+        (map (written form) (map field_text (fields_now fields.now)))) }
 {
     for field in fields {
         out.push(separator(form))?;

@@ -1,28 +1,19 @@
 -- A backtracker as the engine of an iteration over captures: when its iterator may search, and what it gives.
-use Rattle.std.proofs.Common.{◌≡◌, false, Option, Result, Ok, Err, ap, arith, length, ◌⊎◌, inr, IfErr, OnOk}
-use Rattle.nfa_paths.specs.Common.{slot_count, Search, Captured, IsAnswer, span_len}
-use Rattle.regex_search_core.specs.declared.search.MatchKind.TheVariants.{LeftmostFirst}
-use Rattle.nfa_search_base.specs.CapturesGiven.{CapturesGiven}
-use Rattle.nfa_search_base.specs.WithCaptures.{WithCaptures, GivesCaptures, Row, filled_answer, row_span}
-use Rattle.nfa_search_base.specs.Drained.{DrainsToError}
-use Rattle.nfa_search_base.specs.WithCache.{WithCache}
-use Rattle.nfa_search_base.specs.StepsWith.{TakesStepWith, steps_with_state, steps_with_iter_state}
-use Rattle.nfa_search_base.specs.Stored.{can_step, steps_iter_state, takes_steps}
-use Rattle.nfa_search_base.specs.IterStates.{Answer, fresh, AnswerIsInside}
+use Rattle.nfa_paths.proofs.Common.{◌≡◌, false, Result, Ok, Err, ap, arith, length, ◌⊎◌, inr, IfErr, OnOk, slot_count, Search, Captured, IsAnswer, span_len, LeftmostFirst}
+use Rattle.nfa_search_base.specs.Common.{CapturesGiven, WithCaptures, GivesCaptures, Row, filled_answer, row_span, DrainsToError, WithCache, TakesStepWith, steps_with_state, steps_iter_state, Answer, fresh, AnswerIsInside}
 use Rattle.nfa_search_base.specs.declared.error.SearchError.{SearchError}
 use Rattle.nfa_search_base.specs.declared.error.SearchError.TheVariants.{HaystackTooLong, Memory}
 use Rattle.nfa_search_base.specs.declared.iter.steps.Steps.{Steps}
 use Rattle.nfa_search_base.proofs.CapturesLemmas.{stored_captures-tells, row-lies}
-use Rattle.nfa_search_base.proofs.CapturesRunLemmas.{CapturesSteps, RowsOf, captures-given, captures-memory, results_of}
-use Rattle.nfa_search_base.proofs.DrainedLemmas.{error-captures}
-use Rattle.nfa_search_base.proofs.EngineLemmas.{SearchesAs, SearchesOf, fills_by, searches-serve, step-may}
-use Rattle.nfa_search_base.proofs.ItemLemmas.{ItemsOf, copies_of}
+use Rattle.nfa_search_base.proofs.CapturesRunLemmas.{CapturesSteps, captures-given, captures-memory, results_of}
+use Rattle.nfa_search_base.proofs.DrainedLemmas.{FillerOf, error-captures, filler_items, filler_searches}
+use Rattle.nfa_search_base.proofs.EngineLemmas.{SearchesAs}
 use Rattle.nfa_search_base.proofs.LeavingLemmas.{shell-leaves}
 use Rattle.nfa_search_base.proofs.OkItemLemmas.{only-item}
 use Rattle.nfa_search_base.proofs.RunLemmas.{Begins}
-use Rattle.nfa_search_base.proofs.ShellLemmas.{ShellOf, plain_shell, steps_in}
+use Rattle.nfa_search_base.proofs.ItemLemmas.{ShellOf, plain_shell, steps_in}
 use Rattle.nfa_backtrack.specs.Backtrack.{Backtracker, IsTooLong, BacktrackCache}
-use Rattle.nfa_backtrack.specs.CapturesMatches.{AsksBacktrackerRow, CapturesBySearches, CapturesRefused, MayFillByBacktracker, backtrack_captures, backtrack_captures_next}
+use Rattle.nfa_backtrack.specs.CapturesMatches.{AsksBacktrackerRow, CapturesBySearches, CapturesRefused, backtrack_captures, backtrack_captures_next}
 use Rattle.nfa_backtrack.specs.Finding.{AnswersByLength, IsCounted, IsTryCapturesAnswer, SearchesOnce}
 use Rattle.nfa_backtrack.specs.declared.captures_iter.TryCapturesMatches.{TryCapturesMatches}
 use Rattle.nfa_backtrack.proofs.FindLemmas.{back_engine, counted-fits, counted-refusal, memory-alone, once-by, refused-alone}
@@ -44,29 +35,27 @@ module _ {e : Backtracker} {x : Search} {old new : BacktrackCache} where
   filled-once c (Err error) k = once-by k k.refused k.within (omega arith)
 
 -- an answer is inside the span
-captures-lie : (e : Backtracker) (t : Search) (a : Answer Row) → IsTryCapturesAnswer e t a → AnswerIsInside row_span t a
+pub captures-lie : (e : Backtracker) (t : Search) (a : Answer Row) → IsTryCapturesAnswer e t a
+    → AnswerIsInside row_span t a
 captures-lie e t (Ok o) h = (row-lies e.nfa LeftmostFirst false t (Ok o) h.1).0
 captures-lie e t (Err error) h = tt
 
 -- ---- the engine
 
-abbrev pub back_fills : SearchesOf Backtracker BacktrackCache (WithCache (WithCaptures Backtracker) BacktrackCache) Row
-back_fills = fills_by (back_engine IsTryCapturesAnswer)
-
--- its items
-abbrev pub back_copies : ItemsOf (WithCache (WithCaptures Backtracker) BacktrackCache) Row Captured
-back_copies = copies_of (λ q. q.backend.captures)
-
--- what it answers: the rows of the NFA, or refusals
-abbrev pub back_rows : (e : Backtracker) (x : Search) → RowsOf back_fills (λ q. q.backend.captures) e x
-back_rows e x = record {
-  nfa = e.nfa;
-  kind = LeftmostFirst;
-  earliest = false;
-  tells = IsTryCapturesAnswer e;
-  given = λ t a same h. h;
-  row = λ t o h. h.1;
-  groups = λ s t is may. rw is at may.holds;
+-- the rows of the NFA, or refusals
+abbrev pub back_filler : FillerOf Backtracker BacktrackCache
+back_filler = record {
+  engine = back_engine IsTryCapturesAnswer;
+  rows = λ e x. record {
+    nfa = e.nfa;
+    kind = LeftmostFirst;
+    earliest = false;
+    tells = IsTryCapturesAnswer e;
+    given = λ t a same h. h;
+    row = λ t o h. h.1;
+    groups = λ s t is may. rw is at may.holds;
+  };
+  lies = captures-lie;
 }
 
 -- its iterator
@@ -75,47 +64,29 @@ abbrev captures_shell
     TryCapturesMatches
 captures_shell = plain_shell backtrack_captures_next backtrack_captures (λ s r t st. st.takes)
 
--- steps may search in every state
-pub steps-serve : (s : Steps (WithCache (WithCaptures Backtracker) BacktrackCache)) → MayFillByBacktracker s.backend
-    → can_step (λ q x. MayFillByBacktracker q) AsksBacktrackerRow row_span s
-steps-serve s may =
-    searches-serve back_fills (AnswerIsInside row_span) captures-lie s.backend (steps_iter_state s).at may
-
--- so the iterator may
-pub captures-serve : (s : TryCapturesMatches)
-    → can_step (λ q x. MayFillByBacktracker q) AsksBacktrackerRow row_span (steps_with_state (backtrack_captures s))
-captures-serve s = steps-serve (steps_with_state (backtrack_captures s)) (record { fits = tt; holds = s.holds })
-
--- and after a step
-pub step-goes : (s : TryCapturesMatches) (r : Option (Result Captured SearchError))
-    (t : Steps (WithCache (WithCaptures Backtracker) BacktrackCache))
-    → takes_steps row_span AsksBacktrackerRow (λ q. GivesCaptures q.backend)
-    (steps_with_state (backtrack_captures s)) r t
-    → MayFillByBacktracker t.backend
-step-goes s r t st = step-may back_fills back_copies (steps_with_state (backtrack_captures s)) r t st
-    (record { fits = tt; holds = s.holds })
-
 -- An iterator of e that begins at x.
 module _ (e : Backtracker) (x : Search) (s : TryCapturesMatches)
     (engine : (backtrack_captures s).steps.backend.finder ≡ e)
-    (iter_state : steps_with_iter_state (backtrack_captures s) ≡ fresh x)
+    (iter_state : steps_iter_state (backtrack_captures s).steps ≡ fresh x)
     (going : (backtrack_captures s).steps.done ≡ false) where
-  begins : Begins (SearchesAs back_fills e) x (steps_with_state (backtrack_captures s))
+  begins : Begins (SearchesAs (filler_searches back_filler) e) x (steps_with_state (backtrack_captures s))
   begins = record { iter_state = iter_state; going = going; good = engine }
 
   -- the calls give the captures of the NFA
   pub captures-are-given : CapturesGiven backtrack_captures_next e.nfa LeftmostFirst false (IsTryCapturesAnswer e) x s
-  captures-are-given = captures-given (back_rows e x) (steps_in captures_shell) s begins
+  captures-are-given = captures-given (back_filler.rows e x) (steps_in captures_shell) s begins
       (record { fits = tt; holds = s.holds })
 
   -- and errors by the rule of refusals
   pub captures-refused : CapturesRefused e x s
   captures-refused = λ p seen from.
       record {
-        long = λ long whole. only-item back_copies (results_of (back_rows e x)) x (HaystackTooLong (span_len x))
-            (only-refused long) p.items ((captures-are-given.runs p seen from).1 whole).come;
+        long = λ long whole. only-item (filler_items back_filler) (results_of (back_filler.rows e x)) x
+            (HaystackTooLong (span_len x)) (only-refused long) p.items
+            ((captures-are-given.runs p seen from).1 whole).come;
         memory = λ fits.
-            captures-memory (back_rows e x) (steps_in captures_shell) s begins (memory-alone e x fits) p seen from;
+            captures-memory (back_filler.rows e x) (steps_in captures_shell) s begins (memory-alone e x fits)
+            p seen from;
       }
     where
       only-refused : IsTooLong e x → (a : Answer Row) → IsTryCapturesAnswer e x a
@@ -126,15 +97,17 @@ module _ (e : Backtracker) (x : Search) (s : TryCapturesMatches)
 
   -- they change the cache only by their searches
   pub captures-by-searches : CapturesBySearches e x s
-  captures-by-searches = record { on = shell-leaves back_fills back_copies (steps_in captures_shell) e s begins }
+  captures-by-searches = record {
+    on = shell-leaves (filler_searches back_filler) (filler_items back_filler) (steps_in captures_shell) e s begins;
+  }
 
 -- the only error of steps that begin at x is `Memory` if the span is not too long
 pub captures-by_length : (e : Backtracker) (x : Search)
     {s : Steps (WithCache (WithCaptures Backtracker) BacktrackCache)} {V : Type 0}
-    → Begins (SearchesAs back_fills e) x s → ¬ (IsTooLong e x) → (r : Result V SearchError)
+    → Begins (SearchesAs (filler_searches back_filler) e) x s → ¬ (IsTooLong e x) → (r : Result V SearchError)
     (t : Steps (WithCache (WithCaptures Backtracker) BacktrackCache))
-    → IfErr r (λ error. (error ≡ Memory) ⊎ DrainsToError (CapturesSteps (back_rows e x)) s error t)
+    → IfErr r (λ error. (error ≡ Memory) ⊎ DrainsToError (CapturesSteps (back_filler.rows e x)) s error t)
     → AnswersByLength e x r
 captures-by_length e x begun fits (Ok v) t errors = fits
 captures-by_length e x begun fits (Err error) t errors =
-    inr (fits, error-captures (back_rows e x) begun (memory-alone e x fits) error t errors)
+    inr (fits, error-captures (back_filler.rows e x) begun (memory-alone e x fits) error t errors)

@@ -1,28 +1,17 @@
 -- A backtracker as the engine of an iteration over matches: when its iterator may search, and what it gives and keeps.
-use Rattle.std.proofs.Common.{◌≡◌, ◌∙◌, ℕ, ◌+◌, ◌-◌, ◌*◌, ◌≤◌, refl, false, Option, None, Some, Result, Ok, Err, arith, length, List, ◌∷◌, MatchBool, ap, inl, inr, IfOk, IfSome, option_map}
-use Rattle.std.proofs.Math.Nat.{mul-le-mul_left}
-use Rattle.nfa_paths.specs.Common.{Found, found_of, Search, Match, IsFindAnswer, raised, span_len}
-use Rattle.regex_search_core.specs.declared.search.MatchKind.TheVariants.{LeftmostFirst}
+use Rattle.nfa_paths.proofs.Common.{◌≡◌, ◌∙◌, ℕ, ◌-◌, ◌*◌, ◌≤◌, refl, false, Option, None, Some, Result, Ok, Err, arith, length, List, ◌∷◌, ap, inl, inr, IfOk, IfSome, option_map, Found, found_of, Search, Match, IsFindAnswer, raised, span_len, LeftmostFirst}
 use Rattle.nfa_paths.proofs.KnownLemmas.{match-sure, sure-match}
-use Rattle.nfa_search_base.specs.EngineSearches.{AnswersBy, Keeping, found_in, if_ends_at}
-use Rattle.nfa_search_base.specs.Finders.{answer_by}
-use Rattle.nfa_search_base.specs.Leaving.{StepsLead, asks_keeping}
-use Rattle.nfa_search_base.specs.WithCache.{WithCache}
-use Rattle.nfa_search_base.specs.StepsWith.{TakesStepWith, steps_with_state, steps_with_iter_state}
-use Rattle.nfa_search_base.specs.Steps.{GivesItem}
-use Rattle.nfa_search_base.specs.Stored.{steps_iter_state, can_step, takes_steps}
-use Rattle.nfa_search_base.specs.IterStates.{Advances, Answer, AnswerIsInside, IterState, after, fresh, answer_span, repeats, shifted, span_of}
+use Rattle.nfa_search_base.specs.Common.{Keeping, found_in, if_ends_at, answer_by, StepsLead, asks_keeping, WithCache, TakesStepWith, steps_with_state, steps_iter_state, GivesItem, can_step, takes_steps, Advances, Answer, AnswerIsInside, IterState, fresh, answer_span, span_of}
 use Rattle.nfa_search_base.specs.declared.error.SearchError.{SearchError}
 use Rattle.nfa_search_base.specs.declared.error.SearchError.TheVariants.{HaystackTooLong, Memory}
 use Rattle.nfa_search_base.specs.declared.iter.steps.Steps.{Steps}
 use Rattle.nfa_search_base.proofs.EngineLemmas.{EngineOf, FinderOf, KeptBy, SearchesAs, SearchesOf, answers_as, calls-kept, finds_by, searches-serve, step-may}
-use Rattle.nfa_search_base.proofs.ItemLemmas.{ItemsOf, items_as}
+use Rattle.nfa_search_base.proofs.ItemLemmas.{ItemsOf, items_as, ShellOf, plain_shell, same-items, steps_in}
 use Rattle.nfa_search_base.proofs.LastStartLemmas.{match-from-scan}
 use Rattle.nfa_search_base.proofs.LeavingLemmas.{calls-lead, calls-leave, finds-leave, finds-to_end}
 use Rattle.nfa_search_base.proofs.ListLemmas.{match-lies}
 use Rattle.nfa_search_base.proofs.IterStateLemmas.{IsOrdered}
 use Rattle.nfa_search_base.proofs.RunLemmas.{AnswersOf, Begins}
-use Rattle.nfa_search_base.proofs.ShellLemmas.{ShellOf, plain_shell, same-items, steps_in}
 use Rattle.nfa_backtrack.specs.Backtrack.{Backtracker, IsTooLong, BacktrackCache, refused_early}
 use Rattle.nfa_backtrack.specs.FindMatches.{AsksBacktracker, FindsBySearches, MayFindByBacktracker, backtrack_matches, backtrack_matches_next, backtracker_knowing, fits_always}
 use Rattle.nfa_backtrack.specs.Finding.{Counts, DoesWork, IsCounted, IsRefusal, IsTryFindAnswer, IsSureAt, SearchesOnce, backtracker_scans}
@@ -32,11 +21,7 @@ use Rattle.nfa_backtrack.specs.declared.find_iter.TryFindMatches.{TryFindMatches
 -- a span is not too long if one that starts before it is not
 pub still-fits : (e : Backtracker) (x y : Search) → y.end ≡ x.end → x.start ≤ y.start → ¬ (IsTooLong e x)
     → ¬ (IsTooLong e y)
-still-fits e x y end on fits long =
-    let shorter : span_len y + 1 ≤ span_len x + 1 = omega (arith, end, on) in
-    let more : length e.nfa.states * (span_len y + 1) ≤ length e.nfa.states * (span_len x + 1) =
-    mul-le-mul_left (length e.nfa.states) shorter in
-    fits (omega (arith, long, more))
+still-fits e x y end on fits long = grind (arith)
 
 -- a search that is too long only gives that refusal
 pub refused-alone : (e : Backtracker) (x : Search) (error : SearchError) → IsTooLong e x → IsRefusal e x error
@@ -85,11 +70,7 @@ module _ {e : Backtracker} {x : Search} {needed : ℕ} {old new : BacktrackCache
   -- and an error is a refusal
   pub counted-refusal : {Y : Type 0} {error : SearchError} → IsCounted {Y = Y} e x needed (Err error) old new
       → IsRefusal e x error
-  counted-refusal {Y} c = elim c.errors [
-    | inl memory ↦ inr (λ long. let k = c.too_long.1 long in cc, memory)
-    | inr refused ↦
-        inl (c.too_long.0 (ap (λ (q : SearchError). let r : Result Y SearchError = Err q in r) refused), refused)
-  ]
+  counted-refusal {Y} c = grind (arith)
 
   -- so a reply is the answer of a search
   pub found-tells : (r : Result (Option Match) SearchError)
@@ -103,20 +84,7 @@ module _ {e : Backtracker} {x : Search} {needed : ℕ} {old new : BacktrackCache
 pub once-by : {X Y : Type 0} {e : Backtracker} {x : Search} {needed : ℕ} {r : Result Y SearchError}
     {old new : BacktrackCache} {a : Answer X} → IsCounted e x needed r old new → Counts a old new → DoesWork e x a new
     → needed ≤ 2 * length e.nfa.groups → SearchesOnce e x a old new
-once-by c counts exact few = record {
-  total = c.total;
-  counts = counts;
-  exact = exact;
-  scans = c.scans;
-  turns = c.turns;
-  blocks = c.blocks;
-  holds = record {
-    frames = c.holds.frames;
-    slots_kept = c.holds.slots_kept;
-    slots = let kept = c.holds.slots in omega (arith, kept);
-  };
-  early = c.early;
-}
+once-by c counts exact few = grind (arith)
 
 -- a match is counted as what it is
 pub found-once : {e : Backtracker} {x : Search} {old new : BacktrackCache} (r : Result (Option Match) SearchError)
@@ -175,7 +143,7 @@ find_shell = plain_shell backtrack_matches_next backtrack_matches (λ s r t st. 
 pub find-serves : (s : TryFindMatches)
     → can_step MayFindByBacktracker AsksBacktracker span_of (steps_with_state (backtrack_matches s))
 find-serves s = searches-serve back_finds (AnswerIsInside span_of) (λ e t a h. (find-lies e t a h).0)
-    (steps_with_state (backtrack_matches s)).backend (steps_with_iter_state (backtrack_matches s)).at
+    (steps_with_state (backtrack_matches s)).backend (steps_iter_state (backtrack_matches s).steps).at
     (record { fits = tt; knows = s.knows })
 
 -- and goes on after a step
@@ -200,16 +168,7 @@ module _ (e : Backtracker) (x : Search) (long : IsTooLong e x) (old : BacktrackC
   step-early : (a : Answer Found) (q : Keeping BacktrackCache) (v : IterState)
       → Advances span_of (Looks e) begun (fresh x) a q v
       → (error : SearchError) × (a ≡ Err error) × (q.cache ≡ refused_early old)
-  step-early a q v step = of step.answer step.first.tells step.first.work.by_known step.rest
-    where
-      of : (f : Answer Found) → IsTryFindAnswer e x f
-          → AnswersBy (λ y b. SearchesOnce e y b) backtracker_scans x f None begun step.between
-          → MatchBool (repeats (fresh x) (answer_span span_of f))
-          (Looks e step.between (shifted (fresh x)).at a q × (v ≡ after (shifted (fresh x)) (answer_span span_of a)))
-          ((a ≡ f) × (q ≡ step.between) × (v ≡ after (fresh x) (answer_span span_of a)))
-          → (error : SearchError) × (a ≡ Err error) × (q.cache ≡ refused_early old)
-      of (Ok found) told work rest = absurd (told.0 long)
-      of (Err error) told work rest = (error, rest.0, ap (λ k. k.cache) rest.1 ∙ work.0.early long)
+  step-early a q v step = grind (arith)
 
   steps-early : (a : Answer Found) (more : List (Answer Found)) (q : Keeping BacktrackCache)
       → StepsLead span_of (Looks e) (fresh x) begun (a ∷ more) q → q.cache ≡ refused_early old
@@ -229,7 +188,7 @@ any_kept = record {
 
 -- An iterator of e that begins at x.
 module _ (e : Backtracker) (x : Search) (s : TryFindMatches) (engine : s.steps.backend.engine.now ≡ e)
-    (iter_state : steps_with_iter_state (backtrack_matches s) ≡ fresh x) (going : s.steps.done ≡ false) where
+    (iter_state : steps_iter_state (backtrack_matches s).steps ≡ fresh x) (going : s.steps.done ≡ false) where
   pub finds-begin : Begins (SearchesAs back_finds e) x (steps_with_state (backtrack_matches s))
   finds-begin = record { iter_state = iter_state; going = going; good = engine }
 

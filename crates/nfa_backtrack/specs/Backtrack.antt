@@ -1,7 +1,7 @@
 -- A backtracker and its cache as values, and how many pairs it may mark.
 use Rattle.std.specs.Prelude.{◌≡◌, ℕ, ◌+◌, ◌*◌, ◌/◌, ◌-◌, ◌<◌, ◌≤◌, max, length, Option, unwrap_or}
 use Rattle.nfa_paths.specs.Common.{Search, Automaton, span_len}
-use Rattle.nfa_scan_core.specs.Numbers.{saturated}
+use Rattle.nfa_scan_core.specs.Marks.{saturated}
 
 -- an NFA, and the capacity in bytes, if one was set
 pub record Backtracker : Type 0 where

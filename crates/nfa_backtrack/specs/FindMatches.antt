@@ -1,15 +1,7 @@
 -- The iterator over the matches of a backtracker.
-use Rattle.std.specs.Prelude.{◌≡◌, List, map, Option, None, Result, Ok, option_map, ⊤, Bool}
-use Rattle.std.specs.Borrow.{MutBor}
-use Rattle.std.specs.Iterator.{Yields}
+use Rattle.std.specs.Prelude.{◌≡◌, List, map, Option, None, Result, Ok, option_map, ⊤}
 use Rattle.nfa_paths.specs.Common.{Found, found_of, Search, Match}
-use Rattle.nfa_search_base.specs.EngineSearches.{AsksEngine, Knowing, MayFind}
-use Rattle.nfa_search_base.specs.WithCache.{WithCache}
-use Rattle.nfa_search_base.specs.StepsWith.{StepsWith, TakesStepWith}
-use Rattle.nfa_search_base.specs.Runs.{GivesKept}
-use Rattle.nfa_search_base.specs.Steps.{GivesItem}
-use Rattle.nfa_search_base.specs.Searchers.{iter_state_of}
-use Rattle.nfa_search_base.specs.IterStates.{Answer, IterState, span_of}
+use Rattle.nfa_search_base.specs.Common.{AsksEngine, Knowing, MayFind, WithCache, StepsWith, TakesStepWith, GivesKept, GivesItem, Answer, span_of, Yields}
 use Rattle.nfa_search_base.specs.declared.error.SearchError.{SearchError}
 use Rattle.nfa_backtrack.specs.Backtrack.{Backtracker, IsTooLong, BacktrackCache, refused_early}
 use Rattle.nfa_backtrack.specs.Finding.{BacktrackerFindsOn, BacktrackerFindsToEnd, IsTryFindAnswer, IsSureAt, SearchesOnce, backtracker_scans}
@@ -24,20 +16,9 @@ backtracker_knowing a = record { engine = a.engine.now; known = a.known }
 abbrev pub backtrack_matches : TryFindMatches → StepsWith Finder BacktrackCache
 backtrack_matches s = record { steps = s.steps; cache = s.cache }
 
--- the cache that it searches with
-abbrev pub backtrack_matches_cache : TryFindMatches → MutBor BacktrackCache
-backtrack_matches_cache s = s.cache
-
 -- the engine that it searches with
 abbrev pub backtrack_matches_engine : TryFindMatches → Backtracker
 backtrack_matches_engine s = s.steps.backend.engine.now
-
--- its position, and whether it has ended
-abbrev pub backtrack_matches_iter_state : TryFindMatches → IterState
-backtrack_matches_iter_state s = iter_state_of s.steps.searcher
-
-abbrev pub backtrack_matches_done : TryFindMatches → Bool
-backtrack_matches_done s = s.steps.done
 
 -- each cache fits
 abbrev pub fits_always : BacktrackCache → Backtracker → Type 0
@@ -54,13 +35,10 @@ AsksBacktracker =
     AsksEngine IsSureAt backtracker_knowing IsTryFindAnswer (λ e x a. SearchesOnce e x a) backtracker_scans
 
 -- a call
-pub record BacktrackerFindsNext (s : TryFindMatches) (r : Option (Result Match SearchError))
+pub record backtrack_matches_next (s : TryFindMatches) (r : Option (Result Match SearchError))
     (t : TryFindMatches) : Type 0 where
   pub takes : TakesStepWith span_of AsksBacktracker (λ _. GivesItem found_of) (backtrack_matches s)
       r (backtrack_matches t)
-
-abbrev pub backtrack_matches_next : TryFindMatches → Option (Result Match SearchError) → TryFindMatches → Type 0
-backtrack_matches_next s r t = BacktrackerFindsNext s r t
 
 -- the known answer of its next search
 abbrev pub backtracker_finds_known : TryFindMatches → Option Found

@@ -1,13 +1,7 @@
 -- The answers of a backtracker to searches for a match or for captures.
 use Rattle.std.specs.Prelude.{◌≡◌, ◌≤◌, ◌*◌, ◌+◌, ℕ, ◌⊎◌, ◌↔◌, false, length, List, Result, Ok, Err, IfErr, IsErrOf, OnErr, OnOk}
-use Rattle.nfa_paths.specs.Common.{Found, Search, IsFindAnswer, IsWithinScans, IsWork, max_scans, span_len, total_degree}
-use Rattle.regex_search_core.specs.declared.search.MatchKind.TheVariants.{LeftmostFirst}
-use Rattle.nfa_paths.specs.Known.{IsSureMatch}
-use Rattle.nfa_paths.specs.Restarts.{max_scan_turns}
-use Rattle.nfa_search_base.specs.WithCaptures.{Row, row_span}
-use Rattle.nfa_search_base.specs.CapturesLists.{AnswersRow}
-use Rattle.nfa_search_base.specs.Leaving.{DoesSearch, FindsLeave, FindsLeaveAtEnd, Leaves, LeavesAtEnd}
-use Rattle.nfa_search_base.specs.IterStates.{Answer}
+use Rattle.nfa_paths.specs.Common.{Found, Search, IsFindAnswer, IsWithinScans, IsWork, max_scans, span_len, total_degree, LeftmostFirst, IsSureMatch, max_scan_turns}
+use Rattle.nfa_search_base.specs.Common.{Row, row_span, AnswersRow, DoesSearch, FindsLeave, FindsLeaveAtEnd, Leaves, LeavesAtEnd, Answer}
 use Rattle.nfa_search_base.specs.declared.error.SearchError.{SearchError}
 use Rattle.nfa_search_base.specs.declared.error.SearchError.TheVariants.{HaystackTooLong, Memory}
 use Rattle.nfa_backtrack.specs.Backtrack.{Backtracker, BacktrackCache, AddsBacktrackWork, CountsAnswer, CountsRefusal, GrowsBlocks, HoldsNoMore, IsTooLong, refused_early}

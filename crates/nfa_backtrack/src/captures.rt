@@ -5,8 +5,7 @@ ghost use Rattle.regex_search_core.specs.Search.{search_of};
 ghost use Rattle.regex_search_core.specs.declared.search.MatchKind.TheVariants.{LeftmostFirst};
 ghost use Rattle.nfa_paths.specs.Paths.{IsAnswer};
 ghost use Rattle.nfa_backtrack.specs.Finding.{IsCounted};
-ghost use Rattle.nfa_search_base.specs.Lists.{IsSlotInside};
-ghost use Rattle.nfa_search_base.specs.Spans.{SpansInside};
+ghost use Rattle.nfa_search_base.specs.Lists.{IsSlotInside, SpansInside};
 
 use crate::cache::Cache;
 use crate::engine::BoundedBacktracker;

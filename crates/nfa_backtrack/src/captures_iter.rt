@@ -1,5 +1,5 @@
 //! Iteration over the captures of the matches of an input.
-ghost use Rattle.nfa_search_base.specs.CapturesLists.{HasGroups};
+ghost use Rattle.nfa_search_base.specs.Lists.{HasGroups};
 
 use crate::cache::Cache;
 use crate::engine::BoundedBacktracker;
@@ -43,16 +43,13 @@ impl BoundedBacktracker {
     ghost use Rattle.std.specs.Prelude.{◌≡◌, false, All, IfOk, IsOkUnless, None, map};
     ghost use Rattle.regex_search_core.specs.Search.{search_of};
     ghost use Rattle.regex_search_core.specs.declared.search.MatchKind.TheVariants.{LeftmostFirst};
-    ghost use Rattle.nfa_search_base.specs.CapturesGiven.{CapturesGiven};
+    ghost use Rattle.nfa_search_base.specs.Runs.{CapturesGiven, CapturesInside, CapturesWithin, match_in};
     ghost use Rattle.nfa_search_base.specs.WithCaptures.{filled_answer, row_of};
-    ghost use Rattle.nfa_search_base.specs.CapturesLists.{AreRows};
-    ghost use Rattle.nfa_search_base.specs.CapturesRuns.{CapturesInside, CapturesWithin, match_in};
-    ghost use Rattle.nfa_search_base.specs.Lists.{AreDisjoint, AreMatches};
+    ghost use Rattle.nfa_search_base.specs.Lists.{AreRows, AreDisjoint, AreMatches};
     ghost use Rattle.nfa_search_base.specs.IterStates.{fresh};
     ghost use Rattle.nfa_backtrack.specs.CapturesMatches.{CapturesBySearches, CapturesRefused};
-    ghost use Rattle.nfa_backtrack.specs.CapturesMatches.{backtrack_captures_cache};
-    ghost use Rattle.nfa_backtrack.specs.CapturesMatches.{backtrack_captures_done, backtrack_captures_engine};
-    ghost use Rattle.nfa_backtrack.specs.CapturesMatches.{backtrack_captures_next, backtrack_captures_iter_state};
+    ghost use Rattle.nfa_backtrack.specs.CapturesMatches.{backtrack_captures, backtrack_captures_next};
+    ghost use Rattle.nfa_search_base.specs.Stored.{steps_iter_state};
     ghost use Rattle.nfa_backtrack.specs.Backtrack.{IsTooLong};
     ghost use Rattle.nfa_backtrack.specs.Finding.{AnswersByLength, BacktrackerCapturesOn, BacktrackerCapturesToEnd};
     ghost use Rattle.nfa_backtrack.specs.Finding.{IsTryCapturesAnswer, SearchesOnce};
@@ -82,11 +79,12 @@ impl BoundedBacktracker {
     ) -> Result<TryCapturesMatches<'r, 'c, 'h>, SearchError>
         ensures memory { IsOkUnless result SearchError.Memory }
         ensures same_reference { IfOk result (λ made.
-            (backtrack_captures_cache made).ghost_name ≡ cache.entry.ghost_name) }
-        ensures same_cache { IfOk result (λ made. (backtrack_captures_cache made).now ≡ cache.entry.now) }
-        ensures engine { IfOk result (λ made. backtrack_captures_engine made ≡ self.now) }
-        ensures iter_state { IfOk result (λ made. backtrack_captures_iter_state made ≡ fresh (search_of input.entry)) }
-        ensures going { IfOk result (λ made. backtrack_captures_done made ≡ false) }
+            (backtrack_captures made).cache.ghost_name ≡ cache.entry.ghost_name) }
+        ensures same_cache { IfOk result (λ made. (backtrack_captures made).cache.now ≡ cache.entry.now) }
+        ensures engine { IfOk result (λ made. (backtrack_captures made).steps.backend.finder ≡ self.now) }
+        ensures iter_state { IfOk result (λ made.
+            steps_iter_state (backtrack_captures made).steps ≡ fresh (search_of input.entry)) }
+        ensures going { IfOk result (λ made. (backtrack_captures made).steps.done ≡ false) }
         // Each run of calls gives the first captures of the input, and all of them if it goes on to `None`. If no copy
         // fails, their rows and their matches are those of the input.
         ensures given { IfOk result (CapturesGiven backtrack_captures_next self.now.nfa LeftmostFirst false
@@ -121,11 +119,11 @@ impl BoundedBacktracker {
         captures: Captures,
     ) -> TryCapturesMatches<'r, 'c, 'h>
         requires { HasGroups self.now.nfa captures }
-        ensures same_reference { (backtrack_captures_cache result).ghost_name ≡ cache.entry.ghost_name }
-        ensures same_cache { (backtrack_captures_cache result).now ≡ cache.entry.now }
-        ensures engine { backtrack_captures_engine result ≡ self.now }
-        ensures iter_state { backtrack_captures_iter_state result ≡ fresh (search_of input.entry) }
-        ensures going { backtrack_captures_done result ≡ false }
+        ensures same_reference { (backtrack_captures result).cache.ghost_name ≡ cache.entry.ghost_name }
+        ensures same_cache { (backtrack_captures result).cache.now ≡ cache.entry.now }
+        ensures engine { (backtrack_captures result).steps.backend.finder ≡ self.now }
+        ensures iter_state { steps_iter_state (backtrack_captures result).steps ≡ fresh (search_of input.entry) }
+        ensures going { (backtrack_captures result).steps.done ≡ false }
         // Each run of calls gives the first captures of the input, and all of them if it goes on to `None`. If no copy
         // fails, their rows and their matches are those of the input.
         ensures given { CapturesGiven backtrack_captures_next self.now.nfa LeftmostFirst false (IsTryCapturesAnswer
@@ -216,7 +214,9 @@ impl BoundedBacktracker {
 
 impl<'r> FindWith for CapturesFinder<'r> {
     ghost use Rattle.nfa_search_base.specs.WithCaptures.{Row, filled_answer, row_span, GivesCaptures};
-    ghost use Rattle.nfa_backtrack.specs.CapturesMatches.{AsksBacktrackerRow, MayFillByBacktracker};
+    ghost use Rattle.nfa_backtrack.specs.CapturesMatches.{AsksBacktrackerRow};
+    ghost use Rattle.nfa_backtrack.specs.FindMatches.{fits_always};
+    ghost use Rattle.nfa_search_base.specs.EngineSearches.{MayFill};
 
     type Cache = Cache;
 
@@ -228,7 +228,7 @@ impl<'r> FindWith for CapturesFinder<'r> {
 
     ghost span = { row_span };
 
-    ghost accepts = { λ s _. MayFillByBacktracker s };
+    ghost accepts = { λ s _. MayFill (λ e. e.nfa) fits_always s };
 
     type Item = Captures;
 
@@ -253,14 +253,14 @@ impl<'r> FindWith for CapturesFinder<'r> {
 }
 
 impl<'r, 'c, 'h> Iterator for TryCapturesMatches<'r, 'c, 'h> {
-    ghost use Rattle.nfa_search_base.specs.StepsWith.{steps_with_left};
+    ghost use Rattle.nfa_search_base.specs.Stored.{steps_left};
     ghost use Rattle.nfa_backtrack.specs.CapturesMatches.{backtrack_captures, backtrack_captures_next};
 
     type Item = Result<Captures, SearchError>;
 
     ghost next_gives = { backtrack_captures_next };
 
-    ghost remaining = { λ s. steps_with_left (backtrack_captures s) };
+    ghost remaining = { λ s. steps_left (backtrack_captures s).steps };
 
     fn next(&mut self) -> Option<Result<Captures, SearchError>> {
         self.steps.next_with(self.cache)

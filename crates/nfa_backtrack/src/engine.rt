@@ -8,7 +8,7 @@ ghost use Rattle.regex_search_core.specs.Groups.{slot_count};
 ghost use Rattle.regex_search_core.specs.Patterns.{number_of};
 ghost use Rattle.regex_search_core.specs.Found.{found_of, half_found_of};
 ghost use Rattle.regex_search_core.specs.declared.search.MatchKind.TheVariants.{LeftmostFirst};
-ghost use Rattle.thompson_nfa.specs.Simple.{always, never};
+ghost use Rattle.thompson_nfa.specs.Automaton.{always, never};
 ghost use Rattle.nfa_paths.specs.Paths.{span_len, IsAnswer, IsFindAnswer, IsBoolAnswer};
 ghost use Rattle.nfa_paths.specs.Paths.{IsWork};
 ghost use Rattle.nfa_paths.specs.Restarts.{IsBounded};
@@ -18,7 +18,7 @@ ghost use Rattle.nfa_backtrack.specs.Backtrack.{max_haystack_len_of};
 ghost use Rattle.nfa_backtrack.specs.Backtrack.{min_capacity_of};
 ghost use Rattle.nfa_backtrack.specs.Finding.{IsCounted};
 ghost use Rattle.nfa_search_base.specs.EngineSearches.{last_start};
-ghost use Rattle.nfa_search_base.specs.Finds.{finds};
+ghost use Rattle.nfa_search_base.specs.Lists.{finds};
 ghost use Rattle.nfa_search_base.specs.Lists.{IsInside, IsSlotInside};
 
 use crate::cache::Cache;

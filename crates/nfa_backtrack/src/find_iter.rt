@@ -4,7 +4,7 @@ ghost use Rattle.std.specs.Option.{ForSome};
 ghost use Rattle.regex_search_core.specs.Found.{found_of};
 ghost use Rattle.regex_search_core.specs.Search.{search_of};
 ghost use Rattle.nfa_search_base.specs.EngineSearches.{IsKnownFrom, found_in};
-ghost use Rattle.nfa_search_base.specs.Finders.{answer_by};
+ghost use Rattle.nfa_search_base.specs.Items.{answer_by};
 ghost use Rattle.nfa_search_base.specs.Stored.{steps_iter_state};
 ghost use Rattle.nfa_backtrack.specs.Finding.{IsSureAt};
 
@@ -45,15 +45,13 @@ impl BoundedBacktracker {
     ghost use Rattle.nfa_search_base.specs.Lists.{AreMatches, AreDisjoint, IsInside};
     ghost use Rattle.nfa_backtrack.specs.Backtrack.{IsTooLong, refused_early};
     ghost use Rattle.nfa_backtrack.specs.Finding.{AnswersByLength, BacktrackerFindsOn, BacktrackerFindsToEnd};
-    ghost use Rattle.nfa_search_base.specs.Runs.{GivesFirst, GivesNext, RunsGive};
+    ghost use Rattle.nfa_search_base.specs.Runs.{GivesFirst, GivesNext, OksAll, OksFirst, OksNext, OksRun, RunsGive};
     ghost use Rattle.nfa_search_base.specs.IterStates.{fresh};
-    ghost use Rattle.nfa_backtrack.specs.FindMatches.{backtrack_matches_cache, backtrack_matches_done};
-    ghost use Rattle.nfa_backtrack.specs.FindMatches.{backtrack_matches_engine, backtrack_matches_next};
-    ghost use Rattle.nfa_backtrack.specs.FindMatches.{backtracker_finds_known, backtrack_matches_iter_state};
+    ghost use Rattle.nfa_backtrack.specs.FindMatches.{backtrack_matches, backtrack_matches_engine};
+    ghost use Rattle.nfa_backtrack.specs.FindMatches.{backtrack_matches_next, backtracker_finds_known};
     ghost use Rattle.nfa_backtrack.specs.FindMatches.{FindsBySearches};
-    ghost use Rattle.nfa_backtrack.specs.Runs.{AreAllItems, AreFirstItems, GivesAllMatches, GivesFirstMatches};
-    ghost use Rattle.nfa_backtrack.specs.Runs.{GivesNextMatch};
-    ghost use Rattle.nfa_backtrack.specs.Runs.{RunsDisjoint, RunsInside, RunsMatch, RunsRefused};
+    ghost use Rattle.nfa_backtrack.specs.Runs.{AreAllItems, AreFirstItems, OksAreAll, OksAreFirst};
+    ghost use Rattle.nfa_backtrack.specs.Runs.{RunsDisjoint, RunsInside, RunsRefused};
     ghost use Rattle.nfa_backtrack.specs.Runs.{GivesByLength, EndsByLength};
 
     /// Returns an iterator over all matches that do not overlap, from left to right. Does not allocate.
@@ -75,24 +73,26 @@ impl BoundedBacktracker {
         cache: &'c mut Cache,
         input: Input<'h>,
     ) -> TryFindMatches<'r, 'c, 'h>
-        ensures same_reference { (backtrack_matches_cache result).ghost_name ≡ cache.entry.ghost_name }
-        ensures same_cache { (backtrack_matches_cache result).now ≡ cache.entry.now }
+        ensures same_reference { (backtrack_matches result).cache.ghost_name ≡ cache.entry.ghost_name }
+        ensures same_cache { (backtrack_matches result).cache.now ≡ cache.entry.now }
         ensures engine { backtrack_matches_engine result ≡ self.now }
-        ensures iter_state { backtrack_matches_iter_state result ≡ fresh (search_of input.entry) }
-        ensures going { backtrack_matches_done result ≡ false }
+        ensures iter_state { steps_iter_state (backtrack_matches result).steps ≡ fresh (search_of input.entry) }
+        ensures going { (backtrack_matches result).steps.done ≡ false }
         ensures known { backtracker_finds_known result ≡ None }
         // Each run of calls gives the first items, and all of them if it goes on to `None`.
         ensures runs { RunsGive backtrack_matches_next (AreFirstItems self.now (search_of input.entry))
             (AreAllItems self.now (search_of input.entry)) result }
-        ensures matches { RunsMatch self.now (search_of input.entry) result }
+        ensures matches { OksRun backtrack_matches_next (OksAreFirst self.now (search_of input.entry))
+            (OksAreAll self.now (search_of input.entry)) result }
         ensures inside { RunsInside (search_of input.entry) result }
         ensures disjoint { RunsDisjoint (search_of input.entry) result }
         ensures refused { RunsRefused self.now (search_of input.entry) result }
         ensures first { GivesFirst backtrack_matches_next (AreFirstItems self.now (search_of input.entry)) result }
-        ensures first_matches { GivesFirstMatches self.now (search_of input.entry) result }
+        ensures first_matches { OksFirst backtrack_matches_next (OksAreFirst self.now (search_of input.entry))
+            result }
         ensures next { GivesNext backtrack_matches_next (AreFirstItems self.now (search_of input.entry)) result }
-        ensures next_match { GivesNextMatch self.now (search_of input.entry) result }
-        ensures all_matches { GivesAllMatches self.now (search_of input.entry) result }
+        ensures next_match { OksNext backtrack_matches_next (OksAreFirst self.now (search_of input.entry)) result }
+        ensures all_matches { OksAll backtrack_matches_next (OksAreAll self.now (search_of input.entry)) result }
         // A match is given, and the items end without an error, only if the span is not too long. An error is a
         // refusal.
         ensures by_length { GivesByLength self.now (search_of input.entry) result }
@@ -154,8 +154,7 @@ impl BoundedBacktracker {
 
 impl<'r> FindWith for Finder<'r> {
     ghost use Rattle.regex_search_core.specs.Found.{Found, found_of};
-    ghost use Rattle.nfa_search_base.specs.Finders.{answer_by};
-    ghost use Rattle.nfa_search_base.specs.Steps.{GivesItem};
+    ghost use Rattle.nfa_search_base.specs.Items.{GivesItem, answer_by};
     ghost use Rattle.nfa_search_base.specs.IterStates.{span_of};
     ghost use Rattle.nfa_backtrack.specs.FindMatches.{AsksBacktracker, MayFindByBacktracker};
 
@@ -224,14 +223,14 @@ fn found_in(reply: Result<Option<Match>, SearchError>) -> Option<Match>
 }
 
 impl<'r, 'c, 'h> Iterator for TryFindMatches<'r, 'c, 'h> {
-    ghost use Rattle.nfa_search_base.specs.StepsWith.{steps_with_left};
+    ghost use Rattle.nfa_search_base.specs.Stored.{steps_left};
     ghost use Rattle.nfa_backtrack.specs.FindMatches.{backtrack_matches, backtrack_matches_next};
 
     type Item = Result<Match, SearchError>;
 
     ghost next_gives = { backtrack_matches_next };
 
-    ghost remaining = { λ s. steps_with_left (backtrack_matches s) };
+    ghost remaining = { λ s. steps_left (backtrack_matches s).steps };
 
     fn next(&mut self) -> Option<Result<Match, SearchError>> {
         self.steps.next_with(self.cache)

@@ -1,19 +1,12 @@
 -- Alternatives that are pushed, and those that lead nowhere.
-use Rattle.std.proofs.Common.{◌≡◌, ℕ, ◌<◌, inl, inr, List, [], ◌∷◌, ◌++◌, length, map, drop, refl, ap, arith, Some, None}
-use Rattle.std.specs.List.{slice_get}
-use Rattle.std.proofs.lemmas.List.Elements.{All-push}
-use Rattle.std.proofs.lemmas.List.Sums.{sum_by_push}
-use Rattle.nfa_paths.specs.Common.{Search, Automaton, Pair, edges_of, Slots, Task, ExploresTo}
-use Rattle.thompson_nfa.specs.Automaton.Node.{Capture, Union}
-use Rattle.nfa_paths.specs.Exploring.Task.{Explore}
+use Rattle.nfa_paths.proofs.Common.{◌≡◌, ℕ, ◌<◌, inl, inr, List, [], ◌∷◌, ◌++◌, length, map, drop, refl, ap, arith, Some, None, slice_get, All-push, sum_by_push, Search, Automaton, Pair, edges_of, Slots, Task, ExploresTo, Capture, Union, Explore}
 use Rattle.nfa_scan_core.specs.Marks.{Marks}
-use Rattle.nfa_backtrack_scan.specs.Walk.{frame_tries, stacked, IsFrame, IsByteStep, IsStatePos, Carries, Taken, TurnsLead, Walk, WalkAnswer}
-use Rattle.nfa_backtrack_scan.specs.Alternates.{IsDeadEnd, HasAnswersOf, PushesLive}
+use Rattle.nfa_backtrack_scan.specs.Walk.{frame_tries, stacked, IsFrame, IsByteStep, IsStatePos, Carries, Taken, TurnsLead, Walk, WalkAnswer, IsDeadEnd, HasAnswersOf, PushesLive}
 use Rattle.nfa_backtrack_scan.specs.declared.frame.StatePos.{StatePos}
 use Rattle.nfa_backtrack_scan.specs.declared.frame.Frame.{Frame}
 use Rattle.nfa_backtrack_scan.specs.declared.frame.Frame.TheVariants.{Step}
-use Rattle.nfa_backtrack_scan.proofs.StepLemmas.{reads-plain, stacked-push, step-edges, Carries-edges, PaidFor-step}
-use Rattle.nfa_backtrack_scan.proofs.WalkLemmas.{no_path, Carries-then}
+use Rattle.nfa_backtrack_scan.proofs.StepLemmas.{reads-plain, stacked-push, step-edges, PaidFor-step}
+use Rattle.nfa_backtrack_scan.proofs.WalkLemmas.{no_path, Carries-plain, Carries-then}
 use Rattle.nfa_scan_core.proofs.AlternateLemmas.{first-drop}
 use Rattle.nfa_paths.proofs.StartLemmas.{node_at-get}
 
@@ -22,7 +15,7 @@ module _ (nfa : Automaton) (x : Search) where
   pub IsDeadEnd-byte : (s at : ℕ) → IsByteStep nfa x (s, at) None → IsDeadEnd nfa x (s, at)
   IsDeadEnd-byte s at b p =
       let node = node_at-get nfa s b.node b.is in
-      no_path _ _ (rw (node, reads-plain b.node b.reads) refl) (rw node (step-edges nfa x s at None b))
+      no_path _ _ (rw (node, (reads-plain b.node b.reads).1) refl) (rw node (step-edges nfa x s at None b))
 
   -- a Capture before one
   pub IsDeadEnd-capture : (s at next slot : ℕ) → slice_get nfa.states s ≡ Some (Capture next slot)
@@ -68,23 +61,25 @@ module _ (nfa : Automaton) (x : Search) where
   unfolding WalkAnswer
   Carries-stands m work shorter slots stands = grind arith
 
-  -- the turn at a union
-  pub TurnsLead-live : {place : StatePos} {m n : Marks} (t : Taken nfa x (place.sid, place.at) m n)
-      (alternates : List ℕ) → slice_get nfa.states place.sid ≡ Some (Union alternates)
-      → (f : ℕ) → slice_get alternates 0 ≡ Some f → (w : Walk) {after : List Frame}
-      → PushesLive nfa x place (drop 1 alternates) w.stack after
-      → IsStatePos nfa x (record place { sid = f })
-      → TurnsLead nfa x (place.sid, place.at) (Some (record place { sid = f })) (record w { marks = m })
-      (record w { stack = after; marks = n })
-  unfolding edges_of
-  TurnsLead-live {place} {m} {n} t alternates is f first w {after} l goes = record {
-    goes = goes;
-    paid = PaidFor-step t (Union alternates) is w after w.slots 1 (l.within (length w.slots))
-        (omega (arith, l.tried, ap length (first-drop alternates f first)));
-    follows = λ work.
-        Carries-then nfa x
-        (Carries-edges t (Union alternates) is refl refl
-        ((f, place.at) ∷ map (λ q. (q, place.at)) (drop 1 alternates))
-        (ap (map (λ q. (q, place.at))) (first-drop alternates f first)) (stacked w.stack work) w.slots)
-        (Carries-stands n _ _ w.slots (HasAnswersOf-after (f, place.at) _ _ (l.follows work)));
-  }
+-- the turn at a union
+pub TurnsLead-live : {nfa : Automaton} {x : Search} {place : StatePos} {a : Walk} {n : Marks}
+    → Taken nfa x (place.sid, place.at) a.marks n → {alternates : List ℕ}
+    → slice_get nfa.states place.sid ≡ Some (Union alternates) → {f : ℕ} → slice_get alternates 0 ≡ Some f
+    → {after : List Frame} → PushesLive nfa x place (drop 1 alternates) a.stack after
+    → IsStatePos nfa x (record place { sid = f })
+    → TurnsLead nfa x (place.sid, place.at) (Some (record place { sid = f })) a
+    (record a { stack = after; marks = n })
+unfolding edges_of
+TurnsLead-live {nfa} {x} {place} {a} {n} t {alternates} is {f} first {after} l goes = record {
+  goes = goes;
+  paid = PaidFor-step t (Union alternates) is after a.slots 1 (l.within (length a.slots))
+      (omega (arith, l.tried, ap length (first-drop alternates f first)));
+  follows = λ work.
+      Carries-then
+      (rw (ap (map {B = Pair} (λ q. (q, place.at))) (first-drop alternates f first)) at
+      (Carries-plain t (stacked a.stack work) a.slots (Union alternates) is refl refl))
+      (Carries-stands nfa x n _ _ a.slots (HasAnswersOf-after nfa x (f, place.at) _ _ (l.follows work)));
+}
+
+-- what the tests for dead ends cite
+pub ruleset dead_ends = (IsDeadEnd-byte, IsDeadEnd-capture)

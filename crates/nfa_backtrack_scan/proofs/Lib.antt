@@ -5,5 +5,4 @@ pub mod StepLemmas
 pub mod BeginLemmas
 pub mod ApplyFrameLemmas
 pub mod ScanLemmas
-pub mod ByteLoopLemmas
 pub mod AlternateLemmas

@@ -1,8 +1,5 @@
 -- The starts that are passed over.
-use Rattle.std.proofs.Common.{◌≡◌, ℕ, suc, zero, ◌+◌, ◌-◌, ◌<◌, ◌≤◌, inl, inr, List, ◌∷◌, map, sym, arith, subst, Some, None, Bool}
-use Rattle.std.proofs.lemmas.Bool.{cases_lt}
-use Rattle.nfa_paths.specs.Common.{Search, Automaton, Pair, IsFirst, start_state, starts, pairs_from, edges, is_match, space, Task, Slots, ExploresTo}
-use Rattle.nfa_paths.specs.Exploring.Task.{Explore}
+use Rattle.nfa_paths.proofs.Common.{◌≡◌, ℕ, suc, zero, ◌+◌, ◌-◌, ◌<◌, ◌≤◌, inl, inr, List, ◌∷◌, map, sym, arith, subst, Some, None, Bool, cases_lt, Search, Automaton, Pair, IsFirst, start_state, starts, pairs_from, edges, is_match, space, Task, Slots, ExploresTo, Explore}
 use Rattle.nfa_paths.proofs.StartLemmas.{pairs_from-step}
 use Rattle.nfa_scan_core.specs.Marks.{Marks}
 use Rattle.nfa_scan_core.specs.FirstBytes.{IsRefused, IsFirstBytes}
@@ -39,7 +36,7 @@ module _ (nfa : Automaton) (x : Search) where
       elim (cases_lt at limit) [
         | inl less ↦
             rw (pairs_from-step nfa.anchored less)
-            (Carries-then nfa x (Carries-dead m (nfa.anchored, at)
+            (Carries-then (Carries-dead m (nfa.anchored, at)
             (map Explore (pairs_from nfa.anchored (at + 1) (limit - (at + 1)))) s (first.none x at here)) more)
         | inr past ↦ grind arith
       ]

@@ -1,11 +1,6 @@
 -- From the result of a walk to the result of the search from all starts.
-use Rattle.std.proofs.Common.{◌≡◌, ℕ, ◌+◌, ◌-◌, ◌≤◌, List, [], length, map, replicate, arith, sum, None, false, Bool}
-use Rattle.nfa_paths.specs.Common.{half_found_of, Search, HalfMatch, Automaton, span_len, raised, starts, IsScanAnswer}
-use Rattle.regex_search_core.specs.declared.search.MatchKind.TheVariants.{LeftmostFirst}
-use Rattle.nfa_paths.specs.Restarts.{max_scan_turns, GivesPath}
-use Rattle.nfa_paths.specs.Exploring.Task.{Explore}
-use Rattle.nfa_paths.specs.Turns.{marked_sum}
-use Rattle.nfa_paths.proofs.AnswerLemmas.{scan_none, scan_some}
+use Rattle.nfa_paths.proofs.Common.{◌≡◌, ℕ, ◌+◌, ◌-◌, ◌≤◌, List, [], length, map, replicate, arith, sum, None, false, Bool, half_found_of, Search, HalfMatch, Automaton, span_len, raised, starts, IsScanAnswer, LeftmostFirst, max_scan_turns, GivesPath, Explore, marked_sum}
+use Rattle.nfa_paths.proofs.ScanAnswerLemmas.{scan_none, scan_some}
 use Rattle.nfa_paths.proofs.TurnLemmas.{marked_sum-le}
 use Rattle.nfa_backtrack_scan.specs.Walk.{weights, Agrees, Ends, EndsAt, HasBits, Walk, WalkAnswer}
 use Rattle.nfa_backtrack_scan.proofs.WalkLemmas.{IsMarked-clear, sum-weights}
@@ -27,7 +22,7 @@ module _ (nfa : Automaton) (x : Search) where
 
     -- a match was found
     pub starts-some : (half : HalfMatch) (new : Walk) → old.slots ≡ replicate (length new.slots) None
-        → EndsAt nfa x half old (map Explore (starts nfa x)) new
+        → EndsAt nfa x (half_found_of half) old (map Explore (starts nfa x)) new
         → GivesPath nfa LeftmostFirst false x half new.slots (new.marks.turns - old.marks.turns)
     unfolding WalkAnswer
     starts-some half new unset e =
@@ -37,18 +32,8 @@ module _ (nfa : Automaton) (x : Search) where
         (rw unset at (e.ends.answer turns (omega arith) [] (fresh old.marks.bits clear))) in
         grind arith
 
-  -- the turns of a scan
-
-  pub turns-all : (tried turns before : ℕ) (bits : List Bool) → tried ≤ span_len x + 1 → turns
-      ≤ before + tried + marked_sum (weights nfa x) bits
-      → turns ≤ before + max_scan_turns nfa x
-  turns-all tried turns before bits few h = omega (arith, marked_sum-le (weights nfa x) bits, sum-weights nfa x)
-
-  pub turns-bound : (tried turns after before : ℕ) (bits : List Bool) → tried ≤ span_len x → turns
-      ≤ before + tried + marked_sum (weights nfa x) bits
-      → after + marked_sum (weights nfa x) bits ≤ turns + 1 + sum (weights nfa x)
-      → after ≤ before + max_scan_turns nfa x
-  turns-bound tried turns after before bits few h k = omega (arith, sum-weights nfa x)
+-- what bounds the turns of a scan
+pub ruleset turn_bounds = (sum-weights, marked_sum-le)
 
 -- the same after some restarts, if there are as many marks as before
 pub room-after : (nfa : Automaton) (x y : Search) (i : ℕ) (bits after : List Bool) → length after ≡ length bits → y

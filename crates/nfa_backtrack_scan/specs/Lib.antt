@@ -1,4 +1,2 @@
-pub mod Alternates
-pub mod Begin
 pub mod Bits
 pub mod Walk

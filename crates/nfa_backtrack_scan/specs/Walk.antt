@@ -1,15 +1,10 @@
 -- The walk of a backtracker in the words of its proof: its stack as work that is left, its marks as pairs that were
 -- seen.
-use Rattle.std.specs.Prelude.{◌≡◌, ◌↔◌, ℕ, ◌+◌, ◌-◌, ◌*◌, ◌^◌, ◌<◌, ◌≤◌, Bool, true, false, List, [], ◌∷◌, Option, None, is_some, option_and_then, replicate, Some, length, map, sum, All, slice_get, slice_index_or, slice_set}
+use Rattle.std.specs.Prelude.{◌≡◌, ◌↔◌, ℕ, ◌+◌, ◌-◌, ◌*◌, ◌^◌, ◌<◌, ◌≤◌, ⊤, Bool, true, false, List, [], ◌∷◌, ◌++◌, Option, None, is_some, option_and_then, Some, length, map, replicate, sum, All, IfSome, slice_get, slice_index_or, slice_set}
 use Rattle.std.specs.List.{sum_by}
-use Rattle.nfa_paths.specs.Common.{Search, number_of, half_found_of, HalfMatch, Automaton, IsAutomaton, LeadsBelow, Node, node_of, Pair, In, span_len, degree, reads_byte, node_at, pattern_of, is_match, byte_at, target_on, IsScanAnswer, space, Slots, Hit, Task, ExploresTo}
-use Rattle.regex_search_core.specs.declared.search.MatchKind.TheVariants.{LeftmostFirst}
-use Rattle.thompson_nfa.specs.Automaton.Node.{ByteRange, BinaryUnion}
+use Rattle.nfa_paths.specs.Common.{Search, number_of, half_found_of, HalfFound, HalfMatch, Automaton, IsAutomaton, LeadsBelow, Node, node_of, Pair, Path, In, edges, pairs_from, span_len, degree, reads_byte, node_at, pattern_of, is_match, byte_at, target_on, space, Slots, Hit, Task, ExploresTo, ByteRange, BinaryUnion, Transition, Explore as ToExplore, Restore as ToRestore, marked_sum, repeated}
+use Rattle.nfa_paths.specs.Restarts.{AreUnset}
 use Rattle.thompson_nfa.specs.declared.state.State.{State}
-use Rattle.thompson_nfa.specs.declared.state.Transition.{Transition}
-use Rattle.nfa_paths.specs.Restarts.{GivesPath}
-use Rattle.nfa_paths.specs.Exploring.Task.{Explore as ToExplore, Restore as ToRestore}
-use Rattle.nfa_paths.specs.Turns.{marked_sum, repeated}
 use Rattle.nfa_scan_core.specs.FirstBytes.{IsFirstBytes}
 use Rattle.nfa_scan_core.specs.Marks.{Marks}
 use Rattle.nfa_backtrack_scan.specs.declared.frame.StatePos.{StatePos}
@@ -46,20 +41,14 @@ abbrev pub restoring : ℕ → Option ℕ → Frame
 restoring slot None = Clear slot
 restoring slot (Some offset) = Restore slot offset
 
--- the move to the place, if there is one
-abbrev pub move_to : Option StatePos → Move
-move_to None = DeadEnd
-move_to (Some place) = On place
-
 -- the turns that a frame still has to take
 abbrev pub frame_tries : Frame → ℕ
 frame_tries (Step sid at row) = 1
-frame_tries (Restore slot offset) = 0
-frame_tries (Clear slot) = 0
+frame_tries frame = 0
 
 -- if a frame writes a slot, its number is below `count`
 abbrev pub WritesSlot : ℕ → Frame → Type 0
-WritesSlot count (Step sid at row) = Unit {0}
+WritesSlot count (Step sid at row) = ⊤
 WritesSlot count (Restore slot offset) = slot < count
 WritesSlot count (Clear slot) = slot < count
 
@@ -75,20 +64,14 @@ AppliesFrame (Step sid at row) slots place after = (place ≡ Some (record { sid
 AppliesFrame (Restore slot offset) slots place after = (place ≡ None) × (after ≡ slice_set slots slot (Some offset))
 AppliesFrame (Clear slot) slots place after = (place ≡ None) × (after ≡ slice_set slots slot None)
 
--- the work with a place to search from, if there is one
-abbrev pub with_state_pos : Option StatePos → List Task → List Task
-with_state_pos None work = work
-with_state_pos (Some place) work = ToExplore (pair_of place) ∷ work
+-- a place to search from, if there is one, as work
+abbrev pub tasks_of : Option StatePos → List Task
+tasks_of None = []
+tasks_of (Some place) = ToExplore (pair_of place) ∷ []
 
--- the tries to mark that are due after a turn
-abbrev pub tries_of_state_pos : Option StatePos → ℕ
-tries_of_state_pos None = 0
-tries_of_state_pos (Some place) = 1
-
--- the outcome of a walk that is over
-abbrev pub outcome_of : Option HalfMatch → Outcome
-outcome_of None = Failed
-outcome_of (Some half) = Matched half
+-- starts of this state at `count` positions as work
+abbrev pub start_tasks : ℕ → ℕ → ℕ → List Task
+start_tasks state at count = map ToExplore (pairs_from state at count)
 
 -- The pair's state reads a byte, and the target is where the byte at the position leads, if it leads anywhere.
 pub record IsByteStep (nfa : Automaton) (x : Search) (v : Pair) (target : Option ℕ) : Type 0 where
@@ -125,16 +108,10 @@ module _ (nfa : Automaton) (x : Search) where
     pub to : place.at ≤ x.end
     pub row : place.row ≡ (place.at - x.start) * length nfa.states
 
-  -- the same of a place, if there is one
-  abbrev pub IsStatePosOr : Option StatePos → Type 0
-  IsStatePosOr None = Unit {0}
-  IsStatePosOr (Some place) = IsStatePos place
-
   -- a frame's place is in the span, and its slot is below `count`
   abbrev pub IsFrame : ℕ → Frame → Type 0
   IsFrame count (Step sid at row) = IsStatePos (record { sid = sid; at = at; row = row })
-  IsFrame count (Restore slot offset) = slot < count
-  IsFrame count (Clear slot) = slot < count
+  IsFrame count frame = WritesSlot count frame
 
   -- the bit of a pair: a row has a bit for each state, and there is a row for each position from the start on
   abbrev pub bit_of : Pair → ℕ
@@ -211,46 +188,92 @@ module _ (nfa : Automaton) (x : Search) where
   -- The result of turns from v on that meet no match: the search goes on at the place or, if there is none, with the
   -- frames of the stack.
   pub record TurnsLead (v : Pair) (place : Option StatePos) (old new : Walk) : Type 0 where
-    pub goes : IsStatePosOr place
-    pub paid : PaidFor old new (tries_of_state_pos place)
+    pub goes : IfSome place IsStatePos
+    pub paid : PaidFor old new (length (tasks_of place))
     pub follows : (work : List Task) → Carries old.marks (ToExplore v ∷ stacked old.stack work) old.slots new.marks
-        (with_state_pos place (stacked new.stack work)) new.slots
+        (tasks_of place ++ stacked new.stack work) new.slots
 
   -- the search of this work ends at a match: its state is one of the pattern, and its position is the end
-  pub record EndsAt (half : HalfMatch) (old : Walk) (work : List Task) (new : Walk) : Type 0 where
+  pub record EndsAt (half : HalfFound) (old : Walk) (work : List Task) (new : Walk) : Type 0 where
     pub state : ℕ
-    pub matches : pattern_of (node_at nfa state) ≡ Some (half_found_of half).pattern
-    pub ends : Ends old.marks work old.slots (Some ((state, (half_found_of half).offset), new.slots)) new.marks.turns
+    pub matches : pattern_of (node_at nfa state) ≡ Some half.pattern
+    pub ends : Ends old.marks work old.slots (Some ((state, half.offset), new.slots)) new.marks.turns
+
+  -- the search from v ends at a match, and the marks pay for its turns
+  abbrev pub Finds : Pair → HalfFound → Walk → Walk → Type 0
+  Finds v half old new =
+      PaidFor old new 0 × ((work : List Task) → EndsAt half old (ToExplore v ∷ stacked old.stack work) new)
 
   -- the result of a turn at v
   abbrev pub Goes : Pair → Move → Walk → Walk → Type 0
   Goes v (On place) old new = TurnsLead v (Some place) old new
   Goes v DeadEnd old new = TurnsLead v None old new
-  Goes v (Matched pattern) old new =
-      (pattern_of (node_at nfa v.0) ≡ Some (number_of pattern)) × PaidFor old new 0
-      × ((work : List Task) → Ends old.marks (ToExplore v ∷ stacked old.stack work) old.slots (Some (v, new.slots))
-      new.marks.turns)
+  Goes v (Matched pattern) old new = Finds v (record { pattern = number_of pattern; offset = v.1 }) old new
 
   -- the result of turns from v on and, if they lead nowhere, of the frames after them
   abbrev pub ComesTo : Pair → Outcome → Walk → Walk → Type 0
   ComesTo v (On place) old new = TurnsLead v (Some place) old new
-  ComesTo v (Matched half) old new =
-      PaidFor old new 0 × ((work : List Task) → EndsAt half old (ToExplore v ∷ stacked old.stack work) new)
+  ComesTo v (Matched half) old new = Finds v (half_found_of half) old new
   ComesTo v Failed old new = (new.stack ≡ []) × TurnsLead v None old new
 
-  -- the result of the search from all starts, in this number of turns
-  abbrev pub StartsGive : Option HalfMatch → Slots → ℕ → Type 0
-  StartsGive None slots turns = IsScanAnswer nfa x LeftmostFirst false None
-  StartsGive (Some half) slots turns = GivesPath nfa LeftmostFirst false x half slots turns
+  -- A walk from v goes on at the place, and the marks pay for the tries. The slot that was written, if any, is restored
+  -- before other work, but need not be before later starts of v's state.
+  pub record BeginsAt (v : Pair) (place : StatePos) (old new : Walk) : Type 0 where
+    pub is_place : IsStatePos place
+    pub restores : List Task
+    pub follows : (work : List Task)
+        → Carries old.marks (ToExplore v ∷ work) old.slots new.marks (ToExplore (pair_of place) ∷ restores ++ work)
+        new.slots
+    pub needless : (marks : Marks) (slots : Slots) (at count : ℕ)
+        → Carries marks (restores ++ start_tasks v.0 at count) slots marks (start_tasks v.0 at count) slots
+    pub spent : new.marks.turns + marked_sum weights old.marks.bits
+        ≤ old.marks.turns + marked_sum weights new.marks.bits
+
+  -- Nothing was found at v, and the marks pay for the tries. The slots are as later starts of this state may find them:
+  -- each writes what the first turn at v wrote.
+  pub record StartFails (v : Pair) (old new : Walk) : Type 0 where
+    pub empty : new.stack ≡ []
+    pub follows : (at count : ℕ) → Carries old.marks (ToExplore v ∷ start_tasks v.0 at count) old.slots new.marks
+        (start_tasks v.0 at count) new.slots
+    pub spent : new.marks.turns + marked_sum weights old.marks.bits
+        ≤ old.marks.turns + 1 + marked_sum weights new.marks.bits
+
+  -- the result of the first turn, if one was taken
+  abbrev pub Begins : Pair → Option StatePos → Walk → Walk → Type 0
+  Begins v None old new = StartFails v old new
+  Begins v (Some place) old new = BeginsAt v place old new
+
+  -- the result of a walk from a start v
+  abbrev pub StartGives : Pair → Option HalfMatch → Walk → Walk → Type 0
+  StartGives v None old new = StartFails v old new
+  StartGives v (Some half) old new = (work : List Task) → EndsAt (half_found_of half) old (ToExplore v ∷ work) new
+
+  -- no path leads from the pair to a match
+  abbrev pub IsDeadEnd : Pair → Type 0
+  IsDeadEnd v = (p : List Pair) → Path (edges nfa x) (is_match nfa) v p → ⊥
+
+  -- The answer with the second work is one with the first.
+  abbrev pub HasAnswersOf : List Task → List Task → Type 0
+  HasAnswersOf work shorter =
+      (left : ℕ) (pairs : List Pair) (slots : Slots) (g : Hit)
+      → ExploresTo (space nfa x) (is_match nfa) left None pairs shorter slots g
+      → ExploresTo (space nfa x) (is_match nfa) left None pairs work slots g
+
+  -- Frames were pushed for the alternatives at the place, the earliest on top, but for some that lead nowhere.
+  pub record PushesLive (place : StatePos) (alternates : List ℕ) (stack after : List Frame) : Type 0 where
+    pub within : (count : ℕ) → All (IsFrame count) stack → All (IsFrame count) after
+    pub tried : sum_by frame_tries after ≤ sum_by frame_tries stack + length alternates
+    pub follows : (work : List Task)
+        → HasAnswersOf (map ToExplore (map (λ s. (s, place.at)) alternates) ++ stacked stack work) (stacked after work)
 
 -- Frames were applied, down to a place to search from or all of them: what is left of any search is the same.
 pub record Resumes (stack : List Frame) (old : Slots) (place : Option StatePos) (left : List Frame) (new : Slots)
     : Type 0 where
-  pub tried : sum_by frame_tries left + tries_of_state_pos place ≡ sum_by frame_tries stack
+  pub tried : sum_by frame_tries left + length (tasks_of place) ≡ sum_by frame_tries stack
   pub within : (nfa : Automaton) (x : Search) → All (IsFrame nfa x (length old)) stack
-      → All (IsFrame nfa x (length new)) left × IsStatePosOr nfa x place
+      → All (IsFrame nfa x (length new)) left × IfSome place (IsStatePos nfa x)
   pub follows : (nfa : Automaton) (x : Search) (marks : Marks) (work : List Task)
-      → Carries nfa x marks (stacked stack work) old marks (with_state_pos place (stacked left work)) new
+      → Carries nfa x marks (stacked stack work) old marks (tasks_of place ++ stacked left work) new
 
 -- A loop over one byte may run: the place is that of its byte state, and there is room for the marks.
 pub record MayLoop (nfa : Automaton) (x : Search) (body : StatePos) (exit : ℕ) (trans : Transition) (bits : List Bool)
@@ -258,14 +281,6 @@ pub record MayLoop (nfa : Automaton) (x : Search) (body : StatePos) (exit : ℕ)
   pub state : IsByteLoop nfa body.sid exit trans
   pub is_place : IsStatePos nfa x body
   pub room : HasBits nfa x bits
-
--- A turn may be taken at the place: the states are those of the NFA, and the frames are of this search.
-pub record MayStep (nfa : Automaton) (states : List State) (x : Search) (place : StatePos) (walk : Walk) : Type 0 where
-  pub states_are : map node_of states ≡ nfa.states
-  pub valid : IsAutomaton nfa
-  pub is_place : IsStatePos nfa x place
-  pub room : HasBits nfa x walk.marks.bits
-  pub within : HasFrames nfa x walk
 
 -- A walk may go on from the place: there is room for the marks, and no frame waits.
 pub record MayWalk (nfa : Automaton) (x : Search) (place : StatePos) (walk : Walk) : Type 0 where
@@ -280,4 +295,12 @@ pub record MayTryStarts (nfa : Automaton) (table : List Bool) (x : Search) (walk
   pub room : HasBits nfa x walk.marks.bits
   pub clear : walk.marks.bits ≡ replicate (length walk.marks.bits) false
   pub empty : walk.stack ≡ []
-  pub unset : walk.slots ≡ replicate (length walk.slots) None
+  pub unset : AreUnset walk.slots
+
+-- A turn may be taken at the place: the states are those of the NFA, and the frames are of this search.
+pub record MayStep (nfa : Automaton) (states : List State) (x : Search) (place : StatePos) (walk : Walk) : Type 0 where
+  pub states_are : map node_of states ≡ nfa.states
+  pub valid : IsAutomaton nfa
+  pub is_place : IsStatePos nfa x place
+  pub room : HasBits nfa x walk.marks.bits
+  pub within : HasFrames nfa x walk

@@ -2,9 +2,8 @@
 ghost use Rattle.std.specs.Prelude.{◌≡◌, ℕ, ◌<◌, ◌∷◌, true, List, length, drop, All, OnOk};
 ghost use Rattle.regex_search_core.specs.Search.{Search};
 ghost use Rattle.nfa_paths.specs.Paths.{byte_at};
-ghost use Rattle.nfa_backtrack_scan.specs.Walk.{IsStatePos};
+ghost use Rattle.nfa_backtrack_scan.specs.Walk.{IsDeadEnd, IsStatePos, PushesLive};
 ghost use Rattle.nfa_backtrack_scan.specs.declared.frame.Frame.{Frame};
-ghost use Rattle.nfa_backtrack_scan.specs.Alternates.{IsDeadEnd, PushesLive};
 
 use crate::frame::{Frame, StatePos};
 use nfa_scan_core::transitions::range_target;
@@ -13,6 +12,7 @@ use thompson_nfa::{NFA, State};
 
 /// Returns whether the state reads one range of bytes, which does not have this byte.
 #[inline(always)]
+#[tactic(auto, using(crate::proofs::AlternateLemmas::dead_ends))]
 fn refuses_byte(nfa: &NFA, sid: StateID, byte: Option<u8>) -> bool
     requires { sid < length nfa.now.states }
     ensures { result ≡ true → (x : Search) (at : ℕ) → byte ≡ byte_at x at → IsDeadEnd nfa.now x (sid, at) }
@@ -28,6 +28,7 @@ fn refuses_byte(nfa: &NFA, sid: StateID, byte: Option<u8>) -> bool
 
 /// Returns whether the byte leads nowhere from the state: the state, or the one after a `Capture`, refuses it.
 #[inline(always)]
+#[tactic(auto, using(crate::proofs::AlternateLemmas::dead_ends))]
 fn is_dead_end(nfa: &NFA, sid: StateID, byte: Option<u8>) -> bool
     requires { sid < length nfa.now.states }
     ensures { result ≡ true → (x : Search) (at : ℕ) → byte ≡ byte_at x at → IsDeadEnd nfa.now x (sid, at) }

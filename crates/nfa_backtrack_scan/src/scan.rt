@@ -1,12 +1,12 @@
 //! A scan: a walk from each start in turn, with the marks kept.
 ghost use Rattle.std.specs.Prelude.{◌≡◌, ◌+◌, ◌-◌, ◌*◌, ◌^◌, ◌<◌, ◌≤◌, [], None, false, length, replicate, IfOk, OnErr};
-ghost use Rattle.std.specs.Prelude.{OnOk};
+ghost use Rattle.std.specs.Prelude.{MatchOption, OnOk};
 ghost use Rattle.regex_search_core.specs.Search.{search_of};
 ghost use Rattle.regex_search_core.specs.declared.search.MatchKind.TheVariants.{LeftmostFirst};
-ghost use Rattle.nfa_paths.specs.Paths.{span_len, start_count};
-ghost use Rattle.nfa_paths.specs.Restarts.{max_scan_turns, ScanGives};
+ghost use Rattle.nfa_paths.specs.Paths.{span_len, start_count, IsScanAnswer};
+ghost use Rattle.nfa_paths.specs.Restarts.{max_scan_turns, GivesPath, ScanGives};
 ghost use Rattle.nfa_scan_core.specs.FirstBytes.{IsFirstBytes, IsRefused};
-ghost use Rattle.nfa_backtrack_scan.specs.Walk.{pair_of, walk_of, HasBits, IsStatePos, MayTryStarts, StartsGive};
+ghost use Rattle.nfa_backtrack_scan.specs.Walk.{pair_of, walk_of, HasBits, IsStatePos, MayTryStarts};
 
 use crate::frame::StatePos;
 use crate::scratch::Scratch;
@@ -60,6 +60,7 @@ fn state_pos_at(
 }
 
 /// Searches from each start in turn that is not skipped for its byte, with the marks kept.
+#[tactic(auto, using(crate::proofs::ScanLemmas::turn_bounds))]
 fn try_starts(
     nfa: &NFA,
     first: &FirstBytes,
@@ -72,8 +73,10 @@ fn try_starts(
     ensures size { length scratch.new.visited.bits ≡ length scratch.old.visited.bits }
     ensures turns { scratch.new.visited.turns ≤ scratch.old.visited.turns + max_scan_turns nfa.now
         (search_of input.now) }
-    ensures answer { IfOk result (λ half. StartsGive nfa.now (search_of input.now) half slots.new
-        (scratch.new.visited.turns - scratch.old.visited.turns)) }
+    ensures answer { let x = search_of input.now in IfOk result (λ found.
+        MatchOption found (IsScanAnswer nfa.now x LeftmostFirst false None)
+        (λ half. GivesPath nfa.now LeftmostFirst false x half slots.new
+        (scratch.new.visited.turns - scratch.old.visited.turns))) }
     ensures over { OnOk result (scratch.new.stack.items ≡ []) }
 {
     if input.is_done() {

@@ -24,6 +24,7 @@ pub fn state_at<'a>(nfa: &NFA, states: &'a [State], sid: StateID) -> &'a State
 
 /// Tries to mark the place, and returns whether it was unmarked. This is one turn.
 #[inline(always)]
+#[tactic(auto, using(crate::proofs::StepLemmas::bit_of_place))]
 pub fn mark(nfa: &NFA, input: &Input<'_>, place: StatePos, visited: &mut Visited) -> bool
     requires place { IsStatePos nfa.now (search_of input.now) place }
     requires room { HasBits nfa.now (search_of input.now) visited.old.bits }

@@ -35,6 +35,7 @@ impl Model for Visited {
 
 impl Visited {
     /// Makes a table without marks. Does not allocate.
+    #[tactic(auto, using(crate::proofs::BitLemmas::bit_steps))]
     pub fn new(alloc: Global) -> Visited
         ensures { result ≡ record { bits = []; turns = 0 } }
     {
@@ -57,6 +58,7 @@ impl Visited {
     }
 
     /// Returns the number of blocks.
+    #[tactic(auto, using(crate::proofs::BitLemmas::bit_steps))]
     pub fn block_len(&self) -> usize
         ensures { result ≡ length self.now.bits / 64 }
     {
@@ -64,6 +66,7 @@ impl Visited {
     }
 
     /// Removes all blocks. The memory is kept for the next search.
+    #[tactic(auto, using(crate::proofs::BitLemmas::bit_steps))]
     pub fn reset(&mut self)
         ensures { self.new ≡ record self.old { bits = [] } }
     {
@@ -80,6 +83,7 @@ impl Visited {
     }
 
     /// Makes room for this number of marks. Fails only if it has to allocate.
+    #[tactic(auto, using(crate::proofs::BitLemmas::bit_steps))]
     pub fn reserve(&mut self, bits: usize) -> Result<(), Refused>
         ensures granted { bits ≤ length self.old.bits → IsOk result }
         ensures turns { self.new.turns ≡ self.old.turns }
@@ -113,6 +117,7 @@ impl Visited {
 
     /// Sets the mark, and returns whether it was unset. This is one turn.
     #[inline(always)]
+    #[tactic(auto, using(crate::proofs::BitLemmas::bit_steps))]
     pub fn insert(&mut self, bit: usize) -> bool
         requires { bit < length self.old.bits }
         ensures turns { self.new.turns ≡ self.old.turns + 1 }

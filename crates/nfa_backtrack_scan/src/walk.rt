@@ -1,13 +1,15 @@
 //! A walk: the search from one start, turn by turn, which skips marked pairs.
 ghost use Rattle.std.specs.Prelude.{◌≡◌, ◌+◌, ◌<◌, ◌≤◌, [], ◌∷◌, ◌++◌, None, Some, length};
 ghost use Rattle.std.specs.Prelude.{slice_index_or, slice_set, sum, All, IfOk, OnErr, OnOk};
+ghost use Rattle.std.specs.Option.{option_map_or};
 ghost use Rattle.regex_search_core.specs.Search.{search_of};
 ghost use Rattle.thompson_nfa.specs.Looks.{look_holds};
-ghost use Rattle.nfa_paths.specs.Turns.{marked_sum};
-ghost use Rattle.nfa_backtrack_scan.specs.Begin.{without_frames, Begins, StartGives};
-ghost use Rattle.nfa_backtrack_scan.specs.Walk.{move_to, outcome_of, pair_of, restoring, walk_of, weights};
-ghost use Rattle.nfa_backtrack_scan.specs.Walk.{AppliesFrame, ComesTo, Goes, HasBits, IsAfforded, IsStatePos, MayStep};
-ghost use Rattle.nfa_backtrack_scan.specs.Walk.{MayWalk, Resumes, WritesSlot};
+ghost use Rattle.nfa_paths.specs.Restarts.{marked_sum};
+ghost use Rattle.nfa_backtrack_scan.specs.Walk.{pair_of, restoring, walk_of, weights, AppliesFrame, Begins, ComesTo};
+ghost use Rattle.nfa_backtrack_scan.specs.Walk.{Goes, HasBits, IsAfforded, IsStatePos, MayStep, MayWalk, Resumes, StartGives};
+ghost use Rattle.nfa_backtrack_scan.specs.Walk.{WritesSlot};
+ghost use Rattle.nfa_backtrack_scan.specs.declared.walk.Move.TheVariants.{On, DeadEnd};
+ghost use Rattle.nfa_backtrack_scan.specs.declared.walk.Outcome.TheVariants.{Matched, Failed};
 
 use crate::alternates::push_alternates;
 use crate::byte_loop::{byte_loop_at, run_loop};
@@ -43,7 +45,7 @@ pub enum Outcome {
 /// Returns the move to the place, if there is one.
 #[inline(always)]
 fn move_to(next: Option<StatePos>) -> Move
-    ensures { result ≡ move_to next }
+    ensures { result ≡ option_map_or On next DeadEnd }
 {
     match next {
         Some(place) => Move::On(place),
@@ -103,6 +105,7 @@ fn push_restore(
 
 /// Takes one turn, or the turns of a loop over one byte: tries to mark the place, and returns where it leads.
 #[inline(always)]
+#[tactic(auto, using(crate::proofs::StepLemmas::same_size))]
 fn step(
     nfa: &NFA,
     states: &[State],
@@ -288,7 +291,8 @@ fn begin(
     requires room { HasBits nfa.now (search_of input.now) visited.old.bits }
     ensures size { length visited.new.bits ≡ length visited.old.bits }
     ensures begins { Begins nfa.now (search_of input.now) (pair_of place) result
-        (without_frames visited.old slots.old) (without_frames visited.new slots.new) }
+        record { stack = []; marks = visited.old; slots = slots.old }
+        record { stack = []; marks = visited.new; slots = slots.new } }
 {
     match state_at(nfa, nfa.states(), place.sid) {
         State::Capture { next, slot } => {
@@ -350,8 +354,8 @@ fn walk_on(
     ensures size { length scratch.new.visited.bits ≡ length scratch.old.visited.bits }
     ensures bounded { scratch.new.visited.turns + marked_sum (weights nfa.now (search_of input.now))
         scratch.old.visited.bits ≤ scratch.old.visited.turns + 1 + sum (weights nfa.now (search_of input.now)) }
-    ensures walks { IfOk result (λ half. ComesTo nfa.now (search_of input.now) (pair_of start) (outcome_of half)
-        (walk_of scratch.old slots.old) (walk_of scratch.new slots.new)) }
+    ensures walks { IfOk result (λ half. ComesTo nfa.now (search_of input.now) (pair_of start)
+        (option_map_or Matched half Failed) (walk_of scratch.old slots.old) (walk_of scratch.new slots.new)) }
 {
     // Both are read at each place. As local values they need not be read again after each write, as values behind a
     // reference would.

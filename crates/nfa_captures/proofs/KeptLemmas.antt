@@ -1,11 +1,5 @@
 -- An NFA with fewer captures has the same ways, and the slots that are kept are the same.
-use Rattle.std.proofs.Common.{◌≡◌, ◌∙◌, ℕ, zero, suc, ◌+◌, ◌*◌, ◌≤◌, ◌<◌, ◌==◌, inl, inr, false, List, [], ◌∷◌, ap, arith, length, map, ne_eqb, refl, replicate, sym, Option, None, Some, nat_lt, option_and_then, slice_index_or}
-use Rattle.std.specs.List.{range_with_len, sum_by}
-use Rattle.std.specs.Option.{option_map_or}
-use Rattle.std.proofs.lemmas.Bool.{cases_Bool, cases_lt, le-ltb, lt-ltb}
-use Rattle.std.proofs.lemmas.List.{length-replicate}
-use Rattle.nfa_paths.specs.Common.{slot_count, Search, match_of, Automaton, Node, IsAutomaton, Pair, capture, edges_of, node_at, path_pattern, pattern_of, slot_among, slot_of, slot_row}
-use Rattle.thompson_nfa.specs.Automaton.Node.{Capture, Fail}
+use Rattle.nfa_paths.proofs.Common.{◌≡◌, ◌∙◌, ℕ, zero, suc, ◌+◌, ◌*◌, ◌≤◌, ◌<◌, ◌==◌, inl, inr, false, List, [], ◌∷◌, ap, arith, length, map, ne_eqb, refl, replicate, sym, Option, None, Some, nat_lt, option_and_then, slice_index_or, range_with_len, sum_by, option_map_or, cases_Bool, cases_lt, le-ltb, lt-ltb, length-replicate, slot_count, Search, match_of, Automaton, Node, IsAutomaton, Pair, capture, edges_of, node_at, path_pattern, pattern_of, slot_among, slot_of, slot_row, Capture, Fail}
 use Rattle.nfa_paths.proofs.PatternLemmas.{length-slot_row, match-along-path}
 use Rattle.nfa_captures.specs.Kept.{kept_node, with_groups}
 use Rattle.nfa_captures.proofs.WaysLemmas.{HaveSameWays, pattern-same}

@@ -1,7 +1,6 @@
 -- Two NFAs with the same edges, starts and matches make the same of a set of patterns.
-use Rattle.std.proofs.Common.{◌≡◌, ◌∙◌, ℕ, inl, inr, Bool, true, false, List, length, subst, Option, None, Some, is_some}
-use Rattle.nfa_paths.specs.Common.{Search, MatchKind, Automaton, Pair, WantedAt, IsEnd, IsFirstTo, IsLeastEnd, NoPath, IsReached, WantedBefore, Gains, HoldsPath, IsFirstBefore, IsInsertable, IsOverlapResult, IsPatternOf, IsPermitted, IsSelectedByAll, IsSelectedPath, pattern_at, edges, starts}
-use Rattle.regex_search_core.specs.declared.search.MatchKind.TheVariants.{All, LeftmostFirst}
+use Rattle.nfa_paths.proofs.Common.{◌≡◌, ◌∙◌, ℕ, inl, inr, Bool, true, false, List, length, subst, Option, None, Some, is_some, Search, MatchKind, Automaton, Pair, WantedAt, IsEnd, IsFirstTo, IsLeastEnd, NoPath, IsReached, WantedBefore, Gains, HoldsPath, IsFirstBefore, IsInsertable, IsOverlapResult, IsPatternOf, IsPermitted, IsSelectedByAll, IsSelectedPath, pattern_at, edges, starts, LeftmostFirst}
+use Rattle.regex_search_core.specs.declared.search.MatchKind.TheVariants.{All}
 use Rattle.nfa_paths.proofs.PathToLemmas.{IsFirstTo-along}
 use Rattle.nfa_paths.proofs.ReachedLemmas.{IsReached-along}
 use Rattle.nfa_captures.proofs.WaysLemmas.{HaveSameWays, back, carried, pattern-same}

@@ -1,11 +1,5 @@
 -- An NFA with fewer captures is one that `NFA::from_states` accepts.
-use Rattle.std.proofs.Common.{◌≡◌, ◌∙◌, ℕ, ◌<◌, inl, inr, List, [], ◌∷◌, ap, length, map, refl, subst, sym, All, Option, None, nat_lt, slice_index_or}
-use Rattle.std.proofs.lemmas.Bool.{cases_Bool, cases_lt, le-ltb, lt-ltb}
-use Rattle.std.proofs.lemmas.List.{length-map, length-replicate}
-use Rattle.std.proofs.lemmas.List.Elements.{All-cons, All-head, All-map, All-nil, All-tail}
-use Rattle.nfa_paths.specs.Common.{slot_count, Automaton, IsAutomaton, LeadsBelow, Node, PatternBelow, SlotBelow}
-use Rattle.thompson_nfa.specs.Automaton.{AreGroupsOfPatterns}
-use Rattle.thompson_nfa.specs.Automaton.Node.{Capture}
+use Rattle.nfa_paths.proofs.Common.{◌≡◌, ◌∙◌, ℕ, ◌<◌, inl, inr, List, [], ◌∷◌, ap, length, map, refl, subst, sym, All, Option, nat_lt, slice_index_or, cases_Bool, cases_lt, le-ltb, lt-ltb, length-map, length-replicate, All-cons, All-head, All-map, All-nil, All-tail, slot_count, Automaton, IsAutomaton, LeadsBelow, Node, PatternBelow, SlotBelow, AreGroupsOfPatterns, Capture}
 use Rattle.nfa_captures.specs.Kept.{kept_groups, kept_node, with_captures, with_groups}
 use Rattle.nfa_captures.specs.declared.which.WhichCaptures.{WhichCaptures}
 use Rattle.nfa_captures.specs.declared.which.WhichCaptures.TheVariants as which

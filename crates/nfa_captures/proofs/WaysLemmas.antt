@@ -1,6 +1,5 @@
 -- Two NFAs with the same edges, starts and matches have the same answers.
-use Rattle.std.proofs.Common.{◌≡◌, ◌∙◌, ℕ, Bool, List, ap, length, refl, subst, sym, Option, is_some, option_and_then, option_map}
-use Rattle.nfa_paths.specs.Common.{Found, HalfFound, slot_count, Search, match_of, MatchKind, Automaton, Pair, pattern_at, edges, is_utf8_empty, last_of, path_half, path_pattern, slot_row, starts, IsAnswer, IsBoolAnswer, IsFindAnswer, IsHalfAnswer}
+use Rattle.nfa_paths.proofs.Common.{◌≡◌, ◌∙◌, ℕ, Bool, List, ap, length, refl, subst, sym, Option, is_some, option_and_then, option_map, Found, HalfFound, slot_count, Search, match_of, MatchKind, Automaton, Pair, pattern_at, edges, is_utf8_empty, last_of, path_half, path_pattern, slot_row, starts, IsAnswer, IsBoolAnswer, IsFindAnswer, IsHalfAnswer}
 use Rattle.nfa_paths.proofs.SameScanLemmas.{found-carried, scan-alike, search-carried, ScansCarry}
 
 -- the two NFAs differ only in what their paths write

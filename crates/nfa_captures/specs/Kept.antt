@@ -1,7 +1,6 @@
 -- An NFA with fewer captures.
 use Rattle.std.specs.Prelude.{ℕ, List, [], ◌∷◌, Option, length, map, nat_lt, replicate, if◌then◌else◌}
-use Rattle.nfa_paths.specs.Common.{slot_count, Automaton, Node}
-use Rattle.thompson_nfa.specs.Automaton.Node.{Capture, Union}
+use Rattle.nfa_paths.specs.Common.{slot_count, Automaton, Node, Capture, Union}
 use Rattle.nfa_captures.specs.declared.which.WhichCaptures.{WhichCaptures}
 use Rattle.nfa_captures.specs.declared.which.WhichCaptures.TheVariants as which
 

@@ -1,18 +1,8 @@
 -- Iterators over captures that search with a choice, or with an engine that shows itself as one: when they may search,
 -- and what they give and keep.
-use Rattle.std.proofs.Common.{◌≡◌, ◌⊎◌, Bool, false, None, Option, Result, IfErr, IfOk, List, refl, replicate, subst, map, All}
-use Rattle.std.proofs.lemmas.Result.{IfErr-weaker}
-use Rattle.nfa_paths.specs.Common.{Search, Captured, slot_count}
-use Rattle.nfa_search_base.specs.CapturesGiven.{CapturesGiven}
-use Rattle.nfa_search_base.specs.WithCaptures.{WithCaptures, GivesCaptures, Row, row_of, row_span}
-use Rattle.nfa_search_base.specs.CapturesLists.{HasGroups, AnswersRow, AreRows}
-use Rattle.nfa_search_base.specs.CapturesRuns.{CapturesInside, CapturesMemory, match_in}
-use Rattle.nfa_search_base.specs.Drained.{CallsLead, DrainsAll, DrainsToError}
-use Rattle.nfa_search_base.specs.Lists.{AreDisjoint, AreMatches}
-use Rattle.nfa_search_base.specs.WithCache.{WithCache, with_cache}
-use Rattle.nfa_search_base.specs.StepsWith.{GivesStepsWith, StepsWith, TakesStepWith, steps_with_state, steps_with_iter_state}
-use Rattle.nfa_search_base.specs.Stored.{can_step, steps_iter_state, takes_steps}
-use Rattle.nfa_search_base.specs.IterStates.{AnswerIsInside, fresh}
+use Rattle.nfa_paths.proofs.Common.{◌≡◌, ◌⊎◌, Bool, false, None, Option, Result, IfErr, IfOk, refl, replicate, subst, map, All, IfErr-weaker, Search, Captured, slot_count}
+use Rattle.std.specs.Global.{Vec}
+use Rattle.nfa_search_base.specs.Common.{CapturesGiven, WithCaptures, GivesCaptures, Row, row_of, row_span, HasGroups, AnswersRow, CapturesInside, CapturesMemory, CallsLead, DrainsAll, DrainsToError, WithCache, with_cache, GivesStepsWith, StepsWith, TakesStepWith, steps_with_state, steps_iter_state, can_step, takes_steps, AnswerIsInside, fresh}
 use Rattle.nfa_search_base.specs.declared.error.SearchError.{SearchError}
 use Rattle.nfa_search_base.specs.declared.error.SearchError.TheVariants.{Memory}
 use Rattle.nfa_search_base.specs.declared.iter.steps.Steps.{Steps}
@@ -20,12 +10,12 @@ use Rattle.nfa_search_base.proofs.CapturesLemmas.{row-lies}
 use Rattle.nfa_search_base.proofs.CapturesRunLemmas.{RowsOf, captures-given, captures-memory}
 use Rattle.nfa_search_base.proofs.DrainedLemmas.{all-captures, calls-cache, error-captures, made-holds}
 use Rattle.nfa_search_base.proofs.EngineLemmas.{KeptBy, SearchesAs, SearchesOf, calls-kept, searches-serve, step-may}
-use Rattle.nfa_search_base.proofs.ItemLemmas.{ItemsOf, copies_of}
+use Rattle.nfa_search_base.proofs.ItemLemmas.{ItemsOf, copies_of, ShellOf, plain_shell, steps_in}
 use Rattle.nfa_search_base.proofs.LeavingLemmas.{all-to_end, shell-leaves, steps-leave}
 use Rattle.nfa_search_base.proofs.RunLemmas.{Begins}
-use Rattle.nfa_search_base.proofs.ShellLemmas.{ShellOf, plain_shell, steps_in}
 use Rattle.nfa_pikevm.specs.Engines.{Pike, kind_of}
 use Rattle.nfa_pikevm.specs.Finding.{PikeAnswersRow}
+use Rattle.nfa_choice.specs.Answered.{ListsCaptures}
 use Rattle.nfa_choice.specs.ChoiceState.{ChoiceState, KeepsEngines, kind_in, pike_of}
 use Rattle.nfa_choice.specs.Iterations.{AsksRowBy, CapturesLead, CapturesNextBy, CapturesOn, CapturesToEnd, MayFillCaptures, SearchesBy}
 use Rattle.nfa_choice.proofs.FindLemmas.{keeps-self, keeps-then, pike-kept}
@@ -100,7 +90,7 @@ module _ (Runs : Search → ChoiceState → ChoiceState → Type 0) where
     captures-stay-kept = calls-kept captures_kept shell
 
     -- It begins at x.
-    module _ (x : Search) (s : T) (iter_state : steps_with_iter_state (steps s) ≡ fresh x)
+    module _ (x : Search) (s : T) (iter_state : steps_iter_state (steps s).steps ≡ fresh x)
         (going : (steps s).steps.done ≡ false) where
       begins : Begins (SearchesAs fills (pike_of (steps s).cache.now)) x (steps_with_state (steps s))
       begins = record { iter_state = iter_state; going = going; good = refl }
@@ -146,34 +136,28 @@ module _ (Runs : Search → ChoiceState → ChoiceState → Type 0) where
     Calls = takes_steps row_span (AsksRowBy Runs) (λ q. GivesCaptures q.backend)
 
     -- What the calls that made the list leave, and its items.
-    pub all-caught : {V : Type 0} (r : Result V SearchError) (items : V → List Captured) {left : Steps Capturing}
+    pub all-caught : (r : Result (Vec Captured) SearchError) {left : Steps Capturing}
         → record {
-          all : IfOk r (λ v. DrainsAll Calls (with_cache steps c) (items v) left);
+          all : IfOk r (λ v. DrainsAll Calls (with_cache steps c) v.items left);
           errors : IfErr r (λ e. (e ≡ Memory) ⊎ DrainsToError Calls (with_cache steps c) e left);
           calls : CallsLead Calls (with_cache steps c) left;
         } → record {
           memory : IfErr r (λ e. e ≡ Memory);
-          rows : IfOk r (λ v. AreRows c.nfa (kind_in c) x.earliest x (map row_of (items v)));
-          matches : IfOk r (λ v. AreMatches c.nfa (kind_in c) x.earliest x (map match_in (items v)));
-          groups : IfOk r (λ v. All (HasGroups c.nfa) (items v));
-          inside : IfOk r (λ v. All (CapturesInside x) (items v));
-          disjoint : IfOk r (λ v. AreDisjoint x None (map match_in (items v)));
+          lists : ListsCaptures c x r;
+          inside : IfOk r (λ v. All (CapturesInside x) v.items);
           keeps : KeepsEngines c left.backend.cache;
           searches : CapturesOn Runs x c left.backend.cache;
-          to_end : IfOk r (λ v. CapturesToEnd Runs x (map row_of (items v)) c left.backend.cache);
+          to_end : IfOk r (λ v. CapturesToEnd Runs x (map row_of v.items) c left.backend.cache);
         }
-    all-caught r items {left} given =
-        let rows = all-captures (rows_of c x) begun made-may r items left given.all in
+    all-caught r {left} given =
+        let rows = all-captures (rows_of c x) begun made-may r (λ v. v.items) left given.all in
         record {
           memory = IfErr-weaker r _ _
               (λ error h. error-captures (rows_of c x) begun (λ t e from to never. absurd never) error left h)
               given.errors;
-          rows = rows.0;
-          matches = rows.1;
-          groups = rows.2;
+          lists = record { rows = rows.0; matches = rows.1; groups = rows.2; disjoint = rows.4 };
           inside = rows.3;
-          disjoint = rows.4;
           keeps = calls-cache captures_kept copies (with_cache steps c) left given.calls;
           searches = steps-leave fills copies (pike_of c) begun left given.calls;
-          to_end = all-to_end fills copies (pike_of c) begun r items left given.all;
+          to_end = all-to_end fills copies (pike_of c) begun r (λ v. v.items) left given.all;
         }

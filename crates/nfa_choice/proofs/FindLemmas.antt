@@ -1,31 +1,19 @@
 -- Iterators over matches that search with a choice, or with an engine that shows itself as one: when they may search,
 -- and what they give and keep.
-use Rattle.std.proofs.Common.{◌≡◌, ◌∙◌, Bool, false, List, None, Ok, Option, Result, map, refl, subst}
+use Rattle.nfa_paths.proofs.Common.{◌≡◌, Bool, false, List, None, Ok, Option, Result, map, refl, rules, subst, Found, found_of, Search, Match}
 use Rattle.std.specs.Iterator.{Yields}
-use Rattle.nfa_paths.specs.Common.{Found, found_of, Search, Match}
-use Rattle.nfa_search_base.specs.Asking.{SameButStart}
-use Rattle.nfa_search_base.specs.WithCache.{WithCache}
-use Rattle.nfa_search_base.specs.StepsWith.{GivesStepsWith, StepsWith, TakesStepWith, steps_with_state, steps_with_iter_state}
-use Rattle.nfa_search_base.specs.Lists.{AnswersMatch}
-use Rattle.nfa_search_base.specs.Runs.{GivesKept}
-use Rattle.nfa_search_base.specs.Serving.{may_ask}
-use Rattle.nfa_search_base.specs.Steps.{GivesItem}
-use Rattle.nfa_search_base.specs.Stored.{steps_iter_state, can_step_infallibly, takes_steps}
-use Rattle.nfa_search_base.specs.IterStates.{Answer, fresh, span_of, IsInfalliblyInside}
+use Rattle.nfa_search_base.specs.Common.{SameButStart, WithCache, GivesStepsWith, StepsWith, TakesStepWith, steps_with_state, steps_iter_state, AnswersMatch, GivesKept, may_ask, GivesItem, can_step_infallibly, takes_steps, Answer, fresh, span_of, IsInfalliblyInside}
 use Rattle.nfa_search_base.specs.declared.error.SearchError.{SearchError}
 use Rattle.nfa_search_base.specs.declared.iter.steps.Steps.{Steps}
 use Rattle.nfa_search_base.proofs.EngineLemmas.{KeptBy, SearchesAs, SearchesOf, answers_as, calls-kept, find-lies, searches-serve, step-may}
-use Rattle.nfa_search_base.proofs.ItemLemmas.{ItemsOf, items_as}
+use Rattle.nfa_search_base.proofs.ItemLemmas.{ItemsOf, items_as, ShellOf, steps_in}
 use Rattle.nfa_search_base.proofs.LeavingLemmas.{shell-leaves, shell-to_end}
 use Rattle.nfa_search_base.proofs.MatchRunLemmas.{MatchesGiven, matches-given}
 use Rattle.nfa_search_base.proofs.RunLemmas.{AnswersOf, Begins}
-use Rattle.nfa_search_base.proofs.ShellLemmas.{ShellOf, steps_in}
 use Rattle.nfa_pikevm.specs.Engines.{Pike, kind_of}
 use Rattle.nfa_pikevm.specs.Finding.{PikeAnswersMatch}
-use Rattle.nfa_engines.proofs.LoopLemmas.{sizes-none, sizes-two}
 use Rattle.nfa_choice.specs.ChoiceState.{ChoiceState, KeepsEngines, SearchedByRule, kind_in, pike_of}
-use Rattle.nfa_choice.specs.Iterations.{FindsBy, FindsNextBy, FindsOn, FindsToEnd, TellsMatch}
-use Rattle.nfa_choice.specs.Matches.{AsksByRule}
+use Rattle.nfa_choice.specs.Iterations.{AsksByRule, FindsBy, FindsNextBy, FindsOn, FindsToEnd, TellsMatch}
 use Rattle.nfa_choice.specs.declared.choose.find_iter.ByRule.{ByRule}
 
 -- ---- what stays
@@ -35,15 +23,10 @@ pub pike-kept : (c d : ChoiceState) → KeepsEngines c d → pike_of d ≡ pike_
 pike-kept c d keeps = rw (keeps.nfa, keeps.match_kind) refl
 
 pub keeps-self : (c : ChoiceState) → KeepsEngines c c
-keeps-self c = record { nfa = refl; visited_capacity = refl; match_kind = refl; capacities = sizes-none c.pike }
+keeps-self c = search rules
 
 pub keeps-then : (a b c : ChoiceState) → KeepsEngines a b → KeepsEngines b c → KeepsEngines a c
-keeps-then a b c f g = record {
-  nfa = g.nfa ∙ f.nfa;
-  visited_capacity = g.visited_capacity ∙ f.visited_capacity;
-  match_kind = g.match_kind ∙ f.match_kind;
-  capacities = sizes-two a.pike b.pike c.pike f.capacities g.capacities;
-}
+keeps-then a b c f g = search rules
 
 -- ---- the engine
 
@@ -118,7 +101,7 @@ module _ {Runs : Search → ChoiceState → ChoiceState → Type 0} {A : Type 0}
     finds-kept = calls-kept kept shell
 
     -- It begins at x.
-    module _ (x : Search) (s : T) (iter_state : steps_with_iter_state (steps s) ≡ fresh x)
+    module _ (x : Search) (s : T) (iter_state : steps_iter_state (steps s).steps ≡ fresh x)
         (going : (steps s).steps.done ≡ false) where
       begins : Begins (SearchesAs finds (pike_of (steps s).cache.now)) x (steps_with_state (steps s))
       begins = record { iter_state = iter_state; going = going; good = refl }

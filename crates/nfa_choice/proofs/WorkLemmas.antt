@@ -1,14 +1,10 @@
 -- What lists add to the totals of both caches of a choice, whichever engines its searches run.
-use Rattle.std.proofs.Common.{◌≡◌, ◌∙◌, ◌⊎◌, Bool, true, false, refl, ap, subst, inl, inr, not}
-use Rattle.std.proofs.lemmas.Bool.{and_parts}
-use Rattle.nfa_paths.specs.Common.{Search, MatchKind}
-use Rattle.regex_search_core.specs.declared.search.MatchKind.TheVariants.{All, LeftmostFirst}
-use Rattle.nfa_search_base.specs.WithCaptures.{row_span}
-use Rattle.nfa_search_base.specs.Leaving.{DoesSearch}
-use Rattle.nfa_search_base.specs.IterStates.{span_of}
+use Rattle.nfa_paths.proofs.Common.{◌≡◌, ◌∙◌, ◌⊎◌, Bool, true, false, refl, ap, subst, inl, inr, not, and_parts, Search, MatchKind, LeftmostFirst}
+use Rattle.regex_search_core.specs.declared.search.MatchKind.TheVariants.{All}
+use Rattle.nfa_search_base.specs.Common.{row_span, DoesSearch, span_of}
 use Rattle.nfa_search_base.proofs.StepLemmas.{chosen}
 use Rattle.nfa_engines.specs.WorkLaws.{Totals, backtracker_totals, list_scan_limit, pike_totals}
-use Rattle.nfa_engines.proofs.EngineWorkLemmas.{WorkOf, Worked, calls-add, list-adds, match-hit, row-hit, worked, worked-within}
+use Rattle.nfa_engines.proofs.EngineWorkLemmas.{WorkOf, Worked, calls-add, list-adds, match-hit, row-hit, work-within, worked}
 use Rattle.nfa_pikevm.specs.Engines.{Pike, kind_of}
 use Rattle.nfa_choice.specs.ChoiceState.{BacktrackerRan, ChoiceState, KeepsEngines, FellBackToPike, SearchedByRule, is_for_backtracker, is_leftmost_first, kind_in, pike_of}
 use Rattle.nfa_choice.specs.Iterations.{FindsBy, SearchesBy, TellsMatch, TellsRow}
@@ -51,34 +47,21 @@ module _ (y : Search) (s t : ChoiceState) (runs : SearchedByRule y s t) where
     where
       of : BacktrackerRan y y.earliest s t ⊎ FellBackToPike y y.earliest s t
           → Worked s.nfa LeftmostFirst false y (back_in s) (back_in t)
-      of (inl h) = worked s.nfa LeftmostFirst false y (back_in s) (back_in t) t.back.scans t.back.turns h.exact
-          h.bounded.scans h.bounded.turns h.work.scans h.work.turns
-      of (inr h) = worked-within s.nfa LeftmostFirst false y (back_in s) (back_in t) t.back.scans t.back.turns
-          h.tried_within h.tried_bounded.scans h.tried_bounded.turns h.tried.scans h.tried.turns
+      of (inl h) = worked (work-within h.exact) h.bounded.scans h.bounded.turns h.work.scans h.work.turns
+      of (inr h) =
+          worked h.tried_within h.tried_bounded.scans h.tried_bounded.turns h.tried.scans h.tried.turns
 
   pub pike-runs : Does pike_in y s t
   pike-runs = elim (chosen (is_for_backtracker s y) runs) [
     | inl p ↦ of p.1
     | inr p ↦
-        inl
-        (worked s.nfa (kind_in s) y.earliest y (pike_in s) (pike_in t) t.pike.scans t.pike.turns p.1.exact
-        p.1.bounded.scans p.1.bounded.turns p.1.work.scans p.1.work.turns)
+        inl (worked (work-within p.1.exact) p.1.bounded.scans p.1.bounded.turns p.1.work.scans p.1.work.turns)
   ]
     where
       of : BacktrackerRan y y.earliest s t ⊎ FellBackToPike y y.earliest s t → Does pike_in y s t
       of (inl h) = inr (ap pike_totals h.pike)
       of (inr h) =
-          inl
-          (worked s.nfa (kind_in s) y.earliest y (pike_in s) (pike_in t) t.pike.scans t.pike.turns h.exact
-          h.bounded.scans h.bounded.turns h.work.scans h.work.turns)
-
--- what runs by what is kept runs as at first
-from-first : (c s t : ChoiceState) (y : Search) (old new : Totals) → pike_of s ≡ pike_of c
-    → Worked s.nfa (kind_in s) y.earliest y old new ⊎ (new ≡ old)
-    → Worked c.nfa (kind_in c) y.earliest y old new ⊎ (new ≡ old)
-from-first c s t y old new is (inr same) = inr same
-from-first c s t y old new is (inl w) =
-    inl (subst (λ (vm : Pike). Worked vm.nfa (kind_of vm) y.earliest y old new) is w)
+          inl (worked (work-within h.exact) h.bounded.scans h.bounded.turns h.work.scans h.work.turns)
 
 -- each search that runs so is such work
 abbrev pub DoesBy : (ChoiceState → Totals) → (Search → ChoiceState → ChoiceState → Type 0) → Type 0
@@ -93,8 +76,11 @@ module _ (totals : ChoiceState → Totals) (Runs : Search → ChoiceState → Ch
 
   works : (y : Search) (s t : ChoiceState) → IsOf s → Runs y s t → KeepsEngines s t
       → (Worked c.nfa (kind_in c) y.earliest y (totals s) (totals t) ⊎ (totals t ≡ totals s)) × IsOf t
-  works y s t is runs keeps =
-      (from-first c s t y (totals s) (totals t) is (does y s t runs), pike-kept s t keeps ∙ is)
+  works y s t is runs keeps = (
+    subst (λ (vm : Pike). Worked vm.nfa (kind_of vm) y.earliest y (totals s) (totals t) ⊎ (totals t ≡ totals s)) is
+        (does y s t runs),
+    pike-kept s t keeps ∙ is,
+  )
 
   abbrev finds_work : WorkOf span_of (DoesSearch (TellsMatch c) (λ y a. FindsBy Runs y))
   finds_work = record {

@@ -1,10 +1,10 @@
 -- An engine over two others as a value, and the rule that picks one of the two for a search.
 use Rattle.std.specs.Prelude.{◌≡◌, ◌⊎◌, ◌+◌, ◌*◌, ◌≤◌, ℕ, List, Bool, true, false, ◌&&◌, not, nat_le, MatchBool, Option, Some, ◌-◌, ◌^◌, min}
-use Rattle.nfa_paths.specs.Common.{Search, MatchKind, Automaton, span_len, max_scans, total_degree, IsWork, IsWithinScans}
-use Rattle.regex_search_core.specs.declared.search.MatchKind.TheVariants.{All, LeftmostFirst}
+use Rattle.nfa_paths.specs.Common.{Search, MatchKind, Automaton, span_len, max_scans, total_degree, IsWork, IsWithinScans, LeftmostFirst}
+use Rattle.regex_search_core.specs.declared.search.MatchKind.TheVariants.{All}
 use Rattle.nfa_backtrack.specs.Backtrack.{Backtracker, BacktrackCache, AddsBacktrackWork, CountsAnswer, CountsRefusal, GrowsBlocks, max_haystack_len_of, memory_of}
-use Rattle.nfa_search_base.specs.Finds.{finds}
-use Rattle.nfa_pikevm.specs.Engines.{Pike, PikeCache, AddsPikeWork, SameCapacities, kind_of, pike_memory_of}
+use Rattle.nfa_search_base.specs.Common.{finds}
+use Rattle.nfa_pikevm.specs.Engines.{Fits, Pike, PikeCache, AddsPikeWork, SameCapacities, kind_of, pike_memory_of}
 use Rattle.nfa_pikevm.specs.Needs.{overlap_scans}
 use Rattle.nfa_choice.specs.declared.choose.Engine.{Engine}
 use Rattle.nfa_choice.specs.declared.choose.Engine.TheVariants as engine
@@ -109,3 +109,16 @@ pub record KeepsEngines (old new : ChoiceState) : Type 0 where
   pub visited_capacity : new.visited_capacity ≡ old.visited_capacity
   pub match_kind : new.match_kind ≡ old.match_kind
   pub capacities : SameCapacities old.pike new.pike
+
+-- searches do not change this value of the choice
+abbrev pub IsAsBefore : {V : Type 0} → (ChoiceState → V) → Type 0
+IsAsBefore value = (old new : ChoiceState) → KeepsEngines old new → value new ≡ value old
+
+-- the rule names the same engine for each search as before
+abbrev pub RuleIsAsBefore : Type 0
+RuleIsAsBefore = (x : Search) → IsAsBefore (λ c. is_for_backtracker c x)
+
+-- the cache of the PikeVM fits the same NFAs as before
+abbrev pub ChoiceFitsAsBefore : Type 0
+ChoiceFitsAsBefore =
+    (old new : ChoiceState) (nfa : Automaton) → KeepsEngines old new → Fits old.pike nfa → Fits new.pike nfa

@@ -1,19 +1,15 @@
 -- Iterators that search with a choice, or with an engine that shows itself as one. `Runs` says which engines a search
 -- ran.
-use Rattle.std.specs.Prelude.{◌*◌, length, List, Ok, Option, Result, option_map}
+use Rattle.std.specs.Prelude.{◌*◌, length, List, map, None, Ok, Option, Result, option_map}
+use Rattle.std.specs.Iterator.{Yields}
 use Rattle.nfa_paths.specs.Common.{Found, found_of, Search, Captured, Match}
 use Rattle.nfa_backtrack.specs.Backtrack.{HoldsNoMore}
-use Rattle.nfa_search_base.specs.WithCaptures.{WithCaptures, GivesCaptures, Row, row_span}
-use Rattle.nfa_search_base.specs.CapturesLists.{HasGroups, AnswersRow}
-use Rattle.nfa_search_base.specs.Leaving.{DoesSearch, Leaves, LeavesAtEnd}
-use Rattle.nfa_search_base.specs.Lists.{AnswersMatch}
-use Rattle.nfa_search_base.specs.WithCache.{WithCache}
-use Rattle.nfa_search_base.specs.StepsWith.{StepsWith, TakesStepWith}
-use Rattle.nfa_search_base.specs.Runs.{GivesKept}
-use Rattle.nfa_search_base.specs.Steps.{GivesItem}
-use Rattle.nfa_search_base.specs.IterStates.{Answer, span_of}
+use Rattle.nfa_search_base.specs.Common.{WithCaptures, GivesCaptures, Row, row_span, HasGroups, AnswersRow, DoesSearch, Leaves, LeavesAtEnd, AnswersMatch, WithCache, StepsWith, TakesStepWith, GivesKept, GivesItem, Answer, span_of}
 use Rattle.nfa_search_base.specs.declared.error.SearchError.{SearchError}
-use Rattle.nfa_choice.specs.ChoiceState.{ChoiceState, kind_in, KeepsEngines}
+use Rattle.nfa_choice.specs.ChoiceState.{ChoiceState, kind_in, KeepsEngines, SearchedByRule}
+use Rattle.nfa_choice.specs.declared.choose.captures_iter.ChoiceCaptures.{ChoiceCaptures}
+use Rattle.nfa_choice.specs.declared.choose.find_iter.ByRule.{ByRule}
+use Rattle.nfa_choice.specs.declared.choose.find_iter.ChoiceMatches.{ChoiceMatches}
 
 -- the answer of one search for a match: the match of the kind and its `earliest`, and never an error
 abbrev pub TellsMatch : ChoiceState → Search → Answer Found → Type 0
@@ -79,3 +75,31 @@ module _ {A T : Type 0} (asks : WithCache A ChoiceState → Search → Answer Fo
   -- a call
   pub record FindsNextBy (s : T) (r : Option Match) (t : T) : Type 0 where
     pub takes : TakesStepWith span_of asks (λ _. GivesItem found_of) (steps s) (option_map (λ m. Ok m) r) (steps t)
+
+-- the steps of the iterator over the matches of a choice, and the choice that it borrows
+abbrev pub choice_matches : ChoiceMatches → StepsWith ByRule ChoiceState
+choice_matches s = record { steps = s.steps; cache = s.choice }
+
+-- one search by the engine that the rule names may answer this
+abbrev pub AsksByRule : WithCache ByRule ChoiceState → Search → Answer Found → WithCache ByRule ChoiceState → Type 0
+AsksByRule s x a t = DoesSearch (TellsMatch s.cache) (λ y b. FindsBy SearchedByRule y) s.cache x a t.cache
+
+-- a call
+abbrev pub choice_matches_next : ChoiceMatches → Option Match → ChoiceMatches → Type 0
+choice_matches_next s r t = FindsNextBy AsksByRule choice_matches s r t
+
+-- The calls change the choice only by the searches of an iteration over x. At `None` the iteration went to its end,
+-- past the matches so far.
+pub record ChoiceFindsBySearches (x : Search) (s : ChoiceMatches) : Type 0 where
+  pub on : GivesKept choice_matches_next (λ p q. FindsOn SearchedByRule x p.choice.now q.choice.now) s
+  pub to_end : (xs : List Match) (t u : ChoiceMatches) → Yields choice_matches_next s xs t
+      → choice_matches_next t None u
+      → FindsToEnd SearchedByRule x (map found_of xs) s.choice.now u.choice.now
+
+-- the steps of the iterator over its captures, and the choice that it borrows
+abbrev pub choice_captures : ChoiceCaptures → StepsWith (WithCaptures (Unit {0})) ChoiceState
+choice_captures s = record { steps = s.steps; cache = s.choice }
+
+-- a call
+abbrev pub choice_captures_next : ChoiceCaptures → Option (Result Captured SearchError) → ChoiceCaptures → Type 0
+choice_captures_next s r t = CapturesNextBy SearchedByRule choice_captures s r t

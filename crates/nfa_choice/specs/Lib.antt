@@ -1,6 +1,4 @@
-pub mod CapturesMatches
+pub mod Answered
 pub mod ChoiceState
 pub mod Iterations
-pub mod LoopLaws
-pub mod Matches
 pub mod WorkLaws

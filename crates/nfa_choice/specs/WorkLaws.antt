@@ -2,9 +2,9 @@
 -- its caches. `Runs` says which engines a search ran.
 use Rattle.std.specs.Prelude.{ℕ, ◌+◌, ◌*◌, List, length}
 use Rattle.nfa_paths.specs.Common.{Found, Search, Automaton, span_len}
-use Rattle.nfa_search_base.specs.WithCaptures.{Row}
+use Rattle.nfa_search_base.specs.Common.{Row}
 use Rattle.nfa_engines.specs.WorkLaws.{AddsAtMost, backtracker_totals, pike_totals}
-use Rattle.nfa_choice.specs.ChoiceState.{ChoiceState, SearchedByRule}
+use Rattle.nfa_choice.specs.ChoiceState.{ChoiceState}
 use Rattle.nfa_choice.specs.Iterations.{CapturesOn, CapturesToEnd, FindsOn, FindsToEnd}
 
 -- the totals of each cache rose by at most `limit` scans of the span of x, and by no more turns than these may make
@@ -40,16 +40,3 @@ module _ (Runs : Search → ChoiceState → ChoiceState → Type 0) where
     CapturesCostWithin =
         (x : Search) (old new : ChoiceState) → CapturesOn Runs x old new
         → ChoiceAddsAtMost (2 * span_len x + more) x old new
-
--- these words for a choice
-abbrev pub ChoiceMatchesAreWithin : (Automaton → Search → ℕ → ℕ) → Type 0
-ChoiceMatchesAreWithin = MatchesAreWithin SearchedByRule
-
-abbrev pub ChoiceRowsAreWithin : (Automaton → Search → ℕ → ℕ) → Type 0
-ChoiceRowsAreWithin = RowsAreWithin SearchedByRule
-
-abbrev pub ChoiceFindsWithin : ℕ → Type 0
-ChoiceFindsWithin = FindsWithin SearchedByRule
-
-abbrev pub ChoiceCapturesWithin : ℕ → Type 0
-ChoiceCapturesWithin = CapturesCostWithin SearchedByRule

@@ -10,16 +10,16 @@
 //!     println!(rt; "{}..{}", found.start(), found.end())?;
 //! }
 //! ```
-ghost use Rattle.std.specs.Prelude.{◌≡◌, ◌*◌, ◌<◌, length, replicate, not, None, Some, Ok, false, option_map};
-ghost use Rattle.std.specs.Prelude.{All, IfOk, IfNone, IfSome, OnOk, OnErr, IsOkUnless};
+ghost use Rattle.std.specs.Prelude.{◌≡◌, ◌*◌, ◌<◌, length, not, None, Some, Ok, false, option_map};
+ghost use Rattle.std.specs.Prelude.{All, IfOk, IfSome, OnOk, OnErr, IsOkUnless};
 ghost use Rattle.regex_search_core.specs.Search.{search_of};
 ghost use Rattle.regex_search_core.specs.Patterns.{number_of};
 ghost use Rattle.regex_search_core.specs.Found.{found_of};
 ghost use Rattle.nfa_paths.specs.Paths.{IsAnswer, IsFindAnswer, IsBoolAnswer, is_utf8_empty};
-ghost use Rattle.nfa_search_base.specs.Lists.{IsInside, IsSlotInside};
-ghost use Rattle.nfa_search_base.specs.Spans.{SpansInside};
+ghost use Rattle.nfa_search_base.specs.Lists.{IsInside};
 ghost use Rattle.nfa_backtrack.specs.Backtrack.{empty_cache, HoldsNoMore};
 ghost use Rattle.nfa_pikevm.specs.Engines.{cache_for};
+ghost use Rattle.nfa_choice.specs.Answered.{FillsCaptures, WritesSlots};
 ghost use Rattle.nfa_choice.specs.ChoiceState.{bytes_of, finds_in, is_for_backtracker, kind_in, KeepsEngines};
 ghost use Rattle.nfa_pikevm.specs.Engines.{IsFitFor};
 ghost use Rattle.nfa_choice.specs.ChoiceState.{RunsByRule};
@@ -257,10 +257,8 @@ impl Choice {
     ) -> Option<PatternID>
         ensures answer { IsAnswer self.old.nfa (kind_in self.old) (search_of input.now).earliest (search_of input.now)
             (option_map number_of result) slots.new }
-        ensures unmatched { IfNone result (slots.new ≡ replicate (length slots.old) None) }
-        ensures pattern { IfSome result (λ p. number_of p < length self.old.nfa.patterns) }
-        ensures inside { All (IsSlotInside (search_of input.now)) slots.new }
         ensures runs { RunsByRule self.old (search_of input.now) (search_of input.now).earliest self.new }
+        ensures writes { WritesSlots self.old.nfa (search_of input.now) result slots.old slots.new }
         ensures holds { HoldsNoMore 0 self.old.back self.new.back }
         ensures keeps { KeepsEngines self.old self.new }
     {
@@ -291,14 +289,8 @@ impl Choice {
     pub fn search(&mut self, input: &Input<'_>, captures: &mut Captures)
         ensures answer { IsAnswer self.old.nfa (kind_in self.old) (search_of input.now).earliest (search_of input.now)
             captures.new.pattern captures.new.slots }
-        ensures groups { captures.new.groups ≡ captures.old.groups }
-        ensures count { length captures.new.slots ≡ length captures.old.slots }
-        ensures unmatched { IfNone captures.new.pattern
-            (captures.new.slots ≡ replicate (length captures.old.slots) None) }
-        ensures pattern { IfSome captures.new.pattern (λ p. p < length self.old.nfa.patterns) }
-        ensures inside { All (IsSlotInside (search_of input.now)) captures.new.slots }
-        ensures spans { SpansInside (search_of input.now) captures.new }
         ensures runs { RunsByRule self.old (search_of input.now) (search_of input.now).earliest self.new }
+        ensures fills { FillsCaptures self.old.nfa (search_of input.now) captures.old captures.new }
         ensures holds { HoldsNoMore 0 self.old.back self.new.back }
         ensures keeps { KeepsEngines self.old self.new }
     {

@@ -2,12 +2,11 @@
 //!
 //! Call one if a proof about the work of an iteration needs it, as those of `nfa_engines::laws`. The call costs nothing
 //! at run time.
-ghost use Rattle.nfa_engines.specs.LoopLaws.{IsKeptByLoop, IsKeptByNone, IsKeptByTwo};
+ghost use Rattle.nfa_engines.specs.WorkLaws.{IsKeptByLoop, IsKeptByNone, IsKeptByTwo};
 ghost use Rattle.nfa_engines.specs.WorkLaws.{list_scan_limit};
-ghost use Rattle.nfa_choice.specs.ChoiceState.{KeepsEngines, backtracker_of, pike_of};
-ghost use Rattle.nfa_choice.specs.LoopLaws.{ChoiceFitsAsBefore, IsAsBefore, RuleIsAsBefore};
-ghost use Rattle.nfa_choice.specs.WorkLaws.{ChoiceCapturesWithin, ChoiceFindsWithin, ChoiceMatchesAreWithin};
-ghost use Rattle.nfa_choice.specs.WorkLaws.{ChoiceRowsAreWithin};
+ghost use Rattle.nfa_choice.specs.ChoiceState.{ChoiceFitsAsBefore, IsAsBefore, KeepsEngines, RuleIsAsBefore};
+ghost use Rattle.nfa_choice.specs.ChoiceState.{SearchedByRule, backtracker_of, pike_of};
+ghost use Rattle.nfa_choice.specs.WorkLaws.{CapturesCostWithin, FindsWithin, MatchesAreWithin, RowsAreWithin};
 
 /// A whole list takes little more than one search. Over the calls that find all k matches in a span of n bytes, or
 /// their captures, the totals of each cache rise by at most n + k + 2 scans. If no search may restart, they rise by at
@@ -16,8 +15,8 @@ ghost use Rattle.nfa_choice.specs.WorkLaws.{ChoiceRowsAreWithin};
 /// The premises are what `find_all` and `captures_all` ensure if they are `Ok` (`to_end`), and what `find_iter` ensures
 /// if it goes on to `None` (`searches`).
 pub fn lists_are_bounded()
-    ensures matches { ChoiceMatchesAreWithin list_scan_limit }
-    ensures rows { ChoiceRowsAreWithin list_scan_limit }
+    ensures matches { MatchesAreWithin SearchedByRule list_scan_limit }
+    ensures rows { RowsAreWithin SearchedByRule list_scan_limit }
 {}
 
 /// Wherever an iteration over a span of n bytes stops, the totals of each cache rise by at most 2n + 3 scans. The turns
@@ -25,8 +24,8 @@ pub fn lists_are_bounded()
 ///
 /// The premises are what all lists and iterators ensure (`searches`).
 pub fn iterations_are_bounded()
-    ensures matches { ChoiceFindsWithin 3 }
-    ensures rows { ChoiceCapturesWithin 3 }
+    ensures matches { FindsWithin SearchedByRule 3 }
+    ensures rows { CapturesCostWithin SearchedByRule 3 }
 {}
 
 /// A loop of searches keeps the engines of a choice, and they answer after the loop as before it: the PikeVM, which

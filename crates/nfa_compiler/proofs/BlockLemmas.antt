@@ -1,10 +1,9 @@
--- From each pair of a pattern's states the first accepting path is what the pattern's own NFA does from there.
-use Rattle.std.proofs.Common.{◌≡◌, ℕ, suc, ◌+◌, ◌≤◌, ◌<◌, inl, inr, Bool, true, false, List, [], ◌∷◌, ◌++◌, map, length, refl, sym, ap, ◌∙◌, subst, arith, Option, None, Some, is_some, All, slice_range, option_map, option_and_then, option_to_list, if◌then◌else◌, slice_index_or}
-use Rattle.std.specs.Option.{option_or}
-use Rattle.std.proofs.lemmas.Bool.{cases_Bool}
-use Rattle.nfa_paths.specs.Common.{number_of, Search, Automaton, Node, Pair, In, EndsWith, IsFirst, FirstAmong, pattern_of, slot_of, node_at, is_match, capture, edges_of, edges, byte_at, target_on, first_target}
-use Rattle.regex_hir.specs.Re.{Trace, Rest, write}
-use Rattle.regex_hir.specs.Looks.{holds}
+-- From each pair of a pattern's states the first accepting path is what the pattern's own NFA does from there, and the
+-- writes of the path give its slots.
+use Rattle.nfa_paths.proofs.Common.{◌≡◌, ℕ, ◌<◌, false, List, [], ◌∷◌, ◌++◌, length, map, refl, ap, sym, ◌∙◌, arith, Option, None, Some, if◌then◌else◌, ◌==◌, range_with_len, option_or, slice_get-get_or, Automaton, Pair, capture, offset_at, slot_among, suc, ◌+◌, ◌≤◌, Bool, true, subst, is_some, All, slice_range, option_map, option_and_then, option_to_list, number_of, Search, Node, In, EndsWith, IsFirst, FirstAmong, pattern_of, slot_of, node_at, is_match, edges_of, edges, byte_at, target_on, first_target, Look, Fail}
+use Rattle.std.proofs.lemmas.List.FromFn.{get_or-map-range_with_len, length-map-range_with_len}
+use Rattle.nfa_compiler.specs.Common.{last_write, Trace, Rest, write, holds, look_of, match_at, slot_in, moved, node_for, Stands, IsBlock}
+use Rattle.nfa_paths.proofs.OptionLemmas.{option_or-None, option_or-assoc}
 use Rattle.regex_nfa.specs.States.{covers, target_in, next_on, byte_below, visit, read}
 use Rattle.regex_nfa.specs.Run.{state_of, measure, run}
 use Rattle.regex_nfa.proofs.RunLemmas.{sound_of, run_at, next_on_within, byte_below_some, measure_induction, measure_falls_empty, measure_falls_byte}
@@ -12,25 +11,34 @@ use Rattle.regex_nfa.specs.declared.state.Transition as their_transition
 use Rattle.regex_nfa.specs.declared.state.State as their_state
 use Rattle.regex_nfa.specs.declared.state.State.TheVariants as their
 use Rattle.regex_nfa.specs.declared.nfa.Nfa.{Nfa}
-use Rattle.thompson_nfa.specs.Automaton.Node.{ByteRange, Sparse, Look, Fail, Match}
+use Rattle.thompson_nfa.specs.Automaton.Node.{Match}
 use Rattle.nfa_paths.proofs.PathLemmas.{IsFirst-target, IsFirst-step}
 use Rattle.nfa_compiler.specs.declared.block.Site.{Site}
-use Rattle.nfa_compiler.specs.Blocks.{look_of, match_at, slot_in, moved, node_for, Stands, IsBlock}
-use Rattle.nfa_compiler.proofs.WriteLemmas.{write_of, writes_along}
+use Rattle.nfa_compiler.proofs.EachLemmas.{Both, both-or}
 use Rattle.nfa_compiler.proofs.LookLemmas.{look-same}
-use Rattle.nfa_paths.proofs.OptionLemmas.{option_or-None}
 use Rattle.nfa_paths.proofs.PathToLemmas.{EndsWith-cons}
+
+-- the last write of two lists in turn
+pub last_write-append : (ws vs : List (ℕ × ℕ)) (slot : ℕ)
+    → last_write (ws ++ vs) slot ≡ option_or (last_write vs slot) (last_write ws slot)
+last_write-append [] vs slot = sym (option_or-None (last_write vs slot))
+last_write-append (w ∷ ws) vs slot =
+    ap (λ o. option_or o (if w.0 == slot then Some w.1 else None)) (last_write-append ws vs slot)
+    ∙ option_or-assoc (last_write vs slot) (last_write ws slot) (if w.0 == slot then Some w.1 else None)
+
+-- a row of slots at one of them
+pub offset-at : (f : ℕ → Option ℕ) (count slot : ℕ) → slot < count
+    → offset_at (map f (range_with_len 0 count)) slot ≡ f slot
+offset-at f count slot less =
+    let long : slot < length (map f (range_with_len 0 count)) = omega (arith, length-map-range_with_len f 0 count) in
+    rw (slice_get-get_or (map f (range_with_len 0 count)) slot None long)
+    (get_or-map-range_with_len f 0 count slot slot None less (omega arith))
 
 -- the node for a state is no Match
 pub node-plain : (ts : List their_transition.Transition) (s : Site) (state : their_state.State)
     → is_some (pattern_of (node_for ts s state)) ≡ false
-node-plain ts s (their.ByteRange t) = refl
-node-plain ts s (their.Sparse from to) = refl
-node-plain ts s (their.Split first second) = refl
-node-plain ts s (their.Save slot next) = refl
-node-plain ts s (their.Look l next) = refl
 node-plain ts s their.Match = refl
-node-plain ts s their.Fail = refl
+node-plain ts s _ = refl
 
 -- trying in turn
 
@@ -38,14 +46,12 @@ module _ (edges : Pair → List Pair) (target : Pair → Bool) (marks : List Pai
   -- the first of a list that has a path
   pub among-cons : (w : Pair) (ws : List Pair) (r s : Option (List Pair)) → IsFirst edges target marks w r
       → FirstAmong edges target marks ws s → FirstAmong edges target marks (w ∷ ws) (option_or r s)
-  among-cons w ws None s h k = inr (h, k)
-  among-cons w ws (Some p) s h k = inl (p, h, refl)
+  among-cons w ws r s h k = grind arith
 
   -- of a list of one
   pub among-one : (w : Pair) (r : Option (List Pair)) → IsFirst edges target marks w r
       → FirstAmong edges target marks (w ∷ []) r
-  among-one w None h = inr (h, refl)
-  among-one w (Some p) h = inl (p, h, refl)
+  among-one w r h = grind arith
 
 -- bytes
 
@@ -53,22 +59,15 @@ module _ (edges : Pair → List Pair) (target : Pair → Bool) (marks : List Pai
 first-moved : (s : Site) (ts : List their_transition.Transition) (b : ℕ)
     → first_target (map (moved s) ts) b ≡ option_map (λ r. s.base + r) (target_in ts b)
 first-moved s [] b = refl
-first-moved s (t ∷ ts) b =
-    elim (cases_Bool (covers t b)) [
-      | inl hit ↦ rw hit refl
-      | inr miss ↦ rw miss (first-moved s ts b)
-    ]
+first-moved s (t ∷ ts) b = grind (arith, first-moved s ts b)
 
 -- and its target is within
 first-within : (n : ℕ) (ts : List their_transition.Transition) (b r : ℕ) → All (λ t. t.next < n) ts
     → target_in ts b ≡ Some r → r < n
 first-within n [] b r all e = cc
 first-within n (t ∷ ts) b r all e =
-    elim (cases_Bool (covers t b)) [
-      | inl hit ↦ let here : Some t.next ≡ Some r = rw hit at e in
-          let same : t.next ≡ r = cc in subst (λ k. k < n) same (all 0 t (omega arith))
-      | inr miss ↦ first-within n ts b r (λ i d h. all (suc i) d (omega arith)) (rw miss at e)
-    ]
+    let here : t.next < n = all 0 t (omega arith) in
+    grind (arith, first-within n ts b r (λ i d h. all (suc i) d (omega arith)))
 
 -- what a path tells of a trace
 
@@ -78,52 +77,28 @@ AreExplicit [] = Unit {0}
 AreExplicit (w ∷ ws) = (2 ≤ w.0) × AreExplicit ws
 
 module _ (a : Automaton) (s : Site) where
-  -- the path ends with the pattern's Match at the end of the trace, and writes what the trace does and then the end
+  -- the path ends with the pattern's Match at the end of the trace, and its slots have what the trace and then the end
+  -- write
   pub record Told (t : Trace) (p : List Pair) : Type 0 where
     pub ends : EndsWith (match_at s, t.end) p
-    pub writes : writes_along a p ≡ map (λ w. (slot_in s w.0, w.1)) t.writes ++ (slot_in s 1, t.end) ∷ []
+    pub writes : (slot : ℕ) → slot_among a p slot
+        ≡ last_write (map (λ w. (slot_in s w.0, w.1)) t.writes ++ (slot_in s 1, t.end) ∷ []) slot
     pub explicit : AreExplicit t.writes
 
   -- both are none, or the path follows the trace
   abbrev pub Tells : Option Trace → Option (List Pair) → Type 0
-  Tells None None = Unit {0}
-  Tells None (Some p) = ⊥
-  Tells (Some t) None = ⊥
-  Tells (Some t) (Some p) = Told t p
+  Tells = Both Told
 
-  -- the first of two
-  Tells-or : (o u : Option Trace) (r q : Option (List Pair)) → Tells o r → Tells u q
-      → Tells (option_or o u) (option_or r q)
-  Tells-or None u None q h k = k
-  Tells-or None u (Some p) q h k = absurd h
-  Tells-or (Some t) u None q h k = absurd h
-  Tells-or (Some t) u (Some p) q h k = h
-
-  -- that writes nothing
+  -- one more pair in front, which writes nothing
   Tells-cons : (v : Pair) (o : Option Trace) (r : Option (List Pair)) → capture a v ≡ None → Tells o r
       → Tells o (option_map (λ p. v ∷ p) r)
-  Tells-cons v None None none h = tt
-  Tells-cons v None (Some p) none h = absurd h
-  Tells-cons v (Some t) None none h = absurd h
-  Tells-cons v (Some t) (Some p) none h = record {
-    ends = EndsWith-cons v (match_at s, t.end) p h.ends;
-    writes = ap (λ c. write_of c v.1 ++ writes_along a p) none ∙ h.writes;
-    explicit = h.explicit;
-  }
+  Tells-cons v o r none h = grind (arith, EndsWith-cons, option_or-None)
 
-  -- that writes a slot of the pattern
-  Tells-write : (v : Pair) (slot i : ℕ) (o : Option Trace) (r : Option (List Pair))
-      → capture a v ≡ Some (slot_in s slot)
-      → v.1 ≡ i → 2 ≤ slot → Tells o r → Tells (write slot i o) (option_map (λ p. v ∷ p) r)
-  Tells-write v slot i None None is at two h = tt
-  Tells-write v slot i None (Some p) is at two h = absurd h
-  Tells-write v slot i (Some t) None is at two h = absurd h
-  Tells-write v slot i (Some t) (Some p) is at two h = record {
-    ends = EndsWith-cons v (match_at s, t.end) p h.ends;
-    writes = ap (λ c. write_of c v.1 ++ writes_along a p) is ∙ ap (λ j. (slot_in s slot, j) ∷ writes_along a p) at
-        ∙ ap (λ ws. (slot_in s slot, i) ∷ ws) h.writes;
-    explicit = (two, h.explicit);
-  }
+  -- or a slot of the pattern
+  Tells-write : (v : Pair) (slot : ℕ) (o : Option Trace) (r : Option (List Pair))
+      → capture a v ≡ Some (slot_in s slot) → 2 ≤ slot → Tells o r
+      → Tells (write slot v.1 o) (option_map (λ p. v ∷ p) r)
+  Tells-write v slot o r is two h = grind (arith, EndsWith-cons)
 
 -- the walk
 
@@ -149,31 +124,15 @@ module _ (a : Automaton) (x : Search) (nfa : Nfa) (s : Site) (block : IsBlock a.
     pub match : (j : ℕ) → In (match_at s, j) marks → ⊥
 
   -- from this pair the first path is what the pattern's NFA does
-  abbrev IterStates : ℕ → ℕ → Type 0
-  IterStates q i = q < s.size → i ≤ x.end → (r : Option (List Pair)) × Tells a s (go q i) r
+  abbrev Walks : ℕ → ℕ → Type 0
+  Walks q i = (r : Option (List Pair)) × Tells a s (go q i) r
       × ((marks : List Pair) → IsClear marks (suc (left q i))
       → IsFirst (edges a x) (is_match a) marks (s.base + q, i) r)
 
   -- marking the pair itself leaves clear what is below it
   clear-less : (marks : List Pair) (q i r j : ℕ) → q < s.size → left r j < left q i → IsClear marks (suc (left q i))
       → IsClear ((s.base + q, i) ∷ marks) (suc (left r j))
-  clear-less marks q i r j is less clear = record {
-    states = λ k l below small member.
-        elim member [
-          | inl e ↦
-              let same : s.base + k ≡ s.base + q = ap (λ (v : Pair). v.0) e in
-              let state : k ≡ q = omega arith in
-              let at : l ≡ i = ap (λ (v : Pair). v.1) e in
-              let is_same : left k l ≡ left q i = ap (λ n. left n l) state ∙ ap (left q) at in
-              omega arith
-          | inr later ↦ clear.states k l below (omega arith) later
-        ];
-    match = λ l member.
-        elim member [
-          | inl e ↦ let same : s.base + s.size ≡ s.base + q = ap (λ (v : Pair). v.0) e in omega arith
-          | inr later ↦ clear.match l later
-        ];
-  }
+  clear-less marks q i r j is less clear = grind arith
 
   free : (marks : List Pair) (q i : ℕ) → q < s.size → IsClear marks (suc (left q i)) → In (s.base + q, i) marks → ⊥
   free marks q i is clear = clear.states q i is (omega arith)
@@ -185,9 +144,7 @@ module _ (a : Automaton) (x : Search) (nfa : Nfa) (s : Site) (block : IsBlock a.
   here : (q : ℕ) → q < s.size → (state : their_state.State) → state_of nfa q ≡ state
       → Stands nfa.transitions.items s state (node_at a (s.base + q))
   unfolding node_at
-  here q below state is =
-      subst (λ st. Stands nfa.transitions.items s st (slice_index_or a.states (s.base + q) Fail)) is
-      (block.states q below)
+  here q below state is = grind arith
 
   -- and the Match after the states
   match_here : node_at a (match_at s) ≡ Match (number_of s.pattern)
@@ -198,13 +155,9 @@ module _ (a : Automaton) (x : Search) (nfa : Nfa) (s : Site) (block : IsBlock a.
     abbrev v : Pair
     v = (s.base + q, i)
 
-    abbrev IterState : Type 0
-    IterState = (r : Option (List Pair)) × Tells a s (go q i) r
-        × ((marks : List Pair) → IsClear marks (suc (left q i)) → IsFirst (edges a x) (is_match a) marks v r)
-
     -- the walks from what is below this pair
     abbrev Below : Type 0
-    Below = (r j : ℕ) → left r j < left q i → IterStates r j
+    Below = (r j : ℕ) → left r j < left q i → r < s.size → j ≤ x.end → Walks r j
 
     -- these are pairs of the pattern's states, from which less is left
     abbrev AreBelow : List (ℕ × ℕ) → Type 0
@@ -220,7 +173,7 @@ module _ (a : Automaton) (x : Search) (nfa : Nfa) (s : Site) (block : IsBlock a.
         let w = under n.0 n.1 low.2 low.0 low.1 in
         let rest = walk-among under ns low.3 in (
           option_or w.0 rest.0,
-          Tells-or a s (go n.0 n.1) (first_of ns) w.0 rest.0 w.1 rest.1,
+          both-or (Told a s) (go n.0 n.1) (first_of ns) w.0 rest.0 w.1 rest.1,
           λ marks clear. among-cons (edges a x) (is_match a) (v ∷ marks) (s.base + n.0, n.1) (placed ns) w.0 rest.0
               (w.2 (v ∷ marks) (clear-less marks q i n.0 n.1 below low.2 clear)) (rest.2 marks clear),
         )
@@ -240,7 +193,7 @@ module _ (a : Automaton) (x : Search) (nfa : Nfa) (s : Site) (block : IsBlock a.
       walk-on : (ns : List (ℕ × ℕ)) → AreBelow ns → edges_of x n i ≡ placed ns
           → ((r : Option (List Pair)) → Tells a s (first_of ns) r
           → Tells a s (visit nfa.transitions.items x.haystack x.end go state i) (option_map (λ p. v ∷ p) r))
-          → IterState
+          → Walks q i
       walk-on ns low leads tells =
           let w = walk-among under ns low in (
             option_map (λ p. v ∷ p) w.0,
@@ -252,10 +205,8 @@ module _ (a : Automaton) (x : Search) (nfa : Nfa) (s : Site) (block : IsBlock a.
 
       -- and writes nothing
       walk-plain : (ns : List (ℕ × ℕ)) → AreBelow ns → slot_of n ≡ None → edges_of x n i ≡ placed ns
-          → visit nfa.transitions.items x.haystack x.end go state i ≡ first_of ns → IterState
-      walk-plain ns low none leads same =
-          walk-on ns low leads (λ r t. Tells-cons a s v (visit nfa.transitions.items x.haystack x.end go state i) r
-          (ap slot_of stands.1 ∙ none) (subst (λ o. Tells a s o r) (sym same) t))
+          → visit nfa.transitions.items x.haystack x.end go state i ≡ first_of ns → Walks q i
+      walk-plain ns low none leads same = grind (arith, walk-on, Tells-cons)
 
       -- what is known of a state that reads a byte
       record Reads : Type 0 where
@@ -267,63 +218,48 @@ module _ (a : Automaton) (x : Search) (nfa : Nfa) (s : Site) (block : IsBlock a.
         small : (b r : ℕ) → next_on nfa.transitions.items state b ≡ Some r → r < s.size
         writes_nothing : slot_of n ≡ None
 
-      walk-read : Reads → IterState
+      walk-read : Reads → Walks q i
       unfolding byte_below
       walk-read reads = by_byte (byte_below x.haystack x.end i) refl
         where
-          -- what is read, and where it leads
-          gone : (o : Option ℕ) → byte_below x.haystack x.end i ≡ o
-              → visit nfa.transitions.items x.haystack x.end go state i
-              ≡ option_and_then (λ r. go r (i + 1)) (option_and_then (next_on nfa.transitions.items state) o)
-          gone o byte =
-              reads.visits ∙ ap (λ b. option_and_then (λ r. go r (i + 1))
-              (option_and_then (next_on nfa.transitions.items state) b)) byte
-
-          led : (o : Option ℕ) → byte_below x.haystack x.end i ≡ o → edges_of x n i
-              ≡ option_to_list (option_and_then (λ b. option_map (λ next. (next, i + 1)) (target_on n b)) o)
-          led o byte =
-              reads.leads_on ∙ ap (λ b. option_to_list (option_and_then
-              (λ c. option_map (λ next. (next, i + 1)) (target_on n c)) b)) byte
-
           by_target : (b : ℕ) → byte_below x.haystack x.end i ≡ Some b → (o : Option ℕ)
-              → next_on nfa.transitions.items state b ≡ o → IterState
+              → next_on nfa.transitions.items state b ≡ o → Walks q i
           by_target b byte None next =
-              walk-plain [] tt reads.writes_nothing (led (Some b) byte ∙ rw (reads.targets b, next) refl)
-              (gone (Some b) byte ∙ rw next refl)
+              walk-plain [] tt reads.writes_nothing (reads.leads_on ∙ rw (byte, reads.targets b, next) refl)
+              (reads.visits ∙ rw (byte, next) refl)
           by_target b byte (Some r) next =
               let inner = byte_below_some x.haystack x.end i b byte in
               let bound = next_on_within nfa q b r (ap (λ st. next_on nfa.transitions.items st b) is ∙ next) in
               let less : left r (i + 1) < left q i = measure_falls_byte nfa x.haystack x.end r q i inner.0 bound in
               walk-plain ((r, i + 1) ∷ [])
               (reads.small b r next, omega (arith, inner.0), less, tt)
-              reads.writes_nothing (led (Some b) byte ∙ rw (reads.targets b, next) refl)
-              (gone (Some b) byte ∙ rw next (sym (option_or-None (go r (i + 1)))))
+              reads.writes_nothing (reads.leads_on ∙ rw (byte, reads.targets b, next) refl)
+              (reads.visits ∙ rw (byte, next) (sym (option_or-None (go r (i + 1)))))
 
-          by_byte : (o : Option ℕ) → byte_below x.haystack x.end i ≡ o → IterState
-          by_byte None byte = walk-plain [] tt reads.writes_nothing (led None byte) (gone None byte)
+          by_byte : (o : Option ℕ) → byte_below x.haystack x.end i ≡ o → Walks q i
+          by_byte None byte =
+              walk-plain [] tt reads.writes_nothing (reads.leads_on ∙ rw byte refl) (reads.visits ∙ rw byte refl)
           by_byte (Some b) byte = by_target b byte (next_on nfa.transitions.items state b) refl
 
     -- the walk from here, by the state at this place
     walk-from : Below → (state : their_state.State) → state_of nfa q ≡ state
-        → Stands nfa.transitions.items s state (node_at a (s.base + q)) → IterState
+        → Stands nfa.transitions.items s state (node_at a (s.base + q)) → Walks q i
     unfolding edges_of next_on
     walk-from under (their.ByteRange t) is stands =
         walk-read under (their.ByteRange t) is stands (record {
           visits = refl;
           leads_on = refl;
           targets = λ b. range-target b (covers t b);
-          small = λ b r e. range-small b r (covers t b) e;
+          small = λ b r e. range-small r (covers t b) stands.0 e;
           writes_nothing = refl;
         })
       where
         range-target : (b : ℕ) (hit : Bool) → (if hit then Some (s.base + t.next) else None)
             ≡ option_map (λ r. s.base + r) (if hit then Some t.next else None)
-        range-target b true = refl
-        range-target b false = refl
+        range-target b hit = grind arith
 
-        range-small : (b r : ℕ) (hit : Bool) → (if hit then Some t.next else None) ≡ Some r → r < s.size
-        range-small b r true e = let same : t.next ≡ r = cc in subst (λ k. k < s.size) same stands.0
-        range-small b r false e = cc
+        range-small : (r : ℕ) (hit : Bool) → t.next < s.size → (if hit then Some t.next else None) ≡ Some r → r < s.size
+        range-small r hit small e = grind arith
     walk-from under (their.Sparse from to) is stands =
         walk-read under (their.Sparse from to) is stands (record {
           visits = refl;
@@ -343,7 +279,7 @@ module _ (a : Automaton) (x : Search) (nfa : Nfa) (s : Site) (block : IsBlock a.
         let sound = sound_of nfa q (their.Save slot next) is in
         walk-on under (their.Save slot next) is stands ((next, i) ∷ [])
         (stands.0.1, within, measure_falls_empty nfa x.haystack x.end next q i sound.1, tt) refl
-        (λ r t. Tells-write a s v slot i (go next i) r (ap slot_of stands.1) refl stands.0.0
+        (λ r t. Tells-write a s v slot (go next i) r (ap slot_of stands.1) stands.0.0
         (subst (λ o. Tells a s o r) (option_or-None (go next i)) t))
     walk-from under (their.Look l next) is stands = by_holds (holds l x.haystack i) refl
       where
@@ -351,7 +287,7 @@ module _ (a : Automaton) (x : Search) (nfa : Nfa) (s : Site) (block : IsBlock a.
             → edges_of x (Look (look_of l) (s.base + next)) i ≡ (if b then (s.base + next, i) ∷ [] else [])
         leads b e = ap (λ c. if c then (s.base + next, i) ∷ [] else []) (look-same l x.haystack i (omega arith) ∙ e)
 
-        by_holds : (b : Bool) → holds l x.haystack i ≡ b → IterState
+        by_holds : (b : Bool) → holds l x.haystack i ≡ b → Walks q i
         by_holds false fails =
             walk-plain under (their.Look l next) is stands [] tt refl (leads false fails) (rw fails refl)
         by_holds true ok =
@@ -364,8 +300,7 @@ module _ (a : Automaton) (x : Search) (nfa : Nfa) (s : Site) (block : IsBlock a.
       subst (λ o. Tells a s o (Some (v ∷ (match_at s, i) ∷ []))) (sym (run_at nfa x.haystack x.end q i their.Match is))
           (record {
             ends = refl;
-            writes = ap (λ c. write_of c i ++ (write_of (capture a (match_at s, i)) i ++ [])) (ap slot_of stands.1)
-                ∙ ap (λ c. (slot_in s 1, i) ∷ (write_of c i ++ [])) (ap slot_of match_here);
+            writes = λ slot. rw (ap slot_of stands.1, ap slot_of match_here) refl;
             explicit = tt;
           }),
       λ marks clear. IsFirst-step (edges a x) (is_match a) marks v (free marks q i below clear)
@@ -378,15 +313,11 @@ module _ (a : Automaton) (x : Search) (nfa : Nfa) (s : Site) (block : IsBlock a.
     )
       where
         unmarked : (marks : List Pair) → IsClear marks (suc (left q i)) → In (match_at s, i) (v ∷ marks) → ⊥
-        unmarked marks clear member =
-            elim member [
-              | inl e ↦ let two : s.base + s.size ≡ s.base + q = ap (λ (w : Pair). w.0) e in omega arith
-              | inr later ↦ clear.match i later
-            ]
+        unmarked marks clear member = grind (arith, clear.match i)
     walk-from under their.Fail is stands = walk-plain under their.Fail is stands [] tt refl refl refl
 
   -- from each pair of the pattern's states
-  pub walks : (q i : ℕ) → IterStates q i
-  walks = measure_induction nfa x.haystack x.end IterStates
+  pub walks : (q i : ℕ) → q < s.size → i ≤ x.end → Walks q i
+  walks = measure_induction nfa x.haystack x.end (λ q i. q < s.size → i ≤ x.end → Walks q i)
       (λ q i under below within.
       walk-from q i below within under (state_of nfa q) refl (here q below (state_of nfa q) refl))

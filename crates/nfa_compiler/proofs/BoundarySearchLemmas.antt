@@ -1,27 +1,88 @@
--- The answer of a leftmost first search in UTF-8 mode is the hit that ends on a boundary.
-use Rattle.std.proofs.Common.{◌≡◌, ℕ, zero, suc, ◌+◌, inl, inr, Bool, true, false, List, length, refl, sym, ap, subst, arith, Option, None, Some, MatchBool}
-use Rattle.std.proofs.lemmas.Bool.{false_from_ne_true}
-use Rattle.regex_hir.specs.Re.{Re}
-use Rattle.regex_hir.specs.Text.{is_none_or}
-use Rattle.nfa_paths.specs.Common.{IsBoundary, Search, is_anchored, Anchored, Automaton, Pair, is_utf8_empty, raised, EndsOnBoundary, IsWhole, SplitsCharacter, IsKeptAnswer, IsRestartedAnswer, IsScanAnswer, IsSearchAnswer}
-use Rattle.regex_search_core.specs.declared.search.Anchored.TheVariants.{No, Yes, Pattern}
-use Rattle.regex_search_core.specs.declared.search.MatchKind.TheVariants.{LeftmostFirst}
+-- The answer of a leftmost first search in UTF-8 mode is the hit that ends on a boundary: what a scan finds counts if
+-- it ends on one; if not, the search is to find what it is to find from one byte further on.
+use Rattle.nfa_paths.proofs.Common.{◌≡◌, ℕ, zero, suc, ◌+◌, ◌-◌, ◌≤◌, inl, inr, Bool, true, false, List, length, refl, arith, Option, None, Some, if◌then◌else◌, nat_tests, slice_get_past, slice_get-get_or, IsBoundary, Search, is_anchored, raised, No, sym, ap, subst, false_from_ne_true, Anchored, Automaton, Pair, is_utf8_empty, EndsOnBoundary, IsWhole, SplitsCharacter, IsKeptAnswer, IsRestartedAnswer, IsScanAnswer, IsSearchAnswer, LeftmostFirst}
+use Rattle.nfa_compiler.specs.Common.{Re, is_boundary, is_none_or, ends_on_boundary, expected_on_boundary, on_boundary, restarted_hit, PatternHit, expected, first_hit, pick, IsNfaOf}
+use Rattle.nfa_compiler.proofs.EachLemmas.{in-each-mode, hit-lies}
 use Rattle.nfa_paths.proofs.AnswerLemmas.{ends_on_boundary as ends_where}
 use Rattle.nfa_paths.proofs.PathToLemmas.{EndsWith-last}
-use Rattle.nfa_compiler.specs.BoundaryHits.{ends_on_boundary, expected_on_boundary, on_boundary}
-use Rattle.nfa_compiler.specs.Compiled.{IsNfaOf}
-use Rattle.nfa_compiler.specs.Patterns.{PatternHit, expected}
 use Rattle.nfa_compiler.proofs.AnswerLemmas.{IsAnsweredBy}
-use Rattle.nfa_compiler.proofs.BoundLemmas.{hit-lies}
-use Rattle.nfa_compiler.proofs.BoundaryLemmas.{anchored-kept, boundary-is, boundary-true, free-kept, free-split}
 use Rattle.nfa_compiler.proofs.SearchLemmas.{is_bound, told-scan}
 use Rattle.nfa_compiler.proofs.StartLemmas.{TellsHit, ToldHit}
 
+-- the two definitions of a boundary agree within the haystack
+
+pub boundary-true : (haystack : List ℕ) (i : ℕ) → IsBoundary haystack i → is_boundary haystack i ≡ true
+unfolding is_boundary
+boundary-true haystack i (inl end) = rw (slice_get_past haystack i (omega arith)) refl
+boundary-true haystack i (inr b) = grind (arith, nat_tests, slice_get-get_or haystack i 0)
+
+pub boundary-is : (haystack : List ℕ) (i : ℕ) → i ≤ length haystack → is_boundary haystack i ≡ true
+    → IsBoundary haystack i
+unfolding is_boundary
+boundary-is haystack i within e = grind (arith, nat_tests, slice_get-get_or haystack i 0)
+
+module _ (haystack : List ℕ) (at : ℕ → Option PatternHit) where
+  -- the first hit ends on a boundary, or there is none
+  first-kept : (n i : ℕ) → is_none_or (first_hit at n i) (ends_on_boundary haystack) ≡ true
+      → first_hit (λ j. on_boundary haystack (at j)) n i ≡ first_hit at n i
+  first-kept zero i e = refl
+  first-kept (suc n) i e = grind (arith, first-kept n (i + 1))
+
+  -- it does not: none that starts there ends on one
+  first-split : (n i : ℕ) (h : PatternHit) → first_hit at (suc n) i ≡ Some h → ends_on_boundary haystack h ≡ false
+      → first_hit (λ j. on_boundary haystack (at j)) (suc n) i ≡ first_hit (λ j. on_boundary haystack (at j)) n (i + 1)
+  first-split n i h e off = grind arith
+
+module _ (res : List Re) (bound : Bool) (x : Search) where
+  -- an anchored search
+  pub anchored-kept : is_anchored x.anchored ≡ true
+      → expected_on_boundary res bound x ≡ on_boundary x.haystack (expected res bound x)
+  unfolding expected expected_on_boundary
+  anchored-kept anchored = grind (arith, nat_tests, in-each-mode)
+
+  -- what a scan of n positions from i on finds, and what the search does
+  abbrev scan_hit : Bool → ℕ → ℕ → Option PatternHit
+  scan_hit b n i = first_hit (pick x.haystack res 0) (if b then 1 else n) i
+
+  abbrev search_hit : Bool → ℕ → ℕ → Option PatternHit
+  search_hit b n i =
+      if b then restarted_hit x.haystack (pick x.haystack res 0) n i
+      else first_hit (λ j. on_boundary x.haystack (pick x.haystack res 0 j)) n i
+
+  searched-kept : (b : Bool) (n i : ℕ) → is_none_or (scan_hit b (suc n) i) (ends_on_boundary x.haystack) ≡ true
+      → search_hit b (suc n) i ≡ scan_hit b (suc n) i
+  searched-kept false n i e = first-kept x.haystack (pick x.haystack res 0) (suc n) i e
+  searched-kept true n i e = grind arith
+
+  searched-split : (b : Bool) (n i : ℕ) (h : PatternHit) → scan_hit b (suc n) i ≡ Some h
+      → ends_on_boundary x.haystack h ≡ false → search_hit b (suc n) i ≡ search_hit b n (i + 1)
+  searched-split false n i h e off = first-split x.haystack (pick x.haystack res 0) n i h e off
+  searched-split true n i h e off = grind arith
+
+  searched-none : (b : Bool) (i : ℕ) → search_hit b 0 i ≡ None
+  searched-none true i = refl
+  searched-none false i = refl
+
+  module _ (free : x.anchored ≡ No) where
+    count : x.end - x.start + 1 ≡ suc (x.end - x.start)
+    count = omega arith
+
+    -- what a scan finds counts
+    pub free-kept : is_none_or (expected res bound x) (ends_on_boundary x.haystack) ≡ true
+        → expected_on_boundary res bound x ≡ expected res bound x
+    unfolding expected expected_on_boundary
+    free-kept e = grind (arith, nat_tests, searched-kept bound (x.end - x.start) x.start)
+
+    -- it does not: the search is to find what it is to find from one byte further on
+    pub free-split : (h : PatternHit) → expected res bound x ≡ Some h → ends_on_boundary x.haystack h ≡ false
+        → expected_on_boundary res bound x ≡ expected_on_boundary res bound (raised x 1)
+    unfolding expected expected_on_boundary
+    free-split h e off =
+        grind (arith, nat_tests, searched-split bound (x.end - x.start) x.start h, searched-none bound (x.start + 1))
+
 -- a search that is not anchored
 unanchored : (mode : Anchored) → is_anchored mode ≡ false → mode ≡ No
-unanchored No is = refl
-unanchored Yes is = absurd (cc)
-unanchored (Pattern pattern) is = absurd (cc)
+unanchored mode is = grind arith
 
 -- no restart, and one restart before the others
 pub raised-none : (x : Search) → x ≡ raised x 0
@@ -67,13 +128,7 @@ module _ (res : List Re) (a : Automaton) (made : IsNfaOf res a) (mode : is_utf8_
     -- the scan's answer counts
     kept : (path : Option (List Pair)) → IsScanAnswer a x LeftmostFirst false path → IsWhole x path
         → is_none_or (scanned x) (ends_on_boundary x.haystack) ≡ true
-    kept path answers on = of (scanned x) path (told-first path answers) on
-      where
-        of : (o : Option PatternHit) (path : Option (List Pair)) → TellsHit a o path → IsWhole x path
-            → is_none_or o (ends_on_boundary x.haystack) ≡ true
-        of None path t on = refl
-        of (Some h) None t on = absurd t
-        of (Some h) (Some p) t on = on-true h p t on
+    kept path answers on = grind (arith, told-first path answers, on-true)
 
     -- it does not
     split : SplitsCharacter a LeftmostFirst false x
@@ -126,14 +181,7 @@ module _ (res : List Re) (a : Automaton) (made : IsNfaOf res a) (mode : is_utf8_
   module _ (x : Search) (whole : x.end ≡ length x.haystack) where
     told-search : (restarts : ℕ) (path : Option (List Pair)) → IsSearchAnswer a LeftmostFirst false x restarts path
         → TellsHit a (searched x) path
-    told-search restarts path answers = of (is_anchored x.anchored) refl (rw mode at answers)
-      where
-        of : (anchored : Bool) → is_anchored x.anchored ≡ anchored
-            → MatchBool anchored ((restarts ≡ 0) × IsKeptAnswer a LeftmostFirst false x path)
-            (IsRestartedAnswer a LeftmostFirst false x restarts path)
-            → TellsHit a (searched x) path
-        of true is answer = told-kept x whole is path answer.1
-        of false is answer = told-restarted restarts x whole (unanchored x.anchored is) path answer
+    told-search restarts path answers = grind (arith, nat_tests, TellsHit, told-kept, told-restarted, unanchored)
 
     -- the search's answer is the hit
     pub boundary-answered : IsAnsweredBy a x (searched x)

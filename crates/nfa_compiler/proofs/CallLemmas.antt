@@ -1,37 +1,21 @@
 -- What a search of a whole haystack finds of one text, and what its captures give for a name, in the words of
 -- `regex_hir`.
-use Rattle.std.proofs.Common.{◌≡◌, ℕ, zero, suc, ◌<◌, true, false, List, [], ◌∷◌, map, length, refl, ap, ◌∙◌, subst, arith, IsUtf8, Option, None, Some, All, option_map, slice_index_or, drop, option_and_then}
-use Rattle.regex_hir.specs.Find.{Match, find, find_all, find_all_str, find_str}
-use Rattle.regex_hir.specs.Re.{Re}
-use Rattle.nfa_paths.specs.Common.{Found, Search, whole, Automaton, is_utf8_empty, IsFindAnswer, group_named, slot_count, Captured, group_span, named_span}
-use Rattle.regex_search_core.specs.declared.search.MatchKind.TheVariants.{LeftmostFirst}
-use Rattle.regex_syntax.specs.declared.Config.{Config}
-use Rattle.nfa_search_base.specs.Lists.{AreMatches}
-use Rattle.nfa_compiler.specs.AnyStart.{FindsFromAnyStart, LosesNoHit}
-use Rattle.nfa_compiler.specs.Compiled.{IsCompiled, IsMeant}
-use Rattle.nfa_compiler.specs.Patterns.{found_at, found_by, found_of_hit, hit_by, AreOfHit, slots_of}
-use Rattle.nfa_compiler.proofs.AllSearchLemmas.{all-matches, all-of-one, all-str-of-one, strs-answered, texts-answered}
+use Rattle.nfa_paths.proofs.Common.{◌≡◌, ℕ, ◌<◌, true, false, List, [], ◌∷◌, map, length, refl, ap, ◌∙◌, subst, arith, IsUtf8, Option, None, Some, All, option_map, slice_index_or, drop, option_and_then, get_or_default, Found, Search, whole, Automaton, is_utf8_empty, IsFindAnswer, group_named, slot_count, Captured, named_span, LeftmostFirst}
+use Rattle.nfa_compiler.specs.Common.{Match, find, find_all, find_all_str, find_str, Re, Config, FindsFromAnyStart, LosesNoHit, IsCompiled, IsMeant, found_at, found_by, found_of_hit, hit_by, AreOfHit, slots_of, IsNamed, captures_of, written_span, hit, str_hit}
+use Rattle.nfa_search_base.specs.Common.{AreMatches}
+use Rattle.nfa_compiler.proofs.AllSearchLemmas.{all-matches, all-of-one, strs-answered, texts-answered, one-hit, one-str-hit, text-answered}
 use Rattle.nfa_compiler.proofs.AnswerLemmas.{IsAnsweredBy, match-is}
-use Rattle.nfa_compiler.proofs.StrSearchLemmas.{free-str-answered, str-kept}
-use Rattle.nfa_compiler.proofs.TextLemmas.{one-hit, one-str-hit, text-answered}
+use Rattle.nfa_compiler.proofs.StrLemmas.{free-str-answered, str-kept}
 use Rattle.nfa_compiler.proofs.UnboundLemmas.{texts-lose-none}
-use Rattle.nfa_compiler.specs.NameLaws.{IsNamed, captures_of, written_span}
-use Rattle.nfa_compiler.proofs.GroupLemmas.{name-written}
-use Rattle.nfa_compiler.proofs.NameLemmas.{groups-named}
+use Rattle.nfa_compiler.proofs.GroupLemmas.{name-written, groups-named}
 
 -- the bytes of a slice
-default-same : (xs : List ℕ) (k d : ℕ) → k < length xs → slice_index_or xs k d ≡ slice_index_or xs k 0
-default-same [] k d less = absurd (omega arith)
-default-same (x ∷ xs) zero d less = refl
-default-same (x ∷ xs) (suc k) d less = default-same xs k d (omega arith)
-
 pub bytes-of : (haystack : List ℕ) → ((k : ℕ) → slice_index_or haystack k 0 < 256) → All (λ b. b < 256) haystack
-bytes-of haystack each = λ k d less. omega (arith, each k, default-same haystack k d less)
+bytes-of haystack each = λ k d less. omega (arith, each k, get_or_default haystack k 0 d less)
 
 -- the match of the hit of pattern 0
 pub hit-found : (o : Option Match) → found_of_hit (option_map (hit_by 0) o) ≡ option_map found_by o
-hit-found None = refl
-hit-found (Some m) = refl
+hit-found o = grind arith
 
 pub hits-found : (ms : List Match) → map found_at (map (hit_by 0) ms) ≡ map found_by ms
 hits-found [] = refl
@@ -61,7 +45,7 @@ module _ (syntax : Config) (text : List ℕ) (nfa : Automaton) (haystack : List 
         all-matches
         (texts-answered (re ∷ []) nfa (whole haystack) refl syntax (text ∷ []) compiled (meant, tt) anywhere bytes) ms
         are
-        ∙ ap (map found_at) (all-of-one re nfa (whole haystack) kept refl refl refl)
+        ∙ ap (map found_at) (all-of-one hit find one-hit re nfa (whole haystack) kept refl refl refl)
         ∙ hits-found (find_all re haystack)
 
   -- in a `str`
@@ -82,7 +66,7 @@ module _ (syntax : Config) (text : List ℕ) (nfa : Automaton) (haystack : List 
         all-matches
         (strs-answered (re ∷ []) nfa (whole haystack) refl syntax (text ∷ []) compiled (meant, tt) mode free valid) ms
         are
-        ∙ ap (map found_at) (all-str-of-one re nfa (whole haystack) kept-in-str refl refl refl)
+        ∙ ap (map found_at) (all-of-one str_hit find_str one-str-hit re nfa (whole haystack) kept-in-str refl refl refl)
         ∙ hits-found (find_all_str re haystack)
 
 -- captures
@@ -100,9 +84,7 @@ module _ (syntax : Config) (text : List ℕ) (nfa : Automaton) (compiled : IsCom
       → group_named (drop 1 names ∷ []) 0 name ≡ Some group
       → AreOfHit nfa.groups (option_map (hit_by 0) o) captures.pattern captures.slots
       → named_span captures name ≡ option_and_then (written_span group) o
-  call-name captures name group None same room is hit =
-      ap (option_and_then (λ pattern. option_and_then (λ g. group_span captures g)
-      (group_named captures.groups pattern name))) hit.0
+  call-name captures name group None same room is hit = grind arith
   call-name captures name group (Some m) same room is hit =
       let slots = hit.1 ∙ ap (λ n. slots_of nfa.groups n (Some (hit_by 0 m))) room in
       let all : captures ≡ captures_of nfa (hit_by 0 m) =

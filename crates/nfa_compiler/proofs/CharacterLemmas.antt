@@ -1,43 +1,22 @@
 -- A pattern that is read under `utf8` matches whole characters of a `str`.
-use Rattle.std.proofs.Common.{◌≡◌, ℕ, zero, suc, ◌+◌, ◌-◌, ◌≤◌, ◌<◌, inl, inr, ⊎_elim, Bool, true, false, List, [], ◌∷◌, ◌++◌, map, length, take, drop, refl, sym, ap, ◌∙◌, subst, arith, length-drop, drop-cons, take_at, IsUtf8, IsCharBoundary, ltb-true, true≢false, Option, None, Some, slice_index, encode_utf8}
+use Rattle.nfa_paths.proofs.Common.{◌≡◌, ℕ, zero, suc, ◌+◌, ◌-◌, ◌≤◌, ◌<◌, inl, inr, ⊎_elim, Bool, true, false, List, [], ◌∷◌, ◌++◌, map, length, take, drop, refl, sym, ap, ◌∙◌, subst, arith, length-drop, drop-cons, take_at, IsUtf8, IsCharBoundary, ltb-true, true≢false, Option, None, Some, slice_index, encode_utf8, cases_lt, slice_get_past, slice_get_within, get_or_from_slice_get}
 use Rattle.std.specs.Char.{len_utf8}
-use Rattle.std.proofs.lemmas.Bool.{and_parts, cases_lt, or_cases}
-use Rattle.std.proofs.lemmas.Option.{slice_get_past, slice_get_within, get_or_from_slice_get}
 use Rattle.std.proofs.lemmas.Str.{IsCharBoundary-after_ascii, IsCharBoundary-from_rest, IsCharBoundary-from_take, IsCharBoundary-start, IsUtf8-drop, IsUtf8-encode, length-encode, len_utf8_bounds}
-use Rattle.regex_hir.specs.Matches.{IsMinLen, Matches, Rounds, one_round, next_round}
-use Rattle.regex_hir.specs.Meaning.{meaning, node_meaning, cat_all, alt_all, optional, copies, up_to, repeat}
-use Rattle.regex_hir.specs.Re.{Re, empty, literal, byte_in, char_in, look, cat, alt, group, plus}
-use Rattle.regex_hir.specs.Reads.{always_reads}
-use Rattle.regex_hir.specs.Text.{has_bytes_at, is_boundary}
-use Rattle.regex_hir.specs.declared.look.Look as theirs
-use Rattle.regex_hir.specs.declared.hir.Hir.{Hir, Empty, Literal, Bytes, Chars, Look, Repetition', Capture', Concat', Alternation', Row_of-Hir, end_of-Hir, more_of-Hir, items-the_row-Hir, items_shown-the_row-Hir-0, map-Hir, fold_out-Hir}
+use Rattle.nfa_compiler.specs.Common.{IsMinLen, Matches, Rounds, one_round, next_round, meaning, node_meaning, cat_all, alt_all, optional, copies, up_to, repeat, Re, empty, literal, byte_in, char_in, cat, alt, group, plus, always_reads, has_bytes_at, is_boundary, Hir, Empty, Literal, Bytes, Chars, Look, Repetition', Capture', Concat', Alternation', Row_of-Hir, end_of-Hir, more_of-Hir, items-the_row-Hir, items_shown-the_row-Hir-0, map-Hir, fold_out-Hir, MatchesCharacters}
 use Rattle.regex_hir.specs.declared.hir.Hir.TheVariants.{outs-Concat', outs-Alternation'}
 use Rattle.regex_hir.proofs.MatchesLemmas.{IsMinLen-no_byte, Matches-IsSpan}
 use Rattle.regex_hir.proofs.MeaningLemmas.{meaning-Empty, meaning-Literal, meaning-Bytes, meaning-Chars, meaning-Look, meaning-Repetition, meaning-Capture}
 use Rattle.regex_hir.proofs.TextLemmas.{has_bytes_at_from, has_bytes_at_parts, has_bytes_at_fits, char_at_parts}
 use Rattle.regex_syntax.specs.WellFormed.{IsWithin, IsWellFormed, AreWellFormed}
-use Rattle.nfa_compiler.specs.StrHits.{MatchesCharacters}
-use Rattle.nfa_compiler.proofs.BoundaryLemmas.{boundary-is, boundary-true}
+use Rattle.nfa_compiler.proofs.BoundarySearchLemmas.{boundary-is, boundary-true}
 
 module _ (hay : List ℕ) (text : IsUtf8 hay) where
   -- how a boundary of the text is one of std's
   cut : (i : ℕ) → i ≤ length hay → is_boundary hay i ≡ true → IsCharBoundary hay i
-  cut i within e = (
-    within,
-    λ less high. elim (boundary-is hay i within e) [
-      | inl end ↦ absurd (omega arith)
-      | inr b ↦ elim b.1 [ inl low ↦ absurd (omega arith) | inr top ↦ omega arith ]
-    ],
-  )
+  cut i within e = (within, λ less high. grind (arith, boundary-is hay i within e))
 
   uncut : (i : ℕ) → IsCharBoundary hay i → is_boundary hay i ≡ true
-  uncut i c = boundary-true hay i (elim (cases_lt i (length hay)) [
-    | inl less ↦ elim (cases_lt (slice_index hay i) 128) [
-      | inl low ↦ inr (less, inl (omega arith))
-      | inr high ↦ inr (less, inr (omega (arith, c.1 less high)))
-    ]
-    | inr past ↦ inl (omega (arith, c.0))
-  ])
+  uncut i c = boundary-true hay i (grind (arith, c.1))
 
   beyond : (i : ℕ) → length hay ≤ i → is_boundary hay i ≡ true
   unfolding is_boundary
@@ -52,10 +31,7 @@ module _ (hay : List ℕ) (text : IsUtf8 hay) where
   stays i j same = record { whole = λ on. ap (is_boundary hay) same ∙ on; split = λ off. same }
 
   both : (i l j : ℕ) → Keeps i l → Keeps l j → Keeps i j
-  both i l j first second = record {
-    whole = λ on. second.whole (first.whole on);
-    split = λ off. let here = first.split off in second.split (ap (is_boundary hay) here ∙ off) ∙ here;
-  }
+  both i l j first second = grind (arith, first.whole, first.split, second.whole, second.split)
 
   -- a text at i
   past_text : (bs rest : List ℕ) (i : ℕ) → IsUtf8 bs → i + length bs ≤ length hay → drop i hay ≡ bs ++ rest
@@ -72,15 +48,12 @@ module _ (hay : List ℕ) (text : IsUtf8 hay) where
       → is_boundary hay i ≡ false → length bs ≡ 0
   no_text [] rest i part less reads off = refl
   no_text (b ∷ bs) rest i part less reads off =
-      let head : slice_index hay i ≡ b = heads (slice_index hay i) b (drop (suc i) hay) (bs ++ rest)
-      (sym (drop-cons hay i 0 less) ∙ reads) in
+      let all : slice_index hay i ∷ drop (suc i) hay ≡ b ∷ (bs ++ rest) = sym (drop-cons hay i 0 less) ∙ reads in
+      let head : slice_index hay i ≡ b = cc in
       let starts = IsCharBoundary-start (b ∷ bs) part in
       let on =
       uncut i (omega arith, λ inside high. omega (arith, starts.1 (omega arith) (omega (arith, head)), head)) in
       absurd (true≢false (sym on ∙ off))
-    where
-      heads : (x y : ℕ) (xs ys : List ℕ) → x ∷ xs ≡ y ∷ ys → x ≡ y
-      heads x y xs ys e = cc
 
   reads_text : (bs : List ℕ) (i : ℕ) → IsUtf8 bs → has_bytes_at hay i bs ≡ true → Keeps i (i + length bs)
   reads_text bs i part here = elim (cases_lt i (length hay)) [
@@ -97,61 +70,38 @@ module _ (hay : List ℕ) (text : IsUtf8 hay) where
   ]
 
   -- each match of the pattern is such a step
-  pub record Steps (re : Re) : Type 0 where
-    pub at : (i j : ℕ) → Matches hay re i j → Keeps i j
-
-  of_literal : (bs : List ℕ) → IsUtf8 bs → Steps (literal bs)
-  of_literal bs part = record { at = λ i j m. subst (Keeps i) (sym m.1) (reads_text bs i part m.0) }
+  abbrev Steps : Re → Type 0
+  Steps re = (i j : ℕ) → Matches hay re i j → Keeps i j
 
   of_byte : (rs : List (ℕ × ℕ)) → IsWithin 0x7F rs → Steps (byte_in rs)
-  of_byte rs ascii = record {
-    at = λ i j m.
-        let less = slice_get_within hay i m.0 m.1 in
-        let low : slice_index hay i < 128 = omega (arith, ascii m.0 m.2, get_or_from_slice_get hay i m.0 0 m.1) in
-        let next = uncut (i + 1) (IsCharBoundary-after_ascii hay i text less low) in
-        let here = boundary-true hay i (inr (less, inl (omega arith))) in
-        record {
-          whole = λ on. ap (is_boundary hay) m.3 ∙ next;
-          split = λ off. absurd (true≢false (sym here ∙ off));
-        };
-  }
+  of_byte rs ascii i j m =
+      grind (arith, slice_get_within, get_or_from_slice_get, uncut, IsCharBoundary-after_ascii, boundary-true)
 
   of_char : (rs : List (ℕ × ℕ)) → Steps (char_in rs)
-  of_char rs = record {
-    at = λ i j m.
-        let char = char_at_parts hay i m.0 m.1 in
-        let long : length (encode_utf8 m.0) ≡ len_utf8 m.0 = length-encode m.0 in
-        let here : has_bytes_at hay i (encode_utf8 m.0) ≡ true = has_bytes_at_from hay i (encode_utf8 m.0) _ char.1 in
-        let next : i + length (encode_utf8 m.0) ≡ j = omega (arith, m.3, long) in
-        subst (Keeps i) next (reads_text (encode_utf8 m.0) i (IsUtf8-encode m.0 char.0) here);
-  }
+  of_char rs i j m =
+      let char = char_at_parts hay i m.0 m.1 in
+      let long : length (encode_utf8 m.0) ≡ len_utf8 m.0 = length-encode m.0 in
+      let here : has_bytes_at hay i (encode_utf8 m.0) ≡ true = has_bytes_at_from hay i (encode_utf8 m.0) _ char.1 in
+      let next : i + length (encode_utf8 m.0) ≡ j = omega (arith, m.3, long) in
+      subst (Keeps i) next (reads_text (encode_utf8 m.0) i (IsUtf8-encode m.0 char.0) here)
 
   -- the empty class
   of_none : Steps (byte_in [])
   unfolding IsMinLen
-  of_none = record { at = λ i j m. absurd (omega (arith, IsMinLen-no_byte (j + 1) hay i j m)) }
+  of_none i j m = absurd (omega (arith, IsMinLen-no_byte (j + 1) hay i j m))
 
   of_empty : Steps empty
-  of_empty = record { at = stays }
-
-  of_look : (l : theirs.Look) → Steps (look l)
-  of_look l = record { at = λ i j m. stays i j m.1 }
+  of_empty = stays
 
   of_cat : (a b : Re) → Steps a → Steps b → Steps (cat a b)
-  of_cat a b p q = record { at = λ i j m. both i m.0 j (p.at i m.0 m.1) (q.at m.0 j m.2) }
+  of_cat a b p q i j m = both i m.0 j (p i m.0 m.1) (q m.0 j m.2)
 
   of_alt : (a b : Re) → Steps a → Steps b → Steps (alt a b)
-  of_alt a b p q = record { at = λ i j m. ⊎_elim (p.at i j) (q.at i j) m }
-
-  of_group : (n : ℕ) (a : Re) → Steps a → Steps (group n a)
-  of_group n a p = record { at = p.at }
+  of_alt a b p q i j m = ⊎_elim (p i j) (q i j) m
 
   of_plus : (greedy : Bool) (a : Re) → Steps a → Steps (plus greedy a)
-  of_plus greedy a p = record { at = of }
-    where
-      of : (i j : ℕ) → Rounds (Matches hay a) i j → Keeps i j
-      of i j (one_round _ r) = p.at i j r
-      of i j (next_round l _ rs r) = both i l j (of i l rs) (p.at l j r)
+  of_plus greedy a p i j (one_round _ r) = p i j r
+  of_plus greedy a p i j (next_round l _ rs r) = both i l j (of_plus greedy a p i l rs) (p l j r)
 
   -- repetitions
 
@@ -180,17 +130,18 @@ module _ (hay : List ℕ) (text : IsUtf8 hay) where
   mutual
     of_tree : (h : Hir) → IsWellFormed true h → Steps (meaning h)
     of_tree Empty formed = subst Steps (sym meaning-Empty) of_empty
-    of_tree (Literal bs) formed = subst Steps (sym (meaning-Literal bs)) (of_literal bs.items (formed refl))
+    of_tree (Literal bs) formed = subst Steps (sym (meaning-Literal bs))
+        (λ i j m. subst (Keeps i) (sym m.1) (reads_text bs.items i (formed refl) m.0))
     of_tree (Bytes class) formed = subst Steps (sym (meaning-Bytes class)) (of_byte class.ranges.items formed)
     of_tree (Chars class) formed = subst Steps (sym (meaning-Chars class)) (of_char class.ranges.items)
-    of_tree (Look l) formed = subst Steps (sym (meaning-Look l)) (of_look l)
+    of_tree (Look l) formed = subst Steps (sym (meaning-Look l)) (λ i j m. stays i j m.1)
     of_tree (Repetition' least most greedy place sub) formed =
         subst Steps
         (sym (meaning-Repetition least most greedy (record { ptr = place.ptr; alloc = place.alloc; value = sub })))
         (of_repeat least most greedy (meaning sub) (of_tree sub formed.1))
     of_tree (Capture' index place sub) formed =
         subst Steps (sym (meaning-Capture index (record { ptr = place.ptr; alloc = place.alloc; value = sub })))
-        (of_group index (meaning sub) (of_tree sub formed))
+        (of_tree sub formed)
     of_tree (Concat' shape subs) formed =
         subst Steps
         (sym (fold_out-Hir Re node_meaning _
@@ -211,35 +162,29 @@ module _ (hay : List ℕ) (text : IsUtf8 hay) where
     of_row n (more_of-Hir sub rest) formed =
         let one = of_tree sub formed.0 in
         let others = of_row _ rest formed.1 in
-        (of_cat _ _ one others.0, of_alt _ _ one others.1)
+        let subs = map meaning (items-the_row-Hir _ rest) in
+        (of_cat (meaning sub) (cat_all subs) one others.0, of_alt (meaning sub) (alt_all subs) one others.1)
 
 -- a tree that the parser returns under `utf8` matches whole characters
 pub tree-matches-characters : (h : Hir) → IsWellFormed true h → MatchesCharacters (meaning h)
 tree-matches-characters h formed = record {
-  whole = λ hay i j text m. ((of_tree hay text h formed).at i j m).whole;
-  split = λ hay i j text m. ((of_tree hay text h formed).at i j m).split;
+  whole = λ hay i j text m. (of_tree hay text h formed i j m).whole;
+  split = λ hay i j text m. (of_tree hay text h formed i j m).split;
 }
 
 -- a pattern that always reads a byte has no empty match
 pub reads-on : (hay : List ℕ) (re : Re) → always_reads re ≡ true → (i j : ℕ) → Matches hay re i j → i < j
-reads-on hay empty never i j m = absurd (true≢false (sym never))
 reads-on hay (literal bs) reads i j m = omega (arith, m.1, ltb-true 0 (length bs) reads)
 reads-on hay (byte_in rs) reads i j m = omega (arith, m.3)
 reads-on hay (char_in rs) reads i j m = omega (arith, m.3, len_utf8_bounds m.0)
-reads-on hay (look l) never i j m = absurd (true≢false (sym never))
 reads-on hay (cat a b) reads i j m =
     let first = Matches-IsSpan hay a i m.0 m.1 in
-    let second = Matches-IsSpan hay b m.0 j m.2 in
-    elim (or_cases (always_reads a) (always_reads b) reads) [
-      | inl p ↦ omega (arith, reads-on hay a p i m.0 m.1)
-      | inr p ↦ omega (arith, reads-on hay b p m.0 j m.2)
-    ]
-reads-on hay (alt a b) reads i j m =
-    let p = and_parts (always_reads a) (always_reads b) reads in
-    ⊎_elim (reads-on hay a p.0 i j) (reads-on hay b p.1 i j) m
+    grind (arith, first, Matches-IsSpan hay b m.0 j m.2, reads-on hay a, reads-on hay b)
+reads-on hay (alt a b) reads i j m = grind (arith, reads-on hay a, reads-on hay b)
 reads-on hay (group n a) reads i j m = reads-on hay a reads i j m
 reads-on hay (plus greedy a) reads i j m = of (reads-on hay a reads) i j m
   where
     of : ((i j : ℕ) → Matches hay a i j → i < j) → (i j : ℕ) → Rounds (Matches hay a) i j → i < j
     of each i j (one_round _ r) = each i j r
     of each i j (next_round l _ rs r) = omega (arith, of each i l rs, each l j r)
+reads-on hay _ never i j m = absurd (true≢false (sym never))

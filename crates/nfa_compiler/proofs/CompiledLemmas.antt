@@ -1,17 +1,10 @@
--- How an NFA of patterns comes about, pattern by pattern.
-use Rattle.std.proofs.Common.{◌≡◌, ℕ, ◌+◌, ◌*◌, ◌≤◌, ◌<◌, Bool, List, [], ◌∷◌, ◌++◌, map, take, length, sym, ap, ◌∙◌, subst, arith, slice_index_or, All, Option}
-use Rattle.std.specs.List.{AllZip}
-use Rattle.std.proofs.lemmas.List.{get_or-map, length-map, map-append, take_more}
+-- How an NFA of patterns comes about, pattern by pattern, and which pattern an error names.
+use Rattle.nfa_paths.proofs.Common.{◌≡◌, ℕ, ◌+◌, ◌*◌, ◌≤◌, ◌<◌, List, [], ◌∷◌, ◌++◌, map, take, length, sym, ap, ◌∙◌, subst, arith, slice_index_or, All, AllZip, get_or-map, length-map, map-append, take_more, All-push, sum_by_more, Automaton, Node, get_or_default}
 use Rattle.std.proofs.lemmas.Slice.Zip.{all_zipped_more}
-use Rattle.std.proofs.lemmas.List.Elements.{All-push}
-use Rattle.std.proofs.lemmas.List.Sums.{sum_by_more}
-use Rattle.regex_hir.specs.Re.{empty}
-use Rattle.regex_hir.specs.Meaning.{meaning}
-use Rattle.regex_syntax.specs.declared.Parsed.{Parsed}
-use Rattle.nfa_paths.specs.Common.{Automaton, Node}
-use Rattle.nfa_compiler.specs.Added.{Adds}
-use Rattle.nfa_compiler.specs.Compiled.{IsPatternAt, ArePatterns, Chooses, IsNfaOf, explicit_names, first_slot, groups_of, res_of}
+use Rattle.nfa_compiler.specs.Common.{empty, meaning, Parsed, Adds, IsPatternAt, ArePatterns, Chooses, IsNfaOf, explicit_names, first_slot, groups_of, res_of, FitsIn, IsFirstTooBig, IsOfPattern, NamesPattern}
 use Rattle.nfa_compiler.proofs.AddLemmas.{chooses-kept, patterns-kept, patterns-more, adds-trans}
+use Rattle.nfa_compiler.specs.declared.error.CompileError.{CompileError}
+use Rattle.nfa_compiler.specs.declared.error.CompileError.TheVariants.{TooBig, Tree}
 
 -- the slots of one pattern more
 pub slots-more : (patterns : List Parsed) (i : ℕ) (p : Parsed) → i < length patterns → p ≡ slice_index_or patterns i p
@@ -48,36 +41,22 @@ inside-more n m starts more start le all less e =
     (All-push (λ s. s < m) starts start
     (λ i d h. let small : slice_index_or starts i d < n = all i d h in omega arith) less)
 
--- what is made of the patterns, the choice and the prefix
-pub nfa-made : (one two three : List Node) (patterns : List Parsed) (starts : List ℕ) (anchored unanchored : ℕ)
-    (has_empty utf8 : Bool) (groups : List (List (Option (List ℕ)))) (nfa : Automaton)
-    → length starts ≡ length patterns → groups ≡ groups_of patterns
-    → ArePatterns one (groups_of patterns) starts (res_of patterns) (length patterns)
-    → Adds one two → Chooses two anchored starts → anchored < length two → Adds two three
-    → nfa ≡ record {
-      states = three;
-      anchored = anchored;
-      unanchored = unanchored;
-      patterns = starts;
-      groups = groups;
-      has_empty = has_empty;
-      utf8 = utf8;
-    }
+-- the NFA has the states of the patterns, their choice and the prefix
+pub nfa-made : (one two : List Node) (patterns : List Parsed) (nfa : Automaton)
+    → length nfa.patterns ≡ length patterns → nfa.groups ≡ groups_of patterns
+    → ArePatterns one (groups_of patterns) nfa.patterns (res_of patterns) (length patterns)
+    → Adds one two → Chooses two nfa.anchored nfa.patterns → nfa.anchored < length two → Adds two nfa.states
     → IsNfaOf (res_of patterns) nfa
-nfa-made one two three patterns starts anchored unanchored has_empty utf8 groups nfa long are made adds chooses inside
-    more e =
-    subst (IsNfaOf (res_of patterns)) (sym e) (record {
+nfa-made one two patterns nfa long are made adds chooses inside more =
+    let count : length (res_of patterns) ≡ length patterns = length-map patterns (λ p. meaning p.hir) in
+    record {
       patterns = long ∙ sym count;
       groups = ap length are ∙ length-map patterns explicit_names ∙ sym count;
-      each = subst (λ g. ArePatterns three g starts (res_of patterns) (length (res_of patterns))) (sym are)
-          (subst (ArePatterns three (groups_of patterns) starts (res_of patterns)) (sym count)
-          (patterns-kept one three (groups_of patterns) starts (res_of patterns) (length patterns)
-          (adds-trans one two three adds more) made));
-      chooses = chooses-kept two three anchored starts more inside chooses;
-    })
-  where
-    count : length (res_of patterns) ≡ length patterns
-    count = length-map patterns (λ p. meaning p.hir)
+      each = rw (are, count)
+          (patterns-kept one nfa.states (groups_of patterns) nfa.patterns (res_of patterns) (length patterns)
+          (adds-trans one two nfa.states adds more) made);
+      chooses = chooses-kept two nfa.states nfa.anchored nfa.patterns more inside chooses;
+    }
 
 -- one text more is read
 pub read-more : {A : Type 0} (R : List ℕ → Parsed → Type 0) (f : A → List ℕ) (xs : List A) (i : ℕ) (d : A)
@@ -89,3 +68,33 @@ read-more R f xs i d trees more tree inside so_far here e =
     subst (λ ts. AllZip R ts more) (sym one)
     (subst (AllZip R (map f (take i xs) ++ f (slice_index_or xs i d) ∷ [])) (sym e)
     (all_zipped_more R (map f (take i xs)) trees (f (slice_index_or xs i d)) tree so_far here))
+
+-- one pattern more fits
+pub fit-more : (limit : ℕ) (patterns : List Parsed) (i : ℕ) (p : Parsed) → i < length patterns
+    → p ≡ slice_index_or patterns i p → ((k : ℕ) → k < i → FitsIn limit (slice_index_or (res_of patterns) k empty))
+    → FitsIn limit (meaning p.hir) → (k : ℕ) → k < i + 1 → FitsIn limit (slice_index_or (res_of patterns) k empty)
+fit-more limit patterns i p inside is so_far here = grind (arith, re-at)
+
+-- all patterns fit
+pub fit-all : (limit : ℕ) (patterns : List Parsed)
+    → ((k : ℕ) → k < length patterns → FitsIn limit (slice_index_or (res_of patterns) k empty))
+    → All (FitsIn limit) (res_of patterns)
+fit-all limit patterns each k d inside =
+    subst (FitsIn limit) (get_or_default (res_of patterns) k empty d inside)
+    (each k (omega (arith, length-map patterns (λ p. meaning p.hir))))
+
+-- if the patterns before i fit, it may be the first that does not
+first : (limit : ℕ) (patterns : List Parsed) (i : ℕ) → i < length patterns
+    → ((k : ℕ) → k < i → FitsIn limit (slice_index_or (res_of patterns) k empty))
+    → IsFirstTooBig limit (res_of patterns) i
+first limit patterns i inside fit = grind (arith, length-map)
+
+-- an error of the pattern at i names it
+pub named-at : (limit : ℕ) (patterns : List Parsed) (i : ℕ) (e : CompileError) → i < length patterns
+    → ((k : ℕ) → k < i → FitsIn limit (slice_index_or (res_of patterns) k empty))
+    → IsOfPattern limit i e → NamesPattern limit (res_of patterns) e
+named-at limit patterns i (TooBig pattern found) inside fit (of, at) =
+    (of, subst (IsFirstTooBig limit (res_of patterns)) (sym at) (first limit patterns i inside fit))
+named-at limit patterns i (Tree pattern) inside fit at =
+    subst (IsFirstTooBig limit (res_of patterns)) (sym at) (first limit patterns i inside fit)
+named-at limit patterns i _ inside fit of = tt

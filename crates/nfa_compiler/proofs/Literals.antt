@@ -1,31 +1,20 @@
 -- For callers with a pattern that is written out: the computation of the grammar on a literal, and where parts of
 -- patterns match.
-use Rattle.std.proofs.Common.{◌≡◌, ℕ, zero, suc, ◌+◌, ◌≤◌, ◌<◌, Bool, true, List, [], ◌∷◌, refl, sym, ap, ◌∙◌, subst, arith, Option, None, Some, IsSomeAnd, slice_get, ◌↔◌}
-use Rattle.std.specs.Prelude.{⊤}
-use Rattle.std.specs.List.{list_any}
-use Rattle.std.proofs.lemmas.Bool.Decides.{nat_tests}
+use Rattle.nfa_paths.proofs.Common.{◌≡◌, ℕ, zero, suc, ◌+◌, ◌≤◌, ◌<◌, Bool, true, List, [], ◌∷◌, refl, sym, ap, ◌∙◌, subst, arith, Some, IsSomeAnd, slice_get, ◌↔◌, list_any, drop, nat_tests, slice_get-get_or}
 use Rattle.std.proofs.lemmas.List.Folds.{Any-from_list_any}
 use Rattle.std.proofs.lemmas.Map.Keys.{any_passes_from_place}
-use Rattle.std.proofs.lemmas.Option.{none-some, same_Some, slice_get-get_or}
 use Rattle.regex_class.specs.Ranges.{HasExactly, in_range}
-use Rattle.regex_hir.specs.Matches.{Matches}
-use Rattle.regex_hir.specs.Meaning.{copies}
-use Rattle.regex_hir.specs.Re.{Re, byte_in, char_in, empty}
-use Rattle.regex_hir.specs.Text.{has_bytes_at, is_boundary}
-use Rattle.regex_hir.proofs.TextLemmas.{has_bytes_at_from, has_bytes_at_parts}
-use Rattle.regex_syntax.specs.Reading.{first}
-use Rattle.regex_syntax.specs.Same.{SameTree}
-use Rattle.regex_syntax.specs.Sets.{Set, members}
-use Rattle.regex_syntax.proofs.ReadingLemmas.{first-drop}
+use Rattle.nfa_compiler.specs.Common.{Matches, copies, Re, byte_in, char_in, empty, has_bytes_at, is_boundary, SameTree, Set, members, MatchesIn, MatchesInStr}
+use Rattle.regex_compile.proofs.ByteLemmas.{has_bytes_at-cons}
+use Rattle.regex_hir.proofs.TextLemmas.{has_bytes_at_from}
 use Rattle.regex_syntax.proofs.Written.{grammar}
 pub use Rattle.regex_class.specs.Ranges.{Range, in_ranges}
 pub use Rattle.regex_syntax.proofs.Written.{alone, class_is, same_group, same_plus}
 pub use Rattle.regex_syntax.proofs.TreeLaws.{same_refl, same_sym, ◌then◌, cat_cong, alt_cong, cat-empty, alt-fail, literal-append, byte_in_ascii}
-use Rattle.nfa_compiler.specs.Written.{MatchesIn, MatchesInStr}
 use Rattle.nfa_paths.proofs.TestLemmas.{same_test}
 
 -- what an answer unfolds to compute what the grammar reads in a literal
-unfoldable pub on_literals : ⊤
+unfoldable pub on_literals : Unit {0}
 unfolding grammar in_range in_ranges
 on_literals = tt
 
@@ -47,21 +36,12 @@ same-copies (suc n) rest same = cat_cong same (same-copies n rest same)
 abbrev pub ArePassed : List ℕ → (ℕ → Bool) → ℕ → ℕ → Type 0
 ArePassed haystack test i n = (k : ℕ) → k < n → IsSomeAnd (slice_get haystack (i + k)) (λ b. test b ≡ true)
 
-byte-stands : (hay : List ℕ) (i b : ℕ) → slice_get hay i ≡ Some b → has_bytes_at hay i (b ∷ []) ≡ true
-unfolding has_bytes_at
-byte-stands [] i b there = absurd (none-some b there)
-byte-stands (x ∷ hay) zero b there =
-    has_bytes_at_from (x ∷ hay) 0 (b ∷ []) hay (ap (λ y. y ∷ hay) (same_Some x b there))
-byte-stands (x ∷ hay) (suc i) b there = byte-stands hay i b there
-
 module _ (haystack : List ℕ) where
   -- one byte, written out
   pub byte-match : (i b : ℕ) → (has_bytes_at haystack i (b ∷ []) ≡ true) ↔ (slice_get haystack i ≡ Some b)
-  unfolding first
-  byte-match i b = (
-    λ has. sym (first-drop haystack i) ∙ ap first (has_bytes_at_parts haystack i (b ∷ []) has),
-    byte-stands haystack i b,
-  )
+  byte-match i b =
+      let none = has_bytes_at_from haystack (i + 1) [] (drop (i + 1) haystack) refl in
+      grind (arith, nat_tests, none, has_bytes_at-cons haystack i b [])
 
   module _ (rs : List Range) (test : ℕ → Bool) (same : (b : ℕ) → in_ranges rs b ≡ test b) where
     -- the byte at the place passes
@@ -69,11 +49,7 @@ module _ (haystack : List ℕ) where
     Passes p = IsSomeAnd (slice_get haystack p) (λ b. test b ≡ true)
 
     passing : (p : ℕ) → Passes p → (b : ℕ) × (slice_get haystack p ≡ Some b) × (test b ≡ true)
-    passing p there = of (slice_get haystack p) there
-      where
-        of : (o : Option ℕ) → IsSomeAnd o (λ b. test b ≡ true) → (b : ℕ) × (o ≡ Some b) × (test b ≡ true)
-        of None never = absurd never
-        of (Some b) passes = (b, refl, passes)
+    passing p there = grind arith
 
     from-first : (P : ℕ → Type 0) (n : ℕ) → P 0 → ((l : ℕ) → l < n → P (suc l)) → (k : ℕ) → k < suc n → P k
     from-first P n here later zero less = here
@@ -146,12 +122,7 @@ from-boundaries haystack re ascii = (
         start = m.start;
         end = m.end;
         within = m.within;
-        boundary = of m.start (slice_get haystack m.start) refl (ascii m.start m.end m.matches);
+        boundary = grind (arith, ascii-here haystack m.start, ascii m.start m.end m.matches);
         matches = m.matches;
       },
 )
-  where
-    of : (i : ℕ) (o : Option ℕ) → slice_get haystack i ≡ o → IsSomeAnd o (λ b. b ≤ 127)
-        → is_boundary haystack i ≡ true
-    of i None is never = absurd never
-    of i (Some b) is low = ascii-here haystack i b is low

@@ -1,27 +1,18 @@
 -- The answer of a leftmost first search of a compiled NFA is the hit that is to be found.
-use Rattle.std.proofs.Common.{◌≡◌, ℕ, zero, suc, ◌+◌, ◌-◌, ◌≤◌, ◌<◌, ◌⊎◌, inl, inr, Bool, true, false, List, [], ◌∷◌, map, length, refl, sym, ap, subst, arith, Option, None, Some, is_some, All, slice_get, slice_index, slice_index_or, option_map, if◌then◌else◌, ◌==◌, ◌||◌}
-use Rattle.std.specs.Option.{option_or, option_map_or}
-use Rattle.std.proofs.lemmas.Bool.{cases_lt, lt-ltb, le-ltb}
-use Rattle.std.proofs.lemmas.Option.{slice_get_past, slice_get-get_or}
-use Rattle.nfa_paths.specs.Common.{number_of, Search, is_anchored, Anchored, Automaton, Pair, IsFirstPath, IsFirst, FirstAmong, IsLeast, pattern_of, slot_of, node_at, is_match, IsMatch, edges_of, edges, pairs_from, start_state, starts, is_utf8_empty, IsScanAnswer}
-use Rattle.regex_search_core.specs.declared.search.Anchored.TheVariants.{No, Yes, Pattern}
-use Rattle.regex_search_core.specs.declared.search.MatchKind.TheVariants.{LeftmostFirst}
-use Rattle.regex_hir.specs.Re.{Re, empty}
-use Rattle.thompson_nfa.specs.Automaton.{Union, Fail}
-use Rattle.nfa_paths.proofs.PathLemmas.{IsFirst-step, IsFirstOfAll-from_among, IsLeast-from_first}
-use Rattle.nfa_paths.proofs.PathToLemmas.{IsLeast-none, IsLeast-first, IsFirstPath-unique}
+use Rattle.nfa_paths.proofs.Common.{◌≡◌, ℕ, zero, suc, ◌+◌, ◌-◌, ◌≤◌, ◌<◌, ◌⊎◌, inl, inr, Bool, false, List, [], ◌∷◌, map, length, refl, sym, ap, subst, arith, Option, None, Some, is_some, All, slice_get, slice_index, slice_index_or, option_map, if◌then◌else◌, ◌==◌, ◌||◌, option_or, option_map_or, cases_lt, lt-ltb, le-ltb, slice_get_past, slice_get-get_or, number_of, Search, is_anchored, Anchored, Automaton, Pair, IsFirst, FirstAmong, pattern_of, slot_of, node_at, is_match, IsMatch, edges_of, edges, pairs_from, start_state, starts, is_utf8_empty, IsScanAnswer, No, Yes, Pattern, LeftmostFirst, Union, Fail}
+use Rattle.nfa_compiler.specs.Common.{Re, empty, IsPattern, IsNfaOf, PatternHit, expected, first_hit, hit_in_mode, pick, pick_one}
+use Rattle.nfa_paths.proofs.PathLemmas.{IsFirst-step, IsFirstOfAll-from_among}
+use Rattle.nfa_paths.proofs.PathToLemmas.{IsFirstPath-of_all, IsFirstPath-unique}
 use Rattle.nfa_paths.proofs.StartLemmas.{IsMatch-edges, starts-increase}
-use Rattle.nfa_compiler.specs.Compiled.{IsPattern, IsNfaOf}
-use Rattle.nfa_compiler.specs.Patterns.{PatternHit, expected, first_hit, hit_in_mode, pick, pick_one}
 use Rattle.nfa_compiler.proofs.AnswerLemmas.{IsAnsweredBy}
+use Rattle.nfa_compiler.proofs.EachLemmas.{both-or}
 use Rattle.nfa_compiler.proofs.BlockLemmas.{among-one, among-cons}
-use Rattle.nfa_compiler.proofs.StartLemmas.{TellsHit, TellsHit-or, TellsHit-cons, EndsBy, pattern-first, patterns-among}
+use Rattle.nfa_compiler.proofs.StartLemmas.{TellsHit, ToldHit, TellsHit-cons, EndsBy, pattern-first, patterns-among}
 
 -- the first of a list of one is that of its pair
 from-one : (edges : Pair → List Pair) (target : Pair → Bool) (marks : List Pair) (w : Pair) (r : Option (List Pair))
     → FirstAmong edges target marks (w ∷ []) r → IsFirst edges target marks w r
-from-one edges target marks w r (inl h) = rw h.2 h.1
-from-one edges target marks w r (inr h) = rw h.1 h.0
+from-one edges target marks w r h = grind arith
 
 module _ (res : List Re) (a : Automaton) (made : IsNfaOf res a) where
   -- whether each search is bound to its start
@@ -30,8 +21,11 @@ module _ (res : List Re) (a : Automaton) (made : IsNfaOf res a) where
 
   module _ (x : Search) (whole : x.end ≡ length x.haystack) where
     -- from the anchored start the first path is the pick
-    chosen : (i : ℕ) → i ≤ x.end → (r : Option (List Pair)) × TellsHit a (pick x.haystack res 0 i) r
+    abbrev Chosen : ℕ → Type 0
+    Chosen i = (r : Option (List Pair)) × TellsHit a (pick x.haystack res 0 i) r
         × IsFirst (edges a x) (is_match a) [] (a.anchored, i) r
+
+    chosen : (i : ℕ) → i ≤ x.end → Chosen i
     unfolding edges_of node_at
     chosen i within = elim made.chooses [ inl h ↦ only h | inr h ↦ union h ]
       where
@@ -48,8 +42,7 @@ module _ (res : List Re) (a : Automaton) (made : IsNfaOf res a) where
         among marks behind = patterns-among a x whole i within res a.patterns 0 made.patterns
             (omega (arith, made.groups)) each marks behind
 
-        only : a.patterns ≡ a.anchored ∷ [] → (r : Option (List Pair)) × TellsHit a (pick x.haystack res 0 i) r
-            × IsFirst (edges a x) (is_match a) [] (a.anchored, i) r
+        only : a.patterns ≡ a.anchored ∷ [] → Chosen i
         only one =
             let w = among [] (λ j less v member. absurd member) in (
               w.0,
@@ -59,14 +52,9 @@ module _ (res : List Re) (a : Automaton) (made : IsNfaOf res a) where
             )
 
         union : (slice_index_or a.states a.anchored Fail ≡ Union a.patterns) × All (λ s. s < a.anchored) a.patterns
-            → (r : Option (List Pair)) × TellsHit a (pick x.haystack res 0 i) r
-            × IsFirst (edges a x) (is_match a) [] (a.anchored, i) r
+            → Chosen i
         union h =
-            let w = among ((a.anchored, i) ∷ []) (λ j less v member. elim member [
-              | inl e ↦ let at : v.0 ≡ a.anchored = ap (λ (z : Pair). z.0) e in
-                  let under : slice_index a.patterns j < a.anchored = h.1 j 0 less in omega arith
-              | inr never ↦ absurd never
-            ]) in (
+            let w = among ((a.anchored, i) ∷ []) (λ j less v member. grind (arith, h.1 j 0 less)) in (
               option_map (λ p. (a.anchored, i) ∷ p) w.0,
               TellsHit-cons a (a.anchored, i) (pick x.haystack res 0 i) w.0 (ap slot_of h.0) w.1,
               IsFirst-step (edges a x) (is_match a) [] (a.anchored, i) (λ member. member)
@@ -84,7 +72,7 @@ module _ (res : List Re) (a : Automaton) (made : IsNfaOf res a) where
         let here = chosen i (omega arith) in
         let rest = run-first n (i + 1) (omega arith) in (
           option_or here.0 rest.0,
-          TellsHit-or a (pick x.haystack res 0 i) (first_hit (pick x.haystack res 0) n (i + 1))
+          both-or (ToldHit a) (pick x.haystack res 0 i) (first_hit (pick x.haystack res 0) n (i + 1))
               here.0 rest.0 here.1 rest.1,
           among-cons (edges a x) (is_match a) [] (a.anchored, i) (pairs_from a.anchored (i + 1) n)
               here.0 rest.0 here.2 rest.2,
@@ -105,13 +93,7 @@ module _ (res : List Re) (a : Automaton) (made : IsNfaOf res a) where
         (pick x.haystack res 0 x.start) (λ k. pick_one x.haystack res k x.start) mode)
         (option_map_or (λ state. pairs_from state x.start
         (if is_anchored mode || is_bound then 1 else (x.end - x.start + 1))) (start_state a mode) [])
-    finds-at inside No = by_bound is_bound
-      where
-        by_bound : (b : Bool)
-            → Finds (first_hit (pick x.haystack res 0) (if b then 1 else (x.end - x.start + 1)) x.start)
-            (pairs_from a.anchored x.start (if b then 1 else (x.end - x.start + 1)))
-        by_bound true = run-first 1 x.start (omega arith)
-        by_bound false = run-first (x.end - x.start + 1) x.start (omega arith)
+    finds-at inside No = grind (arith, run-first)
     finds-at inside Yes = one-position inside
     finds-at inside (Pattern pattern) = by_known (cases_lt (number_of pattern) (length res))
       where
@@ -159,26 +141,14 @@ module _ (res : List Re) (a : Automaton) (made : IsNfaOf res a) where
     scan = let f = finds in (
       f.0,
       f.1,
-      of f.0
-          (IsLeast-from_first (edges a x) (is_match a) (starts a x) (starts-increase a x) f.0
-          (IsFirstOfAll-from_among (edges a x) (is_match a) [] (starts a x) f.0 f.2)),
+      IsFirstPath-of_all (edges a x) (starts a x) (is_match a) (starts-increase a x) (IsMatch-edges a x) f.0
+          (IsFirstOfAll-from_among (edges a x) (is_match a) [] (starts a x) f.0 f.2),
     )
-      where
-        of : (r : Option (List Pair)) → IsLeast (edges a x) (is_match a) (starts a x) r
-            → IsFirstPath (edges a x) (starts a x) (IsMatch a) r
-        of None least = IsLeast-none (edges a x) (starts a x) (is_match a) (IsMatch-edges a x) least
-        of (Some p) least = IsLeast-first (edges a x) (starts a x) (is_match a) (IsMatch-edges a x) p least
 
     pub told-scan : (path : Option (List Pair)) → IsScanAnswer a x LeftmostFirst false path
         → TellsHit a (expected res is_bound x) path
-    told-scan path answer =
-        subst (TellsHit a (expected res is_bound x))
-        (IsFirstPath-unique (edges a x) (starts a x) (IsMatch a) scan.0 path scan.2 answer) scan.1
+    told-scan path answer = grind (arith, TellsHit, IsFirstPath-unique, scan)
 
     -- so is the search's
     pub hit-answered : is_utf8_empty a ≡ false → IsAnsweredBy a x (expected res is_bound x)
-    hit-answered anywhere = record {
-      told = λ restarts path answers.
-          let answer : (restarts ≡ 0) × IsScanAnswer a x LeftmostFirst false path = rw anywhere at answers in
-          told-scan path answer.1;
-    }
+    hit-answered anywhere = grind (arith, told-scan)

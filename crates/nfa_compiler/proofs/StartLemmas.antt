@@ -1,55 +1,32 @@
 -- From the start of a pattern, and from the start of all, the first accepting path is the hit that has to be found.
-use Rattle.std.proofs.Common.{◌≡◌, ℕ, suc, ◌+◌, ◌*◌, ◌-◌, ◌≤◌, ◌<◌, inl, inr, List, [], ◌∷◌, ◌++◌, map, length, refl, sym, ap, ap₂, ◌∙◌, subst, arith, add-zero, nat_lt, ne_eqb, eq-eqb, Option, None, Some, is_some, slice_index, slice_index_or, option_map, if◌then◌else◌, ◌==◌}
-use Rattle.std.specs.Option.{option_or}
-use Rattle.std.proofs.lemmas.Bool.{le-ltb, cond-false}
-use Rattle.std.proofs.lemmas.Bool.Decides.{eqb_tells}
-use Rattle.nfa_paths.specs.Common.{number_of, Search, Automaton, Pair, In, EndsWith, IsFirst, FirstAmong, pattern_of, slot_of, node_at, is_match, capture, edges_of, edges, slot_among}
-use Rattle.regex_hir.specs.Re.{Re, empty, Trace, accept, attempt}
-use Rattle.regex_hir.specs.Find.{last_write}
+use Rattle.nfa_paths.proofs.Common.{◌≡◌, ℕ, suc, ◌+◌, ◌*◌, ◌-◌, ◌≤◌, ◌<◌, List, [], ◌∷◌, ◌++◌, map, length, refl, sym, ap, ap₂, ◌∙◌, subst, arith, add-zero, nat_lt, ne_eqb, eq-eqb, Option, None, Some, is_some, slice_index, slice_index_or, option_map, option_map_or, if◌then◌else◌, ◌==◌, option_or, le-ltb, cond-false, nat_tests, number_of, Search, Automaton, Pair, In, EndsWith, IsFirst, FirstAmong, pattern_of, slot_of, node_at, is_match, capture, edges_of, edges, slot_among, false}
+use Rattle.nfa_compiler.specs.Common.{Re, empty, Trace, accept, attempt, last_write, match_at, slot_in, IsPattern, first_slot, PatternHit, hit_of, pick, place_of, writes_of}
 use Rattle.regex_nfa.specs.Run.{run}
 use Rattle.regex_nfa.proofs.PathsLemmas.{run_span}
 use Rattle.thompson_nfa.specs.Automaton.{Capture, Match}
 use Rattle.nfa_paths.proofs.PathLemmas.{IsFirst-step}
 use Rattle.nfa_compiler.specs.declared.block.Site.{Site}
-use Rattle.nfa_compiler.specs.Blocks.{match_at, slot_in}
-use Rattle.nfa_compiler.specs.Compiled.{IsPattern, first_slot}
-use Rattle.nfa_compiler.specs.Patterns.{PatternHit, hit_of, pick, place_of, writes_of}
-use Rattle.nfa_compiler.proofs.WriteLemmas.{write_of, writes_along, slot_among-writes, last_write-append}
-use Rattle.nfa_compiler.proofs.BlockLemmas.{AreExplicit, Tells, Told, IsClear, among-one, among-cons, walks}
+use Rattle.nfa_compiler.proofs.EachLemmas.{Both, both-or}
+use Rattle.nfa_compiler.proofs.BlockLemmas.{last_write-append, AreExplicit, Tells, Told, IsClear, among-one, among-cons, walks}
 use Rattle.nfa_paths.proofs.OptionLemmas.{option_or-None}
 use Rattle.nfa_paths.proofs.PathToLemmas.{EndsWith-cons}
 
 -- writes
 
--- none of these writes the slot
-abbrev NoneWrites : ℕ → List (ℕ × ℕ) → Type 0
-NoneWrites slot [] = Unit {0}
-NoneWrites slot (w ∷ ws) = (w.0 ≡ slot → ⊥) × NoneWrites slot ws
-
-unwritten : (ws : List (ℕ × ℕ)) (slot : ℕ) → NoneWrites slot ws → last_write ws slot ≡ None
-unwritten [] slot none = refl
-unwritten (w ∷ ws) slot none = rw (unwritten ws slot none.1, ne_eqb w.0 slot none.0) refl
-
 -- a write may go before others that do not write its slot
-write-early : (ws : List (ℕ × ℕ)) (b e slot : ℕ) → NoneWrites b ws
+write-early : (ws : List (ℕ × ℕ)) (b e slot : ℕ) → last_write ws b ≡ None
     → last_write (ws ++ (b, e) ∷ []) slot ≡ last_write ((b, e) ∷ ws) slot
 write-early ws b e slot none =
-    last_write-append ws ((b, e) ∷ []) slot ∙ elim (eqb_tells b slot) [
-      | inl h ↦ rw (h.0, unwritten ws slot (subst (λ k. NoneWrites k ws) h.1 none)) refl
-      | inr h ↦ rw h.0 (sym (option_or-None (last_write ws slot)))
-    ]
+    grind (arith, nat_tests, last_write-append ws ((b, e) ∷ []) slot, option_or-None (last_write ws slot))
 
 -- the slots of explicit groups come after those of the whole matches
-explicit-behind : (groups : List (List (Option (List ℕ)))) (k slot : ℕ) (ws : List (ℕ × ℕ)) → AreExplicit ws
-    → slot < 2 * length groups → NoneWrites slot (map (λ w. (place_of groups k w.0, w.1)) ws)
-explicit-behind groups k slot [] all less = tt
-explicit-behind groups k slot (w ∷ ws) all less = (apart, explicit-behind groups k slot ws all.1 less)
-  where
-    apart : place_of groups k w.0 ≡ slot → ⊥
-    apart e =
-        let place : place_of groups k w.0 ≡ first_slot groups k + (w.0 - 2) =
-        cond-false (nat_lt w.0 2) _ _ (le-ltb w.0 2 all.0) in
-        omega arith
+unwritten : (groups : List (List (Option (List ℕ)))) (k slot : ℕ) (ws : List (ℕ × ℕ)) → AreExplicit ws
+    → slot < 2 * length groups → last_write (map (λ w. (place_of groups k w.0, w.1)) ws) slot ≡ None
+unwritten groups k slot [] all less = refl
+unwritten groups k slot (w ∷ ws) all less =
+    let place : place_of groups k w.0 ≡ first_slot groups k + (w.0 - 2) =
+    cond-false (nat_lt w.0 2) _ _ (le-ltb w.0 2 all.0) in
+    rw (unwritten groups k slot ws all.1 less, ne_eqb (place_of groups k w.0) slot (λ e. omega arith)) refl
 
 -- what a path tells of a hit
 
@@ -67,39 +44,15 @@ module _ (a : Automaton) where
     pub onward : h.start ≤ h.trace.end
 
   abbrev pub TellsHit : Option PatternHit → Option (List Pair) → Type 0
-  TellsHit None None = Unit {0}
-  TellsHit None (Some p) = ⊥
-  TellsHit (Some h) None = ⊥
-  TellsHit (Some h) (Some p) = ToldHit h p
-
-  -- the first of two
-  pub TellsHit-or : (o u : Option PatternHit) (r q : Option (List Pair)) → TellsHit o r → TellsHit u q
-      → TellsHit (option_or o u) (option_or r q)
-  TellsHit-or None u None q h k = k
-  TellsHit-or None u (Some p) q h k = absurd h
-  TellsHit-or (Some t) u None q h k = absurd h
-  TellsHit-or (Some t) u (Some p) q h k = h
+  TellsHit = Both ToldHit
 
   -- one more pair in front, which writes nothing
   pub TellsHit-cons : (v : Pair) (o : Option PatternHit) (r : Option (List Pair)) → capture a v ≡ None → TellsHit o r
       → TellsHit o (option_map (λ p. v ∷ p) r)
-  TellsHit-cons v None None none h = tt
-  TellsHit-cons v None (Some p) none h = absurd h
-  TellsHit-cons v (Some t) None none h = absurd h
-  TellsHit-cons v (Some t) (Some p) none h = record {
-    end = h.end;
-    ends = EndsWith-cons v h.end p h.ends;
-    at = h.at;
-    pattern_is = h.pattern_is;
-    known = h.known;
-    slots = λ slot. same slot ∙ h.slots slot;
-    start_slot = same (2 * t.pattern) ∙ h.start_slot;
-    end_slot = same (2 * t.pattern + 1) ∙ h.end_slot;
-    onward = h.onward;
-  }
+  TellsHit-cons v o r none h = grind (arith, same, EndsWith-cons)
     where
-      same : (slot : ℕ) → slot_among a (v ∷ p) slot ≡ slot_among a p slot
-      same slot = rw none (option_or-None (slot_among a p slot))
+      same : (p : List Pair) (slot : ℕ) → slot_among a (v ∷ p) slot ≡ slot_among a p slot
+      same p slot = rw none (option_or-None (slot_among a p slot))
 
 module _ (a : Automaton) (x : Search) (whole : x.end ≡ length x.haystack) where
   -- every pair of the list has a state after this one
@@ -127,11 +80,6 @@ module _ (a : Automaton) (x : Search) (whole : x.end ≡ length x.haystack) wher
     place-same slot =
         ap₂ (λ m n. if nat_lt slot 2 then (2 * m + slot) else (n + (slot - 2))) made.pattern_is made.slots_are
 
-    places-same : (ws : List (ℕ × ℕ))
-        → map {B = ℕ × ℕ} (λ w. (slot_in s w.0, w.1)) ws ≡ map {B = ℕ × ℕ} (λ w. (place_of a.groups k w.0, w.1)) ws
-    places-same [] = refl
-    places-same (w ∷ ws) = ap₂ (λ p rest. (p, w.1) ∷ rest) (place-same w.0) (places-same ws)
-
     -- the writes of explicit groups
     abbrev placed : Trace → List (ℕ × ℕ)
     placed t = map (λ w. (place_of a.groups k w.0, w.1)) t.writes
@@ -146,40 +94,28 @@ module _ (a : Automaton) (x : Search) (whole : x.end ≡ length x.haystack) wher
       pattern_is = ap pattern_of match_here ∙ ap Some made.pattern_is;
       known = known;
       slots = slots;
-      start_slot = slots (2 * k)
-          ∙ rw (
-            untouched (2 * k) (omega arith),
-            ne_eqb (2 * k + 1) (2 * k) (omega arith),
-            eq-eqb (2 * k) (2 * k)
-                refl,
-          ) refl;
+      start_slot = slots (2 * k) ∙ grind (arith, nat_tests, untouched (2 * k));
       end_slot = slots (2 * k + 1) ∙ rw (untouched (2 * k + 1) (omega arith), eq-eqb (2 * k + 1) (2 * k + 1) refl) refl;
       onward = on;
     }
       where
         untouched : (slot : ℕ) → slot < 2 * length a.groups → last_write (placed t) slot ≡ None
-        untouched slot less = unwritten (placed t) slot (explicit-behind a.groups k slot t.writes told.explicit less)
-
-        along : writes_along a (v ∷ p) ≡ (2 * k, i) ∷ (placed t ++ (2 * k + 1, t.end) ∷ [])
-        along =
-            ap (λ c. write_of c i ++ writes_along a p) (ap slot_of start_here)
-            ∙ ap₂ (λ f ws. (f, i) ∷ ws) (place-same 0 ∙ add-zero (2 * k))
-            (told.writes ∙ ap₂ (λ ws e. ws ++ (e, t.end) ∷ []) (places-same t.writes) (place-same 1))
+        untouched slot less = unwritten a.groups k slot t.writes told.explicit less
 
         slots : (slot : ℕ) → slot_among a (v ∷ p) slot
             ≡ last_write (writes_of a.groups (record { pattern = k; start = i; trace = t })) slot
         slots slot =
-            slot_among-writes a (v ∷ p) slot ∙ ap (λ ws. last_write ws slot) along
-            ∙ ap (λ o. option_or o (if 2 * k == slot then Some i else None))
-            (write-early (placed t) (2 * k + 1) t.end slot
-            (explicit-behind a.groups k (2 * k + 1) t.writes told.explicit (omega arith)))
+            ap₂ option_or
+            (told.writes slot
+            ∙ ap (λ (f : ℕ → ℕ). last_write (map (λ w. (f w.0, w.1)) t.writes ++ (f 1, t.end) ∷ []) slot)
+            (λ i slot. place-same slot i)
+            ∙ write-early (placed t) (2 * k + 1) t.end slot (untouched (2 * k + 1) (omega arith)))
+            (ap (λ o. if option_map_or (λ j. j == slot) o false then Some i else None)
+            (ap slot_of start_here ∙ ap Some (place-same 0 ∙ add-zero (2 * k))))
 
     tell : (o : Option Trace) (r : Option (List Pair)) → ((t : Trace) → o ≡ Some t → i ≤ t.end) → Tells a s o r
         → TellsHit a (hit_of k i o) (option_map (λ p. v ∷ p) r)
-    tell None None on h = tt
-    tell None (Some p) on h = absurd h
-    tell (Some t) None on h = absurd h
-    tell (Some t) (Some p) on h = tell-some t p (on t refl) h
+    tell o r on h = grind (arith, tell-some)
 
     -- from the start the first path is the hit of the pattern
     pub pattern-first : (r : Option (List Pair)) × TellsHit a (hit_of k i (attempt x.haystack re accept i)) r
@@ -209,18 +145,8 @@ module _ (a : Automaton) (x : Search) (whole : x.end ≡ length x.haystack) wher
         clear : (marks : List Pair) → EndsBy start marks → {n : ℕ}
             → IsClear a x made.nfa s made.block (omega arith) (v ∷ marks) n
         clear marks behind {n} = record {
-          states = λ r j below small member.
-              elim member [
-                | inl e ↦ let same : s.base + r ≡ match_at s + 1 = ap (λ (w : Pair). w.0) e in omega arith
-                | inr later ↦ let less : start < s.base + r = behind (s.base + r, j) later in
-                    omega (arith, made.start_is)
-              ];
-          match = λ j member.
-              elim member [
-                | inl e ↦ let same : match_at s ≡ match_at s + 1 = ap (λ (w : Pair). w.0) e in omega arith
-                | inr later ↦ let less : start < match_at s = behind (match_at s, j) later in
-                    omega (arith, made.start_is)
-              ];
+          states = λ r j below small member. grind (arith, made.start_is, behind (s.base + r, j));
+          match = λ j member. grind (arith, made.start_is, behind (match_at s, j));
         }
 
   -- all patterns
@@ -234,8 +160,6 @@ module _ (a : Automaton) (x : Search) (whole : x.end ≡ length x.haystack) wher
       → (r : Option (List Pair)) × TellsHit a (pick x.haystack res k i) r
       × FirstAmong (edges a x) (is_match a) marks (map (λ state. (state, i)) starts) r
   patterns-among i within [] [] k count room made marks behind = (None, tt, refl)
-  patterns-among i within [] (start ∷ starts) k count room made marks behind = absurd (omega arith)
-  patterns-among i within (re ∷ res) [] k count room made marks behind = absurd (omega arith)
   patterns-among i within (re ∷ res) (start ∷ starts) k count room made marks behind =
       let one : IsPattern a.states a.groups k start re =
       subst (λ n. IsPattern a.states a.groups n start re) (add-zero k) (made 0 (omega arith)) in
@@ -245,8 +169,9 @@ module _ (a : Automaton) (x : Search) (whole : x.end ≡ length x.haystack) wher
       subst (λ n. IsPattern a.states a.groups n (slice_index starts j) (slice_index_or res j empty)) next
       (made (suc j) (omega arith))) marks (λ j less. behind (suc j) (omega arith)) in (
         option_or first.0 rest.0,
-        TellsHit-or a (hit_of k i (attempt x.haystack re accept i)) (pick x.haystack res (k + 1) i)
+        both-or (ToldHit a) (hit_of k i (attempt x.haystack re accept i)) (pick x.haystack res (k + 1) i)
             first.0 rest.0 first.1 rest.1,
         among-cons (edges a x) (is_match a) marks (start, i) (map (λ state. (state, i)) starts) first.0 rest.0
             (first.2 marks (behind 0 (omega arith))) rest.2,
       )
+  patterns-among i within _ _ k count room made marks behind = absurd (omega arith)

@@ -1,120 +1,69 @@
--- In a `str`, the hits of patterns that match whole characters end on a boundary exactly if they start on one.
-use Rattle.std.proofs.Common.{◌≡◌, ℕ, zero, suc, ◌+◌, ◌-◌, ◌/◌, ◌%◌, ◌≤◌, ◌<◌, inl, inr, Bool, true, false, List, [], ◌∷◌, refl, sym, ap, ap₂, ◌∙◌, subst, arith, IsUtf8, encode_utf8_all, Option, None, Some, All, IsTrue, encode_utf8, if◌then◌else◌}
+-- In a `str`, the hits of patterns that match whole characters end on a boundary exactly if they start on one. So a
+-- search in UTF-8 mode finds in it what the texts of patterns mean.
+use Rattle.nfa_paths.proofs.Common.{◌≡◌, ℕ, ◌+◌, ◌-◌, ◌<◌, Bool, true, false, List, [], ◌∷◌, refl, ◌∙◌, subst, arith, IsUtf8, encode_utf8_all, Option, None, All, IsTrue, encode_utf8, if◌then◌else◌, ltb-true, nat_lt, list_all, and_from, and_parts, nat_tests, AllPass-from_list_all, IsBoundary, Search, No, length, sym, ◌==◌, AllZip, All-nil, All-cons, All-map, Automaton, is_utf8_empty}
 use Rattle.std.specs.Char.{IsScalar}
-use Rattle.std.specs.Option.{option_or}
 use Rattle.std.specs.Str.{all_scalars}
-use Rattle.std.proofs.lemmas.Bool.{and_parts, cases_lt}
-use Rattle.std.proofs.lemmas.Bool.Decides.{nat_tests}
-use Rattle.std.proofs.lemmas.List.Elements.{All-nil, All-cons, All-append}
+use Rattle.std.proofs.lemmas.List.Folds.{list_all-append}
 use Rattle.std.proofs.lemmas.Str.{encode_ascii}
-use Rattle.regex_hir.specs.Matches.{Matches}
-use Rattle.regex_hir.specs.Re.{Re}
-use Rattle.regex_hir.specs.Reads.{always_reads}
-use Rattle.regex_hir.specs.Text.{is_boundary, is_none_or}
+use Rattle.nfa_compiler.specs.Common.{Matches, Re, always_reads, is_boundary, ends_on_boundary, expected_on_boundary, on_boundary, PatternHit, expected, pick, pick_one, MatchesCharacters, at_boundary, expected_in_str, meaning, SameCaptures, Config, Parsed, FindsFromAnyStart, LosesNoHit, boundary_hit, AreMeant, IsCompiled, IsTreeOf, res_of, hit, StartsOnBoundary, str_hit}
 use Rattle.regex_hir.proofs.Utf8Lemmas.{encode_two, encode_three, encode_four}
-use Rattle.nfa_paths.specs.Common.{IsBoundary, Search}
-use Rattle.regex_search_core.specs.declared.search.Anchored.TheVariants.{No}
-use Rattle.nfa_compiler.specs.BoundaryHits.{ends_on_boundary, expected_on_boundary, on_boundary, restarted_hit}
-use Rattle.nfa_compiler.specs.Patterns.{PatternHit, expected, first_hit, pick, pick_one}
-use Rattle.nfa_compiler.specs.StrHits.{MatchesCharacters, at_boundary, expected_in_str}
-use Rattle.nfa_compiler.proofs.BoundaryLemmas.{boundary-true}
-use Rattle.nfa_compiler.proofs.CharacterLemmas.{reads-on}
+use Rattle.nfa_compiler.proofs.BoundarySearchLemmas.{boundary-true, boundary-answered}
+use Rattle.nfa_compiler.proofs.CharacterLemmas.{reads-on, tree-matches-characters}
 use Rattle.nfa_compiler.proofs.EachLemmas.{Each, in-each-mode, pick-each, pick_one-each}
+use Rattle.nfa_paths.proofs.TestLemmas.{is_plain}
+use Rattle.nfa_compiler.proofs.AnswerLemmas.{IsAnsweredBy, answered-alike}
+use Rattle.nfa_compiler.proofs.MeantLemmas.{AreAlike, all-meant, first-alike, one-alike, pick-alike}
+use Rattle.nfa_compiler.proofs.SearchLemmas.{hit-answered}
+use Rattle.nfa_compiler.proofs.UnboundLemmas.{boundary-unbound, hit-unbound, loses-none, str-unbound, texts-lose-none}
 
 -- the bytes of a `str`
 
-abbrev IsByte : ℕ → Type 0
-IsByte b = b < 256
+abbrev is_byte : ℕ → Bool
+is_byte b = nat_lt b 256
 
-two-bytes : (a b : ℕ) → a < 256 → b < 256 → All IsByte (a ∷ b ∷ [])
-two-bytes a b p q = All-cons IsByte a (b ∷ []) p (All-cons IsByte b [] q (All-nil IsByte))
+character-bytes : (c : ℕ) → IsScalar c → list_all is_byte (encode_utf8 c) ≡ true
+character-bytes c scalar =
+    grind (arith, nat_tests, encode_ascii c, encode_two c, encode_three c, encode_four c)
 
-character-bytes : (c : ℕ) → IsScalar c → All IsByte (encode_utf8 c)
-character-bytes c scalar = elim (cases_lt c 0x80) [
-  | inl one ↦
-      let low : c < 256 = omega arith in
-      subst (All IsByte) (sym (encode_ascii c one)) (All-cons IsByte c [] low (All-nil IsByte))
-  | inr more ↦ elim (cases_lt c 0x800) [
-    | inl two ↦
-        let b0 : 192 + c / 64 < 256 = omega arith in
-        let b1 : 128 + c % 64 < 256 = omega arith in
-        subst (All IsByte) (sym (encode_two c more two)) (two-bytes (192 + c / 64) (128 + c % 64) b0 b1)
-    | inr longer ↦ elim (cases_lt c 0x1_0000) [
-      | inl three ↦
-          let b0 : 224 + c / 4096 < 256 = omega arith in
-          let b1 : 128 + (c / 64) % 64 < 256 = omega arith in
-          let b2 : 128 + c % 64 < 256 = omega arith in
-          subst (All IsByte) (sym (encode_three c longer three))
-          (All-cons IsByte (224 + c / 4096) ((128 + (c / 64) % 64) ∷ (128 + c % 64) ∷ []) b0
-          (two-bytes (128 + (c / 64) % 64) (128 + c % 64) b1 b2))
-      | inr four ↦
-          let most : c ≤ 0x10_FFFF = grind (arith, nat_tests) in
-          let b0 : 240 + c / 262144 < 256 = omega arith in
-          let b1 : 128 + (c / 4096) % 64 < 256 = omega arith in
-          let b2 : 128 + (c / 64) % 64 < 256 = omega arith in
-          let b3 : 128 + c % 64 < 256 = omega arith in
-          subst (All IsByte) (sym (encode_four c four))
-          (All-cons IsByte (240 + c / 262144)
-          ((128 + (c / 4096) % 64) ∷ (128 + (c / 64) % 64) ∷ (128 + c % 64) ∷ []) b0
-          (All-cons IsByte (128 + (c / 4096) % 64) ((128 + (c / 64) % 64) ∷ (128 + c % 64) ∷ []) b1
-          (two-bytes (128 + (c / 64) % 64) (128 + c % 64) b2 b3)))
-    ]
-  ]
-]
+characters-bytes : (cs : List ℕ) → all_scalars cs ≡ true → list_all is_byte (encode_utf8_all cs) ≡ true
+characters-bytes [] scalars = refl
+characters-bytes (c ∷ cs) scalars =
+    let both = and_parts _ _ scalars in
+    list_all-append is_byte (encode_utf8 c) (encode_utf8_all cs)
+    ∙ and_from _ _ (character-bytes c both.0) (characters-bytes cs both.1)
 
 pub text-bytes : (haystack : List ℕ) → IsUtf8 haystack → All (λ b. b < 256) haystack
-text-bytes haystack text = subst (All (λ b. b < 256)) text.1.1 (of text.0 text.1.0)
-  where
-    of : (cs : List ℕ) → all_scalars cs ≡ true → All (λ b. b < 256) (encode_utf8_all cs)
-    of [] scalars = All-nil (λ b. b < 256)
-    of (c ∷ cs) scalars =
-        let both = and_parts _ _ scalars in
-        All-append (λ b. b < 256) (encode_utf8 c) (encode_utf8_all cs) (character-bytes c both.0) (of cs both.1)
+text-bytes haystack text = λ k d less.
+    ltb-true _ 256 (AllPass-from_list_all is_byte haystack
+    (subst (λ bs. list_all is_byte bs ≡ true) text.1.1 (characters-bytes text.0 text.1.0)) k d less)
 
 -- hits of one start
-
--- one of two that are the same
-either : (o : Option PatternHit) (b : Bool) → o ≡ (if b then o else o)
-either o true = refl
-either o false = refl
 
 module _ (haystack : List ℕ) (text : IsUtf8 haystack) where
   -- the hit ends on a boundary exactly if the position is one
   abbrev EndsAs : ℕ → Option PatternHit → Type 0
   EndsAs i = Each (λ h. ends_on_boundary haystack h ≡ is_boundary haystack i)
 
-  same-boundary : (re : Re) → MatchesCharacters re → (i j : ℕ) → Matches haystack re i j
-      → is_boundary haystack j ≡ is_boundary haystack i
-  same-boundary re chars i j m = of (is_boundary haystack i) refl
-    where
-      of : (b : Bool) → is_boundary haystack i ≡ b → is_boundary haystack j ≡ is_boundary haystack i
-      of true on = chars.whole haystack i j text m on ∙ sym on
-      of false off = ap (is_boundary haystack) (chars.split haystack i j text m off)
+  ends-same : (i : ℕ) (re : Re) → MatchesCharacters re → (h : PatternHit) → h.start ≡ i
+      → Matches haystack re i h.trace.end → ends_on_boundary haystack h ≡ is_boundary haystack i
+  ends-same i re chars h start m =
+      grind (arith, chars.whole haystack i h.trace.end text m, chars.split haystack i h.trace.end text m)
 
   pick-ends : (res : List Re) → All MatchesCharacters res → (k i : ℕ) → EndsAs i (pick haystack res k i)
-  pick-ends res all k i =
-      pick-each haystack i MatchesCharacters (λ h. ends_on_boundary haystack h ≡ is_boundary haystack i)
-      (λ re chars h start m. same-boundary re chars i h.trace.end m) res all k
+  pick-ends res all k i = pick-each haystack i MatchesCharacters _ (ends-same i) res all k
 
   pick_one-ends : (res : List Re) → All MatchesCharacters res → (k i : ℕ) → EndsAs i (pick_one haystack res k i)
-  pick_one-ends res all k i =
-      pick_one-each haystack i MatchesCharacters (λ h. ends_on_boundary haystack h ≡ is_boundary haystack i)
-      (λ re chars h start m. same-boundary re chars i h.trace.end m) res all k k
+  pick_one-ends res all k i = pick_one-each haystack i MatchesCharacters _ (ends-same i) res all k k
 
   -- a hit that ends on a boundary is one at a boundary
   kept-at : (at : ℕ → Option PatternHit) (i : ℕ) → EndsAs i (at i) → on_boundary haystack (at i)
       ≡ at_boundary haystack at i
-  kept-at at i ends = of (at i) ends
-    where
-      of : (o : Option PatternHit) → EndsAs i o → on_boundary haystack o ≡ (if is_boundary haystack i then o else None)
-      of None ends = either None (is_boundary haystack i)
-      of (Some h) ends = rw (ends h refl) refl
+  kept-at at i ends = grind (arith, ends)
 
   -- inside a codepoint no pattern that always reads a byte has a hit
 
   none-of : (o : Option PatternHit) → Each (λ h. ⊥) o → o ≡ None
-  none-of None never = refl
-  none-of (Some h) never = absurd (never h refl)
+  none-of o never = grind (arith, never)
 
   module _ (res : List Re) (all : All MatchesCharacters res) (reads : All (λ re. IsTrue (always_reads re)) res)
       (i : ℕ) (off : is_boundary haystack i ≡ false) where
@@ -125,9 +74,7 @@ module _ (haystack : List ℕ) (text : IsUtf8 haystack) where
     both = λ j d less. (all j d less, reads j d less)
 
     never : (re : Re) → ReadsOn re → (h : PatternHit) → h.start ≡ i → Matches haystack re i h.trace.end → ⊥
-    never re q h start m =
-        let same = q.0.split haystack i h.trace.end text m off in
-        omega (arith, reads-on haystack re q.1 i h.trace.end m, same)
+    never re q h start m = grind (arith, nat_tests, reads-on)
 
     pick-none : (k : ℕ) → pick haystack res k i ≡ None
     pick-none k = none-of (pick haystack res k i) (pick-each haystack i ReadsOn (λ h. ⊥) never res both k)
@@ -138,15 +85,7 @@ module _ (haystack : List ℕ) (text : IsUtf8 haystack) where
 
   every-at : (at : ℕ → Option PatternHit) (i : ℕ) → (is_boundary haystack i ≡ false → at i ≡ None)
       → at i ≡ at_boundary haystack at i
-  every-at at i none = of (is_boundary haystack i) refl
-    where
-      of : (b : Bool) → is_boundary haystack i ≡ b → at i ≡ (if is_boundary haystack i then at i else None)
-      of true on = rw on refl
-      of false off = rw off (none off)
-
-first-same : (f g : ℕ → Option PatternHit) → ((i : ℕ) → f i ≡ g i) → (n i : ℕ) → first_hit f n i ≡ first_hit g n i
-first-same f g same zero i = refl
-first-same f g same (suc n) i = ap₂ option_or (same i) (first-same f g same n (i + 1))
+  every-at at i none = grind arith
 
 -- hits of a search
 
@@ -155,52 +94,95 @@ module _ (res : List Re) (all : All MatchesCharacters res) (bound : Bool) (x : S
   pub boundary-is-str : (bound ≡ true → x.anchored ≡ No → IsBoundary x.haystack x.start)
       → expected_on_boundary res bound x ≡ expected_in_str res bound x
   unfolding expected_on_boundary expected_in_str
-  boundary-is-str starts =
-      in-each-mode x (λ o u. o ≡ u) refl (λ inside. free bound refl) (λ inside. each x.start)
-      (λ inside k. kept-at x.haystack text (pick_one x.haystack res k) x.start
-      (pick_one-ends x.haystack text res all k x.start))
-    where
-      each : (i : ℕ) → on_boundary x.haystack (pick x.haystack res 0 i)
-          ≡ at_boundary x.haystack (pick x.haystack res 0) i
-      each i = kept-at x.haystack text (pick x.haystack res 0) i (pick-ends x.haystack text res all 0 i)
-
-      count : x.end - x.start + 1 ≡ suc (x.end - x.start)
-      count = omega arith
-
-      -- bound to a start on a boundary
-      here : is_boundary x.haystack x.start ≡ true
-          → restarted_hit x.haystack (pick x.haystack res 0) (x.end - x.start + 1) x.start
-          ≡ option_or (at_boundary x.haystack (pick x.haystack res 0) x.start) None
-      here on = rw (count, on) (one (pick x.haystack res 0 x.start) (pick-ends x.haystack text res all 0 x.start))
-        where
-          one : (o : Option PatternHit) → EndsAs x.haystack text x.start o
-              → (if is_none_or o (ends_on_boundary x.haystack) then o
-              else restarted_hit x.haystack (pick x.haystack res 0) (x.end - x.start) (x.start + 1))
-              ≡ option_or o None
-          one None ends = refl
-          one (Some h) ends = rw (ends h refl ∙ on) refl
-
-      free : (b : Bool) → bound ≡ b → x.anchored ≡ No
-          → (if b then restarted_hit x.haystack (pick x.haystack res 0) (x.end - x.start + 1) x.start
-          else first_hit (λ i. on_boundary x.haystack (pick x.haystack res 0 i)) (x.end - x.start + 1) x.start)
-          ≡ first_hit (at_boundary x.haystack (pick x.haystack res 0))
-          (if b then 1 else (x.end - x.start + 1)) x.start
-      free true is mode = here (boundary-true x.haystack x.start (starts is mode))
-      free false is mode =
-          first-same (λ i. on_boundary x.haystack (pick x.haystack res 0 i))
-          (at_boundary x.haystack (pick x.haystack res 0)) each (x.end - x.start + 1) x.start
+  boundary-is-str starts = grind (arith, nat_tests, in-each-mode, kept-at, pick_one-ends, pick-ends, boundary-true)
 
   -- if each pattern always reads a byte, every hit starts on a boundary
   pub hit-is-str : All (λ re. IsTrue (always_reads re)) res → expected res bound x ≡ expected_in_str res bound x
   unfolding expected expected_in_str
-  hit-is-str reads =
-      in-each-mode x (λ o u. o ≡ u) refl
-      (λ inside free. first-same (pick x.haystack res 0) (at_boundary x.haystack (pick x.haystack res 0)) each
-      (if bound then 1 else (x.end - x.start + 1)) x.start)
-      (λ inside. each x.start)
-      (λ inside k. every-at x.haystack text (pick_one x.haystack res k) x.start
-      (λ off. pick_one-none x.haystack text res all reads x.start off k))
-    where
-      each : (i : ℕ) → pick x.haystack res 0 i ≡ at_boundary x.haystack (pick x.haystack res 0) i
-      each i =
-          every-at x.haystack text (pick x.haystack res 0) i (λ off. pick-none x.haystack text res all reads i off 0)
+  hit-is-str reads = grind (arith, nat_tests, in-each-mode, every-at, pick_one-none, pick-none)
+
+-- Patterns that a caller cannot tell apart have hits in a `str` that a caller cannot tell apart.
+str-alike : (x : Search) (bytes : All (λ b. b < 256) x.haystack) (res others : List Re) (bound : Bool)
+    → AllZip SameCaptures res others → AreAlike (expected_in_str res bound x) (expected_in_str others bound x)
+unfolding expected_in_str
+str-alike x bytes res others bound same =
+    in-each-mode x AreAlike tt {one = λ k. at_boundary x.haystack (pick_one x.haystack res k) x.start}
+    {two = λ k. at_boundary x.haystack (pick_one x.haystack others k) x.start}
+    (λ inside free. first-alike x.haystack bytes (at_boundary x.haystack (pick x.haystack res 0))
+    (at_boundary x.haystack (pick x.haystack others 0)) picks (if bound then 1 else (x.end - x.start + 1)) x.start)
+    (λ inside. picks x.start)
+    (λ inside k. grind (arith, one-alike x.haystack bytes res others k k x.start same))
+  where
+    picks : (i : ℕ) → AreAlike (at_boundary x.haystack (pick x.haystack res 0) i)
+        (at_boundary x.haystack (pick x.haystack others 0) i)
+    picks i = grind (arith, pick-alike x.haystack bytes res others 0 i same)
+
+-- the trees that are read under `utf8`
+trees-match : (syntax : Config) → syntax.utf8 ≡ true → (texts : List (List ℕ)) (trees : List Parsed)
+    → AllZip (IsTreeOf syntax) texts trees → All MatchesCharacters (res_of trees)
+trees-match syntax mode [] [] read = All-nil MatchesCharacters
+trees-match syntax mode (text ∷ texts) (tree ∷ trees) read =
+    All-cons MatchesCharacters (meaning tree.hir) (res_of trees)
+    (tree-matches-characters tree.hir (rw mode at read.0.formed))
+    (trees-match syntax mode texts trees read.1)
+trees-match syntax mode _ _ read = absurd read
+
+-- if the NFA does not match the empty string, each tree always reads a byte
+trees-read : (syntax : Config) (texts : List (List ℕ)) (nfa : Automaton) (compiled : IsCompiled syntax texts nfa)
+    → nfa.utf8 ≡ true → is_utf8_empty nfa ≡ false → All (λ re. IsTrue (always_reads re)) (res_of compiled.trees)
+trees-read syntax texts nfa compiled mode anywhere =
+    All-map (λ re. IsTrue (always_reads re)) (λ (t : Parsed). meaning t.hir) compiled.trees
+    (compiled.always_read (grind arith))
+
+module _ (syntax : Config) (texts : List (List ℕ)) (nfa : Automaton) (compiled : IsCompiled syntax texts nfa)
+    (mode : nfa.utf8 ≡ true) (x : Search) (whole : x.end ≡ length x.haystack) (text : IsUtf8 x.haystack) where
+  abbrev own : List Re
+  own = res_of compiled.trees
+
+  own-match : All MatchesCharacters own
+  own-match = trees-match syntax (sym compiled.mode ∙ mode) texts compiled.trees compiled.read
+
+  -- the hit of a search, which is that of one that is bound to its start exactly if `b` is true
+  module _ (b : Bool) (plain-is : hit own nfa x ≡ expected own b x)
+      (boundary-is : boundary_hit own nfa x ≡ expected_on_boundary own b x)
+      (starts : b ≡ true → x.anchored ≡ No → IsBoundary x.haystack x.start) where
+    own-answered : IsAnsweredBy nfa x (expected_in_str own b x)
+    own-answered = of (is_utf8_empty nfa) refl
+      where
+        of : (empty : Bool) → is_utf8_empty nfa ≡ empty → IsAnsweredBy nfa x (expected_in_str own b x)
+        of true is =
+            subst (IsAnsweredBy nfa x) (boundary-is ∙ boundary-is-str own own-match b x text starts)
+            (boundary-answered own nfa compiled.made is x whole)
+        of false is =
+            subst (IsAnsweredBy nfa x)
+            (plain-is ∙ hit-is-str own own-match b x text (trees-read syntax texts nfa compiled mode is))
+            (hit-answered own nfa compiled.made x whole is)
+
+  -- what the texts mean has hits that a caller cannot tell from those of the trees
+  module _ (res : List Re) (meant : AreMeant syntax texts res) where
+    own-alike : (b : Bool) → AreAlike (expected_in_str own b x) (expected_in_str res b x)
+    own-alike b = str-alike x (text-bytes x.haystack text) own res b
+        (all-meant syntax texts compiled.trees res compiled.read meant)
+
+    pub str-answered : StartsOnBoundary nfa x → IsAnsweredBy nfa x (str_hit res nfa x)
+    str-answered starts =
+        let bound = nfa.anchored == nfa.unanchored in
+        answered-alike (own-answered bound refl refl starts) (str_hit res nfa x) (own-alike bound)
+
+  -- those of an NFA that finds matches from any start
+  module _ (free : FindsFromAnyStart nfa) where
+    pub own-free : IsAnsweredBy nfa x (expected_in_str own false x)
+    own-free =
+        let kept = loses-none own nfa compiled.made free x.haystack in
+        own-answered false (hit-unbound own nfa x whole kept) (boundary-unbound own nfa x whole kept)
+        (λ is. absurd (is_plain false refl is))
+
+    module _ (res : List Re) (meant : AreMeant syntax texts res) where
+      pub str-kept : LosesNoHit res nfa x.haystack
+      str-kept = texts-lose-none syntax texts res nfa x.haystack compiled meant free (text-bytes x.haystack text)
+
+      pub free-str-answered : IsAnsweredBy nfa x (str_hit res nfa x)
+      free-str-answered =
+          answered-alike own-free (str_hit res nfa x)
+          (subst (AreAlike (expected_in_str own false x)) (sym (str-unbound res nfa x whole str-kept))
+          (own-alike res meant false))

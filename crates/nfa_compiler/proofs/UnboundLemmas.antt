@@ -1,36 +1,20 @@
 -- A pattern that begins with `Start` matches only from the start of a haystack, so a search for such patterns that is
 -- bound to its start loses no hit.
-use Rattle.std.proofs.Common.{◌≡◌, ℕ, zero, suc, ◌+◌, ◌-◌, ◌≤◌, ◌<◌, inl, inr, ⊎_elim, Bool, true, false, List, [], ◌∷◌, length, refl, sym, ap, ◌∙◌, subst, arith, ne_eqb, true≢false, Option, None, Some, All, is_some, slice_index_or, if◌then◌else◌, not, ◌&&◌, ◌||◌, ◌==◌, ◌↔◌}
-use Rattle.std.specs.Option.{option_or}
-use Rattle.std.proofs.lemmas.Bool.{and_parts, cases_lt, le-ltb, lt-ltb, or_cases}
-use Rattle.std.proofs.lemmas.Option.{slice_get-get_or}
-use Rattle.regex_hir.specs.Looks.{holds, holds_between}
-use Rattle.regex_hir.specs.Matches.{Matches, Rounds, next_round, one_round}
-use Rattle.regex_hir.specs.Re.{Re, Trace, accept, alt, attempt, byte_in, cat, char_in, empty, group, literal, look, plus}
-use Rattle.regex_hir.specs.Text.{byte_before, is_boundary, is_none_or}
+use Rattle.nfa_paths.proofs.Common.{◌≡◌, ℕ, zero, suc, ◌+◌, ◌-◌, ◌≤◌, ◌<◌, inl, inr, Bool, true, false, List, [], ◌∷◌, length, refl, sym, ap, ◌∙◌, subst, arith, true≢false, Option, None, slice_index_or, if◌then◌else◌, ◌||◌, ◌==◌, option_or, cases_lt, le-ltb, nat_tests, slice_get-get_or, Search, is_anchored, Automaton, IsScanAnswer, node_at, Yes, LeftmostFirst}
+use Rattle.nfa_compiler.specs.Common.{holds, holds_between, Matches, Rounds, next_round, one_round, Re, accept, alt, attempt, byte_in, cat, char_in, empty, group, literal, look, plus, byte_before, Start, expected_on_boundary, on_boundary, restarted_hit, IsNfaOf, res_of, PatternMatches, all_begin_at_start, begins_at_start, is_start, never_reads, PatternHit, expected, first_hit, hit_of, pick, pick_one, at_boundary, expected_in_str, FindsFromAnyStart, LosesNoHit, MatchesOnlyAtStart}
+use Rattle.nfa_compiler.specs.Laws.{BegunMatchAtStart, MatchesAreUnbound, TextsLoseNoHit}
 use Rattle.regex_hir.specs.declared.look.Look.{Look}
-use Rattle.regex_hir.specs.declared.look.Look.TheVariants.{Start}
 use Rattle.regex_hir.proofs.AttemptLemmas.{attempt_complete}
+use Rattle.regex_hir.proofs.OptionLemmas.{option_or_none, value_of_IsSome}
 use Rattle.regex_class.specs.Ranges.{in_ranges}
-use Rattle.nfa_paths.specs.Common.{Search, is_anchored, Anchored, Automaton, Pair, IsScanAnswer, node_at}
-use Rattle.regex_search_core.specs.declared.search.Anchored.TheVariants.{No, Yes, Pattern}
-use Rattle.regex_search_core.specs.declared.search.MatchKind.TheVariants.{LeftmostFirst}
-use Rattle.regex_syntax.specs.declared.Config.{Config}
 use Rattle.nfa_paths.proofs.AnswerLemmas.{scan_answer-leads}
 use Rattle.nfa_paths.proofs.PatternLemmas.{some-pattern}
-use Rattle.nfa_compiler.specs.BoundaryHits.{ends_on_boundary, expected_on_boundary, on_boundary, restarted_hit}
-use Rattle.nfa_compiler.specs.Compiled.{AreMeant, IsCompiled, IsNfaOf, res_of}
-use Rattle.nfa_compiler.specs.KindLaws.{PatternMatches}
-use Rattle.nfa_compiler.specs.Loops.{all_begin_at_start, begins_at_start, is_start, never_reads}
-use Rattle.nfa_compiler.specs.Patterns.{PatternHit, expected, first_hit, hit_of, pick, pick_one}
-use Rattle.nfa_compiler.specs.StrHits.{at_boundary, expected_in_str}
-use Rattle.nfa_compiler.specs.AnyStart.{FindsFromAnyStart, LosesNoHit, MatchesOnlyAtStart}
-use Rattle.nfa_compiler.proofs.EachLemmas.{in-each-mode}
-use Rattle.nfa_compiler.proofs.ExistsLemmas.{path-sound}
-use Rattle.nfa_compiler.proofs.MeantLemmas.{AreAlike, all-meant, pick-alike}
+use Rattle.nfa_compiler.proofs.EachLemmas.{both-elim, in-each-mode}
+use Rattle.nfa_compiler.proofs.ExistsLemmas.{earlier-match, path-sound, unbound-match}
+use Rattle.nfa_compiler.proofs.MeantLemmas.{Alike, all-meant, pick-alike}
 use Rattle.nfa_compiler.proofs.SearchLemmas.{scan}
-use Rattle.nfa_compiler.proofs.StartLemmas.{TellsHit}
-use Rattle.nfa_compiler.proofs.StartPairLemmas.{within-end}
+use Rattle.nfa_compiler.proofs.StartLemmas.{TellsHit, ToldHit}
+use Rattle.nfa_compiler.proofs.WayLemmas.{within-end}
 
 -- a pattern without a part that reads ends where it starts
 
@@ -41,31 +25,19 @@ still-rounds R each i j (next_round l _ rs r) = each l j r ∙ still-rounds R ea
 still : (hay : List ℕ) (re : Re) (i j : ℕ) → never_reads re ≡ true → Matches hay re i j → j ≡ i
 still hay empty i j e m = m
 still hay (literal []) i j e m = omega (arith, m.1)
-still hay (literal (b ∷ bs)) i j e m =
-    absurd (true≢false (sym e ∙ ap not (lt-ltb 0 (length (b ∷ bs)) (omega arith))))
-still hay (byte_in rs) i j e m = absurd (true≢false (sym e))
-still hay (char_in rs) i j e m = absurd (true≢false (sym e))
+still hay (literal (b ∷ bs)) i j e m = grind (arith, nat_tests)
 still hay (look l) i j e m = m.1
-still hay (cat a b) i j e m =
-    let both = and_parts (never_reads a) (never_reads b) e in
-    still hay b m.0 j both.1 m.2 ∙ still hay a i m.0 both.0 m.1
-still hay (alt a b) i j e m =
-    let both = and_parts (never_reads a) (never_reads b) e in
-    ⊎_elim (still hay a i j both.0) (still hay b i j both.1) m
+still hay (cat a b) i j e m = grind (arith, still hay a i m.0, still hay b m.0 j)
+still hay (alt a b) i j e m = grind (arith, still hay a i j, still hay b i j)
 still hay (group n a) i j e m = still hay a i j e m
 still hay (plus greedy a) i j e m = still-rounds (Matches hay a) (λ l k. still hay a l k e) i j m
+still hay _ i j e m = absurd (true≢false (sym e))
 
 -- `Start` holds only at the start
 
 pub holds-at-start : (hay : List ℕ) (i : ℕ) → i ≤ length hay → holds Start hay i ≡ true → i ≡ 0
 unfolding holds holds_between byte_before
-holds-at-start hay i within h = elim (cases_lt 0 i) [
-  | inl after ↦ (
-      let other : (i == 0) ≡ false = ne_eqb i 0 (λ e. omega arith) in
-      absurd (true≢false (sym (rw (other, slice_get-get_or hay (i - 1) 0 (omega arith)) at h)))
-      )
-  | inr first ↦ omega arith
-]
+holds-at-start hay i within h = grind (arith, nat_tests, slice_get-get_or hay (i - 1) 0)
 
 look-is : (l : Look) (hay : List ℕ) (i : ℕ) → is_start l ≡ true → i ≤ length hay → holds l hay i ≡ true → i ≡ 0
 look-is Start hay i e within h = holds-at-start hay i within h
@@ -76,50 +48,26 @@ begun-rounds : (hay : List ℕ) (R : ℕ → ℕ → Type 0) → ((i j : ℕ) �
 begun-rounds hay R each i j within (one_round _ r) = each i j within r
 begun-rounds hay R each i j within (next_round l _ rs r) = begun-rounds hay R each i l within rs
 
-pub begun-at : (hay : List ℕ) (re : Re) (i j : ℕ) → begins_at_start re ≡ true → i ≤ length hay → Matches hay re i j
-    → i ≡ 0
+pub begun-at : BegunMatchAtStart
 unfolding in_ranges
-begun-at hay empty i j e within m = absurd (true≢false (sym e))
-begun-at hay (literal bs) i j e within m = absurd (true≢false (sym e))
 begun-at hay (byte_in []) i j e within m = absurd (true≢false (sym m.2))
-begun-at hay (byte_in (r ∷ rs)) i j e within m =
-    absurd (true≢false (sym e ∙ ap not (lt-ltb 0 (length (r ∷ rs)) (omega arith))))
+begun-at hay (byte_in (r ∷ rs)) i j e within m = grind (arith, nat_tests)
 begun-at hay (char_in []) i j e within m = absurd (true≢false (sym m.2))
-begun-at hay (char_in (r ∷ rs)) i j e within m =
-    absurd (true≢false (sym e ∙ ap not (lt-ltb 0 (length (r ∷ rs)) (omega arith))))
+begun-at hay (char_in (r ∷ rs)) i j e within m = grind (arith, nat_tests)
 begun-at hay (look l) i j e within m = look-is l hay i e within m.0
 begun-at hay (cat a b) i j e within m =
-    elim (or_cases (begins_at_start a) (never_reads a && begins_at_start b) e) [
-      | inl first ↦ begun-at hay a i m.0 first within m.1
-      | inr later ↦ (
-          let both = and_parts (never_reads a) (begins_at_start b) later in
-          let same = still hay a i m.0 both.0 m.1 in
-          sym same ∙ begun-at hay b m.0 j both.1 (omega (arith, same)) m.2
-          )
-    ]
-begun-at hay (alt a b) i j e within m =
-    let both = and_parts (begins_at_start a) (begins_at_start b) e in
-    ⊎_elim (begun-at hay a i j both.0 within) (begun-at hay b i j both.1 within) m
+    grind (arith, begun-at hay a i m.0, still hay a i m.0, begun-at hay b m.0 j)
+begun-at hay (alt a b) i j e within m = grind (arith, begun-at hay a i j, begun-at hay b i j)
 begun-at hay (group n a) i j e within m = begun-at hay a i j e within m
 begun-at hay (plus greedy a) i j e within m =
     begun-rounds hay (Matches hay a) (λ l k. begun-at hay a l k e) i j within m
+begun-at hay _ i j e within m = absurd (true≢false (sym e))
 
 one-begins : (res : List Re) (k : ℕ) → k < length res → all_begin_at_start res ≡ true
     → begins_at_start (slice_index_or res k empty) ≡ true
 one-begins [] k known e = absurd (omega arith)
-one-begins (re ∷ res) zero known e = (and_parts (begins_at_start re) (all_begin_at_start res) e).0
-one-begins (re ∷ res) (suc k) known e =
-    one-begins res k (omega arith) (and_parts (begins_at_start re) (all_begin_at_start res) e).1
-
--- what says that there is no hit
-
-tells-none : (a : Automaton) (o : Option PatternHit) → TellsHit a o None → o ≡ None
-tells-none a None t = refl
-tells-none a (Some h) t = absurd t
-
-alike-none : (o : Option PatternHit) → AreAlike None o → o ≡ None
-alike-none None t = refl
-alike-none (Some h) t = absurd t
+one-begins (re ∷ res) zero known e = grind arith
+one-begins (re ∷ res) (suc k) known e = grind (arith, one-begins res k)
 
 module _ (res : List Re) (a : Automaton) (made : IsNfaOf res a) where
   -- an NFA of such patterns matches only from the start
@@ -145,35 +93,29 @@ module _ (res : List Re) (a : Automaton) (made : IsNfaOf res a) where
       → pick haystack res 0 i ≡ None
   unfolding expected
   none-later only haystack i after within =
-      let s = scan res a made (anchored-at haystack i) refl in
-      of s.0
+      let x = anchored-at haystack i in
+      let s = scan res a made x refl in
+      both-elim (ToldHit a) (λ o r. IsScanAnswer a x LeftmostFirst false r → o ≡ None) (λ answer. refl)
+      (λ h p told answer.
+      let leads = scan_answer-leads a x LeftmostFirst false p answer in
+      absurd ((only.nothing x after refl).no_path leads.end p leads.path leads.matches))
+      (pick haystack res 0 i) s.0
       (subst (λ (b : Bool). TellsHit a (if b then None else pick haystack res 0 i) s.0)
       (le-ltb (length haystack) i within) s.1)
       s.2
-    where
-      of : (r : Option (List Pair)) → TellsHit a (pick haystack res 0 i) r
-          → IsScanAnswer a (anchored-at haystack i) LeftmostFirst false r → pick haystack res 0 i ≡ None
-      of None tells answer = tells-none a (pick haystack res 0 i) tells
-      of (Some p) tells answer =
-          let leads = scan_answer-leads a (anchored-at haystack i) LeftmostFirst false p answer in
-          absurd ((only.nothing (anchored-at haystack i) after refl).no_path leads.end p leads.path leads.matches)
 
   pub loses-none : FindsFromAnyStart a → (haystack : List ℕ) → LosesNoHit res a haystack
-  loses-none free haystack = elim free [
-    | inl f ↦ inl f
-    | inr only ↦ inr (none-later only haystack)
-  ]
+  loses-none free haystack = grind (arith, nat_tests, none-later)
 
-pub texts-lose-none : (syntax : Config) (texts : List (List ℕ)) (res : List Re) (nfa : Automaton) (haystack : List ℕ)
-    → IsCompiled syntax texts nfa → AreMeant syntax texts res → FindsFromAnyStart nfa → All (λ b. b < 256) haystack
-    → LosesNoHit res nfa haystack
+pub texts-lose-none : TextsLoseNoHit
 texts-lose-none syntax texts res nfa haystack compiled meant free bytes =
     elim (loses-none (res_of compiled.trees) nfa compiled.made free haystack) [
       | inl f ↦ inl f
-      | inr none ↦ inr (λ i after within. alike-none (pick haystack res 0 i)
-          (subst (λ o. AreAlike o (pick haystack res 0 i)) (none i after within)
+      | inr none ↦ inr (λ i after within.
+          both-elim Alike (λ o u. o ≡ None → u ≡ None) (λ e. refl) (λ h g alike never. cc)
+          (pick haystack (res_of compiled.trees) 0 i) (pick haystack res 0 i)
           (pick-alike haystack bytes (res_of compiled.trees) res 0 i
-          (all-meant syntax texts compiled.trees res compiled.read meant))))
+          (all-meant syntax texts compiled.trees res compiled.read meant)) (none i after within))
     ]
 
 -- a search that is bound to its start then has the hits of one that is not
@@ -190,10 +132,6 @@ module _ (at : ℕ → Option PatternHit) where
   first-only n i none =
       sym (ap (option_or (at i)) (first-nothing n (i + 1) (λ l from to. none l (omega arith) (omega arith))))
 
-both-none : (b : Bool) (o : Option PatternHit) → o ≡ None → (if b then o else None) ≡ None
-both-none true o e = e
-both-none false o e = refl
-
 module _ (haystack : List ℕ) (at : ℕ → Option PatternHit) where
   restarted-nothing : (n i : ℕ) → ((l : ℕ) → i ≤ l → l < i + n → at l ≡ None)
       → restarted_hit haystack at n i ≡ None
@@ -208,19 +146,8 @@ module _ (haystack : List ℕ) (at : ℕ → Option PatternHit) where
   restarted-only : (n i : ℕ) → ((l : ℕ) → i < l → l < i + suc n → at l ≡ None)
       → restarted_hit haystack at (suc n) i ≡ first_hit (λ l. on_boundary haystack (at l)) (suc n) i
   restarted-only n i none =
-      rw (restarted-nothing n (i + 1) later, kept-nothing n (i + 1) later) (of (at i))
-    where
-      later : (l : ℕ) → i + 1 ≤ l → l < i + 1 + n → at l ≡ None
-      later l from to = none l (omega arith) (omega arith)
-
-      of : (o : Option PatternHit) → (if is_none_or o (ends_on_boundary haystack) then o else None)
-          ≡ option_or (on_boundary haystack o) None
-      of None = refl
-      of (Some h) = by (ends_on_boundary haystack h)
-        where
-          by : (b : Bool) → (if b then Some h else None) ≡ option_or (if b then Some h else None) None
-          by true = refl
-          by false = refl
+      let later : (l : ℕ) → i + 1 ≤ l → l < i + 1 + n → at l ≡ None = λ l from to. none l (omega arith) (omega arith) in
+      grind (arith, restarted-nothing n (i + 1) later, kept-nothing n (i + 1) later)
 
 module _ (res : List Re) (x : Search) (none : (l : ℕ) → 0 < l → l ≤ x.end → pick x.haystack res 0 l ≡ None) where
   abbrev at_place : ℕ → Option PatternHit
@@ -251,7 +178,7 @@ module _ (res : List Re) (x : Search) (none : (l : ℕ) → 0 < l → l ≤ x.en
   str-free = in-each-mode x (λ o u. o ≡ u) refl
       {one = λ k. at_boundary x.haystack (pick_one x.haystack res k) x.start}
       (λ inside free. rw count (first-only (at_boundary x.haystack at_place) (x.end - x.start) x.start
-      (λ l from to. both-none (is_boundary x.haystack l) (at_place l) (later inside l from to))))
+      (λ l from to. grind (arith, later inside l from to))))
       (λ inside. refl) (λ inside k. refl)
 
 -- An NFA that loses no hit finds the same.
@@ -261,14 +188,7 @@ module _ (res : List Re) (nfa : Automaton) (x : Search) (whole : x.end ≡ lengt
   unbound : (f : Bool → Option PatternHit)
       → (((l : ℕ) → 0 < l → l ≤ x.end → pick x.haystack res 0 l ≡ None) → f true ≡ f false)
       → f (nfa.anchored == nfa.unanchored) ≡ f false
-  unbound f same = elim kept [
-    | inl e ↦ ap f e
-    | inr none ↦ of (nfa.anchored == nfa.unanchored) (same (λ l after to. none l after (omega arith)))
-  ]
-    where
-      of : (b : Bool) → f true ≡ f false → f b ≡ f false
-      of true e = e
-      of false e = refl
+  unbound f same = grind (arith, nat_tests)
 
   pub hit-unbound : expected res (nfa.anchored == nfa.unanchored) x ≡ expected res false x
   hit-unbound = unbound (λ b. expected res b x) (hit-free res x)
@@ -282,69 +202,35 @@ module _ (res : List Re) (nfa : Automaton) (x : Search) (whole : x.end ≡ lengt
 
 -- where a pattern matches
 
-missed : (k i : ℕ) (o : Option Trace) (rest : Option PatternHit) → option_or (hit_of k i o) rest ≡ None
-    → (o ≡ None) × (rest ≡ None)
-missed k i None rest e = (refl, e)
-missed k i (Some t) rest e = absurd (cc)
-
 pick-misses : (hay : List ℕ) (res : List Re) (from i k j : ℕ) → pick hay res from i ≡ None → k < length res
     → Matches hay (slice_index_or res k empty) i j → ⊥
 pick-misses hay [] from i k j none known m = omega arith
 pick-misses hay (re ∷ res) from i zero j none known m =
-    let miss = missed from i (attempt hay re accept i) (pick hay res (from + 1) i) none in
-    true≢false (sym (attempt_complete hay re accept i j m refl) ∙ ap is_some miss.0)
+    let v = value_of_IsSome (attempt hay re accept i) (attempt_complete hay re accept i j m refl) in
+    cc (rw v.1 at none)
 pick-misses hay (re ∷ res) from i (suc k) j none known m =
-    pick-misses hay res (from + 1) i k j (missed from i (attempt hay re accept i) (pick hay res (from + 1) i) none).1
-    (omega arith) m
+    pick-misses hay res (from + 1) i k j
+    (option_or_none (hit_of from i (attempt hay re accept i)) (pick hay res (from + 1) i) none).1 (omega arith) m
 
-pub matches-unbound : (res : List Re) (nfa : Automaton) (x : Search) (k : ℕ) → x.end ≡ length x.haystack
-    → LosesNoHit res nfa x.haystack
-    → PatternMatches res (nfa.anchored == nfa.unanchored) x k ↔ PatternMatches res false x k
-matches-unbound res nfa x k whole kept =
-    elim kept [
-      | inl f ↦ (
-        λ m. subst (λ (b : Bool). PatternMatches res b x k) f m,
-        λ m. subst (λ (b : Bool). PatternMatches res b x k) (sym f) m,
-      )
-      | inr none ↦ (λ m. wide (nfa.anchored == nfa.unanchored) m, λ m. narrow none (nfa.anchored == nfa.unanchored) m)
-    ]
+pub matches-unbound : MatchesAreUnbound
+matches-unbound res nfa x k whole kept = (
+  unbound-match res x k x.start (nfa.anchored == nfa.unanchored) (omega arith) (λ e. refl),
+  λ m. elim kept [
+    | inl f ↦ subst (λ (b : Bool). PatternMatches res b x k) (sym f) m
+    | inr none ↦ earlier-match res x k x.start (omega arith) m
+        (of (is_anchored x.anchored) (nfa.anchored == nfa.unanchored) m none m.to)
+  ],
+)
   where
-    -- the same match, if it starts early enough
-    moved : {b c : Bool} (m : PatternMatches res b x k)
-        → (m.start ≤ (if is_anchored x.anchored || b then x.start else x.end)
-        → m.start ≤ (if is_anchored x.anchored || c then x.start else x.end)) → PatternMatches res c x k
-    moved m early = record {
-      start = m.start;
-      end = m.end;
-      known = m.known;
-      tried = m.tried;
-      from = m.from;
-      to = early m.to;
-      inside = m.inside;
-      matches = m.matches;
-    }
-
-    wide : (b : Bool) → PatternMatches res b x k → PatternMatches res false x k
-    wide false m = m
-    wide true m = moved m (of x.anchored)
-      where
-        of : (mode : Anchored) → m.start ≤ (if is_anchored mode || true then x.start else x.end)
-            → m.start ≤ (if is_anchored mode || false then x.start else x.end)
-        of No to = omega (arith, to, m.inside)
-        of Yes to = to
-        of (Pattern pattern) to = to
-
-    narrow : ((i : ℕ) → 0 < i → i ≤ length x.haystack → pick x.haystack res 0 i ≡ None) → (b : Bool)
-        → PatternMatches res false x k → PatternMatches res b x k
-    narrow none false m = m
-    narrow none true m = moved m (of x.anchored)
-      where
-        of : (mode : Anchored) → m.start ≤ (if is_anchored mode || false then x.start else x.end)
-            → m.start ≤ (if is_anchored mode || true then x.start else x.end)
-        of No to = elim (cases_lt 0 m.start) [
-          | inl after ↦ absurd (pick-misses x.haystack res 0 m.start k m.end (none m.start after (omega arith))
-              m.known m.matches)
-          | inr first ↦ omega arith
-        ]
-        of Yes to = to
-        of (Pattern pattern) to = to
+    -- without a later hit it starts at the start
+    of : (anchored b : Bool) (m : PatternMatches res false x k)
+        → ((i : ℕ) → 0 < i → i ≤ length x.haystack → pick x.haystack res 0 i ≡ None)
+        → m.start ≤ (if anchored || false then x.start else x.end)
+        → m.start ≤ (if anchored || b then x.start else x.end)
+    of true b m none to = to
+    of false false m none to = to
+    of false true m none to = elim (cases_lt 0 m.start) [
+      | inl after ↦ absurd (pick-misses x.haystack res 0 m.start k m.end (none m.start after (omega arith))
+          m.known m.matches)
+      | inr first ↦ omega arith
+    ]

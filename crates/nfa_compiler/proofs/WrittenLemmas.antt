@@ -1,54 +1,23 @@
 -- A pattern that is written out matches exactly where the tree that is compiled for its text does.
-use Rattle.std.proofs.Common.{◌≡◌, ℕ, ◌≤◌, ◌<◌, inl, inr, Bool, true, false, List, [], ◌∷◌, length, refl, sym, ap, ◌∙◌, subst, arith, true≢false, eq-eqb, Option, None, Some, All, IsSomeAnd, is_some, string_bytes, map, option_map, slice_index_or, if◌then◌else◌, ◌==◌, ◌↔◌, chars, IsUtf8}
-use Rattle.std.specs.List.{AllZip}
-use Rattle.std.proofs.lemmas.Bool.Decides.{eqb_tells}
-use Rattle.nfa_paths.specs.Common.{whole, Automaton, is_utf8_empty, IsBoolAnswer, IsScanAnswer}
-use Rattle.regex_search_core.specs.declared.search.MatchKind.TheVariants.{LeftmostFirst}
-use Rattle.regex_hir.specs.Matches.{Matches}
-use Rattle.regex_hir.specs.Meaning.{meaning}
-use Rattle.regex_hir.specs.Re.{Re, Rest, Trace, accept, attempt, empty}
-use Rattle.regex_hir.specs.declared.hir.Hir.{Hir}
+use Rattle.nfa_paths.proofs.Common.{◌≡◌, ℕ, ◌≤◌, ◌<◌, Bool, true, false, List, [], ◌∷◌, length, refl, sym, ap, ◌∙◌, subst, arith, eq-eqb, Option, None, Some, All, is_some, option_map, if◌then◌else◌, ◌==◌, ◌↔◌, IsUtf8, AllZip, nat_tests, whole, Automaton, is_utf8_empty, IsBoolAnswer, LeftmostFirst}
+use Rattle.nfa_compiler.specs.Common.{Matches, meaning, Re, Rest, Trace, accept, attempt, SameCaptures, outcome, Config, Parsed, FindsFromAnyStart, IsCompiled, IsTreeOf, res_of, IsReadAs, MatchesIn, MatchesInStr, Match, find, find_str, first_between, is_boundary, PatternHit, expected, hit_by, expected_in_str}
 use Rattle.regex_hir.proofs.AttemptLemmas.{attempt_complete, attempt_sound, cond_some}
 use Rattle.regex_hir.proofs.OptionLemmas.{value_of_IsSome}
-use Rattle.regex_syntax.specs.Brackets.{Nested}
-use Rattle.regex_syntax.specs.Captures.{SameCaptures, outcome}
-use Rattle.regex_syntax.specs.Grammar.{Names, group_count, read as read_text}
-use Rattle.regex_syntax.specs.Same.{SameTree}
-use Rattle.regex_syntax.specs.Verdict.{Reads}
-use Rattle.regex_syntax.specs.declared.Config.{Config}
-use Rattle.regex_syntax.specs.declared.Parsed.{Parsed}
-use Rattle.regex_syntax.proofs.CapturesLemmas.{◌also◌, alike_of_same, alike_sym}
-use Rattle.nfa_compiler.specs.AnyStart.{FindsFromAnyStart, LosesNoHit}
-use Rattle.nfa_compiler.specs.Compiled.{IsCompiled, IsTreeOf, res_of}
-use Rattle.nfa_compiler.specs.KindLaws.{MatchesSomewhere}
-use Rattle.nfa_compiler.specs.Written.{IsReadAs, MatchesIn, MatchesInStr}
-use Rattle.nfa_compiler.proofs.ExistsLemmas.{anywhere-ends, path-iff}
-use Rattle.nfa_compiler.proofs.UnboundLemmas.{loses-none, matches-unbound}
-use Rattle.regex_hir.specs.Find.{Match, find_str}
-use Rattle.regex_hir.specs.Text.{is_boundary}
+use Rattle.regex_syntax.proofs.Written.{is_some-option_map}
+use Rattle.regex_syntax.proofs.CapturesLemmas.{alike_of_same, alike_sym}
+use Rattle.nfa_compiler.proofs.UnboundLemmas.{hit-unbound, loses-none}
 use Rattle.regex_hir.proofs.FindLemmas.{IsFirst-of_first_between, none_of_first_between}
-use Rattle.nfa_compiler.specs.Patterns.{hit_by}
-use Rattle.nfa_compiler.specs.StrHits.{expected_in_str}
 use Rattle.nfa_compiler.proofs.AnswerLemmas.{found-is}
-use Rattle.nfa_compiler.proofs.StrLemmas.{text-bytes}
-use Rattle.nfa_compiler.proofs.StrSearchLemmas.{own-free}
-use Rattle.nfa_compiler.proofs.TextLemmas.{one-str-free}
+use Rattle.nfa_compiler.proofs.MeantLemmas.{reads-give}
+use Rattle.nfa_compiler.proofs.SearchLemmas.{hit-answered}
+use Rattle.nfa_compiler.proofs.StrLemmas.{text-bytes, own-free}
+use Rattle.nfa_compiler.proofs.AllSearchLemmas.{one-free, one-str-free}
 
 -- what a text is read as
 
-read-one : (b : Re) (hir : Hir) (limit : ℕ) (names : Names) (o : Option (Nested Re × Names))
-    → IsSomeAnd o (λ (re, found). (re.depth ≤ limit) × SameCaptures (meaning hir) re.value × (names ≡ found)
-    × (group_count (meaning hir) ≤ length names))
-    → IsSomeAnd o (λ (re, found). SameTree re.value b) → SameCaptures (meaning hir) b
-read-one b hir limit names None read is = absurd read
-read-one b hir limit names (Some found) read is = read.1 also alike_of_same is.matches
-
 pub read-as : (syntax : Config) (text : List ℕ) (tree : Parsed) (re : Re) → IsTreeOf syntax text tree
     → IsReadAs syntax text re → SameCaptures (meaning tree.hir) re
-unfolding Reads
-read-as syntax text tree re read is =
-    read-one re tree.hir syntax.nest_limit (map (option_map string_bytes) tree.names.items)
-    (read_text syntax (chars text)) read.reads is
+read-as syntax text tree re read is = grind (arith, nat_tests, reads-give, alike_of_same)
 
 -- patterns that a caller cannot tell apart match alike
 
@@ -72,124 +41,40 @@ module _ (haystack : List ℕ) (bytes : All (λ b. b < 256) haystack) where
       ends l = if l == j then accept l else None
 
       there : (l : ℕ) → (l == j) ≡ true → l ≡ j
-      there l e = elim (eqb_tells l j) [ inl h ↦ h.1 | inr h ↦ absurd (true≢false (sym e ∙ h.0)) ]
+      there l e = grind (arith, nat_tests)
 
-module _ (syntax : Config) (text : List ℕ) (nfa : Automaton) (haystack : List ℕ)
-    (compiled : IsCompiled syntax (text ∷ []) nfa) (anywhere : is_utf8_empty nfa ≡ false)
-    (free : FindsFromAnyStart nfa) (bytes : All (λ b. b < 256) haystack) (re : Re)
-    (is : IsReadAs syntax text re) where
-  -- the one tree matches somewhere exactly if the pattern does
-  somewhere : (trees : List Parsed) → AllZip (IsTreeOf syntax) (text ∷ []) trees
-      → MatchesSomewhere (res_of trees) false (whole haystack) ↔ MatchesIn haystack re
-  somewhere [] read = absurd read
-  somewhere (tree ∷ (other ∷ trees)) read = absurd read.1
-  somewhere (tree ∷ []) read = (
-    λ m.
-        let p = m.matches in
-        let first : m.pattern ≡ 0 = omega (arith, p.known) in
-        record {
-          start = p.start;
-          end = p.end;
-          within = p.to;
-          matches = match-alike haystack bytes (meaning tree.hir) re same p.start p.end
-              (subst (λ k. Matches haystack (slice_index_or (meaning tree.hir ∷ []) k empty) p.start p.end) first
-              p.matches);
-        },
-    λ m.
-        record {
-          pattern = 0;
-          matches = record {
-            start = m.start;
-            end = m.end;
-            known = omega arith;
-            tried = tt;
-            from = omega arith;
-            to = m.within;
-            inside = omega arith;
-            matches = match-alike haystack bytes re (meaning tree.hir) (alike_sym same) m.start m.end m.matches;
-          };
-        },
-  )
-    where
-      same : SameCaptures (meaning tree.hir) re
-      same = read-as syntax text tree re read.0 is
+-- the only text
 
-  -- a search of the whole haystack finds something exactly if the pattern matches
-  pub found-as-read : (found : Bool) → IsBoolAnswer nfa LeftmostFirst false (whole haystack) found
-      → (found ≡ true) ↔ MatchesIn haystack re
-  found-as-read found answer =
-      let own : (answer.restarts ≡ 0) × IsScanAnswer nfa (whole haystack) LeftmostFirst false answer.path =
-      rw anywhere at answer.answers in
-      let own-res = res_of compiled.trees in
-      let both = path-iff own-res nfa compiled.made (whole haystack) refl
-      (anywhere-ends own-res nfa compiled.made (whole haystack) refl anywhere) LeftmostFirst false answer.path own.1 in
-      let same = somewhere compiled.trees compiled.read in (
-        λ e. same.0 (unbound.0 (both.0 (sym answer.found_is ∙ e))),
-        λ m. answer.found_is ∙ both.1 (unbound.1 (same.1 m)),
-      )
-    where
-      kept : LosesNoHit (res_of compiled.trees) nfa haystack
-      kept = loses-none (res_of compiled.trees) nfa compiled.made free haystack
+module _ (haystack : List ℕ) (bytes : All (λ b. b < 256) haystack) (on : ℕ → Bool) where
+  -- the pattern matches from a position that passes the test
+  abbrev Placed : Re → Type 0
+  Placed re = (i : ℕ) × (j : ℕ) × (i ≤ length haystack) × (on i ≡ true) × Matches haystack re i j
 
-      unbound : MatchesSomewhere (res_of compiled.trees) (nfa.anchored == nfa.unanchored) (whole haystack)
-          ↔ MatchesSomewhere (res_of compiled.trees) false (whole haystack)
-      unbound = (
-        λ m. record {
-          pattern = m.pattern;
-          matches = (matches-unbound (res_of compiled.trees) nfa (whole haystack) m.pattern refl kept).0 m.matches;
-        },
-        λ m. record {
-          pattern = m.pattern;
-          matches = (matches-unbound (res_of compiled.trees) nfa (whole haystack) m.pattern refl kept).1 m.matches;
-        },
-      )
+  abbrev at_place : Re → Rest
+  at_place re i = if on i then attempt haystack re accept i else None
 
--- In a `str`, in UTF-8 mode, the match is one from a boundary.
+  abbrev first_placed : Re → Option Match
+  first_placed re = first_between (at_place re) 0 (length haystack)
 
--- `find_str` gives a match exactly if there is one from a boundary
-module _ (haystack : List ℕ) (re : Re) where
-  -- no match starts inside a codepoint
-  abbrev at_place : Rest
-  at_place i = if is_boundary haystack i then attempt haystack re accept i else None
+  found-placed : (re : Re) → is_some (first_placed re) ≡ true → Placed re
+  found-placed re found = grind (arith, nat_tests, value_of_IsSome, IsFirst-of_first_between, cond_some, attempt_sound)
 
-  found-matches : is_some (find_str re haystack 0) ≡ true → MatchesInStr haystack re
-  unfolding find_str
-  found-matches found =
-      let m = value_of_IsSome (find_str re haystack 0) found in
-      let first = IsFirst-of_first_between at_place 0 (length haystack) m.0 m.1 in
-      let at = m.0.start in
-      let here = cond_some (is_boundary haystack at) (attempt haystack re accept at) m.0.trace first.here in
-      let c = attempt_sound haystack re accept m.0.start m.0.trace here.1 in
-      record { start = m.0.start; end = c.at; within = first.to; boundary = here.0; matches = c.leads }
+  placed-found : (re : Re) → Placed re → is_some (first_placed re) ≡ true
+  placed-found re m =
+      let some = attempt_complete haystack re accept m.0 m.1 m.4 refl in
+      grind (arith, none_of_first_between (at_place re) 0 (length haystack), m.2, m.3)
 
-  matches-found : MatchesInStr haystack re → is_some (find_str re haystack 0) ≡ true
-  unfolding find_str
-  matches-found m = of (find_str re haystack 0) refl
-    where
-      of : (o : Option Match) → find_str re haystack 0 ≡ o → is_some o ≡ true
-      of (Some found) is = refl
-      of None is =
-          let v = value_of_IsSome (attempt haystack re accept m.start)
-          (attempt_complete haystack re accept m.start m.end m.matches refl) in
-          let none = none_of_first_between at_place 0 (length haystack) is m.start (omega arith) m.within in
-          absurd (cc (rw m.boundary at none, v.1))
-
-some-mapped : (o : Option Match) → is_some (option_map (hit_by 0) o) ≡ is_some o
-some-mapped None = refl
-some-mapped (Some m) = refl
-
-module _ (syntax : Config) (text : List ℕ) (nfa : Automaton) (haystack : List ℕ)
-    (compiled : IsCompiled syntax (text ∷ []) nfa) (mode : nfa.utf8 ≡ true)
-    (free : FindsFromAnyStart nfa) (valid : IsUtf8 haystack) where
-  module _ (re : Re) (is : IsReadAs syntax text re) (found : Bool) where
-    of-tree : (trees : List Parsed) → AllZip (IsTreeOf syntax) (text ∷ []) trees
-        → found ≡ is_some (expected_in_str (res_of trees) false (whole haystack))
-        → (found ≡ true) ↔ MatchesInStr haystack re
-    of-tree [] read e = absurd read
-    of-tree (tree ∷ (other ∷ trees)) read e = absurd read.1
-    of-tree (tree ∷ []) read e = (
-      λ yes. alike own re same (found-matches haystack own (sym all ∙ yes)),
-      λ m. all ∙ matches-found haystack own (alike re own (alike_sym same) m),
+  -- what searches find of the pattern that is read in the text
+  module _ (syntax : Config) (text : List ℕ) (re : Re) (is : IsReadAs syntax text re) (found : Bool)
+      (hit_of_res : List Re → Option PatternHit)
+      (one : (own : Re) → hit_of_res (own ∷ []) ≡ option_map (hit_by 0) (first_placed own)) where
+    read-iff : (trees : List Parsed) → AllZip (IsTreeOf syntax) (text ∷ []) trees
+        → found ≡ is_some (hit_of_res (res_of trees)) → (found ≡ true) ↔ Placed re
+    read-iff [] read e = absurd read
+    read-iff (tree ∷ (other ∷ trees)) read e = absurd read.1
+    read-iff (tree ∷ []) read e = (
+      λ yes. alike own re same (found-placed own (sym all ∙ yes)),
+      λ m. all ∙ placed-found own (alike re own (alike_sym same) m),
     )
       where
         own : Re
@@ -198,20 +83,45 @@ module _ (syntax : Config) (text : List ℕ) (nfa : Automaton) (haystack : List 
         same : SameCaptures own re
         same = read-as syntax text tree re read.0 is
 
-        all : found ≡ is_some (find_str own haystack 0)
-        all = e ∙ ap is_some (one-str-free own (whole haystack) refl refl)
-            ∙ some-mapped (find_str own haystack 0)
+        all : found ≡ is_some (first_placed own)
+        all = e ∙ ap is_some (one own) ∙ is_some-option_map (hit_by 0) (first_placed own)
 
-        alike : (a b : Re) → SameCaptures a b → MatchesInStr haystack a → MatchesInStr haystack b
-        alike a b like m = record {
-          start = m.start;
-          end = m.end;
-          within = m.within;
-          boundary = m.boundary;
-          matches = match-alike haystack (text-bytes haystack valid) a b like m.start m.end m.matches;
-        }
+        alike : (a b : Re) → SameCaptures a b → Placed a → Placed b
+        alike a b like m = (m.0, m.1, m.2, m.3, match-alike haystack bytes a b like m.0 m.1 m.4)
 
-    pub found-as-read-in-str : IsBoolAnswer nfa LeftmostFirst false (whole haystack) found
-        → (found ≡ true) ↔ MatchesInStr haystack re
-    found-as-read-in-str answer = of-tree compiled.trees compiled.read
-        (found-is (own-free syntax (text ∷ []) nfa compiled mode (whole haystack) refl valid free) found answer)
+module _ (syntax : Config) (text : List ℕ) (nfa : Automaton) (haystack : List ℕ)
+    (compiled : IsCompiled syntax (text ∷ []) nfa) where
+  abbrev own : List Re
+  own = res_of compiled.trees
+
+  -- a search of the whole haystack finds something exactly if the pattern matches
+  pub found-as-read : is_utf8_empty nfa ≡ false → FindsFromAnyStart nfa → All (λ b. b < 256) haystack
+      → (re : Re) → IsReadAs syntax text re
+      → (found : Bool) → IsBoolAnswer nfa LeftmostFirst false (whole haystack) found
+      → (found ≡ true) ↔ MatchesIn haystack re
+  unfolding find
+  found-as-read anywhere free bytes re is found answer =
+      let kept = loses-none own nfa compiled.made free haystack in
+      let hit_is = found-is (hit-answered own nfa compiled.made (whole haystack) refl anywhere) found answer
+      ∙ ap is_some (hit-unbound own nfa (whole haystack) refl kept) in
+      let same = read-iff haystack bytes (λ i. true) syntax text re is found
+      (λ res. expected res false (whole haystack)) (λ re. one-free re (whole haystack) refl refl)
+      compiled.trees compiled.read hit_is in (
+        λ yes. let m = same.0 yes in record { start = m.0; end = m.1; within = m.2; matches = m.4 },
+        λ m. same.1 (m.start, m.end, m.within, refl, m.matches),
+      )
+
+  -- in a `str`, in UTF-8 mode, the match is one from a boundary
+  pub found-as-read-in-str : nfa.utf8 ≡ true → FindsFromAnyStart nfa → IsUtf8 haystack → (re : Re)
+      → IsReadAs syntax text re → (found : Bool) → IsBoolAnswer nfa LeftmostFirst false (whole haystack) found
+      → (found ≡ true) ↔ MatchesInStr haystack re
+  unfolding find_str
+  found-as-read-in-str mode free valid re is found answer =
+      let hit_is = found-is (own-free syntax (text ∷ []) nfa compiled mode (whole haystack) refl valid free) found
+      answer in
+      let same = read-iff haystack (text-bytes haystack valid) (is_boundary haystack) syntax text re is found
+      (λ res. expected_in_str res false (whole haystack)) (λ re. one-str-free re (whole haystack) refl refl)
+      compiled.trees compiled.read hit_is in (
+        λ yes. let m = same.0 yes in record { start = m.0; end = m.1; within = m.2; boundary = m.3; matches = m.4 },
+        λ m. same.1 (m.start, m.end, m.within, m.boundary, m.matches),
+      )

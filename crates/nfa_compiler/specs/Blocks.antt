@@ -1,6 +1,6 @@
--- The states of one pattern in an NFA: those of an NFA of `regex_nfa`, moved.
-use Rattle.std.specs.Prelude.{◌≡◌, ℕ, ◌+◌, ◌-◌, ◌*◌, ◌<◌, ◌≤◌, List, length, map, All, if◌then◌else◌, nat_lt, slice_range, slice_index_or, ⊤}
-use Rattle.nfa_paths.specs.Common.{number_of, Node}
+-- The states of one pattern in an NFA: those of an NFA of `regex_nfa`, moved, and added after others.
+use Rattle.std.specs.Prelude.{◌≡◌, ℕ, ◌+◌, ◌-◌, ◌*◌, ◌<◌, ◌≤◌, List, ◌++◌, length, map, All, if◌then◌else◌, nat_lt, slice_range, slice_index_or, ⊤}
+use Rattle.nfa_paths.specs.Common.{number_of, Node, LeadsBelow, SlotBelow, PatternBelow, Transition, ByteRange, Sparse, Look, BinaryUnion, Capture}
 use Rattle.regex_hir.specs.declared.look.Look as theirs
 use Rattle.regex_hir.specs.declared.look.Look.TheVariants as their_look
 use Rattle.regex_nfa.specs.States.{state_at}
@@ -10,8 +10,7 @@ use Rattle.regex_nfa.specs.declared.state.State.TheVariants as their
 use Rattle.regex_nfa.specs.declared.nfa.Nfa.{Nfa}
 use Rattle.thompson_nfa.specs.declared.look.Look as ours
 use Rattle.thompson_nfa.specs.declared.look.Look.TheVariants as our_look
-use Rattle.thompson_nfa.specs.declared.state.Transition.{Transition}
-use Rattle.thompson_nfa.specs.Automaton.Node.{ByteRange, Sparse, Look, BinaryUnion, Capture, Fail, Match}
+use Rattle.thompson_nfa.specs.Automaton.Node.{Fail, Match}
 use Rattle.nfa_compiler.specs.declared.block.Site.{Site}
 
 -- the assertion of `thompson_nfa` for one of `regex_hir`
@@ -78,3 +77,27 @@ pub record IsBlock (nodes : List Node) (nfa : Nfa) (s : Site) : Type 0 where
   pub start : slice_index_or nodes (match_at s + 1) Fail ≡ Capture (s.base + nfa.start) (slot_in s 0)
   pub start_in : nfa.start < s.size
   pub within : match_at s + 1 < length nodes
+
+-- the new states are the old ones, and some more after them
+abbrev pub Adds : List Node → List Node → Type 0
+Adds old new = (more : List Node) × (new ≡ old ++ more)
+
+-- the node leads to states below n, and its slot and its pattern are below these numbers
+abbrev pub IsInRange : ℕ → ℕ → ℕ → Node → Type 0
+IsInRange n slots patterns node = LeadsBelow n node × SlotBelow slots node × PatternBelow patterns node
+
+-- each of these nodes leads only to these nodes, and has a slot and a pattern below these numbers
+abbrev pub AreInRange : ℕ → ℕ → List Node → Type 0
+AreInRange slots patterns nodes = All (IsInRange (length nodes) slots patterns) nodes
+
+-- the new ones are in range if the old ones are
+abbrev pub KeepsInRange : List Node → List Node → Type 0
+KeepsInRange old new = (slots patterns : ℕ) → AreInRange slots patterns old → AreInRange slots patterns new
+
+-- the first states of the NFA were added
+pub record HoldsStates (old new : List Node) (nfa : Nfa) (s : Site) (count : ℕ) : Type 0 where
+  pub more : List Node
+  pub kept : new ≡ old ++ more
+  pub many : length more ≡ count
+  pub stands : (q : ℕ) → q < count
+      → Stands nfa.transitions.items s (state_at nfa.states.items q) (slice_index_or new (s.base + q) Fail)

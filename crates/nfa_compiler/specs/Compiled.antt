@@ -1,7 +1,8 @@
--- The parts of an NFA of patterns.
-use Rattle.std.specs.Prelude.{◌≡◌, false, ℕ, ◌+◌, ◌*◌, ◌<◌, ◌⊎◌, List, [], ◌∷◌, length, map, drop, take, All, Option, IsSomeAnd, IsTrue, chars, option_map, string_bytes, slice_index, slice_index_or}
-use Rattle.std.specs.List.{AllZip, sum_by}
-use Rattle.nfa_paths.specs.Common.{number_of, Automaton, Node}
+-- The parts of an NFA of patterns, and whether one that binds searches to their start loses a match by it.
+use Rattle.std.specs.Prelude.{◌≡◌, false, ℕ, ◌+◌, ◌<◌, ◌≤◌, ◌⊎◌, ◌||◌, ◌==◌, Bool, List, [], ◌∷◌, length, map, drop, All, None, Option, IsSomeAnd, IsTrue, chars, option_map, string_bytes, slice_index, slice_index_or}
+use Rattle.std.specs.List.{AllZip}
+use Rattle.nfa_paths.specs.Common.{number_of, Search, Automaton, Node, Fail, Union}
+use Rattle.nfa_engines.specs.Accepting.{MatchesNothing}
 use Rattle.regex_hir.specs.Re.{Re, empty}
 use Rattle.regex_hir.specs.Meaning.{meaning}
 use Rattle.regex_hir.specs.Reads.{always_reads}
@@ -12,9 +13,10 @@ use Rattle.regex_syntax.specs.declared.Config.{Config}
 use Rattle.regex_syntax.specs.declared.Parsed.{Parsed}
 use Rattle.regex_nfa.specs.declared.nfa.Nfa.{Nfa}
 use Rattle.regex_compile.specs.Implements.{Implements}
-use Rattle.thompson_nfa.specs.Automaton.{Fail, Union}
 use Rattle.nfa_compiler.specs.declared.block.Site.{Site}
 use Rattle.nfa_compiler.specs.Blocks.{match_at, IsBlock}
+use Rattle.nfa_compiler.specs.Loops.{all_begin_at_start}
+use Rattle.nfa_compiler.specs.Patterns.{first_slot, pick}
 
 -- the names of the pattern's explicit groups: all but group 0
 abbrev pub explicit_names : Parsed → List (Option (List ℕ))
@@ -27,10 +29,6 @@ groups_of patterns = map explicit_names patterns
 -- the meanings of these patterns
 abbrev pub res_of : List Parsed → List Re
 res_of patterns = map (λ p. meaning p.hir) patterns
-
--- the first slot of the explicit groups of pattern k
-abbrev pub first_slot : List (List (Option (List ℕ))) → ℕ → ℕ
-first_slot groups k = 2 * length groups + 2 * sum_by length (take k groups)
 
 -- The states of pattern k, which means re, are among the nodes, and its start is `start`. Its explicit groups have the
 -- slots from `slots` on.
@@ -89,3 +87,34 @@ IsMeant syntax text re = IsSomeAnd (read syntax (chars text)) (λ (found, names)
 -- the grammar reads each of these patterns in the text at its place
 abbrev pub AreMeant : Config → List (List ℕ) → List Re → Type 0
 AreMeant syntax texts res = AllZip (IsMeant syntax) texts res
+
+-- the grammar reads these names in the text, from group 0 on
+abbrev pub IsNamed : Config → List ℕ → List (Option (List ℕ)) → Type 0
+IsNamed syntax text names = IsSomeAnd (read syntax (chars text)) (λ (_, found). found ≡ names)
+
+-- the grammar reads each of these lists of names in the text at its place
+abbrev pub AreNamed : Config → List (List ℕ) → List (List (Option (List ℕ))) → Type 0
+AreNamed syntax texts names = AllZip (IsNamed syntax) texts names
+
+-- no search that begins after the start of its haystack, and goes on to its end, has an accepting path
+pub record MatchesOnlyAtStart (nfa : Automaton) : Type 0 where
+  pub nothing : (x : Search) → 0 < x.start → x.end ≡ length x.haystack → MatchesNothing nfa x
+
+-- An unanchored search finds matches from each position of its span: the NFA does not bind searches to their start, or
+-- it matches only from the start of a haystack.
+abbrev pub FindsFromAnyStart : Automaton → Type 0
+FindsFromAnyStart nfa = ((nfa.anchored == nfa.unanchored) ≡ false) ⊎ MatchesOnlyAtStart nfa
+
+-- The NFA binds each search to its start exactly if the setting says so, or each pattern that was read in the texts
+-- begins with `Start`.
+pub record IsBoundAsRead (anchored : Bool) (syntax : Config) (texts : List (List ℕ)) (nfa : Automaton) : Type 0 where
+  pub trees : List Parsed
+  pub read : AllZip (IsTreeOf syntax) texts trees
+  pub bound : (nfa.anchored == nfa.unanchored) ≡ (anchored || all_begin_at_start (res_of trees))
+
+-- In this haystack the patterns have no hit that the NFA loses: it does not bind searches to their start, or no pattern
+-- has a hit after the start of the haystack.
+abbrev pub LosesNoHit : List Re → Automaton → List ℕ → Type 0
+LosesNoHit res nfa haystack =
+    ((nfa.anchored == nfa.unanchored) ≡ false)
+    ⊎ ((i : ℕ) → 0 < i → i ≤ length haystack → pick haystack res 0 i ≡ None)

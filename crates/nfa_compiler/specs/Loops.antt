@@ -1,6 +1,6 @@
 -- The forms of patterns: loops whose part may match the empty string, and patterns that begin with `Start`. In such a
 -- loop each round after the first has to read a byte.
-use Rattle.std.specs.Prelude.{◌≡◌, ℕ, zero, suc, Bool, true, false, not, ◌&&◌, ◌||◌, ◌⊎◌, List, [], ◌∷◌, length, nat_lt, Option, Some, None}
+use Rattle.std.specs.Prelude.{ℕ, zero, suc, Bool, true, false, not, ◌&&◌, ◌||◌, IsTrue, List, [], ◌∷◌, length, nat_lt, Option, Some, None}
 use Rattle.regex_hir.specs.Re.{Re, empty, literal, byte_in, char_in, look, cat, alt, group, plus}
 use Rattle.regex_hir.specs.Reads.{always_reads}
 use Rattle.regex_hir.specs.declared.look.Look.{Look}
@@ -42,30 +42,18 @@ abbrev pub all_begin_at_start : List Re → Bool
 all_begin_at_start [] = true
 all_begin_at_start (re ∷ res) = begins_at_start re && all_begin_at_start res
 
--- Some way through the pattern has no part that reads a byte, and some part of the pattern does read one.
-pub record MayReadNothing (re : Re) : Type 0 where
-  pub may_be_empty : always_reads re ≡ false
-  pub may_read : never_reads re ≡ false
-
--- The pattern has a repetition without an upper bound whose part may match the empty string, and more than that.
-abbrev pub HasEmptyLoop : Re → Type 0
-HasEmptyLoop (cat a b) = HasEmptyLoop a ⊎ HasEmptyLoop b
-HasEmptyLoop (alt a b) = HasEmptyLoop a ⊎ HasEmptyLoop b
-HasEmptyLoop (group n a) = HasEmptyLoop a
-HasEmptyLoop (plus greedy a) = MayReadNothing a ⊎ HasEmptyLoop a
-HasEmptyLoop _ = ⊥
-
--- the same as a test
+-- The pattern has a repetition without an upper bound whose part may match the empty string, and more than that: some
+-- way through the part has none that reads a byte, and some part of it reads one.
 abbrev pub has_empty_loop : Re → Bool
-has_empty_loop empty = false
-has_empty_loop (literal bs) = false
-has_empty_loop (byte_in rs) = false
-has_empty_loop (char_in rs) = false
-has_empty_loop (look l) = false
 has_empty_loop (cat a b) = has_empty_loop a || has_empty_loop b
 has_empty_loop (alt a b) = has_empty_loop a || has_empty_loop b
 has_empty_loop (group n a) = has_empty_loop a
 has_empty_loop (plus greedy a) = (not (always_reads a) && not (never_reads a)) || has_empty_loop a
+has_empty_loop _ = false
+
+-- the same as a fact
+abbrev pub HasEmptyLoop : Re → Type 0
+HasEmptyLoop re = IsTrue (has_empty_loop re)
 
 -- what the form of a pattern says of it
 abbrev pub form_of : Re → Form
@@ -96,23 +84,13 @@ form_either a b = record {
 
 -- the form of `{min,max}` after a part of this form
 abbrev pub form_repeated : Form → ℕ → Option ℕ → Form
-form_repeated a zero None = record {
+form_repeated a zero None = record a {
   always_reads = false;
-  never_reads = a.never_reads;
   has_empty_loop = (not a.always_reads && not a.never_reads) || a.has_empty_loop;
   begins_at_start = false;
 }
-form_repeated a (suc n) None = record {
-  always_reads = a.always_reads;
-  never_reads = a.never_reads;
-  has_empty_loop = (not a.always_reads && not a.never_reads) || a.has_empty_loop;
-  begins_at_start = a.begins_at_start;
-}
-form_repeated a zero (Some zero) = record {
-  always_reads = false;
-  never_reads = true;
-  has_empty_loop = false;
-  begins_at_start = false;
-}
+form_repeated a (suc n) None =
+    record a { has_empty_loop = (not a.always_reads && not a.never_reads) || a.has_empty_loop }
+form_repeated a zero (Some zero) = form_of empty
 form_repeated a zero (Some (suc m)) = record a { always_reads = false; begins_at_start = false }
 form_repeated a (suc n) (Some m) = a

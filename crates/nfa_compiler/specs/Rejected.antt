@@ -1,11 +1,11 @@
 -- the error of a text
 use Rattle.std.specs.Prelude.{◌≡◌, ℕ, ◌+◌, ◌<◌, ◌≤◌, All, List, [], length, slice_index_or, ⊤, string_bytes}
 use Rattle.std.specs.List.{AllZip}
+use Rattle.nfa_paths.specs.Common.{number_of}
 use Rattle.regex_hir.specs.Re.{Re, empty}
 use Rattle.regex_nfa.specs.Sizes.{table_bytes}
 use Rattle.regex_nfa.specs.declared.nfa.Nfa.{Nfa}
 use Rattle.regex_compile.specs.Implements.{Implements}
-use Rattle.nfa_paths.specs.Common.{number_of}
 use Rattle.regex_syntax.specs.declared.Config.{Config}
 use Rattle.regex_syntax.specs.declared.Parsed.{Parsed}
 use Rattle.nfa_compiler.specs.Compiled.{IsTreeOf, res_of}

@@ -2,8 +2,7 @@
 ghost use Rattle.std.specs.Prelude.{◌≡◌, ◌+◌, ◌<◌, ◌≤◌, IfErr, IfOk, OnOk, All, Some, map, vec_len};
 ghost use Rattle.regex_nfa.specs.Run.{state_of};
 ghost use Rattle.thompson_nfa.specs.Automaton.{node_of};
-ghost use Rattle.nfa_compiler.specs.Blocks.{IsBlock, Stands, look_of, match_at, moved, slot_in};
-ghost use Rattle.nfa_compiler.specs.Added.{Adds, HoldsStates};
+ghost use Rattle.nfa_compiler.specs.Blocks.{Adds, HoldsStates, IsBlock, Stands, look_of, match_at, moved, slot_in};
 ghost use Rattle.nfa_compiler.specs.Rejected.{IsOfSite};
 
 use crate::error::CompileError;

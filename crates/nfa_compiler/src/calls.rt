@@ -16,12 +16,9 @@ ghost use Rattle.regex_search_core.specs.Slots.{named_span};
 ghost use Rattle.regex_search_core.specs.declared.search.MatchKind.TheVariants.{LeftmostFirst};
 ghost use Rattle.nfa_paths.specs.Paths.{is_utf8_empty, IsAnswer, IsBoolAnswer, IsFindAnswer};
 ghost use Rattle.nfa_search_base.specs.Lists.{AreMatches};
-ghost use Rattle.nfa_compiler.specs.Compiled.{IsCompiled, IsMeant};
-ghost use Rattle.nfa_compiler.specs.NameLaws.{IsNamed, written_span};
-ghost use Rattle.nfa_compiler.specs.Patterns.{found_by};
-ghost use Rattle.nfa_compiler.specs.Settings.{syntax_of};
-ghost use Rattle.nfa_compiler.specs.AnyStart.{FindsFromAnyStart};
-ghost use Rattle.nfa_compiler.specs.Written.{IsReadAs, MatchesIn, MatchesInStr};
+ghost use Rattle.nfa_compiler.specs.Compiled.{FindsFromAnyStart, IsCompiled, IsMeant, IsNamed};
+ghost use Rattle.nfa_compiler.specs.Patterns.{found_by, written_span};
+ghost use Rattle.nfa_compiler.specs.Written.{IsReadAs, MatchesIn, MatchesInStr, syntax_of};
 
 use crate::compiler::Compiler;
 use regex_search_core::{Captures, Match};

@@ -7,11 +7,10 @@ ghost use Rattle.regex_compile.specs.Implements.{Implements};
 ghost use Rattle.regex_search_core.specs.Groups.{slot_count};
 ghost use Rattle.thompson_nfa.specs.Automaton.{IsAutomaton, node_of};
 ghost use Rattle.nfa_paths.specs.Paths.{is_utf8_empty};
-ghost use Rattle.nfa_compiler.specs.Compiled.{AlwaysReads, ArePatterns, IsCompiled, IsNfaOf, IsPatternAt};
-ghost use Rattle.nfa_compiler.specs.Compiled.{explicit_names, groups_of, res_of};
+ghost use Rattle.nfa_compiler.specs.Blocks.{Adds, AreInRange, KeepsInRange};
+ghost use Rattle.nfa_compiler.specs.Compiled.{AlwaysReads, ArePatterns, FindsFromAnyStart, IsBoundAsRead, IsCompiled};
+ghost use Rattle.nfa_compiler.specs.Compiled.{IsNfaOf, IsPatternAt, explicit_names, groups_of, res_of};
 ghost use Rattle.nfa_compiler.specs.Loops.{all_begin_at_start};
-ghost use Rattle.nfa_compiler.specs.AnyStart.{FindsFromAnyStart, IsBoundAsRead};
-ghost use Rattle.nfa_compiler.specs.Added.{Adds, AreInRange, KeepsInRange};
 ghost use Rattle.nfa_compiler.specs.Rejected.{FitsIn, IsOfNoPattern, IsOfNoText, IsOfOneText, IsOfPattern};
 ghost use Rattle.nfa_compiler.specs.Rejected.{NamesPattern, NamesText, TextsFitIn};
 
@@ -46,7 +45,7 @@ pub struct Compiler {
 
 impl Compiler {
     ghost use Rattle.regex_syntax.specs.Verdict.{default_config};
-    ghost use Rattle.nfa_compiler.specs.Settings.{syntax_of};
+    ghost use Rattle.nfa_compiler.specs.Written.{syntax_of};
 
     /// Makes a compiler with the settings of [`Config::new`] and the default syntax.
     ///

@@ -1,6 +1,6 @@
 //! The line of a text in which a span starts, with marks under the span.
 ghost use Rattle.std.specs.Prelude.{◌≡◌, ◌≤◌, ◌-◌, IsCharBoundary, drop, length, max, take};
-ghost use Rattle.nfa_compiler.specs.Excerpts.{blank_byte, first_line, last_line, starts_char, start_count};
+ghost use Rattle.nfa_compiler.specs.ErrorTexts.{blank_byte, first_line, last_line, start_count, starts_char};
 
 use std::fmt;
 
@@ -129,7 +129,7 @@ impl fmt::Display for Marks {
 
 impl fmt::Display for Excerpt<'_> {
     ghost use Rattle.std.specs.Prelude.{Some};
-    ghost use Rattle.nfa_compiler.specs.Excerpts.{excerpt_text};
+    ghost use Rattle.nfa_compiler.specs.ErrorTexts.{excerpt_text};
 
     ghost output = { λ x. Some (excerpt_text x.before.now x.rest.now x.marks) };
 

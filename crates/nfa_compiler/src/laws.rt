@@ -1,25 +1,19 @@
 //! Searches of a compiled NFA find what its patterns mean. Each function is empty: its contract is the theorem.
-ghost use Rattle.nfa_compiler.specs.AllLaws.{AllHitsAreFindAll, MatchesAreAllHits, MatchesAreAllOfTexts};
-ghost use Rattle.nfa_compiler.specs.AllLaws.{RowsAreAllHits, RowsAreAllOfTexts};
-ghost use Rattle.nfa_compiler.specs.KindLaws.{AnswersIfAsciiMatches, AnswersIfMatches, AnswersOnlyMatches};
-ghost use Rattle.nfa_compiler.specs.KindLaws.{FindsIfAsciiMatches, FindsIfMatches, FindsOnlyMatches};
-ghost use Rattle.nfa_compiler.specs.BoundaryHits.{boundary_hit};
-ghost use Rattle.nfa_compiler.specs.Laws.{AnswersAreHits, FindsHits, LooksAgree, MatchesAreHits, OneHitIsFind, hit};
-ghost use Rattle.nfa_compiler.specs.Laws.{TextsAreAnswered, TextsAreMatched};
-ghost use Rattle.nfa_compiler.specs.NameLaws.{GroupsAreCounted, GroupsAreNamed, GroupsAreWritten, NamesAreWritten};
-ghost use Rattle.nfa_compiler.specs.OrderLaws.{PatternsAreTried, PatternsMatchAlone, TextsAreTried, TextsMatchAlone};
-ghost use Rattle.nfa_compiler.specs.SetLaws.{SetsHoldAsciiMatches, SetsHoldMatches, SetsHoldMatchesOfStrs};
-ghost use Rattle.nfa_compiler.specs.SetLaws.{SetsHoldOnlyMatches};
-ghost use Rattle.nfa_compiler.specs.WayLaws.{PatternsRecordBounds, TextsRecordBounds};
-ghost use Rattle.nfa_compiler.specs.StrHits.{str_hit};
-ghost use Rattle.nfa_compiler.specs.StrLaws.{AllHitsAreFindAllStr, MatchesAreAllOfStrs, OneHitIsFindStr};
-ghost use Rattle.nfa_compiler.specs.StrLaws.{RowsAreAllOfStrs, StrsAreAnswered, StrsAreMatched};
-ghost use Rattle.nfa_compiler.specs.UnboundLaws.{BegunMatchAtStart, BoundaryHitsAreUnbound, HitsAreUnbound};
-ghost use Rattle.nfa_compiler.specs.UnboundLaws.{MatchesAreUnbound, PatternsLoseNoHit, StrHitsAreUnbound, TextsLoseNoHit};
-ghost use Rattle.nfa_compiler.specs.Utf8Laws.{AnswersAreBoundaryHits, FindsBoundaryHits, MatchesAreBoundaryHits};
-ghost use Rattle.nfa_compiler.specs.Utf8Laws.{BoundaryHitsAreStrHits, MatchesAreAllBoundaryHits};
-ghost use Rattle.nfa_compiler.specs.Utf8Laws.{RowsAreAllBoundaryHits};
-ghost use Rattle.nfa_compiler.specs.Utf8Laws.{TreesMatchCharacters};
+ghost use Rattle.std.specs.Prelude.{false, true};
+ghost use Rattle.regex_hir.specs.Find.{find, find_all, find_all_str, find_str};
+ghost use Rattle.nfa_engines.specs.PatternLaws.{TriesPatternsInOrder};
+ghost use Rattle.nfa_compiler.specs.Laws.{AllHitsAreFindAll, AnswersAreHits, AnswersIfMatches, AnswersOnlyMatches};
+ghost use Rattle.nfa_compiler.specs.Laws.{Anywhere, BegunMatchAtStart, BoundaryHitsAreStrHits, FindsHits};
+ghost use Rattle.nfa_compiler.specs.Laws.{FindsIfMatches, FindsOnlyMatches, GroupsAreCounted, GroupsAreNamed};
+ghost use Rattle.nfa_compiler.specs.Laws.{GroupsAreWritten, HitsAreUnbound, InAscii, InBytes, InStr, InStrFromAnyStart};
+ghost use Rattle.nfa_compiler.specs.Laws.{LooksAgree, MatchAlone, MatchesAreAllHits, MatchesAreAllOfTexts};
+ghost use Rattle.nfa_compiler.specs.Laws.{MatchesAreHits, MatchesAreUnbound, NamesAreWritten, HoldsForPatterns, HoldsForTexts};
+ghost use Rattle.nfa_compiler.specs.Laws.{OneHitIsFind, PatternsLoseNoHit, PatternsRecordBounds, RowsAreAllHits};
+ghost use Rattle.nfa_compiler.specs.Laws.{RowsAreAllOfTexts, SetsHoldMatches, SetsHoldMatchesOfStrs};
+ghost use Rattle.nfa_compiler.specs.Laws.{SetsHoldOnlyMatches, TextsAreAnswered, TextsAreMatched, TextsLoseNoHit};
+ghost use Rattle.nfa_compiler.specs.Laws.{TextsRecordBounds, TreesMatchCharacters};
+ghost use Rattle.nfa_compiler.specs.Patterns.{boundary_hit, expected, expected_in_str, expected_on_boundary, hit};
+ghost use Rattle.nfa_compiler.specs.Patterns.{str_hit};
 
 /// An assertion of an NFA holds exactly if that of the pattern does.
 pub fn assertions_agree()
@@ -39,26 +33,26 @@ pub fn compiled_nfas_record_bounds()
 /// another pattern. These are the premises of `nfa_engines::laws::first_pattern_answers` and
 /// `first_pattern_is_found`.
 pub fn compiled_nfas_try_patterns_in_order()
-    ensures patterns { PatternsAreTried }
-    ensures texts { TextsAreTried }
-    ensures patterns_alone { PatternsMatchAlone }
-    ensures texts_alone { TextsMatchAlone }
+    ensures patterns { HoldsForPatterns TriesPatternsInOrder }
+    ensures texts { HoldsForTexts TriesPatternsInOrder }
+    ensures patterns_alone { HoldsForPatterns MatchAlone }
+    ensures texts_alone { HoldsForTexts MatchAlone }
 {}
 
 /// A leftmost first search finds the hit at the least start at which one of the patterns matches, and there that of the
 /// first such pattern. The search goes on to the end of the haystack, and `earliest` is false.
 pub fn searches_find_hits()
-    ensures answers { AnswersAreHits }
-    ensures matches { MatchesAreHits }
-    ensures found { FindsHits }
+    ensures answers { AnswersAreHits false hit }
+    ensures matches { MatchesAreHits false hit }
+    ensures found { FindsHits false hit }
 {}
 
 /// The same for texts: a search finds what the grammar of patterns reads in them.
 /// [`Compiler::build`](crate::Compiler::build) and [`Compiler::build_many`](crate::Compiler::build_many) ensure the
 /// premise on the NFA.
 pub fn searches_find_texts()
-    ensures answers { TextsAreAnswered }
-    ensures matches { TextsAreMatched }
+    ensures answers { TextsAreAnswered InBytes hit }
+    ensures matches { TextsAreMatched InBytes hit }
 {}
 
 /// A pattern that begins with `Start` matches only from the start of a haystack. The compiler binds searches to their
@@ -72,47 +66,47 @@ pub fn no_hit_is_lost()
 
 /// If no hit is lost, hits and matches are those of a search that is not bound to its start.
 pub fn hits_are_unbound()
-    ensures hits { HitsAreUnbound }
-    ensures boundary_hits { BoundaryHitsAreUnbound }
-    ensures str_hits { StrHitsAreUnbound }
+    ensures hits { HitsAreUnbound expected }
+    ensures boundary_hits { HitsAreUnbound expected_on_boundary }
+    ensures str_hits { HitsAreUnbound expected_in_str }
     ensures matches { MatchesAreUnbound }
 {}
 
 /// The hit of one pattern is what `find` of `regex_hir` gives, if no hit is lost.
 pub fn one_hit_is_find()
-    ensures { OneHitIsFind }
+    ensures { OneHitIsFind hit find }
 {}
 
 /// The matches of a search, as `find_iter` and `find_all` of both engines give them, are all hits of the patterns, from
 /// left to right. The same holds for the captures, with all slots. An empty hit at the end of the last one is skipped.
 pub fn iterations_find_all_hits()
-    ensures matches { MatchesAreAllHits }
-    ensures captures { RowsAreAllHits }
+    ensures matches { MatchesAreAllHits false hit }
+    ensures captures { RowsAreAllHits false hit }
 {}
 
 /// The same for texts: an iteration finds all hits of what the grammar reads in them.
 pub fn iterations_find_texts()
-    ensures matches { MatchesAreAllOfTexts }
-    ensures captures { RowsAreAllOfTexts }
+    ensures matches { MatchesAreAllOfTexts InBytes hit }
+    ensures captures { RowsAreAllOfTexts InBytes hit }
 {}
 
 /// All hits of one pattern in a whole haystack are what `find_all` of `regex_hir` gives, if no hit is lost.
 pub fn all_hits_are_find_all()
-    ensures { AllHitsAreFindAll }
+    ensures { AllHitsAreFindAll hit find_all }
 {}
 
 /// A search of any match kind, `earliest` or not, finds something exactly if some pattern matches somewhere: if the
 /// pattern matches, in the textbook sense, from a position where the search may start.
 pub fn searches_find_if_patterns_match()
-    ensures found { FindsIfMatches }
-    ensures answers { AnswersIfMatches }
+    ensures found { FindsIfMatches Anywhere }
+    ensures answers { AnswersIfMatches Anywhere }
 {}
 
 /// Under `MatchKind::All`, without `earliest`, a set of overlapping matches gains exactly the patterns that match
 /// somewhere and that it has room for. A pattern matches somewhere if it matches, in the textbook sense, from a
 /// position where the search may start.
 pub fn sets_hold_patterns_that_match()
-    ensures { SetsHoldMatches }
+    ensures { SetsHoldMatches Anywhere }
 {}
 
 /// In UTF-8 mode, too, a search of any match kind, `earliest` or not, finds something only if some pattern matches, and
@@ -131,9 +125,9 @@ pub fn searches_find_only_matches()
 /// In an ASCII haystack the laws [`searches_find_if_patterns_match`] and [`sets_hold_patterns_that_match`] also hold in
 /// UTF-8 mode.
 pub fn ascii_searches_find_if_patterns_match()
-    ensures found { FindsIfAsciiMatches }
-    ensures answers { AnswersIfAsciiMatches }
-    ensures sets { SetsHoldAsciiMatches }
+    ensures found { FindsIfMatches InAscii }
+    ensures answers { AnswersIfMatches InAscii }
+    ensures sets { SetsHoldMatches InAscii }
 {}
 
 /// The groups of an NFA have the names that the grammar reads in the texts. For a group, the captures of a hit give the
@@ -153,35 +147,35 @@ pub fn groups_are_those_of_texts()
 /// The same as [`searches_find_hits`] in UTF-8 mode, for patterns that may match the empty string: a search finds the
 /// first hit that ends on a boundary. An anchored search finds the hit at its start, if that hit ends on a boundary.
 pub fn searches_find_boundary_hits()
-    ensures answers { AnswersAreBoundaryHits }
-    ensures matches { MatchesAreBoundaryHits }
-    ensures found { FindsBoundaryHits }
+    ensures answers { AnswersAreHits true boundary_hit }
+    ensures matches { MatchesAreHits true boundary_hit }
+    ensures found { FindsHits true boundary_hit }
 {}
 
 /// The same as [`iterations_find_all_hits`] in UTF-8 mode, for patterns that may match the empty string.
 pub fn iterations_find_boundary_hits()
-    ensures matches { MatchesAreAllBoundaryHits }
-    ensures captures { RowsAreAllBoundaryHits }
+    ensures matches { MatchesAreAllHits true boundary_hit }
+    ensures captures { RowsAreAllHits true boundary_hit }
 {}
 
 /// In UTF-8 mode and in a `str`, a haystack that is UTF-8, a search finds what the grammar reads in the texts of the
 /// patterns, at the first boundary at which one of them matches, whether or not they may match the empty string.
 pub fn searches_of_strs_find_texts()
-    ensures answers { StrsAreAnswered }
-    ensures matches { StrsAreMatched }
+    ensures answers { TextsAreAnswered InStr str_hit }
+    ensures matches { TextsAreMatched InStr str_hit }
 {}
 
 /// An iteration finds all of these, if the NFA finds matches from any start.
 pub fn iterations_of_strs_find_texts()
-    ensures matches { MatchesAreAllOfStrs }
-    ensures captures { RowsAreAllOfStrs }
+    ensures matches { MatchesAreAllOfTexts InStrFromAnyStart str_hit }
+    ensures captures { RowsAreAllOfTexts InStrFromAnyStart str_hit }
 {}
 
 /// The hit of one pattern in a `str` is what `find_str` of `regex_hir` gives, and all hits are what `find_all_str`
 /// gives, if no hit is lost.
 pub fn str_hits_are_find_str()
-    ensures first { OneHitIsFindStr }
-    ensures all { AllHitsAreFindAllStr }
+    ensures first { OneHitIsFind str_hit find_str }
+    ensures all { AllHitsAreFindAll str_hit find_all_str }
 {}
 
 /// In a `str`, a hit of patterns that match whole characters ends on a boundary exactly if it starts on one.

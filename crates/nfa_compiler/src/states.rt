@@ -1,7 +1,7 @@
 //! Functions that add states after others.
 ghost use Rattle.std.specs.Prelude.{◌≡◌, ◌<◌, ◌++◌, ◌∷◌, [], All, IfErr, IfOk, OnOk, map, vec_len};
 ghost use Rattle.thompson_nfa.specs.Automaton.{node_of};
-ghost use Rattle.nfa_compiler.specs.Added.{Adds, KeepsInRange};
+ghost use Rattle.nfa_compiler.specs.Blocks.{Adds, KeepsInRange};
 ghost use Rattle.nfa_compiler.specs.Compiled.{Chooses};
 ghost use Rattle.nfa_compiler.specs.Rejected.{IsOfNoPattern};
 

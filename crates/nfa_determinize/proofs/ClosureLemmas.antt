@@ -1,15 +1,10 @@
 -- How an exploration goes on when a state is taken from the stack, and what steps and matches are of a longer list.
-use Rattle.std.proofs.Common.{◌≡◌, ℕ, zero, suc, ◌+◌, ◌-◌, ◌<◌, Bool, true, false, List, [], ◌∷◌, ◌++◌, length, replicate, get_or, set, length-set, map, reverse, refl, ap, sym, ◌∙◌, subst, arith, append_assoc, append-nil, Some, All, sum}
-use Rattle.std.specs.List.{slice_get}
-use Rattle.std.proofs.lemmas.List.{length-append, length-replicate, length-reverse, reverse-append, reverse-reverse}
-use Rattle.std.proofs.lemmas.List.Elements.{All-append, All-head, All-nil, All-pop, All-push, All-tail}
-use Rattle.std.proofs.lemmas.Option.{get_or_from_slice_get, slice_get-map}
-use Rattle.nfa_paths.specs.Common.{Automaton, Node, LeadsBelow, rests, degree, node_at}
-use Rattle.nfa_paths.specs.Turns.{marked_sum}
+use Rattle.nfa_paths.proofs.Common.{◌≡◌, ℕ, ◌+◌, ◌-◌, ◌<◌, Bool, true, false, List, [], ◌∷◌, ◌++◌, length, replicate, get_or, set, length-set, map, reverse, refl, ap, sym, ◌∙◌, subst, arith, append_assoc, append-nil, Some, All, sum, slice_get, length-append, length-replicate, length-reverse, reverse-append, reverse-reverse, All-append, All-head, All-nil, All-pop, All-push, All-tail, get_or_from_slice_get, slice_get-map, Automaton, Node, LeadsBelow, rests, degree, node_at, marked_sum, Holding, epsilon_states}
 use Rattle.nfa_paths.proofs.StartLemmas.{epsilon-all, epsilon-few}
 use Rattle.nfa_paths.proofs.TurnLemmas.{marked_sum-set, marked_sum-le}
-use Rattle.nfa_determinize.specs.Closures.{Holding, closure, epsilon_states, explore}
-use Rattle.nfa_determinize.proofs.ExploreLemmas.{unseen, unseen-all, unseen-set, explore-none}
+use Rattle.nfa_determinize.specs.Closures.{closure}
+use Rattle.nfa_determinize.proofs.ExploreLemmas.{Explores, explore-is, unseen-all}
+use Rattle.nfa_determinize.proofs.ExploreLemmas.Explores.{over, passes, keeps, opens}
 
 -- each state of a list is below n
 abbrev pub AreBelow : ℕ → List ℕ → Type 0
@@ -41,7 +36,7 @@ module _ (nfa : Automaton) (holding : Holding) where
     pub size : length seen ≡ length nfa.states
     pub states : AreBelow (length nfa.states) waiting
     pub below : AreBelow (length nfa.states) kept
-    pub leads : kept ++ explore nfa holding (unseen seen) seen (reverse waiting) ≡ goal
+    pub leads : (out : List ℕ) → Explores nfa holding seen (reverse waiting) out → kept ++ out ≡ goal
 
   pub IsUnderWay-begin : (states : List ℕ) → AreBelow (length nfa.states) states
       → IsUnderWay (closure nfa holding states) (replicate (length nfa.states) false) (reverse states) []
@@ -49,38 +44,17 @@ module _ (nfa : Automaton) (holding : Holding) where
     size = length-replicate (length nfa.states) false;
     states = AreBelow-reverse (length nfa.states) states below;
     below = All-nil (λ s. s < length nfa.states);
-    leads = rw (unseen-all (length nfa.states), reverse-reverse states) refl;
+    leads = λ out e.
+        explore-is nfa holding (rw (reverse-reverse states) at e) (length nfa.states) (omega (arith, unseen-all));
   }
 
   pub IsUnderWay-done : {goal : List ℕ} {seen : List Bool} {kept : List ℕ} → IsUnderWay goal seen [] kept
       → kept ≡ goal
-  unfolding explore
-  IsUnderWay-done {kept = kept} h = sym (append-nil kept) ∙ h.leads
+  IsUnderWay-done {kept = kept} h = sym (append-nil kept) ∙ h.leads [] over
 
   -- the last of the stack is the first that is explored
   top : (waiting : List ℕ) (s : ℕ) → reverse (waiting ++ s ∷ []) ≡ s ∷ reverse waiting
   top waiting s = reverse-append waiting (s ∷ [])
-
-  explore-seen : (left : ℕ) (seen : List Bool) (s : ℕ) (states : List ℕ) → get_or seen s true ≡ true
-      → explore nfa holding left seen (s ∷ states) ≡ explore nfa holding left seen states
-  unfolding explore
-  explore-seen zero seen s states t = sym (explore-none nfa holding seen states)
-  explore-seen (suc left) seen s states t = rw t refl
-
-  explore-kept : (seen : List Bool) (s : ℕ) (states : List ℕ) → get_or seen s true ≡ false
-      → rests (node_at nfa s) ≡ true
-      → explore nfa holding (unseen seen) seen (s ∷ states)
-      ≡ s ∷ explore nfa holding (unseen (set seen s true)) (set seen s true) states
-  unfolding explore
-  explore-kept seen s states clear r = rw (unseen-set seen s clear) (rw (clear, r) refl)
-
-  explore-left : (seen : List Bool) (s : ℕ) (states : List ℕ) → get_or seen s true ≡ false
-      → rests (node_at nfa s) ≡ false
-      → explore nfa holding (unseen seen) seen (s ∷ states)
-      ≡ explore nfa holding (unseen (set seen s true)) (set seen s true)
-      (epsilon_states holding (node_at nfa s) ++ states)
-  unfolding explore
-  explore-left seen s states clear r = rw (unseen-set seen s clear) (rw (clear, r) refl)
 
   -- s was the last of the stack
   module _ {goal : List ℕ} {seen : List Bool} {stack kept : List ℕ} (waiting : List ℕ) (s : ℕ)
@@ -89,17 +63,15 @@ module _ (nfa : Automaton) (holding : Holding) where
     last = All-pop (λ s. s < length nfa.states) stack waiting (Some s) popped h.states
 
     -- the goal, with the state that was taken first
-    leads-top : kept ++ explore nfa holding (unseen seen) seen (s ∷ reverse waiting) ≡ goal
-    leads-top =
-        ap (λ states. kept ++ explore nfa holding (unseen seen) seen states) (sym (ap reverse popped ∙ top waiting s))
-        ∙ h.leads
+    leads-top : (out : List ℕ) → Explores nfa holding seen (s ∷ reverse waiting) out → kept ++ out ≡ goal
+    leads-top out e = h.leads out (rw (popped, top waiting s) e)
 
     pub IsUnderWay-seen : get_or seen s true ≡ true → IsUnderWay goal seen waiting kept
     IsUnderWay-seen t = record {
       size = h.size;
       states = last.0;
       below = h.below;
-      leads = ap (λ out. kept ++ out) (sym (explore-seen (unseen seen) seen s (reverse waiting) t)) ∙ leads-top;
+      leads = λ out e. leads-top out (passes t e);
     }
 
     pub IsUnderWay-kept : get_or seen s true ≡ false → rests (node_at nfa s) ≡ true
@@ -108,9 +80,7 @@ module _ (nfa : Automaton) (holding : Holding) where
       size = length-set seen s true ∙ h.size;
       states = last.0;
       below = All-push (λ s. s < length nfa.states) kept s h.below last.1;
-      leads = append_assoc kept (s ∷ [])
-          (explore nfa holding (unseen (set seen s true)) (set seen s true) (reverse waiting))
-          ∙ ap (λ out. kept ++ out) (sym (explore-kept seen s (reverse waiting) clear r)) ∙ leads-top;
+      leads = λ out e. append_assoc kept (s ∷ []) out ∙ leads-top (s ∷ out) (keeps clear r e);
     }
 
     pub IsUnderWay-left : (node : Node) → node_at nfa s ≡ node → LeadsBelow (length nfa.states) node
@@ -126,11 +96,7 @@ module _ (nfa : Automaton) (holding : Holding) where
           states = All-append (λ s. s < n) waiting (reverse next) last.0
               (AreBelow-reverse n next (epsilon-below holding n node leads));
           below = h.below;
-          leads = ap (λ states. kept ++ explore nfa holding (unseen (set seen s true)) (set seen s true) states) stack
-              ∙ ap (λ (m : Node). kept ++ explore nfa holding (unseen (set seen s true)) (set seen s true)
-              (epsilon_states holding m ++ reverse waiting)) (sym is)
-              ∙ ap (λ out. kept ++ out) (sym (explore-left seen s (reverse waiting) clear
-              (ap rests is ∙ r))) ∙ leads-top;
+          leads = λ out e. leads-top out (opens clear (ap rests is ∙ r) (rw is (rw stack at e)));
         }
 
   -- the stack ends
@@ -163,3 +129,6 @@ module _ (nfa : Automaton) (holding : Holding) where
           marked_sum-set ws seen s clear,
           marked_sum-le ws (set seen s true),
         )
+
+-- why the loop of a closure ends
+pub ruleset closure_ends = (takes-seen, takes-kept, takes-left)

@@ -1,10 +1,6 @@
 -- What an exploration keeps: states that rest, each once, of those that were not seen before.
-use Rattle.std.proofs.Common.{◌≡◌, ℕ, zero, suc, ◌≤◌, ◌<◌, inl, inr, Bool, true, false, List, [], ◌∷◌, ◌++◌, length, replicate, get_or, set, refl, ap, sym, ◌∙◌, arith, get_or-set_same, get_or-set_other}
-use Rattle.std.proofs.Math.Decide.{ℕ_discrete}
-use Rattle.std.proofs.lemmas.Bool.{cases_Bool}
-use Rattle.std.proofs.lemmas.List.{length-replicate}
-use Rattle.nfa_paths.specs.Common.{Automaton, In, rests, node_at}
-use Rattle.nfa_determinize.specs.Closures.{Holding, EachOnce, closure, epsilon_states, explore}
+use Rattle.nfa_paths.proofs.Common.{◌≡◌, ℕ, zero, suc, ◌≤◌, ◌<◌, inl, inr, Bool, true, false, List, [], ◌∷◌, ◌++◌, length, replicate, get_or, set, refl, ap, ◌∙◌, arith, get_or-set_other, cases_Bool, length-replicate, Automaton, In, rests, node_at, Holding, epsilon_states}
+use Rattle.nfa_determinize.specs.Closures.{EachOnce, closure, explore}
 
 -- how many states were not seen
 abbrev pub unseen : List Bool → ℕ
@@ -38,13 +34,27 @@ pub seen-past : (seen : List Bool) (s : ℕ) → get_or seen s true ≡ true →
     → length seen ≤ s
 seen-past [] s t f = omega arith
 seen-past (b ∷ seen) zero t f = cc
-seen-past (b ∷ seen) (suc s) t f = let k : length seen ≤ s = seen-past seen s t f in omega arith
+seen-past (b ∷ seen) (suc s) t f = grind (arith, seen-past seen s)
 
 -- what was not seen is the number of a state
 pub unseen-inside : (seen : List Bool) (s : ℕ) → get_or seen s true ≡ false → suc s ≤ length seen
 unseen-inside [] s f = cc
 unseen-inside (b ∷ seen) zero f = omega arith
 unseen-inside (b ∷ seen) (suc s) f = let k : suc s ≤ length seen = unseen-inside seen s f in omega arith
+
+-- what is still not seen was not seen before
+seen-before : (seen : List Bool) (w s : ℕ) → get_or seen w true ≡ false → get_or (set seen w true) s true ≡ false
+    → get_or seen s true ≡ false
+seen-before seen w s f h = grind (arith, get_or-set_other)
+
+-- a state that is seen now is seen, and so are those that were
+pub seen-itself : (seen : List Bool) (s : ℕ) → get_or (set seen s true) s true ≡ true
+seen-itself [] s = refl
+seen-itself (b ∷ seen) zero = refl
+seen-itself (b ∷ seen) (suc s) = seen-itself seen s
+
+pub seen-still : (seen : List Bool) (s t : ℕ) → get_or seen t true ≡ true → get_or (set seen s true) t true ≡ true
+seen-still seen s t k = grind (arith, seen-itself, get_or-set_other)
 
 module _ (nfa : Automaton) (holding : Holding) where
   -- with no state left to see nothing is kept
@@ -53,92 +63,99 @@ module _ (nfa : Automaton) (holding : Holding) where
   explore-none seen [] = refl
   explore-none seen (s ∷ waiting) = refl
 
-  -- what holds of each state that rests and was not seen before holds of each that is kept
-  pub explore-keeps : (left : ℕ) (seen : List Bool) (waiting : List ℕ) (s : ℕ)
-      → In s (explore nfa holding left seen waiting)
-      → (rests (node_at nfa s) ≡ true) × (get_or seen s true ≡ false)
-  unfolding explore
-  explore-keeps left seen [] s i = absurd i
-  explore-keeps zero seen (w ∷ waiting) s i = absurd i
-  explore-keeps (suc left) seen (w ∷ waiting) s i =
-      elim (cases_Bool (get_or seen w true)) [
-        | inl t ↦ explore-keeps (suc left) seen waiting s (rw t at i)
-        | inr f ↦
-            elim (cases_Bool (rests (node_at nfa w))) [
-              | inl r ↦
-                  elim (rw (f, r) at i) [
-                    | inl e ↦ rw e (r, f)
-                    | inr j ↦
-                        let h = explore-keeps left (set seen w true) waiting s j in
-                        (h.0, before seen w s f h.1)
-                  ]
-              | inr r ↦
-                  let h = explore-keeps left (set seen w true) (epsilon_states holding (node_at nfa w) ++ waiting) s
-                  (rw (f, r) at i) in
-                  (h.0, before seen w s f h.1)
-            ]
-      ]
-    where
-      -- what is still not seen was not seen before
-      before : (seen : List Bool) (w s : ℕ) → get_or seen w true ≡ false → get_or (set seen w true) s true ≡ false
-          → get_or seen s true ≡ false
-      before seen w s f h =
-          elim (ℕ_discrete s w) [
-            | yes e ↦ rw e f
-            | no n ↦ sym (get_or-set_other seen w s true true n) ∙ h
-          ]
+  -- An exploration, with the states that were seen, those that wait and those that it keeps.
+  pub data Explores : List Bool → List ℕ → List ℕ → Type 0 where
+    over : {seen : List Bool} → Explores seen [] []
+    passes : {seen : List Bool} {s : ℕ} {waiting out : List ℕ} → get_or seen s true ≡ true
+        → Explores seen waiting out → Explores seen (s ∷ waiting) out
+    keeps : {seen : List Bool} {s : ℕ} {waiting out : List ℕ} → get_or seen s true ≡ false
+        → rests (node_at nfa s) ≡ true → Explores (set seen s true) waiting out
+        → Explores seen (s ∷ waiting) (s ∷ out)
+    opens : {seen : List Bool} {s : ℕ} {waiting out : List ℕ} → get_or seen s true ≡ false
+        → rests (node_at nfa s) ≡ false
+        → Explores (set seen s true) (epsilon_states holding (node_at nfa s) ++ waiting) out
+        → Explores seen (s ∷ waiting) out
 
-  -- each state is kept once
-  pub explore-once : (left : ℕ) (seen : List Bool) (waiting : List ℕ) → EachOnce (explore nfa holding left seen waiting)
+  explored : (count : ℕ) (seen : List Bool) (waiting : List ℕ) → unseen seen ≤ count
+      → Explores seen waiting (explore nfa holding count seen waiting)
   unfolding explore
-  explore-once left seen [] = tt
-  explore-once zero seen (w ∷ waiting) = tt
-  explore-once (suc left) seen (w ∷ waiting) =
-      elim (cases_Bool (get_or seen w true)) [
-        | inl t ↦ rw t (explore-once (suc left) seen waiting)
+  explored count seen [] few = over
+  explored zero seen (s ∷ waiting) few =
+      passes (unseen-none seen (omega arith) s)
+      (rw (explore-none seen waiting) at (explored zero seen waiting few))
+  explored (suc count) seen (s ∷ waiting) few =
+      elim (cases_Bool (get_or seen s true)) [
+        | inl t ↦ rw t (passes t (explored (suc count) seen waiting few))
         | inr f ↦
-            elim (cases_Bool (rests (node_at nfa w))) [
-              | inl r ↦ rw (f, r) (
-                λ i.
-                    let inside : suc w ≤ length seen = unseen-inside seen w f in
-                    let set_there : get_or (set seen w true) w true ≡ true =
-                    get_or-set_same seen w true true (omega arith) in
-                    let clear = (explore-keeps left (set seen w true) waiting w i).1 in
-                    let never : true ≡ false = sym set_there ∙ clear in
-                    absurd (cc never),
-                explore-once left (set seen w true) waiting,
-              )
-              | inr r ↦ rw (f, r) (explore-once left (set seen w true)
-                  (epsilon_states holding (node_at nfa w) ++ waiting))
+            let fewer : unseen (set seen s true) ≤ count = omega (arith, unseen-set seen s f) in
+            elim (cases_Bool (rests (node_at nfa s))) [
+              | inl r ↦ rw (f, r) (keeps f r (explored count (set seen s true) waiting fewer))
+              | inr r ↦
+                  let more = epsilon_states holding (node_at nfa s) ++ waiting in
+                  rw (f, r) (opens f r (explored count (set seen s true) more fewer))
             ]
       ]
+
+  -- it keeps what `explore` gives
+  pub explore-is : {seen : List Bool} {waiting out : List ℕ} → Explores seen waiting out → (count : ℕ)
+      → unseen seen ≤ count → out ≡ explore nfa holding count seen waiting
+  unfolding explore
+  explore-is over count few = refl
+  explore-is (passes {seen = seen} {waiting = waiting} t h) zero few = explore-is h zero few ∙ explore-none seen waiting
+  explore-is (passes t h) (suc count) few = rw t (explore-is h (suc count) few)
+  explore-is (keeps {seen = seen} {s = s} f r h) zero few = absurd (omega (arith, unseen-set seen s f))
+  explore-is (keeps {seen = seen} {s = s} f r h) (suc count) few =
+      rw (f, r) (ap (λ (ts : List ℕ). s ∷ ts) (explore-is h count (omega (arith, unseen-set seen s f))))
+  explore-is (opens {seen = seen} {s = s} f r h) zero few = absurd (omega (arith, unseen-set seen s f))
+  explore-is (opens {seen = seen} {s = s} f r h) (suc count) few =
+      rw (f, r) (explore-is h count (omega (arith, unseen-set seen s f)))
+
+  pub closure-explored : (states : List ℕ)
+      → Explores (replicate (length nfa.states) false) states (closure nfa holding states)
+  closure-explored states =
+      explored (length nfa.states) (replicate (length nfa.states) false) states (omega (arith, unseen-all))
+
+  -- the states that are kept rest, and were not seen before
+  explore-keeps : {seen : List Bool} {waiting out : List ℕ} → Explores seen waiting out → (s : ℕ) → In s out
+      → (rests (node_at nfa s) ≡ true) × (get_or seen s true ≡ false)
+  explore-keeps over s i = absurd i
+  explore-keeps (passes t h) s i = explore-keeps h s i
+  explore-keeps (keeps f r h) s (inl e) = rw e (r, f)
+  explore-keeps (keeps {seen = seen} {s = w} f r h) s (inr i) =
+      let k = explore-keeps h s i in (k.0, seen-before seen w s f k.1)
+  explore-keeps (opens {seen = seen} {s = w} f r h) s i =
+      let k = explore-keeps h s i in (k.0, seen-before seen w s f k.1)
+
+  -- each is kept once
+  explore-once : {seen : List Bool} {waiting out : List ℕ} → Explores seen waiting out → EachOnce out
+  explore-once over = tt
+  explore-once (passes t h) = explore-once h
+  explore-once (keeps {seen = seen} {s = s} f r h) =
+      (λ i. cc (seen-itself seen s, (explore-keeps h s i).1), explore-once h)
+  explore-once (opens f r h) = explore-once h
 
   -- no more are kept than were not seen
-  pub explore-short : (left : ℕ) (seen : List Bool) (waiting : List ℕ)
-      → length (explore nfa holding left seen waiting) ≤ left
-  unfolding explore
-  explore-short left seen [] = omega arith
-  explore-short zero seen (w ∷ waiting) = omega arith
-  explore-short (suc left) seen (w ∷ waiting) =
-      elim (cases_Bool (get_or seen w true)) [
-        | inl t ↦ rw t (explore-short (suc left) seen waiting)
-        | inr f ↦
-            elim (cases_Bool (rests (node_at nfa w))) [
-              | inl r ↦ rw (f, r)
-                  (let k : length (explore nfa holding left (set seen w true) waiting) ≤ left =
-                  explore-short left (set seen w true) waiting in omega arith)
-              | inr r ↦ rw (f, r)
-                  (let next = epsilon_states holding (node_at nfa w) ++ waiting in
-                  let k : length (explore nfa holding left (set seen w true) next) ≤ left =
-                  explore-short left (set seen w true) next in omega arith)
-            ]
-      ]
+  explore-short : {seen : List Bool} {waiting out : List ℕ} → Explores seen waiting out → length out ≤ unseen seen
+  explore-short over = omega arith
+  explore-short (passes t h) = explore-short h
+  explore-short (keeps {seen = seen} {s = s} f r h) = omega (arith, explore-short h, unseen-set seen s f)
+  explore-short (opens {seen = seen} {s = s} f r h) = omega (arith, explore-short h, unseen-set seen s f)
 
   -- the closure's states
-  pub closure-rests : (states : List ℕ) (s : ℕ) → In s (closure nfa holding states)
-      → (rests (node_at nfa s) ≡ true) × (s < length nfa.states)
-  closure-rests states s i =
-      let n = length nfa.states in
-      let h = explore-keeps n (replicate n false) states s i in
-      let inside : suc s ≤ length (replicate n false) = unseen-inside (replicate n false) s h.1 in
-      (h.0, omega (arith, length-replicate n false))
+  module _ (states : List ℕ) where
+    pub closure-rests : (s : ℕ) → In s (closure nfa holding states)
+        → (rests (node_at nfa s) ≡ true) × (s < length nfa.states)
+    closure-rests s i =
+        let n = length nfa.states in
+        let h = explore-keeps (closure-explored states) s i in
+        let inside : suc s ≤ length (replicate n false) = unseen-inside (replicate n false) s h.1 in
+        (h.0, omega (arith, length-replicate n false))
+
+    pub closure-once : EachOnce (closure nfa holding states)
+    closure-once = explore-once (closure-explored states)
+
+    pub closure-short : length (closure nfa holding states) ≤ length nfa.states
+    closure-short = omega (arith, explore-short (closure-explored states), unseen-all)
+
+-- the laws of a closure's states
+pub ruleset finite_closures = (closure-once, closure-rests, closure-short)

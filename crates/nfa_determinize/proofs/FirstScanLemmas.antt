@@ -1,17 +1,14 @@
 -- The scan for the first path, position by position.
-use Rattle.std.proofs.Common.{◌≡◌, ℕ, zero, suc, ◌+◌, ◌-◌, ◌≤◌, inl, inr, Bool, true, false, List, [], ◌∷◌, ◌++◌, length, map, refl, ap, sym, ◌∙◌, subst, arith, None, Some, is_some}
-use Rattle.std.proofs.lemmas.List.{map-append}
-use Rattle.nfa_paths.specs.Common.{Search, Automaton, Pair, In, Slots, Hit, rests, node_at, is_match, byte_at}
-use Rattle.regex_search_core.specs.declared.search.MatchKind.TheVariants.{LeftmostFirst}
+use Rattle.nfa_paths.proofs.Common.{◌≡◌, ℕ, ◌+◌, ◌-◌, ◌≤◌, inl, inr, Bool, true, false, List, [], ◌∷◌, ◌++◌, length, map, refl, ap, ◌∙◌, arith, None, Some, is_some, map-append, Search, Automaton, Pair, In, Hit, rests, node_at, is_match, LeftmostFirst}
 use Rattle.nfa_paths.proofs.MemberLemmas.{In-append_left}
 use Rattle.nfa_paths.proofs.PathToLemmas.{is_false}
 use Rattle.nfa_paths.proofs.ScanningLemmas.{Searching-cut}
-use Rattle.nfa_determinize.specs.Closures.{before_first_match, step}
-use Rattle.nfa_determinize.specs.Configurations.{Configuration, begin, closure_at, next_configuration, advance, scanned}
+use Rattle.nfa_determinize.specs.Closures.{before_first_match}
+use Rattle.nfa_determinize.specs.Configurations.{Configuration, closure_at, next_configuration, advance, scanned}
 use Rattle.nfa_determinize.proofs.FollowLemmas.{pairs, place, bare, Finding}
 use Rattle.nfa_determinize.proofs.NextLemmas.{Finding-next}
 use Rattle.nfa_determinize.proofs.MatchLemmas.{half_of, FirstIn, NoneIn, first-is}
-use Rattle.nfa_determinize.proofs.PositionLemmas.{waiting, waiting-none, waiting-later, Fresh, closed, closed-rests, follow-here, Finding-begin}
+use Rattle.nfa_determinize.proofs.PositionLemmas.{scanned-each, waiting, waiting-none, waiting-later, Fresh, closed, closed-rests, follow-here, Finding-begin}
 use Rattle.nfa_scan_core.specs.Marks.{SeenAt}
 
 module _ (nfa : Automaton) (x : Search) where
@@ -50,20 +47,15 @@ module _ (nfa : Automaton) (x : Search) where
         ap (map (place at)) some.split ∙ map-append (place at) before (some.state ∷ some.after) in
         let matches : is_match nfa (some.state, at) ≡ true = ap is_some some.is in
         let cut = Searching-cut (bare nfa x) (is_match nfa) (map (place at) before) (place at some.state)
-        (map (place at) some.after)
-        (subst (λ (f : List (Pair × Slots)). Finding nfa x (is_match nfa) (SeenAt at seen) spent f so_far
-        (waiting nfa x (at + 1) (c.starts - 1))) split finding) matches refl in
+        (map (place at) some.after) (rw split at finding) matches refl in
         record {
           spent = spent;
           so_far = Some (place at some.state);
           found_is = rw (some.first, some.is) refl;
-          finding = rw some.first (subst (λ (w : List Pair). Finding nfa x (is_match nfa) (Fresh nfa x (at + 1)) spent
-              [] (Some (place at some.state)) (pairs (at + 1) (step nfa (byte_at x at) before) ++ w))
-              (sym (waiting-none nfa x (at + 1)))
-              (Finding-next nfa x at (is_match nfa) before
+          finding = rw (some.first, waiting-none nfa x (at + 1)) (Finding-next nfa x at (is_match nfa) before
               (λ s i. rest s (rw some.split (In-append_left s before (some.state ∷ some.after) i)))
               (λ s i. is_false (is_match nfa (s, at)) (some.plain s i)) [] cut past (λ k i. absurd i)
-              (length nfa.states)));
+              (length nfa.states));
         }
 
     first-next : FirstScan (at + 1) (next_configuration nfa x LeftmostFirst false at here c)
@@ -79,11 +71,6 @@ module _ (nfa : Automaton) (x : Search) where
 
   -- after the first n positions
   pub FirstScan-scanned : (n : ℕ) → FirstScan (x.start + n) (scanned nfa x LeftmostFirst false n)
-  FirstScan-scanned zero =
-      let same : x.start ≡ x.start + 0 = omega arith in
-      subst (λ (at : ℕ). FirstScan at (begin nfa x)) same
+  FirstScan-scanned = scanned-each nfa x LeftmostFirst false FirstScan
       (record { spent = 0; so_far = None; found_is = refl; finding = Finding-begin nfa x (is_match nfa) })
-  FirstScan-scanned (suc n) =
-      let same : x.start + n + 1 ≡ x.start + suc n = omega arith in
-      subst (λ (at : ℕ). FirstScan at (scanned nfa x LeftmostFirst false (suc n))) same
-      (FirstScan-advance (x.start + n) (scanned nfa x LeftmostFirst false n) (FirstScan-scanned n))
+      FirstScan-advance

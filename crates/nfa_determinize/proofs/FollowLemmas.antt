@@ -1,17 +1,11 @@
 -- The search for paths, without slots, goes through the closure of the states at a position, and on to the next one.
-use Rattle.std.proofs.Common.{◌≡◌, ℕ, zero, suc, ◌+◌, ◌<◌, ◌≤◌, inl, inr, Bool, true, false, List, [], ◌∷◌, ◌++◌, length, get_or, set, length-set, map, refl, ap, sym, ◌∙◌, subst, arith, append_assoc, append-nil, Option, None, Some, is_some, option_and_then, option_map, option_to_list}
-use Rattle.std.proofs.lemmas.Bool.{cases_Bool}
-use Rattle.std.proofs.lemmas.List.{get_or_past}
-use Rattle.nfa_paths.specs.Common.{Search, Automaton, Node, Pair, Space, In, Path, Slots, Hit, Task, ExploresTo, Searching, rests, node_at, pattern_of, is_match, byte_at, target_on, edges, edges_of, starts}
-use Rattle.thompson_nfa.specs.Automaton.Node.{Fail, Match}
-use Rattle.nfa_paths.specs.FirstPaths.Path.{stop, go}
-use Rattle.nfa_paths.specs.Exploring.Task.{Explore}
-use Rattle.nfa_paths.proofs.PathToLemmas.{is_false}
+use Rattle.nfa_paths.proofs.Common.{◌≡◌, ℕ, suc, ◌+◌, ◌<◌, ◌≤◌, inl, inr, Bool, true, false, List, [], ◌∷◌, ◌++◌, length, get_or, set, length-set, map, refl, ap, sym, ◌∙◌, arith, append_assoc, append-nil, Option, None, is_some, option_and_then, option_map, option_to_list, cases_Bool, common_steps, get_or_past, Search, Automaton, Node, Pair, Space, In, Path, Slots, Hit, ExploresTo, Searching, rests, node_at, pattern_of, is_match, byte_at, target_on, edges, edges_of, starts, Fail, stop, go, Explore, holding_at, epsilon_states}
+use Rattle.thompson_nfa.specs.Automaton.Node.{Match}
 use Rattle.nfa_paths.proofs.SearchLemmas.{AnswerBehind-along}
 use Rattle.nfa_paths.proofs.SearchingLemmas.{Searching-marked, Searching-plain, Searching-keep}
 use Rattle.nfa_paths.proofs.ScanAnswerLemmas.{edges-onward, edges-rise}
-use Rattle.nfa_determinize.specs.Closures.{holding_at, epsilon_states, explore}
-use Rattle.nfa_determinize.proofs.ExploreLemmas.{unseen, unseen-set, unseen-none, unseen-inside, seen-past, explore-none}
+use Rattle.nfa_determinize.proofs.ExploreLemmas.{Explores, seen-past, unseen-inside}
+use Rattle.nfa_determinize.proofs.ExploreLemmas.Explores.{over, passes, keeps, opens}
 use Rattle.nfa_scan_core.proofs.SeenLemmas.{SeenAt-set, SeenAt-clear}
 use Rattle.nfa_scan_core.specs.Marks.{SeenAt}
 use Rattle.nfa_paths.proofs.StartLemmas.{resting-edges, epsilon-edges}
@@ -44,24 +38,16 @@ Finding nfa x target Seen spent front otherwise work =
 
 pub pairs-append : (at : ℕ) (states more : List ℕ) (rest : List Pair)
     → pairs at (states ++ more) ++ rest ≡ pairs at states ++ (pairs at more ++ rest)
-pairs-append at [] more rest = refl
-pairs-append at (s ∷ states) more rest = ap (λ (ps : List Pair). (s, at) ∷ ps) (pairs-append at states more rest)
+pairs-append at states more rest = grind (arith, common_steps)
 
 pub work-append : (states more : List Pair) → map Explore states ++ map Explore more ≡ map Explore (states ++ more)
-work-append [] more = refl
-work-append (v ∷ states) more = ap (λ (w : List Task). Explore v ∷ w) (work-append states more)
+work-append states more = grind (arith, common_steps)
 
 -- a state that rests leads to its target
 byte-edges : (at : ℕ) (on : ℕ → Option ℕ) (byte : Option ℕ)
     → option_to_list (option_and_then (λ b. option_map (λ next. (let v : Pair = (next, at + 1) in v)) (on b)) byte)
     ≡ pairs (at + 1) (option_to_list (option_and_then on byte))
-byte-edges at on None = refl
-byte-edges at on (Some b) = of (on b)
-  where
-    of : (o : Option ℕ) → option_to_list (option_map (λ next. (let v : Pair = (next, at + 1) in v)) o)
-        ≡ pairs (at + 1) (option_to_list o)
-    of None = refl
-    of (Some t) = refl
+byte-edges at on byte = grind arith
 
 pub rests-edges : (x : Search) (at : ℕ) (node : Node) → rests node ≡ true
     → edges_of x node at ≡ pairs (at + 1) (option_to_list (option_and_then (target_on node) (byte_at x at)))
@@ -89,10 +75,7 @@ module _ (nfa : Automaton) (x : Search) (at : ℕ) where
     after = seen;
     turns = 0;
     leads = λ target ok spent front otherwise rest h.
-        let same : spent ≡ spent + 0 = omega arith in
-        subst (λ (n : ℕ). Finding nfa x target (SeenAt at seen) n (front ++ []) otherwise rest) same
-        (subst (λ (f : List (Pair × Slots)). Finding nfa x target (SeenAt at seen) spent f otherwise rest)
-        (sym (append-nil front)) h);
+        let same : spent + 0 ≡ spent = omega arith in rw (same, append-nil front) h;
   }
 
   -- a pair that leads nowhere and is no match is left out
@@ -118,10 +101,7 @@ module _ (nfa : Automaton) (x : Search) (at : ℕ) where
   -- no match of a set does not rest
   unrested : (target : Pair → Bool) → AreMatches nfa target → (s : ℕ) → rests (node_at nfa s) ≡ false
       → target (s, at) ≡ false
-  unrested target ok s r = is_false (target (s, at)) (λ t. never (match-rests (node_at nfa s) (ok (s, at) t)))
-    where
-      never : rests (node_at nfa s) ≡ true → ⊥
-      never t = absurd (cc (t, r))
+  unrested target ok s r = grind (arith, match-rests)
 
   -- a number past the last state leads nowhere
   pub past-edges : (s : ℕ) → length nfa.states ≤ s → edges nfa x (s, at) ≡ []
@@ -130,7 +110,7 @@ module _ (nfa : Automaton) (x : Search) (at : ℕ) where
 
   pub past-plain : (s : ℕ) → length nfa.states ≤ s → is_match nfa (s, at) ≡ true → ⊥
   unfolding node_at
-  past-plain s past m = let never : false ≡ true = rw (get_or_past nfa.states s Fail past) at m in absurd (cc never)
+  past-plain s past m = grind (arith, get_or_past)
 
   -- a state that was seen before is passed over
   Followed-seen : (seen : List Bool) (s : ℕ) (waiting out : List ℕ) → length seen ≡ length nfa.states
@@ -141,9 +121,8 @@ module _ (nfa : Automaton) (x : Search) (at : ℕ) where
           after = f.after;
           turns = suc f.turns;
           leads = λ target ok spent front otherwise rest h.
-              let same : spent + 1 + f.turns ≡ spent + suc f.turns = omega arith in
-              subst (λ (n : ℕ). Finding nfa x target (SeenAt at f.after) n (front ++ map (place at) out) otherwise rest)
-              same (f.leads target ok (spent + 1) front otherwise rest
+              let same : spent + suc f.turns ≡ spent + 1 + f.turns = omega arith in
+              rw same (f.leads target ok (spent + 1) front otherwise rest
               (Searching-marked (bare nfa x) target h (record { here = refl; set = m })));
         }
         | inr m ↦
@@ -168,17 +147,14 @@ module _ (nfa : Automaton) (x : Search) (at : ℕ) where
       turns = suc f.turns;
       leads = λ target ok spent front otherwise rest h.
           let inside : s < length seen = unseen-inside seen s clear in
-          let same : spent + 1 + f.turns ≡ spent + suc f.turns = omega arith in
+          let same : spent + suc f.turns ≡ spent + 1 + f.turns = omega arith in
           let kept = Searching-keep (bare nfa x) target h (SeenAt-clear at s seen inside clear)
           (SeenAt-set at s seen inside) (λ v. at < v.1)
           (λ v y a j. let k : v.1 ≤ y.1 = edges-onward nfa x v y j in let l : at < v.1 = a in omega arith)
           (λ w j. edges-rise nfa x (s, at) w r j)
           (λ v m a. let k : v.1 ≡ at = m.here in let l : at < v.1 = a in omega arith) in
-          subst (λ (n : ℕ). Finding nfa x target (SeenAt at f.after) n (front ++ map (place at) (s ∷ out)) otherwise
-          rest) same
-          (subst (λ (ys : List (Pair × Slots)). Finding nfa x target (SeenAt at f.after) (spent + 1 + f.turns) ys
-          otherwise rest) (append_assoc front (place at s ∷ []) (map (place at) out))
-          (f.leads target ok (spent + 1) (front ++ place at s ∷ []) otherwise rest kept));
+          rw (same, ← append_assoc front (place at s ∷ []) (map (place at) out))
+          (f.leads target ok (spent + 1) (front ++ place at s ∷ []) otherwise rest kept);
     }
 
     -- any other gives way to the states that it leads to
@@ -190,7 +166,7 @@ module _ (nfa : Automaton) (x : Search) (at : ℕ) where
       turns = suc f.turns;
       leads = λ target ok spent front otherwise rest h.
           let inside : s < length seen = unseen-inside seen s clear in
-          let same : spent + 1 + f.turns ≡ spent + suc f.turns = omega arith in
+          let same : spent + suc f.turns ≡ spent + 1 + f.turns = omega arith in
           let next = epsilon_states (holding_at x.haystack at) (node_at nfa s) in
           let plain = Searching-plain (bare nfa x) target h (SeenAt-clear at s seen inside clear)
           (SeenAt-set at s seen inside) (unrested target ok s r) (pairs at next)
@@ -199,40 +175,16 @@ module _ (nfa : Automaton) (x : Search) (at : ℕ) where
           ≡ map Explore (pairs at (next ++ waiting) ++ rest) =
           work-append (pairs at next) (pairs at waiting ++ rest)
           ∙ ap (map Explore) (sym (pairs-append at next waiting rest)) in
-          subst (λ (n : ℕ). Finding nfa x target (SeenAt at f.after) n (front ++ map (place at) out) otherwise rest)
-          same
-          (f.leads target ok (spent + 1) front otherwise rest
-          (subst (λ (w : List Task). Searching (bare nfa x) target
-          (λ g total. ExploresTo (bare nfa x) target total None [] (map Explore (starts nfa x)) [] g)
-          (SeenAt at (set seen s true)) (spent + 1) front otherwise w []) joined plain));
+          rw same (f.leads target ok (spent + 1) front otherwise rest (rw joined at plain));
     }
 
   -- the waiting states, all of them
-  pub follow : (left : ℕ) (seen : List Bool) (waiting : List ℕ) → length seen ≡ length nfa.states
-      → unseen seen ≤ left → Followed seen waiting (explore nfa (holding_at x.haystack at) left seen waiting)
-  unfolding explore
-  follow left seen [] size few = Followed-none seen
-  follow zero seen (s ∷ waiting) size few =
-      let none : unseen seen ≡ 0 = omega arith in
-      Followed-seen seen s waiting [] size (unseen-none seen none s)
-      (subst (λ (out : List ℕ). Followed seen waiting out) (explore-none nfa (holding_at x.haystack at) seen waiting)
-      (follow zero seen waiting size few))
-  follow (suc left) seen (s ∷ waiting) size few =
-      elim (cases_Bool (get_or seen s true)) [
-        | inl t ↦ rw t (Followed-seen seen s waiting
-            (explore nfa (holding_at x.haystack at) (suc left) seen waiting) size t
-            (follow (suc left) seen waiting size few))
-        | inr f ↦
-            let again : length (set seen s true) ≡ length nfa.states = length-set seen s true ∙ size in
-            let fewer : unseen (set seen s true) ≤ left = omega (arith, unseen-set seen s f) in
-            elim (cases_Bool (rests (node_at nfa s))) [
-              | inl r ↦ rw (f, r) (Followed-kept seen s waiting
-                  (explore nfa (holding_at x.haystack at) left (set seen s true) waiting) f r
-                  (follow left (set seen s true) waiting again fewer))
-              | inr r ↦ rw (f, r) (Followed-left seen s waiting
-                  (explore nfa (holding_at x.haystack at) left (set seen s true)
-                  (epsilon_states (holding_at x.haystack at) (node_at nfa s) ++ waiting)) f r
-                  (follow left (set seen s true) (epsilon_states (holding_at x.haystack at) (node_at nfa s) ++ waiting)
-                  again fewer))
-            ]
-      ]
+  pub follow : {seen : List Bool} {waiting out : List ℕ} → Explores nfa (holding_at x.haystack at) seen waiting out
+      → length seen ≡ length nfa.states → Followed seen waiting out
+  follow (over {seen = seen}) size = Followed-none seen
+  follow (passes {seen = seen} {s = s} {waiting = waiting} {out = out} t h) size =
+      Followed-seen seen s waiting out size t (follow h size)
+  follow (keeps {seen = seen} {s = s} {waiting = waiting} {out = out} f r h) size =
+      Followed-kept seen s waiting out f r (follow h (length-set seen s true ∙ size))
+  follow (opens {seen = seen} {s = s} {waiting = waiting} {out = out} f r h) size =
+      Followed-left seen s waiting out f r (follow h (length-set seen s true ∙ size))

@@ -1,55 +1,33 @@
 -- An accepting path goes through the states of each position after its start, as long as nothing was found.
-use Rattle.std.proofs.Common.{◌≡◌, ℕ, zero, suc, ◌+◌, ◌-◌, ◌<◌, ◌≤◌, ◌⊎◌, inl, inr, Bool, true, false, List, [], ◌∷◌, ◌++◌, length, replicate, get_or, set, refl, ap, sym, ◌∙◌, subst, arith, get_or-set_other, Option, None, Some, is_some, option_and_then, option_map, option_to_list}
-use Rattle.std.specs.Option.{option_or, option_map_or}
-use Rattle.std.proofs.Math.Decide.{ℕ_discrete}
-use Rattle.std.proofs.lemmas.Bool.{cases_Bool, cases_lt}
-use Rattle.std.proofs.lemmas.List.{get_or-replicate}
-use Rattle.nfa_paths.specs.Common.{HalfFound, Search, MatchKind, Automaton, Pair, In, HeadIs, NoRepeats, Linked, EndsWith, PathTo, rests, IsScanAnswer, path_half, pattern_of, IsMatch, node_at, byte_at, target_on, edges, pairs_from, start_count, start_state, starts}
-use Rattle.regex_search_core.specs.declared.search.MatchKind.TheVariants.{All, LeftmostFirst}
+use Rattle.nfa_paths.proofs.Common.{◌≡◌, ℕ, zero, suc, ◌+◌, ◌-◌, ◌<◌, ◌≤◌, ◌⊎◌, inl, inr, Bool, true, false, List, [], ◌∷◌, ◌++◌, length, map, replicate, get_or, set, refl, ap, sym, ◌∙◌, subst, arith, get_or-set_other, Option, None, Some, option_and_then, option_map, option_to_list, option_map_or, cases_lt, get_or-replicate, HalfFound, Search, MatchKind, Automaton, Pair, In, HeadIs, Linked, EndsWith, PathTo, rests, IsScanAnswer, path_half, pattern_of, IsMatch, node_at, byte_at, target_on, edges, pairs_from, start_count, start_state, starts, Holding, holding_at, epsilon_states}
 use Rattle.nfa_paths.proofs.MemberLemmas.{In-append_left, In-append_right}
-use Rattle.nfa_paths.proofs.PathToLemmas.{EndsWith-last, In-cases}
+use Rattle.nfa_paths.proofs.PathToLemmas.{EndsWith-last}
 use Rattle.nfa_paths.proofs.AnswerLemmas.{scan_answer-leads}
 use Rattle.nfa_paths.proofs.ScanAnswerLemmas.{edges-onward, starts-from}
-use Rattle.nfa_determinize.specs.Closures.{closure, holding_at, epsilon_states, explore, step, kept, pattern_by_kind, state_pattern, last_pattern}
+use Rattle.nfa_determinize.specs.Closures.{closure, step, kept, pattern_by_kind, last_pattern}
 use Rattle.nfa_determinize.specs.Configurations.{closure_at, found_after, half_at, scanned, start_here, scan_half, starts_after}
 use Rattle.nfa_determinize.specs.Idles.{IsIdle, StartsFrom}
 use Rattle.nfa_determinize.proofs.AnswerLemmas.{scan-answered}
-use Rattle.nfa_determinize.proofs.ExploreLemmas.{unseen, unseen-set, unseen-none, unseen-all}
+use Rattle.std.proofs.Math.Decide.{ℕ_discrete}
+use Rattle.nfa_determinize.proofs.ExploreLemmas.{Explores, closure-explored, seen-itself, seen-still}
+use Rattle.nfa_determinize.proofs.ExploreLemmas.Explores.{over, passes, keeps, opens}
+use Rattle.nfa_determinize.proofs.PositionLemmas.{closed-rests}
 use Rattle.nfa_paths.proofs.StartLemmas.{epsilon-edges}
-use Rattle.nfa_determinize.proofs.FollowLemmas.{pairs, match-rests, past-edges, past-plain, rests-edges}
+use Rattle.nfa_determinize.proofs.FollowLemmas.{match-rests, past-edges, past-plain, rests-edges}
+use Rattle.nfa_determinize.proofs.NextLemmas.{In-mapped}
 use Rattle.nfa_determinize.proofs.MatchLemmas.{NoneMatches, first-is}
-
--- a pair of a list of states at one position
-pairs-among : (at : ℕ) (states : List ℕ) (u : Pair) → In u (pairs at states) → (s : ℕ) × In s states × (u ≡ (s, at))
-pairs-among at [] u i = absurd i
-pairs-among at (s ∷ states) u (inl e) = (s, inl refl, e)
-pairs-among at (s ∷ states) u (inr i) = let h = pairs-among at states u i in (h.0, inr h.1, h.2)
 
 -- a state is led to by each state of the list that leads there
 step-among : (nfa : Automaton) (byte : Option ℕ) (t s : ℕ) (states : List ℕ) → In s states
     → In t (option_to_list (option_and_then (target_on (node_at nfa s)) byte)) → In t (step nfa byte states)
 step-among nfa byte t s [] i j = absurd i
-step-among nfa byte t s (u ∷ states) (inl e) j =
-    In-append_left t (option_to_list (option_and_then (target_on (node_at nfa u)) byte)) (step nfa byte states)
-    (rw (← e) j)
-step-among nfa byte t s (u ∷ states) (inr i) j =
-    In-append_right t (option_to_list (option_and_then (target_on (node_at nfa u)) byte)) (step nfa byte states)
-    (step-among nfa byte t s states i j)
+step-among nfa byte t s (u ∷ states) i j =
+    grind (arith, In-append_left, In-append_right, step-among nfa byte t s states)
 
 -- no pattern matches: no state is a Match, and each is kept
 none-last : (nfa : Automaton) (states : List ℕ) → last_pattern nfa states ≡ None → NoneMatches nfa states
 none-last nfa [] e = λ s i m. i
-none-last nfa (s ∷ states) e =
-    of (λ f. none-last nfa states f) (last_pattern nfa states) refl (state_pattern nfa s) refl e
-  where
-    never : (t : ℕ) → t ≡ s → state_pattern nfa s ≡ None → is_some (state_pattern nfa t) ≡ true → ⊥
-    never t same none m = let no : false ≡ true = rw (same, none) at m in absurd (cc no)
-
-    of : (last_pattern nfa states ≡ None → NoneMatches nfa states) → (o : Option ℕ) → last_pattern nfa states ≡ o
-        → (p : Option ℕ) → state_pattern nfa s ≡ p → option_or o p ≡ None → NoneMatches nfa (s ∷ states)
-    of rest (Some k) f p g e = absurd (cc e)
-    of rest None f (Some k) g e = absurd (cc e)
-    of rest None f None g e = λ t i m. elim i [ inl here ↦ never t here g m | inr j ↦ rest f t j m ]
+none-last nfa (s ∷ states) e = grind (arith, none-last nfa states)
 
 record Plain (nfa : Automaton) (kind : MatchKind) (states : List ℕ) : Type 0 where
   plain : NoneMatches nfa states
@@ -57,243 +35,155 @@ record Plain (nfa : Automaton) (kind : MatchKind) (states : List ℕ) : Type 0 w
 
 plain-kept : (nfa : Automaton) (kind : MatchKind) (states : List ℕ) → pattern_by_kind nfa kind states ≡ None
     → Plain nfa kind states
-plain-kept nfa LeftmostFirst states e =
-    elim (first-is nfa states) [
-      | inl none ↦ record { plain = none.plain; kept_is = none.kept }
-      | inr some ↦ absurd (never some.pattern (sym some.first ∙ e))
-    ]
-  where
-    never : (k : ℕ) → Some k ≡ None → ⊥
-    never k e = cc
-plain-kept nfa All states e = record { plain = none-last nfa states e; kept_is = refl }
+plain-kept nfa kind states e = grind (arith, none-last, first-is nfa states)
+
+-- What an exploration meets: all that was seen before, and the states that wait. Each that it meets first is kept, or
+-- does not rest, and it meets all that it leads to.
+record Meets (nfa : Automaton) (holding : Holding) (seen : List Bool) (waiting out : List ℕ) : Type 0 where
+  after : List Bool
+  grows : (t : ℕ) → get_or seen t true ≡ true → get_or after t true ≡ true
+  waits : (t : ℕ) → In t waiting → get_or after t true ≡ true
+  leads : (t : ℕ) → get_or seen t true ≡ false → get_or after t true ≡ true
+      → In t out ⊎ ((rests (node_at nfa t) ≡ false)
+      × ((u : ℕ) → In u (epsilon_states holding (node_at nfa t)) → get_or after u true ≡ true))
+
+-- one state is met first
+Meets-first : {nfa : Automaton} {holding : Holding} {seen : List Bool} {s : ℕ} {waiting more out next : List ℕ}
+    → Meets nfa holding (set seen s true) more next → ((t : ℕ) → In t waiting → In t more)
+    → ((t : ℕ) → In t next → In t out)
+    → In s out ⊎ ((rests (node_at nfa s) ≡ false)
+    × ((u : ℕ) → In u (epsilon_states holding (node_at nfa s)) → In u more))
+    → Meets nfa holding seen (s ∷ waiting) out
+Meets-first {seen = seen} {s} c among kept here = record {
+  after = c.after;
+  grows = λ t k. c.grows t (seen-still seen s t k);
+  waits = λ t i. elim i [ inl e ↦ c.grows t (rw e (seen-itself seen s)) | inr j ↦ c.waits t (among t j) ];
+  leads = λ t clear met.
+      elim (ℕ_discrete t s) [
+        | yes e ↦ rw e (elim here [ inl i ↦ inl i | inr on ↦ inr (on.0, λ u i. c.waits u (on.1 u i)) ])
+        | no n ↦ elim (c.leads t (get_or-set_other seen s t true true n ∙ clear) met) [
+          | inl i ↦ inl (kept t i)
+          | inr on ↦ inr on
+        ]
+      ];
+}
+
+meets : {nfa : Automaton} {holding : Holding} {seen : List Bool} {waiting out : List ℕ}
+    → Explores nfa holding seen waiting out → Meets nfa holding seen waiting out
+meets (over {seen = seen}) =
+    record { after = seen; grows = λ t k. k; waits = λ t i. absurd i; leads = λ t clear met. cc (clear, met) }
+meets (passes {seen = seen} {s = s} k h) = let c = meets h in record {
+  after = c.after;
+  grows = c.grows;
+  waits = λ t i. elim i [ inl e ↦ c.grows t (rw e k) | inr j ↦ c.waits t j ];
+  leads = c.leads;
+}
+meets (keeps f r h) = Meets-first (meets h) (λ t i. i) (λ t i. inr i) (inl (inl refl))
+meets {nfa} {holding} (opens {s = s} {waiting = waiting} f r h) =
+    let next = epsilon_states holding (node_at nfa s) in
+    Meets-first (meets h) (λ t i. In-append_right t next waiting i) (λ t i. i)
+    (inr (r, λ u i. In-append_left u next waiting i))
 
 module _ (nfa : Automaton) (x : Search) (m : Pair) where
-  -- from v the list goes on to m, and no pair is there twice
+  -- from v the list goes on to m
   record Way (v : Pair) (p : List Pair) : Type 0 where
-    once : NoRepeats (v ∷ p)
     linked : Linked (edges nfa x) (v ∷ p)
     ends : EndsWith m (v ∷ p)
 
-  -- one pair further
-  way-next : (v w : Pair) (p : List Pair) → Way v (w ∷ p) → In w (edges nfa x v) × Way w p
-  way-next v w p h = (h.linked.0, record { once = h.once.1; linked = h.linked.1; ends = h.ends })
+  -- one pair further, which is one of these states at the position
+  way-next : (v w : Pair) (p : List Pair) (at : ℕ) (states : List ℕ) → Way v (w ∷ p)
+      → edges nfa x v ≡ map (λ t. (t, at)) states → (t : ℕ) × In t states × Way (t, at) p
+  way-next v w p at states h leads =
+      let next = In-mapped (λ t. (t, at)) w states (rw leads at h.linked.0) in (
+        next.0,
+        next.1,
+        subst (λ (u : Pair). Way u p) next.2 (record { linked = h.linked.1; ends = h.ends }),
+      )
 
-  -- from a pair of the list on
-  record Within (v w : Pair) (p : List Pair) : Type 0 where
+  -- a way goes through a state of the list at the position
+  record Crosses (at : ℕ) (states : List ℕ) : Type 0 where
+    state : ℕ
+    among : In state states
     rest : List Pair
-    way : Way w rest
-    among : (u : Pair) → In u (w ∷ rest) → In u (v ∷ p)
-
-  way-from : (v w : Pair) (p : List Pair) → Way v p → In w (v ∷ p) → Within v w p
-  way-from v w p h (inl e) = subst (λ (u : Pair). Within v u p) (sym e) (record { rest = p; way = h; among = λ u i. i })
-  way-from v w [] h (inr i) = absurd i
-  way-from v w (y ∷ p) h (inr i) =
-      let next = way-from y w p (way-next v y p h).1 i in
-      record { rest = next.rest; way = next.way; among = λ u j. inr (next.among u j) }
+    way : Way (state, at) rest
 
   module _ (accepts : IsMatch nfa m) where
     -- each pair of the list has a state of the NFA
     way-inside : (v : Pair) (p : List Pair) → Way v p → v.0 < length nfa.states
-    way-inside v [] h =
-        elim (cases_lt v.0 (length nfa.states)) [
-          | inl less ↦ less
-          | inr past ↦
-              let never : ⊥ = past-plain nfa x v.1 v.0 past (subst (IsMatch nfa) (sym h.ends) accepts) in absurd never
-        ]
-    way-inside v (w ∷ p) h =
-        elim (cases_lt v.0 (length nfa.states)) [
-          | inl less ↦ less
-          | inr past ↦ absurd (rw (past-edges nfa x v.1 v.0 past) at (way-next v w p h).0)
-        ]
+    way-inside v [] h = grind (arith, past-plain nfa x v.1 v.0)
+    way-inside v (w ∷ p) h = grind (arith, past-edges nfa x v.1 v.0)
 
-    -- The way comes to a state of the list that rests, at the same position.
-    record Rests (at : ℕ) (closed : List ℕ) : Type 0 where
-      state : ℕ
-      among : In state closed
-      resting : rests (node_at nfa state) ≡ true
-      rest : List Pair
-      way : Way (state, at) rest
-
-    rests-more : (at s : ℕ) (closed : List ℕ) → Rests at closed → Rests at (s ∷ closed)
-    rests-more at s closed h =
-        record { state = h.state; among = inr h.among; resting = h.resting; rest = h.rest; way = h.way }
-
-    module _ (at : ℕ) where
-      -- no state that the way has at the position was seen
-      abbrev Clear : List Bool → Pair → List Pair → Type 0
-      Clear seen v p = (t : ℕ) → In (t, at) (v ∷ p) → get_or seen t true ≡ false
-
-      clear-set : (seen : List Bool) (s : ℕ) (v : Pair) (p : List Pair) → (In (s, at) (v ∷ p) → ⊥) → Clear seen v p
-          → Clear (set seen s true) v p
-      clear-set seen s v p out clear = λ t i.
-          elim (ℕ_discrete t s) [
-            | yes e ↦ absurd (out (subst (λ (u : ℕ). In (u, at) (v ∷ p)) e i))
-            | no n ↦ get_or-set_other seen s t true true n ∙ clear t i
+    module _ (at : ℕ) {states out : List ℕ}
+        (c : Meets nfa (holding_at x.haystack at) (replicate (length nfa.states) false) states out) where
+      -- a way from a state that is met goes through one that is kept
+      reaches : (s : ℕ) (p : List Pair) → get_or c.after s true ≡ true → Way (s, at) p → Crosses at out
+      reaches s [] met h =
+          elim (c.leads s (get_or-replicate (length nfa.states) s false true (way-inside (s, at) [] h)) met) [
+            | inl i ↦ record { state = s; among = i; rest = []; way = h }
+            | inr on ↦ cc (match-rests (node_at nfa s) (subst (IsMatch nfa) (sym h.ends) accepts), on.0)
+          ]
+      reaches s (w ∷ p) met h =
+          elim (c.leads s (get_or-replicate (length nfa.states) s false true (way-inside (s, at) (w ∷ p) h)) met) [
+            | inl i ↦ record { state = s; among = i; rest = w ∷ p; way = h }
+            | inr on ↦
+                let next = way-next (s, at) w p at (epsilon_states (holding_at x.haystack at) (node_at nfa s)) h
+                (epsilon-edges x (node_at nfa s) at on.0) in
+                reaches next.0 p (on.1 next.0 next.1) next.2
           ]
 
-      -- a way that does not rest goes on to one of the states that its state leads to
-      record Goes (s : ℕ) (p : List Pair) : Type 0 where
-        next : ℕ
-        among : In next (epsilon_states (holding_at x.haystack at) (node_at nfa s))
-        rest : List Pair
-        way : Way (next, at) rest
-        within : (u : Pair) → In u ((next, at) ∷ rest) → In u p
-
-      goes-on : (s : ℕ) (p : List Pair) → Way (s, at) p → rests (node_at nfa s) ≡ false → Goes s p
-      goes-on s [] h r =
-          let resting : rests (node_at nfa s) ≡ true =
-          match-rests (node_at nfa s) (subst (IsMatch nfa) (sym h.ends) accepts) in
-          let never : true ≡ false = sym resting ∙ r in
-          absurd (cc never)
-      goes-on s (w ∷ p) h r =
-          let both = way-next (s, at) w p h in
-          let h2 = pairs-among at (epsilon_states (holding_at x.haystack at) (node_at nfa s)) w
-          (rw (epsilon-edges x (node_at nfa s) at r) at both.0) in
-          record {
-            next = h2.0;
-            among = h2.1;
-            rest = p;
-            way = subst (λ (u : Pair). Way u p) h2.2 both.1;
-            within = λ u i. subst (λ (y : Pair). In u (y ∷ p)) (sym h2.2) i;
-          }
-
-      -- A way from a waiting state, over states that were not seen, comes to rest in the closure.
-      explore-reaches : (left : ℕ) (seen : List Bool) (waiting : List ℕ) (s : ℕ) (p : List Pair)
-          → unseen seen ≤ left → In s waiting → Way (s, at) p → Clear seen (s, at) p
-          → Rests at (explore nfa (holding_at x.haystack at) left seen waiting)
-      unfolding explore
-      explore-reaches left seen [] s p few i h clear = absurd i
-      explore-reaches zero seen (w ∷ waiting) s p few i h clear =
-          let none : unseen seen ≡ 0 = omega arith in
-          let never : true ≡ false = sym (unseen-none seen none s) ∙ clear s (inl refl) in
-          absurd (cc never)
-      explore-reaches (suc left) seen (w ∷ waiting) s p few i h clear =
-          elim (cases_Bool (get_or seen w true)) [
-            | inl t ↦ rw t (explore-reaches (suc left) seen waiting s p few (later t i) h clear)
-            | inr f ↦
-                let fewer : unseen (set seen w true) ≤ left = omega (arith, unseen-set seen w f) in
-                elim (In-cases (w, at) ((s, at) ∷ p)) [
-                  | inl there ↦
-                      let from = way-from (s, at) (w, at) p h there in
-                      elim (cases_Bool (rests (node_at nfa w))) [
-                        | inl r ↦ rw (f, r)
-                            (record { state = w; among = inl refl; resting = r; rest = from.rest; way = from.way })
-                        | inr r ↦ rw (f, r) (
-                            let on = goes-on w from.rest from.way r in
-                            explore-reaches left (set seen w true)
-                            (epsilon_states (holding_at x.haystack at) (node_at nfa w) ++ waiting) on.next on.rest fewer
-                            (In-append_left on.next (epsilon_states (holding_at x.haystack at) (node_at nfa w)) waiting
-                            on.among)
-                            on.way
-                            (clear-set seen w (on.next, at) on.rest
-                            (λ j. from.way.once.0 (on.within (w, at) j))
-                            (λ t j. clear t (from.among (t, at) (inr (on.within (t, at) j)))))
-                            )
-                      ]
-                  | inr out ↦
-                      let j = other out i in
-                      let still = clear-set seen w (s, at) p out clear in
-                      elim (cases_Bool (rests (node_at nfa w))) [
-                        | inl r ↦ rw (f, r) (rests-more at w
-                            (explore nfa (holding_at x.haystack at) left (set seen w true) waiting)
-                            (explore-reaches left (set seen w true) waiting s p fewer j h still))
-                        | inr r ↦ rw (f, r) (explore-reaches left (set seen w true)
-                            (epsilon_states (holding_at x.haystack at) (node_at nfa w) ++ waiting) s p fewer
-                            (In-append_right s (epsilon_states (holding_at x.haystack at) (node_at nfa w)) waiting j)
-                            h still)
-                      ]
-                ]
-          ]
-        where
-          later : get_or seen w true ≡ true → (s ≡ w) ⊎ In s waiting → In s waiting
-          later t (inl e) =
-              let never : true ≡ false = sym t ∙ ap (λ (u : ℕ). get_or seen u true) (sym e) ∙ clear s (inl refl) in
-              absurd (cc never)
-          later t (inr j) = j
-
-          other : (In (w, at) ((s, at) ∷ p) → ⊥) → (s ≡ w) ⊎ In s waiting → In s waiting
-          other out (inl e) = absurd (out (inl (ap (λ (u : ℕ). let v : Pair = (u, at) in v) (sym e))))
-          other out (inr j) = j
-
-      -- so a way from one of the states does
-      closure-reaches : (states : List ℕ) (s : ℕ) (p : List Pair) → In s states → Way (s, at) p
-          → Rests at (closure nfa (holding_at x.haystack at) states)
-      closure-reaches states s p i h =
-          let n = length nfa.states in
-          let few : unseen (replicate n false) ≤ n = omega (arith, unseen-all n) in
-          explore-reaches n (replicate n false) states s p few i h
-          (λ t j.
-          let from = way-from (s, at) (t, at) p h j in
-          get_or-replicate n t false true (way-inside (t, at) from.rest from.way))
+    -- so a way from one of the states goes through one of the closure
+    closure-reaches : (at : ℕ) (states : List ℕ) (s : ℕ) (p : List Pair) → In s states → Way (s, at) p
+        → Crosses at (closure nfa (holding_at x.haystack at) states)
+    closure-reaches at states s p i h =
+        let c = meets (closure-explored nfa (holding_at x.haystack at) states) in reaches at c s p (c.waits s i) h
 
     -- from a state that rests to the next position
-    record Crosses (at : ℕ) (states : List ℕ) : Type 0 where
-      state : ℕ
-      among : In state states
-      rest : List Pair
-      way : Way (state, at) rest
-
-    rests-cross : (at : ℕ) (here : List ℕ) → NoneMatches nfa here → Rests at here
-        → Crosses (at + 1) (step nfa (byte_at x at) here)
-    rests-cross at here plain h = of h.rest h.way
+    rests-cross : (at : ℕ) (here : List ℕ) → ((t : ℕ) → In t here → rests (node_at nfa t) ≡ true)
+        → NoneMatches nfa here → Crosses at here → Crosses (at + 1) (step nfa (byte_at x at) here)
+    rests-cross at here resting plain h = of h.rest h.way
       where
         of : (p : List Pair) → Way (h.state, at) p → Crosses (at + 1) (step nfa (byte_at x at) here)
         of [] w = absurd (plain h.state h.among (subst (IsMatch nfa) (sym w.ends) accepts))
         of (u ∷ p) w =
-            let both = way-next (h.state, at) u p w in
             let next = option_to_list (option_and_then (target_on (node_at nfa h.state)) (byte_at x at)) in
-            let k = pairs-among (at + 1) next u (rw (rests-edges x at (node_at nfa h.state) h.resting) at both.0) in
+            let k = way-next (h.state, at) u p (at + 1) next w
+            (rests-edges x at (node_at nfa h.state) (resting h.state h.among)) in
             record {
               state = k.0;
               among = step-among nfa (byte_at x at) k.0 h.state here h.among k.1;
               rest = p;
-              way = subst (λ (y : Pair). Way y p) k.2 both.1;
+              way = k.2;
             }
 
-    -- a path is a way from its start
-    path-way : (s : Pair) (p : List Pair) → HeadIs s p → NoRepeats p → Linked (edges nfa x) p → EndsWith m p
-        → (rest : List Pair) × Way s rest
-    path-way s [] head once linked ends = absurd head
-    path-way s (v ∷ p) head once linked ends =
-        (p, subst (λ (u : Pair). Way u p) head (record { once = once; linked = linked; ends = ends }))
+  -- a path is a way from its start
+  path-way : (s : Pair) (p : List Pair) → HeadIs s p → Linked (edges nfa x) p → EndsWith m p
+      → (rest : List Pair) × Way s rest
+  path-way s [] head linked ends = absurd head
+  path-way s (v ∷ p) head linked ends =
+      (p, subst (λ (u : Pair). Way u p) head (record { linked = linked; ends = ends }))
 
 -- what was not found
 
 found-none : (earliest : Bool) (found hit : Option HalfFound) → found_after earliest found hit ≡ None
     → (found ≡ None) × (hit ≡ None)
-found-none true None hit e = (refl, e)
-found-none true (Some h) hit e = absurd (cc e)
-found-none false found None e = (e, refl)
-found-none false found (Some h) e = absurd (cc e)
+found-none earliest found hit e = grind arith
 
 hit-none : (at : ℕ) (o : Option ℕ) → option_map (half_at at) o ≡ None → o ≡ None
-hit-none at None e = refl
-hit-none at (Some k) e = absurd (cc e)
+hit-none at o e = grind arith
 
 -- without a match one start less is left
 starts-less : (kind : MatchKind) (count : ℕ) → starts_after kind None count ≡ count - 1
-starts-less LeftmostFirst count = refl
-starts-less All count = refl
+starts-less kind count = grind arith
 
 -- a start that is listed
 start-of : (state at count : ℕ) (d : Pair) → In d (pairs_from state at count)
     → (d.0 ≡ state) × (d.1 < at + length (pairs_from state at count))
 start-of state at zero d i = absurd i
-start-of state at (suc count) d (inl e) =
-    (ap (λ (v : Pair). v.0) e, let k : d.1 ≡ at = ap (λ (v : Pair). v.1) e in omega arith)
-start-of state at (suc count) d (inr i) =
-    let h = start-of state (at + 1) count d i in
-    let k : d.1 < at + 1 + length (pairs_from state (at + 1) count) = h.1 in
-    (h.0, omega arith)
+start-of state at (suc count) d i = grind (arith, start-of state (at + 1) count d)
 
 module _ (nfa : Automaton) (x : Search) where
   start-before : (d : Pair) → In d (starts nfa x) → d.1 < x.start + length (starts nfa x)
-  start-before d = of (start_state nfa x.anchored)
-    where
-      of : (o : Option ℕ) → In d (option_map_or (λ state. pairs_from state x.start (start_count nfa x)) o [])
-          → d.1 < x.start + length (option_map_or (λ state. pairs_from state x.start (start_count nfa x)) o [])
-      of None i = absurd i
-      of (Some state) i = (start-of state x.start (start_count nfa x) d i).1
+  start-before d i = grind (arith, start-of)
 
   -- a start joins the states at its position
   start-joins : (d : Pair) (n k : ℕ) → In d (starts nfa x) → d.1 ≡ x.start + n → k ≡ length (starts nfa x) - n
@@ -315,31 +205,22 @@ module _ (nfa : Automaton) (x : Search) where
       pattern : pattern_by_kind nfa kind (closure_at nfa x (x.start + n) (scanned nfa x kind earliest n)) ≡ None
 
     missed : (n : ℕ) → (scanned nfa x kind earliest (suc n)).found ≡ None → Missed n
-    missed n none =
-        let c = scanned nfa x kind earliest n in
-        let hit = pattern_by_kind nfa kind (closure_at nfa x (x.start + n) c) in
-        let both = found-none earliest c.found (option_map (half_at (x.start + n)) hit) none in
-        record { before = both.0; pattern = hit-none (x.start + n) hit both.1 }
+    missed n none = grind (arith, found-none, hit-none)
 
     starts-left : (n : ℕ) → (scanned nfa x kind earliest n).found ≡ None
         → (scanned nfa x kind earliest n).starts ≡ length (starts nfa x) - n
     starts-left zero none = omega arith
-    starts-left (suc n) none =
-        let h = missed n none in
-        let c = scanned nfa x kind earliest n in
-        let left : c.starts ≡ length (starts nfa x) - n = starts-left n h.before in
-        let one : c.starts - 1 ≡ length (starts nfa x) - suc n = omega arith in
-        ap (λ (o : Option ℕ). starts_after kind o c.starts) h.pattern ∙ starts-less kind c.starts ∙ one
+    starts-left (suc n) none = grind (arith, missed n, starts-left n, starts-less)
 
     module _ (m : Pair) (p : List Pair) (w : PathTo (edges nfa x) (starts nfa x) m p) (accepts : IsMatch nfa m) where
       -- the path goes through a state of the position, or starts there
       joined : (n : ℕ) → (scanned nfa x kind earliest n).found ≡ None → w.start.1 ≤ x.start + n
-          → (w.start.1 < x.start + n → Crosses nfa x m accepts (x.start + n) (scanned nfa x kind earliest n).states)
+          → (w.start.1 < x.start + n → Crosses nfa x m (x.start + n) (scanned nfa x kind earliest n).states)
           → (let c = scanned nfa x kind earliest n in
-          Crosses nfa x m accepts (x.start + n) (c.states ++ start_here nfa x c.starts))
+          Crosses nfa x m (x.start + n) (c.states ++ start_here nfa x c.starts))
       joined n none low crosses =
           let c = scanned nfa x kind earliest n in
-          let way = path-way nfa x m accepts w.start p w.head w.once w.linked w.ends in
+          let way = path-way nfa x m w.start p w.head w.linked w.ends in
           elim (cases_lt w.start.1 (x.start + n)) [
             | inl less ↦
                 let h = crosses less in
@@ -362,7 +243,7 @@ module _ (nfa : Automaton) (x : Search) where
 
       -- a path that started before a position goes through one of its states
       crosses : (n : ℕ) → (scanned nfa x kind earliest n).found ≡ None → w.start.1 < x.start + n
-          → Crosses nfa x m accepts (x.start + n) (scanned nfa x kind earliest n).states
+          → Crosses nfa x m (x.start + n) (scanned nfa x kind earliest n).states
       crosses zero none less =
           let from : x.start ≤ w.start.1 = starts-from nfa x w.start w.among in
           absurd (omega arith)
@@ -375,10 +256,10 @@ module _ (nfa : Automaton) (x : Search) where
           let rest = closure-reaches nfa x m accepts at (c.states ++ start_here nfa x c.starts) j.state j.rest j.among
           j.way in
           let plain = plain-kept nfa kind here h.pattern in
-          let next = rests-cross nfa x m accepts at here plain.plain rest in
+          let next = rests-cross nfa x m accepts at here (closed-rests nfa x at c) plain.plain rest in
           let same : at + 1 ≡ x.start + suc n = omega arith in
-          subst (λ (k : ℕ). Crosses nfa x m accepts k (scanned nfa x kind earliest (suc n)).states) same
-          (subst (λ (states : List ℕ). Crosses nfa x m accepts (at + 1) (step nfa (byte_at x at) states))
+          subst (λ (k : ℕ). Crosses nfa x m k (scanned nfa x kind earliest (suc n)).states) same
+          (subst (λ (states : List ℕ). Crosses nfa x m (at + 1) (step nfa (byte_at x at) states))
           (sym plain.kept_is) next)
 
     pub idle-passes : (n : ℕ) → IsIdle nfa (holding_at x.haystack (x.start + n)) (scanned nfa x kind earliest n)
@@ -397,19 +278,11 @@ module _ (nfa : Automaton) (x : Search) where
 
 -- a match ends at each such position or after it
 module _ (nfa : Automaton) (x : Search) where
-  linked-onward : (m v : Pair) (p : List Pair) → Linked (edges nfa x) (v ∷ p) → EndsWith m (v ∷ p) → v.1 ≤ m.1
-  linked-onward m v [] linked ends = let same : v.1 ≡ m.1 = ap (λ (u : Pair). u.1) ends in omega arith
-  linked-onward m v (w ∷ p) linked ends =
-      let on : v.1 ≤ w.1 = edges-onward nfa x v w linked.0 in
-      let rest : w.1 ≤ m.1 = linked-onward m w p linked.1 ends in
-      omega arith
-
   path-onward : (m v : Pair) (p : List Pair) → HeadIs v p → Linked (edges nfa x) p → EndsWith m p → v.1 ≤ m.1
   path-onward m v [] head linked ends = absurd head
-  path-onward m v (w ∷ p) head linked ends =
-      let same : w.1 ≡ v.1 = ap (λ (u : Pair). u.1) head in
-      let on : w.1 ≤ m.1 = linked-onward m w p linked ends in
-      omega arith
+  path-onward m v (w ∷ []) head linked ends = grind arith
+  path-onward m v (w ∷ (u ∷ p)) head linked ends =
+      grind (arith, edges-onward nfa x w u, path-onward m u (u ∷ p) refl)
 
   pub half-after : (s : ℕ) → StartsFrom nfa x s → (kind : MatchKind) (earliest : Bool) (h : HalfFound)
       → scan_half nfa x kind earliest ≡ Some h → s ≤ h.offset
@@ -441,3 +314,6 @@ module _ (nfa : Automaton) (x : Search) where
   -- no path starts before the search does
   pub StartsFrom-start : StartsFrom nfa x x.start
   StartsFrom-start = record { from = λ m p w accepts. starts-from nfa x w.start w.among }
+
+-- the law of idle positions
+pub ruleset idle_positions = (idle-passes)

@@ -1,9 +1,6 @@
 -- The scans for the last path and for the paths with the least end, position by position.
-use Rattle.std.proofs.Common.{◌≡◌, ◌⊎◌, ℕ, zero, suc, ◌+◌, ◌≤◌, inl, inr, Bool, true, false, List, [], ◌∷◌, ◌++◌, map, refl, ap, sym, ◌∙◌, subst, arith, Option, None, Some, is_some, option_map, option_and_then}
-use Rattle.std.specs.Option.{option_or}
-use Rattle.std.proofs.lemmas.List.{map-append}
-use Rattle.nfa_paths.specs.Common.{HalfFound, Search, MatchKind, Automaton, Pair, In, IsFirstPath, WantedAt, Slots, Hit, Passes, IsFoundBy, NoneBefore, LastBefore, last_match, is_resting, is_match, IsScanAnswer, path_half}
-use Rattle.regex_search_core.specs.declared.search.MatchKind.TheVariants.{All, LeftmostFirst}
+use Rattle.nfa_paths.proofs.Common.{◌≡◌, ◌⊎◌, ℕ, ◌+◌, ◌≤◌, inl, inr, Bool, true, false, List, [], ◌∷◌, ◌++◌, map, refl, ap, sym, ◌∙◌, arith, Option, None, Some, is_some, option_map, option_and_then, option_or, map-append, HalfFound, Search, MatchKind, Automaton, Pair, IsFirstPath, WantedAt, Hit, Passes, IsFoundBy, NoneBefore, LastBefore, NoMatch, last_match, is_resting, is_match, IsScanAnswer, path_half, LeftmostFirst}
+use Rattle.regex_search_core.specs.declared.search.MatchKind.TheVariants.{All}
 use Rattle.nfa_paths.proofs.FrontierMatchLemmas.{FirstMatch, last_match-is}
 use Rattle.nfa_paths.proofs.KindsLemmas.{IsFrontier-first_match}
 use Rattle.nfa_paths.proofs.ScanAnswerLemmas.{starts-from}
@@ -12,9 +9,19 @@ use Rattle.nfa_determinize.specs.Closures.{state_pattern, last_pattern, before_f
 use Rattle.nfa_determinize.specs.Configurations.{Configuration, half_at, begin, closure_at, advance, scanned}
 use Rattle.nfa_determinize.proofs.FollowLemmas.{place, bare}
 use Rattle.nfa_determinize.proofs.NextLemmas.{place-among}
-use Rattle.nfa_determinize.proofs.MatchLemmas.{half_of, FirstIn, NoneIn, first-is, half-last, half-found}
-use Rattle.nfa_determinize.proofs.PositionLemmas.{AllScan, shape, turns_here, front, AllScan-next, Finding-begin}
+use Rattle.nfa_determinize.proofs.MatchLemmas.{half_of, FirstIn, NoneIn, NoneMatches, first-is, half-last, half-found}
+use Rattle.nfa_determinize.proofs.PositionLemmas.{scanned-each, AllScan, shape, turns_here, front, AllScan-next, Finding-begin}
 use Rattle.nfa_paths.proofs.OptionLemmas.{option_or-None}
+
+-- what was found first stays
+pub stays : (o h : Option HalfFound) → is_some o ≡ true → option_or o h ≡ o
+stays o h some = grind arith
+
+-- if no state is a Match, neither is a pair that was put aside
+none-placed : (nfa : Automaton) (at : ℕ) (states : List ℕ) → NoneMatches nfa states
+    → NoMatch (is_match nfa) (map (place at) states)
+none-placed nfa at states plain b i m =
+    let h = place-among at states b i in plain h.0 h.1 (rw h.2 at m)
 
 module _ (nfa : Automaton) (x : Search) where
   -- the pattern and the end of the answer of a scan
@@ -58,9 +65,8 @@ module _ (nfa : Automaton) (x : Search) where
       }
 
   pub LastScan-scanned : (n : ℕ) → LastScan (x.start + n) (scanned nfa x All false n)
-  LastScan-scanned zero =
-      let same : x.start ≡ x.start + 0 = omega arith in
-      subst (λ (at : ℕ). LastScan at (begin nfa x)) same (record {
+  LastScan-scanned = scanned-each nfa x All false LastScan
+      (record {
         spent = 0;
         all = AllScan-begin;
         so_far = None;
@@ -68,10 +74,7 @@ module _ (nfa : Automaton) (x : Search) where
         last = LastBefore-start (bare nfa x) (is_resting nfa) (is_match nfa) [] (shape nfa x) x.start
             (starts-from nfa x);
       })
-  LastScan-scanned (suc n) =
-      let same : x.start + n + 1 ≡ x.start + suc n = omega arith in
-      subst (λ (at : ℕ). LastScan at (scanned nfa x All false (suc n))) same
-      (LastScan-advance (x.start + n) (scanned nfa x All false n) (LastScan-scanned n))
+      LastScan-advance
 
   -- the least end
 
@@ -90,20 +93,11 @@ module _ (nfa : Automaton) (x : Search) where
   abbrev pub EarliestScan : MatchKind → ℕ → Configuration → Type 0
   EarliestScan kind at c = NotYet at c ⊎ Already kind c
 
-  -- what was found stays
-  stays : (o h : Option HalfFound) → is_some o ≡ true → option_or o h ≡ o
-  stays None h some = cc
-  stays (Some k) h some = refl
-
   Already-advance : (kind : MatchKind) (at : ℕ) (c : Configuration) → Already kind c
       → Already kind (advance nfa x kind true at c)
   Already-advance kind at c s =
-      let d = advance nfa x kind true at c in
-      let same : d.found ≡ c.found = stays c.found _ s.some in
-      record {
-        answered = subst (Answered kind true) (sym same) s.answered;
-        some = ap is_some same ∙ s.some;
-      }
+      let same : (advance nfa x kind true at c).found ≡ c.found = stays c.found _ s.some in
+      record { answered = rw same s.answered; some = ap is_some same ∙ s.some }
 
   module _ (at : ℕ) (c : Configuration) (s : NotYet at c) where
     -- of leftmost first a position without a match
@@ -114,12 +108,8 @@ module _ (nfa : Automaton) (x : Search) where
           (rw none.first refl);
       found_is = rw (s.found_is, none.first) refl;
       none = NoneBefore-step (bare nfa x) (is_resting nfa) (is_match nfa) [] (shape nfa x) s.none
-          (front nfa x at s.spent c s.all) (λ b i m. miss b (place-among at (closure_at nfa x at c) b i) m);
+          (front nfa x at s.spent c s.all) (none-placed nfa at (closure_at nfa x at c) none.plain);
     }
-      where
-        miss : (b : Pair × Slots) → ((t : ℕ) × In t (closure_at nfa x at c) × (b ≡ place at t))
-            → is_match nfa b.0 ≡ true → ⊥
-        miss b h m = none.plain h.0 h.1 (rw h.2 at m)
 
     -- and one with a match
     first-hit : FirstIn nfa (closure_at nfa x at c) → Already LeftmostFirst (advance nfa x LeftmostFirst true at c)
@@ -132,7 +122,7 @@ module _ (nfa : Automaton) (x : Search) where
           before = map (place at) before;
           after = map (place at) some.after;
           split = split;
-          plain = λ b i m. miss b (place-among at before b i) m;
+          plain = none-placed nfa at before some.plain;
           matches = ap is_some some.is;
         } in
         let h = IsFrontier-first_match (bare nfa x) (is_resting nfa) (is_match nfa) []
@@ -147,16 +137,11 @@ module _ (nfa : Automaton) (x : Search) where
         let new : (advance nfa x LeftmostFirst true at c).found ≡ Some (half_at at some.pattern) =
         rw (s.found_is, some.first) refl in
         record {
-          answered = subst (Answered LeftmostFirst true) (found_is ∙ sym new)
+          answered = rw (new ∙ sym found_is)
               (Answered-found LeftmostFirst true (turns_here nfa x at s.spent c s.all) (Some (place at some.state))
               (IsEarliestPath-found (bare nfa x) (is_resting nfa) (is_match nfa) [] (shape nfa x) s.none by));
           some = ap is_some new;
         }
-      where
-        miss : (b : Pair × Slots) → ((t : ℕ) × In t (before_first_match nfa (closure_at nfa x at c))
-            × (b ≡ place at t))
-            → is_match nfa b.0 ≡ true → ⊥
-        miss b h m = some.plain h.0 h.1 (rw h.2 at m)
 
     -- of all matches
     last-next : EarliestScan All (at + 1) (advance nfa x All true at c)
@@ -174,7 +159,7 @@ module _ (nfa : Automaton) (x : Search) where
               let new : (advance nfa x All true at c).found ≡ half_of nfa (Some some.0) =
               rw s.found_is (sym hit_is ∙ ap (half_of nfa) some.1) in
               inr (record {
-                answered = subst (Answered All true) (sym new)
+                answered = rw new
                     (Answered-found All true (turns_here nfa x at s.spent c s.all) (Some some.0)
                     (IsEarliestLastPath-found (bare nfa x) (is_resting nfa) (is_match nfa) [] (shape nfa x) s.none
                     (front nfa x at s.spent c s.all) some.0 some.1));
@@ -201,16 +186,12 @@ module _ (nfa : Automaton) (x : Search) where
       ]
 
   pub EarliestScan-scanned : (kind : MatchKind) (n : ℕ) → EarliestScan kind (x.start + n) (scanned nfa x kind true n)
-  EarliestScan-scanned kind zero =
-      let same : x.start ≡ x.start + 0 = omega arith in
-      subst (λ (at : ℕ). EarliestScan kind at (begin nfa x)) same (inl (record {
+  EarliestScan-scanned kind = scanned-each nfa x kind true (EarliestScan kind)
+      (inl (record {
         spent = 0;
         all = AllScan-begin;
         found_is = refl;
         none = NoneBefore-start (bare nfa x) (is_resting nfa) (is_match nfa) [] (shape nfa x) x.start
             (starts-from nfa x);
       }))
-  EarliestScan-scanned kind (suc n) =
-      let same : x.start + n + 1 ≡ x.start + suc n = omega arith in
-      subst (λ (at : ℕ). EarliestScan kind at (scanned nfa x kind true (suc n))) same
-      (EarliestScan-advance kind (x.start + n) (scanned nfa x kind true n) (EarliestScan-scanned kind n))
+      (EarliestScan-advance kind)

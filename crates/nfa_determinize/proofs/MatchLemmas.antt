@@ -1,8 +1,5 @@
 -- The matches among the states at a position, and what was found of them.
-use Rattle.std.proofs.Common.{◌≡◌, ℕ, ◌⊎◌, inl, inr, true, false, List, [], ◌∷◌, ◌++◌, map, refl, ap, ◌∙◌, Option, None, Some, cond, is_some, option_map, option_and_then}
-use Rattle.std.specs.List.{last_or}
-use Rattle.std.specs.Option.{option_or}
-use Rattle.nfa_paths.specs.Common.{HalfFound, Automaton, Pair, In, Hit, apply, found_along, last_match, node_at, pattern_of, is_match, path_half}
+use Rattle.nfa_paths.proofs.Common.{arith, ◌≡◌, ℕ, ◌⊎◌, inl, inr, true, false, List, [], ◌∷◌, ◌++◌, map, refl, ap, Option, None, Some, cond, is_some, option_map, option_and_then, option_or, HalfFound, Automaton, Pair, In, Hit, found_along, last_match, is_match, path_half}
 use Rattle.nfa_determinize.specs.Closures.{state_pattern, first_pattern, last_pattern, before_first_match}
 use Rattle.nfa_determinize.specs.Configurations.{half_at}
 use Rattle.nfa_determinize.proofs.FollowLemmas.{place}
@@ -75,31 +72,9 @@ module _ (nfa : Automaton) where
       ≡ option_or (option_map (half_at at) (last_pattern nfa states)) (half_of g)
   half-last at [] g = refl
   half-last at (s ∷ states) g =
-      half-last at states (cond (is_match nfa (s, at)) (Some (place at s)) g)
-      ∙ ap (option_or (option_map (half_at at) (last_pattern nfa states))) (here (state_pattern nfa s) refl)
-      ∙ both (last_pattern nfa states) (state_pattern nfa s) (half_of g)
-    where
-      here : (o : Option ℕ) → state_pattern nfa s ≡ o
-          → half_of (cond (is_some (state_pattern nfa s)) (Some (place at s)) g)
-          ≡ option_or (option_map (half_at at) (state_pattern nfa s)) (half_of g)
-      here (Some k) e = rw e (rw e refl)
-      here None e = rw e refl
-
-      both : (o p : Option ℕ) (h : Option HalfFound)
-          → option_or (option_map (half_at at) o) (option_or (option_map (half_at at) p) h)
-          ≡ option_or (option_map (half_at at) (option_or o p)) h
-      both None p h = refl
-      both (Some k) p h = refl
+      grind (arith, half-last at states (cond (is_match nfa (s, at)) (Some (place at s)) g))
 
   -- what is found along a path is its pattern and its end
   pub half-found : (path : Option (List Pair))
       → option_and_then (path_half nfa) path ≡ half_of (found_along (λ v. None) path [])
-  half-found None = refl
-  half-found (Some p) = of (last_or None p)
-    where
-      of : (o : Option Pair)
-          → option_and_then
-          (λ v. option_map (λ k. record { pattern = k; offset = v.1 }) (pattern_of (node_at nfa v.0))) o
-          ≡ half_of (option_map (λ e. (e, apply (λ v. None) p [])) o)
-      of None = refl
-      of (Some v) = refl
+  half-found path = grind arith

@@ -1,7 +1,5 @@
 -- On to the next position: what was put aside is followed from the states that the byte leads to.
-use Rattle.std.proofs.Common.{◌≡◌, ℕ, ◌+◌, ◌<◌, ◌≤◌, inl, inr, Bool, true, false, List, [], ◌∷◌, ◌++◌, replicate, map, refl, ap, sym, ◌∙◌, subst, arith, None, option_and_then, option_to_list}
-use Rattle.nfa_paths.specs.Common.{Search, Automaton, Pair, In, Slots, Hit, Task, ExploresTo, ExploresAfter, Searching, next_tasks, rests, node_at, byte_at, target_on, edges, starts}
-use Rattle.nfa_paths.specs.Exploring.Task.{Explore, Load}
+use Rattle.nfa_paths.proofs.Common.{◌≡◌, ℕ, ◌+◌, ◌<◌, ◌≤◌, inl, inr, Bool, true, false, List, [], ◌∷◌, ◌++◌, replicate, map, refl, ap, sym, ◌∙◌, arith, None, option_and_then, option_to_list, Search, Automaton, Pair, In, Slots, Hit, Task, ExploresTo, ExploresAfter, Searching, next_tasks, rests, node_at, byte_at, target_on, edges, starts, Explore, Load}
 use Rattle.nfa_paths.proofs.SearchLemmas.{AnswerBehind-along}
 use Rattle.nfa_paths.proofs.SearchingLemmas.{Searching-round}
 use Rattle.nfa_paths.proofs.ScanAnswerLemmas.{edges-onward, edges-rise}
@@ -44,23 +42,21 @@ module _ (nfa : Automaton) (x : Search) (at : ℕ) where
       (work-after target (pairs (at + 1) next) (map Explore (pairs (at + 1) more ++ rest))
       (next_tasks (edges nfa x) (map (place at) states) (Load [] ∷ map Explore rest)) left otherwise marks g
       (round-work target states (λ t i. r t (inr i)) rest left otherwise marks g)
-      (subst (λ (w : List Task). ExploresTo (bare nfa x) target left otherwise marks w [] g) split h))
+      (rw split at h))
+
+-- what is in a mapped list is the image of an element
+pub In-mapped : {A B : Type 0} (f : A → B) (y : B) (xs : List A) → In y (map f xs) → (x : A) × In x xs × (y ≡ f x)
+In-mapped f y [] i = absurd i
+In-mapped f y (x ∷ xs) i = grind (arith, In-mapped f y xs)
 
 -- a pair that was put aside is one of the states
 pub place-among : (at : ℕ) (states : List ℕ) (a : Pair × Slots) → In a (map (place at) states)
     → (s : ℕ) × In s states × (a ≡ place at s)
-place-among at [] a i = absurd i
-place-among at (s ∷ states) a i =
-    elim i [
-      | inl e ↦ (s, inl refl, e)
-      | inr j ↦ let h = place-among at states a j in (h.0, inr h.1, h.2)
-    ]
+place-among at states a i = In-mapped (place at) a states i
 
 -- a pair among the work is among the pairs
 pub Explore-among : (k : Pair) (rest : List Pair) → In (Explore k) (map Explore rest) → In k rest
-Explore-among k [] i = absurd i
-Explore-among k (v ∷ rest) i =
-    elim i [ inl e ↦ inl (let h : k ≡ v = cc in h) | inr j ↦ inr (Explore-among k rest j) ]
+Explore-among k rest i = grind (arith, In-mapped)
 
 module _ (nfa : Automaton) (x : Search) (at : ℕ) (target : Pair → Bool) where
   -- slots that are loaded in vain

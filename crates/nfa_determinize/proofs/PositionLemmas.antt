@@ -1,19 +1,13 @@
 -- From one position of a scan to the next, and what is left at the end of the span.
-use Rattle.std.proofs.Common.{◌≡◌, ℕ, zero, suc, ◌+◌, ◌-◌, ◌<◌, ◌≤◌, inl, inr, Bool, true, false, List, [], ◌∷◌, ◌++◌, length, replicate, map, refl, ap, sym, ◌∙◌, subst, arith, append-nil, cond, Option, None, Some, option_to_list}
-use Rattle.std.specs.Option.{option_map_or}
-use Rattle.std.proofs.lemmas.Bool.{cases_lt, le-ltb}
-use Rattle.std.proofs.lemmas.List.{length-replicate}
-use Rattle.nfa_paths.specs.Common.{Search, MatchKind, Automaton, Pair, In, NoRepeats, Slots, Hit, rests, is_resting, Scanned, IsFrontier, Scanning, EndsBefore, node_at, is_match, byte_at, pairs_from, start_state, start_count, starts}
-use Rattle.regex_search_core.specs.declared.search.MatchKind.TheVariants.{All, LeftmostFirst}
-use Rattle.nfa_paths.specs.Exploring.Task.{Explore}
+use Rattle.nfa_paths.proofs.Common.{◌≡◌, ℕ, zero, suc, ◌+◌, ◌-◌, ◌<◌, ◌≤◌, inl, inr, Bool, true, false, List, [], ◌∷◌, ◌++◌, length, replicate, map, refl, ap, sym, subst, arith, append-nil, Option, None, option_map_or, le-ltb, length-replicate, Search, MatchKind, Automaton, Pair, In, NoRepeats, Slots, Hit, rests, is_resting, Scanned, IsFrontier, Scanning, EndsBefore, node_at, is_match, byte_at, pairs_from, start_state, starts, Explore, holding_at}
 use Rattle.nfa_paths.proofs.PathToLemmas.{is_false}
 use Rattle.nfa_paths.proofs.ScanAnswerLemmas.{Scanned-matches, EndsBefore-span}
 use Rattle.nfa_paths.proofs.ScanningLemmas.{Scanning-front}
 use Rattle.nfa_paths.proofs.SearchingLemmas.{Searching-start}
 use Rattle.nfa_paths.proofs.StartLemmas.{pairs_from-ahead, starts-none}
-use Rattle.nfa_determinize.specs.Closures.{EachOnce, holding_at, step, pattern_by_kind, kept}
-use Rattle.nfa_determinize.specs.Configurations.{Configuration, start_here, closure_at, starts_after, position_count, scanned}
-use Rattle.nfa_determinize.proofs.ExploreLemmas.{unseen, unseen-all, explore-keeps, explore-once}
+use Rattle.nfa_determinize.specs.Closures.{EachOnce, step, kept}
+use Rattle.nfa_determinize.specs.Configurations.{Configuration, advance, begin, start_here, closure_at, starts_after, position_count, scanned}
+use Rattle.nfa_determinize.proofs.ExploreLemmas.{closure-explored, closure-once, closure-rests}
 use Rattle.nfa_determinize.proofs.FollowLemmas.{pairs, place, bare, Finding, pairs-append, Followed, follow}
 use Rattle.nfa_determinize.proofs.NextLemmas.{place-among, Explore-among, Finding-next}
 use Rattle.nfa_scan_core.specs.Marks.{SeenAt}
@@ -23,6 +17,18 @@ use Rattle.nfa_scan_core.proofs.SeenLemmas.{SeenAt-none}
 pub length-pairs_from : (state at count : ℕ) → length (pairs_from state at count) ≡ count
 length-pairs_from state at zero = refl
 length-pairs_from state at (suc count) = ap suc (length-pairs_from state (at + 1) count)
+
+-- What holds at the start of the span, and at each next position if it holds at a position, holds after the first n.
+pub scanned-each : (nfa : Automaton) (x : Search) (kind : MatchKind) (earliest : Bool)
+    (Holds : ℕ → Configuration → Type 0) → Holds x.start (begin nfa x)
+    → ((at : ℕ) (c : Configuration) → Holds at c → Holds (at + 1) (advance nfa x kind earliest at c))
+    → (n : ℕ) → Holds (x.start + n) (scanned nfa x kind earliest n)
+scanned-each nfa x kind earliest Holds first next zero =
+    let same : x.start ≡ x.start + 0 = omega arith in subst (λ (at : ℕ). Holds at (begin nfa x)) same first
+scanned-each nfa x kind earliest Holds first next (suc n) =
+    let same : x.start + n + 1 ≡ x.start + suc n = omega arith in
+    subst (λ (at : ℕ). Holds at (scanned nfa x kind earliest (suc n))) same
+    (next (x.start + n) (scanned nfa x kind earliest n) (scanned-each nfa x kind earliest Holds first next n))
 
 module _ (nfa : Automaton) (x : Search) where
   -- the starts from a position on
@@ -37,47 +43,22 @@ module _ (nfa : Automaton) (x : Search) where
 
   -- at first all are left
   pub waiting-all : waiting x.start (length (starts nfa x)) ≡ starts nfa x
-  waiting-all = of (start_state nfa x.anchored)
-    where
-      of : (o : Option ℕ)
-          → option_map_or (λ state. pairs_from state x.start
-          (length (option_map_or (λ s. pairs_from s x.start (start_count nfa x)) o []))) o []
-          ≡ option_map_or (λ state. pairs_from state x.start (start_count nfa x)) o []
-      of None = refl
-      of (Some state) = ap (pairs_from state x.start) (length-pairs_from state x.start (start_count nfa x))
+  waiting-all = grind (arith, length-pairs_from)
 
   -- none is left
   pub waiting-none : (at : ℕ) → waiting at 0 ≡ []
-  waiting-none at = of (start_state nfa x.anchored)
-    where
-      of : (o : Option ℕ) → option_map_or (λ state. pairs_from state at 0) o [] ≡ []
-      of None = refl
-      of (Some state) = refl
+  waiting-none at = grind arith
 
   -- they are at the position or later
   pub waiting-later : (at count : ℕ) (k : Pair) → In k (waiting at count) → at ≤ k.1
-  waiting-later at count k = of (start_state nfa x.anchored)
-    where
-      of : (o : Option ℕ) → In k (option_map_or (λ state. pairs_from state at count) o []) → at ≤ k.1
-      of None i = absurd i
-      of (Some state) i = pairs_from-ahead state at count k i
+  waiting-later at count k = grind (arith, pairs_from-ahead)
 
   -- the first one joins the states at its position
   pub waiting-joins : (at : ℕ) (states : List ℕ) (count : ℕ)
       → pairs at states ++ waiting at count
       ≡ pairs at (states ++ start_here nfa x count) ++ waiting (at + 1) (count - 1)
-  waiting-joins at states zero =
-      rw (append-nil states) (ap (λ (w : List Pair). pairs at states ++ w)
-      (waiting-none at ∙ sym (waiting-none (at + 1))))
-  waiting-joins at states (suc count) =
-      let less : suc count - 1 ≡ count = omega arith in
-      rw less (of (start_state nfa x.anchored))
-    where
-      of : (o : Option ℕ)
-          → pairs at states ++ option_map_or (λ state. pairs_from state at (suc count)) o []
-          ≡ pairs at (states ++ option_to_list o) ++ option_map_or (λ state. pairs_from state (at + 1) count) o []
-      of None = rw (append-nil states) refl
-      of (Some state) = sym (pairs-append at states (state ∷ []) (pairs_from state (at + 1) count))
+  waiting-joins at states zero = grind (arith, append-nil, waiting-none)
+  waiting-joins at states (suc count) = grind (arith, append-nil, pairs-append)
 
   -- one position
 
@@ -86,19 +67,11 @@ module _ (nfa : Automaton) (x : Search) where
     pub closed : Followed nfa x at (replicate (length nfa.states) false) (c.states ++ start_here nfa x c.starts)
         (closure_at nfa x at c)
     closed =
-        let n = length nfa.states in
-        let few : unseen (replicate n false) ≤ n = omega (arith, unseen-all n) in
-        follow nfa x at n (replicate n false) (c.states ++ start_here nfa x c.starts)
-        (length-replicate n false) few
+        follow nfa x at (closure-explored nfa (holding_at x.haystack at) (c.states ++ start_here nfa x c.starts))
+        (length-replicate (length nfa.states) false)
 
     pub closed-rests : (s : ℕ) → In s (closure_at nfa x at c) → rests (node_at nfa s) ≡ true
-    closed-rests s i =
-        (explore-keeps nfa (holding_at x.haystack at) (length nfa.states) (replicate (length nfa.states) false)
-        (c.states ++ start_here nfa x c.starts) s i).0
-
-    pub closed-once : EachOnce (closure_at nfa x at c)
-    closed-once = explore-once nfa (holding_at x.haystack at) (length nfa.states) (replicate (length nfa.states) false)
-        (c.states ++ start_here nfa x c.starts)
+    closed-rests s i = (closure-rests nfa (holding_at x.haystack at) (c.states ++ start_here nfa x c.starts) s i).0
 
   -- the search for one set of matches, before a position
   pub follow-here : (at : ℕ) (c : Configuration) (target : Pair → Bool)
@@ -167,7 +140,8 @@ module _ (nfa : Automaton) (x : Search) where
     front =
         Scanning-front (bare nfa x) (is_match nfa) [] Scanning-here
         (λ a i. aside a (place-among at (closure_at nfa x at c) a i))
-        (once-placed at (closure_at nfa x at c) (closed-once at c))
+        (once-placed at (closure_at nfa x at c)
+        (closure-once nfa (holding_at x.haystack at) (c.states ++ start_here nfa x c.starts)))
         (λ k i. later_starts k (Explore-among k (waiting (at + 1) (c.starts - 1)) i))
       where
         aside : (a : Pair × Slots) → ((t : ℕ) × In t (closure_at nfa x at c) × (a ≡ place at t))
@@ -194,19 +168,12 @@ module _ (nfa : Automaton) (x : Search) where
 
   -- fewer starts are left at each position
   starts-fewer : (kind : MatchKind) (hit : Option ℕ) (count : ℕ) → starts_after kind hit count ≤ count - 1
-  starts-fewer LeftmostFirst (Some k) count = omega arith
-  starts-fewer LeftmostFirst None count = omega arith
-  starts-fewer All hit count = omega arith
+  starts-fewer kind hit count = grind arith
 
   module _ (kind : MatchKind) (earliest : Bool) where
     starts-left : (n : ℕ) → (scanned nfa x kind earliest n).starts ≤ length (starts nfa x) - n
     starts-left zero = omega arith
-    starts-left (suc n) =
-        let c = scanned nfa x kind earliest n in
-        let few : c.starts ≤ length (starts nfa x) - n = starts-left n in
-        let hit = pattern_by_kind nfa kind (closure_at nfa x (x.start + n) c) in
-        let less : starts_after kind hit c.starts ≤ c.starts - 1 = starts-fewer kind hit c.starts in
-        omega arith
+    starts-left (suc n) = grind (arith, starts-left n, starts-fewer)
 
     -- no state is left past the end
     pub states-end : (n : ℕ) → x.end < x.start + n → (scanned nfa x kind earliest n).states ≡ []
@@ -222,21 +189,7 @@ module _ (nfa : Automaton) (x : Search) where
 
     -- and no start
     starts-few : length (starts nfa x) ≤ position_count x
-    starts-few =
-        elim (cases_lt x.end x.start) [
-          | inl past ↦ rw (starts-none nfa x past) (omega arith)
-          | inr within ↦ of within (start_state nfa x.anchored)
-        ]
-      where
-        few : (within : x.start ≤ x.end) → (b : Bool) → cond b 1 (x.end - x.start + 1) ≤ x.end + 1 - x.start
-        few within true = omega arith
-        few within false = omega arith
-
-        of : x.start ≤ x.end → (o : Option ℕ)
-            → length (option_map_or (λ state. pairs_from state x.start (start_count nfa x)) o []) ≤ x.end + 1 - x.start
-        of within None = omega arith
-        of within (Some state) =
-            rw (length-pairs_from state x.start (start_count nfa x), le-ltb x.end x.start within) (few within _)
+    starts-few = grind (arith, starts-none, length-pairs_from)
 
     pub starts-end : (scanned nfa x kind earliest (position_count x)).starts ≡ 0
     starts-end = omega (arith, starts-left (position_count x), starts-few)

@@ -1,46 +1,26 @@
 -- A state that a list has a second time adds nothing to the closure of the list.
-use Rattle.std.proofs.Common.{◌≡◌, ℕ, zero, suc, ◌≤◌, ◌⊎◌, inl, inr, Bool, true, false, List, [], ◌∷◌, ◌++◌, length, replicate, get_or, set, refl, ap, sym, ◌∙◌, arith, append_assoc, get_or-set_same, get_or-set_other}
-use Rattle.std.proofs.Math.Decide.{ℕ_discrete}
-use Rattle.std.proofs.lemmas.Bool.{cases_Bool}
-use Rattle.std.proofs.lemmas.Bool.Decides.{eqb_tells}
-use Rattle.nfa_paths.specs.Common.{Search, MatchKind, Automaton, In, rests, node_at}
-use Rattle.nfa_determinize.specs.Closures.{EachOnce, Holding, closure, epsilon_states, explore, first_of_each, holding_at, without}
-use Rattle.nfa_determinize.specs.Configurations.{Configuration, advance, next_configuration, start_here, with_each_once}
+use Rattle.nfa_paths.proofs.Common.{◌≡◌, ℕ, zero, suc, ◌⊎◌, inl, inr, Bool, true, false, List, [], ◌∷◌, ◌++◌, length, replicate, get_or, set, refl, ap, sym, ◌∙◌, arith, append_assoc, get_or-set_other, cases_Bool, eqb_tells, nat_tests, get_or-set_at, Automaton, In, rests, node_at, Holding, epsilon_states, holding_at}
+use Rattle.nfa_paths.proofs.MemberLemmas.{In-append_left, In-append_right, In-middle}
+use Rattle.nfa_determinize.specs.Closures.{EachOnce, FirstOfEachHasEachOnce, closure, explore, first_of_each, without}
+use Rattle.nfa_determinize.specs.Configurations.{AdvancesWithEachOnce, next_configuration, start_here}
 use Rattle.nfa_determinize.proofs.ExploreLemmas.{explore-none, unseen-inside}
 
 -- the state was seen, or is in the list
 abbrev Comes : ℕ → List Bool → List ℕ → Type 0
 Comes s seen before = (get_or seen s true ≡ true) ⊎ In s before
 
-In-more : (s : ℕ) (more states : List ℕ) → In s states → In s (more ++ states)
-In-more s [] states i = i
-In-more s (t ∷ more) states i = inr (In-more s more states i)
-
-In-last : (s : ℕ) (before : List ℕ) → In s (before ++ s ∷ [])
-In-last s before = In-more s before (s ∷ []) (inl refl)
-
-In-front : (s : ℕ) (before states : List ℕ) → In s before → In s (before ++ states)
-In-front s [] states i = absurd i
-In-front s (t ∷ before) states (inl e) = inl e
-In-front s (t ∷ before) states (inr i) = inr (In-front s before states i)
-
 -- a state that was seen stays so, and the state that is seen now is seen
 still-comes : (seen : List Bool) (t s : ℕ) (before : List ℕ) → get_or seen t true ≡ false → Comes s seen (t ∷ before)
     → Comes s (set seen t true) before
-still-comes seen t s before clear h =
-    elim (ℕ_discrete s t) [
-      | yes e ↦ inl (rw e (now t clear))
-      | no n ↦
-          elim h [
-            | inl was ↦ inl (get_or-set_other seen t s true true n ∙ was)
-            | inr i ↦ elim i [ inl e ↦ absurd (n e) | inr j ↦ inr j ]
-          ]
-    ]
-  where
-    now : (t : ℕ) → get_or seen t true ≡ false → get_or (set seen t true) t true ≡ true
-    now t clear =
-        let inside : suc t ≤ length seen = unseen-inside seen t clear in
-        get_or-set_same seen t true true (omega arith)
+still-comes seen t s before clear h = grind (arith, get_or-set_other, get_or-set_at, unseen-inside)
+
+was-passed : (seen : List Bool) (t s : ℕ) (before : List ℕ) → get_or seen t true ≡ true → Comes s seen (t ∷ before)
+    → Comes s seen before
+was-passed seen t s before was h = grind arith
+
+still-further : (s : ℕ) (seen : List Bool) (targets before : List ℕ) → Comes s seen before
+    → Comes s seen (targets ++ before)
+still-further s seen targets before h = grind (arith, In-append_right)
 
 module _ (nfa : Automaton) (holding : Holding) where
   -- an exploration passes over a state that comes earlier
@@ -53,29 +33,18 @@ module _ (nfa : Automaton) (holding : Holding) where
   explore-repeat (suc left) seen [] later s (inr i) = absurd i
   explore-repeat (suc left) seen (t ∷ before) later s h =
       elim (cases_Bool (get_or seen t true)) [
-        | inl was ↦ rw was (explore-repeat (suc left) seen before later s (passed before was h))
+        | inl was ↦ rw was (explore-repeat (suc left) seen before later s (was-passed seen t s before was h))
         | inr clear ↦
             let next = still-comes seen t s before clear h in
             elim (cases_Bool (rests (node_at nfa t))) [
               | inl r ↦ rw (clear, r)
                   (ap (λ (out : List ℕ). t ∷ out) (explore-repeat left (set seen t true) before later s next))
-              | inr r ↦ rw (clear, r) (
-                  let targets = epsilon_states holding (node_at nfa t) in
-                  sym (ap (explore nfa holding left (set seen t true)) (append_assoc targets before (s ∷ later)))
-                  ∙ explore-repeat left (set seen t true) (targets ++ before) later s (further targets next)
-                  ∙ ap (explore nfa holding left (set seen t true)) (append_assoc targets before later)
-                  )
+              | inr r ↦ rw (clear, r)
+                  (let targets = epsilon_states holding (node_at nfa t) in
+                  simp append_assoc at (explore-repeat left (set seen t true) (targets ++ before) later s
+                  (still-further s (set seen t true) targets before next)))
             ]
       ]
-    where
-      passed : (states : List ℕ) → get_or seen t true ≡ true → Comes s seen (t ∷ states) → Comes s seen states
-      passed states was (inl k) = inl k
-      passed states was (inr (inl e)) = inl (rw e was)
-      passed states was (inr (inr i)) = inr i
-
-      further : (targets : List ℕ) → Comes s (set seen t true) before → Comes s (set seen t true) (targets ++ before)
-      further targets (inl k) = inl k
-      further targets (inr i) = inr (In-more s targets before i)
 
   pub closure-repeat : (before later : List ℕ) (s : ℕ) → In s before
       → closure nfa holding (before ++ s ∷ later) ≡ closure nfa holding (before ++ later)
@@ -92,11 +61,8 @@ module _ (nfa : Automaton) (holding : Holding) where
             closure-without before states later s i
             ∙ sym (closure-repeat before (states ++ later) t (rw same.1 i))
             )
-        | inr other ↦ rw other.0 (
-            sym (ap (closure nfa holding) (append_assoc before (t ∷ []) (without s states ++ later)))
-            ∙ closure-without (before ++ t ∷ []) states later s (In-front s before (t ∷ []) i)
-            ∙ ap (closure nfa holding) (append_assoc before (t ∷ []) (states ++ later))
-            )
+        | inr other ↦ rw other.0 (simp append_assoc at
+            (closure-without (before ++ t ∷ []) states later s (In-append_left s before (t ∷ []) i)))
       ]
 
   -- so may those of each state
@@ -105,14 +71,12 @@ module _ (nfa : Automaton) (holding : Holding) where
       ≡ closure nfa holding (before ++ (states ++ later))
   closure-first_of_each before [] later = refl
   closure-first_of_each before (s ∷ states) later =
-      sym (ap (closure nfa holding) (append_assoc before (s ∷ []) (without s (first_of_each states) ++ later)))
-      ∙ closure-without (before ++ s ∷ []) (first_of_each states) later s (In-last s before)
-      ∙ closure-first_of_each (before ++ s ∷ []) states later
-      ∙ ap (closure nfa holding) (append_assoc before (s ∷ []) (states ++ later))
+      simp append_assoc at
+      (closure-without (before ++ s ∷ []) (first_of_each states) later s (In-middle before s [])
+      ∙ closure-first_of_each (before ++ s ∷ []) states later)
 
 -- the next configuration is the same
-pub advances-with-each-once : (nfa : Automaton) (x : Search) (kind : MatchKind) (earliest : Bool) (at : ℕ)
-    (c : Configuration) → advance nfa x kind earliest at (with_each_once c) ≡ advance nfa x kind earliest at c
+pub advances-with-each-once : AdvancesWithEachOnce
 advances-with-each-once nfa x kind earliest at c =
     ap (λ (here : List ℕ). next_configuration nfa x kind earliest at here c)
     (closure-first_of_each nfa (holding_at x.haystack at) [] c.states (start_here nfa x c.starts))
@@ -121,26 +85,17 @@ advances-with-each-once nfa x kind earliest at c =
 
 In-without : (s t : ℕ) (states : List ℕ) → In t (without s states) → In t states × (t ≡ s → ⊥)
 In-without s t [] i = absurd i
-In-without s t (u ∷ states) i =
-    elim (eqb_tells u s) [
-      | inl same ↦ let h = In-without s t states (rw same.0 at i) in (inr h.0, h.1)
-      | inr other ↦
-          elim (rw other.0 at i) [
-            | inl e ↦ (inl e, λ is. other.1 (sym e ∙ is))
-            | inr j ↦ let h = In-without s t states j in (inr h.0, h.1)
-          ]
-    ]
+In-without s t (u ∷ states) i = grind (arith, nat_tests, In-without s t states)
 
 without-once : (s : ℕ) (states : List ℕ) → EachOnce states → EachOnce (without s states)
 without-once s [] once = tt
-without-once s (t ∷ states) once =
-    elim (eqb_tells t s) [
-      | inl same ↦ rw same.0 (without-once s states once.1)
-      | inr other ↦ rw other.0 (λ i. once.0 (In-without s t states i).0, without-once s states once.1)
-    ]
+without-once s (t ∷ states) once = grind (arith, nat_tests, In-without, without-once s states)
 
-pub first_of_each-once : (states : List ℕ) → EachOnce (first_of_each states)
+pub first_of_each-once : FirstOfEachHasEachOnce
 first_of_each-once [] = tt
 first_of_each-once (s ∷ states) =
     let once = first_of_each-once states in
     (λ i. (In-without s s (first_of_each states) i).1 refl, without-once s (first_of_each states) once)
+
+-- the laws of repeats
+pub ruleset repeats = (advances-with-each-once, closure-repeat, first_of_each-once)

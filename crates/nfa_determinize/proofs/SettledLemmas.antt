@@ -1,24 +1,13 @@
 -- What was found in a settled configuration stays up to the end of the scan.
-use Rattle.std.proofs.Common.{◌≡◌, ℕ, zero, suc, ◌+◌, ◌-◌, ◌≤◌, inl, inr, Bool, true, false, refl, ap, sym, ◌∙◌, arith, Option, None, Some, is_some}
-use Rattle.nfa_paths.specs.Common.{HalfFound, Search, MatchKind, Automaton}
-use Rattle.nfa_determinize.specs.Configurations.{Configuration, IsSettled, advance, found_after, position_count, scanned, scan_half}
+use Rattle.nfa_paths.proofs.Common.{◌≡◌, ℕ, zero, suc, ◌+◌, ◌-◌, ◌≤◌, Bool, refl, ap, sym, ◌∙◌, arith, Search, MatchKind, Automaton}
+use Rattle.nfa_determinize.specs.Configurations.{Configuration, IsSettled, advance, position_count, scanned, scan_half}
 use Rattle.nfa_determinize.proofs.AnswerLemmas.{dead-stays}
-
--- the earlier match stays
-first-stays : (found hit : Option HalfFound) → is_some found ≡ true → found_after true found hit ≡ found
-first-stays None hit some = cc
-first-stays (Some half) hit some = refl
+use Rattle.nfa_determinize.proofs.LastScanLemmas.{stays}
 
 module _ (nfa : Automaton) (x : Search) (kind : MatchKind) where
   pub found-stays : (earliest : Bool) (at : ℕ) (c : Configuration) → IsSettled earliest c
       → ((advance nfa x kind earliest at c).found ≡ c.found) × IsSettled earliest (advance nfa x kind earliest at c)
-  found-stays earliest at c (inl dead) =
-      let same = dead-stays nfa x kind earliest at c dead in
-      (ap (λ (d : Configuration). d.found) same, inl (rw same dead))
-  found-stays true at c (inr some) =
-      let stays : (advance nfa x kind true at c).found ≡ c.found = first-stays c.found _ some.1 in
-      (stays, inr (refl, ap is_some stays ∙ some.1))
-  found-stays false at c (inr some) = absurd (cc some.0)
+  found-stays earliest at c settled = grind (arith, dead-stays, stays)
 
   module _ (earliest : Bool) where
     stays-from : (n k : ℕ) → IsSettled earliest (scanned nfa x kind earliest n)
@@ -48,3 +37,6 @@ module _ (nfa : Automaton) (x : Search) (kind : MatchKind) where
         let here : x.start + (at - x.start) ≡ at = omega arith in
         ap (scanned nfa x kind earliest) more
         ∙ ap (λ (p : ℕ). advance nfa x kind earliest p (scanned nfa x kind earliest (at - x.start))) here
+
+-- the laws of what stays
+pub ruleset stays_settled = (dead-stays, found-stays)

@@ -1,30 +1,24 @@
 -- Steps and matches of a list, a state at a time.
-use Rattle.std.proofs.Common.{◌≡◌, ℕ, ◌+◌, ◌<◌, List, [], ◌∷◌, ◌++◌, length, get_or, take, drop, refl, ap, sym, ◌∙◌, append_assoc, Option, None, Some, is_some, true, false, option_and_then, option_map, option_to_list}
-use Rattle.std.specs.Option.{option_or}
-use Rattle.std.proofs.lemmas.List.{drop_more, take_more}
-use Rattle.nfa_paths.specs.Common.{number_of, PatternID, Automaton, Node, LeadsBelow, node_at, target_on}
+use Rattle.nfa_paths.proofs.Common.{arith, ◌≡◌, ℕ, ◌+◌, ◌<◌, List, [], ◌∷◌, ◌++◌, length, get_or, take, drop, refl, ap, sym, ◌∙◌, append-nil, append_assoc, Option, None, Some, is_some, true, false, option_and_then, option_map, option_to_list, option_or, drop_more, take_more, number_of, PatternID, Automaton, Node, LeadsBelow, node_at, target_on}
+use Rattle.nfa_paths.proofs.StartLemmas.{node_at-get}
 use Rattle.nfa_scan_core.proofs.TargetLemmas.{target-below}
 use Rattle.nfa_determinize.specs.Closures.{state_pattern, first_pattern, last_pattern, before_first_match, step}
 
 -- a pattern, and its number
 pub number-some : (o : Option PatternID) → is_some o ≡ true → is_some (option_map number_of o) ≡ true
-number-some None e = cc
-number-some (Some k) e = refl
+number-some o e = grind arith
 
 pub number-none : (o : Option PatternID) → is_some o ≡ false → option_map number_of o ≡ None
-number-none None e = refl
-number-none (Some k) e = cc
+number-none o e = grind arith
 
-pub number-or : (o p : Option PatternID)
+number-or : (o p : Option PatternID)
     → option_map number_of (option_or o p) ≡ option_or (option_map number_of o) (option_map number_of p)
-number-or None p = refl
-number-or (Some k) p = refl
+number-or o p = grind arith
 
 -- where a byte leads is a state
 pub stepped-below : (n t : ℕ) (node : Node) (byte : Option ℕ) → LeadsBelow n node
     → Some t ≡ option_and_then (target_on node) byte → t < n
-stepped-below n t node None leads e = absurd (cc e)
-stepped-below n t node (Some b) leads e = target-below n node b t leads (sym e)
+stepped-below n t node byte leads e = grind (arith, target-below)
 
 module _ (nfa : Automaton) (xs : List ℕ) (i : ℕ) (s : ℕ) (inside : i < length xs) (is : s ≡ get_or xs i s) where
   -- the list from a place on is its state and the rest
@@ -38,20 +32,12 @@ module _ (nfa : Automaton) (xs : List ℕ) (i : ℕ) (s : ℕ) (inside : i < len
   first-none none = rw drop-here (rw none refl)
 
   pub first-some : is_some (state_pattern nfa s) ≡ true → first_pattern nfa (drop i xs) ≡ state_pattern nfa s
-  first-some some = rw drop-here (of (state_pattern nfa s) some)
-    where
-      of : (o : Option ℕ) → is_some o ≡ true → option_or o (first_pattern nfa (drop (i + 1) xs)) ≡ o
-      of None e = cc
-      of (Some k) e = refl
+  first-some some = rw drop-here (grind arith)
 
-  pub last-more : (o : Option ℕ)
-      → option_or (last_pattern nfa (drop (i + 1) xs)) (option_or (state_pattern nfa s) o)
-      ≡ option_or (last_pattern nfa (drop i xs)) o
-  last-more o = rw drop-here (of (last_pattern nfa (drop (i + 1) xs)) (state_pattern nfa s))
-    where
-      of : (a b : Option ℕ) → option_or a (option_or b o) ≡ option_or (option_or a b) o
-      of None b = refl
-      of (Some k) b = refl
+  pub last-more : (p o : Option PatternID) → option_map number_of p ≡ state_pattern nfa s
+      → option_or (last_pattern nfa (drop (i + 1) xs)) (option_map number_of (option_or p o))
+      ≡ option_or (last_pattern nfa (drop i xs)) (option_map number_of o)
+  last-more p o e = rw drop-here (grind (arith, number-or))
 
   pub before-none : state_pattern nfa s ≡ None
       → take (i + 1) xs ++ before_first_match nfa (drop (i + 1) xs)
@@ -69,3 +55,8 @@ module _ (nfa : Automaton) (xs : List ℕ) (i : ℕ) (s : ℕ) (inside : i < len
   step-more byte next o e =
       rw (drop-here, e) (append_assoc next (option_to_list (option_and_then (target_on (node_at nfa s)) byte))
       (step nfa byte (drop (i + 1) xs)))
+
+-- what the loops that look for the first Match cite
+pub ruleset first_steps = (number-some, number-none, first-none, first-some, node_at-get)
+
+pub ruleset before_steps = (number-some, number-none, before-none, before-some, append-nil, node_at-get)

@@ -1,8 +1,9 @@
 -- The NFA states that a search is in at a position, in order of priority: what one state of a DFA stands for.
-use Rattle.std.specs.Prelude.{ℕ, zero, suc, Bool, true, false, List, [], ◌∷◌, ◌++◌, ◌==◌, length, replicate, is_some, if◌then◌else◌, ⊤, Option, None, option_and_then, option_to_list, slice_index_or, slice_set}
+use Rattle.std.specs.Prelude.{◌≡◌, ℕ, ◌<◌, ◌≤◌, zero, suc, Bool, true, false, List, [], ◌∷◌, ◌++◌, ◌==◌, length, replicate, is_some, if◌then◌else◌, ⊤, Option, None, option_and_then, option_to_list, slice_index_or, slice_set}
 use Rattle.std.specs.Option.{option_or}
-use Rattle.nfa_paths.specs.Common.{MatchKind, Automaton, In, rests, node_at, pattern_of, target_on}
-use Rattle.regex_search_core.specs.declared.search.MatchKind.TheVariants.{All, LeftmostFirst}
+use Rattle.nfa_paths.specs.Common.{MatchKind, Automaton, In, rests, node_at, pattern_of, target_on, LeftmostFirst}
+use Rattle.regex_search_core.specs.declared.search.MatchKind.TheVariants.{All}
+use Rattle.thompson_nfa.specs.declared.look.Look as looks
 pub use Rattle.nfa_paths.specs.Common.{Holding, holding_at, epsilon_states}
 
 -- no state is in the list twice
@@ -70,3 +71,34 @@ module _ (nfa : Automaton) where
   abbrev pub kept : MatchKind → List ℕ → List ℕ
   kept LeftmostFirst states = before_first_match states
   kept All states = states
+
+-- a state that is already in a list adds nothing to the closure, if the list has it again further right
+abbrev pub RepeatAddsNothing : Type 0
+RepeatAddsNothing =
+    (nfa : Automaton) (holding : Holding) (before later : List ℕ) (s : ℕ) → In s before
+    → closure nfa holding (before ++ s ∷ later) ≡ closure nfa holding (before ++ later)
+
+-- `first_of_each` has each state once
+abbrev pub FirstOfEachHasEachOnce : Type 0
+FirstOfEachHasEachOnce = (states : List ℕ) → EachOnce (first_of_each states)
+
+-- a closure has each state once
+abbrev pub ClosureHasEachOnce : Type 0
+ClosureHasEachOnce = (nfa : Automaton) (holding : Holding) (states : List ℕ) → EachOnce (closure nfa holding states)
+
+-- so it has no more states than the NFA
+abbrev pub ClosureIsShort : Type 0
+ClosureIsShort =
+    (nfa : Automaton) (holding : Holding) (states : List ℕ) → length (closure nfa holding states) ≤ length nfa.states
+
+-- each of them is a byte state, a Fail or a Match of the NFA
+abbrev pub ClosureRests : Type 0
+ClosureRests =
+    (nfa : Automaton) (holding : Holding) (states : List ℕ) (s : ℕ) → In s (closure nfa holding states)
+    → (rests (node_at nfa s) ≡ true) × (s < length nfa.states)
+
+-- a closure reads nothing of the haystack but which assertions hold
+abbrev pub ClosureReadsAssertions : Type 0
+ClosureReadsAssertions =
+    (nfa : Automaton) (a b : Holding) (states : List ℕ) → ((look : looks.Look) → a look ≡ b look)
+    → closure nfa a states ≡ closure nfa b states

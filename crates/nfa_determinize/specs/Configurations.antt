@@ -1,9 +1,9 @@
 -- A scan as steps over lists of states, position by position.
-use Rattle.std.specs.Prelude.{◌≡◌, ℕ, zero, suc, ◌+◌, ◌-◌, ◌⊎◌, Bool, true, List, [], ◌++◌, length, Option, None, Some, is_some, option_map, option_to_list, if◌then◌else◌}
+use Rattle.std.specs.Prelude.{◌≡◌, ℕ, zero, suc, ◌+◌, ◌-◌, ◌⊎◌, Bool, true, List, [], ◌++◌, length, Option, None, Some, is_some, option_and_then, option_map, option_to_list, if◌then◌else◌}
 use Rattle.std.specs.Option.{option_or}
-use Rattle.nfa_paths.specs.Common.{HalfFound, Search, MatchKind, Automaton, byte_at, start_state, starts}
-use Rattle.regex_search_core.specs.declared.search.MatchKind.TheVariants.{All, LeftmostFirst}
-use Rattle.nfa_determinize.specs.Closures.{holding_at, first_of_each, closure, step, pattern_by_kind, kept}
+use Rattle.nfa_paths.specs.Common.{HalfFound, Search, MatchKind, Automaton, Pair, IsScanAnswer, byte_at, path_half, start_state, starts, LeftmostFirst, holding_at}
+use Rattle.regex_search_core.specs.declared.search.MatchKind.TheVariants.{All}
+use Rattle.nfa_determinize.specs.Closures.{closure, first_of_each, step, pattern_by_kind, kept}
 
 -- What a scan knows at a position: the states that the bytes so far led to, before their closure; at how many positions
 -- from here on a match may start; and the match that was found so far.
@@ -20,10 +20,6 @@ pub record IsDead (c : Configuration) : Type 0 where
 -- no later position changes what was found: the configuration is dead, or the scan is `earliest` and found a match
 abbrev pub IsSettled : Bool → Configuration → Type 0
 IsSettled earliest c = IsDead c ⊎ ((earliest ≡ true) × (is_some c.found ≡ true))
-
--- the same configuration, with each of its states once
-abbrev pub with_each_once : Configuration → Configuration
-with_each_once c = record c { states = first_of_each c.states }
 
 -- a match of the pattern that ends at the position
 abbrev pub half_at : ℕ → ℕ → HalfFound
@@ -78,3 +74,29 @@ module _ (nfa : Automaton) (x : Search) where
     -- what the whole scan found
     abbrev pub scan_half : Option HalfFound
     scan_half = (scanned (position_count x)).found
+
+-- the pattern and the end of a scan's answer are what the steps find
+abbrev pub StepsFindTheAnswer : Type 0
+StepsFindTheAnswer =
+    (nfa : Automaton) (x : Search) (kind : MatchKind) (earliest : Bool) (path : Option (List Pair))
+    → IsScanAnswer nfa x kind earliest path
+    → option_and_then (path_half nfa) path ≡ scan_half nfa x kind earliest
+
+-- a configuration that is dead stays as it is
+abbrev pub DeadStays : Type 0
+DeadStays =
+    (nfa : Automaton) (x : Search) (kind : MatchKind) (earliest : Bool) (at : ℕ) (c : Configuration) → IsDead c
+    → advance nfa x kind earliest at c ≡ c
+
+-- what was found in a settled configuration stays, and so does that it is settled
+abbrev pub FoundStays : Type 0
+FoundStays =
+    (nfa : Automaton) (x : Search) (kind : MatchKind) (earliest : Bool) (at : ℕ) (c : Configuration)
+    → IsSettled earliest c
+    → ((advance nfa x kind earliest at c).found ≡ c.found) × IsSettled earliest (advance nfa x kind earliest at c)
+
+-- a configuration with each of its states once, where it is first, leads to the same configuration
+abbrev pub AdvancesWithEachOnce : Type 0
+AdvancesWithEachOnce =
+    (nfa : Automaton) (x : Search) (kind : MatchKind) (earliest : Bool) (at : ℕ) (c : Configuration)
+    → advance nfa x kind earliest at (record c { states = first_of_each c.states }) ≡ advance nfa x kind earliest at c

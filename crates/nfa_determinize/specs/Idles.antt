@@ -1,7 +1,7 @@
 -- Positions of a scan at which no path that began before is left, and what follows for where its answer starts.
 use Rattle.std.specs.Prelude.{◌≡◌, ℕ, ◌+◌, ◌≤◌, Bool, List, [], None}
-use Rattle.nfa_paths.specs.Common.{Search, MatchKind, Automaton, Pair, PathTo, IsMatch, edges, starts}
-use Rattle.nfa_determinize.specs.Closures.{Holding, closure, holding_at}
+use Rattle.nfa_paths.specs.Common.{Search, MatchKind, Automaton, Pair, PathTo, IsMatch, edges, starts, Holding, holding_at}
+use Rattle.nfa_determinize.specs.Closures.{closure}
 use Rattle.nfa_determinize.specs.Configurations.{Configuration, scanned}
 
 -- no accepting path of the search starts before the position

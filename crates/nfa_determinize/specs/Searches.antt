@@ -1,13 +1,12 @@
 -- A search as scans by steps: a match that ends inside a codepoint does not count if the NFA is in UTF-8 mode and can
 -- match the empty string.
-use Rattle.std.specs.Prelude.{◌≡◌, ℕ, ◌<◌, ◌⊎◌, Bool, MatchBool, Option, None, Some, ⊤}
-use Rattle.nfa_paths.specs.Common.{IsBoundary, HalfFound, Search, is_anchored, MatchKind, Automaton, is_utf8_empty, raised}
+use Rattle.std.specs.Prelude.{◌≡◌, ℕ, ◌<◌, ◌⊎◌, ◌↔◌, Bool, IfSome, MatchBool, Option, None, Some}
+use Rattle.nfa_paths.specs.Common.{IsBoundary, HalfFound, Search, is_anchored, MatchKind, Automaton, IsHalfAnswer, is_utf8_empty, raised}
 use Rattle.nfa_determinize.specs.Configurations.{scan_half}
 
 -- there is no match, or it ends on a boundary
 abbrev pub IsWholeHalf : Search → Option HalfFound → Type 0
-IsWholeHalf x None = ⊤
-IsWholeHalf x (Some half) = IsBoundary x.haystack half.offset
+IsWholeHalf x found = IfSome found (λ half. IsBoundary x.haystack half.offset)
 
 module _ (nfa : Automaton) (kind : MatchKind) (earliest : Bool) where
   -- the steps find a match that ends inside a codepoint
@@ -34,3 +33,9 @@ module _ (nfa : Automaton) (kind : MatchKind) (earliest : Bool) where
       MatchBool (is_utf8_empty nfa)
       (MatchBool (is_anchored x.anchored) (IsKeptHalf x found) (IsRestartedHalf x found))
       (scan_half nfa x kind earliest ≡ found)
+
+-- the half match of a search is what the steps find, and no other
+abbrev pub StepsFindTheHalf : Type 0
+StepsFindTheHalf =
+    (nfa : Automaton) (x : Search) (kind : MatchKind) (earliest : Bool) (found : Option HalfFound)
+    → IsHalfAnswer nfa kind earliest x found ↔ IsStepsHalf nfa kind earliest x found

@@ -17,6 +17,7 @@ use thompson_nfa::{NFA, State, look_matches};
 /// in order of priority.
 ///
 /// The caller must ensure that each state is one of the NFA's. The error is that an allocation failed.
+#[tactic(auto, using(crate::proofs::ClosureLemmas::closure_ends))]
 pub fn closure(
     alloc: Global,
     nfa: &NFA,
@@ -149,6 +150,7 @@ fn pattern_of(state: &State) -> Option<PatternID>
 }
 
 /// The pattern of the first `Match`.
+#[tactic(auto, using(crate::proofs::StepLemmas::first_steps))]
 fn first_pattern(nfa: &NFA, states: &[StateID]) -> Option<PatternID>
     requires { All (λ s. s < length nfa.now.states) states.now }
     ensures { option_map number_of result ≡ first_pattern nfa.now states.now }
@@ -190,6 +192,7 @@ pub fn kept<'s>(nfa: &NFA, kind: MatchKind, states: &'s [StateID]) -> &'s [State
 }
 
 /// How many states are before the first `Match`.
+#[tactic(auto, using(crate::proofs::StepLemmas::before_steps))]
 fn count_before_match(nfa: &NFA, states: &[StateID]) -> usize
     requires { All (λ s. s < length nfa.now.states) states.now }
     ensures within { result ≤ length states.now }

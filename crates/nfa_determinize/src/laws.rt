@@ -1,11 +1,14 @@
 //! Laws of the steps. Each function is empty: its contract is the theorem.
+ghost use Rattle.nfa_determinize.specs.Closures.{ClosureHasEachOnce, ClosureIsShort, ClosureReadsAssertions};
+ghost use Rattle.nfa_determinize.specs.Closures.{ClosureRests, FirstOfEachHasEachOnce, RepeatAddsNothing};
+ghost use Rattle.nfa_determinize.specs.Configurations.{AdvancesWithEachOnce, DeadStays, FoundStays};
+ghost use Rattle.nfa_determinize.specs.Configurations.{StepsFindTheAnswer};
 ghost use Rattle.nfa_determinize.specs.Idles.{IdlePassesStarts};
-ghost use Rattle.nfa_determinize.specs.Laws.{AdvancesWithEachOnce, ClosureHasEachOnce, ClosureIsShort};
-ghost use Rattle.nfa_determinize.specs.Laws.{ClosureReadsAssertions, ClosureRests, DeadStays, FirstOfEachHasEachOnce};
-ghost use Rattle.nfa_determinize.specs.Laws.{FoundStays, RepeatAddsNothing, StepsFindTheAnswer, StepsFindTheHalf};
+ghost use Rattle.nfa_determinize.specs.Searches.{StepsFindTheHalf};
 
 /// The steps over all positions of the span find the pattern and the end of the scan's answer, of each match kind and
 /// `earliest`.
+#[tactic(auto, using(crate::proofs::AnswerLemmas::steps_find))]
 pub fn steps_find_the_answer()
     ensures { StepsFindTheAnswer }
 {}
@@ -16,17 +19,20 @@ pub fn steps_find_the_half()
 {}
 
 /// A configuration without states and starts stays as it is, so a scan may end there.
+#[tactic(auto, using(crate::proofs::SettledLemmas::stays_settled))]
 pub fn dead_stays()
     ensures { DeadStays }
 {}
 
 /// A scan may end if its configuration is dead, or if it is `earliest` and found a match: what was found stays.
+#[tactic(auto, using(crate::proofs::SettledLemmas::stays_settled))]
 pub fn found_stays()
     ensures { FoundStays }
 {}
 
 /// The closure of a list does not change if a state that the list has already is dropped further right. So a scan may
 /// keep each state once, where it is first: the next configuration is the same.
+#[tactic(auto, using(crate::proofs::RepeatLemmas::repeats))]
 pub fn repeats_add_nothing()
     ensures repeat { RepeatAddsNothing }
     ensures once { FirstOfEachHasEachOnce }
@@ -35,6 +41,7 @@ pub fn repeats_add_nothing()
 
 /// A closure has each state once, no more of them than the NFA, and only byte states, Fails and Matches. So an NFA has
 /// finitely many closures.
+#[tactic(auto, using(crate::proofs::ExploreLemmas::finite_closures))]
 pub fn closures_are_finite()
     ensures once { ClosureHasEachOnce }
     ensures short { ClosureIsShort }
@@ -48,6 +55,7 @@ pub fn closures_read_assertions()
 
 /// If nothing was found before a position and the closure of its states is empty, no accepting path of the search
 /// starts before it, for each match kind and `earliest`. `nfa_engines::laws::starts_may_be_passed` says what follows.
+#[tactic(auto, using(crate::proofs::IdleLemmas::idle_positions))]
 pub fn idle_passes_starts()
     ensures { IdlePassesStarts }
 {}

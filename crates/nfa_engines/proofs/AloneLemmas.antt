@@ -1,8 +1,5 @@
 -- A search that is anchored to a pattern is the search of only this pattern.
-use Rattle.std.proofs.Common.{◌≡◌, ℕ, List, [], refl, sym, ap, nat_lt, if◌then◌else◌, slice_get, Option, Some, option_and_then}
-use Rattle.std.specs.Option.{option_map_or}
-use Rattle.nfa_paths.specs.Common.{number_of, node_at, pairs_from, path_pattern, Pair, Search, PatternID, Automaton}
-use Rattle.regex_search_core.specs.declared.search.Anchored.TheVariants.{Pattern, Yes}
+use Rattle.nfa_paths.proofs.Common.{◌≡◌, ℕ, List, [], refl, sym, ap, nat_lt, if◌then◌else◌, slice_get, Option, Some, option_and_then, option_map_or, number_of, node_at, pairs_from, path_pattern, Pair, Search, PatternID, Automaton, Pattern, Yes}
 use Rattle.nfa_paths.proofs.SameScanLemmas.{ExploresSame}
 use Rattle.nfa_engines.specs.PatternLaws.{started_at}
 

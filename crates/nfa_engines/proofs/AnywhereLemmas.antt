@@ -1,9 +1,7 @@
 -- The answer of the anchored search at a first start is that of the search, also if it has to end on a boundary.
-use Rattle.std.proofs.Common.{◌≡◌, ℕ, ◌&&◌, Bool, true, false, List, refl, Option, Some}
-use Rattle.nfa_paths.specs.Common.{Found, Search, Automaton, Pair, IsAnswer, IsFindAnswer, IsScanAnswer, is_utf8_empty, node_at}
-use Rattle.regex_search_core.specs.declared.search.MatchKind.TheVariants.{LeftmostFirst}
+use Rattle.nfa_paths.proofs.Common.{arith, ◌≡◌, ℕ, false, List, refl, Option, Some, Search, Automaton, Pair, IsAnswer, IsScanAnswer, is_utf8_empty, node_at, LeftmostFirst}
 use Rattle.nfa_paths.proofs.OneScanLemmas.{first-scan, has-path, last-scan, match-by}
-use Rattle.nfa_engines.specs.StartLaws.{IsFirstStart, IsUnbound, StartsAnywhere, anchored_at}
+use Rattle.nfa_engines.specs.StartLaws.{FirstStartAnswers, FirstStartMatches, IsFirstStart, IsUnbound, StartsAnywhere, anchored_at}
 use Rattle.nfa_engines.proofs.StartAnswerLemmas.{first-answers}
 
 -- the NFA without its UTF-8 mode, with the same paths
@@ -11,18 +9,10 @@ abbrev of-bytes : Automaton → Automaton
 of-bytes nfa = record nfa { utf8 = false }
 
 never-whole : (nfa : Automaton) → is_utf8_empty (of-bytes nfa) ≡ false
-never-whole nfa = of nfa.has_empty
-  where
-    of : (b : Bool) → (b && false) ≡ false
-    of true = refl
-    of false = refl
+never-whole nfa = grind arith
 
 free-of-bytes : (nfa : Automaton) (x : Search) → StartsAnywhere nfa x → IsUnbound (of-bytes nfa) x
-free-of-bytes nfa x starts = record {
-  unanchored = starts.unanchored;
-  prefixed = starts.prefixed;
-  anywhere = never-whole nfa;
-}
+free-of-bytes nfa x starts = grind (arith, never-whole)
 
 first-of-bytes : (nfa : Automaton) (x : Search) (s : ℕ) → IsFirstStart nfa x s → IsFirstStart (of-bytes nfa) x s
 unfolding node_at
@@ -38,21 +28,23 @@ module _ (nfa : Automaton) (x : Search) (starts : StartsAnywhere nfa x) (s : ℕ
   scan-first p h =
       first-answers (of-bytes nfa) x (free-of-bytes nfa x starts) s (first-of-bytes nfa x s first) p h
 
-  -- it needs no restart
-  answer-anywhere : (pattern : ℕ) (slots : List (Option ℕ))
-      → IsAnswer nfa LeftmostFirst false (anchored_at x s) (Some pattern) slots
-      → IsAnswer nfa LeftmostFirst false x (Some pattern) slots
-  answer-anywhere pattern slots h =
-      let a = has-path nfa LeftmostFirst false (anchored_at x s) pattern slots h in
-      let k = last-scan nfa LeftmostFirst false (anchored_at x s) a.restarts a.path a.answers in
-      record {
-        restarts = 0;
-        path = Some a.path;
-        answers = first-scan nfa LeftmostFirst false x (Some a.path) (scan-first a.path (k.only refl)) k.whole;
-        pattern_is = a.pattern_is;
-        slots_are = a.slots_are;
-      }
+-- it needs no restart
+answer-anywhere : (nfa : Automaton) (x : Search) (s pattern : ℕ) (slots : List (Option ℕ)) → StartsAnywhere nfa x
+    → IsFirstStart nfa x s → IsAnswer nfa LeftmostFirst false (anchored_at x s) (Some pattern) slots
+    → IsAnswer nfa LeftmostFirst false x (Some pattern) slots
+answer-anywhere nfa x s pattern slots starts first h = grind (arith, has-path, last-scan, first-scan, scan-first)
 
-  pub match-anywhere : (m : Found) → IsFindAnswer nfa LeftmostFirst false (anchored_at x s) (Some m)
-      → IsFindAnswer nfa LeftmostFirst false x (Some m)
-  match-anywhere m = match-by refl answer-anywhere
+pub match-anywhere : FirstStartMatches StartsAnywhere LeftmostFirst false
+match-anywhere nfa x s m starts first =
+    match-by refl (λ pattern slots. answer-anywhere nfa x s pattern slots starts first)
+
+-- so it is if it may end anywhere
+
+starts-anywhere : (nfa : Automaton) (x : Search) → IsUnbound nfa x → StartsAnywhere nfa x
+starts-anywhere nfa x free = record { unanchored = free.unanchored; prefixed = free.prefixed }
+
+pub answer-first : FirstStartAnswers LeftmostFirst false
+answer-first nfa x s pattern slots free = answer-anywhere nfa x s pattern slots (starts-anywhere nfa x free)
+
+pub match-first : FirstStartMatches IsUnbound LeftmostFirst false
+match-first nfa x s m free = match-anywhere nfa x s m (starts-anywhere nfa x free)

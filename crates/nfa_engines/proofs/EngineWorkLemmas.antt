@@ -1,21 +1,15 @@
 -- What an iteration adds to the totals of a cache, where each search does the work that an engine's contract says.
-use Rattle.std.proofs.Common.{◌≡◌, ◌∙◌, ℕ, ◌+◌, ◌*◌, ◌≤◌, ◌⊎◌, Bool, List, length, refl, sym, ap, subst, Option, None, Some, Ok, Err, inl, inr, arith, not, ◌&&◌}
+use Rattle.nfa_paths.proofs.Common.{◌≡◌, ◌∙◌, ℕ, ◌+◌, ◌*◌, ◌≤◌, ◌⊎◌, Bool, List, length, ap, Option, None, Some, arith, not, ◌&&◌, Found, Search, is_anchored, Anchored, MatchKind, Span, Automaton, IsFindAnswer, IsWithinScans, IsWork, max_scans, span_len, total_degree, is_utf8_empty, IsBounded, max_scan_turns}
 use Rattle.std.proofs.Math.Nat.{mul-le-mul_left}
-use Rattle.nfa_paths.specs.Common.{Found, Search, is_anchored, Anchored, MatchKind, Span, Automaton, Pair, IsFindAnswer, IsSearchAnswer, IsWithinScans, IsWork, max_scans, span_len, total_degree, is_utf8_empty}
-use Rattle.nfa_paths.proofs.ExistenceLemmas.{search_answer-exists}
+use Rattle.nfa_paths.proofs.AnswerLemmas.{search_answer-unique}
 use Rattle.nfa_paths.proofs.InsideLemmas.{match-within}
-use Rattle.nfa_search_base.specs.WithCaptures.{Row, row_found, row_span}
-use Rattle.nfa_search_base.specs.CapturesLists.{AnswersRow}
-use Rattle.nfa_search_base.specs.Leaving.{Leaves, LeavesAtEnd, answers_to_end}
-use Rattle.nfa_search_base.specs.SameBut.{SameButStart}
-use Rattle.nfa_search_base.specs.Lists.{AnswersMatch}
-use Rattle.nfa_search_base.specs.IterStates.{Answer, LiesIn, fresh, answer_span, span_of}
+use Rattle.nfa_search_base.specs.Common.{Row, row_span, AnswersRow, Leaves, LeavesAtEnd, answers_to_end, SameButStart, AnswersMatch, Answer, LiesIn, fresh, answer_span, span_of}
 use Rattle.nfa_search_base.proofs.CapturesLemmas.{row-tells}
 use Rattle.nfa_search_base.proofs.IterStateLemmas.{IsOrdered}
 use Rattle.nfa_engines.specs.WorkLaws.{AddsAtMost, Totals, list_scan_limit}
 use Rattle.nfa_engines.proofs.IterationLemmas.{first-ends}
 use Rattle.nfa_engines.proofs.ReachLemmas.{Reaches, few-scans, match-known, match-reaches, one-scan, restarts_in}
-use Rattle.nfa_engines.proofs.WorkLemmas.{Adds, Costs, CostsOf, Led, adds-none, calls-within, few-found, found_count, found_count-to_end, is_of-fresh, led, list-within, turns_in}
+use Rattle.nfa_engines.proofs.WorkLemmas.{Adds, Costs, CostsOf, adds-none, calls-within, few-found, found_count, found_count-to_end, is_of-fresh, led, list-within, turns_in}
 
 module _ (nfa : Automaton) (kind : MatchKind) (earliest : Bool) where
   -- the match of a search lies there, if there is one
@@ -24,96 +18,56 @@ module _ (nfa : Automaton) (kind : MatchKind) (earliest : Bool) where
   Hit x (Some p) = (f : Found) × IsFindAnswer nfa kind earliest x (Some f) × (p ≡ span_of f)
 
   pub match-hit : (x : Search) (a : Answer Found) → AnswersMatch nfa kind earliest x a → Hit x (answer_span span_of a)
-  match-hit x (Ok (Some m)) h = (m, h, refl)
-  match-hit x (Ok None) h = tt
-  match-hit x (Err e) h = tt
+  match-hit x a h = grind arith
 
   pub row-hit : (x : Search) (a : Answer Row) → AnswersRow nfa kind earliest x a → Hit x (answer_span row_span a)
-  row-hit x (Ok (Some row)) h = (row_found row, row-tells nfa kind earliest x (Ok (Some row)) h, refl)
-  row-hit x (Ok None) h = tt
-  row-hit x (Err e) h = tt
+  row-hit x a h = grind (arith, row-tells)
 
   hit-lies : (x : Search) (reply_span : Option Span) → Hit x reply_span → LiesIn x reply_span × IsOrdered reply_span
   hit-lies x None h = (tt, λ p is. let never : None ≡ Some p = is in cc)
-  hit-lies x (Some p) h =
-      let k = match-within nfa kind earliest x h.0 h.1 in
-      subst (λ (q : Span). LiesIn x (Some q) × IsOrdered (Some q)) (sym h.2)
-      ((k.0, k.2), λ q is. let same : span_of h.0 ≡ q = cc in subst (λ (r : Span). r.start ≤ r.end) same k.1)
+  hit-lies x (Some p) h = grind (arith, match-within nfa kind earliest x h.0 h.1)
 
   -- one search did the work that is its own
   pub record Worked (x : Search) (old new : Totals) : Type 0 where
     pub count : ℕ
     pub turned : ℕ
-    pub restarts : ℕ
-    pub path : Option (List Pair)
-    pub answers : IsSearchAnswer nfa kind earliest x restarts path
-    pub few : count ≤ restarts + 1
-    pub limit : count ≤ max_scans nfa x
+    pub bounded : IsBounded nfa kind earliest x count turned
     pub scans : new.scans ≡ old.scans + count
     pub turns : new.turns ≡ old.turns + turned
-    pub bound : turned ≤ count * ((1 + total_degree nfa) * (span_len x + 1))
 
-  -- a search that answered
-  pub worked : (x : Search) (old new : Totals) (count turned : ℕ) → IsWork nfa kind earliest x count turned
-      → count ≤ max_scans nfa x → turned ≤ count * ((1 + total_degree nfa) * (span_len x + 1))
-      → new.scans ≡ old.scans + count → new.turns ≡ old.turns + turned → Worked x old new
-  worked x old new count turned work limit bound scans turns = record {
-    count = count;
-    turned = turned;
-    restarts = work.restarts;
-    path = work.path;
-    answers = work.answers;
-    few = let are = work.scans_are in omega (arith, are);
-    limit = limit;
-    scans = scans;
-    turns = turns;
-    bound = bound;
-  }
+-- a search that answered made no more scans than its answer takes
+pub work-within : {nfa : Automaton} {kind : MatchKind} {earliest : Bool} {x : Search} {count turned : ℕ}
+    → IsWork nfa kind earliest x count turned → IsWithinScans nfa kind earliest x count
+work-within {nfa} {kind} {earliest} {x} work = grind (arith, search_answer-unique)
 
-  -- a search that was refused
-  pub worked-within : (x : Search) (old new : Totals) (count turned : ℕ) → IsWithinScans nfa kind earliest x count
-      → count ≤ max_scans nfa x → turned ≤ count * ((1 + total_degree nfa) * (span_len x + 1))
-      → new.scans ≡ old.scans + count → new.turns ≡ old.turns + turned → Worked x old new
-  worked-within x old new count turned within limit bound scans turns =
-      let answer = search_answer-exists nfa kind earliest x in
-      record {
-        count = count;
-        turned = turned;
-        restarts = answer.0;
-        path = answer.1;
-        answers = answer.2;
-        few = within answer.0 answer.1 answer.2;
-        limit = limit;
-        scans = scans;
-        turns = turns;
-        bound = bound;
-      }
+-- by these bounds, and by what the totals rise
+pub worked : {nfa : Automaton} {kind : MatchKind} {earliest : Bool} {x : Search} {old new : Totals} {count turned : ℕ}
+    → IsWithinScans nfa kind earliest x count → count ≤ max_scans nfa x → turned ≤ count * max_scan_turns nfa x
+    → new.scans ≡ old.scans + count → new.turns ≡ old.turns + turned → Worked nfa kind earliest x old new
+worked {count = count} {turned} within limit bound scans turns = grind arith
 
+module _ (nfa : Automaton) (kind : MatchKind) (earliest : Bool) where
   module _ (x y : Search) (like : SameButStart x y) (from : x.start ≤ y.start) (reply_span : Option Span)
-      (hit : Hit y reply_span) (old new : Totals) where
+      (hit : Hit nfa kind earliest y reply_span) (old new : Totals) where
     abbrev Cost : Type 0
     Cost = (count : ℕ) × Costs (restarts_in nfa x) y reply_span count × Adds (turns_in nfa x) old new count
 
     -- what a search costs
-    worked-cost : Worked y old new → Cost
+    worked-cost : Worked nfa kind earliest y old new → Cost
     worked-cost w = (
       w.count,
       record {
-        starts = few-scans nfa kind earliest y w.restarts w.path w.answers w.count w.few;
-        once = λ never. one-scan nfa y w.count (same ∙ never) w.limit;
+        starts = few-scans nfa kind earliest y w.count w.bounded.within;
+        once = λ never. one-scan nfa y w.count (same ∙ never) w.bounded.scans;
         reach = reach reply_span hit;
       },
       record {
         scans = w.scans;
         turns =
-            let turns = w.turns in
-            let bound = w.bound in
             let end = like.end in
             let short : span_len y + 1 ≤ span_len x + 1 = omega (arith, from, end) in
             let each = mul-le-mul_left (1 + total_degree nfa) short in
-            let all : w.count * ((1 + total_degree nfa) * (span_len y + 1)) ≤ w.count * turns_in nfa x =
-            mul-le-mul_left w.count each in
-            by-more new.turns old.turns w.turned _ _ turns bound all;
+            by-more new.turns old.turns w.turned _ _ w.turns w.bounded.turns (mul-le-mul_left w.count each);
       },
     )
       where
@@ -123,28 +77,24 @@ module _ (nfa : Automaton) (kind : MatchKind) (earliest : Bool) where
         by-more : (a b m n k : ℕ) → a ≡ b + m → m ≤ n → n ≤ k → a ≤ b + k
         by-more a b m n k is h more = omega arith
 
-        reach : (o : Option Span) → Hit y o → Reaches y w.count o
+        reach : (o : Option Span) → Hit nfa kind earliest y o → Reaches y w.count o
         reach None h = tt
-        reach (Some p) h =
-            subst (λ (q : Span). Reaches y w.count (Some q)) (sym h.2)
-            (match-reaches nfa kind earliest y w.restarts w.path w.answers w.count w.few h.0 h.1)
+        reach (Some p) h = rw h.2 (match-reaches nfa kind earliest y w.count w.bounded.within h.0 h.1)
 
     -- and what it costs where the answer was known
     known-cost : new ≡ old → Cost
     known-cost is = (
       0,
       record { starts = omega arith; once = λ never. omega arith; reach = reach reply_span hit },
-      subst (λ (t : Totals). Adds (turns_in nfa x) old t 0) (sym is) (adds-none (turns_in nfa x) old),
+      rw is (adds-none (turns_in nfa x) old),
     )
       where
-        reach : (o : Option Span) → Hit y o → Reaches y 0 o
+        reach : (o : Option Span) → Hit nfa kind earliest y o → Reaches y 0 o
         reach None h = tt
-        reach (Some p) h =
-            subst (λ (q : Span). Reaches y 0 (Some q)) (sym h.2) (match-known nfa kind earliest y h.0 h.1)
+        reach (Some p) h = rw h.2 (match-known nfa kind earliest y h.0 h.1)
 
-    cost-of : Worked y old new ⊎ (new ≡ old) → Cost
-    cost-of (inl w) = worked-cost w
-    cost-of (inr is) = known-cost is
+    cost-of : Worked nfa kind earliest y old new ⊎ (new ≡ old) → Cost
+    cost-of = grind (arith, worked-cost, known-cost)
 
 -- Searches of an NFA that each do their work, or none. What they ask has `totals`, is `Good`, and stays so.
 pub record WorkOf {S X : Type 0} (span : X → Span) (asks : S → Search → Answer X → S → Type 0) : Type 1 where
@@ -176,9 +126,7 @@ module _ {S X : Type 0} {span : X → Span} {asks : S → Search → Answer X �
       → AddsAtMost (list_scan_limit work.nfa x (length ms)) work.nfa x (work.totals s) (work.totals t)
   list-adds ms s t good left =
       let all = led costs (fresh x) s (answers_to_end ms) t (is_of-fresh x) good left.steps in
-      list-within work.nfa x (length ms) (work.totals s) (work.totals t)
-      (subst (λ (n : ℕ). Led (turns_in work.nfa x) (restarts_in work.nfa x) (fresh x) n (work.totals s)
-      (work.totals t)) (found_count-to_end ms) all)
+      list-within work.nfa x (length ms) (work.totals s) (work.totals t) (rw (found_count-to_end ms) at all)
 
   -- and one that stops anywhere
   pub calls-add : (s t : S) → work.Good s → Leaves span asks x s t

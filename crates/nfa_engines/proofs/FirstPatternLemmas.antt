@@ -1,9 +1,5 @@
 -- If the anchored start tries the patterns in order, the first pattern that has an accepting path answers.
-use Rattle.std.proofs.Common.{◌≡◌, ◌∙◌, ℕ, zero, suc, ◌≤◌, ◌<◌, ◌⊎◌, inl, inr, true, false, List, [], ◌∷◌, map, refl, sym, ap, subst, arith, slice_get, None, Some, is_some}
-use Rattle.std.proofs.lemmas.Bool.{cases_eq}
-use Rattle.nfa_paths.specs.Common.{Search, Anchored, Automaton, Node, Pair, In, Earlier, HeadIs, NoRepeats, Linked, EndsWith, ComesBefore, PathTo, capture, edges, edges_of, node_at, pattern_of, slot_of, starts, is_match, IsMatch}
-use Rattle.regex_search_core.specs.declared.search.Anchored.TheVariants.{Yes}
-use Rattle.thompson_nfa.specs.Automaton.Node.{Union, BinaryUnion, Capture, Match}
+use Rattle.nfa_paths.proofs.Common.{◌≡◌, ◌∙◌, ℕ, zero, suc, ◌≤◌, ◌<◌, ◌⊎◌, inl, inr, false, List, [], ◌∷◌, map, refl, sym, ap, arith, slice_get, None, Some, is_some, cases_eq, Search, Automaton, Node, Pair, In, Earlier, HeadIs, NoRepeats, Linked, EndsWith, ComesBefore, PathTo, capture, edges, edges_of, node_at, pattern_of, slot_of, starts, is_match, IsMatch, Yes}
 use Rattle.nfa_engines.proofs.FirstStartLemmas.{anchored-start, start-anchored, StartsAt}
 use Rattle.nfa_engines.specs.PatternLaws.{alternates_of, started_at, IsUnionOfPatterns}
 use Rattle.nfa_paths.proofs.OptionLemmas.{same_some}
@@ -14,8 +10,7 @@ use Rattle.nfa_paths.proofs.PathToLemmas.{EndsWith-cons}
 -- a list with a head, after a pair that leads to it, is linked
 pub put-linked : (edges : Pair → List Pair) (v w : Pair) (p : List Pair) → In w (edges v) → HeadIs w p → Linked edges p
     → Linked edges (v ∷ p)
-put-linked edges v w [] edge head linked = tt
-put-linked edges v w (a ∷ p) edge head linked = (subst (λ z. In z (edges v)) (sym head) edge, linked)
+put-linked = grind arith
 
 -- what is in a path has a path of its own
 record Begins (edges : Pair → List Pair) (s v : Pair) (p : List Pair) : Type 0 where
@@ -65,8 +60,7 @@ module _ (b : ℕ) where
   before-cons : (e state k : ℕ) (es : List ℕ) → (e ≡ state → ⊥)
       → ((j : ℕ) → j < k → slice_get es j ≡ Some state → ⊥)
       → (j : ℕ) → j < suc k → slice_get (e ∷ es) j ≡ Some state → ⊥
-  before-cons e state k es apart before zero less at = apart (same_some e state at)
-  before-cons e state k es apart before (suc j) less at = before j (omega arith) at
+  before-cons = grind (arith, same_some)
 
   place : (states : List ℕ) (u : Pair) → In u (at_position states) → Place u states
   place [] u i = absurd i
@@ -96,7 +90,7 @@ module _ (b : ℕ) where
   -- a state of the list is among its pairs
   among : (states : List ℕ) (k state : ℕ) → slice_get states k ≡ Some state → In (state, b) (at_position states)
   among [] k state at = cc
-  among (e ∷ es) zero state at = inl (ap (λ (z : ℕ). (z, b)) (sym (same_some e state at)))
+  among (e ∷ es) zero state at = grind arith
   among (e ∷ es) (suc k) state at = inr (among es k state at)
 
   -- a state whose first place is at k or after it, and another one, in order
@@ -104,28 +98,18 @@ module _ (b : ℕ) where
       → ((j : ℕ) → j < k → slice_get states j ≡ Some other → ⊥)
       → Earlier (at_position states) (state, b) (other, b)
   earlier [] k state other at apart before = cc
-  earlier (e ∷ es) zero state other at apart before =
-      let is : e ≡ state = same_some e state at in (
-        λ same. apart (sym is ∙ ap (λ (z : Pair). z.0) same),
-        inl (ap (λ (z : ℕ). (z, b)) is),
-      )
-  earlier (e ∷ es) (suc k) state other at apart before = (
-    λ same. before 0 (omega arith) (ap Some (ap (λ (z : Pair). z.0) same)),
-    inr (earlier es k state other at apart (λ j less. before (suc j) (omega arith))),
-  )
+  earlier (e ∷ es) zero state other at apart before = grind arith
+  earlier (e ∷ es) (suc k) state other at apart before =
+      grind (arith, before 0, earlier es k state other at apart (λ j less. before (suc j) (omega arith)))
 
   -- and not the other way round
   pub not-earlier : (states : List ℕ) (j state other : ℕ) → slice_get states j ≡ Some other
       → ((i : ℕ) → i ≤ j → slice_get states i ≡ Some state → ⊥)
       → Earlier (at_position states) (state, b) (other, b) → ⊥
   not-earlier [] j state other at past h = h
-  not-earlier (e ∷ es) zero state other at past h =
-      h.0 (ap (λ (z : ℕ). (z, b)) (same_some e other at))
+  not-earlier (e ∷ es) zero state other at past h = grind arith
   not-earlier (e ∷ es) (suc j) state other at past h =
-      elim h.1 [
-        | inl here ↦ past 0 (omega arith) (ap Some (ap (λ (z : Pair). z.0) here))
-        | inr later ↦ not-earlier es j state other at (λ i less. past (suc i) (omega arith)) later
-      ]
+      grind (arith, past 0, not-earlier es j state other at (λ i less. past (suc i) (omega arith)))
 
 -- a union
 
@@ -136,165 +120,105 @@ never-none ps e = cc
 union-edges : (x : Search) (b : ℕ) (n : Node) (ps : List ℕ) → alternates_of n ≡ Some ps
     → edges_of x n b ≡ at_position b ps
 unfolding edges_of
-union-edges x b (Union ss) ps e = ap (at_position b) (same_some ss ps e)
-union-edges x b (BinaryUnion c d) ps e = ap (at_position b) (same_some (c ∷ d ∷ []) ps e)
-union-edges x b _ ps e = absurd (never-none ps e)
+union-edges x b _ ps e = grind arith
 
 -- it is not a Match
 union-plain : (n : Node) (ps : List ℕ) → alternates_of n ≡ Some ps → is_some (pattern_of n) ≡ false
-union-plain (Match pattern) ps e = absurd (never-none ps e)
-union-plain _ ps e = refl
+union-plain _ ps e = grind arith
 
 -- and writes nothing
 union-writes : (n : Node) (ps : List ℕ) → alternates_of n ≡ Some ps → slot_of n ≡ None
-union-writes (Capture next slot) ps e = absurd (never-none ps e)
-union-writes _ ps e = refl
+union-writes _ ps e = grind arith
 
 module _ (nfa : Automaton) (x : Search) (bound : x.anchored ≡ Yes) where
   -- the one start of an anchored search of an NFA
 
   pub start-there : (n : Automaton) (v : Pair) → In v (starts n x) → StartsAt n x x.start v
-  start-there n v i =
-      start-anchored n x x.start v (subst (λ (a : Anchored). In v (starts n (record x { anchored = a }))) bound i)
+  start-there n v i = grind (arith, start-anchored)
 
   pub there-start : (n : Automaton) (v : Pair) → v ≡ (n.anchored, x.start) → x.start ≤ x.end → In v (starts n x)
-  there-start n v e within =
-      subst (λ (a : Anchored). In v (starts n (record x { anchored = a }))) (sym bound)
-      (anchored-start n x x.start v e within)
+  there-start n v e within = grind (arith, anchored-start)
 
-  module _ (h : IsUnionOfPatterns nfa x) where
-    -- the anchored start
-    abbrev pub top : Pair
-    top = (nfa.anchored, x.start)
+-- an anchored search whose anchored start tries the patterns
+pub record IsTried (nfa : Automaton) (x : Search) : Type 0 where
+  pub bound : x.anchored ≡ Yes
+  pub union : IsUnionOfPatterns nfa x
 
-    pub top-edges : edges nfa x top ≡ at_position x.start nfa.patterns
-    top-edges = union-edges x x.start (node_at nfa nfa.anchored) nfa.patterns h.union
+module _ {nfa : Automaton} {x : Search} (u : IsTried nfa x) where
+  -- the anchored start
+  abbrev pub top : Pair
+  top = (nfa.anchored, x.start)
 
-    top-plain : is_match nfa top ≡ false
-    top-plain = union-plain (node_at nfa nfa.anchored) nfa.patterns h.union
+  pub top-edges : edges nfa x top ≡ at_position x.start nfa.patterns
+  top-edges = union-edges x x.start (node_at nfa nfa.anchored) nfa.patterns u.union.union
 
-    pub top-writes : capture nfa top ≡ None
-    top-writes = union-writes (node_at nfa nfa.anchored) nfa.patterns h.union
+  top-plain : is_match nfa top ≡ false
+  top-plain = union-plain (node_at nfa nfa.anchored) nfa.patterns u.union.union
 
-    -- an accepting path goes on by the start of a pattern
-    pub record GoesOn (m : Pair) (p : List Pair) : Type 0 where
-      pub k : ℕ
-      pub state : ℕ
-      pub at : slice_get nfa.patterns k ≡ Some state
-      pub before : (j : ℕ) → j < k → slice_get nfa.patterns j ≡ Some state → ⊥
-      pub rest : List Pair
-      pub is : p ≡ top ∷ rest
-      pub head : HeadIs (state, x.start) rest
-      pub path : PathTo (edges nfa x) (starts (started_at nfa state) x) m rest
+  pub top-writes : capture nfa top ≡ None
+  top-writes = union-writes (node_at nfa nfa.anchored) nfa.patterns u.union.union
 
-    not_match : (m : Pair) → m ≡ top → IsMatch nfa m → ⊥
-    not_match m e t =
-        let one : is_match nfa top ≡ true = subst (IsMatch nfa) e t in
-        let never : true ≡ false = sym one ∙ top-plain in cc
+  -- an accepting path goes on by the start of a pattern
+  pub record GoesOn (m : Pair) (p : List Pair) : Type 0 where
+    pub k : ℕ
+    pub state : ℕ
+    pub at : slice_get nfa.patterns k ≡ Some state
+    pub before : (j : ℕ) → j < k → slice_get nfa.patterns j ≡ Some state → ⊥
+    pub rest : List Pair
+    pub is : p ≡ top ∷ rest
+    pub head : HeadIs (state, x.start) rest
+    pub path : PathTo (edges nfa x) (starts (started_at nfa state) x) m rest
 
-    pub goes : (m : Pair) (p : List Pair) → PathTo (edges nfa x) (starts nfa x) m p → IsMatch nfa m → GoesOn m p
-    goes m p w t = of p w.head w.once w.linked w.ends
-      where
-        from : StartsAt nfa x x.start w.start
-        from = start-there nfa w.start w.among
+  not_match : (m : Pair) → m ≡ top → IsMatch nfa m → ⊥
+  not_match m e t = grind (arith, top-plain)
 
-        of : (p : List Pair) → HeadIs w.start p → NoRepeats p → Linked (edges nfa x) p → EndsWith m p → GoesOn m p
-        of [] head once linked ends = absurd head
-        of (v ∷ []) head once linked ends = absurd (not_match m (sym ends ∙ head ∙ from.is) t)
-        of (v ∷ (u ∷ r)) head once linked ends =
-            let first : v ≡ top = head ∙ from.is in
-            let edge : In u (at_position x.start nfa.patterns) =
-            subst (In u) top-edges (subst (λ z. In u (edges nfa x z)) first linked.0) in
-            let to = place x.start nfa.patterns u edge in
-            record {
-              k = to.k;
-              state = to.state;
-              at = to.at;
-              before = to.before;
-              rest = u ∷ r;
-              is = ap (λ (z : Pair). z ∷ (u ∷ r)) first;
-              head = to.is;
-              path = record {
-                start = u;
-                among = there-start (started_at nfa to.state) u to.is from.within;
-                head = refl;
-                once = once.1;
-                linked = linked.1;
-                ends = ends;
-              };
-            }
+  pub goes : (m : Pair) (p : List Pair) → PathTo (edges nfa x) (starts nfa x) m p → IsMatch nfa m → GoesOn m p
+  goes m p w t = grind (arith, start-there, not_match, place, top-edges, there-start)
 
-    -- a path of a pattern is the rest of one of the search
-    pub comes : (k state : ℕ) → slice_get nfa.patterns k ≡ Some state → (m : Pair) (q : List Pair)
-        → PathTo (edges nfa x) (starts (started_at nfa state) x) m q
-        → PathTo (edges nfa x) (starts nfa x) m (top ∷ q)
-    comes k state at m q w =
-        let from = start-there (started_at nfa state) w.start w.among in
-        record {
-          start = top;
-          among = there-start nfa top refl from.within;
-          head = refl;
-          once = (
-            λ i.
-                let r = begins (edges nfa x) w.start top q w.head w.once w.linked i in
-                h.apart k state x.start r.along at (record {
-                  start = w.start;
-                  among = w.among;
-                  head = r.head;
-                  once = r.once;
-                  linked = r.linked;
-                  ends = r.ends;
-                }),
-            w.once,
-          );
-          linked = put-linked (edges nfa x) top w.start q
-              (subst (λ z. In z (edges nfa x top)) (sym from.is)
-              (subst (In (state, x.start)) (sym top-edges) (among x.start nfa.patterns k state at)))
-              w.head w.linked;
-          ends = EndsWith-cons top m q w.ends;
-        }
+  -- a path of a pattern is the rest of one of the search
+  pub comes : (k state : ℕ) → slice_get nfa.patterns k ≡ Some state → (m : Pair) (q : List Pair)
+      → PathTo (edges nfa x) (starts (started_at nfa state) x) m q
+      → PathTo (edges nfa x) (starts nfa x) m (top ∷ q)
+  comes k state at m q w =
+      let from = start-there nfa x u.bound (started_at nfa state) w.start w.among in
+      record {
+        start = top;
+        among = there-start nfa x u.bound nfa top refl from.within;
+        head = refl;
+        once = (
+          λ i.
+              let r = begins (edges nfa x) w.start top q w.head w.once w.linked i in
+              u.union.apart k state x.start r.along at (record {
+                start = w.start;
+                among = w.among;
+                head = r.head;
+                once = r.once;
+                linked = r.linked;
+                ends = r.ends;
+              }),
+          w.once,
+        );
+        linked = put-linked (edges nfa x) top w.start q
+            (rw (from.is, top-edges) (among x.start nfa.patterns k state at)) w.head w.linked;
+        ends = EndsWith-cons top m q w.ends;
+      }
 
-    -- the head of a pattern's path
-    pub head-of : (state : ℕ) (m : Pair) (q : List Pair) → PathTo (edges nfa x) (starts (started_at nfa state) x) m q
-        → HeadIs (state, x.start) q
-    head-of state m q w =
-        subst (λ z. HeadIs z q) (start-there (started_at nfa state) w.start w.among).is w.head
+  -- the head of a pattern's path
+  pub head-of : (state : ℕ) (m : Pair) (q : List Pair) → PathTo (edges nfa x) (starts (started_at nfa state) x) m q
+      → HeadIs (state, x.start) q
+  head-of state m q w = grind (arith, start-there)
 
-    -- the order of two paths, from that of their rests
-    pub order-same : (s : Pair) (q r : List Pair) → HeadIs s q → HeadIs s r → (r ≡ q) ⊎ ComesBefore (edges nfa x) q r
-        → (top ∷ r ≡ top ∷ q) ⊎ ComesBefore (edges nfa x) (top ∷ q) (top ∷ r)
-    order-same s q r hq hr (inl same) = inl (ap (λ (p : List Pair). top ∷ p) same)
-    order-same s [] r hq hr (inr c) = absurd hq
-    order-same s (a ∷ q) [] hq hr (inr c) = absurd hr
-    order-same s (a ∷ q) (d ∷ r) hq hr (inr (inl less)) =
-        let one : a.1 ≡ s.1 = ap (λ (z : Pair). z.1) hq in
-        let two : d.1 ≡ s.1 = ap (λ (z : Pair). z.1) hr in
-        absurd (omega arith)
-    order-same s (a ∷ q) (d ∷ r) hq hr (inr (inr before)) = inr (inr (refl, inr before))
+  -- the order of two paths, from that of their rests
+  pub order-same : (s : Pair) (q r : List Pair) → HeadIs s q → HeadIs s r → (r ≡ q) ⊎ ComesBefore (edges nfa x) q r
+      → (top ∷ r ≡ top ∷ q) ⊎ ComesBefore (edges nfa x) (top ∷ q) (top ∷ r)
+  order-same = grind arith
 
-    pub order-apart : (s t : Pair) (q r : List Pair) → HeadIs s q → HeadIs t r → Earlier (edges nfa x top) s t
-        → ComesBefore (edges nfa x) (top ∷ q) (top ∷ r)
-    order-apart s t [] r hq hr e = absurd hq
-    order-apart s t (a ∷ q) [] hq hr e = absurd hr
-    order-apart s t (a ∷ q) (d ∷ r) hq hr e =
-        inr (
-          refl,
-          inl (subst (λ z. Earlier (edges nfa x top) a z) (sym hr)
-              (subst (λ z. Earlier (edges nfa x top) z t) (sym hq) e)),
-        )
+  pub order-apart : (s t : Pair) (q r : List Pair) → HeadIs s q → HeadIs t r → Earlier (edges nfa x top) s t
+      → ComesBefore (edges nfa x) (top ∷ q) (top ∷ r)
+  order-apart = grind arith
 
-    -- and back
-    pub order-back : (s t : Pair) (q r : List Pair) → HeadIs s q → HeadIs t r
-        → (top ∷ r ≡ top ∷ q) ⊎ ComesBefore (edges nfa x) (top ∷ q) (top ∷ r)
-        → (r ≡ q) ⊎ (Earlier (edges nfa x top) s t ⊎ ((s ≡ t) × ComesBefore (edges nfa x) q r))
-    order-back s t q r hq hr (inl same) = inl (same_tail same)
-      where
-        same_tail : top ∷ r ≡ top ∷ q → r ≡ q
-        same_tail e = cc
-    order-back s t q r hq hr (inr (inl less)) = absurd (omega arith)
-    order-back s t [] r hq hr (inr (inr after)) = absurd hq
-    order-back s t (a ∷ q) [] hq hr (inr (inr after)) = absurd hr
-    order-back s t (a ∷ q) (d ∷ r) hq hr (inr (inr (e, inl first))) =
-        inr (inl (subst (λ z. Earlier (edges nfa x top) s z) hr (subst (λ z. Earlier (edges nfa x top) z d) hq first)))
-    order-back s t (a ∷ q) (d ∷ r) hq hr (inr (inr (e, inr after))) =
-        inr (inr (sym hq ∙ after.0 ∙ hr, inr after))
+  -- and back
+  pub order-back : (s t : Pair) (q r : List Pair) → HeadIs s q → HeadIs t r
+      → (top ∷ r ≡ top ∷ q) ⊎ ComesBefore (edges nfa x) (top ∷ q) (top ∷ r)
+      → (r ≡ q) ⊎ (Earlier (edges nfa x top) s t ⊎ ((s ≡ t) × ComesBefore (edges nfa x) q r))
+  order-back = grind arith

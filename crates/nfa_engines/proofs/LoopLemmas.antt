@@ -1,8 +1,8 @@
 -- A loop keeps what each of its searches keeps.
-use Rattle.std.proofs.Common.{ℕ, ◌≡◌, ◌+◌, ◌∙◌, zero, suc, arith, refl, subst}
+use Rattle.std.proofs.Common.{ℕ, ◌≡◌, ◌+◌, zero, suc, arith, rules, subst}
 use Rattle.nfa_backtrack.specs.Backtrack.{HoldsNoMore}
 use Rattle.nfa_pikevm.specs.Engines.{SameCapacities}
-use Rattle.nfa_engines.specs.LoopLaws.{IsKeptByLoop, IsKeptByNone, IsKeptByTwo}
+use Rattle.nfa_engines.specs.WorkLaws.{IsKeptByLoop, IsKeptByNone, IsKeptByTwo}
 
 module _ {C : Type 0} (Keeps : C → C → Type 0) (none : IsKeptByNone Keeps) (two : IsKeptByTwo Keeps) where
   pub kept-by-loop : IsKeptByLoop Keeps
@@ -13,18 +13,13 @@ module _ {C : Type 0} (Keeps : C → C → Type 0) (none : IsKeptByNone Keeps) (
       (two (at 0) (at n) (at (n + 1)) (kept-by-loop n at (λ k less. each k (omega arith))) (each n (omega arith)))
 
 pub sizes-none : IsKeptByNone SameCapacities
-sizes-none c = record { states = refl; slots = refl; patterns = refl; frames = refl }
+sizes-none c = search rules
 
 pub sizes-two : IsKeptByTwo SameCapacities
-sizes-two a b c p q = record {
-  states = q.states ∙ p.states;
-  slots = q.slots ∙ p.slots;
-  patterns = q.patterns ∙ p.patterns;
-  frames = q.frames ∙ p.frames;
-}
+sizes-two a b c p q = search rules
 
 pub holds-none : (needed : ℕ) → IsKeptByNone (HoldsNoMore needed)
-holds-none needed c = record { frames = omega arith; slots_kept = omega arith; slots = omega arith }
+holds-none needed c = search rules
 
 pub holds-two : (needed : ℕ) → IsKeptByTwo (HoldsNoMore needed)
-holds-two needed a b c p q = record { frames = omega arith; slots_kept = omega arith; slots = omega arith }
+holds-two needed a b c p q = search rules

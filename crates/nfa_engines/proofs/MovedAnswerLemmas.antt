@@ -1,32 +1,17 @@
 -- If the accepting paths of one search are those of another, moved, so is its answer.
-use Rattle.std.proofs.Common.{◌≡◌, ◌∙◌, ℕ, ◌+◌, ◌*◌, ◌==◌, Bool, true, false, List, [], ◌∷◌, map, replicate, zero, suc, length, refl, sym, subst, ap, arith, nat_le, leb, if◌then◌else◌, Option, None, Some, option_map, option_and_then, slice_get}
-use Rattle.std.specs.List.{last_or, range_with_len}
-use Rattle.std.specs.Option.{option_or, option_map_or}
-use Rattle.std.proofs.lemmas.Bool.Decides.{nat_tests}
-use Rattle.std.proofs.lemmas.List.{length-map}
-use Rattle.std.proofs.lemmas.Option.{slice_get-map}
-use Rattle.nfa_paths.specs.Common.{Found, Search, offset_at, match_of, Span, MatchKind, Automaton, Pair, capture, edges, is_utf8_empty, node_at, path_pattern, pattern_of, slot_among, slot_row, starts, IsAnswer, IsMatch, IsFindAnswer, IsScanAnswer, IsSearchAnswer}
-use Rattle.regex_search_core.specs.declared.search.MatchKind.TheVariants.{All, LeftmostFirst}
+use Rattle.nfa_paths.proofs.Common.{◌≡◌, ◌∙◌, ℕ, ◌+◌, ◌*◌, Bool, false, List, [], ◌∷◌, map, replicate, zero, suc, length, refl, sym, subst, ap, arith, nat_le, if◌then◌else◌, Option, None, Some, option_map, option_and_then, last_or, range_with_len, option_or, nat_tests, length-map, slice_get-map, Found, Search, offset_at, match_of, Span, MatchKind, Automaton, Pair, is_utf8_empty, node_at, path_pattern, pattern_of, slot_among, slot_row, IsAnswer, IsFindAnswer}
 use Rattle.nfa_paths.proofs.OneScanLemmas.{given, gives, scan-of, search-of}
-use Rattle.nfa_engines.specs.SpanLaws.{moved_match, moved_slots}
-use Rattle.nfa_engines.proofs.MovedLemmas.{moved, moved_path, ArePathsMoved, first_path-moved, earliest_path-moved, last_path-moved, earliest_last_path-moved}
+use Rattle.nfa_engines.specs.Laws.{Tells}
+use Rattle.nfa_engines.specs.SpanLaws.{moved_found, moved_match, moved_slots}
+use Rattle.nfa_paths.proofs.SameScanLemmas.{explored}
+use Rattle.nfa_engines.proofs.MovedLemmas.{moved, moved_path, scan-moved, ArePathsMoved}
 
 -- the match at slots
 
 -- an offset, moved
 offset-moved : (k : ℕ) (slots : List (Option ℕ)) (i : ℕ)
     → offset_at (moved_slots k slots) i ≡ option_map (λ at. at + k) (offset_at slots i)
-offset-moved k slots i = rw (slice_get-map (option_map (λ (at : ℕ). at + k)) slots i) (of (slice_get slots i))
-  where
-    of : (o : Option (Option ℕ))
-        → option_and_then (λ offset. offset) (option_map (option_map (λ (at : ℕ). at + k)) o)
-        ≡ option_map (λ (at : ℕ). at + k) (option_and_then (λ offset. offset) o)
-    of None = refl
-    of (Some o) = refl
-
--- an order does not change if both sides move
-order-moved : (k a b : ℕ) → leb (a + k) (b + k) ≡ leb a b
-order-moved k a b = grind (arith, nat_tests)
+offset-moved k slots i = grind (arith, slice_get-map)
 
 -- the span from one offset to the next, if both are set and in order
 abbrev spans : Option ℕ → Option ℕ → Option Span
@@ -38,18 +23,10 @@ spans from to =
 abbrev found : ℕ → Option Span → Option Found
 found p o = option_map (λ (s : Span). record { pattern = p; start = s.start; end = s.end }) o
 
-span-moved : (k p a b : ℕ) (t : Bool)
-    → found p (if t then Some (record { start = a + k; end = b + k }) else None)
-    ≡ option_map (moved_match k) (found p (if t then Some (record { start = a; end = b }) else None))
-span-moved k p a b true = refl
-span-moved k p a b false = refl
-
 spans-moved : (k p : ℕ) (a b : Option ℕ)
     → found p (spans (option_map (λ at. at + k) a) (option_map (λ at. at + k) b))
     ≡ option_map (moved_match k) (found p (spans a b))
-spans-moved k p None b = refl
-spans-moved k p (Some a) None = refl
-spans-moved k p (Some a) (Some b) = rw (order-moved k a b) (span-moved k p a b (leb a b))
+spans-moved = grind (arith, nat_tests)
 
 -- the match of moved slots is the match of the slots, moved
 match-moved : (k : ℕ) (pattern : Option ℕ) (slots : List (Option ℕ))
@@ -62,18 +39,10 @@ match-moved k (Some p) slots =
 -- by no distance, slots and matches stay
 moved_slots-none : (slots : List (Option ℕ)) → moved_slots 0 slots ≡ slots
 moved_slots-none [] = refl
-moved_slots-none (o ∷ slots) = let e = of o in let f = moved_slots-none slots in λ i. e i ∷ f i
-  where
-    of : (o : Option ℕ) → option_map (λ (at : ℕ). at + 0) o ≡ o
-    of None = refl
-    of (Some at) = let e : at + 0 ≡ at = omega arith in ap Some e
+moved_slots-none (o ∷ slots) = grind (arith, moved_slots-none slots)
 
 moved_match-none : (found : Option Found) → option_map (moved_match 0) found ≡ found
-moved_match-none None = refl
-moved_match-none (Some m) =
-    let start : m.start + 0 ≡ m.start = omega arith in
-    let end : m.end + 0 ≡ m.end = omega arith in
-    λ i. Some (record { pattern = m.pattern; start = start i; end = end i })
+moved_match-none found = grind arith
 
 module _ (nfa : Automaton) (k : ℕ) where
   -- pattern and slots of a path that moves
@@ -87,23 +56,17 @@ module _ (nfa : Automaton) (k : ℕ) where
 
   pattern-moved : (r : Option (List Pair))
       → option_and_then (path_pattern nfa) (option_map (moved_path k) r) ≡ option_and_then (path_pattern nfa) r
-  pattern-moved None = refl
-  pattern-moved (Some p) = last-moved None p
+  pattern-moved r = grind (arith, last-moved)
 
   either : (a : Option ℕ) (t : Bool) (at : ℕ)
       → option_or (option_map (λ i. i + k) a) (if t then Some (at + k) else None)
       ≡ option_map (λ i. i + k) (option_or a (if t then Some at else None))
-  either None true at = refl
-  either None false at = refl
-  either (Some a) t at = refl
+  either = grind arith
 
   slot-moved : (p : List Pair) (slot : ℕ)
       → slot_among nfa (moved_path k p) slot ≡ option_map (λ at. at + k) (slot_among nfa p slot)
   slot-moved [] slot = refl
-  slot-moved (v ∷ p) slot =
-      ap (λ o. option_or o (if option_map_or (λ j. j == slot) (capture nfa v) false then Some (v.1 + k) else None))
-      (slot-moved p slot)
-      ∙ either (slot_among nfa p slot) (option_map_or (λ j. j == slot) (capture nfa v) false) v.1
+  slot-moved (v ∷ p) slot = grind (arith, slot-moved p slot)
 
   none-moved : (n : ℕ) → replicate n None ≡ moved_slots k (replicate n None)
   none-moved zero = refl
@@ -118,67 +81,58 @@ module _ (nfa : Automaton) (k : ℕ) where
       of : (slots : List ℕ)
           → map (slot_among nfa (moved_path k p)) slots ≡ moved_slots k (map (slot_among nfa p) slots)
       of [] = refl
-      of (i ∷ slots) = same (slot-moved p i) (of slots)
-        where
-          same : {a b : Option ℕ} {s t : List (Option ℕ)} → a ≡ b → s ≡ t → a ∷ s ≡ b ∷ t
-          same e f = λ i. e i ∷ f i
+      of (i ∷ slots) = grind (arith, slot-moved, of slots)
 
-  module _ (x y : Search)
-      (same : ArePathsMoved (edges nfa x) (edges nfa y) (starts nfa x) (starts nfa y) (IsMatch nfa) k) where
-    scan-moved : (kind : MatchKind) (earliest : Bool) (r : Option (List Pair)) → IsScanAnswer nfa x kind earliest r
-        → IsScanAnswer nfa y kind earliest (option_map (moved_path k) r)
-    scan-moved LeftmostFirst false =
-        first_path-moved (edges nfa x) (edges nfa y) (starts nfa x) (starts nfa y) (IsMatch nfa) k same
-    scan-moved LeftmostFirst true =
-        earliest_path-moved (edges nfa x) (edges nfa y) (starts nfa x) (starts nfa y) (IsMatch nfa) k same
-    scan-moved All false =
-        last_path-moved (edges nfa x) (edges nfa y) (starts nfa x) (starts nfa y) (IsMatch nfa) k same
-    scan-moved All true =
-        earliest_last_path-moved (edges nfa x) (edges nfa y) (starts nfa x) (starts nfa y) (IsMatch nfa) k same
+-- the paths of the first search to matches are those of the second, moved, and no match has to end on a boundary
+pub record IsMovedTo (nfa : Automaton) (k : ℕ) (x y : Search) : Type 0 where
+  pub paths : ArePathsMoved k (explored nfa x) (explored nfa y)
+  pub anywhere : is_utf8_empty nfa ≡ false
 
-    module _ (anywhere : is_utf8_empty nfa ≡ false) (kind : MatchKind) (earliest : Bool) where
-      search-moved : (restarts : ℕ) (r : Option (List Pair)) → IsSearchAnswer nfa kind earliest x restarts r
-          → IsSearchAnswer nfa kind earliest y 0 (option_map (moved_path k) r)
-      search-moved restarts r h =
-          search-of nfa kind earliest y anywhere (option_map (moved_path k) r)
-          (scan-moved kind earliest r (scan-of nfa kind earliest x anywhere restarts r h))
+module _ {nfa : Automaton} {k : ℕ} {x y : Search} (to : IsMovedTo nfa k x y) (kind : MatchKind) (earliest : Bool) where
+  -- pattern and slots
+  answer-moved : (pattern : Option ℕ) (slots : List (Option ℕ)) → IsAnswer nfa kind earliest x pattern slots
+      → IsAnswer nfa kind earliest y pattern (moved_slots k slots)
+  answer-moved pattern slots h = record {
+    restarts = 0;
+    path = option_map (moved_path k) h.path;
+    answers = search-of nfa kind earliest y to.anywhere (option_map (moved_path k) h.path)
+        (scan-moved nfa k x y to.paths kind earliest h.path
+        (scan-of nfa kind earliest x to.anywhere h.restarts h.path h.answers));
+    pattern_is = h.pattern_is ∙ sym (pattern-moved nfa k h.path);
+    slots_are = ap (moved_slots k) h.slots_are ∙ sym (row-moved nfa k (length slots) h.path)
+        ∙ ap (λ n. slot_row nfa n (option_map (moved_path k) h.path))
+        (sym (length-map slots (option_map (λ (at : ℕ). at + k))));
+  }
 
-      -- pattern and slots
-      pub answer-moved : (pattern : Option ℕ) (slots : List (Option ℕ)) → IsAnswer nfa kind earliest x pattern slots
-          → IsAnswer nfa kind earliest y pattern (moved_slots k slots)
-      answer-moved pattern slots h = record {
-        restarts = 0;
-        path = option_map (moved_path k) h.path;
-        answers = search-moved h.restarts h.path h.answers;
-        pattern_is = h.pattern_is ∙ sym (pattern-moved h.path);
-        slots_are = ap (moved_slots k) h.slots_are ∙ sym (row-moved (length slots) h.path)
-            ∙ ap (λ n. slot_row nfa n (option_map (moved_path k) h.path))
-            (sym (length-map slots (option_map (λ (at : ℕ). at + k))));
-      }
+  -- the match
+  match_answer-moved : (found : Option Found) → IsFindAnswer nfa kind earliest x found
+      → IsFindAnswer nfa kind earliest y (option_map (moved_match k) found)
+  match_answer-moved found h =
+      let g = gives nfa kind earliest x found h in
+      let long = length-map g.slots (option_map (λ (at : ℕ). at + k)) in
+      subst (IsFindAnswer nfa kind earliest y)
+      (match-moved k g.pattern g.slots ∙ ap (option_map (moved_match k)) (sym g.is))
+      (given nfa kind earliest y g.pattern (moved_slots k g.slots) (long ∙ g.count)
+      (answer-moved g.pattern g.slots g.answers))
 
-      -- the match
-      pub match_answer-moved : (found : Option Found) → IsFindAnswer nfa kind earliest x found
-          → IsFindAnswer nfa kind earliest y (option_map (moved_match k) found)
-      match_answer-moved found h =
-          let g = gives nfa kind earliest x found h in
-          let long = length-map g.slots (option_map (λ (at : ℕ). at + k)) in
-          subst (IsFindAnswer nfa kind earliest y)
-          (match-moved k g.pattern g.slots ∙ ap (option_map (moved_match k)) (sym g.is))
-          (given nfa kind earliest y g.pattern (moved_slots k g.slots) (long ∙ g.count)
-          (answer-moved g.pattern g.slots g.answers))
+-- what searches tell moves with their accepting paths, and stays if these move by no distance
+pub record IsMovable {A : Type 0} (Is : Tells A) (moved : ℕ → A → A) : Type 0 where
+  pub moves : (nfa : Automaton) (k : ℕ) (x y : Search) → IsMovedTo nfa k x y → (kind : MatchKind) (earliest : Bool)
+      (a : A) → Is nfa kind earliest x a → Is nfa kind earliest y (moved k a)
+  pub none : (a : A) → moved 0 a ≡ a
 
--- if they move by no distance, the answer stays
-module _ (nfa : Automaton) (x y : Search)
-    (same : ArePathsMoved (edges nfa x) (edges nfa y) (starts nfa x) (starts nfa y) (IsMatch nfa) 0)
-    (anywhere : is_utf8_empty nfa ≡ false) (kind : MatchKind) (earliest : Bool) where
-  pub answer-stays : (pattern : Option ℕ) (slots : List (Option ℕ)) → IsAnswer nfa kind earliest x pattern slots
-      → IsAnswer nfa kind earliest y pattern slots
-  answer-stays pattern slots h =
-      subst (IsAnswer nfa kind earliest y pattern) (moved_slots-none slots)
-      (answer-moved nfa 0 x y same anywhere kind earliest pattern slots h)
+pub slots-movable : (pattern : Option ℕ)
+    → IsMovable (λ nfa kind earliest x. IsAnswer nfa kind earliest x pattern) moved_slots
+slots-movable pattern = record {
+  moves = λ nfa k x y to kind earliest. answer-moved to kind earliest pattern;
+  none = moved_slots-none;
+}
 
-  pub match-stays : (found : Option Found) → IsFindAnswer nfa kind earliest x found
-      → IsFindAnswer nfa kind earliest y found
-  match-stays found h =
-      subst (IsFindAnswer nfa kind earliest y) (moved_match-none found)
-      (match_answer-moved nfa 0 x y same anywhere kind earliest found h)
+pub match-movable : IsMovable IsFindAnswer moved_found
+match-movable = record { moves = λ nfa k x y to. match_answer-moved to; none = moved_match-none }
+
+pub stays : {A : Type 0} {Is : Tells A} {moved : ℕ → A → A} → IsMovable Is moved → (nfa : Automaton) (x y : Search)
+    → IsMovedTo nfa 0 x y → (kind : MatchKind) (earliest : Bool) (a : A) → Is nfa kind earliest x a
+    → Is nfa kind earliest y a
+stays {Is = Is} movable nfa x y to kind earliest a h =
+    subst (Is nfa kind earliest y) (movable.none a) (movable.moves nfa 0 x y to kind earliest a h)

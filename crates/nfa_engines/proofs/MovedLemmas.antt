@@ -1,7 +1,8 @@
--- Two graphs whose paths to wanted pairs are the same, but for a distance, have the same answers of each kind.
-use Rattle.std.proofs.Common.{◌≡◌, ℕ, ◌+◌, ◌≤◌, ◌↔◌, ◌∙◌, inl, inr, List, [], ◌∷◌, map, refl, sym, ap, subst, arith, Option, None, Some, option_map}
-use Rattle.nfa_paths.specs.Common.{Pair, ComesBefore, WantedAt, PathTo, NoPath, IsFirstTo, IsEnd, IsLeastEnd, IsGreatestEnd, IsLastOfFirsts, IsFirstPath, IsEarliestPath, IsLastPath, IsEarliestLastPath}
+-- Two graphs whose paths to matches are the same, but for a distance, have the same answers of each kind.
+use Rattle.nfa_paths.proofs.Common.{◌≡◌, ℕ, ◌+◌, ◌↔◌, ◌∙◌, inl, inr, Bool, true, false, List, [], ◌∷◌, map, refl, ap, subst, arith, Option, None, Some, option_map, Automaton, MatchKind, Search, Pair, ComesBefore, WantedAt, PathTo, NoPath, Passes, IsFirstTo, IsEnd, IsLeastEnd, IsGreatestEnd, IsLastOfFirsts, IsScanAnswer, LeftmostFirst}
+use Rattle.regex_search_core.specs.declared.search.MatchKind.TheVariants.{All}
 use Rattle.nfa_paths.proofs.PathToLemmas.{PathTo-along}
+use Rattle.nfa_paths.proofs.SameScanLemmas.{Explored, explored}
 
 -- the pair, this many positions to the right
 abbrev pub moved : ℕ → Pair → Pair
@@ -13,203 +14,134 @@ moved_path k p = map (moved k) p
 
 -- two pairs that move to one are one
 pub moved-injective : (k : ℕ) (v w : Pair) → moved k v ≡ moved k w → v ≡ w
-moved-injective k v w e =
-    let state : v.0 ≡ w.0 = ap (λ (z : Pair). z.0) e in
-    let shifted : v.1 + k ≡ w.1 + k = ap (λ (z : Pair). z.1) e in
-    let at : v.1 ≡ w.1 = omega arith in
-    λ i. (state i, at i)
+moved-injective k v w e = grind arith
 
 -- and so two paths
 pub moved_path-injective : (k : ℕ) (p q : List Pair) → moved_path k p ≡ moved_path k q → p ≡ q
 moved_path-injective k [] [] e = refl
 moved_path-injective k [] (b ∷ q) e = cc
 moved_path-injective k (a ∷ p) [] e = cc
-moved_path-injective k (a ∷ p) (b ∷ q) e =
-    let head : moved k a ≡ moved k b = cc in
-    let tail : moved_path k p ≡ moved_path k q = cc in
-    let one = moved-injective k a b head in
-    let rest = moved_path-injective k p q tail in
-    λ i. one i ∷ rest i
+moved_path-injective k (a ∷ p) (b ∷ q) e = grind (arith, moved-injective, moved_path-injective k p q)
 
--- by no distance each path moves to itself
-pub moved_path-none : (p : List Pair) → moved_path 0 p ≡ p
-moved_path-none [] = refl
-moved_path-none (v ∷ p) =
-    let at : v.1 + 0 ≡ v.1 = omega arith in
-    let rest = moved_path-none p in
-    λ i. (v.0, at i) ∷ rest i
-
-module _ (edges edges_to : Pair → List Pair) (starts starts_to : List Pair) (Wanted : Pair → Type 0) (k : ℕ) where
-  -- a path of the first graph that moves to the one of the second
+module _ (k : ℕ) (g h : Explored) where
+  -- a path of the first graph to a match that moves to the one of the second
   pub record IsMoved (n : Pair) (q : List Pair) : Type 0 where
     pub end : Pair
     pub along : List Pair
-    pub path : PathTo edges starts end along
-    pub wanted : Wanted end
+    pub path : PathTo g.edges g.starts end along
+    pub matches : Passes g.is_match end
     pub end_is : n ≡ moved k end
     pub along_is : q ≡ moved_path k along
 
-  -- the paths to wanted pairs of the second graph are those of the first, moved, in the same order
+  -- the paths to matches of the second graph are those of the first, moved, in the same order
   pub record ArePathsMoved : Type 0 where
-    pub to : (m : Pair) (p : List Pair) → PathTo edges starts m p → Wanted m
-        → PathTo edges_to starts_to (moved k m) (moved_path k p)
-    pub back : (n : Pair) (q : List Pair) → PathTo edges_to starts_to n q → Wanted n → IsMoved n q
-    pub order : (m n : Pair) (p q : List Pair) → PathTo edges starts m p → PathTo edges starts n q
-        → ComesBefore edges p q ↔ ComesBefore edges_to (moved_path k p) (moved_path k q)
-    pub stays : (m : Pair) → Wanted m ↔ Wanted (moved k m)
+    pub to : (m : Pair) (p : List Pair) → PathTo g.edges g.starts m p → Passes g.is_match m
+        → PathTo h.edges h.starts (moved k m) (moved_path k p)
+    pub back : (n : Pair) (q : List Pair) → PathTo h.edges h.starts n q → Passes h.is_match n → IsMoved n q
+    pub order : (m n : Pair) (p q : List Pair) → PathTo g.edges g.starts m p → PathTo g.edges g.starts n q
+        → ComesBefore g.edges p q ↔ ComesBefore h.edges (moved_path k p) (moved_path k q)
+    pub stays : (m : Pair) → Passes g.is_match m ↔ Passes h.is_match (moved k m)
 
-  module _ (same : ArePathsMoved) where
-    -- of wanted pairs, some of the first graph and the same of the second
-    module _ (P Q : Pair → Type 0) (to : (m : Pair) → P m → Q (moved k m)) (back : (m : Pair) → Q (moved k m) → P m)
-        (wanted : (m : Pair) → P m → Wanted m) (wanted_to : (n : Pair) → Q n → Wanted n) where
-      none-moved : NoPath edges starts P → NoPath edges_to starts_to Q
-      none-moved h = λ n q w t.
-          let b = same.back n q w (wanted_to n t) in
-          h b.end b.along b.path (back b.end (subst Q b.end_is t))
+  -- some matches of the first graph, and where they move to
+  record AreSetsMoved (P Q : Pair → Type 0) : Type 0 where
+    to : (m : Pair) → P m → Q (moved k m)
+    back : (m : Pair) → Q (moved k m) → P m
+    matches : (m : Pair) → P m → Passes g.is_match m
+    matches_to : (n : Pair) → Q n → Passes h.is_match n
 
-      first-moved : (p : List Pair) → IsFirstTo edges starts P p → IsFirstTo edges_to starts_to Q (moved_path k p)
-      first-moved p h = record {
-        end = moved k h.end;
-        path = same.to h.end p h.path (wanted h.end h.wanted);
-        wanted = to h.end h.wanted;
-        first = λ n q w t.
-            let b = same.back n q w (wanted_to n t) in
-            elim (h.first b.end b.along b.path (back b.end (subst Q b.end_is t))) [
-              | inl e ↦ inl (b.along_is ∙ ap (moved_path k) e)
-              | inr c ↦ inr (subst (λ z. ComesBefore edges_to (moved_path k p) z) (sym b.along_is)
-                  ((same.order h.end b.end p b.along h.path b.path).0 c))
-            ];
-      }
+module _ {k : ℕ} {g h : Explored} (same : ArePathsMoved k g h) where
+  module _ {P Q : Pair → Type 0} (sets : AreSetsMoved k g h P Q) where
+    none-moved : NoPath g.edges g.starts P → NoPath h.edges h.starts Q
+    none-moved none = λ n q w t.
+        let b = same.back n q w (sets.matches_to n t) in
+        none b.end b.along b.path (sets.back b.end (subst Q b.end_is t))
 
-      first-back : (m : Pair) (p : List Pair) → PathTo edges starts m p → P m
-          → IsFirstTo edges_to starts_to Q (moved_path k p) → IsFirstTo edges starts P p
-      first-back m p path is h = record {
-        end = m;
-        path = path;
-        wanted = is;
-        first = λ n q w t.
-            elim (h.first (moved k n) (moved_path k q) (same.to n q w (wanted n t)) (to n t)) [
-              | inl e ↦ inl (moved_path-injective k q p e)
-              | inr c ↦ inr ((same.order m n p q path w).1 c)
-            ];
-      }
-
-    wanted_at-to : (e : ℕ) (m : Pair) → WantedAt Wanted e m → WantedAt Wanted (e + k) (moved k m)
-    wanted_at-to e m h =
-        let at : m.1 ≡ e = h.at in
-        record { wanted = (same.stays m).0 h.wanted; at = omega arith }
-
-    wanted_at-back : (e : ℕ) (m : Pair) → WantedAt Wanted (e + k) (moved k m) → WantedAt Wanted e m
-    wanted_at-back e m h =
-        let at : m.1 + k ≡ e + k = h.at in
-        record { wanted = (same.stays m).1 h.wanted; at = omega arith }
-
-    end-moved : (e : ℕ) → IsEnd edges starts Wanted e → IsEnd edges_to starts_to Wanted (e + k)
-    end-moved e h =
-        let at : h.end.1 ≡ e = h.at in
-        record {
-          end = moved k h.end;
-          along = moved_path k h.along;
-          path = same.to h.end h.along h.path h.wanted;
-          wanted = (same.stays h.end).0 h.wanted;
-          at = omega arith;
-        }
-
-    least-moved : (e : ℕ) → IsLeastEnd edges starts Wanted e → IsLeastEnd edges_to starts_to Wanted (e + k)
-    least-moved e h = record {
-      is_end = end-moved e h.is_end;
-      least = λ n q w t.
-          let b = same.back n q w t in
-          let low : e ≤ b.end.1 = h.least b.end b.along b.path b.wanted in
-          let at : n.1 ≡ b.end.1 + k = ap (λ (z : Pair). z.1) b.end_is in
-          omega arith;
+    first-moved : (p : List Pair) → IsFirstTo g.edges g.starts P p → IsFirstTo h.edges h.starts Q (moved_path k p)
+    first-moved p f = record {
+      end = moved k f.end;
+      path = same.to f.end p f.path (sets.matches f.end f.wanted);
+      wanted = sets.to f.end f.wanted;
+      first = λ n q w t.
+          let b = same.back n q w (sets.matches_to n t) in
+          grind (arith, f.first b.end b.along b.path, sets.back b.end, same.order f.end b.end p b.along f.path b.path);
     }
 
-    greatest-moved : (e : ℕ) → IsGreatestEnd edges starts Wanted e → IsGreatestEnd edges_to starts_to Wanted (e + k)
-    greatest-moved e h = record {
-      is_end = end-moved e h.is_end;
-      greatest = λ n q w t.
-          let b = same.back n q w t in
-          let high : b.end.1 ≤ e = h.greatest b.end b.along b.path b.wanted in
-          let at : n.1 ≡ b.end.1 + k = ap (λ (z : Pair). z.1) b.end_is in
-          omega arith;
-    }
-
-    -- a wanted pair, and where it moves to
-    module _ (m n : Pair) (is : n ≡ moved k m) (m_wanted : Wanted m) (n_wanted : Wanted n) where
-      to_one : (v : Pair) → v ≡ m → moved k v ≡ n
-      to_one v e = ap (moved k) e ∙ sym is
-
-      back_one : (v : Pair) → moved k v ≡ n → v ≡ m
-      back_one v e = moved-injective k v m (e ∙ is)
-
-      one_wanted : (v : Pair) → v ≡ m → Wanted v
-      one_wanted v e = subst Wanted (sym e) m_wanted
-
-      one_wanted_to : (v : Pair) → v ≡ n → Wanted v
-      one_wanted_to v e = subst Wanted (sym e) n_wanted
-
-      first_to-moved : (p : List Pair) → IsFirstTo edges starts (λ v. v ≡ m) p
-          → IsFirstTo edges_to starts_to (λ v. v ≡ n) (moved_path k p)
-      first_to-moved p h =
-          first-moved (λ v. v ≡ m) (λ v. v ≡ n) to_one back_one one_wanted one_wanted_to p h
-
-      first_to-back : (p : List Pair) → PathTo edges starts m p
-          → IsFirstTo edges_to starts_to (λ v. v ≡ n) (moved_path k p)
-          → IsFirstTo edges starts (λ v. v ≡ m) p
-      first_to-back p path h =
-          first-back (λ v. v ≡ m) (λ v. v ≡ n) to_one back_one one_wanted one_wanted_to m p path refl h
-
-    last-moved : (e : ℕ) (p : List Pair) → IsLastOfFirsts edges starts Wanted e p
-        → IsLastOfFirsts edges_to starts_to Wanted (e + k) (moved_path k p)
-    last-moved e p h = record {
-      end = moved k h.end;
-      wanted = wanted_at-to e h.end h.wanted;
-      first = first_to-moved h.end (moved k h.end) refl h.wanted.wanted ((same.stays h.end).0 h.wanted.wanted)
-          p h.first;
-      last = λ n q at first.
-          let b = same.back n q (PathTo-along edges_to starts_to first.wanted first.path) at.wanted in
-          let here : WantedAt Wanted e b.end =
-          wanted_at-back e b.end (subst (WantedAt Wanted (e + k)) b.end_is at) in
-          let first_here : IsFirstTo edges starts (λ v. v ≡ b.end) b.along =
-          first_to-back b.end n b.end_is b.wanted at.wanted b.along b.path
-          (subst (λ z. IsFirstTo edges_to starts_to (λ v. v ≡ n) z) b.along_is first) in
-          elim (h.last b.end b.along here first_here) [
-            | inl s ↦ inl (b.along_is ∙ ap (moved_path k) s)
-            | inr c ↦ inr (subst (λ z. ComesBefore edges_to z (moved_path k p)) (sym b.along_is)
-                ((same.order b.end h.end b.along p b.path
-                (PathTo-along edges starts h.first.wanted h.first.path)).0 c))
+    first-back : (m : Pair) (p : List Pair) → PathTo g.edges g.starts m p → P m
+        → IsFirstTo h.edges h.starts Q (moved_path k p) → IsFirstTo g.edges g.starts P p
+    first-back m p path is f = record {
+      end = m;
+      path = path;
+      wanted = is;
+      first = λ n q w t.
+          elim (f.first (moved k n) (moved_path k q) (same.to n q w (sets.matches n t)) (sets.to n t)) [
+            | inl e ↦ inl (moved_path-injective k q p e)
+            | inr c ↦ inr ((same.order m n p q path w).1 c)
           ];
     }
 
-    -- the answers of each kind
+  -- all matches
+  all : AreSetsMoved k g h (Passes g.is_match) (Passes h.is_match)
+  all = grind arith
 
-    no_path-moved : NoPath edges starts Wanted → NoPath edges_to starts_to Wanted
-    no_path-moved =
-        none-moved Wanted Wanted (λ m. (same.stays m).0) (λ m. (same.stays m).1) (λ m w. w) (λ m w. w)
+  -- those at a position
+  those_at : (e : ℕ) → AreSetsMoved k g h (WantedAt (Passes g.is_match) e) (WantedAt (Passes h.is_match) (e + k))
+  those_at e = grind arith
 
-    pub first_path-moved : (r : Option (List Pair)) → IsFirstPath edges starts Wanted r
-        → IsFirstPath edges_to starts_to Wanted (option_map (moved_path k) r)
-    first_path-moved None h = no_path-moved h
-    first_path-moved (Some p) h =
-        first-moved Wanted Wanted (λ m. (same.stays m).0) (λ m. (same.stays m).1) (λ m w. w) (λ m w. w) p h
+  -- and one
+  only : (m n : Pair) → n ≡ moved k m → Passes g.is_match m → Passes h.is_match n
+      → AreSetsMoved k g h (λ v. v ≡ m) (λ v. v ≡ n)
+  only m n is matches matches_to = grind (arith, moved-injective)
 
-    pub earliest_path-moved : (r : Option (List Pair)) → IsEarliestPath edges starts Wanted r
-        → IsEarliestPath edges_to starts_to Wanted (option_map (moved_path k) r)
-    earliest_path-moved None h = no_path-moved h
-    earliest_path-moved (Some p) h = (
-      h.0 + k,
-      least-moved h.0 h.1,
-      first-moved (WantedAt Wanted h.0) (WantedAt Wanted (h.0 + k)) (wanted_at-to h.0) (wanted_at-back h.0)
-          (λ m w. w.wanted) (λ m w. w.wanted) p h.2,
-    )
+  end-moved : (e : ℕ) → IsEnd g.edges g.starts (Passes g.is_match) e
+      → IsEnd h.edges h.starts (Passes h.is_match) (e + k)
+  end-moved e f =
+      let path = same.to f.end f.along f.path f.wanted in grind (arith, path, (same.stays f.end).0, f.at)
 
-    pub last_path-moved : (r : Option (List Pair)) → IsLastPath edges starts Wanted r
-        → IsLastPath edges_to starts_to Wanted (option_map (moved_path k) r)
-    last_path-moved None h = no_path-moved h
-    last_path-moved (Some p) h = (h.0 + k, greatest-moved h.0 h.1, last-moved h.0 p h.2)
+  least-moved : (e : ℕ) → IsLeastEnd g.edges g.starts (Passes g.is_match) e
+      → IsLeastEnd h.edges h.starts (Passes h.is_match) (e + k)
+  least-moved e f = record {
+    is_end = end-moved e f.is_end;
+    least = λ n q w t.
+        let b = same.back n q w t in grind (arith, b, f.least b.end b.along b.path b.matches);
+  }
 
-    pub earliest_last_path-moved : (r : Option (List Pair)) → IsEarliestLastPath edges starts Wanted r
-        → IsEarliestLastPath edges_to starts_to Wanted (option_map (moved_path k) r)
-    earliest_last_path-moved None h = no_path-moved h
-    earliest_last_path-moved (Some p) h = (h.0 + k, least-moved h.0 h.1, last-moved h.0 p h.2)
+  greatest-moved : (e : ℕ) → IsGreatestEnd g.edges g.starts (Passes g.is_match) e
+      → IsGreatestEnd h.edges h.starts (Passes h.is_match) (e + k)
+  greatest-moved e f = record {
+    is_end = end-moved e f.is_end;
+    greatest = λ n q w t.
+        let b = same.back n q w t in grind (arith, b, f.greatest b.end b.along b.path b.matches);
+  }
+
+  last-moved : (e : ℕ) (p : List Pair) → IsLastOfFirsts g.edges g.starts (Passes g.is_match) e p
+      → IsLastOfFirsts h.edges h.starts (Passes h.is_match) (e + k) (moved_path k p)
+  last-moved e p f = record {
+    end = moved k f.end;
+    wanted = (those_at e).to f.end f.wanted;
+    first = first-moved (only f.end (moved k f.end) refl f.wanted.wanted ((same.stays f.end).0 f.wanted.wanted)) p
+        f.first;
+    last = λ n q at first.
+        let b = same.back n q (PathTo-along h.edges h.starts first.wanted first.path) at.wanted in
+        let here = (those_at e).back b.end (subst (WantedAt (Passes h.is_match) (e + k)) b.end_is at) in
+        let first_here = first-back (only b.end n b.end_is b.matches at.wanted) b.end b.along b.path refl
+        (rw b.along_is at first) in
+        elim (f.last b.end b.along here first_here) [
+          | inl s ↦ inl (b.along_is ∙ ap (moved_path k) s)
+          | inr c ↦ inr (rw b.along_is ((same.order b.end f.end b.along p b.path
+              (PathTo-along g.edges g.starts f.first.wanted f.first.path)).0 c))
+        ];
+  }
+
+-- the answers of each kind
+pub scan-moved : (nfa : Automaton) (k : ℕ) (x y : Search) → ArePathsMoved k (explored nfa x) (explored nfa y)
+    → (kind : MatchKind) (earliest : Bool) (r : Option (List Pair)) → IsScanAnswer nfa x kind earliest r
+    → IsScanAnswer nfa y kind earliest (option_map (moved_path k) r)
+scan-moved nfa k x y same LeftmostFirst false None h = none-moved same (all same) h
+scan-moved nfa k x y same LeftmostFirst true None h = none-moved same (all same) h
+scan-moved nfa k x y same All false None h = none-moved same (all same) h
+scan-moved nfa k x y same All true None h = none-moved same (all same) h
+scan-moved nfa k x y same LeftmostFirst false (Some p) h = first-moved same (all same) p h
+scan-moved nfa k x y same LeftmostFirst true (Some p) h =
+    (h.0 + k, least-moved same h.0 h.1, first-moved same (those_at same h.0) p h.2)
+scan-moved nfa k x y same All false (Some p) h = (h.0 + k, greatest-moved same h.0 h.1, last-moved same h.0 p h.2)
+scan-moved nfa k x y same All true (Some p) h = (h.0 + k, least-moved same h.0 h.1, last-moved same h.0 p h.2)

@@ -1,9 +1,9 @@
 -- A search that restarts finds its match after the starts that it passed, and restarts only where a start is left.
-use Rattle.std.proofs.Common.{◌≡◌, ℕ, zero, suc, ◌+◌, ◌-◌, ◌<◌, ◌≤◌, Bool, true, false, MatchBool, List, arith, Option, None, Some, ◌&&◌, not}
-use Rattle.nfa_paths.specs.Common.{Found, Search, is_anchored, MatchKind, Span, Automaton, Pair, IsKeptAnswer, IsFindAnswer, IsRestartedAnswer, IsScanAnswer, IsSearchAnswer, SplitsCharacter, is_utf8_empty, raised, max_scans}
-use Rattle.nfa_paths.proofs.AnswerLemmas.{scan_answer-within, search_answer-unique}
+use Rattle.nfa_paths.proofs.Common.{◌≡◌, ℕ, ◌+◌, ◌-◌, ◌<◌, ◌≤◌, Bool, false, MatchBool, List, arith, Option, None, Some, ◌&&◌, not, Found, Search, is_anchored, MatchKind, Span, Automaton, Pair, IsKeptAnswer, IsFindAnswer, IsRestartedAnswer, IsScanAnswer, IsSearchAnswer, IsWithinScans, SplitsCharacter, is_utf8_empty, raised, max_scans}
+use Rattle.nfa_paths.proofs.AnswerLemmas.{scan_answer-within}
+use Rattle.nfa_paths.proofs.ExistenceLemmas.{search_answer-exists}
 use Rattle.nfa_paths.proofs.InsideLemmas.{match-within}
-use Rattle.nfa_search_base.specs.IterStates.{span_of}
+use Rattle.nfa_search_base.specs.Common.{span_of}
 use Rattle.nfa_search_base.proofs.LastStartLemmas.{from-scan}
 
 -- how many starts a search has at most
@@ -29,39 +29,28 @@ module _ (nfa : Automaton) (kind : MatchKind) (earliest : Bool) where
   -- as many restarts as starts are left, at most
   passed : (x : Search) (n : ℕ) → ((i : ℕ) → i < n → SplitsCharacter nfa kind earliest (raised x i))
       → n ≤ starts_left x
-  passed x zero skipped = omega arith
-  passed x (suc n) skipped =
-      let last = skipped n (omega arith) in
-      let within : x.start + n ≤ x.end = scan_answer-within nfa (raised x n) kind earliest last.path last.answers in
-      omega arith
+  passed = grind (arith, scan_answer-within)
 
   few-restarts : (x : Search) (restarts : ℕ) (path : Option (List Pair))
       → IsSearchAnswer nfa kind earliest x restarts path → restarts ≤ starts_left x
-  few-restarts x restarts path = of (is_utf8_empty nfa) (is_anchored x.anchored)
-    where
-      of : (b c : Bool) → AnswersBy b c x restarts path → restarts ≤ starts_left x
-      of true true h = omega (arith, h.0)
-      of true false h = passed x restarts h.skipped
-      of false c h = omega (arith, h.0)
+  few-restarts x restarts path h = grind (arith, passed)
 
-  module _ (x : Search) (restarts : ℕ) (path : Option (List Pair))
-      (answers : IsSearchAnswer nfa kind earliest x restarts path) (count : ℕ) (few : count ≤ restarts + 1) where
+  module _ (x : Search) (count : ℕ) (within : IsWithinScans nfa kind earliest x count) where
     -- no more scans than starts are left, and one more
     pub few-scans : count ≤ starts_left x + 1
-    few-scans = let all = few-restarts x restarts path answers in omega (arith, few, all)
+    few-scans = grind (arith, search_answer-exists nfa kind earliest x, few-restarts)
 
     -- the match ends after the starts that were passed
     pub match-reaches : (f : Found) → IsFindAnswer nfa kind earliest x (Some f) → Reaches x count (Some (span_of f))
     match-reaches f a =
-        let one = search_answer-unique nfa kind earliest x a.restarts restarts a.path path a.answers answers in
-        let same : a.restarts ≡ restarts = one.0 in
+        let few = within a.restarts a.path a.answers in
         let k = match-within nfa kind earliest (raised x a.restarts) f (record {
           restarts = 0;
           path = a.path;
           answers = from-scan nfa kind earliest x a.restarts a.path a.answers;
           found_is = a.found_is;
         }) in
-        (omega (arith, k.0, k.1), k.2, omega (arith, few, k.0, k.1, same))
+        (omega (arith, k.0, k.1), k.2, omega (arith, few, k.0, k.1))
 
   -- a match that no scan finds lies in the span
   pub match-known : (x : Search) (f : Found) → IsFindAnswer nfa kind earliest x (Some f)

@@ -1,18 +1,12 @@
 -- What a whole iteration adds to the totals of what answers its searches.
-use Rattle.std.proofs.Common.{◌≡◌, ℕ, ◌+◌, ◌*◌, ◌<◌, ◌≤◌, Bool, true, false, List, [], ◌∷◌, length, Option, None, Some, Ok, Err, refl, sym, ap, subst, inl, inr, arith, cond, ◌==◌}
+use Rattle.nfa_paths.proofs.Common.{◌≡◌, ℕ, ◌+◌, ◌*◌, ◌≤◌, Bool, true, false, List, [], ◌∷◌, length, Option, None, Some, Ok, refl, sym, subst, inl, inr, arith, cond, Search, Span, Automaton, span_len, total_degree}
 use Rattle.std.proofs.Math.Nat.{mul-le-mul_right}
-use Rattle.std.proofs.lemmas.Bool.{and_parts, eqb-true}
-use Rattle.nfa_paths.specs.Common.{Search, Span, Automaton, span_len, total_degree}
-use Rattle.nfa_search_base.specs.LastEnd.{EndsBy}
-use Rattle.nfa_search_base.specs.Leaving.{StepsLead, answers_to_end}
-use Rattle.nfa_search_base.specs.SameBut.{SameButStart}
-use Rattle.nfa_search_base.specs.IterStates.{Advances, Answer, AnswerIsInside, IterState, after, ends_left, fresh, answer_span, repeats, shifted}
+use Rattle.nfa_search_base.specs.Common.{EndsBy, StepsLead, answers_to_end, SameButStart, Advances, Answer, AnswerIsInside, IterState, after, ends_left, fresh, answer_span, repeats, shifted}
 use Rattle.nfa_search_base.proofs.AskingLemmas.{same_start-self, same_start-then}
 use Rattle.nfa_search_base.proofs.StepLemmas.{Advances-fewer, chosen, same_start-after, same_start-shifted}
 use Rattle.nfa_search_base.proofs.IterStateLemmas.{IsOrdered}
 use Rattle.nfa_engines.specs.WorkLaws.{AddsAtMost, Totals, list_scan_limit}
 use Rattle.nfa_engines.proofs.ReachLemmas.{Reaches, restarts_in, starts_left}
-use Rattle.nfa_paths.proofs.OptionLemmas.{same_some}
 
 -- the turns of a scan of the span of x, or of a part of it, at most
 abbrev pub turns_in : Automaton → Search → ℕ
@@ -34,35 +28,22 @@ pub record Costs (free : Bool) (x : Search) (reply_span : Option Span) (count : 
 pub adds-none : (weight : ℕ) (a : Totals) → Adds weight a a 0
 adds-none weight a = record { scans = omega arith; turns = omega arith }
 
-adds-both : (weight : ℕ) (a b c : Totals) (m n : ℕ) → Adds weight a b m → Adds weight b c n → Adds weight a c (m + n)
-adds-both weight a b c m n h k = record {
-  scans = omega (arith, h.scans, k.scans);
-  turns = omega (arith, h.turns, k.turns);
-}
+adds-both : {weight : ℕ} {a b c : Totals} {m n : ℕ} → Adds weight a b m → Adds weight b c n → Adds weight a c (m + n)
+adds-both h k = grind arith
 
 -- the match that is repeated ends where the last one did
 repeated : (at : Search) (last : Option ℕ) (reply_span : Option Span)
     → repeats (record { at = at; last = last }) reply_span ≡ true
     → (p : Span) × (reply_span ≡ Some p) × (last ≡ Some p.end)
-repeated at last None again = cc
-repeated at None (Some p) again = let never : false ≡ true = (and_parts (p.start == p.end) false again).1 in cc
-repeated at (Some e) (Some p) again =
-    let both = and_parts (p.start == p.end) (e == p.end) again in
-    let same : e ≡ p.end = eqb-true e p.end both.1 in
-    (p, refl, ap (λ (n : ℕ). Some n) same)
+repeated at last o again = grind arith
 
 -- the scans of a first search, which nothing can repeat where no match came before
 abbrev searches_at : Option ℕ → ℕ
 searches_at None = 1
 searches_at (Some e) = 2
 
-few-searches : (last : Option ℕ) → 1 ≤ searches_at last
-few-searches None = omega arith
-few-searches (Some e) = omega arith
-
-at-most-two : (last : Option ℕ) → searches_at last ≤ 2
-at-most-two None = omega arith
-at-most-two (Some e) = omega arith
+few-searches : (last : Option ℕ) → (1 ≤ searches_at last) × (searches_at last ≤ 2)
+few-searches last = grind arith
 
 two-searches : (last : Option ℕ) (e : ℕ) → last ≡ Some e → 2 ≤ searches_at last
 two-searches last e is = rw is (omega arith)
@@ -75,18 +56,10 @@ module _ (x : Search) where
     pub behind : EndsBy w.last w.at.start
 
   pub is_of-fresh : IsOf (fresh x)
-  is_of-fresh = record {
-    like = same_start-self x;
-    from = omega arith;
-    behind = λ e is. let never : None ≡ Some e = is in cc;
-  }
+  is_of-fresh = grind (arith, same_start-self)
 
   is_of-after : (w : IterState) (p : Span) → IsOf w → w.at.start ≤ p.end → IsOf (after w (Some p))
-  is_of-after w p h on = record {
-    like = same_start-then x w.at (after w (Some p)).at h.like (same_start-after w (Some p));
-    from = let from = h.from in omega (arith, from, on);
-    behind = λ e is. let same : p.end ≡ e = same_some p.end e is in omega (arith, same);
-  }
+  is_of-after w p h on = grind (arith, same_start-then, same_start-after)
 
   -- What a step by `count` scans leaves, from w to v, with a match at this span or with none.
   abbrev Onward : IterState → IterState → Option Span → ℕ → Type 0
@@ -96,39 +69,19 @@ module _ (x : Search) where
 
   onward-once : (free : Bool) (w v : IterState) (reply_span : Option Span) (count : ℕ) → IsOf w → v ≡ after w reply_span
       → Costs free w.at reply_span count → Onward w v reply_span count
-  onward-once free w v None count h is cost = cost.starts
-  onward-once free w v (Some p) count h is cost =
-      let reach = cost.reach in
-      let there : IsOf (after w (Some p)) = is_of-after w p h reach.0 in
-      let fewer : count + starts_left (after w (Some p)).at ≤ starts_left w.at + 1 =
-      omega (arith, reach.0, reach.1, reach.2) in (
-        subst (λ (u : IterState). IsOf u) (sym is) there,
-        ap (λ (u : IterState). u.last) is,
-        subst (λ (u : IterState). count + starts_left u.at ≤ starts_left w.at + 1) (sym is) fewer,
-      )
+  onward-once free w v o count h is cost = grind (arith, is_of-after)
 
   onward-twice : (free : Bool) (w v : IterState) (p : Span) (reply_span : Option Span) (first second : ℕ) → IsOf w
       → p.end ≤ w.at.start → v ≡ after (shifted w) reply_span → Reaches w.at first (Some p)
       → Costs free (shifted w).at reply_span second
       → Onward w v reply_span (first + second)
-  onward-twice free w v p None first second h at is reach cost =
-      let more = cost.starts in omega (arith, at, more, reach.0, reach.1, reach.2)
-  onward-twice free w v p (Some q) first second h at is reach cost =
-      let again = cost.reach in
-      let there : IsOf (after w (Some q)) = is_of-after w q h (omega (arith, again.0)) in
-      let fewer : first + second + starts_left (after w (Some q)).at ≤ starts_left w.at + 1 =
-      omega (arith, at, reach.0, reach.1, reach.2, again.0, again.1, again.2) in (
-        subst (λ (u : IterState). IsOf u) (sym is) there,
-        ap (λ (u : IterState). u.last) is,
-        subst (λ (u : IterState). first + second + starts_left u.at ≤ starts_left w.at + 1) (sym is) fewer,
-      )
+  onward-twice free w v p o first second h at is reach cost = grind (arith, is_of-after)
 
 -- the matches among answers
 abbrev pub found_count : {X : Type 0} → List (Answer X) → ℕ
 found_count [] = 0
 found_count (Ok (Some m) ∷ rest) = found_count rest + 1
-found_count (Ok None ∷ rest) = found_count rest
-found_count (Err e ∷ rest) = found_count rest
+found_count (_ ∷ rest) = found_count rest
 
 pub found_count-to_end : {X : Type 0} (ms : List X) → found_count (answers_to_end ms) ≡ length ms
 found_count-to_end [] = refl
@@ -172,12 +125,10 @@ module _ {S X : Type 0} {span : X → Span} {asks : S → Search → Answer X �
             let like = same_start-then x w.at (shifted w).at h.like (same_start-shifted w) in
             let two = each.costs step.between (shifted w).at a t like from one.3 p.1.0 in
             let same = repeated w.at w.last (answer_span span step.answer) p.0 in
-            let reach : Reaches w.at one.0 (Some same.0) =
-            subst (λ (o : Option Span). Reaches w.at one.0 o) same.1 one.1.reach in
+            let reach : Reaches w.at one.0 (Some same.0) = rw same.1 at one.1.reach in
             record {
               count = one.0 + two.0;
-              adds = let both = adds-both weight (each.totals s) (each.totals step.between) (each.totals t) in
-                  both one.0 two.0 one.2 two.2;
+              adds = adds-both one.2 two.2;
               onward =
                   onward-twice x free w v same.0 (answer_span span a) one.0 two.0 h (h.behind same.0.end same.2) p.1.1
                   reach two.1;
@@ -195,7 +146,7 @@ module _ {S X : Type 0} {span : X → Span} {asks : S → Search → Answer X �
               count = one.0;
               adds = subst (λ (u : S). Adds weight (each.totals s) (each.totals u) one.0) (sym p.1.1) one.2;
               onward = onward-once x free w v (answer_span span a) one.0 h p.1.2 cost;
-              once = λ never. let a = cost.once never in let b = few-searches w.last in omega (arith, a, b);
+              once = λ never. let a = cost.once never in let b = few-searches w.last in omega (arith, a, b.0);
               good = subst (λ (u : S). each.Good u) (sym p.1.1) one.3;
             }
       ]
@@ -215,25 +166,16 @@ module _ {S X : Type 0} {span : X → Span} {asks : S → Search → Answer X �
       let more = led v u rest t one.onward.0 one.good steps.3 in
       record {
         count = one.count + more.count;
-        adds = let both = adds-both weight (each.totals s) (each.totals u) (each.totals t) in
-            both one.count more.count one.adds more.adds;
+        adds = adds-both one.adds more.adds;
         starts = let a = one.onward.2 in let b = more.starts in omega (arith, a, b);
         once = λ never.
             let a = one.once never in
             let b = more.once never in
-            let c = at-most-two v.last in
-            omega (arith, a, b, c);
+            let c = few-searches v.last in
+            omega (arith, a, b, c.1);
       }
-  led w s (Ok None ∷ rest) t h good steps =
-      let one = stepped s w (Ok None) t steps.0 h good steps.1 in
-      record {
-        count = one.count;
-        adds = one.adds;
-        starts = let a = one.onward in omega (arith, a);
-        once = λ never. let a = one.once never in omega (arith, a);
-      }
-  led w s (Err e ∷ rest) t h good steps =
-      let one = stepped s w (Err e) t steps.0 h good steps.1 in
+  led w s (a ∷ rest) t h good steps =
+      let one = stepped s w a t steps.0 h good steps.1 in
       record {
         count = one.count;
         adds = one.adds;
@@ -248,24 +190,13 @@ module _ {S X : Type 0} {span : X → Span} {asks : S → Search → Answer X �
         → StepsLead span asks w s answers t → found_count answers ≤ ends_left w
     few-found w s [] t h good steps = omega arith
     few-found w s (Ok (Some m) ∷ rest) t h good steps =
-        let one = stepped s w (Ok (Some m)) steps.0 steps.1 h good steps.2 in
-        let more = few-found steps.1 steps.0 rest t one.onward.0 one.good steps.3 in
-        let fewer : ends_left steps.1 < ends_left w = (Advances-fewer lies h.behind steps.2).1 in
-        omega (arith, more, fewer)
-    few-found w s (Ok None ∷ rest) t h good steps = rw steps.2 (omega arith)
-    few-found w s (Err e ∷ rest) t h good steps = rw steps.2 (omega arith)
+        grind (arith, stepped, Advances-fewer lies h.behind steps.2, few-found steps.1 steps.0 rest t)
+    few-found w s (a ∷ rest) t h good steps = rw steps.2 (omega arith)
 
 -- scans that are at most `limit` make no more turns than `limit` scans
 within-limit : (nfa : Automaton) (x : Search) (old new : Totals) (count limit : ℕ) → count ≤ limit
     → Adds (turns_in nfa x) old new count → AddsAtMost limit nfa x old new
-within-limit nfa x old new count limit few adds =
-    let scans = adds.scans in
-    let turns = adds.turns in
-    let more : count * turns_in nfa x ≤ limit * turns_in nfa x = mul-le-mul_right (turns_in nfa x) few in
-    record { scans = omega (arith, scans, few); turns = by-more new.turns old.turns _ _ turns more }
-  where
-    by-more : (a b m n : ℕ) → a ≤ b + m → m ≤ n → a ≤ b + n
-    by-more a b m n h k = omega arith
+within-limit nfa x old new count limit few adds = grind (arith, mul-le-mul_right)
 
 module _ (nfa : Automaton) (x : Search) (found : ℕ) (old new : Totals)
     (all : Led (turns_in nfa x) (restarts_in nfa x) (fresh x) found old new) where

@@ -1,16 +1,13 @@
 -- Laws of the span that a leftmost first answer has, about the definitions only.
 use Rattle.std.specs.Prelude.{◌≡◌, ℕ, ◌≤◌, Bool, List, Option, Some}
-use Rattle.nfa_paths.specs.Common.{Search, Anchored, MatchKind, Automaton, Pair, EndsWith, HeadIs, PathTo, edges, starts, IsAnswer, IsMatch, IsScanAnswer, IsSearchAnswer}
-use Rattle.regex_search_core.specs.declared.search.Anchored.TheVariants.{No, Yes}
+use Rattle.nfa_paths.specs.Common.{Search, Anchored, MatchKind, Automaton, Pair, EndsWith, HeadIs, PathTo, edges, starts, IsAnswer, IsMatch, IsScanAnswer, IsSearchAnswer, No, Yes}
+use Rattle.nfa_engines.specs.Accepting.{MatchesSomething}
 
 -- an accepting path starts at s and ends at e, and none that ends at e starts before s
 pub record IsLeastStart (nfa : Automaton) (x : Search) (s e : ℕ) : Type 0 where
-  pub end : Pair
-  pub along : List Pair
-  pub path : PathTo (edges nfa x) (starts nfa x) end along
-  pub accepts : IsMatch nfa end
-  pub start_is : path.start.1 ≡ s
-  pub end_is : end.1 ≡ e
+  pub matches : MatchesSomething nfa x
+  pub start_is : matches.path.start.1 ≡ s
+  pub end_is : matches.end.1 ≡ e
   pub least : (m : Pair) (q : List Pair) (w : PathTo (edges nfa x) (starts nfa x) m q) → IsMatch nfa m → m.1 ≡ e
       → s ≤ w.start.1
 

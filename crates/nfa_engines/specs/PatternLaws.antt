@@ -1,30 +1,21 @@
 -- Laws of an NFA whose anchored start tries the starts of its patterns in their order, about the definitions only.
 use Rattle.std.specs.Prelude.{◌≡◌, ◌↔◌, ◌⊎◌, ℕ, ◌<◌, Bool, false, List, [], ◌∷◌, Option, None, Some, option_map, slice_get}
-use Rattle.nfa_paths.specs.Common.{Found, number_of, Search, PatternID, MatchKind, Automaton, IsAutomaton, Node, Pair, PathTo, edges, is_utf8_empty, node_at, starts, IsAnswer, IsFindAnswer}
-use Rattle.regex_search_core.specs.declared.search.Anchored.TheVariants.{Yes, Pattern}
-use Rattle.thompson_nfa.specs.Automaton.Node.{Union, BinaryUnion}
+use Rattle.nfa_paths.specs.Common.{Found, number_of, Search, PatternID, MatchKind, Automaton, IsAutomaton, Node, Pair, PathTo, edges, is_utf8_empty, node_at, starts, IsAnswer, IsFindAnswer, Yes, Pattern, Union, BinaryUnion}
 use Rattle.nfa_engines.specs.Accepting.{MatchesNothing, MatchesPattern, MatchesSomething}
 use Rattle.nfa_engines.specs.GapLaws.{PathsWriteTheirEnds}
+use Rattle.nfa_engines.specs.Laws.{Tells}
 
 -- the NFA of one pattern: its anchored start is that of the pattern
 abbrev pub started_at : Automaton → ℕ → Automaton
 started_at nfa state = record nfa { anchored = state }
 
--- A search that is anchored to a pattern has the answer of the anchored search of only this pattern, for any kind.
-abbrev pub PatternIsAlone : Type 0
-PatternIsAlone =
-    (nfa : Automaton) (x : Search) (pattern : PatternID) (state : ℕ) (kind : MatchKind) (earliest : Bool)
-    (found : Option ℕ) (slots : List (Option ℕ)) → slice_get nfa.patterns (number_of pattern) ≡ Some state
-    → IsAnswer nfa kind earliest (record x { anchored = Pattern pattern }) found slots
-    ↔ IsAnswer (started_at nfa state) kind earliest (record x { anchored = Yes }) found slots
-
--- the same for its match
-abbrev pub PatternMatchesAlone : Type 0
-PatternMatchesAlone =
-    (nfa : Automaton) (x : Search) (pattern : PatternID) (state : ℕ) (kind : MatchKind) (earliest : Bool)
-    (found : Option Found) → slice_get nfa.patterns (number_of pattern) ≡ Some state
-    → IsFindAnswer nfa kind earliest (record x { anchored = Pattern pattern }) found
-    ↔ IsFindAnswer (started_at nfa state) kind earliest (record x { anchored = Yes }) found
+-- A search that is anchored to a pattern answers what the anchored search of only this pattern answers, for any kind.
+abbrev pub PatternIsAlone : {A : Type 0} → Tells A → Type 0
+PatternIsAlone {A} Is =
+    (nfa : Automaton) (x : Search) (pattern : PatternID) (state : ℕ) (kind : MatchKind) (earliest : Bool) (a : A)
+    → slice_get nfa.patterns (number_of pattern) ≡ Some state
+    → Is nfa kind earliest (record x { anchored = Pattern pattern }) a
+    ↔ Is (started_at nfa state) kind earliest (record x { anchored = Yes }) a
 
 -- the states that a union tries, in order
 abbrev pub alternates_of : Node → Option (List ℕ)

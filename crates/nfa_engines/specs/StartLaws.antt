@@ -1,9 +1,9 @@
 -- Laws of where the answer of a search starts, about the definitions only.
 use Rattle.std.specs.Prelude.{◌≡◌, ◌↔◌, ◌==◌, ℕ, ◌+◌, ◌<◌, ◌≤◌, Bool, false, List, Option, Some}
-use Rattle.nfa_paths.specs.Common.{Found, Search, MatchKind, Automaton, byte_at, is_utf8_empty, IsAnswer, IsFindAnswer}
-use Rattle.regex_search_core.specs.declared.search.Anchored.TheVariants.{No, Yes}
+use Rattle.nfa_paths.specs.Common.{Found, Search, MatchKind, Automaton, byte_at, is_utf8_empty, IsAnswer, IsFindAnswer, No, Yes}
 use Rattle.nfa_search_base.specs.Beginnings.{NoMatchBegins}
 use Rattle.nfa_engines.specs.Accepting.{MatchesNothing}
+use Rattle.nfa_engines.specs.Laws.{Tells}
 
 -- the search from another start
 abbrev pub from_start : Search → ℕ → Search
@@ -30,20 +30,12 @@ pub record IsFirstStart (nfa : Automaton) (x : Search) (s : ℕ) : Type 0 where
   pub from : x.start ≤ s
   pub nothing : (i : ℕ) → x.start ≤ i → i < s → MatchesNothing nfa (anchored_at x i)
 
--- a search has the answer of the search from such a start on, for any kind
-abbrev pub StartsArePassed : Type 0
-StartsArePassed =
-    (nfa : Automaton) (x : Search) (s : ℕ) (kind : MatchKind) (earliest : Bool)
-    (pattern : Option ℕ) (slots : List (Option ℕ))
+-- a search answers what the search from such a start on answers, for any kind
+abbrev pub StartsArePassed : {A : Type 0} → Tells A → Type 0
+StartsArePassed {A} Is =
+    (nfa : Automaton) (x : Search) (s : ℕ) (kind : MatchKind) (earliest : Bool) (a : A)
     → IsUnbound nfa x → IsFirstStart nfa x s
-    → IsAnswer nfa kind earliest x pattern slots ↔ IsAnswer nfa kind earliest (from_start x s) pattern slots
-
--- the same for its match
-abbrev pub MatchStartsArePassed : Type 0
-MatchStartsArePassed =
-    (nfa : Automaton) (x : Search) (s : ℕ) (kind : MatchKind) (earliest : Bool) (found : Option Found)
-    → IsUnbound nfa x → IsFirstStart nfa x s
-    → IsFindAnswer nfa kind earliest x found ↔ IsFindAnswer nfa kind earliest (from_start x s) found
+    → Is nfa kind earliest x a ↔ Is nfa kind earliest (from_start x s) a
 
 -- If the anchored search at such a start has a pattern, its answer is that of the search.
 abbrev pub FirstStartAnswers : MatchKind → Bool → Type 0
@@ -53,19 +45,11 @@ FirstStartAnswers kind earliest =
     → IsAnswer nfa kind earliest (anchored_at x s) (Some pattern) slots
     → IsAnswer nfa kind earliest x (Some pattern) slots
 
--- the same for its match
-abbrev pub FirstStartMatches : MatchKind → Bool → Type 0
-FirstStartMatches kind earliest =
+-- The same for its match. Here `IsFree` is `IsUnbound`, or `StartsAnywhere` if the match may have to end on a boundary.
+abbrev pub FirstStartMatches : (Automaton → Search → Type 0) → MatchKind → Bool → Type 0
+FirstStartMatches IsFree kind earliest =
     (nfa : Automaton) (x : Search) (s : ℕ) (m : Found)
-    → IsUnbound nfa x → IsFirstStart nfa x s
-    → IsFindAnswer nfa kind earliest (anchored_at x s) (Some m)
-    → IsFindAnswer nfa kind earliest x (Some m)
-
--- the same for its match if it may have to end on a boundary
-abbrev pub FirstStartMatchesAnywhere : MatchKind → Bool → Type 0
-FirstStartMatchesAnywhere kind earliest =
-    (nfa : Automaton) (x : Search) (s : ℕ) (m : Found)
-    → StartsAnywhere nfa x → IsFirstStart nfa x s
+    → IsFree nfa x → IsFirstStart nfa x s
     → IsFindAnswer nfa kind earliest (anchored_at x s) (Some m)
     → IsFindAnswer nfa kind earliest x (Some m)
 

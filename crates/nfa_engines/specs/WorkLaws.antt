@@ -1,11 +1,9 @@
--- Laws of the work of a whole iteration, over the matches or the captures of a search, by the totals of a cache.
-use Rattle.std.specs.Prelude.{ℕ, ◌+◌, ◌*◌, ◌≤◌, ◌&&◌, not, if◌then◌else◌, List, length}
-use Rattle.nfa_paths.specs.Common.{Found, Search, is_anchored, Automaton, is_utf8_empty, span_len, total_degree}
-use Rattle.nfa_search_base.specs.WithCaptures.{Row}
-use Rattle.nfa_backtrack.specs.Backtrack.{Backtracker, BacktrackCache}
-use Rattle.nfa_backtrack.specs.Finding.{BacktrackerCapturesOn, BacktrackerCapturesToEnd, BacktrackerFindsOn, BacktrackerFindsToEnd}
-use Rattle.nfa_pikevm.specs.Engines.{Pike, PikeCache}
-use Rattle.nfa_pikevm.specs.Finding.{PikeCapturesOn, PikeCapturesToEnd, PikeFindsOn, PikeFindsToEnd}
+-- Laws of the work of a whole iteration, over the matches or the captures of a search, by the totals of a cache; of
+-- loops of searches; and of the lengths that a backtracker refuses.
+use Rattle.std.specs.Prelude.{ℕ, ◌+◌, ◌*◌, ◌^◌, ◌<◌, ◌≤◌, ◌&&◌, not, if◌then◌else◌, List, length, unwrap_or}
+use Rattle.nfa_paths.specs.Common.{Search, is_anchored, Automaton, is_utf8_empty, span_len, total_degree}
+use Rattle.nfa_backtrack.specs.Backtrack.{Backtracker, BacktrackCache, HoldsNoMore, IsTooLong, capacity_of, default_capacity, max_haystack_len_of, min_capacity_of}
+use Rattle.nfa_pikevm.specs.Engines.{Fits, PikeCache, SameCapacities}
 
 -- the totals of a cache: the scans and turns of all its searches
 pub record Totals : Type 0 where
@@ -29,48 +27,58 @@ abbrev pub list_scan_limit : Automaton → Search → ℕ → ℕ
 list_scan_limit nfa x count =
     if is_utf8_empty nfa && not (is_anchored x.anchored) then (span_len x + count + 2) else (2 * count + 1)
 
--- All matches, or all rows of captures, are found within a limit.
-module _ (limit : Automaton → Search → ℕ → ℕ) where
-  abbrev pub PikeMatchesAreWithin : Type 0
-  PikeMatchesAreWithin =
-      (vm : Pike) (x : Search) (ms : List Found) (old new : PikeCache) → PikeFindsToEnd vm x ms old new
-      → AddsAtMost (limit vm.nfa x (length ms)) vm.nfa x (pike_totals old) (pike_totals new)
+-- Laws of iterations by an engine E, with caches C.
+module _ {E C : Type 0} (nfa_of : E → Automaton) (totals : C → Totals) where
+  -- an iteration that goes to its end, past all these matches or rows of captures, is within a limit
+  abbrev pub ListsAreWithin : {X : Type 0} → (Automaton → Search → ℕ → ℕ) → (E → Search → List X → C → C → Type 0)
+      → Type 0
+  ListsAreWithin {X} limit GoesToEnd =
+      (e : E) (x : Search) (found : List X) (old new : C) → GoesToEnd e x found old new
+      → AddsAtMost (limit (nfa_of e) x (length found)) (nfa_of e) x (totals old) (totals new)
 
-  abbrev pub PikeRowsAreWithin : Type 0
-  PikeRowsAreWithin =
-      (vm : Pike) (x : Search) (rows : List Row) (old new : PikeCache) → PikeCapturesToEnd vm x rows old new
-      → AddsAtMost (limit vm.nfa x (length rows)) vm.nfa x (pike_totals old) (pike_totals new)
+  -- However far an iteration goes, and also if it ends with an error, it makes at most two scans for each byte of the
+  -- span, and `more` besides.
+  abbrev pub IterationsAreWithin : ℕ → (E → Search → C → C → Type 0) → Type 0
+  IterationsAreWithin more GoesOn =
+      (e : E) (x : Search) (old new : C) → GoesOn e x old new
+      → AddsAtMost (2 * span_len x + more) (nfa_of e) x (totals old) (totals new)
 
-  abbrev pub BacktrackerMatchesAreWithin : Type 0
-  BacktrackerMatchesAreWithin =
-      (e : Backtracker) (x : Search) (ms : List Found) (old new : BacktrackCache) → BacktrackerFindsToEnd e x ms old new
-      → AddsAtMost (limit e.nfa x (length ms)) e.nfa x (backtracker_totals old) (backtracker_totals new)
+-- `Keeps` relates what a cache shows before a search, or a choice does, to what it shows after it.
+module _ {C : Type 0} (Keeps : C → C → Type 0) where
+  -- no search keeps it
+  abbrev pub IsKeptByNone : Type 0
+  IsKeptByNone = (c : C) → Keeps c c
 
-  abbrev pub BacktrackerRowsAreWithin : Type 0
-  BacktrackerRowsAreWithin =
-      (e : Backtracker) (x : Search) (rows : List Row) (old new : BacktrackCache)
-      → BacktrackerCapturesToEnd e x rows old new
-      → AddsAtMost (limit e.nfa x (length rows)) e.nfa x (backtracker_totals old) (backtracker_totals new)
+  -- two searches keep what each of them keeps
+  abbrev pub IsKeptByTwo : Type 0
+  IsKeptByTwo = (a b c : C) → Keeps a b → Keeps b c → Keeps a c
 
--- However far an iteration goes, and also if it ends with an error, it makes at most two scans for each byte of the
--- span, and `more` besides.
-module _ (more : ℕ) where
-  abbrev pub PikeFindsWithin : Type 0
-  PikeFindsWithin =
-      (vm : Pike) (x : Search) (old new : PikeCache) → PikeFindsOn vm x old new
-      → AddsAtMost (2 * span_len x + more) vm.nfa x (pike_totals old) (pike_totals new)
+  -- n searches keep what each of them keeps: search k leads from `at k` to `at (k + 1)`
+  abbrev pub IsKeptByLoop : Type 0
+  IsKeptByLoop = (n : ℕ) (at : ℕ → C) → ((k : ℕ) → k < n → Keeps (at k) (at (k + 1))) → Keeps (at 0) (at n)
 
-  abbrev pub PikeCapturesWithin : Type 0
-  PikeCapturesWithin =
-      (vm : Pike) (x : Search) (old new : PikeCache) → PikeCapturesOn vm x old new
-      → AddsAtMost (2 * span_len x + more) vm.nfa x (pike_totals old) (pike_totals new)
+-- a cache of the same sizes fits the same NFAs
+abbrev pub FitsAsBefore : Type 0
+FitsAsBefore = (old new : PikeCache) (nfa : Automaton) → SameCapacities old new → Fits old nfa → Fits new nfa
 
-  abbrev pub BacktrackerFindsWithin : Type 0
-  BacktrackerFindsWithin =
-      (e : Backtracker) (x : Search) (old new : BacktrackCache) → BacktrackerFindsOn e x old new
-      → AddsAtMost (2 * span_len x + more) e.nfa x (backtracker_totals old) (backtracker_totals new)
+-- a loop of searches holds no more than each of them may
+abbrev pub LoopHoldsNoMore : Type 0
+LoopHoldsNoMore = (needed : ℕ) → IsKeptByLoop (HoldsNoMore needed)
 
-  abbrev pub BacktrackerCapturesWithin : Type 0
-  BacktrackerCapturesWithin =
-      (e : Backtracker) (x : Search) (old new : BacktrackCache) → BacktrackerCapturesOn e x old new
-      → AddsAtMost (2 * span_len x + more) e.nfa x (backtracker_totals old) (backtracker_totals new)
+-- A search with the least capacity of its input, less `less` bytes, is not refused for its length. The pairs of the
+-- search have to fit a `usize`; otherwise its input has no least capacity.
+abbrev pub LeastCapacityIsEnough : ℕ → Type 0
+LeastCapacityIsEnough less =
+    (e : Backtracker) (x : Search) → length e.nfa.states * (span_len x + 1) < 2 ^ 64
+    → min_capacity_of e.nfa x ≤ unwrap_or e.visited_capacity default_capacity + less → ¬ (IsTooLong e x)
+
+-- if there is a bit for each state, no span up to the longest length, plus `more` bytes, is refused
+abbrev pub LongestLengthFits : ℕ → Type 0
+LongestLengthFits more =
+    (e : Backtracker) (x : Search) → length e.nfa.states ≤ capacity_of e → span_len x ≤ max_haystack_len_of e + more
+    → ¬ (IsTooLong e x)
+
+-- each longer span is
+abbrev pub LongerIsRefused : Type 0
+LongerIsRefused =
+    (e : Backtracker) (x : Search) → 0 < length e.nfa.states → max_haystack_len_of e < span_len x → IsTooLong e x

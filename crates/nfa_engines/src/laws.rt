@@ -10,48 +10,45 @@
 //! ```
 ghost use Rattle.regex_search_core.specs.declared.search.MatchKind.TheVariants.{All, LeftmostFirst};
 ghost use Rattle.std.specs.Prelude.{false, true};
-ghost use Rattle.nfa_engines.specs.AlikeLaws.{CutOutLinesHoldAlike, LinesHoldAlike, SameSidesHoldAlike};
-ghost use Rattle.nfa_engines.specs.AnswerLaws.{AllSlotsGiveTheMatch, FoundIsSomething, NoPatternIsNothing, NotBoth};
-ghost use Rattle.nfa_engines.specs.AnswerLaws.{NotFoundIsNothing, PatternIsMatched, PatternIsSomething};
-ghost use Rattle.nfa_engines.specs.AnswerLaws.{TwoSlotsGiveTheMatch};
-ghost use Rattle.nfa_engines.specs.CapacityLaws.{LeastCapacityIsEnough, LongerIsRefused, LongestLengthFits};
-ghost use Rattle.nfa_engines.specs.CapturesLaws.{CapturesUpToRefusal, EverySearchHasRows, FirstRowsAreMatches};
-ghost use Rattle.nfa_engines.specs.CapturesLaws.{OneRowList, RowsAreMatches, RowsAsLeftmost};
-ghost use Rattle.nfa_engines.specs.FlagLaws.{AnswerReadsNoFlag, AnswersUnderAnyFlag, FoundReadsNoFlag};
-ghost use Rattle.nfa_engines.specs.FlagLaws.{FoundUnderAnyFlag, MatchReadsNoFlag, MatchUnderAnyFlag};
-ghost use Rattle.nfa_engines.specs.FlagLaws.{MatchesReadNoFlag, PathReadsNoFlag, RowsReadNoFlag, SetReadsNoFlag};
+ghost use Rattle.nfa_paths.specs.Graphs.{IsEarliestPath, IsFirstPath};
+ghost use Rattle.nfa_paths.specs.Overlaps.{IsFirstBefore};
+ghost use Rattle.nfa_paths.specs.Paths.{IsBoolAnswer, IsFindAnswer, IsHalfAnswer, IsScanAnswer};
+ghost use Rattle.nfa_search_base.specs.Lists.{AreMatches, AreRows};
+ghost use Rattle.nfa_backtrack.specs.Backtrack.{Backtracker};
+ghost use Rattle.nfa_backtrack.specs.Finding.{BacktrackerCapturesOn, BacktrackerCapturesToEnd, BacktrackerFindsOn};
+ghost use Rattle.nfa_backtrack.specs.Finding.{BacktrackerFindsToEnd};
+ghost use Rattle.nfa_pikevm.specs.Engines.{Pike, SameCapacities};
+ghost use Rattle.nfa_pikevm.specs.Finding.{PikeCapturesOn, PikeCapturesToEnd, PikeFindsOn, PikeFindsToEnd};
 ghost use Rattle.nfa_engines.specs.FoundSpanLaws.{AnswersHaveASpan, EndMayBeCut, SearchMayBeCut, SpanMayBeCut};
 ghost use Rattle.nfa_engines.specs.FoundSpanLaws.{StartIsLeast, StartIsLeastOfAll};
 ghost use Rattle.nfa_engines.specs.GapLaws.{NoneIsNoPath, NoneStartsBefore};
-ghost use Rattle.nfa_engines.specs.HalfLaws.{HalfMatchHasThePattern, OneHalfMatch};
-ghost use Rattle.nfa_engines.specs.IterationLaws.{AtMostMatches, EndsIncrease};
-ghost use Rattle.nfa_engines.specs.Laws.{AnswersAgree, EveryScanHasAnAnswer, EverySearchHasAnAnswer, FewerSlots};
-ghost use Rattle.nfa_engines.specs.Laws.{BoolAsLeftmost, BoolIsPattern, OneBoolAnswer, OneMatch, OneScanAnswer};
-ghost use Rattle.nfa_engines.specs.Laws.{OneSearchAnswer, PathsAreOrdered, PathsAreOrderedOnce, ScansAgree};
-ghost use Rattle.nfa_engines.specs.Laws.{SearchesAgree, SlotsPastAreNone};
-ghost use Rattle.nfa_engines.specs.ListLaws.{AtMostInList, EverySearchHasAList, ListAsLeftmost, MatchesAreDisjoint};
-ghost use Rattle.nfa_engines.specs.ListLaws.{OneList};
-ghost use Rattle.nfa_engines.specs.LoopLaws.{FitsAsBefore, IsKeptByLoop, IsKeptByNone, IsKeptByTwo, LoopHoldsNoMore};
+ghost use Rattle.nfa_engines.specs.Laws.{AllSlotsGiveTheMatch, AnswersAgree, AnswersUnderAnyFlag, AtLeastOne};
+ghost use Rattle.nfa_engines.specs.Laws.{AtMostOne, BoolIsPattern, EverySearchHasAnAnswer, FewerSlots};
+ghost use Rattle.nfa_engines.specs.Laws.{FoundIsSomething, FoundUnderAnyFlag, HalfMatchHasThePattern, IsAsLeftmost};
+ghost use Rattle.nfa_engines.specs.Laws.{MatchUnderAnyFlag, NoPatternIsNothing, NotBoth, NotFoundIsNothing, OfSlots};
+ghost use Rattle.nfa_engines.specs.Laws.{OneSearchAnswer, PathReadsNoFlag, PathsAreOrdered, PathsAreOrderedOnce};
+ghost use Rattle.nfa_engines.specs.Laws.{PatternIsMatched, PatternIsSomething, ReadsNoFlag, ScansAgree};
+ghost use Rattle.nfa_engines.specs.Laws.{SearchesAgree, SetReadsNoFlag, SlotsPastAreNone, TwoSlotsGiveTheMatch};
+ghost use Rattle.nfa_engines.specs.ListLaws.{AtMostInList, AtMostMatches, CapturesUpToRefusal, EndsIncrease};
+ghost use Rattle.nfa_engines.specs.ListLaws.{FirstRowsAreMatches, MatchesAreDisjoint, RowsAreMatches};
 ghost use Rattle.nfa_engines.specs.PatternLaws.{AnswerIsOfFirst, AnswersAreOfPatterns, FirstPatternAnswers};
 ghost use Rattle.nfa_engines.specs.PatternLaws.{FirstPatternMatches, MatchIsOfFirst, MatchesAreOfPatterns};
-ghost use Rattle.nfa_engines.specs.PatternLaws.{NothingOfEachPattern, PatternIsAlone, PatternMatchesAlone};
-ghost use Rattle.nfa_engines.specs.SetLaws.{EarliestOfAllPaths, FirstOfAllPaths, FullSetStays, OneSet};
-ghost use Rattle.nfa_engines.specs.SetLaws.{SetHoldsEachPattern, SetIsComplete, SetIsOfEarliest, SetIsOfFirsts};
-ghost use Rattle.nfa_engines.specs.SpanLaws.{AnswersMove, AnswersMoveAlike, AnswersReadAssertions};
-ghost use Rattle.nfa_engines.specs.SpanLaws.{AnswersReadTheSpan, CutOutAnswers, CutOutAnswersAlike, CutOutMatches};
-ghost use Rattle.nfa_engines.specs.SpanLaws.{CutOutMatchesAlike, MatchesMove, MatchesMoveAlike, MatchesReadAssertions};
-ghost use Rattle.nfa_engines.specs.SpanLaws.{MatchesReadTheSpan};
+ghost use Rattle.nfa_engines.specs.PatternLaws.{NothingOfEachPattern, PatternIsAlone};
+ghost use Rattle.nfa_engines.specs.SetLaws.{EmptySetGains, FullSetStays, IsOfAllPaths, IsPatternOfEarliest, OneSet};
+ghost use Rattle.nfa_engines.specs.SetLaws.{SetHoldsEachPattern, SetIsComplete};
+ghost use Rattle.nfa_engines.specs.SpanLaws.{moved_found, moved_slots, CutOutLinesHoldAlike, CutOutMoves, HoldAlike};
+ghost use Rattle.nfa_engines.specs.SpanLaws.{LinesHoldAlike, Moves, NoneToHold, ReadsTheSpan, SameSidesHoldAlike};
 ghost use Rattle.nfa_engines.specs.StartLaws.{AnswersHaveAStart, FirstStartAnswers, FirstStartMatches};
-ghost use Rattle.nfa_engines.specs.StartLaws.{FirstStartMatchesAnywhere, FirstStartMoves, NothingAtByte, StartIsFirst};
-ghost use Rattle.nfa_engines.specs.StartLaws.{MatchStartsArePassed, NothingAtEachStart, StartsArePassed};
-ghost use Rattle.nfa_engines.specs.WorkLaws.{list_scan_limit, BacktrackerCapturesWithin, BacktrackerFindsWithin};
-ghost use Rattle.nfa_engines.specs.WorkLaws.{BacktrackerMatchesAreWithin, BacktrackerRowsAreWithin, PikeCapturesWithin};
-ghost use Rattle.nfa_engines.specs.WorkLaws.{PikeFindsWithin, PikeMatchesAreWithin, PikeRowsAreWithin};
-ghost use Rattle.nfa_pikevm.specs.Engines.{SameCapacities};
+ghost use Rattle.nfa_engines.specs.StartLaws.{FirstStartMoves, IsUnbound, NothingAtByte, NothingAtEachStart};
+ghost use Rattle.nfa_engines.specs.StartLaws.{StartIsFirst, StartsAnywhere, StartsArePassed};
+ghost use Rattle.nfa_engines.specs.WorkLaws.{backtracker_totals, list_scan_limit, pike_totals, FitsAsBefore};
+ghost use Rattle.nfa_engines.specs.WorkLaws.{IsKeptByLoop, IsKeptByNone, IsKeptByTwo, IterationsAreWithin};
+ghost use Rattle.nfa_engines.specs.WorkLaws.{LeastCapacityIsEnough, ListsAreWithin, LongerIsRefused};
+ghost use Rattle.nfa_engines.specs.WorkLaws.{LongestLengthFits, LoopHoldsNoMore};
 
 /// A scan has at most one answer, for each match kind and `earliest`.
 pub fn one_scan_answer()
-    ensures { OneScanAnswer }
+    ensures { AtMostOne (λ nfa kind earliest x. IsScanAnswer nfa x kind earliest) }
 {}
 
 /// A search has at most one answer, after one number of restarts.
@@ -67,7 +64,7 @@ pub fn accepting_paths_are_ordered()
 
 /// Every scan of every NFA has an answer, for each match kind and `earliest`.
 pub fn every_scan_has_an_answer()
-    ensures { EveryScanHasAnAnswer }
+    ensures { AtLeastOne (λ nfa kind earliest x. IsScanAnswer nfa x kind earliest) }
 {}
 
 /// Every search has an answer, after some number of restarts.
@@ -82,7 +79,7 @@ pub fn is_match_agrees()
     ensures scans { ScansAgree }
     ensures searches { SearchesAgree }
     ensures pattern { BoolIsPattern }
-    ensures engines { BoolAsLeftmost LeftmostFirst }
+    ensures engines { IsAsLeftmost IsBoolAnswer LeftmostFirst }
 {}
 
 /// A search has one pattern and one slot row. A PikeVM that searches leftmost first, without `earliest`, therefore
@@ -100,8 +97,8 @@ pub fn fewer_slots()
 /// A search has at most one match, and either finds something or does not. From one set an overlapping search makes one
 /// set, for each kind, with and without `earliest`.
 pub fn one_match()
-    ensures matches { OneMatch }
-    ensures found { OneBoolAnswer }
+    ensures matches { AtMostOne IsFindAnswer }
+    ensures found { AtMostOne IsBoolAnswer }
     ensures sets { OneSet All }
     ensures first_sets { OneSet LeftmostFirst }
 {}
@@ -110,7 +107,7 @@ pub fn one_match()
 /// slots, so there is a half match exactly if there is a pattern. For an NFA that records its bounds, a law of
 /// `nfa_match_spans` says that it is the end of the match that `find` gives.
 pub fn one_half_match()
-    ensures one { OneHalfMatch }
+    ensures one { AtMostOne IsHalfAnswer }
     ensures pattern { HalfMatchHasThePattern }
 {}
 
@@ -119,8 +116,8 @@ pub fn one_half_match()
 /// one `is_match`, and from one set one set.
 pub fn cache_history_is_invisible()
     ensures slots { AnswersAgree }
-    ensures matches { OneMatch }
-    ensures found { OneBoolAnswer }
+    ensures matches { AtMostOne IsFindAnswer }
+    ensures found { AtMostOne IsBoolAnswer }
     ensures patterns { OneSet All }
     ensures first_patterns { OneSet LeftmostFirst }
 {}
@@ -130,15 +127,15 @@ pub fn cache_history_is_invisible()
 /// up to the limit). With `earliest` it gains only the pattern of the earliest path.
 pub fn leftmost_sets_are_exact()
     ensures stays { FullSetStays }
-    ensures firsts { SetIsOfFirsts }
-    ensures earliest { SetIsOfEarliest }
+    ensures firsts { EmptySetGains false IsFirstBefore }
+    ensures earliest { EmptySetGains true IsPatternOfEarliest }
 {}
 
 /// If the set has room for each pattern of the NFA, the first and the earliest path that count are those of all
 /// accepting paths with a permitted end.
 pub fn room_leaves_no_path_out()
-    ensures first { FirstOfAllPaths }
-    ensures earliest { EarliestOfAllPaths }
+    ensures first { IsOfAllPaths IsFirstPath }
+    ensures earliest { IsOfAllPaths IsEarliestPath }
 {}
 
 /// Under `All`, without `earliest`, an overlapping search adds exactly the patterns below the set's capacity that have
@@ -176,9 +173,9 @@ pub fn no_gap()
 /// A search has exactly one list of its matches. The list of a PikeVM that searches leftmost first, without `earliest`,
 /// is therefore that of a backtracker for the same NFA and input.
 pub fn one_list_of_matches()
-    ensures exists { EverySearchHasAList }
-    ensures one { OneList }
-    ensures engines { ListAsLeftmost LeftmostFirst }
+    ensures exists { AtLeastOne AreMatches }
+    ensures one { AtMostOne AreMatches }
+    ensures engines { IsAsLeftmost AreMatches LeftmostFirst }
 {}
 
 /// The first matches of a search, all or some, are inside its span and in order: each starts at or after the end of the
@@ -194,9 +191,9 @@ pub fn matches_are_disjoint()
 /// PikeVM that searches leftmost first, without `earliest`, is therefore that of a backtracker for the same NFA and
 /// input, if the backtracker gives no error.
 pub fn one_list_of_captures()
-    ensures exists { EverySearchHasRows }
-    ensures one { OneRowList }
-    ensures engines { RowsAsLeftmost LeftmostFirst }
+    ensures exists { AtLeastOne AreRows }
+    ensures one { AtMostOne AreRows }
+    ensures engines { IsAsLeftmost AreRows LeftmostFirst }
     ensures matches { RowsAreMatches }
     ensures first { FirstRowsAreMatches }
     ensures refused { CapturesUpToRefusal }
@@ -206,11 +203,11 @@ pub fn one_list_of_captures()
 /// its match, whether there is one, its lists and the set that it makes are the same under any flag of the input.
 pub fn earliest_flag_is_not_read()
     ensures path { PathReadsNoFlag }
-    ensures answer { AnswerReadsNoFlag }
-    ensures found { FoundReadsNoFlag }
-    ensures match_of { MatchReadsNoFlag }
-    ensures matches { MatchesReadNoFlag }
-    ensures rows { RowsReadNoFlag }
+    ensures answer { OfSlots ReadsNoFlag }
+    ensures found { ReadsNoFlag IsBoolAnswer }
+    ensures match_of { ReadsNoFlag IsFindAnswer }
+    ensures matches { ReadsNoFlag AreMatches }
+    ensures rows { ReadsNoFlag AreRows }
     ensures set { SetReadsNoFlag }
 {}
 
@@ -247,8 +244,8 @@ pub fn found_is_an_accepting_path()
 ///
 /// Premises: neither the search nor the NFA is anchored, and no match has to end on a boundary.
 pub fn starts_may_be_passed()
-    ensures answers { StartsArePassed }
-    ensures matches { MatchStartsArePassed }
+    ensures answers { OfSlots StartsArePassed }
+    ensures matches { StartsArePassed IsFindAnswer }
     ensures nothing { NothingAtEachStart }
 {}
 
@@ -267,8 +264,8 @@ pub fn bytes_may_be_skipped()
 /// Premises: those of [`starts_may_be_passed`]. For `boundary`, the match may have to end on a boundary.
 pub fn first_start_answers()
     ensures answers { FirstStartAnswers LeftmostFirst false }
-    ensures matches { FirstStartMatches LeftmostFirst false }
-    ensures boundary { FirstStartMatchesAnywhere LeftmostFirst false }
+    ensures matches { FirstStartMatches IsUnbound LeftmostFirst false }
+    ensures boundary { FirstStartMatches StartsAnywhere LeftmostFirst false }
     ensures start { AnswersHaveAStart LeftmostFirst false }
 {}
 
@@ -294,8 +291,8 @@ pub fn answer_is_that_of_the_cut_span()
 /// A search with `Anchored::Pattern` has the answer and the match of the anchored search of that pattern only: of the
 /// NFA whose anchored start is the start of the pattern. This holds for each match kind, `earliest` or not.
 pub fn pattern_is_alone()
-    ensures answer { PatternIsAlone }
-    ensures match_of { PatternMatchesAlone }
+    ensures answer { OfSlots PatternIsAlone }
+    ensures match_of { PatternIsAlone IsFindAnswer }
 {}
 
 /// The leftmost first answer of an anchored search is that of the first pattern, in their order, that has one when it
@@ -330,12 +327,12 @@ pub fn first_pattern_is_found()
 ///
 /// Premises: no state of the NFA is a `Look`, and no match has to end on a boundary.
 pub fn answers_read_the_span()
-    ensures same { AnswersReadTheSpan }
-    ensures same_match { MatchesReadTheSpan }
-    ensures moved { AnswersMove }
-    ensures moved_match { MatchesMove }
-    ensures cut_out { CutOutAnswers }
-    ensures cut_out_match { CutOutMatches }
+    ensures same { OfSlots (ReadsTheSpan NoneToHold) }
+    ensures same_match { ReadsTheSpan NoneToHold IsFindAnswer }
+    ensures moved { OfSlots (Moves NoneToHold moved_slots) }
+    ensures moved_match { Moves NoneToHold moved_found IsFindAnswer }
+    ensures cut_out { OfSlots (CutOutMoves NoneToHold moved_slots) }
+    ensures cut_out_match { CutOutMoves NoneToHold moved_found IsFindAnswer }
 {}
 
 /// The answer of an NFA depends only on the bytes of the span and on which of its assertions hold at each position of
@@ -345,12 +342,12 @@ pub fn answers_read_the_span()
 ///
 /// Premise: no match has to end on a boundary.
 pub fn answers_read_span_and_assertions()
-    ensures same { AnswersReadAssertions }
-    ensures same_match { MatchesReadAssertions }
-    ensures moved { AnswersMoveAlike }
-    ensures moved_match { MatchesMoveAlike }
-    ensures cut_out { CutOutAnswersAlike }
-    ensures cut_out_match { CutOutMatchesAlike }
+    ensures same { OfSlots (ReadsTheSpan HoldAlike) }
+    ensures same_match { ReadsTheSpan HoldAlike IsFindAnswer }
+    ensures moved { OfSlots (Moves HoldAlike moved_slots) }
+    ensures moved_match { Moves HoldAlike moved_found IsFindAnswer }
+    ensures cut_out { OfSlots (CutOutMoves HoldAlike moved_slots) }
+    ensures cut_out_match { CutOutMoves HoldAlike moved_found IsFindAnswer }
 {}
 
 /// Which assertions hold alike, as [`answers_read_span_and_assertions`] requires. An assertion that reads no more than
@@ -371,10 +368,14 @@ pub fn assertions_hold_alike()
 /// The premises are what `find_all` and `captures_all` ensure of the cache where they are `Ok` (`to_end`), and what the
 /// iterators over matches ensure where they go on to `None` (`searches`).
 pub fn lists_are_bounded()
-    ensures pike { PikeMatchesAreWithin list_scan_limit }
-    ensures pike_rows { PikeRowsAreWithin list_scan_limit }
-    ensures backtracker { BacktrackerMatchesAreWithin list_scan_limit }
-    ensures backtracker_rows { BacktrackerRowsAreWithin list_scan_limit }
+    ensures pike { ListsAreWithin (λ (vm : Pike). vm.nfa) pike_totals list_scan_limit
+        PikeFindsToEnd }
+    ensures pike_rows { ListsAreWithin (λ (vm : Pike). vm.nfa) pike_totals list_scan_limit
+        PikeCapturesToEnd }
+    ensures backtracker { ListsAreWithin (λ (e : Backtracker). e.nfa) backtracker_totals list_scan_limit
+        BacktrackerFindsToEnd }
+    ensures backtracker_rows { ListsAreWithin (λ (e : Backtracker). e.nfa) backtracker_totals list_scan_limit
+        BacktrackerCapturesToEnd }
 {}
 
 /// Wherever an iteration stops, also after an error, the totals of the cache rise by at most 2n + 3 scans, each of at
@@ -382,10 +383,11 @@ pub fn lists_are_bounded()
 ///
 /// The premises are what all lists and iterators ensure of the cache (`searches`).
 pub fn iterations_are_bounded()
-    ensures pike { PikeFindsWithin 3 }
-    ensures pike_rows { PikeCapturesWithin 3 }
-    ensures backtracker { BacktrackerFindsWithin 3 }
-    ensures backtracker_rows { BacktrackerCapturesWithin 3 }
+    ensures pike { IterationsAreWithin (λ (vm : Pike). vm.nfa) pike_totals 3 PikeFindsOn }
+    ensures pike_rows { IterationsAreWithin (λ (vm : Pike). vm.nfa) pike_totals 3 PikeCapturesOn }
+    ensures backtracker { IterationsAreWithin (λ (e : Backtracker). e.nfa) backtracker_totals 3 BacktrackerFindsOn }
+    ensures backtracker_rows { IterationsAreWithin (λ (e : Backtracker). e.nfa) backtracker_totals 3
+        BacktrackerCapturesOn }
 {}
 
 /// A loop keeps what each of its searches keeps: the sizes of a PikeVM's cache, so the cache fits the same NFAs after

@@ -1,20 +1,9 @@
 -- From the laws on searches of texts to what the patterns find in a line.
-use Rattle.std.proofs.Common.{◌≡◌, ◌∙◌, ℕ, zero, suc, ◌+◌, ◌<◌, Bool, false, inl, inr, List, [], ◌∷◌, length, map, refl, sym, subst, ap, ap₂, add-one, arith, All, Option, None, Some, is_some, nat_lt, if◌then◌else◌, ◌==◌}
-use Rattle.std.specs.List.{AllZip}
-use Rattle.std.proofs.lemmas.Bool.{cases_Bool, lt-ltb}
-use Rattle.std.proofs.lemmas.List.{length-map}
-use Rattle.regex_hir.specs.Re.{Re}
-use Rattle.regex_hir.specs.Text.{is_some_and}
-use Rattle.nfa_paths.specs.Common.{Found, found_of, Match, whole, Automaton}
-use Rattle.regex_syntax.specs.Captures.{SameCaptures}
-use Rattle.nfa_compiler.specs.AllHits.{all_hits, hit_after, hits_from}
-use Rattle.nfa_compiler.specs.AnyStart.{FindsFromAnyStart}
-use Rattle.nfa_compiler.specs.Compiled.{IsNfaOf}
-use Rattle.nfa_compiler.specs.Laws.{hit}
-use Rattle.nfa_compiler.specs.Patterns.{PatternHit, found_at}
+use Rattle.nfa_paths.proofs.Common.{◌≡◌, ◌∙◌, ℕ, zero, suc, ◌+◌, ◌<◌, Bool, false, inl, inr, List, [], ◌∷◌, length, map, refl, sym, ap, ap₂, add-one, arith, All, Option, None, Some, is_some, option_map, nat_lt, if◌then◌else◌, ◌==◌, AllZip, cases_Bool, lt-ltb, length-map, Found, found_of, Match, whole, Automaton}
+use Rattle.nfa_compiler.specs.Common.{is_some_and, SameCaptures, all_hits, hit_after, hits_from, FindsFromAnyStart, IsNfaOf, hit, PatternHit, found_at}
 use Rattle.nfa_compiler.proofs.MeantLemmas.{AreAlike, expected-alike}
 use Rattle.nfa_compiler.proofs.UnboundLemmas.{hit-unbound, loses-none}
-use Rattle.nfa_grep.specs.Meant.{all_found, hit_from, is_found, span_of, spans_of}
+use Rattle.nfa_grep.specs.Meant.{all_found, hit_from, is_found, span_of, Re}
 
 -- something is found exactly if there are hits
 
@@ -38,7 +27,7 @@ module _ (res : List Re) (text : List ℕ) where
   found-is = rw add-one (is-hit (hit_from res text) (length text) (hit_from res text 0))
 
   -- these are all matches
-  pub found-if-any : (ms : List Match) (any : Bool) → spans_of (map found_of ms) ≡ spans_of (all_found res text)
+  pub found-if-any : (ms : List Match) (any : Bool) → map span_of (map found_of ms) ≡ map span_of (all_found res text)
       → any ≡ nat_lt 0 (length ms) → any ≡ is_found res text
   found-if-any ms any all is =
       is
@@ -62,54 +51,75 @@ module _ (res : List Re) (nfa : Automaton) (text : List ℕ) (made : IsNfaOf res
       e ∙ ap₂ (λ (from : ℕ → Option PatternHit) (first : Option PatternHit). map found_at
       (hits_from from (length text + 1) first)) all (same-from 0)
 
--- what a caller cannot tell apart
+-- where a hit starts and ends, if there is one
+abbrev pub span_at : Option PatternHit → Option (ℕ × ℕ)
+span_at o = option_map (λ h. (h.start, h.trace.end)) o
 
-alike-some : (a b : Option PatternHit) → AreAlike a b → is_some a ≡ is_some b
-alike-some None None same = refl
-alike-some None (Some h) same = absurd same
-alike-some (Some h) None same = absurd same
-alike-some (Some h) (Some g) same = refl
+some-span : (o : Option PatternHit) → is_some (span_at o) ≡ is_some o
+some-span None = refl
+some-span (Some h) = refl
 
-module _ (f g : ℕ → Option PatternHit) (alike : (i : ℕ) → AreAlike (f i) (g i)) where
-  after-alike : (i : ℕ) → AreAlike (hit_after f i) (hit_after g i)
-  after-alike i = of (f i) (g i) (alike i)
-    where
-      of : (a b : Option PatternHit) → AreAlike a b
-          → AreAlike (if is_some_and a (λ h. h.trace.end == i) then f (i + 1) else a)
-          (if is_some_and b (λ h. h.trace.end == i) then g (i + 1) else b)
-      of None None same = tt
-      of None (Some k) same = absurd same
-      of (Some h) None same = absurd same
-      of (Some h) (Some k) same =
-          let ends : (h.trace.end == i) ≡ (k.trace.end == i) = ap (λ (n : ℕ). n == i) same.end in
-          elim (cases_Bool (k.trace.end == i)) [
-            | inl there ↦ rw (ends, there) (alike (i + 1))
-            | inr other ↦ rw (ends, other) same
-          ]
+-- the hit after one that ended at i, of the hit from there and the one from the next place on
+abbrev chosen : ℕ → Option PatternHit → Option PatternHit → Option PatternHit
+chosen i here next = if is_some_and here (λ h. h.trace.end == i) then next else here
 
-  hits-alike : (n : ℕ) (a b : Option PatternHit) → AreAlike a b
-      → map found_at (hits_from f n a) ≡ map found_at (hits_from g n b)
+same-chosen : (i : ℕ) (a b c d : Option PatternHit) → span_at a ≡ span_at b → span_at c ≡ span_at d
+    → span_at (chosen i a c) ≡ span_at (chosen i b d)
+same-chosen i None None c d same next = refl
+same-chosen i None (Some k) c d same next = absurd (cc)
+same-chosen i (Some h) None c d same next = absurd (cc)
+same-chosen i (Some h) (Some k) c d same next =
+    let spans : (h.start, h.trace.end) ≡ (k.start, k.trace.end) = cc in
+    let ends : (h.trace.end == i) ≡ (k.trace.end == i) = ap (λ (s : ℕ × ℕ). s.1 == i) spans in
+    elim (cases_Bool (k.trace.end == i)) [
+      | inl there ↦ rw (ends, there) next
+      | inr other ↦ rw (ends, other) same
+    ]
+
+-- two ways to search whose hits are at the same places
+module _ (f g : ℕ → Option PatternHit) (same : (i : ℕ) → span_at (f i) ≡ span_at (g i)) where
+  hits-same : (n : ℕ) (a b : Option PatternHit) → span_at a ≡ span_at b
+      → map span_of (map found_at (hits_from f n a)) ≡ map span_of (map found_at (hits_from g n b))
   unfolding hits_from
-  hits-alike zero a b same = refl
-  hits-alike (suc n) None None same = refl
-  hits-alike (suc n) None (Some k) same = absurd same
-  hits-alike (suc n) (Some h) None same = absurd same
-  hits-alike (suc n) (Some h) (Some k) same =
-      let found : found_at h ≡ found_at k =
-      λ i. record { pattern = same.pattern i; start = same.start i; end = same.end i } in
-      let after : AreAlike (hit_after f h.trace.end) (hit_after g k.trace.end) =
-      subst (λ (m : ℕ). AreAlike (hit_after f h.trace.end) (hit_after g m)) same.end (after-alike h.trace.end) in
-      ap₂ (λ x xs. x ∷ xs) found (hits-alike n (hit_after f h.trace.end) (hit_after g k.trace.end) after)
+  hits-same zero a b e = refl
+  hits-same (suc n) None None e = refl
+  hits-same (suc n) None (Some k) e = absurd (cc)
+  hits-same (suc n) (Some h) None e = absurd (cc)
+  hits-same (suc n) (Some h) (Some k) e =
+      let here : (h.start, h.trace.end) ≡ (k.start, k.trace.end) = cc in
+      let end = h.trace.end in
+      let after : span_at (hit_after f end) ≡ span_at (hit_after g k.trace.end) =
+      same-chosen end (f end) (g end) (f (end + 1)) (g (end + 1)) (same end) (same (end + 1))
+      ∙ ap (λ (s : ℕ × ℕ). span_at (hit_after g s.1)) here in
+      ap₂ (λ (s : ℕ × ℕ) (l : List (ℕ × ℕ)). s ∷ l) here
+      (hits-same n (hit_after f end) (hit_after g k.trace.end) after)
 
+module _ (text : List ℕ) (ones others : List Re)
+    (same : (i : ℕ) → span_at (hit_from ones text i) ≡ span_at (hit_from others text i)) where
+  pub found-by-spans : is_found ones text ≡ is_found others text
+  found-by-spans =
+      sym (some-span (hit_from ones text 0)) ∙ ap is_some (same 0) ∙ some-span (hit_from others text 0)
+
+  pub spans-by-spans : map span_of (all_found ones text) ≡ map span_of (all_found others text)
+  spans-by-spans =
+      hits-same (hit_from ones text) (hit_from others text) same (length text + 1) (hit_from ones text 0)
+      (hit_from others text 0) (same 0)
+
+alike-span : (a b : Option PatternHit) → AreAlike a b → span_at a ≡ span_at b
+alike-span None None same = refl
+alike-span None (Some h) same = absurd same
+alike-span (Some h) None same = absurd same
+alike-span (Some h) (Some g) same = λ i. Some (same.start i, same.end i)
+
+-- patterns that match alike
 module _ (text : List ℕ) (bytes : All (λ b. b < 256) text) (trees res : List Re)
     (same : AllZip SameCaptures trees res) where
-  from-alike : (i : ℕ) → AreAlike (hit_from trees text i) (hit_from res text i)
-  from-alike i = expected-alike (record (whole text) { start = i }) bytes trees res false same
+  span-alike : (i : ℕ) → span_at (hit_from trees text i) ≡ span_at (hit_from res text i)
+  span-alike i = alike-span (hit_from trees text i) (hit_from res text i)
+      (expected-alike (record (whole text) { start = i }) bytes trees res false same)
 
   pub found-same : is_found trees text ≡ is_found res text
-  found-same = alike-some (hit_from trees text 0) (hit_from res text 0) (from-alike 0)
+  found-same = found-by-spans text trees res span-alike
 
-  pub all-found-same : all_found trees text ≡ all_found res text
-  all-found-same =
-      hits-alike (hit_from trees text) (hit_from res text) from-alike (length text + 1) (hit_from trees text 0)
-      (hit_from res text 0) (from-alike 0)
+  pub spans-same : map span_of (all_found trees text) ≡ map span_of (all_found res text)
+  spans-same = spans-by-spans text trees res span-alike

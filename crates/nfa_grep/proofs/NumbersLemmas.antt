@@ -1,90 +1,49 @@
 -- A pattern matches somewhere in a text exactly if the reference matcher finds it by itself. So a set of the patterns
 -- that match holds those that are found.
-use Rattle.std.proofs.Common.{◌≡◌, ◌∙◌, ℕ, zero, suc, ◌+◌, ◌-◌, ◌≤◌, ◌<◌, Bool, true, false, List, [], ◌∷◌, length, refl, sym, ap, arith, get_or, ◌↔◌, All, Option, None, Some, is_some, slice_index_or}
-use Rattle.std.specs.List.{AllZip}
-use Rattle.std.specs.Option.{option_or}
-use Rattle.std.proofs.lemmas.Bool.{le-ltb}
-use Rattle.std.proofs.lemmas.List.{ext_get_or, get_or-map, length-map}
-use Rattle.regex_hir.specs.Matches.{Matches}
-use Rattle.regex_syntax.specs.Captures.{SameCaptures}
-use Rattle.regex_hir.specs.Re.{Re, Trace, accept, attempt, empty}
-use Rattle.regex_hir.proofs.AttemptLemmas.{attempt_complete, attempt_sound}
+use Rattle.nfa_paths.proofs.Common.{◌≡◌, ◌∙◌, ℕ, zero, suc, ◌+◌, ◌-◌, ◌<◌, Bool, true, false, List, [], ◌∷◌, length, refl, sym, ap, arith, get_or, ◌↔◌, All, Option, None, Some, is_some, option_map, slice_index_or, AllZip, option_or, le-ltb, ext_get_or, get_or-map, length-map, whole, HoldsPattern}
+use Rattle.nfa_compiler.specs.Common.{SameCaptures, find, first_from, Trace, accept, attempt, empty, PatternMatches, expected, first_hit, hit_of, pick, MatchesIn}
+use Rattle.regex_hir.proofs.FindLemmas.{IsFirst-of_first_between, find_complete, find_sound}
 use Rattle.regex_hir.proofs.OptionLemmas.{value_of_IsSome}
-use Rattle.nfa_paths.specs.Common.{whole, HoldsPattern}
-use Rattle.nfa_compiler.specs.KindLaws.{PatternMatches}
-use Rattle.nfa_compiler.specs.Patterns.{PatternHit, expected, first_hit, hit_of, pick}
-use Rattle.nfa_compiler.specs.Written.{MatchesIn}
-use Rattle.nfa_grep.specs.Meant.{is_found, which_found}
+use Rattle.nfa_grep.specs.Meant.{is_found, which_found, Re}
 use Rattle.nfa_grep.proofs.MeantLemmas.{found-same}
 use Rattle.nfa_paths.proofs.TestLemmas.{same_test}
 
--- the first hit is at one of the positions
-
-first-sound : (at : ℕ → Option PatternHit) (n i : ℕ) → is_some (first_hit at n i) ≡ true
-    → (j : ℕ) × (j < i + n) × (is_some (at j) ≡ true)
-first-sound at zero i never = absurd cc
-first-sound at (suc n) i some = of (at i) refl some (first-sound at n (i + 1))
-  where
-    of : (o : Option PatternHit) → at i ≡ o → is_some (option_or o (first_hit at n (i + 1))) ≡ true
-        → (is_some (first_hit at n (i + 1)) ≡ true → (j : ℕ) × (j < i + 1 + n) × (is_some (at j) ≡ true))
-        → (j : ℕ) × (j < i + suc n) × (is_some (at j) ≡ true)
-    of None is later rest = let found = rest later in (found.0, omega (arith, found.1), found.2)
-    of (Some h) is here rest = (i, omega arith, ap is_some is)
-
-first-complete : (at : ℕ → Option PatternHit) (n i j : ℕ) → i ≤ j → j < i + n → is_some (at j) ≡ true
-    → is_some (first_hit at n i) ≡ true
-first-complete at zero i j from to some = absurd (omega arith)
-first-complete at (suc n) i j from to some =
-    of (at i) refl (λ past. first-complete at n (i + 1) j (omega arith) (omega arith) some)
-  where
-    never : false ≡ true → ⊥
-    never e = cc
-
-    of : (o : Option PatternHit) → at i ≡ o → (i < j → is_some (first_hit at n (i + 1)) ≡ true)
-        → is_some (option_or o (first_hit at n (i + 1))) ≡ true
-    of None is rest =
-        let past : (i ≡ j → ⊥) = λ same. never (sym (ap is_some is) ∙ ap (λ k. is_some (at k)) same ∙ some) in
-        rest (omega arith)
-    of (Some h) is rest = refl
-
+-- one pattern is found exactly if the search for it finds a match
 module _ (text : List ℕ) (re : Re) where
-  -- the hit of one pattern at a position
-  abbrev at : ℕ → Option PatternHit
-  at i = pick text (re ∷ []) 0 i
-
-  matched-from : (i : ℕ) → is_some (hit_of 0 i (attempt text re accept i)) ≡ true → (j : ℕ) × Matches text re i j
-  matched-from i some = of (attempt text re accept i) refl some
+  first-is : (n i : ℕ)
+      → is_some (first_hit (pick text (re ∷ []) 0) n i) ≡ is_some (first_from (attempt text re accept) n i)
+  unfolding first_from
+  first-is zero i = refl
+  first-is (suc n) i = of (attempt text re accept i) (first-is n (i + 1))
     where
-      of : (o : Option Trace) → attempt text re accept i ≡ o → is_some (hit_of 0 i o) ≡ true
-          → (j : ℕ) × Matches text re i j
-      of None is never = absurd cc
-      of (Some t) is here = let match = attempt_sound text re accept i t is in (match.at, match.leads)
+      of : (o : Option Trace) → is_some (first_hit (pick text (re ∷ []) 0) n (i + 1))
+          ≡ is_some (first_from (attempt text re accept) n (i + 1))
+          → is_some (option_or (option_or (hit_of 0 i o) None) (first_hit (pick text (re ∷ []) 0) n (i + 1)))
+          ≡ is_some (option_or (option_map (λ t. record { start = i; trace = t }) o)
+          (first_from (attempt text re accept) n (i + 1)))
+      of None later = later
+      of (Some t) later = refl
 
-  hit-from : (i j : ℕ) → Matches text re i j → is_some (hit_of 0 i (attempt text re accept i)) ≡ true
-  hit-from i j m =
-      let v = value_of_IsSome (attempt text re accept i) (attempt_complete text re accept i j m refl) in
-      ap (λ o. is_some (hit_of 0 i o)) v.1
-
-  only : (o : Option PatternHit) → is_some (option_or o None) ≡ is_some o
-  only None = refl
-  only (Some h) = refl
-
-  found-is : is_found (re ∷ []) text ≡ is_some (first_hit at (length text - 0 + 1) 0)
-  unfolding expected
-  found-is = rw (le-ltb (length text) 0 (omega arith)) refl
+  found-is : is_found (re ∷ []) text ≡ is_some (find re text 0)
+  unfolding expected find
+  found-is =
+      let count : length text - 0 + 1 ≡ length text + 1 - 0 = omega arith in
+      rw (le-ltb (length text) 0 (omega arith), count) (first-is (length text + 1 - 0) 0)
 
   pub found-matches : is_found (re ∷ []) text ≡ true → MatchesIn text re
+  unfolding find
   found-matches found =
-      let first = first-sound at (length text - 0 + 1) 0 (sym found-is ∙ found) in
-      let here = matched-from first.0
-      (sym (only (hit_of 0 first.0 (attempt text re accept first.0))) ∙ first.2) in
-      record { start = first.0; end = here.0; within = omega (arith, first.1); matches = here.1 }
+      let m = value_of_IsSome (find re text 0) (sym found-is ∙ found) in
+      let first = IsFirst-of_first_between (attempt text re accept) 0 (length text) m.0 m.1 in
+      record {
+        start = m.0.start;
+        end = m.0.trace.end;
+        within = first.to;
+        matches = (find_sound re text 0 m.0 m.1).1;
+      }
 
   pub matches-found : MatchesIn text re → is_found (re ∷ []) text ≡ true
-  matches-found m =
-      let here = hit-from m.start m.end m.matches in
-      found-is ∙ first-complete at (length text - 0 + 1) 0 m.start (omega arith) (omega (arith, m.within))
-      (only (hit_of 0 m.start (attempt text re accept m.start)) ∙ here)
+  matches-found m = found-is ∙ find_complete re text 0 m.start m.end (omega arith) m.within m.matches
 
 module _ (text : List ℕ) (bytes : All (λ b. b < 256) text) where
   pub same-which : (trees res : List Re) → AllZip SameCaptures trees res → which_found trees text ≡ which_found res text

@@ -1,15 +1,11 @@
 -- The matches of a text are printed one by one.
-use Rattle.std.proofs.Common.{◌≡◌, ◌∙◌, ℕ, ◌+◌, ◌-◌, ◌<◌, Bool, false, List, [], ◌∷◌, ◌++◌, append_assoc, ap, arith, drop, get_or, length, map, ne_eqb, refl, subst, sym, Option, None, Some, ◌==◌, if◌then◌else◌, not, slice_range}
-use Rattle.std.proofs.lemmas.List.{drop_more, length-drop, take_all}
-use Rattle.nfa_paths.specs.Common.{Found, found_of, whole, Match}
-use Rattle.nfa_engines.specs.Lists.{AreDisjoint}
+use Rattle.nfa_paths.proofs.Common.{◌≡◌, ◌∙◌, ℕ, ◌+◌, ◌-◌, ◌<◌, Bool, false, List, [], ◌∷◌, ◌++◌, append_assoc, ap, arith, common_steps, drop, get_or, length, map, ne_eqb, refl, subst, sym, Option, None, Some, ◌==◌, if◌then◌else◌, not, slice_range, drop_more, take_all, Found, found_of, whole, Match}
+use Rattle.nfa_search_base.specs.Common.{AreDisjoint}
 use Rattle.nfa_meta.specs.Gaps.{last_end}
 use Rattle.text_lines.specs.Lines.{with_end}
-use Rattle.regex_hir.specs.Re.{Re}
-use Rattle.nfa_grep.specs.Meant.{all_found, span_of, spans_of}
+use Rattle.nfa_grep.specs.Meant.{all_found, span_of, Options, Re}
 use Rattle.nfa_grep.specs.Printed.{painted_line, text_of}
-use Rattle.nfa_grep.specs.declared.options.Options.{Options}
-use Rattle.nfa_grep.specs.Painted.{HasPainted, Part, bare_part, in_colours, matched_from, painted, painted_text, part_of, parts_from}
+use Rattle.nfa_grep.specs.Painted.{HasPainted, in_colours, matched_from, painted, painted_text, parts_from}
 use Rattle.nfa_grep.specs.declared.paint.Colour.TheVariants as paint
 
 -- one more match was printed
@@ -39,34 +35,18 @@ painted-more text ms i found from next before out after less item printed is end
     })
 
 -- the parts of a text do not depend on the numbers of the patterns that match
-parts-same : (text : List ℕ) (from : ℕ) (ms ns : List Found) → spans_of ms ≡ spans_of ns
+parts-same : (text : List ℕ) (from : ℕ) (ms ns : List Found) → map span_of ms ≡ map span_of ns
     → parts_from text from ms ≡ parts_from text from ns
 parts-same text from [] [] same = refl
 parts-same text from [] (n ∷ ns) same = absurd (cc)
 parts-same text from (m ∷ ms) [] same = absurd (cc)
-parts-same text from (m ∷ ms) (n ∷ ns) same =
-    let one : span_of m ≡ span_of n = cc in
-    let rest : spans_of ms ≡ spans_of ns = cc in
-    let at : ℕ × ℕ → List Part = λ span. bare_part (slice_range text from span.0)
-    ∷ (part_of text (record { pattern = 0; start = span.0; end = span.1 }) ∷ parts_from text span.1 ms) in
-    ap at one ∙ ap (λ (l : List Part). bare_part (slice_range text from n.start) ∷ (part_of text n ∷ l))
-    (parts-same text n.end ms ns rest)
+parts-same text from (m ∷ ms) (n ∷ ns) same = grind (arith, same, parts-same text n.end ms ns)
 
 -- a line was printed in colours
 pub line-shown : (options : Options) (res : List Re) (line text : List ℕ) (list : List Found)
     (out middle after : List ℕ) (end : ℕ) → text ≡ text_of options line
-    → spans_of list ≡ spans_of (all_found res (text_of options line)) → middle ≡ out ++ painted_text text list
+    → map span_of list ≡ map span_of (all_found res (text_of options line)) → middle ≡ out ++ painted_text text list
     → after ≡ middle ++ with_end end (slice_range line (length text) (length line)) → end ≡ options.end
     → after ≡ out ++ painted_line options res line
 line-shown options res line text list out middle after end text-is list-is middle-is is end-is =
-    let rest : slice_range line (length text) (length line) ≡ drop (length text) line =
-    take_all (length line - length text) (drop (length text) line) (omega (arith, length-drop (length text) line)) in
-    is
-    ∙ ap (λ (l : List ℕ). middle ++ with_end end l) rest
-    ∙ ap (λ (l : List ℕ). l ++ with_end end (drop (length text) line)) middle-is
-    ∙ append_assoc out (painted_text text list) (with_end end (drop (length text) line))
-    ∙ ap (λ (n : ℕ). out ++ (painted_text text list ++ with_end n (drop (length text) line))) end-is
-    ∙ ap (λ (l : List ℕ). out ++ (painted_text l list ++ with_end options.end (drop (length l) line))) text-is
-    ∙ ap (λ (parts : List Part). out ++ (in_colours parts
-    ++ with_end options.end (drop (length (text_of options line)) line)))
-    (parts-same (text_of options line) 0 list (all_found res (text_of options line)) list-is)
+    grind (arith, common_steps, parts-same, text-is, list-is, middle-is, is, end-is, take_all)

@@ -1,20 +1,11 @@
 -- From what the parser returns to what texts mean.
-use Rattle.std.proofs.Common.{◌≡◌, Bool, List, [], ◌∷◌, false, true, ℕ, MatchOption, None, Option, Some}
-use Rattle.std.specs.List.{AllZip}
-use Rattle.regex_hir.specs.Meaning.{meaning}
-use Rattle.regex_hir.specs.Re.{Re, look}
-use Rattle.regex_hir.specs.declared.look.Look.TheVariants.{Start, WordStartHalfUnicode}
+use Rattle.nfa_paths.proofs.Common.{◌≡◌, Bool, List, [], ◌∷◌, false, true, ℕ, MatchOption, None, Option, Some, AllZip, Automaton}
+use Rattle.nfa_compiler.specs.Common.{meaning, look, Start, WordStartHalfUnicode, SameCaptures, Config, Parsed, IsMeant, IsNfaOf, IsTreeOf, res_of}
 use Rattle.regex_syntax.proofs.CapturesLemmas.{alike_cat, alike_refl}
-use Rattle.regex_syntax.specs.Captures.{SameCaptures}
-use Rattle.regex_syntax.specs.declared.Config.{Config}
-use Rattle.regex_syntax.specs.declared.Parsed.{Parsed}
-use Rattle.nfa_paths.specs.Common.{Automaton}
-use Rattle.nfa_compiler.specs.Compiled.{IsMeant, IsNfaOf, IsTreeOf, res_of}
 use Rattle.nfa_compiler.proofs.MeantLemmas.{all-meant}
-use Rattle.nfa_grep.specs.Meant.{ArePatterns, IsBuilt, IsOfAll, IsReadFrom, IsSearched, bounded}
+use Rattle.nfa_grep.specs.Meant.{ArePatterns, IsBuilt, IsReadFrom, bounded, Options, Re}
 use Rattle.nfa_grep.specs.declared.options.Bounds.{Bounds}
 use Rattle.nfa_grep.specs.declared.options.Bounds.TheVariants.{Anywhere, Words, Line}
-use Rattle.nfa_grep.specs.declared.options.Options.{Options}
 
 -- patterns that match alike still do if their matches are bounded
 pub bounded-alike : (bounds : Bounds) (a b : Re) → SameCaptures a b → SameCaptures (bounded bounds a) (bounded bounds b)
@@ -43,16 +34,13 @@ trees-alike options (text ∷ texts) (tree ∷ trees) (re ∷ res) read are =
 -- an NFA of the trees
 module _ (options : Options) (texts : List (List ℕ)) (trees : List Parsed)
     (read : AllZip (IsReadFrom options) texts trees) where
-  pub built : (nfa : Automaton) → IsNfaOf (res_of trees) nfa → IsBuilt options texts nfa
-  built nfa made =
-      record { trees = res_of trees; made = made; same = λ res are. trees-alike options texts trees res read are }
-
-  pub searched : (nfa : Automaton) → IsOfAll (res_of trees) nfa → IsSearched options texts nfa
-  searched nfa made =
+  pub built : (Made : List Re → Automaton → Type 0) (nfa : Automaton) → Made (res_of trees) nfa
+      → IsBuilt Made options texts nfa
+  built Made nfa made =
       record { trees = res_of trees; made = made; same = λ res are. trees-alike options texts trees res read are }
 
   pub which-built : (wanted : Bool) (which : Option Automaton)
       → MatchOption which (wanted ≡ false) (λ nfa. (wanted ≡ true) × IsNfaOf (res_of trees) nfa)
-      → MatchOption which (wanted ≡ false) (λ nfa. (wanted ≡ true) × IsBuilt options texts nfa)
+      → MatchOption which (wanted ≡ false) (λ nfa. (wanted ≡ true) × IsBuilt IsNfaOf options texts nfa)
   which-built wanted None none = none
-  which-built wanted (Some nfa) some = (some.0, built nfa some.1)
+  which-built wanted (Some nfa) some = (some.0, built IsNfaOf nfa some.1)

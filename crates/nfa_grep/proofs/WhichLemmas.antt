@@ -1,14 +1,7 @@
 -- From the law on sets of patterns to which patterns match in a line.
-use Rattle.std.proofs.Common.{◌≡◌, ℕ, zero, suc, ◌<◌, ◌⊎◌, inr, ⊎_elim, Bool, true, false, List, length, refl, subst, arith, ◌↔◌, ◌==◌, replicate}
-use Rattle.std.proofs.lemmas.List.{length-replicate}
-use Rattle.regex_hir.specs.Re.{Re}
-use Rattle.nfa_paths.specs.Common.{Search, whole, MatchKind}
+use Rattle.nfa_paths.proofs.Common.{◌≡◌, ℕ, zero, suc, ◌<◌, ◌⊎◌, inr, ⊎_elim, Bool, true, false, List, length, refl, subst, arith, ◌↔◌, ◌==◌, replicate, length-replicate, Search, whole, MatchKind, Automaton, HoldsPattern, IsOverlapResult}
+use Rattle.nfa_compiler.specs.Common.{Re, FindsFromAnyStart, IsNfaOf, PatternMatches}
 use Rattle.regex_search_core.specs.declared.search.MatchKind.TheVariants.{All}
-use Rattle.nfa_engines.specs.Automaton.{Automaton}
-use Rattle.nfa_engines.specs.Overlaps.{HoldsPattern, IsOverlapResult}
-use Rattle.nfa_compiler.specs.AnyStart.{FindsFromAnyStart}
-use Rattle.nfa_compiler.specs.Compiled.{IsNfaOf}
-use Rattle.nfa_compiler.specs.KindLaws.{PatternMatches}
 use Rattle.nfa_compiler.proofs.UnboundLemmas.{loses-none, matches-unbound}
 
 -- a set of `All` that is not asked for the earliest match

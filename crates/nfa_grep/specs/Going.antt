@@ -2,15 +2,11 @@
 use Rattle.std.specs.Prelude.{◌≡◌, ℕ, ◌+◌, ◌-◌, ◌<◌, ◌≤◌, ◌⊎◌, All, Bool, true, false, List, [], ◌++◌, Option, Some, IfSome, length, map}
 use Rattle.std.specs.List.{concat}
 use Rattle.std.specs.Io.KnownBytes.{Appends}
-use Rattle.regex_hir.specs.Re.{Re}
-use Rattle.text_lines.specs.Lines.{records_of}
-use Rattle.nfa_grep.specs.Grouped.{Item, context_of, grouped}
-use Rattle.nfa_grep.specs.Printed.{is_selected, items, limit_of, output, printed, read, read_in, searched_in, selected_count}
-use Rattle.nfa_grep.specs.declared.groups.Groups.{Groups}
-use Rattle.nfa_grep.specs.declared.options.Context.{Context}
-use Rattle.nfa_grep.specs.declared.options.Options.{Options}
-use Rattle.nfa_grep.specs.declared.options.Report.{Report}
-use Rattle.nfa_grep.specs.declared.search.LineStart.{LineStart}
+use Rattle.text_lines.specs.Lines.{AreFirstRecords, records_of}
+use Rattle.nfa_grep.specs.Meant.{Options, Re}
+use Rattle.nfa_grep.specs.Printed.{Context, Item, Report, context_of, grouped, is_selected, items, limit_of, output, printed, read, read_in, selected_count}
+pub use Rattle.nfa_grep.specs.declared.groups.Groups.{Groups}
+pub use Rattle.nfa_grep.specs.declared.search.LineStart.{LineStart}
 
 -- the reader has what comes after these lines of the text, and so it has not read beyond them
 pub record StopsAfter (text : List ℕ) (lines : List (List ℕ)) (input : Option (List ℕ)) : Type 0 where
@@ -42,22 +38,13 @@ pub record IsInOrder (groups : Groups) : Type 0 where
 pub record HasPassed (options : Options) (res : List Re) (text : List ℕ) (left : Option (List ℕ)) (at next : LineStart)
     (old new : Groups) : Type 0 where
   pub lines : List (List ℕ)
-  pub rest : List ℕ
-  pub left_is : left ≡ Some rest
-  pub text_is : text ≡ concat lines ++ rest
-  pub records_are : records_of options.end text ≡ lines ++ records_of options.end rest
+  pub first : AreFirstRecords options.end text left lines
   pub number_is : next.number ≡ at.number + length lines
   pub offset_is : next.offset ≡ at.offset + length (concat lines)
   pub unselected : All (λ line. is_selected options res line ≡ false) lines
   pub none_left : 0 < length lines → old.left ≡ 0
   pub printed_is : (items : List Item) → length lines ≡ length items → All (λ item. item.selected ≡ false) items
       → (later : List Item) → printed_later old (items ++ later) ≡ printed_later new later
-
--- the same, if the bytes of the reader are known
-abbrev pub PassesLines : Options → List Re → Option (List ℕ) → Option (List ℕ) → LineStart → LineStart → Groups → Groups
-    → Type 0
-PassesLines options res before left at next old new =
-    IfSome before (λ text. HasPassed options res text left at next old new)
 
 module _ (wanted : Bool) (options : Options) (res : List Re) (name : List ℕ) (context : Context) (used : Bool)
     (limit : ℕ) where
@@ -75,23 +62,16 @@ module _ (wanted : Bool) (options : Options) (res : List Re) (name : List ℕ) (
     pub printed_is : printed wanted options res name context used limit text ≡ written
         ++ printed_later groups (items wanted options res name (limit - count) number offset
         (records_of options.end rest))
-    pub count_is : selected_count options res (searched_in options res limit text)
-        ≡ count + selected_count options res (searched_in options res (limit - count) rest)
+    pub count_is : selected_count options res limit text ≡ count + selected_count options res (limit - count) rest
     pub read_is : concat (read_in options res context limit text)
         ≡ taken ++ concat (read options res context (limit - count) groups.left (records_of options.end rest))
-
-  -- the same, if the bytes of the reader were known at first
-  abbrev pub HasPrinted : Option (List ℕ) → Option (List ℕ) → Option (List ℕ) → Option (List ℕ) → ℕ → ℕ → ℕ → Groups
-      → Type 0
-  HasPrinted input-before input out-before out number offset count groups =
-      IfSome input-before (λ text. IsGoing text input out-before out number offset count groups)
 
   -- the lines of the text that are to be printed were printed, and `count` of those that were searched are selected
   abbrev pub PrintsLines : Option (List ℕ) → Option (List ℕ) → Option (List ℕ) → Option (List ℕ) → ℕ → Type 0
   PrintsLines input-before input out-before out count =
       IfSome input-before (λ text.
       Appends out-before out (printed wanted options res name context used limit text)
-      × (count ≡ selected_count options res (searched_in options res limit text))
+      × (count ≡ selected_count options res limit text)
       × StopsAfter text (read_in options res context limit text) input)
 
 module _ (report : Report) (options : Options) (res : List Re) (name : List ℕ) (context : Context) (used : Bool)
@@ -100,7 +80,7 @@ module _ (report : Report) (options : Options) (res : List Re) (name : List ℕ)
   abbrev pub PrintsOutput : Option (List ℕ) → Option (List ℕ) → Option (List ℕ) → ℕ → Type 0
   PrintsOutput input out-before out count =
       IfSome input (λ text. Appends out-before out (output report options res name context used limit text)
-      × (count ≡ selected_count options res (searched_in options res (limit_of report limit) text)))
+      × (count ≡ selected_count options res (limit_of report limit) text))
 
 module _ (report : Report) (options : Options) (res : List Re) (context : Context) (limit : ℕ) where
   -- nothing was read after the line with which the limit is reached, and after those that are printed because of it

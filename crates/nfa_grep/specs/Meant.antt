@@ -1,22 +1,22 @@
--- What patterns mean, and what they find in a line, in the words of the reference matcher.
-use Rattle.std.specs.Prelude.{◌≡◌, ℕ, ◌+◌, ◌⊎◌, Bool, false, List, [], ◌∷◌, length, map, Option, is_some, chars, encode_utf8_all, if◌then◌else◌}
-use Rattle.std.specs.List.{AllZip}
-use Rattle.regex_hir.specs.Meaning.{alt_all, cat_all, meaning}
-use Rattle.regex_hir.specs.Re.{Re, look}
-use Rattle.regex_hir.specs.declared.look.Look.TheVariants.{Start, End, WordStartHalfUnicode, WordEndHalfUnicode}
-use Rattle.nfa_paths.specs.Common.{Found, whole, Automaton}
-use Rattle.regex_search_core.specs.PatternSets.{patterns_of}
-use Rattle.regex_syntax.specs.Captures.{SameCaptures}
-use Rattle.regex_syntax.specs.Verdict.{default_flags, escaped_text}
-use Rattle.regex_syntax.specs.declared.Config.{Config}
-use Rattle.regex_syntax.specs.declared.Parsed.{Parsed}
-use Rattle.nfa_compiler.specs.AllHits.{hits_from}
-use Rattle.nfa_compiler.specs.Compiled.{IsMeant, IsNfaOf}
-use Rattle.nfa_compiler.specs.Patterns.{PatternHit, expected, found_at}
-use Rattle.nfa_compiler.specs.Written.{byte_syntax}
+-- What patterns mean, what they find in a line, in the words of the reference matcher, and why they are refused.
+use Rattle.std.specs.Prelude.{◌≡◌, ◌==◌, ℕ, ◌+◌, ◌<◌, ◌⊎◌, ◌++◌, Bool, false, List, [], ◌∷◌, length, map, None, Option, Some, is_some, chars, codes, decimal, encode_utf8_all, if◌then◌else◌, slice_index_or, ⊤}
+use Rattle.std.specs.List.{AllZip, slice_split}
+use Rattle.nfa_paths.specs.Common.{Found, whole, Automaton, is_utf8_empty, patterns_of}
+pub use Rattle.nfa_compiler.specs.Common.{Re}
+use Rattle.nfa_compiler.specs.Common.{alt_all, cat_all, meaning, look, Start, End, WordStartHalfUnicode, WordEndHalfUnicode, SameCaptures, default_flags, escaped_text, Config, Parsed, hits_from, FindsFromAnyStart, IsMeant, IsNfaOf, IsOfNoText, IsRejection, NamesPattern, PatternHit, compile_error_text, expected, found_at, byte_syntax, only_pattern_text, res_of}
+use Rattle.nfa_compiler.specs.declared.error.CompileError.{CompileError}
+use Rattle.nfa_compiler.specs.declared.error.CompileError.TheVariants.{Syntax}
+use Rattle.nfa_choice.specs.ChoiceState.{ChoiceState}
+use Rattle.text_lines.specs.Lines.{line_feed}
+use Rattle.nfa_grep.specs.declared.fault.Fault.{Fault}
+use Rattle.nfa_grep.specs.declared.fault.Fault.TheVariants as fault
 use Rattle.nfa_grep.specs.declared.options.Bounds.{Bounds}
 use Rattle.nfa_grep.specs.declared.options.Bounds.TheVariants.{Anywhere, Words, Line}
-use Rattle.nfa_grep.specs.declared.options.Options.{Options}
+pub use Rattle.nfa_grep.specs.declared.options.Options.{Options}
+
+-- what is between the line feeds of a text: one line if it has none
+abbrev pub lines_in : List ℕ → List (List ℕ)
+lines_in text = slice_split (λ byte. byte == line_feed) text
 
 -- how the grammar reads a text: patterns may match bytes that are not text, and with `ignore_case` the flag `i` is set
 abbrev pub syntax_of : Options → Config
@@ -48,21 +48,24 @@ ArePatterns options texts res = AllZip (IsPattern options) texts res
 abbrev pub IsReadFrom : Options → List ℕ → Parsed → Type 0
 IsReadFrom options text tree = (re : Re) → IsPattern options text re → SameCaptures (meaning tree.hir) re
 
--- the NFA is made of patterns that match as what the texts mean
-pub record IsBuilt (options : Options) (texts : List (List ℕ)) (nfa : Automaton) : Type 0 where
-  pub trees : List Re
-  pub made : IsNfaOf trees nfa
-  pub same : (res : List Re) → ArePatterns options texts res → AllZip SameCaptures trees res
-
 -- the NFA is made of these patterns, or of one pattern that tries them in order
 abbrev pub IsOfAll : List Re → Automaton → Type 0
 IsOfAll res nfa = IsNfaOf res nfa ⊎ IsNfaOf (alt_all res ∷ []) nfa
 
--- the same, of patterns that match as what the texts mean
-pub record IsSearched (options : Options) (texts : List (List ℕ)) (nfa : Automaton) : Type 0 where
+-- the NFA is made in this way of patterns that match as what the texts mean
+pub record IsBuilt (Made : List Re → Automaton → Type 0) (options : Options) (texts : List (List ℕ)) (nfa : Automaton)
+    : Type 0 where
   pub trees : List Re
-  pub made : IsOfAll trees nfa
+  pub made : Made trees nfa
   pub same : (res : List Re) → ArePatterns options texts res → AllZip SameCaptures trees res
+
+-- The engine searches for such patterns, leftmost first. It loses no empty match between the bytes of a character, and
+-- no match because of where it starts.
+pub record IsSearched (options : Options) (texts : List (List ℕ)) (regex : ChoiceState) : Type 0 where
+  pub built : IsBuilt IsOfAll options texts regex.nfa
+  pub anywhere : is_utf8_empty regex.nfa ≡ false
+  pub free : FindsFromAnyStart regex.nfa
+  pub leftmost : regex.match_kind ≡ None
 
 -- the first hit that starts at an offset or after it: of the first of the patterns that matches there
 abbrev pub hit_from : List Re → List ℕ → ℕ → Option PatternHit
@@ -80,10 +83,6 @@ all_found res text = map found_at (hits_from (hit_from res text) (length text + 
 abbrev pub span_of : Found → ℕ × ℕ
 span_of m = (m.start, m.end)
 
--- the same of each of these
-abbrev pub spans_of : List Found → List (ℕ × ℕ)
-spans_of ms = map span_of ms
-
 -- for each of the patterns, whether it matches somewhere in the text
 abbrev pub which_found : List Re → List ℕ → List Bool
 which_found res text = map (λ re. is_found (re ∷ []) text) res
@@ -100,3 +99,50 @@ pub record Grepping : Type 0 where
 -- these are what the texts mean
 abbrev pub Mean : Grepping → List Re → Type 0
 Mean grep res = ArePatterns grep.options grep.patterns res
+
+-- the error, with the number of its pattern if there are several
+abbrev pub described : ℕ → CompileError → Fault
+described pattern_len error =
+    if pattern_len == 1 then fault.OnlyPattern (record { 0 = error }) else fault.Pattern error
+
+-- what is said of a fault, if it does not depend on the system
+abbrev pub fault_text : Fault → Option (List ℕ)
+fault_text fault.Memory = Some (codes "out of memory")
+fault_text (fault.NotText number) = Some (codes "argument " ++ decimal number ++ codes " is not UTF-8")
+fault_text fault.Limit = Some (codes "invalid max count")
+fault_text fault.Context = Some (codes "invalid context length argument")
+fault_text (fault.OnlyPattern error) = Some (only_pattern_text error.0)
+fault_text (fault.Pattern error) = Some (compile_error_text error)
+fault_text _ = None
+
+-- this many patterns were refused by an error of which this holds, or allocation failed
+abbrev pub IsRefusalBy : (CompileError → Type 0) → ℕ → Fault → Type 0
+IsRefusalBy Q pattern_len (fault.OnlyPattern error) = (pattern_len ≡ 1) × Q error.0
+IsRefusalBy Q pattern_len (fault.Pattern error) = ((pattern_len == 1) ≡ false) × Q error
+IsRefusalBy Q pattern_len fault.Memory = ⊤
+IsRefusalBy Q pattern_len _ = ⊥
+
+-- The error of these patterns has the number of the first one that is too large, and the limit of 10 MiB for the tables
+-- of one. Each one before it is within the limit.
+abbrev pub IsOfTrees : List Re → CompileError → Type 0
+IsOfTrees res error = NamesPattern 10485760 res error × IsOfNoText error
+
+-- the patterns were refused by such an error, or allocation failed
+abbrev pub IsTreeRefusal : ℕ → List Re → Fault → Type 0
+IsTreeRefusal pattern_len res fault = IsRefusalBy (IsOfTrees res) pattern_len fault
+
+-- a text that the error has is refused by the grammar
+abbrev pub IsOfText : Options → List (List ℕ) → CompileError → Type 0
+IsOfText options texts (Syntax e) =
+    (e.pattern < length texts) × IsRejection (syntax_of options) e.pattern (slice_index_or texts e.pattern []) e
+IsOfText options texts _ = ⊥
+
+-- the patterns were refused by such an error, or allocation failed
+abbrev pub IsTextRefusal : Options → List (List ℕ) → Fault → Type 0
+IsTextRefusal options texts fault = IsRefusalBy (IsOfText options texts) (length texts) fault
+
+-- all texts are patterns, and the fault is that of patterns that match as these
+pub record IsOfPatterns (options : Options) (texts : List (List ℕ)) (fault : Fault) : Type 0 where
+  pub trees : List Parsed
+  pub read : AllZip (IsReadFrom options) texts trees
+  pub refused : IsTreeRefusal (length texts) (res_of trees) fault

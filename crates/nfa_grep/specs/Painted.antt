@@ -1,8 +1,8 @@
--- What is printed in colours: texts between two escape sequences of a terminal.
-use Rattle.std.specs.Prelude.{◌≡◌, ℕ, ◌≤◌, Bool, false, not, ◌==◌, List, [], ◌∷◌, ◌++◌, codes, drop, if◌then◌else◌, length, map, slice_range}
+-- What is printed in colours: texts between two escape sequences of a terminal. Without these it is the text.
+use Rattle.std.specs.Prelude.{◌≡◌, ℕ, ◌≤◌, All, Bool, false, true, not, ◌==◌, ◌||◌, List, [], ◌∷◌, ◌++◌, None, codes, drop, if◌then◌else◌, length, map, slice_range}
 use Rattle.std.specs.List.{flat_map}
 use Rattle.nfa_paths.specs.Common.{Found, found_of, whole, Match}
-use Rattle.nfa_engines.specs.Lists.{AreDisjoint}
+use Rattle.nfa_search_base.specs.Common.{AreDisjoint}
 use Rattle.nfa_meta.specs.Gaps.{last_end}
 use Rattle.nfa_grep.specs.declared.paint.Colour.{Colour}
 use Rattle.nfa_grep.specs.declared.paint.Colour.TheVariants as paint
@@ -77,3 +77,29 @@ pub record HasPainted (text : List ℕ) (matches : List Match) (i from : ℕ) (b
   pub first : i ≡ 0 → from ≡ 0
   pub within : from ≤ length text
   pub apart : AreDisjoint (whole text) (last_end i from) (map found_of (drop i matches))
+
+-- the text of these parts, without colours
+abbrev pub uncoloured : List Part → List ℕ
+uncoloured parts = flat_map (λ part. part.text) parts
+
+-- The bytes that are in no escape sequence. `within` says that the first one is in a sequence, which ends with an `m`
+-- or a `K`.
+unfoldable pub outside : Bool → List ℕ → List ℕ
+outside within [] = []
+outside true (byte ∷ bytes) = outside (not ((byte == 109) || (byte == 75))) bytes
+outside false (byte ∷ bytes) =
+    if byte == escape then outside true bytes else (byte ∷ outside false bytes)
+
+-- no byte starts an escape sequence
+abbrev pub HasNoSequence : List ℕ → Type 0
+HasNoSequence bytes = All (λ byte. (byte == escape) ≡ false) bytes
+
+-- the parts of a text, which are its matches and what is around them, are the text
+abbrev pub PartsAreTheText : Type 0
+PartsAreTheText = (text : List ℕ) (ms : List Found) → AreDisjoint (whole text) None ms
+    → uncoloured (parts_from text 0 ms) ≡ text
+
+-- a text without escape sequences is what is printed of it in colours, the escape sequences left out
+abbrev pub ColoursCanBeLeftOut : Type 0
+ColoursCanBeLeftOut = (text : List ℕ) (ms : List Found) → AreDisjoint (whole text) None ms → HasNoSequence text
+    → outside false (painted_text text ms) ≡ text

@@ -1,40 +1,31 @@
--- What is printed of the lines of an input.
-use Rattle.std.specs.Prelude.{◌≡◌, ℕ, ◌+◌, ◌-◌, Bool, true, false, not, ◌&&◌, List, [], ◌∷◌, ◌++◌, length, map, decimal, drop, min, if◌then◌else◌, ◌==◌, slice_range}
-use Rattle.std.specs.List.{count_by, flat_map, join_with_byte}
-use Rattle.regex_hir.specs.Re.{Re}
+-- What is printed of the lines of an input, and which lines are printed around those that are selected.
+use Rattle.std.specs.Prelude.{◌≡◌, ℕ, ◌+◌, ◌-◌, Bool, true, false, not, ◌&&◌, ◌||◌, List, [], ◌∷◌, ◌++◌, length, map, decimal, drop, min, if◌then◌else◌, ◌==◌, nat_lt, slice_range, take}
+use Rattle.std.specs.List.{count_by, flat_map, join_with_byte, list_any}
 use Rattle.required_literal.specs.Required.{OccursIn}
-use Rattle.text_lines.specs.Lines.{line_feed, record_content, records_of, with_end}
-use Rattle.text_lines.specs.Passed.{HasBytes}
-use Rattle.nfa_grep.specs.Grouped.{Item, context_of, grouped, left_after}
-use Rattle.nfa_grep.specs.Meant.{ArePatterns, all_found, is_found, numbers_found, spans_of}
+use Rattle.text_lines.specs.Lines.{HasBytes, line_feed, record_content, records_of, with_end}
+use Rattle.nfa_grep.specs.Meant.{ArePatterns, Options, Re, all_found, is_found, numbers_found, span_of}
 use Rattle.nfa_grep.specs.Painted.{label, painted, painted_text}
-use Rattle.nfa_grep.specs.declared.options.Context.{Context}
-use Rattle.nfa_grep.specs.declared.options.Options.{Options}
-use Rattle.nfa_grep.specs.declared.options.Report.{Report}
+pub use Rattle.nfa_grep.specs.declared.options.Context.{Context}
+pub use Rattle.nfa_grep.specs.declared.options.Report.{Report}
 use Rattle.nfa_grep.specs.declared.options.Report.TheVariants.{Lines, Count, With, Without, Nothing}
-use Rattle.nfa_grep.specs.declared.paint.Colour.TheVariants.{Match, Name, Number}
+use Rattle.nfa_grep.specs.declared.paint.Colour.{Colour}
+use Rattle.nfa_grep.specs.declared.paint.Colour.TheVariants.{Match, Name, Number, Separator}
 
--- the colon, the hyphen and the comma
+-- the byte after each label of a line that is selected
 abbrev pub colon : ℕ
 colon = 58
 
-abbrev pub hyphen : ℕ
-hyphen = 45
-
+-- the byte between the numbers of patterns
 abbrev pub comma : ℕ
 comma = 44
 
 -- what comes after each label of a line: a hyphen if it is printed because of a line near it
 abbrev pub mark_end : Bool → ℕ
-mark_end selected = if selected then colon else hyphen
+mark_end selected = if selected then colon else 45
 
--- the name of the input and this byte, if it is wanted
-abbrev pub label_of : Options → ℕ → List ℕ → List ℕ
-label_of options end name = if options.named then label options.coloured Name end name else []
-
--- the number and this byte, if it is wanted
-abbrev pub numbered : Bool → Bool → ℕ → ℕ → List ℕ
-numbered coloured wanted end n = if wanted then label coloured Number end (decimal n) else []
+-- a label and this byte, if it is wanted
+abbrev pub label_if : Bool → Bool → Colour → ℕ → List ℕ → List ℕ
+label_if wanted coloured colour end text = if wanted then label coloured colour end text else []
 
 -- the numbers, with commas between them
 abbrev pub number_list : List ℕ → List ℕ
@@ -48,15 +39,13 @@ text_of options line = record_content options.end line
 abbrev pub mark_of : Options → List Re → List ℕ → List ℕ
 mark_of options res line = if options.which then number_list (numbers_found res (text_of options line)) else []
 
--- the mark and this byte, if it is wanted
-abbrev pub marked : Options → ℕ → List ℕ → List ℕ
-marked options end mark = if options.which then label options.coloured Number end mark else []
-
--- what comes before a line or a match
+-- what comes before a line or a match: the name of the input, the mark, the number and the offset, if they are wanted
 abbrev pub head : Options → ℕ → List ℕ → List ℕ → ℕ → ℕ → List ℕ
 head options end name mark number offset =
-    label_of options end name ++ (marked options end mark ++ (numbered options.coloured options.numbers end number
-    ++ numbered options.coloured options.offsets end offset))
+    label_if options.named options.coloured Name end name
+    ++ (label_if options.which options.coloured Number end mark
+    ++ (label_if options.numbers options.coloured Number end (decimal number)
+    ++ label_if options.offsets options.coloured Number end (decimal offset)))
 
 -- what is printed of a match that starts and ends there: nothing of an empty one
 abbrev pub piece : Options → ℕ → List ℕ → List ℕ → ℕ → ℕ → List ℕ → ℕ × ℕ → List ℕ
@@ -64,11 +53,6 @@ piece options end name mark number offset line span =
     if span.0 == span.1 then []
     else (head options end name mark number (offset + span.0)
     ++ (painted options.coloured Match (slice_range line span.0 span.1) ++ options.end ∷ []))
-
--- what is printed of these matches, in order
-abbrev pub pieces : Options → ℕ → List ℕ → List ℕ → ℕ → ℕ → List ℕ → List (ℕ × ℕ) → List ℕ
-pieces options end name mark number offset line spans =
-    flat_map (piece options end name mark number offset line) spans
 
 -- whether the line is selected
 abbrev pub is_selected : Options → List Re → List ℕ → Bool
@@ -81,14 +65,14 @@ IsNeeded options res bytes =
     (line : List ℕ) → HasBytes line → is_selected options res line ≡ true → OccursIn line bytes
 
 -- the same of what the texts mean
-abbrev pub AreNeeded : Options → List (List ℕ) → List ℕ → Type 0
-AreNeeded options texts bytes = (res : List Re) → ArePatterns options texts res → IsNeeded options res bytes
+pub record AreNeeded (options : Options) (texts : List (List ℕ)) (bytes : List ℕ) : Type 0 where
+  pub each : (res : List Re) → ArePatterns options texts res → IsNeeded options res bytes
 
--- what is printed of the matches in a line
+-- what is printed of the matches in a line, in order
 abbrev pub shown_matches : Options → ℕ → List Re → List ℕ → ℕ → ℕ → List ℕ → List ℕ
 shown_matches options end res name number offset line =
-    pieces options end name (mark_of options res line) number offset line
-    (spans_of (all_found res (text_of options line)))
+    flat_map (piece options end name (mark_of options res line) number offset line)
+    (map span_of (all_found res (text_of options line)))
 
 -- Whether the matches of a whole line are in colour: those of lines that are selected, and if these are the lines
 -- without a match, those of the others.
@@ -101,15 +85,11 @@ painted_line options res line =
     painted_text (text_of options line) (all_found res (text_of options line))
     ++ with_end options.end (drop (length (text_of options line)) line)
 
--- the line, with its matches in colour if they are
-abbrev pub shown_line : Options → ℕ → List Re → List ℕ → List ℕ
-shown_line options end res line =
-    if has_colours options end then painted_line options res line else with_end options.end line
-
--- what is printed of a whole line
+-- what is printed of a whole line, with its matches in colour if they are
 abbrev pub shown_whole : Options → ℕ → List Re → List ℕ → ℕ → ℕ → List ℕ → List ℕ
 shown_whole options end res name number offset line =
-    head options end name (mark_of options res line) number offset ++ shown_line options end res line
+    head options end name (mark_of options res line) number offset
+    ++ (if has_colours options end then painted_line options res line else with_end options.end line)
 
 -- What is printed of a line that is printed, which may be selected. With `only`, matches are printed of lines that are
 -- selected, and if these are the lines without a match, of the others.
@@ -136,20 +116,34 @@ limit_of Lines limit = limit
 limit_of Count limit = limit
 limit_of _ limit = min limit 1
 
+-- around which lines others are printed: around none if no lines are printed
+abbrev pub context_of : Report → Context → Context
+context_of Lines context = context
+context_of _ context = record { before = 0; after = 0; separated = false; coloured = false }
+
+-- the number of lines that may still be selected after a line
+abbrev pub fewer : ℕ → Bool → ℕ
+fewer limit selected = if selected then (limit - 1) else limit
+
 -- the lines of these that are searched: up to the selected line with which the limit is reached
 unfoldable pub searched : Options → List Re → ℕ → List (List ℕ) → List (List ℕ)
 searched options res limit [] = []
 searched options res limit (line ∷ lines) =
     if limit == 0 then []
-    else (line ∷ searched options res (limit - (if is_selected options res line then 1 else 0)) lines)
+    else (line ∷ searched options res (fewer limit (is_selected options res line)) lines)
 
 -- whether the line is selected, if at most `limit` more lines may be selected
 abbrev pub is_picked : Options → List Re → ℕ → List ℕ → Bool
 is_picked options res limit line = if limit == 0 then false else is_selected options res line
 
--- the number of lines that may still be selected after a line
-abbrev pub fewer : ℕ → Bool → ℕ
-fewer limit selected = limit - (if selected then 1 else 0)
+-- how many lines after this one are printed even if none of them is selected
+abbrev pub left_after : Context → ℕ → Bool → ℕ
+left_after context left selected = if selected then context.after else (left - 1)
+
+-- a line: whether it is selected, and what is printed of it if it is printed
+pub record Item : Type 0 where
+  pub selected : Bool
+  pub text : List ℕ
 
 -- a line and what is printed of it
 abbrev pub item_of : Bool → Options → List Re → List ℕ → ℕ → ℕ → Bool → List ℕ → Item
@@ -173,16 +167,43 @@ read options res context limit left (line ∷ lines) =
     else (line ∷ read options res context (fewer limit (is_picked options res limit line))
     (left_after context left (is_picked options res limit line)) lines)
 
--- the number of these lines that are selected
-abbrev pub selected_count : Options → List Re → List (List ℕ) → ℕ
-selected_count options res lines = count_by (is_selected options res) lines
+-- the number of lines of a text that are selected, up to the limit
+abbrev pub selected_count : Options → List Re → ℕ → List ℕ → ℕ
+selected_count options res limit text =
+    count_by (is_selected options res) (searched options res limit (records_of options.end text))
 
--- the lines of a text that are searched, and those that are read
-abbrev pub searched_in : Options → List Re → ℕ → List ℕ → List (List ℕ)
-searched_in options res limit text = searched options res limit (records_of options.end text)
-
+-- the lines of a text that are read
 abbrev pub read_in : Options → List Re → Context → ℕ → List ℕ → List (List ℕ)
 read_in options res context limit text = read options res context limit 0 (records_of options.end text)
+
+-- two hyphens, as a line
+abbrev pub separator : Bool → List ℕ
+separator coloured = painted coloured Separator (45 ∷ 45 ∷ []) ++ line_feed ∷ []
+
+-- whether some line is selected
+abbrev pub has_selected : List Item → Bool
+has_selected items = list_any (λ item. item.selected) items
+
+-- Whether the line is printed: it is selected, or it is one of the `left` lines that are still printed after one that
+-- is selected, or one of the first lines after it, as many as are printed before a line, is selected.
+abbrev pub is_printed : Context → ℕ → Item → List Item → Bool
+is_printed context left item later =
+    item.selected || (nat_lt 0 left || has_selected (take context.before later))
+
+-- What is printed before a line: the separator, if a line was printed before, a line between both was not or both are
+-- of different inputs, and separators are wanted.
+abbrev pub between : Context → Bool → Bool → List ℕ
+between context used gap = if (used && gap) && context.separated then separator context.coloured else []
+
+-- What is printed of these lines. `used` says that some line was printed before, and `gap` that the line before the
+-- first of these was not.
+unfoldable pub grouped : Context → Bool → Bool → ℕ → List Item → List ℕ
+grouped context used gap left [] = []
+grouped context used gap left (item ∷ items) =
+    if is_printed context left item items
+    then (between context used gap
+    ++ (item.text ++ grouped context true false (left_after context left item.selected) items))
+    else grouped context used true (left_after context left item.selected) items
 
 -- What is printed of the lines of a text: of those that are selected, up to the limit, and of those around them. `used`
 -- says that some line of another text was printed before.
@@ -196,7 +217,8 @@ name_line options name = painted options.coloured Name name ++ line_feed ∷ []
 
 -- the number of the selected lines, as a line
 abbrev pub count_line : Options → List ℕ → ℕ → List ℕ
-count_line options name count = label_of options colon name ++ (decimal count ++ line_feed ∷ [])
+count_line options name count =
+    label_if options.named options.coloured Name colon name ++ (decimal count ++ line_feed ∷ [])
 
 -- what is printed after the lines of an input, of which `count` are selected
 abbrev pub summary : Report → Options → List ℕ → ℕ → List ℕ
@@ -210,4 +232,4 @@ summary Nothing options name count = []
 abbrev pub output : Report → Options → List Re → List ℕ → Context → Bool → ℕ → List ℕ → List ℕ
 output report options res name context used limit text =
     printed (shows report) options res name (context_of report context) used (limit_of report limit) text
-    ++ summary report options name (selected_count options res (searched_in options res (limit_of report limit) text))
+    ++ summary report options name (selected_count options res (limit_of report limit) text)

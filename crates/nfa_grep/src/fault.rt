@@ -43,7 +43,7 @@ impl Fault {
 }
 
 impl fmt::Display for Fault {
-    ghost use Rattle.nfa_grep.specs.Refusals.{fault_text};
+    ghost use Rattle.nfa_grep.specs.Meant.{fault_text};
 
     ghost output = { fault_text };
 

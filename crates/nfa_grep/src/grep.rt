@@ -1,38 +1,67 @@
 //! The lines in which a pattern matches.
-ghost use Rattle.std.specs.Prelude.{◌≡◌, ◌<◌, ◌+◌, ◌^◌, ◌++◌, ◌⊎◌, [], IfErr, IfOk, List, OnOk, false, if◌then◌else◌, length};
-ghost use Rattle.std.specs.Prelude.{map};
+ghost use Rattle.std.specs.Prelude.{◌≡◌, IfErr, IfOk, List, MatchOption, None, false, length, map, true, ◌⊎◌};
+ghost use Rattle.std.specs.List.{AllZip};
 ghost use Rattle.regex_hir.specs.Re.{Re};
-ghost use Rattle.nfa_grep.specs.Meant.{Mean};
-ghost use Rattle.nfa_grep.specs.Printed.{IsNeeded, is_selected, shown, shown_if_selected};
-ghost use Rattle.nfa_grep.specs.Refusals.{IsOfPatterns, IsTextRefusal};
+ghost use Rattle.nfa_compiler.specs.Compiled.{IsNfaOf, res_of};
+ghost use Rattle.nfa_grep.specs.Meant.{IsReadFrom, Mean, is_found, IsOfPatterns, IsTextRefusal, IsTreeRefusal};
+ghost use Rattle.nfa_grep.specs.Printed.{IsNeeded, is_selected, text_of};
+
+mod print;
 
 use crate::fault::Fault;
-use crate::line::Place;
+use crate::joined::nfa_of;
 use crate::needed::needed_bytes;
 use crate::options::Options;
 use crate::pattern::read_patterns;
-use crate::printer::Printer;
-use std::alloc::{AllocError, Global};
+use crate::which::Which;
+use nfa_compiler::{Parsed, laws};
+use nfa_meta::Regex;
+use regex_search_core::Input;
+use std::alloc::Global;
 use std::marker::Model;
+use text_lines::line::record_content;
 
-/// What is searched for in each line, what is printed of a line that is selected, and bytes that each such line has.
+/// What is searched for in each line, what is printed of a line that is selected, and bytes that each such line has. It
+/// owns the engine, and a second one that finds the numbers of the patterns that match, if they are wanted.
 ///
 /// A contract sees the texts of the patterns and the options.
-#[derive(Drop)]
 pub struct Grep<'p> {
-    printer: Printer<'p>,
+    alloc: Global,
+    patterns: &'p [&'p str],
+    options: Options,
+    regex: Regex,
+    which: Option<Which>,
     needed: Vec<u8>,
 }
 
+// Written out, so that a drop is one call in a proof, and not one for each field.
+impl<'p> Drop for Grep<'p> {
+    fn drop(self) {
+        let Grep {
+            alloc: _,
+            patterns: _,
+            options: _,
+            regex: _,
+            which: _,
+            needed: _,
+        } = self;
+    }
+}
+
 impl<'p> Model for Grep<'p> {
-    ghost use Rattle.nfa_grep.specs.Meant.{Grepping};
+    ghost use Rattle.std.specs.Prelude.{◌≡◌, MatchOption, false, map, true};
+    ghost use Rattle.nfa_compiler.specs.Compiled.{IsNfaOf};
+    ghost use Rattle.nfa_grep.specs.Meant.{Grepping, IsBuilt, IsSearched};
     ghost use Rattle.nfa_grep.specs.Printed.{AreNeeded};
 
     ghost Value = { Grepping };
 
-    ghost view = { λ g. g.printer };
+    ghost view = { λ g. record { patterns = map (λ text. text.now) g.patterns.now; options = g.options } };
 
-    ghost invariant = { λ g. AreNeeded g.printer.options g.printer.patterns g.needed.items };
+    ghost invariant = { λ g. IsSearched g.options (map (λ text. text.now) g.patterns.now) g.regex
+        × MatchOption g.which (g.options.which ≡ false)
+        (λ nfa. (g.options.which ≡ true) × IsBuilt IsNfaOf g.options (map (λ text. text.now) g.patterns.now) nfa)
+        × AreNeeded g.options (map (λ text. text.now) g.patterns.now) g.needed.items };
 }
 
 impl<'p> Grep<'p> {
@@ -44,16 +73,40 @@ impl<'p> Grep<'p> {
             ⊎ IsOfPatterns options (map (λ text. text.now) patterns.now) fault) }
     {
         let trees = read_patterns(alloc, options, patterns)?;
-        let printer = Printer::new(alloc, patterns, options, &trees)?;
-        let needed = needed_bytes(alloc, options, &trees)?;
-        Ok(Grep { printer, needed })
+        Grep::of_trees(alloc, patterns, options, &trees)
+    }
+
+    /// Compiles the patterns, which were read from these texts. Fails if they are too large, or if allocation failed.
+    fn of_trees(
+        alloc: Global,
+        patterns: &'p [&'p str],
+        options: Options,
+        trees: &[Parsed],
+    ) -> Result<Grep<'p>, Fault>
+        requires { AllZip (IsReadFrom options) (map (λ text. text.now) patterns.now) trees.now }
+        ensures patterns { IfOk result (λ grep. grep.patterns ≡ map (λ text. text.now) patterns.now) }
+        ensures options { IfOk result (λ grep. grep.options ≡ options) }
+        ensures refused { IfErr result (IsOfPatterns options (map (λ text. text.now) patterns.now)) }
+    {
+        let nfa = nfa_of(alloc, trees)?;
+        let regex = Regex::new_from_nfa(alloc, nfa)?;
+        let which = which_of(alloc, options.which, trees)?;
+        let needed = needed_bytes(alloc, options, trees)?;
+        Ok(Grep {
+            alloc,
+            patterns,
+            options,
+            regex,
+            which,
+            needed,
+        })
     }
 
     /// Returns the options.
     pub fn options(&self) -> Options
         ensures { result ≡ self.now.options }
     {
-        self.printer.options()
+        self.options
     }
 
     /// Returns bytes that are in each line that is selected. They are empty if there are no such bytes, or if none are
@@ -64,38 +117,43 @@ impl<'p> Grep<'p> {
         &self.needed
     }
 
-    /// Returns whether the line is selected, and appends what is printed of it, if that is wanted.
-    pub fn take_line(
-        &mut self,
-        wanted: bool,
-        place: Place<'_>,
-        line: &[u8],
-        out: &mut Vec<u8>,
-    ) -> Result<bool, AllocError>
-        requires counted { place.offset + length line.now < 2 ^ 64 }
-        ensures selected { IfOk result (λ selected. (res : List Re) → Mean self.old res
-            → selected ≡ is_selected self.old.options res line.now) }
-        ensures shown { OnOk result ((res : List Re) → Mean self.old res → out.new.items ≡ out.old.items
-            ++ (if wanted then shown_if_selected self.old.options res place.entry.name.now place.entry.number
-            place.entry.offset line.now else [])) }
-        ensures kept { self.new ≡ self.old }
+    /// Returns the line without its end.
+    fn text_of<'l>(&self, line: &'l [u8]) -> &'l [u8]
+        ensures { result.now ≡ text_of self.now.options line.now }
     {
-        self.printer.take_line(wanted, place, line, out)
+        record_content(line, self.options.end)
     }
 
-    /// Appends what is printed of a line because of one near it.
-    pub fn append_near(
-        &mut self,
-        place: Place<'_>,
-        line: &[u8],
-        out: &mut Vec<u8>,
-    ) -> Result<(), AllocError>
-        requires counted { place.offset + length line.now < 2 ^ 64 }
-        ensures shown { OnOk result ((res : List Re) → Mean self.old res → out.new.items
-            ≡ out.old.items ++ shown self.old.options res place.entry.name.now place.entry.number place.entry.offset
-            false line.now) }
+    /// Returns whether some pattern matches somewhere in the text of a line, its end left out.
+    fn finds(&mut self, text: &[u8]) -> bool
+        ensures found { (res : List Re) → Mean self.old res → result ≡ is_found res text.now }
         ensures kept { self.new ≡ self.old }
     {
-        self.printer.append_near(place, line, out)
+        laws::searches_find_hits();
+        self.regex.is_match(Input::new(text))
+    }
+
+    /// Returns whether the line is selected: whether some pattern matches somewhere in it, or, if the options invert
+    /// that, whether none does. The line may have its end.
+    fn selects(&mut self, line: &[u8]) -> bool
+        ensures selected { (res : List Re) → Mean self.old res
+            → result ≡ is_selected self.old.options res line.now }
+        ensures kept { self.new ≡ self.old }
+    {
+        let found = self.finds(self.text_of(line));
+        if self.options.inverted { !found } else { found }
+    }
+}
+
+/// Makes the search for all patterns that match, if it is wanted.
+fn which_of(alloc: Global, wanted: bool, patterns: &[Parsed]) -> Result<Option<Which>, Fault>
+    ensures made { IfOk result (λ which. MatchOption which (wanted ≡ false)
+        (λ nfa. (wanted ≡ true) × IsNfaOf (res_of patterns.now) nfa)) }
+    ensures refused { IfErr result (IsTreeRefusal (length patterns.now) (res_of patterns.now)) }
+{
+    if wanted {
+        Ok(Some(Which::new(alloc, patterns)?))
+    } else {
+        Ok(None)
     }
 }

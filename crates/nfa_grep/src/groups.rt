@@ -1,12 +1,10 @@
 //! Groups of lines: those that are selected, and those around them.
-ghost use Rattle.std.specs.Prelude.{◌≡◌, ◌+◌, ◌-◌, ◌<◌, ◌^◌, ◌++◌, ◌∷◌, [], IfOk, List, OnOk, false, if◌then◌else◌, length, true};
-ghost use Rattle.std.specs.Prelude.{◌≤◌, ◌&&◌, ◌==◌, All, not, ℕ};
+ghost use Rattle.std.specs.Prelude.{◌≡◌, ◌+◌, ◌-◌, ◌<◌, ◌^◌, ◌++◌, ◌∷◌, [], IfOk, List, OnOk, false, if◌then◌else◌, length, true, ◌≤◌, ◌&&◌, ◌==◌, All, not, ℕ};
 ghost use Rattle.std.specs.List.{flat_map};
 ghost use Rattle.regex_hir.specs.Re.{Re};
 ghost use Rattle.nfa_grep.specs.Going.{IsInOrder, kept_texts, printed_later};
-ghost use Rattle.nfa_grep.specs.Grouped.{Item, between, context_of, grouped, left_after};
+ghost use Rattle.nfa_grep.specs.Printed.{Item, between, context_of, grouped, left_after, is_selected, item_of, shows};
 ghost use Rattle.nfa_grep.specs.Meant.{Mean};
-ghost use Rattle.nfa_grep.specs.Printed.{is_selected, item_of, shows};
 
 use crate::grep::Grep;
 use crate::line::Place;

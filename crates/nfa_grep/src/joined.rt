@@ -2,11 +2,9 @@
 //! patterns takes room for the slots of all of them.
 ghost use Rattle.std.specs.Prelude.{◌≡◌, IfErr, IfOk, false, length};
 ghost use Rattle.regex_hir.specs.Meaning.{alt_all, meaning};
-ghost use Rattle.nfa_compiler.specs.AnyStart.{FindsFromAnyStart};
-ghost use Rattle.nfa_compiler.specs.Compiled.{IsNfaOf, res_of};
+ghost use Rattle.nfa_compiler.specs.Compiled.{FindsFromAnyStart, IsNfaOf, res_of};
 ghost use Rattle.nfa_engines.specs.Paths.{is_utf8_empty};
-ghost use Rattle.nfa_grep.specs.Meant.{IsOfAll};
-ghost use Rattle.nfa_grep.specs.Refusals.{IsTreeRefusal};
+ghost use Rattle.nfa_grep.specs.Meant.{IsOfAll, IsTreeRefusal};
 
 use crate::fault::Fault;
 use crate::pattern::described;

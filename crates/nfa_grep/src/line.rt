@@ -1,6 +1,7 @@
 //! What comes before a line where it is printed.
-ghost use Rattle.std.specs.Prelude.{◌≡◌, ◌++◌, OnOk};
-ghost use Rattle.nfa_grep.specs.Printed.{count_line, head, label_of, marked, name_line, numbered, summary};
+ghost use Rattle.std.specs.Prelude.{◌≡◌, ◌++◌, OnOk, decimal};
+ghost use Rattle.nfa_grep.specs.Printed.{count_line, head, label_if, name_line, summary};
+ghost use Rattle.nfa_grep.specs.declared.paint.Colour.TheVariants.{Name, Number};
 
 use crate::options::{Options, Report};
 use crate::paint::{Colour, append_label, append_painted};
@@ -25,7 +26,7 @@ fn append_number(
     number: u64,
     out: &mut Vec<u8>,
 ) -> Result<(), AllocError>
-    ensures { OnOk result (out.new.items ≡ out.old.items ++ numbered coloured wanted end number) }
+    ensures { OnOk result (out.new.items ≡ out.old.items ++ label_if wanted coloured Number end (decimal number)) }
 {
     if wanted {
         let mut buffer = Buffer::new();
@@ -37,7 +38,8 @@ fn append_number(
 
 /// Appends the name and this byte, if it is wanted.
 fn append_name(options: Options, end: u8, name: &[u8], out: &mut Vec<u8>) -> Result<(), AllocError>
-    ensures { OnOk result (out.new.items ≡ out.old.items ++ label_of options end name.now) }
+    ensures { OnOk result (out.new.items
+        ≡ out.old.items ++ label_if options.named options.coloured Name end name.now) }
 {
     if options.named {
         append_label(options.coloured, Colour::Name, end, name, out)?;
@@ -47,7 +49,8 @@ fn append_name(options: Options, end: u8, name: &[u8], out: &mut Vec<u8>) -> Res
 
 /// Appends the mark and this byte, if it is wanted.
 fn append_mark(options: Options, end: u8, mark: &[u8], out: &mut Vec<u8>) -> Result<(), AllocError>
-    ensures { OnOk result (out.new.items ≡ out.old.items ++ marked options end mark.now) }
+    ensures { OnOk result (out.new.items
+        ≡ out.old.items ++ label_if options.which options.coloured Number end mark.now) }
 {
     if options.which {
         append_label(options.coloured, Colour::Number, end, mark, out)?;

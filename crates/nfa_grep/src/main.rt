@@ -16,7 +16,6 @@ mod options;
 mod paint;
 mod pattern;
 mod patterns;
-mod printer;
 mod search;
 mod walk;
 mod which;

@@ -85,8 +85,7 @@ pub enum Report {
 
 impl Report {
     ghost use Rattle.std.specs.Prelude.{◌≡◌};
-    ghost use Rattle.nfa_grep.specs.Grouped.{context_of};
-    ghost use Rattle.nfa_grep.specs.Printed.{limit_of, shows};
+    ghost use Rattle.nfa_grep.specs.Printed.{context_of, limit_of, shows};
 
     /// Returns whether selected lines are printed.
     pub fn shows(self) -> bool

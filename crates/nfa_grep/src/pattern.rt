@@ -5,8 +5,7 @@ ghost use Rattle.regex_hir.specs.Meaning.{cat_all, meaning};
 ghost use Rattle.regex_hir.specs.Re.{Re, look};
 ghost use Rattle.regex_syntax.specs.Captures.{SameCaptures};
 ghost use Rattle.nfa_compiler.specs.Compiled.{IsMeant};
-ghost use Rattle.nfa_grep.specs.Meant.{IsReadFrom, bounded, syntax_of};
-ghost use Rattle.nfa_grep.specs.Refusals.{IsTextRefusal, described};
+ghost use Rattle.nfa_grep.specs.Meant.{IsReadFrom, bounded, syntax_of, IsTextRefusal, described};
 
 use crate::fault::Fault;
 use crate::options::{Bounds, Options};

@@ -1,7 +1,7 @@
 //! The texts of all patterns.
 ghost use Rattle.std.specs.Prelude.{◌≡◌, ◌++◌, IfOk, OnOk, map};
 ghost use Rattle.std.specs.List.{flat_map};
-ghost use Rattle.nfa_grep.specs.Texts.{lines_in};
+ghost use Rattle.nfa_grep.specs.Meant.{lines_in};
 
 use crate::fault::Fault;
 use std::alloc::{AllocError, Global};

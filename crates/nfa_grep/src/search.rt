@@ -1,10 +1,9 @@
 //! The search of one input, line by line.
 ghost use Rattle.std.specs.Prelude.{◌≡◌, ◌+◌, ◌<◌, ◌^◌, IfOk, IfSome, List, OnOk};
 ghost use Rattle.regex_hir.specs.Re.{Re};
-ghost use Rattle.nfa_grep.specs.Going.{IsInOrder, PassesLines, PrintsLines, PrintsOutput, StopsInTime};
-ghost use Rattle.nfa_grep.specs.Grouped.{context_of};
+ghost use Rattle.nfa_grep.specs.Going.{HasPassed, IsInOrder, PrintsLines, PrintsOutput, StopsInTime};
+ghost use Rattle.nfa_grep.specs.Printed.{context_of, limit_of, shows};
 ghost use Rattle.nfa_grep.specs.Meant.{Mean};
-ghost use Rattle.nfa_grep.specs.Printed.{limit_of, shows};
 
 use crate::grep::Grep;
 use crate::groups::Groups;
@@ -140,8 +139,8 @@ fn pass_lines<R: BufRead>(
 ) -> Result<LineStart, Failure>
     requires { IsInOrder groups.old }
     ensures passed { IfOk result (λ next. (res : List Re) → Mean grep.now res
-        → PassesLines grep.now.options res (R.remaining input.old) (R.remaining input.new) at next groups.old
-        groups.new) }
+        → IfSome (R.remaining input.old) (λ text.
+        HasPassed grep.now.options res text (R.remaining input.new) at next groups.old groups.new)) }
     ensures in_order { OnOk result (IsInOrder groups.new) }
     ensures same_left { OnOk result (groups.new.left ≡ groups.old.left) }
     ensures same_context { OnOk result (groups.new.context ≡ groups.old.context) }

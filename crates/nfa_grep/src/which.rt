@@ -5,10 +5,9 @@ ghost use Rattle.regex_search_core.specs.PatternSets.{patterns_of};
 ghost use Rattle.regex_search_core.specs.Search.{whole};
 ghost use Rattle.nfa_engines.specs.Overlaps.{HoldsPattern};
 ghost use Rattle.nfa_compiler.specs.Compiled.{IsNfaOf, res_of};
-ghost use Rattle.nfa_compiler.specs.KindLaws.{PatternMatches};
-ghost use Rattle.nfa_grep.specs.Meant.{ArePatterns, IsBuilt, numbers_found, which_found};
+ghost use Rattle.nfa_compiler.specs.Written.{PatternMatches};
+ghost use Rattle.nfa_grep.specs.Meant.{ArePatterns, IsBuilt, numbers_found, which_found, IsTreeRefusal};
 ghost use Rattle.nfa_grep.specs.Printed.{number_list};
-ghost use Rattle.nfa_grep.specs.Refusals.{IsTreeRefusal};
 ghost use Rattle.nfa_grep.specs.declared.options.Options.{Options};
 
 use crate::fault::Fault;
@@ -31,7 +30,7 @@ pub struct Which {
 
 impl Model for Which {
     ghost use Rattle.std.specs.Prelude.{◌≡◌, false};
-    ghost use Rattle.nfa_compiler.specs.AnyStart.{FindsFromAnyStart};
+    ghost use Rattle.nfa_compiler.specs.Compiled.{FindsFromAnyStart};
     ghost use Rattle.regex_search_core.specs.declared.search.MatchKind.TheVariants.{All};
     ghost use Rattle.nfa_engines.specs.Automaton.{Automaton};
     ghost use Rattle.nfa_engines.specs.Engines.{Fits, kind_of};
@@ -67,7 +66,7 @@ impl Which {
         ensures held { IfOk result (λ set. (res : List Re) → IsNfaOf res self.old
             → (k : ℕ) → HoldsPattern set k ↔ PatternMatches res false (whole text.now) k) }
         ensures found { IfOk result (λ set. (options : Options) → (texts : List (List ℕ)) → (res : List Re)
-            → IsBuilt options texts self.old → ArePatterns options texts res → set ≡ which_found res text.now) }
+            → IsBuilt IsNfaOf options texts self.old → ArePatterns options texts res → set ≡ which_found res text.now) }
         ensures kept { self.new ≡ self.old }
     {
         laws::sets_hold_patterns_that_match();
@@ -86,7 +85,7 @@ impl Which {
         out: &mut Vec<u8>,
     ) -> Result<(), AllocError>
         ensures numbers { OnOk result ((options : Options) → (texts : List (List ℕ)) → (res : List Re)
-            → IsBuilt options texts self.old → ArePatterns options texts res
+            → IsBuilt IsNfaOf options texts self.old → ArePatterns options texts res
             → out.new.items ≡ out.old.items ++ number_list (numbers_found res text.now)) }
         ensures kept { self.new ≡ self.old }
     {

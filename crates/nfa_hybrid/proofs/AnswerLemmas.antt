@@ -1,6 +1,5 @@
 -- The pattern of a half match is one of the NFA's.
-use Rattle.std.proofs.Common.{◌∙◌, Bool, ap, sym, ◌<◌, IfSome, None, Option, Some, length, option_map}
-use Rattle.nfa_paths.specs.Common.{HalfFound, half_found_of, Search, HalfMatch, MatchKind, Automaton, IsAutomaton, IsHalfAnswer, slot_row}
+use Rattle.nfa_paths.proofs.Common.{◌∙◌, Bool, ap, sym, ◌<◌, IfSome, None, Option, Some, length, option_map, HalfFound, half_found_of, Search, HalfMatch, MatchKind, Automaton, IsAutomaton, IsHalfAnswer, slot_row}
 use Rattle.nfa_paths.proofs.InsideLemmas.{pattern-within}
 use Rattle.nfa_paths.proofs.PatternLemmas.{length-slot_row}
 use Rattle.nfa_paths.proofs.RestartLemmas.{half-pattern}

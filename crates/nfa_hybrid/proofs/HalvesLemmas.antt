@@ -1,18 +1,11 @@
 -- Iterators over half matches that search with an engine: when they may search, and what they give and keep.
-use Rattle.std.proofs.Common.{◌≡◌, ◌∙◌, Bool, false, Ok, Option, refl, subst}
-use Rattle.nfa_paths.specs.Common.{HalfFound, half_found_of, Search, HalfMatch}
-use Rattle.nfa_search_base.specs.WithCache.{WithCache}
-use Rattle.nfa_search_base.specs.StepsWith.{GivesStepsWith, StepsWith, TakesStepWith, steps_with_state, steps_with_iter_state}
-use Rattle.nfa_search_base.specs.Serving.{may_ask}
-use Rattle.nfa_search_base.specs.Steps.{GivesItem}
-use Rattle.nfa_search_base.specs.Stored.{steps_iter_state, can_step_infallibly}
-use Rattle.nfa_search_base.specs.IterStates.{Answer, fresh, half_span_of, IsInfalliblyInside}
+use Rattle.nfa_paths.proofs.Common.{◌≡◌, ◌∙◌, Bool, false, Ok, Option, refl, subst, HalfFound, half_found_of, Search, HalfMatch}
+use Rattle.nfa_search_base.specs.Common.{WithCache, GivesStepsWith, StepsWith, TakesStepWith, steps_with_state, steps_iter_state, may_ask, GivesItem, can_step_infallibly, Answer, fresh, half_span_of, IsInfalliblyInside}
 use Rattle.nfa_search_base.specs.declared.iter.steps.Steps.{Steps}
 use Rattle.nfa_search_base.proofs.EngineLemmas.{KeptBy, SearchesAs, SearchesOf, answers_as, calls-kept, searches-serve}
-use Rattle.nfa_search_base.proofs.ItemLemmas.{ItemsOf, items_as}
+use Rattle.nfa_search_base.proofs.ItemLemmas.{ItemsOf, items_as, ShellOf, steps_in}
 use Rattle.nfa_search_base.proofs.LeavingLemmas.{shell-leaves, shell-to_end}
 use Rattle.nfa_search_base.proofs.RunLemmas.{AnswersOf, Begins}
-use Rattle.nfa_search_base.proofs.ShellLemmas.{ShellOf, steps_in}
 use Rattle.nfa_pikevm.specs.Engines.{Pike, kind_of}
 use Rattle.nfa_engines.proofs.LoopLemmas.{sizes-none, sizes-two}
 use Rattle.nfa_hybrid.specs.HalfIterations.{AsksHalf, HalvesLead, HalvesNextBy, TellsHalf}
@@ -88,7 +81,7 @@ module _ {C : Type 0} (e : HalfEngine C) {A : Type 0} where
     halves-kept = calls-kept kept shell
 
     -- It begins at x.
-    module _ (x : Search) (s : T) (iter_state : steps_with_iter_state (steps s) ≡ fresh x)
+    module _ (x : Search) (s : T) (iter_state : steps_iter_state (steps s).steps ≡ fresh x)
         (going : (steps s).steps.done ≡ false) where
       abbrev vm : Pike
       vm = e.engine (steps s).cache.now

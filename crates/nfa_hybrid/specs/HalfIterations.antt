@@ -3,12 +3,7 @@
 use Rattle.std.specs.Prelude.{List, map, None, Ok, Option, option_map}
 use Rattle.std.specs.Iterator.{Yields}
 use Rattle.nfa_paths.specs.Common.{HalfFound, half_found_of, Search, HalfMatch}
-use Rattle.nfa_search_base.specs.Leaving.{DoesSearch, Leaves, LeavesAtEnd}
-use Rattle.nfa_search_base.specs.WithCache.{WithCache}
-use Rattle.nfa_search_base.specs.StepsWith.{StepsWith, TakesStepWith}
-use Rattle.nfa_search_base.specs.Runs.{GivesKept}
-use Rattle.nfa_search_base.specs.Steps.{GivesItem}
-use Rattle.nfa_search_base.specs.IterStates.{Answer, half_span_of}
+use Rattle.nfa_search_base.specs.Common.{DoesSearch, Leaves, LeavesAtEnd, WithCache, StepsWith, TakesStepWith, GivesKept, GivesItem, Answer, half_span_of}
 use Rattle.nfa_pikevm.specs.Engines.{Pike, kind_of}
 use Rattle.nfa_hybrid.specs.HalfLists.{AnswersHalf}
 

@@ -2,7 +2,7 @@
 use Rattle.std.specs.Prelude.{List, map, All, None, Option}
 use Rattle.std.specs.Iterator.Runs.{EachRunFrom, ItemsMapTo}
 use Rattle.nfa_paths.specs.Common.{HalfFound, half_found_of, Search, HalfMatch, MatchKind, Automaton}
-use Rattle.nfa_search_base.specs.Runs.{RunsGive, GivesFirst, GivesNext}
+use Rattle.nfa_search_base.specs.Common.{RunsGive, GivesFirst, GivesNext}
 use Rattle.nfa_hybrid.specs.HalfLists.{AreFirstHalves, AreHalves, AreRising, IsHalfInside}
 
 module _ (nfa : Automaton) (kind : MatchKind) (x : Search) where

@@ -2,9 +2,7 @@
 use Rattle.std.specs.Prelude.{Option, Bool}
 use Rattle.std.specs.Borrow.{MutBor}
 use Rattle.nfa_paths.specs.Common.{Search, HalfMatch}
-use Rattle.nfa_search_base.specs.StepsWith.{GivesStepsWith, StepsWith}
-use Rattle.nfa_search_base.specs.Searchers.{iter_state_of}
-use Rattle.nfa_search_base.specs.IterStates.{IterState}
+use Rattle.nfa_search_base.specs.Common.{GivesStepsWith, StepsWith, iter_state_of, IterState}
 use Rattle.nfa_hybrid.specs.HalfIterations.{HalvesLead, HalvesNextBy}
 use Rattle.nfa_hybrid.specs.HybridState.{HybridState, KeepsHybrid, RunsInTurn, pike_of}
 use Rattle.nfa_hybrid.specs.declared.hybrid.half_matches.HalfMatches.{HalfMatches}

@@ -3,8 +3,8 @@
 ghost use Rattle.std.specs.Prelude.{◌≡◌, ◌≤◌, Ok};
 ghost use Rattle.std.specs.Option.{ForSome};
 ghost use Rattle.regex_search_core.specs.Found.{half_found_of};
-ghost use Rattle.nfa_search_base.specs.Finders.{answer_by, half_match_span};
-ghost use Rattle.nfa_search_base.specs.Steps.{ComesOfMatch, GivesItem};
+ghost use Rattle.nfa_search_base.specs.Finders.{half_match_span};
+ghost use Rattle.nfa_search_base.specs.Items.{ComesOfMatch, GivesItem, answer_by};
 
 use nfa_engines::error::SearchError;
 use regex_search_core::{HalfMatch, Span};

@@ -1,8 +1,5 @@
 -- Patterns that are added to a set, one after the other.
-use Rattle.std.proofs.Common.{◌≡◌, ℕ, ◌<◌, ◌⊎◌, ◌↔◌, inl, inr, Bool, true, false, List, [], ◌∷◌, ◌++◌, length, refl, sym, ◌∙◌, Option, None, Some, if◌then◌else◌, is_some, nat_lt}
-use Rattle.std.proofs.lemmas.Bool.{cases_lt, le-ltb, lt-ltb}
-use Rattle.regex_search_core.specs.PatternSets.{with_pattern}
-use Rattle.nfa_paths.specs.Common.{In, HoldsPattern}
+use Rattle.nfa_paths.proofs.Common.{◌≡◌, ℕ, ◌<◌, ◌⊎◌, ◌↔◌, inl, inr, Bool, true, false, List, [], ◌∷◌, ◌++◌, length, refl, sym, ◌∙◌, Option, None, Some, if◌then◌else◌, is_some, nat_lt, cases_lt, le-ltb, lt-ltb, with_pattern, In, HoldsPattern}
 use Rattle.nfa_paths.proofs.MemberLemmas.{In-append, In-append_left, In-append_right}
 use Rattle.nfa_paths.proofs.SetLemmas.{holds-with, length-with}
 use Rattle.nfa_lazy_dfa.specs.Sets.{AddsEach}

@@ -1,14 +1,7 @@
 -- States that do not lead to a state over a byte.
-use Rattle.std.proofs.Common.{◌≡◌, ◌<◌, ℕ, suc, List, [], ◌∷◌, length, map, get_or, refl, ap, sym, ◌∙◌, inl, inr, arith, Option, None, Some, option_and_then, slice_get}
-use Rattle.std.proofs.lemmas.Bool.{cases_Bool, cases_lt}
-use Rattle.std.proofs.lemmas.List.{get_or_past}
-use Rattle.std.proofs.lemmas.Option.{get_or_from_slice_get, slice_get_within}
+use Rattle.nfa_paths.proofs.Common.{◌≡◌, ◌<◌, ℕ, suc, List, [], ◌∷◌, length, map, get_or, refl, ap, sym, ◌∙◌, inl, inr, arith, Option, None, Some, option_and_then, slice_get, cases_Bool, cases_lt, get_or_past, get_or_from_slice_get, slice_get_within, Automaton, Node, node_of, first_target, holds_byte, node_at, target_on, Fail, State, Transition}
 use Rattle.std.proofs.Math.ListN.{get_or-map}
-use Rattle.nfa_paths.specs.Common.{Automaton, Node, node_of, first_target, holds_byte, node_at, target_on}
-use Rattle.thompson_nfa.specs.Automaton.Node.{Fail}
-use Rattle.thompson_nfa.specs.declared.state.State.{State}
 use Rattle.thompson_nfa.specs.declared.state.State.TheVariants as variant
-use Rattle.thompson_nfa.specs.declared.state.Transition.{Transition}
 
 never-none : (s : ℕ) → None ≡ Some s → ⊥
 never-none s e = cc

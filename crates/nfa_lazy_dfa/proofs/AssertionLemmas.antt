@@ -1,18 +1,10 @@
 -- Assertions hold alike wherever the bytes on both sides of a position are alike. Those of Unicode words do so only
 -- between bytes below 128.
-use Rattle.std.proofs.Common.{◌≡◌, ◌∙◌, ℕ, ◌==◌, ◌||◌, ◌≤◌, ◌<◌, ◌⊎◌, inl, inr, true, ◌++◌, false, List, length, refl, sym, ap, subst, arith, lit<, Option, None, Some, option_to_list, slice_get}
-use Rattle.std.proofs.lemmas.Bool.{cases_Bool}
-use Rattle.std.proofs.lemmas.Bool.Decides.{eqb_tells}
-use Rattle.std.proofs.lemmas.Option.{slice_get-get_or}
-use Rattle.nfa_paths.specs.Common.{Automaton, Node, look_holds, node_at}
-use Rattle.thompson_nfa.specs.Automaton.Node.{Look}
-use Rattle.thompson_nfa.specs.Looks.{is_word_byte}
+use Rattle.nfa_paths.proofs.Common.{◌≡◌, ◌∙◌, ℕ, ◌==◌, ◌||◌, ◌≤◌, ◌<◌, ◌⊎◌, inl, inr, true, ◌++◌, false, List, length, refl, sym, ap, subst, arith, lit<, Option, None, Some, option_to_list, slice_get, cases_Bool, eqb_tells, slice_get-get_or, Automaton, Node, look_holds, node_at, Look, is_word_byte, Start, End, StartLF, EndLF, StartCRLF, EndCRLF, WordAscii, WordAsciiNegate, WordUnicode, WordUnicodeNegate, WordStartAscii, WordEndAscii, WordStartUnicode, WordEndUnicode, WordStartHalfAscii, WordEndHalfAscii, WordStartHalfUnicode, WordEndHalfUnicode, Holding, holding_at, byte_before}
 use Rattle.thompson_nfa.specs.declared.look.Look as looks
-use Rattle.thompson_nfa.specs.declared.look.Look.TheVariants.{Start, End, StartLF, EndLF, StartCRLF, EndCRLF, WordAscii, WordAsciiNegate, WordUnicode, WordUnicodeNegate, WordStartAscii, WordEndAscii, WordStartUnicode, WordEndUnicode, WordStartHalfAscii, WordEndHalfAscii, WordStartHalfUnicode, WordEndHalfUnicode}
-use Rattle.nfa_determinize.specs.Closures.{Holding, holding_at}
 use Rattle.thompson_nfa.proofs.AsciiWordLemmas.{ascii_look, look_holds-ascii}
 use Rattle.thompson_nfa.proofs.BetweenLemmas.{before-some, holds_between, holds-between}
-use Rattle.nfa_lazy_dfa.specs.Assertions.{HasNoLook, IsRead, HasNoUnicodeWord, SameLooks, byte_before, is_look, like, may_follow, reads_bytes, sees}
+use Rattle.nfa_lazy_dfa.specs.Assertions.{HasNoLook, IsRead, HasNoUnicodeWord, SameLooks, is_look, like, may_follow, reads_bytes, sees}
 
 -- between two bytes there are these two
 
@@ -143,9 +135,6 @@ like-small b =
 module _ (nfa : Automaton) where
   pub same-none : HasNoLook nfa → (a b : Holding) → SameLooks nfa a b
   same-none none a b = record { same = λ s look next e. absurd (cc (none.all s, ap is_look e)) }
-
-  pub same-self : (a : Holding) → SameLooks nfa a a
-  same-self a = record { same = λ s look next e. refl }
 
   -- without assertions there are none of Unicode words
   pub reads-none : HasNoLook nfa → HasNoUnicodeWord nfa

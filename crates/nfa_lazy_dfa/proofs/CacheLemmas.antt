@@ -1,10 +1,5 @@
 -- What a cache's rows are, by their numbers.
-use Rattle.std.proofs.Common.{◌≡◌, ℕ, ◌+◌, ◌*◌, ◌/◌, ◌%◌, ◌<◌, ◌≤◌, ◌≢◌, inl, inr, All, length, map, get_or, ap, sym, ◌∙◌, subst, arith, vec_len}
-use Rattle.std.specs.List.{sum_by}
-use Rattle.std.proofs.lemmas.Grind.{get_or_default_zero}
-use Rattle.std.proofs.lemmas.List.{length-map}
-use Rattle.std.proofs.lemmas.List.Sums.{get_or-le-sum_by}
-use Rattle.std.proofs.lemmas.Option.{get_or_from_slice_get, slice_get_cases, slice_get_within}
+use Rattle.nfa_paths.proofs.Common.{◌≡◌, ℕ, ◌+◌, ◌*◌, ◌/◌, ◌%◌, ◌<◌, ◌≤◌, ◌≢◌, inl, inr, All, length, map, get_or, ap, sym, ◌∙◌, subst, arith, vec_len, sum_by, get_or_default_zero, length-map, get_or-le-sum_by, get_or_from_slice_get, slice_get_cases, slice_get_within}
 use Rattle.nfa_lazy_dfa.specs.Rows.{IsFor, IsRowOf, Leads, LeadsTo, row_memory_of, row_of, stances_of}
 use Rattle.nfa_lazy_dfa.specs.Stances.{Stance, stance_of}
 use Rattle.nfa_lazy_dfa.proofs.RowLemmas.{row-within, stance-at}

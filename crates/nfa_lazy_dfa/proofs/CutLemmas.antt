@@ -1,8 +1,5 @@
 -- Bytes that are treated alike lead to the same row.
-use Rattle.std.proofs.Common.{inl, ◌≡◌, ℕ, suc, ◌+◌, ◌<◌, ◌≢◌, ◌&&◌, Bool, List, [], ◌∷◌, ◌++◌, length, get_or, refl, ap, sym, ◌∙◌, subst, arith, Option, Some, option_to_list, slice_get}
-use Rattle.std.proofs.lemmas.Bool.Decides.{nat_tests}
-use Rattle.nfa_paths.specs.Common.{MatchKind, Automaton, In, first_target, holds_byte, node_at, target_on}
-use Rattle.thompson_nfa.specs.declared.state.Transition.{Transition}
+use Rattle.nfa_paths.proofs.Common.{inl, ◌≡◌, ℕ, suc, ◌+◌, ◌<◌, ◌&&◌, Bool, List, [], ◌∷◌, ◌++◌, length, get_or, refl, ap, sym, ◌∙◌, subst, arith, Option, Some, option_to_list, slice_get, MatchKind, Automaton, In, first_target, holds_byte, node_at, target_on, Transition}
 use Rattle.nfa_determinize.specs.Closures.{kept, pattern_by_kind, step}
 use Rattle.nfa_lazy_dfa.specs.Assertions.{HasNoLook, sees}
 use Rattle.nfa_lazy_dfa.specs.Cuts.{IsAlike}
@@ -13,10 +10,6 @@ use Rattle.nfa_lazy_dfa.proofs.StanceLemmas.{closure-same}
 use Rattle.nfa_lazy_dfa.specs.declared.cache.Cache.{Cache}
 use Rattle.nfa_lazy_dfa.specs.declared.dfa.DFA.{DFA}
 use Rattle.nfa_lazy_dfa.specs.declared.follow.Stand.{Stand}
-
--- a range has both of two bytes next to each other, or neither, unless it begins or ends between them
-pub holds-alike : (t : Transition) (k : ℕ) → k ≢ t.end → k + 1 ≢ t.start → holds_byte t k ≡ holds_byte t (k + 1)
-holds-alike t k e s = grind (arith, nat_tests)
 
 pub first-alike : (ts : List Transition) (k : ℕ)
     → ((j : ℕ) (d : Transition) → j < length ts → holds_byte (get_or ts j d) k ≡ holds_byte (get_or ts j d) (k + 1))

@@ -1,6 +1,5 @@
 -- The `earliest` flag of an input changes no path, and so no set of patterns.
-use Rattle.std.proofs.Common.{inl, inr, Bool, List}
-use Rattle.nfa_paths.specs.Common.{Search, Automaton}
+use Rattle.nfa_paths.proofs.Common.{inl, inr, Bool, List, Search, Automaton}
 use Rattle.nfa_paths.proofs.EarliestLemmas.{asked}
 use Rattle.nfa_paths.proofs.FlagSetLemmas.{permitted-pattern}
 use Rattle.nfa_lazy_dfa.specs.Sets.{IsPartOfOverlap}

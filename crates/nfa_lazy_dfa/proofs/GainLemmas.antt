@@ -1,8 +1,5 @@
 -- What a set of patterns gains of all matches, position by position.
-use Rattle.std.proofs.Common.{◌≡◌, ℕ, ◌+◌, ◌-◌, ◌<◌, ◌≤◌, ◌⊎◌, ◌↔◌, inl, inr, Bool, true, false, List, length, refl, sym, ◌∙◌, subst, arith}
-use Rattle.std.proofs.lemmas.Bool.{cases_lt}
-use Rattle.regex_search_core.specs.PatternSets.{size_of_set}
-use Rattle.nfa_paths.specs.Common.{Search, Automaton, In, IsLeastEnd, WantedAt, HoldsPattern, IsInsertable, IsOverlapResult, IsPatternOf, IsPermitted, IsPermittedEnd, edges, starts}
+use Rattle.nfa_paths.proofs.Common.{◌≡◌, ℕ, ◌+◌, ◌-◌, ◌<◌, ◌≤◌, ◌⊎◌, ◌↔◌, inl, inr, Bool, true, false, List, length, refl, sym, ◌∙◌, subst, arith, cases_lt, size_of_set, Search, Automaton, In, IsLeastEnd, WantedAt, HoldsPattern, IsInsertable, IsOverlapResult, IsPatternOf, IsPermitted, IsPermittedEnd, edges, starts}
 use Rattle.regex_search_core.specs.declared.search.MatchKind.TheVariants.{All}
 use Rattle.nfa_paths.proofs.PathToLemmas.{IsLeastEnd-unique}
 use Rattle.nfa_paths.proofs.SetLemmas.{full-holds}

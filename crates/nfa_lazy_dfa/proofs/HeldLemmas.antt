@@ -1,7 +1,5 @@
 -- A list that has each state of another one.
-use Rattle.std.proofs.Common.{◌≡◌, ℕ, ◌+◌, ◌<◌, ◌≤◌, inl, inr, List, [], ◌∷◌, ◌++◌, length, get_or, take, ap, sym, ◌∙◌, subst}
-use Rattle.std.proofs.lemmas.List.{take_all, take_more}
-use Rattle.nfa_paths.specs.Common.{In}
+use Rattle.nfa_paths.proofs.Common.{◌≡◌, ℕ, ◌+◌, ◌<◌, ◌≤◌, inl, inr, List, [], ◌∷◌, ◌++◌, length, get_or, take, ap, sym, ◌∙◌, subst, take_all, take_more, In}
 use Rattle.nfa_paths.proofs.MemberLemmas.{In-append, In-append_left, In-append_right}
 
 -- the first i states of the list are in the other one

@@ -1,6 +1,5 @@
 -- A half match shows whether there is a match. If a match may end anywhere, so does the earliest one.
-use Rattle.std.proofs.Common.{◌≡◌, ◌∙◌, ℕ, refl, ap, sym, subst, Option, None, Some, Bool, false, not, is_some, option_and_then, option_map}
-use Rattle.nfa_paths.specs.Common.{HalfFound, Search, MatchKind, Automaton, IsAnswer, IsBoolAnswer, IsHalfAnswer, is_utf8_empty, path_pattern, slot_row}
+use Rattle.nfa_paths.proofs.Common.{◌≡◌, ◌∙◌, ℕ, refl, ap, sym, subst, Option, None, Some, Bool, false, not, is_some, option_and_then, option_map, HalfFound, Search, MatchKind, Automaton, IsAnswer, IsBoolAnswer, IsHalfAnswer, is_utf8_empty, path_pattern, slot_row}
 use Rattle.nfa_paths.proofs.EarliestLemmas.{found_answer-earliest, search_answer-asked}
 use Rattle.nfa_paths.proofs.PatternLemmas.{found-of, length-slot_row}
 use Rattle.nfa_paths.proofs.RestartLemmas.{half-pattern}

@@ -1,13 +1,9 @@
 -- A list of states without those that it has further left: the same closures.
-use Rattle.std.proofs.Common.{◌≡◌, ℕ, ◌+◌, ◌<◌, inl, inr, Bool, true, false, List, [], ◌∷◌, ◌++◌, length, get_or, set, drop, replicate, refl, ap, sym, ◌∙◌, arith, append_assoc, get_or-set_other, length-append, length-set}
+use Rattle.nfa_paths.proofs.Common.{◌≡◌, ℕ, ◌+◌, ◌<◌, inl, inr, Bool, true, false, List, [], ◌∷◌, ◌++◌, length, get_or, set, drop, replicate, refl, ap, sym, ◌∙◌, arith, append_assoc, get_or-set_other, length-append, length-set, drop_more, get_or-replicate, length-replicate, Automaton, In, Holding}
 use Rattle.std.proofs.Math.Decide.{ℕ_discrete}
-use Rattle.std.proofs.Math.Seq.{drop-length}
-use Rattle.std.proofs.lemmas.List.{drop_more, get_or-replicate, length-replicate}
-use Rattle.nfa_paths.specs.Common.{Automaton, In}
-use Rattle.nfa_determinize.specs.Closures.{Holding, closure}
+use Rattle.nfa_determinize.specs.Closures.{closure}
 use Rattle.nfa_determinize.proofs.ExploreLemmas.{unseen, unseen-all, unseen-set}
 use Rattle.nfa_determinize.proofs.RepeatLemmas.{closure-repeat}
-use Rattle.nfa_lazy_dfa.specs.Stances.{Covers}
 
 In-last : (s : ℕ) (before : List ℕ) → In s (before ++ s ∷ [])
 In-last s [] = inl refl
@@ -80,20 +76,3 @@ module _ (nfa : Automaton) (states : List ℕ) where
       none = λ e. absurd (rw e at is.marked s inside was);
       count = is.count;
     }
-
-  pub IsOnce-end : (once : List ℕ) (seen : List Bool) → IsOnce nfa states (length states) once seen
-      → Covers nfa once states
-  IsOnce-end once seen is = record {
-    same = λ holding.
-        ap (closure nfa holding) (sym (append-nil once)
-        ∙ ap (λ (more : List ℕ). once ++ more) (sym (drop-length states))) ∙ is.same holding;
-    none = λ e. empty states (is.none e);
-  }
-    where
-      append-nil : (xs : List ℕ) → xs ++ [] ≡ xs
-      append-nil [] = refl
-      append-nil (x ∷ xs) = ap (λ (ys : List ℕ). x ∷ ys) (append-nil xs)
-
-      empty : (xs : List ℕ) → length xs ≡ 0 → xs ≡ []
-      empty [] e = refl
-      empty (x ∷ xs) e = absurd (omega arith)

@@ -1,9 +1,6 @@
 -- Which patterns are reached before a position, by the matches in the closures there.
-use Rattle.std.proofs.Common.{◌≡◌, ℕ, zero, suc, ◌+◌, ◌-◌, ◌<◌, ◌≤◌, ◌⊎◌, ◌↔◌, inl, inr, Bool, false, List, [], ◌∷◌, ◌++◌, map, refl, ap, sym, ◌∙◌, subst, arith, Option, None, Some, is_some, option_map, option_to_list}
-use Rattle.std.specs.Option.{option_or}
-use Rattle.std.proofs.lemmas.Bool.{cases_lt}
-use Rattle.nfa_paths.specs.Common.{HalfFound, Search, MatchKind, Automaton, Pair, In, WantedAt, Slots, HoldsMatch, IsFrontier, IsReached, WantedBefore, is_resting, IsPatternOf, IsPermitted, IsPermittedEnd, pattern_at, edges, is_match, starts}
-use Rattle.regex_search_core.specs.declared.search.MatchKind.TheVariants.{All, LeftmostFirst}
+use Rattle.nfa_paths.proofs.Common.{◌≡◌, ℕ, zero, suc, ◌+◌, ◌-◌, ◌<◌, ◌≤◌, ◌⊎◌, ◌↔◌, inl, inr, Bool, false, List, [], ◌∷◌, ◌++◌, map, refl, ap, sym, ◌∙◌, subst, arith, Option, None, Some, is_some, option_map, option_to_list, option_or, cases_lt, HalfFound, Search, MatchKind, Automaton, Pair, In, WantedAt, Slots, HoldsMatch, IsFrontier, IsReached, WantedBefore, is_resting, IsPatternOf, IsPermitted, IsPermittedEnd, pattern_at, edges, is_match, starts, LeftmostFirst}
+use Rattle.regex_search_core.specs.declared.search.MatchKind.TheVariants.{All}
 use Rattle.nfa_paths.proofs.MemberLemmas.{In-append_right}
 use Rattle.nfa_paths.proofs.ReachedLemmas.{IsReached-along, IsReached-at, ReachedBefore-start}
 use Rattle.nfa_paths.proofs.ScanAnswerLemmas.{starts-from}

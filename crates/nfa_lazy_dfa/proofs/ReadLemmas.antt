@@ -1,6 +1,5 @@
 -- Which bytes the parts of a scan have counted, one after the other.
-use Rattle.std.proofs.Common.{◌≡◌, ℕ, ◌+◌, ◌-◌, ◌≤◌, inl, inr, Bool, false, length, refl, sym, subst, arith}
-use Rattle.nfa_paths.specs.Common.{Search, starts}
+use Rattle.nfa_paths.proofs.Common.{◌≡◌, ℕ, ◌+◌, ◌-◌, ◌≤◌, inl, inr, Bool, false, length, refl, sym, subst, arith, Search, starts}
 use Rattle.nfa_determinize.specs.Configurations.{IsDead, scanned}
 use Rattle.nfa_lazy_dfa.specs.Reads.{HasRead, HasReadSpan, IsOver}
 use Rattle.nfa_lazy_dfa.specs.Rows.{steps_of}

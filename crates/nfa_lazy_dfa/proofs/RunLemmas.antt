@@ -1,6 +1,5 @@
 -- A scan over cells that are known.
-use Rattle.std.proofs.Common.{◌≡◌, ℕ, ◌+◌, ◌*◌, ◌/◌, ◌%◌, ◌<◌, ◌≤◌, ◌-◌, Bool, true, false, List, get_or, length, refl, ap, sym, ◌∙◌, subst, arith, Option, None, Some, is_some, option_map, slice_get}
-use Rattle.nfa_paths.specs.Common.{HalfFound, half_found_of, HalfMatch, Search}
+use Rattle.nfa_paths.proofs.Common.{◌≡◌, ℕ, ◌+◌, ◌*◌, ◌/◌, ◌%◌, ◌<◌, ◌≤◌, ◌-◌, Bool, true, false, List, get_or, length, refl, ap, sym, ◌∙◌, subst, arith, Option, None, Some, is_some, option_map, slice_get, HalfFound, half_found_of, HalfMatch, Search}
 use Rattle.nfa_determinize.specs.Configurations.{found_after, half_at}
 use Rattle.nfa_lazy_dfa.specs.Places.{IsFoundAt, IsMatchedAt}
 use Rattle.nfa_lazy_dfa.specs.Runs.{place_at}

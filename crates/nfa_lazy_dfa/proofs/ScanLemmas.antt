@@ -1,9 +1,5 @@
 -- The loop of a scan over the rows of a cache.
-use Rattle.std.proofs.Common.{◌≡◌, ℕ, zero, suc, ◌+◌, ◌-◌, ◌<◌, ◌≤◌, inl, Bool, true, false, [], ◌∷◌, length, get_or, refl, ap, sym, ◌∙◌, subst, arith, Option, None, Some, is_some, if◌then◌else◌, option_map, slice_get}
-use Rattle.std.specs.Option.{option_or, option_map_or}
-use Rattle.std.proofs.lemmas.Bool.{lt-ltb}
-use Rattle.std.proofs.lemmas.Option.{slice_get-get_or}
-use Rattle.nfa_paths.specs.Common.{HalfFound, half_found_of, HalfMatch, Search, byte_at, pairs_from, start_count, start_state, starts}
+use Rattle.nfa_paths.proofs.Common.{◌≡◌, ℕ, zero, suc, ◌+◌, ◌-◌, ◌<◌, ◌≤◌, inl, Bool, true, false, [], ◌∷◌, length, get_or, refl, ap, sym, ◌∙◌, subst, arith, Option, None, Some, is_some, if◌then◌else◌, option_map, slice_get, option_or, option_map_or, lt-ltb, slice_get-get_or, HalfFound, half_found_of, HalfMatch, Search, byte_at, pairs_from, start_count, start_state, starts, byte_before}
 use Rattle.nfa_determinize.specs.Closures.{pattern_by_kind}
 use Rattle.nfa_determinize.specs.Configurations.{Configuration, IsDead, begin, closure_at, found_after, half_at, position_count, scanned, scan_half, start_here}
 use Rattle.nfa_determinize.proofs.ScanHalfLemmas.{length-starts}
@@ -11,7 +7,7 @@ use Rattle.nfa_determinize.proofs.SettledLemmas.{scanned-next, settled-found}
 use Rattle.nfa_lazy_dfa.specs.Places.{IsFoundAt, IsNextPlace}
 use Rattle.nfa_lazy_dfa.specs.declared.scan.Place.{Place}
 use Rattle.nfa_lazy_dfa.specs.Rows.{IsAt, IsRowOf, LeadsTo, stances_of}
-use Rattle.nfa_lazy_dfa.specs.Assertions.{IsRead, SameLooks, byte_before, sees}
+use Rattle.nfa_lazy_dfa.specs.Assertions.{IsRead, SameLooks, sees}
 use Rattle.nfa_lazy_dfa.proofs.AssertionLemmas.{same-at}
 use Rattle.nfa_lazy_dfa.specs.Stances.{Covers, IsNext, StandsFor, Stance, first_stance, hit_here}
 use Rattle.nfa_lazy_dfa.proofs.StanceLemmas.{stands-dead, stands-here, stands-next}

@@ -1,17 +1,13 @@
 -- A row stands for the configuration of a scan, and the row that a byte leads to for the next one.
-use Rattle.std.proofs.Common.{◌≡◌, ℕ, zero, suc, ◌+◌, ◌-◌, ◌<◌, inl, inr, Bool, true, false, List, [], ◌∷◌, ◌++◌, get_or, set, replicate, length, refl, ap, sym, ◌∙◌, subst, arith, Option, None, Some, is_some, ◌&&◌, if◌then◌else◌, option_to_list, slice_get}
-use Rattle.std.proofs.lemmas.Bool.{cases_Bool, lt-ltb}
-use Rattle.nfa_paths.specs.Common.{Search, MatchKind, Automaton, Node, In, rests, byte_at, node_at, start_state}
-use Rattle.regex_search_core.specs.declared.search.MatchKind.TheVariants.{All, LeftmostFirst}
-use Rattle.thompson_nfa.specs.Automaton.Node.{Look}
-use Rattle.nfa_determinize.specs.Closures.{Holding, closure, epsilon_states, explore, holding_at, kept, pattern_by_kind, step}
+use Rattle.nfa_paths.proofs.Common.{◌≡◌, ℕ, zero, suc, ◌+◌, ◌-◌, ◌<◌, inl, inr, Bool, true, false, List, [], ◌∷◌, ◌++◌, get_or, set, replicate, length, refl, ap, sym, ◌∙◌, subst, arith, Option, None, Some, is_some, ◌&&◌, if◌then◌else◌, option_to_list, slice_get, cases_Bool, lt-ltb, Search, MatchKind, Automaton, Node, In, rests, byte_at, node_at, start_state, LeftmostFirst, Look, Holding, epsilon_states, holding_at, byte_before, slice_get_within}
+use Rattle.regex_search_core.specs.declared.search.MatchKind.TheVariants.{All}
+use Rattle.nfa_determinize.specs.Closures.{closure, explore, kept, pattern_by_kind, step}
 use Rattle.nfa_determinize.specs.Configurations.{Configuration, IsDead, advance, closure_at, start_here, starts_after}
 use Rattle.nfa_determinize.proofs.ExploreLemmas.{explore-none}
-use Rattle.nfa_lazy_dfa.specs.Assertions.{IsRead, SameLooks, byte_before, sees}
+use Rattle.nfa_lazy_dfa.specs.Assertions.{IsRead, SameLooks, sees}
 use Rattle.nfa_lazy_dfa.specs.Stances.{Covers, IsNext, StandsFor, Stance, goes_on, here, hit_here, start_if}
 use Rattle.nfa_lazy_dfa.proofs.AssertionLemmas.{same-at}
 use Rattle.thompson_nfa.specs.declared.look.Look as looks
-use Rattle.std.proofs.lemmas.Option.{slice_get_within}
 
 -- a state leads on alike if its assertion holds alike
 epsilon-same : (a b : Holding) (node : Node)

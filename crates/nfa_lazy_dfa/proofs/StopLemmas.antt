@@ -1,6 +1,5 @@
 -- What the error of a search says.
-use Rattle.std.proofs.Common.{◌≡◌, ◌∙◌, ℕ, ◌+◌, ◌≤◌, List, inl, inr, ap, sym, subst, arith, slice_get}
-use Rattle.nfa_paths.specs.Common.{Search, Automaton}
+use Rattle.nfa_paths.proofs.Common.{◌≡◌, ◌∙◌, ℕ, ◌+◌, ◌≤◌, List, inl, inr, ap, sym, subst, arith, slice_get, Search, Automaton}
 use Rattle.nfa_lazy_dfa.specs.Capacities.{HasNoRoom, IsUsedUpAt, IsUsedUpBy, stop_at}
 use Rattle.nfa_lazy_dfa.specs.Rows.{AllowsClears, ScansAtMost}
 use Rattle.nfa_lazy_dfa.specs.Stops.{IsInSpan, IsStop}

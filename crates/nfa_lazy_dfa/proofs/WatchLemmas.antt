@@ -1,9 +1,8 @@
 -- No match starts before a position at which the scan is in an idle row and found nothing.
-use Rattle.std.proofs.Common.{◌≡◌, ℕ, zero, suc, ◌+◌, ◌-◌, ◌*◌, ◌/◌, ◌≤◌, inl, inr, Bool, List, [], ◌∷◌, refl, ap, sym, ◌∙◌, subst, arith, Result, Ok, Err, IfOk, IfSome, Option, None, Some, option_and_then, option_map, option_to_list, slice_get}
-use Rattle.nfa_paths.specs.Common.{half_found_of, Search, MatchKind, Automaton, In, IsHalfAnswer, byte_at, node_at, target_on, HalfMatch}
+use Rattle.nfa_paths.proofs.Common.{◌≡◌, ℕ, zero, suc, ◌+◌, ◌-◌, ◌*◌, ◌/◌, ◌≤◌, inl, inr, Bool, List, [], ◌∷◌, refl, ap, sym, ◌∙◌, subst, arith, Result, Ok, Err, IfOk, IfSome, Option, None, Some, option_and_then, option_map, option_to_list, slice_get, half_found_of, Search, MatchKind, Automaton, In, IsHalfAnswer, byte_at, node_at, target_on, HalfMatch, holding_at}
 use Rattle.nfa_paths.proofs.InsideLemmas.{half-within}
 use Rattle.nfa_paths.proofs.MemberLemmas.{In-append}
-use Rattle.nfa_determinize.specs.Closures.{closure, explore, holding_at, kept, step}
+use Rattle.nfa_determinize.specs.Closures.{closure, explore, kept, step}
 use Rattle.nfa_determinize.specs.Configurations.{closure_at, scan_half, scanned}
 use Rattle.nfa_determinize.specs.Idles.{StartsFrom}
 use Rattle.nfa_determinize.proofs.IdleLemmas.{StartsFrom-start, half-after, idle-passes}

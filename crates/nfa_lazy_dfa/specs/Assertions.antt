@@ -1,12 +1,8 @@
 -- Assertions that read no more than the byte on each side of a position, and the bytes that a lazy DFA may read.
 use Rattle.std.specs.Prelude.{◌≡◌, ℕ, ◌<◌, ◌≤◌, ◌⊎◌, Bool, true, false, ◌||◌, ◌==◌, ◌++◌, length, Option, None, Some, ⊤, option_to_list, if◌then◌else◌}
-use Rattle.nfa_paths.specs.Common.{Automaton, Node, node_at}
-use Rattle.thompson_nfa.specs.Automaton.Node.{Look}
+use Rattle.nfa_paths.specs.Common.{Automaton, Node, node_at, Look, is_word_byte, WordUnicode, WordUnicodeNegate, WordStartUnicode, WordEndUnicode, WordStartHalfUnicode, WordEndHalfUnicode, Holding, holding_at}
 pub use Rattle.thompson_nfa.specs.Looks.{byte_before}
-use Rattle.thompson_nfa.specs.Looks.{is_word_byte}
 use Rattle.thompson_nfa.specs.declared.look.Look as looks
-use Rattle.thompson_nfa.specs.declared.look.Look.TheVariants.{WordUnicode, WordUnicodeNegate, WordStartUnicode, WordEndUnicode, WordStartHalfUnicode, WordEndHalfUnicode}
-use Rattle.nfa_determinize.specs.Closures.{Holding, holding_at}
 
 -- the assertion is not one of a Unicode word
 abbrev pub reads_bytes : looks.Look → Bool

@@ -1,8 +1,9 @@
 -- When a search gives up since its cache is full.
-use Rattle.std.specs.Prelude.{◌≡◌, ℕ, ◌+◌, ◌*◌, ◌<◌, ◌≤◌, ◌⊎◌, true, length, is_some, Result, Ok, Err, ⊤}
-use Rattle.nfa_paths.specs.Common.{Search, MatchKind, Automaton, start_state}
-use Rattle.regex_search_core.specs.declared.search.MatchKind.TheVariants.{All, LeftmostFirst}
-use Rattle.nfa_lazy_dfa.specs.Rows.{capacity_of, clears_of, max_clears_of}
+use Rattle.std.specs.Prelude.{◌≡◌, ℕ, ◌+◌, ◌*◌, ◌<◌, ◌≤◌, ◌⊎◌, true, length, is_some, IfErr, IfOk, Result, Ok, Err, ⊤}
+use Rattle.nfa_paths.specs.Common.{Search, MatchKind, Automaton, start_state, LeftmostFirst}
+use Rattle.regex_search_core.specs.declared.search.MatchKind.TheVariants.{All}
+use Rattle.nfa_lazy_dfa.specs.Rows.{IsFor, IsRowOf, Spends, capacity_of, clears_of, max_clears_of}
+use Rattle.nfa_lazy_dfa.specs.Stances.{Stance}
 use Rattle.nfa_lazy_dfa.specs.declared.cache.Cache.{Cache}
 use Rattle.nfa_lazy_dfa.specs.declared.dfa.DFA.{DFA}
 use Rattle.nfa_lazy_dfa.specs.declared.error.GaveUp as reasons
@@ -53,6 +54,17 @@ abbrev pub IsUsedUpAt : Cache → DFA → StopError → Type 0
 IsUsedUpAt c dfa (GaveUp offset) = IsUsedUp c dfa
 IsUsedUpAt c dfa (Quit byte offset) = ⊤
 IsUsedUpAt c dfa Memory = ⊤
+
+-- The cache of the DFA gave the row that a scan begins with, or gave up.
+pub record GivesFirstRow (dfa : DFA) (first : Stance) (old new : Cache) (result : Result ℕ reasons.GaveUp)
+    : Type 0 where
+  pub own : IsFor new dfa
+  pub row : IfOk result (λ row. IsRowOf new row first)
+  -- it made at most this row, and took no step
+  pub spends : Spends old new 0 1
+  -- it gave up since its rows are used up, and without room for such a row it always does
+  pub full : IfErr result (IsUsedUpBy new dfa)
+  pub small : capacity_of dfa < first_row_memory → result ≡ Err Full
 
 -- the error of a search whose scan is at this offset
 abbrev pub stop_at : reasons.GaveUp → ℕ → StopError

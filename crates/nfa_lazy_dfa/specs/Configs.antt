@@ -1,8 +1,7 @@
 -- The configuration of a lazy DFA, and what is read from it.
 use Rattle.std.specs.Prelude.{ℕ, None, unwrap_or}
 use Rattle.std.specs.Option.{option_or}
-use Rattle.nfa_paths.specs.Common.{MatchKind, Automaton}
-use Rattle.regex_search_core.specs.declared.search.MatchKind.TheVariants.{LeftmostFirst}
+use Rattle.nfa_paths.specs.Common.{MatchKind, Automaton, LeftmostFirst}
 use Rattle.nfa_lazy_dfa.specs.Options.{Options}
 use Rattle.nfa_lazy_dfa.specs.declared.dfa.DFA.{DFA}
 

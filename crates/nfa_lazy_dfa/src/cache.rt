@@ -2,7 +2,7 @@
 ghost use Rattle.std.specs.Prelude.{◌≡◌, ℕ, ◌+◌, ◌-◌, ◌*◌, ◌<◌, ◌≤◌, ◌++◌, ◌∷◌, [], true, false, None, Some};
 ghost use Rattle.std.specs.Prelude.{◌⊎◌, ◌↔◌, All, Err, IfErr, IfOk, IfNone, IfSome, IsOkUnless, IsTrue, OnErr, OnOk, length, map, option_map, slice_get, vec_len};
 ghost use Rattle.regex_search_core.specs.Patterns.{number_of};
-ghost use Rattle.nfa_lazy_dfa.specs.Capacities.{IsUsedUpBy, first_row_memory, largest_row_memory};
+ghost use Rattle.nfa_lazy_dfa.specs.Capacities.{GivesFirstRow, IsUsedUpBy, largest_row_memory};
 ghost use Rattle.nfa_lazy_dfa.specs.Rows as rows;
 ghost use Rattle.nfa_lazy_dfa.specs.Rows.{AllowsClears, CountsScan, IsFor, IsRowOf, KeepsRows, Spends, memory_of, stances_of};
 ghost use Rattle.nfa_lazy_dfa.specs.Stances.{first_stance, hit_here, hits_here, stance_of};
@@ -277,12 +277,7 @@ impl Cache {
     ) -> Result<u32, GaveUp>
         requires own { IsFor self.old dfa.now }
         requires start { start < length dfa.now.nfa.states }
-        ensures own { IsFor self.new dfa.now }
-        ensures row { IfOk result (λ row.
-            IsRowOf self.new row (first_stance start before more)) }
-        ensures spends { Spends self.old self.new 0 1 }
-        ensures full { IfErr result (IsUsedUpBy self.new dfa.now) }
-        ensures small { dfa.now.capacity < first_row_memory → result ≡ Err GaveUp.Full }
+        ensures { GivesFirstRow dfa.now (first_stance start before more) self.old self.new result }
     {
         let row = self.firsts[more as usize];
         if self.is_first(row, start, before, more) {
@@ -303,12 +298,7 @@ impl Cache {
     ) -> Result<u32, GaveUp>
         requires own { IsFor self.old dfa.now }
         requires start { start < length dfa.now.nfa.states }
-        ensures own { IsFor self.new dfa.now }
-        ensures row { IfOk result (λ row.
-            IsRowOf self.new row (first_stance start before more)) }
-        ensures spends { Spends self.old self.new 0 1 }
-        ensures full { IfErr result (IsUsedUpBy self.new dfa.now) }
-        ensures small { dfa.now.capacity < first_row_memory → result ≡ Err GaveUp.Full }
+        ensures { GivesFirstRow dfa.now (first_stance start before more) self.old self.new result }
     {
         if dfa.capacity < FIRST_ROW_BYTES {
             return Err(GaveUp::Full);

@@ -1,11 +1,8 @@
 -- Each accepting path of a search is a way, and so writes its bounds if each way does.
-use Rattle.std.proofs.Common.{◌≡◌, ℕ, suc, zero, ◌+◌, ◌-◌, inl, inr, List, [], ◌∷◌, map, refl, ap, sym, arith, ◌∙◌, subst, Option, Some, None, true, false, Bool, ◌||◌, ◌==◌, option_map, option_and_then, option_to_list, filter_map, if◌then◌else◌, nat_lt, slice_get}
-use Rattle.std.specs.Option.{option_map_or}
-use Rattle.nfa_paths.specs.Common.{Search, is_anchored, Automaton, Node, look_holds, Pair, In, Linked, PathTo, node_at, start_state, start_count, starts, pairs_from, edges, edges_of, byte_at, target_on, first_target, holds_byte}
-use Rattle.thompson_nfa.specs.declared.state.Transition.{Transition}
-use Rattle.thompson_nfa.specs.Automaton.Node.{ByteRange, Sparse, Dense, Look}
-use Rattle.nfa_engines.specs.GapLaws.{PathsWriteTheirEnds}
-use Rattle.nfa_match_spans.specs.StatePaths.{targets, reads, position_after, open_edges, IsStart, IsStatePath, RecordsMatchSpans}
+use Rattle.nfa_paths.proofs.Common.{◌≡◌, ℕ, suc, zero, ◌+◌, inl, inr, List, [], ◌∷◌, map, refl, sym, arith, subst, Option, Some, None, true, Bool, option_map, option_and_then, option_to_list, filter_map, if◌then◌else◌, slice_get, Search, is_anchored, Automaton, Node, look_holds, Pair, In, Linked, PathTo, node_at, starts, edges, edges_of, byte_at, target_on, first_target, holds_byte, Transition, ByteRange, Sparse, Dense, Look}
+use Rattle.nfa_engines.proofs.FirstStartLemmas.{start-of}
+use Rattle.nfa_match_spans.specs.MatchSpanLaws.{EverySearchIsRecorded}
+use Rattle.nfa_match_spans.specs.StatePaths.{targets, reads, position_after, open_edges, IsStatePath}
 use Rattle.nfa_paths.proofs.MemberLemmas.{In-map}
 
 -- the target on a byte is a target of the state
@@ -17,10 +14,8 @@ first-in (u ∷ ts) b t e = grind (arith, first-in ts b t)
 present-in : (places : List (Option ℕ)) (b t : ℕ) → option_and_then (λ target. target) (slice_get places b) ≡ Some t
     → In t (filter_map (λ target. target) places)
 present-in [] b t e = cc
-present-in (None ∷ places) zero t e = cc
-present-in (Some s ∷ places) zero t e = inl (let same : s ≡ t = cc in sym same)
-present-in (None ∷ places) (suc b) t e = present-in places b t e
-present-in (Some s ∷ places) (suc b) t e = inr (present-in places b t e)
+present-in (o ∷ places) zero t e = grind arith
+present-in (o ∷ places) (suc b) t e = grind (arith, present-in places b t e)
 
 range-in : (u : Transition) (b t : ℕ) → (if holds_byte u b then Some u.next else None) ≡ Some t → In t (u.next ∷ [])
 range-in u b t e = grind arith
@@ -47,8 +42,7 @@ byte-edge x node ts p w all i = read (byte_at x p) i
 
 look-edge : (holds : Bool) (next p : ℕ) (w : Pair) → In w (if holds then (next, p) ∷ [] else [])
     → In w ((next, p) ∷ [])
-look-edge true next p w i = i
-look-edge false next p w i = absurd i
+look-edge holds next p w i = grind arith
 
 open-edge : (x : Search) (node : Node) (p : ℕ) (w : Pair) → In w (edges_of x node p)
     → In w (map (λ s. (s, position_after node p)) (targets node))
@@ -60,38 +54,12 @@ open-edge x (Dense places) p w i =
 open-edge x (Look look next) p w i = look-edge (look_holds look x.haystack p) next p w i
 open-edge x _ p w i = i
 
-pairs_from-state : (state p count : ℕ) (v : Pair) → In v (pairs_from state p count) → v.0 ≡ state
-pairs_from-state state p zero v i = absurd i
-pairs_from-state state p (suc count) v i = grind (arith, pairs_from-state state (p + 1) count v)
-
-pairs_from-one : (state p : ℕ) (v : Pair) → In v (pairs_from state p 1) → v.1 ≡ p
-pairs_from-one state p v i = elim i [ inl e ↦ ap (λ (z : Pair). z.1) e | inr never ↦ absurd never ]
+-- an anchored search starts at the start of its span
+pub start-anchored : (nfa : Automaton) (x : Search) → is_anchored x.anchored ≡ true → (v : Pair)
+    → In v (starts nfa x) → v.1 ≡ x.start
+start-anchored nfa x bound v i = (start-of nfa x v i).tied (rw bound refl)
 
 module _ (nfa : Automaton) (x : Search) where
-  start-state : (v : Pair) → In v (starts nfa x) → IsStart nfa v.0
-  start-state v i = of (start_state nfa x.anchored) refl i
-    where
-      of : (o : Option ℕ) → start_state nfa x.anchored ≡ o
-          → In v (option_map_or (λ state. pairs_from state x.start (start_count nfa x)) o []) → IsStart nfa v.0
-      of None e i = absurd i
-      of (Some s) e i = (x.anchored, e ∙ ap Some (sym (pairs_from-state s x.start (start_count nfa x) v i)))
-
-  -- an anchored search starts at the start of its span
-  pub start-anchored : is_anchored x.anchored ≡ true → (v : Pair) → In v (starts nfa x) → v.1 ≡ x.start
-  start-anchored bound v i = of (start_state nfa x.anchored) i
-    where
-      counted : (late : Bool) (s : ℕ)
-          → In v (pairs_from s x.start (if late then 0 else (if is_anchored x.anchored || nfa.anchored == nfa.unanchored
-          then 1 else (x.end - x.start + 1))))
-          → v.1 ≡ x.start
-      counted true s i = absurd i
-      counted false s i = let j : In v (pairs_from s x.start 1) = rw bound at i in pairs_from-one s x.start v j
-
-      of : (o : Option ℕ)
-          → In v (option_map_or (λ state. pairs_from state x.start (start_count nfa x)) o []) → v.1 ≡ x.start
-      of None i = absurd i
-      of (Some s) i = counted (nat_lt x.end x.start) s i
-
   -- linked edges are linked open edges
   pub linked-open : (p : List Pair) → Linked (edges nfa x) p → Linked (open_edges nfa) p
   linked-open [] l = tt
@@ -100,7 +68,7 @@ module _ (nfa : Automaton) (x : Search) where
 
   -- an accepting path is a way
   path-way : (end : Pair) (p : List Pair) → PathTo (edges nfa x) (starts nfa x) end p → IsStatePath nfa end p
-  path-way end p path = grind (arith, linked-open, start-state)
+  path-way end p path = grind (arith, start-of, linked-open)
 
-  pub paths-recorded : RecordsMatchSpans nfa → PathsWriteTheirEnds nfa x
-  paths-recorded records end p path matches = records end p (path-way end p path) matches
+pub paths-recorded : EverySearchIsRecorded
+paths-recorded nfa x records end p path matches = records end p (path-way nfa x end p path) matches

@@ -1,8 +1,5 @@
 -- What a place says about the two slots.
-use Rattle.std.proofs.Common.{◌≡◌, ℕ, ◌+◌, ◌*◌, ◌==◌, List, [], ◌∷◌, ◌++◌, sym, arith, Option, Some, None, true, false, if◌then◌else◌}
-use Rattle.std.specs.Option.{option_or, option_map_or}
-use Rattle.nfa_paths.specs.Common.{Automaton, Node, Pair, slot_of, slot_among}
-use Rattle.thompson_nfa.specs.Automaton.Node.{Capture}
+use Rattle.nfa_paths.proofs.Common.{◌≡◌, ℕ, ◌+◌, ◌*◌, ◌==◌, List, [], ◌∷◌, ◌++◌, sym, arith, Option, Some, None, false, if◌then◌else◌, option_or, option_map_or, Automaton, Node, Pair, slot_of, slot_among, Capture}
 use Rattle.nfa_match_spans.specs.StatePaths.{reads, position_after}
 use Rattle.nfa_match_spans.specs.PathStates.{fresh_path_state, at_state, after_node, Describes}
 use Rattle.nfa_match_spans.specs.declared.path_state.PathState.{PathState}
@@ -25,17 +22,6 @@ pub Describes-fresh : (s position : ℕ) → Describes position position None No
 Describes-fresh s position = grind arith
 
 module _ {start position : ℕ} {start_slot end_slot : Option ℕ} {v : PathState} where
-  -- at another state
-  Describes-at : (s : ℕ) → Describes start position start_slot end_slot v
-      → Describes start position start_slot end_slot (at_state v s)
-  Describes-at s h = grind arith
-
-  -- after a byte
-  Describes-read : (s : ℕ) → Describes start position start_slot end_slot v
-      → Describes start (position + 1) start_slot end_slot
-      (record v { state = s; has_read = true; end_written = false })
-  Describes-read s h = grind arith
-
   Describes-captured : (pattern next slot s : ℕ) → Describes start position start_slot end_slot v
       → Describes start position (written (Capture next slot) (2 * pattern) position start_slot)
       (written (Capture next slot) (2 * pattern + 1) position end_slot)
@@ -48,5 +34,4 @@ module _ {start position : ℕ} {start_slot end_slot : Option ℕ} {v : PathStat
       → Describes start (position_after node position) (written node (2 * pattern) position start_slot)
       (written node (2 * pattern + 1) position end_slot) (at_state (after_node pattern node v) s)
   unfolding after_node reads
-  Describes-after pattern (Capture next slot) s h = Describes-captured pattern next slot s h
-  Describes-after pattern _ s h = grind arith
+  Describes-after = grind (arith, Describes-captured)

@@ -1,15 +1,10 @@
 -- The steps of a search for a way that does not write its bounds.
-use Rattle.std.proofs.Common.{◌≡◌, ℕ, suc, zero, ◌+◌, ◌<◌, ◌≤◌, inl, inr, List, [], ◌∷◌, ◌++◌, length, get_or, take, refl, ap, sym, ◌∙◌, arith, subst, below_more, Option, Some, None, true, false, Bool, All, IfSome, IsTrue, ◌↔◌, filter_map, slice_get}
-use Rattle.std.proofs.lemmas.List.{take_more, take_all, take-append-le, length-append}
-use Rattle.std.proofs.lemmas.Option.{get_or_from_slice_get}
-use Rattle.regex_search_core.specs.declared.search.Anchored.TheVariants.{No, Yes, Pattern}
-use Rattle.nfa_paths.specs.Common.{number_of, PatternID, Automaton, Node, LeadsBelow, In, node_at, pattern_of}
-use Rattle.thompson_nfa.specs.declared.state.Transition.{Transition}
-use Rattle.thompson_nfa.specs.Automaton.Node.{Sparse, Dense, Union}
+use Rattle.nfa_paths.proofs.Common.{◌≡◌, ℕ, suc, zero, ◌+◌, ◌<◌, ◌≤◌, inl, inr, List, [], ◌∷◌, ◌++◌, length, get_or, take, refl, ap, sym, ◌∙◌, arith, subst, below_more, Option, Some, None, false, Bool, All, IfSome, IsTrue, ◌↔◌, filter_map, slice_get, take_more, take_all, take-append-le, length-append, get_or_from_slice_get, slice_get_within, Pattern, number_of, PatternID, Automaton, Node, LeadsBelow, In, node_at, pattern_of, Transition, Sparse, Dense, Union}
 use Rattle.nfa_paths.proofs.MemberLemmas.{In-append, In-append_left, All-In}
+use Rattle.nfa_engines.proofs.MovedGraphLemmas.{In-mapped}
 use Rattle.nfa_match_spans.specs.StatePaths.{targets, IsStart}
 use Rattle.nfa_match_spans.specs.PathStates.{fresh_path_state, at_state, after_node, next_places, is_recorded, IsFresh, GainsPathStates, IsFine, IsClosed, IsUnderWay, IsLedTo}
-use Rattle.nfa_match_spans.proofs.StatePathLemmas.{In-mapped, IsLedTo-fresh, IsLedTo-next}
+use Rattle.nfa_match_spans.proofs.StatePathLemmas.{IsLedTo-fresh, IsLedTo-next}
 use Rattle.nfa_match_spans.specs.declared.path_state.PathState.{PathState}
 
 -- lists
@@ -18,11 +13,6 @@ pub In-get_or : {A : Type 0} (xs : List A) (k : ℕ) (d : A) → k < length xs �
 In-get_or [] k d h = absurd (omega arith)
 In-get_or (x ∷ xs) zero d h = inl refl
 In-get_or (x ∷ xs) (suc k) d h = inr (In-get_or xs k d (omega arith))
-
-pub slice_get-below : {A : Type 0} (xs : List A) (k : ℕ) (x : A) → slice_get xs k ≡ Some x → k < length xs
-slice_get-below [] k x e = cc
-slice_get-below (y ∷ xs) zero x e = omega arith
-slice_get-below (y ∷ xs) (suc k) x e = let less = slice_get-below xs k x e in omega arith
 
 pub slice_get-in : {A : Type 0} (xs : List A) (k : ℕ) (x : A) → slice_get xs k ≡ Some x → In x xs
 slice_get-in [] k x e = cc
@@ -34,11 +24,10 @@ slice_get-in (y ∷ xs) (suc k) x e = inr (slice_get-in xs k x e)
 present-below : (n s : ℕ) (places : List (Option ℕ)) → All (λ o. IfSome o (λ t. t < n)) places
     → In s (filter_map (λ target. target) places) → s < n
 present-below n s [] all i = absurd i
-present-below n s (None ∷ places) all i =
-    present-below n s places (λ k d h. all (suc k) d (omega arith)) i
-present-below n s (Some t ∷ places) all (inl e) = let less : t < n = all 0 None (omega arith) in rw e less
-present-below n s (Some t ∷ places) all (inr i) =
-    present-below n s places (λ k d h. all (suc k) d (omega arith)) i
+present-below n s (o ∷ places) all i =
+    let rest = present-below n s places (λ k d h. all (suc k) d (omega arith)) in
+    let first = all 0 None (omega arith) in
+    grind arith
 
 pub targets-below : (n s : ℕ) (node : Node) → LeadsBelow n node → In s (targets node) → s < n
 unfolding targets
@@ -58,10 +47,7 @@ IsFresh-of nfa s start v e = rw e (start, refl)
 pub starts-all : (nfa : Automaton) (P : ℕ → Type 0) → P nfa.anchored
     → ((k s : ℕ) → k < length nfa.patterns → k ≤ 2147483646 → slice_get nfa.patterns k ≡ Some s → P s)
     → (s : ℕ) → IsStart nfa s → P s
-starts-all nfa P anchored patterns s (No, e) = let same : nfa.anchored ≡ s = cc in subst P same anchored
-starts-all nfa P anchored patterns s (Yes, e) = let same : nfa.anchored ≡ s = cc in subst P same anchored
-starts-all nfa P anchored patterns s (Pattern pattern, e) =
-    patterns (number_of pattern) s (slice_get-below nfa.patterns (number_of pattern) s e) pattern.small e
+starts-all = grind (arith, slice_get_within)
 
 pub IsStart-pattern : (nfa : Automaton) (pattern : PatternID) (o : Option ℕ)
     → o ≡ slice_get nfa.patterns (number_of pattern) → IfSome o (IsStart nfa)
@@ -76,23 +62,19 @@ GainsPathStates-kept {old = old} g v i = rw g.kept (In-append_left v old g.more 
 
 pub GainsPathStates-each : {old new wanted : List PathState} (P : PathState → Type 0) → GainsPathStates old new wanted
     → ((v : PathState) → In v old → P v) → ((v : PathState) → In v wanted → P v) → (v : PathState) → In v new → P v
-GainsPathStates-each {old = old} {new = new} P g before here v i =
-    let j : In v (old ++ g.more) = subst (In v) g.kept i in
-    elim (In-append v old g.more j) [ inl k ↦ before v k | inr k ↦ here v (g.only v k) ]
+GainsPathStates-each {old = old} P g before here v i = grind (arith, In-append v old g.more)
 
 -- one start more
 pub starts-only : (nfa : Automaton) {old new : List PathState} (s : ℕ)
     → GainsPathStates old new (fresh_path_state s ∷ [])
     → IsStart nfa s
     → ((v : PathState) → In v old → IsFresh nfa v) → (v : PathState) → In v new → IsFresh nfa v
-starts-only nfa s gains start only = GainsPathStates-each (IsFresh nfa) gains only
-    (λ v i. elim i [ inl e ↦ IsFresh-of nfa s start v e | inr never ↦ absurd never ])
+starts-only nfa s gains start only = GainsPathStates-each (IsFresh nfa) gains only (grind (arith, IsFresh-of))
 
 pub starts-below : (n : ℕ) {old new : List PathState} (s : ℕ)
     → GainsPathStates old new (fresh_path_state s ∷ []) → s < n
     → ((v : PathState) → In v old → v.state < n) → (v : PathState) → In v new → v.state < n
-starts-below n s gains less below = GainsPathStates-each (λ (v : PathState). v.state < n) gains below
-    (λ v i. elim i [ inl e ↦ rw e less | inr never ↦ absurd never ])
+starts-below n s gains less below = GainsPathStates-each (λ (v : PathState). v.state < n) gains below (grind arith)
 
 -- the starts of the patterns so far, with one more
 pub patterns-more : (nfa : Automaton) (old new : List PathState) (index start : ℕ)
@@ -125,24 +107,26 @@ module _ (nfa : Automaton) (pattern : ℕ) where
       → slice_get old done ≡ Some v → IsFine nfa pattern v → LeadsBelow (length nfa.states) (node_at nfa v.state)
       → GainsPathStates old new (next_places nfa pattern v) → IsUnderWay nfa pattern (done + 1) new
   IsUnderWay-step done old new v under is fine leads gains =
-      let inside : done < length old = slice_get-below old done v is in
+      let inside : done < length old = slice_get_within old done v is in
       let there : In v old = slice_get-in old done v is in
       let node = node_at nfa v.state in
       let more : (w : PathState) → In w (take (done + 1) new) → In w (take done old ++ v ∷ []) =
       λ w i. subst (In w) (first inside) i in
       record {
         inside = omega (arith, ap length gains.kept, length-append old gains.more, inside);
-        starts = λ s start. GainsPathStates-kept gains (fresh_path_state s) (under.starts s start);
-        covers = λ w i u j.
-            elim (In-append w (take done old) (v ∷ []) (more w i)) [
-              | inl k ↦ GainsPathStates-kept gains u (under.covers w k u j)
-              | inr k ↦ grind arith
-            ];
-        fine = λ w i.
-            elim (In-append w (take done old) (v ∷ []) (more w i)) [
-              | inl k ↦ under.fine w k
-              | inr k ↦ elim k [ inl e ↦ subst (IsFine nfa pattern) (sym e) fine | inr never ↦ absurd never ]
-            ];
+        closed = record {
+          starts = λ s start. GainsPathStates-kept gains (fresh_path_state s) (under.closed.starts s start);
+          covers = λ w i u j.
+              elim (In-append w (take done old) (v ∷ []) (more w i)) [
+                | inl k ↦ GainsPathStates-kept gains u (under.closed.covers w k u j)
+                | inr k ↦ grind arith
+              ];
+          fine = λ w i.
+              elim (In-append w (take done old) (v ∷ []) (more w i)) [
+                | inl k ↦ under.closed.fine w k
+                | inr k ↦ elim k [ inl e ↦ subst (IsFine nfa pattern) (sym e) fine | inr never ↦ absurd never ]
+              ];
+        };
         below = GainsPathStates-each (λ w. w.state < length nfa.states) gains under.below (λ w i.
             let of = In-mapped (at_state (after_node pattern node v)) w (targets node) i in
             subst (λ (z : PathState). z.state < length nfa.states) (sym of.2)
@@ -160,18 +144,11 @@ module _ (nfa : Automaton) (pattern : ℕ) where
 
   -- all places are done
   pub IsUnderWay-done : (done : ℕ) (places : List PathState) → length places ≤ done → IsUnderWay nfa pattern done places
-      → IsClosed nfa pattern places
-  IsUnderWay-done done places all under = grind (arith, take_all)
+      → IsClosed nfa pattern places places
+  IsUnderWay-done done places all under = rw take_all at under.closed
 
   -- what was not found to lack a bound does not
   pub IsFine-of : (v : PathState) (node : Node) (lacks : Bool) → node_at nfa v.state ≡ node
       → (IsTrue lacks ↔ ((pattern_of node ≡ Some pattern) × (is_recorded v ≡ false))) → lacks ≡ false
       → IsFine nfa pattern v
-  IsFine-of v node lacks is tells not-so matches = recorded (is_recorded v) refl
-    where
-      here : pattern_of node ≡ Some pattern
-      here = ap pattern_of (sym is) ∙ matches
-
-      recorded : (b : Bool) → is_recorded v ≡ b → b ≡ true
-      recorded true e = refl
-      recorded false e = absurd (let t : lacks ≡ true = tells.1 (here, e) in cc)
+  IsFine-of v node lacks is tells not-so matches = grind arith

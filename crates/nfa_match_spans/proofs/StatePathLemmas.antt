@@ -1,7 +1,5 @@
 -- Ways, and the places that they lead to.
-use Rattle.std.proofs.Common.{◌≡◌, ℕ, ◌+◌, ◌*◌, ◌<◌, length, List, [], ◌∷◌, ◌++◌, map, refl, sym, ◌∙◌, rules, arith, subst, Option, Some, None, true, false, ◌&&◌}
-use Rattle.std.specs.Option.{option_or}
-use Rattle.nfa_paths.specs.Common.{Automaton, IsAutomaton, Pair, In, HeadIs, Linked, EndsWith, node_at, pattern_of, slot_among}
+use Rattle.nfa_paths.proofs.Common.{◌≡◌, ℕ, ◌+◌, ◌*◌, ◌<◌, length, List, [], ◌∷◌, ◌++◌, refl, sym, rules, arith, subst, Option, Some, None, true, false, ◌&&◌, option_or, Automaton, IsAutomaton, Pair, In, HeadIs, Linked, EndsWith, node_at, pattern_of, slot_among}
 use Rattle.nfa_paths.proofs.PathToLemmas.{EndsWith-last}
 use Rattle.nfa_paths.proofs.PatternLemmas.{node-pattern}
 use Rattle.nfa_match_spans.specs.StatePaths.{targets, position_after, open_edges, IsStatePath, PatternRecordsMatchSpans, RecordsMatchSpans}
@@ -10,20 +8,14 @@ use Rattle.nfa_match_spans.proofs.PathStateLemmas.{written, slot_among-append, D
 use Rattle.nfa_match_spans.specs.declared.path_state.PathState.{PathState}
 use Rattle.nfa_paths.proofs.OptionLemmas.{option_or-None, option_or-assoc}
 use Rattle.nfa_paths.proofs.MemberLemmas.{In-map}
-
--- each element of what a list gives is given by an element
-pub In-mapped : {A B : Type 0} (f : A → B) (y : B) (xs : List A) → In y (map f xs) → (x : A) × In x xs × (y ≡ f x)
-In-mapped f y [] i = absurd i
-In-mapped f y (x ∷ xs) i = grind (arith, In-mapped f y xs)
+use Rattle.nfa_engines.proofs.MovedGraphLemmas.{In-mapped}
 
 HeadIs-append : (s : Pair) (p q : List Pair) → HeadIs s p → HeadIs s (p ++ q)
-HeadIs-append s [] q h = absurd h
-HeadIs-append s (x ∷ p) q h = h
+HeadIs-append = grind arith
 
 EndsWith-append : (m : Pair) (p : List Pair) → EndsWith m (p ++ m ∷ [])
 EndsWith-append m [] = refl
-EndsWith-append m (x ∷ []) = refl
-EndsWith-append m (x ∷ (y ∷ p)) = EndsWith-append m (y ∷ p)
+EndsWith-append m (x ∷ p) = grind (arith, EndsWith-append m p)
 
 Linked-more : (edges : Pair → List Pair) (p : List Pair) (x y : Pair) → Linked edges (p ++ x ∷ []) → In y (edges x)
     → Linked edges ((p ++ x ∷ []) ++ y ∷ [])
@@ -86,7 +78,7 @@ module _ (nfa : Automaton) (pattern : ℕ) where
       both : v.start_written ≡ true → v.end_written ≡ true → ⊥
       both s e = let b : v.start_written && v.end_written ≡ true = rw (s, e) refl in cc (b, lacks)
 
-  module _ (places : List PathState) (closed : IsClosed nfa pattern places) where
+  module _ (places : List PathState) (closed : IsClosed nfa pattern places places) where
     -- From a place that was reached on, each way to a Match writes its bounds.
     onward-writes : (rest : List Pair) (v : PathState) (start position : ℕ) (start_slot end_slot : Option ℕ) (m : Pair)
         → In v places → Describes start position start_slot end_slot v

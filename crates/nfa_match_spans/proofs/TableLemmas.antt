@@ -1,8 +1,6 @@
 -- The table of the places that were reached.
-use Rattle.std.proofs.Common.{◌≡◌, ◌<◌, inl, inr, List, [], ◌∷◌, ◌++◌, length, get_or, set, ap, ◌∙◌, arith, get_or-set_other, length-set, true, false, Bool}
+use Rattle.nfa_paths.proofs.Common.{◌≡◌, ◌<◌, inl, inr, List, [], ◌∷◌, ◌++◌, length, get_or, set, ap, ◌∙◌, arith, get_or-set_other, length-set, true, false, Bool, append_assoc, length-append, sum_by-set}
 use Rattle.std.proofs.Math.Decide.{ℕ_discrete}
-use Rattle.std.proofs.lemmas.List.{append_assoc, length-append}
-use Rattle.std.proofs.lemmas.List.Sums.{sum_by-set}
 use Rattle.nfa_paths.proofs.MemberLemmas.{In-append, In-append_left, In-append_right}
 use Rattle.nfa_match_spans.specs.PathStates.{path_state_number, IsTable, GainsPathStates}
 use Rattle.nfa_match_spans.specs.declared.path_state.PathState.{PathState}

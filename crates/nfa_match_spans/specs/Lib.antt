@@ -1,4 +1,3 @@
 pub mod MatchSpanLaws
-pub mod Matches
 pub mod PathStates
 pub mod StatePaths

@@ -1,8 +1,7 @@
 -- States with what the ways to them have done. A test of all ways visits these.
 use Rattle.std.specs.Prelude.{◌≡◌, ℕ, ◌+◌, ◌*◌, ◌≤◌, ◌<◌, ◌↔◌, Bool, true, false, not, ◌&&◌, ◌==◌, List, [], ◌∷◌, ◌++◌, map, take, length, slice_index_or, Option, Some, if◌then◌else◌}
 use Rattle.std.specs.List.{sum_by}
-use Rattle.nfa_paths.specs.Common.{Automaton, Node, Pair, In, HeadIs, Linked, node_at, pattern_of, slot_among}
-use Rattle.thompson_nfa.specs.Automaton.Node.{Capture}
+use Rattle.nfa_paths.specs.Common.{Automaton, Node, Pair, In, HeadIs, Linked, node_at, pattern_of, slot_among, Capture}
 use Rattle.nfa_match_spans.specs.StatePaths.{targets, reads, open_edges, IsStart}
 use Rattle.nfa_match_spans.specs.declared.path_state.PathState.{PathState}
 
@@ -93,20 +92,16 @@ module _ (nfa : Automaton) (pattern : ℕ) where
   abbrev pub IsFine : PathState → Type 0
   IsFine v = pattern_of (node_at nfa v.state) ≡ Some pattern → is_recorded v ≡ true
 
-  -- the list has the start places of every search and what follows each of its places, and none of its Matches lacks a
-  -- bound
-  pub record IsClosed (places : List PathState) : Type 0 where
-    pub starts : (s : ℕ) → IsStart nfa s → In (fresh_path_state s) places
-    pub covers : (v : PathState) → In v places → (w : PathState) → In w (next_places nfa pattern v) → In w places
-    pub fine : (v : PathState) → In v places → IsFine v
-
-  -- Ways lead to each of these places. The list also has what follows its first `done` places, and none of these is a
+  -- The list has the start places of every search and what follows each of these of its places, and none of these is a
   -- Match that lacks a bound.
+  pub record IsClosed (these places : List PathState) : Type 0 where
+    pub starts : (s : ℕ) → IsStart nfa s → In (fresh_path_state s) places
+    pub covers : (v : PathState) → In v these → (w : PathState) → In w (next_places nfa pattern v) → In w places
+    pub fine : (v : PathState) → In v these → IsFine v
+
+  -- Ways lead to each of these places, and the first `done` of them were gone through.
   pub record IsUnderWay (done : ℕ) (places : List PathState) : Type 0 where
     pub inside : done ≤ length places
-    pub starts : (s : ℕ) → IsStart nfa s → In (fresh_path_state s) places
-    pub covers : (v : PathState) → In v (take done places) → (w : PathState) → In w (next_places nfa pattern v)
-        → In w places
-    pub fine : (v : PathState) → In v (take done places) → IsFine v
+    pub closed : IsClosed (take done places) places
     pub below : (v : PathState) → In v places → v.state < length nfa.states
     pub led : (v : PathState) → In v places → IsLedTo v

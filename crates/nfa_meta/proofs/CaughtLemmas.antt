@@ -1,10 +1,6 @@
 -- The captures of a whole text, and the first of them.
-use Rattle.std.proofs.Common.{◌≡◌, ℕ, zero, suc, List, [], ◌∷◌, map, take, refl, ap, subst, All, Option, None, Some}
-use Rattle.nfa_paths.specs.Common.{Found, Search, whole, Captured}
-use Rattle.nfa_search_base.specs.CapturesLists.{AreRows, HasGroups}
-use Rattle.nfa_search_base.specs.CapturesRuns.{match_in}
-use Rattle.nfa_search_base.specs.Lists.{AreDisjoint}
-use Rattle.nfa_search_base.specs.WithCaptures.{row_of}
+use Rattle.nfa_paths.proofs.Common.{◌≡◌, ℕ, zero, suc, List, [], ◌∷◌, map, take, subst, All, Option, None, Some, take-map, Found, Search, whole, Captured}
+use Rattle.nfa_search_base.specs.Common.{AreRows, HasGroups, match_in, AreDisjoint, row_of}
 use Rattle.nfa_choice.specs.ChoiceState.{ChoiceState, kind_in}
 use Rattle.nfa_meta.specs.Filled.{AreAllCaught}
 
@@ -15,11 +11,6 @@ all-caught r text x is cs rows groups = record {
   rows = subst (λ (y : Search). AreRows r.nfa (kind_in r) y.earliest y (map row_of cs)) is rows;
   groups = groups;
 }
-
-pub take-map : {A B : Type 0} (f : A → B) (n : ℕ) (xs : List A) → take n (map f xs) ≡ map f (take n xs)
-take-map f zero xs = refl
-take-map f (suc n) [] = refl
-take-map f (suc n) (x ∷ xs) = ap (λ ys. f x ∷ ys) (take-map f n xs)
 
 take-apart : (x : Search) (n : ℕ) (last : Option ℕ) (ms : List Found) → AreDisjoint x last ms
     → AreDisjoint x last (take n ms)

@@ -1,18 +1,16 @@
 -- The first matches of an input that is a whole text, in the words of texts.
-use Rattle.std.proofs.Common.{◌≡◌, ◌∙◌, ◌⊎◌, ◌<◌, ◌+◌, ◌-◌, ℕ, List, arith, inl, inr, length, map, subst}
-use Rattle.std.proofs.lemmas.List.{length-map}
-use Rattle.nfa_paths.specs.Common.{found_of, Search, whole, Match}
-use Rattle.nfa_search_base.specs.Lists.{AreFirstMatches, AreMatches}
+use Rattle.nfa_paths.proofs.Common.{◌≡◌, ◌∙◌, ◌⊎◌, ◌<◌, ◌+◌, ◌-◌, ℕ, List, arith, inl, inr, length, map, subst, length-map, found_of, Search, whole, Match}
+use Rattle.nfa_search_base.specs.Common.{AreFirstMatches, AreMatches}
 use Rattle.nfa_choice.specs.ChoiceState.{ChoiceState, kind_in}
 use Rattle.nfa_meta.specs.Gaps.{AreAllOf, AreFirstOf}
 
-module _ (r : ChoiceState) (text : List ℕ) (x : Search) (is : x ≡ whole text) (ms : List Match) where
+module _ (r : ChoiceState) (text : List ℕ) {x : Search} (is : x ≡ whole text) (ms : List Match) where
   -- they are the first ones of the text
   pub first-of : AreFirstMatches r.nfa (kind_in r) x.earliest x (map found_of ms) → AreFirstOf r text (map found_of ms)
   first-of h = subst (λ (y : Search). AreFirstMatches r.nfa (kind_in r) y.earliest y (map found_of ms)) is h
 
   -- they are all of the text
-  all-of : AreMatches r.nfa (kind_in r) x.earliest x (map found_of ms) → AreAllOf r text (map found_of ms)
+  pub all-of : AreMatches r.nfa (kind_in r) x.earliest x (map found_of ms) → AreAllOf r text (map found_of ms)
   all-of h = subst (λ (y : Search). AreMatches r.nfa (kind_in r) y.earliest y (map found_of ms)) is h
 
   -- they are as many as n, or all

@@ -1,9 +1,6 @@
 -- The slots of a search whose NFA has only those of one match.
-use Rattle.std.proofs.Common.{◌≡◌, ◌∙◌, ℕ, zero, suc, ◌*◌, ◌<◌, Bool, true, false, List, [], ◌∷◌, length, nat_le, ap, arith, refl, sym, ◌≤◌, All, if◌then◌else◌, Option, None, Some, option_and_then, option_map, slice_get, slice_set}
-use Rattle.std.proofs.lemmas.List.Elements.{All-cons, All-nil}
-use Rattle.std.proofs.lemmas.Option.{slice_get_within}
-use Rattle.nfa_paths.specs.Common.{Found, slot_count, Search, match_of, span_at, MatchKind, Span, Automaton, Pair, IsAnswer, IsFindAnswer, path_pattern, slot_among, slot_row}
-use Rattle.nfa_search_base.specs.Lists.{IsInside, IsSlotInside}
+use Rattle.nfa_paths.proofs.Common.{◌≡◌, ◌∙◌, ℕ, zero, suc, ◌*◌, ◌<◌, Bool, true, false, List, [], ◌∷◌, length, nat_le, ap, arith, refl, sym, ◌≤◌, All, if◌then◌else◌, Option, None, Some, option_and_then, option_map, slice_get, slice_set, All-cons, All-nil, slice_get_within, Found, slot_count, Search, match_of, span_at, MatchKind, Span, Automaton, Pair, IsAnswer, IsFindAnswer, path_pattern, slot_among, slot_row}
+use Rattle.nfa_search_base.specs.Common.{IsInside, IsSlotInside}
 use Rattle.nfa_meta.specs.MatchSlots.{match_slots}
 
 -- a match of the span that two slots give

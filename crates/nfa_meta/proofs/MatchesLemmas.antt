@@ -1,9 +1,7 @@
 -- A regex as the engine of an iteration over matches.
-use Rattle.std.proofs.Common.{◌≡◌, ◌*◌, Option, arith, inl, length, refl, subst}
+use Rattle.nfa_paths.proofs.Common.{◌≡◌, ◌*◌, Option, arith, inl, length, refl, subst, found_of, Search, Match}
 use Rattle.std.proofs.Math.Nat.{le-max_left}
-use Rattle.nfa_paths.specs.Common.{found_of, Search, Match}
-use Rattle.nfa_search_base.specs.Asking.{SameButStart}
-use Rattle.nfa_search_base.specs.EngineSearches.{IsKnownFrom}
+use Rattle.nfa_search_base.specs.Common.{SameButStart, IsKnownFrom}
 use Rattle.nfa_pikevm.specs.Engines.{Pike}
 use Rattle.nfa_pikevm.specs.Finding.{IsSureOf}
 use Rattle.nfa_choice.specs.ChoiceState.{ChoiceState, pike_of}

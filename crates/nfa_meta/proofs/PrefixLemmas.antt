@@ -1,8 +1,8 @@
 -- What is left of a search from a first start on, and that nothing is if the prefix does not occur.
-use Rattle.std.proofs.Common.{◌≡◌, ℕ, refl, sym, subst, arith}
-use Rattle.nfa_paths.specs.Common.{Search, MatchKind, Automaton}
+use Rattle.nfa_paths.proofs.Common.{◌≡◌, ℕ, refl, sym, subst, arith, Search, MatchKind, Automaton, IsFindAnswer}
 use Rattle.nfa_engines.specs.Accepting.{MatchesNothing}
-use Rattle.nfa_engines.specs.StartLaws.{IsFirstStart, MatchStartsArePassed, StartsArePassed, from_start}
+use Rattle.nfa_engines.specs.Laws.{OfSlots}
+use Rattle.nfa_engines.specs.StartLaws.{IsFirstStart, StartsArePassed, from_start}
 use Rattle.nfa_prefix.specs.PrefixLaws.{NothingIsNoAnswer, NothingIsNoMatch}
 use Rattle.nfa_meta.specs.Windowed.{IsWindowed}
 use Rattle.nfa_meta.specs.WindowRuns.{AnswersAs, HasNoMatch, IsWindowOf}
@@ -23,11 +23,12 @@ module _ (nfa : Automaton) (x y : Search) (s : ℕ) (windowed : IsWindowed nfa x
       })
 
   -- and has the answers of the search
-  pub rest-answers : StartsArePassed → MatchStartsArePassed → (kind : MatchKind) → AnswersAs nfa kind x y
+  pub rest-answers : OfSlots StartsArePassed → StartsArePassed IsFindAnswer → (kind : MatchKind)
+      → AnswersAs nfa kind x y
   rest-answers rows matches kind =
       subst (λ (z : Search). AnswersAs nfa kind x z) (sym is)
       (record {
-        rows = λ pattern slots. (rows nfa x s kind x.earliest pattern slots windowed.unbound first).1;
+        rows = λ pattern slots. (rows pattern nfa x s kind x.earliest slots windowed.unbound first).1;
         matches = λ found. (matches nfa x s kind x.earliest found windowed.unbound first).1;
       })
 

@@ -1,12 +1,10 @@
 -- For callers that pass a function which changes nothing that it captured: what a call says then holds of each call.
-use Rattle.std.proofs.Common.{◌≡◌, ◌∙◌, ℕ, List, [], ◌∷◌, ◌++◌, Ok, Result, ap, refl, subst, sym}
+use Rattle.nfa_paths.proofs.Common.{◌≡◌, ◌∙◌, ℕ, List, [], ◌∷◌, ◌++◌, Ok, Result, ap, refl, subst, sym, FoldsTo, whole, Captured}
 use Rattle.std.specs.Borrow.{Bor, MutBor}
 use Rattle.std.specs.Fn.{Called, Mut}
 use Rattle.std.specs.Global.{Vec}
-use Rattle.std.specs.List.{FoldsTo}
 use Rattle.std.specs.declared.alloc.AllocError.{AllocError}
-use Rattle.nfa_paths.specs.Common.{whole, Captured}
-use Rattle.nfa_search_base.specs.CapturesRuns.{CapturesInside}
+use Rattle.nfa_search_base.specs.Common.{CapturesInside}
 use Rattle.nfa_meta.specs.Rewritten.{AppendsBy, TakesMatchesOf, Writes, WritesForMatch, WritesLead}
 
 module _ {F : Type 0} (g : Mut F (Bor Captured × (MutBor (Vec ℕ) × Unit {0}))

@@ -1,59 +1,30 @@
 -- The path that answers a search answers the search of a window.
-use Rattle.std.proofs.Common.{Err, Ok, Result, ◌≡◌, ◌⊎◌, inl, inr, ℕ, ◌≤◌, Bool, true, false, List, [], ◌∷◌, refl, ap, sym, ◌∙◌, subst, arith, IfNone, IfOk, IfSome, Option, None, Some, MatchBool, is_some, replicate, option_and_then, option_map}
-use Rattle.std.specs.Option.{option_map_or}
-use Rattle.std.proofs.lemmas.List.{length-replicate}
-use Rattle.nfa_paths.specs.Common.{Found, HalfFound, Search, is_anchored, search_of, MatchKind, Automaton, Pair, HeadIs, PathTo, IsFirstTo, IsAnswer, IsFindAnswer, IsHalfAnswer, IsKeptAnswer, IsMatch, IsRestartedAnswer, IsScanAnswer, IsSearchAnswer, edges, is_utf8_empty, node_at, path_half, pattern_of, slot_row, starts}
-use Rattle.regex_search_core.specs.declared.search.Anchored.TheVariants.{Yes}
-use Rattle.regex_search_core.specs.declared.search.Input.{Input}
-use Rattle.regex_search_core.specs.declared.search.MatchKind.TheVariants.{LeftmostFirst}
+use Rattle.nfa_paths.proofs.Common.{Err, Ok, Result, ◌≡◌, ◌⊎◌, inl, inr, ℕ, ◌≤◌, Bool, true, false, List, refl, ap, sym, ◌∙◌, subst, arith, IfNone, IfOk, IfSome, Option, None, Some, is_some, replicate, option_and_then, option_map, option_map_or, length-replicate, Found, HalfFound, Search, search_of, MatchKind, Automaton, Pair, PathTo, IsFirstTo, IsAnswer, IsFindAnswer, IsHalfAnswer, IsMatch, IsScanAnswer, IsSearchAnswer, edges, is_utf8_empty, node_at, path_half, pattern_of, slot_row, starts, Yes, Input, LeftmostFirst}
 use Rattle.nfa_paths.proofs.AnswerLemmas.{scan_answer-leads, scan_answer-unique}
+use Rattle.nfa_paths.proofs.OneScanLemmas.{scan-of, search-of}
 use Rattle.nfa_paths.proofs.PathToLemmas.{EndsWith-last}
 use Rattle.nfa_determinize.specs.Idles.{StartsFrom}
 use Rattle.nfa_engines.specs.FoundSpanLaws.{EndMayBeCut}
 use Rattle.nfa_engines.specs.StartLaws.{IsFirstStart, IsUnbound, from_start}
-use Rattle.nfa_engines.proofs.FirstStartLemmas.{same_edges, start-anchored, start-unanchored, unanchored-start, with-starts}
+use Rattle.nfa_engines.proofs.FirstStartLemmas.{heads-one, same_edges, start-anchored, start-unanchored, unanchored-start, with-starts}
 use Rattle.nfa_lazy_dfa.specs.Windows.{IsWindow, half_in, start_in}
 use Rattle.nfa_lazy_dfa.specs.declared.window.Window.{Window}
+use Rattle.nfa_choice.specs.ChoiceState.{ChoiceState, kind_in}
 use Rattle.nfa_meta.specs.WindowLaws.{WindowHasTheAnswer, WindowHasTheMatch, within}
 use Rattle.nfa_meta.specs.WindowRuns.{AnswersAs, HasNoMatch, IsWindowOf}
 use Rattle.nfa_meta.specs.Windowed.{IsWindowed}
 
--- the answer of one scan
+-- an unanchored search, and a position before which no accepting path starts
+pub record StartsLate (nfa : Automaton) (x : Search) (s : ℕ) : Type 0 where
+  pub free : IsUnbound nfa x
+  pub low : x.start ≤ s
+  pub from : StartsFrom nfa x s
 
-module _ (nfa : Automaton) (kind : MatchKind) (earliest : Bool) (x : Search) (whole : is_utf8_empty nfa ≡ false) where
-  scan-of : (restarts : ℕ) (path : Option (List Pair)) → IsSearchAnswer nfa kind earliest x restarts path
-      → IsScanAnswer nfa x kind earliest path
-  scan-of restarts path = of (is_utf8_empty nfa) whole
-    where
-      of : (b : Bool) → b ≡ false
-          → MatchBool b (MatchBool (is_anchored x.anchored) ((restarts ≡ 0) × IsKeptAnswer nfa kind earliest x path)
-          (IsRestartedAnswer nfa kind earliest x restarts path))
-          ((restarts ≡ 0) × IsScanAnswer nfa x kind earliest path)
-          → IsScanAnswer nfa x kind earliest path
-      of true e h = absurd (cc e)
-      of false e h = h.1
-
-  search-of : (n : ℕ) → n ≡ 0 → (path : Option (List Pair)) → IsScanAnswer nfa x kind earliest path
-      → IsSearchAnswer nfa kind earliest x n path
-  search-of n zero path = of (is_utf8_empty nfa) whole
-    where
-      of : (b : Bool) → b ≡ false → IsScanAnswer nfa x kind earliest path
-          → MatchBool b (MatchBool (is_anchored x.anchored) ((n ≡ 0) × IsKeptAnswer nfa kind earliest x path)
-          (IsRestartedAnswer nfa kind earliest x n path)) ((n ≡ 0) × IsScanAnswer nfa x kind earliest path)
-      of true e h = absurd (cc e)
-      of false e h = (zero, h)
-
--- a list begins with one pair
-heads-same : (v w : Pair) (p : List Pair) → HeadIs v p → HeadIs w p → v ≡ w
-heads-same v w [] i j = absurd i
-heads-same v w (u ∷ p) i j = sym i ∙ j
-
-module _ (nfa : Automaton) (x : Search) (free : IsUnbound nfa x) (s : ℕ) (low : x.start ≤ s)
-    (from : StartsFrom nfa x s) where
+module _ {nfa : Automaton} {x : Search} {s : ℕ} (late : StartsLate nfa x s) where
   -- no anchored search before the position matches
   pub first-start : IsFirstStart nfa x s
   first-start = record {
-    from = low;
+    from = late.low;
     nothing = λ i first before. record {
       no_path = λ m p w accepts.
           let at = start-anchored nfa x i w.start w.among in
@@ -61,11 +32,11 @@ module _ (nfa : Automaton) (x : Search) (free : IsUnbound nfa x) (s : ℕ) (low 
           let high : i ≤ x.end = at.within in
           let path : PathTo (edges nfa x) (starts nfa x) m p =
           subst (λ es. PathTo es (starts nfa x) m p) (same_edges nfa x i Yes)
-          (with-starts w (unanchored-start nfa x free x.start w.start
+          (with-starts w (unanchored-start nfa x late.free x.start w.start
           (record { state_is = ap (λ (v : Pair). v.0) at.is; from = omega arith; within = omega arith }))) in
-          let past : s ≤ path.start.1 = from.from m p path accepts in
+          let past : s ≤ path.start.1 = late.from.from m p path accepts in
           let same : path.start.1 ≡ w.start.1 =
-          ap (λ (v : Pair). v.1) (heads-same path.start w.start p path.head w.head) in
+          ap (λ (v : Pair). v.1) (heads-one path.start w.start p path.head w.head) in
           absurd (omega arith);
     };
   }
@@ -74,16 +45,16 @@ module _ (nfa : Automaton) (x : Search) (free : IsUnbound nfa x) (s : ℕ) (low 
   path-on : (m : Pair) (p : List Pair) → PathTo (edges nfa x) (starts nfa x) m p → IsMatch nfa m
       → PathTo (edges nfa x) (starts nfa (from_start x s)) m p
   path-on m p w accepts =
-      let at = start-unanchored nfa x free x.start w.start w.among in
-      with-starts w (unanchored-start nfa x free s w.start
-      (record { state_is = at.state_is; from = from.from m p w accepts; within = at.within }))
+      let at = start-unanchored nfa x late.free x.start w.start w.among in
+      with-starts w (unanchored-start nfa x late.free s w.start
+      (record { state_is = at.state_is; from = late.from.from m p w accepts; within = at.within }))
 
   path-back : (m : Pair) (p : List Pair) → PathTo (edges nfa x) (starts nfa (from_start x s)) m p
       → PathTo (edges nfa x) (starts nfa x) m p
   path-back m p w =
-      let at = start-unanchored nfa x free s w.start w.among in
+      let at = start-unanchored nfa x late.free s w.start w.among in
       let past : s ≤ w.start.1 = at.from in
-      with-starts w (unanchored-start nfa x free x.start w.start
+      with-starts w (unanchored-start nfa x late.free x.start w.start
       (record { state_is = at.state_is; from = omega arith; within = at.within }))
 
   -- the first one stays the first
@@ -108,7 +79,7 @@ module _ (nfa : Automaton) (x : Search) (free : IsUnbound nfa x) (s : ℕ) (low 
   halved : EndMayBeCut LeftmostFirst false → (half : HalfFound)
       → IsHalfAnswer nfa LeftmostFirst false x (Some half) → Halved half
   halved cut half h =
-      of h.path (scan-of nfa LeftmostFirst false x free.anywhere h.restarts h.path h.answers) h.found_is
+      of h.path (scan-of nfa LeftmostFirst false x late.free.anywhere h.restarts h.path h.answers) h.found_is
     where
       never : Some half ≡ None → ⊥
       never e = cc
@@ -139,10 +110,10 @@ module _ (nfa : Automaton) (x : Search) (free : IsUnbound nfa x) (s : ℕ) (low 
         → IsSearchAnswer nfa LeftmostFirst false x 0 path
     same-path restarts path answers =
         let k = halved cut half h in
-        let same : Some k.path ≡ path =
-        scan_answer-unique nfa (within x s half.offset) LeftmostFirst false (Some k.path) path k.inside
-        (scan-of nfa LeftmostFirst false (within x s half.offset) free.anywhere restarts path answers) in
-        search-of nfa LeftmostFirst false x free.anywhere 0 refl path
+        let y = within x s half.offset in
+        let scan = scan-of nfa LeftmostFirst false y late.free.anywhere restarts path answers in
+        let same = scan_answer-unique nfa y LeftmostFirst false (Some k.path) path k.inside scan in
+        search-of nfa LeftmostFirst false x late.free.anywhere path
         (subst (IsScanAnswer nfa x LeftmostFirst false) same k.answers)
 
     pub window-answer : (pattern : Option ℕ) (slots : List (Option ℕ))
@@ -186,46 +157,6 @@ none-path nfa kind earliest x whole h =
         let last = EndsWith-last None to.end p to.path.ends in
         absurd (half to.end (pattern_of (node_at nfa to.end.0)) to.matches (rw last at e))
 
--- the match of a window is that of the search
-window-found : WindowHasTheMatch → (nfa : Automaton) (x y : Search) (w : Window) (kind : MatchKind)
-    (earliest : Bool)
-    → kind ≡ LeftmostFirst → earliest ≡ false → IsUnbound nfa x → IsWindow nfa x w
-    → IsHalfAnswer nfa kind earliest x (Some (half_in w)) → y ≡ within x (start_in w) (half_in w).offset
-    → (found : Option Found) → IsFindAnswer nfa kind earliest y found → IsFindAnswer nfa kind earliest x found
-window-found law nfa x y w kind earliest first last free window half is found answers =
-    let to : (k : MatchKind) (e : Bool) → kind ≡ k → earliest ≡ e → IsFindAnswer nfa k e x found
-    → IsFindAnswer nfa kind earliest x found =
-    λ k e f l. subst (λ (z : MatchKind). IsFindAnswer nfa z e x found → IsFindAnswer nfa kind earliest x found) f
-    (subst (λ (b : Bool). IsFindAnswer nfa kind b x found → IsFindAnswer nfa kind earliest x found) l (λ a. a)) in
-    to LeftmostFirst false first last
-    (law nfa x (start_in w) (half_in w) found free window.low window.starts
-    (subst (λ (k : MatchKind). IsHalfAnswer nfa k false x (Some (half_in w))) first
-    (subst (λ (e : Bool). IsHalfAnswer nfa kind e x (Some (half_in w))) last half))
-    (subst (λ (k : MatchKind). IsFindAnswer nfa k false (within x (start_in w) (half_in w).offset) found) first
-    (subst (λ (e : Bool). IsFindAnswer nfa kind e (within x (start_in w) (half_in w).offset) found) last
-    (subst (λ (z : Search). IsFindAnswer nfa kind earliest z found) is answers))))
-
--- its pattern and slots are those of the search
-window-slots : WindowHasTheAnswer → (nfa : Automaton) (x y : Search) (w : Window) (kind : MatchKind)
-    (earliest : Bool) → kind ≡ LeftmostFirst → earliest ≡ false → IsUnbound nfa x → IsWindow nfa x w
-    → IsHalfAnswer nfa kind earliest x (Some (half_in w)) → y ≡ within x (start_in w) (half_in w).offset
-    → (pattern : Option ℕ) (slots : List (Option ℕ)) → IsAnswer nfa kind earliest y pattern slots
-    → IsAnswer nfa kind earliest x pattern slots
-window-slots law nfa x y w kind earliest first last free window half is pattern slots answers =
-    let to : (k : MatchKind) (e : Bool) → kind ≡ k → earliest ≡ e → IsAnswer nfa k e x pattern slots
-    → IsAnswer nfa kind earliest x pattern slots =
-    λ k e f l.
-    subst (λ (z : MatchKind). IsAnswer nfa z e x pattern slots → IsAnswer nfa kind earliest x pattern slots) f
-    (subst (λ (b : Bool). IsAnswer nfa kind b x pattern slots → IsAnswer nfa kind earliest x pattern slots) l
-    (λ a. a)) in
-    to LeftmostFirst false first last
-    (law nfa x (start_in w) (half_in w) pattern slots free window.low window.starts
-    (subst (λ (k : MatchKind). IsHalfAnswer nfa k false x (Some (half_in w))) first
-    (subst (λ (e : Bool). IsHalfAnswer nfa kind e x (Some (half_in w))) last half))
-    (subst (λ (k : MatchKind). IsAnswer nfa k false (within x (start_in w) (half_in w).offset) pattern slots) first
-    (subst (λ (e : Bool). IsAnswer nfa kind e (within x (start_in w) (half_in w).offset) pattern slots) last
-    (subst (λ (z : Search). IsAnswer nfa kind earliest z pattern slots) is answers))))
-
 -- without a half match there is no pattern, and no slot is set
 none-answer : (nfa : Automaton) (kind : MatchKind) (earliest : Bool) (x : Search) → is_utf8_empty nfa ≡ false
     → IsHalfAnswer nfa kind earliest x None → (n : ℕ) → IsAnswer nfa kind earliest x None (replicate n None)
@@ -259,29 +190,32 @@ answers-self nfa kind x y is =
     subst (λ (z : Search). AnswersAs nfa kind x z) (sym is)
     (record { rows = λ pattern slots h. h; matches = λ found h. h })
 
--- The window of a lazy DFA.
-module _ (nfa : Automaton) (x y : Search) (w : Window) (windowed : IsWindowed nfa x) (window : IsWindow nfa x w)
-    (is : y ≡ within x (start_in w) (half_in w).offset) where
-  -- is a window of the search
-  pub window-is : IsWindowOf nfa x y
-  window-is =
-      subst (λ (z : Search). IsWindowOf nfa x z) (sym is)
-      (record {
-        windowed = windowed;
-        haystack = refl;
-        anchored = refl;
-        earliest = refl;
-        from = window.low;
-        to = window.high;
-      })
+-- the window that a lazy DFA found of a search, and the search of that window
+pub record HasWindow (nfa : Automaton) (x y : Search) (w : Window) : Type 0 where
+  pub windowed : IsWindowed nfa x
+  pub window : IsWindow nfa x w
+  pub is : y ≡ within x (start_in w) (half_in w).offset
 
-  -- and has its answers
-  pub window-answers : WindowHasTheAnswer → WindowHasTheMatch → (kind : MatchKind) → kind ≡ LeftmostFirst
-      → IsHalfAnswer nfa kind x.earliest x (Some (half_in w)) → AnswersAs nfa kind x y
-  window-answers rows matches kind first half = record {
-    rows = window-slots rows nfa x y w kind x.earliest first windowed.last windowed.unbound window half is;
-    matches = window-found matches nfa x y w kind x.earliest first windowed.last windowed.unbound window half is;
-  }
+-- it has the answers of the search
+module _ {nfa : Automaton} {x y : Search} {w : Window} (has : HasWindow nfa x y w)
+    (laws : record { answers : WindowHasTheAnswer; matches : WindowHasTheMatch }) (kind : MatchKind)
+    (first : kind ≡ LeftmostFirst) where
+  pub window-answers : IsHalfAnswer nfa kind x.earliest x (Some (half_in w)) → AnswersAs nfa kind x y
+  window-answers half =
+      record { rows = rows x.earliest has.windowed.last half; matches = matches x.earliest has.windowed.last half }
+    where
+      rows : (e : Bool) → e ≡ false → IsHalfAnswer nfa kind e x (Some (half_in w))
+          → (pattern : Option ℕ) (slots : List (Option ℕ)) → IsAnswer nfa kind e y pattern slots
+          → IsAnswer nfa kind e x pattern slots
+      rows e last half pattern slots a = rw (first, last) (laws.answers nfa x (start_in w) (half_in w) pattern slots
+          has.windowed.unbound has.window.low has.window.starts (rw (first, last) at half)
+          (rw (has.is, first, last) at a))
+
+      matches : (e : Bool) → e ≡ false → IsHalfAnswer nfa kind e x (Some (half_in w))
+          → (found : Option Found) → IsFindAnswer nfa kind e y found → IsFindAnswer nfa kind e x found
+      matches e last half found a = rw (first, last) (laws.matches nfa x (start_in w) (half_in w) found
+          has.windowed.unbound has.window.low has.window.starts (rw (first, last) at half)
+          (rw (has.is, first, last) at a))
 
 -- what is left of a search has its `earliest`
 pub part-earliest : (nfa : Automaton) (x y : Search) → (y ≡ x) ⊎ IsWindowOf nfa x y → y.earliest ≡ x.earliest
@@ -289,7 +223,7 @@ part-earliest nfa x y (inl same) = ap (λ (z : Search). z.earliest) same
 part-earliest nfa x y (inr window) = window.earliest
 
 -- a window of what is left of a search is one of the search, and has its answers
-pub window-then : (nfa : Automaton) (x y z : Search) → IsWindowOf nfa x y → IsWindowOf nfa y z → IsWindowOf nfa x z
+window-then : (nfa : Automaton) (x y z : Search) → IsWindowOf nfa x y → IsWindowOf nfa y z → IsWindowOf nfa x z
 window-then nfa x y z one two = record {
   windowed = one.windowed;
   haystack = two.haystack ∙ one.haystack;
@@ -299,7 +233,7 @@ window-then nfa x y z one two = record {
   to = (let a = one.to in let b = two.to in omega arith);
 }
 
-pub answers-then : (nfa : Automaton) (kind : MatchKind) (x y z : Search) → y.earliest ≡ x.earliest
+answers-then : (nfa : Automaton) (kind : MatchKind) (x y z : Search) → y.earliest ≡ x.earliest
     → AnswersAs nfa kind x y → AnswersAs nfa kind y z → AnswersAs nfa kind x z
 answers-then nfa kind x y z same one two = record {
   rows = λ pattern slots h. one.rows pattern slots
@@ -310,7 +244,7 @@ answers-then nfa kind x y z same one two = record {
       (two.matches found) h);
 }
 
-pub nothing-then : (nfa : Automaton) (kind : MatchKind) (x y : Search) → y.earliest ≡ x.earliest
+nothing-then : (nfa : Automaton) (kind : MatchKind) (x y : Search) → y.earliest ≡ x.earliest
     → AnswersAs nfa kind x y → HasNoMatch nfa kind y → HasNoMatch nfa kind x
 nothing-then nfa kind x y same one none = record {
   rows = λ n. one.rows None (replicate n None)
@@ -319,24 +253,29 @@ nothing-then nfa kind x y same one none = record {
 }
 
 -- so the window of what is left of a search is that of the search
-module _ (nfa : Automaton) (kind : MatchKind) (x y : Search) (of : IsWindowOf nfa x y) (same : AnswersAs nfa kind x y)
-    {E : Type 0} where
-  pub nothing-on : (r : Result (Option Input) E) → IfOk r (λ window. IfNone window (HasNoMatch nfa kind y))
-      → IfOk r (λ window. IfNone window (HasNoMatch nfa kind x))
-  nothing-on (Ok None) h = nothing-then nfa kind x y of.earliest same h
-  nothing-on (Ok (Some w)) h = tt
-  nothing-on (Err e) h = tt
-
-  pub part-on : (r : Result (Option Input) E)
-      → IfOk r (λ window. IfSome window (λ part. IsWindowOf nfa y (search_of part)))
-      → IfOk r (λ window. IfSome window (λ part. IsWindowOf nfa x (search_of part)))
-  part-on (Ok None) h = tt
-  part-on (Ok (Some w)) h = window-then nfa x y (search_of w) of h
-  part-on (Err e) h = tt
-
-  pub answers-on : (r : Result (Option Input) E)
-      → IfOk r (λ window. IfSome window (λ part. AnswersAs nfa kind y (search_of part)))
-      → IfOk r (λ window. IfSome window (λ part. AnswersAs nfa kind x (search_of part)))
-  answers-on (Ok None) h = tt
-  answers-on (Ok (Some w)) h = answers-then nfa kind x y (search_of w) of.earliest same h
-  answers-on (Err e) h = tt
+pub window-on : (r : ChoiceState) {new : ChoiceState} {x y : Search} {E : Type 0} (result : Result (Option Input) E)
+    → IsWindowOf r.nfa x y → AnswersAs r.nfa (kind_in r) x y
+    → record {
+      nothing : IfOk result (λ window. IfNone window (HasNoMatch r.nfa (kind_in r) y));
+      part : IfOk result (λ window. IfSome window (λ part. IsWindowOf r.nfa y (search_of part)));
+      answers : IfOk result (λ window. IfSome window (λ part. AnswersAs r.nfa (kind_in r) y (search_of part)));
+      same : new ≡ r;
+    } → record {
+      nothing : IfOk result (λ window. IfNone window (HasNoMatch r.nfa (kind_in r) x));
+      part : IfOk result (λ window. IfSome window (λ part. IsWindowOf r.nfa x (search_of part)));
+      answers : IfOk result (λ window. IfSome window (λ part. AnswersAs r.nfa (kind_in r) x (search_of part)));
+      same : new ≡ r;
+    }
+window-on r {x = x} {y = y} (Ok None) of same h = record {
+  nothing = nothing-then r.nfa (kind_in r) x y of.earliest same h.nothing;
+  part = tt;
+  answers = tt;
+  same = h.same;
+}
+window-on r {x = x} {y = y} (Ok (Some w)) of same h = record {
+  nothing = tt;
+  part = window-then r.nfa x y (search_of w) of h.part;
+  answers = answers-then r.nfa (kind_in r) x y (search_of w) of.earliest same h.answers;
+  same = h.same;
+}
+window-on r (Err e) of same h = record { nothing = tt; part = tt; answers = tt; same = h.same }

@@ -1,8 +1,6 @@
 -- What the lists of a regex add to the totals of both caches of its choice.
-use Rattle.std.proofs.Common.{◌≡◌, ℕ, ◌+◌, ◌≤◌, ◌⊎◌, Bool, ap, inl, inr, arith, ◌&&◌, not}
+use Rattle.nfa_paths.proofs.Common.{◌≡◌, ℕ, ◌+◌, ◌≤◌, ◌⊎◌, Bool, ap, inl, inr, arith, ◌&&◌, not, Search, is_anchored, MatchKind, Automaton, span_len, total_degree}
 use Rattle.std.proofs.Math.Nat.{mul-le-mul_left}
-use Rattle.nfa_paths.specs.Common.{Search, is_anchored, MatchKind, Automaton, span_len, total_degree}
-use Rattle.nfa_paths.proofs.ExistenceLemmas.{search_answer-exists}
 use Rattle.nfa_engines.specs.WorkLaws.{Totals}
 use Rattle.nfa_engines.proofs.EngineWorkLemmas.{Worked}
 use Rattle.nfa_engines.proofs.ReachLemmas.{one-scan}
@@ -17,10 +15,9 @@ by-more a b c less more = omega arith
 module _ (nfa : Automaton) (kind : MatchKind) (y v : Search) (is : IsWindowOf nfa y v) (old new : Totals) where
   window-worked : Worked nfa kind v.earliest v old new → Worked nfa kind y.earliest y old new
   window-worked w =
-      let answer = search_answer-exists nfa kind y.earliest y in
       let whole = is.windowed.unbound.anywhere in
       let never = ap (λ (b : Bool). b && not (is_anchored v.anchored)) whole in
-      let one : w.count ≤ 1 = one-scan nfa v w.count never w.limit in
+      let one : w.count ≤ 1 = one-scan nfa v w.count never w.bounded.scans in
       let from = is.from in
       let to = is.to in
       let short : span_len v + 1 ≤ span_len y + 1 = omega (arith, from, to) in
@@ -28,14 +25,13 @@ module _ (nfa : Automaton) (kind : MatchKind) (y v : Search) (is : IsWindowOf nf
       record {
         count = w.count;
         turned = w.turned;
-        restarts = answer.0;
-        path = answer.1;
-        answers = answer.2;
-        few = omega (arith, one);
-        limit = rw whole one;
+        bounded = record {
+          within = λ restarts path answers. omega (arith, one);
+          scans = rw whole one;
+          turns = by-more w.turned _ _ w.bounded.turns (mul-le-mul_left w.count each);
+        };
         scans = w.scans;
         turns = w.turns;
-        bound = by-more w.turned _ _ w.bound (mul-le-mul_left w.count each);
       }
 
   window-does : Worked nfa kind v.earliest v old new ⊎ (new ≡ old) → Worked nfa kind y.earliest y old new ⊎ (new ≡ old)

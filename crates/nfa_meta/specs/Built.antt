@@ -4,11 +4,10 @@ use Rattle.nfa_paths.specs.Common.{Automaton, IsAutomaton, is_utf8_empty}
 use Rattle.nfa_backtrack.specs.Backtrack.{empty_cache}
 use Rattle.nfa_pikevm.specs.Engines.{cache_for}
 use Rattle.nfa_choice.specs.ChoiceState.{ChoiceState}
-use Rattle.nfa_compiler.specs.AnyStart.{FindsFromAnyStart, IsBoundAsRead}
-use Rattle.nfa_compiler.specs.Compiled.{IsCompiled}
+use Rattle.nfa_compiler.specs.Compiled.{FindsFromAnyStart, IsBoundAsRead, IsCompiled}
 use Rattle.nfa_compiler.specs.ErrorTexts.{compile_error_text}
 use Rattle.nfa_compiler.specs.Rejected.{IsOfOneText, NamesText, TextsFitIn}
-use Rattle.nfa_compiler.specs.Settings.{syntax_of}
+use Rattle.nfa_compiler.specs.Written.{syntax_of}
 use Rattle.nfa_compiler.specs.declared.compiler.Compiler.{Compiler}
 use Rattle.nfa_compiler.specs.declared.error.CompileError.{CompileError}
 use Rattle.nfa_compiler.specs.declared.error.CompileError.TheVariants as cause

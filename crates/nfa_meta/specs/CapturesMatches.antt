@@ -2,10 +2,7 @@
 use Rattle.std.specs.Prelude.{Bool, List, Option, Result}
 use Rattle.std.specs.Borrow.{MutBor}
 use Rattle.nfa_paths.specs.Common.{Search, Captured}
-use Rattle.nfa_search_base.specs.WithCaptures.{WithCaptures, Row}
-use Rattle.nfa_search_base.specs.StepsWith.{GivesStepsWith, StepsWith}
-use Rattle.nfa_search_base.specs.Searchers.{iter_state_of}
-use Rattle.nfa_search_base.specs.IterStates.{IterState}
+use Rattle.nfa_search_base.specs.Common.{WithCaptures, Row, GivesStepsWith, StepsWith, iter_state_of, IterState}
 use Rattle.nfa_search_base.specs.declared.error.SearchError.{SearchError}
 use Rattle.nfa_choice.specs.ChoiceState.{ChoiceState, KeepsEngines}
 use Rattle.nfa_choice.specs.Iterations.{CapturesLead, CapturesNextBy, CapturesOn, CapturesToEnd}

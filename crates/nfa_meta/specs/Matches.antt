@@ -3,12 +3,7 @@ use Rattle.std.specs.Prelude.{List, map, None, Option, Bool}
 use Rattle.std.specs.Borrow.{MutBor}
 use Rattle.std.specs.Iterator.{Yields}
 use Rattle.nfa_paths.specs.Common.{Found, found_of, Search, Match}
-use Rattle.nfa_search_base.specs.EngineSearches.{IsKnownFrom}
-use Rattle.nfa_search_base.specs.WithCache.{WithCache}
-use Rattle.nfa_search_base.specs.StepsWith.{GivesStepsWith, StepsWith}
-use Rattle.nfa_search_base.specs.Runs.{GivesKept}
-use Rattle.nfa_search_base.specs.Searchers.{iter_state_of}
-use Rattle.nfa_search_base.specs.IterStates.{Answer, IterState}
+use Rattle.nfa_search_base.specs.Common.{IsKnownFrom, WithCache, GivesStepsWith, StepsWith, GivesKept, iter_state_of, Answer, IterState}
 use Rattle.nfa_pikevm.specs.Finding.{IsSureOf}
 use Rattle.nfa_choice.specs.ChoiceState.{ChoiceState, KeepsEngines, pike_of}
 use Rattle.nfa_choice.specs.Iterations.{FindsBy, FindsNextBy, FindsOn, FindsToEnd, TellsMatch}

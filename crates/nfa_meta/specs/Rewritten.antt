@@ -2,12 +2,11 @@
 use Rattle.std.specs.Prelude.{◌≡◌, ◌≤◌, ℕ, List, [], ◌∷◌, ◌++◌, Ok, Result, drop, length, map, slice_range, take}
 use Rattle.std.specs.Borrow.{Bor, MutBor}
 use Rattle.std.specs.Fn.{Called, Mut}
-use Rattle.std.specs.Global.{Vec}
 use Rattle.std.specs.List.{AllByRecursion, FoldsTo}
-use Rattle.std.specs.declared.alloc.AllocError.{AllocError}
 use Rattle.nfa_paths.specs.Common.{whole, Captured}
-use Rattle.nfa_search_base.specs.CapturesRuns.{CapturesInside, match_in}
-use Rattle.nfa_search_base.specs.Lists.{AreDisjoint}
+use Rattle.std.specs.Global.{Vec}
+use Rattle.std.specs.declared.alloc.AllocError.{AllocError}
+use Rattle.nfa_search_base.specs.Common.{CapturesInside, match_in, AreDisjoint}
 use Rattle.nfa_choice.specs.ChoiceState.{ChoiceState}
 use Rattle.nfa_meta.specs.Filled.{AreAllCaught}
 use Rattle.nfa_meta.specs.Gaps.{last_end}
@@ -31,6 +30,11 @@ pub record IsRewrittenUpToBy (r : ChoiceState) (text : List ℕ) (limit : ℕ) (
   pub caught : List Captured
   pub all : AreAllCaught r text caught
   pub output_is : output ≡ rewritten text h 0 (take limit caught)
+
+-- what calls left: the function, and the output
+pub record CallsLeft (F : Type 0) : Type 0 where
+  pub replacement : F
+  pub output : List ℕ
 
 module _ {F : Type 0} (g : Mut F (Bor Captured × (MutBor (Vec ℕ) × Unit {0}))
     (Result (Unit {0}) AllocError × (MutBor (Vec ℕ) × Unit {0}))) where
@@ -74,12 +78,13 @@ module _ {F : Type 0} (g : Mut F (Bor Captured × (MutBor (Vec ℕ) × Unit {0})
       × Writes f c (before ++ slice_range text from (match_in c).start) between f'
       × RewritesFrom text (match_in c).end cs f' between after
 
-  -- The calls so far led to f and the output: if the calls for those that are left lead on to an output, all calls do.
-  pub record HasRewritten (text : List ℕ) (caught left : List Captured) (f₀ f : F) (i from : ℕ)
-      (output : List ℕ) : Type 0 where
-    pub goes_on : (after : List ℕ) → RewritesFrom text from left f output after
-        → RewritesFrom text 0 caught f₀ [] after
-    pub leads : WritesLead text f₀ f
+  -- The calls so far, from f on, left this: if the calls for the captures that are left lead on to an output, all calls
+  -- do.
+  pub record HasRewritten (text : List ℕ) (caught left : List Captured) (f : F) (now : CallsLeft F) (i from : ℕ)
+      : Type 0 where
+    pub goes_on : (after : List ℕ) → RewritesFrom text from left now.replacement now.output after
+        → RewritesFrom text 0 caught f [] after
+    pub leads : WritesLead text f now.replacement
     pub begins : i ≡ 0 → from ≡ 0
     pub within : from ≤ length text
     pub inside : AllByRecursion (CapturesInside (whole text)) left

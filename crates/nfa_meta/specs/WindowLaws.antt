@@ -1,7 +1,6 @@
 -- Laws of the windows that a lazy DFA finds, about the definitions only.
 use Rattle.std.specs.Prelude.{ℕ, ◌≤◌, false, List, Option, Some}
-use Rattle.nfa_paths.specs.Common.{Found, HalfFound, Search, Automaton, IsAnswer, IsFindAnswer, IsHalfAnswer}
-use Rattle.regex_search_core.specs.declared.search.MatchKind.TheVariants.{LeftmostFirst}
+use Rattle.nfa_paths.specs.Common.{Found, HalfFound, Search, Automaton, IsAnswer, IsFindAnswer, IsHalfAnswer, LeftmostFirst}
 use Rattle.nfa_engines.specs.StartLaws.{IsFirstStart, IsUnbound}
 use Rattle.nfa_determinize.specs.Idles.{StartsFrom}
 

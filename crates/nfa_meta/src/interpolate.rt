@@ -9,7 +9,7 @@
 ghost use Rattle.std.specs.Prelude.{◌≡◌, ◌≤◌, ◌++◌, All, IfErr, IfOk, None, OnOk, length, map, slice_range};
 ghost use Rattle.regex_search_core.specs.Patterns.{number_of};
 ghost use Rattle.regex_search_core.specs.Search.{whole};
-ghost use Rattle.nfa_search_base.specs.CapturesRuns.{CapturesInside, match_in};
+ghost use Rattle.nfa_search_base.specs.Runs.{CapturesInside, match_in};
 ghost use Rattle.nfa_search_base.specs.Lists.{AreDisjoint};
 ghost use Rattle.nfa_meta.specs.Filled.{filled_from};
 ghost use Rattle.nfa_meta.specs.Templates.{filled, part_text};

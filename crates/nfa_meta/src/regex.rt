@@ -1,13 +1,14 @@
 //! The engine that runs a lazy DFA first, and an engine of `nfa_choice` for the match in its window.
-ghost use Rattle.std.specs.Prelude.{◌≡◌, ◌*◌, ◌<◌, ◌≤◌, All, IfNone, IfOk, IfSome, IsOkUnless, None, false, length};
-ghost use Rattle.std.specs.Prelude.{not, option_map, replicate};
+ghost use Rattle.std.specs.Prelude.{◌≡◌, ◌*◌, ◌<◌, ◌≤◌, IfOk, IfSome, IsOkUnless, None, false, length};
+ghost use Rattle.std.specs.Prelude.{not, option_map};
 ghost use Rattle.regex_search_core.specs.Found.{found_of, half_found_of};
 ghost use Rattle.regex_search_core.specs.Patterns.{number_of};
 ghost use Rattle.regex_search_core.specs.Search.{search_of};
 ghost use Rattle.regex_search_core.specs.declared.search.MatchKind.TheVariants.{LeftmostFirst};
 ghost use Rattle.nfa_paths.specs.Paths.{IsAnswer, IsBoolAnswer, IsFindAnswer, IsHalfAnswer, is_utf8_empty};
-ghost use Rattle.nfa_search_base.specs.Lists.{IsInside, IsSlotInside};
+ghost use Rattle.nfa_search_base.specs.Lists.{IsInside};
 ghost use Rattle.nfa_backtrack.specs.Backtrack.{HoldsNoMore};
+ghost use Rattle.nfa_choice.specs.Answered.{WritesSlots};
 ghost use Rattle.nfa_choice.specs.ChoiceState.{KeepsEngines, bytes_of, finds_in, kind_in};
 ghost use Rattle.nfa_lazy_dfa.specs.Configs.{kind_in as config_kind, kind_of, nfa_of};
 ghost use Rattle.nfa_meta.specs.Built.{engines_of};
@@ -316,10 +317,8 @@ impl Regex {
     ) -> Option<PatternID>
         ensures answer { IsAnswer self.old.nfa (kind_in self.old) (search_of input.now).earliest (search_of input.now)
             (option_map number_of result) slots.new }
-        ensures unmatched { IfNone result (slots.new ≡ replicate (length slots.old) None) }
-        ensures pattern { IfSome result (λ p. number_of p < length self.old.nfa.patterns) }
-        ensures inside { All (IsSlotInside (search_of input.now)) slots.new }
         ensures runs { RunsByWindow (search_of input.now) self.old self.new }
+        ensures writes { WritesSlots self.old.nfa (search_of input.now) result slots.old slots.new }
         ensures holds { HoldsNoMore 0 self.old.back self.new.back }
         ensures keeps { KeepsEngines self.old self.new }
     {

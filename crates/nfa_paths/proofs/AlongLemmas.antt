@@ -1,6 +1,5 @@
 -- The path that is meant of some pairs is meant of the same pairs under another name.
-use Rattle.std.proofs.Common.{ℕ, List, Option, None, Some}
-use Rattle.nfa_paths.specs.Common.{Pair, WantedAt, IsLeastEnd, IsFirstPath, IsEarliestPath, WantedBefore}
+use Rattle.nfa_paths.proofs.Common.{ℕ, List, Option, None, Some, arith, rules, Pair, WantedAt, IsLeastEnd, IsFirstPath, IsEarliestPath, WantedBefore}
 use Rattle.nfa_paths.proofs.PathToLemmas.{IsFirstTo-along}
 
 module _ {P Q : Pair → Type 0} (to : (v : Pair) → P v → Q v) where
@@ -18,21 +17,11 @@ module _ (edges : Pair → List Pair) (starts : List Pair) {P Q : Pair → Type 
 
   pub least-along : (e : ℕ) → IsLeastEnd edges starts P e → IsLeastEnd edges starts Q e
   least-along e h = record {
-    is_end = record {
-      end = h.is_end.end;
-      along = h.is_end.along;
-      path = h.is_end.path;
-      wanted = to h.is_end.end h.is_end.wanted;
-      at = h.is_end.at;
-    };
+    is_end = grind arith;
     least = λ m p w q. h.least m p w (back m q);
   }
 
   pub earliest-along : (path : Option (List Pair)) → IsEarliestPath edges starts P path
       → IsEarliestPath edges starts Q path
   earliest-along None h = λ m p w q. h m p w (back m q)
-  earliest-along (Some p) h = (
-    h.0,
-    least-along h.0 h.1,
-    IsFirstTo-along edges starts (WantedAt P h.0) (WantedAt Q h.0) (at-along to h.0) (at-along back h.0) h.2,
-  )
+  earliest-along (Some p) h = search (rules, least-along, IsFirstTo-along, at-along)

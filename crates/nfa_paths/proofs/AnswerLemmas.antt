@@ -1,15 +1,7 @@
 -- What a marked search of an NFA's pairs answers, in the words of its contracts.
-use Rattle.std.proofs.Common.{◌≡◌, ℕ, zero, suc, ◌+◌, ◌≤◌, ◌<◌, ◌⊎◌, ◌↔◌, inl, inr, Bool, true, false, List, [], ◌∷◌, map, length, replicate, get_or, refl, sym, ap, ◌∙◌, arith, length-set, rules, Option, None, Some, cond, ◌==◌}
-use Rattle.std.specs.List.{last_or, range_with_len}
-use Rattle.std.specs.Option.{option_or, option_map_or}
-use Rattle.std.proofs.lemmas.List.{ext_get_or, get_or-replicate, length-replicate}
+use Rattle.nfa_paths.proofs.Common.{◌≡◌, ℕ, ◌+◌, ◌≤◌, ◌<◌, ◌⊎◌, ◌↔◌, Bool, true, false, List, [], ◌∷◌, map, length, replicate, get_or, refl, sym, ◌∙◌, arith, length-set, rules, Option, None, Some, last_or, range_with_len, option_or, ext_get_or, get_or-replicate, length-replicate, IsBoundary, Search, is_anchored, MatchKind, Automaton, Pair, ComesBefore, PathTo, Slots, write, apply, raised, span_len, is_match, IsMatch, capture, is_utf8_empty, edges, starts, IsScanAnswer, last_of, slot_among, slot_row, EndsOnBoundary, IsWhole, SplitsCharacter, IsRestartedAnswer, IsSearchAnswer, IsWithinScans, max_scans}
 use Rattle.std.proofs.lemmas.List.FromFn.{length-map-range_with_len, get_or-map-range_with_len}
-use Rattle.nfa_paths.specs.Common.{IsBoundary, Search, is_anchored, MatchKind, Automaton, Pair, ComesBefore, PathTo, Slots, write, apply, ExploresTo, space, raised, span_len, is_match, IsMatch, capture, is_utf8_empty, edges, starts, IsScanAnswer, last_of, slot_among, slot_row, EndsOnBoundary, IsWhole, SplitsCharacter, IsRestartedAnswer, IsSearchAnswer, IsWithinScans, max_scans}
-use Rattle.regex_search_core.specs.declared.search.MatchKind.TheVariants.{All, LeftmostFirst}
-use Rattle.nfa_paths.specs.Exploring.Task.{Explore}
-use Rattle.nfa_paths.proofs.PathLemmas.{IsLeast-from_first}
-use Rattle.nfa_paths.proofs.SearchLemmas.{Answer-starts, found-Some}
-use Rattle.nfa_paths.proofs.PathToLemmas.{ComesBefore-asymmetric, PathTo-order, IsLeast-none, IsLeast-first, IsFirstPath-unique, IsEarliestPath-unique, IsLastPath-unique, IsEarliestLastPath-unique}
+use Rattle.nfa_paths.proofs.PathToLemmas.{ComesBefore-asymmetric, PathTo-order, IsFirstPath-unique, IsEarliestPath-unique, IsLastPath-unique, IsEarliestLastPath-unique}
 use Rattle.nfa_paths.proofs.StartLemmas.{IsMatch-edges, starts-increase}
 use Rattle.nfa_paths.proofs.OptionLemmas.{option_or-None}
 
@@ -27,27 +19,13 @@ accepting_order-asymmetric nfa x = ComesBefore-asymmetric (edges nfa x)
 
 -- the slots
 
--- where a pair writes to the slot
-written : Option ℕ → ℕ → ℕ → Option ℕ
-written o at slot = cond (option_map_or (λ k. k == slot) o false) (Some at) None
-
 -- a write keeps the length
 length-write : (o : Option ℕ) (at : ℕ) (slots : Slots) → length (write o at slots) ≡ length slots
-length-write None at slots = refl
-length-write (Some k) at slots = length-set slots k (Some at)
-
--- equal finds have equal parts
-pub same_parts : (f g : Pair × Slots) → Some f ≡ Some g → (f.0 ≡ g.0) × (f.1 ≡ g.1)
-same_parts f g e = let k : f ≡ g = cc in (ap (λ h. h.0) k, ap (λ h. h.1) k)
+length-write = grind (arith, length-set)
 
 -- a value is not none
 pub never_none : {A : Type 0} (a : A) → Some a ≡ None → ⊥
 never_none a e = cc
-
--- empty slots add nothing
-get_or-empty : (count slot : ℕ) → slot < count → (a : Option ℕ)
-    → option_or a (get_or (replicate count None) slot None) ≡ a
-get_or-empty count slot below a = rw (get_or-replicate {A = Option ℕ} count slot None None below) (option_or-None a)
 
 module _ (nfa : Automaton) where
   -- a path's captures keep the length
@@ -58,7 +36,6 @@ module _ (nfa : Automaton) where
   -- the slot after a path: what the path wrote last, or else what stood there
   get_or-apply : (p : List Pair) (slots : Slots) (slot : ℕ) → slot < length slots
       → get_or (apply (capture nfa) p slots) slot None ≡ option_or (slot_among nfa p slot) (get_or slots slot None)
-  unfolding written
   get_or-apply [] slots slot within = refl
   get_or-apply (v ∷ p) slots slot within =
       let after = write (capture nfa v) v.1 slots in
@@ -74,43 +51,7 @@ module _ (nfa : Automaton) where
       grind (arith, length-apply, length-replicate) in
       ext_get_or None (apply (capture nfa) p (replicate count None)) (map (slot_among nfa p) (range_with_len 0 count))
       (long ∙ sym (length-map-range_with_len (slot_among nfa p) 0 count))
-      (grind (arith, get_or-apply, get_or-empty, get_or-map-range_with_len, length-replicate))
-
-  module _ (x : Search) where
-    -- if a search finds nothing, there is no accepting path
-    pub scan_none : (total : ℕ) (slots : Slots)
-        → ExploresTo (space nfa x) (is_match nfa) total None [] (map Explore (starts nfa x)) slots None
-        → IsScanAnswer nfa x LeftmostFirst false None
-    scan_none total slots answer =
-        elim (Answer-starts (space nfa x) (is_match nfa) total (starts nfa x) slots None answer) [
-          | inl k ↦ absurd (found-Some (space nfa x) (is_match nfa) slots k.1.2.path k.2)
-          | inr k ↦
-              IsLeast-none (edges nfa x) (starts nfa x) (is_match nfa) (IsMatch-edges nfa x)
-              (IsLeast-from_first (edges nfa x) (is_match nfa) (starts nfa x) (starts-increase nfa x) None k.0)
-        ]
-
-    -- the first accepting path, which ends with v, with its slots, no longer than there were turns
-    pub record FindsPath (count total : ℕ) (v : Pair) (row : Slots) : Type 0 where
-      pub path : List Pair
-      pub answers : IsScanAnswer nfa x LeftmostFirst false (Some path)
-      pub ends : last_of path ≡ Some v
-      pub row_is : row ≡ slot_row nfa count (Some path)
-      pub short : length path ≤ total
-
-    -- what a search finds is the first accepting path's
-    pub scan_some : (count total : ℕ) (v : Pair) (row : Slots)
-        → ExploresTo (space nfa x) (is_match nfa) total None [] (map Explore (starts nfa x))
-        (replicate count None) (Some (v, row))
-        → FindsPath count total v row
-    scan_some count total v row answer =
-        elim (Answer-starts (space nfa x) (is_match nfa) total (starts nfa x) (replicate count None)
-        (Some (v, row)) answer) [
-          | inl k ↦
-              let first = IsLeast-first (edges nfa x) (starts nfa x) (is_match nfa) (IsMatch-edges nfa x) k.0
-              (IsLeast-from_first (edges nfa x) (is_match nfa) (starts nfa x) (starts-increase nfa x) (Some k.0) k.1) in
-              search (rules, apply-slot_row)
-          | inr k ↦ absurd (never_none (v, row) k.1)
-        ]
+      (grind (arith, get_or-apply, get_or-replicate, option_or-None, get_or-map-range_with_len, length-replicate))
 
 -- a path's end, and boundaries
 
@@ -129,12 +70,8 @@ module _ (nfa : Automaton) where
   -- a scan has one answer
   pub scan_answer-unique : (x : Search) (kind : MatchKind) (earliest : Bool) (r s : Option (List Pair))
       → IsScanAnswer nfa x kind earliest r → IsScanAnswer nfa x kind earliest s → r ≡ s
-  scan_answer-unique x LeftmostFirst false r s h k =
-      IsFirstPath-unique (edges nfa x) (starts nfa x) (IsMatch nfa) r s h k
-  scan_answer-unique x LeftmostFirst true r s h k =
-      IsEarliestPath-unique (edges nfa x) (starts nfa x) (IsMatch nfa) r s h k
-  scan_answer-unique x All false r s h k = IsLastPath-unique (edges nfa x) (starts nfa x) (IsMatch nfa) r s h k
-  scan_answer-unique x All true r s h k = IsEarliestLastPath-unique (edges nfa x) (starts nfa x) (IsMatch nfa) r s h k
+  scan_answer-unique =
+      grind (arith, IsFirstPath-unique, IsEarliestPath-unique, IsLastPath-unique, IsEarliestLastPath-unique)
 
   -- the path that a scan answers with leads to a match
   pub record LeadsToMatch (x : Search) (p : List Pair) : Type 0 where
@@ -145,10 +82,7 @@ module _ (nfa : Automaton) where
   -- the answer of a scan, of whichever kind, is a path to a match
   pub scan_answer-leads : (x : Search) (kind : MatchKind) (earliest : Bool) (p : List Pair)
       → IsScanAnswer nfa x kind earliest (Some p) → LeadsToMatch x p
-  scan_answer-leads x LeftmostFirst false p h = record { end = h.end; path = h.path; matches = h.wanted }
-  scan_answer-leads x LeftmostFirst true p h = record { end = h.2.end; path = h.2.path; matches = h.2.wanted.wanted }
-  scan_answer-leads x All false p h = grind arith
-  scan_answer-leads x All true p h = grind arith
+  scan_answer-leads = grind arith
 
   -- a scan with a path starts within its span
   pub scan_answer-within : (x : Search) (kind : MatchKind) (earliest : Bool) (p : List Pair)
@@ -156,34 +90,20 @@ module _ (nfa : Automaton) where
   scan_answer-within x kind earliest p h = search rules
 
   module _ (kind : MatchKind) (earliest : Bool) where
-    -- a scan whose answer splits a codepoint starts within its span
-    SplitsCharacter-within : {x : Search} → SplitsCharacter nfa kind earliest x → x.start ≤ x.end
-    SplitsCharacter-within {x} h = scan_answer-within x kind earliest h.path h.answers
-
     -- at most as many scans split a codepoint as starts are left
     skipped-anchored : (x : Search) (n : ℕ) → ((i : ℕ) → i < n → SplitsCharacter nfa kind earliest (raised x i))
         → n + 1 ≤ span_len x + 2
-    skipped-anchored x zero skipped = omega arith
-    skipped-anchored x (suc n) skipped =
-        let last : x.start + n ≤ x.end = SplitsCharacter-within (skipped n (omega arith)) in omega arith
+    skipped-anchored = grind (arith, scan_answer-within)
 
     -- a scan whose answer splits a codepoint has no answer that is whole
     SplitsCharacter-whole : (x : Search) (r : Option (List Pair)) → SplitsCharacter nfa kind earliest x
         → IsScanAnswer nfa x kind earliest r → IsWhole x r → ⊥
-    SplitsCharacter-whole x None h answers whole =
-        never_none h.path (scan_answer-unique x kind earliest (Some h.path) None h.answers answers)
-    SplitsCharacter-whole x (Some p) h answers whole = grind (arith, scan_answer-unique)
+    SplitsCharacter-whole = grind (arith, never_none, scan_answer-unique)
 
-    -- the restarts stop at the first scan that is whole
-    IsRestartedAnswer-first : (x : Search) (i j : ℕ) (r s : Option (List Pair))
-        → IsRestartedAnswer nfa kind earliest x i r → IsRestartedAnswer nfa kind earliest x j s → i < j → ⊥
-    IsRestartedAnswer-first x i j r s h k less =
-        SplitsCharacter-whole (raised x i) r (k.skipped i less) h.answers h.whole
-
-    -- a search that restarts has one answer, after one number of restarts
+    -- the restarts stop at the first scan that is whole, so a search that restarts has one answer
     IsRestartedAnswer-unique : (x : Search) (i j : ℕ) (r s : Option (List Pair))
         → IsRestartedAnswer nfa kind earliest x i r → IsRestartedAnswer nfa kind earliest x j s → (i ≡ j) × (r ≡ s)
-    IsRestartedAnswer-unique x i j r s h k = search (rules, IsRestartedAnswer-first, scan_answer-unique)
+    IsRestartedAnswer-unique = grind (arith, SplitsCharacter-whole, scan_answer-unique)
 
     -- a search has one answer, after one number of restarts
     pub search_answer-unique : (x : Search) (i j : ℕ) (r s : Option (List Pair))

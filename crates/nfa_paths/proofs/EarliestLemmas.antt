@@ -1,9 +1,6 @@
 -- The `earliest` flag of an input changes no path. Only the kind of the answer does. Also whether there is a match.
-use Rattle.std.proofs.Common.{ℕ, inl, inr, Bool, true, false, List, refl, subst, arith, Option, is_some, not}
-use Rattle.std.proofs.lemmas.Bool.{cases_Bool}
-use Rattle.nfa_paths.specs.Common.{Search, MatchKind, Automaton, Pair, is_utf8_empty, IsSearchAnswer, IsBoolAnswer}
-use Rattle.nfa_paths.proofs.ExistenceLemmas.{is_match-agrees}
-use Rattle.nfa_paths.proofs.OneScanLemmas.{scan-of, search-of}
+use Rattle.nfa_paths.proofs.Common.{ℕ, inl, inr, Bool, false, List, refl, arith, Option, is_some, not, cases_Bool, Search, MatchKind, Automaton, Pair, is_utf8_empty, IsSearchAnswer, IsBoolAnswer}
+use Rattle.nfa_paths.proofs.ExistenceLemmas.{search_answer-exists, search_answers-agree}
 use Rattle.nfa_paths.proofs.SameScanLemmas.{search-same, ExploresSame}
 
 -- the search with this `earliest` flag
@@ -27,13 +24,12 @@ module _ (nfa : Automaton) where
       elim (cases_Bool (is_utf8_empty nfa)) [
         | inl bound ↦ grind arith
         | inr anywhere ↦
-            let sooner : IsSearchAnswer nfa kind true x n p =
-            subst (λ b. IsSearchAnswer nfa kind (not b) x n p) anywhere h in
-            let meant = is_match-agrees nfa x kind anywhere p (scan-of nfa kind true x anywhere n p sooner) in
+            let a = search_answer-exists nfa kind false x in
             record {
-              restarts = 0;
-              path = meant.0;
-              answers = search-of nfa kind false x anywhere meant.0 meant.1;
-              found_is = meant.2;
+              restarts = a.0;
+              path = a.1;
+              answers = a.2;
+              found_is =
+                  search_answers-agree nfa x anywhere kind kind (not (is_utf8_empty nfa)) false n a.0 p a.1 h a.2;
             }
       ]

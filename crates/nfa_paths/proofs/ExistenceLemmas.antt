@@ -1,14 +1,11 @@
 -- Every scan and every search of any NFA has an answer.
-use Rattle.std.proofs.Common.{◌≡◌, ℕ, zero, suc, ◌+◌, ◌≤◌, ◌<◌, ◌⊎◌, inl, inr, Bool, true, false, List, [], ◌∷◌, ◌++◌, length, refl, ap, arith, rules, Option, None, Some, is_some, MatchBool}
+use Rattle.nfa_paths.proofs.Common.{◌≡◌, ℕ, zero, suc, ◌+◌, ◌≤◌, ◌<◌, ◌⊎◌, inl, inr, Bool, true, false, List, [], ◌∷◌, ◌++◌, length, refl, subst, arith, rules, Option, None, Some, is_some, MatchBool, below_more, cases_lt, get_or_past, Search, is_anchored, MatchKind, Automaton, Pair, In, NoPath, IsFirstPath, Passes, pairs_from, raised, node_at, is_match, IsMatch, is_utf8_empty, edges_of, edges, starts, IsScanAnswer, EndsOnBoundary, IsWhole, SplitsCharacter, IsKeptAnswer, IsRestartedAnswer, IsSearchAnswer, LeftmostFirst, Fail}
 use Rattle.std.proofs.Math.Decide.{ℕ_discrete}
-use Rattle.std.proofs.lemmas.Bool.{cases_lt}
-use Rattle.std.proofs.lemmas.List.{get_or_past}
-use Rattle.nfa_paths.specs.Common.{IsBoundary, Search, is_anchored, MatchKind, Automaton, Node, Pair, In, NoPath, IsFirstPath, Passes, pairs_from, raised, node_at, is_match, IsMatch, is_utf8_empty, edges_of, edges, starts, IsScanAnswer, EndsOnBoundary, IsWhole, SplitsCharacter, IsKeptAnswer, IsRestartedAnswer, IsSearchAnswer}
-use Rattle.regex_search_core.specs.declared.search.MatchKind.TheVariants.{All, LeftmostFirst}
-use Rattle.thompson_nfa.specs.Automaton.Node.{Fail}
+use Rattle.regex_search_core.specs.declared.search.MatchKind.TheVariants.{All}
 use Rattle.nfa_paths.proofs.MemberLemmas.{In-append_left, In-append_right}
-use Rattle.nfa_paths.proofs.StartLemmas.{starts-increase, IsMatch-edges}
+use Rattle.nfa_paths.proofs.StartLemmas.{pairs_from-has, starts-increase, IsMatch-edges}
 use Rattle.nfa_paths.proofs.AnswerLemmas.{scan_answer-leads}
+use Rattle.nfa_paths.proofs.OneScanLemmas.{first-scan, scan-of}
 use Rattle.nfa_paths.proofs.ScanAnswerLemmas.{edges-within, starts-within}
 use Rattle.nfa_paths.proofs.FinitePathLemmas.{IsFinite, first_to}
 use Rattle.nfa_paths.proofs.FiniteKindsLemmas.{first_path_exists, earliest_path_exists, last_path_exists, earliest_last_path_exists}
@@ -20,16 +17,6 @@ all_pairs : ℕ → ℕ → List Pair
 all_pairs zero count = []
 all_pairs (suc state) count = pairs_from state 0 count ++ all_pairs state count
 
--- each position of the row is there
-In-pairs_from : (state at count : ℕ) (v : Pair) → v.0 ≡ state → at ≤ v.1 → v.1 < at + count
-    → In v (pairs_from state at count)
-In-pairs_from state at zero v is from below = absurd (omega arith)
-In-pairs_from state at (suc count) v is from below =
-    elim (ℕ_discrete v.1 at) [
-      | yes here ↦ inl (λ i. (is i, here i))
-      | no later ↦ inr (In-pairs_from state (at + 1) count v is (omega arith) (omega arith))
-    ]
-
 -- each such pair is there
 In-all_pairs : (states count : ℕ) (v : Pair) → v.0 < states → v.1 < count → In v (all_pairs states count)
 unfolding all_pairs
@@ -37,50 +24,39 @@ In-all_pairs zero count v state below = absurd (omega arith)
 In-all_pairs (suc s) count v state below =
     elim (ℕ_discrete v.0 s) [
       | yes is ↦ In-append_left v (pairs_from s 0 count) (all_pairs s count)
-          (In-pairs_from s 0 count v is (omega arith) (omega arith))
+          (subst (λ (k : ℕ). In v (pairs_from k 0 count)) is
+          (pairs_from-has v.0 0 count v.1 (omega arith) (omega arith)))
       | no other ↦ grind (arith, In-append_right, In-all_pairs s count v (omega arith) below)
     ]
 
 module _ (nfa : Automaton) where
-  -- past the last state there is none
-  node_at-past : (state : ℕ) → length nfa.states ≤ state → node_at nfa state ≡ Fail
-  unfolding node_at
-  node_at-past state past = get_or_past nfa.states state Fail past
-
-  -- and a Fail is not a match
-  is_match-past : (v : Pair) → length nfa.states ≤ v.0 → is_match nfa v ≡ true → ⊥
-  is_match-past v past t = grind (arith, node_at-past)
-
   module _ (x : Search) where
-    -- a state that is none leads nowhere
-    edges-past : (v : Pair) → length nfa.states ≤ v.0 → edges nfa x v ≡ []
-    unfolding edges_of
-    edges-past v past = ap (λ (k : Node). edges_of x k v.1) (node_at-past v.0 past)
-
     -- the pairs that a scan may reach
     abbrev scan_pairs : List Pair
     scan_pairs = all_pairs (length nfa.states) (x.end + 1)
 
+    -- a pair is one of them, or its state is none, which is as a Fail
+    in_pairs : (v : Pair) → v.1 ≤ x.end → In v scan_pairs ⊎ (node_at nfa v.0 ≡ Fail)
+    unfolding node_at
+    in_pairs v within =
+        elim (cases_lt v.0 (length nfa.states)) [
+          | inl state ↦ inl (In-all_pairs (length nfa.states) (x.end + 1) v state (omega arith))
+          | inr past ↦ inr (get_or_past nfa.states v.0 Fail past)
+        ]
+
     -- they are finite
     pairs_finite : IsFinite (edges nfa x) (starts nfa x) scan_pairs x.end
+    unfolding edges_of
     pairs_finite = record {
       stays = λ v y i within. edges-within nfa x v y i within;
       begins = starts-within nfa x;
-      leads_on = λ v within.
-          elim (cases_lt v.0 (length nfa.states)) [
-            | inl state ↦ inl (In-all_pairs (length nfa.states) (x.end + 1) v state (omega arith))
-            | inr past ↦ inr (edges-past v past)
-          ];
+      leads_on = grind (arith, in_pairs);
       increase = starts-increase nfa x;
     }
 
     -- a match is one of them
     matches_in : (v : Pair) → v.1 ≤ x.end → is_match nfa v ≡ true → In v scan_pairs
-    matches_in v within t =
-        elim (cases_lt v.0 (length nfa.states)) [
-          | inl state ↦ In-all_pairs (length nfa.states) (x.end + 1) v state (omega arith)
-          | inr past ↦ absurd (is_match-past v past t)
-        ]
+    matches_in v within t = elim (in_pairs v within) [ inl among ↦ among | inr fails ↦ absurd (cc (rw fails at t)) ]
 
     -- of the paths to the matches that a test wants there is a first one, or there is none
     pub first_wanted-exists : (wants : Pair → Bool) → ((v : Pair) → wants v ≡ true → is_match nfa v ≡ true)
@@ -122,21 +98,15 @@ module _ (nfa : Automaton) where
         → (kind other : MatchKind) (earliest sooner : Bool) (i j : ℕ) (r s : Option (List Pair))
         → IsSearchAnswer nfa kind earliest x i r → IsSearchAnswer nfa other sooner x j s → is_some r ≡ is_some s
     search_answers-agree anywhere kind other earliest sooner i j r s h k =
-        let first : (i ≡ 0) × IsScanAnswer nfa x kind earliest r = rw anywhere at h in
-        let second : (j ≡ 0) × IsScanAnswer nfa x other sooner s = rw anywhere at k in
-        scan_answers-agree kind other earliest sooner r s first.1 second.1
+        scan_answers-agree kind other earliest sooner r s (scan-of nfa kind earliest x anywhere i r h)
+        (scan-of nfa other sooner x anywhere j s k)
 
   -- boundaries
 
-  -- a position is a boundary, or not
-  IsBoundary-cases : (haystack : List ℕ) (i : ℕ) → IsBoundary haystack i ⊎ ¬ (IsBoundary haystack i)
-  IsBoundary-cases haystack i = grind arith
-
-  -- a path ends on one, or not
+  -- a path ends on a boundary, or not
   EndsOnBoundary-cases : (x : Search) (p : List Pair) → EndsOnBoundary x p ⊎ ¬ (EndsOnBoundary x p)
   EndsOnBoundary-cases x [] = inr (λ h. h)
-  EndsOnBoundary-cases x (v ∷ []) = IsBoundary-cases x.haystack v.1
-  EndsOnBoundary-cases x (v ∷ (w ∷ p)) = EndsOnBoundary-cases x (w ∷ p)
+  EndsOnBoundary-cases x (v ∷ p) = grind (arith, EndsOnBoundary-cases x p)
 
   module _ (kind : MatchKind) (earliest : Bool) where
     -- a scan splits a codepoint, or has an answer that is whole
@@ -154,19 +124,6 @@ module _ (nfa : Automaton) where
               | inr splits ↦ inl (record { path = p; answers = h; splits = splits })
             ]
 
-    -- a search that keeps to its start has an answer
-    kept_answer-exists : (x : Search) → (r : Option (List Pair)) × IsKeptAnswer nfa kind earliest x r
-    kept_answer-exists x =
-        elim (scan-cases x) [
-          | inl split ↦ (None, inr split)
-          | inr h ↦ of h.0 h.1 h.2
-        ]
-      where
-        of : (r : Option (List Pair)) → IsScanAnswer nfa x kind earliest r → IsWhole x r → (r : Option (List Pair))
-            × IsKeptAnswer nfa kind earliest x r
-        of None h whole = (None, inl h)
-        of (Some p) h whole = (Some p, (h, whole))
-
     -- with `left` positions left, a search that has restarted `restarts` times has an answer
     restarted_from : (x : Search) (left restarts : ℕ) → x.end < x.start + restarts + left
         → ((i : ℕ) → i < restarts → SplitsCharacter nfa kind earliest (raised x i))
@@ -178,34 +135,24 @@ module _ (nfa : Automaton) where
         ]
     restarted_from x (suc left) restarts few skipped =
         elim (scan-cases (raised x restarts)) [
-          | inl split ↦ restarted_from x left (restarts + 1) (omega arith) (one_more split)
+          | inl split ↦ restarted_from x left (restarts + 1) (omega arith)
+              (below_more (λ i. SplitsCharacter nfa kind earliest (raised x i)) restarts skipped split)
           | inr h ↦ (restarts, h.0, record { skipped = skipped; answers = h.1; whole = h.2 })
         ]
-      where
-        one_more : SplitsCharacter nfa kind earliest (raised x restarts) → (i : ℕ) → i < restarts + 1
-            → SplitsCharacter nfa kind earliest (raised x i)
-        one_more split i below =
-            elim (cases_lt i restarts) [
-              | inl less ↦ skipped i less
-              | inr more ↦ grind arith
-            ]
 
     -- every search has an answer, after some restarts
     pub search_answer-exists : (x : Search) → (restarts : ℕ) × (path : Option (List Pair))
         × IsSearchAnswer nfa kind earliest x restarts path
-    search_answer-exists x = of (is_utf8_empty nfa) (is_anchored x.anchored)
+    search_answer-exists x =
+        elim (scan-cases x) [
+          | inl split ↦ of split (is_utf8_empty nfa) (is_anchored x.anchored)
+          | inr h ↦ (0, h.0, first-scan nfa kind earliest x h.0 h.1 (λ mode. h.2))
+        ]
       where
-        of : (b c : Bool) → (restarts : ℕ) × (path : Option (List Pair))
+        of : SplitsCharacter nfa kind earliest x → (b c : Bool) → (restarts : ℕ) × (path : Option (List Pair))
             × MatchBool b (MatchBool c ((restarts ≡ 0) × IsKeptAnswer nfa kind earliest x path)
             (IsRestartedAnswer nfa kind earliest x restarts path))
             ((restarts ≡ 0) × IsScanAnswer nfa x kind earliest path)
-        of true true = let r = kept_answer-exists x in (0, r.0, (refl, r.1))
-        of true false = restarted_from x (x.end + 1) 0 (omega arith) (λ i below. absurd (omega arith))
-        of false c = let r = scan_answer-exists x kind earliest in (0, r.0, (refl, r.1))
-
-  -- if a match may end anywhere, the earliest path exists exactly if the one that is meant does
-  pub is_match-agrees : (x : Search) (kind : MatchKind) → is_utf8_empty nfa ≡ false → (p : Option (List Pair))
-      → IsScanAnswer nfa x kind true p
-      → (q : Option (List Pair)) × IsScanAnswer nfa x kind false q × (is_some p ≡ is_some q)
-  is_match-agrees x kind anywhere p h =
-      let r = scan_answer-exists x kind false in (r.0, r.1, scan_answers-agree x kind kind true false p r.0 h r.1)
+        of split true true = (0, None, (refl, inr split))
+        of split true false = restarted_from x (x.end + 1) 0 (omega arith) (λ i below. absurd (omega arith))
+        of split false c = (0, Some split.path, (refl, split.answers))

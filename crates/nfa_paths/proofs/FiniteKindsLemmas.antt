@@ -1,10 +1,8 @@
 -- Where finitely many pairs lead on, each kind of scan has its path, or no path leads to a match.
-use Rattle.std.proofs.Common.{◌≡◌, ℕ, zero, suc, ◌+◌, ◌≤◌, ◌<◌, ◌⊎◌, inl, inr, Bool, true, List, [], ◌∷◌, refl, sym, ◌∙◌, subst, arith, rules, Option, None, Some}
-use Rattle.std.proofs.lemmas.Bool.{cases_lt}
-use Rattle.nfa_paths.specs.Common.{Pair, In, Earlier, BeforeAfter, Before, ComesBefore, WantedAt, PathTo, NoPath, IsFirstTo, IsEnd, IsLeastEnd, IsGreatestEnd, IsLastOfFirsts, IsFirstPath, IsEarliestPath, IsLastPath, IsEarliestLastPath, Passes}
+use Rattle.nfa_paths.proofs.Common.{◌≡◌, ℕ, zero, suc, ◌+◌, ◌≤◌, ◌<◌, ◌⊎◌, inl, inr, Bool, true, List, [], ◌∷◌, refl, subst, arith, rules, below_more, Option, None, Some, Pair, In, Earlier, BeforeAfter, ComesBefore, WantedAt, PathTo, NoPath, IsFirstTo, IsEnd, IsLeastEnd, IsGreatestEnd, IsLastOfFirsts, IsFirstPath, IsEarliestPath, IsLastPath, IsEarliestLastPath, Passes}
 use Rattle.nfa_paths.proofs.PathLemmas.{same}
 use Rattle.nfa_paths.proofs.PathToLemmas.{PathTo-along, PathTo-order, IsFirstTo-unique}
-use Rattle.nfa_paths.proofs.TestLemmas.{tell_at}
+use Rattle.nfa_paths.proofs.TestLemmas.{tell_at, tested}
 use Rattle.nfa_paths.proofs.ScanLemmas.{EndsBefore-within}
 use Rattle.nfa_paths.proofs.FinitePathLemmas.{IsFinite, first_to, first_in}
 
@@ -20,18 +18,7 @@ module _ (edges : Pair → List Pair) where
   BeforeAfter-transitive : (v : Pair) (p q r : List Pair) → BeforeAfter edges v p q → BeforeAfter edges v q r
       → BeforeAfter edges v p r
   BeforeAfter-transitive v [] q r h k = h
-  BeforeAfter-transitive v (a ∷ p) [] r h k = absurd h
-  BeforeAfter-transitive v (a ∷ p) (b ∷ q) [] h k = k
-  BeforeAfter-transitive v (a ∷ p) (b ∷ q) (c ∷ r) h k =
-      grind (arith, Earlier-transitive, BeforeAfter-transitive a p q r)
-
-  -- of lists that begin with one pair
-  Before-transitive : (p q r : List Pair) → Before edges p q → Before edges q r → Before edges p r
-  Before-transitive [] q r h k = h
-  Before-transitive (x ∷ p) [] r h k = absurd h
-  Before-transitive (x ∷ p) (y ∷ q) [] h k = k
-  Before-transitive (x ∷ p) (y ∷ q) (z ∷ r) h k =
-      (h.0 ∙ k.0, BeforeAfter-transitive x p q r h.1 (subst (λ u. BeforeAfter edges u q r) (sym h.0) k.1))
+  BeforeAfter-transitive v (a ∷ p) q r h k = grind (arith, Earlier-transitive, BeforeAfter-transitive a p)
 
   -- of any lists
   ComesBefore-transitive : (p q r : List Pair) → ComesBefore edges p q → ComesBefore edges q r → ComesBefore edges p r
@@ -41,14 +28,9 @@ module _ (edges : Pair → List Pair) where
   ComesBefore-transitive (x ∷ p) (y ∷ q) (z ∷ r) (inl h) (inl k) = inl (omega arith)
   ComesBefore-transitive (x ∷ p) (y ∷ q) (z ∷ r) (inl h) (inr k) = grind arith
   ComesBefore-transitive (x ∷ p) (y ∷ q) (z ∷ r) (inr h) (inl k) = grind arith
-  ComesBefore-transitive (x ∷ p) (y ∷ q) (z ∷ r) (inr h) (inr k) = inr (Before-transitive (x ∷ p) (y ∷ q) (z ∷ r) h k)
+  ComesBefore-transitive (x ∷ p) (y ∷ q) (z ∷ r) (inr h) (inr k) = grind (arith, BeforeAfter-transitive)
 
 -- the least and the greatest of the numbers below k that have A, if each number has A or B
-
--- what holds below k and at k
-up_to : (B : ℕ → Type 0) (k : ℕ) → ((e : ℕ) → e < k → B e) → B k → (e : ℕ) → e < suc k → B e
-up_to B k below here e h =
-    elim (cases_lt e k) [ inl less ↦ below e less | inr more ↦ let is : k ≡ e = omega arith in subst B is here ]
 
 -- the least
 least_with : {A B : ℕ → Type 0} → ((e : ℕ) → A e ⊎ B e) → (k : ℕ)
@@ -56,7 +38,8 @@ least_with : {A B : ℕ → Type 0} → ((e : ℕ) → A e ⊎ B e) → (k : ℕ
 least_with tell zero = inl (λ e h. absurd (omega arith))
 least_with {A} {B} tell (suc k) =
     elim (least_with tell k) [
-      | inl none ↦ elim (tell k) [ inl a ↦ inr (k, a, none) | inr b ↦ inl (up_to B k none b) ]
+      | inl none ↦
+          elim (tell k) [ inl a ↦ inr (k, a, none) | inr b ↦ inl (λ e h. below_more B k none b e (omega arith)) ]
       | inr found ↦ inr found
     ]
 
@@ -86,11 +69,7 @@ module _ {edges : Pair → List Pair} {starts all : List Pair} {n : ℕ} (finite
 
   -- each position has its first path or none
   first_at : (e : ℕ) → FirstAt e ⊎ NoneAt e
-  first_at e =
-      elim (first_in finite (WantedAt (Passes is_match) e) (tell_at is_match e) (λ x h. stops x h.wanted)) [
-        | inl none ↦ inr none
-        | inr f ↦ inl f
-      ]
+  first_at e = first_in finite (tested (tell_at is_match e)) (λ x h. stops x h.wanted)
 
   -- every path ends at n or before it
   ends_within : (m : Pair) (p : List Pair) → PathTo edges starts m p → is_match m ≡ true → m.1 < n + 1
@@ -121,127 +100,82 @@ module _ {edges : Pair → List Pair} {starts all : List Pair} {n : ℕ} (finite
 
   -- the last of the first paths to the match pairs at e
 
-  -- of those to the pairs of a list, p is the last
-  record LastAmong (e : ℕ) (es p : List Pair) : Type 0 where
-    end : Pair
-    wanted : WantedAt (Passes is_match) e end
-    first : IsFirstTo edges starts (λ x. x ≡ end) p
-    last : (m : Pair) (q : List Pair) → In m es → WantedAt (Passes is_match) e m → IsFirstTo edges starts (λ x. x ≡ m) q
-        → (q ≡ p) ⊎ ComesBefore edges q p
+  -- p is the first path to m, a match pair at e
+  abbrev FirstTo : ℕ → Pair → List Pair → Type 0
+  FirstTo e m p = WantedAt (Passes is_match) e m × IsFirstTo edges starts (λ x. x ≡ m) p
 
-  -- no path leads to a match pair of the list at e
-  abbrev NoneAmong : ℕ → List Pair → Type 0
-  NoneAmong e es = (m : Pair) → In m es → WantedAt (Passes is_match) e m → NoPath edges starts (λ x. x ≡ m)
+  -- no path leads to m, if it is a match pair at e
+  abbrev NoneTo : ℕ → Pair → Type 0
+  NoneTo e m = WantedAt (Passes is_match) e m → NoPath edges starts (λ x. x ≡ m)
 
-  -- there is a last one, or none at all
+  -- of the first paths to the match pairs at e in a list, the last, or none
   abbrev Sought : ℕ → List Pair → Type 0
-  Sought e es = NoneAmong e es ⊎ ((p : List Pair) × LastAmong e es p)
+  Sought e es = ((m : Pair) → In m es → NoneTo e m)
+      ⊎ ((m : Pair) × (p : List Pair) × FirstTo e m p
+      × ((k : Pair) (q : List Pair) → In k es → FirstTo e k q → (q ≡ p) ⊎ ComesBefore edges q p))
 
-  -- the first path to a pair, under another name for the pair
-  first_along : {m k : Pair} {q : List Pair} → m ≡ k → IsFirstTo edges starts (λ x. x ≡ m) q
-      → IsFirstTo edges starts (λ x. x ≡ k) q
-  first_along {q = q} is f = subst (λ y. IsFirstTo edges starts (λ x. x ≡ y) q) is f
-
-  -- one more pair, which is not a match pair at e or is not reached
-  Sought-skip : (e : ℕ) (m : Pair) (es : List Pair)
-      → (WantedAt (Passes is_match) e m → NoPath edges starts (λ x. x ≡ m)) → Sought e es → Sought e (m ∷ es)
-  Sought-skip e m es none sought =
-      elim sought [
-        | inl h ↦ inl (λ k i w. elim i [ inl is ↦ here k is w | inr j ↦ h k j w ])
-        | inr b ↦
-            inr (
-              b.0,
-              record {
-                end = b.1.end;
-                wanted = b.1.wanted;
-                first = b.1.first;
-                last = λ k q i w f. elim i [
-                  | inl is ↦ absurd (here k is w f.end q f.path f.wanted)
-                  | inr j ↦ b.1.last k q j w f
-                ];
-              },
-            )
-      ]
-    where
-      here : (k : Pair) → k ≡ m → WantedAt (Passes is_match) e k → NoPath edges starts (λ x. x ≡ k)
-      here k is = subst (λ y. WantedAt (Passes is_match) e y → NoPath edges starts (λ x. x ≡ y)) (sym is) none
-
-  -- one more match pair at e, with its first path
-  Sought-add : (e : ℕ) (m : Pair) (es : List Pair) → WantedAt (Passes is_match) e m → (p : List Pair)
-      → IsFirstTo edges starts (λ x. x ≡ m) p
-      → Sought e es → Sought e (m ∷ es)
-  Sought-add e m es wanted p first sought =
-      elim sought [
-        | inl none ↦
-            inr (
-              p,
-              record {
-                end = m;
-                wanted = wanted;
-                first = first;
-                last = λ k q i w f. elim i [
-                  | inl is ↦ inl (one k q is f)
-                  | inr j ↦ absurd (none k j w f.end q f.path f.wanted)
-                ];
-              },
-            )
-        | inr b ↦
-            elim (PathTo-order edges starts is_match stops finite.increase
-            (PathTo-along edges starts first.wanted first.path) wanted.wanted
-            (PathTo-along edges starts b.1.first.wanted b.1.first.path) b.1.wanted.wanted) [
-              | inl is ↦ inr (b.0, keep b.0 b.1 (inl is))
-              | inr other ↦ elim other [
-                | inl before ↦ inr (b.0, keep b.0 b.1 (inr before))
-                | inr behind ↦ inr (p, take_up b.0 b.1 behind)
-              ]
+  -- each pair has one, or no path leads to it
+  first_of : (e : ℕ) (m : Pair) → ((p : List Pair) × FirstTo e m p) ⊎ NoneTo e m
+  first_of e m =
+      elim (tell_at is_match e m) [
+        | inl w ↦
+            elim (first_in finite (tested (λ x. same x m)) (λ x is. stops x (rw is w.wanted))) [
+              | inl f ↦ inl (f.0, (w, f.1))
+              | inr none ↦ inr (λ h. none)
             ]
+        | inr plain ↦ inr (λ w. absurd (plain w))
       ]
-    where
-      -- there is one first path to the pair
-      one : (k : Pair) (q : List Pair) → k ≡ m → IsFirstTo edges starts (λ x. x ≡ k) q → q ≡ p
-      one k q is f = IsFirstTo-unique edges starts (λ x. x ≡ m) q p (first_along is f) first
 
-      -- it is the last one so far, or comes before that
-      keep : (r : List Pair) → LastAmong e es r → (p ≡ r) ⊎ ComesBefore edges p r → LastAmong e (m ∷ es) r
-      keep r b order = record {
-        end = b.end;
-        wanted = b.wanted;
-        first = b.first;
-        last = λ k q i w f.
-            elim i [
-              | inl is ↦ subst (λ s. (s ≡ r) ⊎ ComesBefore edges s r) (sym (one k q is f)) order
-              | inr j ↦ b.last k q j w f
-            ];
-      }
+  -- there is only one to a pair, none if no path leads to it, and of two one comes before the other
+  only : {e : ℕ} {m : Pair} {p q : List Pair} → FirstTo e m p → FirstTo e m q → q ≡ p
+  only {m = m} {p} {q} h f = IsFirstTo-unique edges starts (λ x. x ≡ m) q p f.1 h.1
 
-      -- it comes after the last one so far
-      take_up : (r : List Pair) → LastAmong e es r → ComesBefore edges r p → LastAmong e (m ∷ es) p
-      take_up r b behind = record {
-        end = m;
-        wanted = wanted;
-        first = first;
-        last = λ k q i w f.
-            elim i [
-              | inl is ↦ inl (one k q is f)
-              | inr j ↦
-                  elim (b.last k q j w f) [
-                    | inl is ↦ inr (subst (λ s. ComesBefore edges s p) (sym is) behind)
-                    | inr before ↦ inr (ComesBefore-transitive edges q r p before behind)
-                  ]
-            ];
-      }
+  nowhere : {e : ℕ} {m : Pair} {q : List Pair} → NoneTo e m → FirstTo e m q → ⊥
+  nowhere {q = q} none f = none f.0 f.1.end q f.1.path f.1.wanted
+
+  in_order : {e : ℕ} {m k : Pair} {p q : List Pair} → FirstTo e m p → FirstTo e k q
+      → ((p ≡ q) ⊎ ComesBefore edges p q) ⊎ ComesBefore edges q p
+  in_order h f =
+      let order = PathTo-order edges starts is_match stops finite.increase
+      (PathTo-along edges starts h.1.wanted h.1.path) h.0.wanted
+      (PathTo-along edges starts f.1.wanted f.1.path) f.0.wanted in
+      grind (arith, order)
+
+  -- q is r or comes before it
+  abbrev UpTo : List Pair → List Pair → Type 0
+  UpTo r q = (q ≡ r) ⊎ ComesBefore edges q r
+
+  -- what is up to r is before what r is before
+  before_last : {p q r : List Pair} → ComesBefore edges r p → UpTo r q → UpTo p q
+  before_last after order = grind (arith, ComesBefore-transitive)
+
+  -- the path to one more pair, and those to the pairs of a list
+  more : {e : ℕ} {m : Pair} (es r : List Pair) → ((q : List Pair) → FirstTo e m q → UpTo r q)
+      → ((k : Pair) (q : List Pair) → In k es → FirstTo e k q → UpTo r q)
+      → (k : Pair) (q : List Pair) → In k (m ∷ es) → FirstTo e k q → UpTo r q
+  more {e = e} es r here others k q (inl is) h = here q (subst (λ y. FirstTo e y q) is h)
+  more es r here others k q (inr j) h = others k q j h
 
   -- the pairs of a list, one by one
   sought : (e : ℕ) (es : List Pair) → Sought e es
   sought e [] = inl (λ m i. absurd i)
   sought e (m ∷ es) =
-      elim (tell_at is_match e m) [
-        | inl w ↦
-            elim (first_in finite (λ x. x ≡ m) (λ x. same x m) (λ x is. stops x (rw is w.wanted))) [
-              | inl none ↦ Sought-skip e m es (λ h. none) (sought e es)
-              | inr f ↦ Sought-add e m es w f.0 f.1 (sought e es)
+      elim (first_of e m) [
+        | inl f ↦
+            let is_last = more {e = e} {m = m} es f.0 (λ q h. inl (only f.1 h)) in
+            elim (sought e es) [
+              | inl none ↦ inr (m, f.0, f.1, is_last (λ k q j h. absurd (nowhere (none k j) h)))
+              | inr b ↦
+                  elim (in_order f.1 b.2) [
+                    | inl order ↦ inr (b.0, b.1, b.2, more es b.1 (λ q h. rw (only f.1 h) order) b.3)
+                    | inr after ↦ inr (m, f.0, f.1, is_last (λ k q j h. before_last after (b.3 k q j h)))
+                  ]
             ]
-        | inr plain ↦ Sought-skip e m es (λ w. absurd (plain w)) (sought e es)
+        | inr none ↦
+            elim (sought e es) [
+              | inl others ↦ inl (λ k i. elim i [ inl is ↦ rw is none | inr j ↦ others k j ])
+              | inr b ↦ inr (b.0, b.1, b.2, more es b.1 (λ q h. absurd (nowhere none h)) b.3)
+            ]
       ]
 
   -- a match pair that is reached is one of all
@@ -254,12 +188,12 @@ module _ {edges : Pair → List Pair} {starts all : List Pair} {n : ℕ} (finite
       elim (sought e all) [
         | inl none ↦ search (rules, reached_in)
         | inr b ↦ (
-          b.0,
+          b.1,
           record {
-            end = b.1.end;
-            wanted = b.1.wanted;
-            first = b.1.first;
-            last = λ m q w k. b.1.last m q (reached_in m q (PathTo-along edges starts k.wanted k.path) w.wanted) w k;
+            end = b.0;
+            wanted = b.2.0;
+            first = b.2.1;
+            last = λ m q w k. b.3 m q (reached_in m q (PathTo-along edges starts k.wanted k.path) w.wanted) (w, k);
           },
         )
       ]

@@ -1,10 +1,9 @@
 -- Where finitely many pairs lead on, there is a first path to a set, or no path to it.
-use Rattle.std.proofs.Common.{◌≡◌, ℕ, zero, suc, ◌≤◌, ◌⊎◌, inl, inr, Bool, true, List, [], ◌∷◌, length, refl, sym, ap, ◌∙◌, arith, rules, Option, None, Some}
-use Rattle.std.proofs.lemmas.Bool.{cases_Bool}
-use Rattle.nfa_paths.specs.Common.{Pair, In, NoPath, IsFirstTo, IsFirstPath, IsFirst, FirstAmong, Increasing, IsLeast, Passes}
-use Rattle.nfa_paths.proofs.PathLemmas.{IsFirst-marked, IsFirst-dead, IsFirst-target, IsFirst-step, IsFirstOfAll-from_among, IsLeast-from_first}
-use Rattle.nfa_paths.proofs.PathToLemmas.{In-cases, IsFirstTo-along, IsLeast-none, IsLeast-first}
-use Rattle.nfa_paths.proofs.TestLemmas.{test, test-true, true-test}
+use Rattle.nfa_paths.proofs.Common.{◌≡◌, ℕ, zero, suc, ◌≤◌, ◌⊎◌, inl, inr, Bool, true, List, [], ◌∷◌, length, refl, sym, ap, ◌∙◌, arith, rules, Option, None, Some, cases_Bool, Pair, In, NoPath, IsFirstTo, IsFirstPath, IsFirst, FirstAmong, Increasing, Passes}
+use Rattle.nfa_paths.proofs.PathLemmas.{Path-head, IsFirst-dead, IsFirst-target, IsFirst-step, IsFirstOfAll-from_among}
+use Rattle.nfa_paths.proofs.PathToLemmas.{In-cases, IsFirstPath-of_all}
+use Rattle.nfa_paths.proofs.AlongLemmas.{first-along}
+use Rattle.nfa_paths.proofs.TestLemmas.{Test}
 
 -- the first path
 
@@ -63,7 +62,7 @@ module _ {edges : Pair → List Pair} {starts all : List Pair} {n : ℕ} (finite
         → (Without v left → (e : Pair) → In e (edges v) → FirstFrom (v ∷ marks) e) → FirstFrom marks v
     first_step left marks covers v h behind =
         elim (In-cases v marks) [
-          | inl m ↦ (None, IsFirst-marked edges target marks v m)
+          | inl m ↦ (None, λ p a. a.clear v (Path-head edges target a.path) m)
           | inr free ↦
               elim (cases_Bool (target v)) [
                 | inl t ↦ (Some (v ∷ []), IsFirst-target edges target marks v free t)
@@ -84,39 +83,30 @@ module _ {edges : Pair → List Pair} {starts all : List Pair} {n : ℕ} (finite
     -- with `left` pairs left, a pair has a first path or none
     first_from : (size : ℕ) (left marks : List Pair) → length left ≡ size → Covers left marks → (v : Pair) → v.1 ≤ n
         → FirstFrom marks v
-    first_from zero left marks is covers v h = first_step left marks covers v h (λ w e i. absurd (no_rest w.shorter))
-      where
-        no_rest : {k : ℕ} → length left ≡ suc k → ⊥
-        no_rest s = omega arith
+    first_from zero left marks is covers v h =
+        first_step left marks covers v h (λ w e i. absurd (let s = w.shorter in omega arith))
     first_from (suc size) left marks is covers v h =
         first_step left marks covers v h
-        (λ w e i. first_from size w.rest (v ∷ marks) (one_less w.shorter) (Covers-mark left marks v w covers) e
-        (finite.stays v e i h))
-      where
-        one_less : {k : ℕ} → length left ≡ suc k → k ≡ size
-        one_less s = omega arith
+        (λ w e i. first_from size w.rest (v ∷ marks) (let s = w.shorter in omega arith)
+        (Covers-mark left marks v w covers) e (finite.stays v e i h))
 
     -- the first path to a target from the starts, or that there is none
     pub first_to : ((x : Pair) → target x ≡ true → edges x ≡ []) → (r : Option (List Pair))
         × IsFirstPath edges starts (Passes target) r
     first_to stops =
         let r = first_among [] starts (λ s i. first_from (length all) all [] refl (λ x h. inr (finite.leads_on x h)) s
-        (finite.begins s i)) in (grind (arith, IsFirstOfAll-from_among, IsLeast-from_first, of))
-      where
-        of : (r : Option (List Pair)) → IsLeast edges target starts r → IsFirstPath edges starts (Passes target) r
-        of None least = IsLeast-none edges starts target stops least
-        of (Some p) least = IsLeast-first edges starts target stops p least
+        (finite.begins s i)) in (
+          r.0,
+          IsFirstPath-of_all edges starts target finite.increase stops r.0
+              (IsFirstOfAll-from_among edges target [] starts r.0 r.1),
+        )
 
-  -- the first path to a set that can be tested, whose pairs lead nowhere
-  pub first_in : (P : Pair → Type 0) → ((x : Pair) → P x ⊎ ¬ (P x)) → ((x : Pair) → P x → edges x ≡ [])
-      → NoPath edges starts P ⊎ ((p : List Pair) × IsFirstTo edges starts P p)
-  first_in P tell stops =
-      let r = first_to (λ x. test (tell x)) (λ x t. stops x (test-true (tell x) t)) in of r.0 r.1
+  -- the first path to a set that has a test, whose pairs lead nowhere
+  pub first_in : {P : Pair → Type 0} → Test P → ((x : Pair) → P x → edges x ≡ [])
+      → ((p : List Pair) × IsFirstTo edges starts P p) ⊎ NoPath edges starts P
+  first_in {P} t stops =
+      let r = first_to t.passes (λ x k. stops x (t.is x k)) in of r.0 (first-along edges starts t.is t.of r.0 r.1)
     where
-      of : (r : Option (List Pair)) → IsFirstPath edges starts (λ x. test (tell x) ≡ true) r
-          → NoPath edges starts P ⊎ ((p : List Pair) × IsFirstTo edges starts P p)
-      of None none = inl (λ m p w h. none m p w (true-test (tell m) h))
-      of (Some p) first = inr (
-        p,
-        grind (arith, IsFirstTo-along, test-true, true-test),
-      )
+      of : (r : Option (List Pair)) → IsFirstPath edges starts P r
+          → ((p : List Pair) × IsFirstTo edges starts P p) ⊎ NoPath edges starts P
+      of = grind arith

@@ -1,7 +1,6 @@
 -- Nor does what an overlapping search makes of a set read the flag `earliest` of its input.
-use Rattle.std.proofs.Common.{ℕ, inl, inr, Bool, true, false, List, length, arith, rules, Option, None, Some}
-use Rattle.nfa_paths.specs.Common.{Search, MatchKind, Automaton, Pair, IsPermitted, IsInsertable, IsPatternOf, IsSelectedByAll, IsSelectedPath, HoldsPath, Gains, IsFirstBefore, IsOverlapResult, edges, edges_of, starts}
-use Rattle.regex_search_core.specs.declared.search.MatchKind.TheVariants.{All, LeftmostFirst}
+use Rattle.nfa_paths.proofs.Common.{ℕ, inl, inr, Bool, true, false, List, length, arith, rules, Option, None, Some, Search, MatchKind, Automaton, Pair, IsPermitted, IsInsertable, IsPatternOf, IsSelectedByAll, IsSelectedPath, HoldsPath, Gains, IsFirstBefore, IsOverlapResult, edges, edges_of, starts, LeftmostFirst}
+use Rattle.regex_search_core.specs.declared.search.MatchKind.TheVariants.{All}
 use Rattle.nfa_paths.proofs.AlongLemmas.{at-along, before-along, earliest-along, first-along, least-along}
 use Rattle.nfa_paths.proofs.EarliestLemmas.{asked}
 use Rattle.nfa_paths.proofs.ReachedLemmas.{IsReached-along}
@@ -71,11 +70,7 @@ module _ (nfa : Automaton) where
       pattern = h.pattern;
       pattern_is = h.pattern_is;
       holds = h.holds;
-      others = λ k held. elim (h.others k held) [
-        | inl same ↦ inl same
-        | inr earlier ↦
-            inr (pattern-asked x flag _ _ (before-along (permitted-asked x flag) h.end.1) k earlier)
-      ];
+      others = grind (arith, pattern-asked, before-along, permitted-asked);
       exact = λ k. (
         λ held. met-asked x flag (length set) k ((h.exact k).0 held),
         λ met. (h.exact k).1 (met-asked (asked x flag) x.earliest (length set) k met),

@@ -1,7 +1,5 @@
 -- The first and the last match pair of a front.
-use Rattle.std.proofs.Common.{◌≡◌, ◌⊎◌, inl, inr, Bool, true, List, [], ◌∷◌, ◌++◌, refl, ap, sym, arith, None, Some}
-use Rattle.std.proofs.lemmas.Bool.{cases_Bool}
-use Rattle.nfa_paths.specs.Common.{Pair, In, Slots, Hit, NoMatch, first_match, before_match, last_match}
+use Rattle.nfa_paths.proofs.Common.{◌≡◌, ◌⊎◌, inl, inr, Bool, true, List, [], ◌∷◌, ◌++◌, refl, ap, sym, arith, None, Some, cases_Bool, Pair, In, Slots, Hit, NoMatch, first_match, before_match, last_match}
 
 module _ (is_match : Pair → Bool) where
   -- a match pair of the list, with none before it
@@ -19,44 +17,6 @@ module _ (is_match : Pair → Bool) where
     pub split : front ≡ before ++ a ∷ after
     pub plain : (b : Pair × Slots) → In b after → is_match b.0 ≡ true → ⊥
     pub matches : is_match a.0 ≡ true
-
-  -- a front's first match pair, or that there is none
-  pub first_match-is : (front : List (Pair × Slots))
-      → ((first_match is_match front ≡ None) × NoMatch is_match front)
-      ⊎ ((a : Pair × Slots) × (first_match is_match front ≡ Some a) × FirstMatch front a)
-  first_match-is [] = inl (refl, λ b i. absurd i)
-  first_match-is (a ∷ front) =
-      elim (cases_Bool (is_match a.0)) [
-        | inl t ↦ inr (
-          a,
-          rw t refl,
-          record {
-            before = [];
-            after = front;
-            split = refl;
-            plain =
-                λ b i. absurd i;
-            matches = t;
-          },
-        )
-        | inr f ↦
-            elim (first_match-is front) [
-              | inl none ↦ grind arith
-              | inr some ↦
-                  let h = some.2 in
-                  inr (
-                    some.0,
-                    rw f some.1,
-                    record {
-                      before = a ∷ h.before;
-                      after = h.after;
-                      split = ap (λ x. a ∷ x) h.split;
-                      plain = grind arith;
-                      matches = h.matches;
-                    },
-                  )
-            ]
-      ]
 
   -- a front's last match pair, or that there is none
   pub last_match-is : (g : Hit) (front : List (Pair × Slots))
@@ -127,3 +87,27 @@ module _ (is_match : Pair → Bool) where
       → before_match is_match front ≡ front
   before_match-all [] e = refl
   before_match-all (a ∷ front) e = grind (arith, before_match-all front)
+
+  -- what is found first is the first match pair
+  pub FirstMatch-found : (front : List (Pair × Slots)) (a : Pair × Slots) → first_match is_match front ≡ Some a
+      → FirstMatch front a
+  FirstMatch-found front a e =
+      let cut = first_match-cut front a e in
+      record {
+        before = before_match is_match front;
+        after = cut.after;
+        split = cut.split;
+        plain = before_match-plain front;
+        matches = cut.matches;
+      }
+
+  -- a front's first match pair, or that there is none
+  pub first_match-is : (front : List (Pair × Slots))
+      → ((first_match is_match front ≡ None) × NoMatch is_match front)
+      ⊎ ((a : Pair × Slots) × (first_match is_match front ≡ Some a) × FirstMatch front a)
+  first_match-is front = of (first_match is_match front) refl
+    where
+      of : (g : Hit) → first_match is_match front ≡ g → ((first_match is_match front ≡ None) × NoMatch is_match front)
+          ⊎ ((a : Pair × Slots) × (first_match is_match front ≡ Some a) × FirstMatch front a)
+      of None e = inl (e, rw (before_match-all front e) at (before_match-plain front))
+      of (Some a) e = inr (a, e, FirstMatch-found front a e)

@@ -1,12 +1,9 @@
 -- A set of patterns is the result under LeftmostFirst if it holds exactly the patterns of the first paths before each
 -- limit.
-use Rattle.std.proofs.Common.{◌≡◌, ℕ, ◌+◌, ◌<◌, ◌↔◌, ◌∙◌, inl, inr, Bool, true, false, List, length, sym, ap, arith, Option, None, Some}
-use Rattle.std.proofs.lemmas.Bool.{cases_lt}
-use Rattle.regex_search_core.specs.PatternSets.{size_of_set}
-use Rattle.nfa_paths.specs.Common.{Search, Automaton, Pair, IsFirstTo, IsFirstPath, Passes, WantedBefore, edges, starts, last_of, path_pattern, HoldsPattern, HoldsUpTo, IsInsertable, IsFirstBefore, HoldsPath, IsOverlapResult, pattern_at}
-use Rattle.regex_search_core.specs.declared.search.MatchKind.TheVariants.{LeftmostFirst}
+use Rattle.nfa_paths.proofs.Common.{◌≡◌, ℕ, ◌+◌, ◌<◌, ◌↔◌, ◌∙◌, inl, inr, Bool, true, false, List, length, sym, ap, arith, Option, None, Some, rules, cases_lt, size_of_set, Search, Automaton, Pair, IsFirstTo, IsFirstPath, Passes, WantedBefore, edges, starts, last_of, path_pattern, HoldsPattern, HoldsUpTo, IsInsertable, IsFirstBefore, HoldsPath, IsOverlapResult, pattern_at, LeftmostFirst}
 use Rattle.nfa_paths.proofs.ExistenceLemmas.{first_wanted-exists}
-use Rattle.nfa_paths.proofs.PathToLemmas.{EndsWith-last, IsFirstTo-along, IsFirstTo-unique}
+use Rattle.nfa_paths.proofs.PathToLemmas.{EndsWith-last, IsFirstTo-unique}
+use Rattle.nfa_paths.proofs.AlongLemmas.{first-along}
 use Rattle.nfa_paths.proofs.PatternLemmas.{ends-pattern}
 use Rattle.nfa_paths.proofs.SetLemmas.{full-holds, holds-below, size-none, size-empty}
 use Rattle.nfa_paths.proofs.OptionLemmas.{same_some}
@@ -15,8 +12,7 @@ use Rattle.nfa_paths.proofs.OptionLemmas.{same_some}
 end-pattern : (nfa : Automaton) (x : Search) (capacity k : ℕ) (f : IsFirstBefore nfa x capacity k)
     → pattern_at nfa f.first.end ≡ Some k
 end-pattern nfa x capacity k f =
-    sym (ends-pattern nfa f.along f.first.end (EndsWith-last None f.first.end f.along f.first.path.ends))
-    ∙ f.pattern_is
+    grind (arith, ends-pattern, EndsWith-last)
 
 -- The set before is `old`: wanted is what it has room for.
 module _ (nfa : Automaton) (x : Search) (old new : List Bool) (size : length new ≡ length old) where
@@ -25,8 +21,7 @@ module _ (nfa : Automaton) (x : Search) (old new : List Bool) (size : length new
   below k f =
       let w = f.first.wanted.wanted in
       let same : w.pattern ≡ k = same_some w.pattern k (sym w.pattern_is ∙ end-pattern nfa x (length old) k f) in
-      let less : w.pattern < length old = w.below in
-      omega arith
+      grind arith
 
   -- a full set holds them all
   pub full-exact : ((k : ℕ) → HoldsPattern new k → IsFirstBefore nfa x (length old) k) → size_of_set new ≡ length new
@@ -60,13 +55,7 @@ module _ (nfa : Automaton) (x : Search) (old new : List Bool) (size : length new
             others = λ k held_too.
                 let f = held-first k held_too in
                 elim (cases_lt f.first.end.1 first.end.1) [
-                  | inl earlier ↦ inr (record {
-                    end = f.first.end;
-                    along = f.along;
-                    path = f.first.path;
-                    wanted = record { wanted = f.first.wanted.wanted.permitted; before = earlier };
-                    pattern_is = end-pattern nfa x (length old) k f;
-                  })
+                  | inl earlier ↦ inr (search (rules, end-pattern))
                   | inr behind ↦
                       let within : f.first.end.1 < f.limit = f.first.wanted.before in
                       let same : f.along ≡ p = IsFirstTo-unique (edges nfa x) (starts nfa x)
@@ -96,28 +85,16 @@ module _ (nfa : Automaton) (x : Search) (old new : List Bool) (size : length new
             let less : k < length new = holds-below new k held in
             inr (
               omega arith,
-              record {
-                end = f.first.end;
-                along = f.along;
-                path = f.first.path;
-                wanted = f.first.wanted.wanted.permitted;
-                pattern_is = end-pattern nfa x (length old) k f;
-              },
+              search (rules, end-pattern),
             );
         gains = record {
           full = λ some. absurd (omega arith);
           empty = λ no.
               let first = first_wanted-exists nfa x wants (λ v t. ((tells v).0 t).permitted.matches) in
-              record { path = first.0; meant = meant first.0 first.1; holds = holds first.0 first.1 };
+              grind (arith, first-along, holds);
         };
       }
         where
-          meant : (r : Option (List Pair)) → IsFirstPath (edges nfa x) (starts nfa x) (Passes wants) r
-              → IsFirstPath (edges nfa x) (starts nfa x) (IsInsertable nfa x (length old)) r
-          meant None none = λ m p w h. none m p w ((tells m).1 h)
-          meant (Some p) first = IsFirstTo-along (edges nfa x) (starts nfa x) (Passes wants)
-              (IsInsertable nfa x (length old)) (λ v. (tells v).0) (λ v. (tells v).1) first
-
           holds : (r : Option (List Pair)) → IsFirstPath (edges nfa x) (starts nfa x) (Passes wants) r
               → HoldsPath nfa x false r new
           holds None none = size-empty new (λ k held.

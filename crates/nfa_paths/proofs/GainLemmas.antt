@@ -1,10 +1,9 @@
 -- What a set of patterns gains under All, position by position.
-use Rattle.std.proofs.Common.{◌≡◌, ℕ, ◌+◌, ◌<◌, ◌⊎◌, ◌↔◌, inl, inr, Bool, true, false, List, [], length, refl, ◌∙◌, subst, arith, rules, Some}
-use Rattle.std.proofs.lemmas.Bool.{cases_lt}
-use Rattle.regex_search_core.specs.PatternSets.{size_of_set}
-use Rattle.nfa_paths.specs.Common.{Search, Automaton, Pair, IsLeastEnd, WantedAt, Slots, ReachedBefore, EndsBefore, HoldsMatch, Scanned, IsFrontier, is_resting, space, edges, starts, HoldsPattern, pattern_at, IsPermitted, IsInsertable, IsPatternOf, IsOverlapResult}
+use Rattle.nfa_paths.proofs.Common.{◌≡◌, ℕ, ◌+◌, ◌<◌, ◌⊎◌, ◌↔◌, inl, inr, Bool, true, false, List, [], length, refl, ◌∙◌, subst, arith, rules, Some, size_of_set, Search, Automaton, Pair, IsLeastEnd, PathTo, NoPath, Passes, NoneBefore, WantedAt, Slots, ReachedBefore, EndsBefore, HoldsMatch, Scanned, IsFrontier, is_resting, space, edges, starts, HoldsPattern, pattern_at, IsPermitted, IsInsertable, IsPatternOf, IsOverlapResult}
 use Rattle.regex_search_core.specs.declared.search.MatchKind.TheVariants.{All}
 use Rattle.nfa_paths.proofs.ReachedLemmas.{IsReached-at, ReachedBefore-start, ReachedBefore-step, IsReached-along}
+use Rattle.nfa_paths.proofs.AlongLemmas.{at-along, least-along}
+use Rattle.nfa_paths.proofs.ScanLemmas.{least_end}
 use Rattle.nfa_paths.proofs.SetLemmas.{full-holds}
 use Rattle.nfa_paths.proofs.PathToLemmas.{IsLeastEnd-unique}
 use Rattle.nfa_paths.proofs.ScanAnswerLemmas.{Scanned-matches, starts-from}
@@ -45,34 +44,6 @@ module _ (nfa : Automaton) (x : Search) (old : List Bool) (wants : Pair → Bool
     );
   }
 
-  module _ {slots : Slots} {turns e : ℕ} {front : List (Pair × Slots)}
-      (f : IsFrontier (space nfa x) (is_resting nfa) wants slots turns front e) where
-    -- what is reached before the next position
-    reached-step : (k : ℕ) → ReachedBefore (space nfa x) wants (pattern_at nfa) (e + 1) k
-        ↔ (ReachedBefore (space nfa x) wants (pattern_at nfa) e k
-        ⊎ HoldsMatch wants (pattern_at nfa) k front)
-    reached-step k = search (rules, ReachedBefore-step, wanted-shape)
-
-    pub GainsBefore-step : {mid new : List Bool} → GainsBefore e mid → length new ≡ length mid
-        → ((k : ℕ) → HoldsPattern new k ↔ (HoldsPattern mid k
-        ⊎ ((k < length mid) × HoldsMatch wants (pattern_at nfa) k front)))
-        → GainsBefore (e + 1) new
-    GainsBefore-step {mid} {new} g size put = record {
-      capacity = size ∙ g.capacity;
-      gained = λ k. (
-        search (rules, reached-step),
-        λ s.
-            elim s [
-              | inl o ↦ (put k).1 (inl ((g.gained k).1 (inl o)))
-              | inr w ↦
-                  elim ((reached-step k).0 w.1) [
-                    | inl before ↦ (put k).1 (inl ((g.gained k).1 (inr (w.0, before))))
-                    | inr here ↦ (put k).1 (inr (rw g.capacity w.0, here))
-                  ]
-            ],
-      );
-    }
-
   -- if every path has ended, the set gained all
   pub GainsBefore-end : {e : ℕ} {new : List Bool} → GainsBefore e new → EndsBefore (space nfa x) wants e
       → IsOverlapResult nfa x All false old new
@@ -102,25 +73,40 @@ module _ (nfa : Automaton) (x : Search) (old : List Bool) (wants : Pair → Bool
       → IsOverlapResult nfa x All false old new
   GainsBefore-full {e} {new} g full = grind (arith, full-holds)
 
-  -- no pattern below the capacity is reached before e
-  pub record NoneHeld (e : ℕ) : Type 0 where
-    pub none : (k : ℕ) → k < length old → ReachedBefore (space nfa x) wants (pattern_at nfa) e k → ⊥
-
-  pub NoneHeld-start : NoneHeld x.start
-  NoneHeld-start = record {
-    none = λ k less r. ReachedBefore-start (space nfa x) (is_resting nfa) wants []
-        wanted-shape (pattern_at nfa) k x.start (starts-from nfa x) r;
-  }
+  -- if no path to what is wanted ends before e and one ends there, e is the least end
+  pub least-wanted : {e : ℕ} → NoneBefore (space nfa x) wants e → (m : Pair) (p : List Pair)
+      → PathTo (edges nfa x) (starts nfa x) m p → WantedAt (IsInsertable nfa x (length old)) e m
+      → IsLeastEnd (edges nfa x) (starts nfa x) (IsInsertable nfa x (length old)) e
+  least-wanted {e} none m p w h =
+      least-along (edges nfa x) (starts nfa x) (λ v. (tells v).0) (λ v. (tells v).1) e
+      (least_end (space nfa x) (is_resting nfa) wants [] wanted-shape none m p w (at-along (λ v. (tells v).1) e m h))
 
   module _ {slots : Slots} {turns e : ℕ} {front : List (Pair × Slots)}
       (f : IsFrontier (space nfa x) (is_resting nfa) wants slots turns front e) where
-    pub NoneHeld-step : NoneHeld e → ((k : ℕ) → k < length old → HoldsMatch wants (pattern_at nfa) k front → ⊥)
-        → NoneHeld (e + 1)
-    NoneHeld-step none plain = record {
-      none = λ k less r. elim ((reached-step f k).0 r) [
-        | inl before ↦ none.none k less before
-        | inr here ↦ plain k less here
-      ];
+    -- what is reached before the next position
+    reached-step : (k : ℕ) → ReachedBefore (space nfa x) wants (pattern_at nfa) (e + 1) k
+        ↔ (ReachedBefore (space nfa x) wants (pattern_at nfa) e k
+        ⊎ HoldsMatch wants (pattern_at nfa) k front)
+    reached-step k = search (rules, ReachedBefore-step, wanted-shape)
+
+    pub GainsBefore-step : {mid new : List Bool} → GainsBefore e mid → length new ≡ length mid
+        → ((k : ℕ) → HoldsPattern new k ↔ (HoldsPattern mid k
+        ⊎ ((k < length mid) × HoldsMatch wants (pattern_at nfa) k front)))
+        → GainsBefore (e + 1) new
+    GainsBefore-step {mid} {new} g size put = record {
+      capacity = size ∙ g.capacity;
+      gained = λ k. (
+        search (rules, reached-step),
+        λ s.
+            elim s [
+              | inl o ↦ (put k).1 (inl ((g.gained k).1 (inl o)))
+              | inr w ↦
+                  elim ((reached-step k).0 w.1) [
+                    | inl before ↦ (put k).1 (inl ((g.gained k).1 (inr (w.0, before))))
+                    | inr here ↦ (put k).1 (inr (rw g.capacity w.0, here))
+                  ]
+            ],
+      );
     }
 
     -- what is reached at e, by the front
@@ -131,28 +117,23 @@ module _ (nfa : Automaton) (x : Search) (old : List Bool) (wants : Pair → Bool
         (pattern_at nfa) k f in grind arith
 
     -- the first front with a match of a pattern below the capacity is at the least end
-    held-least : NoneHeld e → (k : ℕ) → k < length old → HoldsMatch wants (pattern_at nfa) k front
+    held-least : NoneBefore (space nfa x) wants e → (k : ℕ) → k < length old → HoldsMatch wants (pattern_at nfa) k front
         → IsLeastEnd (edges nfa x) (starts nfa x) (IsInsertable nfa x (length old)) e
     held-least none k less here =
         let r = (reached-here k less).1 here in
-        record {
-          is_end = grind arith;
-          least = λ m p w h.
-              elim (cases_lt m.1 e) [
-                | inl before ↦
-                    absurd (none.none h.pattern h.below
-                    (grind arith))
-                | inr more ↦ more
-              ];
-        }
+        least-wanted none r.end r.along r.path (record {
+          wanted = record { permitted = r.wanted.wanted; pattern = k; pattern_is = r.pattern_is; below = less };
+          at = r.wanted.at;
+        })
 
-    pub NoneHeld-found : {new : List Bool} → NoneHeld e → (k : ℕ) → k < length old
+    -- and the set gains what matches there
+    pub gains-found : {new : List Bool} → NoneBefore (space nfa x) wants e → (k : ℕ) → k < length old
         → HoldsMatch wants (pattern_at nfa) k front
         → length new ≡ length old
         → ((j : ℕ) → HoldsPattern new j ↔ (HoldsPattern old j
         ⊎ ((j < length old) × HoldsMatch wants (pattern_at nfa) j front)))
         → IsOverlapResult nfa x All true old new
-    NoneHeld-found {new} none k less here size put = record {
+    gains-found {new} none k less here size put = record {
       capacity = size;
       keeps = λ j h. (put j).1 (inl h);
       sound = λ j h. elim ((put j).0 h) [
@@ -180,32 +161,19 @@ module _ (nfa : Automaton) (x : Search) (old : List Bool) (wants : Pair → Bool
       };
     }
 
-  -- if every path has ended, nothing is gained
-  pub NoneHeld-end : {e : ℕ} → NoneHeld e → EndsBefore (space nfa x) wants e → IsOverlapResult nfa x All true old old
-  NoneHeld-end {e} none ends = record {
+  -- if no path leads to what is wanted, nothing is gained
+  pub gains-none : NoPath (edges nfa x) (starts nfa x) (Passes wants) → IsOverlapResult nfa x All true old old
+  gains-none none = record {
     capacity = refl;
     keeps = λ k h. h;
     sound = λ k h. inl h;
     gains = record {
       gained = λ k. (
         λ h. inl h,
-        λ s.
-            elim s [
-              | inl o ↦ o
-              | inr w ↦
-                  let i = w.1.1.is_end in
-                  absurd (none.none i.wanted.pattern i.wanted.below (record {
-                    end = i.end;
-                    along = i.along;
-                    path = i.path;
-                    wanted = record {
-                      wanted = (tells i.end).1 i.wanted;
-                      before =
-                          ends i.end i.along i.path ((tells i.end).1 i.wanted);
-                    };
-                    pattern_is = i.wanted.pattern_is;
-                  }))
-            ],
+        λ s. elim s [
+          | inl o ↦ o
+          | inr w ↦ let i = w.1.1.is_end in absurd (none i.end i.along i.path ((tells i.end).1 i.wanted))
+        ],
       );
     };
   }

@@ -1,79 +1,163 @@
 -- What the front of a position says of the paths that end there.
-use Rattle.std.proofs.Common.{◌≡◌, ℕ, suc, ◌≤◌, ◌<◌, ◌⊎◌, ◌↔◌, inl, inr, Bool, true, List, [], ◌∷◌, ◌++◌, map, length, refl, sym, ap, ◌∙◌, subst, append_assoc, arith, None, Some}
-use Rattle.nfa_paths.specs.Common.{Pair, Space, In, NoRepeats, ComesBefore, PathTo, NoPath, IsFirstTo, WantedAt, IsLastOfFirsts, Path, IsFirst, Slots, Task, apply, found, ExploresTo, ExploresAfter, Passes, MatchesAt, NoMatch, Scanned, IsFrontier}
-use Rattle.nfa_paths.specs.FirstPaths.Path.{stop, go}
-use Rattle.nfa_paths.specs.Exploring.Task.{Explore, Restore, Load}
-use Rattle.nfa_paths.proofs.PathLemmas.{same, IsFirst-target, IsLeast-from_first}
-use Rattle.nfa_paths.proofs.SearchLemmas.{Answer-starts, found-Some}
-use Rattle.nfa_paths.proofs.PathToLemmas.{found-end, IsFirstTo-along, IsFirstTo-unique, IsLeast-none, IsLeast-first}
-use Rattle.nfa_paths.proofs.MemberLemmas.{In-append_left, In-append_right, In-append, In-map}
-use Rattle.nfa_paths.proofs.TestLemmas.{Tested, tell_at, test, test-true, true-test}
-use Rattle.nfa_paths.proofs.FrontierMatchLemmas.{FirstMatch, LastMatch}
+use Rattle.nfa_paths.proofs.Common.{◌≡◌, ℕ, ◌≤◌, ◌<◌, ◌⊎◌, ◌↔◌, inl, inr, Bool, true, List, [], ◌∷◌, ◌++◌, map, length, refl, sym, ◌∙◌, subst, append_assoc, ◌+◌, arith, Option, None, Some, option_map_or, Pair, Space, In, NoRepeats, ComesBefore, PathTo, NoPath, IsFirstTo, WantedAt, IsLastOfFirsts, Path, IsFirst, Slots, Hit, Task, apply, found, found_along, ExploresTo, ExploresAfter, IsFirstPath, IsFoundBy, Passes, NoMatch, Scanned, IsFrontier, stop, go, Explore, Restore, Load}
+use Rattle.nfa_paths.proofs.PathLemmas.{same}
+use Rattle.nfa_paths.proofs.SearchLemmas.{Answer-starts, AnswerBehind-cut}
+use Rattle.nfa_paths.proofs.PathToLemmas.{found-end, IsFirstTo-unique, IsFirstPath-of_all}
+use Rattle.nfa_paths.proofs.MemberLemmas.{In-append_left, In-append, In-map, In-middle}
+use Rattle.nfa_paths.proofs.TestLemmas.{Test, tested, tell_at}
+use Rattle.nfa_paths.proofs.AlongLemmas.{first-along}
+use Rattle.nfa_paths.proofs.FrontierMatchLemmas.{FirstMatch, LastMatch, first_match-is}
 
 -- the answer of a front
 
-module _ (space : Space) (target : Pair → Bool) where
-  module _ (e : ℕ) (onward : (x y : Pair) → In y (space.edges x) → x.1 ≤ y.1) (at : (x : Pair) → target x ≡ true
-      → x.1 ≡ e) where
-    -- from a later position no target is reached
-    Path-later : {v : Pair} {p : List Pair} → Path space.edges target v p → e < v.1 → ⊥
-    Path-later (stop {v = v} t) l = let k : v.1 ≡ e = at v t in omega arith
-    Path-later (go {v = v} {w = w} t i n h) l = let k : v.1 ≤ w.1 = onward v w i in Path-later h (omega arith)
+module _ (space : Space) (target : Pair → Bool) (e : ℕ)
+    (onward : (x y : Pair) → In y (space.edges x) → x.1 ≤ y.1) (before : (x : Pair) → target x ≡ true → x.1 < e) where
+  -- no target is reached from e on
+  Path-ahead : {v : Pair} {p : List Pair} → Path space.edges target v p → e ≤ v.1 → ⊥
+  Path-ahead (stop {v = v} t) l = let k : v.1 < e = before v t in omega arith
+  Path-ahead (go {v = v} {w = w} t i n h) l = let k : v.1 ≤ w.1 = onward v w i in Path-ahead h (omega arith)
 
-    -- a pair at a later position has no path
-    IsFirst-later : (marks : List Pair) (v : Pair) → e < v.1 → IsFirst space.edges target marks v None
-    IsFirst-later marks v l p a = Path-later a.path l
+  -- work from e on finds nothing
+  pub Answer-ahead : (left : ℕ) (otherwise : Hit) (marks : List Pair) (work : List Task) (slots : Slots)
+      → ((k : Pair) → In (Explore k) work → e ≤ k.1) → ExploresTo space target left otherwise marks work slots otherwise
+  unfolding ExploresTo
+  Answer-ahead left otherwise marks [] slots ahead = refl
+  Answer-ahead left otherwise marks (Explore v ∷ rest) slots ahead =
+      inr (
+        λ p a. Path-ahead a.path (ahead v (inl refl)),
+        Answer-ahead left otherwise marks rest slots (λ k i. ahead k (inr i)),
+      )
+  Answer-ahead left otherwise marks (Restore k old ∷ rest) slots ahead =
+      Answer-ahead left otherwise marks rest _ (λ k i. ahead k (inr i))
+  Answer-ahead left otherwise marks (Load old ∷ rest) slots ahead =
+      Answer-ahead left otherwise marks rest old (λ k i. ahead k (inr i))
 
-    -- a pair that rises and is not a target
-    pub IsFirst-rises : (marks : List Pair) (v : Pair) → ((w : Pair) → In w (space.edges v) → e < w.1)
-        → (target v ≡ true → ⊥) → IsFirst space.edges target marks v None
-    IsFirst-rises marks v rises plain p a = none a.path rises plain
-      where
-        none : {v : Pair} {p : List Pair} → Path space.edges target v p → ((w : Pair) → In w (space.edges v) → e < w.1)
-            → (target v ≡ true → ⊥) → ⊥
-        none (stop t) r f = f t
-        none (go {w = w} t i n h) r f = Path-later h (r w i)
+  -- an item that leads to e or further on, and is not a target
+  abbrev Passed : Pair × Slots → Type 0
+  Passed a = ((w : Pair) → In w (space.edges a.0) → e ≤ w.1) × (target a.0 ≡ true → ⊥)
 
-    -- work at later positions only finds nothing
-    Answer-later : (left : ℕ) (marks : List Pair) (work : List Task) (slots : Slots)
-        → ((k : Pair) → In (Explore k) work → e < k.1) → ExploresTo space target left None marks work slots None
-    unfolding ExploresTo
-    Answer-later left marks [] slots l = refl
-    Answer-later left marks (Explore v ∷ rest) slots l =
-        inr (IsFirst-later marks v (l v (inl refl)), Answer-later left marks rest slots (λ k i. l k (inr i)))
-    Answer-later left marks (Restore k old ∷ rest) slots l = Answer-later left marks rest _ (λ k i. l k (inr i))
-    Answer-later left marks (Load old ∷ rest) slots l = Answer-later left marks rest old (λ k i. l k (inr i))
+  -- finds nothing either
+  IsFirst-passed : (a : Pair × Slots) → Passed a → IsFirst space.edges target [] a.0 None
+  IsFirst-passed a passed p h = none h.path passed.0 passed.1
+    where
+      none : {v : Pair} {p : List Pair} → Path space.edges target v p → ((w : Pair) → In w (space.edges v) → e ≤ w.1)
+          → (target v ≡ true → ⊥) → ⊥
+      none (stop t) r f = f t
+      none (go {w = w} t i n h) r f = Path-ahead h (r w i)
 
-    module _ (left : ℕ) (marks : List Pair) (waiting : List Task) (slots : Slots)
-        (later : (k : Pair) → In (Explore k) waiting → e < k.1) where
-      -- a front with no target
-      AnswerBehind-none : (front : List (Pair × Slots))
-          → ((a : Pair × Slots) → In a front → (w : Pair) → In w (space.edges a.0) → e < w.1)
-          → ((a : Pair × Slots) → In a front → target a.0 ≡ true → ⊥)
-          → ExploresAfter space target left front None marks waiting slots None
-      unfolding ExploresAfter
-      AnswerBehind-none [] rises plain = Answer-later left marks waiting slots later
-      AnswerBehind-none (a ∷ front) rises plain =
-          inr (
-            IsFirst-rises [] a.0 (rises a (inl refl)) (plain a (inl refl)),
-            AnswerBehind-none front (λ b i. rises b (inr i)) (λ b i. plain b (inr i)),
-          )
+  module _ (left : ℕ) (marks : List Pair) (work : List Task) (slots : Slots) where
+    -- a front with no target, and work from e on
+    AnswerBehind-none : (otherwise : Hit) (front : List (Pair × Slots)) → ((a : Pair × Slots) → In a front → Passed a)
+        → ((k : Pair) → In (Explore k) work → e ≤ k.1)
+        → ExploresAfter space target left front otherwise marks work slots otherwise
+    unfolding ExploresAfter
+    AnswerBehind-none otherwise [] passed later = Answer-ahead left otherwise marks work slots later
+    AnswerBehind-none otherwise (a ∷ front) passed later =
+        inr (IsFirst-passed a (passed a (inl refl)), AnswerBehind-none otherwise front (λ b i. passed b (inr i)) later)
 
-      -- the first target of a front
-      AnswerBehind-first : (before : List (Pair × Slots)) (a : Pair × Slots) (after : List (Pair × Slots))
-          → ((b : Pair × Slots) → In b before → (w : Pair) → In w (space.edges b.0) → e < w.1)
-          → ((b : Pair × Slots) → In b before → target b.0 ≡ true → ⊥) → target a.0 ≡ true
-          → ExploresAfter space target left (before ++ a ∷ after) None marks waiting slots
-          (found space.capture (a.0 ∷ []) a.1)
-      unfolding ExploresAfter
-      AnswerBehind-first [] a after rises plain t =
-          let short : length (a.0 ∷ []) ≤ suc left = omega arith in
-          inl (a.0 ∷ [], IsFirst-target space.edges target [] a.0 (λ n. n) t, refl, short)
-      AnswerBehind-first (b ∷ before) a after rises plain t =
-          inr (
-            IsFirst-rises [] b.0 (rises b (inl refl)) (plain b (inl refl)),
-            AnswerBehind-first before a after (λ c i. rises c (inr i)) (λ c i. plain c (inr i)) t,
-          )
+  -- the first target of a front
+  AnswerBehind-first : (left : ℕ) (marks : List Pair) (work : List Task) (slots : Slots)
+      (before : List (Pair × Slots)) (a : Pair × Slots) (after : List (Pair × Slots))
+      → ((b : Pair × Slots) → In b before → Passed b) → target a.0 ≡ true
+      → ExploresAfter space target left (before ++ a ∷ after) None marks work slots (found space.capture (a.0 ∷ []) a.1)
+  AnswerBehind-first left marks work slots before a after passed t =
+      AnswerBehind-cut space target left before a after None [] marks work slots slots _ t
+      (AnswerBehind-none left [] [] slots _ before passed (λ k i. absurd i))
+
+-- the answer of a search
+
+-- nothing was found: there is no path
+pub found-none : {edges : Pair → List Pair} {starts : List Pair} {P : Pair → Type 0} {capture : Pair → Option ℕ}
+    {slots : Slots} {turns : ℕ} → IsFoundBy capture slots (IsFirstPath edges starts P) turns None
+    → NoPath edges starts P
+found-none {edges} {starts} {P} {capture} {slots} h = of h.path h.meant h.leads
+  where
+    of : (o : Option (List Pair)) → IsFirstPath edges starts P o → found_along capture o slots ≡ None
+        → NoPath edges starts P
+    of None none leads = none
+    of (Some p) first leads = let end = found-end capture first.end p slots first.path.ends in cc
+
+-- an item was found: along a path that is meant
+pub found-along : {capture : Pair → Option ℕ} {slots : Slots} {Meant : Option (List Pair) → Type 0} {turns : ℕ}
+    {a : Pair × Slots} → IsFoundBy capture slots Meant turns (Some a)
+    → (p : List Pair) × Meant (Some p) × (found capture p slots ≡ Some a) × (length p ≤ turns)
+found-along {capture} {slots} {Meant} {turns} {a} h = of h.path h.meant h.leads h.short
+  where
+    of : (o : Option (List Pair)) → Meant o → found_along capture o slots ≡ Some a → option_map_or length o 0 ≤ turns
+        → (p : List Pair) × Meant (Some p) × (found capture p slots ≡ Some a) × (length p ≤ turns)
+    of None meant leads short = cc
+    of (Some p) meant leads short = (p, meant, leads, short)
+
+-- the first path ends with it
+pub found-some : {edges : Pair → List Pair} {starts : List Pair} {P : Pair → Type 0} {capture : Pair → Option ℕ}
+    {slots : Slots} {turns : ℕ} {a : Pair × Slots} → IsFoundBy capture slots (IsFirstPath edges starts P) turns (Some a)
+    → (p : List Pair) × (first : IsFirstTo edges starts P p) × (first.end ≡ a.0) × (found capture p slots ≡ Some a)
+    × (length p ≤ turns)
+found-some {capture = capture} {slots} {a = a} h =
+    let f = found-along h in
+    let end = found-end capture f.1.end f.0 slots f.1.path.ends in
+    let both : Some (f.1.end, apply capture f.0 slots) ≡ Some a = sym end ∙ f.2 in
+    let same_end : f.1.end ≡ a.0 = cc in
+    (f.0, f.1, same_end, f.2, f.3)
+
+module _ (space : Space) (resting is_match : Pair → Bool) (slots : Slots) (shape : Scanned space resting is_match) where
+  -- the whole search for any match pair finds the first path
+  pub IsFirstPath-found : (turns : ℕ) (g : Hit)
+      → ExploresTo space is_match turns None [] (map Explore space.starts) slots g
+      → IsFoundBy space.capture slots (IsFirstPath space.edges space.starts (Passes is_match)) turns g
+  IsFirstPath-found turns g answer =
+      let first = IsFirstPath-of_all space.edges space.starts is_match shape.increasing shape.leads_nowhere in
+      elim (Answer-starts space is_match turns space.starts slots g answer) [
+        | inl k ↦ record {
+          path = Some k.0;
+          meant = first (Some k.0) k.1;
+          leads = sym k.2;
+          short = k.3;
+        }
+        | inr k ↦ record {
+          path = None;
+          meant = first None k.0;
+          leads = sym k.1;
+          short = omega arith;
+        }
+      ]
+
+module _ (space : Space) (resting is_match : Pair → Bool) (slots : Slots) (shape : Scanned space resting is_match)
+    {P : Pair → Type 0} (t : Test P) where
+  -- the search for a set of match pairs finds the first path to the set
+  pub first-found : ((x : Pair) → P x → is_match x ≡ true) → (turns : ℕ) (g : Hit)
+      → ExploresTo space t.passes turns None [] (map Explore space.starts) slots g
+      → IsFoundBy space.capture slots (IsFirstPath space.edges space.starts P) turns g
+  first-found matches turns g answer = grind (arith, IsFirstPath-found, first-along)
+
+  -- a set of match pairs at e
+  module _ {e : ℕ} (matches : (x : Pair) → P x → (is_match x ≡ true) × (x.1 ≡ e)) where
+    -- the pairs of the set are before the next position
+    sooner : (x : Pair) → t.passes x ≡ true → x.1 < e + 1
+    sooner x k = let h : x.1 ≡ e = (matches x (t.is x k)).1 in omega arith
+
+    -- and all others at e lead there
+    passed : (a : Pair × Slots) → (resting a.0 ≡ true) × (a.0.1 ≡ e) → (t.passes a.0 ≡ true → ⊥)
+        → Passed space t.passes (e + 1) shape.onward sooner a
+    passed a rest plain =
+        (λ w j. let k : a.0.1 < w.1 = shape.rises a.0 w rest.0 j in omega (arith, rest.1), plain)
+
+    -- what the search finds if its front has one of the pairs
+    pub front-first : (left turns : ℕ) (marks : List Pair) (front : List (Pair × Slots)) (work : List Task)
+        (current : Slots) (a : Pair × Slots)
+        → ((b : Pair × Slots) → In b front → (resting b.0 ≡ true) × (b.0.1 ≡ e))
+        → ((g : Hit) → ExploresAfter space t.passes left front None marks work current g
+        → ExploresTo space t.passes turns None [] (map Explore space.starts) slots g)
+        → FirstMatch t.passes front a
+        → IsFoundBy space.capture slots (IsFirstPath space.edges space.starts P) turns (Some a)
+    front-first left turns marks front work current a rest leads first =
+        let wrote : found space.capture (a.0 ∷ []) a.1 ≡ Some a =
+        rw (shape.writes_nothing a.0 (matches a.0 (t.is a.0 first.matches)).0) refl in
+        let among : (b : Pair × Slots) → In b first.before → In b front =
+        λ b i. rw first.split (In-append_left b first.before (a ∷ first.after) i) in
+        let behind = AnswerBehind-first space t.passes (e + 1) shape.onward sooner left marks work current
+        first.before a first.after (λ b i. passed b (rest b (among b i)) (first.plain b i)) first.matches in
+        first-found (λ x h. (matches x h).0) turns (Some a) (leads (Some a) (rw (first.split, sym wrote) behind))
 
 -- the items of a front
 
@@ -83,156 +167,71 @@ apart : (before : List (Pair × Slots)) (a : Pair × Slots) (after : List (Pair 
     → (b : Pair × Slots) → In b before → b.0 ≡ a.0 → ⊥
 apart [] a after n b i e = i
 apart (c ∷ before) a after n b i e =
-    elim i [
-      | inl here ↦
-          let same_pair : c.0 ≡ a.0 = ap (λ x. x.0) (sym here) ∙ e in
-          n.0 (rw same_pair (In-map (λ (b : Pair × Slots). b.0) a (before ++ a ∷ after)
-          (In-append_right a before (a ∷ after) (inl refl))))
-      | inr later ↦ apart before a after n.1 b later e
-    ]
+    let among = In-map (λ (b : Pair × Slots). b.0) a (before ++ a ∷ after) (In-middle before a after) in
+    grind (arith, among, apart before a after n.1 b)
 
--- the first item of a pair
-record Holds (m : Pair) (front : List (Pair × Slots)) : Type 0 where
-  before : List (Pair × Slots)
-  item : Pair × Slots
-  after : List (Pair × Slots)
-  split : front ≡ before ++ item ∷ after
-  plain : (b : Pair × Slots) → In b before → b.0 ≡ m → ⊥
-  is : item.0 ≡ m
+-- the first match pair of a front is in it
+FirstMatch-in : {is_match : Pair → Bool} {front : List (Pair × Slots)} {a : Pair × Slots} → FirstMatch is_match front a
+    → In a front
+FirstMatch-in {a = a} h = rw h.split (In-middle h.before a h.after)
 
--- an item of the pair, or that there is none
-find : (m : Pair) (front : List (Pair × Slots)) → Holds m front ⊎ ((b : Pair × Slots) → In b front → b.0 ≡ m → ⊥)
-find m [] = inr (λ b i. absurd i)
-find m (a ∷ front) =
-    elim (same a.0 m) [
-      | inl e ↦ inl (record { before = []; item = a; after = front; split = refl; plain = λ b i. absurd i; is = e })
-      | inr n ↦
-          elim (find m front) [
-            | inl r ↦ inl (record {
-              before = a ∷ r.before;
-              item = r.item;
-              after = r.after;
-              split = ap (λ x. a ∷ x) r.split;
-              plain = λ b i e. elim i [ inl here ↦ n (rw here at e) | inr j ↦ r.plain b j e ];
-              is = r.is;
-            })
-            | inr none ↦ inr (λ b i e. elim i [ inl here ↦ n (rw here at e) | inr j ↦ none b j e ])
-          ]
-    ]
-
-module _ (space : Space) (resting is_match : Pair → Bool) (slots : Slots) (turns : ℕ) where
-  module _ (shape : Scanned space resting is_match) {front : List (Pair × Slots)} {e : ℕ}
-      (f : IsFrontier space resting is_match slots turns front e)
-      (P : Pair → Type 0) (d : Tested P) (matches : (x : Pair) → P x → (is_match x ≡ true) × (x.1 ≡ e)) where
-    -- the set as a test
-    target : Pair → Bool
-    target x = test (d x)
-
-    -- a target is in the set
-    is_target : (x : Pair) → target x ≡ true → P x
-    unfolding target
-    is_target x = test-true (d x)
-
-    -- what is in the set is a target
-    target_is : (x : Pair) → P x → target x ≡ true
-    unfolding target
-    target_is x = true-test (d x)
-
-    -- targets are match pairs at e
-    at_matches : MatchesAt is_match e target
-    at_matches x t = matches x (is_target x t)
-
-    -- targets lead nowhere
-    stops : (x : Pair) → target x ≡ true → space.edges x ≡ []
-    stops x t = shape.leads_nowhere x (at_matches x t).0
-
-    -- targets are at e
-    at_end : (x : Pair) → target x ≡ true → x.1 ≡ e
-    at_end x t = (at_matches x t).1
-
-    -- the edges of the front's pairs lead past e
-    rising : (a : Pair × Slots) → In a front → (w : Pair) → In w (space.edges a.0) → e < w.1
-    rising a i w j = let r = f.rest a i in rw (← r.1) (shape.rises a.0 w r.0 j)
-
-    -- the front has no pair of the set: no path leads to one
-    pub IsFrontier-none : ((a : Pair × Slots) → In a front → P a.0 → ⊥) → NoPath space.edges space.starts P
-    IsFrontier-none plain m p w t =
-        let leads = f.leads target at_matches in
-        let answer = leads.1 None (AnswerBehind-none space target e shape.onward at_end 0 leads.0 f.waiting
-        f.current f.later front rising
-        (λ a i u. plain a i (is_target a.0 u))) in
-        elim (Answer-starts space target turns space.starts slots None answer) [
-          | inl k ↦ absurd (found-Some space target slots k.1.2.path k.2)
-          | inr k ↦ IsLeast-none space.edges space.starts target stops
-              (IsLeast-from_first space.edges target space.starts shape.increasing None k.0) m p w (target_is m t)
-        ]
-
-    -- the first pair of the set in the front is the end of the first path to a pair of the set
-    pub IsFrontier-first : (before : List (Pair × Slots)) (a : Pair × Slots) (after : List (Pair × Slots))
-        → front ≡ before ++ a ∷ after
-        → ((b : Pair × Slots) → In b before → P b.0 → ⊥) → P a.0
-        → (p : List Pair) × (first : IsFirstTo space.edges space.starts P p) × (first.end ≡ a.0)
-        × (found space.capture p slots ≡ Some a)
-        × (length p ≤ turns)
-    IsFrontier-first before a after split plain t =
-        let leads = f.leads target at_matches in
-        let in_front : (b : Pair × Slots) → In b before
-        → In b front = λ b i. rw split (In-append_left b before (a ∷ after) i) in
-        let behind = AnswerBehind-first space target e shape.onward at_end 0 leads.0 f.waiting f.current
-        f.later before a after
-        (λ b i. rising b (in_front b i)) (λ b i u. plain b i (is_target b.0 u)) (target_is a.0 t) in
-        let answer = leads.1 (found space.capture (a.0 ∷ []) a.1)
-        (grind arith) in
-        let wrote : found space.capture (a.0 ∷ []) a.1 ≡ Some a =
-        rw (shape.writes_nothing a.0 (matches a.0 t).0) refl in
-        elim (Answer-starts space target turns space.starts slots (found space.capture (a.0 ∷ []) a.1) answer) [
-          | inl k ↦
-              let first = IsFirstTo-along space.edges space.starts (λ x. target x ≡ true) P is_target target_is
-              (IsLeast-first space.edges space.starts target stops k.0
-              (IsLeast-from_first space.edges target space.starts shape.increasing (Some k.0) k.1)) in
-              let same_found : found space.capture k.0 slots ≡ Some a = sym k.2 ∙ wrote in
-              let end = found-end space.capture first.end k.0 slots first.path.ends in
-              let both : Some (first.end, apply space.capture k.0 slots) ≡ Some a = sym end ∙ same_found in
-              let same_end : first.end ≡ a.0 = cc in
-              (k.0, first, same_end, same_found, k.3)
-          | inr k ↦ let never : Some a ≡ None = sym wrote ∙ k.1 in cc
-        ]
+-- and the first that is wanted at the position of the front
+pub FirstMatch-at : {is_match : Pair → Bool} {e : ℕ} {front : List (Pair × Slots)} {a : Pair × Slots}
+    (t : Test (WantedAt (Passes is_match) e)) → ((b : Pair × Slots) → In b front → b.0.1 ≡ e)
+    → FirstMatch is_match front a → FirstMatch t.passes front a
+FirstMatch-at {a = a} t at h = grind (arith, FirstMatch-in)
 
 -- what one front says of the paths that end at its position
 
 module _ (space : Space) (resting is_match : Pair → Bool) (slots : Slots) (turns : ℕ)
     (shape : Scanned space resting is_match) {front : List (Pair × Slots)} {e : ℕ}
     (f : IsFrontier space resting is_match slots turns front e) where
+  module _ {P : Pair → Type 0} (t : Test P) (matches : (x : Pair) → P x → (is_match x ≡ true) × (x.1 ≡ e)) where
+    -- the front has no pair of the set: no path leads to one
+    IsFrontier-none : NoMatch t.passes front → NoPath space.edges space.starts P
+    IsFrontier-none none =
+        let leads = f.leads t.passes (λ x k. matches x (t.is x k)) in
+        found-none (first-found space resting is_match slots shape t (λ x h. (matches x h).0) turns None
+        (leads.1 None (AnswerBehind-none space t.passes (e + 1) shape.onward
+        (sooner space resting is_match slots shape t matches) 0 leads.0 f.waiting f.current None front
+        (λ a i. passed space resting is_match slots shape t matches a (f.rest a i) (none a i))
+        (λ k i. let h : e < k.1 = f.later k i in omega arith))))
+
+    -- the first pair of the set in the front is the end of the first path to a pair of the set
+    IsFrontier-first : (a : Pair × Slots) → FirstMatch t.passes front a
+        → (p : List Pair) × (first : IsFirstTo space.edges space.starts P p) × (first.end ≡ a.0)
+        × (found space.capture p slots ≡ Some a) × (length p ≤ turns)
+    IsFrontier-first a first =
+        let leads = f.leads t.passes (λ x k. matches x (t.is x k)) in
+        found-some (front-first space resting is_match slots shape t matches 0 turns leads.0 front f.waiting f.current a
+        f.rest leads.1 first)
+
+  -- the match pairs at e, as a test
+  here : Test (WantedAt (Passes is_match) e)
+  here = tested (tell_at is_match e)
+
   -- they are match pairs at e
   here_matches : (x : Pair) → WantedAt (Passes is_match) e x → (is_match x ≡ true) × (x.1 ≡ e)
   here_matches x h = (h.wanted, h.at)
 
   -- no match pair in the front: no path ends at e
   pub IsFrontier-no_match : NoMatch is_match front → NoPath space.edges space.starts (WantedAt (Passes is_match) e)
-  IsFrontier-no_match none = IsFrontier-none space resting is_match slots turns shape f
-      (WantedAt (Passes is_match) e) (tell_at is_match e) here_matches (λ a i h. none a i h.wanted)
+  IsFrontier-no_match none = IsFrontier-none here here_matches (λ a i k. none a i (here.is a.0 k).wanted)
 
   -- its first match pair is the end of the first path that ends at e
   pub IsFrontier-first_match : (a : Pair × Slots) → FirstMatch is_match front a
       → (p : List Pair) × (first : IsFirstTo space.edges space.starts (WantedAt (Passes is_match) e) p)
       × (first.end ≡ a.0)
       × (found space.capture p slots ≡ Some a) × (length p ≤ turns)
-  IsFrontier-first_match a m =
-      IsFrontier-first space resting is_match slots turns shape f (WantedAt (Passes is_match) e) (tell_at is_match e)
-      here_matches m.before a m.after m.split
-      (λ b i h. m.plain b i h.wanted) (record {
-        wanted = m.matches;
-        at =
-            (f.rest a (rw m.split (In-append_right a m.before (a ∷ m.after) (inl refl)))).1;
-      })
+  IsFrontier-first_match a m = IsFrontier-first here here_matches a (FirstMatch-at here (λ b i. (f.rest b i).1) m)
 
-  -- whether a pair is this one
-  one : (m : Pair) → Tested (λ x. x ≡ m)
-  one m x = same x m
+  -- one pair, as a test
+  one : (m : Pair) → Test (λ x. x ≡ m)
+  one m = tested (λ x. same x m)
 
-  -- whether a pair is one of two
-  two : (m n : Pair) → Tested (λ x. (x ≡ m) ⊎ (x ≡ n))
-  two m n x = grind arith
+  -- two pairs
+  two : (m n : Pair) → Test (λ x. (x ≡ m) ⊎ (x ≡ n))
+  two m n = tested (λ x. grind arith)
 
   -- a pair that is one wanted at e is a match pair at e
   here_at : (m : Pair) → WantedAt (Passes is_match) e m → (x : Pair) → x ≡ m → (is_match x ≡ true) × (x.1 ≡ e)
@@ -247,32 +246,27 @@ module _ (space : Space) (resting is_match : Pair → Bool) (slots : Slots) (tur
       → ((p : List Pair) × PathTo space.edges space.starts m p) ↔ ((a : Pair × Slots) × In a front × (a.0 ≡ m))
   IsFrontier-pairs m h = (
     λ w.
-        elim (find m front) [
-          | inl r ↦ (r.item, rw r.split (In-append_right r.item r.before (r.item ∷ r.after) (inl refl)), r.is)
-          | inr none ↦ absurd (IsFrontier-none space resting is_match slots turns shape f (λ x. x ≡ m)
-              (one m) (here_at m h) none m w.0 w.1 refl)
+        elim (first_match-is (one m).passes front) [
+          | inl none ↦ absurd (IsFrontier-none (one m) (here_at m h) none.1 m w.0 w.1 refl)
+          | inr some ↦ (some.0, FirstMatch-in some.2, (one m).is some.0.0 some.2.matches)
         ],
     λ i.
-        elim (find m front) [
-          | inl r ↦
-              let first = IsFrontier-first space resting is_match slots turns shape f (λ x. x ≡ m) (one m)
-              (here_at m h) r.before r.item r.after r.split r.plain r.is in
+        elim (first_match-is (one m).passes front) [
+          | inl none ↦ absurd (none.1 i.0 i.1 ((one m).of i.0.0 i.2))
+          | inr some ↦
+              let first = IsFrontier-first (one m) (here_at m h) some.0 some.2 in
               (first.0, rw first.1.wanted at first.1.path)
-          | inr none ↦ absurd (none i.0 i.1 i.2)
         ],
   )
 
   -- the first path to a pair that comes before another in the front comes before every path to the other
-  IsFrontier-order : (before : List (Pair × Slots)) (b : Pair × Slots) (after : List (Pair × Slots))
-      → front ≡ before ++ b ∷ after
-      → (m n : Pair) → WantedAt (Passes is_match) e m → WantedAt (Passes is_match) e n → b.0 ≡ m
-      → ((c : Pair × Slots) → In c before → c.0 ≡ m → ⊥) → ((c : Pair × Slots) → In c before → c.0 ≡ n → ⊥)
+  IsFrontier-order : (m n : Pair) → WantedAt (Passes is_match) e m → WantedAt (Passes is_match) e n
+      → (b : Pair × Slots) → FirstMatch (two m n).passes front b → b.0 ≡ m
       → (p : List Pair) → IsFirstTo space.edges space.starts (λ x. x ≡ m) p → (q : List Pair)
       → PathTo space.edges space.starts n q → (q ≡ p) ⊎ ComesBefore space.edges p q
-  IsFrontier-order before b after split m n h k eq not_m not_n p first q w =
-      let found_first = IsFrontier-first space resting is_match slots turns shape f (λ x. (x ≡ m) ⊎ (x ≡ n)) (two m n)
-      (λ x s. elim s [ inl y ↦ here_at m h x y | inr y ↦ here_at n k x y ]) before b after split
-      (λ c i s. elim s [ inl y ↦ not_m c i y | inr y ↦ not_n c i y ]) (inl eq) in
+  IsFrontier-order m n h k b in_front eq p first q w =
+      let found_first = IsFrontier-first (two m n)
+      (λ x s. elim s [ inl y ↦ here_at m h x y | inr y ↦ here_at n k x y ]) b in_front in
       let both = found_first.1 in
       let to_m : IsFirstTo space.edges space.starts (λ x. x ≡ m) found_first.0 =
       record {
@@ -298,22 +292,29 @@ module _ (space : Space) (resting is_match : Pair → Bool) (slots : Slots) (tur
         | inl eq ↦ inl (IsFirstTo-unique space.edges space.starts (λ x. x ≡ a.0) q p
             (subst (λ y. IsFirstTo space.edges space.starts (λ x. x ≡ y) q) eq k) first)
         | inr other ↦
-            elim (find m l.before) [
-              | inl r ↦
-                  let joined : front ≡ r.before ++ r.item ∷ (r.after ++ a ∷ l.after) =
-                  (grind (arith, append_assoc)) in
-                  elim (IsFrontier-order r.before r.item (r.after ++ a ∷ l.after) joined m a.0 h
-                  (item_here a (rw l.split (In-append_right a l.before (a ∷ l.after) (inl refl))) l.matches)
-                  r.is r.plain (λ c i. before_a c (rw r.split (In-append_left c r.before (r.item ∷ r.after) i))) q k p
-                  (rw first.wanted at first.path)) [
-                    | inl eq ↦ inl (sym eq)
-                    | inr c ↦ inr c
-                  ]
-              | inr none ↦
+            elim (first_match-is (one m).passes l.before) [
+              | inl none ↦
                   let i = (IsFrontier-pairs m h).0 (q, rw k.wanted at k.path) in
                   elim (In-append i.0 l.before (a ∷ l.after) (subst (λ x. In i.0 x) l.split i.1)) [
-                    | inl j ↦ absurd (none i.0 j i.2)
+                    | inl j ↦ absurd (none.1 i.0 j ((one m).of i.0.0 i.2))
                     | inr j ↦ grind arith
+                  ]
+              | inr some ↦
+                  let r = some.2 in
+                  let is_m = (one m).is some.0.0 r.matches in
+                  let item = item_here a (rw l.split (In-middle l.before a l.after)) l.matches in
+                  elim (IsFrontier-order m a.0 h item some.0 (record {
+                    before = r.before;
+                    after = r.after ++ a ∷ l.after;
+                    split = grind (arith, append_assoc);
+                    plain = λ c i t. elim ((two m a.0).is c.0 t) [
+                      | inl e ↦ r.plain c i ((one m).of c.0 e)
+                      | inr e ↦ before_a c (rw r.split (In-append_left c r.before (some.0 ∷ r.after) i)) e
+                    ];
+                    matches = (two m a.0).of some.0.0 (inl is_m);
+                  }) is_m q k p (rw first.wanted at first.path)) [
+                    | inl eq ↦ inl (sym eq)
+                    | inr c ↦ inr c
                   ]
             ]
       ]
@@ -323,12 +324,17 @@ module _ (space : Space) (resting is_match : Pair → Bool) (slots : Slots) (tur
       → (p : List Pair) × (last : IsLastOfFirsts space.edges space.starts (Passes is_match) e p) × (last.end ≡ a.0)
       × (found space.capture p slots ≡ Some a) × (length p ≤ turns)
   IsFrontier-last_match a l =
-      let in_front : In a front = rw l.split (In-append_right a l.before (a ∷ l.after) (inl refl)) in
+      let in_front : In a front = rw l.split (In-middle l.before a l.after) in
       let wanted = item_here a in_front l.matches in
       let before_a : (b : Pair × Slots) → In b l.before → b.0 ≡ a.0
       → ⊥ = apart l.before a l.after (subst (λ x. NoRepeats (map (λ (c : Pair × Slots). c.0) x)) l.split f.once) in
-      let first = IsFrontier-first space resting is_match slots turns shape f (λ x. x ≡ a.0) (one a.0)
-      (here_at a.0 wanted) l.before a l.after l.split before_a refl in (
+      let first = IsFrontier-first (one a.0) (here_at a.0 wanted) a (record {
+        before = l.before;
+        after = l.after;
+        split = l.split;
+        plain = λ b i t. before_a b i ((one a.0).is b.0 t);
+        matches = (one a.0).of a.0 refl;
+      }) in (
         first.0,
         record {
           end = a.0;

@@ -1,8 +1,6 @@
 -- A match that one search found is the match of each such search, and is there to be found.
-use Rattle.std.proofs.Common.{◌≡◌, Bool, List, Option, Some, subst, refl, arith}
-use Rattle.std.specs.Option.{option_and_then}
-use Rattle.nfa_paths.specs.Common.{Found, slot_count, Search, match_of, MatchKind, Automaton, Pair, slot_row, path_pattern, IsFindAnswer}
-use Rattle.nfa_paths.specs.Known.{IsSureMatch}
+use Rattle.nfa_paths.proofs.Common.{◌≡◌, Bool, List, Option, Some, subst, refl, arith, option_and_then, Found, slot_count, Search, match_of, MatchKind, Automaton, Pair, slot_row, path_pattern, IsFindAnswer}
+use Rattle.nfa_paths.specs.Paths.{IsSureMatch}
 use Rattle.nfa_paths.proofs.AnswerLemmas.{search_answer-unique}
 use Rattle.nfa_paths.proofs.ExistenceLemmas.{search_answer-exists}
 

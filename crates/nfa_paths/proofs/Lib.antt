@@ -1,3 +1,4 @@
+pub mod Common
 pub mod PathLemmas
 pub mod PathToLemmas
 pub mod SearchLemmas

@@ -1,6 +1,5 @@
 -- Elements of lists.
-use Rattle.std.proofs.Common.{◌⊎◌, inl, inr, suc, List, [], ◌∷◌, ◌++◌, map, refl, sym, ap, subst, arith, All}
-use Rattle.nfa_paths.specs.Common.{In}
+use Rattle.nfa_paths.proofs.Common.{◌⊎◌, inl, inr, suc, List, [], ◌∷◌, ◌++◌, map, refl, sym, ap, subst, arith, All, In}
 
 -- the elements of the first of two lists
 pub In-append_left : {A : Type 0} (x : A) (xs ys : List A) → In x xs → In x (xs ++ ys)

@@ -1,40 +1,15 @@
 -- The first path that ends before a limit, as a search that drops what is after a match finds it, and the set of the
 -- patterns of such paths.
-use Rattle.std.proofs.Common.{◌≡◌, ℕ, ◌+◌, ◌<◌, ◌≤◌, ◌↔◌, ◌∙◌, inl, inr, Bool, true, List, [], ◌∷◌, map, length, refl, sym, ap, subst, arith, rules, Option, None, Some}
-use Rattle.std.proofs.lemmas.Bool.{cases_lt}
-use Rattle.regex_search_core.specs.PatternSets.{with_pattern, size_of_set}
-use Rattle.nfa_paths.specs.Common.{Search, Automaton, Pair, In, Space, NoPath, IsFirstTo, IsFirstPath, Path, Slots, Hit, Task, ExploresTo, Passes, WantedBefore, found_along, first_match, before_match, is_resting, space, capture, edges, starts, last_of, path_pattern, HoldsPattern, IsFirstBefore, IsInsertable, pattern_at}
-use Rattle.nfa_paths.specs.FirstPaths.Path.{stop, go}
-use Rattle.nfa_paths.specs.Exploring.Task.{Explore, Restore, Load}
-use Rattle.nfa_paths.proofs.AnswerLemmas.{same_parts}
+use Rattle.nfa_paths.proofs.Common.{◌≡◌, ℕ, ◌+◌, ◌<◌, ◌≤◌, ◌↔◌, ◌∙◌, inl, inr, Bool, true, List, [], ◌∷◌, map, length, refl, sym, ap, subst, arith, rules, None, Some, cases_lt, with_pattern, size_of_set, Search, Automaton, Pair, In, NoPath, IsFirstTo, IsFirstPath, Slots, Hit, ExploresTo, IsFoundBy, Passes, WantedBefore, first_match, before_match, is_resting, space, capture, edges, starts, last_of, path_pattern, HoldsPattern, IsFirstBefore, IsInsertable, pattern_at, Explore}
 use Rattle.nfa_paths.proofs.GainLemmas.{wanted-shape}
-use Rattle.nfa_paths.proofs.PathToLemmas.{EndsWith-last, found-end, IsFirstTo-along, IsFirstTo-unique}
-use Rattle.nfa_paths.proofs.ScanAnswerLemmas.{Scanned-matches, starts-from}
-use Rattle.nfa_paths.proofs.ScanLemmas.{IsFirstPath-found, NoneBefore-start}
+use Rattle.nfa_paths.proofs.PathToLemmas.{EndsWith-last, IsFirstTo-unique}
+use Rattle.nfa_paths.proofs.ScanAnswerLemmas.{starts-from}
+use Rattle.nfa_paths.proofs.ScanLemmas.{NoneBefore-start}
 use Rattle.nfa_paths.proofs.SetLemmas.{holds-with, size-none}
-use Rattle.nfa_paths.proofs.TestLemmas.{Tested, test, test-true, true-test, same_test}
+use Rattle.nfa_paths.proofs.TestLemmas.{Test, tested, same_test}
+use Rattle.nfa_paths.proofs.AlongLemmas.{before-along, first-along}
+use Rattle.nfa_paths.proofs.KindsLemmas.{first-found, found-none, found-some}
 use Rattle.nfa_paths.proofs.PatternLemmas.{ends-pattern}
-
--- work ahead of all targets finds nothing
-module _ (space : Space) (target : Pair → Bool) (e : ℕ)
-    (onward : (x y : Pair) → In y (space.edges x) → x.1 ≤ y.1) (before : (x : Pair) → target x ≡ true → x.1 < e) where
-  Path-ahead : {v : Pair} {p : List Pair} → Path space.edges target v p → e ≤ v.1 → ⊥
-  Path-ahead (stop {v = v} t) l = let k : v.1 < e = before v t in omega arith
-  Path-ahead (go {v = v} {w = w} t i n h) l = let k : v.1 ≤ w.1 = onward v w i in Path-ahead h (omega arith)
-
-  pub Answer-ahead : (left : ℕ) (otherwise : Hit) (marks : List Pair) (work : List Task) (slots : Slots)
-      → ((k : Pair) → In (Explore k) work → e ≤ k.1) → ExploresTo space target left otherwise marks work slots otherwise
-  unfolding ExploresTo
-  Answer-ahead left otherwise marks [] slots ahead = refl
-  Answer-ahead left otherwise marks (Explore v ∷ rest) slots ahead =
-      inr (
-        λ p a. Path-ahead a.path (ahead v (inl refl)),
-        Answer-ahead left otherwise marks rest slots (λ k i. ahead k (inr i)),
-      )
-  Answer-ahead left otherwise marks (Restore k old ∷ rest) slots ahead =
-      Answer-ahead left otherwise marks rest _ (λ k i. ahead k (inr i))
-  Answer-ahead left otherwise marks (Load old ∷ rest) slots ahead =
-      Answer-ahead left otherwise marks rest old (λ k i. ahead k (inr i))
 
 -- tests that say the same of a front
 
@@ -64,22 +39,17 @@ Between-same {wants} {target} {e} b v at = same_test (target v) (wants v) (b.sub
 
 -- what is wanted before e, as a test
 module _ (wants : Pair → Bool) (e : ℕ) where
-  tell_before : Tested (WantedBefore (Passes wants) e)
-  tell_before v = grind arith
+  pub tells_before : Test (WantedBefore (Passes wants) e)
+  tells_before = tested (λ v. grind arith)
 
-  pub before_target : Pair → Bool
-  before_target v = test (tell_before v)
+  abbrev pub before_target : Pair → Bool
+  before_target = tells_before.passes
 
   pub before_is : (v : Pair) → before_target v ≡ true → WantedBefore (Passes wants) e v
-  unfolding before_target
-  before_is v = test-true (tell_before v)
-
-  pub is_before : (v : Pair) → WantedBefore (Passes wants) e v → before_target v ≡ true
-  unfolding before_target
-  is_before v = true-test (tell_before v)
+  before_is = tells_before.is
 
   pub Between-before : (d : ℕ) → d ≤ e → Between wants d before_target
-  Between-before d less = grind (arith, before_is, is_before)
+  Between-before d less = grind (arith, before_is)
 
 -- The set before is `old`: wanted is what it has room for.
 module _ (nfa : Automaton) (x : Search) (old : List Bool) (wants : Pair → Bool)
@@ -89,14 +59,13 @@ module _ (nfa : Automaton) (x : Search) (old : List Bool) (wants : Pair → Bool
   First limit p = IsFirstTo (edges nfa x) (starts nfa x) (WantedBefore (Passes wants) limit) p
 
   First-held : (limit : ℕ) (p : List Pair) → First limit p
-      → IsFirstTo (edges nfa x) (starts nfa x) (WantedBefore (IsInsertable nfa x (length old)) limit) p
-  First-held limit p = search (rules, IsFirstTo-along)
-
-  held-First : (limit : ℕ) (p : List Pair)
-      → IsFirstTo (edges nfa x) (starts nfa x) (WantedBefore (IsInsertable nfa x (length old)) limit) p → First limit p
-  held-First limit p = IsFirstTo-along (edges nfa x) (starts nfa x) _ _
-      (λ v w. record { wanted = (tells v).1 w.wanted; before = w.before })
-      (λ v w. record { wanted = (tells v).0 w.wanted; before = w.before })
+      ↔ IsFirstTo (edges nfa x) (starts nfa x) (WantedBefore (IsInsertable nfa x (length old)) limit) p
+  First-held limit p =
+      let to = before-along (λ v. (tells v).0) limit in
+      let back = before-along (λ v. (tells v).1) limit in (
+        first-along (edges nfa x) (starts nfa x) to back (Some p),
+        first-along (edges nfa x) (starts nfa x) back to (Some p),
+      )
 
   -- what was found is the end of the first path before the limit, or there is none
   abbrev pub Best : ℕ → Hit → Type 0
@@ -108,20 +77,14 @@ module _ (nfa : Automaton) (x : Search) (old : List Bool) (wants : Pair → Bool
       → ExploresTo (space nfa x) (before_target wants limit) turns None [] (map Explore (starts nfa x)) slots g
       → Best limit g
   Best-found limit turns slots g answer =
-      let h = IsFirstPath-found (space nfa x) (is_resting nfa) (before_target wants limit) slots
-      (Scanned-matches nfa x (before_target wants limit)
-      (λ v t. ((tells v).0 (before_is wants limit v t).wanted).permitted.matches)) turns g answer in
-      of g h.path h.meant h.leads
+      of g (first-found (space nfa x) (is_resting nfa) wants slots (wanted-shape nfa x old wants tells)
+      (tells_before wants limit) (λ v w. w.wanted) turns g answer)
     where
-      of : (g : Hit) (o : Option (List Pair))
-          → IsFirstPath (edges nfa x) (starts nfa x) (Passes (before_target wants limit)) o
-          → found_along (capture nfa) o slots ≡ g → Best limit g
-      of None None none is = λ m p w h. none m p w (is_before wants limit m h)
-      of (Some a) None none is = cc
-      of None (Some p) first is =
-          (grind (arith, found-end))
-      of (Some a) (Some p) first is =
-          search (rules, EndsWith-last, IsFirstTo-along, before_is, found-end, is_before, same_parts)
+      of : (g : Hit)
+          → IsFoundBy (capture nfa) slots (IsFirstPath (edges nfa x) (starts nfa x) (WantedBefore (Passes wants) limit))
+          turns g
+          → Best limit g
+      of = grind (arith, found-none, found-some, EndsWith-last)
 
   Best-start : Best x.start None
   Best-start = NoneBefore-start (space nfa x) (is_resting nfa) wants [] (wanted-shape nfa x old wants tells) x.start
@@ -184,7 +147,7 @@ module _ (nfa : Automaton) (x : Search) (old : List Bool) (wants : Pair → Bool
           | inr here ↦ record {
             limit = e + 1;
             along = best.0;
-            first = First-held (e + 1) best.0 best.1;
+            first = (First-held (e + 1) best.0).0 best.1;
             pattern_is = Best-pattern (e + 1) a best best.0 best.1 ∙ pattern_is ∙ ap Some here.1;
           }
         ];
@@ -206,7 +169,7 @@ module _ (nfa : Automaton) (x : Search) (old : List Bool) (wants : Pair → Bool
     λ held. rw size (h.sound k held),
     λ met.
         let first : IsFirstBefore nfa x (length old) k = rw size at met in
-        let p = held-First first.limit first.along first.first in
+        let p = (First-held first.limit first.along).1 first.first in
         elim (cases_lt first.limit e) [
           | inl less ↦ h.complete first.limit (omega arith) first.along p k first.pattern_is
           | inr more ↦ Exact-later h first.limit (over first.limit more) first.along p k first.pattern_is

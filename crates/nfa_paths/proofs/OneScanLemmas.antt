@@ -1,7 +1,6 @@
 -- What a search answers, from its scans: the last one, and the only one if a match may end anywhere. The match of a
 -- search is what its answer for all slots gives.
-use Rattle.std.proofs.Common.{◌≡◌, ◌∙◌, ℕ, inl, Bool, true, false, MatchBool, List, length, refl, ap, sym, subst, arith, Option, None, Some, option_and_then}
-use Rattle.nfa_paths.specs.Common.{Found, slot_count, Search, is_anchored, match_of, MatchKind, Automaton, Pair, is_utf8_empty, path_pattern, raised, slot_row, EndsOnBoundary, IsAnswer, IsFindAnswer, IsKeptAnswer, IsRestartedAnswer, IsScanAnswer, IsSearchAnswer, IsWhole}
+use Rattle.nfa_paths.proofs.Common.{◌≡◌, ◌∙◌, ℕ, ◌<◌, Bool, true, false, MatchBool, List, length, refl, ap, sym, subst, arith, Option, None, Some, option_and_then, Found, slot_count, Search, is_anchored, match_of, MatchKind, Automaton, Pair, is_utf8_empty, path_pattern, raised, slot_row, EndsOnBoundary, IsAnswer, IsFindAnswer, IsKeptAnswer, IsRestartedAnswer, IsScanAnswer, IsSearchAnswer, IsWhole, SplitsCharacter}
 use Rattle.nfa_paths.proofs.PatternLemmas.{length-slot_row}
 use Rattle.nfa_paths.proofs.StartLemmas.{raised-zero}
 
@@ -24,30 +23,30 @@ module _ (nfa : Automaton) (kind : MatchKind) (earliest : Bool) (x : Search) whe
           → MatchBool u (MatchBool a ((restarts ≡ 0) × IsKeptAnswer nfa kind earliest x (Some p))
           (IsRestartedAnswer nfa kind earliest x restarts (Some p)))
           ((restarts ≡ 0) × IsScanAnswer nfa x kind earliest (Some p)) → LastScan restarts p
-      of true true u a h = record { scan = here h.0 h.1.0; whole = λ t. h.1.1; only = λ t. h.1.0 }
-      of true false u a h = record { scan = h.answers; whole = λ t. h.whole; only = λ t. cc }
-      of false b u a h = record { scan = here h.0 h.1; whole = λ t. cc; only = λ t. h.1 }
+      of = grind (arith, here)
+
+  -- An answer of the scan after these restarts, each after a scan that splits a codepoint, is that of the search if it
+  -- is whole or need not be.
+  pub settled-scan : (n : ℕ) (r : Option (List Pair))
+      → ((i : ℕ) → i < n → SplitsCharacter nfa kind earliest (raised x i))
+      → (0 < n → (is_utf8_empty nfa ≡ true) × (is_anchored x.anchored ≡ false))
+      → IsScanAnswer nfa (raised x n) kind earliest r → (is_utf8_empty nfa ≡ true → IsWhole x r)
+      → IsSearchAnswer nfa kind earliest x n r
+  settled-scan n r skipped free scan whole = of (is_utf8_empty nfa) (is_anchored x.anchored) refl refl
+    where
+      first : n ≡ 0 → IsScanAnswer nfa x kind earliest r
+      first none = subst (λ z. IsScanAnswer nfa z kind earliest r) (raised-zero x) (rw none at scan)
+
+      of : (utf8 anchored : Bool) → is_utf8_empty nfa ≡ utf8 → is_anchored x.anchored ≡ anchored
+          → MatchBool utf8 (MatchBool anchored ((n ≡ 0) × IsKeptAnswer nfa kind earliest x r)
+          (IsRestartedAnswer nfa kind earliest x n r)) ((n ≡ 0) × IsScanAnswer nfa x kind earliest r)
+      of = grind (arith, first)
 
   -- a scan whose path is whole, if it has to be, answers its search
   pub first-scan : (r : Option (List Pair)) → IsScanAnswer nfa x kind earliest r
       → (is_utf8_empty nfa ≡ true → IsWhole x r) → IsSearchAnswer nfa kind earliest x 0 r
-  first-scan r scan = of (is_utf8_empty nfa) (is_anchored x.anchored)
-    where
-      kept : (r : Option (List Pair)) → IsScanAnswer nfa x kind earliest r → IsWhole x r
-          → IsKeptAnswer nfa kind earliest x r
-      kept None scan whole = inl scan
-      kept (Some p) scan whole = (scan, whole)
-
-      of : (u a : Bool) → (u ≡ true → IsWhole x r)
-          → MatchBool u (MatchBool a ((◌≡◌ {A = ℕ} 0 0) × IsKeptAnswer nfa kind earliest x r)
-          (IsRestartedAnswer nfa kind earliest x 0 r)) ((◌≡◌ {A = ℕ} 0 0) × IsScanAnswer nfa x kind earliest r)
-      of true true whole = (refl, kept r scan (whole refl))
-      of true false whole = record {
-        skipped = λ i less. absurd (omega (arith, less));
-        answers = rw (raised-zero x) scan;
-        whole = whole refl;
-      }
-      of false a whole = (refl, scan)
+  first-scan r scan = settled-scan 0 r (λ i less. absurd (omega arith)) (λ less. absurd (omega arith))
+      (rw (raised-zero x) scan)
 
   module _ (anywhere : is_utf8_empty nfa ≡ false) where
     -- if a match may end anywhere, the answer of a search is that of its scan
@@ -71,14 +70,7 @@ module _ (nfa : Automaton) (kind : MatchKind) (earliest : Bool) (x : Search) whe
 
   pub has-path : (pattern : ℕ) (slots : List (Option ℕ)) → IsAnswer nfa kind earliest x (Some pattern) slots
       → HasPath pattern slots
-  has-path pattern slots h = of h.path h.answers h.pattern_is h.slots_are
-    where
-      of : (r : Option (List Pair)) → IsSearchAnswer nfa kind earliest x h.restarts r
-          → Some pattern ≡ option_and_then (path_pattern nfa) r → slots ≡ slot_row nfa (length slots) r
-          → HasPath pattern slots
-      of None answers is row = cc
-      of (Some p) answers is row =
-          record { restarts = h.restarts; path = p; answers = answers; pattern_is = is; slots_are = row }
+  has-path pattern slots h = grind arith
 
   -- the answer of a search for all slots, which gives the match
   pub record GivesMatch (found : Option Found) : Type 0 where
@@ -108,14 +100,7 @@ module _ (nfa : Automaton) (kind : MatchKind) (earliest : Bool) (x : Search) whe
 
   pub given : (pattern : Option ℕ) (slots : List (Option ℕ)) → length slots ≡ slot_count nfa.groups
       → IsAnswer nfa kind earliest x pattern slots → IsFindAnswer nfa kind earliest x (match_of pattern slots)
-  given pattern slots count a = record {
-    restarts = a.restarts;
-    path = a.path;
-    answers = a.answers;
-    found_is = ap (λ (o : Option ℕ). match_of o slots) a.pattern_is
-        ∙ ap (λ (s : List (Option ℕ)). match_of (option_and_then (path_pattern nfa) a.path) s)
-        (a.slots_are ∙ ap (λ (c : ℕ). slot_row nfa c a.path) count);
-  }
+  given pattern slots count a = grind arith
 
 -- a search that has the answers of another has its matches
 pub match-by : {n m : Automaton} {kind : MatchKind} {earliest : Bool} {x y : Search} {found : Found}

@@ -1,8 +1,5 @@
 -- The first accepting path, and what marks change of it.
-use Rattle.std.proofs.Common.{◌≡◌, ◌<◌, ◌⊎◌, inl, inr, ◌↔◌, Bool, true, false, List, [], ◌∷◌, refl, sym, subst, arith, Option, None, Some}
-use Rattle.std.specs.Option.{option_map}
-use Rattle.nfa_paths.specs.Common.{Pair, In, Earlier, BeforeAfter, Before, Path, Accepts, IsFirst, FirstAmong, IsFirstOfAll, Increasing, IsLeast, HeadIs, NoRepeats, Linked, StopsAtTarget}
-use Rattle.nfa_paths.specs.FirstPaths.Path.{stop, go}
+use Rattle.nfa_paths.proofs.Common.{◌≡◌, ◌<◌, ◌⊎◌, inl, inr, ◌↔◌, Bool, true, false, List, [], ◌∷◌, refl, arith, Option, None, Some, option_map, Pair, In, Earlier, BeforeAfter, Before, Path, Accepts, IsFirst, FirstAmong, IsFirstOfAll, Increasing, HeadIs, NoRepeats, Linked, StopsAtTarget, stop, go}
 
 -- two pairs are one, or they differ
 pub same : (a b : Pair) → (a ≡ b) ⊎ ¬ (a ≡ b)
@@ -28,9 +25,7 @@ Earlier-total (e ∷ es) a b apart i j = grind (arith, Earlier-total es a b apar
 -- what comes earlier in an ascending list is at a smaller position
 pub Earlier-increasing : (es : List Pair) (a b : Pair) → Increasing es → Earlier es a b → In b es → a.1 < b.1
 Earlier-increasing [] a b rise h i = absurd i
-Earlier-increasing (e ∷ es) a b rise h (inl here) = absurd (h.0 (sym here))
-Earlier-increasing (e ∷ es) a b rise h (inr later) =
-    elim h.1 [ inl first ↦ rw (← first) (rise.0 b later) | inr after ↦ Earlier-increasing es a b rise.1 after later ]
+Earlier-increasing (e ∷ es) a b rise h i = grind (arith, Earlier-increasing es a b)
 
 module _ (edges : Pair → List Pair) where
   -- of two lists that follow a pair, only one comes before the other
@@ -41,18 +36,14 @@ module _ (edges : Pair → List Pair) where
 
   -- of two lists, only one comes before the other
   pub Before-asymmetric : (p q : List Pair) → Before edges p q → Before edges q p → ⊥
-  Before-asymmetric [] q h k = h
-  Before-asymmetric (x ∷ p) [] h k = h
-  Before-asymmetric (x ∷ p) (y ∷ q) h k =
-      BeforeAfter-asymmetric x p q h.1 (subst (λ z. BeforeAfter edges z q p) (sym h.0) k.1)
+  Before-asymmetric = grind (arith, BeforeAfter-asymmetric)
 
 module _ (edges : Pair → List Pair) (target : Pair → Bool) where
   -- paths
 
   -- a path holds its first pair
-  Path-head : {v : Pair} {p : List Pair} → Path edges target v p → In v p
-  Path-head (stop t) = inl refl
-  Path-head (go t e n h) = inl refl
+  pub Path-head : {v : Pair} {p : List Pair} → Path edges target v p → In v p
+  Path-head = grind arith
 
   -- each pair of a path has a path of its own in it
   Path-suffix : {u v : Pair} {p : List Pair} → Path edges target v p → In u p
@@ -67,9 +58,8 @@ module _ (edges : Pair → List Pair) (target : Pair → Bool) where
   -- a path in plain words
   Path-words : {v : Pair} {p : List Pair} → Path edges target v p → HeadIs v p × NoRepeats p × Linked edges p
       × StopsAtTarget target p
-  Path-words (stop t) = (refl, (λ i. i, tt), tt, t)
-  Path-words (go t e n (stop u)) = let r = Path-words (stop u) in (refl, (n, r.1), (e, r.2), (t, r.3))
-  Path-words (go t e n (go u f m h)) = let r = Path-words (go u f m h) in (refl, (n, r.1), (e, r.2), (t, r.3))
+  Path-words (stop t) = grind arith
+  Path-words (go t e n h) = let r = Path-words h in grind arith
 
   -- a list that the plain words describe is a path
   Path-from_words : (v : Pair) (p : List Pair) → HeadIs v p → NoRepeats p → Linked edges p → StopsAtTarget target p
@@ -86,10 +76,7 @@ module _ (edges : Pair → List Pair) (target : Pair → Bool) where
   -- the order of two paths after v
   Before-cons : {v w x : Pair} {p q : List Pair} → Path edges target w p → Path edges target x q
       → Earlier (edges v) w x ⊎ Before edges p q → Before edges (v ∷ p) (v ∷ q)
-  Before-cons (stop t) (stop u) h = (refl, h)
-  Before-cons (stop t) (go u e n k) h = (refl, h)
-  Before-cons (go t e n k) (stop u) h = (refl, h)
-  Before-cons (go t e n k) (go u f m l) h = (refl, h)
+  Before-cons = grind arith
 
   -- of two paths from one pair, one is before the other
   pub Before-total : {v : Pair} {p q : List Pair} → Path edges target v p → Path edges target v q
@@ -102,10 +89,6 @@ module _ (edges : Pair → List Pair) (target : Pair → Bool) where
         | inl eq ↦ grind (arith, Before-total k (rw (← eq) at l))
         | inr apart ↦ grind (arith, Before-cons, Earlier-total)
       ]
-
-  -- a marked pair has no path
-  pub IsFirst-marked : (marks : List Pair) (v : Pair) → In v marks → IsFirst edges target marks v None
-  IsFirst-marked marks v m p a = a.clear v (Path-head a.path) m
 
   -- a pair with no edge that is not a target, marked or not
   pub IsFirst-dead : (marks : List Pair) (v : Pair) → target v ≡ false → edges v ≡ []
@@ -132,12 +115,8 @@ module _ (edges : Pair → List Pair) (target : Pair → Bool) where
   -- the first that is found among several starts is the first of all
   pub IsFirstOfAll-from_among : (marks es : List Pair) (r : Option (List Pair)) → FirstAmong edges target marks es r
       → IsFirstOfAll edges target marks es r
-  IsFirstOfAll-from_among marks [] None e = λ d i. absurd i
-  IsFirstOfAll-from_among marks [] (Some p) e = cc
-  IsFirstOfAll-from_among marks (e ∷ es) r (inl h) = grind arith
-  IsFirstOfAll-from_among marks (e ∷ es) None (inr h) =
-      λ d i. elim i [ inl here ↦ rw here h.0 | inr later ↦ IsFirstOfAll-from_among marks es None h.1 d later ]
-  IsFirstOfAll-from_among marks (e ∷ es) (Some p) (inr h) = grind (arith, IsFirstOfAll-from_among marks es (Some p) h.1)
+  IsFirstOfAll-from_among marks [] r h = grind arith
+  IsFirstOfAll-from_among marks (e ∷ es) r h = grind (arith, IsFirstOfAll-from_among marks es r)
 
   -- one step along the edges of an unmarked pair that is not a target
   module _ (marks : List Pair) (v : Pair) (free : ¬ (In v marks)) (plain : target v ≡ false) where
@@ -165,8 +144,7 @@ module _ (edges : Pair → List Pair) (target : Pair → Bool) where
       → ((p : List Pair) → Accepts edges target m v p → Accepts edges target n v p)
       → ((p : List Pair) → Accepts edges target n v p → Accepts edges target m v p)
       → (r : Option (List Pair)) → IsFirst edges target m v r → IsFirst edges target n v r
-  IsFirst-along m n v to back None f = λ p a. f p (back p a)
-  IsFirst-along m n v to back (Some p) f = (to p f.0, λ q a. f.1 q (back q a))
+  IsFirst-along = grind arith
 
   -- marking a pair that leads to no target changes no other pair's first path
   pub IsFirst-mark : (marks : List Pair) (v : Pair) → IsFirst edges target marks v None
@@ -191,24 +169,4 @@ module _ (edges : Pair → List Pair) (target : Pair → Bool) where
     pub IsFirst-resting : (marks : List Pair) (v : Pair) → ¬ (In v marks) → ((w : Pair) → In w (edges v) → ahead w)
         → ((x : Pair) → In x marks → ahead x → ⊥)
         → (r : Option (List Pair)) → IsFirst edges target [] v r ↔ IsFirst edges target marks v r
-    IsFirst-resting marks v free leaves past r =
-        (IsFirst-along [] marks v all none r, IsFirst-along marks [] v none all r)
-      where
-        clear_of : {u : Pair} {p : List Pair} → Path edges target u p → ¬ (In u marks)
-            → ((w : Pair) → In w (edges u) → ahead w)
-            → (x : Pair) → In x p → In x marks → ⊥
-        clear_of (stop t) f l x i m = elim i [ inl here ↦ f (rw here at m) | inr never ↦ absurd never ]
-        clear_of (go {w = w} t e n h) f l x i m =
-            elim i [ inl here ↦ f (rw here at m) | inr later ↦ past x m (Path-ahead h (l w e) x later) ]
-
-        all : (p : List Pair) → Accepts edges target [] v p → Accepts edges target marks v p
-        all p a = record { path = a.path; clear = clear_of a.path free leaves }
-
-        none : (p : List Pair) → Accepts edges target marks v p → Accepts edges target [] v p
-        none p a = record { path = a.path; clear = λ x i m. absurd m }
-
-  -- if the starts ascend, the first start is that at the smallest position
-  pub IsLeast-from_first : (starts : List Pair) → Increasing starts → (r : Option (List Pair))
-      → IsFirstOfAll edges target [] starts r → IsLeast edges target starts r
-  IsLeast-from_first starts rise None f = f
-  IsLeast-from_first starts rise (Some p) f = grind (arith, Earlier-increasing)
+    IsFirst-resting marks v free leaves past r = grind (arith, IsFirst-along, Path-ahead)

@@ -1,41 +1,38 @@
 -- Paths from the starts in plain words: which comes first, and that each kind of scan has one answer.
-use Rattle.std.proofs.Common.{◌≡◌, ℕ, ◌≤◌, ◌<◌, ◌⊎◌, inl, inr, Bool, true, false, List, [], ◌∷◌, refl, sym, ap, subst, arith, Option, None, Some}
-use Rattle.std.specs.List.{last_or}
-use Rattle.nfa_paths.specs.Common.{Pair, In, Before, ComesBefore, HeadIs, Linked, EndsWith, WantedAt, PathTo, NoPath, IsFirstTo, IsEnd, IsLeastEnd, IsGreatestEnd, IsLastOfFirsts, IsFirstPath, IsEarliestPath, IsLastPath, IsEarliestLastPath, Accepts, IsLeast, StopsAtTarget, Increasing, Slots, apply, found}
+use Rattle.nfa_paths.proofs.Common.{◌≡◌, ℕ, ◌≤◌, ◌⊎◌, inl, inr, Bool, true, false, List, [], ◌∷◌, refl, sym, ap, subst, arith, Option, None, Some, last_or, Pair, In, Before, ComesBefore, HeadIs, Linked, EndsWith, WantedAt, PathTo, NoPath, IsFirstTo, IsEnd, IsLeastEnd, IsGreatestEnd, IsLastOfFirsts, IsFirstPath, IsEarliestPath, IsLastPath, IsEarliestLastPath, Accepts, IsFirstOfAll, StopsAtTarget, Increasing, Slots, apply, found}
 use Rattle.nfa_paths.proofs.PathLemmas.{same, Before-asymmetric, Before-total, Earlier-increasing, Earlier-total, Path-plain}
 
 -- a test that cannot succeed fails
 pub is_false : (b : Bool) → (b ≡ true → ⊥) → b ≡ false
-is_false true h = absurd (h refl)
-is_false false h = refl
+is_false = grind arith
 
 -- the end of a path
 
 -- a pair in front changes no end
 pub EndsWith-cons : (v m : Pair) (p : List Pair) → EndsWith m p → EndsWith m (v ∷ p)
-EndsWith-cons v m [] e = absurd e
-EndsWith-cons v m (w ∷ p) e = e
+EndsWith-cons = grind arith
 
 -- the pair that a list ends with is its last
 pub EndsWith-last : (o : Option Pair) (m : Pair) (p : List Pair) → EndsWith m p → last_or o p ≡ Some m
 EndsWith-last o m [] e = absurd e
-EndsWith-last o m (x ∷ []) e = ap Some e
-EndsWith-last o m (x ∷ (y ∷ p)) e = EndsWith-last (Some x) m (y ∷ p) e
+EndsWith-last o m (x ∷ p) e = grind (arith, EndsWith-last (Some x) m p)
+
+-- the pair that a list ends with is in it
+pub EndsWith-in : (m : Pair) (p : List Pair) → EndsWith m p → In m p
+EndsWith-in m [] ends = ends
+EndsWith-in m (x ∷ p) ends = grind (arith, EndsWith-in m p)
 
 -- if targets lead nowhere, a linked list that ends with a target contains no other one
 EndsWith-stops : (edges : Pair → List Pair) (target : Pair → Bool) → ((x : Pair) → target x ≡ true → edges x ≡ [])
     → (m : Pair) (p : List Pair) → Linked edges p → EndsWith m p → target m ≡ true → StopsAtTarget target p
 EndsWith-stops edges target stops m [] l e t = absurd e
-EndsWith-stops edges target stops m (x ∷ []) l e t = rw e t
-EndsWith-stops edges target stops m (x ∷ (y ∷ p)) l e t =
-    (is_false (target x) (λ u. rw (stops x u) at l.0), EndsWith-stops edges target stops m (y ∷ p) l.1 e t)
+EndsWith-stops edges target stops m (x ∷ p) l e t = grind (arith, is_false, EndsWith-stops edges target stops m p)
 
 -- a list that stops at a target ends with one
 StopsAtTarget-ends : (target : Pair → Bool) (p : List Pair) → StopsAtTarget target p → (m : Pair) × EndsWith m p
     × (target m ≡ true)
 StopsAtTarget-ends target [] s = absurd s
-StopsAtTarget-ends target (x ∷ []) s = (x, refl, s)
-StopsAtTarget-ends target (x ∷ (y ∷ p)) s = StopsAtTarget-ends target (y ∷ p) s.1
+StopsAtTarget-ends target (x ∷ p) s = grind (arith, StopsAtTarget-ends target p)
 
 -- what is found along a list is its last pair, with the slots there
 pub found-end : (capture : Pair → Option ℕ) (m : Pair) (p : List Pair) (slots : Slots) → EndsWith m p
@@ -54,21 +51,15 @@ ComesBefore-asymmetric edges (x ∷ p) (y ∷ q) (inl h) (inr k) = let e : y.1 �
 ComesBefore-asymmetric edges (x ∷ p) (y ∷ q) (inr h) (inl k) = let e : x.1 ≡ y.1 = ap (λ z. z.1) h.0 in omega arith
 ComesBefore-asymmetric edges (x ∷ p) (y ∷ q) (inr h) (inr k) = Before-asymmetric edges (x ∷ p) (y ∷ q) h k
 
-module _ (edges : Pair → List Pair) where
-  -- the order of two lists from that of their starts
-  ComesBefore-heads : (e d : Pair) (p q : List Pair) → HeadIs e p → HeadIs d q
-      → (e.1 < d.1) ⊎ ((q ≡ p) ⊎ Before edges p q)
-      → (q ≡ p) ⊎ ComesBefore edges p q
-  ComesBefore-heads e d [] q h k r = absurd h
-  ComesBefore-heads e d (x ∷ p) [] h k r = absurd k
-  ComesBefore-heads e d (x ∷ p) (y ∷ q) h k r =
-      elim r [ inl less ↦ inr (inl (rw (h, k) less)) | inr s ↦ elim s [ inl eq ↦ inl eq | inr b ↦ inr (inr b) ] ]
+-- of two lists with one head, the order is that of the edges
+ComesBefore-same : (edges : Pair → List Pair) (p q : List Pair) → Before edges p q → ComesBefore edges p q
+ComesBefore-same = grind arith
 
-  -- of two lists with one head, the order is that of the edges
-  ComesBefore-same : (p q : List Pair) → Before edges p q → ComesBefore edges p q
-  ComesBefore-same [] q b = b
-  ComesBefore-same (x ∷ p) [] b = b
-  ComesBefore-same (x ∷ p) (y ∷ q) b = inr b
+-- what holds of a pair, and goes on along each edge, holds of each pair of a linked list from there on
+Linked-keeps : (edges : Pair → List Pair) (P : Pair → Type 0) → ((x y : Pair) → In y (edges x) → P x → P y)
+    → (x : Pair) (p : List Pair) → Linked edges (x ∷ p) → P x → (w : Pair) → In w (x ∷ p) → P w
+Linked-keeps edges P keeps x [] l h w i = grind arith
+Linked-keeps edges P keeps x (y ∷ p) l h w i = grind (arith, Linked-keeps edges P keeps y p)
 
 -- paths grow
 
@@ -81,6 +72,19 @@ module _ (edges : Pair → List Pair) (starts : List Pair) where
   -- a path to the same pair, under another name
   pub PathTo-along : {m n : Pair} {p : List Pair} → m ≡ n → PathTo edges starts m p → PathTo edges starts n p
   PathTo-along {p = p} e w = subst (λ x. PathTo edges starts x p) e w
+
+  -- what holds of the starts, and goes on along each edge, holds of each pair of a path
+  pub PathTo-keeps : (P : Pair → Type 0) → ((s : Pair) → In s starts → P s)
+      → ((x y : Pair) → In y (edges x) → P x → P y) → {m : Pair} {p : List Pair} → PathTo edges starts m p
+      → (w : Pair) → In w p → P w
+  PathTo-keeps P begins keeps {p = []} path w i = absurd i
+  PathTo-keeps P begins keeps {p = x ∷ p} path w i =
+      Linked-keeps edges P keeps x p path.linked (subst P (sym path.head) (begins path.start path.among)) w i
+
+  -- and of its end
+  pub PathTo-end : (P : Pair → Type 0) → ((s : Pair) → In s starts → P s)
+      → ((x y : Pair) → In y (edges x) → P x → P y) → {m : Pair} {p : List Pair} → PathTo edges starts m p → P m
+  PathTo-end P begins keeps {m} {p} path = PathTo-keeps P begins keeps path m (EndsWith-in m p path.ends)
 
   -- sets with the same pairs
   pub IsFirstTo-along : (P Q : Pair → Type 0) → ((x : Pair) → P x → Q x) → ((x : Pair) → Q x → P x) → {p : List Pair}
@@ -122,48 +126,41 @@ module _ (edges : Pair → List Pair) (starts : List Pair) where
         → (m : Pair) × PathTo edges starts m p × (target m ≡ true)
     Accepts-path_to e p i a = grind (arith, Path-plain, StopsAtTarget-ends)
 
-    -- if a search finds none, no path leads to a target
-    pub IsLeast-none : ((x : Pair) → target x ≡ true → edges x ≡ []) → IsLeast edges target starts None
-        → NoPath edges starts (λ m. target m ≡ true)
-    IsLeast-none stops none m p w t = none w.start w.among p (PathTo-accepts target stops w t)
-
-    -- the path that a search finds is the first to a target
-    pub IsLeast-first : ((x : Pair) → target x ≡ true → edges x ≡ []) → (p : List Pair)
-        → IsLeast edges target starts (Some p)
-        → IsFirstTo edges starts (λ m. target m ≡ true) p
-    IsLeast-first stops p least =
-        let end = Accepts-path_to least.0 p least.1 least.2 in
+    -- what is first of all starts, which ascend, is the first path to a target
+    pub IsFirstPath-of_all : Increasing starts → ((x : Pair) → target x ≡ true → edges x ≡ [])
+        → (r : Option (List Pair)) → IsFirstOfAll edges target [] starts r
+        → IsFirstPath edges starts (λ m. target m ≡ true) r
+    IsFirstPath-of_all rise stops None none = λ m p w t. none w.start w.among p (PathTo-accepts target stops w t)
+    IsFirstPath-of_all rise stops (Some p) h =
+        let end = Accepts-path_to h.0 p h.1 h.2 in
         record {
           end = end.0;
           path = end.1;
           wanted = end.2;
           first = λ m q w t.
-              ComesBefore-heads edges least.0 w.start p q ((Path-plain edges target least.0 p).0 least.2.path).0 w.head
-              (least.3 w.start q w.among (PathTo-accepts target stops w t));
+              let head : HeadIs h.0 p = ((Path-plain edges target h.0 p).0 h.2.path).0 in
+              let order = h.3 w.start q w.among (PathTo-accepts target stops w t) in
+              let later = Earlier-increasing starts h.0 w.start rise in
+              grind (arith, later, order, head, w.head, w.among);
         }
 
   -- one answer of each kind
 
-  -- two lists that are equal to or before each other are equal
-  one_of : (p q : List Pair) → (q ≡ p) ⊎ ComesBefore edges p q → (p ≡ q) ⊎ ComesBefore edges q p → p ≡ q
-  one_of p q (inl e) k = sym e
-  one_of p q (inr h) (inl e) = e
-  one_of p q (inr h) (inr k) = absurd (ComesBefore-asymmetric edges p q h k)
-
   -- there is one first path to a set
   pub IsFirstTo-unique : (P : Pair → Type 0) (p q : List Pair) → IsFirstTo edges starts P p
       → IsFirstTo edges starts P q → p ≡ q
-  IsFirstTo-unique P p q h k = one_of p q (h.first k.end q k.path k.wanted) (k.first h.end p h.path h.wanted)
+  IsFirstTo-unique P p q h k =
+      let one = h.first k.end q k.path k.wanted in
+      let other = k.first h.end p h.path h.wanted in
+      grind (arith, ComesBefore-asymmetric)
 
   -- there is one last of the first paths
   pub IsLastOfFirsts-unique : (P : Pair → Type 0) (e : ℕ) (p q : List Pair)
       → IsLastOfFirsts edges starts P e p → IsLastOfFirsts edges starts P e q → p ≡ q
-  IsLastOfFirsts-unique P e p q h k = last_of (h.last k.end q k.wanted k.first) (k.last h.end p h.wanted h.first)
-    where
-      last_of : (q ≡ p) ⊎ ComesBefore edges q p → (p ≡ q) ⊎ ComesBefore edges p q → p ≡ q
-      last_of (inl e) k = sym e
-      last_of (inr h) (inl e) = e
-      last_of (inr h) (inr k) = absurd (ComesBefore-asymmetric edges p q k h)
+  IsLastOfFirsts-unique P e p q h k =
+      let one = h.last k.end q k.wanted k.first in
+      let other = k.last h.end p h.wanted h.first in
+      grind (arith, ComesBefore-asymmetric)
 
   module _ (P : Pair → Type 0) where
     -- there is one least end

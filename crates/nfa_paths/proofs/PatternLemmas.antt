@@ -1,19 +1,12 @@
 -- What an accepting path says about its pattern and its slots.
-use Rattle.std.proofs.Common.{◌≡◌, ℕ, zero, suc, ◌+◌, ◌*◌, ◌<◌, ◌≤◌, ◌==◌, List, [], ◌∷◌, ◌++◌, length, map, take, replicate, refl, ap, sym, ◌∙◌, arith, rules, Option, Some, None, true, false, Bool, option_and_then, is_some, if◌then◌else◌}
-use Rattle.std.specs.List.{range_with_len}
-use Rattle.std.specs.Option.{option_map_or}
-use Rattle.std.proofs.lemmas.List.FromFn.{length-map-range_with_len, get_or-map-range_with_len, map-range_with_len_more, take-map-range_with_len}
-use Rattle.std.proofs.lemmas.Option.{slice_get-get_or}
-use Rattle.std.proofs.lemmas.List.{get_or_past, replicate-append-replicate, append_assoc, take-replicate, length-replicate}
-use Rattle.nfa_paths.specs.Common.{slot_count, Search, offset_at, match_of, MatchKind, Automaton, Node, IsAutomaton, Pair, pattern_of, slot_of, node_at, path_pattern, last_of, slot_among, slot_row, IsScanAnswer, IsSearchAnswer, IsAnswer, IsBoolAnswer, Slots, pattern_at}
-use Rattle.thompson_nfa.specs.Automaton.Node.{Match}
+use Rattle.nfa_paths.proofs.Common.{◌≡◌, ℕ, ◌+◌, ◌*◌, ◌<◌, ◌≤◌, List, [], ◌∷◌, ◌++◌, length, map, take, replicate, refl, ap, sym, arith, rules, Option, Some, None, true, Bool, option_and_then, is_some, range_with_len, slice_get-get_or, get_or_past, replicate-append-replicate, ext_get_or, cases_lt, length-append, get_or_append_left, get_or-append_right, get_or-replicate, take-replicate, length-replicate, slot_count, Search, offset_at, match_of, MatchKind, Automaton, Node, IsAutomaton, Pair, pattern_of, slot_of, node_at, path_pattern, last_of, slot_among, slot_row, IsScanAnswer, IsSearchAnswer, IsAnswer, IsBoolAnswer, Slots, pattern_at}
+use Rattle.std.proofs.lemmas.List.FromFn.{length-map-range_with_len, get_or-map-range_with_len, take-map-range_with_len}
 use Rattle.nfa_paths.proofs.AnswerLemmas.{scan_answer-leads}
 use Rattle.nfa_paths.proofs.PathToLemmas.{EndsWith-last}
 
 -- a Match has a pattern
 pub some-pattern : (node : Node) → is_some (pattern_of node) ≡ true → (k : ℕ) × (pattern_of node ≡ Some k)
-some-pattern (Match pattern) e = (pattern, refl)
-some-pattern _ e = cc
+some-pattern = grind arith
 
 -- the pattern of a path that ends with the pair
 pub ends-pattern : (nfa : Automaton) (p : List Pair) (v : Pair) → last_of p ≡ Some v
@@ -24,14 +17,7 @@ ends-pattern nfa p v last = ap (λ o. option_and_then (λ (w : Pair). pattern_of
 pub length-slot_row : (nfa : Automaton) (count : ℕ) (path : Option (List Pair))
     → length (slot_row nfa count path) ≡ count
 unfolding slot_row
-length-slot_row nfa count None = length-replicate count None
-length-slot_row nfa count (Some p) = length-map-range_with_len (slot_among nfa p) 0 count
-
--- if nothing is written, the value stays
-unwritten : (o : Option ℕ) (i at : ℕ) → ((k : ℕ) → o ≡ Some k → k < i)
-    → (if option_map_or (λ k. k == i) o false then Some at else None) ≡ None
-unwritten None i at below = refl
-unwritten (Some k) i at below = grind arith
+length-slot_row = grind (arith, length-replicate, length-map-range_with_len)
 
 module _ (nfa : Automaton) where
   -- a state's pattern is one of the NFA's
@@ -55,20 +41,22 @@ module _ (nfa : Automaton) where
       → slot_row nfa (width + more) path ≡ slot_row nfa width path ++ replicate more None
   unfolding slot_row
   slot_row-more valid width more all None = sym (replicate-append-replicate width more None)
-  slot_row-more valid width zero all (Some p) = search rules
-  slot_row-more valid width (suc more) all (Some p) =
-      let next : width + suc more ≡ width + more + 1 = omega arith in
-      let last : 0 + (width + more) ≡ width + more = omega arith in
-      let past : slot_count nfa.groups ≤ width + more = omega arith in
-      let one : more + 1 ≡ suc more = omega arith in
-      ap (λ n. map (slot_among nfa p) (range_with_len 0 n)) next
-      ∙ map-range_with_len_more (slot_among nfa p) 0 (width + more) (width + more) last
-      ∙ ap (λ l. l ++ slot_among nfa p (width + more) ∷ []) (slot_row-more valid width more all (Some p))
-      ∙ ap (λ o. (map (slot_among nfa p) (range_with_len 0 width) ++ replicate more None) ++ o ∷ [])
-      (slot_among-past valid p (width + more) past)
-      ∙ append_assoc (map (slot_among nfa p) (range_with_len 0 width)) (replicate more None) (None ∷ [])
-      ∙ ap (λ l. map (slot_among nfa p) (range_with_len 0 width) ++ l)
-      (replicate-append-replicate more 1 None ∙ ap (λ n. replicate n None) one)
+  slot_row-more valid width more all (Some p) =
+      ext_get_or None (map (slot_among nfa p) (range_with_len 0 (width + more)))
+      (map (slot_among nfa p) (range_with_len 0 width) ++ replicate more None)
+      (grind (arith, length-append, length-replicate, length-map-range_with_len))
+      (grind (
+        arith,
+        cases_lt,
+        length-append,
+        length-replicate,
+        length-map-range_with_len,
+        get_or_append_left,
+        get_or-append_right,
+        get_or-map-range_with_len,
+        get_or-replicate,
+        slot_among-past,
+      ))
 
   -- a path's pattern is one of the NFA's
   pub pattern-within : IsAutomaton nfa → (p : List Pair) (k : ℕ) → path_pattern nfa p ≡ Some k → k < length nfa.patterns
@@ -100,14 +88,12 @@ module _ (nfa : Automaton) where
       → Some k ≡ option_and_then (path_pattern nfa) path → slots ≡ slot_row nfa (length slots) path
       → match_of (Some k) slots ≡ match_of (option_and_then (path_pattern nfa) path)
       (slot_row nfa (slot_count nfa.groups) path)
-  match-along-path valid k slots size None e row = cc
-  match-along-path valid k slots size (Some p) e row = grind (arith, match-row)
+  match-along-path = grind (arith, match-row)
 
   -- a shorter row of a path is the beginning of a longer one
   pub slot_row-take : (k n : ℕ) (path : Option (List Pair)) → k ≤ n → take k (slot_row nfa n path) ≡ slot_row nfa k path
   unfolding slot_row
-  slot_row-take k n None less = take-replicate k n None less
-  slot_row-take k n (Some p) less = take-map-range_with_len (slot_among nfa p) 0 n k less
+  slot_row-take = grind (arith, take-replicate, take-map-range_with_len)
 
 module _ (nfa : Automaton) (kind : MatchKind) (earliest : Bool) where
   -- the pattern of an accepting path
@@ -120,18 +106,14 @@ module _ (nfa : Automaton) (kind : MatchKind) (earliest : Bool) where
       → (k : ℕ) × (path_pattern nfa p ≡ Some k)
   search-pattern x restarts p = search (rules, scan-pattern)
 
-  -- a search that has no pattern has no path, and one that has a pattern has a path
-  found-none : (x : Search) (slots : Slots) → IsAnswer nfa kind earliest x None slots
-      → IsBoolAnswer nfa kind earliest x false
-  found-none x slots a = grind (arith, search-pattern)
-
-  -- and no slot that is set
+  -- a search that has no pattern has no slot that is set
   pub slots-unset : (x : Search) (slots : Slots) → IsAnswer nfa kind earliest x None slots
       → slots ≡ replicate (length slots) None
   unfolding slot_row
   slots-unset x slots a = grind (arith, search-pattern)
 
+  -- and no path, and one that has a pattern has a path
   pub found-of : (x : Search) (slots : Slots) (pattern : Option ℕ) → IsAnswer nfa kind earliest x pattern slots
       → IsBoolAnswer nfa kind earliest x (is_some pattern)
-  found-of x slots None a = found-none x slots a
+  found-of x slots None a = grind (arith, search-pattern)
   found-of x slots (Some k) a = grind arith

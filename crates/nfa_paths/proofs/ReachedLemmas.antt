@@ -1,7 +1,5 @@
 -- The patterns of the match pairs that are reached, position by position.
-use Rattle.std.proofs.Common.{◌≡◌, ℕ, ◌+◌, ◌≤◌, ◌<◌, ◌⊎◌, ◌↔◌, inl, inr, Bool, true, List, refl, arith, Option}
-use Rattle.std.proofs.lemmas.Bool.{cases_lt}
-use Rattle.nfa_paths.specs.Common.{Pair, Space, In, WantedAt, Slots, Passes, IsReached, ReachedBefore, HoldsMatch, Scanned, IsFrontier}
+use Rattle.nfa_paths.proofs.Common.{ℕ, ◌+◌, ◌≤◌, ◌<◌, ◌⊎◌, ◌↔◌, inl, inr, Bool, List, refl, arith, Option, cases_lt, Pair, Space, In, WantedAt, Slots, Passes, IsReached, ReachedBefore, HoldsMatch, Scanned, IsFrontier}
 use Rattle.nfa_paths.proofs.KindsLemmas.{IsFrontier-pairs}
 use Rattle.nfa_paths.proofs.ScanLemmas.{NoneBefore-start}
 
@@ -18,18 +16,16 @@ module _ (space : Space) (resting is_match : Pair → Bool) (slots : Slots) (sha
         → IsFrontier space resting is_match slots turns front e
         → IsReached space.edges space.starts (WantedAt (Passes is_match) e) pattern k
         ↔ HoldsMatch is_match pattern k front
-    IsReached-at {turns} f = (
+    IsReached-at {turns} {e} f = (
       λ r.
           let a = (IsFrontier-pairs space resting is_match slots turns shape f r.end r.wanted).0 (r.along, r.path) in
           record { item = a.0; among = a.1; matches = rw a.2 r.wanted.wanted; pattern_is = rw a.2 r.pattern_is },
       λ a.
-          let h = wanted_at a.item.0 a.matches (f.rest a.item a.among).1 in
+          let h : WantedAt (Passes is_match) e a.item.0 =
+          record { wanted = a.matches; at = (f.rest a.item a.among).1 } in
           let w = (IsFrontier-pairs space resting is_match slots turns shape f a.item.0 h).1 (a.item, a.among, refl) in
           record { end = a.item.0; along = w.0; path = w.1; wanted = h; pattern_is = a.pattern_is },
     )
-      where
-        wanted_at : {e : ℕ} (m : Pair) → is_match m ≡ true → m.1 ≡ e → WantedAt (Passes is_match) e m
-        wanted_at m t at = record { wanted = t; at = at }
 
     -- before the first start none
     pub ReachedBefore-start : (e : ℕ) → ((s : Pair) → In s space.starts → e ≤ s.1)

@@ -1,35 +1,16 @@
 -- A search scans. While the answer ends inside a codepoint, it scans again from one byte further on. These lemmas say
 -- what holds at each scan, what the result of the search is, and what its contract says.
-use Rattle.std.proofs.Common.{◌≡◌, ℕ, zero, suc, ◌+◌, ◌-◌, ◌*◌, ◌<◌, ◌≤◌, List, length, replicate, refl, ap, sym, ◌∙◌, arith, subst, below_more, rules, Option, Some, None, true, false, Bool, MatchBool, IfSome, option_map, option_and_then, inr}
-use Rattle.nfa_paths.specs.Common.{IsBoundary, Found, HalfFound, half_found_of, Search, is_anchored, match_of, HalfMatch, MatchKind, Automaton, IsAutomaton, Pair, Slots, IsAnswer, IsHalfAnswer, IsFindAnswer, raised, is_utf8_empty, slot_row, max_scans, path_half, path_pattern, EndsOnBoundary, SplitsCharacter, IsKeptAnswer, IsRestartedAnswer, IsScanAnswer, IsSearchAnswer, IsWhole, IsWithinScans}
-use Rattle.nfa_paths.specs.Restarts.{max_scan_turns, AreUnset, GivesPath, ScanGives, SearchGives, IsBounded, Restarts}
+use Rattle.nfa_paths.proofs.Common.{◌≡◌, ℕ, zero, suc, ◌+◌, ◌-◌, ◌*◌, ◌<◌, ◌≤◌, List, length, replicate, refl, arith, subst, below_more, rules, Option, Some, None, true, false, Bool, IfSome, option_map, option_and_then, IsBoundary, Found, HalfFound, half_found_of, Search, is_anchored, match_of, HalfMatch, MatchKind, Automaton, IsAutomaton, Pair, Slots, IsAnswer, IsHalfAnswer, IsFindAnswer, raised, is_utf8_empty, slot_row, max_scans, path_half, path_pattern, EndsOnBoundary, SplitsCharacter, IsScanAnswer, IsSearchAnswer, IsWhole, IsWithinScans, max_scan_turns, AreUnset, GivesPath, ScanGives, SearchGives, IsBounded, Restarts}
 use Rattle.nfa_paths.proofs.AnswerLemmas.{ends_on_boundary, split-within_scans, split-anchored, one_scan-bound, scan_answer-within}
 use Rattle.nfa_paths.proofs.InsideLemmas.{pattern-within}
+use Rattle.nfa_paths.proofs.OneScanLemmas.{settled-scan}
 use Rattle.nfa_paths.proofs.PatternLemmas.{match-along-path}
+use Rattle.nfa_paths.proofs.StartLemmas.{raised-zero}
 
 -- the slots of no path
 pub slot_row-none : (nfa : Automaton) (count : ℕ) → slot_row nfa count None ≡ replicate count None
 unfolding slot_row
 slot_row-none nfa count = refl
-
--- no restart
-raised-none : (x : Search) → x ≡ raised x 0
-raised-none x = let same : x.start ≡ x.start + 0 = omega arith in ap (λ n. record x { start = n }) same
-
--- a number that is not positive
-never-some : (n : ℕ) → (0 < n → ⊥) → n ≡ 0
-never-some zero some = refl
-never-some (suc n) some = absurd (some (omega arith))
-
--- one restart more
-raised-start : (x y : Search) (i start : ℕ) → y ≡ raised x i → start ≡ y.start + 1
-    → record y { start = start } ≡ raised x (i + 1)
-raised-start x y i start is next = grind arith
-
--- the pattern and the end of what a scan finds are those of the path
-half-found : {nfa : Automaton} {kind : MatchKind} {earliest : Bool} {y : Search} {half : HalfMatch} {slots : Slots}
-    {turns : ℕ} (f : GivesPath nfa kind earliest y half slots turns) → Some (half_found_of half) ≡ path_half nfa f.path
-half-found f = rw (f.ends, f.matches) refl
 
 -- before the first scan
 pub restarts-begin : {nfa : Automaton} {kind : MatchKind} {earliest : Bool} {x : Search} {turns : ℕ} → turns ≡ 0
@@ -43,21 +24,8 @@ module _ {nfa : Automaton} {kind : MatchKind} {earliest : Bool} {x y : Search} {
   settled : (path : Option (List Pair)) → IsScanAnswer nfa y kind earliest path
       → (is_utf8_empty nfa ≡ true → IsWhole x path)
       → IsSearchAnswer nfa kind earliest x scans path
-  settled path answers whole = of (is_utf8_empty nfa) (is_anchored x.anchored) refl refl
-    where
-      here : IsScanAnswer nfa (raised x scans) kind earliest path
-      here = subst (λ z. IsScanAnswer nfa z kind earliest path) begun.is answers
-
-      first : (scans ≡ 0) → IsScanAnswer nfa x kind earliest path
-      first none = subst (λ z. IsScanAnswer nfa z kind earliest path) (sym (raised-none x)) (rw none at here)
-
-      of : (utf8 anchored : Bool) → is_utf8_empty nfa ≡ utf8 → is_anchored x.anchored ≡ anchored
-          → MatchBool utf8 (MatchBool anchored ((scans ≡ 0) × IsKeptAnswer nfa kind earliest x path)
-          (IsRestartedAnswer nfa kind earliest x scans path))
-          ((scans ≡ 0) × IsScanAnswer nfa x kind earliest path)
-      of true true u a = (grind (arith, first))
-      of true false u a = record { skipped = begun.split; answers = here; whole = whole u }
-      of false a u b = grind (arith, first)
+  settled path answers = settled-scan nfa kind earliest x scans path begun.split begun.free
+      (subst (λ z. IsScanAnswer nfa z kind earliest path) begun.is answers)
 
   -- the scan found nothing
   pub settled-none : {slots : Slots} {after total : ℕ} → ScanGives nfa kind earliest y None slots 0
@@ -80,7 +48,7 @@ module _ {nfa : Automaton} {kind : MatchKind} {earliest : Bool} {x y : Search} {
     restarts = scans;
     path = Some f.path;
     answers = settled (Some f.path) f.answers (λ mode. (whole-found f).0 (boundary mode));
-    half_is = half-found f;
+    half_is = rw (f.ends, f.matches) refl;
     slots_are = f.row;
     scans_are = counted;
     turns_reach = omega (arith, f.short);
@@ -99,21 +67,7 @@ module _ {nfa : Automaton} {kind : MatchKind} {earliest : Bool} {x y : Search} {
   pub discarded : {slots : Slots} {after total : ℕ} → SplitsCharacter nfa kind earliest (raised x scans)
       → is_utf8_empty nfa ≡ true → is_anchored x.anchored ≡ true → after ≡ scans + 1 → AreUnset slots
       → SearchGives nfa kind earliest x None slots after total
-  discarded {slots} split mode anchored counted unset = record {
-    restarts = scans;
-    path = None;
-    answers = rw (mode, anchored) (
-      once,
-      inr (subst (SplitsCharacter nfa kind earliest) (sym (raised-none x)) (rw once at split)),
-    );
-    half_is = refl;
-    slots_are = unset ∙ sym (slot_row-none nfa (length slots));
-    scans_are = counted;
-    turns_reach = omega arith;
-  }
-    where
-      once : scans ≡ 0
-      once = grind arith
+  discarded {slots} split mode anchored counted unset = grind (arith, raised-zero, slot_row-none)
 
   -- the turns after one scan more
   turns-after : (after : ℕ) → after ≤ turns + max_scan_turns nfa y → after ≤ (scans + 1) * max_scan_turns nfa x
@@ -124,12 +78,7 @@ module _ {nfa : Automaton} {kind : MatchKind} {earliest : Bool} {x y : Search} {
       → is_utf8_empty nfa ≡ true → is_anchored x.anchored ≡ false
       → after ≤ turns + max_scan_turns nfa y → start ≡ y.start + 1 → z ≡ record y { start = start }
       → Restarts nfa kind earliest x z (scans + 1) after
-  restarted {after} {start} split mode free more next moved = record {
-    is = moved ∙ raised-start x y scans start begun.is next;
-    split = below_more (λ i. SplitsCharacter nfa kind earliest (raised x i)) scans begun.split split;
-    free = λ some. (mode, free);
-    turned = turns-after after more;
-  }
+  restarted {after} {start} split mode free more next moved = grind (arith, below_more, turns-after)
 
   -- there is a start left for it
   pub start-left : {half : HalfMatch} {found : Slots} {last : ℕ} → GivesPath nfa kind earliest y half found last
@@ -139,11 +88,7 @@ module _ {nfa : Automaton} {kind : MatchKind} {earliest : Bool} {x y : Search} {
   -- the scans so far do not end the search, so one more is within what its answer takes, and within the limit
   pub bounded : {after total : ℕ} → after ≡ scans + 1 → total ≤ turns + max_scan_turns nfa y
       → IsBounded nfa kind earliest x after total
-  bounded {after} {total} counted more = rw counted (record {
-    within = within scans begun.split begun.free;
-    scans = few scans begun.split begun.free;
-    turns = turns-after total more;
-  })
+  bounded {after} {total} counted more = rw counted (search (rules, within, few, turns-after))
     where
       within : (n : ℕ) → ((i : ℕ) → i < n → SplitsCharacter nfa kind earliest (raised x i))
           → (0 < n → (is_utf8_empty nfa ≡ true) × (is_anchored x.anchored ≡ false))
@@ -154,9 +99,7 @@ module _ {nfa : Automaton} {kind : MatchKind} {earliest : Bool} {x y : Search} {
 
       few : (n : ℕ) → ((i : ℕ) → i < n → SplitsCharacter nfa kind earliest (raised x i))
           → (0 < n → (is_utf8_empty nfa ≡ true) × (is_anchored x.anchored ≡ false)) → n + 1 ≤ max_scans nfa x
-      few zero split free = one_scan-bound nfa x (omega arith)
-      few (suc n) split free = let modes = free (omega arith) in
-          split-anchored nfa kind earliest x modes.0 modes.1 (suc n) split
+      few = grind (arith, one_scan-bound, split-anchored)
 
   -- it starts as far on as there were scans before it
   pub scan-start : {after : ℕ} → after ≡ scans + 1 → y ≡ raised x (after - 1)
@@ -168,8 +111,7 @@ module _ {nfa : Automaton} {kind : MatchKind} {earliest : Bool} {x y : Search} {
 pub half-pattern : (nfa : Automaton) (path : Option (List Pair))
     → option_map (λ (h : HalfFound). h.pattern) (option_and_then (path_half nfa) path)
     ≡ option_and_then (path_pattern nfa) path
-half-pattern nfa None = refl
-half-pattern nfa (Some p) = grind arith
+half-pattern = grind arith
 
 module _ {nfa : Automaton} {kind : MatchKind} {earliest : Bool} {x : Search} {slots : Slots} {scans turns : ℕ} where
   -- the pattern and the end

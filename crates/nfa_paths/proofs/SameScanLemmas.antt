@@ -1,8 +1,7 @@
 -- Two searches of one haystack that explore the same have the same answers. Their NFAs may differ in what their paths
 -- write and in the anchored start, and the searches in the anchoring and the `earliest` flag, which no path reads.
-use Rattle.std.proofs.Common.{◌≡◌, ℕ, ◌+◌, inl, inr, Bool, true, false, MatchBool, List, refl, subst, Option, None, Some}
-use Rattle.nfa_paths.specs.Common.{Found, Search, is_anchored, Anchored, MatchKind, Automaton, Pair, edges, edges_of, is_match, is_utf8_empty, node_at, slot_row, starts, IsAnswer, IsBoolAnswer, IsFindAnswer, IsFirstPath, IsEarliestPath, IsLastPath, IsEarliestLastPath, IsKeptAnswer, IsRestartedAnswer, IsScanAnswer, IsSearchAnswer, Passes, SplitsCharacter}
-use Rattle.regex_search_core.specs.declared.search.MatchKind.TheVariants.{All, LeftmostFirst}
+use Rattle.nfa_paths.proofs.Common.{◌≡◌, ℕ, Bool, true, false, List, refl, subst, Option, Some, arith, Found, Search, is_anchored, Anchored, MatchKind, Automaton, Pair, edges, edges_of, is_match, is_utf8_empty, node_at, slot_row, starts, IsAnswer, IsBoolAnswer, IsFindAnswer, IsFirstPath, IsEarliestPath, IsLastPath, IsEarliestLastPath, IsScanAnswer, IsSearchAnswer, Passes, SplitsCharacter, LeftmostFirst}
+use Rattle.regex_search_core.specs.declared.search.MatchKind.TheVariants.{All}
 
 -- what a scan explores, and the pairs that it is for
 pub record Explored : Type 0 where
@@ -47,41 +46,14 @@ module _ {n m : Automaton} {x : Search} {anchored : Anchored} {flag : Bool} {kin
       → SplitsCharacter m kind earliest (turned x s anchored flag)
   split-carried s h = record { path = h.path; answers = carry.scans s (Some h.path) h.answers; splits = h.splits }
 
-  kept-carried : (r : Option (List Pair)) → IsKeptAnswer n kind earliest x r → IsKeptAnswer m kind earliest there r
-  kept-carried None (inl none) = inl (carry.scans x.start None none)
-  kept-carried None (inr split) = inr (split-carried x.start split)
-  kept-carried (Some p) h = (carry.scans x.start (Some p) h.0, h.1)
-
-  restarted-carried : (i : ℕ) (r : Option (List Pair)) → IsRestartedAnswer n kind earliest x i r
-      → IsRestartedAnswer m kind earliest there i r
-  restarted-carried i r h = record {
-    skipped = λ j below. split-carried (x.start + j) (h.skipped j below);
-    answers = carry.scans (x.start + i) r h.answers;
-    whole = h.whole;
-  }
-
   -- so do their searches
   pub search-carried : (i : ℕ) (r : Option (List Pair)) → IsSearchAnswer n kind earliest x i r
       → IsSearchAnswer m kind earliest there i r
-  search-carried i r h = of (is_utf8_empty m) (is_anchored anchored) (rw (carry.utf8, carry.bound) at h)
-    where
-      of : (u a : Bool)
-          → MatchBool u (MatchBool a ((i ≡ 0) × IsKeptAnswer n kind earliest x r)
-          (IsRestartedAnswer n kind earliest x i r)) ((i ≡ 0) × IsScanAnswer n x kind earliest r)
-          → MatchBool u (MatchBool a ((i ≡ 0) × IsKeptAnswer m kind earliest there r)
-          (IsRestartedAnswer m kind earliest there i r)) ((i ≡ 0) × IsScanAnswer m there kind earliest r)
-      of true true k = (k.0, kept-carried r k.1)
-      of true false k = restarted-carried i r k
-      of false a k = (k.0, carry.scans x.start r k.1)
+  search-carried i r h = grind (arith, split-carried)
 
   -- and whether there is a match
   pub found-carried : (found : Bool) → IsBoolAnswer n kind earliest x found → IsBoolAnswer m kind earliest there found
-  found-carried found h = record {
-    restarts = h.restarts;
-    path = h.path;
-    answers = search-carried h.restarts h.path h.answers;
-    found_is = h.found_is;
-  }
+  found-carried found h = grind (arith, search-carried)
 
 -- The NFA with this anchored start and the search with this anchoring and flag explore the same, from each start on.
 pub record ExploresSame (nfa : Automaton) (x : Search) (state : ℕ) (anchored : Anchored) (flag : Bool) : Type 0 where
@@ -119,21 +91,10 @@ module _ {nfa : Automaton} {x : Search} {state : ℕ} {anchored : Anchored} {fla
   pub answer-same : (pattern : Option ℕ) (slots : List (Option ℕ)) → IsAnswer nfa kind earliest x pattern slots
       → IsAnswer other kind earliest elsewhere pattern slots
   unfolding node_at slot_row
-  answer-same pattern slots h = record {
-    restarts = h.restarts;
-    path = h.path;
-    answers = search-same h.restarts h.path h.answers;
-    pattern_is = h.pattern_is;
-    slots_are = h.slots_are;
-  }
+  answer-same pattern slots h = grind (arith, search-same)
 
   -- the match
   pub match-same : (found : Option Found) → IsFindAnswer nfa kind earliest x found
       → IsFindAnswer other kind earliest elsewhere found
   unfolding node_at slot_row
-  match-same found h = record {
-    restarts = h.restarts;
-    path = h.path;
-    answers = search-same h.restarts h.path h.answers;
-    found_is = h.found_is;
-  }
+  match-same found h = grind (arith, search-same)

@@ -1,15 +1,12 @@
 -- An NFA's pairs as what a scan goes over, and what a scan finds as the answer that its contract means.
-use Rattle.std.proofs.Common.{◌≡◌, ℕ, zero, suc, ◌+◌, ◌≤◌, ◌<◌, ◌⊎◌, inl, inr, Bool, true, false, List, [], ◌∷◌, map, length, replicate, sym, ap, arith, rules, Option, None, Some, option_and_then, option_map, option_to_list}
-use Rattle.std.specs.Option.{option_map_or}
-use Rattle.std.proofs.lemmas.Bool.{cases_Bool}
-use Rattle.nfa_paths.specs.Common.{Search, MatchKind, Automaton, Node, Pair, In, NoPath, Task, Slots, Hit, ExploresTo, seeds, Scanning, IsFoundBy, found_along, NoneBefore, LastBefore, EndsBefore, first_match, last_match, Scanned, IsFrontier, rests, is_resting, holding_at, epsilon_states, space, target_on, pairs_from, is_match, IsMatch, capture, byte_at, edges_of, edges, start_count, starts, IsScanAnswer, last_of, slot_row}
-use Rattle.regex_search_core.specs.declared.search.MatchKind.TheVariants.{All, LeftmostFirst}
-use Rattle.nfa_paths.specs.Exploring.Task.{Explore}
+use Rattle.nfa_paths.proofs.Common.{◌≡◌, ℕ, zero, suc, ◌+◌, ◌≤◌, ◌<◌, ◌⊎◌, Bool, true, false, List, [], ◌∷◌, map, length, replicate, arith, rules, Option, None, Some, option_and_then, option_map, option_to_list, option_map_or, cases_Bool, Search, MatchKind, Automaton, Node, Pair, In, NoPath, Task, Slots, Hit, ExploresTo, seeds, Scanning, IsFoundBy, NoneBefore, LastBefore, EndsBefore, first_match, last_match, Scanned, IsFrontier, rests, is_resting, space, pairs_from, is_match, IsMatch, capture, byte_at, edges_of, edges, start_count, starts, IsScanAnswer, last_of, slot_row, LeftmostFirst, Explore}
+use Rattle.regex_search_core.specs.declared.search.MatchKind.TheVariants.{All}
 use Rattle.nfa_paths.proofs.PathToLemmas.{found-end}
 use Rattle.nfa_paths.proofs.StartLemmas.{pairs_from-ahead, starts-increase, IsMatch-edges, IsMatch-capture, resting-edges, epsilon-edges}
-use Rattle.nfa_paths.proofs.AnswerLemmas.{apply-slot_row, never_none}
+use Rattle.nfa_paths.proofs.AnswerLemmas.{apply-slot_row}
 use Rattle.nfa_paths.proofs.CutLemmas.{first_match-cut}
-use Rattle.nfa_paths.proofs.ScanLemmas.{EndsBefore-within, IsEarliestPath-found, IsEarliestLastPath-found, LastBefore-end, IsFirstPath-found}
+use Rattle.nfa_paths.proofs.ScanLemmas.{EndsBefore-within, IsEarliestPath-found, IsEarliestLastPath-found, LastBefore-end}
+use Rattle.nfa_paths.proofs.KindsLemmas.{IsFirstPath-found, found-along}
 
 -- the edges
 
@@ -23,16 +20,13 @@ module _ (nfa : Automaton) (x : Search) where
   -- an edge over no byte stays at its position
   stays : (p : ℕ) (targets : List ℕ) (y : Pair) → In y (map (λ next. (next, p)) targets) → y.1 ≡ p
   stays p [] y i = absurd i
-  stays p (t ∷ targets) y i = elim i [ inl e ↦ ap (λ z. z.1) e | inr later ↦ stays p targets y later ]
+  stays p (t ∷ targets) y i = grind (arith, stays p targets y)
 
   -- an edge stays at its position, if the state does not rest, or leads to the next one within the span
   pub edges_of-next : (n : Node) (p : ℕ) (y : Pair) → In y (edges_of x n p)
       → ((rests n ≡ false) × (y.1 ≡ p)) ⊎ ((y.1 ≡ p + 1) × (p < x.end))
   edges_of-next n p y i =
-      elim (cases_Bool (rests n)) [
-        | inl r ↦ inr (byte_edge p (target_on n) y (rw (resting-edges x n p r) at i))
-        | inr f ↦ inl (f, stays p (epsilon_states (holding_at x.haystack p) n) y (rw (epsilon-edges x n p f) at i))
-      ]
+      grind (arith, cases_Bool, byte_edge, resting-edges, stays, epsilon-edges)
 
   -- positions never fall along an edge
   pub edges-onward : (v y : Pair) → In y (edges nfa x v) → v.1 ≤ y.1
@@ -63,16 +57,11 @@ module _ (nfa : Automaton) (x : Search) where
     where
       below : (state at count : ℕ) → In s (pairs_from state at count) → s.1 < at + count
       below state at zero i = absurd i
-      below state at (suc count) i =
-          elim i [
-            | inl e ↦ let k : s.1 ≡ at = ap (λ z. z.1) e in omega arith
-            | inr later ↦ let k : s.1 < at + 1 + count = below state (at + 1) count later in omega arith
-          ]
+      below state at (suc count) i = grind (arith, below state (at + 1) count)
 
       of : x.start ≤ x.end → (o : Option ℕ) → In s
           (option_map_or (λ state. pairs_from state x.start (start_count nfa x)) o []) → s.1 ≤ x.end
-      of within None i = absurd i
-      of within (Some state) i = grind (arith, below)
+      of = grind (arith, below)
 
   -- every path ends within the span
   pub EndsBefore-span : (wanted : Pair → Bool) → EndsBefore (space nfa x) wanted (x.end + 1)
@@ -113,13 +102,7 @@ module _ (nfa : Automaton) (x : Search) (kind : MatchKind) (earliest : Bool) whe
   pub IsFoundBy-some : (count turns : ℕ) (v : Pair) (row : Slots)
       → IsFoundBy (capture nfa) (replicate count None) (IsScanAnswer nfa x kind earliest) turns (Some (v, row))
       → FindsAnswer nfa x kind earliest count turns v row
-  IsFoundBy-some count turns v row h = of h.path h.meant h.leads h.short
-    where
-      of : (o : Option (List Pair)) → IsScanAnswer nfa x kind earliest o
-          → found_along (capture nfa) o (replicate count None) ≡ Some (v, row)
-          → option_map_or length o 0 ≤ turns → FindsAnswer nfa x kind earliest count turns v row
-      of None meant leads short = absurd (never_none (v, row) (sym leads))
-      of (Some p) meant leads short = search (rules, apply-slot_row)
+  IsFoundBy-some count turns v row h = let f = found-along h in search (rules, apply-slot_row)
 
 -- each kind from what the scan knows of its positions
 
@@ -132,10 +115,7 @@ module _ (nfa : Automaton) (x : Search) where
     where
       of : (kind : MatchKind) (earliest : Bool) → NoPath (edges nfa x) (starts nfa x) (IsMatch nfa)
           → IsScanAnswer nfa x kind earliest None
-      of LeftmostFirst false h = h
-      of LeftmostFirst true h = h
-      of All false h = h
-      of All true h = h
+      of = grind arith
 
 module _ (nfa : Automaton) (x : Search) (slots : Slots) where
   -- the search for any match finds the first path
@@ -173,3 +153,18 @@ module _ (nfa : Automaton) (x : Search) (slots : Slots) where
   scan_all-found so_far ends =
       LastBefore-end (space nfa x) (is_resting nfa) (is_match nfa) slots
       (Scanned-matches nfa x (is_match nfa) (λ v m. m)) so_far ends
+
+-- if the search for any match finds nothing, there is no accepting path
+pub scan_none : (nfa : Automaton) (x : Search) (total : ℕ) (slots : Slots)
+    → ExploresTo (space nfa x) (is_match nfa) total None [] (map Explore (starts nfa x)) slots None
+    → IsScanAnswer nfa x LeftmostFirst false None
+scan_none nfa x total slots answer =
+    IsFoundBy-none nfa x LeftmostFirst false total slots (scan_first-found nfa x slots total None answer)
+
+-- what it finds is the first accepting path's
+pub scan_some : (nfa : Automaton) (x : Search) (count total : ℕ) (v : Pair) (row : Slots)
+    → ExploresTo (space nfa x) (is_match nfa) total None [] (map Explore (starts nfa x)) (replicate count None)
+    (Some (v, row))
+    → FindsAnswer nfa x LeftmostFirst false count total v row
+scan_some nfa x count total v row answer =
+    grind (arith, IsFoundBy-some, scan_first-found)

@@ -1,11 +1,8 @@
 -- The steps of a scan, as a loop takes them: each is the step of the search for every set of match pairs at once.
-use Rattle.std.proofs.Common.{◌≡◌, ℕ, suc, ◌+◌, ◌≤◌, ◌<◌, ◌⊎◌, inl, inr, Bool, true, List, [], ◌∷◌, ◌++◌, map, length, refl, arith, rules, None, Some}
-use Rattle.nfa_paths.specs.Common.{Pair, Space, In, NoRepeats, Slots, Hit, Task, next_tasks, found, Searching, ExploresTo, ExploresAfter, before_match, IsFrontier, IsOver, Scanning}
-use Rattle.nfa_paths.specs.Exploring.Task.{Explore, Load}
+use Rattle.nfa_paths.proofs.Common.{◌≡◌, ℕ, ◌+◌, ◌≤◌, ◌<◌, ◌⊎◌, inl, inr, Bool, true, List, [], ◌∷◌, ◌++◌, map, refl, arith, rules, None, Some, Pair, Space, In, NoRepeats, Slots, Hit, Task, next_tasks, found, Searching, ExploresTo, before_match, IsFrontier, IsOver, Scanning, Explore, Load}
 use Rattle.nfa_paths.proofs.FrontierMatchLemmas.{before_match-plain, before_match-among}
-use Rattle.nfa_paths.proofs.PathLemmas.{IsFirst-target}
-use Rattle.nfa_paths.proofs.SearchLemmas.{AnswerBehind-along}
-use Rattle.nfa_paths.proofs.SearchingLemmas.{Searching-load, Searching-round, Searching-done}
+use Rattle.nfa_paths.proofs.SearchLemmas.{AnswerBehind-along, AnswerBehind-cut}
+use Rattle.nfa_paths.proofs.SearchingLemmas.{Searching-along, Searching-load, Searching-round, Searching-done}
 
 module _ (space : Space) (is_match : Pair → Bool) (slots : Slots) where
   module _ {e : ℕ} {Seen : Pair → Type 0} {spent : ℕ} {front : List (Pair × Slots)} {rest : List Task}
@@ -68,54 +65,28 @@ once-keep (b ∷ front) v slots n other = (
   where
     in_more : (front : List (Pair × Slots)) (x : Pair) → In x (map (λ a. a.0) (front ++ (v, slots) ∷ []))
         → In x (map (λ a. a.0) front) ⊎ (x ≡ v)
-    in_more [] x i = elim i [ inl e ↦ inr e | inr h ↦ absurd h ]
-    in_more (c ∷ front) x i = elim i [
-      | inl e ↦ inl (inl e)
-      | inr j ↦ elim (in_more front x j) [ inl h ↦ inl (inr h) | inr h ↦ inr h ]
-    ]
+    in_more [] x i = grind arith
+    in_more (c ∷ front) x i = grind (arith, in_more front x)
 
 -- The search for any match pair, whose answer is the first path: a match pair in the front drops what comes after it.
 module _ (space : Space) (target : Pair → Bool) where
-  -- a target that was put aside answers, if nothing before it does
-  AnswerBehind-cut : (left : ℕ) (before : List (Pair × Slots)) (a : Pair × Slots) (after : List (Pair × Slots))
-      (otherwise : Hit) (m n : List Pair)
-      (work : List Task) (current slots : Slots) (g : Hit) → target a.0 ≡ true
-      → ExploresAfter space target left before (found space.capture (a.0 ∷ []) a.1) m [] current g
-      → ExploresAfter space target left (before ++ a ∷ after) otherwise n work slots g
-  unfolding ExploresTo ExploresAfter
-  AnswerBehind-cut left [] a after otherwise m n work current slots g t h =
-      let short : length (a.0 ∷ []) ≤ suc left = omega arith in
-      inl (a.0 ∷ [], IsFirst-target space.edges target [] a.0 (λ i. i) t, h, short)
-  AnswerBehind-cut left (b ∷ before) a after otherwise m n work current slots g t (inl h) = inl h
-  AnswerBehind-cut left (b ∷ before) a after otherwise m n work current slots g t (inr h) =
-      inr (h.0, AnswerBehind-cut left before a after otherwise m n work current slots g t h.1)
-
   -- what comes after a target is dropped, and the target becomes the answer otherwise
   pub Searching-cut : {goal : Hit → ℕ → Type 0} {Seen : Pair → Type 0} {spent : ℕ} {otherwise : Hit}
       {work : List Task} {slots : Slots}
       (before : List (Pair × Slots)) (a : Pair × Slots) (after : List (Pair × Slots))
       → Searching space target goal Seen spent (before ++ a ∷ after) otherwise work slots → target a.0 ≡ true
       → space.capture a.0 ≡ None → Searching space target goal Seen spent before (Some a) [] slots
-  Searching-cut {otherwise = otherwise} {work} {slots} before a after s t c = record {
-    marks = s.marks;
-    agrees = s.agrees;
-    leads = λ g left total e h.
-        s.leads g left total e
-        (AnswerBehind-cut left before a after otherwise s.marks s.marks work slots slots g t
-        (let wrote : found space.capture (a.0 ∷ []) a.1 ≡ Some a = rw c refl in rw wrote h));
-  }
+  Searching-cut {otherwise = otherwise} {work} {slots} before a after s t c =
+      let wrote : found space.capture (a.0 ∷ []) a.1 ≡ Some a = rw c refl in
+      Searching-along space target (λ left marks g h.
+      AnswerBehind-cut space target left before a after otherwise marks marks work slots slots g t (rw wrote h)) s
 
   -- no work is left but to load
   pub Searching-wait : {goal : Hit → ℕ → Type 0} {Seen : Pair → Type 0} {spent : ℕ} {front : List (Pair × Slots)}
       {otherwise : Hit} {slots : Slots} (old : Slots) → Searching space target goal Seen spent front otherwise [] slots
       → Searching space target goal Seen spent front otherwise (Load old ∷ []) slots
   unfolding ExploresTo
-  Searching-wait {front = front} {otherwise} {slots} old s = record {
-    marks = s.marks;
-    agrees = s.agrees;
-    leads = λ g left total e h. s.leads g left total e
-        (search (rules, AnswerBehind-along));
-  }
+  Searching-wait old = Searching-along space target (λ left marks g h. search (rules, AnswerBehind-along))
 
   -- The next position of the search that drops what comes after a match pair: the items before the front's first match
   -- pair go on.

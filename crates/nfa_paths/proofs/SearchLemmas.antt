@@ -1,17 +1,6 @@
 -- The steps of the search: from its answer after a step follows its answer before.
-use Rattle.std.proofs.Common.{◌≡◌, ℕ, suc, ◌≤◌, arith, ◌⊎◌, ◌↔◌, inl, inr, Bool, true, false, List, [], ◌∷◌, ◌++◌, map, length, get_or, set, refl, set-set, append-nil, rules, Option, None, Some}
-use Rattle.std.proofs.lemmas.List.{set-get_or, set_past}
-use Rattle.std.specs.Option.{option_map}
-use Rattle.std.specs.List.{last_or}
-use Rattle.nfa_paths.specs.Common.{Pair, Space, In, Path, IsFirst, FirstAmong, IsFirstOfAll, Slots, Hit, Task, write, apply, found, ExploresTo, ExploresAfter, next_tasks, seeds}
-use Rattle.nfa_paths.specs.FirstPaths.Path.{stop, go}
-use Rattle.nfa_paths.specs.Exploring.Task.{Explore, Restore, Load}
+use Rattle.nfa_paths.proofs.Common.{◌≡◌, ℕ, suc, ◌≤◌, arith, ◌⊎◌, ◌↔◌, inl, inr, Bool, true, false, List, [], ◌∷◌, ◌++◌, map, length, get_or, set, refl, set-set, append-nil, rules, Option, None, Some, set-get_or, set_past, option_map, Pair, Space, In, Path, IsFirst, FirstAmong, IsFirstOfAll, Slots, Hit, Task, write, found, ExploresTo, ExploresAfter, next_tasks, seeds, Explore, Restore, Load}
 use Rattle.nfa_paths.proofs.PathLemmas.{IsFirst-target, IsFirstOfAll-from_among, IsFirst-step, IsFirst-mark, IsFirst-ahead, IsFirst-resting}
-
--- a list with an item has a last one
-last_or-Some : {A B : Type 0} (f : A → B) (x : A) (xs : List A) → None ≡ option_map f (last_or (Some x) xs) → ⊥
-last_or-Some f x [] e = cc
-last_or-Some f x (y ∷ ys) e = last_or-Some f y ys e
 
 module _ (space : Space) (target : Pair → Bool) where
   -- with nothing to do
@@ -28,14 +17,6 @@ module _ (space : Space) (target : Pair → Bool) where
   unfolding ExploresTo
   Answer-restore left otherwise marks k old rest slots g = (λ h. h, λ h. h)
 
-  -- slots are loaded
-  pub Answer-load : (left : ℕ) (otherwise : Hit) (marks : List Pair) (old : Slots) (rest : List Task)
-      (slots : Slots) (g : Hit)
-      → ExploresTo space target left otherwise marks rest old g
-      ↔ ExploresTo space target left otherwise marks (Load old ∷ rest) slots g
-  unfolding ExploresTo
-  Answer-load left otherwise marks old rest slots g = (λ h. h, λ h. h)
-
   -- the result of the pairs at the head of the work
   pub Answer-among : (left : ℕ) (otherwise : Hit) (marks es : List Pair) (rest : List Task)
       (slots : Slots) (g : Hit) → ExploresTo space target left otherwise marks (map Explore es ++ rest) slots g
@@ -44,9 +25,8 @@ module _ (space : Space) (target : Pair → Bool) where
       ⊎ (FirstAmong space.edges target marks es None × ExploresTo space target left otherwise marks rest slots g)
   unfolding ExploresTo
   Answer-among left otherwise marks [] rest slots g h = inr (refl, h)
-  Answer-among left otherwise marks (e ∷ es) rest slots g (inl h) = inl (h.0, inl (h.0, h.1, refl), h.2, h.3)
-  Answer-among left otherwise marks (e ∷ es) rest slots g (inr h) =
-      grind (arith, Answer-among left otherwise marks es rest slots g h.1)
+  Answer-among left otherwise marks (e ∷ es) rest slots g h =
+      grind (arith, Answer-among left otherwise marks es rest slots g)
 
   -- marks that agree at what is to be explored, and no fewer turns
   Answer-along : (left more : ℕ) → left ≤ more
@@ -84,8 +64,7 @@ module _ (space : Space) (target : Pair → Bool) where
   -- the first pair of a path writes first
   found-cons : (v : Pair) {w : Pair} {p : List Pair} (slots : Slots) → Path space.edges target w p
       → found space.capture (v ∷ p) slots ≡ found space.capture p (write (space.capture v) v.1 slots)
-  found-cons v slots (stop t) = refl
-  found-cons v slots (go t e n h) = refl
+  found-cons = grind arith
 
   module _ (left : ℕ) (otherwise : Hit) (marks : List Pair) (v : Pair) (rest : List Task) (slots : Slots)
       (g : Hit) where
@@ -111,12 +90,7 @@ module _ (space : Space) (target : Pair → Bool) where
           → ExploresTo space target (suc left) otherwise marks (Explore v ∷ rest) slots g
       unfolding ExploresTo
       Answer-step next after wrote back h =
-          elim (Answer-among left otherwise (v ∷ marks) es next after g h) [
-            | inl k ↦
-                let some = IsFirstOfAll-from_among space.edges target (v ∷ marks) es (Some k.0) k.1 in
-                grind (arith, IsFirst-step, found-cons)
-            | inr k ↦ grind (arith, Answer-mark, IsFirst-step)
-          ]
+          grind (arith, Answer-among, IsFirstOfAll-from_among, IsFirst-step, found-cons, Answer-mark)
 
       -- a pair that writes nothing
       pub Answer-plain : space.capture v ≡ None
@@ -138,13 +112,6 @@ module _ (space : Space) (target : Pair → Bool) where
           → ExploresTo space target (suc left) otherwise marks (Explore v ∷ rest) slots g
       Answer-unkept k e past = Answer-step rest slots (rw e (set_past slots k _ past)) (λ a. a)
 
-  -- a path finds something
-  pub found-Some : {v : Pair} {p : List Pair} (slots : Slots) → Path space.edges target v p
-      → None ≡ found space.capture p slots → ⊥
-  found-Some slots (stop t) e = cc
-  found-Some slots (go {v = v} {p = p} t i n h) e =
-      last_or-Some (λ (x : Pair). (x, apply space.capture (v ∷ p) slots)) v p e
-
   -- several starts, one after another, with the marks kept
   pub Answer-starts : (left : ℕ) (starts : List Pair) (slots : Slots) (g : Hit)
       → ExploresTo space target left None [] (map Explore starts) slots g
@@ -164,9 +131,8 @@ module _ (space : Space) (target : Pair → Bool) where
       → ExploresTo space target left otherwise marks (map Explore starts) slots g
   unfolding ExploresTo seeds
   Answer-seeds left otherwise marks [] slots g h = h
-  Answer-seeds left otherwise marks (s ∷ starts) slots g (inl h) = inl h
-  Answer-seeds left otherwise marks (s ∷ starts) slots g (inr h) =
-      inr (h.0, Answer-seeds left otherwise marks starts slots g h.1)
+  Answer-seeds left otherwise marks (s ∷ starts) slots g h =
+      grind (arith, Answer-seeds left otherwise marks starts slots g)
 
   -- after a front, each step goes on as before
   pub AnswerBehind-along : (front : List (Pair × Slots)) (left more : ℕ) → left ≤ more
@@ -176,10 +142,20 @@ module _ (space : Space) (target : Pair → Bool) where
       → ExploresAfter space target more front u n later after g
   unfolding ExploresAfter
   AnswerBehind-along [] left more le o u m n work later slots after g f h = f h
-  AnswerBehind-along (a ∷ front) left more le o u m n work later slots after g f (inl h) =
-      let short : length h.0 ≤ suc more = omega (arith, h.3) in inl (h.0, h.1, h.2, short)
-  AnswerBehind-along (a ∷ front) left more le o u m n work later slots after g f (inr h) =
-      inr (h.0, AnswerBehind-along front left more le o u m n work later slots after g f h.1)
+  AnswerBehind-along (a ∷ front) left more le o u m n work later slots after g f h =
+      grind (arith, AnswerBehind-along front left more le o u m n work later slots after g f)
+
+  -- a target that was put aside answers, if nothing before it does
+  pub AnswerBehind-cut : (left : ℕ) (before : List (Pair × Slots)) (a : Pair × Slots) (after : List (Pair × Slots))
+      (otherwise : Hit) (m n : List Pair) (work : List Task) (current slots : Slots) (g : Hit) → target a.0 ≡ true
+      → ExploresAfter space target left before (found space.capture (a.0 ∷ []) a.1) m [] current g
+      → ExploresAfter space target left (before ++ a ∷ after) otherwise n work slots g
+  unfolding ExploresTo ExploresAfter
+  AnswerBehind-cut left [] a after otherwise m n work current slots g t h =
+      let short : length (a.0 ∷ []) ≤ suc left = omega arith in
+      inl (a.0 ∷ [], IsFirst-target space.edges target [] a.0 (λ i. i) t, h, short)
+  AnswerBehind-cut left (b ∷ before) a after otherwise m n work current slots g t h =
+      grind (arith, AnswerBehind-cut left before a after otherwise m n work current slots g t)
 
   module _ (ahead : Pair → Type 0) (closed : (x y : Pair) → ahead x → In y (space.edges x) → ahead y) where
     -- a resting pair is put aside: its edges lead to pairs ahead of all that is marked

@@ -1,8 +1,6 @@
 -- The steps of the search, forwards, as a loop takes them.
-use Rattle.std.proofs.Common.{◌≡◌, ℕ, suc, ◌+◌, ◌≤◌, arith, ◌⊎◌, ◌↔◌, Bool, false, List, [], ◌∷◌, ◌++◌, map, length, get_or, set, refl, rules, Option, None, Some}
-use Rattle.nfa_paths.specs.Common.{Pair, Space, In, Slots, Hit, Task, ExploresTo, ExploresAfter, next_tasks, Searching}
-use Rattle.nfa_paths.specs.Exploring.Task.{Explore, Restore, Load}
-use Rattle.nfa_paths.proofs.SearchLemmas.{Answer-restore, Answer-load, Answer-marked, Answer-plain, Answer-write, Answer-unkept, AnswerBehind-along, AnswerBehind-keep, AnswerBehind-round}
+use Rattle.nfa_paths.proofs.Common.{◌≡◌, ℕ, suc, ◌+◌, ◌≤◌, arith, ◌⊎◌, ◌↔◌, Bool, false, List, [], ◌∷◌, ◌++◌, map, length, get_or, set, refl, rules, Option, None, Some, Pair, Space, In, Slots, Hit, Task, ExploresTo, ExploresAfter, next_tasks, Searching, Explore, Restore, Load}
+use Rattle.nfa_paths.proofs.SearchLemmas.{Answer-marked, Answer-plain, Answer-write, Answer-unkept, AnswerBehind-along, AnswerBehind-keep, AnswerBehind-round}
 
 module _ (space : Space) (target : Pair → Bool) where
   -- nothing is seen yet
@@ -19,35 +17,33 @@ module _ (space : Space) (target : Pair → Bool) where
   unfolding ExploresTo ExploresAfter
   Searching-done {spent = spent} s = s.leads _ 0 spent (omega arith) refl
 
-  module _ {goal : Hit → ℕ → Type 0} {Seen : Pair → Type 0} {spent : ℕ} {front : List (Pair × Slots)}
-      {otherwise : Hit} where
-    module _ {rest : List Task} {slots : Slots} where
-      -- a slot is restored
-      pub Searching-restore : {k : ℕ} {old : Option ℕ}
-          → Searching space target goal Seen spent front otherwise (Restore k old ∷ rest) slots
-          → Searching space target goal Seen spent front otherwise rest (set slots k old)
-      Searching-restore {k} {old} s = record {
-        marks = s.marks;
-        agrees = s.agrees;
-        leads = λ g left total e h.
-            s.leads g left total e
-            (AnswerBehind-along space target front left left (omega arith) otherwise otherwise s.marks s.marks
-            rest (Restore k old ∷ rest) (set slots k old) slots g
-            (Answer-restore space target left otherwise s.marks k old rest slots g).0 h);
-      }
+  -- what is left may change if its answers lead back
+  pub Searching-along : {goal : Hit → ℕ → Type 0} {Seen : Pair → Type 0} {spent : ℕ} {front next : List (Pair × Slots)}
+      {otherwise other : Hit} {work rest : List Task} {slots after : Slots}
+      → ((left : ℕ) (marks : List Pair) (g : Hit) → ExploresAfter space target left next other marks rest after g
+      → ExploresAfter space target left front otherwise marks work slots g)
+      → Searching space target goal Seen spent front otherwise work slots
+      → Searching space target goal Seen spent next other rest after
+  Searching-along back s = record {
+    marks = s.marks;
+    agrees = s.agrees;
+    leads = λ g left total e h. s.leads g left total e (back left s.marks g h);
+  }
 
-      -- slots are loaded
-      pub Searching-load : {old : Slots} → Searching space target goal Seen spent front otherwise
-          (Load old ∷ rest) slots
-          → Searching space target goal Seen spent front otherwise rest old
-      Searching-load {old} s = record {
-        marks = s.marks;
-        agrees = s.agrees;
-        leads = λ g left total e h.
-            s.leads g left total e
-            (AnswerBehind-along space target front left left (omega arith) otherwise otherwise s.marks s.marks
-            rest (Load old ∷ rest) old slots g (Answer-load space target left otherwise s.marks old rest slots g).0 h);
-      }
+  module _ {goal : Hit → ℕ → Type 0} {Seen : Pair → Type 0} {spent : ℕ} {front : List (Pair × Slots)}
+      {otherwise : Hit} {rest : List Task} {slots : Slots} where
+    -- a slot is restored
+    pub Searching-restore : {k : ℕ} {old : Option ℕ}
+        → Searching space target goal Seen spent front otherwise (Restore k old ∷ rest) slots
+        → Searching space target goal Seen spent front otherwise rest (set slots k old)
+    unfolding ExploresTo
+    Searching-restore = Searching-along (λ left marks g h. search (rules, AnswerBehind-along))
+
+    -- slots are loaded
+    pub Searching-load : {old : Slots} → Searching space target goal Seen spent front otherwise (Load old ∷ rest) slots
+        → Searching space target goal Seen spent front otherwise rest old
+    unfolding ExploresTo
+    Searching-load = Searching-along (λ left marks g h. search (rules, AnswerBehind-along))
 
   module _ {goal : Hit → ℕ → Type 0} {Seen : Pair → Type 0} {spent : ℕ} {front : List (Pair × Slots)}
       {otherwise : Hit} {v : Pair} {rest : List Task} {slots : Slots}

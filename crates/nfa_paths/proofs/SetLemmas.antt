@@ -1,9 +1,6 @@
 -- What a set of patterns holds, and full sets.
-use Rattle.std.proofs.Common.{◌≡◌, ℕ, zero, suc, ◌+◌, ◌<◌, ◌⊎◌, ◌↔◌, Bool, true, false, List, [], ◌∷◌, length, refl, arith, set, rules, cond}
-use Rattle.std.proofs.lemmas.List.Sums.{sum_by-cons, count_by-le-length}
-use Rattle.regex_search_core.specs.PatternSets.{with_pattern, size_of_set}
-use Rattle.nfa_paths.specs.Common.{Search, Automaton, HoldsPattern, IsOverlapResult}
-use Rattle.regex_search_core.specs.declared.search.MatchKind.TheVariants.{All, LeftmostFirst}
+use Rattle.nfa_paths.proofs.Common.{◌≡◌, ℕ, zero, suc, ◌+◌, ◌<◌, ◌⊎◌, ◌↔◌, Bool, true, false, List, [], ◌∷◌, length, refl, arith, set, rules, cond, sum_by-cons, count_by-le-length, with_pattern, size_of_set, Search, Automaton, HoldsPattern, IsOverlapResult, LeftmostFirst}
+use Rattle.regex_search_core.specs.declared.search.MatchKind.TheVariants.{All}
 
 size-cons : (b : Bool) (bs : List Bool) → size_of_set (b ∷ bs) ≡ cond b 1 0 + size_of_set bs
 size-cons b bs = sum_by-cons (λ (c : Bool). cond c 1 0) b bs
@@ -39,14 +36,12 @@ size-none (false ∷ bs) e (suc k) h = grind (arith, size-none bs)
 pub size-empty : (set : List Bool) → ((k : ℕ) → HoldsPattern set k → ⊥) → size_of_set set ≡ 0
 size-empty [] none = refl
 size-empty (true ∷ bs) none = absurd (none zero refl)
-size-empty (false ∷ bs) none =
-    let e = size-cons false bs in let r = size-empty bs (λ k h. none (suc k) h) in omega (arith, e, r)
+size-empty (false ∷ bs) none = let r = size-empty bs (λ k h. none (suc k) h) in grind (arith, r)
 
 -- what a set holds is below its capacity
 pub holds-below : (set : List Bool) (k : ℕ) → HoldsPattern set k → k < length set
 holds-below [] k h = cc
-holds-below (b ∷ bs) zero h = omega arith
-holds-below (b ∷ bs) (suc k) h = let r = holds-below bs k h in omega arith
+holds-below (b ∷ bs) k h = grind (arith, holds-below bs)
 
 -- one more pattern keeps the capacity
 pub length-with : (set : List Bool) (p : ℕ) → length (with_pattern set p) ≡ length set

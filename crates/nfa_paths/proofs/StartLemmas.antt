@@ -1,10 +1,5 @@
 -- The starts of the paths of an NFA, and the edges of its pairs.
-use Rattle.std.proofs.Common.{◌≡◌, ℕ, zero, suc, ◌+◌, ◌-◌, ◌≤◌, ◌<◌, inl, inr, Bool, true, false, List, [], ◌∷◌, map, length, All, if◌then◌else◌, refl, ap, arith, Option, None, Some, is_some, option_and_then, option_map, option_to_list, slice_get}
-use Rattle.std.proofs.lemmas.Bool.{cases_lt}
-use Rattle.std.proofs.lemmas.List.Elements.{All-nil}
-use Rattle.std.proofs.lemmas.Option.{get_or_from_slice_get}
-use Rattle.nfa_paths.specs.Common.{Search, Automaton, Node, Pair, In, Increasing, rests, is_resting, Holding, holding_at, epsilon_states, degree, pattern_of, slot_of, target_on, byte_at, pairs_from, raised, node_at, is_match, capture, edges_of, edges, starts}
-use Rattle.thompson_nfa.specs.Automaton.Node.{Look, Capture, Fail, Match}
+use Rattle.nfa_paths.proofs.Common.{◌≡◌, ℕ, zero, suc, ◌+◌, ◌-◌, ◌≤◌, ◌<◌, true, false, List, [], ◌∷◌, map, length, All, refl, ap, arith, Option, None, Some, is_some, option_and_then, option_map, option_to_list, slice_get, All-nil, get_or_from_slice_get, Search, Automaton, Node, Pair, In, Increasing, rests, is_resting, Holding, holding_at, epsilon_states, degree, pattern_of, slot_of, target_on, byte_at, pairs_from, raised, node_at, is_match, capture, edges_of, edges, starts, Look, Fail}
 
 -- the pairs from a position on are at it or after it
 pub pairs_from-ahead : (state at count : ℕ) (d : Pair) → In d (pairs_from state at count) → at ≤ d.1
@@ -14,11 +9,7 @@ pairs_from-ahead state at (suc count) d i = grind (arith, pairs_from-ahead state
 -- and are all that are
 pub pairs_from-has : (state at count i : ℕ) → at ≤ i → i < at + count → In (state, i) (pairs_from state at count)
 pairs_from-has state at zero i low high = absurd (omega arith)
-pairs_from-has state at (suc count) i low high =
-    elim (cases_lt at i) [
-      | inl less ↦ inr (pairs_from-has state (at + 1) count i (omega arith) (omega arith))
-      | inr same ↦ let e : i ≡ at = omega arith in inl (ap (λ (z : ℕ). (state, z)) e)
-    ]
+pairs_from-has state at (suc count) i low high = grind (arith, pairs_from-has state (at + 1) count i)
 
 -- the pairs from a position on rise
 pub pairs_from-increase : (state at count : ℕ) → Increasing (pairs_from state at count)
@@ -52,13 +43,11 @@ module _ (nfa : Automaton) (x : Search) where
 -- a Match has no edges
 Match-edges : (nfa : Automaton) (x : Search) (n : Node) (p : ℕ) → is_some (pattern_of n) ≡ true → edges_of x n p ≡ []
 unfolding edges_of
-Match-edges nfa x (Match pattern) p m = refl
-Match-edges nfa x _ p m = cc
+Match-edges = grind arith
 
 -- and writes nothing
 Match-slot : (n : Node) → is_some (pattern_of n) ≡ true → slot_of n ≡ None
-Match-slot (Capture next slot) m = cc
-Match-slot _ m = refl
+Match-slot = grind arith
 
 -- a match leads nowhere
 pub IsMatch-edges : (nfa : Automaton) (x : Search) (v : Pair) → is_match nfa v ≡ true → edges nfa x v ≡ []
@@ -96,11 +85,7 @@ epsilon-edges x _ p r = grind arith
 -- which are among those that it would lead to if every assertion held
 pub epsilon-all : (P : ℕ → Type 0) (holding : Holding) (node : Node) → All P (epsilon_states (λ look. true) node)
     → All P (epsilon_states holding node)
-epsilon-all P holding (Look look next) all = of (holding look)
-  where
-    of : (b : Bool) → All P (if b then next ∷ [] else [])
-    of true = all
-    of false = All-nil P
+epsilon-all P holding (Look look next) all = grind (arith, All-nil)
 epsilon-all P holding _ all = all
 
 -- they are at most as many as the state has edges

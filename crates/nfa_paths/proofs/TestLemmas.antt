@@ -1,27 +1,34 @@
 -- Sets of pairs as tests.
-use Rattle.std.proofs.Common.{◌≡◌, ℕ, ◌⊎◌, inl, inr, Bool, true, false, refl, sym, arith}
-use Rattle.nfa_paths.specs.Common.{Pair, WantedAt, Passes}
+use Rattle.nfa_paths.proofs.Common.{◌≡◌, ℕ, ◌⊎◌, inl, inr, Bool, true, false, arith, Pair, WantedAt, Passes}
 
--- a property that can be tested
-abbrev pub Tested : (Pair → Type 0) → Type 0
-Tested P = (x : Pair) → P x ⊎ ¬ (P x)
+-- a test that exactly the pairs of a set pass
+pub record Test (P : Pair → Type 0) : Type 0 where
+  pub passes : Pair → Bool
+  pub is : (x : Pair) → passes x ≡ true → P x
+  pub of : (x : Pair) → P x → passes x ≡ true
 
 -- whether a decidable property holds
-pub test : {A : Type 0} → A ⊎ ¬ A → Bool
+test : {A : Type 0} → A ⊎ ¬ A → Bool
 test (inl a) = true
 test (inr n) = false
 
 -- if the test succeeds, the property holds
-pub test-true : {A : Type 0} (d : A ⊎ ¬ A) → test d ≡ true → A
+test-true : {A : Type 0} (d : A ⊎ ¬ A) → test d ≡ true → A
 unfolding test
-test-true (inl a) e = a
-test-true (inr n) e = cc
+test-true = grind arith
 
 -- if the property holds, the test succeeds
-pub true-test : {A : Type 0} (d : A ⊎ ¬ A) → A → test d ≡ true
+true-test : {A : Type 0} (d : A ⊎ ¬ A) → A → test d ≡ true
 unfolding test
-true-test (inl a) h = refl
-true-test (inr n) h = absurd (n h)
+true-test = grind arith
+
+-- the test of a set that each pair is in or not
+pub tested : {P : Pair → Type 0} → ((x : Pair) → P x ⊎ ¬ (P x)) → Test P
+tested tell = record {
+  passes = λ x. test (tell x);
+  is = λ x t. test-true (tell x) t;
+  of = λ x h. true-test (tell x) h;
+}
 
 -- a test does not both fail and succeed
 pub is_plain : (b : Bool) → b ≡ false → b ≡ true → ⊥
@@ -29,10 +36,9 @@ is_plain b f t = cc
 
 -- tests that imply one another are one
 pub same_test : (a b : Bool) → (a ≡ true → b ≡ true) → (b ≡ true → a ≡ true) → a ≡ b
-same_test true b f g = sym (f refl)
-same_test false true f g = g refl
-same_test false false f g = refl
+same_test = grind arith
 
 -- it is decidable whether a pair is at e and passes a test
-pub tell_at : (wanted : Pair → Bool) (e : ℕ) → Tested (WantedAt (Passes wanted) e)
+pub tell_at : (wanted : Pair → Bool) (e : ℕ) (v : Pair)
+    → WantedAt (Passes wanted) e v ⊎ ¬ (WantedAt (Passes wanted) e v)
 tell_at wanted e v = grind arith

@@ -1,8 +1,5 @@
 -- The weights of marks, and what they bound.
-use Rattle.std.proofs.Common.{◌≡◌, ℕ, zero, suc, ◌+◌, ◌*◌, ◌≤◌, ◌<◌, Bool, true, false, List, [], ◌∷◌, ◌++◌, length, get_or, set, replicate, sum, refl, arith}
-use Rattle.std.proofs.lemmas.List.{get_or_append_left, get_or-append-add}
-use Rattle.std.proofs.lemmas.List.Sums.{sum_by-cons, sum_by-append}
-use Rattle.nfa_paths.specs.Turns.{marked_sum, repeated}
+use Rattle.nfa_paths.proofs.Common.{◌≡◌, ℕ, zero, suc, ◌+◌, ◌*◌, ◌≤◌, ◌<◌, Bool, true, false, List, [], ◌∷◌, ◌++◌, length, get_or, set, sum, arith, get_or_append_left, get_or-append-add, sum_by-cons, sum_by-append, marked_sum, repeated}
 
 -- the sum of a list with one more at its head
 sum-cons : (w : ℕ) (ws : List ℕ) → sum (w ∷ ws) ≡ w + sum ws
@@ -18,10 +15,7 @@ pub marked_sum-set : (ws : List ℕ) (marks : List Bool) (k : ℕ) → get_or ma
 unfolding marked_sum
 marked_sum-set [] marks k clear = omega arith
 marked_sum-set (w ∷ ws) [] k clear = cc
-marked_sum-set (w ∷ ws) (true ∷ marks) zero clear = cc
-marked_sum-set (w ∷ ws) (false ∷ marks) zero clear = omega arith
-marked_sum-set (w ∷ ws) (true ∷ marks) (suc k) clear = omega (arith, marked_sum-set ws marks k clear)
-marked_sum-set (w ∷ ws) (false ∷ marks) (suc k) clear = marked_sum-set ws marks k clear
+marked_sum-set (w ∷ ws) (b ∷ marks) k clear = grind (arith, marked_sum-set ws marks)
 
 -- what is marked weighs at most as much as all
 pub marked_sum-le : (ws : List ℕ) (marks : List Bool) → marked_sum ws marks ≤ sum ws
@@ -30,13 +24,6 @@ marked_sum-le [] marks = omega arith
 marked_sum-le (w ∷ ws) [] = omega arith
 marked_sum-le (w ∷ ws) (true ∷ marks) = omega (arith, sum-cons w ws, marked_sum-le ws marks)
 marked_sum-le (w ∷ ws) (false ∷ marks) = omega (arith, sum-cons w ws, marked_sum-le ws marks)
-
--- with no mark nothing weighs
-pub marked_sum-clear : (ws : List ℕ) (n : ℕ) → marked_sum ws (replicate n false) ≡ 0
-unfolding marked_sum
-marked_sum-clear [] n = refl
-marked_sum-clear (w ∷ ws) zero = refl
-marked_sum-clear (w ∷ ws) (suc n) = marked_sum-clear ws n
 
 -- the weights of several rows
 pub sum-repeated : (count : ℕ) (ws : List ℕ) → sum (repeated count ws) ≡ count * sum ws

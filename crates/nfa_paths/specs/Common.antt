@@ -1,23 +1,34 @@
 -- The words of searches, NFAs and paths that most definitions and proofs cite, passed on from one place.
-pub use Rattle.regex_search_core.specs.Search.{Search, search_of, whole, is_anchored}
-pub use Rattle.regex_search_core.specs.Found.{Found, HalfFound, found_of, half_found_of}
-pub use Rattle.regex_search_core.specs.Slots.{Captured, match_of, offset_at, span_at, group_span, named_span}
-pub use Rattle.regex_search_core.specs.Groups.{slot_count, slot_at, groups_at, group_named, names_of}
-pub use Rattle.regex_search_core.specs.Patterns.{number_of}
 pub use Rattle.regex_search_core.specs.Boundary.{IsBoundary}
+pub use Rattle.regex_search_core.specs.Found.{Found, HalfFound, found_of, half_found_of}
+pub use Rattle.regex_search_core.specs.Groups.{group_named, groups_at, slot_at, slot_count}
+pub use Rattle.regex_search_core.specs.PatternSets.{patterns_of, size_of_set, with_pattern}
+pub use Rattle.regex_search_core.specs.Patterns.{number_of}
+pub use Rattle.regex_search_core.specs.Search.{Search, is_anchored, search_of, whole}
+pub use Rattle.regex_search_core.specs.Slots.{Captured, group_span, match_of, named_span}
 pub use Rattle.regex_search_core.specs.declared.primitives.PatternID.{PatternID}
 pub use Rattle.regex_search_core.specs.declared.search.Anchored.{Anchored}
+pub use Rattle.regex_search_core.specs.declared.search.Anchored.TheVariants.{No, Pattern, Yes}
 pub use Rattle.regex_search_core.specs.declared.search.HalfMatch.{HalfMatch}
+pub use Rattle.regex_search_core.specs.declared.search.Input.{Input}
 pub use Rattle.regex_search_core.specs.declared.search.Match.{Match}
 pub use Rattle.regex_search_core.specs.declared.search.MatchKind.{MatchKind}
+pub use Rattle.regex_search_core.specs.declared.search.MatchKind.TheVariants.{LeftmostFirst}
 pub use Rattle.regex_search_core.specs.declared.search.Span.{Span}
-pub use Rattle.thompson_nfa.specs.Automaton.{Automaton, Node, node_of, IsAutomaton, LeadsBelow, PatternBelow, SlotBelow}
-pub use Rattle.thompson_nfa.specs.Looks.{look_holds}
-pub use Rattle.nfa_paths.specs.Graphs.{Pair, Space, In, Earlier, HeadIs, NoRepeats, Linked, EndsWith, BeforeAfter, Before, ComesBefore, PathTo, NoPath, WantedAt, IsFirstTo, IsEnd, IsLeastEnd, IsGreatestEnd, IsLastOfFirsts, IsFirstPath, IsEarliestPath, IsLastPath, IsEarliestLastPath}
-unfoldable pub use Rattle.nfa_paths.specs.Paths.{edges_of, node_at, slot_row}
-pub use Rattle.nfa_paths.specs.Paths.{pattern_of, slot_of, holds_byte, first_target, target_on, pairs_from, raised, span_len, degree, reads_byte, rests, Holding, holding_at, epsilon_states, byte_at, last_of, is_match, IsMatch, capture, is_utf8_empty, start_state, total_degree, edges, start_count, starts, space, path_pattern, path_half, slot_among, EndsOnBoundary, IsWhole, SplitsCharacter, IsScanAnswer, IsKeptAnswer, IsRestartedAnswer, IsSearchAnswer, IsAnswer, IsBoolAnswer, IsFindAnswer, IsHalfAnswer, IsWork, IsWithinScans, max_scans}
-unfoldable pub use Rattle.nfa_paths.specs.Exploring.{next_tasks, seeds, ExploresTo, ExploresAfter}
-pub use Rattle.nfa_paths.specs.Exploring.{Slots, Hit, Task, Searching, found, apply, write}
-pub use Rattle.nfa_paths.specs.Kinds.{Passes, WantedBefore, found_along, IsFoundBy, IsReached, NoneBefore, LastBefore, ReachedBefore, EndsBefore, first_match, before_match, last_match, NoMatch, HoldsMatch, Scanned, MatchesAt, MatchesFrom, IsFrontier, IsOver, Scanning, is_resting}
-pub use Rattle.nfa_paths.specs.Overlaps.{HoldsPattern, pattern_at, IsPermittedEnd, IsPermitted, IsInsertable, IsPatternOf, IsFirstInsertable, IsEarliestInsertable, IsSelectedByAll, IsFirstBefore, HoldsUpTo, HoldsOnly, HoldsPath, IsSelectedPath, HoldsSelected, Gains, IsOverlapResult}
-pub use Rattle.nfa_paths.specs.FirstPaths.{Increasing, Path, Accepts, IsFirst, FirstAmong, IsFirstOfAll, IsLeast, StopsAtTarget}
+pub use Rattle.thompson_nfa.specs.Automaton.{Automaton, Fail, IsAutomaton, LeadsBelow, Node, PatternBelow, SlotBelow, node_of}
+pub use Rattle.thompson_nfa.specs.Automaton.Node.{BinaryUnion, ByteRange, Capture, Dense, Look, Sparse, Union}
+pub use Rattle.thompson_nfa.specs.Flaws.{pattern_of, slot_of}
+pub use Rattle.thompson_nfa.specs.Looks.{is_word_byte, look_holds}
+pub use Rattle.thompson_nfa.specs.declared.look.Look.TheVariants.{EndLF, StartLF, WordEndHalfUnicode, WordEndUnicode, WordStartHalfUnicode, WordStartUnicode, WordUnicode, WordUnicodeNegate}
+pub use Rattle.thompson_nfa.specs.declared.state.Transition.{Transition}
+unfoldable pub use Rattle.nfa_paths.specs.Exploring.{ExploresTo, seeds}
+pub use Rattle.nfa_paths.specs.Exploring.{Hit, Searching, Slots, Task}
+pub use Rattle.nfa_paths.specs.Exploring.Task.{Explore, Load, Restore}
+pub use Rattle.nfa_paths.specs.FirstPaths.{IsFirst, Path}
+pub use Rattle.nfa_paths.specs.Graphs.{ComesBefore, EndsWith, HeadIs, In, IsEarliestPath, IsFirstPath, Linked, NoPath, NoRepeats, Pair, PathTo}
+pub use Rattle.nfa_paths.specs.Kinds.{HoldsMatch, NoMatch, Scanning, before_match, first_match, last_match}
+pub use Rattle.nfa_paths.specs.Overlaps.{HoldsPattern, IsEarliestInsertable, IsFirstBefore, IsFirstInsertable, IsOverlapResult, IsPatternOf, IsPermitted, IsPermittedEnd, pattern_at}
+unfoldable pub use Rattle.nfa_paths.specs.Paths.{node_at}
+pub use Rattle.nfa_paths.specs.Paths.{Holding, IsAnswer, IsBoolAnswer, IsFindAnswer, IsHalfAnswer, IsMatch, IsScanAnswer, IsSearchAnswer, IsSureMatch, IsWithinScans, IsWork, byte_at, degree, edges, epsilon_states, holding_at, is_match, is_utf8_empty, max_scans, pairs_from, path_half, path_pattern, raised, reads_byte, rests, slot_among, space, span_len, start_state, starts, target_on, total_degree}
+pub use Rattle.nfa_paths.specs.Restarts.{GivesPath, max_scan_turns}
+unfoldable pub use Rattle.nfa_paths.specs.Restarts.{marked_sum, repeated}

@@ -37,13 +37,6 @@ module _ (edges : Pair → List Pair) (target : Pair → Bool) where
       (e : Pair) × In e es × Accepts marks e p
       × ((d : Pair) (q : List Pair) → In d es → Accepts marks d q → (q ≡ p) ⊎ (Earlier es e d ⊎ Before edges p q))
 
-  -- the same, with starts compared by position
-  abbrev pub IsLeast : List Pair → Option (List Pair) → Type 0
-  IsLeast starts None = (e : Pair) → In e starts → IsFirst [] e None
-  IsLeast starts (Some p) =
-      (e : Pair) × In e starts × Accepts [] e p
-      × ((d : Pair) (q : List Pair) → In d starts → Accepts [] d q → (e.1 < d.1) ⊎ ((q ≡ p) ⊎ Before edges p q))
-
 -- the last pair is a target, and no earlier pair is
 abbrev pub StopsAtTarget : (Pair → Bool) → List Pair → Type 0
 StopsAtTarget target [] = ⊥

@@ -94,10 +94,6 @@ pub record Scanned (space : Space) (resting is_match : Pair → Bool) : Type 0 w
   pub writes_nothing : (x : Pair) → is_match x ≡ true → space.capture x ≡ None
   pub increasing : Increasing space.starts
 
--- a set of match pairs at position e
-abbrev pub MatchesAt : (Pair → Bool) → ℕ → (Pair → Bool) → Type 0
-MatchesAt is_match e target = (x : Pair) → target x ≡ true → (is_match x ≡ true) × (x.1 ≡ e)
-
 -- a set of match pairs at position e or after it
 abbrev pub MatchesFrom : (Pair → Bool) → ℕ → (Pair → Bool) → Type 0
 MatchesFrom is_match e target = (x : Pair) → target x ≡ true → (is_match x ≡ true) × (e ≤ x.1)
@@ -111,7 +107,7 @@ pub record IsFrontier (space : Space) (resting is_match : Pair → Bool) (slots 
   pub rest : (a : Pair × Slots) → In a front → (resting a.0 ≡ true) × (a.0.1 ≡ e)
   pub once : NoRepeats (map (λ a. a.0) front)
   pub later : (k : Pair) → In (Explore k) waiting → e < k.1
-  pub leads : (target : Pair → Bool) → MatchesAt is_match e target
+  pub leads : (target : Pair → Bool) → ((x : Pair) → target x ≡ true → (is_match x ≡ true) × (x.1 ≡ e))
       → (marks : List Pair)
       × ((g : Hit) → ExploresAfter space target 0 front None marks waiting current g
       → ExploresTo space target turns None [] (map Explore space.starts) slots g)

@@ -250,6 +250,10 @@ module _ (nfa : Automaton) (kind : MatchKind) (earliest : Bool) where
     pub found_is : found ≡ match_of (option_and_then (path_pattern nfa) path)
         (slot_row nfa (slot_count nfa.groups) path)
 
+  -- every answer of the search is this match
+  abbrev pub IsSureMatch : Search → Found → Type 0
+  IsSureMatch x m = (found : Option Found) → IsFindAnswer x found → found ≡ Some m
+
   -- the pattern of the search's answer, and the position at which its path ends
   pub record IsHalfAnswer (x : Search) (found : Option HalfFound) : Type 0 where
     pub restarts : ℕ

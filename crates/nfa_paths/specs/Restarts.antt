@@ -1,5 +1,5 @@
 -- The results of a scan and of a search by either engine: the match, the slots, and the work.
-use Rattle.std.specs.Prelude.{◌≡◌, ℕ, ◌+◌, ◌*◌, ◌<◌, ◌≤◌, Bool, true, false, List, Option, None, Some, length, replicate, option_map, option_and_then}
+use Rattle.std.specs.Prelude.{◌≡◌, ℕ, zero, suc, ◌+◌, ◌*◌, ◌<◌, ◌≤◌, Bool, true, false, List, [], ◌∷◌, ◌++◌, Option, None, Some, length, replicate, option_map, option_and_then}
 use Rattle.std.specs.Option.{option_map_or}
 use Rattle.regex_search_core.specs.Found.{half_found_of}
 use Rattle.regex_search_core.specs.Search.{Search, is_anchored}
@@ -9,6 +9,18 @@ use Rattle.thompson_nfa.specs.Automaton.{Automaton}
 use Rattle.nfa_paths.specs.Graphs.{Pair}
 use Rattle.nfa_paths.specs.Exploring.{Slots}
 use Rattle.nfa_paths.specs.Paths.{span_len, total_degree, raised, node_at, pattern_of, last_of, path_half, slot_row, is_utf8_empty, IsScanAnswer, IsSearchAnswer, SplitsCharacter, IsWithinScans, max_scans}
+
+-- the sum of the weights of the bits that are set, which bounds how often a search tries to mark a pair
+unfoldable pub marked_sum : List ℕ → List Bool → ℕ
+marked_sum [] marks = 0
+marked_sum (w ∷ ws) [] = 0
+marked_sum (w ∷ ws) (true ∷ marks) = w + marked_sum ws marks
+marked_sum (w ∷ ws) (false ∷ marks) = marked_sum ws marks
+
+-- the list repeated `count` times
+unfoldable pub repeated : ℕ → List ℕ → List ℕ
+repeated zero ws = []
+repeated (suc count) ws = ws ++ repeated count ws
 
 -- the maximum number of turns of one scan
 abbrev pub max_scan_turns : Automaton → Search → ℕ

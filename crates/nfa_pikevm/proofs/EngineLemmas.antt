@@ -1,19 +1,15 @@
 -- From the row that a search fills to the slots that its callers get.
-use Rattle.std.proofs.Common.{◌≡◌, ℕ, ◌+◌, ◌-◌, ◌≤◌, min, take, inl, inr, List, [], ◌∷◌, ◌++◌, length, refl, ap, sym, ◌∙◌, arith, length-append, Option}
-use Rattle.std.proofs.lemmas.Bool.{cases_lt}
-use Rattle.std.proofs.lemmas.List.{append-nil, length-take}
-use Rattle.nfa_paths.specs.Common.{slot_count, Automaton, IsAutomaton, Pair, slot_row, Slots}
+use Rattle.nfa_paths.proofs.Common.{◌≡◌, ℕ, ◌+◌, ◌-◌, ◌≤◌, min, take, inl, inr, List, [], ◌∷◌, ◌++◌, length, refl, ap, sym, ◌∙◌, arith, length-append, Option, cases_lt, append-nil, length-take, slot_count, Automaton, IsAutomaton, Pair, slot_row, Slots}
 use Rattle.nfa_paths.proofs.PatternLemmas.{slot_row-more}
 use Rattle.nfa_pikevm_scan.specs.Scans.{blank}
 use Rattle.nfa_pikevm_scan.proofs.RowLemmas.{length-blank}
 
-module _ {nfa : Automaton} {row : Slots} {width : ℕ} where
+module _ {nfa : Automaton} (valid : IsAutomaton nfa) {row : Slots} {width : ℕ} where
   -- A search got as many slots as the NFA has, or fewer, and the rest are `None`: together they are a row of the path.
-  row-whole : IsAutomaton nfa → {rest : Slots} {len : ℕ} → width ≡ min len (slot_count nfa.groups)
-      → length row ≡ width → length rest + width ≡ len → rest ≡ blank (length rest)
-      → (path : Option (List Pair)) → row ≡ slot_row nfa (length row) path
-      → row ++ rest ≡ slot_row nfa (length (row ++ rest)) path
-  row-whole valid {rest} {len} cut size left unset path is =
+  row-whole : {rest : Slots} {len : ℕ} → width ≡ min len (slot_count nfa.groups) → length row ≡ width
+      → length rest + width ≡ len → rest ≡ blank (length rest) → (path : Option (List Pair))
+      → row ≡ slot_row nfa (length row) path → row ++ rest ≡ slot_row nfa (length (row ++ rest)) path
+  row-whole {rest} {len} cut size left unset path is =
       elim (cases_lt len (slot_count nfa.groups)) [
         | inl few ↦
             let empty : rest ≡ [] = nil_of rest (omega arith) in
@@ -32,13 +28,13 @@ module _ {nfa : Automaton} {row : Slots} {width : ℕ} where
       nil_of (o ∷ l) e = absurd (omega arith)
 
   -- so is what a search filled of a row of the cache, with no slot set after it
-  pub row-found : IsAutomaton nfa → (found : Slots) (len : ℕ) {slots : ℕ} → width ≡ min len slots
+  pub row-found : (found : Slots) (len : ℕ) {slots : ℕ} → width ≡ min len slots
       → slots ≡ slot_count nfa.groups → slot_count nfa.groups ≤ length found
       → length row ≡ length (take width found) → (path : Option (List Pair)) → row ≡ slot_row nfa (length row) path
       → row ++ blank (len - length row) ≡ slot_row nfa (length (row ++ blank (len - length row))) path
-  row-found valid found len cut all long filled =
+  row-found found len cut all long filled =
       let least : width ≡ min len (slot_count nfa.groups) = cut ∙ ap (min len) all in
       let size : length row ≡ width = omega (arith, filled, length-take width found, least) in
       let rest : Slots = blank (len - length row) in
       let left : length rest + width ≡ len = omega (arith, length-blank (len - length row), size, least) in
-      row-whole valid least size left (ap blank (sym (length-blank (len - length row))))
+      row-whole least size left (ap blank (sym (length-blank (len - length row))))

@@ -1,22 +1,14 @@
 -- A PikeVM as the engine of an iteration over matches: when its iterator may search, and what it gives and keeps.
-use Rattle.std.proofs.Common.{◌≡◌, ◌∙◌, Bool, false, Option, None, Some, Result, Ok, refl, sym, subst, inl, inr}
-use Rattle.nfa_paths.specs.Common.{Found, found_of, Search, Match, Automaton}
+use Rattle.nfa_paths.proofs.Common.{arith, ◌≡◌, Bool, false, Option, None, Some, Result, Ok, refl, sym, subst, inl, inr, Found, found_of, Search, Match, Automaton}
 use Rattle.nfa_paths.proofs.KnownLemmas.{match-sure, sure-match}
-use Rattle.nfa_search_base.specs.EngineSearches.{Keeping}
-use Rattle.nfa_search_base.specs.WithCache.{WithCache}
-use Rattle.nfa_search_base.specs.StepsWith.{TakesStepWith, steps_with_state, steps_with_iter_state}
-use Rattle.nfa_search_base.specs.Lists.{AnswersMatch}
-use Rattle.nfa_search_base.specs.Steps.{GivesItem}
-use Rattle.nfa_search_base.specs.Stored.{steps_iter_state, can_step_infallibly, takes_steps}
-use Rattle.nfa_search_base.specs.IterStates.{Answer, IsInfalliblyInside, fresh, span_of}
+use Rattle.nfa_search_base.specs.Common.{Keeping, WithCache, TakesStepWith, steps_with_state, steps_iter_state, AnswersMatch, GivesItem, can_step_infallibly, takes_steps, Answer, IsInfalliblyInside, fresh, span_of}
 use Rattle.nfa_search_base.specs.declared.error.SearchError.{SearchError}
 use Rattle.nfa_search_base.specs.declared.iter.steps.Steps.{Steps}
 use Rattle.nfa_search_base.proofs.EngineLemmas.{EngineOf, FinderOf, KeptBy, SearchesAs, SearchesOf, answers_as, calls-kept, find-lies, finds_by, same-or-made, searches-serve, step-may}
-use Rattle.nfa_search_base.proofs.ItemLemmas.{items_as}
+use Rattle.nfa_search_base.proofs.ItemLemmas.{items_as, ShellOf, steps_in}
 use Rattle.nfa_search_base.proofs.LeavingLemmas.{finds-leave, finds-to_end}
 use Rattle.nfa_search_base.proofs.MatchRunLemmas.{MatchesGiven, matches-given}
 use Rattle.nfa_search_base.proofs.RunLemmas.{AnswersOf, Begins}
-use Rattle.nfa_search_base.proofs.ShellLemmas.{ShellOf, steps_in}
 use Rattle.nfa_pikevm.specs.Engines.{Fits, Pike, PikeCache, SameCapacities, kind_of}
 use Rattle.nfa_pikevm.specs.FindMatches.{AsksPike, FindsBySearches, GivesCache, MayFindByPike, fits_pike, pike_matches, pike_matches_next, pike_knowing}
 use Rattle.nfa_pikevm.specs.Finding.{IsSureOf, PikeSearches, PikeAnswersMatch, pike_scans}
@@ -32,12 +24,7 @@ finds-sure vm t m finds = match-sure vm.nfa (kind_of vm) t.earliest t m finds
 
 -- a cache that has the same numbers fits what it fitted
 still-fits : (old new : PikeCache) (nfa : Automaton) → SameCapacities old new → Fits old nfa → Fits new nfa
-still-fits old new nfa k fits = record {
-  states = rw k.states fits.states;
-  slots = rw k.slots fits.slots;
-  patterns = rw k.patterns fits.patterns;
-  frames = rw k.frames fits.frames;
-}
+still-fits old new nfa k fits = grind arith
 
 -- so it fits after a search
 pub searched-fits : (vm : Pike) (x : Search) (old new : PikeCache) → PikeSearches vm x old new → fits_pike old vm
@@ -75,7 +62,7 @@ abbrev pub find_shell : ShellOf (TakesStepWith span_of AsksPike (λ _. GivesItem
 find_shell = record { calls = pike_matches_next; inner = pike_matches; is = λ s r t st. st.takes }
 
 may-now : (s : FindMatches) → MayFindByPike (steps_with_state (pike_matches s)).backend
-    (steps_with_iter_state (pike_matches s)).at
+    (steps_iter_state (pike_matches s).steps).at
 may-now s = record { fits = s.fits; knows = s.knows }
 
 -- it may search in every state, and never errs
@@ -83,7 +70,7 @@ pub find-serves : (s : FindMatches) → can_step_infallibly MayFindByPike AsksPi
     (steps_with_state (pike_matches s))
 find-serves s = searches-serve pike_finds (IsInfalliblyInside span_of)
     (λ vm t a h. find-lies vm.nfa (kind_of vm) t.earliest t a h)
-    (steps_with_state (pike_matches s)).backend (steps_with_iter_state (pike_matches s)).at (may-now s)
+    (steps_with_state (pike_matches s)).backend (steps_iter_state (pike_matches s).steps).at (may-now s)
 
 -- and goes on after a step
 pub step-goes : (s : FindMatches) (r : Option (Result Match SearchError)) (t : Steps (WithCache Finder PikeCache))
@@ -98,12 +85,7 @@ pub same_capacities : (a : PikeCache) → SameCapacities a a
 same_capacities a = record { states = refl; slots = refl; patterns = refl; frames = refl }
 
 pub same_capacities-then : (a b c : PikeCache) → SameCapacities a b → SameCapacities b c → SameCapacities a c
-same_capacities-then a b c f g = record {
-  states = g.states ∙ f.states;
-  slots = g.slots ∙ f.slots;
-  patterns = g.patterns ∙ f.patterns;
-  frames = g.frames ∙ f.frames;
-}
+same_capacities-then a b c f g = grind arith
 
 abbrev find_kept : KeptBy AsksPike
 find_kept = record {
@@ -123,7 +105,7 @@ gives-cache = calls-kept find_kept find_shell
 -- ---- an iterator of vm that begins at x
 
 module _ (vm : Pike) (x : Search) (s : FindMatches) (engine : s.steps.backend.engine.now ≡ vm)
-    (iter_state : steps_with_iter_state (pike_matches s) ≡ fresh x) (going : s.steps.done ≡ false) where
+    (iter_state : steps_iter_state (pike_matches s).steps ≡ fresh x) (going : s.steps.done ≡ false) where
   begins : Begins (SearchesAs pike_finds vm) x (steps_with_state (pike_matches s))
   begins = record { iter_state = iter_state; going = going; good = engine }
 

@@ -1,6 +1,5 @@
 -- If a match may end anywhere, the earliest match shows whether there is a match.
-use Rattle.std.proofs.Common.{◌≡◌, ℕ, Option, Bool, false, not, is_some}
-use Rattle.nfa_paths.specs.Common.{Search, MatchKind, Automaton, Slots, is_utf8_empty, IsAnswer, IsBoolAnswer, IsWork}
+use Rattle.nfa_paths.proofs.Common.{◌≡◌, ℕ, Option, Bool, false, not, is_some, Search, MatchKind, Automaton, Slots, is_utf8_empty, IsAnswer, IsBoolAnswer, IsWork, arith}
 use Rattle.nfa_paths.proofs.EarliestLemmas.{search_answer-asked, found_answer-earliest}
 use Rattle.nfa_paths.proofs.PatternLemmas.{found-of}
 
@@ -9,18 +8,7 @@ module _ {nfa : Automaton} {kind : MatchKind} {x y : Search} {e : Bool} (is_e : 
   -- the work for the answer
   pub work-free : {scans turns : ℕ} → IsWork nfa kind y.earliest y scans turns
       → IsWork nfa kind (not (is_utf8_empty nfa)) x scans turns
-  work-free {scans} {turns} w = of (rw is_y at w)
-    where
-      of : IsWork nfa kind e (record x { earliest = e }) scans turns
-          → IsWork nfa kind (not (is_utf8_empty nfa)) x scans turns
-      of w = rw (← is_e)
-          (record {
-            restarts = w.restarts;
-            path = w.path;
-            answers = search_answer-asked nfa kind e x e w.restarts w.path w.answers;
-            scans_are = w.scans_are;
-            turns_reach = w.turns_reach;
-          })
+  work-free {scans} {turns} w = grind (arith, search_answer-asked)
 
   -- whether there is a match
   pub found-free : {slots : Slots} {pattern : Option ℕ} → IsAnswer nfa kind y.earliest y pattern slots

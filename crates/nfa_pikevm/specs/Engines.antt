@@ -1,8 +1,7 @@
 -- A PikeVM and its cache as values, and the condition that a cache fits.
 use Rattle.std.specs.Prelude.{◌≡◌, ◌⊎◌, ℕ, ◌+◌, ◌*◌, ◌≤◌, Option, length, unwrap_or}
-use Rattle.nfa_paths.specs.Common.{slot_count, MatchKind, Automaton}
-use Rattle.regex_search_core.specs.declared.search.MatchKind.TheVariants.{LeftmostFirst}
-use Rattle.nfa_scan_core.specs.Numbers.{saturated}
+use Rattle.nfa_paths.specs.Common.{slot_count, MatchKind, Automaton, LeftmostFirst}
+use Rattle.nfa_scan_core.specs.Marks.{saturated}
 use Rattle.nfa_pikevm_scan.specs.Needs.{stack_frames}
 
 -- an NFA, and the match kind, if one was set

@@ -1,15 +1,7 @@
 -- The iterator over the matches of a PikeVM.
-use Rattle.std.specs.Prelude.{List, map, Option, None, Ok, option_map, Bool}
-use Rattle.std.specs.Borrow.{MutBor}
-use Rattle.std.specs.Iterator.{Yields}
+use Rattle.std.specs.Prelude.{List, map, Option, None, Ok, option_map}
 use Rattle.nfa_paths.specs.Common.{Found, found_of, Search, Match}
-use Rattle.nfa_search_base.specs.EngineSearches.{AsksEngine, Knowing, MayFind}
-use Rattle.nfa_search_base.specs.WithCache.{WithCache}
-use Rattle.nfa_search_base.specs.StepsWith.{GivesStepsWith, StepsWith, TakesStepWith}
-use Rattle.nfa_search_base.specs.Runs.{GivesKept}
-use Rattle.nfa_search_base.specs.Steps.{GivesItem}
-use Rattle.nfa_search_base.specs.Searchers.{iter_state_of}
-use Rattle.nfa_search_base.specs.IterStates.{Answer, IterState, span_of}
+use Rattle.nfa_search_base.specs.Common.{AsksEngine, Knowing, MayFind, WithCache, GivesStepsWith, StepsWith, TakesStepWith, GivesKept, GivesItem, Answer, span_of, Yields}
 use Rattle.nfa_pikevm.specs.Engines.{Fits, Pike, PikeCache, SameCapacities}
 use Rattle.nfa_pikevm.specs.Finding.{IsSureOf, PikeFindsOn, PikeFindsToEnd, PikeSearches, PikeAnswersMatch, pike_scans}
 use Rattle.nfa_pikevm.specs.declared.find_iter.FindMatches.{FindMatches}
@@ -23,20 +15,9 @@ pike_knowing a = record { engine = a.engine.now; known = a.known }
 abbrev pub pike_matches : FindMatches → StepsWith Finder PikeCache
 pike_matches s = record { steps = s.steps; cache = s.cache }
 
--- the cache that it searches with
-abbrev pub pike_matches_cache : FindMatches → MutBor PikeCache
-pike_matches_cache s = s.cache
-
 -- the engine that it searches with
 abbrev pub pike_matches_engine : FindMatches → Pike
 pike_matches_engine s = s.steps.backend.engine.now
-
--- its position, and whether it has ended
-abbrev pub pike_matches_iter_state : FindMatches → IterState
-pike_matches_iter_state s = iter_state_of s.steps.searcher
-
-abbrev pub pike_matches_done : FindMatches → Bool
-pike_matches_done s = s.steps.done
 
 -- the cache fits the PikeVM
 abbrev pub fits_pike : PikeCache → Pike → Type 0
@@ -51,12 +32,9 @@ abbrev pub AsksPike : WithCache Finder PikeCache → Search → Answer Found →
 AsksPike = AsksEngine IsSureOf pike_knowing PikeAnswersMatch (λ vm x a. PikeSearches vm x) pike_scans
 
 -- a call
-pub record PikeFindsNext (s : FindMatches) (r : Option Match) (t : FindMatches) : Type 0 where
+pub record pike_matches_next (s : FindMatches) (r : Option Match) (t : FindMatches) : Type 0 where
   pub takes : TakesStepWith span_of AsksPike (λ _. GivesItem found_of) (pike_matches s)
       (option_map (λ m. Ok m) r) (pike_matches t)
-
-abbrev pub pike_matches_next : FindMatches → Option Match → FindMatches → Type 0
-pike_matches_next s r t = PikeFindsNext s r t
 
 -- the known answer of its next search
 abbrev pub pike_finds_known : FindMatches → Option Found

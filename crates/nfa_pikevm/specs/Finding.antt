@@ -1,13 +1,7 @@
 -- The answers of a PikeVM to searches for a match or for captures.
 use Rattle.std.specs.Prelude.{◌≤◌, ◌*◌, ◌+◌, ℕ, List, Option, Ok}
-use Rattle.nfa_paths.specs.Common.{Found, found_of, Search, Match, IsWork, max_scans, span_len, total_degree}
-use Rattle.nfa_paths.specs.Known.{IsSureMatch}
-use Rattle.nfa_search_base.specs.WithCaptures.{Row, row_span}
-use Rattle.nfa_search_base.specs.CapturesLists.{AnswersRow}
-use Rattle.nfa_search_base.specs.Finders.{answer_by}
-use Rattle.nfa_search_base.specs.Leaving.{DoesSearch, FindsLeave, FindsLeaveAtEnd, Leaves, LeavesAtEnd}
-use Rattle.nfa_search_base.specs.Lists.{AnswersMatch}
-use Rattle.nfa_search_base.specs.IterStates.{Answer}
+use Rattle.nfa_paths.specs.Common.{Found, found_of, Search, Match, IsWork, max_scans, span_len, total_degree, IsSureMatch}
+use Rattle.nfa_search_base.specs.Common.{Row, row_span, AnswersRow, answer_by, DoesSearch, FindsLeave, FindsLeaveAtEnd, Leaves, LeavesAtEnd, AnswersMatch, Answer}
 use Rattle.nfa_pikevm.specs.Engines.{Pike, PikeCache, AddsPikeWork, SameCapacities, kind_of}
 
 -- the answer of one search for a match: the match of its kind and its `earliest`, and never an error

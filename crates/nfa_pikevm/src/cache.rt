@@ -46,7 +46,7 @@ impl Drop for Cache {
 impl Model for Cache {
     ghost use Rattle.std.specs.Prelude.{◌+◌, length};
     ghost use Rattle.nfa_pikevm.specs.Engines.{PikeCache};
-    ghost use Rattle.nfa_pikevm_scan.specs.Sizes.{IsRoomFor};
+    ghost use Rattle.nfa_pikevm_scan.specs.Scans.{IsRoomFor};
 
     ghost Value = { PikeCache };
 

@@ -2,8 +2,7 @@
 ghost use Rattle.std.specs.Prelude.{◌≡◌, ◌+◌, ◌<◌, None, length, replicate, IfSome, IfNone, All};
 ghost use Rattle.regex_search_core.specs.Search.{search_of};
 ghost use Rattle.nfa_paths.specs.Paths.{IsAnswer};
-ghost use Rattle.nfa_search_base.specs.Lists.{IsSlotInside};
-ghost use Rattle.nfa_search_base.specs.Spans.{SpansInside};
+ghost use Rattle.nfa_search_base.specs.Lists.{IsSlotInside, SpansInside};
 ghost use Rattle.nfa_pikevm.specs.Engines.{Fits, kind_of};
 ghost use Rattle.nfa_pikevm.specs.Finding.{PikeSearches};
 

@@ -1,5 +1,5 @@
 //! Iteration over the captures of the matches of an input.
-ghost use Rattle.nfa_search_base.specs.CapturesLists.{HasGroups};
+ghost use Rattle.nfa_search_base.specs.Lists.{HasGroups};
 ghost use Rattle.nfa_pikevm.specs.Engines.{Fits};
 
 use crate::cache::Cache;
@@ -44,16 +44,14 @@ impl<'r> Model for CapturesFinder<'r> {
 impl PikeVM {
     ghost use Rattle.std.specs.Prelude.{◌≡◌, false, All, IfOk, IsOkUnless, None, map};
     ghost use Rattle.regex_search_core.specs.Search.{search_of};
-    ghost use Rattle.nfa_search_base.specs.CapturesGiven.{CapturesGiven};
+    ghost use Rattle.nfa_search_base.specs.Runs.{CapturesGiven};
     ghost use Rattle.nfa_search_base.specs.WithCaptures.{row_of};
-    ghost use Rattle.nfa_search_base.specs.CapturesLists.{AreRows, AnswersRow};
-    ghost use Rattle.nfa_search_base.specs.CapturesRuns.{CapturesInside, CapturesMemory, CapturesWithin, match_in};
-    ghost use Rattle.nfa_search_base.specs.Lists.{AreDisjoint, AreMatches};
+    ghost use Rattle.nfa_search_base.specs.Lists.{AreRows, AnswersRow, AreDisjoint, AreMatches};
+    ghost use Rattle.nfa_search_base.specs.Runs.{CapturesInside, CapturesMemory, CapturesWithin, match_in};
     ghost use Rattle.nfa_search_base.specs.IterStates.{fresh};
     ghost use Rattle.nfa_pikevm.specs.CapturesMatches.{CapturesBySearches, CapturesGiveCache};
-    ghost use Rattle.nfa_pikevm.specs.CapturesMatches.{pike_captures_cache, pike_captures_done};
-    ghost use Rattle.nfa_pikevm.specs.CapturesMatches.{pike_captures_engine, pike_captures_next};
-    ghost use Rattle.nfa_pikevm.specs.CapturesMatches.{pike_captures_iter_state};
+    ghost use Rattle.nfa_pikevm.specs.CapturesMatches.{pike_captures, pike_captures_next};
+    ghost use Rattle.nfa_search_base.specs.Stored.{steps_iter_state};
     ghost use Rattle.nfa_pikevm.specs.Engines.{SameCapacities, kind_of};
     ghost use Rattle.nfa_pikevm.specs.Finding.{PikeCapturesOn, PikeCapturesToEnd};
 
@@ -84,11 +82,12 @@ impl PikeVM {
     ) -> Result<CapturesMatches<'r, 'c, 'h>, SearchError>
         requires { Fits cache.old self.now.nfa }
         ensures memory { IsOkUnless result SearchError.Memory }
-        ensures same_reference { IfOk result (λ made. (pike_captures_cache made).ghost_name ≡ cache.entry.ghost_name) }
-        ensures same_cache { IfOk result (λ made. (pike_captures_cache made).now ≡ cache.entry.now) }
-        ensures engine { IfOk result (λ made. pike_captures_engine made ≡ self.now) }
-        ensures iter_state { IfOk result (λ made. pike_captures_iter_state made ≡ fresh (search_of input.entry)) }
-        ensures going { IfOk result (λ made. pike_captures_done made ≡ false) }
+        ensures same_reference { IfOk result (λ made. (pike_captures made).cache.ghost_name ≡ cache.entry.ghost_name) }
+        ensures same_cache { IfOk result (λ made. (pike_captures made).cache.now ≡ cache.entry.now) }
+        ensures engine { IfOk result (λ made. (pike_captures made).steps.backend.finder ≡ self.now) }
+        ensures iter_state { IfOk result (λ made.
+            steps_iter_state (pike_captures made).steps ≡ fresh (search_of input.entry)) }
+        ensures going { IfOk result (λ made. (pike_captures made).steps.done ≡ false) }
         // Each run of calls gives the first captures of the input, and all of them if it goes on to `None`. If no copy
         // fails, their rows and their matches are those of the input.
         ensures given { IfOk result (CapturesGiven pike_captures_next self.now.nfa (kind_of self.now)
@@ -125,11 +124,11 @@ impl PikeVM {
     ) -> CapturesMatches<'r, 'c, 'h>
         requires fits { Fits cache.old self.now.nfa }
         requires holds { HasGroups self.now.nfa captures }
-        ensures same_reference { (pike_captures_cache result).ghost_name ≡ cache.entry.ghost_name }
-        ensures same_cache { (pike_captures_cache result).now ≡ cache.entry.now }
-        ensures engine { pike_captures_engine result ≡ self.now }
-        ensures iter_state { pike_captures_iter_state result ≡ fresh (search_of input.entry) }
-        ensures going { pike_captures_done result ≡ false }
+        ensures same_reference { (pike_captures result).cache.ghost_name ≡ cache.entry.ghost_name }
+        ensures same_cache { (pike_captures result).cache.now ≡ cache.entry.now }
+        ensures engine { (pike_captures result).steps.backend.finder ≡ self.now }
+        ensures iter_state { steps_iter_state (pike_captures result).steps ≡ fresh (search_of input.entry) }
+        ensures going { (pike_captures result).steps.done ≡ false }
         // Each run of calls gives the first captures of the input, and all of them if it goes on to `None`. If no copy
         // fails, their rows and their matches are those of the input.
         ensures given { CapturesGiven pike_captures_next self.now.nfa (kind_of self.now)
@@ -196,7 +195,9 @@ impl PikeVM {
 
 impl<'r> FindWith for CapturesFinder<'r> {
     ghost use Rattle.nfa_search_base.specs.WithCaptures.{Row, filled_answer, row_span, GivesCaptures};
-    ghost use Rattle.nfa_pikevm.specs.CapturesMatches.{AsksPikeRow, MayFillByPike};
+    ghost use Rattle.nfa_pikevm.specs.CapturesMatches.{AsksPikeRow};
+    ghost use Rattle.nfa_pikevm.specs.FindMatches.{fits_pike};
+    ghost use Rattle.nfa_search_base.specs.EngineSearches.{MayFill};
 
     type Cache = Cache;
 
@@ -208,7 +209,7 @@ impl<'r> FindWith for CapturesFinder<'r> {
 
     ghost span = { row_span };
 
-    ghost accepts = { λ s _. MayFillByPike s };
+    ghost accepts = { λ s _. MayFill (λ vm. vm.nfa) fits_pike s };
 
     type Item = Captures;
 
@@ -234,14 +235,14 @@ impl<'r> FindWith for CapturesFinder<'r> {
 }
 
 impl<'r, 'c, 'h> Iterator for CapturesMatches<'r, 'c, 'h> {
-    ghost use Rattle.nfa_search_base.specs.StepsWith.{steps_with_left};
+    ghost use Rattle.nfa_search_base.specs.Stored.{steps_left};
     ghost use Rattle.nfa_pikevm.specs.CapturesMatches.{pike_captures, pike_captures_next};
 
     type Item = Result<Captures, SearchError>;
 
     ghost next_gives = { pike_captures_next };
 
-    ghost remaining = { λ s. steps_with_left (pike_captures s) };
+    ghost remaining = { λ s. steps_left (pike_captures s).steps };
 
     fn next(&mut self) -> Option<Result<Captures, SearchError>> {
         self.steps.next_with(self.cache)

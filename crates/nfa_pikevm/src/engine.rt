@@ -5,7 +5,7 @@ ghost use Rattle.regex_search_core.specs.Search.{search_of};
 ghost use Rattle.regex_search_core.specs.Groups.{slot_count};
 ghost use Rattle.regex_search_core.specs.Patterns.{number_of};
 ghost use Rattle.regex_search_core.specs.Found.{found_of, half_found_of};
-ghost use Rattle.thompson_nfa.specs.Simple.{always, never};
+ghost use Rattle.thompson_nfa.specs.Automaton.{always, never};
 ghost use Rattle.nfa_paths.specs.Overlaps.{IsOverlapResult};
 ghost use Rattle.nfa_paths.specs.Paths.{span_len, total_degree, max_scans, is_utf8_empty, IsAnswer, IsBoolAnswer};
 ghost use Rattle.nfa_paths.specs.Paths.{IsHalfAnswer, IsFindAnswer, IsWork, raised};
@@ -13,7 +13,7 @@ ghost use Rattle.nfa_pikevm.specs.Engines.{AddsPikeWork, Fits, SameCapacities, k
 ghost use Rattle.nfa_pikevm.specs.Finding.{PikeSearches};
 ghost use Rattle.nfa_pikevm_scan.specs.Needs.{overlap_scans};
 ghost use Rattle.nfa_pikevm_scan.specs.Scans.{HaveRoom, SameSizes, max_scan_turns};
-ghost use Rattle.nfa_search_base.specs.Finds.{finds};
+ghost use Rattle.nfa_search_base.specs.Lists.{finds};
 ghost use Rattle.nfa_search_base.specs.Lists.{IsInside, IsSlotInside};
 
 use crate::cache::Cache;

@@ -41,12 +41,10 @@ impl PikeVM {
     ghost use Rattle.nfa_search_base.specs.Lists.{AreMatches, AreDisjoint, IsInside};
     ghost use Rattle.nfa_search_base.specs.IterStates.{fresh};
     ghost use Rattle.nfa_pikevm.specs.Engines.{SameCapacities, kind_of};
-    ghost use Rattle.nfa_pikevm.specs.FindMatches.{FindsBySearches, GivesCache, pike_matches_cache, pike_matches_done};
-    ghost use Rattle.nfa_pikevm.specs.FindMatches.{pike_matches_engine, pike_finds_known, pike_matches_next};
-    ghost use Rattle.nfa_pikevm.specs.FindMatches.{pike_matches_iter_state};
+    ghost use Rattle.nfa_pikevm.specs.FindMatches.{FindsBySearches, GivesCache, pike_finds_known, pike_matches};
+    ghost use Rattle.nfa_pikevm.specs.FindMatches.{pike_matches_engine, pike_matches_next};
     ghost use Rattle.nfa_pikevm.specs.Finding.{PikeFindsOn, PikeFindsToEnd};
-    ghost use Rattle.nfa_search_base.specs.MatchRuns.{MatchesRun, MatchesAre, MatchesDisjoint, MatchesFirst};
-    ghost use Rattle.nfa_search_base.specs.MatchRuns.{MatchesNext};
+    ghost use Rattle.nfa_search_base.specs.Runs.{MatchesRun, MatchesAre, MatchesDisjoint, MatchesFirst, MatchesNext};
 
     /// Returns an iterator over all matches that do not overlap, from left to right. Does not allocate. Requires a
     /// cache that fits.
@@ -68,11 +66,11 @@ impl PikeVM {
         input: Input<'h>,
     ) -> FindMatches<'r, 'c, 'h>
         requires { Fits cache.old self.now.nfa }
-        ensures same_reference { (pike_matches_cache result).ghost_name ≡ cache.entry.ghost_name }
-        ensures same_cache { (pike_matches_cache result).now ≡ cache.entry.now }
+        ensures same_reference { (pike_matches result).cache.ghost_name ≡ cache.entry.ghost_name }
+        ensures same_cache { (pike_matches result).cache.now ≡ cache.entry.now }
         ensures engine { pike_matches_engine result ≡ self.now }
-        ensures iter_state { pike_matches_iter_state result ≡ fresh (search_of input.entry) }
-        ensures going { pike_matches_done result ≡ false }
+        ensures iter_state { steps_iter_state (pike_matches result).steps ≡ fresh (search_of input.entry) }
+        ensures going { (pike_matches result).steps.done ≡ false }
         ensures known { pike_finds_known result ≡ None }
         // Each run of calls gives the first matches of the input, and all of them if it goes on to `None`.
         ensures runs { MatchesRun self.now.nfa (kind_of self.now) (search_of input.entry) pike_matches_next result }
@@ -139,7 +137,7 @@ impl PikeVM {
 
 impl<'r> FindWith for Finder<'r> {
     ghost use Rattle.regex_search_core.specs.Found.{Found, found_of};
-    ghost use Rattle.nfa_search_base.specs.Steps.{GivesItem};
+    ghost use Rattle.nfa_search_base.specs.Items.{GivesItem};
     ghost use Rattle.nfa_search_base.specs.IterStates.{span_of};
     ghost use Rattle.nfa_pikevm.specs.Finding.{answer_of};
     ghost use Rattle.nfa_pikevm.specs.FindMatches.{AsksPike, MayFindByPike};
@@ -186,14 +184,14 @@ impl<'r> FindWith for Finder<'r> {
 }
 
 impl<'r, 'c, 'h> Iterator for FindMatches<'r, 'c, 'h> {
-    ghost use Rattle.nfa_search_base.specs.StepsWith.{infallible_left_with};
+    ghost use Rattle.nfa_search_base.specs.Stored.{infallible_left};
     ghost use Rattle.nfa_pikevm.specs.FindMatches.{pike_matches, pike_matches_next};
 
     type Item = Match;
 
     ghost next_gives = { pike_matches_next };
 
-    ghost remaining = { λ s. infallible_left_with (pike_matches s) };
+    ghost remaining = { λ s. infallible_left (pike_matches s).steps };
 
     fn next(&mut self) -> Option<Match> {
         match self.steps.next_with(self.cache) {

@@ -1,19 +1,24 @@
 -- From one position to the next of a scan for all sets of matches.
-use Rattle.std.proofs.Common.{◌≡◌, ℕ, ◌+◌, ◌-◌, ◌≤◌, inl, inr, ◌∷◌, length, replicate, refl, arith, Bool, true, false, Option, Some, None, cond, is_some}
-use Rattle.std.specs.Option.{option_or}
-use Rattle.nfa_paths.specs.Common.{Search, PatternID, HalfMatch, Automaton, Pair, Slots, Hit, is_resting, NoMatch, IsFoundBy, NoneBefore, LastBefore, last_match, IsFrontier, Scanning, is_match, capture, starts, IsScanAnswer, space}
-use Rattle.regex_search_core.specs.declared.search.MatchKind.TheVariants.{All as AllMatches, LeftmostFirst}
-use Rattle.nfa_paths.specs.Exploring.Task.{Load}
+use Rattle.nfa_pikevm_scan.proofs.Common.{AllMatches, AreMatchPairs, Automaton, Bool, Frontier, HalfMatch, Hit, IsFoundBy, IsFrontier, IsScanAnswer, IsSoFar, LastBefore, LeftmostFirst, Load, Moment, NextsGive, NoMatch, None, NoneBefore, Option, Pair, PatternID, Scanning, Search, SeenAt, Slots, Some, Starts, StatesGive, [], arith, blank, capture, cond, false, inl, inr, is_match, is_resting, is_some, last_match, length, meant, option_or, refl, replicate, space, starts, starts_from, tasks, true, unmarked, with_start, ℕ, ◌+◌, ◌-◌, ◌∷◌, ◌≡◌, ◌≤◌, ◌⊎◌}
 use Rattle.nfa_paths.proofs.FrontierMatchLemmas.{first_match-is, last_match-is}
-use Rattle.nfa_paths.proofs.ScanLemmas.{NoneBefore-step, LastBefore-step}
-use Rattle.nfa_paths.proofs.ScanAnswerLemmas.{edges-onward, seeds-later, Scanned-matches, scan_earliest-cut, scan_earliest_last-found}
-use Rattle.nfa_paths.proofs.ScanningLemmas.{Scanning-load, Scanning-front, Scanning-round}
-use Rattle.nfa_pikevm_scan.specs.States.{Frontier, Moment, meant, AreMatchPairs, PositionGives, GoesOn, SeenAt, NextsGive}
-use Rattle.nfa_pikevm_scan.specs.Scans.{blank, starts_from, IsSoFar, ScansAll, ScanningFrom}
-use Rattle.nfa_pikevm_scan.proofs.TaskLemmas.{AnswersFor-round, Searching-for}
-use Rattle.nfa_pikevm_scan.proofs.FrontierLemmas.{Formed-rests, Formed-resting, Formed-next, last_match-or}
-use Rattle.nfa_pikevm_scan.proofs.ScanLemmas.{EndsAt, EndsAt-none, Leads-starts, match-cross}
+use Rattle.nfa_paths.proofs.ScanAnswerLemmas.{Scanned-matches, edges-onward, scan_earliest-cut, scan_earliest_last-found, seeds-later}
+use Rattle.nfa_paths.proofs.ScanLemmas.{LastBefore-step, NoneBefore-step}
+use Rattle.nfa_paths.proofs.ScanningLemmas.{Scanning-front, Scanning-load, Scanning-round}
 use Rattle.nfa_scan_core.proofs.SeenLemmas.{SeenAt-none}
+use Rattle.nfa_pikevm_scan.proofs.FrontierLemmas.{Formed-next, Formed-resting, Formed-rests, last_match-or}
+use Rattle.nfa_pikevm_scan.proofs.ScanLemmas.{EndsAt, EndsAt-none, Leads-starts, match-cross}
+use Rattle.nfa_pikevm_scan.proofs.TaskLemmas.{AnswersFor-round, Searching-for}
+
+-- The scan for each wanted pair, at a position where it has followed no state yet. The states that are kept are left,
+-- and the starts from `next` on.
+pub record ScansAll (nfa : Automaton) (x : Search) (wanted : Pair → Bool) (at width start next limit : ℕ) (now : Moment)
+    : Type 0 where
+  pub scanning : Scanning (space nfa x) wanted (blank width) at (SeenAt at (unmarked now.met).bits) now.met.turns []
+      (tasks at now.kept (Load (blank width) ∷ starts_from width start next limit)) (blank width)
+
+-- what is held once the start has joined, if it may still join
+abbrev pub start_joined : Starts → ℕ → ℕ → Moment → Moment
+start_joined starts_at width at now = record now { kept = with_start starts_at width at now.kept }
 
 -- The match that was found last, of the paths that end before the position.
 pub record HasLast (nfa : Automaton) (x : Search) (at width : ℕ) (found : Option HalfMatch) (slots : Slots)
@@ -22,16 +27,15 @@ pub record HasLast (nfa : Automaton) (x : Search) (at width : ℕ) (found : Opti
   pub is_so_far : IsSoFar nfa x found slots so_far
   pub last : LastBefore (space nfa x) (is_match nfa) (blank width) at turns so_far
 
-module _ (wanted : Pair → Bool) {nfa : Automaton} (sub : AreMatchPairs nfa wanted) {x : Search}
-    {at : ℕ} (width state limit : ℕ) {a b : Moment} {front : Frontier} {goes : Type 0}
-    (c : PositionGives nfa x at a goes front b)
-    (s : ScanningFrom nfa x wanted at width state (at + 1) limit a) where
+module _ (wanted : Pair → Bool) {nfa : Automaton} (sub : AreMatchPairs nfa wanted) {x : Search} {at : ℕ}
+    (width state limit : ℕ) {a b : Moment} {front : Frontier} {goes : Type 0}
+    (c : StatesGive nfa x at a goes [] front b) (s : ScansAll nfa x wanted at width state (at + 1) limit a) where
   -- what was met and put aside, wherever the position ended
   pub all-left : Scanning (space nfa x) wanted (blank width) at (SeenAt at b.met.bits) b.met.turns front
       (Leads-starts c width state limit).left (Leads-starts c width state limit).written
   all-left = record {
     searching = λ target m. (Leads-starts c width state limit).follows.leads target (λ v t. sub v (m v t).0)
-        (starts nfa x) (blank width) None (s.searching target m);
+        (starts nfa x) (blank width) None (s.scanning.searching target m);
   }
 
   -- if it went on to the end of its work
@@ -48,7 +52,7 @@ module _ (wanted : Pair → Bool) {nfa : Automaton} (sub : AreMatchPairs nfa wan
       (seeds-later (blank width) state at (limit - (at + 1)))
 
   -- the next position
-  pub ScansAll-next : goes → ScansAll nfa x wanted (at + 1) width state limit b
+  pub ScansAll-next : goes → ScansAll nfa x wanted (at + 1) width state (at + 1) limit b
   ScansAll-next goes_on =
       let next = Scanning-round (space nfa x) wanted (blank width)
       {After = SeenAt (at + 1) (replicate (length b.met.bits) false)} (all-whole goes_on) (edges-onward nfa x)
@@ -65,12 +69,12 @@ module _ (wanted : Pair → Bool) {nfa : Automaton} (sub : AreMatchPairs nfa wan
         };
       })
 
-module _ (nfa : Automaton) (x : Search) (at width state limit : ℕ) where
+module _ {nfa : Automaton} {x : Search} {at width state limit : ℕ} where
   module _ {past : Bool} {a b : Moment} {hit : Option PatternID} (c : NextsGive nfa x at past a hit b)
-      (s : ScanningFrom nfa x (is_match nfa) at width state (at + 1) limit a) where
+      (s : ScansAll nfa x (is_match nfa) at width state (at + 1) limit a) where
     -- the same for a search, if each match is wanted
-    nexts-front : GoesOn past hit → IsFrontier (space nfa x) (is_resting nfa) (is_match nfa) (blank width) b.met.turns
-        c.front at
+    nexts-front : (past ≡ true) ⊎ (hit ≡ None)
+        → IsFrontier (space nfa x) (is_resting nfa) (is_match nfa) (blank width) b.met.turns c.front at
     nexts-front = all-front (is_match nfa) (λ v t. t) width state limit c.gives s
 
     -- no path ended before the position, and none ends at it
@@ -82,9 +86,7 @@ module _ (nfa : Automaton) (x : Search) (at width state limit : ℕ) where
         (nexts-front (inr none)) (no_match past (rw none at c.is_hit).0)
       where
         no_match : (p : Bool) → meant p (is_match nfa) c.front ≡ None → NoMatch (is_match nfa) c.front
-        no_match true e = elim (last_match-is (is_match nfa) None c.front)
-            [ inl h ↦ h.1 | inr h ↦ absurd (cc (h.1, e)) ]
-        no_match false e = elim (first_match-is (is_match nfa) c.front) [ inl h ↦ h.1 | inr h ↦ absurd (cc (h.1, e)) ]
+        no_match p e = grind (arith, last_match-is, first_match-is)
 
     -- if no path ended before, the match that is meant is the earliest path's, the first or the last
     pub earliest-found : NoneBefore (space nfa x) (is_match nfa) at → (v : Pair × Slots)
@@ -93,7 +95,7 @@ module _ (nfa : Automaton) (x : Search) (at width state limit : ℕ) where
         b.met.turns (Some v)
     earliest-found none v = of past (λ on. inl on)
       where
-        of : (p : Bool) → (p ≡ true → GoesOn past hit) → meant p (is_match nfa) c.front ≡ Some v
+        of : (p : Bool) → (p ≡ true → (past ≡ true) ⊎ (hit ≡ None)) → meant p (is_match nfa) c.front ≡ Some v
             → IsFoundBy (capture nfa) (blank width) (IsScanAnswer nfa x (cond p AllMatches LeftmostFirst) true)
             b.met.turns (Some v)
         of true goes_on last = scan_earliest_last-found nfa x (blank width) none (nexts-front (goes_on refl)) v last
@@ -103,8 +105,7 @@ module _ (nfa : Automaton) (x : Search) (at width state limit : ℕ) where
 
   -- the match at the position, or what was found before
   pub HasLast-cross : {a b : Moment} {hit : Option PatternID} {found : Option HalfMatch}
-      → (c : NextsGive nfa x at true a hit b)
-      → ScanningFrom nfa x (is_match nfa) at width state (at + 1) limit a
+      → (c : NextsGive nfa x at true a hit b) → ScansAll nfa x (is_match nfa) at width state (at + 1) limit a
       → a.met.turns ≤ b.met.turns → (half : Option HalfMatch) → EndsAt at hit half
       → HasLast nfa x at width found a.slots a.met.turns
       → HasLast nfa x (at + 1) width (option_or half found) b.slots b.met.turns

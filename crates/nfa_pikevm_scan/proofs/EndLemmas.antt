@@ -1,23 +1,14 @@
--- How a scan begins, joins its starts, and ends.
-use Rattle.std.proofs.Common.{sym, ◌≡◌, ℕ, ◌+◌, ◌-◌, ◌<◌, ◌≤◌, inl, inr, List, [], ◌∷◌, length, refl, arith, subst, Bool, true, false, Option, Some, None, cond, is_some}
-use Rattle.nfa_paths.specs.Common.{Search, half_found_of, PatternID, HalfMatch, MatchKind, Automaton, Pair, IsFirst, Task, Slots, Hit, seeds, is_resting, IsFoundBy, NoneBefore, EndsBefore, Scanning, edges, is_match, capture, starts, IsScanAnswer, space}
-use Rattle.regex_search_core.specs.declared.search.MatchKind.TheVariants.{All as AllMatches, LeftmostFirst}
-use Rattle.nfa_paths.specs.Exploring.Task.{Load}
-use Rattle.nfa_paths.specs.Restarts.{ScanGives}
-use Rattle.nfa_paths.proofs.SearchingLemmas.{Searching-load, Searching-done}
-use Rattle.nfa_paths.proofs.ScanAnswerLemmas.{Scanned-matches, starts-from, EndsBefore-span, IsFoundBy-none, IsFoundBy-some, scan_first-found, scan_all-found}
-use Rattle.nfa_paths.proofs.ScanLemmas.{IsFoundBy-more, NoneBefore-start, LastBefore-start, EndsBefore-over}
+-- How a scan begins, joins its starts, goes from one position to the next, and ends.
+use Rattle.nfa_pikevm_scan.proofs.Common.{AddsStart, AllMatches, AreAt, AreMatchPairs, AreStarts, Automaton, Bool, EndsBefore, Frontier, HalfMatch, Hit, IsFirst, IsFirstBytes, IsFoundBy, IsPassed, IsScanAnswer, IsSoFar, JoinsStart, KeepsThreads, LeftmostFirst, List, Load, Marks, MatchKind, MayCross, MayScan, Moment, NextsGive, None, NoneBefore, Option, Pair, PatternID, ScanGives, Scanning, Search, SearchesFirst, SearchingAt, SearchingFrom, SeenAt, Slots, Some, Starts, StatesGive, Threads, [], arith, between, blank, capture, cond, edges, false, half_found_of, held, inl, inr, is_match, is_resting, is_some, length, refl, rules, seeds, space, starts, starts_from, subst, sym, tasks, true, unmarked, with_start, ℕ, ◌+◌, ◌-◌, ◌<◌, ◌∷◌, ◌≡◌, ◌≤◌}
+use Rattle.nfa_paths.proofs.ScanAnswerLemmas.{EndsBefore-span, IsFoundBy-none, IsFoundBy-some, Scanned-matches, scan_all-found, scan_first-found, starts-from}
+use Rattle.nfa_paths.proofs.ScanLemmas.{EndsBefore-over, IsFoundBy-more, LastBefore-start, NoneBefore-start}
 use Rattle.nfa_paths.proofs.ScanningLemmas.{Scanning-load, Scanning-over}
-use Rattle.nfa_scan_core.specs.FirstBytes.{IsFirstBytes}
-use Rattle.nfa_scan_core.specs.Marks.{Marks}
-use Rattle.nfa_pikevm_scan.specs.States.{Moment, between, tasks, unmarked, AreMatchPairs, SeenAt, SearchingAt, NextsGive}
-use Rattle.nfa_pikevm_scan.specs.Scans.{blank, starts_from, start_joined, with_start, IsPassed, AddsStart, AreStarts, IsSoFar, SearchesFirst, SearchingFrom, ScansAll, ScanningFrom}
-use Rattle.nfa_pikevm_scan.specs.declared.scan.Starts.{Starts}
-use Rattle.nfa_pikevm_scan.proofs.TaskLemmas.{tasks-joins, tasks-alone, tasks-joined, starts_from-end, AnswersFor, AnswersFor-same, AnswersFor-then, AnswersFor-tasks, AnswersFor-pass, AnswersFor-skip, Searching-for, Searching-seen, Searching-begin}
-use Rattle.nfa_pikevm_scan.proofs.RoomLemmas.{over-joined}
-use Rattle.nfa_pikevm_scan.proofs.ScanLemmas.{EndsAt, match-cross}
-use Rattle.nfa_pikevm_scan.proofs.AllLemmas.{HasLast, earliest-found}
+use Rattle.nfa_paths.proofs.SearchingLemmas.{Searching-done, Searching-load}
 use Rattle.nfa_scan_core.proofs.SeenLemmas.{SeenAt-none}
+use Rattle.nfa_pikevm_scan.proofs.AllLemmas.{HasLast, ScansAll, earliest-found, start_joined}
+use Rattle.nfa_pikevm_scan.proofs.RoomLemmas.{AreAt-none, HaveRows-kept, KeepsThreads-none, KeepsThreads-then, below-joined, few-joined, over-joined}
+use Rattle.nfa_pikevm_scan.proofs.ScanLemmas.{AreAt-cross, EndsAt, match-cross}
+use Rattle.nfa_pikevm_scan.proofs.TaskLemmas.{AnswersFor, AnswersFor-pass, AnswersFor-same, AnswersFor-skip, AnswersFor-tasks, AnswersFor-then, Searching-begin, Searching-for, Searching-seen, starts_from-end, tasks-alone, tasks-joined, tasks-joins}
 
 module _ (nfa : Automaton) (x : Search) where
   -- the beginning
@@ -36,11 +27,10 @@ module _ (nfa : Automaton) (x : Search) where
 
     pub SearchesFirst-begin : slots ≡ blank (length slots)
         → SearchesFirst nfa x x.start (length slots) begins.state begins.limit None (between met [] slots)
-    SearchesFirst-begin unset =
-        record { so_far = None; is_so_far = (refl, unset); searching = SearchingAt-begin (is_match nfa) }
+    SearchesFirst-begin unset = grind (arith, SearchingAt-begin)
 
     pub ScansAll-begin : (wanted : Pair → Bool)
-        → ScansAll nfa x wanted x.start (length slots) begins.state begins.limit (between met [] slots)
+        → ScansAll nfa x wanted x.start (length slots) begins.state x.start begins.limit (between met [] slots)
     ScansAll-begin wanted = record { scanning = record { searching = λ target m. SearchingAt-begin target } }
 
     pub HasLast-begin : slots ≡ blank (length slots) → HasLast nfa x x.start (length slots) None slots met.turns
@@ -60,24 +50,12 @@ module _ (nfa : Automaton) (x : Search) where
 
   -- the starts join
 
-  -- all sets of wanted pairs at once
-  pub ScansAll-joined : (begins : Starts) (at width : ℕ) {wanted : Pair → Bool} {now : Moment}
-      → ScansAll nfa x wanted at width begins.state begins.limit now
-      → ScanningFrom nfa x wanted at width begins.state (at + 1) begins.limit
-      (start_joined begins width at now)
-  ScansAll-joined begins at width {wanted} {now} s =
-      subst (λ (w : List Task). Scanning (space nfa x) wanted (blank width) at (SeenAt at (unmarked now.met).bits)
-      now.met.turns [] w (blank width)) (tasks-joined begins width at now.kept) s.scanning
-
   module _ (table : List Bool) (first : IsFirstBytes nfa table) (begins : Starts) (are : AreStarts nfa x begins)
       (limit width : ℕ) where
     -- a start that may be passed over
     passed : (k : ℕ) → x.start ≤ k → IsPassed table x begins k → (marks : List Pair)
         → IsFirst (edges nfa x) (is_match nfa) marks (begins.state, k) None
-    passed k low p marks =
-        let less : k < begins.stop = p.0 in
-        let ahead : x.start < begins.stop = omega arith in
-        rw (are.skips ahead) (first.none x k p.1 marks)
+    passed k low p marks = rw (are.skips (omega (arith, low, p.0))) (first.none x k p.1 marks)
 
     -- the starts up to a position were passed over, or none was
     skip-work : (at to : ℕ) (items kept : List (ℕ × Slots)) → x.start ≤ at
@@ -162,6 +140,11 @@ module _ (nfa : Automaton) (x : Search) where
         short = h.short;
       }
 
+  -- every path ends within the span
+  pub ends-at : (at : ℕ) → at ≡ x.end + 1 → EndsBefore (space nfa x) (is_match nfa) at
+  ends-at at e = rw e (EndsBefore-span nfa x (is_match nfa))
+
+module _ {nfa : Automaton} {x : Search} where
   -- nothing is left of the search for the first path
   pub first-over : {at width state limit : ℕ} {found : Option HalfMatch} {now : Moment}
       → SearchesFirst nfa x at width state limit found now → limit ≤ at → now.kept ≡ [] → width ≡ length now.slots
@@ -170,42 +153,75 @@ module _ (nfa : Automaton) (x : Search) where
       let alone : SearchingAt nfa x at (is_match nfa) (starts nfa x) (blank width) s.so_far (unmarked now.met) []
       (Load (blank width) ∷ []) (blank width) = rw (none, starts_from-end width state past) at s.searching in
       let answer = Searching-done (space nfa x) (is_match nfa) (Searching-load (space nfa x) (is_match nfa) alone) in
-      Scans-so_far LeftmostFirst false width now.met.turns found now.slots s.so_far s.is_so_far
+      Scans-so_far nfa x LeftmostFirst false width now.met.turns found now.slots s.so_far s.is_so_far
       (scan_first-found nfa x (blank width) now.met.turns s.so_far answer) size
 
+  -- the start joins
+  pub ScansAll-joined : (begins : Starts) {at width : ℕ} {wanted : Pair → Bool} {now : Moment}
+      → ScansAll nfa x wanted at width begins.state at begins.limit now
+      → ScansAll nfa x wanted at width begins.state (at + 1) begins.limit (start_joined begins width at now)
+  ScansAll-joined begins s = grind (arith, tasks-joined)
+
   -- no state and no start is left: every path has ended
-  pub ScansAll-over : (begins : Starts) (at width : ℕ) {wanted : Pair → Bool} {now : Moment}
-      → ScansAll nfa x wanted at width begins.state begins.limit now → with_start begins width at now.kept ≡ []
+  pub ScansAll-over : (begins : Starts) {at width : ℕ} {wanted : Pair → Bool} {now : Moment}
+      → ScansAll nfa x wanted at width begins.state at begins.limit now → with_start begins width at now.kept ≡ []
       → AreMatchPairs nfa wanted → EndsBefore (space nfa x) wanted at
-  ScansAll-over begins at width {wanted} {now} s none sub =
+  ScansAll-over begins {at} {width} {wanted} {now} s none sub =
       let past : begins.limit ≤ at = over-joined begins width at now.kept none in
       let later : begins.limit ≤ at + 1 = omega arith in
       let alone : Scanning (space nfa x) wanted (blank width) at (SeenAt at (unmarked now.met).bits) now.met.turns []
       (Load (blank width) ∷ []) (blank width) =
-      rw (none, starts_from-end width begins.state later) at (ScansAll-joined begins at width s) in
+      rw (none, starts_from-end width begins.state later) at (ScansAll-joined begins s).scanning in
       EndsBefore-over (space nfa x) (is_resting nfa) wanted (blank width) (Scanned-matches nfa x wanted sub) at
       (Scanning-over (space nfa x) wanted (blank width) (Scanning-load (space nfa x) wanted (blank width) alone))
 
   -- what was found last
-  pub last-over : (at width : ℕ) (found : Option HalfMatch) (slots : Slots) (turns : ℕ)
+  pub last-over : {at width turns : ℕ} {found : Option HalfMatch} {slots : Slots}
       → HasLast nfa x at width found slots turns → EndsBefore (space nfa x) (is_match nfa) at → width ≡ length slots
       → ScanGives nfa AllMatches false x found slots turns
-  last-over at width found slots turns h ends size =
-      Scans-so_far AllMatches false width turns found slots h.so_far h.is_so_far
-      (scan_all-found nfa x (blank width) h.last ends) size
-
-  -- every path ends within the span
-  pub ends-at : (at : ℕ) → at ≡ x.end + 1 → EndsBefore (space nfa x) (is_match nfa) at
-  ends-at at e = rw e (EndsBefore-span nfa x (is_match nfa))
+  last-over h ends size = search (rules, Scans-so_far, scan_all-found)
 
   -- the first position with a match
-  pub earliest-over : (at width state limit : ℕ) {past : Bool} {a b : Moment} {hit : Option PatternID}
-      → NextsGive nfa x at past a hit b
-      → ScanningFrom nfa x (is_match nfa) at width state (at + 1) limit a
+  pub earliest-over : {at width state limit : ℕ} {past : Bool} {a b : Moment} {hit : Option PatternID}
+      → NextsGive nfa x at past a hit b → ScansAll nfa x (is_match nfa) at width state (at + 1) limit a
       → NoneBefore (space nfa x) (is_match nfa) at → (half : Option HalfMatch) → EndsAt at hit half
       → is_some half ≡ true → width ≡ length b.slots
       → ScanGives nfa (cond past AllMatches LeftmostFirst) true x half b.slots b.met.turns
-  earliest-over at width state limit {past} {a} {b} c s none half is some size =
+  earliest-over {width = width} {past = past} {b = b} c s none half is some size =
       let k = match-cross c half is some in
-      Scans-so_far (cond past AllMatches LeftmostFirst) true width b.met.turns half b.slots (Some (k.0, b.slots)) k.2
-      (earliest-found nfa x at width state limit c s none (k.0, b.slots) k.1) size
+      Scans-so_far nfa x (cond past AllMatches LeftmostFirst) true width b.met.turns half b.slots (Some (k.0, b.slots))
+      k.2 (earliest-found c s none (k.0, b.slots) k.1) size
+
+-- The threads at a position of a scan that began with the threads `base`.
+pub record Stands (nfa : Automaton) (x : Search) (at : ℕ) (base now : Threads) : Type 0 where
+  pub low : x.start ≤ at
+  pub keeps : KeepsThreads base now
+  pub next : now.reached.next.items ≡ []
+  pub states : AreAt nfa x at base.reached.seen.turns now.reached.seen.turns now.curr.items
+
+-- at the start of a scan
+pub Stands-begin : {nfa : Automaton} {x : Search} {from : Starts} {slots : Slots} {t : Threads} {at : ℕ} → at ≡ x.start
+    → MayScan nfa x from slots t → Stands nfa x at t t
+Stands-begin start ready = grind (arith, KeepsThreads-none, AreAt-none)
+
+-- the start joins their states, if it may
+module _ {nfa : Automaton} {x : Search} {begins from : Starts} {slots : Slots} {at : ℕ} {base now mid : Threads}
+    (ready : MayScan nfa x begins slots base) (s : Stands nfa x at base now) (j : JoinsStart from at now mid) where
+  pub joined-items : mid.curr.items ≡ with_start from (length slots) at now.curr.items
+  joined-items = rw (s.keeps.width, ready.room.width_is) at j.curr
+
+  -- they may be followed
+  pub Stands-may : from.state < length nfa.states → at ≤ x.end → MayCross nfa x at (length slots) mid
+  Stands-may state within = grind (arith, joined-items, below-joined, HaveRows-kept, KeepsThreads-then)
+
+  -- the next position
+  pub Stands-next : {new : Threads} → KeepsThreads mid new → new.reached.next.items ≡ [] → {row written : Slots}
+      {front : Frontier} {goes : Type 0} → StatesGive nfa x at (held mid row) goes [] front (held new written)
+      → Stands nfa x (at + 1) base new
+  Stands-next keeps next c = record {
+    low = omega (arith, s.low);
+    keeps = KeepsThreads-then s.keeps (KeepsThreads-then j.keeps keeps);
+    next = next;
+    states = AreAt-cross c ready.starts.leads base.reached.seen.turns (length now.curr.items) s.low
+        (rw j.seen s.states.paid) (rw joined-items (few-joined from (length slots) at now.curr.items));
+  }

@@ -1,41 +1,26 @@
 -- What the front of a position leads on to, and what it costs.
-use Rattle.std.proofs.Common.{append-nil, option_and_then, ◌≡◌, ℕ, ◌+◌, ◌-◌, ◌*◌, ◌<◌, ◌≤◌, ◌⊎◌, inl, inr, List, [], ◌∷◌, length, map, refl, ap, sym, ◌∙◌, arith, subst, Bool, true, false, Option, Some, None, All, cond, option_map, option_to_list, sum_by}
-use Rattle.std.specs.Option.{option_or}
-use Rattle.std.proofs.Math.Nat.{mul-le-mul_right}
-use Rattle.std.proofs.lemmas.List.Elements.{All-cons, All-nil}
-use Rattle.std.proofs.lemmas.List.Sums.{sum-map, sum_by-cons}
-use Rattle.nfa_paths.specs.Common.{Search, Automaton, Node, LeadsBelow, Pair, In, Slots, Hit, rests, is_resting, last_match, degree, node_at, edges, edges_of, byte_at, target_on, capture, total_degree, span_len}
-use Rattle.thompson_nfa.specs.Automaton.Node.{Fail}
-use Rattle.nfa_paths.proofs.ScanAnswerLemmas.{edges-rise}
-use Rattle.nfa_paths.proofs.StartLemmas.{resting-capture, resting-edges, byte_pairs, byte_at-within}
-use Rattle.nfa_paths.proofs.TurnLemmas.{marked_sum-le}
-use Rattle.nfa_scan_core.proofs.TargetLemmas.{target-below}
-use Rattle.nfa_scan_core.specs.Marks.{Marks}
-use Rattle.nfa_pikevm_scan.specs.States.{Frontier, between, kept_target, moves, unmarked, one_of, Formed, Paid}
-use Rattle.nfa_pikevm_scan.specs.Scans.{AreAt, IsPaidAt, max_scan_turns}
+use Rattle.nfa_pikevm_scan.proofs.Common.{All, All-cons, All-nil, AreAt, Automaton, Bool, Fail, Formed, Frontier, Hit, In, LeadsBelow, List, Marks, Node, None, Option, Paid, Pair, Search, Slots, Some, [], ap, append-nil, arith, between, byte_at, capture, degree, edges, edges_of, inl, inr, is_resting, last_match, length, map, max_scan_turns, moves, node_at, option_and_then, option_or, option_to_list, refl, rests, span_len, sum-map, sum_by, sum_by-cons, target_on, total_degree, true, unmarked, ℕ, ◌*◌, ◌+◌, ◌-◌, ◌<◌, ◌∙◌, ◌∷◌, ◌≡◌, ◌≤◌, ◌⊎◌}
 use Rattle.nfa_paths.proofs.MemberLemmas.{All-In}
 use Rattle.nfa_paths.proofs.OptionLemmas.{option_or-assoc}
+use Rattle.nfa_paths.proofs.ScanAnswerLemmas.{edges-rise}
+use Rattle.nfa_paths.proofs.StartLemmas.{byte_at-within, byte_pairs, resting-capture, resting-edges}
+use Rattle.nfa_paths.proofs.TurnLemmas.{marked_sum-le}
+use Rattle.nfa_scan_core.proofs.TargetLemmas.{target-below}
+use Rattle.std.proofs.Math.Nat.{mul-le-mul_right}
 
 -- the edges of a resting state, by what it reads
 
 module _ (x : Search) (at : ℕ) (slots : Slots) where
   -- the edges that a byte gives a state, in memory
-  moves-target : (node : Node) (byte : Option ℕ)
-      → map (λ v. (v.0, slots)) (byte_pairs node at byte) ≡ kept_target (option_and_then (target_on node) byte) slots
-  moves-target node None = refl
-  moves-target node (Some b) = of (target_on node b)
-    where
-      of : (target : Option ℕ) → map (λ v. (v.0, slots)) (option_to_list (option_map
-          (λ next. (let v : Pair = (next, at + 1) in v)) target)) ≡ kept_target target slots
-      of None = refl
-      of (Some t) = refl
+  moves-target : (node : Node) (byte : Option ℕ) → map {B = ℕ × Slots} (λ v. (v.0, slots)) (byte_pairs node at byte)
+      ≡ map (λ t. (t, slots)) (option_to_list (option_and_then (target_on node) byte))
+  moves-target node byte = grind arith
 
   -- a resting state leads to where its byte leads
   pub edges-move : (node : Node) → rests node ≡ true
-      → map (λ v. (v.0, slots)) (edges_of x node at)
-      ≡ kept_target (option_and_then (target_on node) (byte_at x at)) slots
-  edges-move node r =
-      ap (map (λ (v : Pair). (v.0, slots))) (resting-edges x node at r) ∙ moves-target node (byte_at x at)
+      → map {B = ℕ × Slots} (λ v. (v.0, slots)) (edges_of x node at)
+      ≡ map (λ t. (t, slots)) (option_to_list (option_and_then (target_on node) (byte_at x at)))
+  edges-move node r = grind (arith, resting-edges, moves-target)
 
 -- the moves of one pair in memory
 pub moves-one : (edges : Pair → List Pair) (v : Pair) (slots : Slots) (es : List Pair) → edges v ≡ es
@@ -51,25 +36,21 @@ LeadsToOne x node p es = (es ≡ []) ⊎ ((t : ℕ) × (es ≡ (t, p + 1) ∷ []
 
 byte-leads : (x : Search) (node : Node) (p : ℕ) (byte : Option ℕ) → ((b : ℕ) → byte ≡ Some b → p < x.end)
     → LeadsToOne x node p (byte_pairs node p byte)
-byte-leads x node p None within = inl refl
-byte-leads x node p (Some b) within = of (target_on node b) refl
-  where
-    of : (o : Option ℕ) → target_on node b ≡ o
-        → LeadsToOne x node p (option_to_list (option_map (λ next. (next, p + 1)) o))
-    of None e = inl refl
-    of (Some t) e = inr (t, refl, λ n leads. target-below n node b t leads e, within b refl)
+byte-leads x node p byte within = grind (arith, target-below)
 
 -- a state that rests
 rests-leads : (x : Search) (node : Node) (p : ℕ) → rests node ≡ true → LeadsToOne x node p (edges_of x node p)
-rests-leads x node p r =
-    subst (LeadsToOne x node p) (sym (resting-edges x node p r))
-    (byte-leads x node p (byte_at x p) (byte_at-within x p))
+rests-leads x node p r = rw (resting-edges x node p r) (byte-leads x node p (byte_at x p) (byte_at-within x p))
 
 -- a state of the NFA leads to its states
 node-leads : (nfa : Automaton) (s : ℕ) → s < length nfa.states → All (LeadsBelow (length nfa.states)) nfa.states
     → LeadsBelow (length nfa.states) (node_at nfa s)
 unfolding node_at
 node-leads nfa s h leads = leads s Fail h
+
+-- no pair
+pub Formed-none : (nfa : Automaton) (at : ℕ) (bits : List Bool) → Formed nfa at bits []
+Formed-none nfa at bits = grind arith
 
 module _ (nfa : Automaton) (x : Search) (at : ℕ) (bits : List Bool) where
   pub Formed-resting : (front : Frontier) → Formed nfa at bits front → (a : Pair × Slots) → In a front
@@ -92,14 +73,11 @@ module _ (nfa : Automaton) (x : Search) (at : ℕ) (bits : List Bool) where
   -- each pair of it leads to one state or none
   Formed-one : (front : Frontier) → Formed nfa at bits front → (a : Pair × Slots) → In a front
       → LeadsToOne x (node_at nfa a.0.0) at (edges nfa x a.0)
-  Formed-one front f a i =
-      let r = Formed-resting front f a i in
-      subst (λ (p : ℕ). LeadsToOne x (node_at nfa a.0.0) p (edges nfa x a.0)) r.1
-      (rests-leads x (node_at nfa a.0.0) a.0.1 r.0)
+  Formed-one front f a i = grind (arith, Formed-resting, rests-leads)
 
   pub Formed-next : (front : Frontier) → Formed nfa at bits front → (a : Pair × Slots) → In a front
       → (edges nfa x a.0 ≡ []) ⊎ ((t : ℕ) × (edges nfa x a.0 ≡ (t, at + 1) ∷ []))
-  Formed-next front f a i = elim (Formed-one front f a i) [ inl none ↦ inl none | inr some ↦ inr (some.0, some.1) ]
+  Formed-next front f a i = grind (arith, Formed-one front f a i)
 
   -- the states that it leads on to are the NFA's
   pub Formed-below : All (LeadsBelow (length nfa.states)) nfa.states → (front : Frontier) → Formed nfa at bits front
@@ -127,81 +105,43 @@ module _ (nfa : Automaton) (x : Search) (at : ℕ) (bits : List Bool) where
       of : (ys : Frontier) → ((a : Pair × Slots) → In a ys → LeadsToOne x (node_at nfa a.0.0) at (edges nfa x a.0))
           → moves (edges nfa x) ys ≡ []
       of [] one = refl
-      of (a ∷ ys) one =
-          elim (one a (inl refl)) [
-            | inl none ↦ rw none (of ys (λ b i. one b (inr i)))
-            | inr some ↦ let h : at < x.end = some.3 in absurd (omega arith)
-          ]
+      of (a ∷ ys) one = grind (arith, one a (inl refl), of ys (λ b i. one b (inr i)))
 
--- the matches of a front
-
-module _ (target : Pair → Bool) where
-  -- the last match pair, or what was found before
-  pub last_match-or : (g : Hit) (front : Frontier)
-      → last_match target g front ≡ option_or (last_match target None front) g
-  last_match-or g [] = refl
-  last_match-or g (a ∷ front) = of (target a.0) (last_match-or (Some a) front) (last_match-or g front)
-    where
-      of : (c : Bool) → last_match target (Some a) front ≡ option_or (last_match target None front) (Some a)
-          → last_match target g front ≡ option_or (last_match target None front) g
-          → last_match target (cond c (Some a) g) front ≡ option_or (last_match target (cond c (Some a) None) front) g
-      of true e f = e ∙ sym (ap (λ (o : Hit). option_or o g) e
-          ∙ option_or-assoc (last_match target None front) (Some a) g)
-      of false e f = f
+-- the last match pair, or what was found before
+pub last_match-or : (target : Pair → Bool) (g : Hit) (front : Frontier)
+    → last_match target g front ≡ option_or (last_match target None front) g
+last_match-or target g [] = refl
+last_match-or target g (a ∷ front) =
+    grind (arith, option_or-assoc, last_match-or target (Some a) front, last_match-or target g front)
 
 -- turns
 
-pub sum-ones : (states : List Node) → sum_by one_of states ≡ length states
+-- one more position pays for what it takes, if at most one start joined
+pub paid-next : (before turns items hand after more n w : ℕ) → turns + items ≤ before + n * (1 + w) → hand ≤ items + 1
+    → after + more ≤ turns + hand + w → after + more ≤ before + (n + 1) * (1 + w)
+paid-next before turns items hand after more n w paid one takes = omega arith
+
+-- positions that are passed over cost nothing
+pub paid-later : (before spent each : ℕ) {n m : ℕ} → n ≤ m → spent ≤ before + n * each → spent ≤ before + m * each
+paid-later before spent each le paid = let more = mul-le-mul_right each le in omega arith
+
+pub sum-ones : (states : List Node) → sum_by (λ node. 1) states ≡ length states
 sum-ones [] = refl
-sum-ones (s ∷ states) = omega (arith, sum_by-cons one_of s states, sum-ones states)
+sum-ones (s ∷ states) = omega (arith, sum_by-cons (λ (node : Node). 1) s states, sum-ones states)
 
 module _ (nfa : Automaton) (x : Search) where
   -- a position: it keeps no more states than the NFA has, and pays for what was left and what it takes
   module _ (met : Marks) (hand : ℕ) (after : Marks) (kept : List (ℕ × Slots))
       (p : Paid nfa (between (unmarked met) [] []) hand (between after kept []) 0) where
     pub Paid-few : length kept ≤ length nfa.states
-    Paid-few =
-        omega (
-          arith,
-          p.entered,
-          marked_sum-le (map one_of nfa.states) after.bits,
-          sum-map one_of nfa.states,
-          sum-ones nfa.states,
-        )
+    Paid-few = grind (arith, marked_sum-le, sum-map, sum-ones)
 
     pub Paid-next : after.turns + length kept ≤ met.turns + hand + total_degree nfa
     Paid-next = omega (arith, p.tried, marked_sum-le (map degree nfa.states) after.bits, sum-map degree nfa.states)
 
-  -- from one position to the next
-  pub IsPaidAt-cross : (at before turns items hand after more : ℕ) → x.start ≤ at → IsPaidAt nfa x at before turns items
-      → hand ≤ items + 1
-      → after + more ≤ turns + hand + total_degree nfa → IsPaidAt nfa x (at + 1) before after more
-  IsPaidAt-cross at before turns items hand after more low p one h =
-      let n : at + 1 - x.start ≡ (at - x.start) + 1 = omega arith in
-      let b : turns + items ≤ before + (at - x.start) * (1 + total_degree nfa) = p.bound in
-      record { bound = rw n (step before turns items hand after more (at - x.start) (total_degree nfa) b one h) }
-    where
-      step : (before turns items hand after more n w : ℕ) → turns + items ≤ before + n * (1 + w) → hand ≤ items + 1
-          → after + more ≤ turns + hand + w
-          → after + more ≤ before + (n + 1) * (1 + w)
-      step before turns items hand after more n w b one h = omega arith
-
-  -- positions that are passed over cost nothing
-  pub IsPaidAt-later : {at to before turns items : ℕ} → at ≤ to → IsPaidAt nfa x at before turns items
-      → IsPaidAt nfa x to before turns items
-  IsPaidAt-later {at} {to} {before} {turns} {items} le p =
-      let few : at - x.start ≤ to - x.start = omega arith in
-      let b : turns + items ≤ before + (at - x.start) * (1 + total_degree nfa) = p.bound in
-      let k : (at - x.start) * (1 + total_degree nfa) ≤ (to - x.start) * (1 + total_degree nfa) =
-      mul-le-mul_right (1 + total_degree nfa) few in
-      record { bound = omega arith }
-
-  -- all positions
-  pub AreAt-turns : {at before turns : ℕ} {items : List (ℕ × Slots)} → at ≤ x.end + 1 → x.start ≤ x.end
-      → AreAt nfa x at before turns items → turns ≤ before + max_scan_turns nfa x
-  AreAt-turns {at} {before} {turns} {items} within span a =
-      let few : at - x.start ≤ span_len x + 1 = omega arith in
-      let b : turns + length items ≤ before + (at - x.start) * (1 + total_degree nfa) = a.paid.bound in
-      let k : (at - x.start) * (1 + total_degree nfa) ≤ (span_len x + 1) * (1 + total_degree nfa) =
-      mul-le-mul_right (1 + total_degree nfa) few in
-      omega arith
+-- all positions
+pub AreAt-turns : {nfa : Automaton} {x : Search} {at before turns : ℕ} {items : List (ℕ × Slots)} → at ≤ x.end + 1
+    → x.start ≤ x.end → AreAt nfa x at before turns items → turns ≤ before + max_scan_turns nfa x
+AreAt-turns {nfa} {x} {at} {before} {turns} {items} within span a =
+    let few : at - x.start ≤ span_len x + 1 = omega arith in
+    omega (arith, paid-later before (turns + length items) (1 + total_degree nfa) few a.paid)

@@ -1,24 +1,11 @@
 -- A scan for the first path, from one position to the next: at its first start, at later ones, and while one state is
 -- followed.
-use Rattle.std.proofs.Common.{◌≡◌, ℕ, ◌+◌, ◌<◌, ◌≤◌, ◌⊎◌, inl, inr, List, [], ◌∷◌, length, refl, arith, subst, ap, ◌∙◌, Bool, true, false, Option, Some, None, is_some, All}
-use Rattle.std.proofs.lemmas.Bool.{cases_lt}
-use Rattle.std.proofs.lemmas.List.Elements.{All-push}
-use Rattle.nfa_paths.specs.Common.{Search, PatternID, HalfMatch, Automaton, Task, Slots, Hit, is_match, starts}
-use Rattle.nfa_scan_core.specs.FirstBytes.{IsFirstBytes}
-use Rattle.nfa_pikevm_scan.specs.States.{Moment, between, unmarked, SearchingAt, NextsGive}
-use Rattle.nfa_pikevm_scan.specs.Scans.{blank, held, AddsStart, AreStarts, HaveRows, KeepsThreads, MayCross, MayScan, PassesOver, ScansFirst, SearchesFirst, SearchingFrom}
-use Rattle.nfa_pikevm_scan.specs.declared.scan.Starts.{Starts}
-use Rattle.nfa_pikevm_scan.specs.declared.threads.Threads.{Threads}
-use Rattle.nfa_pikevm_scan.proofs.RoomLemmas.{AddsStart-passes, AreAt-none, KeepsThreads-none, KeepsThreads-then, few-joins}
-use Rattle.nfa_pikevm_scan.proofs.TaskLemmas.{tasks-alone}
-use Rattle.nfa_pikevm_scan.proofs.FrontierLemmas.{IsPaidAt-later}
-use Rattle.nfa_pikevm_scan.proofs.ScanLemmas.{AreAt-cross, EndsAt, EndsAt-none, SearchesFirst-match, SearchesFirst-miss}
+use Rattle.nfa_pikevm_scan.proofs.Common.{AddsStart, All, All-push, AreStarts, Automaton, Bool, HalfMatch, HaveRows, Hit, IsFirstBytes, KeepsThreads, List, MayCross, MayScan, Moment, NextsGive, None, Option, PassesOver, PatternID, ScansFirst, Search, SearchesFirst, SearchingFrom, Slots, Starts, Threads, [], arith, between, blank, false, held, inl, inr, is_match, is_some, length, refl, total_degree, true, ℕ, ◌+◌, ◌<◌, ◌∷◌, ◌≡◌, ◌≤◌, ◌⊎◌}
 use Rattle.nfa_pikevm_scan.proofs.EndLemmas.{SearchesFirst-begin, SearchesFirst-joins}
-
--- no match was found
-pub half-none : (half : Option HalfMatch) → is_some half ≡ false → half ≡ None
-half-none None e = refl
-half-none (Some m) e = cc
+use Rattle.nfa_pikevm_scan.proofs.FrontierLemmas.{paid-later}
+use Rattle.nfa_pikevm_scan.proofs.RoomLemmas.{AddsStart-passes, AreAt-none, KeepsThreads-none, KeepsThreads-then, few-joins}
+use Rattle.nfa_pikevm_scan.proofs.ScanLemmas.{AreAt-cross, EndsAt, EndsAt-none, SearchesFirst-match, SearchesFirst-miss}
+use Rattle.nfa_pikevm_scan.proofs.TaskLemmas.{tasks-alone}
 
 -- The position that a scan goes on at, with its states: at most one start has joined those that were there.
 pub record Joined (nfa : Automaton) (x : Search) (state limit at to width : ℕ) (so_far : Hit)
@@ -33,42 +20,19 @@ pub record Joined (nfa : Automaton) (x : Search) (state limit at to width : ℕ)
 pub MayCross-joined : {nfa : Automaton} {x : Search} {state limit at to width : ℕ} {so_far : Hit}
     {before : List (ℕ × Slots)} {now : Moment} {t : Threads} → Joined nfa x state limit at to width so_far before now
     → t.curr.items ≡ now.kept → HaveRows nfa width t → t.reached.next.items ≡ [] → MayCross nfa x to width t
-MayCross-joined j are rows none =
-    record { place = j.within; states = rw are j.states; room = rows; empty = none }
+MayCross-joined j are rows none = grind arith
 
 -- the scan begins
 pub ScansFirst-begin : {nfa : Automaton} {x : Search} {from : Starts} {slots : Slots} {t : Threads}
     → MayScan nfa x from slots t → ScansFirst nfa x from from.limit x.start (length slots) None slots t t
-ScansFirst-begin {nfa} {x} {from} {slots} {t} ready =
-    let span = ready.span in
-    record {
-      limits = inl refl;
-      low = omega arith;
-      high = omega arith;
-      keeps = KeepsThreads-none t;
-      next = ready.next;
-      states = rw ready.curr (AreAt-none nfa x t.reached.seen.turns);
-      searches = rw ready.curr (SearchesFirst-begin nfa x from ready.starts slots t.reached.seen ready.unset);
-    }
+ScansFirst-begin ready = grind (arith, KeepsThreads-none, AreAt-none, SearchesFirst-begin)
 
 module _ {nfa : Automaton} {x : Search} {from : Starts} {limit at width : ℕ} {found : Option HalfMatch} {slots : Slots}
     {base old : Threads} (s : ScansFirst nfa x from limit at width found slots base old) where
   -- a state is there, and no start is left
   pub Joined-lone : limit ≡ 0 → length old.curr.items ≡ 1
       → Joined nfa x from.state limit at at width s.searches.so_far old.curr.items (held old slots)
-  Joined-lone none one = record {
-    states = s.states.states;
-    few = omega arith;
-    ahead = omega arith;
-    within =
-        elim (cases_lt x.end at) [
-          | inl past ↦ absurd (omega (arith, ap (λ (is : List (ℕ × Slots)). length is) (s.states.over past)))
-          | inr within ↦ within
-        ];
-    search = subst (λ (w : List Task). SearchingAt nfa x at (is_match nfa) (starts nfa x) (blank width)
-        s.searches.so_far (unmarked old.reached.seen) [] w (blank width))
-        (tasks-alone width from.state at limit old.curr.items (omega arith)) s.searches.searching;
-  }
+  Joined-lone none one = grind (arith, tasks-alone)
 
   -- the start has joined, or is passed over, or none is left; and some state is there
   pub Joined-start : {table : List Bool} → IsFirstBytes nfa table → AreStarts nfa x from → {to : ℕ}
@@ -83,19 +47,7 @@ module _ {nfa : Automaton} {x : Search} {from : Starts} {limit at width : ℕ} {
     ];
     few = few-joins j;
     ahead = j.ahead;
-    within = j.within (
-        elim (cases_lt x.end at) [
-          | inl past ↦ elim j.last [
-            | inl h ↦ elim s.limits [
-              | inl same ↦ absurd (omega (arith, j.ahead, h.0, are.high, same))
-              | inr none ↦ absurd (omega (arith, h.0, none))
-            ]
-            | inr h ↦ absurd (omega
-                (arith, some, ap (λ (is : List (ℕ × Slots)). length is) (h.0 ∙ s.states.over past)))
-          ]
-          | inr within ↦ within
-        ]
-        );
+    within = grind (arith, j.within, s.states.over, are.high, j.ahead, s.limits, j.last);
     search = SearchesFirst-joins nfa x table first from are limit width at to s.low j s.searches;
   }
 
@@ -118,8 +70,9 @@ module _ {nfa : Automaton} {x : Search} {from : Starts} {limit at width : ℕ} {
           high = omega arith;
           keeps = KeepsThreads-then s.keeps keeps;
           next = next;
-          states = AreAt-cross c.gives are.leads low
-              (IsPaidAt-later nfa x j.ahead s.states.paid) j.few;
+          states = AreAt-cross c.gives are.leads base.reached.seen.turns (length old.curr.items) low
+              (paid-later base.reached.seen.turns _ (1 + total_degree nfa) (omega (arith, j.ahead)) s.states.paid)
+              j.few;
           searches = searches;
         }
 
@@ -130,8 +83,7 @@ module _ {nfa : Automaton} {x : Search} {from : Starts} {limit at width : ℕ} {
           some)
 
       -- with none
-      pub ScansFirst-miss : is_some half ≡ false
-          → ScansFirst nfa x from limit (to + 1) width found written base new
+      pub ScansFirst-miss : is_some half ≡ false → ScansFirst nfa x from limit (to + 1) width found written base new
       ScansFirst-miss none = after s.limits (SearchesFirst-miss nfa x to width from.state limit c j.search
           s.searches.is_so_far (EndsAt-none to hit half is none))
 

@@ -1,21 +1,17 @@
 -- From one position of a scan to the next.
-use Rattle.std.proofs.Common.{◌≡◌, ℕ, ◌+◌, ◌-◌, ◌<◌, ◌≤◌, inl, inr, List, [], ◌∷◌, length, replicate, refl, ap, sym, ◌∙◌, arith, subst, Bool, true, false, Option, Some, None, All, is_some, option_map}
-use Rattle.nfa_paths.specs.Common.{Search, HalfFound, half_found_of, number_of, PatternID, HalfMatch, Automaton, LeadsBelow, Pair, In, Task, Slots, Hit, next_tasks, first_match, before_match, edges, is_match, starts, space}
-use Rattle.nfa_paths.specs.Exploring.Task.{Explore, Load}
-use Rattle.nfa_paths.proofs.FrontierMatchLemmas.{before_match-among, before_match-all, first_match-cut, last_match-is}
+use Rattle.nfa_pikevm_scan.proofs.Common.{All, AreAt, AreMatchPairs, Automaton, Bool, Explore, Frontier, HalfFound, HalfMatch, Hit, In, IsHit, IsSoFar, Leads, LeadsBelow, List, Load, Moment, NextsGive, None, Option, Pair, PatternID, Search, SearchesFirst, SearchingAt, SearchingFrom, SeenAt, Slots, Some, StatesGive, Task, [], ap, arith, before_match, blank, edges, false, first_match, half_found, half_found_of, inl, inr, is_match, is_some, length, meant, moves, next_tasks, number_of, option_map, refl, replicate, space, starts, starts_from, subst, sym, tasks, total_degree, true, unmarked, ℕ, ◌*◌, ◌+◌, ◌-◌, ◌<◌, ◌∙◌, ◌∷◌, ◌≡◌, ◌≤◌}
+use Rattle.nfa_paths.proofs.FrontierMatchLemmas.{before_match-all, before_match-among, first_match-cut, last_match-is}
 use Rattle.nfa_paths.proofs.MemberLemmas.{In-middle}
 use Rattle.nfa_paths.proofs.OptionLemmas.{same_some}
-use Rattle.nfa_paths.proofs.StartLemmas.{IsMatch-capture}
 use Rattle.nfa_paths.proofs.ScanAnswerLemmas.{edges-onward, seeds-later}
-use Rattle.nfa_paths.proofs.ScanningLemmas.{Searching-cut, Searching-wait, Searching-before_round}
-use Rattle.nfa_pikevm_scan.specs.States.{Frontier, Moment, moves, tasks, unmarked, meant, AreMatchPairs, IsHit, SeenAt, SearchingAt, Leads, PositionGives, NextsGive}
-use Rattle.nfa_pikevm_scan.specs.Scans.{blank, starts_from, half_found, AreAt, IsSoFar, IsPaidAt, SearchesFirst, SearchingFrom}
-use Rattle.nfa_pikevm_scan.proofs.TaskLemmas.{starts_from-end, AnswersFor, AnswersFor-round, Searching-for}
-use Rattle.nfa_pikevm_scan.proofs.FrontierLemmas.{Formed-rests, Formed-resting, Formed-next, Formed-below, Formed-over, Paid-few, Paid-next, IsPaidAt-cross}
+use Rattle.nfa_paths.proofs.ScanningLemmas.{Searching-before_round, Searching-cut, Searching-wait}
+use Rattle.nfa_paths.proofs.StartLemmas.{IsMatch-capture}
 use Rattle.nfa_scan_core.proofs.SeenLemmas.{SeenAt-none}
+use Rattle.nfa_pikevm_scan.proofs.FrontierLemmas.{Formed-below, Formed-next, Formed-over, Formed-resting, Formed-rests, Paid-few, Paid-next, paid-next}
+use Rattle.nfa_pikevm_scan.proofs.TaskLemmas.{AnswersFor, AnswersFor-round, Searching-for, starts_from-end}
 
 module _ {nfa : Automaton} {x : Search} {at : ℕ} {a b : Moment} {front : Frontier} {goes : Type 0}
-    (c : PositionGives nfa x at a goes front b) where
+    (c : StatesGive nfa x at a goes [] front b) where
   -- where it leads, above the later starts of a scan
   pub Leads-starts : (width state limit : ℕ)
       → Leads nfa x at (unmarked a.met) []
@@ -23,27 +19,25 @@ module _ {nfa : Automaton} {x : Search} {at : ℕ} {a b : Moment} {front : Front
       (Load (blank width) ∷ starts_from width state (at + 1) limit)
   Leads-starts width state limit = c.leads (blank width) (blank width) (starts_from width state (at + 1) limit)
 
-  -- at the end nothing is kept
-  pub over-cross : x.end ≤ at → b.kept ≡ []
-  over-cross past = c.added ∙ Formed-over nfa x at b.met.bits past front c.formed
-
   -- what is kept for the next position, if at most one start joined
-  pub AreAt-cross : All (LeadsBelow (length nfa.states)) nfa.states → {before stood : ℕ} → x.start ≤ at
-      → IsPaidAt nfa x at before a.met.turns stood → length a.kept ≤ stood + 1
+  pub AreAt-cross : All (LeadsBelow (length nfa.states)) nfa.states → (before stood : ℕ) → x.start ≤ at
+      → a.met.turns + stood ≤ before + (at - x.start) * (1 + total_degree nfa) → length a.kept ≤ stood + 1
       → AreAt nfa x (at + 1) before b.met.turns b.kept
-  AreAt-cross leads {before} {stood} low paid one = record {
-    states = rw c.added (Formed-below nfa x at b.met.bits leads front c.formed);
-    few = Paid-few nfa x a.met (length a.kept) b.met b.kept c.paid;
-    over = λ past. over-cross (omega arith);
-    paid = IsPaidAt-cross nfa x at before a.met.turns stood (length a.kept) b.met.turns (length b.kept) low paid one
-        (Paid-next nfa x a.met (length a.kept) b.met b.kept c.paid);
-  }
+  AreAt-cross leads before stood low paid one =
+      let next : at + 1 - x.start ≡ (at - x.start) + 1 = omega arith in
+      record {
+        states = rw c.added (Formed-below nfa x at b.met.bits leads front c.formed);
+        few = Paid-few nfa x a.met (length a.kept) b.met b.kept c.paid;
+        over = λ past. c.added ∙ Formed-over nfa x at b.met.bits (omega arith) front c.formed;
+        paid = rw next (paid-next before a.met.turns stood (length a.kept) b.met.turns (length b.kept) (at - x.start)
+            (total_degree nfa) paid one (Paid-next nfa x a.met (length a.kept) b.met b.kept c.paid));
+      }
 
 -- the first path
 
 module _ (wanted : Pair → Bool) {nfa : Automaton} (sub : AreMatchPairs nfa wanted) {x : Search}
     {at : ℕ} (width state limit : ℕ) {a b : Moment} {front : Frontier} {goes : Type 0} {so_far : Hit}
-    (c : PositionGives nfa x at a goes front b)
+    (c : StatesGive nfa x at a goes [] front b)
     (ends : moves (edges nfa x) (before_match wanted front) ≡ moves (edges nfa x) front)
     (s : SearchingFrom nfa x wanted at width state (at + 1) limit so_far a) where
   -- the next position's work is that of what is kept
@@ -51,10 +45,7 @@ module _ (wanted : Pair → Bool) {nfa : Automaton} (sub : AreMatchPairs nfa wan
       (next_tasks (edges nfa x) (before_match wanted front) (Load (blank width) ∷ waiting))
       (tasks (at + 1) b.kept (Load (blank width) ∷ waiting))
   kept-work waiting =
-      subst (λ (ks : List (ℕ × Slots)). AnswersFor (space nfa x) wanted
-      (next_tasks (edges nfa x) (before_match wanted front) (Load (blank width) ∷ waiting))
-      (tasks (at + 1) ks (Load (blank width) ∷ waiting))) (ends ∙ sym c.added)
-      (AnswersFor-round (space nfa x) wanted at (before_match wanted front) (blank width) waiting
+      rw (c.added, ← ends) (AnswersFor-round (space nfa x) wanted at (before_match wanted front) (blank width) waiting
       (λ a i. Formed-next nfa x at b.met.bits front c.formed a (before_match-among wanted front a i)))
 
   -- the search at the front
@@ -65,8 +56,7 @@ module _ (wanted : Pair → Bool) {nfa : Automaton} (sub : AreMatchPairs nfa wan
   -- the states before the first wanted pair go on
   goes-on : {other : Hit} {slots : Slots} (waiting : List Task)
       → SearchingAt nfa x at wanted (starts nfa x) (blank width) other b.met (before_match wanted front)
-      (Load (blank width) ∷ waiting) slots
-      → ((k : Pair) → In (Explore k) waiting → at < k.1)
+      (Load (blank width) ∷ waiting) slots → ((k : Pair) → In (Explore k) waiting → at < k.1)
       → SearchingAt nfa x (at + 1) wanted (starts nfa x) (blank width) other (unmarked b.met) []
       (tasks (at + 1) b.kept (Load (blank width) ∷ waiting)) (blank width)
   goes-on waiting before later =
@@ -79,10 +69,7 @@ module _ (wanted : Pair → Bool) {nfa : Automaton} (sub : AreMatchPairs nfa wan
   -- no match at the position
   pub first-miss : first_match wanted front ≡ None → goes
       → SearchingFrom nfa x wanted (at + 1) width state (at + 1) limit so_far b
-  first-miss none goes_on =
-      goes-on {slots = (Leads-starts c width state limit).written} (starts_from width state (at + 1) limit)
-      (rw (before_match-all wanted front none) (rw ((Leads-starts c width state limit).whole goes_on) at front-search))
-      (seeds-later (blank width) state at (limit - (at + 1)))
+  first-miss none goes_on = grind (arith, goes-on, Leads-starts, before_match-all, front-search, seeds-later)
 
   -- a match at the position
   pub first-hit : (v : Pair × Slots) → first_match wanted front ≡ Some v
@@ -103,9 +90,7 @@ EndsAt at hit half = option_map half_found_of half ≡ option_map (λ pattern. h
 -- no half match, no match
 pub EndsAt-none : (at : ℕ) (hit : Option PatternID) (half : Option HalfMatch) → EndsAt at hit half
     → is_some half ≡ false → hit ≡ None
-EndsAt-none at None half e none = refl
-EndsAt-none at (Some p) None e none = cc
-EndsAt-none at (Some p) (Some m) e none = cc
+EndsAt-none at hit half e none = grind arith
 
 -- a half match is the match that is meant
 pub match-cross : {nfa : Automaton} {x : Search} {at : ℕ} {past : Bool} {a b : Moment}

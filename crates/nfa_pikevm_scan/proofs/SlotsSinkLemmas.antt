@@ -1,88 +1,100 @@
 -- What the last row is when the matches of a position were taken.
-use Rattle.std.proofs.Common.{◌≡◌, ℕ, inl, inr, Bool, true, false, [], ◌++◌, map, refl, sym, ap, ◌∙◌, subst, None, Some, not}
-use Rattle.nfa_paths.specs.Common.{Search, Automaton, edges, is_match, Slots, Hit, first_match, before_match, last_match}
-use Rattle.nfa_paths.proofs.StartLemmas.{IsMatch-edges}
-use Rattle.nfa_pikevm_scan.specs.States.{Frontier, Moment, moves, meant, IsHit, GoesOn, NextsGive}
-use Rattle.nfa_pikevm_scan.specs.Sinks.{SlotsSinkTakes, Takes, ClosuresGive}
-use Rattle.nfa_pikevm_scan.specs.Sinks.Takes.{none, plain, taken, ends}
-use Rattle.nfa_pikevm_scan.specs.declared.sink.SlotsSink.{SlotsSink}
-use Rattle.nfa_pikevm_scan.proofs.FrontierLemmas.{moves-one}
-use Rattle.nfa_pikevm_scan.proofs.SinkLemmas.{PositionGives-if}
+use Rattle.nfa_pikevm_scan.proofs.Common.{Automaton, Bool, ClosuresGive, EndsInMatch, FindsMatch, Frontier, Hit, IsHit, List, Marks, Moment, NextsGive, None, Option, PatternID, Search, Slots, SlotsSink, SlotsSinkTakes, Some, StatesGive, Takes, [], ap, arith, between, ends, false, first_match, inl, inr, is_match, is_some, last_match, meant, none, not, plain, refl, taken, true, unmarked, ℕ, ◌∙◌, ◌∷◌, ◌≡◌, ◌⊎◌}
+use Rattle.nfa_pikevm_scan.proofs.ClosureLemmas.{Turns-begin, Turns-then}
+use Rattle.nfa_pikevm_scan.proofs.FrontierLemmas.{Formed-resting}
+use Rattle.nfa_pikevm_scan.proofs.NextsLemmas.{ClosuresGive-one}
+use Rattle.nfa_pikevm_scan.proofs.SinkLemmas.{StatesGive-if, Takes-cut, Takes-match, Takes-none, Takes-then}
 
--- whether a match ends the position
-goes : {b past : Bool} → b ≡ not past → past ≡ true → b ≡ false
-goes e on = e ∙ ap not on
+-- the match that was taken last, with its slots: the position ends with it, unless it goes past it
+abbrev LastTakes : Bool → Option PatternID × Slots → PatternID → Slots → Bool → Option PatternID × Slots → Type 0
+LastTakes past old pattern row ended new = (new ≡ (Some pattern, row)) × (ended ≡ not past)
 
-stops : {b past : Bool} → b ≡ not past → past ≡ false → b ≡ true
-stops e off = e ∙ ap not off
+-- it is the match of the sink
+last-of : {nfa : Automaton} {front : Frontier} {v w : SlotsSink} {ended past : Bool}
+    → Takes nfa SlotsSinkTakes front v ended w → v.past_match ≡ past
+    → Takes nfa (LastTakes past) front (v.hit, v.slots.now) ended (w.hit, w.slots.now)
+last-of none is = none
+last-of (plain apart t) is = plain apart (last-of t is)
+last-of (taken p at k t) is = taken p at (cc (k.hit, k.slots), k.ends ∙ ap not is) (last-of t (k.past ∙ is))
+last-of (ends p at k) is = ends p at (cc (k.hit, k.slots), k.ends ∙ ap not is)
 
-module _ (nfa : Automaton) where
-  -- with `past_match` the last match is kept
-  last-taken : {front : Frontier} {v w : SlotsSink} {ended : Bool} → Takes nfa SlotsSinkTakes front v ended w
-      → v.past_match ≡ true → (g : Hit) (slots : Slots) → IsHit nfa g slots v.hit v.slots.now
-      → IsHit nfa (last_match (is_match nfa) g front) slots w.hit w.slots.now
-  last-taken none on g slots h = h
-  last-taken (plain off t) on g slots h = rw off (last-taken t on g slots h)
-  last-taken (taken {a = a} {u = u} p is k t) on g slots h =
-      let match : is_match nfa a.0 ≡ true = rw is refl in
-      let here : IsHit nfa (Some a) slots u.hit u.slots.now =
-      subst (λ o. IsHit nfa (Some a) slots o u.slots.now) (sym k.hit)
-      (a.0, ap (λ s. Some (a.0, s)) (sym k.slots), is) in
-      rw match (last-taken t (k.past ∙ on) (Some a) slots here)
-  last-taken (ends p is k) on g slots h = absurd (cc (goes k.ends on))
+module _ {nfa : Automaton} where
+  -- the match that is meant is taken last: the first one, or the last one with `past`
+  last-meant : {past : Bool} {front : Frontier} {v w : Option PatternID × Slots} {ended : Bool}
+      → Takes nfa (LastTakes past) front v ended w → past ≡ true → (g : Hit) (slots : Slots)
+      → IsHit nfa g slots v.0 v.1 → IsHit nfa (last_match (is_match nfa) g front) slots w.0 w.1
+  last-meant none on g slots h = h
+  last-meant (plain apart t) on g slots h = rw apart (last-meant t on g slots h)
+  last-meant (taken {a = a} p is k t) on g slots h =
+      rw is (last-meant t on (Some a) slots (rw k.0 (a.0, refl, is)))
+  last-meant (ends p is k) on g slots h = absurd (cc (k.1 ∙ ap not on))
 
-  -- without, the first one
-  first-taken : {front : Frontier} {v w : SlotsSink} {ended : Bool} → Takes nfa SlotsSinkTakes front v ended w
-      → v.past_match ≡ false → v.hit ≡ None
-      → IsHit nfa (first_match (is_match nfa) front) v.slots.now w.hit w.slots.now
-  first-taken (none {v = v}) off fresh =
-      subst (λ o. IsHit nfa None v.slots.now o v.slots.now) (sym fresh) (refl, refl)
-  first-taken (plain apart t) off fresh = rw apart (first-taken t off fresh)
-  first-taken (taken p is k t) off fresh = absurd (cc (stops k.ends off))
-  first-taken (ends {a = a} {v} {w} p is k) off fresh =
-      let match : is_match nfa a.0 ≡ true = rw is refl in
-      rw match
-      (subst (λ o. IsHit nfa (Some a) v.slots.now o w.slots.now) (sym k.hit)
-      (a.0, ap (λ s. Some (a.0, s)) (sym k.slots), is))
+  first-meant : {past : Bool} {front : Frontier} {v w : Option PatternID × Slots} {ended : Bool}
+      → Takes nfa (LastTakes past) front v ended w → past ≡ false → v.0 ≡ None
+      → IsHit nfa (first_match (is_match nfa) front) v.1 w.0 w.1
+  first-meant none off fresh = rw fresh (refl, refl)
+  first-meant (plain apart t) off fresh = rw apart (first-meant t off fresh)
+  first-meant (taken p is k t) off fresh = absurd (cc (k.1 ∙ ap not off))
+  first-meant (ends {a = a} p is k) off fresh = rw (is, k.0) (a.0, refl, is)
 
-  -- either is the one that is meant
-  meant-taken : {front : Frontier} {v w : SlotsSink} {ended : Bool} (past : Bool)
-      → Takes nfa SlotsSinkTakes front v ended w
-      → v.past_match ≡ past → v.hit ≡ None
-      → IsHit nfa (meant past (is_match nfa) front) v.slots.now w.hit w.slots.now
-  meant-taken {v = v} true t on fresh = last-taken t on None v.slots.now
-      (subst (λ o. IsHit nfa None v.slots.now o v.slots.now) (sym fresh) (refl, refl))
-  meant-taken false t off fresh = first-taken t off fresh
-
-  -- nothing is kept after the first match, which leads nowhere
-  cut-taken : (x : Search) {front : Frontier} {v w : SlotsSink} {ended : Bool}
-      → Takes nfa SlotsSinkTakes front v ended w
-      → v.past_match ≡ false
-      → moves (edges nfa x) (before_match (is_match nfa) front) ≡ moves (edges nfa x) front
-  cut-taken x none off = refl
-  cut-taken x (plain {a = a} apart t) off =
-      rw apart (ap (λ l. map (λ v. (v.0, a.1)) (edges nfa x a.0) ++ l) (cut-taken x t off))
-  cut-taken x (taken p is k t) off = absurd (cc (stops k.ends off))
-  cut-taken x (ends {a = a} p is k) off =
-      let match : is_match nfa a.0 ≡ true = rw is refl in
-      rw match (sym (moves-one (edges nfa x) a.0 a.1 [] (IsMatch-edges nfa x a.0 match)))
-
-  -- if none was taken, and always with `past_match`, the position goes on
-  on-taken : {front : Frontier} {v w : SlotsSink} {ended : Bool} → Takes nfa SlotsSinkTakes front v ended w
-      → GoesOn v.past_match w.hit → ended ≡ false
+  -- if none was taken, and always with `past`, the position goes on
+  on-taken : {past : Bool} {front : Frontier} {v w : Option PatternID × Slots} {ended : Bool}
+      → Takes nfa (LastTakes past) front v ended w → (past ≡ true) ⊎ (w.0 ≡ None) → ended ≡ false
   on-taken none on = refl
   on-taken (plain apart t) on = on-taken t on
-  on-taken (taken p is k t) on = on-taken t (elim on [ inl e ↦ inl (k.past ∙ e) | inr e ↦ inr e ])
-  on-taken (ends p is k) on = elim on [ inl e ↦ goes k.ends e | inr e ↦ absurd (cc (k.hit, e)) ]
+  on-taken (taken p is k t) on = on-taken t on
+  on-taken (ends p is k) on = grind (arith, k)
 
--- the result of all states of a position, as the match that is meant
-pub NextsGive-taken : {nfa : Automaton} {x : Search} {at : ℕ} {a b : Moment} {old new : SlotsSink} → old.hit ≡ None
-    → ClosuresGive nfa x SlotsSinkTakes at a old b new
-    → NextsGive nfa x at old.past_match (record a { slots = old.slots.now }) new.hit
-    (record b { slots = new.slots.now })
-NextsGive-taken {nfa} {x} {old = old} {new} fresh c = record {
-  front = c.front;
-  gives = PositionGives-if old.slots.now new.slots.now (λ on. on-taken nfa c.takes_all on) c.gives;
-  is_hit = meant-taken nfa old.past_match c.takes_all refl fresh;
-  cut = cut-taken nfa x c.takes_all;
-}
+  -- the result of all states of a position, as the match that is meant
+  NextsGive-last : {x : Search} {at : ℕ} {a b : Moment} {past ended : Bool} {left : List (ℕ × Slots)} {front : Frontier}
+      {slots last : Slots} {hit : Option PatternID} → (ended ≡ false → left ≡ [])
+      → StatesGive nfa x at a (ended ≡ false) left front b
+      → Takes nfa (LastTakes past) front (None, slots) ended (hit, last)
+      → NextsGive nfa x at past (record a { slots = slots }) hit (record b { slots = last })
+  NextsGive-last {x} {at} {a} {b} {past} {ended} {front = front} {slots} {last} {hit} whole g t = record {
+    front = front;
+    gives = StatesGive-if slots last (on-taken t) (λ on. whole (on-taken t on)) g;
+    is_hit = of past t;
+    cut = λ off. Takes-cut (λ v t. t) (λ v. past ≡ false) (λ v w a p ended k here is h. (k, rw is (h.1 ∙ ap not k))) x
+        off (λ a i. (Formed-resting nfa x at b.met.bits front g.formed a i).1) t;
+  }
+    where
+      of : (p : Bool) → Takes nfa (LastTakes p) front (None, slots) ended (hit, last)
+          → IsHit nfa (meant p (is_match nfa) front) slots hit last
+      of true t = last-meant t refl None slots (refl, refl)
+      of false t = first-meant t refl refl
+
+  -- of the sink
+  pub NextsGive-taken : {x : Search} {at : ℕ} {a b : Moment} {old new : SlotsSink} → old.hit ≡ None
+      → ClosuresGive nfa x SlotsSinkTakes at a old b new
+      → NextsGive nfa x at old.past_match (record a { slots = old.slots.now }) new.hit
+      (record b { slots = new.slots.now })
+  NextsGive-taken {old = old} fresh c =
+      NextsGive-last c.whole c.leads.gives (rw fresh at (last-of c.leads.takes_all refl))
+
+  -- of a state that is followed with its row to its first match: if there is none, the slots stay
+  pub NextsGive-start : {x : Search} {at : ℕ} {met : Marks} {s : ℕ} {row slots last : Slots} {new : Moment}
+      (hit : Option PatternID) {none : Bool} → is_some hit ≡ not none
+      → ((none ≡ true) × (last ≡ slots)) ⊎ ((none ≡ false) × (last ≡ new.slots))
+      → (is_some hit ≡ false → new.stack ≡ []) → FindsMatch nfa x at s (between (unmarked met) [] row) hit new
+      → NextsGive nfa x at false (between met ((s, row) ∷ []) slots) hit (between new.met new.kept last)
+  NextsGive-start {at = at} {met} {s} {row} {slots} {last} {new} hit {none = off} is last_is over f =
+      let c = ClosuresGive-one {begun = between met ((s, row) ∷ []) []} {then = between new.met new.kept []} refl refl
+      refl (record {
+        stack = _;
+        slots = _;
+        gives = Turns-then (Turns-begin none) f (λ _ front t e. Takes-then t (of front hit is e));
+        whole = over;
+      }) in
+      NextsGive-last c.whole c.leads.gives c.leads.takes_all
+    where
+      of : (front : Frontier) (o : Option PatternID) → is_some o ≡ not off → EndsInMatch nfa at new.slots o front
+          → Takes nfa (LastTakes false) front (None, slots) (is_some o) (o, last)
+      of front None some e = elim last_is [
+        | inl h ↦ rw h.1 (Takes-none front (None, slots) e)
+        | inr h ↦ let never : false ≡ true = rw h.0 at some in cc
+      ]
+      of front (Some p) some e = elim last_is [
+        | inl h ↦ let never : true ≡ false = rw h.0 at some in cc
+        | inr h ↦ Takes-match p true refl e (ap (λ s. (Some p, s)) h.1, refl)
+      ]

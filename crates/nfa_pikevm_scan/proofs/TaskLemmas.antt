@@ -1,13 +1,7 @@
 -- The work of a position: what may be left out of it, and how the start joins it.
-use Rattle.std.proofs.Common.{◌≡◌, ℕ, suc, zero, ◌+◌, ◌<◌, ◌≤◌, ◌⊎◌, ◌↔◌, inl, inr, List, [], ◌∷◌, ◌++◌, map, refl, ap, sym, ◌∙◌, arith, Bool, None}
-use Rattle.std.proofs.lemmas.Bool.{cases_lt, lt-ltb, le-ltb}
-use Rattle.nfa_paths.specs.Common.{Pair, In, Space, IsFirst, Task, Slots, Hit, ExploresTo, ExploresAfter, Searching, next_tasks, seeds}
-use Rattle.nfa_paths.specs.Exploring.Task.{Explore, Load}
+use Rattle.nfa_pikevm_scan.proofs.Common.{Bool, Explore, ExploresAfter, ExploresTo, Frontier, Hit, In, IsFirst, List, Load, None, Pair, Searching, Slots, Space, Starts, Task, [], ap, arith, blank, cases_lt, inl, inr, map, moves, next_tasks, refl, seeds, starts_from, suc, tasks, with_start, zero, ℕ, ◌++◌, ◌+◌, ◌<◌, ◌↔◌, ◌∷◌, ◌≡◌, ◌≤◌, ◌⊎◌}
 use Rattle.nfa_paths.proofs.SearchLemmas.{Answer-more, Answer-seeds, AnswerBehind-along}
-use Rattle.nfa_paths.proofs.StartLemmas.{pairs_from-step, pairs_from-end}
-use Rattle.nfa_pikevm_scan.specs.States.{Frontier, moves, tasks}
-use Rattle.nfa_pikevm_scan.specs.Scans.{blank, starts_from, with_start}
-use Rattle.nfa_pikevm_scan.specs.declared.scan.Starts.{Starts}
+use Rattle.nfa_paths.proofs.StartLemmas.{pairs_from-end, pairs_from-step}
 
 -- how the start joins
 
@@ -34,29 +28,19 @@ starts_from-end width state past = ap (seeds (blank width)) (pairs_from-end stat
 pub tasks-joins : (width state at limit : ℕ) (items : List (ℕ × Slots)) → at < limit
     → tasks at items (Load (blank width) ∷ starts_from width state at limit)
     ≡ tasks at (items ++ (state, blank width) ∷ []) (Load (blank width) ∷ starts_from width state (at + 1) limit)
-tasks-joins width state at limit items less =
-    ap (λ w. tasks at items (Load (blank width) ∷ w)) (starts_from-step width state less)
-    ∙ sym (tasks-join at items state (blank width) (Load (blank width) ∷ starts_from width state (at + 1) limit))
+tasks-joins width state at limit items less = grind (arith, starts_from-step, tasks-join)
 
 -- if it does not, no start is left
 pub tasks-alone : (width state at limit : ℕ) (items : List (ℕ × Slots)) → limit ≤ at
     → tasks at items (Load (blank width) ∷ starts_from width state at limit)
     ≡ tasks at items (Load (blank width) ∷ starts_from width state (at + 1) limit)
-tasks-alone width state at limit items past =
-    let later : limit ≤ at + 1 = omega arith in
-    ap (λ w. tasks at items (Load (blank width) ∷ w))
-    (starts_from-end width state past ∙ sym (starts_from-end width state later))
+tasks-alone width state at limit items past = grind (arith, starts_from-end)
 
 -- both
 pub tasks-joined : (starts : Starts) (width at : ℕ) (items : List (ℕ × Slots))
-    → tasks at items (Load (blank width) ∷ starts_from width starts.state at starts.limit)
-    ≡ tasks at (with_start starts width at items)
-    (Load (blank width) ∷ starts_from width starts.state (at + 1) starts.limit)
-tasks-joined starts width at items =
-    elim (cases_lt at starts.limit) [
-      | inl less ↦ rw (lt-ltb at starts.limit less) (tasks-joins width starts.state at starts.limit items less)
-      | inr past ↦ rw (le-ltb at starts.limit past) (tasks-alone width starts.state at starts.limit items past)
-    ]
+    → tasks at items (Load (blank width) ∷ starts_from width starts.state at starts.limit) ≡ tasks at
+    (with_start starts width at items) (Load (blank width) ∷ starts_from width starts.state (at + 1) starts.limit)
+tasks-joined starts width at items = grind (arith, tasks-joins, tasks-alone)
 
 -- work that answers for other work
 
@@ -84,19 +68,13 @@ module _ (space : Space) (target : Pair → Bool) where
   pub AnswersFor-load : {a b : List Task} (old : Slots) → AnswersFor space target a b
       → AnswersFor space target (Load old ∷ a) b
   unfolding ExploresTo
-  AnswersFor-load old f = record {
-    back = λ left otherwise marks slots after g h.
-        f.back left otherwise marks old after g h;
-  }
+  AnswersFor-load old f = grind arith
 
   -- below one more state
   pub AnswersFor-item : {a b : List Task} (old : Slots) (v : Pair) → AnswersFor space target a b
       → AnswersFor space target (Load old ∷ Explore v ∷ a) (Load old ∷ Explore v ∷ b)
   unfolding ExploresTo
-  AnswersFor-item old v f = record {
-    back = λ left otherwise marks slots after g h.
-        elim h [ inl k ↦ inl k | inr k ↦ inr (k.0, f.back left otherwise marks old old g k.1) ];
-  }
+  AnswersFor-item old v f = grind arith
 
   -- below the states of a position
   pub AnswersFor-tasks : {a b : List Task} (at : ℕ) (items : List (ℕ × Slots)) → AnswersFor space target a b
@@ -128,9 +106,8 @@ module _ (space : Space) (target : Pair → Bool) where
   -- the search goes on with the work that answers for what was left
   pub Searching-for : {goal : Hit → ℕ → Type 0} {Seen : Pair → Type 0} {spent : ℕ} {front : List (Pair × Slots)}
       {otherwise : Hit} {more less : List Task} {slots : Slots}
-      → Searching space target goal Seen spent front otherwise more slots
-      → AnswersFor space target more less → (after : Slots)
-      → Searching space target goal Seen spent front otherwise less after
+      → Searching space target goal Seen spent front otherwise more slots → AnswersFor space target more less
+      → (after : Slots) → Searching space target goal Seen spent front otherwise less after
   Searching-for {front = front} {otherwise} {more} {less} {slots} s f after = record {
     marks = s.marks;
     agrees = s.agrees;
@@ -146,11 +123,7 @@ module _ (space : Space) (target : Pair → Bool) where
       {otherwise : Hit} {work : List Task} {slots : Slots}
       → Searching space target goal Seen spent front otherwise work slots → (After : Pair → Type 0)
       → ((v : Pair) → Seen v ↔ After v) → Searching space target goal After spent front otherwise work slots
-  Searching-seen s After agree = record {
-    marks = s.marks;
-    agrees = λ v. (λ i. (agree v).0 ((s.agrees v).0 i), λ a. (s.agrees v).1 ((agree v).1 a));
-    leads = s.leads;
-  }
+  Searching-seen s After agree = grind (arith, agree, s.agrees)
 
   -- a search begins after some turns
   pub Searching-begin : (Seen : Pair → Type 0) (spent : ℕ) (otherwise : Hit) (starts : List Pair)
@@ -158,13 +131,7 @@ module _ (space : Space) (target : Pair → Bool) where
       → Searching space target (λ g total. ExploresTo space target total otherwise [] (map Explore starts)
       slots g) Seen spent [] otherwise (Load slots ∷ seeds slots starts) current
   unfolding ExploresTo ExploresAfter
-  Searching-begin Seen spent otherwise starts slots current fresh = record {
-    marks = [];
-    agrees = λ v. (λ i. absurd i, λ s. absurd (fresh v s));
-    leads = λ g left total e h.
-        Answer-more space target left total (omega arith) otherwise [] (map Explore starts) slots g
-        (Answer-seeds space target left otherwise [] starts slots g h);
-  }
+  Searching-begin Seen spent otherwise starts slots current fresh = grind (arith, Answer-more, Answer-seeds)
 
 -- starts that are passed over
 
@@ -178,10 +145,7 @@ module _ (space : Space) (target : Pair → Bool) (width state limit : ℕ) wher
         | inl less ↦
             rw (starts_from-step width state less)
             (AnswersFor-dead space target (blank width) (state, at) (starts_from width state (at + 1) limit) dead)
-        | inr past ↦
-            let later : limit ≤ at + 1 = omega arith in
-            rw (starts_from-end width state later, starts_from-end width state past)
-            (AnswersFor-same space target (blank width) [])
+        | inr past ↦ grind (arith, starts_from-end, AnswersFor-same)
       ]
 
   -- and so all up to a position

@@ -3,5 +3,3 @@ pub mod Rows
 pub mod States
 pub mod Sinks
 pub mod Scans
-pub mod Sizes
-pub mod Overlapping

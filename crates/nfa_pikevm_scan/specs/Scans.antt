@@ -1,13 +1,13 @@
--- The results of the scans and the search of a PikeVM, in terms of the theory of paths.
-use Rattle.std.specs.Prelude.{◌≡◌, ◌⊎◌, ℕ, ◌++◌, ◌+◌, ◌-◌, ◌*◌, ◌<◌, ◌≤◌, Bool, List, [], ◌∷◌, Option, None, Some, length, replicate, nat_lt, if◌then◌else◌, All}
-use Rattle.nfa_paths.specs.Common.{HalfFound, half_found_of, Search, HalfMatch, Automaton, LeadsBelow, Pair, node_at, pattern_of, is_match, starts, pairs_from, total_degree, space, Slots, Hit, Task, seeds, Scanning}
-use Rattle.nfa_paths.specs.Exploring.Task.{Load}
+-- The sizes of the parts of a cache, and the results of the scans of a PikeVM, in terms of the theory of paths.
+use Rattle.std.specs.Prelude.{◌≡◌, ◌⊎◌, ℕ, ◌++◌, ◌+◌, ◌-◌, ◌*◌, ◌^◌, ◌<◌, ◌≤◌, Bool, List, [], ◌∷◌, Option, None, Some, length, replicate, nat_lt, if◌then◌else◌, All}
+use Rattle.nfa_paths.specs.Common.{HalfFound, half_found_of, Search, HalfMatch, Automaton, LeadsBelow, Pair, node_at, pattern_of, is_match, starts, pairs_from, total_degree, slot_count, Slots, Hit, Task, seeds, Load}
 pub use Rattle.nfa_paths.specs.Restarts.{max_scan_turns}
 use Rattle.nfa_scan_core.specs.FirstBytes.{IsRefused}
 use Rattle.nfa_pikevm_scan.specs.Needs.{stack_frames}
 use Rattle.nfa_pikevm_scan.specs.declared.scan.Starts.{Starts}
 use Rattle.nfa_pikevm_scan.specs.declared.threads.Threads.{Threads}
-use Rattle.nfa_pikevm_scan.specs.States.{between, tasks, unmarked, Moment, SeenAt, SearchingAt}
+use Rattle.nfa_pikevm_scan.specs.declared.sizes.Size.{Size}
+use Rattle.nfa_pikevm_scan.specs.States.{between, tasks, unmarked, Moment, SearchingAt}
 
 -- a row with no slot set
 abbrev pub blank : ℕ → Slots
@@ -53,6 +53,45 @@ pub record HaveRows (nfa : Automaton) (width : ℕ) (t : Threads) : Type 0 where
 abbrev pub SameSizes : Threads → Threads → Type 0
 SameSizes old new = sizes_of new ≡ sizes_of old
 
+-- the sizes for these numbers of states, slots and frames: one place more than states, and a row of all slots for each
+abbrev pub sizes_for : ℕ → ℕ → ℕ → Sizes
+sizes_for states slots frames =
+    record { states = states; capacity = states + 1; cells = (states + 1) * slots; frames = frames }
+
+-- The threads of a cache have the sizes for its states and frames, and for this number of slots, and these sizes fit a
+-- `usize`. `found` is the length of the row that a search fills.
+pub record IsRoomFor (slots : ℕ) (t : Threads) (found : ℕ) : Type 0 where
+  pub sized : sizes_of t ≡ sizes_for (length t.reached.seen.bits) slots (length t.frames.items)
+  pub row : found ≡ slots
+  pub capacity : t.curr.capacity < 2 ^ 64
+  pub cells : t.curr.cells < 2 ^ 64
+
+-- The size gives the places and the cells of a set.
+pub record IsSize (size : Size) : Type 0 where
+  pub capacity : size.capacity ≡ size.states + 1
+  pub cells : size.cells ≡ size.capacity * size.slots
+
+-- The threads, and a row of `found` slots, are at least this large.
+pub record Holds (size : Size) (t : Threads) (found : ℕ) : Type 0 where
+  pub states : size.states ≤ length t.reached.seen.bits
+  pub capacity : size.capacity ≤ t.curr.capacity
+  pub cells : size.cells ≤ t.curr.cells
+  pub frames : size.frames ≤ length t.frames.items
+  pub slots : size.slots ≤ found
+
+-- This is what a search of the NFA needs.
+pub record IsSizeOf (nfa : Automaton) (size : Size) : Type 0 where
+  pub states : size.states ≡ length nfa.states
+  pub slots : size.slots ≡ slot_count nfa.groups
+  pub frames : size.frames ≡ stack_frames nfa
+  pub is_size : IsSize size
+
+-- The sizes do not fit a `usize`: the places of a set, the cells of its rows or the frames of the stack are too many.
+abbrev pub IsTooLarge : Automaton → Type 0
+IsTooLarge nfa =
+    (2 ^ 64 ≤ length nfa.states + 1) ⊎ ((2 ^ 64 ≤ (length nfa.states + 1) * slot_count nfa.groups)
+    ⊎ (2 ^ 64 ≤ stack_frames nfa))
+
 -- The sizes, the width of rows and the count of scans did not change.
 pub record KeepsThreads (old new : Threads) : Type 0 where
   pub width : new.curr.width ≡ old.curr.width
@@ -97,10 +136,6 @@ abbrev pub with_start : Starts → ℕ → ℕ → List (ℕ × Slots) → List 
 with_start starts_at width at items = if nat_lt at starts_at.limit then items ++ (starts_at.state, blank width)
     ∷ [] else items
 
--- what is held once the start has joined, if it may still join
-abbrev pub start_joined : Starts → ℕ → ℕ → Moment → Moment
-start_joined starts_at width at now = record now { kept = with_start starts_at width at now.kept }
-
 -- The start has joined the states of the threads, if it may still join. Nothing else changed.
 pub record JoinsStart (starts_at : Starts) (at : ℕ) (old new : Threads) : Type 0 where
   pub curr : new.curr.items ≡ with_start starts_at old.curr.width at old.curr.items
@@ -124,16 +159,14 @@ pub record PassesOver (table : List Bool) (x : Search) (from stop to : ℕ) : Ty
   pub passed : (k : ℕ) → from ≤ k → k < to → IsRefused table x k
   pub least : to < stop → IsRefused table x to → ⊥
 
--- The position that a scan goes on at: the start has joined the states there, or no match begins there. While starts
--- are left, some state is there. A start that may be skipped does not join.
+-- The position that a scan goes on at: the start has joined the states there, or no match begins there. A start that
+-- may be skipped does not join.
 pub record AddsStart (table : List Bool) (x : Search) (starts_at : Starts) (limit width at : ℕ)
-    (items : List (ℕ × Slots))
-    (to : ℕ) (now : List (ℕ × Slots)) : Type 0 where
+    (items : List (ℕ × Slots)) (to : ℕ) (now : List (ℕ × Slots)) : Type 0 where
   pub ahead : at ≤ to
   pub within : at ≤ x.end → to ≤ x.end
   pub stays : 0 < length items → to ≡ at
   pub passed : (k : ℕ) → at ≤ k → k < to → IsPassed table x starts_at k
-  pub some : at < limit → 0 < length now
   pub passes : IsPassed table x starts_at to → now ≡ items
   pub last : ((to < limit) × (now ≡ items ++ (starts_at.state, blank width) ∷ []))
       ⊎ ((now ≡ items) × ((limit ≤ to) ⊎ IsPassed table x starts_at to))
@@ -142,37 +175,26 @@ module _ (nfa : Automaton) (x : Search) where
   -- the match that was found so far, and its end: none, and no slot set; or one, and its slots
   abbrev pub IsSoFar : Option HalfMatch → Slots → Hit → Type 0
   IsSoFar None slots g = (g ≡ None) × (slots ≡ blank (length slots))
-  IsSoFar (Some half) slots g =
-      (state : ℕ) × (g ≡ Some ((state, (half_found_of half).offset), slots))
+  IsSoFar (Some half) slots g = (state : ℕ) × (g ≡ Some ((state, (half_found_of half).offset), slots))
       × (pattern_of (node_at nfa state) ≡ Some (half_found_of half).pattern)
 
   -- no more turns were taken than a scan takes
   abbrev pub IsWithinTurns : Threads → Threads → Type 0
   IsWithinTurns old new = new.reached.seen.turns ≤ old.reached.seen.turns + max_scan_turns nfa x
 
-  -- The starts and the positions before it pay for the turns so far and the states at the position.
-  pub record IsPaidAt (at before : ℕ) (turns items : ℕ) : Type 0 where
-    pub bound : turns + items ≤ before + (at - x.start) * (1 + total_degree nfa)
-
   -- The states at a position: each is a state of the NFA, there are no more than the NFA has, and none after the end of
-  -- the span. They and the turns so far are paid for.
+  -- the span. The starts and the positions before it pay for them and for the turns so far.
   pub record AreAt (at before turns : ℕ) (items : List (ℕ × Slots)) : Type 0 where
     pub states : All (λ i. i.0 < length nfa.states) items
     pub few : length items ≤ length nfa.states
     pub over : x.end < at → items ≡ []
-    pub paid : IsPaidAt at before turns (length items)
+    pub paid : turns + length items ≤ before + (at - x.start) * (1 + total_degree nfa)
 
   -- The search for a set of match pairs, at a position where it has followed no state yet. The states that are kept
   -- are left, and the starts from `next` on.
   abbrev pub SearchingFrom : (Pair → Bool) → ℕ → ℕ → ℕ → ℕ → ℕ → Hit → Moment → Type 0
   SearchingFrom target at width start next limit so_far now =
       SearchingAt nfa x at target (starts nfa x) (blank width) so_far (unmarked now.met) []
-      (tasks at now.kept (Load (blank width) ∷ starts_from width start next limit)) (blank width)
-
-  -- the same for the scan for each wanted pair
-  abbrev pub ScanningFrom : (Pair → Bool) → ℕ → ℕ → ℕ → ℕ → ℕ → Moment → Type 0
-  ScanningFrom wanted at width start next limit now =
-      Scanning (space nfa x) wanted (blank width) at (SeenAt at (unmarked now.met).bits) now.met.turns []
       (tasks at now.kept (Load (blank width) ∷ starts_from width start next limit)) (blank width)
 
   -- The search for the first path, at a position where it has followed no state yet.
@@ -192,7 +214,3 @@ module _ (nfa : Automaton) (x : Search) where
     pub next : now.reached.next.items ≡ []
     pub states : AreAt at old.reached.seen.turns now.reached.seen.turns now.curr.items
     pub searches : SearchesFirst at width from.state limit found (held now slots)
-
-  -- The scan for each wanted pair, at a position where it has followed no state yet.
-  pub record ScansAll (wanted : Pair → Bool) (at width start limit : ℕ) (now : Moment) : Type 0 where
-    pub scanning : ScanningFrom wanted at width start at limit now

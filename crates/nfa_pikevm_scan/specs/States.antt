@@ -1,16 +1,13 @@
--- What a PikeVM keeps at a position, in the words of its proof: its marks as pairs that were seen, its stack as work
--- that is left, the states that it keeps for the next position as a front.
+-- What a PikeVM keeps at a position, as its proof sees it: marks as pairs that were seen, a stack as work that is left.
 use Rattle.std.specs.Prelude.{◌≡◌, ◌⊎◌, ℕ, ◌+◌, ◌<◌, ◌≤◌, Bool, true, false, List, [], ◌∷◌, ◌++◌, Option, None, Some, cond, length, map, replicate, All, slice_get, slice_index_or, slice_set}
-use Rattle.std.specs.List.{sum_by}
-use Rattle.nfa_paths.specs.Common.{Search, search_of, number_of, PatternID, Automaton, Node, Pair, NoRepeats, degree, node_at, pattern_of, edges, is_match, byte_at, space, Slots, Hit, Task, ExploresTo, Searching, rests, first_match, before_match, last_match, NoMatch}
-use Rattle.nfa_paths.specs.Exploring.Task.{Explore as ToExplore, Restore as ToRestore, Load as ToLoad}
-use Rattle.nfa_paths.specs.Turns.{marked_sum}
-use Rattle.nfa_scan_core.specs.Marks.{Marks}
-pub use Rattle.nfa_scan_core.specs.Marks.{SeenAt}
+use Rattle.std.specs.List.{flat_map, sum_by}
+use Rattle.std.specs.Option.{option_to_list}
+use Rattle.nfa_paths.specs.Common.{Search, search_of, number_of, PatternID, Automaton, Node, Pair, NoRepeats, degree, node_at, pattern_at, edges, is_match, byte_at, space, Slots, Hit, Task, ExploresTo, Searching, rests, first_match, before_match, last_match, NoMatch, Explore as ToExplore, Restore as ToRestore, Load as ToLoad, marked_sum}
+use Rattle.nfa_scan_core.specs.Marks.{Marks, SeenAt}
 use Rattle.nfa_pikevm_scan.specs.Needs.{room_of, stack_frames}
 use Rattle.nfa_pikevm_scan.specs.declared.closure.ClosureContext.{ClosureContext}
 use Rattle.nfa_pikevm_scan.specs.declared.closure.Move.{Move}
-use Rattle.nfa_pikevm_scan.specs.declared.closure.Move.TheVariants.{On, Matched, DeadEnd}
+use Rattle.nfa_pikevm_scan.specs.declared.closure.Move.TheVariants.{On, Matched}
 use Rattle.nfa_pikevm_scan.specs.declared.closure.ClosureOutput.{ClosureOutput}
 use Rattle.nfa_pikevm_scan.specs.declared.frame.FollowEpsilon.{FollowEpsilon}
 use Rattle.nfa_pikevm_scan.specs.declared.frame.FollowEpsilon.TheVariants.{Explore, Restore}
@@ -22,8 +19,7 @@ Frontier = List (Pair × Slots)
 
 -- the states that a front leads on to, each with its slots
 abbrev pub moves : (Pair → List Pair) → Frontier → List (ℕ × Slots)
-moves edges [] = []
-moves edges (a ∷ front) = map (λ v. (v.0, a.1)) (edges a.0) ++ moves edges front
+moves edges front = flat_map (λ a. map (λ v. (v.0, a.1)) (edges a.0)) front
 
 -- the states to follow at the position, each with its slots, on top of what is left
 abbrev pub tasks : ℕ → List (ℕ × Slots) → List Task → List Task
@@ -67,18 +63,7 @@ with_state at (Some s) work = ToExplore (s, at) ∷ work
 -- the state that a turn leads on to
 abbrev pub state_on : Move → Option ℕ
 state_on (On sid) = Some sid
-state_on (Matched pattern) = None
-state_on DeadEnd = None
-
--- the turns that a frame still has to take
-abbrev pub tries : FollowEpsilon → ℕ
-tries (Explore sid) = 1
-tries (Restore slot old) = 0
-
--- the turns that a state to follow still has to take
-abbrev pub tries_of : Option ℕ → ℕ
-tries_of None = 0
-tries_of (Some s) = 1
+state_on _ = None
 
 -- the slots after a frame is applied
 abbrev pub undone : FollowEpsilon → Slots → Slots
@@ -90,6 +75,10 @@ abbrev pub state_of : FollowEpsilon → Option ℕ
 state_of (Explore sid) = Some sid
 state_of (Restore slot old) = None
 
+-- the turns that a frame still has to take
+abbrev pub tries : FollowEpsilon → ℕ
+tries f = length (option_to_list (state_of f))
+
 -- a frame follows a state below `states`, or writes a slot below `count`
 abbrev pub IsWithin : ℕ → ℕ → FollowEpsilon → Type 0
 IsWithin states count (Explore sid) = sid < states
@@ -99,27 +88,6 @@ IsWithin states count (Restore slot old) = slot < count
 abbrev pub HasSlot : ℕ → FollowEpsilon → Type 0
 HasSlot count (Explore sid) = Unit {0}
 HasSlot count (Restore slot old) = slot < count
-
--- the state, if there is one, is below `states`
-abbrev pub IsBelow : ℕ → Option ℕ → Type 0
-IsBelow states None = Unit {0}
-IsBelow states (Some s) = s < states
-
--- the state that a byte leads to, if there is one, with its slots
-abbrev pub kept_target : Option ℕ → Slots → List (ℕ × Slots)
-kept_target None slots = []
-kept_target (Some sid) slots = (sid, slots) ∷ []
-
--- the frame is pushed, unless the stack is empty
-abbrev pub IsPut : List FollowEpsilon → FollowEpsilon → List FollowEpsilon → Type 0
-IsPut stack f above = ((stack ≡ []) × (above ≡ [])) ⊎ (above ≡ stack ++ f ∷ [])
-
--- the stack and the slots after a Capture: if the row has its slot, the slot holds the position and a frame restores it
-abbrev pub IsSaved : ℕ → ℕ → List FollowEpsilon → Slots → List FollowEpsilon → Slots → Type 0
-IsSaved at slot stack slots above written =
-    ((slot < length slots) × IsPut stack (Restore slot (slice_index_or slots slot None)) above
-    × (written ≡ slice_set slots slot (Some at)))
-    ⊎ ((length slots ≤ slot) × (above ≡ stack) × (written ≡ slots))
 
 -- The turn found its state marked.
 pub record WasSeen (s : ℕ) (met after : Marks) : Type 0 where
@@ -131,7 +99,6 @@ pub record WasSeen (s : ℕ) (met after : Marks) : Type 0 where
 pub record Entered (nfa : Automaton) (s : ℕ) (node : Node) (met after : Marks) : Type 0 where
   pub is : slice_get nfa.states s ≡ Some node
   pub inside : s < length met.bits
-  pub below : s < length nfa.states
   pub clear : slice_index_or met.bits s true ≡ false
   pub marked : after.bits ≡ slice_set met.bits s true
   pub counted : after.turns ≡ met.turns + 1
@@ -140,9 +107,9 @@ pub record Entered (nfa : Automaton) (s : ℕ) (node : Node) (met after : Marks)
 abbrev pub AreMatchPairs : Automaton → (Pair → Bool) → Type 0
 AreMatchPairs nfa target = (v : Pair) → target v ≡ true → is_match nfa v ≡ true
 
--- a weight that counts states
-abbrev pub one_of : Node → ℕ
-one_of node = 1
+-- the weights of the marked states, added up
+abbrev pub weight : Automaton → (Node → ℕ) → List Bool → ℕ
+weight nfa weigh bits = marked_sum (map weigh nfa.states) bits
 
 -- the match of a front that is meant: the first one, or the last with `past`
 abbrev pub meant : Bool → (Pair → Bool) → Frontier → Hit
@@ -151,18 +118,14 @@ meant past is_match front = cond past (last_match is_match None front) (first_ma
 -- the result of a position: no match, and the slots as before; or a match of the pattern, and its slots
 abbrev pub IsHit : Automaton → Hit → Slots → Option PatternID → Slots → Type 0
 IsHit nfa g before None after = (g ≡ None) × (after ≡ before)
-IsHit nfa g before (Some pattern) after = (v : Pair) × (g ≡ Some (v, after))
-    × (pattern_of (node_at nfa v.0) ≡ Some (number_of pattern))
+IsHit nfa g before (Some pattern) after =
+    (v : Pair) × (g ≡ Some (v, after)) × (pattern_at nfa v ≡ Some (number_of pattern))
 
 -- the front ends with this match and has no other; or it has none
 abbrev pub EndsInMatch : Automaton → ℕ → Slots → Option PatternID → Frontier → Type 0
 EndsInMatch nfa at slots None front = NoMatch (is_match nfa) front
 EndsInMatch nfa at slots (Some pattern) front = (before : Frontier) × (s : ℕ) × NoMatch (is_match nfa) before
-    × (front ≡ before ++ ((s, at), slots) ∷ []) × (pattern_of (node_at nfa s) ≡ Some (number_of pattern))
-
--- all that is left is followed: always with `past`, otherwise if there is no match
-abbrev pub GoesOn : Bool → Option PatternID → Type 0
-GoesOn past hit = (past ≡ true) ⊎ (hit ≡ None)
+    × (front ≡ before ++ ((s, at), slots) ∷ []) × (pattern_at nfa (s, at) ≡ Some (number_of pattern))
 
 -- Each pair of the front has a state of the NFA and this position, rests, is marked, and occurs once.
 pub record Formed (nfa : Automaton) (at : ℕ) (bits : List Bool) (front : Frontier) : Type 0 where
@@ -176,23 +139,17 @@ pub record Formed (nfa : Automaton) (at : ℕ) (bits : List Bool) (front : Front
 -- are used, and never more than the NFA needs.
 pub record HasRoom (nfa : Automaton) (old : ClosureOutput) (top frames : ℕ) : Type 0 where
   pub marks : length nfa.states ≤ length old.seen.bits
-  pub frames_fit : top + sum_by room_of nfa.states
-      ≤ stack_frames nfa + marked_sum (map room_of nfa.states) old.seen.bits
-  pub states_fit : length old.next.items + length nfa.states
-      ≤ old.next.capacity + marked_sum (map one_of nfa.states) old.seen.bits
+  pub frames_fit : top + sum_by room_of nfa.states ≤ stack_frames nfa + weight nfa room_of old.seen.bits
+  pub states_fit : length old.next.items + length nfa.states ≤ old.next.capacity + weight nfa (λ node. 1) old.seen.bits
   pub stack : stack_frames nfa ≤ frames
 
--- From one moment to a later one: the marks pay for the turns and for what is left to take, for the frames, and for the
--- kept states.
+-- From a moment to a later one: marks pay for the turns and for what is left to take, for frames and for kept states.
 pub record Paid (nfa : Automaton) (old : Moment) (hand : ℕ) (new : Moment) (left : ℕ) : Type 0 where
-  pub tried : new.met.turns + left + sum_by tries new.stack + length new.kept
-      + marked_sum (map degree nfa.states) old.met.bits
-      ≤ old.met.turns + hand + sum_by tries old.stack + length old.kept
-      + marked_sum (map degree nfa.states) new.met.bits
-  pub framed : length new.stack + marked_sum (map room_of nfa.states) old.met.bits ≤ length old.stack
-      + marked_sum (map room_of nfa.states) new.met.bits
-  pub entered : length new.kept + marked_sum (map one_of nfa.states) old.met.bits ≤ length old.kept
-      + marked_sum (map one_of nfa.states) new.met.bits
+  pub tried : new.met.turns + left + sum_by tries new.stack + length new.kept + weight nfa degree old.met.bits
+      ≤ old.met.turns + hand + sum_by tries old.stack + length old.kept + weight nfa degree new.met.bits
+  pub framed : length new.stack + weight nfa room_of old.met.bits ≤ length old.stack + weight nfa room_of new.met.bits
+  pub entered : length new.kept + weight nfa (λ node. 1) old.met.bits
+      ≤ length old.kept + weight nfa (λ node. 1) new.met.bits
 
 -- The position is in the span or at its end, and the byte is the one at the position.
 pub record IsClosureContext (here : ClosureContext) : Type 0 where
@@ -205,8 +162,7 @@ pub record KeepsRoom (old new : ClosureOutput) : Type 0 where
   pub same : new.next ≡ record old.next { items = new.next.items }
 
 module _ (nfa : Automaton) (x : Search) where
-  -- the search for a set of match pairs, from these starts and with these slots, with these states met and this front
-  -- at position `at`
+  -- the search for a set of match pairs, from these starts and slots, with these states met and this front at `at`
   abbrev pub SearchingAt : ℕ → (Pair → Bool) → List Pair → Slots → Hit → Marks → Frontier → List Task → Slots → Type 0
   SearchingAt at target starts entry otherwise met front work slots =
       Searching (space nfa x) target
@@ -223,32 +179,30 @@ module _ (nfa : Automaton) (x : Search) where
 
   -- what a turn adds to the front: a match that it led to, and no other match
   abbrev pub IsMet : Pair → Slots → Move → Frontier → Type 0
-  IsMet v slots (On sid) front = NoMatch (is_match nfa) front
-  IsMet v slots (Matched pattern) front = (front ≡ (v, slots) ∷ [])
-      × (pattern_of (node_at nfa v.0) ≡ Some (number_of pattern))
-  IsMet v slots DeadEnd front = NoMatch (is_match nfa) front
+  IsMet v slots (Matched pattern) front = (front ≡ (v, slots) ∷ []) × (pattern_at nfa v ≡ Some (number_of pattern))
+  IsMet v slots _ front = NoMatch (is_match nfa) front
 
-  -- The result of turns from a state on, which are paid for: they add a front, whose moves are in memory, and leave a
-  -- state to follow, or none, and a stack. What is left below the stack begins by loading slots.
-  pub record TurnsGive (at s : ℕ) (old : Moment) (front : Frontier) (state : Option ℕ) (new : Moment) : Type 0 where
-    pub added : new.kept ≡ old.kept ++ moves (edges nfa x) front
-    pub formed : (before : Frontier) → Formed nfa at old.met.bits before → Formed nfa at new.met.bits (before ++ front)
-    pub follows : (before : Frontier) (below : Slots) (work : List Task)
-        → Follows at old.met before (ToExplore (s, at) ∷ work_onto at old.stack (ToLoad below ∷ work)) old.slots
-        new.met (before ++ front) (with_state at state (work_onto at new.stack (ToLoad below ∷ work))) new.slots
-    pub paid : Paid nfa old 1 new (tries_of state)
+  -- The result of turns from a state on, which are paid for: a front, of which `Holds` says more and whose moves are in
+  -- memory, a state to follow, or none, and a stack. What is left below the stack begins by loading slots.
+  pub record TurnsGive (at s : ℕ) (old : Moment) (Holds : Frontier → Type 0) (state : Option ℕ) (new : Moment) : Type 0
+    where
+      pub front : Frontier
+      pub holds : Holds front
+      pub added : new.kept ≡ old.kept ++ moves (edges nfa x) front
+      pub formed : (before : Frontier) → Formed nfa at old.met.bits before
+          → Formed nfa at new.met.bits (before ++ front)
+      pub follows : (before : Frontier) (below : Slots) (work : List Task)
+          → Follows at old.met before (ToExplore (s, at) ∷ work_onto at old.stack (ToLoad below ∷ work)) old.slots
+          new.met (before ++ front) (with_state at state (work_onto at new.stack (ToLoad below ∷ work))) new.slots
+      pub paid : Paid nfa old 1 new (length (option_to_list state))
 
-  -- The result of a turn that tries to enter the state.
-  pub record VisitsState (at s : ℕ) (old : Moment) (turn : Move) (new : Moment) : Type 0 where
-    pub front : Frontier
-    pub gives : TurnsGive at s old front (state_on turn) new
-    pub is_met : IsMet (s, at) new.slots turn front
+  -- the result of a turn that tries to enter the state
+  abbrev pub VisitsState : ℕ → ℕ → Moment → Move → Moment → Type 0
+  VisitsState at s old turn new = TurnsGive at s old (IsMet (s, at) new.slots turn) (state_on turn) new
 
-  -- The result of turns from a state on up to the next match, if there is one: the front ends with the match.
-  pub record FindsMatch (at s : ℕ) (old : Moment) (hit : Option PatternID) (new : Moment) : Type 0 where
-    pub front : Frontier
-    pub gives : TurnsGive at s old front None new
-    pub ends : EndsInMatch nfa at new.slots hit front
+  -- the result of turns from a state on up to the next match, if there is one: the front ends with the match
+  abbrev pub FindsMatch : ℕ → ℕ → Moment → Option PatternID → Moment → Type 0
+  FindsMatch at s old hit new = TurnsGive at s old (EndsInMatch nfa at new.slots hit) None new
 
   -- The search goes on to a front and some work. The work is `rest` if the search `goes_on` to the end of its work.
   pub record Leads (at : ℕ) (met : Marks) (before : Frontier) (work : List Task) (slots : Slots) (goes_on : Type 0)
@@ -258,20 +212,22 @@ module _ (nfa : Automaton) (x : Search) where
     pub follows : Follows at met before work slots after front left written
     pub whole : goes_on → left ≡ rest
 
-  -- The result of following the states that are kept for a position, with no marks before: a front, whose moves are in
-  -- memory. All that is left is followed if the position `goes_on`.
-  pub record PositionGives (at : ℕ) (old : Moment) (goes_on : Type 0) (front : Frontier) (new : Moment) : Type 0 where
+  -- The result of following the states that are kept for a position, with no marks before, but for those that are
+  -- left: a front, whose moves are in memory. All else that is left is followed if the position `goes_on`.
+  pub record StatesGive (at : ℕ) (old : Moment) (goes_on : Type 0) (left : List (ℕ × Slots)) (front : Frontier)
+      (new : Moment) : Type 0 where
     pub added : new.kept ≡ moves (edges nfa x) front
     pub formed : Formed nfa at new.met.bits front
-    pub paid : Paid nfa (between (unmarked old.met) [] []) (length old.kept) (between new.met new.kept []) 0
+    pub paid : Paid nfa (between (unmarked old.met) [] []) (length old.kept) (between new.met new.kept []) (length left)
     pub leads : (current below : Slots) (waiting : List Task)
         → Leads at (unmarked old.met) [] (tasks at old.kept (ToLoad below ∷ waiting)) current goes_on new.met front
-        (ToLoad below ∷ waiting)
+        (tasks at left (ToLoad below ∷ waiting))
 
-  -- The same with the match of the front that is meant. Without `past` nothing after the first match is kept.
+  -- The same for all states of the position, with the match of the front that is meant. All that is left is followed
+  -- with `past`, or if there is none; without `past` nothing after the first match is kept.
   pub record NextsGive (at : ℕ) (past : Bool) (old : Moment) (hit : Option PatternID) (new : Moment) : Type 0 where
     pub front : Frontier
-    pub gives : PositionGives at old (GoesOn past hit) front new
+    pub gives : StatesGive at old ((past ≡ true) ⊎ (hit ≡ None)) [] front new
     pub is_hit : IsHit nfa (meant past (is_match nfa) front) old.slots hit new.slots
     pub cut : past ≡ false → moves (edges nfa x) (before_match (is_match nfa) front) ≡ moves (edges nfa x) front
 
@@ -279,7 +235,7 @@ module _ (nfa : Automaton) (x : Search) where
 pub record Resumes (stack : List FollowEpsilon) (old : Slots) (state : Option ℕ) (left : List FollowEpsilon)
     (new : Slots) : Type 0 where
   pub fewer : length left ≤ length stack
-  pub tried : sum_by tries left + tries_of state ≡ sum_by tries stack
+  pub tried : sum_by tries left + length (option_to_list state) ≡ sum_by tries stack
   pub follows : (nfa : Automaton) (x : Search) (at : ℕ) (met : Marks) (front : Frontier) (work : List Task)
       → Follows nfa x at met front (work_onto at stack work) old met front
       (with_state at state (work_onto at left work)) new
@@ -290,10 +246,6 @@ pub record MayFollow (here : ClosureContext) (states : List ℕ) (old : ClosureO
   pub context : IsClosureContext here
   pub below : All (λ s. s < length here.nfa.now.states) states
   pub room : HasRoom here.nfa.now old 0 frames
-  pub clear : old.seen.bits ≡ replicate (length old.seen.bits) false
+  pub clear : old.seen ≡ unmarked old.seen
   pub empty : old.next.items ≡ []
   pub width_is : width ≡ old.next.width
-
--- each frame follows a state of the NFA, or writes a slot below `count`
-abbrev pub ClosureFramesWithin : ClosureContext → ℕ → List FollowEpsilon → Type 0
-ClosureFramesWithin here count stack = All (IsWithin (length here.nfa.now.states) count) stack

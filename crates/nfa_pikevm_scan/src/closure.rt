@@ -1,12 +1,13 @@
 //! The states that a state leads to without reading a byte.
 ghost use Rattle.std.specs.Prelude.{◌≡◌, ℕ, ◌+◌, ◌<◌, ◌≤◌, [], ◌∷◌, ◌++◌, None, length, map, reverse, drop};
 ghost use Rattle.std.specs.Prelude.{take, slice_index_or, All, IfSome};
+ghost use Rattle.std.specs.Option.{option_to_list};
 ghost use Rattle.regex_search_core.specs.Search.{search_of};
 ghost use Rattle.thompson_nfa.specs.Automaton.{LeadsBelow, node_of};
 ghost use Rattle.nfa_pikevm_scan.specs.Needs.{stack_frames};
-ghost use Rattle.nfa_pikevm_scan.specs.States.{kept_target, moment_of, state_of, state_on, undone, ClosureFramesWithin};
-ghost use Rattle.nfa_pikevm_scan.specs.States.{Entered, FindsMatch, HasRoom, HasSlot, IsBelow, IsClosureContext};
-ghost use Rattle.nfa_pikevm_scan.specs.States.{IsWithin, KeepsRoom, Resumes, VisitsState, WasSeen};
+ghost use Rattle.nfa_pikevm_scan.specs.States.{moment_of, state_of, state_on, undone, Entered, FindsMatch, HasRoom};
+ghost use Rattle.nfa_pikevm_scan.specs.States.{HasSlot, IsClosureContext, IsWithin, KeepsRoom, Resumes, VisitsState};
+ghost use Rattle.nfa_pikevm_scan.specs.States.{WasSeen};
 ghost use Rattle.nfa_pikevm_scan.specs.Sinks.{ClosureGives};
 ghost use Rattle.nfa_pikevm_scan.specs.declared.frame.FollowEpsilon.TheVariants.{Explore, Restore};
 
@@ -100,7 +101,7 @@ fn push_restore(frames: &mut [FollowEpsilon], top: &mut usize, slots: &[Slot], s
 fn push_target(target: Option<StateID>, next: &mut ActiveStates, slots: &[Slot])
     requires room { length next.old.items < next.old.capacity }
     requires width { length slots.now ≡ next.old.width }
-    ensures kept { next.new.items ≡ next.old.items ++ kept_target target slots.now }
+    ensures kept { next.new.items ≡ next.old.items ++ map (λ sid. (sid, slots.now)) (option_to_list target) }
     ensures same { next.new ≡ record next.old { items = next.new.items } }
 {
     if let Some(sid) = target {
@@ -141,12 +142,12 @@ pub fn visit_state(
     requires top { top.old ≤ stack_frames here.now.nfa.now }
     requires room { HasRoom here.now.nfa.now reached.old top.old (length frames.old) }
     requires width { length row.old ≡ reached.old.next.width }
-    requires within { ClosureFramesWithin here.now (length row.old) (take top.old frames.old) }
+    requires within { All (IsWithin (length here.now.nfa.now.states) (length row.old)) (take top.old frames.old) }
     ensures turns { reached.new.seen.turns ≡ reached.old.seen.turns + 1 }
     ensures keeps { KeepsRoom reached.old reached.new }
     ensures top { top.new ≤ stack_frames here.now.nfa.now }
-    ensures state { IsBelow (length here.now.nfa.now.states) (state_on result) }
-    ensures within { ClosureFramesWithin here.now (length row.old) (take top.new frames.new) }
+    ensures state { IfSome (state_on result) (λ on. on < length here.now.nfa.now.states) }
+    ensures within { All (IsWithin (length here.now.nfa.now.states) (length row.old)) (take top.new frames.new) }
     ensures enters { VisitsState here.now.nfa.now (search_of here.now.input.now) here.now.at sid
         (moment_of reached.old (take top.old frames.old) row.old) result
         (moment_of reached.new (take top.new frames.new) row.new) }
@@ -224,7 +225,7 @@ pub fn resume(frames: &[FollowEpsilon], top: &mut usize, row: &mut [Slot]) -> Op
     requires slots { All (HasSlot (length row.old)) (take top.old frames.now) }
     ensures top { top.new ≤ top.old }
     ensures state { (states : ℕ) → All (IsWithin states (length row.old)) (take top.old frames.now)
-        → IsBelow states result }
+        → IfSome result (λ state. state < states) }
     ensures over { result ≡ None → top.new ≡ 0 }
     ensures resumes { Resumes (take top.old frames.now) row.old result (take top.new frames.now) row.new }
 {
@@ -253,12 +254,12 @@ pub fn next_match(
     requires top { top.old ≤ stack_frames here.now.nfa.now }
     requires room { HasRoom here.now.nfa.now reached.old top.old (length frames.old) }
     requires width { length row.old ≡ reached.old.next.width }
-    requires within { ClosureFramesWithin here.now (length row.old) (take top.old frames.old) }
+    requires within { All (IsWithin (length here.now.nfa.now.states) (length row.old)) (take top.old frames.old) }
     ensures turns { reached.old.seen.turns < reached.new.seen.turns }
     ensures keeps { KeepsRoom reached.old reached.new }
     ensures top { top.new ≤ stack_frames here.now.nfa.now }
     ensures over { result ≡ None → top.new ≡ 0 }
-    ensures within { ClosureFramesWithin here.now (length row.old) (take top.new frames.new) }
+    ensures within { All (IsWithin (length here.now.nfa.now.states) (length row.old)) (take top.new frames.new) }
     ensures finds { FindsMatch here.now.nfa.now (search_of here.now.input.now) here.now.at from
         (moment_of reached.old (take top.old frames.old) row.old) result
         (moment_of reached.new (take top.new frames.new) row.new) }

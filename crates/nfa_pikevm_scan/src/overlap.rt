@@ -1,5 +1,5 @@
 //! The set of all patterns that match, in one scan.
-ghost use Rattle.std.specs.Prelude.{◌≡◌, ◌+◌, ◌*◌, ◌<◌, ◌≤◌, [], true, false, length, take, All, not, ◌&&◌, ◌⊎◌, cond};
+ghost use Rattle.std.specs.Prelude.{◌≡◌, ◌+◌, ◌*◌, ◌<◌, ◌≤◌, [], true, false, length, take, not, ◌&&◌, ◌⊎◌, cond};
 ghost use Rattle.regex_search_core.specs.PatternSets.{size_of_set};
 ghost use Rattle.regex_search_core.specs.Search.{search_of};
 ghost use Rattle.regex_search_core.specs.declared.search.MatchKind.TheVariants.{All as AllMatches, LeftmostFirst};
@@ -8,8 +8,7 @@ ghost use Rattle.nfa_paths.specs.Overlaps.{IsOverlapResult};
 ghost use Rattle.nfa_pikevm_scan.specs.Scans.{held, HaveRoom, KeepsThreads, MayCross, MayScan, SameSizes};
 ghost use Rattle.nfa_pikevm_scan.specs.Scans.{max_scan_turns, IsWithinTurns};
 ghost use Rattle.nfa_pikevm_scan.specs.Needs.{overlap_scans};
-ghost use Rattle.nfa_pikevm_scan.specs.Overlapping.{NextsOverlappingGive};
-ghost use Rattle.nfa_pikevm_scan.specs.Sinks.{PatternSinkTakes};
+ghost use Rattle.nfa_pikevm_scan.specs.Sinks.{NextsOverlappingGive, PatternSinkTakes};
 
 use crate::nexts::{nexts_with, set_up, swap_state_sets};
 use crate::scan::{Starts, add_start};

@@ -3,8 +3,7 @@ ghost use Rattle.std.specs.Prelude.{◌≡◌, ◌^◌, ◌≤◌, IfSome, IfNon
 ghost use Rattle.std.specs.List.{sum_by};
 ghost use Rattle.thompson_nfa.specs.Automaton.{node_of};
 ghost use Rattle.nfa_pikevm_scan.specs.Needs.{room_of, stack_frames};
-ghost use Rattle.nfa_pikevm_scan.specs.Scans.{sizes_of};
-ghost use Rattle.nfa_pikevm_scan.specs.Sizes.{sizes_for, Holds, IsSize, IsSizeOf, IsTooLarge};
+ghost use Rattle.nfa_pikevm_scan.specs.Scans.{sizes_for, sizes_of, Holds, IsSize, IsSizeOf, IsTooLarge};
 
 use crate::frame::FollowEpsilon;
 use crate::room::{refill, reserve};

@@ -15,14 +15,14 @@ use std::marker::Model;
 pub struct Slot(usize);
 
 impl Model for Slot {
-    ghost use Rattle.std.specs.Prelude.{ℕ, Option};
-    ghost use Rattle.nfa_pikevm_scan.specs.Rows.{offset_of, raw_of};
+    ghost use Rattle.std.specs.Prelude.{ℕ, ◌-◌, ◌^◌, ◌==◌, Option, Some, None, cond};
+    ghost use Rattle.std.specs.Option.{option_map_or};
 
     ghost Value = { Option ℕ };
 
-    ghost view = { λ s. offset_of s.0 };
+    ghost view = { λ s. cond (s.0 == 2 ^ 64 - 1) None (Some s.0) };
 
-    ghost inverse = { λ o. record { 0 = raw_of o } };
+    ghost inverse = { λ o. record { 0 = option_map_or (λ offset. offset) o (2 ^ 64 - 1) } };
 }
 
 impl Slot {

@@ -1,10 +1,5 @@
 -- The bytes of moves, move by move.
-use Rattle.std.proofs.Common.{◌≡◌, ◌∙◌, ℕ, zero, suc, ◌<◌, ◌≤◌, List, [], ◌∷◌, ◌++◌, length, take, refl, sym, ap, subst, append_assoc, arith, None, Some, Bool, true, false, ◌==◌, if◌then◌else◌, option_to_list}
-use Rattle.std.specs.Option.{option_map_or}
-use Rattle.std.proofs.lemmas.List.{append-nil, length-append, take-append-le, take_all}
-use Rattle.thompson_nfa.specs.declared.state.Transition.{Transition}
-use Rattle.nfa_paths.specs.Common.{Automaton, LeadsBelow, Node, node_at}
-use Rattle.thompson_nfa.specs.Automaton.Node.{ByteRange, Sparse, Look, Capture}
+use Rattle.nfa_paths.proofs.Common.{◌≡◌, ◌∙◌, ℕ, zero, suc, ◌<◌, ◌≤◌, List, [], ◌∷◌, ◌++◌, length, take, refl, sym, ap, subst, append_assoc, arith, None, Some, Bool, true, false, ◌==◌, if◌then◌else◌, option_to_list, option_map_or, append-nil, length-append, take-append-le, take_all, Transition, Automaton, LeadsBelow, Node, node_at, ByteRange, Sparse, Look, Capture}
 use Rattle.nfa_prefix.specs.Prefixes.{bytes_from, move_over, only_move, prefix_of}
 use Rattle.nfa_prefix.specs.declared.only_move.Move.{Move}
 

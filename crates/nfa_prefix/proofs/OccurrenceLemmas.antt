@@ -1,7 +1,6 @@
 -- Where bytes occur, byte by byte, and in a part that is cut out of a haystack.
-use Rattle.std.proofs.Common.{◌≡◌, ◌∙◌, ℕ, zero, suc, ◌+◌, ◌-◌, ◌<◌, ◌≤◌, List, [], ◌∷◌, length, take, get_or, refl, sym, ap, subst, arith, None, Some, slice_get, slice_range}
+use Rattle.nfa_paths.proofs.Common.{◌≡◌, ◌∙◌, ℕ, zero, suc, ◌+◌, ◌-◌, ◌<◌, ◌≤◌, List, [], ◌∷◌, length, take, get_or, refl, sym, ap, subst, arith, None, Some, slice_get, slice_range, get_or_from_slice_get, slice_get-get_or}
 use Rattle.std.proofs.lemmas.List.Edits.{get_or-between, length-between}
-use Rattle.std.proofs.lemmas.Option.{get_or_from_slice_get, slice_get-get_or}
 use Rattle.memchr.specs.Find.{FindsNeedle, OccursAt}
 use Rattle.nfa_prefix.specs.Occurrences.{IsFirstOccurrence, OccursBefore, OccursNowhere}
 

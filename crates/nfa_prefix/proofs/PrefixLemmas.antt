@@ -1,10 +1,6 @@
 -- Each accepting path reads the bytes of the moves that it has to take.
-use Rattle.std.proofs.Common.{◌≡◌, ◌∙◌, ℕ, zero, suc, ◌+◌, ◌<◌, ◌≤◌, inl, inr, List, [], ◌∷◌, ◌++◌, length, refl, sym, ap, subst, arith, Option, None, Some, Bool, true, false, ◌==◌, slice_get, if◌then◌else◌, is_some, option_and_then, option_map, option_to_list}
-use Rattle.std.specs.Option.{option_map_or}
-use Rattle.std.proofs.lemmas.Bool.Decides.{nat_tests}
-use Rattle.nfa_paths.specs.Common.{Search, Automaton, Node, look_holds, Pair, In, HeadIs, Linked, EndsWith, byte_at, edges, edges_of, holds_byte, node_at, pattern_of, IsMatch}
-use Rattle.thompson_nfa.specs.declared.state.Transition.{Transition}
-use Rattle.thompson_nfa.specs.Automaton.Node.{ByteRange, Sparse, Look, Capture, Match}
+use Rattle.nfa_paths.proofs.Common.{◌≡◌, ◌∙◌, ℕ, zero, suc, ◌+◌, ◌<◌, ◌≤◌, inl, inr, List, [], ◌∷◌, ◌++◌, length, refl, sym, ap, subst, arith, Option, None, Some, Bool, true, false, ◌==◌, slice_get, if◌then◌else◌, is_some, option_and_then, option_map, option_to_list, option_map_or, nat_tests, Search, Automaton, Node, look_holds, Pair, In, HeadIs, Linked, EndsWith, byte_at, edges, edges_of, holds_byte, node_at, pattern_of, IsMatch, Transition, ByteRange, Sparse, Look, Capture}
+use Rattle.thompson_nfa.specs.Automaton.Node.{Match}
 use Rattle.nfa_paths.proofs.StartLemmas.{byte_at-within}
 use Rattle.nfa_engines.specs.StartLaws.{anchored_at}
 use Rattle.nfa_engines.proofs.FirstStartLemmas.{start-anchored}

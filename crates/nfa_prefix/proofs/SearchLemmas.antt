@@ -1,9 +1,6 @@
 -- What bytes that each match begins with mean for a search, and what it means that nothing matches.
-use Rattle.std.proofs.Common.{ℕ, ◌<◌, ◌≤◌, Bool, true, false, inl, inr, List, refl, sym, ap, arith, None, replicate}
-use Rattle.std.proofs.lemmas.Bool.{cases_lt}
-use Rattle.std.proofs.lemmas.List.{length-replicate}
-use Rattle.nfa_paths.specs.Common.{Search, MatchKind, Automaton, IsAnswer, IsBoolAnswer, IsFindAnswer, IsHalfAnswer, IsScanAnswer, IsSearchAnswer, slot_row}
-use Rattle.regex_search_core.specs.declared.search.MatchKind.TheVariants.{All, LeftmostFirst}
+use Rattle.nfa_paths.proofs.Common.{ℕ, ◌<◌, ◌≤◌, Bool, true, false, inl, inr, List, refl, sym, ap, arith, None, replicate, cases_lt, length-replicate, Search, MatchKind, Automaton, IsAnswer, IsBoolAnswer, IsFindAnswer, IsHalfAnswer, IsScanAnswer, IsSearchAnswer, slot_row, LeftmostFirst}
+use Rattle.regex_search_core.specs.declared.search.MatchKind.TheVariants.{All}
 use Rattle.nfa_paths.proofs.OneScanLemmas.{first-scan}
 use Rattle.nfa_engines.specs.Accepting.{MatchesNothing}
 use Rattle.nfa_engines.specs.StartLaws.{anchored_at, IsFirstStart, IsUnbound}

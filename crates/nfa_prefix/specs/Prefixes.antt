@@ -1,9 +1,7 @@
 -- The bytes that each match of an NFA begins with.
 use Rattle.std.specs.Prelude.{ℕ, zero, suc, ◌++◌, ◌==◌, List, [], ◌∷◌, length, take, Option, None, Some, option_to_list, if◌then◌else◌}
 use Rattle.std.specs.Option.{option_map_or}
-use Rattle.nfa_paths.specs.Common.{Search, Automaton, Node, node_at}
-use Rattle.thompson_nfa.specs.declared.state.Transition.{Transition}
-use Rattle.thompson_nfa.specs.Automaton.Node.{ByteRange, Sparse, Look, Capture}
+use Rattle.nfa_paths.specs.Common.{Search, Automaton, Node, node_at, Transition, ByteRange, Sparse, Look, Capture}
 use Rattle.nfa_engines.specs.Accepting.{MatchesSomething}
 use Rattle.nfa_engines.specs.StartLaws.{anchored_at}
 use Rattle.nfa_prefix.specs.Occurrences.{OccursBefore}

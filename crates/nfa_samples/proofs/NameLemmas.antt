@@ -1,5 +1,5 @@
 -- A name in a list is one of its names, and what two lists of names say together.
-use Rattle.std.proofs.Common.{◌≡◌, ℕ, zero, suc, ◌<◌, ◌↔◌, List, [], ◌∷◌, Option, None, Some, Result, Ok, Err, length, ◌++◌, slice_index_or, arith, rules, IsNone, IsSome, IfOk, IfErr}
+use Rattle.std.proofs.Common.{◌≡◌, ℕ, zero, suc, ◌<◌, ◌↔◌, List, [], ◌∷◌, Option, Result, length, ◌++◌, slice_index_or, arith, rules, IsNone, IsSome, IfOk, IfErr}
 use Rattle.nfa_samples.specs.Names.{IsNoneOf}
 
 -- the name at a place
@@ -13,16 +13,12 @@ among (suc k) name (n ∷ names) below is none = among k name names (omega arith
 pub found-among : {A E : Type 0} (r : Result (Option A) E) (k : ℕ) (name : List ℕ) (names : List (List ℕ))
     → k < length names → name ≡ slice_index_or names k [] → IfOk r IsSome
     → IfOk r (λ found. IsNone found ↔ IsNoneOf name names)
-found-among (Ok (Some a)) k name names below is some =
-    (λ none. search rules, λ none. absurd (among k name names below is none))
-found-among (Ok None) k name names below is some = search rules
-found-among (Err e) k name names below is some = search rules
+found-among = search (rules, among)
 
 -- and an error is one of a name that is known
 pub error-among : {A E : Type 0} (r : Result (Option A) E) (k : ℕ) (name : List ℕ) (names : List (List ℕ))
     → k < length names → name ≡ slice_index_or names k [] → IfErr r (λ e. ¬ (IsNoneOf name names))
-error-among (Ok found) k name names below is = search rules
-error-among (Err e) k name names below is = λ none. among k name names below is none
+error-among = search (rules, among)
 
 -- a name that is none of two lists is none of the first
 none-left : (name : List ℕ) (xs ys : List (List ℕ)) → IsNoneOf name (xs ++ ys) → IsNoneOf name xs
@@ -42,19 +38,15 @@ none-both name (x ∷ xs) ys left right = (left.0, none-both name xs ys left.1 r
 -- an error of a name of the first list is one of a name of both
 pub first-known : {A E : Type 0} (r : Result (Option A) E) (name : List ℕ) (xs ys : List (List ℕ))
     → ¬ (IsNoneOf name xs) → IfErr r (λ e. ¬ (IsNoneOf name (xs ++ ys)))
-first-known (Ok found) name xs ys known = search rules
-first-known (Err e) name xs ys known = λ none. known (none-left name xs ys none)
+first-known = search (rules, none-left)
 
 -- and so is one of a name of the second
 pub rest-known : {A E : Type 0} (r : Result (Option A) E) (name : List ℕ) (xs ys : List (List ℕ))
     → IfErr r (λ e. ¬ (IsNoneOf name ys)) → IfErr r (λ e. ¬ (IsNoneOf name (xs ++ ys)))
-rest-known (Ok found) name xs ys known = search rules
-rest-known (Err e) name xs ys known = λ none. known (none-right name xs ys none)
+rest-known = search (rules, none-right)
 
 -- if the first list lacks the name, what holds of the second list holds of both
 pub rest-none : {A E : Type 0} (r : Result (Option A) E) (name : List ℕ) (xs ys : List (List ℕ))
     → IsNoneOf name xs → IfOk r (λ found. IsNone found ↔ IsNoneOf name ys)
     → IfOk r (λ found. IsNone found ↔ IsNoneOf name (xs ++ ys))
-rest-none (Ok found) name xs ys none tells =
-    (λ is. none-both name xs ys none (tells.0 is), λ both. tells.1 (none-right name xs ys both))
-rest-none (Err e) name xs ys none tells = search rules
+rest-none = search (rules, none-both, none-right)

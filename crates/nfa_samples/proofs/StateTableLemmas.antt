@@ -1,9 +1,9 @@
 -- A draft that is sound makes an NFA.
-use Rattle.std.proofs.Common.{◌≡◌, ◌⊎◌, inl, inr, ℕ, ◌+◌, ◌<◌, ◌≤◌, Bool, true, false, ◌&&◌, ◌||◌, nat_lt, nat_le, nat_eq, List, [], ◌∷◌, ◌++◌, map, length, Result, Ok, Err, refl, subst, sym, ap, arith, append-nil, append_assoc, All, IsOkUnless, IsTrue, slice_index_or}
+use Rattle.std.proofs.Common.{◌≡◌, ◌⊎◌, inl, inr, ℕ, ◌+◌, ◌<◌, Bool, true, ◌||◌, nat_lt, nat_le, nat_eq, List, [], ◌∷◌, ◌++◌, map, length, Result, Ok, Err, refl, subst, sym, ap, arith, append-nil, append_assoc, All, IsOkUnless, IsTrue, slice_index_or}
 use Rattle.std.specs.List.{list_all}
 use Rattle.std.proofs.lemmas.List.Elements.{All-append, All-cons, All-map}
 use Rattle.std.proofs.lemmas.List.Sums.{AllPass-from_list_all}
-use Rattle.std.proofs.lemmas.Bool.{eqb-true, leb-true, ltb-true}
+use Rattle.std.proofs.lemmas.Bool.{and_parts, eqb-true, ltb-true, or_cases}
 use Rattle.std.proofs.lemmas.List.{length-append, length-map, map-append}
 use Rattle.regex_search_core.specs.Groups.{slot_count}
 use Rattle.thompson_nfa.specs.declared.nfa.BuildError.{BuildError}
@@ -11,7 +11,7 @@ use Rattle.thompson_nfa.specs.declared.nfa.BuildError.TheVariants as error
 use Rattle.thompson_nfa.specs.declared.state.State.{State}
 use Rattle.thompson_nfa.specs.Automaton as nfa
 use Rattle.thompson_nfa.specs.Automaton.{Node, node_of, Automaton, IsAutomaton, LeadsBelow, SlotBelow, PatternBelow}
-use Rattle.thompson_nfa.specs.Built.{IsBuilt}
+use Rattle.thompson_nfa.specs.Flaws.{IsBuilt}
 use Rattle.thompson_nfa.proofs.FlawLemmas.{no-flaw}
 use Rattle.nfa_samples.specs.declared.state_table.StateRow.{StateRow}
 use Rattle.nfa_samples.specs.declared.state_table.StateRow.TheVariants.{Byte, Range, Ranges, Either, Union, Capture, Assert, Match}
@@ -24,87 +24,55 @@ all-passing : {X : Type 0} (p : X → Bool) (P : X → Type 0) (xs : List X) →
 all-passing p P xs each e = λ i d below. each (slice_index_or xs i d) (AllPass-from_list_all p xs e i d below)
 
 -- what tests say that pass
-both : (a b : Bool) → (a && b) ≡ true → (a ≡ true) × (b ≡ true)
-both true true e = (refl, refl)
-both true false e = (refl, e)
-both false b e = absurd (cc)
-
-below : (a b : ℕ) → nat_lt a b ≡ true → a < b
-below a b e = ltb-true a b e
-
-within : (a b : ℕ) → nat_le a b ≡ true → a ≤ b
-within a b e = leb-true a b e
-
-one-of : (s t : Bool) (P Q : Type 0) → (s ≡ true → P) → (t ≡ true → Q) → (s || t) ≡ true → P ⊎ Q
-one-of true t P Q first second e = inl (first refl)
-one-of false t P Q first second e = inr (second e)
-
 either : (a b c : ℕ) → (nat_eq a b || nat_eq a c) ≡ true → (a ≡ b) ⊎ (a ≡ c)
-either a b c e = one-of (nat_eq a b) (nat_eq a c) (a ≡ b) (a ≡ c) (eqb-true a b) (eqb-true a c) e
+either a b c e =
+    elim (or_cases (nat_eq a b) (nat_eq a c) e) [ inl s ↦ inl (eqb-true a b s) | inr s ↦ inr (eqb-true a c s) ]
 
 module _ (states slots patterns : ℕ) where
   -- the state of a row that passes its test
   leads : (r : StateRow) → is_row states slots patterns r ≡ true → LeadsBelow states (node_in r)
-  leads (Byte byte next) e = below next states e
-  leads (Range start end next) e = below next states e
-  leads (Ranges ranges next) e = All-map (λ t. t.next < states) _ ranges.now (λ i d within. below next states e)
+  leads (Byte byte next) e = ltb-true next states e
+  leads (Range start end next) e = ltb-true next states e
+  leads (Ranges ranges next) e = All-map (λ t. t.next < states) _ ranges.now (λ i d within. ltb-true next states e)
   leads (Either first second) e =
-      let parts = both (nat_lt first states) (nat_lt second states) e in
-      (below first states parts.0, below second states parts.1)
-  leads (Union numbers) e = all-passing _ (λ s. s < states) numbers.now (λ s. below s states) e
-  leads (Capture slot next) e = below next states (both (nat_lt next states) (nat_lt slot slots) e).0
-  leads (Assert look next) e = below next states e
+      let parts = and_parts (nat_lt first states) (nat_lt second states) e in
+      (ltb-true first states parts.0, ltb-true second states parts.1)
+  leads (Union numbers) e = all-passing _ (λ s. s < states) numbers.now (λ s. ltb-true s states) e
+  leads (Capture slot next) e = ltb-true next states (and_parts (nat_lt next states) (nat_lt slot slots) e).0
+  leads (Assert look next) e = ltb-true next states e
   leads (Match pattern) e = tt
 
   writes : (r : StateRow) → is_row states slots patterns r ≡ true → SlotBelow slots (node_in r)
-  writes (Byte byte next) e = tt
-  writes (Range start end next) e = tt
-  writes (Ranges ranges next) e = tt
-  writes (Either first second) e = tt
-  writes (Union numbers) e = tt
-  writes (Capture slot next) e = below slot slots (both (nat_lt next states) (nat_lt slot slots) e).1
-  writes (Assert look next) e = tt
-  writes (Match pattern) e = tt
+  writes (Capture slot next) e = ltb-true slot slots (and_parts (nat_lt next states) (nat_lt slot slots) e).1
+  writes _ e = tt
 
   matches : (r : StateRow) → is_row states slots patterns r ≡ true → PatternBelow patterns (node_in r)
-  matches (Byte byte next) e = tt
-  matches (Range start end next) e = tt
-  matches (Ranges ranges next) e = tt
-  matches (Either first second) e = tt
-  matches (Union numbers) e = tt
-  matches (Capture slot next) e = tt
-  matches (Assert look next) e = tt
-  matches (Match pattern) e = below pattern patterns e
+  matches (Match pattern) e = ltb-true pattern patterns e
+  matches _ e = tt
 
 -- what the tests of a draft say
 pub record Sound (more : ℕ) (d : StateTable) : Type 0 where
   pub filled : 0 < length d.rows.now
-  pub few : length d.rows.now + more ≤ 2147483647
   pub rows : list_all (is_row (length d.rows.now + more) (slot_count (groups_in d.groups.now)) (length d.starts.now))
       d.rows.now ≡ true
   pub starts : All (λ s. s < length d.rows.now + more) d.starts.now
-  pub few_patterns : length d.starts.now ≤ 2147483647
   pub groups : (length d.groups.now ≡ length d.starts.now) ⊎ (length d.groups.now ≡ 0)
-  pub few_slots : slot_count (groups_in d.groups.now) ≤ 2147483646
 
 -- a draft that passes them
 pub sound : (more : ℕ) (d : StateTable) → IsTrue (is_sound more d) → Sound more d
 sound more d e =
-    let g = both _ (nat_le (slot_count (groups_in d.groups.now)) 2147483646) e in
-    let f = both _ (nat_eq (length d.groups.now) (length d.starts.now) || nat_eq (length d.groups.now) 0) g.0 in
-    let e = both _ (nat_le (length d.starts.now) 2147483647) f.0 in
-    let s = both _ (list_all (λ start. nat_lt start (length d.rows.now + more)) d.starts.now) e.0 in
-    let r = both _ (list_all (is_row (length d.rows.now + more) (slot_count (groups_in d.groups.now))
+    let g = and_parts _ (nat_le (slot_count (groups_in d.groups.now)) 2147483646) e in
+    let f = and_parts _ (nat_eq (length d.groups.now) (length d.starts.now) || nat_eq (length d.groups.now) 0) g.0 in
+    let e = and_parts _ (nat_le (length d.starts.now) 2147483647) f.0 in
+    let s = and_parts _ (list_all (λ start. nat_lt start (length d.rows.now + more)) d.starts.now) e.0 in
+    let r = and_parts _ (list_all (is_row (length d.rows.now + more) (slot_count (groups_in d.groups.now))
     (length d.starts.now)) d.rows.now) s.0 in
-    let n = both (nat_lt 0 (length d.rows.now)) (nat_le (length d.rows.now + more) 2147483647) r.0 in
+    let n = and_parts (nat_lt 0 (length d.rows.now)) (nat_le (length d.rows.now + more) 2147483647) r.0 in
     record {
-      filled = below _ _ n.0;
-      few = within _ _ n.1;
+      filled = ltb-true _ _ n.0;
       rows = r.1;
-      starts = all-passing _ (λ s. s < length d.rows.now + more) d.starts.now (λ s. below s _) s.1;
-      few_patterns = within _ _ e.1;
+      starts = all-passing _ (λ s. s < length d.rows.now + more) d.starts.now (λ s. ltb-true s _) s.1;
       groups = either _ _ _ f.1;
-      few_slots = within _ _ g.1;
     }
 
 module _ (more : ℕ) (d : StateTable) (is : Sound more d) where

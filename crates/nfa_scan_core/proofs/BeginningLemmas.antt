@@ -1,7 +1,5 @@
 -- From what the table of first bytes promises to what a contract says.
-use Rattle.std.proofs.Common.{◌≡◌, ◌<◌, ℕ, inl, inr, Bool, true, false, not, List, [], ◌∷◌, subst, slice_index_or}
-use Rattle.std.proofs.lemmas.Bool.{not-false, not-true}
-use Rattle.nfa_paths.specs.Common.{Automaton, Pair, Accepts, edges, is_match}
+use Rattle.nfa_paths.proofs.Common.{◌≡◌, ◌<◌, ℕ, inl, inr, Bool, true, false, not, List, [], ◌∷◌, subst, slice_index_or, not-false, not-true, Automaton, Pair, Accepts, edges, is_match}
 use Rattle.nfa_paths.specs.Beginnings.{NoMatchBegins}
 use Rattle.nfa_paths.proofs.PathToLemmas.{PathTo-accepts}
 use Rattle.nfa_paths.proofs.StartLemmas.{IsMatch-edges}

@@ -1,12 +1,5 @@
 -- What is reached before a byte is read.
-use Rattle.std.proofs.Common.{◌≡◌, ℕ, suc, zero, ◌+◌, ◌<◌, ◌≤◌, inl, inr, List, [], ◌∷◌, length, get_or, map, replicate, refl, ap, sym, arith, subst, Some, true, false, Bool, All, option_map, option_and_then, option_to_list, is_some, if◌then◌else◌}
-use Rattle.std.specs.List.{slice_get}
-use Rattle.std.proofs.lemmas.Bool.{cases_Bool}
-use Rattle.std.proofs.lemmas.List.{get_or_default}
-use Rattle.std.proofs.lemmas.Option.{get_or_from_slice_get, slice_get-get_or}
-use Rattle.nfa_paths.specs.Common.{Search, Automaton, Node, Pair, In, Path, node_at, pattern_of, edges, edges_of, rests, holding_at, is_match, byte_at, target_on, first_target, holds_byte}
-use Rattle.thompson_nfa.specs.declared.state.Transition.{Transition}
-use Rattle.nfa_paths.specs.FirstPaths.Path.{stop, go}
+use Rattle.nfa_paths.proofs.Common.{◌≡◌, ℕ, suc, zero, ◌+◌, ◌<◌, ◌≤◌, inl, inr, List, [], ◌∷◌, length, get_or, map, replicate, refl, ap, sym, arith, subst, Some, true, false, Bool, All, option_map, option_and_then, option_to_list, is_some, if◌then◌else◌, slice_get, cases_Bool, get_or_default, get_or_from_slice_get, slice_get-get_or, Search, Automaton, Node, Pair, In, Path, node_at, pattern_of, edges, edges_of, rests, holding_at, is_match, byte_at, target_on, first_target, holds_byte, Transition, stop, go}
 use Rattle.nfa_paths.proofs.StartLemmas.{resting-edges, epsilon-edges, epsilon-all}
 use Rattle.nfa_scan_core.specs.FirstBytes.{Admits, Grows, WasReached, Extends, Covers, IsRefused, MayBegin, IsFirstBytes}
 use Rattle.nfa_scan_core.specs.declared.first_bytes.ReachedStates.{ReachedStates}

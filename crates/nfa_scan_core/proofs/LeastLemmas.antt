@@ -1,11 +1,5 @@
 -- A table admits only bytes that a match may begin with.
-use Rattle.std.proofs.Common.{◌≡◌, ℕ, suc, zero, ◌+◌, ◌<◌, ◌≤◌, inl, inr, List, [], ◌∷◌, length, get_or, replicate, refl, sym, arith, Some, true, false, Bool, All}
-use Rattle.std.specs.List.{slice_get}
-use Rattle.std.proofs.lemmas.List.{get_or_default, get_or-replicate}
-use Rattle.std.proofs.lemmas.Option.{get_or_from_slice_get}
-use Rattle.nfa_paths.specs.Common.{Automaton, Node, In, node_at}
-use Rattle.thompson_nfa.specs.Automaton.Node.{ByteRange, Sparse}
-use Rattle.thompson_nfa.specs.declared.state.Transition.{Transition}
+use Rattle.nfa_paths.proofs.Common.{◌≡◌, ℕ, suc, zero, ◌+◌, ◌<◌, ◌≤◌, inl, inr, List, [], ◌∷◌, length, get_or, replicate, refl, arith, Some, true, false, Bool, All, slice_get, get_or_default, get_or-replicate, get_or_from_slice_get, Automaton, Node, In, node_at, ByteRange, Sparse, Transition}
 use Rattle.nfa_scan_core.specs.FirstBytes.{Admits, WasReached, Extends, GrowsBy, Reads, Stops, AddsOnly, LacksRoom, Differ, AreDistinct, epsilon_targets, IsReachedAtStart, IsRead, MayBegin}
 use Rattle.nfa_scan_core.specs.FirstBytes.IsReachedAtStart.{on}
 use Rattle.nfa_scan_core.specs.FirstBytes.MayBegin.{matches, many}
@@ -56,11 +50,7 @@ each-first P n s holds k less = let first : k < n + 1 = omega arith in rw (get_o
 -- a state that was not reached, before those that were
 distinct-more : (r : ReachedStates) (s : ℕ) → (WasReached r s → ⊥) → r.len ≡ length r.states → Differ r
     → AreDistinct (s ∷ r.states)
-distinct-more r s other full differ j zero less within same = absurd (omega arith)
-distinct-more r s other full differ zero (suc k) less within same =
-    other (record { place = k; below = omega arith; is = sym same })
-distinct-more r s other full differ (suc j) (suc k) less within same =
-    differ j k (omega arith) (omega arith) same
+distinct-more = grind arith
 
 -- a table that lets nothing through
 pub admits-none : (n b : ℕ) → b < n → Admits (replicate n false) b → ⊥

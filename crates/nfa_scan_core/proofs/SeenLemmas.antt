@@ -1,6 +1,5 @@
 -- Marks of the states at a position, as pairs that were seen.
-use Rattle.std.proofs.Common.{◌≡◌, ℕ, zero, suc, ◌<◌, ◌⊎◌, ◌↔◌, Bool, true, false, List, length, get_or, rules, set, replicate}
-use Rattle.nfa_paths.specs.Common.{Pair}
+use Rattle.nfa_paths.proofs.Common.{◌≡◌, ℕ, zero, suc, ◌<◌, ◌⊎◌, ◌↔◌, Bool, true, false, List, length, get_or, rules, set, replicate, Pair}
 use Rattle.nfa_scan_core.specs.Marks.{SeenAt}
 
 -- marking a state marks its pair and no other

@@ -1,15 +1,9 @@
 -- The targets of byte states.
-use Rattle.std.proofs.Common.{◌≡◌, ℕ, suc, zero, ◌<◌, ◌≤◌, List, [], ◌∷◌, length, refl, arith, rules, Option, Some, None, true, false, Bool, All, IfSome, option_and_then, is_some, count_by, cond, if◌then◌else◌}
-use Rattle.std.specs.List.{slice_get}
-use Rattle.std.proofs.lemmas.List.Sums.{sum_by-cons}
-use Rattle.nfa_paths.specs.Common.{Node, LeadsBelow, degree, target_on, first_target, holds_byte}
-use Rattle.thompson_nfa.specs.Automaton.Node.{ByteRange, Sparse, Dense}
-use Rattle.thompson_nfa.specs.declared.state.Transition.{Transition}
+use Rattle.nfa_paths.proofs.Common.{◌≡◌, ℕ, suc, zero, ◌<◌, ◌≤◌, List, [], ◌∷◌, length, arith, rules, Option, Some, None, true, Bool, All, IfSome, option_and_then, is_some, count_by, cond, if◌then◌else◌, slice_get, sum_by-cons, Node, LeadsBelow, degree, target_on, first_target, holds_byte, ByteRange, Sparse, Dense, Transition}
 
 -- the properties of an optional value that is chosen by a condition
 then-some : {A : Type 0} (c : Bool) (a u : A) → (if c then Some a else None) ≡ Some u → (c ≡ true) × (a ≡ u)
-then-some true a u e = (refl, cc)
-then-some false a u e = cc
+then-some = grind arith
 
 first_target-below : (n b u : ℕ) (ts : List Transition) → All (λ t. t.next < n) ts → first_target ts b ≡ Some u → u < n
 first_target-below n b u [] below e = cc
@@ -47,7 +41,4 @@ target-below n _ b t leads e = cc
 
 -- and one of the state's edges
 pub target-degree : (node : Node) (b t : ℕ) → target_on node b ≡ Some t → 1 ≤ degree node
-target-degree (ByteRange trans) b t e = omega arith
-target-degree (Sparse ts) b t e = first_target-some b t ts e
-target-degree (Dense targets) b t e = dense-some t targets b e
-target-degree _ b t e = cc
+target-degree = grind (arith, dense-some, first_target-some)

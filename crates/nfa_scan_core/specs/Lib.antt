@@ -1,3 +1,2 @@
 pub mod FirstBytes
 pub mod Marks
-pub mod Numbers

@@ -1,8 +1,6 @@
 -- what holds along the calls of a finder
-use Rattle.std.proofs.Common.{List, [], ◌∷◌, refl, ◌∙◌}
-use Rattle.nfa_paths.specs.Common.{Search}
-use Rattle.nfa_search_base.specs.Asking.{SameButStart}
-use Rattle.nfa_search_base.specs.Serving.{ServesOn, LeadsOn, ServesOnAlong}
+use Rattle.nfa_paths.proofs.Common.{arith, List, [], ◌∷◌, refl, Search}
+use Rattle.nfa_search_base.specs.Common.{SameButStart, ServesOn, LeadsOn, ServesOnAlong}
 
 -- each search is the same as itself
 pub same_start-self : (s : Search) → SameButStart s s
@@ -10,21 +8,17 @@ same_start-self s = record { haystack = refl; end = refl; anchored = refl; earli
 
 -- and the same as one that is the same as its like
 pub same_start-then : (s t u : Search) → SameButStart s t → SameButStart t u → SameButStart s u
-same_start-then s t u a b = record {
-  haystack = b.haystack ∙ a.haystack;
-  end = b.end ∙ a.end;
-  anchored = b.anchored ∙ a.anchored;
-  earliest = b.earliest ∙ a.earliest;
-}
+same_start-then s t u a b = grind arith
 
 -- What holds along calls on searches that differ only in their start.
-module _ {S R : Type 0} (accepts : S → Search → Type 0) (asks : S → Search → R → S → Type 0) where
+module _ {S R : Type 0} (accepts : S → Search → Type 0) (asks : S → Search → R → S → Type 0) {s t : Search}
+    (same : SameButStart s t) where
   -- calls on searches like t are calls on searches like s
-  LeadsOn-from : (s t : Search) (f : S) (calls : List (Search × R)) (f' : S) → SameButStart s t
+  LeadsOn-from : (f : S) (calls : List (Search × R)) (f' : S)
       → LeadsOn accepts asks SameButStart t f calls f' → LeadsOn accepts asks SameButStart s f calls f'
-  LeadsOn-from s t f [] f' same leads = leads
-  LeadsOn-from s t f (x ∷ calls) f' same leads =
-      (leads.0, (same_start-then s t x.0 same leads.1.0, leads.1.1), LeadsOn-from s t leads.0 calls f' same leads.2)
+  LeadsOn-from f [] f' leads = leads
+  LeadsOn-from f (x ∷ calls) f' leads =
+      (leads.0, (same_start-then s t x.0 same leads.1.0, leads.1.1), LeadsOn-from leads.0 calls f' leads.2)
 
 module _ {S R : Type 0} {accepts : S → Search → Type 0} {asks : S → Search → R → S → Type 0} where
   module _ {P : Search → R → Type 0} {f : S} {s : Search} (serves : ServesOnAlong accepts asks SameButStart P f s)
@@ -32,7 +26,7 @@ module _ {S R : Type 0} {accepts : S → Search → Type 0} {asks : S → Search
     -- the same from a search like it
     pub Along-same : ServesOnAlong accepts asks SameButStart P f t
     Along-same = record {
-      at = λ calls f' u leads like. serves.at calls f' u (LeadsOn-from accepts asks s t f calls f' same leads)
+      at = λ calls f' u leads like. serves.at calls f' u (LeadsOn-from accepts asks same f calls f' leads)
           (same_start-then s t u same like);
     }
 

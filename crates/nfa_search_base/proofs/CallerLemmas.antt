@@ -1,9 +1,8 @@
 -- What callers of an engine learn of the numbers in an answer.
-use Rattle.std.proofs.Common.{◌≡◌, ℕ, List, length, ap, ◌∙◌, Option, Some, None, Bool, option_map, replicate, IfSome, IfNone, ◌<◌, ◌≤◌}
-use Rattle.nfa_paths.specs.Common.{found_of, half_found_of, number_of, Search, PatternID, HalfMatch, Match, MatchKind, Automaton, IsAutomaton, IsAnswer, IsHalfAnswer, IsFindAnswer}
+use Rattle.nfa_paths.proofs.Common.{◌≡◌, ℕ, List, length, ap, ◌∙◌, Option, Some, None, Bool, option_map, replicate, IfSome, IfNone, ◌<◌, ◌≤◌, found_of, half_found_of, number_of, Search, PatternID, HalfMatch, Match, MatchKind, Automaton, IsAutomaton, IsAnswer, IsHalfAnswer, IsFindAnswer}
 use Rattle.nfa_paths.proofs.InsideLemmas.{half-within, match-within, match-pattern, pattern-within}
 use Rattle.nfa_paths.proofs.PatternLemmas.{slots-unset}
-use Rattle.nfa_search_base.specs.Lists.{IsInside}
+use Rattle.nfa_search_base.specs.Common.{IsInside}
 
 module _ (nfa : Automaton) (kind : MatchKind) (earliest : Bool) (x : Search) where
   pub inside-of : (r : Option Match) → IsFindAnswer nfa kind earliest x (option_map found_of r)

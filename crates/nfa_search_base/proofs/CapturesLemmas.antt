@@ -1,20 +1,16 @@
 -- The captures of a search of an NFA: there is one list of them, and their matches are those of the search.
-use Rattle.std.proofs.Common.{◌≡◌, ◌∙◌, ℕ, inl, inr, Bool, List, [], ◌∷◌, map, length, Option, None, Some, Ok, Err, refl, sym, ap}
-use Rattle.std.specs.Option.{option_and_then, option_map}
-use Rattle.nfa_paths.specs.Common.{Found, slot_count, Search, Captured, match_of, MatchKind, Automaton, Pair, path_pattern, slot_row, IsAnswer, IsFindAnswer}
+use Rattle.nfa_paths.proofs.Common.{arith, ◌≡◌, ℕ, inl, inr, Bool, List, [], ◌∷◌, map, length, Option, None, Some, Ok, Err, refl, ap, option_and_then, Found, slot_count, Search, Captured, match_of, MatchKind, Automaton, path_pattern, slot_row, IsAnswer, IsFindAnswer}
 use Rattle.nfa_paths.proofs.AnswerLemmas.{search_answer-unique}
 use Rattle.nfa_paths.proofs.ExistenceLemmas.{search_answer-exists}
 use Rattle.nfa_paths.proofs.KnownLemmas.{match-unique}
-use Rattle.nfa_search_base.specs.WithCaptures.{Row, filled_answer, row_found, row_of, row_span, UpToRefusal}
-use Rattle.nfa_search_base.specs.CapturesLists.{IsRow, AnswersRow, AreFirstRows, AreRows}
-use Rattle.nfa_search_base.specs.Finders.{answer_by}
-use Rattle.nfa_search_base.specs.Items.{Item, greedy}
-use Rattle.nfa_search_base.specs.Lists.{IsStep, Fails, FailsOrIsRefused, ItemsNext, ItemsLast, AnswersMatch, ComeNext, ComeLast, AreFirstMatches, AreMatches}
-use Rattle.nfa_search_base.specs.IterStates.{IterState, Answer, AnswerIsInside, fresh, after, answer_span, span_of}
-use Rattle.nfa_search_base.specs.declared.error.SearchError.{SearchError}
+use Rattle.nfa_search_base.specs.Common.{Row, filled_answer, row_found, row_span, UpToRefusal, IsRow, AnswersRow, AreFirstRows, AreRows, answer_by, Item, greedy, IsStep, Fails, FailsOrIsRefused, ItemsBy, ItemsLast, AnswersMatch, AreFirstMatches, AreMatches, IterState, Answer, AnswerIsInside, fresh, after, answer_span, span_of, SearchError}
 use Rattle.nfa_search_base.proofs.ListLemmas.{as_items, items-greedy, last-matches, match-lies, matches-unique, never-fails, step-as, step-unique, values-unique}
 use Rattle.nfa_search_base.proofs.IterStateLemmas.{IsOrdered}
 use Rattle.nfa_paths.proofs.PatternLemmas.{length-slot_row}
+
+-- a row is its pattern and its slots
+row-is : (p q : Row) → p.pattern ≡ q.pattern → p.slots ≡ q.slots → p ≡ q
+row-is p q pattern slots = grind (arith)
 
 module _ (nfa : Automaton) (kind : MatchKind) (earliest : Bool) where
   abbrev tells : Search → Answer Row → Type 0
@@ -24,15 +20,7 @@ module _ (nfa : Automaton) (kind : MatchKind) (earliest : Bool) where
   slots-match : (t : Search) (p : Option ℕ) (slots : List (Option ℕ)) (m : Option Found)
       → IsAnswer nfa kind earliest t p slots → length slots ≡ slot_count nfa.groups → match_of p slots ≡ m
       → IsFindAnswer nfa kind earliest t m
-  slots-match t p slots m a count is = record {
-    restarts = a.restarts;
-    path = a.path;
-    answers = a.answers;
-    found_is = sym is
-        ∙ ap (λ (q : Option ℕ). match_of q slots) a.pattern_is
-        ∙ ap (λ (s : List (Option ℕ)). match_of (option_and_then (path_pattern nfa) a.path) s) a.slots_are
-        ∙ ap (λ (n : ℕ). match_of (option_and_then (path_pattern nfa) a.path) (slot_row nfa n a.path)) count;
-  }
+  slots-match t p slots m a count is = grind (arith)
 
   -- the match of a row is that of the search
   row-match : (t : Search) (row : Row) → IsRow nfa kind earliest t row
@@ -63,17 +51,7 @@ module _ (nfa : Automaton) (kind : MatchKind) (earliest : Bool) where
 
   -- a search has one row
   rows-same : (t : Search) (p q : Row) → IsRow nfa kind earliest t p → IsRow nfa kind earliest t q → p ≡ q
-  rows-same t p q h k =
-      let one = search_answer-unique nfa kind earliest t h.answer.restarts k.answer.restarts h.answer.path k.answer.path
-      h.answer.answers k.answer.answers in
-      let pattern : p.pattern ≡ q.pattern =
-      h.answer.pattern_is ∙ ap (λ (r : Option (List Pair)). option_and_then (path_pattern nfa) r) one.1
-      ∙ sym k.answer.pattern_is in
-      let slots : p.slots ≡ q.slots =
-      h.answer.slots_are ∙ ap (λ (n : ℕ). slot_row nfa n h.answer.path) (h.count ∙ sym k.count)
-      ∙ ap (slot_row nfa (length q.slots)) one.1 ∙ sym k.answer.slots_are in
-      ap (λ (o : Option ℕ). record { pattern = o; slots = p.slots }) pattern
-      ∙ ap (λ (s : List (Option ℕ)). record { pattern = q.pattern; slots = s }) slots
+  rows-same t p q h k = grind (arith, search_answer-unique, row-is)
 
   -- a search gives only one row
   pub one-row : (t : Search) (a b : Answer Row) → tells t a → tells t b → a ≡ b
@@ -90,11 +68,7 @@ module _ (nfa : Automaton) (kind : MatchKind) (earliest : Bool) where
   -- after a search, captures with all slots hold the row that the search gives
   pub stored_captures-tells : (t : Search) (c : Captured) → IsAnswer nfa kind earliest t c.pattern c.slots
       → length c.slots ≡ slot_count nfa.groups → tells t (filled_answer c (Ok tt))
-  stored_captures-tells t c answer count = of (match_of c.pattern c.slots) refl
-    where
-      of : (m : Option Found) → match_of c.pattern c.slots ≡ m → tells t (Ok (option_map (λ f. row_of c) m))
-      of (Some f) is = record { answer = answer; count = count; is_match = rw is refl }
-      of None is = slots-match t c.pattern c.slots None answer count is
+  stored_captures-tells t c answer count = grind (arith, slots-match)
 
   -- a step over rows is one over matches
   ok-match : (w : IterState) (o : Option Row) → IsStep row_span tells w (Ok o)
@@ -102,25 +76,23 @@ module _ (nfa : Automaton) (kind : MatchKind) (earliest : Bool) where
   ok-match w o h = step-as (record { shown = as_match; same = span-as_match; so = row-tells }) h
 
   -- so rows are matches
-  come-next : (rows : List Row) (w : IterState) → ItemsNext row_span tells (Fails row_span tells) w (as_items rows)
-      → ComeNext nfa kind earliest w (map row_found rows)
-  come-next [] w h = tt
-  come-next (r ∷ rows) w h = (ok-match w (Some r) h.0, come-next rows (after w (Some (row_span r))) h.1)
-
-  come-last : (rows : List Row) (w : IterState) → ItemsLast row_span tells (Fails row_span tells) w (as_items rows)
-      → ComeLast nfa kind earliest w (map row_found rows)
-  come-last [] w h = ok-match w None h
-  come-last (r ∷ rows) w h = (ok-match w (Some r) h.0, come-last rows (after w (Some (row_span r))) h.1)
+  come-rows : (over over' : IterState → Type 0) → ((w : IterState) → over w → over' w) → (rows : List Row)
+      (w : IterState) → ItemsBy row_span tells over (Fails row_span tells) w (as_items rows)
+      → ItemsBy span_of (AnswersMatch nfa kind earliest) over' (Fails span_of (AnswersMatch nfa kind earliest)) w
+      (as_items (map row_found rows))
+  come-rows over over' close [] w h = close w h
+  come-rows over over' close (r ∷ rows) w h =
+      (ok-match w (Some r) h.0, come-rows over over' close rows (after w (Some (row_span r))) h.1)
 
   -- the matches of the first rows are the first matches
   pub rows-first_matches : (x : Search) (rows : List Row) → AreFirstRows nfa kind earliest x rows
       → AreFirstMatches nfa kind earliest x (map row_found rows)
-  rows-first_matches x rows h = record { come = come-next rows (fresh x) h.come }
+  rows-first_matches x rows h = record { come = come-rows _ _ (λ w k. k) rows (fresh x) h.come }
 
   -- and those of all rows are all
   pub rows-matches : (x : Search) (rows : List Row) → AreRows nfa kind earliest x rows
       → AreMatches nfa kind earliest x (map row_found rows)
-  rows-matches x rows h = record { come = come-last rows (fresh x) h.come }
+  rows-matches x rows h = record { come = come-rows _ _ (λ w k. ok-match w None k) rows (fresh x) h.come }
 
   -- a search has one list of rows at most
   pub rows-unique : (x : Search) (xs ys : List Row) → AreRows nfa kind earliest x xs → AreRows nfa kind earliest x ys
@@ -174,16 +146,7 @@ module _ (nfa : Automaton) (kind : MatchKind) (earliest : Bool) where
       }
 
   answer_of-answered : (t : Search) → tells t (filled_answer (answer_of t) (Ok tt))
-  answer_of-answered t =
-      let answer = search_answer-exists nfa kind earliest t in
-      let count = length-slot_row nfa (slot_count nfa.groups) answer.1 in
-      stored_captures-tells t (answer_of t) (record {
-        restarts = answer.0;
-        path = answer.1;
-        answers = answer.2;
-        pattern_is = refl;
-        slots_are = ap (λ (n : ℕ). slot_row nfa n answer.1) (sym count);
-      }) count
+  answer_of-answered t = grind (arith, search_answer-exists, length-slot_row, stored_captures-tells)
 
   -- so each search has a list of rows
   pub rows-exist : (x : Search) → (rows : List Row) × AreRows nfa kind earliest x rows

@@ -1,28 +1,14 @@
 -- The calls of an iterator over captures by an engine give the captures of the engine's NFA.
-use Rattle.std.proofs.Common.{◌≡◌, ℕ, ◌≤◌, inl, inr, Bool, refl, sym, ap, subst, Option, None, Some, Result, Ok, Err, List, [], ◌∷◌, map, arith, All, IfOk}
-use Rattle.std.specs.Iterator.{Yields}
+use Rattle.nfa_paths.proofs.Common.{◌≡◌, ℕ, ◌≤◌, inl, inr, Bool, refl, ap, subst, Option, None, Some, Result, Ok, Err, List, [], ◌∷◌, map, arith, All, IfOk, All-nil, All-cons, All-weaker, Found, Search, Captured, MatchKind, Automaton}
 use Rattle.std.specs.Iterator.Runs.{EachRunFrom, YieldsRun}
-use Rattle.std.proofs.lemmas.List.Elements.{All-nil, All-cons, All-weaker}
-use Rattle.nfa_paths.specs.Common.{Found, Search, Captured, MatchKind, Automaton}
 use Rattle.nfa_paths.proofs.InsideLemmas.{slots-within}
-use Rattle.nfa_search_base.specs.Asking.{SameButStart}
-use Rattle.nfa_search_base.specs.CapturesGiven.{CapturesGiven}
-use Rattle.nfa_search_base.specs.WithCaptures.{Row, row_found, row_of, row_span}
-use Rattle.nfa_search_base.specs.CapturesLists.{IsRow, AnswersRow, AreFirstCaptures, AreAllCaptures, HasGroups}
-use Rattle.nfa_search_base.specs.CapturesRuns.{match_in, CapturesInside, CapturesMemory, MatchesAreFirst, RowsAreFirst, MatchesAreAll, RowsAreAll}
-use Rattle.nfa_search_base.specs.Lists.{AreFirstMatches, AreMatches, IsStep, IsSlotInside}
-use Rattle.nfa_search_base.specs.Stored.{steps_iter_state}
-use Rattle.nfa_search_base.specs.IterStates.{IterState, Answer, fresh, repeats, shifted, answer_span}
-use Rattle.nfa_search_base.specs.declared.error.SearchError.{SearchError}
-use Rattle.nfa_search_base.specs.declared.error.SearchError.TheVariants.{Memory}
-use Rattle.nfa_search_base.specs.declared.iter.steps.Steps.{Steps}
+use Rattle.nfa_search_base.specs.Common.{SameButStart, CapturesGiven, Row, row_found, row_of, row_span, IsRow, AnswersRow, AreFirstCaptures, AreAllCaptures, HasGroups, match_in, CapturesInside, CapturesMemory, MatchesAreFirst, RowsAreFirst, MatchesAreAll, RowsAreAll, AreFirstMatches, AreMatches, IsStep, IsSlotInside, steps_iter_state, IterState, Answer, fresh, Yields, SearchError, Memory, Steps}
 use Rattle.nfa_search_base.proofs.CapturesLemmas.{row-lies, rows-first_matches, rows-matches}
 use Rattle.nfa_search_base.proofs.EngineLemmas.{SearchesAs, SearchesOf, answers_as, step-may, step-stays}
-use Rattle.nfa_search_base.proofs.ItemLemmas.{ItemsOf, StepsBy, copies_of, copy-of}
-use Rattle.nfa_search_base.proofs.ListLemmas.{matches-disjoint, step-lies}
-use Rattle.nfa_search_base.proofs.OkItemLemmas.{GoesOnIn, OkedAs, ResultsOf, next-clean, last-clean, oked-run, oked-first, oked-all, oked-next, values-hold, errors-memory}
+use Rattle.nfa_search_base.proofs.ItemLemmas.{ItemsOf, StepsBy, copies_of, copy-of, ShellOf, same-items}
+use Rattle.nfa_search_base.proofs.ListLemmas.{matches-disjoint, step-asked, step-lies}
+use Rattle.nfa_search_base.proofs.OkItemLemmas.{GoesOnIn, OkedAs, ResultsOf, next-clean, last-clean, oks-given, values-hold, errors-memory}
 use Rattle.nfa_search_base.proofs.RunLemmas.{Begins, Given, given-as, items-given}
-use Rattle.nfa_search_base.proofs.ShellLemmas.{ShellOf, same-items}
 use Rattle.nfa_search_base.proofs.SpanLemmas.{spans-inside}
 use Rattle.nfa_search_base.proofs.StepLemmas.{chosen}
 
@@ -88,36 +74,19 @@ module _ {E C S : Type 0} {searches : SearchesOf E C S Row} {captures : S → Ca
     lies = row-lies rows.nfa rows.kind rows.earliest;
   }
 
-  -- the row of a step is that of some search in the span
-  record HasRow (r : Row) : Type 0 where
-    at : Search
-    from : x.start ≤ at.start
-    to : at.end ≡ x.end
-    is_row : IsRow rows.nfa rows.kind rows.earliest at r
-
-  step-row : (w : IterState) (r : Row) → GoesOnIn copies results_of x w → IsStep row_span Rows w (Ok (Some r))
-      → HasRow r
-  step-row w r in_span h = elim (chosen (repeats w (answer_span row_span h.first)) h.rest) [
-    | inl p ↦ record { at = (shifted w).at; from = omega (arith, in_span.0); to = in_span.1; is_row = p.1 }
-    | inr p ↦ record {
-      at = w.at;
-      from = in_span.0;
-      to = in_span.1;
-      is_row = subst (λ (a : Answer Row). Rows w.at a) (sym p.1) h.is_first;
-    }
-  ]
-
-  -- so captures of a step are in the span
+  -- the captures of a step are in the span
   step-inside : (w : IterState) (c : Captured) → GoesOnIn copies results_of x w
       → IsStep row_span Rows w (Ok (Some (row_of c))) → CapturesInside x c
   step-inside w c in_span step =
-      let has = step-row w (row_of c) in_span step in
+      let asked = step-asked row_span Rows w (Ok (Some (row_of c))) step in
+      let at : Search = record w.at { start = asked.0 } in
+      let row : IsRow rows.nfa rows.kind rows.earliest at (row_of c) = asked.3 in
       let k = step-lies row_span Rows results_of.lies w (row_of c) step in
       let slots : All (IsSlotInside x) c.slots
-      = All-weaker (IsSlotInside has.at) (IsSlotInside x) (wider x has.at has.from has.to) c.slots
-      (slots-within rows.nfa rows.kind rows.earliest has.at c.pattern c.slots has.is_row.answer) in
+      = All-weaker (IsSlotInside at) (IsSlotInside x) (wider x at (omega (arith, asked.1, in_span.0)) in_span.1) c.slots
+      (slots-within rows.nfa rows.kind rows.earliest at c.pattern c.slots row.answer) in
       record {
-        is_match = has.is_row.is_match;
+        is_match = row.is_match;
         inside = record { from = omega (arith, in_span.0, k.0); ordered = k.1; to = omega (arith, in_span.1, k.2) };
         slots = slots;
         spans = spans-inside x c slots;
@@ -189,23 +158,25 @@ module _ {E C S : Type 0} {searches : SearchesOf E C S Row} {captures : S → Ca
       -- all that its calls give
       pub captures-given : searches.May (shell.inner s).backend (steps_iter_state (shell.inner s)).at
           → CapturesGiven shell.calls rows.nfa rows.kind rows.earliest rows.tells x s
-      captures-given may = record {
-        runs = caught.run;
-        first = caught.first;
-        next = caught.next;
-        rows = oked-run as_rows shell.calls s caught;
-        first_rows = oked-first as_rows shell.calls s caught;
-        next_row = oked-next as_rows shell.calls s caught;
-        all_rows = oked-all as_rows shell.calls s caught;
-        matches = oked-run as_matches shell.calls s caught;
-        first_matches = oked-first as_matches shell.calls s caught;
-        next_match = oked-next as_matches shell.calls s caught;
-        all_matches = oked-all as_matches shell.calls s caught;
-        groups = runs-hold shell.calls Holds (λ item. IfOk item (HasGroups rows.nfa)) call-groups s
-            (may, begins.good);
-        inside = λ p seen from.
-            values-hold copies results_of x (CapturesInside x) step-inside p.items (caught.run p seen from).0.come;
-        disjoint = λ p seen from cs are.
-            let first = oked-run as_matches shell.calls s caught in
-            matches-disjoint rows.nfa rows.kind rows.earliest x (map match_in cs) (first p seen from cs are).0;
-      }
+      captures-given may =
+          let row = oks-given as_rows caught in
+          let match = oks-given as_matches caught in
+          record {
+            runs = caught.run;
+            first = caught.first;
+            next = caught.next;
+            rows = row.run;
+            first_rows = row.first;
+            next_row = row.next;
+            all_rows = row.all;
+            matches = match.run;
+            first_matches = match.first;
+            next_match = match.next;
+            all_matches = match.all;
+            groups = runs-hold shell.calls Holds (λ item. IfOk item (HasGroups rows.nfa)) call-groups s
+                (may, begins.good);
+            inside = λ p seen from.
+                values-hold copies results_of x (CapturesInside x) step-inside p.items (caught.run p seen from).0.come;
+            disjoint = λ p seen from cs are.
+                matches-disjoint rows.nfa rows.kind rows.earliest x (map match_in cs) (match.run p seen from cs are).0;
+          }

@@ -1,26 +1,13 @@
 -- What an engine's steps over captures give, if they go on until `None` or an error.
-use Rattle.std.proofs.Common.{◌≡◌, ◌≤◌, refl, None, ◌⊎◌, inl, inr, replicate, Result, Ok, Err, List, [], ◌∷◌, ◌++◌, map, All, IfErr, IfOk}
+use Rattle.nfa_paths.proofs.Common.{◌≡◌, ◌≤◌, false, refl, None, Option, ◌⊎◌, inl, inr, replicate, Result, Ok, Err, List, [], ◌∷◌, ◌++◌, map, All, IfErr, IfOk, length-replicate, All-cons, All-head, All-nil, All-tail, slot_count, Search, Captured, Automaton, arith}
 use Rattle.std.proofs.iter.runs.Made.{run_of_exit, run_of_turn}
-use Rattle.std.proofs.lemmas.List.{length-replicate}
-use Rattle.std.proofs.lemmas.List.Elements.{All-cons, All-head, All-nil, All-tail}
-use Rattle.nfa_paths.specs.Common.{slot_count, Search, Captured, Automaton}
-use Rattle.nfa_search_base.specs.WithCaptures.{Row, row_of}
-use Rattle.nfa_search_base.specs.CapturesLists.{AreRows, HasGroups}
-use Rattle.nfa_search_base.specs.CapturesRuns.{CapturesInside, match_in}
-use Rattle.nfa_search_base.specs.Drained.{CallsLead, DrainsAll, DrainsToError}
-use Rattle.nfa_search_base.specs.Lists.{AreDisjoint, AreMatches}
-use Rattle.nfa_search_base.specs.Stored.{steps_iter_state}
-use Rattle.nfa_search_base.specs.WithCache.{WithCache}
-use Rattle.nfa_search_base.specs.IterStates.{Answer}
-use Rattle.nfa_search_base.specs.declared.error.SearchError.{SearchError}
-use Rattle.nfa_search_base.specs.declared.error.SearchError.TheVariants.{Memory}
-use Rattle.nfa_search_base.specs.declared.iter.steps.Steps.{Steps}
+use Rattle.nfa_search_base.specs.Common.{Row, WithCaptures, row_of, row_span, AreRows, HasGroups, CapturesInside, match_in, CallsLead, DrainsAll, DrainsToError, AreDisjoint, AreMatches, MayFill, can_step, steps_iter_state, WithCache, with_cache, Answer, AnswerIsInside, fresh, SearchError, Memory, Steps}
 use Rattle.nfa_search_base.proofs.CapturesRunLemmas.{CapturesSteps, RowsOf, captures-given, captures-memory}
-use Rattle.nfa_search_base.proofs.EngineLemmas.{KeptBy, SearchesAs, SearchesOf, steps-keep}
-use Rattle.nfa_search_base.proofs.ItemLemmas.{ItemsOf, StepsBy}
+use Rattle.nfa_search_base.proofs.EngineLemmas.{EngineOf, KeptBy, SearchesAs, SearchesOf, fills_by, searches-serve, step-may, steps-keep}
+use Rattle.nfa_search_base.proofs.ItemLemmas.{ItemsOf, StepsBy, copies_of, no_shell}
+use Rattle.nfa_search_base.proofs.LeavingLemmas.{LeavesAtEndBy, LeavesBy, all-to_end, steps-leave}
 use Rattle.nfa_search_base.proofs.ListLemmas.{matches-disjoint}
 use Rattle.nfa_search_base.proofs.RunLemmas.{Begins, calls-keep}
-use Rattle.nfa_search_base.proofs.ShellLemmas.{no_shell}
 
 -- captures that were made for an NFA have its groups
 pub made-holds : (nfa : Automaton) (c : Captured)
@@ -36,7 +23,7 @@ all_ok {X} {E} P (x ∷ xs) h =
     All-cons P x xs (All-head each (Ok x) (map Ok xs) h) (all_ok P xs (All-tail each (Ok x) (map Ok xs) h))
 
 -- what is true of all is true of the last one
-all-last : {X : Type 0} (P : X → Type 0) (xs : List X) (x : X) → All P (xs ++ x ∷ []) → P x
+pub all-last : {X : Type 0} (P : X → Type 0) (xs : List X) (x : X) → All P (xs ++ x ∷ []) → P x
 all-last P [] x h = All-head P x [] h
 all-last P (y ∷ ys) x h = all-last P ys x (All-tail P y (ys ++ x ∷ []) h)
 
@@ -96,3 +83,86 @@ module _ {E C S : Type 0} {searches : SearchesOf E C S Row} {captures : S → Ca
       let run = run_of_turn (CapturesSteps rows) s (map Ok ends.items) ends.last ends.ran (Err error) t ends.over in
       let errors = captures-memory rows (no_shell (CapturesSteps rows)) s begins memory run.0 run.0.seen run.1 in
       all-last (λ item. IfErr item (λ q. q ≡ Memory)) (map Ok ends.items) (Err error) (rw run.2.0 at errors)
+
+-- ---- engines that fill captures
+
+-- An engine that fills captures: its searches, and the rows that it promises.
+pub record FillerOf (E C : Type 0) : Type 1 where
+  pub engine : EngineOf E C Row
+  pub rows : (e : E) (x : Search) → RowsOf (fills_by engine) (λ q. q.backend.captures) e x
+  -- a match that a search finds is in its span
+  pub lies : (e : E) (t : Search) (a : Answer Row) → engine.Tells e t a → AnswerIsInside row_span t a
+
+module _ {E C : Type 0} (filler : FillerOf E C) where
+  abbrev State : Type 0
+  State = WithCache (WithCaptures E) C
+
+  -- its searches, when they may be made, and their items
+  abbrev pub filler_searches : SearchesOf E C State Row
+  filler_searches = fills_by filler.engine
+
+  abbrev May : State → Type 0
+  May = MayFill filler.engine.nfa filler.engine.Fits
+
+  abbrev pub filler_items : ItemsOf State Row Captured
+  filler_items = copies_of (λ q. q.backend.captures)
+
+  -- steps may search
+  pub fills-serve : (s : Steps State) → May s.backend → can_step filler_searches.May filler_searches.asks row_span s
+  fills-serve s may =
+      searches-serve filler_searches (AnswerIsInside row_span) filler.lies s.backend (steps_iter_state s).at may
+
+  -- and so may the next ones
+  pub fills-go : (s : Steps State) (r : Option (Result Captured SearchError)) (t : Steps State)
+      → StepsBy filler_items filler_searches.asks s r t → May s.backend → May t.backend
+  fills-go s r t st may = step-may filler_searches filler_items s r t st may
+
+  -- steps of e that begin at x, and may search
+  pub record BeginsToFill (e : E) (x : Search) (s : Steps State) : Type 0 where
+    pub may : May s.backend
+    pub begins : Begins (SearchesAs filler_searches e) x s
+
+  -- such are steps with captures that were made for e
+  pub begins-made : (e : E) {x : Search} {captures : Captured} (cache : C) (steps : Steps (WithCaptures E))
+      → filler.engine.Fits cache e
+      → captures ≡ record {
+        groups = (filler.engine.nfa e).groups;
+        pattern = None;
+        slots = replicate (slot_count (filler.engine.nfa e).groups) None;
+      }
+      → record {
+        iter_state : steps_iter_state steps ≡ fresh x;
+        backend : steps.backend ≡ record { finder = e; captures = captures };
+        going : steps.done ≡ false;
+      }
+      → BeginsToFill e x (with_cache steps cache)
+  begins-made e {captures = captures} cache steps fits made new = grind (arith, made-holds)
+
+  -- they may search
+  pub begun-serves : {e : E} {x : Search} {s : Steps State} → BeginsToFill e x s
+      → can_step filler_searches.May filler_searches.asks row_span s
+  begun-serves {s = s} begun = fills-serve s begun.may
+
+  -- What the calls that made the list of the captures of x leave, and its items.
+  pub all-filled : {e : E} {x : Search} {s : Steps State} → BeginsToFill e x s → {V : Type 0} (r : Result V SearchError)
+      (items : V → List Captured) (left : Steps State)
+      → IfOk r (λ v. DrainsAll (CapturesSteps (filler.rows e x)) s (items v) left)
+      → CallsLead (CapturesSteps (filler.rows e x)) s left
+      → record {
+        rows : IfOk r (λ v. AreRows (filler.rows e x).nfa (filler.rows e x).kind (filler.rows e x).earliest x
+            (map row_of (items v)));
+        matches : IfOk r (λ v. AreMatches (filler.rows e x).nfa (filler.rows e x).kind (filler.rows e x).earliest x
+            (map match_in (items v)));
+        groups : IfOk r (λ v. All (HasGroups (filler.rows e x).nfa) (items v));
+        inside : IfOk r (λ v. All (CapturesInside x) (items v));
+        disjoint : IfOk r (λ v. AreDisjoint x None (map match_in (items v)));
+        searches : LeavesBy filler_searches filler_items e x s.backend.cache left.backend.cache;
+        to_end : IfOk r (λ v. LeavesAtEndBy filler_searches filler_items e x (map row_of (items v)) s.backend.cache
+            left.backend.cache);
+      }
+  all-filled {e} {x} begun r items left all calls =
+      assumption (
+        all-captures (filler.rows e x) begun.begins begun.may r items left all,
+        steps-leave filler_searches filler_items e begun.begins left calls,
+        all-to_end filler_searches filler_items e begun.begins r items left all,
+      )

@@ -1,25 +1,10 @@
 -- An engine that answers the searches of an iteration, as one value: what its searches need, answer and leave.
-use Rattle.std.proofs.Common.{◌≡◌, ◌∙◌, ℕ, Bool, true, false, Option, None, Some, Result, Ok, Err, refl, sym, ap, subst, ◌⊎◌, inl, inr, IfErr, IfOk, IsTrue, is_some}
-use Rattle.std.specs.Option.{ForSome, option_map}
-use Rattle.nfa_paths.specs.Common.{Found, found_of, Search, Match, MatchKind, Span, Automaton, IsFindAnswer}
-use Rattle.nfa_search_base.specs.Asking.{SameButStart}
-use Rattle.nfa_search_base.specs.WithCaptures.{WithCaptures, Row}
-use Rattle.nfa_search_base.specs.EngineSearches.{AnswersBy, AsksEngine, AsksEngineRow, IsKnownFrom, Keeping, Knowing, MayFill, MayFind, SearchesUnlessKnown, found_in, if_ends_at, keeping, last_start}
-use Rattle.nfa_search_base.specs.Finders.{answer_by}
-use Rattle.nfa_search_base.specs.WithCache.{WithCache}
-use Rattle.nfa_search_base.specs.StepsWith.{KeepsStepsWith, TakesStepWith, steps_with_state}
-use Rattle.nfa_search_base.specs.Runs.{GivesKept}
-use Rattle.nfa_search_base.specs.Lists.{AnswersMatch}
-use Rattle.nfa_search_base.specs.Serving.{ServesOnAlong}
-use Rattle.nfa_search_base.specs.Stored.{steps_iter_state, takes_steps}
-use Rattle.nfa_search_base.specs.IterStates.{Answer, IsInfalliblyInside, span_of}
-use Rattle.nfa_search_base.specs.declared.error.SearchError.{SearchError}
-use Rattle.nfa_search_base.specs.declared.iter.steps.Steps.{Steps}
+use Rattle.nfa_paths.proofs.Common.{arith, ◌≡◌, ◌∙◌, ℕ, Bool, true, false, Option, None, Some, Result, Ok, Err, refl, sym, ap, subst, ◌⊎◌, IfErr, IfOk, IsTrue, is_some, ForSome, option_map, Found, found_of, Search, Match, MatchKind, Span, Automaton, IsFindAnswer}
+use Rattle.nfa_search_base.specs.Common.{SameButStart, WithCaptures, Row, AsksEngine, AsksEngineRow, IsKnownFrom, Keeping, Knowing, MayFill, MayFind, SearchesUnlessKnown, found_in, if_ends_at, keeping, last_start, answer_by, WithCache, KeepsStepsWith, TakesStepWith, GivesKept, AnswersMatch, ServesOnAlong, steps_iter_state, takes_steps, Answer, IsInfalliblyInside, span_of, SearchError, Steps}
 use Rattle.nfa_search_base.proofs.AskingLemmas.{ServesOnAlong-by}
-use Rattle.nfa_search_base.proofs.ItemLemmas.{ItemsOf, StepsBy}
+use Rattle.nfa_search_base.proofs.ItemLemmas.{ItemsOf, StepsBy, ShellOf}
 use Rattle.nfa_search_base.proofs.ListLemmas.{match-lies}
 use Rattle.nfa_search_base.proofs.RunLemmas.{AnswersOf, calls-keep, step-holds}
-use Rattle.nfa_search_base.proofs.ShellLemmas.{ShellOf}
 use Rattle.nfa_search_base.proofs.StepLemmas.{chosen}
 
 -- ---- searches that differ in their start
@@ -29,12 +14,7 @@ like-is : (x t : Search) (start : ℕ) → SameButStart x t → record x { start
 like-is x t start same = rw (same.haystack, same.end, same.anchored, same.earliest) refl
 
 same_start-back : (x t : Search) → SameButStart x t → SameButStart t x
-same_start-back x t same = record {
-  haystack = sym same.haystack;
-  end = sym same.end;
-  anchored = sym same.anchored;
-  earliest = sym same.earliest;
-}
+same_start-back x t same = grind arith
 
 -- ---- matches
 
@@ -61,13 +41,7 @@ found-by (Err e) found ok err = ap (λ (o : Option Match). option_map found_of o
 -- ---- the match that is known
 
 module _ {C : Type 0} {Work : Search → Answer Found → C → C → Type 0} {scans : C → ℕ} {x : Search} where
-  -- what is known is the answer
-  pub known-is : {s : Keeping C} (kept : Option Match) → option_map found_of kept ≡ if_ends_at x.start s.known
-      → IsTrue (is_some kept) → SearchesUnlessKnown Work scans x (answer_by found_of (Ok kept)) s s
-  known-is None is some = let k : false ≡ true = some in cc
-  known-is (Some m) is some = record { by_known = rw (← is) (refl, refl) }
-
-  -- else a search is made
+  -- if no match that is known is the answer, a search is made
   pub search-made : {a : Answer Found} {s t : Keeping C} (kept : Option Match)
       → option_map found_of kept ≡ if_ends_at x.start s.known → is_some kept ≡ false → Work x a s.cache t.cache
       → t.known ≡ if_ends_at (last_start x (scans t.cache)) (found_in a) → SearchesUnlessKnown Work scans x a s t
@@ -77,11 +51,7 @@ module _ {C : Type 0} {Work : Search → Answer Found → C → C → Type 0} {s
   -- so the cache is the same, or was searched with
   pub same-or-made : {a : Answer Found} {s t : Keeping C} → SearchesUnlessKnown Work scans x a s t
       → (t.cache ≡ s.cache) ⊎ Work x a s.cache t.cache
-  same-or-made {a = a} {s = s} {t = t} made = of (if_ends_at x.start s.known) made.by_known
-    where
-      of : (k : Option Found) → AnswersBy Work scans x a k s t → (t.cache ≡ s.cache) ⊎ Work x a s.cache t.cache
-      of (Some m) h = inl (ap (λ q. q.cache) h.1)
-      of None h = inr h.0
+  same-or-made {a = a} {s = s} {t = t} made = grind (arith)
 
 -- ---- an engine as a value
 
@@ -133,11 +103,7 @@ module _ {E C S X : Type 0} (searches : SearchesOf E C S X) where
   -- it gives the answer of its search, does the search's work, and goes on to search
   pub searches-as : (e : E) (s : S) (t : Search) (a : Answer X) (s' : S) → SearchesAs e s → searches.asks s t a s'
       → searches.Tells e t a × searches.Work e t a (searches.cache s) (searches.cache s') × SearchesAs e s'
-  searches-as e s t a s' is asked = (
-    subst (λ (b : E). searches.Tells b t a) is (searches.tells s t a s' asked),
-    subst (λ (b : E). searches.Work b t a (searches.cache s) (searches.cache s')) is (searches.works s t a s' asked),
-    searches.stays s t a s' asked ∙ is,
-  )
+  searches-as e s t a s' is asked = grind (arith)
 
   -- its answers, as its contract says
   abbrev pub answers_as : (e : E) (x : Search) (tells : Search → Answer X → Type 0)
@@ -170,22 +136,12 @@ module _ {E C S X : Type 0} (searches : SearchesOf E C S X) where
   pub step-may : {Y : Type 0} (items : ItemsOf S X Y) (s : Steps S) (r : Option (Result Y SearchError)) (t : Steps S)
       → StepsBy items searches.asks s r t → searches.May s.backend (steps_iter_state s).at
       → searches.May t.backend (steps_iter_state t).at
-  step-may items s r t st may = elim (chosen s.done st) [
-    | inl p ↦ rw p.1.1 may
-    | inr p ↦
-        let x = (steps_iter_state s).at in
-        let on : searches.May t.backend x = step-holds (λ (q : S). searches.May q x) (after-like x) may p.1.step in
-        searches.like t.backend x (steps_iter_state t).at p.1.same on
-  ]
+  step-may items s r t st may = grind (arith, chosen, step-holds, after-like)
 
   -- the engine stays the same
   pub step-stays : {Y : Type 0} (items : ItemsOf S X Y) (e : E) (s : Steps S) (r : Option (Result Y SearchError))
       (t : Steps S) → StepsBy items searches.asks s r t → SearchesAs e s.backend → SearchesAs e t.backend
-  step-stays items e s r t st is = elim (chosen s.done st) [
-    | inl p ↦ rw p.1.1 is
-    | inr p ↦ step-holds (λ (q : S). SearchesAs e q)
-        (λ q x a q' same is asked. (searches-as e q x a q' is asked).2) is p.1.step
-  ]
+  step-stays items e s r t st is = grind (arith, chosen, step-holds, searches-as)
 
 -- ---- engines that keep what they know
 
@@ -219,21 +175,27 @@ module _ {E A C : Type 0} (finder : FinderOf E A C) where
   abbrev May : WithCache A C → Search → Type 0
   May = MayFind finder.Sure finder.shown finder.engine.Fits
 
+  -- the match that is known is the answer, if it ends at the start
+  pub asks-known : {s : WithCache A C} {x : Search} {start : ℕ} (kept : Option Match) → start ≡ x.start → May s x
+      → ForSome kept (λ m. ((finder.shown s.backend).known ≡ Some m) × (m.span.end ≡ start))
+      → option_map found_of kept ≡ if_ends_at start (keeping finder.shown s).known → IsTrue (is_some kept)
+      → Asks s x (answer_by found_of (Ok kept)) s
+  asks-known None here may ends exactly some = let k : false ≡ true = some in cc
+  asks-known {s} {x} (Some m) here may ends exactly some =
+      let k = finder.shown s.backend in
+      record {
+        finds = known-answer k.engine x k.known (Some m) may.knows (λ n is. rw (← here) (ends n is)) some;
+        engine = refl;
+        knows = may.knows;
+        work = record { by_known = rw (← here, ← exactly) (refl, refl) };
+      }
+
   pub find-like : (s : WithCache A C) (x t : Search) → SameButStart x t → May s x → May s t
-  find-like s x t same may = record {
-    fits = may.fits;
-    knows = known-like (finder.shown s.backend).engine x t (finder.shown s.backend).known same may.knows;
-  }
+  find-like s x t same may = grind (arith, known-like)
 
   pub find-goes : (s : WithCache A C) (t : Search) (a : Answer Found) (s' : WithCache A C) → May s t → Asks s t a s'
       → May s' t
-  find-goes s t a s' may asked = record { fits = rw asked.engine fits; knows = asked.knows }
-    where
-      fits : finder.engine.Fits s'.cache (finder.shown s.backend).engine
-      fits = elim (same-or-made asked.work) [
-        | inl same ↦ rw same may.fits
-        | inr work ↦ finder.engine.stays (finder.shown s.backend).engine t a s.cache s'.cache work may.fits
-      ]
+  find-goes s t a s' may asked = grind (arith, same-or-made)
 
   -- its searches, unless their match is known
   abbrev pub finds_by : SearchesOf E (Keeping C) (WithCache A C) Found
@@ -259,10 +221,7 @@ module _ {E C : Type 0} (engine : EngineOf E C Row) where
 
   pub fill-goes : (s : WithCache (WithCaptures E) C) (x : Search) (a : Answer Row) (t : WithCache (WithCaptures E) C)
       → MayFill engine.nfa engine.Fits s → AsksRow s x a t → MayFill engine.nfa engine.Fits t
-  fill-goes s x a t may asked = record {
-    fits = rw asked.engine (engine.stays s.backend.finder x a s.cache t.cache asked.work may.fits);
-    holds = rw asked.engine asked.holds;
-  }
+  fill-goes s x a t may asked = grind (arith)
 
   -- its searches
   abbrev pub fills_by : SearchesOf E C (WithCache (WithCaptures E) C) Row
@@ -295,12 +254,7 @@ module _ {A C X Y : Type 0} {asks : WithCache A C → Search → Answer X → Wi
   -- its steps keep that
   pub steps-keep : (s : Steps (WithCache A C)) (r : Option (Result Y SearchError)) (t : Steps (WithCache A C))
       → takes_steps span asks gives s r t → kept.Keeps s.backend.cache t.backend.cache
-  steps-keep s r t st = elim (chosen s.done st) [
-    | inl p ↦ rw p.1.1 (kept.self s.backend.cache)
-    | inr p ↦ step-holds (λ (q : WithCache A C). kept.Keeps s.backend.cache q.cache)
-        (λ q x a q' same keeps asked. kept.then s.backend.cache q.cache q'.cache keeps (kept.asked q x a q' asked))
-        (kept.self s.backend.cache) p.1.step
-  ]
+  steps-keep s r t st = grind (arith, chosen, step-holds)
 
 -- and so do all calls of an iterator around such steps
 module _ {A C X Y T R : Type 0} {span : X → Span} {asks : WithCache A C → Search → Answer X → WithCache A C → Type 0}
@@ -310,13 +264,7 @@ module _ {A C X Y T R : Type 0} {span : X → Span} {asks : WithCache A C → Se
   Kept p q = KeepsStepsWith kept.Keeps (shell.inner p) (shell.inner q)
 
   call-keeps : (s : T) (r : Option R) (t : T) → shell.calls s r t → Kept s t
-  call-keeps s r t call =
-      let st = shell.is s r t call in
-      record {
-        cache = st.cache;
-        keeps = steps-keep kept span (λ q. gives q.backend) (steps_with_state (shell.inner s)) (option_map item r)
-            (steps_with_state (shell.inner t)) st.step;
-      }
+  call-keeps s r t call = grind (arith, steps-keep)
 
   pub calls-kept : (s : T) → GivesKept shell.calls Kept s
   calls-kept s = calls-keep shell.calls Kept

@@ -1,17 +1,7 @@
 -- the steps of a search that is a function give its greedy list
-use Rattle.std.proofs.Common.{◌≡◌, ℕ, zero, suc, ◌+◌, ◌<◌, true, false, Bool, Option, None, Some, Result, Ok, Err, List, [], refl, ◌∙◌, ap, subst, inl, inr, arith}
-use Rattle.std.specs.Option.{option_map}
-use Rattle.std.specs.Iterator.{AlwaysYields}
+use Rattle.nfa_paths.proofs.Common.{◌≡◌, ℕ, zero, suc, ◌+◌, ◌<◌, true, false, Bool, Option, None, Some, Result, Ok, Err, List, [], refl, ◌∙◌, ap, subst, inl, inr, arith, option_map, Search, Span}
 use Rattle.std.proofs.lemmas.Iterator.{YieldsList}
-use Rattle.nfa_paths.specs.Common.{Search, Span}
-use Rattle.nfa_search_base.specs.Asking.{SameButStart}
-use Rattle.nfa_search_base.specs.IterStates.{IterState, Answer, answer_span, Advances, repeats, shifted, ends_left}
-use Rattle.nfa_search_base.specs.Items.{Item, item_by, item_of, items_left, step_answer, step_iter_state, items_from, items_within, greedy, greedy_unless}
-use Rattle.nfa_search_base.specs.Serving.{ServesOnAlong}
-use Rattle.nfa_search_base.specs.Steps.{GivesItem, ends_at}
-use Rattle.nfa_search_base.specs.Stored.{steps_iter_state, takes_steps}
-use Rattle.nfa_search_base.specs.declared.error.SearchError.{SearchError}
-use Rattle.nfa_search_base.specs.declared.iter.steps.Steps.{Steps}
+use Rattle.nfa_search_base.specs.Common.{SameButStart, IterState, Answer, answer_span, Advances, repeats, shifted, ends_left, Item, item_by, items_left, step_answer, step_iter_state, items_from, items_within, greedy, greedy_unless, ServesOnAlong, GivesItem, ends_at, steps_iter_state, takes_steps, AlwaysYields, result_transpose, SearchError, Steps}
 use Rattle.nfa_search_base.proofs.AskingLemmas.{same_start-self, Along-call, Along-now}
 use Rattle.nfa_search_base.proofs.StepLemmas.{chosen, same_start-shifted, step-taken, Along-turn}
 
@@ -56,25 +46,13 @@ module _ {S X Y : Type 0} (accepts : S → Search → Type 0) (asks : S → Sear
   -- what the answer of a step gives first, if the items after a match are `rest`
   by_answer : (a : Answer X) (s : Steps S) (rest : List (Item X))
       → ((r : Option (Result Y SearchError)) (t : Steps S) → steps s r t
-      → (option_map (item_by view) r ≡ item_of a) × (t.done ≡ ends_at (item_of a)))
+      → (option_map (item_by view) r ≡ result_transpose a) × (t.done ≡ ends_at (result_transpose a)))
       → ((r : Result Y SearchError) (t : Steps S) → t.done ≡ false → steps s (Some r) t
       → AlwaysYields steps (item_by view) t rest)
       → AlwaysYields steps (item_by view) s (items_from span a rest)
-  by_answer (Ok (Some x)) s rest now onward = (
-    (λ j st. let e : None ≡ Some (Ok x) = (now None j st).0 in cc),
-    (λ r j st. let k = now (Some r) j st in
-        let e : Some (item_by view r) ≡ Some (Ok x) = k.0 in
-        let is : item_by view r ≡ Ok x = cc in
-        (is, onward r j k.1 st)),
-  )
+  by_answer (Ok (Some x)) s rest now onward = grind (arith)
   by_answer (Ok None) s rest now onward = λ r j st. let e : Some (item_by view r) ≡ None = (now (Some r) j st).0 in cc
-  by_answer (Err q) s rest now onward = (
-    (λ j st. let e : None ≡ Some (Err q) = (now None j st).0 in cc),
-    (λ r j st. let k = now (Some r) j st in
-        let e : Some (item_by view r) ≡ Some (Err q) = k.0 in
-        let is : item_by view r ≡ Err q = cc in
-        (is, ended j k.1)),
-  )
+  by_answer (Err q) s rest now onward = grind (arith)
 
   -- n steps are enough if fewer than n ends are left
   within : (n : ℕ) (s : Steps S) → Good s → s.done ≡ false → ends_left (steps_iter_state s) < n
@@ -84,7 +62,7 @@ module _ {S X Y : Type 0} (accepts : S → Search → Type 0) (asks : S → Sear
       (items_within span h n (step_iter_state span h (steps_iter_state s)))
       (λ r t st.
       let k = step-taken d st in
-      let is = k.item ∙ ap item_of (step-computes good k.step).0 in
+      let is = k.item ∙ ap result_transpose (step-computes good k.step).0 in
       (is, k.ends ∙ ends-by view r ∙ ap ends_at is))
       (λ r t going st.
       let k = step-taken d st in

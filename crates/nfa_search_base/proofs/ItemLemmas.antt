@@ -1,15 +1,7 @@
--- The items that the steps of an iteration give, as one value, and what each says about the answer of its step.
-use Rattle.std.proofs.Common.{◌≡◌, ◌∙◌, ◌⊎◌, inl, inr, refl, sym, ap, Option, None, Some, Result, Ok, Err, List, map}
-use Rattle.nfa_paths.specs.Common.{Search, Captured, Span}
-use Rattle.nfa_search_base.specs.Items.{item_by}
-use Rattle.nfa_search_base.specs.Lists.{IsStep, ItemsLast, ItemsNext}
-use Rattle.nfa_search_base.specs.Steps.{GivesItem}
-use Rattle.nfa_search_base.specs.Stored.{takes_steps}
-use Rattle.nfa_search_base.specs.WithCaptures.{GivesCopy, Row, row_of, row_span}
-use Rattle.nfa_search_base.specs.IterStates.{Answer, IterState}
-use Rattle.nfa_search_base.specs.declared.error.SearchError.{SearchError}
-use Rattle.nfa_search_base.specs.declared.error.SearchError.TheVariants.{Memory}
-use Rattle.nfa_search_base.specs.declared.iter.steps.Steps.{Steps}
+-- The items that the steps of an iteration give, and what each says about the answer of its step; and an iterator
+-- around another one. Each is one value.
+use Rattle.nfa_paths.proofs.Common.{◌≡◌, ◌⊎◌, inl, inr, refl, sym, ap, Option, None, Some, Result, Ok, Err, List, map, Search, Captured, Span, subst, [], ◌∷◌, option_map, arith}
+use Rattle.nfa_search_base.specs.Common.{item_by, IsStep, ItemsLast, ItemsNext, GivesItem, takes_steps, GivesCopy, Row, row_of, row_span, Answer, IterState, SearchError, Memory, Steps, WithCache, TakesStepWith, steps_with_state, Yields}
 
 -- What an item says about the answer of its step, if an error `ends` it.
 module _ {X Y : Type 0} (view : Y → X) (a : Answer X) (ends : SearchError → Type 0) where
@@ -36,10 +28,7 @@ FailsOrRefuses {X} step e = step (Err e) ⊎ ((e ≡ Memory) × (x : X) × step 
 pub copy-says : (step : Answer Row → Type 0) (c : Captured) (a : Answer Row)
     (r : Option (Result Captured SearchError))
     → GivesCopy c a r → step a → Says row_of a (FailsOrRefuses step) r
-copy-says step c (Ok (Some row)) (Some (Ok d)) (inl h) is =
-    let same : d ≡ c = cc in
-    let row_is : row ≡ row_of d = sym (ap row_of same ∙ h.1) in
-    ap (λ (z : Row). let a : Answer Row = Ok (Some z) in a) row_is
+copy-says step c (Ok (Some row)) (Some (Ok d)) (inl h) is = grind (arith)
 copy-says step c (Ok (Some row)) (Some (Err e)) (inr h) is = let same : e ≡ Memory = cc in inr (same, row, is)
 copy-says step c (Ok None) None h is = refl
 copy-says step c (Err q) (Some (Err e)) h is =
@@ -108,3 +97,52 @@ module _ {S X Y : Type 0} (items : ItemsOf S X Y) where
     -- the last items
     abbrev pub Last : IterState → List (Result Y SearchError) → Type 0
     Last w xs = ItemsLast items.span tells EndsAt w (map (item_by items.view) xs)
+
+-- An iterator T around one whose calls are `steps`. Each item of T is an `item` of the other.
+pub record ShellOf {U R I : Type 0} (steps : U → Option I → U → Type 0) (item : R → I) (T : Type 0) : Type 1 where
+  pub calls : T → Option R → T → Type 0
+  pub inner : T → U
+  pub is : (s : T) (r : Option R) (t : T) → calls s r t → steps (inner s) (option_map item r) (inner t)
+
+-- items as they are
+pub same-item : {R : Type 0} (r : Option R) → option_map (λ (i : R). i) r ≡ r
+same-item None = refl
+same-item (Some i) = refl
+
+pub same-items : {R : Type 0} (xs : List R) → map (λ (i : R). i) xs ≡ xs
+same-items [] = refl
+same-items {R} (x ∷ xs) = ap (λ (l : List R). x ∷ l) (same-items xs)
+
+-- an iterator that gives the items of the other
+abbrev pub plain_shell : {T U I : Type 0} {steps : U → Option I → U → Type 0} → (calls : T → Option I → T → Type 0)
+    → (inner : T → U)
+    → ((s : T) (r : Option I) (t : T) → calls s r t → steps (inner s) r (inner t))
+    → ShellOf steps (λ (i : I). i) T
+plain_shell {I = I} {steps = steps} calls inner is = record {
+  calls = calls;
+  inner = inner;
+  is = λ s r t st. subst (λ (q : Option I). steps (inner s) q (inner t)) (sym (same-item r)) (is s r t st);
+}
+
+-- the iterator itself
+abbrev pub no_shell : {U I : Type 0} → (steps : U → Option I → U → Type 0) → ShellOf steps (λ (i : I). i) U
+no_shell steps = plain_shell steps (λ q. q) (λ s r t st. st)
+
+-- the shell of an iterator that borrows a cache, as one around its steps
+abbrev pub steps_in : {A C X Y R T : Type 0} {span : X → Span}
+    {asks : WithCache A C → Search → Answer X → WithCache A C → Type 0}
+    {gives : A → Answer X → Option (Result Y SearchError) → Type 0} {item : R → Result Y SearchError}
+    → ShellOf (TakesStepWith span asks gives) item T → ShellOf (takes_steps span asks (λ q. gives q.backend)) item T
+steps_in shell = record {
+  calls = shell.calls;
+  inner = λ q. steps_with_state (shell.inner q);
+  is = λ s r t st. (shell.is s r t st).step;
+}
+
+module _ {U R I T : Type 0} {steps : U → Option I → U → Type 0} {item : R → I} (shell : ShellOf steps item T) where
+  -- the calls of a shell are those of the iterator in it
+  pub yields-inner : (xs : List R) (s t : T) → Yields shell.calls s xs t
+      → Yields steps (shell.inner s) (map item xs) (shell.inner t)
+  yields-inner [] s t ran = ap shell.inner ran
+  yields-inner (x ∷ xs) s t ran =
+      (shell.inner ran.0, shell.is s (Some x) ran.0 ran.1, yields-inner xs ran.0 t ran.2)

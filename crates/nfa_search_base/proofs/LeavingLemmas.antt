@@ -1,20 +1,10 @@
 -- What the calls of an iterator leave of what its searches change, seen as less than the iterator keeps.
-use Rattle.std.proofs.Common.{◌≡◌, ◌∙◌, true, false, refl, sym, inl, inr, Option, None, Some, Result, Ok, Err, List, [], ◌∷◌, map, IfOk}
-use Rattle.std.specs.Iterator.{Yields}
-use Rattle.std.specs.Option.{option_map}
-use Rattle.nfa_paths.specs.Common.{found_of, Search, Match}
-use Rattle.nfa_search_base.specs.Drained.{CallsLead, DrainsAll}
-use Rattle.nfa_search_base.specs.Leaving.{DoesSearch, FindsLeave, FindsLeaveAtEnd, Leaves, LeavesAtEnd, StepsLead, answers_to_end}
-use Rattle.nfa_search_base.specs.Runs.{GivesKept}
-use Rattle.nfa_search_base.specs.Stored.{steps_iter_state}
-use Rattle.nfa_search_base.specs.IterStates.{Advances, Answer, IterState, span_of}
-use Rattle.nfa_search_base.specs.declared.error.SearchError.{SearchError}
-use Rattle.nfa_search_base.specs.declared.iter.steps.Steps.{Steps}
+use Rattle.nfa_paths.proofs.Common.{◌≡◌, false, refl, Option, None, Some, Result, Ok, Err, List, [], ◌∷◌, map, IfOk, option_map, found_of, Search, Match}
+use Rattle.nfa_search_base.specs.Common.{CallsLead, DrainsAll, DoesSearch, FindsLeave, FindsLeaveAtEnd, Leaves, LeavesAtEnd, StepsLead, answers_to_end, GivesKept, steps_iter_state, Advances, Answer, IterState, span_of, Yields, SearchError, Steps}
 use Rattle.nfa_search_base.proofs.EngineLemmas.{FinderOf, SearchesAs, SearchesOf, finds_by, searches-as}
-use Rattle.nfa_search_base.proofs.ItemLemmas.{ItemsOf, StepsBy, items_as}
+use Rattle.nfa_search_base.proofs.ItemLemmas.{ItemsOf, StepsBy, items_as, ShellOf, yields-inner}
 use Rattle.nfa_search_base.proofs.RunLemmas.{Begins, no-more}
-use Rattle.nfa_search_base.proofs.ShellLemmas.{ShellOf, yields-inner}
-use Rattle.nfa_search_base.proofs.StepLemmas.{chosen, step-shown, step-taken}
+use Rattle.nfa_search_base.proofs.StepLemmas.{step-shown, step-taken}
 
 -- The engine e searches.
 module _ {E C S X Y : Type 0} (searches : SearchesOf E C S X) (items : ItemsOf S X Y) (e : E) where
@@ -78,11 +68,8 @@ module _ {E C S X Y : Type 0} (searches : SearchesOf E C S X) (items : ItemsOf S
       let q = ran.0 in
       let one = step-taken on.0 ran.1 in
       let over = no-more items searches.asks xs q t one.ends ran.2 in
-      let same : u ≡ q = elim (chosen q.done (rw over.1 at st)) [
-        | inl p ↦ p.1.1
-        | inr p ↦ let never : true ≡ false = sym one.ends ∙ p.0 in cc
-      ] in
-      (one.answer, [], rw same (only one.answer (advance-cache on.1 one.step).0))
+      let ended = rw one.ends at (rw over.1 at st) in
+      (one.answer, [], rw ended.1 (only one.answer (advance-cache on.1 one.step).0))
 
   -- what calls leave of an iterator that goes on
   pub calls-leave : (s u : Steps S) → IsGoing s → CallsLead steps s u

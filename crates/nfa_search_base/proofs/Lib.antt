@@ -9,7 +9,6 @@ pub mod GreedyLemmas
 pub mod ItemLemmas
 pub mod LastStartLemmas
 pub mod LeavingLemmas
-pub mod ShellLemmas
 pub mod SkipLemmas
 pub mod SpanLemmas
 pub mod StepLemmas
@@ -20,7 +19,5 @@ pub mod RunLemmas
 pub mod MatchRunLemmas
 pub mod CapturesLemmas
 pub mod CapturesRunLemmas
-pub mod MayReplyLemmas
 pub mod OkItemLemmas
 pub mod MayAnswerLemmas
-pub mod MayAnswerRowLemmas

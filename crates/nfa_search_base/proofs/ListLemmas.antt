@@ -1,18 +1,10 @@
 -- The list of an iteration's items. There is at most one, and exactly one if each search has an answer. Its matches do
 -- not overlap, and are in the span. The same for the list of the matches of an NFA.
-use Rattle.std.proofs.Common.{◌≡◌, ◌∙◌, ℕ, zero, suc, ◌≤◌, ◌<◌, inl, inr, Bool, true, false, if◌then◌else◌, MatchBool, Option, None, Some, Ok, Err, List, [], ◌∷◌, ◌++◌, map, length, refl, sym, ap, subst, arith, append-nil, length-append}
-use Rattle.std.proofs.lemmas.List.{length-map}
-use Rattle.std.specs.Option.{ForSome, option_and_then}
-use Rattle.nfa_paths.specs.Common.{Found, found_of, Search, Match, MatchKind, Span, Automaton, slot_row, path_pattern, slot_count, match_of}
+use Rattle.nfa_paths.proofs.Common.{◌+◌, ◌≡◌, ◌∙◌, ℕ, zero, suc, ◌≤◌, ◌<◌, Bool, true, false, if◌then◌else◌, Option, None, Some, Ok, Err, List, [], ◌∷◌, ◌++◌, map, length, refl, sym, ap, subst, arith, append-nil, length-append, length-map, ForSome, option_and_then, Found, found_of, Search, Match, MatchKind, Span, Automaton, slot_row, path_pattern, slot_count, match_of}
 use Rattle.nfa_paths.proofs.InsideLemmas.{match-within}
 use Rattle.nfa_paths.proofs.KnownLemmas.{match-unique}
 use Rattle.nfa_paths.proofs.ExistenceLemmas.{search_answer-exists}
-use Rattle.nfa_search_base.specs.Asking.{SameButStart}
-use Rattle.nfa_search_base.specs.LastEnd.{EndsBy}
-use Rattle.nfa_search_base.specs.Items.{Item, item_by, matches_in, items_from, items_within, greedy}
-use Rattle.nfa_search_base.specs.Lists.{IsStep, Fails, ItemsNext, ItemsLast, AreDisjoint, AreSpansDisjoint, AnswersMatch, AreFirstMatches, AreMatches}
-use Rattle.nfa_search_base.specs.IterStates.{IterState, Answer, Advances, AnswerIsInside, fresh, repeats, shifted, after, answer_span, span_of, ends_left}
-use Rattle.nfa_search_base.specs.declared.error.SearchError.{SearchError}
+use Rattle.nfa_search_base.specs.Common.{SameButStart, EndsBy, Item, item_by, matches_in, items_from, items_within, greedy, IsStep, Fails, ItemsNext, ItemsLast, AreDisjoint, AreSpansDisjoint, AnswersMatch, AreFirstMatches, AreMatches, IterState, Answer, Advances, AnswerIsInside, fresh, repeats, shifted, after, answer_span, span_of, ends_left, SearchError}
 use Rattle.nfa_search_base.proofs.AskingLemmas.{same_start-self, same_start-then}
 use Rattle.nfa_search_base.proofs.StepLemmas.{chosen, same_start-after, same_start-shifted, Advances-fewer}
 use Rattle.nfa_search_base.proofs.IterStateLemmas.{IsOrdered}
@@ -68,14 +60,7 @@ pub record ShownAs {X Y : Type 0} (span : X → Span) (span' : Y → Span) (unde
 pub step-as : {X Y : Type 0} {span : X → Span} {span' : Y → Span} {under : Search → Answer X → Type 0}
     {tells : Search → Answer Y → Type 0} {w : IterState} {a : Answer X} (shows : ShownAs span span' under tells)
     → IsStep span under w a → IsStep span' tells w (shows.shown a)
-step-as {span = span} {w = w} {a = a} shows h = record {
-  first = shows.shown h.first;
-  is_first = shows.so w.at h.first h.is_first;
-  rest = rw (← shows.same h.first) (elim (chosen (repeats w (answer_span span h.first)) h.rest) [
-    | inl p ↦ rw p.0 (shows.so (shifted w).at a p.1)
-    | inr p ↦ rw p.0 (ap shows.shown p.1)
-  ]);
-}
+step-as {span = span} {w = w} {a = a} shows h = grind (arith, chosen)
 
 -- lists that go on as each other are equal
 none-left : {A : Type 0} (xs ys more less : List A) → ys ≡ xs ++ more → xs ≡ ys ++ less → xs ≡ ys
@@ -105,13 +90,15 @@ module _ {X : Type 0} (span : X → Span) (tells : Search → Answer X → Type 
   last-next ends w (Ok x ∷ items) h = (h.0, last-next ends (past w x) items h.1)
   last-next ends w (Err e ∷ items) h = h
 
+  -- the answer of a step is that of its search, or of one from one byte further on
+  pub step-asked : (w : IterState) (a : Answer X) → Step w a
+      → (n : ℕ) × (w.at.start ≤ n) × (n ≤ w.at.start + 1) × tells (record w.at { start = n }) a
+  step-asked w a h = grind (arith, chosen)
+
   -- if no search errs, no step errs
   pub never-fails : ((t : Search) (e : SearchError) → tells t (Err e) → ⊥) → (w : IterState) (e : SearchError)
       → Step w (Err e) → ⊥
-  never-fails never w e h = elim (chosen (repeats w (answer_span span h.first)) h.rest) [
-    | inl p ↦ never (shifted w).at e p.1
-    | inr p ↦ never w.at e (rw p.1 h.is_first)
-  ]
+  never-fails never w e h = let k = step-asked w (Err e) h in never (record w.at { start = k.0 }) e k.3
 
   -- so all items are matches
   pub last-matches : ((t : Search) (e : SearchError) → tells t (Err e) → ⊥) → (w : IterState) (items : List (Item X))
@@ -125,14 +112,7 @@ module _ {X : Type 0} (span : X → Span) (tells : Search → Answer X → Type 
   module _ (one : (t : Search) (a b : Answer X) → tells t a → tells t b → a ≡ b) where
     -- a step has one answer at most
     pub step-unique : (w : IterState) (a b : Answer X) → Step w a → Step w b → a ≡ b
-    step-unique w a b h k =
-        let first : h.first ≡ k.first = one w.at h.first k.first h.is_first k.is_first in
-        of (repeats w (answer_span span h.first)) h.rest (rw first k.rest)
-      where
-        of : (again : Bool) → MatchBool again (tells (shifted w).at a) (a ≡ h.first)
-            → MatchBool again (tells (shifted w).at b) (b ≡ h.first) → a ≡ b
-        of true x y = one (shifted w).at a b x y
-        of false x y = x ∙ sym y
+    step-unique w a b h k = grind (arith)
 
     -- the first items are followed by the rest of the list
     pub next-rest : (w : IterState) (xs ys : List (Item X)) → Next w xs → Last w ys
@@ -180,27 +160,12 @@ module _ {X : Type 0} (span : X → Span) (tells : Search → Answer X → Type 
 
     -- a step as one of a searcher
     advances : (w : IterState) (x : X) → Step w (Ok (Some x)) → Advances span asks tt w (Ok (Some x)) tt (past w x)
-    advances w x h = record {
-      answer = h.first;
-      between = tt;
-      first = h.is_first;
-      rest = elim (chosen (repeats w (answer_span span h.first)) h.rest) [
-        | inl p ↦ rw p.0 (p.1, refl)
-        | inr p ↦ rw p.0 (p.1, refl, refl)
-      ];
-    }
+    advances w x h = grind (arith, chosen)
 
     -- the match of a step is in the span of its search
     pub step-lies : (w : IterState) (x : X) → Step w (Ok (Some x))
         → (w.at.start ≤ (span x).start) × ((span x).start ≤ (span x).end) × ((span x).end ≤ w.at.end)
-    step-lies w x h = elim (chosen (repeats w (answer_span span h.first)) h.rest) [
-      | inl p ↦
-          let k = lies (shifted w).at (Ok (Some x)) p.1 in
-          (omega (arith, k.0.0), k.1 (span x) refl, k.0.1)
-      | inr p ↦
-          let k = lies w.at (Ok (Some x)) (rw p.1 h.is_first) in
-          (k.0.0, k.1 (span x) refl, k.0.1)
-    ]
+    step-lies w x h = grind (arith, step-asked)
 
     -- it comes after the last end, and leaves fewer ends
     step-fewer : (w : IterState) (x : X) → EndsBy w.last w.at.start → Step w (Ok (Some x))
@@ -241,9 +206,7 @@ module _ {X : Type 0} (span : X → Span) (tells : Search → Answer X → Type 
           → Last w (items_from span a (items_within span h n w'))
       built n w (Ok None) w' step rest = step
       built n w (Err e) w' step rest = (step, refl)
-      built n w (Ok (Some x)) w' step rest =
-          let k = rest x refl in
-          (step, subst (λ (v : IterState). Last (past w x) (items_within span h n v)) (sym k.0) k.1)
+      built n w (Ok (Some x)) w' step rest = grind (arith)
 
       come-greedy : (n : ℕ) (w : IterState) → ends_left w < n → EndsBy w.last w.at.start → Gives w.at
           → Last w (items_within span h n w)

@@ -1,17 +1,15 @@
 -- The calls of an iterator over matches by an engine give the matches of the engine's NFA.
-use Rattle.std.proofs.Common.{◌≡◌, ◌∙◌, ℕ, ap, arith, Option, None, Some, Ok, List, [], ◌∷◌, ◌++◌, map, length, length-append, All}
+use Rattle.nfa_paths.proofs.Common.{◌≡◌, ◌∙◌, ℕ, ap, arith, Option, None, Some, Ok, List, [], ◌∷◌, ◌++◌, map, length, length-append, All, All-nil, All-cons, found_of, Search, Match, MatchKind, Automaton}
 use Rattle.std.specs.Iterator.Runs.{EachRunFrom, ItemsMapTo}
-use Rattle.std.proofs.lemmas.List.Elements.{All-nil, All-cons}
 use Rattle.std.proofs.iter.runs.Sources.{lists}
-use Rattle.nfa_paths.specs.Common.{found_of, Search, Match, MatchKind, Automaton}
-use Rattle.nfa_search_base.specs.Lists.{AnswersMatch, AreDisjoint, AreFirstMatches, AreMatches, IsInside}
-use Rattle.nfa_search_base.specs.MatchRuns.{AreFirst, AreAll, MatchesRun, MatchesFirst, MatchesNext, MatchesAre, MatchesDisjoint}
-use Rattle.nfa_search_base.specs.Runs.{RunsGive}
-use Rattle.nfa_search_base.specs.IterStates.{span_of}
-use Rattle.nfa_search_base.proofs.ItemLemmas.{StepsBy, items_as}
+use Rattle.nfa_search_base.specs.Common.{AnswersMatch, AreDisjoint, AreFirstMatches, AreMatches, IsInside, AreFirst, AreAll, MatchesRun, MatchesFirst, MatchesNext, MatchesAre, MatchesDisjoint, RunsGive, span_of}
+use Rattle.nfa_search_base.proofs.ItemLemmas.{StepsBy, items_as, ShellOf}
 use Rattle.nfa_search_base.proofs.ListLemmas.{items-view, matches-disjoint, matches-rest, matches-unique}
 use Rattle.nfa_search_base.proofs.RunLemmas.{AnswersOf, Begins, Given, given-as, items-given}
-use Rattle.nfa_search_base.proofs.ShellLemmas.{ShellOf}
+
+-- nothing follows what is already whole
+nothing-more : {X : Type 0} (xs more : List X) → xs ≡ xs ++ more → length more ≡ 0
+nothing-more xs more e = omega (arith, ap length e, length-append xs more)
 
 -- If the rest of a list follows first values, and there is one list, the items of each run are its first elements.
 pub runs-are : {T X Y : Type 0} (steps : T → Option Y → T → Type 0) (view : Y → X) (First Whole : List X → Type 0)
@@ -19,14 +17,11 @@ pub runs-are : {T X Y : Type 0} (steps : T → Option Y → T → Type 0) (view 
     → ((xs ys : List X) → Whole xs → Whole ys → xs ≡ ys) → (s : T)
     → RunsGive steps (λ ys. First (map view ys)) (λ ys. Whole (map view ys)) s
     → EachRunFrom steps s (λ p. (all : List X) → Whole all → ItemsMapTo p view all)
-runs-are {X = X} steps view First Whole follows one s run = λ p seen from all them.
+runs-are steps view First Whole follows one s run = λ p seen from all them.
     let k = run p seen from in
     let rest = follows (map view p.items) all k.0 them in
     lists p view all rest.0
-    (λ whole. no-more (map view p.items) rest.0 (one (map view p.items) all (k.1 whole) them ∙ rest.1)) rest.1
-  where
-    no-more : (xs more : List X) → xs ≡ xs ++ more → length more ≡ 0
-    no-more xs more e = omega (arith, ap length e, length-append xs more)
+    (λ whole. nothing-more (map view p.items) rest.0 (one (map view p.items) all (k.1 whole) them ∙ rest.1)) rest.1
 
 -- matches that are apart are in the span
 pub all-inside : (x : Search) (last : Option ℕ) (ms : List Match) → AreDisjoint x last (map found_of ms)

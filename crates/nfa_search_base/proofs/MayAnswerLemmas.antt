@@ -1,28 +1,94 @@
--- What a stored finder may answer, its iterator gives, and so it gives the answers of a search.
-use Rattle.std.proofs.Common.{◌≡◌, ◌∙◌, false, List, [], ◌∷◌, map, refl, sym, subst, ap, ◌≤◌, Option, None, Some, Result, Ok, Err, IfOk}
-use Rattle.std.specs.Fn.{Mut}
-use Rattle.std.specs.Borrow.{Bor}
-use Rattle.std.specs.declared.vec.Vec.{Vec}
-use Rattle.std.specs.Vec.{vec_items}
+-- What may be answered along the calls of an iterator that keeps its finder, the iterator gives, and so it gives the
+-- answers of a search.
+use Rattle.nfa_paths.proofs.Common.{◌≡◌, false, List, [], ◌∷◌, ◌++◌, map, refl, sym, subst, arith, Option, None, Some, Result, Ok, Err, IfOk, Search, Span, ◌∙◌, ap, ◌≤◌, Input, ℕ, inl, inr, Found, Captured, match_of}
+use Rattle.std.proofs.lemmas.Fn.{FoldsTo-push}
 use Rattle.std.proofs.lemmas.Iterator.{IsCollectResult}
-use Rattle.nfa_paths.specs.Common.{Search, Span}
-use Rattle.regex_search_core.specs.declared.search.Input.{Input}
-use Rattle.nfa_search_base.specs.Asking.{IsCallableOn, SameButStart}
-use Rattle.nfa_search_base.specs.Finders.{Finds, AnswersAlong, answer_by}
-use Rattle.nfa_search_base.specs.Items.{item_by, matches_in}
-use Rattle.nfa_search_base.specs.Lists.{Fails, AreAllStoredMatches, AreSpansDisjoint}
-use Rattle.nfa_search_base.specs.Serving.{LeadsOn}
-use Rattle.nfa_search_base.specs.Stored.{steps_iter_state}
-use Rattle.nfa_search_base.specs.StoredRuns.{AllFound, FirstFound, MayAnswer, stored_match_steps, infallible_match_steps, StoredMatchesAll, StoredMatchesDisjoint, InfallibleMatchesDisjoint, InfallibleMatchesAll}
-use Rattle.nfa_search_base.specs.IterStates.{Answer, IterState, answer_span, AnswerIsInside, IsInfalliblyInside}
-use Rattle.nfa_search_base.specs.declared.error.SearchError.{SearchError}
-use Rattle.nfa_search_base.specs.declared.iter.steps.Steps.{Steps}
+use Rattle.nfa_search_base.specs.Common.{SameButStart, Item, item_by, matches_in, IsStep, ItemsLast, AreSpansDisjoint, LeadsOn, MayReply, ServesOnAlong, steps_iter_state, Answer, IterState, AnswerIsInside, after, answer_span, Yields, vec_items, Vec, SearchError, Steps, IsCallableOn, Finds, AnswersAlong, Fails, AreAllStoredMatches, AllFound, FirstFound, MayAnswer, stored_match_steps, infallible_match_steps, RunsApart, spans_in, GivesAll, AllSure, FirstSure, IsInfalliblyInside, Mut, Bor, Row, WithCaptures, CanFill, Fills, FillsAlong, row_of, row_span, filled_answer, AreAllStoredCaptures, FailsOrIsRefused, AllFilled, FirstFilled, MayAnswerRow, stored_captures_steps, takes_infallible_captures, MutBor}
+use Rattle.nfa_search_base.proofs.AskingLemmas.{same_start-self, Along-weaker}
 use Rattle.nfa_search_base.proofs.IterStateLemmas.{IsOrdered}
-use Rattle.nfa_search_base.proofs.ItemLemmas.{items_as}
-use Rattle.nfa_search_base.proofs.MayReplyLemmas.{AskerOf, may-given, may-disjoint, step-answered, last-answered}
-pub use Rattle.nfa_search_base.proofs.MayReplyLemmas.{collected_all}
-use Rattle.nfa_search_base.proofs.RunLemmas.{Given, given-as, given-oked}
-use Rattle.nfa_paths.proofs.OptionLemmas.{same_some}
+use Rattle.nfa_search_base.proofs.ItemLemmas.{EndsAt, ItemsOf, Last, Next, StepsBy, items_as, copies_of, plain_shell, same-items}
+use Rattle.nfa_search_base.proofs.ListLemmas.{IsOnward, spans-disjoint, step-as}
+use Rattle.nfa_search_base.proofs.RunLemmas.{AnswersOf, Given, given-at, given-as, given-inner}
+use Rattle.nfa_paths.proofs.InsideLemmas.{offsets}
+
+-- What an iteration that keeps its finder asks: when the finder may be called, a call, and the items of the answers.
+pub record AskerOf (S X Y : Type 0) : Type 1 where
+  pub accepts : S → Search → Type 0
+  pub asks : S → Search → Answer X → S → Type 0
+  pub items : ItemsOf S X Y
+
+module _ {S X Y : Type 0} (asker : AskerOf S X Y) where
+  open asker use {accepts, asks, items}
+
+  module _ (f : S) (x : Search) where
+    -- calls on searches like x led from f to q
+    Reached : S → Type 0
+    Reached q = (calls : List (Search × Answer X)) × LeadsOn accepts asks SameButStart x f calls q
+
+    acts : (q : S) (t : Search) (a : Answer X) (q' : S) → SameButStart x t → Reached q → asks q t a q'
+        → MayReply accepts asks SameButStart f x t a × Reached q'
+    unfolding Reached
+    acts q t a q' same reached found = (
+      record { calls = reached.0; between = q; left = q'; leads = reached.1; same = same; asked = found },
+      (
+        reached.0 ++ (t, a) ∷ [],
+        FoldsTo-push (λ p c r. SameButStart x c.0 × asks p c.0 c.1 r) f reached.0 q (t, a) q' reached.1 (same, found),
+      ),
+    )
+
+  module _ (s : Steps S) where
+    abbrev w : IterState
+    w = steps_iter_state s
+
+    -- what the finder of an iterator may answer
+    abbrev May : Search → Answer X → Type 0
+    May = MayReply accepts asks SameButStart s.backend w.at
+
+    -- an iterator that has not ended gives
+    pub may-given : s.done ≡ false → Given (StepsBy items asks) (Next items May w) (Last items May w) s
+    unfolding Reached
+    may-given going =
+        let answers : AnswersOf S w.at May =
+        record { asks = asks; Good = Reached s.backend w.at; acts = acts s.backend w.at } in
+        given-at items answers w s
+        (record { iter_state = refl; going = going; good = ([], refl); like = same_start-self w.at })
+
+    -- Their matches do not overlap if those of the finder are in the spans of its searches.
+    pub may-disjoint
+        : ((q : S) (t : Search) (a : Answer X) (q' : S) → asks q t a q' → IsOrdered (answer_span items.span a))
+        → ServesOnAlong accepts asks SameButStart (AnswerIsInside items.span) s.backend w.at
+        → (xs : List (Result Y SearchError)) → Next items May w xs
+        → AreSpansDisjoint w.at w.last (map items.span (matches_in (map (item_by items.view) xs)))
+    may-disjoint ordered serves xs come =
+        let on : IsOnward w.at w = record { from = omega arith; to = refl; behind = s.searcher.ends_by } in
+        spans-disjoint items.span May
+        (λ t a k. (
+          (serves.at k.calls k.between t k.leads k.same).replies a k.left k.asked,
+          ordered k.between t a k.left k.asked,
+        ))
+        (EndsAt items May) (map (item_by items.view) xs) on come
+
+-- If each answer of `under` is one of `tells`, the items are the same.
+module _ {X : Type 0} (span : X → Span) {under tells : Search → Answer X → Type 0}
+    (so : (t : Search) (a : Answer X) → under t a → tells t a) where
+  pub step-answered : (w : IterState) (a : Answer X) → IsStep span under w a → IsStep span tells w a
+  step-answered w a h = step-as (record { shown = λ b. b; same = λ b. refl; so = so }) h
+
+  pub last-answered : (ends ends' : IterState → SearchError → Type 0)
+      → ((w : IterState) (e : SearchError) → ends w e → ends' w e) → (w : IterState) (items : List (Item X))
+      → ItemsLast span under ends w items → ItemsLast span tells ends' w items
+  last-answered ends ends' end w [] h = step-answered w (Ok None) h
+  last-answered ends ends' end w (Ok x ∷ items) h =
+      (step-answered w (Ok (Some x)) h.0, last-answered ends ends' end (after w (Some (span x))) items h.1)
+  last-answered ends ends' end w (Err e ∷ items) h = (end w e h.0, h.1)
+
+-- What `collect` makes of an iterator that gives a whole list at its end: that list.
+pub collected_all : {S A Z E : Type 0} (steps : S → Option A → S → Type 0) (Whole : List A → Type 0) (s : S)
+    (r : Result (Vec A Z) E) → IsCollectResult steps s r
+    → ((xs : List A) (t u : S) → Yields steps s xs t → steps t None u → Whole xs)
+    → IfOk r (λ all. Whole (vec_items all))
+collected_all steps Whole s (Ok all) ran gives = grind (arith)
+collected_all steps Whole s (Err e) ran gives = tt
 
 module _ {A X F : Type 0} (view : A → X) (span : X → Span)
     (g : Mut F (Bor Input × Unit {0}) (Result (Option A) SearchError)) where
@@ -38,13 +104,16 @@ module _ {A X F : Type 0} (view : A → X) (span : X → Span)
         (λ xs h. record { come = h }) (λ xs h. record { come = h })
 
     -- and so do those of the iterator whose finder never errs
-    pub sure : Given (infallible_match_steps view span g)
-        (λ ms. FirstFound view span g s.backend (steps_iter_state s) (map (λ m. Ok m) ms))
-        (λ ms. AllFound view span g s.backend (steps_iter_state s) (map (λ m. Ok m) ms)) s
-    sure = given-oked (stored_match_steps view span g) found
+    pub sure : Given (infallible_match_steps view span g) (FirstSure view span g s.backend (steps_iter_state s))
+        (AllSure view span g s.backend (steps_iter_state s)) s
+    sure = given-inner (record {
+      calls = infallible_match_steps view span g;
+      inner = λ q. q;
+      is = λ p r q st. st;
+    }) found
 
   sure-spans : (ms : List A)
-      → map span (matches_in (map (item_by view) (map (λ m. Ok m) ms))) ≡ map (λ m. span (view m)) ms
+      → spans_in view span (map (λ m. Ok m) ms) ≡ map (λ m. span (view m)) ms
   sure-spans [] = refl
   sure-spans (m ∷ ms) = ap (λ (l : List Span). span (view m) ∷ l) (sure-spans ms)
 
@@ -52,27 +121,21 @@ module _ {A X F : Type 0} (view : A → X) (span : X → Span)
   module _ (ordered : (m : A) → (span (view m)).start ≤ (span (view m)).end) where
     answer-ordered : (q : F) (t : Search) (a : Answer X) (q' : F) → Finds view g q t a q'
         → IsOrdered (answer_span span a)
-    answer-ordered q t a q' k = of k.reply k.shows
-      where
-        of : (reply : Result (Option A) SearchError) → a ≡ answer_by view reply → IsOrdered (answer_span span a)
-        of (Ok (Some m)) is = rw is (λ p same. subst (λ (q : Span). q.start ≤ q.end) (same_some _ _ same) (ordered m))
-        of (Ok None) is = rw is (λ p same. let never : None ≡ Some p = same in cc)
-        of (Err e) is = rw is (λ p same. let never : None ≡ Some p = same in cc)
+    answer-ordered q t a q' k = grind (arith)
 
-    pub found-disjoint : (s : Steps F) → s.done ≡ false
-        → AnswersAlong view g (AnswerIsInside span) s.backend (steps_iter_state s).at
-        → StoredMatchesDisjoint view span g (steps_iter_state s) s
-    found-disjoint s going serves = λ p seen from.
-        may-disjoint answers s (λ t a k. k) answer-ordered serves p.items ((found s going).run p seen from).0.come
+    module _ (s : Steps F) (going : s.done ≡ false) where
+      pub found-disjoint : AnswersAlong view g (AnswerIsInside span) s.backend (steps_iter_state s).at
+          → RunsApart (stored_match_steps view span g) (spans_in view span) (steps_iter_state s) s
+      found-disjoint serves = λ p seen from.
+          may-disjoint answers s answer-ordered serves p.items ((found s going).run p seen from).0.come
 
-    pub sure-disjoint : (s : Steps F) → s.done ≡ false
-        → AnswersAlong view g (IsInfalliblyInside span) s.backend (steps_iter_state s).at
-        → InfallibleMatchesDisjoint view span g (steps_iter_state s) s
-    sure-disjoint s going serves = λ p seen from.
-        subst (λ (l : List Span). AreSpansDisjoint (steps_iter_state s).at (steps_iter_state s).last l)
-        (sure-spans p.items)
-        (may-disjoint answers s (λ t a k. k.0) answer-ordered serves (map (λ m. Ok m) p.items)
-        ((sure s going).run p seen from).0.come)
+      pub sure-disjoint : AnswersAlong view g (IsInfalliblyInside span) s.backend (steps_iter_state s).at
+          → RunsApart (infallible_match_steps view span g) (map (λ m. span (view m))) (steps_iter_state s) s
+      sure-disjoint serves = λ p seen from.
+          subst (λ (l : List Span). AreSpansDisjoint (steps_iter_state s).at (steps_iter_state s).last l)
+          (sure-spans p.items)
+          (may-disjoint answers s answer-ordered (Along-weaker (λ t a k. k.0) serves) (map (λ m. Ok m) p.items)
+          ((sure s going).run p seen from).0.come)
 
 -- If each call leaves the finder as it was, what it answers on one search it may answer along all calls.
 module _ {A X F : Type 0} {view : A → X} {g : Mut F (Bor Input × Unit {0}) (Result (Option A) SearchError)} {f : F}
@@ -102,7 +165,7 @@ module _ {A X F : Type 0} {view : A → X} {span : X → Span}
     {g : Mut F (Bor Input × Unit {0}) (Result (Option A) SearchError)} {f : F} {w : IterState} {s : Steps F} where
   pub collected_as : {Z E : Type 0} (tells : Search → Answer X → Type 0) (v : IterState)
       (r : Result (Vec (Result A SearchError) Z) E) → IsCollectResult (stored_match_steps view span g) s r
-      → StoredMatchesAll view span g f w s → w ≡ v
+      → GivesAll (stored_match_steps view span g) (AllFound view span g f w) s → w ≡ v
       → ((t : Search) (a : Answer X) (f' : F) → Finds view g f t a f' → (f' ≡ f) × tells t a)
       → IfOk r (λ all. AreAllStoredMatches span tells view v (vec_items all))
   collected_as tells v r ran gives is says_so =
@@ -112,10 +175,93 @@ module _ {A X F : Type 0} {view : A → X} {span : X → Span}
   -- and of one whose finder never errs
   pub collected_infallibly_as : {Z E : Type 0} (tells : Search → Answer X → Type 0) (v : IterState)
       (r : Result (Vec A Z) E) → IsCollectResult (infallible_match_steps view span g) s r
-      → InfallibleMatchesAll view span g f w s → w ≡ v
+      → GivesAll (infallible_match_steps view span g) (AllSure view span g f w) s → w ≡ v
       → ((t : Search) (a : Answer X) (f' : F) → Finds view g f t a f' → (f' ≡ f) × tells t a)
       → IfOk r (λ all. AreAllStoredMatches span tells view v (map (λ m. Ok m) (vec_items all)))
   collected_infallibly_as tells v r ran gives is says_so =
       collected_all (infallible_match_steps view span g)
       (λ ms. AreAllStoredMatches span tells view v (map (λ m. Ok m) ms)) s r ran
       (λ xs t u y st. rw is at (all-answered says_so (gives xs t u y st)))
+
+-- a match of captures starts at or before its end
+match-ordered : (pattern : Option ℕ) (slots : List (Option ℕ)) (m : Found) → match_of pattern slots ≡ Some m
+    → m.start ≤ m.end
+match-ordered None slots m is = cc
+match-ordered (Some p) slots m is = (offsets slots p m is).2
+
+nowhere : IsOrdered None
+nowhere = λ p is. let never : None ≡ Some p = is in cc
+
+row-ordered : (c : Captured) (reply : Result (Unit {0}) SearchError) (a : Answer Row) → a ≡ filled_answer c reply
+    → IsOrdered (answer_span row_span a)
+row-ordered c (Err e) a is = rw is nowhere
+row-ordered c (Ok u) a is = grind (arith, nowhere, match-ordered)
+
+module _ {F : Type 0} (g : Mut F (Bor Input × (MutBor Captured × Unit {0}))
+    (Result (Unit {0}) SearchError × (MutBor Captured × Unit {0}))) where
+  -- the items are copies of the captures that the finder filled
+  abbrev copies : AskerOf (WithCaptures F) Row Captured
+  copies = record { accepts = CanFill g; asks = Fills g; items = copies_of (λ q. q.captures) }
+
+  filled-ordered : (q : WithCaptures F) (t : Search) (a : Answer Row) (q' : WithCaptures F) → Fills g q t a q'
+      → IsOrdered (answer_span row_span a)
+  filled-ordered q t a q' k = row-ordered q'.captures k.reply a k.answers
+
+  module _ (s : Steps (WithCaptures F)) (going : s.done ≡ false) where
+    abbrev First : List (Result Captured SearchError) → Type 0
+    First = FirstFilled g s.backend (steps_iter_state s)
+
+    abbrev Whole : List (Result Captured SearchError) → Type 0
+    Whole = AllFilled g s.backend (steps_iter_state s)
+
+    -- its calls give
+    pub caught : Given (stored_captures_steps g) First Whole s
+    caught = given-as (stored_captures_steps g) (may-given copies s going)
+        (λ xs h. record { come = h }) (λ xs h. record { come = h })
+
+    -- and so do those of the iterator whose finder never errs
+    pub sure-caught : Given (takes_infallible_captures g) First Whole s
+    sure-caught = given-as (takes_infallible_captures g)
+        (given-inner (plain_shell (takes_infallible_captures g) (λ q. q) (λ q r t st. st.0)) caught)
+        (λ xs h. rw (same-items xs) at h) (λ xs h. rw (same-items xs) at h)
+
+    -- Their matches are in the spans of the finder's searches.
+    pub caught-disjoint : FillsAlong g (AnswerIsInside row_span) s.backend (steps_iter_state s).at
+        → RunsApart (stored_captures_steps g) (spans_in row_of row_span) (steps_iter_state s) s
+    caught-disjoint serves = λ p seen from.
+        may-disjoint copies s filled-ordered serves p.items (caught.run p seen from).0.come
+
+    pub sure-caught_disjoint : FillsAlong g (IsInfalliblyInside row_span) s.backend (steps_iter_state s).at
+        → RunsApart (takes_infallible_captures g) (spans_in row_of row_span) (steps_iter_state s) s
+    sure-caught_disjoint serves = λ p seen from.
+        may-disjoint copies s filled-ordered (Along-weaker (λ t a k. k.0) serves) p.items
+        (sure-caught.run p seen from).0.come
+
+-- If each answer of `under` is one of `tells`, the captures are the same.
+module _ {under tells : Search → Answer Row → Type 0} (so : (t : Search) (a : Answer Row) → under t a → tells t a)
+  where
+    ends-answered : (w : IterState) (e : SearchError) → FailsOrIsRefused row_span under w e
+        → FailsOrIsRefused row_span tells w e
+    ends-answered w e (inl fails) = inl (step-answered row_span so w (Err e) fails)
+    ends-answered w e (inr refused) =
+        inr (refused.0, refused.1, step-answered row_span so w (Ok (Some refused.1)) refused.2)
+
+    all-rows_answered : {w : IterState} {items : List (Result Captured SearchError)}
+        → AreAllStoredCaptures under w items → AreAllStoredCaptures tells w items
+    all-rows_answered {w = w} {items = items} h = grind (arith, last-answered, ends-answered)
+
+-- The result of `collect` on such an iterator, if its finder never errs and answers this with any captures: all
+-- captures.
+module _ {F : Type 0} {g : Mut F (Bor Input × (MutBor Captured × Unit {0}))
+    (Result (Unit {0}) SearchError × (MutBor Captured × Unit {0}))} {c : WithCaptures F} {w : IterState}
+    {s : Steps (WithCaptures F)} where
+  pub captures_collected_infallibly_as : {Z E : Type 0} (tells : Search → Answer Row → Type 0) (v : IterState)
+      (r : Result (Vec (Result Captured SearchError) Z) E) → IsCollectResult (takes_infallible_captures g) s r
+      → GivesAll (takes_infallible_captures g) (AllFilled g c w) s → w ≡ v
+      → ((q : WithCaptures F) (t : Search) (a : Answer Row) (q' : WithCaptures F) → Fills g q t a q' → tells t a)
+      → IfOk r (λ all. AreAllStoredCaptures tells v (vec_items all))
+  captures_collected_infallibly_as tells v r ran gives is says_so =
+      let so : (t : Search) (a : Answer Row) → MayAnswerRow g c w.at t a → tells t a =
+      λ t a k. says_so k.between t a k.left k.asked in
+      collected_all (takes_infallible_captures g) (AreAllStoredCaptures tells v) s r ran
+      (λ xs t u y st. rw is at (all-rows_answered so (gives xs t u y st)))

@@ -1,18 +1,10 @@
 -- The answers that a skipping of split characters has gone through, up to the one that it ends with.
-use Rattle.std.proofs.Common.{◌≡◌, ℕ, suc, ◌+◌, ◌-◌, ◌≤◌, nat_le, true, false, List, [], ◌∷◌, ◌++◌, length, length-append, Option, None, Some, Result, Ok, refl, add-zero, arith, Bool}
-use Rattle.std.proofs.lemmas.Bool.{le-leb, lt-leb}
-use Rattle.std.specs.Fn.{Mut}
-use Rattle.std.specs.Borrow.{Bor}
-use Rattle.nfa_paths.specs.Common.{Search, search_of}
-use Rattle.regex_search_core.specs.declared.search.Input.{Input}
-use Rattle.nfa_search_base.specs.Asking.{Asks, IsCallableOn}
-use Rattle.nfa_search_base.specs.Serving.{ServesOn}
-use Rattle.nfa_search_base.specs.declared.error.SearchError.{SearchError}
-use Rattle.nfa_search_base.specs.Skipping.{CallLeft, SkipsOn, WithOffset, value_of, HasOffsetIn, IsInCharacter, IsWholeReply, start_raised, lowered, Answers, Reaches, ServesSkips, SkipsTo}
+use Rattle.nfa_paths.proofs.Common.{◌≡◌, ℕ, suc, ◌+◌, ◌-◌, ◌≤◌, List, [], ◌∷◌, ◌++◌, length, length-append, Option, None, Some, Ok, refl, add-zero, arith, le-leb, Search, search_of, Input}
+use Rattle.nfa_search_base.specs.Common.{Answer, answer_by, Asks, IsCallableOn, ServesOn, CallLeft, SkipsOn, HasOffsetIn, IsInCharacter, IsWholeReply, start_raised, lowered, Answers, Reaches, ServesSkips, SkipsTo, Mut, Bor}
 
 -- A skipping: what its finder is, the haystack, and the searches that it moves to.
 pub record SkipOf (T F : Type 0) : Type 1 where
-  pub finder : Mut F (Bor Input × Unit {0}) (WithOffset T)
+  pub finder : Mut F (Bor Input × Unit {0}) (Answer (T × ℕ))
   pub haystack : List ℕ
   pub moved : ℕ → Option Search
 
@@ -66,7 +58,7 @@ module _ {T F : Type 0} {skip : SkipOf T F} where
       pub HasCome-callable : (b : Bor Input) → search_of b.now ≡ u → skip.finder.pre q.finder (b, tt)
       HasCome-callable = next.callable
 
-      module _ {a : WithOffset T} {f : F} (asked : Asks skip.finder q.finder u a f) where
+      module _ {a : Answer (T × ℕ)} {f : F} (asked : Asks skip.finder q.finder u a f) where
         abbrev left : CallLeft T F
         left = record { answer = a; finder = f }
 
@@ -85,7 +77,7 @@ module _ {T F : Type 0} {skip : SkipOf T F} where
         }
 
         -- it is the result, if it splits none
-        pub HasCome-last : {result : Result (Option T) SearchError} → IsWholeReply skip.haystack a → result ≡ value_of a
+        pub HasCome-last : {result : Answer T} → IsWholeReply skip.haystack a → result ≡ answer_by (λ x. x.0) a
             → SkipsTo skip.finder skip.haystack skip.moved p.answer p.finder result f
         HasCome-last whole gives = record {
           calls = come.calls ++ left ∷ [];
@@ -96,7 +88,7 @@ module _ {T F : Type 0} {skip : SkipOf T F} where
         }
 
     -- if nothing is left to search, the answer is none
-    pub HasCome-none : {result : Result (Option T) SearchError}
+    pub HasCome-none : {result : Answer T}
         → ((n : ℕ) → skip.moved n ≡ Some t → skip.moved (n + 1) ≡ None) → IsInCharacter skip.haystack q.answer
         → result ≡ Ok None → SkipsTo skip.finder skip.haystack skip.moved p.answer p.finder result q.finder
     HasCome-none out split gives =
@@ -110,18 +102,16 @@ module _ {T F : Type 0} {skip : SkipOf T F} where
         }
 
     -- an answer that splits no codepoint is the result
-    pub HasCome-end : {result : Result (Option T) SearchError} → IsWholeReply skip.haystack q.answer
-        → result ≡ value_of q.answer → SkipsTo skip.finder skip.haystack skip.moved p.answer p.finder result q.finder
+    pub HasCome-end : {result : Answer T} → IsWholeReply skip.haystack q.answer
+        → result ≡ answer_by (λ x. x.0) q.answer
+        → SkipsTo skip.finder skip.haystack skip.moved p.answer p.finder result q.finder
     HasCome-end whole gives =
         record { calls = come.calls; last = q.answer; reached = come.reached; whole = whole; gives = gives }
 
 -- the search one further up
 pub start_raised-up : (s t u : Search) → u ≡ record t { start = t.start + 1 }
     → (n : ℕ) → start_raised s n ≡ Some t → start_raised s (n + 1) ≡ Some u
-start_raised-up s t u up n at =
-    let here : t ≡ record s { start = s.start + n } = cc in
-    let e : s.start + (n + 1) ≡ s.start + n + 1 = omega arith in
-    rw (up, here, e) refl
+start_raised-up s t u up n at = grind (arith)
 
 -- and not yet moved
 pub start_raised-start : (s : Search) → start_raised s 0 ≡ Some s
@@ -129,27 +119,16 @@ start_raised-start s = rw add-zero refl
 
 -- the search with its end lowered, if there is one
 lowered-is : (s t : Search) (n : ℕ) → lowered s n ≡ Some t → t ≡ record s { end = s.end - n }
-lowered-is s t n at = by_test (nat_le n s.end) refl
-  where
-    by_test : (b : Bool) → nat_le n s.end ≡ b → t ≡ record s { end = s.end - n }
-    by_test true e = let here : Some (record s { end = s.end - n }) ≡ Some t = rw e at at in cc
-    by_test false e = let no : None ≡ Some t = rw e at at in cc
+lowered-is s t n at = grind (arith)
 
 -- one further down
 pub lowered-down : (s t u : Search) → 1 ≤ t.end → u ≡ record t { end = t.end - 1 }
     → (n : ℕ) → lowered s n ≡ Some t → lowered s (n + 1) ≡ Some u
-lowered-down s t u some down n at =
-    let is = lowered-is s t n at in
-    let left : 1 ≤ s.end - n = rw is at some in
-    let less : s.end - n - 1 ≡ s.end - (n + 1) = omega arith in
-    rw (le-leb (n + 1) s.end (omega arith), down, is, less) refl
+lowered-down s t u some down n at = grind (arith, lowered-is)
 
 -- below an end of 0 there is none
 pub lowered-none : (s t : Search) → t.end ≡ 0 → (n : ℕ) → lowered s n ≡ Some t → lowered s (n + 1) ≡ None
-lowered-none s t out n at =
-    let is = lowered-is s t n at in
-    let left : s.end - n ≡ 0 = rw is at out in
-    rw (lt-leb (n + 1) s.end (omega arith)) refl
+lowered-none s t out n at = grind (arith, lowered-is)
 
 -- and not yet moved
 pub lowered-start : (s : Search) → lowered s 0 ≡ Some s

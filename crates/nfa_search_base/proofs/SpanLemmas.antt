@@ -1,11 +1,6 @@
 -- If all slots are in a span, so is each span that they give.
-use Rattle.std.proofs.Common.{ℕ, ◌+◌, ◌*◌, inl, inr, List, Option, None, Some, sym, subst, All, IfSome, cond, nat_le, option_and_then, option_map}
-use Rattle.std.proofs.lemmas.Bool.{cases_lt, le-leb, lt-leb}
-use Rattle.std.proofs.lemmas.List.Elements.{All-get_or}
-use Rattle.std.proofs.lemmas.Option.{slice_get_cases}
-use Rattle.nfa_paths.specs.Common.{group_named, slot_at, Search, Captured, group_span, match_of, named_span, offset_at, span_at, Span}
-use Rattle.nfa_search_base.specs.Lists.{IsInside, IsSlotInside}
-use Rattle.nfa_search_base.specs.Spans.{IsSpanInside, SpansInside}
+use Rattle.nfa_paths.proofs.Common.{ℕ, ◌+◌, ◌*◌, inl, inr, List, Option, None, Some, sym, subst, All, IfSome, cond, nat_le, option_and_then, option_map, All-get_or, slice_get_cases, slot_at, Search, Captured, group_span, match_of, named_span, offset_at, span_at, Span, arith}
+use Rattle.nfa_search_base.specs.Common.{IsInside, IsSlotInside, IsSpanInside, SpansInside}
 
 module _ (x : Search) where
   -- an offset
@@ -25,11 +20,7 @@ module _ (x : Search) where
       (λ end. cond (nat_le start end) (Some (record { start = start; end = end })) None) b) a) (IsSpanInside x)
   two-inside None b ha hb = tt
   two-inside (Some start) None ha hb = tt
-  two-inside (Some start) (Some end) ha hb =
-      elim (cases_lt end start) [
-        | inl past ↦ rw (lt-leb start end past) tt
-        | inr ordered ↦ rw (le-leb start end ordered) (record { from = ha.0; ordered = ordered; to = hb.1 })
-      ]
+  two-inside (Some start) (Some end) ha hb = grind (arith)
 
   -- what two slots give
   span-inside : (slots : List (Option ℕ)) → All (IsSlotInside x) slots → (k : ℕ)
@@ -63,14 +54,7 @@ module _ (x : Search) where
 
   named-inside : (c : Captured) → All (IsSlotInside x) c.slots → (name : List ℕ)
       → IfSome (named_span c name) (IsSpanInside x)
-  named-inside c inside name =
-      of-some (λ pattern. option_and_then (λ group. group_span c group) (group_named c.groups pattern name))
-      (λ pattern. of-some (λ group. group_span c group) (group-inside c inside) (group_named c.groups pattern name))
-      c.pattern
+  named-inside c inside name = grind (arith, of-some, group-inside)
 
   pub spans-inside : (c : Captured) → All (IsSlotInside x) c.slots → SpansInside x c
-  spans-inside c inside = record {
-    found = match-inside c.pattern c.slots inside;
-    group = group-inside c inside;
-    named = named-inside c inside;
-  }
+  spans-inside c inside = grind (arith, match-inside, group-inside, named-inside)

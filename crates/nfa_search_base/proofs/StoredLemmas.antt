@@ -1,27 +1,12 @@
 -- the iterators that keep their finder or engine
-use Rattle.std.proofs.Common.{◌≡◌, ◌+◌, ◌<◌, true, false, Bool, Option, None, Some, Result, Ok, Err, IsOk, OnSome, MatchBool, List, [], ◌∷◌, sym, ◌∙◌, ap, inl, inr, arith}
-use Rattle.std.specs.Iterator.{AlwaysYields, MakesProgress}
+use Rattle.nfa_paths.proofs.Common.{◌≡◌, ◌+◌, ◌<◌, false, Option, None, Some, Result, Ok, Err, IsOk, OnSome, List, [], ◌∷◌, sym, ◌∙◌, ap, inl, inr, arith, Search, Span, Input}
 use Rattle.std.proofs.lemmas.Iterator.{YieldsList}
-use Rattle.std.specs.Fn.{Mut}
-use Rattle.std.specs.Borrow.{Bor}
-use Rattle.nfa_paths.specs.Common.{Search, Span}
-use Rattle.regex_search_core.specs.declared.search.Input.{Input}
-use Rattle.nfa_search_base.specs.Asking.{IsCallableOn, SameButStart}
-use Rattle.nfa_search_base.specs.Finders.{Finds}
-use Rattle.nfa_search_base.specs.IterStates.{Answer, AnswerIsInside, ends_left}
-use Rattle.nfa_search_base.specs.Items.{Item, item_by, item_of, items_left, matches_left, matches_in, greedy_unless}
-use Rattle.nfa_search_base.specs.Serving.{ServesOnAlong}
-use Rattle.nfa_search_base.specs.WithCache.{WithCache, steps_whole}
-use Rattle.nfa_search_base.specs.Steps.{GivesItem, ends_at}
-use Rattle.nfa_search_base.specs.StoredRuns.{stored_match_steps}
-use Rattle.nfa_search_base.specs.Stored.{TakesStep, steps_iter_state, can_step, can_step_infallibly, takes_steps, takes_infallible_steps, steps_left, infallible_left}
-use Rattle.nfa_search_base.specs.declared.error.SearchError.{SearchError}
-use Rattle.nfa_search_base.specs.declared.iter.steps.Steps.{Steps}
+use Rattle.nfa_search_base.specs.Common.{IsCallableOn, SameButStart, Finds, Answer, AnswerIsInside, ends_left, Item, item_by, items_left, matches_left, matches_in, greedy_unless, ServesOnAlong, WithCache, steps_whole, GivesItem, ends_at, stored_match_steps, steps_iter_state, can_step, can_step_infallibly, takes_steps, takes_infallible_steps, steps_left, infallible_left, AlwaysYields, MakesProgress, Mut, result_transpose, Bor, SearchError, Steps}
 use Rattle.nfa_search_base.proofs.AskingLemmas.{Along-weaker}
 use Rattle.nfa_search_base.proofs.StepLemmas.{CallsOf, asks_in, chosen, Along-turn, Along-answer, step-whole}
 use Rattle.nfa_search_base.proofs.GreedyLemmas.{try-yields}
 
-no_err : {X : Type 0} (a : Answer X) (e : SearchError) → IsOk a → Some (Err e) ≡ item_of a → ⊥
+no_err : {X : Type 0} (a : Answer X) (e : SearchError) → IsOk a → Some (Err e) ≡ result_transpose a → ⊥
 no_err (Ok (Some x)) e ok is = cc
 no_err (Ok None) e ok is = cc
 no_err (Err x) e ok is = cc
@@ -55,23 +40,7 @@ module _ {S C T X Y : Type 0} (whole : WithCache S C → T) (calls : CallsOf T X
     (r : Option (Result Y SearchError))
     (st : takes_steps calls.span (asks_in whole calls) (λ q. calls.gives (whole q)) s r t) where
   pub takes-whole : steps_by calls (steps_whole whole s) r (steps_whole whole t)
-  takes-whole = of s.done st
-    where
-      of : (b : Bool)
-          → MatchBool b ((r ≡ None) × (t ≡ s)) (TakesStep calls.span (asks_in whole calls)
-          (λ q. calls.gives (whole q)) s r t)
-          → MatchBool b ((r ≡ None) × (steps_whole whole t ≡ steps_whole whole s))
-          (TakesStep calls.span calls.asks calls.gives (steps_whole whole s) r (steps_whole whole t))
-      of true k = (k.0, ap (steps_whole whole) k.1)
-      of false k = record {
-        answer = k.answer;
-        step = step-whole whole calls k.step;
-        item = k.item;
-        ends = k.ends;
-        rises = k.rises;
-        same = k.same;
-        fewer = k.fewer;
-      }
+  takes-whole = grind (arith, step-whole)
 
   pub progress-whole : can_step calls.accepts calls.asks calls.span (steps_whole whole s)
       → MakesProgress (can_step calls.accepts calls.asks calls.span) steps_left (steps_whole whole s) r

@@ -1,23 +1,7 @@
 -- the iterators over captures
-use Rattle.std.proofs.Common.{◌≡◌, ℕ, zero, suc, ◌+◌, ◌<◌, true, false, Bool, Option, None, Some, Result, Ok, Err, IsOk, IfOk, List, [], ◌∷◌, map, refl, sym, ◌∙◌, ap, subst, inl, inr, arith}
-use Rattle.std.specs.Fn.{Called, Mut}
-use Rattle.std.specs.Borrow.{Bor, MutBor}
-use Rattle.std.specs.Iterator.{Drains, Yields}
-use Rattle.std.specs.declared.vec.Vec.{Vec}
-use Rattle.std.specs.Vec.{vec_items}
+use Rattle.nfa_paths.proofs.Common.{◌≡◌, ℕ, zero, suc, ◌+◌, ◌<◌, true, false, Bool, Option, None, Some, Result, Ok, Err, IsOk, IfErr, IfOk, IfSome, List, [], ◌∷◌, map, refl, sym, ◌∙◌, ap, subst, inl, inr, arith, Search, search_of, Captured, Input}
 use Rattle.std.proofs.lemmas.Iterator.{IsCollectResult}
-use Rattle.nfa_paths.specs.Common.{Search, search_of, Captured}
-use Rattle.regex_search_core.specs.declared.search.Input.{Input}
-use Rattle.nfa_search_base.specs.Asking.{SameButStart}
-use Rattle.nfa_search_base.specs.IterStates.{IterState, Answer, ends_left}
-use Rattle.nfa_search_base.specs.Items.{Item, item_by, items_left, items_from, items_within, step_answer, step_iter_state, greedy, greedy_unless}
-use Rattle.nfa_search_base.specs.Steps.{ends_at}
-use Rattle.nfa_search_base.specs.Stored.{steps_iter_state, can_step_infallibly, takes_steps}
-use Rattle.nfa_search_base.specs.WithCaptures.{Row, row_of, row_span, WithCaptures, GivesCaptures, IsAtMostMemory, UpToRefusal, YieldsUpToRefusal, filled_answer, CanFill, Fills, FillsAlong, FillsBy}
-use Rattle.nfa_search_base.specs.CapturesSteps.{takes_infallible_captures}
-use Rattle.nfa_search_base.specs.declared.error.SearchError.{SearchError}
-use Rattle.nfa_search_base.specs.declared.error.SearchError.TheVariants.{Memory}
-use Rattle.nfa_search_base.specs.declared.iter.steps.Steps.{Steps}
+use Rattle.nfa_search_base.specs.Common.{SameButStart, IterState, Answer, ends_left, Item, item_by, items_left, items_from, items_within, step_answer, step_iter_state, greedy, greedy_unless, ends_at, steps_iter_state, can_step_infallibly, takes_steps, Row, row_of, row_span, WithCaptures, GivesCaptures, UpToRefusal, YieldsUpToRefusal, filled_answer, CanFill, Fills, FillsAlong, FillsBy, takes_infallible_captures, Called, Mut, Bor, MutBor, Drains, Yields, Vec, vec_items, SearchError, Memory, Steps}
 use Rattle.nfa_search_base.proofs.AskingLemmas.{ServesOnAlong-by}
 use Rattle.nfa_search_base.proofs.StepLemmas.{chosen, step-taken, Along-answer, Along-turn}
 use Rattle.nfa_search_base.proofs.GreedyLemmas.{step-computes}
@@ -42,9 +26,7 @@ at_some : {F : Type 0} (c : WithCaptures F) (a : Answer Row) (rest : List (Item 
     → GivesCaptures c a (Some x)
     → (ends_at (Some x) ≡ true → xs ≡ []) → (ends_at (Some x) ≡ false → UpToRefusal rest xs)
     → UpToRefusal (items_from row_span a rest) (value x ∷ xs)
-at_some c (Ok (Some m)) rest (Ok d) xs (inl h) end onward =
-    let same : d ≡ c.captures = cc in
-    inl (ap (λ (z : Row). Ok z) (ap row_of same ∙ h.1), onward refl)
+at_some c (Ok (Some m)) rest (Ok d) xs (inl h) end onward = grind (arith)
 at_some c (Ok (Some m)) rest (Err e) xs (inr h) end onward =
     let same : e ≡ Memory = cc in inr (refl, ap (λ (z : SearchError). Err z) same, end refl)
 at_some c (Err e) rest (Err f) xs h end onward =
@@ -55,7 +37,7 @@ at_some c a rest x xs h end onward = cc
 
 -- if the finder does not fail, the only error is `Memory`
 at_most : {F : Type 0} (c : WithCaptures F) (a : Answer Row) (r : Option Caught) → IsOk a → GivesCaptures c a r
-    → IsAtMostMemory r
+    → IfSome r (λ item. IfErr item (λ error. error ≡ Memory))
 at_most c a None ok h = tt
 at_most c a (Some (Ok d)) ok h = tt
 at_most c (Ok (Some m)) (Some (Err e)) ok (inl h) = cc
@@ -142,17 +124,14 @@ module _ {F : Type 0} (g : Mut F (Bor Input × (MutBor Captured × Unit {0}))
       (λ (q : WithCaptures F). Inv q.finder q.captures) c s now
       (λ q t same inv p m e k. may q.finder p m (rw e same) (rw k inv))
       (λ q t a q' same inv filled.
-      let asked = filled.asked in
-      let k = says q.finder asked.shown asked.lent filled.reply asked.left q'.finder (rw asked.shows same)
-      (rw asked.lends inv) asked.called in
-      (rw filled.answers (rw (asked.shows, asked.leaves) at k.0), rw asked.leaves at k.1))
+      let told = says q.finder filled.shown filled.lent filled.reply filled.left q'.finder in
+      let k = told (rw filled.shows same) (rw filled.lends inv) filled.called in
+      (rw filled.answers (rw (filled.shows, filled.leaves) at k.0), rw filled.leaves at k.1))
 
 -- what `collect` makes of such an iterator
 pub refusal_from_collect : {T R X Z E : Type 0} {steps : T → Option R → T → Type 0} {worth : R → Item X} {s : T}
     {all : List (Item X)} (r : Result (Vec R Z) E)
     → IsCollectResult steps s r → YieldsUpToRefusal steps worth s all
     → IfOk r (λ w. UpToRefusal all (map worth (vec_items w)))
-refusal_from_collect {R = R} {worth = worth} {all = all} (Ok w) d e =
-    let end = d.1.2 tt in subst (λ (ys : List R). UpToRefusal all (map worth ys)) (sym d.2.0)
-    (e.at d.0 (end.0, (d.1.0, d.1.1, end.1)))
+refusal_from_collect {R = R} {worth = worth} {all = all} (Ok w) d e = grind (arith)
 refusal_from_collect (Err x) d e = tt

@@ -1,11 +1,12 @@
 -- The searches of an iteration by an engine: what they need, answer and leave.
-use Rattle.std.specs.Prelude.{◌≡◌, ◌==◌, ◌+◌, ◌-◌, ℕ, Option, None, Some, Ok, Err, if◌then◌else◌, option_map}
+use Rattle.std.specs.Prelude.{◌≡◌, ◌==◌, ◌+◌, ◌-◌, ℕ, if◌then◌else◌, List, [], ◌∷◌, Option, None, Some, option_map, Ok, Err}
 use Rattle.std.specs.Option.{ForSome}
-use Rattle.nfa_paths.specs.Common.{Found, found_of, Search, Match, Automaton}
-use Rattle.nfa_search_base.specs.WithCaptures.{WithCaptures, Row}
-use Rattle.nfa_search_base.specs.CapturesLists.{HasGroups}
-use Rattle.nfa_search_base.specs.WithCache.{WithCache}
-use Rattle.nfa_search_base.specs.IterStates.{Answer}
+use Rattle.std.specs.Result.{result_unwrap_or}
+use Rattle.nfa_paths.specs.Common.{Automaton, Found, Match, Search, Span, found_of}
+use Rattle.nfa_search_base.specs.IterStates.{Advances, Answer, IterState, fresh, span_of}
+use Rattle.nfa_search_base.specs.Lists.{HasGroups}
+use Rattle.nfa_search_base.specs.Stored.{WithCache}
+use Rattle.nfa_search_base.specs.WithCaptures.{Row, WithCaptures}
 
 -- an engine of an iteration, and the match of the next search if it is already known
 pub record Knowing (E : Type 0) : Type 0 where
@@ -24,8 +25,7 @@ if_ends_at n (Some m) = if m.end == n then Some m else None
 
 -- the match of the answer
 abbrev pub found_in : Answer Found → Option Found
-found_in (Ok found) = found
-found_in (Err e) = None
+found_in a = result_unwrap_or a None
 
 -- where the last scan started, of a search that made this many
 abbrev pub last_start : Search → ℕ → ℕ
@@ -87,3 +87,52 @@ module _ {E C : Type 0} (nfa : E → Automaton) where
     pub engine : t.backend.finder ≡ s.backend.finder
     pub holds : HasGroups (nfa s.backend.finder) t.backend.captures
     pub work : Work s.backend.finder x a s.cache t.cache
+
+-- One search of x gives this answer, as `Tells` says, and does its `Work` with the borrowed state.
+pub record DoesSearch {C X : Type 0} (Tells : Search → Answer X → Type 0)
+    (Work : Search → Answer X → C → C → Type 0) (old : C) (x : Search) (a : Answer X) (new : C) : Type 0 where
+  pub tells : Tells x a
+  pub work : Work x a old new
+
+-- the answers of an iteration that runs to its end: these matches, and then none
+abbrev pub answers_to_end : {X : Type 0} → List X → List (Answer X)
+answers_to_end [] = Ok None ∷ []
+answers_to_end (m ∷ ms) = Ok (Some m) ∷ answers_to_end ms
+
+-- A match is an X. `span` gives its span. `asks` is a search.
+module _ {S X : Type 0} (span : X → Span) (asks : S → Search → Answer X → S → Type 0) where
+  -- Steps from w on gave these answers in order, and only their searches led from s to t. An answer without a match is
+  -- the last one.
+  abbrev pub StepsLead : IterState → S → List (Answer X) → S → Type 0
+  StepsLead w s [] t = t ≡ s
+  StepsLead w s (Ok (Some x) ∷ rest) t =
+      (u : S) × (v : IterState) × Advances span asks s w (Ok (Some x)) u v × StepsLead v u rest t
+  StepsLead w s (Ok None ∷ rest) t = (v : IterState) × Advances span asks s w (Ok None) t v × (rest ≡ [])
+  StepsLead w s (Err e ∷ rest) t = (v : IterState) × Advances span asks s w (Err e) t v × (rest ≡ [])
+
+  -- only the searches of the steps of an iteration over x led from s to t, as far as the iteration went
+  pub record Leaves (x : Search) (s t : S) : Type 0 where
+    pub answers : List (Answer X)
+    pub steps : StepsLead (fresh x) s answers t
+
+  -- the iteration went to its end, and found these matches
+  pub record LeavesAtEnd (x : Search) (ms : List X) (s t : S) : Type 0 where
+    pub steps : StepsLead (fresh x) s (answers_to_end ms) t
+
+-- An iteration over matches, at first with none known, by searches that do `Work` with a cache, which counts `scans`.
+module _ {C : Type 0} (Tells : Search → Answer Found → Type 0) (Work : Search → Answer Found → C → C → Type 0)
+    (scans : C → ℕ) where
+  abbrev pub asks_keeping : Keeping C → Search → Answer Found → Keeping C → Type 0
+  asks_keeping = DoesSearch Tells (SearchesUnlessKnown Work scans)
+
+  -- the iteration led from the old cache to the new one, as far as it went
+  pub record FindsLeave (x : Search) (old new : C) : Type 0 where
+    pub known : Option Found
+    pub left : Leaves span_of asks_keeping x (record { cache = old; known = None })
+        (record { cache = new; known = known })
+
+  -- the iteration went to its end, and found these matches
+  pub record FindsLeaveAtEnd (x : Search) (ms : List Found) (old new : C) : Type 0 where
+    pub known : Option Found
+    pub left : LeavesAtEnd span_of asks_keeping x ms (record { cache = old; known = None })
+        (record { cache = new; known = known })

@@ -1,19 +1,71 @@
--- finders of matches that answer the searches of an iteration
-use Rattle.std.specs.Prelude.{◌≡◌, Option, None, Some, Result, Ok, Err}
-use Rattle.std.specs.Fn.{Mut}
+-- What answers the searches of an iteration: an engine, or a caller's finder.
+use Rattle.std.specs.Prelude.{◌≡◌, true, List, Option, Result, ⊤}
 use Rattle.std.specs.Borrow.{Bor}
-use Rattle.nfa_paths.specs.Common.{found_of, half_found_of, Search, HalfMatch, Match, Span}
-use Rattle.regex_search_core.specs.declared.search.Input.{Input}
-use Rattle.nfa_search_base.specs.Asking.{Asks, IsCallableOn, SameButStart}
-use Rattle.nfa_search_base.specs.Serving.{ServesOnAlong, ServesAdvance}
-use Rattle.nfa_search_base.specs.IterStates.{Answer, IterState, answer_span, AnswerIsInside, IsInfalliblyInside, span_of, half_span_of, Advances}
-use Rattle.nfa_search_base.specs.declared.error.SearchError.{SearchError}
+use Rattle.std.specs.Fn.{Called, Mut}
+use Rattle.std.specs.List.{FoldsTo}
+use Rattle.nfa_paths.specs.Common.{HalfMatch, Input, Match, Search, Span, found_of, half_found_of, search_of}
+use Rattle.nfa_search_base.specs.Items.{answer_by}
+use Rattle.nfa_search_base.specs.IterStates.{Advances, Answer, AnswerIsInside, ComesAfter, IsInfalliblyInside, IterState, LeavesFewer, LiesIn, SameButStart, SearchError, answer_span, half_span_of, repeats, shifted, span_of}
 
--- the reply as values
-abbrev pub answer_by : {A X : Type 0} → (A → X) → Result (Option A) SearchError → Answer X
-answer_by view (Ok (Some m)) = Ok (Some (view m))
-answer_by view (Ok None) = Ok None
-answer_by view (Err e) = Err e
+-- In the state s it `accepts` a search t. A call on t, as `asks` says, then gives a reply and leaves a state.
+module _ {S R : Type 0} (accepts : S → Search → Type 0) (asks : S → Search → R → S → Type 0) where
+  -- it may be called on this search, and P holds of its reply
+  pub record ServesOn (P : Search → R → Type 0) (s : S) (t : Search) : Type 0 where
+    pub callable : accepts s t
+    pub replies : (reply : R) (s' : S) → asks s t reply s' → P t reply
+
+  module _ (Same : Search → Search → Type 0) where
+    -- calls on searches that are the same as t led from s to s'
+    abbrev pub LeadsOn : Search → S → List (Search × R) → S → Type 0
+    LeadsOn t s calls s' = FoldsTo (λ p x q. Same t x.0 × asks p x.0 x.1 q) s calls s'
+
+    -- after some such calls from s, the next call, on u, may give this reply
+    pub record MayReply (s : S) (t u : Search) (reply : R) : Type 0 where
+      pub calls : List (Search × R)
+      pub between : S
+      pub left : S
+      pub leads : LeadsOn t s calls between
+      pub same : Same t u
+      pub asked : asks between u reply left
+
+    -- after any such calls, the next call may be made, and P holds of its reply
+    pub record ServesOnAlong (P : Search → R → Type 0) (s : S) (t : Search) : Type 0 where
+      pub at : (calls : List (Search × R)) (s' : S) (u : Search) → LeadsOn t s calls s' → Same t u → ServesOn P s' u
+
+-- Its replies are answers. `span` gives the spans of their matches.
+module _ {S X : Type 0} (accepts : S → Search → Type 0) (asks : S → Search → Answer X → S → Type 0)
+    (span : X → Span) where
+  -- P holds of its answers for a step of the iteration w. The step may call it once, and again one byte on if the first
+  -- answer is an empty match at the last end.
+  pub record ServesAdvance (P : Search → Answer X → Type 0) (s : S) (w : IterState) : Type 0 where
+    pub first : ServesOn accepts asks P s w.at
+    pub second : (a : Answer X) (s' : S) → asks s w.at a s' → repeats w (answer_span span a) ≡ true
+        → ServesOn accepts asks P s' (shifted w).at
+
+  -- The result of a step. It is one of the iteration. Its match is in the search's span, comes after the last one and
+  -- leaves fewer ends. Only the search's start moved.
+  pub record StepDone (s : S) (w : IterState) (a : Answer X) (s' : S) (w' : IterState) : Type 0 where
+    pub step : Advances span asks s w a s' w'
+    pub inside : LiesIn w.at (answer_span span a)
+    pub rises : ComesAfter w (answer_span span a)
+    pub fewer : LeavesFewer w (answer_span span a) w'
+    pub same : SameButStart w.at w'.at
+
+-- a search may always be made
+abbrev pub may_ask : {S : Type 0} → S → Search → Type 0
+may_ask s x = ⊤
+
+-- A caller's finder.
+module _ {F R : Type 0} (g : Mut F (Bor Input × Unit {0}) R) where
+  -- a call of the finder f on this search gave the reply, and left the finder as f'
+  pub record Asks (f : F) (s : Search) (reply : R) (f' : F) : Type 0 where
+    pub shown : Bor Input
+    pub shows : search_of shown.now ≡ s
+    pub called : Called g f (shown, tt) reply f'
+
+  -- the finder may be called on this search
+  abbrev pub IsCallableOn : F → Search → Type 0
+  IsCallableOn f s = (p : Bor Input) → search_of p.now ≡ s → g.pre f (p, tt)
 
 -- A finder replies with an A. `view` is its value.
 module _ {A X F : Type 0} (view : A → X) (g : Mut F (Bor Input × Unit {0}) (Result (Option A) SearchError)) where
@@ -32,39 +84,23 @@ module _ {A X F : Type 0} (view : A → X) (g : Mut F (Bor Input × Unit {0}) (R
   abbrev pub Computes : (Search → Answer X) → F → Search → Type 0
   Computes h f s = AnswersAlong (λ t a. a ≡ h t) f s
 
+  module _ (span : X → Span) where
+    -- the finder may be called for a step, and answers matches in the span
+    abbrev pub FindsStep : F → IterState → Type 0
+    FindsStep = ServesAdvance (IsCallableOn g) Finds span (AnswerIsInside span)
+
+    -- and it never fails
+    abbrev pub FindsStepInfallibly : F → IterState → Type 0
+    FindsStepInfallibly = ServesAdvance (IsCallableOn g) Finds span (IsInfalliblyInside span)
+
+    -- a step by the finder
+    abbrev pub StepsBy : F → IterState → Answer A → F → IterState → Type 0
+    StepsBy f w r f' w' = Advances span Finds f w (answer_by view r) f' w'
+
 -- the span of the match in the reply
-abbrev pub match_span : Result (Option Match) SearchError → Option Span
+abbrev pub match_span : Answer Match → Option Span
 match_span reply = answer_span span_of (answer_by found_of reply)
 
 -- the span of the half match in the reply: its offset, without bytes
-abbrev pub half_match_span : Result (Option HalfMatch) SearchError → Option Span
+abbrev pub half_match_span : Answer HalfMatch → Option Span
 half_match_span reply = answer_span half_span_of (answer_by half_found_of reply)
-
--- Finders of matches.
-module _ {F : Type 0} (g : Mut F (Bor Input × Unit {0}) (Result (Option Match) SearchError)) where
-  -- the finder may be called for a step, and answers matches in the span
-  abbrev pub FindsStep : F → IterState → Type 0
-  FindsStep = ServesAdvance (IsCallableOn g) (Finds found_of g) span_of (AnswerIsInside span_of)
-
-  -- and it never fails
-  abbrev pub FindsStepInfallibly : F → IterState → Type 0
-  FindsStepInfallibly = ServesAdvance (IsCallableOn g) (Finds found_of g) span_of (IsInfalliblyInside span_of)
-
-  -- a step by the finder
-  abbrev pub StepsBy : F → IterState → Result (Option Match) SearchError → F → IterState → Type 0
-  StepsBy f w r f' w' = Advances span_of (Finds found_of g) f w (answer_by found_of r) f' w'
-
--- Finders of half matches.
-module _ {F : Type 0} (g : Mut F (Bor Input × Unit {0}) (Result (Option HalfMatch) SearchError)) where
-  -- the finder may be called for a step, and answers offsets in the span
-  abbrev pub FindsHalfStep : F → IterState → Type 0
-  FindsHalfStep = ServesAdvance (IsCallableOn g) (Finds half_found_of g) half_span_of (AnswerIsInside half_span_of)
-
-  -- and it never fails
-  abbrev pub FindsHalfStepInfallibly : F → IterState → Type 0
-  FindsHalfStepInfallibly = ServesAdvance (IsCallableOn g) (Finds half_found_of g) half_span_of
-      (IsInfalliblyInside half_span_of)
-
-  -- a step by the finder
-  abbrev pub HalfStepsBy : F → IterState → Result (Option HalfMatch) SearchError → F → IterState → Type 0
-  HalfStepsBy f w r f' w' = Advances half_span_of (Finds half_found_of g) f w (answer_by half_found_of r) f' w'

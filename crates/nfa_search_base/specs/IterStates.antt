@@ -1,9 +1,10 @@
--- the steps of an iteration over the matches of a haystack
-use Rattle.std.specs.Prelude.{◌≡◌, ℕ, ◌+◌, ◌-◌, ◌<◌, ◌≤◌, max, Bool, false, ◌==◌, ◌&&◌, Option, None, Some, Result, Ok, Err, IsOk}
-use Rattle.std.specs.Bool.{MatchBool}
+-- The steps of an iteration over the matches of a haystack.
+use Rattle.std.specs.Prelude.{◌≡◌, ℕ, ◌+◌, ◌-◌, ◌<◌, ◌≤◌, max, Bool, false, ◌==◌, ◌&&◌, Option, None, Some, IfSome, Result, Ok, Err, IsOk}
 use Rattle.std.specs.Option.{ForSome}
 use Rattle.nfa_paths.specs.Common.{Found, HalfFound, Search, Span}
-use Rattle.nfa_search_base.specs.declared.error.SearchError.{SearchError}
+use Rattle.std.specs.Bool.{MatchBool}
+pub use Rattle.nfa_search_base.specs.declared.error.SearchError.{SearchError}
+pub use Rattle.nfa_search_base.specs.declared.error.SearchError.TheVariants.{HaystackTooLong, Memory}
 
 -- the answer of a search for an X: one, none, or an error
 abbrev pub Answer : Type 0 → Type 0
@@ -17,6 +18,17 @@ pub record IterState : Type 0 where
 -- an iteration before its first match
 abbrev pub fresh : Search → IterState
 fresh s = record { at = s; last = None }
+
+-- t is s, except for its start
+pub record SameButStart (s t : Search) : Type 0 where
+  pub haystack : t.haystack ≡ s.haystack
+  pub end : t.end ≡ s.end
+  pub anchored : t.anchored ≡ s.anchored
+  pub earliest : t.earliest ≡ s.earliest
+
+-- the last match, if there was one, ends at or before the start
+abbrev pub EndsBy : Option ℕ → ℕ → Type 0
+EndsBy last start = ForSome last (λ e. e ≤ start)
 
 -- the last match ended before the start
 abbrev pub IsPast : IterState → Type 0
@@ -43,8 +55,7 @@ ends_left w = w.at.end + 1 - first_end w.last
 
 -- the match is in the span of the search
 abbrev pub LiesIn : Search → Option Span → Type 0
-LiesIn s (Some p) = (s.start ≤ p.start) × (p.end ≤ s.end)
-LiesIn s None = Unit {0}
+LiesIn s match = IfSome match (λ p. (s.start ≤ p.start) × (p.end ≤ s.end))
 
 -- the match is empty and at the end of the last match
 abbrev pub repeats : IterState → Option Span → Bool
@@ -58,8 +69,7 @@ after w None = w
 
 -- the match starts at or after the last end, and ends after it
 abbrev pub ComesAfter : IterState → Option Span → Type 0
-ComesAfter w (Some p) = ForSome w.last (λ e. (e ≤ p.start) × (e < p.end))
-ComesAfter w None = Unit {0}
+ComesAfter w match = IfSome match (λ p. ForSome w.last (λ e. (e ≤ p.start) × (e < p.end)))
 
 -- a match leaves fewer ends, and no match leaves at most as many
 abbrev pub LeavesFewer : IterState → Option Span → IterState → Type 0

@@ -1,17 +1,12 @@
--- finders of captures
+-- Finders of captures.
 use Rattle.std.specs.Prelude.{◌≡◌, ◌⊎◌, ℕ, List, [], ◌∷◌, map, Option, None, Some, Result, Ok, Err, option_map, IsOk, unwrap_or}
-use Rattle.std.specs.Fn.{Called, Mut}
 use Rattle.std.specs.Borrow.{Bor, MutBor}
+use Rattle.std.specs.Fn.{Called, Mut}
 use Rattle.std.specs.Iterator.{Drains}
-use Rattle.nfa_paths.specs.Common.{Found, Search, search_of, Captured, match_of, Span}
-use Rattle.regex_search_core.specs.declared.search.Input.{Input}
-use Rattle.nfa_search_base.specs.SameBut.{SameButStart}
-use Rattle.nfa_search_base.specs.IterStates.{Answer, span_of}
+use Rattle.nfa_paths.specs.Common.{Captured, Found, Input, Search, Span, match_of, search_of}
+use Rattle.nfa_search_base.specs.Finders.{ServesOnAlong}
 use Rattle.nfa_search_base.specs.Items.{Item}
-use Rattle.nfa_search_base.specs.Serving.{ServesOnAlong}
-use Rattle.nfa_search_base.specs.WithCache.{WithCache}
-use Rattle.nfa_search_base.specs.declared.error.SearchError.{SearchError}
-use Rattle.nfa_search_base.specs.declared.error.SearchError.TheVariants.{Memory}
+use Rattle.nfa_search_base.specs.IterStates.{Answer, Memory, SameButStart, SearchError, span_of}
 
 -- the result of a search in captures: the pattern and the slots
 pub record Row : Type 0 where
@@ -29,23 +24,15 @@ row_found x = unwrap_or (match_of x.pattern x.slots) (record { pattern = 0; star
 abbrev pub row_span : Row → Span
 row_span x = span_of (row_found x)
 
--- the row of the captures, if they have a match
-abbrev pub matched_row : Captured → Option Row
-matched_row c = option_map (λ m. row_of c) (match_of c.pattern c.slots)
-
--- the answer of a call that left these captures and gave this reply
+-- the answer of a call that left these captures and gave this reply: their row, if they have a match
 abbrev pub filled_answer : Captured → Result (Unit {0}) SearchError → Answer Row
-filled_answer c (Ok u) = Ok (matched_row c)
+filled_answer c (Ok u) = Ok (option_map (λ m. row_of c) (match_of c.pattern c.slots))
 filled_answer c (Err e) = Err e
 
 -- a finder, and the captures that it is called with next
 pub record WithCaptures (F : Type 0) : Type 0 where
   pub finder : F
   pub captures : Captured
-
--- the captures that an iteration keeps, with a finder that it borrows
-abbrev pub with_finder : {F : Type 0} → WithCache Captured F → WithCaptures F
-with_finder s = record { finder = s.cache; captures = s.backend }
 
 -- the item is a copy of these captures, which hold the row, or the copy could not be allocated
 abbrev pub GivesCopy : Captured → Answer Row → Option (Result Captured SearchError) → Type 0
@@ -56,12 +43,6 @@ GivesCopy c (Err e) r = r ≡ Some (Err e)
 -- the item is a copy of the captures that the call left
 abbrev pub GivesCaptures : {F : Type 0} → WithCaptures F → Answer Row → Option (Result Captured SearchError) → Type 0
 GivesCaptures c a r = GivesCopy c.captures a r
-
--- the only error that the item may be is that of memory
-abbrev pub IsAtMostMemory : {Y : Type 0} → Option (Result Y SearchError) → Type 0
-IsAtMostMemory None = Unit {0}
-IsAtMostMemory (Some (Ok y)) = Unit {0}
-IsAtMostMemory (Some (Err e)) = e ≡ Memory
 
 -- the items of the list, or those before some match and then `Memory`
 abbrev pub UpToRefusal : {X : Type 0} → List (Item X) → List (Item X) → Type 0
@@ -77,30 +58,21 @@ pub record YieldsUpToRefusal {T R X : Type 0} (steps : T → Option R → T → 
 
 module _ {F : Type 0} (g : Mut F (Bor Input × (MutBor Captured × Unit {0}))
     (Result (Unit {0}) SearchError × (MutBor Captured × Unit {0}))) where
-  -- the finder may be called on this search, with these captures
-  abbrev pub IsCallableWith : F → Captured → Search → Type 0
-  IsCallableWith f c s = (p : Bor Input) (q : MutBor Captured) → search_of p.now ≡ s → q.now ≡ c → g.pre f (p, (q, tt))
+  -- the finder may be called on this search, with the captures that it keeps
+  abbrev pub CanFill : WithCaptures F → Search → Type 0
+  CanFill c s = (p : Bor Input) (q : MutBor Captured) → search_of p.now ≡ s → q.now ≡ c.captures
+      → g.pre c.finder (p, (q, tt))
 
-  -- a call of the finder f on this search, with the captures c, gave the reply, and left the finder as f' and the
-  -- captures as c'
-  pub record AsksWith (f : F) (c : Captured) (s : Search) (reply : Result (Unit {0}) SearchError) (f' : F)
-      (c' : Captured) : Type 0 where
+  -- a call of the finder on this search, with these captures, gave this answer, and left the finder and captures of c'
+  pub record Fills (c : WithCaptures F) (s : Search) (a : Answer Row) (c' : WithCaptures F) : Type 0 where
     pub shown : Bor Input
     pub lent : MutBor Captured
     pub shows : search_of shown.now ≡ s
-    pub lends : lent.now ≡ c
-    pub left : MutBor Captured
-    pub called : Called g f (shown, (lent, tt)) (reply, (left, tt)) f'
-    pub leaves : left.now ≡ c'
-
-  -- the finder may be called on this search, with the captures that it keeps
-  abbrev pub CanFill : WithCaptures F → Search → Type 0
-  CanFill c s = IsCallableWith c.finder c.captures s
-
-  -- such a call gives this answer
-  pub record Fills (c : WithCaptures F) (s : Search) (a : Answer Row) (c' : WithCaptures F) : Type 0 where
+    pub lends : lent.now ≡ c.captures
     pub reply : Result (Unit {0}) SearchError
-    pub asked : AsksWith c.finder c.captures s reply c'.finder c'.captures
+    pub left : MutBor Captured
+    pub called : Called g c.finder (shown, (lent, tt)) (reply, (left, tt)) c'.finder
+    pub leaves : left.now ≡ c'.captures
     pub answers : a ≡ filled_answer c'.captures reply
 
   -- after any calls on searches that differ from s only in their start, the next call may be made, and P holds of its

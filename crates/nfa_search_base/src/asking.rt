@@ -1,7 +1,7 @@
 //! A call of a finder that is borrowed.
 ghost use Rattle.regex_search_core.specs.Search.{search_of};
-ghost use Rattle.nfa_search_base.specs.Asking.{Asks, IsCallableOn};
-ghost use Rattle.nfa_search_base.specs.WithCaptures.{AsksWith, IsCallableWith};
+ghost use Rattle.nfa_search_base.specs.Finders.{Asks, IsCallableOn};
+ghost use Rattle.nfa_search_base.specs.WithCaptures.{CanFill, Fills, filled_answer};
 
 use crate::error::SearchError;
 use regex_search_core::{Captures, Input};
@@ -24,8 +24,9 @@ pub(crate) fn ask_with<F>(
 ) -> Result<(), SearchError>
 where
     F: FnMut(&Input<'_>, &mut Captures) -> Result<(), SearchError>,
-    requires { IsCallableWith F.FnMut finder.old captures.old (search_of input.now) }
-    ensures { AsksWith F.FnMut finder.old captures.old (search_of input.now) result finder.new captures.new }
+    requires { CanFill F.FnMut (record { finder = finder.old; captures = captures.old }) (search_of input.now) }
+    ensures { Fills F.FnMut (record { finder = finder.old; captures = captures.old }) (search_of input.now)
+        (filled_answer captures.new result) (record { finder = finder.new; captures = captures.new }) }
 {
     finder(input, captures)
 }

@@ -1,21 +1,22 @@
 -- the groups of captures, and their slots
-use Rattle.std.proofs.Common.{◌≡◌, ℕ, zero, suc, ◌+◌, ◌*◌, ◌<◌, ◌≤◌, length, Some, slice_get, refl, ap, arith, tests, add-one}
-use Rattle.regex_search_core.specs.CapturesIters.{spans_at}
+use Rattle.std.proofs.Common.{◌≡◌, ℕ, zero, suc, ◌+◌, ◌*◌, ◌<◌, ◌≤◌, length, map, Some, None, slice_get, refl, ap, ◌∙◌, arith, tests, add-one}
+use Rattle.std.specs.List.{range_with_len}
+use Rattle.std.proofs.lemmas.List.FromFn.{length-map-range_with_len, get_or-map-range_with_len}
+use Rattle.std.proofs.lemmas.Option.{slice_get-get_or}
 use Rattle.regex_search_core.specs.Groups.{explicit_slot, groups_at, slot_at}
-use Rattle.regex_search_core.specs.Slots.{Captured, captured_count, group_span, group_spans, spans_from}
+use Rattle.regex_search_core.specs.Slots.{Captured, captured_count, group_span, group_spans, spans_at}
 
 -- there are as many spans as groups
-pub length-spans_from : (c : Captured) (i n : ℕ) → length (spans_from c i n) ≡ n
-length-spans_from c i zero = refl
-length-spans_from c i (suc n) = ap suc (length-spans_from c (i + 1) n)
+pub length-group_spans : (c : Captured) → length (group_spans c) ≡ captured_count c
+length-group_spans c = length-map-range_with_len (group_span c) 0 (captured_count c)
 
 -- each is that of its group
-pub get-spans_from : (c : Captured) (i n k : ℕ) → k < n → slice_get (spans_from c i n) k ≡ Some (group_span c (i + k))
-get-spans_from c i zero k h = absurd (omega arith)
-get-spans_from c i (suc n) zero h = grind arith
-get-spans_from c i (suc n) (suc k) h =
-    let same : i + 1 + k ≡ i + suc k = omega arith in
-    rw (← same) (get-spans_from c (i + 1) n k (omega arith))
+pub get-group_spans : (c : Captured) (k : ℕ) → k < captured_count c
+    → slice_get (group_spans c) k ≡ Some (group_span c k)
+get-group_spans c k h =
+    let inside : k < length (group_spans c) = rw (length-group_spans c) h in
+    slice_get-get_or (group_spans c) k None inside
+    ∙ ap Some (get_or-map-range_with_len (group_span c) 0 (captured_count c) k k None h (omega arith))
 
 module _ (c : Captured) (p : ℕ) (is : c.pattern ≡ Some p) (known : p < length c.groups) where
   -- the slots of the groups of the pattern
@@ -29,24 +30,25 @@ module _ (c : Captured) (p : ℕ) (is : c.pattern ≡ Some p) (known : p < lengt
   -- the spans of explicit groups, each two slots after the one before
   explicit_spans : (i n : ℕ) → i + n ≤ length (groups_at c.groups p)
       → spans_at c.slots (explicit_slot c.groups p + 2 * i) (explicit_slot c.groups p + 2 * i + 2) n
-      ≡ spans_from c (i + 1) n
+      ≡ map (group_span c) (range_with_len (i + 1) n)
   explicit_spans i zero h = refl
   explicit_spans i (suc n) h =
       let next : explicit_slot c.groups p + 2 * (i + 1) ≡ explicit_slot c.groups p + 2 * i + 2 = omega arith in
       let here : slot_at c.groups p (i + 1) ≡ Some (explicit_slot c.groups p + 2 * i) =
       slot_at-explicit i (omega arith) in
       let rest : spans_at c.slots (explicit_slot c.groups p + 2 * i + 2) (explicit_slot c.groups p + 2 * i + 2 + 2) n
-      ≡ spans_from c (i + 1 + 1) n
+      ≡ map (group_span c) (range_with_len (i + 1 + 1) n)
       = rw next at (explicit_spans (i + 1) n (omega arith)) in
       rw (is, here, rest) refl
 
   -- and after that of group 0
   first_spans : (n : ℕ) → n ≤ length (groups_at c.groups p)
-      → spans_at c.slots (2 * p) (explicit_slot c.groups p) (suc n) ≡ spans_from c 0 (suc n)
+      → spans_at c.slots (2 * p) (explicit_slot c.groups p) (suc n) ≡ map (group_span c) (range_with_len 0 (suc n))
   first_spans n h =
       let start : explicit_slot c.groups p + 2 * 0 ≡ explicit_slot c.groups p = omega arith in
-      let rest : spans_at c.slots (explicit_slot c.groups p) (explicit_slot c.groups p + 2) n ≡ spans_from c 1 n =
-      rw start at (explicit_spans 0 n (omega arith)) in
+      let rest : spans_at c.slots (explicit_slot c.groups p) (explicit_slot c.groups p + 2) n
+      ≡ map (group_span c) (range_with_len 1 n)
+      = rw start at (explicit_spans 0 n (omega arith)) in
       rw (is, slot_at-first, rest) refl
 
   all_spans : spans_at c.slots (2 * p) (explicit_slot c.groups p) (length (groups_at c.groups p) + 1) ≡ group_spans c
@@ -63,4 +65,4 @@ spans_at-groups c p first explicit count is known at from many =
     rw (twice, from, many) (all_spans c p is known)
 
 -- the list of spans, by its length and its places
-pub ruleset spans_are_of_groups = (length-spans_from, get-spans_from)
+pub ruleset spans_are_of_groups = (length-group_spans, get-group_spans)

@@ -1,8 +1,10 @@
 -- slots, and the match that two of them give
-use Rattle.std.specs.Prelude.{ℕ, zero, suc, ◌+◌, ◌*◌, List, [], ◌∷◌, length, Option, Some, None, option_map, option_and_then, if◌then◌else◌, nat_le, slice_get, slice_range}
+use Rattle.std.specs.Prelude.{ℕ, zero, suc, ◌+◌, ◌*◌, List, [], ◌∷◌, length, map, Option, Some, None, option_map, option_and_then, if◌then◌else◌, nat_le, slice_get, slice_range}
+use Rattle.std.specs.List.{range_with_len}
 use Rattle.std.specs.Option.{option_map_or}
 use Rattle.regex_search_core.specs.Found.{Found}
 use Rattle.regex_search_core.specs.Groups.{group_count, slot_at, group_named}
+use Rattle.regex_search_core.specs.declared.captures.groups.CapturesPatternIter.{CapturesPatternIter}
 use Rattle.regex_search_core.specs.declared.search.Span.{Span}
 
 -- the result of a search: the groups, the pattern if one matched, and the slots
@@ -44,14 +46,18 @@ named_span captures name =
 abbrev pub captured_count : Captured → ℕ
 captured_count captures = option_map_or (group_count captures.groups) captures.pattern 0
 
--- the spans of n groups, beginning with this group
-abbrev pub spans_from : Captured → ℕ → ℕ → List (Option Span)
-spans_from captures group zero = []
-spans_from captures group (suc n) = group_span captures group ∷ spans_from captures (group + 1) n
-
 -- the spans of all groups of the pattern that is set, in order
 abbrev pub group_spans : Captured → List (Option Span)
-group_spans captures = spans_from captures 0 (captured_count captures)
+group_spans captures = map (group_span captures) (range_with_len 0 (captured_count captures))
+
+-- the spans of n groups: the span at one slot, then those from another slot on, two slots apart
+abbrev pub spans_at : List (Option ℕ) → ℕ → ℕ → ℕ → List (Option Span)
+spans_at slots next explicit zero = []
+spans_at slots next explicit (suc n) = span_at slots next ∷ spans_at slots explicit (explicit + 2) n
+
+-- the spans of the groups still to come
+abbrev pub spans_left : CapturesPatternIter → List (Option Span)
+spans_left s = spans_at s.slots.now s.next s.explicit s.left
 
 -- the bytes of the haystack at the span of the group, if there is one and it ends within the haystack
 abbrev pub text_of_group : Captured → List ℕ → ℕ → Option (List ℕ)

@@ -1,25 +1,16 @@
 -- The first elements of a list, as many as a limit says.
-use Rattle.std.proofs.Common.{◌≡◌, ◌∙◌, ℕ, ◌-◌, List, length, map, take, All, refl, ap, arith, Option, None, Some}
-use Rattle.std.proofs.lemmas.List.{length-map, length-take}
+use Rattle.std.proofs.Common.{◌≡◌, ℕ, List, length, map, All, arith, Option, None, Some}
+use Rattle.std.proofs.lemmas.List.{length-map, length-take, take-map}
 use Rattle.std.proofs.lemmas.List.Elements.{All-take}
 use Rattle.regex_search_core.specs.Search.{Search}
 use Rattle.regex_search_core.specs.Slots.{Captured}
-use Rattle.nfa_engines.specs.CapturesRuns.{match_in}
-use Rattle.nfa_engines.specs.Lists.{AreDisjoint}
-use Rattle.nfa_meta.proofs.CaughtLemmas.{first-apart, take-map}
-use Rattle.replacer.specs.Replaced.{left_after, limited}
+use Rattle.nfa_search_base.specs.Common.{match_in, AreDisjoint}
+use Rattle.nfa_meta.proofs.CaughtLemmas.{first-apart}
+use Rattle.replacer.specs.Printed.{left_after, limited}
 
 pub limited-map : {A B : Type 0} (f : A → B) (limit : Option ℕ) (xs : List A)
     → limited limit (map f xs) ≡ map f (limited limit xs)
-limited-map f None xs = refl
-limited-map f (Some n) xs = take-map f n xs
-
--- what is left after the first ones is what is left after all
-pub left-limited : {A : Type 0} (limit : Option ℕ) (xs : List A)
-    → left_after limit (length (limited limit xs)) ≡ left_after limit (length xs)
-left-limited None xs = refl
-left-limited (Some n) xs =
-    let same : n - length (take n xs) ≡ n - length xs = omega (arith, length-take n xs) in ap Some same
+limited-map f limit xs = grind (arith, take-map)
 
 pub limited-all : {A : Type 0} (P : A → Type 0) (limit : Option ℕ) (xs : List A) → All P xs → All P (limited limit xs)
 limited-all P None xs h = h
@@ -34,5 +25,4 @@ limited-disjoint x (Some n) cs h = first-apart x n cs h
 pub left-caught : {A B : Type 0} (f : A → B) (limit : Option ℕ) (hits : List A) (caught : List B) (count : ℕ)
     → count ≡ length caught → caught ≡ map f (limited limit hits)
     → left_after limit count ≡ left_after limit (length hits)
-left-caught f limit hits caught count counts are =
-    ap (left_after limit) (counts ∙ ap length are ∙ length-map (limited limit hits) f) ∙ left-limited limit hits
+left-caught f limit hits caught count counts are = grind (arith, length-map, length-take)

@@ -1,31 +1,22 @@
 -- From the matches and captures of a text to the hits of what the pattern means.
 use Rattle.std.proofs.Common.{◌≡◌, ◌∙◌, ℕ, ◌+◌, ◌-◌, ◌≤◌, ◌<◌, ◌⊎◌, inl, inr, Bool, true, false, List, [], ◌∷◌, length, map, take, All, arith, refl, sym, ap, ap₂, subst, Option, None, Some, if◌then◌else◌}
 use Rattle.std.specs.List.{AllByRecursion}
+use Rattle.std.specs.Prelude.{IsUtf8}
 use Rattle.std.proofs.lemmas.Bool.{cases_lt, lt-ltb, le-ltb}
 use Rattle.std.proofs.lemmas.List.{take-append-le, take_all}
 use Rattle.std.proofs.lemmas.List.Elements.{recursion_from_All}
-use Rattle.regex_hir.specs.Re.{Re}
-use Rattle.regex_hir.specs.Text.{is_boundary}
+use Rattle.nfa_compiler.specs.Common.{Re, find_all_str, is_boundary, all_hits, hits_from, row_of_hit, LosesNoHit, boundary_hit, expected_on_boundary, on_boundary, res_of, IsLeftmostToTheEnd, hit, PatternHit, found_at, pick, all_str_hits, str_hit}
+use Rattle.nfa_compiler.specs.Laws.{AllHitsAreFindAll, InBytes, InStrFromAnyStart, MatchesAreAllOfTexts, RowsAreAllOfTexts}
 use Rattle.regex_search_core.specs.Found.{Found}
 use Rattle.regex_search_core.specs.Search.{Search, whole}
 use Rattle.regex_search_core.specs.Slots.{Captured}
 use Rattle.nfa_engines.specs.Automaton.{Automaton}
-use Rattle.nfa_engines.specs.WithCaptures.{Row, row_of}
-use Rattle.nfa_engines.specs.CapturesLists.{AreRows, HasGroups}
-use Rattle.nfa_engines.specs.Lists.{AreFirstMatches, AreMatches}
+use Rattle.nfa_search_base.specs.Common.{Row, row_of, AreRows, HasGroups, AreFirstMatches, AreMatches}
 use Rattle.nfa_engines.specs.Paths.{is_utf8_empty}
 use Rattle.nfa_search_base.proofs.ListLemmas.{matches-exist, matches-rest}
-use Rattle.nfa_compiler.specs.AllHits.{all_hits, hits_from, row_of_hit}
-use Rattle.nfa_compiler.specs.AllLaws.{MatchesAreAllOfTexts, RowsAreAllOfTexts}
-use Rattle.nfa_compiler.specs.AnyStart.{LosesNoHit}
-use Rattle.nfa_compiler.specs.BoundaryHits.{boundary_hit, expected_on_boundary, on_boundary}
-use Rattle.nfa_compiler.specs.Compiled.{res_of}
-use Rattle.nfa_compiler.specs.Laws.{IsLeftmostToTheEnd, hit}
-use Rattle.nfa_compiler.specs.Patterns.{PatternHit, found_at, pick}
-use Rattle.nfa_compiler.specs.StrLaws.{AllHitsAreFindAllStr, MatchesAreAllOfStrs, RowsAreAllOfStrs}
 use Rattle.nfa_compiler.proofs.AllSearchLemmas.{AreAnsweredBy, all-matches, all-rows}
 use Rattle.nfa_compiler.proofs.AnswerLemmas.{answered-alike}
-use Rattle.nfa_compiler.proofs.BoundLemmas.{boundary-lies}
+use Rattle.nfa_compiler.proofs.EachLemmas.{boundary-lies}
 use Rattle.nfa_compiler.proofs.BoundarySearchLemmas.{boundary-answered}
 use Rattle.nfa_compiler.proofs.MeantLemmas.{AreAlike, all-meant, first-alike, pick-alike}
 use Rattle.nfa_compiler.proofs.UnboundLemmas.{boundary-unbound, hit-unbound, loses-none, texts-lose-none}
@@ -119,22 +110,33 @@ module _ (pattern : Sought) (re : Re) (r : ChoiceState) (text : List ℕ) (bytes
       ap₂ (λ (from : ℕ → Option PatternHit) (first : Option PatternHit). hits_from from (length text + 1) first) all
       (same-from 0)
 
-  module _ (texts : MatchesAreAllOfTexts) (strs : MatchesAreAllOfStrs) (found : AllHitsAreFindAllStr) where
+  -- items of all hits of the NFA are those of all hits of the pattern
+  of-all : {A : Type 0} (items : List A) (item : PatternHit → A) (hits : List PatternHit)
+      → (is_utf8_empty r.nfa ≡ true → items ≡ map item (hits_in re true text))
+      → (is_utf8_empty r.nfa ≡ false → items ≡ map item (all_hits (re ∷ []) r.nfa (whole text)))
+      → (IsUtf8 text → items ≡ map item (all_str_hits (re ∷ []) r.nfa (whole text)))
+      → AllHitsAreFindAll str_hit find_all_str
+      → AreAllHits re (is_utf8_empty r.nfa) text hits → items ≡ map item hits
+  of-all items item hits on-boundary texts strs found (inl e) =
+      by-mode (is_utf8_empty r.nfa) refl ∙ ap (map item) (sym e)
+    where
+      by-mode : (b : Bool) → is_utf8_empty r.nfa ≡ b → items ≡ map item (hits_in re b text)
+      by-mode true mode = on-boundary mode
+      by-mode false mode = texts mode ∙ ap (map item) plain
+  of-all items item hits on-boundary texts strs found (inr (utf8, e)) =
+      strs utf8 ∙ ap (map item) (found re r.nfa (whole text) kept refl refl refl ∙ sym e)
+
+  module _ (texts : MatchesAreAllOfTexts InBytes hit) (strs : MatchesAreAllOfTexts InStrFromAnyStart str_hit)
+      (found : AllHitsAreFindAll str_hit find_all_str) where
     pub matches-are : (ms : List Found) → AreMatches r.nfa (kind_in r) false (whole text) ms
         → (hits : List PatternHit)
         → AreAllHits re (is_utf8_empty r.nfa) text hits → ms ≡ map found_at hits
-    matches-are ms are hits (inl e) = by-mode (is_utf8_empty r.nfa) refl ∙ ap (map found_at) (sym e)
-      where
-        by-mode : (b : Bool) → is_utf8_empty r.nfa ≡ b → ms ≡ map found_at (hits_in re b text)
-        by-mode true mode = all-matches (answered mode) ms (rw of.search.leftmost at are)
-        by-mode false mode =
-            texts (syntax_of pattern) (pattern.text ∷ []) (re ∷ []) r.nfa (kind_in r) false (whole text) ms
-            of.search.compiled (of.meant, tt) mode leftmost bytes are
-            ∙ ap (map found_at) plain
-    matches-are ms are hits (inr (utf8, e)) =
-        strs (syntax_of pattern) (pattern.text ∷ []) (re ∷ []) r.nfa (kind_in r) false (whole text) ms
-        of.search.compiled (of.meant, tt) of.search.compiled.mode of.search.free leftmost utf8 are
-        ∙ ap (map found_at) (found re r.nfa (whole text) kept refl refl refl ∙ sym e)
+    matches-are ms are hits =
+        of-all ms found_at hits (λ mode. all-matches (answered mode) ms (rw of.search.leftmost at are))
+        (λ mode. texts (syntax_of pattern) (pattern.text ∷ []) (re ∷ []) r.nfa (kind_in r) false (whole text) ms
+        of.search.compiled (of.meant, tt) mode leftmost bytes are)
+        (λ utf8. strs (syntax_of pattern) (pattern.text ∷ []) (re ∷ []) r.nfa (kind_in r) false (whole text) ms
+        of.search.compiled (of.meant, tt) of.search.compiled.mode of.search.free leftmost utf8 are) found
 
     pub first-are : (ms : List Found) (count : ℕ) → AreFirstMatches r.nfa (kind_in r) false (whole text) ms
         → (length ms ≡ count) ⊎ AreMatches r.nfa (kind_in r) false (whole text) ms → length ms ≤ count
@@ -150,21 +152,16 @@ module _ (pattern : Sought) (re : Re) (r : ChoiceState) (text : List ℕ) (bytes
         let is = matches-are ms are hits h in
         is ∙ sym (take_all count (map found_at hits) (subst (λ (l : List Found). length l ≤ count) is few))
 
-  module _ (texts : RowsAreAllOfTexts) (strs : RowsAreAllOfStrs) (found : AllHitsAreFindAllStr) where
+  module _ (texts : RowsAreAllOfTexts InBytes hit) (strs : RowsAreAllOfTexts InStrFromAnyStart str_hit)
+      (found : AllHitsAreFindAll str_hit find_all_str) where
     rows-are : (rows : List Row) → AreRows r.nfa (kind_in r) false (whole text) rows → (hits : List PatternHit)
         → AreAllHits re (is_utf8_empty r.nfa) text hits → rows ≡ map (row_of_hit r.nfa) hits
-    rows-are rows are hits (inl e) = by-mode (is_utf8_empty r.nfa) refl ∙ ap (map (row_of_hit r.nfa)) (sym e)
-      where
-        by-mode : (b : Bool) → is_utf8_empty r.nfa ≡ b → rows ≡ map (row_of_hit r.nfa) (hits_in re b text)
-        by-mode true mode = all-rows (answered mode) rows (rw of.search.leftmost at are)
-        by-mode false mode =
-            texts (syntax_of pattern) (pattern.text ∷ []) (re ∷ []) r.nfa (kind_in r) false (whole text) rows
-            of.search.compiled (of.meant, tt) mode leftmost bytes are
-            ∙ ap (map (row_of_hit r.nfa)) plain
-    rows-are rows are hits (inr (utf8, e)) =
-        strs (syntax_of pattern) (pattern.text ∷ []) (re ∷ []) r.nfa (kind_in r) false (whole text) rows
-        of.search.compiled (of.meant, tt) of.search.compiled.mode of.search.free leftmost utf8 are
-        ∙ ap (map (row_of_hit r.nfa)) (found re r.nfa (whole text) kept refl refl refl ∙ sym e)
+    rows-are rows are hits =
+        of-all rows (row_of_hit r.nfa) hits (λ mode. all-rows (answered mode) rows (rw of.search.leftmost at are))
+        (λ mode. texts (syntax_of pattern) (pattern.text ∷ []) (re ∷ []) r.nfa (kind_in r) false (whole text) rows
+        of.search.compiled (of.meant, tt) mode leftmost bytes are)
+        (λ utf8. strs (syntax_of pattern) (pattern.text ∷ []) (re ∷ []) r.nfa (kind_in r) false (whole text) rows
+        of.search.compiled (of.meant, tt) of.search.compiled.mode of.search.free leftmost utf8 are) found
 
     pub caught-are : (cs : List Captured) → AreRows r.nfa (kind_in r) false (whole text) (map row_of cs)
         → All (HasGroups r.nfa) cs → (hits : List PatternHit) → AreAllHits re (is_utf8_empty r.nfa) text hits

@@ -1,17 +1,15 @@
 -- From the text that was read to the reader, and from the groups of the NFA to those of the pattern.
-use Rattle.std.proofs.Common.{◌≡◌, ◌∙◌, ℕ, ◌-◌, ◌<◌, List, [], ◌∷◌, map, take, arith, ne_eqb, refl, subst, Option, None, Some, IfSome}
+use Rattle.std.proofs.Common.{◌≡◌, ℕ, ◌-◌, ◌<◌, List, [], ◌∷◌, map, take, arith, Option, IfSome}
 use Rattle.std.specs.Io.KnownBytes.{Appends}
-use Rattle.regex_hir.specs.Re.{Re}
+use Rattle.std.proofs.lemmas.Bool.Decides.{nat_tests}
+use Rattle.nfa_compiler.specs.Common.{Re, PatternHit, found_at}
+use Rattle.nfa_compiler.specs.Laws.{GroupsAreNamed}
 use Rattle.nfa_engines.specs.Paths.{is_utf8_empty}
-use Rattle.nfa_compiler.specs.NameLaws.{GroupsAreNamed}
-use Rattle.nfa_compiler.specs.Patterns.{PatternHit, found_at}
 use Rattle.nfa_meta.specs.ChoiceState.{ChoiceState, KeepsEngines}
 use Rattle.replacer.specs.Hits.{AreHitsOf, HasNames, IsSearchOf, SearchesFor, Sought, groups_named_by, syntax_of}
-use Rattle.replacer.specs.Printed.{Groups, IsActionOf, IsMisused, IsPatternMistake, IsTemplateMistake, Prints, printed, sought}
+use Rattle.replacer.specs.Printed.{IsActionOf, IsMisused, IsPatternMistake, IsTemplateMistake, Prints, printed, sought}
 use Rattle.replacer.specs.Separated.{first_fields_by, gaps}
 use Rattle.replacer.specs.declared.action.Action.{Action}
-use Rattle.replacer.specs.declared.command.Command.{Command}
-use Rattle.replacer.specs.declared.command.Command.TheVariants.{Replace, Split, SplitN}
 use Rattle.replacer.specs.declared.command.Request.{Request}
 use Rattle.replacer.specs.declared.job.Mistake.{Mistake}
 use Rattle.replacer.specs.declared.job.Mistake.TheVariants.{Memory, Pattern, Template}
@@ -19,29 +17,29 @@ use Rattle.replacer.specs.declared.job.Mistake.TheVariants.{Memory, Pattern, Tem
 -- what holds of the text that was read holds of all that the reader had
 pub at-read : (all : Option (List ℕ)) (read text : List ℕ) (P : List ℕ → Type 0) → read ≡ text
     → IfSome all (λ bytes. text ≡ bytes) → P read → IfSome all P
-at-read None read text P same is p = tt
-at-read (Some bytes) read text P same is p = subst P (same ∙ is) p
+at-read all read text P same is p = grind arith
 
 -- after searches the regex searches for the same
-pub search-kept : (pattern : Sought) (old new : ChoiceState) → KeepsEngines old new → IsSearchOf pattern old
-    → IsSearchOf pattern new
-search-kept pattern old new keeps of = record {
-  compiled = rw keeps.nfa of.compiled;
-  leftmost = rw keeps.match_kind of.leftmost;
-  free = rw keeps.nfa of.free;
+pub search-kept : (pattern : Sought) (re : Re) (old new : ChoiceState) → KeepsEngines old new
+    → SearchesFor pattern re old → SearchesFor pattern re new
+search-kept pattern re old new keeps of = record {
+  search = record {
+    compiled = rw keeps.nfa of.search.compiled;
+    leftmost = rw keeps.match_kind of.search.leftmost;
+    free = rw keeps.nfa of.search.free;
+  };
+  meant = of.meant;
 }
 
 -- the first fields, if there may be one
 pub first-by : (limit : ℕ) (text : List ℕ) (hits : List PatternHit) → 0 < limit
     → gaps text 0 (take (limit - 1) (map found_at hits)) ≡ first_fields_by limit text hits
-first-by limit text hits some = rw (ne_eqb limit 0 (λ e. absurd (omega (arith, e, some)))) refl
+first-by limit text hits some = grind (arith, nat_tests)
 
 -- what is wrong with the pattern is wrong with the request
 pub pattern-misused : (request : Request) (mistake : Mistake) → IsPatternMistake (sought request) mistake
     → IsMisused request mistake
-pattern-misused request Memory h = tt
-pattern-misused request (Pattern error) h = h
-pattern-misused request (Template error) h = absurd h
+pattern-misused request mistake h = grind arith
 
 -- what is printed for the groups of the NFA is printed for those of the pattern
 module _ (law : GroupsAreNamed) (request : Request) (r : ChoiceState) (of : IsSearchOf (sought request) r) where
@@ -57,27 +55,17 @@ module _ (law : GroupsAreNamed) (request : Request) (r : ChoiceState) (of : IsSe
       (printed r.nfa.groups hits act request.whole request.limit text)))
       → Prints request input old new
   prints act input old new is h = λ re names meant named.
-      let P : Groups → Type 0 =
-      λ gs. IsActionOf gs request.command act × ((hits : List ℕ → List PatternHit)
-      → AreHitsOf re (is_utf8_empty r.nfa) hits
-      → IfSome input (λ text. Appends old new (printed gs hits act request.whole request.limit text))) in
-      let both : P (groups_named_by names) = subst P (groups-are names named) (
-        is,
+      let groups = groups-are names named in (
+        is_utf8_empty r.nfa,
+        act,
+        rw (← groups) is,
         λ hits all.
-            h (sought request) re hits (record { search = of; meant = meant }) all,
-      ) in
-      (is_utf8_empty r.nfa, act, both.0, both.1)
+            rw (← groups) (h (sought request) re hits (record { search = of; meant = meant }) all),
+      )
 
   -- so is a mistake
   pub misused : (mistake : Mistake) → IsTemplateMistake r.nfa.groups request.command mistake
       → IsMisused request mistake
   misused Memory h = tt
-  misused (Pattern error) h = absurd (no-pattern request.command h)
-    where
-      no-pattern : (command : Command) → IsTemplateMistake r.nfa.groups command (Pattern error) → ⊥
-      no-pattern (Replace template) h = h
-      no-pattern Split h = h
-      no-pattern (SplitN limit) h = h
-  misused (Template error) h = λ names named.
-      let P : Groups → Type 0 = λ gs. IsTemplateMistake gs request.command (Template error) in
-      subst P (groups-are names named) h
+  misused (Pattern error) h = absurd (grind arith)
+  misused (Template error) h = λ names named. rw (← groups-are names named) h

@@ -1,19 +1,10 @@
 -- All hits of a pattern in a text, in the words of the reference matcher.
 use Rattle.std.specs.Prelude.{ℕ, ◌+◌, ◌≡◌, ◌⊎◌, Bool, false, IsUtf8, List, [], ◌∷◌, drop, length, map, Option, Some, if◌then◌else◌}
-use Rattle.regex_hir.specs.Find.{find_all_str}
-use Rattle.regex_hir.specs.Re.{Re}
+use Rattle.nfa_compiler.specs.Common.{find_all_str, Re, default_config, default_flags, Config, hits_from, FindsFromAnyStart, expected_on_boundary, IsCompiled, IsMeant, IsNamed, PatternHit, expected, hit_by, slots_of}
 use Rattle.regex_search_core.specs.Groups.{slot_count}
 use Rattle.regex_search_core.specs.Search.{whole}
 use Rattle.regex_search_core.specs.Slots.{Captured}
 use Rattle.regex_search_core.specs.declared.search.MatchKind.TheVariants.{LeftmostFirst}
-use Rattle.regex_syntax.specs.Verdict.{default_config, default_flags}
-use Rattle.regex_syntax.specs.declared.Config.{Config}
-use Rattle.nfa_compiler.specs.AllHits.{hits_from}
-use Rattle.nfa_compiler.specs.AnyStart.{FindsFromAnyStart}
-use Rattle.nfa_compiler.specs.BoundaryHits.{expected_on_boundary}
-use Rattle.nfa_compiler.specs.Compiled.{IsCompiled, IsMeant}
-use Rattle.nfa_compiler.specs.NameLaws.{IsNamed}
-use Rattle.nfa_compiler.specs.Patterns.{PatternHit, expected, hit_by, slots_of}
 use Rattle.nfa_meta.specs.ChoiceState.{ChoiceState, kind_in}
 
 -- the text of a pattern, and whether letters match in either case
@@ -65,11 +56,15 @@ module _ (re : Re) (empty : Bool) (text : List ℕ) where
 abbrev pub AreHitsOf : Re → Bool → (List ℕ → List PatternHit) → Type 0
 AreHitsOf re empty hits = (text : List ℕ) → AreAllHits re empty text (hits text)
 
+-- the names of the explicit groups of each pattern
+abbrev pub Groups : Type 0
+Groups = List (List (Option (List ℕ)))
+
 -- the explicit groups of a pattern whose groups have these names, from group 0 on
-abbrev pub groups_named_by : List (Option (List ℕ)) → List (List (Option (List ℕ)))
+abbrev pub groups_named_by : List (Option (List ℕ)) → Groups
 groups_named_by names = drop 1 names ∷ []
 
 -- the captures of a hit
-abbrev pub captured_by : List (List (Option (List ℕ))) → PatternHit → Captured
+abbrev pub captured_by : Groups → PatternHit → Captured
 captured_by groups h =
     record { groups = groups; pattern = Some h.pattern; slots = slots_of groups (slot_count groups) (Some h) }

@@ -1,7 +1,4 @@
-pub mod Going
 pub mod Hints
 pub mod Hits
-pub mod Lines
 pub mod Printed
-pub mod Replaced
 pub mod Separated

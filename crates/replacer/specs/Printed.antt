@@ -1,15 +1,15 @@
 -- What is printed for a text.
-use Rattle.std.specs.Prelude.{ℕ, ◌≡◌, Bool, List, [], ◌∷◌, ◌++◌, Option, IfSome, chars, encode_utf8_all, flat_map, length, if◌then◌else◌, true, ⊤}
+use Rattle.std.specs.Prelude.{ℕ, ◌≡◌, ◌-◌, Bool, List, [], ◌∷◌, ◌++◌, Option, None, Some, IfSome, chars, encode_utf8_all, flat_map, length, map, option_map, take, if◌then◌else◌, true, ⊤}
+use Rattle.std.specs.Io.BufRead.{ends_with_byte, strip_last}
 use Rattle.std.specs.Io.KnownBytes.{Appends}
-use Rattle.regex_hir.specs.Re.{Re}
-use Rattle.regex_syntax.specs.Verdict.{ReadsAsText, escaped_text}
-use Rattle.text_lines.specs.Lines.{lines_of}
-use Rattle.nfa_compiler.specs.Patterns.{PatternHit}
-use Rattle.nfa_compiler.specs.Rejected.{IsOfOneText, NamesText}
+use Rattle.regex_search_core.specs.Slots.{Captured}
+use Rattle.nfa_compiler.specs.Common.{Re, ReadsAsText, escaped_text, PatternHit, IsOfOneText, NamesText}
+use Rattle.text_lines.specs.Lines.{line_feed, lines_of}
+use Rattle.nfa_meta.specs.ChoiceState.{ChoiceState}
+use Rattle.nfa_meta.specs.Filled.{AreAllCaught, filled_from}
 use Rattle.nfa_meta.specs.TemplateTexts.{AreParts, IsMistake}
-use Rattle.replacer.specs.Hits.{AreHitsOf, HasNames, Means, Sought, groups_named_by, syntax_of}
-use Rattle.replacer.specs.Lines.{feed_of, without_feed}
-use Rattle.replacer.specs.Replaced.{left_after, limited, replaced_by}
+use Rattle.nfa_meta.specs.declared.interpolate.Part.{Part}
+use Rattle.replacer.specs.Hits.{AreHitsOf, Groups, HasNames, Means, Sought, captured_by, groups_named_by, syntax_of}
 use Rattle.replacer.specs.Separated.{fields_by, first_fields_by}
 use Rattle.replacer.specs.declared.action.Action.{Action}
 use Rattle.replacer.specs.declared.action.Action.TheVariants as action
@@ -35,8 +35,32 @@ sought request = record {
 abbrev pub IsFixedText : Request → Type 0
 IsFixedText request = request.fixed ≡ true → ReadsAsText (sought request).text request.pattern.now
 
-abbrev pub Groups : Type 0
-Groups = List (List (Option (List ℕ)))
+-- the line without the line feed at its end, which the pattern does not see
+abbrev pub without_feed : List ℕ → List ℕ
+without_feed line = strip_last line_feed line
+
+-- the line feed at its end, if there is one
+abbrev pub feed_of : List ℕ → List ℕ
+feed_of line = if ends_with_byte line_feed line then line_feed ∷ [] else []
+
+-- the text with these parts in place of each of these hits, for a pattern with these groups
+abbrev pub replaced_by : Groups → List Part → List ℕ → List PatternHit → List ℕ
+replaced_by groups parts text hits = filled_from text parts 0 (map (captured_by groups) hits)
+
+-- the first of these, as many as the limit says; all, if there is none
+abbrev pub limited : {A : Type 0} → Option ℕ → List A → List A
+limited None xs = xs
+limited (Some count) xs = take count xs
+
+-- how many more matches may be replaced if this many were
+abbrev pub left_after : Option ℕ → ℕ → Option ℕ
+left_after limit count = option_map (λ n. n - count) limit
+
+-- these are the captures of the first matches of the text, as many as the limit says
+pub record AreFirstOf (r : ChoiceState) (text : List ℕ) (limit : Option ℕ) (cs : List Captured) : Type 0 where
+  pub all : List Captured
+  pub are : AreAllCaught r text all
+  pub first : cs ≡ limited limit all
 
 -- a line for each field
 abbrev pub field_lines : List (List ℕ) → List ℕ
@@ -110,3 +134,21 @@ IsMisused request (Pattern error) = IsPatternMistake (sought request) (Pattern e
 IsMisused request (Template error) =
     (names : List (Option (List ℕ))) → HasNames (sought request) names
     → IsTemplateMistake (groups_named_by names) request.command (Template error)
+
+-- A run over the lines of an input is under way.
+module _ (groups : Groups) (hits : List ℕ → List PatternHit) (act : Action) (limit : Option ℕ) where
+  -- The bytes that are left to read are known. What was written, and what is printed of the lines that are left, is
+  -- what is printed of those of the text. At most `left` of their matches are replaced.
+  pub record IsGoing (text : List ℕ) (input out-before out : Option (List ℕ)) (left : Option ℕ) : Type 0 where
+    pub rest : List ℕ
+    pub rest_is : input ≡ Some rest
+    pub written : List ℕ
+    pub writes : Appends out-before out written
+    pub printed_is : lines_shown groups hits act limit (lines_of text)
+        ≡ written ++ lines_shown groups hits act left (lines_of rest)
+
+  -- the same, if the bytes of the reader were known at first
+  abbrev pub HasWritten :
+      Option (List ℕ) → Option (List ℕ) → Option (List ℕ) → Option (List ℕ) → Option ℕ → Type 0
+  HasWritten input-before input out-before out left =
+      IfSome input-before (λ text. IsGoing text input out-before out left)

@@ -1,6 +1,6 @@
 //! A line and its end.
 ghost use Rattle.std.specs.Prelude.{◌≡◌, []};
-ghost use Rattle.replacer.specs.Lines.{feed_of, without_feed};
+ghost use Rattle.replacer.specs.Printed.{feed_of, without_feed};
 
 /// A text, and its end, which the pattern does not see.
 #[derive(Clone, Copy, Debug)]

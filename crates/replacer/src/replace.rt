@@ -2,13 +2,13 @@
 ghost use Rattle.std.specs.Prelude.{◌≡◌, All, IfOk, List, None, map, ℕ};
 ghost use Rattle.regex_hir.specs.Re.{Re};
 ghost use Rattle.regex_search_core.specs.Search.{whole};
-ghost use Rattle.nfa_engines.specs.CapturesRuns.{CapturesInside, match_in};
+ghost use Rattle.nfa_engines.specs.Runs.{CapturesInside, match_in};
 ghost use Rattle.nfa_engines.specs.Lists.{AreDisjoint};
 ghost use Rattle.nfa_engines.specs.Paths.{is_utf8_empty};
 ghost use Rattle.nfa_compiler.specs.Patterns.{PatternHit};
 ghost use Rattle.nfa_meta.specs.ChoiceState.{KeepsEngines};
 ghost use Rattle.replacer.specs.Hits.{AreAllHits, SearchesFor, Sought, captured_by};
-ghost use Rattle.replacer.specs.Replaced.{AreFirstOf, limited};
+ghost use Rattle.replacer.specs.Printed.{AreFirstOf, limited};
 
 use nfa_compiler::laws;
 use nfa_meta::Regex;

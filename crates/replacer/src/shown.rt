@@ -5,8 +5,7 @@ ghost use Rattle.nfa_engines.specs.Paths.{is_utf8_empty};
 ghost use Rattle.nfa_compiler.specs.Patterns.{PatternHit};
 ghost use Rattle.nfa_meta.specs.ChoiceState.{KeepsEngines};
 ghost use Rattle.replacer.specs.Hits.{AreAllHits, SearchesFor, Sought};
-ghost use Rattle.replacer.specs.Printed.{field_lines, left_by, shown};
-ghost use Rattle.replacer.specs.Replaced.{left_after, limited, replaced_by};
+ghost use Rattle.replacer.specs.Printed.{field_lines, left_after, left_by, limited, replaced_by, shown};
 ghost use Rattle.replacer.specs.Separated.{fields_by, first_fields_by, texts};
 
 use crate::action::Action;

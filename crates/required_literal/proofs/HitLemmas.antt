@@ -1,10 +1,8 @@
 -- A text with a hit has the bytes that each match has.
 use Rattle.std.proofs.Common.{◌≡◌, ℕ, ◌<◌, Bool, true, All, List, is_some}
-use Rattle.regex_hir.specs.Matches.{Matches}
-use Rattle.regex_hir.specs.Re.{Re}
+use Rattle.nfa_compiler.specs.Common.{Matches, Re, PatternHit, expected}
 use Rattle.regex_hir.proofs.OptionLemmas.{value_of_IsSome}
 use Rattle.regex_search_core.specs.Search.{Search}
-use Rattle.nfa_compiler.specs.Patterns.{PatternHit, expected}
 use Rattle.nfa_compiler.proofs.EachLemmas.{hit-each, pick-each, pick_one-each}
 use Rattle.required_literal.specs.Required.{AreRequired, IsRequired, OccursIn}
 

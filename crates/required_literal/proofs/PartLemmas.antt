@@ -1,9 +1,9 @@
 -- Bytes that are in bytes, and in all matches of a pattern.
-use Rattle.std.proofs.Common.{◌≡◌, ◌∙◌, ℕ, ◌+◌, ◌-◌, ◌<◌, ◌≤◌, All, List, [], length, map, take, drop, get_or, ap, sym, subst, arith, Option, None, Some, Vec, is_some, slice_range, true}
+use Rattle.std.proofs.Common.{◌≡◌, ◌∙◌, ℕ, ◌+◌, ◌-◌, ◌≤◌, All, List, [], length, get_or, ap, sym, arith, Option, None, Some, Vec, is_some, slice_range, true}
 use Rattle.std.specs.declared.alloc.Global.{Global}
 use Rattle.std.proofs.lemmas.List.Edits.{get_or-between, length-between}
 use Rattle.std.proofs.lemmas.List.Elements.{All-map}
-use Rattle.memchr.specs.Find.{FindsNeedle, OccursAt}
+use Rattle.memchr.specs.Find.{FindsNeedle}
 use Rattle.regex_hir.specs.Re.{Re}
 use Rattle.regex_extract.specs.Needles.{ContainsNeedle, needles_of}
 use Rattle.required_literal.specs.Required.{IsRequired, OccursIn}

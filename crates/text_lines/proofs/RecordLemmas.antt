@@ -1,41 +1,29 @@
--- The records of a text, one after the other, are the text.
-use Rattle.std.proofs.Common.{◌≡◌, ◌≢◌, ◌∙◌, ℕ, zero, suc, ◌≤◌, inl, inr, List, [], ◌∷◌, ◌++◌, length, refl, sym, ap, arith, ◌==◌}
+-- The records of a text by those of what comes after its first byte. One after the other, they are the text.
+use Rattle.std.proofs.Common.{◌≡◌, ℕ, Bool, true, false, List, [], ◌∷◌, ◌++◌, ap, arith, refl, ◌==◌}
 use Rattle.std.specs.List.{concat}
-use Rattle.std.specs.Io.BufRead.{drop_through, take_through}
-use Rattle.std.proofs.BufReadLemmas.{take_through-nil}
-use Rattle.std.proofs.lemmas.Bool.{cases_Bool}
-use Rattle.std.proofs.lemmas.List.{length-append}
-use Rattle.bstr.specs.Records.{records_from}
+use Rattle.std.proofs.lemmas.List.Folds.{concat-append}
+use Rattle.bstr.proofs.lemmas.RecordLemmas.{records-nil, records-step}
 use Rattle.text_lines.specs.Lines.{records_of}
 
+-- the records, with a byte before the first, which is a record itself if the byte ends one
+abbrev pub with_byte : Bool → ℕ → List (List ℕ) → List (List ℕ)
+with_byte true b lines = (b ∷ []) ∷ lines
+with_byte false b [] = (b ∷ []) ∷ []
+with_byte false b (line ∷ lines) = (b ∷ line) ∷ lines
+
 module _ (end : ℕ) where
-  both-parts : (xs : List ℕ) → take_through end xs ++ drop_through end xs ≡ xs
-  both-parts [] = refl
-  both-parts (x ∷ xs) = elim (cases_Bool (x == end)) [
-    | inl here ↦ rw here refl
-    | inr later ↦ rw later (ap (λ l. x ∷ l) (both-parts xs))
-  ]
-
-  shorter : (x : ℕ) (xs : List ℕ) → length (drop_through end (x ∷ xs)) ≤ length xs
-  shorter x xs =
-      let front = take_through end (x ∷ xs) in
-      let none : length front ≡ 0 → suc (length xs) ≡ 0 = λ e. ap length (take_through-nil end (x ∷ xs) e) in
-      let some : length front ≢ 0 = λ e. absurd (omega (arith, none e)) in
-      omega (arith, some, ap length (both-parts (x ∷ xs)), length-append front (drop_through end (x ∷ xs)))
-
-  joined : (n : ℕ) (xs : List ℕ) → length xs ≤ n → concat (records_from n end xs) ≡ xs
-  unfolding records_from
-  joined zero [] within = refl
-  joined zero (x ∷ xs) within = absurd (omega arith)
-  joined (suc n) [] within = refl
-  joined (suc n) (x ∷ xs) within =
-      let rest = drop_through end (x ∷ xs) in
-      let less : length rest ≤ n = omega (arith, shorter x xs) in
-      ap (λ l. take_through end (x ∷ xs) ++ l) (joined n rest less) ∙ both-parts (x ∷ xs)
+  pub records-cons : (b : ℕ) (text : List ℕ)
+      → records_of end (b ∷ text) ≡ with_byte (b == end) b (records_of end text)
+  records-cons b [] = grind (arith, records-nil, records-step end (b ∷ []) (omega arith))
+  records-cons b (c ∷ text) =
+      grind (arith, records-step end (c ∷ text) (omega arith), records-step end (b ∷ c ∷ text) (omega arith))
 
   pub all-records : (text : List ℕ) → concat (records_of end text) ≡ text
-  all-records text = joined (length text) text (omega arith)
+  all-records [] = ap concat (records-nil end)
+  all-records (b ∷ text) = grind (arith, records-cons, all-records text)
 
-  -- the text is its first record, and what is left
-  pub text-of-first : (text rest line : List ℕ) → records_of end text ≡ line ∷ records_of end rest → text ≡ line ++ rest
-  text-of-first text rest line e = sym (all-records text) ∙ ap concat e ∙ ap (λ l. line ++ l) (all-records rest)
+  -- the text is its first records, and what is left
+  pub text-of-first : (text rest : List ℕ) (lines : List (List ℕ))
+      → records_of end text ≡ lines ++ records_of end rest → text ≡ concat lines ++ rest
+  text-of-first text rest lines e =
+      rw (← all-records text, e, concat-append lines (records_of end rest), all-records rest) refl

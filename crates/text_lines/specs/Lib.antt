@@ -1,3 +1,1 @@
-pub mod Failures
 pub mod Lines
-pub mod Passed

@@ -26,7 +26,7 @@ pub enum Failure {
 
 impl Failure {
     ghost use Rattle.std.specs.Prelude.{◌≡◌};
-    ghost use Rattle.text_lines.specs.Failures.{IsOfReading, is_of_input};
+    ghost use Rattle.text_lines.specs.Lines.{IsOfReading, is_of_input};
 
     /// Returns why the line of this number, from 1, could not be read: the input, or the memory for the line.
     pub fn of_reading(error: io::Error, number: u64) -> Failure

@@ -1,7 +1,7 @@
 //! A line and its end.
 ghost use Rattle.std.specs.Prelude.{◌≡◌, ◌++◌, OnOk};
 ghost use Rattle.std.specs.Io.BufRead.{ends_with_byte, strip_last};
-ghost use Rattle.text_lines.specs.Lines.{content, record_content, with_end, with_feed};
+ghost use Rattle.text_lines.specs.Lines.{content, line_feed, record_content, with_end};
 
 use std::alloc::AllocError;
 
@@ -48,7 +48,7 @@ pub fn record_content(line: &[u8], end: u8) -> &[u8]
 
 /// Appends the line, and a line feed if it has none at its end.
 pub fn append_whole(line: &[u8], out: &mut Vec<u8>) -> Result<(), AllocError>
-    ensures { OnOk result (out.new.items ≡ out.old.items ++ with_feed line.now) }
+    ensures { OnOk result (out.new.items ≡ out.old.items ++ with_end line_feed line.now) }
 {
     append_record(line, b'\n', out)
 }

@@ -1,8 +1,7 @@
 //! Passing records in which some bytes do not occur. They are not copied.
 ghost use Rattle.std.specs.Prelude.{◌<◌, ◌≤◌, ℕ, IfErr, IfOk, length, take};
 ghost use Rattle.memchr.specs.Find.{OccursAt};
-ghost use Rattle.text_lines.specs.Failures.{IsOfReading};
-ghost use Rattle.text_lines.specs.Passed.{EndsRecord, HasWhole, PassesRecords};
+ghost use Rattle.text_lines.specs.Lines.{EndsRecord, HasWhole, IsOfReading, PassesRecords};
 
 use crate::failure::Failure;
 use memchr::{memchr_iter, memmem, memrchr};

@@ -1,8 +1,7 @@
 //! Reading an input line by line, and writing.
 ghost use Rattle.std.specs.Prelude.{◌≡◌, IfErr, IfOk, OnOk, false, true};
 ghost use Rattle.std.specs.Io.KnownBytes.{Appends, Keeps};
-ghost use Rattle.text_lines.specs.Failures.{IsOfReading};
-ghost use Rattle.text_lines.specs.Lines.{HasNoLine, HasNoRecord, TakesLine, TakesRecord};
+ghost use Rattle.text_lines.specs.Lines.{HasNoLine, HasNoRecord, IsOfReading, TakesLine, TakesRecord};
 
 use crate::failure::Failure;
 use std::io::{BufRead, Write};

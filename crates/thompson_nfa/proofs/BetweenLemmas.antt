@@ -108,15 +108,4 @@ module _ (h : List ℕ) (at : ℕ) (within : at ≤ length h) where
         after-between (λ b. b == 10),
         before-between (λ b. b == 13),
       ) refl
-  holds-between WordAscii = rw (before-between is_word_byte, after-between is_word_byte) refl
-  holds-between WordAsciiNegate = rw (before-between is_word_byte, after-between is_word_byte) refl
-  holds-between WordUnicode = rw (before-between is_word_byte, after-between is_word_byte) refl
-  holds-between WordUnicodeNegate = rw (before-between is_word_byte, after-between is_word_byte) refl
-  holds-between WordStartAscii = rw (before-between is_word_byte, after-between is_word_byte) refl
-  holds-between WordEndAscii = rw (before-between is_word_byte, after-between is_word_byte) refl
-  holds-between WordStartUnicode = rw (before-between is_word_byte, after-between is_word_byte) refl
-  holds-between WordEndUnicode = rw (before-between is_word_byte, after-between is_word_byte) refl
-  holds-between WordStartHalfAscii = rw (before-between is_word_byte) refl
-  holds-between WordEndHalfAscii = rw (after-between is_word_byte) refl
-  holds-between WordStartHalfUnicode = rw (before-between is_word_byte) refl
-  holds-between WordEndHalfUnicode = rw (after-between is_word_byte) refl
+  holds-between _ = simp (before-between is_word_byte, after-between is_word_byte)

@@ -1,5 +1,5 @@
 -- an NFA as a value
-use Rattle.std.specs.Prelude.{◌≡◌, ℕ, ◌<◌, ◌⊎◌, Bool, List, length, All, Option, IfSome, ⊤}
+use Rattle.std.specs.Prelude.{◌≡◌, ℕ, ◌<◌, ◌⊎◌, Bool, true, false, List, [], ◌∷◌, length, All, Option, IfSome, ⊤}
 use Rattle.regex_search_core.specs.Groups.{slot_count}
 use Rattle.regex_search_core.specs.Patterns.{number_of}
 use Rattle.thompson_nfa.specs.declared.look.Look as looks
@@ -95,3 +95,27 @@ pub record IsAutomaton (a : Automaton) : Type 0 where
   pub slots : AreSlotsWithin a
   pub patterns : ArePatternsWithin a
   pub groups : AreGroupsOfPatterns a
+
+-- the NFA of one pattern, the empty one, which matches everywhere: the states write its start, then its end, and match
+abbrev pub always : Automaton
+always = record {
+  states = Capture 1 0 ∷ Capture 2 1 ∷ Match 0 ∷ [];
+  anchored = 0;
+  unanchored = 0;
+  patterns = 0 ∷ [];
+  groups = [] ∷ [];
+  has_empty = true;
+  utf8 = false;
+}
+
+-- the NFA that matches nothing: no pattern, and one Fail state
+abbrev pub never : Automaton
+never = record {
+  states = Fail ∷ [];
+  anchored = 0;
+  unanchored = 0;
+  patterns = [];
+  groups = [];
+  has_empty = false;
+  utf8 = false;
+}

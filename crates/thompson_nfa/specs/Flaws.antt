@@ -1,11 +1,13 @@
--- the first flaw in the parts of an NFA
-use Rattle.std.specs.Prelude.{◌≡◌, ℕ, ◌<◌, List, length, take, All, slice_index_or, ◌++◌, Option, None, Some, codes, decimal}
+-- the first flaw in the parts of an NFA, and the result of making it
+use Rattle.std.specs.Prelude.{◌≡◌, ℕ, ◌<◌, List, length, take, All, slice_index_or, ◌++◌, Option, None, Some, Result, Ok, Err, codes, decimal}
 use Rattle.regex_search_core.specs.Groups.{slot_count}
 use Rattle.thompson_nfa.specs.Automaton.{Node, Capture, Match, Fail, LeadsBelow, SlotBelow, PatternBelow, Automaton, IsAutomaton, AreStatesNumbered, IsNumbered, AreSlotsWithin, ArePatternsWithin, AreGroupsOfPatterns}
 use Rattle.thompson_nfa.specs.declared.flaw.Referrer.{Referrer}
 use Rattle.thompson_nfa.specs.declared.flaw.Referrer.TheVariants as holder
 use Rattle.thompson_nfa.specs.declared.flaw.Flaw.{Flaw}
 use Rattle.thompson_nfa.specs.declared.flaw.Flaw.TheVariants.{Empty, State, Slot, Pattern, Groups}
+use Rattle.thompson_nfa.specs.declared.nfa.BuildError.{BuildError}
+use Rattle.thompson_nfa.specs.declared.nfa.BuildError.TheVariants as error
 
 -- the text of a place that holds the number of a state
 abbrev pub referrer_text : Referrer → List ℕ
@@ -29,17 +31,11 @@ abbrev pub pattern_of : Node → Option ℕ
 pattern_of (Match pattern) = Some pattern
 pattern_of _ = None
 
--- the first state that writes a slot not below n, and that slot
-abbrev pub NamesFirstSlot : ℕ → List Node → Option (ℕ × ℕ) → Type 0
-NamesFirstSlot n states None = All (SlotBelow n) states
-NamesFirstSlot n states (Some (i, slot)) =
-    IsFirstFailing (SlotBelow n) Fail states (Some i) × (slot_of (slice_index_or states i Fail) ≡ Some slot)
-
--- the first state that matches a pattern not below n, and that pattern
-abbrev pub NamesFirstPattern : ℕ → List Node → Option (ℕ × ℕ) → Type 0
-NamesFirstPattern n states None = All (PatternBelow n) states
-NamesFirstPattern n states (Some (i, pattern)) =
-    IsFirstFailing (PatternBelow n) Fail states (Some i) × (pattern_of (slice_index_or states i Fail) ≡ Some pattern)
+-- the first state that fails, and the number that it names
+abbrev pub NamesFirst : (Node → Type 0) → (Node → Option ℕ) → List Node → Option (ℕ × ℕ) → Type 0
+NamesFirst P number_in states None = All P states
+NamesFirst P number_in states (Some (i, number)) =
+    IsFirstFailing P Fail states (Some i) × (number_in (slice_index_or states i Fail) ≡ Some number)
 
 -- the first holder of a number that names no state: the two starts, then those of the patterns, then the states
 abbrev pub NamesFirstReferrer : List Node → ℕ → ℕ → List ℕ → Option Referrer → Type 0
@@ -61,9 +57,23 @@ IsFirstFlaw a (Some Empty) = length a.states ≡ 0
 IsFirstFlaw a (Some (State h)) =
     (0 < length a.states) × NamesFirstReferrer a.states a.anchored a.unanchored a.patterns (Some h)
 IsFirstFlaw a (Some (Slot state slot)) =
-    IsNumbered a × NamesFirstSlot (slot_count a.groups) a.states (Some (state, slot))
+    IsNumbered a × NamesFirst (SlotBelow (slot_count a.groups)) slot_of a.states (Some (state, slot))
 IsFirstFlaw a (Some (Pattern state pattern)) =
-    IsNumbered a × AreSlotsWithin a × NamesFirstPattern (length a.patterns) a.states (Some (state, pattern))
+    IsNumbered a × AreSlotsWithin a
+    × NamesFirst (PatternBelow (length a.patterns)) pattern_of a.states (Some (state, pattern))
 IsFirstFlaw a (Some (Groups groups patterns)) =
     IsNumbered a × AreSlotsWithin a × ArePatternsWithin a × (¬ AreGroupsOfPatterns a)
     × (groups ≡ length a.groups) × (patterns ≡ length a.patterns)
+
+-- the error that a flaw gives: its variant
+abbrev pub error_of : Flaw → BuildError
+error_of Empty = error.Empty
+error_of (State holder) = error.State
+error_of (Slot state slot) = error.Slot
+error_of (Pattern state pattern) = error.Pattern
+error_of (Groups groups patterns) = error.Groups
+
+-- the result is the NFA if it has no flaw, and otherwise the variant of its first flaw
+abbrev pub IsBuilt : Automaton → Result Automaton BuildError → Type 0
+IsBuilt a (Ok nfa) = IsFirstFlaw a None × (nfa ≡ a)
+IsBuilt a (Err e) = (f : Flaw) × IsFirstFlaw a (Some f) × (e ≡ error_of f)

@@ -38,7 +38,7 @@ pub enum BuildError {
 
 impl From<Flaw> for BuildError {
     ghost use Rattle.std.specs.Prelude.{◌≡◌};
-    ghost use Rattle.thompson_nfa.specs.Built.{error_of};
+    ghost use Rattle.thompson_nfa.specs.Flaws.{error_of};
 
     ghost from_gives = { λ flaw e. e ≡ error_of flaw };
 
@@ -133,8 +133,8 @@ impl Model for NFA {
 }
 
 impl NFA {
-    ghost use Rattle.thompson_nfa.specs.Built.{IsBuilt};
-    ghost use Rattle.thompson_nfa.specs.Simple.{always, never};
+    ghost use Rattle.thompson_nfa.specs.Flaws.{IsBuilt};
+    ghost use Rattle.thompson_nfa.specs.Automaton.{always, never};
 
     /// Makes the NFA of these states. The number of a state is its index. Anchored searches start at `anchored`, all
     /// others at `unanchored`; `patterns` has the start state of each pattern.

@@ -1,8 +1,7 @@
 //! Whether the numbers in an NFA are in range.
 ghost use Rattle.std.specs.Prelude.{◌≡◌, ◌<◌, ◌↔◌, map, All, IsTrue, IsNone, IfSome, Some};
 ghost use Rattle.thompson_nfa.specs.Automaton.{LeadsBelow, SlotBelow, PatternBelow, Fail, node_of};
-ghost use Rattle.thompson_nfa.specs.Flaws.{IsFirstFailing, NamesFirstReferrer, NamesFirstSlot, NamesFirstPattern};
-ghost use Rattle.thompson_nfa.specs.Flaws.{slot_of, pattern_of};
+ghost use Rattle.thompson_nfa.specs.Flaws.{IsFirstFailing, NamesFirst, NamesFirstReferrer, slot_of, pattern_of};
 
 use crate::flaw::Referrer;
 use crate::state::{State, Transition};
@@ -100,7 +99,7 @@ fn first_leading_outside(states: &[State], len: usize) -> Option<usize>
 
 /// The index of the first of these states that writes a slot not below `len`, and that slot.
 pub(crate) fn first_slot_outside(states: &[State], len: usize) -> Option<(usize, usize)>
-    ensures { NamesFirstSlot len (map node_of states.now) result }
+    ensures { NamesFirst (SlotBelow len) slot_of (map node_of states.now) result }
 {
     for (index, state) in states.iter().enumerate() {
         if let Some(slot) = slot_outside(state, len) {
@@ -112,7 +111,7 @@ pub(crate) fn first_slot_outside(states: &[State], len: usize) -> Option<(usize,
 
 /// The index of the first of these states that matches a pattern not below `len`, and that pattern.
 pub(crate) fn first_pattern_outside(states: &[State], len: usize) -> Option<(usize, usize)>
-    ensures { NamesFirstPattern len (map node_of states.now) result }
+    ensures { NamesFirst (PatternBelow len) pattern_of (map node_of states.now) result }
 {
     for (index, state) in states.iter().enumerate() {
         if let Some(pattern) = pattern_outside(state, len) {

@@ -1,29 +1,12 @@
 -- For callers whose pattern is written out: what the grammar reads in it, part by part, and which texts that matches.
-use Rattle.std.proofs.Common.{◌≡◌, ◌∙◌, ℕ, zero, suc, ◌+◌, ◌<◌, ◌≤◌, Bool, true, List, [], ◌∷◌, ◌++◌, ◌==◌, map, length, drop, Option, None, Some, refl, sym, ap, subst, arith, append-nil, length-drop, inl, inr, ◌↔◌, All, IsSomeAnd, chars, is_some, option_and_then}
-use Rattle.regex_hir.specs.Find.{find}
+use Rattle.nfa_paths.proofs.Common.{◌≡◌, ◌∙◌, ℕ, zero, suc, ◌+◌, ◌<◌, ◌≤◌, Bool, true, List, [], ◌∷◌, ◌++◌, ◌==◌, map, length, drop, Option, None, Some, refl, sym, ap, subst, arith, append-nil, length-drop, inl, inr, ◌↔◌, All, IsSomeAnd, chars, is_some, option_and_then, list_any, cases_lt, true≢false, nat_tests, drop_all, slice_get-get_or, slice_get_past}
+use Rattle.nfa_compiler.specs.Common.{find, holds, holds_between, Matches, copies, up_to, Re, alt, byte_in, cat, char_in, empty, group, literal, look, plus, byte_before, Start, End, Nested, Names, read, SameTree, Set, members, Config, MatchesIn, byte_syntax}
 use Rattle.std.specs.Char.{is_ascii_digit}
 use Rattle.std.specs.Int.{is_in_range}
-use Rattle.std.specs.List.{list_any}
-use Rattle.std.proofs.lemmas.Bool.{cases_lt, true≢false}
-use Rattle.std.proofs.lemmas.Bool.Decides.{nat_tests}
-use Rattle.std.proofs.lemmas.List.{drop_all}
-use Rattle.std.proofs.lemmas.Option.{slice_get-get_or, slice_get_past}
 use Rattle.regex_class.specs.Ranges.{Range, in_ranges}
-use Rattle.regex_hir.specs.Looks.{holds, holds_between}
-use Rattle.regex_hir.specs.Matches.{Matches}
-use Rattle.regex_hir.specs.Meaning.{copies, up_to}
-use Rattle.regex_hir.specs.Re.{Re, alt, byte_in, cat, char_in, empty, group, literal, look, plus}
-use Rattle.regex_hir.specs.Text.{byte_before}
-use Rattle.regex_hir.specs.declared.look.Look.TheVariants.{Start, End}
-use Rattle.regex_syntax.specs.Brackets.{Nested}
-use Rattle.regex_syntax.specs.Grammar.{Names, read}
-use Rattle.regex_syntax.specs.Same.{SameTree}
-use Rattle.regex_syntax.specs.Sets.{Set, members}
-use Rattle.regex_syntax.specs.declared.Config.{Config}
 use Rattle.regex_syntax.proofs.SetLemmas.{in_ranges-members}
 use Rattle.regex_syntax.proofs.TreeLaws.{◌then◌, alt-fail, alt_cong, byte_in_ascii, cat-empty, cat_cong, same_refl, same_sym}
 use Rattle.regex_syntax.proofs.Written.{same_group, same_plus}
-use Rattle.nfa_compiler.specs.Written.{MatchesIn, byte_syntax}
 use Rattle.written_patterns.specs.Patterns.{first_match, has_match}
 use Rattle.written_patterns.specs.Texts.{Bytes, BytesOrMore, Exactly, Times, ◌followed_by◌, ◌or_else◌}
 pub use Rattle.nfa_compiler.proofs.CallLemmas.{bytes-of}

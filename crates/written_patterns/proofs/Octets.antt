@@ -1,73 +1,43 @@
 -- The numbers below 256 in decimal, as `25[0-5]|2[0-4][0-9]|1[0-9]{2}|[1-9]?[0-9]`.
-use Rattle.std.proofs.Common.{◌≡◌, ◌∙◌, ℕ, zero, suc, ◌+◌, ◌-◌, ◌*◌, ◌/◌, ◌%◌, ◌<◌, ◌≤◌, Bool, true, List, [], ◌∷◌, ◌++◌, codes, refl, sym, ap, ap₂, subst, arith, inl, inr, ◌↔◌, decimal}
+use Rattle.nfa_paths.proofs.Common.{◌≡◌, ◌∙◌, ℕ, zero, suc, ◌+◌, ◌-◌, ◌*◌, ◌/◌, ◌%◌, ◌<◌, ◌≤◌, Bool, true, List, [], ◌∷◌, ◌++◌, codes, refl, sym, ap, ap₂, subst, arith, inl, inr, ◌↔◌, decimal, cases_lt, nat_tests, All-cons, All-head, All-nil, All-tail}
 use Rattle.std.specs.Char.{is_ascii_digit}
 use Rattle.std.specs.Int.{is_in_range}
-use Rattle.std.proofs.lemmas.Bool.{cases_lt}
-use Rattle.std.proofs.lemmas.Bool.Decides.{nat_tests}
 use Rattle.std.proofs.lemmas.Fmt.{decimal_digit, decimal_step}
-use Rattle.std.proofs.lemmas.List.Elements.{All-cons, All-head, All-nil, All-tail}
-use Rattle.regex_hir.specs.Re.{Re, alt, byte_in, cat, empty, literal}
+use Rattle.nfa_compiler.specs.Common.{Re, alt, byte_in, cat, empty, literal}
 use Rattle.written_patterns.specs.Texts.{Bytes, DecimalBelow, Exactly, ◌followed_by◌, ◌or_else◌}
 use Rattle.written_patterns.proofs.Denotes.{Denotes, IsClass, branch, class, class_of, digit, in_words, last, maybe, one, range, run, text, ◌and_then◌, ◌or◌}
 
 -- decimal forms
 
+one-more : (n d : ℕ) → 0 < n → n < 100 → d < 10 → decimal (10 * n + d) ≡ decimal n ++ (48 + d) ∷ []
+one-more n d some less small =
+    let q : (10 * n + d) / 10 ≡ n = omega arith in
+    let r : (10 * n + d) % 10 ≡ d = omega arith in
+    decimal_step (10 * n + d) (omega arith) (omega arith)
+    ∙ ap₂ (λ (m e : ℕ). decimal m ++ (48 + e) ∷ []) q r
+
 two-digits : (x y : ℕ) → 0 < x → x < 10 → y < 10 → decimal (10 * x + y) ≡ (48 + x) ∷ (48 + y) ∷ []
 two-digits x y some less small =
-    let q : (10 * x + y) / 10 ≡ x = omega arith in
-    let r : (10 * x + y) % 10 ≡ y = omega arith in
-    decimal_step (10 * x + y) (omega arith) (omega arith)
-    ∙ ap₂ (λ (ds : List ℕ) (d : ℕ). ds ++ (48 + d) ∷ []) (ap decimal q ∙ decimal_digit x less) r
+    one-more x y some (omega arith) small ∙ ap (λ ds. ds ++ (48 + y) ∷ []) (decimal_digit x less)
 
 three-digits : (x y z : ℕ) → 0 < x → x < 10 → y < 10 → z < 10
     → decimal (100 * x + 10 * y + z) ≡ (48 + x) ∷ (48 + y) ∷ (48 + z) ∷ []
 three-digits x y z some less small last_small =
-    let n = 100 * x + 10 * y + z in
-    let q : n / 10 ≡ 10 * x + y = omega arith in
-    let r : n % 10 ≡ z = omega arith in
-    decimal_step n (omega arith) (omega arith)
-    ∙ ap₂ (λ (ds : List ℕ) (d : ℕ). ds ++ (48 + d) ∷ []) (ap decimal q ∙ two-digits x y some less small) r
+    let e : 100 * x + 10 * y + z ≡ 10 * (10 * x + y) + z = omega arith in
+    ap decimal e ∙ one-more (10 * x + y) z (omega arith) (omega arith) last_small
+    ∙ ap (λ ds. ds ++ (48 + z) ∷ []) (two-digits x y some less small)
 
--- the same of the codes of digits
-
-dec-one : (a : ℕ) → 48 ≤ a → a ≤ 57 → DecimalBelow 256 (a ∷ [])
-dec-one a from to = record {
-  number = a - 48;
-  below = omega arith;
-  text_is = let e : a ≡ 48 + (a - 48) = omega arith in ap (λ d. d ∷ []) e ∙ sym (decimal_digit (a - 48) (omega arith));
-}
-
-dec-two : (a b : ℕ) → 49 ≤ a → a ≤ 57 → 48 ≤ b → b ≤ 57 → DecimalBelow 256 (a ∷ b ∷ [])
-dec-two a b from to from_b to_b = record {
-  number = 10 * (a - 48) + (b - 48);
-  below = omega arith;
-  text_is =
-      let e : a ≡ 48 + (a - 48) = omega arith in
-      let f : b ≡ 48 + (b - 48) = omega arith in
-      ap₂ (λ (c d : ℕ). c ∷ d ∷ []) e f ∙ sym (two-digits (a - 48) (b - 48) (omega arith) (omega arith) (omega arith));
-}
-
-dec-three : (a b c : ℕ) → 49 ≤ a → a ≤ 57 → 48 ≤ b → b ≤ 57 → 48 ≤ c → c ≤ 57
-    → 100 * (a - 48) + 10 * (b - 48) + (c - 48) < 256 → DecimalBelow 256 (a ∷ b ∷ c ∷ [])
-dec-three a b c from to from_b to_b from_c to_c less = record {
-  number = 100 * (a - 48) + 10 * (b - 48) + (c - 48);
+three-below : (x y z : ℕ) (t : List ℕ) → t ≡ (48 + x) ∷ (48 + y) ∷ (48 + z) ∷ [] → 0 < x → x < 10 → y < 10 → z < 10
+    → 100 * x + 10 * y + z < 256 → DecimalBelow 256 t
+three-below x y z t is some one two three less = record {
+  number = 100 * x + 10 * y + z;
   below = less;
-  text_is =
-      let e : a ≡ 48 + (a - 48) = omega arith in
-      let f : b ≡ 48 + (b - 48) = omega arith in
-      let g : c ≡ 48 + (c - 48) = omega arith in
-      ap₂ (λ (x : ℕ) (xs : List ℕ). x ∷ xs) e (ap₂ (λ (x y : ℕ). x ∷ y ∷ []) f g)
-      ∙ sym (three-digits (a - 48) (b - 48) (c - 48) (omega arith) (omega arith) (omega arith) (omega arith));
+  text_is = is ∙ sym (three-digits x y z some one two three);
 }
 
--- one or two bytes of a class
+-- one or two digits that pass a test
 
 module _ (test : ℕ → Bool) where
-  the-byte : (t : List ℕ) → Bytes test 1 1 t → (b : ℕ) × (t ≡ b ∷ []) × (test b ≡ true)
-  the-byte [] is = absurd (omega (arith, is.at_least))
-  the-byte (b ∷ []) is = (b, refl, All-head (λ x. test x ≡ true) b [] is.each)
-  the-byte (b ∷ (c ∷ t)) is = absurd (omega (arith, is.at_most))
-
   a-byte : (b : ℕ) → test b ≡ true → Bytes test 1 1 (b ∷ [])
   a-byte b passes = record {
     at_least = omega arith;
@@ -75,26 +45,32 @@ module _ (test : ℕ → Bool) where
     each = All-cons (λ x. test x ≡ true) b [] passes (All-nil (λ x. test x ≡ true));
   }
 
-  the-bytes : (t : List ℕ) → Bytes test 2 2 t
-      → (b : ℕ) × (c : ℕ) × (t ≡ b ∷ c ∷ []) × (test b ≡ true) × (test c ≡ true)
-  the-bytes [] is = absurd (omega (arith, is.at_least))
-  the-bytes (b ∷ []) is = absurd (omega (arith, is.at_least))
-  the-bytes (b ∷ (c ∷ [])) is = (
-    b,
-    c,
-    refl,
-    All-head (λ x. test x ≡ true) b (c ∷ []) is.each,
-    All-head (λ x. test x ≡ true) c [] (All-tail (λ x. test x ≡ true) b (c ∷ []) is.each),
-  )
-  the-bytes (b ∷ (c ∷ (d ∷ t))) is = absurd (omega (arith, is.at_most))
-
   two-bytes : (b c : ℕ) → test b ≡ true → test c ≡ true → Bytes test 2 2 (b ∷ c ∷ [])
   two-bytes b c first second = record {
     at_least = omega arith;
     at_most = omega arith;
-    each = All-cons (λ x. test x ≡ true) b (c ∷ []) first
-        (All-cons (λ x. test x ≡ true) c [] second (All-nil (λ x. test x ≡ true)));
+    each = All-cons (λ x. test x ≡ true) b (c ∷ []) first (a-byte c second).each;
   }
+
+  module _ (low high : ℕ) (within : (b : ℕ) → test b ≡ true → (48 + low ≤ b) × (b ≤ 48 + high)) where
+    the-digit : (t : List ℕ) → Bytes test 1 1 t → (x : ℕ) × (t ≡ (48 + x) ∷ []) × (low ≤ x) × (x ≤ high)
+    the-digit [] is = absurd (omega (arith, is.at_least))
+    the-digit (b ∷ []) is =
+        let h = within b (All-head (λ x. test x ≡ true) b [] is.each) in
+        let e : b ≡ 48 + (b - 48) = omega (arith, h.0) in
+        (b - 48, ap (λ c. c ∷ []) e, omega (arith, h.0), omega (arith, h.1))
+    the-digit (b ∷ (c ∷ t)) is = absurd (omega (arith, is.at_most))
+
+    the-digits : (t : List ℕ) → Bytes test 2 2 t
+        → (x : ℕ) × (y : ℕ) × (t ≡ (48 + x) ∷ (48 + y) ∷ []) × (x ≤ high) × (y ≤ high)
+    the-digits [] is = absurd (omega (arith, is.at_least))
+    the-digits (b ∷ []) is = absurd (omega (arith, is.at_least))
+    the-digits (b ∷ (c ∷ [])) is =
+        let rest = All-tail (λ x. test x ≡ true) b (c ∷ []) is.each in
+        let x = the-digit (b ∷ []) (a-byte b (All-head (λ x. test x ≡ true) b (c ∷ []) is.each)) in
+        let y = the-digit (c ∷ []) (a-byte c (All-head (λ x. test x ≡ true) c [] rest)) in
+        (x.0, y.0, ap₂ ◌++◌ x.1 y.1, x.3, y.3)
+    the-digits (b ∷ (c ∷ (d ∷ t))) is = absurd (omega (arith, is.at_most))
 
 in-range : (low high b : ℕ) → is_in_range low high b ≡ true → (low ≤ b) × (b ≤ high)
 in-range low high b h = grind (arith, nat_tests)
@@ -125,48 +101,43 @@ Written = TopFive or_else TwoHundreds or_else Hundreds or_else Small
 top-five : (t : List ℕ) → TopFive t → DecimalBelow 256 t
 top-five t is =
     let rest = is.second_is in
-    let b = the-byte (is_in_range 48 53) rest.second rest.second_is in
-    let h = in-range 48 53 b.0 b.2 in
-    let e : t ≡ 50 ∷ 53 ∷ b.0 ∷ [] = is.text_is ∙ ap₂ ◌++◌ is.first_is.text_is
-    (rest.text_is ∙ ap₂ ◌++◌ rest.first_is.text_is b.1) in
-    subst (DecimalBelow 256) (sym e)
-    (dec-three 50 53 b.0 (omega arith) (omega arith) (omega arith) (omega arith) h.0 (omega (arith, h.1))
-    (omega (arith, h.1)))
+    let z = the-digit (is_in_range 48 53) 0 5 (in-range 48 53) rest.second rest.second_is in
+    three-below 2 5 z.0 t
+    (is.text_is ∙ ap₂ ◌++◌ is.first_is.text_is (rest.text_is ∙ ap₂ ◌++◌ rest.first_is.text_is z.1))
+    (omega arith) (omega arith) (omega arith) (omega (arith, z.3)) (omega (arith, z.3))
 
 two-hundreds : (t : List ℕ) → TwoHundreds t → DecimalBelow 256 t
 two-hundreds t is =
     let rest = is.second_is in
-    let a = the-byte (is_in_range 48 52) rest.first rest.first_is in
-    let b = the-byte is_ascii_digit rest.second rest.second_is in
-    let h = in-range 48 52 a.0 a.2 in
-    let k = digit-is b.0 b.2 in
-    let e : t ≡ 50 ∷ a.0 ∷ b.0 ∷ [] =
-    is.text_is ∙ ap₂ ◌++◌ is.first_is.text_is (rest.text_is ∙ ap₂ ◌++◌ a.1 b.1) in
-    subst (DecimalBelow 256) (sym e)
-    (dec-three 50 a.0 b.0 (omega arith) (omega arith) h.0 (omega (arith, h.1)) k.0 k.1 (omega (arith, h.1, k.1)))
+    let y = the-digit (is_in_range 48 52) 0 4 (in-range 48 52) rest.first rest.first_is in
+    let z = the-digit is_ascii_digit 0 9 digit-is rest.second rest.second_is in
+    three-below 2 y.0 z.0 t (is.text_is ∙ ap₂ ◌++◌ is.first_is.text_is (rest.text_is ∙ ap₂ ◌++◌ y.1 z.1))
+    (omega arith) (omega arith) (omega (arith, y.3)) (omega (arith, z.3)) (omega (arith, y.3, z.3))
 
 hundreds : (t : List ℕ) → Hundreds t → DecimalBelow 256 t
 hundreds t is =
-    let b = the-bytes is_ascii_digit is.second is.second_is in
-    let h = digit-is b.0 b.3 in
-    let k = digit-is b.1 b.4 in
-    let e : t ≡ 49 ∷ b.0 ∷ b.1 ∷ [] = is.text_is ∙ ap₂ ◌++◌ is.first_is.text_is b.2 in
-    subst (DecimalBelow 256) (sym e)
-    (dec-three 49 b.0 b.1 (omega arith) (omega arith) h.0 h.1 k.0 k.1 (omega (arith, h.1, k.1)))
+    let yz = the-digits is_ascii_digit 0 9 digit-is is.second is.second_is in
+    three-below 1 yz.0 yz.1 t (is.text_is ∙ ap₂ ◌++◌ is.first_is.text_is yz.2) (omega arith) (omega arith)
+    (omega (arith, yz.3)) (omega (arith, yz.4)) (omega (arith, yz.3, yz.4))
 
 small : (t : List ℕ) → Small t → DecimalBelow 256 t
 small t is =
-    let b = the-byte is_ascii_digit is.second is.second_is in
-    let k = digit-is b.0 b.2 in
+    let y = the-digit is_ascii_digit 0 9 digit-is is.second is.second_is in
+    let last : y.0 < 10 = omega (arith, y.3) in
     elim is.first_is.either [
       | inl ten ↦
-          let a = the-byte (is_in_range 49 57) is.first ten in
-          let h = in-range 49 57 a.0 a.2 in
-          let e : t ≡ a.0 ∷ b.0 ∷ [] = is.text_is ∙ ap₂ ◌++◌ a.1 b.1 in
-          subst (DecimalBelow 256) (sym e) (dec-two a.0 b.0 h.0 h.1 k.0 k.1)
-      | inr none ↦
-          let e : t ≡ b.0 ∷ [] = is.text_is ∙ ap₂ ◌++◌ none.text_is b.1 in
-          subst (DecimalBelow 256) (sym e) (dec-one b.0 k.0 k.1)
+          let x = the-digit (is_in_range 49 57) 1 9 (in-range 49 57) is.first ten in
+          record {
+            number = 10 * x.0 + y.0;
+            below = omega (arith, x.3, y.3);
+            text_is = is.text_is ∙ ap₂ ◌++◌ x.1 y.1
+                ∙ sym (two-digits x.0 y.0 (omega (arith, x.2)) (omega (arith, x.3)) last);
+          }
+      | inr none ↦ record {
+        number = y.0;
+        below = omega arith;
+        text_is = is.text_is ∙ ap₂ ◌++◌ none.text_is y.1 ∙ sym (decimal_digit y.0 last);
+      }
     ]
 
 -- a text in these words
@@ -250,17 +221,12 @@ octet-words t = (
 
 -- classes of digits
 
-up-to-five : IsClass (class_of (range 48 53 ∷ [])) (is_in_range 48 53)
-up-to-five =
-    class (range 48 53 ∷ []) (is_in_range 48 53) (λ c. grind (arith, nat_tests)) (λ c h. grind (arith, nat_tests))
-
-up-to-four : IsClass (class_of (range 48 52 ∷ [])) (is_in_range 48 52)
-up-to-four =
-    class (range 48 52 ∷ []) (is_in_range 48 52) (λ c. grind (arith, nat_tests)) (λ c h. grind (arith, nat_tests))
+between : (low high : ℕ) → high ≤ 127 → IsClass (class_of (range low high ∷ [])) (is_in_range low high)
+between low high ascii =
+    class (range low high ∷ []) (is_in_range low high) (λ c. grind (arith, nat_tests)) (λ c h. grind (arith, nat_tests))
 
 pub positive : IsClass (class_of (range 49 57 ∷ [])) (is_in_range 49 57)
-positive =
-    class (range 49 57 ∷ []) (is_in_range 49 57) (λ c. grind (arith, nat_tests)) (λ c h. grind (arith, nat_tests))
+positive = between 49 57 (omega arith)
 
 -- what the grammar reads in `25[0-5]|2[0-4][0-9]|1[0-9]{2}|[1-9]?[0-9]`
 abbrev pub octet_read : Re
@@ -273,8 +239,8 @@ octet_read =
 
 pub octet : Denotes octet_read (DecimalBelow 256)
 octet = in_words octet-words (
-    text and_then text and_then last (one up-to-five)
-    or text and_then one up-to-four and_then last (one digit)
+    text and_then text and_then last (one (between 48 53 (omega arith)))
+    or text and_then one (between 48 52 (omega arith)) and_then last (one digit)
     or text and_then last (run 2 0 digit)
     or branch (maybe_one and_then last (one digit)))
   where

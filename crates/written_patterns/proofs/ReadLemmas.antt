@@ -1,28 +1,10 @@
 -- What searches find, as functions of the pattern and the text.
-use Rattle.std.proofs.Common.{◌≡◌, ◌∙◌, ℕ, ◌<◌, All, Bool, true, false, List, [], ◌∷◌, drop, length, map, Option, None, Some, refl, sym, ap, subst, arith, chars, ◌↔◌, IsSomeAnd, is_some, option_and_then, option_map}
-use Rattle.std.specs.List.{AllZip}
+use Rattle.nfa_paths.proofs.Common.{◌≡◌, ◌∙◌, ℕ, ◌<◌, All, Bool, true, false, List, [], ◌∷◌, drop, length, map, Option, None, Some, refl, sym, ap, subst, arith, chars, ◌↔◌, IsSomeAnd, is_some, option_and_then, option_map, AllZip, Automaton, Found, group_named, slot_count, LeftmostFirst, IsAnswer, IsBoolAnswer, IsFindAnswer, whole, Captured, group_span, named_span}
 use Rattle.nfa_paths.proofs.TestLemmas.{same_test}
-use Rattle.regex_hir.specs.Find.{Match, find, find_all}
-use Rattle.regex_hir.specs.Re.{Re, accept, attempt}
+use Rattle.nfa_compiler.specs.Common.{Match, find, Re, accept, attempt, Nested, Names, read, SameTree, Reads, Parsed, IsMeant, IsTreeOf, IsNamed, written_span, AreOfHit, PatternHit, found_by, hit_by, IsReadAs, MatchesIn, byte_syntax}
 use Rattle.regex_hir.proofs.FindLemmas.{IsFirst-of_first_between, find_complete, find_sound, first_between_cong}
-use Rattle.regex_syntax.specs.Brackets.{Nested}
-use Rattle.regex_syntax.specs.Grammar.{Names, read}
-use Rattle.regex_syntax.specs.Same.{SameTree}
-use Rattle.regex_syntax.specs.Verdict.{Reads}
-use Rattle.regex_syntax.specs.declared.Parsed.{Parsed}
 use Rattle.regex_syntax.proofs.TreeLaws.{same_refl}
-use Rattle.nfa_engines.specs.Automaton.{Automaton}
-use Rattle.nfa_engines.specs.Found.{Found}
-use Rattle.nfa_engines.specs.Groups.{group_named, slot_count}
 use Rattle.nfa_engines.specs.Lists.{AreMatches}
-use Rattle.nfa_engines.specs.MatchKind.TheVariants.{LeftmostFirst}
-use Rattle.nfa_engines.specs.Paths.{IsAnswer, IsBoolAnswer, IsFindAnswer}
-use Rattle.nfa_engines.specs.Search.{whole}
-use Rattle.nfa_engines.specs.Slots.{Captured, group_span, named_span}
-use Rattle.nfa_compiler.specs.Compiled.{IsCompiled, IsMeant, IsTreeOf}
-use Rattle.nfa_compiler.specs.NameLaws.{IsNamed, written_span}
-use Rattle.nfa_compiler.specs.Patterns.{AreOfHit, PatternHit, found_by, hit_by}
-use Rattle.nfa_compiler.specs.Written.{IsReadAs, MatchesIn, byte_syntax}
 use Rattle.nfa_compiler.proofs.AnswerLemmas.{answer-is}
 use Rattle.nfa_compiler.proofs.CallLemmas.{call-answered, call-matches, call-name, groups-of-one, match-found}
 use Rattle.nfa_compiler.proofs.WrittenLemmas.{found-as-read}
@@ -33,33 +15,6 @@ some-read : (o : Option (Nested Re × Names)) (P : Nested Re × Names → Type 0
     → (v : Nested Re × Names) × (o ≡ Some v)
 some-read None P h = absurd h
 some-read (Some v) P h = (v, refl)
-
-module _ (pattern : List ℕ) (nfa : Automaton) (compiled : IsCompiled byte_syntax (pattern ∷ []) nfa) where
-  pub read-is : (v : Nested Re × Names) × (read byte_syntax (chars pattern) ≡ Some v)
-  unfolding Reads
-  read-is = of compiled.trees compiled.read
-    where
-      of : (trees : List Parsed) → AllZip (IsTreeOf byte_syntax) (pattern ∷ []) trees
-          → (v : Nested Re × Names) × (read byte_syntax (chars pattern) ≡ Some v)
-      of [] h = absurd h
-      of (tree ∷ trees) h = some-read (read byte_syntax (chars pattern)) _ h.0.reads
-
-  abbrev pub re_of : Re
-  re_of = read-is.0.0.value
-
-  pub meant : IsMeant byte_syntax pattern re_of
-  meant = subst (λ o. IsSomeAnd o (λ (found, names). found.value ≡ re_of)) (sym read-is.1) refl
-
-  pub read-as : IsReadAs byte_syntax pattern re_of
-  read-as = subst (λ o. IsSomeAnd o (λ (found, names). SameTree found.value re_of)) (sym read-is.1) (same_refl re_of)
-
-  pub first-is : (text : List ℕ) → first_match pattern text ≡ find re_of text 0
-  unfolding first_match
-  first-is text = ap (option_and_then (λ ((found, names) : Nested Re × Names). find found.value text 0)) read-is.1
-
-  pub all-are : (text : List ℕ) → all_matches pattern text ≡ find_all re_of text
-  unfolding all_matches
-  all-are text = rw read-is.1 refl
 
 -- there is a first match exactly if the pattern matches somewhere
 pub finds-iff : (re : Re) (text : List ℕ) → (is_some (find re text 0) ≡ true) ↔ MatchesIn text re
@@ -88,34 +43,6 @@ find-same a b same text bytes =
     first_between_cong (attempt text a accept) (attempt text b accept) 0 (length text)
     (λ i from to. same.matches.at text bytes accept i)
 
--- what searches of the whole text find
-
-module _ (pattern : List ℕ) (nfa : Automaton) (own : IsOfPattern pattern nfa) (text : List ℕ)
-    (bytes : All (λ x. x < 256) text) where
-  pub match-is : (found : Option Found) → IsFindAnswer nfa LeftmostFirst false (whole text) found
-      → found ≡ option_map found_by (first_match pattern text)
-  match-is found answer =
-      match-found _ (call-answered byte_syntax pattern nfa text own.compiled own.anywhere own.free bytes
-      (re_of pattern nfa own.compiled) (meant pattern nfa own.compiled)) found answer
-      ∙ ap (option_map found_by) (sym (first-is pattern nfa own.compiled text))
-
-  pub matches-are : (found : List Found) → AreMatches nfa LeftmostFirst false (whole text) found
-      → found ≡ map found_by (all_matches pattern text)
-  matches-are found all =
-      call-matches byte_syntax pattern nfa text own.compiled own.anywhere own.free bytes
-      (re_of pattern nfa own.compiled) (meant pattern nfa own.compiled) found all
-      ∙ ap (map found_by) (sym (all-are pattern nfa own.compiled text))
-
-  pub has-match : (found : Bool) → IsBoolAnswer nfa LeftmostFirst false (whole text) found
-      → found ≡ has_match pattern text
-  has-match found answer =
-      let re = re_of pattern nfa own.compiled in
-      found-finds re text found (found-as-read byte_syntax pattern nfa text own.compiled own.anywhere own.free bytes re
-      (read-as pattern nfa own.compiled) found answer)
-      ∙ ap is_some (sym (first-is pattern nfa own.compiled text))
-
--- the groups
-
 -- the captures of a match, or of none, for a name that no group has
 none-name : (c : Captured) (name : List ℕ) (o : Option Match) → c.pattern ≡ option_map (λ (m : Match). 0) o
     → group_named c.groups 0 name ≡ None → named_span c name ≡ None
@@ -130,38 +57,79 @@ zero-hit : (o : Option Match)
 zero-hit None = refl
 zero-hit (Some m) = refl
 
-module _ (pattern : List ℕ) (nfa : Automaton) (own : IsOfPattern pattern nfa) (text : List ℕ)
-    (bytes : All (λ x. x < 256) text) (captures : Captured) (name : List ℕ)
-    (answer : IsAnswer nfa LeftmostFirst false (whole text) captures.pattern captures.slots)
-    (same : captures.groups ≡ nfa.groups) (room : length captures.slots ≡ slot_count nfa.groups) where
-  re : Re
-  re = re_of pattern nfa own.compiled
+module _ (pattern : List ℕ) (nfa : Automaton) (own : IsOfPattern pattern nfa) where
+  read-is : (v : Nested Re × Names) × (read byte_syntax (chars pattern) ≡ Some v)
+  unfolding Reads
+  read-is = of own.compiled.trees own.compiled.read
+    where
+      of : (trees : List Parsed) → AllZip (IsTreeOf byte_syntax) (pattern ∷ []) trees
+          → (v : Nested Re × Names) × (read byte_syntax (chars pattern) ≡ Some v)
+      of [] h = absurd h
+      of (tree ∷ trees) h = some-read (read byte_syntax (chars pattern)) _ h.0.reads
 
-  names : Names
-  names = (read-is pattern nfa own.compiled).0.1
+  abbrev re : Re
+  re = read-is.0.0.value
+
+  abbrev names : Names
+  names = read-is.0.1
+
+  meant : IsMeant byte_syntax pattern re
+  meant = subst (λ o. IsSomeAnd o (λ (found, given). found.value ≡ re)) (sym read-is.1) refl
 
   named : IsNamed byte_syntax pattern names
-  unfolding names
-  named =
-      subst (λ o. IsSomeAnd o (λ (found, given). given ≡ names)) (sym (read-is pattern nfa own.compiled).1) refl
+  named = subst (λ o. IsSomeAnd o (λ (found, given). given ≡ names)) (sym read-is.1) refl
 
-  hit : AreOfHit nfa.groups (option_map (hit_by 0) (find re text 0)) captures.pattern captures.slots
-  unfolding re
-  hit = answer-is (call-answered byte_syntax pattern nfa text own.compiled own.anywhere own.free bytes re
-      (meant pattern nfa own.compiled)) captures.pattern captures.slots answer
+  read-as : IsReadAs byte_syntax pattern re
+  read-as = subst (λ o. IsSomeAnd o (λ (found, given). SameTree found.value re)) (sym read-is.1) (same_refl re)
 
-  by-group : (o : Option ℕ) → group_named (drop 1 names ∷ []) 0 name ≡ o
-      → named_span captures name ≡ option_and_then (λ group. option_and_then (written_span group) (find re text 0)) o
-  unfolding re
-  by-group (Some group) is =
-      call-name byte_syntax pattern nfa own.compiled names named captures name group (find re text 0) same room is hit
-  by-group None is =
-      none-name captures name (find re text 0) (hit.0 ∙ zero-hit (find re text 0))
-      (ap (λ gs. group_named gs 0 name) (same ∙ groups-of-one byte_syntax pattern nfa own.compiled names named) ∙ is)
+  -- what searches of a whole text find
+  module _ (text : List ℕ) (bytes : All (λ x. x < 256) text) where
+    first-is : first_match pattern text ≡ find re text 0
+    unfolding first_match
+    first-is = ap (option_and_then (λ ((found, given) : Nested Re × Names). find found.value text 0)) read-is.1
 
-  pub name-is : named_span captures name ≡ named_span_in pattern name text
-  unfolding named_span_in re names
-  name-is = by-group (group_named (drop 1 names ∷ []) 0 name) refl ∙ sym (ap (option_and_then
-      (λ ((found, given) : Nested Re × Names). option_and_then
-      (λ group. option_and_then (written_span group) (find found.value text 0))
-      (group_named (drop 1 given ∷ []) 0 name))) (read-is pattern nfa own.compiled).1)
+    pub match-is : (found : Option Found) → IsFindAnswer nfa LeftmostFirst false (whole text) found
+        → found ≡ option_map found_by (first_match pattern text)
+    match-is found answer =
+        match-found _ (call-answered byte_syntax pattern nfa text own.compiled own.anywhere own.free bytes re meant)
+        found answer
+        ∙ ap (option_map found_by) (sym first-is)
+
+    pub matches-are : (found : List Found) → AreMatches nfa LeftmostFirst false (whole text) found
+        → found ≡ map found_by (all_matches pattern text)
+    unfolding all_matches
+    matches-are found all =
+        rw read-is.1 (call-matches byte_syntax pattern nfa text own.compiled own.anywhere own.free bytes re meant found
+        all)
+
+    pub has-match : (found : Bool) → IsBoolAnswer nfa LeftmostFirst false (whole text) found
+        → found ≡ has_match pattern text
+    has-match found answer =
+        found-finds re text found (found-as-read byte_syntax pattern nfa text own.compiled own.anywhere own.free bytes
+        re read-as found answer)
+        ∙ ap is_some (sym first-is)
+
+    module _ (captures : Captured) (name : List ℕ)
+        (answer : IsAnswer nfa LeftmostFirst false (whole text) captures.pattern captures.slots)
+        (same : captures.groups ≡ nfa.groups) (room : length captures.slots ≡ slot_count nfa.groups) where
+      hit : AreOfHit nfa.groups (option_map (hit_by 0) (find re text 0)) captures.pattern captures.slots
+      hit = answer-is (call-answered byte_syntax pattern nfa text own.compiled own.anywhere own.free bytes re meant)
+          captures.pattern captures.slots answer
+
+      by-group : (o : Option ℕ) → group_named (drop 1 names ∷ []) 0 name ≡ o
+          → named_span captures name
+          ≡ option_and_then (λ group. option_and_then (written_span group) (find re text 0)) o
+      by-group (Some group) is =
+          call-name byte_syntax pattern nfa own.compiled names named captures name group (find re text 0) same room is
+          hit
+      by-group None is =
+          none-name captures name (find re text 0) (hit.0 ∙ zero-hit (find re text 0))
+          (ap (λ gs. group_named gs 0 name) (same ∙ groups-of-one byte_syntax pattern nfa own.compiled names named)
+          ∙ is)
+
+      pub name-is : named_span captures name ≡ named_span_in pattern name text
+      unfolding named_span_in
+      name-is = by-group (group_named (drop 1 names ∷ []) 0 name) refl ∙ sym (ap (option_and_then
+          (λ ((found, given) : Nested Re × Names). option_and_then
+          (λ group. option_and_then (written_span group) (find found.value text 0))
+          (group_named (drop 1 given ∷ []) 0 name))) read-is.1)

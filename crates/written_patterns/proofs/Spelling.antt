@@ -1,14 +1,8 @@
 -- Which texts a pattern without assertions matches, wherever they stand.
-use Rattle.std.proofs.Common.{◌≡◌, ◌∙◌, ℕ, zero, suc, ◌+◌, ◌≤◌, Bool, true, false, List, [], ◌∷◌, ◌++◌, ◌⊎◌, length, drop, Some, refl, sym, ap, subst, arith, slice_get, append_assoc, length-append, length-drop, drop-drop, inl, inr, ◌↔◌, All}
-use Rattle.std.proofs.lemmas.List.{drop_more}
-use Rattle.std.proofs.lemmas.List.Elements.{All-append, All-cons, All-head, All-nil, All-tail}
-use Rattle.std.proofs.lemmas.Option.{slice_get_within, get_or_from_slice_get}
+use Rattle.nfa_paths.proofs.Common.{◌≡◌, ◌∙◌, ℕ, zero, suc, ◌+◌, ◌≤◌, Bool, true, false, List, [], ◌∷◌, ◌++◌, ◌⊎◌, length, drop, Some, refl, sym, ap, subst, arith, slice_get, append_assoc, length-append, length-drop, drop-drop, inl, inr, ◌↔◌, All, drop_at, drop_more, All-append, All-cons, All-head, All-nil, All-tail, slice_get_within, get_or_from_slice_get}
 use Rattle.regex_class.specs.Ranges.{Range, in_ranges}
-use Rattle.regex_hir.specs.Matches.{Matches, Rounds, one_round, next_round}
-use Rattle.regex_hir.specs.Meaning.{copies, optional, up_to}
-use Rattle.regex_hir.specs.Re.{Re, alt, byte_in, cat, empty, group, literal, plus}
+use Rattle.nfa_compiler.specs.Common.{Matches, Rounds, one_round, next_round, copies, optional, up_to, Re, alt, byte_in, cat, empty, group, literal, plus, first}
 use Rattle.regex_hir.proofs.TextLemmas.{has_bytes_at_from, has_bytes_at_parts}
-use Rattle.regex_syntax.specs.Reading.{first}
 use Rattle.regex_syntax.proofs.ReadingLemmas.{first-drop}
 use Rattle.written_patterns.specs.Texts.{Bytes, BytesOrMore, Exactly, Times, ◌followed_by◌, ◌or_else◌}
 
@@ -31,13 +25,8 @@ within hay i j text le at =
 -- the end of a text that stands at the front
 pub at-front : (hay : List ℕ) (i : ℕ) (text rest : List ℕ) → drop i hay ≡ text ++ rest
     → drop (i + length text) hay ≡ rest
-at-front hay i [] rest e =
-    let zero_more : i + 0 ≡ i = omega arith in
-    ap (λ n. drop n hay) zero_more ∙ e
-at-front hay i (b ∷ text) rest e =
-    let next : drop (i + 1) hay ≡ text ++ rest = sym (drop-drop 1 i hay) ∙ ap (drop 1) e in
-    let same : i + suc (length text) ≡ i + 1 + length text = omega arith in
-    ap (λ n. drop n hay) same ∙ at-front hay (i + 1) text rest next
+at-front hay i text rest e =
+    sym (drop-drop (length text) i hay) ∙ ap (drop (length text)) e ∙ drop_at text rest (length text) refl
 
 at-split : (hay : List ℕ) (i j : ℕ) (a b : List ℕ) → IsAt hay i j (a ++ b)
     → IsAt hay i (i + length a) a × IsAt hay (i + length a) j b
@@ -151,84 +140,69 @@ module _ (rs : List Range) (test : ℕ → Bool) (same : (b : ℕ) → in_ranges
   unfolding first
   stands-byte hay i b rest e = sym (first-drop hay i) ∙ ap first e
 
-  -- one byte, and then the rest
-  byte-to : (hay : List ℕ) (i l : ℕ) → Matches hay (byte_in rs) i l
-      → (b : ℕ) × IsAt hay i l (b ∷ []) × (test b ≡ true)
-  byte-to hay i l m = (
-    m.0,
-    record { rest = subst (λ n. drop i hay ≡ m.0 ∷ drop n hay) (sym m.3) (byte-stands hay i m.0 m.1); end = m.3 },
-    sym (same m.0) ∙ m.2,
-  )
-
-  byte-from : (hay : List ℕ) (i l b : ℕ) → IsAt hay i l (b ∷ []) → test b ≡ true → Matches hay (byte_in rs) i l
-  byte-from hay i l b at passes = (b, stands-byte hay i b (drop l hay) at.rest, same b ∙ passes, at.end)
-
-  cons-run : (b least most : ℕ) (text : List ℕ) → test b ≡ true → Bytes test least most text
-      → Bytes test (suc least) (suc most) (b ∷ text)
-  cons-run b least most text passes is = record {
-    at_least = omega (arith, is.at_least);
-    at_most = omega (arith, is.at_most);
-    each = All-cons (λ x. test x ≡ true) b text passes is.each;
+  one-run : (b : ℕ) → test b ≡ true → Bytes test 1 1 (b ∷ [])
+  one-run b passes = record {
+    at_least = omega arith;
+    at_most = omega arith;
+    each = All-cons (λ x. test x ≡ true) b [] passes (All-nil (λ x. test x ≡ true));
   }
 
-  tail-run : (b least most : ℕ) (text : List ℕ) → Bytes test (suc least) (suc most) (b ∷ text)
-      → (test b ≡ true) × Bytes test least most text
-  tail-run b least most text is = (
-    All-head (λ x. test x ≡ true) b text is.each,
-    record {
-      at_least = omega (arith, is.at_least);
-      at_most = omega (arith, is.at_most);
-      each = All-tail (λ x. test x ≡ true) b text is.each;
-    },
-  )
-
-  no-run : (least most : ℕ) → least ≡ 0 → Bytes test least most []
-  no-run least most none =
-      record { at_least = omega arith; at_most = omega arith; each = All-nil (λ x. test x ≡ true) }
-
-  -- a byte, and then a run
-  spells-cons : (least most : ℕ) {rest : Re} → Spells rest (Bytes test least most)
-      → Spells (cat (byte_in rs) rest) (Bytes test (suc least) (suc most))
-  spells-cons least most {rest} h = record {
-    to = λ hay i j le m.
-        let b = byte-to hay i m.0 m.1 in
-        let t = h.to hay m.0 j (within hay i m.0 (b.0 ∷ []) le b.1) m.2 in (
-          b.0 ∷ t.0,
-          at-join hay i m.0 j (b.0 ∷ []) t.0 b.1 t.1,
-          cons-run b.0 least most t.0 b.2 t.2,
-        );
-    from = λ hay i j text le at is. back hay i j text le at is;
-  }
-    where
-      back : (hay : List ℕ) (i j : ℕ) (text : List ℕ) → i ≤ length hay → IsAt hay i j text
-          → Bytes test (suc least) (suc most) text → Matches hay (cat (byte_in rs) rest) i j
-      back hay i j [] le at is = absurd (omega (arith, is.at_least))
-      back hay i j (b ∷ text) le at is =
-          let split = at-split hay i j (b ∷ []) text at in
-          let parts = tail-run b least most text is in (
-            i + 1,
-            byte-from hay i (i + 1) b split.0 parts.0,
-            h.from hay (i + 1) j text (within hay i (i + 1) (b ∷ []) le split.0) split.1 parts.1,
-          )
+  no-run : (most : ℕ) → Bytes test 0 most []
+  no-run most = record { at_least = omega arith; at_most = omega arith; each = All-nil (λ x. test x ≡ true) }
 
   pub spells-byte : Spells (byte_in rs) (Bytes test 1 1)
   spells-byte = record {
-    to = λ hay i j le m.
-        let b = byte-to hay i j m in (b.0 ∷ [], b.1, cons-run b.0 0 0 [] b.2 (no-run 0 0 refl));
+    to = λ hay i j le m. (
+      m.0 ∷ [],
+      record { rest = subst (λ n. drop i hay ≡ m.0 ∷ drop n hay) (sym m.3) (byte-stands hay i m.0 m.1); end = m.3 },
+      one-run m.0 (sym (same m.0) ∙ m.2),
+    );
     from = λ hay i j text le at is. one hay i j text at is;
   }
     where
       one : (hay : List ℕ) (i j : ℕ) (text : List ℕ) → IsAt hay i j text → Bytes test 1 1 text
           → Matches hay (byte_in rs) i j
       one hay i j [] at is = absurd (omega (arith, is.at_least))
-      one hay i j (b ∷ []) at is = byte-from hay i j b at (tail-run b 0 0 [] is).0
+      one hay i j (b ∷ []) at is =
+          let passes = All-head (λ x. test x ≡ true) b [] is.each in
+          (b, stands-byte hay i b (drop j hay) at.rest, same b ∙ passes, at.end)
       one hay i j (b ∷ (c ∷ text)) at is = absurd (omega (arith, is.at_most))
+
+  -- a byte, and then a run
+  cons-run : (least most : ℕ) (text : List ℕ)
+      → (Bytes test 1 1 followed_by Bytes test least most) text ↔ Bytes test (suc least) (suc most) text
+  cons-run least most text = (
+    λ is.
+        let long = ap length is.text_is ∙ length-append is.first is.second in
+        record {
+          at_least = omega (arith, long, is.first_is.at_least, is.second_is.at_least);
+          at_most = omega (arith, long, is.first_is.at_most, is.second_is.at_most);
+          each = subst (All (λ x. test x ≡ true)) (sym is.text_is)
+              (All-append (λ x. test x ≡ true) is.first is.second is.first_is.each is.second_is.each);
+        },
+    λ is. back text is,
+  )
+    where
+      back : (xs : List ℕ) → Bytes test (suc least) (suc most) xs
+          → (Bytes test 1 1 followed_by Bytes test least most) xs
+      back [] is = absurd (omega (arith, is.at_least))
+      back (b ∷ xs) is = record {
+        first = b ∷ [];
+        second = xs;
+        text_is = refl;
+        first_is = one-run b (All-head (λ x. test x ≡ true) b xs is.each);
+        second_is = record {
+          at_least = omega (arith, is.at_least);
+          at_most = omega (arith, is.at_most);
+          each = All-tail (λ x. test x ≡ true) b xs is.each;
+        };
+      }
 
   empty-run : Spells empty (Bytes test 0 0)
   empty-run = spells-iff (λ text. (λ is. of text is.text_is, λ is. none text is)) spells-empty
     where
       of : (text : List ℕ) → text ≡ [] → Bytes test 0 0 text
-      of text e = subst (λ xs. Bytes test 0 0 xs) (sym e) (no-run 0 0 refl)
+      of text e = subst (λ xs. Bytes test 0 0 xs) (sym e) (no-run 0)
 
       none : (text : List ℕ) → Bytes test 0 0 text → Exactly [] text
       none [] is = record { text_is = refl }
@@ -239,7 +213,7 @@ module _ (rs : List Range) (test : ℕ → Bool) (same : (b : ℕ) → in_ranges
   optional-run n text = (
     λ is. elim is.either [
       | inl run ↦ record { at_least = omega arith; at_most = run.at_most; each = run.each }
-      | inr none ↦ subst (λ xs. Bytes test 0 (suc n) xs) (sym none.text_is) (no-run 0 (suc n) refl)
+      | inr none ↦ subst (λ xs. Bytes test 0 (suc n) xs) (sym none.text_is) (no-run (suc n))
     ],
     λ is. back text is,
   )
@@ -252,7 +226,8 @@ module _ (rs : List Range) (test : ℕ → Bool) (same : (b : ℕ) → in_ranges
   spells-up_to : (greedy : Bool) (n : ℕ) → Spells (up_to greedy n (byte_in rs)) (Bytes test 0 n)
   spells-up_to greedy zero = empty-run
   spells-up_to greedy (suc n) =
-      spells-iff (optional-run n) (spells-optional greedy (spells-cons 0 n (spells-up_to greedy n)))
+      spells-iff (optional-run n) (spells-optional greedy (spells-iff (cons-run 0 n)
+      (spells-cat spells-byte (spells-up_to greedy n))))
 
   -- `[0-9]{2,5}`: so many bytes at least, and some more
   pub spells-run : (greedy : Bool) (least more : ℕ)
@@ -263,49 +238,44 @@ module _ (rs : List Range) (test : ℕ → Bool) (same : (b : ℕ) → in_ranges
   spells-run greedy (suc least) more =
       let e : suc (least + more) ≡ suc least + more = omega arith in
       subst (λ n. Spells (copies (suc least) (byte_in rs) (up_to greedy more (byte_in rs))) (Bytes test (suc least) n))
-      e (spells-cons least (least + more) (spells-run greedy least more))
+      e (spells-iff (cons-run least (least + more)) (spells-cat spells-byte (spells-run greedy least more)))
 
   -- `[0-9]+`
 
   rounds-to : (hay : List ℕ) (i j : ℕ) → i ≤ length hay → Rounds (Matches hay (byte_in rs)) i j
       → (text : List ℕ) × IsAt hay i j text × BytesOrMore test 1 text
   rounds-to hay i j le (one_round _ m) =
-      let b = byte-to hay i j m in (
-        b.0 ∷ [],
-        b.1,
-        record { at_least = omega arith; each = (cons-run b.0 0 0 [] b.2 (no-run 0 0 refl)).each },
-      )
+      let b = spells-byte.to hay i j le m in (b.0, b.1, record { at_least = b.2.at_least; each = b.2.each })
   rounds-to hay i j le (next_round l _ rounds m) =
       let before = rounds-to hay i l le rounds in
-      let b = byte-to hay l j m in (
-        before.0 ++ b.0 ∷ [],
-        at-join hay i l j before.0 (b.0 ∷ []) before.1 b.1,
+      let b = spells-byte.to hay l j (within hay i l before.0 le before.1) m in (
+        before.0 ++ b.0,
+        at-join hay i l j before.0 b.0 before.1 b.1,
         record {
-          at_least = omega (arith, length-append before.0 (b.0 ∷ []));
-          each = All-append (λ x. test x ≡ true) before.0 (b.0 ∷ []) before.2.each
-              (cons-run b.0 0 0 [] b.2 (no-run 0 0 refl)).each;
+          at_least = omega (arith, before.2.at_least, length-append before.0 b.0);
+          each = All-append (λ x. test x ≡ true) before.0 b.0 before.2.each b.2.each;
         },
       )
 
-  rounds-from : (hay : List ℕ) (i j b : ℕ) (text : List ℕ) → IsAt hay i j (b ∷ text)
+  rounds-from : (hay : List ℕ) (i j b : ℕ) (text : List ℕ) → i ≤ length hay → IsAt hay i j (b ∷ text)
       → All (λ x. test x ≡ true) (b ∷ text) → Rounds (Matches hay (byte_in rs)) i j
-  rounds-from hay i j b [] at each = one_round j (byte-from hay i j b at (All-head (λ x. test x ≡ true) b [] each))
-  rounds-from hay i j b (c ∷ text) at each =
+  rounds-from hay i j b [] le at each =
+      one_round j (spells-byte.from hay i j (b ∷ []) le at (one-run b (All-head (λ x. test x ≡ true) b [] each)))
+  rounds-from hay i j b (c ∷ text) le at each =
       let split = at-split hay i j (b ∷ []) (c ∷ text) at in
       cons-round (Matches hay (byte_in rs)) i (i + 1) j
-      (byte-from hay i (i + 1) b split.0 (All-head (λ x. test x ≡ true) b (c ∷ text) each))
-      (rounds-from hay (i + 1) j c text split.1 (All-tail (λ x. test x ≡ true) b (c ∷ text) each))
+      (spells-byte.from hay i (i + 1) (b ∷ []) le split.0
+      (one-run b (All-head (λ x. test x ≡ true) b (c ∷ text) each)))
+      (rounds-from hay (i + 1) j c text (within hay i (i + 1) (b ∷ []) le split.0) split.1
+      (All-tail (λ x. test x ≡ true) b (c ∷ text) each))
 
   pub spells-plus : (greedy : Bool) → Spells (plus greedy (byte_in rs)) (BytesOrMore test 1)
-  spells-plus greedy = record {
-    to = λ hay i j le m. rounds-to hay i j le m;
-    from = λ hay i j text le at is. some hay i j text at is;
-  }
+  spells-plus greedy = record { to = rounds-to; from = some }
     where
-      some : (hay : List ℕ) (i j : ℕ) (text : List ℕ) → IsAt hay i j text → BytesOrMore test 1 text
+      some : (hay : List ℕ) (i j : ℕ) (text : List ℕ) → i ≤ length hay → IsAt hay i j text → BytesOrMore test 1 text
           → Rounds (Matches hay (byte_in rs)) i j
-      some hay i j [] at is = absurd (omega (arith, is.at_least))
-      some hay i j (b ∷ text) at is = rounds-from hay i j b text at is.each
+      some hay i j [] le at is = absurd (omega (arith, is.at_least))
+      some hay i j (b ∷ text) le at is = rounds-from hay i j b text le at is.each
 
   -- `[0-9]*`
   pub spells-star : (greedy : Bool) → Spells (optional greedy (plus greedy (byte_in rs))) (BytesOrMore test 0)

@@ -1,16 +1,8 @@
 -- What a pattern that is written out finds in a text, as functions of the two. A pattern here is what the grammar reads
 -- in byte mode; a text that is not a pattern finds nothing.
 use Rattle.std.specs.Prelude.{◌≡◌, false, Bool, List, [], ◌∷◌, drop, Option, None, Some, chars, is_some, option_and_then, ℕ}
-use Rattle.regex_hir.specs.Find.{Match, find, find_all}
-use Rattle.regex_syntax.specs.Grammar.{read}
-use Rattle.nfa_engines.specs.Automaton.{Automaton}
-use Rattle.nfa_engines.specs.Groups.{group_named}
-use Rattle.nfa_engines.specs.Paths.{is_utf8_empty}
-use Rattle.nfa_engines.specs.Span.{Span}
-use Rattle.nfa_compiler.specs.AnyStart.{FindsFromAnyStart}
-use Rattle.nfa_compiler.specs.Compiled.{IsCompiled}
-use Rattle.nfa_compiler.specs.NameLaws.{written_span}
-use Rattle.nfa_compiler.specs.Written.{byte_syntax}
+use Rattle.nfa_paths.specs.Common.{Automaton, group_named, is_utf8_empty, Span}
+use Rattle.nfa_compiler.specs.Common.{Match, find, find_all, read, FindsFromAnyStart, IsCompiled, written_span, byte_syntax}
 
 -- the first match of the pattern in the text
 unfoldable pub first_match : List ℕ → List ℕ → Option Match

@@ -1,5 +1,5 @@
 //! Iteration over the captures of the matches of an input.
-ghost use Rattle.nfa_search_base.specs.CapturesLists.{HasGroups};
+ghost use Rattle.nfa_search_base.specs.Lists.{HasGroups};
 
 use crate::choose::Choice;
 use nfa_engines::error::SearchError;
@@ -37,19 +37,17 @@ impl Model for CapturesFinder {
 }
 
 impl Choice {
-    ghost use Rattle.std.specs.Prelude.{◌≡◌, false, All, IfOk, IsOkUnless, None, map};
+    ghost use Rattle.std.specs.Prelude.{◌≡◌, false, All, IfOk, IsOkUnless, map};
     ghost use Rattle.regex_search_core.specs.Search.{search_of};
     ghost use Rattle.nfa_search_base.specs.WithCaptures.{row_of};
-    ghost use Rattle.nfa_search_base.specs.CapturesLists.{AreRows, AnswersRow};
-    ghost use Rattle.nfa_search_base.specs.CapturesGiven.{CapturesGiven};
-    ghost use Rattle.nfa_search_base.specs.CapturesRuns.{CapturesInside, CapturesMemory, CapturesWithin, match_in};
-    ghost use Rattle.nfa_search_base.specs.Lists.{AreDisjoint, AreMatches};
+    ghost use Rattle.nfa_search_base.specs.Lists.{AnswersRow};
+    ghost use Rattle.nfa_search_base.specs.Runs.{CapturesGiven, CapturesInside, CapturesMemory, CapturesWithin};
     ghost use Rattle.nfa_search_base.specs.IterStates.{fresh};
-    ghost use Rattle.nfa_choice.specs.CapturesMatches.{ChoiceCapturesBySearches, ChoiceCapturesGiveKept};
-    ghost use Rattle.nfa_choice.specs.CapturesMatches.{ChoiceCapturesOn, ChoiceCapturesToEnd, choice_captures_choice};
-    ghost use Rattle.nfa_choice.specs.CapturesMatches.{choice_captures_iter_state, choice_captures_done};
-    ghost use Rattle.nfa_choice.specs.CapturesMatches.{choice_captures_next};
-    ghost use Rattle.nfa_choice.specs.ChoiceState.{kind_in, KeepsEngines};
+    ghost use Rattle.nfa_search_base.specs.Stored.{GivesStepsWith, steps_iter_state};
+    ghost use Rattle.nfa_choice.specs.Answered.{ListsCaptures};
+    ghost use Rattle.nfa_choice.specs.ChoiceState.{kind_in, KeepsEngines, SearchedByRule};
+    ghost use Rattle.nfa_choice.specs.Iterations.{CapturesLead, CapturesOn, CapturesToEnd, choice_captures};
+    ghost use Rattle.nfa_choice.specs.Iterations.{choice_captures_next};
 
     /// Returns an iterator over the captures of all matches that do not overlap, from left to right, each with all
     /// groups of the NFA. This call runs no search. The only error is [`SearchError::Memory`]: the captures to search
@@ -74,11 +72,12 @@ impl Choice {
         input: Input<'h>,
     ) -> Result<ChoiceCaptures<'c, 'h>, SearchError>
         ensures memory { IsOkUnless result SearchError.Memory }
-        ensures same_reference { IfOk result (λ made. (choice_captures_choice made).ghost_name
+        ensures same_reference { IfOk result (λ made. (choice_captures made).cache.ghost_name
             ≡ self.entry.ghost_name) }
-        ensures same_choice { IfOk result (λ made. (choice_captures_choice made).now ≡ self.entry.now) }
-        ensures iter_state { IfOk result (λ made. choice_captures_iter_state made ≡ fresh (search_of input.entry)) }
-        ensures going { IfOk result (λ made. choice_captures_done made ≡ false) }
+        ensures same_choice { IfOk result (λ made. (choice_captures made).cache.now ≡ self.entry.now) }
+        ensures iter_state { IfOk result (λ made. steps_iter_state (choice_captures made).steps
+            ≡ fresh (search_of input.entry)) }
+        ensures going { IfOk result (λ made. (choice_captures made).steps.done ≡ false) }
         // Each run of calls gives the first captures of the input, and all of them if it goes on to `None`. If no copy
         // fails, their rows and their matches are those of the input.
         ensures given { IfOk result (CapturesGiven choice_captures_next self.entry.now.nfa (kind_in self.entry.now)
@@ -87,8 +86,8 @@ impl Choice {
         ensures inside { IfOk result (CapturesWithin choice_captures_next (search_of input.entry)) }
         ensures errors { IfOk result (CapturesMemory choice_captures_next) }
         // The choice changes only by the searches of the steps.
-        ensures searches { IfOk result (ChoiceCapturesBySearches (search_of input.entry)) }
-        ensures keeps { IfOk result ChoiceCapturesGiveKept }
+        ensures searches { IfOk result (CapturesLead SearchedByRule choice_captures (search_of input.entry)) }
+        ensures keeps { IfOk result (GivesStepsWith choice_captures_next choice_captures KeepsEngines) }
     {
         let captures = self.create_captures(alloc)?;
         Ok(self.captures_iter_with(input, captures))
@@ -113,10 +112,10 @@ impl Choice {
         captures: Captures,
     ) -> ChoiceCaptures<'c, 'h>
         requires { HasGroups self.old.nfa captures }
-        ensures same_reference { (choice_captures_choice result).ghost_name ≡ self.entry.ghost_name }
-        ensures same_choice { (choice_captures_choice result).now ≡ self.entry.now }
-        ensures iter_state { choice_captures_iter_state result ≡ fresh (search_of input.entry) }
-        ensures going { choice_captures_done result ≡ false }
+        ensures same_reference { (choice_captures result).cache.ghost_name ≡ self.entry.ghost_name }
+        ensures same_choice { (choice_captures result).cache.now ≡ self.entry.now }
+        ensures iter_state { steps_iter_state (choice_captures result).steps ≡ fresh (search_of input.entry) }
+        ensures going { (choice_captures result).steps.done ≡ false }
         // Each run of calls gives the first captures of the input, and all of them if it goes on to `None`. If no copy
         // fails, their rows and their matches are those of the input.
         ensures given { CapturesGiven choice_captures_next self.entry.now.nfa (kind_in self.entry.now)
@@ -125,8 +124,8 @@ impl Choice {
         ensures inside { CapturesWithin choice_captures_next (search_of input.entry) result }
         ensures errors { CapturesMemory choice_captures_next result }
         // The choice changes only by the searches of the steps.
-        ensures searches { ChoiceCapturesBySearches (search_of input.entry) result }
-        ensures keeps { ChoiceCapturesGiveKept result }
+        ensures searches { CapturesLead SearchedByRule choice_captures (search_of input.entry) result }
+        ensures keeps { GivesStepsWith choice_captures_next choice_captures KeepsEngines result }
     {
         ChoiceCaptures {
             choice: self,
@@ -156,19 +155,14 @@ impl Choice {
         input: Input<'_>,
     ) -> Result<Vec<Captures>, SearchError>
         ensures memory { IsOkUnless result SearchError.Memory }
-        ensures rows { IfOk result (λ all. AreRows self.old.nfa (kind_in self.old) (search_of input.entry).earliest
-            (search_of input.entry) (map row_of all.items)) }
-        ensures matches { IfOk result (λ all. AreMatches self.old.nfa (kind_in self.old)
-            (search_of input.entry).earliest (search_of input.entry) (map match_in all.items)) }
-        ensures groups { IfOk result (λ all. All (HasGroups self.old.nfa) all.items) }
+        ensures lists { ListsCaptures self.old (search_of input.entry) result }
         ensures inside { IfOk result (λ all. All (CapturesInside (search_of input.entry)) all.items) }
-        ensures disjoint { IfOk result (λ all. AreDisjoint (search_of input.entry) None (map match_in all.items)) }
         ensures keeps { KeepsEngines self.old self.new }
         // The choice changes only by the searches of an iteration. If all captures are returned, these searches go to
         // its end.
-        ensures searches { ChoiceCapturesOn (search_of input.entry) self.old self.new }
+        ensures searches { CapturesOn SearchedByRule (search_of input.entry) self.old self.new }
         ensures to_end { IfOk result (λ all.
-            ChoiceCapturesToEnd (search_of input.entry) (map row_of all.items) self.old self.new) }
+            CapturesToEnd SearchedByRule (search_of input.entry) (map row_of all.items) self.old self.new) }
     {
         let finder = CapturesFinder {
             captures: self.create_captures(alloc)?,
@@ -218,14 +212,14 @@ impl FindWith for CapturesFinder {
 }
 
 impl<'c, 'h> Iterator for ChoiceCaptures<'c, 'h> {
-    ghost use Rattle.nfa_search_base.specs.StepsWith.{steps_with_left};
-    ghost use Rattle.nfa_choice.specs.CapturesMatches.{choice_captures_steps, choice_captures_next};
+    ghost use Rattle.nfa_search_base.specs.Stored.{steps_left};
+    ghost use Rattle.nfa_choice.specs.Iterations.{choice_captures, choice_captures_next};
 
     type Item = Result<Captures, SearchError>;
 
     ghost next_gives = { choice_captures_next };
 
-    ghost remaining = { λ s. steps_with_left (choice_captures_steps s) };
+    ghost remaining = { λ s. steps_left (choice_captures s).steps };
 
     fn next(&mut self) -> Option<Result<Captures, SearchError>> {
         self.steps.next_with(self.choice)

@@ -20,17 +20,17 @@ pub struct ChoiceMatches<'c, 'h> {
 struct ByRule;
 
 impl Choice {
-    ghost use Rattle.std.specs.Prelude.{◌≡◌, false, All, IfOk, IsOk, IsOkUnless, None, [], map};
+    ghost use Rattle.std.specs.Prelude.{◌≡◌, false, All, IfOk, IsOkUnless, map};
     ghost use Rattle.regex_search_core.specs.Found.{found_of};
     ghost use Rattle.regex_search_core.specs.Search.{search_of};
-    ghost use Rattle.nfa_search_base.specs.Lists.{AreDisjoint, AreMatches, IsInside};
-    ghost use Rattle.nfa_search_base.specs.MatchRuns.{MatchesRun, MatchesAre, MatchesDisjoint, MatchesFirst};
-    ghost use Rattle.nfa_search_base.specs.MatchRuns.{MatchesNext};
+    ghost use Rattle.nfa_search_base.specs.Lists.{IsInside};
+    ghost use Rattle.nfa_search_base.specs.Runs.{MatchesRun, MatchesAre, MatchesDisjoint, MatchesFirst, MatchesNext};
     ghost use Rattle.nfa_search_base.specs.IterStates.{fresh};
-    ghost use Rattle.nfa_choice.specs.ChoiceState.{kind_in, KeepsEngines};
-    ghost use Rattle.nfa_choice.specs.Matches.{ChoiceFindsBySearches, ChoiceFindsOn, ChoiceFindsToEnd, ChoiceGivesKept};
-    ghost use Rattle.nfa_choice.specs.Matches.{choice_finds_cache, choice_finds_done};
-    ghost use Rattle.nfa_choice.specs.Matches.{choice_matches_next, choice_matches_iter_state};
+    ghost use Rattle.nfa_search_base.specs.Stored.{GivesStepsWith, steps_iter_state};
+    ghost use Rattle.nfa_choice.specs.Answered.{ListsMatches};
+    ghost use Rattle.nfa_choice.specs.ChoiceState.{kind_in, KeepsEngines, SearchedByRule};
+    ghost use Rattle.nfa_choice.specs.Iterations.{ChoiceFindsBySearches, FindsOn, FindsToEnd, choice_matches};
+    ghost use Rattle.nfa_choice.specs.Iterations.{choice_matches_next};
 
     /// Returns an iterator over all matches that do not overlap, from left to right. Does not allocate.
     ///
@@ -46,10 +46,10 @@ impl Choice {
     /// assert_eq!(rt; ranges.as_slice(), [0..4, 5..10, 11..17].as_slice());
     /// ```
     pub fn find_iter<'c, 'h>(&'c mut self, input: Input<'h>) -> ChoiceMatches<'c, 'h>
-        ensures same_reference { (choice_finds_cache result).ghost_name ≡ self.entry.ghost_name }
-        ensures same_choice { (choice_finds_cache result).now ≡ self.entry.now }
-        ensures iter_state { choice_matches_iter_state result ≡ fresh (search_of input.entry) }
-        ensures going { choice_finds_done result ≡ false }
+        ensures same_reference { (choice_matches result).cache.ghost_name ≡ self.entry.ghost_name }
+        ensures same_choice { (choice_matches result).cache.now ≡ self.entry.now }
+        ensures iter_state { steps_iter_state (choice_matches result).steps ≡ fresh (search_of input.entry) }
+        ensures going { (choice_matches result).steps.done ≡ false }
         // Each run of calls gives the first matches of the input, and all of them if it goes on to `None`.
         ensures runs { MatchesRun self.entry.now.nfa (kind_in self.entry.now)
             (search_of input.entry) choice_matches_next result }
@@ -63,7 +63,7 @@ impl Choice {
             (search_of input.entry) choice_matches_next result }
         // The choice changes only by the searches of the steps.
         ensures searches { ChoiceFindsBySearches (search_of input.entry) result }
-        ensures keeps { ChoiceGivesKept result }
+        ensures keeps { GivesStepsWith choice_matches_next choice_matches KeepsEngines result }
     {
         ChoiceMatches {
             choice: self,
@@ -88,18 +88,14 @@ impl Choice {
     /// ```
     pub fn find_all(&mut self, alloc: Global, input: Input<'_>) -> Result<Vec<Match>, SearchError>
         ensures memory { IsOkUnless result SearchError.Memory }
-        ensures granted { AreMatches self.old.nfa (kind_in self.old) (search_of input.entry).earliest
-            (search_of input.entry) [] → IsOk result }
-        ensures all { IfOk result (λ found. AreMatches self.old.nfa (kind_in self.old) (search_of input.entry).earliest
-            (search_of input.entry) (map found_of found.items)) }
-        ensures disjoint { IfOk result (λ found. AreDisjoint (search_of input.entry) None (map found_of found.items)) }
+        ensures lists { ListsMatches self.old (search_of input.entry) result }
         ensures inside { IfOk result (λ found. All (λ m. IsInside (search_of input.entry) (found_of m)) found.items) }
         ensures keeps { KeepsEngines self.old self.new }
         // The choice changes only by the searches of an iteration. If all matches are returned, these searches go to
         // its end.
-        ensures searches { ChoiceFindsOn (search_of input.entry) self.old self.new }
+        ensures searches { FindsOn SearchedByRule (search_of input.entry) self.old self.new }
         ensures to_end { IfOk result (λ found.
-            ChoiceFindsToEnd (search_of input.entry) (map found_of found.items) self.old self.new) }
+            FindsToEnd SearchedByRule (search_of input.entry) (map found_of found.items) self.old self.new) }
     {
         let mut found = Vec::new(alloc);
         for item in self.find_iter(input) {
@@ -111,11 +107,10 @@ impl Choice {
 
 impl FindWith for ByRule {
     ghost use Rattle.regex_search_core.specs.Found.{Found, found_of};
-    ghost use Rattle.nfa_search_base.specs.Finders.{answer_by};
-    ghost use Rattle.nfa_search_base.specs.Steps.{GivesItem};
+    ghost use Rattle.nfa_search_base.specs.Finders.{may_ask};
+    ghost use Rattle.nfa_search_base.specs.Items.{GivesItem, answer_by};
     ghost use Rattle.nfa_search_base.specs.IterStates.{span_of};
-    ghost use Rattle.nfa_search_base.specs.Serving.{may_ask};
-    ghost use Rattle.nfa_choice.specs.Matches.{AsksByRule};
+    ghost use Rattle.nfa_choice.specs.Iterations.{AsksByRule};
     ghost use Rattle.std.specs.Prelude.{Ok};
 
     type Cache = Choice;
@@ -153,14 +148,14 @@ impl FindWith for ByRule {
 }
 
 impl<'c, 'h> Iterator for ChoiceMatches<'c, 'h> {
-    ghost use Rattle.nfa_search_base.specs.StepsWith.{infallible_left_with};
-    ghost use Rattle.nfa_choice.specs.Matches.{choice_matches, choice_matches_next};
+    ghost use Rattle.nfa_search_base.specs.Stored.{infallible_left};
+    ghost use Rattle.nfa_choice.specs.Iterations.{choice_matches, choice_matches_next};
 
     type Item = Match;
 
     ghost next_gives = { choice_matches_next };
 
-    ghost remaining = { λ s. infallible_left_with (choice_matches s) };
+    ghost remaining = { λ s. infallible_left (choice_matches s).steps };
 
     fn next(&mut self) -> Option<Match> {
         match self.steps.next_with(self.choice) {

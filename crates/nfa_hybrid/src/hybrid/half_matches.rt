@@ -67,10 +67,9 @@ impl Hybrid {
 
 impl FindWith for InTurn {
     ghost use Rattle.regex_search_core.specs.Found.{HalfFound, half_found_of};
-    ghost use Rattle.nfa_search_base.specs.Finders.{answer_by};
-    ghost use Rattle.nfa_search_base.specs.Steps.{GivesItem};
+    ghost use Rattle.nfa_search_base.specs.Finders.{may_ask};
+    ghost use Rattle.nfa_search_base.specs.Items.{GivesItem, answer_by};
     ghost use Rattle.nfa_search_base.specs.IterStates.{half_span_of};
-    ghost use Rattle.nfa_search_base.specs.Serving.{may_ask};
     ghost use Rattle.nfa_hybrid.specs.HalfIterations.{AsksHalf};
     ghost use Rattle.nfa_hybrid.specs.Halves.{FindsHalfInTurn};
     ghost use Rattle.nfa_hybrid.specs.HybridState.{pike_of};
@@ -111,14 +110,14 @@ impl FindWith for InTurn {
 }
 
 impl<'c, 'h> Iterator for HalfMatches<'c, 'h> {
-    ghost use Rattle.nfa_search_base.specs.StepsWith.{infallible_left_with};
+    ghost use Rattle.nfa_search_base.specs.Stored.{infallible_left};
     ghost use Rattle.nfa_hybrid.specs.Halves.{half_steps, halves_next};
 
     type Item = HalfMatch;
 
     ghost next_gives = { halves_next };
 
-    ghost remaining = { λ s. infallible_left_with (half_steps s) };
+    ghost remaining = { λ s. infallible_left (half_steps s).steps };
 
     fn next(&mut self) -> Option<HalfMatch> {
         match self.steps.next_with(self.hybrid) {

@@ -1,11 +1,10 @@
 //! Captures for the NFA, and the searches that fill them.
-ghost use Rattle.std.specs.Prelude.{◌≡◌, ◌<◌, None, length, replicate, All, IfNone, IfOk, IfSome, IsOkUnless};
+ghost use Rattle.std.specs.Prelude.{◌≡◌, None, replicate, IfOk, IsOkUnless};
 ghost use Rattle.regex_search_core.specs.Groups.{slot_count};
 ghost use Rattle.regex_search_core.specs.Search.{search_of};
 ghost use Rattle.nfa_paths.specs.Paths.{IsAnswer};
-ghost use Rattle.nfa_search_base.specs.Lists.{IsSlotInside};
-ghost use Rattle.nfa_search_base.specs.Spans.{SpansInside};
 ghost use Rattle.nfa_backtrack.specs.Backtrack.{HoldsNoMore};
+ghost use Rattle.nfa_choice.specs.Answered.{FillsCaptures};
 ghost use Rattle.nfa_choice.specs.ChoiceState.{kind_in, KeepsEngines};
 ghost use Rattle.nfa_meta.specs.WindowRuns.{RunsByWindow};
 
@@ -51,14 +50,8 @@ impl Regex {
     pub fn search(&mut self, input: &Input<'_>, captures: &mut Captures)
         ensures answer { IsAnswer self.old.nfa (kind_in self.old) (search_of input.now).earliest (search_of input.now)
             captures.new.pattern captures.new.slots }
-        ensures groups { captures.new.groups ≡ captures.old.groups }
-        ensures count { length captures.new.slots ≡ length captures.old.slots }
-        ensures unmatched { IfNone captures.new.pattern
-            (captures.new.slots ≡ replicate (length captures.old.slots) None) }
-        ensures pattern { IfSome captures.new.pattern (λ p. p < length self.old.nfa.patterns) }
-        ensures inside { All (IsSlotInside (search_of input.now)) captures.new.slots }
-        ensures spans { SpansInside (search_of input.now) captures.new }
         ensures runs { RunsByWindow (search_of input.now) self.old self.new }
+        ensures fills { FillsCaptures self.old.nfa (search_of input.now) captures.old captures.new }
         ensures holds { HoldsNoMore 0 self.old.back self.new.back }
         ensures keeps { KeepsEngines self.old self.new }
     {
@@ -80,14 +73,8 @@ impl Regex {
     pub fn captures<'h>(&mut self, input: Input<'h>, captures: &mut Captures)
         ensures answer { let x = search_of input.entry in
             IsAnswer self.old.nfa (kind_in self.old) x.earliest x captures.new.pattern captures.new.slots }
-        ensures groups { captures.new.groups ≡ captures.old.groups }
-        ensures count { length captures.new.slots ≡ length captures.old.slots }
-        ensures unmatched { IfNone captures.new.pattern
-            (captures.new.slots ≡ replicate (length captures.old.slots) None) }
-        ensures pattern { IfSome captures.new.pattern (λ p. p < length self.old.nfa.patterns) }
-        ensures inside { All (IsSlotInside (search_of input.entry)) captures.new.slots }
-        ensures spans { SpansInside (search_of input.entry) captures.new }
         ensures runs { RunsByWindow (search_of input.entry) self.old self.new }
+        ensures fills { FillsCaptures self.old.nfa (search_of input.entry) captures.old captures.new }
         ensures holds { HoldsNoMore 0 self.old.back self.new.back }
         ensures keeps { KeepsEngines self.old self.new }
     {

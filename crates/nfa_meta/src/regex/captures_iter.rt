@@ -1,5 +1,5 @@
 //! Iteration over the captures of the matches of an input.
-ghost use Rattle.nfa_search_base.specs.CapturesLists.{HasGroups};
+ghost use Rattle.nfa_search_base.specs.Lists.{HasGroups};
 
 use crate::regex::Regex;
 use nfa_engines::error::SearchError;
@@ -37,18 +37,17 @@ impl Model for CapturesFinder {
 }
 
 impl Regex {
-    ghost use Rattle.std.specs.Prelude.{◌≡◌, false, All, IfOk, IsOkUnless, None, map};
+    ghost use Rattle.std.specs.Prelude.{◌≡◌, false, All, IfOk, IsOkUnless, map};
     ghost use Rattle.regex_search_core.specs.Search.{search_of};
     ghost use Rattle.nfa_search_base.specs.WithCaptures.{row_of};
-    ghost use Rattle.nfa_search_base.specs.CapturesLists.{AreRows, AnswersRow};
-    ghost use Rattle.nfa_search_base.specs.CapturesGiven.{CapturesGiven};
-    ghost use Rattle.nfa_search_base.specs.CapturesRuns.{CapturesInside, CapturesMemory, CapturesWithin, match_in};
-    ghost use Rattle.nfa_search_base.specs.Lists.{AreDisjoint, AreMatches};
+    ghost use Rattle.nfa_search_base.specs.Lists.{AnswersRow};
+    ghost use Rattle.nfa_search_base.specs.Runs.{CapturesGiven, CapturesInside, CapturesMemory, CapturesWithin};
     ghost use Rattle.nfa_search_base.specs.IterStates.{fresh};
     ghost use Rattle.nfa_meta.specs.CapturesMatches.{CapturesBySearches, CapturesGiveKept};
     ghost use Rattle.nfa_meta.specs.CapturesMatches.{RegexCapturesOn, RegexCapturesToEnd, captures_regex};
     ghost use Rattle.nfa_meta.specs.CapturesMatches.{captures_iter_state, captures_done};
     ghost use Rattle.nfa_meta.specs.CapturesMatches.{captures_next};
+    ghost use Rattle.nfa_choice.specs.Answered.{ListsCaptures};
     ghost use Rattle.nfa_choice.specs.ChoiceState.{kind_in, KeepsEngines};
 
     /// Returns an iterator over the captures of all matches that do not overlap, from left to right, each with all
@@ -156,13 +155,8 @@ impl Regex {
         input: Input<'_>,
     ) -> Result<Vec<Captures>, SearchError>
         ensures memory { IsOkUnless result SearchError.Memory }
-        ensures rows { IfOk result (λ all. AreRows self.old.nfa (kind_in self.old) (search_of input.entry).earliest
-            (search_of input.entry) (map row_of all.items)) }
-        ensures matches { IfOk result (λ all. AreMatches self.old.nfa (kind_in self.old)
-            (search_of input.entry).earliest (search_of input.entry) (map match_in all.items)) }
-        ensures groups { IfOk result (λ all. All (HasGroups self.old.nfa) all.items) }
+        ensures lists { ListsCaptures self.old (search_of input.entry) result }
         ensures inside { IfOk result (λ all. All (CapturesInside (search_of input.entry)) all.items) }
-        ensures disjoint { IfOk result (λ all. AreDisjoint (search_of input.entry) None (map match_in all.items)) }
         ensures keeps { KeepsEngines self.old self.new }
         // The engines change only by the searches of an iteration. If all captures are returned, these searches go to
         // its end.
@@ -218,14 +212,14 @@ impl FindWith for CapturesFinder {
 }
 
 impl<'r, 'h> Iterator for CapturesMatches<'r, 'h> {
-    ghost use Rattle.nfa_search_base.specs.StepsWith.{steps_with_left};
+    ghost use Rattle.nfa_search_base.specs.Stored.{steps_left};
     ghost use Rattle.nfa_meta.specs.CapturesMatches.{captures_steps, captures_next};
 
     type Item = Result<Captures, SearchError>;
 
     ghost next_gives = { captures_next };
 
-    ghost remaining = { λ s. steps_with_left (captures_steps s) };
+    ghost remaining = { λ s. steps_left (captures_steps s).steps };
 
     fn next(&mut self) -> Option<Result<Captures, SearchError>> {
         self.steps.next_with(self.regex)

@@ -1,7 +1,7 @@
 //! A text with a template, filled by captures, in place of its matches.
 ghost use Rattle.std.specs.Prelude.{◌≡◌, ◌<◌, All, IfErr, IfOk, None, length, map, take};
 ghost use Rattle.regex_search_core.specs.Search.{search_of};
-ghost use Rattle.nfa_search_base.specs.CapturesRuns.{CapturesInside, match_in};
+ghost use Rattle.nfa_search_base.specs.Runs.{CapturesInside, match_in};
 ghost use Rattle.nfa_search_base.specs.Lists.{AreDisjoint};
 ghost use Rattle.nfa_choice.specs.ChoiceState.{KeepsEngines};
 ghost use Rattle.nfa_meta.specs.Filled.{AreFirstCaught, IsFilled, IsFilledUpTo};

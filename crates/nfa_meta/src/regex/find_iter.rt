@@ -29,13 +29,13 @@ struct ByWindow {
 }
 
 impl Regex {
-    ghost use Rattle.std.specs.Prelude.{◌≡◌, false, All, IfOk, IsOk, IsOkUnless, None, [], map};
+    ghost use Rattle.std.specs.Prelude.{◌≡◌, false, All, IfOk, IsOkUnless, map};
     ghost use Rattle.regex_search_core.specs.Found.{found_of};
     ghost use Rattle.regex_search_core.specs.Search.{search_of};
-    ghost use Rattle.nfa_search_base.specs.Lists.{AreDisjoint, AreMatches, IsInside};
+    ghost use Rattle.nfa_search_base.specs.Lists.{IsInside};
     ghost use Rattle.nfa_search_base.specs.IterStates.{fresh};
-    ghost use Rattle.nfa_search_base.specs.MatchRuns.{MatchesRun, MatchesAre, MatchesDisjoint, MatchesFirst};
-    ghost use Rattle.nfa_search_base.specs.MatchRuns.{MatchesNext};
+    ghost use Rattle.nfa_search_base.specs.Runs.{MatchesRun, MatchesAre, MatchesDisjoint, MatchesFirst, MatchesNext};
+    ghost use Rattle.nfa_choice.specs.Answered.{ListsMatches};
     ghost use Rattle.nfa_choice.specs.ChoiceState.{kind_in, KeepsEngines};
     ghost use Rattle.nfa_meta.specs.Matches.{FindsBySearches, FindsGiveKept, RegexFindsOn, RegexFindsToEnd};
     ghost use Rattle.nfa_meta.specs.Matches.{finds_done, finds_iter_state, finds_next, finds_regex};
@@ -96,11 +96,7 @@ impl Regex {
     /// ```
     pub fn find_all(&mut self, alloc: Global, input: Input<'_>) -> Result<Vec<Match>, SearchError>
         ensures memory { IsOkUnless result SearchError.Memory }
-        ensures granted { AreMatches self.old.nfa (kind_in self.old) (search_of input.entry).earliest
-            (search_of input.entry) [] → IsOk result }
-        ensures all { IfOk result (λ found. AreMatches self.old.nfa (kind_in self.old) (search_of input.entry).earliest
-            (search_of input.entry) (map found_of found.items)) }
-        ensures disjoint { IfOk result (λ found. AreDisjoint (search_of input.entry) None (map found_of found.items)) }
+        ensures lists { ListsMatches self.old (search_of input.entry) result }
         ensures inside { IfOk result (λ found. All (λ m. IsInside (search_of input.entry) (found_of m)) found.items) }
         ensures keeps { KeepsEngines self.old self.new }
         // The engines change only by the searches of an iteration. If all matches are returned, these searches go to
@@ -119,8 +115,7 @@ impl Regex {
 
 impl FindWith for ByWindow {
     ghost use Rattle.regex_search_core.specs.Found.{Found, found_of};
-    ghost use Rattle.nfa_search_base.specs.Finders.{answer_by};
-    ghost use Rattle.nfa_search_base.specs.Steps.{GivesItem};
+    ghost use Rattle.nfa_search_base.specs.Items.{GivesItem, answer_by};
     ghost use Rattle.nfa_search_base.specs.IterStates.{span_of};
     ghost use Rattle.nfa_meta.specs.Matches.{AsksByWindow, MayFindByWindow};
     ghost use Rattle.std.specs.Prelude.{Ok};
@@ -166,14 +161,14 @@ impl FindWith for ByWindow {
 }
 
 impl<'r, 'h> Iterator for FindMatches<'r, 'h> {
-    ghost use Rattle.nfa_search_base.specs.StepsWith.{infallible_left_with};
+    ghost use Rattle.nfa_search_base.specs.Stored.{infallible_left};
     ghost use Rattle.nfa_meta.specs.Matches.{finds_next, finds_steps};
 
     type Item = Match;
 
     ghost next_gives = { finds_next };
 
-    ghost remaining = { λ s. infallible_left_with (finds_steps s) };
+    ghost remaining = { λ s. infallible_left (finds_steps s).steps };
 
     fn next(&mut self) -> Option<Match> {
         match self.steps.next_with(self.regex) {

@@ -2,7 +2,7 @@
 ghost use Rattle.std.specs.Prelude.{◌≡◌, ◌<◌, ◌≤◌, ◌++◌, All, IfOk, List, None, OnOk, [], map, ℕ};
 ghost use Rattle.regex_search_core.specs.Search.{whole};
 ghost use Rattle.regex_search_core.specs.Slots.{Captured};
-ghost use Rattle.nfa_search_base.specs.CapturesRuns.{CapturesInside, match_in};
+ghost use Rattle.nfa_search_base.specs.Runs.{CapturesInside, match_in};
 ghost use Rattle.nfa_search_base.specs.Lists.{AreDisjoint};
 ghost use Rattle.nfa_choice.specs.ChoiceState.{KeepsEngines};
 ghost use Rattle.nfa_meta.specs.Rewritten.{AppendsBy, IsRewritten, IsRewrittenBy, IsRewrittenUpTo};

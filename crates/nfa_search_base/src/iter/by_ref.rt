@@ -29,10 +29,9 @@ impl<F, M: Spanned> FindWith for ByRef<F, M>
 where
     F: FnMut(&Input<'_>) -> Result<Option<M>, SearchError>,
 {
-    ghost use Rattle.nfa_search_base.specs.Asking.{IsCallableOn};
-    ghost use Rattle.nfa_search_base.specs.Finders.{Finds, answer_by};
-    ghost use Rattle.nfa_search_base.specs.WithCache.{accepts_whole, asks_whole, only_cache};
-    ghost use Rattle.nfa_search_base.specs.Steps.{GivesItem};
+    ghost use Rattle.nfa_search_base.specs.Finders.{IsCallableOn, Finds};
+    ghost use Rattle.nfa_search_base.specs.Stored.{accepts_whole, asks_whole, only_cache};
+    ghost use Rattle.nfa_search_base.specs.Items.{GivesItem, answer_by};
 
     type Cache = F;
 
@@ -97,9 +96,8 @@ impl<F> FindWith for FillByRef<F>
 where
     F: FnMut(&Input<'_>, &mut Captures) -> Result<(), SearchError>,
 {
-    ghost use Rattle.nfa_search_base.specs.WithCache.{accepts_whole, asks_whole};
+    ghost use Rattle.nfa_search_base.specs.Stored.{accepts_whole, asks_whole, with_finder};
     ghost use Rattle.nfa_search_base.specs.WithCaptures.{Row, CanFill, Fills, filled_answer, row_span, GivesCopy};
-    ghost use Rattle.nfa_search_base.specs.WithCaptures.{with_finder};
 
     type Cache = F;
 

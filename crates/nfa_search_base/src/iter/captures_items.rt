@@ -9,7 +9,7 @@
 ghost use Rattle.std.specs.Prelude.{◌≡◌, ◌≤◌};
 ghost use Rattle.std.specs.Option.{ForSome};
 ghost use Rattle.nfa_search_base.specs.WithCaptures.{filled_answer, row_span, GivesCopy};
-ghost use Rattle.nfa_search_base.specs.Steps.{ComesOfMatch};
+ghost use Rattle.nfa_search_base.specs.Items.{ComesOfMatch};
 ghost use Rattle.nfa_search_base.specs.IterStates.{answer_span};
 
 use crate::error::SearchError;

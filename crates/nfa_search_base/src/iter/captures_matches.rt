@@ -38,10 +38,10 @@ impl<'h> Searcher<'h> {
     ghost use Rattle.nfa_search_base.specs.WithCaptures.{Row, row_of, row_span, CanFill, Fills, FillsAlong, FillsBy};
     ghost use Rattle.nfa_search_base.specs.WithCaptures.{GivesCaptures, YieldsUpToRefusal};
     ghost use Rattle.nfa_search_base.specs.Items.{item_by, greedy};
-    ghost use Rattle.nfa_search_base.specs.Searchers.{iter_state_of};
-    ghost use Rattle.nfa_search_base.specs.Stored.{steps_iter_state, can_step, takes_steps};
-    ghost use Rattle.nfa_search_base.specs.StoredRuns.{StoredCapturesAll, StoredCapturesDisjoint, StoredCapturesFirst};
-    ghost use Rattle.nfa_search_base.specs.StoredRuns.{StoredCapturesNext, StoredCapturesRun};
+    ghost use Rattle.nfa_search_base.specs.Stored.{iter_state_of, steps_iter_state, can_step, takes_steps};
+    ghost use Rattle.nfa_search_base.specs.Runs.{GivesAll, GivesFirst, GivesNext, RunsGive};
+    ghost use Rattle.nfa_search_base.specs.StoredRuns.{AllFilled, FirstFilled, RunsApart, spans_in};
+    ghost use Rattle.nfa_search_base.specs.StoredRuns.{stored_captures_steps};
     ghost use Rattle.nfa_search_base.specs.IterStates.{Answer, AnswerIsInside};
 
     /// Returns an iterator over the captures that the finder gives from here on.
@@ -70,18 +70,18 @@ impl<'h> Searcher<'h> {
         ensures finder { result.backend ≡ record { finder = finder; captures = captures } }
         ensures going { result.done ≡ false }
         // The items of each run of calls are the first captures, and all of them if the run reaches `None`.
-        ensures runs { StoredCapturesRun F.FnMut (record { finder = finder; captures = captures })
-            (iter_state_of self.entry) result }
-        ensures first { StoredCapturesFirst F.FnMut (record { finder = finder; captures = captures })
-            (iter_state_of self.entry)
-            result }
-        ensures next { StoredCapturesNext F.FnMut (record { finder = finder; captures = captures })
-            (iter_state_of self.entry)
-            result }
-        ensures all { StoredCapturesAll F.FnMut (record { finder = finder; captures = captures })
-            (iter_state_of self.entry) result }
+        ensures runs { RunsGive (stored_captures_steps F.FnMut)
+            (FirstFilled F.FnMut (record { finder = finder; captures = captures }) (iter_state_of self.entry))
+            (AllFilled F.FnMut (record { finder = finder; captures = captures }) (iter_state_of self.entry)) result }
+        ensures first { GivesFirst (stored_captures_steps F.FnMut)
+            (FirstFilled F.FnMut (record { finder = finder; captures = captures }) (iter_state_of self.entry)) result }
+        ensures next { GivesNext (stored_captures_steps F.FnMut)
+            (FirstFilled F.FnMut (record { finder = finder; captures = captures }) (iter_state_of self.entry)) result }
+        ensures all { GivesAll (stored_captures_steps F.FnMut)
+            (AllFilled F.FnMut (record { finder = finder; captures = captures }) (iter_state_of self.entry)) result }
         // Their matches are in the span, in order and without overlap.
-        ensures disjoint { StoredCapturesDisjoint F.FnMut (iter_state_of self.entry) result }
+        ensures disjoint { RunsApart (stored_captures_steps F.FnMut) (spans_in row_of row_span)
+            (iter_state_of self.entry) result }
         // If the finder computes h, the items hold the rows of the greedy list of h, up to a failed allocation.
         ensures list { (h : Search → Answer Row) → FillsBy F.FnMut h (record { finder = finder; captures = captures })
             (iter_state_of self.entry).at → YieldsUpToRefusal (takes_steps row_span (Fills F.FnMut) GivesCaptures)
@@ -103,12 +103,11 @@ impl<'h, F> TryCapturesIter<'h, F> {
     ghost use Rattle.regex_search_core.specs.Search.{Search, search_of};
     ghost use Rattle.nfa_search_base.specs.WithCaptures.{Row, row_of, row_span, CanFill, Fills, FillsAlong, FillsBy};
     ghost use Rattle.nfa_search_base.specs.WithCaptures.{YieldsUpToRefusal};
-    ghost use Rattle.nfa_search_base.specs.CapturesSteps.{takes_infallible_captures};
+    ghost use Rattle.nfa_search_base.specs.StoredRuns.{takes_infallible_captures};
     ghost use Rattle.nfa_search_base.specs.Items.{item_by, greedy_unless};
     ghost use Rattle.nfa_search_base.specs.Stored.{steps_iter_state, can_step_infallibly};
-    ghost use Rattle.nfa_search_base.specs.StoredRuns.{InfallibleCapturesAll, InfallibleCapturesDisjoint};
-    ghost use Rattle.nfa_search_base.specs.StoredRuns.{InfallibleCapturesFirst, InfallibleCapturesNext};
-    ghost use Rattle.nfa_search_base.specs.StoredRuns.{InfallibleCapturesRun};
+    ghost use Rattle.nfa_search_base.specs.Runs.{GivesAll, GivesFirst, GivesNext, RunsGive};
+    ghost use Rattle.nfa_search_base.specs.StoredRuns.{AllFilled, FirstFilled, RunsApart, spans_in};
     ghost use Rattle.nfa_search_base.specs.IterStates.{Answer, IsInfalliblyInside};
 
     /// Returns the input of the next search.
@@ -127,17 +126,19 @@ impl<'h, F> TryCapturesIter<'h, F> {
         ensures can { can_step_infallibly (CanFill F.FnMut) (Fills F.FnMut) row_span result }
         ensures same { result ≡ self.entry }
         // The items of each run of calls are the first captures, and all of them if the run reaches `None`.
-        ensures runs { self.entry.done ≡ false
-            → InfallibleCapturesRun F.FnMut self.entry.backend (steps_iter_state self.entry) result }
-        ensures first { self.entry.done ≡ false
-            → InfallibleCapturesFirst F.FnMut self.entry.backend (steps_iter_state self.entry) result }
-        ensures next { self.entry.done ≡ false
-            → InfallibleCapturesNext F.FnMut self.entry.backend (steps_iter_state self.entry) result }
-        ensures all { self.entry.done ≡ false
-            → InfallibleCapturesAll F.FnMut self.entry.backend (steps_iter_state self.entry) result }
+        ensures runs { self.entry.done ≡ false → RunsGive (takes_infallible_captures F.FnMut)
+            (FirstFilled F.FnMut self.entry.backend (steps_iter_state self.entry))
+            (AllFilled F.FnMut self.entry.backend (steps_iter_state self.entry)) result }
+        ensures first { self.entry.done ≡ false → GivesFirst (takes_infallible_captures F.FnMut)
+            (FirstFilled F.FnMut self.entry.backend (steps_iter_state self.entry)) result }
+        ensures next { self.entry.done ≡ false → GivesNext (takes_infallible_captures F.FnMut)
+            (FirstFilled F.FnMut self.entry.backend (steps_iter_state self.entry)) result }
+        ensures all { self.entry.done ≡ false → GivesAll (takes_infallible_captures F.FnMut)
+            (AllFilled F.FnMut self.entry.backend (steps_iter_state self.entry)) result }
         // Their matches are in the span, in order and without overlap.
-        ensures disjoint { self.entry.done ≡ false → InfallibleCapturesDisjoint F.FnMut
-            (steps_iter_state self.entry) result }
+        ensures disjoint { self.entry.done ≡ false
+            → RunsApart (takes_infallible_captures F.FnMut) (spans_in row_of row_span) (steps_iter_state self.entry)
+            result }
         // If the finder computes h, the items hold the rows of the greedy list of h, up to a failed allocation.
         ensures list { (h : Search → Answer Row) → FillsBy F.FnMut h self.entry.backend (steps_iter_state self.entry).at
             → YieldsUpToRefusal (takes_infallible_captures F.FnMut) (item_by row_of) result
@@ -214,7 +215,7 @@ where
     F: FnMut(&Input<'_>, &mut Captures) -> Result<(), SearchError>,
 {
     ghost use Rattle.nfa_search_base.specs.WithCaptures.{row_span, CanFill, Fills};
-    ghost use Rattle.nfa_search_base.specs.CapturesSteps.{takes_infallible_captures};
+    ghost use Rattle.nfa_search_base.specs.StoredRuns.{takes_infallible_captures};
     ghost use Rattle.nfa_search_base.specs.Stored.{can_step_infallibly, steps_left};
 
     type Item = Result<Captures, SearchError>;

@@ -47,14 +47,12 @@ impl<'h> Searcher<'h> {
     ghost use Rattle.regex_search_core.specs.Found.{Found, HalfFound, found_of, half_found_of};
     ghost use Rattle.regex_search_core.specs.Search.{Search};
     ghost use Rattle.nfa_search_base.specs.IterStates.{Answer, AnswerIsInside, span_of, half_span_of};
-    ghost use Rattle.nfa_search_base.specs.Finders.{Finds, AnswersAlong, Computes};
-    ghost use Rattle.nfa_search_base.specs.Items.{item_by, greedy};
-    ghost use Rattle.nfa_search_base.specs.Searchers.{iter_state_of};
-    ghost use Rattle.nfa_search_base.specs.Asking.{IsCallableOn};
-    ghost use Rattle.nfa_search_base.specs.Steps.{GivesItem};
-    ghost use Rattle.nfa_search_base.specs.Stored.{steps_iter_state, can_step, takes_steps};
-    ghost use Rattle.nfa_search_base.specs.StoredRuns.{StoredMatchesAll, StoredMatchesDisjoint, StoredMatchesFirst};
-    ghost use Rattle.nfa_search_base.specs.StoredRuns.{StoredMatchesNext, StoredMatchesRun};
+    ghost use Rattle.nfa_search_base.specs.Finders.{Finds, AnswersAlong, Computes, IsCallableOn};
+    ghost use Rattle.nfa_search_base.specs.Items.{item_by, greedy, GivesItem};
+    ghost use Rattle.nfa_search_base.specs.Stored.{iter_state_of, steps_iter_state, can_step, takes_steps};
+    ghost use Rattle.nfa_search_base.specs.Runs.{GivesAll, GivesFirst, GivesNext, RunsGive};
+    ghost use Rattle.nfa_search_base.specs.StoredRuns.{AllFound, FirstFound, RunsApart, spans_in};
+    ghost use Rattle.nfa_search_base.specs.StoredRuns.{stored_match_steps};
 
     /// Returns an iterator over the matches that the finder gives from here on.
     ///
@@ -80,12 +78,18 @@ impl<'h> Searcher<'h> {
         ensures finder { result.backend ≡ finder }
         ensures going { result.done ≡ false }
         // The items of each run of calls are the first items, and all of them if the run reaches `None`.
-        ensures runs { StoredMatchesRun found_of span_of F.FnMut finder (iter_state_of self.entry) result }
-        ensures first { StoredMatchesFirst found_of span_of F.FnMut finder (iter_state_of self.entry) result }
-        ensures next { StoredMatchesNext found_of span_of F.FnMut finder (iter_state_of self.entry) result }
-        ensures all { StoredMatchesAll found_of span_of F.FnMut finder (iter_state_of self.entry) result }
+        ensures runs { RunsGive (stored_match_steps found_of span_of F.FnMut)
+            (FirstFound found_of span_of F.FnMut finder (iter_state_of self.entry))
+            (AllFound found_of span_of F.FnMut finder (iter_state_of self.entry)) result }
+        ensures first { GivesFirst (stored_match_steps found_of span_of F.FnMut)
+            (FirstFound found_of span_of F.FnMut finder (iter_state_of self.entry)) result }
+        ensures next { GivesNext (stored_match_steps found_of span_of F.FnMut)
+            (FirstFound found_of span_of F.FnMut finder (iter_state_of self.entry)) result }
+        ensures all { GivesAll (stored_match_steps found_of span_of F.FnMut)
+            (AllFound found_of span_of F.FnMut finder (iter_state_of self.entry)) result }
         // They are in the span, in order and without overlap.
-        ensures disjoint { StoredMatchesDisjoint found_of span_of F.FnMut (iter_state_of self.entry) result }
+        ensures disjoint { RunsApart (stored_match_steps found_of span_of F.FnMut) (spans_in found_of span_of)
+            (iter_state_of self.entry) result }
         // If the finder computes h, the items are the greedy list of h.
         ensures list { (h : Search → Answer Found) → Computes found_of F.FnMut h finder (iter_state_of self.entry).at
             → YieldsList (takes_steps span_of (Finds found_of F.FnMut) (λ _. GivesItem found_of)) (item_by found_of)
@@ -118,12 +122,18 @@ impl<'h> Searcher<'h> {
         ensures finder { result.backend ≡ finder }
         ensures going { result.done ≡ false }
         // The items of each run of calls are the first items, and all of them if the run reaches `None`.
-        ensures runs { StoredMatchesRun half_found_of half_span_of F.FnMut finder (iter_state_of self.entry) result }
-        ensures first { StoredMatchesFirst half_found_of half_span_of F.FnMut finder (iter_state_of self.entry) result }
-        ensures next { StoredMatchesNext half_found_of half_span_of F.FnMut finder (iter_state_of self.entry) result }
-        ensures all { StoredMatchesAll half_found_of half_span_of F.FnMut finder (iter_state_of self.entry) result }
+        ensures runs { RunsGive (stored_match_steps half_found_of half_span_of F.FnMut)
+            (FirstFound half_found_of half_span_of F.FnMut finder (iter_state_of self.entry))
+            (AllFound half_found_of half_span_of F.FnMut finder (iter_state_of self.entry)) result }
+        ensures first { GivesFirst (stored_match_steps half_found_of half_span_of F.FnMut)
+            (FirstFound half_found_of half_span_of F.FnMut finder (iter_state_of self.entry)) result }
+        ensures next { GivesNext (stored_match_steps half_found_of half_span_of F.FnMut)
+            (FirstFound half_found_of half_span_of F.FnMut finder (iter_state_of self.entry)) result }
+        ensures all { GivesAll (stored_match_steps half_found_of half_span_of F.FnMut)
+            (AllFound half_found_of half_span_of F.FnMut finder (iter_state_of self.entry)) result }
         // They are in the span, in order and without overlap.
-        ensures disjoint { StoredMatchesDisjoint half_found_of half_span_of F.FnMut (iter_state_of self.entry) result }
+        ensures disjoint { RunsApart (stored_match_steps half_found_of half_span_of F.FnMut)
+            (spans_in half_found_of half_span_of) (iter_state_of self.entry) result }
         // If the finder computes h, the items are the greedy list of h.
         ensures list { (h : Search → Answer HalfFound)
             → Computes half_found_of F.FnMut h finder (iter_state_of self.entry).at
@@ -135,19 +145,16 @@ impl<'h> Searcher<'h> {
 }
 
 impl<'h, M, F> TryFoundIter<'h, M, F> {
-    ghost use Rattle.std.specs.Prelude.{◌≡◌, false};
+    ghost use Rattle.std.specs.Prelude.{◌≡◌, false, map};
     ghost use Rattle.std.proofs.lemmas.Iterator.{YieldsList};
     ghost use Rattle.regex_search_core.specs.Search.{Search, search_of};
     ghost use Rattle.nfa_search_base.specs.IterStates.{Answer, IsInfalliblyInside};
-    ghost use Rattle.nfa_search_base.specs.Finders.{Finds, AnswersAlong, Computes};
-    ghost use Rattle.nfa_search_base.specs.Items.{matches_in, greedy_unless};
-    ghost use Rattle.nfa_search_base.specs.Asking.{IsCallableOn};
-    ghost use Rattle.nfa_search_base.specs.Steps.{GivesItem};
+    ghost use Rattle.nfa_search_base.specs.Finders.{Finds, AnswersAlong, Computes, IsCallableOn};
+    ghost use Rattle.nfa_search_base.specs.Items.{matches_in, greedy_unless, GivesItem};
     ghost use Rattle.nfa_search_base.specs.Stored.{steps_iter_state, steps_from, can_step_infallibly};
     ghost use Rattle.nfa_search_base.specs.Stored.{takes_infallible_steps};
-    ghost use Rattle.nfa_search_base.specs.StoredRuns.{InfallibleMatchesAll, InfallibleMatchesDisjoint};
-    ghost use Rattle.nfa_search_base.specs.StoredRuns.{InfallibleMatchesFirst, InfallibleMatchesNext};
-    ghost use Rattle.nfa_search_base.specs.StoredRuns.{InfallibleMatchesRun};
+    ghost use Rattle.nfa_search_base.specs.Runs.{GivesAll, GivesFirst, GivesNext, RunsGive};
+    ghost use Rattle.nfa_search_base.specs.StoredRuns.{AllSure, FirstSure, RunsApart, infallible_match_steps};
 
     fn new(searcher: Searcher<'h>, finder: F) -> TryFoundIter<'h, M, F>
         ensures { result ≡ steps_from searcher.entry finder }
@@ -179,17 +186,19 @@ impl<'h, M, F> TryFoundIter<'h, M, F> {
         ensures can { can_step_infallibly (IsCallableOn F.FnMut) (Finds M.value F.FnMut) M.span result }
         ensures same { result ≡ self.entry }
         // The items of each run of calls are the first matches, and all of them if the run reaches `None`.
-        ensures runs { self.entry.done ≡ false
-            → InfallibleMatchesRun M.value M.span F.FnMut self.entry.backend (steps_iter_state self.entry) result }
-        ensures first { self.entry.done ≡ false
-            → InfallibleMatchesFirst M.value M.span F.FnMut self.entry.backend (steps_iter_state self.entry) result }
-        ensures next { self.entry.done ≡ false
-            → InfallibleMatchesNext M.value M.span F.FnMut self.entry.backend (steps_iter_state self.entry) result }
-        ensures all { self.entry.done ≡ false
-            → InfallibleMatchesAll M.value M.span F.FnMut self.entry.backend (steps_iter_state self.entry) result }
+        ensures runs { self.entry.done ≡ false → RunsGive (infallible_match_steps M.value M.span F.FnMut)
+            (FirstSure M.value M.span F.FnMut self.entry.backend (steps_iter_state self.entry))
+            (AllSure M.value M.span F.FnMut self.entry.backend (steps_iter_state self.entry)) result }
+        ensures first { self.entry.done ≡ false → GivesFirst (infallible_match_steps M.value M.span F.FnMut)
+            (FirstSure M.value M.span F.FnMut self.entry.backend (steps_iter_state self.entry)) result }
+        ensures next { self.entry.done ≡ false → GivesNext (infallible_match_steps M.value M.span F.FnMut)
+            (FirstSure M.value M.span F.FnMut self.entry.backend (steps_iter_state self.entry)) result }
+        ensures all { self.entry.done ≡ false → GivesAll (infallible_match_steps M.value M.span F.FnMut)
+            (AllSure M.value M.span F.FnMut self.entry.backend (steps_iter_state self.entry)) result }
         // They are in the span, in order and without overlap.
         ensures disjoint { self.entry.done ≡ false
-            → InfallibleMatchesDisjoint M.value M.span F.FnMut (steps_iter_state self.entry) result }
+            → RunsApart (infallible_match_steps M.value M.span F.FnMut) (map (λ m. M.span (M.value m)))
+            (steps_iter_state self.entry) result }
         // If the finder computes h, the matches are those of the greedy list of h.
         ensures list { (h : Search → Answer M.Value)
             → Computes M.value F.FnMut h self.entry.backend (steps_iter_state self.entry).at
@@ -204,9 +213,8 @@ impl<'h, M: Spanned, F> Iterator for TryFoundIter<'h, M, F>
 where
     F: FnMut(&Input<'_>) -> Result<Option<M>, SearchError>,
 {
-    ghost use Rattle.nfa_search_base.specs.Asking.{IsCallableOn};
-    ghost use Rattle.nfa_search_base.specs.Finders.{Finds};
-    ghost use Rattle.nfa_search_base.specs.Steps.{GivesItem};
+    ghost use Rattle.nfa_search_base.specs.Finders.{IsCallableOn, Finds};
+    ghost use Rattle.nfa_search_base.specs.Items.{GivesItem};
     ghost use Rattle.nfa_search_base.specs.Stored.{can_step, takes_steps, steps_left};
 
     type Item = Result<M, SearchError>;
@@ -263,9 +271,8 @@ impl<'h, M: Spanned, F> Iterator for FoundIter<'h, M, F>
 where
     F: FnMut(&Input<'_>) -> Result<Option<M>, SearchError>,
 {
-    ghost use Rattle.nfa_search_base.specs.Asking.{IsCallableOn};
-    ghost use Rattle.nfa_search_base.specs.Finders.{Finds};
-    ghost use Rattle.nfa_search_base.specs.Steps.{GivesItem};
+    ghost use Rattle.nfa_search_base.specs.Finders.{IsCallableOn, Finds};
+    ghost use Rattle.nfa_search_base.specs.Items.{GivesItem};
     ghost use Rattle.nfa_search_base.specs.Stored.{can_step_infallibly, takes_infallible_steps, infallible_left};
 
     type Item = M;

@@ -7,7 +7,7 @@
 //! half_and_full_agree();
 //! let ends = Searcher::new(input).into_half_matches_iter(half_finder);
 //! ```
-ghost use Rattle.nfa_search_base.specs.Agreement.{HalfAndFullAgree};
+ghost use Rattle.nfa_search_base.specs.Items.{HalfAndFullAgree};
 
 /// A law, without effect at run time. Suppose that a half finder answers the pattern and the end of each match of a
 /// full finder, and that both are functions of their input. Then an iteration over the half finder gives the patterns

@@ -4,8 +4,8 @@ ghost use Rattle.std.specs.Prelude.{◌≡◌, ◌≤◌, Ok, Some, option_map};
 ghost use Rattle.std.specs.Option.{ForSome};
 ghost use Rattle.regex_search_core.specs.Found.{found_of};
 ghost use Rattle.nfa_search_base.specs.EngineSearches.{if_ends_at};
-ghost use Rattle.nfa_search_base.specs.Finders.{answer_by, match_span};
-ghost use Rattle.nfa_search_base.specs.Steps.{ComesOfMatch, GivesItem};
+ghost use Rattle.nfa_search_base.specs.Finders.{match_span};
+ghost use Rattle.nfa_search_base.specs.Items.{ComesOfMatch, GivesItem, answer_by};
 
 use crate::error::SearchError;
 use regex_search_core::{Match, Span};

@@ -1,5 +1,5 @@
 //! Iteration over matches step by step, with any finder.
-ghost use Rattle.nfa_search_base.specs.LastEnd.{EndsBy};
+ghost use Rattle.nfa_search_base.specs.IterStates.{EndsBy};
 
 use crate::error::SearchError;
 use crate::iter::by_ref::ByRef;
@@ -31,7 +31,7 @@ pub enum Offered {
 
 impl<'h> Clone for Searcher<'h> {
     ghost use Rattle.std.specs.Prelude.{◌≡◌};
-    ghost use Rattle.nfa_search_base.specs.Searchers.{iter_state_of};
+    ghost use Rattle.nfa_search_base.specs.Stored.{iter_state_of};
 
     ghost is_clone = { λ one other. iter_state_of other ≡ iter_state_of one };
 
@@ -49,13 +49,13 @@ impl<'h> Searcher<'h> {
     ghost use Rattle.std.specs.Prelude.{◌≡◌, ◌≤◌, IsTrue, false, Ok};
     ghost use Rattle.std.specs.Option.{ForSome};
     ghost use Rattle.regex_search_core.specs.Search.{search_of};
-    ghost use Rattle.nfa_search_base.specs.Asking.{SameButStart};
     ghost use Rattle.nfa_search_base.specs.IterStates.{AnswerIsInside, fresh, shifted, after, repeats, LiesIn, IsPast};
-    ghost use Rattle.nfa_search_base.specs.IterStates.{ComesAfter, LeavesFewer};
+    ghost use Rattle.nfa_search_base.specs.IterStates.{ComesAfter, LeavesFewer, SameButStart};
+    ghost use Rattle.regex_search_core.specs.Found.{found_of, half_found_of};
+    ghost use Rattle.nfa_search_base.specs.IterStates.{half_span_of, span_of};
     ghost use Rattle.nfa_search_base.specs.Finders.{match_span, half_match_span, FindsStep, FindsStepInfallibly};
-    ghost use Rattle.nfa_search_base.specs.Finders.{StepsBy, FindsHalfStep, FindsHalfStepInfallibly, HalfStepsBy};
-    ghost use Rattle.nfa_search_base.specs.Searchers.{iter_state_of, offered_span, OfferGives, IsDone};
-    ghost use Rattle.nfa_search_base.specs.Serving.{ServesAdvance, StepDone};
+    ghost use Rattle.nfa_search_base.specs.Finders.{ServesAdvance, StepDone, StepsBy};
+    ghost use Rattle.nfa_search_base.specs.Stored.{iter_state_of, offered_span, OfferGives, IsDone};
 
     /// Makes an iteration over the matches of this input, before its first match.
     ///
@@ -138,8 +138,8 @@ impl<'h> Searcher<'h> {
     pub fn try_advance<F>(&mut self, finder: F) -> Result<Option<Match>, SearchError>
     where
         F: FnMut(&Input<'_>) -> Result<Option<Match>, SearchError>,
-        requires { FindsStep F.FnMut finder (iter_state_of self.old) }
-        ensures step { (left : F) × StepsBy F.FnMut finder (iter_state_of self.old) result left
+        requires { FindsStep found_of F.FnMut span_of finder (iter_state_of self.old) }
+        ensures step { (left : F) × StepsBy found_of F.FnMut span_of finder (iter_state_of self.old) result left
             (iter_state_of self.new) }
         ensures inside { LiesIn (iter_state_of self.old).at (match_span result) }
         ensures rises { ComesAfter (iter_state_of self.old) (match_span result) }
@@ -163,8 +163,9 @@ impl<'h> Searcher<'h> {
     pub fn try_advance_by_ref<F>(&mut self, finder: &mut F) -> Result<Option<Match>, SearchError>
     where
         F: FnMut(&Input<'_>) -> Result<Option<Match>, SearchError>,
-        requires { FindsStep F.FnMut finder.old (iter_state_of self.old) }
-        ensures step { StepsBy F.FnMut finder.old (iter_state_of self.old) result finder.new (iter_state_of self.new) }
+        requires { FindsStep found_of F.FnMut span_of finder.old (iter_state_of self.old) }
+        ensures step { StepsBy found_of F.FnMut span_of finder.old (iter_state_of self.old) result finder.new
+            (iter_state_of self.new) }
         ensures inside { LiesIn (iter_state_of self.old).at (match_span result) }
         ensures rises { ComesAfter (iter_state_of self.old) (match_span result) }
         ensures fewer { LeavesFewer (iter_state_of self.old) (match_span result) (iter_state_of self.new) }
@@ -185,8 +186,8 @@ impl<'h> Searcher<'h> {
     pub fn advance<F>(&mut self, finder: F) -> Option<Match>
     where
         F: FnMut(&Input<'_>) -> Result<Option<Match>, SearchError>,
-        requires { FindsStepInfallibly F.FnMut finder (iter_state_of self.old) }
-        ensures step { (left : F) × StepsBy F.FnMut finder (iter_state_of self.old) (Ok result) left
+        requires { FindsStepInfallibly found_of F.FnMut span_of finder (iter_state_of self.old) }
+        ensures step { (left : F) × StepsBy found_of F.FnMut span_of finder (iter_state_of self.old) (Ok result) left
             (iter_state_of self.new) }
         ensures inside { LiesIn (iter_state_of self.old).at (match_span (Ok result)) }
         ensures rises { ComesAfter (iter_state_of self.old) (match_span (Ok result)) }
@@ -210,8 +211,8 @@ impl<'h> Searcher<'h> {
     pub fn advance_by_ref<F>(&mut self, finder: &mut F) -> Option<Match>
     where
         F: FnMut(&Input<'_>) -> Result<Option<Match>, SearchError>,
-        requires { FindsStepInfallibly F.FnMut finder.old (iter_state_of self.old) }
-        ensures step { StepsBy F.FnMut finder.old (iter_state_of self.old) (Ok result) finder.new
+        requires { FindsStepInfallibly found_of F.FnMut span_of finder.old (iter_state_of self.old) }
+        ensures step { StepsBy found_of F.FnMut span_of finder.old (iter_state_of self.old) (Ok result) finder.new
             (iter_state_of self.new) }
         ensures inside { LiesIn (iter_state_of self.old).at (match_span (Ok result)) }
         ensures rises { ComesAfter (iter_state_of self.old) (match_span (Ok result)) }
@@ -240,9 +241,9 @@ impl<'h> Searcher<'h> {
     pub fn try_advance_half<F>(&mut self, finder: F) -> Result<Option<HalfMatch>, SearchError>
     where
         F: FnMut(&Input<'_>) -> Result<Option<HalfMatch>, SearchError>,
-        requires { FindsHalfStep F.FnMut finder (iter_state_of self.old) }
-        ensures step { (left : F) × HalfStepsBy F.FnMut finder (iter_state_of self.old) result left
-            (iter_state_of self.new) }
+        requires { FindsStep half_found_of F.FnMut half_span_of finder (iter_state_of self.old) }
+        ensures step { (left : F) × StepsBy half_found_of F.FnMut half_span_of finder (iter_state_of self.old) result
+            left (iter_state_of self.new) }
         ensures inside { LiesIn (iter_state_of self.old).at (half_match_span result) }
         ensures rises { ComesAfter (iter_state_of self.old) (half_match_span result) }
         ensures fewer { LeavesFewer (iter_state_of self.old) (half_match_span result) (iter_state_of self.new) }
@@ -269,8 +270,8 @@ impl<'h> Searcher<'h> {
     ) -> Result<Option<HalfMatch>, SearchError>
     where
         F: FnMut(&Input<'_>) -> Result<Option<HalfMatch>, SearchError>,
-        requires { FindsHalfStep F.FnMut finder.old (iter_state_of self.old) }
-        ensures step { HalfStepsBy F.FnMut finder.old (iter_state_of self.old) result finder.new
+        requires { FindsStep half_found_of F.FnMut half_span_of finder.old (iter_state_of self.old) }
+        ensures step { StepsBy half_found_of F.FnMut half_span_of finder.old (iter_state_of self.old) result finder.new
             (iter_state_of self.new) }
         ensures inside { LiesIn (iter_state_of self.old).at (half_match_span result) }
         ensures rises { ComesAfter (iter_state_of self.old) (half_match_span result) }
@@ -292,9 +293,9 @@ impl<'h> Searcher<'h> {
     pub fn advance_half<F>(&mut self, finder: F) -> Option<HalfMatch>
     where
         F: FnMut(&Input<'_>) -> Result<Option<HalfMatch>, SearchError>,
-        requires { FindsHalfStepInfallibly F.FnMut finder (iter_state_of self.old) }
-        ensures step { (left : F) × HalfStepsBy F.FnMut finder (iter_state_of self.old) (Ok result) left
-            (iter_state_of self.new) }
+        requires { FindsStepInfallibly half_found_of F.FnMut half_span_of finder (iter_state_of self.old) }
+        ensures step { (left : F) × StepsBy half_found_of F.FnMut half_span_of finder (iter_state_of self.old)
+            (Ok result) left (iter_state_of self.new) }
         ensures inside { LiesIn (iter_state_of self.old).at (half_match_span (Ok result)) }
         ensures rises { ComesAfter (iter_state_of self.old) (half_match_span (Ok result)) }
         ensures fewer { LeavesFewer (iter_state_of self.old) (half_match_span (Ok result)) (iter_state_of self.new) }
@@ -317,9 +318,9 @@ impl<'h> Searcher<'h> {
     pub fn advance_half_by_ref<F>(&mut self, finder: &mut F) -> Option<HalfMatch>
     where
         F: FnMut(&Input<'_>) -> Result<Option<HalfMatch>, SearchError>,
-        requires { FindsHalfStepInfallibly F.FnMut finder.old (iter_state_of self.old) }
-        ensures step { HalfStepsBy F.FnMut finder.old (iter_state_of self.old) (Ok result) finder.new
-            (iter_state_of self.new) }
+        requires { FindsStepInfallibly half_found_of F.FnMut half_span_of finder.old (iter_state_of self.old) }
+        ensures step { StepsBy half_found_of F.FnMut half_span_of finder.old (iter_state_of self.old) (Ok result)
+            finder.new (iter_state_of self.new) }
         ensures inside { LiesIn (iter_state_of self.old).at (half_match_span (Ok result)) }
         ensures rises { ComesAfter (iter_state_of self.old) (half_match_span (Ok result)) }
         ensures fewer { LeavesFewer (iter_state_of self.old) (half_match_span (Ok result)) (iter_state_of self.new) }

@@ -3,8 +3,8 @@ ghost use Rattle.std.specs.Prelude.{◌≡◌, ◌≤◌, Option, Result};
 ghost use Rattle.std.specs.Option.{ForSome};
 ghost use Rattle.regex_search_core.specs.Search.{Search, search_of};
 ghost use Rattle.regex_search_core.specs.declared.search.Span.{Span};
-ghost use Rattle.nfa_search_base.specs.WithCache.{WithCache};
-ghost use Rattle.nfa_search_base.specs.Steps.{ComesOfMatch};
+ghost use Rattle.nfa_search_base.specs.Stored.{WithCache};
+ghost use Rattle.nfa_search_base.specs.Items.{ComesOfMatch};
 ghost use Rattle.nfa_search_base.specs.IterStates.{Answer, answer_span};
 ghost use Rattle.nfa_search_base.specs.declared.error.SearchError.{SearchError};
 

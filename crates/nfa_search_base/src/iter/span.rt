@@ -1,7 +1,7 @@
 //! The span of an answer's match.
 ghost use Rattle.std.specs.Prelude.{◌≡◌, ◌≤◌};
 ghost use Rattle.std.specs.Option.{ForSome};
-ghost use Rattle.nfa_search_base.specs.Finders.{answer_by};
+ghost use Rattle.nfa_search_base.specs.Items.{answer_by};
 ghost use Rattle.nfa_search_base.specs.IterStates.{answer_span};
 
 use crate::error::SearchError;

@@ -1,6 +1,6 @@
 //! The steps of every iterator.
 ghost use Rattle.std.specs.Prelude.{◌≡◌};
-ghost use Rattle.nfa_search_base.specs.Steps.{ends_at};
+ghost use Rattle.nfa_search_base.specs.Items.{ends_at};
 
 use crate::error::SearchError;
 use crate::iter::searcher::Searcher;
@@ -24,9 +24,8 @@ pub struct Steps<'h, A> {
 impl<'h, A: FindWith> Steps<'h, A> {
     ghost use Rattle.std.specs.Prelude.{◌⊎◌, false, IfErr, IfOk};
     ghost use Rattle.regex_search_core.specs.Search.{search_of};
-    ghost use Rattle.nfa_search_base.specs.Drained.{CallsLead, DrainsAll, DrainsToError};
-    ghost use Rattle.nfa_search_base.specs.WithCache.{with_cache};
-    ghost use Rattle.nfa_search_base.specs.Stored.{can_step, steps_iter_state, takes_steps};
+    ghost use Rattle.nfa_search_base.specs.Runs.{CallsLead, DrainsAll, DrainsToError};
+    ghost use Rattle.nfa_search_base.specs.Stored.{with_cache, can_step, steps_iter_state, takes_steps};
     ghost use Rattle.nfa_search_base.specs.IterStates.{fresh};
 
     /// Makes an iteration over this input that has not begun.

@@ -1,6 +1,5 @@
 //! Iteration over the groups of a match.
 ghost use Rattle.std.specs.Prelude.{◌≡◌, ℕ, ◌+◌, ◌*◌, ◌^◌, ◌<◌, [], Some, IfSome, MatchOption, length, slice_get};
-ghost use Rattle.regex_search_core.specs.Slots.{captured_count, group_span, group_spans};
 
 use crate::captures::Captures;
 use crate::primitives::NonMaxUsize;
@@ -22,7 +21,7 @@ pub struct CapturesPatternIter<'a> {
 }
 
 impl Captures {
-    ghost use Rattle.regex_search_core.specs.CapturesIters.{spans_at, spans_left};
+    ghost use Rattle.regex_search_core.specs.Slots.{captured_count, group_span, group_spans, spans_at, spans_left};
 
     /// Returns an iterator over the groups of the pattern that is set, in order, beginning with group 0. Each item is
     /// the span that [`Captures::get_group`] returns for the group.
@@ -60,7 +59,7 @@ impl Captures {
 
 impl<'a> Iterator for CapturesPatternIter<'a> {
     ghost use Rattle.std.specs.Iterator.{YieldsFirst, item_count};
-    ghost use Rattle.regex_search_core.specs.CapturesIters.{spans_left};
+    ghost use Rattle.regex_search_core.specs.Slots.{spans_left};
 
     type Item = Option<Span>;
 

@@ -1,7 +1,6 @@
 -- The law of all hits, and then that of one pattern.
 use Rattle.std.proofs.Common.{◌∙◌, [], ◌∷◌, List, ap, map, refl}
-use Rattle.regex_hir.specs.Meaning.{meaning}
-use Rattle.nfa_compiler.specs.Patterns.{PatternHit, found_at}
+use Rattle.nfa_compiler.specs.Common.{meaning, PatternHit, found_at}
 use Rattle.nfa_engines.specs.Search.{search_of}
 use Rattle.callers.proofs.hits.find_all_of_one.Goals as goal
 

@@ -1,7 +1,6 @@
 -- The law of hits, and then that of one hit.
 use Rattle.std.proofs.Common.{◌∙◌, [], ◌∷◌, Option, ap, refl}
-use Rattle.regex_hir.specs.Meaning.{meaning}
-use Rattle.nfa_compiler.specs.Patterns.{PatternHit, found_of_hit}
+use Rattle.nfa_compiler.specs.Common.{meaning, PatternHit, found_of_hit}
 use Rattle.nfa_engines.specs.Search.{search_of}
 use Rattle.callers.proofs.hits.find_one.Goals as goal
 

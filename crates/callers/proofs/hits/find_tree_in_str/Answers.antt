@@ -1,10 +1,7 @@
 -- The law of hits that end on a boundary, and then that of hits in a `str`.
 use Rattle.std.proofs.Common.{◌∙◌, ℕ, ◌<◌, zero, suc, [], ◌∷◌, Option, ap, arith, refl, slice_index_or}
-use Rattle.regex_hir.specs.Meaning.{meaning}
-use Rattle.regex_hir.specs.Re.{Re}
+use Rattle.nfa_compiler.specs.Common.{meaning, Re, PatternHit, found_of_hit, MatchesCharacters}
 use Rattle.nfa_engines.specs.Search.{search_of}
-use Rattle.nfa_compiler.specs.Patterns.{PatternHit, found_of_hit}
-use Rattle.nfa_compiler.specs.StrHits.{MatchesCharacters}
 use Rattle.callers.proofs.hits.find_tree_in_str.Goals as goal
 
 -- the one pattern of a list

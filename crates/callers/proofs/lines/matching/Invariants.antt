@@ -2,7 +2,7 @@
 use Rattle.std.proofs.Common.{◌≡◌, take}
 use Rattle.std.specs.List.{filter}
 use Rattle.nfa_choice.specs.ChoiceState.{KeepsEngines}
-use Rattle.callers.specs.Finding.{matches}
+use Rattle.callers.specs.Lines.{matches}
 use Rattle.callers.proofs.lines.matching.Given as goal
 
 abbrev pub invariant-loop-line : goal.invariant-loop-line

@@ -1,13 +1,10 @@
 -- The law, of this match.
-use Rattle.std.proofs.Common.{Bool, option_map, refl}
+use Rattle.std.proofs.Common.{option_map, refl}
 use Rattle.nfa_engines.specs.Found.{found_of}
 use Rattle.nfa_engines.specs.Search.{Search, search_of}
 use Rattle.nfa_engines.specs.Anchored.TheVariants.{Yes}
-use Rattle.nfa_engines.specs.MatchKind.{MatchKind}
-use Rattle.nfa_engines.specs.Engines.{kind_of}
 use Rattle.nfa_engines.specs.Paths.{IsFindAnswer}
 use Rattle.callers.proofs.KindLemmas.{as_leftmost}
-use Rattle.callers.proofs.PathStateLemmas.{match_of_search}
 use Rattle.callers.proofs.order.first_match_of_texts.Goals as goal
 
 pub returns : goal.returns
@@ -20,6 +17,5 @@ returns c = λ k.
     c.first_pattern_is_found.ensures.matches nfa x k found c.pikevm_nfa_is_valid.ensures c.requires.anywhere refl
     (order.texts _ _ nfa x c.requires.compiled) (order.texts_alone _ _ nfa x c.requires.compiled refl)
     (c.match_spans_are_written.ensures nfa x records)
-    (as_leftmost (λ (kind : MatchKind) (earliest : Bool). IsFindAnswer nfa kind earliest x found)
-    (kind_of c.args.vm.now) x.earliest c.requires.kind c.requires.off
-    (match_of_search nfa (kind_of c.args.vm.now) x _ found c.anchored-anchored.ensures c.find.ensures.answer))
+    (as_leftmost (λ kind b t. IsFindAnswer nfa kind b t found) c.anchored-anchored.ensures c.requires.kind
+    c.requires.off c.find.ensures.answer)

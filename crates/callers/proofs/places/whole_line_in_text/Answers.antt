@@ -1,9 +1,8 @@
 -- Both laws, of the two matches.
 use Rattle.std.proofs.Common.{false, option_map}
 use Rattle.nfa_engines.specs.Found.{found_of}
-use Rattle.nfa_engines.specs.AlikeLaws.{IsOfWholeLines}
 use Rattle.nfa_engines.specs.Engines.{kind_of}
-use Rattle.nfa_engines.specs.SpanLaws.{moved_match}
+use Rattle.nfa_engines.specs.SpanLaws.{moved_match, IsOfWholeLines}
 use Rattle.callers.specs.Written.{line_of}
 use Rattle.callers.proofs.places.whole_line_in_text.Goals as goal
 

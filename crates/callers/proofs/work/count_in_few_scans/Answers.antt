@@ -4,6 +4,5 @@ use Rattle.callers.proofs.work.count_in_few_scans.Goals as goal
 
 pub returns : goal.returns
 returns c =
-    let x = search_of c.args.input in
-    (c.iterations_are_bounded.ensures.pike c.args.vm.now x c.args.cache.now c.counted.new.cache
+    (c.iterations_are_bounded.ensures.pike c.args.vm.now (search_of c.args.input) c.args.cache.now c.counted.new.cache
     c.counted.ensures).scans

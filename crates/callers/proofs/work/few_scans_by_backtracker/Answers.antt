@@ -4,6 +4,5 @@ use Rattle.callers.proofs.work.few_scans_by_backtracker.Goals as goal
 
 pub returns : goal.returns
 returns c =
-    let x = search_of c.args.input in
-    (c.iterations_are_bounded.ensures.backtracker c.args.backtracker.now x c.args.cache.now c.try_find_all.new.cache
-    c.try_find_all.ensures.searches).scans
+    (c.iterations_are_bounded.ensures.backtracker c.args.backtracker.now (search_of c.args.input) c.args.cache.now
+    c.try_find_all.new.cache c.try_find_all.ensures.searches).scans

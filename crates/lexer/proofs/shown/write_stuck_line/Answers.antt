@@ -4,7 +4,6 @@ use Rattle.lexer.proofs.shown.write_stuck_line.Goals as goal
 
 pub returns : goal.returns
 returns g c =
-    Appends-trans (g.W.Write.contents c.args.out.now) (g.W.Write.contents c.write.new.self)
-    (g.W.Write.contents c.write_all.new.self) _ _ c.in_ok-write.ensures.bytes
-    (Appends-trans (g.W.Write.contents c.write.new.self) (g.W.Write.contents c.write_position.new.out)
-    (g.W.Write.contents c.write_all.new.self) _ _ c.in_ok-write_position.ensures c.in_ok-write_all.ensures.bytes)
+    Appends-trans _ (g.W.Write.contents c.write.new.self) _ _ _ c.in_ok-write.ensures.bytes
+    (Appends-trans _ (g.W.Write.contents c.write_position.new.out) _ _ _ c.in_ok-write_position.ensures
+    c.in_ok-write_all.ensures.bytes)

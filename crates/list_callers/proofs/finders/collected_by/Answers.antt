@@ -1,7 +1,6 @@
 -- The items are the list.
 use Rattle.regex_search_core.specs.Found.{found_of}
-use Rattle.nfa_search_base.specs.StoredRuns.{stored_match_steps}
-use Rattle.nfa_search_base.specs.IterStates.{span_of}
+use Rattle.nfa_search_base.specs.Common.{stored_match_steps, span_of}
 use Rattle.nfa_search_base.proofs.MayAnswerLemmas.{collected_all}
 use Rattle.list_callers.proofs.finders.collected_by.Goals as goal
 

@@ -1,10 +1,8 @@
 -- The items are the list, up to a refusal.
 use Rattle.std.proofs.Common.{rules, ◌≡◌, ◌∙◌, ap, subst, map, IfOk, [], ◌∷◌, Some}
 use Rattle.regex_search_core.specs.Slots.{Captured}
-use Rattle.nfa_search_base.specs.WithCaptures.{row_of, row_span, UpToRefusal}
+use Rattle.nfa_search_base.specs.Common.{row_of, row_span, UpToRefusal, item_by, greedy, IterState, AnswerIsInside, fresh}
 use Rattle.list_callers.specs.EmptyFinder.{zero_row}
-use Rattle.nfa_search_base.specs.Items.{item_by, greedy}
-use Rattle.nfa_search_base.specs.IterStates.{IterState, AnswerIsInside, fresh}
 use Rattle.nfa_search_base.proofs.WithCapturesLemmas.{FillsAlong-by, refusal_from_collect}
 use Rattle.list_callers.proofs.EmptyFinderLemmas.{zero_inside}
 use Rattle.list_callers.proofs.finders.collected_captures.Goals as goal

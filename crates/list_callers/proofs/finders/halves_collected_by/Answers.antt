@@ -1,7 +1,6 @@
 -- The items are the list.
 use Rattle.regex_search_core.specs.Found.{half_found_of}
-use Rattle.nfa_search_base.specs.StoredRuns.{stored_match_steps}
-use Rattle.nfa_search_base.specs.IterStates.{half_span_of}
+use Rattle.nfa_search_base.specs.Common.{stored_match_steps, half_span_of}
 use Rattle.nfa_search_base.proofs.MayAnswerLemmas.{collected_all}
 use Rattle.list_callers.proofs.finders.halves_collected_by.Goals as goal
 

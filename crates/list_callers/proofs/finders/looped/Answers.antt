@@ -5,8 +5,7 @@ use Rattle.regex_search_core.specs.declared.search.Match.{Match}
 use Rattle.nfa_search_base.specs.declared.error.SearchError.{SearchError}
 use Rattle.regex_search_core.specs.Found.{found_of}
 use Rattle.list_callers.specs.EmptyFinder.{empty_answer}
-use Rattle.nfa_search_base.specs.Items.{item_by, greedy}
-use Rattle.nfa_search_base.specs.IterStates.{IterState, fresh, span_of}
+use Rattle.nfa_search_base.specs.Common.{item_by, greedy, IterState, fresh, span_of}
 use Rattle.nfa_search_base.proofs.StepLemmas.{AnswersAlong-always}
 use Rattle.list_callers.proofs.finders.looped.Goals as goal
 

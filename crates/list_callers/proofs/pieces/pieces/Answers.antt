@@ -2,8 +2,7 @@
 use Rattle.std.proofs.Common.{rules, ◌≡◌, ◌∙◌, ap, subst, refl, map, IfOk}
 use Rattle.std.proofs.lemmas.Iterator.Consumers.{map_from_collect}
 use Rattle.regex_search_core.specs.Found.{found_of}
-use Rattle.nfa_search_base.specs.Items.{item_by, greedy}
-use Rattle.nfa_search_base.specs.IterStates.{IterState, fresh, span_of}
+use Rattle.nfa_search_base.specs.Common.{item_by, greedy, IterState, fresh, span_of}
 use Rattle.nfa_search_base.proofs.StepLemmas.{AnswersAlong-by}
 use Rattle.list_callers.specs.Pieces.{piece_answer}
 use Rattle.list_callers.proofs.pieces.pieces.Goals as goal

@@ -1,8 +1,7 @@
 -- The items are the list.
 use Rattle.std.proofs.Common.{rules, ◌∙◌, ap}
-use Rattle.nfa_search_base.specs.IterStates.{IsInfalliblyInside, fresh}
-use Rattle.nfa_search_base.specs.WithCaptures.{row_span}
-use Rattle.nfa_search_base.proofs.MayAnswerRowLemmas.{captures_collected_infallibly_as}
+use Rattle.nfa_search_base.specs.Common.{IsInfalliblyInside, fresh, row_span}
+use Rattle.nfa_search_base.proofs.MayAnswerLemmas.{captures_collected_infallibly_as}
 use Rattle.list_callers.proofs.sure.captures_surely_collected.Goals as goal
 
 pub returns : goal.returns

@@ -1,6 +1,5 @@
 -- The count of the value is one more.
-use Rattle.std.proofs.Common.{rules, ◌≡◌, ◌+◌, arith}
-use Rattle.std.proofs.lemmas.Grind.{common_steps}
+use Rattle.nfa_paths.proofs.Common.{rules, ◌≡◌, ◌+◌, arith, common_steps}
 use Rattle.log_extractor.specs.Counts.{count_of}
 use Rattle.log_extractor.proofs.CountLemmas.{tally-more}
 use Rattle.log_extractor.proofs.count.add.Goals as goal

@@ -1,6 +1,6 @@
 -- The bytes so far were appended.
 use Rattle.std.proofs.Common.{◌≡◌, ◌++◌, take}
-use Rattle.log_extractor.specs.Written.{doubled}
+use Rattle.log_extractor.specs.Printed.{doubled}
 use Rattle.log_extractor.proofs.field.append_doubled.Given as goal
 
 abbrev pub invariant-loop-byte : goal.invariant-loop-byte

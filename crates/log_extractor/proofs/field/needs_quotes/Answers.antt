@@ -2,7 +2,7 @@
 use Rattle.std.proofs.Common.{rules, tests, ◌≡◌, false, length, ◌==◌}
 use Rattle.std.proofs.lemmas.Iterator.{YieldsList-from_slice}
 use Rattle.std.proofs.lemmas.Iterator.Search.{any_from_yields_List}
-use Rattle.log_extractor.specs.Written.{is_special}
+use Rattle.log_extractor.specs.Printed.{is_special}
 use Rattle.log_extractor.proofs.field.needs_quotes.Goals as goal
 
 pub returns-else-is_empty : goal.returns-else-is_empty

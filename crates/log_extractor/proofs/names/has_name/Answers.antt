@@ -1,22 +1,15 @@
--- The name is found, or it is another one, or no name is left.
-use Rattle.std.proofs.Common.{◌∙◌, arith, sym}
-use Rattle.log_extractor.proofs.SeveralLemmas.{name-here, name-later, no-more-names}
+-- The name is found.
+use Rattle.nfa_paths.proofs.Common.{◌∙◌, arith, map, string_bytes, sym, get_or-map, length-map}
+use Rattle.std.specs.Str.{bytes_eq}
+use Rattle.std.proofs.lemmas.List.Folds.{list_any_at}
 use Rattle.log_extractor.proofs.names.has_name.Goals as goal
 
 pub returns-then-is_name : goal.returns-then-is_name
 returns-then-is_name c =
-    sym (c.loop-other.invariant
-    ∙ name-here c.args.names.now c.args.name.now c.loop-other.other-index c.other-item.result c.loop-other-test.true
-    c.other-item.is (sym c.is_name.ensures ∙ c.if-is_name.true))
-
-pub loop-other-preserved : goal.loop-other-preserved
-loop-other-preserved c =
-    c.loop-other.invariant
-    ∙ name-later c.args.names.now c.args.name.now c.loop-other.other-index c.other-item.result c.loop-other-test.true
-    c.other-item.is (sym c.is_name.ensures ∙ c.if-is_name.false)
-
-pub returns : goal.returns
-returns c =
-    sym (c.loop-other.invariant
-    ∙ no-more-names c.args.names.now c.args.name.now c.loop-other.other-index
-    (omega (arith, c.loop-other-test.false)))
+    let names = c.args.names.now in
+    let other = c.other-item.result in
+    let here = get_or-map string_bytes names c.loop-other.other-index other (string_bytes other)
+    c.loop-other-test.true in
+    sym (list_any_at (λ x. bytes_eq x c.args.name.now) (map string_bytes names) c.loop-other.other-index
+    (string_bytes other) (omega (arith, length-map names string_bytes, c.loop-other-test.true))
+    (rw (here, ← c.other-item.is) (sym c.is_name.ensures ∙ c.if-is_name.true)))

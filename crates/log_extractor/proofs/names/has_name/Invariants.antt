@@ -1,9 +1,8 @@
 -- The first names are others.
-use Rattle.std.proofs.Common.{◌≡◌, List, ℕ, map, drop, string_bytes}
-use Rattle.std.specs.List.{list_any}
+use Rattle.nfa_paths.proofs.Common.{◌≡◌, false, List, ℕ, map, take, string_bytes, list_any}
 use Rattle.std.specs.Str.{bytes_eq}
 use Rattle.log_extractor.proofs.names.has_name.Given as goal
 
 abbrev pub invariant-loop-other : goal.invariant-loop-other
-invariant-loop-other l = list_any (λ (x : List ℕ). bytes_eq x l.name) (map string_bytes l.names)
-    ≡ list_any (λ (x : List ℕ). bytes_eq x l.name) (map string_bytes (drop l.other-index l.names))
+invariant-loop-other l =
+    list_any (λ (x : List ℕ). bytes_eq x l.name) (map string_bytes (take l.other-index l.names)) ≡ false

@@ -1,6 +1,5 @@
 -- The fields so far are those of the first columns.
-use Rattle.std.proofs.Common.{◌≡◌, map, take}
-use Rattle.regex_search_core.specs.Slots.{group_span}
+use Rattle.nfa_paths.proofs.Common.{◌≡◌, map, take, group_span}
 use Rattle.log_extractor.specs.Fields.{cut, fields_now}
 use Rattle.log_extractor.proofs.parser.cut_fields.Given as goal
 

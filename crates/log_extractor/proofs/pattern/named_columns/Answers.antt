@@ -1,9 +1,6 @@
 -- One more name was read.
-use Rattle.std.proofs.Common.{◌∙◌, ◌++◌, ◌∷◌, [], ap, map, sym, take, Option, String}
-use Rattle.std.specs.declared.alloc.Global.{Global}
-use Rattle.std.proofs.lemmas.List.{take_more}
-use Rattle.log_extractor.specs.Fields.{group_of}
-use Rattle.log_extractor.proofs.NameLemmas.{named_step}
+use Rattle.nfa_paths.proofs.Common.{arith, length-take, take, take_more}
+use Rattle.log_extractor.proofs.NameLemmas.{named-more}
 use Rattle.log_extractor.proofs.pattern.named_columns.Goals as goal
 
 pub loop-group-preserved : goal.loop-group-preserved
@@ -11,7 +8,9 @@ loop-group-preserved c =
     let names = c.args.names.now in
     let i = c.loop-group.group in
     let name = c.index-names-group.result in
-    let at = take_more names i name c.loop-group-test.true
-    ∙ ap (λ (x : Option (String Global)). take i names ++ x ∷ []) (sym c.index-names-group.is) in
-    named_step names i name (map group_of c.loop-group.columns.items) (map group_of c.push_named.new.columns.items)
-    c.loop-group-test.true at c.loop-group.invariant c.in_ok-push_named.ensures
+    rw (
+      take_more names i name c.loop-group-test.true,
+      ← c.index-names-group.is,
+      ← named-more 0 i (take i names) name (omega (arith, length-take i names, c.loop-group-test.true)),
+      ← c.loop-group.invariant,
+    ) c.in_ok-push_named.ensures

@@ -1,6 +1,6 @@
 -- The names so far were appended.
 use Rattle.std.proofs.Common.{◌≡◌, ◌∷◌, ◌++◌, map, take, flat_map, string_bytes}
-use Rattle.log_extractor.specs.Written.{separator, written}
+use Rattle.log_extractor.specs.Printed.{separator, written}
 use Rattle.log_extractor.proofs.row.append_more_names.Given as goal
 
 abbrev pub invariant-loop-name : goal.invariant-loop-name

@@ -1,8 +1,6 @@
 -- The alternatives from `left` on are pushed.
-use Rattle.std.proofs.Common.{◌≡◌, ◌≤◌, length, drop}
-use Rattle.nfa_paths.specs.Common.{Search, byte_at}
-use Rattle.nfa_backtrack_scan.specs.Walk.{IsStatePos}
-use Rattle.nfa_backtrack_scan.specs.Alternates.{PushesLive}
+use Rattle.nfa_paths.proofs.Common.{◌≡◌, ◌≤◌, length, drop, Search, byte_at}
+use Rattle.nfa_backtrack_scan.specs.Walk.{IsStatePos, PushesLive}
 use Rattle.nfa_backtrack_scan.proofs.alternates.push_alternates.Given as goal
 
 abbrev pub invariant-loop-left : goal.invariant-loop-left

@@ -1,7 +1,6 @@
 -- Rounds one after another, up to a turn that leads nowhere.
 use Rattle.std.proofs.Common.{[], ◌∙◌, arith, refl}
-use Rattle.nfa_paths.specs.Common.{search_of}
-use Rattle.nfa_backtrack_scan.proofs.ByteLoopLemmas.{OnErr-always, IsAfforded-then, TurnsLead-none, TurnsLead-then}
+use Rattle.nfa_backtrack_scan.proofs.StepLemmas.{TurnsLead-none, TurnsLead-then, refused-then}
 use Rattle.nfa_backtrack_scan.specs.Walk.{walk_of}
 use Rattle.nfa_backtrack_scan.proofs.byte_loop.run_byte_loop.Goals as goal
 
@@ -11,9 +10,7 @@ loop-union-init c = record {
   turns = omega arith;
   scans = refl;
   size = refl;
-  leads = λ slots.
-      TurnsLead-none c.args.nfa.now (search_of c.args.input.now) c.args.body c.requires.ready.is_place
-      (walk_of c.args.scratch.now slots);
+  leads = λ slots. TurnsLead-none c.requires.ready.is_place;
 }
 
 pub step_byte-requires-clause-place : goal.step_byte-requires-clause-place
@@ -24,11 +21,9 @@ push_exit-requires-clause-place c = (c.in-Some.ensures.leads (walk_of c.loop-uni
 
 pub returns-in_err-next-clause-refused : goal.returns-in_err-next-clause-refused
 returns-in_err-next-clause-refused c =
-    OnErr-always c.from_residual.result
-    (IsAfforded-then c.args.nfa.now (search_of c.args.input.now) c.push_exit.new.scratch.visited
-    (TurnsLead-then c.args.nfa.now (search_of c.args.input.now) (c.loop-union.invariant.leads [])
-    (c.in-Some.ensures.leads (walk_of c.loop-union.scratch [])))
-    c.in_err-next.ensures.refused)
+    refused-then c.from_residual.result c.push_exit.new.scratch.visited
+    (TurnsLead-then (c.loop-union.invariant.leads []) (c.in-Some.ensures.leads (walk_of c.loop-union.scratch [])))
+    c.in_err-next.ensures.refused
 
 pub loop-union-smaller : goal.loop-union-smaller
 loop-union-smaller c =
@@ -42,14 +37,13 @@ loop-union-smaller c =
 
 pub returns-in_default-clause-leads : goal.returns-in_default-clause-leads
 returns-in_default-clause-leads c = λ slots.
-    TurnsLead-then c.args.nfa.now (search_of c.args.input.now) (c.loop-union.invariant.leads slots)
+    TurnsLead-then (c.loop-union.invariant.leads slots)
     (c.in_default.ensures.leads (walk_of c.loop-union.scratch slots))
 
 pub returns-in_default-2-clause-leads : goal.returns-in_default-2-clause-leads
 returns-in_default-2-clause-leads c = λ slots.
-    TurnsLead-then c.args.nfa.now (search_of c.args.input.now)
-    (TurnsLead-then c.args.nfa.now (search_of c.args.input.now) (c.loop-union.invariant.leads slots)
-    (c.in-Some.ensures.leads (walk_of c.loop-union.scratch slots)))
+    TurnsLead-then
+    (TurnsLead-then (c.loop-union.invariant.leads slots) (c.in-Some.ensures.leads (walk_of c.loop-union.scratch slots)))
     ((rw c.in_default-2.is at c.in_ok-next.ensures.leads) slots)
 
 pub loop-union-preserved : goal.loop-union-preserved
@@ -59,8 +53,8 @@ loop-union-preserved c = record {
   scans = c.push_exit.ensures.scans ∙ c.loop-union.invariant.scans;
   size = c.push_exit.ensures.size ∙ c.step_byte.ensures.size ∙ c.loop-union.invariant.size;
   leads = λ slots.
-      TurnsLead-then c.args.nfa.now (search_of c.args.input.now)
-      (TurnsLead-then c.args.nfa.now (search_of c.args.input.now) (c.loop-union.invariant.leads slots)
+      TurnsLead-then
+      (TurnsLead-then (c.loop-union.invariant.leads slots)
       (c.in-Some.ensures.leads (walk_of c.loop-union.scratch slots)))
       ((rw c.in-Some-2.is at c.in_ok-next.ensures.leads) slots);
 }

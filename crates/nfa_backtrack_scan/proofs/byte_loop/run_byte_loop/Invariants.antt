@@ -1,7 +1,6 @@
 -- After each iteration the answer from the place is the answer from the first one, and the marks pay for what is
 -- pushed.
-use Rattle.std.proofs.Common.{◌≡◌, ◌-◌, ◌≤◌, length, Some}
-use Rattle.nfa_paths.specs.Common.{search_of, Slots}
+use Rattle.nfa_paths.proofs.Common.{◌≡◌, ◌-◌, ◌≤◌, length, Some, search_of, Slots}
 use Rattle.nfa_backtrack_scan.specs.Walk.{pair_of, walk_of, TurnsLead}
 use Rattle.nfa_backtrack_scan.proofs.byte_loop.run_byte_loop.Given as goal
 

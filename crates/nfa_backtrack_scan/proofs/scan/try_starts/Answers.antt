@@ -1,25 +1,11 @@
 -- The result of the search from all starts, and the most turns that it takes.
-use Rattle.std.proofs.Common.{◌≡◌, ◌∙◌, ◌+◌, ◌-◌, ◌<◌, ◌≤◌, length, replicate, map, arith, sym, ap, refl, None}
-use Rattle.nfa_paths.specs.Common.{search_of, pairs_from}
-use Rattle.nfa_paths.specs.Exploring.Task.{Explore}
+use Rattle.nfa_paths.proofs.Common.{◌≡◌, ◌∙◌, ◌+◌, ◌-◌, ◌<◌, ◌≤◌, length, replicate, map, arith, sym, ap, refl, None, search_of, pairs_from, Explore}
 use Rattle.nfa_paths.proofs.StartLemmas.{pairs_from-step, pairs_from-end}
 use Rattle.nfa_backtrack_scan.specs.Walk.{walk_of}
 use Rattle.nfa_backtrack_scan.proofs.PassLemmas.{Carries-first, Carries-pass}
 use Rattle.nfa_backtrack_scan.proofs.WalkLemmas.{Carries-then, Carries-ends, Ends-none, EndsAt-along}
-use Rattle.nfa_backtrack_scan.proofs.ScanLemmas.{starts-none, starts-some, turns-all, turns-bound}
+use Rattle.nfa_backtrack_scan.proofs.ScanLemmas.{starts-none, starts-some}
 use Rattle.nfa_backtrack_scan.proofs.scan.try_starts.Goals as goal
-
-pub returns-in_err-half-clause-turns : goal.returns-in_err-half-clause-turns
-returns-in_err-half-clause-turns c =
-    turns-bound c.args.nfa.now (search_of c.args.input.now) (c.loop-at.at - (search_of c.args.input.now).start)
-    c.loop-at.scratch.visited.turns _ _ c.loop-at.scratch.visited.bits
-    (omega arith) c.loop-at.invariant.tried c.walk.ensures.bounded
-
-pub returns-in-Some-2-clause-turns : goal.returns-in-Some-2-clause-turns
-returns-in-Some-2-clause-turns c =
-    turns-bound c.args.nfa.now (search_of c.args.input.now) (c.loop-at.at - (search_of c.args.input.now).start)
-    c.loop-at.scratch.visited.turns _ _ c.loop-at.scratch.visited.bits
-    (omega arith) c.loop-at.invariant.tried c.walk.ensures.bounded
 
 pub returns-in-Some-2-clause-answer : goal.returns-in-Some-2-clause-answer
 returns-in-Some-2-clause-answer c =
@@ -33,7 +19,7 @@ returns-in-Some-2-clause-answer c =
     (λ n. replicate n None) (sym size) in
     starts-some c.args.nfa.now (search_of c.args.input.now) (walk_of c.args.scratch.now c.args.slots.now)
     c.requires.ready.clear c.in-Some-2.half (walk_of c.walk.new.scratch c.walk.new.slots) unset
-    (EndsAt-along c.args.nfa.now (search_of c.args.input.now) follows (walks rest))
+    (EndsAt-along follows (walks rest))
 
 pub loop-at-init : goal.loop-at-init
 loop-at-init c =
@@ -63,11 +49,11 @@ loop-at-preserved c =
     let here : c.loop-at.at < c.start_limit-limit.result = c.loop-at-test.true in
     let follows = rw (pairs_from-step c.in-Some.sid here) at c.loop-at.invariant.follows in
     let fails = rw (c.in_default-2.is, c.state_pos_at-place.ensures.pair) at c.in_ok-half.ensures.walks in
-    let walked = Carries-then c.args.nfa.now (search_of c.args.input.now) follows
+    let walked = Carries-then follows
     (fails.follows (c.loop-at.at + 1) (c.start_limit-limit.result - (c.loop-at.at + 1))) in
     let next = c.next_start-at-in-loop-at.ensures in
     record {
-      follows = Carries-then c.args.nfa.now (search_of c.args.input.now) walked
+      follows = Carries-then walked
           (Carries-pass c.args.nfa.now (search_of c.args.input.now) c.args.first.now.may_begin c.requires.ready.first
           c.walk.new.scratch.visited c.walk.new.slots
           c.in-Some.sid (c.loop-at.at + 1) c.skip_limit-stop.result c.next_start-at-in-loop-at.result
@@ -84,16 +70,11 @@ loop-at-preserved c =
       tried = omega (arith, c.loop-at.invariant.tried, fails.spent, c.next_start-at-in-loop-at.ensures.low);
     }
 
-pub returns-clause-turns : goal.returns-clause-turns
-returns-clause-turns c =
-    turns-all c.args.nfa.now (search_of c.args.input.now) (c.loop-at.at - (search_of c.args.input.now).start) _ _
-    c.loop-at.scratch.visited.bits (omega arith) c.loop-at.invariant.tried
-
 pub returns-clause-answer : goal.returns-clause-answer
 returns-clause-answer c =
     let over : c.start_limit-limit.result ≤ c.loop-at.at = c.loop-at-test.false in
     let follows = rw (pairs_from-end c.in-Some.sid over) at c.loop-at.invariant.follows in
     starts-none c.args.nfa.now (search_of c.args.input.now) (walk_of c.args.scratch.now c.args.slots.now)
     c.requires.ready.clear c.loop-at.scratch.visited.turns
-    (Carries-ends c.args.nfa.now (search_of c.args.input.now) follows
+    (Carries-ends follows
     (Ends-none c.args.nfa.now (search_of c.args.input.now) c.loop-at.scratch.visited c.loop-at.slots))

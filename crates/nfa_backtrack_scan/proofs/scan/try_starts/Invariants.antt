@@ -1,8 +1,5 @@
 -- At each start the answer from there is the answer from all starts, and the turns so far are bounded.
-use Rattle.std.proofs.Common.{◌≡◌, ◌+◌, ◌-◌, ◌<◌, ◌≤◌, [], length, map}
-use Rattle.nfa_paths.specs.Common.{search_of, starts, start_count, pairs_from}
-use Rattle.nfa_paths.specs.Exploring.Task.{Explore}
-use Rattle.nfa_paths.specs.Turns.{marked_sum}
+use Rattle.nfa_paths.proofs.Common.{◌≡◌, ◌+◌, ◌-◌, ◌<◌, ◌≤◌, [], length, map, search_of, starts, start_count, pairs_from, Explore, marked_sum}
 use Rattle.nfa_scan_core.specs.FirstBytes.{IsRefused}
 use Rattle.nfa_backtrack_scan.specs.Walk.{Carries, weights}
 use Rattle.nfa_backtrack_scan.proofs.scan.try_starts.Given as goal

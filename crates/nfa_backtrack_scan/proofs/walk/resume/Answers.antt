@@ -11,14 +11,15 @@ loop-frame-init c = record {
 
 pub returns-in-Some-apply_frame-clause-resumes : goal.returns-in-Some-apply_frame-clause-resumes
 returns-in-Some-apply_frame-clause-resumes c =
-    Resumes-popped c.in-Some.frame c.loop-frame.invariant.resumes c.in-Some.ensures.items c.in-Some-apply_frame.ensures
+    Resumes-popped _ _ c.in-Some.frame _ _ _ c.in-Some.ensures.items c.in-Some-apply_frame.ensures
+    c.loop-frame.invariant.resumes
 
 pub loop-frame-preserved : goal.loop-frame-preserved
 loop-frame-preserved c = record {
   slots = slots-unwound _ _ c.in-Some.frame _ _ _ c.in-Some.ensures.items c.in_default-apply_frame.ensures
       c.loop-frame.invariant.slots;
-  resumes = Resumes-popped c.in-Some.frame c.loop-frame.invariant.resumes c.in-Some.ensures.items
-      c.in_default-apply_frame.ensures;
+  resumes = Resumes-popped _ _ c.in-Some.frame _ _ _ c.in-Some.ensures.items c.in_default-apply_frame.ensures
+      c.loop-frame.invariant.resumes;
 }
 
 pub returns-clause-resumes : goal.returns-clause-resumes

@@ -1,12 +1,8 @@
 -- Where a turn leads, for each kind of state; its mark pays for what it pushes.
-use Rattle.std.proofs.Common.{◌<◌, ◌∙◌, length, drop, arith, refl, sym}
-use Rattle.nfa_paths.specs.Common.{search_of}
-use Rattle.thompson_nfa.specs.Automaton.Node.{ByteRange, Sparse, Dense}
+use Rattle.nfa_paths.proofs.Common.{◌<◌, ◌∙◌, length, drop, arith, refl, sym, search_of, ByteRange, Sparse, Dense}
 use Rattle.nfa_scan_core.proofs.AlternateLemmas.{first-drop}
-use Rattle.nfa_backtrack_scan.specs.Walk.{walk_of}
-use Rattle.nfa_backtrack_scan.specs.Alternates.{PushesLive}
-use Rattle.nfa_backtrack_scan.proofs.StepLemmas.{beside, same_size, Goes-leads, Goes-match, TurnsLead-look, TurnsLead-no_look, TurnsLead-no_union, TurnsLead-union, TurnsLead-unkept, TurnsLead-write}
-use Rattle.nfa_backtrack_scan.proofs.ByteLoopLemmas.{OnErr-always, IsAfforded-turn, IsAfforded-then, TurnsLead-fail, TurnsLead-marked, TurnsLead-then}
+use Rattle.nfa_backtrack_scan.specs.Walk.{walk_of, PushesLive}
+use Rattle.nfa_backtrack_scan.proofs.StepLemmas.{beside, Goes-leads, Goes-match, TurnsLead-fail, TurnsLead-look, TurnsLead-marked, TurnsLead-no_look, TurnsLead-no_union, TurnsLead-then, TurnsLead-union, TurnsLead-unkept, TurnsLead-write, refused-turn, refused-then}
 use Rattle.nfa_backtrack_scan.proofs.AlternateLemmas.{TurnsLead-live}
 use Rattle.nfa_backtrack_scan.proofs.walk.step.Goals as goal
 use Rattle.nfa_backtrack_scan.proofs.walk.step.Goals.{then-slot-slots+in_ok-save-in-Capture, else-slot-slots}
@@ -21,13 +17,10 @@ cross-next-requires-clause-step c =
       leads = rw (← c.byte_at.ensures) c.range_target-target.ensures;
     }
 
-pub cross-next-requires-clause-states : goal.cross-next-requires-clause-states
-cross-next-requires-clause-states c = same_size c.args.nfa.now c.args.states.now c.requires.ready.states_are
-
 pub returns-in-ByteRange-clause-goes : goal.returns-in-ByteRange-clause-goes
 returns-in-ByteRange-clause-goes c =
     rw c.move_to.ensures
-    (Goes-leads c.args.nfa.now (search_of c.args.input.now) c.cross-next.result
+    (Goes-leads c.cross-next.result
     (c.cross-next.ensures.leads (walk_of c.args.scratch.now c.args.slots.now)))
 
 pub cross-next-requires-in-Sparse-clause-step : goal.cross-next-requires-in-Sparse-clause-step
@@ -41,13 +34,10 @@ cross-next-requires-in-Sparse-clause-step c =
       leads = rw (← c.byte_at-in-Sparse.ensures) (rw list at c.sparse_target-target.ensures);
     }
 
-pub cross-next-requires-in-Sparse-clause-states : goal.cross-next-requires-in-Sparse-clause-states
-cross-next-requires-in-Sparse-clause-states c = same_size c.args.nfa.now c.args.states.now c.requires.ready.states_are
-
 pub returns-in-Sparse-clause-goes : goal.returns-in-Sparse-clause-goes
 returns-in-Sparse-clause-goes c =
     rw c.move_to-in-Sparse.ensures
-    (Goes-leads c.args.nfa.now (search_of c.args.input.now) c.cross-next-in-Sparse.result
+    (Goes-leads c.cross-next-in-Sparse.result
     (c.cross-next-in-Sparse.ensures.leads (walk_of c.args.scratch.now c.args.slots.now)))
 
 pub cross-next-requires-in-Dense-clause-step : goal.cross-next-requires-in-Dense-clause-step
@@ -61,39 +51,26 @@ cross-next-requires-in-Dense-clause-step c =
       leads = rw (← c.byte_at-in-Dense.ensures) (rw list at c.dense_target-target.ensures);
     }
 
-pub cross-next-requires-in-Dense-clause-states : goal.cross-next-requires-in-Dense-clause-states
-cross-next-requires-in-Dense-clause-states c = same_size c.args.nfa.now c.args.states.now c.requires.ready.states_are
-
 pub returns-in-Dense-clause-goes : goal.returns-in-Dense-clause-goes
 returns-in-Dense-clause-goes c =
     rw c.move_to-in-Dense.ensures
-    (Goes-leads c.args.nfa.now (search_of c.args.input.now) c.cross-next-in-Dense.result
+    (Goes-leads c.cross-next-in-Dense.result
     (c.cross-next-in-Dense.ensures.leads (walk_of c.args.scratch.now c.args.slots.now)))
 
 pub returns-then-not-mark-clause-goes : goal.returns-then-not-mark-clause-goes
-returns-then-not-mark-clause-goes c =
-    TurnsLead-marked c.args.nfa.now (search_of c.args.input.now) c.args.place.sid c.args.place.at
-    (c.mark.ensures.seen c.if-not-mark.true) (walk_of c.args.scratch.now c.args.slots.now)
+returns-then-not-mark-clause-goes c = TurnsLead-marked (c.mark.ensures.seen c.if-not-mark.true)
 
 pub returns-then-not-mark-2-clause-goes : goal.returns-then-not-mark-2-clause-goes
-returns-then-not-mark-2-clause-goes c =
-    TurnsLead-marked c.args.nfa.now (search_of c.args.input.now) c.args.place.sid c.args.place.at
-    (c.mark-in-Union.ensures.seen c.if-not-mark-2.true) (walk_of c.args.scratch.now c.args.slots.now)
+returns-then-not-mark-2-clause-goes c = TurnsLead-marked (c.mark-in-Union.ensures.seen c.if-not-mark-2.true)
 
 pub returns-then-not-mark-3-clause-goes : goal.returns-then-not-mark-3-clause-goes
-returns-then-not-mark-3-clause-goes c =
-    TurnsLead-marked c.args.nfa.now (search_of c.args.input.now) c.args.place.sid c.args.place.at
-    (c.mark-in-BinaryUnion.ensures.seen c.if-not-mark-3.true) (walk_of c.args.scratch.now c.args.slots.now)
+returns-then-not-mark-3-clause-goes c = TurnsLead-marked (c.mark-in-BinaryUnion.ensures.seen c.if-not-mark-3.true)
 
 pub returns-then-not-mark-4-clause-goes : goal.returns-then-not-mark-4-clause-goes
-returns-then-not-mark-4-clause-goes c =
-    TurnsLead-marked c.args.nfa.now (search_of c.args.input.now) c.args.place.sid c.args.place.at
-    (c.mark-in-Capture.ensures.seen c.if-not-mark-4.true) (walk_of c.args.scratch.now c.args.slots.now)
+returns-then-not-mark-4-clause-goes c = TurnsLead-marked (c.mark-in-Capture.ensures.seen c.if-not-mark-4.true)
 
 pub returns-then-not-mark-5-clause-goes : goal.returns-then-not-mark-5-clause-goes
-returns-then-not-mark-5-clause-goes c =
-    TurnsLead-marked c.args.nfa.now (search_of c.args.input.now) c.args.place.sid c.args.place.at
-    (c.mark-in-Match.ensures.seen c.if-not-mark-5.true) (walk_of c.args.scratch.now c.args.slots.now)
+returns-then-not-mark-5-clause-goes c = TurnsLead-marked (c.mark-in-Match.ensures.seen c.if-not-mark-5.true)
 
 pub returns-then-assertion_holds-clause-goes : goal.returns-then-assertion_holds-clause-goes
 returns-then-assertion_holds-clause-goes c =
@@ -101,24 +78,21 @@ returns-then-assertion_holds-clause-goes c =
     let is = rw c.in-Look.is at c.state_at.ensures.node in
     let below = rw c.in-Look.is at c.state_at.ensures.leads in
     let holds = sym (rw c.haystack.ensures at c.assertion_holds.ensures) ∙ c.if-assertion_holds.true in
-    rw c.to.ensures (TurnsLead-look t c.args.place.row c.requires.ready.is_place.row c.in-Look.look c.in-Look.next is
-    holds below (walk_of c.args.scratch.now c.args.slots.now))
+    rw c.to.ensures (TurnsLead-look t c.requires.ready.is_place.row is holds below)
 
 pub returns-else-assertion_holds-clause-goes : goal.returns-else-assertion_holds-clause-goes
 returns-else-assertion_holds-clause-goes c =
     let t = c.mark.ensures.taken c.if-not-mark.false in
     let is = rw c.in-Look.is at c.state_at.ensures.node in
     let fails = sym (rw c.haystack.ensures at c.assertion_holds.ensures) ∙ c.if-assertion_holds.false in
-    TurnsLead-no_look t c.args.place.row c.requires.ready.is_place.row c.in-Look.look c.in-Look.next is fails
-    (walk_of c.args.scratch.now c.args.slots.now)
+    TurnsLead-no_look t c.requires.ready.is_place.row is fails
 
 pub returns-in_default-clause-goes : goal.returns-in_default-clause-goes
 returns-in_default-clause-goes c =
     let t = c.mark-in-Union.ensures.taken c.if-not-mark-2.false in
     let is = rw c.in-Union.is at c.state_at.ensures.node in
     let none = sym (rw c.deref-in-Union.ensures.value at c.in_default.ensures.value) in
-    TurnsLead-no_union t c.args.place.row c.requires.ready.is_place.row c.in-Union.alternates.items is none
-    (walk_of c.args.scratch.now c.args.slots.now)
+    TurnsLead-no_union t c.requires.ready.is_place.row is none
 
 pub push_alternates-requires : goal.push_alternates-requires
 push_alternates-requires c =
@@ -143,27 +117,25 @@ returns-in_ok-push_alternates-in-Union-clause-goes c =
     let split = first-drop c.in-Union.alternates.items c.in-Some.first.now first in
     let state : c.in-Some.first.now < length c.args.nfa.now.states = (rw split at below) 0 0 (omega arith) in
     rw c.to-in-Union.ensures
-    (TurnsLead-live c.args.nfa.now (search_of c.args.input.now) t c.in-Union.alternates.items is _ first
-    (walk_of c.args.scratch.now c.args.slots.now) (pushes c)
-    (beside t c.args.place.row c.requires.ready.is_place.row c.in-Some.first.now state))
+    (TurnsLead-live t is first (pushes c) (beside t c.requires.ready.is_place.row c.in-Some.first.now state))
 
 pub returns-in_err-push_alternates-in-Union-clause-refused : goal.returns-in_err-push_alternates-in-Union-clause-refused
 returns-in_err-push_alternates-in-Union-clause-refused c =
-    OnErr-always c.from_residual.result
-    (IsAfforded-turn c.args.nfa.now (search_of c.args.input.now) c.args.scratch.now.stack.items
-    c.args.scratch.now.visited c.mark-in-Union.new.visited c.mark-in-Union.ensures.turns)
+    refused-turn c.from_residual.result c.args.nfa.now (search_of c.args.input.now)
+    c.args.scratch.now.stack.items c.args.scratch.now.visited c.mark-in-Union.new.visited
+    c.mark-in-Union.ensures.turns
 
 pub returns-in_err-push-in-BinaryUnion-clause-refused : goal.returns-in_err-push-in-BinaryUnion-clause-refused
 returns-in_err-push-in-BinaryUnion-clause-refused c =
-    OnErr-always c.from_residual-in_err-push-in-BinaryUnion.result
-    (IsAfforded-turn c.args.nfa.now (search_of c.args.input.now) c.args.scratch.now.stack.items
-    c.args.scratch.now.visited c.mark-in-BinaryUnion.new.visited c.mark-in-BinaryUnion.ensures.turns)
+    refused-turn c.from_residual-in_err-push-in-BinaryUnion.result c.args.nfa.now (search_of c.args.input.now)
+    c.args.scratch.now.stack.items c.args.scratch.now.visited c.mark-in-BinaryUnion.new.visited
+    c.mark-in-BinaryUnion.ensures.turns
 
 pub returns-in_err-save-in-Capture-clause-refused : goal.returns-in_err-save-in-Capture-clause-refused
 returns-in_err-save-in-Capture-clause-refused c =
-    OnErr-always c.from_residual-in_err-save-in-Capture.result
-    (IsAfforded-turn c.args.nfa.now (search_of c.args.input.now) c.args.scratch.now.stack.items
-    c.args.scratch.now.visited c.mark-in-Capture.new.visited c.mark-in-Capture.ensures.turns)
+    refused-turn c.from_residual-in_err-save-in-Capture.result c.args.nfa.now (search_of c.args.input.now)
+    c.args.scratch.now.stack.items c.args.scratch.now.visited c.mark-in-Capture.new.visited
+    c.mark-in-Capture.ensures.turns
 
 pub run_loop-requires-clause-state : goal.run_loop-requires-clause-state
 run_loop-requires-clause-state c =
@@ -174,21 +146,20 @@ returns-in_err-run_loop-in-BinaryUnion-clause-refused c =
     let t = c.mark-in-BinaryUnion.ensures.taken c.if-not-mark-3.false in
     let is = rw c.in-BinaryUnion.is at c.state_at.ensures.node in
     let below = rw c.in-BinaryUnion.is at c.state_at.ensures.leads in
-    let union = TurnsLead-union t c.args.place.row c.requires.ready.is_place.row c.in-BinaryUnion.alt1
-    c.in-BinaryUnion.alt2 is below.0 below.1 (walk_of c.args.scratch.now c.args.slots.now) in
+    let union = TurnsLead-union {a = walk_of c.args.scratch.now c.args.slots.now} t c.requires.ready.is_place.row is
+    below.0 below.1 in
     let round = rw (c.in_ok-push-in-BinaryUnion.ensures.items, c.later.ensures) at
     c.in_err-run_loop-in-BinaryUnion.ensures.refused in
-    OnErr-always c.from_residual-in_err-run_loop-in-BinaryUnion.result
-    (IsAfforded-then c.args.nfa.now (search_of c.args.input.now) c.run_loop.new.scratch.visited union round)
+    refused-then c.from_residual-in_err-run_loop-in-BinaryUnion.result c.run_loop.new.scratch.visited union round
 
 pub returns-in-Some-byte_loop_at-clause-goes : goal.returns-in-Some-byte_loop_at-clause-goes
 returns-in-Some-byte_loop_at-clause-goes c =
     let t = c.mark-in-BinaryUnion.ensures.taken c.if-not-mark-3.false in
     let is = rw c.in-BinaryUnion.is at c.state_at.ensures.node in
     let below = rw c.in-BinaryUnion.is at c.state_at.ensures.leads in
-    let union = TurnsLead-union t c.args.place.row c.requires.ready.is_place.row c.in-BinaryUnion.alt1
-    c.in-BinaryUnion.alt2 is below.0 below.1 (walk_of c.args.scratch.now c.args.slots.now) in
-    TurnsLead-then c.args.nfa.now (search_of c.args.input.now) union
+    let union = TurnsLead-union {a = walk_of c.args.scratch.now c.args.slots.now} t c.requires.ready.is_place.row is
+    below.0 below.1 in
+    TurnsLead-then union
     (rw (c.in_ok-push-in-BinaryUnion.ensures.items, c.later.ensures, c.to-preferred.ensures) at
     (c.in_ok-run_loop-in-BinaryUnion.ensures.leads c.args.slots.now))
 
@@ -197,8 +168,8 @@ returns-in_default-byte_loop_at-clause-goes c =
     let t = c.mark-in-BinaryUnion.ensures.taken c.if-not-mark-3.false in
     let is = rw c.in-BinaryUnion.is at c.state_at.ensures.node in
     let below = rw c.in-BinaryUnion.is at c.state_at.ensures.leads in
-    let union = TurnsLead-union t c.args.place.row c.requires.ready.is_place.row c.in-BinaryUnion.alt1
-    c.in-BinaryUnion.alt2 is below.0 below.1 (walk_of c.args.scratch.now c.args.slots.now) in
+    let union = TurnsLead-union {a = walk_of c.args.scratch.now c.args.slots.now} t c.requires.ready.is_place.row is
+    below.0 below.1 in
     rw (c.to-preferred.ensures, c.in_ok-push-in-BinaryUnion.ensures.items, c.later.ensures) union
 
 pub returns-after-slot-slots-clause-goes : goal.returns-after-slot-slots-clause-goes
@@ -215,22 +186,19 @@ returns-after-slot-slots-clause-goes c =
             w.in_ok-save-in-Capture.ensures.stack,
             w.in_ok-save-in-Capture.ensures.slots,
           )
-          (TurnsLead-write t c.args.place.row c.requires.ready.is_place.row c.in-Capture.next c.in-Capture.slot is below
-          (walk_of c.args.scratch.now c.args.slots.now) w.if-slot-slots.true)
+          (TurnsLead-write t c.requires.ready.is_place.row is below w.if-slot-slots.true)
       | else-slot-slots w ↦
           rw (w.scratch-is, w.slots-is)
-          (TurnsLead-unkept t c.args.place.row c.requires.ready.is_place.row c.in-Capture.next c.in-Capture.slot is
-          below (walk_of c.args.scratch.now c.args.slots.now) w.if-slot-slots.false)
+          (TurnsLead-unkept t c.requires.ready.is_place.row is below w.if-slot-slots.false)
     ])
 
 pub returns-in-Fail-clause-goes : goal.returns-in-Fail-clause-goes
 returns-in-Fail-clause-goes c =
     let is = rw c.in-Fail.is at c.state_at.ensures.node in
-    TurnsLead-fail c.args.nfa.now (search_of c.args.input.now) c.args.place.sid c.args.place.at is
-    (rw c.pass.ensures refl) (rw c.pass.ensures refl) (walk_of c.args.scratch.now c.args.slots.now)
+    TurnsLead-fail (rw c.pass.ensures refl) (rw c.pass.ensures refl) is
 
 pub returns-else-not-mark-5-clause-goes : goal.returns-else-not-mark-5-clause-goes
 returns-else-not-mark-5-clause-goes c =
     let t = c.mark-in-Match.ensures.taken c.if-not-mark-5.false in
     let is = rw c.in-Match.is at c.state_at.ensures.node in
-    Goes-match t c.in-Match.pattern_id is (walk_of c.args.scratch.now c.args.slots.now)
+    Goes-match t c.in-Match.pattern_id is

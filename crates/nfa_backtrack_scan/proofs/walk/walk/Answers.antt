@@ -1,10 +1,7 @@
 -- A walk is its first turn and the rest.
-use Rattle.std.proofs.Common.{arith}
-use Rattle.nfa_paths.specs.Common.{search_of}
+use Rattle.nfa_paths.proofs.Common.{◌++◌, arith, search_of}
 use Rattle.nfa_paths.proofs.TurnLemmas.{marked_sum-le}
-use Rattle.nfa_backtrack_scan.specs.Begin.{kept_onto, start_tasks}
-use Rattle.nfa_backtrack_scan.specs.Walk.{walk_of, weights}
-use Rattle.nfa_backtrack_scan.proofs.BeginLemmas.{Carries-kept}
+use Rattle.nfa_backtrack_scan.specs.Walk.{start_tasks, walk_of, weights}
 use Rattle.nfa_backtrack_scan.proofs.WalkLemmas.{Carries-then, EndsAt-along}
 use Rattle.nfa_backtrack_scan.proofs.walk.walk.Goals as goal
 
@@ -22,9 +19,8 @@ pub returns-in-Some-2-clause-walks : goal.returns-in-Some-2-clause-walks
 returns-in-Some-2-clause-walks c = λ work.
     let goes = rw c.in-Some.is at c.begin.ensures.begins in
     let walks = rw (c.in-Some-2.is, c.requires.empty) at c.in_ok-half-in-Some.ensures.walks in
-    let end = EndsAt-along c.args.nfa.now (search_of c.args.input.now)
-    {a = walk_of c.args.scratch.now c.args.slots.now} (goes.follows work)
-    (walks.1 (kept_onto goes.slot goes.before work)) in
+    let end = EndsAt-along {a = walk_of c.args.scratch.now c.args.slots.now} (goes.follows work)
+    (walks.1 (goes.restores ++ work)) in
     record { state = end.state; matches = end.matches; ends = end.ends }
 
 pub returns-in-None-2-clause-walks : goal.returns-in-None-2-clause-walks
@@ -35,10 +31,8 @@ returns-in-None-2-clause-walks c =
       empty = fails.0;
       follows = λ at count.
           let rest = start_tasks c.args.start.sid at count in
-          Carries-then c.args.nfa.now (search_of c.args.input.now)
-          (Carries-then c.args.nfa.now (search_of c.args.input.now) (goes.follows rest)
-          (rw fails.0 at (fails.1.follows (kept_onto goes.slot goes.before rest))))
-          (Carries-kept c.args.nfa.now (search_of c.args.input.now) c.walk_on.new.scratch.visited c.args.start.sid at
-          count goes.slot goes.before c.walk_on.new.slots goes.own);
+          Carries-then
+          (Carries-then (goes.follows rest) (rw fails.0 at (fails.1.follows (goes.restores ++ rest))))
+          (goes.needless c.walk_on.new.scratch.visited c.walk_on.new.slots at count);
       spent = omega (arith, goes.spent, rw fails.0 at fails.1.paid.tried);
     }

@@ -1,8 +1,5 @@
 -- At each turn of a walk the answer from there is the answer of the walk, and the marks pay for the frames.
-use Rattle.std.proofs.Common.{◌≡◌, ◌+◌, ◌-◌, length, sum, Some}
-use Rattle.std.specs.List.{sum_by}
-use Rattle.nfa_paths.specs.Common.{search_of}
-use Rattle.nfa_paths.specs.Turns.{marked_sum}
+use Rattle.nfa_paths.proofs.Common.{◌≡◌, ◌+◌, ◌-◌, length, sum, Some, sum_by, search_of, marked_sum}
 use Rattle.nfa_backtrack_scan.specs.Walk.{pair_of, frame_tries, walk_of, weights, TurnsLead}
 use Rattle.nfa_backtrack_scan.proofs.walk.walk_on.Given as goal
 

@@ -1,7 +1,5 @@
 -- What was made is the NFA with fewer captures, in which there is no flaw.
-use Rattle.std.proofs.Common.{◌≡◌, ◌∙◌, ℕ, List, [], ◌∷◌, Option, ap, map, refl, subst, sym}
-use Rattle.nfa_paths.specs.Common.{slot_count, Automaton, IsAutomaton, node_of}
-use Rattle.thompson_nfa.specs.declared.state.State.{State}
+use Rattle.nfa_paths.proofs.Common.{◌≡◌, ◌∙◌, ℕ, List, [], ◌∷◌, Option, ap, map, refl, subst, sym, slot_count, Automaton, IsAutomaton, node_of, State}
 use Rattle.nfa_captures.specs.Kept.{kept_groups, kept_node, with_captures}
 use Rattle.thompson_nfa.proofs.FlawLemmas.{no-flaw}
 use Rattle.nfa_captures.proofs.ValidLemmas.{captures-valid}

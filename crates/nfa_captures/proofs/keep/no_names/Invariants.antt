@@ -1,6 +1,5 @@
 -- No pattern so far has an explicit group.
-use Rattle.std.proofs.Common.{◌≡◌, [], replicate}
-use Rattle.nfa_paths.specs.Common.{names_of}
+use Rattle.nfa_paths.proofs.Common.{◌≡◌, [], replicate, names_of}
 use Rattle.nfa_captures.proofs.keep.no_names.Given as goal
 
 abbrev pub invariant-loop : goal.invariant-loop

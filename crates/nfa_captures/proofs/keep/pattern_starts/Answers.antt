@@ -1,8 +1,5 @@
 -- The start of the next pattern comes after those so far.
-use Rattle.std.proofs.Common.{rules, ◌≡◌, ◌∙◌, ◌∷◌, [], ◌++◌, Some, ap, arith, slice_get, sym, take}
-use Rattle.std.proofs.lemmas.Grind.{common_steps}
-use Rattle.std.proofs.lemmas.List.{take_more}
-use Rattle.std.proofs.lemmas.Option.{get_or_from_slice_get, slice_get_within}
+use Rattle.nfa_paths.proofs.Common.{rules, ◌≡◌, ◌∙◌, ◌∷◌, [], ◌++◌, Some, ap, arith, slice_get, sym, take, common_steps, take_more, get_or_from_slice_get, slice_get_within}
 use Rattle.nfa_captures.proofs.keep.pattern_starts.Goals as goal
 
 pub loop-index-preserved : goal.loop-index-preserved

@@ -1,6 +1,5 @@
 -- A path writes the slots that are kept as before.
-use Rattle.std.proofs.Common.{◌≤◌, length, subst}
-use Rattle.nfa_paths.specs.Common.{slot_count, IsAnswer}
+use Rattle.nfa_paths.proofs.Common.{◌≤◌, length, subst, slot_count, IsAnswer}
 use Rattle.nfa_captures.specs.Kept.{kept_groups, with_captures}
 use Rattle.nfa_captures.proofs.KeptLemmas.{row-kept, same-ways}
 use Rattle.nfa_captures.proofs.WaysLemmas.{slots-answer}

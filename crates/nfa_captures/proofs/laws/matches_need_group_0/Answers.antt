@@ -1,6 +1,5 @@
 -- A path writes the slots of group 0 as before.
-use Rattle.std.proofs.Common.{subst}
-use Rattle.nfa_paths.specs.Common.{IsFindAnswer}
+use Rattle.nfa_paths.proofs.Common.{subst, IsFindAnswer}
 use Rattle.nfa_captures.specs.Kept.{kept_groups, with_captures}
 use Rattle.nfa_captures.specs.declared.which.WhichCaptures.TheVariants as which
 use Rattle.nfa_captures.proofs.KeptLemmas.{match-kept, same-ways}

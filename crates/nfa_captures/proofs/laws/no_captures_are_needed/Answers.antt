@@ -1,6 +1,5 @@
 -- Paths do not depend on what they write.
-use Rattle.std.proofs.Common.{subst}
-use Rattle.nfa_paths.specs.Common.{IsOverlapResult, IsBoolAnswer, IsHalfAnswer}
+use Rattle.nfa_paths.proofs.Common.{subst, IsOverlapResult, IsBoolAnswer, IsHalfAnswer}
 use Rattle.nfa_captures.specs.Kept.{kept_groups, with_captures}
 use Rattle.nfa_captures.proofs.KeptLemmas.{same-ways}
 use Rattle.nfa_captures.proofs.SetLemmas.{set-same}

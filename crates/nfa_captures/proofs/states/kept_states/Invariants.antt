@@ -1,7 +1,6 @@
 -- The states so far are those of the original, without the captures that are not kept.
-use Rattle.std.proofs.Common.{◌≡◌, map, take}
+use Rattle.nfa_paths.proofs.Common.{◌≡◌, map, take, node_of}
 use Rattle.nfa_captures.specs.Kept.{kept_node}
-use Rattle.nfa_paths.specs.Common.{node_of}
 use Rattle.nfa_captures.proofs.states.kept_states.Given as goal
 
 abbrev pub invariant-loop-state : goal.invariant-loop-state

@@ -1,9 +1,8 @@
 -- The search finds something exactly if the tree matches that is read, from a boundary.
-use Rattle.nfa_compiler.specs.Settings.{syntax_of}
 use Rattle.nfa_compiler.proofs.WrittenLemmas.{found-as-read-in-str}
 use Rattle.nfa_compiler.proofs.calls.is_match_in_str.Goals as goal
 
 pub returns : goal.returns
 returns c = λ re meant.
-    found-as-read-in-str (syntax_of c.args.compiler.now) c.args.pattern.now c.args.nfa.now c.args.haystack.now
-    c.requires.compiled c.requires.utf8 c.requires.free c.requires.text re meant _ c.requires.answer
+    found-as-read-in-str _ _ _ c.args.haystack.now c.requires.compiled c.requires.utf8 c.requires.free c.requires.text
+    re meant _ c.requires.answer

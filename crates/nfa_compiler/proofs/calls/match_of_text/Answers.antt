@@ -1,11 +1,10 @@
 -- The search finds the hit of the pattern that is read in the text.
 use Rattle.std.proofs.Common.{arith}
-use Rattle.nfa_compiler.specs.Settings.{syntax_of}
 use Rattle.nfa_compiler.proofs.CallLemmas.{bytes-of, call-answered, match-found}
 use Rattle.nfa_compiler.proofs.calls.match_of_text.Goals as goal
 
 pub returns : goal.returns
 returns c = λ re meant.
     let bytes = bytes-of c.args.haystack.now (λ k. omega (arith, c.type_inv.haystack k)) in
-    match-found _ (call-answered (syntax_of c.args.compiler.now) c.args.pattern.now c.args.nfa.now c.args.haystack.now
-    c.requires.compiled c.requires.anywhere c.requires.free bytes re meant) _ c.requires.answer
+    match-found _ (call-answered _ _ _ c.args.haystack.now c.requires.compiled c.requires.anywhere c.requires.free bytes
+    re meant) _ c.requires.answer

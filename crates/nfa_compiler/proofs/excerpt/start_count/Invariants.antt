@@ -1,7 +1,6 @@
 -- the count so far
 use Rattle.std.proofs.Common.{◌≡◌, ◌≤◌, take}
-use Rattle.std.specs.List.{sum_by}
-use Rattle.nfa_compiler.specs.Excerpts.{start_count}
+use Rattle.nfa_compiler.specs.ErrorTexts.{start_count}
 use Rattle.nfa_compiler.proofs.excerpt.start_count.Given as goal
 
 abbrev pub invariant-loop-byte : goal.invariant-loop-byte

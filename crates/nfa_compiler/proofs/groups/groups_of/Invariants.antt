@@ -1,7 +1,6 @@
 -- the names so far are those of the explicit groups
-use Rattle.std.proofs.Common.{◌≡◌, map, take}
-use Rattle.nfa_paths.specs.Common.{names_of}
-use Rattle.nfa_compiler.specs.Compiled.{explicit_names}
+use Rattle.nfa_paths.proofs.Common.{◌≡◌, map, take, names_of}
+use Rattle.nfa_compiler.specs.Common.{explicit_names}
 use Rattle.nfa_compiler.proofs.groups.groups_of.Given as goal
 
 abbrev pub invariant-loop-pattern : goal.invariant-loop-pattern

@@ -1,6 +1,6 @@
 -- A path from the start of a pattern stays among its states.
 use Rattle.nfa_compiler.specs.Compiled.{res_of}
-use Rattle.nfa_compiler.proofs.OrderLemmas.{matches-alone, tries-in-order}
+use Rattle.nfa_compiler.proofs.WayLemmas.{matches-alone, tries-in-order}
 use Rattle.nfa_compiler.proofs.laws.compiled_nfas_try_patterns_in_order.Goals as goal
 
 pub returns-clause-patterns : goal.returns-clause-patterns

@@ -1,8 +1,9 @@
 -- The trees have the names that are read, and the groups of the NFA are theirs. A hit is one of the patterns.
-use Rattle.std.proofs.Common.{◌∙◌, ap, arith, length}
-use Rattle.nfa_compiler.proofs.GroupLemmas.{group-written, name-written}
-use Rattle.nfa_compiler.proofs.BoundLemmas.{boundary-pattern, hit-pattern, str-pattern}
-use Rattle.nfa_compiler.proofs.NameLemmas.{groups-counted, groups-named}
+use Rattle.nfa_paths.proofs.Common.{◌∙◌, ap, arith, length, length-map}
+use Rattle.std.proofs.lemmas.Slice.Zip.{AllZip-long}
+use Rattle.nfa_compiler.specs.Common.{IsTreeOf, explicit_names}
+use Rattle.nfa_compiler.proofs.GroupLemmas.{group-written, name-written, groups-named}
+use Rattle.nfa_compiler.proofs.EachLemmas.{boundary-pattern, hit-pattern, str-pattern}
 use Rattle.nfa_compiler.proofs.laws.groups_are_those_of_texts.Goals as goal
 
 pub returns-clause-names : goal.returns-clause-names
@@ -11,7 +12,8 @@ returns-clause-names c = λ syntax texts names nfa made named.
 
 pub returns-clause-count : goal.returns-clause-count
 returns-clause-count c = λ syntax texts nfa made.
-    ap (λ gs. length gs) made.groups ∙ groups-counted syntax texts made.trees made.read
+    ap (λ gs. length gs) made.groups ∙ length-map made.trees explicit_names
+    ∙ AllZip-long (IsTreeOf syntax) texts made.trees made.read
 
 pub returns-clause-spans : goal.returns-clause-spans
 returns-clause-spans c = λ res nfa x h group many found low high.

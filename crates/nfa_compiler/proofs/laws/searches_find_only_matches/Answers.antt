@@ -2,20 +2,20 @@
 use Rattle.std.proofs.Common.{inl, inr, ap, sym, ◌∙◌, arith, is_some, slice_index_or}
 use Rattle.regex_hir.specs.Re.{empty}
 use Rattle.regex_hir.proofs.MatchesLemmas.{Matches-IsSpan}
-use Rattle.nfa_compiler.proofs.BoundaryLemmas.{boundary-is, boundary-true}
+use Rattle.nfa_compiler.proofs.BoundarySearchLemmas.{boundary-is, boundary-true}
 use Rattle.nfa_compiler.proofs.ExistsLemmas.{pattern-complete, pattern-sound}
 use Rattle.nfa_compiler.proofs.KindLemmas.{answer-sound, found-sound}
-use Rattle.nfa_compiler.proofs.StartPairLemmas.{within-end}
+use Rattle.nfa_compiler.proofs.WayLemmas.{within-end}
 use Rattle.nfa_compiler.proofs.laws.searches_find_only_matches.Goals as goal
 
 pub returns-clause-found : goal.returns-clause-found
 returns-clause-found c = λ res nfa kind earliest x found made whole answer yes.
-    found-sound nfa kind earliest res made x whole answer.restarts answer.path answer.answers
+    found-sound nfa kind earliest x whole res made answer.restarts answer.path answer.answers
     (sym answer.found_is ∙ yes)
 
 pub returns-clause-answers : goal.returns-clause-answers
 returns-clause-answers c = λ res nfa kind earliest x pattern slots made whole answer yes.
-    answer-sound nfa kind earliest res made x whole answer.restarts answer.path answer.answers
+    answer-sound nfa kind earliest x whole res made answer.restarts answer.path answer.answers
     (sym (ap is_some answer.pattern_is) ∙ yes)
 
 pub returns-clause-sets : goal.returns-clause-sets

@@ -1,6 +1,6 @@
 -- The trees and what the grammar reads have hits that a caller cannot tell apart.
 use Rattle.nfa_compiler.proofs.AnswerLemmas.{answer-is, match-is}
-use Rattle.nfa_compiler.proofs.TextLemmas.{text-answered}
+use Rattle.nfa_compiler.proofs.AllSearchLemmas.{text-answered}
 use Rattle.nfa_compiler.proofs.laws.searches_find_texts.Goals as goal
 
 pub returns-clause-answers : goal.returns-clause-answers

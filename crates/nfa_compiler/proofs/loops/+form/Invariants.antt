@@ -1,7 +1,6 @@
 -- the form of the trees from the last one back
-use Rattle.std.proofs.Common.{◌≡◌, drop, map}
-use Rattle.regex_hir.specs.Meaning.{alt_all, cat_all, meaning}
-use Rattle.nfa_compiler.specs.Loops.{form_of}
+use Rattle.nfa_paths.proofs.Common.{◌≡◌, drop, map}
+use Rattle.nfa_compiler.specs.Common.{alt_all, cat_all, meaning, form_of}
 use Rattle.nfa_compiler.proofs.loops.+form.Given as goal
 
 abbrev pub invariant-form_of_all-loop-index : goal.invariant-form_of_all-loop-index

@@ -1,7 +1,6 @@
 -- whether the patterns from the last one back begin so
-use Rattle.std.proofs.Common.{◌≡◌, drop}
-use Rattle.nfa_compiler.specs.Compiled.{res_of}
-use Rattle.nfa_compiler.specs.Loops.{all_begin_at_start}
+use Rattle.nfa_paths.proofs.Common.{◌≡◌, drop}
+use Rattle.nfa_compiler.specs.Common.{res_of, all_begin_at_start}
 use Rattle.nfa_compiler.proofs.loops.all_begin_at_start.Given as goal
 
 abbrev pub invariant-loop-index : goal.invariant-loop-index

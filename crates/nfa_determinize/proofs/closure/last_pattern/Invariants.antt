@@ -1,7 +1,5 @@
 -- The last pattern is that of the states that are left, or else the one so far.
-use Rattle.std.proofs.Common.{◌≡◌, drop, option_map}
-use Rattle.std.specs.Option.{option_or}
-use Rattle.nfa_paths.specs.Common.{number_of}
+use Rattle.nfa_paths.proofs.Common.{◌≡◌, drop, option_map, option_or, number_of}
 use Rattle.nfa_determinize.specs.Closures.{last_pattern}
 use Rattle.nfa_determinize.proofs.closure.last_pattern.Given as goal
 

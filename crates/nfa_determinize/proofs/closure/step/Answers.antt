@@ -1,7 +1,5 @@
 -- One state more was stepped.
-use Rattle.std.proofs.Common.{◌≡◌, ◌∙◌, ◌<◌, ◌+◌, ◌++◌, All, List, [], ◌∷◌, ℕ, ap, sym, subst, drop, length, append-nil, None, Some, option_and_then}
-use Rattle.std.proofs.lemmas.List.Elements.{All-push}
-use Rattle.nfa_paths.specs.Common.{node_of, node_at, target_on}
+use Rattle.nfa_paths.proofs.Common.{◌≡◌, ◌∙◌, ◌<◌, ◌+◌, ◌++◌, All, List, [], ◌∷◌, ℕ, ap, sym, subst, drop, length, append-nil, None, Some, option_and_then, All-push, node_of, node_at, target_on}
 use Rattle.nfa_determinize.specs.Closures.{step}
 use Rattle.nfa_determinize.proofs.StepLemmas.{step-more, stepped-below}
 use Rattle.nfa_determinize.proofs.closure.step.Goals as goal

@@ -3,4 +3,4 @@ use Rattle.nfa_determinize.proofs.SearchLemmas.{steps-find-half}
 use Rattle.nfa_determinize.proofs.laws.steps_find_the_half.Goals as goal
 
 pub returns : goal.returns
-returns c = λ nfa x kind earliest. steps-find-half nfa kind earliest x
+returns c = steps-find-half

@@ -1,6 +1,5 @@
 -- One start for each position up to the limit.
-use Rattle.std.proofs.Common.{◌≡◌, ◌+◌, arith, sym, ap, ◌∙◌, is_some, not, true}
-use Rattle.nfa_paths.specs.Common.{search_of, start_count, start_state}
+use Rattle.nfa_paths.proofs.Common.{◌≡◌, ◌+◌, arith, sym, ap, ◌∙◌, is_some, not, true, search_of, start_count, start_state}
 use Rattle.nfa_determinize.proofs.ScanHalfLemmas.{length-starts}
 use Rattle.nfa_determinize.proofs.scan.count_starts.Goals as goal
 

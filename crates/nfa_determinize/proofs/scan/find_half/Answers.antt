@@ -1,7 +1,5 @@
 -- A search is one scan, or scans up to one that counts.
-use Rattle.std.proofs.Common.{◌≡◌, ◌∙◌, true, false, ap, sym, option_map}
-use Rattle.std.proofs.lemmas.Result.{IfOk-weaker}
-use Rattle.nfa_paths.specs.Common.{half_found_of, is_anchored, search_of, is_utf8_empty}
+use Rattle.nfa_paths.proofs.Common.{◌≡◌, ◌∙◌, true, false, ap, sym, option_map, IfOk-weaker, half_found_of, is_anchored, search_of, is_utf8_empty}
 use Rattle.nfa_determinize.proofs.ScanHalfLemmas.{half-plain, half-restarted}
 use Rattle.nfa_determinize.proofs.scan.find_half.Goals as goal
 

@@ -1,6 +1,5 @@
 -- A match that does not count moves the start on.
-use Rattle.std.proofs.Common.{rules, ◌≡◌, ◌≤◌, ◌∙◌, ◌+◌, Bool, ap, arith, option_map}
-use Rattle.nfa_paths.specs.Common.{half_found_of, Search, search_of}
+use Rattle.nfa_paths.proofs.Common.{rules, ◌≡◌, ◌≤◌, ◌∙◌, ◌+◌, Bool, ap, arith, option_map, half_found_of, Search, search_of}
 use Rattle.nfa_determinize.specs.Configurations.{scan_half}
 use Rattle.nfa_determinize.specs.Searches.{FindsSplit}
 use Rattle.nfa_determinize.proofs.ScanHalfLemmas.{Skipping-begin, Skipping-end, Skipping-more, split-inside, split-of}

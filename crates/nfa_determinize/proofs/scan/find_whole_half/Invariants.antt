@@ -1,6 +1,5 @@
 -- Each start so far finds a match that splits a codepoint.
-use Rattle.std.proofs.Common.{◌≡◌, ◌+◌, ◌-◌, option_map}
-use Rattle.nfa_paths.specs.Common.{half_found_of, search_of}
+use Rattle.nfa_paths.proofs.Common.{◌≡◌, ◌+◌, ◌-◌, option_map, half_found_of, search_of}
 use Rattle.nfa_determinize.specs.Configurations.{scan_half}
 use Rattle.nfa_determinize.proofs.ScanHalfLemmas.{Skipping}
 use Rattle.nfa_determinize.proofs.scan.find_whole_half.Given as goal

@@ -1,6 +1,5 @@
 -- The configuration of the positions so far.
-use Rattle.std.proofs.Common.{◌≡◌, ◌<◌, ◌-◌, All, length, option_map}
-use Rattle.nfa_paths.specs.Common.{half_found_of, search_of}
+use Rattle.nfa_paths.proofs.Common.{◌≡◌, ◌<◌, ◌-◌, All, length, option_map, half_found_of, search_of}
 use Rattle.nfa_determinize.specs.Configurations.{Configuration, scanned}
 use Rattle.nfa_determinize.proofs.scan.scan_half.Given as goal
 

@@ -4,9 +4,9 @@ use Rattle.nfa_search_base.specs.IterStates.{fresh}
 use Rattle.nfa_engines.proofs.IterationLemmas.{ends-rise, few-matches, first-ends}
 use Rattle.nfa_engines.proofs.laws.ends_increase.Goals as goal
 
-pub returns-clause-rise : goal.returns-clause-rise
-returns-clause-rise c = λ x calls are. ends-rise (fresh x) calls are
-
-pub returns-clause-count : goal.returns-clause-count
-returns-clause-count c = λ x calls are.
-    let few = few-matches (fresh x) calls are in let first = first-ends x in omega arith
+pub returns : goal.returns
+returns c = record {
+  rise = λ x calls are. ends-rise (fresh x) calls are;
+  count = λ x calls are.
+      let few = few-matches (fresh x) calls are in let first = first-ends x in omega arith;
+}

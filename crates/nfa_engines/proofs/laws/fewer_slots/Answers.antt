@@ -2,8 +2,5 @@
 use Rattle.nfa_engines.proofs.LawLemmas.{fewer-slots, slots-past}
 use Rattle.nfa_engines.proofs.laws.fewer_slots.Goals as goal
 
-pub returns-clause-first : goal.returns-clause-first
-returns-clause-first c = fewer-slots
-
-pub returns-clause-past : goal.returns-clause-past
-returns-clause-past c = slots-past
+pub returns : goal.returns
+returns c = record { first = fewer-slots; past = slots-past }

@@ -1,15 +1,15 @@
 -- The totals of a cache rise by at most the scans and turns of a whole list.
-use Rattle.nfa_engines.proofs.ListWorkLemmas.{backtracker-matches, backtracker-rows, pike-matches, pike-rows}
+use Rattle.nfa_paths.proofs.Common.{None}
+use Rattle.nfa_engines.proofs.EngineWorkLemmas.{list-adds}
+use Rattle.nfa_engines.proofs.ListWorkLemmas.{back_filled, back_found, pike_filled, pike_found}
 use Rattle.nfa_engines.proofs.laws.lists_are_bounded.Goals as goal
 
-pub returns-clause-pike : goal.returns-clause-pike
-returns-clause-pike c = pike-matches
-
-pub returns-clause-pike_rows : goal.returns-clause-pike_rows
-returns-clause-pike_rows c = pike-rows
-
-pub returns-clause-backtracker : goal.returns-clause-backtracker
-returns-clause-backtracker c = backtracker-matches
-
-pub returns-clause-backtracker_rows : goal.returns-clause-backtracker_rows
-returns-clause-backtracker_rows c = backtracker-rows
+pub returns : goal.returns
+returns c = record {
+  pike = λ vm x ms old new h. list-adds (pike_found vm) x ms (record { cache = old; known = None })
+      (record { cache = new; known = h.known }) tt h.left;
+  pike_rows = λ vm x rows old new h. list-adds (pike_filled vm) x rows old new tt h;
+  backtracker = λ e x ms old new h. list-adds (back_found e) x ms (record { cache = old; known = None })
+      (record { cache = new; known = h.known }) tt h.left;
+  backtracker_rows = λ e x rows old new h. list-adds (back_filled e) x rows old new tt h;
+}

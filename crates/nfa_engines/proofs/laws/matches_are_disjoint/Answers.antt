@@ -3,9 +3,9 @@ use Rattle.nfa_search_base.proofs.ListLemmas.{matches-disjoint}
 use Rattle.nfa_engines.proofs.ListOfMatchesLemmas.{few-disjoint}
 use Rattle.nfa_engines.proofs.laws.matches_are_disjoint.Goals as goal
 
-pub returns-clause-disjoint : goal.returns-clause-disjoint
-returns-clause-disjoint c = λ nfa x kind earliest. matches-disjoint nfa kind earliest x
-
-pub returns-clause-count : goal.returns-clause-count
-returns-clause-count c = λ nfa x kind earliest ms first. few-disjoint x ms
-    (matches-disjoint nfa kind earliest x ms first)
+pub returns : goal.returns
+returns c = record {
+  disjoint = λ nfa x kind earliest. matches-disjoint nfa kind earliest x;
+  count = λ nfa x kind earliest ms first. few-disjoint x ms
+      (matches-disjoint nfa kind earliest x ms first);
+}

@@ -2,8 +2,5 @@
 use Rattle.nfa_engines.proofs.OneLemmas.{set-complete}
 use Rattle.nfa_engines.proofs.laws.overlap_is_complete.Goals as goal
 
-pub returns-clause-below : goal.returns-clause-below
-returns-clause-below c = λ nfa x old new h. h.gains.gained
-
-pub returns-clause-all : goal.returns-clause-all
-returns-clause-all c = set-complete
+pub returns : goal.returns
+returns c = record { below = λ nfa x old new h. h.gains.gained; all = set-complete }

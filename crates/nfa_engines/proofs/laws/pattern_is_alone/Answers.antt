@@ -3,14 +3,14 @@ use Rattle.nfa_paths.proofs.SameScanLemmas.{answer-same, match-same}
 use Rattle.nfa_engines.proofs.AloneLemmas.{same-alone, same-bound}
 use Rattle.nfa_engines.proofs.laws.pattern_is_alone.Goals as goal
 
-pub returns-clause-answer : goal.returns-clause-answer
-returns-clause-answer c = λ nfa x pattern state kind earliest found slots at. (
-  answer-same (same-alone nfa x pattern state at) kind earliest found slots,
-  answer-same (same-bound nfa x pattern state at) kind earliest found slots,
-)
-
-pub returns-clause-match_of : goal.returns-clause-match_of
-returns-clause-match_of c = λ nfa x pattern state kind earliest found at. (
-  match-same (same-alone nfa x pattern state at) kind earliest found,
-  match-same (same-bound nfa x pattern state at) kind earliest found,
-)
+pub returns : goal.returns
+returns c = record {
+  answer = λ found nfa x pattern state kind earliest slots at. (
+    answer-same (same-alone nfa x pattern state at) kind earliest found slots,
+    answer-same (same-bound nfa x pattern state at) kind earliest found slots,
+  );
+  match_of = λ nfa x pattern state kind earliest found at. (
+    match-same (same-alone nfa x pattern state at) kind earliest found,
+    match-same (same-bound nfa x pattern state at) kind earliest found,
+  );
+}

@@ -1,14 +1,12 @@
 -- Starts without an accepting path may be passed over.
-use Rattle.nfa_engines.proofs.StartAnswerLemmas.{answer-passed, match-passed, nothing-at, nothing-of}
+use Rattle.nfa_engines.proofs.MovedAnswerLemmas.{match-movable, slots-movable}
+use Rattle.nfa_engines.proofs.StartAnswerLemmas.{nothing-at, nothing-of, passed}
 use Rattle.nfa_engines.proofs.laws.starts_may_be_passed.Goals as goal
 
-pub returns-clause-answers : goal.returns-clause-answers
-returns-clause-answers c = λ nfa x s kind earliest pattern slots free first.
-    answer-passed nfa x free s first kind earliest pattern slots
-
-pub returns-clause-matches : goal.returns-clause-matches
-returns-clause-matches c = λ nfa x s kind earliest found free first.
-    match-passed nfa x free s first kind earliest found
-
-pub returns-clause-nothing : goal.returns-clause-nothing
-returns-clause-nothing c = λ nfa x free. (nothing-at nfa x free, nothing-of nfa x free)
+pub returns : goal.returns
+returns c = record {
+  answers = λ pattern nfa x s kind earliest slots free first.
+      passed nfa x free s first (slots-movable pattern) kind earliest slots;
+  matches = λ nfa x s kind earliest found free first. passed nfa x free s first match-movable kind earliest found;
+  nothing = λ nfa x free. (nothing-at nfa x free, nothing-of nfa x free);
+}

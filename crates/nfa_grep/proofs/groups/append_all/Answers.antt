@@ -1,6 +1,5 @@
 -- All texts were appended.
-use Rattle.std.proofs.Common.{◌≡◌, ◌∙◌, ◌++◌, ap, map, sym}
-use Rattle.std.specs.List.{flat_map}
+use Rattle.nfa_paths.proofs.Common.{◌≡◌, ◌∙◌, ◌++◌, ap, map, sym, flat_map}
 use Rattle.std.specs.Vec.{vec_items}
 use Rattle.std.specs.VecDeque.Iter.{deque_iter_rest}
 use Rattle.std.proofs.lemmas.Iterator.Consumers.{YieldsList-end, YieldsList-from_deque}

@@ -1,7 +1,6 @@
 -- The trees so far were copied.
-use Rattle.std.proofs.Common.{◌≡◌, map, take}
-use Rattle.regex_hir.specs.Meaning.{meaning}
-use Rattle.nfa_compiler.specs.Compiled.{res_of}
+use Rattle.nfa_paths.proofs.Common.{◌≡◌, map, take}
+use Rattle.nfa_compiler.specs.Common.{meaning, res_of}
 use Rattle.nfa_grep.proofs.joined.joined.Given as goal
 
 abbrev pub invariant-loop-tree : goal.invariant-loop-tree

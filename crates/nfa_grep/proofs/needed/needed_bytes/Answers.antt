@@ -1,8 +1,6 @@
 -- A line that is selected has a match, unless the selected lines are those without one.
-use Rattle.std.proofs.Common.{◌≡◌, List, ℕ, false, subst, sym}
-use Rattle.std.proofs.lemmas.Result.{IfOk-weaker}
-use Rattle.nfa_paths.specs.Common.{whole}
-use Rattle.nfa_compiler.specs.Compiled.{res_of}
+use Rattle.nfa_paths.proofs.Common.{◌≡◌, List, ℕ, false, subst, sym, IfOk-weaker, whole}
+use Rattle.nfa_compiler.specs.Common.{res_of}
 use Rattle.required_literal.specs.Required.{AreRequired, OccursIn}
 use Rattle.required_literal.proofs.PartLemmas.{occurs-none}
 use Rattle.nfa_grep.proofs.NeededLemmas.{needed-of}

@@ -1,6 +1,5 @@
 -- The texts so far were read.
-use Rattle.std.proofs.Common.{map, take}
-use Rattle.std.specs.List.{AllZip}
+use Rattle.nfa_paths.proofs.Common.{map, take, AllZip}
 use Rattle.nfa_grep.specs.Meant.{IsReadFrom}
 use Rattle.nfa_grep.proofs.pattern.read_patterns.Given as goal
 

@@ -1,12 +1,7 @@
 -- The tree of the text is as what the text means, and stays so if both are bounded.
-use Rattle.std.proofs.Common.{subst, sym}
-use Rattle.regex_hir.specs.Meaning.{meaning}
-use Rattle.regex_hir.specs.Re.{Re}
-use Rattle.regex_syntax.specs.Captures.{SameCaptures}
-use Rattle.regex_syntax.specs.declared.Config.{Config}
-use Rattle.regex_syntax.specs.declared.Parsed.{Parsed}
-use Rattle.nfa_compiler.specs.Compiled.{IsTreeOf}
-use Rattle.nfa_grep.specs.Meant.{bounded, syntax_of}
+use Rattle.nfa_paths.proofs.Common.{subst, sym}
+use Rattle.nfa_compiler.specs.Common.{meaning, SameCaptures, Config, Parsed, IsTreeOf}
+use Rattle.nfa_grep.specs.Meant.{bounded, syntax_of, Re}
 use Rattle.nfa_grep.proofs.PatternLemmas.{bounded-alike, tree-alike}
 use Rattle.nfa_grep.proofs.pattern.read_tree.Goals as goal
 

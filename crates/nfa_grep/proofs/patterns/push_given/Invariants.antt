@@ -1,7 +1,6 @@
 -- The lines of the texts so far were appended.
-use Rattle.std.proofs.Common.{◌≡◌, ◌++◌, map, take}
-use Rattle.std.specs.List.{flat_map}
-use Rattle.nfa_grep.specs.Texts.{lines_in}
+use Rattle.nfa_paths.proofs.Common.{◌≡◌, ◌++◌, map, take, flat_map}
+use Rattle.nfa_grep.specs.Meant.{lines_in}
 use Rattle.nfa_grep.proofs.patterns.push_given.Given as goal
 
 abbrev pub invariant-loop-text : goal.invariant-loop-text

@@ -1,10 +1,6 @@
 -- One more number was appended, and all were.
-use Rattle.std.proofs.Common.{rules, ◌≡◌, ◌∙◌, ℕ, List, [], ◌∷◌, ◌++◌, map, ap, ap₂, arith, sym, append-nil, decimal}
-use Rattle.std.specs.List.{join_with_byte}
+use Rattle.nfa_paths.proofs.Common.{rules, ◌≡◌, ◌∙◌, ℕ, List, [], ◌∷◌, ◌++◌, map, ap, ap₂, arith, sym, append-nil, decimal, join_with_byte, length-append, number_of, PatternID, patterns_of}
 use Rattle.std.proofs.lemmas.Iterator.Consumers.{YieldsList-end, YieldsList-from_first}
-use Rattle.std.proofs.lemmas.List.{length-append}
-use Rattle.nfa_paths.specs.Common.{number_of, PatternID}
-use Rattle.regex_search_core.specs.PatternSets.{patterns_of}
 use Rattle.regex_search_core.specs.PatternSetIters.{patterns_left}
 use Rattle.nfa_grep.specs.Printed.{comma}
 use Rattle.nfa_grep.proofs.PrintedLemmas.{appended-more, numbers-first, numbers-more}

@@ -1,7 +1,5 @@
 -- The numbers so far were appended.
-use Rattle.std.proofs.Common.{◌≡◌, ◌<◌, ◌++◌, [], false, length, map, true, decimal}
-use Rattle.std.specs.List.{join_with_byte}
-use Rattle.nfa_paths.specs.Common.{number_of}
+use Rattle.nfa_paths.proofs.Common.{◌≡◌, ◌<◌, ◌++◌, [], false, length, map, true, decimal, join_with_byte, number_of}
 use Rattle.nfa_grep.specs.Printed.{comma}
 use Rattle.nfa_grep.proofs.which.append_set.Given as goal
 

@@ -1,6 +1,5 @@
 -- None of the transitions so far leads to the state.
-use Rattle.std.proofs.Common.{◌≡◌, ◌<◌, ℕ, get_or}
-use Rattle.thompson_nfa.specs.declared.state.Transition.{Transition}
+use Rattle.nfa_paths.proofs.Common.{◌≡◌, ◌<◌, ℕ, get_or, Transition}
 use Rattle.nfa_lazy_dfa.proofs.apart.has_transition_to.Given as goal
 
 abbrev pub invariant-loop-trans : goal.invariant-loop-trans

@@ -1,6 +1,5 @@
 -- None of the states so far leads to the start.
-use Rattle.std.proofs.Common.{◌≡◌, ◌<◌, ℕ, get_or, Some}
-use Rattle.nfa_paths.specs.Common.{node_of, target_on}
+use Rattle.nfa_paths.proofs.Common.{◌≡◌, ◌<◌, ℕ, get_or, Some, node_of, target_on}
 use Rattle.thompson_nfa.specs.declared.state.State.TheVariants.{Fail}
 use Rattle.nfa_lazy_dfa.proofs.apart.is_start_apart.Given as goal
 

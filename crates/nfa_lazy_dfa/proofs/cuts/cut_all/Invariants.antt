@@ -1,7 +1,5 @@
 -- The ranges so far are cut around.
-use Rattle.std.proofs.Common.{◌≡◌, ℕ, ◌+◌, ◌<◌, get_or}
-use Rattle.thompson_nfa.specs.declared.state.Transition.{Transition}
-use Rattle.nfa_paths.specs.Common.{holds_byte}
+use Rattle.nfa_paths.proofs.Common.{◌≡◌, ℕ, ◌+◌, ◌<◌, get_or, Transition, holds_byte}
 use Rattle.nfa_lazy_dfa.specs.Cuts.{IsUncut, KeepsCuts}
 use Rattle.nfa_lazy_dfa.proofs.cuts.cut_all.Given as goal
 

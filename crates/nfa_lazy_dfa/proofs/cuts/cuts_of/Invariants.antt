@@ -1,7 +1,5 @@
 -- The states so far are cut for.
-use Rattle.std.proofs.Common.{◌≡◌, ℕ, ◌+◌, ◌<◌, false, get_or}
-use Rattle.nfa_paths.specs.Common.{node_of, target_on}
-use Rattle.thompson_nfa.specs.declared.state.State.{State}
+use Rattle.nfa_paths.proofs.Common.{◌≡◌, ℕ, ◌+◌, ◌<◌, false, get_or, node_of, target_on, State}
 use Rattle.nfa_lazy_dfa.specs.Cuts.{IsUncut}
 use Rattle.nfa_lazy_dfa.proofs.cuts.cuts_of.Given as goal
 

@@ -1,6 +1,5 @@
 -- None of the states so far is an assertion.
-use Rattle.std.proofs.Common.{◌≡◌, ◌<◌, ℕ, false, get_or}
-use Rattle.nfa_paths.specs.Common.{node_of}
+use Rattle.nfa_paths.proofs.Common.{◌≡◌, ◌<◌, ℕ, false, get_or, node_of}
 use Rattle.thompson_nfa.specs.declared.state.State.TheVariants.{Fail}
 use Rattle.nfa_lazy_dfa.specs.Assertions.{is_look}
 use Rattle.nfa_lazy_dfa.proofs.dfa.has_look.Given as goal

@@ -1,6 +1,5 @@
 -- Each state so far may be followed.
-use Rattle.std.proofs.Common.{◌≡◌, ◌<◌, ℕ, true, get_or}
-use Rattle.nfa_paths.specs.Common.{node_of}
+use Rattle.nfa_paths.proofs.Common.{◌≡◌, ◌<◌, ℕ, true, get_or, node_of}
 use Rattle.thompson_nfa.specs.declared.state.State.TheVariants.{Fail}
 use Rattle.nfa_lazy_dfa.specs.Assertions.{may_follow}
 use Rattle.nfa_lazy_dfa.proofs.dfa.has_unicode_word.Given as goal

@@ -1,6 +1,5 @@
 -- A state that the list has further left is passed over.
-use Rattle.std.proofs.Common.{◌≡◌, ◌<◌, ◌++◌, ◌∷◌, [], length, arith}
-use Rattle.std.proofs.lemmas.List.Elements.{All-push}
+use Rattle.nfa_paths.proofs.Common.{◌≡◌, ◌<◌, ◌++◌, ◌∷◌, [], length, arith, All-push}
 use Rattle.nfa_lazy_dfa.proofs.OnceLemmas.{IsOnce-again, IsOnce-begin, IsOnce-fresh}
 use Rattle.nfa_lazy_dfa.proofs.HeldLemmas.{IsHeld-again, IsHeld-begin, IsHeld-end, IsHeld-push}
 use Rattle.nfa_lazy_dfa.proofs.follow.each_once.Goals as goal

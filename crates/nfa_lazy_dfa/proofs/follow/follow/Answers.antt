@@ -1,6 +1,5 @@
 -- The next stand has the states that the byte leads to.
-use Rattle.std.proofs.Common.{rules, ◌≡◌, ◌∷◌, ◌++◌, [], sym, subst, Some}
-use Rattle.nfa_paths.specs.Common.{In}
+use Rattle.nfa_paths.proofs.Common.{rules, ◌≡◌, ◌∷◌, ◌++◌, [], sym, subst, Some, In}
 use Rattle.nfa_paths.proofs.MemberLemmas.{In-append_left}
 use Rattle.nfa_determinize.specs.Closures.{kept, step}
 use Rattle.nfa_lazy_dfa.specs.Stances.{here, stance_of}

@@ -1,6 +1,5 @@
 -- The patterns so far, and those of the states that are left.
-use Rattle.std.proofs.Common.{◌≡◌, ◌≤◌, ◌++◌, drop, length, map}
-use Rattle.nfa_paths.specs.Common.{number_of}
+use Rattle.nfa_paths.proofs.Common.{◌≡◌, ◌≤◌, ◌++◌, drop, length, map, number_of}
 use Rattle.nfa_lazy_dfa.specs.Stances.{patterns_in}
 use Rattle.nfa_lazy_dfa.proofs.follow.patterns_in.Given as goal
 

@@ -1,8 +1,5 @@
 -- Lists of patterns with the same numbers have the same numbers.
-use Rattle.std.proofs.Common.{◌≡◌, ◌<◌, ℕ, inl, inr, get_or, length, map, ap, sym, ◌∙◌, subst, arith}
-use Rattle.std.proofs.lemmas.Bool.{cases_lt}
-use Rattle.std.proofs.lemmas.List.{ext_get_or, get_or-map, length-map}
-use Rattle.nfa_paths.specs.Common.{number_of}
+use Rattle.nfa_paths.proofs.Common.{◌≡◌, ◌<◌, ℕ, inl, inr, get_or, length, map, ap, sym, ◌∙◌, subst, arith, cases_lt, ext_get_or, get_or-map, length-map, number_of}
 use Rattle.nfa_lazy_dfa.proofs.index.same_hits.Goals as goal
 
 pub loop-index-preserved : goal.loop-index-preserved

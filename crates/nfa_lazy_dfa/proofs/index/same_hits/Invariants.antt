@@ -1,6 +1,5 @@
 -- The patterns so far are equal.
-use Rattle.std.proofs.Common.{◌≡◌, ℕ, ◌<◌, get_or, map}
-use Rattle.nfa_paths.specs.Common.{number_of}
+use Rattle.nfa_paths.proofs.Common.{◌≡◌, ℕ, ◌<◌, get_or, map, number_of}
 use Rattle.nfa_lazy_dfa.proofs.index.same_hits.Given as goal
 
 abbrev pub invariant-loop-index : goal.invariant-loop-index

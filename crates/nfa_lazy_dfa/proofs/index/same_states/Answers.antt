@@ -1,6 +1,5 @@
 -- Lists whose elements are equal are equal.
-use Rattle.std.proofs.Common.{arith}
-use Rattle.std.proofs.lemmas.List.{ext_get_or}
+use Rattle.nfa_paths.proofs.Common.{arith, ext_get_or}
 use Rattle.nfa_lazy_dfa.proofs.index.same_states.Goals as goal
 
 pub returns : goal.returns

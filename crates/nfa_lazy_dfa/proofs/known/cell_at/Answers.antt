@@ -1,6 +1,5 @@
 -- A known cell leads on.
-use Rattle.std.proofs.Common.{arith}
-use Rattle.nfa_paths.specs.Common.{search_of}
+use Rattle.nfa_paths.proofs.Common.{arith, search_of}
 use Rattle.nfa_lazy_dfa.specs.Runs.{place_at}
 use Rattle.nfa_lazy_dfa.proofs.RunLemmas.{leads-on, over-plain}
 use Rattle.nfa_lazy_dfa.proofs.known.cell_at.Goals as goal

@@ -1,6 +1,5 @@
 -- The cell leads to a row with a match.
-use Rattle.std.proofs.Common.{◌≡◌, ◌%◌, arith}
-use Rattle.nfa_paths.specs.Common.{search_of}
+use Rattle.nfa_paths.proofs.Common.{◌≡◌, ◌%◌, arith, search_of}
 use Rattle.nfa_lazy_dfa.proofs.RunLemmas.{over-match}
 use Rattle.nfa_lazy_dfa.proofs.known.over_match.Goals as goal
 

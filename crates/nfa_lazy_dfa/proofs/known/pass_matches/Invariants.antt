@@ -1,6 +1,5 @@
 -- The scan is at this place, and the last match is that of the row.
-use Rattle.std.proofs.Common.{◌≡◌, ◌≤◌, ◌-◌, ◌%◌}
-use Rattle.nfa_paths.specs.Common.{search_of}
+use Rattle.nfa_paths.proofs.Common.{◌≡◌, ◌≤◌, ◌-◌, ◌%◌, search_of}
 use Rattle.nfa_lazy_dfa.specs.Places.{IsMatchedAt}
 use Rattle.nfa_lazy_dfa.proofs.known.pass_matches.Given as goal
 

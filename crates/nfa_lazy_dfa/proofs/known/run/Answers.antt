@@ -1,8 +1,7 @@
 -- A cell leads to what the byte leads to; one with a match is followed only if later matches count.
-use Rattle.std.proofs.Common.{◌≡◌, ◌/◌, ◌∙◌, false, sym, arith}
+use Rattle.nfa_paths.proofs.Common.{◌≡◌, ◌/◌, ◌∙◌, false, sym, arith, search_of}
 use Rattle.nfa_lazy_dfa.specs.Rows.{IsRowOf}
 use Rattle.nfa_lazy_dfa.specs.Stances.{stance_of}
-use Rattle.nfa_paths.specs.Common.{search_of}
 use Rattle.nfa_lazy_dfa.proofs.CacheLemmas.{row-inside, row-is}
 use Rattle.nfa_lazy_dfa.proofs.RunLemmas.{few-at, found-matched, place-first}
 use Rattle.nfa_lazy_dfa.proofs.known.run.Goals as goal

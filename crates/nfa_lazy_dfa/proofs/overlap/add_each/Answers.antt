@@ -1,7 +1,5 @@
 -- A pattern below the capacity is added.
-use Rattle.std.proofs.Common.{◌≡◌, ◌+◌, ◌∷◌, ◌++◌, [], length, map, take, ap, sym, ◌∙◌}
-use Rattle.std.proofs.lemmas.List.{map-append, take_more}
-use Rattle.nfa_paths.specs.Common.{number_of, PatternID}
+use Rattle.nfa_paths.proofs.Common.{◌≡◌, ◌+◌, ◌∷◌, ◌++◌, [], length, map, take, ap, sym, ◌∙◌, map-append, take_more, number_of, PatternID}
 use Rattle.nfa_lazy_dfa.proofs.AddLemmas.{AddsEach-in, AddsEach-out, below-of, not-below}
 use Rattle.nfa_lazy_dfa.proofs.overlap.add_each.Goals as goal
 use Rattle.nfa_lazy_dfa.proofs.overlap.add_each.Goals.{then-is_some, else-is_some}

@@ -1,6 +1,5 @@
 -- The patterns so far were added.
-use Rattle.std.proofs.Common.{map, take}
-use Rattle.nfa_paths.specs.Common.{number_of}
+use Rattle.nfa_paths.proofs.Common.{map, take, number_of}
 use Rattle.nfa_lazy_dfa.specs.Sets.{AddsEach}
 use Rattle.nfa_lazy_dfa.proofs.overlap.add_each.Given as goal
 

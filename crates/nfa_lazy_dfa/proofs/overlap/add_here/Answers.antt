@@ -1,6 +1,5 @@
 -- A match may end at the position.
-use Rattle.std.proofs.Common.{inl, inr}
-use Rattle.nfa_paths.specs.Common.{search_of, IsPermittedEnd}
+use Rattle.nfa_paths.proofs.Common.{inl, inr, search_of, IsPermittedEnd}
 use Rattle.nfa_lazy_dfa.proofs.overlap.add_here.Goals as goal
 
 pub returns : goal.returns

@@ -1,8 +1,6 @@
 -- No match may start, or the set is full.
-use Rattle.std.proofs.Common.{◌≡◌, ◌<◌, ◌≤◌, ◌∙◌, inl, inr, sym, arith}
-use Rattle.nfa_paths.specs.Common.{search_of}
+use Rattle.nfa_paths.proofs.Common.{◌≡◌, ◌<◌, ◌≤◌, ◌∙◌, inl, inr, sym, arith, search_of, on_ok_weaker}
 use Rattle.nfa_paths.proofs.SetLemmas.{full-gains}
-use Rattle.std.proofs.lemmas.Result.{on_ok_weaker}
 use Rattle.nfa_lazy_dfa.specs.Reads.{IsSetOver}
 use Rattle.nfa_lazy_dfa.specs.Rows.{steps_of}
 use Rattle.nfa_lazy_dfa.proofs.ReadLemmas.{HasRead-more, HasRead-none, IsOver-late, IsOver-none}

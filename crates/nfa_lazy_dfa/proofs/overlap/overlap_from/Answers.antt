@@ -1,6 +1,5 @@
 -- A row leads to the next one, whose patterns are added; a dead row ends the scan, as does a match if it is enough.
-use Rattle.std.proofs.Common.{rules, ◌≡◌, ◌<◌, ◌≤◌, ◌+◌, ◌-◌, ℕ, inl, inr, false, true, sym, subst, arith, map, slice_get}
-use Rattle.nfa_paths.specs.Common.{number_of, search_of}
+use Rattle.nfa_paths.proofs.Common.{rules, ◌≡◌, ◌<◌, ◌≤◌, ◌+◌, ◌-◌, ℕ, inl, inr, false, true, sym, subst, arith, map, slice_get, number_of, search_of}
 use Rattle.nfa_lazy_dfa.specs.Places.{IsFoundAt, IsNextPlace}
 use Rattle.nfa_lazy_dfa.specs.Reads.{IsSetOver}
 use Rattle.nfa_lazy_dfa.specs.Rows.{IsRowOf, Spends}

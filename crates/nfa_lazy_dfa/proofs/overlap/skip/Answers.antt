@@ -1,6 +1,5 @@
 -- The scan goes on from the first cell of the row.
-use Rattle.std.proofs.Common.{arith}
-use Rattle.nfa_paths.specs.Common.{search_of}
+use Rattle.nfa_paths.proofs.Common.{arith, search_of}
 use Rattle.nfa_lazy_dfa.proofs.RunLemmas.{few-at}
 use Rattle.nfa_lazy_dfa.proofs.overlap.skip.Goals as goal
 

@@ -1,6 +1,5 @@
 -- No match may start, or the scan is at its first position.
-use Rattle.std.proofs.Common.{◌<◌, ◌∙◌, ◌-◌, ap, lt-ltb, refl, rules, sym, arith, is_some}
-use Rattle.nfa_paths.specs.Common.{search_of}
+use Rattle.nfa_paths.proofs.Common.{◌<◌, ◌∙◌, ◌-◌, ap, lt-ltb, refl, rules, sym, arith, is_some, search_of}
 use Rattle.nfa_lazy_dfa.proofs.ScanLemmas.{IsFoundAt-begin, no-span, no-state}
 use Rattle.nfa_lazy_dfa.proofs.WorkLemmas.{Scans-one, Spends-none}
 use Rattle.nfa_lazy_dfa.proofs.scan.begin.Goals as goal

@@ -1,7 +1,5 @@
 -- The byte before the span, if the search may read it.
-use Rattle.std.proofs.Common.{◌≡◌, ◌≤◌, ◌<◌, ◌-◌, ◌∙◌, ℕ, List, Bool, get_or, length, ap, sym, arith, lt-ltb, None, Some, slice_get, if◌then◌else◌}
-use Rattle.std.proofs.lemmas.Option.{slice_get-get_or}
-use Rattle.nfa_paths.specs.Common.{search_of}
+use Rattle.nfa_paths.proofs.Common.{◌≡◌, ◌≤◌, ◌<◌, ◌-◌, ◌∙◌, ℕ, List, Bool, get_or, length, ap, sym, arith, lt-ltb, None, Some, slice_get, if◌then◌else◌, slice_get-get_or, search_of}
 use Rattle.nfa_lazy_dfa.proofs.scan.byte_before.Goals as goal
 
 pub returns-then-is_quit-clause-stops : goal.returns-then-is_quit-clause-stops

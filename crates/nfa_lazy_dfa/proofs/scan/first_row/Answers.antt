@@ -1,6 +1,5 @@
 -- The first row is that of the start, after a byte like the one before the span.
-use Rattle.std.proofs.Common.{rules, ap, arith, slice_get}
-use Rattle.nfa_paths.specs.Common.{search_of}
+use Rattle.nfa_paths.proofs.Common.{rules, ap, arith, slice_get, search_of}
 use Rattle.nfa_lazy_dfa.proofs.ScanLemmas.{IsAt-begin}
 use Rattle.nfa_lazy_dfa.proofs.StopLemmas.{IsStop-gave_up, IsUsedUp-at}
 use Rattle.nfa_lazy_dfa.proofs.RowLemmas.{some-same}

@@ -1,7 +1,5 @@
 -- The byte after the span may be read, or there is none.
-use Rattle.std.proofs.Common.{◌≤◌, ◌<◌, sym, subst, arith, length}
-use Rattle.std.proofs.lemmas.Option.{slice_get-get_or, slice_get_past}
-use Rattle.nfa_paths.specs.Common.{search_of}
+use Rattle.nfa_paths.proofs.Common.{◌≤◌, ◌<◌, sym, subst, arith, length, slice_get-get_or, slice_get_past, search_of}
 use Rattle.nfa_lazy_dfa.specs.Assertions.{IsRead}
 use Rattle.nfa_lazy_dfa.proofs.CacheLemmas.{row-inside}
 use Rattle.nfa_lazy_dfa.proofs.StopLemmas.{IsStop-gave_up, IsUsedUp-at}

@@ -1,7 +1,5 @@
 -- A byte that may be read leads on; at any other one the search stops.
-use Rattle.std.proofs.Common.{◌∙◌, ℕ, List, get_or, ap, sym, subst, arith, Some}
-use Rattle.std.proofs.lemmas.Option.{slice_get-get_or}
-use Rattle.nfa_paths.specs.Common.{search_of}
+use Rattle.nfa_paths.proofs.Common.{◌∙◌, ℕ, List, get_or, ap, sym, subst, arith, Some, slice_get-get_or, search_of}
 use Rattle.nfa_lazy_dfa.specs.Rows.{LeadsTo}
 use Rattle.nfa_lazy_dfa.proofs.CacheLemmas.{row-inside}
 use Rattle.nfa_lazy_dfa.proofs.StopLemmas.{IsStop-gave_up, IsUsedUp-at}

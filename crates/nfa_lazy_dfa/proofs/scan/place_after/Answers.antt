@@ -1,6 +1,5 @@
 -- The byte leads on to the row. If the row is dead, or its match is the first one and enough, the scan is over.
-use Rattle.std.proofs.Common.{◌+◌, ◌∙◌, inl, inr, ap, sym, is_some}
-use Rattle.nfa_paths.specs.Common.{search_of}
+use Rattle.nfa_paths.proofs.Common.{◌+◌, ◌∙◌, inl, inr, ap, sym, is_some, search_of}
 use Rattle.nfa_lazy_dfa.specs.Rows.{IsRowOf}
 use Rattle.nfa_lazy_dfa.specs.Stances.{stance_of}
 use Rattle.nfa_lazy_dfa.proofs.CacheLemmas.{row-is}

@@ -1,7 +1,5 @@
 -- The steps are counted up to where the scan may end.
-use Rattle.std.proofs.Common.{◌+◌, ◌≤◌, arith}
-use Rattle.std.proofs.lemmas.Result.{on_ok_weaker}
-use Rattle.nfa_paths.specs.Common.{search_of}
+use Rattle.nfa_paths.proofs.Common.{◌+◌, ◌≤◌, arith, on_ok_weaker, search_of}
 use Rattle.nfa_lazy_dfa.specs.Reads.{IsOver}
 use Rattle.nfa_lazy_dfa.proofs.ReadLemmas.{HasRead-more}
 use Rattle.nfa_lazy_dfa.proofs.scan.scan_from.Goals as goal

@@ -1,6 +1,5 @@
 -- The scan is at this place.
-use Rattle.std.proofs.Common.{◌+◌, ◌≡◌, ◌-◌, ◌≤◌}
-use Rattle.nfa_paths.specs.Common.{search_of}
+use Rattle.nfa_paths.proofs.Common.{◌+◌, ◌≡◌, ◌-◌, ◌≤◌, search_of}
 use Rattle.nfa_lazy_dfa.specs.Places.{IsFoundAt}
 use Rattle.nfa_lazy_dfa.specs.Rows.{IsFor, Spends, steps_of}
 use Rattle.nfa_lazy_dfa.proofs.scan.scan_on.Given as goal

@@ -1,5 +1,5 @@
 -- The only scan of an anchored search has counted what it read.
-use Rattle.nfa_paths.specs.Common.{search_of}
+use Rattle.nfa_paths.proofs.Common.{search_of}
 use Rattle.nfa_lazy_dfa.proofs.ReadLemmas.{HasReadSpan-one}
 use Rattle.nfa_lazy_dfa.proofs.search.find_on_boundary.Goals as goal
 

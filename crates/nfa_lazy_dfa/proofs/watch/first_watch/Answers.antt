@@ -1,6 +1,5 @@
 -- No match of the search starts before its start.
-use Rattle.std.proofs.Common.{rules, ◌≡◌, ◌*◌, ◌/◌, ◌∷◌, [], ◌∙◌, ℕ, ap, subst, arith}
-use Rattle.nfa_paths.specs.Common.{search_of}
+use Rattle.nfa_paths.proofs.Common.{rules, ◌≡◌, ◌*◌, ◌/◌, ◌∷◌, [], ◌∙◌, ℕ, ap, subst, arith, search_of}
 use Rattle.nfa_lazy_dfa.proofs.RunLemmas.{few-at}
 use Rattle.nfa_lazy_dfa.proofs.WatchLemmas.{IsBegun-start, IsFoundAt-place}
 use Rattle.nfa_lazy_dfa.specs.Rows.{IsRowOf}

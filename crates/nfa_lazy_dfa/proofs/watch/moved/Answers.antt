@@ -1,6 +1,5 @@
 -- A row that is the idle one is idle.
-use Rattle.std.proofs.Common.{◌≡◌, ◌+◌, ◌/◌, ◌%◌, ℕ, ap, sym, ◌∙◌, subst}
-use Rattle.nfa_paths.specs.Common.{search_of}
+use Rattle.nfa_paths.proofs.Common.{◌≡◌, ◌+◌, ◌/◌, ◌%◌, ℕ, ap, sym, ◌∙◌, subst, search_of}
 use Rattle.nfa_lazy_dfa.specs.Rows.{IsRowOf}
 use Rattle.nfa_lazy_dfa.proofs.WatchLemmas.{idle-begun}
 use Rattle.nfa_lazy_dfa.proofs.watch.moved.Goals as goal

@@ -1,5 +1,5 @@
 -- Counting changes no row.
-use Rattle.nfa_paths.specs.Common.{search_of}
+use Rattle.nfa_paths.proofs.Common.{search_of}
 use Rattle.nfa_lazy_dfa.proofs.WatchLemmas.{IsWatching-same}
 use Rattle.nfa_lazy_dfa.proofs.watch.pass_counted.Goals as goal
 

@@ -1,6 +1,5 @@
 -- The row is idle, or the watch knows an older idle row.
-use Rattle.std.proofs.Common.{◌≡◌, ◌*◌, ◌/◌, ◌%◌, ℕ, sym, ◌∙◌, ap, subst, arith, option_map}
-use Rattle.nfa_paths.specs.Common.{half_found_of, search_of}
+use Rattle.nfa_paths.proofs.Common.{◌≡◌, ◌*◌, ◌/◌, ◌%◌, ℕ, sym, ◌∙◌, ap, subst, arith, option_map, half_found_of, search_of}
 use Rattle.nfa_lazy_dfa.specs.Rows.{IsRowOf}
 use Rattle.nfa_lazy_dfa.proofs.RunLemmas.{few-at}
 use Rattle.nfa_lazy_dfa.proofs.WatchLemmas.{IsFoundAt-place, idle-begun}

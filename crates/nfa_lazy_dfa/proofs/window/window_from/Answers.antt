@@ -1,6 +1,5 @@
 -- A row leads to the next place, at which the scan is over or goes on.
-use Rattle.std.proofs.Common.{◌≡◌, ◌≤◌, ◌+◌, ◌∙◌, ℕ, ap, inr, subst, arith}
-use Rattle.nfa_paths.specs.Common.{search_of}
+use Rattle.nfa_paths.proofs.Common.{◌≡◌, ◌≤◌, ◌+◌, ◌∙◌, ℕ, ap, inr, subst, arith, search_of}
 use Rattle.nfa_lazy_dfa.specs.Places.{IsNextPlace}
 use Rattle.nfa_lazy_dfa.specs.Reads.{HasRead, IsOver}
 use Rattle.nfa_lazy_dfa.specs.declared.scan.Place.{Place}

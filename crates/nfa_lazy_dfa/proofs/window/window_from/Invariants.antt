@@ -1,6 +1,5 @@
 -- The scan found nothing yet.
-use Rattle.std.proofs.Common.{◌+◌, ◌≡◌, ◌≤◌, ◌-◌}
-use Rattle.nfa_paths.specs.Common.{search_of}
+use Rattle.nfa_paths.proofs.Common.{◌+◌, ◌≡◌, ◌≤◌, ◌-◌, search_of}
 use Rattle.nfa_lazy_dfa.specs.Rows.{IsFor, Spends, steps_of}
 use Rattle.nfa_lazy_dfa.specs.Watches.{IsWatching}
 use Rattle.nfa_lazy_dfa.proofs.window.window_from.Given as goal

@@ -3,5 +3,4 @@ use Rattle.nfa_match_spans.proofs.MatchLemmas.{starts-the-span}
 use Rattle.nfa_match_spans.proofs.laws.anchored_matches_start_the_span.Goals as goal
 
 pub returns : goal.returns
-returns c = λ nfa kind earliest x found valid bound records.
-    starts-the-span nfa kind earliest x valid records bound found
+returns c = starts-the-span

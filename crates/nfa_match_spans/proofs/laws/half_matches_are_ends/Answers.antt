@@ -3,4 +3,4 @@ use Rattle.nfa_match_spans.proofs.MatchLemmas.{half-is-end}
 use Rattle.nfa_match_spans.proofs.laws.half_matches_are_ends.Goals as goal
 
 pub returns : goal.returns
-returns c = λ nfa kind earliest x half found valid records. half-is-end nfa kind earliest x valid records half found
+returns c = half-is-end

@@ -3,4 +3,4 @@ use Rattle.nfa_match_spans.proofs.LawLemmas.{paths-recorded}
 use Rattle.nfa_match_spans.proofs.laws.match_spans_are_written.Goals as goal
 
 pub returns : goal.returns
-returns c = λ nfa x records. paths-recorded nfa x records
+returns c = paths-recorded

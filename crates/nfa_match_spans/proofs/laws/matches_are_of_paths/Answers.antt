@@ -3,5 +3,4 @@ use Rattle.nfa_match_spans.proofs.MatchLemmas.{match-of-path}
 use Rattle.nfa_match_spans.proofs.laws.matches_are_of_paths.Goals as goal
 
 pub returns : goal.returns
-returns c = λ nfa kind earliest x restarts path found valid records.
-    match-of-path nfa kind earliest x valid records restarts path found
+returns c = match-of-path

@@ -1,6 +1,5 @@
 -- All places that ways lead to are gone through; one that is a Match without a bound is a way that lacks it.
-use Rattle.std.proofs.Common.{◌≡◌, ◌∙◌, ◌<◌, map, length, get_or, refl, ap, sym, arith, subst}
-use Rattle.nfa_paths.specs.Common.{LeadsBelow, node_of, In, node_at, pattern_of}
+use Rattle.nfa_paths.proofs.Common.{◌≡◌, ◌∙◌, ◌<◌, map, length, get_or, ap, sym, arith, LeadsBelow, node_of, In, node_at, pattern_of}
 use Rattle.nfa_match_spans.specs.StatePaths.{targets}
 use Rattle.nfa_match_spans.specs.PathStates.{at_state, after_node, next_places, GainsPathStates, IsFine}
 use Rattle.nfa_match_spans.proofs.SearchLemmas.{In-get_or, slice_get-in, targets-below, IsFine-of, IsUnderWay-begin, IsUnderWay-step, IsUnderWay-done}
@@ -37,7 +36,7 @@ add_all-requires c = λ k d h.
     let same : c.deref.result.now ≡ targets (node_of c.state-state.result.now) =
     c.deref.ensures.value ∙ c.in_ok-targets.ensures in
     let i : In (get_or c.deref.result.now k d) (targets (node_of c.state-state.result.now)) =
-    subst (In (get_or c.deref.result.now k d)) same (In-get_or c.deref.result.now k d h) in
+    rw (← same) (In-get_or c.deref.result.now k d h) in
     let less : get_or c.deref.result.now k d < length nfa.states =
     targets-below (length nfa.states) (get_or c.deref.result.now k d) (node_of c.state-state.result.now)
     c.state-state.ensures.leads i in
@@ -55,8 +54,7 @@ loop-done-preserved c =
     ∙ ap (map (at_state (after_node c.args.pattern node place))) same
     ∙ ap (λ n. map (at_state (after_node c.args.pattern n place)) (targets n)) (sym is) in
     let gains : GainsPathStates c.loop-done.reached.places c.add_all.new.self.places
-    (next_places nfa c.args.pattern place) =
-    subst (GainsPathStates c.loop-done.reached.places c.add_all.new.self.places) wanted c.in_ok-add_all.ensures.gains in
+    (next_places nfa c.args.pattern place) = rw wanted at c.in_ok-add_all.ensures.gains in
     let leads : LeadsBelow (length nfa.states) (node_at nfa place.state) = rw is c.state-state.ensures.leads in
     let fine : IsFine nfa c.args.pattern place =
     IsFine-of nfa c.args.pattern place node c.is_unrecorded.result is c.is_unrecorded.ensures
@@ -68,9 +66,4 @@ loop-done-preserved c =
     }
 
 pub returns : goal.returns
-returns c = (
-  λ t. closed-records c.args.nfa.now c.args.pattern c.loop-done.reached.places
-      (IsUnderWay-done c.args.nfa.now c.args.pattern c.loop-done.done c.loop-done.reached.places
-      (omega (arith, c.loop-done-test.false, c.len.ensures.value)) c.loop-done.invariant.under_way),
-  λ all. refl,
-)
+returns c = grind (arith, closed-records, IsUnderWay-done)

@@ -1,10 +1,6 @@
 -- Each state that a search starts with is added, and no other.
-use Rattle.std.proofs.Common.{◌≡◌, ◌∙◌, ◌<◌, ◌*◌, [], ◌∷◌, length, inl, refl, ap, sym, arith, subst}
-use Rattle.std.proofs.lemmas.List.{length-map}
-use Rattle.regex_search_core.specs.declared.search.Anchored.TheVariants.{Yes}
-use Rattle.nfa_paths.specs.Common.{node_of, In}
+use Rattle.nfa_paths.proofs.Common.{◌≡◌, ◌∙◌, ◌<◌, ◌*◌, [], ◌∷◌, length, inl, refl, ap, sym, arith, subst, length-map, Yes, node_of, In}
 use Rattle.nfa_match_spans.specs.PathStates.{fresh_path_state, GainsPathStates, Reach}
-use Rattle.nfa_match_spans.specs.declared.path_state.PathState.{PathState}
 use Rattle.nfa_match_spans.proofs.SearchLemmas.{GainsPathStates-kept, starts-only, starts-below, starts-all, patterns-more, patterns-same}
 use Rattle.nfa_match_spans.proofs.spans.starts.Goals as goal
 use Rattle.nfa_match_spans.proofs.spans.starts.Goals.{in-Some+in_ok-add-2, in_default}
@@ -14,8 +10,7 @@ loop-index-init c =
     let nfa = c.args.nfa.now in
     let old = c.in_ok-reached.reached.places in
     let gains : GainsPathStates old c.add.new.self.places (fresh_path_state nfa.anchored ∷ []) =
-    subst (λ (v : PathState). GainsPathStates old c.add.new.self.places (v ∷ []))
-    (c.fresh.ensures ∙ ap fresh_path_state c.start_anchored.ensures.value) c.in_ok-add.ensures.gains in
+    rw (c.fresh.ensures, c.start_anchored.ensures.value) at c.in_ok-add.ensures.gains in
     let less : nfa.anchored < length nfa.states =
     rw (← c.start_anchored.ensures.value) c.start_anchored.ensures.within in
     let none : old ≡ [] = ap (λ (r : Reach). r.places) c.in_ok-reached.ensures in
@@ -39,8 +34,7 @@ loop-index-preserved c =
           let old = c.loop-index.reached.places in
           let new = w.add-in-Some.new.self.places in
           let gains : GainsPathStates old new (fresh_path_state start ∷ []) =
-          subst (λ (v : PathState). GainsPathStates old new (v ∷ [])) w.fresh-in-Some.ensures
-          w.in_ok-add-2.ensures.gains in
+          rw w.fresh-in-Some.ensures at w.in_ok-add-2.ensures.gains in
           rw w.reached-is (record {
             room = w.in_ok-add-2.ensures.room ∙ inv.room;
             anchored = GainsPathStates-kept gains (fresh_path_state nfa.anchored) inv.anchored;

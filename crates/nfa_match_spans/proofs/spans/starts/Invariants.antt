@@ -1,6 +1,5 @@
 -- The starts of the patterns so far were added, and nothing but starts.
-use Rattle.std.proofs.Common.{◌≡◌, ℕ, ◌*◌, ◌<◌, ◌≤◌, length, Some, slice_get}
-use Rattle.nfa_paths.specs.Common.{In}
+use Rattle.nfa_paths.proofs.Common.{◌≡◌, ℕ, ◌*◌, ◌<◌, ◌≤◌, length, Some, slice_get, In}
 use Rattle.nfa_match_spans.specs.PathStates.{fresh_path_state, IsFresh}
 use Rattle.nfa_match_spans.specs.declared.path_state.PathState.{PathState}
 use Rattle.nfa_match_spans.proofs.spans.starts.Given as goal

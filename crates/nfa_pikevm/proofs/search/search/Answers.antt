@@ -1,7 +1,5 @@
 -- A search that scans again while its answer ends inside a codepoint: what holds at each scan, and the result.
-use Rattle.std.proofs.Common.{◌≡◌, ◌∙◌, ℕ, ◌+◌, ◌≤◌, ap, arith, refl, replicate, subst, sym, Bool, true, false, List, None}
-use Rattle.nfa_paths.specs.Common.{IsBoundary, Search, is_anchored, search_of, Anchored, HalfMatch, MatchKind, Automaton, Slots, is_utf8_empty}
-use Rattle.nfa_paths.specs.Restarts.{GivesPath, Restarts, ScanGives}
+use Rattle.nfa_paths.proofs.Common.{◌≡◌, ◌∙◌, ℕ, ◌+◌, ap, arith, replicate, subst, sym, Bool, true, false, List, None, IsBoundary, Search, is_anchored, search_of, Anchored, HalfMatch, MatchKind, Automaton, Slots, is_utf8_empty, GivesPath, Restarts, ScanGives}
 use Rattle.nfa_paths.proofs.RestartLemmas.{bounded, discarded, restarted, restarts-begin, scan-start, settled-none, settled-some, splits, start-left}
 use Rattle.nfa_pikevm.proofs.search.search.Goals as goal
 
@@ -18,11 +16,7 @@ of-search : {nfa : Automaton} {kind : MatchKind} {earliest : Bool} {x y : Search
 of-search P begun = subst (λ (z : Search). P z.haystack z.anchored) begun.is
 
 pub loop-half-init : goal.loop-half-init
-loop-half-init c = record {
-  restarts = rw c.requires.counted (restarts-begin c.requires.turned);
-  asks = refl;
-  sizes = refl;
-}
+loop-half-init c = grind (arith, restarts-begin)
 
 -- ---- the scan finds nothing
 
@@ -79,10 +73,7 @@ returns-then-is_anchored-clause-answer c =
     (c.unset_row.ensures ∙ ap (λ n. replicate n None) (sym c.unset_row.auto.row))
 
 pub set_start-requires : goal.set_start-requires
-set_start-requires c =
-    let left : (search_of c.loop-half.input).start ≤ (search_of c.loop-half.input).end =
-    start-left c.loop-half.invariant.restarts (asked c.loop-half.invariant.asks c.in_ok-half.ensures.answer) in
-    omega (arith, c.start-start.ensures)
+set_start-requires c = grind (arith, start-left)
 
 pub loop-half-preserved : goal.loop-half-preserved
 loop-half-preserved c =

@@ -1,7 +1,5 @@
 -- What holds at each scan of a search.
-use Rattle.std.proofs.Common.{◌≡◌, ◌+◌, ◌-◌}
-use Rattle.nfa_paths.specs.Common.{search_of}
-use Rattle.nfa_paths.specs.Restarts.{Restarts}
+use Rattle.nfa_paths.proofs.Common.{◌≡◌, ◌+◌, ◌-◌, search_of, Restarts}
 use Rattle.nfa_pikevm_scan.specs.Scans.{SameSizes}
 use Rattle.nfa_pikevm.proofs.search.search.Given as goal
 

@@ -1,9 +1,7 @@
 -- All that a root leads to without reading a byte is followed from match to match, until the position ends.
-use Rattle.std.proofs.Common.{◌≡◌, ◌∙◌, [], length, take, arith, refl, true, false}
-use Rattle.nfa_pikevm_scan.specs.Sinks.Takes.{none}
-use Rattle.nfa_pikevm_scan.proofs.ApplyFrameLemmas.{within-lower}
-use Rattle.nfa_pikevm_scan.proofs.SinkLemmas.{Takes-none, Takes-match}
-use Rattle.nfa_pikevm_scan.proofs.ClosureLemmas.{Paid-falls, Turned-begin, Turned-more, Turned-resumed, ClosureGives-whole, ClosureGives-ended, KeepsRoom-none, KeepsRoom-then}
+use Rattle.nfa_pikevm_scan.proofs.Common.{arith, false, length, none, refl, true, ◌∙◌}
+use Rattle.nfa_pikevm_scan.proofs.ClosureLemmas.{KeepsRoom-none, KeepsRoom-then, Paid-falls, Turns-begin, Turns-resumed, Turns-then, within-lower}
+use Rattle.nfa_pikevm_scan.proofs.SinkLemmas.{Takes-match, Takes-none, Takes-then}
 use Rattle.nfa_pikevm_scan.proofs.closure.epsilon_closure.Goals as goal
 
 pub loop-pattern-init : goal.loop-pattern-init
@@ -16,25 +14,30 @@ loop-pattern-init g c =
       within = λ k d h. absurd (omega arith);
       width = refl;
       same_reference = refl;
-      followed = Turned-begin none;
+      followed = Turns-begin none;
     }
 
 pub returns-then-take-clause-arrives : goal.returns-then-take-clause-arrives
-returns-then-take-clause-arrives g c =
-    ClosureGives-ended c.loop-pattern.invariant.followed c.in-Some.ensures.finds
-    (Takes-match _ true c.if-take.true c.in-Some.ensures.finds.ends c.take.ensures.takes) refl
+returns-then-take-clause-arrives g c = record {
+  stack = _;
+  slots = _;
+  gives = Turns-then c.loop-pattern.invariant.followed c.in-Some.ensures.finds
+      (λ f m t e. Takes-then t (Takes-match _ true c.if-take.true e c.take.ensures.takes));
+  whole = λ never. absurd (cc never);
+}
 
 pub returns-in_default-resume-clause-arrives : goal.returns-in_default-resume-clause-arrives
-returns-in_default-resume-clause-arrives g c =
-    let none : c.resume.new.top ≡ 0 = c.in_default-resume.ensures.over refl in
-    let empty : take c.resume.new.top c.next_match.new.frames ≡ [] = rw none refl in
-    ClosureGives-whole empty
-    (Turned-resumed c.in_default-resume.ensures.resumes
-    (Turned-more c.loop-pattern.invariant.followed c.in-Some.ensures.finds
-    (Takes-match _ false c.if-take.false c.in-Some.ensures.finds.ends c.take.ensures.takes) refl))
+returns-in_default-resume-clause-arrives g c = record {
+  stack = _;
+  slots = _;
+  gives = Turns-resumed c.in_default-resume.ensures.resumes
+      (Turns-then c.loop-pattern.invariant.followed c.in-Some.ensures.finds
+      (λ f m t e. Takes-then t (Takes-match _ false c.if-take.false e c.take.ensures.takes)));
+  whole = λ _. rw (c.in_default-resume.ensures.over refl) refl;
+}
 
 pub loop-pattern-smaller : goal.loop-pattern-smaller
-loop-pattern-smaller g c = Paid-falls c.in-Some.ensures.finds.gives.paid (omega (arith, c.in-Some.ensures.turns))
+loop-pattern-smaller g c = Paid-falls c.in-Some.ensures.finds.paid (omega (arith, c.in-Some.ensures.turns))
     (omega (arith, c.in-Some-resume.ensures.resumes.tried))
 
 pub loop-pattern-preserved : goal.loop-pattern-preserved
@@ -49,15 +52,16 @@ loop-pattern-preserved g c =
           (within-lower _ _ _ _ _ c.in-Some-resume.ensures.top c.in-Some.ensures.within);
       width = c.take.ensures.width ∙ c.loop-pattern.invariant.width;
       same_reference = c.take.ensures.same_reference ∙ c.loop-pattern.invariant.same_reference;
-      followed = Turned-resumed c.in-Some-resume.ensures.resumes
-          (Turned-more c.loop-pattern.invariant.followed c.in-Some.ensures.finds
-          (Takes-match _ false c.if-take.false c.in-Some.ensures.finds.ends c.take.ensures.takes) refl);
+      followed = Turns-resumed c.in-Some-resume.ensures.resumes
+          (Turns-then c.loop-pattern.invariant.followed c.in-Some.ensures.finds
+          (λ f m t e. Takes-then t (Takes-match _ false c.if-take.false e c.take.ensures.takes)));
     }
 
 pub returns-clause-arrives : goal.returns-clause-arrives
-returns-clause-arrives g c =
-    let none : c.next_match.new.top ≡ 0 = c.in_default.ensures.over refl in
-    let empty : take c.next_match.new.top c.next_match.new.frames ≡ [] = rw none refl in
-    ClosureGives-whole empty
-    (Turned-more c.loop-pattern.invariant.followed c.in_default.ensures.finds
-    (Takes-none c.in_default.ensures.finds.front c.loop-pattern.sink c.in_default.ensures.finds.ends) refl)
+returns-clause-arrives g c = record {
+  stack = _;
+  slots = _;
+  gives = Turns-then c.loop-pattern.invariant.followed c.in_default.ensures.finds
+      (λ f m t e. Takes-then t (Takes-none m c.loop-pattern.sink e));
+  whole = λ _. rw (c.in_default.ensures.over refl) refl;
+}

@@ -1,10 +1,5 @@
 -- All that a state leads to without reading a byte is entered in order, up to the next match.
-use Rattle.std.proofs.Common.{◌≤◌, ◌<◌, ◌+◌, ◌-◌, length, map, take, All, Some, sum, sum_by}
-use Rattle.nfa_paths.specs.Common.{search_of, degree, is_match, NoMatch}
-use Rattle.nfa_paths.specs.Turns.{marked_sum}
-use Rattle.nfa_pikevm_scan.specs.Needs.{stack_frames}
-use Rattle.nfa_pikevm_scan.specs.States.{moment_of, tries, IsWithin, KeepsRoom}
-use Rattle.nfa_pikevm_scan.proofs.ClosureLemmas.{Turned}
+use Rattle.nfa_pikevm_scan.proofs.Common.{All, IsWithin, KeepsRoom, NoMatch, Some, TurnsGive, degree, is_match, length, map, moment_of, search_of, stack_frames, sum, sum_by, take, tries, weight, ◌+◌, ◌-◌, ◌<◌, ◌≤◌}
 use Rattle.nfa_pikevm_scan.proofs.closure.next_match.Given as goal
 
 abbrev pub invariant-loop-on : goal.invariant-loop-on
@@ -14,7 +9,7 @@ invariant-loop-on l = record {
   keeps : KeepsRoom l.fn.reached l.reached;
   grows : l.fn.reached.seen.turns ≤ l.reached.seen.turns;
   within : All (IsWithin (length l.here.nfa.now.states) (length l.row)) (take l.top l.frames);
-  passed : Turned l.here.nfa.now (search_of l.here.input.now) l.here.at l.fn.from
+  passed : TurnsGive l.here.nfa.now (search_of l.here.input.now) l.here.at l.fn.from
       (moment_of l.fn.reached (take l.fn.top l.fn.frames) l.fn.row) (NoMatch (is_match l.here.nfa.now)) (Some l.sid)
       (moment_of l.reached (take l.top l.frames) l.row);
 }
@@ -23,4 +18,4 @@ invariant-loop-on l = record {
 abbrev pub decreases-loop-on : goal.decreases-loop-on
 decreases-loop-on l =
     sum_by tries (take l.top l.frames) + length l.reached.next.items
-    + (sum (map degree l.here.nfa.now.states) - marked_sum (map degree l.here.nfa.now.states) l.reached.seen.bits)
+    + (sum (map degree l.here.nfa.now.states) - weight l.here.nfa.now degree l.reached.seen.bits)

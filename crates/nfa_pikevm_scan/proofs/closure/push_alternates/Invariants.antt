@@ -1,5 +1,5 @@
 -- The alternatives after the first one are on the stack, with the earliest on top.
-use Rattle.std.proofs.Common.{◌≡◌, ◌≤◌, ◌+◌, ◌++◌, length, map, drop, take, reverse}
+use Rattle.nfa_paths.proofs.Common.{drop, length, map, reverse, take, ◌++◌, ◌+◌, ◌≡◌, ◌≤◌}
 use Rattle.nfa_pikevm_scan.specs.declared.frame.FollowEpsilon.TheVariants.{Explore}
 use Rattle.nfa_pikevm_scan.proofs.closure.push_alternates.Given as goal
 

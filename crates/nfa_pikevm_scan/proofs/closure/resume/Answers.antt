@@ -1,14 +1,10 @@
 -- Frames are popped down to a state to follow, and slots are restored on the way.
-use Rattle.std.proofs.Common.{take, arith}
-use Rattle.nfa_pikevm_scan.proofs.ApplyFrameLemmas.{popped-is, slot-popped, Resumes-none, Resumes-popped}
+use Rattle.nfa_pikevm_scan.proofs.Common.{All-pop, HasSlot, Some, arith}
+use Rattle.nfa_pikevm_scan.proofs.ClosureLemmas.{Resumes-none, Resumes-popped, popped-is}
 use Rattle.nfa_pikevm_scan.proofs.closure.resume.Goals as goal
 
 pub loop-top-init : goal.loop-top-init
-loop-top-init c = record {
-  below = omega arith;
-  slots = c.requires.slots;
-  resumes = Resumes-none (take c.args.top.now c.args.frames.now) c.args.row.now;
-}
+loop-top-init c = grind (arith, Resumes-none)
 
 pub returns-in-Some-clause-resumes : goal.returns-in-Some-clause-resumes
 returns-in-Some-clause-resumes c =
@@ -23,7 +19,8 @@ loop-top-preserved c =
     c.index-frames-top.is in
     record {
       below = omega arith;
-      slots = rw c.apply_frame.auto.row (slot-popped _ _ _ c.index-frames-top.result pop c.loop-top.invariant.slots).0;
+      slots = rw c.apply_frame.auto.row
+          (All-pop (HasSlot _) _ _ (Some c.index-frames-top.result) pop c.loop-top.invariant.slots).0;
       resumes = Resumes-popped c.index-frames-top.result c.loop-top.invariant.resumes pop c.in_default.ensures.state
           c.apply_frame.ensures.row;
     }

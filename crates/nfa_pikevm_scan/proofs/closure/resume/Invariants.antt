@@ -1,6 +1,5 @@
 -- Frames are popped down to a state to follow, and slots are restored on the way.
-use Rattle.std.proofs.Common.{◌≤◌, length, take, All, None}
-use Rattle.nfa_pikevm_scan.specs.States.{HasSlot, Resumes}
+use Rattle.nfa_pikevm_scan.proofs.Common.{All, HasSlot, None, Resumes, length, take, ◌≤◌}
 use Rattle.nfa_pikevm_scan.proofs.closure.resume.Given as goal
 
 abbrev pub invariant-loop-top : goal.invariant-loop-top

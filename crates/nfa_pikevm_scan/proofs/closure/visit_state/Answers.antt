@@ -1,11 +1,9 @@
 -- A turn enters a state: it marks it, and keeps the state that its byte leads to, or gives the state to go on with.
-use Rattle.std.proofs.Common.{[], ◌∷◌, ◌∙◌, append-nil, take, slice_set, arith, sym, ap, refl, inl, inr}
-use Rattle.std.proofs.lemmas.List.{length-drop}
+use Rattle.nfa_pikevm_scan.proofs.Common.{[], ap, append-nil, arith, length-drop, refl, sym, take, ◌∙◌, ◌∷◌}
 use Rattle.nfa_scan_core.proofs.AlternateLemmas.{none-nil}
-use Rattle.nfa_pikevm_scan.proofs.VisitLemmas.{frames-entered, states-entered, within-union, within-saved, IsPut-made, offset-some, onto, top-put, VisitsState-marked, VisitsState-byte, VisitsState-leads, VisitsState-capture, VisitsState-fail, VisitsState-match}
-use Rattle.nfa_pikevm_scan.specs.States.{IsSaved}
+use Rattle.nfa_pikevm_scan.proofs.VisitLemmas.{IsPut-made, IsSaved, VisitsState-byte, VisitsState-capture, VisitsState-fail, VisitsState-leads, VisitsState-marked, VisitsState-match, frames-entered, offset-some, onto, states-entered, top-put, within-saved, within-union}
+use Rattle.nfa_pikevm_scan.proofs.closure.visit_state.Goals.{else-slot-row, then-slot-row}
 use Rattle.nfa_pikevm_scan.proofs.closure.visit_state.Goals as goal
-use Rattle.nfa_pikevm_scan.proofs.closure.visit_state.Goals.{then-slot-row, else-slot-row}
 
 pub returns-in_default-clause-enters : goal.returns-in_default-clause-enters
 returns-in_default-clause-enters c = VisitsState-marked (c.in_default.ensures.marked refl)
@@ -50,7 +48,8 @@ pub returns-in-Fail-clause-enters : goal.returns-in-Fail-clause-enters
 returns-in-Fail-clause-enters c = VisitsState-fail (rw c.in-Fail.is at c.in-Some.ensures.entered)
 
 pub returns-in-Match-clause-enters : goal.returns-in-Match-clause-enters
-returns-in-Match-clause-enters c = VisitsState-match (rw c.in-Match.is at c.in-Some.ensures.entered)
+returns-in-Match-clause-enters c =
+    VisitsState-match c.in-Match.pattern_id (rw c.in-Match.is at c.in-Some.ensures.entered)
 
 pub push_alternates-requires : goal.push_alternates-requires
 push_alternates-requires c =
@@ -116,18 +115,7 @@ returns-after-slot-row-clause-top c =
 saved : (c : goal.After-result-in-Capture-1)
     → IsSaved c.args.here.now.at c.in-Capture.slot (take c.args.top.now c.args.frames.now) c.args.row.now
     (take c.if-slot-row.top c.if-slot-row.frames) c.if-slot-row.row
-saved c = elim c.if-slot-row.branch [
-  | then-slot-row w ↦
-      let some = offset-some w.new.result _ c.args.here.now.at w.new.ensures (omega arith) in
-      inl (
-        w.if-slot-row.true,
-        rw (w.top-is, w.frames-is) (IsPut-made c.args.top.now w.push_restore.new.top c.args.frames.now
-            w.push_restore.new.frames
-            _ w.push_restore.ensures.empty w.push_restore.ensures.stack),
-        w.row-is ∙ ap (λ o. slice_set c.args.row.now c.in-Capture.slot o) some,
-      )
-  | else-slot-row w ↦ inr (w.if-slot-row.false, rw (w.top-is, w.frames-is) refl, w.row-is)
-]
+saved c = grind (arith, then-slot-row, offset-some, IsPut-made, else-slot-row)
 
 pub returns-after-slot-row-clause-within : goal.returns-after-slot-row-clause-within
 returns-after-slot-row-clause-within c =

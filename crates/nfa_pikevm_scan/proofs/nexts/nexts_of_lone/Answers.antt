@@ -1,5 +1,5 @@
 -- The match that is meant is the last row.
-use Rattle.std.proofs.Common.{refl, rules}
+use Rattle.nfa_paths.proofs.Common.{refl, rules}
 use Rattle.nfa_pikevm_scan.proofs.SlotsSinkLemmas.{NextsGive-taken}
 use Rattle.nfa_pikevm_scan.proofs.nexts.nexts_of_lone.Goals as goal
 

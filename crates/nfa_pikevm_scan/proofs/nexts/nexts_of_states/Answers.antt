@@ -1,8 +1,7 @@
 -- The states of a position are followed in order, up to the match that ends it.
-use Rattle.std.proofs.Common.{◌≡◌, ◌+◌, ◌-◌, ◌*◌, ◌∙◌, length, refl, ap, sym, arith}
-use Rattle.nfa_pikevm_scan.specs.Rows.{Active}
+use Rattle.nfa_pikevm_scan.proofs.Common.{arith, length, refl, ◌*◌, ◌+◌, ◌-◌, ◌∙◌, ◌≡◌}
 use Rattle.nfa_pikevm_scan.proofs.ClosureLemmas.{KeepsRoom-none, KeepsRoom-then}
-use Rattle.nfa_pikevm_scan.proofs.NextsLemmas.{NextsLeadTo-begin, NextsLeadTo-next, NextsLeadTo-ended, NextsLeadTo-over, HasRoom-next, items-next, items-over, row-long, rows-behind}
+use Rattle.nfa_pikevm_scan.proofs.NextsLemmas.{Closures-begin, Closures-next, HasRoom-next, items-next, items-over, row-long, rows-behind}
 use Rattle.nfa_pikevm_scan.proofs.nexts.nexts_of_states.Goals as goal
 
 pub loop-sid-init : goal.loop-sid-init
@@ -13,28 +12,17 @@ loop-sid-init g c = record {
   behind = refl;
   width = refl;
   same_reference = refl;
-  crosses = NextsLeadTo-begin c.requires.ready.empty c.requires.ready.clear;
+  crosses = Closures-begin c.requires.ready.empty c.requires.ready.clear;
 }
 
 pub epsilon_closure-requires-clause-room : goal.epsilon_closure-requires-clause-room
-epsilon_closure-requires-clause-room g c =
-    HasRoom-next c.requires.ready c.loop-sid.invariant.keeps c.loop-sid.auto.frames c.loop-sid.invariant.crosses
+epsilon_closure-requires-clause-room g c = grind (arith, HasRoom-next)
 
 pub epsilon_closure-requires-clause-width : goal.epsilon_closure-requires-clause-width
-epsilon_closure-requires-clause-width g c =
-    let width = c.width-width.result in
-    let wide = c.width-width.ensures in
-    rw c.loop-sid.invariant.start (row-long width c.loop-sid.sid-index (length c.args.kept.now) _ c.loop-sid.rows
-    c.args.rows.now c.loop-sid-test.true (rw wide c.requires.rows) c.loop-sid.auto.rows (omega arith))
-    ∙ wide ∙ c.requires.ready.width_is ∙ sym (ap (λ (z : Active). z.width) c.loop-sid.invariant.keeps.same)
+epsilon_closure-requires-clause-width g c = grind (arith, row-long)
 
 pub epsilon_closure-requires-clause-takes : goal.epsilon_closure-requires-clause-takes
-epsilon_closure-requires-clause-takes g c =
-    let width = c.width-width.result in
-    let wide = c.width-width.ensures in
-    rw c.loop-sid.invariant.start (row-long width c.loop-sid.sid-index (length c.args.kept.now) _ c.loop-sid.rows
-    c.args.rows.now c.loop-sid-test.true (rw wide c.requires.rows) c.loop-sid.auto.rows (omega arith))
-    ∙ wide ∙ sym c.loop-sid.invariant.width
+epsilon_closure-requires-clause-takes g c = grind (arith, row-long)
 
 pub loop-sid-preserved : goal.loop-sid-preserved
 loop-sid-preserved g c =
@@ -54,8 +42,8 @@ loop-sid-preserved g c =
           c.loop-sid.invariant.behind);
       width = c.epsilon_closure.ensures.width ∙ c.loop-sid.invariant.width;
       same_reference = c.epsilon_closure.ensures.same_reference ∙ c.loop-sid.invariant.same_reference;
-      crosses = NextsLeadTo-next items c.loop-sid.invariant.crosses
-          (rw c.loop-sid.invariant.start at c.epsilon_closure.ensures.arrives) c.if-epsilon_closure.false;
+      crosses = Closures-next items c.loop-sid.invariant.crosses
+          (rw (c.loop-sid.invariant.start, c.if-epsilon_closure.false) at c.epsilon_closure.ensures.arrives);
     }
 
 pub returns-then-epsilon_closure-clause-arrive : goal.returns-then-epsilon_closure-clause-arrive
@@ -66,12 +54,13 @@ returns-then-epsilon_closure-clause-arrive g c =
     let items = items-next width i _ c.args.kept.now c.args.rows.now c.loop-sid.rows c.sid-item.result
     c.loop-sid-test.true c.sid-item.is wide c.loop-sid.invariant.behind in
     rw (← c.width-width.ensures)
-    (NextsLeadTo-ended items c.loop-sid.invariant.crosses
-    (rw c.loop-sid.invariant.start at c.epsilon_closure.ensures.arrives) c.if-epsilon_closure.true)
+    (record {
+      ended = c.epsilon_closure.result;
+      left = _;
+      leads = Closures-next items c.loop-sid.invariant.crosses
+          (rw c.loop-sid.invariant.start at c.epsilon_closure.ensures.arrives);
+      whole = λ on. absurd (cc (c.if-epsilon_closure.true, on));
+    })
 
 pub returns-clause-arrive : goal.returns-clause-arrive
-returns-clause-arrive g c =
-    rw (← c.width-width.ensures)
-    (NextsLeadTo-over
-    (items-over c.width-width.result c.loop-sid.sid-index c.args.kept.now c.args.rows.now c.loop-sid-test.false)
-    c.loop-sid.invariant.crosses)
+returns-clause-arrive g c = grind (arith, items-over)

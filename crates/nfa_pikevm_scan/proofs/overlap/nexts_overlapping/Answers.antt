@@ -1,8 +1,6 @@
 -- A position is left for the next one, and the set gains the matches that count.
-use Rattle.std.proofs.Common.{refl, rules}
-use Rattle.nfa_paths.specs.Common.{search_of}
-use Rattle.nfa_pikevm_scan.proofs.OverlapSetLemmas.{permits-is}
-use Rattle.nfa_pikevm_scan.proofs.PatternSinkLemmas.{NextsOverlappingGive-taken}
+use Rattle.nfa_paths.proofs.Common.{refl, rules, search_of}
+use Rattle.nfa_pikevm_scan.proofs.PatternSinkLemmas.{NextsOverlappingGive-taken, permits-is}
 use Rattle.nfa_pikevm_scan.proofs.overlap.nexts_overlapping.Goals as goal
 
 pub returns-clause-crosses : goal.returns-clause-crosses

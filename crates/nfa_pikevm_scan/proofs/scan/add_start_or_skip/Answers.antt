@@ -1,18 +1,11 @@
 -- The start joins the states, or starts that are refused are passed over.
-use Rattle.std.proofs.Common.{◌<◌, ◌≤◌, length, get_or, arith, refl, ap, inr}
-use Rattle.nfa_paths.specs.Common.{search_of}
-use Rattle.nfa_scan_core.specs.FirstBytes.{IsRefused}
+use Rattle.nfa_pikevm_scan.proofs.Common.{IsRefused, arith, get_or, inr, length, refl, search_of, ◌<◌, ◌≤◌}
 use Rattle.nfa_scan_core.proofs.FirstLemmas.{byte_at-inside}
-use Rattle.nfa_pikevm_scan.specs.Rows.{Active}
-use Rattle.nfa_pikevm_scan.proofs.RoomLemmas.{AddsStart-passes, none_of, some_of}
+use Rattle.nfa_pikevm_scan.proofs.RoomLemmas.{AddsStart-passes, none_of}
 use Rattle.nfa_pikevm_scan.proofs.scan.add_start_or_skip.Goals as goal
 
 pub returns-then-is_empty-2-clause-joins : goal.returns-then-is_empty-2-clause-joins
-returns-then-is_empty-2-clause-joins c =
-    let none = none_of c.args.threads.now.curr.items (c.is_empty-2.ensures.0 c.if-is_empty-2.true) in
-    let same = ap (λ (a : Active). a.items) c.push_blank.ensures in
-    rw (same, none) (AddsStart-passes c.args.threads.now.curr.width c.pass_over-next.ensures c.requires.stop
-    (c.requires.order c.if-at-limit.false) c.if-at-limit.false)
+returns-then-is_empty-2-clause-joins c = grind (arith, none_of, AddsStart-passes)
 
 pub returns-else-not-refuses-clause-joins : goal.returns-else-not-refuses-clause-joins
 returns-else-not-refuses-clause-joins c =
@@ -28,8 +21,6 @@ returns-else-not-refuses-clause-joins c =
       within = λ w. w;
       stays = λ some. refl;
       passed = λ k h l. absurd (omega arith);
-      some = λ less. some_of c.args.threads.now.curr.items
-          (λ none. absurd (cc (c.if-is_empty-2.false, c.is_empty-2.ensures.1 none)));
       passes = λ p. refl;
       last = inr (refl, inr (c.if-at-starts.false, here));
     }

@@ -1,14 +1,11 @@
 -- A lone state is followed from position to position.
-use Rattle.std.proofs.Common.{◌∙◌, refl, sym, arith}
+use Rattle.nfa_paths.proofs.Common.{arith, refl, sym, ◌∙◌}
 use Rattle.nfa_pikevm_scan.proofs.LoneLemmas.{Joined-lone, MayCross-joined, ScansFirst-match, ScansFirst-miss}
 use Rattle.nfa_pikevm_scan.proofs.RoomLemmas.{HaveRows-kept, KeepsThreads-then}
 use Rattle.nfa_pikevm_scan.proofs.scan.run_lone.Goals as goal
 
 pub nexts_of_lone-requires-clause-ready : goal.nexts_of_lone-requires-clause-ready
-nexts_of_lone-requires-clause-ready c =
-    let s = c.loop-at.invariant.first c.requires.first.0 c.requires.first.1 in
-    rw c.loop-at.auto.slots (MayCross-joined (Joined-lone s refl (c.is_lone.ensures.0 c.loop-at-test.true)) refl
-    (HaveRows-kept c.requires.room c.loop-at.invariant.keeps) s.next)
+nexts_of_lone-requires-clause-ready c = grind (arith, MayCross-joined, Joined-lone, HaveRows-kept)
 
 pub loop-at-preserved-then-is_some : goal.loop-at-preserved-then-is_some
 loop-at-preserved-then-is_some c = record {

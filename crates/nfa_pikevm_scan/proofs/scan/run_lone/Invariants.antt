@@ -1,8 +1,5 @@
 -- A lone state is followed from position to position.
-use Rattle.std.proofs.Common.{◌-◌, ◌+◌, ◌≤◌, length}
-use Rattle.nfa_paths.specs.Common.{search_of}
-use Rattle.nfa_pikevm_scan.specs.Scans.{KeepsThreads, ScansFirst}
-use Rattle.nfa_pikevm_scan.specs.declared.threads.Threads.{Threads}
+use Rattle.nfa_pikevm_scan.proofs.Common.{KeepsThreads, ScansFirst, Threads, length, search_of, ◌+◌, ◌-◌, ◌≤◌}
 use Rattle.nfa_pikevm_scan.proofs.scan.run_lone.Given as goal
 
 abbrev pub invariant-loop-at : goal.invariant-loop-at

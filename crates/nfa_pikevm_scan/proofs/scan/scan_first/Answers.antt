@@ -1,12 +1,11 @@
 -- A scan that is leftmost first answers the first accepting path.
-use Rattle.std.proofs.Common.{◌≡◌, ◌∙◌, length, arith, refl, sym}
-use Rattle.nfa_paths.specs.Common.{search_of}
+use Rattle.nfa_paths.proofs.Common.{arith, length, refl, sym, ◌∙◌, ◌≡◌}
 use Rattle.nfa_pikevm_scan.proofs.EndLemmas.{first-over}
 use Rattle.nfa_pikevm_scan.proofs.FrontierLemmas.{AreAt-turns}
-use Rattle.nfa_pikevm_scan.proofs.LoneLemmas.{Joined-first, Joined-start, MayCross-joined, ScansFirst-begin, ScansFirst-match, ScansFirst-miss, half-none}
-use Rattle.nfa_pikevm_scan.proofs.RoomLemmas.{HaveRows-kept, KeepsThreads-then, none_of}
+use Rattle.nfa_pikevm_scan.proofs.LoneLemmas.{Joined-first, Joined-start, MayCross-joined, ScansFirst-begin, ScansFirst-match, ScansFirst-miss}
+use Rattle.nfa_pikevm_scan.proofs.RoomLemmas.{HaveRows-kept, KeepsThreads-then, is_none_of, none_of}
+use Rattle.nfa_pikevm_scan.proofs.scan.scan_first.Goals.{else-is_some, else-is_some-2, then-is_some+else-is_empty, then-is_some-2}
 use Rattle.nfa_pikevm_scan.proofs.scan.scan_first.Goals as goal
-use Rattle.nfa_pikevm_scan.proofs.scan.scan_first.Goals.{then-is_some+else-is_empty, else-is_some, then-is_some-2, else-is_some-2}
 
 pub loop-to-init : goal.loop-to-init
 loop-to-init c =
@@ -20,7 +19,7 @@ loop-to-init c =
           c.half_at-found.result c.half_at-found.ensures (sym c.is_some.ensures ∙ w.if-is_some.true))
       | else-is_some w ↦
           let none = sym c.is_some.ensures ∙ w.if-is_some.false in
-          rw (w.limit-is, half-none c.half_at-found.result none)
+          rw (w.limit-is, is_none_of c.half_at-found.result none)
           (ScansFirst-miss (ScansFirst-begin ready) ready.starts joined gives.keeps gives.next gives.crosses
           c.half_at-found.result c.half_at-found.ensures none)
     ]
@@ -32,7 +31,7 @@ returns-then-is_empty-clause-turns c =
     let gives = c.nexts_of_start.ensures in
     let s = ScansFirst-match (ScansFirst-begin ready) ready.starts joined gives.keeps gives.next gives.crosses
     c.half_at-found.result c.half_at-found.ensures (sym c.is_some.ensures ∙ c.if-is_some.true) in
-    AreAt-turns c.args.nfa.now (search_of c.args.input.now) s.high ready.span s.states
+    AreAt-turns s.high ready.span s.states
 
 pub returns-then-is_empty-clause-answer : goal.returns-then-is_empty-clause-answer
 returns-then-is_empty-clause-answer c =
@@ -41,21 +40,19 @@ returns-then-is_empty-clause-answer c =
     let gives = c.nexts_of_start.ensures in
     let s = ScansFirst-match (ScansFirst-begin ready) ready.starts joined gives.keeps gives.next gives.crosses
     c.half_at-found.result c.half_at-found.ensures (sym c.is_some.ensures ∙ c.if-is_some.true) in
-    first-over c.args.nfa.now (search_of c.args.input.now) s.searches (omega arith)
+    first-over s.searches (omega arith)
     (none_of c.nexts_of_start.new.threads.curr.items (c.is_empty.ensures.0 c.if-is_empty.true))
     (sym c.nexts_of_start.auto.slots)
 
 pub returns-in_default-clause-turns : goal.returns-in_default-clause-turns
 returns-in_default-clause-turns c =
     let s = c.loop-to.invariant in
-    rw c.in_default.ensures.seen
-    (AreAt-turns c.args.nfa.now (search_of c.args.input.now) s.high c.requires.ready.span s.states)
+    rw c.in_default.ensures.seen (AreAt-turns s.high c.requires.ready.span s.states)
 
 pub returns-in_default-clause-answer : goal.returns-in_default-clause-answer
 returns-in_default-clause-answer c =
     rw c.in_default.ensures.seen
-    (first-over c.args.nfa.now (search_of c.args.input.now) c.loop-to.invariant.searches
-    (c.in_default.ensures.none refl) (c.in_default.ensures.over refl)
+    (first-over c.loop-to.invariant.searches (c.in_default.ensures.none refl) (c.in_default.ensures.over refl)
     (sym (c.loop-to.auto.slots ∙ c.nexts_of_start.auto.slots)))
 
 pub nexts-requires-clause-ready : goal.nexts-requires-clause-ready
@@ -68,10 +65,7 @@ nexts-requires-clause-ready c =
     (HaveRows-kept ready.room (KeepsThreads-then s.keeps c.in-Some.ensures.keeps)) (c.in-Some.ensures.next ∙ s.next))
 
 pub run_lone-last-requires-clause-room : goal.run_lone-last-requires-clause-room
-run_lone-last-requires-clause-room c =
-    let keeps = KeepsThreads-then c.in-Some.ensures.keeps c.nexts.ensures.keeps in
-    rw (c.nexts.auto.slots, c.loop-to.auto.slots, c.nexts_of_start.auto.slots)
-    (HaveRows-kept c.requires.ready.room (KeepsThreads-then c.loop-to.invariant.keeps keeps))
+run_lone-last-requires-clause-room c = grind (arith, KeepsThreads-then, HaveRows-kept)
 
 pub run_lone-last-requires-clause-first : goal.run_lone-last-requires-clause-first
 run_lone-last-requires-clause-first c =

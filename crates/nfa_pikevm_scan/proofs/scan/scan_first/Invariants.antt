@@ -1,7 +1,5 @@
 -- A scan that is leftmost first answers the first accepting path.
-use Rattle.std.proofs.Common.{◌-◌, ◌+◌, length}
-use Rattle.nfa_paths.specs.Common.{search_of}
-use Rattle.nfa_pikevm_scan.specs.Scans.{ScansFirst}
+use Rattle.nfa_pikevm_scan.proofs.Common.{ScansFirst, length, search_of, ◌+◌, ◌-◌}
 use Rattle.nfa_pikevm_scan.proofs.scan.scan_first.Given as goal
 
 abbrev pub invariant-loop-to : goal.invariant-loop-to

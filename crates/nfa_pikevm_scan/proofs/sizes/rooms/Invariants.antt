@@ -1,7 +1,5 @@
 -- The room of all states, or none if it exceeds the limit.
-use Rattle.std.proofs.Common.{◌≡◌, take, sum_by}
-use Rattle.nfa_paths.specs.Common.{node_of}
-use Rattle.nfa_pikevm_scan.specs.Needs.{room_of}
+use Rattle.nfa_pikevm_scan.proofs.Common.{node_of, room_of, sum_by, take, ◌≡◌}
 use Rattle.nfa_pikevm_scan.proofs.sizes.rooms.Given as goal
 
 abbrev pub invariant-loop-state : goal.invariant-loop-state

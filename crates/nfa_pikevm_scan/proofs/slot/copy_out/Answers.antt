@@ -1,7 +1,7 @@
 -- The slots are those of the row, and unset after it.
-use Rattle.std.proofs.Common.{◌≡◌, ◌∙◌, ◌++◌, ◌+◌, ◌-◌, suc, ap, take, length, replicate, slice_set, arith, None}
+use Rattle.nfa_paths.proofs.Common.{None, ap, arith, length, replicate, slice_set, suc, take, ◌++◌, ◌+◌, ◌-◌, ◌∙◌, ◌≡◌}
 use Rattle.std.proofs.Math.Seq.{take-length}
-use Rattle.nfa_pikevm_scan.proofs.SlotLemmas.{handed-more}
+use Rattle.nfa_pikevm_scan.proofs.RowLemmas.{handed-more}
 use Rattle.nfa_pikevm_scan.proofs.slot.copy_out.Goals as goal
 
 pub loop-i-preserved : goal.loop-i-preserved

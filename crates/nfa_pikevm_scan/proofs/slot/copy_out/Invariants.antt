@@ -1,5 +1,5 @@
 -- The slots are those of the row, and unset after it.
-use Rattle.std.proofs.Common.{◌≡◌, ◌++◌, ◌-◌, length, replicate, take, None}
+use Rattle.nfa_paths.proofs.Common.{None, length, replicate, take, ◌++◌, ◌-◌, ◌≡◌}
 use Rattle.nfa_pikevm_scan.proofs.slot.copy_out.Given as goal
 
 abbrev pub invariant-loop-i : goal.invariant-loop-i

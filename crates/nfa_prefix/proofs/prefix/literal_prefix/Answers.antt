@@ -1,8 +1,6 @@
 -- The moves of the states are taken one after another, until one is not the only one.
-use Rattle.std.proofs.Common.{◌≡◌, ◌∙◌, ◌+◌, ◌-◌, ◌<◌, [], ◌∷◌, ◌++◌, length, refl, sym, ap, subst, arith, List, ℕ, suc}
-use Rattle.std.proofs.lemmas.Grind.{common_steps}
+use Rattle.nfa_paths.proofs.Common.{◌≡◌, ◌∙◌, ◌+◌, ◌-◌, ◌<◌, [], ◌∷◌, ◌++◌, length, refl, sym, ap, subst, arith, List, ℕ, suc, common_steps, node_of}
 use Rattle.std.proofs.lemmas.Slice.{pushed}
-use Rattle.nfa_paths.specs.Common.{node_of}
 use Rattle.nfa_paths.proofs.StartLemmas.{node_at-get}
 use Rattle.nfa_prefix.specs.Prefixes.{BeginsWith, only_move}
 use Rattle.nfa_prefix.proofs.MoveLemmas.{IsCollected, collected-byte, collected-end, collected-full, collected-pass, collected-stop, move-below}

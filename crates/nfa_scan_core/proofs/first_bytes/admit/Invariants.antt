@@ -1,6 +1,5 @@
 -- The bytes so far are admitted.
-use Rattle.std.proofs.Common.{ℕ, ◌<◌, ◌≤◌}
-use Rattle.thompson_nfa.specs.Automaton.Node.{ByteRange}
+use Rattle.nfa_paths.proofs.Common.{ℕ, ◌<◌, ◌≤◌, ByteRange}
 use Rattle.nfa_scan_core.specs.FirstBytes.{Admits, Grows, GrowsBy}
 use Rattle.nfa_scan_core.proofs.first_bytes.admit.Given as goal
 

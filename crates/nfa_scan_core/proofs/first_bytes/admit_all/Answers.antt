@@ -1,6 +1,5 @@
 -- The bytes of each transition are admitted, and no others.
-use Rattle.std.proofs.Common.{◌<◌, length, arith}
-use Rattle.std.proofs.lemmas.Grind.{common_steps}
+use Rattle.nfa_paths.proofs.Common.{◌<◌, length, arith, common_steps}
 use Rattle.nfa_scan_core.proofs.FirstLemmas.{admits-first}
 use Rattle.nfa_scan_core.proofs.LeastLemmas.{GrowsBy-more, Reads-among}
 use Rattle.nfa_scan_core.proofs.first_bytes.admit_all.Goals as goal

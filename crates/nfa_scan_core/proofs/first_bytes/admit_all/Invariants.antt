@@ -1,8 +1,5 @@
 -- The bytes of the transitions so far are admitted.
-use Rattle.std.proofs.Common.{◌≡◌, ℕ, ◌<◌, get_or, true}
-use Rattle.thompson_nfa.specs.Automaton.Node.{Sparse}
-use Rattle.thompson_nfa.specs.declared.state.Transition.{Transition}
-use Rattle.nfa_paths.specs.Common.{holds_byte}
+use Rattle.nfa_paths.proofs.Common.{◌≡◌, ℕ, ◌<◌, get_or, true, Sparse, Transition, holds_byte}
 use Rattle.nfa_scan_core.specs.FirstBytes.{Admits, Grows, GrowsBy}
 use Rattle.nfa_scan_core.proofs.first_bytes.admit_all.Given as goal
 

@@ -1,7 +1,5 @@
 -- Each byte that has a target is admitted.
-use Rattle.std.proofs.Common.{arith, inl, inr, true}
-use Rattle.std.proofs.lemmas.Bool.{cases_lt}
-use Rattle.std.proofs.lemmas.List.{get_or_past}
+use Rattle.nfa_paths.proofs.Common.{arith, inl, inr, true, cases_lt, get_or_past}
 use Rattle.nfa_scan_core.proofs.first_bytes.admit_targets.Goals as goal
 
 pub returns-clause-admits : goal.returns-clause-admits

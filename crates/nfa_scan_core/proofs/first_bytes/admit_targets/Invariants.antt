@@ -1,7 +1,5 @@
 -- The bytes so far that have a target are admitted.
-use Rattle.std.proofs.Common.{◌≡◌, ℕ, ◌<◌, length, Some}
-use Rattle.thompson_nfa.specs.Automaton.Node.{Dense}
-use Rattle.nfa_paths.specs.Common.{target_on}
+use Rattle.nfa_paths.proofs.Common.{◌≡◌, ℕ, ◌<◌, length, Some, Dense, target_on}
 use Rattle.nfa_scan_core.specs.FirstBytes.{Admits, Grows, GrowsBy}
 use Rattle.nfa_scan_core.proofs.first_bytes.admit_targets.Given as goal
 

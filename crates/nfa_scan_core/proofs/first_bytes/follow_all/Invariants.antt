@@ -1,6 +1,5 @@
 -- The states so far are followed, and all that were reached are states of the NFA.
-use Rattle.std.proofs.Common.{ℕ, ◌-◌, ◌<◌, ◌≤◌, get_or, length}
-use Rattle.nfa_paths.specs.Common.{node_at}
+use Rattle.nfa_paths.proofs.Common.{ℕ, ◌-◌, ◌<◌, ◌≤◌, get_or, length, node_at}
 use Rattle.nfa_scan_core.specs.FirstBytes.{Admits, WasReached, AreBelow, Covers, Differ, IsRead, IsReachedAtStart}
 use Rattle.nfa_scan_core.proofs.first_bytes.follow_all.Given as goal
 

@@ -1,7 +1,5 @@
 -- The first position that is not skipped.
-use Rattle.std.proofs.Common.{◌≡◌, ◌≤◌, ◌<◌, length, get_or, arith, inl, inr}
-use Rattle.std.proofs.lemmas.Bool.{cases_lt}
-use Rattle.nfa_paths.specs.Common.{search_of}
+use Rattle.nfa_paths.proofs.Common.{◌≡◌, ◌≤◌, ◌<◌, length, get_or, arith, inl, inr, cases_lt, search_of}
 use Rattle.nfa_scan_core.specs.FirstBytes.{IsRefused}
 use Rattle.nfa_scan_core.proofs.FirstLemmas.{byte_at-inside}
 use Rattle.nfa_scan_core.proofs.starts.next_start.Goals as goal

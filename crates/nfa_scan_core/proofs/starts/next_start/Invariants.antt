@@ -1,6 +1,5 @@
 -- The positions so far are skipped.
-use Rattle.std.proofs.Common.{◌≡◌, ℕ, ◌+◌, ◌-◌, ◌<◌, ◌≤◌}
-use Rattle.nfa_paths.specs.Common.{search_of}
+use Rattle.nfa_paths.proofs.Common.{◌≡◌, ℕ, ◌+◌, ◌-◌, ◌<◌, ◌≤◌, search_of}
 use Rattle.nfa_scan_core.specs.FirstBytes.{IsRefused}
 use Rattle.nfa_scan_core.proofs.starts.next_start.Given as goal
 

@@ -1,6 +1,5 @@
 -- No transition so far holds the byte.
-use Rattle.std.proofs.Common.{◌≡◌, drop}
-use Rattle.nfa_paths.specs.Common.{first_target}
+use Rattle.nfa_paths.proofs.Common.{◌≡◌, drop, first_target}
 use Rattle.nfa_scan_core.proofs.transitions.first_target.Given as goal
 
 abbrev pub invariant-loop-trans : goal.invariant-loop-trans

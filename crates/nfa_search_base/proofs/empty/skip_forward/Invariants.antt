@@ -1,7 +1,6 @@
 -- A search is repeated, from one byte further on each time, until the answer counts.
-use Rattle.std.proofs.Common.{Some, Ok, ◌+◌, ◌-◌}
-use Rattle.nfa_paths.specs.Common.{search_of}
-use Rattle.nfa_search_base.specs.Skipping.{IsInSpan, start_raised}
+use Rattle.nfa_paths.proofs.Common.{Some, Ok, ◌+◌, ◌-◌, search_of}
+use Rattle.nfa_search_base.specs.Common.{IsInSpan, start_raised}
 use Rattle.nfa_search_base.proofs.SkipLemmas.{HasCome}
 use Rattle.nfa_search_base.proofs.empty.skip_forward.Given as goal
 

@@ -2,7 +2,6 @@
 use Rattle.std.proofs.Common.{◌≡◌, ◌∙◌, ◌<◌, ◌-◌, List, ap, arith, length, map, subst}
 use Rattle.std.proofs.lemmas.List.{length-map}
 use Rattle.regex_search_core.specs.Found.{found_of}
-use Rattle.regex_search_core.specs.Search.{search_of}
 use Rattle.regex_search_core.specs.declared.search.Match.{Match}
 use Rattle.nfa_compiler.proofs.CallLemmas.{bytes-of}
 use Rattle.nfa_meta.proofs.GapLemmas.{as-many, first-fewer, first-of}
@@ -16,7 +15,6 @@ returns-clause-meant c = λ pattern re hits of all.
     let r = c.args.regex.now in
     let text = c.args.haystack.now in
     let some : 0 < c.args.limit = omega arith in
-    let x = search_of c.new-2.result in
     let items = c.in_ok-matches.matches.items in
     let found = c.in_ok-matches.ensures in
     let same : length (map found_of items) ≡ length items = length-map items found_of in
@@ -25,15 +23,15 @@ returns-clause-meant c = λ pattern re hits of all.
     ∙ ap (gaps text 0) (first-are pattern re r text (bytes-of text (λ k. omega (arith, c.type_inv.haystack k))) of
     c.iterations_find_texts.ensures.matches c.iterations_of_strs_find_texts.ensures.matches
     c.str_hits_are_find_str.ensures.all (map found_of items) (c.args.limit - 1)
-    (first-of r text x c.new-2.ensures items found.first)
-    (as-many r text x c.new-2.ensures items (c.args.limit - 1) found.as_many) (omega (arith, same, found.few)) hits all)
+    (first-of r text c.new-2.ensures items found.first)
+    (as-many r text c.new-2.ensures items (c.args.limit - 1) found.as_many) (omega (arith, same, found.few)) hits all)
     ∙ first-by c.args.limit text hits some
 
 pub returns-clause-fields : goal.returns-clause-fields
 returns-clause-fields c = λ some.
     let items = c.in_ok-matches.matches.items in
     let found = c.in_ok-matches.ensures in
-    let firsts = first-fewer c.args.regex.now c.args.haystack.now _ c.new-2.ensures items c.args.limit some found.first
+    let firsts = first-fewer c.args.regex.now c.args.haystack.now c.new-2.ensures items c.args.limit some found.first
     found.as_many in
     record {
       matches = map found_of items;

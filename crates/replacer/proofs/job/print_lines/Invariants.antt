@@ -1,10 +1,9 @@
 -- The lines so far were printed.
 use Rattle.std.proofs.Common.{ℕ, List}
-use Rattle.regex_hir.specs.Re.{Re}
+use Rattle.nfa_compiler.specs.Common.{Re, PatternHit}
 use Rattle.nfa_engines.specs.Paths.{is_utf8_empty}
-use Rattle.nfa_compiler.specs.Patterns.{PatternHit}
 use Rattle.nfa_meta.specs.ChoiceState.{KeepsEngines}
-use Rattle.replacer.specs.Going.{HasWritten}
+use Rattle.replacer.specs.Printed.{HasWritten}
 use Rattle.replacer.specs.Hits.{AreHitsOf, SearchesFor, Sought}
 use Rattle.replacer.proofs.job.print_lines.Given as goal
 

@@ -1,13 +1,12 @@
 -- The captures are those of the first hits, by the laws on iterations.
-use Rattle.std.proofs.Common.{◌∙◌, List, All, ap, arith, map, subst, sym, None}
-use Rattle.regex_search_core.specs.Search.{Search, search_of, whole}
+use Rattle.std.proofs.Common.{◌∙◌, List, ap, arith}
+use Rattle.regex_search_core.specs.Search.{search_of, whole}
 use Rattle.regex_search_core.specs.Slots.{Captured}
-use Rattle.nfa_engines.specs.CapturesRuns.{CapturesInside, match_in}
-use Rattle.nfa_engines.specs.Lists.{AreDisjoint}
+use Rattle.nfa_engines.specs.Runs.{CapturesInside}
 use Rattle.nfa_compiler.proofs.CallLemmas.{bytes-of}
 use Rattle.nfa_meta.proofs.CaughtLemmas.{all-caught}
 use Rattle.replacer.specs.Hits.{captured_by}
-use Rattle.replacer.specs.Replaced.{limited}
+use Rattle.replacer.specs.Printed.{limited}
 use Rattle.replacer.proofs.LimitLemmas.{limited-all, limited-disjoint, limited-map}
 use Rattle.replacer.proofs.MeantLemmas.{caught-are}
 use Rattle.replacer.proofs.replace.captures_in.Goals as goal
@@ -17,8 +16,8 @@ returns-clause-meant c = λ pattern re hits of all.
     let r = c.args.regex.now in
     let text = c.args.haystack.now in
     let cs = c.in-Ok.caught.items in
-    let caught = all-caught r text (search_of c.new.result) c.new.ensures cs c.in-Ok.ensures.rows
-    c.in-Ok.ensures.groups in
+    let caught = all-caught r text (search_of c.new.result) c.new.ensures cs c.in-Ok.ensures.lists.rows
+    c.in-Ok.ensures.lists.groups in
     c.first_of.ensures
     ∙ ap (λ (l : List Captured). limited c.args.limit l)
     (caught-are pattern re r text (bytes-of text (λ k. omega (arith, c.type_inv.haystack k))) of
@@ -30,22 +29,16 @@ pub returns-clause-first : goal.returns-clause-first
 returns-clause-first c = record {
   all = c.in-Ok.caught.items;
   are = all-caught c.args.regex.now c.args.haystack.now (search_of c.new.result) c.new.ensures c.in-Ok.caught.items
-      c.in-Ok.ensures.rows c.in-Ok.ensures.groups;
+      c.in-Ok.ensures.lists.rows c.in-Ok.ensures.lists.groups;
   first = c.first_of.ensures;
 }
 
 pub returns-clause-inside : goal.returns-clause-inside
 returns-clause-inside c =
     let P = CapturesInside (whole c.args.haystack.now) in
-    let inside = subst (λ (x : Search). All (CapturesInside x) c.in-Ok.caught.items) c.new.ensures
-    c.in-Ok.ensures.inside in
-    subst (λ (cs : List Captured). All P cs) (sym c.first_of.ensures)
-    (limited-all P c.args.limit c.in-Ok.caught.items inside)
+    rw c.first_of.ensures (limited-all P c.args.limit c.in-Ok.caught.items (rw c.new.ensures at c.in-Ok.ensures.inside))
 
 pub returns-clause-apart : goal.returns-clause-apart
 returns-clause-apart c =
-    let x = whole c.args.haystack.now in
-    let apart = subst (λ (y : Search). AreDisjoint y None (map match_in c.in-Ok.caught.items)) c.new.ensures
-    c.in-Ok.ensures.disjoint in
-    subst (λ (cs : List Captured). AreDisjoint x None (map match_in cs)) (sym c.first_of.ensures)
-    (limited-disjoint x c.args.limit c.in-Ok.caught.items apart)
+    rw c.first_of.ensures (limited-disjoint (whole c.args.haystack.now) c.args.limit c.in-Ok.caught.items
+    (rw c.new.ensures at c.in-Ok.ensures.lists.disjoint))

@@ -3,9 +3,7 @@ use Rattle.std.proofs.Common.{◌≡◌, All, List, ℕ, subst, sym, take, take_
 use Rattle.std.specs.declared.alloc.Global.{Global}
 use Rattle.std.proofs.lemmas.List.Elements.{All-map, All-more, All-weaker}
 use Rattle.std.proofs.lemmas.Result.{IfOk-weaker}
-use Rattle.regex_hir.specs.Meaning.{meaning}
-use Rattle.regex_syntax.specs.declared.Parsed.{Parsed}
-use Rattle.nfa_compiler.specs.Compiled.{res_of}
+use Rattle.nfa_compiler.specs.Common.{meaning, Parsed, res_of}
 use Rattle.required_literal.specs.Required.{AreRequired, IsRequired}
 use Rattle.required_literal.proofs.PartLemmas.{required-part}
 use Rattle.required_literal.proofs.literal.required_literal.Goals as goal

@@ -1,7 +1,6 @@
 -- The bytes are in each match of the patterns so far.
 use Rattle.std.proofs.Common.{All, take}
-use Rattle.regex_hir.specs.Meaning.{meaning}
-use Rattle.regex_syntax.specs.declared.Parsed.{Parsed}
+use Rattle.nfa_compiler.specs.Common.{meaning, Parsed}
 use Rattle.required_literal.specs.Required.{IsRequired}
 use Rattle.required_literal.proofs.literal.required_literal.Given as goal
 

@@ -1,13 +1,9 @@
 -- The records that were passed were consumed.
 use Rattle.std.proofs.Common.{subst}
-use Rattle.std.specs.Io.BufRead.{DropsConsumable, FillKeeps}
+use Rattle.std.specs.Io.BufRead.{FillKeeps}
 use Rattle.std.proofs.BufReadLemmas.{Consumes_shown}
-use Rattle.text_lines.proofs.PassedLemmas.{passes, passes-none}
+use Rattle.text_lines.proofs.PassedLemmas.{passes}
 use Rattle.text_lines.proofs.passed.pass_records.Goals as goal
-
-pub returns-then-is_interrupted-clause-passed : goal.returns-then-is_interrupted-clause-passed
-returns-then-is_interrupted-clause-passed g c =
-    passes-none c.args.end c.args.bytes.now (g.R.Read.remaining c.args.input.now) _ c.fill_buf.follows.holds-at-none.0
 
 pub returns-clause-passed : goal.returns-clause-passed
 returns-clause-passed g c =

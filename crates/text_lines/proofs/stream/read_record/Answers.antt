@@ -1,6 +1,8 @@
 -- What the read gave is a record if it is of a byte at least.
-use Rattle.std.proofs.Common.{rules, ◌≡◌, ◌<◌, length}
-use Rattle.text_lines.proofs.LineLemmas.{no-record, none-after, takes-record}
+use Rattle.std.proofs.Common.{rules, ◌≡◌, ◌<◌, arith, length}
+use Rattle.std.proofs.lemmas.Grind.{common_steps}
+use Rattle.bstr.proofs.lemmas.RecordLemmas.{records-nil}
+use Rattle.text_lines.proofs.LineLemmas.{takes-record}
 use Rattle.text_lines.proofs.stream.read_record.Goals as goal
 
 pub returns-in-Ok-clause-taken : goal.returns-in-Ok-clause-taken
@@ -12,10 +14,5 @@ returns-in-Ok-clause-taken g c = λ read.
 pub returns-in-Ok-clause-ended : goal.returns-in-Ok-clause-ended
 returns-in-Ok-clause-ended g c = λ read.
     let none : c.in-Ok.len ≡ 0 = search rules in
-    no-record c.args.end (g.R.Read.remaining c.args.input.now) (c.in-Ok.ensures.end none)
-
-pub returns-in-Ok-clause-stays : goal.returns-in-Ok-clause-stays
-returns-in-Ok-clause-stays g c = λ read.
-    let none : c.in-Ok.len ≡ 0 = search rules in
-    none-after c.args.end (g.R.Read.remaining c.args.input.now) (g.R.Read.remaining c.read_until.new.self)
-    (c.in-Ok.ensures.end none) c.in-Ok.ensures.rest
+    let ends = c.in-Ok.ensures.end none in
+    grind (arith, common_steps, records-nil, ends)

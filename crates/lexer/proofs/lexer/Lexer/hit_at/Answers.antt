@@ -7,7 +7,7 @@ use Rattle.nfa_engines.specs.Paths.{IsFindAnswer}
 use Rattle.nfa_meta.specs.ChoiceState.{kind_in}
 use Rattle.nfa_compiler.specs.Compiled.{AreMeant}
 use Rattle.nfa_compiler.proofs.CallLemmas.{bytes-of}
-use Rattle.lexer.specs.Patterns.{rule_syntax}
+use Rattle.lexer.specs.Rules.{rule_syntax}
 use Rattle.lexer.specs.Tokens.{search_at}
 use Rattle.lexer.proofs.LexedLemmas.{hit-is, regex-kept}
 use Rattle.lexer.proofs.lexer.Lexer.hit_at.Goals as goal

@@ -1,10 +1,8 @@
 -- No token starts from the first place up to this one.
 use Rattle.std.proofs.Common.{◌≡◌, ◌-◌, List, length}
-use Rattle.regex_hir.specs.Re.{Re}
-use Rattle.nfa_compiler.specs.Compiled.{AreMeant}
-use Rattle.lexer.specs.Lexed.{token_there}
-use Rattle.lexer.specs.Patterns.{rule_syntax}
-use Rattle.lexer.specs.Recovered.{stretch_end}
+use Rattle.nfa_compiler.specs.Common.{Re, AreMeant}
+use Rattle.lexer.specs.Lexed.{stretch_end, token_there}
+use Rattle.lexer.specs.Rules.{rule_syntax}
 use Rattle.lexer.proofs.lexer.Lexer.next_token.Given as goal
 
 abbrev pub invariant-loop-at : goal.invariant-loop-at

@@ -1,5 +1,5 @@
 -- The position moves by a byte, and is no greater than the place.
-use Rattle.std.proofs.Common.{◌≡◌, ◌∙◌, ap, arith, get_or}
+use Rattle.std.proofs.Common.{◌∙◌, ap, arith, get_or}
 use Rattle.lexer.specs.Positions.{position_past}
 use Rattle.lexer.specs.declared.position.Position.{Position}
 use Rattle.lexer.proofs.PositionLemmas.{position-below, position-next}

@@ -1,6 +1,5 @@
 -- The groups have the names that the grammar reads in the text.
-use Rattle.std.proofs.Common.{◌∙◌, ℕ, List, [], ◌∷◌, ap, map, subst, sym}
-use Rattle.regex_search_core.specs.Groups.{groups_at}
+use Rattle.nfa_paths.proofs.Common.{◌∙◌, ℕ, List, [], ◌∷◌, ap, map, subst, sym, groups_at}
 use Rattle.log_extractor.specs.Fields.{IsLinePattern, group_of, line_syntax, named_groups}
 use Rattle.log_extractor.proofs.parser.Parser.columns.Goals as goal
 

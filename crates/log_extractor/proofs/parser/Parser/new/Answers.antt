@@ -1,9 +1,5 @@
 -- The columns are those of the NFA.
-use Rattle.std.proofs.Common.{rules, ◌≡◌, ◌∙◌, ap, true, false, arith, length, map, sym, None}
-use Rattle.std.proofs.lemmas.List.{length-map, length-replicate}
-use Rattle.std.proofs.lemmas.Result.{err_from_is_err_and}
-use Rattle.regex_search_core.specs.Groups.{slot_count}
-use Rattle.regex_search_core.specs.Slots.{Captured}
+use Rattle.nfa_paths.proofs.Common.{rules, ◌≡◌, ◌∙◌, ap, true, false, arith, length, map, sym, None, length-map, length-replicate, err_from_is_err_and, slot_count, Captured}
 use Rattle.log_extractor.specs.Fields.{group_of}
 use Rattle.log_extractor.proofs.NameLemmas.{compiled-columns, empty-columns}
 use Rattle.log_extractor.proofs.parser.Parser.new.Goals as goal

@@ -1,10 +1,6 @@
 -- The laws, of these captures.
-use Rattle.std.proofs.Common.{◌∙◌, ℕ, List, [], ◌∷◌, ap, arith, map, refl, subst, sym, Option, option_map}
-use Rattle.regex_search_core.specs.Groups.{groups_at}
-use Rattle.regex_search_core.specs.Search.{Search, whole}
-use Rattle.regex_search_core.specs.Slots.{group_span}
-use Rattle.nfa_compiler.specs.Laws.{hit}
-use Rattle.nfa_compiler.specs.Patterns.{slots_of}
+use Rattle.nfa_paths.proofs.Common.{◌∙◌, ℕ, List, [], ◌∷◌, ap, arith, map, refl, subst, sym, Option, option_map, groups_at, Search, whole, group_span}
+use Rattle.nfa_compiler.specs.Common.{hit, slots_of}
 use Rattle.nfa_compiler.proofs.CallLemmas.{bytes-of}
 use Rattle.log_extractor.specs.Fields.{IsLinePattern, NamedGroup, cut, group_of, line_syntax, named_groups}
 use Rattle.log_extractor.proofs.FieldLemmas.{of-groups, regex-kept, row-is}
@@ -15,8 +11,8 @@ invariant_of-self c =
     let inv = c.self.invariant in
     let kept = c.search.ensures.keeps in (
       regex-kept c.self.inside.pattern.now c.self.inside.regex c.search.new.self inv.0 kept,
-      rw kept.nfa (c.search.ensures.groups ∙ inv.1),
-      rw kept.nfa (c.search.ensures.count ∙ inv.2),
+      rw kept.nfa (c.search.ensures.fills.groups ∙ inv.1),
+      rw kept.nfa (c.search.ensures.fills.count ∙ inv.2),
       rw kept.nfa inv.3,
     )
 
@@ -27,6 +23,7 @@ returns-clause-fields c = λ p is.
     let of = inv.0 in
     let nfa = c.self.inside.regex.nfa in
     let captures = c.search.new.captures in
+    let fills = c.search.ensures.fills in
     let bytes = bytes-of line (λ k. omega (arith, c.type_inv.line k)) in
     let inside = subst (λ (text : List ℕ). IsLinePattern text p) (sym c.self.view_is) is in
     let groups = c.groups_are_those_of_texts.ensures.names line_syntax _ (p.names ∷ []) nfa of.compiled
@@ -45,6 +42,6 @@ returns-clause-fields c = λ p is.
     (inv.3 ∙ ap (λ gs. named_groups 1 (groups_at gs 0)) groups) in
     c.in_ok-fields.ensures
     ∙ ap (λ fs. option_map (λ (k : ℕ). fs) captures.pattern) fields
-    ∙ row-is p nfa line captures of.bound groups (c.search.ensures.groups ∙ inv.1) hits.0
-    (hits.1 ∙ ap (λ n. slots_of nfa.groups n (hit (p.tree ∷ []) nfa (whole line))) (c.search.ensures.count ∙ inv.2))
+    ∙ row-is p nfa line captures of.bound groups (fills.groups ∙ inv.1) hits.0
+    (hits.1 ∙ ap (λ n. slots_of nfa.groups n (hit (p.tree ∷ []) nfa (whole line))) (fills.count ∙ inv.2))
     c.groups_are_those_of_texts.ensures.spans

@@ -1,8 +1,5 @@
 -- The match of a search, its pattern, and its span.
-use Rattle.std.proofs.Common.{false, ◌≡◌, ◌∙◌, ◌*◌, ap, arith, length}
-use Rattle.std.proofs.lemmas.List.{length-take}
-use Rattle.nfa_paths.specs.Common.{search_of, IsAutomaton}
-use Rattle.regex_search_core.specs.declared.search.MatchKind.TheVariants.{LeftmostFirst}
+use Rattle.nfa_paths.proofs.Common.{false, ◌≡◌, ◌∙◌, ◌*◌, ap, arith, length, length-take, search_of, IsAutomaton, LeftmostFirst}
 use Rattle.nfa_paths.proofs.RestartLemmas.{match-some}
 use Rattle.nfa_search_base.proofs.CallerLemmas.{inside-of, pattern-of}
 use Rattle.nfa_backtrack.specs.Backtrack.{Backtracker}
@@ -30,8 +27,4 @@ returns-clause-inside c = inside-of c.args.self.now.nfa LeftmostFirst false (sea
     c.from_slots.result (returns-clause-answer c)
 
 pub returns-clause-pattern : goal.returns-clause-pattern
-returns-clause-pattern c =
-    let same = ap (λ (e : Backtracker). e.nfa) c.self.view_is in
-    let valid : IsAutomaton c.args.self.now.nfa = rw (← same) c.group_info.ensures.valid in
-    pattern-of c.args.self.now.nfa LeftmostFirst false (search_of c.args.input.now) valid c.from_slots.result
-    (returns-clause-answer c)
+returns-clause-pattern c = grind (arith, pattern-of, returns-clause-answer)

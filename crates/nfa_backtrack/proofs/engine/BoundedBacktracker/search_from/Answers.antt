@@ -1,6 +1,5 @@
 -- A search that scans again while its answer ends inside a codepoint: what holds at each scan, and the result.
-use Rattle.std.proofs.Common.{◌∙◌, ◌+◌, ◌≤◌, ap, arith, refl, replicate, sym, None}
-use Rattle.nfa_paths.specs.Common.{Search, search_of}
+use Rattle.nfa_paths.proofs.Common.{◌∙◌, ◌+◌, ap, arith, refl, replicate, sym, None, Search}
 use Rattle.nfa_paths.proofs.RestartLemmas.{bounded, discarded, restarted, restarts-begin, scan-start, settled-none, settled-some, splits, start-left}
 use Rattle.nfa_backtrack_scan.proofs.ScanLemmas.{room-after}
 use Rattle.nfa_backtrack.proofs.engine.BoundedBacktracker.search_from.Goals as goal
@@ -10,8 +9,7 @@ loop-half-init c = record { restarts = rw c.requires.counted (restarts-begin c.r
 
 pub scan-requires : goal.scan-requires
 scan-requires c =
-    room-after c.args.self.now.nfa (search_of c.args.input.now) _ _ _ _ c.loop-half.invariant.size
-    c.loop-half.invariant.restarts.is c.requires.room
+    let begun = c.loop-half.invariant.restarts.is in grind (arith, room-after, c.requires.room, begun)
 
 -- ---- the scan is refused, or finds nothing
 
@@ -58,10 +56,7 @@ returns-then-is_anchored-clause-answer c =
     (c.unset.ensures ∙ ap (λ n. replicate n None) (sym c.unset.auto.slots))
 
 pub set_start-requires : goal.set_start-requires
-set_start-requires c =
-    let left : (search_of c.loop-half.search).start ≤ (search_of c.loop-half.search).end =
-    start-left c.loop-half.invariant.restarts (rw c.in-Some.is at c.in_ok-half.ensures.answer) in
-    omega (arith, c.start-next.ensures)
+set_start-requires c = grind (arith, start-left)
 
 pub loop-half-preserved : goal.loop-half-preserved
 loop-half-preserved c =

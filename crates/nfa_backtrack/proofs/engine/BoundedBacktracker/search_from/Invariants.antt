@@ -1,8 +1,5 @@
 -- What holds at each scan of a search.
-use Rattle.std.proofs.Common.{◌≡◌, ◌+◌, ◌-◌, length, false}
-use Rattle.nfa_paths.specs.Common.{search_of}
-use Rattle.regex_search_core.specs.declared.search.MatchKind.TheVariants.{LeftmostFirst}
-use Rattle.nfa_paths.specs.Restarts.{Restarts}
+use Rattle.nfa_paths.proofs.Common.{◌≡◌, ◌+◌, ◌-◌, length, false, search_of, LeftmostFirst, Restarts}
 use Rattle.nfa_backtrack.proofs.engine.BoundedBacktracker.search_from.Given as goal
 
 abbrev pub invariant-loop-half : goal.invariant-loop-half

@@ -1,6 +1,5 @@
 -- The iterator gives the captures of its input.
-use Rattle.std.proofs.Common.{refl}
-use Rattle.nfa_paths.specs.Common.{search_of}
+use Rattle.nfa_paths.proofs.Common.{refl, search_of}
 use Rattle.nfa_backtrack.proofs.CapturesLemmas.{captures-are-given, captures-refused, captures-by-searches}
 use Rattle.nfa_backtrack.proofs.engine.BoundedBacktracker.try_captures_iter_with.Goals as goal
 

@@ -1,8 +1,6 @@
 -- The matches are inside the span. An item that is an error is `HaystackTooLong` or `Memory`.
-use Rattle.std.proofs.Common.{rules, false, map, None, subst, sym}
-use Rattle.nfa_paths.specs.Common.{found_of, search_of}
-use Rattle.regex_search_core.specs.declared.search.MatchKind.TheVariants.{LeftmostFirst}
-use Rattle.nfa_search_base.specs.Lists.{AreFirstMatches}
+use Rattle.nfa_paths.proofs.Common.{rules, false, map, None, subst, sym, found_of, search_of, LeftmostFirst}
+use Rattle.nfa_search_base.specs.Common.{AreFirstMatches}
 use Rattle.nfa_search_base.proofs.ListLemmas.{matches-disjoint}
 use Rattle.nfa_search_base.proofs.MatchRunLemmas.{all-inside}
 use Rattle.nfa_backtrack.specs.Finding.{AnswersByLength}

@@ -1,12 +1,13 @@
 -- The pattern and the end are those of the answer.
-use Rattle.nfa_paths.specs.Common.{search_of}
-use Rattle.nfa_backtrack.proofs.EngineLemmas.{half-inside, half-of-search}
+use Rattle.nfa_paths.proofs.Common.{false, IfOk-weaker, search_of, LeftmostFirst}
+use Rattle.nfa_paths.proofs.RestartLemmas.{half-of}
+use Rattle.nfa_search_base.proofs.CallerLemmas.{half-lies}
 use Rattle.nfa_backtrack.proofs.engine.BoundedBacktracker.try_find_half.Goals as goal
 
 pub returns-clause-answer : goal.returns-clause-answer
-returns-clause-answer c = half-of-search c.args.self.now.nfa (search_of c.args.input) _ _ _ c.search_counted.result
-    c.search_counted.ensures.answer
+returns-clause-answer c =
+    IfOk-weaker c.search_counted.result _ _ (λ half s. half-of s) c.search_counted.ensures.answer
 
 pub returns-clause-inside : goal.returns-clause-inside
-returns-clause-inside c =
-    half-inside c.args.self.now.nfa (search_of c.args.input) c.search_counted.result (returns-clause-answer c)
+returns-clause-inside c = IfOk-weaker c.search_counted.result _ _
+    (half-lies c.args.self.now.nfa LeftmostFirst false (search_of c.args.input)) (returns-clause-answer c)

@@ -1,8 +1,7 @@
 -- The iterator gives the items of its input.
-use Rattle.std.proofs.Common.{refl}
-use Rattle.nfa_paths.specs.Common.{search_of}
+use Rattle.nfa_paths.proofs.Common.{refl, search_of}
 use Rattle.nfa_backtrack.proofs.FindLemmas.{finds-searches}
-use Rattle.nfa_backtrack.proofs.RunLemmas.{finds-given, runs-match, runs-inside, runs-disjoint, runs-refused, gives-first-matches, gives-matches, gives-next-match, gives-by-length, ends-by-length}
+use Rattle.nfa_backtrack.proofs.RunLemmas.{finds-given, oks-match, runs-inside, runs-disjoint, runs-refused, gives-by-length, ends-by-length}
 use Rattle.nfa_backtrack.proofs.engine.BoundedBacktracker.try_find_iter.Goals as goal
 
 pub returns : goal.returns
@@ -11,6 +10,7 @@ returns c =
     let x = search_of c.args.input in
     let iter_state = c.new.ensures in
     let given = finds-given e x _ refl iter_state refl in
+    let match = oks-match e x _ refl iter_state refl in
     record {
       same_reference = refl;
       same_cache = refl;
@@ -19,15 +19,15 @@ returns c =
       going = refl;
       known = refl;
       runs = given.run;
-      matches = runs-match e x _ refl iter_state refl;
+      matches = match.run;
       inside = runs-inside e x _ refl iter_state refl;
       disjoint = runs-disjoint e x _ refl iter_state refl;
       refused = runs-refused e x _ refl iter_state refl;
       first = given.first;
-      first_matches = gives-first-matches e x _ refl iter_state refl;
+      first_matches = match.first;
       next = given.next;
-      next_match = gives-next-match e x _ refl iter_state refl;
-      all_matches = gives-matches e x _ refl iter_state refl;
+      next_match = match.next;
+      all_matches = match.all;
       by_length = gives-by-length e x _ refl iter_state refl;
       end = ends-by-length e x _ refl iter_state refl;
       searches = finds-searches e x _ refl iter_state refl refl;

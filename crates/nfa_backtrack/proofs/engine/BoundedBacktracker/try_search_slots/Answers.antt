@@ -1,7 +1,5 @@
 -- The pattern and the slots of a search, which are inside its span.
-use Rattle.std.proofs.Common.{false}
-use Rattle.nfa_paths.specs.Common.{search_of}
-use Rattle.regex_search_core.specs.declared.search.MatchKind.TheVariants.{LeftmostFirst}
+use Rattle.nfa_paths.proofs.Common.{false, search_of, LeftmostFirst}
 use Rattle.nfa_paths.proofs.InsideLemmas.{slots-within}
 use Rattle.nfa_paths.proofs.RestartLemmas.{answer-of}
 use Rattle.nfa_search_base.proofs.CallerLemmas.{slots-none_of}

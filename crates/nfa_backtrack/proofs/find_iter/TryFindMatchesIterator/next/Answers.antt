@@ -1,5 +1,5 @@
 -- A step may be made, and leaves what the iterator keeps.
-use Rattle.nfa_search_base.specs.WithCache.{with_cache}
+use Rattle.nfa_search_base.specs.Stored.{with_cache}
 use Rattle.nfa_backtrack.proofs.FindLemmas.{find-serves, step-goes}
 use Rattle.nfa_backtrack.proofs.find_iter.TryFindMatchesIterator.next.Goals as goal
 

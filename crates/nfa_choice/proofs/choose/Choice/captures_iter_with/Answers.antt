@@ -1,28 +1,22 @@
 -- The iterator gives the captures of its input, and keeps the choice.
-use Rattle.std.proofs.Common.{refl}
-use Rattle.nfa_paths.specs.Common.{search_of}
-use Rattle.nfa_choice.specs.CapturesMatches.{choice_captures_steps}
+use Rattle.nfa_paths.proofs.Common.{refl, search_of}
+use Rattle.nfa_choice.specs.Iterations.{choice_captures}
 use Rattle.nfa_choice.specs.ChoiceState.{SearchedByRule}
 use Rattle.nfa_choice.proofs.CapturesLemmas.{captures-are-given, captures-stay-kept, captures-take-memory, captures-by-searches}
 use Rattle.nfa_choice.proofs.choose.Choice.captures_iter_with.Goals as goal
 
-pub returns-clause-given : goal.returns-clause-given
-returns-clause-given c =
-    captures-are-given SearchedByRule choice_captures_steps (search_of c.args.input) _ c.new.ensures refl c.requires
-
-pub returns-clause-inside : goal.returns-clause-inside
-returns-clause-inside c =
-    let given =
-    captures-are-given SearchedByRule choice_captures_steps (search_of c.args.input) _ c.new.ensures refl c.requires in
-    given.inside
-
-pub returns-clause-errors : goal.returns-clause-errors
-returns-clause-errors c =
-    captures-take-memory SearchedByRule choice_captures_steps (search_of c.args.input) _ c.new.ensures refl
-
-pub returns-clause-searches : goal.returns-clause-searches
-returns-clause-searches c =
-    captures-by-searches SearchedByRule choice_captures_steps (search_of c.args.input) _ c.new.ensures refl
-
-pub returns-clause-keeps : goal.returns-clause-keeps
-returns-clause-keeps c = captures-stay-kept SearchedByRule choice_captures_steps _
+pub returns : goal.returns
+returns c =
+    let x = search_of c.args.input in
+    let given = captures-are-given SearchedByRule choice_captures x _ c.new.ensures refl c.requires in
+    record {
+      same_reference = refl;
+      same_choice = refl;
+      iter_state = c.new.ensures;
+      going = refl;
+      given = given;
+      inside = given.inside;
+      errors = captures-take-memory SearchedByRule choice_captures x _ c.new.ensures refl;
+      searches = captures-by-searches SearchedByRule choice_captures x _ c.new.ensures refl;
+      keeps = captures-stay-kept SearchedByRule choice_captures _;
+    }

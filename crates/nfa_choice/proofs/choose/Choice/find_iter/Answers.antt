@@ -1,7 +1,6 @@
 -- The iterator gives the matches of its input, and keeps the choice.
-use Rattle.std.proofs.Common.{refl}
-use Rattle.nfa_paths.specs.Common.{search_of}
-use Rattle.nfa_choice.specs.Matches.{choice_matches}
+use Rattle.nfa_paths.proofs.Common.{refl, search_of}
+use Rattle.nfa_choice.specs.Iterations.{choice_matches}
 use Rattle.nfa_choice.proofs.FindLemmas.{finds-given, finds-kept, finds-on, finds-to_end, rule_finder}
 use Rattle.nfa_choice.proofs.choose.Choice.find_iter.Goals as goal
 

@@ -1,7 +1,6 @@
 -- the states so far are those of the pattern's NFA, moved
-use Rattle.std.proofs.Common.{map}
-use Rattle.nfa_paths.specs.Common.{node_of}
-use Rattle.nfa_compiler.specs.Added.{HoldsStates}
+use Rattle.nfa_paths.proofs.Common.{map, node_of}
+use Rattle.nfa_compiler.specs.Common.{HoldsStates}
 use Rattle.nfa_compiler.proofs.block.Site.add_states.Given as goal
 
 abbrev pub invariant-loop-id : goal.invariant-loop-id

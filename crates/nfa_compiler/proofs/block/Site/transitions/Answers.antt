@@ -1,7 +1,5 @@
 -- one more transition is moved
-use Rattle.std.proofs.Common.{arith, ◌<◌}
-use Rattle.std.proofs.lemmas.Grind.{common_steps}
-use Rattle.std.proofs.lemmas.List.Elements.{All-more}
+use Rattle.nfa_paths.proofs.Common.{arith, ◌<◌, common_steps, All-more}
 use Rattle.nfa_compiler.proofs.block.Site.transitions.Goals as goal
 
 pub loop-transition-preserved : goal.loop-transition-preserved

@@ -1,7 +1,6 @@
 -- the pattern's own NFA is at the site
 use Rattle.std.proofs.Common.{arith, refl}
-use Rattle.nfa_compiler.proofs.AddLemmas.{nodes-length}
-use Rattle.nfa_compiler.proofs.RangeLemmas.{pattern-in-range}
+use Rattle.nfa_compiler.proofs.AddLemmas.{nodes-length, pattern-in-range}
 use Rattle.nfa_compiler.proofs.compiler.Compiler.add_pattern.Goals as goal
 
 pub returns-clause-made : goal.returns-clause-made

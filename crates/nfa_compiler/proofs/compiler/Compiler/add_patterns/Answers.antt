@@ -1,13 +1,8 @@
 -- one more pattern is there
-use Rattle.std.proofs.Common.{◌+◌, ◌∙◌, ap, arith, length, map, rules, subst, sym, vec_len}
-use Rattle.std.proofs.lemmas.List.{length_push}
-use Rattle.nfa_paths.specs.Common.{node_of}
-use Rattle.nfa_compiler.specs.Compiled.{res_of}
-use Rattle.nfa_compiler.specs.Rejected.{NamesPattern}
-use Rattle.nfa_compiler.specs.Added.{AreInRange}
+use Rattle.nfa_paths.proofs.Common.{◌+◌, ◌∙◌, ap, arith, length, map, rules, subst, sym, vec_len, length_push, node_of}
+use Rattle.nfa_compiler.specs.Common.{res_of, NamesPattern, AreInRange}
 use Rattle.nfa_compiler.proofs.AddLemmas.{adds-length, nodes-length}
-use Rattle.nfa_compiler.proofs.CompiledLemmas.{made-more, inside-more, slots-more}
-use Rattle.nfa_compiler.proofs.ErrorLemmas.{fit-all, fit-more, named-at}
+use Rattle.nfa_compiler.proofs.CompiledLemmas.{made-more, inside-more, slots-more, fit-all, fit-more, named-at}
 use Rattle.nfa_compiler.proofs.compiler.Compiler.add_patterns.Goals as goal
 
 pub loop-index-preserved : goal.loop-index-preserved

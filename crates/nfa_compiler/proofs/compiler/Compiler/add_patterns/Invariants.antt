@@ -1,10 +1,6 @@
 -- the patterns so far are at their starts
-use Rattle.std.proofs.Common.{◌≡◌, ℕ, ◌<◌, map, length, vec_len, All, slice_index_or}
-use Rattle.regex_hir.specs.Re.{empty}
-use Rattle.nfa_paths.specs.Common.{node_of}
-use Rattle.nfa_compiler.specs.Added.{AreInRange}
-use Rattle.nfa_compiler.specs.Rejected.{FitsIn}
-use Rattle.nfa_compiler.specs.Compiled.{ArePatterns, first_slot, groups_of, res_of}
+use Rattle.nfa_paths.proofs.Common.{◌≡◌, ℕ, ◌<◌, map, length, vec_len, All, slice_index_or, node_of}
+use Rattle.nfa_compiler.specs.Common.{empty, AreInRange, FitsIn, ArePatterns, first_slot, groups_of, res_of}
 use Rattle.nfa_compiler.proofs.compiler.Compiler.add_patterns.Given as goal
 
 abbrev pub invariant-loop-index : goal.invariant-loop-index

@@ -1,9 +1,6 @@
 -- the list of the one pattern
-use Rattle.std.proofs.Common.{List, subst, All, IfOk, ◌≡◌, ◌==◌, ◌||◌}
-use Rattle.regex_syntax.specs.declared.Parsed.{Parsed}
-use Rattle.nfa_compiler.specs.Compiled.{res_of}
-use Rattle.nfa_compiler.specs.Loops.{all_begin_at_start}
-use Rattle.nfa_compiler.specs.Rejected.{FitsIn}
+use Rattle.nfa_paths.proofs.Common.{List, subst, All, IfOk, ◌≡◌, ◌==◌, ◌||◌}
+use Rattle.nfa_compiler.specs.Common.{Parsed, res_of, all_begin_at_start, FitsIn}
 use Rattle.nfa_compiler.proofs.compiler.Compiler.build_from_hir.Goals as goal
 
 pub returns-clause-fits : goal.returns-clause-fits

@@ -1,24 +1,20 @@
 -- what was made of the patterns is the NFA
-use Rattle.std.proofs.Common.{◌≡◌, ◌∙◌, ◌<◌, ℕ, Bool, true, false, inl, inr, ap, arith, eq-eqb, ne_eqb, refl, subst, sym, All, ◌==◌}
-use Rattle.std.proofs.lemmas.Bool.{and_right, cases_Bool}
-use Rattle.nfa_paths.specs.Common.{Automaton}
-use Rattle.nfa_compiler.specs.Compiled.{res_of}
-use Rattle.nfa_compiler.specs.Loops.{all_begin_at_start}
-use Rattle.nfa_compiler.proofs.AddLemmas.{nodes-length}
+use Rattle.nfa_paths.proofs.Common.{◌≡◌, ◌∙◌, ◌<◌, ℕ, Bool, true, false, inl, inr, ap, arith, refl, subst, sym, All, ◌==◌, and_right, cases_Bool, nat_tests, Automaton}
+use Rattle.nfa_compiler.specs.Common.{IsNfaOf, res_of, all_begin_at_start}
+use Rattle.nfa_compiler.proofs.AddLemmas.{nodes-length, built-valid}
 use Rattle.nfa_compiler.proofs.CompiledLemmas.{nfa-made}
 use Rattle.thompson_nfa.proofs.FlawLemmas.{no-flaw}
-use Rattle.nfa_compiler.proofs.RangeLemmas.{built-valid}
 use Rattle.nfa_compiler.proofs.UnboundLemmas.{only-at-start}
 use Rattle.nfa_compiler.proofs.compiler.Compiler.build_many_from_hir.Goals as goal
 
 pub returns-clause-made : goal.returns-clause-made
 returns-clause-made c =
-    nfa-made _ _ _ c.args.patterns.now c.in_ok-starts.starts.items c.in_ok-anchored.anchored _ _ _ _ _
-    c.in_ok-starts.ensures.count c.in_ok-groups.ensures.groups c.in_ok-starts.ensures.made
-    c.in_ok-anchored.ensures.added
+    subst (IsNfaOf (res_of c.args.patterns.now)) (sym c.in-Ok.ensures.1)
+    (nfa-made _ _ c.args.patterns.now _ c.in_ok-starts.ensures.count c.in_ok-groups.ensures.groups
+    c.in_ok-starts.ensures.made c.in_ok-anchored.ensures.added
     (rw c.deref.ensures.value at c.in_ok-anchored.ensures.chooses)
     (omega (arith, c.in_ok-anchored.ensures.within, nodes-length c.choice.new.states))
-    c.in_ok-unanchored.ensures.added c.in-Ok.ensures.1
+    c.in_ok-unanchored.ensures.added)
 
 pub returns-clause-anywhere : goal.returns-clause-anywhere
 returns-clause-anywhere c =
@@ -28,18 +24,7 @@ returns-clause-anywhere c =
 bound-is : (nfa made : Automaton) (count : ℕ) (b : Bool) → nfa ≡ made → made.anchored < count
     → (b ≡ true → made.unanchored ≡ made.anchored) → (b ≡ false → made.unanchored ≡ count)
     → (nfa.anchored == nfa.unanchored) ≡ b
-bound-is nfa made count true e less same past =
-    eq-eqb nfa.anchored nfa.unanchored
-    (ap (λ (n : Automaton). n.anchored) e ∙ sym (same refl) ∙ sym (ap (λ (n : Automaton). n.unanchored) e))
-bound-is nfa made count false e less same past =
-    ne_eqb nfa.anchored nfa.unanchored (λ one. omega (
-      arith,
-      ap (λ (n : Automaton). n.anchored) e,
-      ap (λ (n : Automaton). n.unanchored) e,
-      past refl,
-      less,
-      one,
-    ))
+bound-is nfa made count b e less same past = grind (arith, nat_tests)
 
 pub returns-clause-bound : goal.returns-clause-bound
 returns-clause-bound c =
@@ -55,11 +40,18 @@ returns-clause-free c = λ off. elim (cases_Bool (all_begin_at_start (res_of c.a
 
 pub unreachable-requires : goal.unreachable-requires
 unreachable-requires c =
-    no-flaw _ c.in-Err.ensures.0
-    (built-valid _ _ _ c.args.patterns.now c.in_ok-starts.starts.items c.in_ok-anchored.anchored _ _ false false
-    c.in_ok-groups.ensures.groups c.in_ok-starts.ensures.count c.in_ok-starts.ensures.range
-    c.in_ok-anchored.ensures.range
-    c.in_ok-unanchored.ensures.range c.in_ok-anchored.ensures.added c.in_ok-unanchored.ensures.added
+    no-flaw (record {
+      states = _;
+      anchored = _;
+      unanchored = _;
+      patterns = _;
+      groups = _;
+      has_empty = false;
+      utf8 = false;
+    }) c.in-Err.ensures.0
+    (built-valid _ _ c.args.patterns.now _ c.in_ok-groups.ensures.groups c.in_ok-starts.ensures.count
+    c.in_ok-starts.ensures.range c.in_ok-anchored.ensures.range c.in_ok-unanchored.ensures.range
+    c.in_ok-anchored.ensures.added c.in_ok-unanchored.ensures.added
     (subst (λ n. All (λ s. s < n) c.in_ok-starts.starts.items) (nodes-length c.add_patterns.new.states)
     c.in_ok-starts.ensures.inside)
     (omega (arith, c.in_ok-anchored.ensures.within, nodes-length c.choice.new.states))

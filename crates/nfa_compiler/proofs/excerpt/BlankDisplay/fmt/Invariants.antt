@@ -1,8 +1,7 @@
 -- the blanks so far
-use Rattle.std.proofs.Common.{take}
+use Rattle.nfa_paths.proofs.Common.{take, flat_map}
 use Rattle.std.specs.Fmt.{HasWritten, IsPlainFormatter}
-use Rattle.std.specs.List.{flat_map}
-use Rattle.nfa_compiler.specs.Excerpts.{blank_byte}
+use Rattle.nfa_compiler.specs.Common.{blank_byte}
 use Rattle.nfa_compiler.proofs.excerpt.BlankDisplay.fmt.Given as goal
 
 abbrev pub invariant-loop-byte : goal.invariant-loop-byte

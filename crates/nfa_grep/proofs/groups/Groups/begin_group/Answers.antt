@@ -1,10 +1,9 @@
 -- The lines that are kept are printed before the line.
-use Rattle.std.proofs.Common.{◌≡◌, ◌∙◌, ℕ, ◌++◌, List, [], ap, false, map, sym, true}
-use Rattle.std.specs.List.{flat_map}
+use Rattle.nfa_paths.proofs.Common.{◌≡◌, ◌∙◌, ℕ, ◌++◌, List, [], ap, false, map, sym, true, flat_map}
 use Rattle.std.specs.Vec.{vec_items}
 use Rattle.std.proofs.lemmas.List.Folds.{flat_map-map}
 use Rattle.nfa_grep.specs.Going.{kept_items, kept_texts}
-use Rattle.nfa_grep.specs.Grouped.{between, grouped}
+use Rattle.nfa_grep.specs.Printed.{between, grouped}
 use Rattle.nfa_grep.proofs.GroupedLemmas.{begins, begun}
 use Rattle.nfa_grep.proofs.groups.Groups.begin_group.Goals as goal
 

@@ -1,11 +1,8 @@
 -- The line is printed because of one before it, or it is not printed.
-use Rattle.std.proofs.Common.{◌≡◌, ◌∙◌, ◌-◌, ◌<◌, ◌++◌, inl, inr, ap, arith, false, sym, true}
-use Rattle.std.proofs.lemmas.Bool.{cases_Bool}
-use Rattle.std.proofs.lemmas.Result.{on_ok_weaker}
+use Rattle.nfa_paths.proofs.Common.{◌≡◌, ◌∙◌, ◌-◌, ◌<◌, ◌++◌, [], ◌∷◌, refl, inl, inr, ap, arith, false, sym, true, cases_Bool, All-cons, All-nil, on_ok_weaker}
 use Rattle.nfa_grep.specs.Going.{kept_items, kept_texts}
-use Rattle.nfa_grep.specs.Grouped.{grouped}
-use Rattle.nfa_grep.specs.Printed.{item_of, shown}
-use Rattle.nfa_grep.proofs.GroupedLemmas.{goes-on, passes}
+use Rattle.nfa_grep.specs.Printed.{Item, grouped, item_of, shown}
+use Rattle.nfa_grep.proofs.GroupedLemmas.{goes-on, passes-all}
 use Rattle.nfa_grep.proofs.groups.Groups.pass.Goals as goal
 
 pub returns-then-self-gt0-clause-printed : goal.returns-then-self-gt0-clause-printed
@@ -36,5 +33,7 @@ returns-then-self-eq0-clause-printed c = λ res meant later.
     let none : old.left ≡ 0 = omega arith in
     let zero-is : old.context.before ≡ 0 = omega arith in
     let rest = grouped old.context old.used true old.left (kept_items (kept_texts old) ++ later) in
-    passes old.context old.used old.gap old.left (kept_texts old) item.text later none c.requires.in_order.within
-    zero-is ∙ ap (λ l. l ++ rest) (sym c.clear.ensures.items)
+    let one = All-cons (λ (it : Item). it.selected ≡ false) item [] refl
+    (All-nil (λ (it : Item). it.selected ≡ false)) in
+    passes-all old.context old.used old.gap old.left (kept_texts old) (item ∷ []) later none c.requires.in_order.within
+    zero-is one (omega arith) ∙ ap (λ l. l ++ rest) (sym c.clear.ensures.items)

@@ -1,5 +1,5 @@
 -- None of the lines is printed.
-use Rattle.std.proofs.Common.{◌≡◌, ◌<◌, arith, ap, length, sym}
+use Rattle.std.proofs.Common.{◌≡◌, ◌<◌, arith, ap, length}
 use Rattle.nfa_grep.specs.Going.{kept_texts, printed_later}
 use Rattle.nfa_grep.proofs.GroupedLemmas.{passes-all, passes-none}
 use Rattle.nfa_grep.proofs.groups.Groups.pass_all.Goals as goal

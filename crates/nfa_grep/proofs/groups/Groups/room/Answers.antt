@@ -1,7 +1,6 @@
 -- The first line that is kept is not printed, since the next ones are not selected.
-use Rattle.std.proofs.Common.{◌≡◌, ◌≤◌, ◌∷◌, ap, arith, length, map}
+use Rattle.nfa_paths.proofs.Common.{◌≡◌, ◌≤◌, ◌∷◌, ap, arith, length, map, length-map}
 use Rattle.std.specs.Vec.{vec_items}
-use Rattle.std.proofs.lemmas.List.{length-map}
 use Rattle.nfa_grep.specs.Going.{kept_texts}
 use Rattle.nfa_grep.proofs.GroupedLemmas.{drops}
 use Rattle.nfa_grep.proofs.groups.Groups.room.Goals as goal

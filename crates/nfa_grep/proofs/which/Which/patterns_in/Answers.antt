@@ -1,9 +1,6 @@
 -- The law, of this set.
-use Rattle.std.proofs.Common.{◌≡◌, ◌∙◌, ap, arith, false, length, refl, subst, sym}
-use Rattle.std.proofs.lemmas.List.{length-replicate}
-use Rattle.nfa_paths.specs.Common.{Search, search_of, whole}
-use Rattle.nfa_engines.specs.Automaton.{Automaton}
-use Rattle.nfa_compiler.specs.Compiled.{IsNfaOf}
+use Rattle.nfa_paths.proofs.Common.{◌≡◌, ◌∙◌, ap, arith, false, length, refl, subst, sym, length-replicate, Search, search_of, whole, Automaton}
+use Rattle.nfa_compiler.specs.Common.{IsNfaOf}
 use Rattle.nfa_compiler.proofs.CallLemmas.{bytes-of}
 use Rattle.nfa_grep.proofs.NumbersLemmas.{same-which, which-is}
 use Rattle.nfa_grep.proofs.WhichLemmas.{as-all, held}

@@ -1,6 +1,5 @@
 -- The iterator gives the half matches of its input, and keeps the hybrid.
-use Rattle.std.proofs.Common.{refl}
-use Rattle.nfa_paths.specs.Common.{search_of}
+use Rattle.nfa_paths.proofs.Common.{refl, search_of}
 use Rattle.nfa_hybrid.specs.Halves.{half_steps}
 use Rattle.nfa_hybrid.proofs.HalvesLemmas.{halves-kept, halves-of, halves-searches, hybrid_engine}
 use Rattle.nfa_hybrid.proofs.hybrid.Hybrid.half_matches.Goals as goal

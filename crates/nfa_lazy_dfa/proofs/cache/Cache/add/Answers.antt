@@ -1,8 +1,5 @@
 -- One row more, of which no cell is known.
-use Rattle.std.proofs.Common.{rules, ◌≡◌, ◌<◌, ◌+◌, ◌∷◌, ◌++◌, List, [], length, ap, sym, ◌∙◌, subst, arith, None, slice_get}
-use Rattle.std.specs.List.{sum_by}
-use Rattle.std.proofs.lemmas.List.{length-map}
-use Rattle.std.proofs.lemmas.List.Sums.{sum_by_push}
+use Rattle.nfa_paths.proofs.Common.{rules, ◌≡◌, ◌<◌, ◌+◌, ◌∷◌, ◌++◌, List, [], length, ap, sym, ◌∙◌, subst, arith, None, slice_get, sum_by, length-map, sum_by_push}
 use Rattle.nfa_lazy_dfa.specs.Rows.{AreRows, IsFor, row_memory_of, stances_of, unknown}
 use Rattle.nfa_lazy_dfa.specs.Stances.{Stance, stance_of}
 use Rattle.nfa_lazy_dfa.proofs.RowLemmas.{AreRows-add, get-left, stances-more}

@@ -1,6 +1,5 @@
 -- The lists are the same, and so are the counts.
-use Rattle.std.proofs.Common.{rules, ◌≡◌}
-use Rattle.std.proofs.lemmas.List.Elements.{same_from_all_zip}
+use Rattle.nfa_paths.proofs.Common.{rules, ◌≡◌, same_from_all_zip}
 use Rattle.nfa_lazy_dfa.specs.Rows.{IsFor, stances_of}
 use Rattle.nfa_lazy_dfa.proofs.cache.Cache.copied.Goals as goal
 

@@ -1,6 +1,5 @@
 -- The pattern that was looked up before, or is now.
-use Rattle.std.proofs.Common.{◌≡◌, ap, ◌∙◌, Some, None, slice_get}
-use Rattle.std.proofs.lemmas.Option.{slice_get_read}
+use Rattle.nfa_paths.proofs.Common.{◌≡◌, ap, ◌∙◌, Some, None, slice_get, slice_get_read}
 use Rattle.nfa_lazy_dfa.specs.Rows.{IsFor, stances_of}
 use Rattle.nfa_lazy_dfa.specs.Stances.{Stance, hit_here, stance_of}
 use Rattle.nfa_lazy_dfa.proofs.RowLemmas.{AreRows-end, some-same}

@@ -1,6 +1,5 @@
 -- Without a match there is no pattern; else they are looked up.
-use Rattle.std.proofs.Common.{rules, ◌≡◌, ◌<◌, List, length, map, ap, sym, ◌∙◌, arith, None, option_map, slice_get, vec_len}
-use Rattle.nfa_paths.specs.Common.{number_of}
+use Rattle.nfa_paths.proofs.Common.{rules, ◌≡◌, ◌<◌, List, length, map, ap, sym, ◌∙◌, arith, None, option_map, slice_get, vec_len, number_of}
 use Rattle.nfa_determinize.proofs.StepLemmas.{number-none}
 use Rattle.nfa_lazy_dfa.specs.Rows.{stances_of}
 use Rattle.nfa_lazy_dfa.specs.Stances.{Stance, here, hits_here, stance_of}

@@ -1,7 +1,5 @@
 -- The window starts where the search does, or at an idle position.
-use Rattle.std.proofs.Common.{rules, IfOk, option_map}
-use Rattle.std.proofs.lemmas.Result.{IfErr-weaker, on_ok_weaker}
-use Rattle.nfa_paths.specs.Common.{search_of, IsHalfAnswer}
+use Rattle.nfa_paths.proofs.Common.{rules, IfOk, option_map, IfErr-weaker, on_ok_weaker, search_of, IsHalfAnswer}
 use Rattle.nfa_lazy_dfa.specs.Capacities.{HasNoRoom, IsUsedUpAt}
 use Rattle.nfa_lazy_dfa.specs.Rows.{IsFor}
 use Rattle.nfa_lazy_dfa.specs.Windows.{half_in}

@@ -1,7 +1,5 @@
 -- There is a match exactly if a search finds a half match, the earliest one if matches may end anywhere.
-use Rattle.std.proofs.Common.{◌≡◌, ◌≤◌, ◌+◌, ◌-◌, ◌*◌, ◌∙◌, ℕ, Bool, ap, subst, arith, refl, rules, Option, None, Some, is_some, not, option_map}
-use Rattle.std.proofs.lemmas.Result.{IfErr-weaker}
-use Rattle.nfa_paths.specs.Common.{half_found_of, Search, search_of, HalfMatch, is_utf8_empty}
+use Rattle.nfa_paths.proofs.Common.{◌≡◌, ◌≤◌, ◌+◌, ◌-◌, ◌*◌, ◌∙◌, ℕ, Bool, ap, subst, arith, refl, rules, Option, None, Some, is_some, not, option_map, IfErr-weaker, half_found_of, Search, search_of, HalfMatch, is_utf8_empty}
 use Rattle.nfa_lazy_dfa.specs.Reads.{HasReadSpan}
 use Rattle.nfa_lazy_dfa.specs.Rows.{IsBounded, steps_of}
 use Rattle.nfa_lazy_dfa.specs.declared.cache.Cache.{Cache}

@@ -1,7 +1,5 @@
 -- The rows fit, and the search spends what its scan does.
-use Rattle.std.proofs.Common.{Bool, false, subst, arith}
-use Rattle.std.proofs.lemmas.Result.{IfErr-weaker, IfOk-weaker, on_ok_weaker}
-use Rattle.nfa_paths.specs.Common.{Search, search_of, IsOverlapResult}
+use Rattle.nfa_paths.proofs.Common.{Bool, false, subst, arith, IfErr-weaker, IfOk-weaker, on_ok_weaker, Search, search_of, IsOverlapResult}
 use Rattle.regex_search_core.specs.declared.search.MatchKind.TheVariants.{All}
 use Rattle.nfa_lazy_dfa.specs.Reads.{HasRead, IsSetOver}
 use Rattle.nfa_lazy_dfa.specs.Rows.{IsFor}

@@ -1,7 +1,6 @@
 -- One state more was added.
-use Rattle.std.proofs.Common.{◌≡◌, ◌+◌, ◌∙◌, ◌<◌, ap, sym, subst, length, map, take, get_or, [], ◌∷◌, ◌++◌}
-use Rattle.std.proofs.lemmas.List.{take_more, map-append}
-use Rattle.nfa_match_spans.specs.PathStates.{at_state, GainsPathStates}
+use Rattle.nfa_paths.proofs.Common.{◌≡◌, ◌+◌, ◌∙◌, ◌<◌, ap, sym, length, map, take, get_or, [], ◌∷◌, ◌++◌, take_more, map-append}
+use Rattle.nfa_match_spans.specs.PathStates.{at_state}
 use Rattle.nfa_match_spans.proofs.TableLemmas.{GainsPathStates-then}
 use Rattle.nfa_match_spans.proofs.reached.ReachedSet.add_all.Goals as goal
 
@@ -18,6 +17,5 @@ loop-state-preserved c =
     (ap (at_state place) (sym c.state-item.is) ∙ sym c.at_state.ensures) in
     record {
       room = c.in_ok-add.ensures.room ∙ c.loop-state.invariant.room;
-      gains = subst (GainsPathStates c.args.self.now.places c.add.new.self.places) (sym wanted)
-          (GainsPathStates-then c.loop-state.invariant.gains c.in_ok-add.ensures.gains);
+      gains = rw wanted (GainsPathStates-then c.loop-state.invariant.gains c.in_ok-add.ensures.gains);
     }

@@ -1,6 +1,5 @@
 -- The text so far says the parts so far.
-use Rattle.std.proofs.Common.{◌≤◌, ◌-◌, length}
-use Rattle.nfa_paths.specs.Common.{number_of}
+use Rattle.nfa_paths.proofs.Common.{◌≤◌, ◌-◌, length, number_of}
 use Rattle.nfa_meta.specs.TemplateTexts.{AreParts}
 use Rattle.nfa_meta.proofs.interpolate.Template.parse.Given as goal
 

@@ -14,4 +14,4 @@ returns-in_err-create_captures-clause-searches c = record { answers = []; steps 
 pub returns : goal.returns
 returns c =
     all-caught RunsByWindow c.args.self.now c.in_ok-create_captures.ensures.made c.new.result c.new.ensures
-    c.all_with.result (λ v. v.items) c.all_with.ensures
+    c.all_with.result c.all_with.ensures

@@ -1,6 +1,5 @@
 -- The iterator gives the captures of its input, and keeps the engine.
-use Rattle.std.proofs.Common.{refl}
-use Rattle.nfa_paths.specs.Common.{search_of}
+use Rattle.nfa_paths.proofs.Common.{refl, search_of}
 use Rattle.nfa_meta.specs.CapturesMatches.{captures_steps}
 use Rattle.nfa_meta.specs.WindowRuns.{RunsByWindow}
 use Rattle.nfa_choice.proofs.CapturesLemmas.{captures-are-given, captures-stay-kept, captures-take-memory, captures-by-searches}

@@ -1,24 +1,25 @@
 -- The match of the anchored search at a start before which nothing matches is that of the search.
-use Rattle.std.proofs.Common.{rules, ◌≡◌, arith, option_map, IfNone, IfSome}
-use Rattle.std.proofs.lemmas.Grind.{common_steps}
-use Rattle.nfa_paths.specs.Common.{found_of, search_of, IsFindAnswer}
-use Rattle.regex_search_core.specs.declared.search.MatchKind.TheVariants.{LeftmostFirst}
+use Rattle.nfa_paths.proofs.Common.{rules, arith, option_map, IfNone, IfSome, common_steps, found_of, search_of, IsFindAnswer}
 use Rattle.nfa_choice.specs.ChoiceState.{kind_in}
 use Rattle.nfa_engines.specs.Accepting.{MatchesNothing}
 use Rattle.nfa_engines.specs.StartLaws.{anchored_at}
-use Rattle.nfa_meta.proofs.AnchoredLemmas.{found-at-start, next-of}
+use Rattle.nfa_meta.proofs.AnchoredLemmas.{HasFirstStart, found-at-start, next-of}
 use Rattle.nfa_meta.proofs.regex.Regex.find_at_start.Goals as goal
 
 pub returns-clause-answer : goal.returns-clause-answer
 returns-clause-answer c =
     let x = search_of c.args.input in
     let r = c.args.self.now in
-    let first : kind_in r ≡ LeftmostFirst = first_of (search rules, grind (arith, common_steps)) in
+    let has : HasFirstStart r.nfa (kind_in r) x.earliest x c.args.at = record {
+      leftmost = first_of (search rules, grind (arith, common_steps));
+      starts = c.requires.anywhere;
+      last = c.requires.last;
+      first = c.requires.first;
+    } in
     let answer : IfSome c.find_anchored.result (λ found.
     IsFindAnswer r.nfa (kind_in r) x.earliest (anchored_at x c.args.at) (option_map found_of found)) =
     first_of (search rules, grind (arith, common_steps)) in
-    found-at-start r.nfa (kind_in r) x.earliest x c.args.at first c.requires.anywhere c.requires.last
-    c.requires.first c.first_start_answers.ensures.boundary c.find_anchored.result answer
+    found-at-start has c.first_start_answers.ensures.boundary c.find_anchored.result answer
 
 pub returns-clause-moves : goal.returns-clause-moves
 returns-clause-moves c = λ anywhere.

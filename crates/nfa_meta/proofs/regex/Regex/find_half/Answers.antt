@@ -1,7 +1,5 @@
 -- The half match is in the span, and its pattern is one of the NFA's.
-use Rattle.std.proofs.Common.{arith, rules}
-use Rattle.std.proofs.lemmas.Grind.{common_steps}
-use Rattle.nfa_paths.specs.Common.{search_of}
+use Rattle.nfa_paths.proofs.Common.{arith, rules, common_steps, search_of}
 use Rattle.nfa_search_base.proofs.CallerLemmas.{half-lies}
 use Rattle.nfa_hybrid.proofs.AnswerLemmas.{half-pattern-within}
 use Rattle.nfa_meta.proofs.regex.Regex.find_half.Goals as goal

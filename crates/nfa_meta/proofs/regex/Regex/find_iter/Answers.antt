@@ -1,6 +1,5 @@
 -- The iterator gives the matches of its input, and keeps the engine.
-use Rattle.std.proofs.Common.{refl}
-use Rattle.nfa_paths.specs.Common.{search_of}
+use Rattle.nfa_paths.proofs.Common.{refl, search_of}
 use Rattle.nfa_choice.proofs.FindLemmas.{finds-given, finds-kept, finds-on, finds-to_end}
 use Rattle.nfa_meta.specs.Matches.{finds_steps}
 use Rattle.nfa_meta.proofs.MatchesLemmas.{regex_finder}

@@ -1,7 +1,5 @@
 -- Nothing matches before the start of a window.
-use Rattle.std.proofs.Common.{rules, ℕ, ◌≤◌, ◌+◌, arith, refl, subst, sym}
-use Rattle.std.proofs.lemmas.Grind.{common_steps}
-use Rattle.nfa_paths.specs.Common.{search_of}
+use Rattle.nfa_paths.proofs.Common.{rules, ℕ, ◌≤◌, ◌+◌, arith, refl, subst, sym, common_steps, search_of}
 use Rattle.nfa_engines.specs.StartLaws.{IsFirstStart}
 use Rattle.nfa_meta.proofs.regex.Regex.find_near_start.Goals as goal
 

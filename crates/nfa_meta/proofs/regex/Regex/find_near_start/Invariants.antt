@@ -1,6 +1,5 @@
 -- Nothing matches before the start.
-use Rattle.std.proofs.Common.{◌≡◌, ◌+◌, ◌≤◌}
-use Rattle.nfa_paths.specs.Common.{search_of}
+use Rattle.nfa_paths.proofs.Common.{◌≡◌, ◌+◌, ◌≤◌, search_of}
 use Rattle.nfa_engines.specs.StartLaws.{IsFirstStart}
 use Rattle.nfa_meta.proofs.regex.Regex.find_near_start.Given as goal
 

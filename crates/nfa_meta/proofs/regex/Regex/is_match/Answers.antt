@@ -1,7 +1,5 @@
 -- Whether there is a match is what the function says.
-use Rattle.std.proofs.Common.{arith, false, rules}
-use Rattle.std.proofs.lemmas.Grind.{common_steps}
-use Rattle.nfa_paths.specs.Common.{search_of, IsBoolAnswer}
+use Rattle.nfa_paths.proofs.Common.{arith, false, rules, common_steps, search_of, IsBoolAnswer}
 use Rattle.nfa_search_base.proofs.FindsLemmas.{found-finds}
 use Rattle.nfa_choice.specs.ChoiceState.{kind_in}
 use Rattle.nfa_meta.proofs.regex.Regex.is_match.Goals as goal

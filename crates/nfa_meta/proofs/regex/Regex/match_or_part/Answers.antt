@@ -1,8 +1,5 @@
 -- The two slots of a match are those of the search.
-use Rattle.std.proofs.Common.{rules, ◌≡◌, Some, arith}
-use Rattle.std.proofs.lemmas.Grind.{common_steps}
-use Rattle.std.proofs.lemmas.Result.{IfOk-weaker}
-use Rattle.nfa_paths.specs.Common.{found_of, slot_count, search_of}
+use Rattle.nfa_paths.proofs.Common.{rules, ◌≡◌, Some, arith, common_steps, IfOk-weaker, found_of, slot_count, search_of}
 use Rattle.nfa_search_base.proofs.CallerLemmas.{inside-of}
 use Rattle.nfa_choice.specs.ChoiceState.{kind_in}
 use Rattle.nfa_meta.proofs.MatchSlotLemmas.{plain-answer}

@@ -1,6 +1,5 @@
 -- A position with a byte that no match begins with is skipped.
-use Rattle.std.proofs.Common.{◌<◌, ◌≤◌, length, get_or, arith}
-use Rattle.nfa_paths.specs.Common.{search_of}
+use Rattle.nfa_paths.proofs.Common.{◌<◌, ◌≤◌, length, get_or, arith, search_of}
 use Rattle.nfa_meta.proofs.AnchoredLemmas.{read-inside}
 use Rattle.nfa_meta.proofs.regex.Regex.next_start.Goals as goal
 

@@ -1,6 +1,5 @@
 -- The matches that were replaced are the first ones of the text.
-use Rattle.std.proofs.Common.{◌∙◌, List, ap}
-use Rattle.nfa_paths.specs.Common.{search_of, Captured}
+use Rattle.nfa_paths.proofs.Common.{◌∙◌, List, ap, search_of, Captured}
 use Rattle.nfa_meta.specs.Filled.{filled_from}
 use Rattle.nfa_meta.proofs.CaughtLemmas.{all-caught}
 use Rattle.nfa_meta.proofs.regex.Regex.replacen_template.Goals as goal

@@ -1,9 +1,7 @@
 -- The calls append what h gives for the captures of the first matches.
-use Rattle.std.proofs.Common.{◌∙◌, [], All, List, ap, subst}
-use Rattle.std.proofs.lemmas.List.Elements.{recursion_from_All}
-use Rattle.nfa_paths.specs.Common.{Search, search_of, whole, Captured}
-use Rattle.nfa_search_base.specs.CapturesRuns.{CapturesInside}
-use Rattle.nfa_meta.specs.Rewritten.{rewritten}
+use Rattle.nfa_paths.proofs.Common.{◌∙◌, [], All, List, ap, subst, Search, search_of, Captured}
+use Rattle.nfa_search_base.specs.Common.{CapturesInside}
+use Rattle.nfa_meta.specs.Rewritten.{RewritesFrom, rewritten}
 use Rattle.nfa_meta.proofs.CaughtLemmas.{all-caught}
 use Rattle.nfa_meta.proofs.RewriteLemmas.{rewritten-by}
 use Rattle.nfa_meta.proofs.regex.Regex.replacen_with.Goals as goal
@@ -17,7 +15,18 @@ returns-clause-first_appended g c = λ some h appends.
     record {
       caught = first.all;
       all = all-caught c.args.self.now text (search_of c.new.result) c.new.ensures first.all first.rows first.groups;
-      output_is = rewritten-by g.F.FnMut text h cs (recursion_from_All (CapturesInside (whole text)) cs inside) 0
-          c.args.replacement [] c.in_ok-output.output.items appends c.in_ok-output.ensures
+      output_is = rewritten-by g.F.FnMut text h cs inside c.args.replacement appends c.in_ok-output.ensures
           ∙ ap (λ (caught : List Captured). rewritten text h 0 caught) first.first;
+    }
+
+pub returns-clause-first : goal.returns-clause-first
+returns-clause-first g c = λ some.
+    let text = c.args.haystack.now in
+    let first = c.in_ok-caught.ensures.first in
+    let output = c.in_ok-output.output.items in
+    record {
+      caught = first.all;
+      all = all-caught c.args.self.now text (search_of c.new.result) c.new.ensures first.all first.rows first.groups;
+      writes = subst (λ (cs : List Captured). RewritesFrom g.F.FnMut text 0 cs c.args.replacement [] output) first.first
+          c.in_ok-output.ensures;
     }

@@ -1,6 +1,5 @@
 -- The groups in the part are those of the search.
-use Rattle.std.proofs.Common.{◌∙◌, Bool, subst}
-use Rattle.nfa_paths.specs.Common.{found_of, search_of, IsAnswer}
+use Rattle.nfa_paths.proofs.Common.{rules, ◌∙◌, Bool, arith, subst, common_steps, found_of, search_of, IsAnswer}
 use Rattle.nfa_choice.specs.ChoiceState.{kind_in}
 use Rattle.nfa_search_base.proofs.SpanLemmas.{spans-inside}
 use Rattle.nfa_meta.proofs.MatchSlotLemmas.{match_slots-inside}
@@ -18,8 +17,15 @@ returns-in-Err-Some-clause-answer c =
     (part-earliest r.nfa (search_of c.args.input.now) y part)
     (rw (c.self.view_is ∙ c.match_or_part.ensures.same) at c.search.ensures.answer))
 
-pub returns-in-Ok-clause-spans : goal.returns-in-Ok-clause-spans
-returns-in-Ok-clause-spans c =
+pub returns-in-Ok-clause-fills : goal.returns-in-Ok-clause-fills
+returns-in-Ok-clause-fills c =
     let x = search_of c.args.input.now in
     let inside = match_slots-inside x (found_of c.in-Ok.found) c.in-Ok.ensures.inside in
-    rw c.fill_captures.ensures (spans-inside x _ inside)
+    record {
+      groups = first_of (search rules, grind (arith, common_steps));
+      count = first_of (search rules, grind (arith, common_steps));
+      unmatched = first_of (search rules, grind (arith, common_steps));
+      pattern = first_of (search rules, grind (arith, common_steps));
+      inside = rw c.fill_captures.ensures inside;
+      spans = rw c.fill_captures.ensures (spans-inside x _ inside);
+    }

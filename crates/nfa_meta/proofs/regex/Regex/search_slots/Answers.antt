@@ -1,6 +1,5 @@
 -- The slots of the part are those of the search.
-use Rattle.std.proofs.Common.{◌∙◌, Bool, subst, option_map}
-use Rattle.nfa_paths.specs.Common.{number_of, search_of, IsAnswer}
+use Rattle.nfa_paths.proofs.Common.{◌∙◌, Bool, subst, option_map, number_of, search_of, IsAnswer}
 use Rattle.nfa_choice.specs.ChoiceState.{kind_in}
 use Rattle.nfa_meta.proofs.WindowLemmas.{part-earliest}
 use Rattle.nfa_meta.proofs.regex.Regex.search_slots.Goals as goal

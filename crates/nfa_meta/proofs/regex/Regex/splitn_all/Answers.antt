@@ -1,6 +1,5 @@
 -- The spans are those around the first matches of the text.
-use Rattle.std.proofs.Common.{◌∙◌, List, ap, length, map}
-use Rattle.nfa_paths.specs.Common.{found_of, Match}
+use Rattle.nfa_paths.proofs.Common.{◌∙◌, List, ap, length, map, found_of, Match}
 use Rattle.nfa_meta.specs.Gaps.{gap_spans}
 use Rattle.nfa_meta.proofs.GapLemmas.{first-fewer}
 use Rattle.nfa_meta.proofs.regex.Regex.splitn_all.Goals as goal
@@ -9,7 +8,7 @@ pub returns-clause-spans : goal.returns-clause-spans
 returns-clause-spans c = λ some.
     let items = c.in_ok-matches.matches.items in
     let found = c.in_ok-matches.ensures in
-    let firsts = first-fewer c.args.self.now c.args.haystack.now _ c.new-2.ensures items c.args.limit some found.first
+    let firsts = first-fewer c.args.self.now c.args.haystack.now c.new-2.ensures items c.args.limit some found.first
     found.as_many in
     record {
       matches = map found_of items;

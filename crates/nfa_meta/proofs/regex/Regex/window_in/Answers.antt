@@ -1,13 +1,9 @@
 -- A window has the answers of the input, and without one nothing matches.
-use Rattle.std.proofs.Common.{rules, ◌≡◌, arith, None, Some}
-use Rattle.std.proofs.lemmas.Grind.{common_steps}
-use Rattle.nfa_paths.specs.Common.{search_of, IsHalfAnswer}
-use Rattle.regex_search_core.specs.declared.search.MatchKind.TheVariants.{LeftmostFirst}
+use Rattle.nfa_paths.proofs.Common.{rules, ◌≡◌, arith, None, Some, common_steps, search_of, IsHalfAnswer, LeftmostFirst}
 use Rattle.nfa_choice.specs.ChoiceState.{kind_in}
-use Rattle.nfa_lazy_dfa.specs.Windows.{IsWindow, half_in, start_in}
-use Rattle.nfa_meta.specs.WindowLaws.{within}
+use Rattle.nfa_lazy_dfa.specs.Windows.{half_in}
 use Rattle.nfa_meta.specs.Windowed.{IsWindowed}
-use Rattle.nfa_meta.proofs.WindowLemmas.{none-match, window-answers}
+use Rattle.nfa_meta.proofs.WindowLemmas.{HasWindow, none-match, window-answers}
 use Rattle.nfa_meta.proofs.regex.Regex.window_in.Goals as goal
 use Rattle.nfa_meta.proofs.regex.Regex.window_in.Goals.{in-Ok-None, in-Ok-Some, in-Err}
 
@@ -36,13 +32,13 @@ returns-clause-answers c =
       | in-Ok-Some w ↦
           let y = search_of w.range.result in
           let v = w.in-Ok-Some.window in
-          let window : IsWindow r.nfa x v = first_of (search rules, grind (arith, common_steps)) in
+          let has : HasWindow r.nfa x y v = record {
+            windowed = windowed;
+            window = first_of (search rules, grind (arith, common_steps));
+            is = first_of (search rules, grind (arith, common_steps));
+          } in
           let half : IsHalfAnswer r.nfa (kind_in r) x.earliest x (Some (half_in v)) =
           first_of (search rules, grind (arith, common_steps)) in
-          let is : y ≡ within x (start_in v) (half_in v).offset =
-          first_of (search rules, grind (arith, common_steps)) in
-          rw w.result-is
-          (window-answers r.nfa x y v windowed window is c.windows_answer.ensures.answers
-          c.windows_answer.ensures.matches (kind_in r) first half)
+          rw w.result-is (window-answers has c.windows_answer.ensures (kind_in r) first half)
       | in-Err w ↦ rw w.result-is tt
     ]

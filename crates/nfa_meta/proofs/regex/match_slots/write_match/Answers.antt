@@ -1,7 +1,5 @@
 -- Both offsets can be written.
-use Rattle.std.proofs.Common.{rules, ◌≡◌, Some, arith}
-use Rattle.std.proofs.lemmas.Grind.{common_steps}
-use Rattle.nfa_paths.specs.Common.{found_of}
+use Rattle.nfa_paths.proofs.Common.{rules, ◌≡◌, Some, arith, common_steps, found_of}
 use Rattle.nfa_meta.proofs.MatchSlotLemmas.{two-set}
 use Rattle.nfa_meta.proofs.regex.match_slots.write_match.Goals as goal
 

@@ -1,5 +1,5 @@
 -- Without the prefix there is no accepting path.
-use Rattle.nfa_paths.specs.Common.{search_of}
+use Rattle.nfa_paths.proofs.Common.{search_of}
 use Rattle.nfa_meta.proofs.regex.prefix.is_lacking.Goals as goal
 
 pub returns-in-None : goal.returns-in-None

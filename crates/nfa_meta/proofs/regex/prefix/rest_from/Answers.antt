@@ -1,6 +1,5 @@
 -- No match starts before the prefix.
-use Rattle.std.proofs.Common.{refl}
-use Rattle.nfa_paths.specs.Common.{search_of}
+use Rattle.nfa_paths.proofs.Common.{refl, search_of}
 use Rattle.nfa_engines.specs.StartLaws.{IsFirstStart}
 use Rattle.nfa_meta.proofs.PrefixLemmas.{nothing-left, rest-answers, rest-is}
 use Rattle.nfa_meta.proofs.WindowLemmas.{answers-self}

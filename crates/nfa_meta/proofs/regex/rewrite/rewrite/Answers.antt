@@ -1,9 +1,7 @@
 -- After one more call the output has what comes for one more match.
-use Rattle.std.proofs.Common.{rules, ◌≡◌, ◌++◌, ◌∷◌, arith, refl, slice_range}
-use Rattle.std.proofs.lemmas.Grind.{common_steps}
-use Rattle.std.proofs.lemmas.List.Elements.{recursion_from_All}
+use Rattle.nfa_paths.proofs.Common.{rules, ◌≡◌, ◌++◌, ◌∷◌, arith, refl, slice_range, common_steps, recursion_from_All}
 use Rattle.std.specs.Vec.Iter.{into_iter_items}
-use Rattle.nfa_search_base.specs.CapturesRuns.{match_in}
+use Rattle.nfa_search_base.specs.Common.{match_in}
 use Rattle.nfa_meta.specs.Rewritten.{Writes}
 use Rattle.nfa_meta.proofs.RewriteLemmas.{WritesLead-none, calls-go-on, calls-lead-on}
 use Rattle.nfa_meta.proofs.regex.rewrite.rewrite.Goals as goal
@@ -38,12 +36,8 @@ loop-captures-preserved g c =
       leaves = refl;
     } in
     record {
-      goes_on =
-          calls-go-on g.F.FnMut text c.args.caught.items left rest c.in-Some.captures c.args.replacement l.replacement
-          c.replacement.new.self _ l.from c.in_ok-end.end l.output.items after is c.in_ok-end.ensures.end l.invariant w;
-      leads =
-          calls-lead-on g.F.FnMut text c.args.caught.items left rest c.in-Some.captures c.args.replacement
-          l.replacement c.replacement.new.self _ l.from l.output.items before after is l.invariant w;
+      goes_on = calls-go-on g.F.FnMut text l.invariant is c.in_ok-end.ensures.end w;
+      leads = calls-lead-on g.F.FnMut text l.invariant is w;
       begins = first_of (search rules, grind (arith, common_steps));
       within = first_of (search rules, grind (arith, common_steps));
       inside = first_of (search rules, grind (arith, common_steps));

@@ -6,4 +6,5 @@ use Rattle.nfa_meta.proofs.regex.rewrite.rewrite.Given as goal
 
 abbrev pub invariant-loop-captures : goal.invariant-loop-captures
 invariant-loop-captures g l = HasRewritten g.F.FnMut l.haystack l.fn.caught.items
-    (into_iter_items l.captures-iterator) l.fn.replacement l.replacement (length l.yielded) l.from l.output.items
+    (into_iter_items l.captures-iterator) l.fn.replacement
+    (record { replacement = l.replacement; output = l.output.items }) (length l.yielded) l.from

@@ -1,6 +1,5 @@
 -- The iterator gives the captures of its input, and keeps the cache.
-use Rattle.std.proofs.Common.{refl}
-use Rattle.nfa_paths.specs.Common.{search_of}
+use Rattle.nfa_paths.proofs.Common.{refl, search_of}
 use Rattle.nfa_pikevm.proofs.CapturesLemmas.{captures-keep-cache, captures-are-given, captures-take-memory, captures-by-searches}
 use Rattle.nfa_pikevm.proofs.engine.PikeVM.captures_iter_with.Goals as goal
 

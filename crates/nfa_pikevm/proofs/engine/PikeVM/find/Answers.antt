@@ -1,5 +1,5 @@
 -- The match is that of the answer, and the cache keeps its numbers.
-use Rattle.nfa_paths.specs.Common.{search_of}
+use Rattle.nfa_paths.proofs.Common.{search_of}
 use Rattle.nfa_pikevm.specs.Engines.{kind_of}
 use Rattle.nfa_search_base.proofs.CallerLemmas.{inside-of}
 use Rattle.nfa_pikevm.proofs.engine.PikeVM.find.Goals as goal

@@ -1,7 +1,6 @@
 -- It allocates only if there was a match.
-use Rattle.std.proofs.Common.{subst, sym}
-use Rattle.nfa_paths.specs.Common.{search_of}
-use Rattle.nfa_search_base.specs.MatchRuns.{MatchesNext}
+use Rattle.nfa_paths.proofs.Common.{subst, sym, search_of}
+use Rattle.nfa_search_base.specs.Common.{MatchesNext}
 use Rattle.nfa_pikevm.specs.Engines.{kind_of}
 use Rattle.nfa_pikevm.specs.FindMatches.{pike_matches_next}
 use Rattle.nfa_search_base.proofs.ListLemmas.{none-before}

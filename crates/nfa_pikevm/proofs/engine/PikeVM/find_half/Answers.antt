@@ -1,14 +1,12 @@
 -- The pattern and the end are those of the answer.
-use Rattle.nfa_paths.specs.Common.{search_of}
+use Rattle.nfa_paths.proofs.Common.{search_of, arith}
 use Rattle.nfa_paths.proofs.RestartLemmas.{half-of, pattern-among}
 use Rattle.nfa_pikevm.specs.Engines.{kind_of}
 use Rattle.nfa_search_base.proofs.CallerLemmas.{half-lies}
 use Rattle.nfa_pikevm.proofs.engine.PikeVM.find_half.Goals as goal
 
 pub returns-clause-answer : goal.returns-clause-answer
-returns-clause-answer c =
-    rw (← c.self.view_is, ← c.get_match_kind-match_kind.ensures)
-    (half-of c.search.ensures.answer)
+returns-clause-answer c = grind (arith, half-of)
 
 pub returns-clause-pattern : goal.returns-clause-pattern
 returns-clause-pattern c =

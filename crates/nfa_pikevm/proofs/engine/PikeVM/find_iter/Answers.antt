@@ -1,6 +1,5 @@
 -- The iterator gives the matches of its input, and keeps the cache.
-use Rattle.std.proofs.Common.{refl}
-use Rattle.nfa_paths.specs.Common.{search_of}
+use Rattle.nfa_paths.proofs.Common.{refl, search_of}
 use Rattle.nfa_pikevm.proofs.FindLemmas.{finds-given, finds-searches, gives-cache}
 use Rattle.nfa_pikevm.proofs.engine.PikeVM.find_iter.Goals as goal
 

@@ -1,7 +1,5 @@
 -- The match is that of the pattern and the slots of the answer.
-use Rattle.std.proofs.Common.{◌≡◌, ◌∙◌, ◌*◌, ap, arith, length}
-use Rattle.std.proofs.lemmas.List.{length-take}
-use Rattle.nfa_paths.specs.Common.{search_of, IsAutomaton}
+use Rattle.nfa_paths.proofs.Common.{◌≡◌, ◌∙◌, ◌*◌, ap, arith, length, length-take, search_of, IsAutomaton}
 use Rattle.nfa_paths.proofs.RestartLemmas.{match-some}
 use Rattle.nfa_pikevm.specs.Engines.{kind_of}
 use Rattle.nfa_search_base.proofs.CallerLemmas.{pattern-of}

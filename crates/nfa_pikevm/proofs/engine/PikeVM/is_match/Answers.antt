@@ -1,6 +1,5 @@
 -- There is a match exactly if a search with no slots finds a pattern.
-use Rattle.std.proofs.Common.{◌≡◌, ap, refl, Option, None, Some, false, not, is_some, option_map}
-use Rattle.nfa_paths.specs.Common.{search_of, number_of, PatternID, is_utf8_empty}
+use Rattle.nfa_paths.proofs.Common.{◌≡◌, ap, refl, Option, None, Some, false, not, is_some, option_map, search_of, number_of, PatternID, is_utf8_empty, arith}
 use Rattle.nfa_search_base.proofs.FindsLemmas.{found-finds}
 use Rattle.nfa_pikevm.specs.Engines.{kind_of}
 use Rattle.nfa_pikevm.proofs.IsMatchLemmas.{found-free, work-free}
@@ -19,10 +18,7 @@ returns-clause-answer c =
     (found-free (ap not mode) c.earliest-input.ensures c.search_slots.ensures.answer)
 
 pub returns-clause-work : goal.returns-clause-work
-returns-clause-work c =
-    let mode : c.is_utf8_empty-earliest.result ≡ is_utf8_empty c.args.self.now.nfa =
-    rw (← c.self.view_is) c.is_utf8_empty-earliest.ensures in
-    work-free (ap not mode) c.earliest-input.ensures c.search_slots.ensures.counts.work
+returns-clause-work c = grind (arith, work-free)
 
 pub returns-clause-finds : goal.returns-clause-finds
 returns-clause-finds c =

@@ -1,7 +1,5 @@
 -- After no match no slot of the captures is set. If the slots are inside the span, so are the spans.
-use Rattle.std.proofs.Common.{arith}
-use Rattle.std.proofs.lemmas.Grind.{common_steps}
-use Rattle.nfa_paths.specs.Common.{search_of}
+use Rattle.nfa_paths.proofs.Common.{arith, common_steps, search_of}
 use Rattle.nfa_search_base.proofs.SpanLemmas.{spans-inside}
 use Rattle.nfa_search_base.proofs.CallerLemmas.{slots-none}
 use Rattle.nfa_pikevm.proofs.engine.PikeVM.search.Goals as goal

@@ -1,5 +1,5 @@
 -- The answer is that of the search: after no match no slot is set, and each slot that is set is inside the span.
-use Rattle.nfa_paths.specs.Common.{search_of}
+use Rattle.nfa_paths.proofs.Common.{search_of}
 use Rattle.nfa_pikevm.specs.Engines.{kind_of}
 use Rattle.nfa_paths.proofs.InsideLemmas.{slots-within}
 use Rattle.nfa_search_base.proofs.CallerLemmas.{slots-none_of}

@@ -1,8 +1,6 @@
 -- A step may be made, never errs, and leaves what the iterator keeps.
-use Rattle.nfa_paths.specs.Common.{found_of}
-use Rattle.nfa_search_base.specs.WithCache.{with_cache}
-use Rattle.nfa_search_base.specs.StepsWith.{steps_with_state}
-use Rattle.nfa_search_base.specs.IterStates.{span_of}
+use Rattle.nfa_paths.proofs.Common.{found_of}
+use Rattle.nfa_search_base.specs.Common.{with_cache, steps_with_state, span_of}
 use Rattle.nfa_search_base.proofs.StoredLemmas.{surely-inside}
 use Rattle.nfa_pikevm.specs.FindMatches.{AsksPike, MayFindByPike, pike_matches}
 use Rattle.nfa_pikevm.proofs.FindLemmas.{find-serves, step-goes}

@@ -1,8 +1,7 @@
 -- A known match is the answer. Otherwise it is the search's, which gives the match that is known then.
-use Rattle.std.proofs.Common.{rules, ◌≡◌, ◌∙◌, ◌-◌, refl, ap, subst, Option, Ok, option_map}
-use Rattle.nfa_paths.specs.Common.{found_of, Search, search_of, Match, IsFindAnswer, raised}
-use Rattle.nfa_search_base.specs.EngineSearches.{if_ends_at, last_start}
-use Rattle.nfa_search_base.proofs.EngineLemmas.{find-answered, found-by, known-answer, known-is, known-kept, search-made}
+use Rattle.nfa_paths.proofs.Common.{rules, ◌≡◌, ◌∙◌, ◌-◌, refl, ap, subst, Option, Ok, option_map, found_of, Search, search_of, Match, IsFindAnswer, raised}
+use Rattle.nfa_search_base.specs.Common.{if_ends_at, last_start}
+use Rattle.nfa_search_base.proofs.EngineLemmas.{find-answered, found-by, asks-known, known-kept, search-made}
 use Rattle.nfa_search_base.proofs.LastStartLemmas.{match-from-scan}
 use Rattle.nfa_pikevm.specs.Engines.{kind_of}
 use Rattle.nfa_pikevm.proofs.FindLemmas.{finds-sure, pike_finder}
@@ -10,16 +9,8 @@ use Rattle.nfa_pikevm.proofs.find_iter.FinderFindWith.answer.Goals as goal
 
 pub returns-then-is_some : goal.returns-then-is_some
 returns-then-is_some c =
-    let vm = c.args.self.now.engine.now in
-    let x = search_of c.args.input.now in
-    record {
-      finds = known-answer pike_finder vm x c.args.self.now.known c.ending_at-known.result c.requires.knows
-          (λ m is. let k = c.ending_at-known.ensures.kept m is in (k.0, k.1 ∙ c.start.ensures)) (search rules);
-      engine = refl;
-      knows = c.requires.knows;
-      work = known-is c.ending_at-known.result
-          (rw (← c.start.ensures) c.ending_at-known.ensures.exactly) (search rules);
-    }
+    asks-known pike_finder c.ending_at-known.result c.start.ensures c.requires c.ending_at-known.ensures.kept
+    c.ending_at-known.ensures.exactly (search rules)
 
 pub returns : goal.returns
 returns c =

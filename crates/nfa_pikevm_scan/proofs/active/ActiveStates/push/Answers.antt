@@ -1,22 +1,13 @@
 -- The state and its row come after those that are kept.
-use Rattle.std.proofs.Common.{◌∙◌, ap, arith, length, refl, sym}
-use Rattle.std.proofs.lemmas.List.{with_items_is}
-use Rattle.nfa_pikevm_scan.specs.Rows.{Active}
+use Rattle.nfa_pikevm_scan.proofs.Common.{Active, ap, arith, length, refl, sym, with_items_is, ◌∙◌}
 use Rattle.nfa_pikevm_scan.proofs.RowLemmas.{pushed-fits, pushed-inside, pushed-len, pushed-view}
 use Rattle.nfa_pikevm_scan.proofs.active.ActiveStates.push.Goals as goal
 
 pub index_mut-requires : goal.index_mut-requires
-index_mut-requires c =
-    let view = rw (← c.deref_mut-parts.ensures.value) at c.self.view_is in
-    let fits = rw (← c.deref_mut-parts.ensures.value) at c.self.invariant in
-    omega (arith, pushed-len c.deref_mut-parts.result.now view fits c.requires.room)
+index_mut-requires c = grind (arith, pushed-len)
 
 pub put_row-requires : goal.put_row-requires
-put_row-requires c =
-    let view = rw (← c.deref_mut-parts.ensures.value) at c.self.view_is in
-    let fits = rw (← c.deref_mut-parts.ensures.value) at c.self.invariant in
-    let wide = c.requires.width ∙ sym (ap (λ (a : Active). a.width) view) in
-    rw (c.as_mut_slice.ensures.value, wide) (pushed-fits c.deref_mut-parts.result.now view fits c.requires.room)
+put_row-requires c = grind (arith, pushed-fits)
 
 pub invariant_of-self : goal.invariant_of-self
 invariant_of-self c =

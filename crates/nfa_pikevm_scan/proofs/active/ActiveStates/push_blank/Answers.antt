@@ -1,21 +1,13 @@
 -- The state comes after those that are kept, with a row that holds nothing.
-use Rattle.std.proofs.Common.{◌∙◌, ap, arith, length, replicate, None}
-use Rattle.std.proofs.lemmas.List.{with_items_is}
-use Rattle.nfa_pikevm_scan.specs.Rows.{Active}
+use Rattle.nfa_pikevm_scan.proofs.Common.{Active, None, ap, arith, length, replicate, with_items_is, ◌∙◌}
 use Rattle.nfa_pikevm_scan.proofs.RowLemmas.{length-blank, pushed-fits, pushed-inside, pushed-len, pushed-view}
 use Rattle.nfa_pikevm_scan.proofs.active.ActiveStates.push_blank.Goals as goal
 
 pub index_mut-requires : goal.index_mut-requires
-index_mut-requires c =
-    let view = rw (← c.deref_mut-parts.ensures.value) at c.self.view_is in
-    let fits = rw (← c.deref_mut-parts.ensures.value) at c.self.invariant in
-    omega (arith, pushed-len c.deref_mut-parts.result.now view fits c.requires)
+index_mut-requires c = grind (arith, pushed-len)
 
 pub blank_row-requires : goal.blank_row-requires
-blank_row-requires c =
-    let view = rw (← c.deref_mut-parts.ensures.value) at c.self.view_is in
-    let fits = rw (← c.deref_mut-parts.ensures.value) at c.self.invariant in
-    rw c.as_mut_slice.ensures.value (pushed-fits c.deref_mut-parts.result.now view fits c.requires)
+blank_row-requires c = grind (arith, pushed-fits)
 
 pub invariant_of-self : goal.invariant_of-self
 invariant_of-self c =

@@ -1,5 +1,5 @@
 -- No state is marked afterwards.
-use Rattle.std.proofs.Common.{arith}
+use Rattle.nfa_paths.proofs.Common.{arith}
 use Rattle.nfa_pikevm_scan.proofs.RowLemmas.{cleared-newer, cleared-zeros}
 use Rattle.nfa_pikevm_scan.proofs.seen.Seen.clear.Goals as goal
 

@@ -1,7 +1,7 @@
 -- The NFA is made, since it has all that an NFA keeps.
 use Rattle.std.proofs.Common.{map}
 use Rattle.thompson_nfa.specs.Automaton.{node_of}
-use Rattle.thompson_nfa.specs.Built.{IsBuilt}
+use Rattle.thompson_nfa.specs.Flaws.{IsBuilt}
 use Rattle.nfa_samples.specs.StateTables.{automaton_in}
 use Rattle.nfa_samples.proofs.StateTableLemmas.{memory-alone}
 use Rattle.nfa_samples.proofs.state_table.StateTable.build.Goals as goal

@@ -1,16 +1,5 @@
 -- A counter of 0 can be made, since it has no bytes.
-use Rattle.std.proofs.Common.{[], ◌∷◌, refl}
-use Rattle.std.proofs.raw_atomic.Walks.{proved}
-use contract.Running.{tables}
-use types.Kit.{‵, raw, ◌$◌, ◌∵◌, !, qed, keep, use0, suffices, join, done}
-use types.Part.{agg}
-use types.Run.{enter, no_more, returns}
-use types.ByLocal.{alloc_all, pass_all, free_all, look_at, sets}
-use denote.Steps.{nothing}
-use denote.Triple.Entry.{on_entry}
-use denote.Triple.Walked.{Stays, says, ends_at}
-use Rattle.nfa_scan_core.proofs.Made.{bytes, made}
-use Rattle.nfa_scan_core.specs.contracts.counter.Counter.{the_row}
+use Rattle.nfa_scan_core.proofs.Made.{ !, Stays, [], agg, alloc_all, bytes, done, ends_at, enter, free_all, join, keep, look_at, made, no_more, nothing, on_entry, pass_all, proved, qed, raw, refl, returns, says, sets, suffices, tables, the_row, use0, ‵, ◌$◌, ◌∵◌, ◌∷◌}
 use Rattle.nfa_scan_core.specs.contracts.counter.Counter.new as f
 use Rattle.nfa_scan_core.proofs.counter.Counter.new.Statement.{statement}
 use Rattle.nfa_scan_core.proofs.counter.Counter.new.Code as code

@@ -1,23 +1,5 @@
 -- A counter of the sum of two counts can be made.
-use Rattle.std.proofs.Common.{ℕ, ◌+◌, [], ◌∷◌, refl}
-use Rattle.std.proofs.raw_atomic.Walks.{proved}
-use mir.Syntax.{named}
-use mir.Val.{Val, vptr}
-use contract.Running.{tables}
-use types.Kit.{‵, raw, ◌⊛◌, ◌$◌, ◌∵◌, !, qed, move, keep, use0, split, suffices, join, done}
-use types.Part.{agg}
-use types.Run.{enter, no_more, returns}
-use types.ByLocal.{alloc_all, pass_all, free_all, look_at, sets}
-use denote.Builtin.{RefOf}
-use denote.Exit.{yes}
-use denote.RattleType.{owns}
-use denote.Ref.{shr_vals, shr_Tells}
-use denote.Signature.{plain, types_at}
-use denote.Steps.{nothing}
-use denote.Triple.Entry.{alive}
-use denote.Triple.Walked.{Stays, says, stay_dropped, Goes-dropped, ends_at}
-use Rattle.nfa_scan_core.proofs.Made.{bytes, made}
-use Rattle.nfa_scan_core.specs.contracts.counter.Counter.{the_row}
+use Rattle.nfa_scan_core.proofs.Made.{ !, Goes-dropped, RefOf, Stays, Val, [], agg, alive, alloc_all, bytes, done, ends_at, enter, free_all, join, keep, look_at, made, move, named, no_more, nothing, owns, pass_all, plain, proved, qed, raw, refl, returns, says, sets, shr_Tells, shr_vals, split, stay_dropped, suffices, tables, the_row, types_at, use0, vptr, yes, ‵, ℕ, ◌$◌, ◌+◌, ◌∵◌, ◌∷◌, ◌⊛◌}
 use Rattle.nfa_scan_core.specs.contracts.counter.Counter.plus as f
 use Rattle.nfa_scan_core.proofs.counter.Counter.plus.Statement.{statement}
 use Rattle.nfa_scan_core.proofs.counter.Counter.plus.Code as code

@@ -1,6 +1,5 @@
 -- Each of the states was reached, and no other.
-use Rattle.std.proofs.Common.{◌≡◌, ◌∙◌, ◌<◌, length, get_or, below_more, subst, sym}
-use Rattle.std.proofs.lemmas.List.{get_or_default}
+use Rattle.nfa_paths.proofs.Common.{◌≡◌, ◌∙◌, ◌<◌, length, get_or, below_more, subst, sym, get_or_default}
 use Rattle.nfa_scan_core.specs.FirstBytes.{WasReached}
 use Rattle.nfa_scan_core.proofs.FirstLemmas.{Extends-then, WasReached-extends}
 use Rattle.nfa_scan_core.proofs.LeastLemmas.{AddsOnly-then, In-at, In-one, LacksRoom-among}

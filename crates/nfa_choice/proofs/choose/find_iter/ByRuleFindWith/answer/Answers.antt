@@ -1,5 +1,5 @@
 -- The choice's match is the answer of the search.
-use Rattle.nfa_paths.specs.Common.{search_of}
+use Rattle.nfa_paths.proofs.Common.{search_of}
 use Rattle.nfa_choice.specs.ChoiceState.{kind_in}
 use Rattle.nfa_search_base.proofs.EngineLemmas.{find-answered}
 use Rattle.nfa_choice.proofs.choose.find_iter.ByRuleFindWith.answer.Goals as goal

@@ -1,10 +1,8 @@
 -- A step may be made, and never errs.
-use Rattle.nfa_paths.specs.Common.{found_of}
-use Rattle.nfa_search_base.specs.Serving.{may_ask}
-use Rattle.nfa_search_base.specs.StepsWith.{steps_with_state}
-use Rattle.nfa_search_base.specs.IterStates.{span_of}
+use Rattle.nfa_paths.proofs.Common.{found_of}
+use Rattle.nfa_search_base.specs.Common.{may_ask, steps_with_state, span_of}
 use Rattle.nfa_search_base.proofs.StoredLemmas.{surely-inside}
-use Rattle.nfa_choice.specs.Matches.{AsksByRule, choice_matches}
+use Rattle.nfa_choice.specs.Iterations.{AsksByRule, choice_matches}
 use Rattle.nfa_choice.proofs.FindLemmas.{finder-serves, rule_finder}
 use Rattle.nfa_choice.proofs.choose.find_iter.ChoiceMatchesIterator.next.Goals as goal
 

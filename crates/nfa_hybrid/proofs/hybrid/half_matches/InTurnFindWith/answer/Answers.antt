@@ -1,5 +1,5 @@
 -- The hybrid's half match is the answer of the search.
-use Rattle.nfa_paths.specs.Common.{search_of}
+use Rattle.nfa_paths.proofs.Common.{search_of}
 use Rattle.nfa_hybrid.specs.HybridState.{kind_in}
 use Rattle.nfa_hybrid.proofs.HalfListLemmas.{half-answered}
 use Rattle.nfa_hybrid.proofs.hybrid.half_matches.InTurnFindWith.answer.Goals as goal

@@ -1,6 +1,5 @@
 -- A step may be made, and leaves what the iterator keeps.
-use Rattle.nfa_search_base.specs.StepsWith.{steps_with_state}
-use Rattle.nfa_search_base.specs.WithCache.{with_cache}
+use Rattle.nfa_search_base.specs.Common.{steps_with_state, with_cache}
 use Rattle.nfa_meta.specs.CapturesMatches.{captures_steps}
 use Rattle.nfa_meta.specs.WindowRuns.{RunsByWindow}
 use Rattle.nfa_choice.proofs.CapturesLemmas.{step-goes, steps-serve}

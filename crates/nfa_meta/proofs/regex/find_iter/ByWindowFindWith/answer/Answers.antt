@@ -1,8 +1,7 @@
 -- A known match is the answer. Otherwise it is the search's, which may give the match that is known then.
-use Rattle.std.proofs.Common.{rules, ◌∙◌, Option, option_map, subst, sym}
-use Rattle.nfa_paths.specs.Common.{found_of, search_of, Match, IsFindAnswer}
+use Rattle.nfa_paths.proofs.Common.{rules, ◌∙◌, Option, option_map, subst, sym, found_of, search_of, Match, IsFindAnswer}
 use Rattle.nfa_search_base.proofs.EngineLemmas.{find-answered, known-answer, known-kept}
-use Rattle.nfa_search_base.specs.EngineSearches.{IsKnownFrom}
+use Rattle.nfa_search_base.specs.Common.{IsKnownFrom}
 use Rattle.nfa_pikevm.specs.Engines.{Pike}
 use Rattle.nfa_pikevm.specs.Finding.{IsSureOf}
 use Rattle.nfa_pikevm.proofs.FindLemmas.{finds-sure, pike_finder}

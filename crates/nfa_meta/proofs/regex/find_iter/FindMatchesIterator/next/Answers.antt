@@ -1,8 +1,6 @@
 -- A step may be made, never errs, and leaves what the iterator keeps.
-use Rattle.nfa_paths.specs.Common.{found_of}
-use Rattle.nfa_search_base.specs.WithCache.{with_cache}
-use Rattle.nfa_search_base.specs.StepsWith.{steps_with_state}
-use Rattle.nfa_search_base.specs.IterStates.{span_of}
+use Rattle.nfa_paths.proofs.Common.{found_of}
+use Rattle.nfa_search_base.specs.Common.{with_cache, steps_with_state, span_of}
 use Rattle.nfa_search_base.proofs.StoredLemmas.{surely-inside}
 use Rattle.nfa_choice.proofs.FindLemmas.{finder-goes, finder-serves}
 use Rattle.nfa_meta.specs.Matches.{AsksByWindow, MayFindByWindow, finds_steps}

@@ -1,8 +1,6 @@
 -- A step may be made, and never errs.
-use Rattle.nfa_paths.specs.Common.{half_found_of}
-use Rattle.nfa_search_base.specs.Serving.{may_ask}
-use Rattle.nfa_search_base.specs.StepsWith.{steps_with_state}
-use Rattle.nfa_search_base.specs.IterStates.{half_span_of}
+use Rattle.nfa_paths.proofs.Common.{half_found_of}
+use Rattle.nfa_search_base.specs.Common.{may_ask, steps_with_state, half_span_of}
 use Rattle.nfa_search_base.proofs.StoredLemmas.{surely-inside}
 use Rattle.nfa_choice.specs.ChoiceState.{pike_of}
 use Rattle.nfa_hybrid.specs.HalfIterations.{AsksHalf}

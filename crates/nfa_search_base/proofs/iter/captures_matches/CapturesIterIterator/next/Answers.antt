@@ -1,6 +1,5 @@
 -- A step whose finder never errs gives captures, nothing, or a refusal.
-use Rattle.nfa_search_base.specs.WithCaptures.{row_span}
-use Rattle.nfa_search_base.specs.IterStates.{IsInfalliblyInside}
+use Rattle.nfa_search_base.specs.Common.{row_span, IsInfalliblyInside}
 use Rattle.nfa_search_base.proofs.AskingLemmas.{Along-weaker}
 use Rattle.nfa_search_base.proofs.StepLemmas.{filler_calls}
 use Rattle.nfa_search_base.proofs.StoredLemmas.{takes-progress}

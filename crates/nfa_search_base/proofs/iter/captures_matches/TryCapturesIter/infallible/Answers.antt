@@ -1,7 +1,7 @@
 -- The items are those of the iterator that it was.
 use Rattle.std.proofs.Common.{refl}
 use Rattle.nfa_search_base.proofs.WithCapturesLemmas.{captures-listed}
-use Rattle.nfa_search_base.proofs.MayAnswerRowLemmas.{sure-caught, sure-caught_disjoint}
+use Rattle.nfa_search_base.proofs.MayAnswerLemmas.{sure-caught, sure-caught_disjoint}
 use Rattle.nfa_search_base.proofs.iter.captures_matches.TryCapturesIter.infallible.Goals as goal
 
 pub returns : goal.returns

@@ -1,9 +1,6 @@
 -- A step by calls of the finder is a step of the iterator that keeps it.
-use Rattle.std.proofs.Common.{subst}
-use Rattle.nfa_search_base.specs.StoredRuns.{stored_captures_steps}
-use Rattle.nfa_search_base.specs.WithCache.{steps_whole, with_cache}
-use Rattle.nfa_search_base.specs.WithCaptures.{WithCaptures, with_finder}
-use Rattle.nfa_search_base.specs.declared.iter.steps.Steps.{Steps}
+use Rattle.nfa_paths.proofs.Common.{subst}
+use Rattle.nfa_search_base.specs.Common.{stored_captures_steps, steps_whole, with_cache, WithCaptures, with_finder, Steps}
 use Rattle.nfa_search_base.proofs.StepLemmas.{Along-whole, filler_calls}
 use Rattle.nfa_search_base.proofs.StoredLemmas.{takes-whole, progress-whole}
 use Rattle.nfa_search_base.proofs.iter.captures_matches.TryCapturesIterIterator.next.Goals as goal

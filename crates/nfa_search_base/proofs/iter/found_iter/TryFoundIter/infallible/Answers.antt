@@ -1,7 +1,6 @@
 -- The items are those of the iterator that it was.
-use Rattle.std.proofs.Common.{refl}
-use Rattle.nfa_search_base.specs.Asking.{IsCallableOn}
-use Rattle.nfa_search_base.specs.Finders.{Finds}
+use Rattle.nfa_paths.proofs.Common.{refl}
+use Rattle.nfa_search_base.specs.Common.{IsCallableOn, Finds}
 use Rattle.nfa_search_base.proofs.StoredLemmas.{sure-yields}
 use Rattle.nfa_search_base.proofs.MayAnswerLemmas.{sure, sure-disjoint}
 use Rattle.nfa_search_base.proofs.iter.found_iter.TryFoundIter.infallible.Goals as goal

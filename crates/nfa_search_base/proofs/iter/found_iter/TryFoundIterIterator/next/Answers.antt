@@ -1,8 +1,6 @@
 -- A step by calls of the finder is a step of the iterator that keeps it.
-use Rattle.std.proofs.Common.{subst}
-use Rattle.nfa_search_base.specs.StoredRuns.{stored_match_steps}
-use Rattle.nfa_search_base.specs.WithCache.{only_cache, steps_whole, with_cache}
-use Rattle.nfa_search_base.specs.declared.iter.steps.Steps.{Steps}
+use Rattle.nfa_paths.proofs.Common.{subst}
+use Rattle.nfa_search_base.specs.Common.{stored_match_steps, only_cache, steps_whole, with_cache, Steps}
 use Rattle.nfa_search_base.proofs.StepLemmas.{Along-whole, finder_calls}
 use Rattle.nfa_search_base.proofs.StoredLemmas.{takes-whole, progress-whole}
 use Rattle.nfa_search_base.proofs.iter.found_iter.TryFoundIterIterator.next.Goals as goal

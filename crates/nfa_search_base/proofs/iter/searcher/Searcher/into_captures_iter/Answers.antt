@@ -2,7 +2,7 @@
 use Rattle.std.proofs.Common.{refl}
 use Rattle.nfa_search_base.specs.Stored.{steps_from}
 use Rattle.nfa_search_base.proofs.WithCapturesLemmas.{captures-listed}
-use Rattle.nfa_search_base.proofs.MayAnswerRowLemmas.{caught, caught-disjoint}
+use Rattle.nfa_search_base.proofs.MayAnswerLemmas.{caught, caught-disjoint}
 use Rattle.nfa_search_base.proofs.iter.searcher.Searcher.into_captures_iter.Goals as goal
 
 pub returns : goal.returns

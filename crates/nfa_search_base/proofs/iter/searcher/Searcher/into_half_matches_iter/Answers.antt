@@ -1,10 +1,6 @@
 -- The items are the list of the finder.
-use Rattle.std.proofs.Common.{refl, arith}
-use Rattle.nfa_paths.specs.Common.{HalfFound, half_found_of, Search}
-use Rattle.nfa_search_base.specs.Asking.{IsCallableOn}
-use Rattle.nfa_search_base.specs.Finders.{Finds}
-use Rattle.nfa_search_base.specs.IterStates.{Answer, half_span_of}
-use Rattle.nfa_search_base.specs.Stored.{steps_from}
+use Rattle.nfa_paths.proofs.Common.{refl, arith, HalfFound, half_found_of, Search}
+use Rattle.nfa_search_base.specs.Common.{IsCallableOn, Finds, Answer, half_span_of, steps_from}
 use Rattle.nfa_search_base.proofs.GreedyLemmas.{try-yields}
 use Rattle.nfa_search_base.proofs.MayAnswerLemmas.{found, found-disjoint}
 use Rattle.nfa_search_base.proofs.iter.searcher.Searcher.into_half_matches_iter.Goals as goal

@@ -1,7 +1,6 @@
 -- A step by the borrowed finder is one by the finder.
-use Rattle.nfa_paths.specs.Common.{found_of}
-use Rattle.nfa_search_base.specs.IterStates.{span_of}
-use Rattle.nfa_search_base.specs.WithCache.{only_cache}
+use Rattle.nfa_paths.proofs.Common.{found_of}
+use Rattle.nfa_search_base.specs.Common.{span_of, only_cache}
 use Rattle.nfa_search_base.proofs.StepLemmas.{finder_calls, serves-whole, step-whole}
 use Rattle.nfa_search_base.proofs.iter.searcher.Searcher.try_advance_by_ref.Goals as goal
 

@@ -1,11 +1,8 @@
 -- Each call gives one item more. The last one gave none, an error, or the item that could not be kept.
-use Rattle.std.proofs.Common.{inr, Ok, Some, map}
-use Rattle.std.proofs.lemmas.Result.{err_from_is_err_and}
-use Rattle.nfa_search_base.specs.WithCache.{with_cache}
-use Rattle.nfa_search_base.specs.Stored.{takes_steps}
-use Rattle.nfa_search_base.specs.IterStates.{AnswerIsInside}
+use Rattle.nfa_paths.proofs.Common.{inr, Ok, Some, map, err_from_is_err_and}
+use Rattle.nfa_search_base.specs.Common.{with_cache, takes_steps, AnswerIsInside}
 use Rattle.nfa_search_base.proofs.OkItemLemmas.{oked-more}
-use Rattle.nfa_search_base.proofs.RunLemmas.{yields-more}
+use Rattle.nfa_search_base.proofs.RunLemmas.{calls-led, yields-more}
 use Rattle.nfa_search_base.proofs.StoredLemmas.{takes-progress}
 use Rattle.nfa_search_base.proofs.iter.steps.Steps.all_with.Goals as goal
 
@@ -41,28 +38,13 @@ returns-in_err-item-clause-errors g c =
     }))
 
 pub returns-in_err-item-clause-calls : goal.returns-in_err-item-clause-calls
-returns-in_err-item-clause-calls g c = record {
-  items = map Ok c.loop-item.all.items;
-  last = with_cache c.loop-item.self c.loop-item.cache;
-  item = c.next_with.result;
-  ran = c.loop-item.invariant.ran;
-  over = c.next_with.ensures;
-}
+returns-in_err-item-clause-calls g c =
+    calls-led c.loop-item.all.items _ c.next_with.result c.loop-item.invariant.ran c.next_with.ensures
 
 pub returns-in_err-push-clause-calls : goal.returns-in_err-push-clause-calls
-returns-in_err-push-clause-calls g c = record {
-  items = map Ok c.loop-item.all.items;
-  last = with_cache c.loop-item.self c.loop-item.cache;
-  item = c.next_with.result;
-  ran = c.loop-item.invariant.ran;
-  over = c.next_with.ensures;
-}
+returns-in_err-push-clause-calls g c =
+    calls-led c.loop-item.all.items _ c.next_with.result c.loop-item.invariant.ran c.next_with.ensures
 
 pub returns-clause-calls : goal.returns-clause-calls
-returns-clause-calls g c = record {
-  items = map Ok c.loop-item.all.items;
-  last = with_cache c.loop-item.self c.loop-item.cache;
-  item = c.next_with.result;
-  ran = c.loop-item.invariant.ran;
-  over = c.next_with.ensures;
-}
+returns-clause-calls g c =
+    calls-led c.loop-item.all.items _ c.next_with.result c.loop-item.invariant.ran c.next_with.ensures

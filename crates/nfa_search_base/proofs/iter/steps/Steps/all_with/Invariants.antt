@@ -1,9 +1,6 @@
 -- The calls so far gave what is kept, and the next one may be made.
-use Rattle.std.proofs.Common.{Ok, map}
-use Rattle.std.specs.Iterator.{Yields}
-use Rattle.nfa_search_base.specs.Items.{items_left}
-use Rattle.nfa_search_base.specs.WithCache.{with_cache}
-use Rattle.nfa_search_base.specs.Stored.{can_step, steps_iter_state, takes_steps}
+use Rattle.nfa_paths.proofs.Common.{Ok, map}
+use Rattle.nfa_search_base.specs.Common.{items_left, with_cache, can_step, steps_iter_state, takes_steps, Yields}
 use Rattle.nfa_search_base.proofs.iter.steps.Steps.all_with.Given as goal
 
 abbrev pub invariant-loop-item : goal.invariant-loop-item

@@ -1,5 +1,5 @@
 -- A step by searches with a cache is a step of the iterator.
-use Rattle.nfa_search_base.specs.Searchers.{iter_state_of}
+use Rattle.nfa_search_base.specs.Stored.{iter_state_of}
 use Rattle.nfa_search_base.proofs.StepLemmas.{ServesAdvance-now}
 use Rattle.nfa_search_base.proofs.iter.steps.Steps.next_with.Goals as goal
 

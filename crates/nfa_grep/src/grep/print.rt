@@ -1,0 +1,247 @@
+//! What is printed of a line in which a pattern matches.
+ghost use Rattle.std.specs.Prelude.{◌≡◌, ◌≤◌, ◌<◌, ◌+◌, ◌^◌, ◌++◌, All, IfOk, List, OnOk, false, length, [], None, if◌then◌else◌, map};
+ghost use Rattle.std.specs.List.{flat_map};
+ghost use Rattle.regex_hir.specs.Re.{Re};
+ghost use Rattle.regex_search_core.specs.Found.{found_of};
+ghost use Rattle.regex_search_core.specs.Search.{whole};
+ghost use Rattle.nfa_engines.specs.Lists.{AreDisjoint, IsInside};
+ghost use Rattle.nfa_grep.specs.Meant.{Mean, all_found, is_found, span_of};
+ghost use Rattle.nfa_grep.specs.Printed.{has_colours, is_selected, mark_of, painted_line, piece, shown, shown_if_selected, shown_matches, shown_whole, text_of};
+ghost use Rattle.text_lines.specs.Lines.{with_end};
+
+use crate::grep::Grep;
+use crate::line::{Place, append_head};
+use crate::options::Options;
+use crate::paint::{Colour, append_matched, append_painted};
+use nfa_compiler::laws;
+use regex_search_core::{Input, Match};
+use std::alloc::AllocError;
+use text_lines::line::{append_record, record_content};
+
+impl<'p> Grep<'p> {
+    /// Returns all matches in the text of a line, from left to right.
+    fn matches(&mut self, text: &[u8]) -> Result<Vec<Match>, AllocError>
+        ensures all { IfOk result (λ found. (res : List Re) → Mean self.old res
+            → map span_of (map found_of found.items) ≡ map span_of (all_found res text.now)) }
+        ensures inside { IfOk result (λ found. All (λ m. IsInside (whole text.now) (found_of m)) found.items) }
+        ensures apart { IfOk result (λ found. AreDisjoint (whole text.now) None (map found_of found.items)) }
+        ensures kept { self.new ≡ self.old }
+    {
+        laws::iterations_find_all_hits();
+        let Ok(matches) = self.regex.find_all(self.alloc, Input::new(text)) else {
+            return Err(AllocError);
+        };
+        Ok(matches)
+    }
+
+    /// Appends what is printed of the line if it is selected, and returns whether it is.
+    fn append_line(
+        &mut self,
+        place: Place<'_>,
+        line: &[u8],
+        out: &mut Vec<u8>,
+    ) -> Result<bool, AllocError>
+        requires counted { place.offset + length line.now < 2 ^ 64 }
+        ensures selected { IfOk result (λ selected. (res : List Re) → Mean self.old res
+            → selected ≡ is_selected self.old.options res line.now) }
+        ensures shown { OnOk result ((res : List Re) → Mean self.old res → out.new.items
+            ≡ out.old.items ++ shown_if_selected self.old.options res place.entry.name.now place.entry.number
+            place.entry.offset line.now) }
+        ensures kept { self.new ≡ self.old }
+    {
+        let options = self.options;
+        let at = Place { end: b':', ..place };
+        if options.only && !options.inverted {
+            return self.append_matches(at, line, out);
+        }
+        let selected = self.selects(line);
+        if selected && !options.only {
+            self.append_whole(at, line, out)?;
+        }
+        Ok(selected)
+    }
+
+    /// Appends what is printed of a line because of one near it.
+    pub fn append_near(
+        &mut self,
+        place: Place<'_>,
+        line: &[u8],
+        out: &mut Vec<u8>,
+    ) -> Result<(), AllocError>
+        requires counted { place.offset + length line.now < 2 ^ 64 }
+        ensures shown { OnOk result ((res : List Re) → Mean self.old res → out.new.items
+            ≡ out.old.items ++ shown self.old.options res place.entry.name.now place.entry.number place.entry.offset
+            false line.now) }
+        ensures kept { self.new ≡ self.old }
+    {
+        let at = Place { end: b'-', ..place };
+        if !self.options.only {
+            return self.append_whole(at, line, out);
+        }
+        if self.options.inverted {
+            self.append_matches(at, line, out)?;
+        }
+        Ok(())
+    }
+
+    /// Returns whether the line is selected, and appends what is printed of it, if that is wanted.
+    pub fn take_line(
+        &mut self,
+        wanted: bool,
+        place: Place<'_>,
+        line: &[u8],
+        out: &mut Vec<u8>,
+    ) -> Result<bool, AllocError>
+        requires counted { place.offset + length line.now < 2 ^ 64 }
+        ensures selected { IfOk result (λ selected. (res : List Re) → Mean self.old res
+            → selected ≡ is_selected self.old.options res line.now) }
+        ensures shown { OnOk result ((res : List Re) → Mean self.old res → out.new.items ≡ out.old.items
+            ++ (if wanted then shown_if_selected self.old.options res place.entry.name.now place.entry.number
+            place.entry.offset line.now else [])) }
+        ensures kept { self.new ≡ self.old }
+    {
+        if wanted {
+            self.append_line(place, line, out)
+        } else {
+            Ok(self.selects(line))
+        }
+    }
+
+    /// Appends each match in the text of the line that is not empty, and returns whether there is any match, which may
+    /// be empty. The line is searched once.
+    fn append_matches(
+        &mut self,
+        place: Place<'_>,
+        line: &[u8],
+        out: &mut Vec<u8>,
+    ) -> Result<bool, AllocError>
+        requires counted { place.offset + length line.now < 2 ^ 64 }
+        ensures found { IfOk result (λ found. (res : List Re) → Mean self.old res
+            → found ≡ is_found res (text_of self.old.options line.now)) }
+        ensures shown { OnOk result ((res : List Re) → Mean self.old res → out.new.items
+            ≡ out.old.items ++ shown_matches self.old.options place.entry.end res place.entry.name.now
+            place.entry.number place.entry.offset line.now) }
+        ensures kept { self.new ≡ self.old }
+    {
+        let matches = self.matches(self.text_of(line))?;
+        if matches.is_empty() {
+            return Ok(false);
+        }
+        let mark = self.mark(line)?;
+        append_pieces(self.options, place, &mark, line, &matches, out)?;
+        Ok(true)
+    }
+
+    /// Appends the line, with what comes before it.
+    fn append_whole(
+        &mut self,
+        place: Place<'_>,
+        line: &[u8],
+        out: &mut Vec<u8>,
+    ) -> Result<(), AllocError>
+        ensures shown { OnOk result ((res : List Re) → Mean self.old res → out.new.items
+            ≡ out.old.items ++ shown_whole self.old.options place.entry.end res place.entry.name.now place.entry.number
+            place.entry.offset line.now) }
+        ensures kept { self.new ≡ self.old }
+    {
+        let mark = self.mark(line)?;
+        append_head(self.options, place, &mark, out)?;
+        if has_colours(self.options, place.end) {
+            return self.append_painted(line, out);
+        }
+        append_record(line, self.options.end, out)
+    }
+
+    /// Appends the line, with its matches in colour.
+    fn append_painted(&mut self, line: &[u8], out: &mut Vec<u8>) -> Result<(), AllocError>
+        ensures shown { OnOk result ((res : List Re) → Mean self.old res
+            → out.new.items ≡ out.old.items ++ painted_line self.old.options res line.now) }
+        ensures kept { self.new ≡ self.old }
+    {
+        let end = self.options().end;
+        let text = self.text_of(line);
+        let matches = self.matches(text)?;
+        append_matched(text, &matches, out)?;
+        append_record(&line[text.len()..], end, out)
+    }
+
+    /// Returns the numbers of the patterns that match in the line, as they are printed, or nothing if they are not
+    /// wanted.
+    fn mark(&mut self, line: &[u8]) -> Result<Vec<u8>, AllocError>
+        ensures mark { IfOk result (λ mark. (res : List Re) → Mean self.old res
+            → mark.items ≡ mark_of self.old.options res line.now) }
+        ensures kept { self.new ≡ self.old }
+    {
+        let mut mark = Vec::new(self.alloc);
+        if let Some(which) = &mut self.which {
+            which.append_numbers(
+                self.alloc,
+                record_content(line, self.options.end),
+                &mut mark,
+            )?;
+        }
+        Ok(mark)
+    }
+}
+
+/// Returns whether the matches of a whole line are in colour, if this byte is after its labels.
+fn has_colours(options: Options, end: u8) -> bool
+    ensures { result ≡ has_colours options end }
+{
+    options.coloured
+        && if options.inverted {
+            end != b':'
+        } else {
+            end == b':'
+        }
+}
+
+/// Appends each match that is not empty as a line of its own.
+fn append_pieces(
+    options: Options,
+    place: Place<'_>,
+    mark: &[u8],
+    line: &[u8],
+    matches: &[Match],
+    out: &mut Vec<u8>,
+) -> Result<(), AllocError>
+    requires counted { place.offset + length line.now < 2 ^ 64 }
+    requires inside { All (λ m. (found_of m).end ≤ length line.now) matches.now }
+    ensures { OnOk result (out.new.items ≡ out.old.items
+        ++ flat_map (piece options place.entry.end place.entry.name.now mark.now place.entry.number place.entry.offset
+        line.now) (map span_of (map found_of matches.now))) }
+{
+    for found in matches {
+        append_piece(options, place, mark, line, *found, out)?;
+    }
+    Ok(())
+}
+
+/// Appends the match as a line of its own, if it is not empty.
+fn append_piece(
+    options: Options,
+    place: Place<'_>,
+    mark: &[u8],
+    line: &[u8],
+    found: Match,
+    out: &mut Vec<u8>,
+) -> Result<(), AllocError>
+    requires counted { place.offset + length line.now < 2 ^ 64 }
+    requires inside { (found_of found).end ≤ length line.now }
+    ensures { OnOk result (out.new.items ≡ out.old.items
+        ++ piece options place.entry.end place.entry.name.now mark.now place.entry.number place.entry.offset line.now
+        (span_of (found_of found))) }
+{
+    if found.start() == found.end() {
+        return Ok(());
+    }
+    let at = Place {
+        offset: place.offset + found.start() as u64,
+        ..place
+    };
+    append_head(options, at, mark, out)?;
+    let text = &line[found.start()..found.end()];
+    append_painted(options.coloured, Colour::Match, text, out)?;
+    out.push(options.end)?;
+    Ok(())
+}
