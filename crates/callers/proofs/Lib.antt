@@ -1,5 +1,4 @@
 mod KindLemmas
 mod DigitLemmas
-mod SetKindLemmas
 mod PathStateLemmas
 mod HalfLemmas

@@ -10,7 +10,7 @@ use Rattle.nfa_engines.specs.MatchKind.{MatchKind}
 use Rattle.nfa_engines.specs.Automaton.{Automaton}
 use Rattle.nfa_engines.specs.Paths.{byte_at, IsFindAnswer}
 use Rattle.nfa_engines.specs.SpanLaws.{cut_out}
-use Rattle.callers.specs.Written.{line_of}
+use Rattle.callers.specs.Texts.{line_of}
 
 pub match_of_search : (nfa : Automaton) (kind : MatchKind) (x y : Search) (found : Option Found) → y ≡ x
     → IsFindAnswer nfa kind y.earliest y found → IsFindAnswer nfa kind x.earliest x found

@@ -1,5 +1,2 @@
 pub mod Lines
-pub mod Loops
-pub mod Redacted
-pub mod Regexes
-pub mod Written
+pub mod Texts

@@ -1,16 +1,16 @@
 //! Callers of the laws on the answers of searches: each takes a law, and says what follows of calls.
-ghost use Rattle.std.specs.Prelude.{◌≡◌, ◌<◌, ◌≤◌, false, true, length, option_map, IfOk, IfSome, IsErrOf};
-ghost use Rattle.std.specs.Prelude.{List, Ok, Option, is_some, option_and_then, take, ℕ};
+ghost use Rattle.std.specs.Prelude.{◌≡◌, ◌<◌, ◌≤◌, false, true, length, option_map, IfOk, IfSome, IsErrOf, List, Ok};
+ghost use Rattle.std.specs.Prelude.{Option, is_some, option_and_then, take, ℕ};
 ghost use Rattle.nfa_engines.specs.Found.{found_of};
 ghost use Rattle.nfa_engines.specs.Groups.{slot_count};
-ghost use Rattle.nfa_engines.specs.Patterns.{number_of};
+ghost use Rattle.nfa_engines.specs.PatternSets.{number_of};
 ghost use Rattle.nfa_engines.specs.Search.{search_of};
 ghost use Rattle.nfa_engines.specs.MatchKind.TheVariants.{LeftmostFirst};
-ghost use Rattle.nfa_engines.specs.Accepting.{MatchesNothing, MatchesPattern, MatchesSomething};
+ghost use Rattle.nfa_engines.specs.Laws.{MatchesNothing, MatchesPattern, MatchesSomething};
 ghost use Rattle.nfa_engines.specs.Backtrack.{capacity_of, max_haystack_len_of};
 ghost use Rattle.nfa_engines.specs.Engines.{Fits, kind_of};
 ghost use Rattle.nfa_engines.specs.Graphs.{Pair};
-ghost use Rattle.nfa_engines.specs.ListLaws.{IsCall};
+ghost use Rattle.nfa_engines.specs.IterationLaws.{IsCall};
 ghost use Rattle.nfa_engines.specs.Paths.{IsBoolAnswer, IsScanAnswer, IsSearchAnswer, is_utf8_empty, path_pattern};
 ghost use Rattle.nfa_engines.specs.Paths.{span_len};
 ghost use Rattle.nfa_engines.specs.Finders.{match_span};

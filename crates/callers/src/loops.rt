@@ -6,7 +6,7 @@ ghost use Rattle.nfa_engines.specs.Backtrack.{HoldsNoMore, IsTooLong};
 ghost use Rattle.nfa_engines.specs.Engines.{Fits, SameCapacities};
 ghost use Rattle.nfa_engines.specs.Search.{whole};
 ghost use Rattle.nfa_choice.specs.ChoiceState.{finds_in, KeepsEngines};
-ghost use Rattle.callers.specs.Loops.{IsFirstCommonStart, backtracker_finds, pikevm_finds, starting_at};
+ghost use Rattle.callers.specs.Texts.{IsFirstCommonStart, backtracker_finds, pikevm_finds, starting_at};
 
 use nfa_choice::Choice;
 use nfa_engines::backtrack::{self, BoundedBacktracker};

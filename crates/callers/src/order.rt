@@ -6,7 +6,7 @@ ghost use Rattle.nfa_engines.specs.Anchored.TheVariants.{Yes};
 ghost use Rattle.nfa_engines.specs.MatchKind.TheVariants.{LeftmostFirst};
 ghost use Rattle.nfa_engines.specs.Engines.{Fits, kind_of};
 ghost use Rattle.nfa_engines.specs.Paths.{is_utf8_empty};
-ghost use Rattle.nfa_engines.specs.PatternLaws.{IsFirstThatMatches, TriesPatternsInOrder};
+ghost use Rattle.nfa_engines.specs.StartLaws.{IsFirstThatMatches, TriesPatternsInOrder};
 ghost use Rattle.nfa_compiler.specs.Compiled.{IsCompiled};
 ghost use Rattle.nfa_compiler.specs.Written.{syntax_of};
 

@@ -25,7 +25,7 @@ impl Model for LineSearch {
 impl LineSearch {
     ghost use Rattle.std.specs.Prelude.{◌≡◌, IfOk};
     ghost use Rattle.std.specs.List.{count_by};
-    ghost use Rattle.callers.specs.Loops.{pikevm_finds};
+    ghost use Rattle.callers.specs.Texts.{pikevm_finds};
 
     /// Makes a cache for the engine. Fails only if allocation fails.
     pub fn new(alloc: Global, vm: PikeVM) -> Result<LineSearch, SearchError>

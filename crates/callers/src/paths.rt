@@ -3,9 +3,8 @@ ghost use Rattle.std.specs.Prelude.{◌≡◌, ◌+◌, ◌≤◌, false, length
 ghost use Rattle.nfa_engines.specs.Found.{Found, found_of};
 ghost use Rattle.nfa_engines.specs.Search.{Search, search_of};
 ghost use Rattle.nfa_engines.specs.MatchKind.TheVariants.{LeftmostFirst};
-ghost use Rattle.nfa_engines.specs.Accepting.{MatchesNothing};
+ghost use Rattle.nfa_engines.specs.Laws.{MatchesNothing, PathsWriteTheirEnds, StartsBeforePaths};
 ghost use Rattle.nfa_engines.specs.Engines.{Fits, kind_of};
-ghost use Rattle.nfa_engines.specs.GapLaws.{PathsWriteTheirEnds, StartsBeforePaths};
 ghost use Rattle.nfa_engines.specs.Graphs.{ComesBefore, Pair, PathTo};
 ghost use Rattle.nfa_engines.specs.Items.{greedy, IsFoundIn, answer_by, end_of, item_by};
 ghost use Rattle.nfa_engines.specs.Paths.{edges, is_utf8_empty, span_len, starts, IsMatch};

@@ -1,17 +1,17 @@
 //! Callers of the laws on where an answer starts, on the patterns of an NFA, and on spans.
 ghost use Rattle.std.specs.Prelude.{◌≡◌, ◌+◌, ◌≤◌, false, length, option_map, slice_get, IfSome, Some};
 ghost use Rattle.nfa_engines.specs.Found.{found_of};
-ghost use Rattle.nfa_engines.specs.Patterns.{number_of};
+ghost use Rattle.nfa_engines.specs.PatternSets.{number_of};
 ghost use Rattle.nfa_engines.specs.Search.{search_of};
 ghost use Rattle.nfa_engines.specs.Anchored.TheVariants.{Yes};
 ghost use Rattle.nfa_engines.specs.MatchKind.TheVariants.{LeftmostFirst};
 ghost use Rattle.nfa_engines.specs.Engines.{Fits, kind_of};
 ghost use Rattle.nfa_engines.specs.Paths.{is_utf8_empty, IsAnswer, IsFindAnswer};
-ghost use Rattle.nfa_engines.specs.PatternLaws.{IsMatchOfPattern, IsOfPattern, TriesPatternsInOrder};
+ghost use Rattle.nfa_engines.specs.StartLaws.{IsMatchOfPattern, IsOfPattern, TriesPatternsInOrder, IsFirstStart};
+ghost use Rattle.nfa_engines.specs.StartLaws.{IsUnbound};
 ghost use Rattle.nfa_engines.specs.SpanLaws.{byte_before, cut_out, moved_match, AreSidesSame, EachLook, HasNoLook};
 ghost use Rattle.nfa_engines.specs.SpanLaws.{IsLineEdge, IsOfLines, IsSameSpan, ReadsBytes};
-ghost use Rattle.nfa_engines.specs.StartLaws.{IsFirstStart, IsUnbound};
-ghost use Rattle.callers.specs.Written.{line_of};
+ghost use Rattle.callers.specs.Texts.{line_of};
 
 use nfa_engines::pikevm::{Cache, PikeVM};
 use nfa_engines::{Anchored, Input, Match, NonMaxUsize, PatternID, laws};

@@ -2,7 +2,7 @@
 ghost use Rattle.std.specs.Prelude.{◌≡◌, IfOk};
 ghost use Rattle.nfa_choice.specs.ChoiceState.{KeepsEngines};
 ghost use Rattle.nfa_meta.specs.Rewritten.{IsRewrittenBy};
-ghost use Rattle.callers.specs.Redacted.{IsRedacted, is_hidden, is_within, starred};
+ghost use Rattle.callers.specs.Texts.{IsRedacted, is_hidden, is_within, starred};
 
 use anyhow::Result;
 use nfa_choice::Choice;

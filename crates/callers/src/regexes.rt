@@ -1,7 +1,7 @@
 //! A caller of a regex that is made of the text of a pattern.
 ghost use Rattle.std.specs.Prelude.{IfOk, map};
 ghost use Rattle.nfa_engines.specs.Found.{found_of};
-ghost use Rattle.callers.specs.Regexes.{AreMatchesOf};
+ghost use Rattle.callers.specs.Texts.{AreMatchesOf};
 
 use anyhow::Result;
 use nfa_engines::{Input, Match};

@@ -5,7 +5,7 @@ ghost use Rattle.nfa_engines.specs.Search.{search_of};
 ghost use Rattle.nfa_engines.specs.MatchKind.TheVariants.{All, LeftmostFirst};
 ghost use Rattle.nfa_engines.specs.Engines.{Fits, kind_of};
 ghost use Rattle.nfa_engines.specs.Graphs.{IsFirstPath, Pair};
-ghost use Rattle.nfa_engines.specs.Overlaps.{HoldsPattern, IsFirstBefore, IsFirstInsertable, IsPatternOf, IsPermitted};
+ghost use Rattle.nfa_engines.specs.Overlaps.{HoldsPattern, IsFirstBefore, IsPatternOf, IsPermitted, IsSelectedPath};
 ghost use Rattle.nfa_engines.specs.Paths.{edges, starts};
 
 use nfa_engines::pikevm::{Cache, PikeVM};
@@ -70,7 +70,7 @@ pub fn all_patterns(vm: &PikeVM, cache: &mut Cache, input: &Input<'_>, patterns:
 /// With room for each pattern the first path that counts is the first of all that may end where they do.
 pub fn all_paths_count(vm: &PikeVM, input: &Input<'_>, capacity: usize)
     requires room { length vm.now.nfa.patterns ≤ capacity }
-    ensures { (path : Option (List Pair)) → IsFirstInsertable vm.now.nfa (search_of input.now) capacity path
+    ensures { (path : Option (List Pair)) → IsSelectedPath vm.now.nfa (search_of input.now) false capacity path
         → IsFirstPath (edges vm.now.nfa (search_of input.now)) (starts vm.now.nfa (search_of input.now))
         (IsPermitted vm.now.nfa (search_of input.now)) path }
 {

@@ -4,7 +4,7 @@ ghost use Rattle.nfa_engines.specs.Search.{search_of};
 ghost use Rattle.nfa_engines.specs.Engines.{Fits};
 ghost use Rattle.nfa_engines.specs.Paths.{span_len, total_degree};
 ghost use Rattle.nfa_engines.specs.PikeVMFinding.{PikeFindsOn};
-ghost use Rattle.nfa_engines.specs.WorkLaws.{list_scan_limit};
+ghost use Rattle.nfa_engines.specs.IterationLaws.{list_scan_limit};
 
 use nfa_engines::backtrack::{self, BoundedBacktracker};
 use nfa_engines::error::SearchError;

@@ -6,7 +6,7 @@ ghost use Rattle.std.specs.List.{list_any};
 ghost use Rattle.regex_hir.specs.Re.{Re};
 ghost use Rattle.regex_syntax.specs.Verdict.{default_config};
 ghost use Rattle.nfa_compiler.specs.Written.{IsReadAs, MatchesIn, MatchesInStr, byte_syntax};
-ghost use Rattle.callers.specs.Written.{HoldsMonth};
+ghost use Rattle.callers.specs.Texts.{HoldsMonth};
 
 use anyhow::Result;
 use nfa_compiler::calls::{is_match_in_str, is_match_of_text};

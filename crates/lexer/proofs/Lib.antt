@@ -1,8 +1,5 @@
 -- The lemmas on tokens, on pieces, on positions, on rules and on writes.
-pub mod LexedLemmas
 pub mod PieceLemmas
 pub mod PositionLemmas
 pub mod PrintedLemmas
 pub mod RuleLemmas
-pub mod Writes
-pub mod RuleErrorLemmas

@@ -1,15 +1,20 @@
--- The pieces of a text are its tokens and the longest stretches at which none starts, and they are the text.
-use Rattle.std.proofs.Common.{◌≡◌, ◌∙◌, ℕ, zero, suc, Bool, not, ◌+◌, ◌-◌, ◌≤◌, ◌<◌, List, [], ◌∷◌, ◌++◌, All, length, drop, arith, refl, sym, ap, inl, inr, append_assoc, Option, None, Some, IsSome, is_none, is_some, option_map, slice_range, take_while, if◌then◌else◌}
+-- The hits of a lexer are its tokens, and the pieces of a text are these and the longest stretches at which none
+-- starts.
+use Rattle.std.proofs.Common.{◌≡◌, ◌∙◌, ℕ, zero, suc, Bool, not, ◌+◌, ◌-◌, ◌≤◌, ◌<◌, List, [], ◌∷◌, ◌++◌, All, length, drop, arith, refl, sym, ap, inl, inr, append_assoc, Option, None, Some, IsSome, is_none, is_some, option_map, slice_range, take_while, if◌then◌else◌, false, ◌==◌}
 use Rattle.std.proofs.lemmas.Bool.{cases_Bool, cases_lt, le-ltb, lt-ltb}
 use Rattle.std.proofs.lemmas.Bool.Decides.{nat_tests}
 use Rattle.std.proofs.lemmas.List.{drop_all}
 use Rattle.std.proofs.lemmas.List.Elements.{All-cons}
 use Rattle.std.proofs.lemmas.List.Folds.{drop_split}
 use Rattle.std.proofs.lemmas.List.Sums.{take_while-cons}
-use Rattle.nfa_compiler.specs.Common.{Re}
+use Rattle.nfa_compiler.specs.Common.{Re, AreMeant, expected, found_of_hit, hit, pick, byte_syntax}
 use Rattle.nfa_compiler.proofs.EachLemmas.{of-pick}
 use Rattle.regex_search_core.specs.Found.{Found}
-use Rattle.lexer.specs.Lexed.{IsPiece, TextPiece, end_after, is_token, joined, lexed, piece_of, piece_there, pieces_from, recovered, stretch_end, token_there}
+use Rattle.lexer.specs.Lexed.{IsPiece, TextPiece, end_after, is_token, joined, lexed, piece_of, piece_there, pieces_from, recovered, stretch_end, token_there, hit_there, search_at}
+use Rattle.nfa_engines.specs.Paths.{IsFindAnswer}
+use Rattle.nfa_compiler.specs.Laws.{InBytes, TextsAreMatched}
+use Rattle.nfa_meta.specs.ChoiceState.{ChoiceState, kind_in}
+use Rattle.nfa_meta.specs.Built.{IsRegexOf}
 
 -- a call found something, or nothing
 pub is-found : {A B : Type 0} (f : A → B) (o : Option A) (p : Option B) (b : Bool) → option_map f o ≡ p
@@ -192,3 +197,19 @@ module _ (res : List Re) (text : List ℕ) where
 
   pub all-pieces : All (IsPiece res text) (recovered res text)
   all-pieces = all-from (length text) 0
+
+module _ (res : List Re) (text : List ℕ) where
+  -- what a search that is bound to this place has to find
+  picked : (at : ℕ) → at ≤ length text → (bound : Bool) → expected res bound (search_at text at) ≡ pick text res 0 at
+  unfolding expected
+  picked at within bound = rw (le-ltb (length text) at within) refl
+
+  -- a search by the law finds the hit there
+  pub hit-is : TextsAreMatched InBytes hit → (patterns : List (List ℕ)) (regex : ChoiceState) → IsRegexOf patterns regex
+      → AreMeant byte_syntax patterns res → All (λ b. b < 256) text → (at : ℕ) → at ≤ length text
+      → (found : Option Found) → IsFindAnswer regex.nfa (kind_in regex) false (search_at text at) found
+      → found ≡ hit_there res text at
+  hit-is law patterns regex of meant bytes at within found answer =
+      law byte_syntax patterns res regex.nfa (kind_in regex) false (search_at text at) found of.compiled meant
+      of.anywhere (record { leftmost = rw of.leftmost refl; latest = refl; whole = refl }) bytes answer
+      ∙ ap found_of_hit (picked at within (regex.nfa.anchored == regex.nfa.unanchored))

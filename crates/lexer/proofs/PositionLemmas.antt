@@ -1,5 +1,5 @@
 -- The position of a place follows from that of the place before it, and is no greater than the place.
-use Rattle.std.proofs.Common.{◌≡◌, ◌∙◌, ℕ, zero, suc, ◌+◌, ◌≤◌, ◌<◌, Bool, true, false, List, [], ◌∷◌, ◌++◌, All, length, take, refl, sym, ap, subst, arith, inl, inr, get_or, Option, None, Some, IfSome, not, option_map, if◌then◌else◌}
+use Rattle.std.proofs.Common.{◌≡◌, ℕ, zero, suc, ◌+◌, ◌≤◌, ◌<◌, Bool, false, List, [], ◌∷◌, ◌++◌, All, length, take, refl, sym, arith, get_or, Option, None, Some, IfSome, not, option_map, if◌then◌else◌}
 use Rattle.std.specs.List.{filter}
 use Rattle.std.proofs.lemmas.List.{length-take-le, take_more}
 use Rattle.lexer.specs.Positions.{continues_character, first_position, is_feed, position_past_all, position_at, position_past}

@@ -1,5 +1,5 @@
 -- That the lines of pieces are written one after the other.
-use Rattle.std.proofs.Common.{◌≡◌, ◌∙◌, ℕ, ◌<◌, Bool, true, false, not, ◌&&◌, List, [], ◌∷◌, ◌++◌, length, arith, refl, sym, ap, append-nil, append_assoc, Option, None, Some, find, option_map, slice_range, take_while}
+use Rattle.std.proofs.Common.{◌≡◌, ◌∙◌, ℕ, ◌<◌, Bool, true, false, not, ◌&&◌, List, [], ◌∷◌, ◌++◌, length, arith, refl, sym, ap, append-nil, append_assoc, Option, None, find, option_map, slice_range, take_while}
 use Rattle.std.specs.Io.KnownBytes.{Appends}
 use Rattle.std.specs.List.{list_all}
 use Rattle.std.proofs.KnownBytes.{Appends-nil, Appends-trans}
@@ -9,7 +9,7 @@ use Rattle.std.proofs.lemmas.List.{flat_map_more}
 use Rattle.std.proofs.lemmas.List.Folds.{list_all-append}
 use Rattle.std.proofs.lemmas.List.Sums.{take_while-cons}
 use Rattle.regex_hir.specs.Re.{Re}
-use Rattle.lexer.specs.Lexed.{TextPiece, is_token, lexed, piece_there, pieces_from, recovered, stuck_in, token_there}
+use Rattle.lexer.specs.Lexed.{TextPiece, is_token, lexed, piece_there, recovered, stuck_in, token_there}
 use Rattle.lexer.specs.Printed.{HasPrinted, kind_line, piece_line, piece_lines, position_if, printed_tokens, stuck_at}
 use Rattle.lexer.specs.declared.position.Position.{Position}
 use Rattle.lexer.specs.declared.report.Style.{Style}
@@ -105,3 +105,5 @@ module _ (style : Style) (rules : List Rule) (res : List Re) (text : List ℕ) (
       let more = pieces-more res text so-far.left at less so-far.enough in
       let end = after at out so-far _ (so-far.goes_on ∙ ap (λ ps. so-far.pieces ++ ps) (rw (← none) at more.2)) in
       (rw (end.0, end.1, append-nil) (Appends-trans before out next _ _ so-far.written writes), sym end.2)
+
+pub ruleset writes = (Appends-nil, Appends-trans)

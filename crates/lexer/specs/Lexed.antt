@@ -1,7 +1,10 @@
--- The pieces of a text, in the words of the reference matcher: its tokens, and the stretches at which no token starts.
-use Rattle.std.specs.Prelude.{ℕ, zero, suc, ◌+◌, ◌-◌, ◌≡◌, ◌≤◌, ◌<◌, Bool, not, List, [], ◌∷◌, ◌++◌, All, drop, find, flat_map, length, Option, Some, None, IsSome, MatchOption, is_none, is_some, option_map, take_while, if◌then◌else◌, nat_lt, slice_range}
-use Rattle.nfa_compiler.specs.Common.{Re, found_of_hit, pick}
-use Rattle.regex_search_core.specs.Found.{Found}
+-- The tokens of a text, and its pieces, in the words of the reference matcher: tokens, and the stretches at which none
+-- starts.
+use Rattle.std.specs.Prelude.{find, ℕ, zero, suc, ◌+◌, ◌-◌, ◌≡◌, ◌≤◌, ◌<◌, Bool, not, List, [], ◌∷◌, ◌++◌, All, drop, flat_map, length, Option, Some, None, IsSome, MatchOption, is_none, is_some, option_map, take_while, if◌then◌else◌, nat_lt, slice_range, false}
+use Rattle.nfa_compiler.specs.Common.{Found, number_of, Search, Yes, Span, Re, found_of_hit, pick}
+use Rattle.lexer.specs.declared.lexer.Piece.{Piece}
+use Rattle.lexer.specs.declared.lexer.Piece.TheVariants as piece
+use Rattle.lexer.specs.declared.lexer.Token.{Token}
 
 -- the match, if it has a byte at least
 abbrev pub with_bytes : Option Found → Option Found
@@ -97,3 +100,30 @@ PiecesAreTheText = (res : List Re) (text : List ℕ) → joined text (recovered 
 -- each piece is a token, or a longest stretch
 abbrev pub PiecesAreLongest : Type 0
 PiecesAreLongest = (res : List Re) (text : List ℕ) → All (IsPiece res text) (recovered res text)
+
+-- the search of a text from an offset on, bound to start there
+abbrev pub search_at : List ℕ → ℕ → Search
+search_at text at = record { haystack = text; start = at; end = length text; anchored = Yes; earliest = false }
+
+-- the match that a token is
+abbrev pub token_found : Token → Found
+token_found token = record { pattern = number_of token.pattern; start = token.span.start; end = token.span.end }
+
+-- the number of the pattern of a token; none of a stretch
+abbrev pub piece_pattern : Piece → Option ℕ
+piece_pattern (piece.Token token) = Some (number_of token.pattern)
+piece_pattern (piece.Error span) = None
+
+-- where the piece is
+abbrev pub piece_span : Piece → Span
+piece_span (piece.Token token) = token.span
+piece_span (piece.Error span) = span
+
+-- the piece of the text that it is
+abbrev pub piece_found : Piece → TextPiece
+piece_found p = record { pattern = piece_pattern p; start = (piece_span p).start; end = (piece_span p).end }
+
+-- the span has a byte at least, and lies in the text
+pub record LiesInText (text : List ℕ) (span : Span) : Type 0 where
+  pub some_bytes : span.start < span.end
+  pub within : span.end ≤ length text

@@ -72,7 +72,8 @@ error_line style span position text =
     if style.json then object_line (codes "error") span position text
     else named_line (codes "error") span position text
 
--- the line of a token of the pattern of this number, of which those to skip have none; of no rule, its name is `?`
+-- The line of a token of the pattern of this number: nothing if its rule is one to skip. If no rule has the number, the
+-- name is `?`.
 abbrev pub pattern_line : Style → List Rule → ℕ → Span → Option Position → List ℕ → List ℕ
 pattern_line style rules number span position text =
     unwrap_or (option_map (λ rule. shown_unless_skipped style rule span position text) (slice_get rules number))

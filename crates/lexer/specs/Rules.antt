@@ -1,14 +1,11 @@
--- How rules are written, one in a line, and the regex of their patterns.
-use Rattle.std.specs.Prelude.{ℕ, ◌+◌, ◌<◌, ◌≡◌, ◌≢◌, ◌-◌, ◌↔◌, ◌==◌, ◌||◌, ◌++◌, Bool, false, not, IsTrue, List, [], None, chars, codes, drop, length, map, slice_index, slice_index_or}
-use Rattle.std.specs.List.{AllZip, after_first, before_first, enumerate_from, filter, position_or_len}
-use Rattle.std.specs.Str.{trim, trim_start}
-use Rattle.nfa_compiler.specs.Common.{Re, AreMeant, IsCompiled, default_config, Config}
-use Rattle.nfa_compiler.specs.declared.error.CompileError.TheVariants.{Memory}
-use Rattle.nfa_engines.specs.Paths.{is_utf8_empty}
-use Rattle.nfa_meta.specs.ChoiceState.{ChoiceState}
+-- How rules are written, one in a line, the regex of their patterns, and why rules cannot be compiled.
+use Rattle.std.specs.Prelude.{ℕ, ◌+◌, ◌<◌, ◌≡◌, ◌≢◌, ◌-◌, ◌↔◌, ◌||◌, ◌++◌, Bool, false, not, IsTrue, List, [], chars, codes, drop, length, map, slice_index, slice_index_or, ◌^◌, Some, true, ⊤, min, slice_get, take, ◌==◌}
+use Rattle.nfa_compiler.specs.Common.{decimal, AllZip, after_first, before_first, enumerate_from, filter, position_or_len, trim, trim_start, Re, AreMeant, compile_error_text, IsFirstTooBigOf, IsRejection, byte_syntax}
+use Rattle.nfa_compiler.specs.declared.error.CompileError.TheVariants.{Memory, Syntax, TooBig}
 use Rattle.lexer.specs.declared.rules.Rule.{Rule}
 use Rattle.lexer.specs.declared.rules.RulesError.{RulesError}
 use Rattle.lexer.specs.declared.rules.RulesError.TheVariants.{NoRule, NoPattern, TooLarge, Compile}
+use Rattle.nfa_compiler.specs.declared.syntax_error.SyntaxError.{SyntaxError}
 
 -- whether the byte is `=`
 abbrev pub is_equals : ℕ → Bool
@@ -84,22 +81,54 @@ pub record HasParsed (lines : List (List ℕ)) (index : ℕ) (rules : List Rule)
       → AreRulesOf lines (rules ++ more)
   pub fine : (k : ℕ) → k < index → ¬ IsWrong lines k
 
--- The syntax of the patterns of a language: the default one, in which bytes that are not text may match.
-abbrev pub rule_syntax : Config
-rule_syntax = record default_config { utf8 = false }
-
 -- the patterns of these rules
 abbrev pub rule_patterns : List Rule → List (List ℕ)
 rule_patterns rules = map (λ rule. rule.pattern.now) rules
 
 -- these are what the patterns of the rules mean
 abbrev pub Mean : List Rule → List Re → Type 0
-Mean rules res = AreMeant rule_syntax (rule_patterns rules) res
+Mean rules res = AreMeant byte_syntax (rule_patterns rules) res
 
--- The regex is made of these patterns. Its searches are bound to their start and prefer the first pattern that matches,
--- and matches may end anywhere.
-pub record IsRegexOf (patterns : List (List ℕ)) (regex : ChoiceState) : Type 0 where
-  pub compiled : IsCompiled rule_syntax patterns regex.nfa
-  pub anywhere : is_utf8_empty regex.nfa ≡ false
-  pub bound : regex.nfa.anchored ≡ regex.nfa.unanchored
-  pub leftmost : regex.match_kind ≡ None
+-- The pattern of the rule of this line is none, by the grammar. The column counts the characters of the line before the
+-- error, and the largest number stands for larger ones.
+pub record IsSyntaxMistake (rules : List Rule) (line column : ℕ) (reason : List ℕ) : Type 0 where
+  pub rule : Rule
+  pub error : SyntaxError
+  pub rule_is : slice_get rules error.pattern ≡ Some rule
+  pub rejected : IsRejection byte_syntax error.pattern rule.pattern.now error
+  pub line_is : line ≡ rule.line
+  pub column_is : column ≡ min (rule.column + length (chars (take error.span.start rule.pattern.now))) (2 ^ 64 - 1)
+  pub reason_is : reason ≡ error.reason.now
+
+-- The pattern of the rule of this line is the first that exceeds the default size limit, which is this one.
+pub record IsTooLarge (rules : List Rule) (line limit : ℕ) : Type 0 where
+  pub rule : Rule
+  pub pattern : ℕ
+  pub rule_is : slice_get rules pattern ≡ Some rule
+  pub first : IsFirstTooBigOf byte_syntax limit (rule_patterns rules) pattern
+  pub line_is : line ≡ rule.line
+  pub limit_is : limit ≡ 10485760
+
+-- why these rules cannot be compiled: one of them is wrong, or the error is of all
+abbrev pub IsCompileMistake : List Rule → RulesError → Type 0
+IsCompileMistake rules (NoRule line) = ⊥
+IsCompileMistake rules (NoPattern line column reason) = IsSyntaxMistake rules line column reason.now
+IsCompileMistake rules (TooLarge line limit) = IsTooLarge rules line limit
+IsCompileMistake rules (Compile (Syntax e)) = ⊥
+IsCompileMistake rules (Compile (TooBig pattern limit)) = ⊥
+IsCompileMistake rules (Compile _) = ⊤
+
+-- the reason is that allocation failed
+abbrev pub is_memory : RulesError → Bool
+is_memory (Compile Memory) = true
+is_memory _ = false
+
+-- the text of an error
+abbrev pub rules_error_text : RulesError → List ℕ
+rules_error_text (NoRule line) = codes "line " ++ decimal line ++ codes " of the rules is not NAME = PATTERN"
+rules_error_text (NoPattern line column reason) =
+    codes "line " ++ decimal line ++ codes " of the rules, column " ++ decimal column ++ codes ": " ++ reason.now
+rules_error_text (TooLarge line limit) =
+    codes "line " ++ decimal line ++ codes " of the rules: the pattern exceeds the size limit of " ++ decimal limit
+    ++ codes " bytes"
+rules_error_text (Compile e) = compile_error_text e

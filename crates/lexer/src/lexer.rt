@@ -5,11 +5,11 @@ ghost use Rattle.regex_search_core.specs.Found.{found_of};
 ghost use Rattle.nfa_engines.specs.Lists.{IsInside};
 ghost use Rattle.nfa_compiler.specs.Compiled.{AreMeant};
 ghost use Rattle.nfa_compiler.specs.Rejected.{TextsFitIn};
+ghost use Rattle.nfa_compiler.specs.Written.{byte_syntax};
 ghost use Rattle.lexer.specs.Lexed.{PiecesAreLongest, PiecesAreTheText, TokensAreJoined, hit_there, is_token};
-ghost use Rattle.lexer.specs.Lexed.{piece_there, stretch_end, token_there, with_bytes};
-ghost use Rattle.lexer.specs.Rules.{rule_patterns, rule_syntax};
-ghost use Rattle.lexer.specs.RuleErrors.{IsCompileMistake};
-ghost use Rattle.lexer.specs.Tokens.{LiesInText, piece_span, piece_found, search_at, token_found};
+ghost use Rattle.lexer.specs.Lexed.{piece_there, stretch_end, token_there, with_bytes, LiesInText, piece_span};
+ghost use Rattle.lexer.specs.Lexed.{piece_found, search_at, token_found};
+ghost use Rattle.lexer.specs.Rules.{rule_patterns, IsCompileMistake};
 
 use crate::rules::{Rule, RulesError, compile};
 use nfa_compiler::laws;
@@ -63,7 +63,8 @@ pub struct Lexer<'r> {
 
 impl<'r> Model for Lexer<'r> {
     ghost use Rattle.std.specs.Prelude.{List, ℕ};
-    ghost use Rattle.lexer.specs.Rules.{IsRegexOf, rule_patterns};
+    ghost use Rattle.nfa_meta.specs.Built.{IsRegexOf};
+    ghost use Rattle.lexer.specs.Rules.{rule_patterns};
 
     ghost Value = { List (List ℕ) };
 
@@ -89,7 +90,7 @@ impl<'r> Lexer<'r> {
     /// failed.
     pub fn new(alloc: Global, rules: &'r [Rule<'r>]) -> Result<Lexer<'r>, RulesError>
         ensures patterns { IfOk result (λ lexer. lexer ≡ rule_patterns rules.now) }
-        ensures fits { IfOk result (λ _. TextsFitIn 10485760 rule_syntax (rule_patterns rules.now)) }
+        ensures fits { IfOk result (λ _. TextsFitIn 10485760 byte_syntax (rule_patterns rules.now)) }
         ensures error { IfErr result (IsCompileMistake rules.now) }
     {
         let regex = compile(alloc, rules)?;
@@ -100,7 +101,7 @@ impl<'r> Lexer<'r> {
     /// empty.
     fn hit_at(&mut self, text: &[u8], at: usize) -> Option<Match>
         requires { at ≤ length text.now }
-        ensures hit { (res : List Re) → AreMeant rule_syntax self.old res
+        ensures hit { (res : List Re) → AreMeant byte_syntax self.old res
             → option_map found_of result ≡ hit_there res text.now at }
         ensures inside { IfSome result (λ m. IsInside (search_at text.now at) (found_of m)) }
         ensures kept { self.new ≡ self.old }
@@ -118,7 +119,7 @@ impl<'r> Lexer<'r> {
     /// later one matches more.
     pub fn token_at(&mut self, text: &[u8], at: usize) -> Option<Token>
         requires { at ≤ length text.now }
-        ensures token { (res : List Re) → AreMeant rule_syntax self.old res
+        ensures token { (res : List Re) → AreMeant byte_syntax self.old res
             → option_map token_found result ≡ token_there res text.now at }
         ensures after { IfSome result (λ token. at < token.span.end) }
         ensures inside { IfSome result (λ token. LiesInText text.now token.span) }
@@ -131,7 +132,7 @@ impl<'r> Lexer<'r> {
     /// a token starts, or to the end.
     pub fn piece_at(&mut self, text: &[u8], at: usize) -> Piece
         requires { at < length text.now }
-        ensures piece { (res : List Re) → AreMeant rule_syntax self.old res
+        ensures piece { (res : List Re) → AreMeant byte_syntax self.old res
             → piece_found result ≡ piece_there res text.now at }
         ensures after { at < (piece_span result).end }
         ensures inside { LiesInText text.now (piece_span result) }
@@ -149,7 +150,7 @@ impl<'r> Lexer<'r> {
     /// Returns the first place from this one on at which a token starts; the end of the text, if there is none.
     fn next_token(&mut self, text: &[u8], from: usize) -> usize
         requires { from ≤ length text.now }
-        ensures end { (res : List Re) → AreMeant rule_syntax self.old res
+        ensures end { (res : List Re) → AreMeant byte_syntax self.old res
             → result ≡ stretch_end (token_there res text.now) (length text.now - from) from }
         ensures from { from ≤ result }
         ensures within { result ≤ length text.now }

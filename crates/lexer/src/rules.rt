@@ -4,9 +4,10 @@ ghost use Rattle.std.specs.Str.{trim_start};
 ghost use Rattle.std.specs.Str.Lines.{lines};
 ghost use Rattle.nfa_compiler.specs.Rejected.{IsOfOneText, NamesText, TextsFitIn};
 ghost use Rattle.nfa_compiler.specs.declared.error.CompileError.TheVariants.{Syntax, TooBig};
-ghost use Rattle.lexer.specs.RuleErrors.{IsCompileMistake};
-ghost use Rattle.lexer.specs.Rules.{AreRulesOf, HasRule, IsRegexOf, IsRuleOf, IsRulesError, is_left_out};
-ghost use Rattle.lexer.specs.Rules.{rule_patterns, rule_syntax};
+ghost use Rattle.nfa_compiler.specs.Written.{byte_syntax};
+ghost use Rattle.nfa_meta.specs.Built.{IsRegexOf};
+ghost use Rattle.lexer.specs.Rules.{IsCompileMistake, AreRulesOf, HasRule, IsRuleOf, IsRulesError};
+ghost use Rattle.lexer.specs.Rules.{is_left_out, rule_patterns};
 
 use nfa_compiler::{CompileError, SyntaxError};
 use nfa_meta::{BuildError, Regex};
@@ -61,7 +62,7 @@ pub enum RulesError {
 }
 
 impl RulesError {
-    ghost use Rattle.lexer.specs.RuleErrors.{is_memory};
+    ghost use Rattle.lexer.specs.Rules.{is_memory};
 
     /// Returns whether the reason is that allocation failed, and not that the rules are wrong.
     pub fn is_memory(&self) -> bool
@@ -73,7 +74,7 @@ impl RulesError {
 
 impl fmt::Display for RulesError {
     ghost use Rattle.std.specs.Prelude.{Some};
-    ghost use Rattle.lexer.specs.RuleErrors.{rules_error_text};
+    ghost use Rattle.lexer.specs.Rules.{rules_error_text};
 
     ghost output = { λ e. Some (rules_error_text e) };
 
@@ -212,7 +213,7 @@ fn char_count(text: &str) -> usize
 /// Makes one regex of the patterns of these rules. Each search is bound to its start, and patterns match bytes.
 pub fn compile(alloc: Global, rules: &[Rule<'_>]) -> Result<Regex, RulesError>
     ensures compiled { IfOk result (IsRegexOf (rule_patterns rules.now)) }
-    ensures fits { IfOk result (λ _. TextsFitIn 10485760 rule_syntax (rule_patterns rules.now)) }
+    ensures fits { IfOk result (λ _. TextsFitIn 10485760 byte_syntax (rule_patterns rules.now)) }
     ensures error { IfErr result (IsCompileMistake rules.now) }
 {
     let patterns = patterns_of(alloc, rules)?;
@@ -229,8 +230,8 @@ pub fn compile(alloc: Global, rules: &[Rule<'_>]) -> Result<Regex, RulesError>
 
 /// Returns the error of the compiler as one of the rules.
 fn refusal(rules: &[Rule<'_>], error: CompileError) -> RulesError
-    requires rejected { IsOfOneText rule_syntax (rule_patterns rules.now) error }
-    requires named { NamesText rule_syntax 10485760 (rule_patterns rules.now) error }
+    requires rejected { IsOfOneText byte_syntax (rule_patterns rules.now) error }
+    requires named { NamesText byte_syntax 10485760 (rule_patterns rules.now) error }
     ensures { IsCompileMistake rules.now result }
 {
     match error {
@@ -254,7 +255,7 @@ fn patterns_of<'t>(alloc: Global, rules: &[Rule<'t>]) -> Result<Vec<&'t str>, Al
 
 /// Returns the error as one of the line that has the pattern.
 fn syntax_error(rules: &[Rule<'_>], error: &SyntaxError) -> RulesError
-    requires { IsOfOneText rule_syntax (rule_patterns rules.now) (Syntax error.now) }
+    requires { IsOfOneText byte_syntax (rule_patterns rules.now) (Syntax error.now) }
     ensures { IsCompileMistake rules.now result }
 {
     let rule = &rules[error.pattern()];
@@ -269,7 +270,7 @@ fn syntax_error(rules: &[Rule<'_>], error: &SyntaxError) -> RulesError
 /// Returns the error that the pattern of this rule exceeds the size limit.
 fn too_large(rules: &[Rule<'_>], pattern: usize, limit: usize) -> RulesError
     requires within { pattern < length rules.now }
-    requires named { NamesText rule_syntax 10485760 (rule_patterns rules.now) (TooBig pattern limit) }
+    requires named { NamesText byte_syntax 10485760 (rule_patterns rules.now) (TooBig pattern limit) }
     ensures { IsCompileMistake rules.now result }
 {
     RulesError::TooLarge {

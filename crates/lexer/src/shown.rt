@@ -1,16 +1,16 @@
 //! The line of a token, of a stretch at which no token starts, and of the place where the lexer is stuck.
-ghost use Rattle.std.specs.Prelude.{◌≡◌, ◌≤◌, ◌++◌, IfOk, OnOk, codes, if◌then◌else◌};
-ghost use Rattle.std.specs.Prelude.{false, length, option_map, slice_get, slice_range, string_bytes, true};
+ghost use Rattle.std.specs.Prelude.{◌≡◌, ◌≤◌, ◌++◌, IfOk, OnOk, codes, if◌then◌else◌, false, length, option_map};
+ghost use Rattle.std.specs.Prelude.{slice_get, slice_range, string_bytes, true};
 ghost use Rattle.std.specs.Fmt.{decimal};
 ghost use Rattle.std.specs.Io.KnownBytes.{Appends};
 ghost use Rattle.std.specs.Str.Lossy.{utf8_lossy};
 ghost use Rattle.lexer.specs.Positions.{first_position};
-ghost use Rattle.lexer.specs.Printed.{error_line, kind_line, named_line, object_line, pattern_line};
-ghost use Rattle.lexer.specs.Printed.{position_members, rule_line, shown_place};
-ghost use Rattle.lexer.specs.Printed.{shown_position, shown_span, shown_text, shown_unless_skipped, stuck_at};
-ghost use Rattle.lexer.specs.Tokens.{piece_found};
+ghost use Rattle.lexer.specs.Printed.{error_line, kind_line, named_line, object_line, pattern_line, position_members};
+ghost use Rattle.lexer.specs.Printed.{rule_line, shown_place, shown_position, shown_span, shown_text};
+ghost use Rattle.lexer.specs.Printed.{shown_unless_skipped, stuck_at};
+ghost use Rattle.lexer.specs.Lexed.{piece_found};
 ghost use Rattle.json.specs.Print.{quoted};
-ghost use Rattle.regex_search_core.specs.Patterns.{number_of};
+ghost use Rattle.regex_search_core.specs.PatternSets.{number_of};
 
 use crate::lexer::Piece;
 use crate::names::is_in;
@@ -76,7 +76,7 @@ pub fn write_stuck<W: Write>(
     write_stuck_line(out, at, position)
 }
 
-#[tactic(auto, using(crate::proofs::Writes::writes))]
+#[tactic(auto, using(crate::proofs::PrintedLemmas::writes))]
 fn write_stuck_object<W: Write>(
     out: &mut W,
     at: usize,
@@ -90,7 +90,7 @@ fn write_stuck_object<W: Write>(
     Ok(())
 }
 
-#[tactic(auto, using(crate::proofs::Writes::writes))]
+#[tactic(auto, using(crate::proofs::PrintedLemmas::writes))]
 fn write_stuck_line<W: Write>(out: &mut W, at: usize, position: Option<Position>) -> io::Result<()>
     ensures { OnOk result (Appends (W.contents out.old) (W.contents out.new) (stuck_at false at position)) }
 {
@@ -147,7 +147,7 @@ impl Report<'_, '_, '_> {
     }
 
     /// Writes the line of a token of this rule, if tokens of the rule are printed.
-    #[tactic(auto, using(crate::proofs::Writes::writes))]
+    #[tactic(auto, using(crate::proofs::PrintedLemmas::writes))]
     fn write_unless_skipped<W: Write>(
         &self,
         out: &mut W,
@@ -175,7 +175,7 @@ fn rule_at<'s, 't>(rules: &'s [Rule<'t>], number: usize) -> Option<&'s Rule<'t>>
 }
 
 /// Writes a token as a JSON object. Bytes of its text that are not UTF-8 are replaced by U+FFFD.
-#[tactic(auto, using(crate::proofs::Writes::writes))]
+#[tactic(auto, using(crate::proofs::PrintedLemmas::writes))]
 fn write_object<W: Write>(
     alloc: Global,
     out: &mut W,
@@ -237,7 +237,7 @@ fn quoted(alloc: Global, text: String) -> Result<String, AllocError>
 }
 
 /// Writes the name of the rule, the place, and the text, if it is not hidden.
-#[tactic(auto, using(crate::proofs::Writes::writes))]
+#[tactic(auto, using(crate::proofs::PrintedLemmas::writes))]
 fn write_rule<W: Write>(out: &mut W, rule: &Rule<'_>, shown: &Shown<'_>) -> io::Result<()>
     ensures { OnOk result (Appends (W.contents out.old) (W.contents out.new)
         (rule_line rule.now shown.now.span shown.now.position shown.now.text.now)) }
@@ -249,7 +249,7 @@ fn write_rule<W: Write>(out: &mut W, rule: &Rule<'_>, shown: &Shown<'_>) -> io::
     write_text(out, shown.text)
 }
 
-#[tactic(auto, using(crate::proofs::Writes::writes))]
+#[tactic(auto, using(crate::proofs::PrintedLemmas::writes))]
 fn write_named<W: Write>(out: &mut W, name: &str, shown: &Shown<'_>) -> io::Result<()>
     ensures { OnOk result (Appends (W.contents out.old) (W.contents out.new)
         (named_line name.now shown.now.span shown.now.position shown.now.text.now)) }
@@ -259,7 +259,7 @@ fn write_named<W: Write>(out: &mut W, name: &str, shown: &Shown<'_>) -> io::Resu
 }
 
 /// Writes the name, the span, and the position if it is given.
-#[tactic(auto, using(crate::proofs::Writes::writes))]
+#[tactic(auto, using(crate::proofs::PrintedLemmas::writes))]
 fn write_place<W: Write>(
     out: &mut W,
     name: &str,
@@ -291,7 +291,7 @@ fn write_position<W: Write>(out: &mut W, position: Option<Position>) -> io::Resu
 }
 
 /// Writes a space, the text, and the end of the line.
-#[tactic(auto, using(crate::proofs::Writes::writes))]
+#[tactic(auto, using(crate::proofs::PrintedLemmas::writes))]
 fn write_text<W: Write>(out: &mut W, text: &[u8]) -> io::Result<()>
     ensures { OnOk result (Appends (W.contents out.old) (W.contents out.new) (shown_text text.now)) }
 {
@@ -299,7 +299,7 @@ fn write_text<W: Write>(out: &mut W, text: &[u8]) -> io::Result<()>
     write_line(out, text)
 }
 
-#[tactic(auto, using(crate::proofs::Writes::writes))]
+#[tactic(auto, using(crate::proofs::PrintedLemmas::writes))]
 fn write_line<W: Write>(out: &mut W, line: &[u8]) -> io::Result<()>
     ensures { OnOk result (Appends (W.contents out.old) (W.contents out.new) (line.now ++ codes "\n")) }
 {

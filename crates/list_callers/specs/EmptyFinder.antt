@@ -1,10 +1,8 @@
 -- the finder of empty matches
 use Rattle.std.specs.Prelude.{◌≡◌, nat_le, nat_eq, [], ◌∷◌, if◌then◌else◌, None, Some, Ok}
-use Rattle.regex_search_core.specs.Found.{Found}
-use Rattle.regex_search_core.specs.Search.{Search}
-use Rattle.nfa_search_base.specs.Common.{Row, Answer}
+use Rattle.nfa_search_base.specs.Common.{Found, Search, Row, Answer}
 
--- an empty match of the first pattern at the start of the span, if the span has one
+-- an empty match of the first pattern at the start of the span, if that is not after its end
 abbrev pub empty_answer : Search → Answer Found
 empty_answer s = Ok (if nat_le s.start s.end then Some
     (record { pattern = 0; start = s.start; end = s.start }) else None)

@@ -1,22 +1,17 @@
 -- How values are counted, and how the counts are listed.
-use Rattle.nfa_paths.proofs.Common.{◌≡◌, ◌∙◌, ℕ, ◌+◌, ◌<◌, Bool, true, false, cond, List, [], ◌∷◌, ◌++◌, All, length, map, refl, sym, ap, subst, arith, inl, inr, get_or, ◌⊎◌, Option, Some, option_map, slice_get, string_bytes, unwrap_or, AllByRecursion, cases_Bool, cond-false, get_or-map, length-map, All-map, sum_by_push, slice_get-map, slice_get_read, nat_tests}
-use Rattle.std.proofs.Common.{String}
-use Rattle.std.specs.Borrow.{Bor}
+use Rattle.std.specs.Global.{Vec}
+use Rattle.nfa_paths.proofs.Common.{String, Bor, AllAdjacentBelow, Contains, bytes_eq, cond-true, Contains-append_right, ◌≡◌, ◌∙◌, ℕ, ◌+◌, ◌<◌, Bool, true, false, cond, List, [], ◌∷◌, ◌++◌, All, length, map, refl, sym, ap, subst, arith, inl, inr, get_or, ◌⊎◌, Option, Some, option_map, slice_get, string_bytes, unwrap_or, AllByRecursion, cases_Bool, cond-false, get_or-map, length-map, All-map, sum_by_push, slice_get-map, slice_get_read, nat_tests}
 use Rattle.std.specs.BTreeMap.{BTreeMap, IsOrdered, UpdatesBy, is_at}
 use Rattle.std.specs.Cmp.Lexicographic.{slice_cmp, bytes_decides, nat_list_cmp_total, nat_list_eq_equiv}
 use Rattle.std.specs.Cmp.{eq_by_cmp_equiv}
-use Rattle.std.specs.Global.{Vec}
-use Rattle.std.specs.List.{AllAdjacentBelow, Contains, IsDistinct}
+use Rattle.std.specs.List.{IsDistinct}
 use Rattle.std.specs.List.Sorted.{IsPermutation, IsSorted, IsStrictlySortedBy}
 use Rattle.std.specs.Map.{KeepsOthers, AreApart, IsKeyTest, keys_of, lookup}
 use Rattle.std.specs.Ordering.{is_eq, is_lt, nat_cmp, ordering_then}
-use Rattle.std.specs.Str.{bytes_eq}
 use Rattle.std.specs.declared.alloc.Global.{Global}
 use Rattle.std.specs.declared.cmp.Ordering.{Ordering}
 use Rattle.std.specs.declared.cmp.Ordering.TheVariants.{Less}
 use Rattle.std.specs.declared.cmp.Reverse.{Reverse}
-use Rattle.std.proofs.lemmas.Bool.{cond-true}
-use Rattle.std.proofs.lemmas.List.Elements.{Contains-append_right}
 use Rattle.std.proofs.lemmas.List.Sorted.{All-permutation, Contains-permutation, IsPermutation-map}
 use Rattle.std.proofs.lemmas.Map.Keys.{IsDistinct-IsPermutation, sorted_head, sorted_tail}
 use Rattle.std.proofs.lemmas.Map.Text.{is_eq-slice_cmp}

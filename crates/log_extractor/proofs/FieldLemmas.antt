@@ -1,21 +1,12 @@
--- From the laws on searches of texts to the fields of a line.
-use Rattle.nfa_paths.proofs.Common.{◌≡◌, ◌∙◌, ℕ, ◌+◌, ◌≤◌, ◌<◌, List, [], ◌∷◌, map, length, drop, refl, ap, arith, eq-eqb, Option, None, Some, option_map, option_or, groups_at, slot_count, Search, whole, No, Captured, group_span, le-ltb}
-use Rattle.nfa_compiler.specs.Common.{Match, Re, Trace, accept, attempt, hit, captures_of, written_span, PatternHit, expected, hit_by, hit_of, slots_of}
-use Rattle.nfa_compiler.specs.Laws.{GroupsAreWritten}
+-- From the laws on searches of texts to the fields of a line, and the groups that are named.
+use Rattle.std.specs.declared.alloc.Global.{Global}
+use Rattle.nfa_paths.proofs.Common.{String, ◌≡◌, ◌∙◌, ℕ, ◌+◌, ◌≤◌, ◌<◌, List, [], ◌∷◌, map, length, drop, refl, ap, arith, eq-eqb, Option, None, Some, option_map, option_or, groups_at, slot_count, Search, whole, No, Captured, group_span, le-ltb, ◌++◌, sym, IsSomeAnd, chars, string_bytes, slice_get, AllZip, common_steps}
 use Rattle.nfa_engines.specs.Automaton.{Automaton}
-use Rattle.nfa_meta.specs.ChoiceState.{ChoiceState, KeepsEngines}
+use Rattle.nfa_compiler.proofs.CallLemmas.{names-read}
+use Rattle.nfa_compiler.specs.Common.{Match, Re, Trace, accept, attempt, hit, captures_of, written_span, PatternHit, expected, hit_by, hit_of, slots_of, meaning, Hir, Nested, SameCaptures, Parsed, Names, group_count, read, Reads, IsCompiled, IsTreeOf, groups_of, IsNamed, byte_syntax}
+use Rattle.nfa_compiler.specs.Laws.{GroupsAreWritten}
 use Rattle.log_extractor.specs.declared.pattern.Column.{Column}
-use Rattle.log_extractor.specs.Fields.{IsRegexOf, LinePattern, NamedGroup, columns_of, cut, fields_of, group_of, match_at_start, named_groups, row}
-
--- a search keeps what a regex is made of
-pub regex-kept : (text : List ℕ) (old new : ChoiceState) → IsRegexOf text old → KeepsEngines old new
-    → IsRegexOf text new
-regex-kept text old new is kept = record {
-  compiled = rw kept.nfa is.compiled;
-  anywhere = rw kept.nfa is.anywhere;
-  bound = rw kept.nfa is.bound;
-  leftmost = kept.match_kind ∙ is.leftmost;
-}
+use Rattle.log_extractor.specs.Fields.{LinePattern, NamedGroup, columns_of, cut, fields_of, group_of, match_at_start, named_groups, row, columns_in}
 
 -- the one hit of a search that is bound to its start
 bound-hit-at : (re : Re) (nfa : Automaton) (x : Search) → nfa.anchored ≡ nfa.unanchored → x.anchored ≡ No
@@ -88,3 +79,58 @@ pub of-groups : {A : Type 0} (f : ℕ → A) (columns : List Column)
     → map (λ (column : Column). f column.group) columns ≡ map (λ (g : NamedGroup). f g.number) (map group_of columns)
 of-groups f [] = refl
 of-groups f (column ∷ columns) = grind (arith, of-groups f columns)
+
+abbrev bytes_of : Option (String Global) → Option (List ℕ)
+bytes_of name = option_map string_bytes name
+
+pub named-more : (n m : ℕ) (names : List (Option (String Global))) (x : Option (String Global)) → m ≡ n + length names
+    → named_groups n (map bytes_of names) ++ named_groups m (bytes_of x ∷ [])
+    ≡ named_groups n (map bytes_of (names ++ x ∷ []))
+named-more n m [] x e = grind (arith, e)
+named-more n m (name ∷ names) x e = grind (arith, e, named-more (n + 1) m names x)
+
+first-none : (own : List (Option (String Global))) → slice_get own 0 ≡ Some None
+    → named_groups 0 (map bytes_of own) ≡ named_groups 1 (drop 1 (map bytes_of own))
+first-none [] h = cc
+first-none (None ∷ own) h = refl
+first-none (Some name ∷ own) h = cc
+
+-- the named groups of a tree, from group 0 on, are the columns
+pub columns-read : (text : List ℕ) (tree : Parsed) (names : Names)
+    → Reads byte_syntax text tree.hir (map bytes_of tree.names.items)
+    → slice_get tree.names.items 0 ≡ Some None → IsNamed byte_syntax text names
+    → named_groups 0 (map bytes_of tree.names.items) ≡ columns_in names
+columns-read text tree names reads zero named =
+    first-none tree.names.items zero
+    ∙ ap (λ (ns : Names). named_groups 1 (drop 1 ns))
+    (names-read byte_syntax text tree.hir (map bytes_of tree.names.items) names reads named)
+
+named-one : (own : Names) (hir : Hir) (limit : ℕ) (o : Option (Nested Re × Names))
+    → IsSomeAnd o (λ (re, found). (re.depth ≤ limit) × SameCaptures (meaning hir) re.value × (own ≡ found)
+    × (group_count (meaning hir) ≤ length own))
+    → IsSomeAnd o (λ (_, found). found ≡ own)
+named-one own hir limit None is = absurd is
+named-one own hir limit (Some found) is = sym is.2
+
+tree-named : (text : List ℕ) (tree : Parsed) → IsTreeOf byte_syntax text tree
+    → IsNamed byte_syntax text (map bytes_of tree.names.items)
+unfolding Reads
+tree-named text tree is =
+    named-one (map bytes_of tree.names.items) tree.hir byte_syntax.nest_limit (read byte_syntax (chars text)) is.reads
+
+-- the columns are the named groups of the NFA
+pub compiled-columns : (text : List ℕ) (nfa : Automaton) (columns : List NamedGroup)
+    → IsCompiled byte_syntax (text ∷ []) nfa
+    → ((names : Names) → IsNamed byte_syntax text names → columns ≡ columns_in names)
+    → columns ≡ named_groups 1 (groups_at nfa.groups 0)
+compiled-columns text nfa columns compiled each = of compiled.trees compiled.read compiled.groups
+  where
+    of : (trees : List Parsed) → AllZip (IsTreeOf byte_syntax) (text ∷ []) trees → nfa.groups ≡ groups_of trees
+        → columns ≡ named_groups 1 (groups_at nfa.groups 0)
+    of [] are groups = absurd are
+    of (tree ∷ trees) are groups =
+        each (map bytes_of tree.names.items) (tree-named text tree are.0)
+        ∙ ap (λ gs. named_groups 1 (groups_at gs 0)) (sym groups)
+
+pub empty-columns : (columns : List Column) → length columns ≡ 0 → map group_of columns ≡ []
+empty-columns columns none = grind (arith, common_steps)

@@ -1,8 +1,7 @@
 -- A run over an input starts, goes on by a line, and ends.
-use Rattle.std.proofs.Common.{◌≡◌, ◌∙◌, ℕ, List, [], ◌∷◌, ◌++◌, ap, arith, Option, Some, IfSome, flat_map}
-use Rattle.std.proofs.lemmas.Grind.{common_steps, flat_map-append}
-use Rattle.text_lines.specs.Lines.{HasNoLine, TakesLine, line_feed, lines_of}
-use Rattle.text_lines.proofs.PartLemmas.{records-of-parts}
+use Rattle.nfa_paths.proofs.Common.{◌≡◌, ◌∙◌, ℕ, List, [], ◌∷◌, ◌++◌, ap, arith, Option, Some, IfSome, flat_map, common_steps, flat_map-append}
+use Rattle.text_lines.specs.Lines.{line_feed, lines_of, HasNoRecord, TakesRecord}
+use Rattle.text_lines.proofs.LineLemmas.{records-of-parts}
 use Rattle.log_extractor.specs.Printed.{extracted_lines, shown_line}
 use Rattle.log_extractor.specs.Several.{LabelledPattern}
 use Rattle.log_extractor.specs.declared.output.Output.{Output}
@@ -25,12 +24,12 @@ module _ (P : List (List ℕ) → Type 0) where
 
   -- one more line was read
   pub taken-more : (Q : List (List ℕ) → Type 0) (before input after : Option (List ℕ)) (line : List ℕ)
-      → TakesLine input after line → ((lines : List (List ℕ)) → P lines → Q (lines ++ line ∷ []))
+      → TakesRecord line_feed input after line → ((lines : List (List ℕ)) → P lines → Q (lines ++ line ∷ []))
       → Taken P before input → Taken Q before after
   taken-more Q before input after line takes step taken = grind (arith, common_steps, takes, step, taken)
 
   -- nothing was left to read
-  pub taken-all : (before input : Option (List ℕ)) → HasNoLine input → Taken P before input
+  pub taken-all : (before input : Option (List ℕ)) → HasNoRecord line_feed input → Taken P before input
       → IfSome before (λ text. P (lines_of text))
   taken-all before input end taken = grind (arith, common_steps, end, taken)
 

@@ -1,7 +1,5 @@
 mod CountLemmas
-mod EscapeLemmas
+mod RowLemmas
 mod FieldLemmas
 mod GoingLemmas
-mod NameLemmas
-mod RowLemmas
 mod SeveralLemmas

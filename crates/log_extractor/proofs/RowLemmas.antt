@@ -1,15 +1,49 @@
 -- A row with tabs is one line, and what is between its tabs means its texts.
-use Rattle.nfa_paths.proofs.Common.{◌≡◌, ◌∙◌, ◌≢◌, ℕ, List, [], ◌∷◌, ◌++◌, map, refl, ap, arith, append-nil, All, flat_map, All-append, All-cons, All-nil, All-tail}
-use Rattle.log_extractor.specs.Printed.{cut_at_tabs, members, row_text, escaped, tab, unescaped, written}
+use Rattle.std.specs.List.{slice_split}
+use Rattle.nfa_paths.proofs.Common.{◌≡◌, ◌≢◌, ℕ, List, [], ◌∷◌, ◌++◌, codes, refl, arith, All, All-append, All-nil, common_steps, ◌∙◌, map, ap, append-nil, flat_map, All-cons, All-tail, ◌==◌}
 use Rattle.text_lines.specs.Lines.{carriage_return, line_feed}
+use Rattle.log_extractor.specs.Printed.{backslash, escaped, escaped_byte, tab, unescaped, members, row_text, written}
 use Rattle.log_extractor.specs.declared.output.Form.TheVariants.{Tabs}
-use Rattle.log_extractor.proofs.EscapeLemmas.{escaped-clean, unescaped-escaped}
+
+abbrev pub IsClean : ℕ → Type 0
+IsClean byte = (byte ≢ tab) × (byte ≢ line_feed) × (byte ≢ carriage_return)
+
+-- what holds of the four escapes, and of each other byte as it is, holds of each byte and what is written for it
+by-byte : (P : ℕ → List ℕ → Type 0) → P tab (codes "\\t") → P line_feed (codes "\\n") → P carriage_return (codes "\\r")
+    → P backslash (codes "\\\\") → ((byte : ℕ) → IsClean byte → byte ≢ backslash → P byte (byte ∷ []))
+    → (byte : ℕ) → P byte (escaped_byte byte)
+by-byte P at-tab at-feed at-return at-backslash other byte =
+    grind (arith, at-tab, at-feed, at-return, at-backslash, other byte)
+
+byte-clean : (byte : ℕ) → All IsClean (escaped_byte byte)
+byte-clean byte = grind (arith, common_steps)
+
+pub escaped-clean : (text : List ℕ) → All IsClean (escaped text)
+escaped-clean [] = All-nil IsClean
+escaped-clean (byte ∷ text) =
+    All-append IsClean (escaped_byte byte) (escaped text) (byte-clean byte) (escaped-clean text)
+
+plain-first : (byte : ℕ) (rest : List ℕ) → byte ≢ backslash → unescaped (byte ∷ rest) ≡ byte ∷ unescaped rest
+plain-first byte rest other = grind (arith, other)
+
+one-back : (rest : List ℕ) (byte : ℕ) → unescaped (escaped_byte byte ++ rest) ≡ byte ∷ unescaped rest
+one-back rest =
+    by-byte (λ byte written. unescaped (written ++ rest) ≡ byte ∷ unescaped rest) refl refl refl refl
+    (λ byte clean other. plain-first byte rest other)
+
+pub unescaped-escaped : (text : List ℕ) → unescaped (escaped text) ≡ text
+unescaped-escaped [] = refl
+unescaped-escaped (byte ∷ text) = grind (arith, one-back, unescaped-escaped text)
 
 abbrev HasNoTab : List ℕ → Type 0
 HasNoTab piece = All (λ byte. byte ≢ tab) piece
 
 no-tab : (text : List ℕ) → HasNoTab (escaped text)
 no-tab text = λ k d inside. (escaped-clean text k d inside).0
+
+-- the parts of a row between its tabs
+abbrev cut_at_tabs : List ℕ → List (List ℕ)
+cut_at_tabs text = slice_split (λ byte. byte == tab) text
 
 -- a piece with no tab, and a tab after it
 cut-first : (piece rest : List ℕ) → HasNoTab piece → cut_at_tabs (piece ++ tab ∷ rest) ≡ piece ∷ cut_at_tabs rest

@@ -1,12 +1,7 @@
 -- Several patterns, one after the other.
-use Rattle.nfa_paths.proofs.Common.{◌≡◌, ◌∙◌, ℕ, zero, suc, ◌+◌, ◌<◌, ◌≤◌, Bool, List, [], ◌∷◌, ◌++◌, length, map, take, drop, get_or, refl, ap, arith, Option, None, Some, IsSomeAnd, if◌then◌else◌, is_some, nat_lt, option_map, slice_get, string_bytes, drop_all, drop_more, get_or-map, length-map, take_more, get_or_from_slice_get, slice_get-map, slice_get_read, slice_get_within, common_steps}
-use Rattle.std.proofs.Common.{String}
-use Rattle.std.specs.Borrow.{Bor}
 use Rattle.std.specs.Global.{Vec}
-use Rattle.std.specs.Str.{bytes_eq}
+use Rattle.nfa_paths.proofs.Common.{String, Bor, bytes_eq, at_drop_more, drop-drop, length-take, AllZip-left, AllZip-long, ◌≡◌, ◌∙◌, ℕ, zero, suc, ◌+◌, ◌<◌, ◌≤◌, Bool, List, [], ◌∷◌, ◌++◌, length, map, take, drop, get_or, refl, ap, arith, Option, None, Some, IsSomeAnd, if◌then◌else◌, is_some, nat_lt, option_map, slice_get, string_bytes, drop_all, drop_more, get_or-map, length-map, take_more, get_or_from_slice_get, slice_get-map, slice_get_read, slice_get_within, common_steps}
 use Rattle.std.specs.declared.alloc.Global.{Global}
-use Rattle.std.proofs.lemmas.List.{at_drop_more, drop-drop, length-take}
-use Rattle.std.proofs.lemmas.Slice.Zip.{AllZip-left, AllZip-long}
 use Rattle.log_extractor.specs.Fields.{column_names, fields_now, group_of, row}
 use Rattle.log_extractor.specs.Several.{AreLinePatterns, IsLabelledPattern, LabelledPattern, field_at, field_named, is_several, pattern_label, labels_from, row_of_first, row_of_one, labelled_text, with_name, with_names}
 use Rattle.log_extractor.specs.declared.command.Given.{Given}

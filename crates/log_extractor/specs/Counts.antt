@@ -1,16 +1,11 @@
 -- How often each value of a column occurs, and what is printed of that.
 use Rattle.std.specs.Prelude.{◌≡◌, ◌⊎◌, ℕ, zero, suc, ◌<◌, false, List, [], ◌∷◌, ◌++◌, All, codes, length, map, Option, None, Some, option_map, slice_get, unwrap_or, count_by}
-use Rattle.std.specs.Borrow.{Bor}
 use Rattle.std.specs.BTreeMap.{BTreeMap, get, get_by}
 use Rattle.std.specs.Cmp.Lexicographic.{slice_cmp}
-use Rattle.std.specs.Fmt.{decimal}
-use Rattle.std.specs.Global.{Vec}
-use Rattle.std.specs.List.{AllAdjacentBelow, Contains, IsDistinct}
-use Rattle.std.specs.Option.{option_to_list}
 use Rattle.std.specs.Ordering.{is_lt, nat_cmp}
-use Rattle.std.specs.Str.{bytes_eq}
 use Rattle.std.specs.declared.cmp.Ordering.{Ordering}
 use Rattle.std.specs.declared.cmp.Reverse.{Reverse}
+use Rattle.nfa_paths.specs.Common.{Bor, decimal, Vec, AllAdjacentBelow, Contains, IsDistinct, option_to_list, bytes_eq}
 use Rattle.text_lines.specs.Lines.{content, line_feed}
 use Rattle.log_extractor.specs.Several.{LabelledPattern, row_by_first}
 use Rattle.log_extractor.specs.Printed.{field_text, separator, written}

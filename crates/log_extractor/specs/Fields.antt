@@ -1,17 +1,9 @@
 -- The columns of a pattern and the fields of a line, in the words of the reference matcher.
-use Rattle.std.specs.Prelude.{◌≡◌, ℕ, ◌+◌, false, List, [], ◌∷◌, drop, map, Option, None, Some, option_map, slice_range, string_bytes, ⊤}
-use Rattle.std.specs.Borrow.{Bor}
-use Rattle.nfa_compiler.specs.Common.{Match, Re, accept, attempt, default_config, Config, IsCompiled, IsMeant, IsNamed, written_span, IsOfOneText, NamesText}
-use Rattle.regex_search_core.specs.declared.search.Span.{Span}
-use Rattle.nfa_engines.specs.Paths.{is_utf8_empty}
-use Rattle.nfa_meta.specs.ChoiceState.{ChoiceState}
+use Rattle.std.specs.Prelude.{◌≡◌, ℕ, ◌+◌, List, [], ◌∷◌, drop, map, Option, None, Some, option_map, slice_range, string_bytes, ⊤}
+use Rattle.nfa_compiler.specs.Common.{Bor, Span, Match, Re, accept, attempt, IsMeant, IsNamed, written_span, IsOfOneText, NamesText, byte_syntax}
 use Rattle.log_extractor.specs.declared.pattern.Column.{Column}
 use Rattle.log_extractor.specs.declared.pattern.PatternError.{PatternError}
 use Rattle.log_extractor.specs.declared.pattern.PatternError.TheVariants.{Memory, Compile, NoColumns}
-
--- The syntax of patterns: the default one, in which bytes that are not text may match.
-abbrev pub line_syntax : Config
-line_syntax = record default_config { utf8 = false }
 
 -- a pattern of lines: what it matches, and the names of its groups, from group 0 on
 pub record LinePattern : Type 0 where
@@ -20,15 +12,8 @@ pub record LinePattern : Type 0 where
 
 -- the grammar reads this pattern in the text
 pub record IsLinePattern (text : List ℕ) (p : LinePattern) : Type 0 where
-  pub tree : IsMeant line_syntax text p.tree
-  pub names : IsNamed line_syntax text p.names
-
--- The regex is made of this pattern. Its searches are bound to their start, and matches may end anywhere.
-pub record IsRegexOf (text : List ℕ) (regex : ChoiceState) : Type 0 where
-  pub compiled : IsCompiled line_syntax (text ∷ []) regex.nfa
-  pub anywhere : is_utf8_empty regex.nfa ≡ false
-  pub bound : regex.nfa.anchored ≡ regex.nfa.unanchored
-  pub leftmost : regex.match_kind ≡ None
+  pub tree : IsMeant byte_syntax text p.tree
+  pub names : IsNamed byte_syntax text p.names
 
 -- a column: a group that has a name
 pub record NamedGroup : Type 0 where
@@ -80,5 +65,5 @@ fields_now fields = map (option_map (λ (field : Bor (List ℕ)). field.now)) fi
 abbrev pub IsPatternMistake : List ℕ → PatternError → Type 0
 IsPatternMistake text Memory = ⊤
 IsPatternMistake text (Compile error) =
-    IsOfOneText line_syntax (text ∷ []) error.0 × NamesText line_syntax 10485760 (text ∷ []) error.0
+    IsOfOneText byte_syntax (text ∷ []) error.0 × NamesText byte_syntax 10485760 (text ∷ []) error.0
 IsPatternMistake text NoColumns = (p : LinePattern) → IsLinePattern text p → columns_of p ≡ []

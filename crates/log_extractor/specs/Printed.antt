@@ -1,6 +1,6 @@
 -- What is printed of the lines of an input, and how the text of a field is written.
 use Rattle.std.specs.Prelude.{◌≡◌, ◌≢◌, ◌==◌, ◌||◌, ℕ, Bool, List, [], ◌∷◌, ◌++◌, All, Option, None, Some, codes, flat_map, is_some, length, map, unwrap_or, if◌then◌else◌}
-use Rattle.std.specs.List.{list_any}
+use Rattle.std.specs.List.{list_any, slice_split}
 use Rattle.std.specs.Str.Lossy.{utf8_lossy}
 use Rattle.json.specs.Print.{quoted}
 use Rattle.text_lines.specs.Lines.{carriage_return, content, line_feed, lines_of, with_end}
@@ -98,16 +98,6 @@ row_text form texts = separated (separator form) (map (written form) texts)
 abbrev pub row_line : Form → List (List ℕ) → List ℕ
 row_line form texts = row_text form texts ++ line_feed ∷ []
 
--- the byte, before the first field
-abbrev pub grown : ℕ → List (List ℕ) → List (List ℕ)
-grown byte [] = (byte ∷ []) ∷ []
-grown byte (field ∷ fields) = (byte ∷ field) ∷ fields
-
--- the parts of a row between its tabs
-abbrev pub cut_at_tabs : List ℕ → List (List ℕ)
-cut_at_tabs [] = [] ∷ []
-cut_at_tabs (byte ∷ bytes) = if byte == tab then ([] ∷ cut_at_tabs bytes) else grown byte (cut_at_tabs bytes)
-
 -- a row with tabs is a single line
 abbrev pub RowsAreLines : Type 0
 RowsAreLines =
@@ -117,7 +107,7 @@ RowsAreLines =
 abbrev pub RowsAreReadBack : Type 0
 RowsAreReadBack =
     (text : List ℕ) (texts : List (List ℕ))
-    → map unescaped (cut_at_tabs (row_text Tabs (text ∷ texts))) ≡ text ∷ texts
+    → map unescaped (slice_split (λ byte. byte == tab) (row_text Tabs (text ∷ texts))) ≡ text ∷ texts
 
 -- the text of a field: empty if there is none
 abbrev pub field_text : Option (List ℕ) → List ℕ
@@ -145,12 +135,12 @@ shown_fields (Rows form) names fields = row_line form (map field_text fields)
 shown_fields Objects names fields = object_line names fields
 shown_fields Rejects names fields = []
 
--- what is printed of a line that has none: of rejects, the line itself
+-- what is printed of a line that has no fields: of rejects, the line itself
 abbrev pub shown_reject : Output → List ℕ → List ℕ
 shown_reject Rejects line = with_end line_feed line
 shown_reject _ line = []
 
--- what is printed of a line that has this row
+-- what is printed of a line that has this row, or none
 abbrev pub shown_as : Output → List (List ℕ) → List ℕ → Option (List (Option (List ℕ))) → List ℕ
 shown_as output names line None = shown_reject output line
 shown_as output names line (Some fields) = shown_fields output names fields

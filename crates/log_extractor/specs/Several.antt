@@ -1,10 +1,6 @@
 -- The rows of lines by several patterns.
 use Rattle.std.specs.Prelude.{◌≡◌, ℕ, ◌+◌, Bool, if◌then◌else◌, List, [], ◌∷◌, ◌++◌, codes, drop, length, map, nat_lt, Option, None, Some, option_map, slice_get, unwrap_or}
-use Rattle.std.specs.List.{AllZip, list_any}
-use Rattle.std.specs.Option.{option_or}
-use Rattle.std.specs.Str.{bytes_eq}
-use Rattle.std.specs.Borrow.{Bor}
-use Rattle.std.specs.Fmt.{decimal}
+use Rattle.nfa_paths.specs.Common.{AllZip, list_any, option_or, bytes_eq, Bor, decimal}
 use Rattle.log_extractor.specs.declared.command.Given.{Given}
 use Rattle.log_extractor.specs.Fields.{IsLinePattern, LinePattern, NamedGroup, column_names, columns_of, row}
 use Rattle.log_extractor.specs.declared.parsers.LabelledParser.{LabelledParser}

@@ -1,9 +1,11 @@
 //! How often each value of a column occurs.
-ghost use Rattle.std.specs.Prelude.{◌≡◌, ◌++◌, ◌∷◌, [], IfErr, IfNone, IfOk, IfSome, List, OnOk, map, option_map, slice_get, string_bytes, ℕ, flat_map};
+ghost use Rattle.std.specs.Prelude.{◌≡◌, ◌++◌, ◌∷◌, [], IfErr, IfNone, IfOk, IfSome, List, OnOk, map, option_map};
+ghost use Rattle.std.specs.Prelude.{slice_get, string_bytes, ℕ, flat_map};
 ghost use Rattle.std.specs.Io.KnownBytes.{Appends};
 ghost use Rattle.text_lines.specs.Lines.{content, lines_of};
 ghost use Rattle.std.specs.BTreeMap.{IsOrdered};
-ghost use Rattle.log_extractor.specs.Counts.{IsCountList, IsFound, IsTally, count_head, count_of, tally_line, counted, entry_counted, key_cmp, value_at, value_in};
+ghost use Rattle.log_extractor.specs.Counts.{IsCountList, IsFound, IsTally, count_head, count_of, tally_line, counted};
+ghost use Rattle.log_extractor.specs.Counts.{entry_counted, key_cmp, value_at, value_in};
 ghost use Rattle.log_extractor.specs.Fields.{fields_now};
 ghost use Rattle.log_extractor.specs.Several.{AreLinePatterns, LabelledPattern};
 

@@ -1,6 +1,7 @@
 //! The text of a field in a row.
 ghost use Rattle.std.specs.Prelude.{◌≡◌, ◌++◌, OnOk};
-ghost use Rattle.log_extractor.specs.Printed.{AreReadBack, HaveNoSeparator, doubled, escaped, escaped_byte, is_special, needs_quotes, quoted_text, written};
+ghost use Rattle.log_extractor.specs.Printed.{AreReadBack, HaveNoSeparator, doubled, escaped, escaped_byte, is_special};
+ghost use Rattle.log_extractor.specs.Printed.{needs_quotes, quoted_text, written};
 
 use crate::output::Form;
 use std::alloc::AllocError;

@@ -3,7 +3,8 @@ ghost use Rattle.std.specs.Prelude.{◌≡◌, ◌++◌, IfOk, List, OnOk, map, 
 ghost use Rattle.std.specs.List.{list_any};
 ghost use Rattle.std.specs.Str.{bytes_eq};
 ghost use Rattle.log_extractor.specs.Fields.{column_names, fields_now, group_of};
-ghost use Rattle.log_extractor.specs.Several.{AreLinePatterns, LabelledPattern, field_at, field_named, labelled_text, union_names, with_name, with_names};
+ghost use Rattle.log_extractor.specs.Several.{AreLinePatterns, LabelledPattern, field_at, field_named, labelled_text};
+ghost use Rattle.log_extractor.specs.Several.{union_names, with_name, with_names};
 
 use crate::parsers::LabelledParser;
 use crate::pattern::Column;

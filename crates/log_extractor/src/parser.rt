@@ -25,22 +25,24 @@ pub struct Parser<'p> {
 }
 
 impl<'p> Model for Parser<'p> {
-    ghost use Rattle.std.specs.Prelude.{◌≡◌, List, length, map, ℕ};
+    ghost use Rattle.std.specs.Prelude.{◌≡◌, ◌∷◌, [], List, length, map, ℕ};
     ghost use Rattle.regex_search_core.specs.Groups.{groups_at, slot_count};
-    ghost use Rattle.log_extractor.specs.Fields.{IsRegexOf, group_of, named_groups};
+    ghost use Rattle.nfa_meta.specs.Built.{IsRegexOf};
+    ghost use Rattle.log_extractor.specs.Fields.{group_of, named_groups};
 
     ghost Value = { List ℕ };
 
     ghost view = { λ p. p.pattern.now };
 
-    ghost invariant = { λ p. IsRegexOf p.pattern.now p.regex × (p.captures.groups ≡ p.regex.nfa.groups)
+    ghost invariant = { λ p. IsRegexOf (p.pattern.now ∷ []) p.regex × (p.captures.groups ≡ p.regex.nfa.groups)
         × (length p.captures.slots ≡ slot_count p.regex.nfa.groups)
         × (map group_of p.columns.items ≡ named_groups 1 (groups_at p.regex.nfa.groups 0)) };
 }
 
 impl<'p> Parser<'p> {
     ghost use Rattle.std.specs.Prelude.{◌≢◌, [], IfErr, OnOk};
-    ghost use Rattle.log_extractor.specs.Fields.{IsPatternMistake, IsLinePattern, LinePattern, columns_of, group_of, row};
+    ghost use Rattle.log_extractor.specs.Fields.{IsPatternMistake, IsLinePattern, LinePattern, columns_of, group_of};
+    ghost use Rattle.log_extractor.specs.Fields.{row};
 
     /// Makes a parser of lines of this pattern. Its columns are the named groups, in the order of their numbers.
     ///

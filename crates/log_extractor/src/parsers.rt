@@ -1,7 +1,8 @@
 //! The rows of lines by the first of several patterns that matches.
 ghost use Rattle.std.specs.Prelude.{◌≡◌, ◌++◌, IfOk, List, OnOk, drop, map, option_map, string_bytes};
 ghost use Rattle.log_extractor.specs.Fields.{fields_now, group_of};
-ghost use Rattle.log_extractor.specs.Several.{AreLinePatterns, IsLabelledPattern, LabelledPattern, label_field, row_of_first, row_of_one, labelled_text};
+ghost use Rattle.log_extractor.specs.Several.{AreLinePatterns, IsLabelledPattern, LabelledPattern, label_field};
+ghost use Rattle.log_extractor.specs.Several.{row_of_first, row_of_one, labelled_text};
 
 use crate::names::{push_fields, union_of};
 use crate::parser::Parser;
@@ -31,7 +32,8 @@ pub struct Parsers<'p> {
 
 impl<'p> Model for Parsers<'p> {
     ghost use Rattle.std.specs.Prelude.{◌≡◌, ◌∷◌, List, codes, map, string_bytes};
-    ghost use Rattle.log_extractor.specs.Several.{AreLinePatterns, LabelledPattern, LabelledText, labelled_text, union_names};
+    ghost use Rattle.log_extractor.specs.Several.{AreLinePatterns, LabelledPattern, LabelledText, labelled_text};
+    ghost use Rattle.log_extractor.specs.Several.{union_names};
 
     ghost Value = { List LabelledText };
 

@@ -3,7 +3,10 @@ ghost use Rattle.std.specs.Prelude.{◌≡◌, ◌∷◌, ◌++◌, [], IfErr, I
 ghost use Rattle.std.specs.Prelude.{string_bytes, ℕ};
 ghost use Rattle.nfa_compiler.specs.Compiled.{IsNamed};
 ghost use Rattle.nfa_compiler.specs.Rejected.{TextsFitIn};
-ghost use Rattle.log_extractor.specs.Fields.{IsPatternMistake, IsRegexOf, columns_in, group_of, line_syntax, named_groups};
+ghost use Rattle.nfa_compiler.specs.Written.{byte_syntax};
+ghost use Rattle.nfa_meta.specs.Built.{IsRegexOf};
+ghost use Rattle.log_extractor.specs.Fields.{IsPatternMistake, columns_in, group_of};
+ghost use Rattle.log_extractor.specs.Fields.{named_groups};
 
 use nfa_compiler::{OnlyPattern, Syntax};
 use nfa_meta::{BuildError, Regex};
@@ -76,8 +79,8 @@ impl<T: Drop> From<AllocFailed<T>> for PatternError {
 
 /// Makes a regex of the text of a pattern. A match is bound to the start of the line, and may be of any bytes.
 pub fn compile(alloc: Global, text: &str) -> Result<Regex, PatternError>
-    ensures compiled { IfOk result (IsRegexOf text.now) }
-    ensures fits { IfOk result (λ _. TextsFitIn 10485760 line_syntax (text.now ∷ [])) }
+    ensures compiled { IfOk result (IsRegexOf (text.now ∷ [])) }
+    ensures fits { IfOk result (λ _. TextsFitIn 10485760 byte_syntax (text.now ∷ [])) }
     ensures mistake { IfErr result (IsPatternMistake text.now) }
 {
     let config = Regex::config().utf8(false).anchored(true);
@@ -90,7 +93,7 @@ pub fn compile(alloc: Global, text: &str) -> Result<Regex, PatternError>
 
 /// Reads the columns of a pattern. The text is read once more for that, as an NFA does not give the names of groups.
 pub fn columns(alloc: Global, text: &str) -> Result<Vec<Column>, PatternError>
-    ensures read { IfOk result (λ columns. (names : List (Option (List ℕ))) → IsNamed line_syntax text.now names
+    ensures read { IfOk result (λ columns. (names : List (Option (List ℕ))) → IsNamed byte_syntax text.now names
         → map group_of columns.items ≡ columns_in names) }
     ensures mistake { IfErr result (IsPatternMistake text.now) }
 {

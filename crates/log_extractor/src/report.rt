@@ -4,7 +4,8 @@ ghost use Rattle.std.specs.Io.KnownBytes.{Appends};
 ghost use Rattle.text_lines.specs.Lines.{content, lines_of};
 ghost use Rattle.log_extractor.specs.Fields.{fields_now};
 ghost use Rattle.log_extractor.specs.Several.{AreLinePatterns, LabelledPattern, shown_names, row_by_first};
-ghost use Rattle.log_extractor.specs.Printed.{PartsAreJoined, table_head, extracted_lines, has_row, shown_line, shown_as, shown_fields, shown_reject};
+ghost use Rattle.log_extractor.specs.Printed.{PartsAreJoined, table_head, extracted_lines, has_row, shown_line};
+ghost use Rattle.log_extractor.specs.Printed.{shown_as, shown_fields, shown_reject};
 ghost use Rattle.log_extractor.specs.declared.output.Form.{Form};
 ghost use Rattle.log_extractor.specs.declared.output.Output.TheVariants as output;
 

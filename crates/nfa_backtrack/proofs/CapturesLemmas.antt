@@ -13,10 +13,11 @@ use Rattle.nfa_search_base.proofs.OkItemLemmas.{only-item}
 use Rattle.nfa_search_base.proofs.RunLemmas.{Begins}
 use Rattle.nfa_search_base.proofs.ItemLemmas.{ShellOf, plain_shell, steps_in}
 use Rattle.nfa_backtrack.specs.Backtrack.{Backtracker, IsTooLong, BacktrackCache}
-use Rattle.nfa_backtrack.specs.CapturesMatches.{AsksBacktrackerRow, CapturesBySearches, CapturesRefused, backtrack_captures, backtrack_captures_next}
+use Rattle.nfa_backtrack.specs.Iterators.{AsksBacktrackerRow, CapturesBySearches, backtrack_captures, backtrack_captures_next}
 use Rattle.nfa_backtrack.specs.Finding.{AnswersByLength, IsCounted, IsTryCapturesAnswer, SearchesOnce}
 use Rattle.nfa_backtrack.specs.declared.captures_iter.TryCapturesMatches.{TryCapturesMatches}
 use Rattle.nfa_backtrack.proofs.FindLemmas.{back_engine, counted-fits, counted-refusal, memory-alone, once-by, refused-alone}
+use Rattle.nfa_backtrack.specs.Runs.{RunsRefused}
 
 -- A search that fills captures with all slots.
 module _ {e : Backtracker} {x : Search} {old new : BacktrackCache} where
@@ -78,7 +79,7 @@ module _ (e : Backtracker) (x : Search) (s : TryCapturesMatches)
       (record { fits = tt; holds = s.holds })
 
   -- and errors by the rule of refusals
-  pub captures-refused : CapturesRefused e x s
+  pub captures-refused : RunsRefused backtrack_captures_next e x s
   captures-refused = λ p seen from.
       record {
         long = λ long whole. only-item (filler_items back_filler) (results_of (back_filler.rows e x)) x

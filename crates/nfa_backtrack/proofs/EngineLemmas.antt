@@ -1,6 +1,6 @@
 -- From the results of a search to the answers that its callers get.
 use Rattle.nfa_paths.proofs.Common.{◌≡◌, ℕ, [], ◌∷◌, arith, length, refl, ap, ◌∙◌, Option, Some, None, false, replicate, IfNone, refill, Search, Automaton, IsAnswer, Slots, LeftmostFirst}
-use Rattle.nfa_search_base.proofs.CallerLemmas.{slots-none}
+use Rattle.nfa_search_base.proofs.AskingLemmas.{slots-none}
 
 -- slots that are written whole are what was written
 refill-whole : (slots written : Slots) → length written ≡ length slots → refill (length slots) slots written ≡ written

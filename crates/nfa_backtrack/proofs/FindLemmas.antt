@@ -1,19 +1,19 @@
 -- A backtracker as the engine of an iteration over matches: when its iterator may search, and what it gives and keeps.
 use Rattle.nfa_paths.proofs.Common.{◌≡◌, ◌∙◌, ℕ, ◌-◌, ◌*◌, ◌≤◌, refl, false, Option, None, Some, Result, Ok, Err, arith, length, List, ◌∷◌, ap, inl, inr, IfOk, IfSome, option_map, Found, found_of, Search, Match, IsFindAnswer, raised, span_len, LeftmostFirst}
-use Rattle.nfa_paths.proofs.KnownLemmas.{match-sure, sure-match}
+use Rattle.nfa_paths.proofs.EarliestLemmas.{match-sure, sure-match}
 use Rattle.nfa_search_base.specs.Common.{Keeping, found_in, if_ends_at, answer_by, StepsLead, asks_keeping, WithCache, TakesStepWith, steps_with_state, steps_iter_state, GivesItem, can_step, takes_steps, Advances, Answer, AnswerIsInside, IterState, fresh, answer_span, span_of}
 use Rattle.nfa_search_base.specs.declared.error.SearchError.{SearchError}
 use Rattle.nfa_search_base.specs.declared.error.SearchError.TheVariants.{HaystackTooLong, Memory}
 use Rattle.nfa_search_base.specs.declared.iter.steps.Steps.{Steps}
 use Rattle.nfa_search_base.proofs.EngineLemmas.{EngineOf, FinderOf, KeptBy, SearchesAs, SearchesOf, answers_as, calls-kept, finds_by, searches-serve, step-may}
 use Rattle.nfa_search_base.proofs.ItemLemmas.{ItemsOf, items_as, ShellOf, plain_shell, same-items, steps_in}
-use Rattle.nfa_search_base.proofs.LastStartLemmas.{match-from-scan}
+use Rattle.nfa_search_base.proofs.SkipLemmas.{match-from-scan}
 use Rattle.nfa_search_base.proofs.LeavingLemmas.{calls-lead, calls-leave, finds-leave, finds-to_end}
 use Rattle.nfa_search_base.proofs.ListLemmas.{match-lies}
 use Rattle.nfa_search_base.proofs.IterStateLemmas.{IsOrdered}
 use Rattle.nfa_search_base.proofs.RunLemmas.{AnswersOf, Begins}
 use Rattle.nfa_backtrack.specs.Backtrack.{Backtracker, IsTooLong, BacktrackCache, refused_early}
-use Rattle.nfa_backtrack.specs.FindMatches.{AsksBacktracker, FindsBySearches, MayFindByBacktracker, backtrack_matches, backtrack_matches_next, backtracker_knowing, fits_always}
+use Rattle.nfa_backtrack.specs.Iterators.{AsksBacktracker, FindsBySearches, MayFindByBacktracker, backtrack_matches, backtrack_matches_next, backtracker_knowing, fits_always}
 use Rattle.nfa_backtrack.specs.Finding.{Counts, DoesWork, IsCounted, IsRefusal, IsTryFindAnswer, IsSureAt, SearchesOnce, backtracker_scans}
 use Rattle.nfa_backtrack.specs.declared.find_iter.Finder.{Finder}
 use Rattle.nfa_backtrack.specs.declared.find_iter.TryFindMatches.{TryFindMatches}
@@ -196,7 +196,7 @@ module _ (e : Backtracker) (x : Search) (s : TryFindMatches) (engine : s.steps.b
   pub finds-searches : s.steps.backend.known ≡ None → FindsBySearches e x s
   finds-searches known = record {
     keeps = λ xs t r u ran st.
-        let kept = calls-kept any_kept find_shell s in record { cache = (kept xs t r u ran st).cache };
+        let kept = calls-kept any_kept find_shell s in (kept xs t r u ran st).cache;
     on = finds-leave back_finder (steps_in find_shell) e s finds-begin known;
     early = λ xs t r u ran st long.
         let lead = calls-lead back_finds back_items (steps_in find_shell) in

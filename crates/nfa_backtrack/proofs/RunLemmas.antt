@@ -1,6 +1,6 @@
 -- The calls of an iterator over a backtracker's matches give the items of its search.
 use Rattle.nfa_paths.proofs.Common.{cases_lt, ◌+◌, ◌*◌, length, length-append, IfErr, ◌≡◌, arith, false, Some, Result, Ok, Err, refl, ap, List, [], ◌∷◌, ◌++◌, map, inl, inr, Found, found_of, Search, Match, span_len, LeftmostFirst}
-use Rattle.nfa_search_base.specs.Common.{IsStep, AnswersMatch, IsInside, steps_iter_state, IterState, Answer, fresh, span_of}
+use Rattle.nfa_search_base.specs.Common.{IsStep, AnswersMatch, IsInside, steps_iter_state, IterState, Answer, fresh, span_of, OksAll}
 use Rattle.nfa_search_base.specs.declared.error.SearchError.{SearchError}
 use Rattle.nfa_search_base.specs.declared.error.SearchError.TheVariants.{HaystackTooLong, Memory}
 use Rattle.nfa_search_base.proofs.DrainedLemmas.{all-last}
@@ -9,9 +9,9 @@ use Rattle.nfa_search_base.proofs.ListLemmas.{match-lies, matches-disjoint, step
 use Rattle.nfa_search_base.proofs.OkItemLemmas.{GoesOnIn, OksGiven, ResultsOf, errors-memory, last-clean, next-clean, oked, oks-given, only-item, only-next, values-hold}
 use Rattle.nfa_search_base.proofs.RunLemmas.{Given, given-as, items-given}
 use Rattle.nfa_backtrack.specs.Backtrack.{Backtracker, IsTooLong, capacity_of}
-use Rattle.nfa_backtrack.specs.FindMatches.{backtrack_matches, backtrack_matches_next}
+use Rattle.nfa_backtrack.specs.Iterators.{backtrack_matches, backtrack_matches_next}
 use Rattle.nfa_backtrack.specs.Finding.{AnswersByLength, IsTryFindAnswer}
-use Rattle.nfa_backtrack.specs.Runs.{OksAreAll, OksAreFirst, RunsInside, RunsDisjoint, RunsRefused, AreFirstItems, AreAllItems, GivesByLength, EndsByLength}
+use Rattle.nfa_backtrack.specs.Runs.{OksAreAll, OksAreFirst, RunsInside, RunsDisjoint, RunsRefused, AreFirstItems, AreAllItems, GivesByLength}
 use Rattle.nfa_backtrack.specs.declared.find_iter.TryFindMatches.{TryFindMatches}
 use Rattle.nfa_backtrack.proofs.FindLemmas.{back_answers, back_items, find_shell, finds-begin, memory-alone, refused-alone}
 
@@ -111,7 +111,7 @@ module _ (e : Backtracker) where
     runs-disjoint = λ p seen from ms is. matches-disjoint e.nfa LeftmostFirst false x (map found_of ms)
         (oks-match.run p seen from ms is).0
 
-    pub runs-refused : RunsRefused e x s
+    pub runs-refused : RunsRefused backtrack_matches_next e x s
     runs-refused = λ p seen from.
         let k = finds-given.run p seen from in
         record {
@@ -122,6 +122,6 @@ module _ (e : Backtracker) where
     pub gives-by-length : GivesByLength e x s
     gives-by-length = λ xs t i u ran st. item-by-length x xs i (finds-given.next xs t i u ran st).come
 
-    pub ends-by-length : EndsByLength e x s
+    pub ends-by-length : OksAll backtrack_matches_next (λ ms. ¬ (IsTooLong e x)) s
     ends-by-length = λ xs t u ms ran st is.
         oks-fit x ms (rw is at (finds-given.all xs t u ran st).come)

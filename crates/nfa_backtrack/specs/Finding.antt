@@ -1,7 +1,6 @@
 -- The answers of a backtracker to searches for a match or for captures.
 use Rattle.std.specs.Prelude.{◌≡◌, ◌≤◌, ◌*◌, ◌+◌, ℕ, ◌⊎◌, ◌↔◌, false, length, List, Result, Ok, Err, IfErr, IsErrOf, OnErr, OnOk}
-use Rattle.nfa_paths.specs.Common.{Found, Search, IsFindAnswer, IsWithinScans, IsWork, max_scans, span_len, total_degree, LeftmostFirst, IsSureMatch, max_scan_turns}
-use Rattle.nfa_search_base.specs.Common.{Row, row_span, AnswersRow, DoesSearch, FindsLeave, FindsLeaveAtEnd, Leaves, LeavesAtEnd, Answer}
+use Rattle.nfa_search_base.specs.Common.{Found, Search, IsFindAnswer, IsWithinScans, IsWork, max_scans, span_len, total_degree, LeftmostFirst, IsSureMatch, max_scan_turns, Row, row_span, AnswersRow, DoesSearch, FindsLeave, FindsLeaveAtEnd, Leaves, LeavesAtEnd, Answer}
 use Rattle.nfa_search_base.specs.declared.error.SearchError.{SearchError}
 use Rattle.nfa_search_base.specs.declared.error.SearchError.TheVariants.{HaystackTooLong, Memory}
 use Rattle.nfa_backtrack.specs.Backtrack.{Backtracker, BacktrackCache, AddsBacktrackWork, CountsAnswer, CountsRefusal, GrowsBlocks, HoldsNoMore, IsTooLong, refused_early}
@@ -53,7 +52,7 @@ pub record IsCounted {Y : Type 0} (e : Backtracker) (x : Search) (needed : ℕ) 
   pub blocks : GrowsBlocks e.nfa x old.blocks new.blocks
   -- it holds no frame that it did not hold before, and no more slots than it had or are needed
   pub holds : HoldsNoMore needed old new
-  -- if the span is too long, only the count of refusals changes
+  -- if the span is too long, the search is counted as refused, with no scans and no turns, and nothing else changes
   pub early : IsTooLong e x → new ≡ refused_early old
 
 -- an answer is counted as an answer, and an error as a refusal
@@ -92,11 +91,12 @@ abbrev pub BacktrackerFindsToEnd : Backtracker → Search → List Found → Bac
 BacktrackerFindsToEnd e x ms old new =
     FindsLeaveAtEnd (IsTryFindAnswer e) (λ y a. SearchesOnce e y a) backtracker_scans x ms old new
 
--- the same for an iteration over captures
+-- an iteration over the captures of x led from one cache to the other only by its searches, as far as it went
 abbrev pub BacktrackerCapturesOn : Backtracker → Search → BacktrackCache → BacktrackCache → Type 0
 BacktrackerCapturesOn e x old new = Leaves row_span (DoesSearch (IsTryCapturesAnswer e)
     (λ y a. SearchesOnce e y a)) x old new
 
+-- the same, and the iteration went to its end, past these rows
 abbrev pub BacktrackerCapturesToEnd : Backtracker → Search → List Row → BacktrackCache → BacktrackCache → Type 0
 BacktrackerCapturesToEnd e x rows old new =
     LeavesAtEnd row_span (DoesSearch (IsTryCapturesAnswer e) (λ y a. SearchesOnce e y a)) x rows old new

@@ -1,15 +1,4 @@
 pub mod Backtrack
-pub mod CapturesMatches
+pub mod Iterators
 pub mod Finding
-pub mod FindMatches
 pub mod Runs
-pub use Rattle.nfa_paths.specs.Graphs
-pub use Rattle.nfa_paths.specs.Paths
-pub use Rattle.regex_search_core.specs.Boundary
-pub use Rattle.regex_search_core.specs.Found
-pub use Rattle.regex_search_core.specs.Groups
-pub use Rattle.regex_search_core.specs.Patterns
-pub use Rattle.regex_search_core.specs.Search
-pub use Rattle.regex_search_core.specs.Slots
-pub use Rattle.thompson_nfa.specs.Automaton
-pub use Rattle.nfa_scan_core.specs.FirstBytes

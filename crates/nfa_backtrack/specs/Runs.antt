@@ -1,12 +1,10 @@
 -- The items that the calls of an iterator over a backtracker's matches have given, wherever they stop.
-use Rattle.std.specs.Prelude.{◌≡◌, true, false, List, [], ◌∷◌, map, All, None, Some, Result, Ok, Err, IfOk, IfErr}
-use Rattle.std.specs.Iterator.Runs.{EachRunFrom}
-use Rattle.nfa_paths.specs.Common.{found_of, Search, Match, span_len, LeftmostFirst}
-use Rattle.nfa_search_base.specs.Common.{AreAllStoredMatches, AreFirstStoredMatches, AreFirstMatches, AreMatches, AreDisjoint, IsInside, fresh, span_of, Yields}
+use Rattle.std.specs.Prelude.{◌≡◌, true, false, List, [], ◌∷◌, map, All, None, Some, Result, Ok, Err, IfOk, IfErr, Option}
+use Rattle.nfa_search_base.specs.Common.{EachRunFrom, found_of, Search, Match, span_len, LeftmostFirst, AreAllStoredMatches, AreFirstStoredMatches, AreFirstMatches, AreMatches, AreDisjoint, IsInside, fresh, span_of, Yields}
 use Rattle.nfa_search_base.specs.declared.error.SearchError.{SearchError}
 use Rattle.nfa_search_base.specs.declared.error.SearchError.TheVariants.{HaystackTooLong, Memory}
 use Rattle.nfa_backtrack.specs.Backtrack.{Backtracker, IsTooLong}
-use Rattle.nfa_backtrack.specs.FindMatches.{backtrack_matches_next}
+use Rattle.nfa_backtrack.specs.Iterators.{backtrack_matches_next}
 use Rattle.nfa_backtrack.specs.Finding.{AnswersByLength, IsTryFindAnswer}
 use Rattle.nfa_backtrack.specs.declared.find_iter.TryFindMatches.{TryFindMatches}
 
@@ -25,8 +23,9 @@ pub record AreRefused {Y : Type 0} (e : Backtracker) (x : Search) (whole : Type 
   pub memory : ¬ (IsTooLong e x) → All (λ item. IfErr item (λ error. error ≡ Memory)) items
 
 -- in each run errors follow that rule
-abbrev pub RunsRefused : Backtracker → Search → TryFindMatches → Type 0
-RunsRefused e x s = EachRunFrom backtrack_matches_next s (λ p. AreRefused e x (p.whole ≡ true) p.items)
+abbrev pub RunsRefused : {T Y : Type 0} → (T → Option (Result Y SearchError) → T → Type 0) → Backtracker → Search → T
+    → Type 0
+RunsRefused steps e x s = EachRunFrom steps s (λ p. AreRefused e x (p.whole ≡ true) p.items)
 
 -- items that are all `Ok`, as the first matches of x, and as all of them
 abbrev pub OksAreFirst : Backtracker → Search → List Match → Type 0
@@ -50,8 +49,3 @@ abbrev pub GivesByLength : Backtracker → Search → TryFindMatches → Type 0
 GivesByLength e x s = (xs : List (Result Match SearchError)) (t : TryFindMatches) (i : Result Match SearchError)
     (u : TryFindMatches) → Yields backtrack_matches_next s xs t → backtrack_matches_next t (Some i) u
     → AnswersByLength e x i
-
--- and the items end without an error only if it is not too long
-abbrev pub EndsByLength : Backtracker → Search → TryFindMatches → Type 0
-EndsByLength e x s = (xs : List (Result Match SearchError)) (t u : TryFindMatches) (ms : List Match)
-    → Yields backtrack_matches_next s xs t → backtrack_matches_next t None u → xs ≡ map Ok ms → ¬ (IsTooLong e x)

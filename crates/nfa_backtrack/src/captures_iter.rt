@@ -47,9 +47,10 @@ impl BoundedBacktracker {
     ghost use Rattle.nfa_search_base.specs.WithCaptures.{filled_answer, row_of};
     ghost use Rattle.nfa_search_base.specs.Lists.{AreRows, AreDisjoint, AreMatches};
     ghost use Rattle.nfa_search_base.specs.IterStates.{fresh};
-    ghost use Rattle.nfa_backtrack.specs.CapturesMatches.{CapturesBySearches, CapturesRefused};
-    ghost use Rattle.nfa_backtrack.specs.CapturesMatches.{backtrack_captures, backtrack_captures_next};
+    ghost use Rattle.nfa_backtrack.specs.Iterators.{CapturesBySearches, backtrack_captures};
+    ghost use Rattle.nfa_backtrack.specs.Iterators.{backtrack_captures_next};
     ghost use Rattle.nfa_search_base.specs.Stored.{steps_iter_state};
+    ghost use Rattle.nfa_backtrack.specs.Runs.{RunsRefused};
     ghost use Rattle.nfa_backtrack.specs.Backtrack.{IsTooLong};
     ghost use Rattle.nfa_backtrack.specs.Finding.{AnswersByLength, BacktrackerCapturesOn, BacktrackerCapturesToEnd};
     ghost use Rattle.nfa_backtrack.specs.Finding.{IsTryCapturesAnswer, SearchesOnce};
@@ -90,7 +91,7 @@ impl BoundedBacktracker {
         ensures given { IfOk result (CapturesGiven backtrack_captures_next self.now.nfa LeftmostFirst false
             (IsTryCapturesAnswer self.now) (search_of input.entry)) }
         ensures inside { IfOk result (CapturesWithin backtrack_captures_next (search_of input.entry)) }
-        ensures refused { IfOk result (CapturesRefused self.now (search_of input.entry)) }
+        ensures refused { IfOk result (RunsRefused backtrack_captures_next self.now (search_of input.entry)) }
         // The cache changes only by the searches of the steps.
         ensures searches { IfOk result (CapturesBySearches self.now (search_of input.entry)) }
     {
@@ -129,7 +130,7 @@ impl BoundedBacktracker {
         ensures given { CapturesGiven backtrack_captures_next self.now.nfa LeftmostFirst false (IsTryCapturesAnswer
             self.now) (search_of input.entry) result }
         ensures inside { CapturesWithin backtrack_captures_next (search_of input.entry) result }
-        ensures refused { CapturesRefused self.now (search_of input.entry) result }
+        ensures refused { RunsRefused backtrack_captures_next self.now (search_of input.entry) result }
         // The cache changes only by the searches of the steps.
         ensures searches { CapturesBySearches self.now (search_of input.entry) result }
     {
@@ -214,8 +215,7 @@ impl BoundedBacktracker {
 
 impl<'r> FindWith for CapturesFinder<'r> {
     ghost use Rattle.nfa_search_base.specs.WithCaptures.{Row, filled_answer, row_span, GivesCaptures};
-    ghost use Rattle.nfa_backtrack.specs.CapturesMatches.{AsksBacktrackerRow};
-    ghost use Rattle.nfa_backtrack.specs.FindMatches.{fits_always};
+    ghost use Rattle.nfa_backtrack.specs.Iterators.{AsksBacktrackerRow, fits_always};
     ghost use Rattle.nfa_search_base.specs.EngineSearches.{MayFill};
 
     type Cache = Cache;
@@ -254,7 +254,7 @@ impl<'r> FindWith for CapturesFinder<'r> {
 
 impl<'r, 'c, 'h> Iterator for TryCapturesMatches<'r, 'c, 'h> {
     ghost use Rattle.nfa_search_base.specs.Stored.{steps_left};
-    ghost use Rattle.nfa_backtrack.specs.CapturesMatches.{backtrack_captures, backtrack_captures_next};
+    ghost use Rattle.nfa_backtrack.specs.Iterators.{backtrack_captures, backtrack_captures_next};
 
     type Item = Result<Captures, SearchError>;
 

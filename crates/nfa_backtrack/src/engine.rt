@@ -1,25 +1,20 @@
 //! The backtracker: its constructors, getters and searches.
-ghost use Rattle.std.specs.Prelude.{◌≡◌, ◌↔◌, ◌+◌, ◌*◌, ◌/◌, ◌<◌, ◌≤◌, ◌^◌, None, Ok, length, max, vec_len};
-ghost use Rattle.std.specs.Prelude.{replicate};
-ghost use Rattle.std.specs.Prelude.{option_map, All, IfOk, OnOk, OnErr, IsOkUnless, IsTrue, false};
-ghost use Rattle.std.specs.Prelude.{IfNone, IfSome, IsOk, vec_capacity};
+ghost use Rattle.std.specs.Prelude.{◌≡◌, ◌↔◌, ◌+◌, ◌*◌, ◌/◌, ◌<◌, ◌≤◌, ◌^◌, None, Ok, length, max, vec_len, replicate};
+ghost use Rattle.std.specs.Prelude.{option_map, All, IfOk, OnOk, OnErr, IsOkUnless, IsTrue, false, IfNone, IfSome};
+ghost use Rattle.std.specs.Prelude.{IsOk, vec_capacity};
 ghost use Rattle.regex_search_core.specs.Search.{search_of};
 ghost use Rattle.regex_search_core.specs.Groups.{slot_count};
-ghost use Rattle.regex_search_core.specs.Patterns.{number_of};
+ghost use Rattle.regex_search_core.specs.PatternSets.{number_of};
 ghost use Rattle.regex_search_core.specs.Found.{found_of, half_found_of};
 ghost use Rattle.regex_search_core.specs.declared.search.MatchKind.TheVariants.{LeftmostFirst};
 ghost use Rattle.thompson_nfa.specs.Automaton.{always, never};
-ghost use Rattle.nfa_paths.specs.Paths.{span_len, IsAnswer, IsFindAnswer, IsBoolAnswer};
-ghost use Rattle.nfa_paths.specs.Paths.{IsWork};
+ghost use Rattle.nfa_paths.specs.Paths.{span_len, IsAnswer, IsFindAnswer, IsBoolAnswer, IsWork};
 ghost use Rattle.nfa_paths.specs.Restarts.{IsBounded};
-ghost use Rattle.nfa_backtrack.specs.Backtrack.{IsTooLong, GrowsBlocks};
-ghost use Rattle.nfa_backtrack.specs.Backtrack.{empty_cache, capacity_of, rounded_bits};
-ghost use Rattle.nfa_backtrack.specs.Backtrack.{max_haystack_len_of};
-ghost use Rattle.nfa_backtrack.specs.Backtrack.{min_capacity_of};
+ghost use Rattle.nfa_backtrack.specs.Backtrack.{IsTooLong, GrowsBlocks, empty_cache, capacity_of, rounded_bits};
+ghost use Rattle.nfa_backtrack.specs.Backtrack.{max_haystack_len_of, min_capacity_of};
 ghost use Rattle.nfa_backtrack.specs.Finding.{IsCounted};
 ghost use Rattle.nfa_search_base.specs.EngineSearches.{last_start};
-ghost use Rattle.nfa_search_base.specs.Lists.{finds};
-ghost use Rattle.nfa_search_base.specs.Lists.{IsInside, IsSlotInside};
+ghost use Rattle.nfa_search_base.specs.Lists.{finds, IsInside, IsSlotInside};
 
 use crate::cache::Cache;
 use crate::config::{Builder, Config};

@@ -47,12 +47,10 @@ impl BoundedBacktracker {
     ghost use Rattle.nfa_backtrack.specs.Finding.{AnswersByLength, BacktrackerFindsOn, BacktrackerFindsToEnd};
     ghost use Rattle.nfa_search_base.specs.Runs.{GivesFirst, GivesNext, OksAll, OksFirst, OksNext, OksRun, RunsGive};
     ghost use Rattle.nfa_search_base.specs.IterStates.{fresh};
-    ghost use Rattle.nfa_backtrack.specs.FindMatches.{backtrack_matches, backtrack_matches_engine};
-    ghost use Rattle.nfa_backtrack.specs.FindMatches.{backtrack_matches_next, backtracker_finds_known};
-    ghost use Rattle.nfa_backtrack.specs.FindMatches.{FindsBySearches};
-    ghost use Rattle.nfa_backtrack.specs.Runs.{AreAllItems, AreFirstItems, OksAreAll, OksAreFirst};
-    ghost use Rattle.nfa_backtrack.specs.Runs.{RunsDisjoint, RunsInside, RunsRefused};
-    ghost use Rattle.nfa_backtrack.specs.Runs.{GivesByLength, EndsByLength};
+    ghost use Rattle.nfa_backtrack.specs.Iterators.{backtrack_matches, backtrack_matches_engine};
+    ghost use Rattle.nfa_backtrack.specs.Iterators.{backtrack_matches_next, backtracker_finds_known, FindsBySearches};
+    ghost use Rattle.nfa_backtrack.specs.Runs.{AreAllItems, AreFirstItems, OksAreAll, OksAreFirst, RunsDisjoint};
+    ghost use Rattle.nfa_backtrack.specs.Runs.{RunsInside, RunsRefused, GivesByLength};
 
     /// Returns an iterator over all matches that do not overlap, from left to right. Does not allocate.
     ///
@@ -86,7 +84,7 @@ impl BoundedBacktracker {
             (OksAreAll self.now (search_of input.entry)) result }
         ensures inside { RunsInside (search_of input.entry) result }
         ensures disjoint { RunsDisjoint (search_of input.entry) result }
-        ensures refused { RunsRefused self.now (search_of input.entry) result }
+        ensures refused { RunsRefused backtrack_matches_next self.now (search_of input.entry) result }
         ensures first { GivesFirst backtrack_matches_next (AreFirstItems self.now (search_of input.entry)) result }
         ensures first_matches { OksFirst backtrack_matches_next (OksAreFirst self.now (search_of input.entry))
             result }
@@ -96,7 +94,7 @@ impl BoundedBacktracker {
         // A match is given, and the items end without an error, only if the span is not too long. An error is a
         // refusal.
         ensures by_length { GivesByLength self.now (search_of input.entry) result }
-        ensures end { EndsByLength self.now (search_of input.entry) result }
+        ensures end { OksAll backtrack_matches_next (λ ms. ¬ (IsTooLong self.now (search_of input.entry))) result }
         // The cache changes only by the searches of the steps.
         ensures searches { FindsBySearches self.now (search_of input.entry) result }
     {
@@ -156,7 +154,7 @@ impl<'r> FindWith for Finder<'r> {
     ghost use Rattle.regex_search_core.specs.Found.{Found, found_of};
     ghost use Rattle.nfa_search_base.specs.Items.{GivesItem, answer_by};
     ghost use Rattle.nfa_search_base.specs.IterStates.{span_of};
-    ghost use Rattle.nfa_backtrack.specs.FindMatches.{AsksBacktracker, MayFindByBacktracker};
+    ghost use Rattle.nfa_backtrack.specs.Iterators.{AsksBacktracker, MayFindByBacktracker};
 
     type Cache = Cache;
 
@@ -224,7 +222,7 @@ fn found_in(reply: Result<Option<Match>, SearchError>) -> Option<Match>
 
 impl<'r, 'c, 'h> Iterator for TryFindMatches<'r, 'c, 'h> {
     ghost use Rattle.nfa_search_base.specs.Stored.{steps_left};
-    ghost use Rattle.nfa_backtrack.specs.FindMatches.{backtrack_matches, backtrack_matches_next};
+    ghost use Rattle.nfa_backtrack.specs.Iterators.{backtrack_matches, backtrack_matches_next};
 
     type Item = Result<Match, SearchError>;
 

@@ -1,7 +1,7 @@
 //! The bytes that a match may begin with.
 ghost use Rattle.std.specs.Prelude.{◌≡◌, false, true};
 ghost use Rattle.nfa_scan_core.specs.FirstBytes.{MayBegin};
-ghost use Rattle.nfa_search_base.specs.Beginnings.{NoMatchBegins};
+ghost use Rattle.nfa_paths.specs.Paths.{NoMatchBegins};
 
 use crate::engine::BoundedBacktracker;
 

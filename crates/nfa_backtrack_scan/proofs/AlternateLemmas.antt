@@ -7,7 +7,7 @@ use Rattle.nfa_backtrack_scan.specs.declared.frame.Frame.{Frame}
 use Rattle.nfa_backtrack_scan.specs.declared.frame.Frame.TheVariants.{Step}
 use Rattle.nfa_backtrack_scan.proofs.StepLemmas.{reads-plain, stacked-push, step-edges, PaidFor-step}
 use Rattle.nfa_backtrack_scan.proofs.WalkLemmas.{no_path, Carries-plain, Carries-then}
-use Rattle.nfa_scan_core.proofs.AlternateLemmas.{first-drop}
+use Rattle.nfa_scan_core.proofs.TargetLemmas.{first-drop}
 use Rattle.nfa_paths.proofs.StartLemmas.{node_at-get}
 
 module _ (nfa : Automaton) (x : Search) where

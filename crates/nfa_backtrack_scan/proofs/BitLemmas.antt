@@ -1,9 +1,6 @@
 -- Bits in blocks: reading and setting one, and clearing all.
-use Rattle.nfa_paths.proofs.Common.{◌≡◌, ℕ, ◌+◌, ◌*◌, ◌/◌, ◌%◌, ◌^◌, ◌<◌, ◌≤◌, Bool, true, false, List, [], rules, length, get_or, set, replicate, refl, ap, sym, ◌∙◌, arith, nat_eq, length-set, length-replicate, bit_or, get_or-set_at, get_or-set_same, get_or-set_other, get_or-replicate, same_lists, get_or_default}
-use Rattle.std.specs.Int.{bit_at, w64}
-use Rattle.std.proofs.Math.Decide.{ℕ_discrete}
-use Rattle.std.proofs.lemmas.List.FromFn.{length-map-range_with_len, get_or-map-range_with_len}
 use Rattle.std.proofs.lemmas.Nat.Bits.{bit_at-zero, bit_at_set_same, bit_at_set_other, bit_at-lt, same_from_bits}
+use Rattle.nfa_paths.proofs.Common.{bit_at, w64, ℕ_discrete, length-map-range_with_len, get_or-map-range_with_len, ◌≡◌, ℕ, ◌+◌, ◌*◌, ◌/◌, ◌%◌, ◌^◌, ◌<◌, ◌≤◌, Bool, true, false, List, [], rules, length, get_or, set, replicate, refl, ap, sym, ◌∙◌, arith, nat_eq, length-set, length-replicate, bit_or, get_or-set_at, get_or-set_same, get_or-set_other, get_or-replicate, same_lists, get_or_default}
 use Rattle.nfa_scan_core.specs.Marks.{Marks}
 use Rattle.nfa_backtrack_scan.specs.Bits.{bits_of, IsClearFrom}
 

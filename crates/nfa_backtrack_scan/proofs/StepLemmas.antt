@@ -1,11 +1,10 @@
 -- What each kind of state leads to, after the turn that marked its place or did not; and turns one after another.
-use Rattle.nfa_paths.proofs.Common.{◌≡◌, ℕ, ◌+◌, ◌-◌, ◌*◌, ◌<◌, ◌≤◌, List, [], ◌∷◌, ◌++◌, length, get_or, set, map, rules, refl, sym, arith, length-set, Option, Some, None, Result, Ok, Err, OnErr, true, false, All, IfSome, option_map, option_map_or, option_and_then, option_to_list, slice_get, sum, sum_by, length-map, All-push, sum_by_push, Search, number_of, PatternID, Automaton, Node, node_of, look_holds, Pair, degree, reads_byte, rests, pattern_of, slot_of, edges_of, byte_at, target_on, Task, Slots, Look, Union, BinaryUnion, Capture, Fail, State, Explore, Restore, marked_sum}
 use Rattle.thompson_nfa.specs.Automaton.Node.{Match}
 use Rattle.thompson_nfa.specs.declared.look.Look as looks
 use Rattle.nfa_paths.proofs.StartLemmas.{node_at-get, resting-edges}
 use Rattle.nfa_paths.proofs.TurnLemmas.{marked_sum-le}
-use Rattle.nfa_scan_core.proofs.AlternateLemmas.{none-nil}
-use Rattle.nfa_scan_core.proofs.TargetLemmas.{target-below, target-degree}
+use Rattle.nfa_paths.proofs.Common.{◌≡◌, ℕ, ◌+◌, ◌-◌, ◌*◌, ◌<◌, ◌≤◌, List, [], ◌∷◌, ◌++◌, length, get_or, set, map, rules, refl, sym, arith, length-set, Option, Some, None, Result, Ok, Err, OnErr, true, false, All, IfSome, option_map, option_map_or, option_and_then, option_to_list, slice_get, sum, sum_by, length-map, All-push, sum_by_push, Search, number_of, PatternID, Automaton, Node, node_of, look_holds, Pair, degree, reads_byte, rests, pattern_of, slot_of, edges_of, byte_at, target_on, Task, Slots, Look, Union, BinaryUnion, Capture, Fail, State, Explore, Restore, marked_sum}
+use Rattle.nfa_scan_core.proofs.TargetLemmas.{none-nil, target-below, target-degree}
 use Rattle.nfa_scan_core.specs.Marks.{Marks}
 use Rattle.nfa_backtrack_scan.specs.Walk.{pair_of, work_item, stacked, restoring, frame_tries, tasks_of, bit_of, weights, HasFrames, IsAfforded, IsStatePos, IsFrame, IsByteStep, PaidFor, Goes, Taken, TurnsLead, Walk, WasMarked}
 use Rattle.nfa_backtrack_scan.specs.declared.walk.Move.TheVariants.{On, DeadEnd, Matched}

@@ -1,6 +1,4 @@
 -- The steps of a walk, one for each kind of state.
-use Rattle.nfa_paths.proofs.Common.{◌≡◌, ℕ, suc, ◌+◌, ◌-◌, ◌*◌, ◌<◌, ◌≤◌, ◌⊎◌, ◌↔◌, List, [], ◌∷◌, ◌++◌, length, rules, get_or, set, map, replicate, refl, arith, Option, Some, None, false, Bool, sum, slice_get, slice_get-map, get_or_from_slice_get, length-map, sum-map, Search, Automaton, Node, Path, Pair, In, Space, span_len, degree, pattern_of, slot_of, edges_of, is_match, space, total_degree, Task, Slots, Hit, ExploresTo, HalfFound, Capture, stop, go, Explore, Restore, marked_sum}
-use Rattle.std.proofs.Math.Decide.{ℕ_discrete}
 use Rattle.std.proofs.lemmas.Nat.{same_from_place}
 use Rattle.thompson_nfa.specs.Automaton.Node.{Match}
 use Rattle.nfa_paths.proofs.SearchLemmas.{Answer-more, Answer-none, Answer-restore, Answer-marked, Answer-target, Answer-plain, Answer-write, Answer-unkept}
@@ -8,7 +6,8 @@ use Rattle.nfa_paths.proofs.TurnLemmas.{marked_sum-set, sum-repeated, get_or-rep
 use Rattle.nfa_scan_core.specs.Marks.{Marks}
 use Rattle.nfa_backtrack_scan.specs.Walk.{bit_of, IsMarked, Agrees, weights, Walk, WalkAnswer, Carries, Ends, EndsAt, Taken, WasMarked}
 use Rattle.nfa_paths.proofs.StartLemmas.{node_at-get}
-use Rattle.nfa_scan_core.proofs.SeenLemmas.{none-set}
+use Rattle.nfa_paths.proofs.Common.{ℕ_discrete, ◌≡◌, ℕ, suc, ◌+◌, ◌-◌, ◌*◌, ◌<◌, ◌≤◌, ◌⊎◌, ◌↔◌, List, [], ◌∷◌, ◌++◌, length, rules, get_or, set, map, replicate, refl, arith, Option, Some, None, false, Bool, sum, slice_get, slice_get-map, get_or_from_slice_get, length-map, sum-map, Search, Automaton, Node, Path, Pair, In, Space, span_len, degree, pattern_of, slot_of, edges_of, is_match, space, total_degree, Task, Slots, Hit, ExploresTo, HalfFound, Capture, stop, go, Explore, Restore, marked_sum}
+use Rattle.nfa_scan_core.proofs.TargetLemmas.{none-set}
 
 -- no path leads on from a pair without edges
 pub no_path : (edges : Pair → List Pair) (target : Pair → Bool) {v : Pair} {p : List Pair} → target v ≡ false

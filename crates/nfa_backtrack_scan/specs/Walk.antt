@@ -1,10 +1,8 @@
 -- The walk of a backtracker in the words of its proof: its stack as work that is left, its marks as pairs that were
 -- seen.
 use Rattle.std.specs.Prelude.{◌≡◌, ◌↔◌, ℕ, ◌+◌, ◌-◌, ◌*◌, ◌^◌, ◌<◌, ◌≤◌, ⊤, Bool, true, false, List, [], ◌∷◌, ◌++◌, Option, None, is_some, option_and_then, Some, length, map, replicate, sum, All, IfSome, slice_get, slice_index_or, slice_set}
-use Rattle.std.specs.List.{sum_by}
-use Rattle.nfa_paths.specs.Common.{Search, number_of, half_found_of, HalfFound, HalfMatch, Automaton, IsAutomaton, LeadsBelow, Node, node_of, Pair, Path, In, edges, pairs_from, span_len, degree, reads_byte, node_at, pattern_of, is_match, byte_at, target_on, space, Slots, Hit, Task, ExploresTo, ByteRange, BinaryUnion, Transition, Explore as ToExplore, Restore as ToRestore, marked_sum, repeated}
-use Rattle.nfa_paths.specs.Restarts.{AreUnset}
 use Rattle.thompson_nfa.specs.declared.state.State.{State}
+use Rattle.nfa_paths.specs.Common.{sum_by, AreUnset, Search, number_of, half_found_of, HalfFound, HalfMatch, Automaton, IsAutomaton, LeadsBelow, Node, node_of, Pair, Path, In, edges, pairs_from, span_len, degree, reads_byte, node_at, pattern_of, is_match, byte_at, target_on, space, Slots, Hit, Task, ExploresTo, ByteRange, BinaryUnion, Transition, Explore as ToExplore, Restore as ToRestore, marked_sum, repeated, half_at}
 use Rattle.nfa_scan_core.specs.FirstBytes.{IsFirstBytes}
 use Rattle.nfa_scan_core.specs.Marks.{Marks}
 use Rattle.nfa_backtrack_scan.specs.declared.frame.StatePos.{StatePos}
@@ -208,7 +206,7 @@ module _ (nfa : Automaton) (x : Search) where
   abbrev pub Goes : Pair → Move → Walk → Walk → Type 0
   Goes v (On place) old new = TurnsLead v (Some place) old new
   Goes v DeadEnd old new = TurnsLead v None old new
-  Goes v (Matched pattern) old new = Finds v (record { pattern = number_of pattern; offset = v.1 }) old new
+  Goes v (Matched pattern) old new = Finds v (half_at v.1 (number_of pattern)) old new
 
   -- the result of turns from v on and, if they lead nowhere, of the frames after them
   abbrev pub ComesTo : Pair → Outcome → Walk → Walk → Type 0

@@ -1,8 +1,10 @@
--- An NFA with fewer captures has the same ways, and the slots that are kept are the same.
-use Rattle.nfa_paths.proofs.Common.{◌≡◌, ◌∙◌, ℕ, zero, suc, ◌+◌, ◌*◌, ◌≤◌, ◌<◌, ◌==◌, inl, inr, false, List, [], ◌∷◌, ap, arith, length, map, ne_eqb, refl, replicate, sym, Option, None, Some, nat_lt, option_and_then, slice_index_or, range_with_len, sum_by, option_map_or, cases_Bool, cases_lt, le-ltb, lt-ltb, length-replicate, slot_count, Search, match_of, Automaton, Node, IsAutomaton, Pair, capture, edges_of, node_at, path_pattern, pattern_of, slot_among, slot_of, slot_row, Capture, Fail}
+-- An NFA with fewer captures is one that `NFA::from_states` accepts. It has the same ways, and keeps its slots.
+use Rattle.nfa_paths.proofs.Common.{◌≡◌, ◌∙◌, ℕ, zero, suc, ◌+◌, ◌*◌, ◌≤◌, ◌<◌, ◌==◌, inl, inr, false, List, [], ◌∷◌, ap, arith, length, map, ne_eqb, refl, replicate, sym, Option, None, Some, nat_lt, option_and_then, slice_index_or, range_with_len, sum_by, option_map_or, cases_Bool, cases_lt, le-ltb, lt-ltb, length-replicate, slot_count, Search, match_of, Automaton, Node, IsAutomaton, Pair, capture, edges_of, node_at, path_pattern, pattern_of, slot_among, slot_of, slot_row, Capture, Fail, subst, All, length-map, All-cons, All-head, All-map, All-nil, All-tail, LeadsBelow, PatternBelow, SlotBelow, AreGroupsOfPatterns}
 use Rattle.nfa_paths.proofs.PatternLemmas.{length-slot_row, match-along-path}
-use Rattle.nfa_captures.specs.Kept.{kept_node, with_groups}
-use Rattle.nfa_captures.proofs.WaysLemmas.{HaveSameWays, pattern-same}
+use Rattle.nfa_captures.specs.Kept.{kept_node, with_groups, kept_groups, with_captures}
+use Rattle.nfa_captures.proofs.SetLemmas.{HaveSameWays, pattern-same}
+use Rattle.nfa_captures.specs.declared.which.WhichCaptures.{WhichCaptures}
+use Rattle.nfa_captures.specs.declared.which.WhichCaptures.TheVariants as which
 
 abbrev Groups : Type 0
 Groups = List (List (Option (List ℕ)))
@@ -124,3 +126,87 @@ match-kept nfa valid r =
         let size : length slots ≡ 2 * length nfa.groups = length-slot_row nfa (2 * length nfa.groups) r in
         ap (λ (o : Option ℕ). match_of o slots) (sym some)
         ∙ match-along-path nfa valid k slots size r some (ap (λ (n : ℕ). slot_row nfa n r) (sym size))
+
+module _ (count : ℕ) where
+  -- a state leads where it led
+  leads-kept : (n : ℕ) (node : Node) → LeadsBelow n node → LeadsBelow n (kept_node count node)
+  leads-kept n (Capture next slot) h = elim (cases_Bool (nat_lt slot count)) [
+    | inl below ↦ rw below h
+    | inr past ↦ rw past (All-cons (λ s. s < n) next [] h (All-nil (λ s. s < n)))
+  ]
+  leads-kept n _ h = h
+
+  -- a state writes only slots that are kept
+  slot-below : (node : Node) → SlotBelow count (kept_node count node)
+  slot-below (Capture next slot) = elim (cases_lt slot count) [
+    | inl below ↦ rw (lt-ltb slot count below) below
+    | inr past ↦ rw (le-ltb slot count past) tt
+  ]
+  slot-below _ = tt
+
+  pattern-below : (n : ℕ) (node : Node) → PatternBelow n node → PatternBelow n (kept_node count node)
+  pattern-below n (Capture next slot) h = elim (cases_Bool (nat_lt slot count)) [
+    | inl below ↦ rw below tt
+    | inr past ↦ rw past tt
+  ]
+  pattern-below n _ h = h
+
+  -- a state that writes no other slot is as it was
+  node-same : (node : Node) → SlotBelow count node → kept_node count node ≡ node
+  node-same (Capture next slot) h = rw (lt-ltb slot count h) refl
+  node-same _ h = refl
+
+  nodes-same : (nodes : List Node) → All (SlotBelow count) nodes → map (kept_node count) nodes ≡ nodes
+  nodes-same [] h = refl
+  nodes-same (n ∷ nodes) h =
+      let here = node-same n (All-head (SlotBelow count) n nodes h) in
+      let rest = nodes-same nodes (All-tail (SlotBelow count) n nodes h) in
+      λ i. here i ∷ rest i
+
+pub valid : (groups : List (List (Option (List ℕ)))) (nfa : Automaton) → IsAutomaton nfa
+    → AreGroupsOfPatterns (with_groups groups nfa) → IsAutomaton (with_groups groups nfa)
+valid groups nfa is of_patterns =
+    let f = kept_node (slot_count groups) in
+    let size : length nfa.states ≡ length (map f nfa.states) = sym (length-map nfa.states f) in
+    let n = is.numbered in
+    record {
+      filled = subst (λ n. 0 < n) size is.filled;
+      numbered = record {
+        anchored_in = subst (λ n. nfa.anchored < n) size n.anchored_in;
+        unanchored_in = subst (λ n. nfa.unanchored < n) size n.unanchored_in;
+        patterns_in = subst (λ n. All (λ s. s < n) nfa.patterns) size n.patterns_in;
+        targets_in = subst (λ n. All (LeadsBelow n) (map f nfa.states)) size
+            (All-map (LeadsBelow (length nfa.states)) f nfa.states
+            (λ k d less. leads-kept (slot_count groups) (length nfa.states) (slice_index_or nfa.states k d)
+            (n.targets_in k d less)));
+      };
+      slots = All-map (SlotBelow (slot_count groups)) f nfa.states
+          (λ k d less. slot-below (slot_count groups) (slice_index_or nfa.states k d));
+      patterns = All-map (PatternBelow (length nfa.patterns)) f nfa.states
+          (λ k d less. pattern-below (slot_count groups) (length nfa.patterns) (slice_index_or nfa.states k d)
+          (is.patterns k d less));
+      groups = of_patterns;
+    }
+
+groups-kept : (which : WhichCaptures) (nfa : Automaton) → IsAutomaton nfa
+    → AreGroupsOfPatterns (with_captures which nfa)
+unfolding with_captures
+groups-kept which.All nfa is = is.groups
+groups-kept which.Implicit nfa is =
+    let unnamed : List (Option (List ℕ)) = [] in
+    let size = length-replicate (length nfa.groups) unnamed in
+    elim is.groups [
+      | inl each ↦ inl (size ∙ each)
+      | inr none ↦ inr (size ∙ none)
+    ]
+groups-kept which.None nfa is = inr refl
+
+pub captures-valid : (which : WhichCaptures) (nfa : Automaton) → IsAutomaton nfa → IsAutomaton (with_captures which nfa)
+unfolding with_captures
+captures-valid which nfa is = valid (kept_groups which nfa.groups) nfa is (groups-kept which nfa is)
+
+pub all-kept : (nfa : Automaton) → IsAutomaton nfa → with_captures which.All nfa ≡ nfa
+unfolding with_captures
+all-kept nfa is =
+    ap (λ (states : List Node). (let made : Automaton = record nfa { states = states } in made))
+    (nodes-same (slot_count nfa.groups) nfa.states is.slots)

@@ -1,4 +1,2 @@
 pub mod KeptLemmas
 pub mod SetLemmas
-pub mod ValidLemmas
-pub mod WaysLemmas

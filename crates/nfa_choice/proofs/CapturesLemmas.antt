@@ -1,7 +1,7 @@
 -- Iterators over captures that search with a choice, or with an engine that shows itself as one: when they may search,
 -- and what they give and keep.
-use Rattle.nfa_paths.proofs.Common.{◌≡◌, ◌⊎◌, Bool, false, None, Option, Result, IfErr, IfOk, refl, replicate, subst, map, All, IfErr-weaker, Search, Captured, slot_count}
 use Rattle.std.specs.Global.{Vec}
+use Rattle.nfa_paths.proofs.Common.{◌≡◌, ◌⊎◌, Bool, false, None, Option, Result, IfErr, IfOk, refl, replicate, subst, map, All, IfErr-weaker, Search, Captured, slot_count}
 use Rattle.nfa_search_base.specs.Common.{CapturesGiven, WithCaptures, GivesCaptures, Row, row_of, row_span, HasGroups, AnswersRow, CapturesInside, CapturesMemory, CallsLead, DrainsAll, DrainsToError, WithCache, with_cache, GivesStepsWith, StepsWith, TakesStepWith, steps_with_state, steps_iter_state, can_step, takes_steps, AnswerIsInside, fresh}
 use Rattle.nfa_search_base.specs.declared.error.SearchError.{SearchError}
 use Rattle.nfa_search_base.specs.declared.error.SearchError.TheVariants.{Memory}

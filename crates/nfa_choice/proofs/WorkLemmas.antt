@@ -1,9 +1,9 @@
 -- What lists add to the totals of both caches of a choice, whichever engines its searches run.
-use Rattle.nfa_paths.proofs.Common.{◌≡◌, ◌∙◌, ◌⊎◌, Bool, true, false, refl, ap, subst, inl, inr, not, and_parts, Search, MatchKind, LeftmostFirst}
 use Rattle.regex_search_core.specs.declared.search.MatchKind.TheVariants.{All}
+use Rattle.nfa_paths.proofs.Common.{◌≡◌, ◌∙◌, ◌⊎◌, Bool, true, false, refl, ap, subst, inl, inr, not, and_parts, Search, MatchKind, LeftmostFirst}
 use Rattle.nfa_search_base.specs.Common.{row_span, DoesSearch, span_of}
 use Rattle.nfa_search_base.proofs.StepLemmas.{chosen}
-use Rattle.nfa_engines.specs.WorkLaws.{Totals, backtracker_totals, list_scan_limit, pike_totals}
+use Rattle.nfa_engines.specs.IterationLaws.{Totals, backtracker_totals, list_scan_limit, pike_totals}
 use Rattle.nfa_engines.proofs.EngineWorkLemmas.{WorkOf, Worked, calls-add, list-adds, match-hit, row-hit, work-within, worked}
 use Rattle.nfa_pikevm.specs.Engines.{Pike, kind_of}
 use Rattle.nfa_choice.specs.ChoiceState.{BacktrackerRan, ChoiceState, KeepsEngines, FellBackToPike, SearchedByRule, is_for_backtracker, is_leftmost_first, kind_in, pike_of}

@@ -1,8 +1,7 @@
 -- What a search of a choice, or of an engine that shows itself as one, writes besides its answer, and its lists.
 use Rattle.std.specs.Prelude.{◌≡◌, ◌<◌, ℕ, List, [], map, length, replicate, All, Option, None, IfNone, IfSome, Result, IfOk, IsOk}
-use Rattle.nfa_paths.specs.Common.{found_of, number_of, Automaton, Captured, Match, PatternID, Search}
 use Rattle.std.specs.Global.{Vec}
-use Rattle.nfa_search_base.specs.Common.{AreRows, HasGroups, match_in, AreDisjoint, AreMatches, IsSlotInside, SpansInside, row_of}
+use Rattle.nfa_search_base.specs.Common.{found_of, number_of, Automaton, Captured, Match, PatternID, Search, AreRows, HasGroups, match_in, AreDisjoint, AreMatches, IsSlotInside, SpansInside, row_of}
 use Rattle.nfa_search_base.specs.declared.error.SearchError.{SearchError}
 use Rattle.nfa_choice.specs.ChoiceState.{ChoiceState, kind_in}
 

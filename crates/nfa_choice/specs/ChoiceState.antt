@@ -1,9 +1,8 @@
 -- An engine over two others as a value, and the rule that picks one of the two for a search.
 use Rattle.std.specs.Prelude.{◌≡◌, ◌⊎◌, ◌+◌, ◌*◌, ◌≤◌, ℕ, List, Bool, true, false, ◌&&◌, not, nat_le, MatchBool, Option, Some, ◌-◌, ◌^◌, min}
-use Rattle.nfa_paths.specs.Common.{Search, MatchKind, Automaton, span_len, max_scans, total_degree, IsWork, IsWithinScans, LeftmostFirst}
 use Rattle.regex_search_core.specs.declared.search.MatchKind.TheVariants.{All}
 use Rattle.nfa_backtrack.specs.Backtrack.{Backtracker, BacktrackCache, AddsBacktrackWork, CountsAnswer, CountsRefusal, GrowsBlocks, max_haystack_len_of, memory_of}
-use Rattle.nfa_search_base.specs.Common.{finds}
+use Rattle.nfa_search_base.specs.Common.{Search, MatchKind, Automaton, span_len, max_scans, total_degree, IsWork, IsWithinScans, LeftmostFirst, finds}
 use Rattle.nfa_pikevm.specs.Engines.{Fits, Pike, PikeCache, AddsPikeWork, SameCapacities, kind_of, pike_memory_of}
 use Rattle.nfa_pikevm.specs.Needs.{overlap_scans}
 use Rattle.nfa_choice.specs.declared.choose.Engine.{Engine}
@@ -38,6 +37,7 @@ kind_in c = kind_of (pike_of c)
 abbrev pub finds_in : ChoiceState → Search → Bool
 finds_in c x = finds c.nfa (kind_in c) false x
 
+-- whether the kind is leftmost first
 abbrev pub is_leftmost_first : MatchKind → Bool
 is_leftmost_first LeftmostFirst = true
 is_leftmost_first All = false
@@ -48,7 +48,7 @@ is_for_backtracker c x = is_leftmost_first (kind_in c) &&
     (not x.earliest && nat_le (span_len x) (max_haystack_len_of (backtracker_of c)))
 
 -- the scans and turns of a search of x are within its bounds
-pub record IsBounded (nfa : Automaton) (x : Search) (scanned turned : ℕ) : Type 0 where
+pub record AreWithinBounds (nfa : Automaton) (x : Search) (scanned turned : ℕ) : Type 0 where
   pub scans : scanned ≤ max_scans nfa x
   pub turns : turned ≤ scanned * ((1 + total_degree nfa) * (span_len x + 1))
 
@@ -59,7 +59,7 @@ module _ (x : Search) (earliest : Bool) where
     pub counts : CountsAnswer old.back new.back
     pub work : AddsBacktrackWork old.back new.back
     pub exact : IsWork old.nfa LeftmostFirst false x new.back.scans new.back.turns
-    pub bounded : IsBounded old.nfa x new.back.scans new.back.turns
+    pub bounded : AreWithinBounds old.nfa x new.back.scans new.back.turns
     pub blocks : GrowsBlocks old.nfa x old.back.blocks new.back.blocks
     pub ran : new.ran ≡ Some engine.Backtracker
     pub pike : new.pike ≡ old.pike
@@ -69,11 +69,11 @@ module _ (x : Search) (earliest : Bool) where
     pub counts : CountsRefusal old.back new.back
     pub tried : AddsBacktrackWork old.back new.back
     pub tried_within : IsWithinScans old.nfa LeftmostFirst false x new.back.scans
-    pub tried_bounded : IsBounded old.nfa x new.back.scans new.back.turns
+    pub tried_bounded : AreWithinBounds old.nfa x new.back.scans new.back.turns
     pub blocks : GrowsBlocks old.nfa x old.back.blocks new.back.blocks
     pub work : AddsPikeWork old.pike new.pike
     pub exact : IsWork old.nfa (kind_in old) earliest x new.pike.scans new.pike.turns
-    pub bounded : IsBounded old.nfa x new.pike.scans new.pike.turns
+    pub bounded : AreWithinBounds old.nfa x new.pike.scans new.pike.turns
     pub ran : new.ran ≡ Some engine.PikeVM
 
   -- the PikeVM answered, and the backtracker did not search
@@ -81,7 +81,7 @@ module _ (x : Search) (earliest : Bool) where
     pub back : new.back ≡ old.back
     pub work : AddsPikeWork old.pike new.pike
     pub exact : IsWork old.nfa (kind_in old) earliest x new.pike.scans new.pike.turns
-    pub bounded : IsBounded old.nfa x new.pike.scans new.pike.turns
+    pub bounded : AreWithinBounds old.nfa x new.pike.scans new.pike.turns
     pub ran : new.ran ≡ Some engine.PikeVM
 
 -- the engine that ran, by the rule

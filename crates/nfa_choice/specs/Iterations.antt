@@ -1,11 +1,9 @@
 -- Iterators that search with a choice, or with an engine that shows itself as one. `Runs` says which engines a search
 -- ran.
 use Rattle.std.specs.Prelude.{◌*◌, length, List, map, None, Ok, Option, Result, option_map}
-use Rattle.std.specs.Iterator.{Yields}
-use Rattle.nfa_paths.specs.Common.{Found, found_of, Search, Captured, Match}
-use Rattle.nfa_backtrack.specs.Backtrack.{HoldsNoMore}
-use Rattle.nfa_search_base.specs.Common.{WithCaptures, GivesCaptures, Row, row_span, HasGroups, AnswersRow, DoesSearch, Leaves, LeavesAtEnd, AnswersMatch, WithCache, StepsWith, TakesStepWith, GivesKept, GivesItem, Answer, span_of}
+use Rattle.nfa_search_base.specs.Common.{Yields, Found, found_of, Search, Captured, Match, WithCaptures, GivesCaptures, Row, row_span, HasGroups, AnswersRow, DoesSearch, Leaves, LeavesAtEnd, AnswersMatch, WithCache, StepsWith, TakesStepWith, GivesKept, GivesItem, Answer, span_of}
 use Rattle.nfa_search_base.specs.declared.error.SearchError.{SearchError}
+use Rattle.nfa_backtrack.specs.Backtrack.{HoldsNoMore}
 use Rattle.nfa_choice.specs.ChoiceState.{ChoiceState, kind_in, KeepsEngines, SearchedByRule}
 use Rattle.nfa_choice.specs.declared.choose.captures_iter.ChoiceCaptures.{ChoiceCaptures}
 use Rattle.nfa_choice.specs.declared.choose.find_iter.ByRule.{ByRule}
@@ -30,7 +28,7 @@ module _ (Runs : Search → ChoiceState → ChoiceState → Type 0) where
     pub holds : HoldsNoMore (2 * length old.nfa.groups) old.back new.back
     pub keeps : KeepsEngines old new
 
-  -- one search for which the cache of the backtracker keeps no slots: for captures, or for a half match
+  -- one search in which the cache of the backtracker gains no slots: for captures, or for a half match
   pub record SearchesBy (x : Search) (old new : ChoiceState) : Type 0 where
     pub runs : Runs x old new
     pub holds : HoldsNoMore 0 old.back new.back

@@ -1,9 +1,8 @@
 -- Laws of the work of a whole iteration by a choice, or by an engine that shows itself as one, by the totals of both
 -- its caches. `Runs` says which engines a search ran.
 use Rattle.std.specs.Prelude.{ℕ, ◌+◌, ◌*◌, List, length}
-use Rattle.nfa_paths.specs.Common.{Found, Search, Automaton, span_len}
-use Rattle.nfa_search_base.specs.Common.{Row}
-use Rattle.nfa_engines.specs.WorkLaws.{AddsAtMost, backtracker_totals, pike_totals}
+use Rattle.nfa_search_base.specs.Common.{Found, Search, Automaton, span_len, Row}
+use Rattle.nfa_engines.specs.IterationLaws.{AddsAtMost, backtracker_totals, pike_totals}
 use Rattle.nfa_choice.specs.ChoiceState.{ChoiceState}
 use Rattle.nfa_choice.specs.Iterations.{CapturesOn, CapturesToEnd, FindsOn, FindsToEnd}
 

@@ -10,18 +10,17 @@
 //!     println!(rt; "{}..{}", found.start(), found.end())?;
 //! }
 //! ```
-ghost use Rattle.std.specs.Prelude.{◌≡◌, ◌*◌, ◌<◌, length, not, None, Some, Ok, false, option_map};
-ghost use Rattle.std.specs.Prelude.{All, IfOk, IfSome, OnOk, OnErr, IsOkUnless};
+ghost use Rattle.std.specs.Prelude.{◌≡◌, ◌*◌, ◌<◌, length, not, None, Some, Ok, false, option_map, All, IfOk, IfSome};
+ghost use Rattle.std.specs.Prelude.{OnOk, OnErr, IsOkUnless};
 ghost use Rattle.regex_search_core.specs.Search.{search_of};
-ghost use Rattle.regex_search_core.specs.Patterns.{number_of};
+ghost use Rattle.regex_search_core.specs.PatternSets.{number_of};
 ghost use Rattle.regex_search_core.specs.Found.{found_of};
 ghost use Rattle.nfa_paths.specs.Paths.{IsAnswer, IsFindAnswer, IsBoolAnswer, is_utf8_empty};
 ghost use Rattle.nfa_search_base.specs.Lists.{IsInside};
 ghost use Rattle.nfa_backtrack.specs.Backtrack.{empty_cache, HoldsNoMore};
-ghost use Rattle.nfa_pikevm.specs.Engines.{cache_for};
+ghost use Rattle.nfa_pikevm.specs.Engines.{cache_for, IsFitFor};
 ghost use Rattle.nfa_choice.specs.Answered.{FillsCaptures, WritesSlots};
 ghost use Rattle.nfa_choice.specs.ChoiceState.{bytes_of, finds_in, is_for_backtracker, kind_in, KeepsEngines};
-ghost use Rattle.nfa_pikevm.specs.Engines.{IsFitFor};
 ghost use Rattle.nfa_choice.specs.ChoiceState.{RunsByRule};
 
 mod captures;

@@ -2,8 +2,7 @@
 //!
 //! Call one if a proof about the work of an iteration needs it, as those of `nfa_engines::laws`. The call costs nothing
 //! at run time.
-ghost use Rattle.nfa_engines.specs.WorkLaws.{IsKeptByLoop, IsKeptByNone, IsKeptByTwo};
-ghost use Rattle.nfa_engines.specs.WorkLaws.{list_scan_limit};
+ghost use Rattle.nfa_engines.specs.IterationLaws.{IsKeptByLoop, IsKeptByNone, IsKeptByTwo, list_scan_limit};
 ghost use Rattle.nfa_choice.specs.ChoiceState.{ChoiceFitsAsBefore, IsAsBefore, KeepsEngines, RuleIsAsBefore};
 ghost use Rattle.nfa_choice.specs.ChoiceState.{SearchedByRule, backtracker_of, pike_of};
 ghost use Rattle.nfa_choice.specs.WorkLaws.{CapturesCostWithin, FindsWithin, MatchesAreWithin, RowsAreWithin};

@@ -1,16 +1,16 @@
 -- What states that are added after others keep and add. Each number in them is in range, so `NFA::from_states` finds no
 -- flaw in them.
-use Rattle.nfa_paths.proofs.Common.{◌≡◌, ℕ, ◌+◌, ◌≤◌, ◌<◌, below_more, inl, inr, List, [], ◌∷◌, ◌++◌, map, length, refl, sym, ap, ap₂, ◌∙◌, subst, arith, length-append, append-nil, append_assoc, vec_len, slice_index_or, Option, Vec, get_or_append_left, get_or_push, length-map, map-append, number_of, Node, node_of, State, ◌*◌, ◌-◌, All, IfSome, option_map, slice_range, string_bytes, cases_lt, le-ltb, cond-false, get_or_default, length-drop, All-map, slot_count, Automaton, IsAutomaton, Sparse, Capture, Fail}
 use Rattle.std.specs.declared.alloc.Global.{Global}
 use Rattle.regex_nfa.specs.States.{state_at}
 use Rattle.regex_nfa.specs.declared.nfa.Nfa.{Nfa}
-use Rattle.nfa_compiler.specs.Common.{Re, empty, Stands, IsBlock, match_at, slot_in, Adds, HoldsStates, IsPattern, IsPatternAt, ArePatterns, Chooses, first_slot, Parsed, LeadsInside, moved, node_for, IsInRange, AreInRange, KeepsInRange, explicit_names, groups_of}
+use Rattle.nfa_compiler.specs.Common.{Re, empty, Stands, IsBlock, match_at, slot_in, Adds, HoldsStates, IsPattern, IsPatternAt, ArePatterns, Chooses, explicit_slot, Parsed, LeadsInside, moved, node_for, IsInRange, AreInRange, KeepsInRange, explicit_names, groups_of}
 use Rattle.nfa_compiler.specs.declared.block.Site.{Site}
 use Rattle.regex_nfa.specs.Run.{state_of}
 use Rattle.regex_nfa.proofs.RunLemmas.{sound_of}
 use Rattle.regex_nfa.specs.declared.state.State as their_state
 use Rattle.regex_nfa.specs.declared.state.State.TheVariants as their
 use Rattle.thompson_nfa.specs.Automaton.Node.{Match}
+use Rattle.nfa_paths.proofs.Common.{◌≡◌, ℕ, ◌+◌, ◌≤◌, ◌<◌, below_more, inl, inr, List, [], ◌∷◌, ◌++◌, map, length, refl, sym, ap, ap₂, ◌∙◌, subst, arith, length-append, append-nil, append_assoc, vec_len, slice_index_or, Option, Vec, get_or_append_left, get_or_push, length-map, map-append, number_of, Node, node_of, State, ◌*◌, ◌-◌, All, IfSome, option_map, slice_range, string_bytes, cases_lt, le-ltb, cond-false, get_or_default, length-drop, All-map, slot_count, Automaton, IsAutomaton, Sparse, Capture, Fail}
 
 -- a node that was there stays
 pub kept-at : (old new : List Node) → Adds old new → (i : ℕ) → i < length old
@@ -120,19 +120,19 @@ pattern-kept old new slots k start re adds made = record {
 pub patterns-kept : (old new : List Node) (groups : List (List (Option (List ℕ)))) (starts : List ℕ) (res : List Re)
     (count : ℕ) → Adds old new → ArePatterns old groups starts res count → ArePatterns new groups starts res count
 patterns-kept old new groups starts res count adds made =
-    λ k less. pattern-kept old new (first_slot groups k) k _ _ adds (made k less)
+    λ k less. pattern-kept old new (explicit_slot groups k) k _ _ adds (made k less)
 
 -- and one more
 pub patterns-more : (old new : List Node) (groups : List (List (Option (List ℕ)))) (starts more : List ℕ) (start : ℕ)
     (res : List Re) (count : ℕ) → Adds old new → ArePatterns old groups starts res count → length starts ≡ count
     → more ≡ starts ++ start ∷ []
-    → IsPatternAt new (first_slot groups count) count start (slice_index_or res count empty)
+    → IsPatternAt new (explicit_slot groups count) count start (slice_index_or res count empty)
     → ArePatterns new groups more res (count + 1)
 patterns-more old new groups starts more start res count adds made long e here =
     below_more (λ k. IsPattern new groups k (slice_index_or more k 0) (slice_index_or res k empty)) count
     (λ k before. subst (λ s. IsPattern new groups k s (slice_index_or res k empty))
     (sym (ap (λ ss. slice_index_or ss k 0) e ∙ get_or_append_left starts (start ∷ []) 0 k (omega arith)))
-    (pattern-kept old new (first_slot groups k) k _ _ adds (made k before)))
+    (pattern-kept old new (explicit_slot groups k) k _ _ adds (made k before)))
     (subst (λ s. IsPattern new groups count s (slice_index_or res count empty))
     (sym (ap (λ ss. slice_index_or ss count 0) e ∙ get_or_push starts start 0 count long)) here)
 

@@ -1,13 +1,11 @@
 -- What a search finds of texts and of one pattern; all matches and all captures are those of all hits, in order.
-use Rattle.nfa_paths.proofs.Common.{◌≡◌, ℕ, zero, suc, ◌+◌, ◌-◌, ◌<◌, false, List, [], ◌∷◌, length, refl, ◌∙◌, arith, Option, None, All, option_map, ◌==◌, nat_tests, Search, Automaton, is_utf8_empty, No, ◌≤◌, map, ap, Some, Ok, Err, add-one, Span, Bool, true, sym, IsUtf8, Found, slot_count, match_of, LeftmostFirst}
+use Rattle.nfa_paths.proofs.Common.{and-false, ◌≡◌, ℕ, zero, suc, ◌+◌, ◌-◌, ◌<◌, false, List, [], ◌∷◌, length, refl, ◌∙◌, arith, Option, None, All, option_map, ◌==◌, nat_tests, Search, Automaton, is_utf8_empty, No, ◌≤◌, map, ap, Some, Ok, Err, add-one, Span, Bool, true, sym, IsUtf8, Found, slot_count, match_of, LeftmostFirst}
 use Rattle.nfa_compiler.specs.Common.{Re, Trace, first_from, find, find_str, Config, AreMeant, IsCompiled, res_of, hit, PatternHit, expected, first_hit, hit_by, hit_of, hit_of_search, expected_in_str, str_hit, Match, find_after, matches_from, hit_after, hits_from, FindsFromAnyStart, HitOf, row_of_hit, boundary_hit, IsNfaOf, found_at, found_of_hit, slots_of}
 use Rattle.nfa_compiler.specs.Laws.{AllHitsAreFindAll, OneHitIsFind}
-use Rattle.nfa_paths.proofs.OptionLemmas.{option_or-None}
-use Rattle.nfa_compiler.proofs.AnswerLemmas.{IsAnsweredBy, answered-alike, answer-is, match-is}
+use Rattle.nfa_paths.proofs.MemberLemmas.{option_or-None}
+use Rattle.nfa_compiler.proofs.SearchLemmas.{IsAnsweredBy, answered-alike, answer-is, match-is, hit-answered}
 use Rattle.nfa_compiler.proofs.MeantLemmas.{all-meant, expected-alike}
-use Rattle.nfa_compiler.proofs.SearchLemmas.{hit-answered}
 use Rattle.nfa_compiler.proofs.UnboundLemmas.{hit-unbound, str-unbound}
-use Rattle.std.proofs.Math.Bool.{and-false}
 use Rattle.nfa_search_base.specs.Common.{Fails, IsStep, ItemsLast, Answer, IterState, fresh, Row, row_found, row_span, AreRows, AnswersRow, AreMatches, span_of}
 use Rattle.nfa_compiler.proofs.EachLemmas.{Both, LiesFrom, boundary-lies, hit-lies, str-lies}
 use Rattle.nfa_paths.proofs.OneScanLemmas.{given}

@@ -1,9 +1,5 @@
 -- From each pair of a pattern's states the first accepting path is what the pattern's own NFA does from there, and the
 -- writes of the path give its slots.
-use Rattle.nfa_paths.proofs.Common.{◌≡◌, ℕ, ◌<◌, false, List, [], ◌∷◌, ◌++◌, length, map, refl, ap, sym, ◌∙◌, arith, Option, None, Some, if◌then◌else◌, ◌==◌, range_with_len, option_or, slice_get-get_or, Automaton, Pair, capture, offset_at, slot_among, suc, ◌+◌, ◌≤◌, Bool, true, subst, is_some, All, slice_range, option_map, option_and_then, option_to_list, number_of, Search, Node, In, EndsWith, IsFirst, FirstAmong, pattern_of, slot_of, node_at, is_match, edges_of, edges, byte_at, target_on, first_target, Look, Fail}
-use Rattle.std.proofs.lemmas.List.FromFn.{get_or-map-range_with_len, length-map-range_with_len}
-use Rattle.nfa_compiler.specs.Common.{last_write, Trace, Rest, write, holds, look_of, match_at, slot_in, moved, node_for, Stands, IsBlock}
-use Rattle.nfa_paths.proofs.OptionLemmas.{option_or-None, option_or-assoc}
 use Rattle.regex_nfa.specs.States.{covers, target_in, next_on, byte_below, visit, read}
 use Rattle.regex_nfa.specs.Run.{state_of, measure, run}
 use Rattle.regex_nfa.proofs.RunLemmas.{sound_of, run_at, next_on_within, byte_below_some, measure_induction, measure_falls_empty, measure_falls_byte}
@@ -17,6 +13,9 @@ use Rattle.nfa_compiler.specs.declared.block.Site.{Site}
 use Rattle.nfa_compiler.proofs.EachLemmas.{Both, both-or}
 use Rattle.nfa_compiler.proofs.LookLemmas.{look-same}
 use Rattle.nfa_paths.proofs.PathToLemmas.{EndsWith-cons}
+use Rattle.nfa_paths.proofs.Common.{get_or-map-range_with_len, length-map-range_with_len, ◌≡◌, ℕ, ◌<◌, false, List, [], ◌∷◌, ◌++◌, length, map, refl, ap, sym, ◌∙◌, arith, Option, None, Some, if◌then◌else◌, ◌==◌, range_with_len, option_or, slice_get-get_or, Automaton, Pair, capture, offset_at, slot_among, suc, ◌+◌, ◌≤◌, Bool, true, subst, is_some, All, slice_range, option_map, option_and_then, option_to_list, number_of, Search, Node, In, EndsWith, IsFirst, FirstAmong, pattern_of, slot_of, node_at, is_match, edges_of, edges, byte_at, target_on, first_target, Look, Fail}
+use Rattle.nfa_paths.proofs.MemberLemmas.{option_or-None, option_or-assoc}
+use Rattle.nfa_compiler.specs.Common.{last_write, Trace, Rest, write, holds, look_of, match_at, slot_in, moved, node_for, Stands, IsBlock}
 
 -- the last write of two lists in turn
 pub last_write-append : (ws vs : List (ℕ × ℕ)) (slot : ℕ)

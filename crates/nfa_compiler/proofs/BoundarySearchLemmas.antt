@@ -5,8 +5,7 @@ use Rattle.nfa_compiler.specs.Common.{Re, is_boundary, is_none_or, ends_on_bound
 use Rattle.nfa_compiler.proofs.EachLemmas.{in-each-mode, hit-lies}
 use Rattle.nfa_paths.proofs.AnswerLemmas.{ends_on_boundary as ends_where}
 use Rattle.nfa_paths.proofs.PathToLemmas.{EndsWith-last}
-use Rattle.nfa_compiler.proofs.AnswerLemmas.{IsAnsweredBy}
-use Rattle.nfa_compiler.proofs.SearchLemmas.{is_bound, told-scan}
+use Rattle.nfa_compiler.proofs.SearchLemmas.{IsAnsweredBy, is_bound, told-scan}
 use Rattle.nfa_compiler.proofs.StartLemmas.{TellsHit, ToldHit}
 
 -- the two definitions of a boundary agree within the haystack

@@ -1,14 +1,12 @@
 -- A pattern that is read under `utf8` matches whole characters of a `str`.
-use Rattle.nfa_paths.proofs.Common.{◌≡◌, ℕ, zero, suc, ◌+◌, ◌-◌, ◌≤◌, ◌<◌, inl, inr, ⊎_elim, Bool, true, false, List, [], ◌∷◌, ◌++◌, map, length, take, drop, refl, sym, ap, ◌∙◌, subst, arith, length-drop, drop-cons, take_at, IsUtf8, IsCharBoundary, ltb-true, true≢false, Option, None, Some, slice_index, encode_utf8, cases_lt, slice_get_past, slice_get_within, get_or_from_slice_get}
-use Rattle.std.specs.Char.{len_utf8}
-use Rattle.std.proofs.lemmas.Str.{IsCharBoundary-after_ascii, IsCharBoundary-from_rest, IsCharBoundary-from_take, IsCharBoundary-start, IsUtf8-drop, IsUtf8-encode, length-encode, len_utf8_bounds}
-use Rattle.nfa_compiler.specs.Common.{IsMinLen, Matches, Rounds, one_round, next_round, meaning, node_meaning, cat_all, alt_all, optional, copies, up_to, repeat, Re, empty, literal, byte_in, char_in, cat, alt, group, plus, always_reads, has_bytes_at, is_boundary, Hir, Empty, Literal, Bytes, Chars, Look, Repetition', Capture', Concat', Alternation', Row_of-Hir, end_of-Hir, more_of-Hir, items-the_row-Hir, items_shown-the_row-Hir-0, map-Hir, fold_out-Hir, MatchesCharacters}
 use Rattle.regex_hir.specs.declared.hir.Hir.TheVariants.{outs-Concat', outs-Alternation'}
 use Rattle.regex_hir.proofs.MatchesLemmas.{IsMinLen-no_byte, Matches-IsSpan}
 use Rattle.regex_hir.proofs.MeaningLemmas.{meaning-Empty, meaning-Literal, meaning-Bytes, meaning-Chars, meaning-Look, meaning-Repetition, meaning-Capture}
 use Rattle.regex_hir.proofs.TextLemmas.{has_bytes_at_from, has_bytes_at_parts, has_bytes_at_fits, char_at_parts}
 use Rattle.regex_syntax.specs.WellFormed.{IsWithin, IsWellFormed, AreWellFormed}
+use Rattle.nfa_paths.proofs.Common.{len_utf8, IsCharBoundary-after_ascii, IsCharBoundary-from_rest, IsCharBoundary-from_take, IsCharBoundary-start, IsUtf8-drop, IsUtf8-encode, length-encode, len_utf8_bounds, ◌≡◌, ℕ, zero, suc, ◌+◌, ◌-◌, ◌≤◌, ◌<◌, inl, inr, ⊎_elim, Bool, true, false, List, [], ◌∷◌, ◌++◌, map, length, take, drop, refl, sym, ap, ◌∙◌, subst, arith, length-drop, drop-cons, take_at, IsUtf8, IsCharBoundary, ltb-true, true≢false, Option, None, Some, slice_index, encode_utf8, cases_lt, slice_get_past, slice_get_within, get_or_from_slice_get}
 use Rattle.nfa_compiler.proofs.BoundarySearchLemmas.{boundary-is, boundary-true}
+use Rattle.nfa_compiler.specs.Common.{IsMinLen, Matches, Rounds, one_round, next_round, meaning, node_meaning, cat_all, alt_all, optional, copies, up_to, repeat, Re, empty, literal, byte_in, char_in, cat, alt, group, plus, always_reads, has_bytes_at, is_boundary, Hir, Empty, Literal, Bytes, Chars, Look, Repetition', Capture', Concat', Alternation', Row_of-Hir, end_of-Hir, more_of-Hir, items-the_row-Hir, items_shown-the_row-Hir-0, map-Hir, fold_out-Hir, MatchesCharacters}
 
 module _ (hay : List ℕ) (text : IsUtf8 hay) where
   -- how a boundary of the text is one of std's

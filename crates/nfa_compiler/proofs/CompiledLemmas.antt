@@ -1,14 +1,13 @@
 -- How an NFA of patterns comes about, pattern by pattern, and which pattern an error names.
-use Rattle.nfa_paths.proofs.Common.{◌≡◌, ℕ, ◌+◌, ◌*◌, ◌≤◌, ◌<◌, List, [], ◌∷◌, ◌++◌, map, take, length, sym, ap, ◌∙◌, subst, arith, slice_index_or, All, AllZip, get_or-map, length-map, map-append, take_more, All-push, sum_by_more, Automaton, Node, get_or_default}
-use Rattle.std.proofs.lemmas.Slice.Zip.{all_zipped_more}
-use Rattle.nfa_compiler.specs.Common.{empty, meaning, Parsed, Adds, IsPatternAt, ArePatterns, Chooses, IsNfaOf, explicit_names, first_slot, groups_of, res_of, FitsIn, IsFirstTooBig, IsOfPattern, NamesPattern}
+use Rattle.nfa_paths.proofs.Common.{all_zipped_more, ◌≡◌, ℕ, ◌+◌, ◌*◌, ◌≤◌, ◌<◌, List, [], ◌∷◌, ◌++◌, map, take, length, sym, ap, ◌∙◌, subst, arith, slice_index_or, All, AllZip, get_or-map, length-map, map-append, take_more, All-push, sum_by_more, Automaton, Node, get_or_default}
+use Rattle.nfa_compiler.specs.Common.{empty, meaning, Parsed, Adds, IsPatternAt, ArePatterns, Chooses, IsNfaOf, explicit_names, explicit_slot, groups_of, res_of, FitsIn, IsFirstTooBig, IsOfPattern, NamesPattern}
 use Rattle.nfa_compiler.proofs.AddLemmas.{chooses-kept, patterns-kept, patterns-more, adds-trans}
 use Rattle.nfa_compiler.specs.declared.error.CompileError.{CompileError}
 use Rattle.nfa_compiler.specs.declared.error.CompileError.TheVariants.{TooBig, Tree}
 
 -- the slots of one pattern more
 pub slots-more : (patterns : List Parsed) (i : ℕ) (p : Parsed) → i < length patterns → p ≡ slice_index_or patterns i p
-    → first_slot (groups_of patterns) (i + 1) ≡ first_slot (groups_of patterns) i + 2 * length (explicit_names p)
+    → explicit_slot (groups_of patterns) (i + 1) ≡ explicit_slot (groups_of patterns) i + 2 * length (explicit_names p)
 slots-more patterns i p inside is =
     let inside' : i < length (groups_of patterns) = omega (arith, length-map patterns explicit_names) in
     let own : slice_index_or (groups_of patterns) i [] ≡ explicit_names p =
@@ -26,7 +25,7 @@ re-at patterns i p inside is =
 pub made-more : (old new : List Node) (patterns : List Parsed) (starts more : List ℕ) (slots i start : ℕ) (p : Parsed)
     → i < length patterns → p ≡ slice_index_or patterns i p → Adds old new
     → ArePatterns old (groups_of patterns) starts (res_of patterns) i → length starts ≡ i → more ≡ starts ++ start ∷ []
-    → slots ≡ first_slot (groups_of patterns) i → IsPatternAt new slots i start (meaning p.hir)
+    → slots ≡ explicit_slot (groups_of patterns) i → IsPatternAt new slots i start (meaning p.hir)
     → ArePatterns new (groups_of patterns) more (res_of patterns) (i + 1)
 made-more old new patterns starts more slots i start p inside is adds made long e slots_are here =
     patterns-more old new (groups_of patterns) starts more start (res_of patterns) i adds made long e

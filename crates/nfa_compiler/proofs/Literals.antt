@@ -1,7 +1,5 @@
 -- For callers with a pattern that is written out: the computation of the grammar on a literal, and where parts of
 -- patterns match.
-use Rattle.nfa_paths.proofs.Common.{◌≡◌, ℕ, zero, suc, ◌+◌, ◌≤◌, ◌<◌, Bool, true, List, [], ◌∷◌, refl, sym, ap, ◌∙◌, subst, arith, Some, IsSomeAnd, slice_get, ◌↔◌, list_any, drop, nat_tests, slice_get-get_or}
-use Rattle.std.proofs.lemmas.List.Folds.{Any-from_list_any}
 use Rattle.std.proofs.lemmas.Map.Keys.{any_passes_from_place}
 use Rattle.regex_class.specs.Ranges.{HasExactly, in_range}
 use Rattle.nfa_compiler.specs.Common.{Matches, copies, Re, byte_in, char_in, empty, has_bytes_at, is_boundary, SameTree, Set, members, MatchesIn, MatchesInStr}
@@ -11,7 +9,8 @@ use Rattle.regex_syntax.proofs.Written.{grammar}
 pub use Rattle.regex_class.specs.Ranges.{Range, in_ranges}
 pub use Rattle.regex_syntax.proofs.Written.{alone, class_is, same_group, same_plus}
 pub use Rattle.regex_syntax.proofs.TreeLaws.{same_refl, same_sym, ◌then◌, cat_cong, alt_cong, cat-empty, alt-fail, literal-append, byte_in_ascii}
-use Rattle.nfa_paths.proofs.TestLemmas.{same_test}
+use Rattle.nfa_paths.proofs.MemberLemmas.{same_test}
+use Rattle.nfa_paths.proofs.Common.{Any-from_list_any, ◌≡◌, ℕ, zero, suc, ◌+◌, ◌≤◌, ◌<◌, Bool, true, List, [], ◌∷◌, refl, sym, ap, ◌∙◌, subst, arith, Some, IsSomeAnd, slice_get, ◌↔◌, list_any, drop, nat_tests, slice_get-get_or}
 
 -- what an answer unfolds to compute what the grammar reads in a literal
 unfoldable pub on_literals : Unit {0}

@@ -1,14 +1,10 @@
 -- An assertion holds exactly if its counterpart does: `regex_hir` sees the same codepoints next to a position.
-use Rattle.nfa_paths.proofs.Common.{◌≡◌, ℕ, ◌+◌, ◌-◌, ◌≤◌, Bool, true, false, cond, ◌==◌, List, [], ◌∷◌, ◌++◌, length, take, take_at, drop, refl, sym, ap, ap₂, ◌∙◌, arith, chars, encode_utf8, append-nil, length-drop, eq-eqb, Option, None, Some, slice_range, option_or, and_parts, nat_tests, take-append-drop, length-take-le, only, char_of, char_of_len_before, char_before, char_of_len_after, char_after, is_some_word, not, slice_index, ◌&&◌, ◌||◌, nat_lt, is_some, slice_get, slice_get_past, slice_get-get_or, look_holds, is_word_byte, is_byte_before, is_byte_at, is_word_before, is_word_after, is_whole_before, is_whole_after, is_word_char_before, is_word_char_after}
-use Rattle.std.specs.Char.{IsScalar, len_utf8}
-use Rattle.std.specs.Str.{IsUtf8, is_utf8, encode_utf8_all}
+use Rattle.nfa_paths.proofs.Common.{IsScalar, len_utf8, IsUtf8, is_utf8, encode_utf8_all, encodes-chars, scalars-chars, IsUtf8-encode, IsUtf8-from_is_utf8, length-encode, len_utf8_bounds, ◌≡◌, ℕ, ◌+◌, ◌-◌, ◌≤◌, Bool, true, false, cond, ◌==◌, List, [], ◌∷◌, ◌++◌, length, take, take_at, drop, refl, sym, ap, ap₂, ◌∙◌, arith, chars, encode_utf8, append-nil, length-drop, eq-eqb, Option, None, Some, slice_range, option_or, and_parts, nat_tests, take-append-drop, length-take-le, only, char_of, char_of_len_before, char_before, char_of_len_after, char_after, is_some_word, not, slice_index, ◌&&◌, ◌||◌, nat_lt, is_some, slice_get, slice_get_past, slice_get-get_or, look_holds, is_word_byte, is_byte_before, is_byte_at, is_word_before, is_word_after, is_whole_before, is_whole_after, is_word_char_before, is_word_char_after}
 use lib.Utf8.{scalars}
-use Rattle.std.proofs.lemmas.Str.{encodes-chars, scalars-chars, IsUtf8-encode, IsUtf8-from_is_utf8, length-encode, len_utf8_bounds}
 use Rattle.unicode.specs.Perl as perl
 use Rattle.nfa_compiler.specs.Common.{is_some_and, char_at, byte_before, holds, holds_between, is_whole, side_before, side_after, look_of}
 use Rattle.regex_hir.proofs.TextLemmas.{char_at_parts, char_at_from, char_at_fits}
-use Rattle.thompson_nfa.proofs.CharacterLemmas.{char_of_text, only_one}
-use Rattle.thompson_nfa.proofs.WordLemmas.{is_word_char_as_classed}
+use Rattle.thompson_nfa.proofs.CharacterLemmas.{char_of_text, only_one, is_word_char_as_classed}
 use Rattle.regex_hir.specs.Text as their_text
 use Rattle.regex_hir.specs.declared.look.Look as theirs
 

@@ -1,8 +1,8 @@
 -- Patterns that a caller cannot tell apart have hits that a caller cannot tell apart.
 use Rattle.nfa_paths.proofs.Common.{◌≡◌, ℕ, zero, suc, ◌+◌, ◌*◌, ◌-◌, ◌≤◌, ◌<◌, Bool, List, [], ◌∷◌, map, length, refl, ap, ◌∙◌, arith, Option, None, Some, IsSomeAnd, All, option_and_then, slice_get, if◌then◌else◌, chars, AllZip, le-ltb, nat_tests, nat_lt, Search}
-use Rattle.nfa_compiler.specs.Common.{Re, Trace, accept, attempt, last_write, meaning, Hir, Nested, outcome, SameCaptures, Names, read as read_text, Reads, Config, Parsed, IsTreeOf, IsMeant, res_of, PatternHit, hit_of, pick, first_hit, expected, first_slot, place_of, writes_of}
+use Rattle.nfa_compiler.specs.Common.{Re, Trace, accept, attempt, last_write, meaning, Hir, Nested, outcome, SameCaptures, Names, read as read_text, Reads, Config, Parsed, IsTreeOf, IsMeant, res_of, PatternHit, hit_of, pick, first_hit, expected, explicit_slot, place_of, writes_of}
 use Rattle.nfa_compiler.proofs.EachLemmas.{Both, both-or, in-each-mode}
-use Rattle.nfa_paths.proofs.OptionLemmas.{same_some}
+use Rattle.nfa_paths.proofs.MemberLemmas.{same_some}
 
 -- hits that a caller cannot tell apart
 pub record Alike (h g : PatternHit) : Type 0 where
@@ -70,7 +70,7 @@ expected-alike x bytes res others bound same =
 -- the slots of alike hits, which have other numbers among those of all patterns
 
 module _ (groups : List (List (Option (List ℕ)))) (p : ℕ) (known : p < length groups) where
-  pub place-high : (s : ℕ) → 2 ≤ s → place_of groups p s ≡ first_slot groups p + (s - 2)
+  pub place-high : (s : ℕ) → 2 ≤ s → place_of groups p s ≡ explicit_slot groups p + (s - 2)
   place-high s le = rw (le-ltb s 2 le) refl
 
   abbrev placed : List (ℕ × ℕ) → List (ℕ × ℕ)
@@ -80,7 +80,7 @@ module _ (groups : List (List (Option (List ℕ)))) (p : ℕ) (known : p < lengt
   abbrev slot_at_place : ℕ → Option ℕ
   slot_at_place k =
       if nat_lt k (2 * p) then None else if nat_lt k (2 * p + 2) then Some (k - 2 * p)
-      else if nat_lt k (first_slot groups p) then None else Some (k - first_slot groups p + 2)
+      else if nat_lt k (explicit_slot groups p) then None else Some (k - explicit_slot groups p + 2)
 
   -- what was last written at a place, and at that of a slot
   placed-is : (ws : List (ℕ × ℕ)) (k : ℕ) → last_write (placed ws) k ≡ option_and_then (last_write ws) (slot_at_place k)

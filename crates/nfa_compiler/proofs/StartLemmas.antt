@@ -1,6 +1,4 @@
 -- From the start of a pattern, and from the start of all, the first accepting path is the hit that has to be found.
-use Rattle.nfa_paths.proofs.Common.{◌≡◌, ℕ, suc, ◌+◌, ◌*◌, ◌-◌, ◌≤◌, ◌<◌, List, [], ◌∷◌, ◌++◌, map, length, refl, sym, ap, ap₂, ◌∙◌, subst, arith, add-zero, nat_lt, ne_eqb, eq-eqb, Option, None, Some, is_some, slice_index, slice_index_or, option_map, option_map_or, if◌then◌else◌, ◌==◌, option_or, le-ltb, cond-false, nat_tests, number_of, Search, Automaton, Pair, In, EndsWith, IsFirst, FirstAmong, pattern_of, slot_of, node_at, is_match, capture, edges_of, edges, slot_among, false}
-use Rattle.nfa_compiler.specs.Common.{Re, empty, Trace, accept, attempt, last_write, match_at, slot_in, IsPattern, first_slot, PatternHit, hit_of, pick, place_of, writes_of}
 use Rattle.regex_nfa.specs.Run.{run}
 use Rattle.regex_nfa.proofs.PathsLemmas.{run_span}
 use Rattle.thompson_nfa.specs.Automaton.{Capture, Match}
@@ -8,8 +6,10 @@ use Rattle.nfa_paths.proofs.PathLemmas.{IsFirst-step}
 use Rattle.nfa_compiler.specs.declared.block.Site.{Site}
 use Rattle.nfa_compiler.proofs.EachLemmas.{Both, both-or}
 use Rattle.nfa_compiler.proofs.BlockLemmas.{last_write-append, AreExplicit, Tells, Told, IsClear, among-one, among-cons, walks}
-use Rattle.nfa_paths.proofs.OptionLemmas.{option_or-None}
+use Rattle.nfa_paths.proofs.MemberLemmas.{option_or-None}
 use Rattle.nfa_paths.proofs.PathToLemmas.{EndsWith-cons}
+use Rattle.nfa_paths.proofs.Common.{◌≡◌, ℕ, suc, ◌+◌, ◌*◌, ◌-◌, ◌≤◌, ◌<◌, List, [], ◌∷◌, ◌++◌, map, length, refl, sym, ap, ap₂, ◌∙◌, subst, arith, add-zero, nat_lt, ne_eqb, eq-eqb, Option, None, Some, is_some, slice_index, slice_index_or, option_map, option_map_or, if◌then◌else◌, ◌==◌, option_or, le-ltb, cond-false, nat_tests, number_of, Search, Automaton, Pair, In, EndsWith, IsFirst, FirstAmong, pattern_of, slot_of, node_at, is_match, capture, edges_of, edges, slot_among, false}
+use Rattle.nfa_compiler.specs.Common.{Re, empty, Trace, accept, attempt, last_write, match_at, slot_in, IsPattern, explicit_slot, PatternHit, hit_of, pick, place_of, writes_of}
 
 -- writes
 
@@ -24,7 +24,7 @@ unwritten : (groups : List (List (Option (List ℕ)))) (k slot : ℕ) (ws : List
     → slot < 2 * length groups → last_write (map (λ w. (place_of groups k w.0, w.1)) ws) slot ≡ None
 unwritten groups k slot [] all less = refl
 unwritten groups k slot (w ∷ ws) all less =
-    let place : place_of groups k w.0 ≡ first_slot groups k + (w.0 - 2) =
+    let place : place_of groups k w.0 ≡ explicit_slot groups k + (w.0 - 2) =
     cond-false (nat_lt w.0 2) _ _ (le-ltb w.0 2 all.0) in
     rw (unwritten groups k slot ws all.1 less, ne_eqb (place_of groups k w.0) slot (λ e. omega arith)) refl
 

@@ -1,20 +1,15 @@
 -- In a `str`, the hits of patterns that match whole characters end on a boundary exactly if they start on one. So a
 -- search in UTF-8 mode finds in it what the texts of patterns mean.
-use Rattle.nfa_paths.proofs.Common.{◌≡◌, ℕ, ◌+◌, ◌-◌, ◌<◌, Bool, true, false, List, [], ◌∷◌, refl, ◌∙◌, subst, arith, IsUtf8, encode_utf8_all, Option, None, All, IsTrue, encode_utf8, if◌then◌else◌, ltb-true, nat_lt, list_all, and_from, and_parts, nat_tests, AllPass-from_list_all, IsBoundary, Search, No, length, sym, ◌==◌, AllZip, All-nil, All-cons, All-map, Automaton, is_utf8_empty}
-use Rattle.std.specs.Char.{IsScalar}
-use Rattle.std.specs.Str.{all_scalars}
-use Rattle.std.proofs.lemmas.List.Folds.{list_all-append}
-use Rattle.std.proofs.lemmas.Str.{encode_ascii}
-use Rattle.nfa_compiler.specs.Common.{Matches, Re, always_reads, is_boundary, ends_on_boundary, expected_on_boundary, on_boundary, PatternHit, expected, pick, pick_one, MatchesCharacters, at_boundary, expected_in_str, meaning, SameCaptures, Config, Parsed, FindsFromAnyStart, LosesNoHit, boundary_hit, AreMeant, IsCompiled, IsTreeOf, res_of, hit, StartsOnBoundary, str_hit}
 use Rattle.regex_hir.proofs.Utf8Lemmas.{encode_two, encode_three, encode_four}
 use Rattle.nfa_compiler.proofs.BoundarySearchLemmas.{boundary-true, boundary-answered}
 use Rattle.nfa_compiler.proofs.CharacterLemmas.{reads-on, tree-matches-characters}
 use Rattle.nfa_compiler.proofs.EachLemmas.{Each, in-each-mode, pick-each, pick_one-each}
-use Rattle.nfa_paths.proofs.TestLemmas.{is_plain}
-use Rattle.nfa_compiler.proofs.AnswerLemmas.{IsAnsweredBy, answered-alike}
+use Rattle.nfa_paths.proofs.MemberLemmas.{is_plain}
+use Rattle.nfa_paths.proofs.Common.{IsScalar, all_scalars, list_all-append, encode_ascii, ◌≡◌, ℕ, ◌+◌, ◌-◌, ◌<◌, Bool, true, false, List, [], ◌∷◌, refl, ◌∙◌, subst, arith, IsUtf8, encode_utf8_all, Option, None, All, IsTrue, encode_utf8, if◌then◌else◌, ltb-true, nat_lt, list_all, and_from, and_parts, nat_tests, AllPass-from_list_all, IsBoundary, Search, No, length, sym, ◌==◌, AllZip, All-nil, All-cons, All-map, Automaton, is_utf8_empty}
+use Rattle.nfa_compiler.proofs.SearchLemmas.{IsAnsweredBy, answered-alike, hit-answered}
 use Rattle.nfa_compiler.proofs.MeantLemmas.{AreAlike, all-meant, first-alike, one-alike, pick-alike}
-use Rattle.nfa_compiler.proofs.SearchLemmas.{hit-answered}
 use Rattle.nfa_compiler.proofs.UnboundLemmas.{boundary-unbound, hit-unbound, loses-none, str-unbound, texts-lose-none}
+use Rattle.nfa_compiler.specs.Common.{Matches, Re, always_reads, is_boundary, ends_on_boundary, expected_on_boundary, on_boundary, PatternHit, expected, pick, pick_one, MatchesCharacters, at_boundary, expected_in_str, meaning, SameCaptures, Config, Parsed, FindsFromAnyStart, LosesNoHit, boundary_hit, AreMeant, IsCompiled, IsTreeOf, res_of, hit, StartsOnBoundary, str_hit}
 
 -- the bytes of a `str`
 

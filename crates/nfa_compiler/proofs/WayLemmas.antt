@@ -1,9 +1,5 @@
 -- Each way of an NFA of patterns writes its start and its end. From the start of a pattern it stays among the states of
 -- the pattern, which are before the choice between all.
-use Rattle.nfa_paths.proofs.Common.{◌≡◌, ℕ, ◌+◌, ◌≤◌, ◌<◌, [], sym, subst, arith, Some, if◌then◌else◌, ◌↔◌, ◌==◌, ◌||◌, option_map_or, nat_tests, Search, is_anchored, Automaton, Pair, In, start_state, start_count, starts, suc, ◌*◌, ◌⊎◌, inl, inr, Bool, false, List, ◌∷◌, map, length, refl, ap, true≢false, ◌∙◌, None, Option, is_some, All, slice_index, slice_range, option_and_then, le-ltb, cond-false, slice_get_within, get_or_from_slice_get, number_of, Anchored, Node, Linked, EndsWith, pattern_of, slot_of, node_at, slot_among, IsMatch, Pattern, Union, Capture, slice_get, HeadIs, PathTo, edges, path_pattern, Yes}
-use Rattle.nfa_paths.proofs.StartLemmas.{pairs_from-has}
-use Rattle.nfa_engines.proofs.FirstStartLemmas.{pairs_from-in}
-use Rattle.nfa_compiler.specs.Common.{Re, match_at, moved, node_for, LeadsInside, Stands, IsBlock, IsNfaOf, first_slot}
 use Rattle.regex_nfa.specs.States.{state_at}
 use Rattle.regex_nfa.specs.declared.state.Transition as their_transition
 use Rattle.regex_nfa.specs.declared.state.State as their_state
@@ -14,11 +10,15 @@ use Rattle.nfa_paths.proofs.PathToLemmas.{EndsWith-last}
 use Rattle.nfa_match_spans.specs.StatePaths.{targets, reads, position_after, open_edges, RecordsMatchSpans}
 use Rattle.nfa_compiler.specs.declared.block.Site.{Site}
 use Rattle.nfa_compiler.proofs.BlockLemmas.{node-plain}
-use Rattle.nfa_engines.specs.PatternLaws.{alternates_of, started_at, StartsMatchTheirPatterns, TriesPatternsInOrder}
-use Rattle.nfa_engines.proofs.AloneLemmas.{pattern-alone}
+use Rattle.nfa_engines.specs.StartLaws.{alternates_of, started_at, StartsMatchTheirPatterns, TriesPatternsInOrder}
+use Rattle.nfa_engines.proofs.PatternAnswerLemmas.{pattern-alone}
 use Rattle.nfa_engines.proofs.FirstPatternLemmas.{start-there}
 use Rattle.nfa_match_spans.proofs.LawLemmas.{linked-open}
-use Rattle.nfa_paths.proofs.OptionLemmas.{same_some}
+use Rattle.nfa_paths.proofs.MemberLemmas.{same_some}
+use Rattle.nfa_paths.proofs.Common.{◌≡◌, ℕ, ◌+◌, ◌≤◌, ◌<◌, [], sym, subst, arith, Some, if◌then◌else◌, ◌↔◌, ◌==◌, ◌||◌, option_map_or, nat_tests, Search, is_anchored, Automaton, Pair, In, start_state, start_count, starts, suc, ◌*◌, ◌⊎◌, inl, inr, Bool, false, List, ◌∷◌, map, length, refl, ap, true≢false, ◌∙◌, None, Option, is_some, All, slice_index, slice_range, option_and_then, le-ltb, cond-false, slice_get_within, get_or_from_slice_get, number_of, Anchored, Node, Linked, EndsWith, pattern_of, slot_of, node_at, slot_among, IsMatch, Pattern, Union, Capture, slice_get, HeadIs, PathTo, edges, path_pattern, Yes}
+use Rattle.nfa_paths.proofs.StartLemmas.{pairs_from-has}
+use Rattle.nfa_engines.proofs.FirstStartLemmas.{pairs_from-in}
+use Rattle.nfa_compiler.specs.Common.{Re, match_at, moved, node_for, LeadsInside, Stands, IsBlock, IsNfaOf, explicit_slot}
 
 module _ (a : Automaton) (x : Search) where
   -- the last position at which a match may start
@@ -206,7 +206,7 @@ module _ (res : List Re) (a : Automaton) (made : IsNfaOf res a) where
       → Linked (open_edges a) (v ∷ rest) → EndsWith m (v ∷ rest) → Follows a k (v ∷ rest) v.0 (Some v.1) m
   from-pattern k known rest v m at linked ends =
       let one = made.each k (omega (arith, made.patterns)) in
-      let place : one.site.slots ≡ first_slot a.groups k = one.slots_are in
+      let place : one.site.slots ≡ explicit_slot a.groups k = one.slots_are in
       from-start one.site k one.pattern_is (omega (arith, made.patterns, made.groups)) a one.nfa one.block rest v m
       (at ∙ one.start_is) linked ends
 

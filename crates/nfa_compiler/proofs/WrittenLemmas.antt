@@ -1,17 +1,16 @@
 -- A pattern that is written out matches exactly where the tree that is compiled for its text does.
-use Rattle.nfa_paths.proofs.Common.{◌≡◌, ℕ, ◌≤◌, ◌<◌, Bool, true, false, List, [], ◌∷◌, length, refl, sym, ap, ◌∙◌, subst, arith, eq-eqb, Option, None, Some, All, is_some, option_map, if◌then◌else◌, ◌==◌, ◌↔◌, IsUtf8, AllZip, nat_tests, whole, Automaton, is_utf8_empty, IsBoolAnswer, LeftmostFirst}
-use Rattle.nfa_compiler.specs.Common.{Matches, meaning, Re, Rest, Trace, accept, attempt, SameCaptures, outcome, Config, Parsed, FindsFromAnyStart, IsCompiled, IsTreeOf, res_of, IsReadAs, MatchesIn, MatchesInStr, Match, find, find_str, first_between, is_boundary, PatternHit, expected, hit_by, expected_in_str}
 use Rattle.regex_hir.proofs.AttemptLemmas.{attempt_complete, attempt_sound, cond_some}
 use Rattle.regex_hir.proofs.OptionLemmas.{value_of_IsSome}
 use Rattle.regex_syntax.proofs.Written.{is_some-option_map}
 use Rattle.regex_syntax.proofs.CapturesLemmas.{alike_of_same, alike_sym}
 use Rattle.nfa_compiler.proofs.UnboundLemmas.{hit-unbound, loses-none}
 use Rattle.regex_hir.proofs.FindLemmas.{IsFirst-of_first_between, none_of_first_between}
-use Rattle.nfa_compiler.proofs.AnswerLemmas.{found-is}
+use Rattle.nfa_paths.proofs.Common.{◌≡◌, ℕ, ◌≤◌, ◌<◌, Bool, true, false, List, [], ◌∷◌, length, refl, sym, ap, ◌∙◌, subst, arith, eq-eqb, Option, None, Some, All, is_some, option_map, if◌then◌else◌, ◌==◌, ◌↔◌, IsUtf8, AllZip, nat_tests, whole, Automaton, is_utf8_empty, IsBoolAnswer, LeftmostFirst}
+use Rattle.nfa_compiler.proofs.SearchLemmas.{found-is, hit-answered}
 use Rattle.nfa_compiler.proofs.MeantLemmas.{reads-give}
-use Rattle.nfa_compiler.proofs.SearchLemmas.{hit-answered}
 use Rattle.nfa_compiler.proofs.StrLemmas.{text-bytes, own-free}
 use Rattle.nfa_compiler.proofs.AllSearchLemmas.{one-free, one-str-free}
+use Rattle.nfa_compiler.specs.Common.{Matches, meaning, Re, Rest, Trace, accept, attempt, SameCaptures, outcome, Config, Parsed, FindsFromAnyStart, IsCompiled, IsTreeOf, res_of, IsReadAs, MatchesIn, MatchesInStr, Match, find, find_str, first_between, is_boundary, PatternHit, expected, hit_by, expected_in_str}
 
 -- what a text is read as
 

@@ -1,6 +1,5 @@
 -- The states of one pattern in an NFA: those of an NFA of `regex_nfa`, moved, and added after others.
 use Rattle.std.specs.Prelude.{◌≡◌, ℕ, ◌+◌, ◌-◌, ◌*◌, ◌<◌, ◌≤◌, List, ◌++◌, length, map, All, if◌then◌else◌, nat_lt, slice_range, slice_index_or, ⊤}
-use Rattle.nfa_paths.specs.Common.{number_of, Node, LeadsBelow, SlotBelow, PatternBelow, Transition, ByteRange, Sparse, Look, BinaryUnion, Capture}
 use Rattle.regex_hir.specs.declared.look.Look as theirs
 use Rattle.regex_hir.specs.declared.look.Look.TheVariants as their_look
 use Rattle.regex_nfa.specs.States.{state_at}
@@ -11,6 +10,7 @@ use Rattle.regex_nfa.specs.declared.nfa.Nfa.{Nfa}
 use Rattle.thompson_nfa.specs.declared.look.Look as ours
 use Rattle.thompson_nfa.specs.declared.look.Look.TheVariants as our_look
 use Rattle.thompson_nfa.specs.Automaton.Node.{Fail, Match}
+use Rattle.nfa_paths.specs.Common.{number_of, Node, LeadsBelow, SlotBelow, PatternBelow, Transition, ByteRange, Sparse, Look, BinaryUnion, Capture}
 use Rattle.nfa_compiler.specs.declared.block.Site.{Site}
 
 -- the assertion of `thompson_nfa` for one of `regex_hir`
@@ -56,7 +56,7 @@ node_for ts s (their.Look l next) = Look (look_of l) (s.base + next)
 node_for ts s their.Match = Capture (match_at s) (slot_in s 1)
 node_for ts s their.Fail = Fail
 
--- its targets are states of the pattern, and its slot is one of an explicit group
+-- the state's targets are states of the pattern, and its slot is one of an explicit group
 abbrev pub LeadsInside : List their_transition.Transition → Site → their_state.State → Type 0
 LeadsInside ts s (their.ByteRange t) = t.next < s.size
 LeadsInside ts s (their.Sparse from to) = All (λ t. t.next < s.size) (slice_range ts from to)
@@ -65,7 +65,7 @@ LeadsInside ts s (their.Save slot next) = (2 ≤ slot) × (next < s.size)
 LeadsInside ts s (their.Look l next) = next < s.size
 LeadsInside ts s _ = ⊤
 
--- the node is that of the state
+-- the node is that of the state, which leads only to states of the pattern
 abbrev pub Stands : List their_transition.Transition → Site → their_state.State → Node → Type 0
 Stands ts s state node = LeadsInside ts s state × (node ≡ node_for ts s state)
 
@@ -94,7 +94,7 @@ AreInRange slots patterns nodes = All (IsInRange (length nodes) slots patterns) 
 abbrev pub KeepsInRange : List Node → List Node → Type 0
 KeepsInRange old new = (slots patterns : ℕ) → AreInRange slots patterns old → AreInRange slots patterns new
 
--- the first states of the NFA were added
+-- the first `count` states of the NFA were added, moved
 pub record HoldsStates (old new : List Node) (nfa : Nfa) (s : Site) (count : ℕ) : Type 0 where
   pub more : List Node
   pub kept : new ≡ old ++ more

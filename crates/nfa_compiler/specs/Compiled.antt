@@ -1,8 +1,5 @@
 -- The parts of an NFA of patterns, and whether one that binds searches to their start loses a match by it.
-use Rattle.std.specs.Prelude.{◌≡◌, false, ℕ, ◌+◌, ◌<◌, ◌≤◌, ◌⊎◌, ◌||◌, ◌==◌, Bool, List, [], ◌∷◌, length, map, drop, All, None, Option, IsSomeAnd, IsTrue, chars, option_map, string_bytes, slice_index, slice_index_or}
-use Rattle.std.specs.List.{AllZip}
-use Rattle.nfa_paths.specs.Common.{number_of, Search, Automaton, Node, Fail, Union}
-use Rattle.nfa_engines.specs.Accepting.{MatchesNothing}
+use Rattle.std.specs.Prelude.{◌≡◌, false, ℕ, ◌+◌, ◌<◌, ◌≤◌, ◌⊎◌, ◌||◌, Bool, List, [], ◌∷◌, length, map, drop, All, None, Option, IsSomeAnd, IsTrue, chars, option_map, string_bytes, slice_index, slice_index_or, ◌==◌}
 use Rattle.regex_hir.specs.Re.{Re, empty}
 use Rattle.regex_hir.specs.Meaning.{meaning}
 use Rattle.regex_hir.specs.Reads.{always_reads}
@@ -13,10 +10,12 @@ use Rattle.regex_syntax.specs.declared.Config.{Config}
 use Rattle.regex_syntax.specs.declared.Parsed.{Parsed}
 use Rattle.regex_nfa.specs.declared.nfa.Nfa.{Nfa}
 use Rattle.regex_compile.specs.Implements.{Implements}
+use Rattle.nfa_paths.specs.Common.{AllZip, number_of, Search, Automaton, Node, Fail, Union, explicit_slot}
+use Rattle.nfa_engines.specs.Laws.{MatchesNothing}
 use Rattle.nfa_compiler.specs.declared.block.Site.{Site}
 use Rattle.nfa_compiler.specs.Blocks.{match_at, IsBlock}
 use Rattle.nfa_compiler.specs.Loops.{all_begin_at_start}
-use Rattle.nfa_compiler.specs.Patterns.{first_slot, pick}
+use Rattle.nfa_compiler.specs.Patterns.{pick}
 
 -- the names of the pattern's explicit groups: all but group 0
 abbrev pub explicit_names : Parsed → List (Option (List ℕ))
@@ -43,7 +42,7 @@ pub record IsPatternAt (nodes : List Node) (slots k start : ℕ) (re : Re) : Typ
 
 -- the same for pattern k of these groups
 abbrev pub IsPattern : List Node → List (List (Option (List ℕ))) → ℕ → ℕ → Re → Type 0
-IsPattern nodes groups k start re = IsPatternAt nodes (first_slot groups k) k start re
+IsPattern nodes groups k start re = IsPatternAt nodes (explicit_slot groups k) k start re
 
 -- each of these patterns is among the nodes
 abbrev pub ArePatterns : List Node → List (List (Option (List ℕ))) → List ℕ → List Re → ℕ → Type 0
@@ -71,7 +70,8 @@ pub record IsTreeOf (syntax : Config) (text : List ℕ) (tree : Parsed) : Type 0
 abbrev pub AlwaysReads : Parsed → Type 0
 AlwaysReads tree = IsTrue (always_reads (meaning tree.hir))
 
--- the NFA is made of trees that are read from these texts
+-- The NFA is made of trees that are read from these texts, with their groups and the mode of the syntax. It may match
+-- the empty string unless each tree always reads a byte.
 pub record IsCompiled (syntax : Config) (texts : List (List ℕ)) (nfa : Automaton) : Type 0 where
   pub trees : List Parsed
   pub read : AllZip (IsTreeOf syntax) texts trees

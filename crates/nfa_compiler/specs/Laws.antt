@@ -1,13 +1,12 @@
 -- The laws of compiled NFAs, in the order of `src/laws.rt`: their searches find what their patterns mean.
-use Rattle.std.specs.Prelude.{◌≡◌, ◌↔◌, ◌⊎◌, ℕ, ◌≤◌, ◌<◌, ◌==◌, ◌*◌, ◌+◌, All, Bool, true, false, IsUtf8, List, [], ◌∷◌, drop, length, map, Option, Some, is_some, option_map, slice_index_or}
-use Rattle.nfa_paths.specs.Common.{IsBoundary, Found, group_named, groups_at, Search, group_span, named_span, MatchKind, Automaton, Yes, No, HoldsPattern, IsAnswer, IsBoolAnswer, IsFindAnswer, IsOverlapResult, is_utf8_empty, look_holds}
-use Rattle.regex_search_core.specs.declared.search.MatchKind.TheVariants as match_kind
+use Rattle.std.specs.Prelude.{◌≡◌, ◌↔◌, ◌⊎◌, ℕ, ◌≤◌, ◌<◌, All, Bool, true, false, IsUtf8, List, [], ◌∷◌, drop, length, map, Option, Some, is_some, option_map, slice_index_or, ◌==◌}
 use Rattle.regex_hir.specs.declared.look.Look as theirs
 use Rattle.regex_syntax.specs.WellFormed.{IsWellFormed}
-use Rattle.nfa_search_base.specs.Common.{AreMatches, AreRows, Row}
-use Rattle.nfa_engines.specs.PatternLaws.{StartsMatchTheirPatterns}
+use Rattle.regex_search_core.specs.declared.search.MatchKind.TheVariants as match_kind
+use Rattle.nfa_search_base.specs.Common.{IsBoundary, Found, group_named, groups_at, Search, group_span, named_span, MatchKind, Automaton, Yes, No, HoldsPattern, IsAnswer, IsBoolAnswer, IsFindAnswer, IsOverlapResult, is_utf8_empty, look_holds, AreMatches, AreRows, Row}
+use Rattle.nfa_engines.specs.StartLaws.{StartsMatchTheirPatterns}
 use Rattle.nfa_match_spans.specs.StatePaths.{RecordsMatchSpans}
-use Rattle.nfa_compiler.specs.Common.{Match, Matches, Re, empty, holds, last_write, meaning, Config, Parsed, look_of, AreMeant, AreNamed, FindsFromAnyStart, IsCompiled, IsNfaOf, LosesNoHit, begins_at_start, AreOfHit, HitOf, IsLeftmostToTheEnd, PatternHit, StartsOnBoundary, all_of, boundary_hit, captures_of, found_at, found_of_hit, hit_by, row_of_hit, span_between, str_hit, MatchesCharacters, MatchesSomewhere, PatternMatches}
+use Rattle.nfa_compiler.specs.Common.{Match, Matches, Re, empty, holds, meaning, Config, Parsed, look_of, AreMeant, AreNamed, FindsFromAnyStart, IsCompiled, IsNfaOf, LosesNoHit, begins_at_start, AreOfHit, HitOf, IsLeftmostToTheEnd, PatternHit, StartsOnBoundary, all_of, boundary_hit, captures_of, found_at, found_of_hit, hit_by, row_of_hit, str_hit, MatchesCharacters, MatchesSomewhere, PatternMatches, written_span}
 
 -- each assertion holds exactly if its counterpart does
 abbrev pub LooksAgree : Type 0
@@ -33,8 +32,8 @@ HoldsForTexts P =
 abbrev pub MatchAlone : Automaton → Search → Type 0
 MatchAlone nfa x = x.anchored ≡ Yes → StartsMatchTheirPatterns nfa x
 
--- The pattern and the slots of a search are those of the first hit: in byte mode; and, if `utf8`, in UTF-8 mode of
--- patterns that may match the empty string.
+-- The pattern and the slots of a search are those of the first hit: if a match may end anywhere; and, if `utf8`, in
+-- UTF-8 mode of patterns that may match the empty string.
 abbrev pub AnswersAreHits : Bool → HitOf → Type 0
 AnswersAreHits utf8 first =
     (res : List Re) (nfa : Automaton) (kind : MatchKind) (earliest : Bool) (x : Search) (pattern : Option ℕ)
@@ -73,7 +72,7 @@ RowsAreAllHits utf8 first =
 abbrev pub Mode : Type 1
 Mode = Automaton → MatchKind → Bool → Search → Type 0 → Type 0
 
--- in byte mode, in a haystack that consists of bytes
+-- if a match may end anywhere, in a haystack that consists of bytes
 abbrev pub InBytes : Mode
 InBytes nfa kind earliest x Claim =
     is_utf8_empty nfa ≡ false → IsLeftmostToTheEnd kind earliest x → All (λ b. b < 256) x.haystack → Claim
@@ -241,8 +240,7 @@ abbrev pub GroupsAreWritten : HitOf → Type 0
 GroupsAreWritten first =
     (res : List Re) (nfa : Automaton) (x : Search) (h : PatternHit) (group : ℕ) → length nfa.groups ≡ length res
     → first res nfa x ≡ Some h → 1 ≤ group → group ≤ length (groups_at nfa.groups h.pattern)
-    → group_span (captures_of nfa h) group
-    ≡ span_between (last_write h.trace.writes (2 * group)) (last_write h.trace.writes (2 * group + 1))
+    → group_span (captures_of nfa h) group ≡ written_span group (record { start = h.start; trace = h.trace })
 
 -- The same for a name: for the first group with this name.
 abbrev pub NamesAreWritten : HitOf → Type 0
@@ -250,8 +248,7 @@ NamesAreWritten first =
     (res : List Re) (nfa : Automaton) (x : Search) (h : PatternHit) (name : List ℕ) (group : ℕ)
     → length nfa.groups ≡ length res → first res nfa x ≡ Some h
     → group_named nfa.groups h.pattern name ≡ Some group
-    → named_span (captures_of nfa h) name
-    ≡ span_between (last_write h.trace.writes (2 * group)) (last_write h.trace.writes (2 * group + 1))
+    → named_span (captures_of nfa h) name ≡ written_span group (record { start = h.start; trace = h.trace })
 
 -- in a `str` the hit that ends on a boundary is the one that starts on a boundary
 abbrev pub BoundaryHitsAreStrHits : Type 0

@@ -1,6 +1,5 @@
 pub mod Common
 pub mod Rejected
-pub mod ErrorTexts
 pub mod Patterns
 pub mod Blocks
 pub mod Compiled

@@ -1,13 +1,11 @@
 -- What a search for patterns finds, in the words of the matcher of `regex_hir`. It does so in bytes; in UTF-8 mode, in
 -- which a match that splits a codepoint does not count; and in a `str`, in which no match starts inside one.
-use Rattle.std.specs.Prelude.{◌≡◌, ℕ, zero, suc, ◌+◌, ◌-◌, ◌*◌, ◌==◌, Bool, true, false, List, [], ◌∷◌, length, map, take, replicate, Option, Some, None, option_map, option_and_then, if◌then◌else◌, nat_le, nat_lt, slice_get}
-use Rattle.std.specs.List.{sum_by, range_with_len}
-use Rattle.std.specs.Option.{option_or}
-use Rattle.nfa_paths.specs.Common.{IsBoundary, Found, number_of, Search, Anchored, No, Yes, Pattern, MatchKind, LeftmostFirst, slot_count, Captured, Span, Automaton}
-use Rattle.nfa_search_base.specs.Common.{Row}
+use Rattle.std.specs.Prelude.{◌≡◌, ℕ, zero, suc, ◌+◌, ◌-◌, ◌*◌, Bool, true, false, List, [], ◌∷◌, length, map, replicate, Option, Some, None, option_map, option_and_then, if◌then◌else◌, nat_le, nat_lt, slice_get, ◌==◌}
 use Rattle.regex_hir.specs.Re.{Re, Trace, accept, attempt}
 use Rattle.regex_hir.specs.Find.{Match, last_write}
 use Rattle.regex_hir.specs.Text.{is_boundary, is_none_or, is_some_and}
+use Rattle.nfa_paths.specs.Common.{explicit_slot}
+use Rattle.nfa_search_base.specs.Common.{range_with_len, option_or, IsBoundary, Found, number_of, Search, Anchored, No, Yes, Pattern, MatchKind, LeftmostFirst, slot_count, Captured, Span, Automaton, Row}
 
 -- a match: its pattern, its start, and its trace
 pub record PatternHit : Type 0 where
@@ -33,13 +31,13 @@ first_hit at (suc n) i = option_or (at i) (first_hit at n (i + 1))
 abbrev pub pick_one : List ℕ → List Re → ℕ → ℕ → Option PatternHit
 pick_one haystack res k i = option_and_then (λ re. hit_of k i (attempt haystack re accept i)) (slice_get res k)
 
--- The hit of a search; none if its span starts after its end. `free` is the hit of a search without an anchor, `at`
--- that of all patterns at its start, and `one` that of a single pattern there.
+-- the hit in a mode: `free` without an anchor, `at` of all patterns at the start, `one` of a single pattern there
 abbrev pub hit_in_mode : Option PatternHit → Option PatternHit → (ℕ → Option PatternHit) → Anchored → Option PatternHit
 hit_in_mode free at one No = free
 hit_in_mode free at one Yes = at
 hit_in_mode free at one (Pattern pattern) = one (number_of pattern)
 
+-- the hit of a search; none if its span starts after its end
 abbrev pub hit_of_search : Search → Option PatternHit → Option PatternHit → (ℕ → Option PatternHit) → Option PatternHit
 hit_of_search x free at one = if nat_lt x.end x.start then None else hit_in_mode free at one x.anchored
 
@@ -126,14 +124,10 @@ all_boundary_hits = all_of boundary_hit
 abbrev pub all_str_hits : List Re → Automaton → Search → List PatternHit
 all_str_hits = all_of str_hit
 
--- the first slot of the explicit groups of pattern k
-abbrev pub first_slot : List (List (Option (List ℕ))) → ℕ → ℕ
-first_slot groups k = 2 * length groups + 2 * sum_by length (take k groups)
-
 -- the number of the pattern's slot among those of all: group n of a pattern has the slots 2n and 2n + 1
 abbrev pub place_of : List (List (Option (List ℕ))) → ℕ → ℕ → ℕ
 place_of groups pattern slot =
-    if nat_lt slot 2 then (2 * pattern + slot) else (first_slot groups pattern + (slot - 2))
+    if nat_lt slot 2 then (2 * pattern + slot) else (explicit_slot groups pattern + (slot - 2))
 
 -- each slot and position that the hit writes, the bounds of the whole match first
 abbrev pub writes_of : List (List (Option (List ℕ))) → PatternHit → List (ℕ × ℕ)
@@ -187,7 +181,7 @@ abbrev pub written_span : ℕ → Match → Option Span
 written_span group m =
     span_between (last_write m.trace.writes (2 * group)) (last_write m.trace.writes (2 * group + 1))
 
--- if the NFA binds a search to its start, the search starts on a boundary
+-- an unanchored search that the NFA binds to its start starts on a boundary
 abbrev pub StartsOnBoundary : Automaton → Search → Type 0
 StartsOnBoundary nfa x = (nfa.anchored == nfa.unanchored) ≡ true → x.anchored ≡ No → IsBoundary x.haystack x.start
 

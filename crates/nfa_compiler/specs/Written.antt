@@ -1,6 +1,5 @@
 -- The syntax of texts, what a text is read as, and where patterns match.
 use Rattle.std.specs.Prelude.{◌≡◌, ℕ, ◌≤◌, ◌<◌, ◌||◌, Bool, false, true, List, length, IsSomeAnd, IsUtf8, chars, if◌then◌else◌, slice_index_or, ⊤}
-use Rattle.nfa_paths.specs.Common.{number_of, Search, is_anchored, Anchored, Pattern}
 use Rattle.regex_hir.specs.Matches.{Matches}
 use Rattle.regex_hir.specs.Re.{Re, empty}
 use Rattle.regex_hir.specs.Text.{is_boundary}
@@ -8,6 +7,7 @@ use Rattle.regex_syntax.specs.Grammar.{read}
 use Rattle.regex_syntax.specs.Same.{SameTree}
 use Rattle.regex_syntax.specs.Verdict.{default_config}
 use Rattle.regex_syntax.specs.declared.Config.{Config}
+use Rattle.nfa_paths.specs.Common.{number_of, Search, is_anchored, Anchored, Pattern}
 use Rattle.nfa_compiler.specs.declared.compiler.Compiler.{Compiler}
 
 -- the syntax that a compiler parses texts with: its own, with the `utf8` of its configuration

@@ -29,7 +29,7 @@ pub enum CompileError {
 
 impl fmt::Display for CompileError {
     ghost use Rattle.std.specs.Prelude.{Some};
-    ghost use Rattle.nfa_compiler.specs.ErrorTexts.{compile_error_text};
+    ghost use Rattle.nfa_compiler.specs.Rejected.{compile_error_text};
 
     ghost output = { λ e. Some (compile_error_text e) };
 
@@ -69,7 +69,7 @@ pub struct OnlyPattern(pub CompileError);
 
 impl fmt::Display for OnlyPattern {
     ghost use Rattle.std.specs.Prelude.{Some};
-    ghost use Rattle.nfa_compiler.specs.ErrorTexts.{only_pattern_text};
+    ghost use Rattle.nfa_compiler.specs.Rejected.{only_pattern_text};
 
     ghost output = { λ e. Some (only_pattern_text e.0) };
 

@@ -1,6 +1,6 @@
 //! The line of a text in which a span starts, with marks under the span.
-ghost use Rattle.std.specs.Prelude.{◌≡◌, ◌≤◌, ◌-◌, IsCharBoundary, drop, length, max, take};
-ghost use Rattle.nfa_compiler.specs.ErrorTexts.{blank_byte, first_line, last_line, start_count, starts_char};
+ghost use Rattle.std.specs.Prelude.{◌≡◌, ◌≤◌, ◌-◌, IsCharBoundary, drop, length, max, take, sum_by};
+ghost use Rattle.nfa_compiler.specs.Rejected.{blank_byte, first_line, last_line, starts_char};
 
 use std::fmt;
 
@@ -24,7 +24,8 @@ impl<'t> Excerpt<'t> {
         requires start { IsCharBoundary text.now start }
         ensures before { result.before.now ≡ last_line (take start text.now) }
         ensures rest { result.rest.now ≡ first_line (drop start text.now) }
-        ensures marks { result.marks ≡ max 1 (start_count (take (end - start) (first_line (drop start text.now)))) }
+        ensures marks { result.marks
+            ≡ max 1 (sum_by starts_char (take (end - start) (first_line (drop start text.now)))) }
     {
         let (before, rest) = text.split_at(start);
         let before = last_line(before);
@@ -61,7 +62,7 @@ fn last_line(text: &str) -> &str
 
 /// Returns the number of bytes with which a character starts.
 fn start_count(bytes: &[u8]) -> usize
-    ensures value { result ≡ start_count bytes.now }
+    ensures value { result ≡ sum_by starts_char bytes.now }
     ensures bound { result ≤ length bytes.now }
 {
     let mut count: usize = 0;
@@ -129,7 +130,7 @@ impl fmt::Display for Marks {
 
 impl fmt::Display for Excerpt<'_> {
     ghost use Rattle.std.specs.Prelude.{Some};
-    ghost use Rattle.nfa_compiler.specs.ErrorTexts.{excerpt_text};
+    ghost use Rattle.nfa_compiler.specs.Rejected.{excerpt_text};
 
     ghost output = { λ x. Some (excerpt_text x.before.now x.rest.now x.marks) };
 

@@ -1,6 +1,6 @@
 //! The groups of patterns, and the numbers of patterns and slots.
 ghost use Rattle.std.specs.Prelude.{◌≡◌, ◌+◌, ◌*◌, IfErr, IfOk, drop, length, map, option_map, string_bytes};
-ghost use Rattle.regex_search_core.specs.Patterns.{number_of};
+ghost use Rattle.regex_search_core.specs.PatternSets.{number_of};
 ghost use Rattle.nfa_compiler.specs.Compiled.{explicit_names, groups_of};
 ghost use Rattle.nfa_compiler.specs.Rejected.{IsOfNoPattern};
 

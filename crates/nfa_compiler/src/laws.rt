@@ -1,15 +1,15 @@
 //! Searches of a compiled NFA find what its patterns mean. Each function is empty: its contract is the theorem.
 ghost use Rattle.std.specs.Prelude.{false, true};
 ghost use Rattle.regex_hir.specs.Find.{find, find_all, find_all_str, find_str};
-ghost use Rattle.nfa_engines.specs.PatternLaws.{TriesPatternsInOrder};
+ghost use Rattle.nfa_engines.specs.StartLaws.{TriesPatternsInOrder};
 ghost use Rattle.nfa_compiler.specs.Laws.{AllHitsAreFindAll, AnswersAreHits, AnswersIfMatches, AnswersOnlyMatches};
 ghost use Rattle.nfa_compiler.specs.Laws.{Anywhere, BegunMatchAtStart, BoundaryHitsAreStrHits, FindsHits};
 ghost use Rattle.nfa_compiler.specs.Laws.{FindsIfMatches, FindsOnlyMatches, GroupsAreCounted, GroupsAreNamed};
 ghost use Rattle.nfa_compiler.specs.Laws.{GroupsAreWritten, HitsAreUnbound, InAscii, InBytes, InStr, InStrFromAnyStart};
 ghost use Rattle.nfa_compiler.specs.Laws.{LooksAgree, MatchAlone, MatchesAreAllHits, MatchesAreAllOfTexts};
-ghost use Rattle.nfa_compiler.specs.Laws.{MatchesAreHits, MatchesAreUnbound, NamesAreWritten, HoldsForPatterns, HoldsForTexts};
-ghost use Rattle.nfa_compiler.specs.Laws.{OneHitIsFind, PatternsLoseNoHit, PatternsRecordBounds, RowsAreAllHits};
-ghost use Rattle.nfa_compiler.specs.Laws.{RowsAreAllOfTexts, SetsHoldMatches, SetsHoldMatchesOfStrs};
+ghost use Rattle.nfa_compiler.specs.Laws.{MatchesAreHits, MatchesAreUnbound, NamesAreWritten, HoldsForPatterns};
+ghost use Rattle.nfa_compiler.specs.Laws.{HoldsForTexts, OneHitIsFind, PatternsLoseNoHit, PatternsRecordBounds};
+ghost use Rattle.nfa_compiler.specs.Laws.{RowsAreAllHits, RowsAreAllOfTexts, SetsHoldMatches, SetsHoldMatchesOfStrs};
 ghost use Rattle.nfa_compiler.specs.Laws.{SetsHoldOnlyMatches, TextsAreAnswered, TextsAreMatched, TextsLoseNoHit};
 ghost use Rattle.nfa_compiler.specs.Laws.{TextsRecordBounds, TreesMatchCharacters};
 ghost use Rattle.nfa_compiler.specs.Patterns.{boundary_hit, expected, expected_in_str, expected_on_boundary, hit};

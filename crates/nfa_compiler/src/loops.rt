@@ -3,7 +3,8 @@ ghost use Rattle.std.specs.Prelude.{◌≡◌, ◌↔◌, IsTrue, map};
 ghost use Rattle.regex_hir.specs.Meaning.{alt_all, cat_all, meaning};
 ghost use Rattle.regex_hir.specs.Re.{byte_in, char_in, literal, look};
 ghost use Rattle.nfa_compiler.specs.Compiled.{res_of};
-ghost use Rattle.nfa_compiler.specs.Loops.{HasEmptyLoop, all_begin_at_start, form_either, form_of, form_repeated, form_then};
+ghost use Rattle.nfa_compiler.specs.Loops.{HasEmptyLoop, all_begin_at_start, form_either, form_of, form_repeated};
+ghost use Rattle.nfa_compiler.specs.Loops.{form_then};
 
 use regex_class::ClassRange;
 use regex_hir::{Hir, Look};

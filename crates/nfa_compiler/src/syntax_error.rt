@@ -81,7 +81,7 @@ impl SyntaxError {
 
 impl fmt::Display for SyntaxError {
     ghost use Rattle.std.specs.Prelude.{Some};
-    ghost use Rattle.nfa_compiler.specs.ErrorTexts.{syntax_error_text};
+    ghost use Rattle.nfa_compiler.specs.Rejected.{syntax_error_text};
 
     ghost output = { λ e. Some (syntax_error_text e) };
 
@@ -100,7 +100,7 @@ pub(crate) struct Place<'e>(pub(crate) &'e SyntaxError);
 
 impl fmt::Display for Place<'_> {
     ghost use Rattle.std.specs.Prelude.{Some};
-    ghost use Rattle.nfa_compiler.specs.ErrorTexts.{place_text};
+    ghost use Rattle.nfa_compiler.specs.Rejected.{place_text};
 
     ghost output = { λ place. Some (place_text place.0.now) };
 

@@ -1,5 +1,4 @@
 -- What is found at the end of the span is the scan's answer.
-use Rattle.nfa_paths.proofs.Common.{◌≡◌, ℕ, ◌+◌, ◌-◌, ◌<◌, arith, inl, inr, Bool, true, false, List, [], ◌++◌, refl, ap, sym, ◌∙◌, Option, None, option_and_then, Search, MatchKind, Automaton, Pair, NoPath, is_resting, edges, starts, is_match, IsMatch, IsScanAnswer, path_half, LeftmostFirst}
 use Rattle.regex_search_core.specs.declared.search.MatchKind.TheVariants.{All}
 use Rattle.nfa_paths.proofs.AnswerLemmas.{scan_answer-unique}
 use Rattle.nfa_paths.proofs.SearchingLemmas.{Searching-done}
@@ -9,9 +8,10 @@ use Rattle.nfa_determinize.specs.Closures.{explore}
 use Rattle.nfa_determinize.specs.Configurations.{Configuration, IsDead, position_count, closure_at, next_configuration, advance, scanned, scan_half}
 use Rattle.nfa_determinize.proofs.FollowLemmas.{pairs, bare}
 use Rattle.nfa_determinize.proofs.PositionLemmas.{waiting, waiting-none, shape, states-end, starts-end, past-end, ends-there}
-use Rattle.nfa_determinize.proofs.FirstScanLemmas.{FirstScan, FirstScan-scanned}
 use Rattle.nfa_determinize.proofs.LastScanLemmas.{Answered, Answered-found, LastScan, LastScan-scanned, EarliestScan, EarliestScan-scanned}
-use Rattle.nfa_paths.proofs.OptionLemmas.{option_or-None}
+use Rattle.nfa_determinize.proofs.FirstScanLemmas.{FirstScan, FirstScan-scanned}
+use Rattle.nfa_paths.proofs.MemberLemmas.{option_or-None}
+use Rattle.nfa_paths.proofs.Common.{◌≡◌, ℕ, ◌+◌, ◌-◌, ◌<◌, arith, inl, inr, Bool, true, false, List, [], ◌++◌, refl, ap, sym, ◌∙◌, Option, None, option_and_then, Search, MatchKind, Automaton, Pair, NoPath, is_resting, edges, starts, is_match, IsMatch, IsScanAnswer, path_half, LeftmostFirst}
 
 module _ (nfa : Automaton) (x : Search) where
   -- no state and no start is left of the search for the first path

@@ -1,6 +1,6 @@
 -- What an exploration keeps: states that rest, each once, of those that were not seen before.
-use Rattle.nfa_paths.proofs.Common.{◌≡◌, ℕ, zero, suc, ◌≤◌, ◌<◌, inl, inr, Bool, true, false, List, [], ◌∷◌, ◌++◌, length, replicate, get_or, set, refl, ap, ◌∙◌, arith, get_or-set_other, cases_Bool, length-replicate, Automaton, In, rests, node_at, Holding, epsilon_states}
-use Rattle.nfa_determinize.specs.Closures.{EachOnce, closure, explore}
+use Rattle.nfa_paths.proofs.Common.{◌≡◌, ℕ, zero, suc, ◌≤◌, ◌<◌, inl, inr, Bool, true, false, List, [], ◌∷◌, ◌++◌, length, replicate, get_or, set, refl, ap, ◌∙◌, arith, get_or-set_other, cases_Bool, length-replicate, Automaton, In, rests, node_at, Holding, epsilon_states, NoRepeats}
+use Rattle.nfa_determinize.specs.Closures.{closure, explore}
 
 -- how many states were not seen
 abbrev pub unseen : List Bool → ℕ
@@ -127,7 +127,7 @@ module _ (nfa : Automaton) (holding : Holding) where
       let k = explore-keeps h s i in (k.0, seen-before seen w s f k.1)
 
   -- each is kept once
-  explore-once : {seen : List Bool} {waiting out : List ℕ} → Explores seen waiting out → EachOnce out
+  explore-once : {seen : List Bool} {waiting out : List ℕ} → Explores seen waiting out → NoRepeats out
   explore-once over = tt
   explore-once (passes t h) = explore-once h
   explore-once (keeps {seen = seen} {s = s} f r h) =
@@ -151,7 +151,7 @@ module _ (nfa : Automaton) (holding : Holding) where
         let inside : suc s ≤ length (replicate n false) = unseen-inside (replicate n false) s h.1 in
         (h.0, omega (arith, length-replicate n false))
 
-    pub closure-once : EachOnce (closure nfa holding states)
+    pub closure-once : NoRepeats (closure nfa holding states)
     closure-once = explore-once (closure-explored states)
 
     pub closure-short : length (closure nfa holding states) ≤ length nfa.states

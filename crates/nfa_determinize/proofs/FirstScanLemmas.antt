@@ -2,7 +2,7 @@
 use Rattle.nfa_paths.proofs.Common.{◌≡◌, ℕ, ◌+◌, ◌-◌, ◌≤◌, inl, inr, Bool, true, false, List, [], ◌∷◌, ◌++◌, length, map, refl, ap, ◌∙◌, arith, None, Some, is_some, map-append, Search, Automaton, Pair, In, Hit, rests, node_at, is_match, LeftmostFirst}
 use Rattle.nfa_paths.proofs.MemberLemmas.{In-append_left}
 use Rattle.nfa_paths.proofs.PathToLemmas.{is_false}
-use Rattle.nfa_paths.proofs.ScanningLemmas.{Searching-cut}
+use Rattle.nfa_paths.proofs.SearchingLemmas.{Searching-cut}
 use Rattle.nfa_determinize.specs.Closures.{before_first_match}
 use Rattle.nfa_determinize.specs.Configurations.{Configuration, closure_at, next_configuration, advance, scanned}
 use Rattle.nfa_determinize.proofs.FollowLemmas.{pairs, place, bare, Finding}

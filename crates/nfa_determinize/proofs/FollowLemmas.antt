@@ -1,14 +1,14 @@
 -- The search for paths, without slots, goes through the closure of the states at a position, and on to the next one.
-use Rattle.nfa_paths.proofs.Common.{◌≡◌, ℕ, suc, ◌+◌, ◌<◌, ◌≤◌, inl, inr, Bool, true, false, List, [], ◌∷◌, ◌++◌, length, get_or, set, length-set, map, refl, ap, sym, ◌∙◌, arith, append_assoc, append-nil, Option, None, is_some, option_and_then, option_map, option_to_list, cases_Bool, common_steps, get_or_past, Search, Automaton, Node, Pair, Space, In, Path, Slots, Hit, ExploresTo, Searching, rests, node_at, pattern_of, is_match, byte_at, target_on, edges, edges_of, starts, Fail, stop, go, Explore, holding_at, epsilon_states}
 use Rattle.thompson_nfa.specs.Automaton.Node.{Match}
 use Rattle.nfa_paths.proofs.SearchLemmas.{AnswerBehind-along}
 use Rattle.nfa_paths.proofs.SearchingLemmas.{Searching-marked, Searching-plain, Searching-keep}
 use Rattle.nfa_paths.proofs.ScanAnswerLemmas.{edges-onward, edges-rise}
 use Rattle.nfa_determinize.proofs.ExploreLemmas.{Explores, seen-past, unseen-inside}
 use Rattle.nfa_determinize.proofs.ExploreLemmas.Explores.{over, passes, keeps, opens}
-use Rattle.nfa_scan_core.proofs.SeenLemmas.{SeenAt-set, SeenAt-clear}
+use Rattle.nfa_scan_core.proofs.TargetLemmas.{SeenAt-set, SeenAt-clear}
 use Rattle.nfa_scan_core.specs.Marks.{SeenAt}
 use Rattle.nfa_paths.proofs.StartLemmas.{resting-edges, epsilon-edges}
+use Rattle.nfa_paths.proofs.Common.{◌≡◌, ℕ, suc, ◌+◌, ◌<◌, ◌≤◌, inl, inr, Bool, true, false, List, [], ◌∷◌, ◌++◌, length, get_or, set, length-set, map, refl, ap, sym, ◌∙◌, arith, append_assoc, append-nil, Option, None, is_some, option_and_then, option_map, option_to_list, cases_Bool, common_steps, get_or_past, Search, Automaton, Node, Pair, Space, In, Path, Slots, Hit, ExploresTo, Searching, rests, node_at, pattern_of, is_match, byte_at, target_on, edges, edges_of, starts, Fail, stop, go, Explore, holding_at, epsilon_states}
 
 -- the states at a position
 abbrev pub pairs : ℕ → List ℕ → List Pair

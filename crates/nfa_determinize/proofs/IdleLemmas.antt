@@ -1,14 +1,12 @@
 -- An accepting path goes through the states of each position after its start, as long as nothing was found.
-use Rattle.nfa_paths.proofs.Common.{◌≡◌, ℕ, zero, suc, ◌+◌, ◌-◌, ◌<◌, ◌≤◌, ◌⊎◌, inl, inr, Bool, true, false, List, [], ◌∷◌, ◌++◌, length, map, replicate, get_or, set, refl, ap, sym, ◌∙◌, subst, arith, get_or-set_other, Option, None, Some, option_and_then, option_map, option_to_list, option_map_or, cases_lt, get_or-replicate, HalfFound, Search, MatchKind, Automaton, Pair, In, HeadIs, Linked, EndsWith, PathTo, rests, IsScanAnswer, path_half, pattern_of, IsMatch, node_at, byte_at, target_on, edges, pairs_from, start_count, start_state, starts, Holding, holding_at, epsilon_states}
+use Rattle.nfa_paths.proofs.Common.{ℕ_discrete, ◌≡◌, ℕ, zero, suc, ◌+◌, ◌-◌, ◌<◌, ◌≤◌, ◌⊎◌, inl, inr, Bool, true, false, List, [], ◌∷◌, ◌++◌, length, map, replicate, get_or, set, refl, ap, sym, ◌∙◌, subst, arith, get_or-set_other, Option, None, Some, option_and_then, option_map, option_to_list, option_map_or, cases_lt, get_or-replicate, HalfFound, Search, MatchKind, Automaton, Pair, In, HeadIs, Linked, EndsWith, PathTo, rests, IsScanAnswer, path_half, pattern_of, IsMatch, node_at, byte_at, target_on, edges, pairs_from, start_count, start_state, starts, Holding, holding_at, epsilon_states, half_at}
 use Rattle.nfa_paths.proofs.MemberLemmas.{In-append_left, In-append_right}
 use Rattle.nfa_paths.proofs.PathToLemmas.{EndsWith-last}
 use Rattle.nfa_paths.proofs.AnswerLemmas.{scan_answer-leads}
 use Rattle.nfa_paths.proofs.ScanAnswerLemmas.{edges-onward, starts-from}
 use Rattle.nfa_determinize.specs.Closures.{closure, step, kept, pattern_by_kind, last_pattern}
-use Rattle.nfa_determinize.specs.Configurations.{closure_at, found_after, half_at, scanned, start_here, scan_half, starts_after}
-use Rattle.nfa_determinize.specs.Idles.{IsIdle, StartsFrom}
+use Rattle.nfa_determinize.specs.Configurations.{closure_at, found_after, scanned, start_here, scan_half, starts_after, IsIdle, StartsFrom}
 use Rattle.nfa_determinize.proofs.AnswerLemmas.{scan-answered}
-use Rattle.std.proofs.Math.Decide.{ℕ_discrete}
 use Rattle.nfa_determinize.proofs.ExploreLemmas.{Explores, closure-explored, seen-itself, seen-still}
 use Rattle.nfa_determinize.proofs.ExploreLemmas.Explores.{over, passes, keeps, opens}
 use Rattle.nfa_determinize.proofs.PositionLemmas.{closed-rests}

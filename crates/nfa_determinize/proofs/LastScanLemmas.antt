@@ -1,17 +1,17 @@
 -- The scans for the last path and for the paths with the least end, position by position.
-use Rattle.nfa_paths.proofs.Common.{◌≡◌, ◌⊎◌, ℕ, ◌+◌, ◌≤◌, inl, inr, Bool, true, false, List, [], ◌∷◌, ◌++◌, map, refl, ap, sym, ◌∙◌, arith, Option, None, Some, is_some, option_map, option_and_then, option_or, map-append, HalfFound, Search, MatchKind, Automaton, Pair, IsFirstPath, WantedAt, Hit, Passes, IsFoundBy, NoneBefore, LastBefore, NoMatch, last_match, is_resting, is_match, IsScanAnswer, path_half, LeftmostFirst}
 use Rattle.regex_search_core.specs.declared.search.MatchKind.TheVariants.{All}
 use Rattle.nfa_paths.proofs.FrontierMatchLemmas.{FirstMatch, last_match-is}
 use Rattle.nfa_paths.proofs.KindsLemmas.{IsFrontier-first_match}
 use Rattle.nfa_paths.proofs.ScanAnswerLemmas.{starts-from}
 use Rattle.nfa_paths.proofs.ScanLemmas.{NoneBefore-start, NoneBefore-step, IsEarliestPath-found, IsEarliestLastPath-found, LastBefore-start, LastBefore-step}
 use Rattle.nfa_determinize.specs.Closures.{state_pattern, last_pattern, before_first_match}
-use Rattle.nfa_determinize.specs.Configurations.{Configuration, half_at, begin, closure_at, advance, scanned}
+use Rattle.nfa_determinize.specs.Configurations.{Configuration, begin, closure_at, advance, scanned}
 use Rattle.nfa_determinize.proofs.FollowLemmas.{place, bare}
 use Rattle.nfa_determinize.proofs.NextLemmas.{place-among}
 use Rattle.nfa_determinize.proofs.MatchLemmas.{half_of, FirstIn, NoneIn, NoneMatches, first-is, half-last, half-found}
 use Rattle.nfa_determinize.proofs.PositionLemmas.{scanned-each, AllScan, shape, turns_here, front, AllScan-next, Finding-begin}
-use Rattle.nfa_paths.proofs.OptionLemmas.{option_or-None}
+use Rattle.nfa_paths.proofs.MemberLemmas.{option_or-None}
+use Rattle.nfa_paths.proofs.Common.{◌≡◌, ◌⊎◌, ℕ, ◌+◌, ◌≤◌, inl, inr, Bool, true, false, List, [], ◌∷◌, ◌++◌, map, refl, ap, sym, ◌∙◌, arith, Option, None, Some, is_some, option_map, option_and_then, option_or, map-append, HalfFound, Search, MatchKind, Automaton, Pair, IsFirstPath, WantedAt, Hit, Passes, IsFoundBy, NoneBefore, LastBefore, NoMatch, last_match, is_resting, is_match, IsScanAnswer, path_half, LeftmostFirst, ◌-◌, half_at}
 
 -- what was found first stays
 pub stays : (o h : Option HalfFound) → is_some o ≡ true → option_or o h ≡ o

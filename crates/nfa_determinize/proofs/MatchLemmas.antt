@@ -1,7 +1,6 @@
 -- The matches among the states at a position, and what was found of them.
-use Rattle.nfa_paths.proofs.Common.{arith, ◌≡◌, ℕ, ◌⊎◌, inl, inr, true, false, List, [], ◌∷◌, ◌++◌, map, refl, ap, Option, None, Some, cond, is_some, option_map, option_and_then, option_or, HalfFound, Automaton, Pair, In, Hit, found_along, last_match, is_match, path_half}
+use Rattle.nfa_paths.proofs.Common.{arith, ◌≡◌, ℕ, ◌⊎◌, inl, inr, true, false, List, [], ◌∷◌, ◌++◌, map, refl, ap, Option, None, Some, cond, is_some, option_map, option_and_then, option_or, HalfFound, Automaton, Pair, In, Hit, found_along, last_match, is_match, path_half, half_at}
 use Rattle.nfa_determinize.specs.Closures.{state_pattern, first_pattern, last_pattern, before_first_match}
-use Rattle.nfa_determinize.specs.Configurations.{half_at}
 use Rattle.nfa_determinize.proofs.FollowLemmas.{place}
 
 module _ (nfa : Automaton) where

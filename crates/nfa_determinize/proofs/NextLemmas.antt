@@ -6,7 +6,7 @@ use Rattle.nfa_paths.proofs.ScanAnswerLemmas.{edges-onward, edges-rise}
 use Rattle.nfa_determinize.specs.Closures.{step}
 use Rattle.nfa_determinize.proofs.FollowLemmas.{pairs, place, bare, Finding, pairs-append, work-append, rests-edges}
 use Rattle.nfa_scan_core.specs.Marks.{SeenAt}
-use Rattle.nfa_scan_core.proofs.SeenLemmas.{SeenAt-none}
+use Rattle.nfa_scan_core.proofs.TargetLemmas.{SeenAt-none}
 
 module _ (nfa : Automaton) (x : Search) (at : ℕ) where
   -- more work before it does not matter

@@ -2,16 +2,15 @@
 use Rattle.nfa_paths.proofs.Common.{◌≡◌, ℕ, zero, suc, ◌+◌, ◌-◌, ◌<◌, ◌≤◌, inl, inr, Bool, true, false, List, [], ◌∷◌, ◌++◌, length, replicate, map, refl, ap, sym, subst, arith, append-nil, Option, None, option_map_or, le-ltb, length-replicate, Search, MatchKind, Automaton, Pair, In, NoRepeats, Slots, Hit, rests, is_resting, Scanned, IsFrontier, Scanning, EndsBefore, node_at, is_match, byte_at, pairs_from, start_state, starts, Explore, holding_at}
 use Rattle.nfa_paths.proofs.PathToLemmas.{is_false}
 use Rattle.nfa_paths.proofs.ScanAnswerLemmas.{Scanned-matches, EndsBefore-span}
-use Rattle.nfa_paths.proofs.ScanningLemmas.{Scanning-front}
-use Rattle.nfa_paths.proofs.SearchingLemmas.{Searching-start}
+use Rattle.nfa_paths.proofs.SearchingLemmas.{Scanning-front, Searching-start}
 use Rattle.nfa_paths.proofs.StartLemmas.{pairs_from-ahead, starts-none}
-use Rattle.nfa_determinize.specs.Closures.{EachOnce, step, kept}
+use Rattle.nfa_determinize.specs.Closures.{step, kept}
 use Rattle.nfa_determinize.specs.Configurations.{Configuration, advance, begin, start_here, closure_at, starts_after, position_count, scanned}
 use Rattle.nfa_determinize.proofs.ExploreLemmas.{closure-explored, closure-once, closure-rests}
 use Rattle.nfa_determinize.proofs.FollowLemmas.{pairs, place, bare, Finding, pairs-append, Followed, follow}
 use Rattle.nfa_determinize.proofs.NextLemmas.{place-among, Explore-among, Finding-next}
 use Rattle.nfa_scan_core.specs.Marks.{SeenAt}
-use Rattle.nfa_scan_core.proofs.SeenLemmas.{SeenAt-none}
+use Rattle.nfa_scan_core.proofs.TargetLemmas.{SeenAt-none}
 
 -- the list has as many pairs
 pub length-pairs_from : (state at count : ℕ) → length (pairs_from state at count) ≡ count
@@ -111,7 +110,7 @@ module _ (nfa : Automaton) (x : Search) where
       }
 
   -- no pair is put aside twice
-  once-placed : (at : ℕ) (states : List ℕ) → EachOnce states
+  once-placed : (at : ℕ) (states : List ℕ) → NoRepeats states
       → NoRepeats (map (λ (a : Pair × Slots). a.0) (map (place at) states))
   once-placed at [] once = tt
   once-placed at (s ∷ states) once = (λ i. once.0 (among states i), once-placed at states once.1)

@@ -1,8 +1,7 @@
 -- The loop over positions, and the loop over starts, of a half match by steps.
 use Rattle.nfa_paths.proofs.Common.{◌≡◌, ℕ, ◌+◌, ◌-◌, ◌<◌, ◌≤◌, inl, inr, Bool, true, false, List, length, ap, sym, ◌∙◌, subst, arith, Option, None, Some, is_some, cases_lt, IsBoundary, HalfFound, Search, is_anchored, MatchKind, Automaton, IsHalfAnswer, is_utf8_empty, raised, start_count, start_state, starts}
 use Rattle.nfa_paths.proofs.StartLemmas.{raised-zero}
-use Rattle.nfa_determinize.specs.Configurations.{Configuration, advance, closure_at, next_configuration, scanned, scan_half}
-use Rattle.nfa_determinize.specs.Searches.{StepsFindTheHalf, FindsSplit, IsRestartedHalf, IsWholeHalf}
+use Rattle.nfa_determinize.specs.Configurations.{Configuration, advance, closure_at, next_configuration, scanned, scan_half, StepsFindTheHalf, FindsSplit, IsRestartedHalf, IsWholeHalf}
 use Rattle.nfa_determinize.proofs.PositionLemmas.{length-pairs_from}
 use Rattle.nfa_determinize.proofs.SettledLemmas.{scanned-next}
 

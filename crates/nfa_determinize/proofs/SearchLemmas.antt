@@ -3,8 +3,7 @@ use Rattle.nfa_paths.proofs.Common.{◌≡◌, ◌↔◌, ℕ, inl, inr, Bool, t
 use Rattle.nfa_paths.proofs.PathToLemmas.{EndsWith-last}
 use Rattle.nfa_paths.proofs.AnswerLemmas.{ends_on_boundary, scan_answer-leads}
 use Rattle.nfa_paths.proofs.ExistenceLemmas.{search_answer-exists}
-use Rattle.nfa_determinize.specs.Searches.{StepsFindTheHalf, IsWholeHalf, FindsSplit, IsKeptHalf, IsRestartedHalf, IsStepsHalf}
-use Rattle.nfa_determinize.specs.Configurations.{scan_half}
+use Rattle.nfa_determinize.specs.Configurations.{StepsFindTheHalf, IsWholeHalf, FindsSplit, IsKeptHalf, IsRestartedHalf, IsStepsHalf, scan_half}
 use Rattle.nfa_determinize.proofs.AnswerLemmas.{steps_find}
 
 module _ (nfa : Automaton) (kind : MatchKind) (earliest : Bool) where

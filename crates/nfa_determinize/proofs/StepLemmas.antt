@@ -1,5 +1,5 @@
 -- Steps and matches of a list, a state at a time.
-use Rattle.nfa_paths.proofs.Common.{arith, ◌≡◌, ℕ, ◌+◌, ◌<◌, List, [], ◌∷◌, ◌++◌, length, get_or, take, drop, refl, ap, sym, ◌∙◌, append-nil, append_assoc, Option, None, Some, is_some, true, false, option_and_then, option_map, option_to_list, option_or, drop_more, take_more, number_of, PatternID, Automaton, Node, LeadsBelow, node_at, target_on}
+use Rattle.nfa_paths.proofs.Common.{arith, ◌≡◌, ℕ, ◌+◌, ◌<◌, List, [], ◌∷◌, ◌++◌, length, get_or, take, drop, refl, ap, sym, ◌∙◌, append-nil, append_assoc, Option, None, Some, is_some, true, false, option_and_then, option_map, option_to_list, option_or, drop_more, take_more, number_of, PatternID, Automaton, Node, LeadsBelow, node_at, target_on, ◌-◌}
 use Rattle.nfa_paths.proofs.StartLemmas.{node_at-get}
 use Rattle.nfa_scan_core.proofs.TargetLemmas.{target-below}
 use Rattle.nfa_determinize.specs.Closures.{state_pattern, first_pattern, last_pattern, before_first_match, step}

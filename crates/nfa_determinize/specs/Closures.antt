@@ -1,15 +1,9 @@
 -- The NFA states that a search is in at a position, in order of priority: what one state of a DFA stands for.
-use Rattle.std.specs.Prelude.{◌≡◌, ℕ, ◌<◌, ◌≤◌, zero, suc, Bool, true, false, List, [], ◌∷◌, ◌++◌, ◌==◌, length, replicate, is_some, if◌then◌else◌, ⊤, Option, None, option_and_then, option_to_list, slice_index_or, slice_set}
-use Rattle.std.specs.Option.{option_or}
-use Rattle.nfa_paths.specs.Common.{MatchKind, Automaton, In, rests, node_at, pattern_of, target_on, LeftmostFirst}
+use Rattle.std.specs.Prelude.{◌≡◌, ℕ, ◌<◌, ◌≤◌, zero, suc, Bool, true, false, List, [], ◌∷◌, ◌++◌, length, replicate, is_some, if◌then◌else◌, Option, None, option_and_then, slice_index_or, slice_set, ◌==◌}
 use Rattle.regex_search_core.specs.declared.search.MatchKind.TheVariants.{All}
 use Rattle.thompson_nfa.specs.declared.look.Look as looks
 pub use Rattle.nfa_paths.specs.Common.{Holding, holding_at, epsilon_states}
-
--- no state is in the list twice
-abbrev pub EachOnce : List ℕ → Type 0
-EachOnce [] = ⊤
-EachOnce (s ∷ states) = (In s states → ⊥) × EachOnce states
+use Rattle.nfa_paths.specs.Common.{option_to_list, option_or, MatchKind, Automaton, In, rests, node_at, pattern_of, target_on, LeftmostFirst, NoRepeats}
 
 -- the list without a state
 abbrev pub without : ℕ → List ℕ → List ℕ
@@ -80,11 +74,11 @@ RepeatAddsNothing =
 
 -- `first_of_each` has each state once
 abbrev pub FirstOfEachHasEachOnce : Type 0
-FirstOfEachHasEachOnce = (states : List ℕ) → EachOnce (first_of_each states)
+FirstOfEachHasEachOnce = (states : List ℕ) → NoRepeats (first_of_each states)
 
 -- a closure has each state once
 abbrev pub ClosureHasEachOnce : Type 0
-ClosureHasEachOnce = (nfa : Automaton) (holding : Holding) (states : List ℕ) → EachOnce (closure nfa holding states)
+ClosureHasEachOnce = (nfa : Automaton) (holding : Holding) (states : List ℕ) → NoRepeats (closure nfa holding states)
 
 -- so it has no more states than the NFA
 abbrev pub ClosureIsShort : Type 0

@@ -1,8 +1,8 @@
--- A scan as steps over lists of states, position by position.
-use Rattle.std.specs.Prelude.{◌≡◌, ℕ, zero, suc, ◌+◌, ◌-◌, ◌⊎◌, Bool, true, List, [], ◌++◌, length, Option, None, Some, is_some, option_and_then, option_map, option_to_list, if◌then◌else◌}
-use Rattle.std.specs.Option.{option_or}
-use Rattle.nfa_paths.specs.Common.{HalfFound, Search, MatchKind, Automaton, Pair, IsScanAnswer, byte_at, path_half, start_state, starts, LeftmostFirst, holding_at}
+-- A scan, and a search, as steps over lists of states, position by position; and positions at which no path that began
+-- before is left.
+use Rattle.std.specs.Prelude.{◌≡◌, ℕ, zero, suc, ◌+◌, ◌-◌, ◌⊎◌, Bool, true, List, [], ◌++◌, length, Option, None, Some, is_some, option_and_then, option_map, if◌then◌else◌, ◌≤◌, ◌<◌, ◌↔◌, IfSome, MatchBool}
 use Rattle.regex_search_core.specs.declared.search.MatchKind.TheVariants.{All}
+use Rattle.nfa_paths.specs.Common.{option_to_list, option_or, HalfFound, Search, MatchKind, Automaton, Pair, IsScanAnswer, byte_at, path_half, start_state, starts, LeftmostFirst, holding_at, PathTo, IsMatch, edges, Holding, IsBoundary, is_anchored, IsHalfAnswer, is_utf8_empty, raised, half_at}
 use Rattle.nfa_determinize.specs.Closures.{closure, first_of_each, step, pattern_by_kind, kept}
 
 -- What a scan knows at a position: the states that the bytes so far led to, before their closure; at how many positions
@@ -20,10 +20,6 @@ pub record IsDead (c : Configuration) : Type 0 where
 -- no later position changes what was found: the configuration is dead, or the scan is `earliest` and found a match
 abbrev pub IsSettled : Bool → Configuration → Type 0
 IsSettled earliest c = IsDead c ⊎ ((earliest ≡ true) × (is_some c.found ≡ true))
-
--- a match of the pattern that ends at the position
-abbrev pub half_at : ℕ → ℕ → HalfFound
-half_at at pattern = record { pattern = pattern; offset = at }
 
 -- at how many later positions a match may start: at none after a match, if it is leftmost first
 abbrev pub starts_after : MatchKind → Option ℕ → ℕ → ℕ
@@ -100,3 +96,55 @@ abbrev pub AdvancesWithEachOnce : Type 0
 AdvancesWithEachOnce =
     (nfa : Automaton) (x : Search) (kind : MatchKind) (earliest : Bool) (at : ℕ) (c : Configuration)
     → advance nfa x kind earliest at (record c { states = first_of_each c.states }) ≡ advance nfa x kind earliest at c
+
+-- no accepting path of the search starts before the position
+pub record StartsFrom (nfa : Automaton) (x : Search) (s : ℕ) : Type 0 where
+  pub from : (m : Pair) (p : List Pair) (w : PathTo (edges nfa x) (starts nfa x) m p) → IsMatch nfa m → s ≤ w.start.1
+
+-- nothing was found, and the states lead to no byte state, Fail or Match: no path that began before goes on
+pub record IsIdle (nfa : Automaton) (holding : Holding) (c : Configuration) : Type 0 where
+  pub nothing : c.found ≡ None
+  pub closed : closure nfa holding c.states ≡ []
+
+-- No accepting path starts before a position at which the configuration is idle.
+abbrev pub IdlePassesStarts : Type 0
+IdlePassesStarts =
+    (nfa : Automaton) (x : Search) (kind : MatchKind) (earliest : Bool) (n : ℕ)
+    → IsIdle nfa (holding_at x.haystack (x.start + n)) (scanned nfa x kind earliest n)
+    → StartsFrom nfa x (x.start + n)
+
+-- there is no match, or it ends on a boundary
+abbrev pub IsWholeHalf : Search → Option HalfFound → Type 0
+IsWholeHalf x found = IfSome found (λ half. IsBoundary x.haystack half.offset)
+
+module _ (nfa : Automaton) (kind : MatchKind) (earliest : Bool) where
+  -- the steps find a match that ends inside a codepoint
+  pub record FindsSplit (x : Search) : Type 0 where
+    pub half : HalfFound
+    pub is : scan_half nfa x kind earliest ≡ Some half
+    pub splits : ¬ IsBoundary x.haystack half.offset
+
+  -- an anchored search: such a match does not count
+  abbrev pub IsKeptHalf : Search → Option HalfFound → Type 0
+  IsKeptHalf x None = (scan_half nfa x kind earliest ≡ None) ⊎ FindsSplit x
+  IsKeptHalf x (Some half) = (scan_half nfa x kind earliest ≡ Some half) × IsBoundary x.haystack half.offset
+
+  -- any other starts one byte further on until there is no match, or one that ends on a boundary
+  pub record IsRestartedHalf (x : Search) (found : Option HalfFound) : Type 0 where
+    pub restarts : ℕ
+    pub skipped : (i : ℕ) → i < restarts → FindsSplit (raised x i)
+    pub is : scan_half nfa (raised x restarts) kind earliest ≡ found
+    pub whole : IsWholeHalf x found
+
+  -- what a search by steps finds
+  abbrev pub IsStepsHalf : Search → Option HalfFound → Type 0
+  IsStepsHalf x found =
+      MatchBool (is_utf8_empty nfa)
+      (MatchBool (is_anchored x.anchored) (IsKeptHalf x found) (IsRestartedHalf x found))
+      (scan_half nfa x kind earliest ≡ found)
+
+-- the half match of a search is what the steps find, and no other
+abbrev pub StepsFindTheHalf : Type 0
+StepsFindTheHalf =
+    (nfa : Automaton) (x : Search) (kind : MatchKind) (earliest : Bool) (found : Option HalfFound)
+    → IsHalfAnswer nfa kind earliest x found ↔ IsStepsHalf nfa kind earliest x found

@@ -1,7 +1,5 @@
 pub mod Closures
 pub mod Configurations
-pub mod Searches
-pub mod Idles
 pub use Rattle.nfa_paths.specs.Graphs
 pub use Rattle.nfa_paths.specs.Paths
 pub use Rattle.regex_search_core.specs.Found

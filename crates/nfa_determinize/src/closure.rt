@@ -1,11 +1,10 @@
 //! The closure of a list of states, and the step over a byte.
 ghost use Rattle.std.specs.Prelude.{◌≡◌, ◌<◌, ◌≤◌, ◌++◌, All, IfOk, OnOk, length, option_map, reverse, take};
-ghost use Rattle.regex_search_core.specs.Patterns.{number_of};
+ghost use Rattle.regex_search_core.specs.PatternSets.{number_of};
 ghost use Rattle.thompson_nfa.specs.Automaton.{node_of};
 ghost use Rattle.nfa_paths.specs.Paths.{pattern_of, rests};
 ghost use Rattle.nfa_determinize.specs.Closures.{before_first_match, closure, epsilon_states, first_pattern};
-ghost use Rattle.nfa_determinize.specs.Closures.{holding_at, kept};
-ghost use Rattle.nfa_determinize.specs.Closures.{last_pattern, pattern_by_kind, step};
+ghost use Rattle.nfa_determinize.specs.Closures.{holding_at, kept, last_pattern, pattern_by_kind, step};
 
 use nfa_scan_core::marks::{none_seen, see};
 use nfa_scan_core::transitions::target;

@@ -1,10 +1,8 @@
 //! Laws of the steps. Each function is empty: its contract is the theorem.
 ghost use Rattle.nfa_determinize.specs.Closures.{ClosureHasEachOnce, ClosureIsShort, ClosureReadsAssertions};
 ghost use Rattle.nfa_determinize.specs.Closures.{ClosureRests, FirstOfEachHasEachOnce, RepeatAddsNothing};
-ghost use Rattle.nfa_determinize.specs.Configurations.{AdvancesWithEachOnce, DeadStays, FoundStays};
-ghost use Rattle.nfa_determinize.specs.Configurations.{StepsFindTheAnswer};
-ghost use Rattle.nfa_determinize.specs.Idles.{IdlePassesStarts};
-ghost use Rattle.nfa_determinize.specs.Searches.{StepsFindTheHalf};
+ghost use Rattle.nfa_determinize.specs.Configurations.{AdvancesWithEachOnce, DeadStays, FoundStays, StepsFindTheAnswer};
+ghost use Rattle.nfa_determinize.specs.Configurations.{IdlePassesStarts, StepsFindTheHalf};
 
 /// The steps over all positions of the span find the pattern and the end of the scan's answer, of each match kind and
 /// `earliest`.
@@ -32,7 +30,7 @@ pub fn found_stays()
 
 /// The closure of a list does not change if a state that the list has already is dropped further right. So a scan may
 /// keep each state once, where it is first: the next configuration is the same.
-#[tactic(auto, using(crate::proofs::RepeatLemmas::repeats))]
+#[tactic(auto, using(crate::proofs::ClosureLemmas::repeats))]
 pub fn repeats_add_nothing()
     ensures repeat { RepeatAddsNothing }
     ensures once { FirstOfEachHasEachOnce }

@@ -1,15 +1,14 @@
 //! Half matches by steps, position after position: the loop of a DFA, with lists of states instead of a DFA's states.
 ghost use Rattle.std.specs.Prelude.{◌≡◌, ◌<◌, ◌≤◌, ◌++◌, ◌↔◌, All, IfOk, IsTrue, List, Option, length, true};
 ghost use Rattle.std.specs.Prelude.{option_and_then, option_map};
-ghost use Rattle.regex_search_core.specs.Found.{half_found_of};
-ghost use Rattle.regex_search_core.specs.Patterns.{number_of};
+ghost use Rattle.regex_search_core.specs.Found.{half_found_of, half_at};
+ghost use Rattle.regex_search_core.specs.PatternSets.{number_of};
 ghost use Rattle.regex_search_core.specs.Search.{search_of};
 ghost use Rattle.nfa_paths.specs.Graphs.{Pair};
 ghost use Rattle.nfa_paths.specs.Paths.{IsHalfAnswer, IsScanAnswer, path_half, starts};
 ghost use Rattle.nfa_determinize.specs.Closures.{closure, holding_at};
-ghost use Rattle.nfa_determinize.specs.Configurations.{IsSettled, found_after, half_at, scan_half, start_here};
-ghost use Rattle.nfa_determinize.specs.Configurations.{starts_after};
-ghost use Rattle.nfa_determinize.specs.Searches.{IsRestartedHalf, IsWholeHalf};
+ghost use Rattle.nfa_determinize.specs.Configurations.{IsSettled, found_after, scan_half, start_here};
+ghost use Rattle.nfa_determinize.specs.Configurations.{starts_after, IsRestartedHalf, IsWholeHalf};
 
 use crate::closure::{closure, kept, pattern_by_kind, step};
 use crate::laws;

@@ -1,8 +1,7 @@
 -- Assertions that read no more than the byte on each side of a position hold alike if these bytes are the same.
-use Rattle.nfa_paths.proofs.Common.{◌≡◌, ◌∙◌, ℕ, ◌+◌, ◌-◌, ◌≤◌, Bool, true, List, length, length-drop, sym, ap, arith, lt-ltb, Option, None, slice_get, cases_lt, length-take-le, slice_get_past, Search, look_holds, StartLF, EndLF, byte_before}
 use Rattle.thompson_nfa.specs.declared.look.Look as looks
-use Rattle.thompson_nfa.proofs.AsciiWordLemmas.{ascii_look}
-use Rattle.thompson_nfa.proofs.BetweenLemmas.{before-none, holds_between, holds-between}
+use Rattle.thompson_nfa.proofs.BetweenLemmas.{ascii_look, before-none, holds_between, holds-between}
+use Rattle.nfa_paths.proofs.Common.{◌≡◌, ◌∙◌, ℕ, ◌+◌, ◌-◌, ◌≤◌, Bool, true, List, length, length-drop, sym, ap, arith, lt-ltb, Option, None, slice_get, cases_lt, length-take-le, slice_get_past, Search, look_holds, StartLF, EndLF, byte_before}
 use Rattle.nfa_engines.specs.SpanLaws.{cut_out, AreBytesMoved, CutOutLinesHoldAlike, IsLineEdge, IsOfLines, IsOfWholeLines, IsSpanMoved, LinesHoldAlike, LookHoldsAlike, ReadsBytes, SameSidesHoldAlike}
 use Rattle.nfa_engines.proofs.SpanLemmas.{cut-bytes, cut-moved, each-look}
 

@@ -1,15 +1,19 @@
--- What an iteration adds to the totals of a cache, where each search does the work that an engine's contract says.
-use Rattle.nfa_paths.proofs.Common.{◌≡◌, ◌∙◌, ℕ, ◌+◌, ◌*◌, ◌≤◌, ◌⊎◌, Bool, List, length, ap, Option, None, Some, arith, not, ◌&&◌, Found, Search, is_anchored, Anchored, MatchKind, Span, Automaton, IsFindAnswer, IsWithinScans, IsWork, max_scans, span_len, total_degree, is_utf8_empty, IsBounded, max_scan_turns}
-use Rattle.std.proofs.Math.Nat.{mul-le-mul_left}
+-- What an iteration adds to the totals of a cache, where each search does the work that its engine states.
+use Rattle.nfa_paths.proofs.Common.{mul-le-mul_left, ◌≡◌, ◌∙◌, ℕ, ◌+◌, ◌*◌, ◌≤◌, ◌⊎◌, Bool, List, length, ap, Option, None, Some, arith, not, ◌&&◌, Found, Search, is_anchored, Anchored, MatchKind, Span, Automaton, IsFindAnswer, IsWithinScans, IsWork, max_scans, span_len, total_degree, is_utf8_empty, IsBounded, max_scan_turns, false, inl, inr, Ok, Err, LeftmostFirst}
 use Rattle.nfa_paths.proofs.AnswerLemmas.{search_answer-unique}
 use Rattle.nfa_paths.proofs.InsideLemmas.{match-within}
-use Rattle.nfa_search_base.specs.Common.{Row, row_span, AnswersRow, Leaves, LeavesAtEnd, answers_to_end, SameButStart, AnswersMatch, Answer, LiesIn, fresh, answer_span, span_of}
+use Rattle.nfa_search_base.specs.Common.{Row, row_span, AnswersRow, Leaves, LeavesAtEnd, answers_to_end, SameButStart, AnswersMatch, Answer, LiesIn, fresh, answer_span, span_of, DoesSearch, asks_keeping}
 use Rattle.nfa_search_base.proofs.CapturesLemmas.{row-tells}
 use Rattle.nfa_search_base.proofs.IterStateLemmas.{IsOrdered}
-use Rattle.nfa_engines.specs.WorkLaws.{AddsAtMost, Totals, list_scan_limit}
+use Rattle.nfa_engines.specs.IterationLaws.{AddsAtMost, Totals, list_scan_limit, backtracker_totals, pike_totals}
 use Rattle.nfa_engines.proofs.IterationLemmas.{first-ends}
 use Rattle.nfa_engines.proofs.ReachLemmas.{Reaches, few-scans, match-known, match-reaches, one-scan, restarts_in}
-use Rattle.nfa_engines.proofs.WorkLemmas.{Adds, Costs, CostsOf, adds-none, calls-within, few-found, found_count, found_count-to_end, is_of-fresh, led, list-within, turns_in}
+use Rattle.nfa_engines.proofs.WorkLemmas.{Adds, Costs, CostsOf, adds-none, calls-within, few-found, found_count, found_count-to_end, is_of-fresh, led, list-within}
+use Rattle.nfa_search_base.proofs.EngineLemmas.{same-or-made}
+use Rattle.nfa_backtrack.specs.Backtrack.{Backtracker, BacktrackCache}
+use Rattle.nfa_backtrack.specs.Finding.{IsTryCapturesAnswer, IsTryFindAnswer, SearchesOnce, backtracker_scans}
+use Rattle.nfa_pikevm.specs.Engines.{Pike, PikeCache, kind_of}
+use Rattle.nfa_pikevm.specs.Finding.{PikeSearches, PikeAnswersMatch, PikeAnswersRow, pike_scans}
 
 module _ (nfa : Automaton) (kind : MatchKind) (earliest : Bool) where
   -- the match of a search lies there, if there is one
@@ -50,7 +54,7 @@ module _ (nfa : Automaton) (kind : MatchKind) (earliest : Bool) where
   module _ (x y : Search) (like : SameButStart x y) (from : x.start ≤ y.start) (reply_span : Option Span)
       (hit : Hit nfa kind earliest y reply_span) (old new : Totals) where
     abbrev Cost : Type 0
-    Cost = (count : ℕ) × Costs (restarts_in nfa x) y reply_span count × Adds (turns_in nfa x) old new count
+    Cost = (count : ℕ) × Costs (restarts_in nfa x) y reply_span count × Adds (max_scan_turns nfa x) old new count
 
     -- what a search costs
     worked-cost : Worked nfa kind earliest y old new → Cost
@@ -86,7 +90,7 @@ module _ (nfa : Automaton) (kind : MatchKind) (earliest : Bool) where
     known-cost is = (
       0,
       record { starts = omega arith; once = λ never. omega arith; reach = reach reply_span hit },
-      rw is (adds-none (turns_in nfa x) old),
+      rw is (adds-none (max_scan_turns nfa x) old),
     )
       where
         reach : (o : Option Span) → Hit nfa kind earliest y o → Reaches y 0 o
@@ -110,7 +114,7 @@ pub record WorkOf {S X : Type 0} (span : X → Span) (asks : S → Search → An
 
 module _ {S X : Type 0} {span : X → Span} {asks : S → Search → Answer X → S → Type 0} (work : WorkOf span asks)
     (x : Search) where
-  abbrev costs : CostsOf span asks (turns_in work.nfa x) (restarts_in work.nfa x) x
+  abbrev costs : CostsOf span asks (max_scan_turns work.nfa x) (restarts_in work.nfa x) x
   costs = record {
     totals = work.totals;
     Good = work.Good;
@@ -139,3 +143,87 @@ module _ {S X : Type 0} {span : X → Span} {asks : S → Search → Answer X �
       let ends = first-ends x in
       calls-within work.nfa x (found_count left.answers) (work.totals s) (work.totals t) all
       (omega (arith, found, ends))
+
+-- ---- the PikeVM
+
+module _ (vm : Pike) where
+  pub pike-worked : (y : Search) (old new : PikeCache) → PikeSearches vm y old new
+      → Worked vm.nfa (kind_of vm) y.earliest y (pike_totals old) (pike_totals new)
+  pike-worked y old new h = worked (work-within h.work) h.scans h.turns h.total.scans h.total.turns
+
+  -- its searches for matches, unless a match is known, and for captures
+  abbrev pub pike_found : WorkOf span_of (asks_keeping (PikeAnswersMatch vm) (λ y a. PikeSearches vm y) pike_scans)
+  pike_found = record {
+    nfa = vm.nfa;
+    kind = kind_of vm;
+    early = λ y. y.earliest;
+    totals = λ s. pike_totals s.cache;
+    Good = λ s. Unit {0};
+    hits = λ s y a t asked. match-hit vm.nfa (kind_of vm) y.earliest y a asked.tells;
+    works = λ s y a t good asked. (
+      elim (same-or-made asked.work) [
+        | inl same ↦ inr (ap pike_totals same)
+        | inr work ↦ inl (pike-worked y s.cache t.cache work)
+      ],
+      tt,
+    );
+  }
+
+  abbrev pub pike_filled : WorkOf row_span (DoesSearch (PikeAnswersRow vm) (λ y a. PikeSearches vm y))
+  pike_filled = record {
+    nfa = vm.nfa;
+    kind = kind_of vm;
+    early = λ y. y.earliest;
+    totals = pike_totals;
+    Good = λ s. Unit {0};
+    hits = λ s y a t asked. row-hit vm.nfa (kind_of vm) y.earliest y a asked.tells;
+    works = λ s y a t good asked. (inl (pike-worked y s t asked.work), tt);
+  }
+
+-- ---- the backtracker
+
+module _ (e : Backtracker) where
+  pub back-worked : {X : Type 0} (y : Search) (a : Answer X) (old new : BacktrackCache) → SearchesOnce e y a old new
+      → Worked e.nfa LeftmostFirst false y (backtracker_totals old) (backtracker_totals new)
+  back-worked y (Ok found) old new h = worked (work-within h.exact) h.scans h.turns h.total.scans h.total.turns
+  back-worked y (Err error) old new h = worked h.exact h.scans h.turns h.total.scans h.total.turns
+
+  pub find-hit : (y : Search) (a : Answer Found) → IsTryFindAnswer e y a
+      → Hit e.nfa LeftmostFirst false y (answer_span span_of a)
+  find-hit y (Ok found) h = match-hit e.nfa LeftmostFirst false y (Ok found) h.1
+  find-hit y (Err error) h = tt
+
+  pub captures-hit : (y : Search) (a : Answer Row) → IsTryCapturesAnswer e y a
+      → Hit e.nfa LeftmostFirst false y (answer_span row_span a)
+  captures-hit y (Ok row) h = row-hit e.nfa LeftmostFirst false y (Ok row) h.1
+  captures-hit y (Err error) h = tt
+
+  -- its searches for matches, unless a match is known, and for captures
+  abbrev pub back_found
+      : WorkOf span_of (asks_keeping (IsTryFindAnswer e) (λ y a. SearchesOnce e y a) backtracker_scans)
+  back_found = record {
+    nfa = e.nfa;
+    kind = LeftmostFirst;
+    early = λ y. false;
+    totals = λ s. backtracker_totals s.cache;
+    Good = λ s. Unit {0};
+    hits = λ s y a t asked. find-hit y a asked.tells;
+    works = λ s y a t good asked. (
+      elim (same-or-made asked.work) [
+        | inl same ↦ inr (ap backtracker_totals same)
+        | inr work ↦ inl (back-worked y a s.cache t.cache work)
+      ],
+      tt,
+    );
+  }
+
+  abbrev pub back_filled : WorkOf row_span (DoesSearch (IsTryCapturesAnswer e) (λ y a. SearchesOnce e y a))
+  back_filled = record {
+    nfa = e.nfa;
+    kind = LeftmostFirst;
+    early = λ y. false;
+    totals = backtracker_totals;
+    Good = λ s. Unit {0};
+    hits = λ s y a t asked. captures-hit y a asked.tells;
+    works = λ s y a t good asked. (inl (back-worked y a s t asked.work), tt);
+  }

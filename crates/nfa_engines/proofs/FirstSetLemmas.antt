@@ -1,11 +1,11 @@
 -- What a leftmost first search makes of a set is one, and with room for each pattern all permitted paths count.
 use Rattle.nfa_paths.proofs.Common.{◌≡◌, ℕ, ◌∙◌, ◌↔◌, ◌≤◌, inl, inr, Bool, true, false, List, length, sym, ap, arith, Option, None, Some, slice_index_or, cases_lt, ext_get_or, size_of_set, Search, Automaton, IsAutomaton, Pair, HoldsPattern, HoldsSelected, HoldsPath, IsFirstBefore, IsEarliestInsertable, IsInsertable, IsSelectedPath, IsOverlapResult, IsEarliestPath, IsFirstPath, IsPermitted, edges, starts, LeftmostFirst}
-use Rattle.nfa_paths.proofs.AlongLemmas.{earliest-along, first-along}
+use Rattle.nfa_paths.proofs.SameScanLemmas.{earliest-along, first-along}
 use Rattle.nfa_paths.proofs.PathToLemmas.{IsEarliestPath-unique}
 use Rattle.nfa_paths.proofs.PatternLemmas.{node-pattern, some-pattern, ends-pattern}
 use Rattle.nfa_paths.proofs.SetLemmas.{size-none}
-use Rattle.nfa_engines.specs.SetLaws.{EmptySetGains, IsOfAllPaths, IsPatternOfEarliest, OneSet}
-use Rattle.nfa_paths.proofs.TestLemmas.{same_test}
+use Rattle.nfa_engines.specs.IterationLaws.{EmptySetGains, IsOfAllPaths, IsPatternOfEarliest, OneSet}
+use Rattle.nfa_paths.proofs.MemberLemmas.{same_test}
 
 -- an empty set gains the patterns of the first paths before some limit
 pub set-firsts : EmptySetGains false IsFirstBefore

@@ -1,10 +1,11 @@
--- The paths of an unanchored search are those of the anchored searches at each start.
-use Rattle.nfa_paths.proofs.Common.{Bool, true, false, ◌==◌, ◌||◌, None, Some, ◌≡◌, ℕ, zero, suc, ◌+◌, ◌-◌, ◌≤◌, ◌<◌, ◌⊎◌, inl, inr, List, [], ◌∷◌, refl, sym, ◌∙◌, subst, arith, option_map_or, cases_Bool, nat_tests, is_anchored, start_count, start_state, Search, Anchored, Automaton, Pair, In, EndsWith, HeadIs, Linked, ComesBefore, PathTo, edges, pairs_from, starts}
-use Rattle.nfa_paths.proofs.OptionLemmas.{same_some}
+-- The paths of an unanchored search are those of the anchored searches at each start, and begin with the byte there.
+use Rattle.nfa_paths.proofs.Common.{Bool, true, false, ◌==◌, ◌||◌, None, Some, ◌≡◌, ℕ, zero, suc, ◌+◌, ◌-◌, ◌≤◌, ◌<◌, ◌⊎◌, inl, inr, List, [], ◌∷◌, refl, sym, ◌∙◌, subst, arith, option_map_or, cases_Bool, nat_tests, is_anchored, start_count, start_state, Search, Anchored, Automaton, Pair, In, EndsWith, HeadIs, Linked, ComesBefore, PathTo, edges, pairs_from, starts, cases_lt}
+use Rattle.nfa_paths.proofs.MemberLemmas.{same_some}
 use Rattle.nfa_paths.proofs.PathToLemmas.{EndsWith-last}
 use Rattle.nfa_paths.proofs.ScanAnswerLemmas.{edges-onward, edges-within, starts-within}
 use Rattle.nfa_paths.proofs.StartLemmas.{edges-alike, pairs_from-has}
-use Rattle.nfa_engines.specs.StartLaws.{anchored_at, from_start, IsUnbound}
+use Rattle.nfa_engines.specs.StartLaws.{anchored_at, from_start, IsUnbound, IsFirstStart, NothingAtByte, StartIsFirst}
+use Rattle.nfa_engines.specs.Laws.{MatchesNothing}
 
 -- the search from another start, anchored or not
 abbrev pub begun : Search → ℕ → Anchored → Search
@@ -123,3 +124,26 @@ module _ (nfa : Automaton) (x : Search) where
 
     pub unanchored-start : (s : ℕ) (v : Pair) → StartsFrom s v → In v (starts nfa (from_start x s))
     unanchored-start s v h = grind (arith, of-start nfa (from_start x s) v)
+
+pub nothing-at-byte : NothingAtByte
+nothing-at-byte nfa x i byte none read = record {
+  no_path = λ m p w t.
+      none.no_path (anchored_at x i) i read m p (with-starts w (inl (start-anchored nfa x i w.start w.among).is)) t;
+}
+
+pub start-first : StartIsFirst
+start-first nfa x = grind arith
+
+-- if nothing matches at a start before which nothing does, the next position is one, too
+pub next-first : (nfa : Automaton) (x : Search) (s : ℕ) → IsFirstStart nfa x s → MatchesNothing nfa (anchored_at x s)
+    → IsFirstStart nfa x (s + 1)
+next-first nfa x s first none =
+    let low : x.start ≤ s = first.from in
+    record {
+      from = omega arith;
+      nothing = λ i from less.
+          elim (cases_lt i s) [
+            | inl before ↦ first.nothing i from before
+            | inr past ↦ let here : i ≡ s = omega arith in rw here none
+          ];
+    }

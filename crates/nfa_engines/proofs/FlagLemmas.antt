@@ -1,12 +1,10 @@
 -- A statement with an `earliest` of its own is the same for searches with other flags.
 use Rattle.nfa_paths.proofs.Common.{arith, ◌≡◌, Bool, false, Option, None, Some, Ok, Err, List, [], ◌∷◌, map, subst, Found, Search, MatchKind, Span, Automaton, IsAnswer, IsFindAnswer, LeftmostFirst}
-use Rattle.nfa_paths.proofs.EarliestLemmas.{asked, same-asked}
 use Rattle.nfa_paths.proofs.SameScanLemmas.{answer-same, found-same, match-same}
-use Rattle.nfa_paths.proofs.KnownLemmas.{match-unique}
+use Rattle.nfa_paths.proofs.EarliestLemmas.{asked, same-asked, match-unique}
 use Rattle.nfa_search_base.specs.Common.{Row, row_span, AreRows, AnswersRow, Item, AreMatches, Fails, IsStep, ItemsLast, AnswersMatch, Answer, IterState, after, fresh, answer_span, repeats, shifted, span_of}
 use Rattle.nfa_engines.specs.Laws.{AnswersUnderAnyFlag, FoundUnderAnyFlag, MatchUnderAnyFlag, ReadsNoFlag, Tells}
-use Rattle.nfa_engines.proofs.LawLemmas.{same-slots}
-use Rattle.nfa_engines.proofs.OneLemmas.{found-pattern}
+use Rattle.nfa_engines.proofs.MatchLemmas.{same-slots, found-pattern}
 
 -- what holds of a search under each flag, if it holds of the search, reads no flag
 pub reads-no-flag : {A : Type 0} (Is : Tells A)

@@ -3,8 +3,8 @@ use Rattle.nfa_paths.proofs.Common.{◌≡◌, ◌∙◌, ℕ, ◌≤◌, ◌⊎
 use Rattle.nfa_paths.proofs.OneScanLemmas.{first-scan, has-path, last-scan}
 use Rattle.nfa_paths.proofs.ScanAnswerLemmas.{edges-rise, starts-from, starts-within}
 use Rattle.nfa_paths.proofs.StartLemmas.{resting-edges}
-use Rattle.nfa_engines.specs.FoundSpanLaws.{cut_to, AnswersHaveASpan, EndMayBeCut, IsLeastStart, MayCut, SearchMayBeCut, SpanMayBeCut, StartIsLeast, StartIsLeastOfAll}
-use Rattle.nfa_engines.specs.FoundSpanLaws.MayCut.{same}
+use Rattle.nfa_engines.specs.SpanLaws.{cut_to, AnswersHaveASpan, EndMayBeCut, IsLeastStart, MayCut, SearchMayBeCut, SpanMayBeCut, StartIsLeast, StartIsLeastOfAll}
+use Rattle.nfa_engines.specs.SpanLaws.MayCut.{same}
 use Rattle.nfa_engines.proofs.FirstStartLemmas.{ends-one, heads-one, heads-order, is_tied, of-start, path-order, start-of, with-edges, StartOf}
 
 -- the start

@@ -1,12 +1,15 @@
--- The answer of a search that tries patterns in order is that of the first pattern that has one.
-use Rattle.nfa_paths.proofs.Common.{◌≡◌, ℕ, ◌<◌, ◌⊎◌, inl, inr, false, List, [], ◌∷◌, length, ap, subst, arith, slice_get, Option, Some, cases_eq, Search, Automaton, Pair, Earlier, HeadIs, ComesBefore, PathTo, IsFirstTo, edges, is_utf8_empty, node_at, path_pattern, slot_among, slot_row, starts, IsAnswer, IsMatch, LeftmostFirst}
-use Rattle.nfa_engines.specs.Accepting.{MatchesNothing}
-use Rattle.nfa_engines.specs.PatternLaws.{started_at, AnswersAreOfPatterns, FirstPatternAnswers, IsFirstPattern, IsOfPattern, NothingOfEachPattern}
-use Rattle.nfa_paths.proofs.OneScanLemmas.{has-path, scan-of, search-of}
+-- The answer of a search that tries patterns in order is that of the first pattern that has one; of one pattern, its
+-- own.
+use Rattle.nfa_paths.proofs.Common.{◌≡◌, ℕ, ◌<◌, ◌⊎◌, inl, inr, false, List, [], ◌∷◌, length, ap, subst, arith, slice_get, Option, Some, cases_eq, Search, Automaton, Pair, Earlier, HeadIs, ComesBefore, PathTo, IsFirstTo, edges, is_utf8_empty, node_at, path_pattern, slot_among, slot_row, starts, IsAnswer, IsMatch, LeftmostFirst, ◌∙◌, refl, sym, None, option_map, option_and_then, cases_lt, Found, slot_count, match_of, IsAutomaton, IsScanAnswer, Yes, nat_lt, if◌then◌else◌, option_map_or, number_of, pairs_from, PatternID, Pattern}
+use Rattle.nfa_engines.specs.Laws.{MatchesNothing, PathsWriteTheirEnds}
+use Rattle.nfa_engines.specs.StartLaws.{started_at, AnswersAreOfPatterns, FirstPatternAnswers, IsFirstPattern, IsOfPattern, NothingOfEachPattern, AnswerIsOfFirst, FirstPatternMatches, IsFirstThatMatches, IsMatchOfPattern, MatchIsOfFirst, MatchesAreOfPatterns, StartsMatchTheirPatterns, TriesPatternsInOrder}
+use Rattle.nfa_paths.proofs.OneScanLemmas.{has-path, scan-of, search-of, gives, given, match-by}
 use Rattle.nfa_engines.proofs.FirstStartLemmas.{heads-one}
 use Rattle.nfa_engines.proofs.FirstPatternLemmas.{comes, earlier, goes, head-of, not-earlier, order-apart, order-back, order-same, top, top-edges, top-writes, GoesOn, IsTried}
-use Rattle.nfa_paths.proofs.OptionLemmas.{option_or-None}
+use Rattle.nfa_paths.proofs.MemberLemmas.{option_or-None, same_some}
 use Rattle.nfa_paths.proofs.PathLemmas.{Earlier-irreflexive}
+use Rattle.nfa_engines.proofs.MatchLemmas.{path-match, matches-something, no_pattern-nothing, not-both, pattern-matched}
+use Rattle.nfa_paths.proofs.SameScanLemmas.{ExploresSame}
 
 -- Only the anchored start differs between the NFA and the NFA of one pattern, so both have the same edges and matches.
 module _ {nfa : Automaton} {x : Search} (u : IsTried nfa x) where
@@ -163,3 +166,92 @@ pattern-nothing nfa x bound (inl one) = (
 )
 pattern-nothing nfa x bound (inr union) =
     let u : IsTried nfa x = record { bound = bound; union = union } in (nothing-each u, nothing-all u)
+
+-- the match of the first pattern is that of all, and the other way round
+
+pub pattern-match : FirstPatternMatches LeftmostFirst false
+pattern-match nfa x k state m anywhere bound tries first =
+    match-by refl (λ pattern slots. pattern-answers nfa x k state pattern slots anywhere bound tries first)
+
+pub match-pattern : MatchesAreOfPatterns LeftmostFirst false
+match-pattern nfa x m anywhere bound tries h =
+    let g = gives nfa LeftmostFirst false x (Some m) h in
+    of g.pattern g.slots g.answers g.count g.is
+  where
+    of : (pattern : Option ℕ) (slots : List (Option ℕ)) → IsAnswer nfa LeftmostFirst false x pattern slots
+        → length slots ≡ slot_count nfa.groups → Some m ≡ match_of pattern slots
+        → IsMatchOfPattern nfa LeftmostFirst false x m
+    of None slots a count is = cc
+    of (Some pattern) slots a count is =
+        grind (arith, answers-pattern nfa x pattern slots anywhere bound tries a, given, is)
+
+-- the pattern of the answer
+module _ (nfa : Automaton) (x : Search) where
+  -- two patterns that are the first to match are one
+  same-first : (j k : ℕ) → IsFirstThatMatches nfa x j → IsFirstThatMatches nfa x k → j ≡ k
+  same-first j k f g = grind (arith, cases_eq j k, cases_lt j k, not-both f.matches, not-both g.matches)
+
+  module _ (anywhere : is_utf8_empty nfa ≡ false) (bound : x.anchored ≡ Yes) (tries : TriesPatternsInOrder nfa x)
+      (their : StartsMatchTheirPatterns nfa x) where
+    -- the pattern of an answer is the first that matches
+    first-of-answer : (pattern : ℕ) (slots : List (Option ℕ))
+        → IsAnswer nfa LeftmostFirst false x (Some pattern) slots → IsFirstThatMatches nfa x pattern
+    first-of-answer pattern slots a =
+        let one = answers-pattern nfa x pattern slots anywhere bound tries a in
+        let matched =
+        pattern-matched (started_at nfa one.state) x LeftmostFirst false pattern slots anywhere one.answers in
+        let same : pattern ≡ one.k = their one.k one.state pattern one.first.starts_at matched in
+        rw same (record { state = one.state; first = one.first; matches = matches-something matched })
+
+pub answer-first : AnswerIsOfFirst LeftmostFirst false
+answer-first nfa x k None slots anywhere bound tries their a = (
+  λ e. cc,
+  λ f.
+      let none = no_pattern-nothing nfa x LeftmostFirst false slots anywhere a in
+      absurd (not-both f.matches ((pattern-nothing nfa x bound tries).0 none k f.state f.first.starts_at)),
+)
+answer-first nfa x k (Some pattern) slots anywhere bound tries their a =
+    let is = first-of-answer nfa x anywhere bound tries their pattern slots a in (
+      λ e. subst (IsFirstThatMatches nfa x) (same_some pattern k e) is,
+      λ f. ap Some (same-first nfa x pattern k is f),
+    )
+
+-- and that of the match
+match-has_pattern : (nfa : Automaton) (x : Search) → IsAutomaton nfa → PathsWriteTheirEnds nfa x
+    → (path : Option (List Pair)) (found : Option Found) → IsScanAnswer nfa x LeftmostFirst false path
+    → found ≡ match_of (option_and_then (path_pattern nfa) path) (slot_row nfa (slot_count nfa.groups) path)
+    → option_map (λ (m : Found). m.pattern) found ≡ option_and_then (path_pattern nfa) path
+match-has_pattern nfa x valid write None found scan is = ap (option_map (λ (m : Found). m.pattern)) is
+match-has_pattern nfa x valid write (Some p) found scan is =
+    let writes = write scan.end p scan.path scan.wanted in
+    ap (option_map (λ (m : Found). m.pattern)) (is ∙ path-match nfa valid x scan.end p scan.path writes)
+    ∙ sym writes.pattern_is
+
+pub match-first-pattern : MatchIsOfFirst LeftmostFirst false
+unfolding gives
+match-first-pattern nfa x k found valid anywhere bound tries their write a =
+    let g = gives nfa LeftmostFirst false x found a in
+    let scan = scan-of nfa LeftmostFirst false x anywhere a.restarts a.path a.answers in
+    let same = match-has_pattern nfa x valid write a.path found scan a.found_is in
+    let of_answer = answer-first nfa x k g.pattern g.slots anywhere bound tries their g.answers in
+    (λ e. of_answer.0 (sym same ∙ e), λ f. same ∙ of_answer.1 f)
+
+-- the pattern of a path does not depend on the anchored start
+pub pattern-alone : (nfa : Automaton) (state : ℕ) (r : Option (List Pair))
+    → option_and_then (path_pattern (started_at nfa state)) r ≡ option_and_then (path_pattern nfa) r
+unfolding node_at
+pattern-alone nfa state r = refl
+
+-- the two searches start at the same pairs
+module _ (nfa : Automaton) (x : Search) (pattern : PatternID) (state : ℕ)
+    (at : slice_get nfa.patterns (number_of pattern) ≡ Some state) where
+  pub same-alone : ExploresSame nfa (record x { anchored = Pattern pattern }) state Yes x.earliest
+  same-alone = record {
+    bound = refl;
+    starts_are = λ s. ap (λ (o : Option ℕ). option_map_or
+        (λ (q : ℕ). pairs_from q s (if nat_lt x.end s then 0 else 1)) o []) at;
+  }
+
+  pub same-bound : ExploresSame (started_at nfa state) (record x { anchored = Yes }) nfa.anchored (Pattern pattern)
+      x.earliest
+  same-bound = record { bound = refl; starts_are = λ s. sym (same-alone.starts_are s) }

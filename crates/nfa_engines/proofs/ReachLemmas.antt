@@ -4,7 +4,7 @@ use Rattle.nfa_paths.proofs.AnswerLemmas.{scan_answer-within}
 use Rattle.nfa_paths.proofs.ExistenceLemmas.{search_answer-exists}
 use Rattle.nfa_paths.proofs.InsideLemmas.{match-within}
 use Rattle.nfa_search_base.specs.Common.{span_of}
-use Rattle.nfa_search_base.proofs.LastStartLemmas.{from-scan}
+use Rattle.nfa_search_base.proofs.SkipLemmas.{from-scan}
 
 -- how many starts a search has at most
 abbrev pub starts_left : Search → ℕ

@@ -1,14 +1,13 @@
 -- An NFA reads only the bytes of the span and whether its assertions hold there, and not the place of the span.
-use Rattle.nfa_paths.proofs.Common.{◌≡◌, ◌∙◌, ℕ, zero, suc, ◌+◌, ◌≤◌, ◌<◌, Bool, false, List, [], ◌∷◌, map, take, drop, refl, ap, arith, if◌then◌else◌, All, Option, option_map, option_and_then, option_to_list, slice_get, get_or_past, nat_tests, Search, Automaton, Node, Pair, In, byte_at, edges, edges_of, node_at, pairs_from, start_count, starts, target_on, is_utf8_empty, Look, Union, BinaryUnion, Capture, Fail}
 use Rattle.thompson_nfa.specs.declared.look.Look as looks
 use Rattle.nfa_paths.proofs.ScanAnswerLemmas.{edges-onward, edges-within, starts-from, starts-within}
 use Rattle.nfa_engines.specs.Laws.{Tells}
 use Rattle.nfa_engines.specs.SpanLaws.{cut_out, AreBytesMoved, CutOutMoves, EachLook, HoldAlike, IfLook, IsSameSpan, IsSpanMoved, LookHoldsAlike, Moves, NoneToHold, ReadsTheSpan}
 use Rattle.nfa_paths.proofs.SameScanLemmas.{explored}
-use Rattle.nfa_engines.proofs.MovedLemmas.{moved_path, ArePathsMoved}
+use Rattle.nfa_engines.proofs.MovedLemmas.{moved_path, ArePathsMoved, paths-moved}
 use Rattle.nfa_engines.proofs.MovedAnswerLemmas.{IsMovable, IsMovedTo, stays}
-use Rattle.nfa_engines.proofs.MovedGraphLemmas.{paths-moved}
 use Rattle.nfa_paths.proofs.StartLemmas.{resting-edges}
+use Rattle.nfa_paths.proofs.Common.{◌≡◌, ◌∙◌, ℕ, zero, suc, ◌+◌, ◌≤◌, ◌<◌, Bool, false, List, [], ◌∷◌, map, take, drop, refl, ap, arith, if◌then◌else◌, All, Option, option_map, option_and_then, option_to_list, slice_get, get_or_past, nat_tests, Search, Automaton, Node, Pair, In, byte_at, edges, edges_of, node_at, pairs_from, start_count, starts, target_on, is_utf8_empty, Look, Union, BinaryUnion, Capture, Fail}
 
 -- what holds of each state of the NFA holds at each number
 all-at : (nfa : Automaton) (P : Node → Type 0) → P Fail → All P nfa.states → (state : ℕ) → P (node_at nfa state)

@@ -1,16 +1,11 @@
 -- What a whole iteration adds to the totals of what answers its searches.
-use Rattle.nfa_paths.proofs.Common.{◌≡◌, ℕ, ◌+◌, ◌*◌, ◌≤◌, Bool, true, false, List, [], ◌∷◌, length, Option, None, Some, Ok, refl, sym, subst, inl, inr, arith, cond, Search, Span, Automaton, span_len, total_degree}
-use Rattle.std.proofs.Math.Nat.{mul-le-mul_right}
+use Rattle.nfa_paths.proofs.Common.{mul-le-mul_right, ◌≡◌, ℕ, ◌+◌, ◌*◌, ◌≤◌, Bool, true, false, List, [], ◌∷◌, length, Option, None, Some, Ok, refl, sym, subst, inl, inr, arith, cond, Search, Span, Automaton, span_len, max_scan_turns}
 use Rattle.nfa_search_base.specs.Common.{EndsBy, StepsLead, answers_to_end, SameButStart, Advances, Answer, AnswerIsInside, IterState, after, ends_left, fresh, answer_span, repeats, shifted}
 use Rattle.nfa_search_base.proofs.AskingLemmas.{same_start-self, same_start-then}
 use Rattle.nfa_search_base.proofs.StepLemmas.{Advances-fewer, chosen, same_start-after, same_start-shifted}
 use Rattle.nfa_search_base.proofs.IterStateLemmas.{IsOrdered}
-use Rattle.nfa_engines.specs.WorkLaws.{AddsAtMost, Totals, list_scan_limit}
+use Rattle.nfa_engines.specs.IterationLaws.{AddsAtMost, Totals, list_scan_limit}
 use Rattle.nfa_engines.proofs.ReachLemmas.{Reaches, restarts_in, starts_left}
-
--- the turns of a scan of the span of x, or of a part of it, at most
-abbrev pub turns_in : Automaton → Search → ℕ
-turns_in nfa x = (1 + total_degree nfa) * (span_len x + 1)
 
 -- `count` scans were added, each of at most `weight` turns
 pub record Adds (weight : ℕ) (old new : Totals) (count : ℕ) : Type 0 where
@@ -195,11 +190,11 @@ module _ {S X : Type 0} {span : X → Span} {asks : S → Search → Answer X �
 
 -- scans that are at most `limit` make no more turns than `limit` scans
 within-limit : (nfa : Automaton) (x : Search) (old new : Totals) (count limit : ℕ) → count ≤ limit
-    → Adds (turns_in nfa x) old new count → AddsAtMost limit nfa x old new
+    → Adds (max_scan_turns nfa x) old new count → AddsAtMost limit nfa x old new
 within-limit nfa x old new count limit few adds = grind (arith, mul-le-mul_right)
 
 module _ (nfa : Automaton) (x : Search) (found : ℕ) (old new : Totals)
-    (all : Led (turns_in nfa x) (restarts_in nfa x) (fresh x) found old new) where
+    (all : Led (max_scan_turns nfa x) (restarts_in nfa x) (fresh x) found old new) where
   -- of a list of `found` matches
   pub list-within : AddsAtMost (list_scan_limit nfa x found) nfa x old new
   list-within = within-limit nfa x old new all.count (list_scan_limit nfa x found)

@@ -1,14 +1,67 @@
--- Laws of scans, of searches and of what they answer, about the definitions only.
-use Rattle.std.specs.Prelude.{◌≡◌, ◌↔◌, ℕ, ◌⊎◌, ◌-◌, ◌*◌, ◌≤◌, Bool, false, true, List, Option, None, Some, option_map, is_some, length, take, drop, replicate}
-use Rattle.nfa_paths.specs.Common.{slot_count, Search, match_of, MatchKind, Automaton, IsAutomaton, Pair, PathTo, ComesBefore, Found, HalfFound, edges, starts, IsMatch, is_utf8_empty, IsScanAnswer, IsSearchAnswer, IsAnswer, IsBoolAnswer, IsFindAnswer, IsHalfAnswer, IsOverlapResult, LeftmostFirst}
-use Rattle.nfa_engines.specs.Accepting.{MatchesNothing, MatchesPattern, MatchesSomething}
+-- Laws of scans, of searches and of what they answer, about the definitions only; and that no match is missed.
+use Rattle.std.specs.Prelude.{◌≡◌, ◌↔◌, ℕ, ◌+◌, ◌*◌, ◌≤◌, Bool, false, List, Option, None, Some, IfSome, ◌⊎◌, ◌-◌, true, option_map, is_some, length, take, drop, replicate}
+use Rattle.nfa_paths.specs.Common.{Found, Search, MatchKind, Automaton, IsAutomaton, Pair, HeadIs, PathTo, NoPath, edges, starts, is_utf8_empty, IsMatch, IsFindAnswer, path_pattern, slot_among, slot_count, match_of, ComesBefore, HalfFound, IsScanAnswer, IsSearchAnswer, IsAnswer, IsBoolAnswer, IsHalfAnswer, IsOverlapResult, LeftmostFirst}
+
+-- the path writes its start and its end into the two slots of its pattern
+pub record WritesItsEnds (nfa : Automaton) (end : Pair) (p : List Pair) : Type 0 where
+  pub start : Pair
+  pub head : HeadIs start p
+  pub pattern : ℕ
+  pub pattern_is : path_pattern nfa p ≡ Some pattern
+  pub start_slot : slot_among nfa p (2 * pattern) ≡ Some start.1
+  pub end_slot : slot_among nfa p (2 * pattern + 1) ≡ Some end.1
+
+-- each accepting path of the search does
+abbrev pub PathsWriteTheirEnds : Automaton → Search → Type 0
+PathsWriteTheirEnds nfa x =
+    (end : Pair) (p : List Pair) → PathTo (edges nfa x) (starts nfa x) end p → IsMatch nfa end → WritesItsEnds nfa end p
+
+-- then there is no match exactly if there is no accepting path
+abbrev pub NoneIsNoPath : MatchKind → Bool → Type 0
+NoneIsNoPath kind earliest =
+    (nfa : Automaton) (x : Search) (found : Option Found) → IsAutomaton nfa → is_utf8_empty nfa ≡ false
+    → PathsWriteTheirEnds nfa x
+    → IsFindAnswer nfa kind earliest x found → (found ≡ None) ↔ NoPath (edges nfa x) (starts nfa x) (IsMatch nfa)
+
+-- no accepting path starts before the match
+abbrev pub StartsBeforePaths : Automaton → Search → Found → Type 0
+StartsBeforePaths nfa x m =
+    (start end : Pair) (p : List Pair) → HeadIs start p → PathTo (edges nfa x) (starts nfa x) end p → IsMatch nfa end
+    → m.start ≤ start.1
+
+-- then no accepting path starts before the match of the search
+abbrev pub NoneStartsBefore : MatchKind → Bool → Type 0
+NoneStartsBefore kind earliest =
+    (nfa : Automaton) (x : Search) (found : Option Found) → IsAutomaton nfa → is_utf8_empty nfa ≡ false
+    → PathsWriteTheirEnds nfa x
+    → IsFindAnswer nfa kind earliest x found
+    → IfSome found (StartsBeforePaths nfa x)
+
+-- the search has no accepting path
+pub record MatchesNothing (nfa : Automaton) (x : Search) : Type 0 where
+  pub no_path : NoPath (edges nfa x) (starts nfa x) (IsMatch nfa)
+
+-- the search has an accepting path
+pub record MatchesSomething (nfa : Automaton) (x : Search) : Type 0 where
+  pub end : Pair
+  pub along : List Pair
+  pub path : PathTo (edges nfa x) (starts nfa x) end along
+  pub accepts : IsMatch nfa end
+
+-- the search has an accepting path of the pattern
+pub record MatchesPattern (nfa : Automaton) (x : Search) (pattern : ℕ) : Type 0 where
+  pub end : Pair
+  pub along : List Pair
+  pub path : PathTo (edges nfa x) (starts nfa x) end along
+  pub accepts : IsMatch nfa end
+  pub pattern_is : path_pattern nfa along ≡ Some pattern
 
 -- What a search answers, for each match kind, `earliest` or not: a relation such as `IsFindAnswer`, or that of the list
 -- of its matches.
 abbrev pub Tells : Type 0 → Type 1
 Tells A = Automaton → MatchKind → Bool → Search → A → Type 0
 
--- a law of what searches tell, of the slots of their answers: beside each pattern
+-- a law of what searches tell, for the slots of their answers, whatever the pattern
 abbrev pub OfSlots : (Tells (List (Option ℕ)) → Type 0) → Type 0
 OfSlots Law = (pattern : Option ℕ) → Law (λ nfa kind earliest x. IsAnswer nfa kind earliest x pattern)
 

@@ -1,28 +1,19 @@
-pub mod Accepting
-pub mod FoundSpanLaws
-pub mod GapLaws
+pub mod IterationLaws
 pub mod Laws
-pub mod ListLaws
-pub mod PatternLaws
-pub mod SetLaws
 pub mod SpanLaws
 pub mod StartLaws
-pub mod WorkLaws
 pub use Rattle.nfa_backtrack.specs.Backtrack
-pub use Rattle.nfa_backtrack.specs.CapturesMatches as BacktrackCapturesMatches
-pub use Rattle.nfa_backtrack.specs.FindMatches as BacktrackFindMatches
+pub use Rattle.nfa_backtrack.specs.Iterators as BacktrackIterators
 pub use Rattle.nfa_backtrack.specs.Finding as BacktrackFinding
 pub use Rattle.nfa_backtrack.specs.Runs as BacktrackRuns
-pub use Rattle.nfa_pikevm.specs.CapturesMatches as PikeVMCapturesMatches
+pub use Rattle.nfa_pikevm.specs.Iterators as PikeVMIterators
 pub use Rattle.nfa_pikevm.specs.Engines
-pub use Rattle.nfa_pikevm.specs.FindMatches as PikeVMFindMatches
 pub use Rattle.nfa_pikevm.specs.Finding as PikeVMFinding
 pub use Rattle.nfa_pikevm.specs.FirstBytes
 pub use Rattle.nfa_pikevm.specs.Needs
-pub use Rattle.nfa_paths.specs.Beginnings
+pub use Rattle.nfa_paths.specs.Paths
 pub use Rattle.nfa_paths.specs.Graphs
 pub use Rattle.nfa_paths.specs.Overlaps
-pub use Rattle.nfa_paths.specs.Paths
 pub use Rattle.nfa_search_base.specs.Items
 pub use Rattle.nfa_search_base.specs.Finders
 pub use Rattle.nfa_search_base.specs.IterStates
@@ -31,7 +22,6 @@ pub use Rattle.nfa_search_base.specs.WithCaptures
 pub use Rattle.nfa_search_base.specs.Lists
 pub use Rattle.nfa_search_base.specs.StoredRuns
 pub use Rattle.nfa_search_base.specs.Stored
-pub use Rattle.nfa_search_base.specs.Skipping
 pub use Rattle.nfa_search_base.specs.declared.error.SearchError
 pub use Rattle.nfa_search_base.specs.declared.iter.searcher.Offered
 pub use Rattle.nfa_search_base.specs.declared.iter.searcher.Searcher
@@ -41,7 +31,6 @@ pub use Rattle.regex_search_core.specs.Found
 pub use Rattle.regex_search_core.specs.Groups
 pub use Rattle.regex_search_core.specs.PatternSetIters
 pub use Rattle.regex_search_core.specs.PatternSets
-pub use Rattle.regex_search_core.specs.Patterns
 pub use Rattle.regex_search_core.specs.Search
 pub use Rattle.regex_search_core.specs.Slots
 pub use Rattle.regex_search_core.specs.declared.captures.groups.CapturesPatternIter

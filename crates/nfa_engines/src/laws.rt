@@ -8,8 +8,8 @@
 //! let pattern = vm.search_slots(&mut cache, &input, &mut slots);
 //! let same = engine.try_search_slots(&mut other, &input, &mut others)?;
 //! ```
-ghost use Rattle.regex_search_core.specs.declared.search.MatchKind.TheVariants.{All, LeftmostFirst};
 ghost use Rattle.std.specs.Prelude.{false, true};
+ghost use Rattle.regex_search_core.specs.declared.search.MatchKind.TheVariants.{All, LeftmostFirst};
 ghost use Rattle.nfa_paths.specs.Graphs.{IsEarliestPath, IsFirstPath};
 ghost use Rattle.nfa_paths.specs.Overlaps.{IsFirstBefore};
 ghost use Rattle.nfa_paths.specs.Paths.{IsBoolAnswer, IsFindAnswer, IsHalfAnswer, IsScanAnswer};
@@ -19,32 +19,32 @@ ghost use Rattle.nfa_backtrack.specs.Finding.{BacktrackerCapturesOn, Backtracker
 ghost use Rattle.nfa_backtrack.specs.Finding.{BacktrackerFindsToEnd};
 ghost use Rattle.nfa_pikevm.specs.Engines.{Pike, SameCapacities};
 ghost use Rattle.nfa_pikevm.specs.Finding.{PikeCapturesOn, PikeCapturesToEnd, PikeFindsOn, PikeFindsToEnd};
-ghost use Rattle.nfa_engines.specs.FoundSpanLaws.{AnswersHaveASpan, EndMayBeCut, SearchMayBeCut, SpanMayBeCut};
-ghost use Rattle.nfa_engines.specs.FoundSpanLaws.{StartIsLeast, StartIsLeastOfAll};
-ghost use Rattle.nfa_engines.specs.GapLaws.{NoneIsNoPath, NoneStartsBefore};
-ghost use Rattle.nfa_engines.specs.Laws.{AllSlotsGiveTheMatch, AnswersAgree, AnswersUnderAnyFlag, AtLeastOne};
-ghost use Rattle.nfa_engines.specs.Laws.{AtMostOne, BoolIsPattern, EverySearchHasAnAnswer, FewerSlots};
-ghost use Rattle.nfa_engines.specs.Laws.{FoundIsSomething, FoundUnderAnyFlag, HalfMatchHasThePattern, IsAsLeftmost};
-ghost use Rattle.nfa_engines.specs.Laws.{MatchUnderAnyFlag, NoPatternIsNothing, NotBoth, NotFoundIsNothing, OfSlots};
-ghost use Rattle.nfa_engines.specs.Laws.{OneSearchAnswer, PathReadsNoFlag, PathsAreOrdered, PathsAreOrderedOnce};
-ghost use Rattle.nfa_engines.specs.Laws.{PatternIsMatched, PatternIsSomething, ReadsNoFlag, ScansAgree};
-ghost use Rattle.nfa_engines.specs.Laws.{SearchesAgree, SetReadsNoFlag, SlotsPastAreNone, TwoSlotsGiveTheMatch};
-ghost use Rattle.nfa_engines.specs.ListLaws.{AtMostInList, AtMostMatches, CapturesUpToRefusal, EndsIncrease};
-ghost use Rattle.nfa_engines.specs.ListLaws.{FirstRowsAreMatches, MatchesAreDisjoint, RowsAreMatches};
-ghost use Rattle.nfa_engines.specs.PatternLaws.{AnswerIsOfFirst, AnswersAreOfPatterns, FirstPatternAnswers};
-ghost use Rattle.nfa_engines.specs.PatternLaws.{FirstPatternMatches, MatchIsOfFirst, MatchesAreOfPatterns};
-ghost use Rattle.nfa_engines.specs.PatternLaws.{NothingOfEachPattern, PatternIsAlone};
-ghost use Rattle.nfa_engines.specs.SetLaws.{EmptySetGains, FullSetStays, IsOfAllPaths, IsPatternOfEarliest, OneSet};
-ghost use Rattle.nfa_engines.specs.SetLaws.{SetHoldsEachPattern, SetIsComplete};
-ghost use Rattle.nfa_engines.specs.SpanLaws.{moved_found, moved_slots, CutOutLinesHoldAlike, CutOutMoves, HoldAlike};
-ghost use Rattle.nfa_engines.specs.SpanLaws.{LinesHoldAlike, Moves, NoneToHold, ReadsTheSpan, SameSidesHoldAlike};
-ghost use Rattle.nfa_engines.specs.StartLaws.{AnswersHaveAStart, FirstStartAnswers, FirstStartMatches};
-ghost use Rattle.nfa_engines.specs.StartLaws.{FirstStartMoves, IsUnbound, NothingAtByte, NothingAtEachStart};
-ghost use Rattle.nfa_engines.specs.StartLaws.{StartIsFirst, StartsAnywhere, StartsArePassed};
-ghost use Rattle.nfa_engines.specs.WorkLaws.{backtracker_totals, list_scan_limit, pike_totals, FitsAsBefore};
-ghost use Rattle.nfa_engines.specs.WorkLaws.{IsKeptByLoop, IsKeptByNone, IsKeptByTwo, IterationsAreWithin};
-ghost use Rattle.nfa_engines.specs.WorkLaws.{LeastCapacityIsEnough, ListsAreWithin, LongerIsRefused};
-ghost use Rattle.nfa_engines.specs.WorkLaws.{LongestLengthFits, LoopHoldsNoMore};
+ghost use Rattle.nfa_engines.specs.SpanLaws.{AnswersHaveASpan, EndMayBeCut, SearchMayBeCut, SpanMayBeCut, StartIsLeast};
+ghost use Rattle.nfa_engines.specs.SpanLaws.{StartIsLeastOfAll, moved_found, moved_slots, CutOutLinesHoldAlike};
+ghost use Rattle.nfa_engines.specs.SpanLaws.{CutOutMoves, HoldAlike, LinesHoldAlike, Moves, NoneToHold, ReadsTheSpan};
+ghost use Rattle.nfa_engines.specs.SpanLaws.{SameSidesHoldAlike};
+ghost use Rattle.nfa_engines.specs.Laws.{NoneIsNoPath, NoneStartsBefore, AllSlotsGiveTheMatch, AnswersAgree};
+ghost use Rattle.nfa_engines.specs.Laws.{AnswersUnderAnyFlag, AtLeastOne, AtMostOne, BoolIsPattern};
+ghost use Rattle.nfa_engines.specs.Laws.{EverySearchHasAnAnswer, FewerSlots, FoundIsSomething, FoundUnderAnyFlag};
+ghost use Rattle.nfa_engines.specs.Laws.{HalfMatchHasThePattern, IsAsLeftmost, MatchUnderAnyFlag, NoPatternIsNothing};
+ghost use Rattle.nfa_engines.specs.Laws.{NotBoth, NotFoundIsNothing, OfSlots, OneSearchAnswer, PathReadsNoFlag};
+ghost use Rattle.nfa_engines.specs.Laws.{PathsAreOrdered, PathsAreOrderedOnce, PatternIsMatched, PatternIsSomething};
+ghost use Rattle.nfa_engines.specs.Laws.{ReadsNoFlag, ScansAgree, SearchesAgree, SetReadsNoFlag, SlotsPastAreNone};
+ghost use Rattle.nfa_engines.specs.Laws.{TwoSlotsGiveTheMatch};
+ghost use Rattle.nfa_engines.specs.IterationLaws.{AtMostInList, AtMostMatches, CapturesUpToRefusal, EndsIncrease};
+ghost use Rattle.nfa_engines.specs.IterationLaws.{FirstRowsAreMatches, MatchesAreDisjoint, RowsAreMatches};
+ghost use Rattle.nfa_engines.specs.IterationLaws.{EmptySetGains, FullSetStays, IsOfAllPaths, IsPatternOfEarliest};
+ghost use Rattle.nfa_engines.specs.IterationLaws.{OneSet, SetHoldsEachPattern, SetIsComplete, backtracker_totals};
+ghost use Rattle.nfa_engines.specs.IterationLaws.{list_scan_limit, pike_totals, FitsAsBefore, IsKeptByLoop};
+ghost use Rattle.nfa_engines.specs.IterationLaws.{IsKeptByNone, IsKeptByTwo, IterationsAreWithin};
+ghost use Rattle.nfa_engines.specs.IterationLaws.{LeastCapacityIsEnough, ListsAreWithin, LongerIsRefused};
+ghost use Rattle.nfa_engines.specs.IterationLaws.{LongestLengthFits, LoopHoldsNoMore};
+ghost use Rattle.nfa_engines.specs.StartLaws.{AnswerIsOfFirst, AnswersAreOfPatterns, FirstPatternAnswers};
+ghost use Rattle.nfa_engines.specs.StartLaws.{FirstPatternMatches, MatchIsOfFirst, MatchesAreOfPatterns};
+ghost use Rattle.nfa_engines.specs.StartLaws.{NothingOfEachPattern, PatternIsAlone, AnswersHaveAStart};
+ghost use Rattle.nfa_engines.specs.StartLaws.{FirstStartAnswers, FirstStartMatches, FirstStartMoves, IsUnbound};
+ghost use Rattle.nfa_engines.specs.StartLaws.{NothingAtByte, NothingAtEachStart, StartIsFirst, StartsAnywhere};
+ghost use Rattle.nfa_engines.specs.StartLaws.{StartsArePassed};
 
 /// A scan has at most one answer, for each match kind and `earliest`.
 pub fn one_scan_answer()

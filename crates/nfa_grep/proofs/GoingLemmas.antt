@@ -1,9 +1,8 @@
 -- A search of an input starts, goes on by a line, and ends.
-use Rattle.nfa_paths.proofs.Common.{◌≡◌, ◌∙◌, ℕ, ◌+◌, ◌-◌, ◌<◌, ◌≤◌, Bool, true, false, All, inl, inr, List, [], ◌∷◌, ◌++◌, length, refl, sym, ap, subst, arith, append_assoc, append-nil, zero-add, Option, None, Some, IfSome, cond, count_by, if◌then◌else◌, not, ◌==◌, ◌&&◌, ◌⊎◌, nat_lt, concat, and_parts, cases_Bool, cases_lt, eq-eqb, eqb-true, le-ltb, lt-ltb, ltb-false, ne_eqb, not-true, length-append, All-cons, All-head, All-nil, All-tail, sum_by-cons}
-use Rattle.std.specs.Io.KnownBytes.{Appends, Keeps}
-use Rattle.std.proofs.KnownBytes.{Appends-nil, Appends-trans, Keeps-refl}
-use Rattle.text_lines.specs.Lines.{AreFirstRecords, HasNoRecord, TakesRecord, records_of}
-use Rattle.text_lines.proofs.RecordLemmas.{text-of-first}
+use Rattle.bstr.specs.Records.{records}
+use Rattle.nfa_paths.proofs.Common.{Appends, Keeps, Appends-nil, Appends-trans, Keeps-refl, ◌≡◌, ◌∙◌, ℕ, ◌+◌, ◌-◌, ◌<◌, ◌≤◌, Bool, true, false, All, inl, inr, List, [], ◌∷◌, ◌++◌, length, refl, sym, ap, subst, arith, append_assoc, append-nil, zero-add, Option, None, Some, IfSome, cond, count_by, if◌then◌else◌, not, ◌==◌, ◌&&◌, ◌⊎◌, nat_lt, concat, and_parts, cases_Bool, cases_lt, eq-eqb, eqb-true, le-ltb, lt-ltb, ltb-false, ne_eqb, not-true, length-append, All-cons, All-head, All-nil, All-tail, sum_by-cons}
+use Rattle.text_lines.specs.Lines.{AreFirstRecords, HasNoRecord, TakesRecord}
+use Rattle.text_lines.proofs.LineLemmas.{text-of-first}
 use Rattle.nfa_grep.specs.Meant.{Options, Re}
 use Rattle.nfa_grep.specs.Going.{Groups, HasPassed, IsGoing, IsInOrder, LineStart, PrintsLines, kept_items, kept_texts, printed_later}
 use Rattle.nfa_grep.specs.Printed.{Context, Item, fewer, grouped, has_selected, is_picked, is_selected, item_of, items, left_after, read, searched, selected_count}
@@ -167,7 +166,7 @@ module _ {wanted : Bool} {options : Options} {res : List Re} {name : List ℕ} {
     going-on : (after next : Option (List ℕ)) (here : List (List ℕ)) (own : List Item) (written : List ℕ) (new : Groups)
         (next-number next-offset next-count selected : ℕ) (first : AreFirstRecords options.end going.rest after here)
         → Goes wanted options res name context (limit - count) old.left number offset here
-        (records_of options.end first.rest) own selected (limit - next-count) new.left next-number next-offset
+        (records options.end first.rest) own selected (limit - next-count) new.left next-number next-offset
         → next-count ≡ count + selected → Appends out next written
         → ((later : List Item) → printed_later old (own ++ later) ≡ written ++ printed_later new later)
         → IsGoing wanted options res name context used limit text after out-before next next-number next-offset
@@ -209,7 +208,7 @@ module _ {wanted : Bool} {options : Options} {res : List Re} {name : List ℕ} {
         going-on after next (line ∷ []) (item ∷ []) (ahead ++ here) new (number + 1) (offset + length line)
         (cond b (count + 1) count) (cond b 1 0) first
         (rw (← fewer-is, left-is) (goes-line wanted options res name context n old.left number offset line
-        (records_of options.end first.rest) b picked more-here))
+        (records options.end first.rest) b picked more-here))
         (added b) (Appends-trans out middle next ahead here first-part second-part) prints
       where
         of : (searched selected : Bool) → (if not searched then false else selected)
@@ -232,7 +231,7 @@ module _ {wanted : Bool} {options : Options} {res : List Re} {name : List ℕ} {
         subst (λ (o : Option (List ℕ)). IfSome o (λ text. HasPassed options res text after at next old new))
         going.rest_is passes in
         let more-here : (((limit - count) == 0) && (old.left == 0)) ≡ false = rw (none-left count limit) more in
-        let lines = records_of options.end passed.first.rest in
+        let lines = records options.end passed.first.rest in
         let over = passed-over wanted options res name context (limit - count) old.left number offset passed.lines lines
         next.number next.offset more-here passed.none_left passed.unselected
         (omega (arith, number-is, passed.number_is)) (omega (arith, offset-is, passed.offset_is)) in
@@ -244,9 +243,9 @@ module _ {wanted : Bool} {options : Options} {res : List Re} {name : List ℕ} {
     -- no line is left to read
     done : (after : Option (List ℕ)) → Keeps input after
         → printed_later old (items wanted options res name (limit - count) number offset
-        (records_of options.end going.rest)) ≡ []
+        (records options.end going.rest)) ≡ []
         → selected_count options res (limit - count) going.rest ≡ 0
-        → concat (read options res context (limit - count) old.left (records_of options.end going.rest)) ≡ []
+        → concat (read options res context (limit - count) old.left (records options.end going.rest)) ≡ []
         → PrintsLines wanted options res name context used limit (Some text) after out-before out count
     done after keeps no-items no-count no-lines = (
       rw (going.printed_is, no-items, append-nil going.written) going.writes,
@@ -278,7 +277,7 @@ module _ {wanted : Bool} {options : Options} {res : List Re} {name : List ℕ} {
         let reached : limit ≤ count = ltb-false count limit (not-true (nat_lt count limit) parts.0) in
         let left-is : old.left ≡ 0 = eqb-true old.left 0 parts.1 in
         let none : limit - count ≡ 0 = omega (arith, reached) in
-        let lines = records_of options.end going.rest in
+        let lines = records options.end going.rest in
         let none-selected = kept-none (kept_texts old) (items wanted options res name 0 number offset lines)
         (items-none wanted options res name context number offset lines) in
         done input (Keeps-refl input) (rw (none, left-is) (none-printed old.context old.used old.gap _ none-selected))

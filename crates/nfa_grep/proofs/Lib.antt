@@ -1,12 +1,8 @@
 mod GoingLemmas
 mod GroupedLemmas
-mod JoinedLemmas
 mod MeantLemmas
 mod NeededLemmas
 mod NumbersLemmas
 mod PaintedLemmas
 mod PatternLemmas
-mod PrintedLemmas
-mod RefusalLemmas
-mod UncolouredLemmas
 mod WhichLemmas

@@ -4,7 +4,7 @@ use Rattle.nfa_compiler.specs.Common.{SameCaptures}
 use Rattle.required_literal.specs.Required.{OccursIn}
 use Rattle.text_lines.specs.Lines.{HasBytes, Lacks, PassesRecords}
 use Rattle.text_lines.specs.declared.passed.Passed.{Passed}
-use Rattle.text_lines.proofs.OccurrenceLemmas.{bytes-record, occurs-record}
+use Rattle.text_lines.proofs.LineLemmas.{bytes-record, occurs-record}
 use Rattle.nfa_grep.specs.Going.{HasPassed, printed_later, Groups, LineStart}
 use Rattle.nfa_grep.specs.Printed.{Item, IsNeeded, is_selected, text_of}
 use Rattle.nfa_grep.specs.Meant.{is_found, Options, Re}

@@ -1,12 +1,12 @@
 -- A pattern matches somewhere in a text exactly if the reference matcher finds it by itself. So a set of the patterns
 -- that match holds those that are found.
-use Rattle.nfa_paths.proofs.Common.{◌≡◌, ◌∙◌, ℕ, zero, suc, ◌+◌, ◌-◌, ◌<◌, Bool, true, false, List, [], ◌∷◌, length, refl, sym, ap, arith, get_or, ◌↔◌, All, Option, None, Some, is_some, option_map, slice_index_or, AllZip, option_or, le-ltb, ext_get_or, get_or-map, length-map, whole, HoldsPattern}
-use Rattle.nfa_compiler.specs.Common.{SameCaptures, find, first_from, Trace, accept, attempt, empty, PatternMatches, expected, first_hit, hit_of, pick, MatchesIn}
 use Rattle.regex_hir.proofs.FindLemmas.{IsFirst-of_first_between, find_complete, find_sound}
 use Rattle.regex_hir.proofs.OptionLemmas.{value_of_IsSome}
 use Rattle.nfa_grep.specs.Meant.{is_found, which_found, Re}
 use Rattle.nfa_grep.proofs.MeantLemmas.{found-same}
-use Rattle.nfa_paths.proofs.TestLemmas.{same_test}
+use Rattle.nfa_paths.proofs.MemberLemmas.{same_test}
+use Rattle.nfa_paths.proofs.Common.{◌≡◌, ◌∙◌, ℕ, zero, suc, ◌+◌, ◌-◌, ◌<◌, Bool, true, false, List, [], ◌∷◌, length, refl, sym, ap, arith, get_or, ◌↔◌, All, Option, None, Some, is_some, option_map, slice_index_or, AllZip, option_or, le-ltb, ext_get_or, get_or-map, length-map, whole, HoldsPattern}
+use Rattle.nfa_compiler.specs.Common.{SameCaptures, find, first_from, Trace, accept, attempt, empty, PatternMatches, expected, first_hit, hit_of, pick, MatchesIn}
 
 -- one pattern is found exactly if the search for it finds a match
 module _ (text : List ℕ) (re : Re) where

@@ -1,11 +1,13 @@
--- From what the parser returns to what texts mean.
-use Rattle.nfa_paths.proofs.Common.{◌≡◌, Bool, List, [], ◌∷◌, false, true, ℕ, MatchOption, None, Option, Some, AllZip, Automaton}
-use Rattle.nfa_compiler.specs.Common.{meaning, look, Start, WordStartHalfUnicode, SameCaptures, Config, Parsed, IsMeant, IsNfaOf, IsTreeOf, res_of}
+-- From what the parser and the compiler return to what texts mean, and to why patterns are refused.
 use Rattle.regex_syntax.proofs.CapturesLemmas.{alike_cat, alike_refl}
+use Rattle.nfa_paths.proofs.Common.{AllZip-long, ◌≡◌, Bool, List, [], ◌∷◌, false, true, ℕ, MatchOption, None, Option, Some, AllZip, Automaton, inl, inr, length, sym, subst, arith, ◌==◌, cases_Bool}
 use Rattle.nfa_compiler.proofs.MeantLemmas.{all-meant}
-use Rattle.nfa_grep.specs.Meant.{ArePatterns, IsBuilt, IsReadFrom, bounded, Options, Re}
+use Rattle.nfa_grep.specs.Meant.{ArePatterns, IsBuilt, IsReadFrom, bounded, Options, Re, IsOfPatterns, IsRefusalBy, IsTreeRefusal, described}
 use Rattle.nfa_grep.specs.declared.options.Bounds.{Bounds}
 use Rattle.nfa_grep.specs.declared.options.Bounds.TheVariants.{Anywhere, Words, Line}
+use Rattle.nfa_compiler.specs.declared.error.CompileError.{CompileError}
+use Rattle.nfa_compiler.specs.Common.{meaning, look, Start, WordStartHalfUnicode, SameCaptures, Config, Parsed, IsMeant, IsNfaOf, IsTreeOf, res_of}
+use Rattle.nfa_grep.specs.declared.fault.Fault.{Fault}
 
 -- patterns that match alike still do if their matches are bounded
 pub bounded-alike : (bounds : Bounds) (a b : Re) → SameCaptures a b → SameCaptures (bounded bounds a) (bounded bounds b)
@@ -44,3 +46,25 @@ module _ (options : Options) (texts : List (List ℕ)) (trees : List Parsed)
       → MatchOption which (wanted ≡ false) (λ nfa. (wanted ≡ true) × IsBuilt IsNfaOf options texts nfa)
   which-built wanted None none = none
   which-built wanted (Some nfa) some = (some.0, built IsNfaOf nfa some.1)
+
+is-one : (n : ℕ) → (n == 1) ≡ true → n ≡ 1
+is-one n same = grind arith
+
+-- the fault is made of the error
+pub refusal : (Q : CompileError → Type 0) (n : ℕ) (e : CompileError) (f : Fault) → f ≡ described n e → Q e
+    → IsRefusalBy Q n f
+refusal Q n e f is of =
+    subst (IsRefusalBy Q n) (sym is) (elim (cases_Bool (n == 1)) [
+      | inl one ↦ rw one (is-one n one, of)
+      | inr other ↦ rw other (other, of)
+    ])
+
+-- the fault of trees that were read from these texts
+pub trees-refusal : (options : Options) (texts : List (List ℕ)) (trees : List Parsed) (f : Fault)
+    → AllZip (IsReadFrom options) texts trees → IsTreeRefusal (length trees) (res_of trees) f
+    → IsOfPatterns options texts f
+trees-refusal options texts trees f read of = record {
+  trees = trees;
+  read = read;
+  refused = subst (λ (k : ℕ). IsTreeRefusal k (res_of trees) f) (AllZip-long (IsReadFrom options) texts trees read) of;
+}

@@ -1,8 +1,8 @@
 -- A search of an input that is under way, and one that has ended.
 use Rattle.std.specs.Prelude.{◌≡◌, ℕ, ◌+◌, ◌-◌, ◌<◌, ◌≤◌, ◌⊎◌, All, Bool, true, false, List, [], ◌++◌, Option, Some, IfSome, length, map}
-use Rattle.std.specs.List.{concat}
-use Rattle.std.specs.Io.KnownBytes.{Appends}
-use Rattle.text_lines.specs.Lines.{AreFirstRecords, records_of}
+use Rattle.bstr.specs.Records.{records}
+use Rattle.nfa_paths.specs.Common.{concat, Appends}
+use Rattle.text_lines.specs.Lines.{AreFirstRecords}
 use Rattle.nfa_grep.specs.Meant.{Options, Re}
 use Rattle.nfa_grep.specs.Printed.{Context, Item, Report, context_of, grouped, is_selected, items, limit_of, output, printed, read, read_in, selected_count}
 pub use Rattle.nfa_grep.specs.declared.groups.Groups.{Groups}
@@ -18,6 +18,7 @@ pub record StopsAfter (text : List ℕ) (lines : List (List ℕ)) (input : Optio
 abbrev pub kept_items : List (List ℕ) → List Item
 kept_items texts = map (λ text. record { selected = false; text = text }) texts
 
+-- their texts
 abbrev pub kept_texts : Groups → List (List ℕ)
 kept_texts groups = map (λ text. text.items) groups.kept.items
 
@@ -26,15 +27,16 @@ abbrev pub printed_later : Groups → List Item → List ℕ
 printed_later groups later =
     grouped groups.context groups.used groups.gap groups.left (kept_items (kept_texts groups) ++ later)
 
--- No more lines are kept than are printed before one that is selected, and none while lines are printed after one.
--- Without lines to print there is nothing to keep.
+-- No more lines are kept than are printed before one that is selected, and none while lines are printed after one: then
+-- some line was printed, and the last one was. Without lines to print there is nothing to keep.
 pub record IsInOrder (groups : Groups) : Type 0 where
   pub within : length (kept_texts groups) ≤ groups.context.before
   pub printing : (groups.left ≡ 0) ⊎ ((kept_texts groups ≡ []) × (groups.used ≡ true) × (groups.gap ≡ false))
   pub unwanted : groups.wanted ≡ false → (groups.context.before ≡ 0) × (groups.context.after ≡ 0) × (groups.left ≡ 0)
 
--- These lines were passed: none of them is selected, and the reader has the others left. What is printed of as many
--- lines that are not selected, and of others, is what is printed of the others.
+-- These lines were passed: none of them is selected, and the reader has the others left. Number and offset go on by
+-- them, and no line was still to be printed after a selected one. What is printed of as many lines that are not
+-- selected, and of others, is what is printed of the others.
 pub record HasPassed (options : Options) (res : List Re) (text : List ℕ) (left : Option (List ℕ)) (at next : LineStart)
     (old new : Groups) : Type 0 where
   pub lines : List (List ℕ)
@@ -50,7 +52,7 @@ module _ (wanted : Bool) (options : Options) (res : List Re) (name : List ℕ) (
     (limit : ℕ) where
   -- The bytes that are left to read are known. What was written, and what is printed of the lines that are left, is
   -- what is printed of the text. The lines that were selected, and those that are left to select, are as many as those
-  -- of the text. The bytes that were read are those of the lines that were read.
+  -- of the text. The bytes that were read, and those of the lines that are still to be read, are those of all of these.
   pub record IsGoing (text : List ℕ) (input out-before out : Option (List ℕ)) (number offset count : ℕ)
       (groups : Groups) : Type 0 where
     pub rest : List ℕ
@@ -61,12 +63,13 @@ module _ (wanted : Bool) (options : Options) (res : List Re) (name : List ℕ) (
     pub text_is : text ≡ taken ++ rest
     pub printed_is : printed wanted options res name context used limit text ≡ written
         ++ printed_later groups (items wanted options res name (limit - count) number offset
-        (records_of options.end rest))
+        (records options.end rest))
     pub count_is : selected_count options res limit text ≡ count + selected_count options res (limit - count) rest
     pub read_is : concat (read_in options res context limit text)
-        ≡ taken ++ concat (read options res context (limit - count) groups.left (records_of options.end rest))
+        ≡ taken ++ concat (read options res context (limit - count) groups.left (records options.end rest))
 
-  -- the lines of the text that are to be printed were printed, and `count` of those that were searched are selected
+  -- The lines of the text that are to be printed were printed, and `count` of those that were searched are selected.
+  -- Nothing was read after the lines that are read.
   abbrev pub PrintsLines : Option (List ℕ) → Option (List ℕ) → Option (List ℕ) → Option (List ℕ) → ℕ → Type 0
   PrintsLines input-before input out-before out count =
       IfSome input-before (λ text.

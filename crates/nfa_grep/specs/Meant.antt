@@ -1,12 +1,10 @@
 -- What patterns mean, what they find in a line, in the words of the reference matcher, and why they are refused.
-use Rattle.std.specs.Prelude.{◌≡◌, ◌==◌, ℕ, ◌+◌, ◌<◌, ◌⊎◌, ◌++◌, Bool, false, List, [], ◌∷◌, length, map, None, Option, Some, is_some, chars, codes, decimal, encode_utf8_all, if◌then◌else◌, slice_index_or, ⊤}
-use Rattle.std.specs.List.{AllZip, slice_split}
-use Rattle.nfa_paths.specs.Common.{Found, whole, Automaton, is_utf8_empty, patterns_of}
+use Rattle.std.specs.Prelude.{◌≡◌, ℕ, ◌+◌, ◌<◌, ◌⊎◌, ◌++◌, Bool, false, List, [], ◌∷◌, length, map, None, Option, Some, is_some, chars, codes, encode_utf8_all, if◌then◌else◌, slice_index_or, ⊤, ◌==◌}
+use Rattle.nfa_choice.specs.ChoiceState.{ChoiceState}
 pub use Rattle.nfa_compiler.specs.Common.{Re}
-use Rattle.nfa_compiler.specs.Common.{alt_all, cat_all, meaning, look, Start, End, WordStartHalfUnicode, WordEndHalfUnicode, SameCaptures, default_flags, escaped_text, Config, Parsed, hits_from, FindsFromAnyStart, IsMeant, IsNfaOf, IsOfNoText, IsRejection, NamesPattern, PatternHit, compile_error_text, expected, found_at, byte_syntax, only_pattern_text, res_of}
+use Rattle.nfa_compiler.specs.Common.{decimal, AllZip, slice_split, Found, whole, Automaton, is_utf8_empty, alt_all, cat_all, meaning, look, Start, End, WordStartHalfUnicode, WordEndHalfUnicode, SameCaptures, default_flags, escaped_text, Config, Parsed, hits_from, FindsFromAnyStart, IsMeant, IsNfaOf, IsOfNoText, IsRejection, NamesPattern, PatternHit, compile_error_text, expected, found_at, byte_syntax, only_pattern_text, res_of}
 use Rattle.nfa_compiler.specs.declared.error.CompileError.{CompileError}
 use Rattle.nfa_compiler.specs.declared.error.CompileError.TheVariants.{Syntax}
-use Rattle.nfa_choice.specs.ChoiceState.{ChoiceState}
 use Rattle.text_lines.specs.Lines.{line_feed}
 use Rattle.nfa_grep.specs.declared.fault.Fault.{Fault}
 use Rattle.nfa_grep.specs.declared.fault.Fault.TheVariants as fault
@@ -87,10 +85,6 @@ span_of m = (m.start, m.end)
 abbrev pub which_found : List Re → List ℕ → List Bool
 which_found res text = map (λ re. is_found (re ∷ []) text) res
 
--- the numbers of the patterns that match somewhere in the text, in ascending order
-abbrev pub numbers_found : List Re → List ℕ → List ℕ
-numbers_found res text = patterns_of (which_found res text)
-
 -- what a search of lines is asked: the texts of the patterns, and the options
 pub record Grepping : Type 0 where
   pub patterns : List (List ℕ)
@@ -122,8 +116,8 @@ IsRefusalBy Q pattern_len (fault.Pattern error) = ((pattern_len == 1) ≡ false)
 IsRefusalBy Q pattern_len fault.Memory = ⊤
 IsRefusalBy Q pattern_len _ = ⊥
 
--- The error of these patterns has the number of the first one that is too large, and the limit of 10 MiB for the tables
--- of one. Each one before it is within the limit.
+-- The error is not a syntax error. If it names a pattern, that is the first one to fail, each one before it is within
+-- the limit, and an error of size has the limit of 10 MiB for the tables of one.
 abbrev pub IsOfTrees : List Re → CompileError → Type 0
 IsOfTrees res error = NamesPattern 10485760 res error × IsOfNoText error
 
@@ -131,7 +125,7 @@ IsOfTrees res error = NamesPattern 10485760 res error × IsOfNoText error
 abbrev pub IsTreeRefusal : ℕ → List Re → Fault → Type 0
 IsTreeRefusal pattern_len res fault = IsRefusalBy (IsOfTrees res) pattern_len fault
 
--- a text that the error has is refused by the grammar
+-- the error is a syntax error of one of these texts
 abbrev pub IsOfText : Options → List (List ℕ) → CompileError → Type 0
 IsOfText options texts (Syntax e) =
     (e.pattern < length texts) × IsRejection (syntax_of options) e.pattern (slice_index_or texts e.pattern []) e

@@ -1,8 +1,6 @@
 -- What is printed in colours: texts between two escape sequences of a terminal. Without these it is the text.
-use Rattle.std.specs.Prelude.{◌≡◌, ℕ, ◌≤◌, All, Bool, false, true, not, ◌==◌, ◌||◌, List, [], ◌∷◌, ◌++◌, None, codes, drop, if◌then◌else◌, length, map, slice_range}
-use Rattle.std.specs.List.{flat_map}
-use Rattle.nfa_paths.specs.Common.{Found, found_of, whole, Match}
-use Rattle.nfa_search_base.specs.Common.{AreDisjoint}
+use Rattle.std.specs.Prelude.{◌≡◌, ℕ, ◌≤◌, All, Bool, false, true, not, ◌||◌, List, [], ◌∷◌, ◌++◌, None, codes, drop, if◌then◌else◌, length, map, slice_range, flat_map, ◌==◌}
+use Rattle.nfa_search_base.specs.Common.{Found, found_of, whole, Match, AreDisjoint}
 use Rattle.nfa_meta.specs.Gaps.{last_end}
 use Rattle.nfa_grep.specs.declared.paint.Colour.{Colour}
 use Rattle.nfa_grep.specs.declared.paint.Colour.TheVariants as paint
@@ -34,24 +32,22 @@ painted coloured colour text = if coloured then (start_of colour ++ (text ++ end
 abbrev pub label : Bool → Colour → ℕ → List ℕ → List ℕ
 label coloured colour end text = painted coloured colour text ++ painted coloured paint.Separator (end ∷ [])
 
--- a part of what is printed: its text, and whether that has this colour
+-- a part of a line: its text, and whether that is in the colour of matches
 pub record Part : Type 0 where
   pub coloured : Bool
-  pub colour : Colour
   pub text : List ℕ
 
 -- a part that has no colour
 abbrev pub bare_part : List ℕ → Part
-bare_part text = record { coloured = false; colour = paint.Match; text = text }
+bare_part text = record { coloured = false; text = text }
 
 -- the text of these parts, with colours
 abbrev pub in_colours : List Part → List ℕ
-in_colours parts = flat_map (λ part. painted part.coloured part.colour part.text) parts
+in_colours parts = flat_map (λ part. painted part.coloured paint.Match part.text) parts
 
 -- the text of a match, which has a colour unless it is empty
 abbrev pub part_of : List ℕ → Found → Part
-part_of text m =
-    record { coloured = not (m.start == m.end); colour = paint.Match; text = slice_range text m.start m.end }
+part_of text m = record { coloured = not (m.start == m.end); text = slice_range text m.start m.end }
 
 -- the text from an offset to the end of this match, which is in colour
 abbrev pub matched_from : List ℕ → ℕ → Found → List ℕ

@@ -1,9 +1,11 @@
 -- What is printed of the lines of an input, and which lines are printed around those that are selected.
 use Rattle.std.specs.Prelude.{◌≡◌, ℕ, ◌+◌, ◌-◌, Bool, true, false, not, ◌&&◌, ◌||◌, List, [], ◌∷◌, ◌++◌, length, map, decimal, drop, min, if◌then◌else◌, ◌==◌, nat_lt, slice_range, take}
 use Rattle.std.specs.List.{count_by, flat_map, join_with_byte, list_any}
+use Rattle.bstr.specs.Records.{records}
+use Rattle.nfa_engines.specs.PatternSets.{patterns_of}
 use Rattle.required_literal.specs.Required.{OccursIn}
-use Rattle.text_lines.specs.Lines.{HasBytes, line_feed, record_content, records_of, with_end}
-use Rattle.nfa_grep.specs.Meant.{ArePatterns, Options, Re, all_found, is_found, numbers_found, span_of}
+use Rattle.text_lines.specs.Lines.{HasBytes, line_feed, record_content, with_end}
+use Rattle.nfa_grep.specs.Meant.{ArePatterns, Options, Re, all_found, is_found, span_of, which_found}
 use Rattle.nfa_grep.specs.Painted.{label, painted, painted_text}
 pub use Rattle.nfa_grep.specs.declared.options.Context.{Context}
 pub use Rattle.nfa_grep.specs.declared.options.Report.{Report}
@@ -37,7 +39,8 @@ text_of options line = record_content options.end line
 
 -- the numbers of the patterns that match in the text of a line, if they are wanted
 abbrev pub mark_of : Options → List Re → List ℕ → List ℕ
-mark_of options res line = if options.which then number_list (numbers_found res (text_of options line)) else []
+mark_of options res line =
+    if options.which then number_list (patterns_of (which_found res (text_of options line))) else []
 
 -- what comes before a line or a match: the name of the input, the mark, the number and the offset, if they are wanted
 abbrev pub head : Options → ℕ → List ℕ → List ℕ → ℕ → ℕ → List ℕ
@@ -110,7 +113,7 @@ abbrev pub shows : Report → Bool
 shows Lines = true
 shows _ = false
 
--- after how many selected lines a search ends that would end after this number: after one, if only it matters
+-- after how many selected lines a search ends that would end after this number: at most one, if only the first matters
 abbrev pub limit_of : Report → ℕ → ℕ
 limit_of Lines limit = limit
 limit_of Count limit = limit
@@ -170,11 +173,11 @@ read options res context limit left (line ∷ lines) =
 -- the number of lines of a text that are selected, up to the limit
 abbrev pub selected_count : Options → List Re → ℕ → List ℕ → ℕ
 selected_count options res limit text =
-    count_by (is_selected options res) (searched options res limit (records_of options.end text))
+    count_by (is_selected options res) (searched options res limit (records options.end text))
 
 -- the lines of a text that are read
 abbrev pub read_in : Options → List Re → Context → ℕ → List ℕ → List (List ℕ)
-read_in options res context limit text = read options res context limit 0 (records_of options.end text)
+read_in options res context limit text = read options res context limit 0 (records options.end text)
 
 -- two hyphens, as a line
 abbrev pub separator : Bool → List ℕ
@@ -209,7 +212,7 @@ grouped context used gap left (item ∷ items) =
 -- says that some line of another text was printed before.
 abbrev pub printed : Bool → Options → List Re → List ℕ → Context → Bool → ℕ → List ℕ → List ℕ
 printed wanted options res name context used limit text =
-    grouped context used true 0 (items wanted options res name limit 1 0 (records_of options.end text))
+    grouped context used true 0 (items wanted options res name limit 1 0 (records options.end text))
 
 -- the name of the input, as a line
 abbrev pub name_line : Options → List ℕ → List ℕ

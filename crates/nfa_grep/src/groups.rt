@@ -1,5 +1,6 @@
 //! Groups of lines: those that are selected, and those around them.
-ghost use Rattle.std.specs.Prelude.{◌≡◌, ◌+◌, ◌-◌, ◌<◌, ◌^◌, ◌++◌, ◌∷◌, [], IfOk, List, OnOk, false, if◌then◌else◌, length, true, ◌≤◌, ◌&&◌, ◌==◌, All, not, ℕ};
+ghost use Rattle.std.specs.Prelude.{◌≡◌, ◌+◌, ◌-◌, ◌<◌, ◌^◌, ◌++◌, ◌∷◌, [], IfOk, List, OnOk, false, if◌then◌else◌};
+ghost use Rattle.std.specs.Prelude.{length, true, ◌≤◌, ◌&&◌, ◌==◌, All, not, ℕ};
 ghost use Rattle.std.specs.List.{flat_map};
 ghost use Rattle.regex_hir.specs.Re.{Re};
 ghost use Rattle.nfa_grep.specs.Going.{IsInOrder, kept_texts, printed_later};

@@ -3,7 +3,8 @@ ghost use Rattle.std.specs.Prelude.{◌≡◌, ◌≤◌, ◌++◌, None, OnOk, 
 ghost use Rattle.regex_search_core.specs.Found.{found_of};
 ghost use Rattle.regex_search_core.specs.Search.{whole};
 ghost use Rattle.nfa_engines.specs.Lists.{AreDisjoint, IsInside};
-ghost use Rattle.nfa_grep.specs.Painted.{label, matched_from, painted, painted_text, start_of, ColoursCanBeLeftOut, PartsAreTheText};
+ghost use Rattle.nfa_grep.specs.Painted.{label, matched_from, painted, painted_text, start_of, ColoursCanBeLeftOut};
+ghost use Rattle.nfa_grep.specs.Painted.{PartsAreTheText};
 
 use regex_search_core::Match;
 use std::alloc::AllocError;

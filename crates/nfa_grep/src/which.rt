@@ -6,7 +6,7 @@ ghost use Rattle.regex_search_core.specs.Search.{whole};
 ghost use Rattle.nfa_engines.specs.Overlaps.{HoldsPattern};
 ghost use Rattle.nfa_compiler.specs.Compiled.{IsNfaOf, res_of};
 ghost use Rattle.nfa_compiler.specs.Written.{PatternMatches};
-ghost use Rattle.nfa_grep.specs.Meant.{ArePatterns, IsBuilt, numbers_found, which_found, IsTreeRefusal};
+ghost use Rattle.nfa_grep.specs.Meant.{ArePatterns, IsBuilt, which_found, IsTreeRefusal};
 ghost use Rattle.nfa_grep.specs.Printed.{number_list};
 ghost use Rattle.nfa_grep.specs.declared.options.Options.{Options};
 
@@ -86,7 +86,7 @@ impl Which {
     ) -> Result<(), AllocError>
         ensures numbers { OnOk result ((options : Options) → (texts : List (List ℕ)) → (res : List Re)
             → IsBuilt IsNfaOf options texts self.old → ArePatterns options texts res
-            → out.new.items ≡ out.old.items ++ number_list (numbers_found res text.now)) }
+            → out.new.items ≡ out.old.items ++ number_list (patterns_of (which_found res text.now))) }
         ensures kept { self.new ≡ self.old }
     {
         let Ok(set) = self.patterns_in(alloc, text) else {

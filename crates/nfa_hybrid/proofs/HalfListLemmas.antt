@@ -1,13 +1,13 @@
 -- The list of the half matches of an NFA: there is at most one, its offsets rise, and the calls of an iterator give it.
 use Rattle.nfa_paths.proofs.Common.{◌≡◌, ℕ, ◌≤◌, Bool, ap, arith, refl, subst, Option, None, Some, Ok, Err, List, [], ◌∷◌, ◌++◌, map, All, option_map, All-nil, All-cons, HalfFound, half_found_of, Search, HalfMatch, MatchKind, Span, Automaton, IsHalfAnswer}
 use Rattle.nfa_paths.proofs.InsideLemmas.{half-within}
-use Rattle.nfa_paths.proofs.OptionLemmas.{same_some}
-use Rattle.nfa_engines.proofs.HalfLemmas.{half-unique}
+use Rattle.nfa_paths.proofs.MemberLemmas.{same_some}
+use Rattle.nfa_engines.proofs.MatchLemmas.{half-unique}
 use Rattle.nfa_search_base.specs.Common.{matches_in, AreSpansDisjoint, Fails, answer_by, Answer, AnswerIsInside, IsInfalliblyInside, answer_span, fresh, half_span_of}
 use Rattle.nfa_search_base.proofs.IterStateLemmas.{IsOrdered}
 use Rattle.nfa_search_base.proofs.ItemLemmas.{StepsBy, items_as, ShellOf}
 use Rattle.nfa_search_base.proofs.ListLemmas.{as_items, items-view, fresh-disjoint, matches_in-as_items, values-rest, values-unique}
-use Rattle.nfa_search_base.proofs.MatchRunLemmas.{runs-are}
+use Rattle.nfa_search_base.proofs.CapturesRunLemmas.{runs-are}
 use Rattle.nfa_search_base.proofs.RunLemmas.{AnswersOf, Begins, Given, given, items-given}
 use Rattle.nfa_hybrid.specs.HalfLists.{AnswersHalf, AreFirstHalves, AreHalves, AreRising, IsHalfInside}
 use Rattle.nfa_hybrid.specs.HalfRuns.{AreFirst, AreAll, HalvesGiven}

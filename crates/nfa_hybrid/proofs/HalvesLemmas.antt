@@ -7,7 +7,7 @@ use Rattle.nfa_search_base.proofs.ItemLemmas.{ItemsOf, items_as, ShellOf, steps_
 use Rattle.nfa_search_base.proofs.LeavingLemmas.{shell-leaves, shell-to_end}
 use Rattle.nfa_search_base.proofs.RunLemmas.{AnswersOf, Begins}
 use Rattle.nfa_pikevm.specs.Engines.{Pike, kind_of}
-use Rattle.nfa_engines.proofs.LoopLemmas.{sizes-none, sizes-two}
+use Rattle.nfa_engines.proofs.IterationLemmas.{sizes-none, sizes-two}
 use Rattle.nfa_hybrid.specs.HalfIterations.{AsksHalf, HalvesLead, HalvesNextBy, TellsHalf}
 use Rattle.nfa_hybrid.specs.HalfLists.{AnswersHalf}
 use Rattle.nfa_hybrid.specs.HalfRuns.{HalvesGiven}

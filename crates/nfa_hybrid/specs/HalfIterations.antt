@@ -1,9 +1,7 @@
 -- Iterators over half matches that search with an engine. Its value is a C, `engine` is the PikeVM that answers as it
 -- does, and a search does `Work`.
 use Rattle.std.specs.Prelude.{List, map, None, Ok, Option, option_map}
-use Rattle.std.specs.Iterator.{Yields}
-use Rattle.nfa_paths.specs.Common.{HalfFound, half_found_of, Search, HalfMatch}
-use Rattle.nfa_search_base.specs.Common.{DoesSearch, Leaves, LeavesAtEnd, WithCache, StepsWith, TakesStepWith, GivesKept, GivesItem, Answer, half_span_of}
+use Rattle.nfa_search_base.specs.Common.{Yields, HalfFound, half_found_of, Search, HalfMatch, DoesSearch, Leaves, LeavesAtEnd, WithCache, StepsWith, TakesStepWith, GivesKept, GivesItem, Answer, half_span_of}
 use Rattle.nfa_pikevm.specs.Engines.{Pike, kind_of}
 use Rattle.nfa_hybrid.specs.HalfLists.{AnswersHalf}
 

@@ -1,8 +1,6 @@
 -- The half matches of a search as one list, from left to right. It is defined by the steps only.
 use Rattle.std.specs.Prelude.{ℕ, ◌<◌, ◌≤◌, Bool, List, [], ◌∷◌, map, Option, Some, Ok, Err, ⊤}
-use Rattle.std.specs.Option.{ForSome}
-use Rattle.nfa_paths.specs.Common.{HalfFound, Search, MatchKind, Automaton, IsHalfAnswer}
-use Rattle.nfa_search_base.specs.Common.{Fails, ItemsLast, ItemsNext, Answer, IterState, fresh, half_span_of}
+use Rattle.nfa_search_base.specs.Common.{ForSome, HalfFound, Search, MatchKind, Automaton, IsHalfAnswer, Fails, ItemsLast, ItemsNext, Answer, IterState, fresh, half_span_of}
 
 -- the offset is in the span
 pub record IsHalfInside (x : Search) (m : HalfFound) : Type 0 where

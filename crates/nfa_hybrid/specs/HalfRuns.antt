@@ -1,8 +1,6 @@
 -- What the calls of an iterator over the half matches of an NFA have given so far.
 use Rattle.std.specs.Prelude.{List, map, All, None, Option}
-use Rattle.std.specs.Iterator.Runs.{EachRunFrom, ItemsMapTo}
-use Rattle.nfa_paths.specs.Common.{HalfFound, half_found_of, Search, HalfMatch, MatchKind, Automaton}
-use Rattle.nfa_search_base.specs.Common.{RunsGive, GivesFirst, GivesNext}
+use Rattle.nfa_search_base.specs.Common.{EachRunFrom, ItemsMapTo, HalfFound, half_found_of, Search, HalfMatch, MatchKind, Automaton, RunsGive, GivesFirst, GivesNext}
 use Rattle.nfa_hybrid.specs.HalfLists.{AreFirstHalves, AreHalves, AreRising, IsHalfInside}
 
 module _ (nfa : Automaton) (kind : MatchKind) (x : Search) where

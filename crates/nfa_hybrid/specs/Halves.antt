@@ -1,8 +1,6 @@
 -- The iterator over the half matches of a hybrid.
 use Rattle.std.specs.Prelude.{Option, Bool}
-use Rattle.std.specs.Borrow.{MutBor}
-use Rattle.nfa_paths.specs.Common.{Search, HalfMatch}
-use Rattle.nfa_search_base.specs.Common.{GivesStepsWith, StepsWith, iter_state_of, IterState}
+use Rattle.nfa_search_base.specs.Common.{MutBor, Search, HalfMatch, GivesStepsWith, StepsWith, iter_state_of, IterState}
 use Rattle.nfa_hybrid.specs.HalfIterations.{HalvesLead, HalvesNextBy}
 use Rattle.nfa_hybrid.specs.HybridState.{HybridState, KeepsHybrid, RunsInTurn, pike_of}
 use Rattle.nfa_hybrid.specs.declared.hybrid.half_matches.HalfMatches.{HalfMatches}

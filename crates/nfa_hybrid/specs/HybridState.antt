@@ -1,8 +1,7 @@
 -- An engine over a lazy DFA and a PikeVM as a value, and which of the two ran.
 use Rattle.std.specs.Prelude.{◌≡◌, ◌⊎◌, ◌+◌, ◌*◌, ◌≤◌, Bool, false, List, Option, Some}
-use Rattle.nfa_paths.specs.Common.{Search, MatchKind, Automaton, IsWork, max_scans, span_len, total_degree}
 use Rattle.regex_search_core.specs.declared.search.MatchKind.TheVariants.{All}
-use Rattle.nfa_search_base.specs.Common.{finds}
+use Rattle.nfa_search_base.specs.Common.{Search, MatchKind, Automaton, IsWork, max_scans, span_len, total_degree, finds}
 use Rattle.nfa_pikevm.specs.Engines.{AddsPikeWork, Pike, PikeCache, SameCapacities}
 use Rattle.nfa_pikevm.specs.Needs.{overlap_scans}
 use Rattle.nfa_lazy_dfa.specs.Configs.{kind_in as kind_set}

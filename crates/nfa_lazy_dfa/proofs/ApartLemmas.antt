@@ -1,6 +1,6 @@
 -- States that do not lead to a state over a byte.
-use Rattle.nfa_paths.proofs.Common.{◌≡◌, ◌<◌, ℕ, suc, List, [], ◌∷◌, length, map, get_or, refl, ap, sym, ◌∙◌, inl, inr, arith, Option, None, Some, option_and_then, slice_get, cases_Bool, cases_lt, get_or_past, get_or_from_slice_get, slice_get_within, Automaton, Node, node_of, first_target, holds_byte, node_at, target_on, Fail, State, Transition}
 use Rattle.std.proofs.Math.ListN.{get_or-map}
+use Rattle.nfa_paths.proofs.Common.{◌≡◌, ◌<◌, ℕ, suc, List, [], ◌∷◌, length, map, get_or, refl, ap, sym, ◌∙◌, inl, inr, arith, Option, None, Some, option_and_then, slice_get, cases_Bool, cases_lt, get_or_past, get_or_from_slice_get, slice_get_within, Automaton, Node, node_of, first_target, holds_byte, node_at, target_on, Fail, State, Transition}
 use Rattle.thompson_nfa.specs.declared.state.State.TheVariants as variant
 
 never-none : (s : ℕ) → None ≡ Some s → ⊥

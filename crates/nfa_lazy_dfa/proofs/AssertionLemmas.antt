@@ -1,9 +1,8 @@
 -- Assertions hold alike wherever the bytes on both sides of a position are alike. Those of Unicode words do so only
 -- between bytes below 128.
-use Rattle.nfa_paths.proofs.Common.{◌≡◌, ◌∙◌, ℕ, ◌==◌, ◌||◌, ◌≤◌, ◌<◌, ◌⊎◌, inl, inr, true, ◌++◌, false, List, length, refl, sym, ap, subst, arith, lit<, Option, None, Some, option_to_list, slice_get, cases_Bool, eqb_tells, slice_get-get_or, Automaton, Node, look_holds, node_at, Look, is_word_byte, Start, End, StartLF, EndLF, StartCRLF, EndCRLF, WordAscii, WordAsciiNegate, WordUnicode, WordUnicodeNegate, WordStartAscii, WordEndAscii, WordStartUnicode, WordEndUnicode, WordStartHalfAscii, WordEndHalfAscii, WordStartHalfUnicode, WordEndHalfUnicode, Holding, holding_at, byte_before}
 use Rattle.thompson_nfa.specs.declared.look.Look as looks
-use Rattle.thompson_nfa.proofs.AsciiWordLemmas.{ascii_look, look_holds-ascii}
-use Rattle.thompson_nfa.proofs.BetweenLemmas.{before-some, holds_between, holds-between}
+use Rattle.thompson_nfa.proofs.BetweenLemmas.{ascii_look, look_holds-ascii, before-some, holds_between, holds-between}
+use Rattle.nfa_paths.proofs.Common.{◌≡◌, ◌∙◌, ℕ, ◌==◌, ◌||◌, ◌≤◌, ◌<◌, ◌⊎◌, inl, inr, true, ◌++◌, false, List, length, refl, sym, ap, subst, arith, lit<, Option, None, Some, option_to_list, slice_get, cases_Bool, eqb_tells, slice_get-get_or, Automaton, Node, look_holds, node_at, Look, is_word_byte, Start, End, StartLF, EndLF, StartCRLF, EndCRLF, WordAscii, WordAsciiNegate, WordUnicode, WordUnicodeNegate, WordStartAscii, WordEndAscii, WordStartUnicode, WordEndUnicode, WordStartHalfAscii, WordEndHalfAscii, WordStartHalfUnicode, WordEndHalfUnicode, Holding, holding_at, byte_before}
 use Rattle.nfa_lazy_dfa.specs.Assertions.{HasNoLook, IsRead, HasNoUnicodeWord, SameLooks, is_look, like, may_follow, reads_bytes, sees}
 
 -- between two bytes there are these two

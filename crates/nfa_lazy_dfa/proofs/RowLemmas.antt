@@ -1,7 +1,5 @@
 -- The rows of a cache, as rows are added and cells are written.
-use Rattle.nfa_paths.proofs.Common.{◌≡◌, ℕ, zero, suc, ◌+◌, ◌*◌, ◌<◌, ◌≢◌, ◌⊎◌, inl, inr, List, [], ◌∷◌, ◌++◌, length, get_or, set, refl, ap, sym, ◌∙◌, subst, arith, All, get_or-set_same, get_or-set_other, length-set, length-append, Option, None, Some, option_map, slice_get, get_or-append-add, get_or-replicate, length-replicate, map-append, length-map, All-append, slice_get_within, slice_get-get_or, slice_get-map, number_of, PatternID, MatchKind, Automaton}
-use Rattle.std.proofs.Math.Decide.{ℕ_discrete}
-use Rattle.std.proofs.Math.ListN.{get_or-append}
+use Rattle.nfa_paths.proofs.Common.{ℕ_discrete, get_or-append, ◌≡◌, ℕ, zero, suc, ◌+◌, ◌*◌, ◌<◌, ◌≢◌, ◌⊎◌, inl, inr, List, [], ◌∷◌, ◌++◌, length, get_or, set, refl, ap, sym, ◌∙◌, subst, arith, All, get_or-set_same, get_or-set_other, length-set, length-append, Option, None, Some, option_map, slice_get, get_or-append-add, get_or-replicate, length-replicate, map-append, length-map, All-append, slice_get_within, slice_get-get_or, slice_get-map, number_of, PatternID, MatchKind, Automaton}
 use Rattle.nfa_lazy_dfa.specs.Rows.{AreRows, Leads, row_of, unknown, stances_of}
 use Rattle.nfa_lazy_dfa.specs.Stances.{Stance, hit_here, stance_of}
 use Rattle.nfa_lazy_dfa.specs.declared.follow.Stand.{Stand}

@@ -3,8 +3,7 @@ use Rattle.nfa_paths.proofs.Common.{◌≡◌, ℕ, zero, suc, ◌+◌, ◌-◌,
 use Rattle.nfa_paths.proofs.InsideLemmas.{half-within}
 use Rattle.nfa_paths.proofs.MemberLemmas.{In-append}
 use Rattle.nfa_determinize.specs.Closures.{closure, explore, kept, step}
-use Rattle.nfa_determinize.specs.Configurations.{closure_at, scan_half, scanned}
-use Rattle.nfa_determinize.specs.Idles.{StartsFrom}
+use Rattle.nfa_determinize.specs.Configurations.{closure_at, scan_half, scanned, StartsFrom}
 use Rattle.nfa_determinize.proofs.IdleLemmas.{StartsFrom-start, half-after, idle-passes}
 use Rattle.nfa_lazy_dfa.specs.Apart.{IsStartApart}
 use Rattle.nfa_lazy_dfa.specs.Places.{IsFoundAt}

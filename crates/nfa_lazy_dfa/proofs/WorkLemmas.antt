@@ -1,6 +1,5 @@
 -- What parts of a scan and scans spend, one after the other.
-use Rattle.nfa_paths.proofs.Common.{◌≡◌, ℕ, ◌+◌, ◌-◌, ◌*◌, ◌≤◌, ◌∙◌, refl, arith, Search}
-use Rattle.std.proofs.Math.Nat.{add-mul}
+use Rattle.nfa_paths.proofs.Common.{add-mul, ◌≡◌, ℕ, ◌+◌, ◌-◌, ◌*◌, ◌≤◌, ◌∙◌, refl, arith, Search}
 use Rattle.nfa_lazy_dfa.specs.Rows.{AllowsClears, CountsScan, IsBounded, Scans, ScansAtMost, Spends, steps_of}
 use Rattle.nfa_lazy_dfa.specs.declared.cache.Cache.{Cache}
 use Rattle.nfa_lazy_dfa.specs.declared.dfa.DFA.{DFA}

@@ -1,7 +1,7 @@
 -- When a search gives up since its cache is full.
 use Rattle.std.specs.Prelude.{◌≡◌, ℕ, ◌+◌, ◌*◌, ◌<◌, ◌≤◌, ◌⊎◌, true, length, is_some, IfErr, IfOk, Result, Ok, Err, ⊤}
-use Rattle.nfa_paths.specs.Common.{Search, MatchKind, Automaton, start_state, LeftmostFirst}
 use Rattle.regex_search_core.specs.declared.search.MatchKind.TheVariants.{All}
+use Rattle.nfa_paths.specs.Common.{Search, MatchKind, Automaton, start_state, LeftmostFirst}
 use Rattle.nfa_lazy_dfa.specs.Rows.{IsFor, IsRowOf, Spends, capacity_of, clears_of, max_clears_of}
 use Rattle.nfa_lazy_dfa.specs.Stances.{Stance}
 use Rattle.nfa_lazy_dfa.specs.declared.cache.Cache.{Cache}

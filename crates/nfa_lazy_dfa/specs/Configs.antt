@@ -1,7 +1,6 @@
 -- The configuration of a lazy DFA, and what is read from it.
 use Rattle.std.specs.Prelude.{ℕ, None, unwrap_or}
-use Rattle.std.specs.Option.{option_or}
-use Rattle.nfa_paths.specs.Common.{MatchKind, Automaton, LeftmostFirst}
+use Rattle.nfa_paths.specs.Common.{option_or, MatchKind, Automaton, LeftmostFirst}
 use Rattle.nfa_lazy_dfa.specs.Options.{Options}
 use Rattle.nfa_lazy_dfa.specs.declared.dfa.DFA.{DFA}
 

@@ -15,7 +15,6 @@ pub mod Windows
 pub mod Stops
 pub mod Finders
 pub use Rattle.nfa_determinize.specs.Configurations
-pub use Rattle.nfa_determinize.specs.Idles
 pub use Rattle.nfa_paths.specs.Paths
 pub use Rattle.regex_search_core.specs.Found
 pub use Rattle.regex_search_core.specs.Search

@@ -1,7 +1,7 @@
 -- What a row of a lazy DFA stands for, and where a byte leads.
-use Rattle.std.specs.Prelude.{◌≡◌, ℕ, ◌-◌, Bool, true, not, ◌&&◌, List, [], ◌∷◌, ◌++◌, Option, None, Some, is_some, map, option_map, option_to_list, slice_get, if◌then◌else◌}
-use Rattle.nfa_paths.specs.Common.{number_of, Search, MatchKind, Automaton, In, start_state, LeftmostFirst, Holding, holding_at}
+use Rattle.std.specs.Prelude.{◌≡◌, ℕ, ◌-◌, Bool, true, not, ◌&&◌, List, [], ◌∷◌, ◌++◌, Option, None, Some, is_some, map, option_map, slice_get, if◌then◌else◌}
 use Rattle.regex_search_core.specs.declared.search.MatchKind.TheVariants.{All}
+use Rattle.nfa_paths.specs.Common.{option_to_list, number_of, Search, MatchKind, Automaton, In, start_state, LeftmostFirst, Holding, holding_at}
 use Rattle.nfa_determinize.specs.Closures.{closure, kept, pattern_by_kind, state_pattern, step}
 use Rattle.nfa_determinize.specs.Configurations.{Configuration, start_here}
 use Rattle.nfa_lazy_dfa.specs.Assertions.{IsRead, SameLooks, sees}

@@ -1,10 +1,12 @@
 //! The rows that were built so far.
-ghost use Rattle.std.specs.Prelude.{◌≡◌, ℕ, ◌+◌, ◌-◌, ◌*◌, ◌<◌, ◌≤◌, ◌++◌, ◌∷◌, [], true, false, None, Some};
-ghost use Rattle.std.specs.Prelude.{◌⊎◌, ◌↔◌, All, Err, IfErr, IfOk, IfNone, IfSome, IsOkUnless, IsTrue, OnErr, OnOk, length, map, option_map, slice_get, vec_len};
-ghost use Rattle.regex_search_core.specs.Patterns.{number_of};
+ghost use Rattle.std.specs.Prelude.{◌≡◌, ℕ, ◌+◌, ◌-◌, ◌*◌, ◌<◌, ◌≤◌, ◌++◌, ◌∷◌, [], true, false, None, Some, ◌⊎◌, ◌↔◌};
+ghost use Rattle.std.specs.Prelude.{All, Err, IfErr, IfOk, IfNone, IfSome, IsOkUnless, IsTrue, OnErr, OnOk, length};
+ghost use Rattle.std.specs.Prelude.{map, option_map, slice_get, vec_len};
+ghost use Rattle.regex_search_core.specs.PatternSets.{number_of};
 ghost use Rattle.nfa_lazy_dfa.specs.Capacities.{GivesFirstRow, IsUsedUpBy, largest_row_memory};
 ghost use Rattle.nfa_lazy_dfa.specs.Rows as rows;
-ghost use Rattle.nfa_lazy_dfa.specs.Rows.{AllowsClears, CountsScan, IsFor, IsRowOf, KeepsRows, Spends, memory_of, stances_of};
+ghost use Rattle.nfa_lazy_dfa.specs.Rows.{AllowsClears, CountsScan, IsFor, IsRowOf, KeepsRows, Spends, memory_of};
+ghost use Rattle.nfa_lazy_dfa.specs.Rows.{stances_of};
 ghost use Rattle.nfa_lazy_dfa.specs.Stances.{first_stance, hit_here, hits_here, stance_of};
 
 mod copy;

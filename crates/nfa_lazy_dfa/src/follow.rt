@@ -1,7 +1,6 @@
 //! One step of the DFA, from a row over a byte to the next one.
-ghost use Rattle.std.specs.Prelude.{◌≡◌, ℕ, ◌<◌, ◌≤◌, [], Option, None, Some};
-ghost use Rattle.std.specs.Prelude.{All, IfOk, length, map, option_map};
-ghost use Rattle.regex_search_core.specs.Patterns.{number_of};
+ghost use Rattle.std.specs.Prelude.{◌≡◌, ℕ, ◌<◌, ◌≤◌, [], Option, None, Some, All, IfOk, length, map, option_map};
+ghost use Rattle.regex_search_core.specs.PatternSets.{number_of};
 ghost use Rattle.regex_search_core.specs.declared.search.MatchKind.TheVariants.{LeftmostFirst};
 ghost use Rattle.thompson_nfa.specs.Automaton.{node_of};
 ghost use Rattle.nfa_paths.specs.Graphs.{In};
@@ -9,7 +8,8 @@ ghost use Rattle.nfa_paths.specs.Paths.{pattern_of};
 ghost use Rattle.nfa_lazy_dfa.specs.Assertions.{IsRead, SameLooks, like, sees};
 ghost use Rattle.nfa_lazy_dfa.specs.Capacities.{largest_row_memory};
 ghost use Rattle.nfa_lazy_dfa.specs.Rows as rows;
-ghost use Rattle.nfa_lazy_dfa.specs.Stances.{Covers, IsNext, goes_on, here, hit_here, hits_here, patterns_for, patterns_in, stance_of};
+ghost use Rattle.nfa_lazy_dfa.specs.Stances.{Covers, IsNext, goes_on, here, hit_here, hits_here, patterns_for};
+ghost use Rattle.nfa_lazy_dfa.specs.Stances.{patterns_in, stance_of};
 
 use crate::dfa::DFA;
 use nfa_determinize::closure::{closure, kept, pattern_by_kind, step};

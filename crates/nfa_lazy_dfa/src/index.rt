@@ -1,6 +1,7 @@
 //! The rows of a cache by the hash of what they stand for.
-ghost use Rattle.std.specs.Prelude.{◌≡◌, ◌↔◌, ◌≤◌, ◌∷◌, [], None, Some, IfOk, IfSome, IsTrue, length, map, option_map, slice_get};
-ghost use Rattle.regex_search_core.specs.Patterns.{number_of};
+ghost use Rattle.std.specs.Prelude.{◌≡◌, ◌↔◌, ◌≤◌, ◌∷◌, [], None, Some, IfOk, IfSome, IsTrue, length, map, option_map};
+ghost use Rattle.std.specs.Prelude.{slice_get};
+ghost use Rattle.regex_search_core.specs.PatternSets.{number_of};
 ghost use Rattle.nfa_lazy_dfa.specs.Rows.{stances_of};
 ghost use Rattle.nfa_lazy_dfa.specs.Stances.{first_stance, stance_of};
 

@@ -1,8 +1,7 @@
 //! The patterns of all matches, including matches that overlap.
 ghost use Rattle.std.specs.Prelude.{◌≡◌, ◌+◌, ◌-◌, ◌<◌, ◌≤◌, ◌⊎◌, IfErr, IfOk, OnErr, OnOk, false, length, map, true};
 ghost use Rattle.std.specs.Prelude.{slice_get};
-ghost use Rattle.regex_search_core.specs.PatternSets.{size_of_set};
-ghost use Rattle.regex_search_core.specs.Patterns.{number_of};
+ghost use Rattle.regex_search_core.specs.PatternSets.{size_of_set, number_of};
 ghost use Rattle.regex_search_core.specs.Search.{search_of};
 ghost use Rattle.regex_search_core.specs.declared.search.MatchKind.TheVariants.{All};
 ghost use Rattle.nfa_paths.specs.Overlaps.{IsOverlapResult};
@@ -11,7 +10,8 @@ ghost use Rattle.nfa_lazy_dfa.specs.Capacities.{HasNoRoom, HasToScan, IsUsedUpAt
 ghost use Rattle.nfa_lazy_dfa.specs.Configs.{kind_of, nfa_of};
 ghost use Rattle.nfa_lazy_dfa.specs.Places.{IsFoundAt};
 ghost use Rattle.nfa_lazy_dfa.specs.Reads.{HasRead, IsSetOver};
-ghost use Rattle.nfa_lazy_dfa.specs.Rows.{IsAt, IsBounded, IsFor, IsRowOf, Scans, Spends, capacity_of, memory_of, scans_of, steps_of};
+ghost use Rattle.nfa_lazy_dfa.specs.Rows.{IsAt, IsBounded, IsFor, IsRowOf, Scans, Spends, capacity_of, memory_of};
+ghost use Rattle.nfa_lazy_dfa.specs.Rows.{scans_of, steps_of};
 ghost use Rattle.nfa_lazy_dfa.specs.Sets.{AddsEach, AddsHere, IsPartOfOverlap};
 ghost use Rattle.nfa_lazy_dfa.specs.Stances.{hits_here};
 ghost use Rattle.nfa_lazy_dfa.specs.Stops.{IsStop};

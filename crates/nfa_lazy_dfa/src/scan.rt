@@ -1,12 +1,12 @@
 //! A scan, row by row.
-ghost use Rattle.std.specs.Prelude.{◌≡◌, ℕ, ◌+◌, ◌-◌, ◌<◌, ◌≤◌, ◌⊎◌, IfErr, IfNone, IfOk, IfSome, OnErr, OnOk};
-ghost use Rattle.std.specs.Prelude.{Option, Some, ◌∷◌, [], false, if◌then◌else◌, is_some, length, option_map, slice_get};
+ghost use Rattle.std.specs.Prelude.{◌≡◌, ℕ, ◌+◌, ◌-◌, ◌<◌, ◌≤◌, ◌⊎◌, IfErr, IfNone, IfOk, IfSome, OnErr, OnOk, Option};
+ghost use Rattle.std.specs.Prelude.{Some, ◌∷◌, [], false, if◌then◌else◌, is_some, length, option_map, slice_get};
 ghost use Rattle.std.specs.Prelude.{slice_index, true, vec_len};
-ghost use Rattle.regex_search_core.specs.Found.{half_found_of};
-ghost use Rattle.regex_search_core.specs.Patterns.{number_of};
+ghost use Rattle.regex_search_core.specs.Found.{half_found_of, half_at};
+ghost use Rattle.regex_search_core.specs.PatternSets.{number_of};
 ghost use Rattle.regex_search_core.specs.Search.{search_of};
 ghost use Rattle.nfa_paths.specs.Paths.{start_count, start_state, starts};
-ghost use Rattle.nfa_determinize.specs.Configurations.{half_at, scan_half};
+ghost use Rattle.nfa_determinize.specs.Configurations.{scan_half};
 ghost use Rattle.nfa_lazy_dfa.specs.Places.{IsFirstAt, IsFoundAt, IsNextPlace};
 ghost use Rattle.nfa_lazy_dfa.specs.Assertions.{IsRead, SameLooks, byte_before, sees};
 ghost use Rattle.nfa_lazy_dfa.specs.Capacities.{HasToScan, IsUsedUpAt, StopsAtStart, first_row_memory};

@@ -3,7 +3,7 @@ ghost use Rattle.std.specs.Prelude.{◌≡◌, ◌↔◌, ◌<◌, ◌≤◌, If
 ghost use Rattle.regex_search_core.specs.Found.{half_found_of};
 ghost use Rattle.regex_search_core.specs.Search.{search_of};
 ghost use Rattle.nfa_paths.specs.Paths.{IsBoolAnswer, IsHalfAnswer, is_utf8_empty};
-ghost use Rattle.nfa_determinize.specs.Searches.{IsRestartedHalf, IsStepsHalf, IsWholeHalf};
+ghost use Rattle.nfa_determinize.specs.Configurations.{IsRestartedHalf, IsStepsHalf, IsWholeHalf};
 ghost use Rattle.nfa_lazy_dfa.specs.Capacities.{HasNoRoom, HasToScan, IsUsedUpAt, StopsAtStart, first_row_memory};
 ghost use Rattle.nfa_lazy_dfa.specs.Configs.{kind_of, nfa_of};
 ghost use Rattle.nfa_lazy_dfa.specs.Reads.{HasReadSpan};

@@ -3,11 +3,10 @@
 //! `watch.rt` says which of these positions a scan sees.
 ghost use Rattle.std.specs.Prelude.{◌≡◌, ◌+◌, ◌-◌, ◌<◌, ◌≤◌, IfErr, IfOk, IfSome, OnOk, option_map, true};
 ghost use Rattle.regex_search_core.specs.Found.{half_found_of};
-ghost use Rattle.regex_search_core.specs.Patterns.{number_of};
+ghost use Rattle.regex_search_core.specs.PatternSets.{number_of};
 ghost use Rattle.regex_search_core.specs.Search.{search_of};
 ghost use Rattle.nfa_paths.specs.Paths.{IsHalfAnswer};
-ghost use Rattle.nfa_determinize.specs.Configurations.{scan_half};
-ghost use Rattle.nfa_determinize.specs.Idles.{StartsFrom};
+ghost use Rattle.nfa_determinize.specs.Configurations.{scan_half, StartsFrom};
 ghost use Rattle.nfa_lazy_dfa.specs.Capacities.{HasNoRoom, HasToScan, IsUsedUpAt, StopsAtStart, first_row_memory};
 ghost use Rattle.nfa_lazy_dfa.specs.Configs.{kind_of, nfa_of};
 ghost use Rattle.nfa_lazy_dfa.specs.Reads.{HasRead, HasReadSpan, IsOver};

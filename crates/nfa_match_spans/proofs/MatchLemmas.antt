@@ -7,7 +7,7 @@ use Rattle.nfa_paths.proofs.OneScanLemmas.{last-scan, scan-of}
 use Rattle.nfa_paths.proofs.PathToLemmas.{EndsWith-last}
 use Rattle.nfa_engines.proofs.FirstStartLemmas.{ends-one, heads-one}
 use Rattle.nfa_engines.specs.Items.{end_of}
-use Rattle.nfa_engines.proofs.GapLemmas.{path-match}
+use Rattle.nfa_engines.proofs.MatchLemmas.{path-match}
 use Rattle.nfa_match_spans.specs.MatchSpanLaws.{AnchoredStartsTheSpan, AnswersBytes, AreOneMatch, BytesAreAnswered, HalfMatchesAreEnds, HasNoByteAt, MatchesAreOfPaths, MatchesNothing, NoBytesAreAnswered, PathsReadBytes}
 use Rattle.nfa_match_spans.specs.StatePaths.{RecordsMatchSpans}
 use Rattle.nfa_match_spans.proofs.LawLemmas.{paths-recorded, start-anchored}
@@ -105,7 +105,7 @@ module _ (nfa : Automaton) (kind : MatchKind) (earliest : Bool) (x : Search) (va
           search (rules, no-bytes-answered)
 
 pub no-bytes-shown : NoBytesAreAnswered
-no-bytes-shown nfa kind earliest x found valid bound records answer none = record {
-  no_bytes = no-bytes-answered nfa kind earliest x valid bound records found answer none;
-  nothing = λ anywhere read. no-path-answered nfa kind earliest x valid bound records anywhere read found answer none;
-}
+no-bytes-shown nfa kind earliest x found valid bound records answer none = (
+  no-bytes-answered nfa kind earliest x valid bound records found answer none,
+  λ anywhere read. no-path-answered nfa kind earliest x valid bound records anywhere read found answer none,
+)

@@ -1,14 +1,43 @@
--- Ways, and the places that they lead to.
-use Rattle.nfa_paths.proofs.Common.{◌≡◌, ℕ, ◌+◌, ◌*◌, ◌<◌, length, List, [], ◌∷◌, ◌++◌, refl, sym, rules, arith, subst, Option, Some, None, true, false, ◌&&◌, option_or, Automaton, IsAutomaton, Pair, In, HeadIs, Linked, EndsWith, node_at, pattern_of, slot_among}
+-- Ways, the places that they lead to, what a place says about the two slots, and the table of those that were reached.
+use Rattle.nfa_paths.proofs.Common.{ℕ_discrete, ◌≡◌, ℕ, ◌+◌, ◌*◌, ◌==◌, List, [], ◌∷◌, ◌++◌, sym, arith, Option, Some, None, false, if◌then◌else◌, option_or, option_map_or, Automaton, Node, Pair, slot_of, slot_among, Capture, ◌<◌, length, refl, rules, subst, true, ◌&&◌, IsAutomaton, In, HeadIs, Linked, EndsWith, node_at, pattern_of, inl, inr, get_or, set, ap, ◌∙◌, get_or-set_other, length-set, Bool, append_assoc, length-append, sum_by-set}
+use Rattle.nfa_match_spans.specs.StatePaths.{reads, position_after, targets, open_edges, IsStatePath, PatternRecordsMatchSpans, RecordsMatchSpans}
+use Rattle.nfa_match_spans.specs.PathStates.{fresh_path_state, at_state, after_node, Describes, next_places, is_recorded, IsFresh, IsLedTo, IsClosed, path_state_number, IsTable, GainsPathStates}
+use Rattle.nfa_match_spans.specs.declared.path_state.PathState.{PathState}
+use Rattle.nfa_paths.proofs.MemberLemmas.{option_or-None, option_or-assoc, In-map, In-append, In-append_left, In-append_right}
 use Rattle.nfa_paths.proofs.PathToLemmas.{EndsWith-last}
 use Rattle.nfa_paths.proofs.PatternLemmas.{node-pattern}
-use Rattle.nfa_match_spans.specs.StatePaths.{targets, position_after, open_edges, IsStatePath, PatternRecordsMatchSpans, RecordsMatchSpans}
-use Rattle.nfa_match_spans.specs.PathStates.{fresh_path_state, at_state, after_node, next_places, is_recorded, IsFresh, Describes, IsLedTo, IsClosed}
-use Rattle.nfa_match_spans.proofs.PathStateLemmas.{written, slot_among-append, Describes-fresh, Describes-after}
-use Rattle.nfa_match_spans.specs.declared.path_state.PathState.{PathState}
-use Rattle.nfa_paths.proofs.OptionLemmas.{option_or-None, option_or-assoc}
-use Rattle.nfa_paths.proofs.MemberLemmas.{In-map}
-use Rattle.nfa_engines.proofs.MovedGraphLemmas.{In-mapped}
+use Rattle.nfa_engines.proofs.MovedLemmas.{In-mapped}
+
+-- the value of the slot after the state, which is at this position
+abbrev pub written : Node → ℕ → ℕ → Option ℕ → Option ℕ
+written node slot position held =
+    option_or (if option_map_or (λ k. k == slot) (slot_of node) false then Some position else None) held
+
+-- the slots of two rows
+pub slot_among-append : (nfa : Automaton) (p q : List Pair) (slot : ℕ)
+    → slot_among nfa (p ++ q) slot ≡ option_or (slot_among nfa q slot) (slot_among nfa p slot)
+slot_among-append nfa [] q slot = sym (option_or-None (slot_among nfa q slot))
+slot_among-append nfa (v ∷ p) q slot =
+    rw (slot_among-append nfa p q slot) (option_or-assoc (slot_among nfa q slot) (slot_among nfa p slot) _)
+
+-- at the start of a way
+pub Describes-fresh : (s position : ℕ) → Describes position position None None (fresh_path_state s)
+Describes-fresh s position = grind arith
+
+module _ {start position : ℕ} {start_slot end_slot : Option ℕ} {v : PathState} where
+  Describes-captured : (pattern next slot s : ℕ) → Describes start position start_slot end_slot v
+      → Describes start position (written (Capture next slot) (2 * pattern) position start_slot)
+      (written (Capture next slot) (2 * pattern + 1) position end_slot)
+      (at_state (after_node pattern (Capture next slot) v) s)
+  unfolding after_node
+  Describes-captured pattern next slot s h = grind arith
+
+  -- after the turn of the place's state
+  pub Describes-after : (pattern : ℕ) (node : Node) (s : ℕ) → Describes start position start_slot end_slot v
+      → Describes start (position_after node position) (written node (2 * pattern) position start_slot)
+      (written node (2 * pattern + 1) position end_slot) (at_state (after_node pattern node v) s)
+  unfolding after_node reads
+  Describes-after = grind (arith, Describes-captured)
 
 HeadIs-append : (s : Pair) (p q : List Pair) → HeadIs s p → HeadIs s (p ++ q)
 HeadIs-append = grind arith
@@ -116,3 +145,33 @@ module _ (nfa : Automaton) (pattern : ℕ) where
 pub RecordsMatchSpans-each : (nfa : Automaton) → IsAutomaton nfa
     → ((k : ℕ) → k < length nfa.patterns → PatternRecordsMatchSpans nfa k) → RecordsMatchSpans nfa
 RecordsMatchSpans-each nfa valid each end p way matches = search (rules, node-pattern)
+
+-- a place that was not marked is marked, and listed
+pub IsTable-more : (marks : List Bool) (places : List PathState) (v : PathState) → path_state_number v < length marks
+    → get_or marks (path_state_number v) false ≡ false → IsTable marks places
+    → IsTable (set marks (path_state_number v) true) (places ++ v ∷ [])
+IsTable-more marks places v inside clear table =
+    grind (arith, In-append_left, In-append_right, get_or-set_other, length-append, length-set, sum_by-set, ℕ_discrete)
+
+-- places that were added
+
+pub GainsPathStates-one : (old : List PathState) (v : PathState) → GainsPathStates old (old ++ v ∷ []) (v ∷ [])
+GainsPathStates-one old v = grind (arith, In-append_right)
+
+-- some, and then more
+pub GainsPathStates-then : {a b c ws us : List PathState} → GainsPathStates a b ws → GainsPathStates b c us
+    → GainsPathStates a c (ws ++ us)
+GainsPathStates-then {a = a} {b = b} {c = c} {ws = ws} {us = us} f g = record {
+  more = f.more ++ g.more;
+  kept = g.kept ∙ ap (λ l. l ++ g.more) f.kept ∙ append_assoc a f.more g.more;
+  only = λ v i.
+      elim (In-append v f.more g.more i) [
+        | inl j ↦ In-append_left v ws us (f.only v j)
+        | inr j ↦ In-append_right v ws us (g.only v j)
+      ];
+  all = λ v i.
+      elim (In-append v ws us i) [
+        | inl j ↦ rw g.kept (In-append_left v b g.more (f.all v j))
+        | inr j ↦ g.all v j
+      ];
+}

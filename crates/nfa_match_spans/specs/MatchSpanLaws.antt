@@ -1,9 +1,9 @@
 -- What a match says about the path that its search answers, if each way of the NFA writes its bounds.
 use Rattle.std.specs.Prelude.{◌≡◌, ◌↔◌, ℕ, ◌<◌, ◌≤◌, Bool, List, false, true, Option, None, Some, IfSome, option_map, ⊤}
 use Rattle.nfa_paths.specs.Common.{Found, HalfFound, Search, is_anchored, MatchKind, Automaton, IsAutomaton, Pair, EndsWith, PathTo, NoPath, edges, starts, path_pattern, raised, is_utf8_empty, IsMatch, IsHalfAnswer, IsSearchAnswer, IsFindAnswer}
-pub use Rattle.nfa_engines.specs.Accepting.{MatchesNothing}
+pub use Rattle.nfa_engines.specs.Laws.{MatchesNothing}
 use Rattle.nfa_engines.specs.Items.{end_of}
-use Rattle.nfa_engines.specs.GapLaws.{PathsWriteTheirEnds, StartsBeforePaths}
+use Rattle.nfa_engines.specs.Laws.{PathsWriteTheirEnds, StartsBeforePaths}
 use Rattle.nfa_match_spans.specs.StatePaths.{RecordsMatchSpans}
 
 -- the match is that of this accepting path: its pattern, its start and its end
@@ -40,12 +40,6 @@ module _ (nfa : Automaton) (kind : MatchKind) (earliest : Bool) where
     pub end : Pair
     pub ends : EndsWith end along
     pub some_bytes : x.start < end.1
-
-  -- That path reads no byte, or there is no such path. If a match may end anywhere and each accepting path reads a
-  -- byte, there is no accepting path.
-  pub record AnswersNoBytes (x : Search) : Type 0 where
-    pub no_bytes : ¬ AnswersBytes x
-    pub nothing : is_utf8_empty nfa ≡ false → PathsReadBytes nfa x → MatchesNothing nfa x
 
 -- each accepting path of each search writes its start and its end
 abbrev pub EverySearchIsRecorded : Type 0
@@ -99,9 +93,11 @@ BytesAreAnswered =
     → is_anchored x.anchored ≡ true → RecordsMatchSpans nfa → IsFindAnswer nfa kind earliest x (Some m)
     → x.start < m.end → AnswersBytes nfa kind earliest x
 
--- and no such path if its match has no byte, or if there is no match
+-- And no such path if its match has no byte, or if there is no match. If a match may end anywhere and each accepting
+-- path reads a byte, there is then no accepting path.
 abbrev pub NoBytesAreAnswered : Type 0
 NoBytesAreAnswered =
     (nfa : Automaton) (kind : MatchKind) (earliest : Bool) (x : Search) (found : Option Found) → IsAutomaton nfa
     → is_anchored x.anchored ≡ true → RecordsMatchSpans nfa → IsFindAnswer nfa kind earliest x found
-    → HasNoByteAt x.start found → AnswersNoBytes nfa kind earliest x
+    → HasNoByteAt x.start found → (¬ AnswersBytes nfa kind earliest x)
+    × (is_utf8_empty nfa ≡ false → PathsReadBytes nfa x → MatchesNothing nfa x)

@@ -1,6 +1,5 @@
 -- States with what the ways to them have done. A test of all ways visits these.
-use Rattle.std.specs.Prelude.{◌≡◌, ℕ, ◌+◌, ◌*◌, ◌≤◌, ◌<◌, ◌↔◌, Bool, true, false, not, ◌&&◌, ◌==◌, List, [], ◌∷◌, ◌++◌, map, take, length, slice_index_or, Option, Some, if◌then◌else◌}
-use Rattle.std.specs.List.{sum_by}
+use Rattle.std.specs.Prelude.{◌≡◌, ℕ, ◌+◌, ◌*◌, ◌≤◌, ◌<◌, ◌↔◌, Bool, true, false, not, ◌&&◌, List, [], ◌∷◌, ◌++◌, map, take, length, slice_index_or, Option, Some, if◌then◌else◌, count_by, ◌==◌}
 use Rattle.nfa_paths.specs.Common.{Automaton, Node, Pair, In, HeadIs, Linked, node_at, pattern_of, slot_among, Capture}
 use Rattle.nfa_match_spans.specs.StatePaths.{targets, reads, open_edges, IsStart}
 use Rattle.nfa_match_spans.specs.declared.path_state.PathState.{PathState}
@@ -44,14 +43,9 @@ bit false = 0
 abbrev pub path_state_number : PathState → ℕ
 path_state_number v = 8 * v.state + 4 * bit v.has_read + 2 * bit v.start_written + bit v.end_written
 
--- 0 for a place that is marked, 1 for one that is not
-abbrev pub unmarked_place : Bool → ℕ
-unmarked_place true = 0
-unmarked_place false = 1
-
--- Each place is marked at its number. The number of marks that are set is the number of places.
+-- Each place whose number is marked is listed. The number of marks that are set is the number of places.
 pub record IsTable (marks : List Bool) (places : List PathState) : Type 0 where
-  pub count : length places + sum_by unmarked_place marks ≡ length marks
+  pub count : length places + count_by not marks ≡ length marks
   pub listed : (v : PathState) → slice_index_or marks (path_state_number v) false ≡ true → In v places
 
 -- the places that were reached, and their maximum number
@@ -59,7 +53,7 @@ pub record Reach : Type 0 where
   pub room : ℕ
   pub places : List PathState
 
--- these places were added, and no others
+-- these places were added, unless they were there before, and no others
 pub record GainsPathStates (old new wanted : List PathState) : Type 0 where
   pub more : List PathState
   pub kept : new ≡ old ++ more

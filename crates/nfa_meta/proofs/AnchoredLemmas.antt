@@ -1,13 +1,15 @@
 -- The match of an anchored search, from its half match.
-use Rattle.nfa_paths.proofs.Common.{◌≡◌, ◌∙◌, ℕ, Bool, true, false, refl, sym, ap, subst, arith, get_or, ◌+◌, Option, None, Some, IfNone, IfSome, ◌<◌, ◌≤◌, length, option_and_then, option_map, lt-ltb, slice_get-get_or, Found, HalfFound, found_of, slot_count, Search, is_anchored, match_of, Match, MatchKind, Automaton, IsAutomaton, IsFindAnswer, IsHalfAnswer, byte_at, is_utf8_empty, path_pattern, slot_row, LeftmostFirst}
+use Rattle.nfa_paths.proofs.Common.{◌≡◌, ◌∙◌, ℕ, Bool, true, false, refl, sym, ap, subst, arith, get_or, ◌+◌, Option, None, Some, IfNone, IfSome, ◌<◌, ◌≤◌, length, option_and_then, option_map, lt-ltb, slice_get-get_or, Found, HalfFound, found_of, slot_count, Search, is_anchored, match_of, Match, MatchKind, Automaton, IsAutomaton, IsFindAnswer, IsHalfAnswer, byte_at, is_utf8_empty, path_pattern, slot_row, LeftmostFirst, List}
 use Rattle.nfa_paths.proofs.InsideLemmas.{match-within}
-use Rattle.nfa_search_base.proofs.CallerLemmas.{pattern-of}
-use Rattle.nfa_engines.proofs.ByteLemmas.{next-first}
-use Rattle.nfa_engines.specs.Accepting.{MatchesNothing}
+use Rattle.nfa_search_base.proofs.AskingLemmas.{pattern-of}
+use Rattle.nfa_engines.proofs.FirstStartLemmas.{next-first}
+use Rattle.nfa_engines.specs.Laws.{MatchesNothing}
 use Rattle.nfa_search_base.specs.Common.{end_of}
 use Rattle.nfa_engines.specs.StartLaws.{FirstStartMatches, IsFirstStart, StartsAnywhere, anchored_at}
 use Rattle.nfa_match_spans.specs.MatchSpanLaws.{AnchoredStartsTheSpan, HalfMatchesAreEnds, NoneIsNothing}
 use Rattle.nfa_match_spans.specs.StatePaths.{RecordsMatchSpans}
+use Rattle.nfa_choice.specs.ChoiceState.{ChoiceState, KeepsEngines}
+use Rattle.nfa_meta.specs.Built.{IsRegexOf}
 
 -- the match that starts with the span and ends as the half match
 abbrev pub match_at : ℕ → HalfFound → Found
@@ -100,3 +102,13 @@ pub read-inside : (x : Search) (at : ℕ) → at < x.end → x.end ≤ length x.
 read-inside x at less fits =
     let inside : at < length x.haystack = omega arith in
     rw (lt-ltb at x.end less) (slice_get-get_or x.haystack at 0 inside)
+
+-- a search keeps what a regex is made of
+pub regex-kept : (patterns : List (List ℕ)) (old new : ChoiceState) → IsRegexOf patterns old → KeepsEngines old new
+    → IsRegexOf patterns new
+regex-kept patterns old new is kept = record {
+  compiled = rw kept.nfa is.compiled;
+  anywhere = rw kept.nfa is.anywhere;
+  bound = rw kept.nfa is.bound;
+  leftmost = kept.match_kind ∙ is.leftmost;
+}

@@ -1,6 +1,5 @@
 -- A regex as the engine of an iteration over matches.
-use Rattle.nfa_paths.proofs.Common.{◌≡◌, ◌*◌, Option, arith, inl, length, refl, subst, found_of, Search, Match}
-use Rattle.std.proofs.Math.Nat.{le-max_left}
+use Rattle.nfa_paths.proofs.Common.{le-max_left, ◌≡◌, ◌*◌, Option, arith, inl, length, refl, subst, found_of, Search, Match}
 use Rattle.nfa_search_base.specs.Common.{SameButStart, IsKnownFrom}
 use Rattle.nfa_pikevm.specs.Engines.{Pike}
 use Rattle.nfa_pikevm.specs.Finding.{IsSureOf}

@@ -1,7 +1,6 @@
 -- What is left of a search from a first start on, and that nothing is if the prefix does not occur.
 use Rattle.nfa_paths.proofs.Common.{◌≡◌, ℕ, refl, sym, subst, arith, Search, MatchKind, Automaton, IsFindAnswer}
-use Rattle.nfa_engines.specs.Accepting.{MatchesNothing}
-use Rattle.nfa_engines.specs.Laws.{OfSlots}
+use Rattle.nfa_engines.specs.Laws.{MatchesNothing, OfSlots}
 use Rattle.nfa_engines.specs.StartLaws.{IsFirstStart, StartsArePassed, from_start}
 use Rattle.nfa_prefix.specs.PrefixLaws.{NothingIsNoAnswer, NothingIsNoMatch}
 use Rattle.nfa_meta.specs.Windowed.{IsWindowed}

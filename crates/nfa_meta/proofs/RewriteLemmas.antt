@@ -1,9 +1,8 @@
 -- Calls of a function that appends what comes in place of a match.
-use Rattle.nfa_paths.proofs.Common.{All, ◌≡◌, ◌∙◌, ℕ, List, [], ◌∷◌, ◌++◌, Result, ap, refl, slice_range, subst, sym, append_assoc, recursion_from_All, AllByRecursion, whole, Captured}
-use Rattle.std.proofs.lemmas.Fn.{FoldsTo-push}
-use Rattle.std.specs.Borrow.{Bor, MutBor}
-use Rattle.std.specs.Fn.{Mut}
 use Rattle.std.specs.Global.{Vec}
+use Rattle.nfa_paths.proofs.Common.{Bor, MutBor, All, ◌≡◌, ◌∙◌, ℕ, List, [], ◌∷◌, ◌++◌, Result, ap, refl, slice_range, subst, sym, append_assoc, recursion_from_All, AllByRecursion, whole, Captured}
+use Rattle.std.proofs.lemmas.Fn.{FoldsTo-push}
+use Rattle.std.specs.Fn.{Mut}
 use Rattle.std.specs.declared.alloc.AllocError.{AllocError}
 use Rattle.nfa_search_base.specs.Common.{CapturesInside, match_in}
 use Rattle.nfa_meta.specs.Rewritten.{AppendsBy, HasRewritten, RewritesFrom, Writes, WritesForMatch, WritesLead, rewritten}

@@ -1,8 +1,7 @@
 -- For callers that pass a function which changes nothing that it captured: what a call says then holds of each call.
-use Rattle.nfa_paths.proofs.Common.{◌≡◌, ◌∙◌, ℕ, List, [], ◌∷◌, ◌++◌, Ok, Result, ap, refl, subst, sym, FoldsTo, whole, Captured}
-use Rattle.std.specs.Borrow.{Bor, MutBor}
-use Rattle.std.specs.Fn.{Called, Mut}
 use Rattle.std.specs.Global.{Vec}
+use Rattle.nfa_paths.proofs.Common.{Bor, MutBor, ◌≡◌, ◌∙◌, ℕ, List, [], ◌∷◌, ◌++◌, Ok, Result, ap, refl, subst, sym, FoldsTo, whole, Captured}
+use Rattle.std.specs.Fn.{Called, Mut}
 use Rattle.std.specs.declared.alloc.AllocError.{AllocError}
 use Rattle.nfa_search_base.specs.Common.{CapturesInside}
 use Rattle.nfa_meta.specs.Rewritten.{AppendsBy, TakesMatchesOf, Writes, WritesForMatch, WritesLead}

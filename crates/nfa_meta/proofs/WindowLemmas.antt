@@ -3,8 +3,8 @@ use Rattle.nfa_paths.proofs.Common.{Err, Ok, Result, ◌≡◌, ◌⊎◌, inl, 
 use Rattle.nfa_paths.proofs.AnswerLemmas.{scan_answer-leads, scan_answer-unique}
 use Rattle.nfa_paths.proofs.OneScanLemmas.{scan-of, search-of}
 use Rattle.nfa_paths.proofs.PathToLemmas.{EndsWith-last}
-use Rattle.nfa_determinize.specs.Idles.{StartsFrom}
-use Rattle.nfa_engines.specs.FoundSpanLaws.{EndMayBeCut}
+use Rattle.nfa_determinize.specs.Configurations.{StartsFrom}
+use Rattle.nfa_engines.specs.SpanLaws.{EndMayBeCut}
 use Rattle.nfa_engines.specs.StartLaws.{IsFirstStart, IsUnbound, from_start}
 use Rattle.nfa_engines.proofs.FirstStartLemmas.{heads-one, same_edges, start-anchored, start-unanchored, unanchored-start, with-starts}
 use Rattle.nfa_lazy_dfa.specs.Windows.{IsWindow, half_in, start_in}

@@ -1,7 +1,6 @@
 -- What the lists of a regex add to the totals of both caches of its choice.
-use Rattle.nfa_paths.proofs.Common.{◌≡◌, ℕ, ◌+◌, ◌≤◌, ◌⊎◌, Bool, ap, inl, inr, arith, ◌&&◌, not, Search, is_anchored, MatchKind, Automaton, span_len, total_degree}
-use Rattle.std.proofs.Math.Nat.{mul-le-mul_left}
-use Rattle.nfa_engines.specs.WorkLaws.{Totals}
+use Rattle.nfa_paths.proofs.Common.{mul-le-mul_left, ◌≡◌, ℕ, ◌+◌, ◌≤◌, ◌⊎◌, Bool, ap, inl, inr, arith, ◌&&◌, not, Search, is_anchored, MatchKind, Automaton, span_len, total_degree}
+use Rattle.nfa_engines.specs.IterationLaws.{Totals}
 use Rattle.nfa_engines.proofs.EngineWorkLemmas.{Worked}
 use Rattle.nfa_engines.proofs.ReachLemmas.{one-scan}
 use Rattle.nfa_choice.specs.ChoiceState.{ChoiceState, SearchedByRule, kind_in}

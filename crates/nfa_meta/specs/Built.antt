@@ -1,13 +1,13 @@
 -- What a builder makes of the texts of patterns, and why it fails.
 use Rattle.std.specs.Prelude.{◌≡◌, ℕ, true, false, List, Option, None, codes, ⊤}
+use Rattle.regex_syntax.specs.Verdict.{default_config}
 use Rattle.nfa_paths.specs.Common.{Automaton, IsAutomaton, is_utf8_empty}
 use Rattle.nfa_backtrack.specs.Backtrack.{empty_cache}
 use Rattle.nfa_pikevm.specs.Engines.{cache_for}
 use Rattle.nfa_choice.specs.ChoiceState.{ChoiceState}
 use Rattle.nfa_compiler.specs.Compiled.{FindsFromAnyStart, IsBoundAsRead, IsCompiled}
-use Rattle.nfa_compiler.specs.ErrorTexts.{compile_error_text}
-use Rattle.nfa_compiler.specs.Rejected.{IsOfOneText, NamesText, TextsFitIn}
-use Rattle.nfa_compiler.specs.Written.{syntax_of}
+use Rattle.nfa_compiler.specs.Rejected.{compile_error_text, IsOfOneText, NamesText, TextsFitIn}
+use Rattle.nfa_compiler.specs.Written.{syntax_of, byte_syntax}
 use Rattle.nfa_compiler.specs.declared.compiler.Compiler.{Compiler}
 use Rattle.nfa_compiler.specs.declared.error.CompileError.{CompileError}
 use Rattle.nfa_compiler.specs.declared.error.CompileError.TheVariants as cause
@@ -15,7 +15,6 @@ use Rattle.nfa_meta.specs.declared.builder.Builder.{Builder}
 use Rattle.nfa_meta.specs.declared.builder.Config.{Config}
 use Rattle.nfa_meta.specs.declared.error.BuildError.{BuildError}
 use Rattle.nfa_meta.specs.declared.error.BuildError.TheVariants.{Compile, Memory}
-use Rattle.regex_syntax.specs.Verdict.{default_config}
 
 -- the default settings
 abbrev pub default_settings : Config
@@ -95,3 +94,11 @@ build_error_of error = Compile error
 abbrev pub build_error_text : BuildError → List ℕ
 build_error_text Memory = codes "out of memory"
 build_error_text (Compile error) = compile_error_text error
+
+-- The regex is made of these patterns, in byte mode. Its searches are bound to their start and prefer the first pattern
+-- that matches, and matches may end anywhere.
+pub record IsRegexOf (patterns : List (List ℕ)) (regex : ChoiceState) : Type 0 where
+  pub compiled : IsCompiled byte_syntax patterns regex.nfa
+  pub anywhere : is_utf8_empty regex.nfa ≡ false
+  pub bound : regex.nfa.anchored ≡ regex.nfa.unanchored
+  pub leftmost : regex.match_kind ≡ None

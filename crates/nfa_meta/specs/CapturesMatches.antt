@@ -1,8 +1,6 @@
 -- The iterator over the captures of a regex.
 use Rattle.std.specs.Prelude.{Bool, List, Option, Result}
-use Rattle.std.specs.Borrow.{MutBor}
-use Rattle.nfa_paths.specs.Common.{Search, Captured}
-use Rattle.nfa_search_base.specs.Common.{WithCaptures, Row, GivesStepsWith, StepsWith, iter_state_of, IterState}
+use Rattle.nfa_search_base.specs.Common.{MutBor, Search, Captured, WithCaptures, Row, GivesStepsWith, StepsWith, iter_state_of, IterState}
 use Rattle.nfa_search_base.specs.declared.error.SearchError.{SearchError}
 use Rattle.nfa_choice.specs.ChoiceState.{ChoiceState, KeepsEngines}
 use Rattle.nfa_choice.specs.Iterations.{CapturesLead, CapturesNextBy, CapturesOn, CapturesToEnd}

@@ -1,8 +1,6 @@
 -- A text with a template, filled by captures, in place of its matches.
 use Rattle.std.specs.Prelude.{◌≡◌, ◌≤◌, ℕ, false, List, [], ◌∷◌, ◌++◌, All, drop, length, map, slice_range, take}
-use Rattle.std.specs.List.{AllByRecursion}
-use Rattle.nfa_paths.specs.Common.{Search, whole, Captured}
-use Rattle.nfa_search_base.specs.Common.{AreRows, HasGroups, CapturesInside, match_in, AreDisjoint, row_of}
+use Rattle.nfa_search_base.specs.Common.{AllByRecursion, Search, whole, Captured, AreRows, HasGroups, CapturesInside, match_in, AreDisjoint, row_of}
 use Rattle.nfa_choice.specs.ChoiceState.{ChoiceState, kind_in}
 use Rattle.nfa_meta.specs.Gaps.{last_end}
 use Rattle.nfa_meta.specs.Templates.{filled}

@@ -1,7 +1,6 @@
 -- The spans around the matches of a text.
-use Rattle.std.specs.Prelude.{◌≡◌, ◌⊎◌, ◌+◌, ◌≤◌, ◌==◌, ℕ, false, List, [], ◌∷◌, ◌++◌, All, Option, None, Some, drop, length, map, if◌then◌else◌}
-use Rattle.nfa_paths.specs.Common.{Found, found_of, whole, Match, Span}
-use Rattle.nfa_search_base.specs.Common.{AreDisjoint, AreFirstMatches, AreMatches}
+use Rattle.std.specs.Prelude.{◌≡◌, ◌⊎◌, ◌+◌, ◌≤◌, ℕ, false, List, [], ◌∷◌, ◌++◌, All, Option, None, Some, drop, length, map, if◌then◌else◌, ◌==◌}
+use Rattle.nfa_search_base.specs.Common.{Found, found_of, whole, Match, Span, AreDisjoint, AreFirstMatches, AreMatches}
 use Rattle.nfa_choice.specs.ChoiceState.{ChoiceState, kind_in}
 
 -- the spans before, between and after these matches, from the one offset to the other

@@ -1,7 +1,7 @@
 -- The groups that names in a template mean.
 use Rattle.std.specs.Prelude.{ℕ, ◌≡◌, ◌⊎◌, ◌<◌, ◌≤◌, ◌^◌, List, Option, None, option_map, IsUtf8}
-use Rattle.nfa_paths.specs.Common.{group_named, slot_at}
 use Rattle.std.specs.Str.Parse.{IsNumeral, digits_value, without_leading_plus}
+use Rattle.nfa_paths.specs.Common.{group_named, slot_at}
 
 -- a letter, a digit or an underscore
 abbrev pub IsWord : ℕ → Type 0

@@ -15,6 +15,6 @@ pub mod WindowLaws
 pub mod WindowRuns
 pub mod WorkLaws
 pub use Rattle.nfa_choice.specs.ChoiceState
-pub use Rattle.nfa_determinize.specs.Idles
+pub use Rattle.nfa_determinize.specs.Configurations
 pub use Rattle.nfa_hybrid.specs.HalfLists
 pub use Rattle.nfa_hybrid.specs.HalfRuns

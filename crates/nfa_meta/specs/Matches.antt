@@ -1,9 +1,6 @@
 -- The iterator over the matches of a regex.
 use Rattle.std.specs.Prelude.{List, map, None, Option, Bool}
-use Rattle.std.specs.Borrow.{MutBor}
-use Rattle.std.specs.Iterator.{Yields}
-use Rattle.nfa_paths.specs.Common.{Found, found_of, Search, Match}
-use Rattle.nfa_search_base.specs.Common.{IsKnownFrom, WithCache, GivesStepsWith, StepsWith, GivesKept, iter_state_of, Answer, IterState}
+use Rattle.nfa_search_base.specs.Common.{MutBor, Yields, Found, found_of, Search, Match, IsKnownFrom, WithCache, GivesStepsWith, StepsWith, GivesKept, iter_state_of, Answer, IterState}
 use Rattle.nfa_pikevm.specs.Finding.{IsSureOf}
 use Rattle.nfa_choice.specs.ChoiceState.{ChoiceState, KeepsEngines, pike_of}
 use Rattle.nfa_choice.specs.Iterations.{FindsBy, FindsNextBy, FindsOn, FindsToEnd, TellsMatch}

@@ -1,7 +1,6 @@
 -- A text with other bytes in place of its matches.
 use Rattle.std.specs.Prelude.{◌≡◌, ◌⊎◌, ◌≤◌, ℕ, List, [], ◌∷◌, ◌++◌, drop, length, map, slice_range}
-use Rattle.nfa_paths.specs.Common.{Found, found_of, whole, Match}
-use Rattle.nfa_search_base.specs.Common.{AreDisjoint}
+use Rattle.nfa_search_base.specs.Common.{Found, found_of, whole, Match, AreDisjoint}
 use Rattle.nfa_choice.specs.ChoiceState.{ChoiceState}
 use Rattle.nfa_meta.specs.Gaps.{AreAllOf, AreFirstOf, last_end}
 

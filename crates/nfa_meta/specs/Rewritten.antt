@@ -1,12 +1,8 @@
 -- A text with what a function appends in place of its matches.
 use Rattle.std.specs.Prelude.{◌≡◌, ◌≤◌, ℕ, List, [], ◌∷◌, ◌++◌, Ok, Result, drop, length, map, slice_range, take}
-use Rattle.std.specs.Borrow.{Bor, MutBor}
-use Rattle.std.specs.Fn.{Called, Mut}
-use Rattle.std.specs.List.{AllByRecursion, FoldsTo}
-use Rattle.nfa_paths.specs.Common.{whole, Captured}
 use Rattle.std.specs.Global.{Vec}
 use Rattle.std.specs.declared.alloc.AllocError.{AllocError}
-use Rattle.nfa_search_base.specs.Common.{CapturesInside, match_in, AreDisjoint}
+use Rattle.nfa_search_base.specs.Common.{Bor, MutBor, Called, Mut, AllByRecursion, FoldsTo, whole, Captured, CapturesInside, match_in, AreDisjoint}
 use Rattle.nfa_choice.specs.ChoiceState.{ChoiceState}
 use Rattle.nfa_meta.specs.Filled.{AreAllCaught}
 use Rattle.nfa_meta.specs.Gaps.{last_end}

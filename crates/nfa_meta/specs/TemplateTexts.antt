@@ -1,6 +1,6 @@
 -- The text of a template.
 use Rattle.std.specs.Prelude.{ℕ, ◌≡◌, ◌≢◌, ◌⊎◌, ◌+◌, ◌-◌, ◌<◌, List, [], ◌∷◌, Option, Some, None, length, reverse, slice_index, slice_range, ⊤}
-use Rattle.std.specs.List.{AllWithin}
+use Rattle.nfa_paths.specs.Common.{AllWithin}
 use Rattle.nfa_meta.specs.GroupNames.{IsWord, Means}
 use Rattle.nfa_meta.specs.declared.interpolate.Part.{Part}
 use Rattle.nfa_meta.specs.declared.interpolate.Part.TheVariants.{Text, Group}

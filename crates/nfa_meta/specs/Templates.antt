@@ -1,6 +1,5 @@
 -- A template that captures fill.
-use Rattle.std.specs.Prelude.{ℕ, List, [], slice_range, Option, None, Some}
-use Rattle.std.specs.List.{flat_map}
+use Rattle.std.specs.Prelude.{ℕ, List, [], slice_range, Option, None, Some, flat_map}
 use Rattle.nfa_paths.specs.Common.{Captured, group_span, Span}
 use Rattle.nfa_meta.specs.declared.interpolate.Part.{Part}
 use Rattle.nfa_meta.specs.declared.interpolate.Part.TheVariants.{Text, Group}

@@ -2,7 +2,7 @@
 use Rattle.std.specs.Prelude.{ℕ, ◌≤◌, false, List, Option, Some}
 use Rattle.nfa_paths.specs.Common.{Found, HalfFound, Search, Automaton, IsAnswer, IsFindAnswer, IsHalfAnswer, LeftmostFirst}
 use Rattle.nfa_engines.specs.StartLaws.{IsFirstStart, IsUnbound}
-use Rattle.nfa_determinize.specs.Idles.{StartsFrom}
+use Rattle.nfa_determinize.specs.Configurations.{StartsFrom}
 
 -- the search with this span, and the same anchoring and haystack
 abbrev pub within : Search → ℕ → ℕ → Search

@@ -7,7 +7,7 @@
 //! assert_eq!(rt; output.as_slice(), b"Baggins, Bilbo".as_slice());
 //! ```
 ghost use Rattle.std.specs.Prelude.{◌≡◌, ◌≤◌, ◌++◌, All, IfErr, IfOk, None, OnOk, length, map, slice_range};
-ghost use Rattle.regex_search_core.specs.Patterns.{number_of};
+ghost use Rattle.regex_search_core.specs.PatternSets.{number_of};
 ghost use Rattle.regex_search_core.specs.Search.{whole};
 ghost use Rattle.nfa_search_base.specs.Runs.{CapturesInside, match_in};
 ghost use Rattle.nfa_search_base.specs.Lists.{AreDisjoint};

@@ -1,5 +1,5 @@
 //! Laws of windows, and of the work of an iteration. Each function is empty: its contract is the theorem.
-ghost use Rattle.nfa_engines.specs.WorkLaws.{list_scan_limit};
+ghost use Rattle.nfa_engines.specs.IterationLaws.{list_scan_limit};
 ghost use Rattle.nfa_meta.specs.WindowLaws.{WindowHasTheAnswer, WindowHasTheMatch, WindowsAreFirstStarts};
 ghost use Rattle.nfa_meta.specs.WorkLaws.{RegexCapturesWithin, RegexFindsWithin, RegexMatchesAreWithin};
 ghost use Rattle.nfa_meta.specs.WorkLaws.{RegexRowsAreWithin};

@@ -1,8 +1,7 @@
 //! The engine that runs a lazy DFA first, and an engine of `nfa_choice` for the match in its window.
-ghost use Rattle.std.specs.Prelude.{◌≡◌, ◌*◌, ◌<◌, ◌≤◌, IfOk, IfSome, IsOkUnless, None, false, length};
-ghost use Rattle.std.specs.Prelude.{not, option_map};
+ghost use Rattle.std.specs.Prelude.{◌≡◌, ◌*◌, ◌<◌, ◌≤◌, IfOk, IfSome, IsOkUnless, None, false, length, not, option_map};
 ghost use Rattle.regex_search_core.specs.Found.{found_of, half_found_of};
-ghost use Rattle.regex_search_core.specs.Patterns.{number_of};
+ghost use Rattle.regex_search_core.specs.PatternSets.{number_of};
 ghost use Rattle.regex_search_core.specs.Search.{search_of};
 ghost use Rattle.regex_search_core.specs.declared.search.MatchKind.TheVariants.{LeftmostFirst};
 ghost use Rattle.nfa_paths.specs.Paths.{IsAnswer, IsBoolAnswer, IsFindAnswer, IsHalfAnswer, is_utf8_empty};
@@ -80,13 +79,12 @@ impl Drop for Regex {
 }
 
 impl Model for Regex {
-    ghost use Rattle.std.specs.Prelude.{◌≡◌};
+    ghost use Rattle.std.specs.Prelude.{◌≡◌, true};
     ghost use Rattle.regex_search_core.specs.declared.search.MatchKind.TheVariants.{LeftmostFirst};
     ghost use Rattle.nfa_lazy_dfa.specs.Configs.{kind_of, nfa_of};
     ghost use Rattle.nfa_lazy_dfa.specs.Rows.{IsFor};
     ghost use Rattle.nfa_choice.specs.ChoiceState.{ChoiceState, kind_in};
     ghost use Rattle.nfa_match_spans.specs.StatePaths.{RecordsMatchSpans};
-    ghost use Rattle.std.specs.Prelude.{true};
     ghost use Rattle.thompson_nfa.specs.Automaton.{IsAutomaton};
     ghost use Rattle.nfa_prefix.specs.Prefixes.{BeginsWith};
 

@@ -1,9 +1,9 @@
 -- What a marked search of an NFA's pairs answers, in the words of its contracts.
-use Rattle.nfa_paths.proofs.Common.{◌≡◌, ℕ, ◌+◌, ◌≤◌, ◌<◌, ◌⊎◌, ◌↔◌, Bool, true, false, List, [], ◌∷◌, map, length, replicate, get_or, refl, sym, ◌∙◌, arith, length-set, rules, Option, None, Some, last_or, range_with_len, option_or, ext_get_or, get_or-replicate, length-replicate, IsBoundary, Search, is_anchored, MatchKind, Automaton, Pair, ComesBefore, PathTo, Slots, write, apply, raised, span_len, is_match, IsMatch, capture, is_utf8_empty, edges, starts, IsScanAnswer, last_of, slot_among, slot_row, EndsOnBoundary, IsWhole, SplitsCharacter, IsRestartedAnswer, IsSearchAnswer, IsWithinScans, max_scans}
 use Rattle.std.proofs.lemmas.List.FromFn.{length-map-range_with_len, get_or-map-range_with_len}
 use Rattle.nfa_paths.proofs.PathToLemmas.{ComesBefore-asymmetric, PathTo-order, IsFirstPath-unique, IsEarliestPath-unique, IsLastPath-unique, IsEarliestLastPath-unique}
 use Rattle.nfa_paths.proofs.StartLemmas.{IsMatch-edges, starts-increase}
-use Rattle.nfa_paths.proofs.OptionLemmas.{option_or-None}
+use Rattle.nfa_paths.proofs.MemberLemmas.{option_or-None}
+use Rattle.nfa_paths.proofs.Common.{◌≡◌, ℕ, ◌+◌, ◌≤◌, ◌<◌, ◌⊎◌, ◌↔◌, Bool, true, false, List, [], ◌∷◌, map, length, replicate, get_or, refl, sym, ◌∙◌, arith, length-set, rules, Option, None, Some, last_or, range_with_len, option_or, ext_get_or, get_or-replicate, length-replicate, IsBoundary, Search, is_anchored, MatchKind, Automaton, Pair, ComesBefore, PathTo, Slots, write, apply, raised, span_len, is_match, IsMatch, capture, is_utf8_empty, edges, starts, IsScanAnswer, last_of, slot_among, slot_row, EndsOnBoundary, IsWhole, SplitsCharacter, IsRestartedAnswer, IsSearchAnswer, IsWithinScans, max_scans}
 
 -- of two accepting paths, one comes before the other
 pub accepting_order : (nfa : Automaton) (x : Search) {m n : Pair} {p q : List Pair}

@@ -1,6 +1,6 @@
 -- The first match pair of a front, also if a search did not follow the pairs after it.
 use Rattle.nfa_paths.proofs.Common.{◌≡◌, ℕ, Bool, true, List, arith, Some, Pair, Space, In, IsFirstPath, WantedAt, Slots, Task, Passes, IsFoundBy, first_match, Scanned, Scanning}
-use Rattle.nfa_paths.proofs.TestLemmas.{Test, tested, tell_at}
+use Rattle.nfa_paths.proofs.MemberLemmas.{Test, tested, tell_at}
 use Rattle.nfa_paths.proofs.FrontierMatchLemmas.{FirstMatch-found}
 use Rattle.nfa_paths.proofs.KindsLemmas.{FirstMatch-at, front-first}
 

@@ -1,5 +1,4 @@
 -- Every scan and every search of any NFA has an answer.
-use Rattle.nfa_paths.proofs.Common.{◌≡◌, ℕ, zero, suc, ◌+◌, ◌≤◌, ◌<◌, ◌⊎◌, inl, inr, Bool, true, false, List, [], ◌∷◌, ◌++◌, length, refl, subst, arith, rules, Option, None, Some, is_some, MatchBool, below_more, cases_lt, get_or_past, Search, is_anchored, MatchKind, Automaton, Pair, In, NoPath, IsFirstPath, Passes, pairs_from, raised, node_at, is_match, IsMatch, is_utf8_empty, edges_of, edges, starts, IsScanAnswer, EndsOnBoundary, IsWhole, SplitsCharacter, IsKeptAnswer, IsRestartedAnswer, IsSearchAnswer, LeftmostFirst, Fail}
 use Rattle.std.proofs.Math.Decide.{ℕ_discrete}
 use Rattle.regex_search_core.specs.declared.search.MatchKind.TheVariants.{All}
 use Rattle.nfa_paths.proofs.MemberLemmas.{In-append_left, In-append_right}
@@ -7,8 +6,8 @@ use Rattle.nfa_paths.proofs.StartLemmas.{pairs_from-has, starts-increase, IsMatc
 use Rattle.nfa_paths.proofs.AnswerLemmas.{scan_answer-leads}
 use Rattle.nfa_paths.proofs.OneScanLemmas.{first-scan, scan-of}
 use Rattle.nfa_paths.proofs.ScanAnswerLemmas.{edges-within, starts-within}
-use Rattle.nfa_paths.proofs.FinitePathLemmas.{IsFinite, first_to}
-use Rattle.nfa_paths.proofs.FiniteKindsLemmas.{first_path_exists, earliest_path_exists, last_path_exists, earliest_last_path_exists}
+use Rattle.nfa_paths.proofs.FinitePathLemmas.{IsFinite, first_to, first_path_exists, earliest_path_exists, last_path_exists, earliest_last_path_exists}
+use Rattle.nfa_paths.proofs.Common.{◌≡◌, ℕ, zero, suc, ◌+◌, ◌≤◌, ◌<◌, ◌⊎◌, inl, inr, Bool, true, false, List, [], ◌∷◌, ◌++◌, length, refl, subst, arith, rules, Option, None, Some, is_some, MatchBool, below_more, cases_lt, get_or_past, Search, is_anchored, MatchKind, Automaton, Pair, In, NoPath, IsFirstPath, Passes, pairs_from, raised, node_at, is_match, IsMatch, is_utf8_empty, edges_of, edges, starts, IsScanAnswer, EndsOnBoundary, IsWhole, SplitsCharacter, IsKeptAnswer, IsRestartedAnswer, IsSearchAnswer, LeftmostFirst, Fail}
 
 -- the pairs of an NFA
 

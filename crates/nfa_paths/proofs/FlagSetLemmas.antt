@@ -1,9 +1,9 @@
 -- Nor does what an overlapping search makes of a set read the flag `earliest` of its input.
-use Rattle.nfa_paths.proofs.Common.{ℕ, inl, inr, Bool, true, false, List, length, arith, rules, Option, None, Some, Search, MatchKind, Automaton, Pair, IsPermitted, IsInsertable, IsPatternOf, IsSelectedByAll, IsSelectedPath, HoldsPath, Gains, IsFirstBefore, IsOverlapResult, edges, edges_of, starts, LeftmostFirst}
 use Rattle.regex_search_core.specs.declared.search.MatchKind.TheVariants.{All}
-use Rattle.nfa_paths.proofs.AlongLemmas.{at-along, before-along, earliest-along, first-along, least-along}
+use Rattle.nfa_paths.proofs.SameScanLemmas.{at-along, before-along, earliest-along, first-along, least-along}
 use Rattle.nfa_paths.proofs.EarliestLemmas.{asked}
-use Rattle.nfa_paths.proofs.ReachedLemmas.{IsReached-along}
+use Rattle.nfa_paths.proofs.SetLemmas.{IsReached-along}
+use Rattle.nfa_paths.proofs.Common.{ℕ, inl, inr, Bool, true, false, List, length, arith, rules, Option, None, Some, Search, MatchKind, Automaton, Pair, IsPermitted, IsInsertable, IsPatternOf, IsSelectedByAll, IsSelectedPath, HoldsPath, Gains, IsFirstBefore, IsOverlapResult, edges, edges_of, starts, LeftmostFirst}
 
 module _ (nfa : Automaton) where
   module _ (x : Search) (flag : Bool) where

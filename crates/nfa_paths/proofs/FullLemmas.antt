@@ -3,10 +3,10 @@
 use Rattle.nfa_paths.proofs.Common.{◌≡◌, ℕ, ◌+◌, ◌<◌, ◌↔◌, ◌∙◌, inl, inr, Bool, true, false, List, length, sym, ap, arith, Option, None, Some, rules, cases_lt, size_of_set, Search, Automaton, Pair, IsFirstTo, IsFirstPath, Passes, WantedBefore, edges, starts, last_of, path_pattern, HoldsPattern, HoldsUpTo, IsInsertable, IsFirstBefore, HoldsPath, IsOverlapResult, pattern_at, LeftmostFirst}
 use Rattle.nfa_paths.proofs.ExistenceLemmas.{first_wanted-exists}
 use Rattle.nfa_paths.proofs.PathToLemmas.{EndsWith-last, IsFirstTo-unique}
-use Rattle.nfa_paths.proofs.AlongLemmas.{first-along}
+use Rattle.nfa_paths.proofs.SameScanLemmas.{first-along}
 use Rattle.nfa_paths.proofs.PatternLemmas.{ends-pattern}
 use Rattle.nfa_paths.proofs.SetLemmas.{full-holds, holds-below, size-none, size-empty}
-use Rattle.nfa_paths.proofs.OptionLemmas.{same_some}
+use Rattle.nfa_paths.proofs.MemberLemmas.{same_some}
 
 -- the pattern of the end of such a path
 end-pattern : (nfa : Automaton) (x : Search) (capacity k : ℕ) (f : IsFirstBefore nfa x capacity k)

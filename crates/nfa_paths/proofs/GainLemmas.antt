@@ -1,12 +1,11 @@
 -- What a set of patterns gains under All, position by position.
-use Rattle.nfa_paths.proofs.Common.{◌≡◌, ℕ, ◌+◌, ◌<◌, ◌⊎◌, ◌↔◌, inl, inr, Bool, true, false, List, [], length, refl, ◌∙◌, subst, arith, rules, Some, size_of_set, Search, Automaton, Pair, IsLeastEnd, PathTo, NoPath, Passes, NoneBefore, WantedAt, Slots, ReachedBefore, EndsBefore, HoldsMatch, Scanned, IsFrontier, is_resting, space, edges, starts, HoldsPattern, pattern_at, IsPermitted, IsInsertable, IsPatternOf, IsOverlapResult}
 use Rattle.regex_search_core.specs.declared.search.MatchKind.TheVariants.{All}
-use Rattle.nfa_paths.proofs.ReachedLemmas.{IsReached-at, ReachedBefore-start, ReachedBefore-step, IsReached-along}
-use Rattle.nfa_paths.proofs.AlongLemmas.{at-along, least-along}
+use Rattle.nfa_paths.proofs.SetLemmas.{IsReached-at, ReachedBefore-start, ReachedBefore-step, IsReached-along, full-holds}
+use Rattle.nfa_paths.proofs.SameScanLemmas.{at-along, least-along}
 use Rattle.nfa_paths.proofs.ScanLemmas.{least_end}
-use Rattle.nfa_paths.proofs.SetLemmas.{full-holds}
 use Rattle.nfa_paths.proofs.PathToLemmas.{IsLeastEnd-unique}
 use Rattle.nfa_paths.proofs.ScanAnswerLemmas.{Scanned-matches, starts-from}
+use Rattle.nfa_paths.proofs.Common.{◌≡◌, ℕ, ◌+◌, ◌<◌, ◌⊎◌, ◌↔◌, inl, inr, Bool, true, false, List, [], length, refl, ◌∙◌, subst, arith, rules, Some, size_of_set, Search, Automaton, Pair, IsLeastEnd, PathTo, NoPath, Passes, NoneBefore, WantedAt, Slots, ReachedBefore, EndsBefore, HoldsMatch, Scanned, IsFrontier, is_resting, space, edges, starts, HoldsPattern, pattern_at, IsPermitted, IsInsertable, IsPatternOf, IsOverlapResult}
 
 -- The set before is `old`: wanted is what it has room for.
 module _ (nfa : Automaton) (x : Search) (old : List Bool) (wants : Pair → Bool)

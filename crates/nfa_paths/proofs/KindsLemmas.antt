@@ -3,9 +3,8 @@ use Rattle.nfa_paths.proofs.Common.{◌≡◌, ℕ, ◌≤◌, ◌<◌, ◌⊎�
 use Rattle.nfa_paths.proofs.PathLemmas.{same}
 use Rattle.nfa_paths.proofs.SearchLemmas.{Answer-starts, AnswerBehind-cut}
 use Rattle.nfa_paths.proofs.PathToLemmas.{found-end, IsFirstTo-unique, IsFirstPath-of_all}
-use Rattle.nfa_paths.proofs.MemberLemmas.{In-append_left, In-append, In-map, In-middle}
-use Rattle.nfa_paths.proofs.TestLemmas.{Test, tested, tell_at}
-use Rattle.nfa_paths.proofs.AlongLemmas.{first-along}
+use Rattle.nfa_paths.proofs.MemberLemmas.{In-append_left, In-append, In-map, In-middle, Test, tested, tell_at}
+use Rattle.nfa_paths.proofs.SameScanLemmas.{first-along}
 use Rattle.nfa_paths.proofs.FrontierMatchLemmas.{FirstMatch, LastMatch, first_match-is}
 
 -- the answer of a front

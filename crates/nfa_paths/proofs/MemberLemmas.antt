@@ -1,5 +1,5 @@
--- Elements of lists.
-use Rattle.nfa_paths.proofs.Common.{◌⊎◌, inl, inr, suc, List, [], ◌∷◌, ◌++◌, map, refl, sym, ap, subst, arith, All, In}
+-- Elements of lists, what an option holds, and sets of pairs as tests.
+use Rattle.nfa_paths.proofs.Common.{◌⊎◌, inl, inr, suc, List, [], ◌∷◌, ◌++◌, map, refl, sym, ap, subst, arith, All, In, ◌≡◌, Option, None, Some, option_or, ℕ, Bool, true, false, Pair, WantedAt, Passes}
 
 -- the elements of the first of two lists
 pub In-append_left : {A : Type 0} (x : A) (xs ys : List A) → In x xs → In x (xs ++ ys)
@@ -32,3 +32,57 @@ All-In P (y ∷ xs) all x i = elim i [
   | inl e ↦ subst P (sym e) (all 0 y (omega arith))
   | inr j ↦ All-In P xs (λ k d h. all (suc k) d (omega arith)) x j
 ]
+
+-- two values that an option holds are one
+pub same_some : {A : Type 0} (a b : A) → Some a ≡ Some b → a ≡ b
+same_some a b e = cc
+
+-- of three values the first that is there, however they are paired
+pub option_or-assoc : {A : Type 0} (a b c : Option A) → option_or (option_or a b) c ≡ option_or a (option_or b c)
+option_or-assoc = grind arith
+
+-- nothing to fall back on
+pub option_or-None : {A : Type 0} (a : Option A) → option_or a None ≡ a
+option_or-None = grind arith
+
+-- a test that exactly the pairs of a set pass
+pub record Test (P : Pair → Type 0) : Type 0 where
+  pub passes : Pair → Bool
+  pub is : (x : Pair) → passes x ≡ true → P x
+  pub of : (x : Pair) → P x → passes x ≡ true
+
+-- whether a decidable property holds
+test : {A : Type 0} → A ⊎ ¬ A → Bool
+test (inl a) = true
+test (inr n) = false
+
+-- if the test succeeds, the property holds
+test-true : {A : Type 0} (d : A ⊎ ¬ A) → test d ≡ true → A
+unfolding test
+test-true = grind arith
+
+-- if the property holds, the test succeeds
+true-test : {A : Type 0} (d : A ⊎ ¬ A) → A → test d ≡ true
+unfolding test
+true-test = grind arith
+
+-- the test of a set that each pair is in or not
+pub tested : {P : Pair → Type 0} → ((x : Pair) → P x ⊎ ¬ (P x)) → Test P
+tested tell = record {
+  passes = λ x. test (tell x);
+  is = λ x t. test-true (tell x) t;
+  of = λ x h. true-test (tell x) h;
+}
+
+-- a test does not both fail and succeed
+pub is_plain : (b : Bool) → b ≡ false → b ≡ true → ⊥
+is_plain b f t = cc
+
+-- tests that imply one another are one
+pub same_test : (a b : Bool) → (a ≡ true → b ≡ true) → (b ≡ true → a ≡ true) → a ≡ b
+same_test = grind arith
+
+-- it is decidable whether a pair is at e and passes a test
+pub tell_at : (wanted : Pair → Bool) (e : ℕ) (v : Pair)
+    → WantedAt (Passes wanted) e v ⊎ ¬ (WantedAt (Passes wanted) e v)
+tell_at wanted e v = grind arith

@@ -1,15 +1,15 @@
--- The first path that ends before a limit, as a search that drops what is after a match finds it, and the set of the
--- patterns of such paths.
-use Rattle.nfa_paths.proofs.Common.{◌≡◌, ℕ, ◌+◌, ◌<◌, ◌≤◌, ◌↔◌, ◌∙◌, inl, inr, Bool, true, List, [], ◌∷◌, map, length, refl, sym, ap, subst, arith, rules, None, Some, cases_lt, with_pattern, size_of_set, Search, Automaton, Pair, In, NoPath, IsFirstTo, IsFirstPath, Slots, Hit, ExploresTo, IsFoundBy, Passes, WantedBefore, first_match, before_match, is_resting, space, capture, edges, starts, last_of, path_pattern, HoldsPattern, IsFirstBefore, IsInsertable, pattern_at, Explore}
-use Rattle.nfa_paths.proofs.GainLemmas.{wanted-shape}
+-- What a search finds that drops what is after a match: the first path that ends before a limit, and sets of patterns.
+use Rattle.nfa_paths.proofs.Common.{◌≡◌, ℕ, ◌+◌, ◌<◌, ◌≤◌, ◌↔◌, ◌∙◌, inl, inr, Bool, true, List, [], ◌∷◌, map, length, refl, sym, ap, subst, arith, rules, None, Some, cases_lt, with_pattern, size_of_set, Search, Automaton, Pair, In, NoPath, IsFirstTo, IsFirstPath, Slots, Hit, ExploresTo, IsFoundBy, Passes, WantedBefore, first_match, before_match, is_resting, space, capture, edges, starts, last_of, path_pattern, HoldsPattern, IsFirstBefore, IsInsertable, pattern_at, Explore, false, WantedAt, Task, Scanning, rests, NoneBefore, IsSelectedPath, IsOverlapResult, LeftmostFirst}
+use Rattle.nfa_paths.proofs.GainLemmas.{wanted-shape, least-wanted}
 use Rattle.nfa_paths.proofs.PathToLemmas.{EndsWith-last, IsFirstTo-unique}
 use Rattle.nfa_paths.proofs.ScanAnswerLemmas.{starts-from}
 use Rattle.nfa_paths.proofs.ScanLemmas.{NoneBefore-start}
-use Rattle.nfa_paths.proofs.SetLemmas.{holds-with, size-none}
-use Rattle.nfa_paths.proofs.TestLemmas.{Test, tested, same_test}
-use Rattle.nfa_paths.proofs.AlongLemmas.{before-along, first-along}
+use Rattle.nfa_paths.proofs.SetLemmas.{holds-with, size-none, length-with}
+use Rattle.nfa_paths.proofs.MemberLemmas.{Test, tested, same_test}
+use Rattle.nfa_paths.proofs.SameScanLemmas.{before-along, first-along, at-along}
 use Rattle.nfa_paths.proofs.KindsLemmas.{first-found, found-none, found-some}
 use Rattle.nfa_paths.proofs.PatternLemmas.{ends-pattern}
+use Rattle.nfa_paths.proofs.CutLemmas.{first_match-cut}
 
 -- tests that say the same of a front
 
@@ -175,3 +175,60 @@ module _ (nfa : Automaton) (x : Search) (old : List Bool) (wants : Pair → Bool
           | inr more ↦ Exact-later h first.limit (over first.limit more) first.along p k first.pattern_is
         ],
   )
+
+-- The set before is `old`: wanted is what it has room for.
+module _ (nfa : Automaton) (x : Search) (old : List Bool) (wants : Pair → Bool)
+    (tells : (v : Pair) → (wants v ≡ true) ↔ IsInsertable nfa x (length old) v) where
+  -- a pair at e as the end of the first path that ends there
+  pub record FirstAt (e : ℕ) (a : Pair × Slots) : Type 0 where
+    pub path : List Pair
+    pub first : IsFirstTo (edges nfa x) (starts nfa x) (WantedAt (Passes wants) e) path
+    pub is : first.end ≡ a.0
+
+  -- the first wanted pair of a front is, also if the pairs after it were not followed
+  pub FirstAt-front : {slots : Slots} {e : ℕ} {Seen : Pair → Type 0} {spent : ℕ} {front : List (Pair × Slots)}
+      {work : List Task} {current : Slots} → Scanning (space nfa x) wants slots e Seen spent front work current
+      → ((b : Pair × Slots) → In b front → (is_resting nfa b.0 ≡ true) × (b.0.1 ≡ e)) → (a : Pair × Slots)
+      → first_match wants front ≡ Some a → FirstAt e a
+  FirstAt-front s rests a is =
+      let first = found-some (first_match-cut (space nfa x) (is_resting nfa) wants
+      (wanted-shape nfa x old wants tells) s rests is) in
+      record { path = first.0; first = first.1; is = first.2 }
+
+  -- no accepting path has a permitted end
+  module _ (none : NoPath (edges nfa x) (starts nfa x) (Passes wants)) where
+    pub First-none : (earliest : Bool) → size_of_set old ≡ 0 → IsOverlapResult nfa x LeftmostFirst earliest old old
+    First-none earliest empty = grind (arith, of)
+      where
+        of : (b : Bool) → IsSelectedPath nfa x b (length old) None
+        of false = first-along (edges nfa x) (starts nfa x) (λ v. (tells v).0) (λ v. (tells v).1) None none
+        of true = first-along (edges nfa x) (starts nfa x) (λ v. (tells v).0) (λ v. (tells v).1) None none
+
+  -- the first front with a wanted pair: its first has the pattern of the earliest path
+  pub FirstAt-found : {e k : ℕ} {a : Pair × Slots} {new : List Bool} → NoneBefore (space nfa x) wants e
+      → FirstAt e a
+      → pattern_at nfa a.0 ≡ Some k → size_of_set old ≡ 0 → new ≡ with_pattern old k
+      → IsOverlapResult nfa x LeftmostFirst true old new
+  FirstAt-found {e} {k} {a} {new} none f pattern_is empty put =
+      let w = at-along (λ v. (tells v).0) e f.first.end f.first.wanted in
+      let at_end : pattern_at nfa f.first.end ≡ Some k = rw f.is pattern_is in
+      let only : (j : ℕ) → HoldsPattern new j → (j < length old) × (k ≡ j) =
+      λ j h. elim ((holds-with old k j).0 (rw put at h)) [ inl o ↦ absurd (size-none old empty j o) | inr b ↦ b ] in
+      record {
+        capacity = rw put (length-with old k);
+        keeps = λ j h. absurd (size-none old empty j h);
+        sound = grind arith;
+        gains = record {
+          full = λ some. absurd (omega arith);
+          empty = λ no. record {
+            path = Some f.path;
+            meant = (
+              e,
+              least-wanted nfa x old wants tells none f.first.end f.path f.first.path w,
+              first-along (edges nfa x) (starts nfa x) (at-along (λ v. (tells v).0) e) (at-along (λ v. (tells v).1) e)
+                  (Some f.path) f.first,
+            );
+            holds = search (rules, EndsWith-last);
+          };
+        };
+      }

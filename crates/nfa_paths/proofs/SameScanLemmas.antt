@@ -1,7 +1,8 @@
 -- Two searches of one haystack that explore the same have the same answers. Their NFAs may differ in what their paths
 -- write and in the anchored start, and the searches in the anchoring and the `earliest` flag, which no path reads.
-use Rattle.nfa_paths.proofs.Common.{◌≡◌, ℕ, Bool, true, false, List, refl, subst, Option, Some, arith, Found, Search, is_anchored, Anchored, MatchKind, Automaton, Pair, edges, edges_of, is_match, is_utf8_empty, node_at, slot_row, starts, IsAnswer, IsBoolAnswer, IsFindAnswer, IsFirstPath, IsEarliestPath, IsLastPath, IsEarliestLastPath, IsScanAnswer, IsSearchAnswer, Passes, SplitsCharacter, LeftmostFirst}
 use Rattle.regex_search_core.specs.declared.search.MatchKind.TheVariants.{All}
+use Rattle.nfa_paths.proofs.PathToLemmas.{IsFirstTo-along}
+use Rattle.nfa_paths.proofs.Common.{◌≡◌, ℕ, Bool, true, false, List, refl, subst, Option, Some, arith, Found, Search, is_anchored, Anchored, MatchKind, Automaton, Pair, edges, edges_of, is_match, is_utf8_empty, node_at, slot_row, starts, IsAnswer, IsBoolAnswer, IsFindAnswer, IsFirstPath, IsEarliestPath, IsLastPath, IsEarliestLastPath, IsScanAnswer, IsSearchAnswer, Passes, SplitsCharacter, LeftmostFirst, None, rules, WantedAt, IsLeastEnd, WantedBefore}
 
 -- what a scan explores, and the pairs that it is for
 pub record Explored : Type 0 where
@@ -98,3 +99,27 @@ module _ {nfa : Automaton} {x : Search} {state : ℕ} {anchored : Anchored} {fla
       → IsFindAnswer other kind earliest elsewhere found
   unfolding node_at slot_row
   match-same found h = grind (arith, search-same)
+
+module _ {P Q : Pair → Type 0} (to : (v : Pair) → P v → Q v) where
+  pub at-along : (e : ℕ) (v : Pair) → WantedAt P e v → WantedAt Q e v
+  at-along e v h = record { wanted = to v h.wanted; at = h.at }
+
+  pub before-along : (e : ℕ) (v : Pair) → WantedBefore P e v → WantedBefore Q e v
+  before-along e v h = record { wanted = to v h.wanted; before = h.before }
+
+module _ (edges : Pair → List Pair) (starts : List Pair) {P Q : Pair → Type 0} (to : (v : Pair) → P v → Q v)
+    (back : (v : Pair) → Q v → P v) where
+  pub first-along : (path : Option (List Pair)) → IsFirstPath edges starts P path → IsFirstPath edges starts Q path
+  first-along None h = λ m p w q. h m p w (back m q)
+  first-along (Some p) h = IsFirstTo-along edges starts P Q to back h
+
+  pub least-along : (e : ℕ) → IsLeastEnd edges starts P e → IsLeastEnd edges starts Q e
+  least-along e h = record {
+    is_end = grind arith;
+    least = λ m p w q. h.least m p w (back m q);
+  }
+
+  pub earliest-along : (path : Option (List Pair)) → IsEarliestPath edges starts P path
+      → IsEarliestPath edges starts Q path
+  earliest-along None h = λ m p w q. h m p w (back m q)
+  earliest-along (Some p) h = search (rules, least-along, IsFirstTo-along, at-along)

@@ -1,7 +1,7 @@
 -- The answers of a scan, position by position.
 use Rattle.nfa_paths.proofs.Common.{◌≡◌, ℕ, ◌+◌, ◌≤◌, ◌<◌, inl, inr, Bool, true, List, length, refl, sym, ◌∙◌, arith, rules, Option, None, Some, option_map_or, cases_lt, Pair, Space, In, PathTo, NoPath, IsLeastEnd, IsGreatestEnd, WantedAt, IsLastOfFirsts, IsFirstPath, IsEarliestPath, IsLastPath, IsEarliestLastPath, Slots, Hit, Passes, WantedBefore, IsFoundBy, NoneBefore, LastBefore, EndsBefore, last_match, NoMatch, Scanned, IsFrontier, IsOver}
 use Rattle.nfa_paths.proofs.PathToLemmas.{PathTo-along, PathTo-end}
-use Rattle.nfa_paths.proofs.TestLemmas.{Test, tested}
+use Rattle.nfa_paths.proofs.MemberLemmas.{Test, tested}
 use Rattle.nfa_paths.proofs.FrontierMatchLemmas.{last_match-is}
 use Rattle.nfa_paths.proofs.KindsLemmas.{IsFrontier-no_match, IsFrontier-last_match, found-along, found-none, first-found}
 

@@ -2,8 +2,7 @@
 use Rattle.std.specs.Prelude.{◌≡◌, ℕ, suc, ◌+◌, ◌≤◌, ◌⊎◌, ◌↔◌, Bool, List, [], ◌∷◌, Option, None, Some, slice_set, map, ◌++◌, length}
 use Rattle.std.specs.List.{last_or}
 use Rattle.std.specs.Option.{option_map}
-use Rattle.nfa_paths.specs.Graphs.{Pair, In, Space}
-use Rattle.nfa_paths.specs.FirstPaths.{IsFirst}
+use Rattle.nfa_paths.specs.Graphs.{Pair, In, Space, IsFirst}
 
 -- slots, each with a position or none
 abbrev pub Slots : Type 0

@@ -2,8 +2,7 @@
 use Rattle.std.specs.Prelude.{◌≡◌, ℕ, ◌≤◌, ◌<◌, Bool, true, cond, List, [], ◌∷◌, map, length, Option, None, Some}
 use Rattle.std.specs.Option.{option_map_or}
 use Rattle.thompson_nfa.specs.Automaton.{Automaton}
-use Rattle.nfa_paths.specs.Graphs.{Pair, In, Space, NoRepeats, PathTo, NoPath, IsLastPath}
-use Rattle.nfa_paths.specs.FirstPaths.{Increasing}
+use Rattle.nfa_paths.specs.Graphs.{Pair, In, Space, NoRepeats, PathTo, NoPath, IsLastPath, Increasing}
 use Rattle.nfa_paths.specs.Exploring.{Slots, Hit, Task, found, ExploresTo, ExploresAfter, Searching}
 use Rattle.nfa_paths.specs.Exploring.Task.{Explore}
 use Rattle.nfa_paths.specs.Paths.{node_at, rests}

@@ -1,9 +1,7 @@
 pub mod Graphs
 pub mod Paths
-pub mod Beginnings
 pub mod Overlaps
 pub mod Restarts
-pub mod FirstPaths
 pub mod Exploring
 pub mod Kinds
 pub mod Common

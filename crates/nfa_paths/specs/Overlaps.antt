@@ -40,10 +40,6 @@ module _ (nfa : Automaton) (x : Search) where
   abbrev pub IsPatternOf : (Pair → Type 0) → ℕ → Type 0
   IsPatternOf Wanted pattern = IsReached (edges nfa x) (starts nfa x) Wanted (pattern_at nfa) pattern
 
-  -- the first accepting path with a permitted end, of a pattern below the capacity, or none if there is none
-  abbrev pub IsFirstInsertable : ℕ → Option (List Pair) → Type 0
-  IsFirstInsertable capacity = IsFirstPath (edges nfa x) (starts nfa x) (IsInsertable capacity)
-
   -- of such paths with the least end, the first, or none if there is none
   abbrev pub IsEarliestInsertable : ℕ → Option (List Pair) → Type 0
   IsEarliestInsertable capacity = IsEarliestPath (edges nfa x) (starts nfa x) (IsInsertable capacity)
@@ -56,7 +52,7 @@ module _ (nfa : Automaton) (x : Search) where
       × IsPatternOf (WantedAt IsPermitted e) pattern
 
   -- Among patterns below the capacity, the pattern of the first accepting path with a permitted end before some limit.
-  -- A search that ends at the limit would answer it.
+  -- A search that ends just before the limit would answer it.
   pub record IsFirstBefore (capacity pattern : ℕ) : Type 0 where
     pub limit : ℕ
     pub along : List Pair
@@ -91,7 +87,7 @@ module _ (nfa : Automaton) (x : Search) where
   -- The path that `LeftmostFirst` means. Matches of patterns at or above the capacity do not count. There are none of
   -- these if the capacity covers each pattern of the NFA.
   abbrev pub IsSelectedPath : Bool → ℕ → Option (List Pair) → Type 0
-  IsSelectedPath false capacity path = IsFirstInsertable capacity path
+  IsSelectedPath false capacity path = IsFirstPath (edges nfa x) (starts nfa x) (IsInsertable capacity) path
   IsSelectedPath true capacity path = IsEarliestInsertable capacity path
 
   -- the set that `LeftmostFirst` makes of the empty set of this capacity

@@ -7,7 +7,7 @@ use Rattle.regex_search_core.specs.Found.{Found, HalfFound}
 use Rattle.regex_search_core.specs.Groups.{slot_count}
 use Rattle.regex_search_core.specs.Search.{Search, is_anchored}
 use Rattle.regex_search_core.specs.Slots.{match_of}
-use Rattle.regex_search_core.specs.Patterns.{number_of}
+use Rattle.regex_search_core.specs.PatternSets.{number_of}
 use Rattle.regex_search_core.specs.declared.search.Anchored.{Anchored}
 use Rattle.regex_search_core.specs.declared.search.Anchored.TheVariants.{No, Yes, Pattern}
 use Rattle.regex_search_core.specs.declared.search.MatchKind.{MatchKind}
@@ -18,7 +18,7 @@ use Rattle.thompson_nfa.specs.Automaton.{Automaton, Node}
 use Rattle.thompson_nfa.specs.Automaton.Node.{ByteRange, Sparse, Dense, Look, Union, BinaryUnion, Capture, Fail, Match}
 use Rattle.thompson_nfa.specs.Looks.{look_holds}
 pub use Rattle.thompson_nfa.specs.Flaws.{pattern_of, slot_of}
-use Rattle.nfa_paths.specs.Graphs.{Pair, Space, IsFirstPath, IsEarliestPath, IsLastPath, IsEarliestLastPath}
+use Rattle.nfa_paths.specs.Graphs.{Pair, Space, IsFirstPath, IsEarliestPath, IsLastPath, IsEarliestLastPath, NoPath}
 
 -- the byte is in the range of the transition
 abbrev pub holds_byte : Transition → ℕ → Bool
@@ -278,3 +278,9 @@ module _ (nfa : Automaton) (kind : MatchKind) (earliest : Bool) where
 -- the maximum number of scans of a search
 abbrev pub max_scans : Automaton → Search → ℕ
 max_scans nfa x = if is_utf8_empty nfa && not (is_anchored x.anchored) then (span_len x + 2) else 1
+
+-- No match begins with the byte: in every search, no path from the anchored start, at a position with this byte, leads
+-- to a match.
+pub record NoMatchBegins (nfa : Automaton) (byte : ℕ) : Type 0 where
+  pub no_path : (x : Search) (at : ℕ) → byte_at x at ≡ Some byte
+      → NoPath (edges nfa x) ((nfa.anchored, at) ∷ []) (IsMatch nfa)

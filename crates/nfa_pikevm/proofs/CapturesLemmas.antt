@@ -1,6 +1,6 @@
 -- A PikeVM as the engine of an iteration over captures: when its iterator may search, and what it gives and keeps.
 use Rattle.nfa_paths.proofs.Common.{◌≡◌, Bool, false, Result, subst, Search, Captured}
-use Rattle.nfa_search_base.specs.Common.{CapturesGiven, GivesCaptures, row_span, AnswersRow, CapturesMemory, TakesStepWith, steps_with_state, steps_iter_state, fresh}
+use Rattle.nfa_search_base.specs.Common.{CapturesGiven, GivesCaptures, row_span, AnswersRow, CapturesMemory, TakesStepWith, steps_with_state, steps_iter_state, fresh, GivesStepsWith}
 use Rattle.nfa_search_base.specs.declared.error.SearchError.{SearchError}
 use Rattle.nfa_search_base.proofs.CapturesLemmas.{row-lies}
 use Rattle.nfa_search_base.proofs.CapturesRunLemmas.{captures-given, captures-memory}
@@ -9,7 +9,7 @@ use Rattle.nfa_search_base.proofs.EngineLemmas.{KeptBy, SearchesAs, calls-kept}
 use Rattle.nfa_search_base.proofs.LeavingLemmas.{shell-leaves}
 use Rattle.nfa_search_base.proofs.RunLemmas.{Begins}
 use Rattle.nfa_search_base.proofs.ItemLemmas.{ShellOf, plain_shell, steps_in}
-use Rattle.nfa_pikevm.specs.CapturesMatches.{AsksPikeRow, CapturesBySearches, CapturesGiveCache, pike_captures, pike_captures_next}
+use Rattle.nfa_pikevm.specs.Iterators.{AsksPikeRow, CapturesBySearches, pike_captures, pike_captures_next}
 use Rattle.nfa_pikevm.specs.Engines.{Pike, PikeCache, SameCapacities, kind_of}
 use Rattle.nfa_pikevm.specs.Finding.{PikeAnswersRow}
 use Rattle.nfa_pikevm.specs.declared.captures_iter.CapturesMatches.{CapturesMatches}
@@ -71,5 +71,5 @@ captures_kept = record {
 }
 
 -- the calls keep the cache, and its numbers
-pub captures-keep-cache : (s : CapturesMatches) → CapturesGiveCache s
+pub captures-keep-cache : (s : CapturesMatches) → GivesStepsWith pike_captures_next pike_captures SameCapacities s
 captures-keep-cache = calls-kept captures_kept captures_shell

@@ -1,8 +1,9 @@
--- From the row that a search fills to the slots that its callers get.
-use Rattle.nfa_paths.proofs.Common.{◌≡◌, ℕ, ◌+◌, ◌-◌, ◌≤◌, min, take, inl, inr, List, [], ◌∷◌, ◌++◌, length, refl, ap, sym, ◌∙◌, arith, length-append, Option, cases_lt, append-nil, length-take, slot_count, Automaton, IsAutomaton, Pair, slot_row, Slots}
-use Rattle.nfa_paths.proofs.PatternLemmas.{slot_row-more}
+-- From the row that a search fills to what its callers get: slots, and whether there is a match.
+use Rattle.nfa_paths.proofs.Common.{◌≡◌, ℕ, ◌+◌, ◌-◌, ◌≤◌, min, take, inl, inr, List, [], ◌∷◌, ◌++◌, length, refl, ap, sym, ◌∙◌, arith, length-append, Option, cases_lt, append-nil, length-take, slot_count, Automaton, IsAutomaton, Pair, slot_row, Slots, Bool, false, not, is_some, Search, MatchKind, is_utf8_empty, IsAnswer, IsBoolAnswer, IsWork}
+use Rattle.nfa_paths.proofs.PatternLemmas.{slot_row-more, found-of}
 use Rattle.nfa_pikevm_scan.specs.Scans.{blank}
 use Rattle.nfa_pikevm_scan.proofs.RowLemmas.{length-blank}
+use Rattle.nfa_paths.proofs.EarliestLemmas.{search_answer-asked, found_answer-earliest}
 
 module _ {nfa : Automaton} (valid : IsAutomaton nfa) {row : Slots} {width : ℕ} where
   -- A search got as many slots as the NFA has, or fewer, and the rest are `None`: together they are a row of the path.
@@ -38,3 +39,21 @@ module _ {nfa : Automaton} (valid : IsAutomaton nfa) {row : Slots} {width : ℕ}
       let rest : Slots = blank (len - length row) in
       let left : length rest + width ≡ len = omega (arith, length-blank (len - length row), size, least) in
       row-whole least size left (ap blank (sym (length-blank (len - length row))))
+
+module _ {nfa : Automaton} {kind : MatchKind} {x y : Search} {e : Bool} (is_e : e ≡ not (is_utf8_empty nfa))
+    (is_y : y ≡ record x { earliest = e }) where
+  -- the work for the answer
+  pub work-free : {scans turns : ℕ} → IsWork nfa kind y.earliest y scans turns
+      → IsWork nfa kind (not (is_utf8_empty nfa)) x scans turns
+  work-free {scans} {turns} w = grind (arith, search_answer-asked)
+
+  -- whether there is a match
+  pub found-free : {slots : Slots} {pattern : Option ℕ} → IsAnswer nfa kind y.earliest y pattern slots
+      → IsBoolAnswer nfa kind false x (is_some pattern)
+  found-free {slots} {pattern} a = of (found-of nfa kind e (record x { earliest = e }) slots pattern (rw is_y at a))
+    where
+      of : IsBoolAnswer nfa kind e (record x { earliest = e }) (is_some pattern)
+          → IsBoolAnswer nfa kind false x (is_some pattern)
+      of f = rw f.found_is
+          (found_answer-earliest nfa kind x f.restarts f.path
+          (rw is_e at (search_answer-asked nfa kind e x e f.restarts f.path f.answers)))

@@ -1,4 +1,3 @@
 pub mod EngineLemmas
-pub mod IsMatchLemmas
 pub mod FindLemmas
 pub mod CapturesLemmas

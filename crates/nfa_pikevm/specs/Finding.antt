@@ -1,7 +1,6 @@
 -- The answers of a PikeVM to searches for a match or for captures.
-use Rattle.std.specs.Prelude.{◌≤◌, ◌*◌, ◌+◌, ℕ, List, Option, Ok}
-use Rattle.nfa_paths.specs.Common.{Found, found_of, Search, Match, IsWork, max_scans, span_len, total_degree, IsSureMatch}
-use Rattle.nfa_search_base.specs.Common.{Row, row_span, AnswersRow, answer_by, DoesSearch, FindsLeave, FindsLeaveAtEnd, Leaves, LeavesAtEnd, AnswersMatch, Answer}
+use Rattle.std.specs.Prelude.{◌≤◌, ◌*◌, ◌+◌, ℕ, List}
+use Rattle.nfa_search_base.specs.Common.{Found, Search, IsWork, max_scans, span_len, total_degree, IsSureMatch, Row, row_span, AnswersRow, DoesSearch, FindsLeave, FindsLeaveAtEnd, Leaves, LeavesAtEnd, AnswersMatch, Answer}
 use Rattle.nfa_pikevm.specs.Engines.{Pike, PikeCache, AddsPikeWork, SameCapacities, kind_of}
 
 -- the answer of one search for a match: the match of its kind and its `earliest`, and never an error
@@ -11,10 +10,6 @@ PikeAnswersMatch vm x a = AnswersMatch vm.nfa (kind_of vm) x.earliest x a
 -- the answer of one search for captures: the row of its kind and its `earliest`, and never an error
 abbrev pub PikeAnswersRow : Pike → Search → Answer Row → Type 0
 PikeAnswersRow vm x a = AnswersRow vm.nfa (kind_of vm) x.earliest x a
-
--- a reply as values
-abbrev pub answer_of : Option Match → Answer Found
-answer_of found = answer_by found_of (Ok found)
 
 -- a match that is sure to be found
 abbrev pub IsSureOf : Pike → Search → Found → Type 0
@@ -45,10 +40,11 @@ abbrev pub PikeFindsToEnd : Pike → Search → List Found → PikeCache → Pik
 PikeFindsToEnd vm x ms old new =
     FindsLeaveAtEnd (PikeAnswersMatch vm) (λ y a. PikeSearches vm y) pike_scans x ms old new
 
--- the same for an iteration over captures
+-- an iteration over the captures of x led from one cache to the other only by its searches, as far as it went
 abbrev pub PikeCapturesOn : Pike → Search → PikeCache → PikeCache → Type 0
 PikeCapturesOn vm x old new = Leaves row_span (DoesSearch (PikeAnswersRow vm) (λ y a. PikeSearches vm y)) x old new
 
+-- the same, and the iteration went to its end, past these rows
 abbrev pub PikeCapturesToEnd : Pike → Search → List Row → PikeCache → PikeCache → Type 0
 PikeCapturesToEnd vm x rows old new =
     LeavesAtEnd row_span (DoesSearch (PikeAnswersRow vm) (λ y a. PikeSearches vm y)) x rows old new

@@ -44,14 +44,14 @@ impl<'r> Model for CapturesFinder<'r> {
 impl PikeVM {
     ghost use Rattle.std.specs.Prelude.{◌≡◌, false, All, IfOk, IsOkUnless, None, map};
     ghost use Rattle.regex_search_core.specs.Search.{search_of};
-    ghost use Rattle.nfa_search_base.specs.Runs.{CapturesGiven};
+    ghost use Rattle.nfa_search_base.specs.Runs.{CapturesGiven, CapturesInside, CapturesMemory, CapturesWithin};
+    ghost use Rattle.nfa_search_base.specs.Runs.{match_in};
     ghost use Rattle.nfa_search_base.specs.WithCaptures.{row_of};
     ghost use Rattle.nfa_search_base.specs.Lists.{AreRows, AnswersRow, AreDisjoint, AreMatches};
-    ghost use Rattle.nfa_search_base.specs.Runs.{CapturesInside, CapturesMemory, CapturesWithin, match_in};
     ghost use Rattle.nfa_search_base.specs.IterStates.{fresh};
-    ghost use Rattle.nfa_pikevm.specs.CapturesMatches.{CapturesBySearches, CapturesGiveCache};
-    ghost use Rattle.nfa_pikevm.specs.CapturesMatches.{pike_captures, pike_captures_next};
-    ghost use Rattle.nfa_search_base.specs.Stored.{steps_iter_state};
+    ghost use Rattle.nfa_pikevm.specs.Iterators.{CapturesBySearches, pike_captures};
+    ghost use Rattle.nfa_pikevm.specs.Iterators.{pike_captures_next};
+    ghost use Rattle.nfa_search_base.specs.Stored.{GivesStepsWith, steps_iter_state};
     ghost use Rattle.nfa_pikevm.specs.Engines.{SameCapacities, kind_of};
     ghost use Rattle.nfa_pikevm.specs.Finding.{PikeCapturesOn, PikeCapturesToEnd};
 
@@ -97,7 +97,7 @@ impl PikeVM {
         ensures errors { IfOk result (CapturesMemory pike_captures_next) }
         // The cache changes only by the searches of the steps.
         ensures searches { IfOk result (CapturesBySearches self.now (search_of input.entry)) }
-        ensures keeps { IfOk result CapturesGiveCache }
+        ensures keeps { IfOk result (GivesStepsWith pike_captures_next pike_captures SameCapacities) }
     {
         let captures = self.create_captures(alloc)?;
         Ok(self.captures_iter_with(cache, input, captures))
@@ -138,7 +138,7 @@ impl PikeVM {
         ensures errors { CapturesMemory pike_captures_next result }
         // The cache changes only by the searches of the steps.
         ensures searches { CapturesBySearches self.now (search_of input.entry) result }
-        ensures keeps { CapturesGiveCache result }
+        ensures keeps { GivesStepsWith pike_captures_next pike_captures SameCapacities result }
     {
         CapturesMatches {
             cache,
@@ -195,8 +195,7 @@ impl PikeVM {
 
 impl<'r> FindWith for CapturesFinder<'r> {
     ghost use Rattle.nfa_search_base.specs.WithCaptures.{Row, filled_answer, row_span, GivesCaptures};
-    ghost use Rattle.nfa_pikevm.specs.CapturesMatches.{AsksPikeRow};
-    ghost use Rattle.nfa_pikevm.specs.FindMatches.{fits_pike};
+    ghost use Rattle.nfa_pikevm.specs.Iterators.{AsksPikeRow, fits_pike};
     ghost use Rattle.nfa_search_base.specs.EngineSearches.{MayFill};
 
     type Cache = Cache;
@@ -236,7 +235,7 @@ impl<'r> FindWith for CapturesFinder<'r> {
 
 impl<'r, 'c, 'h> Iterator for CapturesMatches<'r, 'c, 'h> {
     ghost use Rattle.nfa_search_base.specs.Stored.{steps_left};
-    ghost use Rattle.nfa_pikevm.specs.CapturesMatches.{pike_captures, pike_captures_next};
+    ghost use Rattle.nfa_pikevm.specs.Iterators.{pike_captures, pike_captures_next};
 
     type Item = Result<Captures, SearchError>;
 

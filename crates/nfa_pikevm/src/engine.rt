@@ -1,9 +1,9 @@
 //! The PikeVM and its searches.
-ghost use Rattle.std.specs.Prelude.{◌≡◌, ◌+◌, ◌-◌, ◌*◌, ◌≤◌, None, Ok, false, not, length, min, replicate, option_map, IfOk};
-ghost use Rattle.std.specs.Prelude.{IfNone, IfSome, All, ◌<◌, IsOk, OnOk, OnErr, IsOkUnless};
+ghost use Rattle.std.specs.Prelude.{◌≡◌, ◌+◌, ◌-◌, ◌*◌, ◌≤◌, None, Ok, false, not, length, min, replicate, option_map};
+ghost use Rattle.std.specs.Prelude.{IfOk, IfNone, IfSome, All, ◌<◌, IsOk, OnOk, OnErr, IsOkUnless};
 ghost use Rattle.regex_search_core.specs.Search.{search_of};
 ghost use Rattle.regex_search_core.specs.Groups.{slot_count};
-ghost use Rattle.regex_search_core.specs.Patterns.{number_of};
+ghost use Rattle.regex_search_core.specs.PatternSets.{number_of};
 ghost use Rattle.regex_search_core.specs.Found.{found_of, half_found_of};
 ghost use Rattle.thompson_nfa.specs.Automaton.{always, never};
 ghost use Rattle.nfa_paths.specs.Overlaps.{IsOverlapResult};
@@ -13,8 +13,7 @@ ghost use Rattle.nfa_pikevm.specs.Engines.{AddsPikeWork, Fits, SameCapacities, k
 ghost use Rattle.nfa_pikevm.specs.Finding.{PikeSearches};
 ghost use Rattle.nfa_pikevm_scan.specs.Needs.{overlap_scans};
 ghost use Rattle.nfa_pikevm_scan.specs.Scans.{HaveRoom, SameSizes, max_scan_turns};
-ghost use Rattle.nfa_search_base.specs.Lists.{finds};
-ghost use Rattle.nfa_search_base.specs.Lists.{IsInside, IsSlotInside};
+ghost use Rattle.nfa_search_base.specs.Lists.{finds, IsInside, IsSlotInside};
 
 use crate::cache::Cache;
 use crate::config::{Builder, Config};

@@ -2,7 +2,7 @@
 ghost use Rattle.std.specs.Prelude.{◌≡◌};
 ghost use Rattle.regex_search_core.specs.Search.{search_of};
 ghost use Rattle.nfa_search_base.specs.EngineSearches.{IsKnownFrom};
-ghost use Rattle.nfa_search_base.specs.Stored.{steps_iter_state};
+ghost use Rattle.nfa_search_base.specs.Stored.{GivesStepsWith, steps_iter_state};
 ghost use Rattle.nfa_pikevm.specs.Engines.{Fits};
 ghost use Rattle.nfa_pikevm.specs.Finding.{IsSureOf};
 
@@ -41,8 +41,8 @@ impl PikeVM {
     ghost use Rattle.nfa_search_base.specs.Lists.{AreMatches, AreDisjoint, IsInside};
     ghost use Rattle.nfa_search_base.specs.IterStates.{fresh};
     ghost use Rattle.nfa_pikevm.specs.Engines.{SameCapacities, kind_of};
-    ghost use Rattle.nfa_pikevm.specs.FindMatches.{FindsBySearches, GivesCache, pike_finds_known, pike_matches};
-    ghost use Rattle.nfa_pikevm.specs.FindMatches.{pike_matches_engine, pike_matches_next};
+    ghost use Rattle.nfa_pikevm.specs.Iterators.{FindsBySearches, pike_finds_known, pike_matches};
+    ghost use Rattle.nfa_pikevm.specs.Iterators.{pike_matches_engine, pike_matches_next};
     ghost use Rattle.nfa_pikevm.specs.Finding.{PikeFindsOn, PikeFindsToEnd};
     ghost use Rattle.nfa_search_base.specs.Runs.{MatchesRun, MatchesAre, MatchesDisjoint, MatchesFirst, MatchesNext};
 
@@ -81,7 +81,7 @@ impl PikeVM {
         ensures next { MatchesNext self.now.nfa (kind_of self.now) (search_of input.entry) pike_matches_next result }
         // The cache changes only by the searches of the steps.
         ensures searches { FindsBySearches self.now (search_of input.entry) result }
-        ensures keeps { GivesCache result }
+        ensures keeps { GivesStepsWith pike_matches_next pike_matches SameCapacities result }
     {
         FindMatches {
             cache,
@@ -136,11 +136,11 @@ impl PikeVM {
 }
 
 impl<'r> FindWith for Finder<'r> {
+    ghost use Rattle.std.specs.Prelude.{Ok};
     ghost use Rattle.regex_search_core.specs.Found.{Found, found_of};
-    ghost use Rattle.nfa_search_base.specs.Items.{GivesItem};
+    ghost use Rattle.nfa_search_base.specs.Items.{GivesItem, answer_by};
     ghost use Rattle.nfa_search_base.specs.IterStates.{span_of};
-    ghost use Rattle.nfa_pikevm.specs.Finding.{answer_of};
-    ghost use Rattle.nfa_pikevm.specs.FindMatches.{AsksPike, MayFindByPike};
+    ghost use Rattle.nfa_pikevm.specs.Iterators.{AsksPike, MayFindByPike};
 
     type Cache = Cache;
 
@@ -148,7 +148,7 @@ impl<'r> FindWith for Finder<'r> {
 
     ghost Value = { Found };
 
-    ghost shows = { λ _ reply. answer_of reply };
+    ghost shows = { λ _ reply. answer_by found_of (Ok reply) };
 
     ghost span = { span_of };
 
@@ -185,7 +185,7 @@ impl<'r> FindWith for Finder<'r> {
 
 impl<'r, 'c, 'h> Iterator for FindMatches<'r, 'c, 'h> {
     ghost use Rattle.nfa_search_base.specs.Stored.{infallible_left};
-    ghost use Rattle.nfa_pikevm.specs.FindMatches.{pike_matches, pike_matches_next};
+    ghost use Rattle.nfa_pikevm.specs.Iterators.{pike_matches, pike_matches_next};
 
     type Item = Match;
 

@@ -1,13 +1,13 @@
 -- From one position to the next of a scan for all sets of matches.
-use Rattle.nfa_pikevm_scan.proofs.Common.{AllMatches, AreMatchPairs, Automaton, Bool, Frontier, HalfMatch, Hit, IsFoundBy, IsFrontier, IsScanAnswer, IsSoFar, LastBefore, LeftmostFirst, Load, Moment, NextsGive, NoMatch, None, NoneBefore, Option, Pair, PatternID, Scanning, Search, SeenAt, Slots, Some, Starts, StatesGive, [], arith, blank, capture, cond, false, inl, inr, is_match, is_resting, is_some, last_match, length, meant, option_or, refl, replicate, space, starts, starts_from, tasks, true, unmarked, with_start, ℕ, ◌+◌, ◌-◌, ◌∷◌, ◌≡◌, ◌≤◌, ◌⊎◌}
 use Rattle.nfa_paths.proofs.FrontierMatchLemmas.{first_match-is, last_match-is}
 use Rattle.nfa_paths.proofs.ScanAnswerLemmas.{Scanned-matches, edges-onward, scan_earliest-cut, scan_earliest_last-found, seeds-later}
 use Rattle.nfa_paths.proofs.ScanLemmas.{LastBefore-step, NoneBefore-step}
-use Rattle.nfa_paths.proofs.ScanningLemmas.{Scanning-front, Scanning-load, Scanning-round}
-use Rattle.nfa_scan_core.proofs.SeenLemmas.{SeenAt-none}
+use Rattle.nfa_paths.proofs.SearchingLemmas.{Scanning-front, Scanning-load, Scanning-round}
+use Rattle.nfa_scan_core.proofs.TargetLemmas.{SeenAt-none}
 use Rattle.nfa_pikevm_scan.proofs.FrontierLemmas.{Formed-next, Formed-resting, Formed-rests, last_match-or}
 use Rattle.nfa_pikevm_scan.proofs.ScanLemmas.{EndsAt, EndsAt-none, Leads-starts, match-cross}
 use Rattle.nfa_pikevm_scan.proofs.TaskLemmas.{AnswersFor-round, Searching-for}
+use Rattle.nfa_pikevm_scan.proofs.Common.{AllMatches, AreMatchPairs, Automaton, Bool, Frontier, HalfMatch, Hit, IsFoundBy, IsFrontier, IsScanAnswer, IsSoFar, LastBefore, LeftmostFirst, Load, Moment, NextsGive, NoMatch, None, NoneBefore, Option, Pair, PatternID, Scanning, Search, SeenAt, Slots, Some, Starts, StatesGive, [], arith, blank, capture, cond, false, inl, inr, is_match, is_resting, is_some, last_match, length, meant, option_or, refl, replicate, space, starts, starts_from, tasks, true, unmarked, with_start, ℕ, ◌+◌, ◌-◌, ◌∷◌, ◌≡◌, ◌≤◌, ◌⊎◌}
 
 -- The scan for each wanted pair, at a position where it has followed no state yet. The states that are kept are left,
 -- and the starts from `next` on.

@@ -1,13 +1,13 @@
 -- The steps of a closure, each for the searches of all sets of match pairs at once: states, frames, and turns one after
 -- the other.
-use Rattle.nfa_pikevm_scan.proofs.Common.{All, All-take, AreMatchPairs, Automaton, Bool, ClosureOutput, Entered, Explore, ExploresTo, FollowEpsilon, Follows, Formed, Frontier, HasRoom, IsWithin, KeepsRoom, List, Load, Marks, Moment, NoMatch, Node, None, Option, Paid, Pair, Restore, Resumes, Search, Slots, Some, Task, TurnsGive, WasSeen, [], ap, append-nil, append_assoc, arith, degree, edges, edges_of, false, get_or, length, length-append, map, moment_of, moves, option_to_list, pattern_of, refl, rests, rules, set, slot_of, space, state_of, sum, sum_by, sum_by_push, sym, take, take-take, take_more, tries, true, undone, weight, with_state, work_item_of, work_onto, ℕ, ◌++◌, ◌+◌, ◌-◌, ◌<◌, ◌∙◌, ◌∷◌, ◌≡◌, ◌≤◌}
+use Rattle.std.proofs.lemmas.Grind.{flat_map-append}
 use Rattle.nfa_paths.proofs.ScanAnswerLemmas.{edges-onward, edges-rise}
 use Rattle.nfa_paths.proofs.SearchLemmas.{AnswerBehind-along}
 use Rattle.nfa_paths.proofs.SearchingLemmas.{Searching-keep, Searching-load, Searching-marked, Searching-plain, Searching-restore, Searching-unkept, Searching-write}
 use Rattle.nfa_paths.proofs.StartLemmas.{node_at-get}
 use Rattle.nfa_paths.proofs.TurnLemmas.{marked_sum-le}
-use Rattle.nfa_scan_core.proofs.SeenLemmas.{SeenAt-clear, SeenAt-set}
-use Rattle.std.proofs.lemmas.Grind.{flat_map-append}
+use Rattle.nfa_scan_core.proofs.TargetLemmas.{SeenAt-clear, SeenAt-set}
+use Rattle.nfa_pikevm_scan.proofs.Common.{All, All-take, AreMatchPairs, Automaton, Bool, ClosureOutput, Entered, Explore, ExploresTo, FollowEpsilon, Follows, Formed, Frontier, HasRoom, IsWithin, KeepsRoom, List, Load, Marks, Moment, NoMatch, Node, None, Option, Paid, Pair, Restore, Resumes, Search, Slots, Some, Task, TurnsGive, WasSeen, [], ap, append-nil, append_assoc, arith, degree, edges, edges_of, false, get_or, length, length-append, map, moment_of, moves, option_to_list, pattern_of, refl, rests, rules, set, slot_of, space, state_of, sum, sum_by, sum_by_push, sym, take, take-take, take_more, tries, true, undone, weight, with_state, work_item_of, work_onto, ℕ, ◌++◌, ◌+◌, ◌-◌, ◌<◌, ◌∙◌, ◌∷◌, ◌≡◌, ◌≤◌}
 
 module _ (nfa : Automaton) (x : Search) (at : ℕ) where
   -- one after the other

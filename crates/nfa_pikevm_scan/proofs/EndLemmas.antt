@@ -1,14 +1,13 @@
 -- How a scan begins, joins its starts, goes from one position to the next, and ends.
-use Rattle.nfa_pikevm_scan.proofs.Common.{AddsStart, AllMatches, AreAt, AreMatchPairs, AreStarts, Automaton, Bool, EndsBefore, Frontier, HalfMatch, Hit, IsFirst, IsFirstBytes, IsFoundBy, IsPassed, IsScanAnswer, IsSoFar, JoinsStart, KeepsThreads, LeftmostFirst, List, Load, Marks, MatchKind, MayCross, MayScan, Moment, NextsGive, None, NoneBefore, Option, Pair, PatternID, ScanGives, Scanning, Search, SearchesFirst, SearchingAt, SearchingFrom, SeenAt, Slots, Some, Starts, StatesGive, Threads, [], arith, between, blank, capture, cond, edges, false, half_found_of, held, inl, inr, is_match, is_resting, is_some, length, refl, rules, seeds, space, starts, starts_from, subst, sym, tasks, true, unmarked, with_start, ℕ, ◌+◌, ◌-◌, ◌<◌, ◌∷◌, ◌≡◌, ◌≤◌}
 use Rattle.nfa_paths.proofs.ScanAnswerLemmas.{EndsBefore-span, IsFoundBy-none, IsFoundBy-some, Scanned-matches, scan_all-found, scan_first-found, starts-from}
 use Rattle.nfa_paths.proofs.ScanLemmas.{EndsBefore-over, IsFoundBy-more, LastBefore-start, NoneBefore-start}
-use Rattle.nfa_paths.proofs.ScanningLemmas.{Scanning-load, Scanning-over}
-use Rattle.nfa_paths.proofs.SearchingLemmas.{Searching-done, Searching-load}
-use Rattle.nfa_scan_core.proofs.SeenLemmas.{SeenAt-none}
+use Rattle.nfa_paths.proofs.SearchingLemmas.{Scanning-load, Scanning-over, Searching-done, Searching-load}
+use Rattle.nfa_scan_core.proofs.TargetLemmas.{SeenAt-none}
 use Rattle.nfa_pikevm_scan.proofs.AllLemmas.{HasLast, ScansAll, earliest-found, start_joined}
-use Rattle.nfa_pikevm_scan.proofs.RoomLemmas.{AreAt-none, HaveRows-kept, KeepsThreads-none, KeepsThreads-then, below-joined, few-joined, over-joined}
+use Rattle.nfa_pikevm_scan.proofs.RowLemmas.{AreAt-none, HaveRows-kept, KeepsThreads-none, KeepsThreads-then, below-joined, few-joined, over-joined}
 use Rattle.nfa_pikevm_scan.proofs.ScanLemmas.{AreAt-cross, EndsAt, match-cross}
 use Rattle.nfa_pikevm_scan.proofs.TaskLemmas.{AnswersFor, AnswersFor-pass, AnswersFor-same, AnswersFor-skip, AnswersFor-tasks, AnswersFor-then, Searching-begin, Searching-for, Searching-seen, starts_from-end, tasks-alone, tasks-joined, tasks-joins}
+use Rattle.nfa_pikevm_scan.proofs.Common.{AddsStart, AllMatches, AreAt, AreMatchPairs, AreStarts, Automaton, Bool, EndsBefore, Frontier, HalfMatch, Hit, IsFirst, IsFirstBytes, IsFoundBy, IsPassed, IsScanAnswer, IsSoFar, JoinsStart, KeepsThreads, LeftmostFirst, List, Load, Marks, MatchKind, MayCross, MayScan, Moment, NextsGive, None, NoneBefore, Option, Pair, PatternID, ScanGives, Scanning, Search, SearchesFirst, SearchingAt, SearchingFrom, SeenAt, Slots, Some, Starts, StatesGive, Threads, [], arith, between, blank, capture, cond, edges, false, half_found_of, held, inl, inr, is_match, is_resting, is_some, length, refl, rules, seeds, space, starts, starts_from, subst, sym, tasks, true, unmarked, with_start, ℕ, ◌+◌, ◌-◌, ◌<◌, ◌∷◌, ◌≡◌, ◌≤◌}
 
 module _ (nfa : Automaton) (x : Search) where
   -- the beginning

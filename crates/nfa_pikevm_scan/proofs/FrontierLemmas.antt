@@ -1,12 +1,11 @@
 -- What the front of a position leads on to, and what it costs.
-use Rattle.nfa_pikevm_scan.proofs.Common.{All, All-cons, All-nil, AreAt, Automaton, Bool, Fail, Formed, Frontier, Hit, In, LeadsBelow, List, Marks, Node, None, Option, Paid, Pair, Search, Slots, Some, [], ap, append-nil, arith, between, byte_at, capture, degree, edges, edges_of, inl, inr, is_resting, last_match, length, map, max_scan_turns, moves, node_at, option_and_then, option_or, option_to_list, refl, rests, span_len, sum-map, sum_by, sum_by-cons, target_on, total_degree, true, unmarked, ℕ, ◌*◌, ◌+◌, ◌-◌, ◌<◌, ◌∙◌, ◌∷◌, ◌≡◌, ◌≤◌, ◌⊎◌}
-use Rattle.nfa_paths.proofs.MemberLemmas.{All-In}
-use Rattle.nfa_paths.proofs.OptionLemmas.{option_or-assoc}
+use Rattle.std.proofs.Math.Nat.{mul-le-mul_right}
+use Rattle.nfa_paths.proofs.MemberLemmas.{All-In, option_or-assoc}
 use Rattle.nfa_paths.proofs.ScanAnswerLemmas.{edges-rise}
 use Rattle.nfa_paths.proofs.StartLemmas.{byte_at-within, byte_pairs, resting-capture, resting-edges}
 use Rattle.nfa_paths.proofs.TurnLemmas.{marked_sum-le}
 use Rattle.nfa_scan_core.proofs.TargetLemmas.{target-below}
-use Rattle.std.proofs.Math.Nat.{mul-le-mul_right}
+use Rattle.nfa_pikevm_scan.proofs.Common.{All, All-cons, All-nil, AreAt, Automaton, Bool, Fail, Formed, Frontier, Hit, In, LeadsBelow, List, Marks, Node, None, Option, Paid, Pair, Search, Slots, Some, [], ap, append-nil, arith, between, byte_at, capture, degree, edges, edges_of, inl, inr, is_resting, last_match, length, map, max_scan_turns, moves, node_at, option_and_then, option_or, option_to_list, refl, rests, span_len, sum-map, sum_by, sum_by-cons, target_on, total_degree, true, unmarked, ℕ, ◌*◌, ◌+◌, ◌-◌, ◌<◌, ◌∙◌, ◌∷◌, ◌≡◌, ◌≤◌, ◌⊎◌}
 
 -- the edges of a resting state, by what it reads
 

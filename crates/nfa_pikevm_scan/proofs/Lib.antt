@@ -1,16 +1,15 @@
 pub mod Common
 pub mod RowLemmas
 pub mod VisitLemmas
+pub mod SlotsSinkLemmas
 pub mod SinkLemmas
 pub mod ClosureLemmas
 pub mod NextsLemmas
-pub mod SlotsSinkLemmas
 pub mod TaskLemmas
 pub mod FrontierLemmas
 pub mod ScanLemmas
 pub mod AllLemmas
 pub mod EndLemmas
-pub mod RoomLemmas
 pub mod LoneLemmas
 pub mod OverlapLemmas
 pub mod PatternSinkLemmas

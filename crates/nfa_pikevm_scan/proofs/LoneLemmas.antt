@@ -3,7 +3,7 @@
 use Rattle.nfa_pikevm_scan.proofs.Common.{AddsStart, All, All-push, AreStarts, Automaton, Bool, HalfMatch, HaveRows, Hit, IsFirstBytes, KeepsThreads, List, MayCross, MayScan, Moment, NextsGive, None, Option, PassesOver, PatternID, ScansFirst, Search, SearchesFirst, SearchingFrom, Slots, Starts, Threads, [], arith, between, blank, false, held, inl, inr, is_match, is_some, length, refl, total_degree, true, ℕ, ◌+◌, ◌<◌, ◌∷◌, ◌≡◌, ◌≤◌, ◌⊎◌}
 use Rattle.nfa_pikevm_scan.proofs.EndLemmas.{SearchesFirst-begin, SearchesFirst-joins}
 use Rattle.nfa_pikevm_scan.proofs.FrontierLemmas.{paid-later}
-use Rattle.nfa_pikevm_scan.proofs.RoomLemmas.{AddsStart-passes, AreAt-none, KeepsThreads-none, KeepsThreads-then, few-joins}
+use Rattle.nfa_pikevm_scan.proofs.RowLemmas.{AddsStart-passes, AreAt-none, KeepsThreads-none, KeepsThreads-then, few-joins}
 use Rattle.nfa_pikevm_scan.proofs.ScanLemmas.{AreAt-cross, EndsAt, EndsAt-none, SearchesFirst-match, SearchesFirst-miss}
 use Rattle.nfa_pikevm_scan.proofs.TaskLemmas.{tasks-alone}
 

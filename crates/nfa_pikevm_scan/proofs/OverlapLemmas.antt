@@ -1,11 +1,9 @@
 -- What a scan for a set keeps at a position, for all matches or the first one, with the least end or with any.
-use Rattle.nfa_pikevm_scan.proofs.Common.{AddsPatterns, AllMatches, AreStarts, Automaton, Bool, EndsBefore, Explore, ExploresAfter, ExploresTo, Hit, In, IsFrontier, IsInsertable, IsOverlapResult, LeftmostFirst, List, Load, Marks, MatchKind, Moment, NextsOverlappingGive, NoMatch, NoPath, None, NoneBefore, Pair, Passes, Search, SearchingAt, SearchingFrom, Slots, Some, Starts, Task, [], ap, arith, before_match, between, cond, edges, false, first_match, inl, inr, is_resting, length, map, moves, not, pairs_from, pattern_at, refl, seeds, size_of_set, space, starts, starts_from, tasks, true, unmarked, wants, with_start, ℕ, ◌&&◌, ◌+◌, ◌-◌, ◌<◌, ◌↔◌, ◌∙◌, ◌∷◌, ◌≡◌, ◌≤◌, ◌⊎◌}
-use Rattle.nfa_paths.proofs.FirstWantedLemmas.{First-none, FirstAt-found, FirstAt-front}
+use Rattle.nfa_paths.proofs.MetLemmas.{First-none, FirstAt-found, FirstAt-front, Best, Best-found, Between, Between-before, Between-less, Between-same, Exact, Exact-end, Exact-match, Exact-next, Exact-start, before_is, before_match-same, before_target, first_match-same}
 use Rattle.nfa_paths.proofs.FrontierMatchLemmas.{before_match-all, before_match-plain, first_match-cut}
 use Rattle.nfa_paths.proofs.FullLemmas.{exact-result, full-exact}
 use Rattle.nfa_paths.proofs.GainLemmas.{GainsBefore, GainsBefore-end, GainsBefore-full, GainsBefore-start, GainsBefore-step, gains-found, gains-none, wanted-shape}
 use Rattle.nfa_paths.proofs.KindsLemmas.{Answer-ahead}
-use Rattle.nfa_paths.proofs.MetLemmas.{Best, Best-found, Between, Between-before, Between-less, Between-same, Exact, Exact-end, Exact-match, Exact-next, Exact-start, before_is, before_match-same, before_target, first_match-same}
 use Rattle.nfa_paths.proofs.ScanAnswerLemmas.{edges-onward, seeds-later, starts-from}
 use Rattle.nfa_paths.proofs.ScanLemmas.{NoneBefore-end, NoneBefore-start, NoneBefore-step}
 use Rattle.nfa_paths.proofs.SearchingLemmas.{Searching-done, Searching-load}
@@ -15,9 +13,10 @@ use Rattle.nfa_pikevm_scan.proofs.AllLemmas.{ScansAll, ScansAll-next, all-front,
 use Rattle.nfa_pikevm_scan.proofs.EndLemmas.{ScansAll-begin, ScansAll-joined, ScansAll-over, SearchingAt-begin}
 use Rattle.nfa_pikevm_scan.proofs.FrontierLemmas.{Formed-resting}
 use Rattle.nfa_pikevm_scan.proofs.PatternSinkLemmas.{AddsAll-none, AddsFirst-none, AddsFirst-some, wants-match, wants-tells}
-use Rattle.nfa_pikevm_scan.proofs.RoomLemmas.{over-joined}
+use Rattle.nfa_pikevm_scan.proofs.RowLemmas.{over-joined}
 use Rattle.nfa_pikevm_scan.proofs.ScanLemmas.{first-hit, first-miss}
 use Rattle.nfa_pikevm_scan.proofs.TaskLemmas.{starts_from-end, tasks-joined}
+use Rattle.nfa_pikevm_scan.proofs.Common.{AddsPatterns, AllMatches, AreStarts, Automaton, Bool, EndsBefore, Explore, ExploresAfter, ExploresTo, Hit, In, IsFrontier, IsInsertable, IsOverlapResult, LeftmostFirst, List, Load, Marks, MatchKind, Moment, NextsOverlappingGive, NoMatch, NoPath, None, NoneBefore, Pair, Passes, Search, SearchingAt, SearchingFrom, Slots, Some, Starts, Task, [], ap, arith, before_match, between, cond, edges, false, first_match, inl, inr, is_resting, length, map, moves, not, pairs_from, pattern_at, refl, seeds, size_of_set, space, starts, starts_from, tasks, true, unmarked, wants, with_start, ℕ, ◌&&◌, ◌+◌, ◌-◌, ◌<◌, ◌↔◌, ◌∙◌, ◌∷◌, ◌≡◌, ◌≤◌, ◌⊎◌}
 
 -- the states at a position, and what is left after them, are at this position or after it
 tasks-ahead : (at : ℕ) (items : List (ℕ × Slots)) (waiting : List Task)

@@ -1,11 +1,10 @@
 -- What is put into a set of patterns at a position.
-use Rattle.nfa_pikevm_scan.proofs.Common.{AddsAllPatterns, AddsFirstPattern, AddsPatterns, All, Automaton, Bool, ClosuresGive, Frontier, Hit, HoldsMatch, In, IsBoundary, IsInsertable, IsPermittedEnd, List, Moment, NextsOverlappingGive, NoMatch, None, Pair, PatternID, PatternSink, PatternSinkTakes, Search, Slots, Some, Takes, [], ap, arith, counts, ends, ext_get_or, false, first_match, get_or, inl, inr, is_match, is_utf8_empty, length, nat_lt, nat_tests, node_at, none, not, number_of, pattern_at, pattern_of, permits, plain, refl, sym, taken, true, wants, with_pattern, ℕ, ◌&&◌, ◌++◌, ◌<◌, ◌||◌, ◌↔◌, ◌∙◌, ◌∷◌, ◌≡◌, ◌≤◌, ◌⊎◌}
-use Rattle.nfa_paths.proofs.MemberLemmas.{In-append, In-append_left, In-append_right}
-use Rattle.nfa_paths.proofs.SetLemmas.{holds-with, length-with}
-use Rattle.nfa_paths.proofs.TestLemmas.{same_test}
 use Rattle.std.proofs.Math.Bool.{and-true, or-false, or_assoc}
+use Rattle.nfa_paths.proofs.MemberLemmas.{In-append, In-append_left, In-append_right, same_test}
+use Rattle.nfa_paths.proofs.SetLemmas.{holds-with, length-with}
 use Rattle.nfa_pikevm_scan.proofs.FrontierLemmas.{Formed-resting}
 use Rattle.nfa_pikevm_scan.proofs.SinkLemmas.{StatesGive-if, Takes-cut, first-none}
+use Rattle.nfa_pikevm_scan.proofs.Common.{AddsAllPatterns, AddsFirstPattern, AddsPatterns, All, Automaton, Bool, ClosuresGive, Frontier, Hit, HoldsMatch, In, IsBoundary, IsInsertable, IsPermittedEnd, List, Moment, NextsOverlappingGive, NoMatch, None, Pair, PatternID, PatternSink, PatternSinkTakes, Search, Slots, Some, Takes, [], ap, arith, counts, ends, ext_get_or, false, first_match, get_or, inl, inr, is_match, is_utf8_empty, length, nat_lt, nat_tests, node_at, none, not, number_of, pattern_at, pattern_of, permits, plain, refl, sym, taken, true, wants, with_pattern, ℕ, ◌&&◌, ◌++◌, ◌<◌, ◌||◌, ◌↔◌, ◌∙◌, ◌∷◌, ◌≡◌, ◌≤◌, ◌⊎◌}
 
 module _ (nfa : Automaton) (x : Search) where
   permits-tells : (at : ℕ) → (permits nfa x at ≡ true) ↔ IsPermittedEnd nfa x at

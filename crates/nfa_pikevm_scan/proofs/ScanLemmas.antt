@@ -1,14 +1,13 @@
 -- From one position of a scan to the next.
-use Rattle.nfa_pikevm_scan.proofs.Common.{All, AreAt, AreMatchPairs, Automaton, Bool, Explore, Frontier, HalfFound, HalfMatch, Hit, In, IsHit, IsSoFar, Leads, LeadsBelow, List, Load, Moment, NextsGive, None, Option, Pair, PatternID, Search, SearchesFirst, SearchingAt, SearchingFrom, SeenAt, Slots, Some, StatesGive, Task, [], ap, arith, before_match, blank, edges, false, first_match, half_found, half_found_of, inl, inr, is_match, is_some, length, meant, moves, next_tasks, number_of, option_map, refl, replicate, space, starts, starts_from, subst, sym, tasks, total_degree, true, unmarked, ℕ, ◌*◌, ◌+◌, ◌-◌, ◌<◌, ◌∙◌, ◌∷◌, ◌≡◌, ◌≤◌}
 use Rattle.nfa_paths.proofs.FrontierMatchLemmas.{before_match-all, before_match-among, first_match-cut, last_match-is}
-use Rattle.nfa_paths.proofs.MemberLemmas.{In-middle}
-use Rattle.nfa_paths.proofs.OptionLemmas.{same_some}
+use Rattle.nfa_paths.proofs.MemberLemmas.{In-middle, same_some}
 use Rattle.nfa_paths.proofs.ScanAnswerLemmas.{edges-onward, seeds-later}
-use Rattle.nfa_paths.proofs.ScanningLemmas.{Searching-before_round, Searching-cut, Searching-wait}
+use Rattle.nfa_paths.proofs.SearchingLemmas.{Searching-before_round, Searching-cut, Searching-wait}
 use Rattle.nfa_paths.proofs.StartLemmas.{IsMatch-capture}
-use Rattle.nfa_scan_core.proofs.SeenLemmas.{SeenAt-none}
+use Rattle.nfa_scan_core.proofs.TargetLemmas.{SeenAt-none}
 use Rattle.nfa_pikevm_scan.proofs.FrontierLemmas.{Formed-below, Formed-next, Formed-over, Formed-resting, Formed-rests, Paid-few, Paid-next, paid-next}
 use Rattle.nfa_pikevm_scan.proofs.TaskLemmas.{AnswersFor, AnswersFor-round, Searching-for, starts_from-end}
+use Rattle.nfa_pikevm_scan.proofs.Common.{All, AreAt, AreMatchPairs, Automaton, Bool, Explore, Frontier, HalfFound, HalfMatch, Hit, In, IsHit, IsSoFar, Leads, LeadsBelow, List, Load, Moment, NextsGive, None, Option, Pair, PatternID, Search, SearchesFirst, SearchingAt, SearchingFrom, SeenAt, Slots, Some, StatesGive, Task, [], ap, arith, before_match, blank, edges, false, first_match, half_found_of, inl, inr, is_match, is_some, length, meant, moves, next_tasks, number_of, option_map, refl, replicate, space, starts, starts_from, subst, sym, tasks, total_degree, true, unmarked, ℕ, ◌*◌, ◌+◌, ◌-◌, ◌<◌, ◌∙◌, ◌∷◌, ◌≡◌, ◌≤◌, half_at}
 
 module _ {nfa : Automaton} {x : Search} {at : ℕ} {a b : Moment} {front : Frontier} {goes : Type 0}
     (c : StatesGive nfa x at a goes [] front b) where
@@ -85,7 +84,7 @@ module _ (wanted : Pair → Bool) {nfa : Automaton} (sub : AreMatchPairs nfa wan
 
 -- a match that ends at a position
 abbrev pub EndsAt : ℕ → Option PatternID → Option HalfMatch → Type 0
-EndsAt at hit half = option_map half_found_of half ≡ option_map (λ pattern. half_found (number_of pattern) at) hit
+EndsAt at hit half = option_map half_found_of half ≡ option_map (λ pattern. half_at at (number_of pattern)) hit
 
 -- no half match, no match
 pub EndsAt-none : (at : ℕ) (hit : Option PatternID) (half : Option HalfMatch) → EndsAt at hit half
@@ -116,7 +115,7 @@ match-cross {nfa} {x} {at} {past} {a} {b} {hit} c half is some =
     of None h (Some m) e some = cc
     of (Some p) h None e some = cc
     of (Some p) h (Some m) e some =
-        let same : half_found_of m ≡ half_found (number_of p) at = cc in
+        let same : half_found_of m ≡ half_at at (number_of p) = cc in
         let r = Formed-resting nfa x at b.met.bits c.front c.gives.formed (h.0, b.slots) (among past h.0 h.1) in
         let offset : (half_found_of m).offset ≡ at = ap (λ (f : HalfFound). f.offset) same in
         let number : (half_found_of m).pattern ≡ number_of p = ap (λ (f : HalfFound). f.pattern) same in

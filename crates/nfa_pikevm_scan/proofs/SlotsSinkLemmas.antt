@@ -1,7 +1,7 @@
 -- What the last row is when the matches of a position were taken.
-use Rattle.nfa_pikevm_scan.proofs.Common.{Automaton, Bool, ClosuresGive, EndsInMatch, FindsMatch, Frontier, Hit, IsHit, List, Marks, Moment, NextsGive, None, Option, PatternID, Search, Slots, SlotsSink, SlotsSinkTakes, Some, StatesGive, Takes, [], ap, arith, between, ends, false, first_match, inl, inr, is_match, is_some, last_match, meant, none, not, plain, refl, taken, true, unmarked, ℕ, ◌∙◌, ◌∷◌, ◌≡◌, ◌⊎◌}
-use Rattle.nfa_pikevm_scan.proofs.ClosureLemmas.{Turns-begin, Turns-then}
+use Rattle.nfa_pikevm_scan.proofs.Common.{Automaton, Bool, EndsInMatch, Frontier, List, Moment, None, PatternID, Search, Slots, Some, StatesGive, Takes, [], ap, arith, ends, false, first_match, inl, inr, is_match, none, plain, refl, taken, true, ℕ, ◌∙◌, ◌∷◌, ◌≡◌, ClosuresGive, FindsMatch, Hit, IsHit, Marks, NextsGive, Option, SlotsSink, SlotsSinkTakes, between, is_some, last_match, meant, not, unmarked, ◌⊎◌}
 use Rattle.nfa_pikevm_scan.proofs.FrontierLemmas.{Formed-resting}
+use Rattle.nfa_pikevm_scan.proofs.ClosureLemmas.{Turns-begin, Turns-then}
 use Rattle.nfa_pikevm_scan.proofs.NextsLemmas.{ClosuresGive-one}
 use Rattle.nfa_pikevm_scan.proofs.SinkLemmas.{StatesGive-if, Takes-cut, Takes-match, Takes-none, Takes-then}
 

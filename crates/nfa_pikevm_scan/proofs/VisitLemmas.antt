@@ -1,15 +1,14 @@
 -- The result of a turn that enters a state, for each kind of state.
-use Rattle.nfa_pikevm_scan.proofs.Common.{All, All-head, All-push, All-tail, Automaton, Bool, Capture, ClosureOutput, DeadEnd, Entered, Explore, Fail, FollowEpsilon, Follows, Formed, Frontier, HasRoom, Holding, IsMet, IsWithin, List, Load, Marks, Matched, Moment, Move, Node, None, On, Option, Paid, Pair, PatternID, Search, Slots, Some, SomeIff, Task, TurnsGive, VisitsState, WasSeen, [], ap, append-nil, append_assoc, arith, byte_at, degree, drop, edges, edges_of, epsilon_states, false, get_or, get_or-set_other, get_or-set_same, get_or_default, get_or_from_slice_get, holding_at, inl, inr, length, length-append, length-drop, length-map, length-reverse, map, map_push, node_at, number_of, option_and_then, option_to_list, pattern_of, refl, rests, reverse, reverse_onto, room_of, set, slice_get, slice_get-map, slice_get_within, slot_of, stack_frames, state_on, sum-map, sum_by, sum_by_push, sym, take, target_on, tries, true, unmarked, weight, with_state, work_onto, ℕ, ◌++◌, ◌+◌, ◌<◌, ◌∙◌, ◌∷◌, ◌≡◌, ◌≤◌, ◌⊎◌}
+use Rattle.thompson_nfa.specs.Automaton.Node.{Match}
 use Rattle.nfa_paths.proofs.MemberLemmas.{All-In}
-use Rattle.nfa_paths.proofs.ScanningLemmas.{once-keep}
+use Rattle.nfa_paths.proofs.SearchingLemmas.{once-keep}
 use Rattle.nfa_paths.proofs.StartLemmas.{epsilon-edges, epsilon-few, node_at-get}
 use Rattle.nfa_paths.proofs.TurnLemmas.{marked_sum-le, marked_sum-set}
-use Rattle.nfa_scan_core.proofs.AlternateLemmas.{first-drop}
-use Rattle.nfa_scan_core.proofs.TargetLemmas.{target-degree}
-use Rattle.thompson_nfa.specs.Automaton.Node.{Match}
+use Rattle.nfa_scan_core.proofs.TargetLemmas.{first-drop, target-degree}
 use Rattle.nfa_pikevm_scan.proofs.ClosureLemmas.{Follows-keep, Follows-marked, Follows-plain, Follows-then, Follows-unkept, Follows-unrestored, Follows-write, Turns-bare, work_onto-push}
 use Rattle.nfa_pikevm_scan.proofs.FrontierLemmas.{edges-move, moves-one, sum-ones}
 use Rattle.nfa_pikevm_scan.specs.declared.frame.FollowEpsilon.TheVariants.{Explore as ToExplore, Restore}
+use Rattle.nfa_pikevm_scan.proofs.Common.{All, All-head, All-push, All-tail, Automaton, Bool, Capture, ClosureOutput, DeadEnd, Entered, Explore, Fail, FollowEpsilon, Follows, Formed, Frontier, HasRoom, Holding, IsMet, IsWithin, List, Load, Marks, Matched, Moment, Move, Node, None, On, Option, Paid, Pair, PatternID, Search, Slots, Some, SomeIff, Task, TurnsGive, VisitsState, WasSeen, [], ap, append-nil, append_assoc, arith, byte_at, degree, drop, edges, edges_of, epsilon_states, false, get_or, get_or-set_other, get_or-set_same, get_or_default, get_or_from_slice_get, holding_at, inl, inr, length, length-append, length-drop, length-map, length-reverse, map, map_push, node_at, number_of, option_and_then, option_to_list, pattern_of, refl, rests, reverse, reverse_onto, room_of, set, slice_get, slice_get-map, slice_get_within, slot_of, stack_frames, state_on, sum-map, sum_by, sum_by_push, sym, take, target_on, tries, true, unmarked, weight, with_state, work_onto, ℕ, ◌++◌, ◌+◌, ◌<◌, ◌∙◌, ◌∷◌, ◌≡◌, ◌≤◌, ◌⊎◌}
 
 module _ {nfa : Automaton} {s : ℕ} {node : Node} {m n : Marks} (e : Entered nfa s node m n) where
   -- the state's weight is added

@@ -1,5 +1,5 @@
 pub mod Needs
-pub mod Rows
 pub mod States
+pub mod Rows
 pub mod Sinks
 pub mod Scans

@@ -1,8 +1,7 @@
 -- What a search needs: frames and scans.
 use Rattle.std.specs.Prelude.{ℕ, ◌-◌, Bool, List, max, length, nat_lt, if◌then◌else◌}
-use Rattle.std.specs.List.{sum_by}
-use Rattle.nfa_paths.specs.Common.{size_of_set, MatchKind, Automaton, Node, LeftmostFirst, Union, BinaryUnion, Capture}
 use Rattle.regex_search_core.specs.declared.search.MatchKind.TheVariants.{All as AllMatches}
+use Rattle.nfa_paths.specs.Common.{sum_by, size_of_set, MatchKind, Automaton, Node, LeftmostFirst, Union, BinaryUnion, Capture}
 
 -- the most frames that a state pushes, besides the state that it goes on with
 abbrev pub room_of : Node → ℕ

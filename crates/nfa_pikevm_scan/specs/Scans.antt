@@ -1,6 +1,6 @@
 -- The sizes of the parts of a cache, and the results of the scans of a PikeVM, in terms of the theory of paths.
 use Rattle.std.specs.Prelude.{◌≡◌, ◌⊎◌, ℕ, ◌++◌, ◌+◌, ◌-◌, ◌*◌, ◌^◌, ◌<◌, ◌≤◌, Bool, List, [], ◌∷◌, Option, None, Some, length, replicate, nat_lt, if◌then◌else◌, All}
-use Rattle.nfa_paths.specs.Common.{HalfFound, half_found_of, Search, HalfMatch, Automaton, LeadsBelow, Pair, node_at, pattern_of, is_match, starts, pairs_from, total_degree, slot_count, Slots, Hit, Task, seeds, Load}
+use Rattle.nfa_paths.specs.Common.{half_found_of, Search, HalfMatch, Automaton, LeadsBelow, Pair, node_at, pattern_of, is_match, starts, pairs_from, total_degree, slot_count, Slots, Hit, Task, seeds, Load}
 pub use Rattle.nfa_paths.specs.Restarts.{max_scan_turns}
 use Rattle.nfa_scan_core.specs.FirstBytes.{IsRefused}
 use Rattle.nfa_pikevm_scan.specs.Needs.{stack_frames}
@@ -66,7 +66,7 @@ pub record IsRoomFor (slots : ℕ) (t : Threads) (found : ℕ) : Type 0 where
   pub capacity : t.curr.capacity < 2 ^ 64
   pub cells : t.curr.cells < 2 ^ 64
 
--- The size gives the places and the cells of a set.
+-- The size has one place more than states, and a row of all slots for each place.
 pub record IsSize (size : Size) : Type 0 where
   pub capacity : size.capacity ≡ size.states + 1
   pub cells : size.cells ≡ size.capacity * size.slots
@@ -142,10 +142,6 @@ pub record JoinsStart (starts_at : Starts) (at : ℕ) (old new : Threads) : Type
   pub next : new.reached.next.items ≡ old.reached.next.items
   pub keeps : KeepsThreads old new
   pub seen : new.reached.seen ≡ old.reached.seen
-
--- a match that ends at the position
-abbrev pub half_found : ℕ → ℕ → HalfFound
-half_found pattern at = record { pattern = pattern; offset = at }
 
 -- the position may be skipped: no match begins with its byte
 abbrev pub IsPassed : List Bool → Search → Starts → ℕ → Type 0

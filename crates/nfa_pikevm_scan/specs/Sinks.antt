@@ -1,7 +1,6 @@
 -- How sinks take the matches of a position, what they become, and what a set of patterns gains there.
-use Rattle.std.specs.Prelude.{◌≡◌, ◌↔◌, ◌⊎◌, ℕ, ◌<◌, ◌≤◌, ◌==◌, Bool, true, false, not, ◌&&◌, ◌||◌, nat_lt, nat_le, List, [], ◌∷◌, None, Some, length, All, slice_index}
-use Rattle.std.specs.Option.{option_map_or}
-use Rattle.nfa_paths.specs.Common.{Search, number_of, PatternID, Automaton, Pair, is_match, Slots, with_pattern, edges, is_utf8_empty, Hit, HoldsMatch, first_match, before_match, HoldsPattern, pattern_at}
+use Rattle.std.specs.Prelude.{◌≡◌, ◌↔◌, ◌⊎◌, ℕ, ◌<◌, ◌≤◌, Bool, true, false, not, ◌&&◌, ◌||◌, nat_lt, nat_le, List, [], ◌∷◌, None, Some, length, All, slice_index, ◌==◌}
+use Rattle.nfa_paths.specs.Common.{option_map_or, Search, number_of, PatternID, Automaton, Pair, is_match, Slots, with_pattern, edges, is_utf8_empty, Hit, HoldsMatch, first_match, before_match, HoldsPattern, pattern_at}
 use Rattle.nfa_pikevm_scan.specs.States.{Frontier, Moment, moves, StatesGive, TurnsGive}
 use Rattle.nfa_pikevm_scan.specs.declared.sink.SlotsSink.{SlotsSink}
 use Rattle.nfa_pikevm_scan.specs.declared.overlap.PatternSink.{PatternSink}

@@ -1,8 +1,6 @@
 -- What a PikeVM keeps at a position, as its proof sees it: marks as pairs that were seen, a stack as work that is left.
-use Rattle.std.specs.Prelude.{◌≡◌, ◌⊎◌, ℕ, ◌+◌, ◌<◌, ◌≤◌, Bool, true, false, List, [], ◌∷◌, ◌++◌, Option, None, Some, cond, length, map, replicate, All, slice_get, slice_index_or, slice_set}
-use Rattle.std.specs.List.{flat_map, sum_by}
-use Rattle.std.specs.Option.{option_to_list}
-use Rattle.nfa_paths.specs.Common.{Search, search_of, number_of, PatternID, Automaton, Node, Pair, NoRepeats, degree, node_at, pattern_at, edges, is_match, byte_at, space, Slots, Hit, Task, ExploresTo, Searching, rests, first_match, before_match, last_match, NoMatch, Explore as ToExplore, Restore as ToRestore, Load as ToLoad, marked_sum}
+use Rattle.std.specs.Prelude.{◌≡◌, ◌⊎◌, ℕ, ◌+◌, ◌<◌, ◌≤◌, Bool, true, false, List, [], ◌∷◌, ◌++◌, Option, None, Some, cond, length, map, replicate, All, slice_get, slice_index_or, slice_set, flat_map}
+use Rattle.nfa_paths.specs.Common.{sum_by, option_to_list, Search, search_of, number_of, PatternID, Automaton, Node, Pair, NoRepeats, degree, node_at, pattern_at, edges, is_match, byte_at, space, Slots, Hit, Task, ExploresTo, Searching, rests, first_match, before_match, last_match, NoMatch, Explore as ToExplore, Restore as ToRestore, Load as ToLoad, marked_sum}
 use Rattle.nfa_scan_core.specs.Marks.{Marks, SeenAt}
 use Rattle.nfa_pikevm_scan.specs.Needs.{room_of, stack_frames}
 use Rattle.nfa_pikevm_scan.specs.declared.closure.ClosureContext.{ClosureContext}

@@ -8,8 +8,9 @@
 ghost use Rattle.std.specs.Prelude.{◌≡◌, ◌*◌, ◌<◌, ◌≤◌, [], ◌∷◌, false, length, All};
 ghost use Rattle.regex_search_core.specs.Search.{search_of};
 ghost use Rattle.nfa_scan_core.specs.FirstBytes.{IsRefused};
+ghost use Rattle.nfa_pikevm_scan.specs.States.{between, moment_of, IsClosureContext, KeepsRoom, MayFollow};
 ghost use Rattle.nfa_pikevm_scan.specs.Rows.{items_of};
-ghost use Rattle.nfa_pikevm_scan.specs.States.{between, moment_of, IsClosureContext, KeepsRoom, MayFollow, NextsGive};
+ghost use Rattle.nfa_pikevm_scan.specs.States.{NextsGive};
 ghost use Rattle.nfa_pikevm_scan.specs.Sinks.{ClosuresGive};
 ghost use Rattle.nfa_pikevm_scan.specs.Scans.{blank, held, HaveRows, KeepsThreads, MayCross, SameSizes};
 

@@ -1,13 +1,12 @@
 //! One scan of the span, for each match kind.
-ghost use Rattle.std.specs.Prelude.{◌≡◌, ◌+◌, ◌<◌, ◌≤◌, [], None, true, false, length, cond, option_map};
-ghost use Rattle.std.specs.Prelude.{IfSome};
+ghost use Rattle.std.specs.Prelude.{◌≡◌, ◌+◌, ◌<◌, ◌≤◌, [], None, true, false, length, cond, option_map, IfSome};
 ghost use Rattle.regex_search_core.specs.Search.{search_of};
-ghost use Rattle.regex_search_core.specs.Found.{half_found_of};
-ghost use Rattle.regex_search_core.specs.Patterns.{number_of};
+ghost use Rattle.regex_search_core.specs.Found.{half_found_of, half_at};
+ghost use Rattle.regex_search_core.specs.PatternSets.{number_of};
 ghost use Rattle.regex_search_core.specs.declared.search.MatchKind.TheVariants.{All, LeftmostFirst};
 ghost use Rattle.nfa_paths.specs.Restarts.{ScanGives};
 ghost use Rattle.nfa_scan_core.specs.FirstBytes.{IsFirstBytes};
-ghost use Rattle.nfa_pikevm_scan.specs.Scans.{half_found, AddsStart, AreStarts, HaveRoom, HaveRows, JoinsStart};
+ghost use Rattle.nfa_pikevm_scan.specs.Scans.{AddsStart, AreStarts, HaveRoom, HaveRows, JoinsStart};
 ghost use Rattle.nfa_pikevm_scan.specs.Scans.{IsWithinTurns, KeepsThreads, MayScan, PassesOver, SameSizes, ScansFirst};
 ghost use Rattle.nfa_pikevm_scan.specs.declared.threads.Threads.{Threads};
 
@@ -114,7 +113,7 @@ fn add_start_or_skip(
 /// Returns the match at the position, if there is one.
 #[inline(always)]
 fn half_at(hit: Option<PatternID>, at: usize) -> Option<HalfMatch>
-    ensures { option_map half_found_of result ≡ option_map (λ pattern. half_found (number_of pattern) at) hit }
+    ensures { option_map half_found_of result ≡ option_map (λ pattern. half_at at (number_of pattern)) hit }
 {
     Some(HalfMatch::new(hit?, at))
 }

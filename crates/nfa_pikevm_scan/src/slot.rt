@@ -2,7 +2,7 @@
 ghost use Rattle.std.specs.Prelude.{◌≡◌, ◌++◌, ◌+◌, ◌-◌, ◌<◌, ◌≤◌, Some, None, length, replicate, option_map};
 ghost use Rattle.std.specs.Option.{SomeIff};
 ghost use Rattle.regex_search_core.specs.Found.{found_of};
-ghost use Rattle.regex_search_core.specs.Patterns.{number_of};
+ghost use Rattle.regex_search_core.specs.PatternSets.{number_of};
 ghost use Rattle.regex_search_core.specs.Slots.{match_of, offset_at};
 
 use regex_search_core::{Match, NonMaxUsize, PatternID, Span};

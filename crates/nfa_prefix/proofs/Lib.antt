@@ -1,5 +1,3 @@
 -- The lemmas on occurrences of bytes, on the bytes that paths read first, and on searches for them.
-pub mod MoveLemmas
 pub mod OccurrenceLemmas
 pub mod PrefixLemmas
-pub mod SearchLemmas

@@ -1,3 +1,2 @@
-pub mod Occurrences
 pub mod Prefixes
 pub mod PrefixLaws

@@ -1,10 +1,9 @@
 -- Laws of the bytes that each match begins with, about the definitions only.
 use Rattle.std.specs.Prelude.{ℕ, ◌<◌, ◌≤◌, Bool, false, List, None, replicate}
 use Rattle.nfa_paths.specs.Common.{Search, MatchKind, Automaton, IsAnswer, IsBoolAnswer, IsFindAnswer, IsHalfAnswer}
-use Rattle.nfa_engines.specs.Accepting.{MatchesNothing}
+use Rattle.nfa_engines.specs.Laws.{MatchesNothing}
 use Rattle.nfa_engines.specs.StartLaws.{anchored_at, IsFirstStart, IsUnbound}
-use Rattle.nfa_prefix.specs.Occurrences.{IsFirstOccurrence, OccursBefore, OccursNowhere}
-use Rattle.nfa_prefix.specs.Prefixes.{BeginsWith, prefix_of}
+use Rattle.nfa_prefix.specs.Prefixes.{IsFirstOccurrence, OccursBefore, OccursNowhere, BeginsWith, prefix_of}
 
 -- each match of an NFA begins with its prefix
 abbrev pub PrefixBegins : Type 0

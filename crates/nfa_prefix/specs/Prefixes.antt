@@ -1,11 +1,24 @@
--- The bytes that each match of an NFA begins with.
-use Rattle.std.specs.Prelude.{ℕ, zero, suc, ◌++◌, ◌==◌, List, [], ◌∷◌, length, take, Option, None, Some, option_to_list, if◌then◌else◌}
-use Rattle.std.specs.Option.{option_map_or}
-use Rattle.nfa_paths.specs.Common.{Search, Automaton, Node, node_at, Transition, ByteRange, Sparse, Look, Capture}
-use Rattle.nfa_engines.specs.Accepting.{MatchesSomething}
+-- The bytes that each match of an NFA begins with, and where bytes occur in a haystack.
+use Rattle.std.specs.Prelude.{◌≡◌, ℕ, ◌+◌, ◌<◌, ◌≤◌, List, length, slice_get, zero, suc, ◌++◌, [], ◌∷◌, take, Option, None, Some, if◌then◌else◌, ◌==◌}
+use Rattle.nfa_paths.specs.Common.{option_to_list, option_map_or, Search, Automaton, Node, node_at, Transition, ByteRange, Sparse, Look, Capture}
+use Rattle.nfa_engines.specs.Laws.{MatchesSomething}
 use Rattle.nfa_engines.specs.StartLaws.{anchored_at}
-use Rattle.nfa_prefix.specs.Occurrences.{OccursBefore}
 use Rattle.nfa_prefix.specs.declared.only_move.Move.{Move}
+
+-- the bytes are in the haystack from the position on, and all of them are before the end
+pub record OccursBefore (haystack : List ℕ) (end : ℕ) (bytes : List ℕ) (at : ℕ) : Type 0 where
+  pub within : at + length bytes ≤ end
+  pub same : (k : ℕ) → k < length bytes → slice_get haystack (at + k) ≡ slice_get bytes k
+
+-- the bytes occur at no position from one on
+pub record OccursNowhere (haystack : List ℕ) (end : ℕ) (bytes : List ℕ) (from : ℕ) : Type 0 where
+  pub nowhere : (k : ℕ) → from ≤ k → ¬ OccursBefore haystack end bytes k
+
+-- the position is the first, from one on, at which the bytes occur
+pub record IsFirstOccurrence (haystack : List ℕ) (end : ℕ) (bytes : List ℕ) (from at : ℕ) : Type 0 where
+  pub onward : from ≤ at
+  pub here : OccursBefore haystack end bytes at
+  pub before : (k : ℕ) → from ≤ k → k < at → ¬ OccursBefore haystack end bytes k
 
 -- the move over the transition, if it has only one byte
 abbrev pub move_over : Transition → Option Move

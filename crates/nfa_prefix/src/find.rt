@@ -1,6 +1,6 @@
 //! A search for bytes in a part of a haystack.
 ghost use Rattle.std.specs.Prelude.{◌≤◌, IfNone, IfSome, length};
-ghost use Rattle.nfa_prefix.specs.Occurrences.{IsFirstOccurrence, OccursNowhere};
+ghost use Rattle.nfa_prefix.specs.Prefixes.{IsFirstOccurrence, OccursNowhere};
 
 use memchr::memmem;
 

@@ -1,2 +1,1 @@
 pub mod StateTableLemmas
-pub mod NameLemmas

@@ -1,5 +1,5 @@
--- A draft that is sound makes an NFA.
-use Rattle.std.proofs.Common.{◌≡◌, ◌⊎◌, inl, inr, ℕ, ◌+◌, ◌<◌, Bool, true, ◌||◌, nat_lt, nat_le, nat_eq, List, [], ◌∷◌, ◌++◌, map, length, Result, Ok, Err, refl, subst, sym, ap, arith, append-nil, append_assoc, All, IsOkUnless, IsTrue, slice_index_or}
+-- A table that is sound makes an NFA, and a name in a list is one of its names.
+use Rattle.std.proofs.Common.{◌≡◌, ◌⊎◌, inl, inr, ℕ, ◌+◌, ◌<◌, Bool, true, ◌||◌, nat_lt, nat_le, nat_eq, List, [], ◌∷◌, ◌++◌, map, length, Result, Ok, Err, refl, subst, sym, ap, arith, append-nil, append_assoc, All, IsOkUnless, IsTrue, slice_index_or, zero, suc, ◌↔◌, Option, rules, IsNone, IsSome, IfOk, IfErr}
 use Rattle.std.specs.List.{list_all}
 use Rattle.std.proofs.lemmas.List.Elements.{All-append, All-cons, All-map}
 use Rattle.std.proofs.lemmas.List.Sums.{AllPass-from_list_all}
@@ -17,6 +17,7 @@ use Rattle.nfa_samples.specs.declared.state_table.StateRow.{StateRow}
 use Rattle.nfa_samples.specs.declared.state_table.StateRow.TheVariants.{Byte, Range, Ranges, Either, Union, Capture, Assert, Match}
 use Rattle.nfa_samples.specs.declared.state_table.StateTable.{StateTable}
 use Rattle.nfa_samples.specs.StateTables.{automaton_in, groups_in, is_row, is_sound, node_in, prefix_at, transition_in}
+use Rattle.nfa_samples.specs.Names.{IsNoneOf}
 
 -- what passes the test has the property
 all-passing : {X : Type 0} (p : X → Bool) (P : X → Type 0) (xs : List X) → ((x : X) → p x ≡ true → P x)
@@ -50,7 +51,7 @@ module _ (states slots patterns : ℕ) where
   matches (Match pattern) e = ltb-true pattern patterns e
   matches _ e = tt
 
--- what the tests of a draft say
+-- what the tests of a table say
 pub record Sound (more : ℕ) (d : StateTable) : Type 0 where
   pub filled : 0 < length d.rows.now
   pub rows : list_all (is_row (length d.rows.now + more) (slot_count (groups_in d.groups.now)) (length d.starts.now))
@@ -58,7 +59,7 @@ pub record Sound (more : ℕ) (d : StateTable) : Type 0 where
   pub starts : All (λ s. s < length d.rows.now + more) d.starts.now
   pub groups : (length d.groups.now ≡ length d.starts.now) ⊎ (length d.groups.now ≡ 0)
 
--- a draft that passes them
+-- a table that passes them
 pub sound : (more : ℕ) (d : StateTable) → IsTrue (is_sound more d) → Sound more d
 sound more d e =
     let g = and_parts _ (nat_le (slot_count (groups_in d.groups.now)) 2147483646) e in
@@ -153,3 +154,52 @@ two-pushed states first second s t rows a b are one two is_a is_b =
 pub as-many : (states : List State) (rows : List StateRow) → map node_of states ≡ map node_in rows
     → length states ≡ length rows
 as-many states rows are = simp length-map at (ap length are)
+
+-- the name at a place
+among : (k : ℕ) (name : List ℕ) (names : List (List ℕ)) → k < length names → name ≡ slice_index_or names k []
+    → IsNoneOf name names → ⊥
+among k name [] below is none = absurd (omega arith)
+among zero name (n ∷ names) below is none = none.0 is
+among (suc k) name (n ∷ names) below is none = among k name names (omega arith) is none.1
+
+-- if the name is there and something is found, nothing is found exactly if the name is none of the names
+pub found-among : {A E : Type 0} (r : Result (Option A) E) (k : ℕ) (name : List ℕ) (names : List (List ℕ))
+    → k < length names → name ≡ slice_index_or names k [] → IfOk r IsSome
+    → IfOk r (λ found. IsNone found ↔ IsNoneOf name names)
+found-among = search (rules, among)
+
+-- and an error is one of a name that is known
+pub error-among : {A E : Type 0} (r : Result (Option A) E) (k : ℕ) (name : List ℕ) (names : List (List ℕ))
+    → k < length names → name ≡ slice_index_or names k [] → IfErr r (λ e. ¬ (IsNoneOf name names))
+error-among = search (rules, among)
+
+-- a name that is none of two lists is none of the first
+none-left : (name : List ℕ) (xs ys : List (List ℕ)) → IsNoneOf name (xs ++ ys) → IsNoneOf name xs
+none-left name [] ys none = tt
+none-left name (x ∷ xs) ys none = (none.0, none-left name xs ys none.1)
+
+-- and none of the second
+none-right : (name : List ℕ) (xs ys : List (List ℕ)) → IsNoneOf name (xs ++ ys) → IsNoneOf name ys
+none-right name [] ys none = none
+none-right name (x ∷ xs) ys none = none-right name xs ys none.1
+
+-- one that is none of either is none of both
+none-both : (name : List ℕ) (xs ys : List (List ℕ)) → IsNoneOf name xs → IsNoneOf name ys → IsNoneOf name (xs ++ ys)
+none-both name [] ys left right = right
+none-both name (x ∷ xs) ys left right = (left.0, none-both name xs ys left.1 right)
+
+-- an error of a name of the first list is one of a name of both
+pub first-known : {A E : Type 0} (r : Result (Option A) E) (name : List ℕ) (xs ys : List (List ℕ))
+    → ¬ (IsNoneOf name xs) → IfErr r (λ e. ¬ (IsNoneOf name (xs ++ ys)))
+first-known = search (rules, none-left)
+
+-- and so is one of a name of the second
+pub rest-known : {A E : Type 0} (r : Result (Option A) E) (name : List ℕ) (xs ys : List (List ℕ))
+    → IfErr r (λ e. ¬ (IsNoneOf name ys)) → IfErr r (λ e. ¬ (IsNoneOf name (xs ++ ys)))
+rest-known = search (rules, none-right)
+
+-- if the first list lacks the name, what holds of the second list holds of both
+pub rest-none : {A E : Type 0} (r : Result (Option A) E) (name : List ℕ) (xs ys : List (List ℕ))
+    → IsNoneOf name xs → IfOk r (λ found. IsNone found ↔ IsNoneOf name ys)
+    → IfOk r (λ found. IsNone found ↔ IsNoneOf name (xs ++ ys))
+rest-none = search (rules, none-both, none-right)

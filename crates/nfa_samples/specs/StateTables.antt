@@ -1,4 +1,4 @@
--- The meaning of a draft of a table, and when a draft is sound.
+-- The meaning of a table of states, and when a table is sound.
 use Rattle.std.specs.Prelude.{ℕ, ◌+◌, ◌≤◌, Bool, ◌&&◌, ◌||◌, nat_lt, nat_le, nat_eq, List, [], ◌∷◌, ◌++◌, map, length, All, Option, option_map}
 use Rattle.std.specs.Borrow.{Bor}
 use Rattle.std.specs.List.{list_all}
@@ -55,7 +55,7 @@ names_in names = map (option_map (λ name. name.now)) names
 abbrev pub groups_in : List (Bor (List (Option (Bor (List ℕ))))) → List (List (Option (List ℕ)))
 groups_in patterns = map (λ names. names_in names.now) patterns
 
--- the draft, with `more` states than it has rows, is that of an NFA
+-- the table, with `more` states than it has rows, is that of an NFA
 abbrev pub is_sound : ℕ → StateTable → Bool
 is_sound more d =
     nat_lt 0 (length d.rows.now) && nat_le (length d.rows.now + more) 2147483647
@@ -66,7 +66,7 @@ is_sound more d =
     && (nat_eq (length d.groups.now) (length d.starts.now) || nat_eq (length d.groups.now) 0)
     && nat_le (slot_count (groups_in d.groups.now)) 2147483646
 
--- the NFA of the draft with these states
+-- the NFA of the table with these states
 abbrev pub automaton_in : List Node → ℕ → StateTable → Automaton
 automaton_in states unanchored d = record {
   states = states;
@@ -78,15 +78,11 @@ automaton_in states unanchored d = record {
   utf8 = d.utf8;
 }
 
--- the NFA of the draft whose matches start at the start of the search
-abbrev pub anchored_nfa : StateTable → Automaton
-anchored_nfa d = automaton_in (map node_in d.rows.now) 0 d
-
 -- two states, with this number and the next, that skip bytes before state 0
 abbrev pub prefix_at : ℕ → List Node
 prefix_at prefix = nfa.BinaryUnion 0 (prefix + 1) ∷ nfa.ByteRange (transition_in 0 255 prefix) ∷ []
 
--- the NFA of the draft whose matches may start anywhere
+-- the NFA of the table whose matches may start anywhere
 abbrev pub prefixed_nfa : StateTable → Automaton
 prefixed_nfa d =
     automaton_in (map node_in d.rows.now ++ prefix_at (length d.rows.now)) (length d.rows.now) d

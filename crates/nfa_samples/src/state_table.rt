@@ -1,11 +1,10 @@
-//! A draft of an NFA: a table of its states.
+//! An NFA as a table of its states.
 ghost use Rattle.std.specs.Prelude.{◌≡◌, ◌≤◌, map, option_map, string_bytes, All, IfOk, IsOkUnless, IsTrue};
 ghost use Rattle.regex_search_core.specs.Groups.{slot_count};
-ghost use Rattle.regex_search_core.specs.Patterns.{number_of};
+ghost use Rattle.regex_search_core.specs.PatternSets.{number_of};
 ghost use Rattle.thompson_nfa.specs.Automaton.{IsAutomaton, node_of};
 ghost use Rattle.nfa_samples.specs.StateTables.{
   IsSmall,
-  anchored_nfa,
   automaton_in,
   groups_in,
   is_sound,
@@ -208,7 +207,7 @@ impl StateTable<'_> {
     /// Makes an NFA whose matches start at the start of the search.
     pub fn anchored(&self, alloc: Global) -> Result<NFA, BuildError>
         requires { IsTrue (is_sound 0 self.now) }
-        ensures made { IfOk result (λ made. made ≡ anchored_nfa self.now) }
+        ensures made { IfOk result (λ made. made ≡ automaton_in (map node_in self.now.rows.now) 0 self.now) }
         ensures memory { IsOkUnless result BuildError.Memory }
     {
         self.build(states(alloc, self.rows)?, 0)

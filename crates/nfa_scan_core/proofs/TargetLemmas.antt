@@ -1,5 +1,6 @@
--- The targets of byte states.
-use Rattle.nfa_paths.proofs.Common.{◌≡◌, ℕ, suc, zero, ◌<◌, ◌≤◌, List, [], ◌∷◌, length, arith, rules, Option, Some, None, true, Bool, All, IfSome, option_and_then, is_some, count_by, cond, if◌then◌else◌, slice_get, sum_by-cons, Node, LeadsBelow, degree, target_on, first_target, holds_byte, ByteRange, Sparse, Dense, Transition}
+-- The targets of byte states, the alternatives of a union, and marks as pairs that were seen.
+use Rattle.nfa_paths.proofs.Common.{◌≡◌, ℕ, suc, zero, ◌<◌, ◌≤◌, List, [], ◌∷◌, length, arith, rules, Option, Some, None, true, Bool, All, IfSome, option_and_then, is_some, count_by, cond, if◌then◌else◌, slice_get, sum_by-cons, Node, LeadsBelow, degree, target_on, first_target, holds_byte, ByteRange, Sparse, Dense, Transition, drop, refl, ◌⊎◌, ◌↔◌, false, get_or, set, replicate, Pair}
+use Rattle.nfa_scan_core.specs.Marks.{SeenAt}
 
 -- the properties of an optional value that is chosen by a condition
 then-some : {A : Type 0} (c : Bool) (a u : A) → (if c then Some a else None) ≡ Some u → (c ≡ true) × (a ≡ u)
@@ -42,3 +43,35 @@ target-below n _ b t leads e = cc
 -- and one of the state's edges
 pub target-degree : (node : Node) (b t : ℕ) → target_on node b ≡ Some t → 1 ≤ degree node
 target-degree = grind (arith, dense-some, first_target-some)
+
+-- the first of a list that is not empty
+pub first-drop : (xs : List ℕ) (f : ℕ) → slice_get xs 0 ≡ Some f → xs ≡ f ∷ drop 1 xs
+first-drop = grind arith
+
+pub none-nil : (xs : List ℕ) → slice_get xs 0 ≡ None → xs ≡ []
+none-nil [] e = refl
+none-nil (x ∷ xs) e = cc
+
+-- if at most one is left
+pub drop-low : (xs : List ℕ) (left : ℕ) → left ≤ 1 → (left ≡ 0 → length xs ≡ 0) → drop left xs ≡ drop 1 xs
+drop-low = grind arith
+
+-- marking a state marks its pair and no other
+pub SeenAt-set : (at s : ℕ) (bits : List Bool) → s < length bits → (v : Pair)
+    → SeenAt at (set bits s true) v ↔ ((v ≡ (s, at)) ⊎ SeenAt at bits v)
+SeenAt-set at s bits inside v = search rules
+
+-- what is not marked was not seen
+pub SeenAt-clear : (at s : ℕ) (bits : List Bool) → s < length bits → get_or bits s true ≡ false
+    → ¬ (SeenAt at bits (s, at))
+SeenAt-clear at s bits inside clear m = search rules
+
+-- no bit of clear bits is set
+pub none-set : (n k : ℕ) → get_or (replicate n false) k false ≡ true → ⊥
+none-set zero k e = cc
+none-set (suc n) zero e = cc
+none-set (suc n) (suc k) e = none-set n k e
+
+-- so with no mark nothing was seen
+pub SeenAt-none : (at n : ℕ) (v : Pair) → SeenAt at (replicate n false) v → ⊥
+SeenAt-none at n v s = none-set n v.0 s.set

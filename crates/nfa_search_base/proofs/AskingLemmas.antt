@@ -1,6 +1,8 @@
--- what holds along the calls of a finder
-use Rattle.nfa_paths.proofs.Common.{arith, List, [], ◌∷◌, refl, Search}
-use Rattle.nfa_search_base.specs.Common.{SameButStart, ServesOn, LeadsOn, ServesOnAlong}
+-- What holds along the calls of a finder, and what callers of an engine learn of the numbers in an answer.
+use Rattle.nfa_paths.proofs.Common.{arith, List, [], ◌∷◌, refl, Search, ◌≡◌, ℕ, length, ap, ◌∙◌, Option, Some, None, Bool, option_map, replicate, IfSome, IfNone, ◌<◌, ◌≤◌, found_of, half_found_of, number_of, PatternID, HalfMatch, Match, MatchKind, Automaton, IsAutomaton, IsAnswer, IsHalfAnswer, IsFindAnswer}
+use Rattle.nfa_search_base.specs.Common.{SameButStart, ServesOn, LeadsOn, ServesOnAlong, IsInside}
+use Rattle.nfa_paths.proofs.InsideLemmas.{half-within, match-within, match-pattern, pattern-within}
+use Rattle.nfa_paths.proofs.PatternLemmas.{slots-unset}
 
 -- each search is the same as itself
 pub same_start-self : (s : Search) → SameButStart s s
@@ -70,3 +72,38 @@ module _ {S R : Type 0} {accepts : S → Search → Type 0} {asks : S → Search
       kept [] q q' inv leads = rw (← leads) inv
       kept (x ∷ calls) q q' inv leads =
           kept calls leads.0 q' (says q x.0 x.1 leads.0 leads.1.0 inv leads.1.1).1 leads.2
+
+module _ (nfa : Automaton) (kind : MatchKind) (earliest : Bool) (x : Search) where
+  pub inside-of : (r : Option Match) → IsFindAnswer nfa kind earliest x (option_map found_of r)
+      → IfSome r (λ m. IsInside x (found_of m))
+  inside-of None h = tt
+  inside-of (Some m) h =
+      let k = match-within nfa kind earliest x (found_of m) h in record { from = k.0; ordered = k.1; to = k.2 }
+
+  pub half-lies : (r : Option HalfMatch) → IsHalfAnswer nfa kind earliest x (option_map half_found_of r)
+      → IfSome r (λ m. (x.start ≤ (half_found_of m).offset) × ((half_found_of m).offset ≤ x.end))
+  half-lies None h = tt
+  half-lies (Some m) h = half-within nfa kind earliest x (half_found_of m) h
+
+  pub pattern-of : IsAutomaton nfa → (r : Option Match) → IsFindAnswer nfa kind earliest x (option_map found_of r)
+      → IfSome r (λ m. (found_of m).pattern < length nfa.patterns)
+  pattern-of valid None h = tt
+  pattern-of valid (Some m) h = match-pattern nfa kind earliest valid x (found_of m) h
+
+module _ {nfa : Automaton} {kind : MatchKind} {earliest : Bool} {x : Search} {slots : List (Option ℕ)} where
+  pub slots-pattern : IsAutomaton nfa → (r : Option PatternID)
+      → IsAnswer nfa kind earliest x (option_map number_of r) slots → IfSome r (λ p. number_of p < length nfa.patterns)
+  slots-pattern valid None a = tt
+  slots-pattern valid (Some p) a = pattern-within nfa kind earliest valid x (Some (number_of p)) slots a
+
+  -- after no match no slot is set
+  pub slots-none : {n : ℕ} (pattern : Option ℕ) → IsAnswer nfa kind earliest x pattern slots → length slots ≡ n
+      → IfNone pattern (slots ≡ replicate n None)
+  slots-none None a size = slots-unset nfa kind earliest x slots a ∙ ap (λ k. replicate k None) size
+  slots-none (Some p) a size = tt
+
+  -- the same for a pattern that is not yet a number
+  pub slots-none_of : {n : ℕ} (r : Option PatternID) → IsAnswer nfa kind earliest x (option_map number_of r) slots
+      → length slots ≡ n → IfNone r (slots ≡ replicate n None)
+  slots-none_of None a size = slots-none None a size
+  slots-none_of (Some p) a size = tt

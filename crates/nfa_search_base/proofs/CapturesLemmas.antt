@@ -2,7 +2,7 @@
 use Rattle.nfa_paths.proofs.Common.{arith, ◌≡◌, ℕ, inl, inr, Bool, List, [], ◌∷◌, map, length, Option, None, Some, Ok, Err, refl, ap, option_and_then, Found, slot_count, Search, Captured, match_of, MatchKind, Automaton, path_pattern, slot_row, IsAnswer, IsFindAnswer}
 use Rattle.nfa_paths.proofs.AnswerLemmas.{search_answer-unique}
 use Rattle.nfa_paths.proofs.ExistenceLemmas.{search_answer-exists}
-use Rattle.nfa_paths.proofs.KnownLemmas.{match-unique}
+use Rattle.nfa_paths.proofs.EarliestLemmas.{match-unique}
 use Rattle.nfa_search_base.specs.Common.{Row, filled_answer, row_found, row_span, UpToRefusal, IsRow, AnswersRow, AreFirstRows, AreRows, answer_by, Item, greedy, IsStep, Fails, FailsOrIsRefused, ItemsBy, ItemsLast, AnswersMatch, AreFirstMatches, AreMatches, IterState, Answer, AnswerIsInside, fresh, after, answer_span, span_of, SearchError}
 use Rattle.nfa_search_base.proofs.ListLemmas.{as_items, items-greedy, last-matches, match-lies, matches-unique, never-fails, step-as, step-unique, values-unique}
 use Rattle.nfa_search_base.proofs.IterStateLemmas.{IsOrdered}

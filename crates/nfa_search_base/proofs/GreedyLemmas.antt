@@ -1,9 +1,11 @@
--- the steps of a search that is a function give its greedy list
-use Rattle.nfa_paths.proofs.Common.{◌≡◌, ℕ, zero, suc, ◌+◌, ◌<◌, true, false, Bool, Option, None, Some, Result, Ok, Err, List, [], refl, ◌∙◌, ap, subst, inl, inr, arith, option_map, Search, Span}
-use Rattle.std.proofs.lemmas.Iterator.{YieldsList}
-use Rattle.nfa_search_base.specs.Common.{SameButStart, IterState, Answer, answer_span, Advances, repeats, shifted, ends_left, Item, item_by, items_left, step_answer, step_iter_state, items_from, items_within, greedy, greedy_unless, ServesOnAlong, GivesItem, ends_at, steps_iter_state, takes_steps, AlwaysYields, result_transpose, SearchError, Steps}
-use Rattle.nfa_search_base.proofs.AskingLemmas.{same_start-self, Along-call, Along-now}
-use Rattle.nfa_search_base.proofs.StepLemmas.{chosen, same_start-shifted, step-taken, Along-turn}
+-- The steps of a search that is a function give its greedy list. Half and full iteration give the same ends.
+use Rattle.nfa_paths.proofs.Common.{YieldsList, ◌≡◌, ℕ, zero, suc, ◌+◌, ◌<◌, true, false, Bool, Option, None, Some, Result, Ok, Err, List, [], refl, ◌∙◌, ap, subst, inl, inr, arith, option_map, Search, Span, MatchKind, Automaton, IsBoolAnswer, map, Found, HalfFound}
+use Rattle.nfa_search_base.specs.Common.{SameButStart, IterState, Answer, answer_span, Advances, repeats, shifted, ends_left, Item, item_by, items_left, step_answer, step_iter_state, items_from, items_within, greedy, greedy_unless, ServesOnAlong, GivesItem, ends_at, steps_iter_state, takes_steps, AlwaysYields, result_transpose, SearchError, Steps, finds, answer_by, end_of, IsIterState, FindsEnds, HalfAndFullAgree, span_of, half_span_of}
+use Rattle.nfa_search_base.proofs.AskingLemmas.{same_start-self, Along-call, Along-now, same_start-then}
+use Rattle.nfa_search_base.proofs.StepLemmas.{chosen, step-taken, Along-turn}
+use Rattle.nfa_paths.proofs.AnswerLemmas.{search_answer-unique}
+use Rattle.nfa_paths.proofs.ExistenceLemmas.{search_answer-exists}
+use Rattle.nfa_search_base.proofs.IterStateLemmas.{same_start-after, same_start-shifted, same_start-after_shifted}
 
 -- If calls answer as h does, a step is the step of h.
 pub step-computes : {S X : Type 0} {accepts : S → Search → Type 0} {asks : S → Search → Answer X → S → Type 0}
@@ -81,3 +83,49 @@ module _ {S X Y : Type 0} (accepts : S → Search → Type 0) (asks : S → Sear
           → AlwaysYields steps (item_by view) s (greedy_unless span b h (steps_iter_state s))
       at_done true d = ended s d
       at_done false d = within (suc (ends_left (steps_iter_state s))) s good d (omega arith)
+
+module _ (nfa : Automaton) (kind : MatchKind) (earliest : Bool) (x : Search) where
+  -- it is an answer
+  pub finds-answer : IsBoolAnswer nfa kind earliest x (finds nfa kind earliest x)
+  unfolding finds
+  finds-answer = grind (arith, search_answer-exists)
+
+  -- and the one answer
+  pub found-finds : (found : Bool) → IsBoolAnswer nfa kind earliest x found → found ≡ finds nfa kind earliest x
+  found-finds found h = let k = finds-answer in grind (arith, search_answer-unique)
+
+same_items : (a : Answer Found) (rest : List (Item Found))
+    → items_from half_span_of (answer_by end_of a) (map (item_by end_of) rest)
+    ≡ map (item_by end_of) (items_from span_of a rest)
+same_items (Ok (Some m)) rest = refl
+same_items (Ok None) rest = refl
+same_items (Err e) rest = refl
+
+module _ (h : Search → Answer Found) (k : Search → Answer HalfFound) where
+  -- a step gives the end of the other's step, and leads to the same place
+  record SameStep (w : IterState) : Type 0 where
+    answer : step_answer half_span_of k w ≡ answer_by end_of (step_answer span_of h w)
+    iter_state : step_iter_state half_span_of k w ≡ step_iter_state span_of h w
+    next : IsIterState (step_iter_state span_of h w)
+    like : SameButStart w.at (step_iter_state span_of h w).at
+
+  same_step : (w : IterState) → IsIterState w → FindsEnds h k w.at → SameStep w
+  same_step w is finds = grind (arith, same_start-self, same_start-shifted, same_start-after_shifted, same_start-after)
+
+  -- what is found on searches like one is found on searches like another that is like it
+  finds_like : (s t : Search) → SameButStart s t → FindsEnds h k s → FindsEnds h k t
+  finds_like s t same finds = grind (arith, same_start-then)
+
+  agree_within : (n : ℕ) (w : IterState) → IsIterState w → FindsEnds h k w.at
+      → items_within half_span_of k n w ≡ map (item_by end_of) (items_within span_of h n w)
+  agree_within zero w is finds = refl
+  agree_within (suc n) w is finds =
+      let step = same_step w is finds in
+      let rest = agree_within n (step_iter_state span_of h w) step.next
+      (finds_like w.at (step_iter_state span_of h w).at step.like finds) in
+      rw (step.answer, step.iter_state, rest)
+      (same_items (step_answer span_of h w) (items_within span_of h n (step_iter_state span_of h w)))
+
+pub half-and-full-agree : HalfAndFullAgree
+unfolding greedy
+half-and-full-agree h k w is finds = agree_within h k (suc (ends_left w)) w is finds

@@ -2,13 +2,13 @@
 -- not overlap, and are in the span. The same for the list of the matches of an NFA.
 use Rattle.nfa_paths.proofs.Common.{◌+◌, ◌≡◌, ◌∙◌, ℕ, zero, suc, ◌≤◌, ◌<◌, Bool, true, false, if◌then◌else◌, Option, None, Some, Ok, Err, List, [], ◌∷◌, ◌++◌, map, length, refl, sym, ap, subst, arith, append-nil, length-append, length-map, ForSome, option_and_then, Found, found_of, Search, Match, MatchKind, Span, Automaton, slot_row, path_pattern, slot_count, match_of}
 use Rattle.nfa_paths.proofs.InsideLemmas.{match-within}
-use Rattle.nfa_paths.proofs.KnownLemmas.{match-unique}
+use Rattle.nfa_paths.proofs.EarliestLemmas.{match-unique}
 use Rattle.nfa_paths.proofs.ExistenceLemmas.{search_answer-exists}
 use Rattle.nfa_search_base.specs.Common.{SameButStart, EndsBy, Item, item_by, matches_in, items_from, items_within, greedy, IsStep, Fails, ItemsNext, ItemsLast, AreDisjoint, AreSpansDisjoint, AnswersMatch, AreFirstMatches, AreMatches, IterState, Answer, Advances, AnswerIsInside, fresh, repeats, shifted, after, answer_span, span_of, ends_left, SearchError}
 use Rattle.nfa_search_base.proofs.AskingLemmas.{same_start-self, same_start-then}
 use Rattle.nfa_search_base.proofs.StepLemmas.{chosen, same_start-after, same_start-shifted, Advances-fewer}
 use Rattle.nfa_search_base.proofs.IterStateLemmas.{IsOrdered}
-use Rattle.nfa_paths.proofs.OptionLemmas.{same_some}
+use Rattle.nfa_paths.proofs.MemberLemmas.{same_some}
 
 -- the last end is not after the start: before the first match, and after a match
 behind-none : (n : ℕ) → EndsBy None n

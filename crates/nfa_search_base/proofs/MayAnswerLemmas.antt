@@ -1,8 +1,6 @@
 -- What may be answered along the calls of an iterator that keeps its finder, the iterator gives, and so it gives the
 -- answers of a search.
-use Rattle.nfa_paths.proofs.Common.{◌≡◌, false, List, [], ◌∷◌, ◌++◌, map, refl, sym, subst, arith, Option, None, Some, Result, Ok, Err, IfOk, Search, Span, ◌∙◌, ap, ◌≤◌, Input, ℕ, inl, inr, Found, Captured, match_of}
 use Rattle.std.proofs.lemmas.Fn.{FoldsTo-push}
-use Rattle.std.proofs.lemmas.Iterator.{IsCollectResult}
 use Rattle.nfa_search_base.specs.Common.{SameButStart, Item, item_by, matches_in, IsStep, ItemsLast, AreSpansDisjoint, LeadsOn, MayReply, ServesOnAlong, steps_iter_state, Answer, IterState, AnswerIsInside, after, answer_span, Yields, vec_items, Vec, SearchError, Steps, IsCallableOn, Finds, AnswersAlong, Fails, AreAllStoredMatches, AllFound, FirstFound, MayAnswer, stored_match_steps, infallible_match_steps, RunsApart, spans_in, GivesAll, AllSure, FirstSure, IsInfalliblyInside, Mut, Bor, Row, WithCaptures, CanFill, Fills, FillsAlong, row_of, row_span, filled_answer, AreAllStoredCaptures, FailsOrIsRefused, AllFilled, FirstFilled, MayAnswerRow, stored_captures_steps, takes_infallible_captures, MutBor}
 use Rattle.nfa_search_base.proofs.AskingLemmas.{same_start-self, Along-weaker}
 use Rattle.nfa_search_base.proofs.IterStateLemmas.{IsOrdered}
@@ -10,6 +8,7 @@ use Rattle.nfa_search_base.proofs.ItemLemmas.{EndsAt, ItemsOf, Last, Next, Steps
 use Rattle.nfa_search_base.proofs.ListLemmas.{IsOnward, spans-disjoint, step-as}
 use Rattle.nfa_search_base.proofs.RunLemmas.{AnswersOf, Given, given-at, given-as, given-inner}
 use Rattle.nfa_paths.proofs.InsideLemmas.{offsets}
+use Rattle.nfa_paths.proofs.Common.{IsCollectResult, ◌≡◌, false, List, [], ◌∷◌, ◌++◌, map, refl, sym, subst, arith, Option, None, Some, Result, Ok, Err, IfOk, Search, Span, ◌∙◌, ap, ◌≤◌, Input, ℕ, inl, inr, Found, Captured, match_of}
 
 -- What an iteration that keeps its finder asks: when the finder may be called, a call, and the items of the answers.
 pub record AskerOf (S X Y : Type 0) : Type 1 where

@@ -1,6 +1,7 @@
--- The answers that a skipping of split characters has gone through, up to the one that it ends with.
-use Rattle.nfa_paths.proofs.Common.{◌≡◌, ℕ, suc, ◌+◌, ◌-◌, ◌≤◌, List, [], ◌∷◌, ◌++◌, length, length-append, Option, None, Some, Ok, refl, add-zero, arith, le-leb, Search, search_of, Input}
+-- The answers that a skipping of split characters has gone through, and the answer of a search that restarts.
+use Rattle.nfa_paths.proofs.Common.{◌≡◌, ℕ, suc, ◌+◌, ◌-◌, ◌≤◌, List, [], ◌∷◌, ◌++◌, length, length-append, Option, None, Some, Ok, refl, add-zero, arith, le-leb, Search, search_of, Input, Bool, subst, Found, MatchKind, Automaton, Pair, EndsOnBoundary, IsFindAnswer, IsSearchAnswer, IsWhole, IsWork, raised}
 use Rattle.nfa_search_base.specs.Common.{Answer, answer_by, Asks, IsCallableOn, ServesOn, CallLeft, SkipsOn, HasOffsetIn, IsInCharacter, IsWholeReply, start_raised, lowered, Answers, Reaches, ServesSkips, SkipsTo, Mut, Bor}
+use Rattle.nfa_paths.proofs.AnswerLemmas.{search_answer-unique}
 
 -- A skipping: what its finder is, the haystack, and the searches that it moves to.
 pub record SkipOf (T F : Type 0) : Type 1 where
@@ -133,3 +134,33 @@ lowered-none s t out n at = grind (arith, lowered-is)
 -- and not yet moved
 pub lowered-start : (s : Search) → lowered s 0 ≡ Some s
 lowered-start s = let same : s.end - 0 ≡ s.end = omega arith in rw (le-leb 0 s.end (omega arith), same) refl
+
+-- a path ends on a boundary, wherever the search starts
+boundary-raised : (x : Search) (i : ℕ) (p : List Pair) → EndsOnBoundary x p → EndsOnBoundary (raised x i) p
+boundary-raised x i [] h = h
+boundary-raised x i (v ∷ []) h = h
+boundary-raised x i (v ∷ (w ∷ p)) h = boundary-raised x i (w ∷ p) h
+
+whole-raised : (x : Search) (i : ℕ) (r : Option (List Pair)) → IsWhole x r → IsWhole (raised x i) r
+whole-raised x i None h = h
+whole-raised x i (Some p) h = boundary-raised x i p h
+
+module _ (nfa : Automaton) (kind : MatchKind) (earliest : Bool) (x : Search) where
+  -- a search has the answer of the one that starts where its last scan does
+  pub from-scan : (restarts : ℕ) (path : Option (List Pair)) → IsSearchAnswer nfa kind earliest x restarts path
+      → IsSearchAnswer nfa kind earliest (raised x restarts) 0 path
+  from-scan restarts path = grind (arith, whole-raised)
+
+-- so it has the match of that one
+pub match-from-scan : {nfa : Automaton} {kind : MatchKind} {earliest : Bool} {x : Search} {found : Option Found}
+    {scans turns : ℕ} → IsFindAnswer nfa kind earliest x found → IsWork nfa kind earliest x scans turns
+    → IsFindAnswer nfa kind earliest (raised x (scans - 1)) found
+match-from-scan {nfa} {kind} {earliest} {x} {scans = scans} h work =
+    let same : h.restarts ≡ scans - 1 = grind (arith, search_answer-unique) in
+    record {
+      restarts = 0;
+      path = h.path;
+      answers = subst (λ (n : ℕ). IsSearchAnswer nfa kind earliest (raised x n) 0 h.path) same
+          (from-scan nfa kind earliest x h.restarts h.path h.answers);
+      found_is = h.found_is;
+    }

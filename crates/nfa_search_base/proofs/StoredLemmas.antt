@@ -1,6 +1,5 @@
 -- the iterators that keep their finder or engine
-use Rattle.nfa_paths.proofs.Common.{◌≡◌, ◌+◌, ◌<◌, false, Option, None, Some, Result, Ok, Err, IsOk, OnSome, List, [], ◌∷◌, sym, ◌∙◌, ap, inl, inr, arith, Search, Span, Input}
-use Rattle.std.proofs.lemmas.Iterator.{YieldsList}
+use Rattle.nfa_paths.proofs.Common.{YieldsList, ◌≡◌, ◌+◌, ◌<◌, false, Option, None, Some, Result, Ok, Err, IsOk, OnSome, List, [], ◌∷◌, sym, ◌∙◌, ap, inl, inr, arith, Search, Span, Input}
 use Rattle.nfa_search_base.specs.Common.{IsCallableOn, SameButStart, Finds, Answer, AnswerIsInside, ends_left, Item, item_by, items_left, matches_left, matches_in, greedy_unless, ServesOnAlong, WithCache, steps_whole, GivesItem, ends_at, stored_match_steps, steps_iter_state, can_step, can_step_infallibly, takes_steps, takes_infallible_steps, steps_left, infallible_left, AlwaysYields, MakesProgress, Mut, result_transpose, Bor, SearchError, Steps}
 use Rattle.nfa_search_base.proofs.AskingLemmas.{Along-weaker}
 use Rattle.nfa_search_base.proofs.StepLemmas.{CallsOf, asks_in, chosen, Along-turn, Along-answer, step-whole}

@@ -1,7 +1,6 @@
 -- the iterators over captures
-use Rattle.nfa_paths.proofs.Common.{◌≡◌, ℕ, zero, suc, ◌+◌, ◌<◌, true, false, Bool, Option, None, Some, Result, Ok, Err, IsOk, IfErr, IfOk, IfSome, List, [], ◌∷◌, map, refl, sym, ◌∙◌, ap, subst, inl, inr, arith, Search, search_of, Captured, Input}
-use Rattle.std.proofs.lemmas.Iterator.{IsCollectResult}
-use Rattle.nfa_search_base.specs.Common.{SameButStart, IterState, Answer, ends_left, Item, item_by, items_left, items_from, items_within, step_answer, step_iter_state, greedy, greedy_unless, ends_at, steps_iter_state, can_step_infallibly, takes_steps, Row, row_of, row_span, WithCaptures, GivesCaptures, UpToRefusal, YieldsUpToRefusal, filled_answer, CanFill, Fills, FillsAlong, FillsBy, takes_infallible_captures, Called, Mut, Bor, MutBor, Drains, Yields, Vec, vec_items, SearchError, Memory, Steps}
+use Rattle.nfa_paths.proofs.Common.{IsCollectResult, ◌≡◌, ℕ, zero, suc, ◌+◌, ◌<◌, true, false, Bool, Option, None, Some, Result, Ok, Err, IsOk, IfErr, IfOk, IfSome, List, [], ◌∷◌, map, refl, sym, ◌∙◌, ap, subst, inl, inr, arith, Search, search_of, Captured, Input}
+use Rattle.nfa_search_base.specs.Common.{SameButStart, IterState, Answer, ends_left, Item, item_by, items_left, items_from, items_within, step_answer, step_iter_state, greedy, greedy_unless, ends_at, steps_iter_state, can_step_infallibly, Row, row_of, row_span, WithCaptures, GivesCaptures, UpToRefusal, YieldsUpToRefusal, filled_answer, CanFill, Fills, FillsAlong, FillsBy, takes_infallible_captures, Called, Mut, Bor, MutBor, Drains, Yields, Vec, vec_items, SearchError, Memory, Steps, stored_captures_steps}
 use Rattle.nfa_search_base.proofs.AskingLemmas.{ServesOnAlong-by}
 use Rattle.nfa_search_base.proofs.StepLemmas.{chosen, step-taken, Along-answer, Along-turn}
 use Rattle.nfa_search_base.proofs.GreedyLemmas.{step-computes}
@@ -46,13 +45,10 @@ at_most c a (Some (Err e)) ok h = cc
 
 module _ {F : Type 0} (g : Mut F (Bor Input × (MutBor Captured × Unit {0}))
     (Result (Unit {0}) SearchError × (MutBor Captured × Unit {0}))) where
-  abbrev steps : Steps (WithCaptures F) → Option Caught → Steps (WithCaptures F) → Type 0
-  steps s r t = takes_steps row_span (Fills g) GivesCaptures s r t
-
   -- if the finder never fails, the only error of a step is `Memory`
   pub sure-step : (s t : Steps (WithCaptures F)) (r : Option Caught)
       → can_step_infallibly (CanFill g) (Fills g) row_span s
-      → steps s r t → takes_infallible_captures g s r t
+      → stored_captures_steps g s r t → takes_infallible_captures g s r t
   sure-step s t r can st = (
     st,
     elim (chosen s.done st) [
@@ -65,7 +61,7 @@ module _ {F : Type 0} (g : Mut F (Bor Input × (MutBor Captured × Unit {0}))
     -- R takes these steps
     module _ (R : Steps (WithCaptures F) → Option Caught → Steps (WithCaptures F) → Type 0)
         (takes : (s : Steps (WithCaptures F)) (r : Option Caught) (t : Steps (WithCaptures F)) → R s r t
-        → steps s r t) where
+        → stored_captures_steps g s r t) where
       after_end : (s t : Steps (WithCaptures F)) (xs : List Caught) → s.done ≡ true → Yields R s xs t → xs ≡ []
       after_end s t [] d ran = refl
       after_end s t (x ∷ xs) d ran =

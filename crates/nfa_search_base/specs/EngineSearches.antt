@@ -1,8 +1,7 @@
 -- The searches of an iteration by an engine: what they need, answer and leave.
-use Rattle.std.specs.Prelude.{◌≡◌, ◌==◌, ◌+◌, ◌-◌, ℕ, if◌then◌else◌, List, [], ◌∷◌, Option, None, Some, option_map, Ok, Err}
-use Rattle.std.specs.Option.{ForSome}
+use Rattle.std.specs.Prelude.{◌≡◌, ◌+◌, ◌-◌, ℕ, if◌then◌else◌, List, [], ◌∷◌, Option, None, Some, option_map, Ok, Err, ◌==◌}
 use Rattle.std.specs.Result.{result_unwrap_or}
-use Rattle.nfa_paths.specs.Common.{Automaton, Found, Match, Search, Span, found_of}
+use Rattle.nfa_paths.specs.Common.{ForSome, Automaton, Found, Match, Search, Span, found_of}
 use Rattle.nfa_search_base.specs.IterStates.{Advances, Answer, IterState, fresh, span_of}
 use Rattle.nfa_search_base.specs.Lists.{HasGroups}
 use Rattle.nfa_search_base.specs.Stored.{WithCache}
@@ -122,6 +121,7 @@ module _ {S X : Type 0} (span : X → Span) (asks : S → Search → Answer X �
 -- An iteration over matches, at first with none known, by searches that do `Work` with a cache, which counts `scans`.
 module _ {C : Type 0} (Tells : Search → Answer Found → Type 0) (Work : Search → Answer Found → C → C → Type 0)
     (scans : C → ℕ) where
+  -- one search of such an iteration
   abbrev pub asks_keeping : Keeping C → Search → Answer Found → Keeping C → Type 0
   asks_keeping = DoesSearch Tells (SearchesUnlessKnown Work scans)
 

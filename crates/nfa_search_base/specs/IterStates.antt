@@ -1,8 +1,7 @@
 -- The steps of an iteration over the matches of a haystack.
-use Rattle.std.specs.Prelude.{◌≡◌, ℕ, ◌+◌, ◌-◌, ◌<◌, ◌≤◌, max, Bool, false, ◌==◌, ◌&&◌, Option, None, Some, IfSome, Result, Ok, Err, IsOk}
-use Rattle.std.specs.Option.{ForSome}
-use Rattle.nfa_paths.specs.Common.{Found, HalfFound, Search, Span}
+use Rattle.std.specs.Prelude.{◌≡◌, ℕ, ◌+◌, ◌-◌, ◌<◌, ◌≤◌, max, Bool, false, ◌&&◌, Option, None, Some, IfSome, Result, Ok, Err, IsOk, ◌==◌}
 use Rattle.std.specs.Bool.{MatchBool}
+use Rattle.nfa_paths.specs.Common.{ForSome, Found, HalfFound, Search, Span}
 pub use Rattle.nfa_search_base.specs.declared.error.SearchError.{SearchError}
 pub use Rattle.nfa_search_base.specs.declared.error.SearchError.TheVariants.{HaystackTooLong, Memory}
 

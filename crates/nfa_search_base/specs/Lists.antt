@@ -1,12 +1,12 @@
 -- The items of an iteration as one list, from left to right. It is defined by the steps only. The lists of the matches
 -- and of the captures of a search of an NFA are such lists.
-use Rattle.std.specs.Prelude.{◌≡◌, ◌⊎◌, ◌<◌, ◌≤◌, ℕ, Bool, MatchBool, List, [], ◌∷◌, length, map, Option, None, Some, IfSome, Result, Ok, Err, ⊤}
-use Rattle.std.specs.Option.{ForSome, is_some}
-use Rattle.nfa_paths.specs.Common.{Automaton, Captured, Found, IsAnswer, IsFindAnswer, MatchKind, Search, Span, group_span, match_of, named_span, slot_count}
+use Rattle.std.specs.Prelude.{◌≡◌, ◌⊎◌, ◌<◌, ◌≤◌, ℕ, Bool, MatchBool, List, [], ◌∷◌, length, map, Option, None, Some, IfSome, Result, Ok, Err, ⊤, is_some}
+use Rattle.nfa_paths.specs.Common.{ForSome, Automaton, Captured, Found, IsAnswer, IsFindAnswer, MatchKind, Search, Span, group_span, match_of, named_span, slot_count}
 use Rattle.nfa_paths.proofs.ExistenceLemmas.{search_answer-exists}
 use Rattle.nfa_search_base.specs.Items.{Item, item_by}
 use Rattle.nfa_search_base.specs.IterStates.{Answer, IterState, Memory, SearchError, after, answer_span, fresh, repeats, shifted, span_of}
 use Rattle.nfa_search_base.specs.WithCaptures.{Row, row_found, row_of, row_span}
+use Rattle.nfa_search_base.specs.Finders.{IsInSpan}
 
 -- the match is in the span
 pub record IsInside (x : Search) (m : Found) : Type 0 where
@@ -28,7 +28,7 @@ AreSpansDisjoint x last (p ∷ ps) = ((x.start ≤ p.start) × (p.start ≤ p.en
 
 -- the slot is none, or its offset is in the span
 abbrev pub IsSlotInside : Search → Option ℕ → Type 0
-IsSlotInside x slot = IfSome slot (λ k. (x.start ≤ k) × (k ≤ x.end))
+IsSlotInside x slot = IfSome slot (IsInSpan x)
 
 -- the span is in that of the search
 pub record IsSpanInside (x : Search) (s : Span) : Type 0 where

@@ -1,8 +1,6 @@
 -- What the calls of an iterator have given so far, as clauses that a caller's loops and folds can use.
 use Rattle.std.specs.Prelude.{◌≡◌, Bool, true, List, [], ◌∷◌, ◌++◌, map, All, Option, None, Some, Result, Ok, Err, IfOk, IfErr}
-use Rattle.std.specs.Iterator.{Yields}
-use Rattle.std.specs.Iterator.Runs.{EachRunFrom, ItemsMapTo}
-use Rattle.nfa_paths.specs.Common.{Automaton, Captured, Found, Match, MatchKind, Search, found_of, match_of}
+use Rattle.nfa_paths.specs.Common.{Yields, EachRunFrom, ItemsMapTo, Automaton, Captured, Found, Match, MatchKind, Search, found_of, match_of}
 use Rattle.nfa_search_base.specs.IterStates.{Answer, Memory, SearchError}
 use Rattle.nfa_search_base.specs.Lists.{AreAllCaptures, AreDisjoint, AreFirstCaptures, AreFirstMatches, AreFirstRows, AreMatches, AreRows, HasGroups, IsInside, IsSlotInside, SpansInside}
 use Rattle.nfa_search_base.specs.WithCaptures.{Row, row_found, row_of}

@@ -1,8 +1,6 @@
 -- The iterators: those that keep their finder or engine, and those of an engine that borrows a cache for each step.
 use Rattle.std.specs.Prelude.{◌≡◌, ◌<◌, true, false, MatchBool, Option, None, OnSome, Result, Ok, option_map}
-use Rattle.std.specs.Borrow.{MutBor}
-use Rattle.std.specs.Iterator.{Count, at_most}
-use Rattle.nfa_paths.specs.Common.{Captured, Match, Search, Span, search_of}
+use Rattle.nfa_paths.specs.Common.{MutBor, Count, at_most, Captured, Match, Search, Span, search_of}
 use Rattle.nfa_search_base.specs.Finders.{ServesOnAlong, match_span}
 use Rattle.nfa_search_base.specs.Items.{ends_at, items_left, matches_left}
 use Rattle.nfa_search_base.specs.IterStates.{Advances, Answer, AnswerIsInside, ComesAfter, IsInfalliblyInside, IsPast, IterState, SameButStart, SearchError, after, answer_span, repeats, shifted}
@@ -82,7 +80,7 @@ module _ {S X Y : Type 0} (span : X → Span) (asks : S → Search → Answer X 
   abbrev pub takes_infallible_steps : Steps S → Option Y → Steps S → Type 0
   takes_infallible_steps s r t = takes_steps s (option_map (λ m. Ok m) r) t
 
--- the engine, with the cache that it borrows
+-- what an iteration keeps, and what it borrows for each call: an engine and its cache, or captures and a finder
 pub record WithCache (S C : Type 0) : Type 0 where
   pub backend : S
   pub cache : C

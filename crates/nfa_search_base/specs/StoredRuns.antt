@@ -1,9 +1,6 @@
 -- What the calls of an iterator over a stored finder have given so far.
 use Rattle.std.specs.Prelude.{◌≡◌, List, map, Option, Result, Ok, IfErr, IfSome}
-use Rattle.std.specs.Borrow.{Bor, MutBor}
-use Rattle.std.specs.Fn.{Mut}
-use Rattle.std.specs.Iterator.Runs.{EachRunFrom}
-use Rattle.nfa_paths.specs.Common.{Captured, Input, Search, Span}
+use Rattle.nfa_paths.specs.Common.{Bor, MutBor, Mut, EachRunFrom, Captured, Input, Search, Span}
 use Rattle.nfa_search_base.specs.Finders.{Finds, IsCallableOn, MayReply}
 use Rattle.nfa_search_base.specs.Items.{GivesItem, item_by, matches_in}
 use Rattle.nfa_search_base.specs.IterStates.{Answer, IterState, Memory, SameButStart, SearchError}

@@ -1,9 +1,6 @@
 -- Finders of captures.
 use Rattle.std.specs.Prelude.{◌≡◌, ◌⊎◌, ℕ, List, [], ◌∷◌, map, Option, None, Some, Result, Ok, Err, option_map, IsOk, unwrap_or}
-use Rattle.std.specs.Borrow.{Bor, MutBor}
-use Rattle.std.specs.Fn.{Called, Mut}
-use Rattle.std.specs.Iterator.{Drains}
-use Rattle.nfa_paths.specs.Common.{Captured, Found, Input, Search, Span, match_of, search_of}
+use Rattle.nfa_paths.specs.Common.{Bor, MutBor, Called, Mut, Drains, Captured, Found, Input, Search, Span, match_of, search_of}
 use Rattle.nfa_search_base.specs.Finders.{ServesOnAlong}
 use Rattle.nfa_search_base.specs.Items.{Item}
 use Rattle.nfa_search_base.specs.IterStates.{Answer, Memory, SameButStart, SearchError, span_of}
@@ -13,6 +10,7 @@ pub record Row : Type 0 where
   pub pattern : Option ℕ
   pub slots : List (Option ℕ)
 
+-- the row of the captures
 abbrev pub row_of : Captured → Row
 row_of c = record { pattern = c.pattern; slots = c.slots }
 

@@ -17,7 +17,7 @@
 ghost use Rattle.std.specs.Prelude.{◌≡◌, Some, None, Ok, true, false};
 ghost use Rattle.regex_search_core.specs.Boundary.{IsBoundary};
 ghost use Rattle.regex_search_core.specs.Search.{search_of, is_anchored};
-ghost use Rattle.nfa_search_base.specs.Skipping.{IsInSpan, ServesSkips, SkipsTo, start_raised, lowered};
+ghost use Rattle.nfa_search_base.specs.Finders.{IsInSpan, ServesSkips, SkipsTo, start_raised, lowered};
 
 use crate::asking::ask;
 use crate::error::SearchError;

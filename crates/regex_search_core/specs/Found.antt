@@ -1,6 +1,6 @@
 -- matches as values
 use Rattle.std.specs.Prelude.{ℕ}
-use Rattle.regex_search_core.specs.Patterns.{number_of}
+use Rattle.regex_search_core.specs.PatternSets.{number_of}
 use Rattle.regex_search_core.specs.declared.search.HalfMatch.{HalfMatch}
 use Rattle.regex_search_core.specs.declared.search.Match.{Match}
 
@@ -18,6 +18,10 @@ pub record Found : Type 0 where
 -- the half match as a value
 abbrev pub half_found_of : HalfMatch → HalfFound
 half_found_of m = record { pattern = number_of m.pattern; offset = m.offset }
+
+-- a match of the pattern that ends at the position
+abbrev pub half_at : ℕ → ℕ → HalfFound
+half_at at pattern = record { pattern = pattern; offset = at }
 
 -- the match as a value
 abbrev pub found_of : Match → Found

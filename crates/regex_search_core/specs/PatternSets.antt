@@ -1,5 +1,6 @@
--- sets of patterns, as a list that says for each pattern whether it is in the set
+-- Patterns as numbers, and sets of patterns as lists that say for each pattern whether it is in the set.
 use Rattle.std.specs.Prelude.{◌≡◌, ℕ, ◌+◌, ◌≤◌, Bool, true, false, List, [], ◌∷◌, length, count_by, if◌then◌else◌, nat_lt, slice_set, slice_index_or}
+use Rattle.regex_search_core.specs.declared.primitives.PatternID.{PatternID}
 
 -- the number of patterns in the set
 abbrev pub size_of_set : List Bool → ℕ
@@ -30,3 +31,7 @@ AreNumbers which = (i : ℕ) → slice_index_or which i false ≡ true → i ≤
 pub record IsPatternSet (len : ℕ) (which : List Bool) : Type 0 where
   pub counted : len ≡ size_of_set which
   pub numbered : AreNumbers which
+
+-- the pattern's number
+abbrev pub number_of : PatternID → ℕ
+number_of pattern = pattern.index

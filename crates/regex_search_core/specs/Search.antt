@@ -1,6 +1,6 @@
 -- the input of a search
 use Rattle.std.specs.Prelude.{ℕ, Bool, true, false, List, length, Option, Some, None}
-use Rattle.regex_search_core.specs.Patterns.{number_of}
+use Rattle.regex_search_core.specs.PatternSets.{number_of}
 use Rattle.regex_search_core.specs.declared.search.Anchored.{Anchored}
 use Rattle.regex_search_core.specs.declared.search.Anchored.TheVariants.{No, Yes, Pattern}
 use Rattle.regex_search_core.specs.declared.search.Input.{Input}

@@ -3,7 +3,7 @@ ghost use Rattle.std.specs.Prelude.{◌≡◌, ◌↔◌, ◌*◌, None, Ok, [],
 ghost use Rattle.std.specs.Borrow.{sem};
 ghost use Rattle.regex_search_core.specs.Groups.{slot_count};
 ghost use Rattle.regex_search_core.specs.Slots.{match_of, captured_count, group_span, named_span, text_of_group};
-ghost use Rattle.regex_search_core.specs.Patterns.{number_of};
+ghost use Rattle.regex_search_core.specs.PatternSets.{number_of};
 
 mod groups;
 mod held_groups;
@@ -43,7 +43,7 @@ impl Drop for Captures {
 
 impl Model for Captures {
     ghost use Rattle.std.specs.Prelude.{option_map};
-    ghost use Rattle.regex_search_core.specs.Patterns.{number_of};
+    ghost use Rattle.regex_search_core.specs.PatternSets.{number_of};
     ghost use Rattle.regex_search_core.specs.Slots.{Captured};
     ghost use Rattle.regex_search_core.specs.HeldGroups.{held_groups};
 

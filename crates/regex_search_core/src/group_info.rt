@@ -4,7 +4,7 @@ ghost use Rattle.std.specs.Prelude.{string_bytes, IfOk, IfSome, IsSome, ◌↔�
 ghost use Rattle.std.specs.Option.{SomeIff};
 ghost use Rattle.regex_search_core.specs.Groups.{names_of, explicit_slot, group_count, slot_count, slot_at, groups_at};
 ghost use Rattle.regex_search_core.specs.Groups.{group_named, is_named};
-ghost use Rattle.regex_search_core.specs.Patterns.{number_of};
+ghost use Rattle.regex_search_core.specs.PatternSets.{number_of};
 
 use crate::primitives::PatternID;
 use crate::refused::Refused;

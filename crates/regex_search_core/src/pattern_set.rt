@@ -2,7 +2,7 @@
 ghost use Rattle.std.specs.Prelude.{◌≡◌, ◌+◌, ◌<◌, ◌↔◌, List, Bool, Some, None, true, false, not, length, replicate};
 ghost use Rattle.std.specs.Prelude.{if◌then◌else◌, nat_lt, slice_index_or, IfOk, IsTrue};
 ghost use Rattle.regex_search_core.specs.PatternSets.{with_pattern, without_pattern, size_of_set, AreNumbers};
-ghost use Rattle.regex_search_core.specs.Patterns.{number_of};
+ghost use Rattle.regex_search_core.specs.PatternSets.{number_of};
 
 use crate::primitives::PatternID;
 use crate::refused::Refused;

@@ -18,7 +18,7 @@ pub struct PatternID {
 
 impl PatternID {
     ghost use Rattle.std.specs.Prelude.{option_map};
-    ghost use Rattle.regex_search_core.specs.Patterns.{number_of};
+    ghost use Rattle.regex_search_core.specs.PatternSets.{number_of};
 
     /// Makes the pattern of this number. `None` if the number is above 2147483646.
     pub fn new(index: usize) -> Option<PatternID>

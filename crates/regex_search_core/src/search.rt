@@ -63,7 +63,7 @@ pub enum Anchored {
 }
 
 impl Anchored {
-    ghost use Rattle.regex_search_core.specs.Patterns.{number_of};
+    ghost use Rattle.regex_search_core.specs.PatternSets.{number_of};
     ghost use Rattle.regex_search_core.specs.Search.{anchored_pattern, is_anchored};
 
     /// Returns whether a match may only start at the start of the span: true for `Yes` and `Pattern`.
@@ -307,7 +307,7 @@ pub struct HalfMatch {
 }
 
 impl HalfMatch {
-    ghost use Rattle.regex_search_core.specs.Patterns.{number_of};
+    ghost use Rattle.regex_search_core.specs.PatternSets.{number_of};
     ghost use Rattle.regex_search_core.specs.Found.{half_found_of};
 
     /// Makes a match of the pattern that ends at the offset.
@@ -344,7 +344,7 @@ pub struct Match {
 
 impl Match {
     ghost use Rattle.std.specs.Prelude.{Some, option_map};
-    ghost use Rattle.regex_search_core.specs.Patterns.{number_of};
+    ghost use Rattle.regex_search_core.specs.PatternSets.{number_of};
     ghost use Rattle.regex_search_core.specs.Found.{found_of};
     ghost use Rattle.regex_search_core.specs.Slots.{match_of};
 

@@ -15,7 +15,7 @@ use Rattle.nfa_search_base.specs.Common.{Row, row_of, AreRows, HasGroups, AreFir
 use Rattle.nfa_engines.specs.Paths.{is_utf8_empty}
 use Rattle.nfa_search_base.proofs.ListLemmas.{matches-exist, matches-rest}
 use Rattle.nfa_compiler.proofs.AllSearchLemmas.{AreAnsweredBy, all-matches, all-rows}
-use Rattle.nfa_compiler.proofs.AnswerLemmas.{answered-alike}
+use Rattle.nfa_compiler.proofs.SearchLemmas.{answered-alike}
 use Rattle.nfa_compiler.proofs.EachLemmas.{boundary-lies}
 use Rattle.nfa_compiler.proofs.BoundarySearchLemmas.{boundary-answered}
 use Rattle.nfa_compiler.proofs.MeantLemmas.{AreAlike, all-meant, first-alike, pick-alike}

@@ -1,5 +1,5 @@
--- From the text that was read to the reader, and from the groups of the NFA to those of the pattern.
-use Rattle.std.proofs.Common.{◌≡◌, ℕ, ◌-◌, ◌<◌, List, [], ◌∷◌, map, take, arith, Option, IfSome}
+-- From the text that was read to the reader, from the groups of the NFA to those of the pattern, and limits of lists.
+use Rattle.std.proofs.Common.{◌≡◌, ℕ, ◌-◌, ◌<◌, List, [], ◌∷◌, map, take, arith, Option, IfSome, length, All, None, Some}
 use Rattle.std.specs.Io.KnownBytes.{Appends}
 use Rattle.std.proofs.lemmas.Bool.Decides.{nat_tests}
 use Rattle.nfa_compiler.specs.Common.{Re, PatternHit, found_at}
@@ -7,12 +7,18 @@ use Rattle.nfa_compiler.specs.Laws.{GroupsAreNamed}
 use Rattle.nfa_engines.specs.Paths.{is_utf8_empty}
 use Rattle.nfa_meta.specs.ChoiceState.{ChoiceState, KeepsEngines}
 use Rattle.replacer.specs.Hits.{AreHitsOf, HasNames, IsSearchOf, SearchesFor, Sought, groups_named_by, syntax_of}
-use Rattle.replacer.specs.Printed.{IsActionOf, IsMisused, IsPatternMistake, IsTemplateMistake, Prints, printed, sought}
+use Rattle.replacer.specs.Printed.{IsActionOf, IsMisused, IsPatternMistake, IsTemplateMistake, Prints, printed, sought, left_after, limited}
 use Rattle.replacer.specs.Separated.{first_fields_by, gaps}
 use Rattle.replacer.specs.declared.action.Action.{Action}
 use Rattle.replacer.specs.declared.command.Request.{Request}
 use Rattle.replacer.specs.declared.job.Mistake.{Mistake}
 use Rattle.replacer.specs.declared.job.Mistake.TheVariants.{Memory, Pattern, Template}
+use Rattle.std.proofs.lemmas.List.{length-map, length-take, take-map}
+use Rattle.std.proofs.lemmas.List.Elements.{All-take}
+use Rattle.regex_search_core.specs.Search.{Search}
+use Rattle.regex_search_core.specs.Slots.{Captured}
+use Rattle.nfa_search_base.specs.Common.{match_in, AreDisjoint}
+use Rattle.nfa_meta.proofs.CaughtLemmas.{first-apart}
 
 -- what holds of the text that was read holds of all that the reader had
 pub at-read : (all : Option (List ℕ)) (read text : List ℕ) (P : List ℕ → Type 0) → read ≡ text
@@ -69,3 +75,22 @@ module _ (law : GroupsAreNamed) (request : Request) (r : ChoiceState) (of : IsSe
   misused Memory h = tt
   misused (Pattern error) h = absurd (grind arith)
   misused (Template error) h = λ names named. rw (← groups-are names named) h
+
+pub limited-map : {A B : Type 0} (f : A → B) (limit : Option ℕ) (xs : List A)
+    → limited limit (map f xs) ≡ map f (limited limit xs)
+limited-map f limit xs = grind (arith, take-map)
+
+pub limited-all : {A : Type 0} (P : A → Type 0) (limit : Option ℕ) (xs : List A) → All P xs → All P (limited limit xs)
+limited-all P None xs h = h
+limited-all P (Some n) xs h = All-take P n xs h
+
+pub limited-disjoint : (x : Search) (limit : Option ℕ) (cs : List Captured) → AreDisjoint x None (map match_in cs)
+    → AreDisjoint x None (map match_in (limited limit cs))
+limited-disjoint x None cs h = h
+limited-disjoint x (Some n) cs h = first-apart x n cs h
+
+-- what is left after the captures of the first hits
+pub left-caught : {A B : Type 0} (f : A → B) (limit : Option ℕ) (hits : List A) (caught : List B) (count : ℕ)
+    → count ≡ length caught → caught ≡ map f (limited limit hits)
+    → left_after limit count ≡ left_after limit (length hits)
+left-caught f limit hits caught count counts are = grind (arith, length-map, length-take)

@@ -1,10 +1,7 @@
--- All hits of a pattern in a text, in the words of the reference matcher.
-use Rattle.std.specs.Prelude.{ℕ, ◌+◌, ◌≡◌, ◌⊎◌, Bool, false, IsUtf8, List, [], ◌∷◌, drop, length, map, Option, Some, if◌then◌else◌}
-use Rattle.nfa_compiler.specs.Common.{find_all_str, Re, default_config, default_flags, Config, hits_from, FindsFromAnyStart, expected_on_boundary, IsCompiled, IsMeant, IsNamed, PatternHit, expected, hit_by, slots_of}
-use Rattle.regex_search_core.specs.Groups.{slot_count}
-use Rattle.regex_search_core.specs.Search.{whole}
-use Rattle.regex_search_core.specs.Slots.{Captured}
-use Rattle.regex_search_core.specs.declared.search.MatchKind.TheVariants.{LeftmostFirst}
+-- All hits of a pattern in a text, in the words of the reference matcher; and what this program does not replace in a
+-- template.
+use Rattle.std.specs.Prelude.{ℕ, ◌+◌, ◌≡◌, ◌⊎◌, Bool, false, IsUtf8, List, [], ◌∷◌, drop, length, map, Option, Some, if◌then◌else◌, ◌<◌, ◌≤◌, slice_index}
+use Rattle.nfa_compiler.specs.Common.{slot_count, whole, Captured, LeftmostFirst, find_all_str, Re, default_config, default_flags, Config, hits_from, FindsFromAnyStart, expected_on_boundary, IsCompiled, IsMeant, IsNamed, PatternHit, expected, hit_by, slots_of}
 use Rattle.nfa_meta.specs.ChoiceState.{ChoiceState, kind_in}
 
 -- the text of a pattern, and whether letters match in either case
@@ -31,7 +28,7 @@ pub record IsSearchOf (pattern : Sought) (r : ChoiceState) : Type 0 where
   pub leftmost : kind_in r ≡ LeftmostFirst
   pub free : FindsFromAnyStart r.nfa
 
--- and the pattern means `re`
+-- the regex searches for the pattern, and the pattern means `re`
 pub record SearchesFor (pattern : Sought) (re : Re) (r : ChoiceState) : Type 0 where
   pub search : IsSearchOf pattern r
   pub meant : Means pattern re
@@ -68,3 +65,23 @@ groups_named_by names = drop 1 names ∷ []
 abbrev pub captured_by : Groups → PatternHit → Captured
 captured_by groups h =
     record { groups = groups; pattern = Some h.pattern; slots = slots_of groups (slot_count groups) (Some h) }
+
+-- a digit or an `n`
+abbrev pub IsAfterBackslash : ℕ → Type 0
+IsAfterBackslash byte = (byte ≡ 110) ⊎ ((48 ≤ byte) × (byte ≤ 57))
+
+-- there is an `&`, or a backslash before a digit or an `n`
+abbrev pub IsForeign : List ℕ → ℕ → Type 0
+IsForeign template at =
+    (slice_index template at ≡ 38)
+    ⊎ ((slice_index template at ≡ 92) × IsAfterBackslash (slice_index template (at + 1)))
+
+-- there is one somewhere in the template
+pub record HasForeign (template : List ℕ) : Type 0 where
+  pub at : ℕ
+  pub within : at < length template
+  pub foreign : IsForeign template at
+
+-- there is none up to this offset
+abbrev pub HasNoForeign : List ℕ → ℕ → Type 0
+HasNoForeign template end = (at : ℕ) → at < end → ¬ IsForeign template at

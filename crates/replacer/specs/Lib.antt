@@ -1,4 +1,3 @@
-pub mod Hints
 pub mod Hits
 pub mod Printed
 pub mod Separated

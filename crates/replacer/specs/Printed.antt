@@ -1,9 +1,7 @@
 -- What is printed for a text.
 use Rattle.std.specs.Prelude.{ℕ, ◌≡◌, ◌-◌, Bool, List, [], ◌∷◌, ◌++◌, Option, None, Some, IfSome, chars, encode_utf8_all, flat_map, length, map, option_map, take, if◌then◌else◌, true, ⊤}
 use Rattle.std.specs.Io.BufRead.{ends_with_byte, strip_last}
-use Rattle.std.specs.Io.KnownBytes.{Appends}
-use Rattle.regex_search_core.specs.Slots.{Captured}
-use Rattle.nfa_compiler.specs.Common.{Re, ReadsAsText, escaped_text, PatternHit, IsOfOneText, NamesText}
+use Rattle.nfa_compiler.specs.Common.{Appends, Captured, Re, ReadsAsText, escaped_text, PatternHit, IsOfOneText, NamesText}
 use Rattle.text_lines.specs.Lines.{line_feed, lines_of}
 use Rattle.nfa_meta.specs.ChoiceState.{ChoiceState}
 use Rattle.nfa_meta.specs.Filled.{AreAllCaught, filled_from}
@@ -19,14 +17,11 @@ use Rattle.replacer.specs.declared.command.Request.{Request}
 use Rattle.replacer.specs.declared.job.Mistake.{Mistake}
 use Rattle.replacer.specs.declared.job.Mistake.TheVariants.{Memory, Pattern, Template}
 
--- the text with a backslash before each character that has a meaning of its own in a pattern
-abbrev pub escaped : List ℕ → List ℕ
-escaped text = encode_utf8_all (escaped_text (chars text))
-
--- the pattern that is searched for: with `fixed`, the text that was given is escaped
+-- The pattern that is searched for: with `fixed`, the text that was given, with a backslash before each character that
+-- has a meaning of its own.
 abbrev pub sought : Request → Sought
 sought request = record {
-  text = if request.fixed then escaped request.pattern.now else request.pattern.now;
+  text = if request.fixed then encode_utf8_all (escaped_text (chars request.pattern.now)) else request.pattern.now;
   ignore_case = request.ignore_case;
 }
 

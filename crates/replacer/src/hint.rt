@@ -1,6 +1,6 @@
 //! What a template may mean otherwise than its author thinks.
 ghost use Rattle.std.specs.Prelude.{◌≡◌, ◌<◌, MatchBool, false, length, slice_index, true};
-ghost use Rattle.replacer.specs.Hints.{HasForeign, HasNoForeign, IsAfterBackslash, IsForeign};
+ghost use Rattle.replacer.specs.Hits.{HasForeign, HasNoForeign, IsAfterBackslash, IsForeign};
 
 /// What is printed on standard error for a template that has what other programs replace.
 pub const HINT: &str =

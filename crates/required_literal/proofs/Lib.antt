@@ -1,2 +1,1 @@
-pub mod HitLemmas
 pub mod PartLemmas

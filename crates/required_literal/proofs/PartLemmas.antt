@@ -1,12 +1,15 @@
--- Bytes that are in bytes, and in all matches of a pattern.
-use Rattle.std.proofs.Common.{◌≡◌, ◌∙◌, ℕ, ◌+◌, ◌-◌, ◌≤◌, All, List, [], length, get_or, ap, sym, arith, Option, None, Some, Vec, is_some, slice_range, true}
+-- Bytes that are in bytes, in all matches of a pattern, and so in a text with a hit.
+use Rattle.std.proofs.Common.{◌≡◌, ◌∙◌, ℕ, ◌+◌, ◌-◌, ◌≤◌, All, List, [], length, get_or, ap, sym, arith, Option, None, Some, Vec, is_some, slice_range, true, ◌<◌, Bool}
 use Rattle.std.specs.declared.alloc.Global.{Global}
 use Rattle.std.proofs.lemmas.List.Edits.{get_or-between, length-between}
 use Rattle.std.proofs.lemmas.List.Elements.{All-map}
 use Rattle.memchr.specs.Find.{FindsNeedle}
-use Rattle.regex_hir.specs.Re.{Re}
 use Rattle.regex_extract.specs.Needles.{ContainsNeedle, needles_of}
-use Rattle.required_literal.specs.Required.{IsRequired, OccursIn}
+use Rattle.required_literal.specs.Required.{IsRequired, OccursIn, AreRequired}
+use Rattle.nfa_compiler.specs.Common.{Matches, Re, PatternHit, expected}
+use Rattle.regex_hir.proofs.OptionLemmas.{value_of_IsSome}
+use Rattle.regex_search_core.specs.Search.{Search}
+use Rattle.nfa_compiler.proofs.EachLemmas.{hit-each, pick-each, pick_one-each}
 
 -- no bytes are in any text
 pub occurs-none : (text : List ℕ) → OccursIn text []
@@ -71,3 +74,18 @@ pub occurs-found : (text bytes : List ℕ) (found : Option ℕ) → is_some foun
     → OccursIn text bytes
 occurs-found text bytes None some found = absurd (cc)
 occurs-found text bytes (Some k) some found = (k, found.1)
+
+module _ (res : List Re) (bytes : List ℕ) (required : AreRequired res bytes) (bound : Bool) (x : Search)
+    (small : All (λ b. b < 256) x.haystack) where
+  abbrev Has : PatternHit → Type 0
+  Has h = OccursIn x.haystack bytes
+
+  makes : (i : ℕ) (re : Re) → IsRequired bytes re → (h : PatternHit) → h.start ≡ i → Matches x.haystack re i h.trace.end
+      → Has h
+  makes i re is h start m = is x.haystack small i h.trace.end m
+
+  pub hits-have-bytes : is_some (expected res bound x) ≡ true → OccursIn x.haystack bytes
+  hits-have-bytes some =
+      let hit = value_of_IsSome (expected res bound x) some in
+      hit-each Has res bound x (λ i from to. pick-each x.haystack i (IsRequired bytes) Has (makes i) res required 0)
+      (λ inside k. pick_one-each x.haystack x.start (IsRequired bytes) Has (makes x.start) res required k k) hit.0 hit.1

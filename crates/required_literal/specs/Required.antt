@@ -1,8 +1,7 @@
 -- Bytes that each match of a pattern has.
 use Rattle.std.specs.Prelude.{◌≡◌, ℕ, ◌<◌, Bool, true, All, List, is_some}
 use Rattle.memchr.specs.Find.{OccursAt}
-use Rattle.nfa_compiler.specs.Common.{Matches, Re, expected}
-use Rattle.regex_search_core.specs.Search.{Search}
+use Rattle.nfa_compiler.specs.Common.{Search, Matches, Re, expected}
 
 -- the bytes are somewhere in the text
 abbrev pub OccursIn : List ℕ → List ℕ → Type 0

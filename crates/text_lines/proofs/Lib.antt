@@ -1,5 +1,1 @@
 pub mod LineLemmas
-pub mod OccurrenceLemmas
-pub mod PartLemmas
-pub mod PassedLemmas
-pub mod RecordLemmas

@@ -14,13 +14,9 @@ line_feed = 10
 abbrev pub carriage_return : ℕ
 carriage_return = 13
 
--- the records of a text, each with the byte that ends it; the last one may have none
-abbrev pub records_of : ℕ → List ℕ → List (List ℕ)
-records_of end text = records end text
-
--- the lines of a text: the records that end at a line feed
+-- the lines of a text: its records that end at a line feed, each with it; the last one may have none
 abbrev pub lines_of : List ℕ → List (List ℕ)
-lines_of text = records_of line_feed text
+lines_of text = records line_feed text
 
 -- a line without its end: all but the line feed at its end and a carriage return before that line feed
 abbrev pub content : List ℕ → List ℕ
@@ -39,21 +35,15 @@ with_end end line = if ends_with_byte end line then line else (line ++ end ∷ [
 pub record AreFirstRecords (end : ℕ) (text : List ℕ) (left : Option (List ℕ)) (lines : List (List ℕ)) : Type 0 where
   pub rest : List ℕ
   pub left_is : left ≡ Some rest
-  pub lines_are : records_of end text ≡ lines ++ records_of end rest
+  pub lines_are : records end text ≡ lines ++ records end rest
 
--- if the bytes of the reader are known: this record was taken from it; it has no record
+-- if the bytes of the reader are known, this record was taken from it
 abbrev pub TakesRecord : ℕ → Option (List ℕ) → Option (List ℕ) → List ℕ → Type 0
 TakesRecord end before left line = IfSome before (λ text. AreFirstRecords end text left (line ∷ []))
 
+-- if the bytes of the reader are known, it has no record
 abbrev pub HasNoRecord : ℕ → Option (List ℕ) → Type 0
-HasNoRecord end before = IfSome before (λ text. records_of end text ≡ [])
-
--- the same of lines
-abbrev pub TakesLine : Option (List ℕ) → Option (List ℕ) → List ℕ → Type 0
-TakesLine before left line = TakesRecord line_feed before left line
-
-abbrev pub HasNoLine : Option (List ℕ) → Type 0
-HasNoLine before = HasNoRecord line_feed before
+HasNoRecord end before = IfSome before (λ text. records end text ≡ [])
 
 -- the bytes occur nowhere in the text
 abbrev pub Lacks : List ℕ → List ℕ → Type 0
@@ -69,10 +59,10 @@ EndsRecord end text = (text ≡ []) ⊎ ((front : List ℕ) × (text ≡ front +
 
 -- the text is this many whole records of bytes, whatever comes after it, and these bytes occur in none of them
 pub record HasWhole (end : ℕ) (bytes text : List ℕ) (count : ℕ) : Type 0 where
-  pub whole : (rest : List ℕ) → records_of end (text ++ rest) ≡ records_of end text ++ records_of end rest
-  pub count_is : count ≡ length (records_of end text)
+  pub whole : (rest : List ℕ) → records end (text ++ rest) ≡ records end text ++ records end rest
+  pub count_is : count ≡ length (records end text)
   pub bytes_are : HasBytes text
-  pub without : All (λ line. Lacks line bytes) (records_of end text)
+  pub without : All (λ line. Lacks line bytes) (records end text)
 
 -- These are the first records of the text, and the bytes occur in none of them. The reader has the other records left.
 pub record ArePassed (end : ℕ) (bytes text : List ℕ) (left : Option (List ℕ)) (passed : Passed) : Type 0 where

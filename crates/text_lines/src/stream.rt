@@ -1,7 +1,7 @@
 //! Reading an input line by line, and writing.
 ghost use Rattle.std.specs.Prelude.{◌≡◌, IfErr, IfOk, OnOk, false, true};
 ghost use Rattle.std.specs.Io.KnownBytes.{Appends, Keeps};
-ghost use Rattle.text_lines.specs.Lines.{HasNoLine, HasNoRecord, IsOfReading, TakesLine, TakesRecord};
+ghost use Rattle.text_lines.specs.Lines.{HasNoRecord, IsOfReading, TakesRecord, line_feed};
 
 use crate::failure::Failure;
 use std::io::{BufRead, Write};
@@ -16,8 +16,8 @@ pub fn read_line<R: BufRead>(
     line: &mut Vec<u8>,
 ) -> Result<bool, Failure>
     ensures taken { IfOk result (λ read. read ≡ true
-        → TakesLine (R.remaining input.old) (R.remaining input.new) line.new.items) }
-    ensures ended { IfOk result (λ read. read ≡ false → HasNoLine (R.remaining input.old)) }
+        → TakesRecord line_feed (R.remaining input.old) (R.remaining input.new) line.new.items) }
+    ensures ended { IfOk result (λ read. read ≡ false → HasNoRecord line_feed (R.remaining input.old)) }
     ensures failed { IfErr result (IsOfReading number) }
 {
     read_record(input, b'\n', number, line)

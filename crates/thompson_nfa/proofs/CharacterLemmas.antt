@@ -1,9 +1,14 @@
--- strings of one character
-use Rattle.std.proofs.Common.{◌≡◌, ℕ, zero, suc, ◌<◌, List, [], ◌∷◌, ◌++◌, length, slice_index, Bool, true, false, Some, None, chars, encode_utf8, refl, ap, ◌∙◌, arith}
+-- Strings of one character, and the characters of words.
+use Rattle.std.proofs.Common.{◌≡◌, ℕ, zero, suc, ◌<◌, List, [], ◌∷◌, ◌++◌, length, slice_index, Bool, true, false, Some, None, chars, encode_utf8, refl, ap, ◌∙◌, arith, ◌||◌, ◌==◌}
 use Rattle.std.specs.Str.{IsUtf8, is_utf8, encode_utf8_all}
 use Rattle.std.proofs.lemmas.List.{length-append}
 use Rattle.std.proofs.lemmas.Str.{chars-nil, encodes-chars, encode_same, length-encode, length-le-encodes, len_utf8_bounds, encode_ascii, IsUtf8-from_ascii, is_utf8-from_IsUtf8, IsUtf8-from_is_utf8}
-use Rattle.thompson_nfa.specs.Characters.{only, char_of}
+use Rattle.thompson_nfa.specs.Characters.{only, char_of, is_word_char}
+use Rattle.std.proofs.lemmas.Bool.Decides.{nat_tests}
+use Rattle.unicode.specs.Binary.{is_join_control}
+use Rattle.unicode.specs.Perl as perl
+use Rattle.unicode.proofs.BinaryLemmas.{is_join_control_stepped}
+use Rattle.unicode.proofs.TableComputing.{tables}
 
 -- the first of these characters is the one whose UTF-8 begins theirs
 pub encodes_first : (cs : List ℕ) (c : ℕ) (rest : List ℕ) → encode_utf8_all cs ≡ encode_utf8 c ++ rest
@@ -70,3 +75,13 @@ pub ruleset chars_of = (char_of_ascii, char_of_text, char_of_ill_formed)
 
 -- the character of a string of one character
 pub ruleset only_chars = (only_none, only_one, only_more)
+
+-- Join_Control has two characters
+pub is_join_control_is : (c : ℕ) → is_join_control c ≡ (c == 0x200C || c == 0x200D)
+unfolding tables is_join_control_stepped
+is_join_control_is c = is_join_control_stepped.gives c ∙ grind (arith, nat_tests)
+
+-- the table's property is this one
+pub is_word_char_as_classed : (c : ℕ) → perl.is_word_char c ≡ is_word_char c
+unfolding is_word_char perl.is_word_char
+is_word_char_as_classed c = rw (is_join_control_is c) refl

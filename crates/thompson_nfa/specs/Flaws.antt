@@ -16,7 +16,7 @@ referrer_text holder.Unanchored = codes "the unanchored start"
 referrer_text (holder.Pattern i) = codes "the start of pattern " ++ decimal i
 referrer_text (holder.State i) = codes "state " ++ decimal i
 
--- the index of the first element that fails; x, which passes, is read past the last element
+-- the index of the first element that fails; none if all pass; x, which passes, is read past the last element
 abbrev pub IsFirstFailing : {X : Type 0} → (X → Type 0) → X → List X → Option ℕ → Type 0
 IsFirstFailing P x xs None = All P xs
 IsFirstFailing P x xs (Some i) = All P (take i xs) × (¬ P (slice_index_or xs i x))
@@ -31,13 +31,13 @@ abbrev pub pattern_of : Node → Option ℕ
 pattern_of (Match pattern) = Some pattern
 pattern_of _ = None
 
--- the first state that fails, and the number that it names
+-- the first state that fails, and the number that it names; none if no state fails
 abbrev pub NamesFirst : (Node → Type 0) → (Node → Option ℕ) → List Node → Option (ℕ × ℕ) → Type 0
 NamesFirst P number_in states None = All P states
 NamesFirst P number_in states (Some (i, number)) =
     IsFirstFailing P Fail states (Some i) × (number_in (slice_index_or states i Fail) ≡ Some number)
 
--- the first holder of a number that names no state: the two starts, then those of the patterns, then the states
+-- the first referrer whose number names no state: the two starts, then those of the patterns, then the states
 abbrev pub NamesFirstReferrer : List Node → ℕ → ℕ → List ℕ → Option Referrer → Type 0
 NamesFirstReferrer states anchored unanchored patterns None = AreStatesNumbered states anchored unanchored patterns
 NamesFirstReferrer states anchored unanchored patterns (Some holder.Anchored) = ¬ (anchored < length states)

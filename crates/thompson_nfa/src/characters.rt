@@ -46,7 +46,7 @@ pub(crate) fn is_whole_after(haystack: &[u8], at: usize) -> bool
 }
 
 /// Whether this is a word character, by Unicode Technical Standard 18, Annex C.
-#[tactic(auto, using(crate::proofs::WordLemmas::is_word_char_as_classed))]
+#[tactic(auto, using(crate::proofs::CharacterLemmas::is_word_char_as_classed))]
 fn is_word_char(c: char) -> bool
     ensures { result ≡ is_word_char c }
 {

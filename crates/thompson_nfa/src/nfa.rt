@@ -1,7 +1,7 @@
 //! An NFA, made from its states.
 ghost use Rattle.std.specs.Prelude.{◌≡◌, ◌<◌, ◌≤◌, ◌↔◌, length, map, Some, IsTrue, IfSome, IfOk, IsOkUnless, slice_get};
 ghost use Rattle.regex_search_core.specs.Groups.{names_of, slot_count};
-ghost use Rattle.regex_search_core.specs.Patterns.{number_of};
+ghost use Rattle.regex_search_core.specs.PatternSets.{number_of};
 ghost use Rattle.thompson_nfa.specs.Automaton.{Automaton, IsAutomaton, LeadsBelow, SlotBelow, PatternBelow, node_of};
 
 use crate::flaw::{Flaw, first_flaw};

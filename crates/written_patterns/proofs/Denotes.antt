@@ -1,17 +1,15 @@
 -- For callers whose pattern is written out: what the grammar reads in it, part by part, and which texts that matches.
-use Rattle.nfa_paths.proofs.Common.{◌≡◌, ◌∙◌, ℕ, zero, suc, ◌+◌, ◌<◌, ◌≤◌, Bool, true, List, [], ◌∷◌, ◌++◌, ◌==◌, map, length, drop, Option, None, Some, refl, sym, ap, subst, arith, append-nil, length-drop, inl, inr, ◌↔◌, All, IsSomeAnd, chars, is_some, option_and_then, list_any, cases_lt, true≢false, nat_tests, drop_all, slice_get-get_or, slice_get_past}
-use Rattle.nfa_compiler.specs.Common.{find, holds, holds_between, Matches, copies, up_to, Re, alt, byte_in, cat, char_in, empty, group, literal, look, plus, byte_before, Start, End, Nested, Names, read, SameTree, Set, members, Config, MatchesIn, byte_syntax}
-use Rattle.std.specs.Char.{is_ascii_digit}
-use Rattle.std.specs.Int.{is_in_range}
 use Rattle.regex_class.specs.Ranges.{Range, in_ranges}
 use Rattle.regex_syntax.proofs.SetLemmas.{in_ranges-members}
 use Rattle.regex_syntax.proofs.TreeLaws.{◌then◌, alt-fail, alt_cong, byte_in_ascii, cat-empty, cat_cong, same_refl, same_sym}
 use Rattle.regex_syntax.proofs.Written.{same_group, same_plus}
+use Rattle.nfa_paths.proofs.Common.{is_ascii_digit, is_in_range, ◌≡◌, ◌∙◌, ℕ, zero, suc, ◌+◌, ◌<◌, ◌≤◌, Bool, true, List, [], ◌∷◌, ◌++◌, ◌==◌, map, length, drop, Option, None, Some, refl, sym, ap, subst, arith, append-nil, length-drop, inl, inr, ◌↔◌, All, IsSomeAnd, chars, is_some, option_and_then, list_any, cases_lt, true≢false, nat_tests, drop_all, slice_get-get_or, slice_get_past}
 use Rattle.written_patterns.specs.Patterns.{first_match, has_match}
 use Rattle.written_patterns.specs.Texts.{Bytes, BytesOrMore, Exactly, Times, ◌followed_by◌, ◌or_else◌}
 pub use Rattle.nfa_compiler.proofs.CallLemmas.{bytes-of}
 unfoldable pub use Rattle.nfa_compiler.proofs.Literals.{on_literals}
 use Rattle.nfa_compiler.proofs.UnboundLemmas.{holds-at-start}
+use Rattle.nfa_compiler.specs.Common.{find, holds, holds_between, Matches, copies, up_to, Re, alt, byte_in, cat, char_in, empty, group, literal, look, plus, byte_before, Start, End, Nested, Names, read, SameTree, Set, members, Config, MatchesIn, byte_syntax}
 use Rattle.written_patterns.proofs.ReadLemmas.{find-same, finds-iff}
 use Rattle.written_patterns.proofs.Spelling.{IsAt, Spells, spells-alt, spells-byte, spells-cat, spells-group, spells-iff, spells-literal, spells-optional, spells-plus, spells-run, spells-star, spells-times, at-front, within}
 

@@ -1,6 +1,5 @@
 -- A pattern for each row of the table in docs/COOKBOOK.md.
-use Rattle.std.proofs.Common.{[], codes}
-use Rattle.std.specs.Char.{is_ascii_digit}
+use Rattle.nfa_paths.proofs.Common.{[], codes, is_ascii_digit}
 use Rattle.nfa_compiler.specs.Written.{byte_syntax}
 use Rattle.written_patterns.specs.Texts.{Bytes, BytesOrMore, Exactly, Times, ◌followed_by◌, ◌or_else◌}
 use Rattle.written_patterns.proofs.Denotes.{IsWhole, any, branch, digit, end, group_of, last, maybe, on_literals, one, run, some, text, times, whole, ◌and_then◌, ◌before◌, ◌or◌}

@@ -1,8 +1,6 @@
 -- The numbers below 256 in decimal, as `25[0-5]|2[0-4][0-9]|1[0-9]{2}|[1-9]?[0-9]`.
-use Rattle.nfa_paths.proofs.Common.{◌≡◌, ◌∙◌, ℕ, zero, suc, ◌+◌, ◌-◌, ◌*◌, ◌/◌, ◌%◌, ◌<◌, ◌≤◌, Bool, true, List, [], ◌∷◌, ◌++◌, codes, refl, sym, ap, ap₂, subst, arith, inl, inr, ◌↔◌, decimal, cases_lt, nat_tests, All-cons, All-head, All-nil, All-tail}
-use Rattle.std.specs.Char.{is_ascii_digit}
-use Rattle.std.specs.Int.{is_in_range}
 use Rattle.std.proofs.lemmas.Fmt.{decimal_digit, decimal_step}
+use Rattle.nfa_paths.proofs.Common.{is_ascii_digit, is_in_range, ◌≡◌, ◌∙◌, ℕ, zero, suc, ◌+◌, ◌-◌, ◌*◌, ◌/◌, ◌%◌, ◌<◌, ◌≤◌, Bool, true, List, [], ◌∷◌, ◌++◌, codes, refl, sym, ap, ap₂, subst, arith, inl, inr, ◌↔◌, decimal, cases_lt, nat_tests, All-cons, All-head, All-nil, All-tail}
 use Rattle.nfa_compiler.specs.Common.{Re, alt, byte_in, cat, empty, literal}
 use Rattle.written_patterns.specs.Texts.{Bytes, DecimalBelow, Exactly, ◌followed_by◌, ◌or_else◌}
 use Rattle.written_patterns.proofs.Denotes.{Denotes, IsClass, branch, class, class_of, digit, in_words, last, maybe, one, range, run, text, ◌and_then◌, ◌or◌}

@@ -1,8 +1,8 @@
 -- What a pattern that is written out finds in a text, as functions of the two. A pattern here is what the grammar reads
 -- in byte mode; a text that is not a pattern finds nothing.
-use Rattle.std.specs.Prelude.{◌≡◌, false, Bool, List, [], ◌∷◌, drop, Option, None, Some, chars, is_some, option_and_then, ℕ}
-use Rattle.nfa_paths.specs.Common.{Automaton, group_named, is_utf8_empty, Span}
-use Rattle.nfa_compiler.specs.Common.{Match, find, find_all, read, FindsFromAnyStart, IsCompiled, written_span, byte_syntax}
+use Rattle.std.specs.Prelude.{◌≡◌, false, Bool, List, [], ◌∷◌, drop, Option, chars, is_some, option_and_then, ℕ}
+use Rattle.std.specs.Option.{option_map_or}
+use Rattle.nfa_compiler.specs.Common.{Automaton, group_named, is_utf8_empty, Span, Match, find, find_all, read, FindsFromAnyStart, IsCompiled, written_span, byte_syntax}
 
 -- the first match of the pattern in the text
 unfoldable pub first_match : List ℕ → List ℕ → Option Match
@@ -13,14 +13,10 @@ first_match pattern text =
 abbrev pub has_match : List ℕ → List ℕ → Bool
 has_match pattern text = is_some (first_match pattern text)
 
-abbrev pub all_of : Option (List Match) → List Match
-all_of None = []
-all_of (Some matches) = matches
-
 -- all matches of the pattern in the text, from left to right, without overlaps
 unfoldable pub all_matches : List ℕ → List ℕ → List Match
 all_matches pattern text =
-    all_of (option_and_then (λ (found, names). Some (find_all found.value text)) (read byte_syntax (chars pattern)))
+    option_map_or (λ (found, names). find_all found.value text) (read byte_syntax (chars pattern)) []
 
 -- the span of the group with this name in the first match: what the match last wrote for it
 unfoldable pub named_span_in : List ℕ → List ℕ → List ℕ → Option Span

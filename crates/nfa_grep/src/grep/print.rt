@@ -1,12 +1,14 @@
 //! What is printed of a line in which a pattern matches.
-ghost use Rattle.std.specs.Prelude.{◌≡◌, ◌≤◌, ◌<◌, ◌+◌, ◌^◌, ◌++◌, All, IfOk, List, OnOk, false, length, [], None, if◌then◌else◌, map};
+ghost use Rattle.std.specs.Prelude.{◌≡◌, ◌≤◌, ◌<◌, ◌+◌, ◌^◌, ◌++◌, All, IfOk, List, OnOk, false, length, [], None};
+ghost use Rattle.std.specs.Prelude.{if◌then◌else◌, map};
 ghost use Rattle.std.specs.List.{flat_map};
 ghost use Rattle.regex_hir.specs.Re.{Re};
 ghost use Rattle.regex_search_core.specs.Found.{found_of};
 ghost use Rattle.regex_search_core.specs.Search.{whole};
 ghost use Rattle.nfa_engines.specs.Lists.{AreDisjoint, IsInside};
 ghost use Rattle.nfa_grep.specs.Meant.{Mean, all_found, is_found, span_of};
-ghost use Rattle.nfa_grep.specs.Printed.{has_colours, is_selected, mark_of, painted_line, piece, shown, shown_if_selected, shown_matches, shown_whole, text_of};
+ghost use Rattle.nfa_grep.specs.Printed.{has_colours, is_selected, mark_of, painted_line, piece, shown};
+ghost use Rattle.nfa_grep.specs.Printed.{shown_if_selected, shown_matches, shown_whole, text_of};
 ghost use Rattle.text_lines.specs.Lines.{with_end};
 
 use crate::grep::Grep;

@@ -1,6 +1,6 @@
 //! The names of groups in a template.
 ghost use Rattle.std.specs.Prelude.{MatchBool};
-ghost use Rattle.regex_search_core.specs.Patterns.{number_of};
+ghost use Rattle.regex_search_core.specs.PatternSets.{number_of};
 ghost use Rattle.nfa_meta.specs.GroupNames.{IsWord, Means};
 
 use regex_search_core::{GroupInfo, PatternID};

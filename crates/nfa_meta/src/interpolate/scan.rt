@@ -1,7 +1,7 @@
 //! The parts of a template, read from its text.
 ghost use Rattle.std.specs.Prelude.{◌≡◌, ◌↔◌, ◌+◌, ◌<◌, ◌≤◌, true, IfErr, IfOk, length, slice_index};
 ghost use Rattle.std.specs.List.{AllWithin};
-ghost use Rattle.regex_search_core.specs.Patterns.{number_of};
+ghost use Rattle.regex_search_core.specs.PatternSets.{number_of};
 ghost use Rattle.nfa_meta.specs.GroupNames.{IsWord};
 ghost use Rattle.nfa_meta.specs.TemplateTexts.{BeginsName, Has, HasNo, IsBare, IsBraced, IsMistake, IsPart, dollar};
 ghost use Rattle.nfa_meta.specs.TemplateTexts.{open_brace};

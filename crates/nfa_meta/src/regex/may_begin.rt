@@ -1,6 +1,6 @@
 //! The bytes that a match may begin with.
 ghost use Rattle.std.specs.Prelude.{◌≡◌, false, true};
-ghost use Rattle.nfa_engines.specs.Beginnings.{NoMatchBegins};
+ghost use Rattle.nfa_engines.specs.Paths.{NoMatchBegins};
 ghost use Rattle.nfa_engines.specs.FirstBytes.{MayBegin};
 
 use crate::regex::Regex;

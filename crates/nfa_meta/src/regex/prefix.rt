@@ -3,7 +3,7 @@ ghost use Rattle.std.specs.Prelude.{◌≡◌, IfNone, IfSome, None, false, true
 ghost use Rattle.regex_search_core.specs.Search.{search_of};
 ghost use Rattle.regex_search_core.specs.declared.search.MatchKind.{MatchKind};
 ghost use Rattle.nfa_paths.specs.Paths.{IsBoolAnswer, IsHalfAnswer};
-ghost use Rattle.nfa_engines.specs.Accepting.{MatchesNothing};
+ghost use Rattle.nfa_engines.specs.Laws.{MatchesNothing};
 ghost use Rattle.nfa_prefix.specs.Prefixes.{BeginsWith};
 ghost use Rattle.nfa_choice.specs.ChoiceState.{kind_in};
 ghost use Rattle.nfa_meta.specs.Windowed.{IsWindowed};

@@ -5,7 +5,7 @@ ghost use Rattle.regex_search_core.specs.Search.{search_of};
 ghost use Rattle.nfa_paths.specs.Paths.{IsFindAnswer, is_utf8_empty};
 ghost use Rattle.nfa_search_base.specs.Lists.{IsInside};
 ghost use Rattle.nfa_backtrack.specs.Backtrack.{HoldsNoMore};
-ghost use Rattle.nfa_engines.specs.Accepting.{MatchesNothing};
+ghost use Rattle.nfa_engines.specs.Laws.{MatchesNothing};
 ghost use Rattle.nfa_choice.specs.ChoiceState.{KeepsEngines, kind_in};
 ghost use Rattle.nfa_meta.specs.Windowed.{IsWindowed};
 ghost use Rattle.nfa_meta.specs.WindowRuns.{AnswersAs, HasNoMatch, IsWindowOf, RunsByWindow};

@@ -1,7 +1,7 @@
 -- What the three tables say about a name, one after the other, is what the list of all names says.
 use Rattle.std.proofs.Common.{◌++◌, rules}
 use Rattle.nfa_samples.specs.Names.{word_names, empty_names, table_names}
-use Rattle.nfa_samples.proofs.NameLemmas.{first-known, rest-known, rest-none}
+use Rattle.nfa_samples.proofs.StateTableLemmas.{first-known, rest-known, rest-none}
 use Rattle.nfa_samples.proofs.sample.Goals as goal
 
 pub returns-in_err-nfa-clause-known : goal.returns-in_err-nfa-clause-known

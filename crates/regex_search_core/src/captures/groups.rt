@@ -27,7 +27,7 @@ impl Captures {
     /// the span that [`Captures::get_group`] returns for the group.
     ///
     /// There are no items if no pattern is set or if `GroupInfo` does not know the pattern.
-    #[tactic(auto, using(crate::proofs::CapturesLemmas::spans_are_of_groups))]
+    #[tactic(auto, using(crate::proofs::GroupLemmas::spans_are_of_groups))]
     pub fn iter(&self) -> CapturesPatternIter<'_>
         ensures all { spans_left result ≡ group_spans self.now }
         ensures count { length (group_spans self.now) ≡ captured_count self.now }

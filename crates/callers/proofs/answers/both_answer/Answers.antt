@@ -1,6 +1,6 @@
 -- The law, of the two answers.
 use Rattle.std.proofs.Common.{arith, false, option_map, refl}
-use Rattle.nfa_engines.specs.Patterns.{number_of}
+use Rattle.nfa_engines.specs.PatternSets.{number_of}
 use Rattle.nfa_engines.specs.Search.{search_of}
 use Rattle.nfa_engines.specs.MatchKind.TheVariants.{LeftmostFirst}
 use Rattle.nfa_engines.specs.Paths.{IsAnswer}

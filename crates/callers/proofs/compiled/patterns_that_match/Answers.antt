@@ -1,7 +1,7 @@
 -- The law, of this set.
 use Rattle.nfa_engines.specs.Search.{search_of}
 use Rattle.nfa_compiler.specs.Compiled.{res_of}
-use Rattle.callers.proofs.SetKindLemmas.{of_all}
+use Rattle.callers.proofs.KindLemmas.{of_all}
 use Rattle.callers.proofs.compiled.patterns_that_match.Goals as goal
 
 pub returns : goal.returns

@@ -3,7 +3,7 @@ use Rattle.std.proofs.Common.{◌≡◌, take}
 use Rattle.std.specs.List.{AllWithin, count_by}
 use Rattle.nfa_engines.specs.Backtrack.{HoldsNoMore, IsTooLong}
 use Rattle.nfa_engines.specs.Search.{whole}
-use Rattle.callers.specs.Loops.{backtracker_finds}
+use Rattle.callers.specs.Texts.{backtracker_finds}
 use Rattle.callers.proofs.loops.count_by_backtracker.Given as goal
 
 abbrev pub invariant-loop-line : goal.invariant-loop-line

@@ -2,7 +2,7 @@
 use Rattle.std.proofs.Common.{◌≡◌, take}
 use Rattle.std.specs.List.{count_by}
 use Rattle.nfa_engines.specs.Engines.{SameCapacities}
-use Rattle.callers.specs.Loops.{pikevm_finds}
+use Rattle.callers.specs.Texts.{pikevm_finds}
 use Rattle.callers.proofs.loops.count_by_pikevm.Given as goal
 
 abbrev pub invariant-loop-line : goal.invariant-loop-line

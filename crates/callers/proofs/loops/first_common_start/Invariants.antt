@@ -1,7 +1,7 @@
 -- No offset so far is a start of both, and both caches are as they were.
 use Rattle.nfa_engines.specs.Backtrack.{HoldsNoMore}
 use Rattle.nfa_engines.specs.Engines.{SameCapacities}
-use Rattle.callers.specs.Loops.{NoCommonStartBefore}
+use Rattle.callers.specs.Texts.{NoCommonStartBefore}
 use Rattle.callers.proofs.loops.first_common_start.Given as goal
 
 abbrev pub invariant-loop-at : goal.invariant-loop-at

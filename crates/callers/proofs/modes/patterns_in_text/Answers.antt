@@ -1,7 +1,7 @@
 -- The laws, of this set.
 use Rattle.nfa_engines.specs.Search.{search_of}
 use Rattle.nfa_compiler.specs.Compiled.{res_of}
-use Rattle.callers.proofs.SetKindLemmas.{of_all}
+use Rattle.callers.proofs.KindLemmas.{of_all}
 use Rattle.callers.proofs.modes.patterns_in_text.Goals as goal
 
 pub returns-clause-only : goal.returns-clause-only

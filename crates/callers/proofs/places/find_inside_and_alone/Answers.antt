@@ -3,7 +3,7 @@ use Rattle.std.proofs.Common.{◌∙◌, ◌-◌, option_map, take, drop, ap}
 use Rattle.nfa_engines.specs.Found.{found_of}
 use Rattle.nfa_engines.specs.Search.{Search, whole}
 use Rattle.nfa_engines.specs.Engines.{kind_of}
-use Rattle.callers.specs.Written.{line_of}
+use Rattle.callers.specs.Texts.{line_of}
 use Rattle.callers.proofs.PathStateLemmas.{match_of_search, of_cut}
 use Rattle.callers.proofs.places.find_inside_and_alone.Goals as goal
 

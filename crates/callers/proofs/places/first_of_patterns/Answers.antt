@@ -1,6 +1,6 @@
 -- The law, of this answer.
 use Rattle.std.proofs.Common.{Some, refl}
-use Rattle.nfa_engines.specs.Patterns.{number_of}
+use Rattle.nfa_engines.specs.PatternSets.{number_of}
 use Rattle.nfa_engines.specs.Search.{search_of}
 use Rattle.nfa_engines.specs.Anchored.TheVariants.{Yes}
 use Rattle.nfa_engines.specs.Paths.{IsAnswer}

@@ -1,6 +1,6 @@
 -- The law, of this answer.
 use Rattle.std.proofs.Common.{◌∙◌, Some, ap}
-use Rattle.nfa_engines.specs.Patterns.{number_of}
+use Rattle.nfa_engines.specs.PatternSets.{number_of}
 use Rattle.nfa_engines.specs.Search.{Search, search_of}
 use Rattle.nfa_engines.specs.Paths.{IsAnswer}
 use Rattle.callers.proofs.KindLemmas.{as_leftmost}

@@ -3,7 +3,7 @@ use Rattle.std.proofs.Common.{false, option_map}
 use Rattle.nfa_engines.specs.Found.{found_of}
 use Rattle.nfa_engines.specs.Engines.{kind_of}
 use Rattle.nfa_engines.specs.SpanLaws.{moved_match, IsOfWholeLines}
-use Rattle.callers.specs.Written.{line_of}
+use Rattle.callers.specs.Texts.{line_of}
 use Rattle.callers.proofs.places.whole_line_in_text.Goals as goal
 
 pub returns : goal.returns

@@ -3,7 +3,7 @@ use Rattle.std.proofs.Common.{Bool, List, subst}
 use Rattle.nfa_engines.specs.Search.{search_of}
 use Rattle.nfa_engines.specs.Engines.{kind_of}
 use Rattle.nfa_engines.specs.Overlaps.{IsOverlapResult}
-use Rattle.callers.proofs.SetKindLemmas.{of_either}
+use Rattle.callers.proofs.KindLemmas.{of_either}
 use Rattle.callers.proofs.sets.sets_are_one.Goals as goal
 
 pub returns : goal.returns

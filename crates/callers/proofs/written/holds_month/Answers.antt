@@ -3,7 +3,7 @@ use Rattle.std.proofs.Common.{◌≡◌, ◌+◌, Some, arith, refl, subst, slic
 use Rattle.std.proofs.lemmas.Option.{slice_get_within}
 use Rattle.std.specs.Char.{is_ascii_digit}
 use Rattle.nfa_compiler.proofs.Literals.{byte-match, class-match}
-use Rattle.callers.specs.Written.{HasDigits, HoldsMonth}
+use Rattle.callers.specs.Texts.{HasDigits, HoldsMonth}
 use Rattle.callers.proofs.DigitLemmas.{digits, is-digit, month, month-read}
 use Rattle.callers.proofs.written.holds_month.Goals as goal
 

@@ -1,7 +1,7 @@
 -- the rule is that of the error
 use Rattle.std.proofs.Common.{ap}
 use Rattle.regex_syntax.specs.declared.Span.{Span}
-use Rattle.lexer.proofs.RuleErrorLemmas.{syntax-mistake}
+use Rattle.lexer.proofs.RuleLemmas.{syntax-mistake}
 use Rattle.lexer.proofs.rules.syntax_error.Goals as goal
 
 pub returns : goal.returns

@@ -1,5 +1,5 @@
 -- the rule is that of the pattern
-use Rattle.lexer.proofs.RuleErrorLemmas.{too-large}
+use Rattle.lexer.proofs.RuleLemmas.{too-large}
 use Rattle.lexer.proofs.rules.too_large.Goals as goal
 
 pub returns : goal.returns

@@ -1,6 +1,5 @@
 -- The run goes on by a line, and ends if nothing is left to read.
-use Rattle.std.proofs.Common.{rules, ◌++◌, [], ◌∷◌, append-nil, append_assoc, flat_map, refl}
-use Rattle.std.proofs.lemmas.Grind.{flat_map-append}
+use Rattle.nfa_paths.proofs.Common.{rules, ◌++◌, [], ◌∷◌, append-nil, append_assoc, flat_map, refl, flat_map-append}
 use Rattle.log_extractor.specs.Counts.{value_in}
 use Rattle.log_extractor.proofs.GoingLemmas.{taken-all, taken-more, taken-none}
 use Rattle.log_extractor.proofs.count.count_lines.Goals as goal

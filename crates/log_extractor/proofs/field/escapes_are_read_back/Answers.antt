@@ -1,5 +1,5 @@
 -- By the lemmas on escapes.
-use Rattle.log_extractor.proofs.EscapeLemmas.{escaped-clean, unescaped-escaped}
+use Rattle.log_extractor.proofs.RowLemmas.{escaped-clean, unescaped-escaped}
 use Rattle.log_extractor.proofs.field.escapes_are_read_back.Goals as goal
 
 pub returns-clause-separators : goal.returns-clause-separators

@@ -1,6 +1,5 @@
 -- The column has the name, or another one, or none is left.
-use Rattle.std.proofs.Common.{◌≡◌, ◌∙◌, false, string_bytes, sym, true}
-use Rattle.std.specs.Str.{bytes_eq}
+use Rattle.nfa_paths.proofs.Common.{◌≡◌, ◌∙◌, false, string_bytes, sym, true, bytes_eq}
 use Rattle.log_extractor.specs.Fields.{fields_now}
 use Rattle.log_extractor.proofs.SeveralLemmas.{field-from}
 use Rattle.log_extractor.proofs.names.field_named.Goals as goal

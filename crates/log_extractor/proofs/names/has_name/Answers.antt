@@ -1,7 +1,5 @@
 -- The name is found.
-use Rattle.nfa_paths.proofs.Common.{◌∙◌, arith, map, string_bytes, sym, get_or-map, length-map}
-use Rattle.std.specs.Str.{bytes_eq}
-use Rattle.std.proofs.lemmas.List.Folds.{list_any_at}
+use Rattle.nfa_paths.proofs.Common.{bytes_eq, list_any_at, ◌∙◌, arith, map, string_bytes, sym, get_or-map, length-map}
 use Rattle.log_extractor.proofs.names.has_name.Goals as goal
 
 pub returns-then-is_name : goal.returns-then-is_name

@@ -1,6 +1,5 @@
 -- The first names are others.
-use Rattle.nfa_paths.proofs.Common.{◌≡◌, false, List, ℕ, map, take, string_bytes, list_any}
-use Rattle.std.specs.Str.{bytes_eq}
+use Rattle.nfa_paths.proofs.Common.{bytes_eq, ◌≡◌, false, List, ℕ, map, take, string_bytes, list_any}
 use Rattle.log_extractor.proofs.names.has_name.Given as goal
 
 abbrev pub invariant-loop-other : goal.invariant-loop-other

@@ -1,8 +1,7 @@
 -- One more member was appended, and at last all.
-use Rattle.std.proofs.Common.{rules, ◌≡◌, append-nil, append_assoc, inl, inr, refl, sym}
 use Rattle.std.specs.Iterator.Adapters.{zip_first, zip_second}
 use Rattle.std.specs.Slice.Iter.{iter_rest}
-use Rattle.std.proofs.lemmas.Slice.Zip.{Zip-more, either_empty_from_Zip}
+use Rattle.nfa_paths.proofs.Common.{rules, ◌≡◌, append-nil, append_assoc, inl, inr, refl, sym, Zip-more, either_empty_from_Zip}
 use Rattle.log_extractor.proofs.RowLemmas.{members_none}
 use Rattle.log_extractor.proofs.object.append_more_members.Goals as goal
 

@@ -1,6 +1,6 @@
 -- The names of the tree are those that the grammar reads.
 use Rattle.std.proofs.Common.{◌∙◌}
-use Rattle.log_extractor.proofs.NameLemmas.{columns-read}
+use Rattle.log_extractor.proofs.FieldLemmas.{columns-read}
 use Rattle.log_extractor.proofs.pattern.columns.Goals as goal
 
 pub returns-in_ok-named_columns-in-Ok-clause-read : goal.returns-in_ok-named_columns-in-Ok-clause-read

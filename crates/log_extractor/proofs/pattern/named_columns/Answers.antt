@@ -1,6 +1,6 @@
 -- One more name was read.
 use Rattle.nfa_paths.proofs.Common.{arith, length-take, take, take_more}
-use Rattle.log_extractor.proofs.NameLemmas.{named-more}
+use Rattle.log_extractor.proofs.FieldLemmas.{named-more}
 use Rattle.log_extractor.proofs.pattern.named_columns.Goals as goal
 
 pub loop-group-preserved : goal.loop-group-preserved

@@ -1,9 +1,5 @@
 -- The run goes on by a line, and ends if nothing is left to read.
-use Rattle.std.proofs.Common.{rules, ◌≡◌, ◌||◌, ap, [], ◌∷◌, append-nil, is_some}
-use Rattle.std.proofs.Math.Bool.{or-false}
-use Rattle.std.proofs.KnownBytes.{Appends-trans}
-use Rattle.std.proofs.lemmas.Grind.{flat_map-append}
-use Rattle.std.proofs.lemmas.List.Folds.{list_any-append}
+use Rattle.nfa_paths.proofs.Common.{rules, ◌≡◌, ◌||◌, ap, [], ◌∷◌, append-nil, is_some, or-false, Appends-trans, flat_map-append, list_any-append}
 use Rattle.text_lines.specs.Lines.{content}
 use Rattle.log_extractor.specs.Several.{row_by_first}
 use Rattle.log_extractor.specs.Printed.{shown_line}

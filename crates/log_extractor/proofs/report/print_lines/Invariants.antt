@@ -1,6 +1,5 @@
 -- The lines so far were printed, and it is known whether one has a row.
-use Rattle.std.proofs.Common.{◌≡◌, List, flat_map}
-use Rattle.std.specs.Io.KnownBytes.{Appends}
+use Rattle.nfa_paths.proofs.Common.{◌≡◌, List, flat_map, Appends}
 use Rattle.log_extractor.specs.Several.{AreLinePatterns, LabelledPattern}
 use Rattle.log_extractor.specs.Printed.{has_row, shown_line}
 use Rattle.log_extractor.proofs.GoingLemmas.{Taken}

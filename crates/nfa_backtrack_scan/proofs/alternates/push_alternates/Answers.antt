@@ -2,7 +2,7 @@
 use Rattle.std.proofs.Common.{◌≡◌, ◌<◌, ℕ, suc, List, [], ◌∷◌, length, drop, drop-cons, get_or, arith, refl}
 use Rattle.nfa_backtrack_scan.proofs.AlternateLemmas.{PushesLive-none}
 use Rattle.nfa_backtrack_scan.proofs.alternates.push_alternates.Goals as goal
-use Rattle.nfa_scan_core.proofs.AlternateLemmas.{drop-low}
+use Rattle.nfa_scan_core.proofs.TargetLemmas.{drop-low}
 
 -- all are left
 drop-length : (xs : List ℕ) → drop (length xs) xs ≡ []

@@ -2,9 +2,8 @@
 use Rattle.nfa_paths.proofs.Common.{◌≡◌, ◌∙◌, ◌+◌, ◌-◌, ◌<◌, ◌≤◌, length, replicate, map, arith, sym, ap, refl, None, search_of, pairs_from, Explore}
 use Rattle.nfa_paths.proofs.StartLemmas.{pairs_from-step, pairs_from-end}
 use Rattle.nfa_backtrack_scan.specs.Walk.{walk_of}
-use Rattle.nfa_backtrack_scan.proofs.PassLemmas.{Carries-first, Carries-pass}
+use Rattle.nfa_backtrack_scan.proofs.PassLemmas.{Carries-first, Carries-pass, starts-none, starts-some}
 use Rattle.nfa_backtrack_scan.proofs.WalkLemmas.{Carries-then, Carries-ends, Ends-none, EndsAt-along}
-use Rattle.nfa_backtrack_scan.proofs.ScanLemmas.{starts-none, starts-some}
 use Rattle.nfa_backtrack_scan.proofs.scan.try_starts.Goals as goal
 
 pub returns-in-Some-2-clause-answer : goal.returns-in-Some-2-clause-answer

@@ -1,6 +1,5 @@
 -- The state of a number is the one that the NFA has there, and it leads to states of the NFA.
-use Rattle.nfa_paths.proofs.Common.{◌<◌, length, map, arith, All, LeadsBelow, node_of}
-use Rattle.thompson_nfa.proofs.Tested.{passes-at}
+use Rattle.nfa_paths.proofs.Common.{passes-at, ◌<◌, length, map, arith, All, LeadsBelow, node_of}
 use Rattle.nfa_backtrack_scan.proofs.StepLemmas.{same_size}
 use Rattle.nfa_backtrack_scan.proofs.turn.state_at.Goals as goal
 

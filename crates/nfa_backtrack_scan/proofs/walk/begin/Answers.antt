@@ -1,5 +1,5 @@
 -- The first turn of a walk: it goes on from the place that it leads to, or fails if its place was marked.
-use Rattle.nfa_backtrack_scan.proofs.BeginLemmas.{StartFails-marked, BeginsAt-write, BeginsAt-unkept, BeginsAt-none}
+use Rattle.nfa_backtrack_scan.proofs.PassLemmas.{StartFails-marked, BeginsAt-write, BeginsAt-unkept, BeginsAt-none}
 use Rattle.nfa_backtrack_scan.proofs.walk.begin.Goals as goal
 use Rattle.nfa_backtrack_scan.proofs.walk.begin.Goals.{then-slot-slots, else-slot-slots}
 

@@ -1,6 +1,6 @@
 -- Where a turn leads, for each kind of state; its mark pays for what it pushes.
 use Rattle.nfa_paths.proofs.Common.{◌<◌, ◌∙◌, length, drop, arith, refl, sym, search_of, ByteRange, Sparse, Dense}
-use Rattle.nfa_scan_core.proofs.AlternateLemmas.{first-drop}
+use Rattle.nfa_scan_core.proofs.TargetLemmas.{first-drop}
 use Rattle.nfa_backtrack_scan.specs.Walk.{walk_of, PushesLive}
 use Rattle.nfa_backtrack_scan.proofs.StepLemmas.{beside, Goes-leads, Goes-match, TurnsLead-fail, TurnsLead-look, TurnsLead-marked, TurnsLead-no_look, TurnsLead-no_union, TurnsLead-then, TurnsLead-union, TurnsLead-unkept, TurnsLead-write, refused-turn, refused-then}
 use Rattle.nfa_backtrack_scan.proofs.AlternateLemmas.{TurnsLead-live}

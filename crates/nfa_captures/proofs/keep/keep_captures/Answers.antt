@@ -1,8 +1,7 @@
 -- What was made is the NFA with fewer captures, in which there is no flaw.
-use Rattle.nfa_paths.proofs.Common.{◌≡◌, ◌∙◌, ℕ, List, [], ◌∷◌, Option, ap, map, refl, subst, sym, slot_count, Automaton, IsAutomaton, node_of, State}
+use Rattle.nfa_paths.proofs.Common.{no-flaw, ◌≡◌, ◌∙◌, ℕ, List, [], ◌∷◌, Option, ap, map, refl, subst, sym, slot_count, Automaton, IsAutomaton, node_of, State}
 use Rattle.nfa_captures.specs.Kept.{kept_groups, kept_node, with_captures}
-use Rattle.thompson_nfa.proofs.FlawLemmas.{no-flaw}
-use Rattle.nfa_captures.proofs.ValidLemmas.{captures-valid}
+use Rattle.nfa_captures.proofs.KeptLemmas.{captures-valid}
 use Rattle.nfa_captures.proofs.keep.keep_captures.Goals as goal
 
 -- the parts of an NFA

@@ -1,5 +1,5 @@
 -- Each slot that a state writes is one of the groups.
-use Rattle.nfa_captures.proofs.ValidLemmas.{all-kept}
+use Rattle.nfa_captures.proofs.KeptLemmas.{all-kept}
 use Rattle.nfa_captures.proofs.laws.all_captures_are_kept.Goals as goal
 
 pub returns : goal.returns

@@ -2,7 +2,7 @@
 use Rattle.nfa_paths.proofs.Common.{◌≤◌, length, subst, slot_count, IsAnswer}
 use Rattle.nfa_captures.specs.Kept.{kept_groups, with_captures}
 use Rattle.nfa_captures.proofs.KeptLemmas.{row-kept, same-ways}
-use Rattle.nfa_captures.proofs.WaysLemmas.{slots-answer}
+use Rattle.nfa_captures.proofs.SetLemmas.{slots-answer}
 use Rattle.nfa_captures.proofs.laws.kept_slots_are_the_same.Goals as goal
 
 pub returns : goal.returns

@@ -3,7 +3,7 @@ use Rattle.nfa_paths.proofs.Common.{subst, IsFindAnswer}
 use Rattle.nfa_captures.specs.Kept.{kept_groups, with_captures}
 use Rattle.nfa_captures.specs.declared.which.WhichCaptures.TheVariants as which
 use Rattle.nfa_captures.proofs.KeptLemmas.{match-kept, same-ways}
-use Rattle.nfa_captures.proofs.WaysLemmas.{find-answer}
+use Rattle.nfa_captures.proofs.SetLemmas.{find-answer}
 use Rattle.nfa_captures.proofs.laws.matches_need_group_0.Goals as goal
 
 pub returns : goal.returns

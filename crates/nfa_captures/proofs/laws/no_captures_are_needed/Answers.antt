@@ -2,8 +2,7 @@
 use Rattle.nfa_paths.proofs.Common.{subst, IsOverlapResult, IsBoolAnswer, IsHalfAnswer}
 use Rattle.nfa_captures.specs.Kept.{kept_groups, with_captures}
 use Rattle.nfa_captures.proofs.KeptLemmas.{same-ways}
-use Rattle.nfa_captures.proofs.SetLemmas.{set-same}
-use Rattle.nfa_captures.proofs.WaysLemmas.{half-answer, bool-answer}
+use Rattle.nfa_captures.proofs.SetLemmas.{set-same, half-answer, bool-answer}
 use Rattle.nfa_captures.proofs.laws.no_captures_are_needed.Goals as goal
 
 pub returns-clause-found : goal.returns-clause-found

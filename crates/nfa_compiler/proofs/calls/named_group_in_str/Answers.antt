@@ -1,5 +1,5 @@
 -- The captures are those of the hit, in the `str`, of the pattern that is read.
-use Rattle.nfa_compiler.proofs.AnswerLemmas.{answer-is}
+use Rattle.nfa_compiler.proofs.SearchLemmas.{answer-is}
 use Rattle.nfa_compiler.proofs.CallLemmas.{call-answered-in-str, call-name}
 use Rattle.nfa_compiler.proofs.calls.named_group_in_str.Goals as goal
 

@@ -1,6 +1,6 @@
 -- The captures are those of the hit of the pattern that is read in the text.
 use Rattle.std.proofs.Common.{arith}
-use Rattle.nfa_compiler.proofs.AnswerLemmas.{answer-is}
+use Rattle.nfa_compiler.proofs.SearchLemmas.{answer-is}
 use Rattle.nfa_compiler.proofs.CallLemmas.{bytes-of, call-answered, call-name}
 use Rattle.nfa_compiler.proofs.calls.named_group_of_text.Goals as goal
 

@@ -1,6 +1,5 @@
 -- a match of one pattern more has a byte
-use Rattle.nfa_paths.proofs.Common.{arith, subst, All, take_all}
-use Rattle.thompson_nfa.proofs.Tested.{all-take-suc}
+use Rattle.nfa_paths.proofs.Common.{all-take-suc, arith, subst, All, take_all}
 use Rattle.nfa_compiler.specs.Common.{AlwaysReads}
 use Rattle.nfa_compiler.proofs.compiler.may_one_be_empty.Goals as goal
 

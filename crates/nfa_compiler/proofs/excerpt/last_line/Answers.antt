@@ -1,7 +1,6 @@
 -- what `rsplit_once` says of a line feed
-use Rattle.nfa_paths.proofs.Common.{◌≡◌, ◌∙◌, ◌≢◌, ℕ, ◌+◌, ◌-◌, ◌<◌, ◌≤◌, ◌==◌, List, ap, arith, drop, eq-eqb, get_or, length, length-drop, ne_eqb, not, suffix_len, get_or-drop, suffix_len_is}
-use Rattle.std.proofs.lemmas.Str.{len_utf8_ascii}
 use Rattle.std.proofs.lemmas.Str.Pattern.{NoCharPasses-char, drop_at_char}
+use Rattle.nfa_paths.proofs.Common.{len_utf8_ascii, ◌≡◌, ◌∙◌, ◌≢◌, ℕ, ◌+◌, ◌-◌, ◌<◌, ◌≤◌, ◌==◌, List, ap, arith, drop, eq-eqb, get_or, length, length-drop, ne_eqb, not, suffix_len, get_or-drop, suffix_len_is}
 use Rattle.nfa_compiler.specs.Common.{last_line}
 use Rattle.nfa_compiler.proofs.excerpt.last_line.Goals as goal
 

@@ -1,8 +1,7 @@
 -- The trees have the names that are read, and the groups of the NFA are theirs. A hit is one of the patterns.
-use Rattle.nfa_paths.proofs.Common.{◌∙◌, ap, arith, length, length-map}
-use Rattle.std.proofs.lemmas.Slice.Zip.{AllZip-long}
+use Rattle.nfa_paths.proofs.Common.{AllZip-long, ◌∙◌, ap, arith, length, length-map}
 use Rattle.nfa_compiler.specs.Common.{IsTreeOf, explicit_names}
-use Rattle.nfa_compiler.proofs.GroupLemmas.{group-written, name-written, groups-named}
+use Rattle.nfa_compiler.proofs.CallLemmas.{group-written, name-written, groups-named}
 use Rattle.nfa_compiler.proofs.EachLemmas.{boundary-pattern, hit-pattern, str-pattern}
 use Rattle.nfa_compiler.proofs.laws.groups_are_those_of_texts.Goals as goal
 

@@ -1,5 +1,5 @@
 -- The search's answer is the first path of its last scan, which is the path of the hit.
-use Rattle.nfa_compiler.proofs.AnswerLemmas.{answer-is, found-is, match-is}
+use Rattle.nfa_compiler.proofs.SearchLemmas.{answer-is, found-is, match-is}
 use Rattle.nfa_compiler.proofs.BoundarySearchLemmas.{boundary-answered}
 use Rattle.nfa_compiler.proofs.laws.searches_find_boundary_hits.Goals as goal
 

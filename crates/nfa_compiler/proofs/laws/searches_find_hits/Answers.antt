@@ -1,6 +1,5 @@
 -- The search's answer is the first path, which is that of the hit.
-use Rattle.nfa_compiler.proofs.AnswerLemmas.{answer-is, found-is, match-is}
-use Rattle.nfa_compiler.proofs.SearchLemmas.{hit-answered}
+use Rattle.nfa_compiler.proofs.SearchLemmas.{answer-is, found-is, match-is, hit-answered}
 use Rattle.nfa_compiler.proofs.laws.searches_find_hits.Goals as goal
 
 pub returns-clause-answers : goal.returns-clause-answers

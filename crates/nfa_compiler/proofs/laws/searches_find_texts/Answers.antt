@@ -1,5 +1,5 @@
 -- The trees and what the grammar reads have hits that a caller cannot tell apart.
-use Rattle.nfa_compiler.proofs.AnswerLemmas.{answer-is, match-is}
+use Rattle.nfa_compiler.proofs.SearchLemmas.{answer-is, match-is}
 use Rattle.nfa_compiler.proofs.AllSearchLemmas.{text-answered}
 use Rattle.nfa_compiler.proofs.laws.searches_find_texts.Goals as goal
 

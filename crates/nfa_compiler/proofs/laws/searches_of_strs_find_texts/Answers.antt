@@ -1,5 +1,5 @@
 -- What is found ends on a boundary, so it starts on one.
-use Rattle.nfa_compiler.proofs.AnswerLemmas.{answer-is, match-is}
+use Rattle.nfa_compiler.proofs.SearchLemmas.{answer-is, match-is}
 use Rattle.nfa_compiler.proofs.StrLemmas.{str-answered}
 use Rattle.nfa_compiler.proofs.laws.searches_of_strs_find_texts.Goals as goal
 

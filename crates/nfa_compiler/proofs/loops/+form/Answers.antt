@@ -1,9 +1,9 @@
 -- the form of a tree, by the forms of its parts
-use Rattle.nfa_paths.proofs.Common.{map, length, refl, ap, sym, ◌∙◌, arith, drop_of_length-le}
-use Rattle.nfa_compiler.specs.Common.{alt_all, cat_all, meaning, form_either, form_of, form_repeated, form_then}
 use Rattle.regex_hir.proofs.MeaningLemmas.{meaning-Repetition}
-use Rattle.nfa_compiler.proofs.LoopLemmas.{drop-back, form-repeat}
+use Rattle.nfa_paths.proofs.Common.{map, length, refl, ap, sym, ◌∙◌, arith, drop_of_length-le}
+use Rattle.nfa_compiler.proofs.UnboundLemmas.{drop-back, form-repeat}
 use Rattle.nfa_compiler.proofs.loops.+form.Goals as goal
+use Rattle.nfa_compiler.specs.Common.{alt_all, cat_all, meaning, form_either, form_of, form_repeated, form_then}
 
 pub form_of-returns-in-Repetition : goal.form_of-returns-in-Repetition
 form_of-returns-in-Repetition t c =

@@ -2,7 +2,7 @@
 use Rattle.nfa_paths.proofs.Common.{Bool, List, length, refl, ap, sym, ◌∙◌, arith, drop_of_length-le, ◌&&◌}
 use Rattle.nfa_compiler.specs.Common.{meaning, Parsed, res_of, all_begin_at_start, begins_at_start}
 use Rattle.nfa_compiler.specs.declared.loops.Form.{Form}
-use Rattle.nfa_compiler.proofs.LoopLemmas.{drop-back}
+use Rattle.nfa_compiler.proofs.UnboundLemmas.{drop-back}
 use Rattle.nfa_compiler.proofs.loops.all_begin_at_start.Goals as goal
 
 pub loop-index-init : goal.loop-index-init

@@ -1,7 +1,6 @@
 -- A match that does not count moves the start on.
 use Rattle.nfa_paths.proofs.Common.{rules, ◌≡◌, ◌≤◌, ◌∙◌, ◌+◌, Bool, ap, arith, option_map, half_found_of, Search, search_of}
-use Rattle.nfa_determinize.specs.Configurations.{scan_half}
-use Rattle.nfa_determinize.specs.Searches.{FindsSplit}
+use Rattle.nfa_determinize.specs.Configurations.{scan_half, FindsSplit}
 use Rattle.nfa_determinize.proofs.ScanHalfLemmas.{Skipping-begin, Skipping-end, Skipping-more, split-inside, split-of}
 use Rattle.nfa_determinize.proofs.scan.find_whole_half.Goals as goal
 

@@ -1,8 +1,7 @@
 -- Two answers to one search are equal, whatever the caches did before.
-use Rattle.nfa_paths.proofs.KnownLemmas.{match-unique}
+use Rattle.nfa_paths.proofs.EarliestLemmas.{match-unique}
 use Rattle.nfa_engines.proofs.FirstSetLemmas.{first_set-unique}
-use Rattle.nfa_engines.proofs.LawLemmas.{same-slots}
-use Rattle.nfa_engines.proofs.OneLemmas.{found-unique, set-unique}
+use Rattle.nfa_engines.proofs.MatchLemmas.{same-slots, found-unique, set-unique}
 use Rattle.nfa_engines.proofs.laws.cache_history_is_invisible.Goals as goal
 
 pub returns : goal.returns

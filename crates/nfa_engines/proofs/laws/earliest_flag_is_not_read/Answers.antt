@@ -1,6 +1,6 @@
 -- What is said with an `earliest` of its own holds of each search under any flag.
-use Rattle.nfa_paths.proofs.EarliestLemmas.{same-asked}
 use Rattle.nfa_paths.proofs.SameScanLemmas.{answer-same, found-same, match-same, search-same}
+use Rattle.nfa_paths.proofs.EarliestLemmas.{same-asked}
 use Rattle.nfa_engines.proofs.FlagLemmas.{matches-asked, reads-no-flag, rows-asked}
 use Rattle.nfa_paths.proofs.FlagSetLemmas.{set-asked}
 use Rattle.nfa_engines.proofs.laws.earliest_flag_is_not_read.Goals as goal

@@ -1,7 +1,7 @@
 -- If the capacity is large enough for the span, no search is refused for its length.
 use Rattle.nfa_paths.proofs.Common.{arith, length, unwrap_or, ◌*◌, ◌+◌, span_len}
 use Rattle.nfa_backtrack.specs.Backtrack.{capacity_of, default_capacity}
-use Rattle.nfa_engines.proofs.CapacityLemmas.{bits-reach, longest-fits, longer-exceeds}
+use Rattle.nfa_engines.proofs.IterationLemmas.{bits-reach, longest-fits, longer-exceeds}
 use Rattle.nfa_engines.proofs.laws.enough_capacity.Goals as goal
 
 pub returns : goal.returns

@@ -1,6 +1,5 @@
 -- The first pattern that has an answer gives that of the search.
-use Rattle.nfa_engines.proofs.PatternAnswerLemmas.{answers-pattern, pattern-answers, pattern-nothing}
-use Rattle.nfa_engines.proofs.PatternMatchLemmas.{match-pattern, pattern-match}
+use Rattle.nfa_engines.proofs.PatternAnswerLemmas.{answers-pattern, pattern-answers, pattern-nothing, match-pattern, pattern-match}
 use Rattle.nfa_engines.proofs.laws.first_pattern_answers.Goals as goal
 
 pub returns : goal.returns

@@ -1,5 +1,5 @@
 -- The pattern of an answer, and of a match, is the first that matches.
-use Rattle.nfa_engines.proofs.PatternMatchLemmas.{answer-first, match-first-pattern}
+use Rattle.nfa_engines.proofs.PatternAnswerLemmas.{answer-first, match-first-pattern}
 use Rattle.nfa_engines.proofs.laws.first_pattern_is_found.Goals as goal
 
 pub returns : goal.returns

@@ -1,6 +1,5 @@
 -- The answer is that of the first start that has one.
-use Rattle.nfa_engines.proofs.AnywhereLemmas.{answer-first, match-anywhere, match-first}
-use Rattle.nfa_engines.proofs.StartAnswerLemmas.{answer-start}
+use Rattle.nfa_engines.proofs.StartAnswerLemmas.{answer-first, match-anywhere, match-first, answer-start}
 use Rattle.nfa_engines.proofs.laws.first_start_answers.Goals as goal
 
 pub returns : goal.returns

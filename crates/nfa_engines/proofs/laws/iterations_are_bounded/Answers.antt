@@ -1,7 +1,6 @@
 -- The totals of a cache rise by at most 2n + 3 scans, wherever an iteration stops.
 use Rattle.nfa_paths.proofs.Common.{None}
-use Rattle.nfa_engines.proofs.EngineWorkLemmas.{calls-add}
-use Rattle.nfa_engines.proofs.ListWorkLemmas.{back_filled, back_found, pike_filled, pike_found}
+use Rattle.nfa_engines.proofs.EngineWorkLemmas.{calls-add, back_filled, back_found, pike_filled, pike_found}
 use Rattle.nfa_engines.proofs.laws.iterations_are_bounded.Goals as goal
 
 pub returns : goal.returns

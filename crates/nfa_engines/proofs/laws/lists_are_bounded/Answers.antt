@@ -1,7 +1,6 @@
 -- The totals of a cache rise by at most the scans and turns of a whole list.
 use Rattle.nfa_paths.proofs.Common.{None}
-use Rattle.nfa_engines.proofs.EngineWorkLemmas.{list-adds}
-use Rattle.nfa_engines.proofs.ListWorkLemmas.{back_filled, back_found, pike_filled, pike_found}
+use Rattle.nfa_engines.proofs.EngineWorkLemmas.{list-adds, back_filled, back_found, pike_filled, pike_found}
 use Rattle.nfa_engines.proofs.laws.lists_are_bounded.Goals as goal
 
 pub returns : goal.returns

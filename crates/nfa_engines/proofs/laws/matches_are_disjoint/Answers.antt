@@ -1,6 +1,6 @@
 -- The matches of an input are in order and apart, and are at most n + 1.
 use Rattle.nfa_search_base.proofs.ListLemmas.{matches-disjoint}
-use Rattle.nfa_engines.proofs.ListOfMatchesLemmas.{few-disjoint}
+use Rattle.nfa_engines.proofs.IterationLemmas.{few-disjoint}
 use Rattle.nfa_engines.proofs.laws.matches_are_disjoint.Goals as goal
 
 pub returns : goal.returns

@@ -1,7 +1,7 @@
 -- There is one match, one found answer, and one set that a set becomes.
-use Rattle.nfa_paths.proofs.KnownLemmas.{match-unique}
+use Rattle.nfa_paths.proofs.EarliestLemmas.{match-unique}
 use Rattle.nfa_engines.proofs.FirstSetLemmas.{first_set-unique}
-use Rattle.nfa_engines.proofs.OneLemmas.{found-unique, set-unique}
+use Rattle.nfa_engines.proofs.MatchLemmas.{found-unique, set-unique}
 use Rattle.nfa_engines.proofs.laws.one_match.Goals as goal
 
 pub returns : goal.returns

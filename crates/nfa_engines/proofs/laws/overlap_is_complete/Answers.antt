@@ -1,5 +1,5 @@
 -- Under all kinds a set gains each pattern that matches and for which it has room.
-use Rattle.nfa_engines.proofs.OneLemmas.{set-complete}
+use Rattle.nfa_engines.proofs.MatchLemmas.{set-complete}
 use Rattle.nfa_engines.proofs.laws.overlap_is_complete.Goals as goal
 
 pub returns : goal.returns

@@ -1,6 +1,6 @@
 -- A search that is anchored to a pattern is the search of only this pattern.
 use Rattle.nfa_paths.proofs.SameScanLemmas.{answer-same, match-same}
-use Rattle.nfa_engines.proofs.AloneLemmas.{same-alone, same-bound}
+use Rattle.nfa_engines.proofs.PatternAnswerLemmas.{same-alone, same-bound}
 use Rattle.nfa_engines.proofs.laws.pattern_is_alone.Goals as goal
 
 pub returns : goal.returns

@@ -1,9 +1,6 @@
 -- All texts were appended.
-use Rattle.nfa_paths.proofs.Common.{◌≡◌, ◌∙◌, ◌++◌, ap, map, sym, flat_map}
-use Rattle.std.specs.Vec.{vec_items}
 use Rattle.std.specs.VecDeque.Iter.{deque_iter_rest}
-use Rattle.std.proofs.lemmas.Iterator.Consumers.{YieldsList-end, YieldsList-from_deque}
-use Rattle.std.proofs.lemmas.List.Folds.{flat_map-map}
+use Rattle.nfa_paths.proofs.Common.{vec_items, YieldsList-end, YieldsList-from_deque, flat_map-map, ◌≡◌, ◌∙◌, ◌++◌, ap, map, sym, flat_map}
 use Rattle.nfa_grep.proofs.groups.append_all.Goals as goal
 
 pub returns : goal.returns

@@ -2,7 +2,7 @@
 use Rattle.std.proofs.Common.{length, rules}
 use Rattle.nfa_compiler.specs.Compiled.{res_of}
 use Rattle.nfa_grep.specs.Meant.{IsOfTrees}
-use Rattle.nfa_grep.proofs.RefusalLemmas.{refusal}
+use Rattle.nfa_grep.proofs.PatternLemmas.{refusal}
 use Rattle.nfa_grep.proofs.joined.separate.Goals as goal
 
 pub returns-in-Err-clause-refused : goal.returns-in-Err-clause-refused

@@ -1,5 +1,5 @@
 -- The parts are in order, and escape sequences are around them.
-use Rattle.nfa_grep.proofs.UncolouredLemmas.{colours-left-out, parts-are}
+use Rattle.nfa_grep.proofs.PaintedLemmas.{colours-left-out, parts-are}
 use Rattle.nfa_grep.proofs.paint.colours_are_around.Goals as goal
 
 pub returns-clause-parts : goal.returns-clause-parts

@@ -1,7 +1,7 @@
 -- The error of a text.
 use Rattle.nfa_paths.proofs.Common.{ℕ, length, map, rules, sym, subst, length-map}
 use Rattle.nfa_grep.specs.Meant.{IsOfText, IsRefusalBy}
-use Rattle.nfa_grep.proofs.RefusalLemmas.{refusal}
+use Rattle.nfa_grep.proofs.PatternLemmas.{refusal}
 use Rattle.nfa_grep.proofs.pattern.refusal.Goals as goal
 
 pub returns-in-Err-Syntax : goal.returns-in-Err-Syntax

@@ -1,7 +1,5 @@
 -- What is printed after the lines was printed.
-use Rattle.nfa_paths.proofs.Common.{rules, ◌≡◌, ◌∙◌, ℕ, ◌++◌, List, ap, subst, IfSome_then}
-use Rattle.std.specs.Io.KnownBytes.{Appends}
-use Rattle.std.proofs.KnownBytes.{Appends-trans}
+use Rattle.nfa_paths.proofs.Common.{Appends, Appends-trans, rules, ◌≡◌, ◌∙◌, ℕ, ◌++◌, List, ap, subst, IfSome_then}
 use Rattle.nfa_grep.specs.Printed.{context_of, limit_of, printed, shows, summary}
 use Rattle.nfa_grep.proofs.search.print_matches.Goals as goal
 

@@ -1,7 +1,6 @@
 -- The search goes on by a line, and ends where nothing is left to read, or the limit is reached and nothing is left to
 -- print.
-use Rattle.nfa_paths.proofs.Common.{rules, ◌≡◌, ◌∙◌, ℕ, ◌+◌, ◌++◌, Bool, List, ◌∷◌, false, length, true, ap, arith, subst, sym, refl, ◌&&◌, ◌==◌, cond, if◌then◌else◌, nat_lt, not, IfSome_then}
-use Rattle.std.specs.Io.KnownBytes.{Appends}
+use Rattle.nfa_paths.proofs.Common.{Appends, rules, ◌≡◌, ◌∙◌, ℕ, ◌+◌, ◌++◌, Bool, List, ◌∷◌, false, length, true, ap, arith, subst, sym, refl, ◌&&◌, ◌==◌, cond, if◌then◌else◌, nat_lt, not, IfSome_then}
 use Rattle.text_lines.specs.Lines.{HasNoRecord, TakesRecord}
 use Rattle.nfa_grep.specs.Going.{printed_later}
 use Rattle.nfa_grep.specs.Printed.{Item, context_of, left_after, is_selected, item_of, limit_of, shows}

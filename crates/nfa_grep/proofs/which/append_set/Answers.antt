@@ -1,9 +1,7 @@
 -- One more number was appended, and all were.
-use Rattle.nfa_paths.proofs.Common.{rules, ◌≡◌, ◌∙◌, ℕ, List, [], ◌∷◌, ◌++◌, map, ap, ap₂, arith, sym, append-nil, decimal, join_with_byte, length-append, number_of, PatternID, patterns_of}
-use Rattle.std.proofs.lemmas.Iterator.Consumers.{YieldsList-end, YieldsList-from_first}
-use Rattle.regex_search_core.specs.PatternSetIters.{patterns_left}
+use Rattle.nfa_paths.proofs.Common.{YieldsList-end, YieldsList-from_first, patterns_left, rules, ◌≡◌, ◌∙◌, ℕ, List, [], ◌∷◌, ◌++◌, map, ap, ap₂, arith, sym, append-nil, decimal, join_with_byte, length-append, number_of, PatternID, patterns_of}
 use Rattle.nfa_grep.specs.Printed.{comma}
-use Rattle.nfa_grep.proofs.PrintedLemmas.{appended-more, numbers-first, numbers-more}
+use Rattle.nfa_grep.proofs.PaintedLemmas.{appended-more, numbers-first, numbers-more}
 use Rattle.nfa_grep.proofs.which.append_set.Goals.{then-not-first+in_ok-extend_from_slice, else-not-first}
 use Rattle.nfa_grep.proofs.which.append_set.Goals as goal
 

@@ -1,6 +1,6 @@
 -- Each state treats bytes next to each other alike, if no cut is between them.
-use Rattle.nfa_paths.proofs.Common.{◌≡◌, ◌<◌, ◌+◌, ℕ, List, false, length, map, get_or, refl, ap, sym, ◌∙◌, inl, inr, arith, Some, cases_lt, get_or-replicate, get_or_past, get_or_from_slice_get, slice_get-get_or, Automaton, Node, node_of, node_at, target_on, Fail, State}
 use Rattle.std.proofs.Math.ListN.{get_or-map}
+use Rattle.nfa_paths.proofs.Common.{◌≡◌, ◌<◌, ◌+◌, ℕ, List, false, length, map, get_or, refl, ap, sym, ◌∙◌, inl, inr, arith, Some, cases_lt, get_or-replicate, get_or_past, get_or_from_slice_get, slice_get-get_or, Automaton, Node, node_of, node_at, target_on, Fail, State}
 use Rattle.thompson_nfa.specs.declared.state.State.TheVariants as variant
 use Rattle.nfa_lazy_dfa.proofs.cuts.cuts_of.Goals as goal
 

@@ -1,6 +1,6 @@
 -- None of the states is an assertion.
-use Rattle.nfa_paths.proofs.Common.{◌≡◌, ◌<◌, ℕ, List, false, length, map, get_or, ap, sym, ◌∙◌, inl, inr, arith, cases_lt, get_or_past, Automaton, Node, node_of, node_at, Fail, State}
 use Rattle.std.proofs.Math.ListN.{get_or-map}
+use Rattle.nfa_paths.proofs.Common.{◌≡◌, ◌<◌, ℕ, List, false, length, map, get_or, ap, sym, ◌∙◌, inl, inr, arith, cases_lt, get_or_past, Automaton, Node, node_of, node_at, Fail, State}
 use Rattle.thompson_nfa.specs.declared.state.State.TheVariants as variant
 use Rattle.nfa_lazy_dfa.specs.Assertions.{is_look}
 use Rattle.nfa_lazy_dfa.proofs.dfa.has_look.Goals as goal

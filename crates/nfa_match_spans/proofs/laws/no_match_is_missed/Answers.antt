@@ -1,6 +1,6 @@
 -- The requirement of `no_gap` holds for each search.
 use Rattle.std.proofs.Common.{refl, None}
-use Rattle.nfa_engines.proofs.GapLemmas.{none-is_no_path, none-starts_before}
+use Rattle.nfa_engines.proofs.MatchLemmas.{none-is_no_path, none-starts_before}
 use Rattle.nfa_match_spans.proofs.LawLemmas.{paths-recorded}
 use Rattle.nfa_match_spans.proofs.laws.no_match_is_missed.Goals as goal
 

@@ -1,9 +1,9 @@
 -- A turn enters a state: it marks it, and keeps the state that its byte leads to, or gives the state to go on with.
-use Rattle.nfa_pikevm_scan.proofs.Common.{[], ap, append-nil, arith, length-drop, refl, sym, take, ◌∙◌, ◌∷◌}
-use Rattle.nfa_scan_core.proofs.AlternateLemmas.{none-nil}
+use Rattle.nfa_scan_core.proofs.TargetLemmas.{none-nil}
 use Rattle.nfa_pikevm_scan.proofs.VisitLemmas.{IsPut-made, IsSaved, VisitsState-byte, VisitsState-capture, VisitsState-fail, VisitsState-leads, VisitsState-marked, VisitsState-match, frames-entered, offset-some, onto, states-entered, top-put, within-saved, within-union}
 use Rattle.nfa_pikevm_scan.proofs.closure.visit_state.Goals.{else-slot-row, then-slot-row}
 use Rattle.nfa_pikevm_scan.proofs.closure.visit_state.Goals as goal
+use Rattle.nfa_pikevm_scan.proofs.Common.{[], ap, append-nil, arith, length-drop, refl, sym, take, ◌∙◌, ◌∷◌}
 
 pub returns-in_default-clause-enters : goal.returns-in_default-clause-enters
 returns-in_default-clause-enters c = VisitsState-marked (c.in_default.ensures.marked refl)

@@ -1,6 +1,6 @@
 -- The start state is followed with the slots as its row.
 use Rattle.nfa_paths.proofs.Common.{None, ap, inl, inr, refl, replicate, sym, ◌∙◌}
-use Rattle.nfa_pikevm_scan.proofs.RoomLemmas.{is_none_of}
+use Rattle.nfa_pikevm_scan.proofs.RowLemmas.{is_none_of}
 use Rattle.nfa_pikevm_scan.proofs.SlotsSinkLemmas.{NextsGive-start}
 use Rattle.nfa_pikevm_scan.proofs.nexts.nexts_of_start.Goals.{else-is_none, then-is_none}
 use Rattle.nfa_pikevm_scan.proofs.nexts.nexts_of_start.Goals as goal

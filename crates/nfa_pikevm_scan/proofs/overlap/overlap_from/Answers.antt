@@ -3,7 +3,7 @@ use Rattle.nfa_paths.proofs.Common.{Bool, arith, cases_Bool, cond, false, inl, i
 use Rattle.nfa_pikevm_scan.proofs.EndLemmas.{Stands-begin, Stands-may, Stands-next, joined-items}
 use Rattle.nfa_pikevm_scan.proofs.FrontierLemmas.{AreAt-turns}
 use Rattle.nfa_pikevm_scan.proofs.OverlapLemmas.{SoFar-found, SoFar-next, SoFar-over, SoFar-size, SoFar-start, set-stays}
-use Rattle.nfa_pikevm_scan.proofs.RoomLemmas.{none_of}
+use Rattle.nfa_pikevm_scan.proofs.RowLemmas.{none_of}
 use Rattle.nfa_pikevm_scan.proofs.overlap.overlap_from.Goals as goal
 
 -- a limit that falls to 0 or stays

@@ -1,8 +1,8 @@
 -- The start joins the states, or starts that are refused are passed over.
-use Rattle.nfa_pikevm_scan.proofs.Common.{IsRefused, arith, get_or, inr, length, refl, search_of, ◌<◌, ◌≤◌}
 use Rattle.nfa_scan_core.proofs.FirstLemmas.{byte_at-inside}
-use Rattle.nfa_pikevm_scan.proofs.RoomLemmas.{AddsStart-passes, none_of}
+use Rattle.nfa_pikevm_scan.proofs.RowLemmas.{AddsStart-passes, none_of}
 use Rattle.nfa_pikevm_scan.proofs.scan.add_start_or_skip.Goals as goal
+use Rattle.nfa_pikevm_scan.proofs.Common.{IsRefused, arith, get_or, inr, length, refl, search_of, ◌<◌, ◌≤◌}
 
 pub returns-then-is_empty-2-clause-joins : goal.returns-then-is_empty-2-clause-joins
 returns-then-is_empty-2-clause-joins c = grind (arith, none_of, AddsStart-passes)

@@ -1,7 +1,7 @@
 -- A lone state is followed from position to position.
 use Rattle.nfa_paths.proofs.Common.{arith, refl, sym, ◌∙◌}
 use Rattle.nfa_pikevm_scan.proofs.LoneLemmas.{Joined-lone, MayCross-joined, ScansFirst-match, ScansFirst-miss}
-use Rattle.nfa_pikevm_scan.proofs.RoomLemmas.{HaveRows-kept, KeepsThreads-then}
+use Rattle.nfa_pikevm_scan.proofs.RowLemmas.{HaveRows-kept, KeepsThreads-then}
 use Rattle.nfa_pikevm_scan.proofs.scan.run_lone.Goals as goal
 
 pub nexts_of_lone-requires-clause-ready : goal.nexts_of_lone-requires-clause-ready

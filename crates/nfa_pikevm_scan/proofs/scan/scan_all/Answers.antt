@@ -2,7 +2,7 @@
 use Rattle.nfa_pikevm_scan.proofs.Common.{arith, inl, is_match, length, refl, search_of, sym, ◌+◌, ◌∙◌, ◌≤◌}
 use Rattle.nfa_pikevm_scan.proofs.AllLemmas.{HasLast-cross, ScansAll-next}
 use Rattle.nfa_pikevm_scan.proofs.EndLemmas.{HasLast-begin, ScansAll-begin, ScansAll-joined, ScansAll-over, Stands-begin, Stands-may, Stands-next, ends-at, joined-items, last-over}
-use Rattle.nfa_pikevm_scan.proofs.RoomLemmas.{none_of}
+use Rattle.nfa_pikevm_scan.proofs.RowLemmas.{none_of}
 use Rattle.nfa_pikevm_scan.proofs.scan.scan_all.Goals as goal
 
 pub loop-at-init : goal.loop-at-init

@@ -1,12 +1,12 @@
 -- A scan that ends at the first match that is seen answers the path with the least end.
-use Rattle.nfa_pikevm_scan.proofs.Common.{AllMatches, LeftmostFirst, arith, cond, inr, is_match, length, refl, search_of, sym, true, ◌+◌, ◌∙◌, ◌≤◌}
 use Rattle.nfa_paths.proofs.ScanAnswerLemmas.{scan_answer-none}
 use Rattle.nfa_pikevm_scan.proofs.AllLemmas.{NoneBefore-cross, ScansAll-next}
 use Rattle.nfa_pikevm_scan.proofs.EndLemmas.{NoneBefore-begin, ScansAll-begin, ScansAll-joined, ScansAll-over, Stands-begin, Stands-may, Stands-next, earliest-over, ends-at, joined-items}
 use Rattle.nfa_pikevm_scan.proofs.FrontierLemmas.{AreAt-turns}
-use Rattle.nfa_pikevm_scan.proofs.RoomLemmas.{none_of}
+use Rattle.nfa_pikevm_scan.proofs.RowLemmas.{none_of}
 use Rattle.nfa_pikevm_scan.proofs.ScanLemmas.{EndsAt-none}
 use Rattle.nfa_pikevm_scan.proofs.scan.scan_earliest.Goals as goal
+use Rattle.nfa_pikevm_scan.proofs.Common.{AllMatches, LeftmostFirst, arith, cond, inr, is_match, length, refl, search_of, sym, true, ◌+◌, ◌∙◌, ◌≤◌}
 
 pub loop-at-init : goal.loop-at-init
 loop-at-init c =

@@ -3,7 +3,7 @@ use Rattle.nfa_paths.proofs.Common.{arith, length, refl, sym, ◌∙◌, ◌≡�
 use Rattle.nfa_pikevm_scan.proofs.EndLemmas.{first-over}
 use Rattle.nfa_pikevm_scan.proofs.FrontierLemmas.{AreAt-turns}
 use Rattle.nfa_pikevm_scan.proofs.LoneLemmas.{Joined-first, Joined-start, MayCross-joined, ScansFirst-begin, ScansFirst-match, ScansFirst-miss}
-use Rattle.nfa_pikevm_scan.proofs.RoomLemmas.{HaveRows-kept, KeepsThreads-then, is_none_of, none_of}
+use Rattle.nfa_pikevm_scan.proofs.RowLemmas.{HaveRows-kept, KeepsThreads-then, is_none_of, none_of}
 use Rattle.nfa_pikevm_scan.proofs.scan.scan_first.Goals.{else-is_some, else-is_some-2, then-is_some+else-is_empty, then-is_some-2}
 use Rattle.nfa_pikevm_scan.proofs.scan.scan_first.Goals as goal
 

@@ -1,6 +1,5 @@
 -- The slots are those of the row, and unset after it.
-use Rattle.nfa_paths.proofs.Common.{None, ap, arith, length, replicate, slice_set, suc, take, ◌++◌, ◌+◌, ◌-◌, ◌∙◌, ◌≡◌}
-use Rattle.std.proofs.Math.Seq.{take-length}
+use Rattle.nfa_paths.proofs.Common.{take-length, None, ap, arith, length, replicate, slice_set, suc, take, ◌++◌, ◌+◌, ◌-◌, ◌∙◌, ◌≡◌}
 use Rattle.nfa_pikevm_scan.proofs.RowLemmas.{handed-more}
 use Rattle.nfa_pikevm_scan.proofs.slot.copy_out.Goals as goal
 

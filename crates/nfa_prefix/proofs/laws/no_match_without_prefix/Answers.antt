@@ -1,5 +1,5 @@
 -- No match starts where the bytes do not occur.
-use Rattle.nfa_prefix.proofs.SearchLemmas.{nothing-anywhere}
+use Rattle.nfa_prefix.proofs.PrefixLemmas.{nothing-anywhere}
 use Rattle.nfa_prefix.proofs.laws.no_match_without_prefix.Goals as goal
 
 pub returns : goal.returns

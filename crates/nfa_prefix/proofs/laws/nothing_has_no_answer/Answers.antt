@@ -1,5 +1,5 @@
 -- The first scan answers no path.
-use Rattle.nfa_prefix.proofs.SearchLemmas.{nothing-answer, nothing-found, nothing-half, nothing-match}
+use Rattle.nfa_prefix.proofs.PrefixLemmas.{nothing-answer, nothing-found, nothing-half, nothing-match}
 use Rattle.nfa_prefix.proofs.laws.nothing_has_no_answer.Goals as goal
 
 pub returns-clause-answer : goal.returns-clause-answer

@@ -1,5 +1,5 @@
 -- No match starts where the bytes do not occur.
-use Rattle.nfa_prefix.proofs.SearchLemmas.{first-moves-on, nothing-without}
+use Rattle.nfa_prefix.proofs.PrefixLemmas.{first-moves-on, nothing-without}
 use Rattle.nfa_prefix.proofs.laws.starts_without_prefix_may_be_passed.Goals as goal
 
 pub returns-clause-nothing : goal.returns-clause-nothing

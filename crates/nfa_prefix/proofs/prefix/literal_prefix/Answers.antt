@@ -1,9 +1,9 @@
 -- The moves of the states are taken one after another, until one is not the only one.
-use Rattle.nfa_paths.proofs.Common.{◌≡◌, ◌∙◌, ◌+◌, ◌-◌, ◌<◌, [], ◌∷◌, ◌++◌, length, refl, sym, ap, subst, arith, List, ℕ, suc, common_steps, node_of}
 use Rattle.std.proofs.lemmas.Slice.{pushed}
 use Rattle.nfa_paths.proofs.StartLemmas.{node_at-get}
+use Rattle.nfa_paths.proofs.Common.{◌≡◌, ◌∙◌, ◌+◌, ◌-◌, ◌<◌, [], ◌∷◌, ◌++◌, length, refl, sym, ap, subst, arith, List, ℕ, suc, common_steps, node_of}
 use Rattle.nfa_prefix.specs.Prefixes.{BeginsWith, only_move}
-use Rattle.nfa_prefix.proofs.MoveLemmas.{IsCollected, collected-byte, collected-end, collected-full, collected-pass, collected-stop, move-below}
+use Rattle.nfa_prefix.proofs.OccurrenceLemmas.{IsCollected, collected-byte, collected-end, collected-full, collected-pass, collected-stop, move-below}
 use Rattle.nfa_prefix.proofs.prefix.literal_prefix.Goals as goal
 use Rattle.nfa_prefix.proofs.prefix.literal_prefix.Goals.{in-Some-byte+else-len-eq-MAX_LENGTH+in_ok-push, in_default-byte}
 

@@ -1,7 +1,7 @@
 -- A name that is not known is none of the table.
 use Rattle.std.proofs.Common.{lit<}
 use Rattle.nfa_samples.specs.Names.{empty_names}
-use Rattle.nfa_samples.proofs.NameLemmas.{found-among, error-among}
+use Rattle.nfa_samples.proofs.StateTableLemmas.{found-among, error-among}
 use Rattle.nfa_samples.proofs.empties.named.Goals as goal
 
 pub returns-in-empty_bytes-clause-none : goal.returns-in-empty_bytes-clause-none

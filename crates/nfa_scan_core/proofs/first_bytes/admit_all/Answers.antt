@@ -1,7 +1,6 @@
 -- The bytes of each transition are admitted, and no others.
 use Rattle.nfa_paths.proofs.Common.{◌<◌, length, arith, common_steps}
-use Rattle.nfa_scan_core.proofs.FirstLemmas.{admits-first}
-use Rattle.nfa_scan_core.proofs.LeastLemmas.{GrowsBy-more, Reads-among}
+use Rattle.nfa_scan_core.proofs.FirstLemmas.{admits-first, GrowsBy-more, Reads-among}
 use Rattle.nfa_scan_core.proofs.first_bytes.admit_all.Goals as goal
 
 pub loop-i-preserved : goal.loop-i-preserved

@@ -1,7 +1,6 @@
 -- If all states that were reached were followed, the table has the bytes that a match may begin with.
 use Rattle.std.proofs.Common.{◌<◌, length, arith}
-use Rattle.nfa_scan_core.proofs.FirstLemmas.{WasReached-extends, covers-step, covers-all, IsFirstBytes-covered}
-use Rattle.nfa_scan_core.proofs.LeastLemmas.{admits-none, each-first, at_start-step, least-step, stops-step}
+use Rattle.nfa_scan_core.proofs.FirstLemmas.{WasReached-extends, covers-step, covers-all, IsFirstBytes-covered, admits-none, each-first, at_start-step, least-step, stops-step}
 use Rattle.nfa_scan_core.specs.FirstBytes.{IsReachedAtStart}
 use Rattle.nfa_scan_core.specs.FirstBytes.IsReachedAtStart.{begin}
 use Rattle.nfa_scan_core.specs.FirstBytes.MayBegin.{reads}

@@ -3,7 +3,7 @@ use Rattle.std.proofs.Common.{◌≡◌, ap, subst}
 use Rattle.std.specs.Io.Buffered.{reader_buffer, reader_capacity, reader_inner, reader_remaining, writer_buffer, writer_contents, writer_inner}
 use Rattle.std.specs.Io.KnownBytes.{Keeps}
 use Rattle.replacer.specs.Printed.{Prints}
-use Rattle.replacer.proofs.FilledLemmas.{all-left, nothing-held, prints-through}
+use Rattle.replacer.proofs.GoingLemmas.{all-left, nothing-held, prints-through}
 use Rattle.replacer.proofs.filled.write_printed.Goals as goal
 
 pub returns-in-Ok-into_inner-clause-printed : goal.returns-in-Ok-into_inner-clause-printed

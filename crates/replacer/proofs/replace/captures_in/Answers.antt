@@ -7,7 +7,7 @@ use Rattle.nfa_compiler.proofs.CallLemmas.{bytes-of}
 use Rattle.nfa_meta.proofs.CaughtLemmas.{all-caught}
 use Rattle.replacer.specs.Hits.{captured_by}
 use Rattle.replacer.specs.Printed.{limited}
-use Rattle.replacer.proofs.LimitLemmas.{limited-all, limited-disjoint, limited-map}
+use Rattle.replacer.proofs.PrintedLemmas.{limited-all, limited-disjoint, limited-map}
 use Rattle.replacer.proofs.MeantLemmas.{caught-are}
 use Rattle.replacer.proofs.replace.captures_in.Goals as goal
 

@@ -3,7 +3,7 @@ use Rattle.std.proofs.Common.{rules, ◌≡◌, ◌∙◌, ◌++◌, ℕ, List, 
 use Rattle.regex_search_core.specs.Slots.{Captured}
 use Rattle.replacer.specs.Hits.{captured_by}
 use Rattle.nfa_meta.specs.Filled.{filled_from}
-use Rattle.replacer.proofs.LimitLemmas.{left-caught}
+use Rattle.replacer.proofs.PrintedLemmas.{left-caught}
 use Rattle.replacer.proofs.shown.show_replaced.Goals as goal
 
 pub returns-clause-text : goal.returns-clause-text

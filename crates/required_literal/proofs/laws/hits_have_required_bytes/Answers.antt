@@ -1,5 +1,5 @@
 -- Each hit is a match.
-use Rattle.required_literal.proofs.HitLemmas.{hits-have-bytes}
+use Rattle.required_literal.proofs.PartLemmas.{hits-have-bytes}
 use Rattle.required_literal.proofs.laws.hits_have_required_bytes.Goals as goal
 
 pub returns : goal.returns

@@ -5,8 +5,7 @@ use Rattle.std.proofs.lemmas.List.{take-take}
 use Rattle.std.proofs.lemmas.List.Elements.{All-from_get_or}
 use Rattle.bstr.proofs.lemmas.RecordLemmas.{records-nil}
 use Rattle.text_lines.specs.Lines.{EndsRecord}
-use Rattle.text_lines.proofs.PartLemmas.{records-whole}
-use Rattle.text_lines.proofs.PassedLemmas.{whole-front}
+use Rattle.text_lines.proofs.LineLemmas.{records-whole, whole-front}
 use Rattle.text_lines.proofs.passed.first_without.Goals as goal
 
 pub returns-then-is_empty-clause-whole : goal.returns-then-is_empty-clause-whole

@@ -2,7 +2,7 @@
 use Rattle.std.proofs.Common.{subst}
 use Rattle.std.specs.Io.BufRead.{FillKeeps}
 use Rattle.std.proofs.BufReadLemmas.{Consumes_shown}
-use Rattle.text_lines.proofs.PassedLemmas.{passes}
+use Rattle.text_lines.proofs.LineLemmas.{passes}
 use Rattle.text_lines.proofs.passed.pass_records.Goals as goal
 
 pub returns-clause-passed : goal.returns-clause-passed

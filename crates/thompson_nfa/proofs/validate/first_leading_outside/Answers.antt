@@ -1,7 +1,7 @@
 -- the first state that leads outside
 use Rattle.std.proofs.Common.{refl}
 use Rattle.thompson_nfa.specs.Automaton.{node_of, LeadsBelow, Fail}
-use Rattle.thompson_nfa.proofs.Tested.{all-take-suc, all-map-from_take, first-fails}
+use Rattle.thompson_nfa.proofs.FlawLemmas.{all-take-suc, all-map-from_take, first-fails}
 use Rattle.thompson_nfa.proofs.validate.first_leading_outside.Goals as goal
 
 pub returns-then-not-leads_below : goal.returns-then-not-leads_below

@@ -1,7 +1,7 @@
 -- the first state number that is outside
 use Rattle.std.proofs.Common.{◌<◌, subst, All}
 use Rattle.std.proofs.lemmas.List.{take_all}
-use Rattle.thompson_nfa.proofs.Tested.{all-take-suc}
+use Rattle.thompson_nfa.proofs.FlawLemmas.{all-take-suc}
 use Rattle.thompson_nfa.proofs.validate.first_outside.Goals as goal
 
 pub loop-index-preserved : goal.loop-index-preserved

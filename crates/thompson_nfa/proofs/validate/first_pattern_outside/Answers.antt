@@ -2,7 +2,7 @@
 use Rattle.std.proofs.Common.{◌∙◌, ap, refl}
 use Rattle.thompson_nfa.specs.Automaton.{node_of, PatternBelow, Fail}
 use Rattle.thompson_nfa.specs.Flaws.{pattern_of}
-use Rattle.thompson_nfa.proofs.Tested.{all-take-suc, all-map-from_take, image-at, first-fails}
+use Rattle.thompson_nfa.proofs.FlawLemmas.{all-take-suc, all-map-from_take, image-at, first-fails}
 use Rattle.thompson_nfa.proofs.validate.first_pattern_outside.Goals as goal
 
 pub returns-in-Some : goal.returns-in-Some

@@ -7,16 +7,17 @@ use Rattle.nfa_engines.specs.Paths.{IsFindAnswer}
 use Rattle.nfa_meta.specs.ChoiceState.{kind_in}
 use Rattle.nfa_compiler.specs.Compiled.{AreMeant}
 use Rattle.nfa_compiler.proofs.CallLemmas.{bytes-of}
-use Rattle.lexer.specs.Rules.{rule_syntax}
-use Rattle.lexer.specs.Tokens.{search_at}
-use Rattle.lexer.proofs.LexedLemmas.{hit-is, regex-kept}
+use Rattle.nfa_compiler.specs.Written.{byte_syntax}
+use Rattle.lexer.specs.Lexed.{search_at}
+use Rattle.nfa_meta.proofs.AnchoredLemmas.{regex-kept}
+use Rattle.lexer.proofs.PieceLemmas.{hit-is}
 use Rattle.lexer.proofs.lexer.Lexer.hit_at.Goals as goal
 
 pub returns-clause-hit : goal.returns-clause-hit
 returns-clause-hit c = λ res meant.
     let text = c.args.text.now in
     let bytes = bytes-of text (λ k. omega (arith, c.type_inv.text k)) in
-    let meant-inside = subst (λ (ps : List (List ℕ)). AreMeant rule_syntax ps res) (sym c.self.view_is) meant in
+    let meant-inside = subst (λ (ps : List (List ℕ)). AreMeant byte_syntax ps res) (sym c.self.view_is) meant in
     let same : search_of c.anchored-input.result ≡ search_at text c.args.at =
     first_of (search rules, grind (arith, common_steps)) in
     let Answers : Search → Type 0 = λ x. IsFindAnswer c.self.inside.regex.nfa (kind_in c.self.inside.regex) x.earliest x

@@ -1,7 +1,6 @@
 -- A token starts here, or the stretch goes on.
 use Rattle.std.proofs.Common.{rules, ◌≡◌, ◌∙◌, arith, false, length, sym, true}
-use Rattle.lexer.specs.Lexed.{token_there}
-use Rattle.lexer.specs.Tokens.{token_found}
+use Rattle.lexer.specs.Lexed.{token_there, token_found}
 use Rattle.lexer.proofs.PieceLemmas.{is-found, stretch-end, stretch-from}
 use Rattle.lexer.proofs.lexer.Lexer.next_token.Goals as goal
 

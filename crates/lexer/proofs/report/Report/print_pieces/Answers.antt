@@ -3,7 +3,7 @@ use Rattle.std.proofs.Common.{rules, ◌≡◌, ◌∙◌, List, arith, length}
 use Rattle.std.proofs.KnownBytes.{Appends-kept}
 use Rattle.nfa_compiler.specs.Common.{Re}
 use Rattle.lexer.specs.Rules.{Mean}
-use Rattle.lexer.specs.Tokens.{piece_found}
+use Rattle.lexer.specs.Lexed.{piece_found}
 use Rattle.lexer.proofs.PositionLemmas.{position-moved, position-start}
 use Rattle.lexer.proofs.PrintedLemmas.{pieces-printed, printed-more, printed-none}
 use Rattle.lexer.proofs.report.Report.print_pieces.Goals as goal

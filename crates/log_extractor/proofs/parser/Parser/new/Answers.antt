@@ -1,7 +1,7 @@
 -- The columns are those of the NFA.
 use Rattle.nfa_paths.proofs.Common.{rules, ◌≡◌, ◌∙◌, ap, true, false, arith, length, map, sym, None, length-map, length-replicate, err_from_is_err_and, slot_count, Captured}
 use Rattle.log_extractor.specs.Fields.{group_of}
-use Rattle.log_extractor.proofs.NameLemmas.{compiled-columns, empty-columns}
+use Rattle.log_extractor.proofs.FieldLemmas.{compiled-columns, empty-columns}
 use Rattle.log_extractor.proofs.parser.Parser.new.Goals as goal
 
 pub returns-in_err-columns-clause-mistake : goal.returns-in_err-columns-clause-mistake

@@ -1,16 +1,17 @@
 -- The laws, of these captures.
 use Rattle.nfa_paths.proofs.Common.{◌∙◌, ℕ, List, [], ◌∷◌, ap, arith, map, refl, subst, sym, Option, option_map, groups_at, Search, whole, group_span}
-use Rattle.nfa_compiler.specs.Common.{hit, slots_of}
+use Rattle.nfa_compiler.specs.Common.{hit, slots_of, byte_syntax}
 use Rattle.nfa_compiler.proofs.CallLemmas.{bytes-of}
-use Rattle.log_extractor.specs.Fields.{IsLinePattern, NamedGroup, cut, group_of, line_syntax, named_groups}
-use Rattle.log_extractor.proofs.FieldLemmas.{of-groups, regex-kept, row-is}
+use Rattle.nfa_meta.proofs.AnchoredLemmas.{regex-kept}
+use Rattle.log_extractor.specs.Fields.{IsLinePattern, NamedGroup, cut, group_of, named_groups}
+use Rattle.log_extractor.proofs.FieldLemmas.{of-groups, row-is}
 use Rattle.log_extractor.proofs.parser.Parser.parse_line.Goals as goal
 
 pub invariant_of-self : goal.invariant_of-self
 invariant_of-self c =
     let inv = c.self.invariant in
     let kept = c.search.ensures.keeps in (
-      regex-kept c.self.inside.pattern.now c.self.inside.regex c.search.new.self inv.0 kept,
+      regex-kept (c.self.inside.pattern.now ∷ []) c.self.inside.regex c.search.new.self inv.0 kept,
       rw kept.nfa (c.search.ensures.fills.groups ∙ inv.1),
       rw kept.nfa (c.search.ensures.fills.count ∙ inv.2),
       rw kept.nfa inv.3,
@@ -26,9 +27,9 @@ returns-clause-fields c = λ p is.
     let fills = c.search.ensures.fills in
     let bytes = bytes-of line (λ k. omega (arith, c.type_inv.line k)) in
     let inside = subst (λ (text : List ℕ). IsLinePattern text p) (sym c.self.view_is) is in
-    let groups = c.groups_are_those_of_texts.ensures.names line_syntax _ (p.names ∷ []) nfa of.compiled
+    let groups = c.groups_are_those_of_texts.ensures.names byte_syntax _ (p.names ∷ []) nfa of.compiled
     (inside.names, tt) in
-    let hits = c.searches_find_texts.ensures.answers line_syntax _ (p.tree ∷ []) nfa _ _ (whole line) _ _ of.compiled
+    let hits = c.searches_find_texts.ensures.answers byte_syntax _ (p.tree ∷ []) nfa _ _ (whole line) _ _ of.compiled
     (inside.tree, tt) of.anywhere
     (record {
       leftmost = rw of.leftmost refl;

@@ -1,6 +1,5 @@
 -- The names, with that of the column of labels if there are several patterns.
-use Rattle.nfa_paths.proofs.Common.{◌≡◌, ◌∙◌, ap, arith, drop, false, string_bytes, true, le-ltb, lt-ltb}
-use Rattle.std.proofs.lemmas.List.{drop-map}
+use Rattle.nfa_paths.proofs.Common.{drop-map, ◌≡◌, ◌∙◌, ap, arith, drop, false, string_bytes, true, le-ltb, lt-ltb}
 use Rattle.log_extractor.specs.Several.{is_several}
 use Rattle.log_extractor.proofs.SeveralLemmas.{same-several}
 use Rattle.log_extractor.proofs.parsers.Parsers.names.Goals as goal

@@ -1,6 +1,5 @@
 -- The row is that of the first pattern that matches, and the parsers are as they were.
-use Rattle.nfa_paths.proofs.Common.{◌≡◌, ◌∙◌, ap, ap₂, arith, drop, length, map, nat_lt, sym, string_bytes, IfOk-weaker}
-use Rattle.std.proofs.lemmas.List.{drop-map, take_at}
+use Rattle.nfa_paths.proofs.Common.{drop-map, take_at, ◌≡◌, ◌∙◌, ap, ap₂, arith, drop, length, map, nat_lt, sym, string_bytes, IfOk-weaker}
 use Rattle.log_extractor.specs.Several.{is_several, row_of_first, union_names}
 use Rattle.log_extractor.proofs.SeveralLemmas.{same-several}
 use Rattle.log_extractor.proofs.parsers.Parsers.parse_line.Goals as goal

@@ -1,7 +1,7 @@
 -- A step may be made, and leaves what the iterator keeps.
 use Rattle.nfa_search_base.specs.Common.{with_cache, steps_with_state}
 use Rattle.nfa_search_base.proofs.DrainedLemmas.{fills-go, fills-serve}
-use Rattle.nfa_backtrack.specs.CapturesMatches.{backtrack_captures}
+use Rattle.nfa_backtrack.specs.Iterators.{backtrack_captures}
 use Rattle.nfa_backtrack.proofs.CapturesLemmas.{back_filler}
 use Rattle.nfa_backtrack.proofs.captures_iter.TryCapturesMatchesIterator.next.Goals as goal
 

@@ -1,7 +1,7 @@
 -- The match of a search, its pattern, and its span.
 use Rattle.nfa_paths.proofs.Common.{false, ◌≡◌, ◌∙◌, ◌*◌, ap, arith, length, length-take, search_of, IsAutomaton, LeftmostFirst}
 use Rattle.nfa_paths.proofs.RestartLemmas.{match-some}
-use Rattle.nfa_search_base.proofs.CallerLemmas.{inside-of, pattern-of}
+use Rattle.nfa_search_base.proofs.AskingLemmas.{inside-of, pattern-of}
 use Rattle.nfa_backtrack.specs.Backtrack.{Backtracker}
 use Rattle.nfa_backtrack.proofs.engine.BoundedBacktracker.find_with.Goals as goal
 

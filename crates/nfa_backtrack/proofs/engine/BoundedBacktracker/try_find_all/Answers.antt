@@ -2,7 +2,7 @@
 use Rattle.nfa_paths.proofs.Common.{rules, false, map, None, subst, sym, found_of, search_of, LeftmostFirst}
 use Rattle.nfa_search_base.specs.Common.{AreFirstMatches}
 use Rattle.nfa_search_base.proofs.ListLemmas.{matches-disjoint}
-use Rattle.nfa_search_base.proofs.MatchRunLemmas.{all-inside}
+use Rattle.nfa_search_base.proofs.CapturesRunLemmas.{all-inside}
 use Rattle.nfa_backtrack.specs.Finding.{AnswersByLength}
 use Rattle.nfa_backtrack.specs.Runs.{GivesByLength}
 use Rattle.nfa_backtrack.proofs.engine.BoundedBacktracker.try_find_all.Goals as goal

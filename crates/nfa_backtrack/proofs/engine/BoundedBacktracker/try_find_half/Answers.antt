@@ -1,7 +1,7 @@
 -- The pattern and the end are those of the answer.
 use Rattle.nfa_paths.proofs.Common.{false, IfOk-weaker, search_of, LeftmostFirst}
 use Rattle.nfa_paths.proofs.RestartLemmas.{half-of}
-use Rattle.nfa_search_base.proofs.CallerLemmas.{half-lies}
+use Rattle.nfa_search_base.proofs.AskingLemmas.{half-lies}
 use Rattle.nfa_backtrack.proofs.engine.BoundedBacktracker.try_find_half.Goals as goal
 
 pub returns-clause-answer : goal.returns-clause-answer

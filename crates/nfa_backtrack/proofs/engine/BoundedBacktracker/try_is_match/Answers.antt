@@ -1,7 +1,7 @@
 -- A search that answers no pattern has no answer.
 use Rattle.nfa_paths.proofs.Common.{false, search_of, LeftmostFirst, arith}
 use Rattle.nfa_paths.proofs.PatternLemmas.{found-of}
-use Rattle.nfa_search_base.proofs.FindsLemmas.{found-finds}
+use Rattle.nfa_search_base.proofs.GreedyLemmas.{found-finds}
 use Rattle.nfa_backtrack.proofs.engine.BoundedBacktracker.try_is_match.Goals as goal
 
 pub returns-in-None-clause-answer : goal.returns-in-None-clause-answer

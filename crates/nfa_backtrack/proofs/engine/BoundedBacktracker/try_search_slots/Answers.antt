@@ -2,7 +2,7 @@
 use Rattle.nfa_paths.proofs.Common.{false, search_of, LeftmostFirst}
 use Rattle.nfa_paths.proofs.InsideLemmas.{slots-within}
 use Rattle.nfa_paths.proofs.RestartLemmas.{answer-of}
-use Rattle.nfa_search_base.proofs.CallerLemmas.{slots-none_of}
+use Rattle.nfa_search_base.proofs.AskingLemmas.{slots-none_of}
 use Rattle.nfa_backtrack.proofs.engine.BoundedBacktracker.try_search_slots.Goals as goal
 
 pub returns-clause-answer : goal.returns-clause-answer

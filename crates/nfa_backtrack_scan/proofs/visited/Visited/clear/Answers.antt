@@ -1,6 +1,5 @@
 -- After a clearing no mark is set.
-use Rattle.nfa_paths.proofs.Common.{refl, ap, ◌≡◌, ◌∙◌, false, length, replicate, with_items_is}
-use Rattle.std.specs.Vec.{with_items}
+use Rattle.nfa_paths.proofs.Common.{with_items, refl, ap, ◌≡◌, ◌∙◌, false, length, replicate, with_items_is}
 use Rattle.nfa_scan_core.specs.Marks.{Marks}
 use Rattle.nfa_backtrack_scan.specs.Bits.{bits_of}
 use Rattle.nfa_backtrack_scan.proofs.BitLemmas.{bits_of-zeroed}

@@ -1,9 +1,8 @@
 -- what was made of the patterns is the NFA
-use Rattle.nfa_paths.proofs.Common.{◌≡◌, ◌∙◌, ◌<◌, ℕ, Bool, true, false, inl, inr, ap, arith, refl, subst, sym, All, ◌==◌, and_right, cases_Bool, nat_tests, Automaton}
+use Rattle.nfa_paths.proofs.Common.{no-flaw, ◌≡◌, ◌∙◌, ◌<◌, ℕ, Bool, true, false, inl, inr, ap, arith, refl, subst, sym, All, ◌==◌, and_right, cases_Bool, nat_tests, Automaton}
 use Rattle.nfa_compiler.specs.Common.{IsNfaOf, res_of, all_begin_at_start}
 use Rattle.nfa_compiler.proofs.AddLemmas.{nodes-length, built-valid}
 use Rattle.nfa_compiler.proofs.CompiledLemmas.{nfa-made}
-use Rattle.thompson_nfa.proofs.FlawLemmas.{no-flaw}
 use Rattle.nfa_compiler.proofs.UnboundLemmas.{only-at-start}
 use Rattle.nfa_compiler.proofs.compiler.Compiler.build_many_from_hir.Goals as goal
 

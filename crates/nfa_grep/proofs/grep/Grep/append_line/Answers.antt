@@ -2,7 +2,7 @@
 use Rattle.nfa_paths.proofs.Common.{◌≡◌, ◌∙◌, ℕ, ◌++◌, Bool, List, [], ap, append-nil, false, inl, inr, refl, subst, sym, true, ◌⊎◌, if◌then◌else◌, not, not-true, on_ok_weaker}
 use Rattle.nfa_grep.specs.Meant.{Grepping, Mean, is_found, Options, Re}
 use Rattle.nfa_grep.specs.Printed.{is_selected, shown_if_selected, text_of}
-use Rattle.nfa_grep.proofs.PrintedLemmas.{shown-matches, shown-whole}
+use Rattle.nfa_grep.proofs.PaintedLemmas.{shown-matches, shown-whole}
 use Rattle.nfa_grep.proofs.grep.Grep.append_line.Goals as goal
 use Rattle.nfa_grep.proofs.grep.Grep.append_line.Goals.{else-options-via-else-options, else-selected-via-else-selected, else-options-via-then-options+else-not-options, else-selected-via-then-selected+else-not-options-2}
 

@@ -2,8 +2,7 @@
 use Rattle.nfa_paths.proofs.Common.{◌∙◌, arith, refl, subst, sym, whole}
 use Rattle.nfa_compiler.proofs.CallLemmas.{bytes-of}
 use Rattle.nfa_grep.specs.Meant.{Grepping, Mean}
-use Rattle.nfa_grep.proofs.JoinedLemmas.{found-of-all}
-use Rattle.nfa_grep.proofs.MeantLemmas.{found-same}
+use Rattle.nfa_grep.proofs.MeantLemmas.{found-of-all, found-same}
 use Rattle.nfa_grep.proofs.grep.Grep.finds.Goals as goal
 
 pub returns-clause-found : goal.returns-clause-found

@@ -2,8 +2,7 @@
 use Rattle.nfa_paths.proofs.Common.{◌∙◌, ap, arith, map, refl, subst, sym, found_of, Search, whole}
 use Rattle.nfa_compiler.proofs.CallLemmas.{bytes-of}
 use Rattle.nfa_grep.specs.Meant.{Grepping, Mean}
-use Rattle.nfa_grep.proofs.JoinedLemmas.{spans-of-all}
-use Rattle.nfa_grep.proofs.MeantLemmas.{spans-same}
+use Rattle.nfa_grep.proofs.MeantLemmas.{spans-of-all, spans-same}
 use Rattle.nfa_grep.proofs.grep.Grep.matches.Goals as goal
 
 pub returns-clause-all : goal.returns-clause-all

@@ -1,8 +1,7 @@
 -- Both NFAs are made of the trees that were read from the texts, and the bytes are in each line that these select.
 use Rattle.nfa_paths.proofs.Common.{map, refl, err_from_is_err_and}
 use Rattle.nfa_compiler.specs.Common.{res_of}
-use Rattle.nfa_grep.proofs.PatternLemmas.{trees-alike, which-built}
-use Rattle.nfa_grep.proofs.RefusalLemmas.{trees-refusal}
+use Rattle.nfa_grep.proofs.PatternLemmas.{trees-alike, which-built, trees-refusal}
 use Rattle.nfa_grep.proofs.grep.Grep.of_trees.Goals as goal
 
 pub invariant_of-result : goal.invariant_of-result

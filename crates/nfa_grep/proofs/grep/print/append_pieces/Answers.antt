@@ -1,6 +1,5 @@
 -- All matches were printed.
-use Rattle.nfa_paths.proofs.Common.{◌∙◌, ◌++◌, List, ap, arith, map, sym, take_all, flat_map, found_of, Match}
-use Rattle.std.proofs.lemmas.List.Folds.{flat_map-map}
+use Rattle.nfa_paths.proofs.Common.{flat_map-map, ◌∙◌, ◌++◌, List, ap, arith, map, sym, take_all, flat_map, found_of, Match}
 use Rattle.nfa_grep.specs.Meant.{span_of}
 use Rattle.nfa_grep.specs.Printed.{piece}
 use Rattle.nfa_grep.proofs.grep.print.append_pieces.Goals as goal

@@ -1,7 +1,5 @@
 -- The lines that are kept are printed before the line.
-use Rattle.nfa_paths.proofs.Common.{◌≡◌, ◌∙◌, ℕ, ◌++◌, List, [], ap, false, map, sym, true, flat_map}
-use Rattle.std.specs.Vec.{vec_items}
-use Rattle.std.proofs.lemmas.List.Folds.{flat_map-map}
+use Rattle.nfa_paths.proofs.Common.{vec_items, flat_map-map, ◌≡◌, ◌∙◌, ℕ, ◌++◌, List, [], ap, false, map, sym, true, flat_map}
 use Rattle.nfa_grep.specs.Going.{kept_items, kept_texts}
 use Rattle.nfa_grep.specs.Printed.{between, grouped}
 use Rattle.nfa_grep.proofs.GroupedLemmas.{begins, begun}

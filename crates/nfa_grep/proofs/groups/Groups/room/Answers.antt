@@ -1,6 +1,5 @@
 -- The first line that is kept is not printed, since the next ones are not selected.
-use Rattle.nfa_paths.proofs.Common.{◌≡◌, ◌≤◌, ◌∷◌, ap, arith, length, map, length-map}
-use Rattle.std.specs.Vec.{vec_items}
+use Rattle.nfa_paths.proofs.Common.{vec_items, ◌≡◌, ◌≤◌, ◌∷◌, ap, arith, length, map, length-map}
 use Rattle.nfa_grep.specs.Going.{kept_texts}
 use Rattle.nfa_grep.proofs.GroupedLemmas.{drops}
 use Rattle.nfa_grep.proofs.groups.Groups.room.Goals as goal

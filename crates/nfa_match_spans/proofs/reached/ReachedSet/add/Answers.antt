@@ -1,6 +1,6 @@
 -- A place that was not marked is marked, and listed.
 use Rattle.nfa_paths.proofs.Common.{arith, get_or_default}
-use Rattle.nfa_match_spans.proofs.TableLemmas.{IsTable-more, GainsPathStates-one}
+use Rattle.nfa_match_spans.proofs.StatePathLemmas.{IsTable-more, GainsPathStates-one}
 use Rattle.nfa_match_spans.proofs.reached.ReachedSet.add.Goals as goal
 
 pub invariant_of-self-then-not-index : goal.invariant_of-self-then-not-index

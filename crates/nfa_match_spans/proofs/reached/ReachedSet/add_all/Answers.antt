@@ -1,7 +1,7 @@
 -- One state more was added.
 use Rattle.nfa_paths.proofs.Common.{◌≡◌, ◌+◌, ◌∙◌, ◌<◌, ap, sym, length, map, take, get_or, [], ◌∷◌, ◌++◌, take_more, map-append}
 use Rattle.nfa_match_spans.specs.PathStates.{at_state}
-use Rattle.nfa_match_spans.proofs.TableLemmas.{GainsPathStates-then}
+use Rattle.nfa_match_spans.proofs.StatePathLemmas.{GainsPathStates-then}
 use Rattle.nfa_match_spans.proofs.reached.ReachedSet.add_all.Goals as goal
 
 pub loop-state-preserved : goal.loop-state-preserved

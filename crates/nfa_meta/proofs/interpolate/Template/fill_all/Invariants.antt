@@ -1,6 +1,5 @@
 -- The matches so far were replaced.
-use Rattle.std.proofs.Common.{length}
-use Rattle.std.specs.Vec.Iter.{into_iter_items}
+use Rattle.nfa_paths.proofs.Common.{length, into_iter_items}
 use Rattle.nfa_meta.specs.Filled.{HasFilled}
 use Rattle.nfa_meta.proofs.interpolate.Template.fill_all.Given as goal
 

@@ -1,7 +1,7 @@
 -- The match of the anchored search at a start before which nothing matches is that of the search.
 use Rattle.nfa_paths.proofs.Common.{rules, arith, option_map, IfNone, IfSome, common_steps, found_of, search_of, IsFindAnswer}
 use Rattle.nfa_choice.specs.ChoiceState.{kind_in}
-use Rattle.nfa_engines.specs.Accepting.{MatchesNothing}
+use Rattle.nfa_engines.specs.Laws.{MatchesNothing}
 use Rattle.nfa_engines.specs.StartLaws.{anchored_at}
 use Rattle.nfa_meta.proofs.AnchoredLemmas.{HasFirstStart, found-at-start, next-of}
 use Rattle.nfa_meta.proofs.regex.Regex.find_at_start.Goals as goal

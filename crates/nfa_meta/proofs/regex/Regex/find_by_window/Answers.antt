@@ -1,6 +1,6 @@
 -- A match that the lazy DFA finds is inside the span, and names a pattern.
 use Rattle.nfa_paths.proofs.Common.{rules, Some, arith, common_steps, found_of, search_of, IsFindAnswer}
-use Rattle.nfa_search_base.proofs.CallerLemmas.{inside-of}
+use Rattle.nfa_search_base.proofs.AskingLemmas.{inside-of}
 use Rattle.nfa_choice.specs.ChoiceState.{kind_in}
 use Rattle.nfa_meta.proofs.regex.Regex.find_by_window.Goals as goal
 

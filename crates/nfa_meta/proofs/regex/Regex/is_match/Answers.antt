@@ -1,6 +1,6 @@
 -- Whether there is a match is what the function says.
 use Rattle.nfa_paths.proofs.Common.{arith, false, rules, common_steps, search_of, IsBoolAnswer}
-use Rattle.nfa_search_base.proofs.FindsLemmas.{found-finds}
+use Rattle.nfa_search_base.proofs.GreedyLemmas.{found-finds}
 use Rattle.nfa_choice.specs.ChoiceState.{kind_in}
 use Rattle.nfa_meta.proofs.regex.Regex.is_match.Goals as goal
 

@@ -1,6 +1,6 @@
 -- The two slots of a match are those of the search.
 use Rattle.nfa_paths.proofs.Common.{rules, ◌≡◌, Some, arith, common_steps, IfOk-weaker, found_of, slot_count, search_of}
-use Rattle.nfa_search_base.proofs.CallerLemmas.{inside-of}
+use Rattle.nfa_search_base.proofs.AskingLemmas.{inside-of}
 use Rattle.nfa_choice.specs.ChoiceState.{kind_in}
 use Rattle.nfa_meta.proofs.MatchSlotLemmas.{plain-answer}
 use Rattle.nfa_meta.proofs.regex.Regex.match_or_part.Goals as goal

@@ -1,6 +1,5 @@
 -- After one more call the output has what comes for one more match.
-use Rattle.nfa_paths.proofs.Common.{rules, ◌≡◌, ◌++◌, ◌∷◌, arith, refl, slice_range, common_steps, recursion_from_All}
-use Rattle.std.specs.Vec.Iter.{into_iter_items}
+use Rattle.nfa_paths.proofs.Common.{into_iter_items, rules, ◌≡◌, ◌++◌, ◌∷◌, arith, refl, slice_range, common_steps, recursion_from_All}
 use Rattle.nfa_search_base.specs.Common.{match_in}
 use Rattle.nfa_meta.specs.Rewritten.{Writes}
 use Rattle.nfa_meta.proofs.RewriteLemmas.{WritesLead-none, calls-go-on, calls-lead-on}

@@ -1,6 +1,5 @@
 -- The calls so far appended what comes for the matches so far.
-use Rattle.std.proofs.Common.{length}
-use Rattle.std.specs.Vec.Iter.{into_iter_items}
+use Rattle.nfa_paths.proofs.Common.{length, into_iter_items}
 use Rattle.nfa_meta.specs.Rewritten.{HasRewritten}
 use Rattle.nfa_meta.proofs.regex.rewrite.rewrite.Given as goal
 

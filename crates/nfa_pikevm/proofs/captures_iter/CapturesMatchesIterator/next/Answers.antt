@@ -1,7 +1,7 @@
 -- A step may be made, and leaves what the iterator keeps.
 use Rattle.nfa_search_base.specs.Common.{with_cache, steps_with_state}
 use Rattle.nfa_search_base.proofs.DrainedLemmas.{fills-go, fills-serve}
-use Rattle.nfa_pikevm.specs.CapturesMatches.{pike_captures}
+use Rattle.nfa_pikevm.specs.Iterators.{pike_captures}
 use Rattle.nfa_pikevm.proofs.CapturesLemmas.{pike_filler}
 use Rattle.nfa_pikevm.proofs.captures_iter.CapturesMatchesIterator.next.Goals as goal
 

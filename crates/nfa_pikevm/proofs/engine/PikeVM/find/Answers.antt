@@ -1,7 +1,7 @@
 -- The match is that of the answer, and the cache keeps its numbers.
 use Rattle.nfa_paths.proofs.Common.{search_of}
 use Rattle.nfa_pikevm.specs.Engines.{kind_of}
-use Rattle.nfa_search_base.proofs.CallerLemmas.{inside-of}
+use Rattle.nfa_search_base.proofs.AskingLemmas.{inside-of}
 use Rattle.nfa_pikevm.proofs.engine.PikeVM.find.Goals as goal
 
 pub returns-clause-inside : goal.returns-clause-inside

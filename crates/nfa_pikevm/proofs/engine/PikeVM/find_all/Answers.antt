@@ -2,7 +2,7 @@
 use Rattle.nfa_paths.proofs.Common.{subst, sym, search_of}
 use Rattle.nfa_search_base.specs.Common.{MatchesNext}
 use Rattle.nfa_pikevm.specs.Engines.{kind_of}
-use Rattle.nfa_pikevm.specs.FindMatches.{pike_matches_next}
+use Rattle.nfa_pikevm.specs.Iterators.{pike_matches_next}
 use Rattle.nfa_search_base.proofs.ListLemmas.{none-before}
 use Rattle.nfa_pikevm.proofs.engine.PikeVM.find_all.Goals as goal
 

@@ -2,7 +2,7 @@
 use Rattle.nfa_paths.proofs.Common.{search_of, arith}
 use Rattle.nfa_paths.proofs.RestartLemmas.{half-of, pattern-among}
 use Rattle.nfa_pikevm.specs.Engines.{kind_of}
-use Rattle.nfa_search_base.proofs.CallerLemmas.{half-lies}
+use Rattle.nfa_search_base.proofs.AskingLemmas.{half-lies}
 use Rattle.nfa_pikevm.proofs.engine.PikeVM.find_half.Goals as goal
 
 pub returns-clause-answer : goal.returns-clause-answer

@@ -2,7 +2,7 @@
 use Rattle.nfa_paths.proofs.Common.{◌≡◌, ◌∙◌, ◌*◌, ap, arith, length, length-take, search_of, IsAutomaton}
 use Rattle.nfa_paths.proofs.RestartLemmas.{match-some}
 use Rattle.nfa_pikevm.specs.Engines.{kind_of}
-use Rattle.nfa_search_base.proofs.CallerLemmas.{pattern-of}
+use Rattle.nfa_search_base.proofs.AskingLemmas.{pattern-of}
 use Rattle.nfa_pikevm.proofs.engine.PikeVM.find_with.Goals as goal
 
 pub returns-clause-answer : goal.returns-clause-answer

@@ -1,8 +1,8 @@
 -- There is a match exactly if a search with no slots finds a pattern.
 use Rattle.nfa_paths.proofs.Common.{◌≡◌, ap, refl, Option, None, Some, false, not, is_some, option_map, search_of, number_of, PatternID, is_utf8_empty, arith}
-use Rattle.nfa_search_base.proofs.FindsLemmas.{found-finds}
+use Rattle.nfa_search_base.proofs.GreedyLemmas.{found-finds}
 use Rattle.nfa_pikevm.specs.Engines.{kind_of}
-use Rattle.nfa_pikevm.proofs.IsMatchLemmas.{found-free, work-free}
+use Rattle.nfa_pikevm.proofs.EngineLemmas.{found-free, work-free}
 use Rattle.nfa_pikevm.proofs.engine.PikeVM.is_match.Goals as goal
 
 -- there is a number exactly if there is a value

@@ -1,6 +1,6 @@
 -- What the table of first bytes promises of the byte.
 use Rattle.std.proofs.Common.{arith}
-use Rattle.nfa_scan_core.proofs.BeginningLemmas.{begins-may, begins-none}
+use Rattle.nfa_scan_core.proofs.FirstLemmas.{begins-may, begins-none}
 use Rattle.nfa_pikevm.proofs.engine.PikeVM.may_begin.Goals as goal
 
 pub returns-clause-may : goal.returns-clause-may

@@ -1,7 +1,7 @@
 -- After no match no slot of the captures is set. If the slots are inside the span, so are the spans.
 use Rattle.nfa_paths.proofs.Common.{arith, common_steps, search_of}
 use Rattle.nfa_search_base.proofs.SpanLemmas.{spans-inside}
-use Rattle.nfa_search_base.proofs.CallerLemmas.{slots-none}
+use Rattle.nfa_search_base.proofs.AskingLemmas.{slots-none}
 use Rattle.nfa_pikevm.proofs.engine.PikeVM.search.Goals as goal
 
 pub returns-clause-answer : goal.returns-clause-answer

@@ -2,7 +2,7 @@
 use Rattle.nfa_paths.proofs.Common.{search_of}
 use Rattle.nfa_pikevm.specs.Engines.{kind_of}
 use Rattle.nfa_paths.proofs.InsideLemmas.{slots-within}
-use Rattle.nfa_search_base.proofs.CallerLemmas.{slots-none_of}
+use Rattle.nfa_search_base.proofs.AskingLemmas.{slots-none_of}
 use Rattle.nfa_pikevm.proofs.engine.PikeVM.search_slots.Goals as goal
 
 pub returns-clause-unmatched : goal.returns-clause-unmatched

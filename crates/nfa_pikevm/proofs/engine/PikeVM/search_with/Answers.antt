@@ -1,7 +1,7 @@
 -- Pattern and slots are those of the answer, for as many slots as there are.
 use Rattle.nfa_paths.proofs.Common.{Some, IsAutomaton, arith}
 use Rattle.nfa_paths.proofs.RestartLemmas.{answer-of}
-use Rattle.nfa_search_base.proofs.CallerLemmas.{slots-pattern}
+use Rattle.nfa_search_base.proofs.AskingLemmas.{slots-pattern}
 use Rattle.nfa_pikevm.proofs.EngineLemmas.{row-found}
 use Rattle.nfa_pikevm.proofs.engine.PikeVM.search_with.Goals as goal
 

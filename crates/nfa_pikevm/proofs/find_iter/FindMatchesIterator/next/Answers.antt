@@ -2,7 +2,7 @@
 use Rattle.nfa_paths.proofs.Common.{found_of}
 use Rattle.nfa_search_base.specs.Common.{with_cache, steps_with_state, span_of}
 use Rattle.nfa_search_base.proofs.StoredLemmas.{surely-inside}
-use Rattle.nfa_pikevm.specs.FindMatches.{AsksPike, MayFindByPike, pike_matches}
+use Rattle.nfa_pikevm.specs.Iterators.{AsksPike, MayFindByPike, pike_matches}
 use Rattle.nfa_pikevm.proofs.FindLemmas.{find-serves, step-goes}
 use Rattle.nfa_pikevm.proofs.find_iter.FindMatchesIterator.next.Goals as goal
 

@@ -2,7 +2,7 @@
 use Rattle.nfa_paths.proofs.Common.{rules, ◌≡◌, ◌∙◌, ◌-◌, refl, ap, subst, Option, Ok, option_map, found_of, Search, search_of, Match, IsFindAnswer, raised}
 use Rattle.nfa_search_base.specs.Common.{if_ends_at, last_start}
 use Rattle.nfa_search_base.proofs.EngineLemmas.{find-answered, found-by, asks-known, known-kept, search-made}
-use Rattle.nfa_search_base.proofs.LastStartLemmas.{match-from-scan}
+use Rattle.nfa_search_base.proofs.SkipLemmas.{match-from-scan}
 use Rattle.nfa_pikevm.specs.Engines.{kind_of}
 use Rattle.nfa_pikevm.proofs.FindLemmas.{finds-sure, pike_finder}
 use Rattle.nfa_pikevm.proofs.find_iter.FinderFindWith.answer.Goals as goal

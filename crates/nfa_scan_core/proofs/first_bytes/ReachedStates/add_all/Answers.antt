@@ -1,8 +1,7 @@
 -- Each of the states was reached, and no other.
 use Rattle.nfa_paths.proofs.Common.{◌≡◌, ◌∙◌, ◌<◌, length, get_or, below_more, subst, sym, get_or_default}
 use Rattle.nfa_scan_core.specs.FirstBytes.{WasReached}
-use Rattle.nfa_scan_core.proofs.FirstLemmas.{Extends-then, WasReached-extends}
-use Rattle.nfa_scan_core.proofs.LeastLemmas.{AddsOnly-then, In-at, In-one, LacksRoom-among}
+use Rattle.nfa_scan_core.proofs.FirstLemmas.{Extends-then, WasReached-extends, AddsOnly-then, In-at, In-one, LacksRoom-among}
 use Rattle.nfa_scan_core.proofs.first_bytes.ReachedStates.add_all.Goals as goal
 
 pub loop-i-preserved : goal.loop-i-preserved

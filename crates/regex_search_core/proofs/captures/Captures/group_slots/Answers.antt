@@ -1,7 +1,7 @@
 -- The spans at the slots are those of the groups.
 use Rattle.std.proofs.Common.{◌≡◌, ◌*◌, Some, ap, refl}
-use Rattle.regex_search_core.specs.Patterns.{number_of}
-use Rattle.regex_search_core.proofs.CapturesLemmas.{spans_at-groups}
+use Rattle.regex_search_core.specs.PatternSets.{number_of}
+use Rattle.regex_search_core.proofs.GroupLemmas.{spans_at-groups}
 use Rattle.regex_search_core.proofs.captures.Captures.group_slots.Goals as goal
 
 pub returns-clause-spans : goal.returns-clause-spans

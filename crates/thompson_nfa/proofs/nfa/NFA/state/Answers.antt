@@ -3,7 +3,7 @@ use Rattle.std.proofs.Common.{◌<◌, length, map, arith}
 use Rattle.std.proofs.lemmas.List.{length-map}
 use Rattle.regex_search_core.specs.Groups.{slot_count}
 use Rattle.thompson_nfa.specs.Automaton.{LeadsBelow, SlotBelow, PatternBelow, node_of}
-use Rattle.thompson_nfa.proofs.Tested.{passes-at}
+use Rattle.thompson_nfa.proofs.FlawLemmas.{passes-at}
 use Rattle.thompson_nfa.proofs.nfa.NFA.state.Goals as goal
 
 -- the number is that of a state

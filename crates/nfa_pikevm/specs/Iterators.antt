@@ -1,11 +1,12 @@
--- The iterator over the matches of a PikeVM.
-use Rattle.std.specs.Prelude.{List, map, Option, None, Ok, option_map}
-use Rattle.nfa_paths.specs.Common.{Found, found_of, Search, Match}
-use Rattle.nfa_search_base.specs.Common.{AsksEngine, Knowing, MayFind, WithCache, GivesStepsWith, StepsWith, TakesStepWith, GivesKept, GivesItem, Answer, span_of, Yields}
-use Rattle.nfa_pikevm.specs.Engines.{Fits, Pike, PikeCache, SameCapacities}
-use Rattle.nfa_pikevm.specs.Finding.{IsSureOf, PikeFindsOn, PikeFindsToEnd, PikeSearches, PikeAnswersMatch, pike_scans}
+-- The iterators over the matches, and over the captures, of a PikeVM.
+use Rattle.std.specs.Prelude.{List, map, Option, None, Ok, option_map, Result}
+use Rattle.nfa_search_base.specs.Common.{Found, found_of, Search, Match, Captured, AsksEngine, Knowing, MayFind, WithCache, StepsWith, TakesStepWith, GivesKept, GivesItem, Answer, span_of, Yields, WithCaptures, GivesCaptures, Row, row_span, AsksEngineRow}
+use Rattle.nfa_search_base.specs.declared.error.SearchError.{SearchError}
+use Rattle.nfa_pikevm.specs.Engines.{Fits, Pike, PikeCache}
+use Rattle.nfa_pikevm.specs.Finding.{IsSureOf, PikeFindsOn, PikeFindsToEnd, PikeSearches, PikeAnswersMatch, pike_scans, PikeCapturesOn, PikeAnswersRow}
 use Rattle.nfa_pikevm.specs.declared.find_iter.FindMatches.{FindMatches}
 use Rattle.nfa_pikevm.specs.declared.find_iter.Finder.{Finder}
+use Rattle.nfa_pikevm.specs.declared.captures_iter.CapturesMatches.{CapturesMatches}
 
 -- the PikeVM of an iteration, and the match that is known
 abbrev pub pike_knowing : Finder → Knowing Pike
@@ -40,13 +41,27 @@ pub record pike_matches_next (s : FindMatches) (r : Option Match) (t : FindMatch
 abbrev pub pike_finds_known : FindMatches → Option Found
 pike_finds_known s = option_map found_of s.steps.backend.known
 
--- the calls keep the cache, and its sizes
-abbrev pub GivesCache : FindMatches → Type 0
-GivesCache s = GivesStepsWith pike_matches_next pike_matches SameCapacities s
-
 -- The calls change the cache only by the searches of an iteration over x. At `None` the iteration went to its end, past
 -- the matches so far.
 pub record FindsBySearches (vm : Pike) (x : Search) (s : FindMatches) : Type 0 where
   pub on : GivesKept pike_matches_next (λ p q. PikeFindsOn vm x p.cache.now q.cache.now) s
   pub to_end : (xs : List Match) (t u : FindMatches) → Yields pike_matches_next s xs t → pike_matches_next t None u
       → PikeFindsToEnd vm x (map found_of xs) s.cache.now u.cache.now
+
+-- the steps of the iterator, and the cache that it borrows
+abbrev pub pike_captures : CapturesMatches → StepsWith (WithCaptures Pike) PikeCache
+pike_captures s = record { steps = s.steps; cache = s.cache }
+
+-- a search by the PikeVM may answer this
+abbrev pub AsksPikeRow : WithCache (WithCaptures Pike) PikeCache → Search → Answer Row
+    → WithCache (WithCaptures Pike) PikeCache → Type 0
+AsksPikeRow = AsksEngineRow (λ vm. vm.nfa) PikeAnswersRow (λ vm x a. PikeSearches vm x)
+
+-- a call
+pub record pike_captures_next (s : CapturesMatches) (r : Option (Result Captured SearchError))
+    (t : CapturesMatches) : Type 0 where
+  pub takes : TakesStepWith row_span AsksPikeRow GivesCaptures (pike_captures s) r (pike_captures t)
+
+-- the calls change the cache only by the searches of an iteration over x
+pub record CapturesBySearches (vm : Pike) (x : Search) (s : CapturesMatches) : Type 0 where
+  pub on : GivesKept pike_captures_next (λ p q. PikeCapturesOn vm x p.cache.now q.cache.now) s
