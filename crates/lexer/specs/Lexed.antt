@@ -101,7 +101,7 @@ PiecesAreTheText = (res : List Re) (text : List ℕ) → joined text (recovered 
 abbrev pub PiecesAreLongest : Type 0
 PiecesAreLongest = (res : List Re) (text : List ℕ) → All (IsPiece res text) (recovered res text)
 
--- the search of a text from an offset on, bound to start there
+-- the search of a text from an offset on, anchored there
 abbrev pub search_at : List ℕ → ℕ → Search
 search_at text at = record { haystack = text; start = at; end = length text; anchored = Yes; earliest = false }
 

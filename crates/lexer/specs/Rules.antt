@@ -90,7 +90,7 @@ abbrev pub Mean : List Rule → List Re → Type 0
 Mean rules res = AreMeant byte_syntax (rule_patterns rules) res
 
 -- The pattern of the rule of this line is none, by the grammar. The column counts the characters of the line before the
--- error, and the largest number stands for larger ones.
+-- error, up to the largest number.
 pub record IsSyntaxMistake (rules : List Rule) (line column : ℕ) (reason : List ℕ) : Type 0 where
   pub rule : Rule
   pub error : SyntaxError

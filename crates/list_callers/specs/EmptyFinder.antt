@@ -11,6 +11,6 @@ empty_answer s = Ok (if nat_le s.start s.end then Some
 abbrev pub zero_row : Search → Answer Row
 zero_row s = Ok (if nat_eq s.start 0 then Some (record { pattern = Some 0; slots = Some 0 ∷ Some 0 ∷ [] }) else None)
 
--- a search tells that match and no other
+-- a search answers that match and no other
 abbrev pub EmptyTells : Search → Answer Found → Type 0
 EmptyTells s a = a ≡ empty_answer s

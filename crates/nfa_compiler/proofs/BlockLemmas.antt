@@ -68,7 +68,7 @@ first-within n (t ∷ ts) b r all e =
     let here : t.next < n = all 0 t (omega arith) in
     grind (arith, first-within n ts b r (λ i d h. all (suc i) d (omega arith)))
 
--- what a path tells of a trace
+-- what a path says of a trace
 
 -- all of these are to slots of explicit groups
 abbrev pub AreExplicit : List (ℕ × ℕ) → Type 0

@@ -28,7 +28,7 @@ unwritten groups k slot (w ∷ ws) all less =
     cond-false (nat_lt w.0 2) _ _ (le-ltb w.0 2 all.0) in
     rw (unwritten groups k slot ws all.1 less, ne_eqb (place_of groups k w.0) slot (λ e. omega arith)) refl
 
--- what a path tells of a hit
+-- what a path says of a hit
 
 module _ (a : Automaton) where
   -- the path ends with a Match of the hit's pattern at the end of the hit, and its slots are those of the hit

@@ -115,7 +115,7 @@ module _ {nfa : Automaton} {k : ℕ} {x y : Search} (to : IsMovedTo nfa k x y) (
       (given nfa kind earliest y g.pattern (moved_slots k g.slots) (long ∙ g.count)
       (answer-moved g.pattern g.slots g.answers))
 
--- what searches tell moves with their accepting paths, and stays if these move by no distance
+-- what searches answer moves with their accepting paths, and stays if these move by no distance
 pub record IsMovable {A : Type 0} (Is : Tells A) (moved : ℕ → A → A) : Type 0 where
   pub moves : (nfa : Automaton) (k : ℕ) (x y : Search) → IsMovedTo nfa k x y → (kind : MatchKind) (earliest : Bool)
       (a : A) → Is nfa kind earliest x a → Is nfa kind earliest y (moved k a)

@@ -61,7 +61,7 @@ pub record MatchesPattern (nfa : Automaton) (x : Search) (pattern : ℕ) : Type 
 abbrev pub Tells : Type 0 → Type 1
 Tells A = Automaton → MatchKind → Bool → Search → A → Type 0
 
--- a law of what searches tell, for the slots of their answers, whatever the pattern
+-- a law of what searches answer, for the slots of their answers, whatever the pattern
 abbrev pub OfSlots : (Tells (List (Option ℕ)) → Type 0) → Type 0
 OfSlots Law = (pattern : Option ℕ) → Law (λ nfa kind earliest x. IsAnswer nfa kind earliest x pattern)
 

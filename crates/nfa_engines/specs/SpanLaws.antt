@@ -81,7 +81,7 @@ module _ (Alike : Automaton → ℕ → Search → Search → Type 0) where
       → Alike nfa k x y → is_utf8_empty nfa ≡ false → IsSpanMoved k x y → AreBytesMoved k x y
       → Is nfa kind earliest x a → Is nfa kind earliest y (moved k a)
 
-  -- two searches with the same span and the same bytes in it tell the same, whatever is around the span;
+  -- two searches with the same span and the same bytes in it answer the same, whatever is around the span;
   abbrev pub ReadsTheSpan : {A : Type 0} → Tells A → Type 0
   ReadsTheSpan {A} Is =
       (nfa : Automaton) (x y : Search) (kind : MatchKind) (earliest : Bool) (a : A)

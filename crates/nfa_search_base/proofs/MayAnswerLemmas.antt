@@ -67,7 +67,7 @@ module _ {S X Y : Type 0} (asker : AskerOf S X Y) where
         ))
         (EndsAt items May) (map (item_by items.view) xs) on come
 
--- If each answer of `under` is one of `tells`, the items are the same.
+-- If each answer by the first relation is one by the second, the items by the first are items by the second.
 module _ {X : Type 0} (span : X → Span) {under tells : Search → Answer X → Type 0}
     (so : (t : Search) (a : Answer X) → under t a → tells t a) where
   pub step-answered : (w : IterState) (a : Answer X) → IsStep span under w a → IsStep span tells w a
@@ -236,7 +236,7 @@ module _ {F : Type 0} (g : Mut F (Bor Input × (MutBor Captured × Unit {0}))
         may-disjoint copies s filled-ordered (Along-weaker (λ t a k. k.0) serves) p.items
         (sure-caught.run p seen from).0.come
 
--- If each answer of `under` is one of `tells`, the captures are the same.
+-- If each answer by the first relation is one by the second, the captures by the first are captures by the second.
 module _ {under tells : Search → Answer Row → Type 0} (so : (t : Search) (a : Answer Row) → under t a → tells t a)
   where
     ends-answered : (w : IterState) (e : SearchError) → FailsOrIsRefused row_span under w e

@@ -43,7 +43,7 @@ pub record SpansInside (x : Search) (c : Captured) : Type 0 where
   pub group : (k : ℕ) → IfSome (group_span c k) (IsSpanInside x)
   pub named : (name : List ℕ) → IfSome (named_span c name) (IsSpanInside x)
 
--- A match is an X, and `span` gives its span. `tells` gives the answers of a search.
+-- A match is an X, and `span` gives its span. The relation says what a search may answer.
 module _ {X : Type 0} (span : X → Span) (tells : Search → Answer X → Type 0) where
   -- A step from w gives this answer: the answer of its search, or, if that is an empty match at the last end, the
   -- answer of a search from one byte further on.
@@ -132,7 +132,7 @@ module _ (nfa : Automaton) (kind : MatchKind) (earliest : Bool) where
   pub record AreRows (x : Search) (rows : List Row) : Type 0 where
     pub come : ItemsLast row_span AnswersRow (Fails row_span AnswersRow) (fresh x) (map (λ row. Ok row) rows)
 
--- `tells` gives the answers of a search. The allocation of a copy of captures may fail.
+-- The relation says what a search may answer. The allocation of a copy of captures may fail.
 module _ (tells : Search → Answer Row → Type 0) where
   -- these are the first items of the captures from w on
   pub record AreFirstStoredCaptures (w : IterState) (items : List (Result Captured SearchError)) : Type 0 where
