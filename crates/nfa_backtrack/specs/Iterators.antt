@@ -1,5 +1,5 @@
 -- The iterators over the matches, and over the captures, of a backtracker.
-use Rattle.std.specs.Prelude.{◌≡◌, List, map, Option, None, Result, Ok, option_map, ⊤}
+use Rattle.std.specs.Prelude.{◌≡◌, List, map, Option, None, Result, Ok, ⊤}
 use Rattle.nfa_search_base.specs.Common.{Found, found_of, Search, Match, Captured, AsksEngine, Knowing, MayFind, WithCache, StepsWith, TakesStepWith, GivesKept, GivesItem, Answer, span_of, Yields, WithCaptures, GivesCaptures, Row, row_span, AsksEngineRow}
 use Rattle.nfa_search_base.specs.declared.error.SearchError.{SearchError}
 use Rattle.nfa_backtrack.specs.Backtrack.{Backtracker, IsTooLong, BacktrackCache, refused_early}
@@ -15,10 +15,6 @@ backtracker_knowing a = record { engine = a.engine.now; known = a.known }
 -- the steps of the iterator, and the cache that it borrows
 abbrev pub backtrack_matches : TryFindMatches → StepsWith Finder BacktrackCache
 backtrack_matches s = record { steps = s.steps; cache = s.cache }
-
--- the engine that it searches with
-abbrev pub backtrack_matches_engine : TryFindMatches → Backtracker
-backtrack_matches_engine s = s.steps.backend.engine.now
 
 -- each cache fits
 abbrev pub fits_always : BacktrackCache → Backtracker → Type 0
@@ -39,10 +35,6 @@ pub record backtrack_matches_next (s : TryFindMatches) (r : Option (Result Match
     (t : TryFindMatches) : Type 0 where
   pub takes : TakesStepWith span_of AsksBacktracker (λ _. GivesItem found_of) (backtrack_matches s)
       r (backtrack_matches t)
-
--- the known answer of its next search
-abbrev pub backtracker_finds_known : TryFindMatches → Option Found
-backtracker_finds_known s = option_map found_of s.steps.backend.known
 
 -- The calls keep the cache, and change it only by the searches of an iteration over x. A search that is too long is
 -- only counted as refused, with no scans and no turns. At `None` the iteration went to its end, past the matches given.

@@ -46,10 +46,8 @@ impl BoundedBacktracker {
     ghost use Rattle.nfa_search_base.specs.Runs.{CapturesGiven, CapturesInside, CapturesWithin, match_in};
     ghost use Rattle.nfa_search_base.specs.WithCaptures.{filled_answer, row_of};
     ghost use Rattle.nfa_search_base.specs.Lists.{AreRows, AreDisjoint, AreMatches};
-    ghost use Rattle.nfa_search_base.specs.IterStates.{fresh};
     ghost use Rattle.nfa_backtrack.specs.Iterators.{CapturesBySearches, backtrack_captures};
     ghost use Rattle.nfa_backtrack.specs.Iterators.{backtrack_captures_next};
-    ghost use Rattle.nfa_search_base.specs.Stored.{steps_iter_state};
     ghost use Rattle.nfa_backtrack.specs.Runs.{RunsRefused};
     ghost use Rattle.nfa_backtrack.specs.Backtrack.{IsTooLong};
     ghost use Rattle.nfa_backtrack.specs.Finding.{AnswersByLength, BacktrackerCapturesOn, BacktrackerCapturesToEnd};
@@ -82,10 +80,6 @@ impl BoundedBacktracker {
         ensures same_reference { IfOk result (λ made.
             (backtrack_captures made).cache.ghost_name ≡ cache.entry.ghost_name) }
         ensures same_cache { IfOk result (λ made. (backtrack_captures made).cache.now ≡ cache.entry.now) }
-        ensures engine { IfOk result (λ made. (backtrack_captures made).steps.backend.finder ≡ self.now) }
-        ensures iter_state { IfOk result (λ made.
-            steps_iter_state (backtrack_captures made).steps ≡ fresh (search_of input.entry)) }
-        ensures going { IfOk result (λ made. (backtrack_captures made).steps.done ≡ false) }
         // Each run of calls gives the first captures of the input, and all of them if it goes on to `None`. If no copy
         // fails, their rows and their matches are those of the input.
         ensures given { IfOk result (CapturesGiven backtrack_captures_next self.now.nfa LeftmostFirst false
@@ -122,9 +116,6 @@ impl BoundedBacktracker {
         requires { HasGroups self.now.nfa captures }
         ensures same_reference { (backtrack_captures result).cache.ghost_name ≡ cache.entry.ghost_name }
         ensures same_cache { (backtrack_captures result).cache.now ≡ cache.entry.now }
-        ensures engine { (backtrack_captures result).steps.backend.finder ≡ self.now }
-        ensures iter_state { steps_iter_state (backtrack_captures result).steps ≡ fresh (search_of input.entry) }
-        ensures going { (backtrack_captures result).steps.done ≡ false }
         // Each run of calls gives the first captures of the input, and all of them if it goes on to `None`. If no copy
         // fails, their rows and their matches are those of the input.
         ensures given { CapturesGiven backtrack_captures_next self.now.nfa LeftmostFirst false (IsTryCapturesAnswer

@@ -46,9 +46,8 @@ impl BoundedBacktracker {
     ghost use Rattle.nfa_backtrack.specs.Backtrack.{IsTooLong, refused_early};
     ghost use Rattle.nfa_backtrack.specs.Finding.{AnswersByLength, BacktrackerFindsOn, BacktrackerFindsToEnd};
     ghost use Rattle.nfa_search_base.specs.Runs.{GivesFirst, GivesNext, OksAll, OksFirst, OksNext, OksRun, RunsGive};
-    ghost use Rattle.nfa_search_base.specs.IterStates.{fresh};
-    ghost use Rattle.nfa_backtrack.specs.Iterators.{backtrack_matches, backtrack_matches_engine};
-    ghost use Rattle.nfa_backtrack.specs.Iterators.{backtrack_matches_next, backtracker_finds_known, FindsBySearches};
+    ghost use Rattle.nfa_backtrack.specs.Iterators.{backtrack_matches};
+    ghost use Rattle.nfa_backtrack.specs.Iterators.{backtrack_matches_next, FindsBySearches};
     ghost use Rattle.nfa_backtrack.specs.Runs.{AreAllItems, AreFirstItems, OksAreAll, OksAreFirst, RunsDisjoint};
     ghost use Rattle.nfa_backtrack.specs.Runs.{RunsInside, RunsRefused, GivesByLength};
 
@@ -73,10 +72,6 @@ impl BoundedBacktracker {
     ) -> TryFindMatches<'r, 'c, 'h>
         ensures same_reference { (backtrack_matches result).cache.ghost_name ≡ cache.entry.ghost_name }
         ensures same_cache { (backtrack_matches result).cache.now ≡ cache.entry.now }
-        ensures engine { backtrack_matches_engine result ≡ self.now }
-        ensures iter_state { steps_iter_state (backtrack_matches result).steps ≡ fresh (search_of input.entry) }
-        ensures going { (backtrack_matches result).steps.done ≡ false }
-        ensures known { backtracker_finds_known result ≡ None }
         // Each run of calls gives the first items, and all of them if it goes on to `None`.
         ensures runs { RunsGive backtrack_matches_next (AreFirstItems self.now (search_of input.entry))
             (AreAllItems self.now (search_of input.entry)) result }

@@ -1,6 +1,6 @@
 -- The iterator over the half matches of a hybrid.
-use Rattle.std.specs.Prelude.{Option, Bool}
-use Rattle.nfa_search_base.specs.Common.{MutBor, Search, HalfMatch, GivesStepsWith, StepsWith, iter_state_of, IterState}
+use Rattle.std.specs.Prelude.{Option}
+use Rattle.nfa_search_base.specs.Common.{MutBor, Search, HalfMatch, GivesStepsWith, StepsWith}
 use Rattle.nfa_hybrid.specs.HalfIterations.{HalvesLead, HalvesNextBy}
 use Rattle.nfa_hybrid.specs.HybridState.{HybridState, KeepsHybrid, RunsInTurn, pike_of}
 use Rattle.nfa_hybrid.specs.declared.hybrid.half_matches.HalfMatches.{HalfMatches}
@@ -18,13 +18,6 @@ half_steps s = record { steps = s.steps; cache = s.hybrid }
 -- the hybrid that it searches with
 abbrev pub halves_hybrid : HalfMatches → MutBor HybridState
 halves_hybrid s = s.hybrid
-
--- its next input and last end, and whether it has ended
-abbrev pub halves_iter_state : HalfMatches → IterState
-halves_iter_state s = iter_state_of s.steps.searcher
-
-abbrev pub halves_done : HalfMatches → Bool
-halves_done s = s.steps.done
 
 -- a call
 abbrev pub halves_next : HalfMatches → Option HalfMatch → HalfMatches → Type 0

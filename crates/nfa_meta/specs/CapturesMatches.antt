@@ -1,6 +1,6 @@
 -- The iterator over the captures of a regex.
-use Rattle.std.specs.Prelude.{Bool, List, Option, Result}
-use Rattle.nfa_search_base.specs.Common.{MutBor, Search, Captured, WithCaptures, Row, GivesStepsWith, StepsWith, iter_state_of, IterState}
+use Rattle.std.specs.Prelude.{List, Option, Result}
+use Rattle.nfa_search_base.specs.Common.{MutBor, Search, Captured, WithCaptures, Row, GivesStepsWith, StepsWith}
 use Rattle.nfa_search_base.specs.declared.error.SearchError.{SearchError}
 use Rattle.nfa_choice.specs.ChoiceState.{ChoiceState, KeepsEngines}
 use Rattle.nfa_choice.specs.Iterations.{CapturesLead, CapturesNextBy, CapturesOn, CapturesToEnd}
@@ -22,13 +22,6 @@ captures_steps s = record { steps = s.steps; cache = s.regex }
 -- the engine that it searches with
 abbrev pub captures_regex : CapturesMatches → MutBor ChoiceState
 captures_regex s = s.regex
-
--- its next input and last end, and whether it has ended
-abbrev pub captures_iter_state : CapturesMatches → IterState
-captures_iter_state s = iter_state_of s.steps.searcher
-
-abbrev pub captures_done : CapturesMatches → Bool
-captures_done s = s.steps.done
 
 -- a call
 abbrev pub captures_next : CapturesMatches → Option (Result Captured SearchError) → CapturesMatches → Type 0

@@ -1,6 +1,6 @@
 -- The iterator over the half matches of a regex.
-use Rattle.std.specs.Prelude.{Option, Bool}
-use Rattle.nfa_search_base.specs.Common.{MutBor, Search, HalfMatch, GivesStepsWith, StepsWith, iter_state_of, IterState}
+use Rattle.std.specs.Prelude.{Option}
+use Rattle.nfa_search_base.specs.Common.{MutBor, Search, HalfMatch, GivesStepsWith, StepsWith}
 use Rattle.nfa_choice.specs.ChoiceState.{ChoiceState, KeepsEngines, pike_of}
 use Rattle.nfa_choice.specs.Iterations.{SearchesBy}
 use Rattle.nfa_hybrid.specs.HalfIterations.{HalvesLead, HalvesNextBy}
@@ -19,13 +19,6 @@ half_steps s = record { steps = s.steps; cache = s.regex }
 -- the engine that it searches with
 abbrev pub halves_regex : HalfMatches → MutBor ChoiceState
 halves_regex s = s.regex
-
--- its next input and last end, and whether it has ended
-abbrev pub halves_iter_state : HalfMatches → IterState
-halves_iter_state s = iter_state_of s.steps.searcher
-
-abbrev pub halves_done : HalfMatches → Bool
-halves_done s = s.steps.done
 
 -- a call
 abbrev pub halves_next : HalfMatches → Option HalfMatch → HalfMatches → Type 0

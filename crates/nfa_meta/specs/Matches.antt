@@ -1,6 +1,6 @@
 -- The iterator over the matches of a regex.
-use Rattle.std.specs.Prelude.{List, map, None, Option, Bool}
-use Rattle.nfa_search_base.specs.Common.{MutBor, Yields, Found, found_of, Search, Match, IsKnownFrom, WithCache, GivesStepsWith, StepsWith, GivesKept, iter_state_of, Answer, IterState}
+use Rattle.std.specs.Prelude.{List, map, None, Option}
+use Rattle.nfa_search_base.specs.Common.{MutBor, Yields, Found, found_of, Search, Match, IsKnownFrom, WithCache, GivesStepsWith, StepsWith, GivesKept, Answer}
 use Rattle.nfa_pikevm.specs.Finding.{IsSureOf}
 use Rattle.nfa_choice.specs.ChoiceState.{ChoiceState, KeepsEngines, pike_of}
 use Rattle.nfa_choice.specs.Iterations.{FindsBy, FindsNextBy, FindsOn, FindsToEnd, TellsMatch}
@@ -23,13 +23,6 @@ finds_steps s = record { steps = s.steps; cache = s.regex }
 -- the engine that it searches with
 abbrev pub finds_regex : FindMatches → MutBor ChoiceState
 finds_regex s = s.regex
-
--- its next input and last end, and whether it has ended
-abbrev pub finds_iter_state : FindMatches → IterState
-finds_iter_state s = iter_state_of s.steps.searcher
-
-abbrev pub finds_done : FindMatches → Bool
-finds_done s = s.steps.done
 
 -- what is known of searches like this one is right
 abbrev pub MayFindByWindow : WithCache ByWindow ChoiceState → Search → Type 0

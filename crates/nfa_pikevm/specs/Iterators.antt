@@ -16,10 +16,6 @@ pike_knowing a = record { engine = a.engine.now; known = a.known }
 abbrev pub pike_matches : FindMatches → StepsWith Finder PikeCache
 pike_matches s = record { steps = s.steps; cache = s.cache }
 
--- the engine that it searches with
-abbrev pub pike_matches_engine : FindMatches → Pike
-pike_matches_engine s = s.steps.backend.engine.now
-
 -- the cache fits the PikeVM
 abbrev pub fits_pike : PikeCache → Pike → Type 0
 fits_pike cache vm = Fits cache vm.nfa
@@ -36,10 +32,6 @@ AsksPike = AsksEngine IsSureOf pike_knowing PikeAnswersMatch (λ vm x a. PikeSea
 pub record pike_matches_next (s : FindMatches) (r : Option Match) (t : FindMatches) : Type 0 where
   pub takes : TakesStepWith span_of AsksPike (λ _. GivesItem found_of) (pike_matches s)
       (option_map (λ m. Ok m) r) (pike_matches t)
-
--- the known answer of its next search
-abbrev pub pike_finds_known : FindMatches → Option Found
-pike_finds_known s = option_map found_of s.steps.backend.known
 
 -- The calls change the cache only by the searches of an iteration over x. At `None` the iteration went to its end, past
 -- the matches so far.

@@ -42,16 +42,15 @@ impl<'r> Model for CapturesFinder<'r> {
 }
 
 impl PikeVM {
-    ghost use Rattle.std.specs.Prelude.{◌≡◌, false, All, IfOk, IsOkUnless, None, map};
+    ghost use Rattle.std.specs.Prelude.{◌≡◌, All, IfOk, IsOkUnless, None, map};
     ghost use Rattle.regex_search_core.specs.Search.{search_of};
     ghost use Rattle.nfa_search_base.specs.Runs.{CapturesGiven, CapturesInside, CapturesMemory, CapturesWithin};
     ghost use Rattle.nfa_search_base.specs.Runs.{match_in};
     ghost use Rattle.nfa_search_base.specs.WithCaptures.{row_of};
     ghost use Rattle.nfa_search_base.specs.Lists.{AreRows, AnswersRow, AreDisjoint, AreMatches};
-    ghost use Rattle.nfa_search_base.specs.IterStates.{fresh};
     ghost use Rattle.nfa_pikevm.specs.Iterators.{CapturesBySearches, pike_captures};
     ghost use Rattle.nfa_pikevm.specs.Iterators.{pike_captures_next};
-    ghost use Rattle.nfa_search_base.specs.Stored.{GivesStepsWith, steps_iter_state};
+    ghost use Rattle.nfa_search_base.specs.Stored.{GivesStepsWith};
     ghost use Rattle.nfa_pikevm.specs.Engines.{SameCapacities, kind_of};
     ghost use Rattle.nfa_pikevm.specs.Finding.{PikeCapturesOn, PikeCapturesToEnd};
 
@@ -84,10 +83,6 @@ impl PikeVM {
         ensures memory { IsOkUnless result SearchError.Memory }
         ensures same_reference { IfOk result (λ made. (pike_captures made).cache.ghost_name ≡ cache.entry.ghost_name) }
         ensures same_cache { IfOk result (λ made. (pike_captures made).cache.now ≡ cache.entry.now) }
-        ensures engine { IfOk result (λ made. (pike_captures made).steps.backend.finder ≡ self.now) }
-        ensures iter_state { IfOk result (λ made.
-            steps_iter_state (pike_captures made).steps ≡ fresh (search_of input.entry)) }
-        ensures going { IfOk result (λ made. (pike_captures made).steps.done ≡ false) }
         // Each run of calls gives the first captures of the input, and all of them if it goes on to `None`. If no copy
         // fails, their rows and their matches are those of the input.
         ensures given { IfOk result (CapturesGiven pike_captures_next self.now.nfa (kind_of self.now)
@@ -126,9 +121,6 @@ impl PikeVM {
         requires holds { HasGroups self.now.nfa captures }
         ensures same_reference { (pike_captures result).cache.ghost_name ≡ cache.entry.ghost_name }
         ensures same_cache { (pike_captures result).cache.now ≡ cache.entry.now }
-        ensures engine { (pike_captures result).steps.backend.finder ≡ self.now }
-        ensures iter_state { steps_iter_state (pike_captures result).steps ≡ fresh (search_of input.entry) }
-        ensures going { (pike_captures result).steps.done ≡ false }
         // Each run of calls gives the first captures of the input, and all of them if it goes on to `None`. If no copy
         // fails, their rows and their matches are those of the input.
         ensures given { CapturesGiven pike_captures_next self.now.nfa (kind_of self.now)

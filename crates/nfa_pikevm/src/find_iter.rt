@@ -36,13 +36,12 @@ struct Finder<'r> {
 }
 
 impl PikeVM {
-    ghost use Rattle.std.specs.Prelude.{false, All, IfOk, IsOk, IsOkUnless, None, [], map};
+    ghost use Rattle.std.specs.Prelude.{All, IfOk, IsOk, IsOkUnless, None, [], map};
     ghost use Rattle.regex_search_core.specs.Found.{found_of};
     ghost use Rattle.nfa_search_base.specs.Lists.{AreMatches, AreDisjoint, IsInside};
-    ghost use Rattle.nfa_search_base.specs.IterStates.{fresh};
     ghost use Rattle.nfa_pikevm.specs.Engines.{SameCapacities, kind_of};
-    ghost use Rattle.nfa_pikevm.specs.Iterators.{FindsBySearches, pike_finds_known, pike_matches};
-    ghost use Rattle.nfa_pikevm.specs.Iterators.{pike_matches_engine, pike_matches_next};
+    ghost use Rattle.nfa_pikevm.specs.Iterators.{FindsBySearches, pike_matches};
+    ghost use Rattle.nfa_pikevm.specs.Iterators.{pike_matches_next};
     ghost use Rattle.nfa_pikevm.specs.Finding.{PikeFindsOn, PikeFindsToEnd};
     ghost use Rattle.nfa_search_base.specs.Runs.{MatchesRun, MatchesAre, MatchesDisjoint, MatchesFirst, MatchesNext};
 
@@ -68,10 +67,6 @@ impl PikeVM {
         requires { Fits cache.old self.now.nfa }
         ensures same_reference { (pike_matches result).cache.ghost_name ≡ cache.entry.ghost_name }
         ensures same_cache { (pike_matches result).cache.now ≡ cache.entry.now }
-        ensures engine { pike_matches_engine result ≡ self.now }
-        ensures iter_state { steps_iter_state (pike_matches result).steps ≡ fresh (search_of input.entry) }
-        ensures going { (pike_matches result).steps.done ≡ false }
-        ensures known { pike_finds_known result ≡ None }
         // Each run of calls gives the first matches of the input, and all of them if it goes on to `None`.
         ensures runs { MatchesRun self.now.nfa (kind_of self.now) (search_of input.entry) pike_matches_next result }
         ensures are { MatchesAre self.now.nfa (kind_of self.now) (search_of input.entry) pike_matches_next result }

@@ -37,13 +37,12 @@ impl Model for CapturesFinder {
 }
 
 impl Choice {
-    ghost use Rattle.std.specs.Prelude.{◌≡◌, false, All, IfOk, IsOkUnless, map};
+    ghost use Rattle.std.specs.Prelude.{◌≡◌, All, IfOk, IsOkUnless, map};
     ghost use Rattle.regex_search_core.specs.Search.{search_of};
     ghost use Rattle.nfa_search_base.specs.WithCaptures.{row_of};
     ghost use Rattle.nfa_search_base.specs.Lists.{AnswersRow};
     ghost use Rattle.nfa_search_base.specs.Runs.{CapturesGiven, CapturesInside, CapturesMemory, CapturesWithin};
-    ghost use Rattle.nfa_search_base.specs.IterStates.{fresh};
-    ghost use Rattle.nfa_search_base.specs.Stored.{GivesStepsWith, steps_iter_state};
+    ghost use Rattle.nfa_search_base.specs.Stored.{GivesStepsWith};
     ghost use Rattle.nfa_choice.specs.Answered.{ListsCaptures};
     ghost use Rattle.nfa_choice.specs.ChoiceState.{kind_in, KeepsEngines, SearchedByRule};
     ghost use Rattle.nfa_choice.specs.Iterations.{CapturesLead, CapturesOn, CapturesToEnd, choice_captures};
@@ -75,9 +74,6 @@ impl Choice {
         ensures same_reference { IfOk result (λ made. (choice_captures made).cache.ghost_name
             ≡ self.entry.ghost_name) }
         ensures same_choice { IfOk result (λ made. (choice_captures made).cache.now ≡ self.entry.now) }
-        ensures iter_state { IfOk result (λ made. steps_iter_state (choice_captures made).steps
-            ≡ fresh (search_of input.entry)) }
-        ensures going { IfOk result (λ made. (choice_captures made).steps.done ≡ false) }
         // Each run of calls gives the first captures of the input, and all of them if it goes on to `None`. If no copy
         // fails, their rows and their matches are those of the input.
         ensures given { IfOk result (CapturesGiven choice_captures_next self.entry.now.nfa (kind_in self.entry.now)
@@ -114,8 +110,6 @@ impl Choice {
         requires { HasGroups self.old.nfa captures }
         ensures same_reference { (choice_captures result).cache.ghost_name ≡ self.entry.ghost_name }
         ensures same_choice { (choice_captures result).cache.now ≡ self.entry.now }
-        ensures iter_state { steps_iter_state (choice_captures result).steps ≡ fresh (search_of input.entry) }
-        ensures going { (choice_captures result).steps.done ≡ false }
         // Each run of calls gives the first captures of the input, and all of them if it goes on to `None`. If no copy
         // fails, their rows and their matches are those of the input.
         ensures given { CapturesGiven choice_captures_next self.entry.now.nfa (kind_in self.entry.now)

@@ -20,13 +20,12 @@ pub struct ChoiceMatches<'c, 'h> {
 struct ByRule;
 
 impl Choice {
-    ghost use Rattle.std.specs.Prelude.{◌≡◌, false, All, IfOk, IsOkUnless, map};
+    ghost use Rattle.std.specs.Prelude.{◌≡◌, All, IfOk, IsOkUnless, map};
     ghost use Rattle.regex_search_core.specs.Found.{found_of};
     ghost use Rattle.regex_search_core.specs.Search.{search_of};
     ghost use Rattle.nfa_search_base.specs.Lists.{IsInside};
     ghost use Rattle.nfa_search_base.specs.Runs.{MatchesRun, MatchesAre, MatchesDisjoint, MatchesFirst, MatchesNext};
-    ghost use Rattle.nfa_search_base.specs.IterStates.{fresh};
-    ghost use Rattle.nfa_search_base.specs.Stored.{GivesStepsWith, steps_iter_state};
+    ghost use Rattle.nfa_search_base.specs.Stored.{GivesStepsWith};
     ghost use Rattle.nfa_choice.specs.Answered.{ListsMatches};
     ghost use Rattle.nfa_choice.specs.ChoiceState.{kind_in, KeepsEngines, SearchedByRule};
     ghost use Rattle.nfa_choice.specs.Iterations.{ChoiceFindsBySearches, FindsOn, FindsToEnd, choice_matches};
@@ -48,8 +47,6 @@ impl Choice {
     pub fn find_iter<'c, 'h>(&'c mut self, input: Input<'h>) -> ChoiceMatches<'c, 'h>
         ensures same_reference { (choice_matches result).cache.ghost_name ≡ self.entry.ghost_name }
         ensures same_choice { (choice_matches result).cache.now ≡ self.entry.now }
-        ensures iter_state { steps_iter_state (choice_matches result).steps ≡ fresh (search_of input.entry) }
-        ensures going { (choice_matches result).steps.done ≡ false }
         // Each run of calls gives the first matches of the input, and all of them if it goes on to `None`.
         ensures runs { MatchesRun self.entry.now.nfa (kind_in self.entry.now)
             (search_of input.entry) choice_matches_next result }

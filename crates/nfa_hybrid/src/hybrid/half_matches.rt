@@ -20,13 +20,12 @@ pub struct HalfMatches<'c, 'h> {
 struct InTurn;
 
 impl Hybrid {
-    ghost use Rattle.std.specs.Prelude.{◌≡◌, false};
+    ghost use Rattle.std.specs.Prelude.{◌≡◌};
     ghost use Rattle.regex_search_core.specs.Search.{search_of};
-    ghost use Rattle.nfa_search_base.specs.IterStates.{fresh};
     ghost use Rattle.nfa_hybrid.specs.HalfRuns.{HalvesGiven};
     ghost use Rattle.nfa_hybrid.specs.HybridState.{kind_in};
     ghost use Rattle.nfa_hybrid.specs.Halves.{HalvesBySearches, HalvesGiveKept};
-    ghost use Rattle.nfa_hybrid.specs.Halves.{halves_done, halves_hybrid, halves_iter_state, halves_next};
+    ghost use Rattle.nfa_hybrid.specs.Halves.{halves_hybrid, halves_next};
 
     /// Returns an iterator over all half matches, from left to right: the patterns of the matches that the searches of
     /// an iteration find, and the offsets of their ends. Does not allocate.
@@ -45,8 +44,6 @@ impl Hybrid {
     pub fn half_matches<'c, 'h>(&'c mut self, input: Input<'h>) -> HalfMatches<'c, 'h>
         ensures same_reference { (halves_hybrid result).ghost_name ≡ self.entry.ghost_name }
         ensures same_hybrid { (halves_hybrid result).now ≡ self.entry.now }
-        ensures iter_state { halves_iter_state result ≡ fresh (search_of input.entry) }
-        ensures going { halves_done result ≡ false }
         // Each run of calls gives the first half matches of the input, and all of them if it goes on to `None`.
         ensures given { HalvesGiven self.entry.now.nfa (kind_in self.entry.now) (search_of input.entry) halves_next
             result }

@@ -37,15 +37,13 @@ impl Model for CapturesFinder {
 }
 
 impl Regex {
-    ghost use Rattle.std.specs.Prelude.{◌≡◌, false, All, IfOk, IsOkUnless, map};
+    ghost use Rattle.std.specs.Prelude.{◌≡◌, All, IfOk, IsOkUnless, map};
     ghost use Rattle.regex_search_core.specs.Search.{search_of};
     ghost use Rattle.nfa_search_base.specs.WithCaptures.{row_of};
     ghost use Rattle.nfa_search_base.specs.Lists.{AnswersRow};
     ghost use Rattle.nfa_search_base.specs.Runs.{CapturesGiven, CapturesInside, CapturesMemory, CapturesWithin};
-    ghost use Rattle.nfa_search_base.specs.IterStates.{fresh};
     ghost use Rattle.nfa_meta.specs.CapturesMatches.{CapturesBySearches, CapturesGiveKept};
     ghost use Rattle.nfa_meta.specs.CapturesMatches.{RegexCapturesOn, RegexCapturesToEnd, captures_regex};
-    ghost use Rattle.nfa_meta.specs.CapturesMatches.{captures_iter_state, captures_done};
     ghost use Rattle.nfa_meta.specs.CapturesMatches.{captures_next};
     ghost use Rattle.nfa_choice.specs.Answered.{ListsCaptures};
     ghost use Rattle.nfa_choice.specs.ChoiceState.{kind_in, KeepsEngines};
@@ -76,8 +74,6 @@ impl Regex {
         ensures same_reference { IfOk result (λ made. (captures_regex made).ghost_name
             ≡ self.entry.ghost_name) }
         ensures same_regex { IfOk result (λ made. (captures_regex made).now ≡ self.entry.now) }
-        ensures iter_state { IfOk result (λ made. captures_iter_state made ≡ fresh (search_of input.entry)) }
-        ensures going { IfOk result (λ made. captures_done made ≡ false) }
         // Each run of calls gives the first captures of the input, and all of them if it goes on to `None`. If no copy
         // fails, their rows and their matches are those of the input.
         ensures given { IfOk result (CapturesGiven captures_next self.entry.now.nfa (kind_in self.entry.now)
@@ -114,8 +110,6 @@ impl Regex {
         requires { HasGroups self.old.nfa captures }
         ensures same_reference { (captures_regex result).ghost_name ≡ self.entry.ghost_name }
         ensures same_regex { (captures_regex result).now ≡ self.entry.now }
-        ensures iter_state { captures_iter_state result ≡ fresh (search_of input.entry) }
-        ensures going { captures_done result ≡ false }
         // Each run of calls gives the first captures of the input, and all of them if it goes on to `None`. If no copy
         // fails, their rows and their matches are those of the input.
         ensures given { CapturesGiven captures_next self.entry.now.nfa (kind_in self.entry.now)

@@ -29,16 +29,15 @@ struct ByWindow {
 }
 
 impl Regex {
-    ghost use Rattle.std.specs.Prelude.{◌≡◌, false, All, IfOk, IsOkUnless, map};
+    ghost use Rattle.std.specs.Prelude.{◌≡◌, All, IfOk, IsOkUnless, map};
     ghost use Rattle.regex_search_core.specs.Found.{found_of};
     ghost use Rattle.regex_search_core.specs.Search.{search_of};
     ghost use Rattle.nfa_search_base.specs.Lists.{IsInside};
-    ghost use Rattle.nfa_search_base.specs.IterStates.{fresh};
     ghost use Rattle.nfa_search_base.specs.Runs.{MatchesRun, MatchesAre, MatchesDisjoint, MatchesFirst, MatchesNext};
     ghost use Rattle.nfa_choice.specs.Answered.{ListsMatches};
     ghost use Rattle.nfa_choice.specs.ChoiceState.{kind_in, KeepsEngines};
     ghost use Rattle.nfa_meta.specs.Matches.{FindsBySearches, FindsGiveKept, RegexFindsOn, RegexFindsToEnd};
-    ghost use Rattle.nfa_meta.specs.Matches.{finds_done, finds_iter_state, finds_next, finds_regex};
+    ghost use Rattle.nfa_meta.specs.Matches.{finds_next, finds_regex};
 
     /// Returns an iterator over all matches that do not overlap, from left to right. Does not allocate.
     ///
@@ -56,8 +55,6 @@ impl Regex {
     pub fn find_iter<'r, 'h>(&'r mut self, input: Input<'h>) -> FindMatches<'r, 'h>
         ensures same_reference { (finds_regex result).ghost_name ≡ self.entry.ghost_name }
         ensures same_regex { (finds_regex result).now ≡ self.entry.now }
-        ensures iter_state { finds_iter_state result ≡ fresh (search_of input.entry) }
-        ensures going { finds_done result ≡ false }
         // Each run of calls gives the first matches of the input, and all of them if it goes on to `None`.
         ensures runs { MatchesRun self.entry.now.nfa (kind_in self.entry.now)
             (search_of input.entry) finds_next result }

@@ -14,10 +14,6 @@ returns c =
     record {
       same_reference = refl;
       same_cache = refl;
-      engine = refl;
-      iter_state = iter_state;
-      going = refl;
-      known = refl;
       runs = given.run;
       matches = match.run;
       inside = runs-inside e x _ refl iter_state refl;

@@ -12,8 +12,6 @@ returns c =
     record {
       same_reference = refl;
       same_choice = refl;
-      iter_state = c.new.ensures;
-      going = refl;
       given = given;
       inside = given.inside;
       errors = captures-take-memory SearchedByRule choice_captures x _ c.new.ensures refl;

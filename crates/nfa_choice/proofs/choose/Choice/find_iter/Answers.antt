@@ -16,8 +16,6 @@ returns c =
         to_end = finds-to_end rule_finder choice_matches x _ c.new.ensures refl;
       };
       keeps = finds-kept rule_finder choice_matches _;
-      iter_state = c.new.ensures;
-      going = refl;
       runs = given.runs;
       are = given.are;
       disjoint = given.disjoint;

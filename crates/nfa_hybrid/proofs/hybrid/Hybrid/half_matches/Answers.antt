@@ -10,8 +10,6 @@ returns c =
     record {
       same_reference = refl;
       same_hybrid = refl;
-      iter_state = c.new.ensures;
-      going = refl;
       given = halves-of hybrid_engine half_steps x _ c.new.ensures refl;
       searches = halves-searches hybrid_engine half_steps x _ c.new.ensures refl;
       keeps = halves-kept hybrid_engine half_steps _;

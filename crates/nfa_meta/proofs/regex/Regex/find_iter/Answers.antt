@@ -17,8 +17,6 @@ returns c =
         to_end = finds-to_end regex_finder finds_steps x _ c.new.ensures refl;
       };
       keeps = finds-kept regex_finder finds_steps _;
-      iter_state = c.new.ensures;
-      going = refl;
       runs = given.runs;
       are = given.are;
       disjoint = given.disjoint;

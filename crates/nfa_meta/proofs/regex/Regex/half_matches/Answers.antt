@@ -11,8 +11,6 @@ returns c =
     record {
       same_reference = refl;
       same_regex = refl;
-      iter_state = c.new.ensures;
-      going = refl;
       given = halves-of regex_engine half_steps x _ c.new.ensures refl;
       searches = halves-searches regex_engine half_steps x _ c.new.ensures refl;
       keeps = halves-kept regex_engine half_steps _;

@@ -11,10 +11,6 @@ returns c =
     record {
       same_reference = refl;
       same_cache = refl;
-      engine = refl;
-      iter_state = c.new.ensures;
-      going = refl;
-      known = refl;
       runs = given.runs;
       are = given.are;
       disjoint = given.disjoint;
