@@ -11,9 +11,8 @@ use Rattle.nfa_paths.proofs.PatternLemmas.{some-pattern}
 use Rattle.nfa_paths.proofs.AnswerLemmas.{scan_answer-leads}
 use Rattle.nfa_paths.proofs.ExistenceLemmas.{scan_answer-none}
 use Rattle.nfa_paths.proofs.StartLemmas.{IsMatch-edges}
-use Rattle.nfa_match_spans.proofs.LawLemmas.{linked-open}
-use Rattle.nfa_match_spans.proofs.SearchLemmas.{In-get_or}
-use Rattle.nfa_engines.proofs.FirstPatternLemmas.{put-linked}
+use Rattle.nfa_paths.proofs.OpenPathLemmas.{In-get_or, linked-open}
+use Rattle.nfa_paths.proofs.FirstStartLemmas.{put-linked}
 use Rattle.nfa_compiler.proofs.EachLemmas.{attempt-matches}
 use Rattle.nfa_compiler.proofs.SearchLemmas.{is_bound}
 use Rattle.nfa_compiler.proofs.WayLemmas.{starts-sound, starts-complete, within-end, from-pattern, no-match, start-among}

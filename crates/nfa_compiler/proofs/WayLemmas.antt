@@ -7,17 +7,15 @@ use Rattle.regex_nfa.specs.declared.state.State.TheVariants as their
 use Rattle.regex_nfa.specs.declared.nfa.Nfa.{Nfa}
 use Rattle.thompson_nfa.specs.Automaton.Node.{Match}
 use Rattle.nfa_paths.proofs.PathToLemmas.{EndsWith-last}
-use Rattle.nfa_match_spans.specs.StatePaths.{targets, reads, position_after, open_edges, RecordsMatchSpans}
+use Rattle.nfa_paths.specs.StatePaths.{targets, reads, position_after, open_edges, RecordsMatchSpans}
 use Rattle.nfa_compiler.specs.declared.block.Site.{Site}
 use Rattle.nfa_compiler.proofs.BlockLemmas.{node-plain}
-use Rattle.nfa_engines.specs.StartLaws.{alternates_of, started_at, StartsMatchTheirPatterns, TriesPatternsInOrder}
-use Rattle.nfa_engines.proofs.PatternAnswerLemmas.{pattern-alone}
-use Rattle.nfa_engines.proofs.FirstPatternLemmas.{start-there}
-use Rattle.nfa_match_spans.proofs.LawLemmas.{linked-open}
+use Rattle.nfa_paths.specs.Starts.{alternates_of, started_at, StartsMatchTheirPatterns, TriesPatternsInOrder}
+use Rattle.nfa_paths.proofs.OpenPathLemmas.{linked-open, pattern-alone}
 use Rattle.nfa_paths.proofs.MemberLemmas.{same_some}
 use Rattle.nfa_paths.proofs.Common.{◌≡◌, ℕ, ◌+◌, ◌≤◌, ◌<◌, [], sym, subst, arith, Some, if◌then◌else◌, ◌↔◌, ◌==◌, ◌||◌, option_map_or, nat_tests, Search, is_anchored, Automaton, Pair, In, start_state, start_count, starts, suc, ◌*◌, ◌⊎◌, inl, inr, Bool, false, List, ◌∷◌, map, length, refl, ap, true≢false, ◌∙◌, None, Option, is_some, All, slice_index, slice_range, option_and_then, le-ltb, cond-false, slice_get_within, get_or_from_slice_get, number_of, Anchored, Node, Linked, EndsWith, pattern_of, slot_of, node_at, slot_among, IsMatch, Pattern, Union, Capture, slice_get, HeadIs, PathTo, edges, path_pattern, Yes}
 use Rattle.nfa_paths.proofs.StartLemmas.{pairs_from-has}
-use Rattle.nfa_engines.proofs.FirstStartLemmas.{pairs_from-in}
+use Rattle.nfa_paths.proofs.FirstStartLemmas.{pairs_from-in, start-there}
 use Rattle.nfa_compiler.specs.Common.{Re, match_at, moved, node_for, LeadsInside, Stands, IsBlock, IsNfaOf, explicit_slot}
 
 module _ (a : Automaton) (x : Search) where

@@ -11,7 +11,7 @@ use Rattle.regex_syntax.specs.declared.Parsed.{Parsed}
 use Rattle.regex_nfa.specs.declared.nfa.Nfa.{Nfa}
 use Rattle.regex_compile.specs.Implements.{Implements}
 use Rattle.nfa_paths.specs.Common.{AllZip, number_of, Search, Automaton, Node, Fail, Union, explicit_slot}
-use Rattle.nfa_engines.specs.Laws.{MatchesNothing}
+use Rattle.nfa_paths.specs.Starts.{MatchesNothing}
 use Rattle.nfa_compiler.specs.declared.block.Site.{Site}
 use Rattle.nfa_compiler.specs.Blocks.{match_at, IsBlock}
 use Rattle.nfa_compiler.specs.Loops.{all_begin_at_start}

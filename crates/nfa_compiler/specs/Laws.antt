@@ -4,8 +4,8 @@ use Rattle.regex_hir.specs.declared.look.Look as theirs
 use Rattle.regex_syntax.specs.WellFormed.{IsWellFormed}
 use Rattle.regex_search_core.specs.declared.search.MatchKind.TheVariants as match_kind
 use Rattle.nfa_search_base.specs.Common.{IsBoundary, Found, group_named, groups_at, Search, group_span, named_span, MatchKind, Automaton, Yes, No, HoldsPattern, IsAnswer, IsBoolAnswer, IsFindAnswer, IsOverlapResult, is_utf8_empty, look_holds, AreMatches, AreRows, Row}
-use Rattle.nfa_engines.specs.StartLaws.{StartsMatchTheirPatterns}
-use Rattle.nfa_match_spans.specs.StatePaths.{RecordsMatchSpans}
+use Rattle.nfa_paths.specs.Starts.{StartsMatchTheirPatterns}
+use Rattle.nfa_paths.specs.StatePaths.{RecordsMatchSpans}
 use Rattle.nfa_compiler.specs.Common.{Match, Matches, Re, empty, holds, meaning, Config, Parsed, look_of, AreMeant, AreNamed, FindsFromAnyStart, IsCompiled, IsNfaOf, LosesNoHit, begins_at_start, AreOfHit, HitOf, IsLeftmostToTheEnd, PatternHit, StartsOnBoundary, all_of, boundary_hit, captures_of, found_at, found_of_hit, hit_by, row_of_hit, str_hit, MatchesCharacters, MatchesSomewhere, PatternMatches, written_span}
 
 -- each assertion holds exactly if its counterpart does

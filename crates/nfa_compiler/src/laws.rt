@@ -1,7 +1,7 @@
 //! Searches of a compiled NFA find what its patterns mean. Each function is empty: its contract is the theorem.
 ghost use Rattle.std.specs.Prelude.{false, true};
 ghost use Rattle.regex_hir.specs.Find.{find, find_all, find_all_str, find_str};
-ghost use Rattle.nfa_engines.specs.StartLaws.{TriesPatternsInOrder};
+ghost use Rattle.nfa_paths.specs.Starts.{TriesPatternsInOrder};
 ghost use Rattle.nfa_compiler.specs.Laws.{AllHitsAreFindAll, AnswersAreHits, AnswersIfMatches, AnswersOnlyMatches};
 ghost use Rattle.nfa_compiler.specs.Laws.{Anywhere, BegunMatchAtStart, BoundaryHitsAreStrHits, FindsHits};
 ghost use Rattle.nfa_compiler.specs.Laws.{FindsIfMatches, FindsOnlyMatches, GroupsAreCounted, GroupsAreNamed};

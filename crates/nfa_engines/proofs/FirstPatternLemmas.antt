@@ -1,16 +1,11 @@
 -- If the anchored start tries the patterns in order, the first pattern that has an accepting path answers.
 use Rattle.nfa_paths.proofs.Common.{◌≡◌, ◌∙◌, ℕ, zero, suc, ◌≤◌, ◌<◌, ◌⊎◌, inl, inr, false, List, [], ◌∷◌, map, refl, sym, ap, arith, slice_get, None, Some, is_some, cases_eq, Search, Automaton, Node, Pair, In, Earlier, HeadIs, NoRepeats, Linked, EndsWith, ComesBefore, PathTo, capture, edges, edges_of, node_at, pattern_of, slot_of, starts, is_match, IsMatch, Yes}
-use Rattle.nfa_engines.proofs.FirstStartLemmas.{anchored-start, start-anchored, StartsAt}
+use Rattle.nfa_paths.proofs.FirstStartLemmas.{anchored-start, put-linked, start-there, StartsAt}
 use Rattle.nfa_engines.specs.StartLaws.{alternates_of, started_at, IsUnionOfPatterns}
 use Rattle.nfa_paths.proofs.MemberLemmas.{same_some}
 use Rattle.nfa_paths.proofs.PathToLemmas.{EndsWith-cons}
 
 -- lists
-
--- a list with a head, after a pair that leads to it, is linked
-pub put-linked : (edges : Pair → List Pair) (v w : Pair) (p : List Pair) → In w (edges v) → HeadIs w p → Linked edges p
-    → Linked edges (v ∷ p)
-put-linked = grind arith
 
 -- what is in a path has a path of its own
 record Begins (edges : Pair → List Pair) (s v : Pair) (p : List Pair) : Type 0 where
@@ -132,9 +127,6 @@ union-writes _ ps e = grind arith
 
 module _ (nfa : Automaton) (x : Search) (bound : x.anchored ≡ Yes) where
   -- the one start of an anchored search of an NFA
-
-  pub start-there : (n : Automaton) (v : Pair) → In v (starts n x) → StartsAt n x x.start v
-  start-there n v i = grind (arith, start-anchored)
 
   pub there-start : (n : Automaton) (v : Pair) → v ≡ (n.anchored, x.start) → x.start ≤ x.end → In v (starts n x)
   there-start n v e within = grind (arith, anchored-start)

@@ -5,7 +5,7 @@ use Rattle.nfa_paths.proofs.ScanAnswerLemmas.{edges-rise, starts-from, starts-wi
 use Rattle.nfa_paths.proofs.StartLemmas.{resting-edges}
 use Rattle.nfa_engines.specs.SpanLaws.{cut_to, AnswersHaveASpan, EndMayBeCut, IsLeastStart, MayCut, SearchMayBeCut, SpanMayBeCut, StartIsLeast, StartIsLeastOfAll}
 use Rattle.nfa_engines.specs.SpanLaws.MayCut.{same}
-use Rattle.nfa_engines.proofs.FirstStartLemmas.{ends-one, heads-one, heads-order, is_tied, of-start, path-order, start-of, with-edges, StartOf}
+use Rattle.nfa_paths.proofs.FirstStartLemmas.{ends-one, heads-one, heads-order, is_tied, of-start, path-order, start-of, with-edges, StartOf}
 
 -- the start
 

@@ -1,4 +1,3 @@
-pub mod FirstStartLemmas
 pub mod IterationLemmas
 pub mod FirstSetLemmas
 pub mod FlagLemmas

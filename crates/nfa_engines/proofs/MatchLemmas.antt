@@ -10,7 +10,7 @@ use Rattle.nfa_paths.proofs.EarliestLemmas.{match-unique}
 use Rattle.nfa_paths.proofs.OneScanLemmas.{given, has-path, scan-of}
 use Rattle.nfa_paths.proofs.PatternLemmas.{found-of, offset_at-slot_row, pattern-within, slot_among-past, node-pattern, slot_row-more, slot_row-take}
 use Rattle.nfa_paths.proofs.RestartLemmas.{half-pattern}
-use Rattle.nfa_engines.proofs.FirstStartLemmas.{heads-order, path-order}
+use Rattle.nfa_paths.proofs.FirstStartLemmas.{heads-order, path-order}
 use Rattle.nfa_engines.specs.Laws.{AllSlotsGiveTheMatch, FoundIsSomething, NoPatternIsNothing, NotFoundIsNothing, PatternIsMatched, TwoSlotsGiveTheMatch, AtMostOne, HalfMatchHasThePattern, BoolIsPattern, AnswersAgree, FewerSlots, SlotsPastAreNone, MatchesNothing, MatchesPattern, MatchesSomething, NoneIsNoPath, NoneStartsBefore, WritesItsEnds, StartsBeforePaths}
 
 no_groups : (groups : List (List (Option (List ℕ)))) → length groups ≡ 0 → slot_count groups ≡ 0

@@ -4,7 +4,7 @@ use Rattle.nfa_paths.proofs.PathToLemmas.{PathTo-along}
 use Rattle.nfa_paths.proofs.SameScanLemmas.{Explored, explored}
 use Rattle.nfa_paths.proofs.MemberLemmas.{In-map}
 use Rattle.nfa_paths.proofs.Common.{◌≡◌, ℕ, ◌+◌, ◌↔◌, ◌∙◌, inl, inr, Bool, true, false, List, [], ◌∷◌, map, refl, ap, subst, arith, Option, None, Some, option_map, Automaton, MatchKind, Search, Pair, ComesBefore, WantedAt, PathTo, NoPath, Passes, IsFirstTo, IsEnd, IsLeastEnd, IsGreatestEnd, IsLastOfFirsts, IsScanAnswer, LeftmostFirst, sym, In, Earlier, HeadIs, NoRepeats, Linked, EndsWith, BeforeAfter}
-use Rattle.nfa_engines.proofs.FirstPatternLemmas.{put-linked}
+use Rattle.nfa_paths.proofs.FirstStartLemmas.{put-linked}
 
 -- the pair, this many positions to the right
 abbrev pub moved : ℕ → Pair → Pair

@@ -4,7 +4,7 @@ use Rattle.nfa_paths.proofs.Common.{◌≡◌, ℕ, ◌<◌, ◌⊎◌, inl, inr
 use Rattle.nfa_engines.specs.Laws.{MatchesNothing, PathsWriteTheirEnds}
 use Rattle.nfa_engines.specs.StartLaws.{started_at, AnswersAreOfPatterns, FirstPatternAnswers, IsFirstPattern, IsOfPattern, NothingOfEachPattern, AnswerIsOfFirst, FirstPatternMatches, IsFirstThatMatches, IsMatchOfPattern, MatchIsOfFirst, MatchesAreOfPatterns, StartsMatchTheirPatterns, TriesPatternsInOrder}
 use Rattle.nfa_paths.proofs.OneScanLemmas.{has-path, scan-of, search-of, gives, given, match-by}
-use Rattle.nfa_engines.proofs.FirstStartLemmas.{heads-one}
+use Rattle.nfa_paths.proofs.FirstStartLemmas.{heads-one}
 use Rattle.nfa_engines.proofs.FirstPatternLemmas.{comes, earlier, goes, head-of, not-earlier, order-apart, order-back, order-same, top, top-edges, top-writes, GoesOn, IsTried}
 use Rattle.nfa_paths.proofs.MemberLemmas.{option_or-None, same_some}
 use Rattle.nfa_paths.proofs.PathLemmas.{Earlier-irreflexive}
@@ -235,12 +235,6 @@ match-first-pattern nfa x k found valid anywhere bound tries their write a =
     let same = match-has_pattern nfa x valid write a.path found scan a.found_is in
     let of_answer = answer-first nfa x k g.pattern g.slots anywhere bound tries their g.answers in
     (λ e. of_answer.0 (sym same ∙ e), λ f. same ∙ of_answer.1 f)
-
--- the pattern of a path does not depend on the anchored start
-pub pattern-alone : (nfa : Automaton) (state : ℕ) (r : Option (List Pair))
-    → option_and_then (path_pattern (started_at nfa state)) r ≡ option_and_then (path_pattern nfa) r
-unfolding node_at
-pattern-alone nfa state r = refl
 
 -- the two searches start at the same pairs
 module _ (nfa : Automaton) (x : Search) (pattern : PatternID) (state : ℕ)

@@ -7,7 +7,7 @@ use Rattle.nfa_engines.specs.StartLaws.{AnswersHaveAStart, anchored_at, from_sta
 use Rattle.nfa_paths.proofs.SameScanLemmas.{Explored, explored}
 use Rattle.nfa_engines.proofs.MovedLemmas.{moved, moved_path, ArePathsMoved}
 use Rattle.nfa_engines.proofs.MovedAnswerLemmas.{IsMovable, IsMovedTo, stays}
-use Rattle.nfa_engines.proofs.FirstStartLemmas.{anchored-start, heads-less, heads-order, start-anchored, start-unanchored, unanchored-start, with-starts}
+use Rattle.nfa_paths.proofs.FirstStartLemmas.{anchored-start, heads-less, heads-order, start-anchored, start-unanchored, unanchored-start, with-starts}
 
 -- by no distance each pair moves to itself
 moved-none : (v : Pair) → moved 0 v ≡ v

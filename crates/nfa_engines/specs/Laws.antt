@@ -1,15 +1,7 @@
 -- Laws of scans, of searches and of what they answer, about the definitions only; and that no match is missed.
 use Rattle.std.specs.Prelude.{◌≡◌, ◌↔◌, ℕ, ◌+◌, ◌*◌, ◌≤◌, Bool, false, List, Option, None, Some, IfSome, ◌⊎◌, ◌-◌, true, option_map, is_some, length, take, drop, replicate}
 use Rattle.nfa_paths.specs.Common.{Found, Search, MatchKind, Automaton, IsAutomaton, Pair, HeadIs, PathTo, NoPath, edges, starts, is_utf8_empty, IsMatch, IsFindAnswer, path_pattern, slot_among, slot_count, match_of, ComesBefore, HalfFound, IsScanAnswer, IsSearchAnswer, IsAnswer, IsBoolAnswer, IsHalfAnswer, IsOverlapResult, LeftmostFirst}
-
--- the path writes its start and its end into the two slots of its pattern
-pub record WritesItsEnds (nfa : Automaton) (end : Pair) (p : List Pair) : Type 0 where
-  pub start : Pair
-  pub head : HeadIs start p
-  pub pattern : ℕ
-  pub pattern_is : path_pattern nfa p ≡ Some pattern
-  pub start_slot : slot_among nfa p (2 * pattern) ≡ Some start.1
-  pub end_slot : slot_among nfa p (2 * pattern + 1) ≡ Some end.1
+pub use Rattle.nfa_paths.specs.Starts.{WritesItsEnds, MatchesNothing, MatchesSomething, MatchesPattern}
 
 -- each accepting path of the search does
 abbrev pub PathsWriteTheirEnds : Automaton → Search → Type 0
@@ -36,25 +28,6 @@ NoneStartsBefore kind earliest =
     → PathsWriteTheirEnds nfa x
     → IsFindAnswer nfa kind earliest x found
     → IfSome found (StartsBeforePaths nfa x)
-
--- the search has no accepting path
-pub record MatchesNothing (nfa : Automaton) (x : Search) : Type 0 where
-  pub no_path : NoPath (edges nfa x) (starts nfa x) (IsMatch nfa)
-
--- the search has an accepting path
-pub record MatchesSomething (nfa : Automaton) (x : Search) : Type 0 where
-  pub end : Pair
-  pub along : List Pair
-  pub path : PathTo (edges nfa x) (starts nfa x) end along
-  pub accepts : IsMatch nfa end
-
--- the search has an accepting path of the pattern
-pub record MatchesPattern (nfa : Automaton) (x : Search) (pattern : ℕ) : Type 0 where
-  pub end : Pair
-  pub along : List Pair
-  pub path : PathTo (edges nfa x) (starts nfa x) end along
-  pub accepts : IsMatch nfa end
-  pub pattern_is : path_pattern nfa along ≡ Some pattern
 
 -- What a search answers, for each match kind, `earliest` or not: a relation such as `IsFindAnswer`, or that of the list
 -- of its matches.

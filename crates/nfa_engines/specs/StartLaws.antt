@@ -3,32 +3,13 @@
 use Rattle.std.specs.Prelude.{◌≡◌, ◌↔◌, ◌==◌, ℕ, ◌+◌, ◌<◌, ◌≤◌, Bool, false, List, Option, Some, ◌⊎◌, [], ◌∷◌, None, option_map, slice_get}
 use Rattle.nfa_paths.specs.Common.{Found, Search, MatchKind, Automaton, byte_at, is_utf8_empty, IsAnswer, IsFindAnswer, No, Yes, number_of, PatternID, IsAutomaton, Node, Pair, PathTo, edges, node_at, starts, Pattern, Union, BinaryUnion}
 use Rattle.nfa_paths.specs.Paths.{NoMatchBegins}
+pub use Rattle.nfa_paths.specs.Starts.{from_start, anchored_at, IsUnbound, IsFirstStart, NothingAtByte, StartIsFirst, started_at, alternates_of, IsUnionOfPatterns, TriesPatternsInOrder, StartsMatchTheirPatterns}
 use Rattle.nfa_engines.specs.Laws.{MatchesNothing, MatchesPattern, MatchesSomething, Tells, PathsWriteTheirEnds}
-
--- the search from another start
-abbrev pub from_start : Search → ℕ → Search
-from_start x s = record x { start = s }
-
--- the anchored search there
-abbrev pub anchored_at : Search → ℕ → Search
-anchored_at x s = record x { start = s; anchored = Yes }
 
 -- a match of the search may start at each position of its span: neither the search nor the NFA is anchored
 pub record StartsAnywhere (nfa : Automaton) (x : Search) : Type 0 where
   pub unanchored : x.anchored ≡ No
   pub prefixed : (nfa.anchored == nfa.unanchored) ≡ false
-
--- A match of the search may start at each position of its span, and end anywhere: neither the search nor the NFA is
--- anchored, and no match has to end on a boundary.
-pub record IsUnbound (nfa : Automaton) (x : Search) : Type 0 where
-  pub unanchored : x.anchored ≡ No
-  pub prefixed : (nfa.anchored == nfa.unanchored) ≡ false
-  pub anywhere : is_utf8_empty nfa ≡ false
-
--- the start is not before that of the search, and no anchored search at an earlier start has an accepting path
-pub record IsFirstStart (nfa : Automaton) (x : Search) (s : ℕ) : Type 0 where
-  pub from : x.start ≤ s
-  pub nothing : (i : ℕ) → x.start ≤ i → i < s → MatchesNothing nfa (anchored_at x i)
 
 -- a search answers what the search from such a start on answers, for any kind
 abbrev pub StartsArePassed : {A : Type 0} → Tells A → Type 0
@@ -73,25 +54,11 @@ NothingAtEachStart =
     (nfa : Automaton) (x : Search) → IsUnbound nfa x
     → MatchesNothing nfa x ↔ ((i : ℕ) → x.start ≤ i → MatchesNothing nfa (anchored_at x i))
 
--- At a position with a byte that no match begins with, the anchored search has no accepting path.
-abbrev pub NothingAtByte : Type 0
-NothingAtByte =
-    (nfa : Automaton) (x : Search) (i byte : ℕ) → NoMatchBegins nfa byte → byte_at x i ≡ Some byte
-    → MatchesNothing nfa (anchored_at x i)
-
--- the start of a search is such a start
-abbrev pub StartIsFirst : Type 0
-StartIsFirst = (nfa : Automaton) (x : Search) → IsFirstStart nfa x x.start
-
 -- if no match begins with the byte at such a start, the next position is one, too
 abbrev pub FirstStartMoves : Type 0
 FirstStartMoves =
     (nfa : Automaton) (x : Search) (s byte : ℕ) → IsFirstStart nfa x s → byte_at x s ≡ Some byte
     → NoMatchBegins nfa byte → IsFirstStart nfa x (s + 1)
-
--- the NFA of one pattern: its anchored start is that of the pattern
-abbrev pub started_at : Automaton → ℕ → Automaton
-started_at nfa state = record nfa { anchored = state }
 
 -- A search that is anchored to a pattern answers what the anchored search of only this pattern answers, for any kind.
 abbrev pub PatternIsAlone : {A : Type 0} → Tells A → Type 0
@@ -100,22 +67,6 @@ PatternIsAlone {A} Is =
     → slice_get nfa.patterns (number_of pattern) ≡ Some state
     → Is nfa kind earliest (record x { anchored = Pattern pattern }) a
     ↔ Is (started_at nfa state) kind earliest (record x { anchored = Yes }) a
-
--- the states that a union tries, in order
-abbrev pub alternates_of : Node → Option (List ℕ)
-alternates_of (Union alternates) = Some alternates
-alternates_of (BinaryUnion alt1 alt2) = Some (alt1 ∷ alt2 ∷ [])
-alternates_of _ = None
-
--- the anchored start is a union of the patterns' starts, in their order, and no path from one of these leads to it
-pub record IsUnionOfPatterns (nfa : Automaton) (x : Search) : Type 0 where
-  pub union : alternates_of (node_at nfa nfa.anchored) ≡ Some nfa.patterns
-  pub apart : (k state at : ℕ) (p : List Pair) → slice_get nfa.patterns k ≡ Some state
-      → PathTo (edges nfa x) (starts (started_at nfa state) x) (nfa.anchored, at) p → ⊥
-
--- the same, or the anchored start is that of the only pattern
-abbrev pub TriesPatternsInOrder : Automaton → Search → Type 0
-TriesPatternsInOrder nfa x = (nfa.patterns ≡ nfa.anchored ∷ []) ⊎ IsUnionOfPatterns nfa x
 
 -- pattern k starts at the state, and no earlier pattern has an accepting path
 pub record IsFirstPattern (nfa : Automaton) (x : Search) (k state : ℕ) : Type 0 where
@@ -175,12 +126,6 @@ NothingOfEachPattern =
     (nfa : Automaton) (x : Search) → x.anchored ≡ Yes → TriesPatternsInOrder nfa x
     → MatchesNothing nfa x
     ↔ ((k state : ℕ) → slice_get nfa.patterns k ≡ Some state → MatchesNothing (started_at nfa state) x)
-
--- A pattern that is searched alone matches as no other: its start leads only to Matches of this pattern.
-abbrev pub StartsMatchTheirPatterns : Automaton → Search → Type 0
-StartsMatchTheirPatterns nfa x =
-    (k state pattern : ℕ) → slice_get nfa.patterns k ≡ Some state → MatchesPattern (started_at nfa state) x pattern
-    → pattern ≡ k
 
 -- pattern k matches when it is searched alone, and no earlier pattern does
 pub record IsFirstThatMatches (nfa : Automaton) (x : Search) (k : ℕ) : Type 0 where

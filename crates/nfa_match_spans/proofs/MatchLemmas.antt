@@ -5,11 +5,11 @@ use Rattle.nfa_paths.proofs.AnswerLemmas.{scan_answer-leads, search_answer-uniqu
 use Rattle.nfa_paths.proofs.ExistenceLemmas.{scan_answer-none}
 use Rattle.nfa_paths.proofs.OneScanLemmas.{last-scan, scan-of}
 use Rattle.nfa_paths.proofs.PathToLemmas.{EndsWith-last}
-use Rattle.nfa_engines.proofs.FirstStartLemmas.{ends-one, heads-one}
+use Rattle.nfa_paths.proofs.FirstStartLemmas.{ends-one, heads-one}
 use Rattle.nfa_engines.specs.Items.{end_of}
 use Rattle.nfa_engines.proofs.MatchLemmas.{path-match}
 use Rattle.nfa_match_spans.specs.MatchSpanLaws.{AnchoredStartsTheSpan, AnswersBytes, AreOneMatch, BytesAreAnswered, HalfMatchesAreEnds, HasNoByteAt, MatchesAreOfPaths, MatchesNothing, NoBytesAreAnswered, PathsReadBytes}
-use Rattle.nfa_match_spans.specs.StatePaths.{RecordsMatchSpans}
+use Rattle.nfa_paths.specs.StatePaths.{RecordsMatchSpans}
 use Rattle.nfa_match_spans.proofs.LawLemmas.{paths-recorded, start-anchored}
 
 module _ (nfa : Automaton) (kind : MatchKind) (earliest : Bool) (x : Search) where

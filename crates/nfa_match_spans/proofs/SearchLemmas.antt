@@ -2,17 +2,12 @@
 use Rattle.nfa_paths.proofs.Common.{◌≡◌, ℕ, suc, zero, ◌+◌, ◌<◌, ◌≤◌, inl, inr, List, [], ◌∷◌, ◌++◌, length, get_or, take, refl, ap, sym, ◌∙◌, arith, subst, below_more, Option, Some, None, false, Bool, All, IfSome, IsTrue, ◌↔◌, filter_map, slice_get, take_more, take_all, take-append-le, length-append, get_or_from_slice_get, slice_get_within, Pattern, number_of, PatternID, Automaton, Node, LeadsBelow, In, node_at, pattern_of, Transition, Sparse, Dense, Union}
 use Rattle.nfa_paths.proofs.MemberLemmas.{In-append, In-append_left, All-In}
 use Rattle.nfa_engines.proofs.MovedLemmas.{In-mapped}
-use Rattle.nfa_match_spans.specs.StatePaths.{targets, IsStart}
+use Rattle.nfa_paths.specs.StatePaths.{targets, IsStart}
 use Rattle.nfa_match_spans.specs.PathStates.{fresh_path_state, at_state, after_node, next_places, is_recorded, IsFresh, GainsPathStates, IsFine, IsClosed, IsUnderWay, IsLedTo}
 use Rattle.nfa_match_spans.proofs.StatePathLemmas.{IsLedTo-fresh, IsLedTo-next}
 use Rattle.nfa_match_spans.specs.declared.path_state.PathState.{PathState}
 
 -- lists
-
-pub In-get_or : {A : Type 0} (xs : List A) (k : ℕ) (d : A) → k < length xs → In (get_or xs k d) xs
-In-get_or [] k d h = absurd (omega arith)
-In-get_or (x ∷ xs) zero d h = inl refl
-In-get_or (x ∷ xs) (suc k) d h = inr (In-get_or xs k d (omega arith))
 
 pub slice_get-in : {A : Type 0} (xs : List A) (k : ℕ) (x : A) → slice_get xs k ≡ Some x → In x xs
 slice_get-in [] k x e = cc

@@ -1,6 +1,6 @@
 -- Ways, the places that they lead to, what a place says about the two slots, and the table of those that were reached.
 use Rattle.nfa_paths.proofs.Common.{ℕ_discrete, ◌≡◌, ℕ, ◌+◌, ◌*◌, ◌==◌, List, [], ◌∷◌, ◌++◌, sym, arith, Option, Some, None, false, if◌then◌else◌, option_or, option_map_or, Automaton, Node, Pair, slot_of, slot_among, Capture, ◌<◌, length, refl, rules, subst, true, ◌&&◌, IsAutomaton, In, HeadIs, Linked, EndsWith, node_at, pattern_of, inl, inr, get_or, set, ap, ◌∙◌, get_or-set_other, length-set, Bool, append_assoc, length-append, sum_by-set}
-use Rattle.nfa_match_spans.specs.StatePaths.{reads, position_after, targets, open_edges, IsStatePath, PatternRecordsMatchSpans, RecordsMatchSpans}
+use Rattle.nfa_paths.specs.StatePaths.{reads, position_after, targets, open_edges, IsStatePath, PatternRecordsMatchSpans, RecordsMatchSpans}
 use Rattle.nfa_match_spans.specs.PathStates.{fresh_path_state, at_state, after_node, Describes, next_places, is_recorded, IsFresh, IsLedTo, IsClosed, path_state_number, IsTable, GainsPathStates}
 use Rattle.nfa_match_spans.specs.declared.path_state.PathState.{PathState}
 use Rattle.nfa_paths.proofs.MemberLemmas.{option_or-None, option_or-assoc, In-map, In-append, In-append_left, In-append_right}

@@ -1,3 +1,3 @@
 pub mod MatchSpanLaws
 pub mod PathStates
-pub mod StatePaths
+pub use Rattle.nfa_paths.specs.StatePaths

@@ -4,7 +4,7 @@ use Rattle.nfa_paths.specs.Common.{Found, HalfFound, Search, is_anchored, MatchK
 pub use Rattle.nfa_engines.specs.Laws.{MatchesNothing}
 use Rattle.nfa_engines.specs.Items.{end_of}
 use Rattle.nfa_engines.specs.Laws.{PathsWriteTheirEnds, StartsBeforePaths}
-use Rattle.nfa_match_spans.specs.StatePaths.{RecordsMatchSpans}
+use Rattle.nfa_paths.specs.StatePaths.{RecordsMatchSpans}
 
 -- the match is that of this accepting path: its pattern, its start and its end
 pub record IsMatchOfPath (nfa : Automaton) (x : Search) (p : List Pair) (m : Found) : Type 0 where

@@ -1,7 +1,7 @@
 -- States with what the ways to them have done. A test of all ways visits these.
 use Rattle.std.specs.Prelude.{◌≡◌, ℕ, ◌+◌, ◌*◌, ◌≤◌, ◌<◌, ◌↔◌, Bool, true, false, not, ◌&&◌, List, [], ◌∷◌, ◌++◌, map, take, length, slice_index_or, Option, Some, if◌then◌else◌, count_by, ◌==◌}
 use Rattle.nfa_paths.specs.Common.{Automaton, Node, Pair, In, HeadIs, Linked, node_at, pattern_of, slot_among, Capture}
-use Rattle.nfa_match_spans.specs.StatePaths.{targets, reads, open_edges, IsStart}
+use Rattle.nfa_paths.specs.StatePaths.{targets, reads, open_edges, IsStart}
 use Rattle.nfa_match_spans.specs.declared.path_state.PathState.{PathState}
 
 -- the place of a state that a way starts with: nothing is done

@@ -53,7 +53,7 @@ impl PathState {
     }
 
     /// Returns the place after the turn of its state, which is passed as `state`.
-    #[tactic(auto, unfolding(crate::specs::PathStates::after_node, crate::specs::StatePaths::reads))]
+    #[tactic(auto, unfolding(crate::specs::PathStates::after_node, nfa_paths::specs::StatePaths::reads))]
     pub fn after(&self, state: &State, pattern: usize) -> PathState
         ensures { result ≡ after_node pattern (node_of state.now) self.now }
     {

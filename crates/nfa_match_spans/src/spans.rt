@@ -3,7 +3,7 @@ ghost use Rattle.std.specs.Prelude.{◌≡◌, ℕ, ◌+◌, ◌*◌, ◌<◌, �
 ghost use Rattle.thompson_nfa.specs.Automaton.{IsAutomaton};
 ghost use Rattle.nfa_paths.specs.Graphs.{In};
 ghost use Rattle.nfa_match_spans.specs.PathStates.{fresh_path_state, IsFresh};
-ghost use Rattle.nfa_match_spans.specs.StatePaths.{IsStart, PatternRecordsMatchSpans, RecordsMatchSpans};
+ghost use Rattle.nfa_paths.specs.StatePaths.{IsStart, PatternRecordsMatchSpans, RecordsMatchSpans};
 
 use crate::path_state::PathState;
 use crate::reached::ReachedSet;

@@ -1,14 +1,14 @@
 //! The targets of a state, for any haystack.
 ghost use Rattle.std.specs.Prelude.{◌≡◌, IfOk, filter_map};
 ghost use Rattle.thompson_nfa.specs.Automaton.{node_of};
-ghost use Rattle.nfa_match_spans.specs.StatePaths.{targets};
+ghost use Rattle.nfa_paths.specs.StatePaths.{targets};
 
 use regex_search_core::StateID;
 use std::alloc::{AllocError, Global};
 use thompson_nfa::State;
 
 /// Returns each state that the state may lead to. The only error is that an allocation failed.
-#[tactic(auto, unfolding(crate::specs::StatePaths::targets))]
+#[tactic(auto, unfolding(nfa_paths::specs::StatePaths::targets))]
 pub fn targets(alloc: Global, state: &State) -> Result<Vec<StateID>, AllocError>
     ensures { IfOk result (λ found. found.items ≡ targets (node_of state.now)) }
 {

@@ -2,7 +2,7 @@
 use Rattle.nfa_paths.proofs.Common.{◌≡◌, ◌∙◌, ℕ, Bool, true, false, refl, sym, ap, subst, arith, get_or, ◌+◌, Option, None, Some, IfNone, IfSome, ◌<◌, ◌≤◌, length, option_and_then, option_map, lt-ltb, slice_get-get_or, Found, HalfFound, found_of, slot_count, Search, is_anchored, match_of, Match, MatchKind, Automaton, IsAutomaton, IsFindAnswer, IsHalfAnswer, byte_at, is_utf8_empty, path_pattern, slot_row, LeftmostFirst, List}
 use Rattle.nfa_paths.proofs.InsideLemmas.{match-within}
 use Rattle.nfa_search_base.proofs.AskingLemmas.{pattern-of}
-use Rattle.nfa_engines.proofs.FirstStartLemmas.{next-first}
+use Rattle.nfa_paths.proofs.FirstStartLemmas.{next-first}
 use Rattle.nfa_engines.specs.Laws.{MatchesNothing}
 use Rattle.nfa_search_base.specs.Common.{end_of}
 use Rattle.nfa_engines.specs.StartLaws.{FirstStartMatches, IsFirstStart, StartsAnywhere, anchored_at}

@@ -6,7 +6,7 @@ use Rattle.nfa_paths.proofs.PathToLemmas.{EndsWith-last}
 use Rattle.nfa_determinize.specs.Configurations.{StartsFrom}
 use Rattle.nfa_engines.specs.SpanLaws.{EndMayBeCut}
 use Rattle.nfa_engines.specs.StartLaws.{IsFirstStart, IsUnbound, from_start}
-use Rattle.nfa_engines.proofs.FirstStartLemmas.{heads-one, same_edges, start-anchored, start-unanchored, unanchored-start, with-starts}
+use Rattle.nfa_paths.proofs.FirstStartLemmas.{heads-one, same_edges, start-anchored, start-unanchored, unanchored-start, with-starts}
 use Rattle.nfa_lazy_dfa.specs.Windows.{IsWindow, half_in, start_in}
 use Rattle.nfa_lazy_dfa.specs.declared.window.Window.{Window}
 use Rattle.nfa_choice.specs.ChoiceState.{ChoiceState, kind_in}

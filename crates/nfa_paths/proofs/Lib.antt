@@ -25,3 +25,5 @@ pub mod MetLemmas
 pub mod FullLemmas
 pub mod TurnLemmas
 pub mod RestartLemmas
+pub mod FirstStartLemmas
+pub mod OpenPathLemmas

@@ -4,4 +4,6 @@ pub mod Overlaps
 pub mod Restarts
 pub mod Exploring
 pub mod Kinds
+pub mod Starts
+pub mod StatePaths
 pub mod Common

@@ -7,7 +7,7 @@ use Rattle.nfa_paths.proofs.StartLemmas.{byte_at-within}
 use Rattle.nfa_engines.specs.Laws.{MatchesNothing}
 use Rattle.nfa_engines.proofs.StartAnswerLemmas.{nothing-of}
 use Rattle.nfa_engines.specs.StartLaws.{anchored_at, IsFirstStart, IsUnbound}
-use Rattle.nfa_engines.proofs.FirstStartLemmas.{start-anchored}
+use Rattle.nfa_paths.proofs.FirstStartLemmas.{start-anchored}
 use Rattle.nfa_prefix.specs.Prefixes.{OccursBefore, OccursNowhere, BeginsWith, bytes_from, move_over, only_move, prefix_of}
 use Rattle.nfa_prefix.specs.declared.only_move.Move.{Move}
 use Rattle.nfa_prefix.proofs.OccurrenceLemmas.{occurs-none, occurs-cons, occurs-take}

@@ -1,5 +1,5 @@
 -- Where no match begins with a byte, none starts at it.
-use Rattle.nfa_engines.proofs.FirstStartLemmas.{next-first, nothing-at-byte, start-first}
+use Rattle.nfa_paths.proofs.FirstStartLemmas.{next-first, nothing-at-byte, start-first}
 use Rattle.nfa_engines.proofs.laws.bytes_may_be_skipped.Goals as goal
 
 pub returns : goal.returns

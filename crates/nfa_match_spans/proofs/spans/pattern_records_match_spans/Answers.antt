@@ -1,8 +1,9 @@
 -- All places that ways lead to are gone through; one that is a Match without a bound is a way that lacks it.
 use Rattle.nfa_paths.proofs.Common.{◌≡◌, ◌∙◌, ◌<◌, map, length, get_or, ap, sym, arith, LeadsBelow, node_of, In, node_at, pattern_of}
-use Rattle.nfa_match_spans.specs.StatePaths.{targets}
+use Rattle.nfa_paths.specs.StatePaths.{targets}
 use Rattle.nfa_match_spans.specs.PathStates.{at_state, after_node, next_places, GainsPathStates, IsFine}
-use Rattle.nfa_match_spans.proofs.SearchLemmas.{In-get_or, slice_get-in, targets-below, IsFine-of, IsUnderWay-begin, IsUnderWay-step, IsUnderWay-done}
+use Rattle.nfa_match_spans.proofs.SearchLemmas.{slice_get-in, targets-below, IsFine-of, IsUnderWay-begin, IsUnderWay-step, IsUnderWay-done}
+use Rattle.nfa_paths.proofs.OpenPathLemmas.{In-get_or}
 use Rattle.nfa_match_spans.proofs.StatePathLemmas.{unrecorded, closed-records}
 use Rattle.nfa_match_spans.proofs.spans.pattern_records_match_spans.Goals as goal
 use Rattle.nfa_paths.proofs.StartLemmas.{node_at-get}

@@ -1,6 +1,6 @@
 -- The patterns so far record their bounds.
 use Rattle.std.proofs.Common.{ℕ, ◌<◌}
-use Rattle.nfa_match_spans.specs.StatePaths.{PatternRecordsMatchSpans}
+use Rattle.nfa_paths.specs.StatePaths.{PatternRecordsMatchSpans}
 use Rattle.nfa_match_spans.proofs.spans.records_match_spans.Given as goal
 
 abbrev pub invariant-loop-pattern : goal.invariant-loop-pattern

@@ -1,7 +1,7 @@
 -- The ways through the states of an NFA, for any haystack, and whether each way writes its bounds.
 use Rattle.std.specs.Prelude.{◌≡◌, ℕ, ◌+◌, Bool, true, List, [], ◌∷◌, map, filter_map, Some, if◌then◌else◌}
 use Rattle.nfa_paths.specs.Common.{Anchored, Automaton, Node, Pair, HeadIs, Linked, EndsWith, reads_byte, epsilon_states, node_at, pattern_of, start_state, IsMatch, ByteRange, Sparse, Dense}
-use Rattle.nfa_engines.specs.Laws.{WritesItsEnds}
+use Rattle.nfa_paths.specs.Starts.{WritesItsEnds}
 
 -- each state that the state may lead to
 unfoldable pub targets : Node → List ℕ

@@ -1,11 +1,10 @@
 -- The paths of an unanchored search are those of the anchored searches at each start, and begin with the byte there.
-use Rattle.nfa_paths.proofs.Common.{Bool, true, false, ◌==◌, ◌||◌, None, Some, ◌≡◌, ℕ, zero, suc, ◌+◌, ◌-◌, ◌≤◌, ◌<◌, ◌⊎◌, inl, inr, List, [], ◌∷◌, refl, sym, ◌∙◌, subst, arith, option_map_or, cases_Bool, nat_tests, is_anchored, start_count, start_state, Search, Anchored, Automaton, Pair, In, EndsWith, HeadIs, Linked, ComesBefore, PathTo, edges, pairs_from, starts, cases_lt}
+use Rattle.nfa_paths.proofs.Common.{Bool, true, false, ◌==◌, ◌||◌, None, Some, ◌≡◌, ℕ, zero, suc, ◌+◌, ◌-◌, ◌≤◌, ◌<◌, ◌⊎◌, inl, inr, List, [], ◌∷◌, refl, sym, ◌∙◌, subst, arith, option_map_or, cases_Bool, nat_tests, is_anchored, start_count, start_state, Search, Anchored, Automaton, Pair, In, EndsWith, HeadIs, Linked, ComesBefore, PathTo, edges, pairs_from, starts, cases_lt, Yes}
 use Rattle.nfa_paths.proofs.MemberLemmas.{same_some}
 use Rattle.nfa_paths.proofs.PathToLemmas.{EndsWith-last}
 use Rattle.nfa_paths.proofs.ScanAnswerLemmas.{edges-onward, edges-within, starts-within}
 use Rattle.nfa_paths.proofs.StartLemmas.{edges-alike, pairs_from-has}
-use Rattle.nfa_engines.specs.StartLaws.{anchored_at, from_start, IsUnbound, IsFirstStart, NothingAtByte, StartIsFirst}
-use Rattle.nfa_engines.specs.Laws.{MatchesNothing}
+use Rattle.nfa_paths.specs.Starts.{anchored_at, from_start, IsUnbound, IsFirstStart, MatchesNothing, NothingAtByte, StartIsFirst}
 
 -- the search from another start, anchored or not
 abbrev pub begun : Search → ℕ → Anchored → Search
@@ -43,6 +42,11 @@ heads-order = grind arith
 pub heads-less : (edges : Pair → List Pair) (start other : Pair) (p q : List Pair) → HeadIs start p → HeadIs other q
     → start.1 < other.1 → ComesBefore edges p q
 heads-less = grind arith
+
+-- a list with a head, after a pair that leads to it, is linked
+pub put-linked : (edges : Pair → List Pair) (v w : Pair) (p : List Pair) → In w (edges v) → HeadIs w p → Linked edges p
+    → Linked edges (v ∷ p)
+put-linked = grind arith
 
 -- a path of a graph is one of each graph that has its edges and its start
 pub with-edges : {edges others : Pair → List Pair} {starts begins : List Pair} {m : Pair} {p : List Pair}
@@ -147,3 +151,8 @@ next-first nfa x s first none =
             | inr past ↦ let here : i ≡ s = omega arith in rw here none
           ];
     }
+
+module _ (nfa : Automaton) (x : Search) (bound : x.anchored ≡ Yes) where
+  -- the one start of an anchored search of an NFA
+  pub start-there : (n : Automaton) (v : Pair) → In v (starts n x) → StartsAt n x x.start v
+  start-there n v i = grind (arith, start-anchored)
