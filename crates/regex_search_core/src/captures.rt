@@ -15,19 +15,20 @@ use crate::search::{Match, Span};
 use crate::slots::span_in;
 pub use groups::CapturesPatternIter;
 use held_groups::HeldGroups;
+use smallvec::{SmallVec, smallvec};
 use std::alloc::Global;
 use std::marker::Model;
 
 /// The pattern that a search matched, if any, and the slots of its groups.
 ///
 /// A slot holds the byte offset of the start or the end of a group, or `None` if the group did not take part. Copies
-/// share the groups, so a copy takes memory for its slots only. A contract sees the groups, the pattern's number and
-/// the slots.
+/// share the groups, and two slots lie in the captures, so a copy takes memory for more than two slots only. A contract
+/// sees the groups, the pattern's number and the slots.
 #[derive(Debug)]
 pub struct Captures {
     group_info: HeldGroups,
     pattern: Option<PatternID>,
-    slots: Vec<Option<NonMaxUsize>>,
+    slots: SmallVec<Option<NonMaxUsize>, 2>,
 }
 
 // Written out, so that a drop is one call in a proof, and not one for each field.
@@ -68,7 +69,7 @@ impl Captures {
           slots = replicate (slot_count group_info) None;
         }) }
     {
-        let slots = vec![in alloc; None; group_info.slot_len()]?;
+        let slots = smallvec![in alloc; None; group_info.slot_len()]?;
         Ok(Captures {
             group_info: HeldGroups::shared(alloc, group_info)?,
             pattern: None,
@@ -84,7 +85,7 @@ impl Captures {
           slots = replicate (2 * length group_info) None;
         }) }
     {
-        let slots = vec![in alloc; None; group_info.implicit_slot_len()]?;
+        let slots = smallvec![in alloc; None; group_info.implicit_slot_len()]?;
         Ok(Captures {
             group_info: HeldGroups::shared(alloc, group_info)?,
             pattern: None,
@@ -99,7 +100,7 @@ impl Captures {
         Ok(Captures {
             group_info: HeldGroups::Owned(group_info),
             pattern: None,
-            slots: Vec::new(alloc),
+            slots: SmallVec::new(alloc),
         })
     }
 
@@ -209,7 +210,20 @@ impl Captures {
         Ok(Captures {
             group_info: self.group_info.clone()?,
             pattern: self.pattern,
-            slots: self.slots.clone()?,
+            slots: copied(*self.slots.allocator(), &self.slots)?,
         })
+    }
+}
+
+/// Returns the same slots. Two are copied in place, which the general call does more slowly.
+fn copied(
+    alloc: Global,
+    slots: &[Option<NonMaxUsize>],
+) -> Result<SmallVec<Option<NonMaxUsize>, 2>, Refused>
+    ensures { IfOk result (λ copy. copy.items ≡ slots.now) }
+{
+    match slots {
+        [start, end] => Ok(SmallVec::from_buf(alloc, [*start, *end])),
+        _ => Ok(SmallVec::from_slice(alloc, slots)?),
     }
 }
