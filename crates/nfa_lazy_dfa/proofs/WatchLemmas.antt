@@ -1,5 +1,5 @@
 -- No match starts before a position at which the scan is in an idle row and found nothing.
-use Rattle.nfa_paths.proofs.Common.{◌≡◌, ℕ, zero, suc, ◌+◌, ◌-◌, ◌*◌, ◌/◌, ◌≤◌, inl, inr, Bool, List, [], ◌∷◌, refl, ap, sym, ◌∙◌, subst, arith, Result, Ok, Err, IfOk, IfSome, Option, None, Some, option_and_then, option_map, option_to_list, slice_get, half_found_of, Search, MatchKind, Automaton, In, IsHalfAnswer, byte_at, node_at, target_on, HalfMatch, holding_at}
+use Rattle.nfa_paths.proofs.Common.{◌≡◌, ℕ, zero, suc, ◌+◌, ◌-◌, ◌*◌, ◌/◌, ◌≤◌, inl, inr, Bool, List, [], ◌∷◌, refl, ap, sym, ◌∙◌, subst, arith, Result, Ok, Err, IfOk, IfSome, Option, None, Some, option_and_then, option_map, option_to_list, slice_get, half_found_of, HalfFound, Search, MatchKind, Automaton, In, IsHalfAnswer, byte_at, node_at, target_on, HalfMatch, holding_at}
 use Rattle.nfa_paths.proofs.InsideLemmas.{half-within}
 use Rattle.nfa_paths.proofs.MemberLemmas.{In-append}
 use Rattle.nfa_determinize.specs.Closures.{closure, explore, kept, step}
@@ -118,6 +118,11 @@ IsFoundAt-place dfa c x p none here =
     (subst (λ (o : Option HalfMatch).
     let q : Place = record { at = p.at; row = p.row; found = o } in IsFoundAt dfa c x q) none here)
 
+-- a scan that finds a match has a position
+scan-inside : (nfa : Automaton) (kind : MatchKind) (earliest : Bool) (x : Search) (h : HalfFound)
+    → scan_half nfa x kind earliest ≡ Some h → x.start ≤ x.end
+scan-inside nfa kind earliest x h is = grind arith
+
 -- a window that starts where the search does, and one that starts at an idle position
 
 pub IsWindow-start : (nfa : Automaton) (kind : MatchKind) (x : Search) (start : ℕ) → start ≡ x.start
@@ -156,3 +161,19 @@ pub IsWindow-scan : (nfa : Automaton) (kind : MatchKind) (x : Search) (r : Resul
     → IfOk r (λ w. IfSome w (λ w. IsBegun nfa x (start_in w) x.end)) → IfOk r (λ w. IfSome w (IsWindow nfa x))
 IsWindow-scan nfa kind x (Err e) answers is begun = tt
 IsWindow-scan nfa kind x (Ok w) answers is begun = IsWindow-begun nfa kind x w answers is begun
+
+-- a scan that finds a match has a position, and no match starts before its first one
+pub IsBegun-first : (nfa : Automaton) (kind : MatchKind) (earliest : Bool) (x : Search) (start : ℕ) → start ≡ x.start
+    → (half : Option HalfMatch) → option_map half_found_of half ≡ scan_half nfa x kind earliest
+    → (w : Option Window) → option_map half_in w ≡ option_map half_found_of half
+    → IfSome w (λ w. start_in w ≡ start) → IfSome w (λ w. IsBegun nfa x (start_in w) x.end)
+IsBegun-first nfa kind earliest x start first half steps None is at = tt
+IsBegun-first nfa kind earliest x start first half steps (Some w) is at =
+    let here : start_in w ≡ x.start = at ∙ first in
+    let found : scan_half nfa x kind earliest ≡ Some (half_in w) = sym (is ∙ steps) in
+    let inside : x.start ≤ x.end = scan-inside nfa kind earliest x (half_in w) found in
+    record {
+      low = omega arith;
+      high = omega arith;
+      starts = subst (StartsFrom nfa x) (sym here) (StartsFrom-start nfa x);
+    }

@@ -18,7 +18,7 @@ ghost use Rattle.nfa_lazy_dfa.specs.Windows.{IsWindow, half_in, start_in};
 use crate::cache::Cache;
 use crate::dfa::DFA;
 use crate::error::StopError;
-use crate::scan::{begin, next_row, place_after, scan_from};
+use crate::scan::{begin, next_row, place_after, scan_from, scan_half};
 use crate::watch::{Watch, first_watch, keep_left, pass_counted, watch_at};
 use nfa_determinize::laws;
 use nfa_scan_core::starts::is_utf8_empty;
@@ -86,17 +86,18 @@ fn window_from(
     let mut w = pass_counted(dfa, cache, input, from);
     while w.at < input.end() {
         let place = w.place();
+        let here = watch_at(dfa, cache, input, place, w.start, w.idle);
         let next = next_row(dfa, cache, input, place)?;
         let (after, over) = place_after(dfa, cache, input, place, next);
         if over {
-            return Ok(window_of(after.found, w.start));
+            return Ok(window_of(after.found, here.start));
         }
         if after.found.is_some() {
             let half = scan_from(dfa, cache, input, after)?;
-            return Ok(window_of(half, w.start));
+            return Ok(window_of(half, here.start));
         }
-        let there = watch_at(dfa, cache, input, after, w.start, w.idle);
-        keep_left(dfa, cache, input.start(), w, there);
+        let there = watch_at(dfa, cache, input, after, here.start, here.idle);
+        keep_left(dfa, cache, input.start(), here, there);
         w = pass_counted(dfa, cache, input, there);
     }
     let half = scan_from(dfa, cache, input, w.place())?;
@@ -170,6 +171,48 @@ impl DFA {
             return Ok(window_of(half, start));
         }
         cache.allow(self);
+        scan_window(self, cache, &input)
+    }
+
+    /// Returns a window of the match that the first scan of a search finds: the pattern and the end of the match, and a
+    /// position at or before its start.
+    ///
+    /// If the NFA can match the empty string and is in UTF-8 mode, the match may split a codepoint. It is then not the
+    /// answer of the search, but no match of the search starts before the window. Otherwise the answer is that of
+    /// [`DFA::try_find_window`].
+    ///
+    /// If the answer is `None`, the search finds nothing. The errors, what the caller must ensure and the bounds are
+    /// those of [`DFA::try_find_half`].
+    ///
+    /// ```
+    /// // dfa of "foo[0-9]+"
+    /// let window = dfa.try_scan_window(&mut cache, Input::new(b"a line of text: foo12345"))?;
+    /// assert_eq!(rt; window.expect(rt, "a match").end(), 24);
+    /// ```
+    pub fn try_scan_window<'h>(
+        &self,
+        cache: &mut Cache,
+        input: Input<'h>,
+    ) -> Result<Option<Window>, StopError>
+        requires { IsFor cache.old self.now }
+        ensures own { IsFor cache.new self.now }
+        ensures half { let x = search_of input.entry in IfOk result (λ w.
+            option_map half_in w ≡ scan_half (nfa_of self.now) x (kind_of self.now) x.earliest) }
+        ensures start { let x = search_of input.entry in IfOk result (λ w.
+            IfSome w (λ w. IsBegun (nfa_of self.now) x (start_in w) x.end)) }
+        ensures stops { IfErr result (IsStop (nfa_of self.now) (search_of input.entry)) }
+        ensures memory { memory_of cache.new ≤ capacity_of self.now }
+        ensures work { IsBounded cache.old cache.new self.now (search_of input.entry) }
+        ensures reads { OnOk result (HasReadSpan cache.old cache.new self.now (search_of input.entry)) }
+        ensures full { IfErr result (HasNoRoom cache.old cache.new self.now) }
+        ensures small { capacity_of self.now < first_row_memory
+            → HasToScan (nfa_of self.now) (search_of input.entry) → StopsAtStart (search_of input.entry) result }
+    {
+        cache.allow(self);
+        if !self.apart {
+            let half = scan_half(self, cache, &input)?;
+            return Ok(window_of(half, input.start()));
+        }
         scan_window(self, cache, &input)
     }
 }

@@ -1,6 +1,7 @@
 pub mod AnchoredLemmas
 pub mod CaughtLemmas
 pub mod GapLemmas
+pub mod GoesOnLemmas
 pub mod HalvesLemmas
 pub mod MatchesLemmas
 pub mod MatchSlotLemmas

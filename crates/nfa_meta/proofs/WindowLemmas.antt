@@ -1,7 +1,7 @@
 -- The path that answers a search answers the search of a window.
-use Rattle.nfa_paths.proofs.Common.{Err, Ok, Result, ◌≡◌, ◌⊎◌, inl, inr, ℕ, ◌≤◌, Bool, true, false, List, refl, ap, sym, ◌∙◌, subst, arith, IfNone, IfOk, IfSome, Option, None, Some, is_some, replicate, option_and_then, option_map, option_map_or, length-replicate, Found, HalfFound, Search, search_of, MatchKind, Automaton, Pair, PathTo, IsFirstTo, IsAnswer, IsFindAnswer, IsHalfAnswer, IsMatch, IsScanAnswer, IsSearchAnswer, edges, is_utf8_empty, node_at, path_half, pattern_of, slot_row, starts, Yes, Input, LeftmostFirst}
+use Rattle.nfa_paths.proofs.Common.{Err, Ok, Result, ◌≡◌, ◌⊎◌, inl, inr, ℕ, ◌≤◌, Bool, true, false, List, refl, ap, sym, ◌∙◌, subst, arith, IfNone, IfOk, IfSome, Option, None, Some, is_some, replicate, option_and_then, option_map, option_map_or, length-replicate, Found, HalfFound, Search, search_of, MatchKind, Automaton, Pair, PathTo, IsFirstPath, IsFirstTo, IsAnswer, IsFindAnswer, IsHalfAnswer, IsMatch, IsScanAnswer, IsSearchAnswer, edges, node_at, path_half, pattern_of, raised, slot_row, starts, Yes, Input, LeftmostFirst}
 use Rattle.nfa_paths.proofs.AnswerLemmas.{scan_answer-leads, scan_answer-unique}
-use Rattle.nfa_paths.proofs.OneScanLemmas.{scan-of, search-of}
+use Rattle.nfa_paths.proofs.OneScanLemmas.{last-scan, scan-of, search-of}
 use Rattle.nfa_paths.proofs.PathToLemmas.{EndsWith-last}
 use Rattle.nfa_determinize.specs.Configurations.{StartsFrom}
 use Rattle.nfa_engines.specs.SpanLaws.{EndMayBeCut}
@@ -68,6 +68,22 @@ module _ {nfa : Automaton} {x : Search} {s : ℕ} (late : StartsLate nfa x s) wh
         wanted = h.wanted;
         first = λ m q w accepts. h.first m q (path-back m q w) accepts;
       })
+
+  -- and the answer of the scan from there on is that of the scan
+  pub scan-back : (path : Option (List Pair)) → IsScanAnswer nfa (from_start x s) LeftmostFirst false path
+      → IsScanAnswer nfa x LeftmostFirst false path
+  scan-back path h = of path
+      (subst (λ es. IsFirstPath es (starts nfa (from_start x s)) (IsMatch nfa) path) (same_edges nfa x s x.anchored) h)
+    where
+      of : (path : Option (List Pair)) → IsFirstPath (edges nfa x) (starts nfa (from_start x s)) (IsMatch nfa) path
+          → IsFirstPath (edges nfa x) (starts nfa x) (IsMatch nfa) path
+      of None none = λ m p w accepts. none m p (path-on m p w accepts) accepts
+      of (Some p) h = record {
+        end = h.end;
+        path = path-back h.end p h.path;
+        wanted = h.wanted;
+        first = λ m q w accepts. h.first m q (path-on m q w accepts) accepts;
+      }
 
   -- the path of the half match
 
@@ -138,31 +154,31 @@ module _ {nfa : Automaton} {x : Search} {s : ℕ} (late : StartsLate nfa x s) wh
     }
 
 -- no half match, so no path
-none-path : (nfa : Automaton) (kind : MatchKind) (earliest : Bool) (x : Search) → is_utf8_empty nfa ≡ false
+pub none-path : (nfa : Automaton) (kind : MatchKind) (earliest : Bool) (x : Search)
     → (h : IsHalfAnswer nfa kind earliest x None) → IsSearchAnswer nfa kind earliest x h.restarts None
-none-path nfa kind earliest x whole h =
-    subst (IsSearchAnswer nfa kind earliest x h.restarts)
-    (of h.path (scan-of nfa kind earliest x whole h.restarts h.path h.answers) h.found_is) h.answers
+none-path nfa kind earliest x h =
+    subst (IsSearchAnswer nfa kind earliest x h.restarts) (of h.path h.answers h.found_is) h.answers
   where
     half : (v : Pair) (o : Option ℕ) → is_some o ≡ true
         → None ≡ option_map (λ k. (let f : HalfFound = record { pattern = k; offset = v.1 } in f)) o → ⊥
     half v None some e = cc
     half v (Some k) some e = cc
 
-    of : (o : Option (List Pair)) → IsScanAnswer nfa x kind earliest o → None ≡ option_and_then (path_half nfa) o
-        → o ≡ None
+    of : (o : Option (List Pair)) → IsSearchAnswer nfa kind earliest x h.restarts o
+        → None ≡ option_and_then (path_half nfa) o → o ≡ None
     of None answers e = refl
     of (Some p) answers e =
-        let to = scan_answer-leads nfa x kind earliest p answers in
+        let scan = (last-scan nfa kind earliest x h.restarts p answers).scan in
+        let to = scan_answer-leads nfa (raised x h.restarts) kind earliest p scan in
         let last = EndsWith-last None to.end p to.path.ends in
         absurd (half to.end (pattern_of (node_at nfa to.end.0)) to.matches (rw last at e))
 
 -- without a half match there is no pattern, and no slot is set
-none-answer : (nfa : Automaton) (kind : MatchKind) (earliest : Bool) (x : Search) → is_utf8_empty nfa ≡ false
+none-answer : (nfa : Automaton) (kind : MatchKind) (earliest : Bool) (x : Search)
     → IsHalfAnswer nfa kind earliest x None → (n : ℕ) → IsAnswer nfa kind earliest x None (replicate n None)
 unfolding slot_row
-none-answer nfa kind earliest x whole h n =
-    let f = none-path nfa kind earliest x whole h in
+none-answer nfa kind earliest x h n =
+    let f = none-path nfa kind earliest x h in
     record {
       restarts = h.restarts;
       path = None;
@@ -172,14 +188,14 @@ none-answer nfa kind earliest x whole h n =
     }
 
 -- nor is there a match
-pub none-match : (nfa : Automaton) (kind : MatchKind) (x : Search) → is_utf8_empty nfa ≡ false
+pub none-match : (nfa : Automaton) (kind : MatchKind) (x : Search)
     → IsHalfAnswer nfa kind x.earliest x None → HasNoMatch nfa kind x
-none-match nfa kind x whole h = record {
-  rows = none-answer nfa kind x.earliest x whole h;
+none-match nfa kind x h = record {
+  rows = none-answer nfa kind x.earliest x h;
   matches = record {
     restarts = h.restarts;
     path = None;
-    answers = none-path nfa kind x.earliest x whole h;
+    answers = none-path nfa kind x.earliest x h;
     found_is = refl;
   };
 }

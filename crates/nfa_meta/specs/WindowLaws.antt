@@ -1,7 +1,7 @@
 -- Laws of the windows that a lazy DFA finds, about the definitions only.
-use Rattle.std.specs.Prelude.{ℕ, ◌≤◌, false, List, Option, Some}
+use Rattle.std.specs.Prelude.{ℕ, ◌+◌, ◌≤◌, false, List, None, Option, Some}
 use Rattle.nfa_paths.specs.Common.{Found, HalfFound, Search, Automaton, IsAnswer, IsFindAnswer, IsHalfAnswer, LeftmostFirst}
-use Rattle.nfa_engines.specs.StartLaws.{IsFirstStart, IsUnbound}
+use Rattle.nfa_engines.specs.StartLaws.{IsFirstStart, IsUnbound, StartsAnywhere, anchored_at, from_start}
 use Rattle.nfa_determinize.specs.Configurations.{StartsFrom}
 
 -- the search with this span, and the same anchoring and haystack
@@ -28,3 +28,19 @@ WindowHasTheMatch =
     → IsUnbound nfa x → x.start ≤ s → StartsFrom nfa x s → IsHalfAnswer nfa LeftmostFirst false x (Some half)
     → IsFindAnswer nfa LeftmostFirst false (within x s half.offset) found
     → IsFindAnswer nfa LeftmostFirst false x found
+
+-- Nothing matches before a position, and the anchored search there finds nothing: it has no accepting path, or its match
+-- splits a codepoint. Then a search has the match of the search from the next position on, also if a match has to end
+-- on a boundary.
+abbrev pub SearchGoesOn : Type 0
+SearchGoesOn =
+    (nfa : Automaton) (x : Search) (s : ℕ) (found : Option Found)
+    → StartsAnywhere nfa x → IsFirstStart nfa x s → IsHalfAnswer nfa LeftmostFirst false (anchored_at x s) None
+    → IsFindAnswer nfa LeftmostFirst false (from_start x (s + 1)) found
+    → IsFindAnswer nfa LeftmostFirst false x found
+
+-- No accepting path starts before the position, also if a match has to end on a boundary.
+abbrev pub ScansAreFirstStarts : Type 0
+ScansAreFirstStarts =
+    (nfa : Automaton) (x : Search) (s : ℕ) → StartsAnywhere nfa x → x.start ≤ s → StartsFrom nfa x s
+    → IsFirstStart nfa x s

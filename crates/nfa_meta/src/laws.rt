@@ -1,6 +1,7 @@
 //! Laws of windows, and of the work of an iteration. Each function is empty: its contract is the theorem.
 ghost use Rattle.nfa_engines.specs.IterationLaws.{list_scan_limit};
-ghost use Rattle.nfa_meta.specs.WindowLaws.{WindowHasTheAnswer, WindowHasTheMatch, WindowsAreFirstStarts};
+ghost use Rattle.nfa_meta.specs.WindowLaws.{ScansAreFirstStarts, SearchGoesOn, WindowHasTheAnswer, WindowHasTheMatch};
+ghost use Rattle.nfa_meta.specs.WindowLaws.{WindowsAreFirstStarts};
 ghost use Rattle.nfa_meta.specs.WorkLaws.{RegexCapturesWithin, RegexFindsWithin, RegexMatchesAreWithin};
 ghost use Rattle.nfa_meta.specs.WorkLaws.{RegexRowsAreWithin};
 
@@ -22,6 +23,17 @@ pub fn windows_answer()
 {
     answer_is_that_of_the_cut_span();
 }
+
+/// Suppose that nothing matches before a position, and that the anchored search there finds nothing. Then the leftmost
+/// first answer of an unanchored search is that of the search from the next position on. The start of a window is such a
+/// position, since no accepting path starts before it.
+///
+/// This holds also if a match has to end on a boundary, so that the anchored search may find nothing since its match
+/// splits a codepoint. Premises: neither the search nor the NFA is anchored.
+pub fn searches_go_on()
+    ensures goes_on { SearchGoesOn }
+    ensures first { ScansAreFirstStarts }
+{}
 
 /// A whole list takes little more than one search. Over the calls that find all k matches in a span of n bytes, or
 /// their captures, the totals of each cache of the `Choice` rise by at most n + k + 2 scans. If no search may restart,

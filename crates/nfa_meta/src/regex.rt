@@ -265,9 +265,10 @@ impl Regex {
     /// does not match there, it finds the end of the match and a window that holds it, from the first place on where
     /// the bytes occur that each match begins with, and searches from the first starts of the window. If the match
     /// starts at none of them, the [`Choice`] searches the window. So the work of the slower engines depends on the
-    /// window, and not on the haystack. There is no window if the search is anchored or `earliest`, if the NFA is
-    /// anchored, or if it can match the empty string and is in UTF-8 mode. The DFA alone then answers an anchored
-    /// search. The [`Choice`] searches the whole input otherwise, and if the DFA stops.
+    /// window, and not on the haystack. There is no window if the search is anchored or `earliest`, or if the NFA is
+    /// anchored. The DFA alone then answers an anchored search. The [`Choice`] searches the whole input otherwise, and if
+    /// the DFA stops. It also does if the NFA can match the empty string and is in UTF-8 mode, and the match starts at
+    /// none of the first starts of the window.
     ///
     /// ```
     /// // regex of "foo[0-9]+"

@@ -67,7 +67,14 @@ impl Regex {
                 self.matched_at_first = self.is_at_first(&input, found);
                 found.ok_or(Some(window))
             }
-            Err(NoWindow) => Err(Some(input)),
+            Err(NoWindow) => match self.find_from_window(input) {
+                Some(Some(found)) => {
+                    self.matched_at_first = self.is_at_first(&input, Some(found));
+                    Ok(found)
+                }
+                Some(None) => Err(None),
+                None => Err(Some(input)),
+            },
         }
     }
 }

@@ -1,9 +1,9 @@
 //! The first start of a search at which it may match.
-ghost use Rattle.std.specs.Prelude.{◌≡◌, ◌+◌, ◌<◌, ◌≤◌, IfNone, IfSome, Some, false, length, true};
+ghost use Rattle.std.specs.Prelude.{◌≡◌, ◌+◌, ◌<◌, ◌≤◌, IfNone, IfSome, None, Some, false, length, true};
 ghost use Rattle.regex_search_core.specs.Found.{found_of};
 ghost use Rattle.regex_search_core.specs.Search.{search_of};
-ghost use Rattle.nfa_paths.specs.Paths.{IsFindAnswer, is_utf8_empty};
-ghost use Rattle.nfa_engines.specs.StartLaws.{IsFirstStart, StartsAnywhere};
+ghost use Rattle.nfa_paths.specs.Paths.{IsFindAnswer, IsHalfAnswer, is_utf8_empty};
+ghost use Rattle.nfa_engines.specs.StartLaws.{IsFirstStart, StartsAnywhere, anchored_at};
 ghost use Rattle.nfa_choice.specs.ChoiceState.{kind_in};
 
 use crate::regex::Regex;
@@ -68,6 +68,8 @@ impl Regex {
             IfSome found (λ m. (found_of m).pattern < length self.old.nfa.patterns)) }
         ensures moves { is_utf8_empty self.old.nfa ≡ false → IfSome result (λ found.
             IfNone found (IsFirstStart self.old.nfa (search_of input.entry) (at + 1))) }
+        ensures none { let x = search_of input.entry in IfSome result (λ found.
+            IfNone found (IsHalfAnswer self.old.nfa (kind_in self.old) x.earliest (anchored_at x at) None)) }
         ensures same { self.new ≡ self.old }
     {
         let _ = &self.dfa;

@@ -1,17 +1,20 @@
 //! The part of an input that holds the answer of its search.
-ghost use Rattle.std.specs.Prelude.{◌≡◌, ◌*◌, ◌⊎◌, ◌<◌, IfNone, IfOk, IfSome, Some, false, length, option_map, true};
+ghost use Rattle.std.specs.Prelude.{◌≡◌, ◌*◌, ◌+◌, ◌≤◌, ◌⊎◌, ◌<◌, IfNone, IfOk, IfSome, None, Some, false, length};
+ghost use Rattle.std.specs.Prelude.{option_map, true};
 ghost use Rattle.regex_search_core.specs.Found.{found_of};
 ghost use Rattle.regex_search_core.specs.Search.{search_of};
-ghost use Rattle.nfa_paths.specs.Paths.{IsFindAnswer, is_utf8_empty};
+ghost use Rattle.nfa_paths.specs.Paths.{IsFindAnswer, IsHalfAnswer, is_utf8_empty};
 ghost use Rattle.nfa_search_base.specs.Lists.{IsInside};
 ghost use Rattle.nfa_backtrack.specs.Backtrack.{HoldsNoMore};
 ghost use Rattle.nfa_engines.specs.Laws.{MatchesNothing};
+ghost use Rattle.nfa_engines.specs.StartLaws.{IsFirstStart, StartsAnywhere};
 ghost use Rattle.nfa_choice.specs.ChoiceState.{KeepsEngines, kind_in};
 ghost use Rattle.nfa_meta.specs.Windowed.{IsWindowed};
 ghost use Rattle.nfa_meta.specs.WindowRuns.{AnswersAs, HasNoMatch, IsWindowOf, RunsByWindow};
 
 use crate::laws;
 use crate::regex::Regex;
+use nfa_determinize::laws::steps_find_the_half;
 use nfa_engines::laws::bytes_may_be_skipped;
 use nfa_match_spans::laws::{
     anchored_matches_start_the_span, half_matches_are_ends, no_match_is_missed,
@@ -95,6 +98,8 @@ impl Regex {
             IsFindAnswer self.old.nfa (kind_in self.old) x.earliest x (option_map found_of found)) }
         ensures pattern { IfSome result (λ found.
             IfSome found (λ m. (found_of m).pattern < length self.old.nfa.patterns)) }
+        ensures none { let x = search_of input.entry in IfSome result (λ found.
+            IfNone found (IsHalfAnswer self.old.nfa (kind_in self.old) x.earliest x None)) }
         ensures nothing { is_utf8_empty self.old.nfa ≡ false → IfSome result (λ found.
             IfNone found (MatchesNothing self.old.nfa (search_of input.entry))) }
         ensures same { self.new ≡ self.old }
@@ -135,8 +140,64 @@ impl Regex {
                 Some(found) => Some(found),
                 None => self.choice.find(window),
             },
-            Err(NoWindow) => self.choice.find(input),
+            Err(NoWindow) => match self.find_from_window(input) {
+                Some(found) => found,
+                None => self.choice.find(input),
+            },
         }
+    }
+
+    /// Returns the match of a search that may start anywhere, in UTF-8 mode of an NFA that can match the empty string, if
+    /// the lazy DFA finds it at one of the first starts of its window. Returns `Some(None)` if nothing matches.
+    pub(super) fn find_from_window<'h>(&mut self, input: Input<'h>) -> Option<Option<Match>>
+        ensures answer { let x = search_of input.entry in IfSome result (λ found.
+            IsFindAnswer self.old.nfa (kind_in self.old) x.earliest x (option_map found_of found)) }
+        ensures nothing { IfSome result (λ found.
+            IfNone found (HasNoMatch self.old.nfa (kind_in self.old) (search_of input.entry))) }
+        ensures pattern { IfSome result (λ found.
+            IfSome found (λ m. (found_of m).pattern < length self.old.nfa.patterns)) }
+        ensures same { self.new ≡ self.old }
+    {
+        if !self.records_spans || !self.starts_anywhere(&input) || self.is_windowed(&input) {
+            return None;
+        }
+        laws::searches_go_on();
+        steps_find_the_half();
+        match self.dfa.try_scan_window(&mut self.cache, input) {
+            Ok(None) => Some(None),
+            Ok(Some(window)) => Some(Some(self.find_from(input, window.start())?)),
+            _ => None,
+        }
+    }
+
+    /// Returns the match of a search, if the lazy DFA finds it at one of the first starts from one on before which nothing
+    /// matches.
+    fn find_from<'h>(&mut self, input: Input<'h>, from: usize) -> Option<Match>
+        requires anywhere { StartsAnywhere self.old.nfa (search_of input) }
+        requires last { (search_of input).earliest ≡ false }
+        requires first { IsFirstStart self.old.nfa (search_of input) from }
+        requires within { from ≤ (search_of input).end + 1 }
+        ensures answer { let x = search_of input.entry in IfSome result (λ m.
+            IsFindAnswer self.old.nfa (kind_in self.old) x.earliest x (Some (found_of m))) }
+        ensures pattern { IfSome result (λ m. (found_of m).pattern < length self.old.nfa.patterns) }
+        ensures same { self.new ≡ self.old }
+    {
+        let _ = &self.dfa;
+        laws::searches_go_on();
+        bytes_may_be_skipped();
+        let mut rest = input;
+        let mut at = from;
+        for _ in 0..TRIES {
+            if let Some(found) = self.find_at_start(rest, at)? {
+                return Some(found);
+            }
+            if at >= rest.end() {
+                return None;
+            }
+            at += 1;
+            rest.set_start(at);
+        }
+        None
     }
 
     /// Returns the match of a window's search, if the lazy DFA finds it at one of the first starts whose byte a match

@@ -16,7 +16,7 @@ returns-clause-nothing c =
       | in-Ok-None w ↦
           let half : IsHalfAnswer r.nfa (kind_in r) x.earliest x None =
           first_of (search rules, grind (arith, common_steps)) in
-          rw w.result-is (none-match r.nfa (kind_in r) x windowed.unbound.anywhere half)
+          rw w.result-is (none-match r.nfa (kind_in r) x half)
       | in-Ok-Some w ↦ rw w.result-is tt
       | in-Err w ↦ rw w.result-is tt
     ]
