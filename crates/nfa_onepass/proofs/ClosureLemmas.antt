@@ -1,0 +1,233 @@
+-- The search for the only way from a state: each way was found, or goes on from a thread that waits.
+use Rattle.std.specs.Global.{Vec}
+use Rattle.nfa_paths.proofs.Common.{◌≡◌, ◌∙◌, ℕ, ◌≤◌, ◌<◌, ◌⊎◌, inl, inr, List, [], ◌∷◌, ◌++◌, map, length, refl, sym, ap, subst, arith, rules, append-nil, append_assoc, All, IfSome, Option, None, Some, none-some, Automaton, Node, LeadsBelow, In, node_at, pattern_of, slot_of, Look, Union, BinaryUnion, Capture, ByteRange, Sparse, Dense, Fail}
+use Rattle.thompson_nfa.specs.Automaton.Node.{Match}
+use Rattle.nfa_paths.proofs.MemberLemmas.{In-append, In-append_left, In-append_right, In-map, All-In, same_some}
+use Rattle.nfa_onepass.specs.Ways.{IsSure, Way, free_states, goal_of, here, over, written}
+use Rattle.nfa_onepass.specs.Tables.{GoesOn, HasEmptyList, IsReached, Keeps, list_at, threads_at}
+use Rattle.nfa_onepass.specs.declared.way.Reached.{Reached}
+use Rattle.nfa_onepass.specs.declared.way.Thread.{Thread}
+use Rattle.nfa_onepass.proofs.WayLemmas.{In-mapped}
+
+-- a state that leads to a goal leads to none without a byte
+goal-free : (byte : Option ℕ) (node : Node) (k s : ℕ) → goal_of byte node ≡ Some k → In s (free_states node) → ⊥
+goal-free None (Match pattern) k s g i = i
+goal-free None (ByteRange trans) k s g i = i
+goal-free None (Sparse transitions) k s g i = i
+goal-free None (Dense targets) k s g i = i
+goal-free None Fail k s g i = i
+goal-free None (Look look next) k s g i = cc
+goal-free None (Union alternates) k s g i = cc
+goal-free None (BinaryUnion alt1 alt2) k s g i = cc
+goal-free None (Capture next slot) k s g i = cc
+goal-free (Some b) (Match pattern) k s g i = i
+goal-free (Some b) (ByteRange trans) k s g i = i
+goal-free (Some b) (Sparse transitions) k s g i = i
+goal-free (Some b) (Dense targets) k s g i = i
+goal-free (Some b) Fail k s g i = i
+goal-free (Some b) (Look look next) k s g i = cc
+goal-free (Some b) (Union alternates) k s g i = cc
+goal-free (Some b) (BinaryUnion alt1 alt2) k s g i = cc
+goal-free (Some b) (Capture next slot) k s g i = cc
+
+-- the states that a state leads to without a byte are states of the NFA
+free-below : (n : ℕ) (node : Node) → LeadsBelow n node → (s : ℕ) → In s (free_states node) → s < n
+free-below n (Look look next) below s i = grind arith
+free-below n (Union alternates) below s i = All-In (λ s. s < n) alternates below s i
+free-below n (BinaryUnion alt1 alt2) below s i = grind arith
+free-below n (Capture next slot) below s i = grind arith
+free-below n (ByteRange trans) below s i = absurd i
+free-below n (Sparse transitions) below s i = absurd i
+free-below n (Dense targets) below s i = absurd i
+free-below n Fail below s i = absurd i
+free-below n (Match pattern) below s i = absurd i
+
+module _ (nfa : Automaton) where
+  -- a way that goes on from its first state
+  record IsOver (s r : ℕ) (ws : List ℕ) : Type 0 where
+    next : ℕ
+    rest : List ℕ
+    among : In next (free_states (node_at nfa s))
+    way : Way nfa next rest r
+    slots : ws ≡ written (node_at nfa s) ++ rest
+
+  way-cases : {s r : ℕ} {ws : List ℕ} → Way nfa s ws r → ((s ≡ r) × (ws ≡ [])) ⊎ IsOver s r ws
+  way-cases here = inl (refl, refl)
+  way-cases (over {s = s} {t = t} {r = r} {ws = ws} i w) =
+      inr record { next = t; rest = ws; among = i; way = w; slots = refl }
+
+  module _ (s : ℕ) (byte : Option ℕ) where
+    -- a way with this goal and these slots was found
+    pub record IsFound (lists : List (Vec ℕ)) (found : Option Reached) (k : ℕ) (ws : List ℕ) : Type 0 where
+      pub it : Reached
+      pub is : found ≡ Some it
+      pub goal : k ≡ it.goal
+      pub slots : ws ≡ list_at lists it.list
+
+    -- a way to the state with these slots goes on from a thread that waits
+    pub record IsWaiting (lists : List (Vec ℕ)) (stack : List Thread) (r : ℕ) (ws : List ℕ) : Type 0 where
+      pub thread : Thread
+      pub among : In thread stack
+      pub rest : List ℕ
+      pub way : Way nfa thread.sid rest r
+      pub slots : ws ≡ list_at lists thread.list ++ rest
+
+    -- a thread's numbers are in range
+    abbrev pub IsThread : List (Vec ℕ) → Thread → Type 0
+    IsThread lists t = (t.sid < length nfa.states) × (t.list < length lists)
+
+    -- Each way from the state to a goal was found, or goes on from a thread that waits.
+    pub record IsUnderWay (lists : List (Vec ℕ)) (stack : List Thread) (found : Option Reached) : Type 0 where
+      pub covers : (r k : ℕ) (ws : List ℕ) → Way nfa s ws r → goal_of byte (node_at nfa r) ≡ Some k
+          → IsFound lists found k ws ⊎ IsWaiting lists stack r ws
+      pub threads : (t : Thread) → In t stack → IsThread lists t
+      pub kept : (it : Reached) → found ≡ Some it → (it.list < length lists) × (it.goal ≤ 2147483646)
+
+    -- at first the state waits
+    pub IsUnderWay-begin : (lists : List (Vec ℕ)) → HasEmptyList lists → s < length nfa.states
+        → IsUnderWay lists (threads_at 0 (s ∷ [])) None
+    IsUnderWay-begin lists first inside = record {
+      covers = λ r k ws w g. inr record {
+        thread = record { sid = s; list = 0 };
+        among = inl refl;
+        rest = ws;
+        way = w;
+        slots = ap (λ (l : List ℕ). l ++ ws) (sym first.empty);
+      };
+      threads = λ t i. elim i [
+        | inl e ↦ subst (IsThread lists) (sym e) (inside, first.some)
+        | inr never ↦ absurd never
+      ];
+      kept = λ it e. elim (none-some it e) [ ];
+    }
+
+    -- a thread whose state has the goal is found
+    pub IsUnderWay-found : (lists : List (Vec ℕ)) (rest stack : List Thread) (t : Thread) (k : ℕ)
+        → stack ≡ rest ++ t ∷ [] → IsUnderWay lists stack None → goal_of byte (node_at nfa t.sid) ≡ Some k
+        → k ≤ 2147483646 → IsUnderWay lists rest (Some (record { goal = k; list = t.list }))
+    IsUnderWay-found lists rest stack t k is h g small = record {
+      covers = λ r j ws w e. elim (h.covers r j ws w e) [
+        | inl f ↦ elim (none-some f.it f.is) [ ]
+        | inr v ↦ elim (In-append v.thread rest (t ∷ []) (subst (In v.thread) is v.among)) [
+          | inl i ↦ inr record { thread = v.thread; among = i; rest = v.rest; way = v.way; slots = v.slots }
+          | inr i ↦ inl (ends r j ws e v (elim i [ inl same ↦ same | inr never ↦ absurd never ]))
+        ]
+      ];
+      threads = λ u i. h.threads u (subst (In u) (sym is) (In-append_left u rest (t ∷ []) i));
+      kept = λ it e. let same = same_some (record { goal = k; list = t.list }) it e in
+          subst (λ (z : Reached). (z.list < length lists) × (z.goal ≤ 2147483646)) same
+          ((h.threads t (subst (In t) (sym is) (In-append_right t rest (t ∷ []) (inl refl)))).1, small);
+    }
+      where
+        ends : (r j : ℕ) (ws : List ℕ) → goal_of byte (node_at nfa r) ≡ Some j → (v : IsWaiting lists stack r ws)
+            → v.thread ≡ t → IsFound lists (Some (record { goal = k; list = t.list })) j ws
+        ends r j ws e v same =
+            elim (way-cases v.way) [
+              | inl last ↦
+                  let at : t.sid ≡ r = ap (λ (u : Thread). u.sid) (sym same) ∙ last.0 in
+                  record {
+                    it = record { goal = k; list = t.list };
+                    is = refl;
+                    goal = same_some j k (sym e ∙ ap (λ (z : ℕ). goal_of byte (node_at nfa z)) (sym at) ∙ g);
+                    slots = v.slots ∙ ap (λ (l : List ℕ). list_at lists v.thread.list ++ l) last.1
+                        ∙ append-nil (list_at lists v.thread.list)
+                        ∙ ap (λ (u : Thread). list_at lists u.list) same;
+                  }
+              | inr more ↦ absurd (goal-free byte (node_at nfa t.sid) k more.next g
+                  (subst (λ (u : Thread). In more.next (free_states (node_at nfa u.sid))) same more.among))
+            ]
+
+    -- a thread whose state has no goal gives way to those that it leads to
+    pub IsUnderWay-on : (lists new : List (Vec ℕ)) (rest stack pushed : List Thread) (found : Option Reached) (t : Thread)
+        → stack ≡ rest ++ t ∷ [] → IsUnderWay lists stack found → goal_of byte (node_at nfa t.sid) ≡ None
+        → LeadsBelow (length nfa.states) (node_at nfa t.sid) → Keeps lists new
+        → GoesOn nfa lists new rest pushed t → IsUnderWay new pushed found
+    IsUnderWay-on lists new rest stack pushed found t is h g leads keeps on = record {
+      covers = λ r j ws w e. elim (h.covers r j ws w e) [
+        | inl f ↦ inl record {
+          it = f.it;
+          is = f.is;
+          goal = f.goal;
+          slots = f.slots ∙ sym (keeps.same f.it.list (h.kept f.it f.is).0);
+        }
+        | inr v ↦ elim (In-append v.thread rest (t ∷ []) (subst (In v.thread) is v.among)) [
+          | inl i ↦ inr record {
+            thread = v.thread;
+            among = subst (In v.thread) (sym on.are)
+                (In-append_left v.thread rest (threads_at on.list (free_states (node_at nfa t.sid))) i);
+            rest = v.rest;
+            way = v.way;
+            slots = v.slots ∙ ap (λ (l : List ℕ). l ++ v.rest)
+                (sym (keeps.same v.thread.list (h.threads v.thread v.among).1));
+          }
+          | inr i ↦ inr (goes r j ws e v (elim i [ inl same ↦ same | inr never ↦ absurd never ]))
+        ]
+      ];
+      threads = λ u i. elim (In-append u rest (threads_at on.list (free_states (node_at nfa t.sid)))
+          (subst (In u) on.are i)) [
+            | inl j ↦
+                let k = h.threads u (subst (In u) (sym is) (In-append_left u rest (t ∷ []) j)) in
+                (k.0, (let l = keeps.longer in let m = k.1 in omega arith))
+            | inr j ↦
+                let m = In-mapped (λ (z : ℕ). record { sid = z; list = on.list }) (free_states (node_at nfa t.sid)) u j in
+                subst (IsThread new) (sym m.2)
+                (free-below (length nfa.states) (node_at nfa t.sid) leads m.0 m.1, on.inside)
+          ];
+      kept = λ it e. let k = h.kept it e in ((let l = keeps.longer in let m = k.0 in omega arith), k.1);
+    }
+      where
+        goes : (r j : ℕ) (ws : List ℕ) → goal_of byte (node_at nfa r) ≡ Some j → (v : IsWaiting lists stack r ws)
+            → v.thread ≡ t → IsWaiting new pushed r ws
+        goes r j ws e v same =
+            elim (way-cases v.way) [
+              | inl last ↦
+                  let at : t.sid ≡ r = ap (λ (u : Thread). u.sid) (sym same) ∙ last.0 in
+                  elim (none-some j (sym g ∙ ap (λ (z : ℕ). goal_of byte (node_at nfa z)) at ∙ e)) [ ]
+              | inr more ↦
+                  let among : In more.next (free_states (node_at nfa t.sid)) =
+                  subst (λ (u : Thread). In more.next (free_states (node_at nfa u.sid))) same more.among in
+                  record {
+                    thread = record { sid = more.next; list = on.list };
+                    among = subst (In (record { sid = more.next; list = on.list })) (sym on.are)
+                        (In-append_right (record { sid = more.next; list = on.list }) rest
+                        (threads_at on.list (free_states (node_at nfa t.sid)))
+                        (In-map (λ (z : ℕ). record { sid = z; list = on.list }) more.next
+                        (free_states (node_at nfa t.sid)) among));
+                    rest = more.rest;
+                    way = more.way;
+                    slots = v.slots ∙ ap (λ (l : List ℕ). list_at lists v.thread.list ++ l) more.slots
+                        ∙ ap (λ (u : Thread). list_at lists u.list ++ (written (node_at nfa u.sid) ++ more.rest)) same
+                        ∙ sym (append_assoc (list_at lists t.list) (written (node_at nfa t.sid)) more.rest)
+                        ∙ ap (λ (l : List ℕ). l ++ more.rest) (sym on.after);
+                  }
+            ]
+
+    -- once no thread waits, what was found is the only way
+    pub IsUnderWay-done : (lists : List (Vec ℕ)) (it : Reached) → IsUnderWay lists [] (Some it)
+        → IsSure nfa s byte it.goal (list_at lists it.list)
+    IsUnderWay-done lists it h = record {
+      only = λ r k ws w g. elim (h.covers r k ws w g) [
+        | inl f ↦
+            let same = same_some it f.it f.is in (
+              f.goal ∙ ap (λ (z : Reached). z.goal) (sym same),
+              f.slots ∙ ap (λ (z : Reached). list_at lists z.list) (sym same),
+            )
+        | inr v ↦ absurd v.among
+      ];
+    }
+
+    -- the thread on top is one of the stack
+    pub IsUnderWay-top : (lists : List (Vec ℕ)) (rest stack : List Thread) (found : Option Reached) (t : Thread)
+        → stack ≡ rest ++ t ∷ [] → IsUnderWay lists stack found → IsThread lists t
+    IsUnderWay-top lists rest stack found t is h =
+        h.threads t (subst (In t) (sym is) (In-append_right t rest (t ∷ []) (inl refl)))
+
+    -- the end, whether a way was found or not
+    pub IsUnderWay-ends : (lists : List (Vec ℕ)) (found : Option Reached) → IsUnderWay lists [] found
+        → IfSome found (IsReached nfa lists s byte)
+    IsUnderWay-ends lists None h = tt
+    IsUnderWay-ends lists (Some it) h = record {
+      inside = (h.kept it refl).0;
+      small = (h.kept it refl).1;
+      sure = IsUnderWay-done lists it h;
+    }

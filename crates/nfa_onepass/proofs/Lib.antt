@@ -1,0 +1,3 @@
+pub mod WayLemmas
+pub mod ClosureLemmas
+pub mod TableLemmas

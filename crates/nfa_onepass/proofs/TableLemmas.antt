@@ -1,0 +1,220 @@
+-- A table that grows keeps its steps, and a walk that takes one goes on.
+use Rattle.std.specs.Global.{Vec}
+use Rattle.nfa_paths.proofs.Common.{◌≡◌, ◌∙◌, ℕ, zero, suc, ◌+◌, ◌≤◌, ◌<◌, ◌⊎◌, inl, inr, List, [], ◌∷◌, ◌++◌, replicate, slice_get, slice_set, slice_index_or, get_or_from_slice_get, none-some, refl, sym, ap, subst, arith, length, Option, None, Some, option_map, Automaton, Search, Slots, byte_at, start_state, length-replicate}
+use Rattle.nfa_paths.proofs.MemberLemmas.{same_some}
+use Rattle.nfa_onepass.specs.Ways.{IsOnWay, IsOnly, IsSure, write_each}
+use Rattle.nfa_onepass.specs.Tables.{HasEmptyList, IsAddedIf, IsFor, IsFresh, IsStep, IsWalking, Keeps, KeepsRows, Takes, byte_of, list_at, state_at}
+use Rattle.nfa_onepass.specs.declared.table.Cell.{Cell}
+use Rattle.nfa_onepass.specs.declared.table.OnePass.{OnePass}
+use Rattle.nfa_onepass.specs.declared.table.Row.{Row}
+use Rattle.nfa_onepass.proofs.WayLemmas.{IsOnWay-first, IsOnWay-step, IsOnly-end, length-write_each}
+
+pub Keeps-refl : (lists : List (Vec ℕ)) → Keeps lists lists
+Keeps-refl lists = record { longer = omega arith; same = λ i inside. refl }
+
+pub Keeps-trans : (a b c : List (Vec ℕ)) → Keeps a b → Keeps b c → Keeps a c
+Keeps-trans a b c h k = record {
+  longer = let x = h.longer in let y = k.longer in omega arith;
+  same = λ i inside. k.same i (let x = h.longer in omega arith) ∙ h.same i inside;
+}
+
+-- the first list stays empty
+pub HasEmptyList-keeps : (old new : List (Vec ℕ)) → Keeps old new → HasEmptyList old → HasEmptyList new
+HasEmptyList-keeps old new k h = record {
+  some = let x = k.longer in let y = h.some in omega arith;
+  empty = k.same 0 h.some ∙ h.empty;
+}
+
+-- a step stays sure
+pub IsStep-keeps : (nfa : Automaton) (rows more : List Row) (lists new : List (Vec ℕ)) (s column : ℕ) (cell : Cell)
+    → KeepsRows rows more → Keeps lists new → IsStep nfa rows lists s column cell → IsStep nfa more new s column cell
+IsStep-keeps nfa rows more lists new s column cell kept k h = record {
+  goal = h.goal;
+  inside = let x = k.longer in let y = h.inside in omega arith;
+  sure = subst (IsSure nfa s (byte_of column) h.goal) (sym (k.same cell.list h.inside)) h.sure;
+  leads = λ low. kept cell.goal h.goal (h.leads low);
+  ends = h.ends;
+}
+
+-- a walk that takes a step over the byte at its position is at the next one
+pub IsWalking-takes : (nfa : Automaton) (x : Search) (old new : OnePass) (row b at : ℕ) (slots after : Slots) (next : ℕ)
+    → (h : IsWalking nfa x old row at slots) → byte_at x at ≡ Some b → Takes nfa new h.state b at slots after next
+    → IsWalking nfa x new next (at + 1) after
+IsWalking-takes nfa x old new row b at slots after next h e t =
+    let made = IsOnWay-step nfa x (length slots) h.first h.state at b t.to t.written slots h.on e t.sure in
+    let long : length slots ≡ length after = sym (ap length t.writes ∙ length-write_each t.written at slots) in
+    record {
+      first = h.first;
+      begins = h.begins;
+      state = t.to;
+      here = t.is;
+      on = subst (λ (z : Slots). IsOnWay nfa x (length after) h.first (t.to, at + 1) z) (sym t.writes)
+          (subst (λ (n : ℕ). IsOnWay nfa x n h.first (t.to, at + 1) (write_each t.written at slots)) long made);
+    }
+
+-- the column of a byte
+pub byte_of-low : (column : ℕ) → column < 256 → byte_of column ≡ Some column
+byte_of-low = grind arith
+
+-- A walk begins with no slot set.
+pub IsWalking-begin : (nfa : Automaton) (x : Search) (t : OnePass) (row s count : ℕ) (slots : Slots)
+    → start_state nfa x.anchored ≡ Some s → state_at t.rows.items row ≡ Some s → slots ≡ replicate count None
+    → IsWalking nfa x t row x.start slots
+IsWalking-begin nfa x t row s count slots begins is unset =
+    let long : count ≡ length slots = sym (ap length unset ∙ replicate-long count) in
+    record {
+      first = s;
+      begins = begins;
+      state = s;
+      here = is;
+      on = subst (λ (z : Slots). IsOnWay nfa x (length slots) s (s, x.start) z) (sym unset)
+          (subst (λ (n : ℕ). IsOnWay nfa x n s (s, x.start) (replicate count None)) long
+          (IsOnWay-first nfa x count s));
+    }
+  where
+    replicate-long : (n : ℕ) → length (replicate {A = Option ℕ} n None) ≡ n
+    replicate-long = grind (arith, length-replicate)
+
+-- A walk at the end of the span, and the step to a Match there, give the slots and the pattern.
+pub IsWalking-end : (nfa : Automaton) (x : Search) (t u : OnePass) (row p : ℕ) (cell : Cell) (slots after : Slots)
+    → (h : IsWalking nfa x t row x.end slots) → IsStep nfa u.rows.items u.lists.items h.state 256 cell
+    → p ≡ cell.goal → after ≡ write_each (list_at u.lists.items cell.list) x.end slots → IsOnly nfa x p after
+IsWalking-end nfa x t u row p cell slots after h step is writes =
+    let k : step.goal ≡ p = sym (step.ends (omega arith)) ∙ sym is in
+    subst (λ (z : Slots). IsOnly nfa x p z) (sym writes)
+    (subst (λ (n : ℕ). IsOnly nfa x n (write_each (list_at u.lists.items cell.list) x.end slots)) k
+    (IsOnly-end nfa x (length slots) h.first h.state step.goal (list_at u.lists.items cell.list) slots refl h.begins h.on
+    step.sure))
+
+-- what a list holds after one of its elements was set
+set-cases : {A : Type 0} (xs : List A) (i j : ℕ) (y z : A) → slice_get (slice_set xs i y) j ≡ Some z
+    → ((i ≡ j) × (z ≡ y) × ((x : A) × (slice_get xs j ≡ Some x))) ⊎ (slice_get xs j ≡ Some z)
+set-cases [] i j y z e = inr e
+set-cases (x ∷ xs) zero zero y z e = inl (refl, sym (same_some y z e), (x, refl))
+set-cases (x ∷ xs) zero (suc j) y z e = inr e
+set-cases (x ∷ xs) (suc i) zero y z e = inr e
+set-cases (x ∷ xs) (suc i) (suc j) y z e =
+    elim (set-cases xs i j y z e) [ inl h ↦ inl (ap suc h.0, h.1, h.2) | inr h ↦ inr h ]
+
+-- and after one was added
+push-cases : {A : Type 0} (xs : List A) (j : ℕ) (y z : A) → slice_get (xs ++ y ∷ []) j ≡ Some z
+    → (z ≡ y) ⊎ (slice_get xs j ≡ Some z)
+push-cases [] zero y z e = inl (sym (same_some y z e))
+push-cases [] (suc j) y z e = inr e
+push-cases (x ∷ xs) zero y z e = inr e
+push-cases (x ∷ xs) (suc j) y z e = push-cases xs j y z e
+
+-- each element of a list of one element is that element
+pub replicate-is : {A : Type 0} (n k : ℕ) (y z : A) → slice_get (replicate n y) k ≡ Some z → z ≡ y
+replicate-is zero k y z e = elim (none-some z e) [ ]
+replicate-is (suc n) zero y z e = sym (same_some y z e)
+replicate-is (suc n) (suc k) y z e = replicate-is n k y z e
+
+-- a row that is set keeps its state
+state-set : (rows : List Row) (i j : ℕ) (kept r : Row) → kept ≡ slice_index_or rows i kept → r.state ≡ kept.state
+    → state_at (slice_set rows i r) j ≡ state_at rows j
+state-set [] i j kept r is same = refl
+state-set (x ∷ rows) zero zero kept r is same = ap (λ (s : ℕ). Some s) (same ∙ ap (λ (z : Row). z.state) is)
+state-set (x ∷ rows) zero (suc j) kept r is same = refl
+state-set (x ∷ rows) (suc i) zero kept r is same = refl
+state-set (x ∷ rows) (suc i) (suc j) kept r is same = state-set rows i j kept r is same
+
+-- rows that are there keep their states when one is added
+pub KeepsRows-push : (rows : List Row) (r : Row) → KeepsRows rows (rows ++ r ∷ [])
+KeepsRows-push [] r j s e = elim (none-some s e) [ ]
+KeepsRows-push (x ∷ rows) r zero s e = e
+KeepsRows-push (x ∷ rows) r (suc j) s e = KeepsRows-push rows r j s e
+
+-- a table with a cell set is one of the NFA if the cell is a step or none
+pub KeepsRows-set : (rows : List Row) (i column : ℕ) (kept : Row) (cell : Cell) → kept ≡ slice_index_or rows i kept
+    → KeepsRows rows (slice_set rows i (record { state = kept.state; cells = slice_set kept.cells column cell }))
+KeepsRows-set rows i column kept cell is j s e =
+    state-set rows i j kept (record { state = kept.state; cells = slice_set kept.cells column cell }) is refl ∙ e
+
+pub IsFor-set : (nfa : Automaton) (t u : OnePass) (i column s : ℕ) (kept : Row) (cell : Cell)
+    → kept ≡ slice_index_or t.rows.items i kept
+    → u.rows.items
+    ≡ slice_set t.rows.items i (record { state = kept.state; cells = slice_set kept.cells column cell })
+    → u.lists.items ≡ t.lists.items → IsFor nfa t → state_at t.rows.items i ≡ Some s
+    → (cell.goal < 4294967294 → IsStep nfa t.rows.items t.lists.items s column cell) → IsFor nfa u
+IsFor-set nfa t u i column s kept cell is rows lists h here step =
+    let new : Row = record { state = kept.state; cells = slice_set kept.cells column cell } in
+    let more : KeepsRows t.rows.items u.rows.items =
+    subst (KeepsRows t.rows.items) (sym rows) (KeepsRows-set t.rows.items i column kept cell is) in
+    let old : Keeps t.lists.items u.lists.items = subst (Keeps t.lists.items) (sym lists) (Keeps-refl t.lists.items) in
+    let carry = λ (z k : ℕ) (c : Cell).
+    IsStep-keeps nfa t.rows.items u.rows.items t.lists.items u.lists.items z k c more old in
+    record {
+      states = λ row z e. h.states row z (sym (state-set t.rows.items i row kept new is refl)
+          ∙ ap (λ (xs : List Row). state_at xs row) (sym rows) ∙ e);
+      steps = λ row k r c e f low.
+          elim (set-cases t.rows.items i row new r (ap (λ (xs : List Row). slice_get xs row) (sym rows) ∙ e)) [
+            | inl m ↦
+                let x_is : kept ≡ m.2.0 = is ∙ ap (λ (n : ℕ). slice_index_or t.rows.items n kept) m.0
+                ∙ get_or_from_slice_get t.rows.items row m.2.0 kept m.2.1 in
+                let there : slice_get t.rows.items row ≡ Some kept = m.2.1 ∙ ap (λ (z : Row). Some z) (sym x_is) in
+                let states_are : kept.state ≡ r.state = ap (λ (z : Row). z.state) (sym m.1) in
+                subst (λ (z : ℕ). IsStep nfa u.rows.items u.lists.items z k c) states_are
+                (elim (set-cases kept.cells column k cell c
+                (ap (λ (z : Row). slice_get z.cells k) (sym m.1) ∙ f)) [
+                  | inl n ↦
+                      let s_is : s ≡ kept.state = same_some s kept.state (sym here
+                      ∙ ap (λ (q : ℕ). state_at t.rows.items q) m.0
+                      ∙ ap (λ (o : Option Row). option_map (λ (z : Row). z.state) o) there) in
+                      let c_low : cell.goal < 4294967294 = subst (λ (z : Cell). z.goal < 4294967294) n.1 low in
+                      carry kept.state k c (subst (λ (z : ℕ). IsStep nfa t.rows.items t.lists.items z k c) s_is
+                      (subst (λ (q : ℕ). IsStep nfa t.rows.items t.lists.items s q c) n.0
+                      (subst (λ (z : Cell). IsStep nfa t.rows.items t.lists.items s column z) (sym n.1) (step c_low))))
+                  | inr n ↦ carry kept.state k c (h.steps row k kept c there n low)
+                ])
+            | inr there ↦ carry r.state k c (h.steps row k r c there f low)
+          ];
+      first = subst HasEmptyList (sym lists) h.first;
+    }
+
+-- a row that has a state is there
+row-there : (rows : List Row) (row s : ℕ) → state_at rows row ≡ Some s
+    → (r : Row) × (slice_get rows row ≡ Some r) × (r.state ≡ s)
+row-there [] row s e = elim (none-some s e) [ ]
+row-there (x ∷ rows) zero s e = (x, refl, same_some x.state s e)
+row-there (x ∷ rows) (suc row) s e = row-there rows row s e
+
+-- and so is a table with a row added that has no step
+pub IsFor-push : (nfa : Automaton) (t u : OnePass) (r : Row) (s : ℕ) → u.rows.items ≡ t.rows.items ++ r ∷ []
+    → u.lists.items ≡ t.lists.items → IsFor nfa t → IsFresh r s → s < length nfa.states → IsFor nfa u
+IsFor-push nfa t u r s rows lists h fresh inside =
+    let more : KeepsRows t.rows.items u.rows.items =
+    subst (KeepsRows t.rows.items) (sym rows) (KeepsRows-push t.rows.items r) in
+    let old : Keeps t.lists.items u.lists.items = subst (Keeps t.lists.items) (sym lists) (Keeps-refl t.lists.items) in
+    record {
+      states = λ row z e.
+          let w = row-there u.rows.items row z e in
+          elim (push-cases t.rows.items row r w.0
+          (ap (λ (xs : List Row). slice_get xs row) (sym rows) ∙ w.1)) [
+            | inl same ↦
+                let z_is : s ≡ z = sym fresh.state ∙ ap (λ (q : Row). q.state) (sym same) ∙ w.2 in
+                subst (λ (n : ℕ). n < length nfa.states) z_is inside
+            | inr there ↦ h.states row z
+                (ap (λ (o : Option Row). option_map (λ (q : Row). q.state) o) there ∙ ap (λ (n : ℕ). Some n) w.2)
+          ];
+      steps = λ row k q c e f low.
+          elim (push-cases t.rows.items row r q (ap (λ (xs : List Row). slice_get xs row) (sym rows) ∙ e)) [
+            | inl same ↦
+                let none = fresh.unknown k c (ap (λ (y : Row). slice_get y.cells k) (sym same) ∙ f) in
+                absurd (omega (arith, none, low))
+            | inr there ↦ IsStep-keeps nfa t.rows.items u.rows.items t.lists.items u.lists.items q.state k c more old
+                (h.steps row k q c there f low)
+          ];
+      first = subst HasEmptyList (sym lists) h.first;
+    }
+
+-- a table is one of the NFA whatever lists are added
+pub IsFor-lists : (nfa : Automaton) (t u : OnePass) → u.rows.items ≡ t.rows.items → Keeps t.lists.items u.lists.items
+    → IsFor nfa t → IsFor nfa u
+IsFor-lists nfa t u rows keeps h = record {
+  states = λ row z e. h.states row z (ap (λ (xs : List Row). state_at xs row) (sym rows) ∙ e);
+  steps = λ row k r c e f low. IsStep-keeps nfa t.rows.items u.rows.items t.lists.items u.lists.items r.state k c
+      (λ j s g. ap (λ (xs : List Row). state_at xs j) rows ∙ g) keeps
+      (h.steps row k r c (ap (λ (xs : List Row). slice_get xs row) (sym rows) ∙ e) f low);
+  first = HasEmptyList-keeps t.lists.items u.lists.items keeps h.first;
+}

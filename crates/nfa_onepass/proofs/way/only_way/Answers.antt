@@ -1,0 +1,78 @@
+-- Each thread that is taken from the stack is the end of a way, or gives way to those that it leads to.
+use Rattle.nfa_paths.proofs.Common.{◌≡◌, ◌∙◌, ◌++◌, ◌-◌, ◌<◌, List, [], ℕ, Bool, false, is_some, ap, sym, subst, arith, take, length, Option, None, Some, option_to_list, LeadsBelow, Node, node_of, node_at, refl}
+use Rattle.nfa_paths.proofs.StartLemmas.{node_at-get}
+use Rattle.nfa_onepass.specs.Ways.{goal_of}
+use Rattle.nfa_onepass.specs.declared.way.Reached.{Reached}
+use Rattle.nfa_onepass.specs.declared.way.Thread.{Thread}
+use Rattle.nfa_onepass.proofs.ClosureLemmas.{IsUnderWay, IsUnderWay-ends, IsUnderWay-found, IsUnderWay-on, IsUnderWay-top}
+use Rattle.nfa_onepass.proofs.TableLemmas.{Keeps-trans}
+use Rattle.nfa_onepass.proofs.way.only_way.Goals as goal
+use Rattle.nfa_onepass.proofs.way.only_way.Goals.{in-Some-goal+else-is_some, in-None+else-not-go_on}
+
+pub returns-in_default-clause-reached : goal.returns-in_default-clause-reached
+returns-in_default-clause-reached c =
+    let waiting = c.turns.stack in
+    let over = rw c.in_default.is at c.pop.ensures.cases in
+    let less : waiting.len - 1 ≡ 0 = omega (arith, over.0) in
+    let empty : c.pop.new.self.items ≡ [] =
+    c.pop.ensures.rest ∙ ap (λ (n : ℕ). take n waiting.items) less in
+    let none : waiting.items ≡ [] =
+    c.pop.ensures.items ∙ ap (λ (o : Option Thread). c.pop.new.self.items ++ option_to_list o) c.in_default.is
+    ∙ ap (λ (ts : List Thread). ts ++ []) empty in
+    IsUnderWay-ends c.args.nfa.now c.args.sid c.args.byte c.turns.lists.items c.turns.found
+    (rw none at c.turns.invariant.under_way)
+
+pub state-requires : goal.state-requires
+state-requires c =
+    (IsUnderWay-top c.args.nfa.now c.args.sid c.args.byte c.turns.lists.items c.pop.new.self.items c.turns.stack.items
+    c.turns.found c.in-Some.thread c.in-Some.ensures.items c.turns.invariant.under_way).0
+
+pub go_on-requires-clause-state : goal.go_on-requires-clause-state
+go_on-requires-clause-state c =
+    (IsUnderWay-top c.args.nfa.now c.args.sid c.args.byte c.turns.lists.items c.pop.new.self.items c.turns.stack.items
+    c.turns.found c.in-Some.thread c.in-Some.ensures.items c.turns.invariant.under_way).0
+
+pub go_on-requires-clause-list : goal.go_on-requires-clause-list
+go_on-requires-clause-list c =
+    let k = (IsUnderWay-top c.args.nfa.now c.args.sid c.args.byte c.turns.lists.items c.pop.new.self.items
+    c.turns.stack.items c.turns.found c.in-Some.thread c.in-Some.ensures.items c.turns.invariant.under_way).1 in
+    omega (arith, k, c.turns.lists.ok.0)
+
+-- nothing is there
+none-of : (o : Option Reached) → is_some o ≡ false → o ≡ None
+none-of None f = refl
+none-of (Some it) f = cc
+
+pub turns-preserved : goal.turns-preserved
+turns-preserved c =
+    let nfa = c.args.nfa.now in
+    let t = c.in-Some.thread in
+    let node = node_of c.state.result.now in
+    let at : node_at nfa t.sid ≡ node = node_at-get nfa t.sid node c.state.ensures.node in
+    let goal_is : goal_of c.args.byte (node_at nfa t.sid) ≡ c.goal.result =
+    ap (λ (n : Node). goal_of c.args.byte n) at ∙ sym c.goal.ensures.goal in
+    let lists = c.turns.lists.items in
+    let stack = c.turns.stack.items in
+    let rest = c.pop.new.self.items in
+    elim c.match-goal.branch [
+      | in-Some-goal+else-is_some w ↦
+          let none : c.turns.found ≡ None = none-of c.turns.found (sym w.is_some.ensures ∙ w.if-is_some.false) in
+          rw (w.lists-is, w.stack-is, w.found-is) (record {
+            keeps = c.turns.invariant.keeps;
+            under_way = IsUnderWay-found nfa c.args.sid c.args.byte lists rest stack t w.in-Some-goal.goal
+                c.in-Some.ensures.items
+                (subst (λ (f : Option Reached). IsUnderWay nfa c.args.sid c.args.byte lists stack f) none
+                c.turns.invariant.under_way)
+                (goal_is ∙ w.in-Some-goal.is) w.in-Some-goal.ensures.small;
+          })
+      | in-None+else-not-go_on w ↦
+          rw (w.lists-is, w.stack-is, w.found-is) (record {
+            keeps = Keeps-trans c.args.lists.now.items lists w.go_on.new.lists.items c.turns.invariant.keeps
+                w.go_on.ensures.keeps;
+            under_way = IsUnderWay-on nfa c.args.sid c.args.byte lists w.go_on.new.lists.items rest stack
+                w.go_on.new.stack.items c.turns.found t c.in-Some.ensures.items c.turns.invariant.under_way
+                (goal_is ∙ w.in-None.is)
+                (subst (LeadsBelow (length nfa.states)) (sym at) c.state.ensures.leads) w.go_on.ensures.keeps
+                (w.if-not-go_on.ensures.on refl);
+          })
+    ]

@@ -1,0 +1,4 @@
+pub mod Ways
+pub mod Tables
+pub use Rattle.nfa_paths.specs.Graphs
+pub use Rattle.nfa_paths.specs.Paths

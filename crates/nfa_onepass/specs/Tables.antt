@@ -1,0 +1,100 @@
+-- The table of sure steps.
+use Rattle.std.specs.Prelude.{◌≡◌, ℕ, ◌+◌, ◌≤◌, ◌<◌, ◌⊎◌, List, [], ◌∷◌, ◌++◌, length, map, Option, None, Some, option_map, slice_get, if◌then◌else◌, nat_lt, All}
+use Rattle.std.specs.Global.{Vec}
+use Rattle.std.specs.Option.{option_map_or}
+use Rattle.thompson_nfa.specs.Automaton.{Automaton}
+use Rattle.regex_search_core.specs.Search.{Search}
+use Rattle.nfa_paths.specs.Exploring.{Slots}
+use Rattle.nfa_paths.specs.Paths.{node_at, start_state}
+use Rattle.nfa_onepass.specs.Ways.{IsOnWay, IsSure, free_states, write_each, written}
+use Rattle.nfa_onepass.specs.declared.table.Cell.{Cell}
+use Rattle.nfa_onepass.specs.declared.table.OnePass.{OnePass}
+use Rattle.nfa_onepass.specs.declared.table.Row.{Row}
+use Rattle.nfa_onepass.specs.declared.way.Reached.{Reached}
+use Rattle.nfa_onepass.specs.declared.way.Thread.{Thread}
+
+-- the list of this number
+abbrev pub list_at : List (Vec ℕ) → ℕ → List ℕ
+list_at lists i = option_map_or (λ (l : Vec ℕ). l.items) (slice_get lists i) []
+
+-- the first list is empty
+pub record HasEmptyList (lists : List (Vec ℕ)) : Type 0 where
+  pub some : 0 < length lists
+  pub empty : list_at lists 0 ≡ []
+
+-- lists were added after those that were there
+pub record Keeps (old new : List (Vec ℕ)) : Type 0 where
+  pub longer : length old ≤ length new
+  pub same : (i : ℕ) → i < length old → list_at new i ≡ list_at old i
+
+-- threads at these states with this list
+abbrev pub threads_at : ℕ → List ℕ → List Thread
+threads_at list states = map (λ s. record { sid = s; list = list }) states
+
+-- A thread gave way to threads at the states that its state leads to without a byte, with the list after it.
+pub record GoesOn (nfa : Automaton) (lists new : List (Vec ℕ)) (stack pushed : List Thread) (t : Thread)
+    : Type 0 where
+  pub list : ℕ
+  pub inside : list < length new
+  pub after : list_at new list ≡ list_at lists t.list ++ written (node_at nfa t.sid)
+  pub are : pushed ≡ stack ++ threads_at list (free_states (node_at nfa t.sid))
+
+-- the state of a row
+abbrev pub state_at : List Row → ℕ → Option ℕ
+state_at rows row = option_map (λ (r : Row). r.state) (slice_get rows row)
+
+-- rows were added after those that were there
+abbrev pub KeepsRows : List Row → List Row → Type 0
+KeepsRows old new = (row s : ℕ) → state_at old row ≡ Some s → state_at new row ≡ Some s
+
+-- the byte of a column; none for that of the end
+abbrev pub byte_of : ℕ → Option ℕ
+byte_of column = if nat_lt column 256 then Some column else None
+
+-- The cell's step from the state over the column is sure: it leads to a row, or at the end of the span to a pattern.
+pub record IsStep (nfa : Automaton) (rows : List Row) (lists : List (Vec ℕ)) (s column : ℕ) (cell : Cell)
+    : Type 0 where
+  pub goal : ℕ
+  pub inside : cell.list < length lists
+  pub sure : IsSure nfa s (byte_of column) goal (list_at lists cell.list)
+  pub leads : column < 256 → state_at rows cell.goal ≡ Some goal
+  pub ends : 256 ≤ column → cell.goal ≡ goal
+
+-- The table is of the NFA: each row is of one of its states, and each step that is known is sure.
+pub record IsFor (nfa : Automaton) (t : OnePass) : Type 0 where
+  pub states : (row s : ℕ) → state_at t.rows.items row ≡ Some s → s < length nfa.states
+  pub steps : (row column : ℕ) (r : Row) (cell : Cell) → slice_get t.rows.items row ≡ Some r
+      → slice_get r.cells column ≡ Some cell → cell.goal < 4294967294
+      → IsStep nfa t.rows.items t.lists.items r.state column cell
+  pub first : HasEmptyList t.lists.items
+
+-- A walk is at this row at the position, with these slots: it is on the way from the start of the search.
+pub record IsWalking (nfa : Automaton) (x : Search) (t : OnePass) (row at : ℕ) (slots : Slots) : Type 0 where
+  pub first : ℕ
+  pub begins : start_state nfa x.anchored ≡ Some first
+  pub state : ℕ
+  pub here : state_at t.rows.items row ≡ Some state
+  pub on : IsOnWay nfa x (length slots) first (state, at) slots
+
+-- The search for the only way ended there: the goal and the list are numbers that a table has room for.
+pub record IsReached (nfa : Automaton) (lists : List (Vec ℕ)) (s : ℕ) (byte : Option ℕ) (it : Reached) : Type 0 where
+  pub inside : it.list < length lists
+  pub small : it.goal ≤ 2147483646
+  pub sure : IsSure nfa s byte it.goal (list_at lists it.list)
+
+-- A sure step over the byte led from the state to the next row, and wrote its slots at the position.
+pub record Takes (nfa : Automaton) (new : OnePass) (from byte at : ℕ) (slots after : Slots) (next : ℕ) : Type 0 where
+  pub to : ℕ
+  pub written : List ℕ
+  pub is : state_at new.rows.items next ≡ Some to
+  pub sure : IsSure nfa from (Some byte) to written
+  pub writes : after ≡ write_each written at slots
+
+-- the row is of the state and has no step
+pub record IsFresh (r : Row) (s : ℕ) : Type 0 where
+  pub state : r.state ≡ s
+  pub unknown : (column : ℕ) (cell : Cell) → slice_get r.cells column ≡ Some cell → cell.goal ≡ 4294967295
+
+-- the row was added, or there was no memory for it
+abbrev pub IsAddedIf : List Row → Row → List Row → Type 0
+IsAddedIf old r new = (new ≡ old) ⊎ (new ≡ old ++ r ∷ [])

@@ -1,0 +1,8 @@
+//! The slots of a match whose span is known: a walk over its bytes, as long as only one way through the NFA is left.
+#![tactic(auto)]
+
+mod table;
+mod walk;
+mod way;
+
+pub use table::OnePass;

@@ -1,0 +1,287 @@
+//! The table of sure steps: a row for each state that a walk came to, with a cell for each byte and one for the end.
+ghost use Rattle.std.specs.Prelude.{◌≡◌, ℕ, ◌<◌, ◌≤◌, IfOk, IfSome, Some, length};
+ghost use Rattle.nfa_onepass.specs.Tables.{IsAddedIf, IsFor, IsFresh, IsReached, IsStep, KeepsRows, byte_of, state_at};
+
+use crate::way::{NO_SLOTS, Reached, Thread, only_way};
+use regex_search_core::StateID;
+use std::alloc::{AllocError, Global};
+use thompson_nfa::NFA;
+
+/// The number of cells of a row: one for each byte, and one for the end of the span.
+pub const COLUMNS: usize = 257;
+
+/// The column of the end of the span.
+pub const END: usize = 256;
+
+/// The goal of a cell whose step is not known yet.
+pub const UNKNOWN: u32 = u32::MAX;
+
+/// The goal of a cell whose step is not sure. Goals of sure steps are below.
+pub const UNSURE: u32 = u32::MAX - 1;
+
+/// The maximum number of rows.
+const MAX_ROWS: usize = 1024;
+
+/// A row that no state has.
+const NO_ROW: u32 = u32::MAX;
+
+/// A step: the row that it leads to, or at the end of the span the pattern, and the list of the slots that it writes.
+#[derive(Clone, Copy)]
+pub struct Cell {
+    pub goal: u32,
+    pub list: u32,
+}
+
+/// The steps from a state.
+#[derive(Drop)]
+pub struct Row {
+    pub state: StateID,
+    pub cells: [Cell; COLUMNS],
+}
+
+/// Sure steps of an NFA, as far as searches needed them.
+#[derive(Drop)]
+pub struct OnePass {
+    pub(crate) rows: Vec<Row>,
+    /// The row of each state. What it holds is compared before it is used.
+    numbers: Vec<u32>,
+    /// Lists of slots that a step writes. The first one is empty.
+    pub(crate) lists: Vec<Vec<usize>>,
+    stack: Vec<Thread>,
+    /// How many searches found a step that is not sure, as far as those that did not have not made up for them.
+    pub(crate) misses: u32,
+}
+
+/// The byte of a column, or `None` for that of the end.
+fn byte_of(column: usize) -> Option<u8>
+    requires { column < 257 }
+    ensures { result ≡ byte_of column }
+{
+    if column < END {
+        Some(column as u8)
+    } else {
+        None
+    }
+}
+
+/// A row of the state, without steps.
+fn fresh_row(state: StateID) -> Row
+    ensures { IsFresh result state }
+{
+    let unknown = Cell {
+        goal: UNKNOWN,
+        list: NO_SLOTS,
+    };
+    Row {
+        state,
+        cells: [unknown; COLUMNS],
+    }
+}
+
+/// Adds the row, if there is memory.
+fn push(rows: &mut Vec<Row>, row: Row)
+    ensures { IsAddedIf rows.old.items row rows.new.items }
+{
+    let _ = rows.push(row).is_ok();
+}
+
+impl OnePass {
+    /// Makes an empty table.
+    pub fn new(alloc: Global, nfa: &NFA) -> Result<OnePass, AllocError>
+        ensures { IfOk result (IsFor nfa.now) }
+    {
+        let numbers = vec![in alloc; NO_ROW; nfa.states().len()]?;
+        let mut lists = Vec::new(alloc);
+        lists.push(Vec::new(alloc))?;
+        Ok(OnePass {
+            rows: Vec::new(alloc),
+            numbers,
+            lists,
+            stack: Vec::new(alloc),
+            misses: 0,
+        })
+    }
+
+    /// The row of the state, if it has one.
+    fn find_row(&self, sid: StateID) -> Option<u32>
+        ensures { IfSome result (λ row. state_at self.now.rows.items row ≡ Some sid) }
+    {
+        let number = *self.numbers.get(sid.as_usize())?;
+        let row = self.rows.get(number as usize)?;
+        if row.state == sid { Some(number) } else { None }
+    }
+
+    /// The row of the state, which is added if it is new.
+    pub(crate) fn row_of(&mut self, nfa: &NFA, sid: StateID) -> Option<u32>
+        requires own { IsFor nfa.now self.old }
+        requires state { sid < length nfa.now.states }
+        ensures own { IsFor nfa.now self.new }
+        ensures keeps { KeepsRows self.old.rows.items self.new.rows.items }
+        ensures lists { self.new.lists ≡ self.old.lists }
+        ensures row { IfSome result (λ row. state_at self.new.rows.items row ≡ Some sid) }
+    {
+        if let Some(row) = self.find_row(sid) {
+            return Some(row);
+        }
+        self.add_row(nfa, sid);
+        self.find_row(sid)
+    }
+
+    /// Adds a row for the state, without steps, if there is room.
+    fn add_row(&mut self, nfa: &NFA, sid: StateID)
+        requires own { IsFor nfa.now self.old }
+        requires state { sid < length nfa.now.states }
+        ensures own { IsFor nfa.now self.new }
+        ensures keeps { KeepsRows self.old.rows.items self.new.rows.items }
+        ensures lists { self.new.lists ≡ self.old.lists }
+    {
+        let number = self.rows.len();
+        if number >= MAX_ROWS {
+            return;
+        }
+        self.push_row(nfa, sid);
+        self.note(sid, number as u32);
+    }
+
+    /// Adds a row for the state, without steps, if there is memory.
+    fn push_row(&mut self, nfa: &NFA, sid: StateID)
+        requires own { IsFor nfa.now self.old }
+        requires state { sid < length nfa.now.states }
+        ensures own { IsFor nfa.now self.new }
+        ensures keeps { KeepsRows self.old.rows.items self.new.rows.items }
+        ensures lists { self.new.lists ≡ self.old.lists }
+    {
+        push(&mut self.rows, fresh_row(sid));
+    }
+
+    /// Notes the row of the state.
+    fn note(&mut self, sid: StateID, number: u32)
+        ensures rows { self.new.rows ≡ self.old.rows }
+        ensures lists { self.new.lists ≡ self.old.lists }
+    {
+        let index = sid.as_usize();
+        if index < self.numbers.len() {
+            self.numbers[index] = number;
+        }
+    }
+
+    /// The state of the row.
+    fn state_of(&self, row: u32) -> Option<StateID>
+        ensures { IfSome result (λ s. state_at self.now.rows.items row ≡ Some s) }
+    {
+        Some(self.rows.get(row as usize)?.state)
+    }
+
+    /// The cell of the row, in the column.
+    #[inline(always)]
+    fn known(&self, nfa: &NFA, row: u32, column: usize) -> Option<Cell>
+        requires own { IsFor nfa.now self.now }
+        ensures { IfSome result (λ cell. (s : ℕ) → state_at self.now.rows.items row ≡ Some s → cell.goal < 4294967294
+            → IsStep nfa.now self.now.rows.items self.now.lists.items s column cell) }
+    {
+        let kept = self.rows.get(row as usize)?;
+        let cell = kept.cells.get(column)?;
+        Some(*cell)
+    }
+
+    /// The step from the row over the column, if it is sure.
+    #[inline(always)]
+    pub(crate) fn cell(&mut self, nfa: &NFA, row: u32, column: usize) -> Option<Cell>
+        requires own { IsFor nfa.now self.old }
+        requires column { column < 257 }
+        ensures own { IsFor nfa.now self.new }
+        ensures keeps { KeepsRows self.old.rows.items self.new.rows.items }
+        ensures step { (s : ℕ) → state_at self.old.rows.items row ≡ Some s
+            → IfSome result (IsStep nfa.now self.new.rows.items self.new.lists.items s column) }
+    {
+        let cell = self.known(nfa, row, column)?;
+        if cell.goal < UNSURE {
+            return Some(cell);
+        }
+        if cell.goal == UNSURE {
+            return None;
+        }
+        let sid = self.state_of(row)?;
+        self.fill(nfa, sid, row, column)
+    }
+
+    /// Finds the step from the row of the state over the column, and keeps it.
+    #[cold]
+    #[inline(never)]
+    fn fill(&mut self, nfa: &NFA, sid: StateID, row: u32, column: usize) -> Option<Cell>
+        requires own { IsFor nfa.now self.old }
+        requires here { state_at self.old.rows.items row ≡ Some sid }
+        requires column { column < 257 }
+        ensures own { IsFor nfa.now self.new }
+        ensures keeps { KeepsRows self.old.rows.items self.new.rows.items }
+        ensures step { IfSome result (IsStep nfa.now self.new.rows.items self.new.lists.items sid column) }
+    {
+        let Some(reached) = self.reach(nfa, sid, column) else {
+            let unsure = Cell {
+                goal: UNSURE,
+                list: NO_SLOTS,
+            };
+            self.keep(nfa, sid, row, column, unsure);
+            return None;
+        };
+        let cell = self.cell_to(nfa, sid, column, reached)?;
+        self.keep(nfa, sid, row, column, cell);
+        Some(cell)
+    }
+
+    /// Searches for the only way from the state over the column.
+    fn reach(&mut self, nfa: &NFA, sid: StateID, column: usize) -> Option<Reached>
+        requires own { IsFor nfa.now self.old }
+        requires state { sid < length nfa.now.states }
+        requires column { column < 257 }
+        ensures own { IsFor nfa.now self.new }
+        ensures rows { self.new.rows ≡ self.old.rows }
+        ensures reached { IfSome result (IsReached nfa.now self.new.lists.items sid (byte_of column)) }
+    {
+        only_way(nfa, &mut self.lists, &mut self.stack, sid, byte_of(column))
+    }
+
+    /// The cell of a step from the state that leads there. Without room for a row there is none.
+    fn cell_to(&mut self, nfa: &NFA, sid: StateID, column: usize, reached: Reached) -> Option<Cell>
+        requires own { IsFor nfa.now self.old }
+        requires column { column < 257 }
+        requires reached { IsReached nfa.now self.old.lists.items sid (byte_of column) reached }
+        ensures own { IsFor nfa.now self.new }
+        ensures keeps { KeepsRows self.old.rows.items self.new.rows.items }
+        ensures step { IfSome result (IsStep nfa.now self.new.rows.items self.new.lists.items sid column) }
+    {
+        if column == END {
+            return Some(Cell {
+                goal: reached.goal,
+                list: reached.list,
+            });
+        }
+        let to = StateID::new(reached.goal as usize)?;
+        if to.as_usize() >= nfa.states().len() {
+            return None;
+        }
+        let next = self.row_of(nfa, to)?;
+        Some(Cell {
+            goal: next,
+            list: reached.list,
+        })
+    }
+
+    /// Keeps a cell of the row of the state: a step, or that there is none that is sure.
+    fn keep(&mut self, nfa: &NFA, sid: StateID, row: u32, column: usize, cell: Cell)
+        requires own { IsFor nfa.now self.old }
+        requires here { state_at self.old.rows.items row ≡ Some sid }
+        requires column { column < 257 }
+        requires step { cell.goal < 4294967294
+            → IsStep nfa.now self.old.rows.items self.old.lists.items sid column cell }
+        ensures own { IsFor nfa.now self.new }
+        ensures keeps { KeepsRows self.old.rows.items self.new.rows.items }
+        ensures lists { self.new.lists ≡ self.old.lists }
+    {
+        if row as usize >= self.rows.len() {
+            return;
+        }
+        let kept = &mut self.rows[row as usize];
+        kept.cells[column] = cell;
+    }
+}

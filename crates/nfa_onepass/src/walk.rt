@@ -1,0 +1,166 @@
+//! The walk over a span.
+ghost use Rattle.std.specs.Prelude.{◌≡◌, ◌<◌, ◌≤◌, IfSome, None, Some, length, replicate, true, ℕ};
+ghost use Rattle.regex_search_core.specs.Search.{search_of};
+ghost use Rattle.regex_search_core.specs.PatternSets.{number_of};
+ghost use Rattle.nfa_onepass.specs.Ways.{IsOnly, write_each};
+ghost use Rattle.nfa_onepass.specs.Tables.{IsFor, IsWalking, Takes, list_at, state_at};
+
+use crate::table::{END, OnePass};
+use nfa_scan_core::starts::start_state;
+use nfa_scan_core::transitions::byte_at;
+use regex_search_core::{Input, NonMaxUsize, PatternID};
+use thompson_nfa::NFA;
+
+/// How many more searches may find a step that is not sure, before no more is worth its time.
+const MAX_MISSES: u32 = 16;
+
+/// Sets each of these slots to the position.
+#[inline(always)]
+fn write_each(list: &[usize], slots: &mut [Option<NonMaxUsize>], at: usize)
+    requires { at < usize.MAX }
+    ensures { slots.new ≡ write_each list.now at slots.old }
+{
+    for slot in list {
+        if *slot < slots.len() {
+            slots[*slot] = NonMaxUsize::new(at);
+        }
+    }
+}
+
+/// Unsets all slots.
+fn unset(slots: &mut [Option<NonMaxUsize>])
+    ensures { slots.new ≡ replicate (length slots.old) None }
+{
+    slots.fill(None);
+}
+
+/// The pattern of this number.
+fn pattern_of(goal: u32) -> Option<PatternID>
+    ensures { IfSome result (λ p. number_of p ≡ goal) }
+{
+    PatternID::new(goal as usize)
+}
+
+impl OnePass {
+    /// Whether searches find sure steps often enough to be worth their time.
+    pub fn is_on(&self) -> bool {
+        self.misses < MAX_MISSES
+    }
+
+    /// Writes the slots of each path through the NFA that begins at the start of the span and ends at its end with a
+    /// match, and returns their pattern, as far as each step is sure. Returns `None` if one is not.
+    pub fn search_span(
+        &mut self,
+        nfa: &NFA,
+        input: &Input<'_>,
+        slots: &mut [Option<NonMaxUsize>],
+    ) -> Option<PatternID>
+        requires own { IsFor nfa.now self.old }
+        ensures own { IsFor nfa.now self.new }
+        ensures only { IfSome result (λ p. IsOnly nfa.now (search_of input.now) (number_of p) slots.new) }
+    {
+        if input.is_done() {
+            return None;
+        }
+        let found = self.walk_span(nfa, input, slots);
+        self.count(found.is_some());
+        found
+    }
+
+    /// Counts a search.
+    fn count(&mut self, found: bool)
+        ensures rows { self.new.rows ≡ self.old.rows }
+        ensures lists { self.new.lists ≡ self.old.lists }
+    {
+        self.misses = if found {
+            self.misses.saturating_sub(1)
+        } else {
+            self.misses.saturating_add(2)
+        };
+    }
+
+    /// The same for a span that is not past its end.
+    fn walk_span(
+        &mut self,
+        nfa: &NFA,
+        input: &Input<'_>,
+        slots: &mut [Option<NonMaxUsize>],
+    ) -> Option<PatternID>
+        requires own { IsFor nfa.now self.old }
+        requires order { (search_of input.now).start ≤ (search_of input.now).end }
+        ensures own { IsFor nfa.now self.new }
+        ensures only { IfSome result (λ p. IsOnly nfa.now (search_of input.now) (number_of p) slots.new) }
+    {
+        let sid = start_state(nfa, input)?;
+        let first = self.row_of(nfa, sid)?;
+        unset(slots);
+        let row = self.walk(nfa, input, first, slots)?;
+        let cell = self.cell(nfa, row, END)?;
+        if !self.write_list(cell.list, slots, input.end()) {
+            return None;
+        }
+        let pattern = pattern_of(cell.goal)?;
+        Some(pattern)
+    }
+
+    /// Goes over the bytes of the span. Returns the row at its end.
+    fn walk(
+        &mut self,
+        nfa: &NFA,
+        input: &Input<'_>,
+        first: u32,
+        slots: &mut [Option<NonMaxUsize>],
+    ) -> Option<u32>
+        requires own { IsFor nfa.now self.old }
+        requires order { (search_of input.now).start ≤ (search_of input.now).end }
+        requires walking { IsWalking nfa.now (search_of input.now) self.old first (search_of input.now).start slots.old }
+        ensures own { IsFor nfa.now self.new }
+        ensures walking { IfSome result (λ row.
+            IsWalking nfa.now (search_of input.now) self.new row (search_of input.now).end slots.new) }
+    {
+        let mut row = first;
+        for at in input.start()..input.end() {
+            let byte = byte_at(input, at)?;
+            row = self.take(nfa, row, byte, at, slots)?;
+        }
+        Some(row)
+    }
+
+    /// Sets each slot of the list to the position. Returns whether there is such a list.
+    #[inline(always)]
+    fn write_list(&self, list: u32, slots: &mut [Option<NonMaxUsize>], at: usize) -> bool
+        requires { at < usize.MAX }
+        ensures { result ≡ true → slots.new ≡ write_each (list_at self.now.lists.items list) at slots.old }
+    {
+        match self.lists.get(list as usize) {
+            Some(list) => {
+                write_each(list, slots, at);
+                true
+            }
+            None => false,
+        }
+    }
+
+    /// Takes the step over the byte at the position. Returns the row that it leads to.
+    #[inline(always)]
+    fn take(
+        &mut self,
+        nfa: &NFA,
+        row: u32,
+        byte: u8,
+        at: usize,
+        slots: &mut [Option<NonMaxUsize>],
+    ) -> Option<u32>
+        requires own { IsFor nfa.now self.old }
+        requires at { at < usize.MAX }
+        ensures own { IsFor nfa.now self.new }
+        ensures takes { (s : ℕ) → state_at self.old.rows.items row ≡ Some s
+            → IfSome result (Takes nfa.now self.new s byte at slots.old slots.new) }
+    {
+        let cell = self.cell(nfa, row, byte as usize)?;
+        if !self.write_list(cell.list, slots, at) {
+            return None;
+        }
+        Some(cell.goal)
+    }
+}

@@ -1,0 +1,202 @@
+//! The only way from a state to one that reads a byte, or to a Match.
+ghost use Rattle.std.specs.Prelude.{◌≡◌, ◌<◌, ◌≤◌, ◌++◌, ◌∷◌, [], IfSome, length, true, vec_len};
+ghost use Rattle.thompson_nfa.specs.Automaton.{node_of};
+ghost use Rattle.nfa_onepass.specs.Ways.{free_states, goal_of, written};
+ghost use Rattle.nfa_onepass.specs.Tables.{GoesOn, HasEmptyList, IsReached, Keeps, list_at, threads_at};
+
+use nfa_scan_core::transitions::target;
+use regex_search_core::StateID;
+use thompson_nfa::{NFA, State};
+
+/// How many states are looked at before a step counts as not sure.
+const MAX_TURNS: usize = 4096;
+
+/// The number of the list without slots.
+pub const NO_SLOTS: u32 = 0;
+
+/// How many lists of slots are kept.
+const MAX_LISTS: usize = 4096;
+
+/// A state that a way came to, and the list of the slots that it wrote.
+#[derive(Clone, Copy)]
+pub struct Thread {
+    pub sid: StateID,
+    pub list: u32,
+}
+
+/// The end of a way: its goal, and the list of the slots that it wrote.
+#[derive(Clone, Copy)]
+pub struct Reached {
+    pub goal: u32,
+    pub list: u32,
+}
+
+/// What the state leads to: with a byte the target on it, without one the pattern of a `Match`.
+fn goal(state: &State, byte: Option<u8>) -> Option<u32>
+    ensures goal { result ≡ goal_of byte (node_of state.now) }
+    ensures small { IfSome result (λ k. k ≤ 2147483646) }
+{
+    match byte {
+        Some(_) => Some(target(state, byte)?.as_usize() as u32),
+        None => match state {
+            State::Match { pattern_id } => Some(pattern_id.as_usize() as u32),
+            _ => None,
+        },
+    }
+}
+
+/// Whether the first list is the second one with the slot after it.
+fn is_extended(longer: &[usize], shorter: &[usize], slot: usize) -> bool
+    ensures { result ≡ true → longer.now ≡ shorter.now ++ slot ∷ [] }
+{
+    match longer.split_last() {
+        Some((last, rest)) => *last == slot && rest == shorter,
+        None => false,
+    }
+}
+
+/// The number of a list with the slot after the list of this number, if there is one.
+fn find_extended(lists: &[Vec<usize>], list: u32, slot: usize) -> Option<u32>
+    requires { list < length lists.now }
+    ensures { IfSome result (λ longer. (longer < length lists.now)
+        × (list_at lists.now longer ≡ list_at lists.now list ++ slot ∷ [])) }
+{
+    for index in 0..lists.len().min(MAX_LISTS) {
+        if is_extended(&lists[index], &lists[list as usize], slot) {
+            return Some(index as u32);
+        }
+    }
+    None
+}
+
+/// Adds a list with the slot after the list of this number.
+fn add_extended(lists: &mut Vec<Vec<usize>>, list: u32, slot: usize) -> Option<u32>
+    requires { list < vec_len lists.old }
+    ensures keeps { Keeps lists.old.items lists.new.items }
+    ensures longer { IfSome result (λ longer. (longer < vec_len lists.new)
+        × (list_at lists.new.items longer ≡ list_at lists.old.items list ++ slot ∷ [])) }
+{
+    let index = lists.len();
+    if index >= MAX_LISTS {
+        return None;
+    }
+    let Ok(mut longer) = lists[list as usize].clone() else {
+        return None;
+    };
+    if longer.push(slot).is_err() {
+        return None;
+    }
+    if lists.push(longer).is_err() {
+        return None;
+    }
+    Some(index as u32)
+}
+
+/// The number of a list with the slot after the list of this number.
+fn extended(lists: &mut Vec<Vec<usize>>, list: u32, slot: usize) -> Option<u32>
+    requires { list < vec_len lists.old }
+    ensures keeps { Keeps lists.old.items lists.new.items }
+    ensures longer { IfSome result (λ longer. (longer < vec_len lists.new)
+        × (list_at lists.new.items longer ≡ list_at lists.old.items list ++ slot ∷ [])) }
+{
+    if let Some(longer) = find_extended(lists, list, slot) {
+        return Some(longer);
+    }
+    add_extended(lists, list, slot)
+}
+
+/// The number of the list after the state, if the one before it has this number.
+fn list_after(lists: &mut Vec<Vec<usize>>, state: &State, list: u32) -> Option<u32>
+    requires { list < vec_len lists.old }
+    ensures keeps { Keeps lists.old.items lists.new.items }
+    ensures after { IfSome result (λ after. (after < vec_len lists.new)
+        × (list_at lists.new.items after ≡ list_at lists.old.items list ++ written (node_of state.now))) }
+{
+    match state {
+        State::Capture { slot, .. } => extended(lists, list, *slot),
+        _ => Some(list),
+    }
+}
+
+/// Puts each state with the list on the stack. Returns whether there was memory for them.
+fn push_each(stack: &mut Vec<Thread>, states: &[StateID], list: u32) -> bool
+    ensures { result ≡ true → stack.new.items ≡ stack.old.items ++ threads_at list states.now }
+{
+    for sid in states {
+        if stack.push(Thread { sid: *sid, list }).is_err() {
+            return false;
+        }
+    }
+    true
+}
+
+/// Puts the states that the state leads to without a byte on the stack, with the list. Returns whether there was memory
+/// for them.
+fn push_free(stack: &mut Vec<Thread>, state: &State, list: u32) -> bool
+    ensures { result ≡ true
+        → stack.new.items ≡ stack.old.items ++ threads_at list (free_states (node_of state.now)) }
+{
+    match state {
+        State::Look { next, .. } | State::Capture { next, .. } => push_each(stack, &[*next], list),
+        State::Union { alternates } => push_each(stack, alternates, list),
+        State::BinaryUnion { alt1, alt2 } => push_each(stack, &[*alt1, *alt2], list),
+        _ => true,
+    }
+}
+
+/// Goes on from the thread to the states that its state leads to without a byte. Returns whether there was memory.
+fn go_on(nfa: &NFA, lists: &mut Vec<Vec<usize>>, stack: &mut Vec<Thread>, thread: Thread) -> bool
+    requires state { thread.sid < length nfa.now.states }
+    requires list { thread.list < vec_len lists.old }
+    ensures keeps { Keeps lists.old.items lists.new.items }
+    ensures on { result ≡ true → GoesOn nfa.now lists.old.items lists.new.items stack.old.items stack.new.items thread }
+{
+    let state = nfa.state(thread.sid);
+    match list_after(lists, state, thread.list) {
+        Some(list) => push_free(stack, state, list),
+        None => false,
+    }
+}
+
+/// The goal that the state leads to with the byte, or without one to a `Match`, if only one way leads to such a goal.
+/// Returns `None` if there are several, or none, or too many states to look at.
+pub fn only_way(
+    nfa: &NFA,
+    lists: &mut Vec<Vec<usize>>,
+    stack: &mut Vec<Thread>,
+    sid: StateID,
+    byte: Option<u8>,
+) -> Option<Reached>
+    requires state { sid < length nfa.now.states }
+    requires first { HasEmptyList lists.old.items }
+    ensures keeps { Keeps lists.old.items lists.new.items }
+    ensures reached { IfSome result (IsReached nfa.now lists.new.items sid byte) }
+{
+    stack.clear();
+    if !push_each(stack, &[sid], NO_SLOTS) {
+        return None;
+    }
+    let mut found: Option<Reached> = None;
+    'turns: for _ in 0..MAX_TURNS {
+        let Some(thread) = stack.pop() else {
+            return found;
+        };
+        match goal(nfa.state(thread.sid), byte) {
+            Some(goal) => {
+                if found.is_some() {
+                    return None;
+                }
+                found = Some(Reached {
+                    goal,
+                    list: thread.list,
+                });
+            }
+            None => {
+                if !go_on(nfa, lists, stack, thread) {
+                    return None;
+                }
+            }
+        }
+    }
+    None
+}
