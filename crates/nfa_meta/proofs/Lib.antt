@@ -2,6 +2,7 @@ pub mod AnchoredLemmas
 pub mod CaughtLemmas
 pub mod GapLemmas
 pub mod GoesOnLemmas
+pub mod GroupLemmas
 pub mod HalvesLemmas
 pub mod MatchesLemmas
 pub mod MatchSlotLemmas

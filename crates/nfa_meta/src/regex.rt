@@ -17,6 +17,7 @@ mod captures;
 mod captures_iter;
 mod fill;
 mod find_iter;
+mod groups;
 mod half_matches;
 mod match_slots;
 mod may_begin;
@@ -38,6 +39,7 @@ use nfa_engines::error::SearchError;
 use nfa_engines::pikevm;
 use nfa_lazy_dfa::{Cache, DFA};
 use nfa_match_spans::records_match_spans;
+use nfa_onepass::OnePass;
 use nfa_prefix::literal_prefix;
 use regex_search_core::{GroupInfo, HalfMatch, Input, Match, NonMaxUsize, PatternID};
 use std::alloc::Global;
@@ -55,6 +57,8 @@ pub struct Regex {
     dfa: DFA,
     cache: Cache,
     choice: Choice,
+    /// Finds the slots of a match whose span is known.
+    one_pass: OnePass,
     /// Each way to a match writes where the match starts and ends.
     records_spans: bool,
     /// The bytes that each match begins with.
@@ -71,6 +75,7 @@ impl Drop for Regex {
             dfa: _,
             cache: _,
             choice: _,
+            one_pass: _,
             records_spans: _,
             prefix: _,
             matched_at_first: _,
@@ -87,6 +92,7 @@ impl Model for Regex {
     ghost use Rattle.nfa_match_spans.specs.StatePaths.{RecordsMatchSpans};
     ghost use Rattle.thompson_nfa.specs.Automaton.{IsAutomaton};
     ghost use Rattle.nfa_prefix.specs.Prefixes.{BeginsWith};
+    ghost use Rattle.nfa_onepass.specs.Tables.{IsFor as IsTableFor};
 
     ghost Value = { ChoiceState };
 
@@ -96,7 +102,8 @@ impl Model for Regex {
         × (kind_in r.choice ≡ LeftmostFirst) × IsFor r.cache r.dfa
         × (r.config.backtrack_visited_capacity ≡ r.choice.visited_capacity)
         × IsAutomaton r.choice.nfa × (r.records_spans ≡ true → RecordsMatchSpans r.choice.nfa)
-        × BeginsWith r.choice.nfa r.prefix.items };
+        × BeginsWith r.choice.nfa r.prefix.items
+        × IsTableFor r.choice.nfa r.one_pass };
 }
 
 /// Makes a lazy DFA of the NFA.
@@ -166,12 +173,16 @@ impl Regex {
         let Ok(prefix) = literal_prefix(alloc, &nfa) else {
             return Err(SearchError::Memory);
         };
+        let Ok(one_pass) = OnePass::new(alloc, &nfa) else {
+            return Err(SearchError::Memory);
+        };
         let choice = Choice::new(alloc, nfa, config.backtracker(), pikevm::Config::new())?;
         Ok(Regex {
             config,
             dfa,
             cache,
             choice,
+            one_pass,
             records_spans,
             prefix,
             matched_at_first: true,
@@ -244,10 +255,10 @@ impl Regex {
     }
 
     /// Returns the engine of the [`Choice`] that gave the answer of its last search, including searches of an
-    /// iteration. Returns `None` if the lazy DFA has given all answers so far.
+    /// iteration. Returns `None` if the [`Choice`] has given no answer so far.
     ///
     /// ```
-    /// // regex of "f(o+)"
+    /// // regex of "f(o*)(o*)"
     /// assert!(rt; regex.is_match(Input::new(b"a foo")));
     /// assert_eq!(rt; regex.ran(), None);
     /// regex.search_slots(&Input::new(b"a foo"), &mut [None; 4]);
@@ -299,7 +310,9 @@ impl Regex {
     /// Searches, and writes byte offsets to the slots, as both engines of the [`Choice`] do. Any number of slots may be
     /// given. Slots that the NFA does not have are set to `None`, and so are all slots if nothing matches.
     ///
-    /// The engines run as for [`Regex::find`], so the groups cost what the window does.
+    /// The engines run as for [`Regex::find`], so the groups cost what the window does. If the lazy DFA finds the
+    /// match, and at each byte of it only one way through the NFA goes on, the groups are those of this way, and the
+    /// [`Choice`] does not search.
     ///
     /// ```
     /// // regex of [r"\pL+", r"\d+"]
@@ -321,6 +334,9 @@ impl Regex {
         ensures holds { HoldsNoMore 0 self.old.back self.new.back }
         ensures keeps { KeepsEngines self.old self.new }
     {
+        if slots.len() != 2 {
+            return self.search_groups(input, slots);
+        }
         match self.match_or_part(*input, slots.len()) {
             Ok(found) => {
                 write_match(found, slots);

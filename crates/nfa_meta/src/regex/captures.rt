@@ -55,6 +55,11 @@ impl Regex {
         ensures holds { HoldsNoMore 0 self.old.back self.new.back }
         ensures keeps { KeepsEngines self.old self.new }
     {
+        if captures.slots().len() != 2 {
+            let pattern = self.search_groups(input, captures.slots_mut());
+            captures.set_pattern(pattern);
+            return;
+        }
         match self.match_or_part(*input, captures.slots().len()) {
             Ok(found) => fill_captures(found, captures),
             Err(Some(part)) => self.choice.search(&part, captures),

@@ -45,7 +45,10 @@ impl Regex {
 
     /// Returns the match of the search, if the lazy DFA finds it in a window. Otherwise returns the input that the
     /// choice has to search, or `None` in it if nothing matches.
-    fn match_in_window<'h>(&mut self, input: Input<'h>) -> Result<Match, Option<Input<'h>>>
+    pub(super) fn match_in_window<'h>(
+        &mut self,
+        input: Input<'h>,
+    ) -> Result<Match, Option<Input<'h>>>
         ensures answer { let x = search_of input.entry in IfOk result (λ m.
             IsFindAnswer self.old.nfa (kind_in self.old) x.earliest x (Some (found_of m))) }
         ensures pattern { IfOk result (λ m. (found_of m).pattern < length self.old.nfa.patterns) }
