@@ -3,6 +3,7 @@ library that is loaded before a program's own (`faults.c`); and compare what the
 import functools
 import os
 import pathlib
+import shutil
 import subprocess
 import sys
 import tempfile
@@ -31,6 +32,17 @@ def faults():
     return made
 
 
+@functools.cache
+def gnu_grep():
+    """The path of GNU grep 3.8, with which `nfa_grep` is compared, or none if the system has another or no grep."""
+    grep = shutil.which('grep')
+    said = subprocess.run([grep, '--version'], capture_output=True).stdout if grep else b''
+    return grep if b'(GNU grep) 3.8' in said.split(b'\n')[0] else None
+
+
+NO_GREP = 'what is compared with GNU grep 3.8, which is not installed'
+
+
 def built(program):
     return str(crates / program / 'out' / program)
 
@@ -52,10 +64,21 @@ class Runner:
     """Runs programs for the script of this name, counts the runs, and ends the script if one is not as it has to be."""
 
     def __init__(self, name):
-        self.name, self.runs = name, 0
+        self.name, self.runs, self.skipped = name, 0, []
 
     def stop(self, *said):
         sys.exit(f'{self.name}: ' + ' '.join(map(str, said)))
+
+    def skip(self, what):
+        """Notes what is not checked on this machine."""
+        if what not in self.skipped:
+            self.skipped.append(what)
+
+    def done(self, said):
+        """Ends with a line that says what was checked, and a line for each thing that was not, which `.ci/run` repeats."""
+        print(f'{self.name}: {said}')
+        for what in self.skipped:
+            print(f'{self.name}: skipped: {what}')
 
     def run(self, program, arguments, text=b'', out=subprocess.PIPE, path=None, limit=60, user=None, **settings):
         """Runs a program with this input, which is a text, a file, or one that cannot be read; and with the library, if

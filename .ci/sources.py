@@ -59,12 +59,31 @@ def kept(read):
     return functools.cache(lambda text: list(read(text)))
 
 
+# The line of crates.txt after which the crates of a user's own come.
+OWN = '# Crates of your own'
+
+
+def crates_in(text):
+    """The lines of this crates.txt: what each crate of the repository depends on, and each of a user's own."""
+    for part in (text + OWN).split(OWN, 1):
+        lines = [line.split(':') for line in part.splitlines() if re.match(r'\w', line)]
+        yield {name.split()[0]: rest.split() for name, rest in lines}
+
+
+@functools.cache
+def own_crates():
+    """The crates of a user's own, which no check looks at."""
+    return list(crates_in(text_at('crates.txt')))[1]
+
+
 @functools.cache
 def paths():
-    """The paths of all files, without what is built, in order."""
+    """The paths of all files, without what is built and without the crates of a user's own, in order."""
     found = []
     for folder, folders, names in os.walk(root):
         folders[:] = [it for it in folders if it not in ('out', '.git', '__pycache__')]
+        if pathlib.Path(folder) == root / 'crates':
+            folders[:] = [it for it in folders if it not in own_crates()]
         found += [os.path.relpath(os.path.join(folder, name), root) for name in names]
     return sorted(found, key=lambda it: it.split('/'))
 
@@ -93,8 +112,7 @@ class Sources:
 
     def crates(self):
         """What each crate of crates.txt depends on."""
-        lines = [line.split(':') for line in self.text('crates.txt').splitlines() if line and line[0] != '#']
-        return {name.split()[0]: rest.split() for name, rest in lines}
+        return next(crates_in(self.text('crates.txt')))
 
     def pages(self):
         """The pages of the library, for users and for those who change it."""
