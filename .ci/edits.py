@@ -211,7 +211,7 @@ def check_edits(sources, mutants):
     """Checks that each edit names a clause that there is, and that the table of CONTRIBUTING has it, and no other."""
     edits = {re.sub(r'crates/(\w+)/must-fail/(.*)\.edit', r'\1/\2', it)
              for it in sources.files(r'crates/\w+/must-fail/[\w-]+\.edit')}
-    rows = [row for _, head, rows in tables(sources.text('CONTRIBUTING.md')) if head.startswith('| wrong body ')
+    rows = [row for _, head, rows in tables(sources.text('CONTRIBUTING.md')) if head == '| wrong body | edit | refused by |'
             for row in rows]
     listed = {edit: clause for _, names, clause in rows for edit in re.findall(r'`(\w+/[\w-]+)`', names)}
     wrong = [f'CONTRIBUTING lists the edit {it}, which is not there' for it in sorted(listed.keys() - edits)]
