@@ -123,12 +123,9 @@ class Part:
     """What the prover has to refuse by itself: a mutant or, if it changes several functions and names none, what it
     changes of one of them. `function` is the one whose proof has to fail, or none if any may."""
 
-    def __init__(self, mutant, lines, function):
+    def __init__(self, mutant, lines, function, name=''):
         self.mutant, self.lines, self.function = mutant, lines, function
-
-    def __str__(self):
-        of = f' ({self.function.folder})' if self.function and len(parts_of(self.mutant)) > 1 else ''
-        return f'{self.mutant.crate} {self.mutant.name}{of}'
+        self.name = f'{mutant.crate} {mutant.name}{name}'
 
     @functools.cached_property
     def changed(self):
@@ -161,8 +158,8 @@ def parts_of(mutant):
         return place[0] == function.file and function.first <= place[1] <= function.last
 
     return [Part(mutant, {place: now for place, now in mutant.lines.items()
-                          if is_in(place, function) or not any(is_in(place, it) for it in changed)}, function)
-            for function in changed]
+                          if is_in(place, function) or not any(is_in(place, it) for it in changed)},
+                 function, f' ({function.folder})') for function in changed]
 
 
 def can_join(part, others):
@@ -211,9 +208,8 @@ def check_edits(sources, mutants):
     """Checks that each edit names a clause that there is, and that the table of CONTRIBUTING has it, and no other."""
     edits = {re.sub(r'crates/(\w+)/must-fail/(.*)\.edit', r'\1/\2', it)
              for it in sources.files(r'crates/\w+/must-fail/[\w-]+\.edit')}
-    rows = [row for _, head, rows in tables(sources.text('CONTRIBUTING.md')) if head == '| wrong body | edit | refused by |'
-            for row in rows]
-    listed = {edit: clause for _, names, clause in rows for edit in re.findall(r'`(\w+/[\w-]+)`', names)}
+    listed = {row[1].strip('`'): row[2] for _, head, rows in tables(sources.text('CONTRIBUTING.md'))
+              if head == '| wrong body | edit | refused by |' for row in rows}
     wrong = [f'CONTRIBUTING lists the edit {it}, which is not there' for it in sorted(listed.keys() - edits)]
     for mutant in mutants:
         edit, clause = f'{mutant.crate}/{mutant.name}', '`' + mutant.refused_by.replace(' of ', '` of `') + '`'
