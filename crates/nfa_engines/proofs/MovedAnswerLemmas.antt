@@ -1,8 +1,8 @@
 -- If the accepting paths of one search are those of another, moved, so is its answer.
-use Rattle.nfa_paths.proofs.Common.{◌≡◌, ◌∙◌, ℕ, ◌+◌, ◌*◌, Bool, false, List, [], ◌∷◌, map, replicate, zero, suc, length, refl, sym, subst, ap, arith, nat_le, if◌then◌else◌, Option, None, Some, option_map, option_and_then, last_or, range_with_len, option_or, nat_tests, length-map, slice_get-map, Found, Search, offset_at, match_of, Span, MatchKind, Automaton, Pair, is_utf8_empty, node_at, path_pattern, pattern_of, slot_among, slot_row, IsAnswer, IsFindAnswer}
+use Rattle.nfa_paths.proofs.Common.{◌≡◌, ◌∙◌, ℕ, ◌+◌, ◌*◌, Bool, false, List, [], ◌∷◌, map, replicate, zero, suc, length, refl, sym, subst, ap, arith, nat_le, if◌then◌else◌, Option, None, Some, option_map, option_and_then, last_or, range_with_len, option_or, nat_tests, length-map, slice_get-map, Found, Search, offset_at, match_of, Span, MatchKind, Automaton, Pair, is_utf8_empty, node_at, path_pattern, pattern_of, slot_among, slot_row, path_half, HalfFound, IsAnswer, IsBoolAnswer, IsFindAnswer, IsHalfAnswer, IsSearchAnswer, is_some}
 use Rattle.nfa_paths.proofs.OneScanLemmas.{given, gives, scan-of, search-of}
 use Rattle.nfa_engines.specs.Laws.{Tells}
-use Rattle.nfa_engines.specs.SpanLaws.{moved_found, moved_match, moved_slots}
+use Rattle.nfa_engines.specs.SpanLaws.{moved_found, moved_half, moved_match, moved_slots}
 use Rattle.nfa_paths.proofs.SameScanLemmas.{explored}
 use Rattle.nfa_engines.proofs.MovedLemmas.{moved, moved_path, scan-moved, ArePathsMoved}
 
@@ -44,6 +44,9 @@ moved_slots-none (o ∷ slots) = grind (arith, moved_slots-none slots)
 moved_match-none : (found : Option Found) → option_map (moved_match 0) found ≡ found
 moved_match-none found = grind arith
 
+moved_half-none : (half : Option HalfFound) → moved_half 0 half ≡ half
+moved_half-none half = grind arith
+
 module _ (nfa : Automaton) (k : ℕ) where
   -- pattern and slots of a path that moves
 
@@ -57,6 +60,25 @@ module _ (nfa : Automaton) (k : ℕ) where
   pattern-moved : (r : Option (List Pair))
       → option_and_then (path_pattern nfa) (option_map (moved_path k) r) ≡ option_and_then (path_pattern nfa) r
   pattern-moved r = grind (arith, last-moved)
+
+  -- the half match of a path that ends with the pair
+  abbrev half_of : Pair → Option HalfFound
+  half_of v = option_map (λ pattern. record { pattern = pattern; offset = v.1 }) (pattern_of (node_at nfa v.0))
+
+  last_half-moved : (o : Option Pair) (p : List Pair)
+      → option_and_then half_of (last_or (option_map (moved k) o) (moved_path k p))
+      ≡ moved_half k (option_and_then half_of (last_or o p))
+  last_half-moved None [] = refl
+  last_half-moved (Some v) [] = grind arith
+  last_half-moved o (v ∷ p) = last_half-moved (Some v) p
+
+  half-moved : (r : Option (List Pair))
+      → option_and_then (path_half nfa) (option_map (moved_path k) r)
+      ≡ moved_half k (option_and_then (path_half nfa) r)
+  half-moved r = grind (arith, last_half-moved)
+
+  found-moved : (r : Option (List Pair)) → is_some (option_map (moved_path k) r) ≡ is_some r
+  found-moved r = grind arith
 
   either : (a : Option ℕ) (t : Bool) (at : ℕ)
       → option_or (option_map (λ i. i + k) a) (if t then Some (at + k) else None)
@@ -89,15 +111,20 @@ pub record IsMovedTo (nfa : Automaton) (k : ℕ) (x y : Search) : Type 0 where
   pub anywhere : is_utf8_empty nfa ≡ false
 
 module _ {nfa : Automaton} {k : ℕ} {x y : Search} (to : IsMovedTo nfa k x y) (kind : MatchKind) (earliest : Bool) where
+  -- a search's answer, moved
+  moved-answer : (restarts : ℕ) (r : Option (List Pair)) → IsSearchAnswer nfa kind earliest x restarts r
+      → IsSearchAnswer nfa kind earliest y 0 (option_map (moved_path k) r)
+  moved-answer restarts r h =
+      search-of nfa kind earliest y to.anywhere (option_map (moved_path k) r)
+      (scan-moved nfa k x y to.paths kind earliest r (scan-of nfa kind earliest x to.anywhere restarts r h))
+
   -- pattern and slots
   answer-moved : (pattern : Option ℕ) (slots : List (Option ℕ)) → IsAnswer nfa kind earliest x pattern slots
       → IsAnswer nfa kind earliest y pattern (moved_slots k slots)
   answer-moved pattern slots h = record {
     restarts = 0;
     path = option_map (moved_path k) h.path;
-    answers = search-of nfa kind earliest y to.anywhere (option_map (moved_path k) h.path)
-        (scan-moved nfa k x y to.paths kind earliest h.path
-        (scan-of nfa kind earliest x to.anywhere h.restarts h.path h.answers));
+    answers = moved-answer h.restarts h.path h.answers;
     pattern_is = h.pattern_is ∙ sym (pattern-moved nfa k h.path);
     slots_are = ap (moved_slots k) h.slots_are ∙ sym (row-moved nfa k (length slots) h.path)
         ∙ ap (λ n. slot_row nfa n (option_map (moved_path k) h.path))
@@ -115,6 +142,25 @@ module _ {nfa : Automaton} {k : ℕ} {x y : Search} (to : IsMovedTo nfa k x y) (
       (given nfa kind earliest y g.pattern (moved_slots k g.slots) (long ∙ g.count)
       (answer-moved g.pattern g.slots g.answers))
 
+  -- the half match
+  half_answer-moved : (half : Option HalfFound) → IsHalfAnswer nfa kind earliest x half
+      → IsHalfAnswer nfa kind earliest y (moved_half k half)
+  half_answer-moved half h = record {
+    restarts = 0;
+    path = option_map (moved_path k) h.path;
+    answers = moved-answer h.restarts h.path h.answers;
+    found_is = ap (moved_half k) h.found_is ∙ sym (half-moved nfa k h.path);
+  }
+
+  -- whether there is a match
+  bool_answer-moved : (found : Bool) → IsBoolAnswer nfa kind earliest x found → IsBoolAnswer nfa kind earliest y found
+  bool_answer-moved found h = record {
+    restarts = 0;
+    path = option_map (moved_path k) h.path;
+    answers = moved-answer h.restarts h.path h.answers;
+    found_is = h.found_is ∙ sym (found-moved nfa k h.path);
+  }
+
 -- what searches answer moves with their accepting paths, and stays if these move by no distance
 pub record IsMovable {A : Type 0} (Is : Tells A) (moved : ℕ → A → A) : Type 0 where
   pub moves : (nfa : Automaton) (k : ℕ) (x y : Search) → IsMovedTo nfa k x y → (kind : MatchKind) (earliest : Bool)
@@ -130,6 +176,12 @@ slots-movable pattern = record {
 
 pub match-movable : IsMovable IsFindAnswer moved_found
 match-movable = record { moves = λ nfa k x y to. match_answer-moved to; none = moved_match-none }
+
+pub half-movable : IsMovable IsHalfAnswer moved_half
+half-movable = record { moves = λ nfa k x y to. half_answer-moved to; none = moved_half-none }
+
+pub bool-movable : IsMovable IsBoolAnswer (λ k found. found)
+bool-movable = record { moves = λ nfa k x y to. bool_answer-moved to; none = λ found. refl }
 
 pub stays : {A : Type 0} {Is : Tells A} {moved : ℕ → A → A} → IsMovable Is moved → (nfa : Automaton) (x y : Search)
     → IsMovedTo nfa 0 x y → (kind : MatchKind) (earliest : Bool) (a : A) → Is nfa kind earliest x a

@@ -3,7 +3,7 @@
 use Rattle.std.specs.Prelude.{◌≡◌, ℕ, ◌+◌, ◌-◌, ◌<◌, ◌≤◌, ◌⊎◌, Bool, false, List, map, All, length, take, drop, Option, None, Some, option_map, slice_get, ⊤}
 pub use Rattle.thompson_nfa.specs.Looks.{byte_before}
 use Rattle.thompson_nfa.specs.declared.look.Look as looks
-use Rattle.nfa_paths.specs.Common.{Found, Search, MatchKind, Automaton, Node, look_holds, is_utf8_empty, Look, StartLF, EndLF, WordUnicode, WordUnicodeNegate, WordStartUnicode, WordEndUnicode, WordStartHalfUnicode, WordEndHalfUnicode, Anchored, Pair, EndsWith, HeadIs, PathTo, edges, starts, IsAnswer, IsMatch, IsScanAnswer, IsSearchAnswer, No, Yes}
+use Rattle.nfa_paths.specs.Common.{Found, HalfFound, Search, MatchKind, Automaton, Node, look_holds, is_utf8_empty, Look, StartLF, EndLF, WordUnicode, WordUnicodeNegate, WordStartUnicode, WordEndUnicode, WordStartHalfUnicode, WordEndHalfUnicode, Anchored, Pair, EndsWith, HeadIs, PathTo, edges, starts, IsAnswer, IsMatch, IsScanAnswer, IsSearchAnswer, No, Yes}
 use Rattle.nfa_engines.specs.Laws.{Tells, MatchesSomething}
 
 -- each slot that is set, this many positions to the right
@@ -17,6 +17,10 @@ moved_match k m = record m { start = m.start + k; end = m.end + k }
 -- the match, if there is one, this many positions to the right
 abbrev pub moved_found : ℕ → Option Found → Option Found
 moved_found k found = option_map (moved_match k) found
+
+-- the half match, if there is one, this many positions to the right
+abbrev pub moved_half : ℕ → Option HalfFound → Option HalfFound
+moved_half k half = option_map (λ (h : HalfFound). record h { offset = h.offset + k }) half
 
 -- if the state is an assertion, this is true of it
 abbrev pub IfLook : (looks.Look → Type 0) → Node → Type 0

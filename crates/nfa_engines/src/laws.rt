@@ -240,12 +240,15 @@ pub fn found_is_an_accepting_path()
 {}
 
 /// An unanchored search may skip a start at which the anchored search has no accepting path. From the first other start
-/// on it has the same answer and the same match, for each match kind, `earliest` or not.
+/// on it has the same answer, the same match, and the same half match, for each match kind, `earliest` or not, and it
+/// matches if the search from there does.
 ///
 /// Premises: neither the search nor the NFA is anchored, and no match has to end on a boundary.
 pub fn starts_may_be_passed()
     ensures answers { OfSlots StartsArePassed }
     ensures matches { StartsArePassed IsFindAnswer }
+    ensures halves { StartsArePassed IsHalfAnswer }
+    ensures found { StartsArePassed IsBoolAnswer }
     ensures nothing { NothingAtEachStart }
 {}
 
