@@ -81,12 +81,27 @@ def crates_with_mutants(sources):
     return sorted({it.split('/')[1] for it in sources.files(r'crates/\w+/must-fail/[\w.-]+')})
 
 
+def module_of(file):
+    return [part for part in pathlib.Path(file).with_suffix('').parts[1:] if part not in ('lib', 'main')]
+
+
+@functools.lru_cache(maxsize=None)
+def home_of(crate, file, owner):
+    """Returns the file that defines the type of a method in this file, or this one if none does: the folder of a proof
+    is that of the type. Methods of traits stand with their block."""
+    files = [file, *(it.split('/', 2)[2] for it in Sources().code(crate))] if '*' not in owner else []
+    form = rf'(?m)^(pub(\(\w+\))? )?(struct|enum) {owner}\b'
+    return next((it for it in files if re.search(form, source(crate, it))), file)
+
+
 @functools.lru_cache(maxsize=None)
 def functions_of(crate, file):
     """Returns the functions of a file, with the folders of their proofs."""
-    module = [part for part in pathlib.Path(file).with_suffix('').parts[1:] if part not in ('lib', 'main')]
-    found = [Function(file, it.name, it.owner or '', '/'.join([*module, *([it.owner] if it.owner else []), it.name]),
-                      it.first, it.body, it.last) for it in functions(source(crate, file))]
+    found = []
+    for it in functions(source(crate, file)):
+        home = home_of(crate, file, it.owner) if it.owner else file
+        folder = '/'.join([*module_of(home), *([it.owner] if it.owner else []), it.name])
+        found.append(Function(file, it.name, it.owner or '', folder, it.first, it.body, it.last))
     # Where two have one folder by these rules, as conversions of a type have, only lines say which one fails.
     folders = [it.folder for it in found]
     return [it if folders.count(it.folder) == 1 else it._replace(folder='-') for it in found]
