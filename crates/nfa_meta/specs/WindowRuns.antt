@@ -1,6 +1,6 @@
 -- What of a regex searched: its lazy DFA, or the choice in a window or in the whole span.
-use Rattle.std.specs.Prelude.{◌≡◌, ◌≤◌, ◌⊎◌, ℕ, Bool, List, None, Option, replicate}
-use Rattle.nfa_paths.specs.Common.{Found, Search, MatchKind, Automaton, IsAnswer, IsFindAnswer}
+use Rattle.std.specs.Prelude.{◌≡◌, ◌≤◌, ◌⊎◌, ℕ, Bool, false, List, None, Option, replicate}
+use Rattle.nfa_paths.specs.Common.{Found, HalfFound, Search, MatchKind, Automaton, IsAnswer, IsBoolAnswer, IsFindAnswer, IsHalfAnswer}
 use Rattle.nfa_choice.specs.ChoiceState.{ChoiceState, RunsByRule}
 use Rattle.nfa_meta.specs.Windowed.{IsWindowed}
 
@@ -24,6 +24,18 @@ pub record AnswersAs (nfa : Automaton) (kind : MatchKind) (x y : Search) : Type 
 pub record HasNoMatch (nfa : Automaton) (kind : MatchKind) (x : Search) : Type 0 where
   pub rows : (n : ℕ) → IsAnswer nfa kind x.earliest x None (replicate n None)
   pub matches : IsFindAnswer nfa kind x.earliest x None
+
+-- the half matches that y finds are those of x, and x finds a match if y does
+pub record HalvesAs (nfa : Automaton) (kind : MatchKind) (x y : Search) : Type 0 where
+  pub earliest : y.earliest ≡ x.earliest
+  pub halves : (half : Option HalfFound)
+      → IsHalfAnswer nfa kind x.earliest y half → IsHalfAnswer nfa kind x.earliest x half
+  pub found : (found : Bool) → IsBoolAnswer nfa kind false y found → IsBoolAnswer nfa kind false x found
+
+-- the answer of x is that there is no half match
+pub record HasNoHalf (nfa : Automaton) (kind : MatchKind) (x : Search) : Type 0 where
+  pub half : IsHalfAnswer nfa kind x.earliest x None
+  pub found : IsBoolAnswer nfa kind false x false
 
 -- the choice searched a window of x by its rule
 pub record SearchedWindow (x : Search) (old new : ChoiceState) : Type 0 where

@@ -368,10 +368,8 @@ impl Regex {
         ensures holds { HoldsNoMore 0 self.old.back self.new.back }
         ensures keeps { KeepsEngines self.old self.new }
     {
-        if self.lacks_prefix(&input) {
-            return None;
-        }
-        if let Ok(half) = self.dfa.try_find_half(&mut self.cache, input) {
+        let rest = self.half_from_prefix(input)?;
+        if let Ok(half) = self.dfa.try_find_half(&mut self.cache, rest) {
             // An NFA that can be read is valid, so its patterns are those of its Match states.
             self.choice.get_nfa().states();
             return half;
@@ -394,10 +392,10 @@ impl Regex {
         ensures holds { HoldsNoMore 0 self.old.back self.new.back }
         ensures keeps { KeepsEngines self.old self.new }
     {
-        if self.lacks_prefix(&input) {
+        let Some(rest) = self.half_from_prefix(input) else {
             return false;
-        }
-        match self.dfa.try_is_match(&mut self.cache, input) {
+        };
+        match self.dfa.try_is_match(&mut self.cache, rest) {
             Ok(found) => found,
             Err(_) => self.choice.is_match(input),
         }

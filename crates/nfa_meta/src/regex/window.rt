@@ -7,7 +7,7 @@ ghost use Rattle.nfa_paths.specs.Paths.{IsFindAnswer, IsHalfAnswer, is_utf8_empt
 ghost use Rattle.nfa_search_base.specs.Lists.{IsInside};
 ghost use Rattle.nfa_backtrack.specs.Backtrack.{HoldsNoMore};
 ghost use Rattle.nfa_engines.specs.Laws.{MatchesNothing};
-ghost use Rattle.nfa_engines.specs.StartLaws.{IsFirstStart, StartsAnywhere};
+ghost use Rattle.nfa_engines.specs.StartLaws.{IsFirstStart, IsUnbound, StartsAnywhere};
 ghost use Rattle.nfa_choice.specs.ChoiceState.{KeepsEngines, kind_in};
 ghost use Rattle.nfa_meta.specs.Windowed.{IsWindowed};
 ghost use Rattle.nfa_meta.specs.WindowRuns.{AnswersAs, HasNoMatch, IsWindowOf, RunsByWindow};
@@ -33,8 +33,17 @@ impl Regex {
     pub(super) fn is_windowed(&self, input: &Input<'_>) -> bool
         ensures { result ≡ true → IsWindowed self.now.nfa (search_of input.now) }
     {
+        !input.get_earliest() && self.is_unbound(input)
+    }
+
+    /// Whether a match of the search may start and end anywhere in its span.
+    pub(super) fn is_unbound(&self, input: &Input<'_>) -> bool
+        ensures { result ≡ true → IsUnbound self.now.nfa (search_of input.now) }
+    {
         let nfa = self.choice.get_nfa();
-        self.starts_anywhere(input) && !(nfa.has_empty() && nfa.is_utf8())
+        !input.get_anchored().is_anchored()
+            && !nfa.is_always_start_anchored()
+            && !(nfa.has_empty() && nfa.is_utf8())
     }
 
     /// Returns the window of the lazy DFA that has the answer of the search. Returns `None` in it if nothing matches.
