@@ -1,4 +1,4 @@
-//! The patterns of all matches, including matches that overlap.
+//! Sets of patterns of leftmost first matches.
 ghost use Rattle.regex_search_core.specs.Search.{search_of};
 ghost use Rattle.nfa_paths.specs.Overlaps.{IsOverlapResult};
 ghost use Rattle.nfa_choice.specs.ChoiceState.{AddsByPike, KeepsEngines, kind_in};
@@ -7,12 +7,15 @@ use crate::regex::Regex;
 use regex_search_core::{Input, PatternSet};
 
 impl Regex {
-    /// Adds the patterns of all matches to the set, including matches that overlap. The set keeps its patterns, and
-    /// gains only patterns below its capacity.
+    /// Adds patterns of leftmost first matches to the set. The set keeps its patterns, and gains only patterns below its
+    /// capacity.
     ///
-    /// The search is always one of the PikeVM of the [`Choice`](nfa_choice::Choice), and leftmost first: see
-    /// [`PikeVM::which_overlapping_matches`](nfa_engines::pikevm::PikeVM::which_overlapping_matches). For every pattern
-    /// that matches, use a `Choice` or an `nfa_hybrid::Hybrid` with the match kind `All`.
+    /// A set that holds a pattern gains nothing. An empty set gains the pattern of the first match, and of each match
+    /// that is the first of those that end before some limit. With `earliest`, only that of the match that ends first.
+    /// Matches of patterns at or above the capacity do not count.
+    ///
+    /// The search is always one of the PikeVM of the [`Choice`](nfa_choice::Choice). For every pattern that matches, use
+    /// a `Choice` or an `nfa_hybrid::Hybrid` with the match kind `All`.
     ///
     /// ```
     /// // regex of ["foo", "bar"]
