@@ -1,4 +1,5 @@
-//! A hybrid compared with a PikeVM: over samples, patterns, random NFAs and long haystacks, and with full caches.
+//! A hybrid compared with a PikeVM: over samples, patterns, random NFAs and long haystacks, and with full caches. Windows
+//! of the lazy DFA.
 
 mod full;
 mod long;
@@ -8,3 +9,4 @@ mod random;
 mod rows;
 mod samples;
 mod sets;
+mod windows;

@@ -1,6 +1,8 @@
-//! A regex over each sample: each span of some haystacks, and four ways to search it.
+//! A regex over each sample, and over patterns that can match the empty string in UTF-8 mode: each span of some haystacks,
+//! and four ways to search it.
 
 use nfa_choice::choose::Choice;
+use nfa_compiler::Compiler;
 use nfa_engines::{Input, Match, NonMaxUsize, PatternSet, backtrack, pikevm};
 use nfa_meta::Regex;
 use sample_engines::{NAMES, nfa_named};
@@ -84,19 +86,62 @@ fn expect_same_list(
     Ok(())
 }
 
+/// Both answer all searches of each haystack alike.
+fn expect_same_answers(
+    rt: &impl TestRuntime,
+    regex: &mut Regex,
+    choice: &mut Choice,
+    haystacks: &[&[u8]],
+) -> Result<(), Fail> {
+    for &haystack in haystacks {
+        for input in &searches_of(rt.alloc(), haystack)? {
+            expect_same(rt, regex, choice, input)?;
+            expect_same_set(rt, regex, choice, input)?;
+        }
+        expect_same_list(rt, regex, choice, Input::new(haystack))?;
+    }
+    Ok(())
+}
+
 fn expect_samples(rt: &impl TestRuntime, names: &[&str]) -> Result<(), Fail> {
     let alloc = rt.alloc();
     let (back, pike) = (backtrack::Config::new(), pikevm::Config::new());
     for &name in names {
         let mut regex = Regex::new_from_nfa(alloc, nfa_named(alloc, name)?)?;
         let mut choice = Choice::new(alloc, nfa_named(alloc, name)?, back, pike)?;
-        for &haystack in HAYSTACKS {
-            for input in &searches_of(alloc, haystack)? {
-                expect_same(rt, &mut regex, &mut choice, input)?;
-                expect_same_set(rt, &mut regex, &mut choice, input)?;
-            }
-            expect_same_list(rt, &mut regex, &mut choice, Input::new(haystack))?;
-        }
+        expect_same_answers(rt, &mut regex, &mut choice, HAYSTACKS)?;
+    }
+    Ok(())
+}
+
+// Patterns that can match the empty string, in UTF-8 mode: a match that splits a codepoint does not count.
+const EMPTY: &[&str] = &[
+    "a*",
+    "(?m)^$",
+    "(?m)^.*$",
+    r"(?m)^\s*$",
+    "(?m)$",
+    r"\b",
+    "☃*?b|",
+];
+
+const LINES: &[&[u8]] = &[
+    b"\n\na\n \n",
+    b"\xE2\x98\x83\n\n\xE2\x98\x83",
+    b"\xE2\x98\n\x83a\n",
+    b"a\xFF\n\n",
+];
+
+#[test]
+fn regexes_answer_as_a_choice_over_empty_matches(rt: HostRuntime) -> Result<(), Fail> {
+    let alloc = rt.alloc();
+    let (back, pike) = (backtrack::Config::new(), pikevm::Config::new());
+    for &pattern in EMPTY {
+        let mut regex = Regex::new(alloc, pattern)?;
+        let nfa = Compiler::new().build(alloc, pattern)?;
+        let mut choice = Choice::new(alloc, nfa, back, pike)?;
+        expect_same_answers(&rt, &mut regex, &mut choice, HAYSTACKS)?;
+        expect_same_answers(&rt, &mut regex, &mut choice, LINES)?;
     }
     Ok(())
 }

@@ -115,6 +115,19 @@ fn the_lazy_dfa_finds_empty_matches(rt: HostRuntime) -> Result<(), Fail> {
     Ok(())
 }
 
+// The last search of a list finds nothing. The first one of the next list is made by the lazy DFA all the same.
+#[test]
+fn the_lazy_dfa_goes_on_after_a_list(rt: HostRuntime) -> Result<(), Fail> {
+    let mut regex = Regex::new(rt.alloc(), ".*")?;
+    let lines = Input::new("one\n☃\n".as_bytes());
+    for _ in 0..2 {
+        assert_eq!(rt; regex.find_all(rt.alloc(), lines)?.len(), 3);
+        assert_eq!(rt; regex.captures_all(rt.alloc(), lines)?.len(), 3);
+    }
+    assert_eq!(rt; regex.ran(), None);
+    Ok(())
+}
+
 // Each match begins with `foo`, so the search skips to the next `foo`.
 #[test]
 fn matches_begin_with_a_prefix(rt: HostRuntime) -> Result<(), Fail> {

@@ -1,18 +1,20 @@
 -- An engine over a lazy DFA and a PikeVM as a value, and which of the two ran.
-use Rattle.std.specs.Prelude.{◌≡◌, ◌⊎◌, ◌+◌, ◌*◌, ◌≤◌, Bool, false, List, Option, Some}
+use Rattle.std.specs.Prelude.{◌≡◌, ◌⊎◌, ℕ, ◌+◌, ◌-◌, ◌*◌, ◌^◌, ◌≤◌, Bool, false, List, Option, Some, min}
 use Rattle.regex_search_core.specs.declared.search.MatchKind.TheVariants.{All}
 use Rattle.nfa_search_base.specs.Common.{Search, MatchKind, Automaton, IsWork, max_scans, span_len, total_degree, finds}
-use Rattle.nfa_pikevm.specs.Engines.{AddsPikeWork, Pike, PikeCache, SameCapacities}
+use Rattle.nfa_pikevm.specs.Engines.{AddsPikeWork, Pike, PikeCache, SameCapacities, pike_memory_of}
 use Rattle.nfa_pikevm.specs.Needs.{overlap_scans}
 use Rattle.nfa_lazy_dfa.specs.Configs.{kind_in as kind_set}
 use Rattle.nfa_lazy_dfa.specs.Options.{Options}
 use Rattle.nfa_hybrid.specs.declared.hybrid.Engine.{Engine}
 use Rattle.nfa_hybrid.specs.declared.hybrid.Engine.TheVariants as engine
 
--- an NFA, the configuration of both engines, what the PikeVM's cache shows, and which engine gave the last answer
+-- an NFA, the configuration of both engines, the bytes that the rows of the lazy DFA take, what the PikeVM's cache shows,
+-- and which engine gave the last answer
 pub record HybridState : Type 0 where
   pub nfa : Automaton
   pub config : Options
+  pub rows : ℕ
   pub pike : PikeCache
   pub ran : Option Engine
 
@@ -23,6 +25,10 @@ pike_of h = record { nfa = h.nfa; match_kind = h.config.match_kind }
 -- the match kind that both engines search with
 abbrev pub kind_in : HybridState → MatchKind
 kind_in h = kind_set h.config
+
+-- the bytes of both caches, or the maximum `usize` if they are more
+abbrev pub bytes_of : HybridState → ℕ
+bytes_of h = min (h.rows + pike_memory_of h.pike) (2 ^ 64 - 1)
 
 -- whether a search without `earliest` finds a match
 abbrev pub finds_in : HybridState → Search → Bool

@@ -4,4 +4,5 @@ pub mod HalfRuns
 pub mod Halves
 pub mod HybridState
 pub use Rattle.nfa_lazy_dfa.specs.Configs
+pub use Rattle.nfa_lazy_dfa.specs.Limits
 pub use Rattle.nfa_lazy_dfa.specs.Options

@@ -16,10 +16,12 @@ ghost use Rattle.std.specs.Prelude.{false, option_map};
 ghost use Rattle.regex_search_core.specs.Found.{half_found_of};
 ghost use Rattle.regex_search_core.specs.Search.{search_of};
 ghost use Rattle.nfa_lazy_dfa.specs.Configs.{config_of, kind_in as kind_set, kind_of as dfa_kind_of, nfa_of};
+ghost use Rattle.nfa_lazy_dfa.specs.Limits.{capacity_in, max_clears_in};
+ghost use Rattle.nfa_lazy_dfa.specs.Rows.{capacity_of, max_clears_of};
 ghost use Rattle.nfa_paths.specs.Paths.{IsBoolAnswer, IsHalfAnswer, is_utf8_empty};
 ghost use Rattle.nfa_pikevm.specs.Engines.{cache_for};
 ghost use Rattle.nfa_pikevm.specs.Engines.{IsFitFor};
-ghost use Rattle.nfa_hybrid.specs.HybridState.{KeepsHybrid, RunsInTurn, finds_in, kind_in};
+ghost use Rattle.nfa_hybrid.specs.HybridState.{KeepsHybrid, RunsInTurn, bytes_of, finds_in, kind_in};
 
 mod half_matches;
 mod overlap;
@@ -45,8 +47,8 @@ pub enum Engine {
 /// A search engine for one NFA that finds the ends of matches, and never fails.
 ///
 /// The lazy DFA searches first. If it stops without an answer, the PikeVM searches the same input. Both have the match
-/// kind of the configuration. Contracts see the NFA, the configuration, what the PikeVM's cache shows, and which engine
-/// gave the last answer.
+/// kind of the configuration. Contracts see the NFA, the configuration, the bytes that the rows of the lazy DFA take,
+/// what the PikeVM's cache shows, and which engine gave the last answer.
 pub struct Hybrid {
     dfa: DFA,
     pike: PikeVM,
@@ -69,9 +71,10 @@ impl Drop for Hybrid {
 }
 
 impl Model for Hybrid {
-    ghost use Rattle.std.specs.Prelude.{◌≡◌};
+    ghost use Rattle.std.specs.Prelude.{◌≡◌, ◌≤◌};
     ghost use Rattle.nfa_lazy_dfa.specs.Configs.{config_of, kind_of as dfa_kind_of, kind_in as kind_set, nfa_of};
-    ghost use Rattle.nfa_lazy_dfa.specs.Rows.{IsFor};
+    ghost use Rattle.nfa_lazy_dfa.specs.Limits.{capacity_in, max_clears_in};
+    ghost use Rattle.nfa_lazy_dfa.specs.Rows.{IsFor, capacity_of, max_clears_of, memory_of};
     ghost use Rattle.nfa_pikevm.specs.Engines.{Fits, kind_of};
     ghost use Rattle.nfa_hybrid.specs.HybridState.{HybridState};
 
@@ -80,11 +83,14 @@ impl Model for Hybrid {
     ghost view = { λ h. record {
       nfa = h.pike.nfa;
       config = config_of h.dfa;
+      rows = memory_of h.dfa_cache;
       pike = h.pike_cache;
       ran = h.ran;
     } };
 
     ghost invariant = { λ h. (nfa_of h.dfa ≡ h.pike.nfa) × (dfa_kind_of h.dfa ≡ kind_set (config_of h.dfa))
+        × (capacity_of h.dfa ≡ capacity_in (config_of h.dfa)) × (max_clears_of h.dfa ≡ max_clears_in (config_of h.dfa))
+        × (memory_of h.dfa_cache ≤ capacity_in (config_of h.dfa))
         × (kind_of h.pike ≡ kind_set (config_of h.dfa)) × IsFor h.dfa_cache h.dfa × Fits h.pike_cache h.pike.nfa };
 }
 
@@ -93,6 +99,8 @@ fn lazy_dfa(config: Config, nfa: NFA) -> DFA
     ensures nfa { nfa_of result ≡ nfa }
     ensures config { config_of result ≡ config }
     ensures kind { dfa_kind_of result ≡ kind_set config }
+    ensures capacity { capacity_of result ≡ capacity_in config }
+    ensures clears { max_clears_of result ≡ max_clears_in config }
 {
     let mut builder = DFA::builder();
     builder.configure(config);
@@ -128,6 +136,7 @@ impl Hybrid {
         ensures made { IfOk result (λ made. made ≡ record {
           nfa = nfa;
           config = config;
+          rows = 0;
           pike = cache_for nfa;
           ran = None;
         }) }
@@ -207,6 +216,23 @@ impl Hybrid {
         self.dfa.get_config()
     }
 
+    /// Returns the bytes that the rows of the lazy DFA and the entries of the PikeVM's cache take. The sum saturates at
+    /// `usize::MAX`. The rows take at most the capacity of the configuration.
+    ///
+    /// ```
+    /// // hybrid of "foo(?<n>[0-9]+)"
+    /// let before = hybrid.memory_usage();
+    /// hybrid.find_half(Input::new(b"foo12345"));
+    /// assert!(rt; hybrid.memory_usage() > before);
+    /// ```
+    pub fn memory_usage(&self) -> usize
+        ensures usage { result ≡ bytes_of self.now }
+        ensures capacity { self.now.rows ≤ capacity_in self.now.config }
+    {
+        let rows = self.dfa_cache.memory_usage();
+        rows.saturating_add(self.pike_cache.memory_usage())
+    }
+
     /// Returns the pattern of the match that a search of the input finds, and the offset of its end. The NFA need not
     /// record where its matches start and end.
     ///
@@ -266,7 +292,7 @@ impl Hybrid {
     /// assert!(rt; hybrid.is_match(Input::new("☃".as_bytes())));
     /// ```
     pub fn replace(&mut self, nfa: NFA) -> Result<(), SearchError>
-        ensures made { OnOk result (self.new ≡ record self.old { nfa = nfa; pike = self.new.pike }) }
+        ensures made { OnOk result (self.new ≡ record self.old { nfa = nfa; rows = 0; pike = self.new.pike }) }
         ensures reset_for { OnOk result (IsFitFor self.old.pike nfa self.new.pike) }
         ensures kept { OnErr result (self.new ≡ self.old) }
         ensures memory { IsOkUnless result SearchError.Memory }

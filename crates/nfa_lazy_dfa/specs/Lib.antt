@@ -1,5 +1,6 @@
 pub mod Options
 pub mod Configs
+pub mod Limits
 pub mod Cuts
 pub mod Apart
 pub mod Assertions

@@ -1,5 +1,5 @@
 //! The configuration of a lazy DFA, and its builder.
-ghost use Rattle.std.specs.Prelude.{◌≡◌, Some, IfOk, IsOk, unwrap_or};
+ghost use Rattle.std.specs.Prelude.{◌≡◌, Some, IfOk, IsOk};
 
 use crate::dfa::DFA;
 use regex_search_core::MatchKind;
@@ -39,7 +39,8 @@ impl Model for Config {
 }
 
 impl Config {
-    ghost use Rattle.nfa_lazy_dfa.specs.Configs.{default_capacity, default_clears, kind_in, newer_or, unset};
+    ghost use Rattle.nfa_lazy_dfa.specs.Configs.{kind_in, newer_or, unset};
+    ghost use Rattle.nfa_lazy_dfa.specs.Limits.{capacity_in, clears_in};
 
     /// Returns a configuration with nothing set.
     pub fn new() -> Config
@@ -90,14 +91,14 @@ impl Config {
 
     /// Returns the number of bytes that the rows of a cache may take: the number that was set, or 2097152.
     pub fn get_cache_capacity(&self) -> usize
-        ensures { result ≡ unwrap_or self.now.cache_capacity default_capacity }
+        ensures { result ≡ capacity_in self.now }
     {
         self.cache_capacity.unwrap_or(DEFAULT_CAPACITY)
     }
 
     /// Returns the number of times that a search clears its cache before it may give up: the number that was set, or 3.
     pub fn get_minimum_cache_clear_count(&self) -> Option<usize>
-        ensures { result ≡ unwrap_or self.now.minimum_cache_clear_count (Some default_clears) }
+        ensures { result ≡ clears_in self.now }
     {
         self.minimum_cache_clear_count
             .unwrap_or(Some(DEFAULT_CLEARS))
@@ -146,6 +147,8 @@ impl Model for Builder {
 
 impl Builder {
     ghost use Rattle.nfa_lazy_dfa.specs.Configs.{config_of, kind_in, kind_of, newer_or, nfa_of, unset};
+    ghost use Rattle.nfa_lazy_dfa.specs.Limits.{capacity_in, max_clears_in};
+    ghost use Rattle.nfa_lazy_dfa.specs.Rows.{capacity_of, max_clears_of};
 
     /// Returns a builder with nothing set.
     pub fn new() -> Builder
@@ -171,6 +174,8 @@ impl Builder {
         ensures nfa { IfOk result (λ made. nfa_of made ≡ nfa) }
         ensures config { IfOk result (λ made. config_of made ≡ self.now) }
         ensures kind { IfOk result (λ made. kind_of made ≡ kind_in self.now) }
+        ensures capacity { IfOk result (λ made. capacity_of made ≡ capacity_in self.now) }
+        ensures clears { IfOk result (λ made. max_clears_of made ≡ max_clears_in self.now) }
     {
         Ok(DFA::from_parts(self.config, nfa))
     }

@@ -15,8 +15,9 @@ use thompson_nfa::{BuildError, Look, NFA, State};
 
 /// A lazy DFA of an NFA. Its searches make the rows that they need, and keep them in a cache.
 ///
-/// It finds whether there is a match, and where the match ends. Contracts see the NFA (`nfa_of`), the match kind
-/// (`kind_of`) and the configuration (`config_of`).
+/// It finds whether there is a match, and where the match ends. Contracts see the NFA (`nfa_of`) and the configuration
+/// (`config_of`), and by it the match kind (`kind_of`), the bytes that the rows of a cache may take (`capacity_of`), and
+/// how often a search may clear them (`max_clears_of`).
 ///
 /// ```
 /// let nfa = Compiler::new().build(alloc, "foo[0-9]+")?;
@@ -48,12 +49,17 @@ pub struct DFA {
 }
 
 impl DFA {
-    ghost use Rattle.nfa_lazy_dfa.specs.Configs.{config_of, kind_in, kind_of, nfa_of, unset};
+    ghost use Rattle.nfa_lazy_dfa.specs.Configs.{config_of, default_capacity, default_clears, kind_in, kind_of};
+    ghost use Rattle.nfa_lazy_dfa.specs.Configs.{nfa_of, unset};
+    ghost use Rattle.nfa_lazy_dfa.specs.Limits.{capacity_in, max_clears_in};
+    ghost use Rattle.nfa_lazy_dfa.specs.Rows.{capacity_of, max_clears_of};
 
     pub(crate) fn from_parts(config: Config, nfa: NFA) -> DFA
         ensures nfa { nfa_of result ≡ nfa }
         ensures config { config_of result ≡ config }
         ensures kind { kind_of result ≡ kind_in config }
+        ensures capacity { capacity_of result ≡ capacity_in config }
+        ensures clears { max_clears_of result ≡ max_clears_in config }
     {
         let quits = has_unicode_word(&nfa);
         let looks = has_look(&nfa);
@@ -78,6 +84,8 @@ impl DFA {
         ensures nfa { IfOk result (λ made. nfa_of made ≡ nfa) }
         ensures config { IfOk result (λ made. config_of made ≡ unset) }
         ensures kind { IfOk result (λ made. kind_of made ≡ LeftmostFirst) }
+        ensures capacity { IfOk result (λ made. capacity_of made ≡ default_capacity) }
+        ensures clears { IfOk result (λ made. max_clears_of made ≡ default_clears) }
     {
         Builder::new().build_from_nfa(nfa)
     }

@@ -165,13 +165,12 @@ impl DFA {
             → HasToScan (nfa_of self.now) (search_of input.entry) → StopsAtStart (search_of input.entry) result }
     {
         laws::steps_find_the_half();
-        if is_utf8_empty(&self.nfa) || !self.apart {
+        if is_utf8_empty(&self.nfa) {
             let start = input.start();
             let half = self.try_find_half(cache, input)?;
             return Ok(window_of(half, start));
         }
-        cache.allow(self);
-        scan_window(self, cache, &input)
+        self.try_scan_window(cache, input)
     }
 
     /// Returns a window of the match that the first scan of a search finds: the pattern and the end of the match, and a

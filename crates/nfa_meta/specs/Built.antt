@@ -1,5 +1,5 @@
 -- What a builder makes of the texts of patterns, and why it fails.
-use Rattle.std.specs.Prelude.{◌≡◌, ℕ, true, false, List, Option, None, codes, ⊤}
+use Rattle.std.specs.Prelude.{◌≡◌, ℕ, true, false, List, Option, None, codes, ⊤, if◌then◌else◌}
 use Rattle.regex_syntax.specs.Verdict.{default_config}
 use Rattle.nfa_paths.specs.Common.{Automaton, IsAutomaton, is_utf8_empty}
 use Rattle.nfa_backtrack.specs.Backtrack.{empty_cache}
@@ -30,6 +30,10 @@ default_settings = record {
 -- the builder of these settings, and of the default syntax
 abbrev pub default_builder : Builder
 default_builder = record { config = default_settings; syntax = default_config }
+
+-- the most bytes that the rows of the lazy DFA may take: none if searches do not begin with one
+abbrev pub row_capacity : Config → ℕ
+row_capacity c = if c.hybrid then c.hybrid_cache_capacity else 0
 
 -- the compiler that a builder compiles texts with
 abbrev pub compiler_of : Builder → Compiler

@@ -1,9 +1,10 @@
 //! The settings of a regex, and its builder.
 ghost use Rattle.std.specs.Prelude.{◌≡◌, ◌∷◌, [], IfErr, IfOk, IsOkUnless, None, Some, map};
 ghost use Rattle.regex_search_core.specs.declared.search.MatchKind.TheVariants.{LeftmostFirst};
-ghost use Rattle.nfa_lazy_dfa.specs.Configs.{kind_in};
+ghost use Rattle.nfa_lazy_dfa.specs.Configs.{default_clears, kind_in};
+ghost use Rattle.nfa_lazy_dfa.specs.Limits.{capacity_in, max_clears_in};
 ghost use Rattle.nfa_meta.specs.Built.{HasNotSearched, IsBuiltFrom, IsWhyNotBuilt, compiler_of, default_builder};
-ghost use Rattle.nfa_meta.specs.Built.{default_settings, engines_of};
+ghost use Rattle.nfa_meta.specs.Built.{default_settings, engines_of, row_capacity};
 
 use crate::error::BuildError;
 use crate::regex::Regex;
@@ -112,9 +113,12 @@ impl Config {
         }
     }
 
-    /// Returns the configuration of the lazy DFA. A DFA without capacity stops at the start of each search.
+    /// Returns the configuration of the lazy DFA. A DFA without capacity stops at the start of each search, and makes no
+    /// row.
     pub(crate) fn lazy_dfa(&self) -> nfa_lazy_dfa::Config
-        ensures { kind_in result ≡ LeftmostFirst }
+        ensures kind { kind_in result ≡ LeftmostFirst }
+        ensures capacity { capacity_in result ≡ row_capacity self.now }
+        ensures clears { max_clears_in result ≡ default_clears }
     {
         let capacity = if self.hybrid {
             self.hybrid_cache_capacity

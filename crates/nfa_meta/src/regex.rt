@@ -10,6 +10,8 @@ ghost use Rattle.nfa_backtrack.specs.Backtrack.{HoldsNoMore};
 ghost use Rattle.nfa_choice.specs.Answered.{WritesSlots};
 ghost use Rattle.nfa_choice.specs.ChoiceState.{KeepsEngines, bytes_of, finds_in, kind_in};
 ghost use Rattle.nfa_lazy_dfa.specs.Configs.{kind_in as config_kind, kind_of, nfa_of};
+ghost use Rattle.nfa_lazy_dfa.specs.Limits.{capacity_in, max_clears_in};
+ghost use Rattle.nfa_lazy_dfa.specs.Rows.{capacity_of, max_clears_of};
 ghost use Rattle.nfa_meta.specs.Built.{engines_of};
 ghost use Rattle.nfa_meta.specs.WindowRuns.{RunsAfterDfa, RunsByWindow};
 
@@ -84,21 +86,24 @@ impl Drop for Regex {
 }
 
 impl Model for Regex {
-    ghost use Rattle.std.specs.Prelude.{◌≡◌, true};
+    ghost use Rattle.std.specs.Prelude.{◌≡◌, ◌≤◌, true};
     ghost use Rattle.regex_search_core.specs.declared.search.MatchKind.TheVariants.{LeftmostFirst};
-    ghost use Rattle.nfa_lazy_dfa.specs.Configs.{kind_of, nfa_of};
-    ghost use Rattle.nfa_lazy_dfa.specs.Rows.{IsFor};
+    ghost use Rattle.nfa_lazy_dfa.specs.Configs.{default_clears, kind_of, nfa_of};
+    ghost use Rattle.nfa_lazy_dfa.specs.Rows.{IsFor, capacity_of, max_clears_of, memory_of};
     ghost use Rattle.nfa_choice.specs.ChoiceState.{ChoiceState, kind_in};
     ghost use Rattle.nfa_match_spans.specs.StatePaths.{RecordsMatchSpans};
     ghost use Rattle.thompson_nfa.specs.Automaton.{IsAutomaton};
     ghost use Rattle.nfa_prefix.specs.Prefixes.{BeginsWith};
     ghost use Rattle.nfa_onepass.specs.Tables.{IsFor as IsTableFor};
+    ghost use Rattle.nfa_meta.specs.Built.{row_capacity};
 
     ghost Value = { ChoiceState };
 
     ghost view = { λ r. r.choice };
 
     ghost invariant = { λ r. (nfa_of r.dfa ≡ r.choice.nfa) × (kind_of r.dfa ≡ LeftmostFirst)
+        × (capacity_of r.dfa ≡ row_capacity r.config) × (max_clears_of r.dfa ≡ default_clears)
+        × (memory_of r.cache ≤ row_capacity r.config)
         × (kind_in r.choice ≡ LeftmostFirst) × IsFor r.cache r.dfa
         × (r.config.backtrack_visited_capacity ≡ r.choice.visited_capacity)
         × IsAutomaton r.choice.nfa × (r.records_spans ≡ true → RecordsMatchSpans r.choice.nfa)
@@ -110,6 +115,8 @@ impl Model for Regex {
 fn lazy_dfa(config: nfa_lazy_dfa::Config, nfa: NFA) -> DFA
     ensures nfa { nfa_of result ≡ nfa }
     ensures kind { kind_of result ≡ config_kind config }
+    ensures capacity { capacity_of result ≡ capacity_in config }
+    ensures clears { max_clears_of result ≡ max_clears_in config }
 {
     let mut builder = DFA::builder();
     builder.configure(config);

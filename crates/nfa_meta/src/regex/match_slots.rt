@@ -71,11 +71,10 @@ impl Regex {
                 found.ok_or(Some(window))
             }
             Err(NoWindow) => match self.find_from_window(input) {
-                Some(Some(found)) => {
-                    self.matched_at_first = self.is_at_first(&input, Some(found));
-                    Ok(found)
+                Some(found) => {
+                    self.matched_at_first = self.is_at_first(&input, found);
+                    found.ok_or(None)
                 }
-                Some(None) => Err(None),
                 None => Err(Some(input)),
             },
         }
