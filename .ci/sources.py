@@ -49,7 +49,7 @@ GROUPS = [
 # The modules of laws: empty functions whose contracts are theorems.
 LAWS = [('nfa_engines::laws', 'nfa_engines'), ('nfa_choice::laws', 'nfa_choice'),
         ('nfa_engines::iter::laws', 'nfa_search_base'), ('nfa_match_spans::laws', 'nfa_match_spans'),
-        ('nfa_prefix::laws', 'nfa_prefix'), ('nfa_captures::laws', 'nfa_captures'),
+        ('nfa_onepass::laws', 'nfa_onepass'), ('nfa_prefix::laws', 'nfa_prefix'), ('nfa_captures::laws', 'nfa_captures'),
         ('nfa_compiler::laws', 'nfa_compiler'),
         ('nfa_determinize::laws', 'nfa_determinize'), ('nfa_meta::laws', 'nfa_meta')]
 

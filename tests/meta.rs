@@ -4,6 +4,7 @@
 mod built;
 mod captures;
 mod ends;
+mod groups;
 mod rewrites;
 mod samples;
 mod templates;

@@ -8,7 +8,7 @@ use Rattle.nfa_search_base.specs.Common.{Captured}
 use Rattle.nfa_search_base.proofs.SpanLemmas.{spans-inside}
 use Rattle.nfa_choice.specs.Answered.{FillsCaptures, WritesSlots}
 use Rattle.nfa_onepass.specs.Ways.{IsOnly}
-use Rattle.nfa_onepass_laws.specs.OnlyLaws.{OnlyIsAnswer}
+use Rattle.nfa_onepass.specs.OnlyLaws.{OnlyIsAnswer}
 
 module _ (nfa : Automaton) (kind : MatchKind) (x : Search) (slots : List (Option ℕ)) (found : Option PatternID) where
   -- they are those of the search that found it

@@ -5,7 +5,7 @@ use Rattle.thompson_nfa.specs.Automaton.Node.{Match}
 use Rattle.nfa_paths.proofs.MemberLemmas.{In-append, In-append_left, In-append_right, In-map, All-In, same_some}
 use Rattle.nfa_onepass.specs.Ways.{IsSure, Way, free_states, goal_of, here, over, written}
 use Rattle.nfa_onepass.specs.Tables.{GoesOn, HasEmptyList, IsReached, Keeps, list_at, threads_at}
-use Rattle.nfa_onepass.specs.declared.way.Reached.{Reached}
+use Rattle.nfa_onepass.specs.declared.way.WayEnd.{WayEnd}
 use Rattle.nfa_onepass.specs.declared.way.Thread.{Thread}
 use Rattle.nfa_onepass.proofs.WayLemmas.{In-mapped}
 
@@ -58,8 +58,8 @@ module _ (nfa : Automaton) where
 
   module _ (s : ℕ) (byte : Option ℕ) where
     -- a way with this goal and these slots was found
-    pub record IsFound (lists : List (Vec ℕ)) (found : Option Reached) (k : ℕ) (ws : List ℕ) : Type 0 where
-      pub it : Reached
+    pub record IsFound (lists : List (Vec ℕ)) (found : Option WayEnd) (k : ℕ) (ws : List ℕ) : Type 0 where
+      pub it : WayEnd
       pub is : found ≡ Some it
       pub goal : k ≡ it.goal
       pub slots : ws ≡ list_at lists it.list
@@ -77,11 +77,11 @@ module _ (nfa : Automaton) where
     IsThread lists t = (t.sid < length nfa.states) × (t.list < length lists)
 
     -- Each way from the state to a goal was found, or goes on from a thread that waits.
-    pub record IsUnderWay (lists : List (Vec ℕ)) (stack : List Thread) (found : Option Reached) : Type 0 where
+    pub record IsUnderWay (lists : List (Vec ℕ)) (stack : List Thread) (found : Option WayEnd) : Type 0 where
       pub covers : (r k : ℕ) (ws : List ℕ) → Way nfa s ws r → goal_of byte (node_at nfa r) ≡ Some k
           → IsFound lists found k ws ⊎ IsWaiting lists stack r ws
       pub threads : (t : Thread) → In t stack → IsThread lists t
-      pub kept : (it : Reached) → found ≡ Some it → (it.list < length lists) × (it.goal ≤ 2147483646)
+      pub kept : (it : WayEnd) → found ≡ Some it → (it.list < length lists) × (it.goal ≤ 2147483646)
 
     -- at first the state waits
     pub IsUnderWay-begin : (lists : List (Vec ℕ)) → HasEmptyList lists → s < length nfa.states
@@ -115,7 +115,7 @@ module _ (nfa : Automaton) where
       ];
       threads = λ u i. h.threads u (subst (In u) (sym is) (In-append_left u rest (t ∷ []) i));
       kept = λ it e. let same = same_some (record { goal = k; list = t.list }) it e in
-          subst (λ (z : Reached). (z.list < length lists) × (z.goal ≤ 2147483646)) same
+          subst (λ (z : WayEnd). (z.list < length lists) × (z.goal ≤ 2147483646)) same
           ((h.threads t (subst (In t) (sym is) (In-append_right t rest (t ∷ []) (inl refl)))).1, small);
     }
       where
@@ -138,7 +138,7 @@ module _ (nfa : Automaton) where
             ]
 
     -- a thread whose state has no goal gives way to those that it leads to
-    pub IsUnderWay-on : (lists new : List (Vec ℕ)) (rest stack pushed : List Thread) (found : Option Reached) (t : Thread)
+    pub IsUnderWay-on : (lists new : List (Vec ℕ)) (rest stack pushed : List Thread) (found : Option WayEnd) (t : Thread)
         → stack ≡ rest ++ t ∷ [] → IsUnderWay lists stack found → goal_of byte (node_at nfa t.sid) ≡ None
         → LeadsBelow (length nfa.states) (node_at nfa t.sid) → Keeps lists new
         → GoesOn nfa lists new rest pushed t → IsUnderWay new pushed found
@@ -203,27 +203,27 @@ module _ (nfa : Automaton) where
             ]
 
     -- once no thread waits, what was found is the only way
-    pub IsUnderWay-done : (lists : List (Vec ℕ)) (it : Reached) → IsUnderWay lists [] (Some it)
+    pub IsUnderWay-done : (lists : List (Vec ℕ)) (it : WayEnd) → IsUnderWay lists [] (Some it)
         → IsSure nfa s byte it.goal (list_at lists it.list)
     IsUnderWay-done lists it h = record {
       only = λ r k ws w g. elim (h.covers r k ws w g) [
         | inl f ↦
             let same = same_some it f.it f.is in (
-              f.goal ∙ ap (λ (z : Reached). z.goal) (sym same),
-              f.slots ∙ ap (λ (z : Reached). list_at lists z.list) (sym same),
+              f.goal ∙ ap (λ (z : WayEnd). z.goal) (sym same),
+              f.slots ∙ ap (λ (z : WayEnd). list_at lists z.list) (sym same),
             )
         | inr v ↦ absurd v.among
       ];
     }
 
     -- the thread on top is one of the stack
-    pub IsUnderWay-top : (lists : List (Vec ℕ)) (rest stack : List Thread) (found : Option Reached) (t : Thread)
+    pub IsUnderWay-top : (lists : List (Vec ℕ)) (rest stack : List Thread) (found : Option WayEnd) (t : Thread)
         → stack ≡ rest ++ t ∷ [] → IsUnderWay lists stack found → IsThread lists t
     IsUnderWay-top lists rest stack found t is h =
         h.threads t (subst (In t) (sym is) (In-append_right t rest (t ∷ []) (inl refl)))
 
     -- the end, whether a way was found or not
-    pub IsUnderWay-ends : (lists : List (Vec ℕ)) (found : Option Reached) → IsUnderWay lists [] found
+    pub IsUnderWay-ends : (lists : List (Vec ℕ)) (found : Option WayEnd) → IsUnderWay lists [] found
         → IfSome found (IsReached nfa lists s byte)
     IsUnderWay-ends lists None h = tt
     IsUnderWay-ends lists (Some it) h = record {

@@ -1,3 +1,4 @@
 pub mod WayLemmas
 pub mod ClosureLemmas
 pub mod TableLemmas
+pub mod OnlyLemmas

@@ -1,4 +1,5 @@
 pub mod Ways
 pub mod Tables
+pub mod OnlyLaws
 pub use Rattle.nfa_paths.specs.Graphs
 pub use Rattle.nfa_paths.specs.Paths

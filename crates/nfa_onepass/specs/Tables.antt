@@ -10,7 +10,7 @@ use Rattle.nfa_onepass.specs.Ways.{IsOnWay, IsSure, free_states, write_each, wri
 use Rattle.nfa_onepass.specs.declared.table.Cell.{Cell}
 use Rattle.nfa_onepass.specs.declared.table.OnePass.{OnePass}
 use Rattle.nfa_onepass.specs.declared.table.Row.{Row}
-use Rattle.nfa_onepass.specs.declared.way.Reached.{Reached}
+use Rattle.nfa_onepass.specs.declared.way.WayEnd.{WayEnd}
 use Rattle.nfa_onepass.specs.declared.way.Thread.{Thread}
 
 -- the list of this number
@@ -77,7 +77,7 @@ pub record IsWalking (nfa : Automaton) (x : Search) (t : OnePass) (row at : ℕ)
   pub on : IsOnWay nfa x (length slots) first (state, at) slots
 
 -- The search for the only way ended there: the goal and the list are numbers that a table has room for.
-pub record IsReached (nfa : Automaton) (lists : List (Vec ℕ)) (s : ℕ) (byte : Option ℕ) (it : Reached) : Type 0 where
+pub record IsReached (nfa : Automaton) (lists : List (Vec ℕ)) (s : ℕ) (byte : Option ℕ) (it : WayEnd) : Type 0 where
   pub inside : it.list < length lists
   pub small : it.goal ≤ 2147483646
   pub sure : IsSure nfa s byte it.goal (list_at lists it.list)

@@ -2,7 +2,7 @@
 ghost use Rattle.std.specs.Prelude.{◌≡◌, ℕ, ◌<◌, ◌≤◌, IfOk, IfSome, Some, length};
 ghost use Rattle.nfa_onepass.specs.Tables.{IsAddedIf, IsFor, IsFresh, IsReached, IsStep, KeepsRows, byte_of, state_at};
 
-use crate::way::{NO_SLOTS, Reached, Thread, only_way};
+use crate::way::{NO_SLOTS, Thread, WayEnd, only_way};
 use regex_search_core::StateID;
 use std::alloc::{AllocError, Global};
 use thompson_nfa::NFA;
@@ -43,12 +43,12 @@ pub struct Row {
 #[derive(Drop)]
 pub struct OnePass {
     pub(crate) rows: Vec<Row>,
-    /// The row of each state. What it holds is compared before it is used.
+    /// The row of each state, if it has one. It is compared before it is used.
     numbers: Vec<u32>,
     /// Lists of slots that a step writes. The first one is empty.
     pub(crate) lists: Vec<Vec<usize>>,
     stack: Vec<Thread>,
-    /// How many searches found a step that is not sure, as far as those that did not have not made up for them.
+    /// What searches that met a step that is not sure add, less what the others take off.
     pub(crate) misses: u32,
 }
 
@@ -86,7 +86,7 @@ fn push(rows: &mut Vec<Row>, row: Row)
 }
 
 impl OnePass {
-    /// Makes an empty table.
+    /// Makes an empty table for searches of the NFA.
     pub fn new(alloc: Global, nfa: &NFA) -> Result<OnePass, AllocError>
         ensures { IfOk result (IsFor nfa.now) }
     {
@@ -111,7 +111,7 @@ impl OnePass {
         if row.state == sid { Some(number) } else { None }
     }
 
-    /// The row of the state, which is added if it is new.
+    /// The row of the state, which is added if it is new. Returns `None` if there is no room or no memory for it.
     pub(crate) fn row_of(&mut self, nfa: &NFA, sid: StateID) -> Option<u32>
         requires own { IsFor nfa.now self.old }
         requires state { sid < length nfa.now.states }
@@ -216,7 +216,7 @@ impl OnePass {
         ensures keeps { KeepsRows self.old.rows.items self.new.rows.items }
         ensures step { IfSome result (IsStep nfa.now self.new.rows.items self.new.lists.items sid column) }
     {
-        let Some(reached) = self.reach(nfa, sid, column) else {
+        let Some(reached) = self.find_way(nfa, sid, column) else {
             let unsure = Cell {
                 goal: UNSURE,
                 list: NO_SLOTS,
@@ -230,7 +230,7 @@ impl OnePass {
     }
 
     /// Searches for the only way from the state over the column.
-    fn reach(&mut self, nfa: &NFA, sid: StateID, column: usize) -> Option<Reached>
+    fn find_way(&mut self, nfa: &NFA, sid: StateID, column: usize) -> Option<WayEnd>
         requires own { IsFor nfa.now self.old }
         requires state { sid < length nfa.now.states }
         requires column { column < 257 }
@@ -242,7 +242,7 @@ impl OnePass {
     }
 
     /// The cell of a step from the state that leads there. Without room for a row there is none.
-    fn cell_to(&mut self, nfa: &NFA, sid: StateID, column: usize, reached: Reached) -> Option<Cell>
+    fn cell_to(&mut self, nfa: &NFA, sid: StateID, column: usize, reached: WayEnd) -> Option<Cell>
         requires own { IsFor nfa.now self.old }
         requires column { column < 257 }
         requires reached { IsReached nfa.now self.old.lists.items sid (byte_of column) reached }

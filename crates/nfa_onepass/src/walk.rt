@@ -11,7 +11,8 @@ use nfa_scan_core::transitions::byte_at;
 use regex_search_core::{Input, NonMaxUsize, PatternID};
 use thompson_nfa::NFA;
 
-/// How many more searches may find a step that is not sure, before no more is worth its time.
+/// The sum of misses from which on a walk is not worth its time. A search that meets a step that is not sure adds two,
+/// and one that meets none takes one off.
 const MAX_MISSES: u32 = 16;
 
 /// Sets each of these slots to the position.
@@ -42,7 +43,7 @@ fn pattern_of(goal: u32) -> Option<PatternID>
 }
 
 impl OnePass {
-    /// Whether searches find sure steps often enough to be worth their time.
+    /// Returns whether a search is worth its time: earlier ones met sure steps often enough.
     pub fn is_on(&self) -> bool {
         self.misses < MAX_MISSES
     }
@@ -121,7 +122,7 @@ impl OnePass {
         let mut row = first;
         for at in input.start()..input.end() {
             let byte = byte_at(input, at)?;
-            row = self.take(nfa, row, byte, at, slots)?;
+            row = self.step_over(nfa, row, byte, at, slots)?;
         }
         Some(row)
     }
@@ -143,7 +144,7 @@ impl OnePass {
 
     /// Takes the step over the byte at the position. Returns the row that it leads to.
     #[inline(always)]
-    fn take(
+    fn step_over(
         &mut self,
         nfa: &NFA,
         row: u32,

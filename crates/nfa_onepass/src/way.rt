@@ -8,13 +8,13 @@ use nfa_scan_core::transitions::target;
 use regex_search_core::StateID;
 use thompson_nfa::{NFA, State};
 
-/// How many states are looked at before a step counts as not sure.
+/// The number of states to look at before a step counts as not sure: a cycle of states that read no byte has no end.
 const MAX_TURNS: usize = 4096;
 
 /// The number of the list without slots.
 pub const NO_SLOTS: u32 = 0;
 
-/// How many lists of slots are kept.
+/// The maximum number of lists of slots. It bounds how long a search for one takes.
 const MAX_LISTS: usize = 4096;
 
 /// A state that a way came to, and the list of the slots that it wrote.
@@ -26,7 +26,7 @@ pub struct Thread {
 
 /// The end of a way: its goal, and the list of the slots that it wrote.
 #[derive(Clone, Copy)]
-pub struct Reached {
+pub struct WayEnd {
     pub goal: u32,
     pub list: u32,
 }
@@ -118,7 +118,7 @@ fn list_after(lists: &mut Vec<Vec<usize>>, state: &State, list: u32) -> Option<u
     }
 }
 
-/// Puts each state with the list on the stack. Returns whether there was memory for them.
+/// Pushes each state with the list. Returns whether there was memory for them.
 fn push_each(stack: &mut Vec<Thread>, states: &[StateID], list: u32) -> bool
     ensures { result ≡ true → stack.new.items ≡ stack.old.items ++ threads_at list states.now }
 {
@@ -130,8 +130,7 @@ fn push_each(stack: &mut Vec<Thread>, states: &[StateID], list: u32) -> bool
     true
 }
 
-/// Puts the states that the state leads to without a byte on the stack, with the list. Returns whether there was memory
-/// for them.
+/// Pushes the states that the state leads to without a byte, with the list. Returns whether there was memory for them.
 fn push_free(stack: &mut Vec<Thread>, state: &State, list: u32) -> bool
     ensures { result ≡ true
         → stack.new.items ≡ stack.old.items ++ threads_at list (free_states (node_of state.now)) }
@@ -158,15 +157,15 @@ fn go_on(nfa: &NFA, lists: &mut Vec<Vec<usize>>, stack: &mut Vec<Thread>, thread
     }
 }
 
-/// The goal that the state leads to with the byte, or without one to a `Match`, if only one way leads to such a goal.
-/// Returns `None` if there are several, or none, or too many states to look at.
+/// Returns where the only way from the state leads that ends at a goal: with the byte at a target, without one at the
+/// pattern of a `Match`. Returns `None` if there are several such ways, or none, or too many states to look at.
 pub fn only_way(
     nfa: &NFA,
     lists: &mut Vec<Vec<usize>>,
     stack: &mut Vec<Thread>,
     sid: StateID,
     byte: Option<u8>,
-) -> Option<Reached>
+) -> Option<WayEnd>
     requires state { sid < length nfa.now.states }
     requires first { HasEmptyList lists.old.items }
     ensures keeps { Keeps lists.old.items lists.new.items }
@@ -176,7 +175,7 @@ pub fn only_way(
     if !push_each(stack, &[sid], NO_SLOTS) {
         return None;
     }
-    let mut found: Option<Reached> = None;
+    let mut found: Option<WayEnd> = None;
     'turns: for _ in 0..MAX_TURNS {
         let Some(thread) = stack.pop() else {
             return found;
@@ -186,7 +185,7 @@ pub fn only_way(
                 if found.is_some() {
                     return None;
                 }
-                found = Some(Reached {
+                found = Some(WayEnd {
                     goal,
                     list: thread.list,
                 });

@@ -11,7 +11,7 @@ ghost use Rattle.nfa_choice.specs.ChoiceState.{KeepsEngines, kind_in};
 ghost use Rattle.nfa_meta.specs.WindowRuns.{AnswersAs, HasNoMatch, IsWindowOf, RunsByWindow};
 
 use crate::regex::Regex;
-use nfa_onepass_laws::laws::only_slots_answer;
+use nfa_onepass::laws::only_slots_answer;
 use regex_search_core::{Input, Match, NonMaxUsize, PatternID};
 
 impl Regex {

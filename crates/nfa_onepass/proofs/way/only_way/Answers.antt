@@ -2,7 +2,7 @@
 use Rattle.nfa_paths.proofs.Common.{◌≡◌, ◌∙◌, ◌++◌, ◌-◌, ◌<◌, List, [], ℕ, Bool, false, is_some, ap, sym, subst, arith, take, length, Option, None, Some, option_to_list, LeadsBelow, Node, node_of, node_at, refl}
 use Rattle.nfa_paths.proofs.StartLemmas.{node_at-get}
 use Rattle.nfa_onepass.specs.Ways.{goal_of}
-use Rattle.nfa_onepass.specs.declared.way.Reached.{Reached}
+use Rattle.nfa_onepass.specs.declared.way.WayEnd.{WayEnd}
 use Rattle.nfa_onepass.specs.declared.way.Thread.{Thread}
 use Rattle.nfa_onepass.proofs.ClosureLemmas.{IsUnderWay, IsUnderWay-ends, IsUnderWay-found, IsUnderWay-on, IsUnderWay-top}
 use Rattle.nfa_onepass.proofs.TableLemmas.{Keeps-trans}
@@ -39,7 +39,7 @@ go_on-requires-clause-list c =
     omega (arith, k, c.turns.lists.ok.0)
 
 -- nothing is there
-none-of : (o : Option Reached) → is_some o ≡ false → o ≡ None
+none-of : (o : Option WayEnd) → is_some o ≡ false → o ≡ None
 none-of None f = refl
 none-of (Some it) f = cc
 
@@ -61,7 +61,7 @@ turns-preserved c =
             keeps = c.turns.invariant.keeps;
             under_way = IsUnderWay-found nfa c.args.sid c.args.byte lists rest stack t w.in-Some-goal.goal
                 c.in-Some.ensures.items
-                (subst (λ (f : Option Reached). IsUnderWay nfa c.args.sid c.args.byte lists stack f) none
+                (subst (λ (f : Option WayEnd). IsUnderWay nfa c.args.sid c.args.byte lists stack f) none
                 c.turns.invariant.under_way)
                 (goal_is ∙ w.in-Some-goal.is) w.in-Some-goal.ensures.small;
           })

@@ -1,5 +1,5 @@
 //! The law. The function is empty: its contract is the theorem.
-ghost use Rattle.nfa_onepass_laws.specs.OnlyLaws.{OnlyIsAnswer};
+ghost use Rattle.nfa_onepass.specs.OnlyLaws.{OnlyIsAnswer};
 
 use nfa_engines::laws::answer_is_that_of_the_cut_span;
 use nfa_match_spans::laws::matches_are_of_paths;

@@ -3,7 +3,7 @@ use Rattle.nfa_paths.proofs.Common.{◌<◌, refl, subst, arith, ℕ, Option}
 use Rattle.nfa_onepass.specs.Ways.{IsSure}
 use Rattle.nfa_onepass.specs.Tables.{list_at}
 use Rattle.nfa_onepass.proofs.TableLemmas.{byte_of-low}
-use Rattle.nfa_onepass.proofs.table.OnePass.take.Goals as goal
+use Rattle.nfa_onepass.proofs.table.OnePass.step_over.Goals as goal
 
 pub returns-clause-takes : goal.returns-clause-takes
 returns-clause-takes c s here =

@@ -1,6 +1,6 @@
 -- The law from those that it calls.
-use Rattle.nfa_onepass_laws.proofs.OnlyLemmas.{only-answer}
-use Rattle.nfa_onepass_laws.proofs.laws.only_slots_answer.Goals as goal
+use Rattle.nfa_onepass.proofs.OnlyLemmas.{only-answer}
+use Rattle.nfa_onepass.proofs.laws.only_slots_answer.Goals as goal
 
 pub returns : goal.returns
 returns c nfa x m k slots valid records found only =
