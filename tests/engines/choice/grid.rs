@@ -59,6 +59,7 @@ fn engine_for(choice: &Choice, marks: usize, input: &Input<'_>) -> Engine {
 }
 
 // What the engines answer: the pattern and the slots, and whether there is a match.
+#[derive(Drop)]
 struct Answers {
     pattern: Option<PatternID>,
     slots: Slots,
