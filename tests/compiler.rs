@@ -15,6 +15,7 @@ use regex_search_core::{Input, NonMaxUsize};
 use std::alloc::Global;
 use std::fmt::Write;
 use std::process::Abort;
+use test_support::engines::fitting;
 
 /// Patterns that are searched for in each haystack.
 const PATTERNS: [&str; 44] = [
@@ -90,7 +91,7 @@ fn ours(alloc: Global, pattern: &str, haystack: &str) -> Result<String> {
     let mut cache = vm.create_cache(alloc)?;
     let mut slots: Vec<Option<NonMaxUsize>> = vec![in alloc; None; slot_len]?;
     let input = Input::new(haystack.as_bytes());
-    let found = vm.search_slots(&mut cache, &input, &mut slots);
+    let found = vm.search_slots(fitting(&vm, &mut cache), &input, &mut slots);
     let mut text = String::new(alloc);
     if found.is_some() {
         for slot in &slots {
@@ -100,7 +101,7 @@ fn ours(alloc: Global, pattern: &str, haystack: &str) -> Result<String> {
             }
         }
     }
-    for found in vm.find_iter(&mut cache, input) {
+    for found in vm.find_iter(fitting(&vm, &mut cache), input) {
         write!(text, "{}..{} ", found.start(), found.end())?;
     }
     Ok(text)

@@ -1,6 +1,8 @@
 //! Tests of the crates below the engines.
 mod bounds;
 mod captures;
+mod dense;
+mod edges;
 mod finders;
 mod fixtures;
 mod flaws;

@@ -34,9 +34,11 @@ fn of_kind(rt: &(impl Abort + AllocGlobal), name: &str, kind: MatchKind) -> Pike
     made::of_kind(rt.alloc(), name, kind).expect(rt, name)
 }
 
-// A cache for the PikeVM.
+// A cache for the PikeVM, which fits it.
 fn threads(rt: &(impl Abort + AllocGlobal), vm: &PikeVM) -> pike::Cache {
-    vm.create_cache(rt.alloc()).expect(rt, "a cache")
+    let cache = vm.create_cache(rt.alloc()).expect(rt, "a cache");
+    assert!(rt; cache.fits(vm));
+    cache
 }
 
 // Expects this text. `of` identifies its row in the message.

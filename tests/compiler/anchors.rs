@@ -5,6 +5,7 @@ use anyhow::Result;
 use nfa_compiler::Compiler;
 use nfa_engines::pikevm::PikeVM;
 use regex_search_core::Input;
+use test_support::engines::fitting;
 
 /// Patterns, each with whether every way through it begins with `Start`.
 const ROWS: [(&str, bool); 20] = [
@@ -60,7 +61,7 @@ fn patterns_that_begin_with_the_start_are_bound_to_it(rt: HostRuntime) -> Result
     let vm = PikeVM::new_from_nfa(Compiler::new().build(alloc, "^a")?)?;
     let mut cache = vm.create_cache(alloc)?;
     let input = Input::new(b"aa");
-    assert!(rt; vm.is_match(&mut cache, input.range(0..1)));
-    assert!(rt; !vm.is_match(&mut cache, input.range(1..2)));
+    assert!(rt; vm.is_match(fitting(&vm, &mut cache), input.range(0..1)));
+    assert!(rt; !vm.is_match(fitting(&vm, &mut cache), input.range(1..2)));
     Ok(())
 }

@@ -6,6 +6,7 @@ use nfa_engines::pikevm::PikeVM;
 use regex_search_core::{Input, NonMaxUsize};
 use std::alloc::Global;
 use std::fmt::Write;
+use test_support::engines::fitting;
 
 /// A pattern, a haystack, and the spans of the groups of the first match; empty if there is no match.
 const ROWS: [(&str, &str, &str); 57] = [
@@ -95,7 +96,7 @@ fn spans(alloc: Global, compiler: &Compiler, pattern: &str, haystack: &[u8]) -> 
     let vm = PikeVM::new_from_nfa(nfa)?;
     let mut cache = vm.create_cache(alloc)?;
     let mut slots: Vec<Option<NonMaxUsize>> = vec![in alloc; None; slot_len]?;
-    let found = vm.search_slots(&mut cache, &Input::new(haystack), &mut slots);
+    let found = vm.search_slots(fitting(&vm, &mut cache), &Input::new(haystack), &mut slots);
     let mut text = String::new(alloc);
     if found.is_some() {
         for pair in slots.chunks(2) {

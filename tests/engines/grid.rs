@@ -102,7 +102,6 @@ fn fold_search(
     sum: u64,
     input: &Input<'_>,
 ) -> u64 {
-    assert!(rt; shared.threads.fits(&trio.vm), "{input:?}");
     let piked = sum_piked(&trio.vm, input, shared);
     let chosen = sum_chosen(&mut trio.choice, input, shared);
     assert_eq!(rt; chosen, piked, "{input:?}");
@@ -161,43 +160,80 @@ fn expect_samples(rt: &impl TestRuntime, sums: &[(&str, u64)]) {
     }
 }
 
+const PARTS: usize = 14;
+
 // In parts, since a test may run for at most a minute.
-#[test]
-fn all_calls_answer_as_upstream_over_words(rt: HostRuntime) {
-    expect_samples(&rt, &SUMS[..4]);
+fn expect_part(rt: &impl TestRuntime, part: usize) {
+    let (start, end) = (SUMS.len() * part, SUMS.len() * (part + 1));
+    expect_samples(rt, &SUMS[start / PARTS..end / PARTS]);
 }
 
 #[test]
-fn all_calls_answer_as_upstream_over_more_words(rt: HostRuntime) {
-    expect_samples(&rt, &SUMS[4..8]);
+fn all_calls_answer_as_upstream_over_part_0(rt: HostRuntime) {
+    expect_part(&rt, 0);
 }
 
 #[test]
-fn all_calls_answer_as_upstream_over_empty_matches(rt: HostRuntime) {
-    expect_samples(&rt, &SUMS[8..12]);
+fn all_calls_answer_as_upstream_over_part_1(rt: HostRuntime) {
+    expect_part(&rt, 1);
 }
 
 #[test]
-fn all_calls_answer_as_upstream_over_more_empty_matches(rt: HostRuntime) {
-    expect_samples(&rt, &SUMS[12..15]);
+fn all_calls_answer_as_upstream_over_part_2(rt: HostRuntime) {
+    expect_part(&rt, 2);
 }
 
 #[test]
-fn all_calls_answer_as_upstream_over_slots(rt: HostRuntime) {
-    expect_samples(&rt, &SUMS[15..18]);
+fn all_calls_answer_as_upstream_over_part_3(rt: HostRuntime) {
+    expect_part(&rt, 3);
 }
 
 #[test]
-fn all_calls_answer_as_upstream_over_odd_slots(rt: HostRuntime) {
-    expect_samples(&rt, &SUMS[18..22]);
+fn all_calls_answer_as_upstream_over_part_4(rt: HostRuntime) {
+    expect_part(&rt, 4);
 }
 
 #[test]
-fn all_calls_answer_as_upstream_over_long_matches(rt: HostRuntime) {
-    expect_samples(&rt, &SUMS[22..25]);
+fn all_calls_answer_as_upstream_over_part_5(rt: HostRuntime) {
+    expect_part(&rt, 5);
 }
 
 #[test]
-fn all_calls_answer_as_upstream_over_the_last(rt: HostRuntime) {
-    expect_samples(&rt, &SUMS[25..]);
+fn all_calls_answer_as_upstream_over_part_6(rt: HostRuntime) {
+    expect_part(&rt, 6);
+}
+
+#[test]
+fn all_calls_answer_as_upstream_over_part_7(rt: HostRuntime) {
+    expect_part(&rt, 7);
+}
+
+#[test]
+fn all_calls_answer_as_upstream_over_part_8(rt: HostRuntime) {
+    expect_part(&rt, 8);
+}
+
+#[test]
+fn all_calls_answer_as_upstream_over_part_9(rt: HostRuntime) {
+    expect_part(&rt, 9);
+}
+
+#[test]
+fn all_calls_answer_as_upstream_over_part_10(rt: HostRuntime) {
+    expect_part(&rt, 10);
+}
+
+#[test]
+fn all_calls_answer_as_upstream_over_part_11(rt: HostRuntime) {
+    expect_part(&rt, 11);
+}
+
+#[test]
+fn all_calls_answer_as_upstream_over_part_12(rt: HostRuntime) {
+    expect_part(&rt, 12);
+}
+
+#[test]
+fn all_calls_answer_as_upstream_over_part_13(rt: HostRuntime) {
+    expect_part(&rt, 13);
 }

@@ -6,7 +6,7 @@ use nfa_engines::pikevm::{Config, PikeVM};
 use regex_search_core::{Anchored, Input, MatchKind, PatternID, PatternSet};
 use sample_engines::NAMES;
 use std::test::Fail;
-use test_support::engines::Engines;
+use test_support::engines::{Engines, fitting};
 
 // Anchored to the pattern of this number, which need not exist, or unanchored.
 fn mode(pattern: Option<usize>) -> Anchored {
@@ -74,7 +74,7 @@ fn bare_patterns_overlap(rt: HostRuntime) -> Result<(), Fail> {
     let vm = PikeVM::builder().configure(config).build_from_nfa(nfa)?;
     let mut cache = vm.create_cache(rt.alloc())?;
     let mut set = PatternSet::new(rt.alloc(), 2)?;
-    vm.which_overlapping_matches(&mut cache, &Input::new(b"a"), &mut set);
+    vm.which_overlapping_matches(fitting(&vm, &mut cache), &Input::new(b"a"), &mut set);
     assert!(rt; set.is_full());
     Ok(())
 }

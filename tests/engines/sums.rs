@@ -6,6 +6,7 @@ use nfa_engines::backtrack::{self, BoundedBacktracker};
 use nfa_engines::pikevm::{self, PikeVM};
 use regex_search_core::{Captures, Input, Match, NonMaxUsize, PatternID, PatternSet};
 use test_support::TestRuntime;
+use test_support::engines::fitting;
 
 /// The sum before any answer.
 pub const SEED: u64 = 7;
@@ -58,7 +59,8 @@ pub struct Shared {
     pub marks: backtrack::Cache,
     /// The cache of the PikeVM.
     pub threads: pikevm::Cache,
-    captures: Captures,
+    /// Captures of another NFA.
+    pub captures: Captures,
     slots: [Option<NonMaxUsize>; 20],
 }
 
@@ -114,6 +116,7 @@ pub fn sum_piked(vm: &PikeVM, input: &Input<'_>, shared: &mut Shared) -> u64 {
         slots,
         ..
     } = shared;
+    let threads = fitting(vm, threads);
     let pattern = vm.search_slots(threads, input, slots);
     let sum = fold_slots(SEED, pattern, slots);
     let sum = fold_match(sum, vm.find(threads, *input));
@@ -153,6 +156,6 @@ pub fn sum_of_set(
     input: &Input<'_>,
 ) -> u64 {
     let mut set = PatternSet::new(rt.alloc(), 4).expect(rt, "memory");
-    vm.which_overlapping_matches(threads, input, &mut set);
+    vm.which_overlapping_matches(fitting(vm, threads), input, &mut set);
     set.iter().fold(SEED, fold_pattern)
 }

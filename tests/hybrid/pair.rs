@@ -5,6 +5,7 @@ use nfa_engines::pikevm::{self, PikeVM};
 use nfa_engines::{Input, NFA, PatternSet};
 use nfa_hybrid::{Engine, Hybrid, dfa};
 use test_support::TestRuntime;
+use test_support::engines::fitting;
 use test_support::searches::searches_of;
 
 /// A hybrid and a PikeVM, and the number of answers that each engine of the hybrid gave.
@@ -51,11 +52,15 @@ impl Pair {
     pub fn expect_same(&mut self, rt: &impl TestRuntime, input: &Input<'_>) {
         let half = self.hybrid.find_half(*input);
         self.count();
-        let wanted = self.vm.find_half(&mut self.threads, *input);
+        let wanted = self
+            .vm
+            .find_half(fitting(&self.vm, &mut self.threads), *input);
         assert_eq!(rt; half, wanted, "{input:?}");
         let is_match = self.hybrid.is_match(*input);
         self.count();
-        let wanted = self.vm.is_match(&mut self.threads, *input);
+        let wanted = self
+            .vm
+            .is_match(fitting(&self.vm, &mut self.threads), *input);
         assert_eq!(rt; is_match, wanted, "{input:?}");
     }
 
@@ -67,8 +72,9 @@ impl Pair {
             self.hybrid.which_overlapping_matches(input, &mut set);
             self.count();
             let mut wanted = PatternSet::new(rt.alloc(), capacity).expect(rt, "memory");
+            let threads = fitting(&self.vm, &mut self.threads);
             self.vm
-                .which_overlapping_matches(&mut self.threads, input, &mut wanted);
+                .which_overlapping_matches(threads, input, &mut wanted);
             assert_eq!(rt; set.len(), wanted.len(), "{input:?}");
             let same = set.iter().all(|pattern| wanted.contains(pattern));
             assert!(rt; same, "{input:?}");
@@ -83,6 +89,7 @@ impl Pair {
             threads,
             ..
         } = self;
+        let threads = fitting(vm, threads);
         let mut searcher = Searcher::new(input);
         let mut finder = |input: &Input<'_>| Ok(vm.find_half(threads, *input));
         for half in hybrid.half_matches(input) {

@@ -5,6 +5,7 @@ use nfa_captures::{WhichCaptures, keep_captures};
 use nfa_engines::Input;
 use nfa_engines::pikevm::PikeVM;
 use std::test::Fail;
+use test_support::engines::fitting;
 use thompson_nfa::State;
 
 // A sample, the captures that are kept, and the number of slots, which is the number of capture states too.
@@ -56,13 +57,13 @@ fn matches_need_group_0_and_half_matches_do_not(rt: HostRuntime) -> Result<(), F
     for &(which, span, end) in FOUND {
         let vm = PikeVM::new_from_nfa(keep_captures(alloc, &nfa, which)?)?;
         let mut cache = vm.create_cache(alloc)?;
-        let found = vm.find(&mut cache, Input::new(b"xacab"));
+        let found = vm.find(fitting(&vm, &mut cache), Input::new(b"xacab"));
         assert_eq!(rt;
             found.map(|found| (found.start(), found.end())),
             span,
             "{which:?}"
         );
-        let half = vm.find_half(&mut cache, Input::new(b"xacab"));
+        let half = vm.find_half(fitting(&vm, &mut cache), Input::new(b"xacab"));
         assert_eq!(rt; half.map(|half| half.offset()), Some(end), "{which:?}");
     }
     Ok(())

@@ -7,10 +7,18 @@ use crate::text::{
 use nfa_engines::backtrack::{self, BoundedBacktracker};
 use nfa_engines::error::SearchError;
 use nfa_engines::pikevm::{self, PikeVM};
-use regex_search_core::Input;
+use regex_search_core::{Input, NonMaxUsize, PatternID};
 use sample_engines::{MakeError, nfa_named};
 use std::alloc::{AllocError, Global};
 use thompson_nfa::NFA;
+
+/// Returns the cache, and stops if it does not fit the engine: a search requires it, and tests are not proved.
+pub fn fitting<'c>(vm: &PikeVM, cache: &'c mut pikevm::Cache) -> &'c mut pikevm::Cache {
+    if !cache.fits(vm) {
+        unreachable!();
+    }
+    cache
+}
 
 /// Both engines over one NFA, each with one cache for all searches: first the backtracker with its default capacity,
 /// then the PikeVM that searches leftmost first.
@@ -59,6 +67,21 @@ impl Engines {
         ])
     }
 
+    /// The pattern that each finds, and the slots that it leaves: the backtracker in the first ones.
+    pub fn search_slots(
+        &mut self,
+        input: &Input<'_>,
+        backtracked: &mut [Option<NonMaxUsize>],
+        piked: &mut [Option<NonMaxUsize>],
+    ) -> Result<[Option<PatternID>; 2], SearchError> {
+        let threads = fitting(&self.vm, &mut self.threads);
+        Ok([
+            self.backtracker
+                .try_search_slots(&mut self.marks, input, backtracked)?,
+            self.vm.search_slots(threads, input, piked),
+        ])
+    }
+
     /// The match that each finds, as text.
     pub fn match_texts(
         &mut self,
@@ -99,7 +122,8 @@ impl Engines {
     pub fn are_matches(&mut self, input: Input<'_>) -> Result<[bool; 2], SearchError> {
         Ok([
             self.backtracker.try_is_match(&mut self.marks, input)?,
-            self.vm.is_match(&mut self.threads, input),
+            self.vm
+                .is_match(fitting(&self.vm, &mut self.threads), input),
         ])
     }
 }

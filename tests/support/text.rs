@@ -1,5 +1,6 @@
 //! Answers of both engines as text.
 
+use crate::engines::fitting;
 use nfa_engines::backtrack::{self, BoundedBacktracker};
 use nfa_engines::error::SearchError;
 use nfa_engines::pikevm::{self, PikeVM};
@@ -70,7 +71,7 @@ pub fn piked_slots(
     slot_len: usize,
 ) -> Result<String, AllocError> {
     let mut slots = vec![in alloc; NonMaxUsize::new(7); slot_len]?;
-    let pattern = vm.search_slots(cache, input, &mut slots);
+    let pattern = vm.search_slots(fitting(vm, cache), input, &mut slots);
     slots_text(alloc, pattern, &slots)
 }
 
@@ -94,7 +95,7 @@ pub fn piked_match(
     cache: &mut pikevm::Cache,
     input: Input<'_>,
 ) -> Result<String, AllocError> {
-    match_text(alloc, vm.find(cache, input))
+    match_text(alloc, vm.find(fitting(vm, cache), input))
 }
 
 /// The pattern and the end of the match that the backtracker finds, or its error.
@@ -117,7 +118,7 @@ pub fn piked_half(
     cache: &mut pikevm::Cache,
     input: Input<'_>,
 ) -> Result<String, AllocError> {
-    half_text(alloc, vm.find_half(cache, input))
+    half_text(alloc, vm.find_half(fitting(vm, cache), input))
 }
 
 /// The pattern and the offset, as `0 4`, or `none`.
@@ -150,7 +151,7 @@ pub fn piked_list(
     input: Input<'_>,
 ) -> Result<String, AllocError> {
     let mut text = String::new(alloc);
-    for found in vm.find_iter(cache, input) {
+    for found in vm.find_iter(fitting(vm, cache), input) {
         write_item(&mut text, Ok(found))?;
     }
     Ok(text)

@@ -8,6 +8,7 @@ use sample_engines::input_in;
 use std::alloc::{AllocError, Global};
 use std::process::Abort;
 use std::test::Fail;
+use test_support::engines::fitting;
 
 // A name, a kind, a haystack, the capacity of a set, and the patterns that an empty set gains, without and with
 // `earliest`.
@@ -34,7 +35,7 @@ fn searched(
     input: &Input<'_>,
     set: &mut PatternSet,
 ) -> Result<String, AllocError> {
-    vm.which_overlapping_matches(cache, input, set);
+    vm.which_overlapping_matches(fitting(vm, cache), input, set);
     let mut text = String::new(alloc);
     for pattern in set.iter() {
         write!(text, "{} ", pattern.as_usize())?;

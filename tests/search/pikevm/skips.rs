@@ -6,10 +6,11 @@ use nfa_engines::pikevm::{Cache, PikeVM};
 use regex_search_core::{Input, MatchKind};
 use sample_engines::input_in;
 use std::test::Fail;
+use test_support::engines::fitting;
 
 // The end of the match that the engine finds, as the value of the answer and as its offset.
 fn placed(vm: &PikeVM, cache: &mut Cache, input: &Input<'_>) -> Option<(usize, usize)> {
-    let end = vm.find_half(cache, *input)?.offset();
+    let end = vm.find_half(fitting(vm, cache), *input)?.offset();
     Some((end, end))
 }
 
