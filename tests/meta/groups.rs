@@ -72,7 +72,11 @@ fn expect_same_rows(
     for index in 0..found.len() {
         let same = found[index].pattern() == wanted[index].pattern();
         assert!(rt; same, "{patterns:?} {input:?}");
-        assert_eq!(rt; found[index].slots(), wanted[index].slots(), "{patterns:?} {input:?}");
+        assert_eq!(rt;
+            found[index].slots(),
+            wanted[index].slots(),
+            "{patterns:?} {input:?}"
+        );
     }
     Ok(())
 }
