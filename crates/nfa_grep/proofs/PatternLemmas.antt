@@ -2,18 +2,18 @@
 use Rattle.regex_syntax.proofs.CapturesLemmas.{alike_cat, alike_refl}
 use Rattle.nfa_paths.proofs.Common.{AllZip-long, ◌≡◌, Bool, List, [], ◌∷◌, false, true, ℕ, MatchOption, None, Option, Some, AllZip, Automaton, inl, inr, length, sym, subst, arith, ◌==◌, cases_Bool}
 use Rattle.nfa_compiler.proofs.MeantLemmas.{all-meant}
-use Rattle.nfa_grep.specs.Meant.{ArePatterns, IsBuilt, IsReadFrom, bounded, Options, Re, IsOfPatterns, IsRefusalBy, IsTreeRefusal, described}
+use Rattle.nfa_grep.specs.Meant.{ArePatterns, IsBuilt, IsReadFrom, bounded, word_start, Options, Re, IsOfPatterns, IsRefusalBy, IsTreeRefusal, described}
 use Rattle.nfa_grep.specs.declared.options.Bounds.{Bounds}
 use Rattle.nfa_grep.specs.declared.options.Bounds.TheVariants.{Anywhere, Words, Line}
 use Rattle.nfa_compiler.specs.declared.error.CompileError.{CompileError}
-use Rattle.nfa_compiler.specs.Common.{meaning, look, Start, WordStartHalfUnicode, SameCaptures, Config, Parsed, IsMeant, IsNfaOf, IsTreeOf, res_of}
+use Rattle.nfa_compiler.specs.Common.{meaning, look, Start, SameCaptures, Config, Parsed, IsMeant, IsNfaOf, IsTreeOf, res_of}
 use Rattle.nfa_grep.specs.declared.fault.Fault.{Fault}
 
 -- patterns that match alike still do if their matches are bounded
 pub bounded-alike : (bounds : Bounds) (a b : Re) → SameCaptures a b → SameCaptures (bounded bounds a) (bounded bounds b)
 bounded-alike Anywhere a b same = same
 bounded-alike Words a b same =
-    alike_cat (alike_refl (look WordStartHalfUnicode)) (alike_cat same (alike_refl _))
+    alike_cat (alike_refl word_start) (alike_cat same (alike_refl _))
 bounded-alike Line a b same = alike_cat (alike_refl (look Start)) (alike_cat same (alike_refl _))
 
 -- the tree of one text

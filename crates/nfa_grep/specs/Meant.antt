@@ -1,10 +1,11 @@
 -- What patterns mean, what they find in a line, in the words of the reference matcher, and why they are refused.
-use Rattle.std.specs.Prelude.{◌≡◌, ℕ, ◌+◌, ◌<◌, ◌⊎◌, ◌++◌, Bool, false, List, [], ◌∷◌, length, map, None, Option, Some, is_some, chars, codes, encode_utf8_all, if◌then◌else◌, slice_index_or, ⊤, ◌==◌}
+use Rattle.std.specs.Prelude.{◌≡◌, ℕ, ◌+◌, ◌<◌, ◌⊎◌, ◌++◌, Bool, false, List, [], ◌∷◌, length, map, None, Option, Some, is_some, chars, codes, encode_utf8_all, if◌then◌else◌, slice_index_or, string_bytes, ⊤, ◌==◌}
 use Rattle.nfa_choice.specs.ChoiceState.{ChoiceState}
 pub use Rattle.nfa_compiler.specs.Common.{Re}
 use Rattle.nfa_compiler.specs.Common.{decimal, AllZip, slice_split, Found, whole, Automaton, is_utf8_empty, alt_all, cat_all, meaning, look, Start, End, WordStartHalfUnicode, WordEndHalfUnicode, SameCaptures, default_flags, escaped_text, Config, Parsed, hits_from, FindsFromAnyStart, IsMeant, IsNfaOf, IsOfNoText, IsRejection, NamesPattern, PatternHit, compile_error_text, expected, found_at, byte_syntax, only_pattern_text, res_of}
 use Rattle.nfa_compiler.specs.declared.error.CompileError.{CompileError}
 use Rattle.nfa_compiler.specs.declared.error.CompileError.TheVariants.{Syntax}
+use Rattle.regex_hir.specs.declared.look.Look.TheVariants.{WordEndUnicode, WordStartUnicode}
 use Rattle.text_lines.specs.Lines.{line_feed}
 use Rattle.nfa_grep.specs.declared.fault.Fault.{Fault}
 use Rattle.nfa_grep.specs.declared.fault.Fault.TheVariants as fault
@@ -25,11 +26,21 @@ syntax_of options =
 abbrev pub pattern_text : Options → List ℕ → List ℕ
 pattern_text options text = if options.fixed then encode_utf8_all (escaped_text (chars text)) else text
 
+-- No letter, digit or underscore is before this place. Bytes that are not text are none, but the first assertion holds
+-- only at the start and after text; so the second one holds if such a character comes next.
+abbrev pub word_start : Re
+word_start = alt_all (look WordStartHalfUnicode ∷ look WordStartUnicode ∷ [])
+
+-- No letter, digit or underscore is after this place. Bytes that are not text are none, but the first assertion holds
+-- only at the end and before text; so the second one holds if such a character came last.
+abbrev pub word_end : Re
+word_end = alt_all (look WordEndHalfUnicode ∷ look WordEndUnicode ∷ [])
+
 -- The pattern with what bounds its matches. As grep says, a match is a word if no letter, digit or underscore is next
 -- to it. Other matches of the pattern at the same place are tried until one is such a match.
 abbrev pub bounded : Bounds → Re → Re
 bounded Anywhere re = re
-bounded Words re = cat_all (look WordStartHalfUnicode ∷ re ∷ look WordEndHalfUnicode ∷ [])
+bounded Words re = cat_all (word_start ∷ re ∷ word_end ∷ [])
 bounded Line re = cat_all (look Start ∷ re ∷ look End ∷ [])
 
 -- the text means this pattern
@@ -102,7 +113,8 @@ described pattern_len error =
 -- what is said of a fault, if it does not depend on the system
 abbrev pub fault_text : Fault → Option (List ℕ)
 fault_text fault.Memory = Some (codes "out of memory")
-fault_text (fault.NotText number) = Some (codes "argument " ++ decimal number ++ codes " is not UTF-8")
+fault_text (fault.NotText number text) =
+    Some (codes "argument " ++ decimal number ++ codes " is not UTF-8: " ++ string_bytes text)
 fault_text fault.Limit = Some (codes "invalid max count")
 fault_text fault.Context = Some (codes "invalid context length argument")
 fault_text (fault.OnlyPattern error) = Some (only_pattern_text error.0)

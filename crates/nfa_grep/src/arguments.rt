@@ -1,42 +1,56 @@
 //! The arguments of the program.
 use crate::fault::Fault;
+use crate::marked::{is_marked, marked, without_mark};
+use std::alloc::{AllocError, Global};
+use std::env::FillError;
 use std::io::ErrorKind;
 use std::rt::Env;
-use std::{env, io, str};
+use std::{env, io};
 
 /// More bytes than the system passes in one argument.
 const LONGEST: usize = 1 << 17;
 
-/// Returns all arguments, the first of which is the name of the program. Fails if one is not UTF-8, which the error
-/// names.
+/// Returns all arguments, the first of which is the name of the program. One that is not UTF-8 is marked.
 pub fn arguments(rt: &HostRuntime) -> Result<Vec<String>, Fault> {
     match env::args(rt) {
         Ok(words) => Ok(words.collect(rt.alloc())?),
-        Err(error) => Err(why(rt, error)?),
+        Err(error) if error.kind() == ErrorKind::OutOfMemory => Err(Fault::Memory),
+        Err(error) => marked_arguments(rt, error),
     }
 }
 
-/// Returns why the arguments could not be read.
-fn why(rt: &HostRuntime, error: io::Error) -> Result<Fault, Fault> {
-    if error.kind() == ErrorKind::OutOfMemory {
-        return Ok(Fault::Memory);
-    }
-    match first_bad(rt)? {
-        Some(number) => Ok(Fault::NotText(number)),
-        None => Ok(Fault::Arguments(error)),
-    }
-}
-
-/// Returns the number of the first argument that is not UTF-8.
-fn first_bad(rt: &HostRuntime) -> Result<Option<usize>, Fault> {
+/// Returns all arguments, of which some are marked. Fails with this error if they cannot be read.
+fn marked_arguments(rt: &HostRuntime, error: io::Error) -> Result<Vec<String>, Fault> {
     let mut buffer = vec![in rt.alloc(); 0u8; LONGEST]?;
-    for number in 1..usize::MAX {
-        let Ok(len) = rt.arg(number, &mut buffer) else {
-            return Ok(None);
-        };
-        if str::from_utf8(&buffer[..len]).is_err() {
-            return Ok(Some(number));
+    let mut words = Vec::new(rt.alloc());
+    for number in 0..usize::MAX {
+        match rt.arg(number, &mut buffer) {
+            Ok(len) => words.push(marked(rt.alloc(), &buffer[..len])?)?,
+            Err(FillError::NotPresent) => return Ok(words),
+            Err(FillError::TooLong) => return Err(Fault::Arguments(error)),
         }
     }
-    Ok(None)
+    Ok(words)
+}
+
+/// Fails if one of these values is marked. The error names the argument, which the value is or ends.
+pub fn need_text(alloc: Global, words: &[&str], values: &[&str]) -> Result<(), Fault> {
+    for value in values {
+        if is_marked(value) {
+            return Err(not_text(alloc, words, value)?);
+        }
+    }
+    Ok(())
+}
+
+/// Names the argument that is this value or ends with it.
+fn not_text(alloc: Global, words: &[&str], value: &str) -> Result<Fault, AllocError> {
+    let mut number = 0;
+    for (at, word) in words.iter().enumerate() {
+        if number == 0 && word.ends_with(value) {
+            number = at;
+        }
+    }
+    let text = words.get(number).copied().unwrap_or(value);
+    Ok(Fault::NotText(number, String::from_str(alloc, without_mark(text))?))
 }

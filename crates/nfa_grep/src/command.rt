@@ -14,7 +14,9 @@ const USAGE: &str = "nfa_grep [OPTIONS] [-e PATTERN].. [-f FILE].. [PATTERN] [FI
 /// What the help says below the options.
 const AFTER: &str = "\
 Without -e and -f, the first argument is the pattern. Without a file, or for the file -, standard input is searched.
-A line is of any bytes. It ends at a line feed, and a carriage return before the line feed belongs to the end.
+A line is of any bytes. It ends at a line feed, and a carriage return before the line feed belongs to the end. So it is
+in the file of -f. Text is UTF-8; with -w, a byte that is not UTF-8 belongs to no word.
+A file that is the output, too, is not searched, and neither is one whose name is not UTF-8: the status is 2 then.
 Of a file that is not text, which has a byte 0 in what is read first, no lines are printed without -a.
 
 Status: 0 if a line was selected, 1 if none was, 2 after an error.";

@@ -11,8 +11,8 @@ use text_lines::failure::Failure;
 pub enum Fault {
     /// Allocation failed.
     Memory,
-    /// The argument of this number, from 1, is not UTF-8.
-    NotText(usize),
+    /// The argument of this number, from 1, is not UTF-8. This is its text, as far as it is one.
+    NotText(usize, String),
     /// The arguments could not be read.
     Arguments(io::Error),
     /// The value of `-m` is not a number.
@@ -50,7 +50,7 @@ impl fmt::Display for Fault {
     fn fmt<W: fmt::Write>(&self, f: &mut fmt::Formatter<W>) -> fmt::Result {
         match self {
             Fault::Memory => f.write_str("out of memory"),
-            Fault::NotText(number) => write!(f, "argument {number} is not UTF-8"),
+            Fault::NotText(number, text) => write!(f, "argument {number} is not UTF-8: {text}"),
             Fault::Arguments(error) => write!(f, "cannot read the arguments: {error}"),
             Fault::Limit => f.write_str("invalid max count"),
             Fault::Context => f.write_str("invalid context length argument"),

@@ -1,16 +1,24 @@
 //! The search of all files that the arguments name.
-use crate::binary::search_input;
 use crate::command::Arguments;
 use crate::fault::Fault;
 use crate::grep::Grep;
+use crate::input::search_named;
+use crate::marked::{is_marked, without_mark};
 use crate::options::{Context, Options, Report, Request, When};
+use crate::output::is_output;
 use crate::patterns::{all_patterns, read_files};
 use crate::walk::{Kind, is_folder, kind_of, push_paths};
 use std::env::FillError;
-use std::io::{BufReader, BufWriter, IsTerminal, Read, Write};
+use std::io::{BufWriter, IsTerminal, Write};
 use std::rt::Env;
-use std::{fs, io};
+use std::{fmt, io};
 use text_lines::failure::Failure;
+
+/// Why an input was not searched: nothing is opened by a name that is not UTF-8.
+const NOT_TEXT: &str = "cannot read the input: its name is not UTF-8";
+
+/// Why an input was not searched: it would have what was printed.
+const IS_OUTPUT: &str = "input file is also the output";
 
 /// What the search of all inputs came to.
 #[derive(Clone, Copy, Debug, PartialEq, Eq)]
@@ -133,7 +141,9 @@ fn search_each<W: Write>(
         failed: false,
     };
     for name in names {
-        if arguments.recursive && *name != "-" && is_folder(rt, name) {
+        if is_marked(name) {
+            name_fault(rt, arguments, name, NOT_TEXT, &mut outcome);
+        } else if arguments.recursive && *name != "-" && is_folder(rt, name) {
             search_folder(rt, grep, arguments, name, &mut outcome, out)?;
         } else {
             search_one(rt, grep, arguments, name, &mut outcome, out)?;
@@ -162,7 +172,7 @@ fn search_folder<W: Write>(
 ) -> Result<(), Failure> {
     let mut paths = Vec::new(rt.alloc());
     if let Err(error) = push_paths(rt, folder, &mut paths) {
-        name_fault(rt, arguments, folder, &Failure::Read(error), outcome);
+        name_fault(rt, arguments, folder, Failure::Read(error), outcome);
     }
     for _ in 0..u64::MAX {
         if is_over(arguments, *outcome) {
@@ -172,15 +182,19 @@ fn search_folder<W: Write>(
             return Ok(());
         };
         let path = path.as_str();
+        if is_marked(path) {
+            name_fault(rt, arguments, path, NOT_TEXT, outcome);
+            continue;
+        }
         match kind_of(rt, path) {
             Ok(Kind::File) => search_one(rt, grep, arguments, path, outcome, out)?,
             Ok(Kind::Folder) => {
                 if let Err(error) = push_paths(rt, path, &mut paths) {
-                    name_fault(rt, arguments, path, &Failure::Read(error), outcome);
+                    name_fault(rt, arguments, path, Failure::Read(error), outcome);
                 }
             }
             Ok(Kind::Other) => {}
-            Err(error) => name_fault(rt, arguments, path, &Failure::Read(error), outcome),
+            Err(error) => name_fault(rt, arguments, path, Failure::Read(error), outcome),
         }
     }
     Ok(())
@@ -205,24 +219,29 @@ fn search_one<W: Write>(
         },
         used: outcome.selected,
     };
+    // A search that ends at its first line, or that prints less, does not read what it prints.
+    if request.report.shows() && request.limit > 1 && is_output(rt, name) {
+        name_fault(rt, arguments, name, IS_OUTPUT, outcome);
+        return Ok(());
+    }
     match search_named(rt, grep, arguments.text, request, name, out) {
         Ok(count) => outcome.selected |= count > 0,
         Err(error) => {
             if !error.is_of_input() {
                 return Err(error);
             }
-            name_fault(rt, arguments, name, &error, outcome);
+            name_fault(rt, arguments, name, error, outcome);
         }
     }
     Ok(())
 }
 
 /// Says on standard error why an input was not searched to its end, if that is wanted.
-fn name_fault(
+fn name_fault<E: fmt::Display + Drop>(
     rt: &HostRuntime,
     arguments: &Arguments<'_>,
     name: &str,
-    error: &Failure,
+    error: E,
     outcome: &mut Outcome,
 ) {
     outcome.failed = true;
@@ -236,6 +255,7 @@ fn name_fault(
 /// The name of an input, as it is printed. That of the folder in which the program runs is left out if it was not
 /// given.
 fn shown_name<'n>(arguments: &Arguments<'_>, name: &'n str) -> &'n str {
+    let name = without_mark(name);
     if name == "-" {
         "(standard input)"
     } else if arguments.files.is_empty() {
@@ -243,37 +263,4 @@ fn shown_name<'n>(arguments: &Arguments<'_>, name: &'n str) -> &'n str {
     } else {
         name
     }
-}
-
-/// Searches the input of this name, and returns how many of the lines that were searched are selected.
-fn search_named<W: Write>(
-    rt: &HostRuntime,
-    grep: &mut Grep<'_>,
-    text: bool,
-    request: Request<'_>,
-    name: &str,
-    out: &mut W,
-) -> Result<u64, Failure> {
-    if name == "-" {
-        return search_reader(rt, grep, text, request, rt.reader(), out);
-    }
-    match fs::open(rt, name) {
-        Ok(file) => search_reader(rt, grep, text, request, file, out),
-        Err(error) => Err(Failure::Read(error)),
-    }
-}
-
-/// Searches what this reader has, and returns how many of the lines that were searched are selected.
-fn search_reader<R: Read + Drop, W: Write>(
-    rt: &HostRuntime,
-    grep: &mut Grep<'_>,
-    text: bool,
-    request: Request<'_>,
-    reader: R,
-    out: &mut W,
-) -> Result<u64, Failure> {
-    let Ok(mut input) = BufReader::new(rt.alloc(), reader) else {
-        return Err(Failure::Memory);
-    };
-    search_input(rt, grep, text, request, &mut input, out)
 }

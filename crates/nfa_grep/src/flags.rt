@@ -152,7 +152,7 @@ fn with_patterns<'w>(alloc: Global, command: Command<'w>) -> Result<Command<'w>,
             flag(
                 "word-regexp",
                 'w',
-                "Find only matches with no letter, digit or underscore next to them",
+                "Find only words: no letter, digit or underscore is next to them",
             ),
             flag("line-regexp", 'x', "Find only matches that are whole lines"),
             flag(

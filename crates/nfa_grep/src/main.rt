@@ -9,10 +9,13 @@ mod files;
 mod flags;
 mod grep;
 mod groups;
+mod input;
 mod joined;
 mod line;
+mod marked;
 mod needed;
 mod options;
+mod output;
 mod paint;
 mod pattern;
 mod patterns;
@@ -21,7 +24,7 @@ mod walk;
 mod which;
 mod words;
 
-use crate::arguments::arguments;
+use crate::arguments::{arguments, need_text};
 use crate::command::{Command, parse};
 use crate::fault::Fault;
 use crate::files::{Outcome, run};
@@ -52,15 +55,20 @@ fn main(rt: HostRuntime) -> ExitCode {
 fn answer(rt: &HostRuntime) -> Result<ExitCode, Fault> {
     let words = arguments(rt)?;
     let words: Vec<&str> = words.iter().map(|word| word.as_str()).collect(rt.alloc())?;
-    let words = split(rt.alloc(), &words)?;
     obey(rt, &words)
 }
 
-/// Does what the arguments ask for.
+/// Does what the arguments ask for. Of these only the names of files may be no text.
 fn obey(rt: &HostRuntime, words: &[&str]) -> Result<ExitCode, Fault> {
-    match parse(rt.alloc(), words)? {
-        Command::Search(arguments) => Ok(code_of(run(rt, &arguments)?)),
+    let split = split(rt.alloc(), words)?;
+    match parse(rt.alloc(), &split)? {
+        Command::Search(arguments) => {
+            need_text(rt.alloc(), words, &arguments.patterns)?;
+            need_text(rt.alloc(), words, &arguments.pattern_files)?;
+            Ok(code_of(run(rt, &arguments)?))
+        }
         Command::Say(error) => {
+            need_text(rt.alloc(), words, words)?;
             let code = if error.use_stderr() { FAILED } else { 0 };
             match error.print(rt) {
                 Ok(()) => Ok(ExitCode::from(code)),

@@ -1,7 +1,7 @@
 //! From the texts of patterns to trees.
 ghost use Rattle.std.specs.Prelude.{◌≡◌, ◌∷◌, [], IfErr, IfOk, IfSome, map};
 ghost use Rattle.std.specs.List.{AllZip};
-ghost use Rattle.regex_hir.specs.Meaning.{cat_all, meaning};
+ghost use Rattle.regex_hir.specs.Meaning.{alt_all, cat_all, meaning};
 ghost use Rattle.regex_hir.specs.Re.{Re, look};
 ghost use Rattle.regex_syntax.specs.Captures.{SameCaptures};
 ghost use Rattle.nfa_compiler.specs.Compiled.{IsMeant};
@@ -74,25 +74,34 @@ fn bounded(alloc: Global, bounds: Bounds, tree: Hir) -> Result<Hir, AllocError>
 {
     match bounds {
         Bounds::Anywhere => Ok(tree),
-        Bounds::Words => between(
-            alloc,
-            Look::WordStartHalfUnicode,
-            tree,
-            Look::WordEndHalfUnicode,
-        ),
-        Bounds::Line => between(alloc, Look::Start, tree, Look::End),
+        Bounds::Words => {
+            let start = either(alloc, Look::WordStartHalfUnicode, Look::WordStartUnicode)?;
+            let end = either(alloc, Look::WordEndHalfUnicode, Look::WordEndUnicode)?;
+            between(alloc, start, tree, end)
+        }
+        Bounds::Line => between(alloc, Hir::Look(Look::Start), tree, Hir::Look(Look::End)),
     }
 }
 
-/// Returns the tree between two assertions.
-fn between(alloc: Global, start: Look, tree: Hir, end: Look) -> Result<Hir, AllocError>
-    ensures { IfOk result (λ hir. meaning hir ≡ cat_all (look start ∷ meaning tree ∷ look end ∷ [])) }
+/// Returns the tree between two others.
+fn between(alloc: Global, start: Hir, tree: Hir, end: Hir) -> Result<Hir, AllocError>
+    ensures { IfOk result (λ hir. meaning hir ≡ cat_all (meaning start ∷ meaning tree ∷ meaning end ∷ [])) }
 {
     let mut parts = Vec::with_capacity(alloc, 3)?;
-    parts.push(Hir::Look(start))?;
+    parts.push(start)?;
     parts.push(tree)?;
-    parts.push(Hir::Look(end))?;
+    parts.push(end)?;
     Ok(Hir::Concat(parts))
+}
+
+/// Returns the tree of one assertion or another one.
+fn either(alloc: Global, one: Look, other: Look) -> Result<Hir, AllocError>
+    ensures { IfOk result (λ hir. meaning hir ≡ alt_all (look one ∷ look other ∷ [])) }
+{
+    let mut branches = Vec::with_capacity(alloc, 2)?;
+    branches.push(Hir::Look(one))?;
+    branches.push(Hir::Look(other))?;
+    Ok(Hir::Alternation(branches))
 }
 
 /// Returns why some text of these was not read: it is not a pattern, or allocation failed.

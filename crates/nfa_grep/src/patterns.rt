@@ -40,7 +40,7 @@ pub fn all_patterns<'t>(
 ) -> Result<Vec<&'t str>, AllocError> {
     let mut all = Vec::new(alloc);
     push_given(alloc, given, &mut all)?;
-    push_files(alloc, files, &mut all)?;
+    push_files(files, &mut all)?;
     Ok(all)
 }
 
@@ -60,23 +60,28 @@ fn push_given<'t>(
 }
 
 /// Appends the lines of these files.
-fn push_files<'t>(
-    alloc: Global,
-    files: &'t [String],
-    all: &mut Vec<&'t str>,
-) -> Result<(), AllocError> {
+fn push_files<'t>(files: &'t [String], all: &mut Vec<&'t str>) -> Result<(), AllocError> {
     for file in files {
-        push_file(alloc, file.as_str(), all)?;
+        push_file(file.as_str(), all)?;
     }
     Ok(())
 }
 
-/// Appends the lines of a file. A line feed at its end begins no line.
-fn push_file<'t>(alloc: Global, file: &'t str, all: &mut Vec<&'t str>) -> Result<(), AllocError> {
-    if file.is_empty() {
-        return Ok(());
+/// Appends the lines of a file, without their ends. A line feed at its end begins no line.
+fn push_file<'t>(file: &'t str, all: &mut Vec<&'t str>) -> Result<(), AllocError> {
+    for line in file.split_inclusive('\n') {
+        all.push(without_end(line))?;
     }
-    push_lines(alloc, file.strip_suffix('\n').unwrap_or(file), all)
+    Ok(())
+}
+
+/// Returns the line without its end, as lines that are searched lose it: without the line feed, and without a carriage
+/// return before that. A carriage return at the end of a file belongs to the pattern.
+fn without_end(line: &str) -> &str {
+    match line.strip_suffix('\n') {
+        Some(line) => line.strip_suffix('\r').unwrap_or(line),
+        None => line,
+    }
 }
 
 /// Appends the lines of the text.

@@ -1,6 +1,12 @@
 //! The paths in folders.
-use std::alloc::AllocError;
+use crate::marked::marked;
+use std::alloc::{AllocError, Global};
+use std::fs::Files;
+use std::io::Read;
 use std::{fs, io};
+
+/// So many bytes of names are read at once. There is room for each name.
+const HELD: usize = 4096;
 
 /// What is at a path.
 #[derive(Clone, Copy, Debug, PartialEq, Eq)]
@@ -31,21 +37,52 @@ pub fn kind_of(rt: &HostRuntime, path: &str) -> io::Result<Kind> {
     }
 }
 
-/// Pushes the paths in the folder, so that they are popped in the order of names. Those that can be read are pushed
-/// also if another one cannot, which is the error.
+/// Pushes the paths in the folder, so that they are popped in the order of names. One that is not UTF-8 is marked. Those
+/// that can be read are pushed also if another one cannot, which is the error.
 pub fn push_paths(rt: &HostRuntime, folder: &str, stack: &mut Vec<String>) -> io::Result<()> {
-    let alloc = rt.alloc();
-    let mut paths = Vec::new(alloc);
-    let mut done = Ok(());
-    for entry in fs::read_dir(rt, folder)? {
-        match entry {
-            Ok(entry) => paths.push(String::from_str(alloc, entry.path().to_string_lossy())?)?,
-            Err(error) => done = Err(error),
-        }
-    }
+    let mut names = Vec::new(rt.alloc());
+    let done = read_names(rt, folder, &mut names);
+    let mut paths = paths_of(rt.alloc(), folder, &names)?;
     paths.sort()?;
     move_back(&mut paths, stack)?;
     done
+}
+
+/// Appends the names in the folder, each with a byte 0 after it.
+fn read_names(rt: &HostRuntime, folder: &str, names: &mut Vec<u8>) -> io::Result<()> {
+    let mut inside = String::from_str(rt.alloc(), folder)?;
+    inside.push('/')?;
+    let mut held = rt.open_dir(inside.as_str())?;
+    let mut buffer = [0u8; HELD];
+    for _ in 0..u64::MAX {
+        let len = held.read(&mut buffer)?;
+        if len == 0 {
+            return Ok(());
+        }
+        names.extend_from_slice(&buffer[..len])?;
+    }
+    Ok(())
+}
+
+/// Returns the paths of these names in the folder.
+fn paths_of(alloc: Global, folder: &str, names: &[u8]) -> Result<Vec<String>, AllocError> {
+    let mut paths = Vec::new(alloc);
+    for name in names.split(|byte| *byte == 0) {
+        if !(name.is_empty() || name == b".".as_slice() || name == b"..".as_slice()) {
+            paths.push(path_of(alloc, folder, name)?)?;
+        }
+    }
+    Ok(paths)
+}
+
+/// Returns the path of this name in the folder.
+fn path_of(alloc: Global, folder: &str, name: &[u8]) -> Result<String, AllocError> {
+    let mut path = String::from_str(alloc, folder)?;
+    if !folder.ends_with('/') {
+        path.push('/')?;
+    }
+    path.push_str(marked(alloc, name)?.as_str())?;
+    Ok(path)
 }
 
 /// Moves all paths onto the stack, the last one first.

@@ -1,0 +1,60 @@
+//! The search of one input: of a file, or of standard input.
+use crate::binary::search_input;
+use crate::grep::Grep;
+use crate::options::{Report, Request};
+use crate::output::is_file_input;
+use std::fs;
+use std::io::{BufReader, Read, Write};
+use text_lines::failure::Failure;
+
+/// Searches the input of this name, and returns how many of the lines that were searched are selected.
+pub fn search_named<W: Write>(
+    rt: &HostRuntime,
+    grep: &mut Grep<'_>,
+    text: bool,
+    request: Request<'_>,
+    name: &str,
+    out: &mut W,
+) -> Result<u64, Failure> {
+    if name == "-" {
+        return search_standard(rt, grep, text, request, out);
+    }
+    match fs::open(rt, name) {
+        Ok(file) => search_input(rt, grep, text, request, &mut buffered(rt, file)?, out),
+        Err(error) => Err(Failure::Read(error)),
+    }
+}
+
+/// Returns the reader with a buffer.
+fn buffered<R: Read + Drop>(rt: &HostRuntime, reader: R) -> Result<BufReader<R>, Failure> {
+    match BufReader::new(rt.alloc(), reader) {
+        Ok(input) => Ok(input),
+        Err(_) => Err(Failure::Memory),
+    }
+}
+
+/// Searches standard input. A file that is left after the last line that was read is read without a buffer of our own:
+/// what `std` has read ahead of that it gives back at the end.
+fn search_standard<W: Write>(
+    rt: &HostRuntime,
+    grep: &mut Grep<'_>,
+    text: bool,
+    request: Request<'_>,
+    out: &mut W,
+) -> Result<u64, Failure> {
+    if may_go_on(request) && is_file_input(rt) {
+        search_input(rt, grep, text, request, &mut rt.reader(), out)
+    } else {
+        let mut input = buffered(rt, rt.reader())?;
+        search_input(rt, grep, text, request, &mut input, out)
+    }
+}
+
+/// Returns whether another program may go on where the search ends: after a number of lines, and not at the first one
+/// in any case.
+fn may_go_on(request: Request<'_>) -> bool {
+    match request.report {
+        Report::Lines | Report::Count => request.limit < u64::MAX,
+        Report::With | Report::Without | Report::Nothing => false,
+    }
+}
