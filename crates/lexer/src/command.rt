@@ -1,6 +1,6 @@
 //! What the arguments of the command line ask for.
 use crate::report::Style;
-use option_values::parted::parted;
+use option_values::parted::part_words;
 use option_values::words::{NotText, Word, texts};
 use std::alloc::{AllocError, Global};
 use std::fmt;
@@ -110,7 +110,7 @@ pub fn parse<'w>(
     alloc: Global,
     words: &[Word<'w>],
 ) -> Result<Result<Asked<'w>, Misuse<'w>>, AllocError> {
-    let parted = parted(alloc, VALUED, words)?;
+    let parted = part_words(alloc, VALUED, words)?;
     let options = match texts(alloc, &parted.options)? {
         Ok(options) => options,
         Err(error) => return Ok(Err(Misuse::NotText(error))),

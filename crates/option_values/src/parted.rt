@@ -21,7 +21,7 @@ pub struct Parted<'w> {
 /// Parts options from the other words. An option is a word of two bytes or more that begins with a hyphen, before the
 /// first `--`; the word after an option of these names is its value, whatever it is. The only error is that allocation
 /// failed.
-pub fn parted<'w>(
+pub fn part_words<'w>(
     alloc: Global,
     valued: &[&str],
     words: &[Word<'w>],

@@ -1,5 +1,5 @@
 //! What the arguments of the command line ask for.
-use option_values::parted::parted;
+use option_values::parted::part_words;
 use option_values::words::{NotText, Word, texts};
 use std::alloc::{AllocError, Global};
 use std::fmt;
@@ -175,7 +175,7 @@ pub fn parse<'w>(
     alloc: Global,
     words: &[Word<'w>],
 ) -> Result<Result<Asked<'w>, Misuse<'w>>, AllocError> {
-    let parted = parted(alloc, VALUED, words)?;
+    let parted = part_words(alloc, VALUED, words)?;
     let options = match options_of(&parted.options) {
         Ok(options) => options,
         Err(misuse) => return Ok(Err(misuse)),

@@ -2,7 +2,7 @@
 use Rattle.std.proofs.Common.{rules, arith}
 use Rattle.option_values.specs.Parting.{as_operand, as_option}
 use Rattle.option_values.proofs.PartLemmas.{ends, goes-on}
-use Rattle.option_values.proofs.parted.parted.Goals as goal
+use Rattle.option_values.proofs.parted.part_words.Goals as goal
 
 pub loop-word-preserved : goal.loop-word-preserved
 loop-word-preserved c =

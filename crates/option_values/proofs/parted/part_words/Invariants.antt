@@ -2,7 +2,7 @@
 use Rattle.std.proofs.Common.{◌≡◌}
 use Rattle.option_values.specs.Parting.{as_operand, as_option, operands_in, options_in}
 use Rattle.option_values.proofs.PartLemmas.{with_left}
-use Rattle.option_values.proofs.parted.parted.Given as goal
+use Rattle.option_values.proofs.parted.part_words.Given as goal
 
 abbrev pub invariant-loop-word : goal.invariant-loop-word
 invariant-loop-word l = record {
