@@ -5,7 +5,7 @@ use Rattle.nfa_paths.proofs.OneScanLemmas.{first-scan, scan-of, settled-scan}
 use Rattle.nfa_paths.proofs.StartLemmas.{raised-zero}
 use Rattle.nfa_determinize.specs.Configurations.{IsKeptHalf, IsRestartedHalf, StartsFrom, StepsFindTheHalf, scan_half}
 use Rattle.nfa_engines.specs.StartLaws.{IsFirstStart, IsUnbound, StartsAnywhere, anchored_at, from_start}
-use Rattle.nfa_engines.proofs.FirstStartLemmas.{anchored-start, next-first, same_edges, start-unanchored, with-starts}
+use Rattle.nfa_paths.proofs.FirstStartLemmas.{anchored-start, next-first, same_edges, start-unanchored, with-starts}
 use Rattle.nfa_engines.proofs.StartAnswerLemmas.{first-answers}
 use Rattle.nfa_meta.specs.WindowLaws.{ScansAreFirstStarts, SearchGoesOn}
 use Rattle.nfa_meta.proofs.WindowLemmas.{StartsLate, first-start, none-path, scan-back}
