@@ -1,5 +1,7 @@
 //! What the arguments of the command line ask for.
 use crate::report::Style;
+use option_values::parted::part_words;
+use option_values::words::{NotText, Word, texts};
 use std::alloc::{AllocError, Global};
 use std::fmt;
 
@@ -7,11 +9,15 @@ use std::fmt;
 pub const USAGE: &str =
     "usage: lexer [--json] [--positions] [--recover] [--skip NAME].. [RULES] < TEXT";
 
+/// The options that have a value, which is the next word.
+const VALUED: &[&str] = &["--skip"];
+
 /// What `--help` prints below it.
 pub const HELP: &str = "
 Prints each token of the text in a line: the name of its rule, its span in bytes, and its text.
 RULES is a file with a rule in each line: NAME = PATTERN. Empty lines, and lines that start with #, are left out.
-Write -- before the name of a file that begins with a hyphen.
+Options stand before RULES or after it. After -- no word is one: write it before the name of a file that begins with a
+hyphen.
 Without RULES the rules are those of a language like C: identifier, number, string, space and operator.
 The first rule that matches is taken. A token of the rule `space` is printed without its text.
 
@@ -63,28 +69,38 @@ impl<'w> Arguments<'w> {
     }
 }
 
+/// What the arguments ask for.
+#[derive(Debug, Drop)]
+pub enum Asked<'w> {
+    /// Print the help.
+    Help,
+    /// Print tokens.
+    Tokens(Arguments<'w>),
+}
+
 /// Why the arguments are wrong.
 #[derive(Clone, Copy, Debug)]
 pub enum Misuse<'w> {
     /// There is no such option.
     NoOption(&'w str),
+    /// This word is not UTF-8.
+    NotText(NotText<'w>),
     /// The last word is `--skip`.
     NoName,
-    /// The last word is `--`.
-    NoFile,
-    /// This word is after the name of the file.
-    AfterFile(&'w str),
+    /// There is a name of a file, and this word.
+    TwoFiles(&'w str),
 }
 
 impl fmt::Display for Misuse<'_> {
     fn fmt<W: fmt::Write>(&self, f: &mut fmt::Formatter<W>) -> fmt::Result {
         match self {
-            Misuse::NoOption(word) => write!(f, "there is no option {word}"),
+            Misuse::NoOption(word) => write!(
+                f,
+                "there is no option {word}; after -- no word is one"
+            ),
+            Misuse::NotText(error) => write!(f, "{error}"),
             Misuse::NoName => write!(f, "--skip needs the name of a rule"),
-            Misuse::NoFile => write!(f, "-- needs the name of a file"),
-            Misuse::AfterFile(word) => {
-                write!(f, "RULES is the last argument, and {word} comes after it")
-            }
+            Misuse::TwoFiles(word) => write!(f, "RULES is one file, and {word} is one word more"),
         }
     }
 }
@@ -92,51 +108,69 @@ impl fmt::Display for Misuse<'_> {
 /// Returns what the arguments ask for, or why they are wrong. The only other error is that allocation failed.
 pub fn parse<'w>(
     alloc: Global,
-    words: &[&'w str],
-) -> Result<Result<Arguments<'w>, Misuse<'w>>, AllocError> {
+    words: &[Word<'w>],
+) -> Result<Result<Asked<'w>, Misuse<'w>>, AllocError> {
+    let parted = part_words(alloc, VALUED, words)?;
+    let options = match texts(alloc, &parted.options)? {
+        Ok(options) => options,
+        Err(error) => return Ok(Err(Misuse::NotText(error))),
+    };
+    let rules = match file_of(&parted.operands) {
+        Ok(rules) => rules,
+        Err(misuse) => return Ok(Err(misuse)),
+    };
+    with_options(alloc, rules, &options)
+}
+
+/// Returns what these options ask for.
+fn with_options<'w>(
+    alloc: Global,
+    rules: Option<&'w str>,
+    options: &[&'w str],
+) -> Result<Result<Asked<'w>, Misuse<'w>>, AllocError> {
     let mut arguments = Arguments {
-        rules: None,
+        rules,
         skip: Vec::new(alloc),
         json: false,
         recover: false,
         positions: false,
     };
+    let mut is_help = false;
     let mut is_name = false;
-    for (index, word) in words.iter().enumerate() {
-        match *word {
+    for option in options {
+        match *option {
             name if is_name => {
                 arguments.skip.push(name)?;
                 is_name = false;
             }
+            "--help" => is_help = true,
             "--skip" => is_name = true,
             "--json" => arguments.json = true,
             "--recover" => arguments.recover = true,
             "--positions" => arguments.positions = true,
-            _ => {
-                return match file_of(&words[index..]) {
-                    Ok(name) => {
-                        arguments.rules = Some(name);
-                        Ok(Ok(arguments))
-                    }
-                    Err(misuse) => Ok(Err(misuse)),
-                };
-            }
+            other => return Ok(Err(Misuse::NoOption(other))),
         }
     }
-    if is_name {
-        return Ok(Err(Misuse::NoName));
-    }
-    Ok(Ok(arguments))
+    Ok(if is_name {
+        Err(Misuse::NoName)
+    } else if is_help {
+        Ok(Asked::Help)
+    } else {
+        Ok(Asked::Tokens(arguments))
+    })
 }
 
-/// Returns the name of a file, which may be after `--`.
-fn file_of<'w>(words: &[&'w str]) -> Result<&'w str, Misuse<'w>> {
+/// Returns the name of the file of the rules, if there is one.
+fn file_of<'w>(words: &[Word<'w>]) -> Result<Option<&'w str>, Misuse<'w>> {
     match words {
-        ["--", name] => Ok(name),
-        ["--", _, word, ..] => Err(Misuse::AfterFile(word)),
-        [] | ["--"] => Err(Misuse::NoFile),
-        [word, ..] if word.starts_with('-') => Err(Misuse::NoOption(word)),
-        [name] => Ok(name),
-        [_, word, ..] => Err(Misuse::AfterFile(word)),
+        [] => Ok(None),
+        [name] => Ok(Some(name.text()?)),
+        [_, word, ..] => Err(Misuse::TwoFiles(word.text()?)),
+    }
+}
+
+impl<'w> From<NotText<'w>> for Misuse<'w> {
+    fn from(error: NotText<'w>) -> Misuse<'w> {
+        Misuse::NotText(error)
     }
 }

@@ -9,42 +9,55 @@ mod report;
 mod rules;
 mod shown;
 
-use crate::command::{Arguments, HELP, USAGE, parse};
+use crate::command::{Arguments, Asked, HELP, USAGE, parse};
 use crate::lexer::Lexer;
 use crate::names::unknown_name;
 use crate::report::Style;
 use crate::rules::RulesError;
 use anyhow::Result;
+use option_values::words::{arguments, words};
 use std::fmt::Display;
 use std::io::{BufWriter, ErrorKind};
 use std::process::ExitCode;
-use std::{env, fs, io};
+use std::{fs, io};
 
 /// The text has a place where no token starts.
 const STUCK: u8 = 1;
 
+/// The input, the output or memory failed.
+const FAILED: u8 = 1;
+
 /// The arguments or the rules are wrong.
 const MISUSED: u8 = 2;
 
-// An error is printed on standard error, and the status then is 1 too.
-fn main(rt: HostRuntime) -> Result<ExitCode> {
-    let arguments: Vec<String> = env::args(&rt)?.skip(1).collect(rt.alloc())?;
-    let words: Vec<&str> = arguments
-        .iter()
-        .map(|word| word.as_str())
-        .collect(rt.alloc())?;
-    if let ["--help", ..] = words.as_slice() {
-        return match println!(rt; "{USAGE}\n{HELP}") {
-            Err(error) if error.kind() != ErrorKind::BrokenPipe => Err(error.into()),
-            _ => Ok(ExitCode::SUCCESS),
-        };
+fn main(rt: HostRuntime) -> ExitCode {
+    match answer(&rt) {
+        Ok(code) => code,
+        Err(error) => {
+            // The status says so even if the line cannot be written.
+            let _ = eprintln!(rt; "lexer: {error}");
+            ExitCode::from(FAILED)
+        }
     }
+}
+
+fn answer(rt: &HostRuntime) -> Result<ExitCode> {
+    let arguments = arguments(rt)?;
+    let words = words(rt.alloc(), &arguments)?;
     match parse(rt.alloc(), &words)? {
-        Ok(arguments) => run_file(&rt, &arguments),
+        Ok(Asked::Help) => help(rt),
+        Ok(Asked::Tokens(arguments)) => run_file(rt, &arguments),
         Err(misuse) => {
             let said = format_args!("lexer: {misuse}\n{USAGE}\nlexer --help says more.");
-            Ok(misused(&rt, said))
+            Ok(misused(rt, said))
         }
+    }
+}
+
+fn help(rt: &HostRuntime) -> Result<ExitCode> {
+    match println!(rt; "{USAGE}\n{HELP}") {
+        Err(error) if error.kind() != ErrorKind::BrokenPipe => Err(error.into()),
+        _ => Ok(ExitCode::SUCCESS),
     }
 }
 

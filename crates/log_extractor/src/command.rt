@@ -27,7 +27,8 @@ always one line with all its columns.
 With --count the most frequent value is first, and those that occur as often as each other are in the order of bytes.
 A field without a text counts as an empty value.
 With --csv a field is in quotes if it is empty or has a comma, a quote or an end of a line, and its quotes are doubled.
-Without a file, or for the file -, standard input is read.
+Without a file, or for the file -, standard input is read. Options stand before the files, after them or among them,
+but after -- no word is one.
 A line is of any bytes. It ends at a line feed, and a carriage return before the line feed belongs to the end.
 
 Examples:
@@ -36,7 +37,8 @@ Examples:
   log_extractor --csv -p '(?<user>[a-z]+): (?<said>.*)' < chat.log
 
 Status: 0, 1 if an input cannot be read, the output cannot be written or memory runs out, 2 if the arguments or the
-pattern are wrong. If the output is a pipe that is closed, the program ends with status 0.
+pattern are wrong, or a file that is read is also the output. If the output is a pipe that is closed, the program ends
+with status 0.
 
 The default pattern is of lines such as `2026-11-22 14:03:07 ERROR disk full`. The patterns of the formats:";
 
@@ -70,13 +72,17 @@ pub enum Command<'w> {
 }
 
 /// Splits the arguments, so that a pattern that is attached to `-p` is an argument of its own, with each of its bytes.
+/// The first of the result is the name of the program, which is none of the arguments.
 pub fn split<'w>(alloc: Global, words: &[&'w str]) -> Result<Vec<&'w str>, AllocError> {
+    let mut all = Vec::new(alloc);
+    all.push("log_extractor")?;
+    all.extend_from_slice(words)?;
     let pattern = Valued {
         letter: 'p',
         short: "-p",
         long: "--pattern",
     };
-    split_values(alloc, pattern, words)
+    split_values(alloc, pattern, &all)
 }
 
 /// Returns what the help says below the options.

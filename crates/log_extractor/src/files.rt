@@ -13,6 +13,9 @@ use text_lines::failure::Failure;
 const NO_ROW: &str =
     "log_extractor: no line matched from its start; --rejects prints lines that have no row";
 
+/// The names of the inputs if none is given.
+const STANDARD_INPUT: &[&str] = &["-"];
+
 /// What is done with the lines of the inputs.
 #[derive(Drop)]
 struct Work {
@@ -23,6 +26,15 @@ struct Work {
     counts: Counts,
     /// Whether a line had a row.
     rows: bool,
+}
+
+/// Returns the names of the inputs.
+pub fn inputs_of<'a, 'w>(arguments: &'a Arguments<'w>) -> &'a [&'w str] {
+    if arguments.files.is_empty() {
+        STANDARD_INPUT
+    } else {
+        &arguments.files
+    }
 }
 
 /// Prints what is to be printed of the files that the arguments name, in order, or of standard input if there are none.
@@ -68,11 +80,7 @@ fn print_to<W: Write>(
     if column.is_none() {
         print_head(rt.alloc(), parsers, output, out)?;
     }
-    let complete = if arguments.files.is_empty() {
-        print_each(rt, parsers, &mut work, &["-"], out)?
-    } else {
-        print_each(rt, parsers, &mut work, &arguments.files, out)?
-    };
+    let complete = print_each(rt, parsers, &mut work, inputs_of(arguments), out)?;
     if let Some(name) = arguments.count {
         print_counted(rt, output, name, &work.counts, out)?;
     }

@@ -16,7 +16,7 @@ mod row;
 
 use crate::command::{Arguments, Command, help_below, labels_of, parse, split};
 use crate::count::column_named;
-use crate::files::print_all;
+use crate::files::{inputs_of, print_all};
 use crate::names::has_name;
 use crate::parser::Parser;
 use crate::parsers::{LABEL, LabelledParser, Parsers};
@@ -24,9 +24,11 @@ use crate::pattern::PatternError;
 use anyhow::Result;
 use clap::Error;
 use clap::error::ErrorKind;
+use option_values::output::{IS_OUTPUT, first_output, shown_name};
+use option_values::words::{arguments, texts, words};
 use std::fmt::Display;
+use std::io;
 use std::process::ExitCode;
-use std::{env, io};
 use text_lines::failure::Failure;
 
 /// An input, the output or memory failed.
@@ -46,12 +48,19 @@ fn main(rt: HostRuntime) -> ExitCode {
 }
 
 fn answer(rt: &HostRuntime) -> Result<ExitCode> {
-    let alloc = rt.alloc();
-    let words: Vec<String> = env::args(rt)?.collect(alloc)?;
-    let words: Vec<&str> = words.iter().map(|word| word.as_str()).collect(alloc)?;
-    let words = split(alloc, &words)?;
-    let below = help_below(alloc)?;
-    match parse(alloc, below.as_str(), &words)? {
+    let arguments = arguments(rt)?;
+    let words = words(rt.alloc(), &arguments)?;
+    match texts(rt.alloc(), &words)? {
+        Ok(words) => obey(rt, &words),
+        Err(error) => Ok(ended(rt, error, MISUSED)),
+    }
+}
+
+/// Does what the arguments ask for.
+fn obey(rt: &HostRuntime, words: &[&str]) -> Result<ExitCode> {
+    let words = split(rt.alloc(), words)?;
+    let below = help_below(rt.alloc())?;
+    match parse(rt.alloc(), below.as_str(), &words)? {
         Command::Extract(arguments) => extract(rt, &arguments),
         Command::Say(error) => match error.print(rt) {
             Err(failure) if failure.kind() != io::ErrorKind::BrokenPipe => Err(failure.into()),
@@ -100,6 +109,13 @@ fn print_rows(
         },
         None => None,
     };
+    if let Some(name) = first_output(rt, inputs_of(arguments)) {
+        return Ok(ended(
+            rt,
+            format_args!("{}: {IS_OUTPUT}", shown_name(name)),
+            MISUSED,
+        ));
+    }
     match print_all(rt, &mut parsers, arguments, column) {
         Ok(true) => Ok(ExitCode::SUCCESS),
         Ok(false) => Ok(ExitCode::from(FAILED)),

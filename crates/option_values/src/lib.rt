@@ -1,8 +1,14 @@
-//! Values of options as words of their own, for programs that read their command line with `clap`.
+//! What programs share that read a command line: arguments that need not be text (`words`), options wherever they stand
+//! (`parted`), whether an input is also the output (`output`), and here values of options as words of their own, for
+//! programs that read their command line with `clap`.
 //!
 //! `clap` leaves out an `=` between a letter and its value, so it reads `-e=x` as the value `x`. Other programs read
 //! `=x`, and so does `clap` if the value is a word of its own.
 #![tactic(auto)]
+
+pub mod output;
+pub mod parted;
+pub mod words;
 
 ghost use Rattle.std.specs.Prelude.{◌≡◌, ◌++◌, ◌<◌, IfOk, OnOk, map, slice_index, true};
 ghost use Rattle.option_values.specs.Splitting.{is_cluster, mode_after, mode_after_whole, split_words, words_of};

@@ -1,10 +1,16 @@
 //! What the arguments of the command line ask for.
+use option_values::parted::part_words;
+use option_values::words::{NotText, Word, texts};
+use std::alloc::{AllocError, Global};
 use std::fmt;
 
 /// The line that says how the program is called.
 pub const USAGE: &str =
-    "usage: replacer [-i] [-F] [--whole] [-n NUM] [--in-place[=SUFFIX]] replace PATTERN TEMPLATE [FILE..] | \
-split PATTERN [FILE..] | splitn PATTERN LIMIT [FILE..]";
+    "usage: replacer [OPTIONS] replace PATTERN TEMPLATE [FILE..] | split PATTERN [FILE..] | \
+splitn PATTERN LIMIT [FILE..]";
+
+/// The options that have a value, which is the next word.
+const VALUED: &[&str] = &["-n", "-e"];
 
 /// What `--help` prints below it.
 pub const HELP: &str = "
@@ -15,9 +21,12 @@ splitn   prints at most LIMIT fields of a line. The last one is the rest of it.
 In TEMPLATE, $1, $name and ${name} are what a group matched, $0 is the match, and $$ is a dollar. All else stays.
 Standard input is read if there is no file, and for the file `-`.
 
+An option stands anywhere before `--`. After that no word is an option, as in `replacer replace -- -x +x`.
+
 Options:
 -i       lets letters match in either case.
 -F       takes PATTERN as a text in which no character has a meaning of its own.
+-e PATTERN  is the pattern, which the command then goes without. It may begin with a hyphen.
 --whole  takes each file as one text, so that the pattern sees its line feeds.
 -n NUM   replaces only the first NUM matches of each file.
 --in-place[=SUFFIX]  prints nothing, but puts what would be printed of each file in its place. There must be files,
@@ -29,8 +38,8 @@ Options:
 --help   prints this, and nothing else.
 
 Status: 0 if the output was written, 1 if a file cannot be read, the output cannot be written or there is no memory,
-2 if the arguments, the pattern or the template are wrong. If the output is a pipe that is closed, the program ends with
-status 0.
+2 if the arguments, the pattern or the template are wrong, or a file that is read is also the output. No file is
+touched then. If the output is a pipe that is closed, the program ends with status 0.
 
 Examples:
 replacer replace '(?<year>[0-9]+)-(?<month>[0-9]+)' '$month.$year' dates
@@ -77,13 +86,22 @@ pub enum Target<'w> {
     Files(Option<&'w str>),
 }
 
-/// What the arguments ask for.
-#[derive(Clone, Copy, Debug)]
+/// The work that the arguments ask for.
+#[derive(Debug, Drop)]
 pub struct Arguments<'w> {
     pub request: Request<'w>,
     pub target: Target<'w>,
     /// The names of the inputs, in order; standard input if there are none.
-    pub files: &'w [&'w str],
+    pub files: Vec<&'w str>,
+}
+
+/// What the arguments ask for.
+#[derive(Debug, Drop)]
+pub enum Asked<'w> {
+    /// Print the help.
+    Help,
+    /// Replace, or print fields.
+    Work(Arguments<'w>),
 }
 
 /// Why the arguments are wrong.
@@ -91,14 +109,20 @@ pub struct Arguments<'w> {
 pub enum Misuse<'w> {
     /// There is no command.
     NoCommand,
-    /// This word is no option and no command.
+    /// There is no such command.
     NoSuch(&'w str),
+    /// There is no such option.
+    NoOption(&'w str),
+    /// This word is not UTF-8.
+    NotText(NotText<'w>),
     /// The command has too few arguments: it needs these.
     Short(&'static str),
     /// This word is not a number.
     NoNumber(&'w str),
-    /// The last word is `-n`.
-    NoLimit,
+    /// The last word is an option that needs this value.
+    NoValue(&'static str),
+    /// There are two patterns.
+    TwoPatterns,
     /// The matches to be replaced are limited, and the command replaces none.
     LimitOfFields,
     /// The suffix is empty or has a slash.
@@ -111,10 +135,16 @@ impl fmt::Display for Misuse<'_> {
     fn fmt<W: fmt::Write>(&self, f: &mut fmt::Formatter<W>) -> fmt::Result {
         match self {
             Misuse::NoCommand => write!(f, "one of replace, split and splitn is needed"),
-            Misuse::NoSuch(word) => write!(f, "there is no option and no command {word}"),
+            Misuse::NoSuch(word) => write!(f, "there is no command {word}"),
+            Misuse::NoOption(word) => write!(
+                f,
+                "there is no option {word}; after -- no word is one"
+            ),
+            Misuse::NotText(error) => write!(f, "{error}"),
             Misuse::Short(needs) => write!(f, "{needs}"),
             Misuse::NoNumber(word) => write!(f, "{word} is not a number, or too large"),
-            Misuse::NoLimit => write!(f, "-n needs a number"),
+            Misuse::NoValue(needs) => write!(f, "{needs}"),
+            Misuse::TwoPatterns => write!(f, "-e is given twice, and there is one pattern"),
             Misuse::LimitOfFields => write!(f, "-n is for replace; splitn has a limit"),
             Misuse::NoSuffix => write!(f, "--in-place= needs a suffix without a slash"),
             Misuse::NoFiles => write!(f, "--in-place needs the names of files, and - is none"),
@@ -122,9 +152,17 @@ impl fmt::Display for Misuse<'_> {
     }
 }
 
-/// The options, which are before the command.
+impl<'w> From<NotText<'w>> for Misuse<'w> {
+    fn from(error: NotText<'w>) -> Misuse<'w> {
+        Misuse::NotText(error)
+    }
+}
+
+/// The options.
 #[derive(Clone, Copy, Debug)]
 struct Options<'w> {
+    help: bool,
+    pattern: Option<&'w str>,
     fixed: bool,
     ignore_case: bool,
     whole: bool,
@@ -132,64 +170,109 @@ struct Options<'w> {
     target: Target<'w>,
 }
 
-/// Returns what the arguments ask for, or why they are wrong.
-pub fn parse<'w>(words: &'w [&'w str]) -> Result<Arguments<'w>, Misuse<'w>> {
-    let (options, words) = options_of(words)?;
-    let (pattern, command, files) = command_of(words)?;
-    if options.limit.is_some() && !matches!(command, Command::Replace(_)) {
-        return Err(Misuse::LimitOfFields);
-    }
-    if options.target != Target::Output && (files.is_empty() || files.contains(&"-")) {
-        return Err(Misuse::NoFiles);
-    }
-    let request = Request {
-        pattern,
-        fixed: options.fixed,
-        ignore_case: options.ignore_case,
-        command,
-        whole: options.whole,
-        limit: options.limit,
+/// Returns what the arguments ask for, or why they are wrong. The only other error is that allocation failed.
+pub fn parse<'w>(
+    alloc: Global,
+    words: &[Word<'w>],
+) -> Result<Result<Asked<'w>, Misuse<'w>>, AllocError> {
+    let parted = part_words(alloc, VALUED, words)?;
+    let options = match options_of(&parted.options) {
+        Ok(options) => options,
+        Err(misuse) => return Ok(Err(misuse)),
     };
-    Ok(Arguments {
-        request,
-        target: options.target,
-        files,
-    })
+    if options.help {
+        return Ok(Ok(Asked::Help));
+    }
+    let (request, files) = match request_of(options, &parted.operands) {
+        Ok(found) => found,
+        Err(misuse) => return Ok(Err(misuse)),
+    };
+    match texts(alloc, files)? {
+        Ok(files) => Ok(with_files(request, options.target, files)),
+        Err(error) => Ok(Err(Misuse::NotText(error))),
+    }
 }
 
-/// Returns the options, and the words from the command on.
-fn options_of<'w>(words: &'w [&'w str]) -> Result<(Options<'w>, &'w [&'w str]), Misuse<'w>> {
+/// Returns the work for these files. Standard input and no file have no place in which a result goes.
+fn with_files<'w>(
+    request: Request<'w>,
+    target: Target<'w>,
+    files: Vec<&'w str>,
+) -> Result<Asked<'w>, Misuse<'w>> {
+    if target != Target::Output && (files.is_empty() || files.contains(&"-")) {
+        return Err(Misuse::NoFiles);
+    }
+    Ok(Asked::Work(Arguments {
+        request,
+        target,
+        files,
+    }))
+}
+
+/// What the next word of the options is.
+#[derive(Clone, Copy)]
+enum Next {
+    Name,
+    /// The value of `-n`.
+    Limit,
+    /// The value of `-e`.
+    Pattern,
+}
+
+/// Reads the options with their values.
+fn options_of<'w>(words: &[Word<'w>]) -> Result<Options<'w>, Misuse<'w>> {
     let mut options = Options {
+        help: false,
+        pattern: None,
         fixed: false,
         ignore_case: false,
         whole: false,
         limit: None,
         target: Target::Output,
     };
-    let mut is_limit = false;
-    for (index, word) in words.iter().enumerate() {
-        match *word {
-            number if is_limit => {
-                options.limit = Some(number_of(number)?);
-                is_limit = false;
-            }
-            "-F" => options.fixed = true,
-            "-i" => options.ignore_case = true,
-            "--whole" => options.whole = true,
-            "-n" => is_limit = true,
-            "--in-place" => options.target = Target::Files(None),
-            other => match other.strip_prefix("--in-place=") {
-                Some(suffix) if is_suffix(suffix) => options.target = Target::Files(Some(suffix)),
-                Some(_) => return Err(Misuse::NoSuffix),
-                None => return Ok((options, &words[index..])),
-            },
-        }
+    let mut next = Next::Name;
+    for word in words {
+        next = read_option(&mut options, next, word.text()?)?;
     }
-    Err(if is_limit {
-        Misuse::NoLimit
-    } else {
-        Misuse::NoCommand
-    })
+    match next {
+        Next::Name => Ok(options),
+        Next::Limit => Err(Misuse::NoValue("-n needs a number")),
+        Next::Pattern => Err(Misuse::NoValue("-e needs a pattern")),
+    }
+}
+
+/// Reads a word of the options, and returns what the next one is.
+fn read_option<'w>(
+    options: &mut Options<'w>,
+    next: Next,
+    word: &'w str,
+) -> Result<Next, Misuse<'w>> {
+    match next {
+        Next::Limit => options.limit = Some(number_of(word)?),
+        Next::Pattern if options.pattern.is_some() => return Err(Misuse::TwoPatterns),
+        Next::Pattern => options.pattern = Some(word),
+        Next::Name => return read_name(options, word),
+    }
+    Ok(Next::Name)
+}
+
+/// Reads the name of an option, and returns what comes after it.
+fn read_name<'w>(options: &mut Options<'w>, word: &'w str) -> Result<Next, Misuse<'w>> {
+    match word {
+        "--help" => options.help = true,
+        "-F" => options.fixed = true,
+        "-i" => options.ignore_case = true,
+        "--whole" => options.whole = true,
+        "-n" => return Ok(Next::Limit),
+        "-e" => return Ok(Next::Pattern),
+        "--in-place" => options.target = Target::Files(None),
+        other => match other.strip_prefix("--in-place=") {
+            Some(suffix) if is_suffix(suffix) => options.target = Target::Files(Some(suffix)),
+            Some(_) => return Err(Misuse::NoSuffix),
+            None => return Err(Misuse::NoOption(word)),
+        },
+    }
+    Ok(Next::Name)
 }
 
 /// Returns the number that the word says.
@@ -205,22 +288,56 @@ fn is_suffix(suffix: &str) -> bool {
     !suffix.is_empty() && !suffix.contains('/')
 }
 
-/// Returns the pattern, the command, and the names of files.
-fn command_of<'w>(
-    words: &'w [&'w str],
-) -> Result<(&'w str, Command<'w>, &'w [&'w str]), Misuse<'w>> {
-    match words {
-        ["replace", pattern, template, files @ ..] => {
-            Ok((pattern, Command::Replace(template.as_bytes()), files))
-        }
-        ["split", pattern, files @ ..] => Ok((pattern, Command::Split, files)),
-        ["splitn", pattern, limit, files @ ..] => {
-            Ok((pattern, Command::SplitN(number_of(limit)?), files))
-        }
-        ["replace", ..] => Err(Misuse::Short("replace needs PATTERN and TEMPLATE")),
-        ["split"] => Err(Misuse::Short("split needs PATTERN")),
-        ["splitn", ..] => Err(Misuse::Short("splitn needs PATTERN and LIMIT")),
-        [word, ..] => Err(Misuse::NoSuch(word)),
-        [] => Err(Misuse::NoCommand),
+/// Returns what is to be done, and the words that name files.
+fn request_of<'p, 'w>(
+    options: Options<'w>,
+    words: &'p [Word<'w>],
+) -> Result<(Request<'w>, &'p [Word<'w>]), Misuse<'w>> {
+    let (name, words) = match words {
+        [name, words @ ..] => (name.text()?, words),
+        [] => return Err(Misuse::NoCommand),
+    };
+    let needs = needs_of(name)?;
+    let (pattern, words) = match (options.pattern, words) {
+        (Some(pattern), words) => (pattern, words),
+        (None, [pattern, words @ ..]) => (pattern.text()?, words),
+        (None, []) => return Err(Misuse::Short(needs)),
+    };
+    let (command, files) = command_of(name, needs, words)?;
+    if options.limit.is_some() && !matches!(command, Command::Replace(_)) {
+        return Err(Misuse::LimitOfFields);
+    }
+    let request = Request {
+        pattern,
+        fixed: options.fixed,
+        ignore_case: options.ignore_case,
+        command,
+        whole: options.whole,
+        limit: options.limit,
+    };
+    Ok((request, files))
+}
+
+/// Returns what the command of this name needs.
+fn needs_of<'w>(name: &'w str) -> Result<&'static str, Misuse<'w>> {
+    match name {
+        "replace" => Ok("replace needs PATTERN and TEMPLATE"),
+        "split" => Ok("split needs PATTERN"),
+        "splitn" => Ok("splitn needs PATTERN and LIMIT"),
+        _ => Err(Misuse::NoSuch(name)),
+    }
+}
+
+/// Returns the command of this name, and the words that name files. These words are after its pattern.
+fn command_of<'p, 'w>(
+    name: &'w str,
+    needs: &'static str,
+    words: &'p [Word<'w>],
+) -> Result<(Command<'w>, &'p [Word<'w>]), Misuse<'w>> {
+    match (name, words) {
+        ("split", files) => Ok((Command::Split, files)),
+        ("replace", [template, files @ ..]) => Ok((Command::Replace(template.bytes), files)),
+        (_, [limit, files @ ..]) => Ok((Command::SplitN(number_of(limit.text()?)?), files)),
+        (_, []) => Err(Misuse::Short(needs)),
     }
 }

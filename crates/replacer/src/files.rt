@@ -1,24 +1,20 @@
 //! The inputs that the arguments name.
 use crate::job::Job;
+use option_values::output::shown_name;
 use std::alloc::Global;
 use std::io::{BufReader, BufWriter, Read, Write};
 use std::{fs, io};
 use text_lines::failure::Failure;
 
-/// Does the job for these inputs, in order, or for standard input if there are none. An input that cannot be read, or
-/// that has a line for which there is no memory, is named on standard error, and the next one is read. Returns whether
-/// there was such an input.
+/// Does the job for these inputs, in order. An input that cannot be read, or that has a line for which there is no
+/// memory, is named on standard error, and the next one is read. Returns whether there was such an input.
 ///
 /// Fails if the output cannot be written or allocation failed.
 pub fn print_files(rt: &HostRuntime, job: &mut Job<'_>, names: &[&str]) -> Result<bool, Failure> {
     let Ok(mut out) = BufWriter::new(rt.alloc(), io::writer(rt)) else {
         return Err(Failure::Memory);
     };
-    let failed = if names.is_empty() {
-        print_each(rt, job, &["-"], &mut out)?
-    } else {
-        print_each(rt, job, names, &mut out)?
-    };
+    let failed = print_each(rt, job, names, &mut out)?;
     match out.flush() {
         Ok(()) => Ok(failed),
         Err(error) => Err(Failure::Write(error)),
@@ -40,11 +36,7 @@ fn print_each<W: Write>(
             }
             failed = true;
             // The status says so even if the line cannot be written.
-            let shown = if *name == "-" {
-                "(standard input)"
-            } else {
-                name
-            };
+            let shown = shown_name(name);
             let _ = eprintln!(rt; "replacer: {shown}: {error}");
         }
     }

@@ -15,13 +15,14 @@ mod pattern;
 mod replace;
 mod shown;
 
-use crate::command::{Arguments, Command, HELP, Misuse, Target, USAGE, parse};
+use crate::command::{Arguments, Asked, Command, HELP, Misuse, Target, USAGE, parse};
 use crate::files::print_files;
 use crate::hint::{HINT, has_foreign};
 use crate::in_place::replace_files;
 use crate::job::{Job, Mistake};
 use anyhow::Result;
-use std::env;
+use option_values::output::{IS_OUTPUT, first_output, shown_name};
+use option_values::words::{arguments, words};
 use std::fmt::Display;
 use std::io::ErrorKind;
 use std::process::ExitCode;
@@ -32,6 +33,9 @@ const FAILED: u8 = 1;
 
 /// The arguments are not those of a command, or the pattern or the template cannot be read.
 const MISUSED: u8 = 2;
+
+/// The names of the inputs if none is given.
+const STANDARD_INPUT: &[&str] = &["-"];
 
 fn main(rt: HostRuntime) -> ExitCode {
     match answer(&rt) {
@@ -45,22 +49,23 @@ fn main(rt: HostRuntime) -> ExitCode {
 }
 
 fn answer(rt: &HostRuntime) -> Result<ExitCode> {
-    let alloc = rt.alloc();
-    let arguments: Vec<String> = env::args(rt)?.skip(1).collect(alloc)?;
-    let words: Vec<&str> = arguments.iter().map(|word| word.as_str()).collect(alloc)?;
-    if let ["--help", ..] = words.as_slice() {
-        return match println!(rt; "{USAGE}\n{HELP}") {
-            Err(error) if error.kind() != ErrorKind::BrokenPipe => Err(error.into()),
-            _ => Ok(ExitCode::SUCCESS),
-        };
-    }
-    match parse(&words) {
-        Ok(arguments) => run(rt, arguments),
+    let arguments = arguments(rt)?;
+    let words = words(rt.alloc(), &arguments)?;
+    match parse(rt.alloc(), &words)? {
+        Ok(Asked::Help) => help(rt),
+        Ok(Asked::Work(arguments)) => run(rt, &arguments),
         Err(misuse) => Ok(confused(rt, misuse)),
     }
 }
 
-fn run(rt: &HostRuntime, arguments: Arguments<'_>) -> Result<ExitCode> {
+fn help(rt: &HostRuntime) -> Result<ExitCode> {
+    match println!(rt; "{USAGE}\n{HELP}") {
+        Err(error) if error.kind() != ErrorKind::BrokenPipe => Err(error.into()),
+        _ => Ok(ExitCode::SUCCESS),
+    }
+}
+
+fn run(rt: &HostRuntime, arguments: &Arguments<'_>) -> Result<ExitCode> {
     let mut job = match Job::new(rt.alloc(), arguments.request) {
         Ok(job) => job,
         Err(Mistake::Memory) => return Err(Mistake::Memory.into()),
@@ -72,15 +77,31 @@ fn run(rt: &HostRuntime, arguments: Arguments<'_>) -> Result<ExitCode> {
             let _ = eprintln!(rt; "replacer: {HINT}");
         }
     }
+    let names = inputs_of(arguments);
     let printed = match arguments.target {
-        Target::Output => print_files(rt, &mut job, arguments.files),
-        Target::Files(suffix) => Ok(replace_files(rt, &mut job, arguments.files, suffix)),
+        Target::Output => {
+            if let Some(name) = first_output(rt, names) {
+                let shown = shown_name(name);
+                return Ok(misused(rt, format_args!("replacer: {shown}: {IS_OUTPUT}")));
+            }
+            print_files(rt, &mut job, names)
+        }
+        Target::Files(suffix) => Ok(replace_files(rt, &mut job, names, suffix)),
     };
     match printed {
         Ok(false) => Ok(ExitCode::SUCCESS),
         Ok(true) => Ok(ExitCode::from(FAILED)),
         Err(error) if is_closed_pipe(&error) => Ok(ExitCode::SUCCESS),
         Err(error) => Err(error.into()),
+    }
+}
+
+/// Returns the names of the inputs.
+fn inputs_of<'a, 'w>(arguments: &'a Arguments<'w>) -> &'a [&'w str] {
+    if arguments.files.is_empty() {
+        STANDARD_INPUT
+    } else {
+        &arguments.files
     }
 }
 
