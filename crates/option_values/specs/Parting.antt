@@ -1,5 +1,6 @@
 -- Options of a command line, and the words among which they stand.
-use Rattle.std.specs.Prelude.{ℕ, Bool, Bor, ◌==◌, ◌<◌, ◌&&◌, if◌then◌else◌, List, [], ◌∷◌, ◌++◌, length, codes, slice_index}
+use Rattle.std.specs.Prelude.{ℕ, Bool, ◌==◌, ◌&&◌, if◌then◌else◌, List, [], ◌∷◌, ◌++◌, length, codes, nat_lt, slice_index_or}
+use Rattle.std.specs.Borrow.{Bor}
 use Rattle.std.specs.List.{list_any}
 use Rattle.std.specs.Str.{bytes_eq}
 use Rattle.option_values.specs.Splitting.{hyphen}
@@ -13,7 +14,7 @@ is_end word = bytes_eq word (codes "--")
 
 -- whether the word begins with a hyphen, and has more bytes
 abbrev pub is_option : List ℕ → Bool
-is_option word = (1 < length word) && (slice_index word 0 == hyphen)
+is_option word = nat_lt 1 (length word) && (slice_index_or word 0 0 == hyphen)
 
 -- whether the word is one of these names
 abbrev pub is_one_of : List (Bor (List ℕ)) → List ℕ → Bool
