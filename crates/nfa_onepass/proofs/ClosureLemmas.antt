@@ -1,6 +1,6 @@
 -- The search for the only way from a state: each way was found, or goes on from a thread that waits.
 use Rattle.std.specs.Global.{Vec}
-use Rattle.nfa_paths.proofs.Common.{◌≡◌, ◌∙◌, ℕ, ◌≤◌, ◌<◌, ◌⊎◌, inl, inr, List, [], ◌∷◌, ◌++◌, map, length, refl, sym, ap, subst, arith, rules, append-nil, append_assoc, All, IfSome, Option, None, Some, none-some, Automaton, Node, LeadsBelow, In, node_at, pattern_of, slot_of, Look, Union, BinaryUnion, Capture, ByteRange, Sparse, Dense, Fail}
+use Rattle.nfa_paths.proofs.Common.{◌≡◌, ◌∙◌, ℕ, ◌≤◌, ◌<◌, ◌⊎◌, inl, inr, List, [], ◌∷◌, ◌++◌, length, refl, sym, ap, subst, arith, append-nil, append_assoc, IfSome, Option, None, Some, none-some, Automaton, Node, LeadsBelow, In, node_at, Look, Union, BinaryUnion, Capture, ByteRange, Sparse, Dense, Fail}
 use Rattle.thompson_nfa.specs.Automaton.Node.{Match}
 use Rattle.nfa_paths.proofs.MemberLemmas.{In-append, In-append_left, In-append_right, In-map, All-In, same_some}
 use Rattle.nfa_onepass.specs.Ways.{IsSure, Way, free_states, goal_of, here, over, written}

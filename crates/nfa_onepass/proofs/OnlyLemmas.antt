@@ -1,5 +1,5 @@
 -- The path that a search answers is one of those over the span of its match.
-use Rattle.nfa_paths.proofs.Common.{◌≡◌, ◌∙◌, ℕ, zero, suc, ◌+◌, inl, inr, Bool, false, List, [], ◌∷◌, refl, sym, ap, subst, Option, None, Some, option_and_then, Automaton, Found, HeadIs, In, IsAnswer, IsAutomaton, IsFindAnswer, IsMatch, IsSearchAnswer, LeftmostFirst, Pair, PathTo, Search, edges, match_of, node_at, pairs_from, path_pattern, pattern_of, raised, slot_count, slot_row, start_state, starts, start_count}
+use Rattle.nfa_paths.proofs.Common.{◌≡◌, ◌∙◌, ℕ, zero, suc, ◌+◌, inl, inr, false, List, refl, sym, ap, subst, Option, None, Some, option_and_then, Automaton, Found, HeadIs, In, IsAnswer, IsAutomaton, IsFindAnswer, IsSearchAnswer, LeftmostFirst, Pair, Search, match_of, node_at, pairs_from, path_pattern, pattern_of, raised, slot_count, slot_row, start_state, starts, start_count}
 use Rattle.nfa_paths.proofs.PathToLemmas.{EndsWith-last}
 use Rattle.nfa_paths.proofs.StartLemmas.{raised-zero}
 use Rattle.nfa_engines.specs.SpanLaws.{SearchMayBeCut, cut_to, same}

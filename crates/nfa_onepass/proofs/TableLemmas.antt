@@ -1,9 +1,9 @@
 -- A table that grows keeps its steps, and a walk that takes one goes on.
 use Rattle.std.specs.Global.{Vec}
-use Rattle.nfa_paths.proofs.Common.{◌≡◌, ◌∙◌, ℕ, zero, suc, ◌+◌, ◌≤◌, ◌<◌, ◌⊎◌, inl, inr, List, [], ◌∷◌, ◌++◌, replicate, slice_get, slice_set, slice_index_or, get_or_from_slice_get, none-some, refl, sym, ap, subst, arith, length, Option, None, Some, option_map, Automaton, Search, Slots, byte_at, start_state, length-replicate}
+use Rattle.nfa_paths.proofs.Common.{◌≡◌, ◌∙◌, ℕ, zero, suc, ◌+◌, ◌<◌, ◌⊎◌, inl, inr, List, [], ◌∷◌, ◌++◌, replicate, slice_get, slice_set, slice_index_or, get_or_from_slice_get, none-some, refl, sym, ap, subst, arith, length, Option, None, Some, option_map, Automaton, Search, Slots, byte_at, start_state, length-replicate}
 use Rattle.nfa_paths.proofs.MemberLemmas.{same_some}
 use Rattle.nfa_onepass.specs.Ways.{IsOnWay, IsOnly, IsSure, write_each}
-use Rattle.nfa_onepass.specs.Tables.{HasEmptyList, IsAddedIf, IsFor, IsFresh, IsStep, IsWalking, Keeps, KeepsRows, Takes, byte_of, list_at, state_at}
+use Rattle.nfa_onepass.specs.Tables.{HasEmptyList, IsFor, IsFresh, IsStep, IsWalking, Keeps, KeepsRows, Takes, byte_of, list_at, state_at}
 use Rattle.nfa_onepass.specs.declared.table.Cell.{Cell}
 use Rattle.nfa_onepass.specs.declared.table.OnePass.{OnePass}
 use Rattle.nfa_onepass.specs.declared.table.Row.{Row}

@@ -1,10 +1,10 @@
 -- How a list of pairs that follows edges goes on from a state: by a way without a byte, and then over a byte, or to a
 -- Match.
-use Rattle.nfa_paths.proofs.Common.{◌≡◌, ◌∙◌, ℕ, ◌+◌, ◌<◌, ◌⊎◌, inl, inr, Bool, true, false, List, [], ◌∷◌, ◌++◌, map, length, replicate, refl, sym, ap, subst, arith, rules, length-set, set_past, Option, None, Some, is_some, option_to_list, option_and_then, option_map, none-some, IsMatch, slice_set, cases_Bool, Search, Automaton, Node, Pair, In, HeadIs, Linked, EndsWith, Slots, apply, write, Holding, holding_at, epsilon_states, rests, node_at, capture, edges, byte_at, target_on, pattern_of, slot_of, start_state, is_match, slot_row, Look}
+use Rattle.nfa_paths.proofs.Common.{◌≡◌, ◌∙◌, ℕ, ◌+◌, ◌⊎◌, inl, inr, true, List, [], ◌∷◌, ◌++◌, map, length, replicate, refl, sym, ap, subst, arith, length-set, Option, None, Some, is_some, option_to_list, option_and_then, option_map, none-some, slice_set, cases_Bool, Search, Automaton, Node, Pair, In, Slots, apply, write, Holding, holding_at, epsilon_states, rests, node_at, capture, edges, byte_at, target_on, pattern_of, slot_of, start_state, slot_row, Look}
 use Rattle.nfa_paths.proofs.StartLemmas.{resting-edges, epsilon-edges, byte_at-within, byte_pairs, IsMatch-capture, resting-capture}
 use Rattle.nfa_paths.proofs.AnswerLemmas.{apply-slot_row}
 use Rattle.nfa_paths.proofs.MemberLemmas.{same_some}
-use Rattle.nfa_onepass.specs.Ways.{IsOnWay, IsOnly, IsSure, IsTail, Way, free_states, goal_of, here, over, write_each, written}
+use Rattle.nfa_onepass.specs.Ways.{IsOnWay, IsOnly, IsSure, IsTail, Way, free_states, here, over, write_each, written}
 
 -- an element of a mapped list comes from one of the list
 pub In-mapped : {A B : Type 0} (f : A → B) (xs : List A) (y : B) → In y (map f xs) → (x : A) × In x xs × (y ≡ f x)

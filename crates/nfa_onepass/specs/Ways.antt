@@ -1,5 +1,5 @@
 -- Ways from a state without a byte, and steps over a byte that are sure: only one way leads to a state that reads it.
-use Rattle.std.specs.Prelude.{◌≡◌, ℕ, Bool, true, List, [], ◌∷◌, ◌++◌, length, Option, None, Some, slice_set}
+use Rattle.std.specs.Prelude.{◌≡◌, ℕ, true, List, [], ◌∷◌, ◌++◌, length, Option, None, Some, slice_set}
 use Rattle.std.specs.Option.{option_to_list}
 use Rattle.thompson_nfa.specs.Automaton.{Automaton, Node}
 use Rattle.thompson_nfa.specs.Flaws.{pattern_of, slot_of}

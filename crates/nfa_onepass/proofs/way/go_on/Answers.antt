@@ -1,5 +1,5 @@
 -- The threads that were pushed are those of the state that was read.
-use Rattle.nfa_paths.proofs.Common.{◌≡◌, ◌∙◌, ◌++◌, List, ℕ, ap, sym, arith, node_of, node_at}
+use Rattle.nfa_paths.proofs.Common.{◌≡◌, ◌∙◌, ◌++◌, ap, sym, arith, node_of, node_at}
 use Rattle.nfa_paths.proofs.StartLemmas.{node_at-get}
 use Rattle.thompson_nfa.specs.Automaton.{Node}
 use Rattle.nfa_onepass.specs.Ways.{free_states, written}

@@ -1,5 +1,5 @@
 -- Each thread that is taken from the stack is the end of a way, or gives way to those that it leads to.
-use Rattle.nfa_paths.proofs.Common.{◌≡◌, ◌∙◌, ◌++◌, ◌-◌, ◌<◌, List, [], ℕ, Bool, false, is_some, ap, sym, subst, arith, take, length, Option, None, Some, option_to_list, LeadsBelow, Node, node_of, node_at, refl}
+use Rattle.nfa_paths.proofs.Common.{◌≡◌, ◌∙◌, ◌++◌, ◌-◌, List, [], ℕ, false, is_some, ap, sym, subst, arith, take, length, Option, None, Some, option_to_list, LeadsBelow, Node, node_of, node_at, refl}
 use Rattle.nfa_paths.proofs.StartLemmas.{node_at-get}
 use Rattle.nfa_onepass.specs.Ways.{goal_of}
 use Rattle.nfa_onepass.specs.declared.way.WayEnd.{WayEnd}
