@@ -94,6 +94,11 @@ impl<'a> Trio<'a> {
     }
 }
 
+// Whether the span begins or ends where the haystack does.
+fn is_at_edge(input: &Input<'_>) -> bool {
+    input.start() == 0 || input.end() == input.haystack().len()
+}
+
 // Adds the answers to one search to the sum. All engines have to agree.
 fn fold_search(
     rt: &impl TestRuntime,
@@ -105,12 +110,19 @@ fn fold_search(
     let piked = sum_piked(&trio.vm, input, shared);
     let chosen = sum_chosen(&mut trio.choice, input, shared);
     assert_eq!(rt; chosen, piked, "{input:?}");
-    let captured = expect_piked_alike(rt, &trio.vm, input, shared);
+    // The other calls take most of the time, so not each span is theirs.
+    let captured = if is_at_edge(input) {
+        Some(expect_piked_alike(rt, &trio.vm, input, shared))
+    } else {
+        None
+    };
     if trio.is_leftmost() && !input.get_earliest() {
         let backtracked = sum_backtracked(rt, trio.back, input, shared);
         assert_eq!(rt; backtracked, piked, "{input:?}");
-        let backtracked = expect_backtracked_alike(rt, trio.back, input, shared);
-        assert_eq!(rt; backtracked, captured, "{input:?}");
+        if let Some(captured) = captured {
+            let backtracked = expect_backtracked_alike(rt, trio.back, input, shared);
+            assert_eq!(rt; backtracked, captured, "{input:?}");
+        }
     }
     let sum = fold(sum, piked);
     let set = sum_of_set(rt, &trio.vm, &mut shared.threads, input);
