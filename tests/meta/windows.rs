@@ -86,7 +86,7 @@ fn expect_group(
     assert_eq!(rt; found, Some(span));
 }
 
-// The NFA has only the two slots of a match.
+// The NFA has only the two slots of a match. Sure steps fill three, and the choice if a step is not sure.
 #[test]
 fn the_lazy_dfa_fills_two_slots(rt: HostRuntime) -> Result<(), Fail> {
     let mut regex = Regex::new(rt.alloc(), "foo[0-9]+")?;
@@ -95,7 +95,10 @@ fn the_lazy_dfa_fills_two_slots(rt: HostRuntime) -> Result<(), Fail> {
     expect_group(&rt, &mut regex, b"foo1 foo2", 0, (0, 4));
     assert_eq!(rt; regex.ran(), None);
     regex.search_slots(&Input::new(b"a foo12"), &mut [None; 3]);
-    assert_eq!(rt; regex.ran(), Some(Engine::Backtracker));
+    assert_eq!(rt; regex.ran(), None);
+    let mut unsure = Regex::new(rt.alloc(), "foo[0-9]*[0-9]")?;
+    unsure.search_slots(&Input::new(b"a foo12"), &mut [None; 3]);
+    assert_eq!(rt; unsure.ran(), Some(Engine::Backtracker));
     Ok(())
 }
 
@@ -142,16 +145,17 @@ fn matches_begin_with_a_prefix(rt: HostRuntime) -> Result<(), Fail> {
 
 const FILL: usize = 1_000_000;
 
-// The haystack is too long for the backtracker, and the window is not. The lazy DFA finds the bounds by itself.
+// The haystack is too long for the backtracker, and the window is not. The lazy DFA finds the bounds by itself. A digit
+// may belong to either group, so its step is not sure.
 #[test]
 fn the_choice_searches_the_window(rt: HostRuntime) -> Result<(), Fail> {
-    let mut regex = Regex::new(rt.alloc(), "foo([0-9]+)")?;
+    let mut regex = Regex::new(rt.alloc(), "foo([0-9]*)([0-9])")?;
     let mut text = vec![in rt.alloc(); b'x'; FILL]?;
     text.extend_from_slice(b"foo12")?;
     let found = FILL..FILL + 5;
     expect_range(&rt, &mut regex, Input::new(&text), Some(found));
     assert_eq!(rt; regex.ran(), None);
-    expect_group(&rt, &mut regex, &text, 1, (FILL + 3, FILL + 5));
+    expect_group(&rt, &mut regex, &text, 1, (FILL + 3, FILL + 4));
     assert_eq!(rt; regex.ran(), Some(Engine::Backtracker));
     Ok(())
 }
