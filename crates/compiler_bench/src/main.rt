@@ -1,6 +1,7 @@
 //! Searches standard input for a pattern over and over, to be timed: with one of our engines or with the crate regex.
 #![tactic(auto)]
 
+mod call;
 mod speed;
 
 use std::io::BufWriter;

@@ -1,13 +1,13 @@
-//! What the program does: goes over all matches in its input, or their captures, over and over, with one of our
-//! engines or with the crate regex; or prints the number of states.
+//! What the program does: makes a call on its input over and over, with one of our engines or with the crate regex; or
+//! prints the number of states.
 ghost use Rattle.std.specs.Prelude.{◌≤◌, IfOk};
 
+use crate::call::Call;
 use named_engine::{Engine, Failure, read_haystack};
 use nfa_compiler::{CompileError, Compiler};
-use nfa_engines::Input;
 use nfa_engines::error::SearchError;
-use nfa_meta::Regex as Meta;
-use regex::bytes::{Matcher, Regex};
+use nfa_meta::{BuildError, Regex as Meta};
+use regex::bytes::Regex;
 use std::alloc::{AllocError, Global};
 use std::io::{Read, Write};
 use std::{fmt, io};
@@ -69,8 +69,8 @@ fn count<R: Read>(alloc: Global, words: &[&str], text: &mut R) -> Result<u64, St
     let rounds = rounds.parse::<u64>().ok().ok_or(Stop::Usage)?;
     let bytes = read_haystack(alloc, text)?;
     match finder {
-        Finder::Regex(items) => regex_rounds(alloc, pattern, &bytes, rounds, items),
-        Finder::Meta(items) => meta_rounds(alloc, pattern, &bytes, rounds, items),
+        Finder::Regex(call) => regex_rounds(alloc, pattern, &bytes, rounds, call),
+        Finder::Meta(call) => meta_rounds(alloc, pattern, &bytes, rounds, call),
         Finder::Ours(engine) => {
             let count = engine.count_matches(alloc, compiled(alloc, pattern)?, &bytes, rounds)?;
             Ok(count)
@@ -88,103 +88,56 @@ fn compiled(alloc: Global, pattern: &str) -> Result<NFA, Stop> {
     Ok(nfa)
 }
 
-/// The matches of the last round, with one matcher for all rounds.
+/// The count of the last round, with one matcher for all rounds.
 fn regex_rounds(
     alloc: Global,
     pattern: &str,
     text: &[u8],
     rounds: u64,
-    items: Items,
+    call: Call,
 ) -> Result<u64, Stop> {
     let regex = Regex::new(alloc, pattern)?;
     let mut matcher = regex.matcher(alloc)?;
     let mut count = 0;
     for _ in 0..rounds {
-        count = match items {
-            Items::Matches => count_matched(&mut matcher, text),
-            Items::Captures => count_captured(&mut matcher, text),
-        };
+        count = call.of_matcher(alloc, &mut matcher, text)?;
     }
     Ok(count)
 }
 
-/// The matches of the last round, with one engine of `nfa_meta` for all rounds.
+/// The count of the last round, with one engine of `nfa_meta` for all rounds.
 fn meta_rounds(
     alloc: Global,
     pattern: &str,
     text: &[u8],
     rounds: u64,
-    items: Items,
+    call: Call,
 ) -> Result<u64, Stop> {
-    let mut meta = Meta::new_from_nfa(alloc, compiled(alloc, pattern)?)?;
+    let mut meta = Meta::new(alloc, pattern)?;
     let mut count = 0;
     for _ in 0..rounds {
-        count = match items {
-            Items::Matches => count_found(&mut meta, text),
-            Items::Captures => count_caught(alloc, &mut meta, text)?,
-        };
+        count = call.of_meta(alloc, &mut meta, text)?;
     }
     Ok(count)
 }
 
-fn count_found(meta: &mut Meta, text: &[u8]) -> u64 {
-    meta.find_iter(Input::new(text)).count() as u64
-}
-
-fn count_caught(alloc: Global, meta: &mut Meta, text: &[u8]) -> Result<u64, Stop> {
-    let mut count = 0u64;
-    for captures in meta.captures_iter(alloc, Input::new(text))? {
-        captures?;
-        count = count.wrapping_add(1);
-    }
-    Ok(count)
-}
-
-fn count_captured(matcher: &mut Matcher<'_>, text: &[u8]) -> u64 {
-    let mut found = matcher.captures_iter(text);
-    let mut count = 0u64;
-    // A pass finds at most one match at each offset.
-    for _ in 0..=text.len() {
-        if found.next().is_none() {
-            break;
-        }
-        count = count.wrapping_add(1);
-    }
-    count
-}
-
-fn count_matched(matcher: &mut Matcher<'_>, text: &[u8]) -> u64 {
-    let mut count = 0u64;
-    for _ in matcher.find_iter(text) {
-        count = count.wrapping_add(1);
-    }
-    count
-}
-
-/// What searches.
+/// What searches, and by which call.
 #[derive(Clone, Copy, Debug)]
 enum Finder {
     Ours(Engine),
-    Meta(Items),
-    Regex(Items),
-}
-
-/// What a round goes over.
-#[derive(Clone, Copy, Debug)]
-enum Items {
-    Matches,
-    Captures,
+    Meta(Call),
+    Regex(Call),
 }
 
 impl Finder {
     fn from_word(word: &str) -> Option<Finder> {
-        match word {
-            "meta" => Some(Finder::Meta(Items::Matches)),
-            "regex" => Some(Finder::Regex(Items::Matches)),
-            "meta-captures" => Some(Finder::Meta(Items::Captures)),
-            "regex-captures" => Some(Finder::Regex(Items::Captures)),
-            _ => Engine::from_word(word).map(Finder::Ours),
+        if let Some(call) = word.strip_prefix("meta") {
+            return Call::from_word(call).map(Finder::Meta);
         }
+        if let Some(call) = word.strip_prefix("regex") {
+            return Call::from_word(call).map(Finder::Regex);
+        }
+        Engine::from_word(word).map(Finder::Ours)
     }
 }
 
@@ -213,7 +166,7 @@ impl fmt::Display for Stop {
         match self {
             Stop::Usage => {
                 f.write_str(
-                    "usage: compiler-bench [back|pike|meta[-captures]|regex[-captures] PATTERN ROUNDS|states PATTERN]",
+                    "usage: compiler-bench [back|pike|meta[-CALL]|regex[-CALL] PATTERN ROUNDS|states PATTERN]",
                 )
             }
             Stop::Pattern(error) => write!(f, "{error}"),
@@ -226,6 +179,15 @@ impl fmt::Display for Stop {
 impl From<CompileError> for Stop {
     fn from(error: CompileError) -> Stop {
         Stop::Pattern(error)
+    }
+}
+
+impl From<BuildError> for Stop {
+    fn from(error: BuildError) -> Stop {
+        match error {
+            BuildError::Memory => Stop::Failed(Failure::Memory),
+            BuildError::Compile(error) => Stop::Pattern(error),
+        }
     }
 }
 

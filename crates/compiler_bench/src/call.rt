@@ -1,0 +1,88 @@
+//! What a round does with a text: a call of `nfa_meta::Regex`, and the one of the crate regex that does the same.
+
+use named_engine::Failure;
+use nfa_engines::Input;
+use nfa_meta::Regex as Meta;
+use regex::bytes::{Matcher, Template};
+use std::alloc::Global;
+
+/// A call on a whole text.
+#[derive(Clone, Copy, Debug)]
+pub enum Call {
+    FindIter,
+    CapturesIter,
+    IsMatch,
+    Find,
+    Split,
+    ReplaceAll,
+}
+
+impl Call {
+    /// Returns the call that follows the engine in an argument, or `find_iter` if nothing follows.
+    pub fn from_word(word: &str) -> Option<Call> {
+        match word {
+            "" => Some(Call::FindIter),
+            "-captures" => Some(Call::CapturesIter),
+            "-is-match" => Some(Call::IsMatch),
+            "-find" => Some(Call::Find),
+            "-split" => Some(Call::Split),
+            "-replace" => Some(Call::ReplaceAll),
+            _ => None,
+        }
+    }
+
+    /// Makes the call, and returns the number of items, the end of the match, or the length of the text that is made.
+    pub fn of_meta(self, alloc: Global, meta: &mut Meta, text: &[u8]) -> Result<u64, Failure> {
+        let input = Input::new(text);
+        match self {
+            Call::FindIter => Ok(meta.find_iter(input).count() as u64),
+            Call::CapturesIter => count_captures(alloc, meta, text),
+            Call::IsMatch => Ok(meta.is_match(input) as u64),
+            Call::Find => Ok(meta.find(input).map_or(0, |found| found.end() as u64)),
+            Call::Split => Ok(meta.split_all(alloc, text)?.len() as u64),
+            Call::ReplaceAll => Ok(meta.replace_all(alloc, text, b"-")?.len() as u64),
+        }
+    }
+
+    /// The same by the crate regex.
+    pub fn of_matcher(
+        self,
+        alloc: Global,
+        matcher: &mut Matcher<'_>,
+        text: &[u8],
+    ) -> Result<u64, Failure> {
+        match self {
+            Call::FindIter => Ok(matcher.find_iter(text).count() as u64),
+            Call::CapturesIter => Ok(count_captured(matcher, text)),
+            Call::IsMatch => Ok(matcher.is_match(text) as u64),
+            Call::Find => Ok(matcher.find(text).map_or(0, |found| found.end() as u64)),
+            Call::Split => Ok(matcher.split(text).count() as u64),
+            Call::ReplaceAll => {
+                let template = Template::literal(alloc, b"-")?;
+                Ok(matcher.replace_all(alloc, text, &template)?.len() as u64)
+            }
+        }
+    }
+}
+
+fn count_captures(alloc: Global, meta: &mut Meta, text: &[u8]) -> Result<u64, Failure> {
+    let mut count = 0u64;
+    for captures in meta.captures_iter(alloc, Input::new(text))? {
+        captures?;
+        count = count.wrapping_add(1);
+    }
+    Ok(count)
+}
+
+fn count_captured(matcher: &mut Matcher<'_>, text: &[u8]) -> u64 {
+    let mut found = matcher.captures_iter(text);
+    let mut count = 0u64;
+    // A pass finds at most one match at each offset.
+    for _ in 0..=text.len() {
+        if found.next().is_none() {
+            break;
+        }
+        count = count.wrapping_add(1);
+    }
+    count
+}
