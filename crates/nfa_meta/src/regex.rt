@@ -303,15 +303,7 @@ impl Regex {
         ensures holds { HoldsNoMore (2 * length self.old.nfa.groups) self.old.back self.new.back }
         ensures keeps { KeepsEngines self.old self.new }
     {
-        if let Some(found) = self.find_anchored(input) {
-            return found;
-        }
-        if let Some(found) = self.find_at_first(input) {
-            return Some(found);
-        }
-        let found = self.find_by_window(input);
-        self.matched_at_first = self.is_at_first(&input, found);
-        found
+        self.find_by_ref(&input)
     }
 
     /// Searches, and writes byte offsets to the slots, as both engines of the [`Choice`] do. Any number of slots may be

@@ -141,7 +141,7 @@ impl FindWith for ByWindow {
         if known.is_some() {
             return known;
         }
-        let found = regex.find(*input);
+        let found = regex.find_by_ref(input);
         self.known = ending_at(input.start(), found);
         found
     }

@@ -15,6 +15,7 @@ const REACH: usize = 8;
 
 impl Regex {
     /// Whether a match of the search may start anywhere in its span, and the first of all paths counts.
+    #[inline(always)]
     pub(super) fn starts_anywhere(&self, input: &Input<'_>) -> bool
         ensures anywhere { result ≡ true → StartsAnywhere self.now.nfa (search_of input.now) }
         ensures last { result ≡ true → (search_of input.now).earliest ≡ false }
@@ -26,6 +27,7 @@ impl Regex {
 
     /// Returns the first position of a span, from one on before which nothing matches, whose byte a match may begin
     /// with. Returns `until` if there is none before it, or the position if it is not before that.
+    #[inline(always)]
     pub(super) fn next_start(&self, input: &Input<'_>, from: usize, until: usize) -> usize
         requires first { IsFirstStart self.now.nfa (search_of input.now) from }
         requires within { from ≤ (search_of input.now).end + 1 }
@@ -44,6 +46,7 @@ impl Regex {
 
     /// Returns the first position of the span whose byte a match may begin with, or one near the start before which
     /// nothing matches.
+    #[inline(always)]
     pub(super) fn first_start(&self, input: &Input<'_>) -> usize
         ensures first { IsFirstStart self.now.nfa (search_of input.now) result }
         ensures within { result ≤ (search_of input.now).end + 1 }
@@ -57,6 +60,7 @@ impl Regex {
 
     /// Returns the match of a search, if the lazy DFA finds one at this start, before which nothing matches. Returns
     /// `Some(None)` if it finds none there, and `None` if it has no answer.
+    #[inline(always)]
     pub(super) fn find_at_start<'h>(&mut self, input: Input<'h>, at: usize) -> Option<Option<Match>>
         requires anywhere { StartsAnywhere self.old.nfa (search_of input) }
         requires last { (search_of input).earliest ≡ false }
@@ -78,6 +82,7 @@ impl Regex {
     }
 
     /// Returns the match of a search, if the last one matched at its first start, and so does this one by the lazy DFA.
+    #[inline(always)]
     pub(super) fn find_at_first<'h>(&mut self, input: Input<'h>) -> Option<Match>
         ensures answer { let x = search_of input.entry in IfSome result (λ m.
             IsFindAnswer self.old.nfa (kind_in self.old) x.earliest x (Some (found_of m))) }
@@ -95,6 +100,7 @@ impl Regex {
     }
 
     /// Whether a match may begin at the position: not inside a codepoint, and with its byte or at the end of the span.
+    #[inline(always)]
     fn begins_at(&self, input: &Input<'_>, at: usize) -> bool {
         input.is_char_boundary(at) && (at >= input.end() || self.may_begin(input.haystack()[at]))
     }

@@ -132,6 +132,42 @@ impl Regex {
         }
     }
 
+    /// Returns the match that [`Regex::find`] returns. It copies no input for a match at the first start.
+    pub(super) fn find_by_ref(&mut self, input: &Input<'_>) -> Option<Match>
+        ensures answer { let x = search_of input.now in
+            IsFindAnswer self.old.nfa (kind_in self.old) x.earliest x (option_map found_of result) }
+        ensures pattern { IfSome result (λ m. (found_of m).pattern < length self.old.nfa.patterns) }
+        ensures inside { IfSome result (λ m. IsInside (search_of input.now) (found_of m)) }
+        ensures runs { RunsByWindow (search_of input.now) self.old self.new }
+        ensures holds { HoldsNoMore (2 * length self.old.nfa.groups) self.old.back self.new.back }
+        ensures keeps { KeepsEngines self.old self.new }
+    {
+        if let Some(found) = self.find_at_first(*input) {
+            return Some(found);
+        }
+        self.find_past_first(input)
+    }
+
+    /// Returns the match of the search, which may be at another start than the first one, and notes whether it is there.
+    // A call of its own, so that a match at the first start costs no large frame.
+    #[inline(never)]
+    fn find_past_first(&mut self, input: &Input<'_>) -> Option<Match>
+        ensures answer { let x = search_of input.now in
+            IsFindAnswer self.old.nfa (kind_in self.old) x.earliest x (option_map found_of result) }
+        ensures pattern { IfSome result (λ m. (found_of m).pattern < length self.old.nfa.patterns) }
+        ensures inside { IfSome result (λ m. IsInside (search_of input.now) (found_of m)) }
+        ensures runs { RunsByWindow (search_of input.now) self.old self.new }
+        ensures holds { HoldsNoMore (2 * length self.old.nfa.groups) self.old.back self.new.back }
+        ensures keeps { KeepsEngines self.old self.new }
+    {
+        if let Some(found) = self.find_anchored(*input) {
+            return found;
+        }
+        let found = self.find_by_window(*input);
+        self.matched_at_first = self.is_at_first(input, found);
+        found
+    }
+
     /// Returns the match of the search, which is not anchored or has no answer by the lazy DFA: of a window, or else of
     /// the whole span.
     pub(super) fn find_by_window<'h>(&mut self, input: Input<'h>) -> Option<Match>

@@ -24,15 +24,15 @@ returns-then-is_some c =
 pub returns : goal.returns
 returns c =
     let r = c.args.regex.now in
-    let found = c.find-found.result in
-    let e = c.find-found.ensures in
+    let found = c.find_by_ref-found.result in
+    let e = c.find_by_ref-found.ensures in
     let x = search_of c.args.input.now in
     record {
       tells = find-answered r.nfa (kind_in r) x.earliest x found e.answer;
       work = record { runs = e.runs; holds = e.holds; keeps = e.keeps };
       knows =
           subst (λ (vm : Pike). IsKnownFrom IsSureOf vm x c.ending_at-self.result)
-          (sym (pike-kept r c.find-found.new.self e.keeps))
+          (sym (pike-kept r c.find_by_ref-found.new.self e.keeps))
           (known-kept pike_finder (pike_of r) x x.start c.ending_at-self.result (λ m is.
           let k = c.ending_at-self.ensures.kept m is in (
             finds-sure (pike_of r) x (found_of m)

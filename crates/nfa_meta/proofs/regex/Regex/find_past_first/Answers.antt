@@ -1,0 +1,14 @@
+-- A match that the lazy DFA finds is inside the span, and names a pattern.
+use Rattle.nfa_paths.proofs.Common.{search_of}
+use Rattle.nfa_search_base.proofs.AskingLemmas.{inside-of}
+use Rattle.nfa_choice.specs.ChoiceState.{kind_in}
+use Rattle.nfa_meta.proofs.regex.Regex.find_past_first.Goals as goal
+
+pub returns-in-Some-clause-pattern : goal.returns-in-Some-clause-pattern
+returns-in-Some-clause-pattern c = rw c.in-Some.is at c.find_anchored.ensures.pattern
+
+pub returns-in-Some-clause-inside : goal.returns-in-Some-clause-inside
+returns-in-Some-clause-inside c =
+    let r = c.args.self.now in
+    let x = search_of c.args.input.now in
+    inside-of r.nfa (kind_in r) x.earliest x c.in-Some.found (rw c.in-Some.is at c.find_anchored.ensures.answer)
