@@ -32,10 +32,10 @@ module _ (c : Cache) where
         let all : length (map stance_of c.stands.items) ≡ length c.stands.items = length-map c.stands.items stance_of in
         omega (arith, c.stands.ok.0, c.ends.ok.0)
 
-    pub few-rows : (row : ℕ) → row < vec_len c.stands → row < 0x40_0000
+    pub few-rows : (row : ℕ) → row < vec_len c.stands → row < 0x20_0000
     unfolding IsFor
     few-rows row less =
-        let few : length (map stance_of c.stands.items) ≤ 0x40_0000 = rows.rows.few in
+        let few : length (map stance_of c.stands.items) ≤ 0x20_0000 = rows.rows.few in
         let all : length (map stance_of c.stands.items) ≡ length c.stands.items = length-map c.stands.items stance_of in
         omega (arith, c.stands.ok.0)
 

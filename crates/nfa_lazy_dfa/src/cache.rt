@@ -22,6 +22,9 @@ use std::alloc::{AllocError, Global};
 /// A cell of which nothing is known yet.
 pub const UNKNOWN: u32 = 0xFFFF_FFFF;
 
+/// Is added to the row in a cell if the row has only the start, and the DFA has no assertions.
+pub const IDLE: u32 = 0x2000_0000;
+
 /// Is added to the row in a cell if a match was seen on the way.
 pub const MATCHED: u32 = 0x4000_0000;
 
@@ -39,7 +42,7 @@ const FIRST_ROW_BYTES: usize = ROW_BYTES + 4;
 
 /// The rows that searches of one DFA built so far.
 pub struct Cache {
-    /// For each row, where each byte leads: the place of the next row's first cell.
+    /// For each row, where each byte leads: the place of the next row's first cell, and a mark.
     pub(crate) cells: Vec<u32>,
     pub(crate) stands: Vec<Stand>,
     /// The pattern that matches at the end of the haystack, if it was looked up.

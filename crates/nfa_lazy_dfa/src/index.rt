@@ -13,7 +13,7 @@ use std::alloc::{AllocError, Global};
 pub const EMPTY: u32 = 0xFFFF_FFFF;
 
 /// The most rows that a cache may have.
-pub const MAX_ROWS: usize = 0x40_0000;
+pub const MAX_ROWS: usize = 0x20_0000;
 
 /// Rows by the hash of what they stand for. Contracts say nothing of the slots: a row is compared before it is used.
 #[derive(Drop)]

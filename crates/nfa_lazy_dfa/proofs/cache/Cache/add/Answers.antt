@@ -17,7 +17,7 @@ returns-clause-own c =
     let cells : c.append.new.cells.items ≡ self.cells.items ++ unknown = search rules in
     let ends : c.append.new.ends.items ≡ self.ends.items ++ None ∷ [] = search rules in
     let all : length old ≡ length self.stands.items = length-map self.stands.items stance_of in
-    let few : length old < 0x40_0000 = omega (arith, self.stands.ok.0, c.requires.few) in
+    let few : length old < 0x20_0000 = omega (arith, self.stands.ok.0, c.requires.few) in
     let more = ap stances_of stands ∙ stances-more self.stands.items c.args.stand in
     record {
       rows = rw (cells, ends) (subst (λ (s : List Stance).

@@ -39,8 +39,13 @@ returns-clause-own c =
       is = ap (slice_get stances) c.cell_to-cell.ensures.row ∙ leads.is;
       next = leads.next;
       plain = λ low. ap (λ (s : Stance). s.hit) (sym same) ∙ c.cell_to-cell.ensures.plain low;
+      idle = λ low high. ap (λ (s : Stance). s.states) (sym same) ∙ c.cell_to-cell.ensures.idle low high;
       matched = λ low high.
           ap (λ (s : Stance). is_some s.hit) (sym same) ∙ c.cell_to-cell.ensures.matched low high;
+      dead = λ low high. ap (λ (s : Stance). s.states) (sym same) ∙ c.cell_to-cell.ensures.dead low;
+      dead_plain = λ low high. ap (λ (s : Stance). s.hit) (sym same) ∙ c.cell_to-cell.ensures.dead_plain low high;
+      dead_matched = λ low high.
+          ap (λ (s : Stance). is_some s.hit) (sym same) ∙ c.cell_to-cell.ensures.dead_matched low;
     } in
     record {
       rows = subst (λ (place : ℕ). AreRows dfa.nfa dfa.kind stances (set self.cells.items place cell) self.ends.items)
