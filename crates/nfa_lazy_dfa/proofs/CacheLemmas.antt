@@ -114,10 +114,11 @@ module _ (c : Cache) where
 
 -- the cache is still the DFA's, if only its counts changed
 pub IsFor-same : (dfa : DFA) (old new : Cache) → new.stands ≡ old.stands → new.cells ≡ old.cells → new.ends ≡ old.ends
-    → new.taken ≡ old.taken → IsFor old dfa → IsFor new dfa
+    → new.taken ≡ old.taken → new.firsts ≡ old.firsts → IsFor old dfa → IsFor new dfa
 unfolding IsFor
-IsFor-same dfa old new stands cells ends taken own = record {
+IsFor-same dfa old new stands cells ends taken firsts own = record {
   rows = rw (stands, cells, ends) own.rows;
+  firsts = rw (stands, firsts) own.firsts;
   taken = rw (taken, stands) own.taken;
   fits = rw taken own.fits;
 }

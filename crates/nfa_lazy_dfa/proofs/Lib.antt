@@ -4,6 +4,7 @@ pub mod HeldLemmas
 pub mod ApartLemmas
 pub mod OnceLemmas
 pub mod RowLemmas
+pub mod FirstLemmas
 pub mod CacheLemmas
 pub mod WorkLemmas
 pub mod ScanLemmas

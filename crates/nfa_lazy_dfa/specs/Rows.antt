@@ -2,6 +2,7 @@
 use Rattle.std.specs.Prelude.{◌≡◌, ℕ, ◌+◌, ◌-◌, ◌*◌, ◌/◌, ◌%◌, ◌<◌, ◌≤◌, ◌≢◌, List, [], ◌∷◌, All, length, map, replicate, Option, None, Some, is_some, option_map, slice_get, slice_index_or, true}
 use Rattle.nfa_paths.specs.Common.{sum_by, number_of, Search, PatternID, MatchKind, Automaton}
 use Rattle.nfa_determinize.specs.Configurations.{scanned}
+use Rattle.nfa_lazy_dfa.specs.Firsts.{AreFirsts}
 use Rattle.nfa_lazy_dfa.specs.Stances.{Stance, IsNext, StandsFor, hit_here, stance_of}
 use Rattle.nfa_lazy_dfa.specs.declared.cache.Cache.{Cache}
 use Rattle.nfa_lazy_dfa.specs.declared.dfa.DFA.{DFA}
@@ -66,9 +67,10 @@ memory_of c = c.taken
 abbrev pub capacity_of : DFA → ℕ
 capacity_of dfa = dfa.capacity
 
--- the rows are the DFA's, and take no more than it allows
+-- the rows are the DFA's, and take no more than it allows; those that are remembered are the first ones of searches
 pub record IsTable (c : Cache) (dfa : DFA) : Type 0 where
   pub rows : AreRows dfa.nfa dfa.kind (stances_of c.stands.items) c.cells.items c.ends.items
+  pub firsts : AreFirsts dfa.nfa.anchored (stances_of c.stands.items) c.firsts
   pub taken : c.taken ≡ sum_by row_memory_of (stances_of c.stands.items)
   pub fits : c.taken ≤ dfa.capacity
 

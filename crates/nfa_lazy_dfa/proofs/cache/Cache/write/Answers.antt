@@ -52,6 +52,7 @@ returns-clause-own c =
           (sym c.place_of.ensures)
           (AreRows-write dfa.nfa dfa.kind stances self.cells.items self.ends.items c.requires.own.rows c.args.row
           c.args.byte cell leads.from leads.was small made);
+      firsts = c.requires.own.firsts;
       taken = c.requires.own.taken;
       fits = c.requires.own.fits;
     }
