@@ -12,6 +12,7 @@ pub mod ReadLemmas
 pub mod WatchLemmas
 pub mod CutLemmas
 pub mod RunLemmas
+pub mod DirectLemmas
 pub mod StopLemmas
 pub mod IsMatchLemmas
 pub mod ReachLemmas

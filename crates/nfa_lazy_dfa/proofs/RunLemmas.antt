@@ -14,7 +14,7 @@ use Rattle.nfa_lazy_dfa.specs.declared.dfa.DFA.{DFA}
 use Rattle.nfa_lazy_dfa.specs.declared.follow.Stand.{Stand}
 use Rattle.nfa_lazy_dfa.specs.declared.scan.Place.{Place}
 
-found-none : (earliest : Bool) (found : Option HalfFound) → found_after earliest found None ≡ found
+pub found-none : (earliest : Bool) (found : Option HalfFound) → found_after earliest found None ≡ found
 found-none true None = refl
 found-none true (Some h) = refl
 found-none false found = refl
@@ -89,7 +89,7 @@ found-first true late found hit some = cc
 found-first false late found None some = cc
 found-first false late found (Some h) some = refl
 
-half-some : (at : ℕ) (hit : Option ℕ) → is_some hit ≡ true → is_some (option_map (half_at at) hit) ≡ true
+pub half-some : (at : ℕ) (hit : Option ℕ) → is_some hit ≡ true → is_some (option_map (half_at at) hit) ≡ true
 half-some at None some = cc
 half-some at (Some p) some = refl
 

@@ -35,6 +35,7 @@ impl DFA {
     /// let half = dfa.try_find_half(cache, Input::new(b"foo12345"))?;
     /// assert_eq!(rt; half.expect(rt, "a match").offset(), 8);
     /// ```
+    #[inline(always)]
     pub fn try_find_half<'h>(
         &self,
         cache: &mut Cache,
@@ -87,8 +88,8 @@ impl DFA {
     }
 }
 
-/// The half match of a search.
-#[inline(always)]
+/// The half match of a search. This is a separate call, so that no caller copies its input.
+#[inline(never)]
 fn find_half(
     dfa: &DFA,
     cache: &mut Cache,
