@@ -32,10 +32,10 @@ module _ (c : Cache) where
         let all : length (map stance_of c.stands.items) ≡ length c.stands.items = length-map c.stands.items stance_of in
         omega (arith, c.stands.ok.0, c.ends.ok.0)
 
-    pub few-rows : (row : ℕ) → row < vec_len c.stands → row < 0x40_0000
+    pub few-rows : (row : ℕ) → row < vec_len c.stands → row < 0x20_0000
     unfolding IsFor
     few-rows row less =
-        let few : length (map stance_of c.stands.items) ≤ 0x40_0000 = rows.rows.few in
+        let few : length (map stance_of c.stands.items) ≤ 0x20_0000 = rows.rows.few in
         let all : length (map stance_of c.stands.items) ≡ length c.stands.items = length-map c.stands.items stance_of in
         omega (arith, c.stands.ok.0)
 
@@ -114,10 +114,11 @@ module _ (c : Cache) where
 
 -- the cache is still the DFA's, if only its counts changed
 pub IsFor-same : (dfa : DFA) (old new : Cache) → new.stands ≡ old.stands → new.cells ≡ old.cells → new.ends ≡ old.ends
-    → new.taken ≡ old.taken → IsFor old dfa → IsFor new dfa
+    → new.taken ≡ old.taken → new.firsts ≡ old.firsts → IsFor old dfa → IsFor new dfa
 unfolding IsFor
-IsFor-same dfa old new stands cells ends taken own = record {
+IsFor-same dfa old new stands cells ends taken firsts own = record {
   rows = rw (stands, cells, ends) own.rows;
+  firsts = rw (stands, firsts) own.firsts;
   taken = rw (taken, stands) own.taken;
   fits = rw taken own.fits;
 }

@@ -4,6 +4,7 @@ pub mod HeldLemmas
 pub mod ApartLemmas
 pub mod OnceLemmas
 pub mod RowLemmas
+pub mod FirstLemmas
 pub mod CacheLemmas
 pub mod WorkLemmas
 pub mod ScanLemmas
@@ -11,6 +12,7 @@ pub mod ReadLemmas
 pub mod WatchLemmas
 pub mod CutLemmas
 pub mod RunLemmas
+pub mod DirectLemmas
 pub mod StopLemmas
 pub mod IsMatchLemmas
 pub mod ReachLemmas

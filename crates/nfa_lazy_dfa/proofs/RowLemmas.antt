@@ -78,7 +78,11 @@ module _ (nfa : Automaton) (kind : MatchKind) where
     is = get-left stances (t ∷ []) (row_of cell) h.target h.is;
     next = h.next;
     plain = h.plain;
+    idle = h.idle;
     matched = h.matched;
+    dead = h.dead;
+    dead_plain = h.dead_plain;
+    dead_matched = h.dead_matched;
   }
 
   pub AreRows-none : AreRows nfa kind [] [] []
@@ -94,7 +98,7 @@ module _ (nfa : Automaton) (kind : MatchKind) where
 
   module _ (stances : List Stance) (cells : List ℕ) (ends : List (Option (Option PatternID)))
       (rows : AreRows nfa kind stances cells ends) where
-    pub AreRows-add : (t : Stance) → All (λ q. q < length nfa.states) t.states → length stances < 0x40_0000
+    pub AreRows-add : (t : Stance) → All (λ q. q < length nfa.states) t.states → length stances < 0x20_0000
         → AreRows nfa kind (stances ++ t ∷ []) (cells ++ unknown) (ends ++ None ∷ [])
     AreRows-add t below few = record {
       cells_count = count;

@@ -1,5 +1,5 @@
 -- No match starts before a position at which the scan is in an idle row and found nothing.
-use Rattle.nfa_paths.proofs.Common.{◌≡◌, ℕ, zero, suc, ◌+◌, ◌-◌, ◌*◌, ◌/◌, ◌≤◌, inl, inr, Bool, List, [], ◌∷◌, refl, ap, sym, ◌∙◌, subst, arith, Result, Ok, Err, IfOk, IfSome, Option, None, Some, option_and_then, option_map, option_to_list, slice_get, half_found_of, HalfFound, Search, MatchKind, Automaton, In, IsHalfAnswer, byte_at, node_at, target_on, HalfMatch, holding_at}
+use Rattle.nfa_paths.proofs.Common.{◌≡◌, ℕ, zero, suc, ◌+◌, ◌-◌, ◌*◌, ◌/◌, ◌%◌, ◌≤◌, inl, inr, Bool, List, [], ◌∷◌, refl, ap, sym, ◌∙◌, subst, arith, Result, Ok, Err, IfOk, IfSome, Option, None, Some, option_and_then, option_map, option_to_list, slice_get, half_found_of, HalfFound, Search, MatchKind, Automaton, In, IsHalfAnswer, byte_at, node_at, target_on, HalfMatch, holding_at}
 use Rattle.nfa_paths.proofs.InsideLemmas.{half-within}
 use Rattle.nfa_paths.proofs.MemberLemmas.{In-append}
 use Rattle.nfa_determinize.specs.Closures.{closure, explore, kept, step}
@@ -10,7 +10,7 @@ use Rattle.nfa_lazy_dfa.specs.Places.{IsFoundAt}
 use Rattle.nfa_lazy_dfa.specs.Rows.{IsAt, IsRowOf, stances_of}
 use Rattle.nfa_lazy_dfa.specs.Runs.{place_at}
 use Rattle.nfa_lazy_dfa.specs.Stances.{Stance}
-use Rattle.nfa_lazy_dfa.specs.Watches.{IsBegun, IsWatching}
+use Rattle.nfa_lazy_dfa.specs.Watches.{IsBegun, IsIdlePlace, IsWatching}
 use Rattle.nfa_lazy_dfa.specs.Windows.{IsWindow, half_in, start_in}
 use Rattle.nfa_lazy_dfa.proofs.RunLemmas.{IsFoundAt-same}
 use Rattle.nfa_lazy_dfa.specs.declared.cache.Cache.{Cache}
@@ -87,6 +87,21 @@ module _ (dfa : DFA) (c : Cache) (x : Search) where
       same : (q : ℕ) → In q (dfa.nfa.anchored ∷ []) → q ≡ dfa.nfa.anchored
       same q (inl e) = e
       same q (inr i) = absurd i
+
+-- the place of an idle row
+pub IsBegun-idle : (dfa : DFA) (c : Cache) (x : Search) (at first : ℕ) → IsFoundAt dfa c x (place_at at first None)
+    → first % 256 ≡ 0 → IsIdlePlace dfa c first → IsStartApart dfa.nfa → IsBegun dfa.nfa x at at
+IsBegun-idle dfa c x at first here whole idle apart =
+    idle-begun dfa c x at (first / 256) here.at apart (λ s is. idle.alone s whole is) here.found
+
+-- the scan goes on
+pub IsBegun-later : (nfa : Automaton) (x : Search) (start at to : ℕ) → at ≤ to → IsBegun nfa x start at
+    → IsBegun nfa x start to
+IsBegun-later nfa x start at to later begun = record {
+  low = begun.low;
+  high = let high : start ≤ at = begun.high in omega arith;
+  starts = begun.starts;
+}
 
 -- the start of the search
 pub IsBegun-start : (nfa : Automaton) (x : Search) (at : ℕ) → at ≡ x.start → IsBegun nfa x at at

@@ -57,6 +57,16 @@ module _ (a b c : Cache) where
     clears = omega (arith, work.scans.clears, allows.cleared, allows.clears);
   }
 
+-- at most this is at most more
+pub Spends-up : (a b : Cache) (s t m : ℕ) → s ≤ t → Spends a b s m → Spends a b t m
+Spends-up a b s t m less spends = record {
+  scans = spends.scans;
+  steps = omega (arith, spends.steps);
+  grows = spends.grows;
+  rows = spends.rows;
+  clears = spends.clears;
+}
+
 -- nothing is spent
 pub Spends-none : (c : Cache) (s m : ℕ) → Spends c c s m
 Spends-none c s m = record {

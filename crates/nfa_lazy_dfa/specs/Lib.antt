@@ -5,6 +5,7 @@ pub mod Cuts
 pub mod Apart
 pub mod Assertions
 pub mod Stances
+pub mod Firsts
 pub mod Rows
 pub mod Capacities
 pub mod Reads

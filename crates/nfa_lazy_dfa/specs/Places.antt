@@ -1,8 +1,8 @@
 -- Where a scan is, and what it found so far.
-use Rattle.std.specs.Prelude.{◌≡◌, ℕ, ◌-◌, ◌/◌, Bool, false, true, [], ◌∷◌, None, option_map}
+use Rattle.std.specs.Prelude.{◌≡◌, ℕ, ◌-◌, ◌/◌, ◌<◌, Bool, false, true, [], ◌∷◌, None, option_map, slice_index}
 use Rattle.nfa_paths.specs.Common.{half_found_of, Search, half_at}
 use Rattle.nfa_determinize.specs.Configurations.{IsSettled, scanned}
-use Rattle.nfa_lazy_dfa.specs.Rows.{IsAt, IsRowOf}
+use Rattle.nfa_lazy_dfa.specs.Rows.{IsAt, IsRowOf, Leads, stances_of}
 use Rattle.nfa_lazy_dfa.specs.Stances.{Stance}
 use Rattle.nfa_lazy_dfa.specs.declared.cache.Cache.{Cache}
 use Rattle.nfa_lazy_dfa.specs.declared.dfa.DFA.{DFA}
@@ -35,3 +35,10 @@ pub record IsMatchedAt (dfa : DFA) (c : Cache) (x : Search) (to first : ℕ) : T
   pub at : IsAt dfa c x to (first / 256)
   pub found : (s : Stance) → IsRowOf c (first / 256) s
       → option_map (half_at (to - 1)) s.hit ≡ (scanned dfa.nfa x dfa.kind x.earliest (to - x.start)).found
+
+-- the cell, if it is known, is that of the byte at the position in the row whose cells begin at `first`; the position
+-- is in the span
+pub record IsCellAt (dfa : DFA) (c : Cache) (x : Search) (at first cell : ℕ) : Type 0 where
+  pub inside : cell < 0xFFFF_FFFF → at < x.end
+  pub leads : cell < 0xFFFF_FFFF → (s : Stance) → IsRowOf c (first / 256) s
+      → Leads dfa.nfa dfa.kind (stances_of c.stands.items) s (slice_index x.haystack at) cell

@@ -1,7 +1,8 @@
 -- The rows of a cache, and what each cell says.
-use Rattle.std.specs.Prelude.{◌≡◌, ℕ, ◌+◌, ◌-◌, ◌*◌, ◌/◌, ◌%◌, ◌<◌, ◌≤◌, ◌≢◌, List, All, length, map, replicate, Option, None, Some, is_some, option_map, slice_get, slice_index_or, true}
+use Rattle.std.specs.Prelude.{◌≡◌, ℕ, ◌+◌, ◌-◌, ◌*◌, ◌/◌, ◌%◌, ◌<◌, ◌≤◌, ◌≢◌, List, [], ◌∷◌, All, length, map, replicate, Option, None, Some, is_some, option_map, slice_get, slice_index_or, true}
 use Rattle.nfa_paths.specs.Common.{sum_by, number_of, Search, PatternID, MatchKind, Automaton}
 use Rattle.nfa_determinize.specs.Configurations.{scanned}
+use Rattle.nfa_lazy_dfa.specs.Firsts.{AreFirsts}
 use Rattle.nfa_lazy_dfa.specs.Stances.{Stance, IsNext, StandsFor, hit_here, stance_of}
 use Rattle.nfa_lazy_dfa.specs.declared.cache.Cache.{Cache}
 use Rattle.nfa_lazy_dfa.specs.declared.dfa.DFA.{DFA}
@@ -9,7 +10,7 @@ use Rattle.nfa_lazy_dfa.specs.declared.follow.Stand.{Stand}
 
 -- the row that the cell leads to
 abbrev pub row_of : ℕ → ℕ
-row_of cell = cell % 0x4000_0000 / 256
+row_of cell = cell % 0x2000_0000 / 256
 
 -- the cells of a row of which nothing is known
 abbrev pub unknown : List ℕ
@@ -24,14 +25,19 @@ abbrev pub row_memory_of : Stance → ℕ
 row_memory_of s = 1120 + (length s.states + length s.hits) * 4
 
 module _ (nfa : Automaton) (kind : MatchKind) where
-  -- the cell is the place of a row's first cell, and leads to what the byte leads to
+  -- The cell is the place of a row's first cell with a mark, and leads to what the byte leads to. The mark says whether
+  -- that row is dead, and whether a match leads to it. A row that is marked as idle has only the start.
   pub record Leads (stances : List Stance) (s : Stance) (byte cell : ℕ) : Type 0 where
     pub whole : cell % 256 ≡ 0
     pub target : Stance
     pub is : slice_get stances (row_of cell) ≡ Some target
     pub next : IsNext nfa kind s byte target
     pub plain : cell < 0x4000_0000 → target.hit ≡ None
+    pub idle : 0x2000_0000 ≤ cell → cell < 0x4000_0000 → target.states ≡ nfa.anchored ∷ []
     pub matched : 0x4000_0000 ≤ cell → cell < 0x8000_0000 → is_some target.hit ≡ true
+    pub dead : 0x8000_0000 ≤ cell → cell < 0xFFFF_FFFF → target.states ≡ []
+    pub dead_plain : 0x8000_0000 ≤ cell → cell < 0xC000_0000 → target.hit ≡ None
+    pub dead_matched : 0xC000_0000 ≤ cell → cell < 0xFFFF_FFFF → is_some target.hit ≡ true
 
   -- each cell that is known leads to what its byte leads to
   abbrev pub AreCells : List Stance → List ℕ → Type 0
@@ -48,7 +54,7 @@ module _ (nfa : Automaton) (kind : MatchKind) where
   pub record AreRows (stances : List Stance) (cells : List ℕ) (ends : List (Option (Option PatternID))) : Type 0 where
     pub cells_count : length cells ≡ length stances * 256
     pub ends_count : length ends ≡ length stances
-    pub few : length stances ≤ 0x40_0000
+    pub few : length stances ≤ 0x20_0000
     pub below : All (λ s. All (λ q. q < length nfa.states) s.states) stances
     pub cells_are : AreCells stances cells
     pub ends_are : AreEnds stances ends
@@ -61,9 +67,10 @@ memory_of c = c.taken
 abbrev pub capacity_of : DFA → ℕ
 capacity_of dfa = dfa.capacity
 
--- the rows are the DFA's, and take no more than it allows
+-- the rows are the DFA's, and take no more than it allows; those that are remembered are the first ones of searches
 pub record IsTable (c : Cache) (dfa : DFA) : Type 0 where
   pub rows : AreRows dfa.nfa dfa.kind (stances_of c.stands.items) c.cells.items c.ends.items
+  pub firsts : AreFirsts dfa.nfa.anchored (stances_of c.stands.items) c.firsts
   pub taken : c.taken ≡ sum_by row_memory_of (stances_of c.stands.items)
   pub fits : c.taken ≤ dfa.capacity
 

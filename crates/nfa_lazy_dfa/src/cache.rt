@@ -3,24 +3,28 @@ ghost use Rattle.std.specs.Prelude.{◌≡◌, ℕ, ◌+◌, ◌-◌, ◌*◌, �
 ghost use Rattle.std.specs.Prelude.{All, Err, IfErr, IfOk, IfNone, IfSome, IsOkUnless, IsTrue, OnErr, OnOk, length};
 ghost use Rattle.std.specs.Prelude.{map, option_map, slice_get, vec_len};
 ghost use Rattle.regex_search_core.specs.PatternSets.{number_of};
-ghost use Rattle.nfa_lazy_dfa.specs.Capacities.{GivesFirstRow, IsUsedUpBy, largest_row_memory};
+ghost use Rattle.nfa_lazy_dfa.specs.Capacities.{IsUsedUpBy, largest_row_memory};
 ghost use Rattle.nfa_lazy_dfa.specs.Rows as rows;
 ghost use Rattle.nfa_lazy_dfa.specs.Rows.{AllowsClears, CountsScan, IsFor, IsRowOf, KeepsRows, Spends, memory_of};
 ghost use Rattle.nfa_lazy_dfa.specs.Rows.{stances_of};
-ghost use Rattle.nfa_lazy_dfa.specs.Stances.{first_stance, hit_here, hits_here, stance_of};
+ghost use Rattle.nfa_lazy_dfa.specs.Stances.{hit_here, hits_here, stance_of};
 
 mod copy;
+mod firsts;
 
 use crate::dfa::DFA;
 use crate::error::{GaveUp, StopError};
 use crate::follow::{Stand, last_hit, last_hits};
-use crate::index::{EMPTY, Index, MAX_ROWS, is_first};
+use crate::index::{EMPTY, Index, MAX_ROWS};
 use nfa_scan_core::counter::Counter;
-use regex_search_core::{PatternID, StateID};
+use regex_search_core::PatternID;
 use std::alloc::{AllocError, Global};
 
 /// A cell of which nothing is known yet.
 pub const UNKNOWN: u32 = 0xFFFF_FFFF;
+
+/// Is added to the row in a cell if the row has only the start, and the DFA has no assertions.
+pub const IDLE: u32 = 0x2000_0000;
 
 /// Is added to the row in a cell if a match was seen on the way.
 pub const MATCHED: u32 = 0x4000_0000;
@@ -34,12 +38,9 @@ pub const ROW_CELLS: usize = 256;
 /// How many bytes a row takes beside its states and patterns.
 const ROW_BYTES: usize = 1120;
 
-/// How many bytes the row takes that a scan begins with.
-const FIRST_ROW_BYTES: usize = ROW_BYTES + 4;
-
 /// The rows that searches of one DFA built so far.
 pub struct Cache {
-    /// For each row, where each byte leads: the place of the next row's first cell.
+    /// For each row, where each byte leads: the place of the next row's first cell, and a mark.
     pub(crate) cells: Vec<u32>,
     pub(crate) stands: Vec<Stand>,
     /// The pattern that matches at the end of the haystack, if it was looked up.
@@ -50,8 +51,8 @@ pub struct Cache {
     taken: usize,
     /// How often this search may still clear the rows.
     clears: usize,
-    /// The rows that searches began with last, with one start and with many.
-    firsts: [u32; 2],
+    /// The rows that searches from the DFA's start begin with, by what is before them and whether they may start later.
+    firsts: [u32; 10],
     /// Where the cells of the two idle rows began that scans left last for a row that is not idle, the newer first.
     pub(crate) idles: [u32; 2],
     /// The steps that all searches took, each over one byte.
@@ -116,7 +117,7 @@ impl Cache {
             alloc,
             taken: 0,
             clears: 0,
-            firsts: [EMPTY; 2],
+            firsts: [EMPTY; 10],
             idles: [UNKNOWN; 2],
             steps: Counter::new(),
             made: Counter::new(),
@@ -183,6 +184,7 @@ impl Cache {
         self.stands.clear();
         self.ends.clear();
         self.index.clear();
+        self.firsts = [EMPTY; 10];
         self.taken = 0;
     }
 
@@ -257,66 +259,6 @@ impl Cache {
         };
         let row = self.add(dfa, stand, taken)?;
         Ok((row, false))
-    }
-
-    /// Whether a search that begins with this state begins in the row.
-    fn is_first(&self, row: u32, start: StateID, before: Option<u8>, more: bool) -> bool
-        ensures { IsTrue result ↔ IsRowOf self.now row (first_stance start before more) }
-    {
-        match self.stands.get(row as usize) {
-            None => false,
-            Some(stand) => is_first(stand, start, before, more),
-        }
-    }
-
-    /// The row that a search begins with.
-    pub(crate) fn start(
-        &mut self,
-        dfa: &DFA,
-        start: StateID,
-        before: Option<u8>,
-        more: bool,
-    ) -> Result<u32, GaveUp>
-        requires own { IsFor self.old dfa.now }
-        requires start { start < length dfa.now.nfa.states }
-        ensures { GivesFirstRow dfa.now (first_stance start before more) self.old self.new result }
-    {
-        let row = self.firsts[more as usize];
-        if self.is_first(row, start, before, more) {
-            return Ok(row);
-        }
-        self.begin(dfa, start, before, more)
-    }
-
-    /// The row that a search begins with, if it is not known.
-    #[cold]
-    #[inline(never)]
-    fn begin(
-        &mut self,
-        dfa: &DFA,
-        start: StateID,
-        before: Option<u8>,
-        more: bool,
-    ) -> Result<u32, GaveUp>
-        requires own { IsFor self.old dfa.now }
-        requires start { start < length dfa.now.nfa.states }
-        ensures { GivesFirstRow dfa.now (first_stance start before more) self.old self.new result }
-    {
-        if dfa.capacity < FIRST_ROW_BYTES {
-            return Err(GaveUp::Full);
-        }
-        let mut states = Vec::new(self.alloc);
-        states.push(start)?;
-        let stand = Stand {
-            states,
-            before,
-            more,
-            hit: None,
-            hits: Vec::new(self.alloc),
-        };
-        let row = self.intern(dfa, stand)?.0;
-        self.firsts[more as usize] = row;
-        Ok(row)
     }
 
     /// The pattern that matches at the end of the haystack.

@@ -2,6 +2,7 @@
 ghost use Rattle.std.specs.Prelude.{◌≡◌, false, length, true, IfOk, IsOk};
 ghost use Rattle.regex_search_core.specs.declared.search.MatchKind.TheVariants.{LeftmostFirst};
 ghost use Rattle.thompson_nfa.specs.Automaton.{node_of};
+ghost use Rattle.nfa_paths.specs.Paths.{is_utf8_empty};
 ghost use Rattle.nfa_lazy_dfa.specs.Apart.{IsStartApart};
 ghost use Rattle.nfa_lazy_dfa.specs.Assertions.{HasNoLook, HasNoUnicodeWord, HasUnicodeWord, IsQuit, IsRead, is_look};
 ghost use Rattle.nfa_lazy_dfa.specs.Assertions.{may_follow, reads_bytes};
@@ -10,6 +11,7 @@ ghost use Rattle.nfa_lazy_dfa.specs.Cuts.{AreCuts};
 use crate::apart::is_start_apart;
 use crate::config::{Builder, Config};
 use crate::cuts::cuts_of;
+use nfa_scan_core::starts::is_utf8_empty;
 use regex_search_core::MatchKind;
 use thompson_nfa::{BuildError, Look, NFA, State};
 
@@ -40,6 +42,9 @@ pub struct DFA {
     /// The NFA has an assertion.
     pub(crate) looks: bool,
     pub(crate) ghost looks_are: { looks ≡ false → HasNoLook nfa },
+    /// A match counts only if it ends on a boundary.
+    pub(crate) on_boundary: bool,
+    pub(crate) ghost on_boundary_is: { on_boundary ≡ is_utf8_empty nfa },
     /// No byte leads to the start.
     pub(crate) apart: bool,
     pub(crate) ghost apart_is: { apart ≡ true → IsStartApart nfa },
@@ -63,6 +68,7 @@ impl DFA {
     {
         let quits = has_unicode_word(&nfa);
         let looks = has_look(&nfa);
+        let on_boundary = is_utf8_empty(&nfa);
         let apart = is_start_apart(&nfa);
         let cuts = cuts_of(&nfa, looks);
         DFA {
@@ -72,6 +78,7 @@ impl DFA {
             max_clears: config.get_minimum_cache_clear_count().unwrap_or(usize::MAX),
             quits,
             looks,
+            on_boundary,
             apart,
             cuts,
             nfa,

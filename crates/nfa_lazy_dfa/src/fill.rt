@@ -1,30 +1,62 @@
 //! The cells of rows: where each byte leads.
-ghost use Rattle.std.specs.Prelude.{◌≡◌, ◌+◌, ◌*◌, ◌%◌, ◌<◌, ◌≤◌, IfErr, IfOk, None, Some, is_some, true, vec_len};
+ghost use Rattle.std.specs.Prelude.{◌≡◌, ◌+◌, ◌*◌, ◌%◌, ◌<◌, ◌≤◌, ◌∷◌, [], IfErr, IfOk, IsTrue, None, Some, false};
+ghost use Rattle.std.specs.Prelude.{is_some, true, vec_len};
 ghost use Rattle.nfa_lazy_dfa.specs.Assertions.{IsRead};
 ghost use Rattle.nfa_lazy_dfa.specs.Capacities.{IsUsedUpBy};
 ghost use Rattle.nfa_lazy_dfa.specs.Rows as rows;
 ghost use Rattle.nfa_lazy_dfa.specs.Rows.{IsFor, LeadsTo, Spends, steps_of};
 ghost use Rattle.nfa_lazy_dfa.specs.Stances.{stance_of};
 
-use crate::cache::{Cache, DEAD, MATCHED, ROW_CELLS, UNKNOWN};
+use crate::cache::{Cache, DEAD, IDLE, MATCHED, ROW_CELLS, UNKNOWN};
 use crate::dfa::DFA;
 use crate::error::GaveUp;
 use crate::follow::{Stand, follow};
 use crate::index::MAX_ROWS;
+use regex_search_core::StateID;
+
+/// Whether the start is the only state of the stand.
+pub fn is_idle(stand: &Stand, start: StateID) -> bool
+    ensures { IsTrue result → (stance_of stand.now).states ≡ start ∷ [] }
+{
+    match &stand.states[..] {
+        [only] => *only == start,
+        _ => false,
+    }
+}
+
+/// Whether cells that lead to the stand say that no path is under way in it. In a DFA with assertions no cell does: its
+/// scans come to idle rows for a byte or two, which a loop for them makes slower.
+fn is_marked_idle(dfa: &DFA, stand: &Stand) -> bool
+    ensures idle { IsTrue result → (stance_of stand.now).states ≡ dfa.now.nfa.anchored ∷ [] }
+    ensures looks { IsTrue result → dfa.now.looks ≡ false }
+{
+    !dfa.looks && stand.more && is_idle(stand, dfa.nfa.start_anchored())
+}
 
 /// The cell that leads to the row.
-fn cell_to(row: u32, stand: &Stand) -> u32
+fn cell_to(dfa: &DFA, row: u32, stand: &Stand) -> u32
     requires { row < MAX_ROWS }
     ensures row { rows.row_of result ≡ row }
     ensures whole { result % ROW_CELLS ≡ 0 }
     ensures plain { result < MATCHED → (stance_of stand.now).hit ≡ None }
+    ensures idle { IDLE ≤ result → result < MATCHED → (stance_of stand.now).states ≡ dfa.now.nfa.anchored ∷ [] }
+    ensures looks { IDLE ≤ result → result < MATCHED → dfa.now.looks ≡ false }
     ensures matched { MATCHED ≤ result → result < DEAD → is_some (stance_of stand.now).hit ≡ true }
+    ensures dead { DEAD ≤ result → (stance_of stand.now).states ≡ [] }
+    ensures dead_plain { DEAD ≤ result → result < DEAD + MATCHED → (stance_of stand.now).hit ≡ None }
+    ensures dead_matched { DEAD + MATCHED ≤ result → is_some (stance_of stand.now).hit ≡ true }
 {
     let first = row * ROW_CELLS as u32;
     if stand.is_dead() {
-        first + DEAD
+        if stand.hit.is_some() {
+            first + DEAD + MATCHED
+        } else {
+            first + DEAD
+        }
     } else if stand.hit.is_some() {
         first + MATCHED
+    } else if is_marked_idle(dfa, stand) {
+        first + IDLE
     } else {
         first
     }
@@ -35,7 +67,7 @@ fn cell_to(row: u32, stand: &Stand) -> u32
 pub fn row_of(cell: u32) -> u32
     ensures { result ≡ rows.row_of cell }
 {
-    cell % MATCHED / ROW_CELLS as u32
+    cell % IDLE / ROW_CELLS as u32
 }
 
 /// The place of the byte's cell.
@@ -98,7 +130,7 @@ impl Cache {
         ensures same { self.new.stands.items ≡ self.old.stands.items }
         ensures spends { Spends self.old self.new 0 0 }
     {
-        let cell = cell_to(target, &self.stands[target as usize]);
+        let cell = cell_to(dfa, target, &self.stands[target as usize]);
         self.cells[place_of(row, byte)] = cell;
     }
 

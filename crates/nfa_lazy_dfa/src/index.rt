@@ -1,9 +1,9 @@
 //! The rows of a cache by the hash of what they stand for.
-ghost use Rattle.std.specs.Prelude.{◌≡◌, ◌↔◌, ◌≤◌, ◌∷◌, [], None, Some, IfOk, IfSome, IsTrue, length, map, option_map};
+ghost use Rattle.std.specs.Prelude.{◌≡◌, ◌↔◌, ◌≤◌, Some, IfOk, IfSome, IsTrue, length, map, option_map};
 ghost use Rattle.std.specs.Prelude.{slice_get};
 ghost use Rattle.regex_search_core.specs.PatternSets.{number_of};
 ghost use Rattle.nfa_lazy_dfa.specs.Rows.{stances_of};
-ghost use Rattle.nfa_lazy_dfa.specs.Stances.{first_stance, stance_of};
+ghost use Rattle.nfa_lazy_dfa.specs.Stances.{stance_of};
 
 use crate::follow::Stand;
 use regex_search_core::{PatternID, StateID};
@@ -13,7 +13,7 @@ use std::alloc::{AllocError, Global};
 pub const EMPTY: u32 = 0xFFFF_FFFF;
 
 /// The most rows that a cache may have.
-pub const MAX_ROWS: usize = 0x40_0000;
+pub const MAX_ROWS: usize = 0x20_0000;
 
 /// Rows by the hash of what they stand for. Contracts say nothing of the slots: a row is compared before it is used.
 #[derive(Drop)]
@@ -198,20 +198,4 @@ fn same_stand(a: &Stand, b: &Stand) -> bool
         && same_hit(a.hit, b.hit)
         && same_hits(&a.hits, &b.hits)
         && same_states(&a.states, &b.states)
-}
-
-/// Returns whether a search that begins with this state begins with the stand.
-pub fn is_first(stand: &Stand, start: StateID, before: Option<u8>, more: bool) -> bool
-    ensures { IsTrue result ↔ (stance_of stand.now ≡ first_stance start before more) }
-{
-    match &stand.states[..] {
-        [only] => {
-            *only == start
-                && stand.more == more
-                && same_before(stand.before, before)
-                && stand.hit.is_none()
-                && stand.hits.is_empty()
-        }
-        _ => false,
-    }
 }

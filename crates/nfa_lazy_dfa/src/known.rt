@@ -1,20 +1,21 @@
 //! A scan over cells that are known.
-ghost use Rattle.std.specs.Prelude.{◌≡◌, ◌+◌, ◌-◌, ◌/◌, ◌%◌, ◌<◌, ◌≤◌, IfSome, false, slice_index};
+ghost use Rattle.std.specs.Prelude.{◌≡◌, ◌+◌, ◌-◌, ◌/◌, ◌%◌, ◌<◌, ◌≤◌, IfSome, IsTrue, false, slice_index};
 ghost use Rattle.regex_search_core.specs.Search.{search_of};
 ghost use Rattle.nfa_lazy_dfa.specs.Places.{IsFoundAt, IsMatchedAt};
 ghost use Rattle.nfa_lazy_dfa.specs.Runs.{place_at};
 ghost use Rattle.nfa_lazy_dfa.specs.Rows as rows;
 ghost use Rattle.nfa_lazy_dfa.specs.Rows.{IsAt, IsFor, IsRowOf, Leads, LeadsTo, Spends, stances_of, steps_of};
 ghost use Rattle.nfa_lazy_dfa.specs.Stances.{Stance};
+ghost use Rattle.nfa_lazy_dfa.specs.Watches.{IsIdlePlace};
 
-use crate::cache::{Cache, DEAD, MATCHED, ROW_CELLS, UNKNOWN};
+use crate::cache::{Cache, DEAD, IDLE, MATCHED, ROW_CELLS, UNKNOWN};
 use crate::dfa::DFA;
 use crate::scan::{Place, half_at};
 use regex_search_core::{HalfMatch, Input};
 
 /// The cell of the byte at the position. The cells of the row begin at `first`.
 #[inline(always)]
-fn read_cell(dfa: &DFA, cache: &Cache, input: &Input<'_>, at: usize, first: u32) -> u32
+pub fn read_cell(dfa: &DFA, cache: &Cache, input: &Input<'_>, at: usize, first: u32) -> u32
     requires own { IsFor cache.now dfa.now }
     requires inside { at < (search_of input.now).end }
     requires whole { first % ROW_CELLS ≡ 0 }
@@ -42,16 +43,19 @@ pub fn cell_at(
     requires whole { first % ROW_CELLS ≡ 0 }
     requires at { IsFoundAt dfa.now cache.now (search_of input.now) (place_at at first found) }
     ensures whole { result < UNKNOWN → result % ROW_CELLS ≡ 0 }
-    ensures plain { result < MATCHED
+    ensures plain { result < IDLE
         → IsFoundAt dfa.now cache.now (search_of input.now) (place_at (at + 1) result found) }
+    ensures unmatched { result < MATCHED
+        → IsFoundAt dfa.now cache.now (search_of input.now) (place_at (at + 1) (result % IDLE) found) }
+    ensures idle { IDLE ≤ result → result < MATCHED → IsIdlePlace dfa.now cache.now (result % IDLE) }
     ensures leads { result < UNKNOWN → LeadsTo dfa.now cache.now cache.now (first / ROW_CELLS)
         (slice_index (search_of input.now).haystack at) (rows.row_of result) }
 {
     read_cell(dfa, cache, input, at, first)
 }
 
-/// Goes on over cells that lead to rows without a match, four bytes at a time. Returns the position and where the cells
-/// of the row there begin. The next cell leads to a match, to a dead row or is unknown, or the span ends soon.
+/// Goes on over cells without a mark, four bytes at a time. Returns the position and where the cells of the row there
+/// begin. The next cell has a mark or is unknown, or the span ends soon.
 #[inline(always)]
 pub fn pass(
     dfa: &DFA,
@@ -73,27 +77,88 @@ pub fn pass(
     let mut first = row;
     while end - at >= 4 {
         let second = cell_at(dfa, cache, input, at, first, found);
-        if second >= MATCHED {
+        if second >= IDLE {
             return (at, first);
         }
         at += 1;
         let third = cell_at(dfa, cache, input, at, second, found);
-        if third >= MATCHED {
+        if third >= IDLE {
             return (at, second);
         }
         at += 1;
         let fourth = cell_at(dfa, cache, input, at, third, found);
-        if fourth >= MATCHED {
+        if fourth >= IDLE {
             return (at, third);
         }
         at += 1;
         first = cell_at(dfa, cache, input, at, fourth, found);
-        if first >= MATCHED {
+        if first >= IDLE {
             return (at, fourth);
         }
         at += 1;
     }
     (at, first)
+}
+
+/// Whether the byte leads from the row to which the cell leads back to it, by the same cell.
+#[inline(always)]
+fn stays(
+    dfa: &DFA,
+    cache: &Cache,
+    input: &Input<'_>,
+    at: usize,
+    cell: u32,
+    found: Option<HalfMatch>,
+) -> bool
+    requires own { IsFor cache.now dfa.now }
+    requires inside { at < (search_of input.now).end }
+    requires whole { cell % ROW_CELLS ≡ 0 }
+    requires unmatched { cell < MATCHED }
+    requires at { IsFoundAt dfa.now cache.now (search_of input.now) (place_at at (cell % IDLE) found) }
+    ensures { IsTrue result
+        → IsFoundAt dfa.now cache.now (search_of input.now) (place_at (at + 1) (cell % IDLE) found) }
+{
+    cell_at(dfa, cache, input, at, cell % IDLE, found) == cell
+}
+
+/// Goes on over bytes that lead from an idle row back to it, by the cell that led there, four at a time. Returns the
+/// position.
+#[inline(always)]
+pub fn past_idle(
+    dfa: &DFA,
+    cache: &Cache,
+    input: &Input<'_>,
+    from: usize,
+    cell: u32,
+    found: Option<HalfMatch>,
+) -> usize
+    requires own { IsFor cache.now dfa.now }
+    requires whole { cell % ROW_CELLS ≡ 0 }
+    requires unmatched { cell < MATCHED }
+    requires at { IsFoundAt dfa.now cache.now (search_of input.now) (place_at from (cell % IDLE) found) }
+    ensures at { IsFoundAt dfa.now cache.now (search_of input.now) (place_at result (cell % IDLE) found) }
+    ensures low { from ≤ result }
+{
+    let mut at = from;
+    while input.end() - at >= 4 {
+        if !stays(dfa, cache, input, at, cell, found) {
+            return at;
+        }
+        at += 1;
+        if !stays(dfa, cache, input, at, cell, found) {
+            return at;
+        }
+        at += 1;
+        if !stays(dfa, cache, input, at, cell, found) {
+            return at;
+        }
+        at += 1;
+        if !stays(dfa, cache, input, at, cell, found) {
+            return at;
+        }
+        at += 1;
+    }
+    at
 }
 
 /// Where the cells of the next row begin, if the byte leads to a row with a match that is known and not dead.
@@ -111,12 +176,58 @@ fn over_match(dfa: &DFA, cache: &Cache, input: &Input<'_>, at: usize, first: u32
     if cell < MATCHED || cell >= DEAD {
         return None;
     }
-    Some(cell - MATCHED)
+    Some(cell % IDLE)
+}
+
+/// Whether the byte leads from the row with a match back to it.
+#[inline(always)]
+fn stays_matched(dfa: &DFA, cache: &Cache, input: &Input<'_>, at: usize, first: u32) -> bool
+    requires own { IsFor cache.now dfa.now }
+    requires late { (search_of input.now).earliest ≡ false }
+    requires inside { at < (search_of input.now).end }
+    requires whole { first % ROW_CELLS ≡ 0 }
+    requires at { IsMatchedAt dfa.now cache.now (search_of input.now) at first }
+    ensures { IsTrue result → IsMatchedAt dfa.now cache.now (search_of input.now) (at + 1) first }
+{
+    read_cell(dfa, cache, input, at, first) == first + MATCHED
+}
+
+/// Goes on over bytes that lead from the row with a match back to it, four at a time. Returns the position.
+#[inline(always)]
+fn past_match(dfa: &DFA, cache: &Cache, input: &Input<'_>, from: usize, first: u32) -> usize
+    requires own { IsFor cache.now dfa.now }
+    requires late { (search_of input.now).earliest ≡ false }
+    requires whole { first % ROW_CELLS ≡ 0 }
+    requires at { IsMatchedAt dfa.now cache.now (search_of input.now) from first }
+    ensures at { IsMatchedAt dfa.now cache.now (search_of input.now) result first }
+    ensures low { from ≤ result }
+    ensures high { result ≤ (search_of input.now).end }
+{
+    let mut at = from;
+    while input.end() - at >= 4 {
+        if !stays_matched(dfa, cache, input, at, first) {
+            return at;
+        }
+        at += 1;
+        if !stays_matched(dfa, cache, input, at, first) {
+            return at;
+        }
+        at += 1;
+        if !stays_matched(dfa, cache, input, at, first) {
+            return at;
+        }
+        at += 1;
+        if !stays_matched(dfa, cache, input, at, first) {
+            return at;
+        }
+        at += 1;
+    }
+    at
 }
 
 /// Goes on over cells that lead to rows with a match. Returns the position and where the cells of the row there begin.
 #[inline(always)]
-fn pass_matches(dfa: &DFA, cache: &Cache, input: &Input<'_>, from: usize, row: u32) -> (usize, u32)
+pub fn pass_matches(dfa: &DFA, cache: &Cache, input: &Input<'_>, from: usize, row: u32) -> (usize, u32)
     requires own { IsFor cache.now dfa.now }
     requires late { (search_of input.now).earliest ≡ false }
     requires whole { row % ROW_CELLS ≡ 0 }
@@ -129,6 +240,10 @@ fn pass_matches(dfa: &DFA, cache: &Cache, input: &Input<'_>, from: usize, row: u
     let mut at = from;
     let mut first = row;
     while at < end {
+        at = past_match(dfa, cache, input, at, first);
+        if at >= end {
+            return (at, first);
+        }
         let Some(next) = over_match(dfa, cache, input, at, first) else {
             return (at, first);
         };
@@ -153,10 +268,15 @@ fn run(dfa: &DFA, cache: &Cache, input: &Input<'_>, from: Place) -> Place
     let mut found = from.found;
     while at < end {
         let cell = cell_at(dfa, cache, input, at, first, found);
-        if cell < MATCHED {
+        if cell < IDLE {
             let (next, row) = pass(dfa, cache, input, at + 1, cell, found);
             at = next;
             first = row;
+            continue;
+        }
+        if cell < MATCHED {
+            at = past_idle(dfa, cache, input, at + 1, cell, found);
+            first = cell % IDLE;
             continue;
         }
         if earliest {

@@ -8,6 +8,7 @@ mod caches;
 mod config;
 mod cuts;
 mod dfa;
+mod direct;
 mod error;
 mod fill;
 mod follow;

@@ -17,6 +17,7 @@ ghost use Rattle.nfa_lazy_dfa.specs.Stops.{IsStop};
 
 use crate::cache::{Cache, ROW_CELLS, UNKNOWN};
 use crate::dfa::DFA;
+use crate::direct::direct;
 use crate::error::StopError;
 use crate::fill::row_of;
 use crate::follow::{Stand, before};
@@ -146,6 +147,32 @@ pub fn first_row(
 /// The half match of a scan that is at this place.
 #[inline(always)]
 pub fn scan_from(
+    dfa: &DFA,
+    cache: &mut Cache,
+    input: &Input<'_>,
+    from: Place,
+) -> Result<Option<HalfMatch>, StopError>
+    requires own { IsFor cache.old dfa.now }
+    requires at { IsFoundAt dfa.now cache.old (search_of input.now) from }
+    ensures own { IsFor cache.new dfa.now }
+    ensures steps { let x = search_of input.now in IfOk result (λ half.
+        option_map half_found_of half ≡ scan_half dfa.now.nfa x dfa.now.kind x.earliest) }
+    ensures stops { IfErr result (IsStop dfa.now.nfa (search_of input.now)) }
+    ensures spends { Spends cache.old cache.new (((search_of input.now).end - from.at) + 1) 0 }
+    ensures reads { OnOk result (HasRead (IsOver dfa.now (search_of input.now)) cache.old cache.new from.at) }
+    ensures full { IfErr result (IsUsedUpAt cache.new dfa.now) }
+{
+    let (place, over) = direct(dfa, cache, input, from);
+    cache.count_steps(dfa, from.at, place.at);
+    if over {
+        return Ok(place.found);
+    }
+    scan_rest(dfa, cache, input, place)
+}
+
+/// The half match of a scan that is at this place, and that does not go straight to its end.
+#[inline(never)]
+fn scan_rest(
     dfa: &DFA,
     cache: &mut Cache,
     input: &Input<'_>,

@@ -15,7 +15,6 @@ use crate::dfa::DFA;
 use crate::error::StopError;
 use crate::scan::scan_half;
 use nfa_determinize::laws;
-use nfa_scan_core::starts::is_utf8_empty;
 use regex_search_core::{HalfMatch, Input};
 
 impl DFA {
@@ -36,6 +35,7 @@ impl DFA {
     /// let half = dfa.try_find_half(cache, Input::new(b"foo12345"))?;
     /// assert_eq!(rt; half.expect(rt, "a match").offset(), 8);
     /// ```
+    #[inline(always)]
     pub fn try_find_half<'h>(
         &self,
         cache: &mut Cache,
@@ -81,15 +81,15 @@ impl DFA {
         ensures small { capacity_of self.now < first_row_memory
             → HasToScan (nfa_of self.now) (search_of input.entry) → StopsAtStart (search_of input.entry) result }
     {
-        let earliest = !is_utf8_empty(&self.nfa);
+        let earliest = !self.on_boundary;
         let input = input.earliest(earliest);
         let half = self.try_find_half(cache, input)?;
         Ok(half.is_some())
     }
 }
 
-/// The half match of a search.
-#[inline(always)]
+/// The half match of a search. This is a separate call, so that no caller copies its input.
+#[inline(never)]
 fn find_half(
     dfa: &DFA,
     cache: &mut Cache,
@@ -107,7 +107,7 @@ fn find_half(
         → StopsAtStart (search_of input.now) result }
 {
     laws::steps_find_the_half();
-    if is_utf8_empty(&dfa.nfa) {
+    if dfa.on_boundary {
         return find_on_boundary(dfa, cache, input);
     }
     scan_half(dfa, cache, input)

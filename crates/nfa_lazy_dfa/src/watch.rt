@@ -1,24 +1,26 @@
 //! A scan that found nothing yet, and the last position at which it saw that no path is under way.
 //!
-//! A row whose only state is the start is *idle*: each path of an earlier start has ended there. If the NFA has
-//! assertions there are several, by the byte before. A scan knows one of them, and compares it with the row of each
-//! position. It begins with one of the two that earlier scans left last for a row that is not idle, so for the start of
-//! a match: the cache keeps their places. Where a step takes no known cell, it looks at the row itself, and goes on
-//! with that one if it is idle.
-ghost use Rattle.std.specs.Prelude.{◌≡◌, ◌+◌, ◌-◌, ◌%◌, ◌≤◌, ◌∷◌, [], IsTrue, None, true};
+//! A row whose only state is the start is *idle*: each path of an earlier start has ended there. If the NFA has no
+//! assertions, cells that lead to such a row are marked, and a scan stays in it in a loop of its own.
+//!
+//! If it has assertions there are several, by the byte before. A scan knows one of them, and compares it with the row of
+//! each position. It begins with one of the two that earlier scans left last for a row that is not idle, so for the start
+//! of a match: the cache keeps their places. Where a step takes no known cell, and where the scan ends, it looks at the
+//! row itself, and goes on with that one if it is idle.
+ghost use Rattle.std.specs.Prelude.{◌≡◌, ◌+◌, ◌-◌, ◌%◌, ◌<◌, ◌≤◌, None, true};
 ghost use Rattle.regex_search_core.specs.Search.{search_of};
 ghost use Rattle.nfa_lazy_dfa.specs.Places.{IsFirstAt, IsFoundAt};
 ghost use Rattle.nfa_lazy_dfa.specs.Rows.{IsFor, Spends, steps_of};
 ghost use Rattle.nfa_lazy_dfa.specs.Runs.{place_at};
-ghost use Rattle.nfa_lazy_dfa.specs.Stances.{stance_of};
 ghost use Rattle.nfa_lazy_dfa.specs.Watches.{IsBegun, IsIdlePlace, IsWatching};
 
-use crate::cache::{Cache, MATCHED, ROW_CELLS, UNKNOWN};
+use crate::cache::{Cache, IDLE, MATCHED, ROW_CELLS, UNKNOWN};
 use crate::dfa::DFA;
-use crate::follow::Stand;
-use crate::known::cell_at;
+use crate::fill::is_idle;
+use crate::known;
+use crate::known::{cell_at, past_idle};
 use crate::scan::{First, Place};
-use regex_search_core::{Input, StateID};
+use regex_search_core::Input;
 
 /// Where a scan is that has found nothing yet.
 #[derive(Clone, Copy)]
@@ -42,16 +44,6 @@ impl Watch {
             row: self.first / ROW_CELLS as u32,
             found: None,
         }
-    }
-}
-
-/// Whether the start is the only state of the stand.
-fn is_idle(stand: &Stand, start: StateID) -> bool
-    ensures { IsTrue result → (stance_of stand.now).states ≡ start ∷ [] }
-{
-    match &stand.states[..] {
-        [only] => *only == start,
-        _ => false,
     }
 }
 
@@ -104,6 +96,41 @@ pub fn watch_at(
             idle: idle_place(dfa, cache, idle / ROW_CELLS as u32),
         }
     }
+}
+
+/// The watch with a look at the row itself, which may be another idle row than the one that it knows. A scan without
+/// assertions has seen its mark.
+#[inline(always)]
+pub fn looked_at(dfa: &DFA, cache: &Cache, input: &Input<'_>, from: Watch) -> Watch
+    requires own { IsFor cache.now dfa.now }
+    requires apart { dfa.now.apart ≡ true }
+    requires watching { IsWatching dfa.now cache.now (search_of input.now) from }
+    ensures watching { IsWatching dfa.now cache.now (search_of input.now) result }
+    ensures at { result.at ≡ from.at }
+{
+    if !dfa.looks || from.start == from.at {
+        return from;
+    }
+    let here = idle_place(dfa, cache, from.first / ROW_CELLS as u32);
+    if here != from.first {
+        return from;
+    }
+    Watch {
+        at: from.at,
+        first: here,
+        start: from.at,
+        idle: here,
+    }
+}
+
+/// Whether the cell of the next byte is known.
+#[inline(always)]
+pub fn is_known(dfa: &DFA, cache: &Cache, input: &Input<'_>, watch: Watch) -> bool
+    requires own { IsFor cache.now dfa.now }
+    requires inside { watch.at < (search_of input.now).end }
+    requires watching { IsWatching dfa.now cache.now (search_of input.now) watch }
+{
+    cell_at(dfa, cache, input, watch.at, watch.first, None) != UNKNOWN
 }
 
 /// Where the cells of an idle row begin to which the scan is likely to come: of the two that earlier scans left last,
@@ -187,8 +214,8 @@ fn moved(dfa: &DFA, cache: &Cache, input: &Input<'_>, from: Watch, first: u32) -
     }
 }
 
-/// Goes on over cells that lead to rows without a match, four bytes at a time, as the scan of a half match does, and
-/// looks at each position whether the row is idle.
+/// Goes on over cells without a mark, four bytes at a time, as the scan of a half match does, and looks at each position
+/// whether the row is idle.
 #[inline(always)]
 fn pass(dfa: &DFA, cache: &Cache, input: &Input<'_>, from: Watch) -> Watch
     requires own { IsFor cache.now dfa.now }
@@ -201,22 +228,22 @@ fn pass(dfa: &DFA, cache: &Cache, input: &Input<'_>, from: Watch) -> Watch
     let mut w = from;
     while end - w.at >= 4 {
         let second = cell_at(dfa, cache, input, w.at, w.first, None);
-        if second >= MATCHED {
+        if second >= IDLE {
             return w;
         }
         w = moved(dfa, cache, input, w, second);
         let third = cell_at(dfa, cache, input, w.at, w.first, None);
-        if third >= MATCHED {
+        if third >= IDLE {
             return w;
         }
         w = moved(dfa, cache, input, w, third);
         let fourth = cell_at(dfa, cache, input, w.at, w.first, None);
-        if fourth >= MATCHED {
+        if fourth >= IDLE {
             return w;
         }
         w = moved(dfa, cache, input, w, fourth);
         let fifth = cell_at(dfa, cache, input, w.at, w.first, None);
-        if fifth >= MATCHED {
+        if fifth >= IDLE {
             return w;
         }
         w = moved(dfa, cache, input, w, fifth);
@@ -224,7 +251,80 @@ fn pass(dfa: &DFA, cache: &Cache, input: &Input<'_>, from: Watch) -> Watch
     w
 }
 
-/// Goes on as [`pass`], and counts the steps.
+/// Goes on as [`pass`], one byte at a time.
+#[inline(always)]
+fn pass_rest(dfa: &DFA, cache: &Cache, input: &Input<'_>, from: Watch) -> Watch
+    requires own { IsFor cache.now dfa.now }
+    requires apart { dfa.now.apart ≡ true }
+    requires watching { IsWatching dfa.now cache.now (search_of input.now) from }
+    ensures watching { IsWatching dfa.now cache.now (search_of input.now) result }
+    ensures low { from.at ≤ result.at }
+{
+    let end = input.end();
+    let mut w = from;
+    while w.at < end {
+        let next = cell_at(dfa, cache, input, w.at, w.first, None);
+        if next >= IDLE {
+            return w;
+        }
+        w = moved(dfa, cache, input, w, next);
+    }
+    w
+}
+
+/// Goes on over cells that lead to rows without a match, of which the idle ones are marked.
+#[inline(always)]
+fn pass_marked(dfa: &DFA, cache: &Cache, input: &Input<'_>, from: Watch) -> Watch
+    requires own { IsFor cache.now dfa.now }
+    requires apart { dfa.now.apart ≡ true }
+    requires watching { IsWatching dfa.now cache.now (search_of input.now) from }
+    ensures watching { IsWatching dfa.now cache.now (search_of input.now) result }
+    ensures low { from.at ≤ result.at }
+{
+    let end = input.end();
+    let mut at = from.at;
+    let mut first = from.first;
+    let mut start = from.start;
+    while at < end {
+        let cell = cell_at(dfa, cache, input, at, first, None);
+        if cell >= MATCHED {
+            break;
+        }
+        if cell < IDLE {
+            let (next, row) = known::pass(dfa, cache, input, at + 1, cell, None);
+            at = next;
+            first = row;
+            continue;
+        }
+        at = past_idle(dfa, cache, input, at + 1, cell, None);
+        first = cell % IDLE;
+        start = at;
+    }
+    Watch {
+        at,
+        first,
+        start,
+        idle: from.idle,
+    }
+}
+
+/// Goes on over known cells that lead to rows without a match, to the first other one or the end of the span.
+#[inline(always)]
+fn pass_all(dfa: &DFA, cache: &Cache, input: &Input<'_>, from: Watch) -> Watch
+    requires own { IsFor cache.now dfa.now }
+    requires apart { dfa.now.apart ≡ true }
+    requires watching { IsWatching dfa.now cache.now (search_of input.now) from }
+    ensures watching { IsWatching dfa.now cache.now (search_of input.now) result }
+    ensures low { from.at ≤ result.at }
+{
+    if !dfa.looks {
+        return pass_marked(dfa, cache, input, from);
+    }
+    let to = pass(dfa, cache, input, from);
+    pass_rest(dfa, cache, input, to)
+}
+
+/// Goes on as [`pass_all`], and counts the steps.
 #[inline(always)]
 pub fn pass_counted(dfa: &DFA, cache: &mut Cache, input: &Input<'_>, from: Watch) -> Watch
     requires own { IsFor cache.old dfa.now }
@@ -236,7 +336,7 @@ pub fn pass_counted(dfa: &DFA, cache: &mut Cache, input: &Input<'_>, from: Watch
     ensures spends { Spends cache.old cache.new (result.at - from.at) 0 }
     ensures counts { steps_of cache.new ≡ steps_of cache.old + (result.at - from.at) }
 {
-    let to = pass(dfa, cache, input, from);
+    let to = pass_all(dfa, cache, input, from);
     cache.count_steps(dfa, from.at, to.at);
     to
 }

@@ -19,7 +19,7 @@ use crate::cache::Cache;
 use crate::dfa::DFA;
 use crate::error::StopError;
 use crate::scan::{begin, next_row, place_after, scan_from, scan_half};
-use crate::watch::{Watch, first_watch, keep_left, pass_counted, watch_at};
+use crate::watch::{Watch, first_watch, is_known, keep_left, looked_at, pass_counted, watch_at};
 use nfa_determinize::laws;
 use nfa_scan_core::starts::is_utf8_empty;
 use regex_search_core::{HalfMatch, Input, PatternID};
@@ -85,8 +85,11 @@ fn window_from(
 {
     let mut w = pass_counted(dfa, cache, input, from);
     while w.at < input.end() {
+        if is_known(dfa, cache, input, w) {
+            break;
+        }
         let place = w.place();
-        let here = watch_at(dfa, cache, input, place, w.start, w.idle);
+        let here = looked_at(dfa, cache, input, w);
         let next = next_row(dfa, cache, input, place)?;
         let (after, over) = place_after(dfa, cache, input, place, next);
         if over {
@@ -100,8 +103,9 @@ fn window_from(
         keep_left(dfa, cache, input.start(), here, there);
         w = pass_counted(dfa, cache, input, there);
     }
+    let last = looked_at(dfa, cache, input, w);
     let half = scan_from(dfa, cache, input, w.place())?;
-    Ok(window_of(half, w.start))
+    Ok(window_of(half, last.start))
 }
 
 /// The window of one scan.

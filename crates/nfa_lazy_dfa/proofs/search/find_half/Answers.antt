@@ -4,8 +4,8 @@ use Rattle.nfa_determinize.specs.Configurations.{IsStepsHalf}
 use Rattle.nfa_lazy_dfa.proofs.ReadLemmas.{HasReadSpan-one}
 use Rattle.nfa_lazy_dfa.proofs.search.find_half.Goals as goal
 
-pub returns-then-is_utf8_empty-clause-answer : goal.returns-then-is_utf8_empty-clause-answer
-returns-then-is_utf8_empty-clause-answer c =
+pub returns-then-dfa-clause-answer : goal.returns-then-dfa-clause-answer
+returns-then-dfa-clause-answer c =
     let nfa = c.args.dfa.now.nfa in
     let kind = c.args.dfa.now.kind in
     let x = search_of c.args.input.now in

@@ -9,7 +9,7 @@ use Rattle.nfa_lazy_dfa.proofs.watch.idle_place.Goals as goal
 pub overflow_mul-result : goal.overflow_mul-result
 overflow_mul-result c =
     let less : c.args.row < vec_len c.args.cache.now.stands = search rules in
-    let few : c.args.row < 0x40_0000 = few-rows c.args.cache.now c.args.dfa.now c.requires c.args.row less in
+    let few : c.args.row < 0x20_0000 = few-rows c.args.cache.now c.args.dfa.now c.requires c.args.row less in
     omega arith
 
 pub returns-then-is_idle : goal.returns-then-is_idle

@@ -4,4 +4,4 @@ use Rattle.nfa_lazy_dfa.proofs.CacheLemmas.{IsFor-same}
 use Rattle.nfa_lazy_dfa.proofs.cache.Cache.allow.Goals as goal
 
 pub returns-clause-own : goal.returns-clause-own
-returns-clause-own c = IsFor-same c.args.dfa.now c.args.self.now _ refl refl refl refl c.requires
+returns-clause-own c = IsFor-same c.args.dfa.now c.args.self.now _ refl refl refl refl refl c.requires

@@ -1,13 +1,20 @@
--- The rows are those that have the first one.
-use Rattle.std.proofs.Common.{arith, refl, rules}
-use Rattle.nfa_lazy_dfa.proofs.CacheLemmas.{IsFor-same}
+-- The row is interned, and remembering it changes no row.
+use Rattle.std.proofs.Common.{◌∙◌, List, ap, slice_get, arith, rules}
+use Rattle.nfa_lazy_dfa.specs.Rows.{IsRowOf, stances_of}
+use Rattle.nfa_lazy_dfa.specs.Stances.{first_stance}
+use Rattle.nfa_lazy_dfa.proofs.WorkLemmas.{Spends-both}
+use Rattle.nfa_lazy_dfa.specs.declared.follow.Stand.{Stand}
 use Rattle.nfa_lazy_dfa.proofs.cache.Cache.begin.Goals as goal
 
 pub returns : goal.returns
-returns c = record {
-  own = IsFor-same c.args.dfa.now c.intern.new.self _ refl refl refl refl c.in_ok-row.ensures.own;
-  row = search rules;
-  spends = search rules;
-  full = search rules;
-  small = λ less. absurd (omega arith);
-}
+returns c =
+    let row : IsRowOf c.intern.new.self c.in_ok-row.row (first_stance c.args.start c.args.before c.args.more) =
+    search rules in
+    record {
+      own = c.remember.ensures.own;
+      row = ap (λ (s : List Stand). slice_get (stances_of s) c.in_ok-row.row) c.remember.ensures.same ∙ row;
+      spends = Spends-both c.args.self.now c.intern.new.self c.remember.new.self 0 0 1 0 (search rules)
+          c.remember.ensures.spends;
+      full = search rules;
+      small = λ less. absurd (omega arith);
+    }

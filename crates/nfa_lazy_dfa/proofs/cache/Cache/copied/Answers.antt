@@ -13,6 +13,7 @@ returns c =
     record {
       own = λ dfa own. record {
         rows = rw (cells, rows, ends) own.rows;
+        firsts = rw rows own.firsts;
         taken = rw rows own.taken;
         fits = own.fits;
       };

@@ -21,7 +21,7 @@ loop-at-preserved c =
     let new : Cache = record old { steps = c.tick.new.self } in
     let before = c.loop-at.invariant.spends in
     record {
-      own = IsFor-same c.args.dfa.now old new refl refl refl refl c.loop-at.invariant.own;
+      own = IsFor-same c.args.dfa.now old new refl refl refl refl refl c.loop-at.invariant.own;
       same = c.loop-at.invariant.same;
       low = omega arith;
       high = omega arith;

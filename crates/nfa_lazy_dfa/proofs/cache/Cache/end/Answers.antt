@@ -43,6 +43,7 @@ returns-clause-own c =
     record {
       rows = AreRows-end nfa kind (stances_of self.stands.items) self.cells.items self.ends.items c.requires.own.rows
           c.args.row c.in_ok-hit.hit (returns-clause-hit c);
+      firsts = c.requires.own.firsts;
       taken = c.requires.own.taken;
       fits = c.requires.own.fits;
     }

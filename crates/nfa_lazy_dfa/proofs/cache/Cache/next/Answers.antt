@@ -13,7 +13,7 @@ index-cell-requires c =
     omega (arith, c.place_of.ensures)
 
 pub returns-then-cell-clause-own : goal.returns-then-cell-clause-own
-returns-then-cell-clause-own c = IsFor-same c.args.dfa.now c.args.self.now _ refl refl refl refl c.requires.own
+returns-then-cell-clause-own c = IsFor-same c.args.dfa.now c.args.self.now _ refl refl refl refl refl c.requires.own
 
 pub returns-then-cell-clause-leads : goal.returns-then-cell-clause-leads
 returns-then-cell-clause-leads c =
@@ -29,7 +29,7 @@ returns-then-cell-clause-leads c =
     record { from = leads.from; was = leads.was; to = leads.to; is = leads.is; next = leads.next }
 
 pub fill-requires-clause-own : goal.fill-requires-clause-own
-fill-requires-clause-own c = IsFor-same c.args.dfa.now c.args.self.now _ refl refl refl refl c.requires.own
+fill-requires-clause-own c = IsFor-same c.args.dfa.now c.args.self.now _ refl refl refl refl refl c.requires.own
 
 pub returns-clause-leads : goal.returns-clause-leads
 returns-clause-leads c =

@@ -1,13 +1,13 @@
--- A row that is there fits.
+-- A row that is remembered fits.
 use Rattle.std.proofs.Common.{arith, rules}
 use Rattle.nfa_lazy_dfa.specs.Stances.{first_stance}
 use Rattle.nfa_lazy_dfa.proofs.CacheLemmas.{row-fits}
 use Rattle.nfa_lazy_dfa.proofs.cache.Cache.start.Goals as goal
 
-pub returns-then-is_first : goal.returns-then-is_first
-returns-then-is_first c =
+pub returns-in-Some : goal.returns-in-Some
+returns-in-Some c =
     let first = first_stance c.args.start c.args.before c.args.more in
-    let is = c.is_first.ensures.0 c.if-is_first.true in
+    let is = c.in-Some.ensures in
     record {
       own = c.requires.own;
       row = is;

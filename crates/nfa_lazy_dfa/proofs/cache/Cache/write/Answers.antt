@@ -39,14 +39,20 @@ returns-clause-own c =
       is = ap (slice_get stances) c.cell_to-cell.ensures.row ∙ leads.is;
       next = leads.next;
       plain = λ low. ap (λ (s : Stance). s.hit) (sym same) ∙ c.cell_to-cell.ensures.plain low;
+      idle = λ low high. ap (λ (s : Stance). s.states) (sym same) ∙ c.cell_to-cell.ensures.idle low high;
       matched = λ low high.
           ap (λ (s : Stance). is_some s.hit) (sym same) ∙ c.cell_to-cell.ensures.matched low high;
+      dead = λ low high. ap (λ (s : Stance). s.states) (sym same) ∙ c.cell_to-cell.ensures.dead low;
+      dead_plain = λ low high. ap (λ (s : Stance). s.hit) (sym same) ∙ c.cell_to-cell.ensures.dead_plain low high;
+      dead_matched = λ low high.
+          ap (λ (s : Stance). is_some s.hit) (sym same) ∙ c.cell_to-cell.ensures.dead_matched low;
     } in
     record {
       rows = subst (λ (place : ℕ). AreRows dfa.nfa dfa.kind stances (set self.cells.items place cell) self.ends.items)
           (sym c.place_of.ensures)
           (AreRows-write dfa.nfa dfa.kind stances self.cells.items self.ends.items c.requires.own.rows c.args.row
           c.args.byte cell leads.from leads.was small made);
+      firsts = c.requires.own.firsts;
       taken = c.requires.own.taken;
       fits = c.requires.own.fits;
     }

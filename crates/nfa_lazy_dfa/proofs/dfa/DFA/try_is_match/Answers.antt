@@ -19,7 +19,7 @@ returns-clause-answer c =
     let dfa = c.args.self.now in
     rw (c.is_some.ensures, ← is_some-map c.in_ok-half.half)
     (found-free dfa.nfa dfa.kind (search_of c.args.input) (search_of c.earliest-input.result) _
-    (ap not c.is_utf8_empty-earliest.ensures) c.earliest-input.ensures _ c.in_ok-half.ensures.answer)
+    (ap not c.args.self.now.on_boundary_is) c.earliest-input.ensures _ c.in_ok-half.ensures.answer)
 
 pub returns-in_err-half-clause-stops : goal.returns-in_err-half-clause-stops
 returns-in_err-half-clause-stops c =
@@ -65,5 +65,5 @@ returns-clause-reads c =
     let dfa = c.args.self.now in
     let same : search_of c.earliest-input.result ≡ record x { earliest = not (is_utf8_empty dfa.nfa) } =
     c.earliest-input.ensures
-    ∙ ap (λ (b : Bool). record x { earliest = not b }) c.is_utf8_empty-earliest.ensures in
+    ∙ ap (λ (b : Bool). record x { earliest = not b }) dfa.on_boundary_is in
     subst (HasReadSpan c.args.cache.now c.try_find_half.new.cache dfa) same c.in_ok-half.ensures.reads
