@@ -125,7 +125,7 @@ class Sources:
 
     def items(self, crate, name=r'\w+'):
         """The public items of a crate, those of the main files first."""
-        main = {'engine.rt', 'search.rt', 'choose.rt', 'hybrid.rt', 'compiler.rt', 'nfa.rt'}
+        main = {'engine.rt', 'search.rt', 'choose.rt', 'hybrid.rt', 'compiler.rt', 'nfa.rt', 'regex.rt'}
         files = sorted(self.code(crate, name), key=lambda it: it.split('/')[-1] not in main)
         return [item for file in files for item in items(self.text(file))]
 
