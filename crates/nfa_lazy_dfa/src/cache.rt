@@ -31,7 +31,7 @@ pub const DEAD: u32 = 0x8000_0000;
 /// How many cells a row has.
 pub const ROW_CELLS: usize = 256;
 
-/// How many bytes a row takes beside its states and patterns.
+/// How many bytes a row takes besides its states and patterns.
 const ROW_BYTES: usize = 1120;
 
 /// How many bytes the row takes that a scan begins with.
