@@ -14,7 +14,8 @@ root = pathlib.Path(__file__).resolve().parent.parent
 # Parts of the library, in the order in which the pages show them: a heading, the path that callers name, the crate of
 # the sources, the types, and the functions outside of types.
 GROUPS = [
-    ('One regex', 'nfa_meta', 'nfa_meta', 'Regex Builder Config BuildError FindMatches CapturesMatches HalfMatches', ''),
+    ('One regex', 'nfa_meta', 'nfa_meta',
+     'Regex Builder Config BuildError FindMatches CapturesMatches HalfMatches', ''),
     ('Templates of replacements', 'nfa_meta::interpolate', 'nfa_meta', 'Template Part TemplateError', ''),
     ('The PikeVM', 'nfa_engines::pikevm', 'nfa_pikevm', 'PikeVM Cache Config Builder FindMatches CapturesMatches', ''),
     ('The backtracker', 'nfa_engines::backtrack', 'nfa_backtrack',
@@ -236,6 +237,16 @@ def exports(sources, crate, module='lib'):
     for name in re.findall(r'(?m)^pub mod (\w+);', text):
         if name != 'laws':
             yield from exports(sources, crate, inner + name)
+
+
+def re_exports(sources, crate):
+    """A sentence about what a crate has from other crates, or nothing."""
+    names = {}
+    for name, home in exports(sources, crate):
+        if home:
+            names.setdefault(home, []).append(f'`{name}`')
+    said = '; '.join(f'{", ".join(these)} of `{home}`' for home, these in names.items())
+    return f'Re-exports {said}.' if names else ''
 
 
 def unlisted(sources):
