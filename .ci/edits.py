@@ -223,8 +223,8 @@ def check_edits(sources, mutants):
     """Checks that each edit names a clause that there is, and that the table of CONTRIBUTING has it, and no other."""
     edits = {re.sub(r'crates/(\w+)/must-fail/(.*)\.edit', r'\1/\2', it)
              for it in sources.files(r'crates/\w+/must-fail/[\w-]+\.edit')}
-    listed = {row[1].strip('`'): row[2] for _, head, rows in tables(sources.text('CONTRIBUTING.md'))
-              if head == '| mutant | edit | refused by |' for row in rows}
+    listed = {row[0].strip('`'): row[1] for _, head, rows in tables(sources.text('CONTRIBUTING.md'))
+              if head == '| mutant | refused by |' for row in rows}
     wrong = [f'CONTRIBUTING lists the edit {it}, which is not there' for it in sorted(listed.keys() - edits)]
     for mutant in mutants:
         edit, clause = f'{mutant.crate}/{mutant.name}', '`' + mutant.refused_by.replace(' of ', '` of `') + '`'

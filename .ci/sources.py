@@ -14,12 +14,16 @@ root = pathlib.Path(__file__).resolve().parent.parent
 # Parts of the library, in the order in which the pages show them: a heading, the path that callers name, the crate of
 # the sources, the types, and the functions outside of types.
 GROUPS = [
+    ('One regex', 'nfa_meta', 'nfa_meta',
+     'Regex Builder Config BuildError FindMatches CapturesMatches HalfMatches', ''),
+    ('Templates of replacements', 'nfa_meta::interpolate', 'nfa_meta', 'Template Part TemplateError', ''),
     ('The PikeVM', 'nfa_engines::pikevm', 'nfa_pikevm', 'PikeVM Cache Config Builder FindMatches CapturesMatches', ''),
     ('The backtracker', 'nfa_engines::backtrack', 'nfa_backtrack',
      'BoundedBacktracker Cache Config Builder TryFindMatches TryCapturesMatches', 'min_visited_capacity'),
     ('The engine that chooses', 'nfa_choice', 'nfa_choice', 'Choice Engine ChoiceMatches ChoiceCaptures', ''),
     ('The engine for ends of matches', 'nfa_hybrid', 'nfa_hybrid', 'Hybrid Engine HalfMatches', ''),
-    ('The compiler', 'nfa_compiler', 'nfa_compiler', 'Compiler Config SyntaxError CompileError',
+    ('Items of half matches, for engines', 'nfa_hybrid::half_items', 'nfa_hybrid', '', 'half_span half_item'),
+    ('The compiler', 'nfa_compiler', 'nfa_compiler', 'Compiler Config SyntaxError CompileError OnlyPattern',
      'has_empty_loop'),
     ('What is asked and answered', 'nfa_engines', 'regex_search_core',
      'Input Match HalfMatch Span Captures CapturesPatternIter GroupInfo PatternSet PatternSetIter PatternID StateID '
@@ -35,7 +39,6 @@ GROUPS = [
     ('The bytes that each match begins with', 'nfa_prefix', 'nfa_prefix', '', 'literal_prefix find_prefix'),
     ('Fewer captures', 'nfa_captures', 'nfa_captures', 'WhichCaptures', 'keep_captures'),
     ('The lazy DFA', 'nfa_lazy_dfa', 'nfa_lazy_dfa', 'DFA Cache Config Builder StopError Window', ''),
-    ('The engine that runs the cheapest engine', 'nfa_meta', 'nfa_meta', 'Regex FindMatches', ''),
     ('Scans by steps, for determinizers', 'nfa_determinize::closure', 'nfa_determinize', '',
      'closure step pattern_by_kind kept'),
     ('Half matches by steps', 'nfa_determinize::scan', 'nfa_determinize', '', 'find_half scan_half'),
@@ -45,6 +48,9 @@ GROUPS = [
     ('What a written pattern finds', 'written_patterns::calls', 'written_patterns', '',
      'compile match_of_pattern is_match_of_pattern matches_of_pattern named_group_of_pattern'),
 ]
+
+# Crates that have public names which no group lists: those names, or none for all, which only engines use.
+FOR_ENGINES = {'nfa_search_base': None, 'nfa_prefix': {'Move', 'only_move'}}
 
 # The modules of laws: empty functions whose contracts are theorems.
 LAWS = [('nfa_engines::laws', 'nfa_engines'), ('nfa_choice::laws', 'nfa_choice'),
@@ -120,7 +126,7 @@ class Sources:
 
     def items(self, crate, name=r'\w+'):
         """The public items of a crate, those of the main files first."""
-        main = {'engine.rt', 'search.rt', 'choose.rt', 'hybrid.rt', 'compiler.rt', 'nfa.rt'}
+        main = {'engine.rt', 'search.rt', 'choose.rt', 'hybrid.rt', 'compiler.rt', 'nfa.rt', 'regex.rt'}
         files = sorted(self.code(crate, name), key=lambda it: it.split('/')[-1] not in main)
         return [item for file in files for item in items(self.text(file))]
 
@@ -213,6 +219,46 @@ def group(sources, crate, types, functions):
         calls = [it for it in found if it.kind == 'fn' and it.owner == owner
                  and (owner or it.name in functions.split())]
         yield owner, next((it for it in found if it.kind != 'fn' and it.name == owner), None), calls
+
+
+USES = re.compile(r'(?m)^pub use ([\w:]+)::(?:\{([^}]*)\}|(\w+(?: as \w+)?));')
+
+
+def exports(sources, crate, module='lib'):
+    """Yields each name that other crates find in a crate, except in its laws, and the crate that it is from, or none
+    if it is this one's."""
+    text = sources.text(f'crates/{crate}/src/{module}.rt')
+    for path, many, one in USES.findall(text):
+        home = path.split('::')[0]
+        for name in filter(None, map(str.strip, (many or one).split(','))):
+            yield name.split()[-1], None if sources.code(crate, home) else home
+    yield from ((it.name, None) for it in items(text) if it.owner is None)
+    inner = '' if module == 'lib' else f'{module}/'
+    for name in re.findall(r'(?m)^pub mod (\w+);', text):
+        if name != 'laws':
+            yield from exports(sources, crate, inner + name)
+
+
+def re_exports(sources, crate):
+    """A sentence about what a crate has from other crates, or nothing."""
+    names = {}
+    for name, home in exports(sources, crate):
+        if home:
+            names.setdefault(home, []).append(f'`{name}`')
+    said = '; '.join(f'{", ".join(these)} of `{home}`' for home, these in names.items())
+    return f'Re-exports {said}.' if names else ''
+
+
+def unlisted(sources):
+    """Yields the crate and the name of each public item that no group lists."""
+    listed = {}
+    for _, _, crate, types, functions in GROUPS:
+        listed.setdefault(crate, set()).update(types.split(), functions.split())
+    for crate, names in listed.items():
+        left_out = FOR_ENGINES.get(crate, set())
+        for name, home in exports(sources, crate) if left_out is not None else ():
+            if not home and name not in names | left_out:
+                yield crate, name
 
 
 def example(said):

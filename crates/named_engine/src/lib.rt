@@ -116,7 +116,7 @@ fn count_piked(engine: &PikeVM, cache: &mut pikevm::Cache, input: Input<'_>) -> 
     count
 }
 
-/// Why there is no number of matches.
+/// Why the matches were not counted.
 #[derive(Debug, Drop, Error)]
 pub enum Failure {
     /// The haystack is too long for the engine.

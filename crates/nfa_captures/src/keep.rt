@@ -13,7 +13,7 @@ use thompson_nfa::{BuildError, NFA};
 /// Returns the same NFA with only these captures.
 ///
 /// Each state keeps its number. A `Capture` of another slot becomes a `Union` of one alternative, so all paths stay. An
-/// NFA with group 0 alone has no explicit groups, and one with none has groups for no pattern.
+/// NFA with only group 0 has no explicit groups, and one with none has groups for no pattern.
 ///
 /// Fails with [`BuildError::Memory`] if an allocation failed, and with [`BuildError::Pattern`] if the NFA has more than
 /// 2147483647 patterns, so that no search could name the last one.

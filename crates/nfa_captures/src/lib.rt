@@ -1,8 +1,8 @@
-//! NFAs with fewer captures: with group 0 of each pattern alone, or with no group.
+//! NFAs with fewer captures: with only group 0 of each pattern, or with no group.
 //!
 //! The cache of a PikeVM has a row of slots for each state, as long as the NFA has slots. So an NFA of many patterns,
-//! or of patterns with many groups, takes much less memory without those that nobody asks for. No answer changes: an
-//! NFA with group 0 alone has the same matches, and one with no group the same half matches and sets (`laws`).
+//! or of patterns with many groups, takes much less memory without those that you do not need. No answer changes: an
+//! NFA with only group 0 has the same matches, and one with no group the same half matches and sets (`laws`).
 //!
 //! ```
 //! let nfa = Compiler::new().build_many(alloc, &["(a)(b)", "c"])?;

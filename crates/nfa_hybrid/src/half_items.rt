@@ -10,6 +10,12 @@ use nfa_engines::error::SearchError;
 use regex_search_core::{HalfMatch, Span};
 
 /// Returns the span of the half match: its offset, without bytes.
+///
+/// ```
+/// // hybrid of "foo[0-9]+"
+/// let half = hybrid.find_half(Input::new(b"foo1"));
+/// assert_eq!(rt; half_span(half).expect(rt, "a match").range(), 4..4);
+/// ```
 #[inline]
 pub fn half_span(half: Option<HalfMatch>) -> Option<Span>
     ensures span { result ≡ half_match_span (Ok half) }
@@ -25,6 +31,13 @@ pub fn half_span(half: Option<HalfMatch>) -> Option<Span>
 }
 
 /// Returns the half match as an item.
+///
+/// ```
+/// // hybrid of "foo[0-9]+"
+/// let half = hybrid.find_half(Input::new(b"foo1"));
+/// let item = half_item(half).expect(rt, "a match")?;
+/// assert_eq!(rt; item.offset(), 4);
+/// ```
 #[inline]
 pub fn half_item(half: Option<HalfMatch>) -> Option<Result<HalfMatch, SearchError>>
     ensures gives { GivesItem half_found_of (answer_by half_found_of (Ok half)) result }

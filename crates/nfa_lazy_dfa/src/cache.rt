@@ -35,7 +35,7 @@ pub const DEAD: u32 = 0x8000_0000;
 /// How many cells a row has.
 pub const ROW_CELLS: usize = 256;
 
-/// How many bytes a row takes beside its states and patterns.
+/// How many bytes a row takes besides its states and patterns.
 const ROW_BYTES: usize = 1120;
 
 /// The rows that searches of one DFA built so far.

@@ -13,6 +13,16 @@ const DEFAULT_CAPACITY: usize = 2 * 1024 * 1024;
 const DEFAULT_CLEARS: usize = 3;
 
 /// The options of a lazy DFA. Contracts see those that were set.
+///
+/// ```
+/// let config = Config::new()
+///     .match_kind(MatchKind::All)
+///     .cache_capacity(1 << 20)
+///     .minimum_cache_clear_count(None);
+/// assert_eq!(rt; config.get_match_kind(), MatchKind::All);
+/// assert_eq!(rt; config.get_cache_capacity(), 1 << 20);
+/// assert_eq!(rt; config.get_minimum_cache_clear_count(), None);
+/// ```
 #[derive(Clone, Copy, Debug)]
 pub struct Config {
     match_kind: Option<MatchKind>,
@@ -130,6 +140,14 @@ impl Default for Config {
 }
 
 /// A builder of lazy DFAs. Contracts see its configuration.
+///
+/// ```
+/// // nfa of "foo[0-9]+"
+/// let mut builder = Builder::new();
+/// builder.configure(Config::new().match_kind(MatchKind::All));
+/// let made = builder.build_from_nfa(nfa)?;
+/// assert_eq!(rt; made.get_config().get_match_kind(), MatchKind::All);
+/// ```
 #[derive(Clone, Copy, Debug)]
 pub struct Builder {
     config: Config,

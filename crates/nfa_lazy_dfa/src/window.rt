@@ -26,6 +26,14 @@ use regex_search_core::{HalfMatch, Input, PatternID};
 
 /// A part of the haystack that holds the match of a search. It ends where the match ends, and the match starts at its
 /// start or later.
+///
+/// ```
+/// // dfa of "foo[0-9]+"
+/// let found = dfa.try_find_window(cache, Input::new(b"a foo12 b"))?;
+/// let window = found.expect(rt, "a match");
+/// assert_eq!(rt; window.start()..window.end(), 2..7);
+/// assert_eq!(rt; window.pattern().as_usize(), 0);
+/// ```
 #[derive(Clone, Copy, Debug, PartialEq, Eq)]
 pub struct Window {
     half: HalfMatch,

@@ -38,6 +38,12 @@ pub struct Config {
 impl Config {
     /// Returns the default settings: unanchored, in UTF-8 mode, with a size limit of ten mebibytes; with a lazy DFA of
     /// at most 16 mebibytes, and a backtracker with its default capacity.
+    ///
+    /// ```
+    /// let config = Config::new();
+    /// assert!(rt; !config.anchored && config.utf8 && config.hybrid);
+    /// assert_eq!(rt; config.nfa_size_limit, 10 << 20);
+    /// ```
     pub fn new() -> Config
         ensures { result ≡ default_settings }
     {
@@ -52,6 +58,13 @@ impl Config {
     }
 
     /// Sets whether each search is bound to its start.
+    ///
+    /// ```
+    /// let config = Config::new().anchored(true);
+    /// let mut regex = Regex::builder().configure(config).build(alloc, "b+")?;
+    /// assert!(rt; regex.is_match(Input::new(b"bb")));
+    /// assert!(rt; !regex.is_match(Input::new(b"abb")));
+    /// ```
     pub fn anchored(self, yes: bool) -> Config
         ensures { result ≡ record self { anchored = yes } }
     {
@@ -65,6 +78,13 @@ impl Config {
     ///
     /// With `true`, a text that could match bytes that are not UTF-8 is not a pattern, and a search skips an empty
     /// match that splits a codepoint. With `false`, patterns may match any bytes, and an empty match may be anywhere.
+    ///
+    /// ```
+    /// let config = Config::new().utf8(false);
+    /// let mut regex = Regex::builder().configure(config).build(alloc, r"(?-u:\xFF)+")?;
+    /// let found = regex.find(Input::new(b"a\xFF\xFF"));
+    /// assert_eq!(rt; found.expect(rt, "a match").range(), 1..3);
+    /// ```
     pub fn utf8(self, yes: bool) -> Config
         ensures { result ≡ record self { utf8 = yes } }
     {
@@ -72,6 +92,12 @@ impl Config {
     }
 
     /// Sets the most bytes that the tables of one pattern may take while it is compiled.
+    ///
+    /// ```
+    /// let builder = Regex::builder().configure(Config::new().nfa_size_limit(10_000));
+    /// assert!(rt; builder.build(alloc, "[a-z]+").is_ok());
+    /// assert!(rt; builder.build(alloc, r"\w{20}").is_err());
+    /// ```
     pub fn nfa_size_limit(self, bytes: usize) -> Config
         ensures { result ≡ record self { nfa_size_limit = bytes } }
     {
@@ -83,6 +109,13 @@ impl Config {
 
     /// Sets whether searches begin with a lazy DFA. With `false`, the DFA never makes a row, and the other engines
     /// search each input whole.
+    ///
+    /// ```
+    /// let config = Config::new().hybrid(false);
+    /// let mut regex = Regex::builder().configure(config).build(alloc, "fo+")?;
+    /// assert!(rt; regex.is_match(Input::new(b"a foo")));
+    /// assert_eq!(rt; regex.ran(), Some(Engine::Backtracker));
+    /// ```
     pub fn hybrid(self, yes: bool) -> Config
         ensures { result ≡ record self { hybrid = yes } }
     {
@@ -93,6 +126,13 @@ impl Config {
     }
 
     /// Sets the most bytes that the rows of the lazy DFA may take: 1120 for each row, and 4 for each of its states.
+    ///
+    /// ```
+    /// let config = Config::new().hybrid_cache_capacity(100_000);
+    /// let mut regex = Regex::builder().configure(config).build(alloc, "fo+")?;
+    /// assert!(rt; regex.is_match(Input::new(b"a foo")));
+    /// assert_eq!(rt; regex.get_config().hybrid_cache_capacity, 100_000);
+    /// ```
     pub fn hybrid_cache_capacity(self, bytes: usize) -> Config
         ensures { result ≡ record self { hybrid_cache_capacity = bytes } }
     {
@@ -104,6 +144,13 @@ impl Config {
 
     /// Sets the most bytes that the marks of a search of the backtracker may take, rounded up to whole blocks of eight
     /// bytes. The PikeVM searches inputs that need more.
+    ///
+    /// ```
+    /// let config = Config::new().hybrid(false).backtrack_visited_capacity(0);
+    /// let mut regex = Regex::builder().configure(config).build(alloc, "fo+")?;
+    /// assert!(rt; regex.is_match(Input::new(b"a foo")));
+    /// assert_eq!(rt; regex.ran(), Some(Engine::PikeVM));
+    /// ```
     pub fn backtrack_visited_capacity(self, bytes: usize) -> Config
         ensures { result ≡ record self { backtrack_visited_capacity = Some bytes } }
     {
@@ -166,6 +213,11 @@ pub struct Builder {
 
 impl Builder {
     /// Returns a builder with the default settings and the default syntax.
+    ///
+    /// ```
+    /// let mut regex = Builder::new().build(alloc, "[0-9]+")?;
+    /// assert!(rt; regex.is_match(Input::new(b"foo 12")));
+    /// ```
     pub fn new() -> Builder
         ensures { result ≡ default_builder }
     {
@@ -183,6 +235,19 @@ impl Builder {
     }
 
     /// Replaces the syntax of texts.
+    ///
+    /// ```
+    /// let flags = Flags {
+    ///     case_insensitive: true,
+    ///     ..Flags::default()
+    /// };
+    /// let syntax = Syntax {
+    ///     flags,
+    ///     ..Syntax::default()
+    /// };
+    /// let mut regex = Regex::builder().syntax(syntax).build(alloc, "foo")?;
+    /// assert!(rt; regex.is_match(Input::new(b"FOO")));
+    /// ```
     pub fn syntax(self, syntax: Syntax) -> Builder
         ensures { result ≡ record self { syntax = syntax } }
     {
@@ -216,6 +281,12 @@ impl Builder {
     /// one is preferred.
     ///
     /// Fails as [`Builder::build`] does. The error has the number of the pattern that failed.
+    ///
+    /// ```
+    /// let mut regex = Regex::builder().build_many(alloc, &["[a-z]+", "[0-9]+"])?;
+    /// let found = regex.find(Input::new(b"12"));
+    /// assert_eq!(rt; found.expect(rt, "a match").pattern().as_usize(), 1);
+    /// ```
     pub fn build_many(&self, alloc: Global, patterns: &[&str]) -> Result<Regex, BuildError>
         ensures built { IfOk result (λ made.
             IsBuiltFrom self.now (map (λ text. text.now) patterns.now) made.nfa) }
@@ -230,6 +301,12 @@ impl Builder {
     }
 
     /// Makes a regex of the NFA, with empty caches. Settings of the NFA have no effect. The only error is `Memory`.
+    ///
+    /// ```
+    /// // nfa of "foo[0-9]+"
+    /// let mut regex = Regex::builder().build_from_nfa(alloc, nfa)?;
+    /// assert!(rt; regex.is_match(Input::new(b"foo12345")));
+    /// ```
     pub fn build_from_nfa(&self, alloc: Global, nfa: NFA) -> Result<Regex, SearchError>
         ensures engines { IfOk result (λ made. made ≡ engines_of nfa self.now.config.backtrack_visited_capacity) }
         ensures memory { IsOkUnless result SearchError.Memory }

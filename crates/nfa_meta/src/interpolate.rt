@@ -76,6 +76,13 @@ impl<'t> Template<'t> {
     ///
     /// Fails if the text names a group that the pattern does not have, if a brace is not closed, or if allocation
     /// fails.
+    ///
+    /// ```
+    /// // regex of r"(\w+) (?<last>\w+)"
+    /// let pattern = PatternID::new(0).expect(rt, "the first pattern");
+    /// let template = Template::parse(alloc, b"$last, $1", regex.group_info(), pattern)?;
+    /// assert_eq!(rt; template.parts.len(), 3);
+    /// ```
     pub fn parse(
         alloc: Global,
         text: &'t [u8],
@@ -100,6 +107,16 @@ impl<'t> Template<'t> {
     /// failed.
     ///
     /// Requires captures whose spans are in the haystack, as searches of the haystack return them.
+    ///
+    /// ```
+    /// // regex of "(?<y>[0-9]{4})-(?<m>[0-9]{2})"
+    /// let template = regex.parse_template(alloc, b"$m/$y")?;
+    /// let mut captures = regex.create_captures(alloc)?;
+    /// regex.captures(Input::new(b"2026-11"), &mut captures);
+    /// let mut output = Vec::new(alloc);
+    /// template.fill(b"2026-11", &captures, &mut output)?;
+    /// assert_eq!(rt; output.as_slice(), b"11/2026".as_slice());
+    /// ```
     pub fn fill(
         &self,
         haystack: &[u8],
@@ -122,6 +139,14 @@ impl<'t> Template<'t> {
     /// Requires captures of matches of the haystack that do not overlap, from left to right, as
     /// [`Regex::captures_all`](crate::Regex::captures_all) and
     /// [`Regex::first_captures`](crate::Regex::first_captures) return them.
+    ///
+    /// ```
+    /// // regex of "[0-9]+"
+    /// let template = regex.parse_template(alloc, b"<$0>")?;
+    /// let caught = regex.captures_all(alloc, Input::new(b"1 and 23"))?;
+    /// let output = template.fill_all(alloc, b"1 and 23", caught)?;
+    /// assert_eq!(rt; output.as_slice(), b"<1> and <23>".as_slice());
+    /// ```
     #[tactic(auto, using(std::proofs::lemmas::List::Elements::recursion_from_All))]
     pub fn fill_all(
         &self,

@@ -14,7 +14,7 @@ use std::alloc::{AllocError, Global};
 pub struct Parted<'w> {
     /// The options, in order, each with its value after it, if it takes one and there is one.
     pub options: Vec<Word<'w>>,
-    /// All other words, in order, but for the first `--` that is not a value.
+    /// All other words, in order, except for the first `--` that is not a value.
     pub operands: Vec<Word<'w>>,
 }
 

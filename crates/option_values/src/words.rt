@@ -36,7 +36,7 @@ impl<'w> Word<'w> {
 }
 
 impl fmt::Display for NotText<'_> {
-    /// Bytes that are no text are shown as U+FFFD.
+    /// Bytes that are not UTF-8 are shown as U+FFFD.
     fn fmt<W: fmt::Write>(&self, f: &mut fmt::Formatter<W>) -> fmt::Result {
         write!(f, "argument {} is not UTF-8: ", self.word.place)?;
         for chunk in self.word.bytes.utf8_chunks() {
@@ -49,7 +49,7 @@ impl fmt::Display for NotText<'_> {
     }
 }
 
-/// Returns the arguments of the program, in order, but for the first, which is its name. The only error is that
+/// Returns the arguments of the program, in order, except for the first, which is its name. The only error is that
 /// allocation failed.
 pub fn arguments(rt: &HostRuntime) -> Result<Vec<Vec<u8>>, AllocError> {
     let mut arguments = Vec::new(rt.alloc());

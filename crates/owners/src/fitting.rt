@@ -1,4 +1,4 @@
-//! A user that is handed any cache, and makes it fit when it runs.
+//! A user that takes any cache, and makes it fit at run time.
 
 use nfa_engines::Input;
 use nfa_engines::error::SearchError;

@@ -5,25 +5,25 @@ use nfa_engines::error::SearchError;
 use nfa_engines::{Input, NFA, backtrack, pikevm};
 use std::alloc::Global;
 
-/// Counts what stands in matches of an NFA that may change.
+/// Counts the bytes in matches of an NFA that may change.
 #[derive(Drop)]
 pub struct Highlighter {
     choice: Choice,
 }
 
 impl Highlighter {
-    /// Counts matches of this NFA. The error is that a growth was refused.
+    /// Makes a highlighter of matches of this NFA. The only error is `Memory`.
     pub fn new(alloc: Global, nfa: NFA) -> Result<Highlighter, SearchError> {
         let choice = Choice::new(alloc, nfa, backtrack::Config::new(), pikevm::Config::new())?;
         Ok(Highlighter { choice })
     }
 
-    /// Counts matches of this NFA from here on. After a refusal it counts those of the old one.
+    /// Counts matches of this NFA from now on. After an error it counts those of the old one.
     pub fn look_for(&mut self, nfa: NFA) -> Result<(), SearchError> {
         self.choice.replace(nfa)
     }
 
-    /// How many bytes of the text stand in matches.
+    /// Returns the number of bytes that are in matches.
     pub fn marked(&mut self, text: &[u8]) -> usize {
         let mut marked = 0usize;
         for found in self.choice.find_iter(Input::new(text)) {

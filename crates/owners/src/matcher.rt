@@ -6,7 +6,7 @@ use nfa_engines::pikevm::{Cache, PikeVM};
 use nfa_engines::{Input, Match};
 use std::alloc::Global;
 
-/// A PikeVM with a cache of its own.
+/// A PikeVM and a cache that fits it.
 #[derive(Drop)]
 pub struct Matcher {
     vm: PikeVM,
@@ -15,13 +15,13 @@ pub struct Matcher {
 }
 
 impl Matcher {
-    /// A cache is made for the PikeVM. The error is that a growth was refused.
+    /// Makes a cache for the PikeVM. The only error is `Memory`.
     pub fn new(alloc: Global, vm: PikeVM) -> Result<Matcher, SearchError> {
         let cache = vm.create_cache(alloc)?;
         Ok(Matcher { vm, cache })
     }
 
-    /// The first match in the text.
+    /// Returns the first match in the text.
     pub fn find(&mut self, text: &[u8]) -> Option<Match> {
         self.vm.find(&mut self.cache, Input::new(text))
     }

@@ -47,7 +47,7 @@ pub const NAMES: &[&str] = &[
 /// Why a test lacks what it searches with.
 #[derive(Clone, Copy, Debug, PartialEq, Eq)]
 pub enum MakeError {
-    /// A growth was refused.
+    /// Allocation failed.
     Memory,
     /// No sample has that name.
     UnknownName,
@@ -132,7 +132,7 @@ pub fn of_kind(alloc: Global, name: &str, kind: MatchKind) -> Result<PikeVM, Mak
     Ok(builder.build_from_nfa(nfa_named(alloc, name)?)?)
 }
 
-/// A search of the span of the haystack from `start` to `end`; none where that is no span of it.
+/// A search of the span of the haystack from `start` to `end`, or none if the haystack has no such span.
 pub fn input_in<'h>(
     haystack: &'h [u8],
     start: usize,
