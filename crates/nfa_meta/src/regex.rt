@@ -42,7 +42,7 @@ use nfa_engines::pikevm;
 use nfa_lazy_dfa::{Cache, DFA};
 use nfa_match_spans::records_match_spans;
 use nfa_onepass::OnePass;
-use nfa_prefix::literal_prefix;
+use nfa_prefix::Literals;
 use regex_search_core::{GroupInfo, HalfMatch, Input, Match, NonMaxUsize, PatternID};
 use std::alloc::Global;
 use std::marker::Model;
@@ -63,8 +63,8 @@ pub struct Regex {
     one_pass: OnePass,
     /// Each way to a match writes where the match starts and ends.
     records_spans: bool,
-    /// The bytes that each match begins with.
-    prefix: Vec<u8>,
+    /// What each match begins with.
+    literals: Literals,
     /// The last match was at the first start of its search, so the next one may be, too.
     matched_at_first: bool,
 }
@@ -79,7 +79,7 @@ impl Drop for Regex {
             choice: _,
             one_pass: _,
             records_spans: _,
-            prefix: _,
+            literals: _,
             matched_at_first: _,
         } = self;
     }
@@ -93,7 +93,7 @@ impl Model for Regex {
     ghost use Rattle.nfa_choice.specs.ChoiceState.{ChoiceState, kind_in};
     ghost use Rattle.nfa_match_spans.specs.StatePaths.{RecordsMatchSpans};
     ghost use Rattle.thompson_nfa.specs.Automaton.{IsAutomaton};
-    ghost use Rattle.nfa_prefix.specs.Prefixes.{BeginsWith};
+    ghost use Rattle.nfa_prefix.specs.Literals.{AreLiteralsOf};
     ghost use Rattle.nfa_onepass.specs.Tables.{IsFor as IsTableFor};
     ghost use Rattle.nfa_meta.specs.Built.{row_capacity};
 
@@ -107,7 +107,7 @@ impl Model for Regex {
         × (kind_in r.choice ≡ LeftmostFirst) × IsFor r.cache r.dfa
         × (r.config.backtrack_visited_capacity ≡ r.choice.visited_capacity)
         × IsAutomaton r.choice.nfa × (r.records_spans ≡ true → RecordsMatchSpans r.choice.nfa)
-        × BeginsWith r.choice.nfa r.prefix.items
+        × AreLiteralsOf r.choice.nfa r.literals
         × IsTableFor r.choice.nfa r.one_pass };
 }
 
@@ -177,7 +177,7 @@ impl Regex {
         let Ok(records_spans) = records_match_spans(alloc, &nfa) else {
             return Err(SearchError::Memory);
         };
-        let Ok(prefix) = literal_prefix(alloc, &nfa) else {
+        let Ok(literals) = Literals::new(alloc, &nfa) else {
             return Err(SearchError::Memory);
         };
         let Ok(one_pass) = OnePass::new(alloc, &nfa) else {
@@ -191,7 +191,7 @@ impl Regex {
             choice,
             one_pass,
             records_spans,
-            prefix,
+            literals,
             matched_at_first: true,
         })
     }

@@ -1,2 +1,4 @@
+pub mod FewBytes
+pub mod Literals
 pub mod Prefixes
 pub mod PrefixLaws

@@ -1,7 +1,7 @@
-//! The bytes that each match of an NFA begins with, and a search for them.
+//! What each match of an NFA begins with, and a search for it.
 //!
-//! A search may jump to the first position at which these bytes occur, since no match starts before it. If they do not
-//! occur, nothing matches. The laws say so (`laws`).
+//! A search may jump to the first position at which the bytes occur that each match begins with, since no match starts
+//! before it. If they do not occur, nothing matches. The laws say so (`laws`). [`Literals`] says where to begin.
 //!
 //! ```
 //! // NFA of "foo[0-9]+": "foo"
@@ -10,10 +10,14 @@
 //! ```
 #![tactic(auto)]
 
+pub mod few_bytes;
 pub mod find;
 pub mod laws;
+pub mod literals;
 mod only_move;
 pub mod prefix;
 
+pub use few_bytes::FewBytes;
 pub use find::find_prefix;
+pub use literals::Literals;
 pub use prefix::literal_prefix;

@@ -1,25 +1,23 @@
-//! The bytes that each match begins with.
+//! What each match begins with.
 ghost use Rattle.std.specs.Prelude.{IfNone, IfSome};
 ghost use Rattle.regex_search_core.specs.Search.{search_of};
 ghost use Rattle.nfa_engines.specs.Laws.{MatchesNothing};
 ghost use Rattle.nfa_engines.specs.StartLaws.{IsUnbound};
-ghost use Rattle.nfa_prefix.specs.Prefixes.{BeginsWith};
+ghost use Rattle.nfa_prefix.specs.Literals.{AreLiteralsOf};
 ghost use Rattle.nfa_choice.specs.ChoiceState.{kind_in};
 ghost use Rattle.nfa_meta.specs.Windowed.{IsRestOf, IsWindowed};
 ghost use Rattle.nfa_meta.specs.WindowRuns.{AnswersAs, HalvesAs, HasNoHalf, HasNoMatch, IsWindowOf};
 
 use crate::regex::Regex;
-use nfa_engines::laws::{bytes_may_be_skipped, starts_may_be_passed};
-use nfa_prefix::find_prefix;
-use nfa_prefix::laws::{
-    no_match_without_prefix, nothing_has_no_answer, starts_without_prefix_may_be_passed,
-};
+use nfa_engines::laws::starts_may_be_passed;
+use nfa_prefix::Literals;
+use nfa_prefix::laws::nothing_has_no_answer;
 use regex_search_core::Input;
 use thompson_nfa::NFA;
 
 impl Regex {
-    /// Returns the input from the first position on at which the prefix of each match occurs. Returns `None` if it does
-    /// not occur, so that nothing matches.
+    /// Returns the input from the first position on at which a match may start, as far as the literals say. Returns
+    /// `None` if they say that nothing matches.
     pub(super) fn from_prefix<'h>(&self, input: Input<'h>) -> Option<Input<'h>>
         requires windowed { IsWindowed self.now.nfa (search_of input) }
         ensures nothing { IfNone result (HasNoMatch self.now.nfa (kind_in self.now) (search_of input.entry)) }
@@ -29,7 +27,7 @@ impl Regex {
     {
         starts_may_be_passed();
         nothing_has_no_answer();
-        rest_from(self.choice.get_nfa(), &self.prefix, input)
+        rest_from(self.choice.get_nfa(), &self.literals, input)
     }
 
     /// Returns the same for a search for the end of a match, which may be the earliest one. Where a match may not start
@@ -44,25 +42,19 @@ impl Regex {
         if !self.is_unbound(&input) {
             return Some(input);
         }
-        rest_from(self.choice.get_nfa(), &self.prefix, input)
+        rest_from(self.choice.get_nfa(), &self.literals, input)
     }
 }
 
-/// Returns the input of a search from the first position on at which the prefix occurs, with which each match begins.
-/// Returns `None` if it does not occur, so that nothing matches.
-fn rest_from<'h>(nfa: &NFA, prefix: &[u8], input: Input<'h>) -> Option<Input<'h>>
-    requires begins { BeginsWith nfa.now prefix.now }
+/// Returns the input of a search from a position on before which no match starts, as far on as the literals say. Returns
+/// `None` if they say that nothing matches.
+fn rest_from<'h>(nfa: &NFA, literals: &Literals, input: Input<'h>) -> Option<Input<'h>>
+    requires of { AreLiteralsOf nfa.now literals.now }
     requires unbound { IsUnbound nfa.now (search_of input) }
     ensures nothing { IfNone result (MatchesNothing nfa.now (search_of input.entry)) }
     ensures rest { IfSome result (λ part. IsRestOf nfa.now (search_of input.entry) (search_of part)) }
 {
-    bytes_may_be_skipped();
-    starts_without_prefix_may_be_passed();
-    no_match_without_prefix();
-    if prefix.is_empty() {
-        return Some(input);
-    }
-    match find_prefix(input.haystack(), input.start(), input.end(), prefix) {
+    match literals.first_start(nfa, &input) {
         Some(at) => Some(input.range(at..input.end())),
         None => None,
     }

@@ -1,0 +1,10 @@
+-- What each match of an NFA begins with.
+use Rattle.nfa_paths.specs.Common.{Automaton}
+use Rattle.nfa_prefix.specs.FewBytes.{BeginsAmong}
+use Rattle.nfa_prefix.specs.Prefixes.{BeginsWith}
+use Rattle.nfa_prefix.specs.declared.literals.Literals.{Literals}
+
+-- the literals are those of the NFA: each of its matches begins with the prefix, and with one of the first bytes
+pub record AreLiteralsOf (nfa : Automaton) (literals : Literals) : Type 0 where
+  pub begins : BeginsWith nfa literals.prefix.items
+  pub among : BeginsAmong nfa literals.first

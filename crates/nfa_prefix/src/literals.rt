@@ -1,0 +1,85 @@
+//! What each match of an NFA begins with, and the first start that a search has to try.
+ghost use Rattle.std.specs.Prelude.{◌+◌, ◌≤◌, IfNone, IfOk, IfSome};
+ghost use Rattle.regex_search_core.specs.Search.{search_of};
+ghost use Rattle.nfa_engines.specs.Laws.{MatchesNothing};
+ghost use Rattle.nfa_engines.specs.StartLaws.{IsFirstStart, IsUnbound};
+ghost use Rattle.nfa_prefix.specs.Literals.{AreLiteralsOf};
+
+use crate::few_bytes::FewBytes;
+use crate::find::find_prefix;
+use crate::laws::{no_match_without_prefix, starts_without_prefix_may_be_passed};
+use crate::prefix::literal_prefix;
+use nfa_engines::laws::bytes_may_be_skipped;
+use regex_search_core::Input;
+use std::alloc::{AllocError, Global};
+use thompson_nfa::NFA;
+
+/// What each match of an NFA begins with.
+#[derive(Debug, Drop)]
+pub struct Literals {
+    /// The bytes that each match begins with.
+    prefix: Vec<u8>,
+    /// The bytes that a match may begin with.
+    first: FewBytes,
+}
+
+impl Literals {
+    /// Returns the literals of the NFA. The only error is that an allocation failed.
+    ///
+    /// ```
+    /// // NFA of "foo[0-9]+"
+    /// let literals = Literals::new(alloc, &nfa)?;
+    /// assert!(rt; literals.first_start(&nfa, &Input::new(b"a foo1")) == Some(2));
+    /// ```
+    pub fn new(alloc: Global, nfa: &NFA) -> Result<Literals, AllocError>
+        ensures { IfOk result (AreLiteralsOf nfa.now) }
+    {
+        Ok(Literals {
+            prefix: literal_prefix(alloc, nfa)?,
+            first: FewBytes::new(nfa),
+        })
+    }
+
+    /// Returns a position of the span before which no match starts, as far on as the literals say. Returns `None` if
+    /// they say that nothing matches.
+    ///
+    /// It is the first one at which the prefix of each match occurs. If there is no prefix, it is the first one whose
+    /// byte a match may begin with, or the end of the span. Requires that these are literals of the NFA, that neither
+    /// the search nor the NFA is anchored, and that a match may end anywhere.
+    ///
+    /// ```
+    /// // NFA of "foo[0-9]+", and its literals
+    /// assert!(rt; literals.first_start(&nfa, &Input::new(b"a foo1")) == Some(2));
+    /// assert!(rt; literals.first_start(&nfa, &Input::new(b"a fo1")) == None);
+    /// ```
+    pub fn first_start(&self, nfa: &NFA, input: &Input<'_>) -> Option<usize>
+        requires of { AreLiteralsOf nfa.now self.now }
+        requires unbound { IsUnbound nfa.now (search_of input.now) }
+        ensures nothing { IfNone result (MatchesNothing nfa.now (search_of input.now)) }
+        ensures first { IfSome result (IsFirstStart nfa.now (search_of input.now)) }
+        ensures within { IfSome result (λ at. at ≤ (search_of input.now).end + 1) }
+    {
+        bytes_may_be_skipped();
+        self.next_start(nfa, input, input.start())
+    }
+
+    /// Returns such a position from one on before which no match starts.
+    fn next_start(&self, nfa: &NFA, input: &Input<'_>, from: usize) -> Option<usize>
+        requires of { AreLiteralsOf nfa.now self.now }
+        requires unbound { IsUnbound nfa.now (search_of input.now) }
+        requires first { IsFirstStart nfa.now (search_of input.now) from }
+        requires within { from ≤ (search_of input.now).end + 1 }
+        ensures nothing { IfNone result (MatchesNothing nfa.now (search_of input.now)) }
+        ensures first { IfSome result (IsFirstStart nfa.now (search_of input.now)) }
+        ensures within { IfSome result (λ at. at ≤ (search_of input.now).end + 1) }
+    {
+        bytes_may_be_skipped();
+        starts_without_prefix_may_be_passed();
+        no_match_without_prefix();
+        let haystack = input.haystack();
+        if self.prefix.is_empty() {
+            return Some(self.first.next(haystack, from, input.end()));
+        }
+        find_prefix(haystack, from, input.end(), &self.prefix)
+    }
+}
