@@ -35,7 +35,7 @@ GROUPS = [
     ('The bytes that each match begins with', 'nfa_prefix', 'nfa_prefix', '', 'literal_prefix find_prefix'),
     ('Fewer captures', 'nfa_captures', 'nfa_captures', 'WhichCaptures', 'keep_captures'),
     ('The lazy DFA', 'nfa_lazy_dfa', 'nfa_lazy_dfa', 'DFA Cache Config Builder StopError Window', ''),
-    ('The engine that runs the cheapest engine', 'nfa_meta', 'nfa_meta', 'Regex FindMatches', ''),
+    ('The engine that runs the cheapest engine', 'nfa_meta', 'nfa_meta', 'Regex FindMatches CapturesMatches', ''),
     ('Scans by steps, for determinizers', 'nfa_determinize::closure', 'nfa_determinize', '',
      'closure step pattern_by_kind kept'),
     ('Half matches by steps', 'nfa_determinize::scan', 'nfa_determinize', '', 'find_half scan_half'),
