@@ -1,8 +1,8 @@
 -- Iterators over captures that search with a choice, or with an engine that shows itself as one: when they may search,
 -- and what they give and keep.
 use Rattle.std.specs.Global.{Vec}
-use Rattle.nfa_paths.proofs.Common.{◌≡◌, ◌⊎◌, Bool, false, None, Option, Result, IfErr, IfOk, refl, replicate, subst, map, All, IfErr-weaker, Search, Captured, slot_count}
-use Rattle.nfa_search_base.specs.Common.{CapturesGiven, WithCaptures, GivesCaptures, Row, row_of, row_span, HasGroups, AnswersRow, CapturesInside, CapturesMemory, CallsLead, DrainsAll, DrainsToError, WithCache, with_cache, GivesStepsWith, StepsWith, TakesStepWith, steps_with_state, steps_iter_state, can_step, takes_steps, AnswerIsInside, fresh}
+use Rattle.nfa_paths.proofs.Common.{◌≡◌, ◌⊎◌, Bool, false, None, Option, Result, Ok, Err, IsOk, IfErr, IfOk, refl, replicate, subst, map, All, IfErr-weaker, Search, Captured, slot_count}
+use Rattle.nfa_search_base.specs.Common.{Answer, CapturesGiven, filled_answer, held_unless, takes_bare_steps, WithCaptures, GivesCaptures, Row, row_of, row_span, HasGroups, AnswersRow, CapturesInside, CapturesMemory, CallsLead, DrainsAll, DrainsToError, WithCache, with_cache, GivesStepsWith, StepsWith, TakesStepWith, steps_with_state, steps_iter_state, can_step, takes_steps, AnswerIsInside, fresh}
 use Rattle.nfa_search_base.specs.declared.error.SearchError.{SearchError}
 use Rattle.nfa_search_base.specs.declared.error.SearchError.TheVariants.{Memory}
 use Rattle.nfa_search_base.specs.declared.iter.steps.Steps.{Steps}
@@ -11,6 +11,7 @@ use Rattle.nfa_search_base.proofs.CapturesRunLemmas.{RowsOf, captures-given, cap
 use Rattle.nfa_search_base.proofs.DrainedLemmas.{all-captures, calls-cache, error-captures, made-holds}
 use Rattle.nfa_search_base.proofs.EngineLemmas.{KeptBy, SearchesAs, SearchesOf, calls-kept, searches-serve, step-may}
 use Rattle.nfa_search_base.proofs.ItemLemmas.{ItemsOf, copies_of, ShellOf, plain_shell, steps_in}
+use Rattle.nfa_search_base.proofs.LentLemmas.{lent-step}
 use Rattle.nfa_search_base.proofs.LeavingLemmas.{all-to_end, shell-leaves, steps-leave}
 use Rattle.nfa_search_base.proofs.RunLemmas.{Begins}
 use Rattle.nfa_pikevm.specs.Engines.{Pike, kind_of}
@@ -78,6 +79,17 @@ module _ (Runs : Search → ChoiceState → ChoiceState → Type 0) where
       → takes_steps row_span (AsksRowBy Runs) (λ q. GivesCaptures q.backend) s r t → MayFillCaptures s.backend
       → MayFillCaptures t.backend
   step-goes s r t st may = step-may fills copies s r t st may
+
+  -- a step that makes no item is a call that gives the captures which it holds
+  pub captures-lent : (s t : Steps Capturing) (reply : Option (Result (Unit {0}) SearchError))
+      → takes_bare_steps row_span (AsksRowBy Runs) (λ q. filled_answer q.backend.captures) s reply t
+      → takes_steps row_span (AsksRowBy Runs) (λ q. GivesCaptures q.backend) s
+      (held_unless t.done t.backend.backend.captures) t
+  captures-lent s t reply st = lent-step (λ q. q.backend.captures) never-fails s t reply st
+    where
+      never-fails : (q : Capturing) (x : Search) (a : Answer Row) (q' : Capturing) → AsksRowBy Runs q x a q' → IsOk a
+      never-fails q x (Ok o) q' asked = refl
+      never-fails q x (Err e) q' asked = absurd asked.tells
 
   -- An iterator T.
   module _ {T : Type 0} (steps : T → StepsWith (WithCaptures (Unit {0})) ChoiceState) where

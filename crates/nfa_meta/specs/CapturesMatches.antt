@@ -1,11 +1,15 @@
 -- The iterator over the captures of a regex.
-use Rattle.std.specs.Prelude.{List, Option, Result}
-use Rattle.nfa_search_base.specs.Common.{MutBor, Search, Captured, WithCaptures, Row, GivesStepsWith, StepsWith}
+use Rattle.std.specs.Prelude.{ℕ, false, List, [], Option, Result}
+use Rattle.std.specs.Borrow.{Bor, Fml}
+use Rattle.std.specs.Io.BufRead.{Rests}
+use mir.Syntax.{named}
+use Rattle.nfa_search_base.specs.Common.{AnswersRow, CapturesGiven, MutBor, Search, Captured, whole, WithCaptures, Row, GivesStepsWith, LendsItem, StepsWith, count_left}
 use Rattle.nfa_search_base.specs.declared.error.SearchError.{SearchError}
-use Rattle.nfa_choice.specs.ChoiceState.{ChoiceState, KeepsEngines}
+use Rattle.nfa_choice.specs.ChoiceState.{ChoiceState, KeepsEngines, kind_in}
 use Rattle.nfa_choice.specs.Iterations.{CapturesLead, CapturesNextBy, CapturesOn, CapturesToEnd}
 use Rattle.nfa_meta.specs.WindowRuns.{RunsByWindow}
 use Rattle.nfa_meta.specs.declared.regex.captures_iter.CapturesMatches.{CapturesMatches}
+use Rattle.nfa_meta.specs.contracts.regex.captures_iter.CapturesMatches.{the_row}
 
 -- an iteration over the captures of x led from one regex to the other only by its searches, as far as it went
 abbrev pub RegexCapturesOn : Search → ChoiceState → ChoiceState → Type 0
@@ -34,3 +38,17 @@ CapturesGiveKept s = GivesStepsWith captures_next captures_steps KeepsEngines s
 -- the calls change the engine only by the searches of an iteration over x
 abbrev pub CapturesBySearches : Search → CapturesMatches → Type 0
 CapturesBySearches = CapturesLead RunsByWindow captures_steps
+
+-- its calls give the captures of the text, and keep the engine, which is r
+pub record GivesCaught (r : ChoiceState) (text : List ℕ) (s : CapturesMatches) : Type 0 where
+  pub given : CapturesGiven captures_next r.nfa (kind_in r) false (AnswersRow r.nfa (kind_in r) false) (whole text) s
+  pub keeps : CapturesGiveKept s
+
+-- the maximum number of items still to come
+abbrev pub captures_left : CapturesMatches → ℕ
+captures_left s = count_left (captures_steps s)
+
+-- once the captures that a call lent are no longer borrowed, it was a call that gave them
+abbrev pub LendsNext : MutBor CapturesMatches → Option (Bor Captured) → Fml
+LendsNext s lent = Rests (the_row (record { mir = named 0; lft = [] }) (record { mir = named 1; lft = [] })) s
+    (LendsItem captures_next captures_left s.now lent)

@@ -1,12 +1,12 @@
 -- What an engine's steps over captures give, if they go on until `None` or an error.
-use Rattle.nfa_paths.proofs.Common.{◌≡◌, ◌≤◌, false, refl, None, Option, ◌⊎◌, inl, inr, replicate, Result, Ok, Err, List, [], ◌∷◌, ◌++◌, map, All, IfErr, IfOk, length-replicate, All-cons, All-head, All-nil, All-tail, slot_count, Search, Captured, Automaton, arith}
+use Rattle.nfa_paths.proofs.Common.{◌≡◌, ◌∙◌, ◌≤◌, Bool, MatchKind, false, refl, None, Some, Option, ◌⊎◌, inl, inr, replicate, Result, Ok, Err, List, [], ◌∷◌, ◌++◌, map, All, IfErr, IfOk, length-replicate, All-cons, All-head, All-nil, All-tail, slot_count, Search, Captured, Automaton, arith}
 use Rattle.std.proofs.iter.runs.Made.{run_of_exit, run_of_turn}
-use Rattle.nfa_search_base.specs.Common.{Row, WithCaptures, row_of, row_span, AreRows, HasGroups, CapturesInside, match_in, CallsLead, DrainsAll, DrainsToError, AreDisjoint, AreMatches, MayFill, can_step, steps_iter_state, WithCache, with_cache, Answer, AnswerIsInside, fresh, SearchError, Memory, Steps}
+use Rattle.nfa_search_base.specs.Common.{CapturesGiven, Yields, Row, WithCaptures, row_of, row_span, AreRows, HasGroups, CapturesInside, match_in, CallsLead, DrainsAll, DrainsToError, AreDisjoint, AreMatches, MayFill, can_step, steps_iter_state, WithCache, with_cache, Answer, AnswerIsInside, fresh, SearchError, Memory, Steps}
 use Rattle.nfa_search_base.proofs.CapturesRunLemmas.{CapturesSteps, RowsOf, captures-given, captures-memory}
 use Rattle.nfa_search_base.proofs.EngineLemmas.{EngineOf, KeptBy, SearchesAs, SearchesOf, fills_by, searches-serve, step-may, steps-keep}
 use Rattle.nfa_search_base.proofs.ItemLemmas.{ItemsOf, StepsBy, copies_of, no_shell}
 use Rattle.nfa_search_base.proofs.LeavingLemmas.{LeavesAtEndBy, LeavesBy, all-to_end, steps-leave}
-use Rattle.nfa_search_base.proofs.ListLemmas.{matches-disjoint}
+use Rattle.nfa_search_base.proofs.OkItemLemmas.{oked-more}
 use Rattle.nfa_search_base.proofs.RunLemmas.{Begins, calls-keep}
 
 -- captures that were made for an NFA have its groups
@@ -39,28 +39,49 @@ module _ {A C X Y : Type 0} {asks : WithCache A C → Search → Answer X → Wi
       (steps-keep kept items.span items.gives) in
       keep s lead.items lead.last lead.item t lead.ran lead.over
 
+-- An iterator whose calls give the captures of x.
+module _ {nfa : Automaton} {kind : MatchKind} {earliest : Bool} {tells : Search → Answer Row → Type 0} {x : Search}
+    {T : Type 0} {steps : T → Option (Result Captured SearchError) → T → Type 0} {s : T}
+    (gives : CapturesGiven steps nfa kind earliest tells x s) where
+  -- the items of calls that go on to none are the captures of all matches of x, which are in its span, one after the
+  -- other
+  pub given-drained : (cs : List Captured) (last t : T) → Yields steps s (map Ok cs) last → steps last None t
+      → AreRows nfa kind earliest x (map row_of cs)
+      × AreMatches nfa kind earliest x (map match_in cs)
+      × All (HasGroups nfa) cs × All (CapturesInside x) cs × AreDisjoint x None (map match_in cs)
+  given-drained cs last t ran over =
+      let run = run_of_exit steps s (map Ok cs) last ran t over in
+      let items = run.3.0 in (
+        gives.all_rows (map Ok cs) last t cs ran over refl,
+        gives.all_matches (map Ok cs) last t cs ran over refl,
+        all_ok (HasGroups nfa) cs (rw items at (gives.groups run.0 run.0.seen run.1)),
+        all_ok (CapturesInside x) cs (rw items at (gives.inside run.0 run.0.seen run.1)),
+        gives.disjoint run.0 run.0.seen run.1 cs items,
+      )
+
+  -- the next captures are in the span, after the others
+  pub given-turn : (cs : List Captured) (last : T) (c : Captured) (t : T) → Yields steps s (map Ok cs) last
+      → steps last (Some (Ok c)) t
+      → CapturesInside x c × AreDisjoint x None (map match_in (cs ++ c ∷ []))
+  given-turn cs last c t ran over =
+      let run = run_of_turn steps s (map Ok cs) last ran (Ok c) t over in
+      let items = run.2.0 in (
+        all-last (λ item. IfOk item (CapturesInside x)) (map Ok cs) (Ok c)
+            (rw items at (gives.inside run.0 run.0.seen run.1)),
+        gives.disjoint run.0 run.0.seen run.1 (cs ++ c ∷ []) (items ∙ oked-more cs c),
+      )
+
 -- Steps of an engine that begin at x.
 module _ {E C S : Type 0} {searches : SearchesOf E C S Row} {captures : S → Captured} {e : E} {x : Search}
     (rows : RowsOf searches captures e x) {s : Steps S} (begins : Begins (SearchesAs searches e) x s) where
-  -- the items of calls that go on to none are the captures of all matches of x, which are in its span, one after the
-  -- other
+  -- the items of calls that go on to none are the captures of all matches of x
   drained : searches.May s.backend (steps_iter_state s).at → (cs : List Captured) (t : Steps S)
       → DrainsAll (CapturesSteps rows) s cs t
       → AreRows rows.nfa rows.kind rows.earliest x (map row_of cs)
       × AreMatches rows.nfa rows.kind rows.earliest x (map match_in cs)
       × All (HasGroups rows.nfa) cs × All (CapturesInside x) cs × AreDisjoint x None (map match_in cs)
   drained may cs t all =
-      let steps = CapturesSteps rows in
-      let gives = captures-given rows (no_shell steps) s begins may in
-      let run = run_of_exit steps s (map Ok cs) all.last all.ran t all.over in
-      let items = run.3.0 in (
-        gives.all_rows (map Ok cs) all.last t cs all.ran all.over refl,
-        gives.all_matches (map Ok cs) all.last t cs all.ran all.over refl,
-        all_ok (HasGroups rows.nfa) cs (rw items at (gives.groups run.0 run.0.seen run.1)),
-        all_ok (CapturesInside x) cs (rw items at (gives.inside run.0 run.0.seen run.1)),
-        matches-disjoint rows.nfa rows.kind rows.earliest x (map match_in cs)
-            (gives.first_matches (map Ok cs) all.last cs all.ran refl),
-      )
+      given-drained (captures-given rows (no_shell (CapturesSteps rows)) s begins may) cs all.last t all.ran all.over
 
   -- so they are if a result holds them
   pub all-captures : {V : Type 0} → searches.May s.backend (steps_iter_state s).at → (r : Result V SearchError)

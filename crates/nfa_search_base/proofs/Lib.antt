@@ -16,3 +16,4 @@ pub mod CapturesRunLemmas
 pub mod CapturesLemmas
 pub mod OkItemLemmas
 pub mod MayAnswerLemmas
+pub mod LentLemmas

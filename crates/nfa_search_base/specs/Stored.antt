@@ -1,11 +1,11 @@
 -- The iterators: those that keep their finder or engine, and those of an engine that borrows a cache for each step.
-use Rattle.std.specs.Prelude.{◌≡◌, ◌<◌, true, false, MatchBool, Option, None, OnSome, Result, Ok, option_map}
+use Rattle.std.specs.Prelude.{◌≡◌, ◌<◌, ℕ, true, false, MatchBool, Option, None, OnSome, IsSomeAnd, Result, Ok, is_none, option_map}
 use Rattle.nfa_paths.specs.Common.{MutBor, Count, at_most, Captured, Match, Search, Span, search_of}
 use Rattle.nfa_search_base.specs.Finders.{ServesOnAlong, match_span}
 use Rattle.nfa_search_base.specs.Items.{ends_at, items_left, matches_left}
-use Rattle.nfa_search_base.specs.IterStates.{Advances, Answer, AnswerIsInside, ComesAfter, IsInfalliblyInside, IsPast, IterState, SameButStart, SearchError, after, answer_span, repeats, shifted}
+use Rattle.nfa_search_base.specs.IterStates.{Advances, Answer, AnswerIsInside, ComesAfter, IsInfalliblyInside, IsPast, IterState, LeavesFewer, SameButStart, SearchError, after, answer_span, repeats, shifted}
 use Rattle.nfa_search_base.specs.Runs.{GivesKept}
-use Rattle.nfa_search_base.specs.WithCaptures.{WithCaptures}
+use Rattle.nfa_search_base.specs.WithCaptures.{WithCaptures, held_unless}
 use Rattle.nfa_search_base.specs.declared.iter.searcher.Offered.{Offered}
 use Rattle.nfa_search_base.specs.declared.iter.searcher.Offered.TheVariants.{Done, Again}
 use Rattle.nfa_search_base.specs.declared.iter.searcher.Searcher.{Searcher}
@@ -57,6 +57,23 @@ module _ {S X : Type 0} (accepts : S → Search → Type 0) (asks : S → Search
   abbrev pub can_step_infallibly : Steps S → Type 0
   can_step_infallibly s = ServesOnAlong accepts asks SameButStart (IsInfalliblyInside span) s.backend
       (steps_iter_state s).at
+
+-- A match is an X, and `span` gives its span. `asks` is a call.
+module _ {S X : Type 0} (span : X → Span) (asks : S → Search → Answer X → S → Type 0) where
+  -- A step of an iterator that has not ended gave this answer, and no item is made of it. The iterator ends if the
+  -- answer has no match.
+  pub record TakesBareStep (s : Steps S) (a : Answer X) (t : Steps S) : Type 0 where
+    pub step : Advances span asks s.backend (steps_iter_state s) a t.backend (steps_iter_state t)
+    pub ends : t.done ≡ is_none (answer_span span a)
+    pub rises : ComesAfter (steps_iter_state s) (answer_span span a)
+    pub fewer : LeavesFewer (steps_iter_state s) (answer_span span a) (steps_iter_state t)
+    pub same : SameButStart (steps_iter_state s).at (steps_iter_state t).at
+
+  -- if the iterator has ended, there is no reply and nothing changes; otherwise it takes a step, and the reply `shows`
+  -- its answer
+  abbrev pub takes_bare_steps : {R : Type 0} → (S → R → Answer X) → Steps S → Option R → Steps S → Type 0
+  takes_bare_steps shows s r t = MatchBool s.done ((r ≡ None) × (t ≡ s))
+      (IsSomeAnd r (λ reply. TakesBareStep s (shows t.backend reply) t))
 
 -- A match is an X, and `span` gives its span. `asks` is a call. An item is a Y, and `gives` says which item an answer
 -- gives in the state that the call left.
@@ -122,6 +139,14 @@ pub record StepsWith (A C : Type 0) : Type 0 where
 -- the steps with the value of the cache
 abbrev pub steps_with_state : {A C : Type 0} → StepsWith A C → Steps (WithCache A C)
 steps_with_state s = with_cache s.steps s.cache.now
+
+-- the maximum number of items still to come from these steps
+abbrev pub count_left : {A C : Type 0} → StepsWith A C → ℕ
+count_left s = items_left s.steps.done (steps_iter_state s.steps)
+
+-- the item of an iterator over captures that lends those which its steps hold
+abbrev pub held_item : {F C : Type 0} → StepsWith (WithCaptures F) C → Option (Result Captured SearchError)
+held_item s = held_unless s.steps.done s.steps.backend.captures
 
 -- A match is an X with this `span`, and an item is a Y. `asks` is a search. `gives` says which item an answer gives.
 module _ {A C X Y : Type 0} (span : X → Span) (asks : WithCache A C → Search → Answer X → WithCache A C → Type 0)

@@ -1,5 +1,5 @@
 -- Finders of captures.
-use Rattle.std.specs.Prelude.{◌≡◌, ◌⊎◌, ℕ, List, [], ◌∷◌, map, Option, None, Some, Result, Ok, Err, option_map, IsOk, unwrap_or}
+use Rattle.std.specs.Prelude.{◌≡◌, ◌⊎◌, ◌<◌, ℕ, OnSome, Bool, true, false, List, [], ◌∷◌, map, Option, None, Some, Result, Ok, Err, option_map, IsOk, unwrap_or}
 use Rattle.nfa_paths.specs.Common.{Bor, MutBor, Called, Mut, Drains, Captured, Found, Input, Search, Span, match_of, search_of}
 use Rattle.nfa_search_base.specs.Finders.{ServesOnAlong}
 use Rattle.nfa_search_base.specs.Items.{Item}
@@ -41,6 +41,21 @@ GivesCopy c (Err e) r = r ≡ Some (Err e)
 -- the item is a copy of the captures that the call left
 abbrev pub GivesCaptures : {F : Type 0} → WithCaptures F → Answer Row → Option (Result Captured SearchError) → Type 0
 GivesCaptures c a r = GivesCopy c.captures a r
+
+-- captures that are lent, as an item
+abbrev pub lent_item : Option (Bor Captured) → Option (Result Captured SearchError)
+lent_item r = option_map (λ c. Ok c.now) r
+
+-- the item of an iterator over captures that lends those which it holds, by whether it has ended
+abbrev pub held_unless : Bool → Captured → Option (Result Captured SearchError)
+held_unless true c = None
+held_unless false c = Some (Ok c)
+
+-- A call that lends captures. It is a call of the iterator that gives them as its item, and fewer items are `left`.
+pub record LendsItem {T : Type 0} (steps : T → Option (Result Captured SearchError) → T → Type 0) (left : T → ℕ)
+    (s : T) (lent : Option (Bor Captured)) (t : T) : Type 0 where
+  pub call : steps s (lent_item lent) t
+  pub fewer : OnSome lent (left t < left s)
 
 -- the items of the list, or those before some match and then `Memory`
 abbrev pub UpToRefusal : {X : Type 0} → List (Item X) → List (Item X) → Type 0

@@ -25,7 +25,7 @@ impl<'h, A: FindWith> Steps<'h, A> {
     ghost use Rattle.std.specs.Prelude.{◌⊎◌, false, IfErr, IfOk};
     ghost use Rattle.regex_search_core.specs.Search.{search_of};
     ghost use Rattle.nfa_search_base.specs.Runs.{CallsLead, DrainsAll, DrainsToError};
-    ghost use Rattle.nfa_search_base.specs.Stored.{with_cache, can_step, steps_iter_state, takes_steps};
+    ghost use Rattle.nfa_search_base.specs.Stored.{with_cache, can_step, steps_iter_state, takes_bare_steps, takes_steps};
     ghost use Rattle.nfa_search_base.specs.IterStates.{fresh};
 
     /// Makes an iteration over this input that has not begun.
@@ -42,6 +42,23 @@ impl<'h, A: FindWith> Steps<'h, A> {
         }
     }
 
+    /// Takes the next step, by searches with this cache, and makes no item: what the step found is left in `backend`.
+    /// Returns the reply of its last search, or `None` if the iteration has ended. It ends if there is no match.
+    /// Requires the same as [`Steps::next_with`]. Mix both calls at will.
+    #[inline]
+    pub fn advance_with(&mut self, cache: &mut A::Cache) -> Option<A::Reply>
+        requires { can_step A.accepts A.asks A.span (with_cache self.old cache.old) }
+        ensures { takes_bare_steps A.span A.asks (λ q. A.shows q.backend) (with_cache self.old cache.old) result
+            (with_cache self.new cache.new) }
+    {
+        if self.done {
+            return None;
+        }
+        let reply = self.searcher.step_with(&mut self.backend, cache);
+        self.done = self.backend.reply_span(reply).is_none();
+        Some(reply)
+    }
+
     /// Returns the next item, by searches with this cache. Requires that each search of the iteration may be made,
     /// after any earlier searches, and answers a match in its span.
     #[inline]
@@ -50,10 +67,7 @@ impl<'h, A: FindWith> Steps<'h, A> {
         ensures { takes_steps A.span A.asks (λ q. A.gives q.backend) (with_cache self.old cache.old) result
             (with_cache self.new cache.new) }
     {
-        if self.done {
-            return None;
-        }
-        let reply = self.searcher.step_with(&mut self.backend, cache);
+        let reply = self.advance_with(cache)?;
         let given = self.backend.item(reply);
         self.done = is_last(&given);
         given

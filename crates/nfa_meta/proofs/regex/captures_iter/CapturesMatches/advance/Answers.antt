@@ -1,0 +1,32 @@
+-- A step may be made, and leaves what the iterator keeps. It is a call that gives the captures which it holds.
+use Rattle.nfa_paths.proofs.Common.{refl}
+use Rattle.nfa_search_base.specs.Common.{steps_with_state, with_cache}
+use Rattle.nfa_meta.specs.CapturesMatches.{captures_steps}
+use Rattle.nfa_meta.specs.WindowRuns.{RunsByWindow}
+use Rattle.nfa_choice.proofs.CapturesLemmas.{captures-lent, step-goes, steps-serve}
+use Rattle.nfa_meta.proofs.regex.captures_iter.CapturesMatches.advance.Goals as goal
+
+pub advance_with-requires : goal.advance_with-requires
+advance_with-requires c =
+    let s = c.args.self.now in steps-serve RunsByWindow (steps_with_state (captures_steps s)) s.holds
+
+pub invariant_of-self : goal.invariant_of-self
+invariant_of-self c =
+    let s = c.args.self.now in
+    let from = steps_with_state (captures_steps s) in
+    let to = with_cache c.advance_with.new.self c.advance_with.new.cache in
+    record {
+      holds = step-goes RunsByWindow from _ to
+          (captures-lent RunsByWindow from to c.advance_with.result c.advance_with.ensures) s.holds;
+    }
+
+pub returns : goal.returns
+returns c =
+    let from = steps_with_state (captures_steps c.args.self.now) in
+    let to = with_cache c.advance_with.new.self c.advance_with.new.cache in
+    record {
+      takes = record {
+        step = captures-lent RunsByWindow from to c.advance_with.result c.advance_with.ensures;
+        cache = refl;
+      };
+    }
