@@ -9,7 +9,6 @@ ghost use Rattle.nfa_meta.specs.MatchSlots.{match_slots};
 ghost use Rattle.nfa_meta.specs.WindowRuns.{AnswersAs, HasNoMatch, IsWindowOf};
 
 use crate::regex::Regex;
-use crate::regex::window::NoWindow;
 use regex_search_core::{Captures, Input, Match, NonMaxUsize};
 
 impl Regex {
@@ -60,24 +59,11 @@ impl Regex {
             AnswersAs self.old.nfa (kind_in self.old) (search_of input.entry) (search_of part))) }
         ensures same { self.new ≡ self.old }
     {
-        match self.window(input) {
-            Ok(None) => {
-                self.matched_at_first = false;
-                Err(None)
-            }
-            Ok(Some(window)) => {
-                let found = self.find_near_start(window);
-                self.matched_at_first = self.is_at_first(&input, found);
-                found.ok_or(Some(window))
-            }
-            Err(NoWindow) => match self.find_from_window(input) {
-                Some(found) => {
-                    self.matched_at_first = self.is_at_first(&input, found);
-                    found.ok_or(None)
-                }
-                None => Err(Some(input)),
-            },
+        if let Some(found) = self.find_by_dfa(input) {
+            self.matched_at_first = self.is_at_first(&input, found);
+            return found.ok_or(None);
         }
+        Err(self.part_to_search(input))
     }
 }
 

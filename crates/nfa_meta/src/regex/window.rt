@@ -15,10 +15,11 @@ ghost use Rattle.nfa_meta.specs.WindowRuns.{AnswersAs, HasNoMatch, IsWindowOf, R
 use crate::laws;
 use crate::regex::Regex;
 use nfa_determinize::laws::steps_find_the_half;
-use nfa_engines::laws::bytes_may_be_skipped;
+use nfa_engines::laws::{bytes_may_be_skipped, found_is_an_accepting_path};
 use nfa_match_spans::laws::{
     anchored_matches_start_the_span, half_matches_are_ends, no_match_is_missed,
 };
+use nfa_prefix::laws::nothing_has_no_answer;
 use regex_search_core::{Input, Match, Span};
 
 /// The number of starts in a window that the lazy DFA tries before the choice searches the window.
@@ -179,22 +180,85 @@ impl Regex {
         ensures holds { HoldsNoMore (2 * length self.old.nfa.groups) self.old.back self.new.back }
         ensures keeps { KeepsEngines self.old self.new }
     {
+        if let Some(found) = self.find_by_dfa(input) {
+            return found;
+        }
         match self.window(input) {
             Ok(None) => None,
-            Ok(Some(window)) => match self.find_near_start(window) {
-                Some(found) => Some(found),
-                None => self.choice.find(window),
-            },
-            Err(NoWindow) => match self.find_from_window(input) {
-                Some(found) => found,
-                None => self.choice.find(input),
-            },
+            Ok(Some(window)) => self.choice.find(window),
+            Err(NoWindow) => self.choice.find(input),
+        }
+    }
+
+    /// Returns the match of a search that may start anywhere, if the lazy DFA finds it at one of the first starts. Returns
+    /// `Some(None)` if nothing matches.
+    pub(super) fn find_by_dfa<'h>(&mut self, input: Input<'h>) -> Option<Option<Match>>
+        ensures answer { let x = search_of input.entry in IfSome result (λ found.
+            IsFindAnswer self.old.nfa (kind_in self.old) x.earliest x (option_map found_of found)) }
+        ensures nothing { IfSome result (λ found.
+            IfNone found (HasNoMatch self.old.nfa (kind_in self.old) (search_of input.entry))) }
+        ensures pattern { IfSome result (λ found.
+            IfSome found (λ m. (found_of m).pattern < length self.old.nfa.patterns)) }
+        ensures same { self.new ≡ self.old }
+    {
+        if self.is_windowed(&input) {
+            self.find_from_first_end(input)
+        } else {
+            self.find_from_window(input)
+        }
+    }
+
+    /// Returns the match of a search that has windows, if the lazy DFA finds it at one of the first starts: it scans to the
+    /// first end of a match, and not on to the end of this one. Returns `Some(None)` if nothing matches.
+    fn find_from_first_end<'h>(&mut self, input: Input<'h>) -> Option<Option<Match>>
+        requires windowed { IsWindowed self.old.nfa (search_of input) }
+        ensures answer { let x = search_of input.entry in IfSome result (λ found.
+            IsFindAnswer self.old.nfa (kind_in self.old) x.earliest x (option_map found_of found)) }
+        ensures nothing { IfSome result (λ found.
+            IfNone found (HasNoMatch self.old.nfa (kind_in self.old) (search_of input.entry))) }
+        ensures pattern { IfSome result (λ found.
+            IfSome found (λ m. (found_of m).pattern < length self.old.nfa.patterns)) }
+        ensures same { self.new ≡ self.old }
+    {
+        if !self.records_spans {
+            return None;
+        }
+        let Some(rest) = self.from_prefix(input) else {
+            return Some(None);
+        };
+        match self.first_end(rest) {
+            Ok(None) => Some(None),
+            Ok(Some(at)) => Some(Some(self.find_near_start(rest, at)?)),
+            Err(NoWindow) => None,
+        }
+    }
+
+    /// Scans a search that has windows to the first end of a match. Returns a position near its start before which nothing
+    /// matches. Returns `None` in it if nothing matches.
+    fn first_end<'h>(&mut self, input: Input<'h>) -> Result<Option<usize>, NoWindow>
+        requires windowed { IsWindowed self.old.nfa (search_of input) }
+        ensures nothing { IfOk result (λ at.
+            IfNone at (HasNoMatch self.old.nfa (kind_in self.old) (search_of input.entry))) }
+        ensures first { IfOk result (λ at. IfSome at (IsFirstStart self.old.nfa (search_of input.entry))) }
+        ensures within { IfOk result (λ at. IfSome at (λ at. at ≤ (search_of input.entry).end + 1)) }
+        ensures same { self.new ≡ self.old }
+    {
+        laws::windows_are_first_starts();
+        found_is_an_accepting_path();
+        nothing_has_no_answer();
+        match self
+            .dfa
+            .try_find_window(&mut self.cache, input.earliest(true))
+        {
+            Ok(None) => Ok(None),
+            Ok(Some(window)) => Ok(Some(window.start())),
+            Err(_) => Err(NoWindow),
         }
     }
 
     /// Returns the match of a search that may start anywhere, in UTF-8 mode of an NFA that can match the empty string, if
     /// the lazy DFA finds it at one of the first starts of its window. Returns `Some(None)` if nothing matches.
-    pub(super) fn find_from_window<'h>(&mut self, input: Input<'h>) -> Option<Option<Match>>
+    fn find_from_window<'h>(&mut self, input: Input<'h>) -> Option<Option<Match>>
         ensures answer { let x = search_of input.entry in IfSome result (λ found.
             IsFindAnswer self.old.nfa (kind_in self.old) x.earliest x (option_map found_of found)) }
         ensures nothing { IfSome result (λ found.
@@ -245,23 +309,24 @@ impl Regex {
         None
     }
 
-    /// Returns the match of a window's search, if the lazy DFA finds it at one of the first starts whose byte a match
-    /// may begin with.
-    pub(super) fn find_near_start<'h>(&mut self, window: Input<'h>) -> Option<Match>
-        requires windowed { IsWindowed self.old.nfa (search_of window) }
-        ensures answer { let x = search_of window.entry in IfSome result (λ m.
+    /// Returns the match of a search that has windows, if the lazy DFA finds it at one of the first starts whose byte a
+    /// match may begin with, from one on before which nothing matches.
+    fn find_near_start<'h>(&mut self, input: Input<'h>, from: usize) -> Option<Match>
+        requires windowed { IsWindowed self.old.nfa (search_of input) }
+        requires first { IsFirstStart self.old.nfa (search_of input) from }
+        requires within { from ≤ (search_of input).end + 1 }
+        ensures answer { let x = search_of input.entry in IfSome result (λ m.
             IsFindAnswer self.old.nfa (kind_in self.old) x.earliest x (Some (found_of m))) }
         ensures pattern { IfSome result (λ m. (found_of m).pattern < length self.old.nfa.patterns) }
         ensures same { self.new ≡ self.old }
     {
-        bytes_may_be_skipped();
-        let mut at = window.start();
+        let mut at = from;
         for _ in 0..TRIES {
-            at = self.next_start(&window, at, window.end());
-            if let Some(found) = self.find_at_start(window, at)? {
+            at = self.next_start(&input, at, input.end());
+            if let Some(found) = self.find_at_start(input, at)? {
                 return Some(found);
             }
-            if at >= window.end() {
+            if at >= input.end() {
                 return None;
             }
             at += 1;

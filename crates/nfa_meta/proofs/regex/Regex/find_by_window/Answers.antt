@@ -1,26 +1,14 @@
--- A match that the lazy DFA finds is inside the span, and names a pattern.
-use Rattle.nfa_paths.proofs.Common.{rules, Some, arith, common_steps, found_of, option_map, search_of, IsFindAnswer}
+-- A match that the lazy DFA finds is inside the span.
+use Rattle.nfa_paths.proofs.Common.{rules, arith, common_steps, found_of, option_map, search_of, IsFindAnswer}
 use Rattle.nfa_search_base.proofs.AskingLemmas.{inside-of}
 use Rattle.nfa_choice.specs.ChoiceState.{kind_in}
 use Rattle.nfa_meta.proofs.regex.Regex.find_by_window.Goals as goal
-
-pub returns-in-Some-clause-pattern : goal.returns-in-Some-clause-pattern
-returns-in-Some-clause-pattern c =
-    rw c.window.ensures.same at (rw c.in-Some.is at c.find_near_start.ensures.pattern)
 
 pub returns-in-Some-clause-inside : goal.returns-in-Some-clause-inside
 returns-in-Some-clause-inside c =
     let r = c.args.self.now in
     let x = search_of c.args.input in
-    let answer : IsFindAnswer r.nfa (kind_in r) x.earliest x (Some (found_of c.in-Some.found)) =
-    first_of (search rules, grind (arith, common_steps)) in
-    inside-of r.nfa (kind_in r) x.earliest x (Some c.in-Some.found) answer
-
-pub returns-in-Some-find_from_window-clause-inside : goal.returns-in-Some-find_from_window-clause-inside
-returns-in-Some-find_from_window-clause-inside c =
-    let r = c.args.self.now in
-    let x = search_of c.args.input in
-    let found = c.in-Some-find_from_window.found in
+    let found = c.in-Some.found in
     let answer : IsFindAnswer r.nfa (kind_in r) x.earliest x (option_map found_of found) =
     first_of (search rules, grind (arith, common_steps)) in
     inside-of r.nfa (kind_in r) x.earliest x found answer

@@ -6,6 +6,6 @@ use Rattle.nfa_meta.proofs.regex.Regex.find_near_start.Given as goal
 abbrev pub invariant-loop : goal.invariant-loop
 invariant-loop l = record {
   same : l.self ≡ l.fn.self;
-  first : IsFirstStart l.fn.self.nfa (search_of l.window) l.at;
-  within : l.at ≤ (search_of l.window).end + 1;
+  first : IsFirstStart l.fn.self.nfa (search_of l.input) l.at;
+  within : l.at ≤ (search_of l.input).end + 1;
 }
