@@ -10,6 +10,7 @@ ghost use Rattle.nfa_lazy_dfa.specs.Cuts.{AreCuts};
 use crate::apart::is_start_apart;
 use crate::config::{Builder, Config};
 use crate::cuts::cuts_of;
+use crate::sparse::is_sparse;
 use regex_search_core::MatchKind;
 use thompson_nfa::{BuildError, Look, NFA, State};
 
@@ -46,6 +47,9 @@ pub struct DFA {
     /// Which bytes have other transitions in the NFA than the next one.
     pub(crate) cuts: [bool; 256],
     pub(crate) ghost cuts_are: { AreCuts nfa looks cuts },
+    /// Cells mark idle rows: few bytes begin a match, and the NFA has no assertion.
+    pub(crate) marks: bool,
+    pub(crate) ghost marks_are: { marks ≡ true → looks ≡ false },
 }
 
 impl DFA {
@@ -65,6 +69,7 @@ impl DFA {
         let looks = has_look(&nfa);
         let apart = is_start_apart(&nfa);
         let cuts = cuts_of(&nfa, looks);
+        let marks = !looks && is_sparse(&nfa);
         DFA {
             config,
             kind: config.get_match_kind(),
@@ -74,6 +79,7 @@ impl DFA {
             looks,
             apart,
             cuts,
+            marks,
             nfa,
         }
     }
