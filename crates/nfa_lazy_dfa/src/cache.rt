@@ -23,7 +23,7 @@ use std::alloc::{AllocError, Global};
 /// A cell of which nothing is known yet.
 pub const UNKNOWN: u32 = 0xFFFF_FFFF;
 
-/// Is added to the row in a cell if the row has only the start, and the DFA has no assertions.
+/// Is added to the row in a cell if the row has only the start, in a DFA that marks such rows.
 pub const IDLE: u32 = 0x2000_0000;
 
 /// Is added to the row in a cell if a match was seen on the way.

@@ -12,6 +12,7 @@ use crate::apart::is_start_apart;
 use crate::config::{Builder, Config};
 use crate::cuts::cuts_of;
 use nfa_scan_core::starts::is_utf8_empty;
+use crate::sparse::is_sparse;
 use regex_search_core::MatchKind;
 use thompson_nfa::{BuildError, Look, NFA, State};
 
@@ -51,6 +52,9 @@ pub struct DFA {
     /// Which bytes have other transitions in the NFA than the next one.
     pub(crate) cuts: [bool; 256],
     pub(crate) ghost cuts_are: { AreCuts nfa looks cuts },
+    /// Cells mark idle rows: few bytes begin a match, and the NFA has no assertion.
+    pub(crate) marks: bool,
+    pub(crate) ghost marks_are: { marks ≡ true → looks ≡ false },
 }
 
 impl DFA {
@@ -71,6 +75,7 @@ impl DFA {
         let on_boundary = is_utf8_empty(&nfa);
         let apart = is_start_apart(&nfa);
         let cuts = cuts_of(&nfa, looks);
+        let marks = !looks && is_sparse(&nfa);
         DFA {
             config,
             kind: config.get_match_kind(),
@@ -81,6 +86,7 @@ impl DFA {
             on_boundary,
             apart,
             cuts,
+            marks,
             nfa,
         }
     }

@@ -24,13 +24,12 @@ pub fn is_idle(stand: &Stand, start: StateID) -> bool
     }
 }
 
-/// Whether cells that lead to the stand say that no path is under way in it. In a DFA with assertions no cell does: its
-/// scans come to idle rows for a byte or two, which a loop for them makes slower.
+/// Whether cells that lead to the stand say that no path is under way in it.
 fn is_marked_idle(dfa: &DFA, stand: &Stand) -> bool
     ensures idle { IsTrue result → (stance_of stand.now).states ≡ dfa.now.nfa.anchored ∷ [] }
     ensures looks { IsTrue result → dfa.now.looks ≡ false }
 {
-    !dfa.looks && stand.more && is_idle(stand, dfa.nfa.start_anchored())
+    dfa.marks && stand.more && is_idle(stand, dfa.nfa.start_anchored())
 }
 
 /// The cell that leads to the row.

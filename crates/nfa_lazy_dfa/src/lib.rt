@@ -17,6 +17,7 @@ mod known;
 mod overlap;
 mod scan;
 mod search;
+mod sparse;
 mod watch;
 mod window;
 

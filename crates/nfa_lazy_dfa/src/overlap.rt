@@ -1,5 +1,5 @@
 //! The patterns of all matches, including matches that overlap.
-ghost use Rattle.std.specs.Prelude.{◌≡◌, ◌+◌, ◌-◌, ◌%◌, ◌<◌, ◌≤◌, ◌⊎◌, IfErr, IfOk, OnErr, OnOk, false, length, map, true};
+ghost use Rattle.std.specs.Prelude.{◌≡◌, ◌+◌, ◌-◌, ◌<◌, ◌≤◌, ◌⊎◌, IfErr, IfOk, OnErr, OnOk, false, length, map, true};
 ghost use Rattle.std.specs.Prelude.{slice_get};
 ghost use Rattle.regex_search_core.specs.PatternSets.{size_of_set, number_of};
 ghost use Rattle.regex_search_core.specs.Search.{search_of};
@@ -12,15 +12,14 @@ ghost use Rattle.nfa_lazy_dfa.specs.Places.{IsFoundAt};
 ghost use Rattle.nfa_lazy_dfa.specs.Reads.{HasRead, IsSetOver};
 ghost use Rattle.nfa_lazy_dfa.specs.Rows.{IsAt, IsBounded, IsFor, IsRowOf, Scans, Spends, capacity_of, memory_of};
 ghost use Rattle.nfa_lazy_dfa.specs.Rows.{scans_of, steps_of};
-ghost use Rattle.nfa_lazy_dfa.specs.Runs.{place_at};
 ghost use Rattle.nfa_lazy_dfa.specs.Sets.{AddsEach, AddsHere, IsPartOfOverlap};
 ghost use Rattle.nfa_lazy_dfa.specs.Stances.{hits_here};
 ghost use Rattle.nfa_lazy_dfa.specs.Stops.{IsStop};
 
-use crate::cache::{Cache, IDLE, MATCHED, ROW_CELLS};
+use crate::cache::{Cache, ROW_CELLS};
 use crate::dfa::DFA;
 use crate::error::StopError;
-use crate::known::{cell_at, pass, past_idle};
+use crate::known::pass;
 use crate::scan::{Place, first_row, next_row, place_after};
 use nfa_scan_core::starts::{may_end_at, start_state};
 use regex_search_core::{Input, PatternID, PatternSet};
@@ -171,7 +170,8 @@ fn skip(dfa: &DFA, cache: &mut Cache, input: &Input<'_>, from: Place) -> Place
     ensures spends { Spends cache.old cache.new (result.at - from.at) 0 }
     ensures counts { steps_of cache.new ≡ steps_of cache.old + (result.at - from.at) }
 {
-    let (at, first) = past(dfa, cache, input, from);
+    let first = from.row * ROW_CELLS as u32;
+    let (at, first) = pass(dfa, cache, input, from.at, first, from.found);
     cache.count_steps(dfa, from.at, at);
     let row = first / ROW_CELLS as u32;
     Place {
@@ -179,36 +179,6 @@ fn skip(dfa: &DFA, cache: &mut Cache, input: &Input<'_>, from: Place) -> Place
         row,
         found: from.found,
     }
-}
-
-/// Goes on over cells that lead to rows without a match. Returns the position and where the cells of the row there
-/// begin.
-#[inline(always)]
-fn past(dfa: &DFA, cache: &Cache, input: &Input<'_>, from: Place) -> (usize, u32)
-    requires own { IsFor cache.now dfa.now }
-    requires at { IsFoundAt dfa.now cache.now (search_of input.now) from }
-    ensures whole { result.1 % ROW_CELLS ≡ 0 }
-    ensures at { IsFoundAt dfa.now cache.now (search_of input.now) (place_at result.0 result.1 from.found) }
-    ensures low { from.at ≤ result.0 }
-{
-    let end = input.end();
-    let mut at = from.at;
-    let mut first = from.row * ROW_CELLS as u32;
-    while at < end {
-        let cell = cell_at(dfa, cache, input, at, first, from.found);
-        if cell >= MATCHED {
-            break;
-        }
-        if cell < IDLE {
-            let (next, row) = pass(dfa, cache, input, at + 1, cell, from.found);
-            at = next;
-            first = row;
-            continue;
-        }
-        at = past_idle(dfa, cache, input, at + 1, cell, from.found);
-        first = cell % IDLE;
-    }
-    (at, first)
 }
 
 /// Whether a scan is over after a position: there was a match that counts, and the scan stops at the earliest one, or

@@ -1,10 +1,11 @@
 //! A scan that found nothing yet, and the last position at which it saw that no path is under way.
 //!
-//! A row whose only state is the start is *idle*: each path of an earlier start has ended there. If the NFA has no
-//! assertions, cells that lead to such a row are marked, and a scan stays in it in a loop of its own.
+//! A row whose only state is the start is *idle*: each path of an earlier start has ended there. If few bytes begin a
+//! match and the NFA has no assertions, cells that lead to such a row are marked, and a scan stays in it in a loop of its
+//! own. A loop does not pay where idle rows are left after a few bytes, as with assertions.
 //!
-//! If it has assertions there are several, by the byte before. A scan knows one of them, and compares it with the row of
-//! each position. It begins with one of the two that earlier scans left last for a row that is not idle, so for the start
+//! With assertions there are several, by the byte before. A scan knows one of them, and compares it with the row of each
+//! position. It begins with one of the two that earlier scans left last for a row that is not idle, so for the start
 //! of a match: the cache keeps their places. Where a step takes no known cell, and where the scan ends, it looks at the
 //! row itself, and goes on with that one if it is idle.
 ghost use Rattle.std.specs.Prelude.{◌≡◌, ◌+◌, ◌-◌, ◌%◌, ◌<◌, ◌≤◌, None, true};
@@ -17,8 +18,7 @@ ghost use Rattle.nfa_lazy_dfa.specs.Watches.{IsBegun, IsIdlePlace, IsWatching};
 use crate::cache::{Cache, IDLE, MATCHED, ROW_CELLS, UNKNOWN};
 use crate::dfa::DFA;
 use crate::fill::is_idle;
-use crate::known;
-use crate::known::{cell_at, past_idle};
+use crate::known::{cell_at, pass_four, past_idle};
 use crate::scan::{First, Place};
 use regex_search_core::Input;
 
@@ -251,7 +251,59 @@ fn pass(dfa: &DFA, cache: &Cache, input: &Input<'_>, from: Watch) -> Watch
     w
 }
 
-/// Goes on as [`pass`], one byte at a time.
+/// Goes on over cells that lead to rows without a match, four bytes at a time. The idle ones are marked.
+#[inline(always)]
+fn pass_marked(dfa: &DFA, cache: &Cache, input: &Input<'_>, from: Watch) -> Watch
+    requires own { IsFor cache.now dfa.now }
+    requires apart { dfa.now.apart ≡ true }
+    requires watching { IsWatching dfa.now cache.now (search_of input.now) from }
+    ensures watching { IsWatching dfa.now cache.now (search_of input.now) result }
+    ensures low { from.at ≤ result.at }
+{
+    let mut at = from.at;
+    let mut first = from.first;
+    let mut start = from.start;
+    while input.end() - at >= 8 {
+        let (next, plain, cell) = pass_four(dfa, cache, input, at, first, None);
+        if cell >= MATCHED {
+            at = next;
+            first = plain;
+            break;
+        }
+        if cell < IDLE {
+            at = next;
+            first = plain;
+            continue;
+        }
+        at = past_idle(dfa, cache, input, next + 1, cell, None);
+        first = cell % IDLE;
+        start = at;
+    }
+    Watch {
+        at,
+        first,
+        start,
+        idle: from.idle,
+    }
+}
+
+/// Goes on as [`pass_marked`] if cells mark idle rows, and otherwise as [`pass`].
+#[inline(always)]
+fn pass_by_four(dfa: &DFA, cache: &Cache, input: &Input<'_>, from: Watch) -> Watch
+    requires own { IsFor cache.now dfa.now }
+    requires apart { dfa.now.apart ≡ true }
+    requires watching { IsWatching dfa.now cache.now (search_of input.now) from }
+    ensures watching { IsWatching dfa.now cache.now (search_of input.now) result }
+    ensures low { from.at ≤ result.at }
+{
+    if dfa.marks {
+        pass_marked(dfa, cache, input, from)
+    } else {
+        pass(dfa, cache, input, from)
+    }
+}
+
+/// Goes on over cells that lead to rows without a match, one byte at a time.
 #[inline(always)]
 fn pass_rest(dfa: &DFA, cache: &Cache, input: &Input<'_>, from: Watch) -> Watch
     requires own { IsFor cache.now dfa.now }
@@ -264,67 +316,16 @@ fn pass_rest(dfa: &DFA, cache: &Cache, input: &Input<'_>, from: Watch) -> Watch
     let mut w = from;
     while w.at < end {
         let next = cell_at(dfa, cache, input, w.at, w.first, None);
-        if next >= IDLE {
+        if next >= MATCHED {
             return w;
         }
-        w = moved(dfa, cache, input, w, next);
+        w = moved(dfa, cache, input, w, next % IDLE);
     }
     w
 }
 
-/// Goes on over cells that lead to rows without a match, of which the idle ones are marked.
-#[inline(always)]
-fn pass_marked(dfa: &DFA, cache: &Cache, input: &Input<'_>, from: Watch) -> Watch
-    requires own { IsFor cache.now dfa.now }
-    requires apart { dfa.now.apart ≡ true }
-    requires watching { IsWatching dfa.now cache.now (search_of input.now) from }
-    ensures watching { IsWatching dfa.now cache.now (search_of input.now) result }
-    ensures low { from.at ≤ result.at }
-{
-    let end = input.end();
-    let mut at = from.at;
-    let mut first = from.first;
-    let mut start = from.start;
-    while at < end {
-        let cell = cell_at(dfa, cache, input, at, first, None);
-        if cell >= MATCHED {
-            break;
-        }
-        if cell < IDLE {
-            let (next, row) = known::pass(dfa, cache, input, at + 1, cell, None);
-            at = next;
-            first = row;
-            continue;
-        }
-        at = past_idle(dfa, cache, input, at + 1, cell, None);
-        first = cell % IDLE;
-        start = at;
-    }
-    Watch {
-        at,
-        first,
-        start,
-        idle: from.idle,
-    }
-}
-
-/// Goes on over known cells that lead to rows without a match, to the first other one or the end of the span.
-#[inline(always)]
-fn pass_all(dfa: &DFA, cache: &Cache, input: &Input<'_>, from: Watch) -> Watch
-    requires own { IsFor cache.now dfa.now }
-    requires apart { dfa.now.apart ≡ true }
-    requires watching { IsWatching dfa.now cache.now (search_of input.now) from }
-    ensures watching { IsWatching dfa.now cache.now (search_of input.now) result }
-    ensures low { from.at ≤ result.at }
-{
-    if !dfa.looks {
-        return pass_marked(dfa, cache, input, from);
-    }
-    let to = pass(dfa, cache, input, from);
-    pass_rest(dfa, cache, input, to)
-}
-
-/// Goes on as [`pass_all`], and counts the steps.
+/// Goes on over known cells that lead to rows without a match, to the first other one or the end of the span, and counts
+/// the steps.
 #[inline(always)]
 pub fn pass_counted(dfa: &DFA, cache: &mut Cache, input: &Input<'_>, from: Watch) -> Watch
     requires own { IsFor cache.old dfa.now }
@@ -336,7 +337,8 @@ pub fn pass_counted(dfa: &DFA, cache: &mut Cache, input: &Input<'_>, from: Watch
     ensures spends { Spends cache.old cache.new (result.at - from.at) 0 }
     ensures counts { steps_of cache.new ≡ steps_of cache.old + (result.at - from.at) }
 {
-    let to = pass_all(dfa, cache, input, from);
+    let passed = pass_by_four(dfa, cache, input, from);
+    let to = pass_rest(dfa, cache, input, passed);
     cache.count_steps(dfa, from.at, to.at);
     to
 }

@@ -9,8 +9,8 @@ invariant-loop-at l = record {
   whole : l.first % 256 ≡ 0;
   at : IsFoundAt l.dfa l.cache (search_of l.input) (place_at l.at l.first l.found);
   low : l.from ≤ l.at;
-  high : l.at ≤ l.end;
+  high : l.at ≤ (search_of l.input).end;
 }
 
 abbrev pub decreases-loop-at : goal.decreases-loop-at
-decreases-loop-at l = l.end - l.at
+decreases-loop-at l = (search_of l.input).end - l.at

@@ -11,7 +11,8 @@ invariant-loop-at l = record {
   at : IsFoundAt l.dfa l.cache (search_of l.input) (place_at l.at l.first None);
   begun : IsBegun l.dfa.nfa (search_of l.input) l.start l.at;
   low : l.fn.from.at ≤ l.at;
+  high : l.at ≤ (search_of l.input).end;
 }
 
 abbrev pub decreases-loop-at : goal.decreases-loop-at
-decreases-loop-at l = l.end - l.at
+decreases-loop-at l = (search_of l.input).end - l.at
