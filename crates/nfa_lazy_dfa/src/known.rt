@@ -227,7 +227,13 @@ fn past_match(dfa: &DFA, cache: &Cache, input: &Input<'_>, from: usize, first: u
 
 /// Goes on over cells that lead to rows with a match. Returns the position and where the cells of the row there begin.
 #[inline(always)]
-pub fn pass_matches(dfa: &DFA, cache: &Cache, input: &Input<'_>, from: usize, row: u32) -> (usize, u32)
+pub fn pass_matches(
+    dfa: &DFA,
+    cache: &Cache,
+    input: &Input<'_>,
+    from: usize,
+    row: u32,
+) -> (usize, u32)
     requires own { IsFor cache.now dfa.now }
     requires late { (search_of input.now).earliest ≡ false }
     requires whole { row % ROW_CELLS ≡ 0 }
