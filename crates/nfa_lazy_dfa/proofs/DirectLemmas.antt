@@ -101,9 +101,12 @@ module _ (dfa : DFA) (x : Search) (cache : Cache) (at first cell : ℕ) (here : 
               inl (IsAt-is_dead dfa x cache (at + 1) (row_of cell) there.0 leads.target leads.is
               (leads.dead dead known))
           | inr first ↦
-              inr (first.0, ap is_some there.1
-                  ∙ after-some x.earliest (found_at dfa x at) (option_map (half_at at) leads.target.hit)
-                  (half-some at leads.target.hit (leads.matched first.1.0 first.1.1)))
+              inr (
+                first.0,
+                ap is_some there.1
+                    ∙ after-some x.earliest (found_at dfa x at) (option_map (half_at at) leads.target.hit)
+                    (half-some at leads.target.hit (leads.matched first.1.0 first.1.1)),
+              )
         ];
   }
 

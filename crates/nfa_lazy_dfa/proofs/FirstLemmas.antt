@@ -1,5 +1,5 @@
 -- The rows that a cache remembers, as rows are added and one is remembered.
-use Rattle.nfa_paths.proofs.Common.{ℕ_discrete, ◌≡◌, ℕ, ◌+◌, ◌<◌, ◌≢◌, Bool, true, false, List, [], ◌∷◌, ◌++◌, length, get_or, set, refl, ap, sym, ◌∙◌, subst, arith, get_or-set_same, get_or-set_other, length-set, get_or-replicate, length-replicate, replicate, Option, Some, slice_get}
+use Rattle.nfa_paths.proofs.Common.{ℕ_discrete, ◌≡◌, ℕ, ◌<◌, ◌≢◌, Bool, true, false, List, [], ◌∷◌, ◌++◌, length, get_or, set, refl, ap, sym, ◌∙◌, arith, get_or-set_same, get_or-set_other, length-set, get_or-replicate, length-replicate, replicate, Option, Some, slice_get}
 use Rattle.nfa_lazy_dfa.specs.Firsts.{AreFirsts, IsFirstPlace, before_in, first_place}
 use Rattle.nfa_lazy_dfa.specs.Stances.{Stance, first_stance}
 use Rattle.nfa_lazy_dfa.proofs.RowLemmas.{get-left}

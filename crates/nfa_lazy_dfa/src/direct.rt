@@ -128,7 +128,14 @@ fn after_plain(
         let found = found_over(cache, cell, at, found);
         let row = row_of(cell);
         let next = at + 1;
-        return (Place { at: next, row, found }, true);
+        return (
+            Place {
+                at: next,
+                row,
+                found,
+            },
+            true,
+        );
     }
     let row = first / ROW_CELLS as u32;
     (Place { at, row, found }, false)
@@ -149,7 +156,14 @@ fn after_match(dfa: &DFA, cache: &Cache, input: &Input<'_>, ahead: Ahead) -> (Pl
         let found = last_found(cache, ahead);
         let row = row_of(cell);
         let next = at + 1;
-        return (Place { at: next, row, found }, true);
+        return (
+            Place {
+                at: next,
+                row,
+                found,
+            },
+            true,
+        );
     }
     let row = first / ROW_CELLS as u32;
     let found = hit_at(cache, row, at - 1);

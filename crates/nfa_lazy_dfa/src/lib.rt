@@ -9,6 +9,7 @@ mod config;
 mod cuts;
 mod dfa;
 mod direct;
+mod ends;
 mod error;
 mod fill;
 mod follow;

@@ -18,6 +18,7 @@ ghost use Rattle.nfa_lazy_dfa.specs.Stops.{IsStop};
 use crate::cache::{Cache, ROW_CELLS, UNKNOWN};
 use crate::dfa::DFA;
 use crate::direct::direct;
+use crate::ends::found_last;
 use crate::error::StopError;
 use crate::fill::row_of;
 use crate::follow::{Stand, before};
@@ -113,7 +114,11 @@ pub fn scan_half(
     let Some(first) = begin(dfa, cache, input)? else {
         return Ok(None);
     };
-    scan_from(dfa, cache, input, first.place)
+    let place = first.place;
+    if input.get_anchored().is_anchored() {
+        return scan_from(dfa, cache, input, place);
+    }
+    scan_rest(dfa, cache, input, place)
 }
 
 /// The row of a scan at its first position.
@@ -189,6 +194,11 @@ fn scan_rest(
     ensures full { IfErr result (IsUsedUpAt cache.new dfa.now) }
 {
     let place = walk(dfa, cache, input, from);
+    if let Some(last) = found_last(dfa, cache, input, place) {
+        let to = input.haystack().len().min(place.at + 1);
+        cache.count_steps(dfa, place.at, to);
+        return Ok(last);
+    }
     if place.at < input.end() {
         if let Some(found) = settled(dfa, cache, input, place) {
             cache.count_steps(dfa, place.at, place.at + 1);

@@ -1,6 +1,5 @@
 -- The steps are counted up to where the scan is over, or goes on.
-use Rattle.nfa_paths.proofs.Common.{◌≡◌, ◌+◌, ◌-◌, ◌≤◌, inr, arith, on_ok_weaker, search_of}
-use Rattle.nfa_lazy_dfa.specs.Places.{IsFoundAt}
+use Rattle.nfa_paths.proofs.Common.{◌+◌, ◌-◌, ◌≤◌, inr, arith, on_ok_weaker, search_of}
 use Rattle.nfa_lazy_dfa.specs.Reads.{IsOver}
 use Rattle.nfa_lazy_dfa.proofs.ReadLemmas.{HasRead-more}
 use Rattle.nfa_lazy_dfa.proofs.RunLemmas.{IsFoundAt-same}

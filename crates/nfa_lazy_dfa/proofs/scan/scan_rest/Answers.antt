@@ -1,5 +1,5 @@
 -- The steps are counted up to where the scan may end.
-use Rattle.nfa_paths.proofs.Common.{◌+◌, ◌≤◌, arith, on_ok_weaker, search_of}
+use Rattle.nfa_paths.proofs.Common.{◌≤◌, inl, arith, on_ok_weaker, search_of}
 use Rattle.nfa_lazy_dfa.specs.Reads.{IsOver}
 use Rattle.nfa_lazy_dfa.proofs.ReadLemmas.{HasRead-more}
 use Rattle.nfa_lazy_dfa.proofs.scan.scan_rest.Goals as goal
@@ -8,9 +8,9 @@ pub returns-in-Some-clause-reads : goal.returns-in-Some-clause-reads
 returns-in-Some-clause-reads c =
     let low : c.args.from.at ≤ c.walk-place.result.at = c.walk-place.ensures.low in
     record {
-      to = c.walk-place.result.at + 1;
-      low = omega arith;
-      over = c.in-Some.ensures.over;
+      to = c.walk-place.result.at;
+      low = low;
+      over = inl c.in-Some.ensures.over;
       steps = omega (arith, c.walk-place.ensures.counts, c.count_steps.ensures.counts);
     }
 

@@ -1,5 +1,5 @@
 -- A place that is not empty has the row of such a search.
-use Rattle.std.proofs.Common.{◌≡◌, ◌≢◌, ℕ, ap, ◌∙◌, sym, get_or, slice_get, Some, arith}
+use Rattle.std.proofs.Common.{◌≢◌, ℕ, ap, ◌∙◌, sym, get_or, Some, arith}
 use Rattle.nfa_lazy_dfa.specs.Rows.{IsFor, stances_of}
 use Rattle.nfa_lazy_dfa.specs.Stances.{first_stance}
 use Rattle.nfa_lazy_dfa.proofs.FirstLemmas.{first-is}
