@@ -7,12 +7,13 @@ use Rattle.nfa_engines.specs.Found.{Found}
 use Rattle.nfa_engines.specs.MatchKind.TheVariants.{LeftmostFirst}
 use Rattle.nfa_choice.specs.ChoiceState.{ChoiceState, kind_in}
 use Rattle.nfa_meta.specs.Built.{IsBuiltFrom, default_builder}
+use Rattle.nfa_meta.specs.Filled.{AreAllCaught}
 use Rattle.nfa_meta.specs.Gaps.{AreAllOf}
 use Rattle.nfa_engines.specs.Backtrack.{Backtracker}
 use Rattle.nfa_engines.specs.Engines.{Pike, kind_of}
 use Rattle.nfa_engines.specs.Lists.{finds}
 use Rattle.nfa_search_base.specs.Common.{enumerate_from, list_any, row_of, AreRows, HasGroups}
-use Rattle.nfa_engines.specs.Slots.{Captured, named_span}
+use Rattle.nfa_engines.specs.Slots.{Captured, group_span, named_span}
 use Rattle.nfa_engines.specs.Span.{Span}
 
 -- n digits stand one after another from i on
@@ -36,6 +37,12 @@ pub record AreMatchesOf (pattern text : List ℕ) (matches : List Found) : Type 
   pub built : IsBuiltFrom default_builder (pattern ∷ []) regex.nfa
   pub kind : kind_in regex ≡ LeftmostFirst
   pub all : AreAllOf regex text matches
+
+-- the spans are those of this group in the captures of all matches of the text
+pub record AreGroupSpans (r : ChoiceState) (text : List ℕ) (group : ℕ) (spans : List (Option Span)) : Type 0 where
+  pub caught : List Captured
+  pub all : AreAllCaught r text caught
+  pub spans_are : spans ≡ map (λ c. group_span c group) caught
 
 -- whether the engine finds a match in the line, as a text of its own
 abbrev pub pikevm_finds : Pike → List ℕ → Bool

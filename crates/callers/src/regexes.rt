@@ -1,10 +1,11 @@
-//! A caller of a regex that is made of the text of a pattern.
+//! Callers of a regex: of one that is made of the text of a pattern, and of captures that are lent.
 ghost use Rattle.std.specs.Prelude.{IfOk, map};
 ghost use Rattle.nfa_engines.specs.Found.{found_of};
-ghost use Rattle.callers.specs.Texts.{AreMatchesOf};
+ghost use Rattle.callers.specs.Texts.{AreGroupSpans, AreMatchesOf};
 
 use anyhow::Result;
-use nfa_engines::{Input, Match};
+use nfa_engines::error::SearchError;
+use nfa_engines::{Input, Match, Span};
 use nfa_meta::Regex;
 use std::alloc::Global;
 
@@ -16,4 +17,22 @@ pub fn matches_in(alloc: Global, pattern: &str, text: &[u8]) -> Result<Vec<Match
     let mut regex = Regex::new(alloc, pattern)?;
     let found = regex.find_all(alloc, Input::new(text))?;
     Ok(found)
+}
+
+/// Returns the span of this group in each match of the text, from left to right. It is `None` where the match has none.
+/// No captures are copied. The only error is that allocation failed.
+pub fn group_spans(
+    alloc: Global,
+    regex: &mut Regex,
+    text: &[u8],
+    group: usize,
+) -> std::result::Result<Vec<Option<Span>>, SearchError>
+    ensures { IfOk result (λ spans. AreGroupSpans regex.old text.now group spans.items) }
+{
+    let mut spans = Vec::new(alloc);
+    let mut items = regex.captures_iter(alloc, Input::new(text))?;
+    while let Some(captures) = items.next_lent() {
+        spans.push(captures.get_group(group))?;
+    }
+    Ok(spans)
 }
