@@ -280,13 +280,13 @@ impl Regex {
     /// Returns the match that a search of the input finds, in byte offsets into the haystack.
     ///
     /// If the last match was at the first start of its search, the lazy DFA tries the first start of this one. If it
-    /// does not match there, it finds the end of the match and a window that holds it, from the first place on where
-    /// the bytes occur that each match begins with, and searches from the first starts of the window. If the match
-    /// starts at none of them, the [`Choice`] searches the window. So the work of the slower engines depends on the
-    /// window, and not on the haystack. There is no window if the search is anchored or `earliest`, or if the NFA is
-    /// anchored. The DFA alone then answers an anchored search. The [`Choice`] searches the whole input otherwise, and if
-    /// the DFA stops. It also does if the NFA can match the empty string and is in UTF-8 mode, and the match starts at
-    /// none of the first starts of the window.
+    /// does not match there, the DFA scans on to the first end of a match, from where the literals of the NFA say that a
+    /// match may start, and tries the first starts after the last position at which no match had begun. If it matches at
+    /// none of them, it finds the end of the match, and the [`Choice`] searches the window between the two. So the work
+    /// of the slower engines depends on the window, and not on the haystack. There is no window if the search is anchored
+    /// or `earliest`, or if the NFA is anchored. The DFA alone then answers an anchored search. The [`Choice`] searches
+    /// the whole input otherwise, and if the DFA stops. It also does if the NFA can match the empty string and is in UTF-8
+    /// mode, and the match starts at none of the first starts.
     ///
     /// ```
     /// // regex of "foo[0-9]+"
