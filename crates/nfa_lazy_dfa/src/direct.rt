@@ -1,6 +1,6 @@
-//! A scan over known cells that goes straight to its end: to a match, on over matches, and to a dead row.
+//! A scan over known cells up to its end.
 //!
-//! Such is the scan of a short match. Any other one goes on from the place that it came to.
+//! An anchored one mostly goes straight there: to a match, on over matches, and to a dead row.
 ghost use Rattle.std.specs.Prelude.{◌≡◌, ◌⊎◌, ◌-◌, ◌/◌, ◌%◌, ◌<◌, ◌≤◌, false, option_map, true, vec_len};
 ghost use Rattle.regex_search_core.specs.Found.{half_found_of, half_at};
 ghost use Rattle.regex_search_core.specs.Search.{search_of};
@@ -13,7 +13,7 @@ ghost use Rattle.nfa_lazy_dfa.specs.Stances.{Stance};
 use crate::cache::{Cache, DEAD, IDLE, MATCHED, ROW_CELLS, UNKNOWN};
 use crate::dfa::DFA;
 use crate::fill::row_of;
-use crate::known::{pass, pass_matches, read_cell};
+use crate::known::{pass, pass_matches, read_cell, run};
 use crate::scan::{Place, half_at};
 use regex_search_core::{HalfMatch, Input};
 
@@ -173,7 +173,7 @@ fn after_match(dfa: &DFA, cache: &Cache, input: &Input<'_>, ahead: Ahead) -> (Pl
 /// Goes on over known cells, straight to the end of a match. Returns the place that the scan came to, and whether it is
 /// over there.
 #[inline(always)]
-pub fn direct(dfa: &DFA, cache: &Cache, input: &Input<'_>, from: Place) -> (Place, bool)
+fn direct(dfa: &DFA, cache: &Cache, input: &Input<'_>, from: Place) -> (Place, bool)
     requires own { IsFor cache.now dfa.now }
     requires at { IsFoundAt dfa.now cache.now (search_of input.now) from }
     ensures next { IsNextPlace dfa.now cache.now (search_of input.now) result.0 result.1 }
@@ -194,4 +194,59 @@ pub fn direct(dfa: &DFA, cache: &Cache, input: &Input<'_>, from: Place) -> (Plac
         return after_match(dfa, cache, input, ahead);
     }
     after_plain(dfa, cache, input, Ahead { at, first, cell }, found)
+}
+
+/// Goes on as [`direct`], again from each place that it comes to.
+#[inline(always)]
+fn direct_on(dfa: &DFA, cache: &Cache, input: &Input<'_>, from: Place) -> (Place, bool)
+    requires own { IsFor cache.now dfa.now }
+    requires at { IsFoundAt dfa.now cache.now (search_of input.now) from }
+    ensures next { IsNextPlace dfa.now cache.now (search_of input.now) result.0 result.1 }
+    ensures low { from.at ≤ result.0.at }
+{
+    let mut place = from;
+    let mut least = from.at;
+    while place.at >= least {
+        least = place.at + 1;
+        let (next, over) = direct(dfa, cache, input, place);
+        if over {
+            return (next, over);
+        }
+        place = next;
+    }
+    (place, false)
+}
+
+/// Goes on as [`run`], and over a cell that ends the scan.
+#[inline(always)]
+fn run_on(dfa: &DFA, cache: &Cache, input: &Input<'_>, from: Place) -> (Place, bool)
+    requires own { IsFor cache.now dfa.now }
+    requires at { IsFoundAt dfa.now cache.now (search_of input.now) from }
+    ensures next { IsNextPlace dfa.now cache.now (search_of input.now) result.0 result.1 }
+    ensures low { from.at ≤ result.0.at }
+{
+    let place = run(dfa, cache, input, from);
+    let first = place.row * ROW_CELLS as u32;
+    let cell = next_cell(dfa, cache, input, place.at, first);
+    let ahead = Ahead {
+        at: place.at,
+        first,
+        cell,
+    };
+    after_plain(dfa, cache, input, ahead, place.found)
+}
+
+/// Goes on over known cells. Returns the place that the scan came to, and whether it is over there. A scan that is not
+/// anchored mostly begins in an idle row, where [`run`] is faster.
+#[inline(always)]
+pub fn over_known(dfa: &DFA, cache: &Cache, input: &Input<'_>, from: Place) -> (Place, bool)
+    requires own { IsFor cache.now dfa.now }
+    requires at { IsFoundAt dfa.now cache.now (search_of input.now) from }
+    ensures next { IsNextPlace dfa.now cache.now (search_of input.now) result.0 result.1 }
+    ensures low { from.at ≤ result.0.at }
+{
+    if input.get_anchored().is_anchored() {
+        return direct_on(dfa, cache, input, from);
+    }
+    run_on(dfa, cache, input, from)
 }

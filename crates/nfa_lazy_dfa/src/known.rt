@@ -370,7 +370,7 @@ pub fn pass_matches(
 
 /// Goes on over cells up to one that leads to a dead row or is unknown, or with `earliest` up to one with a match.
 #[inline(always)]
-fn run(dfa: &DFA, cache: &Cache, input: &Input<'_>, from: Place) -> Place
+pub fn run(dfa: &DFA, cache: &Cache, input: &Input<'_>, from: Place) -> Place
     requires own { IsFor cache.now dfa.now }
     requires at { IsFoundAt dfa.now cache.now (search_of input.now) from }
     ensures at { IsFoundAt dfa.now cache.now (search_of input.now) result }

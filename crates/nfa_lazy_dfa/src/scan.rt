@@ -17,7 +17,7 @@ ghost use Rattle.nfa_lazy_dfa.specs.Stops.{IsStop};
 
 use crate::cache::{Cache, ROW_CELLS, UNKNOWN};
 use crate::dfa::DFA;
-use crate::direct::direct;
+use crate::direct::over_known;
 use crate::ends::found_last;
 use crate::error::StopError;
 use crate::fill::row_of;
@@ -114,11 +114,7 @@ pub fn scan_half(
     let Some(first) = begin(dfa, cache, input)? else {
         return Ok(None);
     };
-    let place = first.place;
-    if input.get_anchored().is_anchored() {
-        return scan_from(dfa, cache, input, place);
-    }
-    scan_rest(dfa, cache, input, place)
+    scan_from(dfa, cache, input, first.place)
 }
 
 /// The row of a scan at its first position.
@@ -167,7 +163,7 @@ pub fn scan_from(
     ensures reads { OnOk result (HasRead (IsOver dfa.now (search_of input.now)) cache.old cache.new from.at) }
     ensures full { IfErr result (IsUsedUpAt cache.new dfa.now) }
 {
-    let (place, over) = direct(dfa, cache, input, from);
+    let (place, over) = over_known(dfa, cache, input, from);
     cache.count_steps(dfa, from.at, place.at);
     if over {
         return Ok(place.found);
@@ -175,7 +171,7 @@ pub fn scan_from(
     scan_rest(dfa, cache, input, place)
 }
 
-/// The half match of a scan that is at this place, and that does not go straight to its end.
+/// The half match of a scan that is at this place, and that does not end over known cells.
 #[inline(never)]
 fn scan_rest(
     dfa: &DFA,

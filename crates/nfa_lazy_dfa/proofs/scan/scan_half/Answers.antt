@@ -24,14 +24,8 @@ scan_from-requires-clause-at c =
     rw c.in-Some.is at c.in_ok-first.ensures.at in
     begun.at
 
-pub scan_rest-requires-clause-at : goal.scan_rest-requires-clause-at
-scan_rest-requires-clause-at c =
-    let begun : IsFirstAt c.args.dfa.now c.begin.new.cache (search_of c.args.input.now) c.in-Some.first =
-    rw c.in-Some.is at c.in_ok-first.ensures.at in
-    begun.at
-
-pub returns-then-is_anchored-clause-scan : goal.returns-then-is_anchored-clause-scan
-returns-then-is_anchored-clause-scan c =
+pub returns-clause-scan : goal.returns-clause-scan
+returns-clause-scan c =
     let x = search_of c.args.input.now in
     let begun : IsFirstAt c.args.dfa.now c.begin.new.cache x c.in-Some.first =
     rw c.in-Some.is at c.in_ok-first.ensures.at in
@@ -39,8 +33,8 @@ returns-then-is_anchored-clause-scan c =
     (x.end - x.start) c.in_ok-first.ensures.scan c.in_ok-first.ensures.same c.scan_from.ensures.spends
     (omega (arith, begun.begins))
 
-pub returns-then-is_anchored-clause-reads : goal.returns-then-is_anchored-clause-reads
-returns-then-is_anchored-clause-reads c =
+pub returns-clause-reads : goal.returns-clause-reads
+returns-clause-reads c =
     let x = search_of c.args.input.now in
     let begun : IsFirstAt c.args.dfa.now c.begin.new.cache x c.in-Some.first =
     rw c.in-Some.is at c.in_ok-first.ensures.at in
@@ -48,22 +42,3 @@ returns-then-is_anchored-clause-reads c =
     (HasRead-more (IsOver c.args.dfa.now x) c.args.cache.now c.begin.new.cache c.scan_from.new.cache x.start
     c.in-Some.first.place.at (omega (arith, begun.begins)) (omega (arith, begun.begins, c.in_ok-first.ensures.same)))
     c.scan_from.ensures.reads
-
-pub returns-clause-scan : goal.returns-clause-scan
-returns-clause-scan c =
-    let x = search_of c.args.input.now in
-    let begun : IsFirstAt c.args.dfa.now c.begin.new.cache x c.in-Some.first =
-    rw c.in-Some.is at c.in_ok-first.ensures.at in
-    Scans-rest c.args.cache.now c.begin.new.cache c.scan_rest.new.cache ((x.end - c.in-Some.first.place.at) + 1)
-    (x.end - x.start) c.in_ok-first.ensures.scan c.in_ok-first.ensures.same c.scan_rest.ensures.spends
-    (omega (arith, begun.begins))
-
-pub returns-clause-reads : goal.returns-clause-reads
-returns-clause-reads c =
-    let x = search_of c.args.input.now in
-    let begun : IsFirstAt c.args.dfa.now c.begin.new.cache x c.in-Some.first =
-    rw c.in-Some.is at c.in_ok-first.ensures.at in
-    on_ok_weaker c.scan_rest.result
-    (HasRead-more (IsOver c.args.dfa.now x) c.args.cache.now c.begin.new.cache c.scan_rest.new.cache x.start
-    c.in-Some.first.place.at (omega (arith, begun.begins)) (omega (arith, begun.begins, c.in_ok-first.ensures.same)))
-    c.scan_rest.ensures.reads
