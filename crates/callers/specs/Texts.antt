@@ -8,6 +8,7 @@ use Rattle.nfa_engines.specs.MatchKind.TheVariants.{LeftmostFirst}
 use Rattle.nfa_choice.specs.ChoiceState.{ChoiceState, kind_in}
 use Rattle.nfa_meta.specs.Built.{IsBuiltFrom, default_builder}
 use Rattle.nfa_meta.specs.Gaps.{AreAllOf}
+use Rattle.nfa_meta.specs.RegexState.{RegexState}
 use Rattle.nfa_engines.specs.Backtrack.{Backtracker}
 use Rattle.nfa_engines.specs.Engines.{Pike, kind_of}
 use Rattle.nfa_engines.specs.Lists.{finds}
@@ -32,10 +33,10 @@ line_of text start end = record { haystack = text; start = start; end = end; anc
 
 -- these are all matches of the text, for a regex of this pattern with the default settings
 pub record AreMatchesOf (pattern text : List ℕ) (matches : List Found) : Type 0 where
-  pub regex : ChoiceState
-  pub built : IsBuiltFrom default_builder (pattern ∷ []) regex.nfa
-  pub kind : kind_in regex ≡ LeftmostFirst
-  pub all : AreAllOf regex text matches
+  pub regex : RegexState
+  pub built : IsBuiltFrom default_builder (pattern ∷ []) regex.choice.nfa
+  pub kind : kind_in regex.choice ≡ LeftmostFirst
+  pub all : AreAllOf regex.choice text matches
 
 -- whether the engine finds a match in the line, as a text of its own
 abbrev pub pikevm_finds : Pike → List ℕ → Bool

@@ -10,7 +10,7 @@ returns-in-Some-clause-pattern c =
 
 pub returns-in-Some-clause-inside : goal.returns-in-Some-clause-inside
 returns-in-Some-clause-inside c =
-    let r = c.args.self.now in
+    let r = c.args.self.now.choice in
     let x = search_of c.args.input in
     let answer : IsFindAnswer r.nfa (kind_in r) x.earliest x (Some (found_of c.in-Some.found)) =
     first_of (search rules, grind (arith, common_steps)) in
@@ -18,7 +18,7 @@ returns-in-Some-clause-inside c =
 
 pub returns-in-Some-find_from_window-clause-inside : goal.returns-in-Some-find_from_window-clause-inside
 returns-in-Some-find_from_window-clause-inside c =
-    let r = c.args.self.now in
+    let r = c.args.self.now.choice in
     let x = search_of c.args.input in
     let found = c.in-Some-find_from_window.found in
     let answer : IsFindAnswer r.nfa (kind_in r) x.earliest x (option_map found_of found) =
