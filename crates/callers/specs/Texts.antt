@@ -9,6 +9,7 @@ use Rattle.nfa_choice.specs.ChoiceState.{ChoiceState, kind_in}
 use Rattle.nfa_meta.specs.Built.{IsBuiltFrom, default_builder}
 use Rattle.nfa_meta.specs.Filled.{AreAllCaught}
 use Rattle.nfa_meta.specs.Gaps.{AreAllOf}
+use Rattle.nfa_meta.specs.RegexState.{RegexState}
 use Rattle.nfa_engines.specs.Backtrack.{Backtracker}
 use Rattle.nfa_engines.specs.Engines.{Pike, kind_of}
 use Rattle.nfa_engines.specs.Lists.{finds}
@@ -33,10 +34,10 @@ line_of text start end = record { haystack = text; start = start; end = end; anc
 
 -- these are all matches of the text, for a regex of this pattern with the default settings
 pub record AreMatchesOf (pattern text : List ℕ) (matches : List Found) : Type 0 where
-  pub regex : ChoiceState
-  pub built : IsBuiltFrom default_builder (pattern ∷ []) regex.nfa
-  pub kind : kind_in regex ≡ LeftmostFirst
-  pub all : AreAllOf regex text matches
+  pub regex : RegexState
+  pub built : IsBuiltFrom default_builder (pattern ∷ []) regex.choice.nfa
+  pub kind : kind_in regex.choice ≡ LeftmostFirst
+  pub all : AreAllOf regex.choice text matches
 
 -- the spans are those of this group in the captures of all matches of the text
 pub record AreGroupSpans (r : ChoiceState) (text : List ℕ) (group : ℕ) (spans : List (Option Span)) : Type 0 where

@@ -186,17 +186,17 @@ pub fn captured_by_regex<'r, 'h>(
     input: Input<'h>,
 ) -> Result<RegexCaptures<'r, 'h>, SearchError>
     ensures runs { let x = search_of input.entry in IfOk result (λ made. RunsGive captures_next
-        (AreFirstCaptures (AnswersRow regex.entry.now.nfa (kind_in regex.entry.now) x.earliest) x)
-        (AreAllCaptures (AnswersRow regex.entry.now.nfa (kind_in regex.entry.now) x.earliest) x) made) }
+        (AreFirstCaptures (AnswersRow regex.entry.now.choice.nfa (kind_in regex.entry.now.choice) x.earliest) x)
+        (AreAllCaptures (AnswersRow regex.entry.now.choice.nfa (kind_in regex.entry.now.choice) x.earliest) x) made) }
     ensures first { let x = search_of input.entry in IfOk result (λ made. GivesFirst captures_next
-        (AreFirstCaptures (AnswersRow regex.entry.now.nfa (kind_in regex.entry.now) x.earliest) x) made) }
+        (AreFirstCaptures (AnswersRow regex.entry.now.choice.nfa (kind_in regex.entry.now.choice) x.earliest) x) made) }
     ensures next { let x = search_of input.entry in IfOk result (λ made. GivesNext captures_next
-        (AreFirstCaptures (AnswersRow regex.entry.now.nfa (kind_in regex.entry.now) x.earliest) x) made) }
+        (AreFirstCaptures (AnswersRow regex.entry.now.choice.nfa (kind_in regex.entry.now.choice) x.earliest) x) made) }
     ensures all_rows { let x = search_of input.entry in IfOk result (OksAll captures_next
-        (RowsAreAll regex.entry.now.nfa (kind_in regex.entry.now) x.earliest x)) }
+        (RowsAreAll regex.entry.now.choice.nfa (kind_in regex.entry.now.choice) x.earliest x)) }
     ensures all_matches { let x = search_of input.entry in IfOk result (OksAll captures_next
-        (MatchesAreAll regex.entry.now.nfa (kind_in regex.entry.now) x.earliest x)) }
-    ensures groups { IfOk result (CapturesGroups captures_next regex.entry.now.nfa) }
+        (MatchesAreAll regex.entry.now.choice.nfa (kind_in regex.entry.now.choice) x.earliest x)) }
+    ensures groups { IfOk result (CapturesGroups captures_next regex.entry.now.choice.nfa) }
     ensures disjoint { IfOk result (CapturesDisjoint captures_next (search_of input.entry)) }
 {
     regex.captures_iter(alloc, input)
@@ -221,7 +221,7 @@ pub fn captures_by_regex(regex: &mut Regex, input: &Input<'_>, captures: &mut Ca
     ensures count { length captures.new.slots ≡ length captures.old.slots }
     ensures unmatched { IfNone captures.new.pattern
         (captures.new.slots ≡ replicate (length captures.old.slots) None) }
-    ensures pattern { IfSome captures.new.pattern (λ p. p < length regex.old.nfa.patterns) }
+    ensures pattern { IfSome captures.new.pattern (λ p. p < length regex.old.choice.nfa.patterns) }
     ensures inside { All (IsSlotInside (search_of input.now)) captures.new.slots }
     ensures spans { SpansInside (search_of input.now) captures.new }
 {
@@ -234,10 +234,10 @@ pub fn matches_by_regex(
     alloc: Global,
     input: Input<'_>,
 ) -> Result<Vec<Match>, SearchError>
-    ensures granted { AreMatches regex.old.nfa (kind_in regex.old) (search_of input.entry).earliest
+    ensures granted { AreMatches regex.old.choice.nfa (kind_in regex.old.choice) (search_of input.entry).earliest
         (search_of input.entry) [] → IsOk result }
-    ensures all { IfOk result (λ found. AreMatches regex.old.nfa (kind_in regex.old) (search_of input.entry).earliest
-        (search_of input.entry) (map found_of found.items)) }
+    ensures all { let x = search_of input.entry in IfOk result (λ found.
+        AreMatches regex.old.choice.nfa (kind_in regex.old.choice) x.earliest x (map found_of found.items)) }
     ensures disjoint { IfOk result (λ found. AreDisjoint (search_of input.entry) None (map found_of found.items)) }
 {
     regex.find_all(alloc, input)
@@ -261,14 +261,16 @@ pub fn all_captures_by_choice(
 
 /// Returns the half matches that a regex iterates over. What they are is a clause for each way to go through them.
 pub fn halves_by_regex<'r, 'h>(regex: &'r mut Regex, input: Input<'h>) -> HalfMatches<'r, 'h>
-    ensures runs { HalvesRun regex.entry.now.nfa (kind_in regex.entry.now) (search_of input.entry) halves_next result }
-    ensures are { HalvesAre regex.entry.now.nfa (kind_in regex.entry.now) (search_of input.entry) halves_next result }
-    ensures rise { HalvesRise regex.entry.now.nfa (kind_in regex.entry.now) (search_of input.entry) halves_next
-        result }
-    ensures first { HalvesFirst regex.entry.now.nfa (kind_in regex.entry.now) (search_of input.entry) halves_next
-        result }
-    ensures next { HalvesNext regex.entry.now.nfa (kind_in regex.entry.now) (search_of input.entry) halves_next
-        result }
+    ensures runs { HalvesRun regex.entry.now.choice.nfa (kind_in regex.entry.now.choice) (search_of input.entry)
+        halves_next result }
+    ensures are { HalvesAre regex.entry.now.choice.nfa (kind_in regex.entry.now.choice) (search_of input.entry)
+        halves_next result }
+    ensures rise { HalvesRise regex.entry.now.choice.nfa (kind_in regex.entry.now.choice) (search_of input.entry)
+        halves_next result }
+    ensures first { HalvesFirst regex.entry.now.choice.nfa (kind_in regex.entry.now.choice) (search_of input.entry)
+        halves_next result }
+    ensures next { HalvesNext regex.entry.now.choice.nfa (kind_in regex.entry.now.choice) (search_of input.entry)
+        halves_next result }
 {
     regex.half_matches(input)
 }

@@ -65,7 +65,7 @@ pub fn masked(
     text: &[u8],
     mark: &[u8],
 ) -> Result<Vec<u8>, AllocError>
-    ensures { IfOk result (λ out. IsRewrittenBy regex.old text.now (λ _. mark.now) out.items) }
+    ensures { IfOk result (λ out. IsRewrittenBy regex.old.choice text.now (λ _. mark.now) out.items) }
 {
     regex.replace_all_with(alloc, text, |_, output| output.extend_from_slice(mark))
 }

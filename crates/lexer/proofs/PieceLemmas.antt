@@ -13,8 +13,9 @@ use Rattle.regex_search_core.specs.Found.{Found}
 use Rattle.lexer.specs.Lexed.{IsPiece, TextPiece, end_after, is_token, joined, lexed, piece_of, piece_there, pieces_from, recovered, stretch_end, token_there, hit_there, search_at}
 use Rattle.nfa_engines.specs.Paths.{IsFindAnswer}
 use Rattle.nfa_compiler.specs.Laws.{InBytes, TextsAreMatched}
-use Rattle.nfa_meta.specs.ChoiceState.{ChoiceState, kind_in}
+use Rattle.nfa_meta.specs.ChoiceState.{kind_in}
 use Rattle.nfa_meta.specs.Built.{IsRegexOf}
+use Rattle.nfa_meta.specs.RegexState.{RegexState}
 
 -- a call found something, or nothing
 pub is-found : {A B : Type 0} (f : A → B) (o : Option A) (p : Option B) (b : Bool) → option_map f o ≡ p
@@ -205,11 +206,11 @@ module _ (res : List Re) (text : List ℕ) where
   picked at within bound = rw (le-ltb (length text) at within) refl
 
   -- a search by the law finds the hit there
-  pub hit-is : TextsAreMatched InBytes hit → (patterns : List (List ℕ)) (regex : ChoiceState) → IsRegexOf patterns regex
+  pub hit-is : TextsAreMatched InBytes hit → (patterns : List (List ℕ)) (regex : RegexState) → IsRegexOf patterns regex
       → AreMeant byte_syntax patterns res → All (λ b. b < 256) text → (at : ℕ) → at ≤ length text
-      → (found : Option Found) → IsFindAnswer regex.nfa (kind_in regex) false (search_at text at) found
+      → (found : Option Found) → IsFindAnswer regex.choice.nfa (kind_in regex.choice) false (search_at text at) found
       → found ≡ hit_there res text at
   hit-is law patterns regex of meant bytes at within found answer =
-      law byte_syntax patterns res regex.nfa (kind_in regex) false (search_at text at) found of.compiled meant
-      of.anywhere (record { leftmost = rw of.leftmost refl; latest = refl; whole = refl }) bytes answer
-      ∙ ap found_of_hit (picked at within (regex.nfa.anchored == regex.nfa.unanchored))
+      law byte_syntax patterns res regex.choice.nfa (kind_in regex.choice) false (search_at text at) found of.compiled
+      meant of.anywhere (record { leftmost = rw of.leftmost refl; latest = refl; whole = refl }) bytes answer
+      ∙ ap found_of_hit (picked at within (regex.choice.nfa.anchored == regex.choice.nfa.unanchored))

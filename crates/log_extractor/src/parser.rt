@@ -34,9 +34,9 @@ impl<'p> Model for Parser<'p> {
 
     ghost view = { λ p. p.pattern.now };
 
-    ghost invariant = { λ p. IsRegexOf (p.pattern.now ∷ []) p.regex × (p.captures.groups ≡ p.regex.nfa.groups)
-        × (length p.captures.slots ≡ slot_count p.regex.nfa.groups)
-        × (map group_of p.columns.items ≡ named_groups 1 (groups_at p.regex.nfa.groups 0)) };
+    ghost invariant = { λ p. IsRegexOf (p.pattern.now ∷ []) p.regex × (p.captures.groups ≡ p.regex.choice.nfa.groups)
+        × (length p.captures.slots ≡ slot_count p.regex.choice.nfa.groups)
+        × (map group_of p.columns.items ≡ named_groups 1 (groups_at p.regex.choice.nfa.groups 0)) };
 }
 
 impl<'p> Parser<'p> {

@@ -17,30 +17,31 @@ use Rattle.nfa_search_base.proofs.RunLemmas.{Begins}
 use Rattle.nfa_pikevm.specs.Engines.{Pike, kind_of}
 use Rattle.nfa_pikevm.specs.Finding.{PikeAnswersRow}
 use Rattle.nfa_choice.specs.Answered.{ListsCaptures}
-use Rattle.nfa_choice.specs.ChoiceState.{ChoiceState, KeepsEngines, kind_in, pike_of}
-use Rattle.nfa_choice.specs.Iterations.{AsksRowBy, CapturesLead, CapturesNextBy, CapturesOn, CapturesToEnd, MayFillCaptures, SearchesBy}
-use Rattle.nfa_choice.proofs.FindLemmas.{keeps-self, keeps-then, pike-kept}
+use Rattle.nfa_choice.specs.ChoiceState.{ChoiceState, kind_in, pike_of}
+use Rattle.nfa_choice.specs.Iterations.{AsksRowBy, CapturesLead, CapturesNextBy, CapturesOn, CapturesToEnd, ChoiceEngine, MayFillCaptures, SearchesBy}
+use Rattle.nfa_choice.proofs.FindLemmas.{KeepsChoice, pike-kept}
 
--- the state of an iteration over captures
-abbrev Capturing : Type 0
-Capturing = WithCache (WithCaptures (Unit {0})) ChoiceState
+-- By the engine e.
+module _ {C : Type 0} {e : ChoiceEngine C} (keeps : KeepsChoice e) where
+  -- the state of an iteration over captures
+  abbrev Capturing : Type 0
+  Capturing = WithCache (WithCaptures (Unit {0})) C
 
--- `Runs` says which engines a search ran.
-module _ (Runs : Search → ChoiceState → ChoiceState → Type 0) where
-  -- the engine, whose answers are those of the PikeVM
-  abbrev fills : SearchesOf Pike ChoiceState Capturing Row
+  -- the searches, whose answers are those of the PikeVM
+  abbrev fills : SearchesOf Pike C Capturing Row
   fills = record {
-    engine = λ s. pike_of s.cache;
+    engine = λ s. pike_of (e.choice s.cache);
     cache = λ s. s.cache;
-    asks = AsksRowBy Runs;
-    May = λ s x. MayFillCaptures s;
+    asks = AsksRowBy e;
+    May = λ s x. MayFillCaptures e s;
     Tells = PikeAnswersRow;
-    Work = λ vm x a. SearchesBy Runs x;
+    Work = λ vm x a. SearchesBy e x;
     tells = λ s t a s' asked. asked.tells;
     works = λ s t a s' asked. asked.work;
-    stays = λ s t a s' asked. pike-kept s.cache s'.cache asked.work.keeps;
+    stays = λ s t a s' asked. pike-kept (e.choice s.cache) (e.choice s'.cache)
+        (keeps.engines s.cache s'.cache asked.work.keeps);
     like = λ s x t same may. may;
-    goes = λ s t a s' may asked. rw asked.work.keeps.nfa asked.holds;
+    goes = λ s t a s' may asked. rw (keeps.engines s.cache s'.cache asked.work.keeps).nfa asked.holds;
   }
 
   -- its items
@@ -60,24 +61,24 @@ module _ (Runs : Search → ChoiceState → ChoiceState → Type 0) where
   }
 
   -- each search keeps the engines
-  abbrev captures_kept : KeptBy (AsksRowBy Runs)
+  abbrev captures_kept : KeptBy (AsksRowBy e)
   captures_kept = record {
-    Keeps = KeepsEngines;
-    self = keeps-self;
-    then = keeps-then;
+    Keeps = e.Keeps;
+    self = keeps.self;
+    then = keeps.then;
     asked = λ s x a t asked. asked.work.keeps;
   }
 
   -- steps may search in every state
-  pub steps-serve : (s : Steps Capturing) → MayFillCaptures s.backend
-      → can_step (λ q x. MayFillCaptures q) (AsksRowBy Runs) row_span s
+  pub steps-serve : (s : Steps Capturing) → MayFillCaptures e s.backend
+      → can_step (λ q x. MayFillCaptures e q) (AsksRowBy e) row_span s
   steps-serve s may = searches-serve fills (AnswerIsInside row_span)
       (λ vm t a h. (row-lies vm.nfa (kind_of vm) t.earliest t a h).0) s.backend (steps_iter_state s).at may
 
   -- and after a step
   pub step-goes : (s : Steps Capturing) (r : Option (Result Captured SearchError)) (t : Steps Capturing)
-      → takes_steps row_span (AsksRowBy Runs) (λ q. GivesCaptures q.backend) s r t → MayFillCaptures s.backend
-      → MayFillCaptures t.backend
+      → takes_steps row_span (AsksRowBy e) (λ q. GivesCaptures q.backend) s r t → MayFillCaptures e s.backend
+      → MayFillCaptures e t.backend
   step-goes s r t st may = step-may fills copies s r t st may
 
   -- a step that makes no item is a call that gives the captures which it holds
@@ -92,84 +93,92 @@ module _ (Runs : Search → ChoiceState → ChoiceState → Type 0) where
       never-fails q x (Err e) q' asked = absurd asked.tells
 
   -- An iterator T.
-  module _ {T : Type 0} (steps : T → StepsWith (WithCaptures (Unit {0})) ChoiceState) where
+  module _ {T : Type 0} (steps : T → StepsWith (WithCaptures (Unit {0})) C) where
     abbrev shell
-        : ShellOf (TakesStepWith row_span (AsksRowBy Runs) GivesCaptures) (λ (i : Result Captured SearchError). i) T
-    shell = plain_shell (CapturesNextBy Runs steps) steps (λ s r t st. st.takes)
+        : ShellOf (TakesStepWith row_span (AsksRowBy e) GivesCaptures) (λ (i : Result Captured SearchError). i) T
+    shell = plain_shell (CapturesNextBy e steps) steps (λ s r t st. st.takes)
 
     -- its calls keep the engine, and what its answers depend on
-    pub captures-stay-kept : (s : T) → GivesStepsWith (CapturesNextBy Runs steps) steps KeepsEngines s
+    pub captures-stay-kept : (s : T) → GivesStepsWith (CapturesNextBy e steps) steps e.Keeps s
     captures-stay-kept = calls-kept captures_kept shell
 
     -- It begins at x.
     module _ (x : Search) (s : T) (iter_state : steps_iter_state (steps s).steps ≡ fresh x)
         (going : (steps s).steps.done ≡ false) where
-      begins : Begins (SearchesAs fills (pike_of (steps s).cache.now)) x (steps_with_state (steps s))
+      -- its choice
+      abbrev shows : ChoiceState
+      shows = e.choice (steps s).cache.now
+
+      begins : Begins (SearchesAs fills (pike_of shows)) x (steps_with_state (steps s))
       begins = record { iter_state = iter_state; going = going; good = refl }
 
       -- its calls give the captures of the NFA
-      pub captures-are-given : MayFillCaptures (steps_with_state (steps s)).backend
-          → CapturesGiven (CapturesNextBy Runs steps) (steps s).cache.now.nfa (kind_in (steps s).cache.now) x.earliest
-          (AnswersRow (steps s).cache.now.nfa (kind_in (steps s).cache.now) x.earliest) x s
-      captures-are-given may = captures-given (rows_of (steps s).cache.now x) (steps_in shell) s begins may
+      pub captures-are-given : MayFillCaptures e (steps_with_state (steps s)).backend
+          → CapturesGiven (CapturesNextBy e steps) shows.nfa (kind_in shows) x.earliest
+          (AnswersRow shows.nfa (kind_in shows) x.earliest) x s
+      captures-are-given may = captures-given (rows_of shows x) (steps_in shell) s begins may
 
       -- and no error but `Memory`
-      pub captures-take-memory : CapturesMemory (CapturesNextBy Runs steps) s
-      captures-take-memory = captures-memory (rows_of (steps s).cache.now x) (steps_in shell) s begins
-          (λ t e from to never. absurd never)
+      pub captures-take-memory : CapturesMemory (CapturesNextBy e steps) s
+      captures-take-memory = captures-memory (rows_of shows x) (steps_in shell) s begins
+          (λ t f from to never. absurd never)
 
       -- they change the engine only by their searches
-      pub captures-by-searches : CapturesLead Runs steps x s
+      pub captures-by-searches : CapturesLead e steps x s
       captures-by-searches = record {
-        on = shell-leaves fills copies (steps_in shell) (pike_of (steps s).cache.now) s begins;
+        on = shell-leaves fills copies (steps_in shell) (pike_of shows) s begins;
       }
 
   -- The list of the captures of x: its steps begin with captures that were made for the engine c.
-  module _ (c : ChoiceState) {x : Search} {captures : Captured}
-      (made : captures
-      ≡ record { groups = c.nfa.groups; pattern = None; slots = replicate (slot_count c.nfa.groups) None })
+  module _ (c : C) {x : Search} {captures : Captured}
+      (made : captures ≡ record {
+        groups = (e.choice c).nfa.groups;
+        pattern = None;
+        slots = replicate (slot_count (e.choice c).nfa.groups) None;
+      })
       (steps : Steps (WithCaptures (Unit {0})))
       (begins : record {
         iter_state : steps_iter_state steps ≡ fresh x;
         backend : steps.backend ≡ record { finder = tt; captures = captures };
         going : steps.done ≡ false;
       }) where
-    made-may : MayFillCaptures (with_cache steps c).backend
-    made-may = rw begins.backend (made-holds c.nfa captures made)
+    made-may : MayFillCaptures e (with_cache steps c).backend
+    made-may = rw begins.backend (made-holds (e.choice c).nfa captures made)
 
     -- they may search
-    pub made-serves : can_step (λ q x. MayFillCaptures q) (AsksRowBy Runs) row_span (with_cache steps c)
+    pub made-serves : can_step (λ q x. MayFillCaptures e q) (AsksRowBy e) row_span (with_cache steps c)
     made-serves = steps-serve (with_cache steps c) made-may
 
-    begun : Begins (SearchesAs fills (pike_of c)) x (with_cache steps c)
+    begun : Begins (SearchesAs fills (pike_of (e.choice c))) x (with_cache steps c)
     begun = record { iter_state = begins.iter_state; going = begins.going; good = refl }
 
     abbrev Calls : Steps Capturing → Option (Result Captured SearchError) → Steps Capturing → Type 0
-    Calls = takes_steps row_span (AsksRowBy Runs) (λ q. GivesCaptures q.backend)
+    Calls = takes_steps row_span (AsksRowBy e) (λ q. GivesCaptures q.backend)
 
     -- What the calls that made the list leave, and its items.
     pub all-caught : (r : Result (Vec Captured) SearchError) {left : Steps Capturing}
         → record {
           all : IfOk r (λ v. DrainsAll Calls (with_cache steps c) v.items left);
-          errors : IfErr r (λ e. (e ≡ Memory) ⊎ DrainsToError Calls (with_cache steps c) e left);
+          errors : IfErr r (λ error. (error ≡ Memory) ⊎ DrainsToError Calls (with_cache steps c) error left);
           calls : CallsLead Calls (with_cache steps c) left;
         } → record {
-          memory : IfErr r (λ e. e ≡ Memory);
-          lists : ListsCaptures c x r;
+          memory : IfErr r (λ error. error ≡ Memory);
+          lists : ListsCaptures (e.choice c) x r;
           inside : IfOk r (λ v. All (CapturesInside x) v.items);
-          keeps : KeepsEngines c left.backend.cache;
-          searches : CapturesOn Runs x c left.backend.cache;
-          to_end : IfOk r (λ v. CapturesToEnd Runs x (map row_of v.items) c left.backend.cache);
+          keeps : e.Keeps c left.backend.cache;
+          searches : CapturesOn e x c left.backend.cache;
+          to_end : IfOk r (λ v. CapturesToEnd e x (map row_of v.items) c left.backend.cache);
         }
     all-caught r {left} given =
-        let rows = all-captures (rows_of c x) begun made-may r (λ v. v.items) left given.all in
+        let rows = all-captures (rows_of (e.choice c) x) begun made-may r (λ v. v.items) left given.all in
         record {
           memory = IfErr-weaker r _ _
-              (λ error h. error-captures (rows_of c x) begun (λ t e from to never. absurd never) error left h)
+              (λ error h. error-captures (rows_of (e.choice c) x) begun (λ t f from to never. absurd never) error left
+              h)
               given.errors;
           lists = record { rows = rows.0; matches = rows.1; groups = rows.2; disjoint = rows.4 };
           inside = rows.3;
           keeps = calls-cache captures_kept copies (with_cache steps c) left given.calls;
-          searches = steps-leave fills copies (pike_of c) begun left given.calls;
-          to_end = all-to_end fills copies (pike_of c) begun r (λ v. v.items) left given.all;
+          searches = steps-leave fills copies (pike_of (e.choice c)) begun left given.calls;
+          to_end = all-to_end fills copies (pike_of (e.choice c)) begun r (λ v. v.items) left given.all;
         }

@@ -6,10 +6,10 @@ use Rattle.nfa_search_base.proofs.StepLemmas.{chosen}
 use Rattle.nfa_engines.specs.IterationLaws.{Totals, backtracker_totals, list_scan_limit, pike_totals}
 use Rattle.nfa_engines.proofs.EngineWorkLemmas.{WorkOf, Worked, calls-add, list-adds, match-hit, row-hit, work-within, worked}
 use Rattle.nfa_pikevm.specs.Engines.{Pike, kind_of}
-use Rattle.nfa_choice.specs.ChoiceState.{BacktrackerRan, ChoiceState, KeepsEngines, FellBackToPike, SearchedByRule, is_for_backtracker, is_leftmost_first, kind_in, pike_of}
-use Rattle.nfa_choice.specs.Iterations.{FindsBy, SearchesBy, TellsMatch, TellsRow}
+use Rattle.nfa_choice.specs.ChoiceState.{BacktrackerRan, ChoiceState, FellBackToPike, SearchedByRule, is_for_backtracker, is_leftmost_first, kind_in, pike_of}
+use Rattle.nfa_choice.specs.Iterations.{ChoiceEngine, FindsBy, SearchesBy, TellsMatch, TellsRow}
 use Rattle.nfa_choice.specs.WorkLaws.{CapturesCostWithin, FindsWithin, MatchesAreWithin, RowsAreWithin}
-use Rattle.nfa_choice.proofs.FindLemmas.{pike-kept}
+use Rattle.nfa_choice.proofs.FindLemmas.{KeepsChoice, pike-kept}
 
 -- what a search for the backtracker asks
 leftmost : (kind : MatchKind) → is_leftmost_first kind ≡ true → LeftmostFirst ≡ kind
@@ -63,70 +63,74 @@ module _ (y : Search) (s t : ChoiceState) (runs : SearchedByRule y s t) where
       of (inr h) =
           inl (worked (work-within h.exact) h.bounded.scans h.bounded.turns h.work.scans h.work.turns)
 
--- each search that runs so is such work
-abbrev pub DoesBy : (ChoiceState → Totals) → (Search → ChoiceState → ChoiceState → Type 0) → Type 0
-DoesBy totals Runs = (y : Search) (s t : ChoiceState) → Runs y s t → Does totals y s t
+-- each search of an engine is such work
+abbrev pub DoesBy : {C : Type 0} → (ChoiceState → Totals) → ChoiceEngine C → Type 0
+DoesBy {C = C} totals e = (y : Search) (s t : C) → e.Runs y s t → Does totals y (e.choice s) (e.choice t)
 
 -- Each search answers a match or a row, and does work by these totals.
-module _ (totals : ChoiceState → Totals) (Runs : Search → ChoiceState → ChoiceState → Type 0)
-    (does : DoesBy totals Runs) (c : ChoiceState) where
+module _ {C : Type 0} {e : ChoiceEngine C} (keeps : KeepsChoice e) (totals : ChoiceState → Totals)
+    (does : DoesBy totals e) (c : ChoiceState) where
   -- it answers as c does
-  abbrev IsOf : ChoiceState → Type 0
-  IsOf s = pike_of s ≡ pike_of c
+  abbrev IsOf : C → Type 0
+  IsOf s = pike_of (e.choice s) ≡ pike_of c
 
-  works : (y : Search) (s t : ChoiceState) → IsOf s → Runs y s t → KeepsEngines s t
-      → (Worked c.nfa (kind_in c) y.earliest y (totals s) (totals t) ⊎ (totals t ≡ totals s)) × IsOf t
-  works y s t is runs keeps = (
-    subst (λ (vm : Pike). Worked vm.nfa (kind_of vm) y.earliest y (totals s) (totals t) ⊎ (totals t ≡ totals s)) is
+  -- what was done so far
+  abbrev done : C → Totals
+  done s = totals (e.choice s)
+
+  works : (y : Search) (s t : C) → IsOf s → e.Runs y s t → e.Keeps s t
+      → (Worked c.nfa (kind_in c) y.earliest y (done s) (done t) ⊎ (done t ≡ done s)) × IsOf t
+  works y s t is runs kept = (
+    subst (λ (vm : Pike). Worked vm.nfa (kind_of vm) y.earliest y (done s) (done t) ⊎ (done t ≡ done s)) is
         (does y s t runs),
-    pike-kept s t keeps ∙ is,
+    pike-kept (e.choice s) (e.choice t) (keeps.engines s t kept) ∙ is,
   )
 
-  abbrev finds_work : WorkOf span_of (DoesSearch (TellsMatch c) (λ y a. FindsBy Runs y))
+  abbrev finds_work : WorkOf span_of (DoesSearch (TellsMatch c) (λ y a. FindsBy e y))
   finds_work = record {
     nfa = c.nfa;
     kind = kind_in c;
     early = λ y. y.earliest;
-    totals = totals;
+    totals = done;
     Good = IsOf;
     hits = λ s y a t asked. match-hit c.nfa (kind_in c) y.earliest y a asked.tells;
     works = λ s y a t is asked. works y s t is asked.work.runs asked.work.keeps;
   }
 
-  abbrev captures_work : WorkOf row_span (DoesSearch (TellsRow c) (λ y a. SearchesBy Runs y))
+  abbrev captures_work : WorkOf row_span (DoesSearch (TellsRow c) (λ y a. SearchesBy e y))
   captures_work = record {
     nfa = c.nfa;
     kind = kind_in c;
     early = λ y. y.earliest;
-    totals = totals;
+    totals = done;
     Good = IsOf;
     hits = λ s y a t asked. row-hit c.nfa (kind_in c) y.earliest y a asked.tells;
     works = λ s y a t is asked. works y s t is asked.work.runs asked.work.keeps;
   }
 
 -- So it does by those of both caches.
-module _ (Runs : Search → ChoiceState → ChoiceState → Type 0) (back : DoesBy back_in Runs) (pike : DoesBy pike_in Runs)
+module _ {C : Type 0} {e : ChoiceEngine C} (keeps : KeepsChoice e) (back : DoesBy back_in e) (pike : DoesBy pike_in e)
   where
-    pub matches-within : MatchesAreWithin Runs list_scan_limit
+    pub matches-within : MatchesAreWithin e list_scan_limit
     matches-within x ms c d h = record {
-      back = list-adds (finds_work back_in Runs back c) x ms c d refl h;
-      pike = list-adds (finds_work pike_in Runs pike c) x ms c d refl h;
+      back = list-adds (finds_work keeps back_in back (e.choice c)) x ms c d refl h;
+      pike = list-adds (finds_work keeps pike_in pike (e.choice c)) x ms c d refl h;
     }
 
-    pub rows-within : RowsAreWithin Runs list_scan_limit
+    pub rows-within : RowsAreWithin e list_scan_limit
     rows-within x rows c d h = record {
-      back = list-adds (captures_work back_in Runs back c) x rows c d refl h;
-      pike = list-adds (captures_work pike_in Runs pike c) x rows c d refl h;
+      back = list-adds (captures_work keeps back_in back (e.choice c)) x rows c d refl h;
+      pike = list-adds (captures_work keeps pike_in pike (e.choice c)) x rows c d refl h;
     }
 
-    pub finds-within : FindsWithin Runs 3
+    pub finds-within : FindsWithin e 3
     finds-within x c d h = record {
-      back = calls-add (finds_work back_in Runs back c) x c d refl h;
-      pike = calls-add (finds_work pike_in Runs pike c) x c d refl h;
+      back = calls-add (finds_work keeps back_in back (e.choice c)) x c d refl h;
+      pike = calls-add (finds_work keeps pike_in pike (e.choice c)) x c d refl h;
     }
 
-    pub captures-stay-within : CapturesCostWithin Runs 3
+    pub captures-stay-within : CapturesCostWithin e 3
     captures-stay-within x c d h = record {
-      back = calls-add (captures_work back_in Runs back c) x c d refl h;
-      pike = calls-add (captures_work pike_in Runs pike c) x c d refl h;
+      back = calls-add (captures_work keeps back_in back (e.choice c)) x c d refl h;
+      pike = calls-add (captures_work keeps pike_in pike (e.choice c)) x c d refl h;
     }

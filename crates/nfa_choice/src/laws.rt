@@ -4,7 +4,8 @@
 //! at run time.
 ghost use Rattle.nfa_engines.specs.IterationLaws.{IsKeptByLoop, IsKeptByNone, IsKeptByTwo, list_scan_limit};
 ghost use Rattle.nfa_choice.specs.ChoiceState.{ChoiceFitsAsBefore, IsAsBefore, KeepsEngines, RuleIsAsBefore};
-ghost use Rattle.nfa_choice.specs.ChoiceState.{SearchedByRule, backtracker_of, pike_of};
+ghost use Rattle.nfa_choice.specs.ChoiceState.{backtracker_of, pike_of};
+ghost use Rattle.nfa_choice.specs.Iterations.{by_rule};
 ghost use Rattle.nfa_choice.specs.WorkLaws.{CapturesCostWithin, FindsWithin, MatchesAreWithin, RowsAreWithin};
 
 /// A whole list takes little more than one search. Over the calls that find all k matches in a span of n bytes, or
@@ -14,8 +15,8 @@ ghost use Rattle.nfa_choice.specs.WorkLaws.{CapturesCostWithin, FindsWithin, Mat
 /// The premises are what `find_all` and `captures_all` ensure if they are `Ok` (`to_end`), and what `find_iter` ensures
 /// if it goes on to `None` (`searches`).
 pub fn lists_are_bounded()
-    ensures matches { MatchesAreWithin SearchedByRule list_scan_limit }
-    ensures rows { RowsAreWithin SearchedByRule list_scan_limit }
+    ensures matches { MatchesAreWithin by_rule list_scan_limit }
+    ensures rows { RowsAreWithin by_rule list_scan_limit }
 {}
 
 /// Wherever an iteration over a span of n bytes stops, the totals of each cache rise by at most 2n + 3 scans. The turns
@@ -23,8 +24,8 @@ pub fn lists_are_bounded()
 ///
 /// The premises are what all lists and iterators ensure (`searches`).
 pub fn iterations_are_bounded()
-    ensures matches { FindsWithin SearchedByRule 3 }
-    ensures rows { CapturesCostWithin SearchedByRule 3 }
+    ensures matches { FindsWithin by_rule 3 }
+    ensures rows { CapturesCostWithin by_rule 3 }
 {}
 
 /// A loop of searches keeps the engines of a choice, and they answer after the loop as before it: the PikeVM, which

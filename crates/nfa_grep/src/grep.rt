@@ -58,7 +58,7 @@ impl<'p> Model for Grep<'p> {
 
     ghost view = { λ g. record { patterns = map (λ text. text.now) g.patterns.now; options = g.options } };
 
-    ghost invariant = { λ g. IsSearched g.options (map (λ text. text.now) g.patterns.now) g.regex
+    ghost invariant = { λ g. IsSearched g.options (map (λ text. text.now) g.patterns.now) g.regex.choice
         × MatchOption g.which (g.options.which ≡ false)
         (λ nfa. (g.options.which ≡ true) × IsBuilt IsNfaOf g.options (map (λ text. text.now) g.patterns.now) nfa)
         × AreNeeded g.options (map (λ text. text.now) g.patterns.now) g.needed.items };

@@ -8,8 +8,8 @@ use Rattle.nfa_search_base.specs.Common.{end_of}
 use Rattle.nfa_engines.specs.StartLaws.{FirstStartMatches, IsFirstStart, StartsAnywhere, anchored_at}
 use Rattle.nfa_match_spans.specs.MatchSpanLaws.{AnchoredStartsTheSpan, HalfMatchesAreEnds, NoneIsNothing}
 use Rattle.nfa_match_spans.specs.StatePaths.{RecordsMatchSpans}
-use Rattle.nfa_choice.specs.ChoiceState.{ChoiceState, KeepsEngines}
 use Rattle.nfa_meta.specs.Built.{IsRegexOf}
+use Rattle.nfa_meta.specs.RegexState.{KeepsRegex, RegexState}
 
 -- the match that starts with the span and ends as the half match
 abbrev pub match_at : ℕ → HalfFound → Found
@@ -104,11 +104,11 @@ read-inside x at less fits =
     rw (lt-ltb at x.end less) (slice_get-get_or x.haystack at 0 inside)
 
 -- a search keeps what a regex is made of
-pub regex-kept : (patterns : List (List ℕ)) (old new : ChoiceState) → IsRegexOf patterns old → KeepsEngines old new
+pub regex-kept : (patterns : List (List ℕ)) (old new : RegexState) → IsRegexOf patterns old → KeepsRegex old new
     → IsRegexOf patterns new
 regex-kept patterns old new is kept = record {
-  compiled = rw kept.nfa is.compiled;
-  anywhere = rw kept.nfa is.anywhere;
-  bound = rw kept.nfa is.bound;
-  leftmost = kept.match_kind ∙ is.leftmost;
+  compiled = rw kept.engines.nfa is.compiled;
+  anywhere = rw kept.engines.nfa is.anywhere;
+  bound = rw kept.engines.nfa is.bound;
+  leftmost = kept.engines.match_kind ∙ is.leftmost;
 }

@@ -3,11 +3,12 @@ use Rattle.nfa_paths.proofs.Common.{le-max_left, ◌≡◌, ◌*◌, Option, ari
 use Rattle.nfa_search_base.specs.Common.{SameButStart, IsKnownFrom}
 use Rattle.nfa_pikevm.specs.Engines.{Pike}
 use Rattle.nfa_pikevm.specs.Finding.{IsSureOf}
-use Rattle.nfa_choice.specs.ChoiceState.{ChoiceState, pike_of}
 use Rattle.nfa_choice.specs.Iterations.{FindsBy}
-use Rattle.nfa_choice.proofs.FindLemmas.{FinderBy, keeps-self}
+use Rattle.nfa_choice.proofs.FindLemmas.{FinderBy}
 use Rattle.nfa_meta.specs.Matches.{AsksByWindow, MayFindByWindow}
-use Rattle.nfa_meta.specs.WindowRuns.{RunsByWindow}
+use Rattle.nfa_meta.specs.RegexState.{RegexState, pike_of}
+use Rattle.nfa_meta.specs.WindowRuns.{by_window}
+use Rattle.nfa_meta.proofs.RegexLemmas.{regex_self, regex_keeps}
 use Rattle.nfa_meta.specs.declared.regex.find_iter.ByWindow.{ByWindow}
 
 -- what is known of searches is known of the ones that differ in their start
@@ -19,8 +20,9 @@ known-like vm x t known same knows = λ m is.
     subst (λ (y : Search). IsSureOf vm y (found_of m)) like (knows m is)
 
 -- the searches of its iterator
-abbrev pub regex_finder : FinderBy RunsByWindow ByWindow
+abbrev pub regex_finder : FinderBy by_window ByWindow
 regex_finder = record {
+  keeps = regex_keeps;
   asks = AsksByWindow;
   May = MayFindByWindow;
   tells = λ s t a s' asked. asked.tells;
@@ -30,13 +32,13 @@ regex_finder = record {
 }
 
 -- a search with a known answer changes nothing
-pub known-work : (x : Search) (e : ChoiceState) → FindsBy RunsByWindow x e e
+pub known-work : (x : Search) (e : RegexState) → FindsBy by_window x e e
 known-work x e = record {
   runs = inl (inl refl);
   holds = record {
     frames = omega arith;
     slots_kept = omega arith;
-    slots = le-max_left e.back.slots (2 * length e.nfa.groups);
+    slots = le-max_left e.choice.back.slots (2 * length e.choice.nfa.groups);
   };
-  keeps = keeps-self e;
+  keeps = regex_self e;
 }

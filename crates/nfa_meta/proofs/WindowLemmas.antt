@@ -9,7 +9,8 @@ use Rattle.nfa_engines.specs.StartLaws.{IsFirstStart, IsUnbound, from_start}
 use Rattle.nfa_paths.proofs.FirstStartLemmas.{heads-one, same_edges, start-anchored, start-unanchored, unanchored-start, with-starts}
 use Rattle.nfa_lazy_dfa.specs.Windows.{IsWindow, half_in, start_in}
 use Rattle.nfa_lazy_dfa.specs.declared.window.Window.{Window}
-use Rattle.nfa_choice.specs.ChoiceState.{ChoiceState, kind_in}
+use Rattle.nfa_choice.specs.ChoiceState.{kind_in}
+use Rattle.nfa_meta.specs.RegexState.{KeepsRegex, RegexState}
 use Rattle.nfa_meta.specs.WindowLaws.{WindowHasTheAnswer, WindowHasTheMatch, within}
 use Rattle.nfa_meta.specs.WindowRuns.{AnswersAs, HasNoMatch, IsWindowOf}
 use Rattle.nfa_meta.specs.Windowed.{IsWindowed}
@@ -269,29 +270,36 @@ nothing-then nfa kind x y same one none = record {
 }
 
 -- so the window of what is left of a search is that of the search
-pub window-on : (r : ChoiceState) {new : ChoiceState} {x y : Search} {E : Type 0} (result : Result (Option Input) E)
-    → IsWindowOf r.nfa x y → AnswersAs r.nfa (kind_in r) x y
+pub window-on : (r : RegexState) {new : RegexState} {x y : Search} {E : Type 0} (result : Result (Option Input) E)
+    → IsWindowOf r.choice.nfa x y → AnswersAs r.choice.nfa (kind_in r.choice) x y
     → record {
-      nothing : IfOk result (λ window. IfNone window (HasNoMatch r.nfa (kind_in r) y));
-      part : IfOk result (λ window. IfSome window (λ part. IsWindowOf r.nfa y (search_of part)));
-      answers : IfOk result (λ window. IfSome window (λ part. AnswersAs r.nfa (kind_in r) y (search_of part)));
-      same : new ≡ r;
+      nothing : IfOk result (λ window. IfNone window (HasNoMatch r.choice.nfa (kind_in r.choice) y));
+      part : IfOk result (λ window. IfSome window (λ part. IsWindowOf r.choice.nfa y (search_of part)));
+      answers : IfOk result (λ window.
+          IfSome window (λ part. AnswersAs r.choice.nfa (kind_in r.choice) y (search_of part)));
+      same : new.choice ≡ r.choice;
+      keeps : KeepsRegex r new;
     } → record {
-      nothing : IfOk result (λ window. IfNone window (HasNoMatch r.nfa (kind_in r) x));
-      part : IfOk result (λ window. IfSome window (λ part. IsWindowOf r.nfa x (search_of part)));
-      answers : IfOk result (λ window. IfSome window (λ part. AnswersAs r.nfa (kind_in r) x (search_of part)));
-      same : new ≡ r;
+      nothing : IfOk result (λ window. IfNone window (HasNoMatch r.choice.nfa (kind_in r.choice) x));
+      part : IfOk result (λ window. IfSome window (λ part. IsWindowOf r.choice.nfa x (search_of part)));
+      answers : IfOk result (λ window.
+          IfSome window (λ part. AnswersAs r.choice.nfa (kind_in r.choice) x (search_of part)));
+      same : new.choice ≡ r.choice;
+      keeps : KeepsRegex r new;
     }
 window-on r {x = x} {y = y} (Ok None) of same h = record {
-  nothing = nothing-then r.nfa (kind_in r) x y of.earliest same h.nothing;
+  nothing = nothing-then r.choice.nfa (kind_in r.choice) x y of.earliest same h.nothing;
   part = tt;
   answers = tt;
   same = h.same;
+  keeps = h.keeps;
 }
 window-on r {x = x} {y = y} (Ok (Some w)) of same h = record {
   nothing = tt;
-  part = window-then r.nfa x y (search_of w) of h.part;
-  answers = answers-then r.nfa (kind_in r) x y (search_of w) of.earliest same h.answers;
+  part = window-then r.choice.nfa x y (search_of w) of h.part;
+  answers = answers-then r.choice.nfa (kind_in r.choice) x y (search_of w) of.earliest same h.answers;
   same = h.same;
+  keeps = h.keeps;
 }
-window-on r (Err e) of same h = record { nothing = tt; part = tt; answers = tt; same = h.same }
+window-on r (Err e) of same h =
+    record { nothing = tt; part = tt; answers = tt; same = h.same; keeps = h.keeps }

@@ -3,9 +3,10 @@ use Rattle.nfa_paths.proofs.Common.{mul-le-mul_left, ◌≡◌, ℕ, ◌+◌, �
 use Rattle.nfa_engines.specs.IterationLaws.{Totals}
 use Rattle.nfa_engines.proofs.EngineWorkLemmas.{Worked}
 use Rattle.nfa_engines.proofs.ReachLemmas.{one-scan}
-use Rattle.nfa_choice.specs.ChoiceState.{ChoiceState, SearchedByRule, kind_in}
+use Rattle.nfa_choice.specs.ChoiceState.{ChoiceState, kind_in}
+use Rattle.nfa_choice.specs.Iterations.{by_rule}
 use Rattle.nfa_choice.proofs.WorkLemmas.{DoesBy, back_in, back-runs, pike_in, pike-runs}
-use Rattle.nfa_meta.specs.WindowRuns.{IsWindowOf, RunsByWindow}
+use Rattle.nfa_meta.specs.WindowRuns.{IsWindowOf, by_window}
 
 by-more : (a b c : ℕ) → a ≤ b → b ≤ c → a ≤ c
 by-more a b c less more = omega arith
@@ -38,15 +39,16 @@ module _ (nfa : Automaton) (kind : MatchKind) (y v : Search) (is : IsWindowOf nf
   window-does (inr same) = inr same
 
 -- so is what a search by windows does
-by-windows : (totals : ChoiceState → Totals) → DoesBy totals SearchedByRule → DoesBy totals RunsByWindow
+by-windows : (totals : ChoiceState → Totals) → DoesBy totals by_rule → DoesBy totals by_window
 by-windows totals runs y s t (inl (inl same)) = inr (ap totals same)
-by-windows totals runs y s t (inl (inr rule)) = runs y s t rule
+by-windows totals runs y s t (inl (inr rule)) = runs y s.choice t.choice rule
 by-windows totals runs y s t (inr w) =
-    window-does s.nfa (kind_in s) y w.window w.is (totals s) (totals t) (runs w.window s t w.runs)
+    window-does s.choice.nfa (kind_in s.choice) y w.window w.is (totals s.choice) (totals t.choice)
+    (runs w.window s.choice t.choice w.runs)
 
 -- by the totals of either cache
-pub back-windows : DoesBy back_in RunsByWindow
+pub back-windows : DoesBy back_in by_window
 back-windows = by-windows back_in back-runs
 
-pub pike-windows : DoesBy pike_in RunsByWindow
+pub pike-windows : DoesBy pike_in by_window
 pike-windows = by-windows pike_in pike-runs

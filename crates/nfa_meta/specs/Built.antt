@@ -1,5 +1,5 @@
 -- What a builder makes of the texts of patterns, and why it fails.
-use Rattle.std.specs.Prelude.{◌≡◌, ℕ, true, false, List, Option, None, codes, ⊤, if◌then◌else◌}
+use Rattle.std.specs.Prelude.{◌≡◌, ℕ, true, false, List, Option, None, codes, ⊤}
 use Rattle.regex_syntax.specs.Verdict.{default_config}
 use Rattle.nfa_paths.specs.Common.{Automaton, IsAutomaton, is_utf8_empty}
 use Rattle.nfa_backtrack.specs.Backtrack.{empty_cache}
@@ -11,6 +11,7 @@ use Rattle.nfa_compiler.specs.Written.{syntax_of, byte_syntax}
 use Rattle.nfa_compiler.specs.declared.compiler.Compiler.{Compiler}
 use Rattle.nfa_compiler.specs.declared.error.CompileError.{CompileError}
 use Rattle.nfa_compiler.specs.declared.error.CompileError.TheVariants as cause
+use Rattle.nfa_meta.specs.RegexState.{RegexState}
 use Rattle.nfa_meta.specs.declared.builder.Builder.{Builder}
 use Rattle.nfa_meta.specs.declared.builder.Config.{Config}
 use Rattle.nfa_meta.specs.declared.error.BuildError.{BuildError}
@@ -31,10 +32,6 @@ default_settings = record {
 abbrev pub default_builder : Builder
 default_builder = record { config = default_settings; syntax = default_config }
 
--- the most bytes that the rows of the lazy DFA may take: none if searches do not begin with one
-abbrev pub row_capacity : Config → ℕ
-row_capacity c = if c.hybrid then c.hybrid_cache_capacity else 0
-
 -- the compiler that a builder compiles texts with
 abbrev pub compiler_of : Builder → Compiler
 compiler_of b = record {
@@ -53,13 +50,24 @@ engines_of nfa capacity = record {
   ran = None;
 }
 
--- the engines have not searched yet: their caches are as they were made, and the backtracker has this capacity
-pub record HasNotSearched (capacity : Option ℕ) (r : ChoiceState) : Type 0 where
-  pub visited_capacity : r.visited_capacity ≡ capacity
-  pub match_kind : r.match_kind ≡ None
-  pub back : r.back ≡ empty_cache
-  pub pike : r.pike ≡ cache_for r.nfa
-  pub ran : r.ran ≡ None
+-- the regex of an NFA with these settings, before its first search
+abbrev pub regex_of : Automaton → Config → RegexState
+regex_of nfa config = record {
+  choice = engines_of nfa config.backtrack_visited_capacity;
+  config = config;
+  rows = 0;
+}
+
+-- the regex has these settings, and has not searched yet: both caches are as they were made, and the lazy DFA has no
+-- rows
+pub record HasNotSearched (settings : Config) (r : RegexState) : Type 0 where
+  pub visited_capacity : r.choice.visited_capacity ≡ settings.backtrack_visited_capacity
+  pub match_kind : r.choice.match_kind ≡ None
+  pub back : r.choice.back ≡ empty_cache
+  pub pike : r.choice.pike ≡ cache_for r.choice.nfa
+  pub ran : r.choice.ran ≡ None
+  pub config : r.config ≡ settings
+  pub rows : r.rows ≡ 0
 
 -- The NFA is what the builder compiles these texts to: one that reads them by the builder's syntax, within its size
 -- limit. It is in UTF-8 mode, and bound to starts, as the builder is set.
@@ -101,8 +109,8 @@ build_error_text (Compile error) = compile_error_text error
 
 -- The regex is made of these patterns, in byte mode. Its searches are bound to their start and prefer the first pattern
 -- that matches, and matches may end anywhere.
-pub record IsRegexOf (patterns : List (List ℕ)) (regex : ChoiceState) : Type 0 where
-  pub compiled : IsCompiled byte_syntax patterns regex.nfa
-  pub anywhere : is_utf8_empty regex.nfa ≡ false
-  pub bound : regex.nfa.anchored ≡ regex.nfa.unanchored
-  pub leftmost : regex.match_kind ≡ None
+pub record IsRegexOf (patterns : List (List ℕ)) (regex : RegexState) : Type 0 where
+  pub compiled : IsCompiled byte_syntax patterns regex.choice.nfa
+  pub anywhere : is_utf8_empty regex.choice.nfa ≡ false
+  pub bound : regex.choice.nfa.anchored ≡ regex.choice.nfa.unanchored
+  pub leftmost : regex.choice.match_kind ≡ None

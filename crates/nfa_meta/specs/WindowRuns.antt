@@ -2,6 +2,8 @@
 use Rattle.std.specs.Prelude.{◌≡◌, ◌≤◌, ◌⊎◌, ℕ, Bool, false, List, None, Option, replicate}
 use Rattle.nfa_paths.specs.Common.{Found, HalfFound, Search, MatchKind, Automaton, IsAnswer, IsBoolAnswer, IsFindAnswer, IsHalfAnswer}
 use Rattle.nfa_choice.specs.ChoiceState.{ChoiceState, RunsByRule}
+use Rattle.nfa_choice.specs.Iterations.{ChoiceEngine}
+use Rattle.nfa_meta.specs.RegexState.{KeepsRegex, RegexState}
 use Rattle.nfa_meta.specs.Windowed.{IsWindowed}
 
 -- a search that has windows, and the search of a span in its span
@@ -45,9 +47,17 @@ pub record SearchedWindow (x : Search) (old new : ChoiceState) : Type 0 where
 
 -- The lazy DFA answered, and the choice did not search; or the choice searched the whole span by its rule. `earliest`
 -- is the flag of the PikeVM's search.
-abbrev pub RunsAfterDfa : Search → Bool → ChoiceState → ChoiceState → Type 0
-RunsAfterDfa x earliest old new = (new ≡ old) ⊎ RunsByRule old x earliest new
+abbrev pub RunsAfterDfa : Search → Bool → RegexState → RegexState → Type 0
+RunsAfterDfa x earliest old new = (new.choice ≡ old.choice) ⊎ RunsByRule old.choice x earliest new.choice
 
 -- the same, or the choice searched a window
-abbrev pub RunsByWindow : Search → ChoiceState → ChoiceState → Type 0
-RunsByWindow x old new = RunsAfterDfa x x.earliest old new ⊎ SearchedWindow x old new
+abbrev pub RunsByWindow : Search → RegexState → RegexState → Type 0
+RunsByWindow x old new = RunsAfterDfa x x.earliest old new ⊎ SearchedWindow x old.choice new.choice
+
+-- a regex, whose searches run by windows
+abbrev pub by_window : ChoiceEngine RegexState
+by_window = record { choice = λ r. r.choice; Runs = RunsByWindow; Keeps = KeepsRegex }
+
+-- a regex that searches for half matches
+abbrev pub by_ends : ChoiceEngine RegexState
+by_ends = record { choice = λ r. r.choice; Runs = λ x. RunsAfterDfa x x.earliest; Keeps = KeepsRegex }

@@ -4,7 +4,8 @@ ghost use Rattle.regex_search_core.specs.declared.search.MatchKind.TheVariants.{
 ghost use Rattle.nfa_lazy_dfa.specs.Configs.{default_clears, kind_in};
 ghost use Rattle.nfa_lazy_dfa.specs.Limits.{capacity_in, max_clears_in};
 ghost use Rattle.nfa_meta.specs.Built.{HasNotSearched, IsBuiltFrom, IsWhyNotBuilt, compiler_of, default_builder};
-ghost use Rattle.nfa_meta.specs.Built.{default_settings, engines_of, row_capacity};
+ghost use Rattle.nfa_meta.specs.Built.{default_settings, regex_of};
+ghost use Rattle.nfa_meta.specs.RegexState.{row_capacity};
 
 use crate::error::BuildError;
 use crate::regex::Regex;
@@ -270,8 +271,8 @@ impl Builder {
     /// Fails if the text is not a pattern, if the pattern exceeds the size limit (`BuildError::Compile`), or if
     /// allocation fails.
     pub fn build(&self, alloc: Global, pattern: &str) -> Result<Regex, BuildError>
-        ensures built { IfOk result (λ made. IsBuiltFrom self.now (pattern.now ∷ []) made.nfa) }
-        ensures engines { IfOk result (HasNotSearched self.now.config.backtrack_visited_capacity) }
+        ensures built { IfOk result (λ made. IsBuiltFrom self.now (pattern.now ∷ []) made.choice.nfa) }
+        ensures engines { IfOk result (HasNotSearched self.now.config) }
         ensures why { IfErr result (IsWhyNotBuilt self.now (pattern.now ∷ [])) }
     {
         self.build_many(alloc, &[pattern])
@@ -289,8 +290,8 @@ impl Builder {
     /// ```
     pub fn build_many(&self, alloc: Global, patterns: &[&str]) -> Result<Regex, BuildError>
         ensures built { IfOk result (λ made.
-            IsBuiltFrom self.now (map (λ text. text.now) patterns.now) made.nfa) }
-        ensures engines { IfOk result (HasNotSearched self.now.config.backtrack_visited_capacity) }
+            IsBuiltFrom self.now (map (λ text. text.now) patterns.now) made.choice.nfa) }
+        ensures engines { IfOk result (HasNotSearched self.now.config) }
         ensures why { IfErr result (IsWhyNotBuilt self.now (map (λ text. text.now) patterns.now)) }
     {
         let nfa = self.compiler().build_many(alloc, patterns)?;
@@ -308,7 +309,7 @@ impl Builder {
     /// assert!(rt; regex.is_match(Input::new(b"foo12345")));
     /// ```
     pub fn build_from_nfa(&self, alloc: Global, nfa: NFA) -> Result<Regex, SearchError>
-        ensures engines { IfOk result (λ made. made ≡ engines_of nfa self.now.config.backtrack_visited_capacity) }
+        ensures engines { IfOk result (λ made. made ≡ regex_of nfa self.now.config) }
         ensures memory { IsOkUnless result SearchError.Memory }
     {
         Regex::from_parts(alloc, nfa, self.config)
@@ -327,8 +328,8 @@ impl Regex {
     /// assert_eq!(rt; found.expect(rt, "a match").range(), 0..8);
     /// ```
     pub fn new(alloc: Global, pattern: &str) -> Result<Regex, BuildError>
-        ensures built { IfOk result (λ made. IsBuiltFrom default_builder (pattern.now ∷ []) made.nfa) }
-        ensures engines { IfOk result (HasNotSearched None) }
+        ensures built { IfOk result (λ made. IsBuiltFrom default_builder (pattern.now ∷ []) made.choice.nfa) }
+        ensures engines { IfOk result (HasNotSearched default_settings) }
         ensures why { IfErr result (IsWhyNotBuilt default_builder (pattern.now ∷ [])) }
     {
         Builder::new().build(alloc, pattern)
@@ -346,8 +347,8 @@ impl Regex {
     /// ```
     pub fn new_many(alloc: Global, patterns: &[&str]) -> Result<Regex, BuildError>
         ensures built { IfOk result (λ made.
-            IsBuiltFrom default_builder (map (λ text. text.now) patterns.now) made.nfa) }
-        ensures engines { IfOk result (HasNotSearched None) }
+            IsBuiltFrom default_builder (map (λ text. text.now) patterns.now) made.choice.nfa) }
+        ensures engines { IfOk result (HasNotSearched default_settings) }
         ensures why { IfErr result (IsWhyNotBuilt default_builder (map (λ text. text.now) patterns.now)) }
     {
         Builder::new().build_many(alloc, patterns)

@@ -8,11 +8,12 @@ ghost use Rattle.nfa_paths.specs.Paths.{IsAnswer, IsBoolAnswer, IsFindAnswer, Is
 ghost use Rattle.nfa_search_base.specs.Lists.{IsInside};
 ghost use Rattle.nfa_backtrack.specs.Backtrack.{HoldsNoMore};
 ghost use Rattle.nfa_choice.specs.Answered.{WritesSlots};
-ghost use Rattle.nfa_choice.specs.ChoiceState.{KeepsEngines, bytes_of, finds_in, kind_in};
+ghost use Rattle.nfa_choice.specs.ChoiceState.{finds_in, kind_in};
 ghost use Rattle.nfa_lazy_dfa.specs.Configs.{kind_in as config_kind, kind_of, nfa_of};
 ghost use Rattle.nfa_lazy_dfa.specs.Limits.{capacity_in, max_clears_in};
 ghost use Rattle.nfa_lazy_dfa.specs.Rows.{capacity_of, max_clears_of};
-ghost use Rattle.nfa_meta.specs.Built.{engines_of};
+ghost use Rattle.nfa_meta.specs.Built.{default_settings, regex_of};
+ghost use Rattle.nfa_meta.specs.RegexState.{HasRoom, KeepsRegex, bytes_of};
 ghost use Rattle.nfa_meta.specs.WindowRuns.{RunsAfterDfa, RunsByWindow};
 
 mod captures;
@@ -52,8 +53,9 @@ use thompson_nfa::NFA;
 /// never fails.
 ///
 /// The DFA searches first. It gives the ends of matches, and for spans and groups a window in which the [`Choice`]
-/// finds the match. If the DFA stops without an answer, the [`Choice`] searches the whole input. Contracts see what
-/// they see of the [`Choice`], which does not change if the DFA answers.
+/// finds the match. If the DFA stops without an answer, the [`Choice`] searches the whole input. Contracts see the
+/// settings, the bytes that the rows of the DFA take, and what they see of the [`Choice`], which does not change if the
+/// DFA answers.
 pub struct Regex {
     config: Config,
     dfa: DFA,
@@ -90,16 +92,16 @@ impl Model for Regex {
     ghost use Rattle.regex_search_core.specs.declared.search.MatchKind.TheVariants.{LeftmostFirst};
     ghost use Rattle.nfa_lazy_dfa.specs.Configs.{default_clears, kind_of, nfa_of};
     ghost use Rattle.nfa_lazy_dfa.specs.Rows.{IsFor, capacity_of, max_clears_of, memory_of};
-    ghost use Rattle.nfa_choice.specs.ChoiceState.{ChoiceState, kind_in};
+    ghost use Rattle.nfa_choice.specs.ChoiceState.{kind_in};
     ghost use Rattle.nfa_match_spans.specs.StatePaths.{RecordsMatchSpans};
     ghost use Rattle.thompson_nfa.specs.Automaton.{IsAutomaton};
     ghost use Rattle.nfa_prefix.specs.Literals.{AreLiteralsOf};
     ghost use Rattle.nfa_onepass.specs.Tables.{IsFor as IsTableFor};
-    ghost use Rattle.nfa_meta.specs.Built.{row_capacity};
+    ghost use Rattle.nfa_meta.specs.RegexState.{RegexState, row_capacity};
 
-    ghost Value = { ChoiceState };
+    ghost Value = { RegexState };
 
-    ghost view = { λ r. r.choice };
+    ghost view = { λ r. record { choice = r.choice; config = r.config; rows = memory_of r.cache } };
 
     ghost invariant = { λ r. (nfa_of r.dfa ≡ r.choice.nfa) × (kind_of r.dfa ≡ LeftmostFirst)
         × (capacity_of r.dfa ≡ row_capacity r.config) × (max_clears_of r.dfa ≡ default_clears)
@@ -137,7 +139,7 @@ impl Regex {
     /// assert_eq!(rt; found.expect(rt, "a match").range(), 0..8);
     /// ```
     pub fn new_from_nfa(alloc: Global, nfa: NFA) -> Result<Regex, SearchError>
-        ensures made { IfOk result (λ made. made ≡ engines_of nfa None) }
+        ensures made { IfOk result (λ made. made ≡ regex_of nfa default_settings) }
         ensures memory { IsOkUnless result SearchError.Memory }
     {
         Regex::from_parts(alloc, nfa, Config::new())
@@ -153,7 +155,9 @@ impl Regex {
     /// assert_eq!(rt; found.expect(rt, "a match").range(), 0..8);
     /// ```
     pub fn clone(&self, alloc: Global) -> Result<Regex, SearchError>
-        ensures made { IfOk result (λ made. made ≡ engines_of self.now.nfa self.now.visited_capacity) }
+        ensures made { IfOk result (λ made. made ≡ regex_of self.now.choice.nfa self.now.config) }
+        ensures capacity { IfOk result (λ made.
+            made.choice.visited_capacity ≡ self.now.choice.visited_capacity) }
         ensures memory { IsOkUnless result SearchError.Memory }
     {
         let Ok(nfa) = self.get_nfa().clone() else {
@@ -164,7 +168,7 @@ impl Regex {
 
     /// Makes the engines for the NFA, with these settings and empty caches. The only error is `Memory`.
     pub(crate) fn from_parts(alloc: Global, nfa: NFA, config: Config) -> Result<Regex, SearchError>
-        ensures made { IfOk result (λ made. made ≡ engines_of nfa config.backtrack_visited_capacity) }
+        ensures made { IfOk result (λ made. made ≡ regex_of nfa config) }
         ensures memory { IsOkUnless result SearchError.Memory }
     {
         let Ok(copy) = nfa.clone() else {
@@ -204,13 +208,14 @@ impl Regex {
     /// assert_eq!(rt; regex.get_config().hybrid_cache_capacity, 100_000);
     /// ```
     pub fn get_config(&self) -> Config
-        ensures { result.backtrack_visited_capacity ≡ self.now.visited_capacity }
+        ensures config { result ≡ self.now.config }
+        ensures capacity { result.backtrack_visited_capacity ≡ self.now.choice.visited_capacity }
     {
         self.config
     }
 
     /// Returns the bytes that the rows of the lazy DFA and the entries of the caches of the [`Choice`] take. The sum
-    /// saturates at `usize::MAX`. Contracts see only the caches of the [`Choice`], so they say that it is no less.
+    /// saturates at `usize::MAX`. The rows take no more than the settings allow.
     ///
     /// ```
     /// // regex of "foo[0-9]+"
@@ -219,7 +224,8 @@ impl Regex {
     /// assert!(rt; regex.memory_usage() > before);
     /// ```
     pub fn memory_usage(&self) -> usize
-        ensures { bytes_of self.now ≤ result }
+        ensures usage { result ≡ bytes_of self.now }
+        ensures capacity { HasRoom self.now }
     {
         let rows = self.cache.memory_usage();
         self.choice.memory_usage().saturating_add(rows)
@@ -232,7 +238,7 @@ impl Regex {
     /// assert_eq!(rt; regex.get_nfa().group_info().slot_len(), 4);
     /// ```
     pub fn get_nfa(&self) -> &NFA
-        ensures { result.now ≡ self.now.nfa }
+        ensures { result.now ≡ self.now.choice.nfa }
     {
         self.choice.get_nfa()
     }
@@ -244,7 +250,7 @@ impl Regex {
     /// assert_eq!(rt; regex.pattern_len(), 2);
     /// ```
     pub fn pattern_len(&self) -> usize
-        ensures { result ≡ length self.now.nfa.patterns }
+        ensures { result ≡ length self.now.choice.nfa.patterns }
     {
         self.get_nfa().pattern_len()
     }
@@ -256,7 +262,7 @@ impl Regex {
     /// assert_eq!(rt; regex.group_info().slot_len(), 4);
     /// ```
     pub fn group_info(&self) -> &GroupInfo
-        ensures { result.now ≡ self.now.nfa.groups }
+        ensures { result.now ≡ self.now.choice.nfa.groups }
     {
         self.get_nfa().group_info()
     }
@@ -272,7 +278,7 @@ impl Regex {
     /// assert_eq!(rt; regex.ran(), Some(Engine::Backtracker));
     /// ```
     pub fn ran(&self) -> Option<Engine>
-        ensures { result ≡ self.now.ran }
+        ensures { result ≡ self.now.choice.ran }
     {
         self.choice.ran()
     }
@@ -294,14 +300,14 @@ impl Regex {
     /// assert_eq!(rt; found.expect(rt, "a match").range(), 0..8);
     /// ```
     pub fn find<'h>(&mut self, input: Input<'h>) -> Option<Match>
-        ensures answer { IsFindAnswer self.old.nfa (kind_in self.old) (search_of input.entry).earliest
+        ensures answer { IsFindAnswer self.old.choice.nfa (kind_in self.old.choice) (search_of input.entry).earliest
             (search_of input.entry)
             (option_map found_of result) }
-        ensures pattern { IfSome result (λ m. (found_of m).pattern < length self.old.nfa.patterns) }
+        ensures pattern { IfSome result (λ m. (found_of m).pattern < length self.old.choice.nfa.patterns) }
         ensures inside { IfSome result (λ m. IsInside (search_of input.entry) (found_of m)) }
         ensures runs { RunsByWindow (search_of input.entry) self.old self.new }
-        ensures holds { HoldsNoMore (2 * length self.old.nfa.groups) self.old.back self.new.back }
-        ensures keeps { KeepsEngines self.old self.new }
+        ensures holds { HoldsNoMore (2 * length self.old.choice.nfa.groups) self.old.choice.back self.new.choice.back }
+        ensures keeps { KeepsRegex self.old self.new }
     {
         self.find_by_ref(&input)
     }
@@ -326,12 +332,12 @@ impl Regex {
         input: &Input<'_>,
         slots: &mut [Option<NonMaxUsize>],
     ) -> Option<PatternID>
-        ensures answer { IsAnswer self.old.nfa (kind_in self.old) (search_of input.now).earliest (search_of input.now)
-            (option_map number_of result) slots.new }
+        ensures answer { IsAnswer self.old.choice.nfa (kind_in self.old.choice) (search_of input.now).earliest
+            (search_of input.now) (option_map number_of result) slots.new }
         ensures runs { RunsByWindow (search_of input.now) self.old self.new }
-        ensures writes { WritesSlots self.old.nfa (search_of input.now) result slots.old slots.new }
-        ensures holds { HoldsNoMore 0 self.old.back self.new.back }
-        ensures keeps { KeepsEngines self.old self.new }
+        ensures writes { WritesSlots self.old.choice.nfa (search_of input.now) result slots.old slots.new }
+        ensures holds { HoldsNoMore 0 self.old.choice.back self.new.choice.back }
+        ensures keeps { KeepsRegex self.old self.new }
     {
         if slots.len() != 2 {
             return self.search_groups(input, slots);
@@ -358,14 +364,14 @@ impl Regex {
     /// assert_eq!(rt; half.expect(rt, "a match").offset(), 8);
     /// ```
     pub fn find_half<'h>(&mut self, input: Input<'h>) -> Option<HalfMatch>
-        ensures answer { IsHalfAnswer self.old.nfa (kind_in self.old) (search_of input.entry).earliest
+        ensures answer { IsHalfAnswer self.old.choice.nfa (kind_in self.old.choice) (search_of input.entry).earliest
             (search_of input.entry) (option_map half_found_of result) }
-        ensures pattern { IfSome result (λ m. (half_found_of m).pattern < length self.old.nfa.patterns) }
+        ensures pattern { IfSome result (λ m. (half_found_of m).pattern < length self.old.choice.nfa.patterns) }
         ensures inside { IfSome result (λ m. ((search_of input.entry).start ≤ (half_found_of m).offset)
             × ((half_found_of m).offset ≤ (search_of input.entry).end)) }
         ensures runs { RunsAfterDfa (search_of input.entry) (search_of input.entry).earliest self.old self.new }
-        ensures holds { HoldsNoMore 0 self.old.back self.new.back }
-        ensures keeps { KeepsEngines self.old self.new }
+        ensures holds { HoldsNoMore 0 self.old.choice.back self.new.choice.back }
+        ensures keeps { KeepsRegex self.old self.new }
     {
         let rest = self.half_from_prefix(input)?;
         if let Ok(half) = self.dfa.try_find_half(&mut self.cache, rest) {
@@ -385,11 +391,13 @@ impl Regex {
     /// assert!(rt; !regex.is_match(Input::new(b"foobar")));
     /// ```
     pub fn is_match<'h>(&mut self, input: Input<'h>) -> bool
-        ensures answer { IsBoolAnswer self.old.nfa (kind_in self.old) false (search_of input.entry) result }
-        ensures finds { result ≡ finds_in self.old (search_of input.entry) }
-        ensures runs { RunsAfterDfa (search_of input.entry) (not (is_utf8_empty self.old.nfa)) self.old self.new }
-        ensures holds { HoldsNoMore 0 self.old.back self.new.back }
-        ensures keeps { KeepsEngines self.old self.new }
+        ensures answer { IsBoolAnswer self.old.choice.nfa (kind_in self.old.choice) false (search_of input.entry)
+            result }
+        ensures finds { result ≡ finds_in self.old.choice (search_of input.entry) }
+        ensures runs { RunsAfterDfa (search_of input.entry) (not (is_utf8_empty self.old.choice.nfa)) self.old
+            self.new }
+        ensures holds { HoldsNoMore 0 self.old.choice.back self.new.choice.back }
+        ensures keeps { KeepsRegex self.old self.new }
     {
         let Some(rest) = self.half_from_prefix(input) else {
             return false;

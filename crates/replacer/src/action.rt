@@ -23,8 +23,8 @@ impl<'w> Action<'w> {
     /// Returns the action of this command, for the pattern of the regex. Fails if the template cannot be read, or if
     /// allocation failed.
     pub fn new(alloc: Global, command: Command<'w>, regex: &Regex) -> Result<Action<'w>, Mistake>
-        ensures action { IfOk result (IsActionOf regex.now.nfa.groups command.entry) }
-        ensures mistake { IfErr result (IsTemplateMistake regex.now.nfa.groups command.entry) }
+        ensures action { IfOk result (IsActionOf regex.now.choice.nfa.groups command.entry) }
+        ensures mistake { IfErr result (IsTemplateMistake regex.now.choice.nfa.groups command.entry) }
     {
         match command {
             Command::Replace(template) => match regex.parse_template(alloc, template) {

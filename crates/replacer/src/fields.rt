@@ -6,7 +6,7 @@ ghost use Rattle.regex_search_core.specs.Search.{whole};
 ghost use Rattle.nfa_engines.specs.Lists.{AreDisjoint};
 ghost use Rattle.nfa_engines.specs.Paths.{is_utf8_empty};
 ghost use Rattle.nfa_compiler.specs.Patterns.{PatternHit};
-ghost use Rattle.nfa_meta.specs.ChoiceState.{KeepsEngines};
+ghost use Rattle.nfa_meta.specs.RegexState.{KeepsRegex};
 ghost use Rattle.replacer.specs.Hits.{AreAllHits, SearchesFor, Sought};
 ghost use Rattle.replacer.specs.Separated.{AreAround, IsSplit, IsSplitUpTo, fields_by, first_fields_by, texts};
 
@@ -25,10 +25,10 @@ pub fn split<'h>(
     haystack: &'h [u8],
 ) -> Result<Vec<&'h [u8]>, AllocError>
     ensures meant { IfOk result (λ fields. (pattern : Sought) (re : Re) (hits : List PatternHit)
-        → SearchesFor pattern re regex.old → AreAllHits re (is_utf8_empty regex.old.nfa) haystack.now hits
+        → SearchesFor pattern re regex.old.choice → AreAllHits re (is_utf8_empty regex.old.choice.nfa) haystack.now hits
         → texts fields.items ≡ fields_by haystack.now hits) }
-    ensures fields { IfOk result (λ fields. IsSplit haystack.now regex.old (texts fields.items)) }
-    ensures keeps { KeepsEngines regex.old regex.new }
+    ensures fields { IfOk result (λ fields. IsSplit haystack.now regex.old.choice (texts fields.items)) }
+    ensures keeps { KeepsRegex regex.old regex.new }
 {
     laws::iterations_find_texts();
     laws::iterations_of_strs_find_texts();
@@ -49,13 +49,13 @@ pub fn splitn<'h>(
     limit: usize,
 ) -> Result<Vec<&'h [u8]>, AllocError>
     ensures meant { IfOk result (λ fields. (pattern : Sought) (re : Re) (hits : List PatternHit)
-        → SearchesFor pattern re regex.old → AreAllHits re (is_utf8_empty regex.old.nfa) haystack.now hits
+        → SearchesFor pattern re regex.old.choice → AreAllHits re (is_utf8_empty regex.old.choice.nfa) haystack.now hits
         → texts fields.items ≡ first_fields_by limit haystack.now hits) }
     ensures none { limit ≡ 0 → IfOk result (λ fields. fields.items ≡ []) }
     ensures fields { 0 < limit → IfOk result (λ fields.
-        IsSplitUpTo haystack.now regex.old limit (texts fields.items)) }
+        IsSplitUpTo haystack.now regex.old.choice limit (texts fields.items)) }
     ensures few { IfOk result (λ fields. length fields.items ≤ limit) }
-    ensures keeps { KeepsEngines regex.old regex.new }
+    ensures keeps { KeepsRegex regex.old regex.new }
 {
     laws::iterations_find_texts();
     laws::iterations_of_strs_find_texts();

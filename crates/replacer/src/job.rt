@@ -4,7 +4,7 @@ ghost use Rattle.std.specs.Io.KnownBytes.{Appends};
 ghost use Rattle.regex_hir.specs.Re.{Re};
 ghost use Rattle.nfa_engines.specs.Paths.{is_utf8_empty};
 ghost use Rattle.nfa_compiler.specs.Patterns.{PatternHit};
-ghost use Rattle.nfa_meta.specs.ChoiceState.{KeepsEngines};
+ghost use Rattle.nfa_meta.specs.RegexState.{KeepsRegex};
 ghost use Rattle.text_lines.specs.Lines.{lines_of};
 ghost use Rattle.replacer.specs.Hits.{AreHitsOf, SearchesFor, Sought};
 ghost use Rattle.replacer.specs.Printed.{IsFixedText, IsMisused, Prints, lines_shown, shown};
@@ -57,8 +57,8 @@ impl<'w> Model for Job<'w> {
 
     ghost view = { λ j. j.request };
 
-    ghost invariant = { λ j. IsSearchOf (sought j.request) j.regex
-        × IsActionOf j.regex.nfa.groups j.request.command j.action };
+    ghost invariant = { λ j. IsSearchOf (sought j.request) j.regex.choice
+        × IsActionOf j.regex.choice.nfa.groups j.request.command j.action };
 }
 
 impl<'w> Job<'w> {
@@ -134,10 +134,10 @@ fn print_lines<R: BufRead, W: Write>(
     out: &mut W,
 ) -> Result<(), Failure>
     ensures printed { OnOk result ((pattern : Sought) (re : Re) (hits : List ℕ → List PatternHit)
-        → SearchesFor pattern re regex.old → AreHitsOf re (is_utf8_empty regex.old.nfa) hits
+        → SearchesFor pattern re regex.old.choice → AreHitsOf re (is_utf8_empty regex.old.choice.nfa) hits
         → IfSome (R.remaining input.old) (λ text. Appends (W.contents out.old) (W.contents out.new)
-        (lines_shown regex.old.nfa.groups hits action.now limit (lines_of text)))) }
-    ensures keeps { KeepsEngines regex.old regex.new }
+        (lines_shown regex.old.choice.nfa.groups hits action.now limit (lines_of text)))) }
+    ensures keeps { KeepsRegex regex.old regex.new }
 {
     let mut line = Vec::new(alloc);
     let mut left = limit;

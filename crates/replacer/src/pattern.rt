@@ -12,7 +12,7 @@ use std::alloc::Global;
 /// Compiles the pattern of the request. Fails if its text is not a pattern, if the pattern is too large, or if
 /// allocation failed.
 pub fn regex_of(alloc: Global, request: Request<'_>) -> Result<Regex, Mistake>
-    ensures searches { IfOk result (IsSearchOf (sought request.entry)) }
+    ensures searches { IfOk result (λ regex. IsSearchOf (sought request.entry) regex.choice) }
     ensures fixed { IfOk result (λ _. IsFixedText request.entry) }
     ensures mistake { IfErr result (IsPatternMistake (sought request.entry)) }
 {
@@ -27,7 +27,8 @@ pub fn regex_of(alloc: Global, request: Request<'_>) -> Result<Regex, Mistake>
 
 /// Compiles the text of a pattern.
 fn compile(alloc: Global, text: &str, ignore_case: bool) -> Result<Regex, Mistake>
-    ensures searches { IfOk result (IsSearchOf (record { text = text.now; ignore_case = ignore_case })) }
+    ensures searches { IfOk result (λ regex.
+        IsSearchOf (record { text = text.now; ignore_case = ignore_case }) regex.choice) }
     ensures mistake { IfErr result (IsPatternMistake (record { text = text.now; ignore_case = ignore_case })) }
 {
     let flags = Flags {

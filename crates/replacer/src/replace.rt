@@ -6,7 +6,7 @@ ghost use Rattle.nfa_engines.specs.Runs.{CapturesInside, match_in};
 ghost use Rattle.nfa_engines.specs.Lists.{AreDisjoint};
 ghost use Rattle.nfa_engines.specs.Paths.{is_utf8_empty};
 ghost use Rattle.nfa_compiler.specs.Patterns.{PatternHit};
-ghost use Rattle.nfa_meta.specs.ChoiceState.{KeepsEngines};
+ghost use Rattle.nfa_meta.specs.RegexState.{KeepsRegex};
 ghost use Rattle.replacer.specs.Hits.{AreAllHits, SearchesFor, Sought, captured_by};
 ghost use Rattle.replacer.specs.Printed.{AreFirstOf, limited};
 
@@ -26,12 +26,12 @@ pub fn captures_in(
     limit: Option<usize>,
 ) -> Result<Vec<Captures>, AllocError>
     ensures meant { IfOk result (λ caught. (pattern : Sought) (re : Re) (hits : List PatternHit)
-        → SearchesFor pattern re regex.old → AreAllHits re (is_utf8_empty regex.old.nfa) haystack.now hits
-        → caught.items ≡ map (captured_by regex.old.nfa.groups) (limited limit hits)) }
-    ensures first { IfOk result (λ caught. AreFirstOf regex.old haystack.now limit caught.items) }
+        → SearchesFor pattern re regex.old.choice → AreAllHits re (is_utf8_empty regex.old.choice.nfa) haystack.now hits
+        → caught.items ≡ map (captured_by regex.old.choice.nfa.groups) (limited limit hits)) }
+    ensures first { IfOk result (λ caught. AreFirstOf regex.old.choice haystack.now limit caught.items) }
     ensures inside { IfOk result (λ caught. All (CapturesInside (whole haystack.now)) caught.items) }
     ensures apart { IfOk result (λ caught. AreDisjoint (whole haystack.now) None (map match_in caught.items)) }
-    ensures keeps { KeepsEngines regex.old regex.new }
+    ensures keeps { KeepsRegex regex.old regex.new }
 {
     laws::iterations_find_texts();
     laws::iterations_of_strs_find_texts();

@@ -3,7 +3,7 @@ ghost use Rattle.std.specs.Prelude.{◌≡◌, ◌-◌, ◌++◌, IfOk, List, On
 ghost use Rattle.regex_hir.specs.Re.{Re};
 ghost use Rattle.nfa_engines.specs.Paths.{is_utf8_empty};
 ghost use Rattle.nfa_compiler.specs.Patterns.{PatternHit};
-ghost use Rattle.nfa_meta.specs.ChoiceState.{KeepsEngines};
+ghost use Rattle.nfa_meta.specs.RegexState.{KeepsRegex};
 ghost use Rattle.replacer.specs.Hits.{AreAllHits, SearchesFor, Sought};
 ghost use Rattle.replacer.specs.Printed.{field_lines, left_after, left_by, limited, replaced_by, shown};
 ghost use Rattle.replacer.specs.Separated.{fields_by, first_fields_by, texts};
@@ -35,12 +35,15 @@ pub fn show(
     line: Line<'_>,
 ) -> Result<Shown, AllocError>
     ensures text { IfOk result (λ made. (pattern : Sought) (re : Re) (hits : List PatternHit)
-        → SearchesFor pattern re regex.old → AreAllHits re (is_utf8_empty regex.old.nfa) line.entry.text.now hits
-        → made.text.items ≡ shown regex.old.nfa.groups action.now left line.entry.text.now line.entry.end.now hits) }
+        → SearchesFor pattern re regex.old.choice
+        → AreAllHits re (is_utf8_empty regex.old.choice.nfa) line.entry.text.now hits
+        → made.text.items ≡ shown regex.old.choice.nfa.groups action.now left line.entry.text.now
+        line.entry.end.now hits) }
     ensures left { IfOk result (λ made. (pattern : Sought) (re : Re) (hits : List PatternHit)
-        → SearchesFor pattern re regex.old → AreAllHits re (is_utf8_empty regex.old.nfa) line.entry.text.now hits
+        → SearchesFor pattern re regex.old.choice
+        → AreAllHits re (is_utf8_empty regex.old.choice.nfa) line.entry.text.now hits
         → made.left ≡ left_by action.now left hits) }
-    ensures keeps { KeepsEngines regex.old regex.new }
+    ensures keeps { KeepsRegex regex.old regex.new }
 {
     match action {
         Action::Replace(template) => {
@@ -67,13 +70,15 @@ fn show_replaced(
     line: Line<'_>,
 ) -> Result<Shown, AllocError>
     ensures text { IfOk result (λ made. (pattern : Sought) (re : Re) (hits : List PatternHit)
-        → SearchesFor pattern re regex.old → AreAllHits re (is_utf8_empty regex.old.nfa) line.entry.text.now hits
-        → made.text.items ≡ replaced_by regex.old.nfa.groups template.now.parts.items line.entry.text.now
+        → SearchesFor pattern re regex.old.choice
+        → AreAllHits re (is_utf8_empty regex.old.choice.nfa) line.entry.text.now hits
+        → made.text.items ≡ replaced_by regex.old.choice.nfa.groups template.now.parts.items line.entry.text.now
         (limited left hits) ++ line.entry.end.now) }
     ensures left { IfOk result (λ made. (pattern : Sought) (re : Re) (hits : List PatternHit)
-        → SearchesFor pattern re regex.old → AreAllHits re (is_utf8_empty regex.old.nfa) line.entry.text.now hits
+        → SearchesFor pattern re regex.old.choice
+        → AreAllHits re (is_utf8_empty regex.old.choice.nfa) line.entry.text.now hits
         → made.left ≡ left_after left (length hits)) }
-    ensures keeps { KeepsEngines regex.old regex.new }
+    ensures keeps { KeepsRegex regex.old regex.new }
 {
     if let Some(0) = left {
         return unchanged(alloc, line);
@@ -112,9 +117,9 @@ fn left_after(limit: Option<usize>, count: usize) -> Option<usize>
 /// Returns a line for each field of the text.
 fn show_fields(alloc: Global, regex: &mut Regex, text: &[u8]) -> Result<Vec<u8>, AllocError>
     ensures meant { IfOk result (λ lines. (pattern : Sought) (re : Re) (hits : List PatternHit)
-        → SearchesFor pattern re regex.old → AreAllHits re (is_utf8_empty regex.old.nfa) text.now hits
+        → SearchesFor pattern re regex.old.choice → AreAllHits re (is_utf8_empty regex.old.choice.nfa) text.now hits
         → lines.items ≡ field_lines (fields_by text.now hits)) }
-    ensures keeps { KeepsEngines regex.old regex.new }
+    ensures keeps { KeepsRegex regex.old regex.new }
 {
     let fields = split(alloc, regex, text)?;
     let lines = lines_of(alloc, &fields)?;
@@ -129,9 +134,9 @@ fn show_first_fields(
     limit: usize,
 ) -> Result<Vec<u8>, AllocError>
     ensures meant { IfOk result (λ lines. (pattern : Sought) (re : Re) (hits : List PatternHit)
-        → SearchesFor pattern re regex.old → AreAllHits re (is_utf8_empty regex.old.nfa) text.now hits
+        → SearchesFor pattern re regex.old.choice → AreAllHits re (is_utf8_empty regex.old.choice.nfa) text.now hits
         → lines.items ≡ field_lines (first_fields_by limit text.now hits)) }
-    ensures keeps { KeepsEngines regex.old regex.new }
+    ensures keeps { KeepsRegex regex.old regex.new }
 {
     let fields = splitn(alloc, regex, text, limit)?;
     let lines = lines_of(alloc, &fields)?;

@@ -44,9 +44,9 @@ impl Choice {
     ghost use Rattle.nfa_search_base.specs.Runs.{CapturesGiven, CapturesInside, CapturesMemory, CapturesWithin};
     ghost use Rattle.nfa_search_base.specs.Stored.{GivesStepsWith};
     ghost use Rattle.nfa_choice.specs.Answered.{ListsCaptures};
-    ghost use Rattle.nfa_choice.specs.ChoiceState.{kind_in, KeepsEngines, SearchedByRule};
+    ghost use Rattle.nfa_choice.specs.ChoiceState.{kind_in, KeepsEngines};
     ghost use Rattle.nfa_choice.specs.Iterations.{CapturesLead, CapturesOn, CapturesToEnd, choice_captures};
-    ghost use Rattle.nfa_choice.specs.Iterations.{choice_captures_next};
+    ghost use Rattle.nfa_choice.specs.Iterations.{by_rule, choice_captures_next};
 
     /// Returns an iterator over the captures of all matches that do not overlap, from left to right, each with all
     /// groups of the NFA. This call runs no search. The only error is [`SearchError::Memory`]: the captures to search
@@ -82,7 +82,7 @@ impl Choice {
         ensures inside { IfOk result (CapturesWithin choice_captures_next (search_of input.entry)) }
         ensures errors { IfOk result (CapturesMemory choice_captures_next) }
         // The choice changes only by the searches of the steps.
-        ensures searches { IfOk result (CapturesLead SearchedByRule choice_captures (search_of input.entry)) }
+        ensures searches { IfOk result (CapturesLead by_rule choice_captures (search_of input.entry)) }
         ensures keeps { IfOk result (GivesStepsWith choice_captures_next choice_captures KeepsEngines) }
     {
         let captures = self.create_captures(alloc)?;
@@ -118,7 +118,7 @@ impl Choice {
         ensures inside { CapturesWithin choice_captures_next (search_of input.entry) result }
         ensures errors { CapturesMemory choice_captures_next result }
         // The choice changes only by the searches of the steps.
-        ensures searches { CapturesLead SearchedByRule choice_captures (search_of input.entry) result }
+        ensures searches { CapturesLead by_rule choice_captures (search_of input.entry) result }
         ensures keeps { GivesStepsWith choice_captures_next choice_captures KeepsEngines result }
     {
         ChoiceCaptures {
@@ -154,9 +154,9 @@ impl Choice {
         ensures keeps { KeepsEngines self.old self.new }
         // The choice changes only by the searches of an iteration. If all captures are returned, these searches go to
         // its end.
-        ensures searches { CapturesOn SearchedByRule (search_of input.entry) self.old self.new }
+        ensures searches { CapturesOn by_rule (search_of input.entry) self.old self.new }
         ensures to_end { IfOk result (λ all.
-            CapturesToEnd SearchedByRule (search_of input.entry) (map row_of all.items) self.old self.new) }
+            CapturesToEnd by_rule (search_of input.entry) (map row_of all.items) self.old self.new) }
     {
         let finder = CapturesFinder {
             captures: self.create_captures(alloc)?,
@@ -167,8 +167,7 @@ impl Choice {
 
 impl FindWith for CapturesFinder {
     ghost use Rattle.nfa_search_base.specs.WithCaptures.{Row, filled_answer, row_span, GivesCaptures};
-    ghost use Rattle.nfa_choice.specs.ChoiceState.{SearchedByRule};
-    ghost use Rattle.nfa_choice.specs.Iterations.{AsksRowBy, MayFillCaptures};
+    ghost use Rattle.nfa_choice.specs.Iterations.{AsksRowBy, MayFillCaptures, by_rule};
 
     type Cache = Choice;
 
@@ -180,13 +179,13 @@ impl FindWith for CapturesFinder {
 
     ghost span = { row_span };
 
-    ghost accepts = { λ s _. MayFillCaptures s };
+    ghost accepts = { λ s _. MayFillCaptures by_rule s };
 
     type Item = Captures;
 
     ghost gives = { GivesCaptures };
 
-    ghost asks = { AsksRowBy SearchedByRule };
+    ghost asks = { AsksRowBy by_rule };
 
     #[inline]
     fn answer(&mut self, choice: &mut Choice, input: &Input<'_>) -> Result<(), SearchError> {

@@ -27,9 +27,9 @@ impl Choice {
     ghost use Rattle.nfa_search_base.specs.Runs.{MatchesRun, MatchesAre, MatchesDisjoint, MatchesFirst, MatchesNext};
     ghost use Rattle.nfa_search_base.specs.Stored.{GivesStepsWith};
     ghost use Rattle.nfa_choice.specs.Answered.{ListsMatches};
-    ghost use Rattle.nfa_choice.specs.ChoiceState.{kind_in, KeepsEngines, SearchedByRule};
+    ghost use Rattle.nfa_choice.specs.ChoiceState.{kind_in, KeepsEngines};
     ghost use Rattle.nfa_choice.specs.Iterations.{ChoiceFindsBySearches, FindsOn, FindsToEnd, choice_matches};
-    ghost use Rattle.nfa_choice.specs.Iterations.{choice_matches_next};
+    ghost use Rattle.nfa_choice.specs.Iterations.{by_rule, choice_matches_next};
 
     /// Returns an iterator over all matches that do not overlap, from left to right. Does not allocate.
     ///
@@ -90,9 +90,9 @@ impl Choice {
         ensures keeps { KeepsEngines self.old self.new }
         // The choice changes only by the searches of an iteration. If all matches are returned, these searches go to
         // its end.
-        ensures searches { FindsOn SearchedByRule (search_of input.entry) self.old self.new }
+        ensures searches { FindsOn by_rule (search_of input.entry) self.old self.new }
         ensures to_end { IfOk result (λ found.
-            FindsToEnd SearchedByRule (search_of input.entry) (map found_of found.items) self.old self.new) }
+            FindsToEnd by_rule (search_of input.entry) (map found_of found.items) self.old self.new) }
     {
         let mut found = Vec::new(alloc);
         for item in self.find_iter(input) {

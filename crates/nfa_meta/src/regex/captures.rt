@@ -5,7 +5,8 @@ ghost use Rattle.regex_search_core.specs.Search.{search_of};
 ghost use Rattle.nfa_paths.specs.Paths.{IsAnswer};
 ghost use Rattle.nfa_backtrack.specs.Backtrack.{HoldsNoMore};
 ghost use Rattle.nfa_choice.specs.Answered.{FillsCaptures};
-ghost use Rattle.nfa_choice.specs.ChoiceState.{kind_in, KeepsEngines};
+ghost use Rattle.nfa_choice.specs.ChoiceState.{kind_in};
+ghost use Rattle.nfa_meta.specs.RegexState.{KeepsRegex};
 ghost use Rattle.nfa_meta.specs.WindowRuns.{RunsByWindow};
 
 use crate::regex::Regex;
@@ -25,9 +26,9 @@ impl Regex {
     /// ```
     pub fn create_captures(&self, alloc: Global) -> Result<Captures, SearchError>
         ensures made { IfOk result (λ made. made ≡ record {
-          groups = self.now.nfa.groups;
+          groups = self.now.choice.nfa.groups;
           pattern = None;
-          slots = replicate (slot_count self.now.nfa.groups) None;
+          slots = replicate (slot_count self.now.choice.nfa.groups) None;
         }) }
         ensures memory { IsOkUnless result SearchError.Memory }
     {
@@ -48,12 +49,12 @@ impl Regex {
     /// assert_eq!(rt; digits, Some(Span { start: 3, end: 8 }));
     /// ```
     pub fn search(&mut self, input: &Input<'_>, captures: &mut Captures)
-        ensures answer { IsAnswer self.old.nfa (kind_in self.old) (search_of input.now).earliest (search_of input.now)
-            captures.new.pattern captures.new.slots }
+        ensures answer { IsAnswer self.old.choice.nfa (kind_in self.old.choice) (search_of input.now).earliest
+            (search_of input.now) captures.new.pattern captures.new.slots }
         ensures runs { RunsByWindow (search_of input.now) self.old self.new }
-        ensures fills { FillsCaptures self.old.nfa (search_of input.now) captures.old captures.new }
-        ensures holds { HoldsNoMore 0 self.old.back self.new.back }
-        ensures keeps { KeepsEngines self.old self.new }
+        ensures fills { FillsCaptures self.old.choice.nfa (search_of input.now) captures.old captures.new }
+        ensures holds { HoldsNoMore 0 self.old.choice.back self.new.choice.back }
+        ensures keeps { KeepsRegex self.old self.new }
     {
         if captures.slots().len() != 2 {
             let pattern = self.search_groups(input, captures.slots_mut());
@@ -77,11 +78,12 @@ impl Regex {
     /// ```
     pub fn captures<'h>(&mut self, input: Input<'h>, captures: &mut Captures)
         ensures answer { let x = search_of input.entry in
-            IsAnswer self.old.nfa (kind_in self.old) x.earliest x captures.new.pattern captures.new.slots }
+            IsAnswer self.old.choice.nfa (kind_in self.old.choice) x.earliest x captures.new.pattern
+            captures.new.slots }
         ensures runs { RunsByWindow (search_of input.entry) self.old self.new }
-        ensures fills { FillsCaptures self.old.nfa (search_of input.entry) captures.old captures.new }
-        ensures holds { HoldsNoMore 0 self.old.back self.new.back }
-        ensures keeps { KeepsEngines self.old self.new }
+        ensures fills { FillsCaptures self.old.choice.nfa (search_of input.entry) captures.old captures.new }
+        ensures holds { HoldsNoMore 0 self.old.choice.back self.new.choice.back }
+        ensures keeps { KeepsRegex self.old self.new }
     {
         self.search(&input, captures);
     }

@@ -19,7 +19,7 @@ use std::marker::Model;
 pub struct CapturesMatches<'r, 'h> {
     regex: &'r mut Regex,
     steps: Steps<'h, CapturesFinder>,
-    ghost holds: { HasGroups regex.now.nfa steps.backend.captures },
+    ghost holds: { HasGroups regex.now.choice.nfa steps.backend.captures },
 }
 
 // The captures that the searches of one iteration fill. Each search borrows the engine.
@@ -46,7 +46,8 @@ impl Regex {
     ghost use Rattle.nfa_meta.specs.CapturesMatches.{RegexCapturesOn, RegexCapturesToEnd, captures_regex};
     ghost use Rattle.nfa_meta.specs.CapturesMatches.{captures_next};
     ghost use Rattle.nfa_choice.specs.Answered.{ListsCaptures};
-    ghost use Rattle.nfa_choice.specs.ChoiceState.{kind_in, KeepsEngines};
+    ghost use Rattle.nfa_choice.specs.ChoiceState.{kind_in};
+    ghost use Rattle.nfa_meta.specs.RegexState.{KeepsRegex};
 
     /// Returns an iterator over the captures of all matches that do not overlap, from left to right, each with all
     /// groups of the NFA. This call runs no search. The only error is [`SearchError::Memory`]: the captures to search
@@ -76,9 +77,10 @@ impl Regex {
         ensures same_regex { IfOk result (λ made. (captures_regex made).now ≡ self.entry.now) }
         // Each run of calls gives the first captures of the input, and all of them if it goes on to `None`. If no copy
         // fails, their rows and their matches are those of the input.
-        ensures given { IfOk result (CapturesGiven captures_next self.entry.now.nfa (kind_in self.entry.now)
-            (search_of input.entry).earliest (AnswersRow self.entry.now.nfa (kind_in self.entry.now)
-            (search_of input.entry).earliest) (search_of input.entry)) }
+        ensures given { IfOk result (CapturesGiven captures_next self.entry.now.choice.nfa
+            (kind_in self.entry.now.choice) (search_of input.entry).earliest
+            (AnswersRow self.entry.now.choice.nfa (kind_in self.entry.now.choice) (search_of input.entry).earliest)
+            (search_of input.entry)) }
         ensures inside { IfOk result (CapturesWithin captures_next (search_of input.entry)) }
         ensures errors { IfOk result (CapturesMemory captures_next) }
         // The engines change only by the searches of the steps.
@@ -107,13 +109,13 @@ impl Regex {
         input: Input<'h>,
         captures: Captures,
     ) -> CapturesMatches<'r, 'h>
-        requires { HasGroups self.old.nfa captures }
+        requires { HasGroups self.old.choice.nfa captures }
         ensures same_reference { (captures_regex result).ghost_name ≡ self.entry.ghost_name }
         ensures same_regex { (captures_regex result).now ≡ self.entry.now }
         // Each run of calls gives the first captures of the input, and all of them if it goes on to `None`. If no copy
         // fails, their rows and their matches are those of the input.
-        ensures given { CapturesGiven captures_next self.entry.now.nfa (kind_in self.entry.now)
-            (search_of input.entry).earliest (AnswersRow self.entry.now.nfa (kind_in self.entry.now)
+        ensures given { CapturesGiven captures_next self.entry.now.choice.nfa (kind_in self.entry.now.choice)
+            (search_of input.entry).earliest (AnswersRow self.entry.now.choice.nfa (kind_in self.entry.now.choice)
             (search_of input.entry).earliest) (search_of input.entry) result }
         ensures inside { CapturesWithin captures_next (search_of input.entry) result }
         ensures errors { CapturesMemory captures_next result }
@@ -149,9 +151,9 @@ impl Regex {
         input: Input<'_>,
     ) -> Result<Vec<Captures>, SearchError>
         ensures memory { IsOkUnless result SearchError.Memory }
-        ensures lists { ListsCaptures self.old (search_of input.entry) result }
+        ensures lists { ListsCaptures self.old.choice (search_of input.entry) result }
         ensures inside { IfOk result (λ all. All (CapturesInside (search_of input.entry)) all.items) }
-        ensures keeps { KeepsEngines self.old self.new }
+        ensures keeps { KeepsRegex self.old self.new }
         // The engines change only by the searches of an iteration. If all captures are returned, these searches go to
         // its end.
         ensures searches { RegexCapturesOn (search_of input.entry) self.old self.new }
@@ -168,7 +170,7 @@ impl Regex {
 impl FindWith for CapturesFinder {
     ghost use Rattle.nfa_search_base.specs.WithCaptures.{Row, filled_answer, row_span, GivesCaptures};
     ghost use Rattle.nfa_choice.specs.Iterations.{AsksRowBy, MayFillCaptures};
-    ghost use Rattle.nfa_meta.specs.WindowRuns.{RunsByWindow};
+    ghost use Rattle.nfa_meta.specs.WindowRuns.{by_window};
 
     type Cache = Regex;
 
@@ -180,13 +182,13 @@ impl FindWith for CapturesFinder {
 
     ghost span = { row_span };
 
-    ghost accepts = { λ s _. MayFillCaptures s };
+    ghost accepts = { λ s _. MayFillCaptures by_window s };
 
     type Item = Captures;
 
     ghost gives = { GivesCaptures };
 
-    ghost asks = { AsksRowBy RunsByWindow };
+    ghost asks = { AsksRowBy by_window };
 
     #[inline]
     fn answer(&mut self, regex: &mut Regex, input: &Input<'_>) -> Result<(), SearchError> {

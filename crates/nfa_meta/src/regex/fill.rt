@@ -3,7 +3,7 @@ ghost use Rattle.std.specs.Prelude.{◌≡◌, ◌<◌, All, IfErr, IfOk, None, 
 ghost use Rattle.regex_search_core.specs.Search.{search_of};
 ghost use Rattle.nfa_search_base.specs.Runs.{CapturesInside, match_in};
 ghost use Rattle.nfa_search_base.specs.Lists.{AreDisjoint};
-ghost use Rattle.nfa_choice.specs.ChoiceState.{KeepsEngines};
+ghost use Rattle.nfa_meta.specs.RegexState.{KeepsRegex};
 ghost use Rattle.nfa_meta.specs.Filled.{AreFirstCaught, IsFilled, IsFilledUpTo};
 ghost use Rattle.nfa_meta.specs.TemplateTexts.{AreParts, IsMistake};
 
@@ -29,8 +29,8 @@ impl Regex {
         text: &'t [u8],
     ) -> Result<Template<'t>, TemplateError>
         ensures parts { IfOk result (λ template.
-            AreParts self.now.nfa.groups 0 text.now template.parts.items (length text.now)) }
-        ensures mistake { IfErr result (IsMistake self.now.nfa.groups 0 text.now) }
+            AreParts self.now.choice.nfa.groups 0 text.now template.parts.items (length text.now)) }
+        ensures mistake { IfErr result (IsMistake self.now.choice.nfa.groups 0 text.now) }
     {
         let Some(first) = PatternID::new(0) else {
             unreachable!()
@@ -55,11 +55,11 @@ impl Regex {
         count: usize,
     ) -> Result<Vec<Captures>, AllocError>
         ensures first { IfOk result (λ caught.
-            AreFirstCaught self.old (search_of input.entry) count caught.items) }
+            AreFirstCaught self.old.choice (search_of input.entry) count caught.items) }
         ensures inside { IfOk result (λ caught. All (CapturesInside (search_of input.entry)) caught.items) }
         ensures apart { IfOk result (λ caught.
             AreDisjoint (search_of input.entry) None (map match_in caught.items)) }
-        ensures keeps { KeepsEngines self.old self.new }
+        ensures keeps { KeepsRegex self.old self.new }
     {
         let Ok(caught) = self.captures_all(alloc, input) else {
             return Err(AllocError);
@@ -83,8 +83,8 @@ impl Regex {
         template: &Template<'_>,
     ) -> Result<Vec<u8>, AllocError>
         ensures filled { IfOk result (λ output.
-            IsFilled self.old haystack.now template.now.parts.items output.items) }
-        ensures keeps { KeepsEngines self.old self.new }
+            IsFilled self.old.choice haystack.now template.now.parts.items output.items) }
+        ensures keeps { KeepsRegex self.old self.new }
     {
         let Ok(caught) = self.captures_all(alloc, Input::new(haystack)) else {
             return Err(AllocError);
@@ -110,10 +110,10 @@ impl Regex {
         template: &Template<'_>,
     ) -> Result<Vec<u8>, AllocError>
         ensures all { limit ≡ 0 → IfOk result (λ output.
-            IsFilled self.old haystack.now template.now.parts.items output.items) }
+            IsFilled self.old.choice haystack.now template.now.parts.items output.items) }
         ensures first { 0 < limit → IfOk result (λ output.
-            IsFilledUpTo self.old haystack.now limit template.now.parts.items output.items) }
-        ensures keeps { KeepsEngines self.old self.new }
+            IsFilledUpTo self.old.choice haystack.now limit template.now.parts.items output.items) }
+        ensures keeps { KeepsRegex self.old self.new }
     {
         if limit == 0 {
             return self.replace_all_template(alloc, haystack, template);

@@ -2,7 +2,7 @@
 ghost use Rattle.nfa_search_base.specs.EngineSearches.{IsKnownFrom};
 ghost use Rattle.nfa_search_base.specs.Stored.{steps_iter_state};
 ghost use Rattle.nfa_pikevm.specs.Finding.{IsSureOf};
-ghost use Rattle.nfa_choice.specs.ChoiceState.{pike_of};
+ghost use Rattle.nfa_meta.specs.RegexState.{pike_of};
 
 use crate::regex::Regex;
 use nfa_engines::error::SearchError;
@@ -35,7 +35,8 @@ impl Regex {
     ghost use Rattle.nfa_search_base.specs.Lists.{IsInside};
     ghost use Rattle.nfa_search_base.specs.Runs.{MatchesRun, MatchesAre, MatchesDisjoint, MatchesFirst, MatchesNext};
     ghost use Rattle.nfa_choice.specs.Answered.{ListsMatches};
-    ghost use Rattle.nfa_choice.specs.ChoiceState.{kind_in, KeepsEngines};
+    ghost use Rattle.nfa_choice.specs.ChoiceState.{kind_in};
+    ghost use Rattle.nfa_meta.specs.RegexState.{KeepsRegex};
     ghost use Rattle.nfa_meta.specs.Matches.{FindsBySearches, FindsGiveKept, RegexFindsOn, RegexFindsToEnd};
     ghost use Rattle.nfa_meta.specs.Matches.{finds_next, finds_regex};
 
@@ -56,15 +57,15 @@ impl Regex {
         ensures same_reference { (finds_regex result).ghost_name ≡ self.entry.ghost_name }
         ensures same_regex { (finds_regex result).now ≡ self.entry.now }
         // Each run of calls gives the first matches of the input, and all of them if it goes on to `None`.
-        ensures runs { MatchesRun self.entry.now.nfa (kind_in self.entry.now)
+        ensures runs { MatchesRun self.entry.now.choice.nfa (kind_in self.entry.now.choice)
             (search_of input.entry) finds_next result }
-        ensures are { MatchesAre self.entry.now.nfa (kind_in self.entry.now)
+        ensures are { MatchesAre self.entry.now.choice.nfa (kind_in self.entry.now.choice)
             (search_of input.entry) finds_next result }
-        ensures disjoint { MatchesDisjoint self.entry.now.nfa (kind_in self.entry.now)
+        ensures disjoint { MatchesDisjoint self.entry.now.choice.nfa (kind_in self.entry.now.choice)
             (search_of input.entry) finds_next result }
-        ensures first { MatchesFirst self.entry.now.nfa (kind_in self.entry.now)
+        ensures first { MatchesFirst self.entry.now.choice.nfa (kind_in self.entry.now.choice)
             (search_of input.entry) finds_next result }
-        ensures next { MatchesNext self.entry.now.nfa (kind_in self.entry.now)
+        ensures next { MatchesNext self.entry.now.choice.nfa (kind_in self.entry.now.choice)
             (search_of input.entry) finds_next result }
         // The engines change only by the searches of the steps.
         ensures searches { FindsBySearches (search_of input.entry) result }
@@ -93,9 +94,9 @@ impl Regex {
     /// ```
     pub fn find_all(&mut self, alloc: Global, input: Input<'_>) -> Result<Vec<Match>, SearchError>
         ensures memory { IsOkUnless result SearchError.Memory }
-        ensures lists { ListsMatches self.old (search_of input.entry) result }
+        ensures lists { ListsMatches self.old.choice (search_of input.entry) result }
         ensures inside { IfOk result (λ found. All (λ m. IsInside (search_of input.entry) (found_of m)) found.items) }
-        ensures keeps { KeepsEngines self.old self.new }
+        ensures keeps { KeepsRegex self.old self.new }
         // The engines change only by the searches of an iteration. If all matches are returned, these searches go to
         // its end.
         ensures searches { RegexFindsOn (search_of input.entry) self.old self.new }

@@ -7,7 +7,8 @@ ghost use Rattle.regex_search_core.specs.Search.{search_of};
 ghost use Rattle.nfa_paths.specs.Paths.{IsAnswer, IsFindAnswer};
 ghost use Rattle.nfa_backtrack.specs.Backtrack.{HoldsNoMore};
 ghost use Rattle.nfa_choice.specs.Answered.{WritesSlots};
-ghost use Rattle.nfa_choice.specs.ChoiceState.{KeepsEngines, kind_in};
+ghost use Rattle.nfa_choice.specs.ChoiceState.{kind_in};
+ghost use Rattle.nfa_meta.specs.RegexState.{KeepsRegex};
 ghost use Rattle.nfa_meta.specs.WindowRuns.{AnswersAs, HasNoMatch, IsWindowOf, RunsByWindow};
 
 use crate::regex::Regex;
@@ -23,12 +24,12 @@ impl Regex {
         input: &Input<'_>,
         slots: &mut [Option<NonMaxUsize>],
     ) -> Option<PatternID>
-        ensures answer { IsAnswer self.old.nfa (kind_in self.old) (search_of input.now).earliest (search_of input.now)
-            (option_map number_of result) slots.new }
+        ensures answer { IsAnswer self.old.choice.nfa (kind_in self.old.choice) (search_of input.now).earliest
+            (search_of input.now) (option_map number_of result) slots.new }
         ensures runs { RunsByWindow (search_of input.now) self.old self.new }
-        ensures writes { WritesSlots self.old.nfa (search_of input.now) result slots.old slots.new }
-        ensures holds { HoldsNoMore 0 self.old.back self.new.back }
-        ensures keeps { KeepsEngines self.old self.new }
+        ensures writes { WritesSlots self.old.choice.nfa (search_of input.now) result slots.old slots.new }
+        ensures holds { HoldsNoMore 0 self.old.choice.back self.new.choice.back }
+        ensures keeps { KeepsRegex self.old self.new }
     {
         if !self.one_pass.is_on() {
             return self.search_window(input, slots);
@@ -48,12 +49,12 @@ impl Regex {
         input: &Input<'_>,
         slots: &mut [Option<NonMaxUsize>],
     ) -> Option<PatternID>
-        ensures answer { IsAnswer self.old.nfa (kind_in self.old) (search_of input.now).earliest (search_of input.now)
-            (option_map number_of result) slots.new }
+        ensures answer { IsAnswer self.old.choice.nfa (kind_in self.old.choice) (search_of input.now).earliest
+            (search_of input.now) (option_map number_of result) slots.new }
         ensures runs { RunsByWindow (search_of input.now) self.old self.new }
-        ensures writes { WritesSlots self.old.nfa (search_of input.now) result slots.old slots.new }
-        ensures holds { HoldsNoMore 0 self.old.back self.new.back }
-        ensures keeps { KeepsEngines self.old self.new }
+        ensures writes { WritesSlots self.old.choice.nfa (search_of input.now) result slots.old slots.new }
+        ensures holds { HoldsNoMore 0 self.old.choice.back self.new.choice.back }
+        ensures keeps { KeepsRegex self.old self.new }
     {
         let part = self.part_to_search(*input);
         self.search_part(input, part, slots)
@@ -66,17 +67,18 @@ impl Regex {
         part: Option<Input<'h>>,
         slots: &mut [Option<NonMaxUsize>],
     ) -> Option<PatternID>
-        requires nothing { IfNone part (HasNoMatch self.old.nfa (kind_in self.old) (search_of input.now)) }
+        requires nothing { IfNone part
+            (HasNoMatch self.old.choice.nfa (kind_in self.old.choice) (search_of input.now)) }
         requires part { IfSome part (λ y. (search_of y ≡ search_of input.now)
-            ⊎ IsWindowOf self.old.nfa (search_of input.now) (search_of y)) }
+            ⊎ IsWindowOf self.old.choice.nfa (search_of input.now) (search_of y)) }
         requires answers { IfSome part (λ y.
-            AnswersAs self.old.nfa (kind_in self.old) (search_of input.now) (search_of y)) }
-        ensures answer { IsAnswer self.old.nfa (kind_in self.old) (search_of input.now).earliest (search_of input.now)
-            (option_map number_of result) slots.new }
+            AnswersAs self.old.choice.nfa (kind_in self.old.choice) (search_of input.now) (search_of y)) }
+        ensures answer { IsAnswer self.old.choice.nfa (kind_in self.old.choice) (search_of input.now).earliest
+            (search_of input.now) (option_map number_of result) slots.new }
         ensures runs { RunsByWindow (search_of input.now) self.old self.new }
-        ensures writes { WritesSlots self.old.nfa (search_of input.now) result slots.old slots.new }
-        ensures holds { HoldsNoMore 0 self.old.back self.new.back }
-        ensures keeps { KeepsEngines self.old self.new }
+        ensures writes { WritesSlots self.old.choice.nfa (search_of input.now) result slots.old slots.new }
+        ensures holds { HoldsNoMore 0 self.old.choice.back self.new.choice.back }
+        ensures keeps { KeepsRegex self.old self.new }
     {
         match part {
             Some(part) => self.choice.search_slots(&part, slots),
@@ -94,14 +96,15 @@ impl Regex {
         found: Match,
         slots: &mut [Option<NonMaxUsize>],
     ) -> Option<PatternID>
-        requires found { IsFindAnswer self.old.nfa (kind_in self.old) (search_of input.now).earliest
+        requires found { IsFindAnswer self.old.choice.nfa (kind_in self.old.choice) (search_of input.now).earliest
             (search_of input.now) (Some (found_of found)) }
         requires inside { IsInside (search_of input.now) (found_of found) }
-        ensures answer { IfSome result (λ p. IsAnswer self.old.nfa (kind_in self.old) (search_of input.now).earliest
-            (search_of input.now) (Some (number_of p)) slots.new) }
+        ensures answer { let x = search_of input.now in IfSome result (λ p.
+            IsAnswer self.old.choice.nfa (kind_in self.old.choice) x.earliest x (Some (number_of p)) slots.new) }
         ensures writes { IfSome result (λ _.
-            WritesSlots self.old.nfa (search_of input.now) result slots.old slots.new) }
-        ensures same { self.new ≡ self.old }
+            WritesSlots self.old.choice.nfa (search_of input.now) result slots.old slots.new) }
+        ensures same { self.new.choice ≡ self.old.choice }
+        ensures keeps { KeepsRegex self.old self.new }
     {
         only_slots_answer();
         if !self.records_spans || input.get_earliest() {
@@ -116,15 +119,16 @@ impl Regex {
     /// search, or `None` in it if nothing matches.
     fn found_or_part<'h>(&mut self, input: Input<'h>) -> Result<Match, Option<Input<'h>>>
         ensures answer { let x = search_of input.entry in IfOk result (λ m.
-            IsFindAnswer self.old.nfa (kind_in self.old) x.earliest x (Some (found_of m))) }
+            IsFindAnswer self.old.choice.nfa (kind_in self.old.choice) x.earliest x (Some (found_of m))) }
         ensures inside { IfOk result (λ m. IsInside (search_of input.entry) (found_of m)) }
         ensures nothing { IfErr result (λ part.
-            IfNone part (HasNoMatch self.old.nfa (kind_in self.old) (search_of input.entry))) }
+            IfNone part (HasNoMatch self.old.choice.nfa (kind_in self.old.choice) (search_of input.entry))) }
         ensures part { let x = search_of input.entry in IfErr result (λ rest. IfSome rest (λ part.
-            (search_of part ≡ x) ⊎ IsWindowOf self.old.nfa x (search_of part))) }
+            (search_of part ≡ x) ⊎ IsWindowOf self.old.choice.nfa x (search_of part))) }
         ensures answers { IfErr result (λ rest. IfSome rest (λ part.
-            AnswersAs self.old.nfa (kind_in self.old) (search_of input.entry) (search_of part))) }
-        ensures same { self.new ≡ self.old }
+            AnswersAs self.old.choice.nfa (kind_in self.old.choice) (search_of input.entry) (search_of part))) }
+        ensures same { self.new.choice ≡ self.old.choice }
+        ensures keeps { KeepsRegex self.old self.new }
     {
         if let Some(found) = self.find_at_first(input) {
             return Ok(found);

@@ -45,8 +45,8 @@ impl Regex {
         ensures same_reference { (halves_regex result).ghost_name ≡ self.entry.ghost_name }
         ensures same_regex { (halves_regex result).now ≡ self.entry.now }
         // Each run of calls gives the first half matches of the input, and all of them if it goes on to `None`.
-        ensures given { HalvesGiven self.entry.now.nfa (kind_in self.entry.now) (search_of input.entry) halves_next
-            result }
+        ensures given { HalvesGiven self.entry.now.choice.nfa (kind_in self.entry.now.choice)
+            (search_of input.entry) halves_next result }
         // The engines change only by the searches of the steps.
         ensures searches { HalvesBySearches (search_of input.entry) result }
         ensures keeps { HalvesGiveKept result }
@@ -67,7 +67,7 @@ impl FindWith for ByEnds {
     ghost use Rattle.nfa_search_base.specs.Finders.{may_ask};
     ghost use Rattle.nfa_search_base.specs.Items.{GivesItem, answer_by};
     ghost use Rattle.nfa_search_base.specs.IterStates.{half_span_of};
-    ghost use Rattle.nfa_choice.specs.ChoiceState.{pike_of};
+    ghost use Rattle.nfa_meta.specs.RegexState.{pike_of};
     ghost use Rattle.nfa_hybrid.specs.HalfIterations.{AsksHalf};
     ghost use Rattle.nfa_meta.specs.Halves.{FindsHalfAfterDfa};
     ghost use Rattle.std.specs.Prelude.{Ok};

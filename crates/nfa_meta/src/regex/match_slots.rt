@@ -5,6 +5,7 @@ ghost use Rattle.regex_search_core.specs.Search.{search_of};
 ghost use Rattle.nfa_paths.specs.Paths.{IsAnswer, IsFindAnswer};
 ghost use Rattle.nfa_search_base.specs.Lists.{IsInside};
 ghost use Rattle.nfa_choice.specs.ChoiceState.{kind_in};
+ghost use Rattle.nfa_meta.specs.RegexState.{KeepsRegex};
 ghost use Rattle.nfa_meta.specs.MatchSlots.{match_slots};
 ghost use Rattle.nfa_meta.specs.WindowRuns.{AnswersAs, HasNoMatch, IsWindowOf};
 
@@ -20,18 +21,19 @@ impl Regex {
         count: usize,
     ) -> Result<Match, Option<Input<'h>>>
         ensures answer { let x = search_of input.entry in IfOk result (λ m.
-            IsAnswer self.old.nfa (kind_in self.old) x.earliest x (Some (found_of m).pattern)
+            IsAnswer self.old.choice.nfa (kind_in self.old.choice) x.earliest x (Some (found_of m).pattern)
             (match_slots (found_of m))) }
         ensures count { IfOk result (λ m. count ≡ 2) }
-        ensures pattern { IfOk result (λ m. (found_of m).pattern < length self.old.nfa.patterns) }
+        ensures pattern { IfOk result (λ m. (found_of m).pattern < length self.old.choice.nfa.patterns) }
         ensures inside { IfOk result (λ m. IsInside (search_of input.entry) (found_of m)) }
         ensures nothing { IfErr result (λ part.
-            IfNone part (HasNoMatch self.old.nfa (kind_in self.old) (search_of input.entry))) }
+            IfNone part (HasNoMatch self.old.choice.nfa (kind_in self.old.choice) (search_of input.entry))) }
         ensures part { let x = search_of input.entry in IfErr result (λ rest. IfSome rest (λ part.
-            (search_of part ≡ x) ⊎ IsWindowOf self.old.nfa x (search_of part))) }
+            (search_of part ≡ x) ⊎ IsWindowOf self.old.choice.nfa x (search_of part))) }
         ensures answers { IfErr result (λ rest. IfSome rest (λ part.
-            AnswersAs self.old.nfa (kind_in self.old) (search_of input.entry) (search_of part))) }
-        ensures same { self.new ≡ self.old }
+            AnswersAs self.old.choice.nfa (kind_in self.old.choice) (search_of input.entry) (search_of part))) }
+        ensures same { self.new.choice ≡ self.old.choice }
+        ensures keeps { KeepsRegex self.old self.new }
     {
         if count != 2 || self.group_info().slot_len() != 2 {
             return Err(self.part_to_search(input));
@@ -49,15 +51,16 @@ impl Regex {
         input: Input<'h>,
     ) -> Result<Match, Option<Input<'h>>>
         ensures answer { let x = search_of input.entry in IfOk result (λ m.
-            IsFindAnswer self.old.nfa (kind_in self.old) x.earliest x (Some (found_of m))) }
-        ensures pattern { IfOk result (λ m. (found_of m).pattern < length self.old.nfa.patterns) }
+            IsFindAnswer self.old.choice.nfa (kind_in self.old.choice) x.earliest x (Some (found_of m))) }
+        ensures pattern { IfOk result (λ m. (found_of m).pattern < length self.old.choice.nfa.patterns) }
         ensures nothing { IfErr result (λ part.
-            IfNone part (HasNoMatch self.old.nfa (kind_in self.old) (search_of input.entry))) }
+            IfNone part (HasNoMatch self.old.choice.nfa (kind_in self.old.choice) (search_of input.entry))) }
         ensures part { let x = search_of input.entry in IfErr result (λ rest. IfSome rest (λ part.
-            (search_of part ≡ x) ⊎ IsWindowOf self.old.nfa x (search_of part))) }
+            (search_of part ≡ x) ⊎ IsWindowOf self.old.choice.nfa x (search_of part))) }
         ensures answers { IfErr result (λ rest. IfSome rest (λ part.
-            AnswersAs self.old.nfa (kind_in self.old) (search_of input.entry) (search_of part))) }
-        ensures same { self.new ≡ self.old }
+            AnswersAs self.old.choice.nfa (kind_in self.old.choice) (search_of input.entry) (search_of part))) }
+        ensures same { self.new.choice ≡ self.old.choice }
+        ensures keeps { KeepsRegex self.old self.new }
     {
         if let Some(found) = self.find_by_dfa(input) {
             self.matched_at_first = self.is_at_first(&input, found);

@@ -19,8 +19,8 @@ impl Regex {
     /// assert!(rt; !regex.may_begin(b'x'));
     /// ```
     pub fn may_begin(&self, byte: u8) -> bool
-        ensures may { result ≡ true → MayBegin self.now.nfa byte }
-        ensures nothing { result ≡ false → NoMatchBegins self.now.nfa byte }
+        ensures may { result ≡ true → MayBegin self.now.choice.nfa byte }
+        ensures nothing { result ≡ false → NoMatchBegins self.now.choice.nfa byte }
     {
         self.choice.may_begin(byte)
     }

@@ -1,7 +1,8 @@
 //! Sets of patterns of leftmost first matches.
 ghost use Rattle.regex_search_core.specs.Search.{search_of};
 ghost use Rattle.nfa_paths.specs.Overlaps.{IsOverlapResult};
-ghost use Rattle.nfa_choice.specs.ChoiceState.{AddsByPike, KeepsEngines, kind_in};
+ghost use Rattle.nfa_choice.specs.ChoiceState.{AddsByPike, kind_in};
+ghost use Rattle.nfa_meta.specs.RegexState.{KeepsRegex};
 
 use crate::regex::Regex;
 use regex_search_core::{Input, PatternSet};
@@ -28,10 +29,10 @@ impl Regex {
     /// assert_eq!(rt; numbers.as_slice(), [1].as_slice());
     /// ```
     pub fn which_overlapping_matches(&mut self, input: &Input<'_>, patterns: &mut PatternSet)
-        ensures result { IsOverlapResult self.old.nfa (search_of input.now) (kind_in self.old)
+        ensures result { IsOverlapResult self.old.choice.nfa (search_of input.now) (kind_in self.old.choice)
             (search_of input.now).earliest patterns.old patterns.new }
-        ensures runs { AddsByPike (search_of input.now) patterns.old self.old self.new }
-        ensures keeps { KeepsEngines self.old self.new }
+        ensures runs { AddsByPike (search_of input.now) patterns.old self.old.choice self.new.choice }
+        ensures keeps { KeepsRegex self.old self.new }
     {
         self.choice.which_overlapping_matches(input, patterns);
     }

@@ -19,11 +19,12 @@ impl Regex {
     /// Returns the input from the first position on at which a match may start, as far as the literals say. Returns
     /// `None` if they say that nothing matches.
     pub(super) fn from_prefix<'h>(&self, input: Input<'h>) -> Option<Input<'h>>
-        requires windowed { IsWindowed self.now.nfa (search_of input) }
-        ensures nothing { IfNone result (HasNoMatch self.now.nfa (kind_in self.now) (search_of input.entry)) }
-        ensures part { IfSome result (λ part. IsWindowOf self.now.nfa (search_of input.entry) (search_of part)) }
+        requires windowed { IsWindowed self.now.choice.nfa (search_of input) }
+        ensures nothing { IfNone result
+            (HasNoMatch self.now.choice.nfa (kind_in self.now.choice) (search_of input.entry)) }
+        ensures part { IfSome result (λ part. IsWindowOf self.now.choice.nfa (search_of input.entry) (search_of part)) }
         ensures answers { IfSome result (λ part.
-            AnswersAs self.now.nfa (kind_in self.now) (search_of input.entry) (search_of part)) }
+            AnswersAs self.now.choice.nfa (kind_in self.now.choice) (search_of input.entry) (search_of part)) }
     {
         starts_may_be_passed();
         nothing_has_no_answer();
@@ -33,9 +34,10 @@ impl Regex {
     /// Returns the same for a search for the end of a match, which may be the earliest one. Where a match may not start
     /// or end anywhere, that is the input.
     pub(super) fn half_from_prefix<'h>(&self, input: Input<'h>) -> Option<Input<'h>>
-        ensures nothing { IfNone result (HasNoHalf self.now.nfa (kind_in self.now) (search_of input.entry)) }
+        ensures nothing { IfNone result
+            (HasNoHalf self.now.choice.nfa (kind_in self.now.choice) (search_of input.entry)) }
         ensures answers { IfSome result (λ part.
-            HalvesAs self.now.nfa (kind_in self.now) (search_of input.entry) (search_of part)) }
+            HalvesAs self.now.choice.nfa (kind_in self.now.choice) (search_of input.entry) (search_of part)) }
     {
         starts_may_be_passed();
         nothing_has_no_answer();

@@ -3,7 +3,7 @@ ghost use Rattle.std.specs.Prelude.{◌≡◌, ◌<◌, IfOk, None, map};
 ghost use Rattle.regex_search_core.specs.Found.{found_of};
 ghost use Rattle.regex_search_core.specs.Search.{whole};
 ghost use Rattle.nfa_search_base.specs.Lists.{AreDisjoint};
-ghost use Rattle.nfa_choice.specs.ChoiceState.{KeepsEngines};
+ghost use Rattle.nfa_meta.specs.RegexState.{KeepsRegex};
 ghost use Rattle.nfa_meta.specs.Replaced.{IsReplaced, IsReplacedUpTo, replaced};
 
 use crate::regex::Regex;
@@ -25,8 +25,8 @@ impl Regex {
         haystack: &[u8],
         bytes: &[u8],
     ) -> Result<Vec<u8>, AllocError>
-        ensures replaced { IfOk result (λ output. IsReplaced self.old haystack.now bytes.now output.items) }
-        ensures keeps { KeepsEngines self.old self.new }
+        ensures replaced { IfOk result (λ output. IsReplaced self.old.choice haystack.now bytes.now output.items) }
+        ensures keeps { KeepsRegex self.old self.new }
     {
         let Ok(matches) = self.find_all(alloc, Input::new(haystack)) else {
             return Err(AllocError);
@@ -50,10 +50,11 @@ impl Regex {
         limit: usize,
         bytes: &[u8],
     ) -> Result<Vec<u8>, AllocError>
-        ensures all { limit ≡ 0 → IfOk result (λ output. IsReplaced self.old haystack.now bytes.now output.items) }
+        ensures all { limit ≡ 0 → IfOk result (λ output.
+            IsReplaced self.old.choice haystack.now bytes.now output.items) }
         ensures first { 0 < limit → IfOk result (λ output.
-            IsReplacedUpTo self.old haystack.now limit bytes.now output.items) }
-        ensures keeps { KeepsEngines self.old self.new }
+            IsReplacedUpTo self.old.choice haystack.now limit bytes.now output.items) }
+        ensures keeps { KeepsRegex self.old self.new }
     {
         if limit == 0 {
             return self.replace_all(alloc, haystack, bytes);

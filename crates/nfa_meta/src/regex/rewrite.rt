@@ -4,7 +4,7 @@ ghost use Rattle.regex_search_core.specs.Search.{whole};
 ghost use Rattle.regex_search_core.specs.Slots.{Captured};
 ghost use Rattle.nfa_search_base.specs.Runs.{CapturesInside, match_in};
 ghost use Rattle.nfa_search_base.specs.Lists.{AreDisjoint};
-ghost use Rattle.nfa_choice.specs.ChoiceState.{KeepsEngines};
+ghost use Rattle.nfa_meta.specs.RegexState.{KeepsRegex};
 ghost use Rattle.nfa_meta.specs.Rewritten.{AppendsBy, IsRewritten, IsRewrittenBy, IsRewrittenUpTo};
 ghost use Rattle.nfa_meta.specs.Rewritten.{IsRewrittenUpToBy, RewritesFrom, TakesMatchesOf};
 
@@ -39,12 +39,12 @@ impl Regex {
         F: FnMut(&Captures, &mut Vec<u8>) -> Result<(), AllocError>,
         requires { TakesMatchesOf F.FnMut haystack.now replacement }
         ensures rewritten { IfOk result (λ output.
-            IsRewritten F.FnMut self.old haystack.now replacement output.items) }
+            IsRewritten F.FnMut self.old.choice haystack.now replacement output.items) }
         // If each call appends what a function `h` of the captures gives. `Rattle.nfa_meta.proofs.Rewriting` has lemmas
         // for a closure that changes nothing that it captured.
         ensures appended { (h : Captured → List ℕ) → AppendsBy F.FnMut haystack.now replacement h
-            → IfOk result (λ output. IsRewrittenBy self.old haystack.now h output.items) }
-        ensures keeps { KeepsEngines self.old self.new }
+            → IfOk result (λ output. IsRewrittenBy self.old.choice haystack.now h output.items) }
+        ensures keeps { KeepsRegex self.old self.new }
     {
         let Ok(caught) = self.captures_all(alloc, Input::new(haystack)) else {
             return Err(AllocError);
@@ -72,15 +72,15 @@ impl Regex {
         F: FnMut(&Captures, &mut Vec<u8>) -> Result<(), AllocError>,
         requires { TakesMatchesOf F.FnMut haystack.now replacement }
         ensures all { limit ≡ 0 → IfOk result (λ output.
-            IsRewritten F.FnMut self.old haystack.now replacement output.items) }
+            IsRewritten F.FnMut self.old.choice haystack.now replacement output.items) }
         ensures first { 0 < limit → IfOk result (λ output.
-            IsRewrittenUpTo F.FnMut self.old haystack.now replacement limit output.items) }
+            IsRewrittenUpTo F.FnMut self.old.choice haystack.now replacement limit output.items) }
         // If each call appends what a function `h` of the captures gives.
         ensures all_appended { limit ≡ 0 → (h : Captured → List ℕ) → AppendsBy F.FnMut haystack.now replacement h
-            → IfOk result (λ output. IsRewrittenBy self.old haystack.now h output.items) }
+            → IfOk result (λ output. IsRewrittenBy self.old.choice haystack.now h output.items) }
         ensures first_appended { 0 < limit → (h : Captured → List ℕ) → AppendsBy F.FnMut haystack.now replacement h
-            → IfOk result (λ output. IsRewrittenUpToBy self.old haystack.now limit h output.items) }
-        ensures keeps { KeepsEngines self.old self.new }
+            → IfOk result (λ output. IsRewrittenUpToBy self.old.choice haystack.now limit h output.items) }
+        ensures keeps { KeepsRegex self.old self.new }
     {
         if limit == 0 {
             return self.replace_all_with(alloc, haystack, replacement);

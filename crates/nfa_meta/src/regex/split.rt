@@ -3,7 +3,8 @@ ghost use Rattle.std.specs.Prelude.{◌≡◌, ◌⊎◌, ◌+◌, ◌<◌, ◌�
 ghost use Rattle.regex_search_core.specs.Found.{found_of};
 ghost use Rattle.regex_search_core.specs.Search.{search_of, whole};
 ghost use Rattle.nfa_search_base.specs.Lists.{AreDisjoint, AreFirstMatches, AreMatches};
-ghost use Rattle.nfa_choice.specs.ChoiceState.{KeepsEngines, kind_in};
+ghost use Rattle.nfa_choice.specs.ChoiceState.{kind_in};
+ghost use Rattle.nfa_meta.specs.RegexState.{KeepsRegex};
 ghost use Rattle.nfa_meta.specs.Gaps.{IsSpanIn, IsSplit, IsSplitUpTo, gap_spans};
 
 use crate::regex::Regex;
@@ -21,9 +22,9 @@ impl Regex {
     /// assert_eq!(rt; spans[2].range(), 5..6);
     /// ```
     pub fn split_all(&mut self, alloc: Global, haystack: &[u8]) -> Result<Vec<Span>, AllocError>
-        ensures spans { IfOk result (λ spans. IsSplit self.old haystack.now spans.items) }
+        ensures spans { IfOk result (λ spans. IsSplit self.old.choice haystack.now spans.items) }
         ensures inside { IfOk result (λ spans. All (IsSpanIn (length haystack.now)) spans.items) }
-        ensures keeps { KeepsEngines self.old self.new }
+        ensures keeps { KeepsRegex self.old self.new }
     {
         let Ok(matches) = self.find_all(alloc, Input::new(haystack)) else {
             return Err(AllocError);
@@ -48,10 +49,10 @@ impl Regex {
         limit: usize,
     ) -> Result<Vec<Span>, AllocError>
         ensures none { limit ≡ 0 → IfOk result (λ spans. spans.items ≡ []) }
-        ensures spans { 0 < limit → IfOk result (λ spans. IsSplitUpTo self.old haystack.now limit spans.items) }
+        ensures spans { 0 < limit → IfOk result (λ spans. IsSplitUpTo self.old.choice haystack.now limit spans.items) }
         ensures few { IfOk result (λ spans. length spans.items ≤ limit) }
         ensures inside { IfOk result (λ spans. All (IsSpanIn (length haystack.now)) spans.items) }
-        ensures keeps { KeepsEngines self.old self.new }
+        ensures keeps { KeepsRegex self.old self.new }
     {
         if limit == 0 {
             return Ok(Vec::new(alloc));
@@ -76,14 +77,14 @@ impl Regex {
         input: Input<'_>,
         count: usize,
     ) -> Result<Vec<Match>, AllocError>
-        ensures first { IfOk result (λ found. AreFirstMatches self.old.nfa (kind_in self.old)
+        ensures first { IfOk result (λ found. AreFirstMatches self.old.choice.nfa (kind_in self.old.choice)
             (search_of input.entry).earliest (search_of input.entry) (map found_of found.items)) }
         ensures as_many { IfOk result (λ found. (length found.items ≡ count)
-            ⊎ AreMatches self.old.nfa (kind_in self.old) (search_of input.entry).earliest (search_of input.entry)
-            (map found_of found.items)) }
+            ⊎ AreMatches self.old.choice.nfa (kind_in self.old.choice) (search_of input.entry).earliest
+            (search_of input.entry) (map found_of found.items)) }
         ensures few { IfOk result (λ found. length found.items ≤ count) }
         ensures apart { IfOk result (λ found. AreDisjoint (search_of input.entry) None (map found_of found.items)) }
-        ensures keeps { KeepsEngines self.old self.new }
+        ensures keeps { KeepsRegex self.old self.new }
     {
         let mut first = Vec::new(alloc);
         if count == 0 {

@@ -5,6 +5,7 @@ ghost use Rattle.regex_search_core.specs.Search.{search_of};
 ghost use Rattle.nfa_paths.specs.Paths.{IsFindAnswer, IsHalfAnswer, is_utf8_empty};
 ghost use Rattle.nfa_engines.specs.StartLaws.{IsFirstStart, StartsAnywhere, anchored_at};
 ghost use Rattle.nfa_choice.specs.ChoiceState.{kind_in};
+ghost use Rattle.nfa_meta.specs.RegexState.{KeepsRegex};
 
 use crate::regex::Regex;
 use nfa_engines::laws::{bytes_may_be_skipped, first_start_answers};
@@ -17,7 +18,7 @@ impl Regex {
     /// Whether a match of the search may start anywhere in its span, and the first of all paths counts.
     #[inline(always)]
     pub(super) fn starts_anywhere(&self, input: &Input<'_>) -> bool
-        ensures anywhere { result ≡ true → StartsAnywhere self.now.nfa (search_of input.now) }
+        ensures anywhere { result ≡ true → StartsAnywhere self.now.choice.nfa (search_of input.now) }
         ensures last { result ≡ true → (search_of input.now).earliest ≡ false }
     {
         !input.get_earliest()
@@ -29,10 +30,10 @@ impl Regex {
     /// with. Returns `until` if there is none before it, or the position if it is not before that.
     #[inline(always)]
     pub(super) fn next_start(&self, input: &Input<'_>, from: usize, until: usize) -> usize
-        requires first { IsFirstStart self.now.nfa (search_of input.now) from }
+        requires first { IsFirstStart self.now.choice.nfa (search_of input.now) from }
         requires within { from ≤ (search_of input.now).end + 1 }
         requires until { until ≤ (search_of input.now).end }
-        ensures first { IsFirstStart self.now.nfa (search_of input.now) result }
+        ensures first { IsFirstStart self.now.choice.nfa (search_of input.now) result }
         ensures within { result ≤ (search_of input.now).end + 1 }
     {
         bytes_may_be_skipped();
@@ -48,7 +49,7 @@ impl Regex {
     /// nothing matches.
     #[inline(always)]
     pub(super) fn first_start(&self, input: &Input<'_>) -> usize
-        ensures first { IsFirstStart self.now.nfa (search_of input.now) result }
+        ensures first { IsFirstStart self.now.choice.nfa (search_of input.now) result }
         ensures within { result ≤ (search_of input.now).end + 1 }
     {
         bytes_may_be_skipped();
@@ -62,19 +63,20 @@ impl Regex {
     /// `Some(None)` if it finds none there, and `None` if it has no answer.
     #[inline(always)]
     pub(super) fn find_at_start<'h>(&mut self, input: Input<'h>, at: usize) -> Option<Option<Match>>
-        requires anywhere { StartsAnywhere self.old.nfa (search_of input) }
+        requires anywhere { StartsAnywhere self.old.choice.nfa (search_of input) }
         requires last { (search_of input).earliest ≡ false }
-        requires first { IsFirstStart self.old.nfa (search_of input) at }
+        requires first { IsFirstStart self.old.choice.nfa (search_of input) at }
         requires within { at ≤ (search_of input).end + 1 }
         ensures answer { let x = search_of input.entry in IfSome result (λ found. IfSome found (λ m.
-            IsFindAnswer self.old.nfa (kind_in self.old) x.earliest x (Some (found_of m)))) }
+            IsFindAnswer self.old.choice.nfa (kind_in self.old.choice) x.earliest x (Some (found_of m)))) }
         ensures pattern { IfSome result (λ found.
-            IfSome found (λ m. (found_of m).pattern < length self.old.nfa.patterns)) }
-        ensures moves { is_utf8_empty self.old.nfa ≡ false → IfSome result (λ found.
-            IfNone found (IsFirstStart self.old.nfa (search_of input.entry) (at + 1))) }
-        ensures none { let x = search_of input.entry in IfSome result (λ found.
-            IfNone found (IsHalfAnswer self.old.nfa (kind_in self.old) x.earliest (anchored_at x at) None)) }
-        ensures same { self.new ≡ self.old }
+            IfSome found (λ m. (found_of m).pattern < length self.old.choice.nfa.patterns)) }
+        ensures moves { is_utf8_empty self.old.choice.nfa ≡ false → IfSome result (λ found.
+            IfNone found (IsFirstStart self.old.choice.nfa (search_of input.entry) (at + 1))) }
+        ensures none { let x = search_of input.entry in IfSome result (λ found. IfNone found
+            (IsHalfAnswer self.old.choice.nfa (kind_in self.old.choice) x.earliest (anchored_at x at) None)) }
+        ensures same { self.new.choice ≡ self.old.choice }
+        ensures keeps { KeepsRegex self.old self.new }
     {
         let _ = &self.dfa;
         first_start_answers();
@@ -85,9 +87,10 @@ impl Regex {
     #[inline(always)]
     pub(super) fn find_at_first<'h>(&mut self, input: Input<'h>) -> Option<Match>
         ensures answer { let x = search_of input.entry in IfSome result (λ m.
-            IsFindAnswer self.old.nfa (kind_in self.old) x.earliest x (Some (found_of m))) }
-        ensures pattern { IfSome result (λ m. (found_of m).pattern < length self.old.nfa.patterns) }
-        ensures same { self.new ≡ self.old }
+            IsFindAnswer self.old.choice.nfa (kind_in self.old.choice) x.earliest x (Some (found_of m))) }
+        ensures pattern { IfSome result (λ m. (found_of m).pattern < length self.old.choice.nfa.patterns) }
+        ensures same { self.new.choice ≡ self.old.choice }
+        ensures keeps { KeepsRegex self.old self.new }
     {
         if !self.matched_at_first || !self.starts_anywhere(&input) {
             return None;

@@ -8,7 +8,8 @@ ghost use Rattle.nfa_search_base.specs.Lists.{IsInside};
 ghost use Rattle.nfa_backtrack.specs.Backtrack.{HoldsNoMore};
 ghost use Rattle.nfa_engines.specs.Laws.{MatchesNothing};
 ghost use Rattle.nfa_engines.specs.StartLaws.{IsFirstStart, IsUnbound, StartsAnywhere};
-ghost use Rattle.nfa_choice.specs.ChoiceState.{KeepsEngines, kind_in};
+ghost use Rattle.nfa_choice.specs.ChoiceState.{kind_in};
+ghost use Rattle.nfa_meta.specs.RegexState.{KeepsRegex};
 ghost use Rattle.nfa_meta.specs.Windowed.{IsWindowed};
 ghost use Rattle.nfa_meta.specs.WindowRuns.{AnswersAs, HasNoMatch, IsWindowOf, RunsByWindow};
 
@@ -32,14 +33,14 @@ pub(super) struct NoWindow;
 impl Regex {
     /// Whether a window of the lazy DFA has the match of the search.
     pub(super) fn is_windowed(&self, input: &Input<'_>) -> bool
-        ensures { result ≡ true → IsWindowed self.now.nfa (search_of input.now) }
+        ensures { result ≡ true → IsWindowed self.now.choice.nfa (search_of input.now) }
     {
         !input.get_earliest() && self.is_unbound(input)
     }
 
     /// Whether a match of the search may start and end anywhere in its span.
     pub(super) fn is_unbound(&self, input: &Input<'_>) -> bool
-        ensures { result ≡ true → IsUnbound self.now.nfa (search_of input.now) }
+        ensures { result ≡ true → IsUnbound self.now.choice.nfa (search_of input.now) }
     {
         let nfa = self.choice.get_nfa();
         !input.get_anchored().is_anchored()
@@ -50,12 +51,13 @@ impl Regex {
     /// Returns the window of the lazy DFA that has the answer of the search. Returns `None` in it if nothing matches.
     pub(super) fn window<'h>(&mut self, input: Input<'h>) -> Result<Option<Input<'h>>, NoWindow>
         ensures nothing { IfOk result (λ window.
-            IfNone window (HasNoMatch self.old.nfa (kind_in self.old) (search_of input.entry))) }
+            IfNone window (HasNoMatch self.old.choice.nfa (kind_in self.old.choice) (search_of input.entry))) }
         ensures part { IfOk result (λ window.
-            IfSome window (λ part. IsWindowOf self.old.nfa (search_of input.entry) (search_of part))) }
+            IfSome window (λ part. IsWindowOf self.old.choice.nfa (search_of input.entry) (search_of part))) }
         ensures answers { IfOk result (λ window. IfSome window (λ part.
-            AnswersAs self.old.nfa (kind_in self.old) (search_of input.entry) (search_of part))) }
-        ensures same { self.new ≡ self.old }
+            AnswersAs self.old.choice.nfa (kind_in self.old.choice) (search_of input.entry) (search_of part))) }
+        ensures same { self.new.choice ≡ self.old.choice }
+        ensures keeps { KeepsRegex self.old self.new }
     {
         if !self.is_windowed(&input) {
             return Err(NoWindow);
@@ -69,14 +71,15 @@ impl Regex {
     /// Returns the window of the lazy DFA that has the answer of a search that has windows. Returns `None` in it if
     /// nothing matches.
     fn window_in<'h>(&mut self, input: Input<'h>) -> Result<Option<Input<'h>>, NoWindow>
-        requires windowed { IsWindowed self.old.nfa (search_of input) }
+        requires windowed { IsWindowed self.old.choice.nfa (search_of input) }
         ensures nothing { IfOk result (λ window.
-            IfNone window (HasNoMatch self.old.nfa (kind_in self.old) (search_of input.entry))) }
+            IfNone window (HasNoMatch self.old.choice.nfa (kind_in self.old.choice) (search_of input.entry))) }
         ensures part { IfOk result (λ window.
-            IfSome window (λ part. IsWindowOf self.old.nfa (search_of input.entry) (search_of part))) }
+            IfSome window (λ part. IsWindowOf self.old.choice.nfa (search_of input.entry) (search_of part))) }
         ensures answers { IfOk result (λ window. IfSome window (λ part.
-            AnswersAs self.old.nfa (kind_in self.old) (search_of input.entry) (search_of part))) }
-        ensures same { self.new ≡ self.old }
+            AnswersAs self.old.choice.nfa (kind_in self.old.choice) (search_of input.entry) (search_of part))) }
+        ensures same { self.new.choice ≡ self.old.choice }
+        ensures keeps { KeepsRegex self.old self.new }
     {
         laws::windows_answer();
         match self.dfa.try_find_window(&mut self.cache, input) {
@@ -89,12 +92,14 @@ impl Regex {
     /// Returns the input that the choice has to search for the answer: a window of the lazy DFA, or the input itself if
     /// there is none. Returns `None` if nothing matches.
     pub(super) fn part_to_search<'h>(&mut self, input: Input<'h>) -> Option<Input<'h>>
-        ensures nothing { IfNone result (HasNoMatch self.old.nfa (kind_in self.old) (search_of input.entry)) }
+        ensures nothing { IfNone result
+            (HasNoMatch self.old.choice.nfa (kind_in self.old.choice) (search_of input.entry)) }
         ensures part { let x = search_of input.entry in IfSome result (λ part.
-            (search_of part ≡ x) ⊎ IsWindowOf self.old.nfa x (search_of part)) }
+            (search_of part ≡ x) ⊎ IsWindowOf self.old.choice.nfa x (search_of part)) }
         ensures answers { IfSome result (λ part.
-            AnswersAs self.old.nfa (kind_in self.old) (search_of input.entry) (search_of part)) }
-        ensures same { self.new ≡ self.old }
+            AnswersAs self.old.choice.nfa (kind_in self.old.choice) (search_of input.entry) (search_of part)) }
+        ensures same { self.new.choice ≡ self.old.choice }
+        ensures keeps { KeepsRegex self.old self.new }
     {
         match self.window(input) {
             Ok(part) => part,
@@ -105,14 +110,15 @@ impl Regex {
     /// Returns the match of the search, if it is anchored and the lazy DFA answers it.
     pub(super) fn find_anchored<'h>(&mut self, input: Input<'h>) -> Option<Option<Match>>
         ensures answer { let x = search_of input.entry in IfSome result (λ found.
-            IsFindAnswer self.old.nfa (kind_in self.old) x.earliest x (option_map found_of found)) }
+            IsFindAnswer self.old.choice.nfa (kind_in self.old.choice) x.earliest x (option_map found_of found)) }
         ensures pattern { IfSome result (λ found.
-            IfSome found (λ m. (found_of m).pattern < length self.old.nfa.patterns)) }
+            IfSome found (λ m. (found_of m).pattern < length self.old.choice.nfa.patterns)) }
         ensures none { let x = search_of input.entry in IfSome result (λ found.
-            IfNone found (IsHalfAnswer self.old.nfa (kind_in self.old) x.earliest x None)) }
-        ensures nothing { is_utf8_empty self.old.nfa ≡ false → IfSome result (λ found.
-            IfNone found (MatchesNothing self.old.nfa (search_of input.entry))) }
-        ensures same { self.new ≡ self.old }
+            IfNone found (IsHalfAnswer self.old.choice.nfa (kind_in self.old.choice) x.earliest x None)) }
+        ensures nothing { is_utf8_empty self.old.choice.nfa ≡ false → IfSome result (λ found.
+            IfNone found (MatchesNothing self.old.choice.nfa (search_of input.entry))) }
+        ensures same { self.new.choice ≡ self.old.choice }
+        ensures keeps { KeepsRegex self.old self.new }
     {
         if !self.records_spans || !input.get_anchored().is_anchored() {
             return None;
@@ -136,12 +142,12 @@ impl Regex {
     /// Returns the match that [`Regex::find`] returns. It copies no input for a match at the first start.
     pub(super) fn find_by_ref(&mut self, input: &Input<'_>) -> Option<Match>
         ensures answer { let x = search_of input.now in
-            IsFindAnswer self.old.nfa (kind_in self.old) x.earliest x (option_map found_of result) }
-        ensures pattern { IfSome result (λ m. (found_of m).pattern < length self.old.nfa.patterns) }
+            IsFindAnswer self.old.choice.nfa (kind_in self.old.choice) x.earliest x (option_map found_of result) }
+        ensures pattern { IfSome result (λ m. (found_of m).pattern < length self.old.choice.nfa.patterns) }
         ensures inside { IfSome result (λ m. IsInside (search_of input.now) (found_of m)) }
         ensures runs { RunsByWindow (search_of input.now) self.old self.new }
-        ensures holds { HoldsNoMore (2 * length self.old.nfa.groups) self.old.back self.new.back }
-        ensures keeps { KeepsEngines self.old self.new }
+        ensures holds { HoldsNoMore (2 * length self.old.choice.nfa.groups) self.old.choice.back self.new.choice.back }
+        ensures keeps { KeepsRegex self.old self.new }
     {
         if let Some(found) = self.find_at_first(*input) {
             return Some(found);
@@ -154,12 +160,12 @@ impl Regex {
     #[inline(never)]
     fn find_past_first(&mut self, input: &Input<'_>) -> Option<Match>
         ensures answer { let x = search_of input.now in
-            IsFindAnswer self.old.nfa (kind_in self.old) x.earliest x (option_map found_of result) }
-        ensures pattern { IfSome result (λ m. (found_of m).pattern < length self.old.nfa.patterns) }
+            IsFindAnswer self.old.choice.nfa (kind_in self.old.choice) x.earliest x (option_map found_of result) }
+        ensures pattern { IfSome result (λ m. (found_of m).pattern < length self.old.choice.nfa.patterns) }
         ensures inside { IfSome result (λ m. IsInside (search_of input.now) (found_of m)) }
         ensures runs { RunsByWindow (search_of input.now) self.old self.new }
-        ensures holds { HoldsNoMore (2 * length self.old.nfa.groups) self.old.back self.new.back }
-        ensures keeps { KeepsEngines self.old self.new }
+        ensures holds { HoldsNoMore (2 * length self.old.choice.nfa.groups) self.old.choice.back self.new.choice.back }
+        ensures keeps { KeepsRegex self.old self.new }
     {
         if let Some(found) = self.find_anchored(*input) {
             return found;
@@ -173,12 +179,12 @@ impl Regex {
     /// the whole span.
     pub(super) fn find_by_window<'h>(&mut self, input: Input<'h>) -> Option<Match>
         ensures answer { let x = search_of input.entry in
-            IsFindAnswer self.old.nfa (kind_in self.old) x.earliest x (option_map found_of result) }
-        ensures pattern { IfSome result (λ m. (found_of m).pattern < length self.old.nfa.patterns) }
+            IsFindAnswer self.old.choice.nfa (kind_in self.old.choice) x.earliest x (option_map found_of result) }
+        ensures pattern { IfSome result (λ m. (found_of m).pattern < length self.old.choice.nfa.patterns) }
         ensures inside { IfSome result (λ m. IsInside (search_of input.entry) (found_of m)) }
         ensures runs { RunsByWindow (search_of input.entry) self.old self.new }
-        ensures holds { HoldsNoMore (2 * length self.old.nfa.groups) self.old.back self.new.back }
-        ensures keeps { KeepsEngines self.old self.new }
+        ensures holds { HoldsNoMore (2 * length self.old.choice.nfa.groups) self.old.choice.back self.new.choice.back }
+        ensures keeps { KeepsRegex self.old self.new }
     {
         if let Some(found) = self.find_by_dfa(input) {
             return found;
@@ -194,12 +200,13 @@ impl Regex {
     /// `Some(None)` if nothing matches.
     pub(super) fn find_by_dfa<'h>(&mut self, input: Input<'h>) -> Option<Option<Match>>
         ensures answer { let x = search_of input.entry in IfSome result (λ found.
-            IsFindAnswer self.old.nfa (kind_in self.old) x.earliest x (option_map found_of found)) }
+            IsFindAnswer self.old.choice.nfa (kind_in self.old.choice) x.earliest x (option_map found_of found)) }
         ensures nothing { IfSome result (λ found.
-            IfNone found (HasNoMatch self.old.nfa (kind_in self.old) (search_of input.entry))) }
+            IfNone found (HasNoMatch self.old.choice.nfa (kind_in self.old.choice) (search_of input.entry))) }
         ensures pattern { IfSome result (λ found.
-            IfSome found (λ m. (found_of m).pattern < length self.old.nfa.patterns)) }
-        ensures same { self.new ≡ self.old }
+            IfSome found (λ m. (found_of m).pattern < length self.old.choice.nfa.patterns)) }
+        ensures same { self.new.choice ≡ self.old.choice }
+        ensures keeps { KeepsRegex self.old self.new }
     {
         if self.is_windowed(&input) {
             self.find_from_first_end(input)
@@ -211,14 +218,15 @@ impl Regex {
     /// Returns the match of a search that has windows, if the lazy DFA finds it at one of the first starts: it scans to the
     /// first end of a match, and not on to the end of this one. Returns `Some(None)` if nothing matches.
     fn find_from_first_end<'h>(&mut self, input: Input<'h>) -> Option<Option<Match>>
-        requires windowed { IsWindowed self.old.nfa (search_of input) }
+        requires windowed { IsWindowed self.old.choice.nfa (search_of input) }
         ensures answer { let x = search_of input.entry in IfSome result (λ found.
-            IsFindAnswer self.old.nfa (kind_in self.old) x.earliest x (option_map found_of found)) }
+            IsFindAnswer self.old.choice.nfa (kind_in self.old.choice) x.earliest x (option_map found_of found)) }
         ensures nothing { IfSome result (λ found.
-            IfNone found (HasNoMatch self.old.nfa (kind_in self.old) (search_of input.entry))) }
+            IfNone found (HasNoMatch self.old.choice.nfa (kind_in self.old.choice) (search_of input.entry))) }
         ensures pattern { IfSome result (λ found.
-            IfSome found (λ m. (found_of m).pattern < length self.old.nfa.patterns)) }
-        ensures same { self.new ≡ self.old }
+            IfSome found (λ m. (found_of m).pattern < length self.old.choice.nfa.patterns)) }
+        ensures same { self.new.choice ≡ self.old.choice }
+        ensures keeps { KeepsRegex self.old self.new }
     {
         if !self.records_spans {
             return None;
@@ -236,12 +244,13 @@ impl Regex {
     /// Scans a search that has windows to the first end of a match. Returns a position near its start before which nothing
     /// matches. Returns `None` in it if nothing matches.
     fn first_end<'h>(&mut self, input: Input<'h>) -> Result<Option<usize>, NoWindow>
-        requires windowed { IsWindowed self.old.nfa (search_of input) }
+        requires windowed { IsWindowed self.old.choice.nfa (search_of input) }
         ensures nothing { IfOk result (λ at.
-            IfNone at (HasNoMatch self.old.nfa (kind_in self.old) (search_of input.entry))) }
-        ensures first { IfOk result (λ at. IfSome at (IsFirstStart self.old.nfa (search_of input.entry))) }
+            IfNone at (HasNoMatch self.old.choice.nfa (kind_in self.old.choice) (search_of input.entry))) }
+        ensures first { IfOk result (λ at. IfSome at (IsFirstStart self.old.choice.nfa (search_of input.entry))) }
         ensures within { IfOk result (λ at. IfSome at (λ at. at ≤ (search_of input.entry).end + 1)) }
-        ensures same { self.new ≡ self.old }
+        ensures same { self.new.choice ≡ self.old.choice }
+        ensures keeps { KeepsRegex self.old self.new }
     {
         laws::windows_are_first_starts();
         found_is_an_accepting_path();
@@ -260,12 +269,13 @@ impl Regex {
     /// the lazy DFA finds it at one of the first starts of its window. Returns `Some(None)` if nothing matches.
     fn find_from_window<'h>(&mut self, input: Input<'h>) -> Option<Option<Match>>
         ensures answer { let x = search_of input.entry in IfSome result (λ found.
-            IsFindAnswer self.old.nfa (kind_in self.old) x.earliest x (option_map found_of found)) }
+            IsFindAnswer self.old.choice.nfa (kind_in self.old.choice) x.earliest x (option_map found_of found)) }
         ensures nothing { IfSome result (λ found.
-            IfNone found (HasNoMatch self.old.nfa (kind_in self.old) (search_of input.entry))) }
+            IfNone found (HasNoMatch self.old.choice.nfa (kind_in self.old.choice) (search_of input.entry))) }
         ensures pattern { IfSome result (λ found.
-            IfSome found (λ m. (found_of m).pattern < length self.old.nfa.patterns)) }
-        ensures same { self.new ≡ self.old }
+            IfSome found (λ m. (found_of m).pattern < length self.old.choice.nfa.patterns)) }
+        ensures same { self.new.choice ≡ self.old.choice }
+        ensures keeps { KeepsRegex self.old self.new }
     {
         if !self.records_spans || !self.starts_anywhere(&input) || self.is_windowed(&input) {
             return None;
@@ -282,14 +292,15 @@ impl Regex {
     /// Returns the match of a search, if the lazy DFA finds it at one of the first starts from one on before which nothing
     /// matches.
     fn find_from<'h>(&mut self, input: Input<'h>, from: usize) -> Option<Match>
-        requires anywhere { StartsAnywhere self.old.nfa (search_of input) }
+        requires anywhere { StartsAnywhere self.old.choice.nfa (search_of input) }
         requires last { (search_of input).earliest ≡ false }
-        requires first { IsFirstStart self.old.nfa (search_of input) from }
+        requires first { IsFirstStart self.old.choice.nfa (search_of input) from }
         requires within { from ≤ (search_of input).end + 1 }
         ensures answer { let x = search_of input.entry in IfSome result (λ m.
-            IsFindAnswer self.old.nfa (kind_in self.old) x.earliest x (Some (found_of m))) }
-        ensures pattern { IfSome result (λ m. (found_of m).pattern < length self.old.nfa.patterns) }
-        ensures same { self.new ≡ self.old }
+            IsFindAnswer self.old.choice.nfa (kind_in self.old.choice) x.earliest x (Some (found_of m))) }
+        ensures pattern { IfSome result (λ m. (found_of m).pattern < length self.old.choice.nfa.patterns) }
+        ensures same { self.new.choice ≡ self.old.choice }
+        ensures keeps { KeepsRegex self.old self.new }
     {
         let _ = &self.dfa;
         laws::searches_go_on();
@@ -312,13 +323,14 @@ impl Regex {
     /// Returns the match of a search that has windows, if the lazy DFA finds it at one of the first starts whose byte a
     /// match may begin with, from one on before which nothing matches.
     fn find_near_start<'h>(&mut self, input: Input<'h>, from: usize) -> Option<Match>
-        requires windowed { IsWindowed self.old.nfa (search_of input) }
-        requires first { IsFirstStart self.old.nfa (search_of input) from }
+        requires windowed { IsWindowed self.old.choice.nfa (search_of input) }
+        requires first { IsFirstStart self.old.choice.nfa (search_of input) from }
         requires within { from ≤ (search_of input).end + 1 }
         ensures answer { let x = search_of input.entry in IfSome result (λ m.
-            IsFindAnswer self.old.nfa (kind_in self.old) x.earliest x (Some (found_of m))) }
-        ensures pattern { IfSome result (λ m. (found_of m).pattern < length self.old.nfa.patterns) }
-        ensures same { self.new ≡ self.old }
+            IsFindAnswer self.old.choice.nfa (kind_in self.old.choice) x.earliest x (Some (found_of m))) }
+        ensures pattern { IfSome result (λ m. (found_of m).pattern < length self.old.choice.nfa.patterns) }
+        ensures same { self.new.choice ≡ self.old.choice }
+        ensures keeps { KeepsRegex self.old self.new }
     {
         let mut at = from;
         for _ in 0..TRIES {

@@ -14,7 +14,7 @@ use Rattle.replacer.proofs.fields.split.Goals as goal
 pub returns-clause-meant : goal.returns-clause-meant
 returns-clause-meant c = λ pattern re hits of all.
     let text = c.args.haystack.now in
-    let r = c.args.regex.now in
+    let r = c.args.regex.now.choice in
     let items = map found_of c.in-Ok.matches.items in
     let are = subst (λ (x : Search). AreMatches r.nfa (kind_in r) x.earliest x items) c.new.ensures
     c.in-Ok.ensures.lists.all in
@@ -29,7 +29,7 @@ returns-clause-fields c =
     let items = c.in-Ok.matches.items in
     record {
       matches = map found_of items;
-      are = all-of c.args.regex.now c.args.haystack.now c.new.ensures items c.in-Ok.ensures.lists.all;
+      are = all-of c.args.regex.now.choice c.args.haystack.now c.new.ensures items c.in-Ok.ensures.lists.all;
       around = subst (λ (ms : List Match). AreAround c.args.haystack.now (map found_of ms)
           (texts c.in_ok-fields.fields.items)) c.deref.ensures.value c.in_ok-fields.ensures.around;
     }

@@ -12,7 +12,7 @@ use Rattle.replacer.proofs.fields.splitn.Goals as goal
 
 pub returns-clause-meant : goal.returns-clause-meant
 returns-clause-meant c = λ pattern re hits of all.
-    let r = c.args.regex.now in
+    let r = c.args.regex.now.choice in
     let text = c.args.haystack.now in
     let some : 0 < c.args.limit = omega arith in
     let items = c.in_ok-matches.matches.items in
@@ -31,8 +31,8 @@ pub returns-clause-fields : goal.returns-clause-fields
 returns-clause-fields c = λ some.
     let items = c.in_ok-matches.matches.items in
     let found = c.in_ok-matches.ensures in
-    let firsts = first-fewer c.args.regex.now c.args.haystack.now c.new-2.ensures items c.args.limit some found.first
-    found.as_many in
+    let r = c.args.regex.now.choice in
+    let firsts = first-fewer r c.args.haystack.now c.new-2.ensures items c.args.limit some found.first found.as_many in
     record {
       matches = map found_of items;
       first = firsts.0;

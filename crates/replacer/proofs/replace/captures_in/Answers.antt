@@ -13,7 +13,7 @@ use Rattle.replacer.proofs.replace.captures_in.Goals as goal
 
 pub returns-clause-meant : goal.returns-clause-meant
 returns-clause-meant c = λ pattern re hits of all.
-    let r = c.args.regex.now in
+    let r = c.args.regex.now.choice in
     let text = c.args.haystack.now in
     let cs = c.in-Ok.caught.items in
     let caught = all-caught r text (search_of c.new.result) c.new.ensures cs c.in-Ok.ensures.lists.rows
@@ -28,8 +28,8 @@ returns-clause-meant c = λ pattern re hits of all.
 pub returns-clause-first : goal.returns-clause-first
 returns-clause-first c = record {
   all = c.in-Ok.caught.items;
-  are = all-caught c.args.regex.now c.args.haystack.now (search_of c.new.result) c.new.ensures c.in-Ok.caught.items
-      c.in-Ok.ensures.lists.rows c.in-Ok.ensures.lists.groups;
+  are = all-caught c.args.regex.now.choice c.args.haystack.now (search_of c.new.result) c.new.ensures
+      c.in-Ok.caught.items c.in-Ok.ensures.lists.rows c.in-Ok.ensures.lists.groups;
   first = c.first_of.ensures;
 }
 

@@ -18,6 +18,6 @@ pub returns-clause-left : goal.returns-clause-left
 returns-clause-left c = λ pattern re hits of all.
     let count : c.len.result ≡ length c.in_ok-caught.caught.items = search rules in
     c.left_after-left.ensures
-    ∙ left-caught (captured_by c.args.regex.now.nfa.groups) c.args.left hits c.in_ok-caught.caught.items c.len.result
-    count
+    ∙ left-caught (captured_by c.args.regex.now.choice.nfa.groups) c.args.left hits c.in_ok-caught.caught.items
+    c.len.result count
     (c.in_ok-caught.ensures.meant pattern re hits of all)

@@ -20,7 +20,8 @@ returns-clause-hit c = λ res meant.
     let meant-inside = subst (λ (ps : List (List ℕ)). AreMeant byte_syntax ps res) (sym c.self.view_is) meant in
     let same : search_of c.anchored-input.result ≡ search_at text c.args.at =
     first_of (search rules, grind (arith, common_steps)) in
-    let Answers : Search → Type 0 = λ x. IsFindAnswer c.self.inside.regex.nfa (kind_in c.self.inside.regex) x.earliest x
+    let r = c.self.inside.regex.choice in
+    let Answers : Search → Type 0 = λ x. IsFindAnswer r.nfa (kind_in r) x.earliest x
     (option_map found_of c.find.result) in
     hit-is res text c.searches_find_texts.ensures.matches _ c.self.inside.regex c.self.invariant meant-inside bytes
     c.args.at c.requires _ (subst Answers same c.find.ensures.answer)

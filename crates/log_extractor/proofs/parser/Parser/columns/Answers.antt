@@ -8,7 +8,7 @@ pub returns : goal.returns
 returns c = λ p is.
     let inv = c.self.invariant in
     let inside = subst (λ (text : List ℕ). IsLinePattern text p) (sym c.self.view_is) is in
-    let groups = c.groups_are_those_of_texts.ensures.names byte_syntax _ (p.names ∷ []) c.self.inside.regex.nfa
+    let groups = c.groups_are_those_of_texts.ensures.names byte_syntax _ (p.names ∷ []) c.self.inside.regex.choice.nfa
     inv.0.compiled (inside.names, tt) in
     ap (map group_of) c.deref.ensures.value ∙ inv.3
     ∙ ap (λ gs. named_groups 1 (groups_at gs 0)) groups

@@ -28,7 +28,7 @@ invariant_of-result c = (
   c.in_ok-regex.ensures.compiled,
   search rules,
   ap (λ (k : Captured). length k.slots) c.in-Ok.ensures.made
-      ∙ length-replicate (slot_count c.in_ok-regex.regex.nfa.groups) None,
-  compiled-columns c.args.pattern.now c.in_ok-regex.regex.nfa (map group_of c.in_ok-columns.columns.items)
+      ∙ length-replicate (slot_count c.in_ok-regex.regex.choice.nfa.groups) None,
+  compiled-columns c.args.pattern.now c.in_ok-regex.regex.choice.nfa (map group_of c.in_ok-columns.columns.items)
       c.in_ok-regex.ensures.compiled.compiled c.in_ok-columns.ensures.read,
 )

@@ -12,9 +12,9 @@ invariant_of-self c =
     let inv = c.self.invariant in
     let kept = c.search.ensures.keeps in (
       regex-kept (c.self.inside.pattern.now ∷ []) c.self.inside.regex c.search.new.self inv.0 kept,
-      rw kept.nfa (c.search.ensures.fills.groups ∙ inv.1),
-      rw kept.nfa (c.search.ensures.fills.count ∙ inv.2),
-      rw kept.nfa inv.3,
+      rw kept.engines.nfa (c.search.ensures.fills.groups ∙ inv.1),
+      rw kept.engines.nfa (c.search.ensures.fills.count ∙ inv.2),
+      rw kept.engines.nfa inv.3,
     )
 
 pub returns-clause-fields : goal.returns-clause-fields
@@ -22,7 +22,7 @@ returns-clause-fields c = λ p is.
     let line = c.args.line.now in
     let inv = c.self.invariant in
     let of = inv.0 in
-    let nfa = c.self.inside.regex.nfa in
+    let nfa = c.self.inside.regex.choice.nfa in
     let captures = c.search.new.captures in
     let fills = c.search.ensures.fills in
     let bytes = bytes-of line (λ k. omega (arith, c.type_inv.line k)) in

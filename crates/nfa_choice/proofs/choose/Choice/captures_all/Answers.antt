@@ -1,17 +1,17 @@
 -- The steps may be made, give the captures of the input, and keep the engines.
 use Rattle.std.proofs.Common.{[], refl}
-use Rattle.nfa_choice.specs.ChoiceState.{SearchedByRule}
 use Rattle.nfa_choice.proofs.CapturesLemmas.{all-caught, made-serves}
+use Rattle.nfa_choice.proofs.FindLemmas.{rule_keeps}
 use Rattle.nfa_choice.proofs.choose.Choice.captures_all.Goals as goal
 
 pub all_with-requires : goal.all_with-requires
 all_with-requires c =
-    made-serves SearchedByRule c.args.self.now c.in_ok-create_captures.ensures.made c.new.result c.new.ensures
+    made-serves rule_keeps c.args.self.now c.in_ok-create_captures.ensures.made c.new.result c.new.ensures
 
 pub returns-in_err-create_captures-clause-searches : goal.returns-in_err-create_captures-clause-searches
 returns-in_err-create_captures-clause-searches c = record { answers = []; steps = refl }
 
 pub returns : goal.returns
 returns c =
-    all-caught SearchedByRule c.args.self.now c.in_ok-create_captures.ensures.made c.new.result c.new.ensures
+    all-caught rule_keeps c.args.self.now c.in_ok-create_captures.ensures.made c.new.result c.new.ensures
     c.all_with.result c.all_with.ensures

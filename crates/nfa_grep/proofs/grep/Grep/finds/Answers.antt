@@ -8,7 +8,7 @@ use Rattle.nfa_grep.proofs.grep.Grep.finds.Goals as goal
 pub returns-clause-found : goal.returns-clause-found
 returns-clause-found c = λ res meant.
     let text = c.args.text.now in
-    let nfa = c.self.inside.regex.nfa in
+    let nfa = c.self.inside.regex.choice.nfa in
     let bytes = bytes-of text (λ k. omega (arith, c.type_inv.text k)) in
     let searched = c.self.invariant.0 in
     let meant-inside = subst (λ (g : Grepping). Mean g res) (sym c.self.view_is) meant in

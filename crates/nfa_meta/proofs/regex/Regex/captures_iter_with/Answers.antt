@@ -1,26 +1,26 @@
 -- The iterator gives the captures of its input, and keeps the engine.
 use Rattle.nfa_paths.proofs.Common.{refl, search_of}
 use Rattle.nfa_meta.specs.CapturesMatches.{captures_steps}
-use Rattle.nfa_meta.specs.WindowRuns.{RunsByWindow}
 use Rattle.nfa_choice.proofs.CapturesLemmas.{captures-are-given, captures-stay-kept, captures-take-memory, captures-by-searches}
+use Rattle.nfa_meta.proofs.RegexLemmas.{regex_keeps}
 use Rattle.nfa_meta.proofs.regex.Regex.captures_iter_with.Goals as goal
 
 pub returns-clause-given : goal.returns-clause-given
 returns-clause-given c =
-    captures-are-given RunsByWindow captures_steps (search_of c.args.input) _ c.new.ensures refl c.requires
+    captures-are-given regex_keeps captures_steps (search_of c.args.input) _ c.new.ensures refl c.requires
 
 pub returns-clause-inside : goal.returns-clause-inside
 returns-clause-inside c =
     let given =
-    captures-are-given RunsByWindow captures_steps (search_of c.args.input) _ c.new.ensures refl c.requires in
+    captures-are-given regex_keeps captures_steps (search_of c.args.input) _ c.new.ensures refl c.requires in
     given.inside
 
 pub returns-clause-errors : goal.returns-clause-errors
-returns-clause-errors c = captures-take-memory RunsByWindow captures_steps (search_of c.args.input) _ c.new.ensures refl
+returns-clause-errors c = captures-take-memory regex_keeps captures_steps (search_of c.args.input) _ c.new.ensures refl
 
 pub returns-clause-searches : goal.returns-clause-searches
 returns-clause-searches c =
-    captures-by-searches RunsByWindow captures_steps (search_of c.args.input) _ c.new.ensures refl
+    captures-by-searches regex_keeps captures_steps (search_of c.args.input) _ c.new.ensures refl
 
 pub returns-clause-keeps : goal.returns-clause-keeps
-returns-clause-keeps c = captures-stay-kept RunsByWindow captures_steps _
+returns-clause-keeps c = captures-stay-kept regex_keeps captures_steps _

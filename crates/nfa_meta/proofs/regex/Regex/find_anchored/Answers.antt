@@ -8,7 +8,7 @@ use Rattle.nfa_meta.proofs.regex.Regex.find_anchored.Goals.{in-Ok-None, in-Ok-So
 pub new-requires : goal.new-requires
 new-requires c =
     let x = search_of c.args.input in
-    let r = c.args.self.now in
+    let r = c.args.self.now.choice in
     let bound : AnchoredSearch r.nfa x = record {
       of = record {
         valid = first_of (search rules, grind (arith, common_steps));
@@ -27,7 +27,7 @@ new-requires c =
 pub returns-clause-answer : goal.returns-clause-answer
 returns-clause-answer c =
     let x = search_of c.args.input in
-    let r = c.args.self.now in
+    let r = c.args.self.now.choice in
     let bound : AnchoredSearch r.nfa x = record {
       of = record {
         valid = first_of (search rules, grind (arith, common_steps));
@@ -53,14 +53,14 @@ returns-clause-answer c =
 
 pub returns-clause-pattern : goal.returns-clause-pattern
 returns-clause-pattern c =
-    let r = c.args.self.now in
+    let r = c.args.self.now.choice in
     let x = search_of c.args.input in
     let valid : IsAutomaton r.nfa = first_of (search rules, grind (arith, common_steps)) in
     patterns-of r.nfa (kind_in r) x.earliest x valid c.match-try_find_half.result (returns-clause-answer c)
 
 pub returns-clause-nothing : goal.returns-clause-nothing
 returns-clause-nothing c anywhere =
-    let r = c.args.self.now in
+    let r = c.args.self.now.choice in
     let x = search_of c.args.input in
     let of : Recorded r.nfa = record {
       valid = first_of (search rules, grind (arith, common_steps));

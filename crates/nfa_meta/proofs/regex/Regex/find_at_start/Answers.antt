@@ -9,7 +9,7 @@ use Rattle.nfa_meta.proofs.regex.Regex.find_at_start.Goals as goal
 pub returns-clause-answer : goal.returns-clause-answer
 returns-clause-answer c =
     let x = search_of c.args.input in
-    let r = c.args.self.now in
+    let r = c.args.self.now.choice in
     let has : HasFirstStart r.nfa (kind_in r) x.earliest x c.args.at = record {
       leftmost = first_of (search rules, grind (arith, common_steps));
       starts = c.requires.anywhere;
@@ -24,7 +24,7 @@ returns-clause-answer c =
 pub returns-clause-moves : goal.returns-clause-moves
 returns-clause-moves c = λ anywhere.
     let x = search_of c.args.input in
-    let r = c.args.self.now in
+    let r = c.args.self.now.choice in
     let nothing : IfSome c.find_anchored.result (λ found.
     IfNone found (MatchesNothing r.nfa (anchored_at x c.args.at))) =
     first_of (search rules, grind (arith, common_steps)) in

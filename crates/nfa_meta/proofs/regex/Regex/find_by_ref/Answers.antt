@@ -9,7 +9,7 @@ returns-in-Some-clause-pattern c = rw c.in-Some.is at c.find_at_first.ensures.pa
 
 pub returns-in-Some-clause-inside : goal.returns-in-Some-clause-inside
 returns-in-Some-clause-inside c =
-    let r = c.args.self.now in
+    let r = c.args.self.now.choice in
     let x = search_of c.args.input.now in
     let answer : IsFindAnswer r.nfa (kind_in r) x.earliest x (Some (found_of c.in-Some.found)) =
     first_of (search rules, grind (arith, common_steps)) in

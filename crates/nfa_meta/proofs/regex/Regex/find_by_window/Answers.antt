@@ -6,7 +6,7 @@ use Rattle.nfa_meta.proofs.regex.Regex.find_by_window.Goals as goal
 
 pub returns-in-Some-clause-inside : goal.returns-in-Some-clause-inside
 returns-in-Some-clause-inside c =
-    let r = c.args.self.now in
+    let r = c.args.self.now.choice in
     let x = search_of c.args.input in
     let found = c.in-Some.found in
     let answer : IsFindAnswer r.nfa (kind_in r) x.earliest x (option_map found_of found) =

@@ -3,14 +3,16 @@ use Rattle.nfa_paths.proofs.Common.{◌≡◌, ◌+◌, ◌≤◌, false, search
 use Rattle.nfa_choice.specs.ChoiceState.{kind_in}
 use Rattle.nfa_engines.specs.StartLaws.{IsFirstStart, StartsAnywhere}
 use Rattle.nfa_meta.proofs.GoesOnLemmas.{HasMatchesOf}
+use Rattle.nfa_meta.specs.RegexState.{KeepsRegex}
 use Rattle.nfa_meta.proofs.regex.Regex.find_from.Given as goal
 
 abbrev pub invariant-loop : goal.invariant-loop
 invariant-loop l = record {
-  same : l.self ≡ l.fn.self;
-  anywhere : StartsAnywhere l.fn.self.nfa (search_of l.rest);
+  same : l.self.choice ≡ l.fn.self.choice;
+  keeps : KeepsRegex l.fn.self l.self;
+  anywhere : StartsAnywhere l.fn.self.choice.nfa (search_of l.rest);
   last : (search_of l.rest).earliest ≡ false;
-  first : IsFirstStart l.fn.self.nfa (search_of l.rest) l.at;
+  first : IsFirstStart l.fn.self.choice.nfa (search_of l.rest) l.at;
   within : l.at ≤ (search_of l.rest).end + 1;
-  on : HasMatchesOf l.fn.self.nfa (kind_in l.fn.self) (search_of l.fn.input) (search_of l.rest);
+  on : HasMatchesOf l.fn.self.choice.nfa (kind_in l.fn.self.choice) (search_of l.fn.input) (search_of l.rest);
 }

@@ -7,10 +7,10 @@ use Rattle.nfa_meta.specs.WindowRuns.{HalvesAs}
 use Rattle.nfa_meta.proofs.regex.Regex.find_half.Goals as goal
 use Rattle.nfa_meta.proofs.regex.Regex.find_half.Goals.{After-states}
 
-answer : (c : After-states) → let e = c.args.self.now in let x = search_of c.args.input in
+answer : (c : After-states) → let e = c.args.self.now.choice in let x = search_of c.args.input in
     IsHalfAnswer e.nfa (kind_in e) x.earliest x (option_map half_found_of c.in-Ok.half)
 answer c =
-    let e = c.args.self.now in
+    let e = c.args.self.now.choice in
     let x = search_of c.args.input in
     let rest : HalvesAs e.nfa (kind_in e) x (search_of c.in_ok-rest.rest) =
     first_of (search rules, grind (arith, common_steps)) in

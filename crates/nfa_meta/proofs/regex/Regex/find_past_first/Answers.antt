@@ -9,6 +9,6 @@ returns-in-Some-clause-pattern c = rw c.in-Some.is at c.find_anchored.ensures.pa
 
 pub returns-in-Some-clause-inside : goal.returns-in-Some-clause-inside
 returns-in-Some-clause-inside c =
-    let r = c.args.self.now in
+    let r = c.args.self.now.choice in
     let x = search_of c.args.input.now in
     inside-of r.nfa (kind_in r) x.earliest x c.in-Some.found (rw c.in-Some.is at c.find_anchored.ensures.answer)

@@ -8,7 +8,7 @@ use Rattle.nfa_meta.proofs.regex.Regex.first_end.Goals.{in-Ok-None, in-Ok-Some, 
 
 pub returns-clause-nothing : goal.returns-clause-nothing
 returns-clause-nothing c =
-    let r = c.args.self.now in
+    let r = c.args.self.now.choice in
     let x = search_of c.args.input in
     let y = search_of c.earliest.result in
     elim c.match-try_find_window.branch [
@@ -24,7 +24,7 @@ returns-clause-nothing c =
 
 pub returns-clause-first : goal.returns-clause-first
 returns-clause-first c =
-    let r = c.args.self.now in
+    let r = c.args.self.now.choice in
     let x = search_of c.args.input in
     let y = search_of c.earliest.result in
     elim c.match-try_find_window.branch [

@@ -7,7 +7,7 @@ use Rattle.nfa_meta.proofs.regex.Regex.is_match.Goals as goal
 
 pub returns-in-Ok-clause-answer : goal.returns-in-Ok-clause-answer
 returns-in-Ok-clause-answer c =
-    let e = c.args.self.now in
+    let e = c.args.self.now.choice in
     let x = search_of c.args.input in
     let rest : HalvesAs e.nfa (kind_in e) x (search_of c.in-Some.rest) =
     first_of (search rules, grind (arith, common_steps)) in
@@ -17,12 +17,12 @@ returns-in-Ok-clause-answer c =
 
 pub returns-in-Ok-clause-finds : goal.returns-in-Ok-clause-finds
 returns-in-Ok-clause-finds c =
-    let e = c.args.self.now in
+    let e = c.args.self.now.choice in
     found-finds e.nfa (kind_in e) false (search_of c.args.input) c.in-Ok.found (returns-in-Ok-clause-answer c)
 
 pub returns-in_default-clause-finds : goal.returns-in_default-clause-finds
 returns-in_default-clause-finds c =
-    let e = c.args.self.now in
+    let e = c.args.self.now.choice in
     let x = search_of c.args.input in
     let none : HasNoHalf e.nfa (kind_in e) x = first_of (search rules, grind (arith, common_steps)) in
     found-finds e.nfa (kind_in e) false x false none.found

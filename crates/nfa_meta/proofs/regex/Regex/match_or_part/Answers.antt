@@ -7,20 +7,20 @@ use Rattle.nfa_meta.proofs.regex.Regex.match_or_part.Goals as goal
 
 pub returns-in-Some-clause-answer : goal.returns-in-Some-clause-answer
 returns-in-Some-clause-answer c =
-    let r = c.args.self.now in
+    let r = c.args.self.now.choice in
     let x = search_of c.args.input in
     let two : slot_count r.nfa.groups ≡ 2 = first_of (search rules, grind (arith, common_steps)) in
     plain-answer r.nfa (kind_in r) x.earliest x (found_of c.in-Some.found) two c.in-Some.ensures.answer
 
 pub returns-in-Some-clause-inside : goal.returns-in-Some-clause-inside
 returns-in-Some-clause-inside c =
-    let r = c.args.self.now in
+    let r = c.args.self.now.choice in
     let x = search_of c.args.input in
     inside-of r.nfa (kind_in r) x.earliest x (Some c.in-Some.found) c.in-Some.ensures.answer
 
 pub returns-clause-answer : goal.returns-clause-answer
 returns-clause-answer c =
-    let r = c.args.self.now in
+    let r = c.args.self.now.choice in
     let x = search_of c.args.input in
     let two : slot_count r.nfa.groups ≡ 2 = first_of (search rules, grind (arith, common_steps)) in
     IfOk-weaker c.match_in_window.result _ _ (λ m h. plain-answer r.nfa (kind_in r) x.earliest x (found_of m) two h)
@@ -28,7 +28,7 @@ returns-clause-answer c =
 
 pub returns-clause-inside : goal.returns-clause-inside
 returns-clause-inside c =
-    let r = c.args.self.now in
+    let r = c.args.self.now.choice in
     let x = search_of c.args.input in
     IfOk-weaker c.match_in_window.result _ _ (λ m h. inside-of r.nfa (kind_in r) x.earliest x (Some m) h)
     (rw c.find_at_first.ensures.same at c.match_in_window.ensures.answer)

@@ -14,7 +14,7 @@ loop-at-preserved c =
     let none = rw c.haystack-haystack.ensures at (c.may_begin.ensures.nothing c.if-not-may_begin.true) in
     record {
       first =
-          c.bytes_may_be_skipped.ensures.moves c.args.self.now.nfa x c.loop-at.at byte c.loop-at.invariant.first
+          c.bytes_may_be_skipped.ensures.moves c.args.self.now.choice.nfa x c.loop-at.at byte c.loop-at.invariant.first
           (read-inside x c.loop-at.at inside fits) none;
       within = omega arith;
     }

@@ -5,7 +5,7 @@ use Rattle.nfa_meta.proofs.regex.Regex.next_start.Given as goal
 
 abbrev pub invariant-loop-at : goal.invariant-loop-at
 invariant-loop-at l = record {
-  first : IsFirstStart l.self.nfa (search_of l.input) l.at;
+  first : IsFirstStart l.self.choice.nfa (search_of l.input) l.at;
   within : l.at ≤ (search_of l.input).end + 1;
 }
 

@@ -9,7 +9,7 @@ returns-clause-filled c =
     let lists = c.in-Ok.ensures.lists in
     record {
       caught = cs;
-      all = all-caught c.args.self.now c.args.haystack.now (search_of c.new.result) c.new.ensures cs lists.rows
+      all = all-caught c.args.self.now.choice c.args.haystack.now (search_of c.new.result) c.new.ensures cs lists.rows
           lists.groups;
       output_is = c.in_ok-output.ensures;
     }

@@ -12,7 +12,7 @@ returns-clause-appended g c = λ h appends.
     let inside = subst (λ (x : Search). All (CapturesInside x) cs) c.new.ensures c.in-Ok.ensures.inside in
     record {
       caught = cs;
-      all = all-caught c.args.self.now text (search_of c.new.result) c.new.ensures cs c.in-Ok.ensures.lists.rows
+      all = all-caught c.args.self.now.choice text (search_of c.new.result) c.new.ensures cs c.in-Ok.ensures.lists.rows
           c.in-Ok.ensures.lists.groups;
       output_is = rewritten-by g.F.FnMut text h cs inside c.args.replacement appends c.in_ok-output.ensures;
     }
@@ -23,7 +23,7 @@ returns-clause-rewritten g c =
     let lists = c.in-Ok.ensures.lists in
     record {
       caught = cs;
-      all = all-caught c.args.self.now c.args.haystack.now (search_of c.new.result) c.new.ensures cs lists.rows
+      all = all-caught c.args.self.now.choice c.args.haystack.now (search_of c.new.result) c.new.ensures cs lists.rows
           lists.groups;
       writes = c.in_ok-output.ensures;
     }

@@ -6,7 +6,7 @@ use Rattle.nfa_meta.proofs.regex.Regex.replacen.Goals as goal
 
 pub returns-clause-first : goal.returns-clause-first
 returns-clause-first c = λ some.
-    let r = c.args.self.now in
+    let r = c.args.self.now.choice in
     let text = c.args.haystack.now in
     let items = c.in_ok-matches.matches.items in
     let found = c.in_ok-matches.ensures in

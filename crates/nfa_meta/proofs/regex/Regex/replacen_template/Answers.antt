@@ -9,8 +9,8 @@ returns-clause-first c = λ some.
     let first = c.in_ok-caught.ensures.first in
     record {
       caught = first.all;
-      all = all-caught c.args.self.now c.args.haystack.now (search_of c.new.result) c.new.ensures first.all first.rows
-          first.groups;
+      all = all-caught c.args.self.now.choice c.args.haystack.now (search_of c.new.result) c.new.ensures first.all
+          first.rows first.groups;
       output_is = c.in_ok-output.ensures
           ∙ ap (λ (cs : List Captured). filled_from c.args.haystack.now c.args.template.now.parts.items 0 cs)
           first.first;

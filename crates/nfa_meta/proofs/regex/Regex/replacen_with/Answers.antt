@@ -14,7 +14,8 @@ returns-clause-first_appended g c = λ some h appends.
     let inside = subst (λ (x : Search). All (CapturesInside x) cs) c.new.ensures c.in_ok-caught.ensures.inside in
     record {
       caught = first.all;
-      all = all-caught c.args.self.now text (search_of c.new.result) c.new.ensures first.all first.rows first.groups;
+      all = all-caught c.args.self.now.choice text (search_of c.new.result) c.new.ensures first.all first.rows
+          first.groups;
       output_is = rewritten-by g.F.FnMut text h cs inside c.args.replacement appends c.in_ok-output.ensures
           ∙ ap (λ (caught : List Captured). rewritten text h 0 caught) first.first;
     }
@@ -26,7 +27,8 @@ returns-clause-first g c = λ some.
     let output = c.in_ok-output.output.items in
     record {
       caught = first.all;
-      all = all-caught c.args.self.now text (search_of c.new.result) c.new.ensures first.all first.rows first.groups;
+      all = all-caught c.args.self.now.choice text (search_of c.new.result) c.new.ensures first.all first.rows
+          first.groups;
       writes = subst (λ (cs : List Captured). RewritesFrom g.F.FnMut text 0 cs c.args.replacement [] output) first.first
           c.in_ok-output.ensures;
     }

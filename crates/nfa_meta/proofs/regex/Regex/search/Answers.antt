@@ -1,22 +1,23 @@
 -- The groups in the part are those of the search.
-use Rattle.nfa_paths.proofs.Common.{rules, ◌≡◌, ◌∙◌, Bool, length, arith, subst, common_steps, option_map, found_of, number_of, search_of, IsAnswer}
+use Rattle.nfa_paths.proofs.Common.{rules, ◌≡◌, ◌∙◌, Bool, length, arith, subst, common_steps, option_map, found_of, number_of, search_of, IsAnswer, ap}
 use Rattle.nfa_choice.specs.ChoiceState.{kind_in}
 use Rattle.nfa_search_base.proofs.SpanLemmas.{spans-inside}
 use Rattle.nfa_meta.proofs.GroupLemmas.{captures-fill}
 use Rattle.nfa_meta.proofs.MatchSlotLemmas.{match_slots-inside}
 use Rattle.nfa_meta.proofs.WindowLemmas.{part-earliest}
+use Rattle.nfa_meta.specs.RegexState.{RegexState}
 use Rattle.nfa_meta.proofs.regex.Regex.search.Goals as goal
 
 pub returns-in-Err-Some-clause-answer : goal.returns-in-Err-Some-clause-answer
 returns-in-Err-Some-clause-answer c =
-    let r = c.args.self.now in
+    let r = c.args.self.now.choice in
     let y = search_of c.in-Err-Some.part in
     let answers = rw c.in-Err-Some.field-0-is at c.in-Err-Some.ensures.answers in
     let part = rw c.in-Err-Some.field-0-is at c.in-Err-Some.ensures.part in
     answers.rows _ _ (subst (λ (b : Bool).
     IsAnswer r.nfa (kind_in r) b y c.search.new.captures.pattern c.search.new.captures.slots)
     (part-earliest r.nfa (search_of c.args.input.now) y part)
-    (rw (c.self.view_is ∙ c.match_or_part.ensures.same) at c.search.ensures.answer))
+    (rw (ap (λ (s : RegexState). s.choice) c.self.view_is ∙ c.match_or_part.ensures.same) at c.search.ensures.answer))
 
 pub returns-in-Ok-clause-fills : goal.returns-in-Ok-clause-fills
 returns-in-Ok-clause-fills c =
@@ -34,7 +35,7 @@ returns-in-Ok-clause-fills c =
 pub returns-then-slots-ne2-clause-fills : goal.returns-then-slots-ne2-clause-fills
 returns-then-slots-ne2-clause-fills c =
     let x = search_of c.args.input.now in
-    let r = c.args.self.now in
+    let r = c.args.self.now.choice in
     let old = c.args.captures.now in
     let new = c.set_pattern.new.self in
     let is : new.slots ≡ c.search_groups-pattern.new.slots = first_of (search rules, grind (arith, common_steps)) in

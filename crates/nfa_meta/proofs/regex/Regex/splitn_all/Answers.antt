@@ -8,8 +8,8 @@ pub returns-clause-spans : goal.returns-clause-spans
 returns-clause-spans c = λ some.
     let items = c.in_ok-matches.matches.items in
     let found = c.in_ok-matches.ensures in
-    let firsts = first-fewer c.args.self.now c.args.haystack.now c.new-2.ensures items c.args.limit some found.first
-    found.as_many in
+    let r = c.args.self.now.choice in
+    let firsts = first-fewer r c.args.haystack.now c.new-2.ensures items c.args.limit some found.first found.as_many in
     record {
       matches = map found_of items;
       first = firsts.0;

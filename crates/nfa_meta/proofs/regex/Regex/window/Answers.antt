@@ -7,9 +7,9 @@ use Rattle.nfa_meta.proofs.regex.Regex.window.Goals as goal
 
 pub returns-in-Some : goal.returns-in-Some
 returns-in-Some c =
-    let r = c.args.self.now in
+    let r = c.args.self.now.choice in
     let x = search_of c.args.input in
     let y = search_of c.in-Some.rest in
     let of : IsWindowOf r.nfa x y = rw c.in-Some.is at c.from_prefix.ensures.part in
     let answers : AnswersAs r.nfa (kind_in r) x y = rw c.in-Some.is at c.from_prefix.ensures.answers in
-    window-on r c.window_in.result of answers c.window_in.ensures
+    window-on c.args.self.now c.window_in.result of answers c.window_in.ensures

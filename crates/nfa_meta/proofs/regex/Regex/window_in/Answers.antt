@@ -10,7 +10,7 @@ use Rattle.nfa_meta.proofs.regex.Regex.window_in.Goals.{in-Ok-None, in-Ok-Some, 
 pub returns-clause-nothing : goal.returns-clause-nothing
 returns-clause-nothing c =
     let x = search_of c.args.input in
-    let r = c.args.self.now in
+    let r = c.args.self.now.choice in
     let windowed : IsWindowed r.nfa x = first_of (search rules, grind (arith, common_steps)) in
     elim c.match-try_find_window.branch [
       | in-Ok-None w ↦
@@ -24,7 +24,7 @@ returns-clause-nothing c =
 pub returns-clause-answers : goal.returns-clause-answers
 returns-clause-answers c =
     let x = search_of c.args.input in
-    let r = c.args.self.now in
+    let r = c.args.self.now.choice in
     let first : kind_in r ≡ LeftmostFirst = first_of (search rules, grind (arith, common_steps)) in
     let windowed : IsWindowed r.nfa x = first_of (search rules, grind (arith, common_steps)) in
     elim c.match-try_find_window.branch [

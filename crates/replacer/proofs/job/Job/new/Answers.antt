@@ -8,5 +8,5 @@ returns-in-Err-clause-mistake c =
 
 pub returns-in-Err-new-clause-mistake : goal.returns-in-Err-new-clause-mistake
 returns-in-Err-new-clause-mistake c =
-    misused c.groups_are_those_of_texts.ensures.names c.args.request c.in-Ok.regex c.in-Ok.ensures.searches
+    misused c.groups_are_those_of_texts.ensures.names c.args.request c.in-Ok.regex.choice c.in-Ok.ensures.searches
     c.in-Err-new.mistake c.in-Err-new.ensures.mistake

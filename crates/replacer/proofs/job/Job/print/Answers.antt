@@ -14,8 +14,8 @@ returns-then-not-self-clause-printed g c =
     let old = g.W.Write.contents c.args.out.now in
     let new = g.W.Write.contents c.print_lines.new.out in
     rw (← c.self.view_is)
-    (prints c.groups_are_those_of_texts.ensures.names job.request job.regex c.self.invariant.0 job.action input old new
-    c.self.invariant.1
+    (prints c.groups_are_those_of_texts.ensures.names job.request job.regex.choice c.self.invariant.0 job.action input
+    old new c.self.invariant.1
     (λ pattern re hits of all. rw lines (c.in_ok-print_lines.ensures.printed pattern re hits of all)))
 
 pub returns-clause-printed : goal.returns-clause-printed
@@ -25,12 +25,12 @@ returns-clause-printed g c =
     let input = g.R.Read.remaining c.args.input.now in
     let old = g.W.Write.contents c.args.out.now in
     let new = g.W.Write.contents c.write_bytes.new.out in
-    let groups = job.regex.nfa.groups in
+    let groups = job.regex.choice.nfa.groups in
     let limit = job.request.limit in
     let text = c.whole-line.result.text.now in
     rw (← c.self.view_is)
-    (prints c.groups_are_those_of_texts.ensures.names job.request job.regex c.self.invariant.0 job.action input old new
-    c.self.invariant.1
+    (prints c.groups_are_those_of_texts.ensures.names job.request job.regex.choice c.self.invariant.0 job.action input
+    old new c.self.invariant.1
     (λ pattern re hits of all.
     let made : c.in_ok-printed.printed.text.items ≡ shown groups job.action limit c.deref.result.now []
     (hits c.deref.result.now) =

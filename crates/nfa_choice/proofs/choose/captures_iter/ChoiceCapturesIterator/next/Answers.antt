@@ -1,18 +1,18 @@
 -- A step may be made, and leaves what the iterator keeps.
 use Rattle.nfa_search_base.specs.Common.{steps_with_state, with_cache}
 use Rattle.nfa_choice.specs.Iterations.{choice_captures}
-use Rattle.nfa_choice.specs.ChoiceState.{SearchedByRule}
 use Rattle.nfa_choice.proofs.CapturesLemmas.{step-goes, steps-serve}
+use Rattle.nfa_choice.proofs.FindLemmas.{rule_keeps}
 use Rattle.nfa_choice.proofs.choose.captures_iter.ChoiceCapturesIterator.next.Goals as goal
 
 pub next_with-requires : goal.next_with-requires
 next_with-requires c =
-    let s = c.args.self.now in steps-serve SearchedByRule (steps_with_state (choice_captures s)) s.holds
+    let s = c.args.self.now in steps-serve rule_keeps (steps_with_state (choice_captures s)) s.holds
 
 pub invariant_of-self : goal.invariant_of-self
 invariant_of-self c =
     let s = c.args.self.now in
     record {
-      holds = step-goes SearchedByRule (steps_with_state (choice_captures s)) c.next_with.result
+      holds = step-goes rule_keeps (steps_with_state (choice_captures s)) c.next_with.result
           (with_cache c.next_with.new.self c.next_with.new.cache) c.next_with.ensures s.holds;
     }

@@ -5,8 +5,9 @@ use Rattle.nfa_search_base.specs.Common.{IsKnownFrom}
 use Rattle.nfa_pikevm.specs.Engines.{Pike}
 use Rattle.nfa_pikevm.specs.Finding.{IsSureOf}
 use Rattle.nfa_pikevm.proofs.FindLemmas.{finds-sure, pike_finder}
-use Rattle.nfa_choice.specs.ChoiceState.{kind_in, pike_of}
+use Rattle.nfa_choice.specs.ChoiceState.{kind_in}
 use Rattle.nfa_choice.proofs.FindLemmas.{pike-kept}
+use Rattle.nfa_meta.specs.RegexState.{pike_of}
 use Rattle.nfa_meta.proofs.MatchesLemmas.{known-work}
 use Rattle.nfa_meta.proofs.regex.find_iter.ByWindowFindWith.answer.Goals as goal
 
@@ -28,16 +29,16 @@ returns c =
     let e = c.find_by_ref-found.ensures in
     let x = search_of c.args.input.now in
     record {
-      tells = find-answered r.nfa (kind_in r) x.earliest x found e.answer;
+      tells = find-answered r.choice.nfa (kind_in r.choice) x.earliest x found e.answer;
       work = record { runs = e.runs; holds = e.holds; keeps = e.keeps };
       knows =
           subst (λ (vm : Pike). IsKnownFrom IsSureOf vm x c.ending_at-self.result)
-          (sym (pike-kept r c.find_by_ref-found.new.self e.keeps))
+          (sym (pike-kept r.choice c.find_by_ref-found.new.self.choice e.keeps.engines))
           (known-kept pike_finder (pike_of r) x x.start c.ending_at-self.result (λ m is.
           let k = c.ending_at-self.ensures.kept m is in (
             finds-sure (pike_of r) x (found_of m)
-                (subst (λ (o : Option Match). IsFindAnswer r.nfa (kind_in r) x.earliest x (option_map found_of o)) k.0
-                e.answer),
+                (subst (λ (o : Option Match). IsFindAnswer r.choice.nfa (kind_in r.choice) x.earliest x
+                (option_map found_of o)) k.0 e.answer),
             k.1 ∙ c.start-2.ensures,
           )));
     }

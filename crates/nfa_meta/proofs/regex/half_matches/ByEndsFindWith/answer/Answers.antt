@@ -7,8 +7,9 @@ use Rattle.nfa_meta.proofs.regex.half_matches.ByEndsFindWith.answer.Goals as goa
 pub returns : goal.returns
 returns c =
     let e = c.find_half.ensures in
+    let r = c.args.regex.now.choice in
     let x = search_of c.args.input.now in
     record {
-      tells = half-answered c.args.regex.now.nfa (kind_in c.args.regex.now) x.earliest x c.find_half.result e.answer;
+      tells = half-answered r.nfa (kind_in r) x.earliest x c.find_half.result e.answer;
       work = record { runs = e.runs; holds = e.holds; keeps = e.keeps };
     }

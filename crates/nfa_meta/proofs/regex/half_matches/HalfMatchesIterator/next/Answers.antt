@@ -2,10 +2,10 @@
 use Rattle.nfa_paths.proofs.Common.{half_found_of}
 use Rattle.nfa_search_base.specs.Common.{may_ask, steps_with_state, half_span_of}
 use Rattle.nfa_search_base.proofs.StoredLemmas.{surely-inside}
-use Rattle.nfa_choice.specs.ChoiceState.{pike_of}
 use Rattle.nfa_hybrid.specs.HalfIterations.{AsksHalf}
 use Rattle.nfa_hybrid.proofs.HalvesLemmas.{halves-serve}
 use Rattle.nfa_meta.specs.Halves.{FindsHalfAfterDfa, half_steps}
+use Rattle.nfa_meta.specs.RegexState.{pike_of}
 use Rattle.nfa_meta.proofs.HalvesLemmas.{regex_engine}
 use Rattle.nfa_meta.proofs.regex.half_matches.HalfMatchesIterator.next.Goals as goal
 

@@ -1,0 +1,34 @@
+-- A regex as a value, and what its searches keep.
+use Rattle.std.specs.Prelude.{◌≡◌, ◌≤◌, ◌+◌, ◌-◌, ◌^◌, ℕ, min, if◌then◌else◌}
+use Rattle.nfa_backtrack.specs.Backtrack.{memory_of}
+use Rattle.nfa_pikevm.specs.Engines.{Pike, pike_memory_of}
+use Rattle.nfa_choice.specs.ChoiceState.{ChoiceState, KeepsEngines, pike_of as pike_of_choice}
+use Rattle.nfa_meta.specs.declared.builder.Config.{Config}
+
+-- the most bytes that the rows of the lazy DFA may take: none if searches do not begin with one
+abbrev pub row_capacity : Config → ℕ
+row_capacity c = if c.hybrid then c.hybrid_cache_capacity else 0
+
+-- what its choice shows, the settings, and the bytes that the rows of the lazy DFA take
+pub record RegexState : Type 0 where
+  pub choice : ChoiceState
+  pub config : Config
+  pub rows : ℕ
+
+-- the PikeVM of its choice, which defines its answers
+abbrev pub pike_of : RegexState → Pike
+pike_of r = pike_of_choice r.choice
+
+-- the bytes of the rows and of both caches of the choice, or the maximum `usize` if they are more
+abbrev pub bytes_of : RegexState → ℕ
+bytes_of r = min (memory_of r.choice.back + pike_memory_of r.choice.pike + r.rows) (2 ^ 64 - 1)
+
+-- the rows take no more bytes than they may
+abbrev pub HasRoom : RegexState → Type 0
+HasRoom r = r.rows ≤ row_capacity r.config
+
+-- what a search keeps: the engines of the choice, and the settings; and the rows have room, if they had before
+pub record KeepsRegex (old new : RegexState) : Type 0 where
+  pub engines : KeepsEngines old.choice new.choice
+  pub config : new.config ≡ old.config
+  pub rows : HasRoom old → HasRoom new
