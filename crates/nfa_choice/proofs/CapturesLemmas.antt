@@ -83,12 +83,12 @@ module _ {C : Type 0} {e : ChoiceEngine C} (keeps : KeepsChoice e) where
 
   -- a step that makes no item is a call that gives the captures which it holds
   pub captures-lent : (s t : Steps Capturing) (reply : Option (Result (Unit {0}) SearchError))
-      → takes_bare_steps row_span (AsksRowBy Runs) (λ q. filled_answer q.backend.captures) s reply t
-      → takes_steps row_span (AsksRowBy Runs) (λ q. GivesCaptures q.backend) s
+      → takes_bare_steps row_span (AsksRowBy e) (λ q. filled_answer q.backend.captures) s reply t
+      → takes_steps row_span (AsksRowBy e) (λ q. GivesCaptures q.backend) s
       (held_unless t.done t.backend.backend.captures) t
   captures-lent s t reply st = lent-step (λ q. q.backend.captures) never-fails s t reply st
     where
-      never-fails : (q : Capturing) (x : Search) (a : Answer Row) (q' : Capturing) → AsksRowBy Runs q x a q' → IsOk a
+      never-fails : (q : Capturing) (x : Search) (a : Answer Row) (q' : Capturing) → AsksRowBy e q x a q' → IsOk a
       never-fails q x (Ok o) q' asked = refl
       never-fails q x (Err e) q' asked = absurd asked.tells
 

@@ -13,5 +13,5 @@ returns-in-Some-clause-answer c =
     let part = rw c.in-Some.is at c.requires.part in
     answers.rows _ _ (subst (λ (b : Bool).
     IsAnswer r.nfa (kind_in r) b y (option_map number_of c.search_slots.result) c.search_slots.new.slots)
-    (part-earliest r.nfa (search_of c.args.input.now) y part) 
+    (part-earliest r.nfa (search_of c.args.input.now) y part)
     (rw (ap (λ (s : RegexState). s.choice) c.self.view_is) at c.search_slots.ensures.answer))

@@ -2,13 +2,13 @@
 use Rattle.nfa_paths.proofs.Common.{refl}
 use Rattle.nfa_search_base.specs.Common.{steps_with_state, with_cache}
 use Rattle.nfa_meta.specs.CapturesMatches.{captures_steps}
-use Rattle.nfa_meta.specs.WindowRuns.{RunsByWindow}
 use Rattle.nfa_choice.proofs.CapturesLemmas.{captures-lent, step-goes, steps-serve}
+use Rattle.nfa_meta.proofs.RegexLemmas.{regex_keeps}
 use Rattle.nfa_meta.proofs.regex.captures_iter.CapturesMatches.advance.Goals as goal
 
 pub advance_with-requires : goal.advance_with-requires
 advance_with-requires c =
-    let s = c.args.self.now in steps-serve RunsByWindow (steps_with_state (captures_steps s)) s.holds
+    let s = c.args.self.now in steps-serve regex_keeps (steps_with_state (captures_steps s)) s.holds
 
 pub invariant_of-self : goal.invariant_of-self
 invariant_of-self c =
@@ -16,8 +16,8 @@ invariant_of-self c =
     let from = steps_with_state (captures_steps s) in
     let to = with_cache c.advance_with.new.self c.advance_with.new.cache in
     record {
-      holds = step-goes RunsByWindow from _ to
-          (captures-lent RunsByWindow from to c.advance_with.result c.advance_with.ensures) s.holds;
+      holds = step-goes regex_keeps from _ to
+          (captures-lent regex_keeps from to c.advance_with.result c.advance_with.ensures) s.holds;
     }
 
 pub returns : goal.returns
@@ -26,7 +26,7 @@ returns c =
     let to = with_cache c.advance_with.new.self c.advance_with.new.cache in
     record {
       takes = record {
-        step = captures-lent RunsByWindow from to c.advance_with.result c.advance_with.ensures;
+        step = captures-lent regex_keeps from to c.advance_with.result c.advance_with.ensures;
         cache = refl;
       };
     }
