@@ -19,6 +19,9 @@ const FAILED: u8 = 1;
 /// The arguments are not those of the program.
 const MISUSED: u8 = 2;
 
+const USAGE: &str =
+    "usage: compiler-bench [back|pike|meta[-captures|-lent]|regex[-captures] PATTERN ROUNDS|states PATTERN]";
+
 /// Searches the text as the arguments after the program's name say, and prints the number of matches of the last round,
 /// or the number of states, in a line. Prints one line with the error if that fails.
 ///
@@ -102,7 +105,7 @@ fn regex_rounds(
     for _ in 0..rounds {
         count = match items {
             Items::Matches => count_matched(&mut matcher, text),
-            Items::Captures => count_captured(&mut matcher, text),
+            Items::Captures | Items::Lent => count_captured(&mut matcher, text),
         };
     }
     Ok(count)
@@ -122,6 +125,7 @@ fn meta_rounds(
         count = match items {
             Items::Matches => count_found(&mut meta, text),
             Items::Captures => count_caught(alloc, &mut meta, text)?,
+            Items::Lent => count_lent(alloc, &mut meta, text)?,
         };
     }
     Ok(count)
@@ -135,6 +139,15 @@ fn count_caught(alloc: Global, meta: &mut Meta, text: &[u8]) -> Result<u64, Stop
     let mut count = 0u64;
     for captures in meta.captures_iter(alloc, Input::new(text))? {
         captures?;
+        count = count.wrapping_add(1);
+    }
+    Ok(count)
+}
+
+fn count_lent(alloc: Global, meta: &mut Meta, text: &[u8]) -> Result<u64, Stop> {
+    let mut items = meta.captures_iter(alloc, Input::new(text))?;
+    let mut count = 0u64;
+    while items.next_lent().is_some() {
         count = count.wrapping_add(1);
     }
     Ok(count)
@@ -174,6 +187,8 @@ enum Finder {
 enum Items {
     Matches,
     Captures,
+    /// Captures that are lent, and not copied.
+    Lent,
 }
 
 impl Finder {
@@ -182,6 +197,7 @@ impl Finder {
             "meta" => Some(Finder::Meta(Items::Matches)),
             "regex" => Some(Finder::Regex(Items::Matches)),
             "meta-captures" => Some(Finder::Meta(Items::Captures)),
+            "meta-lent" => Some(Finder::Meta(Items::Lent)),
             "regex-captures" => Some(Finder::Regex(Items::Captures)),
             _ => Engine::from_word(word).map(Finder::Ours),
         }
@@ -211,11 +227,7 @@ impl Stop {
 impl fmt::Display for Stop {
     fn fmt<W: fmt::Write>(&self, f: &mut fmt::Formatter<W>) -> fmt::Result {
         match self {
-            Stop::Usage => {
-                f.write_str(
-                    "usage: compiler-bench [back|pike|meta[-captures]|regex[-captures] PATTERN ROUNDS|states PATTERN]",
-                )
-            }
+            Stop::Usage => f.write_str(USAGE),
             Stop::Pattern(error) => write!(f, "{error}"),
             Stop::OtherPattern(error) => write!(f, "{error}"),
             Stop::Failed(failure) => write!(f, "{failure}"),
