@@ -9,8 +9,7 @@ pub returns : goal.returns
 returns c =
     let calls : Option (Result Captured SearchError) → Type 0 = λ item.
     captures_next c.args.self.now item c.advance.new.self in
-    let call = subst calls (sym c.held.ensures) c.advance.ensures in
-    (
+    let call = subst calls (sym c.held.ensures) c.advance.ensures in (
       (refl, λ _. tt, record { call = call; fewer = lent-fewer _ _ _ _ _ c.held.result call.takes.step }),
       record { lends = tt },
     )
