@@ -11,6 +11,7 @@ use std::alloc::Global;
 pub enum Call {
     FindIter,
     CapturesIter,
+    LentCaptures,
     IsMatch,
     Find,
     Split,
@@ -23,6 +24,7 @@ impl Call {
         match word {
             "" => Some(Call::FindIter),
             "-captures" => Some(Call::CapturesIter),
+            "-lent" => Some(Call::LentCaptures),
             "-is-match" => Some(Call::IsMatch),
             "-find" => Some(Call::Find),
             "-split" => Some(Call::Split),
@@ -37,6 +39,7 @@ impl Call {
         match self {
             Call::FindIter => Ok(meta.find_iter(input).count() as u64),
             Call::CapturesIter => count_captures(alloc, meta, text),
+            Call::LentCaptures => count_lent(alloc, meta, text),
             Call::IsMatch => Ok(meta.is_match(input) as u64),
             Call::Find => Ok(meta.find(input).map_or(0, |found| found.end() as u64)),
             Call::Split => Ok(meta.split_all(alloc, text)?.len() as u64),
@@ -53,7 +56,7 @@ impl Call {
     ) -> Result<u64, Failure> {
         match self {
             Call::FindIter => Ok(matcher.find_iter(text).count() as u64),
-            Call::CapturesIter => Ok(count_captured(matcher, text)),
+            Call::CapturesIter | Call::LentCaptures => Ok(count_captured(matcher, text)),
             Call::IsMatch => Ok(matcher.is_match(text) as u64),
             Call::Find => Ok(matcher.find(text).map_or(0, |found| found.end() as u64)),
             Call::Split => Ok(matcher.split(text).count() as u64),
@@ -69,6 +72,15 @@ fn count_captures(alloc: Global, meta: &mut Meta, text: &[u8]) -> Result<u64, Fa
     let mut count = 0u64;
     for captures in meta.captures_iter(alloc, Input::new(text))? {
         captures?;
+        count = count.wrapping_add(1);
+    }
+    Ok(count)
+}
+
+fn count_lent(alloc: Global, meta: &mut Meta, text: &[u8]) -> Result<u64, Failure> {
+    let mut items = meta.captures_iter(alloc, Input::new(text))?;
+    let mut count = 0u64;
+    while items.next_lent().is_some() {
         count = count.wrapping_add(1);
     }
     Ok(count)

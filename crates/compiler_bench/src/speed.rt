@@ -19,6 +19,9 @@ const FAILED: u8 = 1;
 /// The arguments are not those of the program.
 const MISUSED: u8 = 2;
 
+const USAGE: &str =
+    "usage: compiler-bench [back|pike|meta[-captures|-lent]|regex[-captures] PATTERN ROUNDS|states PATTERN]";
+
 /// Searches the text as the arguments after the program's name say, and prints the number of matches of the last round,
 /// or the number of states, in a line. Prints one line with the error if that fails.
 ///

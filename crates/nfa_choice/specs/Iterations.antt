@@ -1,10 +1,14 @@
 -- Iterators that search with a choice, or with an engine that shows itself as one.
-use Rattle.std.specs.Prelude.{◌*◌, length, List, map, None, Ok, Option, Result, option_map}
-use Rattle.nfa_search_base.specs.Common.{Yields, Found, found_of, Search, Captured, Match, WithCaptures, GivesCaptures, Row, row_span, HasGroups, AnswersRow, DoesSearch, Leaves, LeavesAtEnd, AnswersMatch, WithCache, StepsWith, TakesStepWith, GivesKept, GivesItem, Answer, span_of}
+use Rattle.std.specs.Prelude.{◌*◌, ℕ, [], length, List, map, None, Ok, Option, Result, option_map}
+use Rattle.std.specs.Borrow.{Bor, Fml, MutBor}
+use Rattle.std.specs.Io.BufRead.{Rests}
+use mir.Syntax.{named}
+use Rattle.nfa_search_base.specs.Common.{LendsItem, count_left, Yields, Found, found_of, Search, Captured, Match, WithCaptures, GivesCaptures, Row, row_span, HasGroups, AnswersRow, DoesSearch, Leaves, LeavesAtEnd, AnswersMatch, WithCache, StepsWith, TakesStepWith, GivesKept, GivesItem, Answer, span_of}
 use Rattle.nfa_search_base.specs.declared.error.SearchError.{SearchError}
 use Rattle.nfa_backtrack.specs.Backtrack.{HoldsNoMore}
 use Rattle.nfa_choice.specs.ChoiceState.{ChoiceState, kind_in, KeepsEngines, SearchedByRule}
 use Rattle.nfa_choice.specs.declared.choose.captures_iter.ChoiceCaptures.{ChoiceCaptures}
+use Rattle.nfa_choice.specs.contracts.choose.captures_iter.ChoiceCaptures.{the_row}
 use Rattle.nfa_choice.specs.declared.choose.find_iter.ByRule.{ByRule}
 use Rattle.nfa_choice.specs.declared.choose.find_iter.ChoiceMatches.{ChoiceMatches}
 
@@ -115,3 +119,12 @@ choice_captures s = record { steps = s.steps; cache = s.choice }
 -- a call
 abbrev pub choice_captures_next : ChoiceCaptures → Option (Result Captured SearchError) → ChoiceCaptures → Type 0
 choice_captures_next s r t = CapturesNextBy by_rule choice_captures s r t
+
+-- the maximum number of items still to come
+abbrev pub choice_captures_left : ChoiceCaptures → ℕ
+choice_captures_left s = count_left (choice_captures s)
+
+-- once the captures that a call lent are no longer borrowed, it was a call that gave them
+abbrev pub ChoiceLendsNext : MutBor ChoiceCaptures → Option (Bor Captured) → Fml
+ChoiceLendsNext s lent = Rests (the_row (record { mir = named 0; lft = [] }) (record { mir = named 1; lft = [] })) s
+    (LendsItem choice_captures_next choice_captures_left s.now lent)
