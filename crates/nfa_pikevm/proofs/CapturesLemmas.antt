@@ -1,12 +1,14 @@
 -- A PikeVM as the engine of an iteration over captures: when its iterator may search, and what it gives and keeps.
-use Rattle.nfa_paths.proofs.Common.{◌≡◌, Bool, false, Result, subst, Search, Captured}
-use Rattle.nfa_search_base.specs.Common.{CapturesGiven, GivesCaptures, row_span, AnswersRow, CapturesMemory, TakesStepWith, steps_with_state, steps_iter_state, fresh, GivesStepsWith}
+use Rattle.nfa_paths.proofs.Common.{◌≡◌, Bool, Err, IsOk, Ok, Option, false, refl, Result, subst, Search, Captured}
+use Rattle.nfa_search_base.specs.Common.{Answer, Row, WithCache, WithCaptures, filled_answer, held_unless, takes_bare_steps, takes_steps, CapturesGiven, GivesCaptures, row_span, AnswersRow, CapturesMemory, TakesStepWith, steps_with_state, steps_iter_state, fresh, GivesStepsWith}
 use Rattle.nfa_search_base.specs.declared.error.SearchError.{SearchError}
+use Rattle.nfa_search_base.specs.declared.iter.steps.Steps.{Steps}
 use Rattle.nfa_search_base.proofs.CapturesLemmas.{row-lies}
 use Rattle.nfa_search_base.proofs.CapturesRunLemmas.{captures-given, captures-memory}
 use Rattle.nfa_search_base.proofs.DrainedLemmas.{FillerOf, filler_items, filler_searches}
 use Rattle.nfa_search_base.proofs.EngineLemmas.{KeptBy, SearchesAs, calls-kept}
 use Rattle.nfa_search_base.proofs.LeavingLemmas.{shell-leaves}
+use Rattle.nfa_search_base.proofs.LentLemmas.{lent-step}
 use Rattle.nfa_search_base.proofs.RunLemmas.{Begins}
 use Rattle.nfa_search_base.proofs.ItemLemmas.{ShellOf, plain_shell, steps_in}
 use Rattle.nfa_pikevm.specs.Iterators.{AsksPikeRow, CapturesBySearches, pike_captures, pike_captures_next}
@@ -30,6 +32,19 @@ pike_filler = record {
   };
   lies = λ vm t a h. (row-lies vm.nfa (kind_of vm) t.earliest t a h).0;
 }
+
+-- a step that makes no item is a call that gives the captures which it holds
+pub captures-lent : (s t : Steps (WithCache (WithCaptures Pike) PikeCache))
+    (reply : Option (Result (Unit {0}) SearchError))
+    → takes_bare_steps row_span AsksPikeRow (λ q. filled_answer q.backend.captures) s reply t
+    → takes_steps row_span AsksPikeRow (λ q. GivesCaptures q.backend) s
+    (held_unless t.done t.backend.backend.captures) t
+captures-lent s t reply st = lent-step (λ q. q.backend.captures) never-fails s t reply st
+  where
+    never-fails : (q : WithCache (WithCaptures Pike) PikeCache) (y : Search) (a : Answer Row)
+        (q' : WithCache (WithCaptures Pike) PikeCache) → AsksPikeRow q y a q' → IsOk a
+    never-fails q y (Ok o) q' asked = refl
+    never-fails q y (Err e) q' asked = absurd asked.tells
 
 -- its iterator
 abbrev captures_shell

@@ -1,12 +1,16 @@
 -- The iterators over the matches, and over the captures, of a PikeVM.
-use Rattle.std.specs.Prelude.{List, map, Option, None, Ok, option_map, Result}
-use Rattle.nfa_search_base.specs.Common.{Found, found_of, Search, Match, Captured, AsksEngine, Knowing, MayFind, WithCache, StepsWith, TakesStepWith, GivesKept, GivesItem, Answer, span_of, Yields, WithCaptures, GivesCaptures, Row, row_span, AsksEngineRow}
+use Rattle.std.specs.Prelude.{ℕ, [], List, map, Option, None, Ok, option_map, Result}
+use Rattle.std.specs.Borrow.{Bor, Fml, MutBor}
+use Rattle.std.specs.Io.BufRead.{Rests}
+use mir.Syntax.{named}
+use Rattle.nfa_search_base.specs.Common.{LendsItem, count_left, Found, found_of, Search, Match, Captured, AsksEngine, Knowing, MayFind, WithCache, StepsWith, TakesStepWith, GivesKept, GivesItem, Answer, span_of, Yields, WithCaptures, GivesCaptures, Row, row_span, AsksEngineRow}
 use Rattle.nfa_search_base.specs.declared.error.SearchError.{SearchError}
 use Rattle.nfa_pikevm.specs.Engines.{Fits, Pike, PikeCache}
 use Rattle.nfa_pikevm.specs.Finding.{IsSureOf, PikeFindsOn, PikeFindsToEnd, PikeSearches, PikeAnswersMatch, pike_scans, PikeCapturesOn, PikeAnswersRow}
 use Rattle.nfa_pikevm.specs.declared.find_iter.FindMatches.{FindMatches}
 use Rattle.nfa_pikevm.specs.declared.find_iter.Finder.{Finder}
 use Rattle.nfa_pikevm.specs.declared.captures_iter.CapturesMatches.{CapturesMatches}
+use Rattle.nfa_pikevm.specs.contracts.captures_iter.CapturesMatches.{the_row}
 
 -- the PikeVM of an iteration, and the match that is known
 abbrev pub pike_knowing : Finder → Knowing Pike
@@ -57,3 +61,14 @@ pub record pike_captures_next (s : CapturesMatches) (r : Option (Result Captured
 -- the calls change the cache only by the searches of an iteration over x
 pub record CapturesBySearches (vm : Pike) (x : Search) (s : CapturesMatches) : Type 0 where
   pub on : GivesKept pike_captures_next (λ p q. PikeCapturesOn vm x p.cache.now q.cache.now) s
+
+-- the maximum number of items still to come
+abbrev pub pike_captures_left : CapturesMatches → ℕ
+pike_captures_left s = count_left (pike_captures s)
+
+-- once the captures that a call lent are no longer borrowed, it was a call that gave them
+abbrev pub PikeLendsNext : MutBor CapturesMatches → Option (Bor Captured) → Fml
+PikeLendsNext s lent =
+    Rests (the_row (record { mir = named 0; lft = [] }) (record { mir = named 1; lft = [] })
+    (record { mir = named 2; lft = [] })) s
+    (LendsItem pike_captures_next pike_captures_left s.now lent)

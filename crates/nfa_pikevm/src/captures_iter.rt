@@ -225,6 +225,54 @@ impl<'r> FindWith for CapturesFinder<'r> {
     }
 }
 
+impl<'r, 'c, 'h> CapturesMatches<'r, 'c, 'h> {
+    ghost use Rattle.std.specs.Prelude.{◌≡◌};
+    ghost use Rattle.std.specs.Borrow.{sem};
+    ghost use Rattle.nfa_search_base.specs.Stored.{held_item};
+    ghost use Rattle.nfa_search_base.specs.WithCaptures.{lent_item};
+    ghost use Rattle.nfa_pikevm.specs.Iterators.{PikeLendsNext, pike_captures, pike_captures_next};
+
+    /// Returns the captures of the next match, which are lent until the next call: the item that `next` would give, but
+    /// no copy, so this call cannot fail. Mix both calls at will.
+    ///
+    /// ```
+    /// // vm of "foo(?<n>[0-9]+)"
+    /// let mut items = vm.captures_iter(alloc, cache, Input::new(b"foo1 foo12 foo123"))?;
+    /// let mut last = None;
+    /// while let Some(captures) = items.next_lent() {
+    ///     last = captures.get_group_by_name("n");
+    /// }
+    /// assert_eq!(rt; last, Some(Span { start: 14, end: 17 }));
+    /// ```
+    #[inline]
+    pub fn next_lent<'a>(&'a mut self) -> Option<&'a Captures>
+        ensures* lends { sem 𝓛 (PikeLendsNext self.entry result) }
+    {
+        self.advance();
+        self.held()
+    }
+
+    // Takes the step of the next call, and keeps its captures.
+    #[inline]
+    fn advance(&mut self)
+        ensures { pike_captures_next self.old (held_item (pike_captures self.new)) self.new }
+    {
+        self.steps.advance_with(self.cache);
+    }
+
+    // The captures of the last match, unless the iterator has ended.
+    #[inline]
+    fn held(&self) -> Option<&Captures>
+        ensures { lent_item result ≡ held_item (pike_captures self.now) }
+    {
+        if self.steps.done {
+            None
+        } else {
+            Some(&self.steps.backend.captures)
+        }
+    }
+}
+
 impl<'r, 'c, 'h> Iterator for CapturesMatches<'r, 'c, 'h> {
     ghost use Rattle.nfa_search_base.specs.Stored.{steps_left};
     ghost use Rattle.nfa_pikevm.specs.Iterators.{pike_captures, pike_captures_next};
