@@ -54,9 +54,9 @@ impl<'h, A: FindWith> Steps<'h, A> {
         if self.done {
             return None;
         }
-        let reply = self.searcher.step_with(&mut self.backend, cache);
-        self.done = self.backend.reply_span(reply).is_none();
-        Some(reply)
+        let answer = self.searcher.step_with(&mut self.backend, cache);
+        self.done = self.backend.reply_span(answer).is_none();
+        Some(answer)
     }
 
     /// Returns the next item, by searches with this cache. Requires that each search of the iteration may be made,
@@ -67,7 +67,11 @@ impl<'h, A: FindWith> Steps<'h, A> {
         ensures { takes_steps A.span A.asks (λ q. A.gives q.backend) (with_cache self.old cache.old) result
             (with_cache self.new cache.new) }
     {
-        let reply = self.advance_with(cache)?;
+        if self.done {
+            return None;
+        }
+        // Not by `advance_with`, which would look for the span once more.
+        let reply = self.searcher.step_with(&mut self.backend, cache);
         let given = self.backend.item(reply);
         self.done = is_last(&given);
         given

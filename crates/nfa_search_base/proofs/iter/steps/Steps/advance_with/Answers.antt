@@ -3,5 +3,5 @@ use Rattle.nfa_search_base.specs.Stored.{iter_state_of}
 use Rattle.nfa_search_base.proofs.StepLemmas.{ServesAdvance-now}
 use Rattle.nfa_search_base.proofs.iter.steps.Steps.advance_with.Goals as goal
 
-pub step_with-reply-requires : goal.step_with-reply-requires
-step_with-reply-requires g c = ServesAdvance-now (iter_state_of c.args.self.now.searcher) c.requires
+pub step_with-answer-requires : goal.step_with-answer-requires
+step_with-answer-requires g c = ServesAdvance-now (iter_state_of c.args.self.now.searcher) c.requires
