@@ -2,13 +2,7 @@
 //! in rounds, to be timed, and why they fail.
 #![tactic(auto)]
 
-ghost use Rattle.std.specs.Prelude.{◌≡◌, ◌≢◌, ◌<◌, IfErr, IfOk, IfSome, None, Some, codes, false, length};
-ghost use Rattle.nfa_engines.specs.Backtrack.{IsTooLong};
-ghost use Rattle.nfa_engines.specs.Engines.{Fits, kind_of};
-ghost use Rattle.nfa_engines.specs.MatchKind.TheVariants.{LeftmostFirst};
-ghost use Rattle.nfa_engines.specs.Paths.{span_len};
-ghost use Rattle.nfa_engines.specs.Search.{search_of, whole};
-ghost use Rattle.named_engine.specs.Counts.{CountsMatches, IsWhyNotCounted, IsRefusalOf, backtracker_for};
+ghost use Rattle.nfa_engines.specs.Engines.{Fits};
 
 use nfa_engines::backtrack::{self, BoundedBacktracker};
 use nfa_engines::error::SearchError;
@@ -31,11 +25,7 @@ pub enum Engine {
 
 impl Engine {
     /// Returns the engine that the argument names: `back` or `pike`.
-    pub fn from_word(word: &str) -> Option<Engine>
-        ensures back { word.now ≡ codes "back" → result ≡ Some Engine.Backtracker }
-        ensures pike { word.now ≡ codes "pike" → result ≡ Some Engine.PikeVM }
-        ensures others { word.now ≢ codes "back" → word.now ≢ codes "pike" → result ≡ None }
-    {
+    pub fn from_word(word: &str) -> Option<Engine> {
         match word {
             "back" => Some(Engine::Backtracker),
             "pike" => Some(Engine::PikeVM),
@@ -44,20 +34,13 @@ impl Engine {
     }
 
     /// Returns the number of matches of the last round, with one cache for all. Without rounds it is 0.
-    ///
-    /// The matches are all leftmost first matches that do not overlap. Fails if the haystack is too long for the
-    /// backtracker, or if allocation failed.
     pub fn count_matches(
         self,
         alloc: Global,
         nfa: NFA,
         haystack: &[u8],
         rounds: u64,
-    ) -> Result<u64, Failure>
-        ensures none { rounds ≡ 0 → IfOk result (λ count. count ≡ 0) }
-        ensures counts { 0 < rounds → IfOk result (CountsMatches nfa false (whole haystack.now)) }
-        ensures why { IfErr result (IsWhyNotCounted self nfa haystack.now) }
-    {
+    ) -> Result<u64, Failure> {
         let input = Input::new(haystack);
         match self {
             Engine::Backtracker => backtrack_rounds(alloc, nfa, input, rounds),
@@ -66,10 +49,8 @@ impl Engine {
     }
 }
 
-/// Reads the haystack to its end, and returns its bytes. Fails if it cannot be read, or if allocation failed.
-pub fn read_haystack<R: Read>(alloc: Global, haystack: &mut R) -> Result<Vec<u8>, Failure>
-    ensures { IfOk result (λ bytes. IfSome (R.remaining haystack.old) (λ all. bytes.items ≡ all)) }
-{
+/// Returns the bytes of the haystack.
+pub fn read_haystack<R: Read>(alloc: Global, haystack: &mut R) -> Result<Vec<u8>, Failure> {
     let mut bytes = Vec::new(alloc);
     haystack.read_to_end(&mut bytes)?;
     Ok(bytes)
@@ -80,11 +61,7 @@ fn backtrack_rounds(
     nfa: NFA,
     input: Input<'_>,
     rounds: u64,
-) -> Result<u64, Failure>
-    ensures none { rounds ≡ 0 → IfOk result (λ count. count ≡ 0) }
-    ensures counts { 0 < rounds → IfOk result (CountsMatches nfa false (search_of input.entry)) }
-    ensures why { IfErr result (IsRefusalOf (backtracker_for nfa) (search_of input.entry)) }
-{
+) -> Result<u64, Failure> {
     let engine = BoundedBacktracker::new_from_nfa(nfa)?;
     let mut cache = engine.create_cache(alloc);
     let mut count = 0;
@@ -98,10 +75,7 @@ fn count_backtracked(
     engine: &BoundedBacktracker,
     cache: &mut backtrack::Cache,
     input: Input<'_>,
-) -> Result<u64, Failure>
-    ensures counts { IfOk result (CountsMatches engine.now.nfa false (search_of input.entry)) }
-    ensures why { IfErr result (IsRefusalOf engine.now (search_of input.entry)) }
-{
+) -> Result<u64, Failure> {
     let mut count = 0u64;
     for found in engine.try_find_iter(cache, input) {
         found?;
@@ -110,11 +84,7 @@ fn count_backtracked(
     Ok(count)
 }
 
-fn pike_rounds(alloc: Global, nfa: NFA, input: Input<'_>, rounds: u64) -> Result<u64, Failure>
-    ensures none { rounds ≡ 0 → IfOk result (λ count. count ≡ 0) }
-    ensures counts { let x = search_of input.entry in 0 < rounds → IfOk result (CountsMatches nfa x.earliest x) }
-    ensures why { IfErr result (λ failure. failure ≡ Failure.Memory) }
-{
+fn pike_rounds(alloc: Global, nfa: NFA, input: Input<'_>, rounds: u64) -> Result<u64, Failure> {
     let engine = PikeVM::new_from_nfa(nfa)?;
     let mut cache = engine.create_cache(alloc)?;
     Ok(count_last_piked(&engine, &mut cache, input, rounds))
@@ -126,10 +96,7 @@ fn count_last_piked(
     input: Input<'_>,
     rounds: u64,
 ) -> u64
-    requires fits { Fits cache.old engine.now.nfa }
-    requires kind { kind_of engine.now ≡ LeftmostFirst }
-    ensures none { rounds ≡ 0 → result ≡ 0 }
-    ensures counts { let x = search_of input.entry in 0 < rounds → CountsMatches engine.now.nfa x.earliest x result }
+    requires { Fits cache.old engine.now.nfa }
 {
     let mut count = 0;
     for _ in 0..rounds {
@@ -139,10 +106,8 @@ fn count_last_piked(
 }
 
 fn count_piked(engine: &PikeVM, cache: &mut pikevm::Cache, input: Input<'_>) -> u64
-    requires fits { Fits cache.old engine.now.nfa }
-    requires kind { kind_of engine.now ≡ LeftmostFirst }
-    ensures fits { Fits cache.new engine.now.nfa }
-    ensures counts { let x = search_of input.entry in CountsMatches engine.now.nfa x.earliest x result }
+    requires { Fits cache.old engine.now.nfa }
+    ensures { Fits cache.new engine.now.nfa }
 {
     let mut count = 0u64;
     for _ in engine.find_iter(cache, input) {
@@ -179,11 +144,6 @@ impl From<BuildError> for Failure {
 }
 
 impl From<SearchError> for Failure {
-    ghost use Rattle.std.specs.Prelude.{◌≡◌};
-    ghost use Rattle.named_engine.specs.Counts.{failure_of};
-
-    ghost from_gives = { λ error made. made ≡ failure_of error };
-
     fn from(error: SearchError) -> Failure {
         match error {
             SearchError::HaystackTooLong { len } => Failure::TooLong { len },
