@@ -54,10 +54,10 @@ pub fn cell_at(
     read_cell(dfa, cache, input, at, first)
 }
 
-/// Goes over four bytes, or up to a cell that has a mark or is unknown. Returns the position, where the cells of the row
-/// there begin, and that cell, or one without a mark.
+/// Goes on over cells without a mark, four bytes at a time. Returns the position, where the cells of the row there
+/// begin, and the next cell, which has a mark or is unknown. Near the end of the span it is `UNKNOWN` too.
 #[inline(always)]
-pub fn pass_four(
+pub fn pass_plain(
     dfa: &DFA,
     cache: &Cache,
     input: &Input<'_>,
@@ -66,41 +66,43 @@ pub fn pass_four(
     found: Option<HalfMatch>,
 ) -> (usize, u32, u32)
     requires own { IsFor cache.now dfa.now }
-    requires room { from + 4 ≤ (search_of input.now).end }
     requires whole { row % ROW_CELLS ≡ 0 }
     requires at { IsFoundAt dfa.now cache.now (search_of input.now) (place_at from row found) }
     ensures whole { result.1 % ROW_CELLS ≡ 0 }
     ensures at { IsFoundAt dfa.now cache.now (search_of input.now) (place_at result.0 result.1 found) }
     ensures low { from ≤ result.0 }
-    ensures all { result.2 < IDLE → result.0 ≡ from + 4 }
-    ensures part { IDLE ≤ result.2 → result.0 < from + 4 }
+    ensures marked { IDLE ≤ result.2 }
     ensures next { result.2 < UNKNOWN → result.2 % ROW_CELLS ≡ 0 }
-    ensures unmatched { IDLE ≤ result.2 → result.2 < MATCHED
+    ensures unmatched { result.2 < MATCHED
         → IsFoundAt dfa.now cache.now (search_of input.now) (place_at (result.0 + 1) (result.2 % IDLE) found) }
     ensures idle { IDLE ≤ result.2 → result.2 < MATCHED → IsIdlePlace dfa.now cache.now (result.2 % IDLE) }
 {
+    let end = input.end();
     let mut at = from;
-    let second = cell_at(dfa, cache, input, at, row, found);
-    if second >= IDLE {
-        return (at, row, second);
+    let mut first = row;
+    while end - at >= 4 {
+        let second = cell_at(dfa, cache, input, at, first, found);
+        if second >= IDLE {
+            return (at, first, second);
+        }
+        at += 1;
+        let third = cell_at(dfa, cache, input, at, second, found);
+        if third >= IDLE {
+            return (at, second, third);
+        }
+        at += 1;
+        let fourth = cell_at(dfa, cache, input, at, third, found);
+        if fourth >= IDLE {
+            return (at, third, fourth);
+        }
+        at += 1;
+        first = cell_at(dfa, cache, input, at, fourth, found);
+        if first >= IDLE {
+            return (at, fourth, first);
+        }
+        at += 1;
     }
-    at += 1;
-    let third = cell_at(dfa, cache, input, at, second, found);
-    if third >= IDLE {
-        return (at, second, third);
-    }
-    at += 1;
-    let fourth = cell_at(dfa, cache, input, at, third, found);
-    if fourth >= IDLE {
-        return (at, third, fourth);
-    }
-    at += 1;
-    let fifth = cell_at(dfa, cache, input, at, fourth, found);
-    if fifth >= IDLE {
-        return (at, fourth, fifth);
-    }
-    at += 1;
-    (at, fifth, fifth)
+    (at, first, UNKNOWN)
 }
 
 /// Whether the byte leads from the row to which the cell leads back to it, by the same cell.
@@ -124,44 +126,6 @@ fn stays(
     cell_at(dfa, cache, input, at, cell % IDLE, found) == cell
 }
 
-/// Goes over at most four bytes that lead from an idle row back to it, by the cell that led there. Returns the position.
-#[inline(always)]
-fn stay_four(
-    dfa: &DFA,
-    cache: &Cache,
-    input: &Input<'_>,
-    from: usize,
-    cell: u32,
-    found: Option<HalfMatch>,
-) -> usize
-    requires own { IsFor cache.now dfa.now }
-    requires room { from + 4 ≤ (search_of input.now).end }
-    requires whole { cell % ROW_CELLS ≡ 0 }
-    requires unmatched { cell < MATCHED }
-    requires at { IsFoundAt dfa.now cache.now (search_of input.now) (place_at from (cell % IDLE) found) }
-    ensures at { IsFoundAt dfa.now cache.now (search_of input.now) (place_at result (cell % IDLE) found) }
-    ensures low { from ≤ result }
-    ensures high { result ≤ from + 4 }
-{
-    let mut at = from;
-    if !stays(dfa, cache, input, at, cell, found) {
-        return at;
-    }
-    at += 1;
-    if !stays(dfa, cache, input, at, cell, found) {
-        return at;
-    }
-    at += 1;
-    if !stays(dfa, cache, input, at, cell, found) {
-        return at;
-    }
-    at += 1;
-    if !stays(dfa, cache, input, at, cell, found) {
-        return at;
-    }
-    at + 1
-}
-
 /// Goes on over bytes that lead from an idle row back to it, by the cell that led there, four at a time. Returns the
 /// position.
 #[inline(always)]
@@ -174,56 +138,36 @@ pub fn past_idle(
     found: Option<HalfMatch>,
 ) -> usize
     requires own { IsFor cache.now dfa.now }
-    requires room { from + 4 ≤ (search_of input.now).end }
     requires whole { cell % ROW_CELLS ≡ 0 }
     requires unmatched { cell < MATCHED }
     requires at { IsFoundAt dfa.now cache.now (search_of input.now) (place_at from (cell % IDLE) found) }
     ensures at { IsFoundAt dfa.now cache.now (search_of input.now) (place_at result (cell % IDLE) found) }
     ensures low { from ≤ result }
 {
-    let mut last = from;
-    let mut at = stay_four(dfa, cache, input, from, cell, found);
-    while at - last >= 4 && input.end() - at >= 4 {
-        last = at;
-        at = stay_four(dfa, cache, input, last, cell, found);
+    let mut at = from;
+    while input.end() - at >= 4 {
+        if !stays(dfa, cache, input, at, cell, found) {
+            return at;
+        }
+        at += 1;
+        if !stays(dfa, cache, input, at, cell, found) {
+            return at;
+        }
+        at += 1;
+        if !stays(dfa, cache, input, at, cell, found) {
+            return at;
+        }
+        at += 1;
+        if !stays(dfa, cache, input, at, cell, found) {
+            return at;
+        }
+        at += 1;
     }
     at
 }
 
-/// Goes on over cells that lead to rows without a match, one byte at a time. Returns the position and where the cells of
-/// the row there begin.
-#[inline(always)]
-fn pass_last(
-    dfa: &DFA,
-    cache: &Cache,
-    input: &Input<'_>,
-    from: usize,
-    row: u32,
-    found: Option<HalfMatch>,
-) -> (usize, u32)
-    requires own { IsFor cache.now dfa.now }
-    requires whole { row % ROW_CELLS ≡ 0 }
-    requires at { IsFoundAt dfa.now cache.now (search_of input.now) (place_at from row found) }
-    ensures whole { result.1 % ROW_CELLS ≡ 0 }
-    ensures at { IsFoundAt dfa.now cache.now (search_of input.now) (place_at result.0 result.1 found) }
-    ensures low { from ≤ result.0 }
-{
-    let end = input.end();
-    let mut at = from;
-    let mut first = row;
-    while at < end {
-        let cell = cell_at(dfa, cache, input, at, first, found);
-        if cell >= MATCHED {
-            return (at, first);
-        }
-        first = cell % IDLE;
-        at += 1;
-    }
-    (at, first)
-}
-
 /// Goes on over cells that lead to rows without a match. Returns the position and where the cells of the row there
-/// begin. The next cell leads to a match, to a dead row or is unknown, or the span ends.
+/// begin. The next cell leads to a match, to a dead row or is unknown, or the span ends soon.
 #[inline(always)]
 pub fn pass(
     dfa: &DFA,
@@ -240,22 +184,21 @@ pub fn pass(
     ensures at { IsFoundAt dfa.now cache.now (search_of input.now) (place_at result.0 result.1 found) }
     ensures low { from ≤ result.0 }
 {
+    if !dfa.marks {
+        let (at, first, _) = pass_plain(dfa, cache, input, from, row, found);
+        return (at, first);
+    }
     let mut at = from;
     let mut first = row;
-    while input.end() - at >= 8 {
-        let (next, plain, cell) = pass_four(dfa, cache, input, at, first, found);
+    while input.end() - at >= 4 {
+        let (next, plain, cell) = pass_plain(dfa, cache, input, at, first, found);
         if cell >= MATCHED {
             return (next, plain);
-        }
-        if cell < IDLE {
-            at = next;
-            first = plain;
-            continue;
         }
         at = past_idle(dfa, cache, input, next + 1, cell, found);
         first = cell % IDLE;
     }
-    pass_last(dfa, cache, input, at, first, found)
+    (at, first)
 }
 
 /// Where the cells of the next row begin, if the byte leads to a row with a match that is known and not dead.

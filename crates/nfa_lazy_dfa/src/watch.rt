@@ -18,7 +18,7 @@ ghost use Rattle.nfa_lazy_dfa.specs.Watches.{IsBegun, IsIdlePlace, IsWatching};
 use crate::cache::{Cache, IDLE, MATCHED, ROW_CELLS, UNKNOWN};
 use crate::dfa::DFA;
 use crate::fill::is_idle;
-use crate::known::{cell_at, pass_four, past_idle};
+use crate::known::{cell_at, pass_plain, past_idle};
 use crate::scan::{First, Place};
 use regex_search_core::Input;
 
@@ -98,8 +98,8 @@ pub fn watch_at(
     }
 }
 
-/// The watch with a look at the row itself, which may be another idle row than the one that it knows. A scan without
-/// assertions has seen its mark.
+/// The watch with a look at the row itself, which may be another idle row than the one that it knows. Without
+/// assertions there is no other one.
 #[inline(always)]
 pub fn looked_at(dfa: &DFA, cache: &Cache, input: &Input<'_>, from: Watch) -> Watch
     requires own { IsFor cache.now dfa.now }
@@ -263,17 +263,15 @@ fn pass_marked(dfa: &DFA, cache: &Cache, input: &Input<'_>, from: Watch) -> Watc
     let mut at = from.at;
     let mut first = from.first;
     let mut start = from.start;
-    while input.end() - at >= 8 {
-        let (next, plain, cell) = pass_four(dfa, cache, input, at, first, None);
+    while input.end() - at >= 4 {
+        let (next, plain, cell) = pass_plain(dfa, cache, input, at, first, None);
         if cell >= MATCHED {
-            at = next;
-            first = plain;
-            break;
-        }
-        if cell < IDLE {
-            at = next;
-            first = plain;
-            continue;
+            return Watch {
+                at: next,
+                first: plain,
+                start,
+                idle: from.idle,
+            };
         }
         at = past_idle(dfa, cache, input, next + 1, cell, None);
         first = cell % IDLE;
