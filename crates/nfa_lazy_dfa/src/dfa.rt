@@ -11,8 +11,8 @@ ghost use Rattle.nfa_lazy_dfa.specs.Cuts.{AreCuts};
 use crate::apart::is_start_apart;
 use crate::config::{Builder, Config};
 use crate::cuts::cuts_of;
-use nfa_scan_core::starts::is_utf8_empty;
 use crate::sparse::is_sparse;
+use nfa_scan_core::starts::is_utf8_empty;
 use regex_search_core::MatchKind;
 use thompson_nfa::{BuildError, Look, NFA, State};
 
