@@ -27,7 +27,7 @@ pub fn group_spans(
     text: &[u8],
     group: usize,
 ) -> std::result::Result<Vec<Option<Span>>, SearchError>
-    ensures { IfOk result (λ spans. AreGroupSpans regex.old text.now group spans.items) }
+    ensures { IfOk result (λ spans. AreGroupSpans regex.old.choice text.now group spans.items) }
 {
     let mut spans = Vec::new(alloc);
     let mut items = regex.captures_iter(alloc, Input::new(text))?;
