@@ -181,6 +181,7 @@ fn sets(rt: HostRuntime) -> Result<(), Fail> {
     assert_eq!(rt; (set.len(), set.capacity()), (2, 3));
     assert!(rt; set.contains(pattern(&rt, 2)) && !set.contains(pattern(&rt, 1)));
     assert!(rt; !set.contains(pattern(&rt, 3)));
+    assert!(rt; set.contains_number(2) && !set.contains_number(usize::MAX));
     expect_members(&rt, &set, &[0, 2]);
 
     assert_eq!(rt; set.try_insert(pattern(&rt, 1)), Some(true));

@@ -59,9 +59,16 @@ spans_at slots next explicit (suc n) = span_at slots next ∷ spans_at slots exp
 abbrev pub spans_left : CapturesPatternIter → List (Option Span)
 spans_left s = spans_at s.slots.now s.next s.explicit s.left
 
--- the bytes of the haystack at the span of the group, if there is one and it ends within the haystack
-abbrev pub text_of_group : Captured → List ℕ → ℕ → Option (List ℕ)
-text_of_group captures haystack group =
+-- the bytes of the haystack at the span, if there is one and it ends within the haystack
+abbrev pub text_of_span : List ℕ → Option Span → Option (List ℕ)
+text_of_span haystack =
     option_and_then (λ (s : Span).
     if nat_le s.end (length haystack) then Some (slice_range haystack s.start s.end) else None)
-    (group_span captures group)
+
+-- those of the group
+abbrev pub text_of_group : Captured → List ℕ → ℕ → Option (List ℕ)
+text_of_group captures haystack group = text_of_span haystack (group_span captures group)
+
+-- those of the first group of this name
+abbrev pub text_of_name : Captured → List ℕ → List ℕ → Option (List ℕ)
+text_of_name captures haystack name = text_of_span haystack (named_span captures name)

@@ -1,8 +1,9 @@
 //! What the groups of a match captured.
-ghost use Rattle.std.specs.Prelude.{◌≡◌, ◌↔◌, ◌*◌, None, Ok, [], length, replicate, IfOk, IsTrue, IsSome, option_map};
+ghost use Rattle.std.specs.Prelude.{◌≡◌, ◌↔◌, ◌*◌, ◌≤◌, None, Ok, Some, [], length, replicate, IfOk, IsTrue, IsSome, option_map};
 ghost use Rattle.std.specs.Borrow.{sem};
 ghost use Rattle.regex_search_core.specs.Groups.{slot_count};
 ghost use Rattle.regex_search_core.specs.Slots.{match_of, captured_count, group_span, named_span, text_of_group};
+ghost use Rattle.regex_search_core.specs.Slots.{text_of_name, text_of_span};
 ghost use Rattle.regex_search_core.specs.PatternSets.{number_of};
 
 mod groups;
@@ -177,11 +178,14 @@ impl Captures {
     pub fn group_text<'h>(&self, haystack: &'h [u8], index: usize) -> Option<&'h [u8]>
         ensures { option_map (λ text. text.now) result ≡ text_of_group self.now haystack.now index }
     {
-        let span = self.get_group(index)?;
-        if span.end > haystack.len() {
-            return None;
-        }
-        Some(&haystack[span.start..span.end])
+        text_at(haystack, self.get_group(index)?)
+    }
+
+    /// Returns the bytes of the haystack that the first group of this name matched, as [`Captures::group_text`] does.
+    pub fn group_text_by_name<'h>(&self, haystack: &'h [u8], name: &str) -> Option<&'h [u8]>
+        ensures { option_map (λ text. text.now) result ≡ text_of_name self.now haystack.now name.now }
+    {
+        text_at(haystack, self.get_group_by_name(name)?)
     }
 
     /// Returns the number of groups of the pattern that is set, including group 0. It is 0 if no pattern is set or if
@@ -226,4 +230,15 @@ fn copied(
         [start, end] => Ok(SmallVec::from_buf(alloc, [*start, *end])),
         _ => Ok(SmallVec::from_slice(alloc, slots)?),
     }
+}
+
+/// Returns the bytes of the haystack at the span, if it ends within the haystack.
+fn text_at(haystack: &[u8], span: Span) -> Option<&[u8]>
+    requires { span.start ≤ span.end }
+    ensures { option_map (λ text. text.now) result ≡ text_of_span haystack.now (Some span) }
+{
+    if span.end > haystack.len() {
+        return None;
+    }
+    Some(&haystack[span.start..span.end])
 }

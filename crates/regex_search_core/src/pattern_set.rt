@@ -101,8 +101,14 @@ impl PatternSet {
     pub fn contains(&self, pattern: PatternID) -> bool
         ensures { result ≡ slice_index_or self.now (number_of pattern) false }
     {
-        let index = pattern.as_usize();
-        index < self.which.len() && self.which[index]
+        self.contains_number(pattern.as_usize())
+    }
+
+    /// Returns whether the pattern with this number is in the set. Any number may be passed.
+    pub fn contains_number(&self, number: usize) -> bool
+        ensures { result ≡ slice_index_or self.now number false }
+    {
+        number < self.which.len() && self.which[number]
     }
 
     /// Returns the number of patterns in the set.

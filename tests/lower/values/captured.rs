@@ -28,6 +28,18 @@ fn captures_show_their_groups(rt: HostRuntime) {
             "{haystack:?}, {group}"
         );
     }
+    let texts: &[(&[u8], &str, Option<&[u8]>)] = &[
+        (b"abcdefgh", "numbers", Some(b"cd")),
+        (b"abc", "numbers", None),
+        (b"abcdefgh", "a", None),
+    ];
+    for &(haystack, name, want) in texts {
+        assert_eq!(rt;
+            captures.group_text_by_name(haystack, name),
+            want,
+            "{haystack:?}, {name}"
+        );
+    }
     captures.set_pattern(Some(pattern(&rt, 1)));
     expect_groups(&rt, &captures, &[None, None, None]);
     captures.set_pattern(Some(pattern(&rt, 2)));
