@@ -1,5 +1,5 @@
 //! A regex compared with a choice over the samples; windows of the lazy DFA; captures and half matches; texts that are
-//! split or replaced, also by templates and functions; and settings of a regex.
+//! split or replaced, also by templates and functions; settings of a regex; and sets of patterns.
 
 mod built;
 mod captures;
@@ -7,6 +7,7 @@ mod ends;
 mod groups;
 mod rewrites;
 mod samples;
+mod sets;
 mod templates;
 mod texts;
 mod windows;

@@ -1,6 +1,5 @@
 //! The settings of a regex, and its builder.
 ghost use Rattle.std.specs.Prelude.{◌≡◌, ◌∷◌, [], IfErr, IfOk, IsOkUnless, None, Some, map};
-ghost use Rattle.regex_search_core.specs.declared.search.MatchKind.TheVariants.{LeftmostFirst};
 ghost use Rattle.nfa_lazy_dfa.specs.Configs.{default_clears, kind_in};
 ghost use Rattle.nfa_lazy_dfa.specs.Limits.{capacity_in, max_clears_in};
 ghost use Rattle.nfa_meta.specs.Built.{HasNotSearched, IsBuiltFrom, IsWhyNotBuilt, compiler_of, default_builder};
@@ -161,10 +160,10 @@ impl Config {
         }
     }
 
-    /// Returns the configuration of the lazy DFA. A DFA without capacity stops at the start of each search, and makes no
-    /// row.
-    pub(crate) fn lazy_dfa(&self) -> nfa_lazy_dfa::Config
-        ensures kind { kind_in result ≡ LeftmostFirst }
+    /// Returns the configuration of a lazy DFA of this kind. A DFA without capacity stops at the start of each search, and
+    /// makes no row.
+    pub(crate) fn lazy_dfa(&self, kind: MatchKind) -> nfa_lazy_dfa::Config
+        ensures kind { kind_in result ≡ kind }
         ensures capacity { capacity_in result ≡ row_capacity self.now }
         ensures clears { max_clears_in result ≡ default_clears }
     {
@@ -173,9 +172,7 @@ impl Config {
         } else {
             0
         };
-        DFA::config()
-            .match_kind(MatchKind::LeftmostFirst)
-            .cache_capacity(capacity)
+        DFA::config().match_kind(kind).cache_capacity(capacity)
     }
 
     /// Returns the configuration of the backtracker.
@@ -256,7 +253,7 @@ impl Builder {
     }
 
     /// Returns the compiler of texts.
-    fn compiler(&self) -> Compiler
+    pub(crate) fn compiler(&self) -> Compiler
         ensures { result ≡ compiler_of self.now }
     {
         let config = nfa_compiler::Config::new()

@@ -14,9 +14,11 @@ mod error;
 pub mod interpolate;
 pub mod laws;
 pub mod regex;
+pub mod set;
 
 pub use builder::{Builder, Config};
 pub use error::BuildError;
 pub use nfa_choice::Engine;
 pub use nfa_compiler::{CompileError, Syntax};
 pub use regex::{CapturesMatches, FindMatches, HalfMatches, Regex};
+pub use set::{RegexSet, SetMatches};

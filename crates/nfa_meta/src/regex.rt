@@ -44,7 +44,7 @@ use nfa_lazy_dfa::{Cache, DFA};
 use nfa_match_spans::records_match_spans;
 use nfa_onepass::OnePass;
 use nfa_prefix::Literals;
-use regex_search_core::{GroupInfo, HalfMatch, Input, Match, NonMaxUsize, PatternID};
+use regex_search_core::{GroupInfo, HalfMatch, Input, Match, MatchKind, NonMaxUsize, PatternID};
 use std::alloc::Global;
 use std::marker::Model;
 use thompson_nfa::NFA;
@@ -174,7 +174,7 @@ impl Regex {
         let Ok(copy) = nfa.clone() else {
             return Err(SearchError::Memory);
         };
-        let dfa = lazy_dfa(config.lazy_dfa(), copy);
+        let dfa = lazy_dfa(config.lazy_dfa(MatchKind::LeftmostFirst), copy);
         let Ok(cache) = dfa.create_cache(alloc) else {
             return Err(SearchError::Memory);
         };
