@@ -6,6 +6,7 @@ mod examples;
 mod hostile;
 mod prefixes;
 mod refused;
+mod required;
 
 use anyhow::Result;
 use nfa_compiler::Compiler;

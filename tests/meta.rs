@@ -5,6 +5,7 @@ mod built;
 mod captures;
 mod ends;
 mod groups;
+mod lines;
 mod rewrites;
 mod samples;
 mod sets;

@@ -1,4 +1,8 @@
--- The lemmas on occurrences of bytes, on the bytes that paths read first, and on searches for them.
+-- The lemmas on occurrences of bytes, on the bytes that paths read first, on bytes that each path reads, and on
+-- searches for them.
 pub mod FewLemmas
 pub mod OccurrenceLemmas
 pub mod PrefixLemmas
+pub mod PositionLemmas
+pub mod ReachedLemmas
+pub mod RequiredLemmas

@@ -22,7 +22,7 @@ one-byte : (t : Transition) (b : ℕ) → (t.start == t.end) ≡ true → holds_
 one-byte t b single holds = grind (arith, nat_tests)
 
 -- a byte that is read is in the haystack
-byte-read : (x : Search) (p b : ℕ) → byte_at x p ≡ Some b → slice_get x.haystack p ≡ Some b
+pub byte-read : (x : Search) (p b : ℕ) → byte_at x p ≡ Some b → slice_get x.haystack p ≡ Some b
 byte-read x p b e = grind arith
 
 module _ (x : Search) where

@@ -1,10 +1,14 @@
 -- What each match of an NFA begins with.
+use Rattle.std.specs.Prelude.{IfSome}
 use Rattle.nfa_paths.specs.Common.{Automaton}
 use Rattle.nfa_prefix.specs.FewBytes.{BeginsAmong}
 use Rattle.nfa_prefix.specs.Prefixes.{BeginsWith}
+use Rattle.nfa_prefix.specs.RequiredBytes.{IsRequired}
 use Rattle.nfa_prefix.specs.declared.literals.Literals.{Literals}
 
--- the literals are those of the NFA: each of its matches begins with the prefix, and with one of the first bytes
+-- the literals are those of the NFA: each of its matches begins with the prefix, and with one of the first bytes, and
+-- has the required byte if there is one
 pub record AreLiteralsOf (nfa : Automaton) (literals : Literals) : Type 0 where
   pub begins : BeginsWith nfa literals.prefix.items
   pub among : BeginsAmong nfa literals.first
+  pub has : IfSome literals.required (IsRequired nfa)

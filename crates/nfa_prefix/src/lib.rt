@@ -16,8 +16,12 @@ pub mod laws;
 pub mod literals;
 mod only_move;
 pub mod prefix;
+mod reached;
+pub mod required_byte;
+mod singles;
 
 pub use few_bytes::FewBytes;
 pub use find::find_prefix;
 pub use literals::Literals;
 pub use prefix::literal_prefix;
+pub use required_byte::RequiredByte;

@@ -4,11 +4,16 @@ ghost use Rattle.regex_search_core.specs.Search.{search_of};
 ghost use Rattle.nfa_engines.specs.Laws.{MatchesNothing};
 ghost use Rattle.nfa_engines.specs.StartLaws.{IsFirstStart, IsUnbound};
 ghost use Rattle.nfa_prefix.specs.Literals.{AreLiteralsOf};
+ghost use Rattle.nfa_prefix.specs.RequiredBytes.{IsRequired};
 
 use crate::few_bytes::FewBytes;
 use crate::find::find_prefix;
-use crate::laws::{no_match_without_prefix, starts_without_prefix_may_be_passed};
+use crate::laws::{
+    no_match_without_prefix, no_match_without_required_byte, starts_without_prefix_may_be_passed,
+    starts_without_required_byte_may_be_passed,
+};
 use crate::prefix::literal_prefix;
+use crate::required_byte::RequiredByte;
 use nfa_engines::laws::bytes_may_be_skipped;
 use regex_search_core::Input;
 use std::alloc::{AllocError, Global};
@@ -21,6 +26,8 @@ pub struct Literals {
     prefix: Vec<u8>,
     /// The bytes that a match may begin with.
     first: FewBytes,
+    /// A byte that each match has. It is sought only if there is no prefix and a match may begin with many bytes.
+    required: Option<RequiredByte>,
 }
 
 impl Literals {
@@ -34,9 +41,13 @@ impl Literals {
     pub fn new(alloc: Global, nfa: &NFA) -> Result<Literals, AllocError>
         ensures { IfOk result (AreLiteralsOf nfa.now) }
     {
+        let prefix = literal_prefix(alloc, nfa)?;
+        let first = FewBytes::new(nfa);
+        let required = required_of(alloc, nfa, &prefix, &first)?;
         Ok(Literals {
-            prefix: literal_prefix(alloc, nfa)?,
-            first: FewBytes::new(nfa),
+            prefix,
+            first,
+            required,
         })
     }
 
@@ -44,7 +55,8 @@ impl Literals {
     /// they say that nothing matches.
     ///
     /// It is the first one at which the prefix of each match occurs. If there is no prefix, it is the first one whose
-    /// byte a match may begin with, or the end of the span. Requires that these are literals of the NFA, that neither
+    /// byte a match may begin with, or the end of the span. If a match may begin with more than three bytes, it is the
+    /// start of the span, or that of the line with the first byte that each match has. Requires that these are literals of the NFA, that neither
     /// the search nor the NFA is anchored, and that a match may end anywhere.
     ///
     /// ```
@@ -76,10 +88,31 @@ impl Literals {
         bytes_may_be_skipped();
         starts_without_prefix_may_be_passed();
         no_match_without_prefix();
+        starts_without_required_byte_may_be_passed();
+        no_match_without_required_byte();
         let haystack = input.haystack();
-        if self.prefix.is_empty() {
-            return Some(self.first.next(haystack, from, input.end()));
+        if !self.prefix.is_empty() {
+            return find_prefix(haystack, from, input.end(), &self.prefix);
         }
-        find_prefix(haystack, from, input.end(), &self.prefix)
+        match &self.required {
+            Some(required) => required.first_start(haystack, from, input.end()),
+            None => Some(self.first.next(haystack, from, input.end())),
+        }
+    }
+}
+
+/// Returns a byte that each match has, unless what matches begin with is something to look for.
+fn required_of(
+    alloc: Global,
+    nfa: &NFA,
+    prefix: &[u8],
+    first: &FewBytes,
+) -> Result<Option<RequiredByte>, AllocError>
+    ensures { IfOk result (λ found. IfSome found (IsRequired nfa.now)) }
+{
+    if prefix.is_empty() && first.are_many() {
+        RequiredByte::new(alloc, nfa)
+    } else {
+        Ok(None)
     }
 }

@@ -1,0 +1,25 @@
+-- Laws of a byte that each match has, about the definitions only.
+use Rattle.std.specs.Prelude.{ℕ}
+use Rattle.nfa_paths.specs.Common.{Automaton, Search}
+use Rattle.nfa_engines.specs.Laws.{MatchesNothing}
+use Rattle.nfa_engines.specs.StartLaws.{anchored_at, IsFirstStart, IsUnbound}
+use Rattle.nfa_prefix.specs.RequiredBytes.{HasAhead, IsRequired, LacksBefore, LacksFrom}
+use Rattle.nfa_prefix.specs.declared.required_byte.RequiredByte.{RequiredByte}
+
+-- if the byte is not ahead of a position, the anchored search there has no accepting path
+abbrev pub NothingWithoutByte : Type 0
+NothingWithoutByte =
+    (nfa : Automaton) (x : Search) (r : RequiredByte) (at : ℕ) → IsRequired nfa r → ¬ HasAhead r x.haystack x.end at
+    → MatchesNothing nfa (anchored_at x at)
+
+-- if it is ahead of no position from a first start up to another one, that is a first start, too
+abbrev pub FirstStartMovesToByte : Type 0
+FirstStartMovesToByte =
+    (nfa : Automaton) (x : Search) (r : RequiredByte) (from at : ℕ) → IsRequired nfa r → IsFirstStart nfa x from
+    → LacksBefore r x.haystack x.end from at → IsFirstStart nfa x at
+
+-- if it is ahead of no position from a first start on, the search has no accepting path
+abbrev pub NothingWithoutByteAhead : Type 0
+NothingWithoutByteAhead =
+    (nfa : Automaton) (x : Search) (r : RequiredByte) (from : ℕ) → IsUnbound nfa x → IsRequired nfa r
+    → IsFirstStart nfa x from → LacksFrom r x.haystack x.end from → MatchesNothing nfa x
