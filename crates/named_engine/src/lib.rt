@@ -2,7 +2,16 @@
 //! in rounds, to be timed, and why they fail.
 #![tactic(auto)]
 
-ghost use Rattle.nfa_engines.specs.Engines.{Fits};
+ghost use Rattle.std.specs.Prelude.{◌≡◌, ◌<◌, ◌↔◌, IfErr, IfOk, IfSome, IsOkUnless, OnOk, Some, codes};
+ghost use Rattle.std.specs.Io.KnownBytes.{IsAtEnd};
+ghost use Rattle.regex_search_core.specs.Search.{whole};
+ghost use Rattle.nfa_engines.specs.Backtrack.{IsTooLong};
+ghost use Rattle.nfa_engines.specs.BacktrackFinding.{AnswersByLength, IsRefusal};
+ghost use Rattle.nfa_engines.specs.Engines.{Fits, kind_of};
+ghost use Rattle.regex_search_core.specs.declared.search.MatchKind.TheVariants.{LeftmostFirst};
+ghost use Rattle.named_engine.specs.declared.Engine.TheVariants as engine;
+ghost use Rattle.named_engine.specs.declared.Failure.TheVariants as failure;
+ghost use Rattle.named_engine.specs.Counts.{IsLastCount, IsMatchCount, IsOfReading, IsWhyNotCounted, Refuses};
 
 use nfa_engines::backtrack::{self, BoundedBacktracker};
 use nfa_engines::error::SearchError;
@@ -25,7 +34,10 @@ pub enum Engine {
 
 impl Engine {
     /// Returns the engine that the argument names: `back` or `pike`.
-    pub fn from_word(word: &str) -> Option<Engine> {
+    pub fn from_word(word: &str) -> Option<Engine>
+        ensures back { (result ≡ Some engine.Backtracker) ↔ (word.now ≡ codes "back") }
+        ensures pike { (result ≡ Some engine.PikeVM) ↔ (word.now ≡ codes "pike") }
+    {
         match word {
             "back" => Some(Engine::Backtracker),
             "pike" => Some(Engine::PikeVM),
@@ -34,39 +46,63 @@ impl Engine {
     }
 
     /// Returns the number of matches of the last round, with one cache for all. Without rounds it is 0.
+    ///
+    /// # Errors
+    ///
+    /// `TooLong` if there are rounds, and the haystack is too long for the backtracker; otherwise `Memory`.
     pub fn count_matches(
         self,
         alloc: Global,
         nfa: NFA,
         haystack: &[u8],
         rounds: u64,
-    ) -> Result<u64, Failure> {
-        let input = Input::new(haystack);
+    ) -> Result<u64, Failure>
+        ensures count { IfOk result (IsLastCount nfa haystack.now rounds) }
+        ensures short { OnOk result (0 < rounds → ¬ (Refuses self nfa haystack.now)) }
+        ensures errors { IfErr result (IsWhyNotCounted self nfa haystack.now rounds) }
+    {
         match self {
-            Engine::Backtracker => backtrack_rounds(alloc, nfa, input, rounds),
-            Engine::PikeVM => pike_rounds(alloc, nfa, input, rounds),
+            Engine::Backtracker => backtrack_rounds(alloc, nfa, haystack, rounds),
+            Engine::PikeVM => pike_rounds(alloc, nfa, haystack, rounds),
         }
     }
 }
 
-/// Returns the bytes of the haystack.
-pub fn read_haystack<R: Read>(alloc: Global, haystack: &mut R) -> Result<Vec<u8>, Failure> {
+/// Returns the bytes of the haystack: what the reader had left. Fails if the reader does, or if memory was refused.
+pub fn read_haystack<R: Read>(alloc: Global, haystack: &mut R) -> Result<Vec<u8>, Failure>
+    ensures bytes { IfOk result (λ bytes. IfSome (R.remaining haystack.old) (λ left. bytes.items ≡ left)) }
+    ensures end { OnOk result (IsAtEnd (R.remaining haystack.new)) }
+    ensures errors { IfErr result IsOfReading }
+{
     let mut bytes = Vec::new(alloc);
     haystack.read_to_end(&mut bytes)?;
     Ok(bytes)
 }
 
-fn backtrack_rounds(
-    alloc: Global,
-    nfa: NFA,
-    input: Input<'_>,
-    rounds: u64,
-) -> Result<u64, Failure> {
+fn backtrack_rounds(alloc: Global, nfa: NFA, haystack: &[u8], rounds: u64) -> Result<u64, Failure>
+    ensures count { IfOk result (IsLastCount nfa haystack.now rounds) }
+    ensures short { OnOk result (0 < rounds → ¬ (Refuses engine.Backtracker nfa haystack.now)) }
+    ensures errors { IfErr result (IsWhyNotCounted engine.Backtracker nfa haystack.now rounds) }
+{
     let engine = BoundedBacktracker::new_from_nfa(nfa)?;
     let mut cache = engine.create_cache(alloc);
+    let count = count_last_backtracked(&engine, &mut cache, haystack, rounds)?;
+    Ok(count)
+}
+
+fn count_last_backtracked(
+    engine: &BoundedBacktracker,
+    cache: &mut backtrack::Cache,
+    haystack: &[u8],
+    rounds: u64,
+) -> Result<u64, SearchError>
+    ensures count { IfOk result (IsLastCount engine.now.nfa haystack.now rounds) }
+    ensures short { OnOk result (0 < rounds → ¬ (IsTooLong engine.now (whole haystack.now))) }
+    ensures errors { IfErr result (λ error. (0 < rounds) × IsRefusal engine.now (whole haystack.now) error) }
+{
     let mut count = 0;
     for _ in 0..rounds {
-        count = count_backtracked(&engine, &mut cache, input)?;
+        count = count_backtracked(engine, cache, haystack)?;
     }
     Ok(count)
 }
@@ -74,44 +110,49 @@ fn backtrack_rounds(
 fn count_backtracked(
     engine: &BoundedBacktracker,
     cache: &mut backtrack::Cache,
-    input: Input<'_>,
-) -> Result<u64, Failure> {
+    haystack: &[u8],
+) -> Result<u64, SearchError>
+    ensures count { IfOk result (IsMatchCount engine.now.nfa haystack.now) }
+    ensures by_length { AnswersByLength engine.now (whole haystack.now) result }
+{
     let mut count = 0u64;
-    for found in engine.try_find_iter(cache, input) {
+    for found in engine.try_find_iter(cache, Input::new(haystack)) {
         found?;
-        count = count.wrapping_add(1);
+        count += 1;
     }
     Ok(count)
 }
 
-fn pike_rounds(alloc: Global, nfa: NFA, input: Input<'_>, rounds: u64) -> Result<u64, Failure> {
+fn pike_rounds(alloc: Global, nfa: NFA, haystack: &[u8], rounds: u64) -> Result<u64, Failure>
+    ensures count { IfOk result (IsLastCount nfa haystack.now rounds) }
+    ensures memory { IsOkUnless result failure.Memory }
+{
     let engine = PikeVM::new_from_nfa(nfa)?;
     let mut cache = engine.create_cache(alloc)?;
-    Ok(count_last_piked(&engine, &mut cache, input, rounds))
+    Ok(count_last_piked(&engine, &mut cache, haystack, rounds))
 }
 
-fn count_last_piked(
-    engine: &PikeVM,
-    cache: &mut pikevm::Cache,
-    input: Input<'_>,
-    rounds: u64,
-) -> u64
-    requires { Fits cache.old engine.now.nfa }
+fn count_last_piked(engine: &PikeVM, cache: &mut pikevm::Cache, haystack: &[u8], rounds: u64) -> u64
+    requires fits { Fits cache.old engine.now.nfa }
+    requires kind { kind_of engine.now ≡ LeftmostFirst }
+    ensures { IsLastCount engine.now.nfa haystack.now rounds result }
 {
     let mut count = 0;
     for _ in 0..rounds {
-        count = count_piked(engine, cache, input);
+        count = count_piked(engine, cache, haystack);
     }
     count
 }
 
-fn count_piked(engine: &PikeVM, cache: &mut pikevm::Cache, input: Input<'_>) -> u64
-    requires { Fits cache.old engine.now.nfa }
-    ensures { Fits cache.new engine.now.nfa }
+fn count_piked(engine: &PikeVM, cache: &mut pikevm::Cache, haystack: &[u8]) -> u64
+    requires fits { Fits cache.old engine.now.nfa }
+    requires kind { kind_of engine.now ≡ LeftmostFirst }
+    ensures count { IsMatchCount engine.now.nfa haystack.now result }
+    ensures fits { Fits cache.new engine.now.nfa }
 {
     let mut count = 0u64;
-    for _ in engine.find_iter(cache, input) {
-        count = count.wrapping_add(1);
+    for _found in engine.find_iter(cache, Input::new(haystack)) {
+        count += 1;
     }
     count
 }
@@ -131,12 +172,22 @@ pub enum Failure {
 }
 
 impl From<AllocError> for Failure {
+    ghost use Rattle.std.specs.Prelude.{◌≡◌};
+    ghost use Rattle.named_engine.specs.declared.Failure.TheVariants as failure;
+
+    ghost from_gives = { λ _ gives. gives ≡ failure.Memory };
+
     fn from(_: AllocError) -> Failure {
         Failure::Memory
     }
 }
 
 impl From<BuildError> for Failure {
+    ghost use Rattle.std.specs.Prelude.{◌≡◌};
+    ghost use Rattle.named_engine.specs.declared.Failure.TheVariants as failure;
+
+    ghost from_gives = { λ _ gives. gives ≡ failure.Memory };
+
     // The NFAs of the programs are well formed, so only an allocation can have failed.
     fn from(_: BuildError) -> Failure {
         Failure::Memory
@@ -144,6 +195,11 @@ impl From<BuildError> for Failure {
 }
 
 impl From<SearchError> for Failure {
+    ghost use Rattle.std.specs.Prelude.{◌≡◌};
+    ghost use Rattle.named_engine.specs.Counts.{failure_of};
+
+    ghost from_gives = { λ error gives. gives ≡ failure_of error };
+
     fn from(error: SearchError) -> Failure {
         match error {
             SearchError::HaystackTooLong { len } => Failure::TooLong { len },
@@ -154,6 +210,10 @@ impl From<SearchError> for Failure {
 }
 
 impl From<io::Error> for Failure {
+    ghost use Rattle.named_engine.specs.Counts.{IsOfReader};
+
+    ghost from_gives = { IsOfReader };
+
     fn from(error: io::Error) -> Failure {
         if error.kind() == io::ErrorKind::OutOfMemory {
             return Failure::Memory;
