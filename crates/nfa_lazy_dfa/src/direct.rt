@@ -173,7 +173,7 @@ fn after_match(dfa: &DFA, cache: &Cache, input: &Input<'_>, ahead: Ahead) -> (Pl
 /// Goes on over known cells, straight to the end of a match. Returns the place that the scan came to, and whether it is
 /// over there.
 #[inline(always)]
-fn direct(dfa: &DFA, cache: &Cache, input: &Input<'_>, from: Place) -> (Place, bool)
+pub fn direct(dfa: &DFA, cache: &Cache, input: &Input<'_>, from: Place) -> (Place, bool)
     requires own { IsFor cache.now dfa.now }
     requires at { IsFoundAt dfa.now cache.now (search_of input.now) from }
     ensures next { IsNextPlace dfa.now cache.now (search_of input.now) result.0 result.1 }
@@ -219,7 +219,7 @@ fn direct_on(dfa: &DFA, cache: &Cache, input: &Input<'_>, from: Place) -> (Place
 
 /// Goes on as [`run`], and over a cell that ends the scan.
 #[inline(always)]
-fn run_on(dfa: &DFA, cache: &Cache, input: &Input<'_>, from: Place) -> (Place, bool)
+pub fn run_on(dfa: &DFA, cache: &Cache, input: &Input<'_>, from: Place) -> (Place, bool)
     requires own { IsFor cache.now dfa.now }
     requires at { IsFoundAt dfa.now cache.now (search_of input.now) from }
     ensures next { IsNextPlace dfa.now cache.now (search_of input.now) result.0 result.1 }

@@ -16,6 +16,7 @@ mod follow;
 mod index;
 mod known;
 mod overlap;
+mod quick;
 mod scan;
 mod search;
 mod sparse;

@@ -42,7 +42,7 @@ pub struct First {
 }
 
 /// Whether a match may start at more than one position.
-fn may_start_later(dfa: &DFA, input: &Input<'_>) -> bool
+pub fn may_start_later(dfa: &DFA, input: &Input<'_>) -> bool
     requires { (search_of input.now).start ≤ (search_of input.now).end }
     ensures count { let x = search_of input.now in
         start_count dfa.now.nfa x ≡ (if result then ((x.end - x.start) + 1) else 1) }
@@ -355,7 +355,7 @@ fn last(
 
 /// What an assertion of the NFA may read of the byte just before the span. A search that may not read it stops.
 #[inline(always)]
-fn seen_before(dfa: &DFA, input: &Input<'_>) -> Result<Option<u8>, StopError>
+pub fn seen_before(dfa: &DFA, input: &Input<'_>) -> Result<Option<u8>, StopError>
     requires { (search_of input.now).start ≤ (search_of input.now).end }
     ensures like { let x = search_of input.now in IfOk result (λ seen. (after : Option ℕ) → IsRead dfa.now.nfa after
         → SameLooks dfa.now.nfa (sees seen after) (sees (byte_before x.haystack x.start) after)) }

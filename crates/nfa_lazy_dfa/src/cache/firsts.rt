@@ -67,7 +67,13 @@ impl Cache {
 
     /// The row that a search begins with, if it is remembered.
     #[inline(always)]
-    fn known_first(&self, dfa: &DFA, start: StateID, before: Option<u8>, more: bool) -> Option<u32>
+    pub(crate) fn known_first(
+        &self,
+        dfa: &DFA,
+        start: StateID,
+        before: Option<u8>,
+        more: bool,
+    ) -> Option<u32>
         requires { IsFor self.now dfa.now }
         ensures { IfSome result (λ row. IsRowOf self.now row (first_stance start before more)) }
     {
