@@ -1,5 +1,5 @@
 -- A cell that leads to a dead row ends the scan.
-use Rattle.nfa_paths.proofs.Common.{cases_lt, ◌≡◌, ◌+◌, ◌-◌, ◌/◌, ◌<◌, ◌%◌, ◌∙◌, ℕ, inl, inr, true, get_or, sym, subst, arith, option_map, half_found_of, search_of}
+use Rattle.nfa_paths.proofs.Common.{cases_lt, ◌≡◌, ◌+◌, ◌/◌, ◌<◌, ◌%◌, ◌∙◌, ℕ, inl, inr, true, get_or, sym, subst, arith, option_map, half_found_of, search_of}
 use Rattle.nfa_lazy_dfa.specs.Places.{IsNextPlace}
 use Rattle.nfa_lazy_dfa.specs.Rows.{Leads, row_of, stances_of}
 use Rattle.nfa_lazy_dfa.specs.Runs.{place_at}

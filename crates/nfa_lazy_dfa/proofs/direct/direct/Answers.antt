@@ -1,5 +1,5 @@
 -- The scan passes rows without a match, and then rows with one.
-use Rattle.nfa_paths.proofs.Common.{◌≡◌, ◌+◌, ◌%◌, ◌<◌, ◌≤◌, ◌∙◌, get_or, false, sym, arith, search_of}
+use Rattle.nfa_paths.proofs.Common.{◌≡◌, ◌%◌, ◌<◌, ◌∙◌, get_or, sym, arith, search_of}
 use Rattle.nfa_lazy_dfa.specs.Rows.{Leads, stances_of}
 use Rattle.nfa_lazy_dfa.proofs.RunLemmas.{few-at, over-match, place-first}
 use Rattle.nfa_lazy_dfa.proofs.direct.direct.Goals as goal

@@ -1,5 +1,5 @@
 -- The scan goes on from each place at which it is not over.
-use Rattle.nfa_paths.proofs.Common.{◌+◌, ◌-◌, ◌≤◌, arith, search_of}
+use Rattle.nfa_paths.proofs.Common.{◌≤◌, arith, search_of}
 use Rattle.nfa_lazy_dfa.proofs.DirectLemmas.{next-here}
 use Rattle.nfa_lazy_dfa.proofs.ScanLemmas.{next-on}
 use Rattle.nfa_lazy_dfa.proofs.direct.direct_on.Goals as goal

@@ -1,5 +1,5 @@
 -- A marked row is idle, and over other cells the scan goes on.
-use Rattle.nfa_paths.proofs.Common.{◌≡◌, ◌≤◌, ◌%◌, ◌+◌, arith, search_of}
+use Rattle.nfa_paths.proofs.Common.{◌≡◌, ◌%◌, arith, search_of}
 use Rattle.nfa_lazy_dfa.proofs.WatchLemmas.{IsBegun-idle}
 use Rattle.nfa_lazy_dfa.proofs.watch.pass_marked.Goals as goal
 
