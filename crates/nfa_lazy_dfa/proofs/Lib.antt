@@ -10,6 +10,7 @@ pub mod WorkLemmas
 pub mod ScanLemmas
 pub mod ReadLemmas
 pub mod WatchLemmas
+pub mod CountLemmas
 pub mod CutLemmas
 pub mod RunLemmas
 pub mod DirectLemmas

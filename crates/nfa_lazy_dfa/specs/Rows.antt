@@ -118,6 +118,10 @@ clears_of c = c.cleared
 abbrev pub scans_of : Cache → ℕ
 scans_of c = c.scans
 
+-- how many searches with a cache stopped without an answer
+abbrev pub stops_of : Cache → ℕ
+stops_of c = c.stops
+
 -- The copy is a cache of each DFA that the old one is a cache of. It has the same rows, each in the same place, and the
 -- same counts.
 pub record IsCopyOf (old copy : Cache) : Type 0 where
@@ -128,6 +132,7 @@ pub record IsCopyOf (old copy : Cache) : Type 0 where
   pub steps : steps_of copy ≡ steps_of old
   pub made : rows_made_of copy ≡ rows_made_of old
   pub clears : clears_of copy ≡ clears_of old
+  pub stops : stops_of copy ≡ stops_of old
 
 -- how often a search may clear the rows
 abbrev pub max_clears_of : DFA → ℕ
@@ -164,6 +169,13 @@ pub record CountsScan (old new : Cache) : Type 0 where
   pub rows : rows_made_of new ≡ rows_made_of old
   pub cleared : clears_of new ≡ clears_of old
   pub clears : new.clears ≡ old.clears
+
+-- the stops may have changed, and no other count
+pub record KeepsOtherCounts (old new : Cache) : Type 0 where
+  pub scans : scans_of new ≡ scans_of old
+  pub steps : steps_of new ≡ steps_of old
+  pub rows : rows_made_of new ≡ rows_made_of old
+  pub clears : clears_of new ≡ clears_of old
 
 -- a search may clear as often as the DFA allows, and nothing else changed
 pub record AllowsClears (old new : Cache) (dfa : DFA) : Type 0 where

@@ -5,8 +5,8 @@ ghost use Rattle.std.specs.Prelude.{map, option_map, slice_get, vec_len};
 ghost use Rattle.regex_search_core.specs.PatternSets.{number_of};
 ghost use Rattle.nfa_lazy_dfa.specs.Capacities.{IsUsedUpBy, largest_row_memory};
 ghost use Rattle.nfa_lazy_dfa.specs.Rows as rows;
-ghost use Rattle.nfa_lazy_dfa.specs.Rows.{AllowsClears, CountsScan, IsFor, IsRowOf, KeepsRows, Spends, memory_of};
-ghost use Rattle.nfa_lazy_dfa.specs.Rows.{stances_of};
+ghost use Rattle.nfa_lazy_dfa.specs.Rows.{AllowsClears, CountsScan, IsFor, IsRowOf, KeepsOtherCounts, KeepsRows, Spends};
+ghost use Rattle.nfa_lazy_dfa.specs.Rows.{memory_of, stances_of, stops_of};
 ghost use Rattle.nfa_lazy_dfa.specs.Stances.{hit_here, hits_here, stance_of};
 
 mod copy;
@@ -63,6 +63,8 @@ pub struct Cache {
     cleared: Counter,
     /// The scans that all searches made.
     scans: Counter,
+    /// The searches that stopped without an answer.
+    pub(crate) stops: Counter,
 }
 
 // Written out, so that a drop is one call in a proof, and not one for each field.
@@ -82,6 +84,7 @@ impl Drop for Cache {
             made: _,
             cleared: _,
             scans: _,
+            stops: _,
         } = self;
     }
 }
@@ -107,6 +110,7 @@ impl Cache {
     pub fn new(alloc: Global, dfa: &DFA) -> Result<Cache, StopError>
         ensures own { IfOk result (λ made. IsFor made dfa.now) }
         ensures none { IfOk result (λ made. memory_of made ≡ 0) }
+        ensures stops { IfOk result (λ made. stops_of made ≡ 0) }
         ensures memory { IsOkUnless result StopError.Memory }
     {
         Ok(Cache {
@@ -123,6 +127,7 @@ impl Cache {
             made: Counter::new(),
             cleared: Counter::new(),
             scans: Counter::new(),
+            stops: Counter::new(),
         })
     }
 
@@ -161,6 +166,21 @@ impl Cache {
         self.scans.tick();
     }
 
+    /// Counts a search that began after this number of stops: one more if it stopped.
+    #[inline(always)]
+    pub(crate) fn count_stop(&mut self, dfa: &DFA, before: Counter, stopped: bool)
+        requires { IsFor self.old dfa.now }
+        ensures own { IsFor self.new dfa.now }
+        ensures same { KeepsOtherCounts self.old self.new }
+        ensures answered { stopped ≡ false → stops_of self.new ≡ before }
+        ensures stopped { stopped ≡ true → stops_of self.new ≡ before + 1 }
+    {
+        self.stops = before;
+        if stopped {
+            self.stops.tick();
+        }
+    }
+
     /// Returns how many bytes the rows take.
     pub fn memory_usage(&self) -> usize
         ensures { result ≡ memory_of self.now }
@@ -178,6 +198,7 @@ impl Cache {
         ensures steps { self.new.steps ≡ self.old.steps }
         ensures made { self.new.made ≡ self.old.made }
         ensures scans { self.new.scans ≡ self.old.scans }
+        ensures stops { self.new.stops ≡ self.old.stops }
     {
         self.cleared.tick();
         self.cells.clear();

@@ -1,6 +1,6 @@
 //! Calls that make a cache the DFA's.
 ghost use Rattle.std.specs.Prelude.{◌≡◌, IfOk, IsOkUnless};
-ghost use Rattle.nfa_lazy_dfa.specs.Rows.{IsFor, memory_of};
+ghost use Rattle.nfa_lazy_dfa.specs.Rows.{IsFor, memory_of, stops_of};
 
 use crate::cache::Cache;
 use crate::dfa::DFA;
@@ -12,6 +12,7 @@ impl DFA {
     pub fn create_cache(&self, alloc: Global) -> Result<Cache, StopError>
         ensures own { IfOk result (λ made. IsFor made self.now) }
         ensures none { IfOk result (λ made. memory_of made ≡ 0) }
+        ensures stops { IfOk result (λ made. stops_of made ≡ 0) }
         ensures memory { IsOkUnless result StopError.Memory }
     {
         Cache::new(alloc, self)
@@ -27,6 +28,7 @@ impl DFA {
     pub fn reset_cache(&self, cache: &mut Cache)
         ensures own { IsFor cache.new self.now }
         ensures none { memory_of cache.new ≡ 0 }
+        ensures stops { stops_of cache.new ≡ stops_of cache.old }
     {
         cache.reset(self);
     }
@@ -44,6 +46,7 @@ impl Cache {
     pub fn reset(&mut self, dfa: &DFA)
         ensures own { IsFor self.new dfa.now }
         ensures none { memory_of self.new ≡ 0 }
+        ensures stops { stops_of self.new ≡ stops_of self.old }
     {
         self.clear(dfa);
     }

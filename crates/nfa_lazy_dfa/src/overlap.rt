@@ -14,7 +14,7 @@ ghost use Rattle.nfa_lazy_dfa.specs.Rows.{IsAt, IsBounded, IsFor, IsRowOf, Scans
 ghost use Rattle.nfa_lazy_dfa.specs.Rows.{scans_of, steps_of};
 ghost use Rattle.nfa_lazy_dfa.specs.Sets.{AddsEach, AddsHere, IsPartOfOverlap};
 ghost use Rattle.nfa_lazy_dfa.specs.Stances.{hits_here};
-ghost use Rattle.nfa_lazy_dfa.specs.Stops.{IsStop};
+ghost use Rattle.nfa_lazy_dfa.specs.Stops.{CountsStop, IsStop};
 
 use crate::cache::{Cache, ROW_CELLS};
 use crate::dfa::DFA;
@@ -57,6 +57,7 @@ impl DFA {
         ensures part { OnErr result (IsPartOfOverlap (nfa_of self.now) (search_of input.now)
             (search_of input.now).earliest patterns.old patterns.new) }
         ensures stops { IfErr result (IsStop (nfa_of self.now) (search_of input.now)) }
+        ensures counts { CountsStop result cache.old cache.new }
         ensures memory { memory_of cache.new ≤ capacity_of self.now }
         ensures scans { scans_of cache.new ≡ scans_of cache.old + 1 }
         ensures work { IsBounded cache.old cache.new self.now (search_of input.now) }
@@ -66,10 +67,13 @@ impl DFA {
         ensures small { capacity_of self.now < first_row_memory → size_of_set patterns.old < length patterns.old
             → HasToScan (nfa_of self.now) (search_of input.now) → StopsAtStart (search_of input.now) result }
     {
+        let before = cache.stops.copy();
         cache.allow(self);
         // The rows are those of a search that goes on after each match.
         let whole = input.earliest(false);
-        overlap(self, cache, &whole, input.get_earliest(), patterns)
+        let done = overlap(self, cache, &whole, input.get_earliest(), patterns);
+        cache.count_stop(self, before, done.is_err());
+        done
     }
 }
 

@@ -8,7 +8,7 @@ ghost use Rattle.nfa_lazy_dfa.specs.Capacities.{HasNoRoom, HasToScan, IsUsedUpAt
 ghost use Rattle.nfa_lazy_dfa.specs.Configs.{kind_of, nfa_of};
 ghost use Rattle.nfa_lazy_dfa.specs.Reads.{HasReadSpan};
 ghost use Rattle.nfa_lazy_dfa.specs.Rows.{IsBounded, IsFor, ScansAtMost, capacity_of, memory_of};
-ghost use Rattle.nfa_lazy_dfa.specs.Stops.{IsStop};
+ghost use Rattle.nfa_lazy_dfa.specs.Stops.{CountsStop, IsStop};
 
 use crate::cache::Cache;
 use crate::dfa::DFA;
@@ -46,6 +46,7 @@ impl DFA {
         ensures answer { let x = search_of input.entry in IfOk result (λ half.
             IsHalfAnswer (nfa_of self.now) (kind_of self.now) x.earliest x (option_map half_found_of half)) }
         ensures stops { IfErr result (IsStop (nfa_of self.now) (search_of input.entry)) }
+        ensures counts { CountsStop result cache.old cache.new }
         ensures memory { memory_of cache.new ≤ capacity_of self.now }
         ensures work { IsBounded cache.old cache.new self.now (search_of input.entry) }
         ensures reads { OnOk result (HasReadSpan cache.old cache.new self.now (search_of input.entry)) }
@@ -53,8 +54,11 @@ impl DFA {
         ensures small { capacity_of self.now < first_row_memory
             → HasToScan (nfa_of self.now) (search_of input.entry) → StopsAtStart (search_of input.entry) result }
     {
+        let before = cache.stops.copy();
         cache.allow(self);
-        find_half(self, cache, &input)
+        let half = find_half(self, cache, &input);
+        cache.count_stop(self, before, half.is_err());
+        half
     }
 
     /// Returns whether a search of the input finds a match. It stops at the first position at which it knows.
@@ -73,6 +77,7 @@ impl DFA {
         ensures answer { IfOk result
             (IsBoolAnswer (nfa_of self.now) (kind_of self.now) false (search_of input.entry)) }
         ensures stops { IfErr result (IsStop (nfa_of self.now) (search_of input.entry)) }
+        ensures counts { CountsStop result cache.old cache.new }
         ensures memory { memory_of cache.new ≤ capacity_of self.now }
         ensures work { IsBounded cache.old cache.new self.now (search_of input.entry) }
         ensures reads { let free = not (is_utf8_empty (nfa_of self.now)) in OnOk result

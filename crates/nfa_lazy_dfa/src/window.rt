@@ -11,7 +11,7 @@ ghost use Rattle.nfa_lazy_dfa.specs.Capacities.{HasNoRoom, HasToScan, IsUsedUpAt
 ghost use Rattle.nfa_lazy_dfa.specs.Configs.{kind_of, nfa_of};
 ghost use Rattle.nfa_lazy_dfa.specs.Reads.{HasRead, HasReadSpan, IsOver};
 ghost use Rattle.nfa_lazy_dfa.specs.Rows.{IsBounded, IsFor, Scans, Spends, capacity_of, memory_of};
-ghost use Rattle.nfa_lazy_dfa.specs.Stops.{IsStop};
+ghost use Rattle.nfa_lazy_dfa.specs.Stops.{CountsStop, IsStop};
 ghost use Rattle.nfa_lazy_dfa.specs.Watches.{IsBegun, IsWatching};
 ghost use Rattle.nfa_lazy_dfa.specs.Windows.{IsWindow, half_in, start_in};
 
@@ -140,6 +140,34 @@ fn scan_window(dfa: &DFA, cache: &mut Cache, input: &Input<'_>) -> Result<Option
     window_from(dfa, cache, input, from)
 }
 
+/// The window of the first scan of a search. If a byte leads back to the start of the NFA, it is the whole span.
+#[inline(always)]
+fn first_window(
+    dfa: &DFA,
+    cache: &mut Cache,
+    input: &Input<'_>,
+) -> Result<Option<Window>, StopError>
+    requires { IsFor cache.old dfa.now }
+    ensures own { IsFor cache.new dfa.now }
+    ensures half { let x = search_of input.now in IfOk result (λ w.
+        option_map half_in w ≡ scan_half dfa.now.nfa x dfa.now.kind x.earliest) }
+    ensures start { IfOk result (λ w. IfSome w (λ w.
+        IsBegun dfa.now.nfa (search_of input.now) (start_in w) (search_of input.now).end)) }
+    ensures stops { IfErr result (IsStop dfa.now.nfa (search_of input.now)) }
+    ensures scan { let x = search_of input.now in Scans cache.old cache.new 1 (x.end - x.start) }
+    ensures reads { let x = search_of input.now in
+        OnOk result (HasRead (IsOver dfa.now x) cache.old cache.new x.start) }
+    ensures full { IfErr result (IsUsedUpAt cache.new dfa.now) }
+    ensures small { dfa.now.capacity < first_row_memory → HasToScan dfa.now.nfa (search_of input.now)
+        → StopsAtStart (search_of input.now) result }
+{
+    if !dfa.apart {
+        let half = scan_half(dfa, cache, input)?;
+        return Ok(window_of(half, input.start()));
+    }
+    scan_window(dfa, cache, input)
+}
+
 impl DFA {
     /// Returns a window of the match that a search of the input finds: the pattern and the end of the match, and a
     /// position at or before its start.
@@ -169,6 +197,7 @@ impl DFA {
         ensures window { let x = search_of input.entry in IfOk result (λ w.
             IfSome w (IsWindow (nfa_of self.now) x)) }
         ensures stops { IfErr result (IsStop (nfa_of self.now) (search_of input.entry)) }
+        ensures counts { CountsStop result cache.old cache.new }
         ensures memory { memory_of cache.new ≤ capacity_of self.now }
         ensures work { IsBounded cache.old cache.new self.now (search_of input.entry) }
         ensures reads { OnOk result (HasReadSpan cache.old cache.new self.now (search_of input.entry)) }
@@ -212,6 +241,7 @@ impl DFA {
         ensures start { let x = search_of input.entry in IfOk result (λ w.
             IfSome w (λ w. IsBegun (nfa_of self.now) x (start_in w) x.end)) }
         ensures stops { IfErr result (IsStop (nfa_of self.now) (search_of input.entry)) }
+        ensures counts { CountsStop result cache.old cache.new }
         ensures memory { memory_of cache.new ≤ capacity_of self.now }
         ensures work { IsBounded cache.old cache.new self.now (search_of input.entry) }
         ensures reads { OnOk result (HasReadSpan cache.old cache.new self.now (search_of input.entry)) }
@@ -219,11 +249,10 @@ impl DFA {
         ensures small { capacity_of self.now < first_row_memory
             → HasToScan (nfa_of self.now) (search_of input.entry) → StopsAtStart (search_of input.entry) result }
     {
+        let before = cache.stops.copy();
         cache.allow(self);
-        if !self.apart {
-            let half = scan_half(self, cache, &input)?;
-            return Ok(window_of(half, input.start()));
-        }
-        scan_window(self, cache, &input)
+        let window = first_window(self, cache, &input);
+        cache.count_stop(self, before, window.is_err());
+        window
     }
 }

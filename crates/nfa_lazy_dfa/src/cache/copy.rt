@@ -68,6 +68,7 @@ impl Cache {
             made: self.made.copy(),
             cleared: self.cleared.copy(),
             scans: self.scans.copy(),
+            stops: self.stops.copy(),
         })
     }
 }

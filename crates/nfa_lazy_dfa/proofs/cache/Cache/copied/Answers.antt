@@ -23,4 +23,5 @@ returns c =
       steps = search rules;
       made = search rules;
       clears = search rules;
+      stops = search rules;
     }

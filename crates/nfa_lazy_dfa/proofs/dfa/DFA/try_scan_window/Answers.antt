@@ -2,54 +2,52 @@
 use Rattle.nfa_paths.proofs.Common.{rules, IfErr-weaker, on_ok_weaker, search_of}
 use Rattle.nfa_lazy_dfa.specs.Capacities.{HasNoRoom, IsUsedUpAt}
 use Rattle.nfa_lazy_dfa.specs.Rows.{IsFor}
+use Rattle.nfa_lazy_dfa.proofs.CountLemmas.{CountsStop-err, HasNoRoom-stops, HasReadSpan-stops, IsBounded-stops}
 use Rattle.nfa_lazy_dfa.proofs.ReadLemmas.{HasReadSpan-more, HasReadSpan-one}
 use Rattle.nfa_lazy_dfa.proofs.StopLemmas.{HasNoRoom-scans}
-use Rattle.nfa_lazy_dfa.proofs.WatchLemmas.{IsBegun-first}
-use Rattle.nfa_lazy_dfa.proofs.WorkLemmas.{ScansAtMost-one}
+use Rattle.nfa_lazy_dfa.proofs.WorkLemmas.{IsBounded-scans, ScansAtMost-one}
 use Rattle.nfa_lazy_dfa.proofs.dfa.DFA.try_scan_window.Goals as goal
 
 pub returns-clause-memory : goal.returns-clause-memory
 unfolding IsFor
-returns-clause-memory c = c.scan_window.ensures.own.fits
+returns-clause-memory c = c.count_stop.ensures.own.fits
 
-pub returns-in_err-half-clause-memory : goal.returns-in_err-half-clause-memory
-unfolding IsFor
-returns-in_err-half-clause-memory c = c.in_err-half.ensures.own.fits
+pub returns-clause-counts : goal.returns-clause-counts
+returns-clause-counts c =
+    CountsStop-err c.first_window-window.result c.args.cache.now c.count_stop.new.self c.copy-before.result
+    c.is_err.result c.copy-before.ensures c.is_err.ensures.value c.count_stop.ensures.answered
+    c.count_stop.ensures.stopped
 
-pub returns-then-not-self-clause-memory : goal.returns-then-not-self-clause-memory
-unfolding IsFor
-returns-then-not-self-clause-memory c = c.in_ok-half.ensures.own.fits
-
-pub returns-then-not-self-clause-start : goal.returns-then-not-self-clause-start
-returns-then-not-self-clause-start c =
-    let x = search_of c.args.input in
-    IsBegun-first c.args.self.now.nfa c.args.self.now.kind x.earliest x c.start.result c.start.ensures
-    c.in_ok-half.half c.in_ok-half.ensures.steps c.window_of.result c.window_of.ensures.half c.window_of.ensures.start
-
-pub returns-then-not-self-clause-reads : goal.returns-then-not-self-clause-reads
-returns-then-not-self-clause-reads c =
-    let x = search_of c.args.input in
+pub returns-clause-work : goal.returns-clause-work
+returns-clause-work c =
     let dfa = c.args.self.now in
+    let x = search_of c.args.input in
     let mid = c.allow.new.self in
-    let end = c.scan_half.new.cache in
-    HasReadSpan-more c.args.cache.now mid end dfa x c.allow.ensures.allows.steps
-    (HasReadSpan-one mid end dfa x c.in_ok-half.ensures.reads)
+    let end = c.first_window-window.new.cache in
+    IsBounded-stops c.args.cache.now end c.count_stop.new.self c.count_stop.ensures.same dfa x
+    (IsBounded-scans c.args.cache.now mid end dfa x c.allow.ensures.allows
+    (ScansAtMost-one mid end x c.first_window-window.ensures.scan))
 
 pub returns-clause-full : goal.returns-clause-full
 returns-clause-full c =
+    let dfa = c.args.self.now in
     let x = search_of c.args.input in
-    let work = ScansAtMost-one c.allow.new.self c.scan_window.new.cache x c.scan_window.ensures.scan in
-    IfErr-weaker _ (IsUsedUpAt c.scan_window.new.cache c.args.self.now)
-    (HasNoRoom c.args.cache.now c.scan_window.new.cache c.args.self.now)
-    (HasNoRoom-scans c.args.cache.now c.allow.new.self c.scan_window.new.cache c.args.self.now x
-    c.allow.ensures.allows work) (search rules)
+    let old = c.args.cache.now in
+    let mid = c.allow.new.self in
+    let end = c.first_window-window.new.cache in
+    let work = ScansAtMost-one mid end x c.first_window-window.ensures.scan in
+    IfErr-weaker _ (IsUsedUpAt end dfa) (HasNoRoom old c.count_stop.new.self dfa)
+    (λ e used. HasNoRoom-stops old end c.count_stop.new.self c.count_stop.ensures.same dfa e
+    (HasNoRoom-scans old mid end dfa x c.allow.ensures.allows work e used)) (search rules)
 
 pub returns-clause-reads : goal.returns-clause-reads
 returns-clause-reads c =
-    let x = search_of c.args.input in
     let dfa = c.args.self.now in
+    let x = search_of c.args.input in
+    let old = c.args.cache.now in
     let mid = c.allow.new.self in
-    let end = c.scan_window.new.cache in
-    on_ok_weaker c.scan_window.result
-    (λ reads. HasReadSpan-more c.args.cache.now mid end dfa x c.allow.ensures.allows.steps
-    (HasReadSpan-one mid end dfa x reads)) c.scan_window.ensures.reads
+    let end = c.first_window-window.new.cache in
+    on_ok_weaker c.first_window-window.result
+    (λ reads. HasReadSpan-stops old end c.count_stop.new.self c.count_stop.ensures.same dfa x
+    (HasReadSpan-more old mid end dfa x c.allow.ensures.allows.steps (HasReadSpan-one mid end dfa x reads)))
+    c.first_window-window.ensures.reads
