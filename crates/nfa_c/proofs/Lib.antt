@@ -1,0 +1,2 @@
+pub mod PartsSteps
+pub mod SlotSteps

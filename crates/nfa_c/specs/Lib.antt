@@ -1,0 +1,4 @@
+pub mod Answers
+pub mod Codes
+pub mod Held
+pub mod Options
