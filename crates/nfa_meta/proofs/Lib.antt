@@ -8,6 +8,7 @@ pub mod HalvesLemmas
 pub mod MatchesLemmas
 pub mod MatchSlotLemmas
 pub mod PrefixLemmas
+pub mod QuickLemmas
 pub mod RegexLemmas
 pub mod RewriteLemmas
 pub mod Rewriting

@@ -26,6 +26,7 @@ mod match_slots;
 mod may_begin;
 mod overlap;
 mod prefix;
+mod quick;
 mod replace;
 mod rewrite;
 mod split;
@@ -69,6 +70,8 @@ pub struct Regex {
     literals: Literals,
     /// The last match was at the first start of its search, so the next one may be, too.
     matched_at_first: bool,
+    /// The last match that a window had was where the literals said that it may start, further on than its search.
+    matched_at_literal: bool,
 }
 
 // Written out, so that a drop is one call in a proof, and not one for each field.
@@ -83,6 +86,7 @@ impl Drop for Regex {
             records_spans: _,
             literals: _,
             matched_at_first: _,
+            matched_at_literal: _,
         } = self;
     }
 }
@@ -197,6 +201,7 @@ impl Regex {
             records_spans,
             literals,
             matched_at_first: true,
+            matched_at_literal: false,
         })
     }
 
@@ -285,14 +290,14 @@ impl Regex {
 
     /// Returns the match that a search of the input finds, in byte offsets into the haystack.
     ///
-    /// If the last match was at the first start of its search, the lazy DFA tries the first start of this one. If it
-    /// does not match there, the DFA scans on to the first end of a match, from where the literals of the NFA say that a
-    /// match may start, and tries the first starts after the last position at which no match had begun. If it matches at
-    /// none of them, it finds the end of the match, and the [`Choice`] searches the window between the two. So the work
-    /// of the slower engines depends on the window, and not on the haystack. There is no window if the search is anchored
-    /// or `earliest`, or if the NFA is anchored. The DFA alone then answers an anchored search. The [`Choice`] searches
-    /// the whole input otherwise, and if the DFA stops. It also does if the NFA can match the empty string and is in UTF-8
-    /// mode, and the match starts at none of the first starts.
+    /// If the last match was at the first start of its search, or where the literals of the NFA said, the lazy DFA tries
+    /// that start of this one, over the rows that it has. If it does not match there, the DFA scans on to the first end of
+    /// a match, from where the literals say that a match may start, and tries the first starts after the last position at
+    /// which no match had begun. If it matches at none of them, it finds the end of the match, and the [`Choice`] searches
+    /// the window between the two. So the work of the slower engines depends on the window, and not on the haystack. There
+    /// is no window if the search is anchored or `earliest`, or if the NFA is anchored. The DFA alone then answers an
+    /// anchored search. The [`Choice`] searches the whole input otherwise, and if the DFA stops. It also does if the NFA can
+    /// match the empty string and is in UTF-8 mode, and the match starts at none of the first starts.
     ///
     /// ```
     /// // regex of "foo[0-9]+"

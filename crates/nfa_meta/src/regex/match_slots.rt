@@ -38,7 +38,7 @@ impl Regex {
         if count != 2 || self.group_info().slot_len() != 2 {
             return Err(self.part_to_search(input));
         }
-        if let Some(found) = self.find_at_first(input) {
+        if let Some(found) = self.quick(&input) {
             return Ok(found);
         }
         self.match_in_window(input)

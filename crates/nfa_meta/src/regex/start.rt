@@ -83,28 +83,9 @@ impl Regex {
         self.find_anchored(input.range(at..input.end()).anchored(Anchored::Yes))
     }
 
-    /// Returns the match of a search, if the last one matched at its first start, and so does this one by the lazy DFA.
-    #[inline(always)]
-    pub(super) fn find_at_first<'h>(&mut self, input: Input<'h>) -> Option<Match>
-        ensures answer { let x = search_of input.entry in IfSome result (λ m.
-            IsFindAnswer self.old.choice.nfa (kind_in self.old.choice) x.earliest x (Some (found_of m))) }
-        ensures pattern { IfSome result (λ m. (found_of m).pattern < length self.old.choice.nfa.patterns) }
-        ensures same { self.new.choice ≡ self.old.choice }
-        ensures keeps { KeepsRegex self.old self.new }
-    {
-        if !self.matched_at_first || !self.starts_anywhere(&input) {
-            return None;
-        }
-        let at = self.first_start(&input);
-        if !self.begins_at(&input, at) {
-            return None;
-        }
-        self.find_at_start(input, at)?
-    }
-
     /// Whether a match may begin at the position: not inside a codepoint, and with its byte or at the end of the span.
     #[inline(always)]
-    fn begins_at(&self, input: &Input<'_>, at: usize) -> bool {
+    pub(super) fn begins_at(&self, input: &Input<'_>, at: usize) -> bool {
         input.is_char_boundary(at) && (at >= input.end() || self.may_begin(input.haystack()[at]))
     }
 

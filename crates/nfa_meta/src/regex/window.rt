@@ -149,7 +149,7 @@ impl Regex {
         ensures holds { HoldsNoMore (2 * length self.old.choice.nfa.groups) self.old.choice.back self.new.choice.back }
         ensures keeps { KeepsRegex self.old self.new }
     {
-        if let Some(found) = self.find_at_first(*input) {
+        if let Some(found) = self.quick(input) {
             return Some(found);
         }
         self.find_past_first(input)
@@ -231,12 +231,17 @@ impl Regex {
         if !self.records_spans {
             return None;
         }
+        self.matched_at_literal = false;
         let Some(rest) = self.from_prefix(input) else {
             return Some(None);
         };
         match self.first_end(rest) {
             Ok(None) => Some(None),
-            Ok(Some(at)) => Some(Some(self.find_near_start(rest, at)?)),
+            Ok(Some(at)) => {
+                let found = self.find_near_start(rest, at)?;
+                self.matched_at_literal = is_at_literal(&input, &rest, found);
+                Some(Some(found))
+            }
             Err(NoWindow) => None,
         }
     }
@@ -345,4 +350,9 @@ impl Regex {
         }
         None
     }
+}
+
+/// Whether the literals name the start of the match: they leave this rest of the input, and not all of it.
+fn is_at_literal(input: &Input<'_>, rest: &Input<'_>, found: Match) -> bool {
+    rest.start() > input.start() && found.start() == rest.start()
 }

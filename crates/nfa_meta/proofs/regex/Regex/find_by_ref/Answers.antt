@@ -5,7 +5,7 @@ use Rattle.nfa_choice.specs.ChoiceState.{kind_in}
 use Rattle.nfa_meta.proofs.regex.Regex.find_by_ref.Goals as goal
 
 pub returns-in-Some-clause-pattern : goal.returns-in-Some-clause-pattern
-returns-in-Some-clause-pattern c = rw c.in-Some.is at c.find_at_first.ensures.pattern
+returns-in-Some-clause-pattern c = rw c.in-Some.is at c.quick.ensures.pattern
 
 pub returns-in-Some-clause-inside : goal.returns-in-Some-clause-inside
 returns-in-Some-clause-inside c =

@@ -15,4 +15,4 @@ returns-clause-inside c =
     let r = c.args.self.now.choice in
     let x = search_of c.args.input in
     IfOk-weaker c.match_in_window.result _ _ (λ m h. inside-of r.nfa (kind_in r) x.earliest x (Some m) h)
-    (rw c.find_at_first.ensures.same at c.match_in_window.ensures.answer)
+    c.match_in_window.ensures.answer

@@ -24,11 +24,11 @@ returns-clause-answer c =
     let x = search_of c.args.input in
     let two : slot_count r.nfa.groups ≡ 2 = first_of (search rules, grind (arith, common_steps)) in
     IfOk-weaker c.match_in_window.result _ _ (λ m h. plain-answer r.nfa (kind_in r) x.earliest x (found_of m) two h)
-    (rw c.find_at_first.ensures.same at c.match_in_window.ensures.answer)
+    c.match_in_window.ensures.answer
 
 pub returns-clause-inside : goal.returns-clause-inside
 returns-clause-inside c =
     let r = c.args.self.now.choice in
     let x = search_of c.args.input in
     IfOk-weaker c.match_in_window.result _ _ (λ m h. inside-of r.nfa (kind_in r) x.earliest x (Some m) h)
-    (rw c.find_at_first.ensures.same at c.match_in_window.ensures.answer)
+    c.match_in_window.ensures.answer
